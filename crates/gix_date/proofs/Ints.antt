@@ -1,0 +1,58 @@
+-- What `parse` of an i64 gives, as a function of the text.
+use Rattle.std.proofs.Common.{◌≡◌, ℕ, Bool, true, false, cond, List, length, refl, sym, ap, ◌∙◌, arith, ℤ, pos, negsuc, Result, Ok, Err, Some, None, FitsSigned, w64}
+use Rattle.std.proofs.lemmas.Bool.Decides.{nat_tests}
+use Rattle.std.proofs.lemmas.Str.Parse.{IsNumeralModel, numerals_by_value, tells_all_ascii_digits}
+use Rattle.std.specs.Prelude.{nat_lt, ◌&&◌}
+use Rattle.std.specs.Result.{result_ok}
+use Rattle.std.specs.Str.{all_ascii_digits}
+use Rattle.std.specs.Str.Parse.{ParsesSigned, IsNumeral, digits_value, without_leading_sign, signed_digits_value}
+use Rattle.gix_date.specs.Numbers.{fits_i64, is_int_text, int_value}
+
+pub own : IsNumeralModel (λ ds. all_ascii_digits ds ≡ true) (digits_value 10)
+own = numerals_by_value _ tells_all_ascii_digits
+
+fits_true : (z : ℤ) → FitsSigned w64 z → fits_i64 z ≡ true
+fits_true (pos n) h = grind (arith, nat_tests, h)
+fits_true (negsuc n) h = grind (arith, nat_tests, h)
+
+fits_from : (z : ℤ) → fits_i64 z ≡ true → FitsSigned w64 z
+fits_from (pos n) h = record { sfits = grind (arith, nat_tests, h) }
+fits_from (negsuc n) h = record { sfits = grind (arith, nat_tests, h) }
+
+all_of : (a b d : Bool) → a ≡ true → b ≡ true → d ≡ true → (a && b && d) ≡ true
+all_of true true true p q r = refl
+all_of false b d p q r = p
+all_of true false d p q r = q
+all_of true true false p q r = r
+
+each_of : (a b d : Bool) → (a && b && d) ≡ true → (a ≡ true) × (b ≡ true) × (d ≡ true)
+each_of true true true h = (refl, refl, refl)
+each_of false b d h = cc
+each_of true false d h = cc
+each_of true true false h = cc
+
+ReadsInt : List ℕ → Type 0
+ReadsInt w = IsNumeral 10 (without_leading_sign w) × FitsSigned w64 (signed_digits_value 10 w)
+
+holds : (w : List ℕ) → ReadsInt w → is_int_text w ≡ true
+unfolding ReadsInt
+holds w h = all_of _ _ _ (grind (arith, nat_tests, h.0.0)) (own.from (without_leading_sign w) h.0.1) (fits_true (signed_digits_value 10 w) h.1)
+
+from_holds : (w : List ℕ) → is_int_text w ≡ true → ReadsInt w
+unfolding ReadsInt
+from_holds w h =
+    let parts = each_of (nat_lt 0 (length (without_leading_sign w))) (all_ascii_digits (without_leading_sign w)) (fits_i64 (signed_digits_value 10 w)) h in
+    ((grind (arith, nat_tests, parts.0), own.to (without_leading_sign w) parts.1), fits_from (signed_digits_value 10 w) parts.2)
+
+choose : (b : Bool) (v : ℤ) → b ≡ true → cond b (Some v) None ≡ Some v
+choose true v h = refl
+choose false v h = cc
+
+choose_none : (b : Bool) (v : ℤ) → (b ≡ true → ⊥) → cond b (Some v) None ≡ None
+choose_none true v h = absurd (h refl)
+choose_none false v h = refl
+
+pub int_value_lem : {E : Type 0} (w : List ℕ) (r : Result ℤ E) → ParsesSigned w64 10 w r → result_ok r ≡ int_value w
+unfolding int_value ReadsInt
+int_value_lem w (Ok z) h = ap Some h.1 ∙ sym (choose (is_int_text w) (signed_digits_value 10 w) (holds w h.0))
+int_value_lem w (Err e) h = sym (choose_none (is_int_text w) (signed_digits_value 10 w) (λ yes. h (from_holds w yes)))

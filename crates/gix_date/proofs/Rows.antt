@@ -1,0 +1,115 @@
+-- The definitions on worked texts: each row computes.
+use Rattle.std.proofs.Common.{◌≡◌, refl, ℕ, List, [], ◌∷◌, true, false, ℤ, pos}
+use Rattle.std.specs.Fmt.{digits}
+use Rattle.std.specs.Str.{chars}
+use lib.Utf8.{encode}
+use Rattle.std.specs.Prelude.{codes, neg_ℤ, Some, None}
+use Rattle.gix_date.specs.declared.time.Time.{Time}
+use Rattle.gix_date.specs.Numbers.{int_value}
+use Rattle.gix_date.specs.Words.{words}
+use Rattle.gix_date.specs.HeaderText.{header_text}
+use Rattle.gix_date.specs.HeaderReading.{header_time, seconds_said, offset_said}
+use Rattle.gix_date.specs.CanonicalHeader.{is_canonical_header}
+
+abbrev time : ℤ → ℤ → Time
+time seconds offset = record { seconds = seconds; offset = offset }
+
+-- what `-n` is
+abbrev minus : ℕ → ℤ
+minus n = neg_ℤ (pos n)
+
+Reads : List ℕ → ℤ → ℤ → Type 0
+Reads text seconds offset = header_time text ≡ Some (time seconds offset)
+
+least-written : header_text (time (minus 9223372036854775808) (minus 359999)) ≡ codes "-9223372036854775808 -9959"
+unfolding digits
+least-written = refl
+
+greatest-written : header_text (time (pos 9223372036854775807) (pos 359999)) ≡ codes "9223372036854775807 +9959"
+unfolding digits
+greatest-written = refl
+
+odd-seconds-dropped : header_text (time (pos 0) (minus 30)) ≡ codes "0 -0000"
+unfolding digits
+odd-seconds-dropped = refl
+
+odd-seconds-dropped-2 : header_text (time (pos 5) (minus 3723)) ≡ codes "5 -0102"
+unfolding digits
+odd-seconds-dropped-2 = refl
+
+minus-zero-read : Reads (codes "0 -0000") (pos 0) (pos 0)
+unfolding Reads header_time words chars encode seconds_said int_value offset_said
+minus-zero-read = refl
+
+wide-offset-read : Reads (codes "0 +9999") (pos 0) (pos 362340)
+unfolding Reads header_time words chars encode seconds_said int_value offset_said
+wide-offset-read = refl
+
+leading-digits-read : Reads (codes "123abc +0100") (pos 123) (pos 3600)
+unfolding Reads header_time words chars encode seconds_said int_value offset_said
+leading-digits-read = refl
+
+sign-then-letter : header_time (codes "-1x") ≡ None
+unfolding header_time words chars encode seconds_said int_value offset_said
+sign-then-letter = refl
+
+past-the-range : header_time (codes "9223372036854775808") ≡ None
+unfolding header_time words chars encode seconds_said int_value offset_said
+past-the-range = refl
+
+sign-inside-offset : Reads (codes "5 +00-1") (pos 5) (pos 0)
+unfolding Reads header_time words chars encode seconds_said int_value offset_said
+sign-inside-offset = refl
+
+third-word : Reads (codes "1 +0100 x") (pos 1) (pos 0)
+unfolding Reads header_time words chars encode seconds_said int_value offset_said
+third-word = refl
+
+colon : header_time (codes "1:2 +0100") ≡ None
+unfolding header_time words chars encode seconds_said int_value offset_said
+colon = refl
+
+empty : header_time [] ≡ None
+unfolding header_time words chars encode seconds_said int_value offset_said
+empty = refl
+
+offset-with-seconds : Reads (codes "7 +010203") (pos 7) (pos 3723)
+unfolding Reads header_time words chars encode seconds_said int_value offset_said
+offset-with-seconds = refl
+
+-- U+00A0 is two bytes
+no-break-space : Reads (49 ∷ 0xc2 ∷ 0xa0 ∷ codes "+0100") (pos 1) (pos 3600)
+unfolding Reads header_time words chars encode seconds_said int_value offset_said
+no-break-space = refl
+
+canonical-zero : is_canonical_header (codes "0 +0000") ≡ true
+unfolding int_value digits
+canonical-zero = refl
+
+canonical-behind : is_canonical_header (codes "-5 -0130") ≡ true
+unfolding int_value digits
+canonical-behind = refl
+
+not-canonical-minus-zero-offset : is_canonical_header (codes "0 -0000") ≡ false
+unfolding int_value digits
+not-canonical-minus-zero-offset = refl
+
+not-canonical-plus : is_canonical_header (codes "+1 +0000") ≡ false
+unfolding int_value digits
+not-canonical-plus = refl
+
+not-canonical-minus-zero : is_canonical_header (codes "-0 +0000") ≡ false
+unfolding int_value digits
+not-canonical-minus-zero = refl
+
+not-canonical-leading-zero : is_canonical_header (codes "00 +0000") ≡ false
+unfolding int_value digits
+not-canonical-leading-zero = refl
+
+not-canonical-minutes : is_canonical_header (codes "0 +0060") ≡ false
+unfolding int_value digits
+not-canonical-minutes = refl
+
+not-canonical-seconds : is_canonical_header (codes "0 +000000") ≡ false
+unfolding int_value digits
+not-canonical-seconds = refl

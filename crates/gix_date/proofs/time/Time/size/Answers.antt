@@ -1,0 +1,15 @@
+use Rattle.std.proofs.Common.{arith}
+use Rattle.gix_date.proofs.Decimals.{length-decimal_i64}
+use Rattle.gix_date.proofs.time.Time.size.Goals as goal
+
+pub overflow_add-result : goal.overflow_add-result
+overflow_add-result c = omega (arith, c.decimal_len-digits.ensures, length-decimal_i64 c.unsigned_abs.result c.unsigned_abs.ensures.bound)
+
+pub overflow_add-result-else-self-lt0 : goal.overflow_add-result-else-self-lt0
+overflow_add-result-else-self-lt0 c = omega (arith, c.decimal_len-digits.ensures, length-decimal_i64 c.unsigned_abs.result c.unsigned_abs.ensures.bound)
+
+pub returns-then-self-lt0-clause-most : goal.returns-then-self-lt0-clause-most
+returns-then-self-lt0-clause-most c = omega (arith, c.decimal_len-digits.ensures, length-decimal_i64 c.unsigned_abs.result c.unsigned_abs.ensures.bound)
+
+pub returns-else-self-lt0-clause-most : goal.returns-else-self-lt0-clause-most
+returns-else-self-lt0-clause-most c = omega (arith, c.decimal_len-digits.ensures, length-decimal_i64 c.unsigned_abs.result c.unsigned_abs.ensures.bound)

@@ -1,0 +1,49 @@
+-- The text of a time in a commit header.
+use Rattle.std.specs.Prelude.{◌≡◌, ℕ, ◌/◌, ◌%◌, ◌<◌, ◌≤◌, List, [], ◌∷◌, ◌++◌, ℤ, pos, int_lt, unsigned_abs, if◌then◌else◌, Option, Some, Result, Ok, Err}
+use Rattle.std.specs.Borrow.{Bor}
+use Rattle.std.specs.Io.KnownBytes.{Appends, Keeps}
+use Rattle.std.specs.declared.io.ErrorKind.{ErrorKind}
+use Rattle.gix_date.specs.Device.{AppendsProperPrefix}
+use Rattle.gix_date.specs.Numbers.{decimal_text, two_digits}
+use Rattle.gix_date.specs.declared.error.Error.{Error}
+use Rattle.gix_date.specs.declared.error.Error.TheVariants.{OffsetTooWide, Write}
+use Rattle.gix_date.specs.declared.time.Time.{Time}
+
+-- `-` where the offset is below 0, else `+`
+abbrev pub offset_sign : ℤ → ℕ
+offset_sign offset = if int_lt offset (pos 0) then 45 else 43
+
+-- two digits of whole hours, and two of the whole minutes that remain
+abbrev pub hours_and_minutes : ℕ → List ℕ
+hours_and_minutes seconds = two_digits (seconds / 3600) ++ two_digits (seconds % 3600 / 60)
+
+-- the header text of a time, where it has one
+abbrev pub header_text : Time → List ℕ
+header_text t = decimal_text t.seconds ++ 32 ∷ offset_sign t.offset ∷ hours_and_minutes (unsigned_abs t.offset)
+
+-- the offset is short of 100 hours either way
+abbrev pub HasHeaderText : Time → Type 0
+HasHeaderText t = unsigned_abs t.offset < 360000
+
+-- the offset is 100 hours or more either way
+abbrev pub IsTooWide : Time → Type 0
+IsTooWide t = 360000 ≤ unsigned_abs t.offset
+
+-- What writing a time came to. old and new are the writer's known bytes before and after, and fault is the writer's fault
+-- as the call ends. All of the text was appended, or no byte, or a proper prefix.
+abbrev pub Writes : Time → Option (List ℕ) → Option (List ℕ) → Option ErrorKind → Result Unit Error → Type 0
+Writes t old new fault (Ok _) = HasHeaderText t × Appends old new (header_text t)
+Writes t old new fault (Err OffsetTooWide) = IsTooWide t × Keeps old new
+Writes t old new fault (Err (Write kind)) = HasHeaderText t × AppendsProperPrefix old new (header_text t) × (fault ≡ Some kind)
+Writes t old new fault (Err _) = ⊥
+
+-- the header text of a time, or the refusal of one that has none
+abbrev pub GivesText : Time → Result (Bor (List ℕ)) Error → Type 0
+GivesText t (Ok text) = HasHeaderText t × (text.now ≡ header_text t)
+GivesText t (Err OffsetTooWide) = IsTooWide t
+GivesText t (Err _) = ⊥
+
+-- what stays in the buffer: that text, and nothing after a refusal
+abbrev pub text_left : {T : Type 0} → Time → Result T Error → List ℕ
+text_left t (Ok _) = header_text t
+text_left t (Err _) = []

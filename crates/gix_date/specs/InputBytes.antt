@@ -1,0 +1,7 @@
+-- A copy of a text that was refused.
+use Rattle.std.specs.Prelude.{ℕ, List, if◌then◌else◌, codes}
+use Rattle.std.specs.Str.{is_utf8}
+
+-- what it shows as: itself, since it is a text
+abbrev pub shown_text : List ℕ → List ℕ
+shown_text bytes = if is_utf8 bytes then bytes else codes "not text"

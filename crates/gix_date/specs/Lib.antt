@@ -1,0 +1,9 @@
+pub mod Numbers
+pub mod Words
+pub mod HeaderText
+pub mod HeaderReading
+pub mod CanonicalHeader
+pub mod Device
+pub mod Lending
+pub mod TimeBuf
+pub mod InputBytes

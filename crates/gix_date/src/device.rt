@@ -1,0 +1,135 @@
+//! Writers and readers whose bytes and faults a contract can name.
+ghost use Rattle.std.specs.Prelude.{◌≡◌, ℕ, List, Option, None, Some, ◌<◌, ◌≤◌, length, IfOk, IfErr, IfSome, OnOk, OnErr};
+ghost use Rattle.std.specs.Io.KnownBytes.{WriteAppends, ReadConsumes, Appends};
+ghost use Rattle.std.specs.declared.io.ErrorKind.{ErrorKind};
+ghost use Rattle.gix_date.specs.Device.{AppendsProperPrefix, refusal, inner_of, fault_of};
+
+use std::io;
+use std::io::{Read, Write};
+
+#[cfg(test)]
+mod tests;
+
+/// A place that takes bytes, and stays at its first fault.
+pub trait Sink {
+    // The bytes taken so far, where the sink tells them.
+    ghost taken: { Self → Option (List ℕ) };
+
+    // The fault of the last call, if that was a refusal.
+    ghost fault: { Self → Option ErrorKind };
+
+    /// Takes the first bytes of a piece, at least one, and answers how many. A refusal takes none, and is the answer of
+    /// each later call.
+    ///
+    /// The piece may not be empty.
+    fn put(&mut self, piece: &[u8]) -> Result<usize, io::ErrorKind>
+        requires { 0 < length piece.now }
+        ensures count { IfOk result (λ n. (1 ≤ n) × (n ≤ length piece.now)) }
+        ensures bytes { WriteAppends (taken self.old) (taken self.new) result piece.now }
+        ensures fault { fault self.new ≡ refusal result }
+        ensures again { IfSome (fault self.old) (λ kind. result ≡ Err kind) };
+}
+
+/// A place that gives bytes, and stays at its first fault.
+pub trait Source {
+    // The bytes that are left, where the source tells them.
+    ghost left: { Self → Option (List ℕ) };
+
+    // The fault of the last call, if that was a refusal.
+    ghost fault: { Self → Option ErrorKind };
+
+    /// Puts the next bytes at the front of a piece, and answers how many: none only at the end. A refusal gives none,
+    /// and is the answer of each later call.
+    ///
+    /// The piece may not be empty.
+    fn get(&mut self, piece: &mut [u8]) -> Result<usize, io::ErrorKind>
+        requires { 0 < length piece.old }
+        ensures count { IfOk result (λ n. n ≤ length piece.new) }
+        ensures bytes { ReadConsumes (left self.old) (left self.new) result piece.new }
+        ensures fault { fault self.new ≡ refusal result }
+        ensures again { IfSome (fault self.old) (λ kind. result ≡ Err kind) };
+}
+
+/// A writer of std as a [`Sink`], and a reader of std as a [`Source`].
+///
+/// Each call makes one `write` or `read`, and none after a fault. An interrupted call is a fault, and so is a `write` that
+/// takes no byte (`WriteZero`). It takes no memory.
+#[derive(Debug, Drop)]
+pub struct Device<T> {
+    inner: T,
+    fault: Option<io::ErrorKind>,
+}
+
+impl<T> Device<T> {
+    /// The device of this writer or reader, with no fault.
+    pub fn new(inner: T) -> Device<T>
+        ensures inner { inner_of result ≡ inner }
+        ensures fault { fault_of result ≡ None }
+    {
+        Device { inner, fault: None }
+    }
+
+    /// The writer or reader back.
+    pub fn into_inner(self) -> T
+        ensures { result ≡ inner_of self }
+    {
+        let Device { inner, fault: _ } = self;
+        inner
+    }
+}
+
+impl<T: Write> Sink for Device<T> {
+    ghost taken = { λ s. T.contents s.inner };
+
+    ghost fault = { λ s. s.fault };
+
+    fn put(&mut self, piece: &[u8]) -> Result<usize, io::ErrorKind> {
+        if let Some(kind) = self.fault {
+            return Err(kind);
+        }
+        let answer = match self.inner.write(piece) {
+            Ok(0) => Err(io::ErrorKind::WriteZero),
+            Ok(n) => Ok(n),
+            Err(e) => Err(e.kind()),
+        };
+        if let Err(kind) = answer {
+            self.fault = Some(kind);
+        }
+        answer
+    }
+}
+
+impl<T: Read> Source for Device<T> {
+    ghost left = { λ s. T.remaining s.inner };
+
+    ghost fault = { λ s. s.fault };
+
+    fn get(&mut self, piece: &mut [u8]) -> Result<usize, io::ErrorKind> {
+        if let Some(kind) = self.fault {
+            return Err(kind);
+        }
+        match self.inner.read(piece) {
+            Ok(n) => Ok(n),
+            Err(e) => {
+                let kind = e.kind();
+                self.fault = Some(kind);
+                Err(kind)
+            }
+        }
+    }
+}
+
+/// Puts the whole text into a sink, by as many calls of [`Sink::put`] as that takes.
+///
+/// Where the sink refuses, a proper prefix of the text was taken, and the answer is the sink's fault. Takes no memory.
+pub fn put_all<W: Sink>(out: &mut W, text: &[u8]) -> Result<(), io::ErrorKind>
+    ensures ok { OnOk result (Appends (W.taken out.old) (W.taken out.new) text.now) }
+    ensures cut { OnErr result (AppendsProperPrefix (W.taken out.old) (W.taken out.new) text.now) }
+    ensures fault { IfErr result (λ kind. W.fault out.new ≡ Some kind) }
+{
+    let mut done = 0;
+    while done < text.len() {
+        done += out.put(&text[done..])?;
+    }
+    Ok(())
+}

@@ -1,0 +1,92 @@
+use crate::device::{Device, Sink, Source, put_all};
+use crate::fakes::{Broken, Slow};
+use std::io::ErrorKind;
+use std::test::Fail;
+
+#[test]
+fn a_device_makes_one_write_a_call(rt: HostRuntime) -> Result<(), Fail> {
+    let mut device = Device::new(Slow::new(rt.alloc(), 2, 5, ErrorKind::StorageFull));
+    assert_eq!(rt; device.put(b"abc"), Ok(2));
+    assert_eq!(rt; device.put(b"c"), Ok(1));
+    assert_eq!(rt; device.put(b"de"), Ok(2));
+    let inner = device.into_inner();
+    assert_eq!(rt; inner.taken.as_slice(), b"abcde".as_slice());
+    assert_eq!(rt; (inner.calls, inner.flushes), (3, 0));
+    Ok(())
+}
+
+#[test]
+fn a_device_makes_no_write_after_a_fault(rt: HostRuntime) -> Result<(), Fail> {
+    let mut device = Device::new(Slow::new(rt.alloc(), 1, 1, ErrorKind::BrokenPipe));
+    assert_eq!(rt; device.put(b"ab"), Ok(1));
+    for _ in 0..3 {
+        assert_eq!(rt; device.put(b"b"), Err(ErrorKind::BrokenPipe));
+    }
+    let inner = device.into_inner();
+    assert_eq!(rt; inner.taken.as_slice(), b"a".as_slice());
+    assert_eq!(rt; inner.calls, 2);
+    Ok(())
+}
+
+#[test]
+fn a_write_of_no_byte_is_a_fault(rt: HostRuntime) {
+    let mut device = Device::new(Slow::new(rt.alloc(), 0, 9, ErrorKind::Other));
+    assert_eq!(rt; device.put(b"a"), Err(ErrorKind::WriteZero));
+    assert_eq!(rt; device.put(b"a"), Err(ErrorKind::WriteZero));
+    assert_eq!(rt; device.into_inner().calls, 1);
+}
+
+#[test]
+fn an_interrupted_call_is_a_fault(rt: HostRuntime) {
+    let mut writer = Device::new(Slow::new(rt.alloc(), 1, 0, ErrorKind::Interrupted));
+    assert_eq!(rt; writer.put(b"a"), Err(ErrorKind::Interrupted));
+    assert_eq!(rt; writer.into_inner().calls, 1);
+    let mut reader = Device::new(Broken::new(0, ErrorKind::Interrupted));
+    let mut piece = [0; 4];
+    assert_eq!(rt; reader.get(&mut piece), Err(ErrorKind::Interrupted));
+    assert_eq!(rt; reader.into_inner().calls, 1);
+}
+
+#[test]
+fn a_device_reads_until_the_first_fault(rt: HostRuntime) {
+    let mut device = Device::new(Broken::new(2, ErrorKind::UnexpectedEof));
+    let mut piece = [0; 4];
+    assert_eq!(rt; device.get(&mut piece), Ok(1));
+    assert_eq!(rt; piece[0], b'x');
+    assert_eq!(rt; device.get(&mut piece), Ok(1));
+    for _ in 0..3 {
+        assert_eq!(rt; device.get(&mut piece), Err(ErrorKind::UnexpectedEof));
+    }
+    assert_eq!(rt; device.into_inner().calls, 3);
+}
+
+#[test]
+fn a_device_over_a_slice_reads_to_its_end(rt: HostRuntime) {
+    let mut device = Device::new(b"abc".as_slice());
+    let mut piece = [0; 2];
+    assert_eq!(rt; device.get(&mut piece), Ok(2));
+    assert_eq!(rt; piece.as_slice(), b"ab".as_slice());
+    assert_eq!(rt; device.get(&mut piece), Ok(1));
+    assert_eq!(rt; piece[0], b'c');
+    assert_eq!(rt; device.get(&mut piece), Ok(0));
+}
+
+#[test]
+fn put_all_sends_all_or_answers_the_fault(rt: HostRuntime) {
+    let mut whole = Device::new(Slow::new(rt.alloc(), 3, 9, ErrorKind::Other));
+    assert_eq!(rt; put_all(&mut whole, b"abcdefgh"), Ok(()));
+    assert_eq!(rt; whole.into_inner().taken.as_slice(), b"abcdefgh".as_slice());
+    let mut cut = Device::new(Slow::new(rt.alloc(), 3, 7, ErrorKind::Other));
+    assert_eq!(rt; put_all(&mut cut, b"abcdefgh"), Err(ErrorKind::Other));
+    assert_eq!(rt; cut.into_inner().taken.as_slice(), b"abcdefg".as_slice());
+    let mut never = Device::new(Slow::new(rt.alloc(), 3, 0, ErrorKind::Other));
+    assert_eq!(rt; put_all(&mut never, b""), Ok(()));
+    assert_eq!(rt; never.into_inner().calls, 0);
+}
+
+#[test]
+fn a_device_has_a_debug_form(rt: HostRuntime) -> Result<(), Fail> {
+    let text = format!(in rt.alloc(); "{:?}", Device::new(7))?;
+    assert!(rt; !text.is_empty());
+    Ok(())
+}

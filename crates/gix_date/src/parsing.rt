@@ -1,0 +1,76 @@
+//! Texts to times, and the buffer for the text of a time.
+//!
+//! The Rust crate names this module `parse`. Here a module and a function beside it cannot share a name.
+ghost use Rattle.std.specs.Prelude.{◌≡◌, [], ok_or};
+ghost use Rattle.std.specs.Borrow.{sem};
+ghost use Rattle.gix_date.specs.declared.error.Error.TheVariants.{OffsetTooWide};
+ghost use Rattle.gix_date.specs.HeaderText.{GivesText, text_left};
+ghost use Rattle.gix_date.specs.Lending.{LeavesText};
+ghost use Rattle.gix_date.specs.TimeBuf.{text_in};
+
+use crate::error::Error;
+use crate::time::{Time, header_text};
+use arrayvec::ArrayString;
+
+pub(crate) mod function;
+#[cfg(test)]
+mod tests;
+
+/// The most bytes that the text of a time has: those of the least seconds with an offset.
+pub(crate) const LONGEST_TEXT: usize = 26;
+
+/// A place for the text of one time, of 26 bytes at most, which takes no memory.
+#[derive(Clone, Copy)]
+pub struct TimeBuf {
+    text: ArrayString<LONGEST_TEXT>,
+}
+
+impl TimeBuf {
+    /// The text that the last [`Time::to_str`] put here: empty before the first, and after a refusal.
+    pub fn as_str(&self) -> &str
+        ensures { result.now ≡ text_in self.now }
+    {
+        self.text.as_str()
+    }
+
+    /// Puts the text of a time here and lends it, or leaves nothing here where the time has none.
+    fn text_of(&mut self, time: &Time) -> Option<&str>
+        ensures text { GivesText time.now (ok_or result OffsetTooWide) }
+        ensures* after { sem 𝓛 (LeavesText self.entry (text_left time.now (ok_or result OffsetTooWide))) }
+    {
+        self.text.clear();
+        self.text = header_text(*time)?;
+        Some(self.as_str())
+    }
+}
+
+impl Default for TimeBuf {
+    /// An empty buffer.
+    fn default() -> TimeBuf
+        ensures { text_in result ≡ [] }
+    {
+        TimeBuf {
+            text: ArrayString::new(),
+        }
+    }
+}
+
+/// The text, or the refusal of a time that has none.
+fn or_too_wide(text: Option<&str>) -> Result<&str, Error>
+    ensures { result ≡ ok_or text.entry OffsetTooWide }
+{
+    text.ok_or(Error::OffsetTooWide)
+}
+
+impl Time {
+    /// The text that [`Time::write_to`] writes, lent out of the buffer, which keeps it.
+    ///
+    /// An offset of 100 hours or more is refused by [`Error::OffsetTooWide`], and the buffer is empty then. Takes no
+    /// memory.
+    pub fn to_str<'a>(&self, buf: &'a mut TimeBuf) -> Result<&'a str, Error>
+        ensures text { GivesText self.now result }
+        ensures* after { sem 𝓛 (LeavesText buf.entry (text_left self.now result)) }
+    {
+        or_too_wide(buf.text_of(self))
+    }
+}

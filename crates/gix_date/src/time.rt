@@ -1,0 +1,25 @@
+//! A time, and what it is written as.
+mod init;
+#[cfg(test)]
+mod tests;
+mod write;
+
+pub(crate) use write::header_text;
+
+/// Seconds since 1970-01-01 00:00:00 UTC, negative before.
+pub type SecondsSinceUnixEpoch = i64;
+
+/// Seconds that a place's clock is ahead of UTC, negative where it is behind: positive is east.
+pub type OffsetInSeconds = i32;
+
+/// A moment, and the offset of the place where it was written down.
+///
+/// The offset says how to show the moment, and does not change it. Both numbers can be any of their type. Times are in
+/// order of their seconds, and at the same seconds of their offset.
+#[derive(Default, Clone, Copy, PartialEq, Eq, PartialOrd, Ord, Hash, Debug)]
+pub struct Time {
+    /// Seconds since 1970-01-01 00:00:00 UTC.
+    pub seconds: SecondsSinceUnixEpoch,
+    /// Seconds east of UTC.
+    pub offset: OffsetInSeconds,
+}

@@ -1,0 +1,84 @@
+//! The text of a time in a commit header.
+ghost use Rattle.std.specs.Prelude.{◌≡◌, ◌+◌, ◌<◌, ◌≤◌, ◌↔◌, ◌++◌, length, IsSome, IfSome};
+ghost use Rattle.std.specs.Fmt.{decimal};
+ghost use Rattle.arrayvec.specs.ArrayString.{array_string_len};
+ghost use Rattle.gix_date.specs.Numbers.{decimal_text, two_digits};
+ghost use Rattle.gix_date.specs.HeaderText.{header_text, HasHeaderText, Writes};
+
+use crate::device::{Sink, put_all};
+use crate::error::Error;
+use crate::parsing::LONGEST_TEXT;
+use crate::time::Time;
+use arrayvec::ArrayString;
+
+const SECONDS_PER_HOUR: u32 = 60 * 60;
+
+impl Time {
+    /// Writes the time as a commit header has it: the seconds in decimal, a space, and the offset as a sign, two digits
+    /// of hours and two of minutes (`1660874655 +0800`). What the offset has beyond whole minutes is dropped.
+    ///
+    /// An offset of 100 hours or more, either way, is refused by [`Error::OffsetTooWide`] before a byte is written.
+    /// [`Error::Write`] carries the writer's fault, and then a proper prefix of the text was taken. There are at most 26
+    /// calls of [`Sink::put`] and no flush. Takes no memory.
+    pub fn write_to<W: Sink>(&self, out: &mut W) -> Result<(), Error>
+        ensures { Writes self.now (W.taken out.old) (W.taken out.new) (W.fault out.new) result }
+    {
+        let text = header_text(*self).ok_or(Error::OffsetTooWide)?;
+        put_all(out, text.as_str().as_bytes()).map_err(Error::Write)
+    }
+
+    /// How many bytes [`Time::write_to`] writes, at most 26: the digits of the seconds, 1 more where they are negative,
+    /// and 6. Where the offset is too wide to be written, the number is the same as for an offset that is not.
+    pub const fn size(&self) -> usize
+        ensures digits { result ≡ length (decimal_text self.now.seconds) + 6 }
+        ensures text { HasHeaderText self.now → result ≡ length (header_text self.now) }
+        ensures most { result ≤ 26 }
+    {
+        let digits = decimal_len(self.seconds.unsigned_abs());
+        if self.seconds < 0 {
+            digits + 7
+        } else {
+            digits + 6
+        }
+    }
+}
+
+/// How many digits a number has.
+const fn decimal_len(n: u64) -> usize
+    ensures { result ≡ length (decimal n) }
+{
+    let mut rest = n;
+    let mut digits = 1;
+    while rest >= 10 {
+        rest /= 10;
+        digits += 1;
+    }
+    digits
+}
+
+/// The header text of a time, where its offset is short of 100 hours.
+pub(crate) fn header_text(time: Time) -> Option<ArrayString<LONGEST_TEXT>>
+    ensures exists { IsSome result ↔ HasHeaderText time }
+    ensures text { IfSome result (λ text. text.bytes ≡ header_text time) }
+{
+    let distance = time.offset.unsigned_abs();
+    if distance >= 100 * SECONDS_PER_HOUR {
+        return None;
+    }
+    let mut text = ArrayString::new();
+    text.push_str(itoa::Buffer::new().format(time.seconds));
+    text.push(' ');
+    text.push(if time.offset < 0 { '-' } else { '+' });
+    push_two_digits(&mut text, distance / SECONDS_PER_HOUR);
+    push_two_digits(&mut text, distance % SECONDS_PER_HOUR / 60);
+    Some(text)
+}
+
+fn push_two_digits(text: &mut ArrayString<LONGEST_TEXT>, n: u32)
+    requires small { n < 100 }
+    requires room { array_string_len text.old + 2 ≤ LONGEST_TEXT }
+    ensures { text.new.bytes ≡ text.old.bytes ++ two_digits n }
+{
+    text.push(char::from(b'0' + (n / 10) as u8));
+    text.push(char::from(b'0' + (n % 10) as u8));
+}

@@ -1,0 +1,4 @@
+pub mod Splitting
+pub mod Sending
+pub mod Taking
+pub mod Reading

@@ -1,0 +1,52 @@
+//! What the program is asked for.
+ghost use Rattle.std.specs.Prelude.{◌≡◌, Ok, map, string_bytes};
+ghost use Rattle.gix_date_tool.specs.Command.{command_of};
+
+use crate::error::ToolError;
+use gix_date::Time;
+use std::alloc::Global;
+
+/// What [`crate::run`] answers of each line.
+#[derive(Debug, Clone, Copy, PartialEq, Eq)]
+pub enum Mode {
+    /// Whether the line is a header text that comes back when it is read and written, and else what it is read as.
+    Check,
+}
+
+/// Reads the words of a command line, without the program's name: the mode, and the moment where there is one.
+///
+/// The one command line is `check`. `None` for any other: then the usage is due. It never refuses.
+pub fn command(alloc: Global, words: &[String]) -> Result<Option<(Mode, Option<Time>)>, ToolError>
+    ensures { result ≡ Ok (command_of (map string_bytes words.now)) }
+{
+    match words {
+        [mode] if mode.as_str() == "check" => Ok(Some((Mode::Check, None))),
+        _ => Ok(None),
+    }
+}
+
+#[cfg(test)]
+mod tests {
+    use super::*;
+    use std::test::Fail;
+
+    #[test]
+    fn check_is_the_one_command(rt: HostRuntime) -> Result<(), Fail> {
+        let rows = [
+            ("check", ["check"].as_slice(), Some((Mode::Check, None))),
+            ("no-word", [].as_slice(), None),
+            ("another-word", ["x"].as_slice(), None),
+            ("two-words", ["check", "x"].as_slice(), None),
+            ("other-case", ["Check"].as_slice(), None),
+            ("not-there-yet", ["parse"].as_slice(), None),
+        ];
+        for (row, line, wanted) in rows {
+            let mut words = Vec::new(rt.alloc());
+            for word in line {
+                words.push(String::from_str(rt.alloc(), word)?)?;
+            }
+            assert_eq!(rt; command(rt.alloc(), words.as_slice())?, wanted, "{row}");
+        }
+        Ok(())
+    }
+}

@@ -1,0 +1,96 @@
+//! Readers and writers that fail on demand.
+use std::alloc::Global;
+use std::io;
+use std::io::{Read, Write};
+
+/// A reader that gives a text over and over, a few bytes a call, so many bytes in all, and then ends or fails.
+#[derive(Drop)]
+pub(crate) struct Supply<'a> {
+    text: &'a [u8],
+    place: usize,
+    a_call: usize,
+    left: usize,
+    fault: Option<io::ErrorKind>,
+}
+
+impl<'a> Supply<'a> {
+    /// The text once.
+    pub(crate) fn once(text: &'a [u8], a_call: usize, fault: Option<io::ErrorKind>) -> Supply<'a> {
+        Supply::of(text, a_call, text.len(), fault)
+    }
+
+    /// So many bytes of the text and its repetitions.
+    pub(crate) fn of(
+        text: &'a [u8],
+        a_call: usize,
+        left: usize,
+        fault: Option<io::ErrorKind>,
+    ) -> Supply<'a> {
+        Supply {
+            text,
+            place: 0,
+            a_call,
+            left,
+            fault,
+        }
+    }
+}
+
+impl Read for Supply<'_> {
+    fn read(&mut self, buf: &mut [u8]) -> io::Result<usize> {
+        if self.left == 0 || self.text.is_empty() {
+            return match self.fault {
+                Some(kind) => Err(io::Error::from(kind)),
+                None => Ok(0),
+            };
+        }
+        if self.place >= self.text.len() {
+            self.place = 0;
+        }
+        let front = &self.text[self.place..];
+        let count = front.len().min(self.left).min(self.a_call).min(buf.len());
+        buf[..count].copy_from_slice(&front[..count]);
+        self.place += count;
+        self.left -= count;
+        Ok(count)
+    }
+}
+
+/// A writer that takes a few bytes a call, up to a limit, and then fails.
+#[derive(Drop)]
+pub(crate) struct Slow {
+    pub(crate) taken: Vec<u8>,
+    pub(crate) calls: usize,
+    a_call: usize,
+    room: usize,
+    kind: io::ErrorKind,
+}
+
+impl Slow {
+    pub(crate) fn new(alloc: Global, a_call: usize, room: usize, kind: io::ErrorKind) -> Slow {
+        Slow {
+            taken: Vec::new(alloc),
+            calls: 0,
+            a_call,
+            room,
+            kind,
+        }
+    }
+}
+
+impl Write for Slow {
+    fn write(&mut self, buf: &[u8]) -> io::Result<usize> {
+        self.calls = self.calls.saturating_add(1);
+        let room = self.room.saturating_sub(self.taken.len());
+        if room == 0 {
+            return Err(io::Error::from(self.kind));
+        }
+        let count = buf.len().min(self.a_call).min(room);
+        self.taken.extend_from_slice(&buf[..count])?;
+        Ok(count)
+    }
+
+    fn flush(&mut self) -> io::Result<()> {
+        Ok(())
+    }
+}

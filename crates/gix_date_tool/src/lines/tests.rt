@@ -1,0 +1,207 @@
+use crate::arguments::Mode;
+use crate::error::ToolError;
+use crate::fakes::{Slow, Supply};
+use crate::lines::run;
+use gix_date::device::Device;
+use std::io::ErrorKind;
+use std::test::Fail;
+
+/// What a run in Check of this reader answers, and what it wrote to a writer that takes all.
+fn check(rt: &HostRuntime, reader: Supply<'_>) -> (Result<u64, ToolError>, Vec<u8>) {
+    check_into(
+        rt,
+        reader,
+        Slow::new(rt.alloc(), 1 << 20, 1 << 30, ErrorKind::Other),
+    )
+}
+
+fn check_into(
+    rt: &HostRuntime,
+    reader: Supply<'_>,
+    writer: Slow,
+) -> (Result<u64, ToolError>, Vec<u8>) {
+    let mut source = Device::new(reader);
+    let mut sink = Device::new(writer);
+    let answer = run(rt.alloc(), Mode::Check, None, &mut source, &mut sink);
+    let Slow { taken, .. } = sink.into_inner();
+    (answer, taken)
+}
+
+#[test]
+fn lines_are_answered(rt: HostRuntime) {
+    let rows = [
+        (
+            "check-lines",
+            b"0 +0000\n0 -0000\n+1 +0000\n\n0 +9999\n0 +0000\r\n".as_slice(),
+            "canonical\nread 0 0\nread 1 0\nnone\nread 0 362340\nread 0 0\n",
+            6,
+        ),
+        ("empty-input", b"".as_slice(), "", 0),
+        ("not-text", b"\xff\n".as_slice(), "not text\n", 1),
+        (
+            "last-line-without-newline",
+            b"0 +0000".as_slice(),
+            "canonical\n",
+            1,
+        ),
+        (
+            "not-canonical",
+            b"-0 +0000\n00 +0000\n0 +0060\n0 +000000".as_slice(),
+            "read 0 0\nread 0 0\nread 0 3600\nread 0 0\n",
+            4,
+        ),
+        ("behind-utc", b"-5 -0130".as_slice(), "canonical\n", 1),
+        ("newline-alone", b"\n".as_slice(), "none\n", 1),
+        (
+            "least-time",
+            b"-9223372036854775808 -999999\n".as_slice(),
+            "read -9223372036854775808 -362439\n",
+            1,
+        ),
+    ];
+    for (row, input, output, count) in rows {
+        for a_call in [1, 2, 7, 4096] {
+            let (answer, taken) = check(&rt, Supply::once(input, a_call, None));
+            assert!(rt; matches!(answer, Ok(lines) if lines == count), "{row}");
+            assert_eq!(rt; taken.as_slice(), output.as_bytes(), "{row}");
+        }
+    }
+}
+
+#[test]
+fn a_long_line_ends_a_run(rt: HostRuntime) -> Result<(), Fail> {
+    let mut input = Vec::from_slice(rt.alloc(), b"0 +0000\n")?;
+    for _ in 0..65537 {
+        input.push(b'1')?;
+    }
+    let (answer, taken) = check(&rt, Supply::once(input.as_slice(), 4096, None));
+    assert!(rt;
+        matches!(answer, Err(ToolError::LineTooLong)),
+        "line-too-long"
+    );
+    assert_eq!(rt;
+        taken.as_slice(),
+        b"canonical\n".as_slice(),
+        "line-too-long"
+    );
+    Ok(())
+}
+
+#[test]
+fn the_longest_line_is_answered(rt: HostRuntime) -> Result<(), Fail> {
+    let mut input = Vec::from_slice(rt.alloc(), b"1")?;
+    for _ in 0..65535 {
+        input.push(b' ')?;
+    }
+    input.push(b'\n')?;
+    let (answer, taken) = check(&rt, Supply::once(input.as_slice(), 5000, None));
+    assert!(rt; matches!(answer, Ok(1)), "longest-line");
+    assert_eq!(rt; taken.as_slice(), b"read 1 0\n".as_slice(), "longest-line");
+    Ok(())
+}
+
+#[test]
+fn an_endless_line_ends_a_run(rt: HostRuntime) {
+    let (answer, taken) = check(&rt, Supply::of(b"1", 1, 1 << 40, None));
+    assert!(rt;
+        matches!(answer, Err(ToolError::LineTooLong)),
+        "endless-line"
+    );
+    assert!(rt; taken.is_empty(), "endless-line");
+}
+
+#[test]
+fn a_million_lines_are_the_most(rt: HostRuntime) {
+    let (answer, taken) = check(&rt, Supply::of(&[b'\n'; 4096], 4096, 1_000_000, None));
+    assert!(rt; matches!(answer, Ok(1_000_000)), "most-lines");
+    assert_eq!(rt; taken.len(), 5_000_000, "most-lines");
+    let (answer, taken) = check(&rt, Supply::of(&[b'\n'; 4096], 4096, 1_000_001, None));
+    assert!(rt;
+        matches!(answer, Err(ToolError::TooManyLines)),
+        "too-many-lines"
+    );
+    assert_eq!(rt; taken.len(), 5_000_000, "too-many-lines");
+    assert!(rt; taken.ends_with(b"none\n"), "too-many-lines");
+}
+
+#[test]
+fn a_reader_that_fails_midway_ends_a_run(rt: HostRuntime) {
+    for a_call in [1, 5, 99] {
+        let reader = Supply::of(
+            b"0 +0000\n0 -0000\n",
+            a_call,
+            12,
+            Some(ErrorKind::ConnectionReset),
+        );
+        let (answer, taken) = check(&rt, reader);
+        assert!(rt;
+            matches!(answer, Err(ToolError::Read(ErrorKind::ConnectionReset))),
+            "failing-reader"
+        );
+        assert_eq!(rt;
+            taken.as_slice(),
+            b"canonical\n".as_slice(),
+            "failing-reader"
+        );
+    }
+    let (answer, taken) = check(&rt, Supply::of(b"0", 1, 0, Some(ErrorKind::Interrupted)));
+    assert!(rt;
+        matches!(answer, Err(ToolError::Read(ErrorKind::Interrupted))),
+        "interrupted-reader"
+    );
+    assert!(rt; taken.is_empty(), "interrupted-reader");
+}
+
+#[test]
+fn a_writer_that_fails_midway_ends_a_run(rt: HostRuntime) {
+    let input = b"0 +0000\n0 -0000\n+1 +0000".as_slice();
+    let output = b"canonical\nread 0 0\nread 1 0\n".as_slice();
+    for room in 0..output.len() {
+        for a_call in [1, 4, 99] {
+            let writer = Slow::new(rt.alloc(), a_call, room, ErrorKind::StorageFull);
+            let (answer, taken) = check_into(&rt, Supply::once(input, 99, None), writer);
+            assert!(rt;
+                matches!(answer, Err(ToolError::Write(ErrorKind::StorageFull))),
+                "failing-writer, {room}"
+            );
+            assert_eq!(rt; taken.as_slice(), &output[..room], "failing-writer, {room}");
+        }
+    }
+}
+
+#[test]
+fn many_lines_are_written_in_few_calls(rt: HostRuntime) -> Result<(), Fail> {
+    let mut input = Vec::new(rt.alloc());
+    for _ in 0..10_000 {
+        input.extend_from_slice(b"0 +0000\n")?;
+    }
+    let mut source = Device::new(Supply::once(input.as_slice(), 1 << 20, None));
+    let mut sink = Device::new(Slow::new(rt.alloc(), 1 << 20, 1 << 30, ErrorKind::Other));
+    let answer = run(rt.alloc(), Mode::Check, None, &mut source, &mut sink);
+    assert!(rt; matches!(answer, Ok(10_000)));
+    let inner = sink.into_inner();
+    assert_eq!(rt; inner.taken.len(), 100_000);
+    assert!(rt; inner.calls <= 10);
+    Ok(())
+}
+
+#[test]
+fn the_types_have_debug_forms(rt: HostRuntime) -> Result<(), Fail> {
+    let mode = format!(in rt.alloc(); "{:?}", Mode::Check)?;
+    assert!(rt; !mode.is_empty());
+    assert!(rt; Mode::Check == Mode::Check);
+    let faults = [
+        ToolError::Read(ErrorKind::Other),
+        ToolError::Write(ErrorKind::Other),
+        ToolError::Memory,
+        ToolError::LineTooLong,
+        ToolError::TooManyLines,
+    ];
+    for fault in faults {
+        let text = format!(in rt.alloc(); "{fault}")?;
+        assert!(rt; text.len() > 10);
+        let debug = format!(in rt.alloc(); "{fault:?}")?;
+        assert!(rt; !debug.is_empty());
+    }
+    Ok(())
+}
