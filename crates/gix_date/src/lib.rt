@@ -8,6 +8,7 @@ pub mod device;
 mod error;
 #[cfg(test)]
 mod fakes;
+pub mod laws;
 pub mod parsing;
 pub mod time;
 

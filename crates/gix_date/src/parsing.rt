@@ -1,20 +1,20 @@
 //! Texts to times, and the buffer for the text of a time.
 //!
 //! The Rust crate names this module `parse`. Here a module and a function beside it cannot share a name.
-ghost use Rattle.std.specs.Prelude.{◌≡◌, [], ok_or};
+ghost use Rattle.std.specs.Prelude.{◌≡◌, [], length, ok_or};
 ghost use Rattle.std.specs.Borrow.{sem};
 ghost use Rattle.gix_date.specs.declared.error.Error.TheVariants.{OffsetTooWide};
-ghost use Rattle.gix_date.specs.HeaderText.{GivesText, text_left};
+ghost use Rattle.gix_date.specs.HeaderText.{header_text, GivesText, text_left};
 ghost use Rattle.gix_date.specs.Lending.{LeavesText};
 ghost use Rattle.gix_date.specs.TimeBuf.{text_in};
 
 use crate::error::Error;
+use crate::parsing::function::parse_header;
 use crate::time::{Time, header_text};
 use arrayvec::ArrayString;
+use std::str::FromStr;
 
 pub(crate) mod function;
-#[cfg(test)]
-mod tests;
 
 /// The most bytes that the text of a time has: those of the least seconds with an offset.
 pub(crate) const LONGEST_TEXT: usize = 26;
@@ -74,3 +74,24 @@ impl Time {
         or_too_wide(buf.text_of(self))
     }
 }
+
+/// Reads the time of a commit header, as [`parse_header`](crate::parse_header) does. [`Error::InvalidTime`] where that gives
+/// `None`. Takes no memory.
+impl FromStr for Time {
+    ghost use Rattle.std.specs.Prelude.{◌≡◌, Some, None, MatchResult};
+    ghost use Rattle.gix_date.specs.declared.error.Error.TheVariants.{InvalidTime};
+    ghost use Rattle.gix_date.specs.HeaderReading.{header_time};
+
+    type Err = Error;
+
+    ghost from_str_gives = { λ text r. MatchResult r (λ t. header_time text ≡ Some t) (λ e. (e ≡ InvalidTime) × (header_time text ≡ None)) };
+
+    fn from_str(text: &str) -> Result<Time, Error> {
+        parse_header(text).ok_or(Error::InvalidTime)
+    }
+}
+
+/// The longest text is that of the least time.
+pub(crate) fn longest_text_is_that_of_min()
+    ensures { LONGEST_TEXT ≡ length (header_text Time.MIN) }
+{}

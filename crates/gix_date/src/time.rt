@@ -1,9 +1,12 @@
 //! A time, and what it is written as.
+ghost use Rattle.std.specs.Prelude.{◌≢◌, ◌↔◌, pos, IsTrue};
+
 mod init;
 #[cfg(test)]
 mod tests;
 mod write;
 
+use serde::{Deserialize, Serialize};
 pub(crate) use write::header_text;
 
 /// Seconds since 1970-01-01 00:00:00 UTC, negative before.
@@ -16,10 +19,19 @@ pub type OffsetInSeconds = i32;
 ///
 /// The offset says how to show the moment, and does not change it. Both numbers can be any of their type. Times are in
 /// order of their seconds, and at the same seconds of their offset.
-#[derive(Default, Clone, Copy, PartialEq, Eq, PartialOrd, Ord, Hash, Debug)]
+#[derive(Default, Clone, Copy, PartialEq, Eq, PartialOrd, Ord, Hash, Debug, Serialize, Deserialize)]
 pub struct Time {
     /// Seconds since 1970-01-01 00:00:00 UTC.
     pub seconds: SecondsSinceUnixEpoch,
     /// Seconds east of UTC.
     pub offset: OffsetInSeconds,
+}
+
+impl Time {
+    /// Whether this is another time than 0 seconds with offset 0. Takes no memory.
+    pub fn is_set(&self) -> bool
+        ensures { IsTrue result ↔ (self.now ≢ record { seconds = pos 0; offset = pos 0 }) }
+    {
+        *self != Time::default()
+    }
 }

@@ -1,19 +1,33 @@
 //! The text of a time in a commit header.
-ghost use Rattle.std.specs.Prelude.{◌≡◌, ◌+◌, ◌<◌, ◌≤◌, ◌↔◌, ◌++◌, length, IsSome, IfSome};
-ghost use Rattle.std.specs.Fmt.{decimal};
+ghost use Rattle.std.specs.Prelude.{◌≡◌, ◌+◌, ◌<◌, ◌≤◌, ◌↔◌, ◌++◌, length, Some, Err, IsSome, IfSome};
+ghost use Rattle.std.specs.Fmt.{decimal, fmt_error, DisplaysOnOk};
 ghost use Rattle.arrayvec.specs.ArrayString.{array_string_len};
 ghost use Rattle.gix_date.specs.Numbers.{decimal_text, two_digits};
-ghost use Rattle.gix_date.specs.HeaderText.{header_text, HasHeaderText, Writes};
+ghost use Rattle.gix_date.specs.HeaderText.{header_text, HasHeaderText, IsTooWide, Writes};
 
 use crate::device::{Sink, put_all};
 use crate::error::Error;
 use crate::parsing::LONGEST_TEXT;
-use crate::time::Time;
+use crate::time::{SecondsSinceUnixEpoch, Time};
 use arrayvec::ArrayString;
+use std::fmt;
 
 const SECONDS_PER_HOUR: u32 = 60 * 60;
 
 impl Time {
+    /// The greatest seconds with the greatest offset that has a text, 99:59:59 east of UTC. Another time can lie beyond,
+    /// since an offset can be any number.
+    pub const MAX: Time = Time {
+        seconds: SecondsSinceUnixEpoch::MAX,
+        offset: 359_999,
+    };
+
+    /// The least seconds with the least offset that has a text, 99:59:59 west of UTC. Another time can lie beyond.
+    pub const MIN: Time = Time {
+        seconds: SecondsSinceUnixEpoch::MIN,
+        offset: -359_999,
+    };
+
     /// Writes the time as a commit header has it: the seconds in decimal, a space, and the offset as a sign, two digits
     /// of hours and two of minutes (`1660874655 +0800`). What the offset has beyond whole minutes is dropped.
     ///
@@ -39,6 +53,22 @@ impl Time {
             digits + 7
         } else {
             digits + 6
+        }
+    }
+}
+
+/// Shows the text that [`Time::write_to`] writes, in one piece. The formatting fault where there is none, and then nothing
+/// is written. Takes no memory.
+impl fmt::Display for Time {
+    ghost output = { λ t. Some (header_text t) };
+
+    fn fmt<W: fmt::Write>(&self, f: &mut fmt::Formatter<W>) -> fmt::Result
+        ensures writes { DisplaysOnOk W.write_str_gives f.old result (Some (header_text self.now)) f.new }
+        ensures wide { IsTooWide self.now → (result ≡ Err fmt_error) × (f.new ≡ f.old) }
+    {
+        match header_text(*self) {
+            Some(text) => f.write_str(text.as_str()),
+            None => Err(fmt::Error),
         }
     }
 }

@@ -1,0 +1,32 @@
+//! Laws, each the contract of a function that does nothing.
+ghost use Rattle.std.specs.Prelude.{◌≡◌, ◌↔◌, ◌++◌, pos, neg_ℤ, IsTrue};
+ghost use Rattle.std.specs.declared.cmp.Ordering.TheVariants.{Equal};
+ghost use Rattle.std.specs.Hash as fed;
+ghost use Rattle.std.specs.Ordering.{int_cmp, on, then_cmp};
+
+use crate::time::Time;
+use std::hash::Hash;
+
+/// The two constants are the seconds and offsets that they are said to be.
+pub fn constants()
+    ensures max { Time.MAX ≡ record { seconds = pos 9_223_372_036_854_775_807; offset = pos 359_999 } }
+    ensures min { Time.MIN ≡ record { seconds = neg_ℤ (pos 9_223_372_036_854_775_808); offset = neg_ℤ (pos 359_999) } }
+{}
+
+/// Times are in order of their seconds, and at the same seconds of their offset; those that are equal in this order are
+/// equal by `==`.
+pub fn order()
+    ensures by_parts { (a b : Time) → ⟦<Time as Ord>⟧.cmp a b ≡ then_cmp (on (λ t. t.seconds) int_cmp) (on (λ t. t.offset) int_cmp) a b }
+    ensures agrees { (a b : Time) → (⟦<Time as Ord>⟧.cmp a b ≡ Equal) ↔ IsTrue (⟦<Time as PartialEq>⟧.eq a b) }
+{}
+
+/// Times are equal by `==` where both numbers are the same, and nowhere else.
+pub fn equality()
+    ensures { (a b : Time) → IsTrue (⟦<Time as PartialEq>⟧.eq a b) ↔ (a ≡ b) }
+{}
+
+/// A time feeds a hasher its seconds and then its offset, so that equal times hash alike.
+pub fn hash()
+    ensures input { (a : Time) → ⟦<Time as Hash>⟧.hash_input a ≡ fed.i64 a.seconds ++ fed.i32 a.offset }
+    ensures alike { (a b : Time) → IsTrue (⟦<Time as PartialEq>⟧.eq a b) → ⟦<Time as Hash>⟧.hash_input a ≡ ⟦<Time as Hash>⟧.hash_input b }
+{}

@@ -1,0 +1,8 @@
+//! Rows of outside values for the public items of `gix_date`, and a caller of them that is proved.
+#![tactic(auto)]
+
+pub mod caller;
+#[cfg(test)]
+mod headers;
+#[cfg(test)]
+mod times;

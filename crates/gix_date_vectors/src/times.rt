@@ -1,0 +1,79 @@
+//! Times as values.
+use gix_date::Time;
+use serde::{DeserializeOwned, Serialize};
+use std::alloc::Global;
+use std::cmp::Ordering;
+use std::hash::{BuildHasher, BuildHasherDefault, FoldHasher};
+use std::test::Fail;
+
+#[test]
+fn times_have_an_order(rt: HostRuntime) {
+    let rising = [(0, -3600), (0, 0), (0, 3600), (1, -3600)];
+    for (i, (seconds, offset)) in rising.iter().enumerate() {
+        for (k, (others, beside)) in rising.iter().enumerate() {
+            let time = Time::new(*seconds, *offset);
+            let other = Time::new(*others, *beside);
+            assert_eq!(rt;
+                time.cmp(&other),
+                i.cmp(&k),
+                "rising-order: {time:?} {other:?}"
+            );
+            assert_eq!(rt; time == other, i == k, "rising-order: {time:?} {other:?}");
+        }
+    }
+    assert_eq!(rt; Time::MIN.cmp(&Time::MAX), Ordering::Less);
+}
+
+#[test]
+fn equal_times_hash_alike(rt: HostRuntime) {
+    let hashes: BuildHasherDefault<FoldHasher> = BuildHasherDefault::default();
+    assert_eq!(rt;
+        hashes.hash_one(Time::new(5, 60)),
+        hashes.hash_one(Time::new(5, 60))
+    );
+}
+
+#[test]
+fn a_time_is_set_where_it_is_not_zero(rt: HostRuntime) {
+    let rows = [
+        ("seconds-and-offset-zero", 0, 0, false),
+        ("offset-set", 0, 1, true),
+        ("seconds-set", 1, 0, true),
+        ("both-set", -1, -1, true),
+    ];
+    for (row, seconds, offset, set) in rows {
+        assert_eq!(rt; Time::new(seconds, offset).is_set(), set, "{row}");
+    }
+    assert_eq!(rt; Time::default(), Time::new(0, 0));
+    assert!(rt; !Time::default().is_set());
+}
+
+#[test]
+fn a_time_has_a_debug_form(rt: HostRuntime) -> Result<(), Fail> {
+    let text = format!(in rt.alloc(); "{:?}", Time::MAX)?;
+    assert!(rt; !text.is_empty());
+    Ok(())
+}
+
+/// A value and what is read from what is written of it.
+fn carried<T: Serialize + DeserializeOwned>(
+    alloc: Global,
+    value: &T,
+) -> Result<T, serde_json::Error> {
+    let text = serde_json::to_string(alloc, value)?;
+    let read = serde_json::Value::from_str(alloc, text.as_str())?;
+    serde_json::from_value(alloc, read)
+}
+
+#[test]
+fn a_time_is_carried_by_json(rt: HostRuntime) -> Result<(), Fail> {
+    for time in [
+        Time::MIN,
+        Time::MAX,
+        Time::default(),
+        Time::new(1_660_874_655, 28_800),
+    ] {
+        assert_eq!(rt; carried(rt.alloc(), &time)?, time);
+    }
+    Ok(())
+}
