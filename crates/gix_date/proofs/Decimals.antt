@@ -1,5 +1,5 @@
 -- How long the decimal text of a number is.
-use Rattle.std.proofs.Common.{arith, ◌+◌, ◌/◌, length, length-append, ap, ◌≡◌, ◌<◌, ◌≤◌, ℕ, ◌^◌, ℤ, pos, negsuc, sym, refl, add-one}
+use Rattle.std.proofs.Common.{FitsSigned, w64, arith, ◌+◌, ◌/◌, length, length-append, ap, ◌≡◌, ◌<◌, ◌≤◌, ℕ, ◌^◌, ℤ, pos, negsuc, sym, refl, add-one}
 use Rattle.std.proofs.lemmas.Fmt.{decimal_step, length-decimal-le, decimal_nonempty}
 use Rattle.std.specs.Fmt.{decimal, signed_decimal}
 use Rattle.std.specs.Prelude.{unsigned_abs, int_lt, true, false, suc}
@@ -29,3 +29,7 @@ length-signed_decimal_from (negsuc n) h = cc
 -- as far from 0 as an i64 can be
 pub length-decimal_i64 : (n : ℕ) → n ≤ 2 ^ 63 → length (decimal n) ≤ 19
 length-decimal_i64 n small = length-decimal-le 19 n (omega arith) (omega arith) (omega arith)
+
+pub length-signed_decimal_i64 : (z : ℤ) → FitsSigned w64 z → length (signed_decimal z) ≤ 20
+length-signed_decimal_i64 (pos n) h = omega (arith, length-decimal_i64 n (omega (arith, h.sfits)))
+length-signed_decimal_i64 (negsuc n) h = omega (arith, length-decimal_i64 (suc n) (omega (arith, h.sfits)))

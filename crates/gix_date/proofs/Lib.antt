@@ -5,3 +5,4 @@ pub mod Decimals
 pub mod Rows
 pub mod WhiteSpace
 pub mod Texts
+pub mod HeaderTexts

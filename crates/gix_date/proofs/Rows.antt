@@ -9,6 +9,9 @@ use Rattle.gix_date.specs.Numbers.{int_value}
 use Rattle.gix_date.specs.Words.{words}
 use Rattle.gix_date.specs.HeaderText.{header_text}
 use Rattle.gix_date.specs.HeaderReading.{header_time, seconds_said, offset_said}
+use Rattle.gix_date.specs.Raw.{raw_time, raw_offset}
+use Rattle.gix_date.specs.Epoch.{at_time, epoch_time}
+use Rattle.gix_date.specs.First.{Told, first_family}
 use Rattle.gix_date.specs.CanonicalHeader.{is_canonical_header}
 
 abbrev time : ℤ → ℤ → Time
@@ -113,3 +116,43 @@ not-canonical-minutes = refl
 not-canonical-seconds : is_canonical_header (codes "0 +000000") ≡ false
 unfolding int_value digits
 not-canonical-seconds = refl
+
+raw-with-spaces : raw_time (codes "\n-0\r\n-0000\n") ≡ Some (time (pos 0) (pos 0))
+unfolding raw_time raw_offset words chars encode int_value
+raw-with-spaces = refl
+
+raw-with-seconds : raw_time (codes "+1234567 -000000") ≡ Some (time (pos 1234567) (pos 0))
+unfolding raw_time raw_offset words chars encode int_value
+raw-with-seconds = refl
+
+raw-past-the-hours : raw_time (codes "123456 -1500") ≡ None
+unfolding raw_time raw_offset words chars encode int_value
+raw-past-the-hours = refl
+
+raw-sign-inside : raw_time (codes "1 -+1+0+0") ≡ None
+unfolding raw_time raw_offset words chars encode int_value
+raw-sign-inside = refl
+
+at-zero : first_family (codes "@0") ≡ Some (Told (time (pos 0) (pos 0)))
+unfolding first_family at_time epoch_time raw_time raw_offset words chars encode int_value
+at-zero = refl
+
+at-space-and-raw : first_family (codes "@ 5 +0530") ≡ Some (Told (time (pos 5) (pos 19800)))
+unfolding first_family at_time epoch_time raw_time raw_offset words chars encode int_value
+at-space-and-raw = refl
+
+at-space-and-seconds : first_family (codes "@ 5") ≡ None
+unfolding first_family at_time epoch_time raw_time raw_offset words chars encode int_value
+at-space-and-seconds = refl
+
+bare-epoch : first_family (codes "100000000") ≡ Some (Told (time (pos 100000000) (pos 0)))
+unfolding first_family at_time epoch_time raw_time raw_offset words chars encode int_value
+bare-epoch = refl
+
+below-the-bare-epoch : first_family (codes "99999999") ≡ None
+unfolding first_family at_time epoch_time raw_time raw_offset words chars encode int_value
+below-the-bare-epoch = refl
+
+raw-behind : first_family (codes "5 -0130") ≡ Some (Told (time (pos 5) (minus 5400)))
+unfolding first_family at_time epoch_time raw_time raw_offset words chars encode int_value
+raw-behind = refl

@@ -7,3 +7,8 @@ pub mod Device
 pub mod Lending
 pub mod TimeBuf
 pub mod InputBytes
+pub mod Raw
+pub mod Epoch
+pub mod First
+pub mod Zoned
+pub mod FirstWords

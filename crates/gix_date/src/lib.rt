@@ -13,5 +13,6 @@ pub mod parsing;
 pub mod time;
 
 pub use error::{Error, InputBytes};
-pub use parsing::function::parse_header;
+pub use jiff::Zoned;
+pub use parsing::function::{parse, parse_header};
 pub use time::{OffsetInSeconds, SecondsSinceUnixEpoch, Time};

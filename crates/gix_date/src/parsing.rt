@@ -15,6 +15,8 @@ use arrayvec::ArrayString;
 use std::str::FromStr;
 
 pub(crate) mod function;
+mod raw;
+mod words;
 
 /// The most bytes that the text of a time has: those of the least seconds with an offset.
 pub(crate) const LONGEST_TEXT: usize = 26;

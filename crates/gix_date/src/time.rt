@@ -1,6 +1,7 @@
 //! A time, and what it is written as.
 ghost use Rattle.std.specs.Prelude.{◌≢◌, ◌↔◌, pos, IsTrue};
 
+pub mod format;
 mod init;
 #[cfg(test)]
 mod tests;

@@ -1,11 +1,11 @@
 -- What was read and answered, piece by piece.
-use Rattle.std.proofs.Common.{◌≡◌, ◌≢◌, true, false, inl, inr, ℕ, ◌+◌, ◌*◌, ◌≤◌, List, [], ◌∷◌, ◌++◌, length, refl, sym, ap, ◌∙◌, subst, append_assoc, append-nil, length-append, arith, Option, None, Some, Result, Ok, Err}
+use Rattle.std.proofs.Common.{◌≡◌, ◌≢◌, false, inl, inr, ℕ, ◌+◌, ◌<◌, ◌≤◌, List, [], ◌∷◌, ◌++◌, length, refl, sym, ap, ◌∙◌, subst, append_assoc, append-nil, length-append, arith, Option, None, Some, Result, Ok, Err}
 use Rattle.std.proofs.lemmas.List.Elements.{All-append, All-nil, All-cons}
 use Rattle.std.specs.Prelude.{All}
 use Rattle.std.specs.Io.KnownBytes.{Appends, Keeps, Consumes, IsAtEnd}
 use Rattle.std.specs.declared.io.ErrorKind.{ErrorKind}
 use Rattle.gix_date.specs.Device.{AppendsProperPrefix}
-use Rattle.gix_date.specs.declared.time.Time.{Time}
+use Rattle.jiff.specs.declared.zoned.Zoned.{Zoned}
 use Rattle.gix_date_tool.specs.declared.arguments.Mode.{Mode}
 use Rattle.gix_date_tool.specs.declared.error.ToolError.{ToolError}
 use Rattle.gix_date_tool.specs.declared.error.ToolError.TheVariants as errors
@@ -15,7 +15,7 @@ use Rattle.gix_date_tool.specs.Answers.{answers}
 use Rattle.gix_date_tool.specs.Outbox.{AppendsBut}
 use Rattle.gix_date_tool.specs.Run.{StopsAt, Ran, is_unwritten}
 use Rattle.gix_date_tool.specs.Answering.{open_line, waiting, IsReady, Takes, Ends}
-use Rattle.gix_date_tool.proofs.Splitting.{Splits-open, Splits-join, length-Splits}
+use Rattle.gix_date_tool.proofs.Splitting.{Splits-open, Splits-join}
 use Rattle.gix_date_tool.proofs.Sending.{AppendsBut-none, AppendsBut-then, AppendsBut-sent, AppendsProperPrefix-then, AppendsProperPrefix-sent, AppendsBut-all, Appends-from_but}
 use Rattle.gix_date_tool.proofs.Taking.{Stops, answers-append}
 
@@ -40,12 +40,12 @@ without_beyond : (old new : Option (List ℕ)) (xs : List ℕ) → Consumes old 
 without_beyond old new xs h = subst (Consumes old new) (sym (append-nil xs)) h
 
 -- Some bytes were read and the lines in them answered, but for what waits.
-abbrev pub SoFar : Mode → Option Time → Answering → Option (List ℕ) → Option (List ℕ) → Option (List ℕ) → Option (List ℕ) → Type 0
+abbrev pub SoFar : Mode → Option Zoned → Answering → Option (List ℕ) → Option (List ℕ) → Option (List ℕ) → Option (List ℕ) → Type 0
 SoFar mode now s left left' old new =
     (input : List ℕ) × (lines : List (List ℕ)) × Consumes left left' input × Splits input lines (open_line s) × All IsShort lines × (s.lines ≡ length lines)
     × AppendsBut old new (answers mode now lines) (waiting s)
 
-pub SoFar-start : (mode : Mode) (now : Option Time) (s : Answering) (left old : Option (List ℕ)) → open_line s ≡ [] → s.lines ≡ 0 → waiting s ≡ [] → SoFar mode now s left left old old
+pub SoFar-start : (mode : Mode) (now : Option Zoned) (s : Answering) (left old : Option (List ℕ)) → open_line s ≡ [] → s.lines ≡ 0 → waiting s ≡ [] → SoFar mode now s left left old old
 SoFar-start mode now s left old empty none nothing = (
   [],
   [],
@@ -65,7 +65,7 @@ IsReady-start s empty none = record {
 }
 
 -- what waited was sent
-pub SoFar-sent : (mode : Mode) (now : Option Time) (s s' : Answering) (left left' old mid new : Option (List ℕ)) → SoFar mode now s left left' old mid → open_line s' ≡ open_line s → s'.lines ≡ s.lines → AppendsBut mid new (waiting s) (waiting s') → SoFar mode now s' left left' old new
+pub SoFar-sent : (mode : Mode) (now : Option Zoned) (s s' : Answering) (left left' old mid new : Option (List ℕ)) → SoFar mode now s left left' old mid → open_line s' ≡ open_line s → s'.lines ≡ s.lines → AppendsBut mid new (waiting s) (waiting s') → SoFar mode now s' left left' old new
 SoFar-sent mode now s s' left left' old mid new h line count sent = (
   h.0,
   h.1,
@@ -77,7 +77,7 @@ SoFar-sent mode now s s' left left' old mid new h line count sent = (
 )
 
 -- the writer refused what waited
-pub Ran-unsent : (Wrote : List ℕ → Type 0) (mode : Mode) (now : Option Time) (s : Answering) (left left' : Option (List ℕ)) (unread : Option ErrorKind) (old mid new : Option (List ℕ)) (fault : Option ErrorKind) (kind : ErrorKind)
+pub Ran-unsent : (Wrote : List ℕ → Type 0) (mode : Mode) (now : Option Zoned) (s : Answering) (left left' : Option (List ℕ)) (unread : Option ErrorKind) (old mid new : Option (List ℕ)) (fault : Option ErrorKind) (kind : ErrorKind)
     → SoFar mode now s left left' old mid → AppendsProperPrefix mid new (waiting s) × (fault ≡ Some kind) → Ran Wrote mode now left left' unread old new fault (Err (errors.Write kind))
 Ran-unsent Wrote mode now s left left' unread old mid new fault kind h cut = (
   cut.1,
@@ -90,18 +90,18 @@ Ran-unsent Wrote mode now s left left' unread old mid new fault kind h cut = (
 )
 
 -- the answers to some lines and to more
-due_more : (mode : Mode) (now : Option Time) (old mid new : Option (List ℕ)) (unsent rest : List ℕ) (lines more : List (List ℕ))
+due_more : (mode : Mode) (now : Option Zoned) (old mid new : Option (List ℕ)) (unsent rest : List ℕ) (lines more : List (List ℕ))
     → AppendsBut old mid (answers mode now lines) unsent → AppendsBut mid new (unsent ++ answers mode now more) rest → AppendsBut old new (answers mode now (lines ++ more)) rest
 due_more mode now old mid new unsent rest lines more h k =
     subst (λ due. AppendsBut old new due rest) (sym (answers-append mode now lines more)) (AppendsBut-then old mid new (answers mode now lines) unsent (answers mode now more) rest h k)
 
-due_cut : (mode : Mode) (now : Option Time) (old mid new : Option (List ℕ)) (unsent : List ℕ) (lines more : List (List ℕ))
+due_cut : (mode : Mode) (now : Option Zoned) (old mid new : Option (List ℕ)) (unsent : List ℕ) (lines more : List (List ℕ))
     → AppendsBut old mid (answers mode now lines) unsent → AppendsProperPrefix mid new (unsent ++ answers mode now more) → AppendsProperPrefix old new (answers mode now (lines ++ more))
 due_cut mode now old mid new unsent lines more h k =
     subst (AppendsProperPrefix old new) (sym (answers-append mode now lines more)) (AppendsProperPrefix-then old mid new (answers mode now lines) unsent (answers mode now more) h k)
 
 -- a piece was read and taken in
-pub SoFar-taken : (mode : Mode) (now : Option Time) (s s' : Answering) (left left' left'' old mid new : Option (List ℕ)) (fault : Option ErrorKind) (bytes : List ℕ) (u : Unit {0})
+pub SoFar-taken : (mode : Mode) (now : Option Zoned) (s s' : Answering) (left left' left'' old mid new : Option (List ℕ)) (fault : Option ErrorKind) (bytes : List ℕ) (u : Unit {0})
     → SoFar mode now s left left' old mid → Consumes left' left'' bytes → Takes mode now s s' mid new fault bytes (Ok u) → SoFar mode now s' left left'' old new
 SoFar-taken mode now s s' left left' left'' old mid new fault bytes u h read k = (
   h.0 ++ bytes,
@@ -119,7 +119,7 @@ read_on left left' left'' input bytes front beyond h k e =
     subst (Consumes left left'') (ap (λ xs. input ++ xs) e ∙ sym (append_assoc input front beyond)) (Consumes-append left left' left'' input bytes h k)
 
 -- the same, for a run that stops within a line
-stopped : (mode : Mode) (now : Option Time) (s s' : Answering) (left left' left'' old mid new : Option (List ℕ)) (bytes : List ℕ) (stop : ToolError)
+stopped : (mode : Mode) (now : Option Zoned) (s s' : Answering) (left left' left'' old mid new : Option (List ℕ)) (bytes : List ℕ) (stop : ToolError)
     → SoFar mode now s left left' old mid → Consumes left' left'' bytes → Stops mode now s s' mid new bytes stop
     → (front beyond : List ℕ) × (lines : List (List ℕ)) × (rest : List ℕ) × Consumes left left'' (front ++ beyond) × Splits front lines rest
     × All IsShort lines × StopsAt stop (length lines) rest beyond × AppendsBut old new (answers mode now lines) (waiting s')
@@ -136,7 +136,7 @@ stopped mode now s s' left left' left'' old mid new bytes stop h read k = (
 )
 
 -- A piece was read, and the run stops within it.
-pub Ran-stopped : (mode : Mode) (now : Option Time) (s s' : Answering) (left left' left'' : Option (List ℕ)) (unread : Option ErrorKind) (old mid new : Option (List ℕ)) (fault : Option ErrorKind) (bytes : List ℕ) (stop : ToolError)
+pub Ran-stopped : (mode : Mode) (now : Option Zoned) (s s' : Answering) (left left' left'' : Option (List ℕ)) (unread : Option ErrorKind) (old mid new : Option (List ℕ)) (fault : Option ErrorKind) (bytes : List ℕ) (stop : ToolError)
     → SoFar mode now s left left' old mid → Consumes left' left'' bytes → Takes mode now s s' mid new fault bytes (Err stop)
     → Ran (λ text. AppendsBut old new text (waiting s')) mode now left left'' unread old new fault (Err stop)
 Ran-stopped mode now s s' left left' left'' unread old mid new fault bytes (errors.Read kind) h read k = absurd k.7
@@ -175,13 +175,16 @@ within s lines ready short count = (
 )
 
 -- the reader refused
-pub Ran-unread : (mode : Mode) (now : Option Time) (s : Answering) (left left' left'' : Option (List ℕ)) (unread : Option ErrorKind) (old new : Option (List ℕ)) (fault : Option ErrorKind) (kind : ErrorKind)
+pub Ran-unread : (mode : Mode) (now : Option Zoned) (s : Answering) (left left' left'' : Option (List ℕ)) (unread : Option ErrorKind) (old new : Option (List ℕ)) (fault : Option ErrorKind) (kind : ErrorKind)
     → SoFar mode now s left left' old new → IsReady s → Keeps left' left'' → unread ≡ Some kind → Ran (λ text. AppendsBut old new text (waiting s)) mode now left left'' unread old new fault (Err (errors.Read kind))
 Ran-unread mode now s left left' left'' unread old new fault kind h ready kept e =
     (e, h.0, h.1, open_line s, Consumes-kept left left' left'' h.0 h.2 kept, h.3, within s h.1 ready h.4 h.5, h.6)
 
+short_of_the_limit : (n : ℕ) → n ≤ 1000000 → (n ≡ 1000000 → ⊥) → n < 1000000
+short_of_the_limit n few h = omega (arith, h)
+
 -- The input is at its end, and the last line was answered.
-pub Ran-ended : (mode : Mode) (now : Option Time) (s s' : Answering) (left left' left'' : Option (List ℕ)) (unread : Option ErrorKind) (old mid new : Option (List ℕ)) (fault : Option ErrorKind) (r : Result ℕ ToolError)
+pub Ran-ended : (mode : Mode) (now : Option Zoned) (s s' : Answering) (left left' left'' : Option (List ℕ)) (unread : Option ErrorKind) (old mid new : Option (List ℕ)) (fault : Option ErrorKind) (r : Result ℕ ToolError)
     → SoFar mode now s left left' old mid → IsReady s → Consumes left' left'' [] → IsAtEnd left'' → Ends mode now s s' mid new fault r
     → Ran (λ text. AppendsBut old new text (waiting s')) mode now left left'' unread old new fault r
 Ran-ended mode now s s' left left' left'' unread old mid new fault (Ok n) h ready read end k = (
@@ -204,22 +207,25 @@ Ran-ended mode now s s' left left' left'' unread old mid new fault (Err (errors.
   due_cut mode now old mid new (waiting s) h.1 (last_line (open_line s)) h.6 k.1,
 )
 Ran-ended mode now s s' left left' left'' unread old mid new fault (Err (errors.Read kind)) h ready read end k = absurd k
-Ran-ended mode now s s' left left' left'' unread old mid new fault (Err errors.Memory) h ready read end k = absurd k
+Ran-ended mode now s s' left left' left'' unread old mid new fault (Err errors.Memory) h ready read end k = (
+  h.0,
+  [],
+  h.1,
+  open_line s,
+  Consumes-append left left' left'' h.0 [] h.2 read,
+  h.3,
+  h.4,
+  (subst (λ n. n < 1000000) h.5 (short_of_the_limit s.lines ready.few (λ e. k.1 (ready.none_behind e))), ready.is_short),
+  AppendsBut-sent old mid new (answers mode now h.1) (waiting s) (waiting s') h.6 k.0,
+)
 Ran-ended mode now s s' left left' left'' unread old mid new fault (Err errors.LineTooLong) h ready read end k = absurd k
 Ran-ended mode now s s' left left' left'' unread old mid new fault (Err errors.TooManyLines) h ready read end k = absurd k
-
--- a piece with a byte brings the end nearer
-pub nearer : (mode : Mode) (now : Option Time) (s s' : Answering) (old new : Option (List ℕ)) (fault : Option ErrorKind) (bytes : List ℕ) (u : Unit {0}) → Takes mode now s s' old new fault bytes (Ok u)
-    → s.lines * 65537 + length (open_line s) + length bytes ≤ s'.lines * 65537 + length (open_line s')
-nearer mode now s s' old new fault bytes u h =
-    let count = h.3 in
-    omega (arith, length-Splits (open_line s ++ bytes) h.0 (open_line s') h.1 h.2, length-append (open_line s) bytes)
 
 sent : (old mid new : Option (List ℕ)) (unsent due : List ℕ) → AppendsBut old mid due unsent → Appends mid new unsent → Appends old new due
 sent old mid new unsent due h k = Appends-from_but old new due (AppendsBut-sent old mid new due unsent [] h (AppendsBut-all mid new unsent k))
 
 -- What a run comes to once what waited is sent.
-pub Ran-sent : (mode : Mode) (now : Option Time) (left left' : Option (List ℕ)) (unread : Option ErrorKind) (old mid new : Option (List ℕ)) (fault fault' : Option ErrorKind) (unsent : List ℕ) (r : Result ℕ ToolError)
+pub Ran-sent : (mode : Mode) (now : Option Zoned) (left left' : Option (List ℕ)) (unread : Option ErrorKind) (old mid new : Option (List ℕ)) (fault fault' : Option ErrorKind) (unsent : List ℕ) (r : Result ℕ ToolError)
     → is_unwritten r ≡ false → Ran (λ text. AppendsBut old mid text unsent) mode now left left' unread old mid fault r → Appends mid new unsent
     → Ran (Appends old new) mode now left left' unread old new fault' r
 Ran-sent mode now left left' unread old mid new fault fault' unsent (Ok n) not h k = (h.0, h.1, h.2, h.3, h.4, h.5, sent old mid new unsent (answers mode now h.1) h.6 k, h.7)
@@ -230,7 +236,7 @@ Ran-sent mode now left left' unread old mid new fault fault' unsent (Err errors.
 Ran-sent mode now left left' unread old mid new fault fault' unsent (Err errors.TooManyLines) not h k = (h.0, h.1, h.2, h.3, h.4, h.5, h.6, h.7, sent old mid new unsent (answers mode now h.2) h.8 k)
 
 -- What a run comes to where the writer refuses what waited.
-pub Ran-cut : (mode : Mode) (now : Option Time) (left left' : Option (List ℕ)) (unread : Option ErrorKind) (old mid new : Option (List ℕ)) (fault fault' : Option ErrorKind) (unsent : List ℕ) (r : Result ℕ ToolError) (kind : ErrorKind)
+pub Ran-cut : (mode : Mode) (now : Option Zoned) (left left' : Option (List ℕ)) (unread : Option ErrorKind) (old mid new : Option (List ℕ)) (fault fault' : Option ErrorKind) (unsent : List ℕ) (r : Result ℕ ToolError) (kind : ErrorKind)
     → is_unwritten r ≡ false → Ran (λ text. AppendsBut old mid text unsent) mode now left left' unread old mid fault r → AppendsProperPrefix mid new unsent × (fault' ≡ Some kind)
     → Ran (Appends old new) mode now left left' unread old new fault' (Err (errors.Write kind))
 Ran-cut mode now left left' unread old mid new fault fault' unsent (Ok n) kind not h k =
@@ -241,13 +247,3 @@ Ran-cut mode now left left' unread old mid new fault fault' unsent (Err (errors.
 Ran-cut mode now left left' unread old mid new fault fault' unsent (Err errors.Memory) kind not h k = (k.1, h.0, h.1, h.2, h.4, inl (h.3, h.5), AppendsProperPrefix-sent old mid new (answers mode now h.2) unsent h.8 k.0)
 Ran-cut mode now left left' unread old mid new fault fault' unsent (Err errors.LineTooLong) kind not h k = (k.1, h.0, h.1, h.2, h.4, inl (h.3, h.5), AppendsProperPrefix-sent old mid new (answers mode now h.2) unsent h.8 k.0)
 Ran-cut mode now left left' unread old mid new fault fault' unsent (Err errors.TooManyLines) kind not h k = (k.1, h.0, h.1, h.2, h.4, inl (h.3, h.5), AppendsProperPrefix-sent old mid new (answers mode now h.2) unsent h.8 k.0)
-
--- Where the writer had refused, nothing more is written.
-pub Ran-refused : (Wrote Wrote' : List ℕ → Type 0) (mode : Mode) (now : Option Time) (left left' : Option (List ℕ)) (unread : Option ErrorKind) (old new : Option (List ℕ)) (fault : Option ErrorKind) (r : Result ℕ ToolError)
-    → is_unwritten r ≡ true → Ran Wrote mode now left left' unread old new fault r → Ran Wrote' mode now left left' unread old new fault r
-Ran-refused Wrote Wrote' mode now left left' unread old new fault (Ok n) is h = cc
-Ran-refused Wrote Wrote' mode now left left' unread old new fault (Err (errors.Write kind)) is h = h
-Ran-refused Wrote Wrote' mode now left left' unread old new fault (Err (errors.Read kind)) is h = cc
-Ran-refused Wrote Wrote' mode now left left' unread old new fault (Err errors.Memory) is h = cc
-Ran-refused Wrote Wrote' mode now left left' unread old new fault (Err errors.LineTooLong) is h = cc
-Ran-refused Wrote Wrote' mode now left left' unread old new fault (Err errors.TooManyLines) is h = cc

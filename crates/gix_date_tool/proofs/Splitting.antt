@@ -1,11 +1,11 @@
 -- How an input is split into lines.
-use Rattle.std.proofs.Common.{◌≡◌, ◌≢◌, ℕ, ◌+◌, ◌*◌, ◌≤◌, List, [], ◌∷◌, ◌++◌, length, refl, sym, ap, ◌∙◌, subst, append_assoc, append-nil, length-append, arith}
+use Rattle.std.proofs.Common.{◌≡◌, ◌≢◌, ℕ, List, [], ◌∷◌, ◌++◌, refl, sym, ap, ◌∙◌, append_assoc, append-nil}
 use Rattle.std.proofs.lemmas.List.{flat_map_more}
 use Rattle.std.proofs.lemmas.List.Concat.{flat_map-append}
 use Rattle.std.proofs.lemmas.List.Elements.{All-append, All-push, All-nil, All-head, All-tail}
 use Rattle.std.specs.List.{flat_map}
 use Rattle.std.specs.Prelude.{All}
-use Rattle.gix_date_tool.specs.Lines.{IsLine, Splits, IsShort}
+use Rattle.gix_date_tool.specs.Lines.{IsLine, Splits}
 
 -- a line and its newline
 abbrev pub ended : List ℕ → List ℕ
@@ -73,16 +73,3 @@ same_lines (l ∷ lines) (o ∷ others) rest other h k i j e =
 -- there is one way to split an input
 pub Splits_unique : (input : List ℕ) (lines others : List (List ℕ)) (rest other : List ℕ) → Splits input lines rest → Splits input others other → (lines ≡ others) × (rest ≡ other)
 Splits_unique input lines others rest other h k = same_lines lines others rest other h.each k.each h.open_line k.open_line (sym h.whole ∙ k.whole)
-
--- short lines make no long input
-length-lines : (lines : List (List ℕ)) (rest : List ℕ) → All IsShort lines → length (flat_map ended lines ++ rest) ≤ length lines * 65537 + length rest
-length-lines [] rest h = omega arith
-length-lines (l ∷ lines) rest h =
-    let first : IsShort l = All-head IsShort l lines h in
-    let more = length-lines lines rest (All-tail IsShort l lines h) in
-    let cut = ap length (cut_first l lines rest) in
-    let whole = length-append l (10 ∷ (flat_map ended lines ++ rest)) in
-    omega arith
-
-pub length-Splits : (input : List ℕ) (lines : List (List ℕ)) (rest : List ℕ) → Splits input lines rest → All IsShort lines → length input ≤ length lines * 65537 + length rest
-length-Splits input lines rest h short = subst (λ n. n ≤ length lines * 65537 + length rest) (sym (ap length h.whole)) (length-lines lines rest short)

@@ -6,8 +6,10 @@ use Rattle.gix_date.specs.declared.time.Time.{Time}
 use Rattle.gix_date.specs.Numbers.{decimal_text}
 use Rattle.gix_date.specs.HeaderText.{header_text}
 use Rattle.gix_date.specs.HeaderReading.{header_time}
+use Rattle.gix_date.specs.First.{Answer, Told, first_family}
+use Rattle.jiff.specs.declared.zoned.Zoned.{Zoned}
 use Rattle.gix_date_tool.specs.declared.arguments.Mode.{Mode}
-use Rattle.gix_date_tool.specs.declared.arguments.Mode.TheVariants.{Check}
+use Rattle.gix_date_tool.specs.declared.arguments.Mode.TheVariants.{Check, Parse}
 
 -- the time has a header text, and it is this one
 abbrev pub is_header_text_of : List ℕ → Time → Bool
@@ -22,10 +24,20 @@ reading_text text (Some t) = if is_header_text_of text t then codes "canonical" 
 abbrev pub check_answer : List ℕ → List ℕ
 check_answer line = if is_utf8 line then reading_text line (header_time line) else codes "not text"
 
+-- what a text is answered by that parses to this answer, or to none
+abbrev pub told_text : Option Answer → List ℕ
+told_text None = codes "error unknown-format"
+told_text (Some (Told t)) = header_text t
+
+-- the header text of the time that the line is parsed as
+abbrev pub parse_answer : List ℕ → List ℕ
+parse_answer line = if is_utf8 line then told_text (first_family line) else codes "not text"
+
 -- what a line is answered by in a mode, with a moment or none
-unfoldable pub answer : Mode → Option Time → List ℕ → List ℕ
+unfoldable pub answer : Mode → Option Zoned → List ℕ → List ℕ
 answer Check now line = check_answer line
+answer Parse now line = parse_answer line
 
 -- the answers to some lines, with a newline behind each
-abbrev pub answers : Mode → Option Time → List (List ℕ) → List ℕ
+abbrev pub answers : Mode → Option Zoned → List (List ℕ) → List ℕ
 answers mode now lines = flat_map (λ line. answer mode now line ++ 10 ∷ []) lines

@@ -1,9 +1,11 @@
 -- What a run comes to.
-use Rattle.std.specs.Prelude.{◌≡◌, ◌⊎◌, Bool, true, false, ℕ, ◌<◌, List, [], ◌++◌, length, All, Option, Some, Result, Ok, Err}
+use Rattle.std.specs.Prelude.{◌≡◌, ◌⊎◌, Bool, true, false, ℕ, ◌<◌, List, [], ◌++◌, length, All, Option, Some, None, Result, Ok, Err}
 use Rattle.std.specs.Io.KnownBytes.{Consumes, IsAtEnd}
 use Rattle.std.specs.declared.io.ErrorKind.{ErrorKind}
-use Rattle.gix_date.specs.declared.time.Time.{Time}
 use Rattle.gix_date.specs.Device.{AppendsProperPrefix}
+use Rattle.gix_date.specs.Zoned.{IsMoment}
+use Rattle.gix_date.specs.declared.time.Time.{Time}
+use Rattle.jiff.specs.declared.zoned.Zoned.{Zoned}
 use Rattle.gix_date_tool.specs.declared.arguments.Mode.{Mode}
 use Rattle.gix_date_tool.specs.declared.error.ToolError.{ToolError}
 use Rattle.gix_date_tool.specs.declared.error.ToolError.TheVariants as errors
@@ -27,7 +29,7 @@ WereDue left front beyond lines = HasEnded front lines ⊎ (IsAtEnd left × (bey
 
 -- What a run comes to. left and left' are the reader's known bytes before and after, old and new the writer's, and unread
 -- and unwritten the faults of the reader and the writer as the run ends. Wrote says of a text that exactly it was written.
-abbrev pub Ran : (List ℕ → Type 0) → Mode → Option Time → Option (List ℕ) → Option (List ℕ) → Option ErrorKind → Option (List ℕ) → Option (List ℕ) → Option ErrorKind → Result ℕ ToolError → Type 0
+abbrev pub Ran : (List ℕ → Type 0) → Mode → Option Zoned → Option (List ℕ) → Option (List ℕ) → Option ErrorKind → Option (List ℕ) → Option (List ℕ) → Option ErrorKind → Result ℕ ToolError → Type 0
 -- The whole input was read, no limit applies to it, and exactly the answers to its lines were written.
 Ran Wrote mode now left left' unread old new unwritten (Ok n) =
     (input : List ℕ) × (lines : List (List ℕ)) × Consumes left left' input × IsAtEnd left' × HasLines input lines × IsWithinLimits lines
@@ -50,3 +52,10 @@ abbrev pub is_unwritten : Result ℕ ToolError → Bool
 is_unwritten (Ok n) = false
 is_unwritten (Err (errors.Write kind)) = true
 is_unwritten (Err _) = false
+
+-- the moment is this time in the zone that always has its offset
+abbrev pub IsMomentOf : Option Time → Option Zoned → Type 0
+IsMomentOf None None = Unit {0}
+IsMomentOf None (Some z) = ⊥
+IsMomentOf (Some t) None = ⊥
+IsMomentOf (Some t) (Some z) = IsMoment t z

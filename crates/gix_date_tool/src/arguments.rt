@@ -1,5 +1,7 @@
 //! What the program is asked for.
-ghost use Rattle.std.specs.Prelude.{◌≡◌, Ok, map, string_bytes};
+ghost use Rattle.std.specs.Prelude.{◌≡◌, Ok, IfOk, IfSome, map, string_bytes};
+ghost use Rattle.std.specs.Option.{ForSome};
+ghost use Rattle.gix_date.specs.Zoned.{IsConvertible};
 ghost use Rattle.gix_date_tool.specs.Command.{command_of};
 
 use crate::error::ToolError;
@@ -11,16 +13,21 @@ use std::alloc::Global;
 pub enum Mode {
     /// Whether the line is a header text that comes back when it is read and written, and else what it is read as.
     Check,
+    /// The header text of the time that the line is parsed as, or why it is not.
+    Parse,
 }
 
 /// Reads the words of a command line, without the program's name: the mode, and the moment where there is one.
 ///
-/// The one command line is `check`. `None` for any other: then the usage is due. It never refuses.
+/// The command lines are `check` and `parse`. `None` for any other: then the usage is due. A moment that is answered is one
+/// that [`crate::run`] may be given. It never refuses.
 pub fn command(alloc: Global, words: &[String]) -> Result<Option<(Mode, Option<Time>)>, ToolError>
-    ensures { result ≡ Ok (command_of (map string_bytes words.now)) }
+    ensures answer { result ≡ Ok (command_of (map string_bytes words.now)) }
+    ensures moment { IfOk result (λ asked. IfSome asked (λ both. ForSome both.1 IsConvertible)) }
 {
     match words {
         [mode] if mode.as_str() == "check" => Ok(Some((Mode::Check, None))),
+        [mode] if mode.as_str() == "parse" => Ok(Some((Mode::Parse, None))),
         _ => Ok(None),
     }
 }
@@ -31,14 +38,19 @@ mod tests {
     use std::test::Fail;
 
     #[test]
-    fn check_is_the_one_command(rt: HostRuntime) -> Result<(), Fail> {
+    fn a_command_line_is_one_mode(rt: HostRuntime) -> Result<(), Fail> {
         let rows = [
             ("check", ["check"].as_slice(), Some((Mode::Check, None))),
             ("no-word", [].as_slice(), None),
             ("another-word", ["x"].as_slice(), None),
             ("two-words", ["check", "x"].as_slice(), None),
             ("other-case", ["Check"].as_slice(), None),
-            ("not-there-yet", ["parse"].as_slice(), None),
+            ("parse", ["parse"].as_slice(), Some((Mode::Parse, None))),
+            (
+                "not-there-yet",
+                ["parse", "1698400800 +0000"].as_slice(),
+                None,
+            ),
         ];
         for (row, line, wanted) in rows {
             let mut words = Vec::new(rt.alloc());

@@ -1,19 +1,20 @@
 //! The lines of a stream, each answered in turn.
-ghost use Rattle.std.specs.Prelude.{◌≡◌, ◌++◌, ◌∷◌, [], MatchOption, OnOk};
+ghost use Rattle.std.specs.Prelude.{◌≡◌, ◌++◌, ◌∷◌, [], Option, MatchOption, OnOk};
 ghost use Rattle.std.specs.Io.KnownBytes.{Appends};
-ghost use Rattle.gix_date_tool.specs.Answers.{answer};
-ghost use Rattle.gix_date_tool.specs.Outbox.{Sends};
+ghost use Rattle.std.specs.Option.{ForSome};
+ghost use Rattle.jiff.specs.declared.zoned.Zoned.{Zoned as Moment};
+ghost use Rattle.gix_date.specs.Zoned.{IsConvertible};
+ghost use Rattle.gix_date_tool.specs.Answering.{Pushes};
 ghost use Rattle.gix_date_tool.specs.Lines.{IsLine, SplitsAreUnique};
-ghost use Rattle.gix_date_tool.specs.Run.{Ran, is_unwritten};
+ghost use Rattle.gix_date_tool.specs.Run.{Ran, IsMomentOf, is_unwritten};
 
 use crate::answers::answer_line;
 use crate::arguments::Mode;
 use crate::error::ToolError;
 use crate::outbox::Outbox;
-use gix_date::Time;
 use gix_date::device::{Sink, Source};
+use gix_date::{Time, Zoned};
 use std::alloc::Global;
-use std::io;
 
 #[cfg(test)]
 mod tests;
@@ -29,14 +30,17 @@ const PIECE: usize = 16384;
 
 /// Answers each line that a reader gives, a line of output for each, and says how many they were.
 ///
+/// The moment, where there is one, is what a date may be relative to; it has to be one that `Time::to_zoned` converts.
+///
 /// Lines end at `\n`, and a last line without one counts where it has a byte. The answers to the lines of what was read
-/// are written before more is read. Memory is taken for the line that is read, and not for more.
+/// are written before more is read. Memory is taken for the line that is read, in Parse also for a copy of a text that is in
+/// no known format, and not for more.
 ///
 /// A run ends well only at the end of the input. [`ToolError::LineTooLong`] comes where one of the first 1000000 lines has
 /// more than 65536 bytes, [`ToolError::TooManyLines`] where a byte stands behind line 1000000, [`ToolError::Memory`] where
-/// memory for a line is refused, and [`ToolError::Read`] carries the reader's fault: then the answers to all lines before
-/// were written, and nothing more. [`ToolError::Write`] carries the writer's fault, and then a proper prefix of the answers
-/// that were due was written.
+/// memory for a line or its answer is refused, and [`ToolError::Read`] carries the reader's fault: then the answers to all
+/// lines before were written, and nothing more. [`ToolError::Write`] carries the writer's fault, and then a proper prefix of
+/// the answers that were due was written.
 pub fn run<R: Source, W: Sink>(
     alloc: Global,
     mode: Mode,
@@ -44,20 +48,32 @@ pub fn run<R: Source, W: Sink>(
     reader: &mut R,
     writer: &mut W,
 ) -> Result<u64, ToolError>
-    ensures { Ran (Appends (W.taken writer.old) (W.taken writer.new)) mode now (R.left reader.old) (R.left reader.new) (R.fault reader.new) (W.taken writer.old) (W.taken writer.new) (W.fault writer.new) result }
+    requires { ForSome now IsConvertible }
+    ensures { (moment : Option Moment) × IsMomentOf now moment × Ran (Appends (W.taken writer.old) (W.taken writer.new)) mode moment (R.left reader.old) (R.left reader.new) (R.fault reader.new) (W.taken writer.old) (W.taken writer.new) (W.fault writer.new) result }
 {
     let mut answering = Answering {
         line: Vec::new(alloc),
         lines: 0,
         outbox: Outbox::new(),
     };
-    let outcome = answering.answer_all(mode, now, reader, writer);
+    let outcome = answering.answer_all(alloc, mode, moment_of(now), reader, writer);
     if is_unwritten(&outcome) {
         return outcome;
     }
     match answering.outbox.send(writer) {
         Ok(()) => outcome,
         Err(kind) => Err(ToolError::Write(kind)),
+    }
+}
+
+/// The moment of a time, in the zone that always has its offset.
+fn moment_of(now: Option<Time>) -> Option<Zoned<'static>>
+    requires { ForSome now IsConvertible }
+    ensures { IsMomentOf now result }
+{
+    match now {
+        Some(time) => Some(time.to_zoned().unwrap()),
+        None => None,
     }
 }
 
@@ -91,15 +107,16 @@ impl Answering {
     /// Answers all lines. What waits in the outbox at the end is still to be written.
     fn answer_all<R: Source, W: Sink>(
         &mut self,
+        alloc: Global,
         mode: Mode,
-        now: Option<Time>,
+        now: Option<Zoned<'static>>,
         reader: &mut R,
         writer: &mut W,
     ) -> Result<u64, ToolError>
         requires empty { open_line self.old ≡ [] }
         requires none { self.old.lines ≡ 0 }
         requires nothing { waiting self.old ≡ [] }
-        ensures { Ran (λ text. AppendsBut (W.taken writer.old) (W.taken writer.new) text (waiting self.new)) mode now (R.left reader.old) (R.left reader.new) (R.fault reader.new) (W.taken writer.old) (W.taken writer.new) (W.fault writer.new) result }
+        ensures { Ran (λ text. AppendsBut (W.taken writer.old) (W.taken writer.new) text (waiting self.new)) mode now.entry (R.left reader.old) (R.left reader.new) (R.fault reader.new) (W.taken writer.old) (W.taken writer.new) (W.fault writer.new) result }
     {
         let mut piece = [0; PIECE];
         'pieces: loop {
@@ -111,9 +128,9 @@ impl Answering {
                 Err(kind) => return Err(ToolError::Read(kind)),
             };
             if count == 0 {
-                return self.answer_last(mode, now, writer);
+                return self.answer_last(alloc, mode, now, writer);
             }
-            if let Err(fault) = self.take_in(mode, now, &piece[..count], writer) {
+            if let Err(fault) = self.take_in(alloc, mode, now, &piece[..count], writer) {
                 return Err(fault);
             }
         }
@@ -122,18 +139,19 @@ impl Answering {
     /// Takes in the next bytes, and answers the lines that they end.
     fn take_in<W: Sink>(
         &mut self,
+        alloc: Global,
         mode: Mode,
-        now: Option<Time>,
+        now: Option<Zoned<'static>>,
         bytes: &[u8],
         writer: &mut W,
     ) -> Result<(), ToolError>
         requires { IsReady self.old }
-        ensures takes { Takes mode now self.old self.new (W.taken writer.old) (W.taken writer.new) (W.fault writer.new) bytes.now result }
+        ensures takes { Takes mode now.entry self.old self.new (W.taken writer.old) (W.taken writer.new) (W.fault writer.new) bytes.now result }
         ensures ready { OnOk result (IsReady self.new) }
     {
         let mut rest = bytes;
         while let Some((part, behind)) = split_line(rest) {
-            if let Err(fault) = self.end_line(mode, now, part, writer) {
+            if let Err(fault) = self.end_line(alloc, mode, now, part, writer) {
                 return Err(fault);
             }
             rest = behind;
@@ -147,21 +165,23 @@ impl Answering {
     /// Takes in the last bytes of a line and its newline, and answers it.
     fn end_line<W: Sink>(
         &mut self,
+        alloc: Global,
         mode: Mode,
-        now: Option<Time>,
+        now: Option<Zoned<'static>>,
         part: &[u8],
         writer: &mut W,
     ) -> Result<(), ToolError>
         requires ready { IsReady self.old }
         requires is_line { IsLine part.now }
-        ensures takes { Takes mode now self.old self.new (W.taken writer.old) (W.taken writer.new) (W.fault writer.new) (part.now ++ 10 ∷ []) result }
+        ensures takes { Takes mode now.entry self.old self.new (W.taken writer.old) (W.taken writer.new) (W.fault writer.new) (part.now ++ 10 ∷ []) result }
         ensures ready { OnOk result (IsReady self.new) }
     {
         if let Err(fault) = self.extend(part) {
             return Err(fault);
         }
-        if let Err(kind) = push_answer(&mut self.outbox, mode, now, self.line.as_slice(), writer) {
-            return Err(ToolError::Write(kind));
+        let line = self.line.as_slice();
+        if let Err(fault) = push_answer(&mut self.outbox, alloc, mode, now, line, writer) {
+            return Err(fault);
         }
         self.line.clear();
         self.lines += 1;
@@ -188,18 +208,20 @@ impl Answering {
     /// Answers the line that stands open at the end of the input, and says how many lines there were.
     fn answer_last<W: Sink>(
         &mut self,
+        alloc: Global,
         mode: Mode,
-        now: Option<Time>,
+        now: Option<Zoned<'static>>,
         writer: &mut W,
     ) -> Result<u64, ToolError>
         requires { IsReady self.old }
-        ensures { Ends mode now self.old self.new (W.taken writer.old) (W.taken writer.new) (W.fault writer.new) result }
+        ensures { Ends mode now.entry self.old self.new (W.taken writer.old) (W.taken writer.new) (W.fault writer.new) result }
     {
         if self.line.is_empty() {
             return Ok(self.lines);
         }
-        if let Err(kind) = push_answer(&mut self.outbox, mode, now, self.line.as_slice(), writer) {
-            return Err(ToolError::Write(kind));
+        let line = self.line.as_slice();
+        if let Err(fault) = push_answer(&mut self.outbox, alloc, mode, now, line, writer) {
+            return Err(fault);
         }
         Ok(self.lines + 1)
     }
@@ -208,15 +230,22 @@ impl Answering {
 /// Puts the answer to a line, and a newline, behind what waits.
 fn push_answer<W: Sink>(
     outbox: &mut Outbox,
+    alloc: Global,
     mode: Mode,
-    now: Option<Time>,
+    now: Option<Zoned<'static>>,
     line: &[u8],
     writer: &mut W,
-) -> Result<(), io::ErrorKind>
-    ensures { Sends (W.taken writer.old) (W.taken writer.new) (W.fault writer.new) (outbox.old.text.bytes ++ (answer mode now line.now ++ 10 ∷ [])) outbox.new.text.bytes result }
+) -> Result<(), ToolError>
+    ensures { Pushes mode now.entry line.now (W.taken writer.old) (W.taken writer.new) (W.fault writer.new) outbox.old.text.bytes outbox.new.text.bytes result }
 {
-    let text = answer_line(mode, now, line);
-    outbox.push(text.as_str(), writer)
+    let text = match answer_line(alloc, mode, now, line) {
+        Ok(text) => text,
+        Err(_) => return Err(ToolError::Memory),
+    };
+    match outbox.push(text.as_str(), writer) {
+        Ok(()) => Ok(()),
+        Err(kind) => Err(ToolError::Write(kind)),
+    }
 }
 
 /// The bytes before the first newline, and those behind it, where there is one.

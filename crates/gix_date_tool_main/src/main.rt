@@ -1,6 +1,9 @@
 //! The program: answers about the lines of standard input, on standard output.
 #![tactic(auto)]
 
+ghost use Rattle.std.specs.Option.{ForSome};
+ghost use Rattle.gix_date.specs.Zoned.{IsConvertible};
+
 use gix_date::Time;
 use gix_date::device::Device;
 use gix_date_tool::{Mode, command, run};
@@ -28,7 +31,9 @@ fn main(rt: HostRuntime) -> ExitCode {
 }
 
 /// Answers standard input: status 0 where it was read to its end and all was written, else 1.
-fn answer_input(rt: &HostRuntime, mode: Mode, now: Option<Time>) -> ExitCode {
+fn answer_input(rt: &HostRuntime, mode: Mode, now: Option<Time>) -> ExitCode
+    requires { ForSome now IsConvertible }
+{
     let mut reader = Device::new(rt.stdin());
     let mut writer = Device::new(rt.stdout());
     match run(rt.alloc(), mode, now, &mut reader, &mut writer) {

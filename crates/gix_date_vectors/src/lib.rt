@@ -5,4 +5,8 @@ pub mod caller;
 #[cfg(test)]
 mod headers;
 #[cfg(test)]
+mod memory;
+#[cfg(test)]
+mod parses;
+#[cfg(test)]
 mod times;

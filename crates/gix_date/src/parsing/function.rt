@@ -1,11 +1,99 @@
 //! The readers that take a whole text.
-ghost use Rattle.std.specs.Prelude.{◌≡◌, ◌<◌, IfSome, take_while};
+ghost use Rattle.std.specs.Prelude.{◌≡◌, ◌<◌, ◌≤◌, IfOk, IfSome, take_while, unsigned_abs};
 ghost use Rattle.std.specs.List.{prefix_len};
+ghost use Rattle.std.specs.Option.{option_map};
 ghost use Rattle.std.specs.Char.{is_ascii_digit};
 ghost use Rattle.gix_date.specs.Numbers.{int_value, two_digit_value};
+ghost use Rattle.gix_date.specs.Epoch.{at_time, epoch_time};
+ghost use Rattle.gix_date.specs.First.{times, first_family, Comes, RefusesUnknown};
 ghost use Rattle.gix_date.specs.HeaderReading.{header_time, seconds_said, offset_said, offset_of_bytes};
 
+use crate::error::{Error, InputBytes};
+use crate::parsing::raw::parse_raw;
+use crate::parsing::words::{FirstWords, first_words};
 use crate::time::{OffsetInSeconds, SecondsSinceUnixEpoch, Time};
+use jiff::Zoned;
+use std::alloc::Global;
+
+/// The least seconds that stand for themselves: fewer could be meant as a compact date, as Git has it.
+const LEAST_EPOCH: i64 = 100_000_000;
+
+/// Reads a date, by the first of these families that holds the whole text:
+///
+/// 1. an at text: `@`, and then a raw text (`@1745582210 +0200`) or seconds with a sign or none (`@-1000`);
+/// 2. a bare epoch: seconds with a sign or none, of at least 100000000 (`1700000000`);
+/// 3. a raw text: seconds and an offset in quarters of an hour up to 14:45, with white space round each
+///    (`1660874655 +0800`).
+///
+/// Seconds count from 1970-01-01 00:00:00 UTC, and have the offset 0 where none is written. The moment is what a text may
+/// be relative to; no family reads one so far.
+///
+/// [`Error::UnknownFormat`] carries the text where no family holds it, and [`Error::Memory`] stands for it where memory for
+/// that copy is refused. A time takes no memory.
+pub fn parse(alloc: Global, input: &str, now: Option<Zoned<'_>>) -> Result<Time, Error>
+    ensures comes { Comes (first_family input.now) input.now now.entry result }
+    ensures short { IfOk result (λ t. unsigned_abs t.offset ≤ 93599) }
+{
+    let _ = now;
+    match parse_first(input) {
+        Some(time) => Ok(time),
+        None => Err(unknown_format(alloc, input)),
+    }
+}
+
+/// The time that the first family tells which holds the text.
+#[tactic(auto, unfolding(crate::specs::First::first_family))]
+fn parse_first(input: &str) -> Option<Time>
+    ensures first { times result ≡ first_family input.now }
+    ensures short { IfSome result (λ t. unsigned_abs t.offset ≤ 93599) }
+{
+    if let Some(time) = parse_at(input) {
+        return Some(time);
+    }
+    if let Some(time) = parse_epoch(input) {
+        return Some(time);
+    }
+    parse_raw(input)
+}
+
+/// The refusal of a text that no family holds.
+fn unknown_format(alloc: Global, input: &str) -> Error
+    ensures { RefusesUnknown input.now result }
+{
+    match InputBytes::copied(alloc, input) {
+        Ok(input) => Error::UnknownFormat { input },
+        Err(_) => Error::Memory,
+    }
+}
+
+/// The time of an at text.
+#[tactic(auto, unfolding(crate::specs::Epoch::at_time))]
+fn parse_at(input: &str) -> Option<Time>
+    ensures time { result ≡ at_time input.now }
+    ensures short { IfSome result (λ t. unsigned_abs t.offset ≤ 93599) }
+{
+    let Some(text) = input.strip_prefix('@') else {
+        return None;
+    };
+    if let Some(time) = parse_raw(text) {
+        return Some(time);
+    }
+    Some(Time::new(parse_int(text)?, 0))
+}
+
+/// The time of a bare epoch.
+#[tactic(auto, unfolding(crate::specs::Epoch::epoch_time))]
+fn parse_epoch(input: &str) -> Option<Time>
+    ensures time { result ≡ epoch_time input.now }
+    ensures short { IfSome result (λ t. unsigned_abs t.offset ≤ 93599) }
+{
+    let seconds = parse_int(input)?;
+    if seconds >= LEAST_EPOCH {
+        Some(Time::new(seconds, 0))
+    } else {
+        None
+    }
+}
 
 /// Reads the time of a commit header, as gix-date does: leniently in what stands round the numbers.
 ///
@@ -21,20 +109,22 @@ pub fn parse_header(input: &str) -> Option<Time>
     if input.as_bytes().contains(&b':') {
         return None;
     }
-    let mut words = input.split_whitespace();
-    let Some(first) = words.next() else {
-        return None;
-    };
-    let Some(seconds) = parse_seconds(first) else {
-        return None;
-    };
-    let Some(second) = words.next() else {
-        return Some(Time::new(seconds, 0));
-    };
-    if words.next().is_some() {
-        return Some(Time::new(seconds, 0));
+    match first_words(input) {
+        FirstWords::Nothing => None,
+        FirstWords::One(first) => parse_time(first, 0),
+        FirstWords::Two(first, second) => parse_time(first, parse_offset(second)),
+        FirstWords::More(first) => parse_time(first, 0),
     }
-    Some(Time::new(seconds, parse_offset(second)))
+}
+
+/// The time of the seconds that the first word of a header says, with this offset.
+fn parse_time(word: &str, offset: OffsetInSeconds) -> Option<Time>
+    ensures { result ≡ option_map (λ s. record { seconds = s; offset = offset }) (seconds_said word.now) }
+{
+    match parse_seconds(word) {
+        Some(seconds) => Some(Time::new(seconds, offset)),
+        None => None,
+    }
 }
 
 /// The seconds that the first word of a header says.
@@ -50,7 +140,7 @@ fn parse_seconds(word: &str) -> Option<SecondsSinceUnixEpoch>
 }
 
 /// The value of an optional sign and digits, where an `i64` can hold it.
-fn parse_int(word: &str) -> Option<i64>
+pub(crate) fn parse_int(word: &str) -> Option<i64>
     ensures { result ≡ int_value word.now }
 {
     word.parse::<i64>().ok()
@@ -110,7 +200,7 @@ fn offset_of_bytes(
 }
 
 /// The number that two digits write.
-fn parse_two_digits(tens: u8, ones: u8) -> Option<u32>
+pub(crate) fn parse_two_digits(tens: u8, ones: u8) -> Option<u32>
     ensures value { result ≡ two_digit_value tens ones }
     ensures small { IfSome result (λ n. n < 100) }
 {

@@ -2,6 +2,7 @@ use crate::arguments::Mode;
 use crate::error::ToolError;
 use crate::fakes::{Slow, Supply};
 use crate::lines::run;
+use gix_date::Time;
 use gix_date::device::Device;
 use std::io::ErrorKind;
 use std::test::Fail;
@@ -65,6 +66,28 @@ fn lines_are_answered(rt: HostRuntime) {
             assert!(rt; matches!(answer, Ok(lines) if lines == count), "{row}");
             assert_eq!(rt; taken.as_slice(), output.as_bytes(), "{row}");
         }
+    }
+}
+
+#[test]
+fn lines_are_parsed(rt: HostRuntime) {
+    let input = b"@-1000\n100000000\n20080214\n5 -0130\n\n\xff\n".as_slice();
+    let output =
+        "-1000 +0000\n100000000 +0000\nerror unknown-format\n5 -0130\nerror unknown-format\nnot text\n";
+    for now in [
+        None,
+        Some(Time::new(1_698_400_800, 0)),
+        Some(Time::new(0, 93_599)),
+    ] {
+        let mut source = Device::new(Supply::once(input, 5, None));
+        let mut sink = Device::new(Slow::new(rt.alloc(), 1 << 20, 1 << 30, ErrorKind::Other));
+        let answer = run(rt.alloc(), Mode::Parse, now, &mut source, &mut sink);
+        assert!(rt; matches!(answer, Ok(6)), "parse-lines");
+        assert_eq!(rt;
+            sink.into_inner().taken.as_slice(),
+            output.as_bytes(),
+            "parse-lines"
+        );
     }
 }
 
@@ -189,7 +212,7 @@ fn many_lines_are_written_in_few_calls(rt: HostRuntime) -> Result<(), Fail> {
 fn the_types_have_debug_forms(rt: HostRuntime) -> Result<(), Fail> {
     let mode = format!(in rt.alloc(); "{:?}", Mode::Check)?;
     assert!(rt; !mode.is_empty());
-    assert!(rt; Mode::Check == Mode::Check);
+    assert!(rt; Mode::Check == Mode::Check && Mode::Check != Mode::Parse);
     let faults = [
         ToolError::Read(ErrorKind::Other),
         ToolError::Write(ErrorKind::Other),

@@ -9,13 +9,13 @@ use Rattle.gix_date_tool.proofs.answers.check_line.Goals as goal
 pub returns-in-Err : goal.returns-in-Err
 returns-in-Err c =
     let line = c.args.line.now in
-    c.text_of.ensures ∙ ap ended (sym (if_no_text line (reading_text line (header_time line)) (codes "not text") c.in-Err.ensures.cases.0))
+    c.text_of.ensures.text ∙ ap ended (sym (if_no_text line (reading_text line (header_time line)) (codes "not text") c.in-Err.ensures.cases.0))
 
 pub returns-in-None : goal.returns-in-None
 returns-in-None c =
     let line = c.args.line.now in
     let read : None ≡ header_time line = sym c.in-None.is ∙ c.parse_header.ensures ∙ ap header_time c.in-Ok.ensures.cases.0 in
-    c.text_of-in-None.ensures ∙ ap ended (ap (reading_text line) read ∙ sym (if_text line (reading_text line (header_time line)) (codes "not text") c.in-Ok.ensures.cases.1))
+    c.text_of-in-None.ensures.text ∙ ap ended (ap (reading_text line) read ∙ sym (if_text line (reading_text line (header_time line)) (codes "not text") c.in-Ok.ensures.cases.1))
 
 pub returns-in-Some : goal.returns-in-Some
 returns-in-Some c =
