@@ -1,9 +1,7 @@
 -- The text of a time in a commit header.
 use Rattle.std.specs.Prelude.{◌≡◌, ℕ, ◌/◌, ◌%◌, ◌<◌, ◌≤◌, List, [], ◌∷◌, ◌++◌, ℤ, pos, int_lt, unsigned_abs, if◌then◌else◌, Option, Some, Result, Ok, Err}
 use Rattle.std.specs.Borrow.{Bor}
-use Rattle.std.specs.Io.KnownBytes.{Appends, Keeps}
-use Rattle.std.specs.declared.io.ErrorKind.{ErrorKind}
-use Rattle.gix_date.specs.Device.{AppendsProperPrefix}
+use Rattle.gix_date.specs.Known.{Known, Takes, TakesProperPrefix, TakesNothing}
 use Rattle.gix_date.specs.Numbers.{decimal_text, two_digits}
 use Rattle.gix_date.specs.declared.error.Error.{Error}
 use Rattle.gix_date.specs.declared.error.Error.TheVariants.{OffsetTooWide, Write}
@@ -29,13 +27,12 @@ HasHeaderText t = unsigned_abs t.offset < 360000
 abbrev pub IsTooWide : Time → Type 0
 IsTooWide t = 360000 ≤ unsigned_abs t.offset
 
--- What writing a time came to. old and new are the writer's known bytes before and after, and fault is the writer's fault
--- as the call ends. All of the text was appended, or no byte, or a proper prefix.
-abbrev pub Writes : Time → Option (List ℕ) → Option (List ℕ) → Option ErrorKind → Result Unit Error → Type 0
-Writes t old new fault (Ok _) = HasHeaderText t × Appends old new (header_text t)
-Writes t old new fault (Err OffsetTooWide) = IsTooWide t × Keeps old new
-Writes t old new fault (Err (Write kind)) = HasHeaderText t × AppendsProperPrefix old new (header_text t) × (fault ≡ Some kind)
-Writes t old new fault (Err _) = ⊥
+-- What writing a time came to: the writer took all of the text, or no byte, or a proper prefix and has that fault.
+abbrev pub Writes : Time → Known → Known → Result Unit Error → Type 0
+Writes t old new (Ok _) = HasHeaderText t × Takes old new (header_text t)
+Writes t old new (Err OffsetTooWide) = IsTooWide t × TakesNothing old new
+Writes t old new (Err (Write kind)) = HasHeaderText t × TakesProperPrefix old new (header_text t) × (new.fault ≡ Some kind)
+Writes t old new (Err _) = ⊥
 
 -- the header text of a time, or the refusal of one that has none
 abbrev pub GivesText : Time → Result (Bor (List ℕ)) Error → Type 0

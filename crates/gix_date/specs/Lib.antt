@@ -1,8 +1,10 @@
+pub mod Characters
 pub mod Numbers
 pub mod Words
 pub mod HeaderText
 pub mod HeaderReading
 pub mod CanonicalHeader
+pub mod Known
 pub mod Device
 pub mod Lending
 pub mod TimeBuf

@@ -1,8 +1,8 @@
 //! Writers and readers whose bytes and faults a contract can name.
-ghost use Rattle.std.specs.Prelude.{◌≡◌, ℕ, List, Option, None, Some, ◌<◌, ◌≤◌, length, IfOk, IfErr, IfSome, OnOk, OnErr};
-ghost use Rattle.std.specs.Io.KnownBytes.{WriteAppends, ReadConsumes, Appends};
-ghost use Rattle.std.specs.declared.io.ErrorKind.{ErrorKind};
-ghost use Rattle.gix_date.specs.Device.{AppendsProperPrefix, refusal, inner_of, fault_of};
+ghost use Rattle.std.specs.Prelude.{◌≡◌, None, Some, ◌<◌, ◌≤◌, length, IfOk, IfErr, IfSome, OnOk, OnErr};
+ghost use Rattle.std.specs.Io.KnownBytes.{WriteAppends, ReadConsumes};
+ghost use Rattle.gix_date.specs.Known.{Known, Takes, TakesProperPrefix, refusal};
+ghost use Rattle.gix_date.specs.Device.{inner_of, fault_of};
 
 use std::io;
 use std::io::{Read, Write};
@@ -12,11 +12,8 @@ mod tests;
 
 /// A place that takes bytes, and stays at its first fault.
 pub trait Sink {
-    // The bytes taken so far, where the sink tells them.
-    ghost taken: { Self → Option (List ℕ) };
-
-    // The fault of the last call, if that was a refusal.
-    ghost fault: { Self → Option ErrorKind };
+    // The bytes taken so far, where the sink tells them, and the fault of the last call, if that was a refusal.
+    ghost known: { Self → Known };
 
     /// Takes the first bytes of a piece, at least one, and answers how many. A refusal takes none, and is the answer of
     /// each later call.
@@ -25,18 +22,15 @@ pub trait Sink {
     fn put(&mut self, piece: &[u8]) -> Result<usize, io::ErrorKind>
         requires { 0 < length piece.now }
         ensures count { IfOk result (λ n. (1 ≤ n) × (n ≤ length piece.now)) }
-        ensures bytes { WriteAppends (taken self.old) (taken self.new) result piece.now }
-        ensures fault { fault self.new ≡ refusal result }
-        ensures again { IfSome (fault self.old) (λ kind. result ≡ Err kind) };
+        ensures bytes { WriteAppends (known self.old).bytes (known self.new).bytes result piece.now }
+        ensures fault { (known self.new).fault ≡ refusal result }
+        ensures again { IfSome (known self.old).fault (λ kind. result ≡ Err kind) };
 }
 
 /// A place that gives bytes, and stays at its first fault.
 pub trait Source {
-    // The bytes that are left, where the source tells them.
-    ghost left: { Self → Option (List ℕ) };
-
-    // The fault of the last call, if that was a refusal.
-    ghost fault: { Self → Option ErrorKind };
+    // The bytes that are left, where the source tells them, and the fault of the last call, if that was a refusal.
+    ghost known: { Self → Known };
 
     /// Puts the next bytes at the front of a piece, and answers how many: none only at the end. A refusal gives none,
     /// and is the answer of each later call.
@@ -45,9 +39,9 @@ pub trait Source {
     fn get(&mut self, piece: &mut [u8]) -> Result<usize, io::ErrorKind>
         requires { 0 < length piece.old }
         ensures count { IfOk result (λ n. n ≤ length piece.new) }
-        ensures bytes { ReadConsumes (left self.old) (left self.new) result piece.new }
-        ensures fault { fault self.new ≡ refusal result }
-        ensures again { IfSome (fault self.old) (λ kind. result ≡ Err kind) };
+        ensures bytes { ReadConsumes (known self.old).bytes (known self.new).bytes result piece.new }
+        ensures fault { (known self.new).fault ≡ refusal result }
+        ensures again { IfSome (known self.old).fault (λ kind. result ≡ Err kind) };
 }
 
 /// A writer of std as a [`Sink`], and a reader of std as a [`Source`].
@@ -79,9 +73,7 @@ impl<T> Device<T> {
 }
 
 impl<T: Write> Sink for Device<T> {
-    ghost taken = { λ s. T.contents s.inner };
-
-    ghost fault = { λ s. s.fault };
+    ghost known = { λ s. record { bytes = T.contents s.inner; fault = s.fault } };
 
     fn put(&mut self, piece: &[u8]) -> Result<usize, io::ErrorKind> {
         if let Some(kind) = self.fault {
@@ -100,9 +92,7 @@ impl<T: Write> Sink for Device<T> {
 }
 
 impl<T: Read> Source for Device<T> {
-    ghost left = { λ s. T.remaining s.inner };
-
-    ghost fault = { λ s. s.fault };
+    ghost known = { λ s. record { bytes = T.remaining s.inner; fault = s.fault } };
 
     fn get(&mut self, piece: &mut [u8]) -> Result<usize, io::ErrorKind> {
         if let Some(kind) = self.fault {
@@ -123,9 +113,9 @@ impl<T: Read> Source for Device<T> {
 ///
 /// Where the sink refuses, a proper prefix of the text was taken, and the answer is the sink's fault. Takes no memory.
 pub fn put_all<W: Sink>(out: &mut W, text: &[u8]) -> Result<(), io::ErrorKind>
-    ensures ok { OnOk result (Appends (W.taken out.old) (W.taken out.new) text.now) }
-    ensures cut { OnErr result (AppendsProperPrefix (W.taken out.old) (W.taken out.new) text.now) }
-    ensures fault { IfErr result (λ kind. W.fault out.new ≡ Some kind) }
+    ensures ok { OnOk result (Takes (W.known out.old) (W.known out.new) text.now) }
+    ensures cut { OnErr result (TakesProperPrefix (W.known out.old) (W.known out.new) text.now) }
+    ensures fault { IfErr result (λ kind. (W.known out.new).fault ≡ Some kind) }
 {
     let mut done = 0;
     while done < text.len() {

@@ -35,7 +35,7 @@ impl Time {
     /// [`Error::Write`] carries the writer's fault, and then a proper prefix of the text was taken. There are at most 26
     /// calls of [`Sink::put`] and no flush. Takes no memory.
     pub fn write_to<W: Sink>(&self, out: &mut W) -> Result<(), Error>
-        ensures { Writes self.now (W.taken out.old) (W.taken out.new) (W.fault out.new) result }
+        ensures { Writes self.now (W.known out.old) (W.known out.new) result }
     {
         let text = header_text(*self).ok_or(Error::OffsetTooWide)?;
         put_all(out, text.as_str().as_bytes()).map_err(Error::Write)

@@ -1,9 +1,9 @@
 use Rattle.std.proofs.Common.{length, ◌-◌, ◌≤◌, take}
-use Rattle.std.specs.Io.KnownBytes.{Appends}
+use Rattle.gix_date.specs.Known.{Takes}
 use Rattle.gix_date.proofs.device.put_all.Given as goal
 
 abbrev pub invariant-loop-done : goal.invariant-loop-done
-invariant-loop-done g l = (l.done ≤ length l.text) × Appends (g.W.Sink.taken l.initial.out) (g.W.Sink.taken l.out) (take l.done l.text)
+invariant-loop-done g l = (l.done ≤ length l.text) × Takes (g.W.Sink.known l.initial.out) (g.W.Sink.known l.out) (take l.done l.text)
 
 abbrev pub decreases-loop-done : goal.decreases-loop-done
 decreases-loop-done g l = length l.text - l.done

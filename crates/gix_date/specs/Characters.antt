@@ -1,0 +1,30 @@
+-- Characters by their codes.
+use Rattle.std.specs.Prelude.{ℕ}
+
+-- `\n`
+abbrev pub newline : ℕ
+newline = 10
+
+-- ` `
+abbrev pub space : ℕ
+space = 32
+
+-- `+`
+abbrev pub plus : ℕ
+plus = 43
+
+-- `-`
+abbrev pub minus : ℕ
+minus = 45
+
+-- `0`
+abbrev pub digit_zero : ℕ
+digit_zero = 48
+
+-- `:`
+abbrev pub colon : ℕ
+colon = 58
+
+-- `@`
+abbrev pub at_sign : ℕ
+at_sign = 64
