@@ -5,13 +5,14 @@ use Rattle.std.specs.Str.{chars}
 use lib.Utf8.{encode}
 use Rattle.std.specs.Prelude.{codes, neg_ℤ, Some, None}
 use Rattle.gix_date.specs.declared.time.Time.{Time}
-use Rattle.gix_date.specs.Numbers.{int_value}
-use Rattle.gix_date.specs.Words.{words}
+use Rattle.gix_date.specs.Numbers.{int_value, read_two_digits}
+use Rattle.gix_date.specs.Offsets.{offset_fields, read_sign, last_pair}
+use Rattle.gix_date.specs.SpaceWords.{space_words}
 use Rattle.gix_date.specs.HeaderText.{header_text}
-use Rattle.gix_date.specs.HeaderReading.{header_time, seconds_said, offset_said}
+use Rattle.gix_date.specs.HeaderReading.{header_time, time_of_words, seconds_said, offset_said}
 use Rattle.gix_date.specs.Raw.{raw_time, raw_offset}
 use Rattle.gix_date.specs.Epoch.{at_time, epoch_time}
-use Rattle.gix_date.specs.First.{Told, first_family}
+use Rattle.gix_date.specs.Families.{Absolute, first_family}
 use Rattle.gix_date.specs.CanonicalHeader.{is_canonical_header}
 
 abbrev time : ℤ → ℤ → Time
@@ -21,138 +22,143 @@ time seconds offset = record { seconds = seconds; offset = offset }
 abbrev minus : ℕ → ℤ
 minus n = neg_ℤ (pos n)
 
-Reads : List ℕ → ℤ → ℤ → Type 0
+-- all that a row needs to see computed
+computing : Type 0
+unfolding first_family at_time epoch_time raw_time raw_offset header_time time_of_words seconds_said offset_said offset_fields read_sign last_pair read_two_digits int_value digits space_words chars encode
+computing = Unit {0}
+
+abbrev Reads : List ℕ → ℤ → ℤ → Type 0
 Reads text seconds offset = header_time text ≡ Some (time seconds offset)
 
 least-written : header_text (time (minus 9223372036854775808) (minus 359999)) ≡ codes "-9223372036854775808 -9959"
-unfolding digits
+unfolding computing
 least-written = refl
 
 greatest-written : header_text (time (pos 9223372036854775807) (pos 359999)) ≡ codes "9223372036854775807 +9959"
-unfolding digits
+unfolding computing
 greatest-written = refl
 
 odd-seconds-dropped : header_text (time (pos 0) (minus 30)) ≡ codes "0 -0000"
-unfolding digits
+unfolding computing
 odd-seconds-dropped = refl
 
 odd-seconds-dropped-2 : header_text (time (pos 5) (minus 3723)) ≡ codes "5 -0102"
-unfolding digits
+unfolding computing
 odd-seconds-dropped-2 = refl
 
 minus-zero-read : Reads (codes "0 -0000") (pos 0) (pos 0)
-unfolding Reads header_time words chars encode seconds_said int_value offset_said
+unfolding computing
 minus-zero-read = refl
 
 wide-offset-read : Reads (codes "0 +9999") (pos 0) (pos 362340)
-unfolding Reads header_time words chars encode seconds_said int_value offset_said
+unfolding computing
 wide-offset-read = refl
 
 leading-digits-read : Reads (codes "123abc +0100") (pos 123) (pos 3600)
-unfolding Reads header_time words chars encode seconds_said int_value offset_said
+unfolding computing
 leading-digits-read = refl
 
 sign-then-letter : header_time (codes "-1x") ≡ None
-unfolding header_time words chars encode seconds_said int_value offset_said
+unfolding computing
 sign-then-letter = refl
 
 past-the-range : header_time (codes "9223372036854775808") ≡ None
-unfolding header_time words chars encode seconds_said int_value offset_said
+unfolding computing
 past-the-range = refl
 
 sign-inside-offset : Reads (codes "5 +00-1") (pos 5) (pos 0)
-unfolding Reads header_time words chars encode seconds_said int_value offset_said
+unfolding computing
 sign-inside-offset = refl
 
 third-word : Reads (codes "1 +0100 x") (pos 1) (pos 0)
-unfolding Reads header_time words chars encode seconds_said int_value offset_said
+unfolding computing
 third-word = refl
 
 colon : header_time (codes "1:2 +0100") ≡ None
-unfolding header_time words chars encode seconds_said int_value offset_said
+unfolding computing
 colon = refl
 
 empty : header_time [] ≡ None
-unfolding header_time words chars encode seconds_said int_value offset_said
+unfolding computing
 empty = refl
 
 offset-with-seconds : Reads (codes "7 +010203") (pos 7) (pos 3723)
-unfolding Reads header_time words chars encode seconds_said int_value offset_said
+unfolding computing
 offset-with-seconds = refl
 
 -- U+00A0 is two bytes
 no-break-space : Reads (49 ∷ 0xc2 ∷ 0xa0 ∷ codes "+0100") (pos 1) (pos 3600)
-unfolding Reads header_time words chars encode seconds_said int_value offset_said
+unfolding computing
 no-break-space = refl
 
 canonical-zero : is_canonical_header (codes "0 +0000") ≡ true
-unfolding int_value digits
+unfolding computing
 canonical-zero = refl
 
 canonical-behind : is_canonical_header (codes "-5 -0130") ≡ true
-unfolding int_value digits
+unfolding computing
 canonical-behind = refl
 
 not-canonical-minus-zero-offset : is_canonical_header (codes "0 -0000") ≡ false
-unfolding int_value digits
+unfolding computing
 not-canonical-minus-zero-offset = refl
 
 not-canonical-plus : is_canonical_header (codes "+1 +0000") ≡ false
-unfolding int_value digits
+unfolding computing
 not-canonical-plus = refl
 
 not-canonical-minus-zero : is_canonical_header (codes "-0 +0000") ≡ false
-unfolding int_value digits
+unfolding computing
 not-canonical-minus-zero = refl
 
 not-canonical-leading-zero : is_canonical_header (codes "00 +0000") ≡ false
-unfolding int_value digits
+unfolding computing
 not-canonical-leading-zero = refl
 
 not-canonical-minutes : is_canonical_header (codes "0 +0060") ≡ false
-unfolding int_value digits
+unfolding computing
 not-canonical-minutes = refl
 
 not-canonical-seconds : is_canonical_header (codes "0 +000000") ≡ false
-unfolding int_value digits
+unfolding computing
 not-canonical-seconds = refl
 
 raw-with-spaces : raw_time (codes "\n-0\r\n-0000\n") ≡ Some (time (pos 0) (pos 0))
-unfolding raw_time raw_offset words chars encode int_value
+unfolding computing
 raw-with-spaces = refl
 
 raw-with-seconds : raw_time (codes "+1234567 -000000") ≡ Some (time (pos 1234567) (pos 0))
-unfolding raw_time raw_offset words chars encode int_value
+unfolding computing
 raw-with-seconds = refl
 
 raw-past-the-hours : raw_time (codes "123456 -1500") ≡ None
-unfolding raw_time raw_offset words chars encode int_value
+unfolding computing
 raw-past-the-hours = refl
 
 raw-sign-inside : raw_time (codes "1 -+1+0+0") ≡ None
-unfolding raw_time raw_offset words chars encode int_value
+unfolding computing
 raw-sign-inside = refl
 
-at-zero : first_family (codes "@0") ≡ Some (Told (time (pos 0) (pos 0)))
-unfolding first_family at_time epoch_time raw_time raw_offset words chars encode int_value
+at-zero : first_family (codes "@0") ≡ Some (Absolute (time (pos 0) (pos 0)))
+unfolding computing
 at-zero = refl
 
-at-space-and-raw : first_family (codes "@ 5 +0530") ≡ Some (Told (time (pos 5) (pos 19800)))
-unfolding first_family at_time epoch_time raw_time raw_offset words chars encode int_value
+at-space-and-raw : first_family (codes "@ 5 +0530") ≡ Some (Absolute (time (pos 5) (pos 19800)))
+unfolding computing
 at-space-and-raw = refl
 
 at-space-and-seconds : first_family (codes "@ 5") ≡ None
-unfolding first_family at_time epoch_time raw_time raw_offset words chars encode int_value
+unfolding computing
 at-space-and-seconds = refl
 
-bare-epoch : first_family (codes "100000000") ≡ Some (Told (time (pos 100000000) (pos 0)))
-unfolding first_family at_time epoch_time raw_time raw_offset words chars encode int_value
+bare-epoch : first_family (codes "100000000") ≡ Some (Absolute (time (pos 100000000) (pos 0)))
+unfolding computing
 bare-epoch = refl
 
 below-the-bare-epoch : first_family (codes "99999999") ≡ None
-unfolding first_family at_time epoch_time raw_time raw_offset words chars encode int_value
+unfolding computing
 below-the-bare-epoch = refl
 
-raw-behind : first_family (codes "5 -0130") ≡ Some (Told (time (pos 5) (minus 5400)))
-unfolding first_family at_time epoch_time raw_time raw_offset words chars encode int_value
+raw-behind : first_family (codes "5 -0130") ≡ Some (Absolute (time (pos 5) (minus 5400)))
+unfolding computing
 raw-behind = refl

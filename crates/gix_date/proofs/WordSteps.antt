@@ -10,7 +10,7 @@ use Rattle.std.specs.Prelude.{Option, Some, None, MatchOption}
 use Rattle.std.specs.Str.Iter.{split_whitespace_rest, split_whitespace_steps}
 use Rattle.std.specs.declared.str.SplitWhitespace.{SplitWhitespace}
 use Rattle.std.specs.Str.{chars, all_scalars, NonePass, NoCharPasses, EmptyOrStartsWithPassing, IsUtf8}
-use Rattle.gix_date.specs.Words.{is_nonempty, runs, words}
+use Rattle.gix_date.specs.SpaceWords.{is_nonempty, runs, space_words}
 
 from_not : (b : Bool) → not b ≡ false → b ≡ true
 from_not true h = refl
@@ -64,8 +64,8 @@ words_of gs es [] long g h stop = absurd (omega arith)
 words_of gs es (x ∷ xs) long g h stop = ap (map encode_utf8_all) (runs_skip gs ((x ∷ xs) ++ es) g ∙ run_first x xs es h stop)
 
 -- a word comes off the front
-pub word_comes : (s x t gap more : List ℕ) → IsUtf8 s → s ≡ gap ++ (x ++ t) → 0 < length x → NoCharPasses is_not_whitespace gap → NoCharPasses is_whitespace x → EmptyOrStartsWithPassing is_whitespace t more → (words s ≡ x ∷ words t) × IsUtf8 t
-unfolding words
+pub word_comes : (s x t gap more : List ℕ) → IsUtf8 s → s ≡ gap ++ (x ++ t) → 0 < length x → NoCharPasses is_not_whitespace gap → NoCharPasses is_whitespace x → EmptyOrStartsWithPassing is_whitespace t more → (space_words s ≡ x ∷ space_words t) × IsUtf8 t
+unfolding space_words
 word_comes s x t gap more u e long gs xs stop =
     let cs = u.0 in
     let whole : encode_utf8_all cs ≡ encode_utf8_all gs.0 ++ (x ++ t) = u.1.1 ∙ e ∙ ap (λ zs. zs ++ (x ++ t)) (sym gs.1) in
@@ -86,8 +86,8 @@ word_comes s x t gap more u e long gs xs stop =
     )
 
 -- nothing but white space
-pub no_word : (s : List ℕ) → IsUtf8 s → NoCharPasses is_not_whitespace s → words s ≡ []
-unfolding words
+pub no_word : (s : List ℕ) → IsUtf8 s → NoCharPasses is_not_whitespace s → space_words s ≡ []
+unfolding space_words
 no_word s u gs =
     let same : u.0 ≡ gs.0 = encodes_same u.0 gs.0 (u.1.1 ∙ sym gs.1) in
     let read : chars s ≡ gs.0 = ap chars (sym u.1.1) ∙ chars-encodes u.0 u.1.0 ∙ same in
@@ -95,6 +95,6 @@ no_word s u gs =
 
 -- what one step says
 pub step : (s : SplitWhitespace) (r : Option (Bor (List ℕ))) (t : SplitWhitespace) → IsUtf8 (split_whitespace_rest s) → split_whitespace_steps s r t
-    → MatchOption r (words (split_whitespace_rest s) ≡ []) (λ x. (words (split_whitespace_rest s) ≡ x.now ∷ words (split_whitespace_rest t)) × IsUtf8 (split_whitespace_rest t))
+    → MatchOption r (space_words (split_whitespace_rest s) ≡ []) (λ x. (space_words (split_whitespace_rest s) ≡ x.now ∷ space_words (split_whitespace_rest t)) × IsUtf8 (split_whitespace_rest t))
 step s None t u h = no_word (split_whitespace_rest s) u h.1
 step s (Some x) t u h = word_comes (split_whitespace_rest s) x.now (split_whitespace_rest t) h.0 h.5.0 u h.1 h.2 h.3 h.4 h.5.1

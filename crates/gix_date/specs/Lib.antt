@@ -1,6 +1,8 @@
 pub mod Characters
 pub mod Numbers
-pub mod Words
+pub mod Fields
+pub mod Offsets
+pub mod SpaceWords
 pub mod HeaderText
 pub mod HeaderReading
 pub mod CanonicalHeader
@@ -11,6 +13,5 @@ pub mod TimeBuf
 pub mod InputBytes
 pub mod Raw
 pub mod Epoch
-pub mod First
+pub mod Families
 pub mod Zoned
-pub mod FirstWords

@@ -1,9 +1,11 @@
 -- Numbers as texts.
-use Rattle.std.specs.Prelude.{ℕ, ◌+◌, ◌-◌, ◌*◌, ◌/◌, ◌%◌, ◌^◌, Bool, ◌&&◌, List, [], ◌∷◌, length, ℤ, pos, negsuc, nat_lt, if◌then◌else◌, Option, Some, None}
+use Rattle.std.specs.Prelude.{ℕ, ◌+◌, ◌-◌, ◌*◌, ◌/◌, ◌%◌, ◌^◌, Bool, ◌&&◌, List, [], ◌∷◌, length, ℤ, pos, negsuc, nat_lt, if◌then◌else◌, Option, Some, None, option_map}
 use Rattle.std.specs.Char.{is_ascii_digit}
 use Rattle.std.specs.Fmt.{signed_decimal}
 use Rattle.std.specs.Str.{all_ascii_digits}
 use Rattle.std.specs.Str.Parse.{without_leading_sign, signed_digits_value}
+use Rattle.gix_date.specs.Characters.{digit_zero}
+use Rattle.gix_date.specs.Fields.{Read}
 
 -- the decimal text of a number: no plus, no leading zero, no `-0`
 abbrev pub decimal_text : ℤ → List ℕ
@@ -11,7 +13,7 @@ decimal_text n = signed_decimal n
 
 -- the two digits of a number below 100
 abbrev pub two_digits : ℕ → List ℕ
-two_digits n = (48 + n / 10) ∷ (48 + n % 10) ∷ []
+two_digits n = (digit_zero + n / 10) ∷ (digit_zero + n % 10) ∷ []
 
 -- a number that an i64 holds
 abbrev pub fits_i64 : ℤ → Bool
@@ -28,4 +30,9 @@ int_value text = if is_int_text text then Some (signed_digits_value 10 text) els
 
 -- the number that two digits write
 abbrev pub two_digit_value : ℕ → ℕ → Option ℕ
-two_digit_value tens ones = if is_ascii_digit tens && is_ascii_digit ones then Some (10 * (tens - 48) + (ones - 48)) else None
+two_digit_value tens ones = if is_ascii_digit tens && is_ascii_digit ones then Some (10 * (tens - digit_zero) + (ones - digit_zero)) else None
+
+-- the number that two digits at the front write
+unfoldable pub read_two_digits : List ℕ → Read ℕ
+read_two_digits (tens ∷ ones ∷ rest) = option_map (λ n. (n, rest)) (two_digit_value tens ones)
+read_two_digits _ = None

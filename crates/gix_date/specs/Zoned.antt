@@ -1,13 +1,19 @@
 -- The moment that a time names, in jiff's words.
-use Rattle.std.specs.Prelude.{◌≡◌, pos, neg_ℤ}
+use Rattle.std.specs.Prelude.{◌≡◌, ℤ, pos, neg_ℤ}
 use Rattle.jiff.specs.Words.{plain_zoned, zoned_nanos, fixed_zone, nanos_of_seconds, IsBetween, IsOffsetSeconds}
 use Rattle.jiff.specs.Types.{Offset}
 use Rattle.jiff.specs.declared.zoned.Zoned.{Zoned}
 use Rattle.gix_date.specs.declared.time.Time.{Time}
 
+-- the first whole second of `jiff`'s instants, and the last
+abbrev pub first_second : ℤ
+first_second = neg_ℤ (pos 377_705_023_201)
+abbrev pub last_second : ℤ
+last_second = pos 253_402_207_200
+
 -- the seconds are those of an instant, and the offset that of a zone
 abbrev pub IsConvertible : Time → Type 0
-IsConvertible t = IsOffsetSeconds t.offset × IsBetween (neg_ℤ (pos 377_705_023_201)) (pos 253_402_207_200) t.seconds
+IsConvertible t = IsOffsetSeconds t.offset × IsBetween first_second last_second t.seconds
 
 -- the zoned value is that instant, in the zone that always has this offset
 pub record IsMoment (t : Time) (z : Zoned) : Type 0 where

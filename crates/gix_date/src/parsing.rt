@@ -1,25 +1,24 @@
 //! Texts to times, and the buffer for the text of a time.
 //!
 //! The Rust crate names this module `parse`. Here a module and a function beside it cannot share a name.
-ghost use Rattle.std.specs.Prelude.{◌≡◌, [], length, ok_or};
+ghost use Rattle.std.specs.Prelude.{◌≡◌, [], ok_or};
 ghost use Rattle.std.specs.Borrow.{sem};
 ghost use Rattle.gix_date.specs.declared.error.Error.TheVariants.{OffsetTooWide};
-ghost use Rattle.gix_date.specs.HeaderText.{header_text, GivesText, text_left};
+ghost use Rattle.gix_date.specs.HeaderText.{GivesText, text_left};
 ghost use Rattle.gix_date.specs.Lending.{LeavesText};
 ghost use Rattle.gix_date.specs.TimeBuf.{text_in};
 
 use crate::error::Error;
 use crate::parsing::function::parse_header;
-use crate::time::{Time, header_text};
+use crate::time::{LONGEST_TEXT, Time, header_text};
 use arrayvec::ArrayString;
 use std::str::FromStr;
 
 pub(crate) mod function;
+mod numbers;
+mod offset;
 mod raw;
-mod words;
-
-/// The most bytes that the text of a time has: those of the least seconds with an offset.
-pub(crate) const LONGEST_TEXT: usize = 26;
+mod space_words;
 
 /// A place for the text of one time, of 26 bytes at most, which takes no memory.
 #[derive(Clone, Copy)]
@@ -92,8 +91,3 @@ impl FromStr for Time {
         parse_header(text).ok_or(Error::InvalidTime)
     }
 }
-
-/// The longest text is that of the least time.
-pub(crate) fn longest_text_is_that_of_min()
-    ensures { LONGEST_TEXT ≡ length (header_text Time.MIN) }
-{}

@@ -8,7 +8,7 @@ mod tests;
 mod write;
 
 use serde::{Deserialize, Serialize};
-pub(crate) use write::header_text;
+pub(crate) use write::{LONGEST_TEXT, header_text};
 
 /// Seconds since 1970-01-01 00:00:00 UTC, negative before.
 pub type SecondsSinceUnixEpoch = i64;

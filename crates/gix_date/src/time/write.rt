@@ -7,12 +7,17 @@ ghost use Rattle.gix_date.specs.HeaderText.{header_text, HasHeaderText, IsTooWid
 
 use crate::device::{Sink, put_all};
 use crate::error::Error;
-use crate::parsing::LONGEST_TEXT;
 use crate::time::{SecondsSinceUnixEpoch, Time};
 use arrayvec::ArrayString;
 use std::fmt;
 
 const SECONDS_PER_HOUR: u32 = 60 * 60;
+
+/// The least distance from UTC, in seconds, that two digits of hours cannot say.
+const HUNDRED_HOURS: u32 = 100 * SECONDS_PER_HOUR;
+
+/// The most bytes that the text of a time has: those of the least seconds with an offset.
+pub(crate) const LONGEST_TEXT: usize = 26;
 
 impl Time {
     /// The greatest seconds with the greatest offset that has a text, 99:59:59 east of UTC. Another time can lie beyond,
@@ -46,7 +51,7 @@ impl Time {
     pub const fn size(&self) -> usize
         ensures digits { result ≡ length (decimal_text self.now.seconds) + 6 }
         ensures text { HasHeaderText self.now → result ≡ length (header_text self.now) }
-        ensures most { result ≤ 26 }
+        ensures most { result ≤ LONGEST_TEXT }
     {
         let digits = decimal_len(self.seconds.unsigned_abs());
         if self.seconds < 0 {
@@ -92,7 +97,7 @@ pub(crate) fn header_text(time: Time) -> Option<ArrayString<LONGEST_TEXT>>
     ensures text { IfSome result (λ text. text.bytes ≡ header_text time) }
 {
     let distance = time.offset.unsigned_abs();
-    if distance >= 100 * SECONDS_PER_HOUR {
+    if distance >= HUNDRED_HOURS {
         return None;
     }
     let mut text = ArrayString::new();
@@ -103,6 +108,11 @@ pub(crate) fn header_text(time: Time) -> Option<ArrayString<LONGEST_TEXT>>
     push_two_digits(&mut text, distance % SECONDS_PER_HOUR / 60);
     Some(text)
 }
+
+/// The longest text is that of the least time.
+pub(crate) fn longest_text_is_that_of_min()
+    ensures { LONGEST_TEXT ≡ length (header_text Time.MIN) }
+{}
 
 fn push_two_digits(text: &mut ArrayString<LONGEST_TEXT>, n: u32)
     requires small { n < 100 }

@@ -1,5 +1,6 @@
 -- White space, and the words that stand between it.
-use Rattle.std.specs.Prelude.{◌≡◌, ℕ, Bool, List, [], ◌∷◌, true, false, filter, map, encode_utf8_all}
+use Rattle.std.specs.Prelude.{◌≡◌, ℕ, Bool, List, [], ◌∷◌, true, false, filter, map, encode_utf8_all, Option, Some, None, option_map, option_copied}
+use Rattle.std.specs.Borrow.{Bor}
 use Rattle.std.specs.Char.{is_whitespace, char_set_contains}
 use Rattle.std.specs.List.{slice_split}
 use Rattle.std.specs.Str.{chars}
@@ -24,5 +25,16 @@ abbrev pub runs : List ℕ → List (List ℕ)
 runs cs = filter is_nonempty (slice_split is_whitespace cs)
 
 -- the words of a text
-unfoldable pub words : List ℕ → List (List ℕ)
-words text = map encode_utf8_all (runs (chars text))
+unfoldable pub space_words : List ℕ → List (List ℕ)
+space_words text = map encode_utf8_all (runs (chars text))
+
+-- the first word, and the second where the two are all
+abbrev pub first_words : List (List ℕ) → Option (List ℕ × Option (List ℕ))
+first_words [] = None
+first_words (first ∷ []) = Some (first, None)
+first_words (first ∷ second ∷ []) = Some (first, Some second)
+first_words (first ∷ second ∷ third ∷ more) = Some (first, None)
+
+-- what a reader of these words gave, with the words as texts
+abbrev pub words_view : Option (Bor (List ℕ) × Option (Bor (List ℕ))) → Option (List ℕ × Option (List ℕ))
+words_view result = option_map (λ found. (found.0.now, option_copied found.1)) result

@@ -5,7 +5,7 @@ use Rattle.std.proofs.lemmas.Bool.Decides.{nat_tests}
 use Rattle.std.specs.Char.{is_ascii_digit}
 use Rattle.std.specs.List.{prefix_len}
 use Rattle.std.specs.Str.{IsCharBoundary, IsUtf8}
-use Rattle.gix_date.proofs.parsing.function.leading_digits.Goals as goal
+use Rattle.gix_date.proofs.parsing.numbers.leading_digits.Goals as goal
 
 ascii : (c : ℕ) → is_ascii_digit c ≡ true → c < 128
 ascii c h = grind (arith, nat_tests, h)

@@ -1,0 +1,37 @@
+-- The fields of an offset from UTC: a sign, and pairs of digits.
+use Rattle.std.specs.Prelude.{ℕ, ◌+◌, ◌*◌, List, [], ◌∷◌, ℤ, pos, neg_ℤ, ◌==◌, if◌then◌else◌, Option, Some, None, option_map, unwrap_or}
+use Rattle.gix_date.specs.Characters.{plus, minus}
+use Rattle.gix_date.specs.Fields.{Read, ◌>>=◌}
+use Rattle.gix_date.specs.Numbers.{two_digit_value, read_two_digits}
+use Rattle.gix_date.specs.declared.parsing.offset.Sign.{Sign}
+use Rattle.gix_date.specs.declared.parsing.offset.Sign.TheVariants.{Plus, Minus}
+use Rattle.gix_date.specs.declared.parsing.offset.OffsetFields.{OffsetFields}
+
+-- a sign at the front
+unfoldable pub read_sign : List ℕ → Read Sign
+read_sign [] = None
+read_sign (c ∷ rest) = if c == plus then Some (Plus, rest) else if c == minus then Some (Minus, rest) else None
+
+-- nothing more, or two digits more
+unfoldable pub last_pair : List ℕ → Option (Option ℕ)
+last_pair [] = Some None
+last_pair (tens ∷ ones ∷ []) = option_map Some (two_digit_value tens ones)
+last_pair _ = None
+
+-- the whole text is a sign, two digits of hours, two of minutes, and perhaps two of seconds
+unfoldable pub offset_fields : List ℕ → Option OffsetFields
+offset_fields text = do
+  sign ← read_sign text
+  hours ← read_two_digits sign.1
+  minutes ← read_two_digits hours.1
+  seconds ← last_pair minutes.1
+  Some (record { sign = sign.0; hours = hours.0; minutes = minutes.0; seconds = seconds })
+
+-- that many seconds ahead of UTC for a plus, and behind it for a minus
+abbrev pub signed : Sign → ℕ → ℤ
+signed Plus n = pos n
+signed Minus n = neg_ℤ (pos n)
+
+-- the offset that the fields say, in seconds east of UTC
+abbrev pub offset_of : OffsetFields → ℤ
+offset_of f = signed f.sign (3600 * f.hours + 60 * f.minutes + unwrap_or f.seconds 0)

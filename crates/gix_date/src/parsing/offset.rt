@@ -1,0 +1,84 @@
+//! The fields of an offset from UTC, as header lines and dates write it. Each reader has limits of its own on them.
+ghost use Rattle.std.specs.Prelude.{◌≡◌};
+ghost use Rattle.gix_date.specs.Fields.{read_view};
+ghost use Rattle.gix_date.specs.Offsets.{read_sign, last_pair, offset_fields};
+
+use crate::parsing::numbers::{parse_two_digits, read_two_digits};
+use crate::time::OffsetInSeconds;
+
+/// Which side of UTC an offset lies on.
+#[derive(Clone, Copy)]
+pub(crate) enum Sign {
+    /// East of UTC, or none.
+    Plus,
+    /// West of UTC.
+    Minus,
+}
+
+/// A sign and pairs of digits: any numbers below 100.
+#[derive(Clone, Copy)]
+pub(crate) struct OffsetFields {
+    pub(crate) sign: Sign,
+    pub(crate) hours: u8,
+    pub(crate) minutes: u8,
+    pub(crate) seconds: Option<u8>,
+}
+
+impl OffsetFields {
+    ghost use Rattle.gix_date.specs.Offsets.{offset_of};
+
+    /// The offset in seconds, positive east of UTC.
+    pub(crate) fn in_seconds(self) -> OffsetInSeconds
+        ensures { result ≡ offset_of self }
+    {
+        let whole_minutes = 3600 * i32::from(self.hours) + 60 * i32::from(self.minutes);
+        let distance = whole_minutes + i32::from(self.seconds.unwrap_or(0));
+        match self.sign {
+            Sign::Plus => distance,
+            Sign::Minus => -distance,
+        }
+    }
+}
+
+/// Reads a whole text that is a sign, two digits of hours, two of minutes and perhaps two of seconds.
+///
+/// `None` for any other text. Takes no memory.
+#[tactic(auto, unfolding(crate::specs::Offsets::offset_fields))]
+pub(crate) fn parse_offset_fields(text: &[u8]) -> Option<OffsetFields>
+    ensures { result ≡ offset_fields text.now }
+{
+    let (sign, rest) = read_sign(text)?;
+    let (hours, rest) = read_two_digits(rest)?;
+    let (minutes, rest) = read_two_digits(rest)?;
+    let seconds = parse_last_pair(rest)?;
+    Some(OffsetFields {
+        sign,
+        hours,
+        minutes,
+        seconds,
+    })
+}
+
+/// A sign at the front.
+#[tactic(auto, unfolding(crate::specs::Offsets::read_sign))]
+fn read_sign(text: &[u8]) -> Option<(Sign, &[u8])>
+    ensures { read_view result ≡ read_sign text.now }
+{
+    match text {
+        [b'+', rest @ ..] => Some((Sign::Plus, rest)),
+        [b'-', rest @ ..] => Some((Sign::Minus, rest)),
+        _ => None,
+    }
+}
+
+/// Nothing more, or two digits more.
+#[tactic(auto, unfolding(crate::specs::Offsets::last_pair))]
+fn parse_last_pair(text: &[u8]) -> Option<Option<u8>>
+    ensures { result ≡ last_pair text.now }
+{
+    match text {
+        [] => Some(None),
+        [tens, ones] => Some(Some(parse_two_digits(*tens, *ones)?)),
+        _ => None,
+    }
+}
