@@ -8,6 +8,7 @@ use Rattle.gix_date.specs.declared.time.Time.{Time}
 -- the first whole second of `jiff`'s instants, and the last
 abbrev pub first_second : ℤ
 first_second = neg_ℤ (pos 377_705_023_201)
+
 abbrev pub last_second : ℤ
 last_second = pos 253_402_207_200
 

@@ -7,9 +7,6 @@ ghost use Rattle.gix_date.specs.Device.{inner_of, fault_of};
 use std::io;
 use std::io::{Read, Write};
 
-#[cfg(test)]
-mod tests;
-
 /// A place that takes bytes, and stays at its first fault.
 pub trait Sink {
     // The bytes taken so far, where the sink tells them, and the fault of the last call, if that was a refusal.

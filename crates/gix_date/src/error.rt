@@ -11,19 +11,20 @@ use thiserror::Error;
 #[derive(Debug, Drop, Error)]
 pub enum Error {
     /// No form that a date may have holds the text, or the offset that it names is beyond 23:59 (`parse`).
-    #[error("unknown date format: {input}")]
+    #[error("no known date format: {:?}; expected seconds since 1970, such as \"@0\" or \"1700000000\", \
+        or seconds and an offset, such as \"1660874655 +0800\"", .input.as_text())]
     UnknownFormat {
         /// The text that was given.
         input: InputBytes,
     },
     /// The text is no time of a header (`from_str`).
-    #[error("not a time: expected seconds since 1970, and then an offset such as +0100")]
+    #[error("not a time: expected seconds since 1970, perhaps an offset such as +0100, and no colon")]
     InvalidTime,
     /// The text names a time relative to now, and no moment was given (`parse`).
     #[error("a relative date needs a moment to count from, and none was given")]
     MissingNow,
     /// The date exists, and its midnight in UTC is outside the instants that can be computed with (`parse`).
-    #[error("the date is beyond the last instant that can be computed with: {input}")]
+    #[error("the date is beyond the last instant that can be computed with: {:?}", .input.as_text())]
     DateConversion {
         /// The text that was given.
         input: InputBytes,
@@ -115,6 +116,15 @@ mod tests {
     }
 
     #[test]
+    fn a_refused_text_is_shown_quoted_in_one_line(rt: HostRuntime) -> Result<(), Fail> {
+        let input = InputBytes::copied(rt.alloc(), "1\n \"2\"")?;
+        let text = format!(in rt.alloc(); "{}", Error::UnknownFormat { input })?;
+        assert!(rt; text.contains("\"1\\n \\\"2\\\"\""), "{text}");
+        assert!(rt; !text.contains('\n'), "{text}");
+        Ok(())
+    }
+
+    #[test]
     fn each_fault_has_a_text_and_a_debug_form(rt: HostRuntime) -> Result<(), Fail> {
         let faults = [
             Error::UnknownFormat {
@@ -134,7 +144,7 @@ mod tests {
         ];
         for fault in faults {
             let text = format!(in rt.alloc(); "{fault}")?;
-            assert!(rt; text.len() > 10);
+            assert!(rt; text.len() > 10 && !text.contains('\n'));
             let debug = format!(in rt.alloc(); "{fault:?}")?;
             assert!(rt; !debug.is_empty());
         }

@@ -1,4 +1,13 @@
-//! Git's times: the text of a commit header written and read.
+//! Git's times: the text of a commit header read and written, and dates parsed.
+//!
+//! [`parse_header`] reads the time of a commit header, leniently as gix-date does; [`parse`] reads a date in one of several
+//! forms, each of them strictly. [`Time::to_str`] and [`Time::write_to`] write the text of a commit header.
+//!
+//! ```
+//! let time = parse_header("1660874655 +0800"); // Some(Time { seconds: 1660874655, offset: 28800 })
+//! let lenient = parse_header("12abc");         // Some(Time { seconds: 12, offset: 0 })
+//! let strict = parse(alloc, "12abc", None);    // Err(Error::UnknownFormat { .. })
+//! ```
 //!
 //! The names and modules are those of the Rust crate gix-date 0.18.1. Clock and zone are always handed in, and no call
 //! here takes memory unless it is given an allocator.
@@ -6,8 +15,6 @@
 
 pub mod device;
 mod error;
-#[cfg(test)]
-mod fakes;
 pub mod laws;
 pub mod parsing;
 pub mod time;

@@ -3,8 +3,6 @@ ghost use Rattle.std.specs.Prelude.{◌≢◌, ◌↔◌, pos, IsTrue};
 
 pub mod format;
 mod init;
-#[cfg(test)]
-mod tests;
 mod write;
 
 use serde::{Deserialize, Serialize};

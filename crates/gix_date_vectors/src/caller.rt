@@ -1,22 +1,51 @@
 //! What a crate that reads and writes commits does with `gix_date`.
-ghost use Rattle.std.specs.Prelude.{◌≡◌, Some, OnOk, IfOk, string_bytes};
-ghost use Rattle.std.specs.Io.KnownBytes.{Appends};
+ghost use Rattle.std.specs.Prelude.{◌≡◌, ◌≢◌, ◌⊎◌, Some, None, IfSome, IfNone, IfErr, OnOk, IfOk, string_bytes};
+ghost use Rattle.gix_date.specs.Families.{Absolute, first_family, RefusesUnknown};
 ghost use Rattle.gix_date.specs.HeaderReading.{header_time};
-ghost use Rattle.gix_date.specs.HeaderText.{header_text};
+ghost use Rattle.gix_date.specs.HeaderText.{header_text, HasHeaderText};
+ghost use Rattle.gix_date.specs.Known.{Takes};
 ghost use Rattle.gix_date.specs.TimeBuf.{text_in};
+ghost use Rattle.gix_date.specs.Zoned.{IsConvertible};
+ghost use Rattle.gix_date.specs.declared.error.Error.TheVariants.{Conversion};
 ghost use Rattle.gix_date.specs.declared.time.Time.{Time as Read};
 
 use gix_date::device::Sink;
 use gix_date::parsing::TimeBuf;
-use gix_date::{Error, Time};
+use gix_date::{Error, Time, parse, parse_header};
 use std::alloc::{AllocError, Global};
 
 /// Writes the time of a header anew, in the form that Git writes.
 pub fn rewrite<W: Sink>(header: &str, out: &mut W) -> Result<(), Error>
-    ensures { OnOk result ((t : Read) × (header_time header.now ≡ Some t) × Appends (W.taken out.old) (W.taken out.new) (header_text t)) }
+    ensures { OnOk result ((t : Read) × (header_time header.now ≡ Some t)
+        × Takes (W.known out.old) (W.known out.new) (header_text t)) }
 {
     let time: Time = header.parse()?;
     time.write_to(out)
+}
+
+/// The time of a header that is written as Git writes it, and of no other.
+pub fn read_canonical(header: &str) -> Option<Time>
+    ensures some { IfSome result (λ t. (header_time header.now ≡ Some t)
+        × HasHeaderText t × (header_text t ≡ header.now)) }
+    ensures none { IfNone result ((t : Read) → header_time header.now ≡ Some t
+        → HasHeaderText t → header_text t ≢ header.now) }
+{
+    let time = parse_header(header)?;
+    let mut buf = TimeBuf::default();
+    match time.to_str(&mut buf) {
+        Ok(text) if text == header => Some(time),
+        _ => None,
+    }
+}
+
+/// The time of a date that was typed at this moment.
+pub fn date_typed(alloc: Global, date: &str, now: Time) -> Result<Time, Error>
+    ensures time { IfOk result (λ t. first_family date.now ≡ Some (Absolute t)) }
+    ensures refuses { IfErr result (λ e. ((e ≡ Conversion) × ¬ (IsConvertible now))
+        ⊎ ((first_family date.now ≡ None) × RefusesUnknown date.now e)) }
+{
+    let moment = now.to_zoned()?;
+    parse(alloc, date, Some(moment))
 }
 
 /// A second buffer with the same text.

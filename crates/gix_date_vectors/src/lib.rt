@@ -3,6 +3,10 @@
 
 pub mod caller;
 #[cfg(test)]
+mod devices;
+#[cfg(test)]
+mod fakes;
+#[cfg(test)]
 mod headers;
 #[cfg(test)]
 mod memory;

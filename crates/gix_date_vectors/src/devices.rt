@@ -1,5 +1,7 @@
-use crate::device::{Device, Sink, Source, put_all};
-use crate::fakes::{Broken, Slow};
+//! Devices over writers and readers that fail, and what is written to them.
+use crate::fakes::{Slow, Supply};
+use gix_date::device::{Device, Sink, Source, put_all};
+use gix_date::{Error, Time};
 use std::io::ErrorKind;
 use std::test::Fail;
 
@@ -41,7 +43,7 @@ fn an_interrupted_call_is_a_fault(rt: HostRuntime) {
     let mut writer = Device::new(Slow::new(rt.alloc(), 1, 0, ErrorKind::Interrupted));
     assert_eq!(rt; writer.put(b"a"), Err(ErrorKind::Interrupted));
     assert_eq!(rt; writer.into_inner().calls, 1);
-    let mut reader = Device::new(Broken::new(0, ErrorKind::Interrupted));
+    let mut reader = Device::new(Supply::of(b"x", 1, 0, Some(ErrorKind::Interrupted)));
     let mut piece = [0; 4];
     assert_eq!(rt; reader.get(&mut piece), Err(ErrorKind::Interrupted));
     assert_eq!(rt; reader.into_inner().calls, 1);
@@ -49,7 +51,7 @@ fn an_interrupted_call_is_a_fault(rt: HostRuntime) {
 
 #[test]
 fn a_device_reads_until_the_first_fault(rt: HostRuntime) {
-    let mut device = Device::new(Broken::new(2, ErrorKind::UnexpectedEof));
+    let mut device = Device::new(Supply::of(b"x", 1, 2, Some(ErrorKind::UnexpectedEof)));
     let mut piece = [0; 4];
     assert_eq!(rt; device.get(&mut piece), Ok(1));
     assert_eq!(rt; piece[0], b'x');
@@ -89,4 +91,35 @@ fn a_device_has_a_debug_form(rt: HostRuntime) -> Result<(), Fail> {
     let text = format!(in rt.alloc(); "{:?}", Device::new(7))?;
     assert!(rt; !text.is_empty());
     Ok(())
+}
+
+#[test]
+fn a_failing_writer_has_taken_a_prefix(rt: HostRuntime) {
+    let time = Time::new(1_660_874_655, 28_800);
+    for (a_call, room, prefix) in [
+        (99, 3, "166"),
+        (1, 3, "166"),
+        (2, 15, "1660874655 +080"),
+        (9, 0, ""),
+    ] {
+        let mut device = Device::new(Slow::new(rt.alloc(), a_call, room, ErrorKind::StorageFull));
+        let answer = time.write_to(&mut device);
+        assert!(rt;
+            matches!(answer, Err(Error::Write(ErrorKind::StorageFull))),
+            "failing-writer, {room}"
+        );
+        assert_eq!(rt;
+            device.into_inner().taken.as_slice(),
+            prefix.as_bytes(),
+            "failing-writer, {room}"
+        );
+    }
+}
+
+#[test]
+fn a_text_takes_26_calls_at_most_and_no_flush(rt: HostRuntime) {
+    let mut device = Device::new(Slow::new(rt.alloc(), 1, 99, ErrorKind::Other));
+    assert!(rt; Time::new(i64::MIN, -359_999).write_to(&mut device).is_ok());
+    let inner = device.into_inner();
+    assert_eq!(rt; (inner.calls, inner.flushes), (26, 0));
 }

@@ -1,0 +1,107 @@
+//! Writers and readers that take and give a few bytes a call, and fail on demand.
+use std::alloc::Global;
+use std::io;
+use std::io::{Read, Write};
+
+/// A writer that takes a few bytes a call, up to a limit, and then fails.
+#[derive(Drop)]
+pub(crate) struct Slow {
+    pub(crate) taken: Vec<u8>,
+    pub(crate) calls: usize,
+    pub(crate) flushes: usize,
+    a_call: usize,
+    room: usize,
+    kind: io::ErrorKind,
+}
+
+impl Slow {
+    pub(crate) fn new(alloc: Global, a_call: usize, room: usize, kind: io::ErrorKind) -> Slow {
+        Slow {
+            taken: Vec::new(alloc),
+            calls: 0,
+            flushes: 0,
+            a_call,
+            room,
+            kind,
+        }
+    }
+
+    /// A writer that takes all that it is given.
+    pub(crate) fn roomy(alloc: Global) -> Slow {
+        Slow::new(alloc, 1 << 20, 1 << 30, io::ErrorKind::Other)
+    }
+}
+
+impl Write for Slow {
+    fn write(&mut self, buf: &[u8]) -> io::Result<usize> {
+        self.calls = self.calls.saturating_add(1);
+        let room = self.room.saturating_sub(self.taken.len());
+        if room == 0 {
+            return Err(io::Error::from(self.kind));
+        }
+        let count = buf.len().min(self.a_call).min(room);
+        self.taken.extend_from_slice(&buf[..count])?;
+        Ok(count)
+    }
+
+    fn flush(&mut self) -> io::Result<()> {
+        self.flushes = self.flushes.saturating_add(1);
+        Ok(())
+    }
+}
+
+/// A reader that gives a text over and over, a few bytes a call, so many bytes in all, and then ends or fails.
+#[derive(Drop)]
+pub(crate) struct Supply<'a> {
+    pub(crate) calls: usize,
+    text: &'a [u8],
+    place: usize,
+    a_call: usize,
+    left: usize,
+    fault: Option<io::ErrorKind>,
+}
+
+impl<'a> Supply<'a> {
+    /// The text once.
+    pub(crate) fn once(text: &'a [u8], a_call: usize, fault: Option<io::ErrorKind>) -> Supply<'a> {
+        Supply::of(text, a_call, text.len(), fault)
+    }
+
+    /// So many bytes of the text and its repetitions.
+    pub(crate) fn of(
+        text: &'a [u8],
+        a_call: usize,
+        left: usize,
+        fault: Option<io::ErrorKind>,
+    ) -> Supply<'a> {
+        Supply {
+            calls: 0,
+            text,
+            place: 0,
+            a_call,
+            left,
+            fault,
+        }
+    }
+}
+
+impl Read for Supply<'_> {
+    fn read(&mut self, buf: &mut [u8]) -> io::Result<usize> {
+        self.calls = self.calls.saturating_add(1);
+        if self.left == 0 || self.text.is_empty() {
+            return match self.fault {
+                Some(kind) => Err(io::Error::from(kind)),
+                None => Ok(0),
+            };
+        }
+        if self.place >= self.text.len() {
+            self.place = 0;
+        }
+        let front = &self.text[self.place..];
+        let count = front.len().min(self.left).min(self.a_call).min(buf.len());
+        buf[..count].copy_from_slice(&front[..count]);
+        self.place += count;
+        self.left -= count;
+        Ok(count)
+    }
+}
