@@ -13,4 +13,6 @@ mod memory;
 #[cfg(test)]
 mod parses;
 #[cfg(test)]
+mod readme;
+#[cfg(test)]
 mod times;

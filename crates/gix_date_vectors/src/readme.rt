@@ -1,0 +1,28 @@
+//! The example of README.md, as it stands there.
+use gix_date::device::Device;
+use gix_date::parsing::TimeBuf;
+use gix_date::{Error, parse, parse_header};
+use std::alloc::Global;
+
+fn example(alloc: Global) -> Result<Vec<u8>, Error> {
+    // A date, read strictly; a text that is none comes back in the fault, by a copy.
+    let time = parse(alloc, "@1660874655 +0800", None)?;
+    // Its text in a commit header, lent out of a buffer: "1660874655 +0800". No memory is taken.
+    let mut buf = TimeBuf::default();
+    let text = time.to_str(&mut buf)?;
+    // The time of a commit header, read leniently. No memory is taken.
+    let same = parse_header(text).ok_or(Error::InvalidTime)?;
+    // The same text again, into any `Write`.
+    let mut out = Device::new(Vec::new(alloc));
+    same.write_to(&mut out)?;
+    Ok(out.into_inner())
+}
+
+#[test]
+fn the_example_gives_the_text_again(rt: HostRuntime) -> Result<(), Error> {
+    assert_eq!(rt;
+        example(rt.alloc())?.as_slice(),
+        b"1660874655 +0800".as_slice()
+    );
+    Ok(())
+}
