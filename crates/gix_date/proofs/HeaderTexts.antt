@@ -1,11 +1,35 @@
--- How long a header text is.
-use Rattle.std.proofs.Common.{arith, ◌≤◌, ◌∷◌, length, length-append, FitsSigned, w64}
-use Rattle.std.specs.Prelude.{unsigned_abs}
-use Rattle.gix_date.proofs.Decimals.{length-signed_decimal_i64}
+-- How long a header text is, and where there is one.
+use Rattle.std.proofs.Common.{◌≡◌, ℕ, ◌+◌, ◌∷◌, Bool, true, false, cond, List, length, arith, length-append, refl, Option, Some, None, ℤ, pos, negsuc, ◌<◌}
+use Rattle.std.proofs.lemmas.Bool.Decides.{nat_tests}
+use Rattle.std.proofs.lemmas.Int.{ints}
+use Rattle.std.specs.Prelude.{IfSome, IsSome, unsigned_abs, nat_lt}
+use Rattle.jiff.specs.Words.{IsOffsetSeconds}
+use Rattle.gix_date.specs.Characters.{space}
 use Rattle.gix_date.specs.HeaderText.{header_text, offset_sign, hours_and_minutes}
 use Rattle.gix_date.specs.Numbers.{decimal_text}
 use Rattle.gix_date.specs.declared.time.Time.{Time}
+use Rattle.gix_date.specs.declared.time.write.TheConstants.{HUNDRED_HOURS}
 
-pub length-header_text : (t : Time) → FitsSigned w64 t.seconds → length (header_text t) ≤ 26
-length-header_text t h =
-    omega (arith, length-signed_decimal_i64 t.seconds h, length-append (decimal_text t.seconds) (32 ∷ offset_sign t.offset ∷ hours_and_minutes (unsigned_abs t.offset)))
+some_of : (b : Bool) (xs : List ℕ) (P : List ℕ → Type 0) → P xs → IfSome (cond b (Some xs) None) P
+some_of true xs P h = h
+some_of false xs P h = tt
+
+-- six bytes more than its seconds
+pub length-header_text : (t : Time) (n : ℕ) → n ≡ length (decimal_text t.seconds) + 6 → IfSome (header_text t) (λ text. n ≡ length text)
+unfolding header_text
+length-header_text t n h =
+    let behind = space ∷ offset_sign t.offset ∷ hours_and_minutes (unsigned_abs t.offset) in
+    some_of (nat_lt (unsigned_abs t.offset) HUNDRED_HOURS) _ (λ text. n ≡ length text) (omega (arith, h, length-append (decimal_text t.seconds) behind))
+
+is_some_of : (b : Bool) (xs : List ℕ) → b ≡ true → IsSome (cond b (Some xs) None)
+is_some_of true xs h = refl
+is_some_of false xs h = cc
+
+short_of : (offset : ℤ) → IsOffsetSeconds offset → unsigned_abs offset < HUNDRED_HOURS
+short_of (pos n) h = grind (arith, ints, h.1)
+short_of (negsuc n) h = grind (arith, ints, h.0)
+
+-- an offset that a zone can have is short of 100 hours
+pub header_text-in_zone : (t : Time) → IsOffsetSeconds t.offset → IsSome (header_text t)
+unfolding header_text
+header_text-in_zone t h = is_some_of (nat_lt (unsigned_abs t.offset) HUNDRED_HOURS) _ (grind (arith, nat_tests, short_of t.offset h))

@@ -24,25 +24,25 @@ minus n = neg_ℤ (pos n)
 
 -- all that a row needs to see computed
 computing : Type 0
-unfolding first_family at_time epoch_time raw_time raw_offset header_time time_of_words seconds_said offset_said offset_fields read_sign last_pair read_two_digits int_value digits space_words chars encode
+unfolding header_text first_family at_time epoch_time raw_time raw_offset header_time time_of_words seconds_said offset_said offset_fields read_sign last_pair read_two_digits int_value digits space_words chars encode
 computing = Unit {0}
 
 abbrev Reads : List ℕ → ℤ → ℤ → Type 0
 Reads text seconds offset = header_time text ≡ Some (time seconds offset)
 
-least-written : header_text (time (minus 9223372036854775808) (minus 359999)) ≡ codes "-9223372036854775808 -9959"
+least-written : header_text (time (minus 9223372036854775808) (minus 359999)) ≡ Some (codes "-9223372036854775808 -9959")
 unfolding computing
 least-written = refl
 
-greatest-written : header_text (time (pos 9223372036854775807) (pos 359999)) ≡ codes "9223372036854775807 +9959"
+greatest-written : header_text (time (pos 9223372036854775807) (pos 359999)) ≡ Some (codes "9223372036854775807 +9959")
 unfolding computing
 greatest-written = refl
 
-odd-seconds-dropped : header_text (time (pos 0) (minus 30)) ≡ codes "0 -0000"
+odd-seconds-dropped : header_text (time (pos 0) (minus 30)) ≡ Some (codes "0 -0000")
 unfolding computing
 odd-seconds-dropped = refl
 
-odd-seconds-dropped-2 : header_text (time (pos 5) (minus 3723)) ≡ codes "5 -0102"
+odd-seconds-dropped-2 : header_text (time (pos 5) (minus 3723)) ≡ Some (codes "5 -0102")
 unfolding computing
 odd-seconds-dropped-2 = refl
 

@@ -37,7 +37,7 @@ impl TimeBuf {
     /// Puts the text of a time here and lends it, or leaves nothing here where the time has none.
     fn text_of(&mut self, time: &Time) -> Option<&str>
         ensures text { GivesText time.now (ok_or result OffsetTooWide) }
-        ensures* after { sem 𝓛 (LeavesText self.entry (text_left time.now (ok_or result OffsetTooWide))) }
+        ensures* after { sem 𝓛 (LeavesText self.entry (text_left (ok_or result OffsetTooWide))) }
     {
         self.text.clear();
         self.text = header_text(*time)?;
@@ -70,7 +70,7 @@ impl Time {
     /// memory.
     pub fn to_str<'a>(&self, buf: &'a mut TimeBuf) -> Result<&'a str, Error>
         ensures text { GivesText self.now result }
-        ensures* after { sem 𝓛 (LeavesText buf.entry (text_left self.now result)) }
+        ensures* after { sem 𝓛 (LeavesText buf.entry (text_left result)) }
     {
         or_too_wide(buf.text_of(self))
     }

@@ -1,8 +1,8 @@
 //! What a crate that reads and writes commits does with `gix_date`.
-ghost use Rattle.std.specs.Prelude.{◌≡◌, ◌≢◌, ◌⊎◌, Some, None, IfSome, IfNone, IfErr, OnOk, IfOk, string_bytes};
+ghost use Rattle.std.specs.Prelude.{◌≡◌, ◌≢◌, ◌⊎◌, Some, None, IfSome, IfNone, IfErr, IsSomeAnd, OnOk, IfOk, string_bytes};
 ghost use Rattle.gix_date.specs.Families.{Absolute, first_family, RefusesUnknown};
 ghost use Rattle.gix_date.specs.HeaderReading.{header_time};
-ghost use Rattle.gix_date.specs.HeaderText.{header_text, HasHeaderText};
+ghost use Rattle.gix_date.specs.HeaderText.{header_text};
 ghost use Rattle.gix_date.specs.Known.{Takes};
 ghost use Rattle.gix_date.specs.TimeBuf.{text_in};
 ghost use Rattle.gix_date.specs.Zoned.{IsConvertible};
@@ -17,7 +17,7 @@ use std::alloc::{AllocError, Global};
 /// Writes the time of a header anew, in the form that Git writes.
 pub fn rewrite<W: Sink>(header: &str, out: &mut W) -> Result<(), Error>
     ensures { OnOk result ((t : Read) × (header_time header.now ≡ Some t)
-        × Takes (W.known out.old) (W.known out.new) (header_text t)) }
+        × IsSomeAnd (header_text t) (Takes (W.known out.old) (W.known out.new))) }
 {
     let time: Time = header.parse()?;
     time.write_to(out)
@@ -25,10 +25,8 @@ pub fn rewrite<W: Sink>(header: &str, out: &mut W) -> Result<(), Error>
 
 /// The time of a header that is written as Git writes it, and of no other.
 pub fn read_canonical(header: &str) -> Option<Time>
-    ensures some { IfSome result (λ t. (header_time header.now ≡ Some t)
-        × HasHeaderText t × (header_text t ≡ header.now)) }
-    ensures none { IfNone result ((t : Read) → header_time header.now ≡ Some t
-        → HasHeaderText t → header_text t ≢ header.now) }
+    ensures some { IfSome result (λ t. (header_time header.now ≡ Some t) × (header_text t ≡ Some header.now)) }
+    ensures none { IfNone result ((t : Read) → header_time header.now ≡ Some t → header_text t ≢ Some header.now) }
 {
     let time = parse_header(header)?;
     let mut buf = TimeBuf::default();
@@ -55,9 +53,10 @@ pub fn doubled(buf: &TimeBuf) -> Result<TimeBuf, AllocError>
     buf.clone()
 }
 
-/// The text of a time, for a log.
+/// The text of a time, for a log. Where its offset has no text this fails as it does for want of memory; `to_str` tells the two
+/// apart.
 pub fn shown(alloc: Global, time: Time) -> Result<String, AllocError>
-    ensures { IfOk result (λ text. string_bytes text ≡ header_text time) }
+    ensures { IfOk result (λ text. IfSome (header_text time) (λ due. string_bytes text ≡ due)) }
 {
     format!(in alloc; "{time}")
 }

@@ -1,9 +1,9 @@
 //! The text of a time in a commit header.
-ghost use Rattle.std.specs.Prelude.{◌≡◌, ◌+◌, ◌<◌, ◌≤◌, ◌↔◌, ◌++◌, length, Some, Err, IsSome, IfSome};
-ghost use Rattle.std.specs.Fmt.{decimal, fmt_error, DisplaysOnOk};
+ghost use Rattle.std.specs.Prelude.{◌≡◌, ◌+◌, ◌<◌, ◌≤◌, ◌++◌, length, None, Err, IfSome, option_map};
+ghost use Rattle.std.specs.Fmt.{decimal, fmt_error, DisplaysOnOk, DisplaysStyledOnOk};
 ghost use Rattle.arrayvec.specs.ArrayString.{array_string_len};
 ghost use Rattle.gix_date.specs.Numbers.{decimal_text, two_digits};
-ghost use Rattle.gix_date.specs.HeaderText.{header_text, HasHeaderText, IsTooWide, Writes};
+ghost use Rattle.gix_date.specs.HeaderText.{header_text, Writes};
 
 use crate::device::{Sink, put_all};
 use crate::error::Error;
@@ -50,7 +50,7 @@ impl Time {
     /// and 6. Where the offset is too wide to be written, the number is the same as for an offset that is not.
     pub const fn size(&self) -> usize
         ensures digits { result ≡ length (decimal_text self.now.seconds) + 6 }
-        ensures text { HasHeaderText self.now → result ≡ length (header_text self.now) }
+        ensures text { IfSome (header_text self.now) (λ text. result ≡ length text) }
         ensures most { result ≤ LONGEST_TEXT }
     {
         let digits = decimal_len(self.seconds.unsigned_abs());
@@ -65,11 +65,14 @@ impl Time {
 /// Shows the text that [`Time::write_to`] writes, in one piece. The formatting fault where there is none, and then nothing
 /// is written. Takes no memory.
 impl fmt::Display for Time {
-    ghost output = { λ t. Some (header_text t) };
+    ghost output = { header_text };
+
+    ghost styled_output = { λ t _. header_text t };
 
     fn fmt<W: fmt::Write>(&self, f: &mut fmt::Formatter<W>) -> fmt::Result
-        ensures writes { DisplaysOnOk W.write_str_gives f.old result (Some (header_text self.now)) f.new }
-        ensures wide { IsTooWide self.now → (result ≡ Err fmt_error) × (f.new ≡ f.old) }
+        ensures writes { DisplaysOnOk W.write_str_gives f.old result (header_text self.now) f.new }
+        ensures styled { DisplaysStyledOnOk W.write_str_gives f.old result (header_text self.now) f.new }
+        ensures wide { header_text self.now ≡ None → (result ≡ Err fmt_error) × (f.new ≡ f.old) }
     {
         match header_text(*self) {
             Some(text) => f.write_str(text.as_str()),
@@ -92,9 +95,9 @@ const fn decimal_len(n: u64) -> usize
 }
 
 /// The header text of a time, where its offset is short of 100 hours.
+#[tactic(auto, unfolding(crate::specs::HeaderText::header_text))]
 pub(crate) fn header_text(time: Time) -> Option<ArrayString<LONGEST_TEXT>>
-    ensures exists { IsSome result ↔ HasHeaderText time }
-    ensures text { IfSome result (λ text. text.bytes ≡ header_text time) }
+    ensures { option_map (λ text. text.bytes) result ≡ header_text time }
 {
     let distance = time.offset.unsigned_abs();
     if distance >= HUNDRED_HOURS {
@@ -111,7 +114,7 @@ pub(crate) fn header_text(time: Time) -> Option<ArrayString<LONGEST_TEXT>>
 
 /// The longest text is that of the least time.
 pub(crate) fn longest_text_is_that_of_min()
-    ensures { LONGEST_TEXT ≡ length (header_text Time.MIN) }
+    ensures { IfSome (header_text Time.MIN) (λ text. LONGEST_TEXT ≡ length text) }
 {}
 
 fn push_two_digits(text: &mut ArrayString<LONGEST_TEXT>, n: u32)
