@@ -1,5 +1,5 @@
 -- How long a header text is, and where there is one.
-use Rattle.std.proofs.Common.{◌≡◌, ℕ, ◌+◌, ◌∷◌, Bool, true, false, cond, List, length, arith, length-append, refl, Option, Some, None, ℤ, pos, negsuc, ◌<◌}
+use Rattle.std.proofs.Common.{◌≡◌, ℕ, ◌+◌, ◌∷◌, Bool, true, false, cond, List, length, arith, length-append, refl, Some, None, ℤ, pos, negsuc, ◌<◌}
 use Rattle.std.proofs.lemmas.Bool.Decides.{nat_tests}
 use Rattle.std.proofs.lemmas.Int.{ints}
 use Rattle.std.specs.Prelude.{IfSome, IsSome, unsigned_abs, nat_lt}
@@ -30,6 +30,6 @@ short_of (pos n) h = grind (arith, ints, h.1)
 short_of (negsuc n) h = grind (arith, ints, h.0)
 
 -- an offset that a zone can have is short of 100 hours
-pub header_text-in_zone : (t : Time) → IsOffsetSeconds t.offset → IsSome (header_text t)
+pub header_text_in_zone : (t : Time) → IsOffsetSeconds t.offset → IsSome (header_text t)
 unfolding header_text
-header_text-in_zone t h = is_some_of (nat_lt (unsigned_abs t.offset) HUNDRED_HOURS) _ (grind (arith, nat_tests, short_of t.offset h))
+header_text_in_zone t h = is_some_of (nat_lt (unsigned_abs t.offset) HUNDRED_HOURS) _ (grind (arith, nat_tests, short_of t.offset h))

@@ -3,7 +3,9 @@ ghost use Rattle.std.specs.Prelude.{◌≡◌, ◌↔◌, ◌++◌, pos, neg_ℤ
 ghost use Rattle.std.specs.declared.cmp.Ordering.TheVariants.{Equal};
 ghost use Rattle.std.specs.Hash as fed;
 ghost use Rattle.std.specs.Ordering.{int_cmp, on, then_cmp};
+ghost use Rattle.gix_date.specs.TimeBuf.{text_in};
 
+use crate::parsing::TimeBuf;
 use crate::time::Time;
 use std::hash::Hash;
 
@@ -11,6 +13,14 @@ use std::hash::Hash;
 pub fn constants()
     ensures max { Time.MAX ≡ record { seconds = pos 9_223_372_036_854_775_807; offset = pos 359_999 } }
     ensures min { Time.MIN ≡ record { seconds = neg_ℤ (pos 9_223_372_036_854_775_808); offset = neg_ℤ (pos 359_999) } }
+{}
+
+/// A clone of a time is that time, a clone of a buffer holds the same text, and neither can fail.
+pub fn clones()
+    ensures time { (a b : Time) → ⟦<Time as Clone>⟧.is_clone a b → b ≡ a }
+    ensures time_succeeds { (a : Time) → ⟦<Time as Clone>⟧.is_infallible a }
+    ensures buffer { (a b : TimeBuf) → ⟦<TimeBuf as Clone>⟧.is_clone a b → text_in b ≡ text_in a }
+    ensures buffer_succeeds { (a : TimeBuf) → ⟦<TimeBuf as Clone>⟧.is_infallible a }
 {}
 
 /// Times are in order of their seconds, and at the same seconds of their offset; those that are equal in this order are

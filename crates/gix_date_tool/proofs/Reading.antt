@@ -1,29 +1,28 @@
--- What was read and answered, piece by piece.
-use Rattle.std.proofs.Common.{◌≡◌, ◌≢◌, false, inl, inr, ℕ, ◌+◌, ◌<◌, ◌≤◌, List, [], ◌∷◌, ◌++◌, length, refl, sym, ap, ◌∙◌, subst, append_assoc, append-nil, length-append, arith, Option, None, Some, Result, Ok, Err}
+-- What was read and replied to, piece by piece.
+use Rattle.std.proofs.Common.{◌≡◌, ◌≢◌, true, false, inl, inr, ℕ, ◌+◌, ◌<◌, ◌≤◌, List, [], ◌∷◌, ◌++◌, length, refl, sym, ap, ◌∙◌, subst, append_assoc, append-nil, length-append, arith, Option, None, Some, Result, Ok, Err}
 use Rattle.std.proofs.lemmas.List.Elements.{All-append, All-nil, All-cons}
 use Rattle.std.specs.Prelude.{All}
-use Rattle.std.specs.Io.KnownBytes.{Appends, Keeps, Consumes, IsAtEnd}
+use Rattle.std.specs.Io.KnownBytes.{Keeps, Consumes}
 use Rattle.std.specs.declared.io.ErrorKind.{ErrorKind}
-use Rattle.gix_date.specs.Device.{AppendsProperPrefix}
-use Rattle.jiff.specs.declared.zoned.Zoned.{Zoned}
-use Rattle.gix_date_tool.specs.declared.arguments.Mode.{Mode}
+use Rattle.gix_date.specs.Characters.{newline}
+use Rattle.gix_date.specs.Known.{Known, Takes, TakesProperPrefix, TakesNothing, Gives, HasEnded}
 use Rattle.gix_date_tool.specs.declared.error.ToolError.{ToolError}
 use Rattle.gix_date_tool.specs.declared.error.ToolError.TheVariants as errors
-use Rattle.gix_date_tool.specs.declared.lines.Answering.{Answering}
-use Rattle.gix_date_tool.specs.Lines.{IsLine, Splits, last_line, IsShort, IsWithinLimits}
-use Rattle.gix_date_tool.specs.Answers.{answers}
-use Rattle.gix_date_tool.specs.Outbox.{AppendsBut}
-use Rattle.gix_date_tool.specs.Run.{StopsAt, Ran, is_unwritten}
-use Rattle.gix_date_tool.specs.Answering.{open_line, waiting, IsReady, Takes, Ends}
-use Rattle.gix_date_tool.proofs.Splitting.{Splits-open, Splits-join}
-use Rattle.gix_date_tool.proofs.Sending.{AppendsBut-none, AppendsBut-then, AppendsBut-sent, AppendsProperPrefix-then, AppendsProperPrefix-sent, AppendsBut-all, Appends-from_but}
-use Rattle.gix_date_tool.proofs.Taking.{Stops, answers-append}
+use Rattle.gix_date_tool.specs.declared.lines.TheConstants.{LONGEST_LINE, MOST_LINES}
+use Rattle.gix_date_tool.specs.declared.replies.Asked.{Asked}
+use Rattle.gix_date_tool.specs.Lines.{last_line, IsShort, IsWithinLimits}
+use Rattle.gix_date_tool.specs.Replies.{replies}
+use Rattle.gix_date_tool.specs.Outbox.{Output, all_sent, Puts, PutsProperPrefix}
+use Rattle.gix_date_tool.specs.Run.{Change, change, StopsAt, WereDue, Unsent, Stopped, Ran, is_unwritten}
+use Rattle.gix_date_tool.specs.Progress.{Stage, first_stage, IsReady, SentAll, SendsAll, TookIn, Unwritten, StoppedWithin, TakesIn, EndedAll, EndsAt}
+use Rattle.gix_date_tool.proofs.Sending.{Takes-all_sent, Puts-sent, PutsProperPrefix-sent}
+use Rattle.gix_date_tool.proofs.Taking.{Puts-replies, PutsProperPrefix-replies, TookIn-nil, TakesIn-then}
 
-pub Consumes-nil : (known : Option (List ℕ)) → Consumes known known []
+Consumes-nil : (known : Option (List ℕ)) → Consumes known known []
 Consumes-nil None = tt
 Consumes-nil (Some xs) = refl
 
-pub Consumes-append : (old mid new : Option (List ℕ)) (xs ys : List ℕ) → Consumes old mid xs → Consumes mid new ys → Consumes old new (xs ++ ys)
+Consumes-append : (old mid new : Option (List ℕ)) (xs ys : List ℕ) → Consumes old mid xs → Consumes mid new ys → Consumes old new (xs ++ ys)
 Consumes-append None mid new xs ys h k = tt
 Consumes-append (Some us) None new xs ys h k = absurd h
 Consumes-append (Some us) (Some vs) None xs ys h k = absurd k
@@ -35,123 +34,133 @@ Consumes-kept (Some us) None new xs h k = absurd h
 Consumes-kept (Some us) (Some vs) None xs h k = absurd k
 Consumes-kept (Some us) (Some vs) (Some ws) xs h k = h ∙ ap (λ zs. xs ++ zs) (sym k)
 
+-- some bytes were given and then more
+Gives-append : (old mid new : Known) (xs ys : List ℕ) → Gives old mid xs → Gives mid new ys → Gives old new (xs ++ ys)
+Gives-append old mid new xs ys h k = Consumes-append old.bytes mid.bytes new.bytes xs ys h k
+
 -- the same bytes with none beyond
-without_beyond : (old new : Option (List ℕ)) (xs : List ℕ) → Consumes old new xs → Consumes old new (xs ++ [])
-without_beyond old new xs h = subst (Consumes old new) (sym (append-nil xs)) h
+without_beyond : (old new : Known) (xs : List ℕ) → Gives old new xs → Gives old new (xs ++ [])
+without_beyond old new xs h = subst (Gives old new) (sym (append-nil xs)) h
 
--- Some bytes were read and the lines in them answered, but for what waits.
-abbrev pub SoFar : Mode → Option Zoned → Answering → Option (List ℕ) → Option (List ℕ) → Option (List ℕ) → Option (List ℕ) → Type 0
-SoFar mode now s left left' old new =
-    (input : List ℕ) × (lines : List (List ℕ)) × Consumes left left' input × Splits input lines (open_line s) × All IsShort lines × (s.lines ≡ length lines)
-    × AppendsBut old new (answers mode now lines) (waiting s)
+-- Of a run that was asked this and writes to this sink: what was read so far was taken in.
+pub record HasRead (asked : Asked) (sink : Known) (s : Stage) (reading : Change) : Type 0 where
+  pub input : List ℕ
+  pub read : Gives reading.old reading.new input
+  pub took : TookIn (first_stage asked sink) s input
 
-pub SoFar-start : (mode : Mode) (now : Option Zoned) (s : Answering) (left old : Option (List ℕ)) → open_line s ≡ [] → s.lines ≡ 0 → waiting s ≡ [] → SoFar mode now s left left old old
-SoFar-start mode now s left old empty none nothing = (
-  [],
-  [],
-  Consumes-nil left,
-  subst (Splits [] []) (sym empty) (Splits-open [] (All-nil (λ b. b ≢ 10))),
-  All-nil IsShort,
-  none,
-  subst (AppendsBut old old []) (sym nothing) (AppendsBut-none old []),
-)
-
-pub IsReady-start : (s : Answering) → open_line s ≡ [] → s.lines ≡ 0 → IsReady s
-IsReady-start s empty none = record {
-  is_line = subst IsLine (sym empty) (All-nil (λ b. b ≢ 10));
-  is_short = subst IsShort (sym empty) (omega arith);
+IsReady-first : (asked : Asked) (sink : Known) → IsReady (first_stage asked sink)
+IsReady-first asked sink = record {
+  is_line = All-nil (λ b. b ≢ newline);
+  is_short = omega arith;
   few = omega arith;
-  none_behind = λ _. empty;
+  none_behind = λ _. refl;
 }
 
--- what waited was sent
-pub SoFar-sent : (mode : Mode) (now : Option Zoned) (s s' : Answering) (left left' old mid new : Option (List ℕ)) → SoFar mode now s left left' old mid → open_line s' ≡ open_line s → s'.lines ≡ s.lines → AppendsBut mid new (waiting s) (waiting s') → SoFar mode now s' left left' old new
-SoFar-sent mode now s s' left left' old mid new h line count sent = (
-  h.0,
-  h.1,
-  h.2,
-  subst (Splits h.0 h.1) (sym line) h.3,
-  h.4,
-  count ∙ h.5,
-  AppendsBut-sent old mid new (answers mode now h.1) (waiting s) (waiting s') h.6 sent,
-)
+-- nothing was read
+pub HasRead-first : (asked : Asked) (sink : Known) (s : Stage) (reader : Known) → s ≡ first_stage asked sink → HasRead asked sink s (change reader reader)
+HasRead-first asked sink s reader fresh = record {
+  input = [];
+  read = Consumes-nil reader.bytes;
+  took = subst (λ x. TookIn (first_stage asked sink) x []) (sym fresh) (TookIn-nil (IsReady-first asked sink));
+}
 
--- the writer refused what waited
-pub Ran-unsent : (Wrote : List ℕ → Type 0) (mode : Mode) (now : Option Zoned) (s : Answering) (left left' : Option (List ℕ)) (unread : Option ErrorKind) (old mid new : Option (List ℕ)) (fault : Option ErrorKind) (kind : ErrorKind)
-    → SoFar mode now s left left' old mid → AppendsProperPrefix mid new (waiting s) × (fault ≡ Some kind) → Ran Wrote mode now left left' unread old new fault (Err (errors.Write kind))
-Ran-unsent Wrote mode now s left left' unread old mid new fault kind h cut = (
-  cut.1,
-  h.0,
-  [],
-  h.1,
-  without_beyond left left' h.0 h.2,
-  inl (open_line s, h.3),
-  AppendsProperPrefix-sent old mid new (answers mode now h.1) (waiting s) h.6 cut.0,
-)
+pub IsReady-fresh : (asked : Asked) (sink : Known) (s : Stage) → s ≡ first_stage asked sink → IsReady s
+IsReady-fresh asked sink s fresh = subst IsReady (sym fresh) (IsReady-first asked sink)
 
--- the answers to some lines and to more
-due_more : (mode : Mode) (now : Option Zoned) (old mid new : Option (List ℕ)) (unsent rest : List ℕ) (lines more : List (List ℕ))
-    → AppendsBut old mid (answers mode now lines) unsent → AppendsBut mid new (unsent ++ answers mode now more) rest → AppendsBut old new (answers mode now (lines ++ more)) rest
-due_more mode now old mid new unsent rest lines more h k =
-    subst (λ due. AppendsBut old new due rest) (sym (answers-append mode now lines more)) (AppendsBut-then old mid new (answers mode now lines) unsent (answers mode now more) rest h k)
+-- what was unsent was sent
+pub HasRead-sent : {asked : Asked} {sink : Known} {s s' : Stage} {reading : Change} → HasRead asked sink s reading → SentAll s s' → HasRead asked sink s' reading
+HasRead-sent {asked = asked} {sink = sink} {s = s} {s' = s'} h k =
+    let sent : TookIn (first_stage asked sink) (record s { output = s'.output }) h.input = record {
+      lines = h.took.lines;
+      splits = h.took.splits;
+      short = h.took.short;
+      counted = h.took.counted;
+      same = h.took.same;
+      put = Puts-sent h.took.put k.sent;
+    } in
+    record {
+      input = h.input;
+      read = h.read;
+      took = subst (λ x. TookIn (first_stage asked sink) x h.input) (sym k.same) sent;
+    }
 
-due_cut : (mode : Mode) (now : Option Zoned) (old mid new : Option (List ℕ)) (unsent : List ℕ) (lines more : List (List ℕ))
-    → AppendsBut old mid (answers mode now lines) unsent → AppendsProperPrefix mid new (unsent ++ answers mode now more) → AppendsProperPrefix old new (answers mode now (lines ++ more))
-due_cut mode now old mid new unsent lines more h k =
-    subst (AppendsProperPrefix old new) (sym (answers-append mode now lines more)) (AppendsProperPrefix-then old mid new (answers mode now lines) unsent (answers mode now more) h k)
+pub IsReady-sent : {s s' : Stage} → IsReady s → SentAll s s' → IsReady s'
+IsReady-sent h k = subst IsReady (sym k.same) (record { is_line = h.is_line; is_short = h.is_short; few = h.few; none_behind = h.none_behind })
 
 -- a piece was read and taken in
-pub SoFar-taken : (mode : Mode) (now : Option Zoned) (s s' : Answering) (left left' left'' old mid new : Option (List ℕ)) (fault : Option ErrorKind) (bytes : List ℕ) (u : Unit {0})
-    → SoFar mode now s left left' old mid → Consumes left' left'' bytes → Takes mode now s s' mid new fault bytes (Ok u) → SoFar mode now s' left left'' old new
-SoFar-taken mode now s s' left left' left'' old mid new fault bytes u h read k = (
-  h.0 ++ bytes,
-  h.1 ++ k.0,
-  Consumes-append left left' left'' h.0 bytes h.2 read,
-  Splits-join h.0 bytes h.1 k.0 (open_line s) (open_line s') h.3 k.1,
-  All-append IsShort h.1 k.0 h.4 k.2,
-  omega (arith, h.5, k.3, length-append h.1 k.0),
-  due_more mode now old mid new (waiting s) (waiting s') h.1 k.0 h.6 k.4,
-)
+pub HasRead-taken : {asked : Asked} {sink : Known} {s s' : Stage} {old mid : Known} (new : Known) {bytes : List ℕ}
+    → HasRead asked sink s (change old mid) → Gives mid new bytes → TookIn s s' bytes → HasRead asked sink s' (change old new)
+HasRead-taken {s' = s'} {old = old} {mid = mid} new {bytes = bytes} h read k = record {
+  input = h.input ++ bytes;
+  read = Gives-append old mid new h.input bytes h.read read;
+  took = TakesIn-then s' bytes (Ok tt) h.took k;
+}
 
--- the bytes of a piece behind those before
-read_on : (left left' left'' : Option (List ℕ)) (input bytes front beyond : List ℕ) → Consumes left left' input → Consumes left' left'' bytes → bytes ≡ front ++ beyond → Consumes left left'' ((input ++ front) ++ beyond)
-read_on left left' left'' input bytes front beyond h k e =
-    subst (Consumes left left'') (ap (λ xs. input ++ xs) e ∙ sym (append_assoc input front beyond)) (Consumes-append left left' left'' input bytes h k)
+-- the writer refused what was unsent
+unsent : {asked : Asked} {sink : Known} {s : Stage} (s' : Stage) {reading : Change} {kind : ErrorKind}
+    → HasRead asked sink s reading → PutsProperPrefix s.output s'.output [] kind → Unsent asked reading (change sink s'.output.sink) kind
+unsent {s = s} s' {reading = reading} h k =
+    let cut = PutsProperPrefix-sent h.took.put k in
+    record {
+      front = h.input;
+      beyond = [];
+      lines = h.took.lines;
+      read = without_beyond reading.old reading.new h.input h.read;
+      due = inl (s.open_line, h.took.splits);
+      wrote = cut.taken;
+      fault = cut.fault;
+    }
 
--- the same, for a run that stops within a line
-stopped : (mode : Mode) (now : Option Zoned) (s s' : Answering) (left left' left'' old mid new : Option (List ℕ)) (bytes : List ℕ) (stop : ToolError)
-    → SoFar mode now s left left' old mid → Consumes left' left'' bytes → Stops mode now s s' mid new bytes stop
-    → (front beyond : List ℕ) × (lines : List (List ℕ)) × (rest : List ℕ) × Consumes left left'' (front ++ beyond) × Splits front lines rest
-    × All IsShort lines × StopsAt stop (length lines) rest beyond × AppendsBut old new (answers mode now lines) (waiting s')
-stopped mode now s s' left left' left'' old mid new bytes stop h read k = (
-  h.0 ++ k.0,
-  k.1,
-  h.1 ++ k.2,
-  k.3,
-  read_on left left' left'' h.0 bytes k.0 k.1 h.2 read k.4,
-  Splits-join h.0 k.0 h.1 k.2 (open_line s) k.3 h.3 k.5,
-  All-append IsShort h.1 k.2 h.4 k.6,
-  subst (λ n. StopsAt stop n k.3 k.1) (omega (arith, h.5, length-append h.1 k.2)) k.7,
-  due_more mode now old mid new (waiting s) (waiting s') h.1 k.2 h.6 k.8,
-)
+pub Ran-unsent : {asked : Asked} {sink : Known} {s : Stage} (s' : Stage) {reading : Change} (e : ToolError)
+    → HasRead asked sink s reading → SendsAll s s' (Err e) → Ran (Puts (all_sent sink) s'.output) asked reading (change sink s'.output.sink) (Err e)
+Ran-unsent s' (errors.Write kind) h k = unsent s' h k
+Ran-unsent s' (errors.Read kind) h k = absurd k
+Ran-unsent s' errors.Memory h k = absurd k
+Ran-unsent s' errors.LineTooLong h k = absurd k
+Ran-unsent s' errors.TooManyLines h k = absurd k
 
--- A piece was read, and the run stops within it.
-pub Ran-stopped : (mode : Mode) (now : Option Zoned) (s s' : Answering) (left left' left'' : Option (List ℕ)) (unread : Option ErrorKind) (old mid new : Option (List ℕ)) (fault : Option ErrorKind) (bytes : List ℕ) (stop : ToolError)
-    → SoFar mode now s left left' old mid → Consumes left' left'' bytes → Takes mode now s s' mid new fault bytes (Err stop)
-    → Ran (λ text. AppendsBut old new text (waiting s')) mode now left left'' unread old new fault (Err stop)
-Ran-stopped mode now s s' left left' left'' unread old mid new fault bytes (errors.Read kind) h read k = absurd k.7
-Ran-stopped mode now s s' left left' left'' unread old mid new fault bytes (errors.Write kind) h read k = (
-  k.0,
-  h.0 ++ k.1,
-  k.2,
-  h.1 ++ k.3,
-  read_on left left' left'' h.0 bytes k.1 k.2 h.2 read k.4,
-  inl (k.5.0, Splits-join h.0 k.1 h.1 k.3 (open_line s) k.5.0 h.3 k.5.1),
-  due_cut mode now old mid new (waiting s) h.1 k.3 h.6 k.6,
-)
-Ran-stopped mode now s s' left left' left'' unread old mid new fault bytes errors.Memory h read k = stopped mode now s s' left left' left'' old mid new bytes errors.Memory h read k
-Ran-stopped mode now s s' left left' left'' unread old mid new fault bytes errors.LineTooLong h read k = stopped mode now s s' left left' left'' old mid new bytes errors.LineTooLong h read k
-Ran-stopped mode now s s' left left' left'' unread old mid new fault bytes errors.TooManyLines h read k = stopped mode now s s' left left' left'' old mid new bytes errors.TooManyLines h read k
+-- the writer refused within what was read
+Unwritten-ran : {asked : Asked} {sink : Known} {s : Stage} {reading : Change} {input : List ℕ} {kind : ErrorKind}
+    → Gives reading.old reading.new input → Unwritten (first_stage asked sink) s input kind → Unsent asked reading (change sink s.output.sink) kind
+Unwritten-ran {reading = reading} read k = record {
+  front = k.front;
+  beyond = k.beyond;
+  lines = k.lines;
+  read = subst (Gives reading.old reading.new) k.cut read;
+  due = inl k.due;
+  wrote = k.put.taken;
+  fault = k.put.fault;
+}
+
+-- the run stops within what was read
+StoppedWithin-ran : {asked : Asked} {sink : Known} {s : Stage} {reading : Change} {input : List ℕ} {stop : ToolError}
+    → Gives reading.old reading.new input → StoppedWithin (first_stage asked sink) s input stop → Stopped (Puts (all_sent sink) s.output) asked reading stop
+StoppedWithin-ran {reading = reading} {stop = stop} read k = record {
+  front = k.front;
+  beyond = k.beyond;
+  lines = k.lines;
+  rest = k.rest;
+  read = subst (Gives reading.old reading.new) k.cut read;
+  splits = k.splits;
+  short = k.short;
+  stops = subst (λ n. StopsAt stop n k.rest k.beyond) (omega arith) k.stops;
+  wrote = k.put;
+}
+
+stopped : (asked : Asked) (sink : Known) (s : Stage) (reading : Change) (input : List ℕ) (stop : ToolError)
+    → Gives reading.old reading.new input → TakesIn (first_stage asked sink) s input (Err stop) → Ran (Puts (all_sent sink) s.output) asked reading (change sink s.output.sink) (Err stop)
+stopped asked sink s reading input (errors.Write kind) read k = Unwritten-ran read k
+stopped asked sink s reading input (errors.Read kind) read k = absurd k.stops
+stopped asked sink s reading input errors.Memory read k = StoppedWithin-ran read k
+stopped asked sink s reading input errors.LineTooLong read k = StoppedWithin-ran read k
+stopped asked sink s reading input errors.TooManyLines read k = StoppedWithin-ran read k
+
+-- a piece was read, and the run stops within it
+pub Ran-stopped : {asked : Asked} {sink : Known} {s : Stage} (s' : Stage) {old mid : Known} (new : Known) (bytes : List ℕ) (stop : ToolError)
+    → HasRead asked sink s (change old mid) → Gives mid new bytes → TakesIn s s' bytes (Err stop)
+    → Ran (Puts (all_sent sink) s'.output) asked (change old new) (change sink s'.output.sink) (Err stop)
+Ran-stopped {asked = asked} {sink = sink} s' {old = old} {mid = mid} new bytes stop h read k =
+    stopped asked sink s' (change old new) (h.input ++ bytes) stop (Gives-append old mid new h.input bytes h.read read) (TakesIn-then s' bytes (Err stop) h.took k)
 
 last_short : (rest : List ℕ) → IsShort rest → All IsShort (last_line rest)
 last_short [] h = All-nil IsShort
@@ -160,90 +169,167 @@ last_short (b ∷ bs) h = All-cons IsShort (b ∷ bs) [] h (All-nil IsShort)
 not_empty : (b : ℕ) (bs : List ℕ) → b ∷ bs ≡ [] → ⊥
 not_empty b bs h = cc
 
-room : (n : ℕ) → n ≤ 1000000 → (n ≡ 1000000 → ⊥) → n + 1 ≤ 1000000
-room n few h = omega (arith, h)
+short_of : (n most : ℕ) → n ≤ most → (n ≡ most → ⊥) → n < most
+short_of n most few h = omega (arith, h)
 
-room_for_last : (n : ℕ) (rest : List ℕ) → n ≤ 1000000 → (n ≡ 1000000 → rest ≡ []) → n + length (last_line rest) ≤ 1000000
-room_for_last n [] few none = omega arith
-room_for_last n (b ∷ bs) few none = room n few (λ e. not_empty b bs (none e))
+room_for_last : (n most : ℕ) (rest : List ℕ) → n ≤ most → (n ≡ most → rest ≡ []) → n + length (last_line rest) ≤ most
+room_for_last n most [] few none = omega arith
+room_for_last n most (b ∷ bs) few none = omega (arith, short_of n most few (λ e. not_empty b bs (none e)))
 
 -- what was read is within the limits
-within : (s : Answering) (lines : List (List ℕ)) → IsReady s → All IsShort lines → s.lines ≡ length lines → IsWithinLimits (lines ++ last_line (open_line s))
-within s lines ready short count = (
-  All-append IsShort lines (last_line (open_line s)) short (last_short (open_line s) ready.is_short),
-  omega (arith, length-append lines (last_line (open_line s)), count, room_for_last s.lines (open_line s) ready.few ready.none_behind),
-)
+within : {asked : Asked} {sink : Known} {s : Stage} {input : List ℕ} (took : TookIn (first_stage asked sink) s input) → IsReady s → IsWithinLimits (took.lines ++ last_line s.open_line)
+within {s = s} took ready =
+    let last = last_line s.open_line in (
+      All-append IsShort took.lines last took.short (last_short s.open_line ready.is_short),
+      omega (arith, length-append took.lines last, took.counted, room_for_last s.ended MOST_LINES s.open_line ready.few ready.none_behind),
+    )
 
 -- the reader refused
-pub Ran-unread : (mode : Mode) (now : Option Zoned) (s : Answering) (left left' left'' : Option (List ℕ)) (unread : Option ErrorKind) (old new : Option (List ℕ)) (fault : Option ErrorKind) (kind : ErrorKind)
-    → SoFar mode now s left left' old new → IsReady s → Keeps left' left'' → unread ≡ Some kind → Ran (λ text. AppendsBut old new text (waiting s)) mode now left left'' unread old new fault (Err (errors.Read kind))
-Ran-unread mode now s left left' left'' unread old new fault kind h ready kept e =
-    (e, h.0, h.1, open_line s, Consumes-kept left left' left'' h.0 h.2 kept, h.3, within s h.1 ready h.4 h.5, h.6)
+pub Ran-unread : {asked : Asked} {sink : Known} {s : Stage} {old mid : Known} (new : Known) {kind : ErrorKind} → HasRead asked sink s (change old mid) → IsReady s → TakesNothing mid new → new.fault ≡ Some kind
+    → Ran (Puts (all_sent sink) s.output) asked (change old new) (change sink s.output.sink) (Err (errors.Read kind))
+Ran-unread {s = s} {old = old} {mid = mid} new h ready kept fault = record {
+  input = h.input;
+  lines = h.took.lines;
+  rest = s.open_line;
+  read = Consumes-kept old.bytes mid.bytes new.bytes h.input h.read kept;
+  fault = fault;
+  splits = h.took.splits;
+  within = within h.took ready;
+  wrote = h.took.put;
+}
 
-short_of_the_limit : (n : ℕ) → n ≤ 1000000 → (n ≡ 1000000 → ⊥) → n < 1000000
-short_of_the_limit n few h = omega (arith, h)
+-- the input is at its end, and the last line was replied to
+pub Ran-ended : {asked : Asked} {sink : Known} {s : Stage} (s' : Stage) {old mid : Known} (new : Known) (r : Result ℕ ToolError)
+    → HasRead asked sink s (change old mid) → IsReady s → Gives mid new [] → HasEnded new → new.fault ≡ None → EndsAt s s' r
+    → Ran (Puts (all_sent sink) s'.output) asked (change old new) (change sink s'.output.sink) r
+Ran-ended {asked = asked} {s = s} s' {old = old} {mid = mid} new (Ok count) h ready read end no_fault k =
+    let took = h.took in
+    let last = last_line s.open_line in
+    record {
+      input = h.input;
+      lines = took.lines ++ last;
+      read = subst (Gives old new) (append-nil h.input) (Gives-append old mid new h.input [] h.read read);
+      at_end = end;
+      no_fault = no_fault;
+      all = record { ended = took.lines; rest = s.open_line; splits = took.splits; with_last = refl };
+      within = within took ready;
+      wrote = Puts-replies asked took.lines last took.put (subst (λ a. Puts s.output s'.output (replies a last)) took.same k.put);
+      count_is = omega (arith, length-append took.lines last, took.counted, k.counted);
+    }
+Ran-ended {asked = asked} {s = s} s' {old = old} {mid = mid} new (Err (errors.Write kind)) h ready read end no_fault k =
+    let took = h.took in
+    let last = last_line s.open_line in
+    let cut = PutsProperPrefix-replies asked took.lines last took.put (subst (λ a. PutsProperPrefix s.output s'.output (replies a last) kind) took.same k) in
+    record {
+      front = h.input;
+      beyond = [];
+      lines = took.lines ++ last;
+      read = Gives-append old mid new h.input [] h.read read;
+      due = inr (record { at_end = end; none_beyond = refl; all = record { ended = took.lines; rest = s.open_line; splits = took.splits; with_last = refl } });
+      wrote = cut.taken;
+      fault = cut.fault;
+    }
+Ran-ended {asked = asked} {sink = sink} {s = s} s' {old = old} {mid = mid} new (Err errors.Memory) h ready read end no_fault k =
+    let took = h.took in
+    record {
+      front = h.input;
+      beyond = [];
+      lines = took.lines;
+      rest = s.open_line;
+      read = Gives-append old mid new h.input [] h.read read;
+      splits = took.splits;
+      short = took.short;
+      stops = (subst (λ n. n < MOST_LINES) (omega (arith, took.counted)) (short_of s.ended MOST_LINES ready.few (λ e. k.1 (ready.none_behind e))), ready.is_short);
+      wrote = subst (λ x. Puts (all_sent sink) x.output (replies asked took.lines)) (sym k.0) took.put;
+    }
+Ran-ended s' new (Err (errors.Read kind)) h ready read end no_fault k = absurd k
+Ran-ended s' new (Err errors.LineTooLong) h ready read end no_fault k = absurd k
+Ran-ended s' new (Err errors.TooManyLines) h ready read end no_fault k = absurd k
 
--- The input is at its end, and the last line was answered.
-pub Ran-ended : (mode : Mode) (now : Option Zoned) (s s' : Answering) (left left' left'' : Option (List ℕ)) (unread : Option ErrorKind) (old mid new : Option (List ℕ)) (fault : Option ErrorKind) (r : Result ℕ ToolError)
-    → SoFar mode now s left left' old mid → IsReady s → Consumes left' left'' [] → IsAtEnd left'' → Ends mode now s s' mid new fault r
-    → Ran (λ text. AppendsBut old new text (waiting s')) mode now left left'' unread old new fault r
-Ran-ended mode now s s' left left' left'' unread old mid new fault (Ok n) h ready read end k = (
-  h.0,
-  h.1 ++ last_line (open_line s),
-  subst (Consumes left left'') (append-nil h.0) (Consumes-append left left' left'' h.0 [] h.2 read),
-  end,
-  (h.1, open_line s, h.3, refl),
-  within s h.1 ready h.4 h.5,
-  due_more mode now old mid new (waiting s) (waiting s') h.1 (last_line (open_line s)) h.6 k.0,
-  omega (arith, length-append h.1 (last_line (open_line s)), h.5, k.1),
-)
-Ran-ended mode now s s' left left' left'' unread old mid new fault (Err (errors.Write kind)) h ready read end k = (
-  k.0,
-  h.0,
-  [],
-  h.1 ++ last_line (open_line s),
-  Consumes-append left left' left'' h.0 [] h.2 read,
-  inr (end, refl, (h.1, open_line s, h.3, refl)),
-  due_cut mode now old mid new (waiting s) h.1 (last_line (open_line s)) h.6 k.1,
-)
-Ran-ended mode now s s' left left' left'' unread old mid new fault (Err (errors.Read kind)) h ready read end k = absurd k
-Ran-ended mode now s s' left left' left'' unread old mid new fault (Err errors.Memory) h ready read end k = (
-  h.0,
-  [],
-  h.1,
-  open_line s,
-  Consumes-append left left' left'' h.0 [] h.2 read,
-  h.3,
-  h.4,
-  (subst (λ n. n < 1000000) h.5 (short_of_the_limit s.lines ready.few (λ e. k.1 (ready.none_behind e))), ready.is_short),
-  AppendsBut-sent old mid new (answers mode now h.1) (waiting s) (waiting s') h.6 k.0,
-)
-Ran-ended mode now s s' left left' left'' unread old mid new fault (Err errors.LineTooLong) h ready read end k = absurd k
-Ran-ended mode now s s' left left' left'' unread old mid new fault (Err errors.TooManyLines) h ready read end k = absurd k
+-- a run that was replied to but for what is unsent
+abbrev pub RanBut : Known → Stage → Asked → Change → Result ℕ ToolError → Type 0
+RanBut sink s asked reading r = Ran (Puts (all_sent sink) s.output) asked reading (change sink s.output.sink) r
 
-sent : (old mid new : Option (List ℕ)) (unsent due : List ℕ) → AppendsBut old mid due unsent → Appends mid new unsent → Appends old new due
-sent old mid new unsent due h k = Appends-from_but old new due (AppendsBut-sent old mid new due unsent [] h (AppendsBut-all mid new unsent k))
+-- The writer refused in the run.
+pub Ran-unwritten : (sink : Known) (s : Stage) (asked : Asked) (reading : Change) (r : Result ℕ ToolError)
+    → is_unwritten r ≡ true → RanBut sink s asked reading r → Ran (Takes sink s.output.sink) asked reading (change sink s.output.sink) r
+Ran-unwritten sink s asked reading (Err (errors.Write kind)) is h = h
+Ran-unwritten sink s asked reading (Ok count) is h = cc
+Ran-unwritten sink s asked reading (Err (errors.Read kind)) is h = cc
+Ran-unwritten sink s asked reading (Err errors.Memory) is h = cc
+Ran-unwritten sink s asked reading (Err errors.LineTooLong) is h = cc
+Ran-unwritten sink s asked reading (Err errors.TooManyLines) is h = cc
 
--- What a run comes to once what waited is sent.
-pub Ran-sent : (mode : Mode) (now : Option Zoned) (left left' : Option (List ℕ)) (unread : Option ErrorKind) (old mid new : Option (List ℕ)) (fault fault' : Option ErrorKind) (unsent : List ℕ) (r : Result ℕ ToolError)
-    → is_unwritten r ≡ false → Ran (λ text. AppendsBut old mid text unsent) mode now left left' unread old mid fault r → Appends mid new unsent
-    → Ran (Appends old new) mode now left left' unread old new fault' r
-Ran-sent mode now left left' unread old mid new fault fault' unsent (Ok n) not h k = (h.0, h.1, h.2, h.3, h.4, h.5, sent old mid new unsent (answers mode now h.1) h.6 k, h.7)
-Ran-sent mode now left left' unread old mid new fault fault' unsent (Err (errors.Write kind)) not h k = cc
-Ran-sent mode now left left' unread old mid new fault fault' unsent (Err (errors.Read kind)) not h k = (h.0, h.1, h.2, h.3, h.4, h.5, h.6, sent old mid new unsent (answers mode now h.2) h.7 k)
-Ran-sent mode now left left' unread old mid new fault fault' unsent (Err errors.Memory) not h k = (h.0, h.1, h.2, h.3, h.4, h.5, h.6, h.7, sent old mid new unsent (answers mode now h.2) h.8 k)
-Ran-sent mode now left left' unread old mid new fault fault' unsent (Err errors.LineTooLong) not h k = (h.0, h.1, h.2, h.3, h.4, h.5, h.6, h.7, sent old mid new unsent (answers mode now h.2) h.8 k)
-Ran-sent mode now left left' unread old mid new fault fault' unsent (Err errors.TooManyLines) not h k = (h.0, h.1, h.2, h.3, h.4, h.5, h.6, h.7, sent old mid new unsent (answers mode now h.2) h.8 k)
+-- What was put, and then sent.
+put_and_sent : {sink : Known} {s s' : Stage} {text : List ℕ} → Puts (all_sent sink) s.output text → SentAll s s' → Takes sink s'.output.sink text
+put_and_sent h k = Takes-all_sent (Puts-sent h k.sent) k.none_unsent
 
--- What a run comes to where the writer refuses what waited.
-pub Ran-cut : (mode : Mode) (now : Option Zoned) (left left' : Option (List ℕ)) (unread : Option ErrorKind) (old mid new : Option (List ℕ)) (fault fault' : Option ErrorKind) (unsent : List ℕ) (r : Result ℕ ToolError) (kind : ErrorKind)
-    → is_unwritten r ≡ false → Ran (λ text. AppendsBut old mid text unsent) mode now left left' unread old mid fault r → AppendsProperPrefix mid new unsent × (fault' ≡ Some kind)
-    → Ran (Appends old new) mode now left left' unread old new fault' (Err (errors.Write kind))
-Ran-cut mode now left left' unread old mid new fault fault' unsent (Ok n) kind not h k =
-    (k.1, h.0, [], h.1, without_beyond left left' h.0 h.2, inr (h.3, refl, h.4), AppendsProperPrefix-sent old mid new (answers mode now h.1) unsent h.6 k.0)
-Ran-cut mode now left left' unread old mid new fault fault' unsent (Err (errors.Write first)) kind not h k = cc
-Ran-cut mode now left left' unread old mid new fault fault' unsent (Err (errors.Read first)) kind not h k =
-    (k.1, h.1, [], h.2, without_beyond left left' h.1 h.4, inl (h.3, h.5), AppendsProperPrefix-sent old mid new (answers mode now h.2) unsent h.7 k.0)
-Ran-cut mode now left left' unread old mid new fault fault' unsent (Err errors.Memory) kind not h k = (k.1, h.0, h.1, h.2, h.4, inl (h.3, h.5), AppendsProperPrefix-sent old mid new (answers mode now h.2) unsent h.8 k.0)
-Ran-cut mode now left left' unread old mid new fault fault' unsent (Err errors.LineTooLong) kind not h k = (k.1, h.0, h.1, h.2, h.4, inl (h.3, h.5), AppendsProperPrefix-sent old mid new (answers mode now h.2) unsent h.8 k.0)
-Ran-cut mode now left left' unread old mid new fault fault' unsent (Err errors.TooManyLines) kind not h k = (k.1, h.0, h.1, h.2, h.4, inl (h.3, h.5), AppendsProperPrefix-sent old mid new (answers mode now h.2) unsent h.8 k.0)
+Stopped-sent : {sink : Known} {s s' : Stage} {asked : Asked} {reading : Change} {stop : ToolError}
+    → Stopped (Puts (all_sent sink) s.output) asked reading stop → SentAll s s' → Stopped (Takes sink s'.output.sink) asked reading stop
+Stopped-sent h k = record {
+  front = h.front;
+  beyond = h.beyond;
+  lines = h.lines;
+  rest = h.rest;
+  read = h.read;
+  splits = h.splits;
+  short = h.short;
+  stops = h.stops;
+  wrote = put_and_sent h.wrote k;
+}
+
+-- What a run comes to once what was unsent is sent.
+pub Ran-sent : (sink : Known) (s s' : Stage) (asked : Asked) (reading : Change) (r : Result ℕ ToolError)
+    → is_unwritten r ≡ false → RanBut sink s asked reading r → SentAll s s' → Ran (Takes sink s'.output.sink) asked reading (change sink s'.output.sink) r
+Ran-sent sink s s' asked reading (Ok count) not h k = record {
+  input = h.input;
+  lines = h.lines;
+  read = h.read;
+  at_end = h.at_end;
+  no_fault = h.no_fault;
+  all = h.all;
+  within = h.within;
+  wrote = put_and_sent h.wrote k;
+  count_is = h.count_is;
+}
+Ran-sent sink s s' asked reading (Err (errors.Read kind)) not h k = record {
+  input = h.input;
+  lines = h.lines;
+  rest = h.rest;
+  read = h.read;
+  fault = h.fault;
+  splits = h.splits;
+  within = h.within;
+  wrote = put_and_sent h.wrote k;
+}
+Ran-sent sink s s' asked reading (Err (errors.Write kind)) not h k = cc
+Ran-sent sink s s' asked reading (Err errors.Memory) not h k = Stopped-sent h k
+Ran-sent sink s s' asked reading (Err errors.LineTooLong) not h k = Stopped-sent h k
+Ran-sent sink s s' asked reading (Err errors.TooManyLines) not h k = Stopped-sent h k
+
+-- The writer refused the replies to lines that were due.
+cut_off : {sink : Known} {b c : Output} {kind : ErrorKind} {asked : Asked} {reading : Change} (front beyond : List ℕ) (lines : List (List ℕ)) → Gives reading.old reading.new (front ++ beyond)
+    → WereDue reading.new front beyond lines → Puts (all_sent sink) b (replies asked lines) → PutsProperPrefix b c [] kind → Unsent asked reading (change sink c.sink) kind
+cut_off front beyond lines read due put k =
+    let cut = PutsProperPrefix-sent put k in
+    record { front = front; beyond = beyond; lines = lines; read = read; due = due; wrote = cut.taken; fault = cut.fault }
+
+cut_short : (sink : Known) (s s' : Stage) (asked : Asked) (reading : Change) (r : Result ℕ ToolError) (kind : ErrorKind)
+    → is_unwritten r ≡ false → RanBut sink s asked reading r → PutsProperPrefix s.output s'.output [] kind → Unsent asked reading (change sink s'.output.sink) kind
+cut_short sink s s' asked reading (Ok count) kind not h k =
+    cut_off h.input [] h.lines (without_beyond reading.old reading.new h.input h.read) (inr (record { at_end = h.at_end; none_beyond = refl; all = h.all })) h.wrote k
+cut_short sink s s' asked reading (Err (errors.Read first)) kind not h k =
+    cut_off h.input [] h.lines (without_beyond reading.old reading.new h.input h.read) (inl (h.rest, h.splits)) h.wrote k
+cut_short sink s s' asked reading (Err (errors.Write first)) kind not h k = cc
+cut_short sink s s' asked reading (Err errors.Memory) kind not h k = cut_off h.front h.beyond h.lines h.read (inl (h.rest, h.splits)) h.wrote k
+cut_short sink s s' asked reading (Err errors.LineTooLong) kind not h k = cut_off h.front h.beyond h.lines h.read (inl (h.rest, h.splits)) h.wrote k
+cut_short sink s s' asked reading (Err errors.TooManyLines) kind not h k = cut_off h.front h.beyond h.lines h.read (inl (h.rest, h.splits)) h.wrote k
+
+-- What a run comes to where the writer refuses what was unsent.
+pub Ran-cut : (sink : Known) (s s' : Stage) (asked : Asked) (reading : Change) (r : Result ℕ ToolError) (e : ToolError)
+    → is_unwritten r ≡ false → RanBut sink s asked reading r → SendsAll s s' (Err e) → Ran (Takes sink s'.output.sink) asked reading (change sink s'.output.sink) (Err e)
+Ran-cut sink s s' asked reading r (errors.Write kind) not h k = cut_short sink s s' asked reading r kind not h k
+Ran-cut sink s s' asked reading r (errors.Read kind) not h k = absurd k
+Ran-cut sink s s' asked reading r errors.Memory not h k = absurd k
+Ran-cut sink s s' asked reading r errors.LineTooLong not h k = absurd k
+Ran-cut sink s s' asked reading r errors.TooManyLines not h k = absurd k

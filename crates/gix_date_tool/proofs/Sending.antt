@@ -1,57 +1,98 @@
--- Texts that are written in pieces.
-use Rattle.std.proofs.Common.{ℕ, ◌+◌, List, [], ◌++◌, length, take, refl, sym, ap, ◌∙◌, subst, append_assoc, append-nil, length-append, arith, Option, None, Some}
+-- Texts that are sent in pieces.
+use Rattle.std.proofs.Common.{◌≡◌, ℕ, ◌+◌, ◌<◌, List, [], ◌∷◌, ◌++◌, length, get_or, take, drop, sym, ap, ◌∙◌, subst, append_assoc, append-nil, length-append, arith, Bor, Option, None, Some, Result, Ok, Err}
 use Rattle.std.proofs.Math.Seq.{take-append-add}
-use Rattle.std.proofs.lemmas.List.{take-append-le}
+use Rattle.std.proofs.lemmas.List.{take_more, take-append-le, take-append-drop}
+use Rattle.std.proofs.lemmas.List.Concat.{flat_map-append}
+use Rattle.std.specs.Prelude.{OnOk, OnErr, IfErr}
 use Rattle.std.specs.Io.KnownBytes.{Appends}
-use Rattle.gix_date.specs.Device.{AppendsProperPrefix}
+use Rattle.std.specs.declared.io.ErrorKind.{ErrorKind}
+use Rattle.gix_date.specs.Known.{Known, Takes, TakesProperPrefix}
 use Rattle.gix_date.proofs.KnownBytes.{Appends-append}
-use Rattle.gix_date_tool.specs.Outbox.{AppendsBut}
+use Rattle.gix_date_tool.specs.Outbox.{Output, joined, all_sent, Puts, PutsProperPrefix, Sends}
 
 -- nothing was appended
-pub Appends-nil : (known : Option (List ℕ)) → Appends known known []
+Appends-nil : (known : Option (List ℕ)) → Appends known known []
 Appends-nil None = tt
 Appends-nil (Some xs) = sym (append-nil xs)
 
 -- a proper prefix is one of a longer text too
-pub AppendsProperPrefix-more : (old new : Option (List ℕ)) (xs ys : List ℕ) → AppendsProperPrefix old new xs → AppendsProperPrefix old new (xs ++ ys)
-AppendsProperPrefix-more old new xs ys h =
+TakesProperPrefix-more : (old new : Known) (xs ys : List ℕ) → TakesProperPrefix old new xs → TakesProperPrefix old new (xs ++ ys)
+TakesProperPrefix-more old new xs ys h =
     let within = h.1 in
-    (h.0, omega (arith, length-append xs ys), subst (Appends old new) (sym (take-append-le h.0 xs ys (omega arith))) h.2)
+    (h.0, omega (arith, length-append xs ys), subst (Takes old new) (sym (take-append-le h.0 xs ys (omega arith))) h.2)
 
 -- a text, and then a proper prefix of the next
-pub AppendsProperPrefix-behind : (old mid new : Option (List ℕ)) (xs ys : List ℕ) → Appends old mid xs → AppendsProperPrefix mid new ys → AppendsProperPrefix old new (xs ++ ys)
-AppendsProperPrefix-behind old mid new xs ys h k =
+TakesProperPrefix-behind : (old mid new : Known) (xs ys : List ℕ) → Takes old mid xs → TakesProperPrefix mid new ys → TakesProperPrefix old new (xs ++ ys)
+TakesProperPrefix-behind old mid new xs ys h k =
     let within = k.1 in
-    (length xs + k.0, omega (arith, length-append xs ys), subst (Appends old new) (sym (take-append-add xs ys k.0)) (Appends-append old mid new xs (take k.0 ys) h k.2))
+    (length xs + k.0, omega (arith, length-append xs ys), subst (Takes old new) (sym (take-append-add xs ys k.0)) (Appends-append old.bytes mid.bytes new.bytes xs (take k.0 ys) h k.2))
 
--- all of a text was appended
-pub AppendsBut-all : (old new : Option (List ℕ)) (due : List ℕ) → Appends old new due → AppendsBut old new due []
-AppendsBut-all old new due h = (due, sym (append-nil due), h)
+-- what was unsent with a text that was put behind it, and a text behind both
+put_behind : (a b : Output) (x y : List ℕ) (h : Puts a b x) → a.unsent ++ (x ++ y) ≡ h.sent ++ (b.unsent ++ y)
+put_behind a b x y h = sym (append_assoc a.unsent x y) ∙ ap (λ xs. xs ++ y) h.cut ∙ append_assoc h.sent b.unsent y
 
-pub Appends-from_but : (old new : Option (List ℕ)) (due : List ℕ) → AppendsBut old new due [] → Appends old new due
-Appends-from_but old new due h = subst (Appends old new) (sym (h.1 ∙ append-nil h.0)) h.2
+-- nothing was put, and nothing was sent
+pub Puts-nil : (a : Output) → Puts a a []
+Puts-nil a = record { sent = []; cut = append-nil a.unsent; taken = Appends-nil a.sink.bytes }
 
--- nothing was written, and more is due
-pub AppendsBut-none : (known : Option (List ℕ)) (due : List ℕ) → AppendsBut known known due due
-AppendsBut-none known due = ([], refl, Appends-nil known)
+-- one text, and then the next
+pub Puts-then : {a b c : Output} {x y : List ℕ} → Puts a b x → Puts b c y → Puts a c (x ++ y)
+Puts-then {a = a} {b = b} {c = c} {x = x} {y = y} h k = record {
+  sent = h.sent ++ k.sent;
+  cut = put_behind a b x y h ∙ ap (λ xs. h.sent ++ xs) k.cut ∙ sym (append_assoc h.sent k.sent c.unsent);
+  taken = Appends-append a.sink.bytes b.sink.bytes c.sink.bytes h.sent k.sent h.taken k.taken;
+}
 
--- what was unsent and what came behind it
-pub AppendsBut-then : (old mid new : Option (List ℕ)) (due unsent more rest : List ℕ) → AppendsBut old mid due unsent → AppendsBut mid new (unsent ++ more) rest → AppendsBut old new (due ++ more) rest
-AppendsBut-then old mid new due unsent more rest h k = (
-  h.0 ++ k.0,
-  ap (λ xs. xs ++ more) h.1 ∙ append_assoc h.0 unsent more ∙ ap (λ xs. h.0 ++ xs) k.1 ∙ sym (append_assoc h.0 k.0 rest),
-  Appends-append old mid new h.0 k.0 h.2 k.2,
-)
+-- one text, and what was unsent of it
+pub Puts-sent : {a b c : Output} {x : List ℕ} → Puts a b x → Puts b c [] → Puts a c x
+Puts-sent {a = a} {c = c} {x = x} h k = subst (Puts a c) (append-nil x) (Puts-then h k)
 
--- the same, where the writer refused
-pub AppendsProperPrefix-then : (old mid new : Option (List ℕ)) (due unsent more : List ℕ) → AppendsBut old mid due unsent → AppendsProperPrefix mid new (unsent ++ more) → AppendsProperPrefix old new (due ++ more)
-AppendsProperPrefix-then old mid new due unsent more h k =
-    subst (AppendsProperPrefix old new) (sym (ap (λ xs. xs ++ more) h.1 ∙ append_assoc h.0 unsent more)) (AppendsProperPrefix-behind old mid new h.0 (unsent ++ more) h.2 k)
+-- all that was put for a sink was sent
+pub Takes-all_sent : {sink : Known} {a : Output} {text : List ℕ} → Puts (all_sent sink) a text → a.unsent ≡ [] → Takes sink a.sink text
+Takes-all_sent {sink = sink} {a = a} h none = subst (Takes sink a.sink) (sym (h.cut ∙ ap (λ xs. h.sent ++ xs) none ∙ append-nil h.sent)) h.taken
 
--- what was unsent was sent, but for a rest
-pub AppendsBut-sent : (old mid new : Option (List ℕ)) (due unsent rest : List ℕ) → AppendsBut old mid due unsent → AppendsBut mid new unsent rest → AppendsBut old new due rest
-AppendsBut-sent old mid new due unsent rest h k =
-    (h.0 ++ k.0, h.1 ∙ ap (λ xs. h.0 ++ xs) k.1 ∙ sym (append_assoc h.0 k.0 rest), Appends-append old mid new h.0 k.0 h.2 k.2)
+-- one text, and then a refusal
+pub PutsProperPrefix-then : {a b c : Output} {x y : List ℕ} {kind : ErrorKind} → Puts a b x → PutsProperPrefix b c y kind → PutsProperPrefix a c (x ++ y) kind
+PutsProperPrefix-then {a = a} {b = b} {c = c} {x = x} {y = y} h k = record {
+  taken = subst (TakesProperPrefix a.sink c.sink) (sym (put_behind a b x y h)) (TakesProperPrefix-behind a.sink b.sink c.sink h.sent (b.unsent ++ y) h.taken k.taken);
+  fault = k.fault;
+}
 
-pub AppendsProperPrefix-sent : (old mid new : Option (List ℕ)) (due unsent : List ℕ) → AppendsBut old mid due unsent → AppendsProperPrefix mid new unsent → AppendsProperPrefix old new due
-AppendsProperPrefix-sent old mid new due unsent h k = subst (AppendsProperPrefix old new) (sym h.1) (AppendsProperPrefix-behind old mid new h.0 unsent h.2 k)
+-- one text, and then a refusal of what was unsent of it
+pub PutsProperPrefix-sent : {a b c : Output} {x : List ℕ} {kind : ErrorKind} → Puts a b x → PutsProperPrefix b c [] kind → PutsProperPrefix a c x kind
+PutsProperPrefix-sent {a = a} {c = c} {x = x} {kind = kind} h k = subst (λ text. PutsProperPrefix a c text kind) (append-nil x) (PutsProperPrefix-then h k)
+
+-- a refusal, whatever text was to follow
+pub PutsProperPrefix-more : {a b : Output} {x : List ℕ} {kind : ErrorKind} (y : List ℕ) → PutsProperPrefix a b x kind → PutsProperPrefix a b (x ++ y) kind
+PutsProperPrefix-more {a = a} {b = b} {x = x} y h = record {
+  taken = subst (TakesProperPrefix a.sink b.sink) (append_assoc a.unsent x y) (TakesProperPrefix-more a.sink b.sink (a.unsent ++ x) y h.taken);
+  fault = h.fault;
+}
+
+-- the pieces up to one and that one
+joined-next : (pieces : List (Bor (List ℕ))) (i : ℕ) (d : Bor (List ℕ)) → i < length pieces → joined (take (i + 1) pieces) ≡ joined (take i pieces) ++ (get_or pieces i d).now
+joined-next pieces i d h =
+    let piece = get_or pieces i d in
+    ap joined (take_more pieces i d h) ∙ flat_map-append (λ p. p.now) (take i pieces) (piece ∷ []) ∙ ap (λ xs. joined (take i pieces) ++ xs) (append-nil piece.now)
+
+-- the next piece of a text
+pub Puts-piece : {a b c : Output} (pieces : List (Bor (List ℕ))) (i : ℕ) (d : Bor (List ℕ))
+    → i < length pieces → Puts a b (joined (take i pieces)) → Puts b c (get_or pieces i d).now → Puts a c (joined (take (i + 1) pieces))
+Puts-piece {a = a} {c = c} pieces i d within h k = subst (Puts a c) (sym (joined-next pieces i d within)) (Puts-then h k)
+
+-- a refusal of the next piece is one of the text
+pub PutsProperPrefix-piece : {a b c : Output} (pieces : List (Bor (List ℕ))) (i : ℕ) (d : Bor (List ℕ)) {kind : ErrorKind}
+    → i < length pieces → Puts a b (joined (take i pieces)) → PutsProperPrefix b c (get_or pieces i d).now kind → PutsProperPrefix a c (joined pieces) kind
+PutsProperPrefix-piece {a = a} {c = c} pieces i d {kind = kind} within h k =
+    let behind = drop (i + 1) pieces in
+    let whole : joined (take (i + 1) pieces) ++ joined behind ≡ joined pieces = sym (flat_map-append (λ p. p.now) (take (i + 1) pieces) behind) ∙ ap joined (take-append-drop (i + 1) pieces) in
+    let front = subst (λ text. PutsProperPrefix a c text kind) (sym (joined-next pieces i d within)) (PutsProperPrefix-then h k) in
+    subst (λ text. PutsProperPrefix a c text kind) whole (PutsProperPrefix-more (joined behind) front)
+
+-- What is sent at once where nothing waits.
+pub Sends-at_once : {a b : Output} (sink : Known) (text : List ℕ) (r : Result (Unit {0}) ErrorKind) → Puts a b [] → b.unsent ≡ []
+    → OnOk r (Takes b.sink sink text) → OnErr r (TakesProperPrefix b.sink sink text) → IfErr r (λ kind. sink.fault ≡ Some kind) → Sends a (record b { sink = sink }) text r
+Sends-at_once {b = b} sink text (Ok u) h empty ok cut fault =
+    Puts-then h (record { sent = text; cut = ap (λ xs. xs ++ text) empty ∙ sym (append-nil text) ∙ ap (λ xs. text ++ xs) (sym empty); taken = ok })
+Sends-at_once {b = b} sink text (Err kind) h empty ok cut fault =
+    PutsProperPrefix-then h (record { taken = subst (TakesProperPrefix b.sink sink) (ap (λ xs. xs ++ text) (sym empty)) cut; fault = fault })

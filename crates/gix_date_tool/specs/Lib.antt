@@ -1,6 +1,6 @@
 pub mod Lines
-pub mod Answers
+pub mod Replies
 pub mod Outbox
+pub mod Progress
 pub mod Run
 pub mod Command
-pub mod Answering

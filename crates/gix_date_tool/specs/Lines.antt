@@ -1,20 +1,28 @@
 -- The lines of an input.
 use Rattle.std.specs.Prelude.{◌≡◌, ◌≢◌, ℕ, ◌≤◌, List, [], ◌∷◌, ◌++◌, length, All}
 use Rattle.std.specs.List.{flat_map}
+use Rattle.gix_date.specs.Characters.{newline}
+use Rattle.gix_date_tool.specs.declared.lines.TheConstants.{LONGEST_LINE, MOST_LINES}
 
 -- no newline
 abbrev pub IsLine : List ℕ → Type 0
-IsLine line = All (λ b. b ≢ 10) line
+IsLine line = All (λ b. b ≢ newline) line
+
+-- a line and its newline
+abbrev pub with_newline : List ℕ → List ℕ
+with_newline line = line ++ newline ∷ []
 
 -- the input is these lines, with a newline behind each, and then a rest with none
 pub record Splits (input : List ℕ) (lines : List (List ℕ)) (rest : List ℕ) : Type 0 where
-  pub whole : input ≡ flat_map (λ line. line ++ 10 ∷ []) lines ++ rest
+  pub whole : input ≡ flat_map with_newline lines ++ rest
   pub each : All IsLine lines
-  pub open_line : IsLine rest
+  pub rest_is_line : IsLine rest
 
 -- there is one way to do so
 abbrev pub SplitsAreUnique : Type 0
-SplitsAreUnique = (input : List ℕ) (lines others : List (List ℕ)) (rest other : List ℕ) → Splits input lines rest → Splits input others other → (lines ≡ others) × (rest ≡ other)
+SplitsAreUnique =
+    (input : List ℕ) (lines others : List (List ℕ)) (rest other : List ℕ)
+    → Splits input lines rest → Splits input others other → (lines ≡ others) × (rest ≡ other)
 
 -- a rest is a last line where it has a byte
 abbrev pub last_line : List ℕ → List (List ℕ)
@@ -22,17 +30,20 @@ last_line [] = []
 last_line (b ∷ bs) = (b ∷ bs) ∷ []
 
 -- these are the lines that end in the input
-abbrev pub HasEnded : List ℕ → List (List ℕ) → Type 0
-HasEnded input lines = (rest : List ℕ) × Splits input lines rest
+abbrev pub HasEndedLines : List ℕ → List (List ℕ) → Type 0
+HasEndedLines input lines = (rest : List ℕ) × Splits input lines rest
 
 -- these are all the lines of the input
-abbrev pub HasLines : List ℕ → List (List ℕ) → Type 0
-HasLines input lines = (ended : List (List ℕ)) × (rest : List ℕ) × Splits input ended rest × (lines ≡ ended ++ last_line rest)
+pub record HasLines (input : List ℕ) (lines : List (List ℕ)) : Type 0 where
+  pub ended : List (List ℕ)
+  pub rest : List ℕ
+  pub splits : Splits input ended rest
+  pub with_last : lines ≡ ended ++ last_line rest
 
 -- a line that is not too long
 abbrev pub IsShort : List ℕ → Type 0
-IsShort line = length line ≤ 65536
+IsShort line = length line ≤ LONGEST_LINE
 
 -- no line is too long, and there are not too many
 abbrev pub IsWithinLimits : List (List ℕ) → Type 0
-IsWithinLimits lines = All IsShort lines × (length lines ≤ 1000000)
+IsWithinLimits lines = All IsShort lines × (length lines ≤ MOST_LINES)

@@ -1,14 +1,40 @@
--- Texts that are written in pieces.
-use Rattle.std.specs.Prelude.{◌≡◌, ℕ, List, ◌++◌, Option, Some, Result, Ok, Err}
-use Rattle.std.specs.Io.KnownBytes.{Appends}
+-- Texts that are sent in pieces.
+use Rattle.std.specs.Prelude.{◌≡◌, ℕ, List, [], ◌++◌, Some, Result, Ok, Err}
+use Rattle.std.specs.Borrow.{Bor}
+use Rattle.std.specs.List.{flat_map}
 use Rattle.std.specs.declared.io.ErrorKind.{ErrorKind}
-use Rattle.gix_date.specs.Device.{AppendsProperPrefix}
+use Rattle.gix_date.specs.Known.{Known, Takes, TakesProperPrefix}
+use Rattle.gix_date_tool.specs.declared.outbox.Outbox.{Outbox}
 
--- of what was due, all was appended but an end that is still unsent
-abbrev pub AppendsBut : Option (List ℕ) → Option (List ℕ) → List ℕ → List ℕ → Type 0
-AppendsBut old new due unsent = (sent : List ℕ) × (due ≡ sent ++ unsent) × Appends old new sent
+-- what is known of a sink, and what waits to be sent to it
+pub record Output : Type 0 where
+  pub sink : Known
+  pub unsent : List ℕ
 
--- What sending came to: all that was due but the unsent was appended, or the writer refused, and a proper prefix was.
-abbrev pub Sends : Option (List ℕ) → Option (List ℕ) → Option ErrorKind → List ℕ → List ℕ → {T : Type 0} → Result T ErrorKind → Type 0
-Sends old new fault due unsent (Ok _) = AppendsBut old new due unsent
-Sends old new fault due unsent (Err kind) = AppendsProperPrefix old new due × (fault ≡ Some kind)
+-- an outbox and its sink
+abbrev pub output : Outbox → Known → Output
+output outbox sink = record { sink = sink; unsent = outbox.unsent.bytes }
+
+-- the pieces of a text one behind the other
+abbrev pub joined : List (Bor (List ℕ)) → List ℕ
+joined pieces = flat_map (λ piece. piece.now) pieces
+
+-- a sink for which nothing waits
+abbrev pub all_sent : Known → Output
+all_sent sink = record { sink = sink; unsent = [] }
+
+-- The text was put behind what was unsent, and of both the sink took all but an end, which is unsent now.
+pub record Puts (old new : Output) (text : List ℕ) : Type 0 where
+  pub sent : List ℕ
+  pub cut : old.unsent ++ text ≡ sent ++ new.unsent
+  pub taken : Takes old.sink new.sink sent
+
+-- The sink refused, and of what was unsent and the text it took a proper prefix.
+pub record PutsProperPrefix (old new : Output) (text : List ℕ) (kind : ErrorKind) : Type 0 where
+  pub taken : TakesProperPrefix old.sink new.sink (old.unsent ++ text)
+  pub fault : new.sink.fault ≡ Some kind
+
+-- what sending a text came to
+abbrev pub Sends : Output → Output → List ℕ → Result Unit ErrorKind → Type 0
+Sends old new text (Ok _) = Puts old new text
+Sends old new text (Err kind) = PutsProperPrefix old new text kind

@@ -1,51 +1,98 @@
 -- What a run comes to.
-use Rattle.std.specs.Prelude.{◌≡◌, ◌⊎◌, Bool, true, false, ℕ, ◌<◌, List, [], ◌++◌, length, All, Option, Some, None, Result, Ok, Err}
-use Rattle.std.specs.Io.KnownBytes.{Consumes, IsAtEnd}
+use Rattle.std.specs.Prelude.{◌≡◌, ◌⊎◌, Bool, true, false, ℕ, ◌+◌, ◌<◌, List, [], ◌++◌, length, All, Option, Some, None, Result, Ok, Err}
 use Rattle.std.specs.declared.io.ErrorKind.{ErrorKind}
-use Rattle.gix_date.specs.Device.{AppendsProperPrefix}
+use Rattle.gix_date.specs.Known.{Known, Takes, TakesProperPrefix, Gives, HasEnded}
 use Rattle.gix_date.specs.Zoned.{IsMoment}
 use Rattle.gix_date.specs.declared.time.Time.{Time}
 use Rattle.jiff.specs.declared.zoned.Zoned.{Zoned}
 use Rattle.gix_date_tool.specs.declared.arguments.Mode.{Mode}
 use Rattle.gix_date_tool.specs.declared.error.ToolError.{ToolError}
 use Rattle.gix_date_tool.specs.declared.error.ToolError.TheVariants as errors
-use Rattle.gix_date_tool.specs.Lines.{Splits, last_line, HasEnded, HasLines, IsShort, IsWithinLimits}
-use Rattle.gix_date_tool.specs.Answers.{answers}
+use Rattle.gix_date_tool.specs.declared.lines.TheConstants.{LONGEST_LINE, MOST_LINES}
+use Rattle.gix_date_tool.specs.declared.replies.Asked.{Asked}
+use Rattle.gix_date_tool.specs.Lines.{Splits, last_line, HasEndedLines, HasLines, IsShort, IsWithinLimits}
+use Rattle.gix_date_tool.specs.Replies.{replies}
 
--- Where a run stops: behind n lines, with a rest read of the next, and bytes beyond it. A line is too long where 65537
--- bytes of it were read, and it is among the first 1000000. There are too many lines where a byte stands behind line
--- 1000000. Memory may be wanting anywhere within the limits.
+-- what is known of a reader or a writer before a call and after it
+pub record Change : Type 0 where
+  pub old : Known
+  pub new : Known
+
+abbrev pub change : Known → Known → Change
+change old new = record { old = old; new = new }
+
+-- Where a run stops: behind n lines, with a rest read of the next, and bytes beyond it. A line is too long where one byte
+-- more of it was read than a line may have, and it is among the lines that an input may have. There are too many lines
+-- where a byte stands behind the last of these. Memory may be wanting anywhere within the limits.
 abbrev pub StopsAt : ToolError → ℕ → List ℕ → List ℕ → Type 0
-StopsAt errors.LineTooLong n rest beyond = (n < 1000000) × (length rest ≡ 65537)
-StopsAt errors.TooManyLines n rest beyond = (n ≡ 1000000) × (rest ≡ []) × (0 < length beyond)
-StopsAt errors.Memory n rest beyond = (n < 1000000) × IsShort rest
+StopsAt errors.LineTooLong n rest beyond = (n < MOST_LINES) × (length rest ≡ LONGEST_LINE + 1)
+StopsAt errors.TooManyLines n rest beyond = (n ≡ MOST_LINES) × (rest ≡ []) × (0 < length beyond)
+StopsAt errors.Memory n rest beyond = (n < MOST_LINES) × IsShort rest
 StopsAt (errors.Read kind) n rest beyond = ⊥
 StopsAt (errors.Write kind) n rest beyond = ⊥
 
--- The lines whose answers were due when the writer refused: those that had ended in a front of what was read, or at the
--- end of the input all.
-abbrev pub WereDue : Option (List ℕ) → List ℕ → List ℕ → List (List ℕ) → Type 0
-WereDue left front beyond lines = HasEnded front lines ⊎ (IsAtEnd left × (beyond ≡ []) × HasLines front lines)
+-- The whole input was read with no fault, no limit applies to it, and exactly the replies to its lines were written.
+pub record Succeeded (Wrote : List ℕ → Type 0) (asked : Asked) (reading : Change) (count : ℕ) : Type 0 where
+  pub input : List ℕ
+  pub lines : List (List ℕ)
+  pub read : Gives reading.old reading.new input
+  pub at_end : HasEnded reading.new
+  pub no_fault : reading.new.fault ≡ None
+  pub all : HasLines input lines
+  pub within : IsWithinLimits lines
+  pub wrote : Wrote (replies asked lines)
+  pub count_is : count ≡ length lines
 
--- What a run comes to. left and left' are the reader's known bytes before and after, old and new the writer's, and unread
--- and unwritten the faults of the reader and the writer as the run ends. Wrote says of a text that exactly it was written.
-abbrev pub Ran : (List ℕ → Type 0) → Mode → Option Zoned → Option (List ℕ) → Option (List ℕ) → Option ErrorKind → Option (List ℕ) → Option (List ℕ) → Option ErrorKind → Result ℕ ToolError → Type 0
--- The whole input was read, no limit applies to it, and exactly the answers to its lines were written.
-Ran Wrote mode now left left' unread old new unwritten (Ok n) =
-    (input : List ℕ) × (lines : List (List ℕ)) × Consumes left left' input × IsAtEnd left' × HasLines input lines × IsWithinLimits lines
-    × Wrote (answers mode now lines) × (n ≡ length lines)
--- The reader refused, and the answers to the lines that had ended were written.
-Ran Wrote mode now left left' unread old new unwritten (Err (errors.Read kind)) =
-    (unread ≡ Some kind) × (input : List ℕ) × (lines : List (List ℕ)) × (rest : List ℕ) × Consumes left left' input × Splits input lines rest
-    × IsWithinLimits (lines ++ last_line rest) × Wrote (answers mode now lines)
--- The writer refused, and a proper prefix of the answers that were due was written.
-Ran Wrote mode now left left' unread old new unwritten (Err (errors.Write kind)) =
-    (unwritten ≡ Some kind) × (front beyond : List ℕ) × (lines : List (List ℕ)) × Consumes left left' (front ++ beyond) × WereDue left' front beyond lines
-    × AppendsProperPrefix old new (answers mode now lines)
--- The run stopped within a line, and the answers to the lines before it were written.
-Ran Wrote mode now left left' unread old new unwritten (Err stop) =
-    (front beyond : List ℕ) × (lines : List (List ℕ)) × (rest : List ℕ) × Consumes left left' (front ++ beyond) × Splits front lines rest
-    × All IsShort lines × StopsAt stop (length lines) rest beyond × Wrote (answers mode now lines)
+-- The reader refused, and the replies to the lines that had ended were written.
+pub record Unread (Wrote : List ℕ → Type 0) (asked : Asked) (reading : Change) (kind : ErrorKind) : Type 0 where
+  pub input : List ℕ
+  pub lines : List (List ℕ)
+  pub rest : List ℕ
+  pub read : Gives reading.old reading.new input
+  pub fault : reading.new.fault ≡ Some kind
+  pub splits : Splits input lines rest
+  pub within : IsWithinLimits (lines ++ last_line rest)
+  pub wrote : Wrote (replies asked lines)
+
+-- these are all the lines of the input, which was read to its end
+pub record EndsInput (reader : Known) (front beyond : List ℕ) (lines : List (List ℕ)) : Type 0 where
+  pub at_end : HasEnded reader
+  pub none_beyond : beyond ≡ []
+  pub all : HasLines front lines
+
+-- The lines whose replies were due when the writer refused: those that had ended in a front of what was read, or at the
+-- end of the input all.
+abbrev pub WereDue : Known → List ℕ → List ℕ → List (List ℕ) → Type 0
+WereDue reader front beyond lines = HasEndedLines front lines ⊎ EndsInput reader front beyond lines
+
+-- The writer refused, and a proper prefix of the replies that were due was written.
+pub record Unsent (asked : Asked) (reading writing : Change) (kind : ErrorKind) : Type 0 where
+  pub front : List ℕ
+  pub beyond : List ℕ
+  pub lines : List (List ℕ)
+  pub read : Gives reading.old reading.new (front ++ beyond)
+  pub due : WereDue reading.new front beyond lines
+  pub wrote : TakesProperPrefix writing.old writing.new (replies asked lines)
+  pub fault : writing.new.fault ≡ Some kind
+
+-- The run stopped within a line, and the replies to the lines before it were written.
+pub record Stopped (Wrote : List ℕ → Type 0) (asked : Asked) (reading : Change) (stop : ToolError) : Type 0 where
+  pub front : List ℕ
+  pub beyond : List ℕ
+  pub lines : List (List ℕ)
+  pub rest : List ℕ
+  pub read : Gives reading.old reading.new (front ++ beyond)
+  pub splits : Splits front lines rest
+  pub short : All IsShort lines
+  pub stops : StopsAt stop (length lines) rest beyond
+  pub wrote : Wrote (replies asked lines)
+
+-- What a run comes to that was asked this. Wrote says of a text that exactly it was written.
+abbrev pub Ran : (List ℕ → Type 0) → Asked → Change → Change → Result ℕ ToolError → Type 0
+Ran Wrote asked reading writing (Ok count) = Succeeded Wrote asked reading count
+Ran Wrote asked reading writing (Err (errors.Read kind)) = Unread Wrote asked reading kind
+Ran Wrote asked reading writing (Err (errors.Write kind)) = Unsent asked reading writing kind
+Ran Wrote asked reading writing (Err stop) = Stopped Wrote asked reading stop
 
 -- the writer refused
 abbrev pub is_unwritten : Result ℕ ToolError → Bool
@@ -59,3 +106,9 @@ IsMomentOf None None = Unit {0}
 IsMomentOf None (Some z) = ⊥
 IsMomentOf (Some t) None = ⊥
 IsMomentOf (Some t) (Some z) = IsMoment t z
+
+-- What a run comes to that is given this mode and a moment at this time.
+abbrev pub Runs : Mode → Option Time → Change → Change → Result ℕ ToolError → Type 0
+Runs mode now reading writing result =
+    (moment : Option Zoned) × IsMomentOf now moment
+    × Ran (Takes writing.old writing.new) (record { mode = mode; now = moment }) reading writing result

@@ -1,51 +1,66 @@
-//! Answers that wait to be written.
-ghost use Rattle.std.specs.Prelude.{◌≡◌, ◌++◌, [], OnOk};
-ghost use Rattle.gix_date_tool.specs.Outbox.{Sends};
-
+//! Texts that wait to be sent.
 use arrayvec::ArrayString;
 use gix_date::device::{Sink, put_all};
 use std::io;
 
-/// How many bytes wait at most, so that a writer is called once for many lines.
+/// How many bytes wait at most, so that a sink is called once for many lines.
 const CAPACITY: usize = 16384;
 
-/// A text that waits to be written.
+/// A text that waits to be sent.
 #[derive(Drop)]
 pub(crate) struct Outbox {
-    text: ArrayString<CAPACITY>,
+    unsent: ArrayString<CAPACITY>,
 }
 
 impl Outbox {
+    ghost use Rattle.std.specs.Prelude.{◌≡◌, [], OnOk};
+    ghost use Rattle.gix_date_tool.specs.Outbox.{Sends, output, joined};
+
     pub(crate) fn new() -> Outbox
-        ensures { result.text.bytes ≡ [] }
+        ensures { result.unsent.bytes ≡ [] }
     {
         Outbox {
-            text: ArrayString::new(),
+            unsent: ArrayString::new(),
         }
     }
 
-    /// Writes what waits.
+    /// Sends what waits.
     pub(crate) fn send<W: Sink>(&mut self, out: &mut W) -> Result<(), io::ErrorKind>
-        ensures sends { Sends (W.taken out.old) (W.taken out.new) (W.fault out.new) self.old.text.bytes self.new.text.bytes result }
-        ensures empty { OnOk result (self.new.text.bytes ≡ []) }
+        ensures sends { Sends (output self.old (W.known out.old)) (output self.new (W.known out.new)) [] result }
+        ensures all { OnOk result (self.new.unsent.bytes ≡ []) }
     {
-        put_all(out, self.text.as_str().as_bytes())?;
-        self.text.clear();
+        put_all(out, self.unsent.as_str().as_bytes())?;
+        self.unsent.clear();
         Ok(())
     }
 
-    /// Takes a text in behind what waits, and writes that first where there is no room. A text that can never have room
-    /// is written at once.
-    pub(crate) fn push<W: Sink>(&mut self, text: &str, out: &mut W) -> Result<(), io::ErrorKind>
-        ensures { Sends (W.taken out.old) (W.taken out.new) (W.fault out.new) (self.old.text.bytes ++ text.now) self.new.text.bytes result }
+    /// Puts the pieces of a text behind what waits.
+    pub(crate) fn push<W: Sink>(
+        &mut self,
+        pieces: &[&str],
+        out: &mut W,
+    ) -> Result<(), io::ErrorKind>
+        ensures { Sends (output self.old (W.known out.old)) (output self.new (W.known out.new))
+            (joined pieces.now) result }
     {
-        if text.len() > self.text.remaining_capacity() {
+        for piece in pieces {
+            self.push_piece(piece, out)?;
+        }
+        Ok(())
+    }
+
+    /// Puts a text behind what waits, and sends that first where there is no room. A text that can never have room is
+    /// sent at once.
+    fn push_piece<W: Sink>(&mut self, piece: &str, out: &mut W) -> Result<(), io::ErrorKind>
+        ensures { Sends (output self.old (W.known out.old)) (output self.new (W.known out.new)) piece.now result }
+    {
+        if piece.len() > self.unsent.remaining_capacity() {
             self.send(out)?;
-            if text.len() > CAPACITY {
-                return put_all(out, text.as_bytes());
+            if piece.len() > CAPACITY {
+                return put_all(out, piece.as_bytes());
             }
         }
-        self.text.push_str(text);
+        self.unsent.push_str(piece);
         Ok(())
     }
 }

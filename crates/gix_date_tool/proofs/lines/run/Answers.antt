@@ -1,27 +1,39 @@
-use Rattle.std.proofs.Common.{sym, ◌∙◌, subst}
-use Rattle.gix_date_tool.specs.Answering.{waiting}
-use Rattle.gix_date_tool.proofs.Reading.{Ran-cut, Ran-sent}
-use Rattle.gix_date_tool.proofs.Sending.{Appends-from_but}
-use Rattle.gix_date_tool.specs.Outbox.{AppendsBut}
+use Rattle.std.proofs.Common.{rules, sym, ◌∙◌, subst}
+use Rattle.gix_date_tool.specs.declared.replies.Asked.{Asked}
+use Rattle.gix_date_tool.specs.Run.{change}
+use Rattle.gix_date_tool.specs.Progress.{stage}
+use Rattle.gix_date_tool.proofs.Reading.{RanBut, Ran-unwritten, Ran-sent, Ran-cut}
 use Rattle.gix_date_tool.proofs.lines.run.Goals as goal
 
-pub returns : goal.returns
-returns g c = (
-  c.moment_of.result,
-  c.moment_of.ensures,
-  Ran-cut c.args.mode c.moment_of.result (g.R.Source.left c.args.reader.now) (g.R.Source.left c.answer_all-outcome.new.reader) (g.R.Source.fault c.answer_all-outcome.new.reader)
-      (g.W.Sink.taken c.args.writer.now) (g.W.Sink.taken c.answer_all-outcome.new.writer) (g.W.Sink.taken c.send.new.out) (g.W.Sink.fault c.answer_all-outcome.new.writer) (g.W.Sink.fault c.send.new.out)
-      (waiting c.answer_all-outcome.new.self) c.answer_all-outcome.result c.in-Err.kind (sym c.is_unwritten.ensures ∙ c.if-is_unwritten.false) c.answer_all-outcome.ensures c.in-Err.ensures.sends,
-)
+pub returns-then-is_unwritten : goal.returns-then-is_unwritten
+returns-then-is_unwritten g c =
+    let sink = g.W.Sink.known c.args.writer.now in
+    let s = stage c.reply_to_all-outcome.new.self (g.W.Sink.known c.reply_to_all-outcome.new.writer) in
+    let reading = change (g.R.Source.known c.args.reader.now) (g.R.Source.known c.reply_to_all-outcome.new.reader) in
+    let asked : Asked = record { mode = c.args.mode; now = c.moment_of.result } in
+    let outcome = c.reply_to_all-outcome.result in
+    let ran = subst (λ a. RanBut sink s a reading outcome) c.new-progress.ensures.asked c.reply_to_all-outcome.ensures in
+    (c.moment_of.result, c.moment_of.ensures, Ran-unwritten sink s asked reading outcome (sym c.is_unwritten.ensures ∙ c.if-is_unwritten.true) ran)
 
-pub returns-in-Ok : goal.returns-in-Ok
-returns-in-Ok g c =
-    let unsent = waiting c.answer_all-outcome.new.self in
-    let new = g.W.Sink.taken c.send.new.out in
-    let all = subst (AppendsBut (g.W.Sink.taken c.answer_all-outcome.new.writer) new unsent) c.in-Ok.ensures.empty c.in-Ok.ensures.sends in (
-      c.moment_of.result,
-      c.moment_of.ensures,
-      Ran-sent c.args.mode c.moment_of.result (g.R.Source.left c.args.reader.now) (g.R.Source.left c.answer_all-outcome.new.reader) (g.R.Source.fault c.answer_all-outcome.new.reader)
-          (g.W.Sink.taken c.args.writer.now) (g.W.Sink.taken c.answer_all-outcome.new.writer) new (g.W.Sink.fault c.answer_all-outcome.new.writer) (g.W.Sink.fault c.send.new.out)
-          unsent c.answer_all-outcome.result (sym c.is_unwritten.ensures ∙ c.if-is_unwritten.false) c.answer_all-outcome.ensures (Appends-from_but (g.W.Sink.taken c.answer_all-outcome.new.writer) new unsent all),
-    )
+pub returns-in_err-send : goal.returns-in_err-send
+returns-in_err-send g c =
+    let sink = g.W.Sink.known c.args.writer.now in
+    let s = stage c.reply_to_all-outcome.new.self (g.W.Sink.known c.reply_to_all-outcome.new.writer) in
+    let s' = stage c.send.new.self (g.W.Sink.known c.send.new.writer) in
+    let reading = change (g.R.Source.known c.args.reader.now) (g.R.Source.known c.reply_to_all-outcome.new.reader) in
+    let asked : Asked = record { mode = c.args.mode; now = c.moment_of.result } in
+    let outcome = c.reply_to_all-outcome.result in
+    let ran = subst (λ a. RanBut sink s a reading outcome) c.new-progress.ensures.asked c.reply_to_all-outcome.ensures in
+    let cut = Ran-cut sink s s' asked reading outcome c.in_err-send.field-0.0 (sym c.is_unwritten.ensures ∙ c.if-is_unwritten.false) ran c.in_err-send.ensures in
+    (c.moment_of.result, c.moment_of.ensures, search (rules, cut))
+
+pub returns : goal.returns
+returns g c =
+    let sink = g.W.Sink.known c.args.writer.now in
+    let s = stage c.reply_to_all-outcome.new.self (g.W.Sink.known c.reply_to_all-outcome.new.writer) in
+    let s' = stage c.send.new.self (g.W.Sink.known c.send.new.writer) in
+    let reading = change (g.R.Source.known c.args.reader.now) (g.R.Source.known c.reply_to_all-outcome.new.reader) in
+    let asked : Asked = record { mode = c.args.mode; now = c.moment_of.result } in
+    let outcome = c.reply_to_all-outcome.result in
+    let ran = subst (λ a. RanBut sink s a reading outcome) c.new-progress.ensures.asked c.reply_to_all-outcome.ensures in
+    (c.moment_of.result, c.moment_of.ensures, Ran-sent sink s s' asked reading outcome (sym c.is_unwritten.ensures ∙ c.if-is_unwritten.false) ran c.in_ok-send.ensures)

@@ -1,0 +1,165 @@
+//! How far a run has come between two reads.
+use crate::error::ToolError;
+use crate::lines::{LONGEST_LINE, MOST_LINES, split_line};
+use crate::outbox::Outbox;
+use crate::replies::{Asked, reply_to};
+use gix_date::device::{Sink, Source};
+use std::alloc::{AllocError, Global};
+
+/// How many bytes are read at most at a time.
+const PIECE: usize = 16384;
+
+/// What is known between two reads.
+#[derive(Drop)]
+pub(crate) struct Progress {
+    /// What is asked of each line.
+    asked: Asked,
+    /// The bytes read of the line that has not ended.
+    line: Vec<u8>,
+    /// How many lines have ended.
+    ended: u64,
+    /// The replies to them that are unsent.
+    outbox: Outbox,
+}
+
+impl Progress {
+    ghost use Rattle.std.specs.Prelude.{◌<◌, ◌≤◌, ◌≡◌, length, OnOk};
+    ghost use Rattle.gix_date.specs.Known.{Known};
+    ghost use Rattle.gix_date_tool.specs.Lines.{IsLine, with_newline};
+    ghost use Rattle.gix_date_tool.specs.Outbox.{output, all_sent, Puts};
+    ghost use Rattle.gix_date_tool.specs.Progress.{stage, IsFresh, IsReady, SendsAll, Extends, Closes, TakesIn, EndsAt};
+    ghost use Rattle.gix_date_tool.specs.Run.{Ran, change};
+
+    /// The progress of a run that has read nothing.
+    pub(crate) fn new(alloc: Global, asked: Asked) -> Progress
+        ensures fresh { IsFresh result }
+        ensures asked { result.asked ≡ asked }
+    {
+        Progress {
+            asked,
+            line: Vec::new(alloc),
+            ended: 0,
+            outbox: Outbox::new(),
+        }
+    }
+
+    /// Replies to all lines, and says how many they were. What waits in the outbox at the end is still to be sent.
+    pub(crate) fn reply_to_all<R: Source, W: Sink>(
+        &mut self,
+        alloc: Global,
+        reader: &mut R,
+        writer: &mut W,
+    ) -> Result<u64, ToolError>
+        requires { IsFresh self.old }
+        ensures { Ran (Puts (all_sent (W.known writer.old)) (output self.new.outbox (W.known writer.new))) self.old.asked
+            (change (R.known reader.old) (R.known reader.new)) (change (W.known writer.old) (W.known writer.new)) result }
+    {
+        let mut piece = [0; PIECE];
+        'pieces: loop {
+            self.send(writer)?;
+            let count = match reader.get(&mut piece) {
+                Ok(count) => count,
+                Err(kind) => return Err(ToolError::Read(kind)),
+            };
+            if count == 0 {
+                return self.end_input(alloc, writer);
+            }
+            self.take_in(alloc, &piece[..count], writer)?;
+        }
+    }
+
+    /// Sends the replies that wait.
+    pub(crate) fn send<W: Sink>(&mut self, writer: &mut W) -> Result<(), ToolError>
+        ensures { SendsAll (stage self.old (W.known writer.old)) (stage self.new (W.known writer.new)) result }
+    {
+        match self.outbox.send(writer) {
+            Ok(()) => Ok(()),
+            Err(kind) => Err(ToolError::Write(kind)),
+        }
+    }
+
+    /// Takes in the next bytes, and replies to the lines that they end.
+    fn take_in<W: Sink>(
+        &mut self,
+        alloc: Global,
+        bytes: &[u8],
+        writer: &mut W,
+    ) -> Result<(), ToolError>
+        requires { IsReady (stage self.old (W.known writer.old)) }
+        ensures takes { TakesIn (stage self.old (W.known writer.old)) (stage self.new (W.known writer.new)) bytes.now result }
+        ensures ready { OnOk result (IsReady (stage self.new (W.known writer.new))) }
+    {
+        let mut rest = bytes;
+        while let Some((part, behind)) = split_line(rest) {
+            self.end_line(alloc, part, writer)?;
+            rest = behind;
+        }
+        if rest.is_empty() {
+            return Ok(());
+        }
+        self.extend(rest)
+    }
+
+    /// Takes in the last bytes of a line and its newline, and replies to it.
+    fn end_line<W: Sink>(
+        &mut self,
+        alloc: Global,
+        part: &[u8],
+        writer: &mut W,
+    ) -> Result<(), ToolError>
+        requires ready { IsReady (stage self.old (W.known writer.old)) }
+        requires is_line { IsLine part.now }
+        ensures takes { TakesIn (stage self.old (W.known writer.old)) (stage self.new (W.known writer.new)) (with_newline part.now) result }
+        ensures ready { OnOk result (IsReady (stage self.new (W.known writer.new))) }
+    {
+        self.extend(part)?;
+        self.close_line(alloc, writer)
+    }
+
+    /// Takes in bytes of a line that does not end in them.
+    fn extend(&mut self, part: &[u8]) -> Result<(), ToolError>
+        requires few { self.old.ended ≤ MOST_LINES }
+        requires short { length self.old.line.items ≤ LONGEST_LINE }
+        ensures { (sink : Known) → Extends (stage self.old sink) (stage self.new sink) part.now result }
+    {
+        if self.ended == MOST_LINES {
+            return Err(ToolError::TooManyLines);
+        }
+        if part.len() > LONGEST_LINE - self.line.len() {
+            return Err(ToolError::LineTooLong);
+        }
+        match self.line.extend_from_slice(part) {
+            Ok(()) => Ok(()),
+            Err(AllocError) => Err(ToolError::Memory),
+        }
+    }
+
+    /// Replies to the line that stands open at the end of the input, and says how many lines there were.
+    fn end_input<W: Sink>(&mut self, alloc: Global, writer: &mut W) -> Result<u64, ToolError>
+        requires { IsReady (stage self.old (W.known writer.old)) }
+        ensures { EndsAt (stage self.old (W.known writer.old)) (stage self.new (W.known writer.new)) result }
+    {
+        if self.line.is_empty() {
+            return Ok(self.ended);
+        }
+        self.close_line(alloc, writer)?;
+        Ok(self.ended)
+    }
+
+    /// Replies to the open line, which ends here.
+    fn close_line<W: Sink>(&mut self, alloc: Global, writer: &mut W) -> Result<(), ToolError>
+        requires { self.old.ended < MOST_LINES }
+        ensures { Closes (stage self.old (W.known writer.old)) (stage self.new (W.known writer.new)) result }
+    {
+        let reply = match reply_to(alloc, self.asked, self.line.as_slice()) {
+            Ok(reply) => reply,
+            Err(AllocError) => return Err(ToolError::Memory),
+        };
+        if let Err(kind) = reply.push_to(&mut self.outbox, writer) {
+            return Err(ToolError::Write(kind));
+        }
+        self.line.clear();
+        self.ended += 1;
+        Ok(())
+    }
+}

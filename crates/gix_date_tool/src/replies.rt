@@ -1,0 +1,142 @@
+//! The reply to one line.
+ghost use Rattle.std.specs.Prelude.{◌≡◌, IfOk, OnErr};
+ghost use Rattle.gix_date.specs.Families.{first_family};
+ghost use Rattle.gix_date.specs.HeaderReading.{header_time};
+
+use crate::arguments::Mode;
+use crate::outbox::Outbox;
+use gix_date::device::Sink;
+use gix_date::parsing::TimeBuf;
+use gix_date::{Error, Time, Zoned, parse, parse_header};
+use std::alloc::{AllocError, Global};
+use std::{io, str};
+
+/// What is asked of each line.
+#[derive(Clone, Copy)]
+pub(crate) struct Asked {
+    /// What a line is to be replied to.
+    pub(crate) mode: Mode,
+    /// What a date may be relative to.
+    pub(crate) now: Option<Zoned<'static>>,
+}
+
+/// What is replied to a line.
+#[derive(Clone, Copy)]
+pub(crate) enum Reply {
+    /// The line is not UTF-8.
+    NotText,
+    /// The line is read as no time.
+    NoTime,
+    /// The line is the header text of the time that it is read as.
+    Canonical,
+    /// The line is read as this time, and is not its header text.
+    Read(Time),
+    /// The line is parsed as this time.
+    Parsed(Time),
+    /// No form that a date may have holds the line.
+    UnknownFormat,
+}
+
+impl Reply {
+    ghost use Rattle.gix_date_tool.specs.Lines.{with_newline};
+    ghost use Rattle.gix_date_tool.specs.Outbox.{Sends, output};
+    ghost use Rattle.gix_date_tool.specs.Replies.{reply_text, IsWritable};
+
+    /// Puts the text of a reply, and a newline, behind what is unsent.
+    pub(crate) fn push_to<W: Sink>(
+        self,
+        outbox: &mut Outbox,
+        out: &mut W,
+    ) -> Result<(), io::ErrorKind>
+        requires { IsWritable self }
+        ensures { Sends (output outbox.old (W.known out.old)) (output outbox.new (W.known out.new))
+            (with_newline (reply_text self)) result }
+    {
+        match self {
+            Reply::NotText => outbox.push(&["not text\n"], out),
+            Reply::NoTime => outbox.push(&["none\n"], out),
+            Reply::Canonical => outbox.push(&["canonical\n"], out),
+            Reply::Read(time) => {
+                let mut seconds = itoa::Buffer::new();
+                let mut offset = itoa::Buffer::new();
+                let pieces = [
+                    "read ",
+                    seconds.format(time.seconds),
+                    " ",
+                    offset.format(time.offset),
+                    "\n",
+                ];
+                outbox.push(&pieces, out)
+            }
+            Reply::Parsed(time) => match time.to_str(&mut TimeBuf::default()) {
+                Ok(text) => outbox.push(&[text, "\n"], out),
+                Err(_) => unreachable!(),
+            },
+            Reply::UnknownFormat => outbox.push(&["error unknown-format\n"], out),
+        }
+    }
+}
+
+ghost use Rattle.gix_date_tool.specs.declared.replies.Reply.TheVariants.{UnknownFormat};
+ghost use Rattle.gix_date_tool.specs.Replies.{reply, check_reply, parse_reply, is_header_text_of, IsWritable};
+
+/// The reply to a line. Only Parse asks for memory, for the copy of a text that is in no known format.
+#[tactic(auto, unfolding(crate::specs::Replies::reply))]
+pub(crate) fn reply_to(alloc: Global, asked: Asked, line: &[u8]) -> Result<Reply, AllocError>
+    ensures is { IfOk result (λ r. r ≡ reply asked line.now) }
+    ensures writable { IfOk result IsWritable }
+    ensures memory { OnErr result (reply asked line.now ≡ UnknownFormat) }
+{
+    let Ok(text) = str::from_utf8(line) else {
+        return Ok(Reply::NotText);
+    };
+    match asked.mode {
+        Mode::Check => Ok(check_reply(text)),
+        Mode::Parse => parse_reply(alloc, text, asked.now),
+    }
+}
+
+/// Whether a text is a header text that comes back when it is read and written, and else what it is read as.
+fn check_reply(text: &str) -> Reply
+    ensures is { result ≡ check_reply text.now (header_time text.now) }
+    ensures writable { IsWritable result }
+{
+    match parse_header(text) {
+        None => Reply::NoTime,
+        Some(time) if is_header_text_of(text, time) => Reply::Canonical,
+        Some(time) => Reply::Read(time),
+    }
+}
+
+/// Whether a text is what a time is written as.
+fn is_header_text_of(text: &str, time: Time) -> bool
+    ensures { result ≡ is_header_text_of text.now time }
+{
+    match time.to_str(&mut TimeBuf::default()) {
+        Ok(written) => written == text,
+        Err(_) => false,
+    }
+}
+
+/// The time that a text is parsed as, or why it is not.
+fn parse_reply(alloc: Global, text: &str, now: Option<Zoned<'static>>) -> Result<Reply, AllocError>
+    ensures is { IfOk result (λ r. r ≡ parse_reply (first_family text.now)) }
+    ensures writable { IfOk result IsWritable }
+    ensures memory { OnErr result (parse_reply (first_family text.now) ≡ UnknownFormat) }
+{
+    match parse(alloc, text, now) {
+        Ok(time) => Ok(Reply::Parsed(time)),
+        Err(Error::UnknownFormat { input: _ }) => Ok(Reply::UnknownFormat),
+        Err(Error::Memory) => Err(AllocError),
+        Err(
+            Error::InvalidTime
+            | Error::MissingNow
+            | Error::DateConversion { input: _ }
+            | Error::Conversion
+            | Error::Range
+            | Error::OffsetTooWide
+            | Error::Pattern
+            | Error::Write(_),
+        ) => unreachable!(),
+    }
+}
