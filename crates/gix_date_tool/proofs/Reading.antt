@@ -5,16 +5,16 @@ use Rattle.std.specs.Prelude.{All}
 use Rattle.std.specs.Io.KnownBytes.{Keeps, Consumes}
 use Rattle.std.specs.declared.io.ErrorKind.{ErrorKind}
 use Rattle.gix_date.specs.Characters.{newline}
-use Rattle.gix_date.specs.Known.{Known, Takes, TakesProperPrefix, TakesNothing, Gives, HasEnded}
+use Rattle.gix_date.specs.Known.{Known, Takes, TakesNothing, Gives, HasEnded}
 use Rattle.gix_date_tool.specs.declared.error.ToolError.{ToolError}
 use Rattle.gix_date_tool.specs.declared.error.ToolError.TheVariants as errors
-use Rattle.gix_date_tool.specs.declared.lines.TheConstants.{LONGEST_LINE, MOST_LINES}
+use Rattle.gix_date_tool.specs.declared.lines.TheConstants.{MOST_LINES}
 use Rattle.gix_date_tool.specs.declared.replies.Asked.{Asked}
 use Rattle.gix_date_tool.specs.Lines.{last_line, IsShort, IsWithinLimits}
 use Rattle.gix_date_tool.specs.Replies.{replies}
 use Rattle.gix_date_tool.specs.Outbox.{Output, all_sent, Puts, PutsProperPrefix}
-use Rattle.gix_date_tool.specs.Run.{Change, change, StopsAt, WereDue, Unsent, Stopped, Ran, is_unwritten}
-use Rattle.gix_date_tool.specs.Progress.{Stage, first_stage, IsReady, SentAll, SendsAll, TookIn, Unwritten, StoppedWithin, TakesIn, EndedAll, EndsAt}
+use Rattle.gix_date_tool.specs.Run.{Change, change, StopsAt, WereDue, Unwritten, Stopped, Ran, is_unwritten}
+use Rattle.gix_date_tool.specs.Progress.{Stage, first_stage, IsReady, SentAll, SendsAll, TookIn, RefusedWithin, StoppedWithin, TakesIn, EndsAt}
 use Rattle.gix_date_tool.proofs.Sending.{Takes-all_sent, Puts-sent, PutsProperPrefix-sent}
 use Rattle.gix_date_tool.proofs.Taking.{Puts-replies, PutsProperPrefix-replies, TookIn-nil, TakesIn-then}
 
@@ -97,9 +97,9 @@ HasRead-taken {s' = s'} {old = old} {mid = mid} new {bytes = bytes} h read k = r
 }
 
 -- the writer refused what was unsent
-unsent : {asked : Asked} {sink : Known} {s : Stage} (s' : Stage) {reading : Change} {kind : ErrorKind}
-    → HasRead asked sink s reading → PutsProperPrefix s.output s'.output [] kind → Unsent asked reading (change sink s'.output.sink) kind
-unsent {s = s} s' {reading = reading} h k =
+refused : {asked : Asked} {sink : Known} {s : Stage} (s' : Stage) {reading : Change} {kind : ErrorKind}
+    → HasRead asked sink s reading → PutsProperPrefix s.output s'.output [] kind → Unwritten asked reading (change sink s'.output.sink) kind
+refused {s = s} s' {reading = reading} h k =
     let cut = PutsProperPrefix-sent h.took.put k in
     record {
       front = h.input;
@@ -113,16 +113,16 @@ unsent {s = s} s' {reading = reading} h k =
 
 pub Ran-unsent : {asked : Asked} {sink : Known} {s : Stage} (s' : Stage) {reading : Change} (e : ToolError)
     → HasRead asked sink s reading → SendsAll s s' (Err e) → Ran (Puts (all_sent sink) s'.output) asked reading (change sink s'.output.sink) (Err e)
-Ran-unsent s' (errors.Write kind) h k = unsent s' h k
+Ran-unsent s' (errors.Write kind) h k = refused s' h k
 Ran-unsent s' (errors.Read kind) h k = absurd k
 Ran-unsent s' errors.Memory h k = absurd k
 Ran-unsent s' errors.LineTooLong h k = absurd k
 Ran-unsent s' errors.TooManyLines h k = absurd k
 
 -- the writer refused within what was read
-Unwritten-ran : {asked : Asked} {sink : Known} {s : Stage} {reading : Change} {input : List ℕ} {kind : ErrorKind}
-    → Gives reading.old reading.new input → Unwritten (first_stage asked sink) s input kind → Unsent asked reading (change sink s.output.sink) kind
-Unwritten-ran {reading = reading} read k = record {
+RefusedWithin-ran : {asked : Asked} {sink : Known} {s : Stage} {reading : Change} {input : List ℕ} {kind : ErrorKind}
+    → Gives reading.old reading.new input → RefusedWithin (first_stage asked sink) s input kind → Unwritten asked reading (change sink s.output.sink) kind
+RefusedWithin-ran {reading = reading} read k = record {
   front = k.front;
   beyond = k.beyond;
   lines = k.lines;
@@ -149,7 +149,7 @@ StoppedWithin-ran {reading = reading} {stop = stop} read k = record {
 
 stopped : (asked : Asked) (sink : Known) (s : Stage) (reading : Change) (input : List ℕ) (stop : ToolError)
     → Gives reading.old reading.new input → TakesIn (first_stage asked sink) s input (Err stop) → Ran (Puts (all_sent sink) s.output) asked reading (change sink s.output.sink) (Err stop)
-stopped asked sink s reading input (errors.Write kind) read k = Unwritten-ran read k
+stopped asked sink s reading input (errors.Write kind) read k = RefusedWithin-ran read k
 stopped asked sink s reading input (errors.Read kind) read k = absurd k.stops
 stopped asked sink s reading input errors.Memory read k = StoppedWithin-ran read k
 stopped asked sink s reading input errors.LineTooLong read k = StoppedWithin-ran read k
@@ -309,13 +309,13 @@ Ran-sent sink s s' asked reading (Err errors.TooManyLines) not h k = Stopped-sen
 
 -- The writer refused the replies to lines that were due.
 cut_off : {sink : Known} {b c : Output} {kind : ErrorKind} {asked : Asked} {reading : Change} (front beyond : List ℕ) (lines : List (List ℕ)) → Gives reading.old reading.new (front ++ beyond)
-    → WereDue reading.new front beyond lines → Puts (all_sent sink) b (replies asked lines) → PutsProperPrefix b c [] kind → Unsent asked reading (change sink c.sink) kind
+    → WereDue reading.new front beyond lines → Puts (all_sent sink) b (replies asked lines) → PutsProperPrefix b c [] kind → Unwritten asked reading (change sink c.sink) kind
 cut_off front beyond lines read due put k =
     let cut = PutsProperPrefix-sent put k in
     record { front = front; beyond = beyond; lines = lines; read = read; due = due; wrote = cut.taken; fault = cut.fault }
 
 cut_short : (sink : Known) (s s' : Stage) (asked : Asked) (reading : Change) (r : Result ℕ ToolError) (kind : ErrorKind)
-    → is_unwritten r ≡ false → RanBut sink s asked reading r → PutsProperPrefix s.output s'.output [] kind → Unsent asked reading (change sink s'.output.sink) kind
+    → is_unwritten r ≡ false → RanBut sink s asked reading r → PutsProperPrefix s.output s'.output [] kind → Unwritten asked reading (change sink s'.output.sink) kind
 cut_short sink s s' asked reading (Ok count) kind not h k =
     cut_off h.input [] h.lines (without_beyond reading.old reading.new h.input h.read) (inr (record { at_end = h.at_end; none_beyond = refl; all = h.all })) h.wrote k
 cut_short sink s s' asked reading (Err (errors.Read first)) kind not h k =

@@ -14,7 +14,7 @@ use Rattle.gix_date_tool.specs.Lines.{IsLine, with_newline, Splits, IsShort}
 use Rattle.gix_date_tool.specs.Replies.{reply_line, replies}
 use Rattle.gix_date_tool.specs.Outbox.{Output, Puts, PutsProperPrefix}
 use Rattle.gix_date_tool.specs.Run.{StopsAt}
-use Rattle.gix_date_tool.specs.Progress.{Stage, IsReady, Extended, Extends, Closed, Closes, TookIn, Unwritten, StoppedWithin, TakesIn}
+use Rattle.gix_date_tool.specs.Progress.{Stage, IsReady, Extended, Extends, Closed, Closes, TookIn, RefusedWithin, StoppedWithin, TakesIn}
 use Rattle.gix_date_tool.proofs.Splitting.{Splits-open, Splits-newline, Splits-join}
 use Rattle.gix_date_tool.proofs.Sending.{Puts-nil, Puts-then, PutsProperPrefix-then}
 
@@ -54,8 +54,8 @@ TookIn-then {s0 = s0} {s1 = s1} {s2 = s2} {a = a} {b = b} h k = record {
 }
 
 -- bytes that were taken in, and then bytes whose replies the writer refused
-Unwritten-then : {s0 s1 s2 : Stage} {a b : List ℕ} {kind : ErrorKind} → TookIn s0 s1 a → Unwritten s1 s2 b kind → Unwritten s0 s2 (a ++ b) kind
-Unwritten-then {s0 = s0} {s1 = s1} {s2 = s2} {a = a} {b = b} {kind = kind} h k = record {
+RefusedWithin-then : {s0 s1 s2 : Stage} {a b : List ℕ} {kind : ErrorKind} → TookIn s0 s1 a → RefusedWithin s1 s2 b kind → RefusedWithin s0 s2 (a ++ b) kind
+RefusedWithin-then {s0 = s0} {s1 = s1} {s2 = s2} {a = a} {b = b} {kind = kind} h k = record {
   front = a ++ k.front;
   beyond = k.beyond;
   lines = h.lines ++ k.lines;
@@ -81,7 +81,7 @@ StoppedWithin-then {s0 = s0} {s1 = s1} {s2 = s2} {a = a} {b = b} {stop = stop} h
 -- bytes that were taken in, and then more bytes, whatever came of these
 pub TakesIn-then : {s0 s1 : Stage} {a : List ℕ} (s2 : Stage) (b : List ℕ) (r : Result (Unit {0}) ToolError) → TookIn s0 s1 a → TakesIn s1 s2 b r → TakesIn s0 s2 (a ++ b) r
 TakesIn-then s2 b (Ok u) h k = TookIn-then h k
-TakesIn-then s2 b (Err (errors.Write kind)) h k = Unwritten-then h k
+TakesIn-then s2 b (Err (errors.Write kind)) h k = RefusedWithin-then h k
 TakesIn-then s2 b (Err (errors.Read kind)) h k = StoppedWithin-then h k
 TakesIn-then s2 b (Err errors.Memory) h k = StoppedWithin-then h k
 TakesIn-then s2 b (Err errors.LineTooLong) h k = StoppedWithin-then h k
@@ -111,8 +111,8 @@ StoppedWithin-beyond {s = s} {a = a} {stop = stop} b h = record {
   put = h.put;
 }
 
-Unwritten-beyond : {s s' : Stage} {a : List ℕ} {kind : ErrorKind} (b : List ℕ) → Unwritten s s' a kind → Unwritten s s' (a ++ b) kind
-Unwritten-beyond {a = a} b h = record {
+RefusedWithin-beyond : {s s' : Stage} {a : List ℕ} {kind : ErrorKind} (b : List ℕ) → RefusedWithin s s' a kind → RefusedWithin s s' (a ++ b) kind
+RefusedWithin-beyond {a = a} b h = record {
   front = h.front;
   beyond = h.beyond ++ b;
   lines = h.lines;
@@ -123,7 +123,7 @@ Unwritten-beyond {a = a} b h = record {
 
 -- a run that stopped within some bytes stopped within more
 pub TakesIn-beyond : (s s' : Stage) (a b : List ℕ) (e : ToolError) → TakesIn s s' a (Err e) → TakesIn s s' (a ++ b) (Err e)
-TakesIn-beyond s s' a b (errors.Write kind) h = Unwritten-beyond b h
+TakesIn-beyond s s' a b (errors.Write kind) h = RefusedWithin-beyond b h
 TakesIn-beyond s s' a b (errors.Read kind) h = StoppedWithin-beyond b h
 TakesIn-beyond s s' a b errors.Memory h = StoppedWithin-beyond b h
 TakesIn-beyond s s' a b errors.LineTooLong h = StoppedWithin-beyond b h
@@ -227,9 +227,9 @@ TookIn-closed {s = s} {s' = s'} part ready line short k =
     }
 
 -- a line ended, and the writer refused the reply to it
-Unwritten-closed : {s s' : Stage} {kind : ErrorKind} (part : List ℕ) → IsReady s → IsLine part
-    → PutsProperPrefix s.output s'.output (reply_line s.asked (s.open_line ++ part)) kind → Unwritten s s' (with_newline part) kind
-Unwritten-closed {s = s} {s' = s'} {kind = kind} part ready line k = record {
+RefusedWithin-closed : {s s' : Stage} {kind : ErrorKind} (part : List ℕ) → IsReady s → IsLine part
+    → PutsProperPrefix s.output s'.output (reply_line s.asked (s.open_line ++ part)) kind → RefusedWithin s s' (with_newline part) kind
+RefusedWithin-closed {s = s} {s' = s'} {kind = kind} part ready line k = record {
   front = with_newline part;
   beyond = [];
   lines = (s.open_line ++ part) ∷ [];
@@ -255,7 +255,7 @@ without_memory {s = s} part ready line few short same = record {
 closes : {s : Stage} (s' : Stage) (part : List ℕ) (r : Result (Unit {0}) ToolError) → IsReady s → IsLine part → s.ended < MOST_LINES → IsShort (s.open_line ++ part)
     → Closes (longer s part) s' r → TakesIn s s' (with_newline part) r
 closes s' part (Ok u) ready line few short k = TookIn-closed part ready line short k
-closes s' part (Err (errors.Write kind)) ready line few short k = Unwritten-closed part ready line k
+closes s' part (Err (errors.Write kind)) ready line few short k = RefusedWithin-closed part ready line k
 closes s' part (Err errors.Memory) ready line few short k = without_memory part ready line few short k
 closes s' part (Err (errors.Read kind)) ready line few short k = absurd k
 closes s' part (Err errors.LineTooLong) ready line few short k = absurd k

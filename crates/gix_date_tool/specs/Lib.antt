@@ -4,3 +4,4 @@ pub mod Outbox
 pub mod Progress
 pub mod Run
 pub mod Command
+pub mod Program

@@ -95,7 +95,7 @@ pub record TookIn (s s' : Stage) (bytes : List ℕ) : Type 0 where
   pub put : Puts s.output s'.output (replies s.asked lines)
 
 -- the writer refused the replies to the lines that a front of the bytes ended
-pub record Unwritten (s s' : Stage) (bytes : List ℕ) (kind : ErrorKind) : Type 0 where
+pub record RefusedWithin (s s' : Stage) (bytes : List ℕ) (kind : ErrorKind) : Type 0 where
   pub front : List ℕ
   pub beyond : List ℕ
   pub lines : List (List ℕ)
@@ -118,7 +118,7 @@ pub record StoppedWithin (s s' : Stage) (bytes : List ℕ) (stop : ToolError) : 
 -- what taking in bytes comes to
 abbrev pub TakesIn : Stage → Stage → List ℕ → Result Unit ToolError → Type 0
 TakesIn s s' bytes (Ok _) = TookIn s s' bytes
-TakesIn s s' bytes (Err (errors.Write kind)) = Unwritten s s' bytes kind
+TakesIn s s' bytes (Err (errors.Write kind)) = RefusedWithin s s' bytes kind
 TakesIn s s' bytes (Err stop) = StoppedWithin s s' bytes stop
 
 -- the line that stands open at the end of the input was replied to, and the lines were counted

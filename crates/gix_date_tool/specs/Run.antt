@@ -66,7 +66,7 @@ abbrev pub WereDue : Known → List ℕ → List ℕ → List (List ℕ) → Typ
 WereDue reader front beyond lines = HasEndedLines front lines ⊎ EndsInput reader front beyond lines
 
 -- The writer refused, and a proper prefix of the replies that were due was written.
-pub record Unsent (asked : Asked) (reading writing : Change) (kind : ErrorKind) : Type 0 where
+pub record Unwritten (asked : Asked) (reading writing : Change) (kind : ErrorKind) : Type 0 where
   pub front : List ℕ
   pub beyond : List ℕ
   pub lines : List (List ℕ)
@@ -91,7 +91,7 @@ pub record Stopped (Wrote : List ℕ → Type 0) (asked : Asked) (reading : Chan
 abbrev pub Ran : (List ℕ → Type 0) → Asked → Change → Change → Result ℕ ToolError → Type 0
 Ran Wrote asked reading writing (Ok count) = Succeeded Wrote asked reading count
 Ran Wrote asked reading writing (Err (errors.Read kind)) = Unread Wrote asked reading kind
-Ran Wrote asked reading writing (Err (errors.Write kind)) = Unsent asked reading writing kind
+Ran Wrote asked reading writing (Err (errors.Write kind)) = Unwritten asked reading writing kind
 Ran Wrote asked reading writing (Err stop) = Stopped Wrote asked reading stop
 
 -- the writer refused

@@ -8,7 +8,7 @@ use crate::error::ToolError;
 use gix_date::Time;
 use std::alloc::Global;
 
-/// What [`crate::run`] answers of each line.
+/// What [`crate::run`] replies to each line.
 #[derive(Debug, Clone, Copy, PartialEq, Eq)]
 pub enum Mode {
     /// Whether the line is a header text that comes back when it is read and written, and else what it is read as.
@@ -29,36 +29,5 @@ pub fn command(alloc: Global, words: &[String]) -> Result<Option<(Mode, Option<T
         [mode] if mode.as_str() == "check" => Ok(Some((Mode::Check, None))),
         [mode] if mode.as_str() == "parse" => Ok(Some((Mode::Parse, None))),
         _ => Ok(None),
-    }
-}
-
-#[cfg(test)]
-mod tests {
-    use super::*;
-    use std::test::Fail;
-
-    #[test]
-    fn a_command_line_is_one_mode(rt: HostRuntime) -> Result<(), Fail> {
-        let rows = [
-            ("check", ["check"].as_slice(), Some((Mode::Check, None))),
-            ("no-word", [].as_slice(), None),
-            ("another-word", ["x"].as_slice(), None),
-            ("two-words", ["check", "x"].as_slice(), None),
-            ("other-case", ["Check"].as_slice(), None),
-            ("parse", ["parse"].as_slice(), Some((Mode::Parse, None))),
-            (
-                "not-there-yet",
-                ["parse", "1698400800 +0000"].as_slice(),
-                None,
-            ),
-        ];
-        for (row, line, wanted) in rows {
-            let mut words = Vec::new(rt.alloc());
-            for word in line {
-                words.push(String::from_str(rt.alloc(), word)?)?;
-            }
-            assert_eq!(rt; command(rt.alloc(), words.as_slice())?, wanted, "{row}");
-        }
-        Ok(())
     }
 }

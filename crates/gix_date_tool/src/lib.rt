@@ -3,13 +3,15 @@
 
 mod arguments;
 mod error;
-#[cfg(test)]
-mod fakes;
 mod lines;
 mod outbox;
+mod program;
 mod progress;
 mod replies;
+mod runs;
 
 pub use arguments::{Mode, command};
 pub use error::ToolError;
-pub use lines::{lines_are_unique, run};
+pub use lines::lines_are_unique;
+pub use program::{Status, execute, show_usage};
+pub use runs::run;

@@ -1,4 +1,6 @@
 //! Texts that wait to be sent.
+ghost use Rattle.std.specs.Prelude.{◌≡◌, [], OnOk};
+
 use arrayvec::ArrayString;
 use gix_date::device::{Sink, put_all};
 use std::io;
@@ -13,7 +15,6 @@ pub(crate) struct Outbox {
 }
 
 impl Outbox {
-    ghost use Rattle.std.specs.Prelude.{◌≡◌, [], OnOk};
     ghost use Rattle.gix_date_tool.specs.Outbox.{Sends, output, joined};
 
     pub(crate) fn new() -> Outbox

@@ -1,4 +1,9 @@
 //! How far a run has come between two reads.
+ghost use Rattle.std.specs.Prelude.{◌≡◌, ◌<◌, ◌≤◌, OnOk};
+ghost use Rattle.gix_date.specs.Known.{Known};
+ghost use Rattle.gix_date_tool.specs.Lines.{IsLine, IsShort, with_newline};
+ghost use Rattle.gix_date_tool.specs.Run.{Ran, change};
+
 use crate::error::ToolError;
 use crate::lines::{LONGEST_LINE, MOST_LINES, split_line};
 use crate::outbox::Outbox;
@@ -23,12 +28,8 @@ pub(crate) struct Progress {
 }
 
 impl Progress {
-    ghost use Rattle.std.specs.Prelude.{◌<◌, ◌≤◌, ◌≡◌, length, OnOk};
-    ghost use Rattle.gix_date.specs.Known.{Known};
-    ghost use Rattle.gix_date_tool.specs.Lines.{IsLine, with_newline};
     ghost use Rattle.gix_date_tool.specs.Outbox.{output, all_sent, Puts};
     ghost use Rattle.gix_date_tool.specs.Progress.{stage, IsFresh, IsReady, SendsAll, Extends, Closes, TakesIn, EndsAt};
-    ghost use Rattle.gix_date_tool.specs.Run.{Ran, change};
 
     /// The progress of a run that has read nothing.
     pub(crate) fn new(alloc: Global, asked: Asked) -> Progress
@@ -72,10 +73,7 @@ impl Progress {
     pub(crate) fn send<W: Sink>(&mut self, writer: &mut W) -> Result<(), ToolError>
         ensures { SendsAll (stage self.old (W.known writer.old)) (stage self.new (W.known writer.new)) result }
     {
-        match self.outbox.send(writer) {
-            Ok(()) => Ok(()),
-            Err(kind) => Err(ToolError::Write(kind)),
-        }
+        self.outbox.send(writer).map_err(ToolError::Write)
     }
 
     /// Takes in the next bytes, and replies to the lines that they end.
@@ -109,7 +107,8 @@ impl Progress {
     ) -> Result<(), ToolError>
         requires ready { IsReady (stage self.old (W.known writer.old)) }
         requires is_line { IsLine part.now }
-        ensures takes { TakesIn (stage self.old (W.known writer.old)) (stage self.new (W.known writer.new)) (with_newline part.now) result }
+        ensures takes { TakesIn (stage self.old (W.known writer.old)) (stage self.new (W.known writer.new))
+            (with_newline part.now) result }
         ensures ready { OnOk result (IsReady (stage self.new (W.known writer.new))) }
     {
         self.extend(part)?;
@@ -119,7 +118,7 @@ impl Progress {
     /// Takes in bytes of a line that does not end in them.
     fn extend(&mut self, part: &[u8]) -> Result<(), ToolError>
         requires few { self.old.ended ≤ MOST_LINES }
-        requires short { length self.old.line.items ≤ LONGEST_LINE }
+        requires short { IsShort self.old.line.items }
         ensures { (sink : Known) → Extends (stage self.old sink) (stage self.new sink) part.now result }
     {
         if self.ended == MOST_LINES {
@@ -128,10 +127,10 @@ impl Progress {
         if part.len() > LONGEST_LINE - self.line.len() {
             return Err(ToolError::LineTooLong);
         }
-        match self.line.extend_from_slice(part) {
-            Ok(()) => Ok(()),
-            Err(AllocError) => Err(ToolError::Memory),
+        if let Err(AllocError) = self.line.extend_from_slice(part) {
+            return Err(ToolError::Memory);
         }
+        Ok(())
     }
 
     /// Replies to the line that stands open at the end of the input, and says how many lines there were.
@@ -155,9 +154,9 @@ impl Progress {
             Ok(reply) => reply,
             Err(AllocError) => return Err(ToolError::Memory),
         };
-        if let Err(kind) = reply.push_to(&mut self.outbox, writer) {
-            return Err(ToolError::Write(kind));
-        }
+        reply
+            .push_to(&mut self.outbox, writer)
+            .map_err(ToolError::Write)?;
         self.line.clear();
         self.ended += 1;
         Ok(())

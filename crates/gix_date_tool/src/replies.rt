@@ -2,6 +2,10 @@
 ghost use Rattle.std.specs.Prelude.{◌≡◌, IfOk, OnErr};
 ghost use Rattle.gix_date.specs.Families.{first_family};
 ghost use Rattle.gix_date.specs.HeaderReading.{header_time};
+ghost use Rattle.gix_date_tool.specs.declared.replies.Reply.TheVariants.{UnknownFormat};
+ghost use Rattle.gix_date_tool.specs.Lines.{with_newline};
+ghost use Rattle.gix_date_tool.specs.Outbox.{Sends, output};
+ghost use Rattle.gix_date_tool.specs.Replies.{reply, reply_text, IsWritable, check_reply, parse_reply, is_header_text_of};
 
 use crate::arguments::Mode;
 use crate::outbox::Outbox;
@@ -38,10 +42,6 @@ pub(crate) enum Reply {
 }
 
 impl Reply {
-    ghost use Rattle.gix_date_tool.specs.Lines.{with_newline};
-    ghost use Rattle.gix_date_tool.specs.Outbox.{Sends, output};
-    ghost use Rattle.gix_date_tool.specs.Replies.{reply_text, IsWritable};
-
     /// Puts the text of a reply, and a newline, behind what is unsent.
     pub(crate) fn push_to<W: Sink>(
         self,
@@ -77,11 +77,7 @@ impl Reply {
     }
 }
 
-ghost use Rattle.gix_date_tool.specs.declared.replies.Reply.TheVariants.{UnknownFormat};
-ghost use Rattle.gix_date_tool.specs.Replies.{reply, check_reply, parse_reply, is_header_text_of, IsWritable};
-
 /// The reply to a line. Only Parse asks for memory, for the copy of a text that is in no known format.
-#[tactic(auto, unfolding(crate::specs::Replies::reply))]
 pub(crate) fn reply_to(alloc: Global, asked: Asked, line: &[u8]) -> Result<Reply, AllocError>
     ensures is { IfOk result (λ r. r ≡ reply asked line.now) }
     ensures writable { IfOk result IsWritable }
@@ -128,6 +124,7 @@ fn parse_reply(alloc: Global, text: &str, now: Option<Zoned<'static>>) -> Result
         Ok(time) => Ok(Reply::Parsed(time)),
         Err(Error::UnknownFormat { input: _ }) => Ok(Reply::UnknownFormat),
         Err(Error::Memory) => Err(AllocError),
+        // No family so far refuses a text that it holds, and the others are no refusals of `parse`.
         Err(
             Error::InvalidTime
             | Error::MissingNow

@@ -1,5 +1,5 @@
 //! Devices over writers and readers that fail, and what is written to them.
-use crate::fakes::{Slow, Supply};
+use crate::fakes::{Dribble, Slow, Supply};
 use gix_date::device::{Device, Sink, Source, put_all};
 use gix_date::{Error, Time};
 use std::io::ErrorKind;
@@ -18,16 +18,30 @@ fn a_device_makes_one_write_a_call(rt: HostRuntime) -> Result<(), Fail> {
 }
 
 #[test]
-fn a_device_makes_no_write_after_a_fault(rt: HostRuntime) -> Result<(), Fail> {
-    let mut device = Device::new(Slow::new(rt.alloc(), 1, 1, ErrorKind::BrokenPipe));
-    assert_eq!(rt; device.put(b"ab"), Ok(1));
-    for _ in 0..3 {
-        assert_eq!(rt; device.put(b"b"), Err(ErrorKind::BrokenPipe));
+fn a_device_makes_no_write_and_no_flush_after_a_fault(rt: HostRuntime) {
+    for kind in [
+        ErrorKind::BrokenPipe,
+        ErrorKind::WouldBlock,
+        ErrorKind::Interrupted,
+    ] {
+        let mut device = Device::new(Slow::new(rt.alloc(), 1, 1, kind));
+        assert_eq!(rt; device.put(b"ab"), Ok(1), "{kind:?}");
+        for _ in 0..3 {
+            assert_eq!(rt; device.put(b"b\n"), Err(kind), "{kind:?}");
+        }
+        let inner = device.into_inner();
+        assert_eq!(rt; inner.taken.as_slice(), b"a".as_slice(), "{kind:?}");
+        assert_eq!(rt; (inner.calls, inner.flushes), (2, 0), "{kind:?}");
     }
+}
+
+#[test]
+fn a_device_flushes_at_no_newline(rt: HostRuntime) {
+    let mut device = Device::new(Slow::new(rt.alloc(), 9, 99, ErrorKind::Other));
+    assert_eq!(rt; device.put(b"a\n"), Ok(2));
+    assert_eq!(rt; device.put(b"\n"), Ok(1));
     let inner = device.into_inner();
-    assert_eq!(rt; inner.taken.as_slice(), b"a".as_slice());
-    assert_eq!(rt; inner.calls, 2);
-    Ok(())
+    assert_eq!(rt; (inner.calls, inner.flushes), (2, 0));
 }
 
 #[test]
@@ -60,6 +74,33 @@ fn a_device_reads_until_the_first_fault(rt: HostRuntime) {
         assert_eq!(rt; device.get(&mut piece), Err(ErrorKind::UnexpectedEof));
     }
     assert_eq!(rt; device.into_inner().calls, 3);
+}
+
+#[test]
+fn a_device_makes_one_read_a_call_at_the_end_too(rt: HostRuntime) {
+    let mut device = Device::new(Supply::once(b"ab", 9, None));
+    let mut piece = [0; 4];
+    for (count, calls) in [(2, 1), (0, 2), (0, 3)] {
+        assert_eq!(rt; device.get(&mut piece), Ok(count));
+        let inner = device.into_inner();
+        assert_eq!(rt; inner.calls, calls);
+        device = Device::new(inner);
+    }
+}
+
+#[test]
+fn put_all_asks_a_sink_no_more_after_its_fault(rt: HostRuntime) {
+    let mut out = Dribble::new(2);
+    assert_eq!(rt; put_all(&mut out, b"abcde"), Err(ErrorKind::StorageFull));
+    assert_eq!(rt; out.calls, 3);
+    let mut out = Dribble::new(25);
+    assert!(rt;
+        matches!(
+            Time::MIN.write_to(&mut out),
+            Err(Error::Write(ErrorKind::StorageFull))
+        )
+    );
+    assert_eq!(rt; out.calls, 26);
 }
 
 #[test]

@@ -1,7 +1,8 @@
-//! Writers and readers that take and give a few bytes a call, and fail on demand.
+//! Writers and readers that take and give a few bytes a call, count the calls, and fail on demand.
+use gix_date::device::Sink;
 use std::alloc::Global;
-use std::io;
 use std::io::{Read, Write};
+use std::{fmt, io};
 
 /// A writer that takes a few bytes a call, up to a limit, and then fails.
 #[derive(Drop)]
@@ -103,5 +104,56 @@ impl Read for Supply<'_> {
         self.place += count;
         self.left -= count;
         Ok(count)
+    }
+}
+
+/// A sink that is no device: it takes one byte a call, so many in all, and then refuses.
+#[derive(Drop)]
+pub(crate) struct Dribble {
+    pub(crate) calls: usize,
+    room: usize,
+    fault: Option<io::ErrorKind>,
+}
+
+impl Dribble {
+    pub(crate) fn new(room: usize) -> Dribble {
+        Dribble {
+            calls: 0,
+            room,
+            fault: None,
+        }
+    }
+}
+
+impl Sink for Dribble {
+    ghost use Rattle.std.specs.Prelude.{None};
+
+    ghost known = { λ s. record { bytes = None; fault = s.fault } };
+
+    fn put(&mut self, _piece: &[u8]) -> Result<usize, io::ErrorKind> {
+        self.calls = self.calls.saturating_add(1);
+        if let Some(kind) = self.fault {
+            return Err(kind);
+        }
+        if self.room == 0 {
+            self.fault = Some(io::ErrorKind::StorageFull);
+            return Err(io::ErrorKind::StorageFull);
+        }
+        self.room -= 1;
+        self.fault = None;
+        Ok(1)
+    }
+}
+
+/// A place for texts that counts its pieces.
+#[derive(Drop)]
+pub(crate) struct Pieces {
+    pub(crate) count: usize,
+}
+
+impl fmt::Write for Pieces {
+    fn write_str(&mut self, _s: &str) -> fmt::Result {
+        self.count = self.count.saturating_add(1);
+        Ok(())
     }
 }

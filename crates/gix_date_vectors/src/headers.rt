@@ -1,7 +1,9 @@
 //! Header texts, read and written.
+use crate::fakes::Pieces;
 use gix_date::device::Device;
 use gix_date::parsing::TimeBuf;
 use gix_date::{Error, Time, parse_header};
+use std::fmt::Write;
 use std::str::FromStr;
 use std::test::Fail;
 
@@ -32,6 +34,12 @@ fn headers_are_read(rt: HostRuntime) {
         ),
         ("digits-past-the-range", "9223372036854775808x", None),
         ("git-log", "1660797906 +0800", Some((1_660_797_906, 28_800))),
+        ("lenient", "1660874655 banana", Some((1_660_874_655, 0))),
+        ("lenient", "12abc +0100", Some((12, 3600))),
+        ("lenient", "+0800", Some((800, 0))),
+        ("no-limit-of-hours", "1 -1500", Some((1, -54_000))),
+        ("compact-date-as-seconds", "20080214", Some((20_080_214, 0))),
+        ("at-sign", "@20080214", None),
     ];
     for (row, text, time) in rows {
         let time = time.map(|(seconds, offset)| Time::new(seconds, offset));
@@ -78,6 +86,17 @@ fn times_are_written_and_shown(rt: HostRuntime) -> Result<(), Fail> {
         let shown = format!(in rt.alloc(); "{time}")?;
         assert_eq!(rt; shown.as_str(), text, "{row}: {text}");
     }
+    Ok(())
+}
+
+#[test]
+fn a_time_is_shown_in_one_piece_whatever_the_width(rt: HostRuntime) -> Result<(), Fail> {
+    let time = Time::new(5, -5400);
+    let mut pieces = Pieces { count: 0 };
+    assert!(rt; write!(pieces, "{time}").is_ok());
+    assert_eq!(rt; pieces.count, 1);
+    let text = format!(in rt.alloc(); "{time:>30}|{time:<30}|{time:030}|{time:.3}")?;
+    assert_eq!(rt; text.as_str(), "5 -0130|5 -0130|5 -0130|5 -0130");
     Ok(())
 }
 

@@ -1,7 +1,9 @@
-//! Rows of outside values for the public items of `gix_date`, and a caller of them that is proved.
+//! Rows of outside values for the public items of `gix_date` and `gix_date_tool`, and callers that are proved.
 #![tactic(auto)]
 
 pub mod caller;
+#[cfg(test)]
+mod commands;
 #[cfg(test)]
 mod devices;
 #[cfg(test)]
@@ -14,5 +16,7 @@ mod memory;
 mod parses;
 #[cfg(test)]
 mod readme;
+#[cfg(test)]
+mod runs;
 #[cfg(test)]
 mod times;

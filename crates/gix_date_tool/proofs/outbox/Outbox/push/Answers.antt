@@ -1,5 +1,5 @@
-use Rattle.std.proofs.Common.{take_all, rules, ap, subst}
-use Rattle.gix_date_tool.specs.Outbox.{joined, Puts, output}
+use Rattle.std.proofs.Common.{rules}
+use Rattle.gix_date_tool.specs.Outbox.{output}
 use Rattle.gix_date_tool.proofs.Sending.{Puts-nil, Puts-piece, PutsProperPrefix-piece}
 use Rattle.gix_date_tool.proofs.outbox.Outbox.push.Goals as goal
 

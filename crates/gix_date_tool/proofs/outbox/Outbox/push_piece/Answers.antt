@@ -1,4 +1,3 @@
-use Rattle.std.proofs.Common.{ap, subst}
 use Rattle.gix_date_tool.proofs.Sending.{Sends-at_once}
 use Rattle.gix_date_tool.proofs.outbox.Outbox.push_piece.Goals as goal
 

@@ -1,4 +1,4 @@
-use Rattle.std.proofs.Common.{◌≡◌, ◌<◌, ◌≤◌, ℕ, List, ◌++◌, length, length-append, arith, refl, ap, subst}
+use Rattle.std.proofs.Common.{◌≡◌, ◌<◌, ◌≤◌, ℕ, List, length-append, arith, refl, ap}
 use Rattle.gix_date.specs.Known.{Known}
 use Rattle.gix_date_tool.specs.declared.progress.Progress.{Progress}
 use Rattle.gix_date_tool.specs.Outbox.{output}
@@ -18,9 +18,9 @@ returns-then-part-len c = λ sink. (refl, (omega arith, omega (arith, length-app
 pub returns-in-Err : goal.returns-in-Err
 returns-in-Err c = λ sink. (ap (with_open_line c.args.self.now sink) c.in-Err.ensures.items, omega arith)
 
-pub returns-in-Ok : goal.returns-in-Ok
-returns-in-Ok c = λ sink. record {
-  same = ap (with_open_line c.args.self.now sink) c.in-Ok.ensures.items;
+pub returns : goal.returns
+returns c = λ sink. record {
+  same = ap (with_open_line c.args.self.now sink) c.in_default.ensures.items;
   is_short = omega (arith, length-append c.args.self.now.line.items c.args.part.now);
   few = omega arith;
 }

@@ -1,4 +1,4 @@
-use Rattle.std.proofs.Common.{rules, ◌<◌, length, take, [], subst}
+use Rattle.std.proofs.Common.{rules, ◌<◌, length, take, subst}
 use Rattle.gix_date.specs.Known.{Gives}
 use Rattle.gix_date_tool.specs.Progress.{stage}
 use Rattle.gix_date_tool.proofs.Reading.{HasRead-first, HasRead-sent, HasRead-taken, IsReady-fresh, IsReady-sent, Ran-unsent, Ran-unread, Ran-ended, Ran-stopped}
@@ -21,7 +21,10 @@ returns-in_err-send g c =
 
 pub returns-in-Err : goal.returns-in-Err
 returns-in-Err g c =
-    Ran-unread (g.R.Source.known c.get.new.self) (HasRead-sent c.pieces.invariant.so_far c.in_ok-send.ensures) (IsReady-sent c.pieces.invariant.ready c.in_ok-send.ensures) c.in-Err.ensures.bytes c.in-Err.ensures.fault
+    let sent = stage c.send.new.self (g.W.Sink.known c.send.new.writer) in
+    let far = HasRead-sent {s' = sent} c.pieces.invariant.so_far c.in_ok-send.ensures in
+    let ready = IsReady-sent {s' = sent} c.pieces.invariant.ready c.in_ok-send.ensures in
+    Ran-unread (g.R.Source.known c.get.new.self) far ready c.in-Err.ensures.bytes c.in-Err.ensures.fault
 
 pub returns-then-count-eq0 : goal.returns-then-count-eq0
 returns-then-count-eq0 g c =
@@ -30,20 +33,25 @@ returns-then-count-eq0 g c =
     let last = stage c.end_input.new.self (g.W.Sink.known c.end_input.new.writer) in
     let piece : 0 < length c.get.new.piece = search rules in
     let read = subst (λ n. Gives before after (take n c.get.new.piece)) c.if-count-eq0.true c.in-Ok.ensures.bytes.0 in
-    let far = HasRead-sent c.pieces.invariant.so_far c.in_ok-send.ensures in
-    let ready = IsReady-sent c.pieces.invariant.ready c.in_ok-send.ensures in
+    let sent = stage c.send.new.self (g.W.Sink.known c.send.new.writer) in
+    let far = HasRead-sent {s' = sent} c.pieces.invariant.so_far c.in_ok-send.ensures in
+    let ready = IsReady-sent {s' = sent} c.pieces.invariant.ready c.in_ok-send.ensures in
     Ran-ended last after c.end_input.result far ready read (c.in-Ok.ensures.bytes.1 c.if-count-eq0.true piece) c.in-Ok.ensures.fault c.end_input.ensures
 
 pub returns-in_err-take_in : goal.returns-in_err-take_in
 returns-in_err-take_in g c =
     let last = stage c.take_in.new.self (g.W.Sink.known c.take_in.new.writer) in
-    let far = HasRead-sent c.pieces.invariant.so_far c.in_ok-send.ensures in
+    let sent = stage c.send.new.self (g.W.Sink.known c.send.new.writer) in
+    let far = HasRead-sent {s' = sent} c.pieces.invariant.so_far c.in_ok-send.ensures in
     let stopped = Ran-stopped last (g.R.Source.known c.get.new.self) (take c.in-Ok.count c.get.new.piece) c.in_err-take_in.field-0.0 far c.in-Ok.ensures.bytes.0 c.in_err-take_in.ensures.takes in
     search (rules, stopped)
 
 pub pieces-preserved : goal.pieces-preserved
 pieces-preserved g c =
+    let sent = stage c.send.new.self (g.W.Sink.known c.send.new.writer) in
+    let far = HasRead-sent {s' = sent} c.pieces.invariant.so_far c.in_ok-send.ensures in
+    let last = stage c.take_in.new.self (g.W.Sink.known c.take_in.new.writer) in
     record {
-      so_far = HasRead-taken (g.R.Source.known c.get.new.self) (HasRead-sent c.pieces.invariant.so_far c.in_ok-send.ensures) c.in-Ok.ensures.bytes.0 c.in_ok-take_in.ensures.takes;
+      so_far = HasRead-taken {s' = last} (g.R.Source.known c.get.new.self) far c.in-Ok.ensures.bytes.0 c.in_ok-take_in.ensures.takes;
       ready = c.in_ok-take_in.ensures.ready;
     }

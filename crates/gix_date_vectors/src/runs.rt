@@ -1,19 +1,14 @@
-use crate::arguments::Mode;
-use crate::error::ToolError;
+//! Runs over the lines of a stream.
 use crate::fakes::{Slow, Supply};
-use crate::lines::run;
 use gix_date::Time;
 use gix_date::device::Device;
+use gix_date_tool::{Mode, ToolError, run};
 use std::io::ErrorKind;
 use std::test::Fail;
 
 /// What a run in Check of this reader answers, and what it wrote to a writer that takes all.
 fn check(rt: &HostRuntime, reader: Supply<'_>) -> (Result<u64, ToolError>, Vec<u8>) {
-    check_into(
-        rt,
-        reader,
-        Slow::new(rt.alloc(), 1 << 20, 1 << 30, ErrorKind::Other),
-    )
+    check_into(rt, reader, Slow::roomy(rt.alloc()))
 }
 
 fn check_into(
@@ -80,7 +75,7 @@ fn lines_are_parsed(rt: HostRuntime) {
         Some(Time::new(0, 93_599)),
     ] {
         let mut source = Device::new(Supply::once(input, 5, None));
-        let mut sink = Device::new(Slow::new(rt.alloc(), 1 << 20, 1 << 30, ErrorKind::Other));
+        let mut sink = Device::new(Slow::roomy(rt.alloc()));
         let answer = run(rt.alloc(), Mode::Parse, now, &mut source, &mut sink);
         assert!(rt; matches!(answer, Ok(6)), "parse-lines");
         assert_eq!(rt;
@@ -199,7 +194,7 @@ fn many_lines_are_written_in_few_calls(rt: HostRuntime) -> Result<(), Fail> {
         input.extend_from_slice(b"0 +0000\n")?;
     }
     let mut source = Device::new(Supply::once(input.as_slice(), 1 << 20, None));
-    let mut sink = Device::new(Slow::new(rt.alloc(), 1 << 20, 1 << 30, ErrorKind::Other));
+    let mut sink = Device::new(Slow::roomy(rt.alloc()));
     let answer = run(rt.alloc(), Mode::Check, None, &mut source, &mut sink);
     assert!(rt; matches!(answer, Ok(10_000)));
     let inner = sink.into_inner();

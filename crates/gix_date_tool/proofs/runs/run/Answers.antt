@@ -3,7 +3,7 @@ use Rattle.gix_date_tool.specs.declared.replies.Asked.{Asked}
 use Rattle.gix_date_tool.specs.Run.{change}
 use Rattle.gix_date_tool.specs.Progress.{stage}
 use Rattle.gix_date_tool.proofs.Reading.{RanBut, Ran-unwritten, Ran-sent, Ran-cut}
-use Rattle.gix_date_tool.proofs.lines.run.Goals as goal
+use Rattle.gix_date_tool.proofs.runs.run.Goals as goal
 
 pub returns-then-is_unwritten : goal.returns-then-is_unwritten
 returns-then-is_unwritten g c =

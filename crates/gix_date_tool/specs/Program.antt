@@ -1,0 +1,39 @@
+-- What the program does with a command line.
+use Rattle.std.specs.Prelude.{◌≡◌, ℕ, List, Option, Some, None, Ok, Err}
+use Rattle.gix_date.specs.Known.{Takes, TakesProperPrefix}
+use Rattle.gix_date.specs.declared.time.Time.{Time}
+use Rattle.gix_date_tool.specs.declared.arguments.Mode.{Mode}
+use Rattle.gix_date_tool.specs.declared.error.ToolError.{ToolError}
+use Rattle.gix_date_tool.specs.declared.program.Status.{Status}
+use Rattle.gix_date_tool.specs.declared.program.Status.TheVariants.{Success, Failure, Usage}
+use Rattle.gix_date_tool.specs.declared.program.TheConstants.{USAGE}
+use Rattle.gix_date_tool.specs.Command.{command_of}
+use Rattle.gix_date_tool.specs.Run.{Change, Runs}
+
+-- the exit status of the process
+abbrev pub code_of : Status → ℕ
+code_of Success = 0
+code_of Failure = 1
+code_of Usage = 2
+
+-- The usage line was written, or a proper prefix of it.
+abbrev pub ShowsUsage : Change → Status → Type 0
+ShowsUsage writing Success = ⊥
+ShowsUsage writing Failure = TakesProperPrefix writing.old writing.new USAGE.now
+ShowsUsage writing Usage = Takes writing.old writing.new USAGE.now
+
+-- A run in this mode at this moment came to its end, or to a fault.
+abbrev pub EndsRun : Mode × Option Time → Change → Change → Status → Type 0
+EndsRun asked reading writing Success = (count : ℕ) × Runs asked.0 asked.1 reading writing (Ok count)
+EndsRun asked reading writing Failure = (fault : ToolError) × Runs asked.0 asked.1 reading writing (Err fault)
+EndsRun asked reading writing Usage = ⊥
+
+-- What the program comes to by what was asked of it: the usage line is due where that is nothing it has, and then nothing is
+-- read.
+abbrev pub Ends : Option (Mode × Option Time) → Change → Change → Status → Type 0
+Ends None reading writing status = (reading.new ≡ reading.old) × ShowsUsage writing status
+Ends (Some asked) reading writing status = EndsRun asked reading writing status
+
+-- what the program comes to by the words of its command line
+abbrev pub Executes : List (List ℕ) → Change → Change → Status → Type 0
+Executes words reading writing status = Ends (command_of words) reading writing status

@@ -1,0 +1,68 @@
+//! A run over the lines of a stream, each replied to in turn.
+ghost use Rattle.std.specs.Prelude.{◌≡◌};
+ghost use Rattle.std.specs.Option.{ForSome};
+ghost use Rattle.gix_date.specs.Zoned.{IsConvertible};
+ghost use Rattle.gix_date_tool.specs.Run.{Runs, change, IsMomentOf, is_unwritten};
+
+use crate::arguments::Mode;
+use crate::error::ToolError;
+use crate::progress::Progress;
+use crate::replies::Asked;
+use gix_date::device::{Sink, Source};
+use gix_date::{Time, Zoned};
+use std::alloc::Global;
+
+/// Replies to each line that a reader gives, by a line of output, and says how many lines there were.
+///
+/// The moment, where there is one, is what a date may be relative to; it has to be one that `Time::to_zoned` converts.
+///
+/// Lines end at `\n`, and a last line without one counts where it has a byte. The replies to the lines of what was read
+/// are written before more is read. Memory is taken for the line that is read, in Parse also for a copy of a text that is in
+/// no known format, and not for more.
+///
+/// A run ends well only at the end of the input. [`ToolError::LineTooLong`] comes where one of the first 1000000 lines has
+/// more than 65536 bytes, [`ToolError::TooManyLines`] where a byte stands behind line 1000000, [`ToolError::Memory`] where
+/// memory for a line or its reply is refused, and [`ToolError::Read`] carries the reader's fault: then the replies to all
+/// lines before were written, and nothing more. [`ToolError::Write`] carries the writer's fault, and then a proper prefix of
+/// the replies that were due was written.
+pub fn run<R: Source, W: Sink>(
+    alloc: Global,
+    mode: Mode,
+    now: Option<Time>,
+    reader: &mut R,
+    writer: &mut W,
+) -> Result<u64, ToolError>
+    requires { ForSome now IsConvertible }
+    ensures { Runs mode now (change (R.known reader.old) (R.known reader.new))
+        (change (W.known writer.old) (W.known writer.new)) result }
+{
+    let asked = Asked {
+        mode,
+        now: moment_of(now),
+    };
+    let mut progress = Progress::new(alloc, asked);
+    let outcome = progress.reply_to_all(alloc, reader, writer);
+    if is_unwritten(&outcome) {
+        return outcome;
+    }
+    progress.send(writer)?;
+    outcome
+}
+
+/// The moment of a time, in the zone that always has its offset.
+fn moment_of(now: Option<Time>) -> Option<Zoned<'static>>
+    requires { ForSome now IsConvertible }
+    ensures { IsMomentOf now result }
+{
+    match now {
+        Some(time) => Some(time.to_zoned().unwrap()),
+        None => None,
+    }
+}
+
+/// Whether the writer refused.
+fn is_unwritten(outcome: &Result<u64, ToolError>) -> bool
+    ensures { result ≡ is_unwritten outcome.now }
+{
+    matches!(outcome, Err(ToolError::Write(_)))
+}
