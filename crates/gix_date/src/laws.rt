@@ -4,6 +4,9 @@ ghost use Rattle.std.specs.declared.cmp.Ordering.TheVariants.{Equal};
 ghost use Rattle.std.specs.Hash as fed;
 ghost use Rattle.std.specs.Ordering.{int_cmp, on, then_cmp};
 ghost use Rattle.gix_date.specs.TimeBuf.{text_in};
+ghost use Rattle.gix_date.specs.declared.parsing.function.TheConstants.{LEAST_EPOCH};
+ghost use Rattle.gix_date.specs.declared.parsing.raw.TheConstants.{MOST_HOURS};
+ghost use Rattle.gix_date.specs.declared.time.write.TheConstants.{HUNDRED_HOURS, LONGEST_TEXT};
 
 use crate::parsing::TimeBuf;
 use crate::time::Time;
@@ -13,6 +16,14 @@ use std::hash::Hash;
 pub fn constants()
     ensures max { Time.MAX ≡ record { seconds = pos 9_223_372_036_854_775_807; offset = pos 359_999 } }
     ensures min { Time.MIN ≡ record { seconds = neg_ℤ (pos 9_223_372_036_854_775_808); offset = neg_ℤ (pos 359_999) } }
+{}
+
+/// The limits that contracts name are the numbers that the documents say.
+pub fn limits()
+    ensures least_bare_epoch { LEAST_EPOCH ≡ pos 100_000_000 }
+    ensures most_raw_hours { MOST_HOURS ≡ 14 }
+    ensures offset_without_text { HUNDRED_HOURS ≡ 360_000 }
+    ensures longest_text { LONGEST_TEXT ≡ 26 }
 {}
 
 /// A clone of a time is that time, a clone of a buffer holds the same text, and neither can fail.

@@ -68,7 +68,8 @@ pub IsReady-fresh : (asked : Asked) (sink : Known) (s : Stage) → s ≡ first_s
 IsReady-fresh asked sink s fresh = subst IsReady (sym fresh) (IsReady-first asked sink)
 
 -- what was unsent was sent
-pub HasRead-sent : {asked : Asked} {sink : Known} {s s' : Stage} {reading : Change} → HasRead asked sink s reading → SentAll s s' → HasRead asked sink s' reading
+pub HasRead-sent : {asked : Asked} {sink : Known} {s s' : Stage} {reading : Change} → HasRead asked sink s reading → SentAll s s'
+    → HasRead asked sink s' reading
 HasRead-sent {asked = asked} {sink = sink} {s = s} {s' = s'} h k =
     let sent : TookIn (first_stage asked sink) (record s { output = s'.output }) h.input = record {
       lines = h.took.lines;
@@ -148,7 +149,8 @@ StoppedWithin-ran {reading = reading} {stop = stop} read k = record {
 }
 
 stopped : (asked : Asked) (sink : Known) (s : Stage) (reading : Change) (input : List ℕ) (stop : ToolError)
-    → Gives reading.old reading.new input → TakesIn (first_stage asked sink) s input (Err stop) → Ran (Puts (all_sent sink) s.output) asked reading (change sink s.output.sink) (Err stop)
+    → Gives reading.old reading.new input → TakesIn (first_stage asked sink) s input (Err stop)
+    → Ran (Puts (all_sent sink) s.output) asked reading (change sink s.output.sink) (Err stop)
 stopped asked sink s reading input (errors.Write kind) read k = RefusedWithin-ran read k
 stopped asked sink s reading input (errors.Read kind) read k = absurd k.stops
 stopped asked sink s reading input errors.Memory read k = StoppedWithin-ran read k
@@ -177,7 +179,8 @@ room_for_last n most [] few none = omega arith
 room_for_last n most (b ∷ bs) few none = omega (arith, short_of n most few (λ e. not_empty b bs (none e)))
 
 -- what was read is within the limits
-within : {asked : Asked} {sink : Known} {s : Stage} {input : List ℕ} (took : TookIn (first_stage asked sink) s input) → IsReady s → IsWithinLimits (took.lines ++ last_line s.open_line)
+within : {asked : Asked} {sink : Known} {s : Stage} {input : List ℕ} (took : TookIn (first_stage asked sink) s input) → IsReady s
+    → IsWithinLimits (took.lines ++ last_line s.open_line)
 within {s = s} took ready =
     let last = last_line s.open_line in (
       All-append IsShort took.lines last took.short (last_short s.open_line ready.is_short),
@@ -185,7 +188,8 @@ within {s = s} took ready =
     )
 
 -- the reader refused
-pub Ran-unread : {asked : Asked} {sink : Known} {s : Stage} {old mid : Known} (new : Known) {kind : ErrorKind} → HasRead asked sink s (change old mid) → IsReady s → TakesNothing mid new → new.fault ≡ Some kind
+pub Ran-unread : {asked : Asked} {sink : Known} {s : Stage} {old mid : Known} (new : Known) {kind : ErrorKind}
+    → HasRead asked sink s (change old mid) → IsReady s → TakesNothing mid new → new.fault ≡ Some kind
     → Ran (Puts (all_sent sink) s.output) asked (change old new) (change sink s.output.sink) (Err (errors.Read kind))
 Ran-unread {s = s} {old = old} {mid = mid} new h ready kept fault = record {
   input = h.input;
@@ -308,14 +312,17 @@ Ran-sent sink s s' asked reading (Err errors.LineTooLong) not h k = Stopped-sent
 Ran-sent sink s s' asked reading (Err errors.TooManyLines) not h k = Stopped-sent h k
 
 -- The writer refused the replies to lines that were due.
-cut_off : {sink : Known} {b c : Output} {kind : ErrorKind} {asked : Asked} {reading : Change} (front beyond : List ℕ) (lines : List (List ℕ)) → Gives reading.old reading.new (front ++ beyond)
-    → WereDue reading.new front beyond lines → Puts (all_sent sink) b (replies asked lines) → PutsProperPrefix b c [] kind → Unwritten asked reading (change sink c.sink) kind
+cut_off : {sink : Known} {b c : Output} {kind : ErrorKind} {asked : Asked} {reading : Change} (front beyond : List ℕ) (lines : List (List ℕ))
+    → Gives reading.old reading.new (front ++ beyond)
+    → WereDue reading.new front beyond lines → Puts (all_sent sink) b (replies asked lines) → PutsProperPrefix b c [] kind
+    → Unwritten asked reading (change sink c.sink) kind
 cut_off front beyond lines read due put k =
     let cut = PutsProperPrefix-sent put k in
     record { front = front; beyond = beyond; lines = lines; read = read; due = due; wrote = cut.taken; fault = cut.fault }
 
 cut_short : (sink : Known) (s s' : Stage) (asked : Asked) (reading : Change) (r : Result ℕ ToolError) (kind : ErrorKind)
-    → is_unwritten r ≡ false → RanBut sink s asked reading r → PutsProperPrefix s.output s'.output [] kind → Unwritten asked reading (change sink s'.output.sink) kind
+    → is_unwritten r ≡ false → RanBut sink s asked reading r → PutsProperPrefix s.output s'.output [] kind
+    → Unwritten asked reading (change sink s'.output.sink) kind
 cut_short sink s s' asked reading (Ok count) kind not h k =
     cut_off h.input [] h.lines (without_beyond reading.old reading.new h.input h.read) (inr (record { at_end = h.at_end; none_beyond = refl; all = h.all })) h.wrote k
 cut_short sink s s' asked reading (Err (errors.Read first)) kind not h k =
@@ -327,7 +334,8 @@ cut_short sink s s' asked reading (Err errors.TooManyLines) kind not h k = cut_o
 
 -- What a run comes to where the writer refuses what was unsent.
 pub Ran-cut : (sink : Known) (s s' : Stage) (asked : Asked) (reading : Change) (r : Result ℕ ToolError) (e : ToolError)
-    → is_unwritten r ≡ false → RanBut sink s asked reading r → SendsAll s s' (Err e) → Ran (Takes sink s'.output.sink) asked reading (change sink s'.output.sink) (Err e)
+    → is_unwritten r ≡ false → RanBut sink s asked reading r → SendsAll s s' (Err e)
+    → Ran (Takes sink s'.output.sink) asked reading (change sink s'.output.sink) (Err e)
 Ran-cut sink s s' asked reading r (errors.Write kind) not h k = cut_short sink s s' asked reading r kind not h k
 Ran-cut sink s s' asked reading r (errors.Read kind) not h k = absurd k
 Ran-cut sink s s' asked reading r errors.Memory not h k = absurd k

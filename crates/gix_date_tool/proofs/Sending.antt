@@ -70,10 +70,12 @@ PutsProperPrefix-more {a = a} {b = b} {x = x} y h = record {
 }
 
 -- the pieces up to one and that one
-joined-next : (pieces : List (Bor (List ℕ))) (i : ℕ) (d : Bor (List ℕ)) → i < length pieces → joined (take (i + 1) pieces) ≡ joined (take i pieces) ++ (get_or pieces i d).now
+joined-next : (pieces : List (Bor (List ℕ))) (i : ℕ) (d : Bor (List ℕ)) → i < length pieces
+    → joined (take (i + 1) pieces) ≡ joined (take i pieces) ++ (get_or pieces i d).now
 joined-next pieces i d h =
     let piece = get_or pieces i d in
-    ap joined (take_more pieces i d h) ∙ flat_map-append (λ p. p.now) (take i pieces) (piece ∷ []) ∙ ap (λ xs. joined (take i pieces) ++ xs) (append-nil piece.now)
+    ap joined (take_more pieces i d h) ∙ flat_map-append (λ p. p.now) (take i pieces) (piece ∷ [])
+    ∙ ap (λ xs. joined (take i pieces) ++ xs) (append-nil piece.now)
 
 -- the next piece of a text
 pub Puts-piece : {a b c : Output} (pieces : List (Bor (List ℕ))) (i : ℕ) (d : Bor (List ℕ))
@@ -85,13 +87,15 @@ pub PutsProperPrefix-piece : {a b c : Output} (pieces : List (Bor (List ℕ))) (
     → i < length pieces → Puts a b (joined (take i pieces)) → PutsProperPrefix b c (get_or pieces i d).now kind → PutsProperPrefix a c (joined pieces) kind
 PutsProperPrefix-piece {a = a} {c = c} pieces i d {kind = kind} within h k =
     let behind = drop (i + 1) pieces in
-    let whole : joined (take (i + 1) pieces) ++ joined behind ≡ joined pieces = sym (flat_map-append (λ p. p.now) (take (i + 1) pieces) behind) ∙ ap joined (take-append-drop (i + 1) pieces) in
+    let whole : joined (take (i + 1) pieces) ++ joined behind ≡ joined pieces = sym (flat_map-append (λ p. p.now) (take (i + 1) pieces) behind)
+    ∙ ap joined (take-append-drop (i + 1) pieces) in
     let front = subst (λ text. PutsProperPrefix a c text kind) (sym (joined-next pieces i d within)) (PutsProperPrefix-then h k) in
     subst (λ text. PutsProperPrefix a c text kind) whole (PutsProperPrefix-more (joined behind) front)
 
 -- What is sent at once where nothing waits.
 pub Sends-at_once : {a b : Output} (sink : Known) (text : List ℕ) (r : Result (Unit {0}) ErrorKind) → Puts a b [] → b.unsent ≡ []
-    → OnOk r (Takes b.sink sink text) → OnErr r (TakesProperPrefix b.sink sink text) → IfErr r (λ kind. sink.fault ≡ Some kind) → Sends a (record b { sink = sink }) text r
+    → OnOk r (Takes b.sink sink text) → OnErr r (TakesProperPrefix b.sink sink text) → IfErr r (λ kind. sink.fault ≡ Some kind)
+    → Sends a (record b { sink = sink }) text r
 Sends-at_once {b = b} sink text (Ok u) h empty ok cut fault =
     Puts-then h (record { sent = text; cut = ap (λ xs. xs ++ text) empty ∙ sym (append-nil text) ∙ ap (λ xs. text ++ xs) (sym empty); taken = ok })
 Sends-at_once {b = b} sink text (Err kind) h empty ok cut fault =

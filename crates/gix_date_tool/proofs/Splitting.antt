@@ -15,15 +15,19 @@ Splits-open line h = record { whole = refl; each = All-nil IsLine; rest_is_line 
 -- a newline ends the rest
 pub Splits-newline : (input : List ℕ) (lines : List (List ℕ)) (rest : List ℕ) → Splits input lines rest → Splits (input ++ newline ∷ []) (lines ++ rest ∷ []) []
 Splits-newline input lines rest h = record {
-  whole = ap with_newline h.whole ∙ append_assoc (flat_map with_newline lines) rest (newline ∷ []) ∙ flat_map_more with_newline [] lines rest ∙ sym (append-nil (flat_map with_newline (lines ++ rest ∷ [])));
+  whole = ap with_newline h.whole ∙ append_assoc (flat_map with_newline lines) rest (newline ∷ []) ∙ flat_map_more with_newline [] lines rest
+      ∙ sym (append-nil (flat_map with_newline (lines ++ rest ∷ [])));
   each = All-push IsLine lines rest h.each h.rest_is_line;
   rest_is_line = All-nil (λ b. b ≢ newline);
 }
 
 -- what comes behind a rest
-pub Splits-join : (a b : List ℕ) (lines more : List (List ℕ)) (rest end : List ℕ) → Splits a lines rest → Splits (rest ++ b) more end → Splits (a ++ b) (lines ++ more) end
+pub Splits-join : (a b : List ℕ) (lines more : List (List ℕ)) (rest end : List ℕ) → Splits a lines rest → Splits (rest ++ b) more end
+    → Splits (a ++ b) (lines ++ more) end
 Splits-join a b lines more rest end h k = record {
-  whole = ap (λ xs. xs ++ b) h.whole ∙ append_assoc (flat_map with_newline lines) rest b ∙ ap (λ xs. flat_map with_newline lines ++ xs) k.whole ∙ sym (append_assoc (flat_map with_newline lines) (flat_map with_newline more) end) ∙ ap (λ xs. xs ++ end) (sym (flat_map-append with_newline lines more));
+  whole = ap (λ xs. xs ++ b) h.whole ∙ append_assoc (flat_map with_newline lines) rest b ∙ ap (λ xs. flat_map with_newline lines ++ xs) k.whole
+      ∙ sym (append_assoc (flat_map with_newline lines) (flat_map with_newline more) end)
+      ∙ ap (λ xs. xs ++ end) (sym (flat_map-append with_newline lines more));
   each = All-append IsLine lines more h.each k.each;
   rest_is_line = k.rest_is_line;
 }
@@ -52,8 +56,10 @@ no_newline_within (x ∷ a) xs [] h e = cc
 no_newline_within (x ∷ a) xs (r ∷ rest) h e = no_newline_within a xs rest (All-tail (λ b. b ≢ newline) r rest h) (cc)
 
 -- the front of what is split, cut at its first newline
-cut_first : (line : List ℕ) (lines : List (List ℕ)) (rest : List ℕ) → flat_map with_newline (line ∷ lines) ++ rest ≡ line ++ newline ∷ (flat_map with_newline lines ++ rest)
-cut_first line lines rest = append_assoc (with_newline line) (flat_map with_newline lines) rest ∙ append_assoc line (newline ∷ []) (flat_map with_newline lines ++ rest)
+cut_first : (line : List ℕ) (lines : List (List ℕ)) (rest : List ℕ)
+    → flat_map with_newline (line ∷ lines) ++ rest ≡ line ++ newline ∷ (flat_map with_newline lines ++ rest)
+cut_first line lines rest = append_assoc (with_newline line) (flat_map with_newline lines) rest
+    ∙ append_assoc line (newline ∷ []) (flat_map with_newline lines ++ rest)
 
 same_lines : (lines others : List (List ℕ)) (rest other : List ℕ) → All IsLine lines → All IsLine others → IsLine rest → IsLine other
     → flat_map with_newline lines ++ rest ≡ flat_map with_newline others ++ other → (lines ≡ others) × (rest ≡ other)
@@ -68,5 +74,6 @@ same_lines (l ∷ lines) (o ∷ others) rest other h k i j e =
     (cc, more.1)
 
 -- there is one way to split an input
-pub Splits_unique : (input : List ℕ) (lines others : List (List ℕ)) (rest other : List ℕ) → Splits input lines rest → Splits input others other → (lines ≡ others) × (rest ≡ other)
+pub Splits_unique : (input : List ℕ) (lines others : List (List ℕ)) (rest other : List ℕ) → Splits input lines rest → Splits input others other
+    → (lines ≡ others) × (rest ≡ other)
 Splits_unique input lines others rest other h k = same_lines lines others rest other h.each k.each h.rest_is_line k.rest_is_line (sym h.whole ∙ k.whole)

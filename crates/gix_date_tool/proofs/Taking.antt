@@ -25,7 +25,8 @@ replies-single : (asked : Asked) (line : List ℕ) → replies asked (line ∷ [
 replies-single asked line = append-nil (reply_line asked line)
 
 -- the replies to some lines and to more
-pub Puts-replies : {a b c : Output} (asked : Asked) (lines more : List (List ℕ)) → Puts a b (replies asked lines) → Puts b c (replies asked more) → Puts a c (replies asked (lines ++ more))
+pub Puts-replies : {a b c : Output} (asked : Asked) (lines more : List (List ℕ)) → Puts a b (replies asked lines) → Puts b c (replies asked more)
+    → Puts a c (replies asked (lines ++ more))
 Puts-replies {a = a} {c = c} asked lines more h k = subst (Puts a c) (sym (replies-append asked lines more)) (Puts-then h k)
 
 pub PutsProperPrefix-replies : {a b c : Output} (asked : Asked) (lines more : List (List ℕ)) {kind : ErrorKind}
@@ -38,7 +39,8 @@ recut : (a b front beyond : List ℕ) → b ≡ front ++ beyond → a ++ b ≡ (
 recut a b front beyond e = ap (λ xs. a ++ xs) e ∙ sym (append_assoc a front beyond)
 
 -- the lines of an open line, bytes and more bytes
-Splits-more : (start a b : List ℕ) {mid rest : List ℕ} {lines more : List (List ℕ)} → Splits (start ++ a) lines mid → Splits (mid ++ b) more rest → Splits (start ++ (a ++ b)) (lines ++ more) rest
+Splits-more : (start a b : List ℕ) {mid rest : List ℕ} {lines more : List (List ℕ)} → Splits (start ++ a) lines mid → Splits (mid ++ b) more rest
+    → Splits (start ++ (a ++ b)) (lines ++ more) rest
 Splits-more start a b {mid = mid} {rest = rest} {lines = lines} {more = more} h k =
     subst (λ xs. Splits xs (lines ++ more) rest) (append_assoc start a b) (Splits-join (start ++ a) b lines more mid rest h k)
 
@@ -79,7 +81,8 @@ StoppedWithin-then {s0 = s0} {s1 = s1} {s2 = s2} {a = a} {b = b} {stop = stop} h
 }
 
 -- bytes that were taken in, and then more bytes, whatever came of these
-pub TakesIn-then : {s0 s1 : Stage} {a : List ℕ} (s2 : Stage) (b : List ℕ) (r : Result (Unit {0}) ToolError) → TookIn s0 s1 a → TakesIn s1 s2 b r → TakesIn s0 s2 (a ++ b) r
+pub TakesIn-then : {s0 s1 : Stage} {a : List ℕ} (s2 : Stage) (b : List ℕ) (r : Result (Unit {0}) ToolError) → TookIn s0 s1 a → TakesIn s1 s2 b r
+    → TakesIn s0 s2 (a ++ b) r
 TakesIn-then s2 b (Ok u) h k = TookIn-then h k
 TakesIn-then s2 b (Err (errors.Write kind)) h k = RefusedWithin-then h k
 TakesIn-then s2 b (Err (errors.Read kind)) h k = StoppedWithin-then h k
@@ -90,7 +93,7 @@ TakesIn-then s2 b (Err errors.TooManyLines) h k = StoppedWithin-then h k
 -- more bytes stand beyond the place where a run stops
 StopsAt-beyond : (stop : ToolError) (n : ℕ) (rest beyond more : List ℕ) → StopsAt stop n rest beyond → StopsAt stop n rest (beyond ++ more)
 StopsAt-beyond errors.LineTooLong n rest beyond more h = h
-StopsAt-beyond errors.TooManyLines n rest beyond more h = (h.0, h.1, omega (arith, length-append beyond more, h.2))
+StopsAt-beyond errors.TooManyLines n rest beyond more h = record { all = h.all; none_begun = h.none_begun; more = omega (arith, length-append beyond more, h.more) }
 StopsAt-beyond errors.Memory n rest beyond more h = h
 StopsAt-beyond (errors.Read kind) n rest beyond more h = h
 StopsAt-beyond (errors.Write kind) n rest beyond more h = h
@@ -134,7 +137,8 @@ IsLine-more : {s : Stage} (part : List ℕ) → IsReady s → IsLine part → Is
 IsLine-more {s = s} part ready line = All-append (λ b. b ≢ newline) s.open_line part ready.is_line line
 
 -- bytes that the open line may not take stop the run
-stops_within : {s : Stage} (front beyond : List ℕ) (stop : ToolError) → IsLine (s.open_line ++ front) → StopsAt stop (s.ended + 0) (s.open_line ++ front) beyond → StoppedWithin s s (front ++ beyond) stop
+stops_within : {s : Stage} (front beyond : List ℕ) (stop : ToolError) → IsLine (s.open_line ++ front)
+    → StopsAt stop (s.ended + 0) (s.open_line ++ front) beyond → StoppedWithin s s (front ++ beyond) stop
 stops_within {s = s} front beyond stop line at = record {
   front = front;
   beyond = beyond;
@@ -154,7 +158,8 @@ stops_before {s = s} bytes stop ready at =
     stops_within [] bytes stop (subst IsLine same ready.is_line) (subst (λ rest. StopsAt stop (s.ended + 0) rest bytes) same at)
 
 -- a line that would be too long is so at its first byte beyond the limit
-too_long : {s : Stage} (part more : List ℕ) → IsReady s → IsLine part → s.ended < MOST_LINES → LONGEST_LINE < length (s.open_line ++ part) → StoppedWithin s s (part ++ more) errors.LineTooLong
+too_long : {s : Stage} (part more : List ℕ) → IsReady s → IsLine part → s.ended < MOST_LINES → LONGEST_LINE < length (s.open_line ++ part)
+    → StoppedWithin s s (part ++ more) errors.LineTooLong
 too_long {s = s} part more ready line few long =
     let n = LONGEST_LINE + 1 - length s.open_line in
     let short : length s.open_line ≤ LONGEST_LINE = ready.is_short in
@@ -165,16 +170,24 @@ too_long {s = s} part more ready line few long =
     let within = stops_within front (drop n part ++ more) errors.LineTooLong (IsLine-more front ready (All-take (λ b. b ≢ newline) n part line)) (omega arith, size) in
     subst (λ bytes. StoppedWithin s s bytes errors.LineTooLong) (sym cut) within
 
-refused : {s : Stage} (s' : Stage) (part more : List ℕ) (e : ToolError) → IsReady s → IsLine part → 0 < length (part ++ more) → Extends s s' part (Err e) → TakesIn s s (part ++ more) (Err e)
+refused : {s : Stage} (s' : Stage) (part more : List ℕ) (e : ToolError) → IsReady s → IsLine part → 0 < length (part ++ more)
+    → Extends s s' part (Err e) → TakesIn s s (part ++ more) (Err e)
 refused s' part more (errors.Write kind) ready line long h = absurd h.1
 refused s' part more (errors.Read kind) ready line long h = absurd h.1
 refused s' part more errors.Memory ready line long h = stops_before (part ++ more) errors.Memory ready (omega (arith, h.1), ready.is_short)
 refused s' part more errors.LineTooLong ready line long h = too_long part more ready line h.1.0 h.1.1
-refused s' part more errors.TooManyLines ready line long h = stops_before (part ++ more) errors.TooManyLines ready (omega (arith, h.1), ready.none_behind h.1, long)
+refused s' part more errors.TooManyLines ready line long h = stops_before (part ++ more) errors.TooManyLines ready (record { all = omega (arith, h.1); none_begun = ready.none_behind h.1; more = long })
 
 -- bytes that were refused, and have changed nothing
-pub TakesIn-refused : {s : Stage} (s' : Stage) (part more : List ℕ) (e : ToolError) → IsReady s → IsLine part → 0 < length (part ++ more) → Extends s s' part (Err e) → TakesIn s s' (part ++ more) (Err e)
+pub TakesIn-refused : {s : Stage} (s' : Stage) (part more : List ℕ) (e : ToolError) → IsReady s → IsLine part → 0 < length (part ++ more)
+    → Extends s s' part (Err e) → TakesIn s s' (part ++ more) (Err e)
 TakesIn-refused {s = s} s' part more e ready line long h = subst (λ x. TakesIn s x (part ++ more) (Err e)) (sym h.0) (refused s' part more e ready line long h)
+
+-- a front of the bytes was taken in, and this is the rest
+pub record HasTaken (s s' : Stage) (bytes rest : List ℕ) : Type 0 where
+  pub front : List ℕ
+  pub cut : bytes ≡ front ++ rest
+  pub took : TookIn s s' front
 
 -- nothing was taken in
 pub TookIn-nil : {s : Stage} → IsReady s → TookIn s s []
@@ -199,7 +212,8 @@ TookIn-extended {s = s} part ready line h = subst (λ x. TookIn s x part) (sym h
 })
 
 -- the last bytes of a piece, which end no line
-pub TakesIn-last : {s : Stage} (s' : Stage) (part : List ℕ) (r : Result (Unit {0}) ToolError) → IsReady s → IsLine part → 0 < length part → Extends s s' part r → TakesIn s s' part r
+pub TakesIn-last : {s : Stage} (s' : Stage) (part : List ℕ) (r : Result (Unit {0}) ToolError) → IsReady s → IsLine part → 0 < length part
+    → Extends s s' part r → TakesIn s s' part r
 TakesIn-last s' part (Ok u) ready line long h = TookIn-extended part ready line h
 TakesIn-last {s = s} s' part (Err e) ready line long h =
     subst (λ bytes. TakesIn s s' bytes (Err e)) (append-nil part) (TakesIn-refused s' part [] e ready line (omega (arith, length-append part [], long)) h)
@@ -214,7 +228,8 @@ abbrev longer : Stage → List ℕ → Stage
 longer s part = record s { open_line = s.open_line ++ part }
 
 -- a line ended, and the reply to it was put
-TookIn-closed : {s s' : Stage} (part : List ℕ) → IsReady s → IsLine part → IsShort (s.open_line ++ part) → Closed (longer s part) s' → TookIn s s' (with_newline part)
+TookIn-closed : {s s' : Stage} (part : List ℕ) → IsReady s → IsLine part → IsShort (s.open_line ++ part) → Closed (longer s part) s'
+    → TookIn s s' (with_newline part)
 TookIn-closed {s = s} {s' = s'} part ready line short k =
     let ended = s.open_line ++ part in
     record {
@@ -239,7 +254,8 @@ RefusedWithin-closed {s = s} {s' = s'} {kind = kind} part ready line k = record 
 }
 
 -- a line ended, and memory for the reply to it was refused
-without_memory : {s s' : Stage} (part : List ℕ) → IsReady s → IsLine part → s.ended < MOST_LINES → IsShort (s.open_line ++ part) → s' ≡ longer s part → StoppedWithin s s' (with_newline part) errors.Memory
+without_memory : {s s' : Stage} (part : List ℕ) → IsReady s → IsLine part → s.ended < MOST_LINES → IsShort (s.open_line ++ part) → s' ≡ longer s part
+    → StoppedWithin s s' (with_newline part) errors.Memory
 without_memory {s = s} part ready line few short same = record {
   front = part;
   beyond = newline ∷ [];
@@ -252,7 +268,8 @@ without_memory {s = s} part ready line few short same = record {
   put = subst (λ output. Puts s.output output []) (sym (ap (λ x. x.output) same)) (Puts-nil s.output);
 }
 
-closes : {s : Stage} (s' : Stage) (part : List ℕ) (r : Result (Unit {0}) ToolError) → IsReady s → IsLine part → s.ended < MOST_LINES → IsShort (s.open_line ++ part)
+closes : {s : Stage} (s' : Stage) (part : List ℕ) (r : Result (Unit {0}) ToolError) → IsReady s → IsLine part → s.ended < MOST_LINES
+    → IsShort (s.open_line ++ part)
     → Closes (longer s part) s' r → TakesIn s s' (with_newline part) r
 closes s' part (Ok u) ready line few short k = TookIn-closed part ready line short k
 closes s' part (Err (errors.Write kind)) ready line few short k = RefusedWithin-closed part ready line k
@@ -262,10 +279,12 @@ closes s' part (Err errors.LineTooLong) ready line few short k = absurd k
 closes s' part (Err errors.TooManyLines) ready line few short k = absurd k
 
 -- the last bytes of a line were taken in, and then the line ended, whatever came of that
-pub TakesIn-closes : {s s' : Stage} (s'' : Stage) (part : List ℕ) (r : Result (Unit {0}) ToolError) → IsReady s → IsLine part → Extended s s' part → Closes s' s'' r → TakesIn s s'' (with_newline part) r
+pub TakesIn-closes : {s s' : Stage} (s'' : Stage) (part : List ℕ) (r : Result (Unit {0}) ToolError) → IsReady s → IsLine part → Extended s s' part
+    → Closes s' s'' r → TakesIn s s'' (with_newline part) r
 TakesIn-closes s'' part r ready line h k = closes s'' part r ready line h.few h.is_short (subst (λ x. Closes x s'' r) h.same k)
 
-pub IsReady-extended : {s : Stage} (s' : Stage) (part : List ℕ) (r : Result (Unit {0}) ToolError) → IsReady s → IsLine part → Extends s s' part r → OnOk r (IsReady s')
+pub IsReady-extended : {s : Stage} (s' : Stage) (part : List ℕ) (r : Result (Unit {0}) ToolError) → IsReady s → IsLine part → Extends s s' part r
+    → OnOk r (IsReady s')
 IsReady-extended s' part (Ok u) ready line h = subst IsReady (sym h.same) (record {
   is_line = IsLine-more part ready line;
   is_short = h.is_short;

@@ -8,7 +8,10 @@ use Rattle.gix_date_tool.specs.declared.arguments.Mode.TheVariants.{Check, Parse
 
 -- the word `check` asks for Check, and `parse` for Parse, without a moment
 abbrev pub mode_of : List ℕ → Option Mode
-mode_of word = if bytes_eq word (codes "check") then Some Check else if bytes_eq word (codes "parse") then Some Parse else None
+mode_of word =
+    if bytes_eq word (codes "check") then Some Check
+    else if bytes_eq word (codes "parse") then Some Parse
+    else None
 
 -- one word, which names a mode
 abbrev pub command_of : List (List ℕ) → Option (Mode × Option Time)

@@ -129,6 +129,7 @@ pub record EndedAll (s s' : Stage) (count : ℕ) : Type 0 where
 -- what the end of the input comes to
 abbrev pub EndsAt : Stage → Stage → Result ℕ ToolError → Type 0
 EndsAt s s' (Ok count) = EndedAll s s' count
-EndsAt s s' (Err (errors.Write kind)) = PutsProperPrefix s.output s'.output (replies s.asked (last_line s.open_line)) kind
+EndsAt s s' (Err (errors.Write kind)) =
+    PutsProperPrefix s.output s'.output (replies s.asked (last_line s.open_line)) kind
 EndsAt s s' (Err errors.Memory) = (s' ≡ s) × (s.open_line ≢ [])
 EndsAt s s' (Err _) = ⊥

@@ -21,12 +21,18 @@ pub record Change : Type 0 where
 abbrev pub change : Known → Known → Change
 change old new = record { old = old; new = new }
 
--- Where a run stops: behind n lines, with a rest read of the next, and bytes beyond it. A line is too long where one byte
--- more of it was read than a line may have, and it is among the lines that an input may have. There are too many lines
--- where a byte stands behind the last of these. Memory may be wanting anywhere within the limits.
+-- all lines that an input may have have ended, none was begun, and a byte stands behind them
+pub record GoesOn (n : ℕ) (rest beyond : List ℕ) : Type 0 where
+  pub all : n ≡ MOST_LINES
+  pub none_begun : rest ≡ []
+  pub more : 0 < length beyond
+
+-- Where a run stops: behind n lines, with a rest read of the next, and bytes beyond it. A line is too long where one
+-- byte more of it was read than a line may have, and it is among the lines that an input may have. There are too many
+-- lines where a byte stands behind the last of these. Memory may be wanting anywhere within the limits.
 abbrev pub StopsAt : ToolError → ℕ → List ℕ → List ℕ → Type 0
 StopsAt errors.LineTooLong n rest beyond = (n < MOST_LINES) × (length rest ≡ LONGEST_LINE + 1)
-StopsAt errors.TooManyLines n rest beyond = (n ≡ MOST_LINES) × (rest ≡ []) × (0 < length beyond)
+StopsAt errors.TooManyLines n rest beyond = GoesOn n rest beyond
 StopsAt errors.Memory n rest beyond = (n < MOST_LINES) × IsShort rest
 StopsAt (errors.Read kind) n rest beyond = ⊥
 StopsAt (errors.Write kind) n rest beyond = ⊥

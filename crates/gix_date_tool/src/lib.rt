@@ -12,6 +12,6 @@ mod runs;
 
 pub use arguments::{Mode, command};
 pub use error::ToolError;
-pub use lines::lines_are_unique;
+pub use lines::{limits, lines_are_unique};
 pub use program::{Status, execute, show_usage};
 pub use runs::run;

@@ -9,6 +9,12 @@ pub(crate) const LONGEST_LINE: usize = 65536;
 /// The most lines that an input has.
 pub(crate) const MOST_LINES: u64 = 1_000_000;
 
+/// The limits are the numbers that the texts of the faults name.
+pub fn limits()
+    ensures of_a_line { LONGEST_LINE ≡ 65_536 }
+    ensures of_an_input { MOST_LINES ≡ 1_000_000 }
+{}
+
 /// An input has one way to be split into lines.
 pub fn lines_are_unique()
     ensures { SplitsAreUnique }

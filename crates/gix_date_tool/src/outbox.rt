@@ -27,7 +27,8 @@ impl Outbox {
 
     /// Sends what waits.
     pub(crate) fn send<W: Sink>(&mut self, out: &mut W) -> Result<(), io::ErrorKind>
-        ensures sends { Sends (output self.old (W.known out.old)) (output self.new (W.known out.new)) [] result }
+        ensures sends { Sends (output self.old (W.known out.old)) (output self.new (W.known out.new))
+            [] result }
         ensures all { OnOk result (self.new.unsent.bytes ≡ []) }
     {
         put_all(out, self.unsent.as_str().as_bytes())?;
@@ -53,7 +54,8 @@ impl Outbox {
     /// Puts a text behind what waits, and sends that first where there is no room. A text that can never have room is
     /// sent at once.
     fn push_piece<W: Sink>(&mut self, piece: &str, out: &mut W) -> Result<(), io::ErrorKind>
-        ensures { Sends (output self.old (W.known out.old)) (output self.new (W.known out.new)) piece.now result }
+        ensures { Sends (output self.old (W.known out.old)) (output self.new (W.known out.new))
+            piece.now result }
     {
         if piece.len() > self.unsent.remaining_capacity() {
             self.send(out)?;

@@ -52,8 +52,9 @@ impl Progress {
         writer: &mut W,
     ) -> Result<u64, ToolError>
         requires { IsFresh self.old }
-        ensures { Ran (Puts (all_sent (W.known writer.old)) (output self.new.outbox (W.known writer.new))) self.old.asked
-            (change (R.known reader.old) (R.known reader.new)) (change (W.known writer.old) (W.known writer.new)) result }
+        ensures { Ran (Puts (all_sent (W.known writer.old)) (output self.new.outbox (W.known writer.new)))
+            self.old.asked (change (R.known reader.old) (R.known reader.new))
+            (change (W.known writer.old) (W.known writer.new)) result }
     {
         let mut piece = [0; PIECE];
         'pieces: loop {
@@ -84,7 +85,8 @@ impl Progress {
         writer: &mut W,
     ) -> Result<(), ToolError>
         requires { IsReady (stage self.old (W.known writer.old)) }
-        ensures takes { TakesIn (stage self.old (W.known writer.old)) (stage self.new (W.known writer.new)) bytes.now result }
+        ensures takes { TakesIn (stage self.old (W.known writer.old)) (stage self.new (W.known writer.new))
+            bytes.now result }
         ensures ready { OnOk result (IsReady (stage self.new (W.known writer.new))) }
     {
         let mut rest = bytes;

@@ -8,7 +8,8 @@ use Rattle.gix_date_tool.specs.Replies.{text_reply, reply}
 use Rattle.gix_date_tool.proofs.replies.reply_to.Goals as goal
 
 -- the reply to a line that is text
-text_reply-is_reply : (asked : Asked) (mode : Mode) (text line : List ℕ) → text ≡ line → asked.mode ≡ mode → IsUtf8 line → text_reply mode text ≡ reply asked line
+text_reply-is_reply : (asked : Asked) (mode : Mode) (text line : List ℕ) → text ≡ line → asked.mode ≡ mode → IsUtf8 line
+    → text_reply mode text ≡ reply asked line
 unfolding reply
 text_reply-is_reply asked mode text line same in_mode is_text =
     ap (text_reply mode) same ∙ ap (λ m. text_reply m line) (sym in_mode) ∙ sym (if_text line (text_reply asked.mode line) NotText is_text)

@@ -8,50 +8,54 @@ use Rattle.gix_date_tool.proofs.Taking.{TakesIn-then, TakesIn-beyond, TakesIn-la
 use Rattle.gix_date_tool.proofs.progress.Progress.take_in.Goals as goal
 
 -- a front, then a line with its newline, then the rest
-cut : (bytes front rest part behind : List ℕ) → bytes ≡ front ++ rest → rest ≡ part ++ newline ∷ behind → bytes ≡ (front ++ with_newline part) ++ behind
-cut bytes front rest part behind e k = e ∙ ap (λ xs. front ++ xs) (k ∙ sym (append_assoc part (newline ∷ []) behind)) ∙ sym (append_assoc front (with_newline part) behind)
+with_line : (bytes front rest part behind : List ℕ) → bytes ≡ front ++ rest → rest ≡ part ++ newline ∷ behind → bytes ≡ (front ++ with_newline part) ++ behind
+with_line bytes front rest part behind e k = e ∙ ap (λ xs. front ++ xs) (k ∙ sym (append_assoc part (newline ∷ []) behind))
+    ∙ sym (append_assoc front (with_newline part) behind)
 
 some_byte : (xs : List ℕ) (b : Bool) → b ≡ (length xs == 0) → b ≡ false → 0 < length xs
 some_byte xs b e h = grind (arith, nat_tests)
 
 pub loop-part-init : goal.loop-part-init
-loop-part-init g c = record { took = ([], refl, TookIn-nil c.requires); ready = c.requires }
+loop-part-init g c = record {
+  so_far = record { front = []; cut = refl; took = TookIn-nil c.requires };
+  ready = c.requires;
+}
 
 pub returns-in_err-end_line-clause-takes : goal.returns-in_err-end_line-clause-takes
 returns-in_err-end_line-clause-takes g c =
-    let far = c.loop-part.invariant.took in
+    let far = c.loop-part.invariant.so_far in
     let ended = with_newline c.in-Some.part.now in
     let fault = c.in_err-end_line.field-0.0 in
     let first = stage c.args.self.now (g.W.Sink.known c.args.writer.now) in
     let last = stage c.end_line.new.self (g.W.Sink.known c.end_line.new.writer) in
-    let taken = TakesIn-then last ended (Err fault) far.2 c.in_err-end_line.ensures.takes in
-    let all = sym (cut c.args.bytes.now far.0 c.loop-part.rest.now c.in-Some.part.now c.in-Some.behind.now far.1 c.in-Some.ensures.1) in
-    let stopped = subst (λ bytes. TakesIn first last bytes (Err fault)) all (TakesIn-beyond first last (far.0 ++ ended) c.in-Some.behind.now fault taken) in
+    let taken = TakesIn-then last ended (Err fault) far.took c.in_err-end_line.ensures.takes in
+    let all = sym (with_line c.args.bytes.now far.front c.loop-part.rest.now c.in-Some.part.now c.in-Some.behind.now far.cut c.in-Some.ensures.1) in
+    let stopped = subst (λ bytes. TakesIn first last bytes (Err fault)) all (TakesIn-beyond first last (far.front ++ ended) c.in-Some.behind.now fault taken) in
     search (rules, stopped)
 
 pub loop-part-preserved : goal.loop-part-preserved
 loop-part-preserved g c =
-    let far = c.loop-part.invariant.took in
+    let far = c.loop-part.invariant.so_far in
     let ended = with_newline c.in-Some.part.now in
     let last = stage c.end_line.new.self (g.W.Sink.known c.end_line.new.writer) in
     record {
-      took = (
-        far.0 ++ ended,
-        cut c.args.bytes.now far.0 c.loop-part.rest.now c.in-Some.part.now c.in-Some.behind.now far.1 c.in-Some.ensures.1,
-        TakesIn-then last ended (Ok tt) far.2 c.in_ok-end_line.ensures.takes,
-      );
+      so_far = record {
+        front = far.front ++ ended;
+        cut = with_line c.args.bytes.now far.front c.loop-part.rest.now c.in-Some.part.now c.in-Some.behind.now far.cut c.in-Some.ensures.1;
+        took = TakesIn-then last ended (Ok tt) far.took c.in_ok-end_line.ensures.takes;
+      };
       ready = c.in_ok-end_line.ensures.ready;
     }
 
 pub returns-clause-takes : goal.returns-clause-takes
 returns-clause-takes g c =
-    let far = c.loop-part.invariant.took in
+    let far = c.loop-part.invariant.so_far in
     let rest = c.loop-part.rest.now in
     let sink = g.W.Sink.known c.loop-part.writer in
     let first = stage c.args.self.now (g.W.Sink.known c.args.writer.now) in
     let last = stage c.extend.new.self sink in
     let extended = TakesIn-last last rest c.extend.result c.loop-part.invariant.ready c.in_default.ensures (some_byte rest c.is_empty.result c.is_empty.ensures c.if-is_empty.false) (c.extend.ensures sink) in
-    subst (λ bytes. TakesIn first last bytes c.extend.result) (sym far.1) (TakesIn-then last rest c.extend.result far.2 extended)
+    subst (λ bytes. TakesIn first last bytes c.extend.result) (sym far.cut) (TakesIn-then last rest c.extend.result far.took extended)
 
 pub returns-clause-ready : goal.returns-clause-ready
 returns-clause-ready g c =

@@ -1,5 +1,6 @@
-use Rattle.std.proofs.Common.{◌≡◌, ℕ, List, ◌++◌, length}
-use Rattle.gix_date_tool.specs.Progress.{stage, IsReady, TookIn}
+use Rattle.std.proofs.Common.{length}
+use Rattle.gix_date_tool.specs.Progress.{stage, IsReady}
+use Rattle.gix_date_tool.proofs.Taking.{HasTaken}
 use Rattle.gix_date_tool.proofs.progress.Progress.take_in.Given as goal
 
 -- a front of the bytes was taken in
@@ -7,7 +8,7 @@ abbrev pub invariant-loop-part : goal.invariant-loop-part
 invariant-loop-part g l =
     let reached = stage l.self (g.W.Sink.known l.writer) in
     record {
-      took : (front : List ℕ) × (l.initial.rest ≡ front ++ l.rest) × TookIn (stage l.initial.self (g.W.Sink.known l.initial.writer)) reached front;
+      so_far : HasTaken (stage l.initial.self (g.W.Sink.known l.initial.writer)) reached l.initial.rest l.rest;
       ready : IsReady reached;
     }
 
