@@ -1,6 +1,7 @@
 //! How far a run has come between two reads.
-ghost use Rattle.std.specs.Prelude.{◌≡◌, ◌<◌, ◌≤◌, OnOk};
-ghost use Rattle.gix_date.specs.Known.{Known};
+ghost use Rattle.std.specs.Prelude.{◌≡◌, ◌<◌, ◌≤◌, [], length, IfOk, OnOk};
+ghost use Rattle.std.specs.Io.KnownBytes.{ReadConsumes};
+ghost use Rattle.gix_date.specs.Known.{Known, refusal};
 ghost use Rattle.gix_date_tool.specs.Lines.{IsLine, IsShort, with_newline};
 ghost use Rattle.gix_date_tool.specs.Run.{Ran, change};
 
@@ -10,6 +11,7 @@ use crate::outbox::Outbox;
 use crate::replies::{Asked, reply_to};
 use gix_date::device::{Sink, Source};
 use std::alloc::{AllocError, Global};
+use std::io;
 
 /// How many bytes are read at most at a time.
 const PIECE: usize = 16384;
@@ -59,7 +61,7 @@ impl Progress {
         let mut piece = [0; PIECE];
         'pieces: loop {
             self.send(writer)?;
-            let count = match reader.get(&mut piece) {
+            let count = match self.read(reader, &mut piece) {
                 Ok(count) => count,
                 Err(kind) => return Err(ToolError::Read(kind)),
             };
@@ -68,6 +70,17 @@ impl Progress {
             }
             self.take_in(alloc, &piece[..count], writer)?;
         }
+    }
+
+    /// Reads the next bytes. No reply may wait then: a reader may make the program wait.
+    fn read<R: Source>(&self, reader: &mut R, piece: &mut [u8]) -> Result<usize, io::ErrorKind>
+        requires piece { 0 < length piece.old }
+        requires sent { self.now.outbox.unsent.bytes ≡ [] }
+        ensures count { IfOk result (λ n. n ≤ length piece.new) }
+        ensures bytes { ReadConsumes (R.known reader.old).bytes (R.known reader.new).bytes result piece.new }
+        ensures fault { (R.known reader.new).fault ≡ refusal result }
+    {
+        reader.get(piece)
     }
 
     /// Sends the replies that wait.

@@ -24,15 +24,15 @@ returns-in-Err g c =
     let sent = stage c.send.new.self (g.W.Sink.known c.send.new.writer) in
     let far = HasRead-sent {s' = sent} c.pieces.invariant.so_far c.in_ok-send.ensures in
     let ready = IsReady-sent {s' = sent} c.pieces.invariant.ready c.in_ok-send.ensures in
-    Ran-unread (g.R.Source.known c.get.new.self) far ready c.in-Err.ensures.bytes c.in-Err.ensures.fault
+    Ran-unread (g.R.Source.known c.read.new.reader) far ready c.in-Err.ensures.bytes c.in-Err.ensures.fault
 
 pub returns-then-count-eq0 : goal.returns-then-count-eq0
 returns-then-count-eq0 g c =
     let before = g.R.Source.known c.pieces.reader in
-    let after = g.R.Source.known c.get.new.self in
+    let after = g.R.Source.known c.read.new.reader in
     let last = stage c.end_input.new.self (g.W.Sink.known c.end_input.new.writer) in
-    let piece : 0 < length c.get.new.piece = search rules in
-    let read = subst (λ n. Gives before after (take n c.get.new.piece)) c.if-count-eq0.true c.in-Ok.ensures.bytes.0 in
+    let piece : 0 < length c.read.new.piece = search rules in
+    let read = subst (λ n. Gives before after (take n c.read.new.piece)) c.if-count-eq0.true c.in-Ok.ensures.bytes.0 in
     let sent = stage c.send.new.self (g.W.Sink.known c.send.new.writer) in
     let far = HasRead-sent {s' = sent} c.pieces.invariant.so_far c.in_ok-send.ensures in
     let ready = IsReady-sent {s' = sent} c.pieces.invariant.ready c.in_ok-send.ensures in
@@ -43,7 +43,7 @@ returns-in_err-take_in g c =
     let last = stage c.take_in.new.self (g.W.Sink.known c.take_in.new.writer) in
     let sent = stage c.send.new.self (g.W.Sink.known c.send.new.writer) in
     let far = HasRead-sent {s' = sent} c.pieces.invariant.so_far c.in_ok-send.ensures in
-    let stopped = Ran-stopped last (g.R.Source.known c.get.new.self) (take c.in-Ok.count c.get.new.piece) c.in_err-take_in.field-0.0 far c.in-Ok.ensures.bytes.0 c.in_err-take_in.ensures.takes in
+    let stopped = Ran-stopped last (g.R.Source.known c.read.new.reader) (take c.in-Ok.count c.read.new.piece) c.in_err-take_in.field-0.0 far c.in-Ok.ensures.bytes.0 c.in_err-take_in.ensures.takes in
     search (rules, stopped)
 
 pub pieces-preserved : goal.pieces-preserved
@@ -52,6 +52,9 @@ pieces-preserved g c =
     let far = HasRead-sent {s' = sent} c.pieces.invariant.so_far c.in_ok-send.ensures in
     let last = stage c.take_in.new.self (g.W.Sink.known c.take_in.new.writer) in
     record {
-      so_far = HasRead-taken {s' = last} (g.R.Source.known c.get.new.self) far c.in-Ok.ensures.bytes.0 c.in_ok-take_in.ensures.takes;
+      so_far = HasRead-taken {s' = last} (g.R.Source.known c.read.new.reader) far c.in-Ok.ensures.bytes.0 c.in_ok-take_in.ensures.takes;
       ready = c.in_ok-take_in.ensures.ready;
     }
+
+pub read-requires-clause-sent : goal.read-requires-clause-sent
+read-requires-clause-sent g c = c.in_ok-send.ensures.none_unsent
