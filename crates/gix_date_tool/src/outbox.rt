@@ -36,7 +36,7 @@ impl Outbox {
         Ok(())
     }
 
-    /// Puts the pieces of a text behind what waits.
+    /// Puts a text, given in pieces, behind what waits. It may have any length.
     pub(crate) fn push<W: Sink>(
         &mut self,
         pieces: &[&str],

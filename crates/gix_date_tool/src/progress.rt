@@ -160,7 +160,7 @@ impl Progress {
         Ok(self.ended)
     }
 
-    /// Replies to the open line, which ends here.
+    /// Replies to the open line, which ends here. Where that is refused, the line stays open.
     fn close_line<W: Sink>(&mut self, alloc: Global, writer: &mut W) -> Result<(), ToolError>
         requires { self.old.ended < MOST_LINES }
         ensures { Closes (stage self.old (W.known writer.old)) (stage self.new (W.known writer.new)) result }

@@ -2,7 +2,7 @@
 ghost use Rattle.std.specs.Prelude.{◌≡◌, IfOk, OnErr};
 ghost use Rattle.gix_date.specs.Families.{first_family};
 ghost use Rattle.gix_date.specs.HeaderReading.{header_time};
-ghost use Rattle.gix_date_tool.specs.declared.replies.Reply.TheVariants.{UnknownFormat};
+ghost use Rattle.gix_date_tool.specs.declared.replies.Reply.TheVariants.{Read, UnknownFormat};
 ghost use Rattle.gix_date_tool.specs.Lines.{with_newline};
 ghost use Rattle.gix_date_tool.specs.Outbox.{Sends, output};
 ghost use Rattle.gix_date_tool.specs.Replies.{reply, reply_text, IsWritable, check_reply, parse_reply, is_header_text_of};
@@ -18,7 +18,7 @@ use std::{io, str};
 /// What is asked of each line.
 #[derive(Clone, Copy)]
 pub(crate) struct Asked {
-    /// What a line is to be replied to.
+    /// Which replies the lines get.
     pub(crate) mode: Mode,
     /// What a date may be relative to.
     pub(crate) now: Option<Zoned<'static>>,
@@ -56,18 +56,7 @@ impl Reply {
             Reply::NotText => outbox.push(&["not text\n"], out),
             Reply::NoTime => outbox.push(&["none\n"], out),
             Reply::Canonical => outbox.push(&["canonical\n"], out),
-            Reply::Read(time) => {
-                let mut seconds = itoa::Buffer::new();
-                let mut offset = itoa::Buffer::new();
-                let pieces = [
-                    "read ",
-                    seconds.format(time.seconds),
-                    " ",
-                    offset.format(time.offset),
-                    "\n",
-                ];
-                outbox.push(&pieces, out)
-            }
+            Reply::Read(time) => push_reading(time, outbox, out),
             Reply::Parsed(time) => match time.to_str(&mut TimeBuf::default()) {
                 Ok(text) => outbox.push(&[text, "\n"], out),
                 Err(_) => unreachable!(),
@@ -75,6 +64,23 @@ impl Reply {
             Reply::UnknownFormat => outbox.push(&["error unknown-format\n"], out),
         }
     }
+}
+
+/// Puts the seconds and the offset of a time that a line is read as behind what is unsent.
+fn push_reading<W: Sink>(time: Time, outbox: &mut Outbox, out: &mut W) -> Result<(), io::ErrorKind>
+    ensures { Sends (output outbox.old (W.known out.old)) (output outbox.new (W.known out.new))
+        (with_newline (reply_text (Read time))) result }
+{
+    let mut seconds = itoa::Buffer::new();
+    let mut offset = itoa::Buffer::new();
+    let pieces = [
+        "read ",
+        seconds.format(time.seconds),
+        " ",
+        offset.format(time.offset),
+        "\n",
+    ];
+    outbox.push(&pieces, out)
 }
 
 /// The reply to a line. Only Parse asks for memory, for the copy of a text that is in no known format.
@@ -114,7 +120,7 @@ fn is_header_text_of(text: &str, time: Time) -> bool
     }
 }
 
-/// The time that a text is parsed as, or why it is not.
+/// The time that a text is parsed as, or why it is not. Memory is asked for only to copy a text in no known format.
 fn parse_reply(alloc: Global, text: &str, now: Option<Zoned<'static>>) -> Result<Reply, AllocError>
     ensures is { IfOk result (λ r. r ≡ parse_reply (first_family text.now)) }
     ensures writable { IfOk result IsWritable }
@@ -124,7 +130,7 @@ fn parse_reply(alloc: Global, text: &str, now: Option<Zoned<'static>>) -> Result
         Ok(time) => Ok(Reply::Parsed(time)),
         Err(Error::UnknownFormat { input: _ }) => Ok(Reply::UnknownFormat),
         Err(Error::Memory) => Err(AllocError),
-        // No family so far refuses a text that it holds, and the others are no refusals of `parse`.
+        // `parse` refuses by none of these yet: no family asks for the moment, or refuses a text that it holds.
         Err(
             Error::InvalidTime
             | Error::MissingNow

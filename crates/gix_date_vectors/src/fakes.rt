@@ -1,6 +1,7 @@
 //! Writers and readers that take and give a few bytes a call, count the calls, and fail on demand.
 use gix_date::device::Sink;
 use std::alloc::Global;
+use std::cell::Cell;
 use std::io::{Read, Write};
 use std::{fmt, io};
 
@@ -154,6 +155,95 @@ pub(crate) struct Pieces {
 impl fmt::Write for Pieces {
     fn write_str(&mut self, _s: &str) -> fmt::Result {
         self.count = self.count.saturating_add(1);
+        Ok(())
+    }
+}
+
+/// A reader that gives one header line a call, and counts the calls that come before each line that it gave was replied to.
+#[derive(Drop)]
+pub(crate) struct Asking<'a> {
+    pub(crate) early: usize,
+    left: usize,
+    given: usize,
+    replied: &'a Cell<usize>,
+}
+
+impl<'a> Asking<'a> {
+    pub(crate) fn new(lines: usize, replied: &'a Cell<usize>) -> Asking<'a> {
+        Asking {
+            early: 0,
+            left: lines,
+            given: 0,
+            replied,
+        }
+    }
+}
+
+impl Read for Asking<'_> {
+    fn read(&mut self, buf: &mut [u8]) -> io::Result<usize> {
+        if self.replied.get() < self.given {
+            self.early = self.early.saturating_add(1);
+        }
+        let line = b"0 +0000\n";
+        if self.left == 0 || buf.len() < line.len() {
+            return Ok(0);
+        }
+        self.left -= 1;
+        self.given = self.given.saturating_add(1);
+        buf[..line.len()].copy_from_slice(line);
+        Ok(line.len())
+    }
+}
+
+/// A writer that counts the lines that were written.
+#[derive(Drop)]
+pub(crate) struct Replied<'a>(pub(crate) &'a Cell<usize>);
+
+impl Write for Replied<'_> {
+    fn write(&mut self, buf: &[u8]) -> io::Result<usize> {
+        let lines = buf.iter().filter(|b| **b == b'\n').count();
+        self.0.set(self.0.get().saturating_add(lines));
+        Ok(buf.len())
+    }
+
+    fn flush(&mut self) -> io::Result<()> {
+        Ok(())
+    }
+}
+
+/// A writer with a place for a few bytes, which takes no memory.
+#[derive(Drop)]
+pub(crate) struct Small {
+    bytes: [u8; 256],
+    len: usize,
+}
+
+impl Small {
+    pub(crate) fn new() -> Small {
+        Small {
+            bytes: [0; 256],
+            len: 0,
+        }
+    }
+
+    /// Whether exactly this was written.
+    pub(crate) fn is(&self, text: &[u8]) -> bool {
+        self.len <= self.bytes.len() && &self.bytes[..self.len] == text
+    }
+}
+
+impl Write for Small {
+    fn write(&mut self, buf: &[u8]) -> io::Result<usize> {
+        let room = self.bytes.len().saturating_sub(self.len);
+        let count = buf.len().min(room);
+        if count > 0 {
+            self.bytes[self.len..self.len + count].copy_from_slice(&buf[..count]);
+            self.len += count;
+        }
+        Ok(count)
+    }
+
+    fn flush(&mut self) -> io::Result<()> {
         Ok(())
     }
 }

@@ -13,6 +13,8 @@ mod headers;
 #[cfg(test)]
 mod memory;
 #[cfg(test)]
+mod names;
+#[cfg(test)]
 mod parses;
 #[cfg(test)]
 mod readme;

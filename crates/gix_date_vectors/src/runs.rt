@@ -1,8 +1,9 @@
 //! Runs over the lines of a stream.
-use crate::fakes::{Slow, Supply};
+use crate::fakes::{Asking, Replied, Slow, Supply};
 use gix_date::Time;
 use gix_date::device::Device;
 use gix_date_tool::{Mode, ToolError, run};
+use std::cell::Cell;
 use std::io::ErrorKind;
 use std::test::Fail;
 
@@ -84,6 +85,42 @@ fn lines_are_parsed(rt: HostRuntime) {
             "parse-lines"
         );
     }
+}
+
+#[test]
+fn replies_are_written_before_more_is_read(rt: HostRuntime) {
+    let replied = Cell::new(0);
+    let mut source = Device::new(Asking::new(40, &replied));
+    let mut sink = Device::new(Replied(&replied));
+    let answer = run(rt.alloc(), Mode::Check, None, &mut source, &mut sink);
+    assert!(rt; matches!(answer, Ok(40)));
+    assert_eq!(rt; source.into_inner().early, 0);
+    assert_eq!(rt; replied.get(), 40);
+}
+
+#[test]
+fn long_texts_are_parsed(rt: HostRuntime) -> Result<(), Fail> {
+    for length in [99, 101, 5000, 65_535, 65_536] {
+        for (text, reply) in [
+            ("0 +0000", "0 +0000\n"),
+            ("2008-02-14 20:30", "error unknown-format\n"),
+        ] {
+            let mut input = Vec::from_slice(rt.alloc(), text.as_bytes())?;
+            for _ in text.len()..length {
+                input.push(b' ')?;
+            }
+            let mut source = Device::new(Supply::once(input.as_slice(), 5000, None));
+            let mut sink = Device::new(Slow::roomy(rt.alloc()));
+            let answer = run(rt.alloc(), Mode::Parse, None, &mut source, &mut sink);
+            assert!(rt; matches!(answer, Ok(1)), "{length}: {text}");
+            assert_eq!(rt;
+                sink.into_inner().taken.as_slice(),
+                reply.as_bytes(),
+                "{length}: {text}"
+            );
+        }
+    }
+    Ok(())
 }
 
 #[test]
