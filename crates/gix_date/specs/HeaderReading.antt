@@ -1,5 +1,5 @@
 -- How the time of a commit header is read.
-use Rattle.std.specs.Prelude.{ℕ, Bool, List, ℤ, pos, ◌==◌, if◌then◌else◌, Option, Some, None, take_while}
+use Rattle.std.specs.Prelude.{◌≡◌, ℕ, Bool, List, ℤ, pos, ◌==◌, if◌then◌else◌, Option, Some, None, Result, Ok, Err, take_while}
 use Rattle.std.specs.Option.{option_or, option_map_or}
 use Rattle.std.specs.List.{list_any}
 use Rattle.std.specs.Char.{is_ascii_digit}
@@ -8,6 +8,8 @@ use Rattle.gix_date.specs.Fields.{◌>>=◌}
 use Rattle.gix_date.specs.Numbers.{int_value}
 use Rattle.gix_date.specs.Offsets.{offset_fields, offset_of}
 use Rattle.gix_date.specs.SpaceWords.{space_words, first_words}
+use Rattle.gix_date.specs.declared.error.Error.{Error}
+use Rattle.gix_date.specs.declared.error.Error.TheVariants.{InvalidTime}
 use Rattle.gix_date.specs.declared.time.Time.{Time}
 
 -- a colon anywhere
@@ -32,3 +34,9 @@ time_of_words words = do
 -- The time that a header says. None where there is a colon, or no word, or the first says no seconds.
 unfoldable pub header_time : List ℕ → Option Time
 header_time text = if has_colon text then None else time_of_words (space_words text)
+
+-- the time that a header says, or the fault of one that says none
+abbrev pub ReadsHeader : List ℕ → Result Time Error → Type 0
+ReadsHeader text (Ok t) = header_time text ≡ Some t
+ReadsHeader text (Err InvalidTime) = header_time text ≡ None
+ReadsHeader text (Err _) = ⊥

@@ -79,13 +79,11 @@ impl Time {
 /// Reads the time of a commit header, as [`parse_header`](crate::parse_header) does. [`Error::InvalidTime`] where that gives
 /// `None`. Takes no memory.
 impl FromStr for Time {
-    ghost use Rattle.std.specs.Prelude.{◌≡◌, Some, None, MatchResult};
-    ghost use Rattle.gix_date.specs.declared.error.Error.TheVariants.{InvalidTime};
-    ghost use Rattle.gix_date.specs.HeaderReading.{header_time};
+    ghost use Rattle.gix_date.specs.HeaderReading.{ReadsHeader};
 
     type Err = Error;
 
-    ghost from_str_gives = { λ text r. MatchResult r (λ t. header_time text ≡ Some t) (λ e. (e ≡ InvalidTime) × (header_time text ≡ None)) };
+    ghost from_str_gives = { ReadsHeader };
 
     fn from_str(text: &str) -> Result<Time, Error> {
         parse_header(text).ok_or(Error::InvalidTime)
