@@ -6,6 +6,7 @@ use lib.Utf8.{encode}
 use Rattle.std.specs.Prelude.{codes, neg_ℤ, Some, None}
 use Rattle.gix_date.specs.declared.time.Time.{Time}
 use Rattle.gix_date.specs.Numbers.{int_value, read_two_digits}
+use Rattle.gix_date.specs.Fields.{behind}
 use Rattle.gix_date.specs.Offsets.{offset_fields, read_sign, last_pair}
 use Rattle.gix_date.specs.SpaceWords.{space_words}
 use Rattle.gix_date.specs.HeaderText.{header_text}
@@ -24,7 +25,7 @@ minus n = neg_ℤ (pos n)
 
 -- all that a row needs to see computed
 computing : Type 0
-unfolding header_text first_family at_time epoch_time raw_time raw_offset header_time time_of_words seconds_said offset_said offset_fields read_sign last_pair read_two_digits int_value digits space_words chars encode
+unfolding header_text first_family at_time epoch_time raw_time raw_offset header_time time_of_words seconds_said offset_said offset_fields behind read_sign last_pair read_two_digits int_value digits space_words chars encode
 computing = Unit {0}
 
 abbrev Reads : List ℕ → ℤ → ℤ → Type 0

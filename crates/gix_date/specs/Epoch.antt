@@ -1,9 +1,9 @@
 -- Seconds alone: at texts, and the bare epoch.
-use Rattle.std.specs.Prelude.{ℕ, List, [], ◌∷◌, ℤ, pos, ◌==◌, if◌then◌else◌, Option, Some, None, option_map}
+use Rattle.std.specs.Prelude.{ℕ, List, ℤ, pos, if◌then◌else◌, Option, Some, None, option_map}
 use Rattle.std.specs.Option.{option_or}
 use Rattle.std.specs.Int.Signed.{le_z}
 use Rattle.gix_date.specs.Characters.{at_sign}
-use Rattle.gix_date.specs.Fields.{◌>>=◌}
+use Rattle.gix_date.specs.Fields.{behind, ◌>>=◌}
 use Rattle.gix_date.specs.Numbers.{int_value}
 use Rattle.gix_date.specs.Raw.{raw_time}
 use Rattle.gix_date.specs.declared.parsing.function.TheConstants.{LEAST_EPOCH}
@@ -15,8 +15,9 @@ utc_time seconds = record { seconds = seconds; offset = pos 0 }
 
 -- `@`, and then a raw text or an int text with nothing round it
 unfoldable pub at_time : List ℕ → Option Time
-at_time [] = None
-at_time (c ∷ text) = if c == at_sign then option_or (raw_time text) (option_map utc_time (int_value text)) else None
+at_time text = do
+  rest ← behind at_sign text
+  option_or (raw_time rest) (option_map utc_time (int_value rest))
 
 -- an int text with nothing round it, of at least 100000000: seconds that no compact date can be mistaken for
 unfoldable pub epoch_time : List ℕ → Option Time

@@ -1,5 +1,5 @@
 -- Readers of fields: each takes the front of a text, and gives a value and what stands behind it.
-use Rattle.std.specs.Prelude.{ℕ, List, Option, option_map, option_and_then}
+use Rattle.std.specs.Prelude.{ℕ, List, [], ◌∷◌, ◌==◌, if◌then◌else◌, Option, Some, None, option_map, option_and_then}
 use Rattle.std.specs.Borrow.{Bor}
 
 -- a value and the rest of the text, where its front has the form
@@ -14,3 +14,8 @@ infixl 10 ◌>>=◌
 -- to go on with what was found
 abbrev pub ◌>>=◌ : {A B : Type 0} → Option A → (A → Option B) → Option B
 found >>= next = option_and_then next found
+
+-- what stands behind this character, where it is the first
+unfoldable pub behind : ℕ → List ℕ → Option (List ℕ)
+behind mark [] = None
+behind mark (c ∷ rest) = if c == mark then Some rest else None

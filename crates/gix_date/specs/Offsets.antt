@@ -1,7 +1,8 @@
 -- The fields of an offset from UTC: a sign, and pairs of digits.
 use Rattle.std.specs.Prelude.{ℕ, ◌+◌, ◌*◌, List, [], ◌∷◌, ℤ, pos, neg_ℤ, ◌==◌, if◌then◌else◌, Option, Some, None, option_map, unwrap_or}
+use Rattle.std.specs.Option.{option_or}
 use Rattle.gix_date.specs.Characters.{plus, minus}
-use Rattle.gix_date.specs.Fields.{Read, ◌>>=◌}
+use Rattle.gix_date.specs.Fields.{Read, behind, ◌>>=◌}
 use Rattle.gix_date.specs.Numbers.{two_digit_value, read_two_digits}
 use Rattle.gix_date.specs.declared.parsing.offset.Sign.{Sign}
 use Rattle.gix_date.specs.declared.parsing.offset.Sign.TheVariants.{Plus, Minus}
@@ -9,8 +10,7 @@ use Rattle.gix_date.specs.declared.parsing.offset.OffsetFields.{OffsetFields}
 
 -- a sign at the front
 unfoldable pub read_sign : List ℕ → Read Sign
-read_sign [] = None
-read_sign (c ∷ rest) = if c == plus then Some (Plus, rest) else if c == minus then Some (Minus, rest) else None
+read_sign text = option_or (option_map (λ rest. (Plus, rest)) (behind plus text)) (option_map (λ rest. (Minus, rest)) (behind minus text))
 
 -- nothing more, or two digits more
 unfoldable pub last_pair : List ℕ → Option (Option ℕ)

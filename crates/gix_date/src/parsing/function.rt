@@ -6,6 +6,7 @@ ghost use Rattle.gix_date.specs.Families.{Absolute, first_family, Comes, Refuses
 ghost use Rattle.gix_date.specs.HeaderReading.{header_time, seconds_said, offset_said};
 
 use crate::error::{Error, InputBytes};
+use crate::parsing::fields::behind;
 use crate::parsing::numbers::{leading_digits, parse_int};
 use crate::parsing::offset::parse_offset_fields;
 use crate::parsing::raw::parse_raw;
@@ -71,9 +72,7 @@ fn parse_at(input: &str) -> Option<Time>
     ensures time { result ≡ at_time input.now }
     ensures short { IfSome result (λ t. IsOffsetSeconds t.offset) }
 {
-    let Some(text) = input.strip_prefix('@') else {
-        return None;
-    };
+    let text = behind('@', input)?;
     if let Some(time) = parse_raw(text) {
         return Some(time);
     }
@@ -135,7 +134,7 @@ fn parse_seconds(word: &str) -> Option<SecondsSinceUnixEpoch>
 fn parse_offset(word: &str) -> OffsetInSeconds
     ensures { result ≡ offset_said word.now }
 {
-    match parse_offset_fields(word.as_bytes()) {
+    match parse_offset_fields(word) {
         Some(fields) => fields.in_seconds(),
         None => 0,
     }

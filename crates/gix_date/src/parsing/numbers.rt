@@ -1,6 +1,6 @@
 //! Numbers and digits.
 //!
-//! A `read_` function takes the front of a slice, and gives the value and the rest; a `parse_` function takes a whole text.
+//! A `read_` function takes the front of a text, and gives the value and the rest; a `parse_` function takes a whole text.
 ghost use Rattle.std.specs.Prelude.{◌≡◌, ◌<◌, IfSome, take_while};
 ghost use Rattle.std.specs.List.{prefix_len};
 ghost use Rattle.std.specs.Char.{is_ascii_digit};
@@ -41,12 +41,15 @@ pub(crate) fn parse_two_digits(tens: u8, ones: u8) -> Option<u8>
 
 /// The number that two digits at the front write.
 #[tactic(auto, unfolding(crate::specs::Numbers::read_two_digits))]
-pub(crate) fn read_two_digits(text: &[u8]) -> Option<(u8, &[u8])>
+pub(crate) fn read_two_digits(text: &str) -> Option<(u8, &str)>
     ensures value { read_view result ≡ read_two_digits text.now }
     ensures small { IfSome result (λ found. found.0 < 100) }
 {
-    match text {
-        [tens, ones, rest @ ..] => Some((parse_two_digits(*tens, *ones)?, rest)),
+    match text.as_bytes() {
+        [tens, ones, ..] => {
+            let value = parse_two_digits(*tens, *ones)?;
+            Some((value, &text[2..]))
+        }
         _ => None,
     }
 }

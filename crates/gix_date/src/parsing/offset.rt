@@ -3,6 +3,7 @@ ghost use Rattle.std.specs.Prelude.{◌≡◌};
 ghost use Rattle.gix_date.specs.Fields.{read_view};
 ghost use Rattle.gix_date.specs.Offsets.{read_sign, last_pair, offset_fields};
 
+use crate::parsing::fields::behind;
 use crate::parsing::numbers::{parse_two_digits, read_two_digits};
 use crate::time::OffsetInSeconds;
 
@@ -44,7 +45,7 @@ impl OffsetFields {
 ///
 /// `None` for any other text. Takes no memory.
 #[tactic(auto, unfolding(crate::specs::Offsets::offset_fields))]
-pub(crate) fn parse_offset_fields(text: &[u8]) -> Option<OffsetFields>
+pub(crate) fn parse_offset_fields(text: &str) -> Option<OffsetFields>
     ensures { result ≡ offset_fields text.now }
 {
     let (sign, rest) = read_sign(text)?;
@@ -61,22 +62,21 @@ pub(crate) fn parse_offset_fields(text: &[u8]) -> Option<OffsetFields>
 
 /// A sign at the front.
 #[tactic(auto, unfolding(crate::specs::Offsets::read_sign))]
-fn read_sign(text: &[u8]) -> Option<(Sign, &[u8])>
+pub(crate) fn read_sign(text: &str) -> Option<(Sign, &str)>
     ensures { read_view result ≡ read_sign text.now }
 {
-    match text {
-        [b'+', rest @ ..] => Some((Sign::Plus, rest)),
-        [b'-', rest @ ..] => Some((Sign::Minus, rest)),
-        _ => None,
+    if let Some(rest) = behind('+', text) {
+        return Some((Sign::Plus, rest));
     }
+    Some((Sign::Minus, behind('-', text)?))
 }
 
 /// Nothing more, or two digits more.
 #[tactic(auto, unfolding(crate::specs::Offsets::last_pair))]
-fn parse_last_pair(text: &[u8]) -> Option<Option<u8>>
+fn parse_last_pair(text: &str) -> Option<Option<u8>>
     ensures { result ≡ last_pair text.now }
 {
-    match text {
+    match text.as_bytes() {
         [] => Some(None),
         [tens, ones] => Some(Some(parse_two_digits(*tens, *ones)?)),
         _ => None,

@@ -34,7 +34,7 @@ fn parse_offset(word: &str) -> Option<OffsetInSeconds>
     ensures offset { result ≡ raw_offset word.now }
     ensures short { IfSome result (λ offset. IsOffsetSeconds offset) }
 {
-    let fields = parse_offset_fields(word.as_bytes())?;
+    let fields = parse_offset_fields(word)?;
     if is_quarter(fields) {
         Some(fields.in_seconds())
     } else {

@@ -1,0 +1,11 @@
+//! What all readers of fields stand on.
+ghost use Rattle.std.specs.Prelude.{◌≡◌, ◌<◌, option_copied};
+ghost use Rattle.gix_date.specs.Fields.{behind};
+
+/// What stands behind this character, where it is the first.
+pub(crate) fn behind(mark: char, text: &str) -> Option<&str>
+    requires { mark < 128 }
+    ensures { option_copied result ≡ behind mark text.now }
+{
+    text.strip_prefix(mark)
+}
