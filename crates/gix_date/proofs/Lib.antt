@@ -6,3 +6,4 @@ pub mod Rows
 pub mod WhiteSpace
 pub mod Texts
 pub mod HeaderTexts
+pub mod Instants

@@ -15,3 +15,4 @@ pub mod Raw
 pub mod Epoch
 pub mod Families
 pub mod Zoned
+pub mod Civil

@@ -14,6 +14,7 @@ use crate::time::{LONGEST_TEXT, Time, header_text};
 use arrayvec::ArrayString;
 use std::str::FromStr;
 
+mod civil;
 mod fields;
 pub(crate) mod function;
 mod numbers;

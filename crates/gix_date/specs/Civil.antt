@@ -1,0 +1,43 @@
+-- Dates of the calendar and times of the clock, and the instants that they are at an offset.
+use Rattle.std.specs.Prelude.{ℕ, ◌≤◌, ◌+◌, ◌*◌, Bool, ◌&&◌, ℤ, pos, ◌+ℤ◌, ◌-ℤ◌, ◌*ℤ◌, nat_le, if◌then◌else◌, Option, Some, None}
+use Rattle.std.specs.Int.Signed.{le_z}
+use Rattle.jiff_core.specs.Calendar.{days_from_civil, days_in_month}
+use Rattle.gix_date.specs.Zoned.{first_second, last_second}
+use Rattle.gix_date.specs.declared.parsing.civil.DateFields.{DateFields}
+use Rattle.gix_date.specs.declared.parsing.civil.ClockFields.{ClockFields}
+
+-- the fields have at most four, two and two digits
+pub record DateFits (d : DateFields) : Type 0 where
+  pub year : d.year ≤ 9999
+  pub month : d.month ≤ 99
+  pub day : d.day ≤ 99
+
+-- the fields have at most two digits each
+pub record ClockFits (c : ClockFields) : Type 0 where
+  pub hour : c.hour ≤ 99
+  pub minute : c.minute ≤ 99
+  pub second : c.second ≤ 99
+
+-- the calendar has this day
+abbrev pub is_date : DateFields → Bool
+is_date d = nat_le 1 d.month && nat_le d.month 12 && nat_le 1 d.day && nat_le d.day (days_in_month (pos d.year) d.month)
+
+-- the day has this hour, minute and second
+abbrev pub is_clock : ClockFields → Bool
+is_clock c = nat_le c.hour 23 && nat_le c.minute 59 && nat_le c.second 59
+
+-- seconds since midnight
+abbrev pub clock_seconds : ClockFields → ℕ
+clock_seconds c = 3600 * c.hour + 60 * c.minute + c.second
+
+-- seconds since 1970-01-01 00:00:00 UTC of that clock on that day, at an offset from UTC
+abbrev pub civil_seconds : DateFields → ClockFields → ℤ → ℤ
+civil_seconds d c offset = pos 86_400 *ℤ days_from_civil (pos d.year) d.month d.day +ℤ pos (clock_seconds c) -ℤ offset
+
+-- the seconds are those of an instant
+abbrev pub is_instant : ℤ → Bool
+is_instant seconds = le_z first_second seconds && le_z seconds last_second
+
+-- the instant of a day and a clock at an offset, where there are such
+unfoldable pub civil_instant : DateFields → ClockFields → ℤ → Option ℤ
+civil_instant d c offset = if is_date d && is_clock c && is_instant (civil_seconds d c offset) then Some (civil_seconds d c offset) else None

@@ -1,0 +1,52 @@
+//! Dates and clocks as texts say them, and the instants that they are.
+ghost use Rattle.std.specs.Prelude.{◌≡◌};
+ghost use Rattle.jiff.specs.Words.{IsOffsetSeconds};
+ghost use Rattle.gix_date.specs.Civil.{DateFits, ClockFits, civil_instant};
+
+use crate::time::{OffsetInSeconds, SecondsSinceUnixEpoch};
+use jiff::civil::DateTime;
+use jiff::tz::Offset;
+
+/// A year, month and day, whether or not the calendar has it.
+#[derive(Clone, Copy)]
+pub(crate) struct DateFields {
+    pub(crate) year: u16,
+    pub(crate) month: u8,
+    pub(crate) day: u8,
+}
+
+/// An hour, minute and second, whether or not the day has it.
+#[derive(Clone, Copy)]
+pub(crate) struct ClockFields {
+    pub(crate) hour: u8,
+    pub(crate) minute: u8,
+    pub(crate) second: u8,
+}
+
+/// The seconds since 1970-01-01 00:00:00 UTC of this clock on this day, at this offset from UTC.
+///
+/// `None` where the calendar does not have the day, or the day not the clock, or `jiff` no instant of these seconds. Takes no
+/// memory.
+pub(crate) fn civil_instant(
+    date: DateFields,
+    clock: ClockFields,
+    offset: OffsetInSeconds,
+) -> Option<SecondsSinceUnixEpoch>
+    requires date { DateFits date }
+    requires clock { ClockFits clock }
+    requires offset { IsOffsetSeconds offset }
+    ensures { result ≡ civil_instant date clock offset }
+{
+    let Ok(offset) = Offset::from_seconds(offset) else {
+        return None;
+    };
+    let (year, month, day) = (date.year as i16, date.month as i8, date.day as i8);
+    let (hour, minute, second) = (clock.hour as i8, clock.minute as i8, clock.second as i8);
+    let Ok(local) = DateTime::new(year, month, day, hour, minute, second, 0) else {
+        return None;
+    };
+    match offset.to_timestamp(local) {
+        Ok(instant) => Some(instant.as_second()),
+        Err(_) => None,
+    }
+}
