@@ -7,3 +7,5 @@ pub mod WhiteSpace
 pub mod Texts
 pub mod HeaderTexts
 pub mod Instants
+pub mod LastPlaces
+pub mod ClockCuts

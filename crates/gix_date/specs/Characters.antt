@@ -17,6 +17,10 @@ plus = 43
 abbrev pub minus : ℕ
 minus = 45
 
+-- `.`
+abbrev pub dot : ℕ
+dot = 46
+
 -- `0`
 abbrev pub digit_zero : ℕ
 digit_zero = 48
@@ -28,3 +32,11 @@ colon = 58
 -- `@`
 abbrev pub at_sign : ℕ
 at_sign = 64
+
+-- `T`
+abbrev pub letter_t : ℕ
+letter_t = 84
+
+-- `Z`
+abbrev pub letter_z : ℕ
+letter_z = 90

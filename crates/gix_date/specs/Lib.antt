@@ -16,3 +16,4 @@ pub mod Epoch
 pub mod Families
 pub mod Zoned
 pub mod Civil
+pub mod ClockCut

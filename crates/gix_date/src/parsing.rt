@@ -17,6 +17,7 @@ use std::str::FromStr;
 mod civil;
 mod fields;
 pub(crate) mod function;
+mod git;
 mod numbers;
 mod offset;
 mod raw;

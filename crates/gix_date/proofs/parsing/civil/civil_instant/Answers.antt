@@ -1,7 +1,8 @@
-use Rattle.std.proofs.Common.{◌<◌, ◌^◌, ◌∙◌, refl, arith, FitsSigned, w8, w16, w32, w64}
+use Rattle.std.proofs.Common.{◌≡◌, ◌<◌, ◌^◌, ◌∙◌, refl, arith, FitsSigned, w8, w16, w32, w64}
 use Rattle.std.proofs.lemmas.Int.{to_z-of_z, to_z_pos}
 use Rattle.jiff_core.proofs.SignedLemmas.{signed_arith}
 use mir.Val.{hbits}
+use Rattle.gix_date.specs.Civil.{civil_seconds}
 use Rattle.gix_date.proofs.Instants.{no_date_or_clock, no_instant, an_instant, local_nanos, instant_range, whole_seconds}
 use Rattle.gix_date.proofs.parsing.civil.civil_instant.Goals as goal
 
@@ -34,7 +35,7 @@ returns-in-Ok-to_timestamp c =
     let placed = rw offset at c.in-Ok-to_timestamp.ensures.succeeds in
     let instant = rw offset at c.in-Ok-to_timestamp.ensures.value in
     let exists = made.0 refl in
-    let second = c.as_second.ensures ∙ whole_seconds _ _ (instant ∙ nanos) in
+    let second : c.as_second.result ≡ civil_seconds c.args.date c.args.clock c.args.offset = c.as_second.ensures ∙ whole_seconds _ _ (instant ∙ nanos) in
     simp to_z-of_z (an_instant c.args.date c.args.clock c.args.offset c.as_second.result exists.0 exists.1 ((instant_range _ _ nanos).0 (placed.0 refl)) second)
 
 pub returns-in-Err : goal.returns-in-Err
