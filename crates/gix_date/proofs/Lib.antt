@@ -9,3 +9,4 @@ pub mod HeaderTexts
 pub mod Instants
 pub mod LastPlaces
 pub mod ClockCuts
+pub mod ClockParts

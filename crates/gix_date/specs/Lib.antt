@@ -17,3 +17,4 @@ pub mod Families
 pub mod Zoned
 pub mod Civil
 pub mod ClockCut
+pub mod GitClock

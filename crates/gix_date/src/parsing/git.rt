@@ -1,4 +1,6 @@
 //! Git's own forms of a date.
+mod clock;
 mod cut;
 
+pub(crate) use clock::parse_clock;
 pub(crate) use cut::clock_cut;
