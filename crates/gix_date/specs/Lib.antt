@@ -18,3 +18,4 @@ pub mod Zoned
 pub mod Civil
 pub mod ClockCut
 pub mod GitClock
+pub mod Git

@@ -1,6 +1,143 @@
 //! Git's own forms of a date.
+ghost use Rattle.std.specs.Prelude.{◌≡◌, ◌<◌, ◌≤◌, IfSome};
+ghost use Rattle.jiff.specs.Words.{IsOffsetSeconds};
+ghost use Rattle.gix_date.specs.Civil.{DateFits};
+ghost use Rattle.gix_date.specs.Fields.{read_view};
+ghost use Rattle.gix_date.specs.Git.{read_year, read_marked_date, read_compact_date, time_behind, time_of_cut, dotted_time, compact_time, flexible_time, git_form, git_time};
+
+use crate::parsing::civil::{DateFields, civil_instant};
+use crate::parsing::fields::behind;
+use crate::parsing::git::clock::parse_clock;
+use crate::parsing::git::cut::clock_cut;
+use crate::parsing::git::offset::parse_offset;
+use crate::parsing::numbers::read_two_digits;
+use crate::time::Time;
+
 mod clock;
 mod cut;
+mod offset;
 
-pub(crate) use clock::parse_clock;
-pub(crate) use cut::clock_cut;
+/// Reads a date in one of Git's own forms, with white space round it or none:
+///
+/// - dotted: `2008.02.14 20:30:45 -0500`;
+/// - compact: `20080214T203045.019-04:00`;
+/// - flexible: `2008-02-14 20:30:45 Z`, `2008-02-14T20 +05`.
+///
+/// `None` for any other text, and where the date does not exist or `jiff` has no such instant. Takes no memory.
+#[tactic(auto, unfolding(crate::specs::Git::git_time))]
+pub(crate) fn parse_git_date_format(input: &str) -> Option<Time>
+    ensures time { result ≡ git_time input.now }
+    ensures short { IfSome result (λ t. IsOffsetSeconds t.offset) }
+{
+    parse_form(input.trim())
+}
+
+#[tactic(auto, unfolding(crate::specs::Git::git_form))]
+fn parse_form(text: &str) -> Option<Time>
+    ensures time { result ≡ git_form text.now }
+    ensures short { IfSome result (λ t. IsOffsetSeconds t.offset) }
+{
+    if let Some(time) = parse_dotted(text) {
+        return Some(time);
+    }
+    if let Some(time) = parse_compact(text) {
+        return Some(time);
+    }
+    parse_flexible(text)
+}
+
+/// `YYYY.MM.DD`, one space, a clock and perhaps an offset.
+#[tactic(auto, unfolding(crate::specs::Git::dotted_time))]
+fn parse_dotted(text: &str) -> Option<Time>
+    ensures time { result ≡ dotted_time text.now }
+    ensures short { IfSome result (λ t. IsOffsetSeconds t.offset) }
+{
+    let (date, rest) = read_marked_date('.', text)?;
+    let rest = behind(' ', rest)?;
+    parse_behind(date, rest)
+}
+
+/// `YYYYMMDD`, `T`, a clock and perhaps an offset.
+#[tactic(auto, unfolding(crate::specs::Git::compact_time))]
+fn parse_compact(text: &str) -> Option<Time>
+    ensures time { result ≡ compact_time text.now }
+    ensures short { IfSome result (λ t. IsOffsetSeconds t.offset) }
+{
+    let (date, rest) = read_compact_date(text)?;
+    let rest = behind('T', rest)?;
+    parse_behind(date, rest)
+}
+
+/// `YYYY-MM-DD`, `T` or one space, a clock and perhaps an offset.
+#[tactic(auto, unfolding(crate::specs::Git::flexible_time))]
+fn parse_flexible(text: &str) -> Option<Time>
+    ensures time { result ≡ flexible_time text.now }
+    ensures short { IfSome result (λ t. IsOffsetSeconds t.offset) }
+{
+    let (date, rest) = read_marked_date('-', text)?;
+    if let Some(rest) = behind('T', rest) {
+        return parse_behind(date, rest);
+    }
+    let rest = behind(' ', rest)?;
+    parse_behind(date, rest)
+}
+
+/// The time of a date, and of a clock and an offset that stand behind it.
+fn parse_behind(date: DateFields, rest: &str) -> Option<Time>
+    requires { DateFits date }
+    ensures time { result ≡ time_behind date rest.now }
+    ensures short { IfSome result (λ t. IsOffsetSeconds t.offset) }
+{
+    let (clock, offset) = clock_cut(rest.trim());
+    parse_cut(date, clock, offset)
+}
+
+#[tactic(auto, unfolding(crate::specs::Git::time_of_cut))]
+fn parse_cut(date: DateFields, clock: &str, offset: &str) -> Option<Time>
+    requires { DateFits date }
+    ensures time { result ≡ time_of_cut date (clock.now, offset.now) }
+    ensures short { IfSome result (λ t. IsOffsetSeconds t.offset) }
+{
+    let clock = parse_clock(clock)?;
+    let offset = parse_offset(offset)?;
+    let seconds = civil_instant(date, clock, offset)?;
+    Some(Time::new(seconds, offset))
+}
+
+/// A year of four digits, a month of two and a day of two, with a mark between them.
+#[tactic(auto, unfolding(crate::specs::Git::read_marked_date))]
+fn read_marked_date(mark: char, text: &str) -> Option<(DateFields, &str)>
+    requires { mark < 128 }
+    ensures value { read_view result ≡ read_marked_date mark text.now }
+    ensures fits { IfSome result (λ found. DateFits found.0) }
+{
+    let (year, rest) = read_year(text)?;
+    let rest = behind(mark, rest)?;
+    let (month, rest) = read_two_digits(rest)?;
+    let rest = behind(mark, rest)?;
+    let (day, rest) = read_two_digits(rest)?;
+    Some((DateFields { year, month, day }, rest))
+}
+
+/// The same with no mark.
+#[tactic(auto, unfolding(crate::specs::Git::read_compact_date))]
+fn read_compact_date(text: &str) -> Option<(DateFields, &str)>
+    ensures value { read_view result ≡ read_compact_date text.now }
+    ensures fits { IfSome result (λ found. DateFits found.0) }
+{
+    let (year, rest) = read_year(text)?;
+    let (month, rest) = read_two_digits(rest)?;
+    let (day, rest) = read_two_digits(rest)?;
+    Some((DateFields { year, month, day }, rest))
+}
+
+/// The number that four digits at the front write.
+#[tactic(auto, unfolding(crate::specs::Git::read_year))]
+fn read_year(text: &str) -> Option<(u16, &str)>
+    ensures value { read_view result ≡ read_year text.now }
+    ensures small { IfSome result (λ found. found.0 ≤ 9999) }
+{
+    let (century, rest) = read_two_digits(text)?;
+    let (year, rest) = read_two_digits(rest)?;
+    Some((100 * u16::from(century) + u16::from(year), rest))
+}

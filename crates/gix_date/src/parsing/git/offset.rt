@@ -1,0 +1,89 @@
+//! The offset of a Git text.
+ghost use Rattle.std.specs.Prelude.{◌≡◌, ◌≤◌, [], ◌∷◌, None, IfSome, MatchOption};
+ghost use Rattle.jiff.specs.Words.{IsOffsetSeconds};
+ghost use Rattle.gix_date.specs.Git.{without_colons, fields_of, offset_of_digits, is_within_a_day, git_offset};
+
+use crate::parsing::numbers::parse_two_digits;
+use crate::parsing::offset::{OffsetFields, Sign, read_sign};
+use crate::time::OffsetInSeconds;
+
+/// Reads the offset of a Git text: 0 where it is empty or `Z`, else a sign and, once all colons are struck out, two digits of
+/// hours up to 23 and perhaps two of minutes up to 59.
+///
+/// `None` for any other text. Takes no memory.
+#[tactic(auto, unfolding(crate::specs::Git::git_offset))]
+pub(crate) fn parse_offset(text: &str) -> Option<OffsetInSeconds>
+    ensures value { result ≡ git_offset text.now }
+    ensures in_zone { IfSome result IsOffsetSeconds }
+{
+    if text.is_empty() || text == "Z" {
+        return Some(0);
+    }
+    let (sign, rest) = read_sign(text)?;
+    let fields = parse_digits(sign, rest.as_bytes())?;
+    if is_within_a_day(fields) {
+        Some(fields.in_seconds())
+    } else {
+        None
+    }
+}
+
+fn is_within_a_day(fields: OffsetFields) -> bool
+    ensures { result ≡ is_within_a_day fields }
+{
+    fields.hours <= 23 && fields.minutes <= 59
+}
+
+/// Two digits of hours, or four of hours and minutes, among any colons.
+fn parse_digits(sign: Sign, text: &[u8]) -> Option<OffsetFields>
+    ensures value { result ≡ offset_of_digits sign (without_colons text.now) }
+    ensures whole_minutes { IfSome result (λ f. f.seconds ≡ None) }
+{
+    let Some((h0, rest)) = first_but_colons(text) else {
+        return None;
+    };
+    let Some((h1, rest)) = first_but_colons(rest) else {
+        return None;
+    };
+    let hours = parse_two_digits(h0, h1);
+    let Some((m0, rest)) = first_but_colons(rest) else {
+        return fields_of(sign, hours, Some(0));
+    };
+    let Some((m1, rest)) = first_but_colons(rest) else {
+        return None;
+    };
+    if first_but_colons(rest).is_some() {
+        return None;
+    }
+    fields_of(sign, hours, parse_two_digits(m0, m1))
+}
+
+fn fields_of(sign: Sign, hours: Option<u8>, minutes: Option<u8>) -> Option<OffsetFields>
+    ensures value { result ≡ fields_of sign hours minutes }
+    ensures whole_minutes { IfSome result (λ f. f.seconds ≡ None) }
+{
+    match (hours, minutes) {
+        (Some(hours), Some(minutes)) => Some(OffsetFields {
+            sign,
+            hours,
+            minutes,
+            seconds: None,
+        }),
+        _ => None,
+    }
+}
+
+/// The first byte that is no colon, and what stands behind it.
+fn first_but_colons(text: &[u8]) -> Option<(u8, &[u8])>
+    ensures { MatchOption result (without_colons text.now ≡ [])
+        (λ found. without_colons text.now ≡ found.0 ∷ without_colons found.1.now) }
+{
+    let mut rest = text;
+    while let [b':', behind @ ..] = rest {
+        rest = behind;
+    }
+    match rest {
+        [] => None,
+        [first, behind @ ..] => Some((*first, behind)),
+    }
+}
