@@ -1,20 +1,20 @@
 -- The instant of fields, from what `jiff` says of dates, clocks and instants.
-use Rattle.std.proofs.Common.{◌≡◌, ◌∙◌, ◌↔◌, ◌≤◌, ◌<◌, ◌+◌, ℕ, ℤ, pos, neg_ℤ, ◌-ℤ◌, ◌*ℤ◌, Bool, true, false, cond, arith, refl, ap, sym, Option, Some, None, unsigned_abs, int_div}
+use Rattle.std.proofs.Common.{◌≡◌, ◌∙◌, ◌↔◌, ◌≤◌, ℕ, ℤ, pos, ◌-ℤ◌, ◌*ℤ◌, Bool, true, false, cond, arith, refl, ap, Some, None, unsigned_abs, int_div}
 use Rattle.std.proofs.lemmas.Bool.Decides.{nat_tests}
 use Rattle.std.proofs.lemmas.Bool.{true_from_ne_false}
 use Rattle.std.proofs.lemmas.Float.{T_from_true}
-use Rattle.std.specs.Prelude.{IsSome, IfSome, ◌&&◌, nat_le}
+use Rattle.std.specs.Prelude.{◌&&◌, nat_le}
 use Rattle.std.specs.Int.Signed.{le_z, le_z_yes, ◌≤ℤ◌}
 use Rattle.jiff_core.proofs.SignedLemmas.{signed_arith}
 use Rattle.jiff_core.proofs.DateTimeLemmas.{civil_nanos-parts}
 use Rattle.jiff_core.specs.Calendar.{IsDate, IsBetween, days_from_civil, days_in_month}
 use Rattle.jiff_core.specs.Date.{IsYmd, epoch_day}
 use Rattle.jiff_core.specs.DateTime.{civil_nanos}
-use Rattle.jiff_core.specs.Time.{IsTime, IsHms, time_nanos}
+use Rattle.jiff_core.specs.Time.{IsTime, IsHms}
 use Rattle.jiff_core.specs.Timestamp.{IsTimestampNanos, nanos_of_seconds}
 use Rattle.jiff_core.specs.declared.civil.date.Date.{Date}
 use Rattle.jiff_core.specs.declared.civil.datetime.DateTime.{DateTime}
-use Rattle.gix_date.specs.Civil.{DateFits, is_date, is_clock, civil_seconds, is_instant, civil_instant}
+use Rattle.gix_date.specs.Civil.{is_date, is_clock, civil_seconds, is_instant, civil_instant}
 use Rattle.gix_date.specs.Zoned.{first_second, last_second}
 use Rattle.gix_date.specs.declared.parsing.civil.DateFields.{DateFields}
 use Rattle.gix_date.specs.declared.parsing.civil.ClockFields.{ClockFields}

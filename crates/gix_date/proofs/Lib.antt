@@ -3,6 +3,7 @@ pub mod WordSteps
 pub mod Ints
 pub mod Decimals
 pub mod Rows
+pub mod GitRows
 pub mod WhiteSpace
 pub mod Texts
 pub mod HeaderTexts

@@ -1,7 +1,7 @@
 -- The definitions on worked texts: each row computes.
 use Rattle.std.proofs.Common.{◌≡◌, refl, ℕ, List, [], ◌∷◌, true, false, ℤ, pos}
 use Rattle.std.specs.Fmt.{digits}
-use Rattle.std.specs.Str.{chars}
+use Rattle.std.specs.Str.{chars, trim_start, trim_end}
 use lib.Utf8.{encode}
 use Rattle.std.specs.Prelude.{codes, neg_ℤ, Some, None}
 use Rattle.gix_date.specs.declared.time.Time.{Time}
@@ -14,6 +14,7 @@ use Rattle.gix_date.specs.HeaderReading.{header_time, time_of_words, seconds_sai
 use Rattle.gix_date.specs.Raw.{raw_time, raw_offset}
 use Rattle.gix_date.specs.Epoch.{at_time, epoch_time}
 use Rattle.gix_date.specs.Families.{Absolute, first_family}
+use Rattle.gix_date.specs.Git.{git_time, git_form, dotted_time, compact_time, flexible_time, read_marked_date, read_compact_date, read_year}
 use Rattle.gix_date.specs.CanonicalHeader.{is_canonical_header}
 
 abbrev time : ℤ → ℤ → Time
@@ -25,7 +26,7 @@ minus n = neg_ℤ (pos n)
 
 -- all that a row needs to see computed
 computing : Type 0
-unfolding header_text first_family at_time epoch_time raw_time raw_offset header_time time_of_words seconds_said offset_said offset_fields behind read_sign last_pair read_two_digits int_value digits space_words chars encode
+unfolding header_text first_family git_time git_form dotted_time compact_time flexible_time read_marked_date read_compact_date read_year at_time epoch_time raw_time raw_offset header_time time_of_words seconds_said offset_said offset_fields behind read_sign last_pair read_two_digits int_value digits space_words trim_start trim_end chars encode
 computing = Unit {0}
 
 abbrev Reads : List ℕ → ℤ → ℤ → Type 0

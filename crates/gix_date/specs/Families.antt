@@ -4,6 +4,7 @@ use Rattle.std.specs.Option.{option_or}
 use Rattle.jiff.specs.declared.zoned.Zoned.{Zoned}
 use Rattle.gix_date.specs.Raw.{raw_time}
 use Rattle.gix_date.specs.Epoch.{at_time, epoch_time}
+use Rattle.gix_date.specs.Git.{git_time}
 use Rattle.gix_date.specs.declared.error.Error.{Error}
 use Rattle.gix_date.specs.declared.error.Error.TheVariants as errors
 use Rattle.gix_date.specs.declared.time.Time.{Time}
@@ -20,7 +21,7 @@ first_of (answer ∷ answers) = option_or answer (first_of answers)
 
 -- the answer of the first family that holds the text
 unfoldable pub first_family : List ℕ → Option FamilyAnswer
-first_family text = first_of (option_map Absolute (at_time text) ∷ option_map Absolute (epoch_time text) ∷ option_map Absolute (raw_time text) ∷ [])
+first_family text = first_of (option_map Absolute (at_time text) ∷ option_map Absolute (epoch_time text) ∷ option_map Absolute (git_time text) ∷ option_map Absolute (raw_time text) ∷ [])
 
 -- the refusal of a text that no family holds, or want of memory for its copy
 abbrev pub RefusesUnknown : List ℕ → Error → Type 0

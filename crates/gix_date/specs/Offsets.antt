@@ -1,5 +1,5 @@
 -- The fields of an offset from UTC: a sign, and pairs of digits.
-use Rattle.std.specs.Prelude.{ℕ, ◌+◌, ◌*◌, List, [], ◌∷◌, ℤ, pos, neg_ℤ, ◌==◌, if◌then◌else◌, Option, Some, None, option_map, unwrap_or}
+use Rattle.std.specs.Prelude.{ℕ, ◌+◌, ◌*◌, List, [], ◌∷◌, ℤ, pos, neg_ℤ, Option, Some, None, option_map, unwrap_or}
 use Rattle.std.specs.Option.{option_or}
 use Rattle.gix_date.specs.Characters.{plus, minus}
 use Rattle.gix_date.specs.Fields.{Read, behind, ◌>>=◌}

@@ -7,6 +7,7 @@ ghost use Rattle.gix_date.specs.HeaderReading.{header_time, seconds_said, offset
 
 use crate::error::{Error, InputBytes};
 use crate::parsing::fields::behind;
+use crate::parsing::git::parse_git_date_format;
 use crate::parsing::numbers::{leading_digits, parse_int};
 use crate::parsing::offset::parse_offset_fields;
 use crate::parsing::raw::parse_raw;
@@ -22,7 +23,10 @@ const LEAST_EPOCH: i64 = 100_000_000;
 ///
 /// 1. an at text: `@`, and then a raw text (`@1745582210 +0200`) or seconds with a sign or none (`@-1000`);
 /// 2. a bare epoch: seconds with a sign or none, of at least 100000000 (`1700000000`);
-/// 3. a raw text: seconds and an offset in quarters of an hour up to 14:45, with white space round each
+/// 3. one of Git's own forms, with white space round it or none: dotted (`2008.02.14 20:30:45 -0500`), compact
+///    (`20080214T203045.019-04:00`) or flexible (`2008-02-14 20:30:45 Z`, `2008-02-14T20 +05`), whose clock and offset have many
+///    widths, and whose day exists;
+/// 4. a raw text: seconds and an offset in quarters of an hour up to 14:45, with white space round each
 ///    (`1660874655 +0800`).
 ///
 /// Seconds count from 1970-01-01 00:00:00 UTC, and have the offset 0 where none is written. The moment is what a text may
@@ -51,6 +55,9 @@ fn parse_first(input: &str) -> Option<Time>
         return Some(time);
     }
     if let Some(time) = parse_epoch(input) {
+        return Some(time);
+    }
+    if let Some(time) = parse_git_date_format(input) {
         return Some(time);
     }
     parse_raw(input)

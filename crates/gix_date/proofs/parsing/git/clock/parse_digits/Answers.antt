@@ -1,4 +1,4 @@
-use Rattle.std.proofs.Common.{◌≡◌, ◌<◌, ◌^◌, ap, ◌∙◌, sym, arith, rules}
+use Rattle.std.proofs.Common.{◌∙◌, sym, arith}
 use Rattle.gix_date.proofs.ClockParts.{field_no, field_none, field_above, field_is}
 use Rattle.gix_date.proofs.parsing.git.clock.parse_digits.Goals as goal
 

@@ -1,4 +1,4 @@
-use Rattle.std.proofs.Common.{◌≡◌, ◌-◌, arith, rules, length, take, sym}
+use Rattle.std.proofs.Common.{arith, rules, sym}
 use Rattle.std.proofs.lemmas.Grind.{common_steps}
 use Rattle.gix_date.proofs.ClockCuts.{z_found, z_none}
 use Rattle.gix_date.proofs.parsing.git.cut.cut_at_z.Goals as goal
