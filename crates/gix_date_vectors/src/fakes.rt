@@ -1,9 +1,27 @@
 //! Writers and readers that take and give a few bytes a call, count the calls, and fail on demand.
 use gix_date::device::Sink;
-use std::alloc::Global;
+use std::alloc::{AllocError, Global};
 use std::cell::Cell;
 use std::io::{Read, Write};
 use std::{fmt, io};
+
+/// Takes all memory that there is, in ever smaller blocks, until the smallest is refused.
+pub(crate) fn take_all(alloc: Global) -> Result<Vec<Vec<u8>>, AllocError> {
+    let mut blocks = Vec::with_capacity(alloc, 65536)?;
+    let mut size = 1_usize << 46;
+    for _ in 0..47 {
+        for _ in 0..65536 {
+            match Vec::with_capacity(alloc, size) {
+                Ok(block) => {
+                    let _ = blocks.push(block);
+                }
+                Err(_) => break,
+            }
+        }
+        size /= 2;
+    }
+    Ok(blocks)
+}
 
 /// A writer that takes a few bytes a call, up to a limit, and then fails.
 #[derive(Drop)]
@@ -104,6 +122,39 @@ impl Read for Supply<'_> {
         buf[..count].copy_from_slice(&front[..count]);
         self.place += count;
         self.left -= count;
+        Ok(count)
+    }
+}
+
+/// A reader that gives one piece a call, and takes all memory that there is before it gives the last.
+#[derive(Drop)]
+pub(crate) struct Hoarder<'a> {
+    alloc: Global,
+    pieces: &'a [&'a [u8]],
+    blocks: Option<Vec<Vec<u8>>>,
+}
+
+impl<'a> Hoarder<'a> {
+    pub(crate) fn new(alloc: Global, pieces: &'a [&'a [u8]]) -> Hoarder<'a> {
+        Hoarder {
+            alloc,
+            pieces,
+            blocks: None,
+        }
+    }
+}
+
+impl Read for Hoarder<'_> {
+    fn read(&mut self, buf: &mut [u8]) -> io::Result<usize> {
+        let [piece, rest @ ..] = self.pieces else {
+            return Ok(0);
+        };
+        if rest.is_empty() {
+            self.blocks = take_all(self.alloc).ok();
+        }
+        let count = piece.len().min(buf.len());
+        buf[..count].copy_from_slice(&piece[..count]);
+        self.pieces = rest;
         Ok(count)
     }
 }

@@ -9,6 +9,8 @@ mod devices;
 #[cfg(test)]
 mod fakes;
 #[cfg(test)]
+mod git;
+#[cfg(test)]
 mod headers;
 #[cfg(test)]
 mod memory;

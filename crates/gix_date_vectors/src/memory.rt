@@ -1,28 +1,10 @@
 //! Calls where each request for memory is refused.
-use crate::fakes::{Small, Supply};
+use crate::fakes::{Hoarder, Small, Supply, take_all};
+use crate::git::TIMES;
 use gix_date::device::Device;
 use gix_date::{Error, Time, parse};
 use gix_date_tool::{Mode, ToolError, run};
-use std::alloc::{AllocError, Global};
 use std::test::Fail;
-
-/// Takes all memory that there is, in ever smaller blocks, until the smallest is refused.
-fn take_all(alloc: Global) -> Result<Vec<Vec<u8>>, AllocError> {
-    let mut blocks = Vec::with_capacity(alloc, 65536)?;
-    let mut size = 1_usize << 46;
-    for _ in 0..47 {
-        for _ in 0..65536 {
-            match Vec::with_capacity(alloc, size) {
-                Ok(block) => {
-                    let _ = blocks.push(block);
-                }
-                Err(_) => break,
-            }
-        }
-        size /= 2;
-    }
-    Ok(blocks)
-}
 
 #[test]
 fn a_time_takes_no_memory(rt: HostRuntime) -> Result<(), Fail> {
@@ -34,6 +16,12 @@ fn a_time_takes_no_memory(rt: HostRuntime) -> Result<(), Fail> {
     let blocks = take_all(rt.alloc())?;
     let mut all_right = true;
     for (text, seconds, offset) in rows {
+        let answer = parse(rt.alloc(), text, None);
+        if !matches!(answer, Ok(time) if time == Time::new(seconds, offset)) {
+            all_right = false;
+        }
+    }
+    for (_, text, seconds, offset) in TIMES {
         let answer = parse(rt.alloc(), text, None);
         if !matches!(answer, Ok(time) if time == Time::new(seconds, offset)) {
             all_right = false;
@@ -63,6 +51,35 @@ fn a_growth_refused_ends_a_run(rt: HostRuntime) -> Result<(), Fail> {
     drop(blocks);
     assert!(rt; all_right, "no-memory");
     Ok(())
+}
+
+#[test]
+fn a_later_growth_refused_ends_a_run_behind_its_replies(rt: HostRuntime) {
+    let longer = b"100000000                                                       \n".as_slice();
+    let rows = [
+        (
+            "line",
+            Mode::Check,
+            [b"0 +0000\n".as_slice(), longer],
+            b"canonical\n".as_slice(),
+        ),
+        ("line", Mode::Parse, [b"0 +0000\n", longer], b"0 +0000\n"),
+        (
+            "copy",
+            Mode::Parse,
+            [b"20080214\n", b"20080215\n"],
+            b"error unknown-format\n",
+        ),
+    ];
+    for (row, mode, pieces, output) in rows {
+        let mut source = Device::new(Hoarder::new(rt.alloc(), &pieces));
+        let mut sink = Device::new(Small::new());
+        let answer = run(rt.alloc(), mode, None, &mut source, &mut sink);
+        let output_is_right = sink.into_inner().is(output);
+        drop(source);
+        assert!(rt; matches!(answer, Err(ToolError::Memory)), "{row}");
+        assert!(rt; output_is_right, "{row}");
+    }
 }
 
 #[test]

@@ -67,9 +67,9 @@ fn lines_are_answered(rt: HostRuntime) {
 
 #[test]
 fn lines_are_parsed(rt: HostRuntime) {
-    let input = b"@-1000\n100000000\n20080214\n5 -0130\n\n\xff\n".as_slice();
+    let input = b"@-1000\n100000000\n20080214\n2008-02-14 20:30:45Z\n5 -0130\n\n\xff\n".as_slice();
     let output =
-        "-1000 +0000\n100000000 +0000\nerror unknown-format\n5 -0130\nerror unknown-format\nnot text\n";
+        "-1000 +0000\n100000000 +0000\nerror unknown-format\n1203021045 +0000\n5 -0130\nerror unknown-format\nnot text\n";
     for now in [
         None,
         Some(Time::new(1_698_400_800, 0)),
@@ -78,7 +78,7 @@ fn lines_are_parsed(rt: HostRuntime) {
         let mut source = Device::new(Supply::once(input, 5, None));
         let mut sink = Device::new(Slow::roomy(rt.alloc()));
         let answer = run(rt.alloc(), Mode::Parse, now, &mut source, &mut sink);
-        assert!(rt; matches!(answer, Ok(6)), "parse-lines");
+        assert!(rt; matches!(answer, Ok(7)), "parse-lines");
         assert_eq!(rt;
             sink.into_inner().taken.as_slice(),
             output.as_bytes(),
@@ -103,7 +103,8 @@ fn long_texts_are_parsed(rt: HostRuntime) -> Result<(), Fail> {
     for length in [99, 101, 5000, 65_535, 65_536] {
         for (text, reply) in [
             ("0 +0000", "0 +0000\n"),
-            ("2008-02-14 20:30", "error unknown-format\n"),
+            ("2008-02-14 20:30", "1203021000 +0000\n"),
+            ("a day to remember", "error unknown-format\n"),
         ] {
             let mut input = Vec::from_slice(rt.alloc(), text.as_bytes())?;
             for _ in text.len()..length {
