@@ -7,7 +7,7 @@ use Rattle.std.proofs.lemmas.List.Prefix.{end_from_reads}
 use Rattle.std.specs.Option.{option_or}
 use Rattle.std.specs.Prelude.{◌==◌, ◌&&◌, nat_lt, slice_index, option_map, unwrap_or}
 use Rattle.gix_date.specs.Characters.{space, letter_z}
-use Rattle.gix_date.specs.ClockCut.{last_place, is_sign, has_offset_at, trimmed_behind, last_space, last_sign, cut_at_z, cut_at_space, cut_at_space_place, parts_at, cut_at_sign, clock_cut, EndsInZ, CutsAtSpace, CutsAtSign, IsCut, at_z, at_space, at_sign, whole}
+use Rattle.gix_date.specs.ClockCut.{Cut, last_place, is_sign, has_offset_at, trimmed_behind, last_space, last_sign, cut_at_z, cut_at_space, cut_at_space_place, parts_at, cut_at_sign, clock_cut, EndsInZ, CutsAtSpace, CutsAtSign, IsCut, at_z, at_space, at_sign, whole}
 use Rattle.gix_date.specs.Fields.{◌>>=◌}
 use Rattle.gix_date.proofs.LastPlaces.{is_last, last_is}
 
@@ -36,7 +36,7 @@ pub space_found : (u o t : List ℕ) (k : ℕ) → Some k ≡ last_space u → o
 unfolding cut_at_space
 space_found u o t k e f g high h =
     ap (λ r. r >>= cut_at_space_place u) (sym e)
-        ∙ pick_both (nat_lt 5 k) (is_sign (slice_index (trimmed_behind u k) 0)) (take k u, trimmed_behind u k) (t, o) (grind (arith, nat_tests, high)) (ap (λ x. is_sign (slice_index x 0)) (sym f) ∙ h) (ap (λ x. (x, trimmed_behind u k)) (sym g) ∙ ap (λ x. (t, x)) (sym f))
+    ∙ pick_both (nat_lt 5 k) (is_sign (slice_index (trimmed_behind u k) 0)) (take k u, trimmed_behind u k) (t, o) (grind (arith, nat_tests, high)) (ap (λ x. is_sign (slice_index x 0)) (sym f) ∙ h) (ap (λ x. (x, trimmed_behind u k)) (sym g) ∙ ap (λ x. (t, x)) (sym f))
 
 pub sign_none : (u : List ℕ) → None ≡ last_sign u → cut_at_sign u ≡ None
 unfolding cut_at_sign
@@ -75,6 +75,9 @@ z_last u front e =
 no_z : (u : List ℕ) → (get_or u (length u - 1) 0 == letter_z) ≡ false → ¬ (EndsInZ u)
 no_z u h z = let last : get_or u (length u - 1) 0 ≡ letter_z = z_last u z.0 z.1 in grind (arith, nat_tests, h, last)
 
+no_cut_is_none : (cut : Cut) → Some cut ≡ None → ⊥
+no_cut_is_none cut h = cc
+
 no_space : (u : List ℕ) → cut_at_space u ≡ None → ¬ ((j : ℕ) × CutsAtSpace u j)
 unfolding cut_at_space last_space
 no_space u h s =
@@ -83,7 +86,7 @@ no_space u h s =
     let some : cut_at_space_place u s.0 ≡ None = ap (λ r. r >>= cut_at_space_place u) (sym found) ∙ h in
     let both : cond (nat_lt 5 s.0 && is_sign (slice_index (trimmed_behind u s.0) 0)) (Some (take s.0 u, trimmed_behind u s.0)) None ≡ Some (take s.0 u, trimmed_behind u s.0) = ap (λ b. cond (b && is_sign (slice_index (trimmed_behind u s.0) 0)) (Some (take s.0 u, trimmed_behind u s.0)) None) high ∙ ap (λ b. cond b (Some (take s.0 u, trimmed_behind u s.0)) None) s.1.2 in
     let bad : Some (take s.0 u, trimmed_behind u s.0) ≡ None = sym both ∙ some in
-    cc
+    no_cut_is_none (take s.0 u, trimmed_behind u s.0) bad
 
 no_sign : (u : List ℕ) → last_sign u ≡ None → ¬ ((j : ℕ) × CutsAtSign u j)
 unfolding last_sign

@@ -100,6 +100,6 @@ unfolding clock_with_colons
 by_three t h m r s rest e f g =
     let first = first_by is_colon rest _ refl in
     ap (λ x. clock_of (digits_at_most 23 h) (digits_at_most 59 m) (digits_at_most 59 x)) g
-        ∙ ap (λ ps. clock_of_parts (h ∷ m ∷ ps)) (sym first.1)
-        ∙ ap (λ ps. clock_of_parts (h ∷ ps)) (sym f)
-        ∙ ap clock_of_parts (sym e)
+    ∙ ap (λ ps. clock_of_parts (h ∷ m ∷ ps)) (sym first.1)
+    ∙ ap (λ ps. clock_of_parts (h ∷ ps)) (sym f)
+    ∙ ap clock_of_parts (sym e)

@@ -72,9 +72,12 @@ clock_holds c h =
     let first = both (nat_le c.hour 23) (nat_le c.minute 59) last.0 in
     let a : c.hour ≤ 23 = n_test _ _ first.0 in
     let b : c.minute ≤ 59 = n_test _ _ first.1 in
-    let e : c.second ≤ 59 = n_test _ _ last.1 in
-    ((omega (arith, signed_arith), omega (arith, signed_arith)), (omega (arith, signed_arith), omega (arith, signed_arith)),
-    (omega (arith, signed_arith), omega (arith, signed_arith)), (omega (arith, signed_arith), omega (arith, signed_arith)))
+    let e : c.second ≤ 59 = n_test _ _ last.1 in (
+      (omega (arith, signed_arith), omega (arith, signed_arith)),
+      (omega (arith, signed_arith), omega (arith, signed_arith)),
+      (omega (arith, signed_arith), omega (arith, signed_arith)),
+      (omega (arith, signed_arith), omega (arith, signed_arith)),
+    )
 
 clock_from : (c : ClockFields) → IsTime (pos c.hour) (pos c.minute) (pos c.second) (pos 0) → is_clock c ≡ true
 clock_from c h =

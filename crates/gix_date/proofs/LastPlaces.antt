@@ -59,8 +59,7 @@ by_rfind bs None h =
     let none = rfind_char space bs None h (omega arith) in
     (sym (last_none (λ i. get_or bs i 0 == space) (length bs) (λ i l. differs (get_or bs i 0) space (none i l))), tt)
 by_rfind bs (Some k) h =
-    let found = rfind_char space bs (Some k) h (omega arith) in
-    (
+    let found = rfind_char space bs (Some k) h (omega arith) in (
       sym (last_is (λ i. get_or bs i 0 == space) (length bs) k (record { within = found.0; passes = equals (get_or bs k 0) space found.1; last = λ i a b. differs (get_or bs i 0) space (found.2 i a b) })),
       (found.0, found.1),
     )

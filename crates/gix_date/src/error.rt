@@ -7,12 +7,12 @@ use std::marker::Model;
 use std::{fmt, io, str};
 use thiserror::Error;
 
-/// Why a call of this crate refuses. Each variant names the calls that answer it.
+/// Why a call of this crate refuses. Each variant names the calls that answer it, and those that will.
 #[derive(Debug, Drop, Error)]
 pub enum Error {
-    /// No form that a date may have holds the text, or the offset that it names is beyond 23:59 (`parse`).
+    /// No form that a date may have holds the text (`parse`).
     #[error("no known date format: {:?}; expected seconds since 1970, such as \"@0\" or \"1700000000\", \
-        or seconds and an offset, such as \"1660874655 +0800\"", .input.as_text())]
+        seconds and an offset, such as \"1660874655 +0800\", or a date and a clock, such as \"2022-08-18 12:45:06 +0800\"", .input.as_text())]
     UnknownFormat {
         /// The text that was given.
         input: InputBytes,
@@ -117,10 +117,16 @@ mod tests {
 
     #[test]
     fn a_refused_text_is_shown_quoted_in_one_line(rt: HostRuntime) -> Result<(), Fail> {
-        let input = InputBytes::copied(rt.alloc(), "1\n \"2\"")?;
-        let text = format!(in rt.alloc(); "{}", Error::UnknownFormat { input })?;
-        assert!(rt; text.contains("\"1\\n \\\"2\\\"\""), "{text}");
-        assert!(rt; !text.contains('\n'), "{text}");
+        let unknown = InputBytes::copied(rt.alloc(), "1\n \"2\"")?;
+        let beyond = InputBytes::copied(rt.alloc(), "1\n \"2\"")?;
+        for fault in [
+            Error::UnknownFormat { input: unknown },
+            Error::DateConversion { input: beyond },
+        ] {
+            let text = format!(in rt.alloc(); "{fault}")?;
+            assert!(rt; text.contains("\"1\\n \\\"2\\\"\""), "{text}");
+            assert!(rt; !text.contains('\n'), "{text}");
+        }
         Ok(())
     }
 

@@ -1,8 +1,9 @@
 //! Laws, each the contract of a function that does nothing.
-ghost use Rattle.std.specs.Prelude.{◌≡◌, ◌↔◌, ◌++◌, pos, neg_ℤ, IsTrue};
+ghost use Rattle.std.specs.Prelude.{◌≡◌, ◌↔◌, ◌++◌, pos, neg_ℤ, length, IfSome, IsTrue};
 ghost use Rattle.std.specs.declared.cmp.Ordering.TheVariants.{Equal};
 ghost use Rattle.std.specs.Hash as fed;
 ghost use Rattle.std.specs.Ordering.{int_cmp, on, then_cmp};
+ghost use Rattle.gix_date.specs.HeaderText.{header_text};
 ghost use Rattle.gix_date.specs.TimeBuf.{text_in};
 ghost use Rattle.gix_date.specs.declared.parsing.function.TheConstants.{LEAST_EPOCH};
 ghost use Rattle.gix_date.specs.declared.parsing.raw.TheConstants.{MOST_HOURS};
@@ -18,12 +19,13 @@ pub fn constants()
     ensures min { Time.MIN ≡ record { seconds = neg_ℤ (pos 9_223_372_036_854_775_808); offset = neg_ℤ (pos 359_999) } }
 {}
 
-/// The limits that contracts name are the numbers that the documents say.
+/// The limits that contracts name are the numbers that the documents say, and the longest text is that of the least time.
 pub fn limits()
     ensures least_bare_epoch { LEAST_EPOCH ≡ pos 100_000_000 }
     ensures most_raw_hours { MOST_HOURS ≡ 14 }
     ensures offset_without_text { HUNDRED_HOURS ≡ 360_000 }
     ensures longest_text { LONGEST_TEXT ≡ 26 }
+    ensures text_of_min { IfSome (header_text Time.MIN) (λ text. length text ≡ LONGEST_TEXT) }
 {}
 
 /// A clone of a time is that time, a clone of a buffer holds the same text, and neither can fail.

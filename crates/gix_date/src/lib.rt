@@ -9,8 +9,9 @@
 //! let strict = parse(alloc, "12abc", None);    // Err(Error::UnknownFormat { .. })
 //! ```
 //!
-//! The names and modules are those of the Rust crate gix-date 0.18.1. Clock and zone are always handed in, and no call
-//! here takes memory unless it is given an allocator.
+//! The names and modules are those of the Rust crate gix-date 0.18.1, but for `parsing`, which is `parse` there, and `device`,
+//! `laws` and [`InputBytes`], which are not there. Clock and zone are always handed in, and no call here takes memory unless it
+//! is given an allocator.
 #![tactic(auto)]
 
 pub mod device;

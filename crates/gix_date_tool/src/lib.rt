@@ -1,4 +1,4 @@
-//! Replies to the lines of a stream: which of them are header texts of Git's times.
+//! Replies to the lines of a stream: header texts of Git's times checked, or dates parsed.
 #![tactic(auto)]
 
 mod arguments;

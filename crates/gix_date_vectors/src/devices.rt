@@ -64,6 +64,22 @@ fn an_interrupted_call_is_a_fault(rt: HostRuntime) {
 }
 
 #[test]
+fn a_device_makes_no_read_after_a_fault(rt: HostRuntime) {
+    for kind in [
+        ErrorKind::WouldBlock,
+        ErrorKind::TimedOut,
+        ErrorKind::Interrupted,
+    ] {
+        let mut device = Device::new(Supply::of(b"x", 1, 0, Some(kind)));
+        let mut piece = [0; 4];
+        for _ in 0..3 {
+            assert_eq!(rt; device.get(&mut piece), Err(kind), "{kind:?}");
+        }
+        assert_eq!(rt; device.into_inner().calls, 1, "{kind:?}");
+    }
+}
+
+#[test]
 fn a_device_reads_until_the_first_fault(rt: HostRuntime) {
     let mut device = Device::new(Supply::of(b"x", 1, 2, Some(ErrorKind::UnexpectedEof)));
     let mut piece = [0; 4];

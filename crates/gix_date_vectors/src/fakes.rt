@@ -29,18 +29,23 @@ pub(crate) struct Slow {
     pub(crate) taken: Vec<u8>,
     pub(crate) calls: usize,
     pub(crate) flushes: usize,
-    a_call: usize,
+    bytes_a_call: usize,
     room: usize,
     kind: io::ErrorKind,
 }
 
 impl Slow {
-    pub(crate) fn new(alloc: Global, a_call: usize, room: usize, kind: io::ErrorKind) -> Slow {
+    pub(crate) fn new(
+        alloc: Global,
+        bytes_a_call: usize,
+        room: usize,
+        kind: io::ErrorKind,
+    ) -> Slow {
         Slow {
             taken: Vec::new(alloc),
             calls: 0,
             flushes: 0,
-            a_call,
+            bytes_a_call,
             room,
             kind,
         }
@@ -59,7 +64,7 @@ impl Write for Slow {
         if room == 0 {
             return Err(io::Error::from(self.kind));
         }
-        let count = buf.len().min(self.a_call).min(room);
+        let count = buf.len().min(self.bytes_a_call).min(room);
         self.taken.extend_from_slice(&buf[..count])?;
         Ok(count)
     }
@@ -76,21 +81,25 @@ pub(crate) struct Supply<'a> {
     pub(crate) calls: usize,
     text: &'a [u8],
     place: usize,
-    a_call: usize,
+    bytes_a_call: usize,
     left: usize,
     fault: Option<io::ErrorKind>,
 }
 
 impl<'a> Supply<'a> {
     /// The text once.
-    pub(crate) fn once(text: &'a [u8], a_call: usize, fault: Option<io::ErrorKind>) -> Supply<'a> {
-        Supply::of(text, a_call, text.len(), fault)
+    pub(crate) fn once(
+        text: &'a [u8],
+        bytes_a_call: usize,
+        fault: Option<io::ErrorKind>,
+    ) -> Supply<'a> {
+        Supply::of(text, bytes_a_call, text.len(), fault)
     }
 
     /// So many bytes of the text and its repetitions.
     pub(crate) fn of(
         text: &'a [u8],
-        a_call: usize,
+        bytes_a_call: usize,
         left: usize,
         fault: Option<io::ErrorKind>,
     ) -> Supply<'a> {
@@ -98,7 +107,7 @@ impl<'a> Supply<'a> {
             calls: 0,
             text,
             place: 0,
-            a_call,
+            bytes_a_call,
             left,
             fault,
         }
@@ -118,7 +127,11 @@ impl Read for Supply<'_> {
             self.place = 0;
         }
         let front = &self.text[self.place..];
-        let count = front.len().min(self.left).min(self.a_call).min(buf.len());
+        let count = front
+            .len()
+            .min(self.left)
+            .min(self.bytes_a_call)
+            .min(buf.len());
         buf[..count].copy_from_slice(&front[..count]);
         self.place += count;
         self.left -= count;
@@ -192,7 +205,6 @@ impl Sink for Dribble {
             return Err(io::ErrorKind::StorageFull);
         }
         self.room -= 1;
-        self.fault = None;
         Ok(1)
     }
 }
@@ -210,20 +222,25 @@ impl fmt::Write for Pieces {
     }
 }
 
-/// A reader that gives one header line a call, and counts the calls that come before each line that it gave was replied to.
+/// A reader that gives header lines, so many a call at most, and counts its calls and those that come before each line that it
+/// gave was replied to.
 #[derive(Drop)]
 pub(crate) struct Asking<'a> {
+    pub(crate) calls: usize,
     pub(crate) early: usize,
     left: usize,
+    lines_a_call: usize,
     given: usize,
     replied: &'a Cell<usize>,
 }
 
 impl<'a> Asking<'a> {
-    pub(crate) fn new(lines: usize, replied: &'a Cell<usize>) -> Asking<'a> {
+    pub(crate) fn new(lines: usize, lines_a_call: usize, replied: &'a Cell<usize>) -> Asking<'a> {
         Asking {
+            calls: 0,
             early: 0,
             left: lines,
+            lines_a_call,
             given: 0,
             replied,
         }
@@ -232,17 +249,20 @@ impl<'a> Asking<'a> {
 
 impl Read for Asking<'_> {
     fn read(&mut self, buf: &mut [u8]) -> io::Result<usize> {
+        self.calls = self.calls.saturating_add(1);
         if self.replied.get() < self.given {
             self.early = self.early.saturating_add(1);
         }
-        let line = b"0 +0000\n";
-        if self.left == 0 || buf.len() < line.len() {
-            return Ok(0);
+        let lines = self.left.min(self.lines_a_call);
+        let text = b"0 +0000\n";
+        let mut count = 0;
+        for place in buf.chunks_exact_mut(text.len()).take(lines) {
+            place.copy_from_slice(text);
+            count += text.len();
+            self.left -= 1;
+            self.given = self.given.saturating_add(1);
         }
-        self.left -= 1;
-        self.given = self.given.saturating_add(1);
-        buf[..line.len()].copy_from_slice(line);
-        Ok(line.len())
+        Ok(count)
     }
 }
 

@@ -90,13 +90,18 @@ fn times_are_written_and_shown(rt: HostRuntime) -> Result<(), Fail> {
 }
 
 #[test]
-fn a_time_is_shown_in_one_piece_whatever_the_width(rt: HostRuntime) -> Result<(), Fail> {
+fn a_time_is_shown_in_one_piece_whatever_the_style(rt: HostRuntime) -> Result<(), Fail> {
     let time = Time::new(5, -5400);
     let mut pieces = Pieces { count: 0 };
     assert!(rt; write!(pieces, "{time}").is_ok());
     assert_eq!(rt; pieces.count, 1);
-    let text = format!(in rt.alloc(); "{time:>30}|{time:<30}|{time:030}|{time:.3}")?;
-    assert_eq!(rt; text.as_str(), "5 -0130|5 -0130|5 -0130|5 -0130");
+    let text = format!(in rt.alloc();
+        "{time:>30}|{time:<30}|{time:030}|{time:.3}|{time:#}|{time:+}"
+    )?;
+    assert_eq!(rt;
+        text.as_str(),
+        "5 -0130|5 -0130|5 -0130|5 -0130|5 -0130|5 -0130"
+    );
     Ok(())
 }
 

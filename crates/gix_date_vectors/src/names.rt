@@ -1,8 +1,9 @@
-//! Each public name that no other test uses.
+//! Public names, each where it stands, and the traits that callers count on.
 use gix_date::parsing::TimeBuf;
 use gix_date::{
     Error, InputBytes, OffsetInSeconds, SecondsSinceUnixEpoch, Time, Zoned, laws, parse,
 };
+use gix_date_tool::Mode;
 use std::alloc::Global;
 use std::test::Fail;
 
@@ -33,6 +34,23 @@ fn names_stand_at_the_root(rt: HostRuntime) -> Result<(), Fail> {
     assert_eq!(rt; input.as_bytes(), b"1:2".as_slice());
     assert_eq!(rt; TimeBuf::default().as_str(), "");
     Ok(())
+}
+
+/// Whether two values are the same, by a full equality.
+fn same<T: Eq>(one: &T, other: &T) -> bool {
+    one == other
+}
+
+#[test]
+fn types_have_the_traits_that_callers_count_on(rt: HostRuntime) {
+    let time = gix_date::time::Time::new(5, -60);
+    assert!(rt; same(&time, &Time::new(5, -60)));
+    assert!(rt; same(&Mode::Parse, &Mode::Parse));
+    let mut buf = TimeBuf::default();
+    assert!(rt; time.to_str(&mut buf).is_ok());
+    let lent: &TimeBuf = &buf;
+    let copied = *lent;
+    assert_eq!(rt; copied.as_str(), "5 -0001");
 }
 
 #[test]

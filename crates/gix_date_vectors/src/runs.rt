@@ -89,13 +89,17 @@ fn lines_are_parsed(rt: HostRuntime) {
 
 #[test]
 fn replies_are_written_before_more_is_read(rt: HostRuntime) {
-    let replied = Cell::new(0);
-    let mut source = Device::new(Asking::new(40, &replied));
-    let mut sink = Device::new(Replied(&replied));
-    let answer = run(rt.alloc(), Mode::Check, None, &mut source, &mut sink);
-    assert!(rt; matches!(answer, Ok(40)));
-    assert_eq!(rt; source.into_inner().early, 0);
-    assert_eq!(rt; replied.get(), 40);
+    // The last row fills each piece of 16384 bytes.
+    for (lines, lines_a_call, calls) in [(40, 1, 41), (41, 3, 15), (6144, 2048, 4)] {
+        let replied = Cell::new(0);
+        let mut source = Device::new(Asking::new(lines, lines_a_call, &replied));
+        let mut sink = Device::new(Replied(&replied));
+        let answer = run(rt.alloc(), Mode::Check, None, &mut source, &mut sink);
+        assert!(rt; matches!(answer, Ok(_)), "{lines_a_call}");
+        assert_eq!(rt; replied.get(), lines, "{lines_a_call}");
+        let source = source.into_inner();
+        assert_eq!(rt; (source.calls, source.early), (calls, 0), "{lines_a_call}");
+    }
 }
 
 #[test]
@@ -255,9 +259,18 @@ fn the_types_have_debug_forms(rt: HostRuntime) -> Result<(), Fail> {
     ];
     for fault in faults {
         let text = format!(in rt.alloc(); "{fault}")?;
-        assert!(rt; text.len() > 10);
+        assert!(rt; text.len() > 10 && !text.contains('\n'), "{text}");
         let debug = format!(in rt.alloc(); "{fault:?}")?;
         assert!(rt; !debug.is_empty());
     }
+    Ok(())
+}
+
+#[test]
+fn the_limits_are_in_the_texts_of_their_faults(rt: HostRuntime) -> Result<(), Fail> {
+    let text = format!(in rt.alloc(); "{}", ToolError::LineTooLong)?;
+    assert!(rt; text.contains("65536"), "{text}");
+    let text = format!(in rt.alloc(); "{}", ToolError::TooManyLines)?;
+    assert!(rt; text.contains("1000000"), "{text}");
     Ok(())
 }

@@ -118,7 +118,7 @@ pub fn parse_header(input: &str) -> Option<Time>
     let (first, second) = first_words(input)?;
     let seconds = parse_seconds(first)?;
     let offset = match second {
-        Some(word) => parse_offset(word),
+        Some(word) => parse_header_offset(word),
         None => 0,
     };
     Some(Time::new(seconds, offset))
@@ -138,7 +138,7 @@ fn parse_seconds(word: &str) -> Option<SecondsSinceUnixEpoch>
 
 /// The offset that the second word of a header says, 0 where it has another form.
 #[tactic(auto, unfolding(crate::specs::HeaderReading::offset_said))]
-fn parse_offset(word: &str) -> OffsetInSeconds
+fn parse_header_offset(word: &str) -> OffsetInSeconds
     ensures { result ≡ offset_said word.now }
 {
     match parse_offset_fields(word) {

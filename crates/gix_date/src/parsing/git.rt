@@ -9,7 +9,7 @@ use crate::parsing::civil::{DateFields, civil_instant};
 use crate::parsing::fields::behind;
 use crate::parsing::git::clock::parse_clock;
 use crate::parsing::git::cut::clock_cut;
-use crate::parsing::git::offset::parse_offset;
+use crate::parsing::git::offset::parse_git_offset;
 use crate::parsing::numbers::read_two_digits;
 use crate::time::Time;
 
@@ -99,7 +99,7 @@ fn parse_cut(date: DateFields, clock: &str, offset: &str) -> Option<Time>
     ensures short { IfSome result (λ t. IsOffsetSeconds t.offset) }
 {
     let clock = parse_clock(clock)?;
-    let offset = parse_offset(offset)?;
+    let offset = parse_git_offset(offset)?;
     let seconds = civil_instant(date, clock, offset)?;
     Some(Time::new(seconds, offset))
 }

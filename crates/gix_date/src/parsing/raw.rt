@@ -24,13 +24,13 @@ pub(crate) fn parse_raw(input: &str) -> Option<Time>
     let (first, second) = first_words(input)?;
     let second = second?;
     let seconds = parse_int(first)?;
-    let offset = parse_offset(second)?;
+    let offset = parse_raw_offset(second)?;
     Some(Time::new(seconds, offset))
 }
 
 /// The offset of a raw text.
 #[tactic(auto, unfolding(crate::specs::Raw::raw_offset))]
-fn parse_offset(word: &str) -> Option<OffsetInSeconds>
+fn parse_raw_offset(word: &str) -> Option<OffsetInSeconds>
     ensures offset { result ≡ raw_offset word.now }
     ensures short { IfSome result (λ offset. IsOffsetSeconds offset) }
 {

@@ -112,11 +112,6 @@ pub(crate) fn header_text(time: Time) -> Option<ArrayString<LONGEST_TEXT>>
     Some(text)
 }
 
-/// The longest text is that of the least time.
-pub(crate) fn longest_text_is_that_of_min()
-    ensures { IfSome (header_text Time.MIN) (λ text. LONGEST_TEXT ≡ length text) }
-{}
-
 fn push_two_digits(text: &mut ArrayString<LONGEST_TEXT>, n: u32)
     requires small { n < 100 }
     requires room { array_string_len text.old + 2 ≤ LONGEST_TEXT }

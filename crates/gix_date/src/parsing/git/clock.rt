@@ -87,7 +87,11 @@ fn parse_clock_with_colons(text: &str) -> Option<ClockFields>
         return clock_of(parse_digits(23, hours), parse_digits(59, rest), Some(0));
     };
     let seconds = before_colon(seconds);
-    clock_of(parse_digits(23, hours), parse_digits(59, minutes), parse_digits(59, seconds))
+    clock_of(
+        parse_digits(23, hours),
+        parse_digits(59, minutes),
+        parse_digits(59, seconds),
+    )
 }
 
 /// The clock of these fields, where there are all.

@@ -12,7 +12,7 @@ use crate::time::OffsetInSeconds;
 ///
 /// `None` for any other text. Takes no memory.
 #[tactic(auto, unfolding(crate::specs::Git::git_offset))]
-pub(crate) fn parse_offset(text: &str) -> Option<OffsetInSeconds>
+pub(crate) fn parse_git_offset(text: &str) -> Option<OffsetInSeconds>
     ensures value { result ≡ git_offset text.now }
     ensures in_zone { IfSome result IsOffsetSeconds }
 {

@@ -21,6 +21,6 @@ returns-then-not-begins_with_sign c =
 pub returns : goal.returns
 returns c =
     sym (space_found c.args.text.now c.trim-offset.result.now c.range.result.now c.in-Some.place c.in-Some.ensures.value (c.trim-offset.ensures.trim ∙ ap trim c.range_from.ensures.value)
-        (grind (arith, common_steps, c.range.ensures.value))
-        (omega arith)
-        (sym c.begins_with_sign.ensures ∙ c.if-not-begins_with_sign.false))
+    (grind (arith, common_steps, c.range.ensures.value))
+    (omega arith)
+    (sym c.begins_with_sign.ensures ∙ c.if-not-begins_with_sign.false))

@@ -8,7 +8,7 @@ use Rattle.gix_date.specs.Offsets.{signed, offset_of}
 use Rattle.gix_date.specs.declared.parsing.offset.OffsetFields.{OffsetFields}
 use Rattle.gix_date.specs.declared.parsing.offset.Sign.{Sign}
 use Rattle.gix_date.specs.declared.parsing.offset.Sign.TheVariants.{Plus, Minus}
-use Rattle.gix_date.proofs.parsing.git.offset.parse_offset.Goals as goal
+use Rattle.gix_date.proofs.parsing.git.offset.parse_git_offset.Goals as goal
 
 signed_short : (sign : Sign) (n : ℕ) → n ≤ 93599 → IsOffsetSeconds (signed sign n)
 signed_short Plus n h = (grind (arith, ints, h), grind (arith, ints, h))
