@@ -3,7 +3,7 @@ use gix_date::{Error, Time, parse};
 use std::test::Fail;
 
 /// A row's name, a text, and the seconds and the offset of its time.
-pub(crate) const TIMES: [(&str, &str, i64, i32); 28] = [
+pub(crate) const TIMES: [(&str, &str, i64, i32); 31] = [
     (
         "git-dotted",
         "2008.02.14 20:30:45 -0500",
@@ -64,6 +64,19 @@ pub(crate) const TIMES: [(&str, &str, i64, i32); 28] = [
         1_203_037_200,
         -18_000,
     ),
+    (
+        "offset-directly-behind",
+        "2008-02-14T20:30:45-05",
+        1_203_039_045,
+        -18_000,
+    ),
+    (
+        "offset-directly-behind",
+        "20080214T203045 -0500",
+        1_203_039_045,
+        -18_000,
+    ),
+    ("no-offset", "2008-02-14 20:30:45", 1_203_021_045, 0),
     ("clock-readings", "2008-02-14 20:30:45:99", 1_203_021_045, 0),
     ("clock-readings", "2008-02-14T20:30:45Z", 1_203_021_045, 0),
     (
@@ -157,6 +170,8 @@ fn near_git_texts_are_refused_with_their_bytes(rt: HostRuntime) {
         ("no-clock", "2008-02-14 +5"),
         ("no-clock", "2008.02.14"),
         ("no-clock", "2008-02-14T"),
+        ("no-clock", "2008-02-14"),
+        ("second-of-60", "2008-02-14 20:30:60"),
         ("past-the-last-instant", "9999-12-31 23:59:59 +0000"),
         ("past-the-last-instant", "9999-12-30 22:00:01 +0000"),
         ("no-leap-year", "2007-02-29 00:00:00 Z"),
