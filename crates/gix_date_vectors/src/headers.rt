@@ -40,6 +40,12 @@ fn headers_are_read(rt: HostRuntime) {
         ("no-limit-of-hours", "1 -1500", Some((1, -54_000))),
         ("compact-date-as-seconds", "20080214", Some((20_080_214, 0))),
         ("at-sign", "@20080214", None),
+        ("sign-in-the-offset", "5 +0102-3", Some((5, 0))),
+        ("line-separator", "1\u{2028}+0100", Some((1, 3600))),
+        ("next-line", "1\u{85}+0100", Some((1, 3600))),
+        ("no-white-space", "1\u{200b}+0100", Some((1, 0))),
+        ("no-white-space", "1\u{1f}+0100", Some((1, 0))),
+        ("no-ascii-digit", "\u{661}", None),
     ];
     for (row, text, time) in rows {
         let time = time.map(|(seconds, offset)| Time::new(seconds, offset));
