@@ -253,15 +253,13 @@ impl Read for Asking<'_> {
         if self.replied.get() < self.given {
             self.early = self.early.saturating_add(1);
         }
-        let lines = self.left.min(self.lines_a_call);
-        let text = b"0 +0000\n";
-        let mut count = 0;
-        for place in buf.chunks_exact_mut(text.len()).take(lines) {
-            place.copy_from_slice(text);
-            count += text.len();
-            self.left -= 1;
-            self.given = self.given.saturating_add(1);
+        let lines = self.left.min(self.lines_a_call).min(buf.len() / 8);
+        let count = lines * 8;
+        for place in buf[..count].chunks_exact_mut(8) {
+            place.copy_from_slice(b"0 +0000\n");
         }
+        self.left -= lines;
+        self.given = self.given.saturating_add(lines);
         Ok(count)
     }
 }

@@ -3,7 +3,7 @@ use gix_date::{Error, Time, parse};
 use std::test::Fail;
 
 /// A row's name, a text, and the seconds and the offset of its time.
-pub(crate) const TIMES: [(&str, &str, i64, i32); 31] = [
+pub(crate) const TIMES: [(&str, &str, i64, i32); 35] = [
     (
         "git-dotted",
         "2008.02.14 20:30:45 -0500",
@@ -77,6 +77,20 @@ pub(crate) const TIMES: [(&str, &str, i64, i32); 31] = [
         -18_000,
     ),
     ("no-offset", "2008-02-14 20:30:45", 1_203_021_045, 0),
+    ("more-white-space", "2008-02-14  20:30:45", 1_203_021_045, 0),
+    (
+        "more-white-space",
+        "2008-02-14 20:30:45 \u{a0}-0500",
+        1_203_039_045,
+        -18_000,
+    ),
+    (
+        "widest-offset",
+        "2008-02-14 20:30:45 -2359",
+        1_203_107_385,
+        -86_340,
+    ),
+    ("hours-alone", "2008-02-14T20 +05", 1_203_001_200, 18_000),
     ("clock-readings", "2008-02-14 20:30:45:99", 1_203_021_045, 0),
     ("clock-readings", "2008-02-14T20:30:45Z", 1_203_021_045, 0),
     (
@@ -171,6 +185,20 @@ fn near_git_texts_are_refused_with_their_bytes(rt: HostRuntime) {
         ("no-clock", "2008.02.14"),
         ("no-clock", "2008-02-14T"),
         ("no-clock", "2008-02-14"),
+        ("no-ascii-in-a-field", "2008-02-14 20:30:45:é"),
+        ("past-a-word", "2008-02-14 4294967316:30"),
+        ("past-a-byte", "2008-02-14 276:30"),
+        ("digits-of-no-clock", "2008-02-14 2030450"),
+        ("minute-of-60", "2008-02-14 20:60"),
+        ("offset-minute-of-60", "2008-02-14 20:30:45 +0060"),
+        ("offset-of-three-digits", "2008-02-14 20:30:45 +053"),
+        ("sign-alone", "2008-02-14 20:30:45 +"),
+        ("small-z", "2008-02-14 20:30:45z"),
+        ("small-t", "2008-02-14t20:30:45"),
+        ("two-marks", "2008-02.14 20:30:45"),
+        ("month-of-0", "2008-00-14 20:30:45"),
+        ("day-of-0", "2008-02-00 20:30:45"),
+        ("offset-behind-a-colon", "2008-02-14 20:30:45-:05"),
         ("second-of-60", "2008-02-14 20:30:60"),
         ("past-the-last-instant", "9999-12-31 23:59:59 +0000"),
         ("past-the-last-instant", "9999-12-30 22:00:01 +0000"),

@@ -25,7 +25,7 @@ const LEAST_EPOCH: i64 = 100_000_000;
 /// 2. a bare epoch: seconds with a sign or none, of at least 100000000 (`1700000000`);
 /// 3. one of Git's own forms, with white space round it or none: dotted (`2008.02.14 20:30:45 -0500`), compact
 ///    (`20080214T203045.019-04:00`) or flexible (`2008-02-14 20:30:45 Z`, `2008-02-14T20 +05`), whose clock and offset have many
-///    widths, and whose day exists;
+///    widths, whose day exists, and whose instant `jiff` has;
 /// 4. a raw text: seconds and an offset in quarters of an hour up to 14:45, with white space round each
 ///    (`1660874655 +0800`).
 ///

@@ -32,6 +32,7 @@ pub(crate) fn parse_git_date_format(input: &str) -> Option<Time>
     parse_form(input.trim())
 }
 
+/// The first of the three forms that a trimmed text has.
 #[tactic(auto, unfolding(crate::specs::Git::git_form))]
 fn parse_form(text: &str) -> Option<Time>
     ensures time { result ≡ git_form text.now }
@@ -92,6 +93,7 @@ fn parse_behind(date: DateFields, rest: &str) -> Option<Time>
     parse_cut(date, clock, offset)
 }
 
+/// The time of a date, a clock and an offset.
 #[tactic(auto, unfolding(crate::specs::Git::time_of_cut))]
 fn parse_cut(date: DateFields, clock: &str, offset: &str) -> Option<Time>
     requires { DateFits date }
@@ -119,7 +121,7 @@ fn read_marked_date(mark: char, text: &str) -> Option<(DateFields, &str)>
     Some((DateFields { year, month, day }, rest))
 }
 
-/// The same with no mark.
+/// A year of four digits, a month of two and a day of two, with no mark between them.
 #[tactic(auto, unfolding(crate::specs::Git::read_compact_date))]
 fn read_compact_date(text: &str) -> Option<(DateFields, &str)>
     ensures value { read_view result ≡ read_compact_date text.now }

@@ -10,7 +10,7 @@ use crate::parsing::civil::ClockFields;
 use crate::parsing::numbers::read_two_digits;
 
 /// Reads the clock of a Git text: hours, and perhaps minutes and seconds, in digits alone. It ends at its first dot, if there is
-/// one, and white space may stand round it.
+/// one, white space may stand round it, and all of it is ASCII.
 ///
 /// With a colon its parts stand between colons and have any width, one that is not there is 0, and those behind the third say
 /// nothing; without a colon it has two, four or six digits. `None` for any other text. Takes no memory.
@@ -22,6 +22,7 @@ pub(crate) fn parse_clock(text: &str) -> Option<ClockFields>
     parse_trimmed_clock(before_dot(text).trim())
 }
 
+/// The clock of a text that has neither its dot nor white space round it.
 #[tactic(auto, unfolding(crate::specs::GitClock::trimmed_clock))]
 fn parse_trimmed_clock(text: &str) -> Option<ClockFields>
     ensures value { result ≡ trimmed_clock text.now }

@@ -18,6 +18,7 @@ pub(crate) fn clock_cut(text: &str) -> (&str, &str)
     first_cut(text)
 }
 
+/// The cuts, tried in their order.
 #[tactic(auto, unfolding(crate::specs::ClockCut::clock_cut))]
 fn first_cut(text: &str) -> (&str, &str)
     ensures { (result.0.now, result.1.now) ≡ clock_cut text.now }
