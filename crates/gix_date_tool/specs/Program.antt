@@ -1,5 +1,5 @@
 -- What the program does with a command line.
-use Rattle.std.specs.Prelude.{◌≡◌, ℕ, List, Option, Some, None, Ok, Err}
+use Rattle.std.specs.Prelude.{◌≡◌, ℕ, List, Option, Some, None, IsSome, Ok, Err}
 use Rattle.gix_date.specs.Known.{Takes, TakesProperPrefix}
 use Rattle.gix_date.specs.declared.time.Time.{Time}
 use Rattle.gix_date_tool.specs.declared.arguments.Mode.{Mode}
@@ -16,10 +16,10 @@ code_of Success = 0
 code_of Failure = 1
 code_of Usage = 2
 
--- The usage line was written, or a proper prefix of it.
+-- The usage line was written, or the writer has a fault and a proper prefix of it was.
 abbrev pub ShowsUsage : Change → Status → Type 0
 ShowsUsage writing Success = ⊥
-ShowsUsage writing Failure = TakesProperPrefix writing.old writing.new USAGE.now
+ShowsUsage writing Failure = TakesProperPrefix writing.old writing.new USAGE.now × IsSome writing.new.fault
 ShowsUsage writing Usage = Takes writing.old writing.new USAGE.now
 
 -- A run in this mode at this moment came to its end, or to a fault.

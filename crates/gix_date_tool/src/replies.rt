@@ -83,7 +83,7 @@ fn push_reading<W: Sink>(time: Time, outbox: &mut Outbox, out: &mut W) -> Result
     outbox.push(&pieces, out)
 }
 
-/// The reply to a line. Only Parse asks for memory, for the copy of a text that is in no known format.
+/// The reply to a line. For want of memory it is refused in Parse alone, and there only to a text in no known format.
 pub(crate) fn reply_to(alloc: Global, asked: Asked, line: &[u8]) -> Result<Reply, AllocError>
     ensures is { IfOk result (λ r. r ≡ reply asked line.now) }
     ensures writable { IfOk result IsWritable }
@@ -120,7 +120,7 @@ fn is_header_text_of(text: &str, time: Time) -> bool
     }
 }
 
-/// The time that a text is parsed as, or why it is not. Memory is asked for only to copy a text in no known format.
+/// The time that a text is parsed as, or why it is not. For want of memory only a text in no known format is refused.
 fn parse_reply(alloc: Global, text: &str, now: Option<Zoned<'static>>) -> Result<Reply, AllocError>
     ensures is { IfOk result (λ r. r ≡ parse_reply (first_family text.now)) }
     ensures writable { IfOk result IsWritable }

@@ -17,8 +17,8 @@ use std::alloc::Global;
 /// The moment, where there is one, is what a date may be relative to; it has to be one that `Time::to_zoned` converts.
 ///
 /// Lines end at `\n`, and a last line without one counts where it has a byte. The replies to the lines of what was read
-/// are written before more is read. Memory is taken for the line that is read, in Parse also for a copy of a text that is in
-/// no known format, and not for more.
+/// are written before more is read. Memory is taken for the line that is read, and in Parse for a copy of a text that is in
+/// no known format: over short lines 64 KiB are enough.
 ///
 /// A run ends well only at the end of the input. [`ToolError::LineTooLong`] comes where one of the first 1000000 lines has
 /// more than 65536 bytes, [`ToolError::TooManyLines`] where a byte stands behind line 1000000, [`ToolError::Memory`] where

@@ -33,7 +33,7 @@ const LEAST_EPOCH: i64 = 100_000_000;
 /// be relative to; no family reads one so far.
 ///
 /// [`Error::UnknownFormat`] carries the text where no family holds it, and [`Error::Memory`] stands for it where memory for
-/// that copy is refused. A time takes no memory.
+/// that copy is refused. A time is answered also where all memory is refused.
 pub fn parse(alloc: Global, input: &str, now: Option<Zoned<'_>>) -> Result<Time, Error>
     ensures comes { Comes (first_family input.now) input.now now.entry result }
     ensures short { IfOk result (λ t. IsOffsetSeconds t.offset) }
