@@ -6,9 +6,9 @@ use Rattle.std.specs.Prelude.{codes, neg_ℤ, Some, None}
 use Rattle.gix_date.specs.Characters.{dot, minus as dash}
 use Rattle.gix_date.specs.ClockCut.{clock_cut, cut_at_z, cut_at_space, cut_at_sign, last_space, last_sign}
 use Rattle.gix_date.specs.Fields.{behind}
-use Rattle.gix_date.specs.Git.{git_time, git_form, dotted_time, compact_time, flexible_time, read_marked_date, read_compact_date, read_year, time_of_cut, git_offset}
+use Rattle.gix_date.specs.Git.{git_time, git_form, dotted_time, compact_time, flexible_time, read_marked_date, read_compact_date, time_of_cut, git_offset}
 use Rattle.gix_date.specs.GitClock.{git_clock, trimmed_clock, clock_with_colons, clock_without_colons, read_pair_or_end, digits_at_most}
-use Rattle.gix_date.specs.Numbers.{read_two_digits}
+use Rattle.gix_date.specs.Numbers.{read_two_digits, read_year}
 use Rattle.gix_date.specs.Offsets.{read_sign}
 use Rattle.gix_date.specs.declared.parsing.civil.ClockFields.{ClockFields}
 use Rattle.gix_date.specs.declared.parsing.civil.DateFields.{DateFields}

@@ -1,7 +1,7 @@
 -- The definitions on worked texts: each row computes.
 use Rattle.std.proofs.Common.{◌≡◌, refl, ℕ, List, [], ◌∷◌, true, false, ℤ, pos}
 use Rattle.std.specs.Fmt.{digits}
-use Rattle.std.specs.Str.{chars, trim_start, trim_end}
+use Rattle.std.specs.Str.{chars}
 use lib.Utf8.{encode}
 use Rattle.std.specs.Prelude.{codes, neg_ℤ, Some, None}
 use Rattle.gix_date.specs.declared.time.Time.{Time}
@@ -12,21 +12,18 @@ use Rattle.gix_date.specs.SpaceWords.{space_words}
 use Rattle.gix_date.specs.HeaderText.{header_text}
 use Rattle.gix_date.specs.HeaderReading.{header_time, time_of_words, seconds_said, offset_said}
 use Rattle.gix_date.specs.Raw.{raw_time, raw_offset}
-use Rattle.gix_date.specs.Epoch.{at_time, epoch_time}
-use Rattle.gix_date.specs.Families.{Absolute, first_family}
-use Rattle.gix_date.specs.Git.{git_time, git_form, dotted_time, compact_time, flexible_time, read_marked_date, read_compact_date, read_year}
 use Rattle.gix_date.specs.CanonicalHeader.{is_canonical_header}
 
-abbrev time : ℤ → ℤ → Time
+abbrev pub time : ℤ → ℤ → Time
 time seconds offset = record { seconds = seconds; offset = offset }
 
 -- what `-n` is
-abbrev minus : ℕ → ℤ
+abbrev pub minus : ℕ → ℤ
 minus n = neg_ℤ (pos n)
 
 -- all that a row needs to see computed
 computing : Type 0
-unfolding header_text first_family git_time git_form dotted_time compact_time flexible_time read_marked_date read_compact_date read_year at_time epoch_time raw_time raw_offset header_time time_of_words seconds_said offset_said offset_fields behind read_sign last_pair read_two_digits int_value digits space_words trim_start trim_end chars encode
+unfolding header_text raw_time raw_offset header_time time_of_words seconds_said offset_said offset_fields behind read_sign last_pair read_two_digits int_value digits space_words chars encode
 computing = Unit {0}
 
 abbrev Reads : List ℕ → ℤ → ℤ → Type 0
@@ -140,27 +137,3 @@ raw-past-the-hours = refl
 raw-sign-inside : raw_time (codes "1 -+1+0+0") ≡ None
 unfolding computing
 raw-sign-inside = refl
-
-at-zero : first_family (codes "@0") ≡ Some (Absolute (time (pos 0) (pos 0)))
-unfolding computing
-at-zero = refl
-
-at-space-and-raw : first_family (codes "@ 5 +0530") ≡ Some (Absolute (time (pos 5) (pos 19800)))
-unfolding computing
-at-space-and-raw = refl
-
-at-space-and-seconds : first_family (codes "@ 5") ≡ None
-unfolding computing
-at-space-and-seconds = refl
-
-bare-epoch : first_family (codes "100000000") ≡ Some (Absolute (time (pos 100000000) (pos 0)))
-unfolding computing
-bare-epoch = refl
-
-below-the-bare-epoch : first_family (codes "99999999") ≡ None
-unfolding computing
-below-the-bare-epoch = refl
-
-raw-behind : first_family (codes "5 -0130") ≡ Some (Absolute (time (pos 5) (minus 5400)))
-unfolding computing
-raw-behind = refl

@@ -7,10 +7,14 @@ false_unless : (b : Bool) → (b ≡ true → ⊥) → b ≡ false
 false_unless true h = absurd (h refl)
 false_unless false h = refl
 
+-- bytes that are no text
+pub no_text : (bytes : List ℕ) → (IsUtf8 bytes → ⊥) → is_utf8 bytes ≡ false
+no_text bytes h = false_unless (is_utf8 bytes) (λ u. h (IsUtf8-from_is_utf8 bytes u))
+
 -- a choice by whether the bytes are text, where they are
 pub if_text : {T : Type 0} (bytes : List ℕ) (x y : T) → IsUtf8 bytes → cond (is_utf8 bytes) x y ≡ x
 if_text bytes x y h = ap (λ b. cond b x y) (is_utf8-from_IsUtf8 bytes h)
 
 -- and where they are not
 pub if_no_text : {T : Type 0} (bytes : List ℕ) (x y : T) → (IsUtf8 bytes → ⊥) → cond (is_utf8 bytes) x y ≡ y
-if_no_text bytes x y h = ap (λ b. cond b x y) (false_unless (is_utf8 bytes) (λ u. h (IsUtf8-from_is_utf8 bytes u)))
+if_no_text bytes x y h = ap (λ b. cond b x y) (no_text bytes h)

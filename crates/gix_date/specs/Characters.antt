@@ -13,6 +13,10 @@ space = 32
 abbrev pub plus : ℕ
 plus = 43
 
+-- `,`
+abbrev pub comma : ℕ
+comma = 44
+
 -- `-`
 abbrev pub minus : ℕ
 minus = 45
@@ -33,6 +37,10 @@ colon = 58
 abbrev pub at_sign : ℕ
 at_sign = 64
 
+-- `S`
+abbrev pub letter_s : ℕ
+letter_s = 83
+
 -- `T`
 abbrev pub letter_t : ℕ
 letter_t = 84
@@ -40,3 +48,7 @@ letter_t = 84
 -- `Z`
 abbrev pub letter_z : ℕ
 letter_z = 90
+
+-- `s`
+abbrev pub small_s : ℕ
+small_s = 115

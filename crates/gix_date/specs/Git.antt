@@ -1,5 +1,5 @@
 -- Git's own forms of a date.
-use Rattle.std.specs.Prelude.{ℕ, ◌+◌, ◌*◌, Bool, not, ◌&&◌, ◌||◌, List, [], ◌∷◌, filter, length, ℤ, pos, ◌==◌, nat_le, codes, if◌then◌else◌, Option, Some, None}
+use Rattle.std.specs.Prelude.{ℕ, Bool, not, ◌&&◌, ◌||◌, List, [], ◌∷◌, filter, length, ℤ, pos, ◌==◌, nat_le, codes, if◌then◌else◌, Option, Some, None}
 use Rattle.std.specs.Option.{option_or}
 use Rattle.std.specs.Str.{trim, bytes_eq}
 use Rattle.gix_date.specs.Characters.{space, dot, minus, colon, letter_t}
@@ -7,7 +7,7 @@ use Rattle.gix_date.specs.Civil.{civil_instant}
 use Rattle.gix_date.specs.ClockCut.{Cut, clock_cut}
 use Rattle.gix_date.specs.Fields.{Read, behind, ◌>>=◌}
 use Rattle.gix_date.specs.GitClock.{git_clock}
-use Rattle.gix_date.specs.Numbers.{two_digit_value, read_two_digits}
+use Rattle.gix_date.specs.Numbers.{two_digit_value, read_two_digits, read_year}
 use Rattle.gix_date.specs.Offsets.{read_sign, offset_of}
 use Rattle.gix_date.specs.declared.parsing.civil.DateFields.{DateFields}
 use Rattle.gix_date.specs.declared.parsing.offset.OffsetFields.{OffsetFields}
@@ -41,13 +41,6 @@ git_offset text =
       sign ← read_sign text
       fields ← offset_of_digits sign.0 (without_colons sign.1)
       if is_within_a_day fields then Some (offset_of fields) else None)
-
--- the number that four digits at the front write
-unfoldable pub read_year : List ℕ → Read ℕ
-read_year text = do
-  century ← read_two_digits text
-  year ← read_two_digits century.1
-  Some (100 * century.0 + year.0, year.1)
 
 -- a year of four digits, a month of two and a day of two, with this mark between them
 unfoldable pub read_marked_date : ℕ → List ℕ → Read DateFields

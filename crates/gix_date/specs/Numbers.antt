@@ -2,10 +2,11 @@
 use Rattle.std.specs.Prelude.{ℕ, ◌+◌, ◌-◌, ◌*◌, ◌/◌, ◌%◌, ◌^◌, Bool, ◌&&◌, List, [], ◌∷◌, length, ℤ, pos, negsuc, nat_lt, if◌then◌else◌, Option, Some, None, option_map}
 use Rattle.std.specs.Char.{is_ascii_digit}
 use Rattle.std.specs.Fmt.{signed_decimal}
+use Rattle.std.specs.Option.{option_or}
 use Rattle.std.specs.Str.{all_ascii_digits}
 use Rattle.std.specs.Str.Parse.{without_leading_sign, signed_digits_value}
 use Rattle.gix_date.specs.Characters.{digit_zero}
-use Rattle.gix_date.specs.Fields.{Read}
+use Rattle.gix_date.specs.Fields.{Read, ◌>>=◌}
 
 -- the decimal text of a number: no plus, no leading zero, no `-0`
 abbrev pub decimal_text : ℤ → List ℕ
@@ -36,3 +37,19 @@ two_digit_value tens ones = if is_ascii_digit tens && is_ascii_digit ones then S
 unfoldable pub read_two_digits : List ℕ → Read ℕ
 read_two_digits (tens ∷ ones ∷ rest) = option_map (λ n. (n, rest)) (two_digit_value tens ones)
 read_two_digits _ = None
+
+-- the number that one digit at the front writes
+unfoldable pub read_digit : List ℕ → Read ℕ
+read_digit [] = None
+read_digit (c ∷ rest) = if is_ascii_digit c then Some (c - digit_zero, rest) else None
+
+-- the number that two digits at the front write, or else one
+unfoldable pub read_field : List ℕ → Read ℕ
+read_field text = option_or (read_two_digits text) (read_digit text)
+
+-- the number that four digits at the front write
+unfoldable pub read_year : List ℕ → Read ℕ
+read_year text = do
+  century ← read_two_digits text
+  year ← read_two_digits century.1
+  Some (100 * century.0 + year.0, year.1)

@@ -1,5 +1,6 @@
 -- The moment that a time names, in jiff's words.
-use Rattle.std.specs.Prelude.{◌≡◌, ℤ, pos, neg_ℤ}
+use Rattle.std.specs.Prelude.{◌≡◌, Bool, ◌&&◌, ℤ, pos, neg_ℤ}
+use Rattle.std.specs.Int.Signed.{le_z}
 use Rattle.jiff.specs.Words.{plain_zoned, zoned_nanos, fixed_zone, nanos_of_seconds, IsBetween, IsOffsetSeconds}
 use Rattle.jiff.specs.Types.{Offset}
 use Rattle.jiff.specs.declared.zoned.Zoned.{Zoned}
@@ -15,6 +16,10 @@ last_second = pos 253_402_207_200
 -- the seconds are those of an instant, and the offset that of a zone
 abbrev pub IsConvertible : Time → Type 0
 IsConvertible t = IsOffsetSeconds t.offset × IsBetween first_second last_second t.seconds
+
+-- the same, as a test
+abbrev pub is_convertible : Time → Bool
+is_convertible t = le_z (neg_ℤ (pos 93_599)) t.offset && le_z t.offset (pos 93_599) && le_z first_second t.seconds && le_z t.seconds last_second
 
 -- the zoned value is that instant, in the zone that always has this offset
 pub record IsMoment (t : Time) (z : Zoned) : Type 0 where

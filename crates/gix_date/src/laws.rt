@@ -4,9 +4,11 @@ ghost use Rattle.std.specs.declared.cmp.Ordering.TheVariants.{Equal};
 ghost use Rattle.std.specs.Hash as fed;
 ghost use Rattle.std.specs.Ordering.{int_cmp, on, then_cmp};
 ghost use Rattle.gix_date.specs.HeaderText.{header_text};
+ghost use Rattle.gix_date.specs.Relative.{RelativeDate, IsNamed};
 ghost use Rattle.gix_date.specs.TimeBuf.{text_in};
 ghost use Rattle.gix_date.specs.declared.parsing.function.TheConstants.{LEAST_EPOCH};
 ghost use Rattle.gix_date.specs.declared.parsing.raw.TheConstants.{MOST_HOURS};
+ghost use Rattle.jiff.specs.declared.zoned.Zoned.{Zoned};
 ghost use Rattle.gix_date.specs.declared.time.write.TheConstants.{HUNDRED_HOURS, LONGEST_TEXT};
 
 use crate::parsing::TimeBuf;
@@ -52,4 +54,9 @@ pub fn equality()
 pub fn hash()
     ensures input { (a : Time) → ⟦<Time as Hash>⟧.hash_input a ≡ fed.i64 a.seconds ++ fed.i32 a.offset }
     ensures alike { (a b : Time) → IsTrue (⟦<Time as PartialEq>⟧.eq a b) → ⟦<Time as Hash>⟧.hash_input a ≡ ⟦<Time as Hash>⟧.hash_input b }
+{}
+
+/// A relative date names one time at most, from each moment.
+pub fn named_once()
+    ensures { (date : RelativeDate) (moment : Zoned) (a b : Time) → IsNamed date moment a → IsNamed date moment b → a ≡ b }
 {}

@@ -14,13 +14,16 @@ use crate::time::{LONGEST_TEXT, Time, header_text};
 use arrayvec::ArrayString;
 use std::str::FromStr;
 
+mod answer;
 mod civil;
 mod fields;
 pub(crate) mod function;
 mod git;
 mod numbers;
 mod offset;
+mod patterns;
 mod raw;
+mod relative;
 mod space_words;
 
 /// A place for the text of one time, of 26 bytes at most, which takes no memory.

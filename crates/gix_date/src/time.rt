@@ -5,6 +5,7 @@ pub mod format;
 mod init;
 mod write;
 
+pub use format::{CustomFormat, Format};
 use serde::{Deserialize, Serialize};
 pub(crate) use write::{LONGEST_TEXT, header_text};
 

@@ -1,4 +1,5 @@
 pub mod Splitting
 pub mod Sending
 pub mod Taking
+pub mod Replying
 pub mod Reading

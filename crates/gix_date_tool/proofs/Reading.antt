@@ -11,12 +11,12 @@ use Rattle.gix_date_tool.specs.declared.error.ToolError.TheVariants as errors
 use Rattle.gix_date_tool.specs.declared.lines.TheConstants.{MOST_LINES}
 use Rattle.gix_date_tool.specs.declared.replies.Asked.{Asked}
 use Rattle.gix_date_tool.specs.Lines.{last_line, IsShort, IsWithinLimits}
-use Rattle.gix_date_tool.specs.Replies.{replies}
+use Rattle.gix_date_tool.specs.Replies.{Replied}
 use Rattle.gix_date_tool.specs.Outbox.{Output, all_sent, Puts, PutsProperPrefix}
 use Rattle.gix_date_tool.specs.Run.{Change, change, StopsAt, WereDue, Unwritten, Stopped, Ran, is_unwritten}
 use Rattle.gix_date_tool.specs.Progress.{Stage, first_stage, IsReady, SentAll, SendsAll, TookIn, RefusedWithin, StoppedWithin, TakesIn, EndsAt}
 use Rattle.gix_date_tool.proofs.Sending.{Takes-all_sent, Puts-sent, PutsProperPrefix-sent}
-use Rattle.gix_date_tool.proofs.Taking.{Puts-replies, PutsProperPrefix-replies, TookIn-nil, TakesIn-then}
+use Rattle.gix_date_tool.proofs.Taking.{Replied-map, Puts-replies, PutsProperPrefix-replies, TookIn-nil, TakesIn-then}
 
 Consumes-nil : (known : Option (List ℕ)) → Consumes known known []
 Consumes-nil None = tt
@@ -77,7 +77,7 @@ HasRead-sent {asked = asked} {sink = sink} {s = s} {s' = s'} h k =
       short = h.took.short;
       counted = h.took.counted;
       same = h.took.same;
-      put = Puts-sent h.took.put k.sent;
+      put = Replied-map (λ text put. Puts-sent put k.sent) h.took.put;
     } in
     record {
       input = h.input;
@@ -101,15 +101,15 @@ HasRead-taken {s' = s'} {old = old} {mid = mid} new {bytes = bytes} h read k = r
 refused : {asked : Asked} {sink : Known} {s : Stage} (s' : Stage) {reading : Change} {kind : ErrorKind}
     → HasRead asked sink s reading → PutsProperPrefix s.output s'.output [] kind → Unwritten asked reading (change sink s'.output.sink) kind
 refused {s = s} s' {reading = reading} h k =
-    let cut = PutsProperPrefix-sent h.took.put k in
+    let cut = Replied-map (λ text put. PutsProperPrefix-sent put k) h.took.put in
     record {
       front = h.input;
       beyond = [];
       lines = h.took.lines;
       read = without_beyond reading.old reading.new h.input h.read;
       due = inl (s.open_line, h.took.splits);
-      wrote = cut.taken;
-      fault = cut.fault;
+      wrote = Replied-map (λ text put. put.taken) cut;
+      fault = cut.text.fault;
     }
 
 pub Ran-unsent : {asked : Asked} {sink : Known} {s : Stage} (s' : Stage) {reading : Change} (e : ToolError)
@@ -129,8 +129,8 @@ RefusedWithin-ran {reading = reading} read k = record {
   lines = k.lines;
   read = subst (Gives reading.old reading.new) k.cut read;
   due = inl k.due;
-  wrote = k.put.taken;
-  fault = k.put.fault;
+  wrote = Replied-map (λ text put. put.taken) k.put;
+  fault = k.put.text.fault;
 }
 
 -- the run stops within what was read
@@ -217,21 +217,21 @@ Ran-ended {asked = asked} {s = s} s' {old = old} {mid = mid} new (Ok count) h re
       no_fault = no_fault;
       all = record { ended = took.lines; rest = s.open_line; splits = took.splits; with_last = refl };
       within = within took ready;
-      wrote = Puts-replies asked took.lines last took.put (subst (λ a. Puts s.output s'.output (replies a last)) took.same k.put);
+      wrote = Puts-replies asked took.lines last took.put (subst (λ a. Replied (Puts s.output s'.output) a last) took.same k.put);
       count_is = omega (arith, length-append took.lines last, took.counted, k.counted);
     }
 Ran-ended {asked = asked} {s = s} s' {old = old} {mid = mid} new (Err (errors.Write kind)) h ready read end no_fault k =
     let took = h.took in
     let last = last_line s.open_line in
-    let cut = PutsProperPrefix-replies asked took.lines last took.put (subst (λ a. PutsProperPrefix s.output s'.output (replies a last) kind) took.same k) in
+    let cut = PutsProperPrefix-replies asked took.lines last took.put (subst (λ a. Replied (λ text. PutsProperPrefix s.output s'.output text kind) a last) took.same k) in
     record {
       front = h.input;
       beyond = [];
       lines = took.lines ++ last;
       read = Gives-append old mid new h.input [] h.read read;
       due = inr (record { at_end = end; none_beyond = refl; all = record { ended = took.lines; rest = s.open_line; splits = took.splits; with_last = refl } });
-      wrote = cut.taken;
-      fault = cut.fault;
+      wrote = Replied-map (λ text put. put.taken) cut;
+      fault = cut.text.fault;
     }
 Ran-ended {asked = asked} {sink = sink} {s = s} s' {old = old} {mid = mid} new (Err errors.Memory) h ready read end no_fault k =
     let took = h.took in
@@ -244,7 +244,7 @@ Ran-ended {asked = asked} {sink = sink} {s = s} s' {old = old} {mid = mid} new (
       splits = took.splits;
       short = took.short;
       stops = (subst (λ n. n < MOST_LINES) (omega (arith, took.counted)) (short_of s.ended MOST_LINES ready.few (λ e. k.1 (ready.none_behind e))), ready.is_short);
-      wrote = subst (λ x. Puts (all_sent sink) x.output (replies asked took.lines)) (sym k.0) took.put;
+      wrote = subst (λ x. Replied (Puts (all_sent sink) x.output) asked took.lines) (sym k.0) took.put;
     }
 Ran-ended s' new (Err (errors.Read kind)) h ready read end no_fault k = absurd k
 Ran-ended s' new (Err errors.LineTooLong) h ready read end no_fault k = absurd k
@@ -265,8 +265,9 @@ Ran-unwritten sink s asked reading (Err errors.LineTooLong) is h = cc
 Ran-unwritten sink s asked reading (Err errors.TooManyLines) is h = cc
 
 -- What was put, and then sent.
-put_and_sent : {sink : Known} {s s' : Stage} {text : List ℕ} → Puts (all_sent sink) s.output text → SentAll s s' → Takes sink s'.output.sink text
-put_and_sent h k = Takes-all_sent (Puts-sent h k.sent) k.none_unsent
+put_and_sent : {sink : Known} {s s' : Stage} {asked : Asked} {lines : List (List ℕ)} → Replied (Puts (all_sent sink) s.output) asked lines → SentAll s s'
+    → Replied (Takes sink s'.output.sink) asked lines
+put_and_sent h k = Replied-map (λ text put. Takes-all_sent (Puts-sent put k.sent) k.none_unsent) h
 
 Stopped-sent : {sink : Known} {s s' : Stage} {asked : Asked} {reading : Change} {stop : ToolError}
     → Stopped (Puts (all_sent sink) s.output) asked reading stop → SentAll s s' → Stopped (Takes sink s'.output.sink) asked reading stop
@@ -314,11 +315,11 @@ Ran-sent sink s s' asked reading (Err errors.TooManyLines) not h k = Stopped-sen
 -- The writer refused the replies to lines that were due.
 cut_off : {sink : Known} {b c : Output} {kind : ErrorKind} {asked : Asked} {reading : Change} (front beyond : List ℕ) (lines : List (List ℕ))
     → Gives reading.old reading.new (front ++ beyond)
-    → WereDue reading.new front beyond lines → Puts (all_sent sink) b (replies asked lines) → PutsProperPrefix b c [] kind
+    → WereDue reading.new front beyond lines → Replied (Puts (all_sent sink) b) asked lines → PutsProperPrefix b c [] kind
     → Unwritten asked reading (change sink c.sink) kind
 cut_off front beyond lines read due put k =
-    let cut = PutsProperPrefix-sent put k in
-    record { front = front; beyond = beyond; lines = lines; read = read; due = due; wrote = cut.taken; fault = cut.fault }
+    let cut = Replied-map (λ text sent. PutsProperPrefix-sent sent k) put in
+    record { front = front; beyond = beyond; lines = lines; read = read; due = due; wrote = Replied-map (λ text sent. sent.taken) cut; fault = cut.text.fault }
 
 cut_short : (sink : Known) (s s' : Stage) (asked : Asked) (reading : Change) (r : Result ℕ ToolError) (kind : ErrorKind)
     → is_unwritten r ≡ false → RanBut sink s asked reading r → PutsProperPrefix s.output s'.output [] kind

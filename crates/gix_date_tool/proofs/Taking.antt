@@ -11,28 +11,50 @@ use Rattle.gix_date_tool.specs.declared.error.ToolError.TheVariants as errors
 use Rattle.gix_date_tool.specs.declared.lines.TheConstants.{LONGEST_LINE, MOST_LINES}
 use Rattle.gix_date_tool.specs.declared.replies.Asked.{Asked}
 use Rattle.gix_date_tool.specs.Lines.{IsLine, with_newline, Splits, IsShort}
-use Rattle.gix_date_tool.specs.Replies.{reply_line, replies}
+use Rattle.gix_date_tool.specs.Replies.{Replied, AreReplies, IsReply, reply_line, reply_lines}
+use Rattle.gix_date_tool.specs.declared.replies.Reply.{Reply}
 use Rattle.gix_date_tool.specs.Outbox.{Output, Puts, PutsProperPrefix}
 use Rattle.gix_date_tool.specs.Run.{StopsAt}
 use Rattle.gix_date_tool.specs.Progress.{Stage, IsReady, Extended, Extends, Closed, Closes, TookIn, RefusedWithin, StoppedWithin, TakesIn}
 use Rattle.gix_date_tool.proofs.Splitting.{Splits-open, Splits-newline, Splits-join}
 use Rattle.gix_date_tool.proofs.Sending.{Puts-nil, Puts-then, PutsProperPrefix-then}
 
-replies-append : (asked : Asked) (lines more : List (List ℕ)) → replies asked (lines ++ more) ≡ replies asked lines ++ replies asked more
-replies-append asked lines more = flat_map-append (reply_line asked) lines more
-
-replies-single : (asked : Asked) (line : List ℕ) → replies asked (line ∷ []) ≡ reply_line asked line
-replies-single asked line = append-nil (reply_line asked line)
+AreReplies-append : (asked : Asked) (lines more : List (List ℕ)) (replies others : List Reply) → AreReplies asked lines replies → AreReplies asked more others
+    → AreReplies asked (lines ++ more) (replies ++ others)
+AreReplies-append asked [] more [] others h k = k
+AreReplies-append asked [] more (reply ∷ replies) others h k = absurd h
+AreReplies-append asked (line ∷ lines) more [] others h k = absurd h
+AreReplies-append asked (line ∷ lines) more (reply ∷ replies) others h k = (h.0, AreReplies-append asked lines more replies others h.1 k)
 
 -- the replies to some lines and to more
-pub Puts-replies : {a b c : Output} (asked : Asked) (lines more : List (List ℕ)) → Puts a b (replies asked lines) → Puts b c (replies asked more)
-    → Puts a c (replies asked (lines ++ more))
-Puts-replies {a = a} {c = c} asked lines more h k = subst (Puts a c) (sym (replies-append asked lines more)) (Puts-then h k)
+pub Puts-replies : {a b c : Output} (asked : Asked) (lines more : List (List ℕ)) → Replied (Puts a b) asked lines → Replied (Puts b c) asked more
+    → Replied (Puts a c) asked (lines ++ more)
+Puts-replies {a = a} {c = c} asked lines more h k = record {
+  replies = h.replies ++ k.replies;
+  each = AreReplies-append asked lines more h.replies k.replies h.each k.each;
+  text = subst (Puts a c) (sym (flat_map-append reply_line h.replies k.replies)) (Puts-then h.text k.text);
+}
 
 pub PutsProperPrefix-replies : {a b c : Output} (asked : Asked) (lines more : List (List ℕ)) {kind : ErrorKind}
-    → Puts a b (replies asked lines) → PutsProperPrefix b c (replies asked more) kind → PutsProperPrefix a c (replies asked (lines ++ more)) kind
-PutsProperPrefix-replies {a = a} {c = c} asked lines more {kind = kind} h k =
-    subst (λ text. PutsProperPrefix a c text kind) (sym (replies-append asked lines more)) (PutsProperPrefix-then h k)
+    → Replied (Puts a b) asked lines → Replied (λ text. PutsProperPrefix b c text kind) asked more → Replied (λ text. PutsProperPrefix a c text kind) asked (lines ++ more)
+PutsProperPrefix-replies {a = a} {c = c} asked lines more {kind = kind} h k = record {
+  replies = h.replies ++ k.replies;
+  each = AreReplies-append asked lines more h.replies k.replies h.each k.each;
+  text = subst (λ text. PutsProperPrefix a c text kind) (sym (flat_map-append reply_line h.replies k.replies)) (PutsProperPrefix-then h.text k.text);
+}
+
+-- the same replies, of whose text something else holds
+pub Replied-map : {Is Becomes : List ℕ → Type 0} {asked : Asked} {lines : List (List ℕ)} → ((text : List ℕ) → Is text → Becomes text) → Replied Is asked lines
+    → Replied Becomes asked lines
+Replied-map f h = record { replies = h.replies; each = h.each; text = f (reply_lines h.replies) h.text }
+
+-- the reply to one line
+pub Replied-one : {Is : List ℕ → Type 0} (asked : Asked) (line : List ℕ) (reply : Reply) → IsReply asked line reply → Is (reply_line reply) → Replied Is asked (line ∷ [])
+Replied-one {Is = Is} asked line reply h k = record { replies = reply ∷ []; each = (h, tt); text = subst Is (sym (append-nil (reply_line reply))) k }
+
+-- no line has no reply
+pub Replied-nil : {Is : List ℕ → Type 0} (asked : Asked) → Is [] → Replied Is asked []
+Replied-nil asked h = record { replies = []; each = tt; text = h }
 
 -- bytes before those that were cut
 recut : (a b front beyond : List ℕ) → b ≡ front ++ beyond → a ++ b ≡ (a ++ front) ++ beyond
@@ -52,7 +74,7 @@ TookIn-then {s0 = s0} {s1 = s1} {s2 = s2} {a = a} {b = b} h k = record {
   short = All-append IsShort h.lines k.lines h.short k.short;
   counted = omega (arith, h.counted, k.counted, length-append h.lines k.lines);
   same = k.same ∙ h.same;
-  put = Puts-replies s0.asked h.lines k.lines h.put (subst (λ asked. Puts s1.output s2.output (replies asked k.lines)) h.same k.put);
+  put = Puts-replies s0.asked h.lines k.lines h.put (subst (λ asked. Replied (Puts s1.output s2.output) asked k.lines) h.same k.put);
 }
 
 -- bytes that were taken in, and then bytes whose replies the writer refused
@@ -63,7 +85,7 @@ RefusedWithin-then {s0 = s0} {s1 = s1} {s2 = s2} {a = a} {b = b} {kind = kind} h
   lines = h.lines ++ k.lines;
   cut = recut a b k.front k.beyond k.cut;
   due = (k.due.0, Splits-more s0.open_line a k.front h.splits k.due.1);
-  put = PutsProperPrefix-replies s0.asked h.lines k.lines h.put (subst (λ asked. PutsProperPrefix s1.output s2.output (replies asked k.lines) kind) h.same k.put);
+  put = PutsProperPrefix-replies s0.asked h.lines k.lines h.put (subst (λ asked. Replied (λ text. PutsProperPrefix s1.output s2.output text kind) asked k.lines) h.same k.put);
 }
 
 -- bytes that were taken in, and then bytes within which the run stops
@@ -77,7 +99,7 @@ StoppedWithin-then {s0 = s0} {s1 = s1} {s2 = s2} {a = a} {b = b} {stop = stop} h
   splits = Splits-more s0.open_line a k.front h.splits k.splits;
   short = All-append IsShort h.lines k.lines h.short k.short;
   stops = subst (λ n. StopsAt stop n k.rest k.beyond) (omega (arith, h.counted, length-append h.lines k.lines)) k.stops;
-  put = Puts-replies s0.asked h.lines k.lines h.put (subst (λ asked. Puts s1.output s2.output (replies asked k.lines)) h.same k.put);
+  put = Puts-replies s0.asked h.lines k.lines h.put (subst (λ asked. Replied (Puts s1.output s2.output) asked k.lines) h.same k.put);
 }
 
 -- bytes that were taken in, and then more bytes, whatever came of these
@@ -148,7 +170,7 @@ stops_within {s = s} front beyond stop line at = record {
   splits = Splits-open (s.open_line ++ front) line;
   short = All-nil IsShort;
   stops = at;
-  put = Puts-nil s.output;
+  put = Replied-nil s.asked (Puts-nil s.output);
 }
 
 -- the same where no byte was taken in
@@ -197,7 +219,7 @@ TookIn-nil {s = s} ready = record {
   short = All-nil IsShort;
   counted = omega arith;
   same = refl;
-  put = Puts-nil s.output;
+  put = Replied-nil s.asked (Puts-nil s.output);
 }
 
 -- bytes were put behind the open line
@@ -208,7 +230,7 @@ TookIn-extended {s = s} part ready line h = subst (λ x. TookIn s x part) (sym h
   short = All-nil IsShort;
   counted = omega arith;
   same = refl;
-  put = Puts-nil s.output;
+  put = Replied-nil s.asked (Puts-nil s.output);
 })
 
 -- the last bytes of a piece, which end no line
@@ -238,19 +260,19 @@ TookIn-closed {s = s} {s' = s'} part ready line short k =
       short = All-cons IsShort ended [] short (All-nil IsShort);
       counted = omega (arith, ap (λ x. x.ended) k.same);
       same = ap (λ x. x.asked) k.same;
-      put = subst (Puts s.output s'.output) (sym (replies-single s.asked ended)) k.put;
+      put = k.put;
     }
 
 -- a line ended, and the writer refused the reply to it
 RefusedWithin-closed : {s s' : Stage} {kind : ErrorKind} (part : List ℕ) → IsReady s → IsLine part
-    → PutsProperPrefix s.output s'.output (reply_line s.asked (s.open_line ++ part)) kind → RefusedWithin s s' (with_newline part) kind
+    → Replied (λ text. PutsProperPrefix s.output s'.output text kind) s.asked ((s.open_line ++ part) ∷ []) → RefusedWithin s s' (with_newline part) kind
 RefusedWithin-closed {s = s} {s' = s'} {kind = kind} part ready line k = record {
   front = with_newline part;
   beyond = [];
   lines = (s.open_line ++ part) ∷ [];
   cut = sym (append-nil (with_newline part));
   due = ([], Splits-ended s.open_line part (IsLine-more part ready line));
-  put = subst (λ text. PutsProperPrefix s.output s'.output text kind) (sym (replies-single s.asked (s.open_line ++ part))) k;
+  put = k;
 }
 
 -- a line ended, and memory for the reply to it was refused
@@ -265,7 +287,7 @@ without_memory {s = s} part ready line few short same = record {
   splits = Splits-open (s.open_line ++ part) (IsLine-more part ready line);
   short = All-nil IsShort;
   stops = (omega (arith, few), short);
-  put = subst (λ output. Puts s.output output []) (sym (ap (λ x. x.output) same)) (Puts-nil s.output);
+  put = Replied-nil s.asked (subst (λ output. Puts s.output output []) (sym (ap (λ x. x.output) same)) (Puts-nil s.output));
 }
 
 closes : {s : Stage} (s' : Stage) (part : List ℕ) (r : Result (Unit {0}) ToolError) → IsReady s → IsLine part → s.ended < MOST_LINES

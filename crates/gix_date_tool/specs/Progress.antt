@@ -1,5 +1,5 @@
 -- How far a run has come between two reads.
-use Rattle.std.specs.Prelude.{◌≡◌, ◌≢◌, ℕ, ◌+◌, ◌<◌, ◌≤◌, List, [], ◌++◌, length, All, Result, Ok, Err}
+use Rattle.std.specs.Prelude.{◌≡◌, ◌≢◌, ℕ, ◌+◌, ◌<◌, ◌≤◌, List, [], ◌∷◌, ◌++◌, length, All, Result, Ok, Err}
 use Rattle.std.specs.declared.io.ErrorKind.{ErrorKind}
 use Rattle.gix_date.specs.Known.{Known}
 use Rattle.gix_date_tool.specs.declared.error.ToolError.{ToolError}
@@ -8,7 +8,7 @@ use Rattle.gix_date_tool.specs.declared.lines.TheConstants.{LONGEST_LINE, MOST_L
 use Rattle.gix_date_tool.specs.declared.progress.Progress.{Progress}
 use Rattle.gix_date_tool.specs.declared.replies.Asked.{Asked}
 use Rattle.gix_date_tool.specs.Lines.{IsLine, Splits, last_line, HasEndedLines, IsShort}
-use Rattle.gix_date_tool.specs.Replies.{reply_line, replies}
+use Rattle.gix_date_tool.specs.Replies.{Replied}
 use Rattle.gix_date_tool.specs.Outbox.{Output, output, all_sent, Puts, PutsProperPrefix}
 use Rattle.gix_date_tool.specs.Run.{StopsAt}
 
@@ -76,12 +76,12 @@ Extends s s' bytes (Err stop) = (s' ≡ s) × StopsExtending stop s bytes
 -- the open line was replied to, and has ended
 pub record Closed (s s' : Stage) : Type 0 where
   pub same : s' ≡ record s { open_line = []; ended = s.ended + 1; output = s'.output }
-  pub put : Puts s.output s'.output (reply_line s.asked s.open_line)
+  pub put : Replied (Puts s.output s'.output) s.asked (s.open_line ∷ [])
 
 -- what replying to the open line comes to
 abbrev pub Closes : Stage → Stage → Result Unit ToolError → Type 0
 Closes s s' (Ok _) = Closed s s'
-Closes s s' (Err (errors.Write kind)) = PutsProperPrefix s.output s'.output (reply_line s.asked s.open_line) kind
+Closes s s' (Err (errors.Write kind)) = Replied (λ text. PutsProperPrefix s.output s'.output text kind) s.asked (s.open_line ∷ [])
 Closes s s' (Err errors.Memory) = s' ≡ s
 Closes s s' (Err _) = ⊥
 
@@ -92,7 +92,7 @@ pub record TookIn (s s' : Stage) (bytes : List ℕ) : Type 0 where
   pub short : All IsShort lines
   pub counted : s'.ended ≡ s.ended + length lines
   pub same : s'.asked ≡ s.asked
-  pub put : Puts s.output s'.output (replies s.asked lines)
+  pub put : Replied (Puts s.output s'.output) s.asked lines
 
 -- the writer refused the replies to the lines that a front of the bytes ended
 pub record RefusedWithin (s s' : Stage) (bytes : List ℕ) (kind : ErrorKind) : Type 0 where
@@ -101,7 +101,7 @@ pub record RefusedWithin (s s' : Stage) (bytes : List ℕ) (kind : ErrorKind) : 
   pub lines : List (List ℕ)
   pub cut : bytes ≡ front ++ beyond
   pub due : HasEndedLines (s.open_line ++ front) lines
-  pub put : PutsProperPrefix s.output s'.output (replies s.asked lines) kind
+  pub put : Replied (λ text. PutsProperPrefix s.output s'.output text kind) s.asked lines
 
 -- the run stops within the bytes, and the lines that they ended before that were replied to
 pub record StoppedWithin (s s' : Stage) (bytes : List ℕ) (stop : ToolError) : Type 0 where
@@ -113,7 +113,7 @@ pub record StoppedWithin (s s' : Stage) (bytes : List ℕ) (stop : ToolError) : 
   pub splits : Splits (s.open_line ++ front) lines rest
   pub short : All IsShort lines
   pub stops : StopsAt stop (s.ended + length lines) rest beyond
-  pub put : Puts s.output s'.output (replies s.asked lines)
+  pub put : Replied (Puts s.output s'.output) s.asked lines
 
 -- what taking in bytes comes to
 abbrev pub TakesIn : Stage → Stage → List ℕ → Result Unit ToolError → Type 0
@@ -123,13 +123,13 @@ TakesIn s s' bytes (Err stop) = StoppedWithin s s' bytes stop
 
 -- the line that stands open at the end of the input was replied to, and the lines were counted
 pub record EndedAll (s s' : Stage) (count : ℕ) : Type 0 where
-  pub put : Puts s.output s'.output (replies s.asked (last_line s.open_line))
+  pub put : Replied (Puts s.output s'.output) s.asked (last_line s.open_line)
   pub counted : count ≡ s.ended + length (last_line s.open_line)
 
 -- what the end of the input comes to
 abbrev pub EndsAt : Stage → Stage → Result ℕ ToolError → Type 0
 EndsAt s s' (Ok count) = EndedAll s s' count
 EndsAt s s' (Err (errors.Write kind)) =
-    PutsProperPrefix s.output s'.output (replies s.asked (last_line s.open_line)) kind
+    Replied (λ text. PutsProperPrefix s.output s'.output text kind) s.asked (last_line s.open_line)
 EndsAt s s' (Err errors.Memory) = (s' ≡ s) × (s.open_line ≢ [])
 EndsAt s s' (Err _) = ⊥

@@ -1,5 +1,5 @@
 -- What is replied to a line.
-use Rattle.std.specs.Prelude.{ℕ, Bool, false, List, [], ◌∷◌, ◌++◌, if◌then◌else◌, Option, Some, None, IsSome, unwrap_or, codes}
+use Rattle.std.specs.Prelude.{◌≡◌, ℕ, Bool, true, false, List, [], ◌∷◌, ◌++◌, if◌then◌else◌, Option, Some, None, IsSome, Result, Ok, Err, unwrap_or, codes}
 use Rattle.std.specs.Option.{option_map_or}
 use Rattle.std.specs.List.{flat_map}
 use Rattle.std.specs.Str.{is_utf8, bytes_eq}
@@ -8,12 +8,17 @@ use Rattle.gix_date.specs.Characters.{space}
 use Rattle.gix_date.specs.Numbers.{decimal_text}
 use Rattle.gix_date.specs.HeaderText.{header_text}
 use Rattle.gix_date.specs.HeaderReading.{header_time}
-use Rattle.gix_date.specs.Families.{FamilyAnswer, Absolute, first_family}
+use Rattle.jiff.specs.declared.zoned.Zoned.{Zoned}
+use Rattle.gix_date.specs.Answer.{FamilyAnswer, Absolute, OffsetBeyond, InstantBeyond, Relative}
+use Rattle.gix_date.specs.Families.{first_family}
+use Rattle.gix_date.specs.Relative.{Reckons}
+use Rattle.gix_date.specs.declared.error.Error.{Error}
+use Rattle.gix_date.specs.declared.error.Error.TheVariants as errors
 use Rattle.gix_date_tool.specs.declared.arguments.Mode.{Mode}
 use Rattle.gix_date_tool.specs.declared.arguments.Mode.TheVariants.{Check, Parse}
 use Rattle.gix_date_tool.specs.declared.replies.Asked.{Asked}
 use Rattle.gix_date_tool.specs.declared.replies.Reply.{Reply}
-use Rattle.gix_date_tool.specs.declared.replies.Reply.TheVariants.{NotText, NoTime, Canonical, Read, Parsed, UnknownFormat}
+use Rattle.gix_date_tool.specs.declared.replies.Reply.TheVariants.{NotText, NoTime, Canonical, Read, Parsed, UnknownFormat, DateConversion, MissingMoment, OutOfRange}
 use Rattle.gix_date_tool.specs.Lines.{with_newline}
 
 -- the time has a header text, and it is this one
@@ -25,19 +30,33 @@ abbrev pub check_reply : List ℕ → Option Time → Reply
 check_reply text None = NoTime
 check_reply text (Some t) = if is_header_text_of text t then Canonical else Read t
 
--- the reply of Parse to a text that the families tell this of, or that none of them holds
-abbrev pub parse_reply : Option FamilyAnswer → Reply
-parse_reply None = UnknownFormat
-parse_reply (Some (Absolute t)) = Parsed t
+-- the reply to what a relative date comes to
+abbrev pub reckoned_reply : Result Time Error → Reply
+reckoned_reply (Ok t) = Parsed t
+reckoned_reply (Err errors.MissingNow) = MissingMoment
+reckoned_reply (Err _) = OutOfRange
+
+-- the reply of Parse, at this moment, to a text that the first family says this of, or that none holds
+abbrev pub IsParseReply : Option FamilyAnswer → Option Zoned → Reply → Type 0
+IsParseReply None now reply = reply ≡ UnknownFormat
+IsParseReply (Some (Absolute t)) now reply = reply ≡ Parsed t
+IsParseReply (Some OffsetBeyond) now reply = reply ≡ UnknownFormat
+IsParseReply (Some InstantBeyond) now reply = reply ≡ DateConversion
+IsParseReply (Some (Relative date)) now reply = (result : Result Time Error) × Reckons date now result × (reply ≡ reckoned_reply result)
 
 -- the reply to a text in a mode
-abbrev pub text_reply : Mode → List ℕ → Reply
-text_reply Check text = check_reply text (header_time text)
-text_reply Parse text = parse_reply (first_family text)
+abbrev pub IsTextReply : Mode → Option Zoned → List ℕ → Reply → Type 0
+IsTextReply Check now text reply = reply ≡ check_reply text (header_time text)
+IsTextReply Parse now text reply = IsParseReply (first_family text) now reply
+
+-- the reply to a line, which is text or not
+abbrev pub IsReplyTo : Bool → Asked → List ℕ → Reply → Type 0
+IsReplyTo true asked line reply = IsTextReply asked.mode asked.now line reply
+IsReplyTo false asked line reply = reply ≡ NotText
 
 -- the reply to a line
-unfoldable pub reply : Asked → List ℕ → Reply
-reply asked line = if is_utf8 line then text_reply asked.mode line else NotText
+unfoldable pub IsReply : Asked → List ℕ → Reply → Type 0
+IsReply asked line reply = IsReplyTo (is_utf8 line) asked line reply
 
 -- the text of a reply
 abbrev pub reply_text : Reply → List ℕ
@@ -47,16 +66,35 @@ reply_text Canonical = codes "canonical"
 reply_text (Read t) = codes "read " ++ decimal_text t.seconds ++ space ∷ decimal_text t.offset
 reply_text (Parsed t) = unwrap_or (header_text t) []
 reply_text UnknownFormat = codes "error unknown-format"
+reply_text DateConversion = codes "error date-conversion"
+reply_text MissingMoment = codes "error missing-moment"
+reply_text OutOfRange = codes "error range"
 
 -- a time to be written has a header text
 abbrev pub IsWritable : Reply → Type 0
 IsWritable (Parsed t) = IsSome (header_text t)
 IsWritable _ = Unit {0}
 
--- what is written of a line: the text of the reply to it, and a newline
-abbrev pub reply_line : Asked → List ℕ → List ℕ
-reply_line asked line = with_newline (reply_text (reply asked line))
+-- what is written of a reply: its text, and a newline
+abbrev pub reply_line : Reply → List ℕ
+reply_line reply = with_newline (reply_text reply)
 
--- what is written of some lines
-abbrev pub replies : Asked → List (List ℕ) → List ℕ
-replies asked lines = flat_map (reply_line asked) lines
+-- what is written of some replies
+abbrev pub reply_lines : List Reply → List ℕ
+reply_lines replies = flat_map reply_line replies
+
+-- the replies to some lines, in order
+abbrev pub AreReplies : Asked → List (List ℕ) → List Reply → Type 0
+AreReplies asked [] [] = Unit {0}
+AreReplies asked (line ∷ lines) (reply ∷ replies) = IsReply asked line reply × AreReplies asked lines replies
+AreReplies asked _ _ = ⊥
+
+-- what is written of the replies to some lines is such a text
+pub record Replied (Is : List ℕ → Type 0) (asked : Asked) (lines : List (List ℕ)) : Type 0 where
+  pub replies : List Reply
+  pub each : AreReplies asked lines replies
+  pub text : Is (reply_lines replies)
+
+-- each line has one reply at most
+abbrev pub RepliesAreUnique : Type 0
+RepliesAreUnique = (asked : Asked) (line : List ℕ) (reply other : Reply) → IsReply asked line reply → IsReply asked line other → reply ≡ other

@@ -11,7 +11,7 @@ use Rattle.gix_date_tool.specs.declared.error.ToolError.TheVariants as errors
 use Rattle.gix_date_tool.specs.declared.lines.TheConstants.{LONGEST_LINE, MOST_LINES}
 use Rattle.gix_date_tool.specs.declared.replies.Asked.{Asked}
 use Rattle.gix_date_tool.specs.Lines.{Splits, last_line, HasEndedLines, HasLines, IsShort, IsWithinLimits}
-use Rattle.gix_date_tool.specs.Replies.{replies}
+use Rattle.gix_date_tool.specs.Replies.{Replied}
 
 -- what is known of a reader or a writer before a call and after it
 pub record Change : Type 0 where
@@ -46,7 +46,7 @@ pub record Succeeded (Wrote : List ℕ → Type 0) (asked : Asked) (reading : Ch
   pub no_fault : reading.new.fault ≡ None
   pub all : HasLines input lines
   pub within : IsWithinLimits lines
-  pub wrote : Wrote (replies asked lines)
+  pub wrote : Replied Wrote asked lines
   pub count_is : count ≡ length lines
 
 -- The reader refused, and the replies to the lines that had ended were written.
@@ -58,7 +58,7 @@ pub record Unread (Wrote : List ℕ → Type 0) (asked : Asked) (reading : Chang
   pub fault : reading.new.fault ≡ Some kind
   pub splits : Splits input lines rest
   pub within : IsWithinLimits (lines ++ last_line rest)
-  pub wrote : Wrote (replies asked lines)
+  pub wrote : Replied Wrote asked lines
 
 -- these are all the lines of the input, which was read to its end
 pub record EndsInput (reader : Known) (front beyond : List ℕ) (lines : List (List ℕ)) : Type 0 where
@@ -78,7 +78,7 @@ pub record Unwritten (asked : Asked) (reading writing : Change) (kind : ErrorKin
   pub lines : List (List ℕ)
   pub read : Gives reading.old reading.new (front ++ beyond)
   pub due : WereDue reading.new front beyond lines
-  pub wrote : TakesProperPrefix writing.old writing.new (replies asked lines)
+  pub wrote : Replied (TakesProperPrefix writing.old writing.new) asked lines
   pub fault : writing.new.fault ≡ Some kind
 
 -- The run stopped within a line, and the replies to the lines before it were written.
@@ -91,7 +91,7 @@ pub record Stopped (Wrote : List ℕ → Type 0) (asked : Asked) (reading : Chan
   pub splits : Splits front lines rest
   pub short : All IsShort lines
   pub stops : StopsAt stop (length lines) rest beyond
-  pub wrote : Wrote (replies asked lines)
+  pub wrote : Replied Wrote asked lines
 
 -- What a run comes to that was asked this. Wrote says of a text that exactly it was written.
 abbrev pub Ran : (List ℕ → Type 0) → Asked → Change → Change → Result ℕ ToolError → Type 0

@@ -53,8 +53,8 @@ pub fn execute<R: Source, W: Sink>(
             Ok(_) => Status::Success,
             Err(_) => Status::Failure,
         },
-        Ok(None) => show_usage(writer),
-        Err(_) => Status::Failure,
+        // Memory may be wanting only where the words ask for nothing that the program has.
+        Ok(None) | Err(_) => show_usage(writer),
     }
 }
 

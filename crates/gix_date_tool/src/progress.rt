@@ -169,9 +169,9 @@ impl Progress {
             Ok(reply) => reply,
             Err(AllocError) => return Err(ToolError::Memory),
         };
-        reply
-            .push_to(&mut self.outbox, writer)
-            .map_err(ToolError::Write)?;
+        if let Err(kind) = reply.push_to(&mut self.outbox, writer) {
+            return Err(ToolError::Write(kind));
+        }
         self.line.clear();
         self.ended += 1;
         Ok(())

@@ -1,11 +1,10 @@
 //! The reply to one line.
-ghost use Rattle.std.specs.Prelude.{◌≡◌, IfOk, OnErr};
+ghost use Rattle.std.specs.Prelude.{◌≡◌, ◌⊎◌, IfOk, OnErr};
 ghost use Rattle.gix_date.specs.Families.{first_family};
 ghost use Rattle.gix_date.specs.HeaderReading.{header_time};
-ghost use Rattle.gix_date_tool.specs.declared.replies.Reply.TheVariants.{Read, UnknownFormat};
-ghost use Rattle.gix_date_tool.specs.Lines.{with_newline};
+ghost use Rattle.gix_date_tool.specs.declared.replies.Reply.TheVariants.{Read, UnknownFormat, DateConversion};
 ghost use Rattle.gix_date_tool.specs.Outbox.{Sends, output};
-ghost use Rattle.gix_date_tool.specs.Replies.{reply, reply_text, IsWritable, check_reply, parse_reply, is_header_text_of};
+ghost use Rattle.gix_date_tool.specs.Replies.{RepliesAreUnique, IsReply, IsParseReply, IsWritable, reply_line, check_reply, is_header_text_of};
 
 use crate::arguments::Mode;
 use crate::outbox::Outbox;
@@ -39,6 +38,12 @@ pub(crate) enum Reply {
     Parsed(Time),
     /// No form that a date may have holds the line.
     UnknownFormat,
+    /// The line is a day whose midnight is no instant.
+    DateConversion,
+    /// The line is relative to a moment, and none was given.
+    MissingMoment,
+    /// The line leads from the moment to no time.
+    OutOfRange,
 }
 
 impl Reply {
@@ -50,7 +55,7 @@ impl Reply {
     ) -> Result<(), io::ErrorKind>
         requires { IsWritable self }
         ensures { Sends (output outbox.old (W.known out.old)) (output outbox.new (W.known out.new))
-            (with_newline (reply_text self)) result }
+            (reply_line self) result }
     {
         match self {
             Reply::NotText => outbox.push(&["not text\n"], out),
@@ -62,6 +67,9 @@ impl Reply {
                 Err(_) => unreachable!(),
             },
             Reply::UnknownFormat => outbox.push(&["error unknown-format\n"], out),
+            Reply::DateConversion => outbox.push(&["error date-conversion\n"], out),
+            Reply::MissingMoment => outbox.push(&["error missing-moment\n"], out),
+            Reply::OutOfRange => outbox.push(&["error range\n"], out),
         }
     }
 }
@@ -69,7 +77,7 @@ impl Reply {
 /// Puts the seconds and the offset of a time that a line is read as behind what is unsent.
 fn push_reading<W: Sink>(time: Time, outbox: &mut Outbox, out: &mut W) -> Result<(), io::ErrorKind>
     ensures { Sends (output outbox.old (W.known out.old)) (output outbox.new (W.known out.new))
-        (with_newline (reply_text (Read time))) result }
+        (reply_line (Read time)) result }
 {
     let mut seconds = itoa::Buffer::new();
     let mut offset = itoa::Buffer::new();
@@ -83,11 +91,16 @@ fn push_reading<W: Sink>(time: Time, outbox: &mut Outbox, out: &mut W) -> Result
     outbox.push(&pieces, out)
 }
 
-/// The reply to a line. For want of memory it is refused in Parse alone, and there only to a text in no known format.
+/// Each line has one reply at most, in a mode and at a moment.
+pub fn replies_are_unique()
+    ensures { RepliesAreUnique }
+{}
+
+/// The reply to a line. For want of memory it is refused in Parse alone, and there only where `parse` copies the text it refuses.
 pub(crate) fn reply_to(alloc: Global, asked: Asked, line: &[u8]) -> Result<Reply, AllocError>
-    ensures is { IfOk result (λ r. r ≡ reply asked line.now) }
+    ensures is { IfOk result (IsReply asked line.now) }
     ensures writable { IfOk result IsWritable }
-    ensures memory { OnErr result (reply asked line.now ≡ UnknownFormat) }
+    ensures memory { OnErr result (IsReply asked line.now UnknownFormat ⊎ IsReply asked line.now DateConversion) }
 {
     let Ok(text) = str::from_utf8(line) else {
         return Ok(Reply::NotText);
@@ -120,23 +133,24 @@ fn is_header_text_of(text: &str, time: Time) -> bool
     }
 }
 
-/// The time that a text is parsed as, or why it is not. For want of memory only a text in no known format is refused.
+/// The time that a text is parsed as, or why it is not. For want of memory only a reply is refused that tells of a copy.
 fn parse_reply(alloc: Global, text: &str, now: Option<Zoned<'static>>) -> Result<Reply, AllocError>
-    ensures is { IfOk result (λ r. r ≡ parse_reply (first_family text.now)) }
+    ensures is { IfOk result (IsParseReply (first_family text.now) now.entry) }
     ensures writable { IfOk result IsWritable }
-    ensures memory { OnErr result (parse_reply (first_family text.now) ≡ UnknownFormat) }
+    ensures memory { OnErr result (IsParseReply (first_family text.now) now.entry UnknownFormat
+        ⊎ IsParseReply (first_family text.now) now.entry DateConversion) }
 {
     match parse(alloc, text, now) {
         Ok(time) => Ok(Reply::Parsed(time)),
         Err(Error::UnknownFormat { input: _ }) => Ok(Reply::UnknownFormat),
+        Err(Error::DateConversion { input: _ }) => Ok(Reply::DateConversion),
+        Err(Error::MissingNow) => Ok(Reply::MissingMoment),
+        Err(Error::Range) => Ok(Reply::OutOfRange),
         Err(Error::Memory) => Err(AllocError),
-        // `parse` refuses by none of these yet: no family asks for the moment, or refuses a text that it holds.
+        // `parse` refuses by none of these.
         Err(
             Error::InvalidTime
-            | Error::MissingNow
-            | Error::DateConversion { input: _ }
             | Error::Conversion
-            | Error::Range
             | Error::OffsetTooWide
             | Error::Pattern
             | Error::Write(_),

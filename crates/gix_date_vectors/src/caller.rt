@@ -1,18 +1,24 @@
 //! What a crate that reads and writes commits does with `gix_date`.
-ghost use Rattle.std.specs.Prelude.{◌≡◌, ◌≢◌, ◌⊎◌, Some, None, IfSome, IfNone, IfErr, IsSomeAnd, OnOk, IfOk, string_bytes};
-ghost use Rattle.gix_date.specs.Families.{Absolute, first_family, RefusesUnknown};
+ghost use Rattle.std.specs.Prelude.{◌≡◌, ◌≢◌, Some, None, Err, IfSome, IfNone, IsSomeAnd, OnOk, IfOk, string_bytes};
+ghost use Rattle.gix_date.specs.Answer.{Absolute};
+ghost use Rattle.gix_date.specs.Families.{first_family, Comes};
 ghost use Rattle.gix_date.specs.HeaderReading.{header_time};
 ghost use Rattle.gix_date.specs.HeaderText.{header_text};
 ghost use Rattle.gix_date.specs.Known.{Takes};
 ghost use Rattle.gix_date.specs.TimeBuf.{text_in};
-ghost use Rattle.gix_date.specs.Zoned.{IsConvertible};
+ghost use Rattle.gix_date.specs.Zoned.{IsConvertible, IsMoment};
 ghost use Rattle.gix_date.specs.declared.error.Error.TheVariants.{Conversion};
 ghost use Rattle.gix_date.specs.declared.time.Time.{Time as Read};
+ghost use Rattle.gix_date_vectors.specs.Resolved.{Resolved};
+ghost use Rattle.jiff.specs.declared.zoned.Zoned.{Zoned};
 
 use gix_date::device::Sink;
 use gix_date::parsing::TimeBuf;
 use gix_date::{Error, Time, parse, parse_header};
-use std::alloc::{AllocError, Global};
+use jiff::tz::{SystemTimeZone, TimeZoneDatabase};
+use std::alloc::{AllocError, AllocGlobal, Global};
+use std::rt::{Env, Files};
+use std::time::Clock;
 
 /// Writes the time of a header anew, in the form that Git writes.
 pub fn rewrite<W: Sink>(header: &str, out: &mut W) -> Result<(), Error>
@@ -36,14 +42,50 @@ pub fn read_canonical(header: &str) -> Option<Time>
     }
 }
 
+/// The time of a date that means the same at any moment.
+pub fn absolute_date(alloc: Global, date: &str) -> Result<Time, Error>
+    ensures absolute { IfOk result (λ t. first_family date.now ≡ Some (Absolute t)) }
+    ensures comes { Comes (first_family date.now) date.now None result }
+{
+    parse(alloc, date, None)
+}
+
 /// The time of a date that was typed at this moment.
 pub fn date_typed(alloc: Global, date: &str, now: Time) -> Result<Time, Error>
-    ensures time { IfOk result (λ t. first_family date.now ≡ Some (Absolute t)) }
-    ensures refuses { IfErr result (λ e. ((e ≡ Conversion) × ¬ (IsConvertible now))
-        ⊎ ((first_family date.now ≡ None) × RefusesUnknown date.now e)) }
+    ensures typed { IsConvertible now → (moment : Zoned) × IsMoment now moment
+        × Comes (first_family date.now) date.now (Some moment) result }
+    ensures refuses { ¬ (IsConvertible now) → result ≡ Err Conversion }
 {
     let moment = now.to_zoned()?;
     parse(alloc, date, Some(moment))
+}
+
+/// Why a revision's date was not resolved.
+#[derive(Debug, Drop)]
+pub enum Unresolved {
+    /// The machine's clock or zone was not read.
+    Moment(jiff::Error),
+    /// The date has no time at that moment.
+    Date(Error),
+}
+
+/// The time of a revision's date, as of the words in `@{2 days ago}`, by the machine's clock and in its zone.
+///
+/// A program hands in its own runtime, as `resolved(&rt, date)` in `main`.
+pub fn resolved<R: Clock + Env + Files + AllocGlobal + Clone + Drop>(
+    rt: &R,
+    date: &str,
+) -> Result<Time, Unresolved>
+    ensures { Resolved date.now result }
+{
+    let zones = TimeZoneDatabase::from_env(rt).map_err(Unresolved::Moment)?;
+    let named = SystemTimeZone::read(rt).map_err(Unresolved::Moment)?;
+    let zone = named.time_zone(&zones).map_err(Unresolved::Moment)?;
+    let now = jiff::Zoned::now(rt, zone).map_err(Unresolved::Moment)?;
+    match parse(rt.alloc(), date, Some(now)) {
+        Ok(time) => Ok(time),
+        Err(fault) => Err(Unresolved::Date(fault)),
+    }
 }
 
 /// A second buffer with the same text.

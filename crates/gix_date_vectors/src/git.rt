@@ -184,7 +184,7 @@ fn near_git_texts_are_refused_with_their_bytes(rt: HostRuntime) {
         ("no-clock", "2008-02-14 +5"),
         ("no-clock", "2008.02.14"),
         ("no-clock", "2008-02-14T"),
-        ("no-clock", "2008-02-14"),
+        ("no-clock", "2008-02-14 "),
         ("no-ascii-in-a-field", "2008-02-14 20:30:45:é"),
         ("past-a-word", "2008-02-14 4294967316:30"),
         ("past-a-byte", "2008-02-14 276:30"),

@@ -19,7 +19,11 @@ mod names;
 #[cfg(test)]
 mod parses;
 #[cfg(test)]
+mod patterns;
+#[cfg(test)]
 mod readme;
+#[cfg(test)]
+mod relative;
 #[cfg(test)]
 mod runs;
 #[cfg(test)]

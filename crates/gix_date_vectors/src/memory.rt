@@ -1,13 +1,16 @@
 //! Calls where each request for memory is refused.
+use crate::commands::words_of;
 use crate::fakes::{Hoarder, Small, Supply, take_all};
 use crate::git::TIMES;
+use crate::patterns::TIMES as FORMATTED;
+use crate::relative::IN_UTC;
 use gix_date::device::Device;
 use gix_date::{Error, Time, parse};
-use gix_date_tool::{Mode, ToolError, run};
+use gix_date_tool::{Mode, Status, ToolError, command, execute, run};
 use std::test::Fail;
 
 #[test]
-fn a_time_takes_no_memory(rt: HostRuntime) -> Result<(), Fail> {
+fn an_absolute_date_takes_no_memory(rt: HostRuntime) -> Result<(), Fail> {
     let rows = [
         ("@-1000", -1000, 0),
         ("100000000", 100_000_000, 0),
@@ -27,12 +30,55 @@ fn a_time_takes_no_memory(rt: HostRuntime) -> Result<(), Fail> {
             all_right = false;
         }
     }
-    let refused = matches!(parse(rt.alloc(), "20080214", None), Err(Error::Memory));
+    let refused = matches!(parse(rt.alloc(), "20080214", None), Err(Error::Memory))
+        && matches!(parse(rt.alloc(), "9999-12-31", None), Err(Error::Memory));
     let taken = blocks.len();
     drop(blocks);
     assert!(rt; taken > 0, "no-memory");
     assert!(rt; all_right, "no-memory");
     assert!(rt; refused, "no-memory");
+    Ok(())
+}
+
+#[test]
+fn a_formatted_date_takes_no_memory(rt: HostRuntime) -> Result<(), Fail> {
+    let blocks = take_all(rt.alloc())?;
+    let mut all_right = true;
+    for (_, text, seconds, offset) in FORMATTED {
+        let answer = parse(rt.alloc(), text, None);
+        if !matches!(answer, Ok(time) if time == Time::new(seconds, offset)) {
+            all_right = false;
+        }
+    }
+    let taken = blocks.len();
+    drop(blocks);
+    assert!(rt; taken > 0, "no-memory");
+    assert!(rt; all_right, "no-memory");
+    Ok(())
+}
+
+#[test]
+fn a_relative_date_takes_no_memory(rt: HostRuntime) -> Result<(), Fail> {
+    let first = Time::new(-377_705_023_201, 0).to_zoned()?;
+    let blocks = take_all(rt.alloc())?;
+    let mut all_right = true;
+    for (_, from, text, seconds, offset) in IN_UTC {
+        let now = Time::new(from, 0).to_zoned();
+        let answer = parse(rt.alloc(), text, now.ok());
+        if !matches!(answer, Ok(time) if time == Time::new(seconds, offset)) {
+            all_right = false;
+        }
+    }
+    let missing = matches!(parse(rt.alloc(), "now", None), Err(Error::MissingNow));
+    let range = matches!(
+        parse(rt.alloc(), "yesterday", Some(first)),
+        Err(Error::Range)
+    );
+    let taken = blocks.len();
+    drop(blocks);
+    assert!(rt; taken > 0, "no-memory");
+    assert!(rt; all_right, "no-memory");
+    assert!(rt; missing && range, "no-memory");
     Ok(())
 }
 
@@ -92,8 +138,8 @@ fn a_run_over_short_lines_takes_little_memory(rt: HostRuntime) -> Result<(), Fai
         ),
         (
             Mode::Parse,
-            b"0 +0000\n0 -0000\nx\n".as_slice(),
-            b"0 +0000\n0 +0000\nerror unknown-format\n".as_slice(),
+            b"0 +0000\nnow\nx\n".as_slice(),
+            b"0 +0000\nerror missing-moment\nerror unknown-format\n".as_slice(),
         ),
     ];
     let spare: Vec<u8> = Vec::with_capacity(rt.alloc(), 65_536)?;
@@ -110,5 +156,27 @@ fn a_run_over_short_lines_takes_little_memory(rt: HostRuntime) -> Result<(), Fai
     }
     drop(blocks);
     assert!(rt; all_right, "little-memory");
+    Ok(())
+}
+
+#[test]
+fn a_moment_refused_memory_asks_for_the_usage(rt: HostRuntime) -> Result<(), Fail> {
+    let words = words_of(rt.alloc(), &["parse", "x"])?;
+    let dated = words_of(rt.alloc(), &["parse", "0 +0000"])?;
+    let blocks = take_all(rt.alloc())?;
+    let answer = command(rt.alloc(), words.as_slice());
+    let due = command(rt.alloc(), dated.as_slice());
+    let mut source = Device::new(Supply::once(b"0 +0000\n", 99, None));
+    let mut sink = Device::new(Small::new());
+    let ended = execute(rt.alloc(), words.as_slice(), &mut source, &mut sink);
+    let shown = sink.into_inner().is(b"usage: gix_date_tool MODE [NOW]\n");
+    drop(blocks);
+    assert!(rt; matches!(answer, Err(ToolError::Memory)), "no-memory");
+    assert!(rt;
+        matches!(due, Ok(Some((Mode::Parse, Some(now)))) if now == Time::new(0, 0)),
+        "no-memory"
+    );
+    assert_eq!(rt; ended, Status::Usage);
+    assert!(rt; shown, "no-memory");
     Ok(())
 }

@@ -1,5 +1,7 @@
 //! Public names, each where it stands, and the traits that callers count on.
+use crate::caller::{Unresolved, absolute_date, resolved};
 use gix_date::parsing::TimeBuf;
+use gix_date::time::{CustomFormat, Format, format};
 use gix_date::{
     Error, InputBytes, OffsetInSeconds, SecondsSinceUnixEpoch, Time, Zoned, laws, parse,
 };
@@ -53,6 +55,49 @@ fn types_have_the_traits_that_callers_count_on(rt: HostRuntime) {
     assert_eq!(rt; copied.as_str(), "5 -0001");
 }
 
+/// A format of our own, known without running.
+const fn of_a_log() -> CustomFormat {
+    CustomFormat::new("%Y")
+}
+
+#[test]
+fn formats_have_names(rt: HostRuntime) -> Result<(), Fail> {
+    let named: [CustomFormat; 7] = [
+        format::SHORT,
+        format::RFC2822,
+        format::GIT_RFC2822,
+        format::ISO8601,
+        format::ISO8601_STRICT,
+        format::GITOXIDE,
+        format::DEFAULT,
+    ];
+    for custom in named {
+        let debug = format!(in rt.alloc(); "{custom:?}")?;
+        assert!(rt; debug.contains("%Y"), "{debug}");
+    }
+    for other in [format::UNIX, format::RAW, Format::Custom(of_a_log())] {
+        let debug = format!(in rt.alloc(); "{other:?}")?;
+        assert!(rt; !debug.is_empty());
+    }
+    Ok(())
+}
+
+#[test]
+fn callers_answer(rt: HostRuntime) -> Result<(), Fail> {
+    let date = absolute_date(rt.alloc(), "2018-12-24")?;
+    assert_eq!(rt; date, Time::new(1_545_609_600, 0));
+    assert!(rt; matches!(absolute_date(rt.alloc(), "now"), Err(Error::MissingNow)));
+    assert!(rt; matches!(resolved(&rt, "@5 +0100"), Ok(time) if time == Time::new(5, 3600)));
+    assert!(rt; matches!(resolved(&rt, "now"), Ok(time) if time.seconds > 1_700_000_000));
+    assert!(rt;
+        matches!(
+            resolved(&rt, "99999 years ago"),
+            Err(Unresolved::Date(Error::Range))
+        )
+    );
+    Ok(())
+}
+
 #[test]
 fn laws_are_called_for_nothing_but_what_they_state() {
     laws::constants();
@@ -61,6 +106,8 @@ fn laws_are_called_for_nothing_but_what_they_state() {
     laws::order();
     laws::equality();
     laws::hash();
+    laws::named_once();
     gix_date_tool::limits();
     gix_date_tool::lines_are_unique();
+    gix_date_tool::replies_are_unique();
 }

@@ -66,7 +66,7 @@ fn lines_are_answered(rt: HostRuntime) {
 }
 
 #[test]
-fn lines_are_parsed(rt: HostRuntime) {
+fn absolute_lines_are_parsed_alike_at_any_moment(rt: HostRuntime) {
     let input = b"@-1000\n100000000\n20080214\n2008-02-14 20:30:45Z\n5 -0130\n\n\xff\n".as_slice();
     let output =
         "-1000 +0000\n100000000 +0000\nerror unknown-format\n1203021045 +0000\n5 -0130\nerror unknown-format\nnot text\n";
@@ -83,6 +83,47 @@ fn lines_are_parsed(rt: HostRuntime) {
             sink.into_inner().taken.as_slice(),
             output.as_bytes(),
             "parse-lines"
+        );
+    }
+}
+
+#[test]
+fn relative_lines_are_parsed_from_the_moment(rt: HostRuntime) {
+    let rows = [
+        (
+            "parse-lines",
+            Some(Time::new(1_698_400_800, 0)),
+            "2 minutes ago\n\nyesterday",
+            "1698400680 +0000\nerror unknown-format\n1698314400 +0000\n",
+        ),
+        (
+            "parse-lines",
+            None,
+            "2 minutes ago\n9999-12-31\n1 fortnight\nThu, 18 Aug 2022 12:45:06 +0800\n",
+            "error missing-moment\nerror date-conversion\nerror unknown-format\n1660797906 +0800\n",
+        ),
+        (
+            "past-the-range",
+            Some(Time::new(1_698_400_800, 0)),
+            "12022 years ago\n12023 years ago\n0 -0000\n",
+            "-377679247200 +0000\nerror range\n0 +0000\n",
+        ),
+        (
+            "inherited-offset",
+            Some(Time::new(1_698_400_800, 90_000)),
+            "now\n1 day ago\n",
+            "1698400800 +2500\n1698314400 +2500\n",
+        ),
+    ];
+    for (row, now, input, output) in rows {
+        let mut source = Device::new(Supply::once(input.as_bytes(), 5, None));
+        let mut sink = Device::new(Slow::roomy(rt.alloc()));
+        let answer = run(rt.alloc(), Mode::Parse, now, &mut source, &mut sink);
+        assert!(rt; answer.is_ok(), "{row}");
+        assert_eq!(rt;
+            sink.into_inner().taken.as_slice(),
+            output.as_bytes(),
+            "{row}"
         );
     }
 }

@@ -1,10 +1,10 @@
 //! Dates and clocks as texts say them, and the instants that they are.
 ghost use Rattle.std.specs.Prelude.{◌≡◌};
 ghost use Rattle.jiff.specs.Words.{IsOffsetSeconds};
-ghost use Rattle.gix_date.specs.Civil.{DateFits, ClockFits, civil_instant};
+ghost use Rattle.gix_date.specs.Civil.{DateFits, ClockFits, is_date, civil_instant};
 
 use crate::time::{OffsetInSeconds, SecondsSinceUnixEpoch};
-use jiff::civil::DateTime;
+use jiff::civil::{Date, DateTime};
 use jiff::tz::Offset;
 
 /// A year, month and day, whether or not the calendar has it.
@@ -49,4 +49,12 @@ pub(crate) fn civil_instant(
         Ok(instant) => Some(instant.as_second()),
         Err(_) => None,
     }
+}
+
+/// Whether the calendar has this day.
+pub(crate) fn is_date(date: DateFields) -> bool
+    requires { DateFits date }
+    ensures { result ≡ is_date date }
+{
+    Date::new(date.year as i16, date.month as i8, date.day as i8).is_ok()
 }

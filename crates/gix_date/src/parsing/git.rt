@@ -3,14 +3,14 @@ ghost use Rattle.std.specs.Prelude.{◌≡◌, ◌<◌, ◌≤◌, IfSome};
 ghost use Rattle.jiff.specs.Words.{IsOffsetSeconds};
 ghost use Rattle.gix_date.specs.Civil.{DateFits};
 ghost use Rattle.gix_date.specs.Fields.{read_view};
-ghost use Rattle.gix_date.specs.Git.{read_year, read_marked_date, read_compact_date, time_behind, time_of_cut, dotted_time, compact_time, flexible_time, git_form, git_time};
+ghost use Rattle.gix_date.specs.Git.{read_marked_date, read_compact_date, time_behind, time_of_cut, dotted_time, compact_time, flexible_time, git_form, git_time};
 
 use crate::parsing::civil::{DateFields, civil_instant};
 use crate::parsing::fields::behind;
 use crate::parsing::git::clock::parse_clock;
 use crate::parsing::git::cut::clock_cut;
 use crate::parsing::git::offset::parse_git_offset;
-use crate::parsing::numbers::read_two_digits;
+use crate::parsing::numbers::{read_two_digits, read_year};
 use crate::time::Time;
 
 mod clock;
@@ -131,15 +131,4 @@ fn read_compact_date(text: &str) -> Option<(DateFields, &str)>
     let (month, rest) = read_two_digits(rest)?;
     let (day, rest) = read_two_digits(rest)?;
     Some((DateFields { year, month, day }, rest))
-}
-
-/// The number that four digits at the front write.
-#[tactic(auto, unfolding(crate::specs::Git::read_year))]
-fn read_year(text: &str) -> Option<(u16, &str)>
-    ensures value { read_view result ≡ read_year text.now }
-    ensures small { IfSome result (λ found. found.0 ≤ 9999) }
-{
-    let (century, rest) = read_two_digits(text)?;
-    let (year, rest) = read_two_digits(rest)?;
-    Some((100 * u16::from(century) + u16::from(year), rest))
 }

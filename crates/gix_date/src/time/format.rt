@@ -1,10 +1,81 @@
-//! Times as values of `jiff`.
+//! Formats of a time by their names, and times as values of `jiff`.
 ghost use Rattle.std.specs.Prelude.{◌↔◌, IsOk, IfOk, IfErr};
 
 use crate::error::Error;
 use crate::time::Time;
 use jiff::tz::Offset;
 use jiff::{Timestamp, Zoned};
+
+/// What a time is printed as.
+#[derive(Debug, Clone, Copy)]
+pub enum Format {
+    /// By a pattern, as one of those that this module names.
+    Custom(CustomFormat),
+    /// As seconds since 1970-01-01 00:00:00 UTC: `1660874655`.
+    Unix,
+    /// As in a commit header: `1660874655 +0800`.
+    Raw,
+}
+
+/// A pattern that a time is printed by, in the directives of `strftime` as `jiff` has them.
+#[derive(Debug, Clone, Copy)]
+pub struct CustomFormat {
+    pattern: &'static str,
+}
+
+impl CustomFormat {
+    ghost use Rattle.std.specs.Prelude.{◌≡◌};
+
+    /// The format of this pattern, whether or not it can be printed.
+    pub const fn new(pattern: &'static str) -> CustomFormat
+        ensures { result.pattern.now ≡ pattern.now }
+    {
+        CustomFormat { pattern }
+    }
+}
+
+/// A day: `2018-12-24`. [`parse`](crate::parse) reads it, with a month and a day of one digit or two.
+pub const SHORT: CustomFormat = CustomFormat {
+    pattern: "%Y-%m-%d",
+};
+
+/// A date as in mail (RFC 2822): `Thu, 08 Aug 2022 12:45:06 +0800`. [`parse`](crate::parse) reads it.
+pub const RFC2822: CustomFormat = CustomFormat {
+    pattern: "%a, %d %b %Y %H:%M:%S %z",
+};
+
+/// The same as Git prints it (`git log --pretty=%aD`): `Thu, 8 Aug 2022 12:45:06 +0800`. [`parse`](crate::parse) reads it.
+pub const GIT_RFC2822: CustomFormat = CustomFormat {
+    pattern: "%a, %-d %b %Y %H:%M:%S %z",
+};
+
+/// A date after ISO 8601, as Git prints it (`git log --pretty=%ai`): `2022-08-17 22:04:58 +0200`. [`parse`](crate::parse) reads
+/// it.
+pub const ISO8601: CustomFormat = CustomFormat {
+    pattern: "%Y-%m-%d %H:%M:%S %z",
+};
+
+/// A date in the strict form of ISO 8601 (`git log --pretty=%aI`): `2022-08-17T21:43:13+08:00`. [`parse`](crate::parse) reads it.
+pub const ISO8601_STRICT: CustomFormat = CustomFormat {
+    pattern: "%Y-%m-%dT%H:%M:%S%:z",
+};
+
+/// Seconds since 1970-01-01 00:00:00 UTC: `123456789`.
+pub const UNIX: Format = Format::Unix;
+
+/// A time as in a commit header: `1660874655 +0800`. [`parse`](crate::parse) reads it where the offset is in quarters of an hour up
+/// to 14:45.
+pub const RAW: Format = Format::Raw;
+
+/// A date as gitoxide prints it: `Thu Sep 04 2022 10:45:06 -0400`. [`parse`](crate::parse) reads it.
+pub const GITOXIDE: CustomFormat = CustomFormat {
+    pattern: "%a %b %d %Y %H:%M:%S %z",
+};
+
+/// A date as Git prints it by default (`git log --pretty=%ad`): `Thu Sep 4 10:45:06 2022 -0400`. [`parse`](crate::parse) reads it.
+pub const DEFAULT: CustomFormat = CustomFormat {
+    pattern: "%a %b %-d %H:%M:%S %Y %z",
+};
 
 impl Time {
     ghost use Rattle.std.specs.Prelude.{◌≡◌};
@@ -27,5 +98,28 @@ impl Time {
             Ok(instant) => Ok(instant.to_zoned(offset.to_time_zone())),
             Err(_) => Err(Error::Conversion),
         }
+    }
+}
+
+#[cfg(test)]
+mod tests {
+    use super::*;
+
+    #[test]
+    fn named_formats_are_their_patterns(rt: HostRuntime) {
+        let rows = [
+            (SHORT, "%Y-%m-%d"),
+            (RFC2822, "%a, %d %b %Y %H:%M:%S %z"),
+            (GIT_RFC2822, "%a, %-d %b %Y %H:%M:%S %z"),
+            (ISO8601, "%Y-%m-%d %H:%M:%S %z"),
+            (ISO8601_STRICT, "%Y-%m-%dT%H:%M:%S%:z"),
+            (GITOXIDE, "%a %b %d %Y %H:%M:%S %z"),
+            (DEFAULT, "%a %b %-d %H:%M:%S %Y %z"),
+        ];
+        for (format, pattern) in rows {
+            assert_eq!(rt; format.pattern, pattern);
+        }
+        assert!(rt; matches!(UNIX, Format::Unix));
+        assert!(rt; matches!(RAW, Format::Raw));
     }
 }

@@ -1,35 +1,55 @@
-use Rattle.std.proofs.Common.{◌≡◌, ℕ, List, sym, ap, ◌∙◌, subst}
-use Rattle.std.specs.Prelude.{IfOk, OnErr, IsUtf8}
-use Rattle.gix_date.proofs.Texts.{if_text, if_no_text}
+use Rattle.std.proofs.Common.{◌≡◌, ℕ, List, Option, Result, Ok, Err, None, refl, sym, subst, inl, inr}
+use Rattle.std.proofs.lemmas.Str.{is_utf8-from_IsUtf8}
+use Rattle.std.specs.Prelude.{◌⊎◌, IfOk, OnErr, IsUtf8}
+use Rattle.gix_date.proofs.Texts.{no_text}
 use Rattle.gix_date_tool.specs.declared.arguments.Mode.{Mode}
+use Rattle.gix_date_tool.specs.declared.arguments.Mode.TheVariants.{Parse}
 use Rattle.gix_date_tool.specs.declared.replies.Asked.{Asked}
-use Rattle.gix_date_tool.specs.declared.replies.Reply.TheVariants.{NotText, UnknownFormat}
-use Rattle.gix_date_tool.specs.Replies.{text_reply, reply}
+use Rattle.gix_date_tool.specs.declared.replies.Reply.{Reply}
+use Rattle.gix_date_tool.specs.declared.replies.Reply.TheVariants.{NotText, UnknownFormat, DateConversion}
+use Rattle.gix_date_tool.specs.Replies.{IsReply, IsReplyTo, IsTextReply}
 use Rattle.gix_date_tool.proofs.replies.reply_to.Goals as goal
 
 -- the reply to a line that is text
-text_reply-is_reply : (asked : Asked) (mode : Mode) (text line : List ℕ) → text ≡ line → asked.mode ≡ mode → IsUtf8 line
-    → text_reply mode text ≡ reply asked line
-unfolding reply
-text_reply-is_reply asked mode text line same in_mode is_text =
-    ap (text_reply mode) same ∙ ap (λ m. text_reply m line) (sym in_mode) ∙ sym (if_text line (text_reply asked.mode line) NotText is_text)
+text_reply-is_reply : (asked : Asked) (mode : Mode) (text line : List ℕ) (reply : Reply) → text ≡ line → asked.mode ≡ mode → IsUtf8 line
+    → IsTextReply mode asked.now text reply → IsReply asked line reply
+unfolding IsReply
+text_reply-is_reply asked mode text line reply same in_mode is_text h =
+    let here = subst (λ t. IsTextReply mode asked.now t reply) same h in
+    let asked_here = subst (λ m. IsTextReply m asked.now line reply) (sym in_mode) here in
+    subst (λ b. IsReplyTo b asked line reply) (sym (is_utf8-from_IsUtf8 line is_text)) asked_here
+
+not_text-is_reply : (asked : Asked) (line : List ℕ) → (IsUtf8 line → ⊥) → IsReply asked line NotText
+unfolding IsReply
+not_text-is_reply asked line h = subst (λ b. IsReplyTo b asked line NotText) (sym (no_text line h)) refl
+
+ok-weaker : {T E : Type 0} (r : Result T E) (P Q : T → Type 0) → ((x : T) → P x → Q x) → IfOk r P → IfOk r Q
+ok-weaker (Ok x) P Q f h = f x h
+ok-weaker (Err e) P Q f h = tt
+
+err-weaker : {T E : Type 0} (r : Result T E) (A B : Type 0) → (A → B) → OnErr r A → OnErr r B
+err-weaker (Ok x) A B f h = tt
+err-weaker (Err e) A B f h = f h
+
+either : {A B C D : Type 0} → (A → C) → (B → D) → A ⊎ B → C ⊎ D
+either f g (inl h) = inl (f h)
+either f g (inr h) = inr (g h)
 
 pub returns-in_default-clause-is : goal.returns-in_default-clause-is
-unfolding reply
-returns-in_default-clause-is c =
-    let line = c.args.line.now in
-    sym (if_no_text line (text_reply c.args.asked.mode line) NotText c.in_default.ensures.cases.0)
+returns-in_default-clause-is c = not_text-is_reply c.args.asked c.args.line.now c.in_default.ensures.cases.0
 
 pub returns-in-Check-clause-is : goal.returns-in-Check-clause-is
 returns-in-Check-clause-is c =
-    c.check_reply.ensures.is ∙ text_reply-is_reply c.args.asked _ c.in-Ok.text.now c.args.line.now c.in-Ok.ensures.cases.0 c.in-Check.is c.in-Ok.ensures.cases.1
+    text_reply-is_reply c.args.asked _ c.in-Ok.text.now c.args.line.now c.check_reply.result c.in-Ok.ensures.cases.0 c.in-Check.is c.in-Ok.ensures.cases.1 c.check_reply.ensures.is
 
 pub returns-in-Parse-clause-is : goal.returns-in-Parse-clause-is
 returns-in-Parse-clause-is c =
-    let same = text_reply-is_reply c.args.asked _ c.in-Ok.text.now c.args.line.now c.in-Ok.ensures.cases.0 c.in-Parse.is c.in-Ok.ensures.cases.1 in
-    subst (λ due. IfOk c.parse_reply.result (λ r. r ≡ due)) same c.parse_reply.ensures.is
+    ok-weaker c.parse_reply.result _ _
+    (λ reply h. text_reply-is_reply c.args.asked Parse c.in-Ok.text.now c.args.line.now reply c.in-Ok.ensures.cases.0 c.in-Parse.is c.in-Ok.ensures.cases.1 h)
+    c.parse_reply.ensures.is
 
 pub returns-in-Parse-clause-memory : goal.returns-in-Parse-clause-memory
 returns-in-Parse-clause-memory c =
-    let same = text_reply-is_reply c.args.asked _ c.in-Ok.text.now c.args.line.now c.in-Ok.ensures.cases.0 c.in-Parse.is c.in-Ok.ensures.cases.1 in
-    subst (λ due. OnErr c.parse_reply.result (due ≡ UnknownFormat)) same c.parse_reply.ensures.memory
+    let told : (reply : Reply) → IsTextReply Parse c.args.asked.now c.in-Ok.text.now reply → IsReply c.args.asked c.args.line.now reply =
+    λ reply h. text_reply-is_reply c.args.asked Parse c.in-Ok.text.now c.args.line.now reply c.in-Ok.ensures.cases.0 c.in-Parse.is c.in-Ok.ensures.cases.1 h in
+    err-weaker c.parse_reply.result _ _ (either (told UnknownFormat) (told DateConversion)) c.parse_reply.ensures.memory

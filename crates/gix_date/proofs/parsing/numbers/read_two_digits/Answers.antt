@@ -1,18 +1,15 @@
 use Rattle.std.proofs.Common.{◌≡◌, ℕ, ◌<◌, Bool, true, false, cond, get_or, Some, None, refl, subst, arith}
-use Rattle.std.proofs.lemmas.Bool.Decides.{nat_tests}
 use Rattle.std.proofs.lemmas.Str.{IsCharBoundary-after_ascii}
 use Rattle.std.specs.Char.{is_ascii_digit}
 use Rattle.std.specs.Prelude.{◌&&◌}
 use Rattle.gix_date.specs.Numbers.{two_digit_value}
+use Rattle.gix_date.proofs.AsciiCuts.{digit_is_ascii}
 use Rattle.gix_date.proofs.parsing.numbers.read_two_digits.Goals as goal
 
 second_holds : (p q : Bool) (n m : ℕ) → Some m ≡ cond (p && q) (Some n) None → q ≡ true
 second_holds true true n m h = refl
 second_holds true false n m h = cc
 second_holds false q n m h = cc
-
-digit_is_ascii : (c : ℕ) → is_ascii_digit c ≡ true → c < 128
-digit_is_ascii c h = grind (arith, nat_tests, h)
 
 -- after two digits a text may be cut
 ones_ascii : (tens ones m : ℕ) → Some m ≡ two_digit_value tens ones → ones < 128

@@ -1,0 +1,122 @@
+-- The definitions of formatted dates on worked texts: each row computes.
+use Rattle.std.proofs.Common.{◌≡◌, refl, ℕ, [], pos}
+use Rattle.std.specs.Prelude.{codes, Some, None}
+use Rattle.gix_date.proofs.Rows.{minus}
+use Rattle.gix_date.specs.Fields.{behind}
+use Rattle.gix_date.specs.Numbers.{read_two_digits, read_digit, read_field, read_year}
+use Rattle.gix_date.specs.Offsets.{offset_fields, read_sign, last_pair}
+use Rattle.gix_date.specs.PatternFields.{behind_spaces, behind_weekday, read_name, read_month, month_of, is_weekday, read_plain_date, read_minutes, read_second, read_clock, read_mail_clock, plain_zone, strict_zone, mail_zone, mail_offset, named_zone, last_colon_pair}
+use Rattle.gix_date.specs.Patterns.{behind_day_name}
+use Rattle.gix_date.specs.declared.parsing.civil.ClockFields.{ClockFields}
+use Rattle.gix_date.specs.declared.parsing.civil.DateFields.{DateFields}
+
+-- all that a row needs to see computed
+computing : Type 0
+unfolding behind_spaces behind_weekday read_name read_month month_of is_weekday read_plain_date read_minutes read_second read_clock read_mail_clock plain_zone strict_zone mail_zone mail_offset named_zone last_colon_pair behind_day_name behind read_two_digits read_digit read_field read_year offset_fields read_sign last_pair
+computing = Unit {0}
+
+abbrev date : ℕ → ℕ → ℕ → DateFields
+date y m d = record { year = y; month = m; day = d }
+
+abbrev clock : ℕ → ℕ → ℕ → ClockFields
+clock h m s = record { hour = h; minute = m; second = s }
+
+one-digit-or-two : read_plain_date (codes "2018-1-02x") ≡ Some (date 2018 1 2, codes "x")
+unfolding computing
+one-digit-or-two = refl
+
+three-digits-of-a-day : read_plain_date (codes "2018-12-024") ≡ Some (date 2018 12 2, codes "4")
+unfolding computing
+three-digits-of-a-day = refl
+
+year-of-three-digits : read_plain_date (codes "201-12-24") ≡ None
+unfolding computing
+year-of-three-digits = refl
+
+day-name-and-spaces : behind_day_name (codes "tHu,  18 Aug") ≡ Some (codes "18 Aug")
+unfolding computing
+day-name-and-spaces = refl
+
+day-name-without-a-space : behind_day_name (codes "Thu,18 Aug") ≡ None
+unfolding computing
+day-name-without-a-space = refl
+
+no-day-name : behind_day_name (codes "Thx, 18 Aug") ≡ None
+unfolding computing
+no-day-name = refl
+
+month-in-any-case : read_month (codes "aUG 2022") ≡ Some (8, codes " 2022")
+unfolding computing
+month-in-any-case = refl
+
+month-written-out : read_month (codes "August") ≡ Some (8, codes "ust")
+unfolding computing
+month-written-out = refl
+
+no-month : read_month (codes "Aux") ≡ None
+unfolding computing
+no-month = refl
+
+spaces-at-the-front : behind_spaces (codes "  x ") ≡ Some (codes "x ")
+unfolding computing
+spaces-at-the-front = refl
+
+no-space : behind_spaces (codes "x") ≡ None
+unfolding computing
+no-space = refl
+
+leap-second : read_clock (codes "12:45:60 Z") ≡ Some (clock 12 45 59, codes " Z")
+unfolding computing
+leap-second = refl
+
+clock-of-one-digit-fields : read_clock (codes "4:5:6") ≡ Some (clock 4 5 6, [])
+unfolding computing
+clock-of-one-digit-fields = refl
+
+clock-without-seconds : read_clock (codes "12:45 GMT") ≡ None
+unfolding computing
+clock-without-seconds = refl
+
+mail-clock-without-seconds : read_mail_clock (codes "12:45 GMT") ≡ Some (clock 12 45 0, codes " GMT")
+unfolding computing
+mail-clock-without-seconds = refl
+
+mail-clock-with-a-colon-alone : read_mail_clock (codes "12:45: +0000") ≡ Some (clock 12 45 0, codes ": +0000")
+unfolding computing
+mail-clock-with-a-colon-alone = refl
+
+zone-with-seconds : plain_zone (codes "+010203") ≡ Some (pos 3723)
+unfolding computing
+zone-with-seconds = refl
+
+zone-of-26-hours : plain_zone (codes "-2600") ≡ None
+unfolding computing
+zone-of-26-hours = refl
+
+zone-with-text-behind : plain_zone (codes "+0800 ") ≡ None
+unfolding computing
+zone-with-text-behind = refl
+
+strict-zone : strict_zone (codes "-00:30") ≡ Some (minus 1800)
+unfolding computing
+strict-zone = refl
+
+strict-zone-with-seconds : strict_zone (codes "+00:00:01") ≡ Some (pos 1)
+unfolding computing
+strict-zone-with-seconds = refl
+
+strict-zone-without-a-colon : strict_zone (codes "+0800") ≡ None
+unfolding computing
+strict-zone-without-a-colon = refl
+
+mail-zone-with-seconds : mail_zone (codes "+080000") ≡ None
+unfolding computing
+mail-zone-with-seconds = refl
+
+mail-zone-by-name : mail_zone (codes "pSt") ≡ Some (minus 28800)
+unfolding computing
+mail-zone-by-name = refl
+
+mail-zone-of-no-name : mail_zone (codes "Z") ≡ None
+unfolding computing
+mail-zone-of-no-name = refl

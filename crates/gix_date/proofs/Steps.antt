@@ -1,0 +1,136 @@
+-- Steps that take a moment back, from what jiff's calls say.
+use Rattle.std.proofs.Common.{◌≡◌, ◌∙◌, ◌+◌, ℤ, pos, ◌+ℤ◌, ◌-ℤ◌, unsigned_abs, FitsSigned, w64, refl, sym, ap, subst, arith, Option, None, Some}
+use Rattle.std.specs.Int.{int_div_euclid, int_rem_euclid}
+use Rattle.jiff.specs.Words.{picked_instant, civil_nanos, nanos_of_seconds, epoch_day, month_number, zoned_nanos, IsTimestampNanos, IsEpochDay, IsYear, IsBetween, IsDate, IsYmd}
+use Rattle.jiff.specs.Types.{TimeZone, DateTime, Date, Time, PlainZoned}
+use Rattle.jiff.specs.declared.zoned.Zoned.{Zoned}
+use Rattle.jiff_core.proofs.CalendarLemmas.{days_in_month_bounds}
+use Rattle.jiff_core.proofs.DateLemmas.{days_from_civil-day, epoch_day_range}
+use Rattle.jiff_core.proofs.DateTimeLemmas.{civil_nanos-parts, time_nanos_bound}
+use Rattle.jiff_core.proofs.SignedLemmas.{signed_arith, one_part}
+use Rattle.jiff_core.specs.Calendar.{days_from_civil}
+use Rattle.jiff_zoned.proofs.SameLemmas.{same_datetime}
+use Rattle.gix_date.specs.RelativeFields.{AreFieldsOf, IsInstantOf}
+use Rattle.gix_date.specs.RelativeSteps.{IsAt, IsLocal, IsPicked, Settles, MonthsStep, civil_of, month_start, rolled_day}
+use Rattle.gix_date.specs.declared.parsing.relative.steps.Fields.{Fields}
+
+-- What a zone chooses.
+
+civil-of : (dt : DateTime) (date : Date) (time : Time) → dt.date ≡ date → dt.time ≡ time → civil_nanos dt ≡ civil_of (epoch_day date) time
+civil-of dt date time d t = civil_nanos-parts dt ∙ rw (d, t) refl
+
+pub picked-is : (tz : TimeZone) (date : Date) (time : Time) (dt : DateTime) (j : ℤ) → dt.date ≡ date → dt.time ≡ time → j ≡ picked_instant tz dt → IsTimestampNanos j → IsPicked tz (civil_of (epoch_day date) time) j
+picked-is tz date time dt j d t is range = record { shown = dt; civil_is = civil-of dt date time d t; is_choice = is; in_range = range }
+
+-- two datetimes with the same nanoseconds are one, so the choice is one
+picked-of : (tz : TimeZone) (dt : DateTime) (j : ℤ) → IsPicked tz (civil_nanos dt) j → j ≡ picked_instant tz dt
+picked-of tz dt j h = h.is_choice ∙ ap (λ (x : DateTime). picked_instant tz x) (same_datetime h.shown dt h.civil_is)
+
+pub picked-none : (tz : TimeZone) (date : Date) (time : Time) (dt : DateTime) (j : ℤ) → dt.date ≡ date → dt.time ≡ time → ¬ (IsTimestampNanos (picked_instant tz dt)) → IsPicked tz (civil_of (epoch_day date) time) j → ⊥
+picked-none tz date time dt j d t beyond h =
+    let here : IsPicked tz (civil_nanos dt) j = rw (civil-of dt date time d t) h in
+    beyond (subst IsTimestampNanos (picked-of tz dt j here) h.in_range)
+
+-- the day of what is picked exists
+pub picked-day : (tz : TimeZone) (day : ℤ) (time : Time) (j : ℤ) → IsPicked tz (civil_of day time) j → IsEpochDay day
+picked-day tz day time j h =
+    omega (arith, signed_arith, h.civil_is, civil_nanos-parts h.shown, time_nanos_bound h.shown.time, time_nanos_bound time, epoch_day_range h.shown.date)
+
+-- Fields and days.
+
+pub month_pos : (z : ℤ) → int_rem_euclid z (pos 12) +ℤ pos 1 ≡ pos (unsigned_abs (int_rem_euclid z (pos 12)) + 1)
+month_pos z = omega (arith, signed_arith)
+
+pub first-exists : (y m : ℤ) → IsYear y → IsBetween (pos 1) (pos 12) m → IsDate y m (pos 1)
+first-exists y m year month =
+    let long = days_in_month_bounds y (unsigned_abs m) in
+    (year, month, (omega (arith, signed_arith), omega (arith, signed_arith, long)))
+
+-- the first of a month
+pub first-is : (number : ℤ) (first : Date) → IsYmd (int_div_euclid number (pos 12)) (int_rem_euclid number (pos 12) +ℤ pos 1) (pos 1) first → epoch_day first ≡ month_start number
+first-is number first ymd =
+    let month : first.month ≡ unsigned_abs (int_rem_euclid number (pos 12)) + 1 = ap (λ (z : ℤ). unsigned_abs z) (ymd.1 ∙ month_pos number) in
+    let one : first.day ≡ 1 = ap (λ (z : ℤ). unsigned_abs z) ymd.2 in
+    rw (ymd.0, month, one) refl
+
+pub year_of : (d : Date) → int_div_euclid (month_number d) (pos 12) ≡ d.year
+year_of d =
+    let month_in = d.month_in in
+    omega (arith, signed_arith, month_in)
+
+month_of : (d : Date) → unsigned_abs (int_rem_euclid (month_number d) (pos 12)) + 1 ≡ d.month
+month_of d =
+    let month_in = d.month_in in
+    omega (arith, signed_arith, month_in, one_part (int_rem_euclid (month_number d) (pos 12)))
+
+-- a date is its day of its month
+pub day_of : (d : Date) → rolled_day (month_number d) d ≡ epoch_day d
+day_of d =
+    let day_in = d.day_in in
+    let start : month_start (month_number d) ≡ days_from_civil d.year d.month 1 = rw (year_of d, month_of d) refl in
+    omega (arith, signed_arith, start, days_from_civil-day d.year d.month 1 d.day (omega arith) day_in.0)
+
+fields-day : (shown : DateTime) (f : Fields) → AreFieldsOf shown f → month_start f.month_number +ℤ (f.day -ℤ pos 1) ≡ epoch_day shown.date
+fields-day shown f h = rw (h.month_is, h.day_is) (day_of shown.date)
+
+-- Steps.
+
+-- the clock that a zoned value shows
+pub shows-local : (z : PlainZoned) → IsLocal z.time_zone z.timestamp.nanosecond z.datetime
+shows-local z = z.shows ∙ ap (λ (s : ℤ). z.timestamp.nanosecond +ℤ nanos_of_seconds s) z.offset_is
+
+pub settles-is : (tz : TimeZone) (i j : ℤ) (shown : DateTime) (f : Fields) → IsLocal tz i shown → AreFieldsOf shown f → IsInstantOf tz f j → Settles tz i j
+settles-is tz i j shown f l h g =
+    let picked = rw (fields-day shown f h, h.time_is) at g.picked in
+    record { local = shown; local_is = l; picked = rw (civil_nanos-parts shown) picked }
+
+pub settles-back : (tz : TimeZone) (i j : ℤ) (shown : DateTime) (f : Fields) → IsLocal tz i shown → AreFieldsOf shown f → Settles tz i j → IsInstantOf tz f j
+settles-back tz i j shown f l h g =
+    let same : g.local ≡ shown = same_datetime g.local shown (g.local_is ∙ sym l) in
+    let picked : IsPicked tz (civil_nanos shown) j = subst (λ (d : DateTime). IsPicked tz (civil_nanos d) j) same g.picked in
+    record {
+      year_in = rw (h.month_is, year_of shown.date) shown.date.year_in;
+      picked = rw (fields-day shown f h, h.time_is, ← civil_nanos-parts shown) picked;
+    }
+
+abbrev MonthsFrom : TimeZone → ℤ → ℤ → DateTime → Type 0
+MonthsFrom tz n j local =
+    FitsSigned w64 (month_number local.date -ℤ n) × IsYear (int_div_euclid (month_number local.date -ℤ n) (pos 12)) × IsPicked tz (civil_of (rolled_day (month_number local.date -ℤ n) local.date) local.time) j
+
+-- the same by the fields
+abbrev pub MonthsOff : TimeZone → Fields → ℤ → ℤ → Type 0
+MonthsOff tz f n j =
+    FitsSigned w64 (f.month_number -ℤ n) × IsYear (int_div_euclid (f.month_number -ℤ n) (pos 12)) × IsPicked tz (civil_of (month_start (f.month_number -ℤ n) +ℤ (f.day -ℤ pos 1)) f.time) j
+
+pub months-step : (tz : TimeZone) (i n j : ℤ) (shown : DateTime) (f : Fields) → IsLocal tz i shown → AreFieldsOf shown f → MonthsOff tz f n j → MonthsStep tz n i j
+months-step tz i n j shown f l h g =
+    let fits = rw h.month_is at g.0 in
+    let year = rw h.month_is at g.1 in
+    let picked = rw (h.month_is, h.day_is, h.time_is) at g.2 in
+    record { local = shown; local_is = l; fits = fits; year_in = year; picked = picked }
+
+pub months-back : (tz : TimeZone) (i n j : ℤ) (shown : DateTime) (f : Fields) → IsLocal tz i shown → AreFieldsOf shown f → MonthsStep tz n i j → MonthsOff tz f n j
+months-back tz i n j shown f l h g =
+    let same : g.local ≡ shown = same_datetime g.local shown (g.local_is ∙ sym l) in
+    let from : MonthsFrom tz n j shown = subst (MonthsFrom tz n j) same (g.fits, g.year_in, g.picked) in
+    (rw h.month_is from.0, rw h.month_is from.1, rw (h.month_is, h.day_is, h.time_is) from.2)
+
+-- the same instants, said otherwise
+pub at-same : (moment : Option Zoned) (Such Same : ℤ → Type 0) → ((j : ℤ) → Such j → Same j) → ((j : ℤ) → Same j → Such j) → IsAt Such moment → IsAt Same moment
+at-same None Such Same f g h = λ j s. h j (g j s)
+at-same (Some moment) Such Same f g h = f (zoned_nanos moment) h
+
+-- Each step leads to one instant.
+
+picked-once : (tz : TimeZone) (civil a b : ℤ) → IsPicked tz civil a → IsPicked tz civil b → a ≡ b
+picked-once tz civil a b h g = picked-of tz g.shown a (rw g.civil_is h) ∙ sym g.is_choice
+
+pub settles-once : (tz : TimeZone) (i a b : ℤ) → Settles tz i a → Settles tz i b → a ≡ b
+settles-once tz i a b h g =
+    let same : h.local ≡ g.local = same_datetime h.local g.local (h.local_is ∙ sym g.local_is) in
+    picked-once tz (civil_nanos g.local) a b (subst (λ (d : DateTime). IsPicked tz (civil_nanos d) a) same h.picked) g.picked
+
+pub months-once : (tz : TimeZone) (n i a b : ℤ) → MonthsStep tz n i a → MonthsStep tz n i b → a ≡ b
+months-once tz n i a b h g =
+    let same : h.local ≡ g.local = same_datetime h.local g.local (h.local_is ∙ sym g.local_is) in
+    picked-once tz _ a b (subst (MonthsFrom tz n a) same (h.fits, h.year_in, h.picked)).2 g.picked

@@ -1,0 +1,72 @@
+-- The words of a relative text: what each counts, and which unit it names.
+use Rattle.std.specs.Prelude.{ℕ, ◌-◌, Bool, ◌||◌, not, List, length, take, filter, ℤ, pos, ◌==◌, if◌then◌else◌, Option, Some, None, unwrap_or, slice_index, codes}
+use Rattle.std.specs.Char.{is_ascii_alphanumeric, is_ascii_digit}
+use Rattle.std.specs.List.{slice_split, list_all}
+use Rattle.std.specs.Str.{str_eq_ignore_ascii_case}
+use Rattle.gix_date.specs.Characters.{small_s, letter_s}
+use Rattle.gix_date.specs.Numbers.{int_value}
+use Rattle.gix_date.specs.SpaceWords.{is_nonempty}
+use Rattle.gix_date.specs.declared.parsing.relative.words.TimeUnit.{TimeUnit}
+use Rattle.gix_date.specs.declared.parsing.relative.words.TimeUnit.TheVariants.{Seconds, Months}
+
+-- a byte of no word
+abbrev pub is_gap : ℕ → Bool
+is_gap b = not (is_ascii_alphanumeric b)
+
+-- the longest runs of ASCII letters and digits
+unfoldable pub relative_words : List ℕ → List (List ℕ)
+relative_words text = filter is_nonempty (slice_split is_gap text)
+
+-- a word is this name, in any letter case
+abbrev pub is_name : List ℕ → List ℕ → Bool
+is_name word name = str_eq_ignore_ascii_case word name
+
+-- what `one` to `ten` count, and `last`
+unfoldable pub named_count : List ℕ → Option ℤ
+named_count word =
+    if is_name word (codes "one") then Some (pos 1)
+    else if is_name word (codes "two") then Some (pos 2)
+    else if is_name word (codes "three") then Some (pos 3)
+    else if is_name word (codes "four") then Some (pos 4)
+    else if is_name word (codes "five") then Some (pos 5)
+    else if is_name word (codes "six") then Some (pos 6)
+    else if is_name word (codes "seven") then Some (pos 7)
+    else if is_name word (codes "eight") then Some (pos 8)
+    else if is_name word (codes "nine") then Some (pos 9)
+    else if is_name word (codes "ten") then Some (pos 10)
+    else if is_name word (codes "last") then Some (pos 1)
+    else None
+
+-- what a count word counts: digits alone their number, where an i64 holds it
+unfoldable pub count_of : List ℕ → Option ℤ
+count_of word = if list_all is_ascii_digit word then int_value word else named_count word
+
+-- a period without one final `s` or `S`
+unfoldable pub singular : List ℕ → List ℕ
+singular period =
+    let last = slice_index period (length period - 1) in
+    if last == small_s || last == letter_s then take (length period - 1) period else period
+
+-- the unit of this name
+unfoldable pub named_unit : List ℕ → Option TimeUnit
+named_unit name =
+    if is_name name (codes "second") then Some (Seconds (pos 1))
+    else if is_name name (codes "minute") then Some (Seconds (pos 60))
+    else if is_name name (codes "hour") then Some (Seconds (pos 3600))
+    else if is_name name (codes "day") then Some (Seconds (pos 86_400))
+    else if is_name name (codes "week") then Some (Seconds (pos 604_800))
+    else if is_name name (codes "month") then Some (Months (pos 1))
+    else if is_name name (codes "year") then Some (Months (pos 12))
+    else None
+
+-- the unit that a period names
+unfoldable pub unit_of : List ℕ → Option TimeUnit
+unit_of period = named_unit (singular period)
+
+-- the unit that a period names, or else a second
+abbrev pub unit_or_seconds : List ℕ → TimeUnit
+unit_or_seconds period = unwrap_or (unit_of period) (Seconds (pos 1))
+
+-- the word that makes any period count as seconds
+abbrev pub is_ago : List ℕ → Bool
+is_ago word = is_name word (codes "ago")

@@ -1,0 +1,217 @@
+//! The fields of formatted dates.
+ghost use Rattle.std.specs.Prelude.{◌≡◌, ◌≤◌, ◌<◌, IfSome, option_map, option_copied};
+ghost use Rattle.std.specs.List.{prefix_len};
+ghost use Rattle.jiff.specs.Words.{IsOffsetSeconds};
+ghost use Rattle.gix_date.specs.Civil.{DateFits, ClockFits};
+ghost use Rattle.gix_date.specs.Fields.{read_view};
+ghost use Rattle.gix_date.specs.PatternFields.{is_space, behind_spaces, read_name, month_of, is_weekday, read_month, behind_weekday, read_plain_date, read_minutes, read_second, read_clock, read_mail_clock, leapless, date_answer};
+ghost use Rattle.gix_date.specs.Views.{answer_of, IsShort, name_view};
+
+use crate::parsing::answer::Answer;
+use crate::parsing::civil::{ClockFields, DateFields, civil_instant};
+use crate::parsing::fields::behind;
+use crate::parsing::numbers::{read_field, read_year};
+use crate::time::{OffsetInSeconds, Time};
+
+/// The farthest offset of a formatted date: 23:59 either way.
+const LONGEST_OFFSET: u32 = 86_340;
+
+/// What stands behind one space or more.
+#[tactic(auto, unfolding(crate::specs::PatternFields::behind_spaces))]
+pub(crate) fn behind_spaces(text: &str) -> Option<&str>
+    ensures { option_copied result ≡ behind_spaces text.now }
+{
+    let len = spaces_len(text);
+    if len == 0 {
+        return None;
+    }
+    Some(&text[len..])
+}
+
+fn spaces_len(text: &str) -> usize
+    ensures { result ≡ prefix_len is_space text.now }
+{
+    text.bytes().take_while(|b| *b == b' ').count()
+}
+
+/// Three letters at the front.
+#[tactic(auto, unfolding(crate::specs::PatternFields::read_name))]
+fn read_name(text: &str) -> Option<(&str, &str)>
+    ensures { name_view result ≡ read_name text.now }
+{
+    match text.as_bytes() {
+        [a, b, c, ..]
+            if a.is_ascii_alphabetic() && b.is_ascii_alphabetic() && c.is_ascii_alphabetic() => {
+            Some(text.split_at(3))
+        }
+        _ => None,
+    }
+}
+
+/// The month of this name, in any letter case.
+#[tactic(auto, unfolding(crate::specs::PatternFields::month_of))]
+fn month_of(name: &str) -> Option<u8>
+    ensures value { result ≡ month_of name.now }
+    ensures small { IfSome result (λ month. month < 100) }
+{
+    if name.eq_ignore_ascii_case("jan") {
+        Some(1)
+    } else if name.eq_ignore_ascii_case("feb") {
+        Some(2)
+    } else if name.eq_ignore_ascii_case("mar") {
+        Some(3)
+    } else if name.eq_ignore_ascii_case("apr") {
+        Some(4)
+    } else if name.eq_ignore_ascii_case("may") {
+        Some(5)
+    } else if name.eq_ignore_ascii_case("jun") {
+        Some(6)
+    } else if name.eq_ignore_ascii_case("jul") {
+        Some(7)
+    } else if name.eq_ignore_ascii_case("aug") {
+        Some(8)
+    } else if name.eq_ignore_ascii_case("sep") {
+        Some(9)
+    } else if name.eq_ignore_ascii_case("oct") {
+        Some(10)
+    } else if name.eq_ignore_ascii_case("nov") {
+        Some(11)
+    } else if name.eq_ignore_ascii_case("dec") {
+        Some(12)
+    } else {
+        None
+    }
+}
+
+/// Whether a day of the week has this name, in any letter case.
+#[tactic(auto, unfolding(crate::specs::PatternFields::is_weekday))]
+fn is_weekday(name: &str) -> bool
+    ensures { result ≡ is_weekday name.now }
+{
+    name.eq_ignore_ascii_case("mon")
+        || name.eq_ignore_ascii_case("tue")
+        || name.eq_ignore_ascii_case("wed")
+        || name.eq_ignore_ascii_case("thu")
+        || name.eq_ignore_ascii_case("fri")
+        || name.eq_ignore_ascii_case("sat")
+        || name.eq_ignore_ascii_case("sun")
+}
+
+/// A month's name at the front.
+#[tactic(auto, unfolding(crate::specs::PatternFields::read_month))]
+pub(crate) fn read_month(text: &str) -> Option<(u8, &str)>
+    ensures value { read_view result ≡ read_month text.now }
+    ensures small { IfSome result (λ found. found.0 < 100) }
+{
+    let (name, rest) = read_name(text)?;
+    let month = month_of(name)?;
+    Some((month, rest))
+}
+
+/// What stands behind the name of a day of the week, whichever it is: it is not compared with the date.
+#[tactic(auto, unfolding(crate::specs::PatternFields::behind_weekday))]
+pub(crate) fn behind_weekday(text: &str) -> Option<&str>
+    ensures { option_copied result ≡ behind_weekday text.now }
+{
+    let (name, rest) = read_name(text)?;
+    if is_weekday(name) { Some(rest) } else { None }
+}
+
+/// A year of four digits, and a month and a day of one or two, with `-` between them.
+#[tactic(auto, unfolding(crate::specs::PatternFields::read_plain_date))]
+pub(crate) fn read_plain_date(text: &str) -> Option<(DateFields, &str)>
+    ensures value { read_view result ≡ read_plain_date text.now }
+    ensures fits { IfSome result (λ found. DateFits found.0) }
+{
+    let (year, rest) = read_year(text)?;
+    let rest = behind('-', rest)?;
+    let (month, rest) = read_field(rest)?;
+    let rest = behind('-', rest)?;
+    let (day, rest) = read_field(rest)?;
+    Some((DateFields { year, month, day }, rest))
+}
+
+/// An hour and a minute.
+#[tactic(auto, unfolding(crate::specs::PatternFields::read_minutes))]
+fn read_minutes(text: &str) -> Option<(ClockFields, &str)>
+    ensures value { read_view result ≡ read_minutes text.now }
+    ensures fits { IfSome result (λ found. ClockFits found.0) }
+{
+    let (hour, rest) = read_field(text)?;
+    let rest = behind(':', rest)?;
+    let (minute, rest) = read_field(rest)?;
+    let second = 0;
+    Some((
+        ClockFields {
+            hour,
+            minute,
+            second,
+        },
+        rest,
+    ))
+}
+
+/// A second behind an hour and a minute. A leap second is read as the one before.
+#[tactic(auto, unfolding(crate::specs::PatternFields::read_second))]
+fn read_second(clock: ClockFields, text: &str) -> Option<(ClockFields, &str)>
+    requires { ClockFits clock }
+    ensures value { read_view result ≡ read_second clock text.now }
+    ensures fits { IfSome result (λ found. ClockFits found.0) }
+{
+    let rest = behind(':', text)?;
+    let (second, rest) = read_field(rest)?;
+    let second = leapless(second);
+    Some((ClockFields { second, ..clock }, rest))
+}
+
+/// A second, which is 59 where it is 60.
+fn leapless(second: u8) -> u8
+    requires { second < 100 }
+    ensures value { result ≡ leapless second }
+    ensures small { result < 100 }
+{
+    if second == 60 { 59 } else { second }
+}
+
+/// An hour, a minute and a second.
+#[tactic(auto, unfolding(crate::specs::PatternFields::read_clock))]
+pub(crate) fn read_clock(text: &str) -> Option<(ClockFields, &str)>
+    ensures value { read_view result ≡ read_clock text.now }
+    ensures fits { IfSome result (λ found. ClockFits found.0) }
+{
+    let (clock, rest) = read_minutes(text)?;
+    read_second(clock, rest)
+}
+
+/// An hour, a minute and a second, or else the first two.
+#[tactic(auto, unfolding(crate::specs::PatternFields::read_mail_clock))]
+pub(crate) fn read_mail_clock(text: &str) -> Option<(ClockFields, &str)>
+    ensures value { read_view result ≡ read_mail_clock text.now }
+    ensures fits { IfSome result (λ found. ClockFits found.0) }
+{
+    let (clock, rest) = read_minutes(text)?;
+    if let Some(found) = read_second(clock, rest) {
+        return Some(found);
+    }
+    Some((clock, rest))
+}
+
+/// What a formatted date answers, where there is such an instant.
+#[tactic(auto, unfolding(crate::specs::PatternFields::date_answer))]
+pub(crate) fn date_answer(
+    date: DateFields,
+    clock: ClockFields,
+    offset: OffsetInSeconds,
+) -> Option<Answer<'static>>
+    requires date { DateFits date }
+    requires clock { ClockFits clock }
+    requires offset { IsOffsetSeconds offset }
+    ensures answer { option_map answer_of result ≡ date_answer date clock offset }
+    ensures short { IfSome result IsShort }
+{
+    let seconds = civil_instant(date, clock, offset)?;
+    if offset.unsigned_abs() > LONGEST_OFFSET {
+        return Some(Answer::OffsetBeyond);
+    }
+    Some(Answer::Absolute(Time::new(seconds, offset)))
+}

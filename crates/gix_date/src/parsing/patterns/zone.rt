@@ -1,0 +1,111 @@
+//! The offsets of formatted dates. Each reader takes a whole text.
+ghost use Rattle.std.specs.Prelude.{◌≡◌, IfSome};
+ghost use Rattle.jiff.specs.Words.{IsOffsetSeconds};
+ghost use Rattle.gix_date.specs.PatternFields.{plain_zone, strict_zone, mail_zone, mail_offset, named_zone, zone_offset, last_colon_pair};
+
+use crate::parsing::fields::behind;
+use crate::parsing::numbers::{parse_two_digits, read_two_digits};
+use crate::parsing::offset::{OffsetFields, parse_offset_fields, read_sign};
+use crate::time::OffsetInSeconds;
+
+const SECONDS_PER_HOUR: i32 = 3600;
+
+/// The offset of fields: hours of at most 25, and minutes and seconds of at most 59.
+fn zone_offset(fields: OffsetFields) -> Option<OffsetInSeconds>
+    ensures value { result ≡ zone_offset fields }
+    ensures short { IfSome result (λ offset. IsOffsetSeconds offset) }
+{
+    if fields.hours <= 25 && fields.minutes <= 59 && fields.seconds.unwrap_or(0) <= 59 {
+        Some(fields.in_seconds())
+    } else {
+        None
+    }
+}
+
+/// A sign, two digits of hours, two of minutes, and perhaps two of seconds.
+#[tactic(auto, unfolding(crate::specs::PatternFields::plain_zone))]
+pub(crate) fn parse_plain_zone(text: &str) -> Option<OffsetInSeconds>
+    ensures value { result ≡ plain_zone text.now }
+    ensures short { IfSome result (λ offset. IsOffsetSeconds offset) }
+{
+    zone_offset(parse_offset_fields(text)?)
+}
+
+/// The same, with a colon between the pairs.
+#[tactic(auto, unfolding(crate::specs::PatternFields::strict_zone))]
+pub(crate) fn parse_strict_zone(text: &str) -> Option<OffsetInSeconds>
+    ensures value { result ≡ strict_zone text.now }
+    ensures short { IfSome result (λ offset. IsOffsetSeconds offset) }
+{
+    let (sign, rest) = read_sign(text)?;
+    let (hours, rest) = read_two_digits(rest)?;
+    let rest = behind(':', rest)?;
+    let (minutes, rest) = read_two_digits(rest)?;
+    let seconds = parse_last_colon_pair(rest)?;
+    zone_offset(OffsetFields {
+        sign,
+        hours,
+        minutes,
+        seconds,
+    })
+}
+
+/// Nothing more, or a colon and two digits more.
+#[tactic(auto, unfolding(crate::specs::PatternFields::last_colon_pair))]
+fn parse_last_colon_pair(text: &str) -> Option<Option<u8>>
+    ensures { result ≡ last_colon_pair text.now }
+{
+    match text.as_bytes() {
+        [] => Some(None),
+        [b':', tens, ones] => Some(Some(parse_two_digits(*tens, *ones)?)),
+        _ => None,
+    }
+}
+
+/// A sign, two digits of hours and two of minutes, or else the name of a zone.
+#[tactic(auto, unfolding(crate::specs::PatternFields::mail_zone))]
+pub(crate) fn parse_mail_zone(text: &str) -> Option<OffsetInSeconds>
+    ensures value { result ≡ mail_zone text.now }
+    ensures short { IfSome result (λ offset. IsOffsetSeconds offset) }
+{
+    if let Some(offset) = parse_mail_offset(text) {
+        return Some(offset);
+    }
+    named_zone(text)
+}
+
+/// A sign, two digits of hours and two of minutes.
+#[tactic(auto, unfolding(crate::specs::PatternFields::mail_offset))]
+fn parse_mail_offset(text: &str) -> Option<OffsetInSeconds>
+    ensures value { result ≡ mail_offset text.now }
+    ensures short { IfSome result (λ offset. IsOffsetSeconds offset) }
+{
+    let fields = parse_offset_fields(text)?;
+    if fields.seconds.is_some() {
+        return None;
+    }
+    zone_offset(fields)
+}
+
+/// The offset of a zone's name in mail, in any letter case.
+#[tactic(auto, unfolding(crate::specs::PatternFields::named_zone))]
+fn named_zone(name: &str) -> Option<OffsetInSeconds>
+    ensures value { result ≡ named_zone name.now }
+    ensures short { IfSome result (λ offset. IsOffsetSeconds offset) }
+{
+    if name.eq_ignore_ascii_case("ut") || name.eq_ignore_ascii_case("gmt") {
+        Some(0)
+    } else if name.eq_ignore_ascii_case("edt") {
+        Some(-4 * SECONDS_PER_HOUR)
+    } else if name.eq_ignore_ascii_case("est") || name.eq_ignore_ascii_case("cdt") {
+        Some(-5 * SECONDS_PER_HOUR)
+    } else if name.eq_ignore_ascii_case("cst") || name.eq_ignore_ascii_case("mdt") {
+        Some(-6 * SECONDS_PER_HOUR)
+    } else if name.eq_ignore_ascii_case("mst") || name.eq_ignore_ascii_case("pdt") {
+        Some(-7 * SECONDS_PER_HOUR)
+    } else if name.eq_ignore_ascii_case("pst") {
+        Some(-8 * SECONDS_PER_HOUR)
+    } else {
+        None
+    }
+}

@@ -1,0 +1,162 @@
+//! Steps that take a moment back in its zone.
+ghost use Rattle.std.specs.Prelude.{◌≡◌, ◌↔◌, ◌+ℤ◌, ◌-ℤ◌, pos, IfSome, IsSome};
+ghost use Rattle.std.specs.Int.{int_div_euclid, int_rem_euclid};
+ghost use Rattle.jiff.specs.Words.{plain_zone, zoned_nanos, nanos_of_seconds, KeepsZone, IsTimestampNanos, IsYear, IsYmd, IsEpochDay, IsBetween, epoch_day, month_number};
+ghost use Rattle.gix_date.specs.RelativeFields.{IsInstantOf, HasDay};
+ghost use Rattle.gix_date.specs.RelativePairs.{pair_of};
+ghost use Rattle.gix_date.specs.RelativeSteps.{IsAt, zone_of, Settles, SecondsStep, MonthsStep, PairStep, IsPicked, civil_of};
+
+use crate::parsing::relative::pairs::Pair;
+use crate::parsing::relative::words::TimeUnit;
+use jiff::civil::{Date, Time};
+use jiff::tz::TimeZone;
+use jiff::{SignedDuration, Zoned};
+
+/// The seconds of a day in which the zone's offset does not change.
+pub(crate) const SECONDS_PER_DAY: i64 = 24 * 60 * 60;
+
+const MONTHS_PER_YEAR: i64 = 12;
+
+/// What a zone's clock shows, as fields that may name a day past the end of its month.
+#[derive(Clone, Copy)]
+pub(crate) struct Fields {
+    /// Months since January of the year 0.
+    month_number: i64,
+    /// From 1 to 31.
+    day: i8,
+    time: Time,
+}
+
+impl<'a> From<Zoned<'a>> for Fields {
+    ghost use Rattle.jiff.specs.Words.{plain_zoned};
+    ghost use Rattle.gix_date.specs.RelativeFields.{AreFieldsOf};
+
+    ghost from_gives = { λ moment fields. AreFieldsOf (plain_zoned moment).datetime fields };
+
+    fn from(moment: Zoned<'a>) -> Fields {
+        Fields {
+            month_number: month_number(moment.date()),
+            day: moment.day(),
+            time: moment.time(),
+        }
+    }
+}
+
+impl Fields {
+    /// The instant that a zone chooses for the fields: the first of the month, and the day beyond it, at that time.
+    ///
+    /// In a fold it is the earlier, and in a gap it is moved later, as `jiff` does it. `None` where there is no such date or
+    /// instant.
+    fn normalize<'a>(self, zone: TimeZone<'a>) -> Option<Zoned<'a>>
+        requires { HasDay self }
+        ensures instant { IsAt (IsInstantOf (plain_zone zone.entry) self) result }
+        ensures zone { IfSome result (λ r. zone_of r ≡ plain_zone zone.entry) }
+    {
+        let first = first_of(self.month_number)?;
+        let date = roll(first, self.day)?;
+        pick(date, self.time, zone)
+    }
+}
+
+/// The moment that the zone chooses for what its clock shows.
+pub(crate) fn settle<'a>(moment: Zoned<'a>) -> Option<Zoned<'a>>
+    ensures step { IsAt (Settles (zone_of moment.entry) (zoned_nanos moment.entry)) result }
+    ensures zone { IfSome result (KeepsZone moment.entry) }
+{
+    Fields::from(moment).normalize(moment.time_zone())
+}
+
+/// A pair off a moment.
+pub(crate) fn subtract<'a>(moment: Zoned<'a>, pair: Pair) -> Option<Zoned<'a>>
+    ensures step { IsAt (PairStep (zone_of moment.entry) (pair_of pair) (zoned_nanos moment.entry)) result }
+    ensures zone { IfSome result (KeepsZone moment.entry) }
+{
+    match pair.unit {
+        TimeUnit::Seconds(size) => subtract_seconds(moment, pair.count.checked_mul(size)?),
+        TimeUnit::Months(size) => subtract_months(moment, pair.count.checked_mul(size)?),
+    }
+}
+
+/// Seconds off a moment.
+fn subtract_seconds<'a>(moment: Zoned<'a>, seconds: i64) -> Option<Zoned<'a>>
+    ensures step { IsAt (SecondsStep (zone_of moment.entry) seconds (zoned_nanos moment.entry)) result }
+    ensures zone { IfSome result (KeepsZone moment.entry) }
+{
+    settle(earlier(moment, seconds)?)
+}
+
+/// The instant so many seconds before a moment, in its zone.
+pub(crate) fn earlier<'a>(moment: Zoned<'a>, seconds: i64) -> Option<Zoned<'a>>
+    ensures some { IsSome result ↔ IsTimestampNanos (zoned_nanos moment.entry -ℤ nanos_of_seconds seconds) }
+    ensures instant { IfSome result (λ r. zoned_nanos r ≡ zoned_nanos moment.entry -ℤ nanos_of_seconds seconds) }
+    ensures zone { IfSome result (KeepsZone moment.entry) }
+{
+    match moment
+        .timestamp()
+        .checked_sub(SignedDuration::from_secs(seconds))
+    {
+        Ok(instant) => Some(instant.to_zoned(moment.time_zone())),
+        Err(_) => None,
+    }
+}
+
+/// Months off a moment: its day and time stay, so that a day past the end of a month falls into the next.
+fn subtract_months<'a>(moment: Zoned<'a>, months: i64) -> Option<Zoned<'a>>
+    ensures step { IsAt (MonthsStep (zone_of moment.entry) months (zoned_nanos moment.entry)) result }
+    ensures zone { IfSome result (KeepsZone moment.entry) }
+{
+    let fields = Fields::from(moment);
+    let month_number = fields.month_number.checked_sub(months)?;
+    Fields {
+        month_number,
+        ..fields
+    }
+    .normalize(moment.time_zone())
+}
+
+/// The months from January of the year 0 to a date's.
+fn month_number(date: Date) -> i64
+    ensures { result ≡ month_number date }
+{
+    date.year() as i64 * MONTHS_PER_YEAR + date.month() as i64 - 1
+}
+
+/// The first day of a month.
+fn first_of(month_number: i64) -> Option<Date>
+    ensures some { IsSome result ↔ IsYear (int_div_euclid month_number (pos 12)) }
+    ensures value { IfSome result (IsYmd (int_div_euclid month_number (pos 12))
+        (int_rem_euclid month_number (pos 12) +ℤ pos 1) (pos 1)) }
+{
+    let Ok(year) = i16::try_from(month_number.div_euclid(MONTHS_PER_YEAR)) else {
+        return None;
+    };
+    let month = (month_number.rem_euclid(MONTHS_PER_YEAR) + 1) as i8;
+    match Date::new(year, month, 1) {
+        Ok(first) => Some(first),
+        Err(_) => None,
+    }
+}
+
+/// A day that counts from the first of a month, and may lie past its end.
+fn roll(first: Date, day: i8) -> Option<Date>
+    requires { IsBetween (pos 1) (pos 31) day }
+    ensures some { IsSome result ↔ IsEpochDay (epoch_day first +ℤ (day -ℤ pos 1)) }
+    ensures value { IfSome result (λ d. epoch_day d ≡ epoch_day first +ℤ (day -ℤ pos 1)) }
+{
+    let beyond = SignedDuration::from_secs((day as i64 - 1) * SECONDS_PER_DAY);
+    match first.checked_add(beyond) {
+        Ok(date) => Some(date),
+        Err(_) => None,
+    }
+}
+
+/// The instant that a zone chooses for a date and a time of day.
+fn pick<'a>(date: Date, time: Time, zone: TimeZone<'a>) -> Option<Zoned<'a>>
+    ensures instant { IsAt (IsPicked (plain_zone zone.entry) (civil_of (epoch_day date) time)) result }
+    ensures zone { IfSome result (λ r. zone_of r ≡ plain_zone zone.entry) }
+{
+    match date.to_datetime(time).to_zoned(zone) {
+        Ok(moment) => Some(moment),
+        Err(_) => None,
+    }
+}

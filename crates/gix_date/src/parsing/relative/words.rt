@@ -1,0 +1,175 @@
+//! The words of a relative text: what each counts, and which unit it names.
+ghost use Rattle.std.specs.Prelude.{◌≡◌, ◌∷◌, [], ◌<◌, length, IfSome, MatchOption, drop};
+ghost use Rattle.std.specs.List.{prefix_len, list_all};
+ghost use Rattle.std.specs.Char.{is_ascii_alphanumeric, is_ascii_digit};
+ghost use Rattle.gix_date.specs.RelativeWords.{relative_words, is_gap, count_of, named_count, singular, named_unit, unit_of, is_ago};
+ghost use Rattle.gix_date.specs.Roles.{is_count_word, has_unit};
+
+use crate::parsing::numbers::parse_int;
+
+/// A unit, and how one of it is taken off an instant.
+#[derive(Debug, Clone, Copy)]
+pub(crate) enum TimeUnit {
+    /// So many seconds.
+    Seconds(i64),
+    /// So many months of the calendar.
+    Months(i64),
+}
+
+/// The first word of a text, and what stands behind it. A word is a longest run of ASCII letters and digits.
+pub(crate) fn next_word(text: &str) -> Option<(&str, &str)>
+    ensures words { MatchOption result (relative_words text.now ≡ [])
+        (λ found. relative_words text.now ≡ found.0.now ∷ relative_words found.1.now) }
+    ensures shorter { IfSome result (λ found. length found.1.now < length text.now) }
+{
+    let from = skip_gap(text);
+    let len = word_len(from);
+    if len == 0 {
+        return None;
+    }
+    Some(from.split_at(len))
+}
+
+/// The text from its first word on.
+fn skip_gap(text: &str) -> &str
+    ensures { result.now ≡ drop (prefix_len is_gap text.now) text.now }
+{
+    &text[gap_len(text)..]
+}
+
+/// How many bytes stand before the first word.
+fn gap_len(text: &str) -> usize
+    ensures { result ≡ prefix_len is_gap text.now }
+{
+    text.bytes()
+        .take_while(|b| !b.is_ascii_alphanumeric())
+        .count()
+}
+
+/// How many bytes the word has that stands first.
+fn word_len(text: &str) -> usize
+    ensures { result ≡ prefix_len is_ascii_alphanumeric text.now }
+{
+    text.bytes()
+        .take_while(|b| b.is_ascii_alphanumeric())
+        .count()
+}
+
+/// What a count word counts: digits whose number an `i64` holds, or in any letter case `one` to `ten`, and `last`, which is 1.
+#[tactic(auto, unfolding(crate::specs::RelativeWords::count_of))]
+pub(crate) fn count_of(word: &str) -> Option<i64>
+    ensures { result ≡ count_of word.now }
+{
+    if is_number(word) {
+        parse_int(word)
+    } else {
+        named_count(word)
+    }
+}
+
+/// Whether a word is digits alone, so that no sign is read as part of a number.
+fn is_number(word: &str) -> bool
+    ensures { result ≡ list_all is_ascii_digit word.now }
+{
+    word.bytes().all(|b| b.is_ascii_digit())
+}
+
+/// What `one` to `ten` count, and `last`.
+#[tactic(auto, unfolding(crate::specs::RelativeWords::named_count))]
+fn named_count(word: &str) -> Option<i64>
+    ensures { result ≡ named_count word.now }
+{
+    if word.eq_ignore_ascii_case("one") {
+        Some(1)
+    } else if word.eq_ignore_ascii_case("two") {
+        Some(2)
+    } else if word.eq_ignore_ascii_case("three") {
+        Some(3)
+    } else if word.eq_ignore_ascii_case("four") {
+        Some(4)
+    } else if word.eq_ignore_ascii_case("five") {
+        Some(5)
+    } else if word.eq_ignore_ascii_case("six") {
+        Some(6)
+    } else if word.eq_ignore_ascii_case("seven") {
+        Some(7)
+    } else if word.eq_ignore_ascii_case("eight") {
+        Some(8)
+    } else if word.eq_ignore_ascii_case("nine") {
+        Some(9)
+    } else if word.eq_ignore_ascii_case("ten") {
+        Some(10)
+    } else if word.eq_ignore_ascii_case("last") {
+        Some(1)
+    } else {
+        None
+    }
+}
+
+/// Whether a word counts.
+#[tactic(auto, unfolding(crate::specs::Roles::is_count_word))]
+pub(crate) fn is_count_word(word: &str) -> bool
+    ensures { result ≡ is_count_word word.now }
+{
+    count_of(word).is_some()
+}
+
+/// The unit that a period names in any letter case, one final `s` aside.
+#[tactic(auto, unfolding(crate::specs::RelativeWords::unit_of))]
+pub(crate) fn unit_of(period: &str) -> Option<TimeUnit>
+    ensures { result ≡ unit_of period.now }
+{
+    named_unit(singular(period))
+}
+
+/// A period without one final `s` or `S`.
+fn singular(period: &str) -> &str
+    ensures { result.now ≡ singular period.now }
+{
+    if period.ends_with('s') {
+        return &period[..period.len() - 1];
+    }
+    if period.ends_with('S') {
+        return &period[..period.len() - 1];
+    }
+    period
+}
+
+/// The unit of this name.
+#[tactic(auto, unfolding(crate::specs::RelativeWords::named_unit))]
+fn named_unit(name: &str) -> Option<TimeUnit>
+    ensures { result ≡ named_unit name.now }
+{
+    if name.eq_ignore_ascii_case("second") {
+        Some(TimeUnit::Seconds(1))
+    } else if name.eq_ignore_ascii_case("minute") {
+        Some(TimeUnit::Seconds(60))
+    } else if name.eq_ignore_ascii_case("hour") {
+        Some(TimeUnit::Seconds(60 * 60))
+    } else if name.eq_ignore_ascii_case("day") {
+        Some(TimeUnit::Seconds(24 * 60 * 60))
+    } else if name.eq_ignore_ascii_case("week") {
+        Some(TimeUnit::Seconds(7 * 24 * 60 * 60))
+    } else if name.eq_ignore_ascii_case("month") {
+        Some(TimeUnit::Months(1))
+    } else if name.eq_ignore_ascii_case("year") {
+        Some(TimeUnit::Months(12))
+    } else {
+        None
+    }
+}
+
+/// Whether a period names a unit.
+#[tactic(auto, unfolding(crate::specs::Roles::has_unit))]
+pub(crate) fn has_unit(period: &str) -> bool
+    ensures { result ≡ has_unit period.now }
+{
+    unit_of(period).is_some()
+}
+
+/// Whether a word is `ago`, in any letter case.
+pub(crate) fn is_ago(word: &str) -> bool
+    ensures { result ≡ is_ago word.now }
+{
+    word.eq_ignore_ascii_case("ago")
+}

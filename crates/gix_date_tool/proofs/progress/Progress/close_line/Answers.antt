@@ -1,0 +1,26 @@
+use Rattle.std.proofs.Common.{refl, subst}
+use Rattle.gix_date_tool.specs.Outbox.{output, Puts, PutsProperPrefix}
+use Rattle.gix_date_tool.specs.Replies.{IsReply}
+use Rattle.gix_date_tool.proofs.Taking.{Replied-one}
+use Rattle.gix_date_tool.proofs.progress.Progress.close_line.Goals as goal
+
+pub returns-in-Err-push_to : goal.returns-in-Err-push_to
+returns-in-Err-push_to g c =
+    let asked = c.args.self.now.asked in
+    let line = c.args.self.now.line.items in
+    let before = output c.args.self.now.outbox (g.W.Sink.known c.args.writer.now) in
+    let after = output c.push_to.new.outbox (g.W.Sink.known c.push_to.new.out) in
+    let is = subst (λ bytes. IsReply asked bytes c.in-Ok.reply) c.as_slice.ensures.value c.in-Ok.ensures.is in
+    Replied-one {Is = λ text. PutsProperPrefix before after text c.in-Err-push_to.kind} asked line c.in-Ok.reply is c.in-Err-push_to.ensures
+
+pub returns : goal.returns
+returns g c =
+    let asked = c.args.self.now.asked in
+    let line = c.args.self.now.line.items in
+    let before = output c.args.self.now.outbox (g.W.Sink.known c.args.writer.now) in
+    let after = output c.push_to.new.outbox (g.W.Sink.known c.push_to.new.out) in
+    let is = subst (λ bytes. IsReply asked bytes c.in-Ok.reply) c.as_slice.ensures.value c.in-Ok.ensures.is in
+    record {
+      same = rw c.clear.ensures.items refl;
+      put = Replied-one {Is = Puts before after} asked line c.in-Ok.reply is c.in_default.ensures;
+    }

@@ -1,0 +1,4 @@
+use Rattle.gix_date_vectors.proofs.caller.date_typed.Goals as goal
+
+pub returns-clause-typed : goal.returns-clause-typed
+returns-clause-typed c = λ h. (c.in_ok-moment.moment, c.in_ok-moment.ensures.value, c.parse.ensures.comes)
