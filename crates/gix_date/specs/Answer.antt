@@ -6,7 +6,7 @@ use Rattle.gix_date.specs.declared.time.Time.{Time}
 pub data FamilyAnswer : Type 0 where
   -- a time, whatever the moment
   Absolute : Time → FamilyAnswer
-  -- a formatted date whose offset is of 24 hours or more
+  -- a formatted date whose offset is above 23:59
   OffsetBeyond : FamilyAnswer
   -- a day whose midnight is no instant
   InstantBeyond : FamilyAnswer

@@ -223,7 +223,7 @@ pub(crate) const NAMES: [(&str, &str, i64, i32); 29] = [
     ("each-zone", "18 Aug 2022 12:45 pSt", 1_660_855_500, -28_800),
 ];
 
-/// Texts that no family holds, or whose offset is of 24 hours or more.
+/// Texts that no family holds, or whose offset is above 23:59.
 const UNKNOWN: [&str; 40] = [
     "2023-02-30",
     "2023-13-01",

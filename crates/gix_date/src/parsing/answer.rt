@@ -7,7 +7,7 @@ use crate::time::Time;
 pub(crate) enum Answer<'a> {
     /// A time, whatever the moment.
     Absolute(Time),
-    /// Nothing: a formatted date whose offset is of 24 hours or more.
+    /// Nothing: a formatted date whose offset is above 23:59.
     OffsetBeyond,
     /// Nothing: a day whose midnight is no instant.
     InstantBeyond,

@@ -45,8 +45,8 @@ const LEAST_EPOCH: i64 = 100_000_000;
 ///     (`1660874655 +0800`).
 ///
 /// In 2 to 7 a year has four digits, and the other fields of date and clock one or two; names are in any letter case, and the
-/// weekday is not compared with the date; a leap second is read as the one before. In 2 to 9 the day has to exist and `jiff` to
-/// have the instant.
+/// weekday is not compared with the date; a leap second is read as the one before. In 2 to 7 and in 9 the day has to exist, and in
+/// 3 to 7 and in 9 `jiff` has to have the instant.
 ///
 /// Seconds count from 1970-01-01 00:00:00 UTC, and have the offset 0 where none is written.
 ///
