@@ -1,5 +1,9 @@
 pub mod KnownBytes
 pub mod AsciiCuts
+pub mod FieldsRead
+pub mod FamiliesRead
+pub mod FieldsTaken
+pub mod FamiliesTaken
 pub mod WordSteps
 pub mod RelativeWordSteps
 pub mod RelativeCounts

@@ -24,6 +24,8 @@ pub mod Relative
 pub mod Answer
 pub mod PatternFields
 pub mod Patterns
+pub mod FieldTexts
+pub mod Spelled
 pub mod Families
 pub mod Views
 pub mod Zoned

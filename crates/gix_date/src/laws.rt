@@ -1,8 +1,9 @@
 //! Laws, each the contract of a function that does nothing.
-ghost use Rattle.std.specs.Prelude.{◌≡◌, ◌↔◌, ◌++◌, pos, neg_ℤ, length, IfSome, IsTrue};
+ghost use Rattle.std.specs.Prelude.{◌≡◌, ◌↔◌, ◌++◌, List, ℕ, Some, pos, neg_ℤ, length, IfSome, IsTrue};
 ghost use Rattle.std.specs.declared.cmp.Ordering.TheVariants.{Equal};
 ghost use Rattle.std.specs.Hash as fed;
 ghost use Rattle.std.specs.Ordering.{int_cmp, on, then_cmp};
+ghost use Rattle.gix_date.specs.Answer.{FamilyAnswer};
 ghost use Rattle.gix_date.specs.HeaderText.{header_text};
 ghost use Rattle.gix_date.specs.Relative.{RelativeDate, IsNamed};
 ghost use Rattle.gix_date.specs.TimeBuf.{text_in};
@@ -10,6 +11,8 @@ ghost use Rattle.gix_date.specs.declared.parsing.function.TheConstants.{LEAST_EP
 ghost use Rattle.gix_date.specs.declared.parsing.raw.TheConstants.{MOST_HOURS};
 ghost use Rattle.jiff.specs.declared.zoned.Zoned.{Zoned};
 ghost use Rattle.gix_date.specs.declared.time.write.TheConstants.{HUNDRED_HOURS, LONGEST_TEXT};
+ghost use Rattle.gix_date.specs.Patterns.{short_answer, rfc2822_answer, iso8601_answer, iso8601_strict_answer, gitoxide_answer, default_answer};
+ghost use Rattle.gix_date.specs.Spelled.{IsAnswered, IsDayAnswered, IsMailDate, IsIso8601, IsIso8601Strict, IsGitoxideDate, IsDefaultDate};
 
 use crate::parsing::TimeBuf;
 use crate::time::Time;
@@ -59,4 +62,15 @@ pub fn hash()
 /// A relative date names one time at most, from each moment.
 pub fn named_once()
     ensures { (date : RelativeDate) (moment : Zoned) (a b : Time) → IsNamed date moment a → IsNamed date moment b → a ≡ b }
+{}
+
+/// A formatted date is the texts of its fields, one behind the other: what a family of them answers is what the fields say, and a
+/// text that is so written is of that family.
+pub fn spelled()
+    ensures day { (text : List ℕ) (answer : FamilyAnswer) → (short_answer text ≡ Some answer) ↔ IsDayAnswered text answer }
+    ensures mail { (text : List ℕ) (answer : FamilyAnswer) → (rfc2822_answer text ≡ Some answer) ↔ IsAnswered IsMailDate text answer }
+    ensures iso8601 { (text : List ℕ) (answer : FamilyAnswer) → (iso8601_answer text ≡ Some answer) ↔ IsAnswered IsIso8601 text answer }
+    ensures strict { (text : List ℕ) (answer : FamilyAnswer) → (iso8601_strict_answer text ≡ Some answer) ↔ IsAnswered IsIso8601Strict text answer }
+    ensures gitoxide { (text : List ℕ) (answer : FamilyAnswer) → (gitoxide_answer text ≡ Some answer) ↔ IsAnswered IsGitoxideDate text answer }
+    ensures by_default { (text : List ℕ) (answer : FamilyAnswer) → (default_answer text ≡ Some answer) ↔ IsAnswered IsDefaultDate text answer }
 {}

@@ -1,0 +1,266 @@
+-- Fields that are written so are read.
+use Rattle.std.proofs.Common.{◌≡◌, ◌∙◌, ℕ, Bool, true, false, List, [], ◌∷◌, ◌++◌, length, drop, refl, ap, sym, subst, Option, Some, None, append_assoc, arith, ℤ, inl, inr}
+use Rattle.std.proofs.lemmas.Bool.Decides.{nat_tests}
+use Rattle.std.specs.Prelude.{◌==◌, ◌&&◌, nat_lt}
+use Rattle.std.specs.Char.{is_ascii_digit, is_ascii_alphabetic}
+use Rattle.std.specs.List.{prefix_len, list_all}
+use Rattle.gix_date.specs.Characters.{plus, minus, comma, colon, space}
+use Rattle.gix_date.specs.FieldTexts.{IsField, IsYear, AreSpaces, AreThreeLetters, IsDayName, IsMonthName, IsPlainDate, IsClock, IsMailClock, IsDayPrefix}
+use Rattle.gix_date.specs.Fields.{behind}
+use Rattle.gix_date.specs.Numbers.{read_two_digits, read_digit, read_field, read_year}
+use Rattle.gix_date.specs.Offsets.{offset_fields, read_sign}
+use Rattle.gix_date.specs.PatternFields.{is_space, behind_spaces, read_name, read_month, behind_weekday, read_plain_date, read_minutes, read_second, read_clock, read_mail_clock, plain_zone, strict_zone, mail_zone, mail_offset, named_zone}
+use Rattle.gix_date.specs.Patterns.{behind_day_name}
+use Rattle.gix_date.specs.declared.parsing.civil.ClockFields.{ClockFields}
+use Rattle.gix_date.specs.declared.parsing.civil.DateFields.{DateFields}
+
+-- What begins with such a character, and what does not begin with one.
+abbrev pub Begins : (ℕ → Bool) → List ℕ → Type 0
+Begins test [] = ⊥
+Begins test (c ∷ t) = test c ≡ true
+
+abbrev pub BeginsNot : (ℕ → Bool) → List ℕ → Type 0
+BeginsNot test [] = Unit {0}
+BeginsNot test (c ∷ t) = test c ≡ false
+
+pub begins-append : (test : ℕ → Bool) (t rest : List ℕ) → Begins test t → Begins test (t ++ rest)
+begins-append test [] rest h = absurd h
+begins-append test (c ∷ t) rest h = h
+
+-- a test that fails wherever another holds
+abbrev pub Excludes : (ℕ → Bool) → (ℕ → Bool) → Type 0
+Excludes one other = (c : ℕ) → one c ≡ true → other c ≡ false
+
+pub begins_not : (one other : ℕ → Bool) (t : List ℕ) → Excludes one other → Begins one t → BeginsNot other t
+begins_not one other [] x h = absurd h
+begins_not one other (c ∷ t) x h = x c h
+
+pub digit-no-space : Excludes is_ascii_digit is_space
+digit-no-space c h = grind (arith, nat_tests, h)
+
+pub letter-no-space : Excludes is_ascii_alphabetic is_space
+letter-no-space c h = grind (arith, nat_tests, h)
+
+pub letter-no-digit : Excludes is_ascii_alphabetic is_ascii_digit
+letter-no-digit c h = grind (arith, nat_tests, h)
+
+pub space-no-digit : Excludes is_space is_ascii_digit
+space-no-digit c h = grind (arith, nat_tests, h)
+
+pub digit-no-letter : Excludes is_ascii_digit is_ascii_alphabetic
+digit-no-letter c h = grind (arith, nat_tests, h)
+
+pub field-begins : (t : List ℕ) (n : ℕ) → IsField t n → Begins is_ascii_digit t
+field-begins [] n h = absurd h
+field-begins (a ∷ []) n h = h.0
+field-begins (a ∷ b ∷ []) n h = h.0
+field-begins (a ∷ b ∷ c ∷ t) n h = absurd h
+
+pub year-begins : (t : List ℕ) (n : ℕ) → IsYear t n → Begins is_ascii_digit t
+year-begins [] n h = absurd h
+year-begins (a ∷ []) n h = absurd h
+year-begins (a ∷ b ∷ []) n h = absurd h
+year-begins (a ∷ b ∷ c ∷ []) n h = absurd h
+year-begins (a ∷ b ∷ c ∷ d ∷ []) n h = h.0
+year-begins (a ∷ b ∷ c ∷ d ∷ e ∷ t) n h = absurd h
+
+both : (a b : Bool) → (a && b) ≡ true → (a ≡ true) × (b ≡ true)
+both true true h = (refl, refl)
+both true false h = absurd cc
+both false b h = absurd cc
+
+pub name-begins : (t : List ℕ) → AreThreeLetters t → Begins is_ascii_alphabetic t
+name-begins [] h = absurd h
+name-begins (a ∷ []) h = absurd h
+name-begins (a ∷ b ∷ []) h = absurd h
+name-begins (a ∷ b ∷ c ∷ []) h = (both (is_ascii_alphabetic a) (is_ascii_alphabetic b) ((both (is_ascii_alphabetic a && is_ascii_alphabetic b) (is_ascii_alphabetic c) h).0)).0
+name-begins (a ∷ b ∷ c ∷ d ∷ t) h = absurd h
+
+pub spaces-begin : (t : List ℕ) → AreSpaces t → Begins is_space t
+spaces-begin [] h = absurd h
+spaces-begin (c ∷ t) h = h.0
+
+found : ℕ → List ℕ → Option (ℕ × List ℕ)
+found n rest = Some (n, rest)
+
+pub field-read : (t rest : List ℕ) (n : ℕ) → IsField t n → BeginsNot is_ascii_digit rest → read_field (t ++ rest) ≡ Some (n, rest)
+unfolding read_field read_two_digits read_digit found
+field-read [] rest n h s = absurd h
+field-read (a ∷ []) [] n h s = rw h.0 (ap (λ k. found k []) (sym h.1))
+field-read (a ∷ []) (c ∷ rs) n h s = rw (h.0, s) (ap (λ k. found k (c ∷ rs)) (sym h.1))
+field-read (a ∷ b ∷ []) rest n h s = rw (h.0, h.1) (ap (λ k. found k rest) (sym h.2))
+field-read (a ∷ b ∷ c ∷ t) rest n h s = absurd h
+
+pub year-read : (t rest : List ℕ) (n : ℕ) → IsYear t n → read_year (t ++ rest) ≡ Some (n, rest)
+unfolding read_year read_two_digits found
+year-read (a ∷ b ∷ c ∷ d ∷ []) rest n h = rw (h.0, h.1, h.2, h.3) (ap (λ k. found k rest) (sym h.4))
+year-read [] rest n h = absurd h
+year-read (a ∷ []) rest n h = absurd h
+year-read (a ∷ b ∷ []) rest n h = absurd h
+year-read (a ∷ b ∷ c ∷ []) rest n h = absurd h
+year-read (a ∷ b ∷ c ∷ d ∷ e ∷ t) rest n h = absurd h
+
+spaces_len : (gap rest : List ℕ) → list_all is_space gap ≡ true → BeginsNot is_space rest → prefix_len is_space (gap ++ rest) ≡ length gap
+spaces_len [] [] h s = refl
+spaces_len [] (c ∷ t) h s = rw s refl
+spaces_len (c ∷ gap) rest h s =
+    let parts = both (is_space c) (list_all is_space gap) h in
+    rw parts.0 (omega (arith, spaces_len gap rest parts.1 s))
+
+drop_front : (front rest : List ℕ) → drop (length front) (front ++ rest) ≡ rest
+drop_front [] rest = refl
+drop_front (c ∷ front) rest = drop_front front rest
+
+pub spaces-read : (gap rest : List ℕ) → AreSpaces gap → BeginsNot is_space rest → behind_spaces (gap ++ rest) ≡ Some rest
+unfolding behind_spaces
+spaces-read [] rest h s = absurd h
+spaces-read (c ∷ gap) rest h s =
+    let len : prefix_len is_space ((c ∷ gap) ++ rest) ≡ length (c ∷ gap) = spaces_len (c ∷ gap) rest (rw h.0 h.1) s in
+    let some : nat_lt 0 (length (c ∷ gap)) ≡ true = grind (arith, nat_tests) in
+    rw (len, some) (ap Some (drop_front gap rest))
+
+pub name-read : (t rest : List ℕ) → AreThreeLetters t → read_name (t ++ rest) ≡ Some (t, rest)
+unfolding read_name
+name-read [] rest h = absurd h
+name-read (a ∷ []) rest h = absurd h
+name-read (a ∷ b ∷ []) rest h = absurd h
+name-read (a ∷ b ∷ c ∷ []) rest h = rw h refl
+name-read (a ∷ b ∷ c ∷ d ∷ t) rest h = absurd h
+
+pub month-read : (t rest : List ℕ) (month : ℕ) → IsMonthName t month → read_month (t ++ rest) ≡ Some (month, rest)
+unfolding read_month
+month-read t rest month h = rw (name-read t rest h.0, h.1) refl
+
+pub weekday-read : (t rest : List ℕ) → IsDayName t → behind_weekday (t ++ rest) ≡ Some rest
+unfolding behind_weekday
+weekday-read t rest h = rw (name-read t rest h.0, h.1) refl
+
+pub date-read : (t rest : List ℕ) (date : DateFields) → IsPlainDate t date → BeginsNot is_ascii_digit rest → read_plain_date (t ++ rest) ≡ Some (date, rest)
+unfolding read_plain_date behind
+date-read t rest date h s =
+    let split : t ++ rest ≡ h.year ++ (minus ∷ (h.month ++ (minus ∷ (h.day ++ rest)))) = rw h.whole (simp append_assoc) in
+    ap read_plain_date split ∙ rw (year-read h.year (minus ∷ (h.month ++ (minus ∷ (h.day ++ rest)))) date.year h.is_year, field-read h.month (minus ∷ (h.day ++ rest)) date.month h.is_month refl, field-read h.day rest date.day h.is_day s) refl
+
+pub prefix-read : (t rest : List ℕ) → IsDayPrefix t → BeginsNot is_space rest → behind_day_name (t ++ rest) ≡ Some rest
+unfolding behind_day_name behind
+prefix-read t rest h s =
+    let split : t ++ rest ≡ h.name ++ (comma ∷ (h.gap ++ rest)) = rw h.whole (simp append_assoc) in
+    ap behind_day_name split ∙ rw (weekday-read h.name (comma ∷ (h.gap ++ rest)) h.is_name, spaces-read h.gap rest h.are_spaces s) refl
+
+-- no name of a day stands before a digit
+pub no-prefix : (t : List ℕ) → Begins is_ascii_digit t → behind_day_name t ≡ None
+unfolding behind_day_name behind_weekday read_name
+no-prefix [] h = absurd h
+no-prefix (a ∷ []) h = refl
+no-prefix (a ∷ b ∷ []) h = refl
+no-prefix (a ∷ b ∷ c ∷ t) h = rw (digit-no-letter a h) refl
+
+abbrev minutes : ℕ → ℕ → ClockFields
+minutes hour minute = record { hour = hour; minute = minute; second = 0 }
+
+with_second : ℕ → ℕ → List ℕ → ℕ → Option (ClockFields × List ℕ)
+with_second hour minute rest second = Some (record { hour = hour; minute = minute; second = second }, rest)
+
+pub clock-read : (t rest : List ℕ) (clock : ClockFields) → IsClock t clock → BeginsNot is_ascii_digit rest → read_clock (t ++ rest) ≡ Some (clock, rest)
+unfolding read_clock read_minutes read_second behind with_second
+clock-read t rest clock h s =
+    let split : t ++ rest ≡ h.hour ++ (colon ∷ (h.minute ++ (colon ∷ (h.second ++ rest)))) = rw h.whole (simp append_assoc) in
+    ap read_clock split ∙ rw (field-read h.hour (colon ∷ (h.minute ++ (colon ∷ (h.second ++ rest)))) clock.hour h.is_hour refl, field-read h.minute (colon ∷ (h.second ++ rest)) clock.minute h.is_minute refl, field-read h.second rest h.seconds h.is_second s)
+    (ap (with_second clock.hour clock.minute rest) (sym h.without_leap))
+
+-- what no second stands behind
+abbrev pub NoColon : List ℕ → Type 0
+NoColon t = BeginsNot (λ c. c == colon) t
+
+no-second : (clock : ClockFields) (t : List ℕ) → NoColon t → read_second clock t ≡ None
+unfolding read_second behind
+no-second clock [] h = refl
+no-second clock (c ∷ t) h = rw h refl
+
+second-read : {t : List ℕ} {clock : ClockFields} (h : IsClock t clock) (rest : List ℕ) → BeginsNot is_ascii_digit rest → read_second (minutes clock.hour clock.minute) (colon ∷ (h.second ++ rest)) ≡ Some (clock, rest)
+unfolding read_second behind with_second
+second-read {clock = clock} h rest s = rw (field-read h.second rest h.seconds h.is_second s) (ap (with_second clock.hour clock.minute rest) (sym h.without_leap))
+
+pub mail-clock-read : (t rest : List ℕ) (clock : ClockFields) → IsMailClock t clock → BeginsNot is_ascii_digit rest → NoColon rest → read_mail_clock (t ++ rest) ≡ Some (clock, rest)
+unfolding read_mail_clock read_minutes behind with_second
+mail-clock-read t rest clock (inl h) s e =
+    let split : t ++ rest ≡ h.hour ++ (colon ∷ (h.minute ++ (colon ∷ (h.second ++ rest)))) = rw h.whole (simp append_assoc) in
+    let second : read_second (minutes clock.hour clock.minute) (colon ∷ (h.second ++ rest)) ≡ Some (clock, rest) = second-read h rest s in
+    ap read_mail_clock split ∙ rw (field-read h.hour (colon ∷ (h.minute ++ (colon ∷ (h.second ++ rest)))) clock.hour h.is_hour refl, field-read h.minute (colon ∷ (h.second ++ rest)) clock.minute h.is_minute refl, second) refl
+mail-clock-read t rest clock (inr h) s e =
+    let split : t ++ rest ≡ h.hour ++ (colon ∷ (h.minute ++ rest)) = rw h.whole (simp append_assoc) in
+    ap read_mail_clock split ∙ rw (field-read h.hour (colon ∷ (h.minute ++ rest)) clock.hour h.is_hour refl, field-read h.minute rest clock.minute h.is_minute s, no-second (minutes clock.hour clock.minute) rest e)
+    (ap (with_second clock.hour clock.minute rest) (sym h.at_its_start))
+
+is-space : (c : ℕ) → is_space c ≡ true → c ≡ space
+is-space c h = grind (arith, nat_tests, h)
+
+-- no offset begins with a space
+space_no_plain : (t : List ℕ) → plain_zone (space ∷ t) ≡ None
+unfolding plain_zone offset_fields read_sign behind
+space_no_plain t = refl
+
+space_no_mail : (t : List ℕ) → mail_zone (space ∷ t) ≡ None
+unfolding mail_zone mail_offset named_zone offset_fields read_sign behind
+space_no_mail t = refl
+
+never : (zone : List ℕ → Option ℤ) (c : ℕ) (t : List ℕ) (offset : ℤ) (b : Bool) → ((t : List ℕ) → zone (space ∷ t) ≡ None) → is_space c ≡ b → zone (c ∷ t) ≡ Some offset → b ≡ false
+never zone c t offset false refused e h = refl
+never zone c t offset true refused e h =
+    let none : zone (c ∷ t) ≡ None = ap (λ k. zone (k ∷ t)) (is-space c e) ∙ refused t in
+    let clash : None ≡ Some offset = sym none ∙ h in cc
+
+zone-no-space : (zone : List ℕ → Option ℤ) → ((t : List ℕ) → zone (space ∷ t) ≡ None) → (t : List ℕ) (offset : ℤ) → zone t ≡ Some offset → BeginsNot is_space t
+zone-no-space zone refused [] offset h = tt
+zone-no-space zone refused (c ∷ t) offset h = never zone c t offset (is_space c) refused refl h
+
+pub plain-no-space : (t : List ℕ) (offset : ℤ) → plain_zone t ≡ Some offset → BeginsNot is_space t
+plain-no-space = zone-no-space plain_zone space_no_plain
+
+pub mail-no-space : (t : List ℕ) (offset : ℤ) → mail_zone t ≡ Some offset → BeginsNot is_space t
+mail-no-space = zone-no-space mail_zone space_no_mail
+
+-- nor with a digit
+digit_no_strict : (c : ℕ) (t : List ℕ) → is_ascii_digit c ≡ true → strict_zone (c ∷ t) ≡ None
+unfolding strict_zone read_sign behind
+digit_no_strict c t h =
+    let no_plus : (c == plus) ≡ false = grind (arith, nat_tests, h) in
+    let no_minus : (c == minus) ≡ false = grind (arith, nat_tests, h) in
+    rw (no_plus, no_minus) refl
+
+never-digit : (c : ℕ) (t : List ℕ) (offset : ℤ) (b : Bool) → is_ascii_digit c ≡ b → strict_zone (c ∷ t) ≡ Some offset → b ≡ false
+never-digit c t offset false e h = refl
+never-digit c t offset true e h =
+    let clash : None ≡ Some offset = sym (digit_no_strict c t e) ∙ h in cc
+
+pub strict-no-digit : (t : List ℕ) (offset : ℤ) → strict_zone t ≡ Some offset → BeginsNot is_ascii_digit t
+strict-no-digit [] offset h = tt
+strict-no-digit (c ∷ t) offset h = never-digit c t offset (is_ascii_digit c) refl h
+
+-- what a clock or a date begins with
+pub clock-begins : (t rest : List ℕ) (clock : ClockFields) → IsClock t clock → Begins is_ascii_digit (t ++ rest)
+clock-begins t rest clock h =
+    let split : t ++ rest ≡ h.hour ++ (colon ∷ (h.minute ++ (colon ∷ (h.second ++ rest)))) = rw h.whole (simp append_assoc) in
+    subst (Begins is_ascii_digit) (sym split) (begins-append is_ascii_digit h.hour (colon ∷ (h.minute ++ (colon ∷ (h.second ++ rest)))) (field-begins h.hour clock.hour h.is_hour))
+
+pub mail-clock-begins : (t rest : List ℕ) (clock : ClockFields) → IsMailClock t clock → Begins is_ascii_digit (t ++ rest)
+mail-clock-begins t rest clock (inl h) = clock-begins t rest clock h
+mail-clock-begins t rest clock (inr h) =
+    let split : t ++ rest ≡ h.hour ++ (colon ∷ (h.minute ++ rest)) = rw h.whole (simp append_assoc) in
+    subst (Begins is_ascii_digit) (sym split) (begins-append is_ascii_digit h.hour (colon ∷ (h.minute ++ rest)) (field-begins h.hour clock.hour h.is_hour))
+
+-- what may stand behind spaces, and behind a field
+pub digit-front : (t rest : List ℕ) → Begins is_ascii_digit t → BeginsNot is_space (t ++ rest)
+digit-front t rest h = begins_not is_ascii_digit is_space (t ++ rest) digit-no-space (begins-append is_ascii_digit t rest h)
+
+pub name-front : (t rest : List ℕ) → AreThreeLetters t → BeginsNot is_space (t ++ rest)
+name-front t rest h = begins_not is_ascii_alphabetic is_space (t ++ rest) letter-no-space (begins-append is_ascii_alphabetic t rest (name-begins t h))
+
+pub gap-front : (t rest : List ℕ) → AreSpaces t → BeginsNot is_ascii_digit (t ++ rest)
+gap-front t rest h = begins_not is_space is_ascii_digit (t ++ rest) space-no-digit (begins-append is_space t rest (spaces-begin t h))
+
+space-no-colon : Excludes is_space (λ c. c == colon)
+space-no-colon c h = grind (arith, nat_tests, h)
+
+pub gap-no-colon : (t rest : List ℕ) → AreSpaces t → NoColon (t ++ rest)
+gap-no-colon t rest h = begins_not is_space (λ c. c == colon) (t ++ rest) space-no-colon (begins-append is_space t rest (spaces-begin t h))
