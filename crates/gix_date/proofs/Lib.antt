@@ -4,6 +4,7 @@ pub mod FieldsRead
 pub mod FamiliesRead
 pub mod FieldsTaken
 pub mod FamiliesTaken
+pub mod Apart
 pub mod WordSteps
 pub mod RelativeWordSteps
 pub mod RelativeCounts

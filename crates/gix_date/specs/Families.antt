@@ -1,5 +1,5 @@
 -- The families of texts that a date may have, in their order, and the answer of the first that holds a text.
-use Rattle.std.specs.Prelude.{◌≡◌, ℕ, List, [], ◌∷◌, Option, Some, None, option_map, Result, Ok, Err, Bool, true, false}
+use Rattle.std.specs.Prelude.{◌≡◌, ℕ, List, [], ◌∷◌, take, Option, Some, None, option_map, Result, Ok, Err, Bool, true, false}
 use Rattle.std.specs.Option.{option_or}
 use Rattle.jiff.specs.declared.zoned.Zoned.{Zoned}
 use Rattle.gix_date.specs.Answer.{FamilyAnswer, Absolute, OffsetBeyond, InstantBeyond, Relative}
@@ -17,9 +17,29 @@ abbrev pub first_of : List (Option FamilyAnswer) → Option FamilyAnswer
 first_of [] = None
 first_of (answer ∷ answers) = option_or answer (first_of answers)
 
+-- what each family answers of a text, in their order
+abbrev pub family_answers : List ℕ → List (Option FamilyAnswer)
+family_answers text =
+    option_map Absolute (at_time text)
+    ∷ short_answer text
+    ∷ rfc2822_answer text
+    ∷ iso8601_answer text
+    ∷ iso8601_strict_answer text
+    ∷ gitoxide_answer text
+    ∷ default_answer text
+    ∷ option_map Absolute (epoch_time text)
+    ∷ option_map Absolute (git_time text)
+    ∷ option_map Relative (relative_date text)
+    ∷ option_map Absolute (raw_time text)
+    ∷ []
+
 -- the answer of the first family that holds the text
 unfoldable pub first_family : List ℕ → Option FamilyAnswer
-first_family text = first_of (option_map Absolute (at_time text) ∷ short_answer text ∷ rfc2822_answer text ∷ iso8601_answer text ∷ iso8601_strict_answer text ∷ gitoxide_answer text ∷ default_answer text ∷ option_map Absolute (epoch_time text) ∷ option_map Absolute (git_time text) ∷ option_map Relative (relative_date text) ∷ option_map Absolute (raw_time text) ∷ [])
+first_family text = first_of (family_answers text)
+
+-- the families before Git's own forms
+abbrev pub answers_before_git : List ℕ → List (Option FamilyAnswer)
+answers_before_git text = take 8 (family_answers text)
 
 -- the refusal of a text that no family holds, or want of memory for its copy
 abbrev pub RefusesUnknown : List ℕ → Error → Type 0

@@ -1,9 +1,10 @@
 //! Laws, each the contract of a function that does nothing.
-ghost use Rattle.std.specs.Prelude.{◌≡◌, ◌↔◌, ◌++◌, List, ℕ, Some, pos, neg_ℤ, length, IfSome, IsTrue};
+ghost use Rattle.std.specs.Prelude.{◌≡◌, ◌↔◌, ◌++◌, ◌≤◌, List, ℕ, Some, is_some, filter, pos, neg_ℤ, length, IfSome, IsTrue};
 ghost use Rattle.std.specs.declared.cmp.Ordering.TheVariants.{Equal};
 ghost use Rattle.std.specs.Hash as fed;
 ghost use Rattle.std.specs.Ordering.{int_cmp, on, then_cmp};
 ghost use Rattle.gix_date.specs.Answer.{FamilyAnswer};
+ghost use Rattle.gix_date.specs.Families.{answers_before_git};
 ghost use Rattle.gix_date.specs.HeaderText.{header_text};
 ghost use Rattle.gix_date.specs.Relative.{RelativeDate, IsNamed};
 ghost use Rattle.gix_date.specs.TimeBuf.{text_in};
@@ -73,4 +74,9 @@ pub fn spelled()
     ensures strict { (text : List ℕ) (answer : FamilyAnswer) → (iso8601_strict_answer text ≡ Some answer) ↔ IsAnswered IsIso8601Strict text answer }
     ensures gitoxide { (text : List ℕ) (answer : FamilyAnswer) → (gitoxide_answer text ≡ Some answer) ↔ IsAnswered IsGitoxideDate text answer }
     ensures by_default { (text : List ℕ) (answer : FamilyAnswer) → (default_answer text ≡ Some answer) ↔ IsAnswered IsDefaultDate text answer }
+{}
+
+/// No text is of two of the families that stand before Git's own forms.
+pub fn apart()
+    ensures { (text : List ℕ) → length (filter is_some (answers_before_git text)) ≤ 1 }
 {}
