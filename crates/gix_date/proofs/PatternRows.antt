@@ -1,12 +1,15 @@
 -- The definitions of formatted dates on worked texts: each row computes.
-use Rattle.std.proofs.Common.{◌≡◌, refl, ℕ, [], pos}
+use Rattle.std.proofs.Common.{◌≡◌, refl, ℕ, ℤ, [], pos, Option}
+use Rattle.jiff_core.specs.Calendar.{days_from_civil, day_count, days_of_years, days_of_months}
 use Rattle.std.specs.Prelude.{codes, Some, None}
-use Rattle.gix_date.proofs.Rows.{minus}
+use Rattle.gix_date.proofs.Rows.{minus, time}
+use Rattle.gix_date.specs.Answer.{FamilyAnswer, Absolute, OffsetBeyond, InstantBeyond}
+use Rattle.gix_date.specs.Civil.{civil_instant}
 use Rattle.gix_date.specs.Fields.{behind}
 use Rattle.gix_date.specs.Numbers.{read_two_digits, read_digit, read_field, read_year}
 use Rattle.gix_date.specs.Offsets.{offset_fields, read_sign, last_pair}
-use Rattle.gix_date.specs.PatternFields.{behind_spaces, behind_weekday, read_name, read_month, month_of, is_weekday, read_plain_date, read_minutes, read_second, read_clock, read_mail_clock, plain_zone, strict_zone, mail_zone, mail_offset, named_zone, last_colon_pair}
-use Rattle.gix_date.specs.Patterns.{behind_day_name}
+use Rattle.gix_date.specs.PatternFields.{behind_spaces, behind_weekday, read_name, read_month, month_of, is_weekday, read_plain_date, read_minutes, read_second, read_clock, read_mail_clock, plain_zone, strict_zone, mail_zone, mail_offset, named_zone, last_colon_pair, date_answer}
+use Rattle.gix_date.specs.Patterns.{behind_day_name, short_answer, rfc2822_answer, iso8601_answer, iso8601_strict_answer, gitoxide_answer, default_answer}
 use Rattle.gix_date.specs.declared.parsing.civil.ClockFields.{ClockFields}
 use Rattle.gix_date.specs.declared.parsing.civil.DateFields.{DateFields}
 
@@ -14,6 +17,11 @@ use Rattle.gix_date.specs.declared.parsing.civil.DateFields.{DateFields}
 computing : Type 0
 unfolding behind_spaces behind_weekday read_name read_month month_of is_weekday read_plain_date read_minutes read_second read_clock read_mail_clock plain_zone strict_zone mail_zone mail_offset named_zone last_colon_pair behind_day_name behind read_two_digits read_digit read_field read_year offset_fields read_sign last_pair
 computing = Unit {0}
+
+-- what a whole date needs to see computed besides
+whole : Type 0
+unfolding computing date_answer civil_instant days_from_civil day_count days_of_years days_of_months short_answer rfc2822_answer iso8601_answer iso8601_strict_answer gitoxide_answer default_answer
+whole = Unit {0}
 
 abbrev date : ℕ → ℕ → ℕ → DateFields
 date y m d = record { year = y; month = m; day = d }
@@ -120,3 +128,51 @@ mail-zone-by-name = refl
 mail-zone-of-no-name : mail_zone (codes "Z") ≡ None
 unfolding computing
 mail-zone-of-no-name = refl
+
+zone-of-25-hours : plain_zone (codes "+2559") ≡ Some (pos 93540)
+unfolding computing
+zone-of-25-hours = refl
+
+-- whole dates, each by its family
+abbrev at : ℤ → ℤ → Option FamilyAnswer
+at seconds offset = Some (Absolute (time seconds offset))
+
+a-day : short_answer (codes "2024-12-31") ≡ at (pos 1735603200) (pos 0)
+unfolding whole
+a-day = refl
+
+the-last-day : short_answer (codes "9999-12-31") ≡ Some InstantBeyond
+unfolding whole
+the-last-day = refl
+
+no-such-day : short_answer (codes "2023-02-30") ≡ None
+unfolding whole
+no-such-day = refl
+
+mail : rfc2822_answer (codes "Thu, 8 Aug 2022 12:45:06 +0800") ≡ at (pos 1659933906) (pos 28800)
+unfolding whole
+mail = refl
+
+mail-without-seconds : rfc2822_answer (codes "Thu, 18 Aug 2022 12:45 GMT") ≡ at (pos 1660826700) (pos 0)
+unfolding whole
+mail-without-seconds = refl
+
+iso8601 : iso8601_answer (codes "2022-08-17 22:04:58 +0200") ≡ at (pos 1660766698) (pos 7200)
+unfolding whole
+iso8601 = refl
+
+strict : iso8601_strict_answer (codes "2022-08-17T21:43:13+08:00") ≡ at (pos 1660743793) (pos 28800)
+unfolding whole
+strict = refl
+
+strict-offset-of-a-day : iso8601_strict_answer (codes "2022-08-17T21:43:13-24:00") ≡ Some OffsetBeyond
+unfolding whole
+strict-offset-of-a-day = refl
+
+gitoxide : gitoxide_answer (codes "Mon Oct 27 2023 10:30:00 +0000") ≡ at (pos 1698402600) (pos 0)
+unfolding whole
+gitoxide = refl
+
+by-default : default_answer (codes "Mon Oct 27 10:30:00 2023 -0800") ≡ at (pos 1698431400) (minus 28800)
+unfolding whole
+by-default = refl

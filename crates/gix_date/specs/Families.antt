@@ -60,7 +60,7 @@ is_copied (Some OffsetBeyond) = true
 is_copied (Some InstantBeyond) = true
 is_copied (Some _) = false
 
--- What a call comes to that was given this text and this moment. What a family answers is never replaced by want of memory.
+-- What a call comes to that was given this text and this moment. A time, and what a relative text comes to, is never replaced by want of memory.
 abbrev pub Comes : Option FamilyAnswer → List ℕ → Option Zoned → Result Time Error → Type 0
 Comes (Some (Absolute t)) text now result = result ≡ Ok t
 Comes (Some (Relative date)) text now result = Reckons date now result

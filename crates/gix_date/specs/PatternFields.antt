@@ -133,7 +133,7 @@ strict_zone text = do
   seconds ← last_colon_pair minutes.1
   zone_offset (record { sign = sign.0; hours = hours.0; minutes = minutes.0; seconds = seconds })
 
--- the whole hours of a zone's name in mail, in any letter case
+-- the offset of a zone's name in mail, in any letter case
 unfoldable pub named_zone : List ℕ → Option ℤ
 named_zone name =
     if is_name name (codes "ut") || is_name name (codes "gmt") then Some (pos 0)

@@ -10,7 +10,7 @@ use thiserror::Error;
 /// Why a call of this crate refuses. Each variant names the calls that answer it, and those that will.
 #[derive(Debug, Drop, Error)]
 pub enum Error {
-    /// No form that a date may have holds the text (`parse`).
+    /// No form that a date may have holds the text, or its offset is above what a formatted date may have (`parse`).
     #[error("no known date format: {:?}; expected seconds since 1970, such as \"@0\" or \"1700000000\", \
         seconds and an offset, such as \"1660874655 +0800\", a date, such as \"2022-08-18 12:45:06 +0800\", or a relative one, such as \"2 weeks ago\"", .input.as_text())]
     UnknownFormat {

@@ -1,5 +1,5 @@
 //! Laws, each the contract of a function that does nothing.
-ghost use Rattle.std.specs.Prelude.{◌≡◌, ◌↔◌, ◌++◌, ◌≤◌, List, ℕ, Some, is_some, filter, pos, neg_ℤ, length, IfSome, IsTrue};
+ghost use Rattle.std.specs.Prelude.{◌≡◌, ◌↔◌, ◌++◌, ◌≤◌, List, ℕ, Some, is_some, filter, map, codes, [], ◌∷◌, pos, neg_ℤ, length, IfSome, IsTrue};
 ghost use Rattle.std.specs.declared.cmp.Ordering.TheVariants.{Equal};
 ghost use Rattle.std.specs.Hash as fed;
 ghost use Rattle.std.specs.Ordering.{int_cmp, on, then_cmp};
@@ -10,6 +10,7 @@ ghost use Rattle.gix_date.specs.Relative.{RelativeDate, IsNamed};
 ghost use Rattle.gix_date.specs.TimeBuf.{text_in};
 ghost use Rattle.gix_date.specs.declared.parsing.function.TheConstants.{LEAST_EPOCH};
 ghost use Rattle.gix_date.specs.declared.parsing.raw.TheConstants.{MOST_HOURS};
+ghost use Rattle.gix_date.specs.declared.time.format.Format.TheVariants.{Unix, Raw};
 ghost use Rattle.jiff.specs.declared.zoned.Zoned.{Zoned};
 ghost use Rattle.gix_date.specs.declared.time.write.TheConstants.{HUNDRED_HOURS, LONGEST_TEXT};
 ghost use Rattle.gix_date.specs.Patterns.{short_answer, rfc2822_answer, iso8601_answer, iso8601_strict_answer, gitoxide_answer, default_answer};
@@ -17,6 +18,10 @@ ghost use Rattle.gix_date.specs.Spelled.{IsAnswered, IsDayAnswered, IsMailDate, 
 
 use crate::parsing::TimeBuf;
 use crate::time::Time;
+use crate::time::format::{
+    CustomFormat, DEFAULT, Format, GIT_RFC2822, GITOXIDE, ISO8601, ISO8601_STRICT, RAW, RFC2822,
+    SHORT, UNIX,
+};
 use std::hash::Hash;
 
 /// The two constants are the seconds and offsets that they are said to be.
@@ -80,3 +85,26 @@ pub fn spelled()
 pub fn apart()
     ensures { (text : List ℕ) → length (filter is_some (answers_before_git text)) ≤ 1 }
 {}
+
+/// The formats that are patterns are these seven, in the order of their names here: short, RFC 2822, the same as Git prints it,
+/// ISO 8601, strict ISO 8601, gitoxide's and Git's default.
+pub fn named_formats() -> [CustomFormat; 7]
+    ensures { map (λ f. f.pattern.now) result ≡ codes "%Y-%m-%d" ∷ codes "%a, %d %b %Y %H:%M:%S %z" ∷ codes "%a, %-d %b %Y %H:%M:%S %z" ∷ codes "%Y-%m-%d %H:%M:%S %z" ∷ codes "%Y-%m-%dT%H:%M:%S%:z" ∷ codes "%a %b %d %Y %H:%M:%S %z" ∷ codes "%a %b %-d %H:%M:%S %Y %z" ∷ [] }
+{
+    [
+        SHORT,
+        RFC2822,
+        GIT_RFC2822,
+        ISO8601,
+        ISO8601_STRICT,
+        GITOXIDE,
+        DEFAULT,
+    ]
+}
+
+/// The formats that are no patterns: seconds, and the text of a commit header.
+pub fn other_formats() -> [Format; 2]
+    ensures { result ≡ Unix ∷ Raw ∷ [] }
+{
+    [UNIX, RAW]
+}

@@ -1,7 +1,7 @@
 //! Git's times: the text of a commit header read and written, and dates parsed.
 //!
 //! [`parse_header`] reads the time of a commit header, leniently as gix-date does; [`parse`] reads a date in one of several
-//! forms, strictly but for what Git lets pass behind a date. [`Time::to_str`] and [`Time::write_to`] write the text of a commit header.
+//! forms, each of which holds a text whole. [`Time::to_str`] and [`Time::write_to`] write the text of a commit header.
 //!
 //! ```
 //! let time = parse_header("1660874655 +0800"); // Some(Time { seconds: 1660874655, offset: 28800 })

@@ -36,7 +36,7 @@ pub(crate) enum Reply {
     Read(Time),
     /// The line is parsed as this time.
     Parsed(Time),
-    /// No form that a date may have holds the line.
+    /// No form that a date may have holds the line, or its offset is above what a formatted date may have.
     UnknownFormat,
     /// The line is a day whose midnight is no instant.
     DateConversion,

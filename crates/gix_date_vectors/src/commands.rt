@@ -48,7 +48,7 @@ fn a_command_line_is_a_mode_and_perhaps_a_moment(rt: HostRuntime) -> Result<(), 
         ),
         (
             "git",
-            ["parse", "2008-02-14 20:30:45 +2359"].as_slice(),
+            ["parse", "2008.02.14 20:30:45 +2359"].as_slice(),
             at(1_202_934_705, 86_340),
         ),
         ("no-date", ["parse", "x"].as_slice(), None),

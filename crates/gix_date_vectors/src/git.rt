@@ -3,7 +3,7 @@ use gix_date::{Error, Time, parse};
 use std::test::Fail;
 
 /// A row's name, a text, and the seconds and the offset of its time.
-pub(crate) const TIMES: [(&str, &str, i64, i32); 35] = [
+pub(crate) const TIMES: [(&str, &str, i64, i32); 39] = [
     (
         "git-dotted",
         "2008.02.14 20:30:45 -0500",
@@ -124,6 +124,10 @@ pub(crate) const TIMES: [(&str, &str, i64, i32); 35] = [
         1_203_021_045,
         0,
     ),
+    ("widest-offset", "2008.02.14 20:30:45 -2359", 1_203_107_385, -86_340),
+    ("first-year", "0000.01.01 00:00:00 +0000", -62_167_219_200, 0),
+    ("last-instant", "9999.12.30 22:00:00 +0000", 253_402_207_200, 0),
+    ("last-instant-at-its-offset", "9999.12.31 12:00:00 +2359", 253_402_171_260, 86_340),
     (
         "last-instant",
         "9999-12-30 22:00:00 +0000",
@@ -177,6 +181,7 @@ fn near_git_texts_are_refused_with_their_bytes(rt: HostRuntime) {
     let rows = [
         ("day-not-there", "2008-02-30 20:30:45 +0000"),
         ("offset-of-a-day", "2008-02-14 20:30:45 +2400"),
+        ("offset-of-a-day", "2008.02.14 20:30:45 +2400"),
         ("dotted-with-t", "2008.02.14T20:30:45"),
         ("clock-part-empty", "2008-02-14 20: +0500"),
         ("hour-of-24", "2008-02-14 24:00:00"),
@@ -202,6 +207,7 @@ fn near_git_texts_are_refused_with_their_bytes(rt: HostRuntime) {
         ("second-of-60", "2008-02-14 20:30:60"),
         ("past-the-last-instant", "9999-12-31 23:59:59 +0000"),
         ("past-the-last-instant", "9999-12-30 22:00:01 +0000"),
+        ("past-the-last-instant", "9999.12.30 22:00:01 +0000"),
         ("no-leap-year", "2007-02-29 00:00:00 Z"),
         ("sign-in-a-field", "2008-+2-14 20:30:45"),
         ("sign-in-a-field", "20080214T+5"),

@@ -30,7 +30,7 @@ const LEAST_EPOCH: i64 = 100_000_000;
 /// 1. an at text: `@`, and then a raw text (`@1745582210 +0200`) or seconds with a sign or none (`@-1000`);
 /// 2. a day alone, `2018-12-24`: its midnight in UTC;
 /// 3. a date as in mail (RFC 2822), `Thu, 18 Aug 2022 12:45:06 +0800`, where the day's name and the seconds may be left out, and the
-///    zone may be `UT`, `GMT` or one of those of the United States, as `EST`;
+///    zone may be `UT`, `GMT`, `EDT`, `EST`, `CDT`, `CST`, `MDT`, `MST`, `PDT` or `PST`;
 /// 4. ISO 8601 as Git has it, `2022-08-18 12:45:06 +0800`;
 /// 5. strict ISO 8601, `2022-08-18T12:45:06+08:00`;
 /// 6. gitoxide's form, `Thu Aug 18 2022 12:45:06 +0800`;
@@ -45,10 +45,10 @@ const LEAST_EPOCH: i64 = 100_000_000;
 ///     (`1660874655 +0800`).
 ///
 /// In 2 to 7 a year has four digits, and the other fields of date and clock one or two; names are in any letter case, and the
-/// weekday is not compared with the date; a leap second is read as the one before. In 2 to 7 and in 9 the day has to exist, and in
+/// weekday is not compared with the date; a second of 60 is read as 59. In 2 to 7 and in 9 the day has to exist, and in
 /// 3 to 7 and in 9 `jiff` has to have the instant.
 ///
-/// Seconds count from 1970-01-01 00:00:00 UTC, and have the offset 0 where none is written.
+/// Seconds count from 1970-01-01 00:00:00 UTC, and have the offset 0 where none is written, but for a relative text.
 ///
 /// A relative text is read from the moment `now` in its zone, and its time has the zone's offset there, which may be up to
 /// 25:59:59. `now` and `today` are the moment, `yesterday` is 24 hours before. Of pairs, the words are runs of ASCII letters and

@@ -83,7 +83,7 @@ fn behind_day_name(text: &str) -> Option<&str>
     behind_spaces(rest)
 }
 
-/// Reads an ISO 8601 date as Git prints it, `2022-08-18 12:45:06 +0800`, with fields of one digit or two.
+/// Reads an ISO 8601 date as Git prints it, `2022-08-18 12:45:06 +0800`.
 #[tactic(auto, unfolding(crate::specs::Patterns::iso8601_answer))]
 pub(crate) fn parse_iso8601(text: &str) -> Option<Answer<'static>>
     ensures answer { option_map answer_of result ≡ iso8601_answer text.now }
@@ -97,7 +97,7 @@ pub(crate) fn parse_iso8601(text: &str) -> Option<Answer<'static>>
     date_answer(date, clock, offset)
 }
 
-/// Reads a strict ISO 8601 date, `2022-08-18T12:45:06+08:00`, with fields of one digit or two.
+/// Reads a strict ISO 8601 date, `2022-08-18T12:45:06+08:00`.
 #[tactic(auto, unfolding(crate::specs::Patterns::iso8601_strict_answer))]
 pub(crate) fn parse_iso8601_strict(text: &str) -> Option<Answer<'static>>
     ensures answer { option_map answer_of result ≡ iso8601_strict_answer text.now }

@@ -1,4 +1,7 @@
 //! Formats of a time by their names, and times as values of `jiff`.
+//!
+//! [`parse`](crate::parse) has a family for each format that this module names, but for [`UNIX`]; it holds a year of four digits and an
+//! offset of at most 23:59, and of [`RAW`] an offset in quarters of an hour of at most 14:45.
 ghost use Rattle.std.specs.Prelude.{◌↔◌, IsOk, IfOk, IfErr};
 
 use crate::error::Error;
@@ -34,28 +37,27 @@ impl CustomFormat {
     }
 }
 
-/// A day: `2018-12-24`. [`parse`](crate::parse) reads it, with a month and a day of one digit or two.
+/// A day: `2018-12-24`.
 pub const SHORT: CustomFormat = CustomFormat {
     pattern: "%Y-%m-%d",
 };
 
-/// A date as in mail (RFC 2822): `Thu, 08 Aug 2022 12:45:06 +0800`. [`parse`](crate::parse) reads it.
+/// A date as in mail (RFC 2822): `Mon, 08 Aug 2022 12:45:06 +0800`.
 pub const RFC2822: CustomFormat = CustomFormat {
     pattern: "%a, %d %b %Y %H:%M:%S %z",
 };
 
-/// The same as Git prints it (`git log --pretty=%aD`): `Thu, 8 Aug 2022 12:45:06 +0800`. [`parse`](crate::parse) reads it.
+/// The same as Git prints it (`git log --pretty=%aD`): `Mon, 8 Aug 2022 12:45:06 +0800`.
 pub const GIT_RFC2822: CustomFormat = CustomFormat {
     pattern: "%a, %-d %b %Y %H:%M:%S %z",
 };
 
-/// A date after ISO 8601, as Git prints it (`git log --pretty=%ai`): `2022-08-17 22:04:58 +0200`. [`parse`](crate::parse) reads
-/// it.
+/// A date after ISO 8601, as Git prints it (`git log --pretty=%ai`): `2022-08-17 22:04:58 +0200`.
 pub const ISO8601: CustomFormat = CustomFormat {
     pattern: "%Y-%m-%d %H:%M:%S %z",
 };
 
-/// A date in the strict form of ISO 8601 (`git log --pretty=%aI`): `2022-08-17T21:43:13+08:00`. [`parse`](crate::parse) reads it.
+/// A date in the strict form of ISO 8601 (`git log --pretty=%aI`): `2022-08-17T21:43:13+08:00`.
 pub const ISO8601_STRICT: CustomFormat = CustomFormat {
     pattern: "%Y-%m-%dT%H:%M:%S%:z",
 };
@@ -63,16 +65,15 @@ pub const ISO8601_STRICT: CustomFormat = CustomFormat {
 /// Seconds since 1970-01-01 00:00:00 UTC: `123456789`.
 pub const UNIX: Format = Format::Unix;
 
-/// A time as in a commit header: `1660874655 +0800`. [`parse`](crate::parse) reads it where the offset is in quarters of an hour up
-/// to 14:45.
+/// A time as in a commit header: `1660874655 +0800`.
 pub const RAW: Format = Format::Raw;
 
-/// A date as gitoxide prints it: `Thu Sep 04 2022 10:45:06 -0400`. [`parse`](crate::parse) reads it.
+/// A date as gitoxide prints it: `Sun Sep 04 2022 10:45:06 -0400`.
 pub const GITOXIDE: CustomFormat = CustomFormat {
     pattern: "%a %b %d %Y %H:%M:%S %z",
 };
 
-/// A date as Git prints it by default (`git log --pretty=%ad`): `Thu Sep 4 10:45:06 2022 -0400`. [`parse`](crate::parse) reads it.
+/// A date as Git prints it by default (`git log --pretty=%ad`): `Sun Sep 4 10:45:06 2022 -0400`.
 pub const DEFAULT: CustomFormat = CustomFormat {
     pattern: "%a %b %-d %H:%M:%S %Y %z",
 };
@@ -98,28 +99,5 @@ impl Time {
             Ok(instant) => Ok(instant.to_zoned(offset.to_time_zone())),
             Err(_) => Err(Error::Conversion),
         }
-    }
-}
-
-#[cfg(test)]
-mod tests {
-    use super::*;
-
-    #[test]
-    fn named_formats_are_their_patterns(rt: HostRuntime) {
-        let rows = [
-            (SHORT, "%Y-%m-%d"),
-            (RFC2822, "%a, %d %b %Y %H:%M:%S %z"),
-            (GIT_RFC2822, "%a, %-d %b %Y %H:%M:%S %z"),
-            (ISO8601, "%Y-%m-%d %H:%M:%S %z"),
-            (ISO8601_STRICT, "%Y-%m-%dT%H:%M:%S%:z"),
-            (GITOXIDE, "%a %b %d %Y %H:%M:%S %z"),
-            (DEFAULT, "%a %b %-d %H:%M:%S %Y %z"),
-        ];
-        for (format, pattern) in rows {
-            assert_eq!(rt; format.pattern, pattern);
-        }
-        assert!(rt; matches!(UNIX, Format::Unix));
-        assert!(rt; matches!(RAW, Format::Raw));
     }
 }

@@ -151,7 +151,7 @@ fn read_minutes(text: &str) -> Option<(ClockFields, &str)>
     ))
 }
 
-/// A second behind an hour and a minute. A leap second is read as the one before.
+/// A second behind an hour and a minute, where 60 is read as 59.
 #[tactic(auto, unfolding(crate::specs::PatternFields::read_second))]
 fn read_second(clock: ClockFields, text: &str) -> Option<(ClockFields, &str)>
     requires { ClockFits clock }
