@@ -5,6 +5,7 @@ pub mod FamiliesRead
 pub mod FieldsTaken
 pub mod FamiliesTaken
 pub mod Apart
+pub mod Printing
 pub mod WordSteps
 pub mod RelativeWordSteps
 pub mod RelativeCounts

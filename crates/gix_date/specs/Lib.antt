@@ -29,6 +29,7 @@ pub mod Spelled
 pub mod Families
 pub mod Views
 pub mod Zoned
+pub mod Printed
 pub mod Civil
 pub mod ClockCut
 pub mod GitClock

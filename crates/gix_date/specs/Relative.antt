@@ -1,5 +1,5 @@
 -- Relative texts, and the times that they name from a moment.
-use Rattle.std.specs.Prelude.{◌≡◌, ℕ, ℤ, pos, ◌-ℤ◌, ◌||◌, List, if◌then◌else◌, Option, Some, None, Result, Ok, Err, codes, int_div}
+use Rattle.std.specs.Prelude.{◌≡◌, ℕ, ℤ, pos, ◌-ℤ◌, ◌||◌, List, if◌then◌else◌, Option, Some, None, Result, Ok, Err, codes}
 use Rattle.std.specs.Option.{option_or}
 use Rattle.std.specs.Str.{trim}
 use Rattle.jiff.specs.Words.{zoned_nanos, offset_at, nanos_of_seconds, IsTimestampNanos}
@@ -8,6 +8,7 @@ use Rattle.jiff.specs.declared.zoned.Zoned.{Zoned}
 use Rattle.gix_date.specs.RelativeSteps.{zone_of, Settles, Chain}
 use Rattle.gix_date.specs.RelativeWords.{is_name, relative_words}
 use Rattle.gix_date.specs.Roles.{are_pairs, pairs}
+use Rattle.gix_date.specs.Zoned.{whole_seconds}
 use Rattle.gix_date.specs.declared.error.Error.{Error}
 use Rattle.gix_date.specs.declared.error.Error.TheVariants.{MissingNow, Range}
 use Rattle.gix_date.specs.declared.parsing.relative.words.TimeUnit.{TimeUnit}
@@ -44,7 +45,7 @@ Reaches (Less list) tz moment instant = (start : ℤ) × Settles tz moment start
 pub record IsNamed (date : RelativeDate) (moment : Zoned) (t : Time) : Type 0 where
   pub instant : ℤ
   pub reaches : Reaches date (zone_of moment) (zoned_nanos moment) instant
-  pub seconds_is : t.seconds ≡ int_div instant (pos 1_000_000_000)
+  pub seconds_is : t.seconds ≡ whole_seconds instant
   pub offset_is : t.offset ≡ offset_at (zone_of moment) instant
 
 -- What a call comes to by a relative date and this moment, or none.

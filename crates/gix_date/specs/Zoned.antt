@@ -1,8 +1,8 @@
 -- The moment that a time names, in jiff's words.
-use Rattle.std.specs.Prelude.{◌≡◌, Bool, ◌&&◌, ℤ, pos, neg_ℤ}
+use Rattle.std.specs.Prelude.{◌≡◌, Bool, ◌&&◌, ℤ, pos, neg_ℤ, int_div}
 use Rattle.std.specs.Int.Signed.{le_z}
-use Rattle.jiff.specs.Words.{plain_zoned, zoned_nanos, fixed_zone, nanos_of_seconds, IsBetween, IsOffsetSeconds}
-use Rattle.jiff.specs.Types.{Offset}
+use Rattle.jiff.specs.Words.{plain_zoned, zoned_nanos, fixed_zone, offset_at, nanos_of_seconds, IsBetween, IsOffsetSeconds}
+use Rattle.jiff.specs.Types.{Offset, TimeZone}
 use Rattle.jiff.specs.declared.zoned.Zoned.{Zoned}
 use Rattle.gix_date.specs.declared.time.Time.{Time}
 
@@ -26,3 +26,14 @@ pub record IsMoment (t : Time) (z : Zoned) : Type 0 where
   pub instant : zoned_nanos z ≡ nanos_of_seconds t.seconds
   pub offset_is : (plain_zoned z).offset.seconds ≡ t.offset
   pub zone : (o : Offset) × (o.seconds ≡ t.offset) × ((plain_zoned z).time_zone ≡ fixed_zone o)
+
+-- the whole seconds of an instant, cut towards 1970
+abbrev pub whole_seconds : ℤ → ℤ
+whole_seconds instant = int_div instant (pos 1_000_000_000)
+
+-- the time of an instant in UTC, and in a zone
+abbrev pub time_in_utc : ℤ → Time
+time_in_utc instant = record { seconds = whole_seconds instant; offset = pos 0 }
+
+abbrev pub time_in : TimeZone → ℤ → Time
+time_in zone instant = record { seconds = whole_seconds instant; offset = offset_at zone instant }

@@ -7,7 +7,7 @@ use std::marker::Model;
 use std::{fmt, io, str};
 use thiserror::Error;
 
-/// Why a call of this crate refuses. Each variant names the calls that answer it, and those that will.
+/// Why a call of this crate refuses. Each variant names the calls that answer it.
 #[derive(Debug, Drop, Error)]
 pub enum Error {
     /// No form that a date may have holds the text, or its offset is above what a formatted date may have (`parse`).

@@ -5,16 +5,21 @@ ghost use Rattle.gix_date.specs.Families.{first_family, Comes};
 ghost use Rattle.gix_date.specs.HeaderReading.{header_time};
 ghost use Rattle.gix_date.specs.HeaderText.{header_text};
 ghost use Rattle.gix_date.specs.Known.{Takes};
+ghost use Rattle.gix_date.specs.Printed.{PrintsOrSeconds};
 ghost use Rattle.gix_date.specs.TimeBuf.{text_in};
 ghost use Rattle.gix_date.specs.Zoned.{IsConvertible, IsMoment};
 ghost use Rattle.gix_date.specs.declared.error.Error.TheVariants.{Conversion};
 ghost use Rattle.gix_date.specs.declared.time.Time.{Time as Read};
+ghost use Rattle.gix_date.specs.declared.time.format.Format.TheVariants.{Custom};
+ghost use Rattle.gix_date_vectors.specs.ClockTime.{IsClockTime};
 ghost use Rattle.gix_date_vectors.specs.Resolved.{Resolved};
 ghost use Rattle.jiff.specs.declared.zoned.Zoned.{Zoned};
 
 use gix_date::device::Sink;
 use gix_date::parsing::TimeBuf;
+use gix_date::time::{CustomFormat, Format};
 use gix_date::{Error, Time, parse, parse_header};
+use jiff::Timestamp;
 use jiff::tz::{SystemTimeZone, TimeZoneDatabase};
 use std::alloc::{AllocError, AllocGlobal, Global};
 use std::rt::{Env, Files};
@@ -86,6 +91,25 @@ pub fn resolved<R: Clock + Env + Files + AllocGlobal + Clone + Drop>(
         Ok(time) => Ok(time),
         Err(fault) => Err(Unresolved::Date(fault)),
     }
+}
+
+/// The date of a line in a log, or the seconds of a time that has no text in that format. It fails for want of memory alone.
+pub fn log_date(alloc: Global, time: Time, format: CustomFormat) -> Result<String, Error>
+    ensures { PrintsOrSeconds time (Custom format) result }
+{
+    time.format_or_unix(alloc, Format::from(format))
+}
+
+/// The time of a commit that is made now, by the machine's clock and in its zone, or in UTC where that is not found.
+pub fn commit_time<R: Clock + Env + Files + AllocGlobal + Clone + Drop>(
+    rt: &R,
+) -> Result<Time, jiff::Error>
+    ensures { IfOk result IsClockTime }
+{
+    let zones = TimeZoneDatabase::from_env(rt)?;
+    let named = SystemTimeZone::read(rt)?;
+    let zone = named.time_zone(&zones).ok();
+    Ok(Time::now_local_or_utc(Timestamp::now(rt)?, zone))
 }
 
 /// A second buffer with the same text.

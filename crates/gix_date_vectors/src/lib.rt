@@ -21,6 +21,8 @@ mod parses;
 #[cfg(test)]
 mod patterns;
 #[cfg(test)]
+mod prints;
+#[cfg(test)]
 mod readme;
 #[cfg(test)]
 mod relative;

@@ -1,5 +1,5 @@
 //! Public names, each where it stands, and the traits that callers count on.
-use crate::caller::{Unresolved, absolute_date, resolved};
+use crate::caller::{Unresolved, absolute_date, commit_time, log_date, resolved};
 use gix_date::parsing::TimeBuf;
 use gix_date::time::{CustomFormat, Format, format};
 use gix_date::{
@@ -87,6 +87,15 @@ fn callers_answer(rt: HostRuntime) -> Result<(), Fail> {
     let date = absolute_date(rt.alloc(), "2018-12-24")?;
     assert_eq!(rt; date, Time::new(1_545_609_600, 0));
     assert!(rt; matches!(absolute_date(rt.alloc(), "now"), Err(Error::MissingNow)));
+    let logged = log_date(
+        rt.alloc(),
+        Time::new(1_659_933_906, 28_800),
+        format::DEFAULT,
+    )?;
+    assert_eq!(rt; logged.as_str(), "Mon Aug 8 12:45:06 2022 +0800");
+    let beyond = log_date(rt.alloc(), Time::new(5, 93_600), format::DEFAULT)?;
+    assert_eq!(rt; beyond.as_str(), "5");
+    assert!(rt; matches!(commit_time(&rt), Ok(time) if time.seconds > 1_700_000_000));
     assert!(rt; matches!(resolved(&rt, "@5 +0100"), Ok(time) if time == Time::new(5, 3600)));
     assert!(rt; matches!(resolved(&rt, "now"), Ok(time) if time.seconds > 1_700_000_000));
     assert!(rt;
@@ -107,6 +116,10 @@ fn laws_are_called_for_nothing_but_what_they_state() {
     laws::equality();
     laws::hash();
     laws::named_once();
+    laws::spelled();
+    laws::apart();
+    let _ = laws::named_formats();
+    let _ = laws::other_formats();
     gix_date_tool::limits();
     gix_date_tool::lines_are_unique();
     gix_date_tool::replies_are_unique();

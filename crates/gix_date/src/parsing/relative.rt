@@ -1,5 +1,6 @@
 //! Relative texts: `yesterday`, `2 weeks ago`, `1 month 2 days ago`.
-ghost use Rattle.std.specs.Prelude.{◌≡◌, pos, IfOk, IfSome, option_map, int_div};
+ghost use Rattle.std.specs.Prelude.{◌≡◌, pos, IfOk, IfSome, option_map};
+ghost use Rattle.gix_date.specs.Zoned.{whole_seconds};
 ghost use Rattle.jiff.specs.Words.{zoned_nanos, offset_at, KeepsZone, IsOffsetSeconds};
 ghost use Rattle.gix_date.specs.Relative.{named_date, relative_date, Reckons, Reaches};
 ghost use Rattle.gix_date.specs.Views.{date_of};
@@ -102,7 +103,7 @@ fn subtract_pairs<'a>(start: Zoned<'a>, text: &str) -> Option<Zoned<'a>>
 
 /// The time of a moment: whole seconds, towards 1970, and the offset of its zone there.
 fn time_of(moment: Zoned<'_>) -> Time
-    ensures seconds { result.seconds ≡ int_div (zoned_nanos moment.entry) (pos 1_000_000_000) }
+    ensures seconds { result.seconds ≡ whole_seconds (zoned_nanos moment.entry) }
     ensures offset { result.offset ≡ offset_at (zone_of moment.entry) (zoned_nanos moment.entry) }
     ensures short { IsOffsetSeconds result.offset }
 {

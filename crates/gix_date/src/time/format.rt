@@ -2,12 +2,21 @@
 //!
 //! [`parse`](crate::parse) has a family for each format that this module names, but for [`UNIX`]; it holds a year of four digits and an
 //! offset of at most 23:59, and of [`RAW`] an offset in quarters of an hour of at most 14:45.
-ghost use Rattle.std.specs.Prelude.{◌↔◌, IsOk, IfOk, IfErr};
+ghost use Rattle.std.specs.Prelude.{◌≡◌, ◌↔◌, ◌⊎◌, Some, Err, option_map, IsTrue, IsOk, IfOk, IfErr, string_bytes};
+ghost use Rattle.jiff.specs.Words.{plain_zoned};
+ghost use Rattle.jiff.specs.ZonedText.{zoned_parts};
+ghost use Rattle.jiff_core.specs.Date.{weekday_of};
+ghost use Rattle.jiff_strtime.specs.Text.{parts_of};
+ghost use Rattle.jiff_core.specs.declared.error.Error.TheVariants as jiff_errors;
+ghost use Rattle.gix_date.specs.Printed.{Prints, PrintsOrSeconds, PrintsAt, PrintsBy, PrintsHeader, PrintsSeconds};
+ghost use Rattle.gix_date.specs.declared.error.Error.TheVariants as errors;
 
 use crate::error::Error;
-use crate::time::Time;
+use crate::time::{Time, header_text};
+use jiff::fmt::strtime::{BrokenDownTime, Config, to_string};
 use jiff::tz::Offset;
 use jiff::{Timestamp, Zoned};
+use std::alloc::Global;
 
 /// What a time is printed as.
 #[derive(Debug, Clone, Copy)]
@@ -34,6 +43,17 @@ impl CustomFormat {
         ensures { result.pattern.now ≡ pattern.now }
     {
         CustomFormat { pattern }
+    }
+}
+
+impl From<CustomFormat> for Format {
+    ghost use Rattle.gix_date.specs.declared.time.format.Format.TheVariants.{Custom};
+
+    /// The format by that pattern.
+    fn from(format: CustomFormat) -> Format
+        ensures { result ≡ Custom format }
+    {
+        Format::Custom(format)
     }
 }
 
@@ -78,10 +98,133 @@ pub const DEFAULT: CustomFormat = CustomFormat {
     pattern: "%a %b %-d %H:%M:%S %Y %z",
 };
 
+/// The fault that one of `jiff`'s printer is.
+fn fault_of(error: jiff::Error) -> Error
+    ensures { ((error ≡ jiff_errors.OutOfMemory) × (result ≡ errors.Memory)) ⊎ ((error ≡ jiff_errors.OutOfMemory → ⊥) × (result ≡ errors.Pattern)) }
+{
+    match error {
+        jiff::Error::OutOfMemory => Error::Memory,
+        _ => Error::Pattern,
+    }
+}
+
+/// The parts that are printed, with the abbreviation and the name of the zone.
+fn parts_of<'t>(
+    moment: &Zoned<'_>,
+    abbreviation: &'t str,
+    name: Option<&'t str>,
+) -> BrokenDownTime<'t>
+    ensures { parts_of result ≡ record (zoned_parts (plain_zoned moment.now).datetime (plain_zoned moment.now).offset (plain_zoned moment.now).timestamp abbreviation.now (option_map (λ s. s.now) name.entry)) { weekday = Some (weekday_of (plain_zoned moment.now).datetime.date) } }
+{
+    let plain = moment.to_plain();
+    BrokenDownTime {
+        offset: Some(plain.offset),
+        weekday: Some(moment.weekday()),
+        timestamp: Some(plain.timestamp),
+        tz_abbreviation: Some(abbreviation),
+        iana: name,
+        ..BrokenDownTime::from_datetime(plain.datetime)
+    }
+}
+
+/// What `jiff`'s strict printer shows by a pattern. The day of the week is told, since the printer promises none by itself.
+fn printed(alloc: Global, pattern: &str, moment: &Zoned<'_>) -> Result<String, Error>
+    ensures { PrintsAt pattern.now (plain_zoned moment.now) result }
+{
+    let plain = moment.to_plain();
+    let info = plain.time_zone.to_offset_info(plain.timestamp);
+    let (abbreviation, name) = (info.abbreviation.as_str(), plain.time_zone.iana_name());
+    let parts = parts_of(moment, abbreviation, name);
+    match to_string(alloc, Config::new(), pattern.as_bytes(), &parts) {
+        Ok(text) => Ok(text),
+        Err(error) => Err(fault_of(error)),
+    }
+}
+
+fn is_memory(error: &Error) -> bool
+    ensures { IsTrue result ↔ (error.now ≡ errors.Memory) }
+{
+    matches!(error, Error::Memory)
+}
+
+/// A copy of a text.
+fn owned(alloc: Global, text: &str) -> Result<String, Error>
+    ensures text { IfOk result (λ copy. string_bytes copy ≡ text.now) }
+    ensures memory { IfErr result (λ e. e ≡ errors.Memory) }
+{
+    match String::from_str(alloc, text) {
+        Ok(copy) => Ok(copy),
+        Err(_) => Err(Error::Memory),
+    }
+}
+
 impl Time {
     ghost use Rattle.std.specs.Prelude.{◌≡◌};
     ghost use Rattle.gix_date.specs.Zoned.{IsConvertible, IsMoment};
     ghost use Rattle.gix_date.specs.declared.error.Error.TheVariants.{Conversion};
+
+    /// The text of this time in a format: the seconds in decimal, the text of a commit header, or what `jiff`'s strict printer shows
+    /// of [`Time::to_zoned`] by the pattern.
+    ///
+    /// [`Error::OffsetTooWide`] where a time has no header text, [`Error::Conversion`] where `to_zoned` refuses, both before any memory
+    /// is taken; [`Error::Pattern`] where the printer refuses the pattern; [`Error::Memory`] where memory for the text is refused.
+    pub fn format(&self, alloc: Global, format: Format) -> Result<String, Error>
+        ensures { Prints self.now format result }
+    {
+        match format {
+            Format::Custom(custom) => self.by_pattern(alloc, custom.pattern),
+            Format::Unix => self.unix_seconds(alloc),
+            Format::Raw => self.header(alloc),
+        }
+    }
+
+    /// The same, with the seconds in decimal for a time that has no text in that format: where [`Time::format`] answers
+    /// [`Error::Conversion`], [`Error::OffsetTooWide`] or [`Error::Pattern`]. [`Error::Memory`] alone is refused with.
+    pub fn format_or_unix(&self, alloc: Global, format: Format) -> Result<String, Error>
+        ensures { PrintsOrSeconds self.now format result }
+    {
+        match self.format(alloc, format) {
+            Ok(text) => Ok(text),
+            Err(error) => self.unix_but_for_memory(alloc, format, error),
+        }
+    }
+
+    /// The seconds in place of a fault of printing, but for want of memory.
+    fn unix_but_for_memory(
+        self,
+        alloc: Global,
+        format: Format,
+        error: Error,
+    ) -> Result<String, Error>
+        requires { Prints self format (Err error) }
+        ensures { PrintsOrSeconds self format result }
+    {
+        if is_memory(&error) {
+            return Err(error);
+        }
+        self.unix_seconds(alloc)
+    }
+
+    fn unix_seconds(self, alloc: Global) -> Result<String, Error>
+        ensures { PrintsSeconds self result }
+    {
+        owned(alloc, itoa::Buffer::new().format(self.seconds))
+    }
+
+    fn header(self, alloc: Global) -> Result<String, Error>
+        ensures { PrintsHeader self result }
+    {
+        let Some(text) = header_text(self) else {
+            return Err(Error::OffsetTooWide);
+        };
+        owned(alloc, text.as_str())
+    }
+
+    fn by_pattern(self, alloc: Global, pattern: &str) -> Result<String, Error>
+        ensures { PrintsBy self pattern.now result }
+    {
+        printed(alloc, pattern, &self.to_zoned()?)
+    }
 
     /// This instant, in the zone that always has this offset.
     ///

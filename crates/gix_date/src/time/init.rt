@@ -1,7 +1,11 @@
-//! Times made of their parts.
-ghost use Rattle.std.specs.Prelude.{◌≡◌};
+//! Times made of their parts, and of a clock and a zone.
+ghost use Rattle.std.specs.Prelude.{◌≡◌, option_map, unwrap_or};
+ghost use Rattle.jiff.specs.Words.{plain_zone};
+ghost use Rattle.gix_date.specs.Zoned.{time_in, time_in_utc};
 
 use crate::time::{OffsetInSeconds, SecondsSinceUnixEpoch, Time};
+use jiff::Timestamp;
+use jiff::tz::TimeZone;
 
 impl Time {
     /// The time of these two numbers, whatever they are.
@@ -9,5 +13,28 @@ impl Time {
         ensures { result ≡ record { seconds = seconds; offset = offset } }
     {
         Time { seconds, offset }
+    }
+
+    /// The time that a clock shows, in UTC: its whole seconds, cut towards 1970. Takes no memory.
+    pub fn now_utc(clock: Timestamp) -> Time
+        ensures { result ≡ time_in_utc clock.nanosecond }
+    {
+        Time::new(clock.as_second(), 0)
+    }
+
+    /// The time that a clock shows, with the offset that the zone has there; `None` where no zone is handed in, and nowhere else.
+    /// Takes no memory.
+    pub fn now_local(clock: Timestamp, zone: Option<TimeZone<'_>>) -> Option<Time>
+        ensures { result ≡ option_map (λ z. time_in (plain_zone z) clock.nanosecond) zone.entry }
+    {
+        let zone = zone?;
+        Some(Time::new(clock.as_second(), zone.to_offset(clock).seconds()))
+    }
+
+    /// The same, in UTC where no zone is handed in. Takes no memory.
+    pub fn now_local_or_utc(clock: Timestamp, zone: Option<TimeZone<'_>>) -> Time
+        ensures { result ≡ unwrap_or (option_map (λ z. time_in (plain_zone z) clock.nanosecond) zone.entry) (time_in_utc clock.nanosecond) }
+    {
+        Time::now_local(clock, zone).unwrap_or(Time::now_utc(clock))
     }
 }

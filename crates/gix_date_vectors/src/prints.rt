@@ -1,0 +1,268 @@
+//! Times printed by formats, and those of a clock.
+use crate::fakes::take_all;
+use gix_date::time::format::{
+    DEFAULT, GIT_RFC2822, GITOXIDE, ISO8601, ISO8601_STRICT, RAW, RFC2822, SHORT, UNIX,
+};
+use gix_date::time::{CustomFormat, Format};
+use gix_date::{Error, Time, parse};
+use jiff::Timestamp;
+use jiff::tz::TimeZone;
+use std::test::Fail;
+
+/// A time, and what Git 2.39.5 prints of it by `git log --date=default --format='%ad|%aD|%ai|%aI'` and by
+/// `git log --date=short --format=%ad`.
+const BY_GIT: [(i64, i32, [&str; 5]); 5] = [
+    (
+        1_659_933_906,
+        28_800,
+        [
+            "Mon Aug 8 12:45:06 2022 +0800",
+            "Mon, 8 Aug 2022 12:45:06 +0800",
+            "2022-08-08 12:45:06 +0800",
+            "2022-08-08T12:45:06+08:00",
+            "2022-08-08",
+        ],
+    ),
+    (
+        1_660_874_655,
+        28_800,
+        [
+            "Fri Aug 19 10:04:15 2022 +0800",
+            "Fri, 19 Aug 2022 10:04:15 +0800",
+            "2022-08-19 10:04:15 +0800",
+            "2022-08-19T10:04:15+08:00",
+            "2022-08-19",
+        ],
+    ),
+    (
+        951_827_696,
+        -12_600,
+        [
+            "Tue Feb 29 09:04:56 2000 -0330",
+            "Tue, 29 Feb 2000 09:04:56 -0330",
+            "2000-02-29 09:04:56 -0330",
+            "2000-02-29T09:04:56-03:30",
+            "2000-02-29",
+        ],
+    ),
+    (
+        4_102_444_799,
+        49_500,
+        [
+            "Fri Jan 1 13:44:59 2100 +1345",
+            "Fri, 1 Jan 2100 13:44:59 +1345",
+            "2100-01-01 13:44:59 +1345",
+            "2100-01-01T13:44:59+13:45",
+            "2100-01-01",
+        ],
+    ),
+    (
+        1_698_400_800,
+        -43_200,
+        [
+            "Thu Oct 26 22:00:00 2023 -1200",
+            "Thu, 26 Oct 2023 22:00:00 -1200",
+            "2023-10-26 22:00:00 -1200",
+            "2023-10-26T22:00:00-12:00",
+            "2023-10-26",
+        ],
+    ),
+];
+
+#[test]
+fn git_prints_the_same(rt: HostRuntime) -> Result<(), Fail> {
+    let formats = [DEFAULT, GIT_RFC2822, ISO8601, ISO8601_STRICT, SHORT];
+    for (seconds, offset, texts) in BY_GIT {
+        let time = Time::new(seconds, offset);
+        for (format, due) in formats.into_iter().zip(texts) {
+            let text = time.format(rt.alloc(), format.into())?;
+            assert_eq!(rt; text.as_str(), due);
+            let same = time.format_or_unix(rt.alloc(), format.into())?;
+            assert_eq!(rt; same.as_str(), due);
+        }
+    }
+    Ok(())
+}
+
+#[test]
+fn times_are_printed(rt: HostRuntime) -> Result<(), Fail> {
+    let rows = [
+        (
+            1_659_933_906,
+            28_800,
+            RFC2822.into(),
+            "Mon, 08 Aug 2022 12:45:06 +0800",
+        ),
+        (
+            1_660_874_655,
+            28_800,
+            RFC2822.into(),
+            "Fri, 19 Aug 2022 10:04:15 +0800",
+        ),
+        (
+            1_660_874_655,
+            28_800,
+            GITOXIDE.into(),
+            "Fri Aug 19 2022 10:04:15 +0800",
+        ),
+        (0, 0, UNIX, "0"),
+        (0, 0, ISO8601_STRICT.into(), "1970-01-01T00:00:00+00:00"),
+        (18_000, -18_000, ISO8601.into(), "1970-01-01 00:00:00 -0500"),
+        (-1, 0, UNIX, "-1"),
+        (1_660_874_655, 28_800, RAW, "1660874655 +0800"),
+        (0, 359_999, RAW, "0 +9959"),
+        (i64::MIN, 0, UNIX, "-9223372036854775808"),
+        (
+            -30_610_224_001,
+            0,
+            ISO8601.into(),
+            "0999-12-31 23:59:59 +0000",
+        ),
+        (
+            -30_610_224_000,
+            0,
+            ISO8601.into(),
+            "1000-01-01 00:00:00 +0000",
+        ),
+        (
+            253_402_207_200,
+            0,
+            ISO8601.into(),
+            "9999-12-30 22:00:00 +0000",
+        ),
+        (
+            -62_198_755_200,
+            0,
+            ISO8601.into(),
+            "-001-01-01 00:00:00 +0000",
+        ),
+        (0, -30, ISO8601.into(), "1969-12-31 23:59:30 -000030"),
+        (
+            0,
+            -30,
+            ISO8601_STRICT.into(),
+            "1969-12-31T23:59:30-00:00:30",
+        ),
+        (
+            0,
+            0,
+            CustomFormat::new("%A %-d %B, %Z").into(),
+            "Thursday 1 January, UTC",
+        ),
+        (0, 0, CustomFormat::new("").into(), ""),
+    ];
+    for (seconds, offset, format, due) in rows {
+        let time = Time::new(seconds, offset);
+        let text = time.format(rt.alloc(), format)?;
+        assert_eq!(rt; text.as_str(), due);
+        let same = time.format_or_unix(rt.alloc(), format)?;
+        assert_eq!(rt; same.as_str(), due);
+    }
+    Ok(())
+}
+
+#[test]
+fn printed_dates_are_parsed_back(rt: HostRuntime) -> Result<(), Fail> {
+    let time = Time::new(1_660_874_655, 28_800);
+    for format in [
+        RFC2822,
+        GIT_RFC2822,
+        ISO8601,
+        ISO8601_STRICT,
+        GITOXIDE,
+        DEFAULT,
+    ] {
+        let text = time.format(rt.alloc(), format.into())?;
+        assert_eq!(rt; parse(rt.alloc(), text.as_str(), None)?, time, "{text}");
+    }
+    Ok(())
+}
+
+#[test]
+fn a_time_without_a_text_has_its_seconds(rt: HostRuntime) -> Result<(), Fail> {
+    let beyond = Time::MAX.format(rt.alloc(), ISO8601.into());
+    assert!(rt; matches!(beyond, Err(Error::Conversion)));
+    let seconds = Time::MAX.format_or_unix(rt.alloc(), ISO8601.into())?;
+    assert_eq!(rt; seconds.as_str(), "9223372036854775807");
+    let wide = Time::new(0, 362_340).format(rt.alloc(), RAW);
+    assert!(rt; matches!(wide, Err(Error::OffsetTooWide)));
+    let zero = Time::new(0, 362_340).format_or_unix(rt.alloc(), RAW)?;
+    assert_eq!(rt; zero.as_str(), "0");
+    let pattern = CustomFormat::new("%!");
+    let refused = Time::new(5, 0).format(rt.alloc(), pattern.into());
+    assert!(rt; matches!(refused, Err(Error::Pattern)));
+    let five = Time::new(5, 0).format_or_unix(rt.alloc(), pattern.into())?;
+    assert_eq!(rt; five.as_str(), "5");
+    Ok(())
+}
+
+#[test]
+fn a_text_that_is_refused_memory_is_refused(rt: HostRuntime) -> Result<(), Fail> {
+    let time = Time::new(1_660_874_655, 28_800);
+    let blocks = take_all(rt.alloc())?;
+    let mut all_right = true;
+    for format in [UNIX, RAW, Format::Custom(ISO8601)] {
+        if !matches!(time.format(rt.alloc(), format), Err(Error::Memory))
+            || !matches!(time.format_or_unix(rt.alloc(), format), Err(Error::Memory))
+        {
+            all_right = false;
+        }
+    }
+    let beyond = matches!(
+        Time::MAX.format(rt.alloc(), Format::Custom(ISO8601)),
+        Err(Error::Conversion)
+    );
+    let wide = matches!(
+        Time::new(0, 362_340).format(rt.alloc(), RAW),
+        Err(Error::OffsetTooWide)
+    );
+    let taken = blocks.len();
+    drop(blocks);
+    assert!(rt; taken > 0, "no-memory");
+    assert!(rt; all_right, "no-memory");
+    assert!(rt; beyond && wide, "no-memory");
+    Ok(())
+}
+
+#[test]
+fn each_growth_of_a_text_may_be_refused(rt: HostRuntime) -> Result<(), Fail> {
+    let time = Time::new(1_660_874_655, 28_800);
+    let mut all_right = true;
+    for size in [8, 32] {
+        let spare: Vec<u8> = Vec::with_capacity(rt.alloc(), size)?;
+        let blocks = take_all(rt.alloc())?;
+        drop(spare);
+        match time.format(rt.alloc(), Format::Custom(RFC2822)) {
+            Ok(text) => {
+                all_right = all_right && text.as_str() == "Fri, 19 Aug 2022 10:04:15 +0800";
+            }
+            Err(fault) => all_right = all_right && matches!(fault, Error::Memory),
+        }
+        drop(blocks);
+    }
+    assert!(rt; all_right, "little-memory");
+    Ok(())
+}
+
+#[test]
+fn a_clock_and_a_zone_make_a_time(rt: HostRuntime) -> Result<(), Fail> {
+    let zone = TimeZone::posix("EST5EDT,M3.2.0,M11.1.0")?;
+    let clock = Timestamp::from_second(1_698_400_800)?;
+    assert_eq!(rt; Time::now_utc(clock), Time::new(1_698_400_800, 0));
+    let local = Time::now_local(clock, Some(zone));
+    assert!(rt; matches!(local, Some(time) if time == Time::new(1_698_400_800, -14_400)));
+    assert!(rt; Time::now_local(clock, None).is_none());
+    assert_eq!(rt;
+        Time::now_local_or_utc(clock, Some(zone)),
+        Time::new(1_698_400_800, -14_400)
+    );
+    assert_eq!(rt;
+        Time::now_local_or_utc(clock, None),
+        Time::new(1_698_400_800, 0)
+    );
+    let late = Timestamp::from_nanosecond(1_999_999_999)?;
+    assert_eq!(rt; Time::now_utc(late), Time::new(1, 0));
+    let before = Timestamp::from_nanosecond(-1_500_000_000)?;
+    assert_eq!(rt; Time::now_utc(before), Time::new(-1, 0));
+    Ok(())
+}
