@@ -6,6 +6,8 @@ pub mod FieldsTaken
 pub mod FamiliesTaken
 pub mod Apart
 pub mod Printing
+pub mod ShownPieces
+pub mod NamedTexts
 pub mod WordSteps
 pub mod RelativeWordSteps
 pub mod RelativeCounts
@@ -20,6 +22,7 @@ pub mod Decimals
 pub mod Rows
 pub mod GitRows
 pub mod PatternRows
+pub mod PrintRows
 pub mod RelativeRows
 pub mod WhiteSpace
 pub mod Texts

@@ -23,7 +23,8 @@ use Rattle.gix_date.specs.declared.time.Time.{Time}
 use Rattle.gix_date.specs.declared.time.format.Format.{Format}
 use Rattle.gix_date.specs.declared.time.format.Format.TheVariants.{Custom, Unix, Raw}
 
-abbrev filled_parts : PlainZoned → List ℕ → Option (List ℕ) → Parts
+-- the parts that are printed, with the names of the zone
+abbrev pub filled_parts : PlainZoned → List ℕ → Option (List ℕ) → Parts
 filled_parts z abbreviation name = record (zoned_parts z.datetime z.offset z.timestamp abbreviation name) { weekday = Some (weekday_of z.datetime.date) }
 
 pub are-printed : (z : PlainZoned) (info : OffsetInfo) (abbreviation : List ℕ) (name : Option (List ℕ)) (filled : Parts)

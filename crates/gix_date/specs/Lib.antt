@@ -30,6 +30,7 @@ pub mod Families
 pub mod Views
 pub mod Zoned
 pub mod Printed
+pub mod NamedTexts
 pub mod Civil
 pub mod ClockCut
 pub mod GitClock

@@ -13,6 +13,7 @@ ghost use Rattle.gix_date.specs.declared.parsing.raw.TheConstants.{MOST_HOURS};
 ghost use Rattle.gix_date.specs.declared.time.format.Format.TheVariants.{Unix, Raw};
 ghost use Rattle.jiff.specs.declared.zoned.Zoned.{Zoned};
 ghost use Rattle.gix_date.specs.declared.time.write.TheConstants.{HUNDRED_HOURS, LONGEST_TEXT};
+ghost use Rattle.gix_date.specs.NamedTexts.{ShowsText, short_text, rfc2822_text, git_rfc2822_text, iso8601_text, iso8601_strict_text, gitoxide_text, default_text};
 ghost use Rattle.gix_date.specs.Patterns.{short_answer, rfc2822_answer, iso8601_answer, iso8601_strict_answer, gitoxide_answer, default_answer};
 ghost use Rattle.gix_date.specs.Spelled.{IsAnswered, IsDayAnswered, IsMailDate, IsIso8601, IsIso8601Strict, IsGitoxideDate, IsDefaultDate};
 
@@ -108,3 +109,14 @@ pub fn other_formats() -> [Format; 2]
 {
     [UNIX, RAW]
 }
+
+/// By the named formats a time of a local year from 1000 to 9999 and an offset of whole minutes is printed so, and never refused.
+pub fn printed()
+    ensures short { ShowsText (codes "%Y-%m-%d") short_text }
+    ensures rfc2822 { ShowsText (codes "%a, %d %b %Y %H:%M:%S %z") rfc2822_text }
+    ensures git_rfc2822 { ShowsText (codes "%a, %-d %b %Y %H:%M:%S %z") git_rfc2822_text }
+    ensures iso8601 { ShowsText (codes "%Y-%m-%d %H:%M:%S %z") iso8601_text }
+    ensures iso8601_strict { ShowsText (codes "%Y-%m-%dT%H:%M:%S%:z") iso8601_strict_text }
+    ensures gitoxide { ShowsText (codes "%a %b %d %Y %H:%M:%S %z") gitoxide_text }
+    ensures by_default { ShowsText (codes "%a %b %-d %H:%M:%S %Y %z") default_text }
+{}

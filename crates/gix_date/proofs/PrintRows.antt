@@ -1,0 +1,47 @@
+-- The texts of the named formats on worked times: each row computes.
+use Rattle.std.proofs.Common.{◌≡◌, refl, pos}
+use Rattle.std.specs.Fmt.{digits}
+use Rattle.std.specs.Prelude.{codes}
+use Rattle.gix_date.proofs.Rows.{minus}
+use Rattle.gix_date.specs.NamedTexts.{LocalTime, short_text, rfc2822_text, git_rfc2822_text, iso8601_text, iso8601_strict_text, gitoxide_text, default_text}
+
+-- 1659933906 at 28800, a Monday
+abbrev monday : LocalTime
+monday = record {
+  weekday = 0;
+  date = record { year = 2022; month = 8; day = 8 };
+  clock = record { hour = 12; minute = 45; second = 6 };
+  offset = pos 28800;
+}
+
+-- 951827696 at -12600, a Tuesday
+abbrev leap-day : LocalTime
+leap-day = record {
+  weekday = 1;
+  date = record { year = 2000; month = 2; day = 29 };
+  clock = record { hour = 9; minute = 4; second = 56 };
+  offset = minus 12600;
+}
+
+short : short_text monday ≡ codes "2022-08-08"
+short = refl
+
+rfc2822 : rfc2822_text monday ≡ codes "Mon, 08 Aug 2022 12:45:06 +0800"
+rfc2822 = refl
+
+git_rfc2822 : git_rfc2822_text monday ≡ codes "Mon, 8 Aug 2022 12:45:06 +0800"
+unfolding digits
+git_rfc2822 = refl
+
+iso8601 : iso8601_text leap-day ≡ codes "2000-02-29 09:04:56 -0330"
+iso8601 = refl
+
+strict : iso8601_strict_text leap-day ≡ codes "2000-02-29T09:04:56-03:30"
+strict = refl
+
+gitoxide : gitoxide_text leap-day ≡ codes "Tue Feb 29 2000 09:04:56 -0330"
+gitoxide = refl
+
+by-default : default_text leap-day ≡ codes "Tue Feb 29 09:04:56 2000 -0330"
+unfolding digits
+by-default = refl
