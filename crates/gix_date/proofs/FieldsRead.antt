@@ -11,6 +11,7 @@ use Rattle.gix_date.specs.Numbers.{read_two_digits, read_digit, read_field, read
 use Rattle.gix_date.specs.Offsets.{offset_fields, read_sign}
 use Rattle.gix_date.specs.PatternFields.{is_space, behind_spaces, read_name, read_month, behind_weekday, read_plain_date, read_minutes, read_second, read_clock, read_mail_clock, plain_zone, strict_zone, mail_zone, mail_offset, named_zone}
 use Rattle.gix_date.specs.Patterns.{behind_day_name}
+use Rattle.gix_date.proofs.Instants.{both}
 use Rattle.gix_date.specs.declared.parsing.civil.ClockFields.{ClockFields}
 use Rattle.gix_date.specs.declared.parsing.civil.DateFields.{DateFields}
 
@@ -63,11 +64,6 @@ year-begins (a ∷ b ∷ []) n h = absurd h
 year-begins (a ∷ b ∷ c ∷ []) n h = absurd h
 year-begins (a ∷ b ∷ c ∷ d ∷ []) n h = h.0
 year-begins (a ∷ b ∷ c ∷ d ∷ e ∷ t) n h = absurd h
-
-both : (a b : Bool) → (a && b) ≡ true → (a ≡ true) × (b ≡ true)
-both true true h = (refl, refl)
-both true false h = absurd cc
-both false b h = absurd cc
 
 pub name-begins : (t : List ℕ) → AreThreeLetters t → Begins is_ascii_alphabetic t
 name-begins [] h = absurd h

@@ -12,6 +12,7 @@ use Rattle.gix_date.specs.Fields.{Read, behind, ◌>>=◌}
 use Rattle.gix_date.specs.Numbers.{read_two_digits, read_digit, read_field, read_year}
 use Rattle.gix_date.specs.PatternFields.{is_space, behind_spaces, read_name, read_month, month_of, is_weekday, behind_weekday, read_plain_date, read_minutes, read_second, read_clock, read_mail_clock, leapless}
 use Rattle.gix_date.specs.Patterns.{behind_day_name}
+use Rattle.gix_date.proofs.Instants.{both}
 use Rattle.gix_date.specs.declared.parsing.civil.ClockFields.{ClockFields}
 use Rattle.gix_date.specs.declared.parsing.civil.DateFields.{DateFields}
 
@@ -39,11 +40,6 @@ behind-taken b (c ∷ t) rest e =
     let g = guard (c == b) t rest e in
     let first : c ≡ b = grind (arith, nat_tests, g.0) in
     ap (λ k. k ∷ t) first ∙ ap (λ (r : List ℕ). b ∷ r) g.1
-
-both : (a b : Bool) → (a && b) ≡ true → (a ≡ true) × (b ≡ true)
-both true true h = (refl, refl)
-both true false h = absurd cc
-both false b h = absurd cc
 
 abbrev at_front : ℕ → List ℕ → ℕ × List ℕ
 at_front n rest = (n, rest)

@@ -23,7 +23,7 @@ use Rattle.gix_date.specs.declared.parsing.civil.ClockFields.{ClockFields}
 abbrev pub IsInstantSeconds : ℤ → Type 0
 IsInstantSeconds seconds = IsBetween first_second last_second seconds
 
-both : (a b : Bool) → (a && b) ≡ true → (a ≡ true) × (b ≡ true)
+pub both : (a b : Bool) → (a && b) ≡ true → (a ≡ true) × (b ≡ true)
 both true true h = (refl, refl)
 both true false h = cc
 both false b h = cc
