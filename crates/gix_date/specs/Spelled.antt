@@ -1,5 +1,5 @@
 -- The formatted dates as sentences: a text of each family is the texts of its fields, one behind the other.
-use Rattle.std.specs.Prelude.{◌≡◌, ℕ, ℤ, true, List, [], ◌∷◌, ◌++◌, ◌⊎◌, Some}
+use Rattle.std.specs.Prelude.{◌≡◌, ℕ, ℤ, true, List, [], ◌∷◌, ◌++◌, ◌⊎◌, Some, Option, ◌↔◌}
 use Rattle.gix_date.specs.Answer.{FamilyAnswer}
 use Rattle.gix_date.specs.Characters.{letter_t}
 use Rattle.gix_date.specs.Civil.{is_date}
@@ -123,3 +123,7 @@ pub record IsDayAnswered (text : List ℕ) (answer : FamilyAnswer) : Type 0 wher
   pub is_form : IsPlainDate text date
   pub exists : is_date date ≡ true
   pub comes : answer ≡ day_answer date
+
+-- a family answers what such a text comes to, and nothing of another text
+abbrev pub Spells : (List ℕ → Option FamilyAnswer) → (List ℕ → FamilyAnswer → Type 0) → Type 0
+Spells family Is = (text : List ℕ) (answer : FamilyAnswer) → (family text ≡ Some answer) ↔ Is text answer

@@ -1,9 +1,8 @@
 //! Laws, each the contract of a function that does nothing.
-ghost use Rattle.std.specs.Prelude.{◌≡◌, ◌↔◌, ◌++◌, ◌≤◌, List, ℕ, Some, is_some, filter, map, codes, [], ◌∷◌, pos, neg_ℤ, length, IfSome, IsTrue};
+ghost use Rattle.std.specs.Prelude.{◌≡◌, ◌↔◌, ◌++◌, ◌≤◌, List, ℕ, is_some, filter, map, codes, [], ◌∷◌, pos, neg_ℤ, length, IfSome, IsTrue};
 ghost use Rattle.std.specs.declared.cmp.Ordering.TheVariants.{Equal};
 ghost use Rattle.std.specs.Hash as fed;
 ghost use Rattle.std.specs.Ordering.{int_cmp, on, then_cmp};
-ghost use Rattle.gix_date.specs.Answer.{FamilyAnswer};
 ghost use Rattle.gix_date.specs.Families.{answers_before_git};
 ghost use Rattle.gix_date.specs.HeaderText.{header_text};
 ghost use Rattle.gix_date.specs.Relative.{RelativeDate, IsNamed};
@@ -15,7 +14,7 @@ ghost use Rattle.jiff.specs.declared.zoned.Zoned.{Zoned};
 ghost use Rattle.gix_date.specs.declared.time.write.TheConstants.{HUNDRED_HOURS, LONGEST_TEXT};
 ghost use Rattle.gix_date.specs.NamedTexts.{ShowsText, short_text, rfc2822_text, git_rfc2822_text, iso8601_text, iso8601_strict_text, gitoxide_text, default_text};
 ghost use Rattle.gix_date.specs.Patterns.{short_answer, rfc2822_answer, iso8601_answer, iso8601_strict_answer, gitoxide_answer, default_answer};
-ghost use Rattle.gix_date.specs.Spelled.{IsAnswered, IsDayAnswered, IsMailDate, IsIso8601, IsIso8601Strict, IsGitoxideDate, IsDefaultDate};
+ghost use Rattle.gix_date.specs.Spelled.{Spells, IsAnswered, IsDayAnswered, IsMailDate, IsIso8601, IsIso8601Strict, IsGitoxideDate, IsDefaultDate};
 
 use crate::parsing::TimeBuf;
 use crate::time::Time;
@@ -74,12 +73,12 @@ pub fn named_once()
 /// A formatted date is the texts of its fields, one behind the other: what a family of them answers is what the fields say, and a
 /// text that is so written is of that family.
 pub fn spelled()
-    ensures day { (text : List ℕ) (answer : FamilyAnswer) → (short_answer text ≡ Some answer) ↔ IsDayAnswered text answer }
-    ensures mail { (text : List ℕ) (answer : FamilyAnswer) → (rfc2822_answer text ≡ Some answer) ↔ IsAnswered IsMailDate text answer }
-    ensures iso8601 { (text : List ℕ) (answer : FamilyAnswer) → (iso8601_answer text ≡ Some answer) ↔ IsAnswered IsIso8601 text answer }
-    ensures strict { (text : List ℕ) (answer : FamilyAnswer) → (iso8601_strict_answer text ≡ Some answer) ↔ IsAnswered IsIso8601Strict text answer }
-    ensures gitoxide { (text : List ℕ) (answer : FamilyAnswer) → (gitoxide_answer text ≡ Some answer) ↔ IsAnswered IsGitoxideDate text answer }
-    ensures by_default { (text : List ℕ) (answer : FamilyAnswer) → (default_answer text ≡ Some answer) ↔ IsAnswered IsDefaultDate text answer }
+    ensures day { Spells short_answer IsDayAnswered }
+    ensures mail { Spells rfc2822_answer (IsAnswered IsMailDate) }
+    ensures iso8601 { Spells iso8601_answer (IsAnswered IsIso8601) }
+    ensures strict { Spells iso8601_strict_answer (IsAnswered IsIso8601Strict) }
+    ensures gitoxide { Spells gitoxide_answer (IsAnswered IsGitoxideDate) }
+    ensures by_default { Spells default_answer (IsAnswered IsDefaultDate) }
 {}
 
 /// No text is of two of the families that stand before Git's own forms.
@@ -90,7 +89,10 @@ pub fn apart()
 /// The formats that are patterns are these seven, in the order of their names here: short, RFC 2822, the same as Git prints it,
 /// ISO 8601, strict ISO 8601, gitoxide's and Git's default.
 pub fn named_formats() -> [CustomFormat; 7]
-    ensures { map (λ f. f.pattern.now) result ≡ codes "%Y-%m-%d" ∷ codes "%a, %d %b %Y %H:%M:%S %z" ∷ codes "%a, %-d %b %Y %H:%M:%S %z" ∷ codes "%Y-%m-%d %H:%M:%S %z" ∷ codes "%Y-%m-%dT%H:%M:%S%:z" ∷ codes "%a %b %d %Y %H:%M:%S %z" ∷ codes "%a %b %-d %H:%M:%S %Y %z" ∷ [] }
+    ensures { map (λ f. f.pattern.now) result
+        ≡ codes "%Y-%m-%d" ∷ codes "%a, %d %b %Y %H:%M:%S %z" ∷ codes "%a, %-d %b %Y %H:%M:%S %z"
+        ∷ codes "%Y-%m-%d %H:%M:%S %z" ∷ codes "%Y-%m-%dT%H:%M:%S%:z" ∷ codes "%a %b %d %Y %H:%M:%S %z"
+        ∷ codes "%a %b %-d %H:%M:%S %Y %z" ∷ [] }
 {
     [
         SHORT,

@@ -179,7 +179,9 @@ impl Time {
     }
 
     /// The same, with the seconds in decimal for a time that has no text in that format: where [`Time::format`] answers
-    /// [`Error::Conversion`], [`Error::OffsetTooWide`] or [`Error::Pattern`]. [`Error::Memory`] alone is refused with.
+    /// [`Error::Conversion`], [`Error::OffsetTooWide`] or [`Error::Pattern`].
+    ///
+    /// The one refusal is [`Error::Memory`], where memory for the text is refused.
     pub fn format_or_unix(&self, alloc: Global, format: Format) -> Result<String, Error>
         ensures { PrintsOrSeconds self.now format result }
     {
