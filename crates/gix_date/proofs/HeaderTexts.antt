@@ -5,7 +5,7 @@ use Rattle.std.proofs.lemmas.Int.{ints}
 use Rattle.std.specs.Prelude.{IfSome, IsSome, unsigned_abs, nat_lt}
 use Rattle.jiff.specs.Words.{IsOffsetSeconds}
 use Rattle.gix_date.specs.Characters.{space}
-use Rattle.gix_date.specs.HeaderText.{header_text, offset_sign, hours_and_minutes}
+use Rattle.gix_date.specs.HeaderText.{header_text, zone_text}
 use Rattle.gix_date.specs.Numbers.{decimal_text}
 use Rattle.gix_date.specs.declared.time.Time.{Time}
 use Rattle.gix_date.specs.declared.time.write.TheConstants.{HUNDRED_HOURS}
@@ -18,7 +18,7 @@ some_of false xs P h = tt
 pub length-header_text : (t : Time) (n : ℕ) → n ≡ length (decimal_text t.seconds) + 6 → IfSome (header_text t) (λ text. n ≡ length text)
 unfolding header_text
 length-header_text t n h =
-    let behind = space ∷ offset_sign t.offset ∷ hours_and_minutes (unsigned_abs t.offset) in
+    let behind = space ∷ zone_text t.offset in
     some_of (nat_lt (unsigned_abs t.offset) HUNDRED_HOURS) _ (λ text. n ≡ length text) (omega (arith, h, length-append (decimal_text t.seconds) behind))
 
 is_some_of : (b : Bool) (xs : List ℕ) → b ≡ true → IsSome (cond b (Some xs) None)

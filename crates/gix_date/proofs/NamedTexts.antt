@@ -15,7 +15,8 @@ use Rattle.jiff_strtime.specs.Text.{month_names as full_names}
 use Rattle.std.specs.Fmt.{decimal}
 use Rattle.gix_date.specs.Characters.{space, comma, colon, minus, letter_t}
 use Rattle.gix_date.specs.Numbers.{two_digits}
-use Rattle.gix_date.specs.NamedTexts.{LocalTime, four_digits, local_time, IsOrdinary, ShowsText, day_name, month_name, zone_text, strict_zone_text, short_text, rfc2822_text, git_rfc2822_text, iso8601_text, iso8601_strict_text, gitoxide_text, default_text}
+use Rattle.gix_date.specs.HeaderText.{zone_text}
+use Rattle.gix_date.specs.NamedTexts.{LocalTime, four_digits, local_time, IsOrdinary, ShowsText, day_name, month_name, strict_zone_text, short_text, rfc2822_text, git_rfc2822_text, iso8601_text, iso8601_strict_text, gitoxide_text, default_text}
 use Rattle.gix_date.proofs.Printing.{filled_parts}
 use Rattle.gix_date.proofs.ShownPieces.{AlwaysShows, InRange, ascii-bare, ascii-four, ascii-mark, ascii-month, ascii-strict-zone, ascii-two, ascii-weekday, ascii-zone, bare, context, in-range, joined, joined-is, concatenated, month-short, number, number-bare, number-four, number-two, shows-text, strict-zone-is, strict_config, weekday-short, year-is, zone-is}
 

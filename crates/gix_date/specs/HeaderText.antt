@@ -17,11 +17,15 @@ offset_sign offset = if int_lt offset (pos 0) then minus else plus
 abbrev pub hours_and_minutes : ℕ → List ℕ
 hours_and_minutes seconds = two_digits (seconds / 3600) ++ two_digits (seconds % 3600 / 60)
 
+-- an offset as `+hhmm`
+abbrev pub zone_text : ℤ → List ℕ
+zone_text offset = offset_sign offset ∷ hours_and_minutes (unsigned_abs offset)
+
 -- the header text of a time: none where the offset is 100 hours or more either way
 unfoldable pub header_text : Time → Option (List ℕ)
 header_text t =
     if nat_lt (unsigned_abs t.offset) HUNDRED_HOURS
-    then Some (decimal_text t.seconds ++ space ∷ offset_sign t.offset ∷ hours_and_minutes (unsigned_abs t.offset)) else None
+    then Some (decimal_text t.seconds ++ space ∷ zone_text t.offset) else None
 
 -- What writing a time came to: the writer took all of the text, or no byte, or a proper prefix and has that fault.
 abbrev pub Writes : Time → Known → Known → Result Unit Error → Type 0

@@ -5,7 +5,7 @@ use Rattle.jiff.specs.Types.{PlainZoned}
 use Rattle.jiff_core.specs.Date.{weekday_of}
 use Rattle.jiff_strtime.specs.Show.{Shown}
 use Rattle.gix_date.specs.Characters.{space, comma, minus, colon, letter_t}
-use Rattle.gix_date.specs.HeaderText.{offset_sign, hours_and_minutes}
+use Rattle.gix_date.specs.HeaderText.{offset_sign, zone_text}
 use Rattle.gix_date.specs.Numbers.{two_digits}
 use Rattle.gix_date.specs.Printed.{IsShown, IsUnprinted}
 use Rattle.gix_date.specs.declared.parsing.civil.ClockFields.{ClockFields}
@@ -57,10 +57,7 @@ date_text d = four_digits d.year ++ minus ∷ two_digits d.month ++ minus ∷ tw
 abbrev pub clock_text : ClockFields → List ℕ
 clock_text c = two_digits c.hour ++ colon ∷ two_digits c.minute ++ colon ∷ two_digits c.second
 
--- `+hhmm`, and `+hh:mm`
-abbrev pub zone_text : ℤ → List ℕ
-zone_text offset = offset_sign offset ∷ hours_and_minutes (unsigned_abs offset)
-
+-- an offset as `+hh:mm`
 abbrev pub strict_zone_text : ℤ → List ℕ
 strict_zone_text offset = offset_sign offset ∷ two_digits (unsigned_abs offset / 3600) ++ colon ∷ two_digits (unsigned_abs offset % 3600 / 60)
 

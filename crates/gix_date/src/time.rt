@@ -15,6 +15,9 @@ pub type SecondsSinceUnixEpoch = i64;
 /// Seconds that a place's clock is ahead of UTC, negative where it is behind: positive is east.
 pub type OffsetInSeconds = i32;
 
+/// Seconds of an hour.
+pub(crate) const SECONDS_PER_HOUR: OffsetInSeconds = 60 * 60;
+
 /// A moment, and the offset of the place where it was written down.
 ///
 /// The offset says how to show the moment, and does not change it. Both numbers can be any of their type. Times are in

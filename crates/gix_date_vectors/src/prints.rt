@@ -1,12 +1,14 @@
 //! Times printed by formats, and those of a clock.
 use crate::fakes::take_all;
+use gix_date::parsing::TimeBuf;
 use gix_date::time::format::{
     DEFAULT, GIT_RFC2822, GITOXIDE, ISO8601, ISO8601_STRICT, RAW, RFC2822, SHORT, UNIX,
 };
 use gix_date::time::{CustomFormat, Format};
-use gix_date::{Error, Time, parse};
+use gix_date::{Error, Time, parse, parse_header};
 use jiff::Timestamp;
 use jiff::tz::TimeZone;
+use std::alloc::{AllocError, Global};
 use std::test::Fail;
 
 /// A time, and what Git 2.39.5 prints of it by `git log --date=default --format='%ad|%aD|%ai|%aI'` and by
@@ -110,6 +112,13 @@ fn times_are_printed(rt: HostRuntime) -> Result<(), Fail> {
         (18_000, -18_000, ISO8601.into(), "1970-01-01 00:00:00 -0500"),
         (-1, 0, UNIX, "-1"),
         (1_660_874_655, 28_800, RAW, "1660874655 +0800"),
+        (1_660_797_906, 28_800, RAW, "1660797906 +0800"),
+        (
+            1_660_797_906,
+            28_800,
+            ISO8601.into(),
+            "2022-08-18 12:45:06 +0800",
+        ),
         (0, 359_999, RAW, "0 +9959"),
         (i64::MIN, 0, UNIX, "-9223372036854775808"),
         (
@@ -148,6 +157,19 @@ fn times_are_printed(rt: HostRuntime) -> Result<(), Fail> {
             0,
             CustomFormat::new("%A %-d %B, %Z").into(),
             "Thursday 1 January, UTC",
+        ),
+        (0, 0, CustomFormat::new("%Q").into(), "UTC"),
+        (
+            1_660_874_655,
+            28_800,
+            CustomFormat::new("%Z, %Q, %:Q").into(),
+            "+08, +0800, +08:00",
+        ),
+        (
+            951_827_696,
+            -12_600,
+            CustomFormat::new("%Z").into(),
+            "-03:30",
         ),
         (0, 0, CustomFormat::new("").into(), ""),
     ];
@@ -224,23 +246,49 @@ fn a_text_that_is_refused_memory_is_refused(rt: HostRuntime) -> Result<(), Fail>
     Ok(())
 }
 
+/// A piece of memory of each size.
+fn pieces(alloc: Global, sizes: [usize; 2]) -> Result<Vec<Vec<u8>>, AllocError> {
+    let mut pieces = Vec::new(alloc);
+    for size in sizes {
+        pieces.push(Vec::with_capacity(alloc, size)?)?;
+    }
+    Ok(pieces)
+}
+
 #[test]
 fn each_growth_of_a_text_may_be_refused(rt: HostRuntime) -> Result<(), Fail> {
     let time = Time::new(1_660_874_655, 28_800);
-    let mut all_right = true;
-    for size in [8, 32] {
-        let spare: Vec<u8> = Vec::with_capacity(rt.alloc(), size)?;
+    // Of 14 bytes both, for which `jiff` asks for twice as many at first: the second text has room in these, the first has not.
+    let [long, short] = [
+        CustomFormat::new("%A, %B, %A, %B"),
+        CustomFormat::new("%A, %B, %a, %b"),
+    ];
+    let (mut first_refused, mut growth_refused, mut printed) = (false, false, false);
+    for kept in [2, 1, 0] {
+        let mut room = pieces(rt.alloc(), [65_536, 28])?;
         let blocks = take_all(rt.alloc())?;
-        drop(spare);
-        match time.format(rt.alloc(), Format::Custom(RFC2822)) {
-            Ok(text) => {
-                all_right = all_right && text.as_str() == "Fri, 19 Aug 2022 10:04:15 +0800";
-            }
-            Err(fault) => all_right = all_right && matches!(fault, Error::Memory),
-        }
+        room.truncate(kept);
+        let refused = matches!(time.format(rt.alloc(), long.into()), Err(Error::Memory));
+        let fits = time.format(rt.alloc(), short.into()).is_ok();
+        first_refused = first_refused || kept == 2 && refused && !fits;
+        growth_refused = growth_refused || kept == 1 && refused && fits;
+        printed = printed || kept == 0 && !refused && fits;
         drop(blocks);
     }
-    assert!(rt; all_right, "little-memory");
+    assert!(rt; first_refused, "no-memory");
+    assert!(rt; growth_refused, "little-memory");
+    assert!(rt; printed, "enough-memory");
+    Ok(())
+}
+
+#[test]
+fn a_header_is_printed_as_it_is_written(rt: HostRuntime) -> Result<(), Fail> {
+    for header in ["1660797906 +0800", "0 -0330", "-1 +9959"] {
+        let time = parse_header(header).ok_or(Error::InvalidTime)?;
+        let mut buf = TimeBuf::default();
+        assert_eq!(rt; time.to_str(&mut buf)?, header);
+        assert_eq!(rt; time.format(rt.alloc(), RAW)?.as_str(), header);
+    }
     Ok(())
 }
 

@@ -5,7 +5,7 @@ ghost use Rattle.gix_date.specs.Offsets.{read_sign, last_pair, offset_fields};
 
 use crate::parsing::fields::behind;
 use crate::parsing::numbers::{parse_two_digits, read_two_digits};
-use crate::time::OffsetInSeconds;
+use crate::time::{OffsetInSeconds, SECONDS_PER_HOUR};
 
 /// Which side of UTC an offset lies on.
 #[derive(Clone, Copy)]
@@ -32,7 +32,7 @@ impl OffsetFields {
     pub(crate) fn in_seconds(self) -> OffsetInSeconds
         ensures { result ≡ offset_of self }
     {
-        let whole_minutes = 3600 * i32::from(self.hours) + 60 * i32::from(self.minutes);
+        let whole_minutes = SECONDS_PER_HOUR * i32::from(self.hours) + 60 * i32::from(self.minutes);
         let distance = whole_minutes + i32::from(self.seconds.unwrap_or(0));
         match self.sign {
             Sign::Plus => distance,

@@ -11,7 +11,8 @@ ghost use Rattle.gix_date.specs.RelativeWords.{relative_words};
 use crate::error::Error;
 use crate::parsing::relative::pairs::next_pair;
 use crate::parsing::relative::scan::are_pairs;
-use crate::parsing::relative::steps::{SECONDS_PER_DAY, earlier, settle, subtract};
+use crate::parsing::relative::steps::{earlier, settle, subtract};
+use crate::parsing::relative::words::SECONDS_PER_DAY;
 use crate::time::Time;
 use jiff::Zoned;
 

@@ -7,14 +7,12 @@ ghost use Rattle.gix_date.specs.HeaderText.{header_text, Writes};
 
 use crate::device::{Sink, put_all};
 use crate::error::Error;
-use crate::time::{SecondsSinceUnixEpoch, Time};
+use crate::time::{SECONDS_PER_HOUR, SecondsSinceUnixEpoch, Time};
 use arrayvec::ArrayString;
 use std::fmt;
 
-const SECONDS_PER_HOUR: u32 = 60 * 60;
-
 /// The least distance from UTC, in seconds, that two digits of hours cannot say.
-const HUNDRED_HOURS: u32 = 100 * SECONDS_PER_HOUR;
+const HUNDRED_HOURS: u32 = 100 * SECONDS_PER_HOUR as u32;
 
 /// The most bytes that the text of a time has: those of the least seconds with an offset.
 pub(crate) const LONGEST_TEXT: usize = 26;
@@ -107,8 +105,8 @@ pub(crate) fn header_text(time: Time) -> Option<ArrayString<LONGEST_TEXT>>
     text.push_str(itoa::Buffer::new().format(time.seconds));
     text.push(' ');
     text.push(if time.offset < 0 { '-' } else { '+' });
-    push_two_digits(&mut text, distance / SECONDS_PER_HOUR);
-    push_two_digits(&mut text, distance % SECONDS_PER_HOUR / 60);
+    push_two_digits(&mut text, distance / SECONDS_PER_HOUR as u32);
+    push_two_digits(&mut text, distance % SECONDS_PER_HOUR as u32 / 60);
     Some(text)
 }
 

@@ -82,16 +82,16 @@ fn parse_clock_with_colons(text: &str) -> Option<ClockFields>
     ensures fits { IfSome result ClockFits }
 {
     let Some((hours, rest)) = text.split_once(':') else {
-        return clock_of(parse_digits(23, text), Some(0), Some(0));
+        return clock_of(digits_at_most(23, text), Some(0), Some(0));
     };
     let Some((minutes, seconds)) = rest.split_once(':') else {
-        return clock_of(parse_digits(23, hours), parse_digits(59, rest), Some(0));
+        return clock_of(digits_at_most(23, hours), digits_at_most(59, rest), Some(0));
     };
     let seconds = before_colon(seconds);
     clock_of(
-        parse_digits(23, hours),
-        parse_digits(59, minutes),
-        parse_digits(59, seconds),
+        digits_at_most(23, hours),
+        digits_at_most(59, minutes),
+        digits_at_most(59, seconds),
     )
 }
 
@@ -114,7 +114,7 @@ fn clock_of(hour: Option<u8>, minute: Option<u8>, second: Option<u8>) -> Option<
 }
 
 /// The number of digits alone, of any width, where it is at most this.
-fn parse_digits(most: u8, text: &str) -> Option<u8>
+fn digits_at_most(most: u8, text: &str) -> Option<u8>
     ensures value { result ≡ digits_at_most most text.now }
     ensures bound { IfSome result (λ n. n ≤ most) }
 {

@@ -20,7 +20,7 @@ pub(crate) fn parse_git_offset(text: &str) -> Option<OffsetInSeconds>
         return Some(0);
     }
     let (sign, rest) = read_sign(text)?;
-    let fields = parse_digits(sign, rest.as_bytes())?;
+    let fields = offset_of_digits(sign, rest.as_bytes())?;
     if is_within_a_day(fields) {
         Some(fields.in_seconds())
     } else {
@@ -35,7 +35,7 @@ fn is_within_a_day(fields: OffsetFields) -> bool
 }
 
 /// Two digits of hours, or four of hours and minutes, among any colons.
-fn parse_digits(sign: Sign, text: &[u8]) -> Option<OffsetFields>
+fn offset_of_digits(sign: Sign, text: &[u8]) -> Option<OffsetFields>
     ensures value { result ≡ offset_of_digits sign (without_colons text.now) }
     ensures whole_minutes { IfSome result (λ f. f.seconds ≡ None) }
 {

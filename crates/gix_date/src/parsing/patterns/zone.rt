@@ -6,9 +6,7 @@ ghost use Rattle.gix_date.specs.PatternFields.{plain_zone, strict_zone, mail_zon
 use crate::parsing::fields::behind;
 use crate::parsing::numbers::{parse_two_digits, read_two_digits};
 use crate::parsing::offset::{OffsetFields, parse_offset_fields, read_sign};
-use crate::time::OffsetInSeconds;
-
-const SECONDS_PER_HOUR: i32 = 3600;
+use crate::time::{OffsetInSeconds, SECONDS_PER_HOUR};
 
 /// The offset of fields: hours of at most 25, and minutes and seconds of at most 59.
 fn zone_offset(fields: OffsetFields) -> Option<OffsetInSeconds>

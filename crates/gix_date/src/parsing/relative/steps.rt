@@ -7,15 +7,10 @@ ghost use Rattle.gix_date.specs.RelativePairs.{pair_of};
 ghost use Rattle.gix_date.specs.RelativeSteps.{IsAt, zone_of, Settles, SecondsStep, MonthsStep, PairStep, IsPicked, civil_of};
 
 use crate::parsing::relative::pairs::Pair;
-use crate::parsing::relative::words::TimeUnit;
+use crate::parsing::relative::words::{MONTHS_PER_YEAR, SECONDS_PER_DAY, TimeUnit};
 use jiff::civil::{Date, Time};
 use jiff::tz::TimeZone;
 use jiff::{SignedDuration, Zoned};
-
-/// The seconds of a day in which the zone's offset does not change.
-pub(crate) const SECONDS_PER_DAY: i64 = 24 * 60 * 60;
-
-const MONTHS_PER_YEAR: i64 = 12;
 
 /// What a zone's clock shows, as fields that may name a day past the end of its month.
 #[derive(Clone, Copy)]

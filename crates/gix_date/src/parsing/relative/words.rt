@@ -7,6 +7,11 @@ ghost use Rattle.gix_date.specs.Roles.{is_count_word, has_unit};
 
 use crate::parsing::numbers::parse_int;
 
+/// The seconds of a day in which the zone's offset does not change.
+pub(crate) const SECONDS_PER_DAY: i64 = 24 * 60 * 60;
+
+pub(crate) const MONTHS_PER_YEAR: i64 = 12;
+
 /// A unit, and how one of it is taken off an instant.
 #[derive(Debug, Clone, Copy)]
 pub(crate) enum TimeUnit {
@@ -147,13 +152,13 @@ fn named_unit(name: &str) -> Option<TimeUnit>
     } else if name.eq_ignore_ascii_case("hour") {
         Some(TimeUnit::Seconds(60 * 60))
     } else if name.eq_ignore_ascii_case("day") {
-        Some(TimeUnit::Seconds(24 * 60 * 60))
+        Some(TimeUnit::Seconds(SECONDS_PER_DAY))
     } else if name.eq_ignore_ascii_case("week") {
-        Some(TimeUnit::Seconds(7 * 24 * 60 * 60))
+        Some(TimeUnit::Seconds(7 * SECONDS_PER_DAY))
     } else if name.eq_ignore_ascii_case("month") {
         Some(TimeUnit::Months(1))
     } else if name.eq_ignore_ascii_case("year") {
-        Some(TimeUnit::Months(12))
+        Some(TimeUnit::Months(MONTHS_PER_YEAR))
     } else {
         None
     }

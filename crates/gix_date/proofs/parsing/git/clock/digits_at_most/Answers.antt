@@ -1,6 +1,6 @@
 use Rattle.std.proofs.Common.{◌∙◌, sym, arith}
 use Rattle.gix_date.proofs.ClockParts.{field_no, field_none, field_above, field_is}
-use Rattle.gix_date.proofs.parsing.git.clock.parse_digits.Goals as goal
+use Rattle.gix_date.proofs.parsing.git.clock.digits_at_most.Goals as goal
 
 pub returns-then-not-is_all_digits-clause-value : goal.returns-then-not-is_all_digits-clause-value
 returns-then-not-is_all_digits-clause-value c = field_no c.args.most c.args.text.now (sym c.is_all_digits.ensures ∙ c.if-not-is_all_digits.true)
