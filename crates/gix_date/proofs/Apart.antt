@@ -6,12 +6,12 @@ use Rattle.std.specs.Char.{is_ascii_digit, is_ascii_alphabetic}
 use Rattle.std.specs.Str.{all_ascii_digits}
 use Rattle.std.specs.Str.Parse.{without_leading_sign, signed_digits_value}
 use Rattle.gix_date.specs.Answer.{FamilyAnswer, Absolute}
-use Rattle.gix_date.specs.Characters.{at_sign, plus, minus, comma, colon, letter_t}
+use Rattle.gix_date.specs.Characters.{at_sign, plus, minus, comma, colon, letter_t, is_space}
 use Rattle.gix_date.specs.Epoch.{at_time, epoch_time}
 use Rattle.gix_date.specs.FieldTexts.{IsField, IsYear, AreSpaces, IsDayName, IsPlainDate, IsDayPrefix}
 use Rattle.gix_date.specs.Fields.{behind}
 use Rattle.gix_date.specs.Numbers.{fits_i64, int_value, read_two_digits, read_digit, read_field, read_year}
-use Rattle.gix_date.specs.PatternFields.{is_space, behind_spaces, read_name, behind_weekday, read_plain_date}
+use Rattle.gix_date.specs.PatternFields.{behind_spaces, read_name, behind_weekday, read_plain_date}
 use Rattle.gix_date.specs.Patterns.{behind_day_name, short_answer, rfc2822_answer, iso8601_answer, iso8601_strict_answer, gitoxide_answer, default_answer}
 use Rattle.gix_date.proofs.FieldsRead.{Begins, BeginsNot, Excludes, begins-append, begins_not, digit-no-letter, letter-no-digit, space-no-digit, digit-no-space, field-begins, year-begins, name-begins, weekday-read, month-read, spaces-read, field-read, date-read, digit-front, name-front, gap-front}
 use Rattle.gix_date.proofs.FieldsTaken.{went, behind-taken}

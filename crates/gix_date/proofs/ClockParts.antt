@@ -12,7 +12,8 @@ use Rattle.std.specs.Prelude.{not, nat_lt, ◌&&◌}
 use Rattle.std.specs.Result.{result_ok}
 use Rattle.std.specs.Str.{all_ascii_digits}
 use Rattle.std.specs.Str.Parse.{ParsesUnsigned, digits_value}
-use Rattle.gix_date.specs.GitClock.{at_most, digits_at_most, is_colon, clock_of, clock_of_parts, clock_with_colons}
+use Rattle.gix_date.specs.Characters.{is_colon}
+use Rattle.gix_date.specs.GitClock.{at_most, digits_at_most, clock_of, clock_of_parts, clock_with_colons}
 use Rattle.gix_date.proofs.Ints.{own}
 
 all_digits : (w : List ℕ) → list_all is_ascii_digit w ≡ all_ascii_digits w

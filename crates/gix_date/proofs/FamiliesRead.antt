@@ -3,13 +3,13 @@ use Rattle.std.proofs.Common.{◌≡◌, ◌∙◌, ℕ, List, [], ◌∷◌, �
 use Rattle.std.specs.Prelude.{unwrap_or}
 use Rattle.std.specs.Char.{is_ascii_digit}
 use Rattle.gix_date.specs.Answer.{FamilyAnswer}
-use Rattle.gix_date.specs.Characters.{letter_t}
+use Rattle.gix_date.specs.Characters.{letter_t, is_space}
 use Rattle.gix_date.specs.FieldTexts.{IsDayPrefix, IsField}
 use Rattle.gix_date.specs.Fields.{behind}
-use Rattle.gix_date.specs.PatternFields.{read_plain_date, is_space}
+use Rattle.gix_date.specs.PatternFields.{read_plain_date}
 use Rattle.gix_date.specs.Patterns.{short_answer, behind_day_name, rfc2822_answer, iso8601_answer, iso8601_strict_answer, gitoxide_answer, default_answer}
 use Rattle.gix_date.specs.Spelled.{IsMailDate, IsIso8601, IsIso8601Strict, IsGitoxideDate, IsDefaultDate, IsAnswered, IsDayAnswered}
-use Rattle.gix_date.proofs.FieldsRead.{BeginsNot, begins-append, begins_not, field-begins, year-begins, field-read, year-read, spaces-read, month-read, weekday-read, date-read, prefix-read, no-prefix, clock-read, mail-clock-read, plain-no-space, mail-no-space, strict-no-digit, clock-begins, mail-clock-begins, digit-front, name-front, gap-front, gap-no-colon, digit-no-space}
+use Rattle.gix_date.proofs.FieldsRead.{BeginsNot, begins-append, begins_not, field-begins, year-begins, field-read, year-read, spaces-read, month-read, weekday-read, date-read, prefix-read, no-prefix, clock-read, mail-clock-read, compact-no-space, mail-no-space, strict-no-digit, clock-begins, mail-clock-begins, digit-front, name-front, gap-front, gap-no-colon, digit-no-space}
 
 pub short-read : (text : List ℕ) (answer : FamilyAnswer) → IsDayAnswered text answer → short_answer text ≡ Some answer
 unfolding short_answer
@@ -28,7 +28,7 @@ iso8601-read text answer h =
       date-read f.day (f.after_day ++ behind_day) h.date f.is_day (gap-front f.after_day behind_day f.spaces_after_day),
       spaces-read f.after_day behind_day f.spaces_after_day (begins_not is_ascii_digit is_space behind_day digit-no-space (clock-begins f.time behind_clock h.clock f.is_time)),
       clock-read f.time behind_clock h.clock f.is_time (gap-front f.after_time f.zone f.spaces_after_time),
-      spaces-read f.after_time f.zone f.spaces_after_time (plain-no-space f.zone h.offset f.is_zone),
+      spaces-read f.after_time f.zone f.spaces_after_time (compact-no-space f.zone h.offset f.is_zone),
       f.is_zone,
     ) h.comes
 
@@ -63,7 +63,7 @@ gitoxide-read text answer h =
       year-read f.year (f.after_year ++ behind_year) h.date.year f.is_year,
       spaces-read f.after_year behind_year f.spaces_after_year (begins_not is_ascii_digit is_space behind_year digit-no-space (clock-begins f.time behind_time h.clock f.is_time)),
       clock-read f.time behind_time h.clock f.is_time (gap-front f.after_time f.zone f.spaces_after_time),
-      spaces-read f.after_time f.zone f.spaces_after_time (plain-no-space f.zone h.offset f.is_zone),
+      spaces-read f.after_time f.zone f.spaces_after_time (compact-no-space f.zone h.offset f.is_zone),
       f.is_zone,
     ) h.comes
 
@@ -87,7 +87,7 @@ default-read text answer h =
       clock-read f.time (f.after_time ++ behind_time) h.clock f.is_time (gap-front f.after_time behind_time f.spaces_after_time),
       spaces-read f.after_time behind_time f.spaces_after_time (digit-front f.year behind_year (year-begins f.year h.date.year f.is_year)),
       year-read f.year behind_year h.date.year f.is_year,
-      spaces-read f.after_year f.zone f.spaces_after_year (plain-no-space f.zone h.offset f.is_zone),
+      spaces-read f.after_year f.zone f.spaces_after_year (compact-no-space f.zone h.offset f.is_zone),
       f.is_zone,
     ) h.comes
 

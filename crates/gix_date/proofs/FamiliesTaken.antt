@@ -7,7 +7,7 @@ use Rattle.gix_date.specs.Civil.{is_date}
 use Rattle.gix_date.specs.FieldTexts.{IsField, IsYear, AreSpaces, IsDayName, IsMonthName, IsPlainDate, IsClock, IsMailClock, IsDayPrefix}
 use Rattle.gix_date.specs.Fields.{Read, behind, ◌>>=◌}
 use Rattle.gix_date.specs.Numbers.{read_field, read_year}
-use Rattle.gix_date.specs.PatternFields.{behind_spaces, behind_weekday, read_month, read_plain_date, read_clock, read_mail_clock, plain_zone, strict_zone, mail_zone, date_answer}
+use Rattle.gix_date.specs.PatternFields.{behind_spaces, behind_weekday, read_month, read_plain_date, read_clock, read_mail_clock, compact_zone, strict_zone, mail_zone, date_answer}
 use Rattle.gix_date.specs.Patterns.{short_answer, day_answer, behind_day_name, rfc2822_answer, iso8601_answer, iso8601_strict_answer, gitoxide_answer, default_answer}
 use Rattle.gix_date.specs.SpaceWords.{is_nonempty}
 use Rattle.gix_date.specs.Spelled.{IsMailDate, IsIso8601, IsIso8601Strict, IsGitoxideDate, IsDefaultDate, IsAnswered, IsDayAnswered}
@@ -101,10 +101,10 @@ zone_taken zone date clock x answer e = went (zone x) (λ offset. date_answer da
 pub iso8601-taken : (text : List ℕ) (answer : FamilyAnswer) → iso8601_answer text ≡ Some answer → IsAnswered IsIso8601 text answer
 unfolding iso8601_answer
 iso8601-taken text answer e =
-    let on_clock : DateFields → List ℕ → Option FamilyAnswer = λ date. then_spaces read_clock (at_zone plain_zone date) in
+    let on_clock : DateFields → List ℕ → Option FamilyAnswer = λ date. then_spaces read_clock (at_zone compact_zone date) in
     let day = gap_taken read_plain_date IsPlainDate on_clock text answer date-taken e in
-    let time = gap_taken read_clock IsClock (at_zone plain_zone day.value) day.rest answer clock-taken day.goes in
-    let zone = zone_taken plain_zone day.value time.value time.rest answer time.goes in
+    let time = gap_taken read_clock IsClock (at_zone compact_zone day.value) day.rest answer clock-taken day.goes in
+    let zone = zone_taken compact_zone day.value time.value time.rest answer time.goes in
     let joined = five day.text day.gap time.text time.gap time.rest in
     record {
       date = day.value;
@@ -155,7 +155,7 @@ strict-taken text answer e =
     }
 
 gitoxide_clock : ℕ → ℕ → ℕ → List ℕ → Option FamilyAnswer
-gitoxide_clock month day year = then_spaces read_clock (at_zone plain_zone (date_of year month day))
+gitoxide_clock month day year = then_spaces read_clock (at_zone compact_zone (date_of year month day))
 
 gitoxide_year : ℕ → ℕ → List ℕ → Option FamilyAnswer
 gitoxide_year month day = then_spaces read_year (gitoxide_clock month day)
@@ -171,8 +171,8 @@ gitoxide-taken text answer e =
     let day = gap_taken read_field IsField (gitoxide_year month.value) month.rest answer field-taken month.goes in
     let year = gap_taken read_year IsYear (gitoxide_clock month.value day.value) day.rest answer year-taken day.goes in
     let date = date_of year.value month.value day.value in
-    let time = gap_taken read_clock IsClock (at_zone plain_zone date) year.rest answer clock-taken year.goes in
-    let zone = zone_taken plain_zone date time.value time.rest answer time.goes in
+    let time = gap_taken read_clock IsClock (at_zone compact_zone date) year.rest answer clock-taken year.goes in
+    let zone = zone_taken compact_zone date time.value time.rest answer time.goes in
     let behind_year = year.whole ∙ ap (λ (t : List ℕ). year.text ++ (year.gap ++ t)) time.whole in
     let behind_day = day.whole ∙ ap (λ (t : List ℕ). day.text ++ (day.gap ++ t)) behind_year in
     let behind_month = month.whole ∙ ap (λ (t : List ℕ). month.text ++ (month.gap ++ t)) behind_day in
@@ -210,7 +210,7 @@ gitoxide-taken text answer e =
     }
 
 default_year : ℕ → ℕ → ClockFields → List ℕ → Option FamilyAnswer
-default_year month day clock = then_spaces read_year (λ year. at_zone plain_zone (date_of year month day) clock)
+default_year month day clock = then_spaces read_year (λ year. at_zone compact_zone (date_of year month day) clock)
 
 default_clock : ℕ → ℕ → List ℕ → Option FamilyAnswer
 default_clock month day = then_spaces read_clock (default_year month day)
@@ -225,9 +225,9 @@ default-taken text answer e =
     let month = gap_taken read_month IsMonthName default_day name.rest answer month-taken name.goes in
     let day = gap_taken read_field IsField (default_clock month.value) month.rest answer field-taken month.goes in
     let time = gap_taken read_clock IsClock (default_year month.value day.value) day.rest answer clock-taken day.goes in
-    let year = gap_taken read_year IsYear (λ year. at_zone plain_zone (date_of year month.value day.value) time.value) time.rest answer year-taken time.goes in
+    let year = gap_taken read_year IsYear (λ year. at_zone compact_zone (date_of year month.value day.value) time.value) time.rest answer year-taken time.goes in
     let date = date_of year.value month.value day.value in
-    let zone = zone_taken plain_zone date time.value year.rest answer year.goes in
+    let zone = zone_taken compact_zone date time.value year.rest answer year.goes in
     let behind_time = time.whole ∙ ap (λ (t : List ℕ). time.text ++ (time.gap ++ t)) year.whole in
     let behind_day = day.whole ∙ ap (λ (t : List ℕ). day.text ++ (day.gap ++ t)) behind_time in
     let behind_month = month.whole ∙ ap (λ (t : List ℕ). month.text ++ (month.gap ++ t)) behind_day in

@@ -4,12 +4,12 @@ use Rattle.std.proofs.lemmas.Bool.Decides.{nat_tests}
 use Rattle.std.specs.Prelude.{◌==◌, ◌&&◌, nat_lt}
 use Rattle.std.specs.Char.{is_ascii_digit, is_ascii_alphabetic}
 use Rattle.std.specs.List.{prefix_len, list_all}
-use Rattle.gix_date.specs.Characters.{plus, minus, comma, colon, space}
+use Rattle.gix_date.specs.Characters.{plus, minus, comma, colon, space, is_space}
 use Rattle.gix_date.specs.FieldTexts.{IsField, IsYear, AreSpaces, AreThreeLetters, IsDayName, IsMonthName, IsPlainDate, IsClock, IsMailClock, IsDayPrefix}
 use Rattle.gix_date.specs.Fields.{behind}
 use Rattle.gix_date.specs.Numbers.{read_two_digits, read_digit, read_field, read_year}
 use Rattle.gix_date.specs.Offsets.{offset_fields, read_sign}
-use Rattle.gix_date.specs.PatternFields.{is_space, behind_spaces, read_name, read_month, behind_weekday, read_plain_date, read_minutes, read_second, read_clock, read_mail_clock, plain_zone, strict_zone, mail_zone, mail_offset, named_zone}
+use Rattle.gix_date.specs.PatternFields.{behind_spaces, read_name, read_month, behind_weekday, read_plain_date, read_minutes, read_second, read_clock, read_mail_clock, compact_zone, strict_zone, mail_zone, mail_offset, named_zone}
 use Rattle.gix_date.specs.Patterns.{behind_day_name}
 use Rattle.gix_date.proofs.Instants.{both}
 use Rattle.gix_date.specs.declared.parsing.civil.ClockFields.{ClockFields}
@@ -192,9 +192,9 @@ is-space : (c : ℕ) → is_space c ≡ true → c ≡ space
 is-space c h = grind (arith, nat_tests, h)
 
 -- no offset begins with a space
-space_no_plain : (t : List ℕ) → plain_zone (space ∷ t) ≡ None
-unfolding plain_zone offset_fields read_sign behind
-space_no_plain t = refl
+space_no_compact : (t : List ℕ) → compact_zone (space ∷ t) ≡ None
+unfolding compact_zone offset_fields read_sign behind
+space_no_compact t = refl
 
 space_no_mail : (t : List ℕ) → mail_zone (space ∷ t) ≡ None
 unfolding mail_zone mail_offset named_zone offset_fields read_sign behind
@@ -210,8 +210,8 @@ zone-no-space : (zone : List ℕ → Option ℤ) → ((t : List ℕ) → zone (s
 zone-no-space zone refused [] offset h = tt
 zone-no-space zone refused (c ∷ t) offset h = never zone c t offset (is_space c) refused refl h
 
-pub plain-no-space : (t : List ℕ) (offset : ℤ) → plain_zone t ≡ Some offset → BeginsNot is_space t
-plain-no-space = zone-no-space plain_zone space_no_plain
+pub compact-no-space : (t : List ℕ) (offset : ℤ) → compact_zone t ≡ Some offset → BeginsNot is_space t
+compact-no-space = zone-no-space compact_zone space_no_compact
 
 pub mail-no-space : (t : List ℕ) (offset : ℤ) → mail_zone t ≡ Some offset → BeginsNot is_space t
 mail-no-space = zone-no-space mail_zone space_no_mail

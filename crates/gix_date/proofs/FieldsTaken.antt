@@ -6,11 +6,11 @@ use Rattle.std.specs.Prelude.{◌==◌, ◌&&◌, nat_lt, unwrap_or}
 use Rattle.std.specs.Char.{is_ascii_digit, is_ascii_alphabetic}
 use Rattle.std.specs.List.{prefix_len, list_all}
 use Rattle.std.specs.Option.{option_or}
-use Rattle.gix_date.specs.Characters.{minus, comma, colon}
+use Rattle.gix_date.specs.Characters.{minus, comma, colon, is_space}
 use Rattle.gix_date.specs.FieldTexts.{IsDigit, IsField, IsYear, AreSpaces, AreThreeLetters, IsDayName, IsMonthName, IsPlainDate, AreMinutes, IsClock, IsMailClock, IsDayPrefix}
 use Rattle.gix_date.specs.Fields.{Read, behind, ◌>>=◌}
 use Rattle.gix_date.specs.Numbers.{read_two_digits, read_digit, read_field, read_year}
-use Rattle.gix_date.specs.PatternFields.{is_space, behind_spaces, read_name, read_month, month_of, is_weekday, behind_weekday, read_plain_date, read_minutes, read_second, read_clock, read_mail_clock, leapless}
+use Rattle.gix_date.specs.PatternFields.{behind_spaces, read_name, read_month, month_of, is_weekday, behind_weekday, read_plain_date, read_minutes, read_second, read_clock, read_mail_clock, leapless}
 use Rattle.gix_date.specs.Patterns.{behind_day_name}
 use Rattle.gix_date.proofs.Instants.{both}
 use Rattle.gix_date.specs.declared.parsing.civil.ClockFields.{ClockFields}

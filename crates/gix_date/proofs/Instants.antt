@@ -14,7 +14,8 @@ use Rattle.jiff_core.specs.Time.{IsTime, IsHms}
 use Rattle.jiff_core.specs.Timestamp.{IsTimestampNanos, nanos_of_seconds}
 use Rattle.jiff_core.specs.declared.civil.date.Date.{Date}
 use Rattle.jiff_core.specs.declared.civil.datetime.DateTime.{DateTime}
-use Rattle.gix_date.specs.Civil.{is_date, is_clock, civil_seconds, is_instant, civil_instant}
+use Rattle.gix_date.specs.Civil.{is_date, is_clock, civil_seconds, civil_instant}
+use Rattle.gix_date.specs.Zoned.{is_instant}
 use Rattle.gix_date.specs.Zoned.{first_second, last_second}
 use Rattle.gix_date.specs.declared.parsing.civil.DateFields.{DateFields}
 use Rattle.gix_date.specs.declared.parsing.civil.ClockFields.{ClockFields}

@@ -8,14 +8,14 @@ use Rattle.gix_date.specs.Civil.{civil_instant}
 use Rattle.gix_date.specs.Fields.{behind}
 use Rattle.gix_date.specs.Numbers.{read_two_digits, read_digit, read_field, read_year}
 use Rattle.gix_date.specs.Offsets.{offset_fields, read_sign, last_pair}
-use Rattle.gix_date.specs.PatternFields.{behind_spaces, behind_weekday, read_name, read_month, month_of, is_weekday, read_plain_date, read_minutes, read_second, read_clock, read_mail_clock, plain_zone, strict_zone, mail_zone, mail_offset, named_zone, last_colon_pair, date_answer}
+use Rattle.gix_date.specs.PatternFields.{behind_spaces, behind_weekday, read_name, read_month, month_of, is_weekday, read_plain_date, read_minutes, read_second, read_clock, read_mail_clock, compact_zone, strict_zone, mail_zone, mail_offset, named_zone, last_colon_pair, date_answer}
 use Rattle.gix_date.specs.Patterns.{behind_day_name, short_answer, rfc2822_answer, iso8601_answer, iso8601_strict_answer, gitoxide_answer, default_answer}
 use Rattle.gix_date.specs.declared.parsing.civil.ClockFields.{ClockFields}
 use Rattle.gix_date.specs.declared.parsing.civil.DateFields.{DateFields}
 
 -- all that a row needs to see computed
 computing : Type 0
-unfolding behind_spaces behind_weekday read_name read_month month_of is_weekday read_plain_date read_minutes read_second read_clock read_mail_clock plain_zone strict_zone mail_zone mail_offset named_zone last_colon_pair behind_day_name behind read_two_digits read_digit read_field read_year offset_fields read_sign last_pair
+unfolding behind_spaces behind_weekday read_name read_month month_of is_weekday read_plain_date read_minutes read_second read_clock read_mail_clock compact_zone strict_zone mail_zone mail_offset named_zone last_colon_pair behind_day_name behind read_two_digits read_digit read_field read_year offset_fields read_sign last_pair
 computing = Unit {0}
 
 -- what a whole date needs to see computed besides
@@ -93,15 +93,15 @@ mail-clock-with-a-colon-alone : read_mail_clock (codes "12:45: +0000") ≡ Some 
 unfolding computing
 mail-clock-with-a-colon-alone = refl
 
-zone-with-seconds : plain_zone (codes "+010203") ≡ Some (pos 3723)
+zone-with-seconds : compact_zone (codes "+010203") ≡ Some (pos 3723)
 unfolding computing
 zone-with-seconds = refl
 
-zone-of-26-hours : plain_zone (codes "-2600") ≡ None
+zone-of-26-hours : compact_zone (codes "-2600") ≡ None
 unfolding computing
 zone-of-26-hours = refl
 
-zone-with-text-behind : plain_zone (codes "+0800 ") ≡ None
+zone-with-text-behind : compact_zone (codes "+0800 ") ≡ None
 unfolding computing
 zone-with-text-behind = refl
 
@@ -129,7 +129,7 @@ mail-zone-of-no-name : mail_zone (codes "Z") ≡ None
 unfolding computing
 mail-zone-of-no-name = refl
 
-zone-of-25-hours : plain_zone (codes "+2559") ≡ Some (pos 93540)
+zone-of-25-hours : compact_zone (codes "+2559") ≡ Some (pos 93540)
 unfolding computing
 zone-of-25-hours = refl
 

@@ -1,9 +1,14 @@
--- The texts of the named formats on worked times: each row computes.
-use Rattle.std.proofs.Common.{◌≡◌, refl, pos}
+-- The texts of the named formats on worked times: each row computes. And what the words of printing ask for, and no more.
+use Rattle.std.proofs.Common.{◌≡◌, refl, pos, ℕ, ◌≤◌, ◌%◌, None, unsigned_abs}
 use Rattle.std.specs.Fmt.{digits}
 use Rattle.std.specs.Prelude.{codes}
 use Rattle.gix_date.proofs.Rows.{minus}
-use Rattle.gix_date.specs.NamedTexts.{LocalTime, short_text, rfc2822_text, git_rfc2822_text, iso8601_text, iso8601_strict_text, gitoxide_text, default_text}
+use Rattle.gix_date.specs.HeaderText.{header_text}
+use Rattle.gix_date.specs.NamedTexts.{LocalTime, IsOrdinary, short_text, rfc2822_text, git_rfc2822_text, iso8601_text, iso8601_strict_text, gitoxide_text, default_text}
+use Rattle.gix_date.specs.Printed.{HasNoText}
+use Rattle.gix_date.specs.declared.time.Time.{Time}
+use Rattle.gix_date.specs.declared.time.format.Format.TheVariants.{Unix, Raw}
+use Rattle.jiff.specs.Types.{PlainZoned}
 
 -- 1659933906 at 28800, a Monday
 abbrev monday : LocalTime
@@ -39,9 +44,21 @@ iso8601 = refl
 strict : iso8601_strict_text leap-day ≡ codes "2000-02-29T09:04:56-03:30"
 strict = refl
 
+gitoxide-with-a-zero : gitoxide_text monday ≡ codes "Mon Aug 08 2022 12:45:06 +0800"
+gitoxide-with-a-zero = refl
+
 gitoxide : gitoxide_text leap-day ≡ codes "Tue Feb 29 2000 09:04:56 -0330"
 gitoxide = refl
 
 by-default : default_text leap-day ≡ codes "Tue Feb 29 09:04:56 2000 -0330"
 unfolding digits
 by-default = refl
+
+ordinary : (z : PlainZoned) (year : ℕ) → z.datetime.date.year ≡ pos year → 1000 ≤ year → year ≤ 9999 → unsigned_abs z.offset.seconds % 60 ≡ 0 → IsOrdinary z
+ordinary z year is low high whole = record { year = year; year_is = is; low = low; high = high; minutes = whole }
+
+each-time-has-seconds : (t : Time) → ¬ (HasNoText t Unix)
+each-time-has-seconds t h = h
+
+no-raw-text : (t : Time) → HasNoText t Raw → header_text t ≡ None
+no-raw-text t h = h

@@ -11,7 +11,7 @@ use Rattle.gix_date.specs.Fields.{behind}
 use Rattle.gix_date.specs.Git.{git_time, git_form, dotted_time, compact_time, flexible_time, read_marked_date, read_compact_date}
 use Rattle.gix_date.specs.Numbers.{int_value, read_two_digits, read_digit, read_field, read_year}
 use Rattle.gix_date.specs.Offsets.{offset_fields, read_sign, last_pair}
-use Rattle.gix_date.specs.PatternFields.{behind_spaces, behind_weekday, read_name, read_month, month_of, is_weekday, read_plain_date, read_minutes, read_second, read_clock, read_mail_clock, plain_zone, strict_zone, mail_zone, mail_offset, named_zone, last_colon_pair, date_answer}
+use Rattle.gix_date.specs.PatternFields.{behind_spaces, behind_weekday, read_name, read_month, month_of, is_weekday, read_plain_date, read_minutes, read_second, read_clock, read_mail_clock, compact_zone, strict_zone, mail_zone, mail_offset, named_zone, last_colon_pair, date_answer}
 use Rattle.gix_date.specs.Patterns.{short_answer, rfc2822_answer, iso8601_answer, iso8601_strict_answer, gitoxide_answer, default_answer, behind_day_name}
 use Rattle.gix_date.specs.Raw.{raw_time, raw_offset}
 use Rattle.gix_date.specs.Relative.{Before, Less, relative_date, named_date, pairs_date}
@@ -131,7 +131,7 @@ nothing = refl
 
 -- all that a row of families needs to see computed
 computing : Type 0
-unfolding relating first_family short_answer rfc2822_answer iso8601_answer iso8601_strict_answer gitoxide_answer default_answer behind_day_name behind_weekday behind_spaces read_name read_month month_of is_weekday read_plain_date read_minutes read_second read_clock read_mail_clock plain_zone strict_zone mail_zone mail_offset named_zone last_colon_pair date_answer read_field read_digit git_time git_form dotted_time compact_time flexible_time read_marked_date read_compact_date read_year at_time epoch_time raw_time raw_offset offset_fields behind read_sign last_pair read_two_digits space_words
+unfolding relating first_family short_answer rfc2822_answer iso8601_answer iso8601_strict_answer gitoxide_answer default_answer behind_day_name behind_weekday behind_spaces read_name read_month month_of is_weekday read_plain_date read_minutes read_second read_clock read_mail_clock compact_zone strict_zone mail_zone mail_offset named_zone last_colon_pair date_answer read_field read_digit git_time git_form dotted_time compact_time flexible_time read_marked_date read_compact_date read_year at_time epoch_time raw_time raw_offset offset_fields behind read_sign last_pair read_two_digits space_words
 computing = Unit {0}
 
 at-zero : first_family (codes "@0") ≡ Some (Absolute (time (pos 0) (pos 0)))

@@ -1,9 +1,9 @@
 -- The header texts that come back when they are read and written.
-use Rattle.std.specs.Prelude.{ℕ, Bool, false, ◌&&◌, not, is_none, nat_lt, List, ◌==◌, codes}
+use Rattle.std.specs.Prelude.{ℕ, Bool, false, ◌&&◌, not, is_none, nat_lt, List, codes}
 use Rattle.std.specs.Option.{option_map_or}
 use Rattle.std.specs.List.{before_first, after_first}
 use Rattle.std.specs.Str.{bytes_eq}
-use Rattle.gix_date.specs.Characters.{space}
+use Rattle.gix_date.specs.Characters.{is_space}
 use Rattle.gix_date.specs.Numbers.{decimal_text, int_value}
 use Rattle.gix_date.specs.Offsets.{offset_fields}
 use Rattle.gix_date.specs.declared.parsing.offset.OffsetFields.{OffsetFields}
@@ -22,4 +22,4 @@ is_canonical_offset word = option_map_or has_whole_minutes (offset_fields word) 
 
 -- the decimal text of an i64, one space, and such an offset
 abbrev pub is_canonical_header : List ℕ → Bool
-is_canonical_header text = is_decimal_text (before_first (λ b. b == space) text) && is_canonical_offset (after_first (λ b. b == space) text)
+is_canonical_header text = is_decimal_text (before_first is_space text) && is_canonical_offset (after_first is_space text)

@@ -1,5 +1,6 @@
 -- Characters by their codes.
-use Rattle.std.specs.Prelude.{ℕ}
+use Rattle.std.specs.Prelude.{ℕ, Bool, List, ◌==◌}
+use Rattle.std.specs.List.{list_any}
 
 -- `\n`
 abbrev pub newline : ℕ
@@ -52,3 +53,16 @@ letter_z = 90
 -- `s`
 abbrev pub small_s : ℕ
 small_s = 115
+
+abbrev pub is_space : ℕ → Bool
+is_space c = c == space
+
+abbrev pub is_dot : ℕ → Bool
+is_dot c = c == dot
+
+abbrev pub is_colon : ℕ → Bool
+is_colon c = c == colon
+
+-- a text has a colon anywhere
+abbrev pub has_colon : List ℕ → Bool
+has_colon text = list_any is_colon text

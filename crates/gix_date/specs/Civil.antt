@@ -1,8 +1,7 @@
 -- Dates of the calendar and times of the clock, and the instants that they are at an offset.
 use Rattle.std.specs.Prelude.{ℕ, ◌≤◌, ◌+◌, ◌*◌, Bool, ◌&&◌, ℤ, pos, ◌+ℤ◌, ◌-ℤ◌, ◌*ℤ◌, nat_le, if◌then◌else◌, Option, Some, None}
-use Rattle.std.specs.Int.Signed.{le_z}
 use Rattle.jiff_core.specs.Calendar.{days_from_civil, days_in_month}
-use Rattle.gix_date.specs.Zoned.{first_second, last_second}
+use Rattle.gix_date.specs.Zoned.{is_instant}
 use Rattle.gix_date.specs.declared.parsing.civil.DateFields.{DateFields}
 use Rattle.gix_date.specs.declared.parsing.civil.ClockFields.{ClockFields}
 
@@ -33,10 +32,6 @@ clock_seconds c = 3600 * c.hour + 60 * c.minute + c.second
 -- seconds since 1970-01-01 00:00:00 UTC of that clock on that day, at an offset from UTC
 abbrev pub civil_seconds : DateFields → ClockFields → ℤ → ℤ
 civil_seconds d c offset = pos 86_400 *ℤ days_from_civil (pos d.year) d.month d.day +ℤ pos (clock_seconds c) -ℤ offset
-
--- the seconds are those of an instant
-abbrev pub is_instant : ℤ → Bool
-is_instant seconds = le_z first_second seconds && le_z seconds last_second
 
 -- the instant of a day and a clock at an offset, where there are such
 unfoldable pub civil_instant : DateFields → ClockFields → ℤ → Option ℤ

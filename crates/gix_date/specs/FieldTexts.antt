@@ -2,8 +2,8 @@
 use Rattle.std.specs.Prelude.{◌≡◌, ℕ, ◌+◌, ◌-◌, ◌*◌, true, ◌&&◌, List, [], ◌∷◌, ◌++◌, ◌⊎◌, Some}
 use Rattle.std.specs.Char.{is_ascii_digit, is_ascii_alphabetic}
 use Rattle.std.specs.List.{list_all}
-use Rattle.gix_date.specs.Characters.{minus, comma, colon, digit_zero}
-use Rattle.gix_date.specs.PatternFields.{is_space, is_weekday, month_of, leapless}
+use Rattle.gix_date.specs.Characters.{minus, comma, colon, digit_zero, is_space}
+use Rattle.gix_date.specs.PatternFields.{is_weekday, month_of, leapless}
 use Rattle.gix_date.specs.declared.parsing.civil.ClockFields.{ClockFields}
 use Rattle.gix_date.specs.declared.parsing.civil.DateFields.{DateFields}
 

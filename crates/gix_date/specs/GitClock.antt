@@ -1,10 +1,10 @@
 -- The clock of a Git text.
-use Rattle.std.specs.Prelude.{ℕ, List, [], ◌∷◌, Bool, ◌&&◌, nat_lt, ◌==◌, if◌then◌else◌, Option, Some, None}
+use Rattle.std.specs.Prelude.{ℕ, List, [], ◌∷◌, ◌&&◌, nat_lt, if◌then◌else◌, Option, Some, None}
 use Rattle.std.specs.Char.{is_ascii, is_ascii_digit}
-use Rattle.std.specs.List.{list_all, list_any, slice_split, before_first}
+use Rattle.std.specs.List.{list_all, slice_split, before_first}
 use Rattle.std.specs.Str.{trim}
 use Rattle.std.specs.Str.Parse.{digits_value}
-use Rattle.gix_date.specs.Characters.{colon, dot}
+use Rattle.gix_date.specs.Characters.{is_colon, is_dot, has_colon}
 use Rattle.gix_date.specs.Fields.{Read, ◌>>=◌}
 use Rattle.gix_date.specs.Numbers.{read_two_digits}
 use Rattle.gix_date.specs.SpaceWords.{is_nonempty}
@@ -23,12 +23,6 @@ clock_of (Some h) (Some m) (Some s) = Some (record { hour = h; minute = m; secon
 clock_of (Some h) (Some m) None = None
 clock_of (Some h) None s = None
 clock_of None m s = None
-
-abbrev pub is_colon : ℕ → Bool
-is_colon b = b == colon
-
-abbrev pub is_dot : ℕ → Bool
-is_dot b = b == dot
 
 -- hours, minutes and seconds; a part that is not there is 0, and those behind the third say nothing
 abbrev pub clock_of_parts : List (List ℕ) → Option ClockFields
@@ -56,7 +50,7 @@ clock_without_colons text = do
 
 -- a clock, already trimmed: ASCII alone
 unfoldable pub trimmed_clock : List ℕ → Option ClockFields
-trimmed_clock text = if list_all is_ascii text then (if list_any is_colon text then clock_with_colons text else clock_without_colons text) else None
+trimmed_clock text = if list_all is_ascii text then (if has_colon text then clock_with_colons text else clock_without_colons text) else None
 
 -- what a clock's slice says; it ends at its first dot, if there is one
 unfoldable pub git_clock : List ℕ → Option ClockFields

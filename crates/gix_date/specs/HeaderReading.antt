@@ -1,9 +1,8 @@
 -- How the time of a commit header is read.
-use Rattle.std.specs.Prelude.{◌≡◌, ℕ, Bool, List, ℤ, pos, ◌==◌, if◌then◌else◌, Option, Some, None, Result, Ok, Err, take_while}
+use Rattle.std.specs.Prelude.{◌≡◌, ℕ, List, ℤ, pos, if◌then◌else◌, Option, Some, None, Result, Ok, Err, take_while}
 use Rattle.std.specs.Option.{option_or, option_map_or}
-use Rattle.std.specs.List.{list_any}
 use Rattle.std.specs.Char.{is_ascii_digit}
-use Rattle.gix_date.specs.Characters.{colon}
+use Rattle.gix_date.specs.Characters.{has_colon}
 use Rattle.gix_date.specs.Fields.{◌>>=◌}
 use Rattle.gix_date.specs.Numbers.{int_value}
 use Rattle.gix_date.specs.Offsets.{offset_fields, offset_of}
@@ -11,10 +10,6 @@ use Rattle.gix_date.specs.SpaceWords.{space_words, first_words}
 use Rattle.gix_date.specs.declared.error.Error.{Error}
 use Rattle.gix_date.specs.declared.error.Error.TheVariants.{InvalidTime}
 use Rattle.gix_date.specs.declared.time.Time.{Time}
-
--- a colon anywhere
-abbrev pub has_colon : List ℕ → Bool
-has_colon text = list_any (λ b. b == colon) text
 
 -- what the first word says: its value as an int text, else that of the digits it begins with
 unfoldable pub seconds_said : List ℕ → Option ℤ

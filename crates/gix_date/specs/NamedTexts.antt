@@ -61,24 +61,49 @@ clock_text c = two_digits c.hour ++ colon ∷ two_digits c.minute ++ colon ∷ t
 abbrev pub strict_zone_text : ℤ → List ℕ
 strict_zone_text offset = offset_sign offset ∷ two_digits (unsigned_abs offset / 3600) ++ colon ∷ two_digits (unsigned_abs offset % 3600 / 60)
 
--- the text of each format
+-- The pattern of each named format, and the text that it shows.
+abbrev pub short_pattern : List ℕ
+short_pattern = codes "%Y-%m-%d"
+
 abbrev pub short_text : LocalTime → List ℕ
 short_text t = date_text t.date
 
+-- a date as in mail, with the day written so
+abbrev pub mail_text : List ℕ → LocalTime → List ℕ
+mail_text day t = day_name t.weekday ++ comma ∷ space ∷ day ++ space ∷ month_name t.date.month ++ space ∷ four_digits t.date.year ++ space ∷ clock_text t.clock ++ space ∷ zone_text t.offset
+
+abbrev pub rfc2822_pattern : List ℕ
+rfc2822_pattern = codes "%a, %d %b %Y %H:%M:%S %z"
+
 abbrev pub rfc2822_text : LocalTime → List ℕ
-rfc2822_text t = day_name t.weekday ++ comma ∷ space ∷ two_digits t.date.day ++ space ∷ month_name t.date.month ++ space ∷ four_digits t.date.year ++ space ∷ clock_text t.clock ++ space ∷ zone_text t.offset
+rfc2822_text t = mail_text (two_digits t.date.day) t
+
+abbrev pub git_rfc2822_pattern : List ℕ
+git_rfc2822_pattern = codes "%a, %-d %b %Y %H:%M:%S %z"
 
 abbrev pub git_rfc2822_text : LocalTime → List ℕ
-git_rfc2822_text t = day_name t.weekday ++ comma ∷ space ∷ decimal t.date.day ++ space ∷ month_name t.date.month ++ space ∷ four_digits t.date.year ++ space ∷ clock_text t.clock ++ space ∷ zone_text t.offset
+git_rfc2822_text t = mail_text (decimal t.date.day) t
+
+abbrev pub iso8601_pattern : List ℕ
+iso8601_pattern = codes "%Y-%m-%d %H:%M:%S %z"
 
 abbrev pub iso8601_text : LocalTime → List ℕ
 iso8601_text t = date_text t.date ++ space ∷ clock_text t.clock ++ space ∷ zone_text t.offset
 
+abbrev pub iso8601_strict_pattern : List ℕ
+iso8601_strict_pattern = codes "%Y-%m-%dT%H:%M:%S%:z"
+
 abbrev pub iso8601_strict_text : LocalTime → List ℕ
 iso8601_strict_text t = date_text t.date ++ letter_t ∷ clock_text t.clock ++ strict_zone_text t.offset
 
+abbrev pub gitoxide_pattern : List ℕ
+gitoxide_pattern = codes "%a %b %d %Y %H:%M:%S %z"
+
 abbrev pub gitoxide_text : LocalTime → List ℕ
 gitoxide_text t = day_name t.weekday ++ space ∷ month_name t.date.month ++ space ∷ two_digits t.date.day ++ space ∷ four_digits t.date.year ++ space ∷ clock_text t.clock ++ space ∷ zone_text t.offset
+
+abbrev pub default_pattern : List ℕ
+default_pattern = codes "%a %b %-d %H:%M:%S %Y %z"
 
 abbrev pub default_text : LocalTime → List ℕ
 default_text t = day_name t.weekday ++ space ∷ month_name t.date.month ++ space ∷ decimal t.date.day ++ space ∷ clock_text t.clock ++ space ∷ four_digits t.date.year ++ space ∷ zone_text t.offset

@@ -4,18 +4,16 @@ use Rattle.std.specs.Char.{is_ascii_alphabetic}
 use Rattle.std.specs.List.{prefix_len}
 use Rattle.std.specs.Option.{option_or}
 use Rattle.gix_date.specs.Answer.{FamilyAnswer, Absolute, OffsetBeyond}
-use Rattle.gix_date.specs.Characters.{space, minus, colon}
+use Rattle.gix_date.specs.Characters.{is_space, minus, colon}
 use Rattle.gix_date.specs.Civil.{civil_instant}
 use Rattle.gix_date.specs.Fields.{Read, behind, ◌>>=◌}
 use Rattle.gix_date.specs.Numbers.{two_digit_value, read_two_digits, read_field, read_year}
 use Rattle.gix_date.specs.Offsets.{read_sign, offset_fields, offset_of}
 use Rattle.gix_date.specs.RelativeWords.{is_name}
+use Rattle.gix_date.specs.declared.parsing.patterns.fields.TheConstants.{MAX_OFFSET_IN_SECONDS}
 use Rattle.gix_date.specs.declared.parsing.civil.ClockFields.{ClockFields}
 use Rattle.gix_date.specs.declared.parsing.civil.DateFields.{DateFields}
 use Rattle.gix_date.specs.declared.parsing.offset.OffsetFields.{OffsetFields}
-
-abbrev pub is_space : ℕ → Bool
-is_space c = c == space
 
 -- what stands behind one space or more
 unfoldable pub behind_spaces : List ℕ → Option (List ℕ)
@@ -112,8 +110,8 @@ abbrev pub zone_offset : OffsetFields → Option ℤ
 zone_offset f = if is_zone f then Some (offset_of f) else None
 
 -- the whole text is a sign, two digits of hours, two of minutes, and perhaps two of seconds
-unfoldable pub plain_zone : List ℕ → Option ℤ
-plain_zone text = do
+unfoldable pub compact_zone : List ℕ → Option ℤ
+compact_zone text = do
   fields ← offset_fields text
   zone_offset fields
 
@@ -158,4 +156,4 @@ mail_zone text = option_or (mail_offset text) (named_zone text)
 unfoldable pub date_answer : DateFields → ClockFields → ℤ → Option FamilyAnswer
 date_answer date clock offset = do
   seconds ← civil_instant date clock offset
-  Some (if nat_lt 86_340 (unsigned_abs offset) then OffsetBeyond else Absolute (record { seconds = seconds; offset = offset }))
+  Some (if nat_lt MAX_OFFSET_IN_SECONDS (unsigned_abs offset) then OffsetBeyond else Absolute (record { seconds = seconds; offset = offset }))

@@ -5,7 +5,7 @@ use Rattle.gix_date.specs.Characters.{letter_t, comma}
 use Rattle.gix_date.specs.Civil.{is_date, civil_instant}
 use Rattle.gix_date.specs.Fields.{behind, ◌>>=◌}
 use Rattle.gix_date.specs.Numbers.{read_field, read_year}
-use Rattle.gix_date.specs.PatternFields.{behind_spaces, behind_weekday, read_month, read_plain_date, read_clock, read_mail_clock, plain_zone, strict_zone, mail_zone, date_answer}
+use Rattle.gix_date.specs.PatternFields.{behind_spaces, behind_weekday, read_month, read_plain_date, read_clock, read_mail_clock, compact_zone, strict_zone, mail_zone, date_answer}
 use Rattle.gix_date.specs.SpaceWords.{is_nonempty}
 use Rattle.gix_date.specs.declared.parsing.civil.ClockFields.{ClockFields}
 use Rattle.gix_date.specs.declared.parsing.civil.DateFields.{DateFields}
@@ -51,7 +51,7 @@ iso8601_answer text = do
   rest ← behind_spaces date.1
   clock ← read_clock rest
   rest ← behind_spaces clock.1
-  offset ← plain_zone rest
+  offset ← compact_zone rest
   date_answer date.0 clock.0 offset
 
 -- `YYYY-M-DTh:m:sZ`, with colons between the pairs of Z
@@ -76,7 +76,7 @@ gitoxide_answer text = do
   rest ← behind_spaces year.1
   clock ← read_clock rest
   rest ← behind_spaces clock.1
-  offset ← plain_zone rest
+  offset ← compact_zone rest
   date_answer (record { year = year.0; month = month.0; day = day.0 }) clock.0 offset
 
 -- `Www Mmm D h:m:s YYYY Z`
@@ -92,5 +92,5 @@ default_answer text = do
   rest ← behind_spaces clock.1
   year ← read_year rest
   rest ← behind_spaces year.1
-  offset ← plain_zone rest
+  offset ← compact_zone rest
   date_answer (record { year = year.0; month = month.0; day = day.0 }) clock.0 offset

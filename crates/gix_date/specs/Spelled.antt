@@ -4,7 +4,7 @@ use Rattle.gix_date.specs.Answer.{FamilyAnswer}
 use Rattle.gix_date.specs.Characters.{letter_t}
 use Rattle.gix_date.specs.Civil.{is_date}
 use Rattle.gix_date.specs.FieldTexts.{IsField, IsYear, AreSpaces, IsDayName, IsMonthName, IsPlainDate, IsClock, IsMailClock, IsDayPrefix}
-use Rattle.gix_date.specs.PatternFields.{plain_zone, strict_zone, mail_zone, date_answer}
+use Rattle.gix_date.specs.PatternFields.{compact_zone, strict_zone, mail_zone, date_answer}
 use Rattle.gix_date.specs.Patterns.{day_answer}
 use Rattle.gix_date.specs.declared.parsing.civil.ClockFields.{ClockFields}
 use Rattle.gix_date.specs.declared.parsing.civil.DateFields.{DateFields}
@@ -45,7 +45,7 @@ pub record IsIso8601 (text : List ℕ) (date : DateFields) (clock : ClockFields)
   pub spaces_after_day : AreSpaces after_day
   pub is_time : IsClock time clock
   pub spaces_after_time : AreSpaces after_time
-  pub is_zone : plain_zone zone ≡ Some offset
+  pub is_zone : compact_zone zone ≡ Some offset
 
 -- `YYYY-M-DTh:m:sZ`, with colons between the pairs of Z
 pub record IsIso8601Strict (text : List ℕ) (date : DateFields) (clock : ClockFields) (offset : ℤ) : Type 0 where
@@ -81,7 +81,7 @@ pub record IsGitoxideDate (text : List ℕ) (date : DateFields) (clock : ClockFi
   pub spaces_after_year : AreSpaces after_year
   pub is_time : IsClock time clock
   pub spaces_after_time : AreSpaces after_time
-  pub is_zone : plain_zone zone ≡ Some offset
+  pub is_zone : compact_zone zone ≡ Some offset
 
 -- `Www Mmm D h:m:s YYYY Z`
 pub record IsDefaultDate (text : List ℕ) (date : DateFields) (clock : ClockFields) (offset : ℤ) : Type 0 where
@@ -107,7 +107,7 @@ pub record IsDefaultDate (text : List ℕ) (date : DateFields) (clock : ClockFie
   pub spaces_after_time : AreSpaces after_time
   pub is_year : IsYear year date.year
   pub spaces_after_year : AreSpaces after_year
-  pub is_zone : plain_zone zone ≡ Some offset
+  pub is_zone : compact_zone zone ≡ Some offset
 
 -- the text is a date of such a form, and this is what its date, clock and offset come to
 pub record IsAnswered (IsForm : List ℕ → DateFields → ClockFields → ℤ → Type 0) (text : List ℕ) (answer : FamilyAnswer) : Type 0 where

@@ -25,9 +25,9 @@ answer_of answer.InstantBeyond = InstantBeyond
 answer_of (answer.Relative found) = Relative (date_of found)
 
 -- an offset that is said is that of a zone
-abbrev pub IsShort : Answer → Type 0
-IsShort (answer.Absolute t) = IsOffsetSeconds t.offset
-IsShort _ = Unit {0}
+abbrev pub HasZoneOffset : Answer → Type 0
+HasZoneOffset (answer.Absolute t) = IsOffsetSeconds t.offset
+HasZoneOffset _ = Unit {0}
 
 -- a name and the rest, as texts
 abbrev pub name_view : Option (Bor (List ℕ) × Bor (List ℕ)) → Read (List ℕ)

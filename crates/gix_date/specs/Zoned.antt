@@ -17,9 +17,17 @@ last_second = pos 253_402_207_200
 abbrev pub IsConvertible : Time → Type 0
 IsConvertible t = IsOffsetSeconds t.offset × IsBetween first_second last_second t.seconds
 
--- the same, as a test
+-- the most seconds that the offset of a zone has, either way
+abbrev pub most_zone_offset : ℤ
+most_zone_offset = pos 93_599
+
+-- the seconds are those of an instant
+abbrev pub is_instant : ℤ → Bool
+is_instant seconds = le_z first_second seconds && le_z seconds last_second
+
+-- whether a time converts
 abbrev pub is_convertible : Time → Bool
-is_convertible t = le_z (neg_ℤ (pos 93_599)) t.offset && le_z t.offset (pos 93_599) && le_z first_second t.seconds && le_z t.seconds last_second
+is_convertible t = le_z (neg_ℤ most_zone_offset) t.offset && le_z t.offset most_zone_offset && is_instant t.seconds
 
 -- the zoned value is that instant, in the zone that always has this offset
 pub record IsMoment (t : Time) (z : Zoned) : Type 0 where

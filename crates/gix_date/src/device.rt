@@ -52,7 +52,7 @@ pub struct Device<T> {
 }
 
 impl<T> Device<T> {
-    /// The device of this writer or reader, with no fault.
+    /// The device of this writer or reader, with no fault. Takes no memory.
     pub fn new(inner: T) -> Device<T>
         ensures inner { inner_of result ≡ inner }
         ensures fault { fault_of result ≡ None }
@@ -60,7 +60,7 @@ impl<T> Device<T> {
         Device { inner, fault: None }
     }
 
-    /// The writer or reader back.
+    /// The writer or reader back. Takes no memory.
     pub fn into_inner(self) -> T
         ensures { result ≡ inner_of self }
     {

@@ -1,5 +1,5 @@
 //! Laws, each the contract of a function that does nothing.
-ghost use Rattle.std.specs.Prelude.{◌≡◌, ◌↔◌, ◌++◌, ◌≤◌, List, ℕ, is_some, filter, map, codes, [], ◌∷◌, pos, neg_ℤ, length, IfSome, IsTrue};
+ghost use Rattle.std.specs.Prelude.{◌≡◌, ◌↔◌, ◌++◌, ◌≤◌, List, ℕ, is_some, filter, map, [], ◌∷◌, pos, neg_ℤ, length, IfSome, IsTrue};
 ghost use Rattle.std.specs.declared.cmp.Ordering.TheVariants.{Equal};
 ghost use Rattle.std.specs.Hash as fed;
 ghost use Rattle.std.specs.Ordering.{int_cmp, on, then_cmp};
@@ -8,11 +8,12 @@ ghost use Rattle.gix_date.specs.HeaderText.{header_text};
 ghost use Rattle.gix_date.specs.Relative.{RelativeDate, IsNamed};
 ghost use Rattle.gix_date.specs.TimeBuf.{text_in};
 ghost use Rattle.gix_date.specs.declared.parsing.function.TheConstants.{LEAST_EPOCH};
+ghost use Rattle.gix_date.specs.declared.parsing.patterns.fields.TheConstants.{MAX_OFFSET_IN_SECONDS};
 ghost use Rattle.gix_date.specs.declared.parsing.raw.TheConstants.{MOST_HOURS};
 ghost use Rattle.gix_date.specs.declared.time.format.Format.TheVariants.{Unix, Raw};
 ghost use Rattle.jiff.specs.declared.zoned.Zoned.{Zoned};
 ghost use Rattle.gix_date.specs.declared.time.write.TheConstants.{HUNDRED_HOURS, LONGEST_TEXT};
-ghost use Rattle.gix_date.specs.NamedTexts.{ShowsText, short_text, rfc2822_text, git_rfc2822_text, iso8601_text, iso8601_strict_text, gitoxide_text, default_text};
+ghost use Rattle.gix_date.specs.NamedTexts.{ShowsText, short_pattern, short_text, rfc2822_pattern, rfc2822_text, git_rfc2822_pattern, git_rfc2822_text, iso8601_pattern, iso8601_text, iso8601_strict_pattern, iso8601_strict_text, gitoxide_pattern, gitoxide_text, default_pattern, default_text};
 ghost use Rattle.gix_date.specs.Patterns.{short_answer, rfc2822_answer, iso8601_answer, iso8601_strict_answer, gitoxide_answer, default_answer};
 ghost use Rattle.gix_date.specs.Spelled.{Spells, IsAnswered, IsDayAnswered, IsMailDate, IsIso8601, IsIso8601Strict, IsGitoxideDate, IsDefaultDate};
 
@@ -34,6 +35,7 @@ pub fn constants()
 pub fn limits()
     ensures least_bare_epoch { LEAST_EPOCH ≡ pos 100_000_000 }
     ensures most_raw_hours { MOST_HOURS ≡ 14 }
+    ensures most_date_offset { MAX_OFFSET_IN_SECONDS ≡ 86_340 }
     ensures offset_without_text { HUNDRED_HOURS ≡ 360_000 }
     ensures longest_text { LONGEST_TEXT ≡ 26 }
     ensures text_of_min { IfSome (header_text Time.MIN) (λ text. length text ≡ LONGEST_TEXT) }
@@ -90,9 +92,8 @@ pub fn apart()
 /// ISO 8601, strict ISO 8601, gitoxide's and Git's default.
 pub fn named_formats() -> [CustomFormat; 7]
     ensures { map (λ f. f.pattern.now) result
-        ≡ codes "%Y-%m-%d" ∷ codes "%a, %d %b %Y %H:%M:%S %z" ∷ codes "%a, %-d %b %Y %H:%M:%S %z"
-        ∷ codes "%Y-%m-%d %H:%M:%S %z" ∷ codes "%Y-%m-%dT%H:%M:%S%:z" ∷ codes "%a %b %d %Y %H:%M:%S %z"
-        ∷ codes "%a %b %-d %H:%M:%S %Y %z" ∷ [] }
+        ≡ short_pattern ∷ rfc2822_pattern ∷ git_rfc2822_pattern ∷ iso8601_pattern ∷ iso8601_strict_pattern
+        ∷ gitoxide_pattern ∷ default_pattern ∷ [] }
 {
     [
         SHORT,
@@ -112,13 +113,14 @@ pub fn other_formats() -> [Format; 2]
     [UNIX, RAW]
 }
 
-/// By the named formats a time of a local year from 1000 to 9999 and an offset of whole minutes is printed so, and never refused.
+/// By the named formats that are patterns a zoned value of a year from 1000 to 9999 and an offset of whole minutes is shown so, and
+/// the printer refuses none.
 pub fn printed()
-    ensures short { ShowsText (codes "%Y-%m-%d") short_text }
-    ensures rfc2822 { ShowsText (codes "%a, %d %b %Y %H:%M:%S %z") rfc2822_text }
-    ensures git_rfc2822 { ShowsText (codes "%a, %-d %b %Y %H:%M:%S %z") git_rfc2822_text }
-    ensures iso8601 { ShowsText (codes "%Y-%m-%d %H:%M:%S %z") iso8601_text }
-    ensures iso8601_strict { ShowsText (codes "%Y-%m-%dT%H:%M:%S%:z") iso8601_strict_text }
-    ensures gitoxide { ShowsText (codes "%a %b %d %Y %H:%M:%S %z") gitoxide_text }
-    ensures by_default { ShowsText (codes "%a %b %-d %H:%M:%S %Y %z") default_text }
+    ensures short { ShowsText short_pattern short_text }
+    ensures rfc2822 { ShowsText rfc2822_pattern rfc2822_text }
+    ensures git_rfc2822 { ShowsText git_rfc2822_pattern git_rfc2822_text }
+    ensures iso8601 { ShowsText iso8601_pattern iso8601_text }
+    ensures iso8601_strict { ShowsText iso8601_strict_pattern iso8601_strict_text }
+    ensures gitoxide { ShowsText gitoxide_pattern gitoxide_text }
+    ensures by_default { ShowsText default_pattern default_text }
 {}

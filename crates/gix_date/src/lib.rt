@@ -1,12 +1,14 @@
-//! Git's times: the text of a commit header read and written, and dates parsed.
+//! Git's times: the text of a commit header read and written, dates parsed, and times printed.
 //!
 //! [`parse_header`] reads the time of a commit header, leniently as gix-date does; [`parse`] reads a date in one of several
-//! forms, each of which holds a text whole. [`Time::to_str`] and [`Time::write_to`] write the text of a commit header.
+//! forms, each of which holds a text whole. [`Time::to_str`] and [`Time::write_to`] write the text of a commit header,
+//! [`Time::format`] prints a time in one of Git's formats or by any pattern, and [`Time::now_local`] makes one of a clock and a zone.
 //!
 //! ```
 //! let time = parse_header("1660874655 +0800"); // Some(Time { seconds: 1660874655, offset: 28800 })
 //! let lenient = parse_header("12abc");         // Some(Time { seconds: 12, offset: 0 })
 //! let strict = parse(alloc, "12abc", None);    // Err(Error::UnknownFormat { .. })
+//! let date = time?.format(alloc, ISO8601.into()); // Ok("2022-08-19 10:04:15 +0800")
 //! ```
 //!
 //! The names and modules are those of the Rust crate gix-date 0.18.1, but for `parsing`, which is `parse` there, and `device`,

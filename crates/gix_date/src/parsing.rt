@@ -33,7 +33,7 @@ pub struct TimeBuf {
 }
 
 impl TimeBuf {
-    /// The text that the last [`Time::to_str`] put here: empty before the first, and after a refusal.
+    /// The text that the last [`Time::to_str`] put here: empty before the first, and after a refusal. Takes no memory.
     pub fn as_str(&self) -> &str
         ensures { result.now ≡ text_in self.now }
     {

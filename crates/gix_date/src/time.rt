@@ -18,9 +18,9 @@ pub type OffsetInSeconds = i32;
 /// Seconds of an hour.
 pub(crate) const SECONDS_PER_HOUR: OffsetInSeconds = 60 * 60;
 
-/// A moment, and the offset of the place where it was written down.
+/// An instant in whole seconds, and the offset of the place where it was written down.
 ///
-/// The offset says how to show the moment, and does not change it. Both numbers can be any of their type. Times are in
+/// The offset says how to show the instant, and does not change it. Both numbers can be any of their type. Times are in
 /// order of their seconds, and at the same seconds of their offset.
 #[derive(Default, Clone, Copy, PartialEq, Eq, PartialOrd, Ord, Hash, Debug, Serialize, Deserialize)]
 pub struct Time {

@@ -1,5 +1,5 @@
 -- What the program does with a command line.
-use Rattle.std.specs.Prelude.{◌≡◌, ℕ, List, Option, Some, None, IsSome, Ok, Err}
+use Rattle.std.specs.Prelude.{◌≡◌, ◌⊎◌, true, ℕ, List, Option, Some, None, IsSome, Ok, Err}
 use Rattle.gix_date.specs.Known.{Takes, TakesProperPrefix}
 use Rattle.gix_date.specs.declared.time.Time.{Time}
 use Rattle.gix_date_tool.specs.declared.arguments.Mode.{Mode}
@@ -7,7 +7,7 @@ use Rattle.gix_date_tool.specs.declared.error.ToolError.{ToolError}
 use Rattle.gix_date_tool.specs.declared.program.Status.{Status}
 use Rattle.gix_date_tool.specs.declared.program.Status.TheVariants.{Success, Failure, Usage}
 use Rattle.gix_date_tool.specs.declared.program.TheConstants.{USAGE}
-use Rattle.gix_date_tool.specs.Command.{command_of}
+use Rattle.gix_date_tool.specs.Command.{command_of, has_copied_moment}
 use Rattle.gix_date_tool.specs.Run.{Change, Runs}
 
 -- the exit status of the process
@@ -34,6 +34,14 @@ abbrev pub Ends : Option (Mode × Option Time) → Change → Change → Status 
 Ends None reading writing status = (reading.new ≡ reading.old) × ShowsUsage writing status
 Ends (Some asked) reading writing status = EndsRun asked reading writing status
 
--- what the program comes to by the words of its command line
+-- Memory was wanting for the copy of a moment that is none, and nothing was read or written.
+pub record Lacked (words : List (List ℕ)) (reading writing : Change) : Type 0 where
+  pub none_asked : command_of words ≡ None
+  pub is_copied : has_copied_moment words ≡ true
+  pub unread : reading.new ≡ reading.old
+  pub unwritten : writing.new ≡ writing.old
+
+-- What the program comes to by the words of its command line.
 abbrev pub Executes : List (List ℕ) → Change → Change → Status → Type 0
+Executes words reading writing Failure = Ends (command_of words) reading writing Failure ⊎ Lacked words reading writing
 Executes words reading writing status = Ends (command_of words) reading writing status

@@ -38,7 +38,8 @@ impl Status {
 /// Does what the words of a command line ask for, without the program's name: runs over the reader's lines, or shows how the
 /// program is called where they ask for nothing that it has.
 ///
-/// Takes memory as [`run`] does.
+/// [`Status::Failure`] where the run has a fault, the usage line is not written, or memory for reading the words is refused: then
+/// nothing is read or written. Takes memory as [`command`] and [`run`] do.
 pub fn execute<R: Source, W: Sink>(
     alloc: Global,
     words: &[String],
@@ -53,8 +54,8 @@ pub fn execute<R: Source, W: Sink>(
             Ok(_) => Status::Success,
             Err(_) => Status::Failure,
         },
-        // Memory may be wanting only where the words ask for nothing that the program has.
-        Ok(None) | Err(_) => show_usage(writer),
+        Ok(None) => show_usage(writer),
+        Err(_) => Status::Failure,
     }
 }
 

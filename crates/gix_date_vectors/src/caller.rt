@@ -1,26 +1,28 @@
 //! What a crate that reads and writes commits does with `gix_date`.
-ghost use Rattle.std.specs.Prelude.{◌≡◌, ◌≢◌, Some, None, Err, IfSome, IfNone, IsSomeAnd, OnOk, IfOk, string_bytes};
+ghost use Rattle.std.specs.Prelude.{◌≡◌, ◌≢◌, Some, None, Err, IfSome, IfNone, IsSomeAnd, OnOk, IfOk, option_map, string_bytes};
 ghost use Rattle.gix_date.specs.Answer.{Absolute};
 ghost use Rattle.gix_date.specs.Families.{first_family, Comes};
 ghost use Rattle.gix_date.specs.HeaderReading.{header_time};
 ghost use Rattle.gix_date.specs.HeaderText.{header_text};
 ghost use Rattle.gix_date.specs.Known.{Takes};
-ghost use Rattle.gix_date.specs.Printed.{PrintsOrSeconds};
+ghost use Rattle.gix_date.specs.NamedTexts.{IsOrdinary, local_time, iso8601_text};
+ghost use Rattle.gix_date.specs.Printed.{AtMoment, PrintsOrSeconds};
 ghost use Rattle.gix_date.specs.TimeBuf.{text_in};
-ghost use Rattle.gix_date.specs.Zoned.{IsConvertible, IsMoment};
+ghost use Rattle.gix_date.specs.Zoned.{IsConvertible, IsMoment, time_in, time_in_utc};
 ghost use Rattle.gix_date.specs.declared.error.Error.TheVariants.{Conversion};
 ghost use Rattle.gix_date.specs.declared.time.Time.{Time as Read};
 ghost use Rattle.gix_date.specs.declared.time.format.Format.TheVariants.{Custom};
 ghost use Rattle.gix_date_vectors.specs.ClockTime.{IsClockTime};
 ghost use Rattle.gix_date_vectors.specs.Resolved.{Resolved};
+ghost use Rattle.jiff.specs.Words.{plain_zone};
 ghost use Rattle.jiff.specs.declared.zoned.Zoned.{Zoned};
 
-use gix_date::device::Sink;
+use gix_date::device::{Device, Sink};
 use gix_date::parsing::TimeBuf;
 use gix_date::time::{CustomFormat, Format};
-use gix_date::{Error, Time, parse, parse_header};
+use gix_date::{Error, Time, laws, parse, parse_header};
 use jiff::Timestamp;
-use jiff::tz::{SystemTimeZone, TimeZoneDatabase};
+use jiff::tz::{SystemTimeZone, TimeZone, TimeZoneDatabase};
 use std::alloc::{AllocError, AllocGlobal, Global};
 use std::rt::{Env, Files};
 use std::time::Clock;
@@ -32,6 +34,15 @@ pub fn rewrite<W: Sink>(header: &str, out: &mut W) -> Result<(), Error>
 {
     let time: Time = header.parse()?;
     time.write_to(out)
+}
+
+/// The text of a commit header in memory.
+pub fn header_bytes(alloc: Global, time: Time) -> Result<Vec<u8>, Error>
+    ensures { IfOk result (λ bytes. header_text time ≡ Some bytes.items) }
+{
+    let mut out = Device::new(Vec::new(alloc));
+    time.write_to(&mut out)?;
+    Ok(out.into_inner())
 }
 
 /// The time of a header that is written as Git writes it, and of no other.
@@ -98,6 +109,29 @@ pub fn log_date(alloc: Global, time: Time, format: CustomFormat) -> Result<Strin
     ensures { PrintsOrSeconds time (Custom format) result }
 {
     time.format_or_unix(alloc, Format::from(format))
+}
+
+/// The date of a time as `git log --date=iso` has it.
+pub fn iso_date(alloc: Global, time: Time) -> Result<String, Error>
+    ensures { IfOk result (λ text. AtMoment time (λ z. IsOrdinary z → string_bytes text ≡ iso8601_text (local_time z))) }
+{
+    laws::printed();
+    let formats = laws::named_formats();
+    time.format(alloc, Format::Custom(formats[3]))
+}
+
+/// The time of a commit that is made at this instant in its author's zone, and none where the zone is not known.
+pub fn authored(clock: Timestamp, zone: Option<TimeZone<'_>>) -> Option<Time>
+    ensures { result ≡ option_map (λ z. time_in (plain_zone z) clock.nanosecond) zone.entry }
+{
+    Time::now_local(clock, zone)
+}
+
+/// The time of a commit that a program makes at this instant, in UTC.
+pub fn authored_in_utc(clock: Timestamp) -> Time
+    ensures { result ≡ time_in_utc clock.nanosecond }
+{
+    Time::now_utc(clock)
 }
 
 /// The time of a commit that is made now, by the machine's clock and in its zone, or in UTC where that is not found.

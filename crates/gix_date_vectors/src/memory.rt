@@ -160,7 +160,7 @@ fn a_run_over_short_lines_takes_little_memory(rt: HostRuntime) -> Result<(), Fai
 }
 
 #[test]
-fn a_moment_refused_memory_asks_for_the_usage(rt: HostRuntime) -> Result<(), Fail> {
+fn a_moment_refused_memory_ends_the_program(rt: HostRuntime) -> Result<(), Fail> {
     let words = words_of(rt.alloc(), &["parse", "x"])?;
     let dated = words_of(rt.alloc(), &["parse", "0 +0000"])?;
     let blocks = take_all(rt.alloc())?;
@@ -169,14 +169,14 @@ fn a_moment_refused_memory_asks_for_the_usage(rt: HostRuntime) -> Result<(), Fai
     let mut source = Device::new(Supply::once(b"0 +0000\n", 99, None));
     let mut sink = Device::new(Small::new());
     let ended = execute(rt.alloc(), words.as_slice(), &mut source, &mut sink);
-    let shown = sink.into_inner().is(b"usage: gix_date_tool MODE [NOW]\n");
+    let silent = sink.into_inner().is(b"");
     drop(blocks);
     assert!(rt; matches!(answer, Err(ToolError::Memory)), "no-memory");
     assert!(rt;
         matches!(due, Ok(Some((Mode::Parse, Some(now)))) if now == Time::new(0, 0)),
         "no-memory"
     );
-    assert_eq!(rt; ended, Status::Usage);
-    assert!(rt; shown, "no-memory");
+    assert_eq!(rt; ended, Status::Failure);
+    assert!(rt; silent, "no-memory");
     Ok(())
 }

@@ -1,11 +1,16 @@
 //! Public names, each where it stands, and the traits that callers count on.
-use crate::caller::{Unresolved, absolute_date, commit_time, log_date, resolved};
+use crate::caller::{
+    Unresolved, absolute_date, authored, authored_in_utc, commit_time, header_bytes, iso_date,
+    log_date, resolved,
+};
 use gix_date::parsing::TimeBuf;
 use gix_date::time::{CustomFormat, Format, format};
 use gix_date::{
     Error, InputBytes, OffsetInSeconds, SecondsSinceUnixEpoch, Time, Zoned, laws, parse,
 };
 use gix_date_tool::Mode;
+use jiff::Timestamp;
+use jiff::tz::TimeZone;
 use std::alloc::Global;
 use std::test::Fail;
 
@@ -95,6 +100,19 @@ fn callers_answer(rt: HostRuntime) -> Result<(), Fail> {
     assert_eq!(rt; logged.as_str(), "Mon Aug 8 12:45:06 2022 +0800");
     let beyond = log_date(rt.alloc(), Time::new(5, 93_600), format::DEFAULT)?;
     assert_eq!(rt; beyond.as_str(), "5");
+    let iso = iso_date(rt.alloc(), Time::new(1_660_874_655, 28_800))?;
+    assert_eq!(rt; iso.as_str(), "2022-08-19 10:04:15 +0800");
+    let header = header_bytes(rt.alloc(), Time::new(1_660_874_655, 28_800))?;
+    assert_eq!(rt; header.as_slice(), b"1660874655 +0800".as_slice());
+    let clock = Timestamp::from_second(1_660_874_655)?;
+    assert_eq!(rt; authored_in_utc(clock), Time::new(1_660_874_655, 0));
+    let zone = TimeZone::posix("CST-8")?;
+    assert!(rt;
+        matches!(
+            authored(clock, Some(zone)),
+            Some(time) if time == Time::new(1_660_874_655, 28_800)
+        )
+    );
     assert!(rt; matches!(commit_time(&rt), Ok(time) if time.seconds > 1_700_000_000));
     assert!(rt; matches!(resolved(&rt, "@5 +0100"), Ok(time) if time == Time::new(5, 3600)));
     assert!(rt; matches!(resolved(&rt, "now"), Ok(time) if time.seconds > 1_700_000_000));
@@ -120,6 +138,7 @@ fn laws_are_called_for_nothing_but_what_they_state() {
     laws::apart();
     let _ = laws::named_formats();
     let _ = laws::other_formats();
+    laws::printed();
     gix_date_tool::limits();
     gix_date_tool::lines_are_unique();
     gix_date_tool::replies_are_unique();

@@ -11,9 +11,9 @@ use jiff::tz::TimeZone;
 use std::alloc::{AllocError, Global};
 use std::test::Fail;
 
-/// A time, and what Git 2.39.5 prints of it by `git log --date=default --format='%ad|%aD|%ai|%aI'` and by
-/// `git log --date=short --format=%ad`.
-const BY_GIT: [(i64, i32, [&str; 5]); 5] = [
+/// A time, and what Git 2.39.5 prints of it by `git log --date=default --format='%ad|%aD|%ai|%aI'`, by `--date=short` and by
+/// `--date=format:` with the patterns of RFC 2822 and of gitoxide.
+const BY_GIT: [(i64, i32, [&str; 7]); 9] = [
     (
         1_659_933_906,
         28_800,
@@ -23,6 +23,8 @@ const BY_GIT: [(i64, i32, [&str; 5]); 5] = [
             "2022-08-08 12:45:06 +0800",
             "2022-08-08T12:45:06+08:00",
             "2022-08-08",
+            "Mon, 08 Aug 2022 12:45:06 +0800",
+            "Mon Aug 08 2022 12:45:06 +0800",
         ],
     ),
     (
@@ -34,6 +36,8 @@ const BY_GIT: [(i64, i32, [&str; 5]); 5] = [
             "2022-08-19 10:04:15 +0800",
             "2022-08-19T10:04:15+08:00",
             "2022-08-19",
+            "Fri, 19 Aug 2022 10:04:15 +0800",
+            "Fri Aug 19 2022 10:04:15 +0800",
         ],
     ),
     (
@@ -45,6 +49,8 @@ const BY_GIT: [(i64, i32, [&str; 5]); 5] = [
             "2000-02-29 09:04:56 -0330",
             "2000-02-29T09:04:56-03:30",
             "2000-02-29",
+            "Tue, 29 Feb 2000 09:04:56 -0330",
+            "Tue Feb 29 2000 09:04:56 -0330",
         ],
     ),
     (
@@ -56,6 +62,8 @@ const BY_GIT: [(i64, i32, [&str; 5]); 5] = [
             "2100-01-01 13:44:59 +1345",
             "2100-01-01T13:44:59+13:45",
             "2100-01-01",
+            "Fri, 01 Jan 2100 13:44:59 +1345",
+            "Fri Jan 01 2100 13:44:59 +1345",
         ],
     ),
     (
@@ -67,13 +75,145 @@ const BY_GIT: [(i64, i32, [&str; 5]); 5] = [
             "2023-10-26 22:00:00 -1200",
             "2023-10-26T22:00:00-12:00",
             "2023-10-26",
+            "Thu, 26 Oct 2023 22:00:00 -1200",
+            "Thu Oct 26 2023 22:00:00 -1200",
         ],
+    ),
+    (
+        1_662_302_706,
+        -14_400,
+        [
+            "Sun Sep 4 10:45:06 2022 -0400",
+            "Sun, 4 Sep 2022 10:45:06 -0400",
+            "2022-09-04 10:45:06 -0400",
+            "2022-09-04T10:45:06-04:00",
+            "2022-09-04",
+            "Sun, 04 Sep 2022 10:45:06 -0400",
+            "Sun Sep 04 2022 10:45:06 -0400",
+        ],
+    ),
+    (
+        86_399,
+        -1800,
+        [
+            "Thu Jan 1 23:29:59 1970 -0030",
+            "Thu, 1 Jan 1970 23:29:59 -0030",
+            "1970-01-01 23:29:59 -0030",
+            "1970-01-01T23:29:59-00:30",
+            "1970-01-01",
+            "Thu, 01 Jan 1970 23:29:59 -0030",
+            "Thu Jan 01 1970 23:29:59 -0030",
+        ],
+    ),
+    (
+        4_102_444_799,
+        -86_340,
+        [
+            "Thu Dec 31 00:00:59 2099 -2359",
+            "Thu, 31 Dec 2099 00:00:59 -2359",
+            "2099-12-31 00:00:59 -2359",
+            "2099-12-31T00:00:59-23:59",
+            "2099-12-31",
+            "Thu, 31 Dec 2099 00:00:59 -2359",
+            "Thu Dec 31 2099 00:00:59 -2359",
+        ],
+    ),
+    (
+        0,
+        0,
+        [
+            "Thu Jan 1 00:00:00 1970 +0000",
+            "Thu, 1 Jan 1970 00:00:00 +0000",
+            "1970-01-01 00:00:00 +0000",
+            "1970-01-01T00:00:00+00:00",
+            "1970-01-01",
+            "Thu, 01 Jan 1970 00:00:00 +0000",
+            "Thu Jan 01 1970 00:00:00 +0000",
+        ],
+    ),
+];
+
+/// A time and a format, and what is printed: by scope's rows, the rules of the calendar and `jiff`'s documentation.
+const ROWS: [(i64, i32, Format, &str); 16] = [
+    (0, 0, UNIX, "0"),
+    (-1, 0, UNIX, "-1"),
+    (i64::MIN, 0, UNIX, "-9223372036854775808"),
+    (1_660_874_655, 28_800, RAW, "1660874655 +0800"),
+    (1_660_797_906, 28_800, RAW, "1660797906 +0800"),
+    (0, 359_999, RAW, "0 +9959"),
+    (
+        1_660_797_906,
+        28_800,
+        Format::Custom(ISO8601),
+        "2022-08-18 12:45:06 +0800",
+    ),
+    (
+        18_000,
+        -18_000,
+        Format::Custom(ISO8601),
+        "1970-01-01 00:00:00 -0500",
+    ),
+    (
+        -30_610_224_001,
+        0,
+        Format::Custom(ISO8601),
+        "0999-12-31 23:59:59 +0000",
+    ),
+    (
+        -30_610_224_000,
+        0,
+        Format::Custom(ISO8601),
+        "1000-01-01 00:00:00 +0000",
+    ),
+    (
+        253_402_207_200,
+        0,
+        Format::Custom(ISO8601),
+        "9999-12-30 22:00:00 +0000",
+    ),
+    (
+        253_402_207_200,
+        93_599,
+        Format::Custom(ISO8601),
+        "9999-12-31 23:59:59 +255959",
+    ),
+    (
+        -62_198_755_200,
+        0,
+        Format::Custom(ISO8601),
+        "-001-01-01 00:00:00 +0000",
+    ),
+    (
+        -377_705_023_201,
+        -93_599,
+        Format::Custom(ISO8601),
+        "-9999-01-01 00:00:00 -255959",
+    ),
+    (
+        0,
+        -30,
+        Format::Custom(ISO8601_STRICT),
+        "1969-12-31T23:59:30-00:00:30",
+    ),
+    (
+        0,
+        -30,
+        Format::Custom(RFC2822),
+        "Wed, 31 Dec 1969 23:59:30 -000030",
     ),
 ];
 
 #[test]
 fn git_prints_the_same(rt: HostRuntime) -> Result<(), Fail> {
-    let formats = [DEFAULT, GIT_RFC2822, ISO8601, ISO8601_STRICT, SHORT];
+    let formats = [
+        DEFAULT,
+        GIT_RFC2822,
+        ISO8601,
+        ISO8601_STRICT,
+        SHORT,
+        RFC2822,
+        GITOXIDE,
+    ];
     for (seconds, offset, texts) in BY_GIT {
         let time = Time::new(seconds, offset);
         for (format, due) in formats.into_iter().zip(texts) {
@@ -88,97 +228,29 @@ fn git_prints_the_same(rt: HostRuntime) -> Result<(), Fail> {
 
 #[test]
 fn times_are_printed(rt: HostRuntime) -> Result<(), Fail> {
-    let rows = [
-        (
-            1_659_933_906,
-            28_800,
-            RFC2822.into(),
-            "Mon, 08 Aug 2022 12:45:06 +0800",
-        ),
-        (
-            1_660_874_655,
-            28_800,
-            RFC2822.into(),
-            "Fri, 19 Aug 2022 10:04:15 +0800",
-        ),
-        (
-            1_660_874_655,
-            28_800,
-            GITOXIDE.into(),
-            "Fri Aug 19 2022 10:04:15 +0800",
-        ),
-        (0, 0, UNIX, "0"),
-        (0, 0, ISO8601_STRICT.into(), "1970-01-01T00:00:00+00:00"),
-        (18_000, -18_000, ISO8601.into(), "1970-01-01 00:00:00 -0500"),
-        (-1, 0, UNIX, "-1"),
-        (1_660_874_655, 28_800, RAW, "1660874655 +0800"),
-        (1_660_797_906, 28_800, RAW, "1660797906 +0800"),
-        (
-            1_660_797_906,
-            28_800,
-            ISO8601.into(),
-            "2022-08-18 12:45:06 +0800",
-        ),
-        (0, 359_999, RAW, "0 +9959"),
-        (i64::MIN, 0, UNIX, "-9223372036854775808"),
-        (
-            -30_610_224_001,
-            0,
-            ISO8601.into(),
-            "0999-12-31 23:59:59 +0000",
-        ),
-        (
-            -30_610_224_000,
-            0,
-            ISO8601.into(),
-            "1000-01-01 00:00:00 +0000",
-        ),
-        (
-            253_402_207_200,
-            0,
-            ISO8601.into(),
-            "9999-12-30 22:00:00 +0000",
-        ),
-        (
-            -62_198_755_200,
-            0,
-            ISO8601.into(),
-            "-001-01-01 00:00:00 +0000",
-        ),
-        (0, -30, ISO8601.into(), "1969-12-31 23:59:30 -000030"),
-        (
-            0,
-            -30,
-            ISO8601_STRICT.into(),
-            "1969-12-31T23:59:30-00:00:30",
-        ),
-        (
-            0,
-            0,
-            CustomFormat::new("%A %-d %B, %Z").into(),
-            "Thursday 1 January, UTC",
-        ),
-        (0, 0, CustomFormat::new("%Q").into(), "UTC"),
-        (
-            1_660_874_655,
-            28_800,
-            CustomFormat::new("%Z, %Q, %:Q").into(),
-            "+08, +0800, +08:00",
-        ),
-        (
-            951_827_696,
-            -12_600,
-            CustomFormat::new("%Z").into(),
-            "-03:30",
-        ),
-        (0, 0, CustomFormat::new("").into(), ""),
-    ];
-    for (seconds, offset, format, due) in rows {
+    for (seconds, offset, format, due) in ROWS {
         let time = Time::new(seconds, offset);
         let text = time.format(rt.alloc(), format)?;
         assert_eq!(rt; text.as_str(), due);
         let same = time.format_or_unix(rt.alloc(), format)?;
         assert_eq!(rt; same.as_str(), due);
+    }
+    Ok(())
+}
+
+#[test]
+fn times_are_printed_by_any_pattern(rt: HostRuntime) -> Result<(), Fail> {
+    let rows = [
+        (0, 0, "%A %-d %B, %Z, %Q", "Thursday 1 January, UTC, UTC"),
+        (1_660_874_655, 28_800, "%Z, %Q, %:Q", "+08, +0800, +08:00"),
+        (951_827_696, -12_600, "%Z", "-03:30"),
+        (1_660_874_655, 28_800, "%s", "1660874655"),
+        (0, 0, "", ""),
+    ];
+    for (seconds, offset, pattern, due) in rows {
+        let format = CustomFormat::new(pattern).into();
+        let text = Time::new(seconds, offset).format(rt.alloc(), format)?;
+        assert_eq!(rt; text.as_str(), due);
     }
     Ok(())
 }
@@ -202,19 +274,31 @@ fn printed_dates_are_parsed_back(rt: HostRuntime) -> Result<(), Fail> {
 
 #[test]
 fn a_time_without_a_text_has_its_seconds(rt: HostRuntime) -> Result<(), Fail> {
-    let beyond = Time::MAX.format(rt.alloc(), ISO8601.into());
-    assert!(rt; matches!(beyond, Err(Error::Conversion)));
-    let seconds = Time::MAX.format_or_unix(rt.alloc(), ISO8601.into())?;
-    assert_eq!(rt; seconds.as_str(), "9223372036854775807");
-    let wide = Time::new(0, 362_340).format(rt.alloc(), RAW);
-    assert!(rt; matches!(wide, Err(Error::OffsetTooWide)));
-    let zero = Time::new(0, 362_340).format_or_unix(rt.alloc(), RAW)?;
-    assert_eq!(rt; zero.as_str(), "0");
-    let pattern = CustomFormat::new("%!");
-    let refused = Time::new(5, 0).format(rt.alloc(), pattern.into());
-    assert!(rt; matches!(refused, Err(Error::Pattern)));
-    let five = Time::new(5, 0).format_or_unix(rt.alloc(), pattern.into())?;
-    assert_eq!(rt; five.as_str(), "5");
+    let rows = [
+        (Time::MAX, "9223372036854775807"),
+        (Time::new(253_402_300_799, 0), "253402300799"),
+        (Time::new(0, 359_940), "0"),
+    ];
+    for (time, seconds) in rows {
+        let refused = time.format(rt.alloc(), DEFAULT.into());
+        assert!(rt; matches!(refused, Err(Error::Conversion)));
+        let text = time.format_or_unix(rt.alloc(), DEFAULT.into())?;
+        assert_eq!(rt; text.as_str(), seconds);
+    }
+    let wide = Time::new(0, 362_340);
+    assert!(rt; matches!(wide.format(rt.alloc(), RAW), Err(Error::OffsetTooWide)));
+    assert_eq!(rt; wide.format_or_unix(rt.alloc(), RAW)?.as_str(), "0");
+    Ok(())
+}
+
+#[test]
+fn a_pattern_that_cannot_be_printed_is_refused(rt: HostRuntime) -> Result<(), Fail> {
+    let time = Time::new(5, 0);
+    for pattern in ["%!", "%", "%Y-%"] {
+        let format = Format::Custom(CustomFormat::new(pattern));
+        assert!(rt; matches!(time.format(rt.alloc(), format), Err(Error::Pattern)));
+        assert_eq!(rt; time.format_or_unix(rt.alloc(), format)?.as_str(), "5");
+    }
     Ok(())
 }
 
@@ -308,9 +392,29 @@ fn a_clock_and_a_zone_make_a_time(rt: HostRuntime) -> Result<(), Fail> {
         Time::now_local_or_utc(clock, None),
         Time::new(1_698_400_800, 0)
     );
-    let late = Timestamp::from_nanosecond(1_999_999_999)?;
-    assert_eq!(rt; Time::now_utc(late), Time::new(1, 0));
-    let before = Timestamp::from_nanosecond(-1_500_000_000)?;
-    assert_eq!(rt; Time::now_utc(before), Time::new(-1, 0));
+    Ok(())
+}
+
+#[test]
+fn a_fraction_of_a_second_is_cut_towards_1970(rt: HostRuntime) -> Result<(), Fail> {
+    let zone = TimeZone::posix("EST5EDT,M3.2.0,M11.1.0")?;
+    // The third is 1969-03-09 07:00 UTC, where that zone's clock goes from 2 to 3, and the fourth half a second before.
+    let rows = [
+        (1_999_999_999, 1, -18_000),
+        (-1_500_000_000, -1, -18_000),
+        (-25_722_000_000_000_000, -25_722_000, -14_400),
+        (-25_722_000_500_000_000, -25_722_000, -18_000),
+    ];
+    for (nanosecond, seconds, offset) in rows {
+        let clock = Timestamp::from_nanosecond(nanosecond)?;
+        assert_eq!(rt; Time::now_utc(clock), Time::new(seconds, 0));
+        assert_eq!(rt; Time::now_local_or_utc(clock, None), Time::new(seconds, 0));
+        assert_eq!(rt;
+            Time::now_local_or_utc(clock, Some(zone)),
+            Time::new(seconds, offset)
+        );
+        let local = Time::now_local(clock, Some(zone));
+        assert!(rt; matches!(local, Some(time) if time == Time::new(seconds, offset)));
+    }
     Ok(())
 }

@@ -1,10 +1,11 @@
 //! The example of README.md, as it stands there.
 use gix_date::device::Device;
 use gix_date::parsing::TimeBuf;
+use gix_date::time::format::ISO8601;
 use gix_date::{Error, parse, parse_header};
 use std::alloc::Global;
 
-fn example(alloc: Global) -> Result<Vec<u8>, Error> {
+fn example(alloc: Global) -> Result<String, Error> {
     // A date, which needs no moment; a text that is none comes back in the fault, by a copy.
     let time = parse(alloc, "@1660874655 +0800", None)?;
     // Its text in a commit header, lent out of a buffer: "1660874655 +0800". No memory is taken.
@@ -15,14 +16,12 @@ fn example(alloc: Global) -> Result<Vec<u8>, Error> {
     // The same text again, into any `Write`.
     let mut out = Device::new(Vec::new(alloc));
     same.write_to(&mut out)?;
-    Ok(out.into_inner())
+    // The date as a log shows it: "2022-08-19 10:04:15 +0800".
+    same.format(alloc, ISO8601.into())
 }
 
 #[test]
-fn the_example_gives_the_text_again(rt: HostRuntime) -> Result<(), Error> {
-    assert_eq!(rt;
-        example(rt.alloc())?.as_slice(),
-        b"1660874655 +0800".as_slice()
-    );
+fn the_example_prints_the_date(rt: HostRuntime) -> Result<(), Error> {
+    assert_eq!(rt; example(rt.alloc())?.as_str(), "2022-08-19 10:04:15 +0800");
     Ok(())
 }

@@ -1,5 +1,6 @@
 //! What all readers of fields stand on.
 ghost use Rattle.std.specs.Prelude.{◌≡◌, ◌<◌, option_copied};
+ghost use Rattle.gix_date.specs.Characters.{has_colon};
 ghost use Rattle.gix_date.specs.Fields.{behind};
 
 /// What stands behind this character, where it is the first.
@@ -8,4 +9,11 @@ pub(crate) fn behind(mark: char, text: &str) -> Option<&str>
     ensures { option_copied result ≡ behind mark text.now }
 {
     text.strip_prefix(mark)
+}
+
+/// Whether a text has a colon anywhere.
+pub(crate) fn has_colon(text: &str) -> bool
+    ensures { result ≡ has_colon text.now }
+{
+    text.as_bytes().contains(&b':')
 }

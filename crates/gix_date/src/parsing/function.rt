@@ -4,11 +4,11 @@ ghost use Rattle.jiff.specs.Words.{IsOffsetSeconds};
 ghost use Rattle.gix_date.specs.Epoch.{at_time, epoch_time};
 ghost use Rattle.gix_date.specs.Families.{first_family, Comes, RefusesUnknown, RefusesDate};
 ghost use Rattle.gix_date.specs.HeaderReading.{header_time, seconds_said, offset_said};
-ghost use Rattle.gix_date.specs.Views.{answer_of, IsShort};
+ghost use Rattle.gix_date.specs.Views.{answer_of, HasZoneOffset};
 
 use crate::error::{Error, InputBytes};
 use crate::parsing::answer::Answer;
-use crate::parsing::fields::behind;
+use crate::parsing::fields::{behind, has_colon};
 use crate::parsing::git::parse_git_date_format;
 use crate::parsing::numbers::{leading_digits, parse_int};
 use crate::parsing::offset::parse_offset_fields;
@@ -45,8 +45,9 @@ const LEAST_EPOCH: i64 = 100_000_000;
 ///     (`1660874655 +0800`).
 ///
 /// In 2 to 7 a year has four digits, and the other fields of date and clock one or two; names are in any letter case, and the
-/// weekday is not compared with the date; a second of 60 is read as 59. In 2 to 7 and in 9 the day has to exist, and in
-/// 3 to 7 and in 9 `jiff` has to have the instant.
+/// weekday is not compared with the date; a second of 60 is read as 59; where a space stands there may be more, and an offset may
+/// have seconds, but for mail (`2008-02-14  20:30:45 +010203`). In 2 to 7 and in 9 the day has to exist, and in 3 to 7 and in 9 `jiff`
+/// has to have the instant: from -377705023201 to 253402207200 seconds.
 ///
 /// Seconds count from 1970-01-01 00:00:00 UTC, and have the offset 0 where none is written, but for a relative text.
 ///
@@ -79,7 +80,7 @@ pub fn parse(alloc: Global, input: &str, now: Option<Zoned<'_>>) -> Result<Time,
 #[tactic(auto, unfolding(crate::specs::Families::first_family))]
 fn first_answer(input: &str) -> Option<Answer<'_>>
     ensures first { option_map answer_of result ≡ first_family input.now }
-    ensures short { IfSome result IsShort }
+    ensures short { IfSome result HasZoneOffset }
 {
     if let Some(time) = parse_at(input) {
         return Some(Answer::Absolute(time));
@@ -176,7 +177,7 @@ fn parse_epoch(input: &str) -> Option<Time>
 pub fn parse_header(input: &str) -> Option<Time>
     ensures { result ≡ header_time input.now }
 {
-    if input.as_bytes().contains(&b':') {
+    if has_colon(input) {
         return None;
     }
     let (first, second) = first_words(input)?;

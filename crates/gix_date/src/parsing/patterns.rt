@@ -2,7 +2,7 @@
 ghost use Rattle.std.specs.Prelude.{◌≡◌, IfSome, option_map, option_copied};
 ghost use Rattle.gix_date.specs.Patterns.{short_answer, day_answer, behind_day_name, rfc2822_answer, iso8601_answer, iso8601_strict_answer, gitoxide_answer, default_answer};
 ghost use Rattle.gix_date.specs.Civil.{DateFits};
-ghost use Rattle.gix_date.specs.Views.{answer_of, IsShort};
+ghost use Rattle.gix_date.specs.Views.{answer_of, HasZoneOffset};
 
 use crate::parsing::answer::Answer;
 use crate::parsing::civil::{ClockFields, DateFields, civil_instant, is_date};
@@ -12,7 +12,7 @@ use crate::parsing::patterns::fields::{
     behind_spaces, behind_weekday, date_answer, read_clock, read_mail_clock, read_month,
     read_plain_date,
 };
-use crate::parsing::patterns::zone::{parse_mail_zone, parse_plain_zone, parse_strict_zone};
+use crate::parsing::patterns::zone::{parse_compact_zone, parse_mail_zone, parse_strict_zone};
 use crate::time::Time;
 
 mod fields;
@@ -29,7 +29,7 @@ const MIDNIGHT: ClockFields = ClockFields {
 #[tactic(auto, unfolding(crate::specs::Patterns::short_answer))]
 pub(crate) fn parse_short(text: &str) -> Option<Answer<'static>>
     ensures answer { option_map answer_of result ≡ short_answer text.now }
-    ensures short { IfSome result IsShort }
+    ensures short { IfSome result HasZoneOffset }
 {
     let (date, rest) = read_plain_date(text)?;
     if !rest.is_empty() {
@@ -45,7 +45,7 @@ pub(crate) fn parse_short(text: &str) -> Option<Answer<'static>>
 fn day_answer(date: DateFields) -> Answer<'static>
     requires { DateFits date }
     ensures answer { answer_of result ≡ day_answer date }
-    ensures short { IsShort result }
+    ensures short { HasZoneOffset result }
 {
     match civil_instant(date, MIDNIGHT, 0) {
         Some(seconds) => Answer::Absolute(Time::new(seconds, 0)),
@@ -58,7 +58,7 @@ fn day_answer(date: DateFields) -> Answer<'static>
 #[tactic(auto, unfolding(crate::specs::Patterns::rfc2822_answer))]
 pub(crate) fn parse_rfc2822(text: &str) -> Option<Answer<'static>>
     ensures answer { option_map answer_of result ≡ rfc2822_answer text.now }
-    ensures short { IfSome result IsShort }
+    ensures short { IfSome result HasZoneOffset }
 {
     let date = behind_day_name(text).unwrap_or(text);
     let (day, rest) = read_field(date)?;
@@ -87,13 +87,13 @@ fn behind_day_name(text: &str) -> Option<&str>
 #[tactic(auto, unfolding(crate::specs::Patterns::iso8601_answer))]
 pub(crate) fn parse_iso8601(text: &str) -> Option<Answer<'static>>
     ensures answer { option_map answer_of result ≡ iso8601_answer text.now }
-    ensures short { IfSome result IsShort }
+    ensures short { IfSome result HasZoneOffset }
 {
     let (date, rest) = read_plain_date(text)?;
     let rest = behind_spaces(rest)?;
     let (clock, rest) = read_clock(rest)?;
     let rest = behind_spaces(rest)?;
-    let offset = parse_plain_zone(rest)?;
+    let offset = parse_compact_zone(rest)?;
     date_answer(date, clock, offset)
 }
 
@@ -101,7 +101,7 @@ pub(crate) fn parse_iso8601(text: &str) -> Option<Answer<'static>>
 #[tactic(auto, unfolding(crate::specs::Patterns::iso8601_strict_answer))]
 pub(crate) fn parse_iso8601_strict(text: &str) -> Option<Answer<'static>>
     ensures answer { option_map answer_of result ≡ iso8601_strict_answer text.now }
-    ensures short { IfSome result IsShort }
+    ensures short { IfSome result HasZoneOffset }
 {
     let (date, rest) = read_plain_date(text)?;
     let rest = behind('T', rest)?;
@@ -114,7 +114,7 @@ pub(crate) fn parse_iso8601_strict(text: &str) -> Option<Answer<'static>>
 #[tactic(auto, unfolding(crate::specs::Patterns::gitoxide_answer))]
 pub(crate) fn parse_gitoxide(text: &str) -> Option<Answer<'static>>
     ensures answer { option_map answer_of result ≡ gitoxide_answer text.now }
-    ensures short { IfSome result IsShort }
+    ensures short { IfSome result HasZoneOffset }
 {
     let rest = behind_weekday(text)?;
     let rest = behind_spaces(rest)?;
@@ -126,7 +126,7 @@ pub(crate) fn parse_gitoxide(text: &str) -> Option<Answer<'static>>
     let rest = behind_spaces(rest)?;
     let (clock, rest) = read_clock(rest)?;
     let rest = behind_spaces(rest)?;
-    let offset = parse_plain_zone(rest)?;
+    let offset = parse_compact_zone(rest)?;
     date_answer(DateFields { year, month, day }, clock, offset)
 }
 
@@ -134,7 +134,7 @@ pub(crate) fn parse_gitoxide(text: &str) -> Option<Answer<'static>>
 #[tactic(auto, unfolding(crate::specs::Patterns::default_answer))]
 pub(crate) fn parse_default(text: &str) -> Option<Answer<'static>>
     ensures answer { option_map answer_of result ≡ default_answer text.now }
-    ensures short { IfSome result IsShort }
+    ensures short { IfSome result HasZoneOffset }
 {
     let rest = behind_weekday(text)?;
     let rest = behind_spaces(rest)?;
@@ -146,6 +146,6 @@ pub(crate) fn parse_default(text: &str) -> Option<Answer<'static>>
     let rest = behind_spaces(rest)?;
     let (year, rest) = read_year(rest)?;
     let rest = behind_spaces(rest)?;
-    let offset = parse_plain_zone(rest)?;
+    let offset = parse_compact_zone(rest)?;
     date_answer(DateFields { year, month, day }, clock, offset)
 }

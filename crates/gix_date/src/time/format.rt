@@ -1,7 +1,7 @@
 //! Formats of a time by their names, and times as values of `jiff`.
 //!
-//! [`parse`](crate::parse) has a family for each format that this module names, but for [`UNIX`]; it holds a year of four digits and an
-//! offset of at most 23:59, and of [`RAW`] an offset in quarters of an hour of at most 14:45.
+//! [`parse`](crate::parse) reads what these print of a year of four digits and an offset of whole minutes up to 23:59: of [`SHORT`] the
+//! midnight in UTC of that day, of [`UNIX`] from 100000000 on, and of [`RAW`] offsets in quarters of an hour up to 14:45.
 ghost use Rattle.std.specs.Prelude.{◌≡◌, ◌↔◌, ◌⊎◌, Some, Err, option_map, IsTrue, IsOk, IfOk, IfErr, string_bytes};
 ghost use Rattle.jiff.specs.Words.{plain_zoned};
 ghost use Rattle.jiff.specs.ZonedText.{zoned_parts};
@@ -38,7 +38,7 @@ pub struct CustomFormat {
 impl CustomFormat {
     ghost use Rattle.std.specs.Prelude.{◌≡◌};
 
-    /// The format of this pattern, whether or not it can be printed.
+    /// The format of this pattern, whether or not it can be printed. Takes no memory.
     pub const fn new(pattern: &'static str) -> CustomFormat
         ensures { result.pattern.now ≡ pattern.now }
     {
@@ -49,7 +49,7 @@ impl CustomFormat {
 impl From<CustomFormat> for Format {
     ghost use Rattle.gix_date.specs.declared.time.format.Format.TheVariants.{Custom};
 
-    /// The format by that pattern.
+    /// The format by that pattern. Takes no memory.
     fn from(format: CustomFormat) -> Format
         ensures { result ≡ Custom format }
     {
@@ -67,7 +67,7 @@ pub const RFC2822: CustomFormat = CustomFormat {
     pattern: "%a, %d %b %Y %H:%M:%S %z",
 };
 
-/// The same as Git prints it (`git log --pretty=%aD`): `Mon, 8 Aug 2022 12:45:06 +0800`.
+/// A date as in mail, with no zero before the day, as Git prints it (`git log --pretty=%aD`): `Mon, 8 Aug 2022 12:45:06 +0800`.
 pub const GIT_RFC2822: CustomFormat = CustomFormat {
     pattern: "%a, %-d %b %Y %H:%M:%S %z",
 };
@@ -77,7 +77,7 @@ pub const ISO8601: CustomFormat = CustomFormat {
     pattern: "%Y-%m-%d %H:%M:%S %z",
 };
 
-/// A date in the strict form of ISO 8601 (`git log --pretty=%aI`): `2022-08-17T21:43:13+08:00`.
+/// A date in the strict form of ISO 8601, as Git 2.39 prints it (`git log --pretty=%aI`): `2022-08-17T21:43:13+08:00`.
 pub const ISO8601_STRICT: CustomFormat = CustomFormat {
     pattern: "%Y-%m-%dT%H:%M:%S%:z",
 };
@@ -99,7 +99,7 @@ pub const DEFAULT: CustomFormat = CustomFormat {
 };
 
 /// The fault that one of `jiff`'s printer is.
-fn fault_of(error: jiff::Error) -> Error
+fn printing_fault(error: jiff::Error) -> Error
     ensures { ((error ≡ jiff_errors.OutOfMemory) × (result ≡ errors.Memory)) ⊎ ((error ≡ jiff_errors.OutOfMemory → ⊥) × (result ≡ errors.Pattern)) }
 {
     match error {
@@ -137,7 +137,7 @@ fn printed(alloc: Global, pattern: &str, moment: &Zoned<'_>) -> Result<String, E
     let parts = parts_of(moment, abbreviation, name);
     match to_string(alloc, Config::new(), pattern.as_bytes(), &parts) {
         Ok(text) => Ok(text),
-        Err(error) => Err(fault_of(error)),
+        Err(error) => Err(printing_fault(error)),
     }
 }
 
@@ -167,7 +167,8 @@ impl Time {
     /// of [`Time::to_zoned`] by the pattern.
     ///
     /// [`Error::OffsetTooWide`] where a time has no header text, [`Error::Conversion`] where `to_zoned` refuses, both before any memory
-    /// is taken; [`Error::Pattern`] where the printer refuses the pattern; [`Error::Memory`] where memory for the text is refused.
+    /// is taken; [`Error::Pattern`] where the printer refuses the pattern, or what it shows is no UTF-8; [`Error::Memory`] where memory
+    /// for the text is refused.
     pub fn format(&self, alloc: Global, format: Format) -> Result<String, Error>
         ensures { Prints self.now format result }
     {
@@ -178,7 +179,7 @@ impl Time {
         }
     }
 
-    /// The same, with the seconds in decimal for a time that has no text in that format: where [`Time::format`] answers
+    /// The text of [`Time::format`], or the seconds in decimal for a time that has none in that format: where `format` answers
     /// [`Error::Conversion`], [`Error::OffsetTooWide`] or [`Error::Pattern`].
     ///
     /// The one refusal is [`Error::Memory`], where memory for the text is refused.
@@ -187,24 +188,9 @@ impl Time {
     {
         match self.format(alloc, format) {
             Ok(text) => Ok(text),
-            Err(error) => self.unix_but_for_memory(alloc, format, error),
+            Err(error) if is_memory(&error) => Err(error),
+            Err(_other) => self.unix_seconds(alloc),
         }
-    }
-
-    /// The seconds in place of a fault of printing, but for want of memory.
-    fn unix_but_for_memory(
-        self,
-        alloc: Global,
-        format: Format,
-        error: Error,
-    ) -> Result<String, Error>
-        requires { Prints self format (Err error) }
-        ensures { PrintsOrSeconds self format result }
-    {
-        if is_memory(&error) {
-            return Err(error);
-        }
-        self.unix_seconds(alloc)
     }
 
     fn unix_seconds(self, alloc: Global) -> Result<String, Error>

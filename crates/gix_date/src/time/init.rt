@@ -8,7 +8,8 @@ use jiff::Timestamp;
 use jiff::tz::TimeZone;
 
 impl Time {
-    /// The time of these two numbers, whatever they are.
+    /// The time of these seconds since 1970-01-01 00:00:00 UTC and this offset in seconds east of UTC, whatever they are. Takes no
+    /// memory.
     pub fn new(seconds: SecondsSinceUnixEpoch, offset: OffsetInSeconds) -> Time
         ensures { result ≡ record { seconds = seconds; offset = offset } }
     {
@@ -31,7 +32,7 @@ impl Time {
         Some(Time::new(clock.as_second(), zone.to_offset(clock).seconds()))
     }
 
-    /// The same, in UTC where no zone is handed in. Takes no memory.
+    /// The time that a clock shows, with the offset that the zone has there, or with 0 where no zone is handed in. Takes no memory.
     pub fn now_local_or_utc(clock: Timestamp, zone: Option<TimeZone<'_>>) -> Time
         ensures { result ≡ unwrap_or (option_map (λ z. time_in (plain_zone z) clock.nanosecond) zone.entry) (time_in_utc clock.nanosecond) }
     {

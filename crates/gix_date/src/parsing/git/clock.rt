@@ -1,12 +1,14 @@
 //! The clock of a Git text.
 ghost use Rattle.std.specs.Prelude.{◌≡◌, ◌<◌, ◌≤◌, IfSome};
 ghost use Rattle.std.specs.Char.{is_ascii, is_ascii_digit};
-ghost use Rattle.std.specs.List.{list_all, list_any, before_first};
+ghost use Rattle.std.specs.List.{list_all, before_first};
+ghost use Rattle.gix_date.specs.Characters.{is_colon, is_dot};
 ghost use Rattle.gix_date.specs.Civil.{ClockFits};
 ghost use Rattle.gix_date.specs.Fields.{read_view};
-ghost use Rattle.gix_date.specs.GitClock.{digits_at_most, clock_of, is_colon, is_dot, clock_with_colons, read_pair_or_end, clock_without_colons, trimmed_clock, git_clock};
+ghost use Rattle.gix_date.specs.GitClock.{digits_at_most, clock_of, clock_with_colons, read_pair_or_end, clock_without_colons, trimmed_clock, git_clock};
 
 use crate::parsing::civil::ClockFields;
+use crate::parsing::fields::has_colon;
 use crate::parsing::numbers::read_two_digits;
 
 /// Reads the clock of a Git text: hours, and perhaps minutes and seconds, in digits alone. It ends at its first dot, if there is
@@ -68,12 +70,6 @@ fn is_all_digits(text: &str) -> bool
     ensures { result ≡ list_all is_ascii_digit text.now }
 {
     text.bytes().all(|b| b.is_ascii_digit())
-}
-
-fn has_colon(text: &str) -> bool
-    ensures { result ≡ list_any is_colon text.now }
-{
-    text.as_bytes().contains(&b':')
 }
 
 /// A clock of parts between colons.

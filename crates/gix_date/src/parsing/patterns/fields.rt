@@ -2,10 +2,11 @@
 ghost use Rattle.std.specs.Prelude.{◌≡◌, ◌≤◌, ◌<◌, IfSome, option_map, option_copied};
 ghost use Rattle.std.specs.List.{prefix_len};
 ghost use Rattle.jiff.specs.Words.{IsOffsetSeconds};
+ghost use Rattle.gix_date.specs.Characters.{is_space};
 ghost use Rattle.gix_date.specs.Civil.{DateFits, ClockFits};
 ghost use Rattle.gix_date.specs.Fields.{read_view};
-ghost use Rattle.gix_date.specs.PatternFields.{is_space, behind_spaces, read_name, month_of, is_weekday, read_month, behind_weekday, read_plain_date, read_minutes, read_second, read_clock, read_mail_clock, leapless, date_answer};
-ghost use Rattle.gix_date.specs.Views.{answer_of, IsShort, name_view};
+ghost use Rattle.gix_date.specs.PatternFields.{behind_spaces, read_name, month_of, is_weekday, read_month, behind_weekday, read_plain_date, read_minutes, read_second, read_clock, read_mail_clock, leapless, date_answer};
+ghost use Rattle.gix_date.specs.Views.{answer_of, HasZoneOffset, name_view};
 
 use crate::parsing::answer::Answer;
 use crate::parsing::civil::{ClockFields, DateFields, civil_instant};
@@ -14,7 +15,7 @@ use crate::parsing::numbers::{read_field, read_year};
 use crate::time::{OffsetInSeconds, Time};
 
 /// The farthest offset of a formatted date: 23:59 either way.
-const LONGEST_OFFSET: u32 = 86_340;
+const MAX_OFFSET_IN_SECONDS: u32 = (23 * 60 + 59) * 60;
 
 /// What stands behind one space or more.
 #[tactic(auto, unfolding(crate::specs::PatternFields::behind_spaces))]
@@ -207,10 +208,10 @@ pub(crate) fn date_answer(
     requires clock { ClockFits clock }
     requires offset { IsOffsetSeconds offset }
     ensures answer { option_map answer_of result ≡ date_answer date clock offset }
-    ensures short { IfSome result IsShort }
+    ensures short { IfSome result HasZoneOffset }
 {
     let seconds = civil_instant(date, clock, offset)?;
-    if offset.unsigned_abs() > LONGEST_OFFSET {
+    if offset.unsigned_abs() > MAX_OFFSET_IN_SECONDS {
         return Some(Answer::OffsetBeyond);
     }
     Some(Answer::Absolute(Time::new(seconds, offset)))

@@ -1,7 +1,7 @@
 //! The offsets of formatted dates. Each reader takes a whole text.
 ghost use Rattle.std.specs.Prelude.{◌≡◌, IfSome};
 ghost use Rattle.jiff.specs.Words.{IsOffsetSeconds};
-ghost use Rattle.gix_date.specs.PatternFields.{plain_zone, strict_zone, mail_zone, mail_offset, named_zone, zone_offset, last_colon_pair};
+ghost use Rattle.gix_date.specs.PatternFields.{compact_zone, strict_zone, mail_zone, mail_offset, named_zone, zone_offset, last_colon_pair};
 
 use crate::parsing::fields::behind;
 use crate::parsing::numbers::{parse_two_digits, read_two_digits};
@@ -21,9 +21,9 @@ fn zone_offset(fields: OffsetFields) -> Option<OffsetInSeconds>
 }
 
 /// A sign, two digits of hours, two of minutes, and perhaps two of seconds.
-#[tactic(auto, unfolding(crate::specs::PatternFields::plain_zone))]
-pub(crate) fn parse_plain_zone(text: &str) -> Option<OffsetInSeconds>
-    ensures value { result ≡ plain_zone text.now }
+#[tactic(auto, unfolding(crate::specs::PatternFields::compact_zone))]
+pub(crate) fn parse_compact_zone(text: &str) -> Option<OffsetInSeconds>
+    ensures value { result ≡ compact_zone text.now }
     ensures short { IfSome result (λ offset. IsOffsetSeconds offset) }
 {
     zone_offset(parse_offset_fields(text)?)

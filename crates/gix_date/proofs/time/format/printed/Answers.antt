@@ -25,5 +25,5 @@ returns-in-Err c =
     let info : IsInfoAt z.time_zone z.timestamp.nanosecond c.to_offset_info-info.result = subst (λ (p : PlainZoned). IsInfoAt p.time_zone p.timestamp.nanosecond c.to_offset_info-info.result) plain c.to_offset_info-info.ensures in
     let name : option_map (λ s. s.now) c.iana_name-name.result ≡ zone_name z.time_zone = subst (λ (p : PlainZoned). option_map (λ s. s.now) c.iana_name-name.result ≡ zone_name p.time_zone) plain c.iana_name-name.ensures in
     let are = are-printed z c.to_offset_info-info.result c.as_str-abbreviation.result.now (option_map (λ s. s.now) c.iana_name-name.result) (parts_of c.parts_of-parts.result) info c.as_str-abbreviation.ensures name c.parts_of-parts.ensures in
-    refused-by c.args.pattern.now z c.new.result c.parts_of-parts.result c.in-Err.error c.fault_of.result c.new.ensures.locale c.new.ensures.strict are c.fault_of.ensures
+    refused-by c.args.pattern.now z c.new.result c.parts_of-parts.result c.in-Err.error c.printing_fault.result c.new.ensures.locale c.new.ensures.strict are c.printing_fault.ensures
     (subst (λ (p : List ℕ). (c.in-Err.error ≡ OutOfMemory) ⊎ IsBadText c.in-Err.error c.new.result p c.parts_of-parts.result ⊎ IsShownAs c.new.result p c.parts_of-parts.result (Err c.in-Err.error)) c.as_bytes.ensures.value c.in-Err.ensures.err)

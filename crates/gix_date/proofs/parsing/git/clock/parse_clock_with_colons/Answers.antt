@@ -1,5 +1,6 @@
 use Rattle.std.proofs.Common.{ap, ◌∙◌, rules, Some}
-use Rattle.gix_date.specs.GitClock.{clock_of, digits_at_most, is_colon}
+use Rattle.gix_date.specs.Characters.{is_colon}
+use Rattle.gix_date.specs.GitClock.{clock_of, digits_at_most}
 use Rattle.gix_date.proofs.ClockParts.{by_one, by_two, by_three, more_parts}
 use Rattle.gix_date.proofs.parsing.git.clock.parse_clock_with_colons.Goals as goal
 
