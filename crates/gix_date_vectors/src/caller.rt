@@ -134,7 +134,7 @@ pub fn authored_in_utc(clock: Timestamp) -> Time
     Time::now_utc(clock)
 }
 
-/// The time of a commit that is made now, by the machine's clock and in its zone, or in UTC where that is not found.
+/// The time of a commit that is made now, by the machine's clock and in its zone, or in UTC where no zone of that name is found.
 pub fn commit_time<R: Clock + Env + Files + AllocGlobal + Clone + Drop>(
     rt: &R,
 ) -> Result<Time, jiff::Error>

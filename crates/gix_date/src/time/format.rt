@@ -39,10 +39,10 @@ impl CustomFormat {
     ghost use Rattle.std.specs.Prelude.{◌≡◌};
 
     /// The format of this pattern, whether or not it can be printed. Takes no memory.
-    pub const fn new(pattern: &'static str) -> CustomFormat
-        ensures { result.pattern.now ≡ pattern.now }
+    pub const fn new(format: &'static str) -> CustomFormat
+        ensures { result.pattern.now ≡ format.now }
     {
-        CustomFormat { pattern }
+        CustomFormat { pattern: format }
     }
 }
 
