@@ -15,14 +15,14 @@ use Rattle.gix_date.specs.PatternFields.{behind_spaces, behind_weekday, read_nam
 use Rattle.gix_date.specs.Patterns.{short_answer, rfc2822_answer, iso8601_answer, iso8601_strict_answer, gitoxide_answer, default_answer, behind_day_name}
 use Rattle.gix_date.specs.Raw.{raw_time, raw_offset}
 use Rattle.gix_date.specs.Relative.{Before, Less, relative_date, named_date, pairs_date}
-use Rattle.gix_date.specs.RelativeWords.{relative_words, count_of, named_count, unit_of, singular, named_unit}
+use Rattle.gix_date.specs.RelativeWords.{relative_words, count_of, named_count, number_named, unit_of, singular, named_unit}
 use Rattle.gix_date.specs.Roles.{is_count_word, has_unit, run, has_flag, has_pair, all_units, are_pairs, pairs}
 use Rattle.gix_date.specs.SpaceWords.{space_words}
 use Rattle.gix_date.specs.declared.parsing.relative.words.TimeUnit.TheVariants.{Seconds, Months}
 
 -- all that a row of relative texts needs to see computed
 relating : Type 0
-unfolding relative_date named_date pairs_date relative_words count_of named_count unit_of singular named_unit is_count_word has_unit run has_flag has_pair all_units are_pairs pairs int_value trim_start trim_end chars encode
+unfolding relative_date named_date pairs_date relative_words count_of named_count number_named unit_of singular named_unit is_count_word has_unit run has_flag has_pair all_units are_pairs pairs int_value trim_start trim_end chars encode
 relating = Unit {0}
 
 two-minutes : relative_date (codes "2 minutes ago") ≡ Some (Less ((pos 2, Seconds (pos 60)) ∷ []))

@@ -21,7 +21,8 @@ use Rattle.jiff_strtime.specs.declared.directive.Locale.TheVariants.{Default}
 use Rattle.jiff_tz.specs.Abbreviation.{abbreviation_text}
 use Rattle.jiff_tz.specs.Zone.{zone_name}
 use Rattle.gix_date.specs.HeaderText.{hours_and_minutes, zone_text}
-use Rattle.gix_date.specs.NamedTexts.{LocalTime, local_time, IsOrdinary, four_digits, month_names, day_name, strict_zone_text, ShowsText}
+use Rattle.gix_date.specs.NamedTexts.{LocalTime, local_time, IsOrdinary, four_digits, day_name, strict_zone_text, ShowsText}
+use Rattle.gix_date.specs.Names.{month_names}
 use Rattle.gix_date.specs.Numbers.{two_digits}
 use Rattle.gix_date.specs.Printed.{IsShown, IsUnprinted}
 use Rattle.gix_date.proofs.Printing.{filled_parts}

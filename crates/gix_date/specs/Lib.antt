@@ -1,4 +1,5 @@
 pub mod Characters
+pub mod Names
 pub mod Numbers
 pub mod Fields
 pub mod Offsets

@@ -6,6 +6,7 @@ use Rattle.jiff_core.specs.Date.{weekday_of}
 use Rattle.jiff_strtime.specs.Show.{Shown}
 use Rattle.gix_date.specs.Characters.{space, comma, minus, colon, letter_t}
 use Rattle.gix_date.specs.HeaderText.{offset_sign, zone_text}
+use Rattle.gix_date.specs.Names.{day_names, month_names}
 use Rattle.gix_date.specs.Numbers.{two_digits}
 use Rattle.gix_date.specs.Printed.{IsShown, IsUnprinted}
 use Rattle.gix_date.specs.declared.parsing.civil.ClockFields.{ClockFields}
@@ -36,12 +37,6 @@ pub record IsOrdinary (z : PlainZoned) : Type 0 where
 
 abbrev pub four_digits : ℕ → List ℕ
 four_digits n = two_digits (n / 100) ++ two_digits (n % 100)
-
-abbrev pub day_names : List (List ℕ)
-day_names = codes "Mon" ∷ codes "Tue" ∷ codes "Wed" ∷ codes "Thu" ∷ codes "Fri" ∷ codes "Sat" ∷ codes "Sun" ∷ []
-
-abbrev pub month_names : List (List ℕ)
-month_names = codes "Jan" ∷ codes "Feb" ∷ codes "Mar" ∷ codes "Apr" ∷ codes "May" ∷ codes "Jun" ∷ codes "Jul" ∷ codes "Aug" ∷ codes "Sep" ∷ codes "Oct" ∷ codes "Nov" ∷ codes "Dec" ∷ []
 
 abbrev pub day_name : ℕ → List ℕ
 day_name weekday = get_or day_names weekday []

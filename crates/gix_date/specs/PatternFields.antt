@@ -1,15 +1,15 @@
 -- The fields of formatted dates.
-use Rattle.std.specs.Prelude.{ℕ, Bool, ◌&&◌, ◌||◌, List, [], ◌∷◌, drop, ℤ, pos, neg_ℤ, unsigned_abs, ◌==◌, nat_le, nat_lt, codes, if◌then◌else◌, Option, Some, None, is_some, unwrap_or}
+use Rattle.std.specs.Prelude.{ℕ, ◌+◌, Bool, ◌&&◌, ◌||◌, List, [], ◌∷◌, drop, ℤ, pos, neg_ℤ, unsigned_abs, ◌==◌, nat_le, nat_lt, codes, if◌then◌else◌, Option, Some, None, is_some, unwrap_or}
 use Rattle.std.specs.Char.{is_ascii_alphabetic}
-use Rattle.std.specs.List.{prefix_len}
-use Rattle.std.specs.Option.{option_or}
+use Rattle.std.specs.List.{prefix_len, list_any, position}
+use Rattle.std.specs.Option.{option_or, option_map}
 use Rattle.gix_date.specs.Answer.{FamilyAnswer, Absolute, OffsetBeyond}
 use Rattle.gix_date.specs.Characters.{is_space, minus, colon}
 use Rattle.gix_date.specs.Civil.{civil_instant}
 use Rattle.gix_date.specs.Fields.{Read, behind, ◌>>=◌}
 use Rattle.gix_date.specs.Numbers.{two_digit_value, read_two_digits, read_field, read_year}
 use Rattle.gix_date.specs.Offsets.{read_sign, offset_fields, offset_of}
-use Rattle.gix_date.specs.RelativeWords.{is_name}
+use Rattle.gix_date.specs.Names.{is_name, day_names, month_names}
 use Rattle.gix_date.specs.declared.parsing.patterns.fields.TheConstants.{MAX_OFFSET_IN_SECONDS}
 use Rattle.gix_date.specs.declared.parsing.civil.ClockFields.{ClockFields}
 use Rattle.gix_date.specs.declared.parsing.civil.DateFields.{DateFields}
@@ -26,26 +26,11 @@ read_name _ = None
 
 -- the month of this name, in any letter case
 unfoldable pub month_of : List ℕ → Option ℕ
-month_of name =
-    if is_name name (codes "jan") then Some 1
-    else if is_name name (codes "feb") then Some 2
-    else if is_name name (codes "mar") then Some 3
-    else if is_name name (codes "apr") then Some 4
-    else if is_name name (codes "may") then Some 5
-    else if is_name name (codes "jun") then Some 6
-    else if is_name name (codes "jul") then Some 7
-    else if is_name name (codes "aug") then Some 8
-    else if is_name name (codes "sep") then Some 9
-    else if is_name name (codes "oct") then Some 10
-    else if is_name name (codes "nov") then Some 11
-    else if is_name name (codes "dec") then Some 12
-    else None
+month_of name = option_map (λ place. place + 1) (position (is_name name) month_names)
 
 -- a day of the week has this name, in any letter case
 unfoldable pub is_weekday : List ℕ → Bool
-is_weekday name =
-    is_name name (codes "mon") || is_name name (codes "tue") || is_name name (codes "wed") || is_name name (codes "thu")
-    || is_name name (codes "fri") || is_name name (codes "sat") || is_name name (codes "sun")
+is_weekday name = list_any (is_name name) day_names
 
 -- a month's name at the front
 unfoldable pub read_month : List ℕ → Read ℕ

@@ -6,7 +6,8 @@ use Rattle.jiff.specs.Words.{zoned_nanos, offset_at, nanos_of_seconds, IsTimesta
 use Rattle.jiff.specs.Types.{TimeZone}
 use Rattle.jiff.specs.declared.zoned.Zoned.{Zoned}
 use Rattle.gix_date.specs.RelativeSteps.{zone_of, Settles, Chain}
-use Rattle.gix_date.specs.RelativeWords.{is_name, relative_words}
+use Rattle.gix_date.specs.RelativeWords.{relative_words}
+use Rattle.gix_date.specs.Names.{is_name}
 use Rattle.gix_date.specs.Roles.{are_pairs, pairs}
 use Rattle.gix_date.specs.Zoned.{whole_seconds}
 use Rattle.gix_date.specs.declared.error.Error.{Error}

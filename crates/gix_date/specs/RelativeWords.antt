@@ -1,9 +1,10 @@
 -- The words of a relative text: what each counts, and which unit it names.
-use Rattle.std.specs.Prelude.{ℕ, ◌-◌, Bool, ◌||◌, not, List, length, take, filter, ℤ, pos, ◌==◌, if◌then◌else◌, Option, Some, None, unwrap_or, slice_index, codes}
+use Rattle.std.specs.Prelude.{ℕ, ◌+◌, ◌-◌, Bool, ◌||◌, not, List, length, take, filter, ℤ, pos, ◌==◌, if◌then◌else◌, Option, Some, None, unwrap_or, slice_index, codes}
+use Rattle.std.specs.Option.{option_map}
 use Rattle.std.specs.Char.{is_ascii_alphanumeric, is_ascii_digit}
-use Rattle.std.specs.List.{slice_split, list_all}
-use Rattle.std.specs.Str.{str_eq_ignore_ascii_case}
+use Rattle.std.specs.List.{slice_split, list_all, position}
 use Rattle.gix_date.specs.Characters.{small_s, letter_s}
+use Rattle.gix_date.specs.Names.{is_name, number_names}
 use Rattle.gix_date.specs.Numbers.{int_value}
 use Rattle.gix_date.specs.SpaceWords.{is_nonempty}
 use Rattle.gix_date.specs.declared.parsing.relative.words.TimeUnit.{TimeUnit}
@@ -17,25 +18,13 @@ is_gap b = not (is_ascii_alphanumeric b)
 unfoldable pub relative_words : List ℕ → List (List ℕ)
 relative_words text = filter is_nonempty (slice_split is_gap text)
 
--- a word is this name, in any letter case
-abbrev pub is_name : List ℕ → List ℕ → Bool
-is_name word name = str_eq_ignore_ascii_case word name
+-- the number from 1 to 10 of this name
+unfoldable pub number_named : List ℕ → Option ℤ
+number_named word = option_map (λ place. pos (place + 1)) (position (is_name word) number_names)
 
--- what `one` to `ten` count, and `last`
+-- what `last` counts, and `one` to `ten`
 unfoldable pub named_count : List ℕ → Option ℤ
-named_count word =
-    if is_name word (codes "one") then Some (pos 1)
-    else if is_name word (codes "two") then Some (pos 2)
-    else if is_name word (codes "three") then Some (pos 3)
-    else if is_name word (codes "four") then Some (pos 4)
-    else if is_name word (codes "five") then Some (pos 5)
-    else if is_name word (codes "six") then Some (pos 6)
-    else if is_name word (codes "seven") then Some (pos 7)
-    else if is_name word (codes "eight") then Some (pos 8)
-    else if is_name word (codes "nine") then Some (pos 9)
-    else if is_name word (codes "ten") then Some (pos 10)
-    else if is_name word (codes "last") then Some (pos 1)
-    else None
+named_count word = if is_name word (codes "last") then Some (pos 1) else number_named word
 
 -- what a count word counts: digits alone their number, where an i64 holds it
 unfoldable pub count_of : List ℕ → Option ℤ

@@ -17,6 +17,13 @@ use crate::time::{OffsetInSeconds, Time};
 /// The farthest offset of a formatted date: 23:59 either way.
 const MAX_OFFSET_IN_SECONDS: u32 = (23 * 60 + 59) * 60;
 
+/// The names of months and of days of the week.
+const MONTHS: [&str; 12] = [
+    "Jan", "Feb", "Mar", "Apr", "May", "Jun", "Jul", "Aug", "Sep", "Oct", "Nov", "Dec",
+];
+
+const WEEKDAYS: [&str; 7] = ["Mon", "Tue", "Wed", "Thu", "Fri", "Sat", "Sun"];
+
 /// What stands behind one space or more.
 #[tactic(auto, unfolding(crate::specs::PatternFields::behind_spaces))]
 pub(crate) fn behind_spaces(text: &str) -> Option<&str>
@@ -55,33 +62,10 @@ fn month_of(name: &str) -> Option<u8>
     ensures value { result ≡ month_of name.now }
     ensures small { IfSome result (λ month. month < 100) }
 {
-    if name.eq_ignore_ascii_case("jan") {
-        Some(1)
-    } else if name.eq_ignore_ascii_case("feb") {
-        Some(2)
-    } else if name.eq_ignore_ascii_case("mar") {
-        Some(3)
-    } else if name.eq_ignore_ascii_case("apr") {
-        Some(4)
-    } else if name.eq_ignore_ascii_case("may") {
-        Some(5)
-    } else if name.eq_ignore_ascii_case("jun") {
-        Some(6)
-    } else if name.eq_ignore_ascii_case("jul") {
-        Some(7)
-    } else if name.eq_ignore_ascii_case("aug") {
-        Some(8)
-    } else if name.eq_ignore_ascii_case("sep") {
-        Some(9)
-    } else if name.eq_ignore_ascii_case("oct") {
-        Some(10)
-    } else if name.eq_ignore_ascii_case("nov") {
-        Some(11)
-    } else if name.eq_ignore_ascii_case("dec") {
-        Some(12)
-    } else {
-        None
-    }
+    let place = MONTHS
+        .iter()
+        .position(|month| name.eq_ignore_ascii_case(month))?;
+    Some(place as u8 + 1)
 }
 
 /// Whether a day of the week has this name, in any letter case.
@@ -89,13 +73,7 @@ fn month_of(name: &str) -> Option<u8>
 fn is_weekday(name: &str) -> bool
     ensures { result ≡ is_weekday name.now }
 {
-    name.eq_ignore_ascii_case("mon")
-        || name.eq_ignore_ascii_case("tue")
-        || name.eq_ignore_ascii_case("wed")
-        || name.eq_ignore_ascii_case("thu")
-        || name.eq_ignore_ascii_case("fri")
-        || name.eq_ignore_ascii_case("sat")
-        || name.eq_ignore_ascii_case("sun")
+    WEEKDAYS.iter().any(|day| name.eq_ignore_ascii_case(day))
 }
 
 /// A month's name at the front.

@@ -2,7 +2,7 @@
 ghost use Rattle.std.specs.Prelude.{◌≡◌, ◌∷◌, [], ◌<◌, length, IfSome, MatchOption, drop};
 ghost use Rattle.std.specs.List.{prefix_len, list_all};
 ghost use Rattle.std.specs.Char.{is_ascii_alphanumeric, is_ascii_digit};
-ghost use Rattle.gix_date.specs.RelativeWords.{relative_words, is_gap, count_of, named_count, singular, named_unit, unit_of, is_ago};
+ghost use Rattle.gix_date.specs.RelativeWords.{relative_words, is_gap, count_of, named_count, number_named, singular, named_unit, unit_of, is_ago};
 ghost use Rattle.gix_date.specs.Roles.{is_count_word, has_unit};
 
 use crate::parsing::numbers::parse_int;
@@ -11,6 +11,11 @@ use crate::parsing::numbers::parse_int;
 pub(crate) const SECONDS_PER_DAY: i64 = 24 * 60 * 60;
 
 pub(crate) const MONTHS_PER_YEAR: i64 = 12;
+
+/// The names of numbers that count.
+const NUMBERS: [&str; 10] = [
+    "one", "two", "three", "four", "five", "six", "seven", "eight", "nine", "ten",
+];
 
 /// A unit, and how one of it is taken off an instant.
 #[derive(Debug, Clone, Copy)]
@@ -84,31 +89,21 @@ fn is_number(word: &str) -> bool
 fn named_count(word: &str) -> Option<i64>
     ensures { result ≡ named_count word.now }
 {
-    if word.eq_ignore_ascii_case("one") {
-        Some(1)
-    } else if word.eq_ignore_ascii_case("two") {
-        Some(2)
-    } else if word.eq_ignore_ascii_case("three") {
-        Some(3)
-    } else if word.eq_ignore_ascii_case("four") {
-        Some(4)
-    } else if word.eq_ignore_ascii_case("five") {
-        Some(5)
-    } else if word.eq_ignore_ascii_case("six") {
-        Some(6)
-    } else if word.eq_ignore_ascii_case("seven") {
-        Some(7)
-    } else if word.eq_ignore_ascii_case("eight") {
-        Some(8)
-    } else if word.eq_ignore_ascii_case("nine") {
-        Some(9)
-    } else if word.eq_ignore_ascii_case("ten") {
-        Some(10)
-    } else if word.eq_ignore_ascii_case("last") {
-        Some(1)
-    } else {
-        None
+    if word.eq_ignore_ascii_case("last") {
+        return Some(1);
     }
+    number_named(word)
+}
+
+/// The number from 1 to 10 of this name, in any letter case.
+#[tactic(auto, unfolding(crate::specs::RelativeWords::number_named))]
+fn number_named(word: &str) -> Option<i64>
+    ensures { result ≡ number_named word.now }
+{
+    let place = NUMBERS
+        .iter()
+        .position(|number| word.eq_ignore_ascii_case(number))?;
+    Some(place as i64 + 1)
 }
 
 /// Whether a word counts.

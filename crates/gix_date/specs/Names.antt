@@ -1,0 +1,16 @@
+-- Names, and those of days, months and numbers.
+use Rattle.std.specs.Prelude.{ℕ, Bool, List, [], ◌∷◌, codes}
+use Rattle.std.specs.Str.{str_eq_ignore_ascii_case}
+
+-- a word is this name, in any letter case
+abbrev pub is_name : List ℕ → List ℕ → Bool
+is_name word name = str_eq_ignore_ascii_case word name
+
+abbrev pub day_names : List (List ℕ)
+day_names = codes "Mon" ∷ codes "Tue" ∷ codes "Wed" ∷ codes "Thu" ∷ codes "Fri" ∷ codes "Sat" ∷ codes "Sun" ∷ []
+
+abbrev pub month_names : List (List ℕ)
+month_names = codes "Jan" ∷ codes "Feb" ∷ codes "Mar" ∷ codes "Apr" ∷ codes "May" ∷ codes "Jun" ∷ codes "Jul" ∷ codes "Aug" ∷ codes "Sep" ∷ codes "Oct" ∷ codes "Nov" ∷ codes "Dec" ∷ []
+
+abbrev pub number_names : List (List ℕ)
+number_names = codes "one" ∷ codes "two" ∷ codes "three" ∷ codes "four" ∷ codes "five" ∷ codes "six" ∷ codes "seven" ∷ codes "eight" ∷ codes "nine" ∷ codes "ten" ∷ []
