@@ -272,6 +272,67 @@ fn printed_dates_are_parsed_back(rt: HostRuntime) -> Result<(), Fail> {
     Ok(())
 }
 
+/// A time and a format, what is printed, and the time that this is read as, where it is read.
+const OTHERWISE: [(i64, i32, Format, &str, Option<(i64, i32)>); 8] = [
+    (
+        1_660_874_655,
+        28_800,
+        Format::Custom(SHORT),
+        "2022-08-19",
+        Some((1_660_867_200, 0)),
+    ),
+    (5, 0, UNIX, "5", None),
+    (5, 3660, RAW, "5 +0101", None),
+    (
+        0,
+        -30,
+        Format::Custom(ISO8601),
+        "1969-12-31 23:59:30 -000030",
+        Some((0, -30)),
+    ),
+    (
+        0,
+        -30,
+        Format::Custom(RFC2822),
+        "Wed, 31 Dec 1969 23:59:30 -000030",
+        None,
+    ),
+    (
+        0,
+        90_000,
+        Format::Custom(ISO8601),
+        "1970-01-02 01:00:00 +2500",
+        None,
+    ),
+    (
+        -62_198_755_200,
+        0,
+        Format::Custom(ISO8601),
+        "-001-01-01 00:00:00 +0000",
+        None,
+    ),
+    (
+        i64::MAX,
+        0,
+        UNIX,
+        "9223372036854775807",
+        Some((i64::MAX, 0)),
+    ),
+];
+
+#[test]
+fn what_is_printed_may_be_read_otherwise(rt: HostRuntime) -> Result<(), Fail> {
+    for (seconds, offset, format, due, read) in OTHERWISE {
+        let text = Time::new(seconds, offset).format(rt.alloc(), format)?;
+        assert_eq!(rt; text.as_str(), due);
+        match parse(rt.alloc(), text.as_str(), None) {
+            Ok(time) => assert_eq!(rt; Some((time.seconds, time.offset)), read, "{text}"),
+            Err(_refused) => assert!(rt; read.is_none(), "{text}"),
+        }
+    }
+    Ok(())
+}
+
 #[test]
 fn a_time_without_a_text_has_its_seconds(rt: HostRuntime) -> Result<(), Fail> {
     let rows = [
