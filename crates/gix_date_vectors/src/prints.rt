@@ -133,7 +133,7 @@ const BY_GIT: [(i64, i32, [&str; 7]); 9] = [
     ),
 ];
 
-/// A time and a format, and what is printed: by scope's rows, the rules of the calendar and `jiff`'s documentation.
+/// A time and a format, and what is printed: by the rules of the calendar, plain arithmetic and `jiff`'s documentation.
 const ROWS: [(i64, i32, Format, &str); 16] = [
     (0, 0, UNIX, "0"),
     (-1, 0, UNIX, "-1"),

@@ -100,7 +100,8 @@ pub const DEFAULT: CustomFormat = CustomFormat {
 
 /// The fault that one of `jiff`'s printer is.
 fn printing_fault(error: jiff::Error) -> Error
-    ensures { ((error ≡ jiff_errors.OutOfMemory) × (result ≡ errors.Memory)) ⊎ ((error ≡ jiff_errors.OutOfMemory → ⊥) × (result ≡ errors.Pattern)) }
+    ensures { ((error ≡ jiff_errors.OutOfMemory) × (result ≡ errors.Memory))
+        ⊎ ((error ≡ jiff_errors.OutOfMemory → ⊥) × (result ≡ errors.Pattern)) }
 {
     match error {
         jiff::Error::OutOfMemory => Error::Memory,
@@ -114,7 +115,9 @@ fn parts_of<'t>(
     abbreviation: &'t str,
     name: Option<&'t str>,
 ) -> BrokenDownTime<'t>
-    ensures { parts_of result ≡ record (zoned_parts (plain_zoned moment.now).datetime (plain_zoned moment.now).offset (plain_zoned moment.now).timestamp abbreviation.now (option_map (λ s. s.now) name.entry)) { weekday = Some (weekday_of (plain_zoned moment.now).datetime.date) } }
+    ensures { parts_of result
+        ≡ record (zoned_parts (plain_zoned moment.now).datetime (plain_zoned moment.now).offset (plain_zoned moment.now).timestamp
+        abbreviation.now (option_map (λ s. s.now) name.entry)) { weekday = Some (weekday_of (plain_zoned moment.now).datetime.date) } }
 {
     let plain = moment.to_plain();
     BrokenDownTime {
