@@ -341,9 +341,9 @@ fn a_time_without_a_text_has_its_seconds(rt: HostRuntime) -> Result<(), Fail> {
         (Time::new(0, 359_940), "0"),
     ];
     for (time, seconds) in rows {
-        let refused = time.format(rt.alloc(), DEFAULT.into());
+        let refused = time.format(rt.alloc(), ISO8601.into());
         assert!(rt; matches!(refused, Err(Error::Conversion)));
-        let text = time.format_or_unix(rt.alloc(), DEFAULT.into())?;
+        let text = time.format_or_unix(rt.alloc(), ISO8601.into())?;
         assert_eq!(rt; text.as_str(), seconds);
     }
     let wide = Time::new(0, 362_340);
