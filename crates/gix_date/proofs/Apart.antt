@@ -1,5 +1,5 @@
 -- No text is of two of the families before Git's own forms.
-use Rattle.std.proofs.Common.{◌≡◌, ◌∙◌, ◌≤◌, ◌+◌, ◌-◌, ◌*◌, ℕ, le_refl, ℤ, Bool, true, false, cond, List, [], ◌∷◌, ◌++◌, length, refl, ap, sym, subst, Option, Some, None, is_some, filter, inl, inr, ◌⊎◌, append_assoc, append-nil, option_map, arith}
+use Rattle.std.proofs.Common.{◌≡◌, ◌∙◌, ◌≤◌, ◌+◌, ◌-◌, ◌*◌, ℕ, le_refl, zero, suc, drop, get_or, ℤ, Bool, true, false, cond, List, [], ◌∷◌, ◌++◌, length, refl, ap, sym, subst, Option, Some, None, is_some, filter, inl, inr, ◌⊎◌, append_assoc, option_map, arith}
 use Rattle.std.proofs.lemmas.Bool.Decides.{nat_tests}
 use Rattle.std.specs.Prelude.{◌==◌, ◌&&◌, nat_lt}
 use Rattle.std.specs.Char.{is_ascii_digit, is_ascii_alphabetic}
@@ -11,62 +11,64 @@ use Rattle.gix_date.specs.Epoch.{at_time, epoch_time}
 use Rattle.gix_date.specs.FieldTexts.{IsField, IsYear, AreSpaces, IsDayName, IsPlainDate, IsDayPrefix}
 use Rattle.gix_date.specs.Fields.{behind}
 use Rattle.gix_date.specs.Numbers.{fits_i64, int_value, read_two_digits, read_digit, read_field, read_year}
-use Rattle.gix_date.specs.PatternFields.{behind_spaces, read_name, behind_weekday, read_plain_date}
-use Rattle.gix_date.specs.Patterns.{behind_day_name, short_answer, rfc2822_answer, iso8601_answer, iso8601_strict_answer, gitoxide_answer, default_answer}
-use Rattle.gix_date.proofs.FieldsRead.{Begins, BeginsNot, Excludes, begins-append, begins_not, digit-no-letter, letter-no-digit, space-no-digit, digit-no-space, field-begins, year-begins, name-begins, weekday-read, month-read, spaces-read, field-read, date-read, digit-front, name-front, gap-front}
+use Rattle.gix_date.specs.PatternFields.{behind_day_name, behind_spaces, read_name, behind_weekday, read_plain_date, read_clock, read_minutes}
+use Rattle.gix_date.specs.Patterns.{time_answer, short_answer, rfc2822_answer, iso8601_answer, iso8601_strict_answer, gitoxide_answer, default_answer}
+use Rattle.gix_date.proofs.FieldsRead.{Begins, BeginsNot, Excludes, begins-append, begins_not, digit-no-letter, letter-no-digit, space-no-digit, digit-no-space, field-begins, year-begins, name-begins, weekday-read, date-read}
 use Rattle.gix_date.proofs.FieldsTaken.{went, behind-taken}
-use Rattle.gix_date.proofs.FamiliesTaken.{short-taken, mail-taken, iso8601-taken, strict-taken, gitoxide-taken, default-taken}
+use Rattle.gix_date.proofs.Layouts.{piece-taken, apart-behind, mail-front, short-spelled, iso8601-spelled, iso8601_strict-spelled, gitoxide-spelled, default-spelled}
 use Rattle.gix_date.specs.Families.{answers_before_git}
-use Rattle.gix_date.specs.Spelled.{IsGitoxideDate}
-use Rattle.gix_date.specs.PatternFields.{read_clock, read_minutes}
-use Rattle.gix_date.specs.declared.parsing.civil.ClockFields.{ClockFields}
+use Rattle.gix_date.specs.Layout.{LocalTime, Piece, DayName, MonthName, Day, Year, PlainDate, Clock, Spaces, LetterT, Offset, ColonOffset, read_pieces, nothing_read, ArePieces}
 use Rattle.gix_date.specs.declared.parsing.civil.DateFields.{DateFields}
 use Rattle.gix_date.specs.declared.time.Time.{Time}
 
 -- families by what a text begins with
-no_pair : (c : ℕ) (t : List ℕ) → is_ascii_digit c ≡ false → read_two_digits (c ∷ t) ≡ None
+pub no_pair : (c : ℕ) (t : List ℕ) → is_ascii_digit c ≡ false → read_two_digits (c ∷ t) ≡ None
 unfolding read_two_digits
 no_pair c [] h = refl
 no_pair c (d ∷ t) h = rw h refl
 
-no-year : (t : List ℕ) → BeginsNot is_ascii_digit t → read_year t ≡ None
+pub one-no-pair : (c : ℕ) → read_two_digits (c ∷ []) ≡ None
+unfolding read_two_digits
+one-no-pair c = refl
+
+pub no-year : (t : List ℕ) → BeginsNot is_ascii_digit t → read_year t ≡ None
 unfolding read_year read_two_digits
 no-year [] h = refl
 no-year (c ∷ t) h = rw (no_pair c t h) refl
 
-no-field : (t : List ℕ) → BeginsNot is_ascii_digit t → read_field t ≡ None
+pub no-field : (t : List ℕ) → BeginsNot is_ascii_digit t → read_field t ≡ None
 unfolding read_field read_two_digits read_digit
 no-field [] h = refl
 no-field (c ∷ t) h = rw (no_pair c t h, h) refl
 
-no-weekday : (t : List ℕ) → BeginsNot is_ascii_alphabetic t → behind_weekday t ≡ None
+pub no-weekday : (t : List ℕ) → BeginsNot is_ascii_alphabetic t → behind_weekday t ≡ None
 unfolding behind_weekday read_name
 no-weekday [] h = refl
 no-weekday (a ∷ []) h = refl
 no-weekday (a ∷ b ∷ []) h = refl
 no-weekday (a ∷ b ∷ c ∷ t) h = rw h refl
 
-no-spaces : (t : List ℕ) → BeginsNot is_space t → behind_spaces t ≡ None
+pub no-spaces : (t : List ℕ) → BeginsNot is_space t → behind_spaces t ≡ None
 unfolding behind_spaces
 no-spaces [] h = refl
 no-spaces (c ∷ t) h = rw h refl
 
 -- without a year at the front
-record NoPlainDate (text : List ℕ) : Type 0 where
+pub record NoPlainDate (text : List ℕ) : Type 0 where
   pub short : short_answer text ≡ None
   pub iso8601 : iso8601_answer text ≡ None
   pub strict : iso8601_strict_answer text ≡ None
 
-no-plain : (text : List ℕ) → read_year text ≡ None → NoPlainDate text
+pub no-plain : (text : List ℕ) → read_year text ≡ None → NoPlainDate text
 unfolding short_answer iso8601_answer iso8601_strict_answer read_plain_date
 no-plain text h = record { short = rw h refl; iso8601 = rw h refl; strict = rw h refl }
 
 -- without the name of a day at the front
-record NoDayFirst (text : List ℕ) : Type 0 where
+pub record NoDayFirst (text : List ℕ) : Type 0 where
   pub gitoxide : gitoxide_answer text ≡ None
   pub by_default : default_answer text ≡ None
 
-no-day : (text : List ℕ) → behind_weekday text ≡ None → NoDayFirst text
+pub no-day : (text : List ℕ) → behind_weekday text ≡ None → NoDayFirst text
 unfolding gitoxide_answer default_answer
 no-day text h = record { gitoxide = rw h refl; by_default = rw h refl }
 
@@ -78,7 +80,7 @@ refused false b v = refl
 no_int_by : (digits : List ℕ) (fits : Bool) (v : ℤ) → all_ascii_digits digits ≡ false → cond (nat_lt 0 (length digits) && all_ascii_digits digits && fits) (Some v) None ≡ None
 no_int_by digits fits v h = rw h (refused (nat_lt 0 (length digits)) fits v)
 
-no-epoch : (c : ℕ) (t : List ℕ) → (c == plus) ≡ false → (c == minus) ≡ false → all_ascii_digits (c ∷ t) ≡ false → epoch_time (c ∷ t) ≡ None
+pub no-epoch : (c : ℕ) (t : List ℕ) → (c == plus) ≡ false → (c == minus) ≡ false → all_ascii_digits (c ∷ t) ≡ false → epoch_time (c ∷ t) ≡ None
 unfolding epoch_time int_value
 no-epoch c t p m h =
     let bare : without_leading_sign (c ∷ t) ≡ c ∷ t = rw (m, p) refl in
@@ -86,7 +88,7 @@ no-epoch c t p m h =
     let none : int_value (c ∷ t) ≡ None = no_int_by (without_leading_sign (c ∷ t)) (fits_i64 (signed_digits_value 10 (c ∷ t))) (signed_digits_value 10 (c ∷ t)) digits in
     rw none refl
 
-mixed : (front : List ℕ) (c : ℕ) (rest : List ℕ) → is_ascii_digit c ≡ false → all_ascii_digits (front ++ (c ∷ rest)) ≡ false
+pub mixed : (front : List ℕ) (c : ℕ) (rest : List ℕ) → is_ascii_digit c ≡ false → all_ascii_digits (front ++ (c ∷ rest)) ≡ false
 mixed [] c rest h = rw h refl
 mixed (d ∷ front) c rest h = both_ways (is_ascii_digit d) (mixed front c rest h)
   where
@@ -100,7 +102,7 @@ digit-no-plus c h = grind (arith, nat_tests, h)
 digit-no-minus : Excludes is_ascii_digit (λ c. c == minus)
 digit-no-minus c h = grind (arith, nat_tests, h)
 
-no-epoch-digits : (front : List ℕ) (c : ℕ) (rest : List ℕ) → Begins is_ascii_digit front → is_ascii_digit c ≡ false → epoch_time (front ++ (c ∷ rest)) ≡ None
+pub no-epoch-digits : (front : List ℕ) (c : ℕ) (rest : List ℕ) → Begins is_ascii_digit front → is_ascii_digit c ≡ false → epoch_time (front ++ (c ∷ rest)) ≡ None
 no-epoch-digits [] c rest b h = absurd b
 no-epoch-digits (d ∷ front) c rest b h = no-epoch d (front ++ (c ∷ rest)) (digit-no-plus d b) (digit-no-minus d b) (mixed (d ∷ front) c rest h)
 
@@ -110,20 +112,20 @@ letter-no-plus c h = grind (arith, nat_tests, h)
 letter-no-minus : Excludes is_ascii_alphabetic (λ c. c == minus)
 letter-no-minus c h = grind (arith, nat_tests, h)
 
-no-epoch-letter : (t : List ℕ) → Begins is_ascii_alphabetic t → epoch_time t ≡ None
+pub no-epoch-letter : (t : List ℕ) → Begins is_ascii_alphabetic t → epoch_time t ≡ None
 no-epoch-letter [] h = absurd h
 no-epoch-letter (c ∷ t) h = no-epoch c t (letter-no-plus c h) (letter-no-minus c h) (mixed [] c t (letter-no-digit c h))
 
 -- no mail date begins with neither a letter nor a digit, nor with a year
-no-mail-first : (t : List ℕ) → BeginsNot is_ascii_alphabetic t → BeginsNot is_ascii_digit t → rfc2822_answer t ≡ None
+pub no-mail-first : (t : List ℕ) → BeginsNot is_ascii_alphabetic t → BeginsNot is_ascii_digit t → rfc2822_answer t ≡ None
 unfolding rfc2822_answer behind_day_name
 no-mail-first t l d = rw (no-weekday t l, no-field t d) refl
 
-pair_first : (a b c : ℕ) (rest : List ℕ) → is_ascii_digit a ≡ true → is_ascii_digit b ≡ true → is_ascii_digit c ≡ true → read_field (a ∷ b ∷ c ∷ rest) ≡ Some (10 * (a - 48) + (b - 48), c ∷ rest)
+pub pair_first : (a b c : ℕ) (rest : List ℕ) → is_ascii_digit a ≡ true → is_ascii_digit b ≡ true → is_ascii_digit c ≡ true → read_field (a ∷ b ∷ c ∷ rest) ≡ Some (10 * (a - 48) + (b - 48), c ∷ rest)
 unfolding read_field read_two_digits
 pair_first a b c rest ha hb hc = rw (ha, hb) refl
 
-no-mail-year : (year rest : List ℕ) (n : ℕ) → IsYear year n → rfc2822_answer (year ++ rest) ≡ None
+pub no-mail-year : (year rest : List ℕ) (n : ℕ) → IsYear year n → rfc2822_answer (year ++ rest) ≡ None
 unfolding rfc2822_answer behind_day_name
 no-mail-year [] rest n h = absurd h
 no-mail-year (a ∷ []) rest n h = absurd h
@@ -157,49 +159,24 @@ after-plain day rest date h =
       epoch = no-epoch-digits h.year minus (h.month ++ (minus ∷ (h.day ++ rest))) (year-begins h.year date.year h.is_year) refl;
     })
 
--- at most one of these answers
-abbrev Apart : List (Option FamilyAnswer) → Type 0
-Apart answers = length (filter is_some answers) ≤ 1
+-- none of the families from this one on answers
+abbrev NoneFrom : ℕ → List ℕ → Type 0
+NoneFrom n text = filter is_some (drop n (answers_before_git text)) ≡ []
 
-first-apart : (first : Option FamilyAnswer) (rest : List (Option FamilyAnswer)) → ((answer : FamilyAnswer) → first ≡ Some answer → filter is_some rest ≡ []) → Apart rest → Apart (first ∷ rest)
-first-apart None rest alone h = h
-first-apart (Some answer) rest alone h = rw (alone answer refl) (le_refl 1)
+-- where each that answers has none behind it, at most one does
+at-most-one : (answers : List (Option FamilyAnswer)) → ((n : ℕ) (answer : FamilyAnswer) → get_or answers n None ≡ Some answer → filter is_some (drop (suc n) answers) ≡ []) → length (filter is_some answers) ≤ 1
+at-most-one [] alone = omega arith
+at-most-one (None ∷ rest) alone = at-most-one rest (λ n. alone (suc n))
+at-most-one (Some answer ∷ rest) alone = rw (alone 0 answer refl) (le_refl 1)
 
-none_lifted : (found : Option Time) → found ≡ None → option_map Absolute found ≡ None
-none_lifted None h = refl
-none_lifted (Some t) h = absurd cc
+-- a text that begins with the name of a day is no bare epoch
+named-no-epoch : (name rest text : List ℕ) → IsDayName name → text ≡ name ++ rest → epoch_time text ≡ None
+named-no-epoch name rest text h split = ap epoch_time split ∙ no-epoch-letter (name ++ rest) (begins-append is_ascii_alphabetic name rest (name-begins name h.0))
 
-abbrev from_epoch : List ℕ → List (Option FamilyAnswer)
-from_epoch text = option_map Absolute (epoch_time text) ∷ []
-
-abbrev from_default : List ℕ → List (Option FamilyAnswer)
-from_default text = default_answer text ∷ from_epoch text
-
-abbrev from_gitoxide : List ℕ → List (Option FamilyAnswer)
-from_gitoxide text = gitoxide_answer text ∷ from_default text
-
-abbrev from_strict : List ℕ → List (Option FamilyAnswer)
-from_strict text = iso8601_strict_answer text ∷ from_gitoxide text
-
-abbrev from_iso8601 : List ℕ → List (Option FamilyAnswer)
-from_iso8601 text = iso8601_answer text ∷ from_strict text
-
-abbrev from_mail : List ℕ → List (Option FamilyAnswer)
-from_mail text = rfc2822_answer text ∷ from_iso8601 text
-
-abbrev from_short : List ℕ → List (Option FamilyAnswer)
-from_short text = short_answer text ∷ from_mail text
-
-abbrev NoneOf : List (Option FamilyAnswer) → Type 0
-NoneOf answers = filter is_some answers ≡ []
-
-default-alone : (text : List ℕ) (answer : FamilyAnswer) → default_answer text ≡ Some answer → NoneOf (from_epoch text)
+default-alone : (text : List ℕ) (answer : FamilyAnswer) → default_answer text ≡ Some answer → NoneFrom 7 text
 default-alone text answer e =
-    let h = (default-taken text answer e).is_form in
-    let more = h.after_name ++ h.month ++ h.after_month ++ h.day ++ h.after_day ++ h.time ++ h.after_time ++ h.year ++ h.after_year ++ h.zone in
-    let split : text ≡ h.name ++ more = h.whole ∙ simp append_assoc in
-    let front : Begins is_ascii_alphabetic text = subst (Begins is_ascii_alphabetic) (sym split) (begins-append is_ascii_alphabetic h.name more (name-begins h.name h.is_name.0)) in
-    rw (no-epoch-letter text front) refl
+    let h = ((default-spelled text answer).0 e).are in
+    rw (named-no-epoch h.front h.rest text h.is h.whole) refl
 
 -- no clock begins with a year
 no-clock-year : (year rest : List ℕ) (n : ℕ) → IsYear year n → read_clock (year ++ rest) ≡ None
@@ -216,42 +193,33 @@ no-clock-year (a ∷ b ∷ c ∷ d ∷ []) rest n h =
     digit-no-colon c h = grind (arith, nat_tests, h)
 no-clock-year (a ∷ b ∷ c ∷ d ∷ e ∷ t) rest n h = absurd h
 
-gitoxide-no-default : (text : List ℕ) (date : DateFields) (clock : ClockFields) (offset : ℤ) → IsGitoxideDate text date clock offset → default_answer text ≡ None
-unfolding default_answer
-gitoxide-no-default text date clock offset h =
-    let behind_year = h.after_year ++ (h.time ++ (h.after_time ++ h.zone)) in
-    let behind_day = h.year ++ behind_year in
-    let behind_month = h.day ++ (h.after_day ++ behind_day) in
-    let behind_name = h.month ++ (h.after_month ++ behind_month) in
-    let split : text ≡ h.name ++ (h.after_name ++ behind_name) = h.whole ∙ simp append_assoc in
-    ap default_answer split ∙ rw (
-      weekday-read h.name (h.after_name ++ behind_name) h.is_name,
-      spaces-read h.after_name behind_name h.spaces_after_name (name-front h.month (h.after_month ++ behind_month) h.is_month.0),
-      month-read h.month (h.after_month ++ behind_month) date.month h.is_month,
-      spaces-read h.after_month behind_month h.spaces_after_month (digit-front h.day (h.after_day ++ behind_day) (field-begins h.day date.day h.is_day)),
-      field-read h.day (h.after_day ++ behind_day) date.day h.is_day (gap-front h.after_day behind_day h.spaces_after_day),
-      spaces-read h.after_day behind_day h.spaces_after_day (digit-front h.year behind_year (year-begins h.year date.year h.is_year)),
-      no-clock-year h.year behind_year date.year h.is_year,
-    ) refl
+year-no-clock : (g : LocalTime) (more other : List Piece) (next : LocalTime → Option FamilyAnswer) (x : List ℕ) (y : FamilyAnswer) → read_pieces (Year ∷ more) g next x ≡ Some y → read_pieces (Clock ∷ other) g next x ≡ None
+year-no-clock g more other next x y e =
+    let first = piece-taken Year g (λ f rest. read_pieces more f next rest) x y e in
+    let none : read_clock x ≡ None = ap read_clock first.whole ∙ no-clock-year first.text first.rest first.found.date.year (first.is first.found first.kept) in
+    rw none refl
 
-gitoxide-alone : (text : List ℕ) (answer : FamilyAnswer) → gitoxide_answer text ≡ Some answer → NoneOf (from_default text)
+gitoxide-alone : (text : List ℕ) (answer : FamilyAnswer) → gitoxide_answer text ≡ Some answer → NoneFrom 6 text
+unfolding gitoxide_answer default_answer
 gitoxide-alone text answer e =
-    let a = gitoxide-taken text answer e in
-    let h = a.is_form in
-    let more = h.after_name ++ h.month ++ h.after_month ++ h.day ++ h.after_day ++ h.year ++ h.after_year ++ h.time ++ h.after_time ++ h.zone in
-    let split : text ≡ h.name ++ more = h.whole ∙ simp append_assoc in
-    let front : Begins is_ascii_alphabetic text = subst (Begins is_ascii_alphabetic) (sym split) (begins-append is_ascii_alphabetic h.name more (name-begins h.name h.is_name.0)) in
-    rw (gitoxide-no-default text a.date a.clock a.offset h, no-epoch-letter text front) refl
+    let h = ((gitoxide-spelled text answer).0 e).are in
+    let begin = DayName ∷ Spaces ∷ MonthName ∷ Spaces ∷ Day ∷ Spaces ∷ [] in
+    let one = Spaces ∷ Clock ∷ Spaces ∷ Offset ∷ [] in
+    let other = Spaces ∷ Year ∷ Spaces ∷ Offset ∷ [] in
+    let none : default_answer text ≡ None = apart-behind begin (Year ∷ one) (Clock ∷ other) nothing_read time_answer text answer (λ g rest. year-no-clock g one other time_answer rest answer) e in
+    rw (none, named-no-epoch h.front h.rest text h.is h.whole) refl
 
-plain-alone : (text : List ℕ) → AfterPlainDate text → NoneOf (from_gitoxide text)
+plain-alone : (text : List ℕ) → AfterPlainDate text → NoneFrom 5 text
 plain-alone text h = rw (h.gitoxide, h.by_default, h.epoch) refl
 
-strict-alone : (text : List ℕ) (answer : FamilyAnswer) → iso8601_strict_answer text ≡ Some answer → NoneOf (from_gitoxide text)
+-- a text that begins with a plain date
+plain-first : (more : List Piece) (time : LocalTime) (text : List ℕ) → ArePieces (PlainDate ∷ more) time text → AfterPlainDate text
+plain-first more time text h = subst AfterPlainDate (sym h.whole) (after-plain h.front h.rest time.date h.is)
+
+strict-alone : (text : List ℕ) (answer : FamilyAnswer) → iso8601_strict_answer text ≡ Some answer → NoneFrom 5 text
 strict-alone text answer e =
-    let a = strict-taken text answer e in
-    let h = a.is_form in
-    let split : text ≡ h.day ++ (letter_t ∷ (h.time ++ h.zone)) = h.whole ∙ simp append_assoc in
-    plain-alone text (subst AfterPlainDate (sym split) (after-plain h.day (letter_t ∷ (h.time ++ h.zone)) a.date h.is_day))
+    let a = (iso8601_strict-spelled text answer).0 e in
+    plain-alone text (plain-first (LetterT ∷ Clock ∷ ColonOffset ∷ []) a.time text a.are)
 
 no-t : (gap rest : List ℕ) → AreSpaces gap → behind letter_t (gap ++ rest) ≡ None
 unfolding behind
@@ -263,29 +231,31 @@ no-t (c ∷ gap) rest h =
     space-no-t : Excludes is_space (λ c. c == letter_t)
     space-no-t c h = grind (arith, nat_tests, h)
 
-spaced-no-strict : (day gap rest : List ℕ) (date : DateFields) → IsPlainDate day date → AreSpaces gap → iso8601_strict_answer (day ++ (gap ++ rest)) ≡ None
-unfolding iso8601_strict_answer
-spaced-no-strict day gap rest date h s = rw (date-read day (gap ++ rest) date h (gap-front gap rest s), no-t gap rest s) refl
+spaces-no-t : (g : LocalTime) (more other : List Piece) (next : LocalTime → Option FamilyAnswer) (x : List ℕ) (y : FamilyAnswer) → read_pieces (Spaces ∷ more) g next x ≡ Some y → read_pieces (LetterT ∷ other) g next x ≡ None
+spaces-no-t g more other next x y e =
+    let first = piece-taken Spaces g (λ f rest. read_pieces more f next rest) x y e in
+    let none : behind letter_t x ≡ None = ap (behind letter_t) first.whole ∙ no-t first.text first.rest (first.is first.found first.kept) in
+    rw none refl
 
-iso8601-alone : (text : List ℕ) (answer : FamilyAnswer) → iso8601_answer text ≡ Some answer → NoneOf (from_strict text)
+iso8601-alone : (text : List ℕ) (answer : FamilyAnswer) → iso8601_answer text ≡ Some answer → NoneFrom 4 text
+unfolding iso8601_answer iso8601_strict_answer
 iso8601-alone text answer e =
-    let a = iso8601-taken text answer e in
-    let h = a.is_form in
-    let more = h.time ++ (h.after_time ++ h.zone) in
-    let split : text ≡ h.day ++ (h.after_day ++ more) = h.whole ∙ simp append_assoc in
-    let plain = subst AfterPlainDate (sym split) (after-plain h.day (h.after_day ++ more) a.date h.is_day) in
-    let strict : iso8601_strict_answer text ≡ None = ap iso8601_strict_answer split ∙ spaced-no-strict h.day h.after_day more a.date h.is_day h.spaces_after_day in
+    let a = (iso8601-spelled text answer).0 e in
+    let one = Clock ∷ Spaces ∷ Offset ∷ [] in
+    let other = Clock ∷ ColonOffset ∷ [] in
+    let plain = plain-first (Spaces ∷ one) a.time text a.are in
+    let strict : iso8601_strict_answer text ≡ None = apart-behind (PlainDate ∷ []) (Spaces ∷ one) (LetterT ∷ other) nothing_read time_answer text answer (λ g rest. spaces-no-t g one other time_answer rest answer) e in
     rw (strict, plain.gitoxide, plain.by_default, plain.epoch) refl
 
 not_both : (b : Bool) (v : ℕ) (rest : List ℕ) → option_map {U = ℕ × List ℕ} (λ n. (n, rest)) (cond (b && false) (Some v) None) ≡ None
 not_both true v rest = refl
 not_both false v rest = refl
 
-no_pair_of : (a c : ℕ) (rest : List ℕ) → is_ascii_digit c ≡ false → read_two_digits (a ∷ c ∷ rest) ≡ None
+pub no_pair_of : (a c : ℕ) (rest : List ℕ) → is_ascii_digit c ≡ false → read_two_digits (a ∷ c ∷ rest) ≡ None
 unfolding read_two_digits
 no_pair_of a c rest h = rw h (not_both (is_ascii_digit a) (10 * (a - 48) + (c - 48)) rest)
 
-pair_read : (a b : ℕ) (rest : List ℕ) → is_ascii_digit a ≡ true → is_ascii_digit b ≡ true → read_two_digits (a ∷ b ∷ rest) ≡ Some (10 * (a - 48) + (b - 48), rest)
+pub pair_read : (a b : ℕ) (rest : List ℕ) → is_ascii_digit a ≡ true → is_ascii_digit b ≡ true → read_two_digits (a ∷ b ∷ rest) ≡ Some (10 * (a - 48) + (b - 48), rest)
 unfolding read_two_digits
 pair_read a b rest ha hb = rw (ha, hb) refl
 
@@ -334,60 +304,52 @@ mail-no-other prefix day (c ∷ gap) rest n (inr named) h s =
       epoch = no-epoch-letter whole front;
     })
 
-mail-alone : (text : List ℕ) (answer : FamilyAnswer) → rfc2822_answer text ≡ Some answer → NoneOf (from_iso8601 text)
+mail-alone : (text : List ℕ) (answer : FamilyAnswer) → rfc2822_answer text ≡ Some answer → NoneFrom 3 text
 mail-alone text answer e =
-    let a = mail-taken text answer e in
-    let h = a.is_form in
-    let more = h.month ++ (h.after_month ++ (h.year ++ (h.after_year ++ (h.time ++ (h.after_time ++ h.zone))))) in
-    let split : text ≡ h.prefix ++ (h.day ++ (h.after_day ++ more)) = h.whole ∙ simp append_assoc in
-    let none = subst NoOther (sym split) (mail-no-other h.prefix h.day h.after_day more a.date.day h.is_prefix h.is_day h.spaces_after_day) in
+    let h = mail-front text answer e in
+    let none = subst NoOther (sym h.whole) (mail-no-other h.prefix h.day h.gap (h.month ++ h.rest) h.number h.is_prefix h.is_day h.is_gap) in
     let plain = no-plain text none.year in
     rw (plain.iso8601, plain.strict, none.day.gitoxide, none.day.by_default, none.epoch) refl
 
-alone-no-iso8601 : (text : List ℕ) (date : DateFields) → IsPlainDate text date → iso8601_answer text ≡ None
-unfolding iso8601_answer behind_spaces
-alone-no-iso8601 text date h =
-    let read : read_plain_date text ≡ Some (date, []) = ap read_plain_date (sym (append-nil text)) ∙ date-read text [] date h tt in
-    rw read refl
-
-alone-no-strict : (text : List ℕ) (date : DateFields) → IsPlainDate text date → iso8601_strict_answer text ≡ None
-unfolding iso8601_strict_answer behind
-alone-no-strict text date h =
-    let read : read_plain_date text ≡ Some (date, []) = ap read_plain_date (sym (append-nil text)) ∙ date-read text [] date h tt in
-    rw read refl
-
-short-alone : (text : List ℕ) (answer : FamilyAnswer) → short_answer text ≡ Some answer → NoneOf (from_mail text)
+short-alone : (text : List ℕ) (answer : FamilyAnswer) → short_answer text ≡ Some answer → NoneFrom 2 text
+unfolding iso8601_answer iso8601_strict_answer behind_spaces behind
 short-alone text answer e =
-    let h = short-taken text answer e in
-    let plain = subst AfterPlainDate (append-nil text) (after-plain text [] h.date h.is_form) in
-    rw (plain.mail, alone-no-iso8601 text h.date h.is_form, alone-no-strict text h.date h.is_form, plain.gitoxide, plain.by_default, plain.epoch) refl
+    let a = (short-spelled text answer).0 e in
+    let plain = plain-first [] a.time text a.are in
+    let read : read_plain_date text ≡ Some (a.time.date, []) = ap read_plain_date (a.are.whole ∙ ap (λ (t : List ℕ). a.are.front ++ t) a.are.more) ∙ date-read a.are.front [] a.time.date a.are.is tt in
+    let iso8601 : iso8601_answer text ≡ None = rw read refl in
+    let strict : iso8601_strict_answer text ≡ None = rw read refl in
+    rw (plain.mail, iso8601, strict, plain.gitoxide, plain.by_default, plain.epoch) refl
 
-at-first : (text : List ℕ) (time : Time) → at_time text ≡ Some time → (rest : List ℕ) × (text ≡ at_sign ∷ rest)
+pub at-first : (text : List ℕ) (time : Time) → at_time text ≡ Some time → (rest : List ℕ) × (text ≡ at_sign ∷ rest)
 unfolding at_time
 at-first text time e =
     let mark = went (behind at_sign text) _ time e in
     (mark.0, behind-taken at_sign text mark.0 mark.1)
 
-at-none : (rest : List ℕ) → NoneOf (from_short (at_sign ∷ rest))
+at-none : (rest : List ℕ) → NoneFrom 1 (at_sign ∷ rest)
 at-none rest =
     let text = at_sign ∷ rest in
     let plain = no-plain text (no-year text refl) in
     let day = no-day text (no-weekday text refl) in
     rw (plain.short, no-mail-first text refl refl, plain.iso8601, plain.strict, day.gitoxide, day.by_default, no-epoch at_sign rest refl refl (mixed [] at_sign rest refl)) refl
 
-at-alone : (text : List ℕ) (answer : FamilyAnswer) (found : Option Time) → at_time text ≡ found → option_map Absolute found ≡ Some answer → NoneOf (from_short text)
+at-alone : (text : List ℕ) (answer : FamilyAnswer) (found : Option Time) → at_time text ≡ found → option_map Absolute found ≡ Some answer → NoneFrom 1 text
 at-alone text answer None h e = absurd cc
 at-alone text answer (Some time) h e =
     let first = at-first text time h in
-    subst (λ t. NoneOf (from_short t)) (sym first.1) (at-none first.0)
+    subst (λ t. NoneFrom 1 t) (sym first.1) (at-none first.0)
 
 pub before-git-apart : (text : List ℕ) → length (filter is_some (answers_before_git text)) ≤ 1
-before-git-apart text =
-    first-apart (option_map Absolute (at_time text)) (from_short text) (λ answer. at-alone text answer (at_time text) refl)
-    (first-apart (short_answer text) (from_mail text) (short-alone text)
-    (first-apart (rfc2822_answer text) (from_iso8601 text) (mail-alone text)
-    (first-apart (iso8601_answer text) (from_strict text) (iso8601-alone text)
-    (first-apart (iso8601_strict_answer text) (from_gitoxide text) (strict-alone text)
-    (first-apart (gitoxide_answer text) (from_default text) (gitoxide-alone text)
-    (first-apart (default_answer text) (from_epoch text) (default-alone text)
-    (first-apart (option_map Absolute (epoch_time text)) [] (λ answer e. refl) (omega arith))))))))
+before-git-apart text = at-most-one (answers_before_git text) alone
+  where
+    alone : (n : ℕ) (answer : FamilyAnswer) → get_or (answers_before_git text) n None ≡ Some answer → NoneFrom (suc n) text
+    alone zero answer e = at-alone text answer (at_time text) refl e
+    alone (suc zero) answer e = short-alone text answer e
+    alone (suc (suc zero)) answer e = mail-alone text answer e
+    alone (suc (suc (suc zero))) answer e = iso8601-alone text answer e
+    alone (suc (suc (suc (suc zero)))) answer e = strict-alone text answer e
+    alone (suc (suc (suc (suc (suc zero))))) answer e = gitoxide-alone text answer e
+    alone (suc (suc (suc (suc (suc (suc zero)))))) answer e = default-alone text answer e
+    alone (suc (suc (suc (suc (suc (suc (suc zero))))))) answer e = refl
+    alone (suc (suc (suc (suc (suc (suc (suc (suc n)))))))) answer e = absurd cc

@@ -60,7 +60,7 @@ reaches-once (Less pairs) tz i a b h g =
     chain-once tz pairs g.0 a b (subst (λ (k : ℤ). Chain tz pairs k a) (settles-once tz i h.0 g.0 h.1 g.1) h.2) g.2
 
 -- two times with the same numbers are one
-same-time : (a b : Time) → a.seconds ≡ b.seconds → a.offset ≡ b.offset → a ≡ b
+pub same-time : (a b : Time) → a.seconds ≡ b.seconds → a.offset ≡ b.offset → a ≡ b
 same-time a b s o = λ i. record { seconds = s i; offset = o i }
 
 -- a relative date names one time at most

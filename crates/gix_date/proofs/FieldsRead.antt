@@ -9,8 +9,8 @@ use Rattle.gix_date.specs.FieldTexts.{IsField, IsYear, AreSpaces, AreThreeLetter
 use Rattle.gix_date.specs.Fields.{behind}
 use Rattle.gix_date.specs.Numbers.{read_two_digits, read_digit, read_field, read_year}
 use Rattle.gix_date.specs.Offsets.{offset_fields, read_sign}
-use Rattle.gix_date.specs.PatternFields.{behind_spaces, read_name, read_month, behind_weekday, read_plain_date, read_minutes, read_second, read_clock, read_mail_clock, compact_zone, strict_zone, mail_zone, mail_offset, named_zone}
-use Rattle.gix_date.specs.Patterns.{behind_day_name}
+use Rattle.gix_date.specs.PatternFields.{behind_day_name, behind_spaces, read_name, read_month, behind_weekday, read_plain_date, read_minutes, read_second, read_clock, read_mail_clock}
+use Rattle.gix_date.specs.PatternZones.{compact_zone, strict_zone, mail_zone, mail_offset, named_zone}
 use Rattle.gix_date.proofs.Instants.{both}
 use Rattle.gix_date.specs.declared.parsing.civil.ClockFields.{ClockFields}
 use Rattle.gix_date.specs.declared.parsing.civil.DateFields.{DateFields}

@@ -10,8 +10,7 @@ use Rattle.gix_date.specs.Characters.{minus, comma, colon, is_space}
 use Rattle.gix_date.specs.FieldTexts.{IsDigit, IsField, IsYear, AreSpaces, AreThreeLetters, IsDayName, IsMonthName, IsPlainDate, AreMinutes, IsClock, IsMailClock, IsDayPrefix}
 use Rattle.gix_date.specs.Fields.{Read, behind, ◌>>=◌}
 use Rattle.gix_date.specs.Numbers.{read_two_digits, read_digit, read_field, read_year}
-use Rattle.gix_date.specs.PatternFields.{behind_spaces, read_name, read_month, month_of, is_weekday, behind_weekday, read_plain_date, read_minutes, read_second, read_clock, read_mail_clock, leapless}
-use Rattle.gix_date.specs.Patterns.{behind_day_name}
+use Rattle.gix_date.specs.PatternFields.{behind_day_name, behind_spaces, read_name, read_month, month_of, is_weekday, behind_weekday, read_plain_date, read_minutes, read_second, read_clock, read_mail_clock, leapless}
 use Rattle.gix_date.proofs.Instants.{both}
 use Rattle.gix_date.specs.declared.parsing.civil.ClockFields.{ClockFields}
 use Rattle.gix_date.specs.declared.parsing.civil.DateFields.{DateFields}
@@ -27,11 +26,15 @@ pub guard : {A : Type 0} (b : Bool) (x y : A) → cond b (Some x) None ≡ Some 
 guard true x y e = (refl, cc)
 guard false x y e = absurd cc
 
--- a text at the front that was read with this value, and the rest
-pub record Took {A : Type 0} (IsText : List ℕ → A → Type 0) (x : List ℕ) (value : A) (rest : List ℕ) : Type 0 where
+-- a text at the front that is so, and the rest
+pub record TookFront (Is : List ℕ → Type 0) (x rest : List ℕ) : Type 0 where
   pub text : List ℕ
-  pub is : IsText text value
+  pub is : Is text
   pub whole : x ≡ text ++ rest
+
+-- a text at the front that was read with this value, and the rest
+abbrev pub Took : {A : Type 0} → (List ℕ → A → Type 0) → List ℕ → A → List ℕ → Type 0
+Took IsText x value rest = TookFront (λ text. IsText text value) x rest
 
 pub behind-taken : (b : ℕ) (x rest : List ℕ) → behind b x ≡ Some rest → x ≡ b ∷ rest
 unfolding behind
@@ -66,7 +69,7 @@ field-taken [] n rest e = absurd cc
 field-taken (a ∷ []) n rest e = one_digit a n [] rest e
 field-taken (a ∷ b ∷ t) n rest e = two_or_one a b n t rest (is_ascii_digit a) (is_ascii_digit b) refl refl e
 
-record TookTwo (x : List ℕ) (n : ℕ) (rest : List ℕ) : Type 0 where
+pub record TookTwo (x : List ℕ) (n : ℕ) (rest : List ℕ) : Type 0 where
   pub tens : ℕ
   pub ones : ℕ
   pub is_tens : IsDigit tens
@@ -81,7 +84,7 @@ two a b n t rest true h e =
     let found = same (at_front (10 * (a - 48) + (b - 48)) t) (n, rest) e in
     record { tens = a; ones = b; is_tens = digits.0; is_ones = digits.1; value = sym (ap (λ (p : ℕ × List ℕ). p.0) found); whole = ap (λ (p : ℕ × List ℕ). a ∷ b ∷ p.1) found }
 
-two-taken : (x : List ℕ) (n : ℕ) (rest : List ℕ) → read_two_digits x ≡ Some (n, rest) → TookTwo x n rest
+pub two-taken : (x : List ℕ) (n : ℕ) (rest : List ℕ) → read_two_digits x ≡ Some (n, rest) → TookTwo x n rest
 unfolding read_two_digits
 two-taken [] n rest e = absurd cc
 two-taken (a ∷ []) n rest e = absurd cc
@@ -113,19 +116,14 @@ are_spaces x (c ∷ gap) e h =
     let all : list_all is_space (c ∷ gap) ≡ true = ap (list_all is_space) e ∙ spaces_front x in
     both (is_space c) (list_all is_space gap) all
 
-pub record TookSpaces (x rest : List ℕ) : Type 0 where
-  pub gap : List ℕ
-  pub are : AreSpaces gap
-  pub whole : x ≡ gap ++ rest
-
-pub spaces-taken : (x rest : List ℕ) → behind_spaces x ≡ Some rest → TookSpaces x rest
+pub spaces-taken : (x rest : List ℕ) → behind_spaces x ≡ Some rest → TookFront AreSpaces x rest
 unfolding behind_spaces
 spaces-taken x rest e =
     let g = guard (nat_lt 0 (prefix_len is_space x)) (drop (prefix_len is_space x) x) rest e in
     let long : 0 < prefix_len is_space x = grind (arith, nat_tests, g.0) in
     record {
-      gap = take (prefix_len is_space x) x;
-      are = are_spaces x (take (prefix_len is_space x) x) refl long;
+      text = take (prefix_len is_space x) x;
+      is = are_spaces x (take (prefix_len is_space x) x) refl long;
       whole = sym (take-append-drop (prefix_len is_space x) x) ∙ ap (λ t. take (prefix_len is_space x) x ++ t) g.1;
     }
 
@@ -160,25 +158,19 @@ weekday-taken x rest e =
     let front = name-taken x name.0.0 name.0.1 name.1 in
     record { name = name.0.0; is_name = (front.0, g.0); whole = front.1 ∙ ap (λ (t : List ℕ). name.0.0 ++ t) g.1 }
 
--- the name of a day, a comma and spaces at the front, and the rest
-pub record TookPrefix (x rest : List ℕ) : Type 0 where
-  pub text : List ℕ
-  pub is : IsDayPrefix text
-  pub whole : x ≡ text ++ rest
-
-pub prefix-taken : (x rest : List ℕ) → behind_day_name x ≡ Some rest → TookPrefix x rest
+pub prefix-taken : (x rest : List ℕ) → behind_day_name x ≡ Some rest → TookFront IsDayPrefix x rest
 unfolding behind_day_name
 prefix-taken x rest e =
     let name = went (behind_weekday x) (λ r. behind comma r >>= λ s. behind_spaces s) rest e in
     let mark = went (behind comma name.0) (λ s. behind_spaces s) rest name.2 in
     let day = weekday-taken x name.0 name.1 in
     let gap = spaces-taken mark.0 rest mark.2 in
-    let behind_name : name.0 ≡ comma ∷ (gap.gap ++ rest) = behind-taken comma name.0 mark.0 mark.1 ∙ ap (λ (t : List ℕ). comma ∷ t) gap.whole in
-    let split : x ≡ day.name ++ (comma ∷ (gap.gap ++ rest)) = day.whole ∙ ap (λ (t : List ℕ). day.name ++ t) behind_name in
+    let behind_name : name.0 ≡ comma ∷ (gap.text ++ rest) = behind-taken comma name.0 mark.0 mark.1 ∙ ap (λ (t : List ℕ). comma ∷ t) gap.whole in
+    let split : x ≡ day.name ++ (comma ∷ (gap.text ++ rest)) = day.whole ∙ ap (λ (t : List ℕ). day.name ++ t) behind_name in
     record {
-      text = day.name ++ (comma ∷ gap.gap);
-      is = record { name = day.name; gap = gap.gap; whole = refl; is_name = day.is_name; are_spaces = gap.are };
-      whole = split ∙ sym (append_assoc day.name (comma ∷ gap.gap) rest);
+      text = day.name ++ (comma ∷ gap.text);
+      is = record { name = day.name; gap = gap.text; whole = refl; is_name = day.is_name; are_spaces = gap.is };
+      whole = split ∙ sym (append_assoc day.name (comma ∷ gap.text) rest);
     }
 
 abbrev date_at : ℕ → ℕ → ℕ → List ℕ → DateFields × List ℕ

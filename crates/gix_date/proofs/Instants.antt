@@ -59,7 +59,7 @@ date_holds d y h =
     let e : d.day ≤ days_in_month (pos d.year) d.month = n_test _ _ last.1 in
     ((omega (arith, signed_arith), omega (arith, signed_arith)), (omega (arith, signed_arith), omega (arith, signed_arith)), (omega (arith, signed_arith), omega (arith, signed_arith)))
 
-date_from : (d : DateFields) → IsDate (pos d.year) (pos d.month) (pos d.day) → is_date d ≡ true
+pub date_from : (d : DateFields) → IsDate (pos d.year) (pos d.month) (pos d.day) → is_date d ≡ true
 date_from d h =
     let a : 1 ≤ d.month = omega (arith, signed_arith) in
     let b : d.month ≤ 12 = omega (arith, signed_arith) in
@@ -80,17 +80,17 @@ clock_holds c h =
       (omega (arith, signed_arith), omega (arith, signed_arith)),
     )
 
-clock_from : (c : ClockFields) → IsTime (pos c.hour) (pos c.minute) (pos c.second) (pos 0) → is_clock c ≡ true
+pub clock_from : (c : ClockFields) → IsTime (pos c.hour) (pos c.minute) (pos c.second) (pos 0) → is_clock c ≡ true
 clock_from c h =
     let a : c.hour ≤ 23 = omega (arith, signed_arith) in
     let b : c.minute ≤ 59 = omega (arith, signed_arith) in
     let e : c.second ≤ 59 = omega (arith, signed_arith) in
     join _ _ (join _ _ (n_holds _ _ a) (n_holds _ _ b)) (n_holds _ _ e)
 
-instant_holds : (s : ℤ) → is_instant s ≡ true → IsInstantSeconds s
+pub instant_holds : (s : ℤ) → is_instant s ≡ true → IsInstantSeconds s
 instant_holds s h = let p = both (le_z first_second s) (le_z s last_second) h in (z_test _ _ p.0, z_test _ _ p.1)
 
-instant_from : (s : ℤ) → IsInstantSeconds s → is_instant s ≡ true
+pub instant_from : (s : ℤ) → IsInstantSeconds s → is_instant s ≡ true
 instant_from s h = join _ _ (z_holds _ _ h.0) (z_holds _ _ h.1)
 
 -- whole seconds from `jiff`'s nanoseconds

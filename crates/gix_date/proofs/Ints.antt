@@ -11,21 +11,21 @@ use Rattle.gix_date.specs.Numbers.{fits_i64, is_int_text, int_value}
 pub own : IsNumeralModel (λ ds. all_ascii_digits ds ≡ true) (digits_value 10)
 own = numerals_by_value _ tells_all_ascii_digits
 
-fits_true : (z : ℤ) → FitsSigned w64 z → fits_i64 z ≡ true
+pub fits_true : (z : ℤ) → FitsSigned w64 z → fits_i64 z ≡ true
 fits_true (pos n) h = grind (arith, nat_tests, h)
 fits_true (negsuc n) h = grind (arith, nat_tests, h)
 
-fits_from : (z : ℤ) → fits_i64 z ≡ true → FitsSigned w64 z
+pub fits_from : (z : ℤ) → fits_i64 z ≡ true → FitsSigned w64 z
 fits_from (pos n) h = record { sfits = grind (arith, nat_tests, h) }
 fits_from (negsuc n) h = record { sfits = grind (arith, nat_tests, h) }
 
-all_of : (a b d : Bool) → a ≡ true → b ≡ true → d ≡ true → (a && b && d) ≡ true
+pub all_of : (a b d : Bool) → a ≡ true → b ≡ true → d ≡ true → (a && b && d) ≡ true
 all_of true true true p q r = refl
 all_of false b d p q r = p
 all_of true false d p q r = q
 all_of true true false p q r = r
 
-each_of : (a b d : Bool) → (a && b && d) ≡ true → (a ≡ true) × (b ≡ true) × (d ≡ true)
+pub each_of : (a b d : Bool) → (a && b && d) ≡ true → (a ≡ true) × (b ≡ true) × (d ≡ true)
 each_of true true true h = (refl, refl, refl)
 each_of false b d h = cc
 each_of true false d h = cc
@@ -56,3 +56,8 @@ pub int_value_lem : {E : Type 0} (w : List ℕ) (r : Result ℤ E) → ParsesSig
 unfolding int_value ReadsInt
 int_value_lem w (Ok z) h = ap Some h.1 ∙ sym (choose (is_int_text w) (signed_digits_value 10 w) (holds w h.0))
 int_value_lem w (Err e) h = sym (choose_none (is_int_text w) (signed_digits_value 10 w) (λ yes. h (from_holds w yes)))
+
+-- an int text of this value
+pub int_value_from : (w : List ℕ) (z : ℤ) → IsNumeral 10 (without_leading_sign w) → signed_digits_value 10 w ≡ z → FitsSigned w64 z → int_value w ≡ Some z
+unfolding ReadsInt
+int_value_from w z n e f = sym (int_value_lem {E = ℕ} w (Ok z) ((n, rw e f), sym e))

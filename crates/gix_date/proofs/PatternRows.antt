@@ -1,15 +1,17 @@
 -- The definitions of formatted dates on worked texts: each row computes.
-use Rattle.std.proofs.Common.{◌≡◌, refl, ℕ, ℤ, [], pos, Option}
+use Rattle.std.proofs.Common.{◌≡◌, refl, ℕ, ℤ, List, [], ◌∷◌, pos, Option, is_some, filter, map, ◌*◌}
 use Rattle.jiff_core.specs.Calendar.{days_from_civil, day_count, days_of_years, days_of_months}
-use Rattle.std.specs.Prelude.{codes, Some, None}
+use Rattle.std.specs.Prelude.{codes, Some}
 use Rattle.gix_date.proofs.Rows.{minus, time}
 use Rattle.gix_date.specs.Answer.{FamilyAnswer, Absolute, OffsetBeyond, InstantBeyond}
 use Rattle.gix_date.specs.Civil.{civil_instant}
 use Rattle.gix_date.specs.Fields.{behind}
+use Rattle.gix_date.specs.Layout.{LocalTime, Piece, DayName, MailDayName, MonthName, Day, Year, PlainDate, Clock, MailClock, Spaces, LetterT, Offset, ColonOffset, MailOffset, with_year, with_month, with_day, with_date, with_clock, with_offset, nothing_read, layout_answer}
 use Rattle.gix_date.specs.Numbers.{read_two_digits, read_digit, read_field, read_year}
 use Rattle.gix_date.specs.Offsets.{offset_fields, read_sign, last_pair}
-use Rattle.gix_date.specs.PatternFields.{behind_spaces, behind_weekday, read_name, read_month, month_of, is_weekday, read_plain_date, read_minutes, read_second, read_clock, read_mail_clock, compact_zone, strict_zone, mail_zone, mail_offset, named_zone, last_colon_pair, date_answer}
-use Rattle.gix_date.specs.Patterns.{behind_day_name, short_answer, rfc2822_answer, iso8601_answer, iso8601_strict_answer, gitoxide_answer, default_answer}
+use Rattle.gix_date.specs.PatternFields.{behind_day_name, behind_spaces, behind_weekday, read_name, read_month, month_of, is_weekday, read_plain_date, read_minutes, read_second, read_clock, read_mail_clock}
+use Rattle.gix_date.specs.PatternZones.{compact_zone, strict_zone, mail_zone, mail_offset, named_zone, last_colon_pair}
+use Rattle.gix_date.specs.Patterns.{short_answer, rfc2822_answer, iso8601_answer, iso8601_strict_answer, gitoxide_answer, default_answer, date_answer}
 use Rattle.gix_date.specs.declared.parsing.civil.ClockFields.{ClockFields}
 use Rattle.gix_date.specs.declared.parsing.civil.DateFields.{DateFields}
 
@@ -29,6 +31,155 @@ date y m d = record { year = y; month = m; day = d }
 abbrev clock : ℕ → ℕ → ℕ → ClockFields
 clock h m s = record { hour = h; minute = m; second = s }
 
+-- Each piece, where it is the whole text: what a text tells, and texts that are no such piece.
+abbrev alone : Piece → List ℕ → Option LocalTime
+alone piece text = layout_answer (piece ∷ []) (λ (told : LocalTime). Some told) text
+
+abbrev Tells : Piece → List ℕ → LocalTime → Type 0
+Tells piece text t = alone piece text ≡ Some t
+
+abbrev Refuses : {A : Type 0} → (List ℕ → Option A) → List (List ℕ) → Type 0
+Refuses family texts = filter (λ text. is_some (family text)) texts ≡ []
+
+day-name : Tells DayName (codes "tHu") nothing_read × Tells DayName (codes "SUN") nothing_read
+unfolding computing
+day-name = (refl, refl)
+
+no-day-name : Refuses (alone DayName) (codes "" ∷ codes "Thx" ∷ codes "Thursday" ∷ codes " Thu" ∷ codes "Thu," ∷ [])
+unfolding computing
+no-day-name = refl
+
+mail-day-name : Tells MailDayName (codes "") nothing_read × Tells MailDayName (codes "mon,  ") nothing_read
+unfolding computing
+mail-day-name = (refl, refl)
+
+no-mail-day-name : Refuses (alone MailDayName) (codes "Thu" ∷ codes "Thu," ∷ codes "Thu " ∷ codes "Thx, " ∷ [])
+unfolding computing
+no-mail-day-name = refl
+
+month-name :
+    Tells MonthName (codes "jAN") (with_month nothing_read 1) × Tells MonthName (codes "Dec") (with_month nothing_read 12)
+unfolding computing
+month-name = (refl, refl)
+
+no-month-name : Refuses (alone MonthName) (codes "" ∷ codes "Aux" ∷ codes "August" ∷ codes "08" ∷ [])
+unfolding computing
+no-month-name = refl
+
+day :
+    Tells Day (codes "7") (with_day nothing_read 7) × Tells Day (codes "07") (with_day nothing_read 7)
+    × Tells Day (codes "31") (with_day nothing_read 31)
+unfolding computing
+day = (refl, refl, refl)
+
+no-day : Refuses (alone Day) (codes "" ∷ codes "123" ∷ codes "+7" ∷ codes " 7" ∷ codes "7th" ∷ [])
+unfolding computing
+no-day = refl
+
+year : Tells Year (codes "2022") (with_year nothing_read 2022) × Tells Year (codes "0022") (with_year nothing_read 22)
+unfolding computing
+year = (refl, refl)
+
+no-year : Refuses (alone Year) (codes "22" ∷ codes "122" ∷ codes "12022" ∷ codes "+2022" ∷ codes "-001" ∷ [])
+unfolding computing
+no-year = refl
+
+plain-date : Tells PlainDate (codes "2018-1-02") (with_date nothing_read (date 2018 1 2))
+unfolding computing
+plain-date = refl
+
+no-plain-date :
+    Refuses (alone PlainDate)
+    (codes "2018-12" ∷ codes "18-12-24" ∷ codes "2018/12/24" ∷ codes "20181224" ∷ codes "2018-12-024" ∷ codes "2018--12-24"
+    ∷ [])
+unfolding computing
+no-plain-date = refl
+
+-- a second of 60 is told as 59, and one of 61 as itself: no day has that clock
+clock-time :
+    Tells Clock (codes "4:5:06") (with_clock nothing_read (clock 4 5 6))
+    × Tells Clock (codes "12:45:60") (with_clock nothing_read (clock 12 45 59))
+    × Tells Clock (codes "12:45:61") (with_clock nothing_read (clock 12 45 61))
+unfolding computing
+clock-time = (refl, refl, refl)
+
+no-clock :
+    Refuses (alone Clock)
+    (codes "12:45" ∷ codes "12" ∷ codes "12:45:" ∷ codes "12:45:006" ∷ codes "12.45.06" ∷ codes "12:45:06.5"
+    ∷ codes "12:45:06 PM" ∷ [])
+unfolding computing
+no-clock = refl
+
+mail-clock :
+    Tells MailClock (codes "12:45") (with_clock nothing_read (clock 12 45 0))
+    × Tells MailClock (codes "12:45:60") (with_clock nothing_read (clock 12 45 59))
+unfolding computing
+mail-clock = (refl, refl)
+
+no-mail-clock : Refuses (alone MailClock) (codes "12" ∷ codes "12:45:" ∷ codes "12:45:006" ∷ codes "12.45" ∷ [])
+unfolding computing
+no-mail-clock = refl
+
+spaces : Tells Spaces (codes " ") nothing_read × Tells Spaces (codes "   ") nothing_read
+unfolding computing
+spaces = (refl, refl)
+
+no-spaces : Refuses (alone Spaces) (codes "" ∷ codes "_" ∷ (9 ∷ []) ∷ (32 ∷ 9 ∷ []) ∷ (10 ∷ []) ∷ codes "T" ∷ [])
+unfolding computing
+no-spaces = refl
+
+letter : Tells LetterT (codes "T") nothing_read
+unfolding computing
+letter = refl
+
+no-letter : Refuses (alone LetterT) (codes "" ∷ codes "t" ∷ codes " " ∷ codes "TT" ∷ [])
+unfolding computing
+no-letter = refl
+
+offset :
+    Tells Offset (codes "+2559") (with_offset nothing_read (pos 93540))
+    × Tells Offset (codes "-010203") (with_offset nothing_read (minus 3723))
+unfolding computing
+offset = (refl, refl)
+
+no-offset :
+    Refuses (alone Offset)
+    (codes "" ∷ codes "0800" ∷ codes "+08" ∷ codes "+08:00" ∷ codes "+0860" ∷ codes "+080060" ∷ codes "-2600"
+    ∷ codes "+0800 " ∷ codes "GMT" ∷ codes "Z" ∷ [])
+unfolding computing
+no-offset = refl
+
+colon-offset :
+    Tells ColonOffset (codes "-00:30") (with_offset nothing_read (minus 1800))
+    × Tells ColonOffset (codes "+00:00:01") (with_offset nothing_read (pos 1))
+unfolding computing
+colon-offset = (refl, refl)
+
+no-colon-offset :
+    Refuses (alone ColonOffset)
+    (codes "" ∷ codes "+0800" ∷ codes "+08" ∷ codes "+08:00:0" ∷ codes "+08:00:" ∷ codes "+08:60" ∷ codes "+26:00"
+    ∷ codes "Z" ∷ codes "+08:00 " ∷ [])
+unfolding computing
+no-colon-offset = refl
+
+mail-offset :
+    Tells MailOffset (codes "+0800") (with_offset nothing_read (pos 28800))
+    × Tells MailOffset (codes "pSt") (with_offset nothing_read (minus 28800))
+    × Tells MailOffset (codes "UT") (with_offset nothing_read (pos 0))
+unfolding computing
+mail-offset = (refl, refl, refl)
+
+zone-names : map mail_zone (codes "ut" ∷ codes "GMT" ∷ codes "EdT" ∷ codes "est" ∷ codes "CDT" ∷ codes "cst" ∷ codes "MDT" ∷ codes "mst" ∷ codes "pdt" ∷ codes "PST" ∷ []) ≡ map (λ (hours : ℕ). Some (minus (3600 * hours))) (0 ∷ 0 ∷ 4 ∷ 5 ∷ 5 ∷ 6 ∷ 6 ∷ 7 ∷ 7 ∷ 8 ∷ [])
+unfolding computing
+zone-names = refl
+
+no-mail-offset :
+    Refuses (alone MailOffset)
+    (codes "" ∷ codes "+080000" ∷ codes "+08:00" ∷ codes "0800" ∷ codes "Z" ∷ codes "UTC" ∷ codes "GMT " ∷ [])
+unfolding computing
+no-mail-offset = refl
+
+-- Fields at the front of a text, and what stands behind them.
 one-digit-or-two : read_plain_date (codes "2018-1-02x") ≡ Some (date 2018 1 2, codes "x")
 unfolding computing
 one-digit-or-two = refl
@@ -37,103 +188,19 @@ three-digits-of-a-day : read_plain_date (codes "2018-12-024") ≡ Some (date 201
 unfolding computing
 three-digits-of-a-day = refl
 
-year-of-three-digits : read_plain_date (codes "201-12-24") ≡ None
-unfolding computing
-year-of-three-digits = refl
-
-day-name-and-spaces : behind_day_name (codes "tHu,  18 Aug") ≡ Some (codes "18 Aug")
-unfolding computing
-day-name-and-spaces = refl
-
-day-name-without-a-space : behind_day_name (codes "Thu,18 Aug") ≡ None
-unfolding computing
-day-name-without-a-space = refl
-
-no-day-name : behind_day_name (codes "Thx, 18 Aug") ≡ None
-unfolding computing
-no-day-name = refl
-
-month-in-any-case : read_month (codes "aUG 2022") ≡ Some (8, codes " 2022")
-unfolding computing
-month-in-any-case = refl
-
 month-written-out : read_month (codes "August") ≡ Some (8, codes "ust")
 unfolding computing
 month-written-out = refl
-
-no-month : read_month (codes "Aux") ≡ None
-unfolding computing
-no-month = refl
 
 spaces-at-the-front : behind_spaces (codes "  x ") ≡ Some (codes "x ")
 unfolding computing
 spaces-at-the-front = refl
 
-no-space : behind_spaces (codes "x") ≡ None
-unfolding computing
-no-space = refl
-
-leap-second : read_clock (codes "12:45:60 Z") ≡ Some (clock 12 45 59, codes " Z")
-unfolding computing
-leap-second = refl
-
-clock-of-one-digit-fields : read_clock (codes "4:5:6") ≡ Some (clock 4 5 6, [])
-unfolding computing
-clock-of-one-digit-fields = refl
-
-clock-without-seconds : read_clock (codes "12:45 GMT") ≡ None
-unfolding computing
-clock-without-seconds = refl
-
-mail-clock-without-seconds : read_mail_clock (codes "12:45 GMT") ≡ Some (clock 12 45 0, codes " GMT")
-unfolding computing
-mail-clock-without-seconds = refl
-
 mail-clock-with-a-colon-alone : read_mail_clock (codes "12:45: +0000") ≡ Some (clock 12 45 0, codes ": +0000")
 unfolding computing
 mail-clock-with-a-colon-alone = refl
 
-zone-with-seconds : compact_zone (codes "+010203") ≡ Some (pos 3723)
-unfolding computing
-zone-with-seconds = refl
-
-zone-of-26-hours : compact_zone (codes "-2600") ≡ None
-unfolding computing
-zone-of-26-hours = refl
-
-zone-with-text-behind : compact_zone (codes "+0800 ") ≡ None
-unfolding computing
-zone-with-text-behind = refl
-
-strict-zone : strict_zone (codes "-00:30") ≡ Some (minus 1800)
-unfolding computing
-strict-zone = refl
-
-strict-zone-with-seconds : strict_zone (codes "+00:00:01") ≡ Some (pos 1)
-unfolding computing
-strict-zone-with-seconds = refl
-
-strict-zone-without-a-colon : strict_zone (codes "+0800") ≡ None
-unfolding computing
-strict-zone-without-a-colon = refl
-
-mail-zone-with-seconds : mail_zone (codes "+080000") ≡ None
-unfolding computing
-mail-zone-with-seconds = refl
-
-mail-zone-by-name : mail_zone (codes "pSt") ≡ Some (minus 28800)
-unfolding computing
-mail-zone-by-name = refl
-
-mail-zone-of-no-name : mail_zone (codes "Z") ≡ None
-unfolding computing
-mail-zone-of-no-name = refl
-
-zone-of-25-hours : compact_zone (codes "+2559") ≡ Some (pos 93540)
-unfolding computing
-zone-of-25-hours = refl
-
--- whole dates, each by its family
+-- Whole dates, each by its family, and texts that are none.
 abbrev at : ℤ → ℤ → Option FamilyAnswer
 at seconds offset = Some (Absolute (time seconds offset))
 
@@ -145,7 +212,10 @@ the-last-day : short_answer (codes "9999-12-31") ≡ Some InstantBeyond
 unfolding whole
 the-last-day = refl
 
-no-such-day : short_answer (codes "2023-02-30") ≡ None
+no-such-day :
+    Refuses short_answer
+    (codes "2023-02-30" ∷ codes "2023-13-01" ∷ codes "2023-1-0" ∷ codes "2023-01-01 " ∷ codes " 2023-01-01"
+    ∷ codes "01-01-2023" ∷ [])
 unfolding whole
 no-such-day = refl
 
@@ -157,9 +227,25 @@ mail-without-seconds : rfc2822_answer (codes "Thu, 18 Aug 2022 12:45 GMT") ≡ a
 unfolding whole
 mail-without-seconds = refl
 
+no-mail :
+    Refuses rfc2822_answer
+    (codes "Thu 18 Aug 2022 12:45 GMT" ∷ codes "Thu, Aug 18 2022 12:45 GMT" ∷ codes "Thu, 18 Aug 22 12:45 GMT"
+    ∷ codes "Thu, 18 Aug 2022 12:45GMT" ∷ codes "Thu, 18 Aug 2022 12:45" ∷ codes "Thu, 18 2022 Aug 12:45 GMT"
+    ∷ codes "Thu, 18 Aug 12:45 2022 GMT" ∷ codes "Thu, 18-Aug-2022 12:45 GMT" ∷ [])
+unfolding whole
+no-mail = refl
+
 iso8601 : iso8601_answer (codes "2022-08-17 22:04:58 +0200") ≡ at (pos 1660766698) (pos 7200)
 unfolding whole
 iso8601 = refl
+
+no-iso8601 :
+    Refuses iso8601_answer
+    (codes "2022-08-17T22:04:58 +0200" ∷ codes "2022-08-17 22:04 +0200" ∷ codes "2022-08-17 22:04:58"
+    ∷ codes "2022-08-17 22:04:58+0200" ∷ codes "2022-08-17 22:04:58 +02:00" ∷ codes "2022-08-17 22:04:61 +0200"
+    ∷ codes "2022-08-17 24:00:00 +0200" ∷ codes "2022-02-30 22:04:58 +2400" ∷ codes "22:04:58 2022-08-17 +0200" ∷ [])
+unfolding whole
+no-iso8601 = refl
 
 strict : iso8601_strict_answer (codes "2022-08-17T21:43:13+08:00") ≡ at (pos 1660743793) (pos 28800)
 unfolding whole
@@ -169,10 +255,34 @@ strict-offset-of-a-day : iso8601_strict_answer (codes "2022-08-17T21:43:13-24:00
 unfolding whole
 strict-offset-of-a-day = refl
 
+no-strict :
+    Refuses iso8601_strict_answer
+    (codes "2022-08-17 21:43:13+08:00" ∷ codes "2022-08-17t21:43:13+08:00" ∷ codes "2022-08-17T21:43+08:00"
+    ∷ codes "2022-08-17T21:43:13 +08:00" ∷ codes "2022-08-17T21:43:13+0800" ∷ codes "2022-08-17T21:43:13Z"
+    ∷ codes "2022-08-17T21:43:13" ∷ [])
+unfolding whole
+no-strict = refl
+
 gitoxide : gitoxide_answer (codes "Mon Oct 27 2023 10:30:00 +0000") ≡ at (pos 1698402600) (pos 0)
 unfolding whole
 gitoxide = refl
 
+no-gitoxide :
+    Refuses gitoxide_answer
+    (codes "Mon Oct 27 10:30:00 2023 +0000" ∷ codes "Oct 27 2023 10:30:00 +0000" ∷ codes "Mon, Oct 27 2023 10:30:00 +0000"
+    ∷ codes "Mon 27 Oct 2023 10:30:00 +0000" ∷ codes "Mon Oct 27 2023 10:30 +0000" ∷ codes "Mon Oct 27 2023 10:30:00 GMT"
+    ∷ codes "Mon Oct 27 2023 10:30:00" ∷ [])
+unfolding whole
+no-gitoxide = refl
+
 by-default : default_answer (codes "Mon Oct 27 10:30:00 2023 -0800") ≡ at (pos 1698431400) (minus 28800)
 unfolding whole
 by-default = refl
+
+not-by-default :
+    Refuses default_answer
+    (codes "Mon Oct 27 2023 10:30:00 -0800" ∷ codes "Oct 27 10:30:00 2023 -0800" ∷ codes "Mon, Oct 27 10:30:00 2023 -0800"
+    ∷ codes "Mon 27 Oct 10:30:00 2023 -0800" ∷ codes "Mon Oct 27 10:30 2023 -0800" ∷ codes "Mon Oct 27 10:30:00 2023 GMT"
+    ∷ codes "Mon Oct 27 10:30:00 2023" ∷ [])
+unfolding whole
+not-by-default = refl

@@ -4,7 +4,8 @@ use Rattle.std.specs.Fmt.{digits}
 use Rattle.std.specs.Prelude.{codes}
 use Rattle.gix_date.proofs.Rows.{minus}
 use Rattle.gix_date.specs.HeaderText.{header_text}
-use Rattle.gix_date.specs.NamedTexts.{LocalTime, IsOrdinary, short_text, rfc2822_text, git_rfc2822_text, iso8601_text, iso8601_strict_text, gitoxide_text, default_text}
+use Rattle.gix_date.specs.Layout.{LocalTime}
+use Rattle.gix_date.specs.NamedTexts.{IsOrdinary, short_text, rfc2822_text, git_rfc2822_text, iso8601_text, iso8601_strict_text, gitoxide_text, default_text}
 use Rattle.gix_date.specs.Printed.{HasNoText}
 use Rattle.gix_date.specs.declared.time.Time.{Time}
 use Rattle.gix_date.specs.declared.time.format.Format.TheVariants.{Unix, Raw}
@@ -26,6 +27,15 @@ leap-day = record {
   date = record { year = 2000; month = 2; day = 29 };
   clock = record { hour = 9; minute = 4; second = 56 };
   offset = minus 12600;
+}
+
+-- a Sunday in December, in the first year that is printed
+abbrev sunday : LocalTime
+sunday = record {
+  weekday = 6;
+  date = record { year = 1000; month = 12; day = 7 };
+  clock = record { hour = 0; minute = 0; second = 0 };
+  offset = pos 0;
 }
 
 short : short_text monday ≡ codes "2022-08-08"
@@ -53,6 +63,16 @@ gitoxide = refl
 by-default : default_text leap-day ≡ codes "Tue Feb 29 09:04:56 2000 -0330"
 unfolding digits
 by-default = refl
+
+rfc2822-of-a-sunday : rfc2822_text sunday ≡ codes "Sun, 07 Dec 1000 00:00:00 +0000"
+rfc2822-of-a-sunday = refl
+
+by-default-of-a-sunday : default_text sunday ≡ codes "Sun Dec 7 00:00:00 1000 +0000"
+unfolding digits
+by-default-of-a-sunday = refl
+
+strict-of-a-sunday : iso8601_strict_text sunday ≡ codes "1000-12-07T00:00:00+00:00"
+strict-of-a-sunday = refl
 
 ordinary : (z : PlainZoned) (year : ℕ) → z.datetime.date.year ≡ pos year → 1000 ≤ year → year ≤ 9999 → unsigned_abs z.offset.seconds % 60 ≡ 0 → IsOrdinary z
 ordinary z year is low high whole = record { year = year; year_is = is; low = low; high = high; minutes = whole }

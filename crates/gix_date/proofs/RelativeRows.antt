@@ -11,8 +11,9 @@ use Rattle.gix_date.specs.Fields.{behind}
 use Rattle.gix_date.specs.Git.{git_time, git_form, dotted_time, compact_time, flexible_time, read_marked_date, read_compact_date}
 use Rattle.gix_date.specs.Numbers.{int_value, read_two_digits, read_digit, read_field, read_year}
 use Rattle.gix_date.specs.Offsets.{offset_fields, read_sign, last_pair}
-use Rattle.gix_date.specs.PatternFields.{behind_spaces, behind_weekday, read_name, read_month, month_of, is_weekday, read_plain_date, read_minutes, read_second, read_clock, read_mail_clock, compact_zone, strict_zone, mail_zone, mail_offset, named_zone, last_colon_pair, date_answer}
-use Rattle.gix_date.specs.Patterns.{short_answer, rfc2822_answer, iso8601_answer, iso8601_strict_answer, gitoxide_answer, default_answer, behind_day_name}
+use Rattle.gix_date.specs.PatternFields.{behind_day_name, behind_spaces, behind_weekday, read_name, read_month, month_of, is_weekday, read_plain_date, read_minutes, read_second, read_clock, read_mail_clock}
+use Rattle.gix_date.specs.PatternZones.{compact_zone, strict_zone, mail_zone, mail_offset, named_zone, last_colon_pair}
+use Rattle.gix_date.specs.Patterns.{short_answer, rfc2822_answer, iso8601_answer, iso8601_strict_answer, gitoxide_answer, default_answer, date_answer}
 use Rattle.gix_date.specs.Raw.{raw_time, raw_offset}
 use Rattle.gix_date.specs.Relative.{Before, Less, relative_date, named_date, pairs_date}
 use Rattle.gix_date.specs.RelativeWords.{relative_words, count_of, named_count, number_named, unit_of, singular, named_unit}
@@ -165,3 +166,7 @@ relative-before-raw = refl
 at-sign-of-no-time : first_family (codes "@5 days ago") ≡ Some (Relative (Less ((pos 5, Seconds (pos 86_400)) ∷ [])))
 unfolding computing
 at-sign-of-no-time = refl
+
+pub yesterday-alone : first_family (codes "yesterday") ≡ Some (Relative (Before (pos 86_400)))
+unfolding computing
+yesterday-alone = refl

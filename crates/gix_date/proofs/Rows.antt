@@ -122,6 +122,34 @@ not-canonical-seconds : is_canonical_header (codes "0 +000000") ≡ false
 unfolding computing
 not-canonical-seconds = refl
 
+not-canonical-second-space : is_canonical_header (codes "0  +0000") ≡ false
+unfolding computing
+not-canonical-second-space = refl
+
+not-canonical-space-behind : is_canonical_header (codes "0 +0000 ") ≡ false
+unfolding computing
+not-canonical-space-behind = refl
+
+not-canonical-digit-behind : is_canonical_header (codes "0 +00000") ≡ false
+unfolding computing
+not-canonical-digit-behind = refl
+
+not-canonical-space-before : is_canonical_header (codes " 0 +0000") ≡ false
+unfolding computing
+not-canonical-space-before = refl
+
+not-canonical-seconds-alone : is_canonical_header (codes "0") ≡ false
+unfolding computing
+not-canonical-seconds-alone = refl
+
+not-canonical-past-an-i64 : is_canonical_header (codes "9223372036854775808 +0000") ≡ false
+unfolding computing
+not-canonical-past-an-i64 = refl
+
+canonical-least : is_canonical_header (codes "-9223372036854775808 -9959") ≡ true
+unfolding computing
+canonical-least = refl
+
 raw-with-spaces : raw_time (codes "\n-0\r\n-0000\n") ≡ Some (time (pos 0) (pos 0))
 unfolding computing
 raw-with-spaces = refl

@@ -1,5 +1,9 @@
 -- The pieces of a printed text.
-use Rattle.std.proofs.Common.{◌≡◌, ◌∙◌, ℕ, ℤ, pos, ◌+◌, ◌-◌, ◌/◌, ◌%◌, ◌<◌, ◌≤◌, ◌^◌, Bool, true, false, List, [], ◌∷◌, ◌++◌, Option, Ok, Err, Result, refl, sym, ap, arith, append_assoc, decimal, length, get_or, replicate, min, int_le, inl, inr, zero, suc, unsigned_abs, lit<, if◌then◌else◌, int_lt}
+use Rattle.std.proofs.Common.{◌≡◌, ◌∙◌, ℕ, ℤ, pos, ◌+◌, ◌-◌, ◌/◌, ◌%◌, ◌<◌, ◌≤◌, ◌^◌, Bool, true, false, List, [], ◌∷◌, ◌++◌, Option, Ok, Err, Result, refl, sym, ap, arith, append_assoc, decimal, length, get_or, replicate, min, int_le, inl, inr, zero, suc, unsigned_abs, lit<, if◌then◌else◌, int_lt, map}
+use Rattle.std.specs.Prelude.{nat_lt}
+use Rattle.std.specs.List.{list_all}
+use Rattle.std.proofs.lemmas.Bool.Decides.{nat_tests}
+use Rattle.gix_date.proofs.Instants.{both}
 use Rattle.std.proofs.lemmas.List.{append-nil}
 use Rattle.std.proofs.lemmas.Str.{IsAscii-append, IsUtf8-from_ascii}
 use Rattle.std.proofs.lemmas.Str.Ascii.{IsAscii-nil, IsAscii-cons}
@@ -15,14 +19,17 @@ use Rattle.jiff_core.specs.declared.civil.iso_week_date.ISOWeekDate.{ISOWeekDate
 use Rattle.jiff_core.specs.declared.error.Error.{Error}
 use Rattle.jiff_strtime.specs.Directive.{plain}
 use Rattle.jiff_strtime.specs.Show.{Context, Shown, show_format, padded, int_text, no_pad, offset_text, weekday_name, short}
-use Rattle.jiff_strtime.specs.Text.{Parts, month_names as full_names}
+use Rattle.jiff_strtime.specs.Text.{Parts, month_names as full_names, weekday_names}
 use Rattle.jiff_strtime.specs.declared.directive.Config.{Config}
 use Rattle.jiff_strtime.specs.declared.directive.Locale.TheVariants.{Default}
 use Rattle.jiff_tz.specs.Abbreviation.{abbreviation_text}
 use Rattle.jiff_tz.specs.Zone.{zone_name}
 use Rattle.gix_date.specs.HeaderText.{hours_and_minutes, zone_text}
-use Rattle.gix_date.specs.NamedTexts.{LocalTime, local_time, IsOrdinary, four_digits, day_name, strict_zone_text, ShowsText}
-use Rattle.gix_date.specs.Names.{month_names}
+use Rattle.gix_date.specs.Layout.{LocalTime}
+use Rattle.gix_date.specs.FieldTexts.{four_digits}
+use Rattle.gix_date.specs.PatternZones.{strict_zone_text}
+use Rattle.gix_date.specs.NamedTexts.{local_time, IsOrdinary, ShowsText}
+use Rattle.gix_date.specs.Names.{day_names, month_names, day_name}
 use Rattle.gix_date.specs.Numbers.{two_digits}
 use Rattle.gix_date.specs.Printed.{IsShown, IsUnprinted}
 use Rattle.gix_date.proofs.Printing.{filled_parts}
@@ -101,7 +108,7 @@ number-padded width n =
     let e : int_le (pos 0) (pos n) ≡ true = grind (arith, ints) in
     rw e refl
 
-decimal-two : (n : ℕ) → 10 ≤ n → n < 100 → decimal n ≡ (48 + n / 10) ∷ (48 + n % 10) ∷ []
+pub decimal-two : (n : ℕ) → 10 ≤ n → n < 100 → decimal n ≡ (48 + n / 10) ∷ (48 + n % 10) ∷ []
 decimal-two n low high =
     let big : n < 2 ^ 64 = omega arith in
     let ten : n / 10 < 10 = omega arith in
@@ -159,30 +166,17 @@ number-bare n =
     let e : int_le (pos 0) (pos n) ≡ true = grind (arith, ints) in
     rw e (bare-padded n)
 
+-- a name in a table of names that are cut to three letters
+short_of : (names : List (List ℕ)) (n : ℕ) → short (get_or names n []) ≡ get_or (map short names) n []
+short_of [] n = refl
+short_of (name ∷ names) zero = refl
+short_of (name ∷ names) (suc n) = short_of names n
+
 pub weekday-short : (n : ℕ) → short (weekday_name n) ≡ day_name n
-weekday-short zero = refl
-weekday-short (suc zero) = refl
-weekday-short (suc (suc zero)) = refl
-weekday-short (suc (suc (suc zero))) = refl
-weekday-short (suc (suc (suc (suc zero)))) = refl
-weekday-short (suc (suc (suc (suc (suc zero))))) = refl
-weekday-short (suc (suc (suc (suc (suc (suc zero)))))) = refl
-weekday-short (suc (suc (suc (suc (suc (suc (suc n))))))) = refl
+weekday-short n = short_of weekday_names n
 
 pub month-short : (n : ℕ) → short (get_or full_names n []) ≡ get_or month_names n []
-month-short zero = refl
-month-short (suc zero) = refl
-month-short (suc (suc zero)) = refl
-month-short (suc (suc (suc zero))) = refl
-month-short (suc (suc (suc (suc zero)))) = refl
-month-short (suc (suc (suc (suc (suc zero))))) = refl
-month-short (suc (suc (suc (suc (suc (suc zero)))))) = refl
-month-short (suc (suc (suc (suc (suc (suc (suc zero))))))) = refl
-month-short (suc (suc (suc (suc (suc (suc (suc (suc zero)))))))) = refl
-month-short (suc (suc (suc (suc (suc (suc (suc (suc (suc zero))))))))) = refl
-month-short (suc (suc (suc (suc (suc (suc (suc (suc (suc (suc zero)))))))))) = refl
-month-short (suc (suc (suc (suc (suc (suc (suc (suc (suc (suc (suc zero))))))))))) = refl
-month-short (suc (suc (suc (suc (suc (suc (suc (suc (suc (suc (suc (suc n)))))))))))) = refl
+month-short n = short_of full_names n
 
 -- an offset of whole minutes
 minutes-are : (n : ℕ) → n / 60 % 60 ≡ n % 3600 / 60
@@ -235,9 +229,6 @@ year-is z o = o.year_is ∙ ap pos (sym (ap (λ (v : ℤ). unsigned_abs v) o.yea
 ascii_two : (a b : ℕ) → a < 128 → b < 128 → IsAscii (a ∷ b ∷ [])
 ascii_two a b in_a in_b = IsAscii-cons a (b ∷ []) in_a (IsAscii-cons b [] in_b IsAscii-nil)
 
-ascii_three : (a b e : ℕ) → a < 128 → b < 128 → e < 128 → IsAscii (a ∷ b ∷ e ∷ [])
-ascii_three a b e in_a in_b in_e = IsAscii-cons a (b ∷ e ∷ []) in_a (ascii_two b e in_b in_e)
-
 pub ascii-two : (n : ℕ) → n < 100 → IsAscii (two_digits n)
 ascii-two n h = ascii_two _ _ (omega arith) (omega arith)
 
@@ -247,30 +238,26 @@ ascii-four n h = IsAscii-append (two_digits (n / 100)) (two_digits (n % 100)) (a
 pub ascii-bare : (n : ℕ) → n < 100 → IsAscii (decimal n)
 ascii-bare n h = IsAscii-decimal n (omega arith)
 
+-- a name in a table whose names are ASCII
+abbrev is_low : ℕ → Bool
+is_low b = nat_lt b 128
+
+ascii_by : (t : List ℕ) → list_all is_low t ≡ true → IsAscii t
+ascii_by [] h = IsAscii-nil
+ascii_by (c ∷ t) h =
+    let parts = both (is_low c) (list_all is_low t) h in
+    IsAscii-cons c t (grind (arith, nat_tests, parts.0)) (ascii_by t parts.1)
+
+name_ascii : (names : List (List ℕ)) (n : ℕ) → list_all (list_all is_low) names ≡ true → IsAscii (get_or names n [])
+name_ascii [] n h = IsAscii-nil
+name_ascii (name ∷ names) zero h = ascii_by name ((both (list_all is_low name) (list_all (list_all is_low) names) h).0)
+name_ascii (name ∷ names) (suc n) h = name_ascii names n ((both (list_all is_low name) (list_all (list_all is_low) names) h).1)
+
 pub ascii-weekday : (n : ℕ) → IsAscii (day_name n)
-ascii-weekday zero = ascii_three _ _ _ (lit< tt) (lit< tt) (lit< tt)
-ascii-weekday (suc zero) = ascii_three _ _ _ (lit< tt) (lit< tt) (lit< tt)
-ascii-weekday (suc (suc zero)) = ascii_three _ _ _ (lit< tt) (lit< tt) (lit< tt)
-ascii-weekday (suc (suc (suc zero))) = ascii_three _ _ _ (lit< tt) (lit< tt) (lit< tt)
-ascii-weekday (suc (suc (suc (suc zero)))) = ascii_three _ _ _ (lit< tt) (lit< tt) (lit< tt)
-ascii-weekday (suc (suc (suc (suc (suc zero))))) = ascii_three _ _ _ (lit< tt) (lit< tt) (lit< tt)
-ascii-weekday (suc (suc (suc (suc (suc (suc zero)))))) = ascii_three _ _ _ (lit< tt) (lit< tt) (lit< tt)
-ascii-weekday (suc (suc (suc (suc (suc (suc (suc n))))))) = IsAscii-nil
+ascii-weekday n = name_ascii day_names n refl
 
 pub ascii-month : (n : ℕ) → IsAscii (get_or month_names n [])
-ascii-month zero = ascii_three _ _ _ (lit< tt) (lit< tt) (lit< tt)
-ascii-month (suc zero) = ascii_three _ _ _ (lit< tt) (lit< tt) (lit< tt)
-ascii-month (suc (suc zero)) = ascii_three _ _ _ (lit< tt) (lit< tt) (lit< tt)
-ascii-month (suc (suc (suc zero))) = ascii_three _ _ _ (lit< tt) (lit< tt) (lit< tt)
-ascii-month (suc (suc (suc (suc zero)))) = ascii_three _ _ _ (lit< tt) (lit< tt) (lit< tt)
-ascii-month (suc (suc (suc (suc (suc zero))))) = ascii_three _ _ _ (lit< tt) (lit< tt) (lit< tt)
-ascii-month (suc (suc (suc (suc (suc (suc zero)))))) = ascii_three _ _ _ (lit< tt) (lit< tt) (lit< tt)
-ascii-month (suc (suc (suc (suc (suc (suc (suc zero))))))) = ascii_three _ _ _ (lit< tt) (lit< tt) (lit< tt)
-ascii-month (suc (suc (suc (suc (suc (suc (suc (suc zero)))))))) = ascii_three _ _ _ (lit< tt) (lit< tt) (lit< tt)
-ascii-month (suc (suc (suc (suc (suc (suc (suc (suc (suc zero))))))))) = ascii_three _ _ _ (lit< tt) (lit< tt) (lit< tt)
-ascii-month (suc (suc (suc (suc (suc (suc (suc (suc (suc (suc zero)))))))))) = ascii_three _ _ _ (lit< tt) (lit< tt) (lit< tt)
-ascii-month (suc (suc (suc (suc (suc (suc (suc (suc (suc (suc (suc zero))))))))))) = ascii_three _ _ _ (lit< tt) (lit< tt) (lit< tt)
-ascii-month (suc (suc (suc (suc (suc (suc (suc (suc (suc (suc (suc (suc n)))))))))))) = IsAscii-nil
+ascii-month n = name_ascii month_names n refl
 
 sign_of : (negative : Bool) → (if negative then 45 else 43) < 128
 sign_of true = lit< tt

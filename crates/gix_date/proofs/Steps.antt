@@ -93,7 +93,7 @@ settles-back tz i j shown f l h g =
       picked = rw (fields-day shown f h, h.time_is, ← civil_nanos-parts shown) picked;
     }
 
-abbrev MonthsFrom : TimeZone → ℤ → ℤ → DateTime → Type 0
+abbrev pub MonthsFrom : TimeZone → ℤ → ℤ → DateTime → Type 0
 MonthsFrom tz n j local =
     FitsSigned w64 (month_number local.date -ℤ n) × IsYear (int_div_euclid (month_number local.date -ℤ n) (pos 12)) × IsPicked tz (civil_of (rolled_day (month_number local.date -ℤ n) local.date) local.time) j
 

@@ -12,12 +12,12 @@ use Rattle.std.specs.declared.str.SplitWhitespace.{SplitWhitespace}
 use Rattle.std.specs.Str.{chars, all_scalars, NonePass, NoCharPasses, EmptyOrStartsWithPassing, IsUtf8}
 use Rattle.gix_date.specs.SpaceWords.{is_nonempty, runs, space_words}
 
-from_not : (b : Bool) → not b ≡ false → b ≡ true
+pub from_not : (b : Bool) → not b ≡ false → b ≡ true
 from_not true h = refl
 from_not false h = sym h
 
 -- white space in front makes no run
-runs_skip : (gs cs : List ℕ) → NonePass is_not_whitespace gs → runs (gs ++ cs) ≡ runs cs
+pub runs_skip : (gs cs : List ℕ) → NonePass is_not_whitespace gs → runs (gs ++ cs) ≡ runs cs
 runs_skip [] cs h = refl
 runs_skip (g ∷ gs) cs h = ap (filter is_nonempty) (slice_split-cons_yes is_whitespace g (gs ++ cs) (from_not (is_whitespace g) h.0)) ∙ runs_skip gs cs h.1
 
@@ -27,11 +27,11 @@ first_part [] es tail h e = e
 first_part (x ∷ xs) es tail h e = slice_split-cons_no is_whitespace x (xs ++ es) h.0 ∙ ap (onto_first x) (first_part xs es tail h.1 e)
 
 -- a text that is empty or begins with white space
-data StopsRun : List ℕ → Type 0 where
+pub data StopsRun : List ℕ → Type 0 where
   ends : StopsRun []
   stops : (c : ℕ) (cs : List ℕ) → is_whitespace c ≡ true → StopsRun (c ∷ cs)
 
-run_first : (x : ℕ) (xs es : List ℕ) → NonePass is_whitespace (x ∷ xs) → StopsRun es → runs ((x ∷ xs) ++ es) ≡ (x ∷ xs) ∷ runs es
+pub run_first : (x : ℕ) (xs es : List ℕ) → NonePass is_whitespace (x ∷ xs) → StopsRun es → runs ((x ∷ xs) ++ es) ≡ (x ∷ xs) ∷ runs es
 run_first x xs _ h ends = ap (filter is_nonempty) (first_part (x ∷ xs) [] [] h refl)
 run_first x xs _ h (stops c cs w) =
     let parts = slice_split-cons_yes is_whitespace c cs w in

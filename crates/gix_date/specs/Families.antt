@@ -1,5 +1,5 @@
 -- The families of texts that a date may have, in their order, and the answer of the first that holds a text.
-use Rattle.std.specs.Prelude.{◌≡◌, ℕ, List, [], ◌∷◌, take, Option, Some, None, option_map, Result, Ok, Err, Bool, true, false}
+use Rattle.std.specs.Prelude.{◌≡◌, ℕ, List, [], ◌∷◌, map, take, Option, Some, None, option_map, Result, Ok, Err, Bool, true, false}
 use Rattle.std.specs.Option.{option_or}
 use Rattle.jiff.specs.declared.zoned.Zoned.{Zoned}
 use Rattle.gix_date.specs.Answer.{FamilyAnswer, Absolute, OffsetBeyond, InstantBeyond, Relative}
@@ -12,6 +12,43 @@ use Rattle.gix_date.specs.declared.error.Error.{Error}
 use Rattle.gix_date.specs.declared.error.Error.TheVariants as errors
 use Rattle.gix_date.specs.declared.time.Time.{Time}
 
+-- the families, by their names
+pub data Family : Type 0 where
+  AtText : Family
+  -- a day alone
+  Short : Family
+  Rfc2822 : Family
+  Iso8601 : Family
+  Iso8601Strict : Family
+  Gitoxide : Family
+  -- Git's default format
+  GitDefault : Family
+  BareEpoch : Family
+  -- Git's own forms
+  GitForm : Family
+  RelativeText : Family
+  RawText : Family
+
+-- what a family answers of a text, where it holds it
+abbrev pub family_answer : Family → List ℕ → Option FamilyAnswer
+family_answer AtText text = option_map Absolute (at_time text)
+family_answer Short text = short_answer text
+family_answer Rfc2822 text = rfc2822_answer text
+family_answer Iso8601 text = iso8601_answer text
+family_answer Iso8601Strict text = iso8601_strict_answer text
+family_answer Gitoxide text = gitoxide_answer text
+family_answer GitDefault text = default_answer text
+family_answer BareEpoch text = option_map Absolute (epoch_time text)
+family_answer GitForm text = option_map Absolute (git_time text)
+family_answer RelativeText text = option_map Relative (relative_date text)
+family_answer RawText text = option_map Absolute (raw_time text)
+
+-- the families in the order in which they are asked
+abbrev pub families : List Family
+families =
+    AtText ∷ Short ∷ Rfc2822 ∷ Iso8601 ∷ Iso8601Strict ∷ Gitoxide ∷ GitDefault
+    ∷ BareEpoch ∷ GitForm ∷ RelativeText ∷ RawText ∷ []
+
 -- the answer of the first that has one
 abbrev pub first_of : List (Option FamilyAnswer) → Option FamilyAnswer
 first_of [] = None
@@ -19,19 +56,7 @@ first_of (answer ∷ answers) = option_or answer (first_of answers)
 
 -- what each family answers of a text, in their order
 abbrev pub family_answers : List ℕ → List (Option FamilyAnswer)
-family_answers text =
-    option_map Absolute (at_time text)
-    ∷ short_answer text
-    ∷ rfc2822_answer text
-    ∷ iso8601_answer text
-    ∷ iso8601_strict_answer text
-    ∷ gitoxide_answer text
-    ∷ default_answer text
-    ∷ option_map Absolute (epoch_time text)
-    ∷ option_map Absolute (git_time text)
-    ∷ option_map Relative (relative_date text)
-    ∷ option_map Absolute (raw_time text)
-    ∷ []
+family_answers text = map (λ family. family_answer family text) families
 
 -- the answer of the first family that holds the text
 unfoldable pub first_family : List ℕ → Option FamilyAnswer

@@ -1,8 +1,9 @@
--- How the fields of formatted dates are written: each says which texts are written so, and of what value.
-use Rattle.std.specs.Prelude.{◌≡◌, ℕ, ◌+◌, ◌-◌, ◌*◌, true, ◌&&◌, List, [], ◌∷◌, ◌++◌, ◌⊎◌, Some}
+-- How the fields of formatted dates are written: which texts are written so, and of what value; and what is printed.
+use Rattle.std.specs.Prelude.{◌≡◌, ℕ, ◌+◌, ◌-◌, ◌*◌, ◌/◌, ◌%◌, true, ◌&&◌, List, [], ◌∷◌, ◌++◌, ◌⊎◌, Some}
 use Rattle.std.specs.Char.{is_ascii_digit, is_ascii_alphabetic}
 use Rattle.std.specs.List.{list_all}
 use Rattle.gix_date.specs.Characters.{minus, comma, colon, digit_zero, is_space}
+use Rattle.gix_date.specs.Numbers.{two_digits}
 use Rattle.gix_date.specs.PatternFields.{is_weekday, month_of, leapless}
 use Rattle.gix_date.specs.declared.parsing.civil.ClockFields.{ClockFields}
 use Rattle.gix_date.specs.declared.parsing.civil.DateFields.{DateFields}
@@ -21,7 +22,9 @@ IsField text n = ⊥
 
 -- four digits
 abbrev pub IsYear : List ℕ → ℕ → Type 0
-IsYear (a ∷ b ∷ c ∷ d ∷ []) n = IsDigit a × IsDigit b × IsDigit c × IsDigit d × (n ≡ 100 * (10 * digit_value a + digit_value b) + (10 * digit_value c + digit_value d))
+IsYear (a ∷ b ∷ c ∷ d ∷ []) n =
+    IsDigit a × IsDigit b × IsDigit c × IsDigit d
+    × (n ≡ 100 * (10 * digit_value a + digit_value b) + (10 * digit_value c + digit_value d))
 IsYear text n = ⊥
 
 -- one space or more
@@ -30,7 +33,8 @@ AreSpaces [] = ⊥
 AreSpaces (c ∷ text) = (is_space c ≡ true) × (list_all is_space text ≡ true)
 
 abbrev pub AreThreeLetters : List ℕ → Type 0
-AreThreeLetters (a ∷ b ∷ c ∷ []) = (is_ascii_alphabetic a && is_ascii_alphabetic b && is_ascii_alphabetic c) ≡ true
+AreThreeLetters (a ∷ b ∷ c ∷ []) =
+    (is_ascii_alphabetic a && is_ascii_alphabetic b && is_ascii_alphabetic c) ≡ true
 AreThreeLetters text = ⊥
 
 -- three letters that name a day of the week, whichever it is
@@ -83,3 +87,15 @@ pub record IsDayPrefix (text : List ℕ) : Type 0 where
   pub whole : text ≡ name ++ comma ∷ gap
   pub is_name : IsDayName name
   pub are_spaces : AreSpaces gap
+
+-- a year as it is printed
+abbrev pub four_digits : ℕ → List ℕ
+four_digits n = two_digits (n / 100) ++ two_digits (n % 100)
+
+-- a date as `YYYY-MM-DD`
+abbrev pub date_text : DateFields → List ℕ
+date_text d = four_digits d.year ++ minus ∷ two_digits d.month ++ minus ∷ two_digits d.day
+
+-- a clock as `hh:mm:ss`
+abbrev pub clock_text : ClockFields → List ℕ
+clock_text c = two_digits c.hour ++ colon ∷ two_digits c.minute ++ colon ∷ two_digits c.second

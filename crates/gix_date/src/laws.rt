@@ -1,29 +1,71 @@
 //! Laws, each the contract of a function that does nothing.
-ghost use Rattle.std.specs.Prelude.{◌≡◌, ◌↔◌, ◌++◌, ◌≤◌, List, ℕ, is_some, filter, map, [], ◌∷◌, pos, neg_ℤ, length, IfSome, IsTrue};
+ghost use Rattle.std.specs.Prelude.{◌≡◌, ◌↔◌, ◌++◌, ◌≤◌, ◌≤ℤ◌, List, ℕ, ℤ, is_some, filter, map, None, [], ◌∷◌, pos, neg_ℤ, length, IfSome, IsSomeAnd, IsTrue, true, Some, ◌<◌, ◌%◌, unsigned_abs, FitsSigned};
+ghost use Rattle.std.specs.Int.{w64};
+ghost use Rattle.std.specs.List.{All};
+ghost use Rattle.std.specs.List.Sorted.{IsPermutation};
 ghost use Rattle.std.specs.declared.cmp.Ordering.TheVariants.{Equal};
 ghost use Rattle.std.specs.Hash as fed;
 ghost use Rattle.std.specs.Ordering.{int_cmp, on, then_cmp};
-ghost use Rattle.gix_date.specs.Families.{answers_before_git};
+ghost use Rattle.gix_date.specs.Answer.{Absolute};
+ghost use Rattle.gix_date.specs.Epoch.{utc_time};
+ghost use Rattle.gix_date.specs.Numbers.{decimal_text};
+ghost use Rattle.gix_date.specs.Families.{RawText, BareEpoch, GitForm, answers_before_git, first_family, Comes};
+ghost use Rattle.gix_date.specs.FixedZones.{IsFixedZone, IsSecondsPair, IsMonthsPair, less_seconds, less_months, total, Names, NamesAlike, IsSecondsBefore, NamesEarlier};
+ghost use Rattle.gix_date.specs.CanonicalHeader.{is_canonical_header};
+ghost use Rattle.gix_date.specs.FamilyLaws.{AreDisjoint, AreExclusive, AreOverlapping, ComesFirst, IgnoresMoment, Holds};
+ghost use Rattle.gix_date.specs.HeaderLaws.{ComesBack, AreAlike};
+ghost use Rattle.gix_date.specs.HeaderReading.{header_time};
 ghost use Rattle.gix_date.specs.HeaderText.{header_text};
-ghost use Rattle.gix_date.specs.Relative.{RelativeDate, IsNamed};
+ghost use Rattle.gix_date.specs.Relative.{RelativeDate, Before, IsNamed, relative_date};
+ghost use Rattle.gix_date.specs.RelativeSteps.{zone_of};
 ghost use Rattle.gix_date.specs.TimeBuf.{text_in};
 ghost use Rattle.gix_date.specs.declared.parsing.function.TheConstants.{LEAST_EPOCH};
-ghost use Rattle.gix_date.specs.declared.parsing.patterns.fields.TheConstants.{MAX_OFFSET_IN_SECONDS};
+ghost use Rattle.gix_date.specs.declared.parsing.patterns.TheConstants.{MAX_OFFSET_IN_SECONDS};
 ghost use Rattle.gix_date.specs.declared.parsing.raw.TheConstants.{MOST_HOURS};
 ghost use Rattle.gix_date.specs.declared.time.format.Format.TheVariants.{Unix, Raw};
-ghost use Rattle.jiff.specs.declared.zoned.Zoned.{Zoned};
+ghost use Rattle.jiff.specs.Words.{plain_zoned};
+ghost use Rattle.jiff.specs.declared.zoned.Zoned.{Zoned as Moment};
 ghost use Rattle.gix_date.specs.declared.time.write.TheConstants.{HUNDRED_HOURS, LONGEST_TEXT};
-ghost use Rattle.gix_date.specs.NamedTexts.{ShowsText, short_pattern, short_text, rfc2822_pattern, rfc2822_text, git_rfc2822_pattern, git_rfc2822_text, iso8601_pattern, iso8601_text, iso8601_strict_pattern, iso8601_strict_text, gitoxide_pattern, gitoxide_text, default_pattern, default_text};
-ghost use Rattle.gix_date.specs.Patterns.{short_answer, rfc2822_answer, iso8601_answer, iso8601_strict_answer, gitoxide_answer, default_answer};
-ghost use Rattle.gix_date.specs.Spelled.{Spells, IsAnswered, IsDayAnswered, IsMailDate, IsIso8601, IsIso8601Strict, IsGitoxideDate, IsDefaultDate};
+ghost use Rattle.gix_date.specs.LocalClocks.{clock_of, HasOrdinaryClock};
+ghost use Rattle.gix_date.specs.ReadingBack.{IsPlainTime, AreReadBack, IsRawOffset};
+ghost use Rattle.gix_date.specs.Zoned.{IsMoment};
+ghost use Rattle.gix_date.specs.PrintedTimes.{IsPrintedAs};
+ghost use Rattle.gix_date.specs.NamedTexts.{local_time, IsOrdinary, short_pattern, short_text, rfc2822_pattern, rfc2822_text, git_rfc2822_pattern, git_rfc2822_text, iso8601_pattern, iso8601_text, iso8601_strict_pattern, iso8601_strict_text, gitoxide_pattern, gitoxide_text, default_pattern, default_text};
+ghost use Rattle.gix_date.specs.Patterns.{short_layout, rfc2822_layout, iso8601_layout, iso8601_strict_layout, gitoxide_layout, default_layout, time_answer, real_day_answer, short_answer, rfc2822_answer, iso8601_answer, iso8601_strict_answer, gitoxide_answer, default_answer, Spells, IsAnswered};
 
+use crate::error::Error;
 use crate::parsing::TimeBuf;
+use crate::parsing::function::parse;
 use crate::time::Time;
 use crate::time::format::{
     CustomFormat, DEFAULT, Format, GIT_RFC2822, GITOXIDE, ISO8601, ISO8601_STRICT, RAW, RFC2822,
     SHORT, UNIX,
 };
+use jiff::Zoned;
+use std::alloc::Global;
 use std::hash::Hash;
+
+/// The whole promise, in four parts.
+///
+/// - For every text, moment and zone handed in, [`parse`] gives the answer or refusal of the first family in its list that holds the
+///   text; this function hands on what `parse` gives.
+/// - Raw texts, bare epochs and Git's own forms exclude one another, and none of the first two is relative.
+/// - Reading a header and writing it returns exactly the canonical texts.
+/// - The texts of the six named formats that have a clock are parsed back, where the time converts, its own clock shows a year from
+///   1000 to 9999, and its offset is whole minutes within 23:59.
+///
+/// Want of memory aside, and in writing the writer's faults. The parts are the contract of `parse` and the laws [`disjoint`],
+/// [`canonical`] and [`read_back`].
+pub fn headline(alloc: Global, text: &str, now: Option<Zoned<'_>>) -> Result<Time, Error>
+    ensures first_family { Comes (first_family text.now) text.now now.entry result }
+    ensures exclusive { AreDisjoint text.now }
+    ensures canonical { ComesBack text.now ↔ (is_canonical_header text.now ≡ true) }
+    ensures read_back { (time : Time) → IsPlainTime time → AreReadBack time }
+{
+    disjoint(text);
+    canonical(text);
+    parse(alloc, text, now)
+}
 
 /// The two constants are the seconds and offsets that they are said to be.
 pub fn constants()
@@ -69,18 +111,18 @@ pub fn hash()
 
 /// A relative date names one time at most, from each moment.
 pub fn named_once()
-    ensures { (date : RelativeDate) (moment : Zoned) (a b : Time) → IsNamed date moment a → IsNamed date moment b → a ≡ b }
+    ensures { (date : RelativeDate) (moment : Moment) (a b : Time) → IsNamed date moment a → IsNamed date moment b → a ≡ b }
 {}
 
-/// A formatted date is the texts of its fields, one behind the other: what a family of them answers is what the fields say, and a
-/// text that is so written is of that family.
+/// A formatted date is its pieces, one behind the other: what a family of them answers is what the pieces say, and a text that is
+/// so written is of that family.
 pub fn spelled()
-    ensures day { Spells short_answer IsDayAnswered }
-    ensures mail { Spells rfc2822_answer (IsAnswered IsMailDate) }
-    ensures iso8601 { Spells iso8601_answer (IsAnswered IsIso8601) }
-    ensures strict { Spells iso8601_strict_answer (IsAnswered IsIso8601Strict) }
-    ensures gitoxide { Spells gitoxide_answer (IsAnswered IsGitoxideDate) }
-    ensures by_default { Spells default_answer (IsAnswered IsDefaultDate) }
+    ensures day { Spells short_answer (IsAnswered short_layout real_day_answer) }
+    ensures mail { Spells rfc2822_answer (IsAnswered rfc2822_layout time_answer) }
+    ensures iso8601 { Spells iso8601_answer (IsAnswered iso8601_layout time_answer) }
+    ensures strict { Spells iso8601_strict_answer (IsAnswered iso8601_strict_layout time_answer) }
+    ensures gitoxide { Spells gitoxide_answer (IsAnswered gitoxide_layout time_answer) }
+    ensures by_default { Spells default_answer (IsAnswered default_layout time_answer) }
 {}
 
 /// No text is of two of the families that stand before Git's own forms.
@@ -113,14 +155,124 @@ pub fn other_formats() -> [Format; 2]
     [UNIX, RAW]
 }
 
-/// By the named formats that are patterns a zoned value of a year from 1000 to 9999 and an offset of whole minutes is shown so, and
-/// the printer refuses none.
-pub fn printed()
-    ensures short { ShowsText short_pattern short_text }
-    ensures rfc2822 { ShowsText rfc2822_pattern rfc2822_text }
-    ensures git_rfc2822 { ShowsText git_rfc2822_pattern git_rfc2822_text }
-    ensures iso8601 { ShowsText iso8601_pattern iso8601_text }
-    ensures iso8601_strict { ShowsText iso8601_strict_pattern iso8601_strict_text }
-    ensures gitoxide { ShowsText gitoxide_pattern gitoxide_text }
-    ensures by_default { ShowsText default_pattern default_text }
+/// By the named formats that are patterns a time whose own clock shows a year from 1000 to 9999, and whose offset is whole minutes,
+/// is printed so, by what that clock shows; the printer refuses none of them.
+pub fn printed(time: Time)
+    ensures short { IsPrintedAs short_pattern short_text time }
+    ensures rfc2822 { IsPrintedAs rfc2822_pattern rfc2822_text time }
+    ensures git_rfc2822 { IsPrintedAs git_rfc2822_pattern git_rfc2822_text time }
+    ensures iso8601 { IsPrintedAs iso8601_pattern iso8601_text time }
+    ensures iso8601_strict { IsPrintedAs iso8601_strict_pattern iso8601_strict_text time }
+    ensures gitoxide { IsPrintedAs gitoxide_pattern gitoxide_text time }
+    ensures by_default { IsPrintedAs default_pattern default_text time }
+{}
+
+/// A text comes back when it is read as a header and written exactly where it is canonical.
+pub fn canonical(text: &str)
+    ensures { ComesBack text.now ↔ (is_canonical_header text.now ≡ true) }
+{}
+
+/// A time whose offset is whole minutes, short of 100 hours either way, is read from its header text.
+pub fn written_is_read(time: Time)
+    requires short { unsigned_abs time.offset < HUNDRED_HOURS }
+    requires whole { unsigned_abs time.offset % 60 ≡ 0 }
+    ensures { IsSomeAnd (header_text time) (λ text. header_time text ≡ Some time) }
+{}
+
+/// Two times with offsets short of 100 hours are written alike where these agree: the seconds, whether the offset is negative,
+/// and its whole minutes.
+pub fn alike(a: Time, b: Time)
+    requires first { unsigned_abs a.offset < HUNDRED_HOURS }
+    requires second { unsigned_abs b.offset < HUNDRED_HOURS }
+    ensures { (header_text a ≡ header_text b) ↔ AreAlike a b }
+{}
+
+/// No text is of two of these families: raw, a bare epoch, and Git's own forms. None of the first two is relative.
+pub fn disjoint(text: &str)
+    ensures { AreDisjoint text.now }
+{}
+
+/// No text is of two of the families that [`parse`] asks, but of ISO 8601 and Git's own forms, of strict ISO 8601 and these, and of
+/// these and relative texts (`overlap`): what one of two others holds is refused by the other.
+pub fn exclusive(text: &str)
+    ensures { AreExclusive text.now }
+{}
+
+/// The families that are said to overlap do so: each two have a text that both hold.
+pub fn overlapping()
+    ensures { AreOverlapping }
+{}
+
+/// What a family answers of a text is what [`parse`] goes by. For a Git text this is so where neither ISO 8601 nor its strict form
+/// holds it, and for a relative one where no Git form does; no text of the other families is of an earlier one. And [`parse`] counts
+/// from a moment for relative texts alone.
+pub fn comes_first(text: &str)
+    ensures { ComesFirst text.now }
+{}
+
+/// [`parse`] comes to the same at every moment, and without one, for each text that is not relative, such as a raw text and a bare
+/// epoch, and for one of Git's own forms even where it is.
+pub fn ignores_moment(text: &str)
+    ensures plain { relative_date text.now ≡ None → IgnoresMoment text.now }
+    ensures raw { Holds RawText text.now → IgnoresMoment text.now }
+    ensures epoch { Holds BareEpoch text.now → IgnoresMoment text.now }
+    ensures git { Holds GitForm text.now → IgnoresMoment text.now }
+{}
+
+/// What a named format with a clock prints of a time is parsed back to it, whatever moment is handed in, or none: where the time
+/// converts, its own clock shows a year from 1000 to 9999, and its offset is whole minutes within 23:59.
+pub fn read_back(time: Time)
+    requires plain { IsPlainTime time }
+    ensures { AreReadBack time }
+{}
+
+/// The header text of a time whose offset is quarters of an hour up to 14:45 is parsed back to it, and the decimal text of seconds
+/// from 100000000 on to these seconds with offset 0: whatever moment is handed in, or none.
+pub fn raw_read_back(time: Time)
+    ensures header { IsRawOffset time.offset → IsSomeAnd (header_text time) (λ text. first_family text ≡ Some (Absolute time)) }
+    ensures seconds { LEAST_EPOCH ≤ℤ time.seconds
+        → first_family (decimal_text time.seconds) ≡ Some (Absolute (utc_time time.seconds)) }
+{}
+
+/// In a zone of fixed offset `yesterday` and one pair of a day name the same instant, or neither names one.
+pub fn yesterday(moment: &Zoned<'_>)
+    requires fixed { IsFixedZone (zone_of moment.now) }
+    ensures { NamesAlike moment.now (Before (pos 86_400)) (less_seconds ((pos 1, pos 86_400) ∷ [])) }
+{}
+
+/// In a zone of fixed offset pairs of seconds name the moment less their sum, where an `i64` holds each product and that is an
+/// instant, and nothing else; so their order is no matter. In a zone whose clock goes back a pair may do more than take seconds off.
+pub fn seconds_permute(moment: &Zoned<'_>, pairs: &[(i64, i64)])
+    requires fixed { IsFixedZone (zone_of moment.now) }
+    requires pairs { All IsSecondsPair pairs.now }
+    ensures sum { (instant : ℤ) → Names (less_seconds pairs.now) moment.now instant
+        ↔ IsSecondsBefore pairs.now moment.now instant }
+    ensures order { (other : List (ℤ × ℤ)) → IsPermutation pairs.now other
+        → NamesAlike moment.now (less_seconds pairs.now) (less_seconds other) }
+{}
+
+/// In a zone of fixed offset, from a day of the month up to the 28th, pairs of months name what one pair of their sum names, or
+/// neither names an instant. From a later day the months between may be too short for it.
+pub fn months_add(moment: &Zoned<'_>, pairs: &[(i64, i64)])
+    requires fixed { IsFixedZone (zone_of moment.now) }
+    requires pairs { All IsMonthsPair pairs.now }
+    requires sum { FitsSigned w64 (total pairs.now) }
+    requires day { (plain_zoned moment.now).datetime.date.day ≤ 28 }
+    ensures { NamesAlike moment.now (less_months pairs.now) (less_months ((total pairs.now, pos 1) ∷ [])) }
+{}
+
+/// What the own clock of a time shows, by computing from its seconds and its offset, is what each of its moments shows. It is
+/// ordinary, with a year from 1000 to 9999 and an offset of whole minutes, exactly where these moments are.
+pub fn local_clock(time: Time)
+    ensures shown { (moment : Moment) → IsMoment time moment → local_time (plain_zoned moment) ≡ clock_of time }
+    ensures ordinary { (moment : Moment) → IsMoment time moment
+        → IsOrdinary (plain_zoned moment) ↔ HasOrdinaryClock time }
+{}
+
+/// From a time, at its offset, `yesterday` and pairs of seconds name the time so many seconds earlier at the same offset, where that
+/// has an instant, and nothing else.
+pub fn earlier(time: Time, pairs: &[(i64, i64)])
+    requires { All IsSecondsPair pairs.now }
+    ensures yesterday { NamesEarlier (Before (pos 86_400)) time (pos 86_400) }
+    ensures pairs { NamesEarlier (less_seconds pairs.now) time (total pairs.now) }
 {}

@@ -22,6 +22,7 @@ mod git;
 mod numbers;
 mod offset;
 mod patterns;
+mod plain;
 mod raw;
 mod relative;
 mod space_words;

@@ -2,4 +2,5 @@ pub mod Splitting
 pub mod Sending
 pub mod Taking
 pub mod Replying
+pub mod CanonicalLines
 pub mod Reading

@@ -1,9 +1,10 @@
 -- What is replied to a line.
-use Rattle.std.specs.Prelude.{◌≡◌, ℕ, Bool, true, false, List, [], ◌∷◌, ◌++◌, if◌then◌else◌, Option, Some, None, IsSome, Result, Ok, Err, unwrap_or, codes}
+use Rattle.std.specs.Prelude.{◌≡◌, ◌↔◌, ℕ, Bool, true, false, List, [], ◌∷◌, ◌++◌, if◌then◌else◌, Option, Some, None, IsSome, Result, Ok, Err, unwrap_or, codes}
 use Rattle.std.specs.Option.{option_map_or}
 use Rattle.std.specs.List.{flat_map}
 use Rattle.std.specs.Str.{is_utf8, bytes_eq}
 use Rattle.gix_date.specs.declared.time.Time.{Time}
+use Rattle.gix_date.specs.CanonicalHeader.{is_canonical_header}
 use Rattle.gix_date.specs.Characters.{space}
 use Rattle.gix_date.specs.Numbers.{decimal_text}
 use Rattle.gix_date.specs.HeaderText.{header_text}
@@ -98,3 +99,7 @@ pub record Replied (Is : List ℕ → Type 0) (asked : Asked) (lines : List (Lis
 -- each line has one reply at most
 abbrev pub RepliesAreUnique : Type 0
 RepliesAreUnique = (asked : Asked) (line : List ℕ) (reply other : Reply) → IsReply asked line reply → IsReply asked line other → reply ≡ other
+
+-- in Check a line is replied to by `canonical` exactly where it is a canonical header
+abbrev pub CanonicalLines : List ℕ → Type 0
+CanonicalLines line = (asked : Asked) → asked.mode ≡ Check → IsReply asked line Canonical ↔ (is_canonical_header line ≡ true)

@@ -14,5 +14,5 @@ pub use arguments::{Mode, command};
 pub use error::ToolError;
 pub use lines::{limits, lines_are_unique};
 pub use program::{Status, execute, show_usage};
-pub use replies::replies_are_unique;
+pub use replies::{canonical_lines, replies_are_unique};
 pub use runs::run;

@@ -4,7 +4,7 @@ ghost use Rattle.gix_date.specs.Families.{first_family};
 ghost use Rattle.gix_date.specs.HeaderReading.{header_time};
 ghost use Rattle.gix_date_tool.specs.declared.replies.Reply.TheVariants.{Read, UnknownFormat, DateConversion};
 ghost use Rattle.gix_date_tool.specs.Outbox.{Sends, output};
-ghost use Rattle.gix_date_tool.specs.Replies.{RepliesAreUnique, IsReply, IsParseReply, IsWritable, reply_line, check_reply, is_header_text_of};
+ghost use Rattle.gix_date_tool.specs.Replies.{RepliesAreUnique, CanonicalLines, IsReply, IsParseReply, IsWritable, reply_line, check_reply, is_header_text_of};
 
 use crate::arguments::Mode;
 use crate::outbox::Outbox;
@@ -94,6 +94,12 @@ fn push_reading<W: Sink>(time: Time, outbox: &mut Outbox, out: &mut W) -> Result
 /// Each line has one reply at most, in a mode and at a moment.
 pub fn replies_are_unique()
     ensures { RepliesAreUnique }
+{}
+
+/// In Check a line is replied to by `canonical` exactly where it is the header text of a time as Git writes it
+/// (`is_canonical_header`), whatever else is asked.
+pub fn canonical_lines(line: &[u8])
+    ensures { CanonicalLines line.now }
 {}
 
 /// The reply to a line. For want of memory it is refused in Parse alone, and there only where `parse` copies the text it refuses.

@@ -46,6 +46,34 @@ fn headers_are_read(rt: HostRuntime) {
         ("no-white-space", "1\u{200b}+0100", Some((1, 0))),
         ("no-white-space", "1\u{1f}+0100", Some((1, 0))),
         ("no-ascii-digit", "\u{661}", None),
+        ("before-1970", "-5 +0100", Some((-5, 3600))),
+        ("minus-zero", "-0 -0000", Some((0, 0))),
+        (
+            "eighteen-digits",
+            "999999999999999999 -0130",
+            Some((999_999_999_999_999_999, -5400)),
+        ),
+        (
+            "nineteen-digits",
+            "1234567890123456789 +0000",
+            Some((1_234_567_890_123_456_789, 0)),
+        ),
+        (
+            "many-zeros",
+            "-0000000000000000000000000000007 +0100",
+            Some((-7, 3600)),
+        ),
+        ("plus", "+5 +0100", Some((5, 3600))),
+        ("two-signs", "-+5 +0100", None),
+        ("a-sign-alone", "- +0100", None),
+        ("no-seconds", " +0100", Some((100, 0))),
+        ("space-before", " 5 +0100", Some((5, 3600))),
+        ("two-spaces", "5  +0100", Some((5, 3600))),
+        ("tab", "5\t+0100", Some((5, 3600))),
+        ("space-behind", "5 +0100 ", Some((5, 3600))),
+        ("letter-in-the-offset", "5 +010a", Some((5, 0))),
+        ("no-digit-before-the-space", "é +0100", None),
+        ("letter-before-the-space", "5x +0100", Some((5, 3600))),
     ];
     for (row, text, time) in rows {
         let time = time.map(|(seconds, offset)| Time::new(seconds, offset));

@@ -9,6 +9,10 @@ mod devices;
 #[cfg(test)]
 mod fakes;
 #[cfg(test)]
+mod families;
+#[cfg(test)]
+mod faults;
+#[cfg(test)]
 mod git;
 #[cfg(test)]
 mod headers;

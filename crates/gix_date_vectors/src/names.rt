@@ -1,7 +1,7 @@
 //! Public names, each where it stands, and the traits that callers count on.
 use crate::caller::{
-    Unresolved, absolute_date, authored, authored_in_utc, commit_time, header_bytes, iso_date,
-    log_date, resolved,
+    Unresolved, absolute_date, asks_for_a_moment, authored, authored_in_utc, commit_time,
+    header_bytes, iso_date, kept_by_each, kept_in_header, log_date, read_canonical, resolved,
 };
 use gix_date::parsing::TimeBuf;
 use gix_date::time::{CustomFormat, Format, format};
@@ -25,7 +25,7 @@ const fn longest() -> usize {
 }
 
 /// The text that was refused, if one was.
-fn refused(alloc: Global, text: &str, now: Option<Zoned<'_>>) -> Option<InputBytes> {
+pub(crate) fn refused(alloc: Global, text: &str, now: Option<Zoned<'_>>) -> Option<InputBytes> {
     match parse(alloc, text, now) {
         Err(Error::UnknownFormat { input }) => Some(input),
         _ => None,
@@ -104,6 +104,17 @@ fn callers_answer(rt: HostRuntime) -> Result<(), Fail> {
     assert_eq!(rt; iso.as_str(), "2022-08-19 10:04:15 +0800");
     let header = header_bytes(rt.alloc(), Time::new(1_660_874_655, 28_800))?;
     assert_eq!(rt; header.as_slice(), b"1660874655 +0800".as_slice());
+    let canonical = read_canonical("1660874655 +0800");
+    assert_eq!(rt; canonical, Some(Time::new(1_660_874_655, 28_800)));
+    assert_eq!(rt; read_canonical("0 -0000"), None);
+    assert_eq!(rt; read_canonical("0 +0000 "), None);
+    assert_eq!(rt; read_canonical("yesterday"), None);
+    let least = Time::new(i64::MIN, -359_940);
+    assert_eq!(rt; kept_in_header(least), Some(least));
+    assert!(rt; !asks_for_a_moment(rt.alloc(), "5 -0130"));
+    assert!(rt; !asks_for_a_moment(rt.alloc(), "1700000000"));
+    assert!(rt; !asks_for_a_moment(rt.alloc(), "banana"));
+    assert!(rt; asks_for_a_moment(rt.alloc(), "2 days ago"));
     let clock = Timestamp::from_second(1_660_874_655)?;
     assert_eq!(rt; authored_in_utc(clock), Time::new(1_660_874_655, 0));
     let zone = TimeZone::posix("CST-8")?;
@@ -126,6 +137,20 @@ fn callers_answer(rt: HostRuntime) -> Result<(), Fail> {
 }
 
 #[test]
+fn times_are_kept_by_each_format_with_a_clock(rt: HostRuntime) -> Result<(), Fail> {
+    let time = Time::new(1_660_874_655, 28_800);
+    assert!(rt; matches!(kept_by_each(rt.alloc(), time, None), Ok(times) if times == [time; 6]));
+    let before = Time::new(-1, -86_340);
+    assert!(rt;
+        matches!(kept_by_each(rt.alloc(), before, None), Ok(times) if times == [before; 6])
+    );
+    let last = Time::new(253_402_207_199, 0);
+    let now = Time::new(0, 0).to_zoned().ok();
+    assert!(rt; matches!(kept_by_each(rt.alloc(), last, now), Ok(times) if times == [last; 6]));
+    Ok(())
+}
+
+#[test]
 fn laws_are_called_for_nothing_but_what_they_state() {
     laws::constants();
     laws::limits();
@@ -138,8 +163,18 @@ fn laws_are_called_for_nothing_but_what_they_state() {
     laws::apart();
     let _ = laws::named_formats();
     let _ = laws::other_formats();
-    laws::printed();
+    laws::printed(Time::new(0, 0));
+    laws::local_clock(Time::new(0, -1));
+    laws::canonical("0 +0000");
+    laws::written_is_read(Time::new(0, 60));
+    laws::alike(Time::new(0, -30), Time::new(0, -1));
+    laws::disjoint("0 +0000");
+    laws::exclusive("2 days ago");
+    laws::overlapping();
+    laws::comes_first("2018-12-24");
+    laws::ignores_moment("yesterday");
     gix_date_tool::limits();
     gix_date_tool::lines_are_unique();
     gix_date_tool::replies_are_unique();
+    gix_date_tool::canonical_lines(b"0 +0000");
 }

@@ -15,6 +15,7 @@ use crate::parsing::offset::parse_offset_fields;
 use crate::parsing::patterns::{
     parse_default, parse_gitoxide, parse_iso8601, parse_iso8601_strict, parse_rfc2822, parse_short,
 };
+use crate::parsing::plain::parse_plain;
 use crate::parsing::raw::parse_raw;
 use crate::parsing::relative;
 use crate::parsing::space_words::first_words;
@@ -173,8 +174,18 @@ fn parse_epoch(input: &str) -> Option<Time>
 ///
 /// `None` where the text has a colon or no word, or where its first word gives no number that an `i64` can hold. Takes
 /// no memory.
-#[tactic(auto, unfolding(crate::specs::HeaderReading::header_time, crate::specs::HeaderReading::time_of_words))]
 pub fn parse_header(input: &str) -> Option<Time>
+    ensures { result ≡ header_time input.now }
+{
+    if let Some(time) = parse_plain(input) {
+        return Some(time);
+    }
+    parse_any_header(input)
+}
+
+/// The same, of any text.
+#[tactic(auto, unfolding(crate::specs::HeaderReading::header_time, crate::specs::HeaderReading::time_of_words))]
+fn parse_any_header(input: &str) -> Option<Time>
     ensures { result ≡ header_time input.now }
 {
     if has_colon(input) {

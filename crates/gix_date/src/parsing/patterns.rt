@@ -1,7 +1,9 @@
 //! Formatted dates, as logs and other programs print them.
 ghost use Rattle.std.specs.Prelude.{◌≡◌, IfSome, option_map, option_copied};
-ghost use Rattle.gix_date.specs.Patterns.{short_answer, day_answer, behind_day_name, rfc2822_answer, iso8601_answer, iso8601_strict_answer, gitoxide_answer, default_answer};
-ghost use Rattle.gix_date.specs.Civil.{DateFits};
+ghost use Rattle.gix_date.specs.PatternFields.{behind_day_name};
+ghost use Rattle.gix_date.specs.Patterns.{short_answer, day_answer, date_answer, rfc2822_answer, iso8601_answer, iso8601_strict_answer, gitoxide_answer, default_answer};
+ghost use Rattle.gix_date.specs.Civil.{DateFits, ClockFits};
+ghost use Rattle.jiff.specs.Words.{IsOffsetSeconds};
 ghost use Rattle.gix_date.specs.Views.{answer_of, HasZoneOffset};
 
 use crate::parsing::answer::Answer;
@@ -9,14 +11,16 @@ use crate::parsing::civil::{ClockFields, DateFields, civil_instant, is_date};
 use crate::parsing::fields::behind;
 use crate::parsing::numbers::{read_field, read_year};
 use crate::parsing::patterns::fields::{
-    behind_spaces, behind_weekday, date_answer, read_clock, read_mail_clock, read_month,
-    read_plain_date,
+    behind_spaces, behind_weekday, read_clock, read_mail_clock, read_month, read_plain_date,
 };
 use crate::parsing::patterns::zone::{parse_compact_zone, parse_mail_zone, parse_strict_zone};
-use crate::time::Time;
+use crate::time::{OffsetInSeconds, Time};
 
 mod fields;
 mod zone;
+
+/// The farthest offset of a formatted date: 23:59 either way.
+const MAX_OFFSET_IN_SECONDS: u32 = (23 * 60 + 59) * 60;
 
 /// The beginning of a day.
 const MIDNIGHT: ClockFields = ClockFields {
@@ -74,7 +78,7 @@ pub(crate) fn parse_rfc2822(text: &str) -> Option<Answer<'static>>
 }
 
 /// What stands behind a day's name, a comma and spaces.
-#[tactic(auto, unfolding(crate::specs::Patterns::behind_day_name))]
+#[tactic(auto, unfolding(crate::specs::PatternFields::behind_day_name))]
 fn behind_day_name(text: &str) -> Option<&str>
     ensures { option_copied result ≡ behind_day_name text.now }
 {
@@ -148,4 +152,24 @@ pub(crate) fn parse_default(text: &str) -> Option<Answer<'static>>
     let rest = behind_spaces(rest)?;
     let offset = parse_compact_zone(rest)?;
     date_answer(DateFields { year, month, day }, clock, offset)
+}
+
+/// What a formatted date answers, where there is such an instant.
+#[tactic(auto, unfolding(crate::specs::Patterns::date_answer))]
+fn date_answer(
+    date: DateFields,
+    clock: ClockFields,
+    offset: OffsetInSeconds,
+) -> Option<Answer<'static>>
+    requires date { DateFits date }
+    requires clock { ClockFits clock }
+    requires offset { IsOffsetSeconds offset }
+    ensures answer { option_map answer_of result ≡ date_answer date clock offset }
+    ensures short { IfSome result HasZoneOffset }
+{
+    let seconds = civil_instant(date, clock, offset)?;
+    if offset.unsigned_abs() > MAX_OFFSET_IN_SECONDS {
+        return Some(Answer::OffsetBeyond);
+    }
+    Some(Answer::Absolute(Time::new(seconds, offset)))
 }

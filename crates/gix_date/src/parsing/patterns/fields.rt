@@ -1,21 +1,15 @@
 //! The fields of formatted dates.
-ghost use Rattle.std.specs.Prelude.{◌≡◌, ◌≤◌, ◌<◌, IfSome, option_map, option_copied};
+ghost use Rattle.std.specs.Prelude.{◌≡◌, ◌<◌, IfSome, option_copied};
 ghost use Rattle.std.specs.List.{prefix_len};
-ghost use Rattle.jiff.specs.Words.{IsOffsetSeconds};
 ghost use Rattle.gix_date.specs.Characters.{is_space};
 ghost use Rattle.gix_date.specs.Civil.{DateFits, ClockFits};
 ghost use Rattle.gix_date.specs.Fields.{read_view};
-ghost use Rattle.gix_date.specs.PatternFields.{behind_spaces, read_name, month_of, is_weekday, read_month, behind_weekday, read_plain_date, read_minutes, read_second, read_clock, read_mail_clock, leapless, date_answer};
-ghost use Rattle.gix_date.specs.Views.{answer_of, HasZoneOffset, name_view};
+ghost use Rattle.gix_date.specs.PatternFields.{behind_spaces, read_name, month_of, is_weekday, read_month, behind_weekday, read_plain_date, read_minutes, read_second, read_clock, read_mail_clock, leapless};
+ghost use Rattle.gix_date.specs.Views.{name_view};
 
-use crate::parsing::answer::Answer;
-use crate::parsing::civil::{ClockFields, DateFields, civil_instant};
+use crate::parsing::civil::{ClockFields, DateFields};
 use crate::parsing::fields::behind;
 use crate::parsing::numbers::{read_field, read_year};
-use crate::time::{OffsetInSeconds, Time};
-
-/// The farthest offset of a formatted date: 23:59 either way.
-const MAX_OFFSET_IN_SECONDS: u32 = (23 * 60 + 59) * 60;
 
 /// The names of months and of days of the week.
 const MONTHS: [&str; 12] = [
@@ -173,24 +167,4 @@ pub(crate) fn read_mail_clock(text: &str) -> Option<(ClockFields, &str)>
         return Some(found);
     }
     Some((clock, rest))
-}
-
-/// What a formatted date answers, where there is such an instant.
-#[tactic(auto, unfolding(crate::specs::PatternFields::date_answer))]
-pub(crate) fn date_answer(
-    date: DateFields,
-    clock: ClockFields,
-    offset: OffsetInSeconds,
-) -> Option<Answer<'static>>
-    requires date { DateFits date }
-    requires clock { ClockFits clock }
-    requires offset { IsOffsetSeconds offset }
-    ensures answer { option_map answer_of result ≡ date_answer date clock offset }
-    ensures short { IfSome result HasZoneOffset }
-{
-    let seconds = civil_instant(date, clock, offset)?;
-    if offset.unsigned_abs() > MAX_OFFSET_IN_SECONDS {
-        return Some(Answer::OffsetBeyond);
-    }
-    Some(Answer::Absolute(Time::new(seconds, offset)))
 }

@@ -1,7 +1,7 @@
 //! The offsets of formatted dates. Each reader takes a whole text.
 ghost use Rattle.std.specs.Prelude.{◌≡◌, IfSome};
 ghost use Rattle.jiff.specs.Words.{IsOffsetSeconds};
-ghost use Rattle.gix_date.specs.PatternFields.{compact_zone, strict_zone, mail_zone, mail_offset, named_zone, zone_offset, last_colon_pair};
+ghost use Rattle.gix_date.specs.PatternZones.{compact_zone, strict_zone, mail_zone, mail_offset, named_zone, zone_offset, last_colon_pair};
 
 use crate::parsing::fields::behind;
 use crate::parsing::numbers::{parse_two_digits, read_two_digits};
@@ -21,7 +21,7 @@ fn zone_offset(fields: OffsetFields) -> Option<OffsetInSeconds>
 }
 
 /// A sign, two digits of hours, two of minutes, and perhaps two of seconds.
-#[tactic(auto, unfolding(crate::specs::PatternFields::compact_zone))]
+#[tactic(auto, unfolding(crate::specs::PatternZones::compact_zone))]
 pub(crate) fn parse_compact_zone(text: &str) -> Option<OffsetInSeconds>
     ensures value { result ≡ compact_zone text.now }
     ensures short { IfSome result (λ offset. IsOffsetSeconds offset) }
@@ -30,7 +30,7 @@ pub(crate) fn parse_compact_zone(text: &str) -> Option<OffsetInSeconds>
 }
 
 /// The same, with a colon between the pairs.
-#[tactic(auto, unfolding(crate::specs::PatternFields::strict_zone))]
+#[tactic(auto, unfolding(crate::specs::PatternZones::strict_zone))]
 pub(crate) fn parse_strict_zone(text: &str) -> Option<OffsetInSeconds>
     ensures value { result ≡ strict_zone text.now }
     ensures short { IfSome result (λ offset. IsOffsetSeconds offset) }
@@ -49,7 +49,7 @@ pub(crate) fn parse_strict_zone(text: &str) -> Option<OffsetInSeconds>
 }
 
 /// Nothing more, or a colon and two digits more.
-#[tactic(auto, unfolding(crate::specs::PatternFields::last_colon_pair))]
+#[tactic(auto, unfolding(crate::specs::PatternZones::last_colon_pair))]
 fn parse_last_colon_pair(text: &str) -> Option<Option<u8>>
     ensures { result ≡ last_colon_pair text.now }
 {
@@ -61,7 +61,7 @@ fn parse_last_colon_pair(text: &str) -> Option<Option<u8>>
 }
 
 /// A sign, two digits of hours and two of minutes, or else the name of a zone.
-#[tactic(auto, unfolding(crate::specs::PatternFields::mail_zone))]
+#[tactic(auto, unfolding(crate::specs::PatternZones::mail_zone))]
 pub(crate) fn parse_mail_zone(text: &str) -> Option<OffsetInSeconds>
     ensures value { result ≡ mail_zone text.now }
     ensures short { IfSome result (λ offset. IsOffsetSeconds offset) }
@@ -73,7 +73,7 @@ pub(crate) fn parse_mail_zone(text: &str) -> Option<OffsetInSeconds>
 }
 
 /// A sign, two digits of hours and two of minutes.
-#[tactic(auto, unfolding(crate::specs::PatternFields::mail_offset))]
+#[tactic(auto, unfolding(crate::specs::PatternZones::mail_offset))]
 fn parse_mail_offset(text: &str) -> Option<OffsetInSeconds>
     ensures value { result ≡ mail_offset text.now }
     ensures short { IfSome result (λ offset. IsOffsetSeconds offset) }
@@ -86,7 +86,7 @@ fn parse_mail_offset(text: &str) -> Option<OffsetInSeconds>
 }
 
 /// The offset of a zone's name in mail, in any letter case.
-#[tactic(auto, unfolding(crate::specs::PatternFields::named_zone))]
+#[tactic(auto, unfolding(crate::specs::PatternZones::named_zone))]
 fn named_zone(name: &str) -> Option<OffsetInSeconds>
     ensures value { result ≡ named_zone name.now }
     ensures short { IfSome result (λ offset. IsOffsetSeconds offset) }

@@ -1,0 +1,5 @@
+use Rattle.gix_date.proofs.Disjoint.{are-disjoint}
+use Rattle.gix_date.proofs.laws.disjoint.Goals as goal
+
+pub returns : goal.returns
+returns c = are-disjoint c.args.text.now c.utf8.text

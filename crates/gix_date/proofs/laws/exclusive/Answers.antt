@@ -1,0 +1,5 @@
+use Rattle.gix_date.proofs.Exclusive.{are-exclusive}
+use Rattle.gix_date.proofs.laws.exclusive.Goals as goal
+
+pub returns : goal.returns
+returns c = are-exclusive c.args.text.now c.utf8.text

@@ -1,0 +1,5 @@
+use Rattle.gix_date.proofs.PrintedBack.{are-read-back}
+use Rattle.gix_date.proofs.laws.headline.Goals as goal
+
+pub returns-clause-read_back : goal.returns-clause-read_back
+returns-clause-read_back c time plain = are-read-back time plain

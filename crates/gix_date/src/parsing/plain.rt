@@ -1,0 +1,62 @@
+//! Headers as they are mostly written: a number, one space, and an offset of four digits.
+ghost use Rattle.std.specs.Prelude.{◌≡◌, ◌<◌, ◌^◌, IfSome, Some, length, true};
+ghost use Rattle.std.specs.Str.{all_ascii_digits};
+ghost use Rattle.std.specs.Str.Parse.{digits_value};
+ghost use Rattle.gix_date.specs.HeaderReading.{header_time};
+ghost use Rattle.gix_date.specs.Numbers.{int_value};
+
+use crate::parsing::offset::parse_offset_fields;
+use crate::time::{SecondsSinceUnixEpoch, Time};
+
+/// The most digits that are read at once: an `i64` holds any so many.
+const MOST_DIGITS: usize = 18;
+
+/// The bytes of a space and of an offset such as `+0800`.
+const ZONE_BYTES: usize = 6;
+
+/// The time of a header that is written plainly. `None` says nothing of a text.
+pub(crate) fn parse_plain(input: &str) -> Option<Time>
+    ensures { IfSome result (λ t. header_time input.now ≡ Some t) }
+{
+    let bytes = input.as_bytes();
+    if bytes.len() < ZONE_BYTES {
+        return None;
+    }
+    let place = bytes.len() - ZONE_BYTES;
+    if bytes[place] != b' ' {
+        return None;
+    }
+    let seconds = parse_short_int(&bytes[..place])?;
+    let fields = parse_offset_fields(&input[place + 1..])?;
+    Some(Time::new(seconds, fields.in_seconds()))
+}
+
+/// The value of a short text of digits, with a minus or no sign.
+fn parse_short_int(text: &[u8]) -> Option<SecondsSinceUnixEpoch>
+    ensures { IfSome result (λ n. int_value text.now ≡ Some n) }
+{
+    match text {
+        [b'-', digits @ ..] => Some(-(parse_short_digits(digits)? as i64)),
+        _ => Some(parse_short_digits(text)? as i64),
+    }
+}
+
+/// The value of a few digits.
+fn parse_short_digits(digits: &[u8]) -> Option<u64>
+    ensures some { IfSome result (λ n. 0 < length digits.now) }
+    ensures digits { IfSome result (λ n. all_ascii_digits digits.now ≡ true) }
+    ensures value { IfSome result (λ n. n ≡ digits_value 10 digits.now) }
+    ensures small { IfSome result (λ n. n < 10 ^ 18) }
+{
+    if digits.is_empty() || digits.len() > MOST_DIGITS {
+        return None;
+    }
+    let mut value = 0;
+    for digit in digits {
+        if !digit.is_ascii_digit() {
+            return None;
+        }
+        value = 10 * value + u64::from(*digit - b'0');
+    }
+    Some(value)
+}
