@@ -1,8 +1,10 @@
 -- What the named patterns show: the pieces of their layouts.
-use Rattle.std.proofs.Common.{◌≡◌, ◌∙◌, ℕ, ℤ, pos, ◌-◌, ◌<◌, true, false, nat_lt, List, [], ◌∷◌, ◌++◌, Option, Ok, Result, refl, sym, ap, codes, arith, append_assoc, get_or, lit<, replicate, zero, suc}
+use Rattle.std.proofs.Common.{◌≡◌, ◌∙◌, ℕ, ℤ, pos, ◌-◌, ◌<◌, true, false, nat_lt, List, [], ◌∷◌, ◌++◌, Option, Ok, Result, refl, ap, codes, arith, get_or, lit<, replicate, zero, suc}
 use Rattle.std.proofs.lemmas.List.{append-nil}
 use Rattle.std.proofs.lemmas.Str.{IsAscii-append}
-use Rattle.std.proofs.lemmas.Str.Ascii.{IsAscii-nil}
+use Rattle.std.proofs.lemmas.List.Folds.{concat-append}
+use Rattle.std.proofs.lemmas.Str.Ascii.{IsAscii-nil, IsAscii-cons}
+use Rattle.std.specs.List.{concat}
 use Rattle.std.specs.Str.{IsAscii}
 use Rattle.std.specs.Fmt.{decimal}
 use Rattle.jiff.specs.Types.{PlainZoned}
@@ -20,7 +22,7 @@ use Rattle.gix_date.specs.Numbers.{two_digits}
 use Rattle.gix_date.specs.NamedTexts.{local_time, IsOrdinary, ShowsText, short_pattern, short_text, rfc2822_pattern, rfc2822_text, git_rfc2822_pattern, git_rfc2822_text, iso8601_pattern, iso8601_text, iso8601_strict_pattern, iso8601_strict_text, gitoxide_pattern, gitoxide_text, default_pattern, default_text}
 use Rattle.gix_date.specs.Patterns.{short_layout, rfc2822_layout, iso8601_layout, iso8601_strict_layout, gitoxide_layout, default_layout}
 use Rattle.gix_date.proofs.Printing.{filled_parts}
-use Rattle.gix_date.proofs.ShownPieces.{AlwaysShows, InRange, ascii-bare, ascii-four, ascii-mark, ascii-month, ascii-strict-zone, ascii-two, ascii-weekday, ascii-zone, bare, context, in-range, joined, joined-is, concatenated, month-short, number, number-bare, number-four, number-two, shows-text, strict-zone-is, strict_config, weekday-short, year-is, zone-is}
+use Rattle.gix_date.proofs.ShownPieces.{AlwaysShows, InRange, ascii-bare, ascii-four, ascii-month, ascii-strict-zone, ascii-two, ascii-weekday, ascii-zone, bare, context, in-range, joined, joined-is, month-short, number, number-bare, number-four, number-two, shows-text, strict-zone-is, strict_config, weekday-short, year-is, zone-is}
 
 -- what `jiff` shows for a piece: the year apart, since it has a sign there
 abbrev pub jiff_piece : (ℕ → List ℕ) → Piece → ℤ → LocalTime → List (List ℕ)
@@ -60,11 +62,7 @@ two-shown = record { same = number-two; ascii = ascii-two }
 bare-shown : ShowsDay jiff_bare decimal
 bare-shown = record { same = λ n h. number-bare n; ascii = ascii-bare }
 
-concatenated-append : (xs ys : List (List ℕ)) → concatenated (xs ++ ys) ≡ concatenated xs ++ concatenated ys
-concatenated-append [] ys = refl
-concatenated-append (x ∷ xs) ys = ap (λ (t : List ℕ). x ++ t) (concatenated-append xs ys) ∙ sym (append_assoc x (concatenated xs) (concatenated ys))
-
-blank : (n : ℕ) → concatenated (replicate n []) ≡ []
+blank : (n : ℕ) → concat (replicate n []) ≡ []
 blank zero = refl
 blank (suc n) = blank n
 
@@ -72,7 +70,7 @@ alone : (x y : List ℕ) → x ≡ y → x ++ [] ≡ y
 alone x y e = append-nil x ∙ e
 
 piece-shown : {jiff_day day : ℕ → List ℕ} → ShowsDay jiff_day day → (p : Piece) (t : LocalTime) → InRange t
-    → concatenated (jiff_piece jiff_day p (pos t.date.year) t) ≡ print_piece day p t
+    → concat (jiff_piece jiff_day p (pos t.date.year) t) ≡ print_piece day p t
 piece-shown {jiff_day} {day} d DayName t r = alone _ _ (weekday-short t.weekday)
 piece-shown {jiff_day} {day} d MailDayName t r = rw (weekday-short t.weekday) refl
 piece-shown {jiff_day} {day} d MonthName t r = alone _ _ (month-short (t.date.month - 1))
@@ -88,16 +86,16 @@ piece-shown {jiff_day} {day} d ColonOffset t r = alone _ _ (strict-zone-is t.off
 piece-shown {jiff_day} {day} d MailOffset t r = alone _ _ (zone-is t.offset r.whole r.hours)
 
 pieces-shown : {jiff_day day : ℕ → List ℕ} → ShowsDay jiff_day day → (ps : List Piece) (t : LocalTime) (blanks : ℕ)
-    → InRange t → concatenated (jiff_pieces jiff_day ps (pos t.date.year) t blanks) ≡ print_pieces day ps t
+    → InRange t → concat (jiff_pieces jiff_day ps (pos t.date.year) t blanks) ≡ print_pieces day ps t
 pieces-shown {jiff_day} {day} d [] t blanks r = blank blanks
 pieces-shown {jiff_day} {day} d (p ∷ ps) t blanks r =
-    concatenated-append (jiff_piece jiff_day p (pos t.date.year) t) (jiff_pieces jiff_day ps (pos t.date.year) t blanks)
-    ∙ ap (λ (x : List ℕ). x ++ concatenated (jiff_pieces jiff_day ps (pos t.date.year) t blanks)) (piece-shown d p t r)
+    concat-append (jiff_piece jiff_day p (pos t.date.year) t) (jiff_pieces jiff_day ps (pos t.date.year) t blanks)
+    ∙ ap (λ (x : List ℕ). x ++ concat (jiff_pieces jiff_day ps (pos t.date.year) t blanks)) (piece-shown d p t r)
     ∙ ap (λ (x : List ℕ). print_piece day p t ++ x) (pieces-shown d ps t blanks r)
 
 -- what is printed is ASCII
 mark : (b : ℕ) → b < 128 → (t : List ℕ) → IsAscii t → IsAscii (b ∷ t)
-mark b h t a = ascii-mark b t h a
+mark b h t a = IsAscii-cons b t h a
 
 clock-ascii : (t : LocalTime) → InRange t
     → IsAscii (two_digits t.clock.hour ++ colon ∷ two_digits t.clock.minute ++ colon ∷ two_digits t.clock.second)

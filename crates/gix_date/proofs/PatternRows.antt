@@ -152,8 +152,9 @@ no-offset = refl
 colon-offset :
     Tells ColonOffset (codes "-00:30") (with_offset nothing_read (minus 1800))
     × Tells ColonOffset (codes "+00:00:01") (with_offset nothing_read (pos 1))
+    × Tells ColonOffset (codes "+25:59:59") (with_offset nothing_read (pos 93599))
 unfolding computing
-colon-offset = (refl, refl)
+colon-offset = (refl, refl, refl)
 
 no-colon-offset :
     Refuses (alone ColonOffset)
@@ -165,11 +166,15 @@ no-colon-offset = refl
 mail-offset :
     Tells MailOffset (codes "+0800") (with_offset nothing_read (pos 28800))
     × Tells MailOffset (codes "pSt") (with_offset nothing_read (minus 28800))
-    × Tells MailOffset (codes "UT") (with_offset nothing_read (pos 0))
+    × Tells MailOffset (codes "-2559") (with_offset nothing_read (minus 93540))
 unfolding computing
 mail-offset = (refl, refl, refl)
 
-zone-names : map mail_zone (codes "ut" ∷ codes "GMT" ∷ codes "EdT" ∷ codes "est" ∷ codes "CDT" ∷ codes "cst" ∷ codes "MDT" ∷ codes "mst" ∷ codes "pdt" ∷ codes "PST" ∷ []) ≡ map (λ (hours : ℕ). Some (minus (3600 * hours))) (0 ∷ 0 ∷ 4 ∷ 5 ∷ 5 ∷ 6 ∷ 6 ∷ 7 ∷ 7 ∷ 8 ∷ [])
+zone-names :
+    map mail_zone
+    (codes "ut" ∷ codes "GMT" ∷ codes "EdT" ∷ codes "est" ∷ codes "CDT" ∷ codes "cst" ∷ codes "MDT" ∷ codes "mst"
+    ∷ codes "pdt" ∷ codes "PST" ∷ [])
+    ≡ map (λ (hours : ℕ). Some (minus (3600 * hours))) (0 ∷ 0 ∷ 4 ∷ 5 ∷ 5 ∷ 6 ∷ 6 ∷ 7 ∷ 7 ∷ 8 ∷ [])
 unfolding computing
 zone-names = refl
 
@@ -243,7 +248,8 @@ no-iso8601 :
     Refuses iso8601_answer
     (codes "2022-08-17T22:04:58 +0200" ∷ codes "2022-08-17 22:04 +0200" ∷ codes "2022-08-17 22:04:58"
     ∷ codes "2022-08-17 22:04:58+0200" ∷ codes "2022-08-17 22:04:58 +02:00" ∷ codes "2022-08-17 22:04:61 +0200"
-    ∷ codes "2022-08-17 24:00:00 +0200" ∷ codes "2022-02-30 22:04:58 +2400" ∷ codes "22:04:58 2022-08-17 +0200" ∷ [])
+    ∷ codes "2022-08-17 24:00:00 +0200" ∷ codes "2022-02-30 22:04:58 +2400" ∷ codes "22:04:58 2022-08-17 +0200"
+    ∷ codes "9999-12-30 22:00:01 +0000" ∷ [])
 unfolding whole
 no-iso8601 = refl
 

@@ -1,7 +1,7 @@
 -- The pieces of a printed text.
 use Rattle.std.proofs.Common.{◌≡◌, ◌∙◌, ℕ, ℤ, pos, ◌+◌, ◌-◌, ◌/◌, ◌%◌, ◌<◌, ◌≤◌, ◌^◌, Bool, true, false, List, [], ◌∷◌, ◌++◌, Option, Ok, Err, Result, refl, sym, ap, arith, append_assoc, decimal, length, get_or, replicate, min, int_le, inl, inr, zero, suc, unsigned_abs, lit<, if◌then◌else◌, int_lt, map}
 use Rattle.std.specs.Prelude.{nat_lt}
-use Rattle.std.specs.List.{list_all}
+use Rattle.std.specs.List.{concat, list_all}
 use Rattle.std.proofs.lemmas.Bool.Decides.{nat_tests}
 use Rattle.gix_date.proofs.Instants.{both}
 use Rattle.std.proofs.lemmas.List.{append-nil}
@@ -88,13 +88,9 @@ abbrev pub joined : List ℕ → List (List ℕ) → List ℕ
 joined shown [] = shown
 joined shown (piece ∷ pieces) = joined (shown ++ piece) pieces
 
-abbrev pub concatenated : List (List ℕ) → List ℕ
-concatenated [] = []
-concatenated (piece ∷ pieces) = piece ++ concatenated pieces
-
-pub joined-is : (shown : List ℕ) (pieces : List (List ℕ)) → joined shown pieces ≡ shown ++ concatenated pieces
+pub joined-is : (shown : List ℕ) (pieces : List (List ℕ)) → joined shown pieces ≡ shown ++ concat pieces
 joined-is shown [] = sym (append-nil shown)
-joined-is shown (piece ∷ pieces) = joined-is (shown ++ piece) pieces ∙ append_assoc shown piece (concatenated pieces)
+joined-is shown (piece ∷ pieces) = joined-is (shown ++ piece) pieces ∙ append_assoc shown piece (concat pieces)
 
 -- a number of a directive with nothing between `%` and its letter, and with `-` there
 abbrev pub number : ℕ → ℤ → List ℕ
@@ -267,9 +263,6 @@ pub ascii-zone : (o : ℤ) → unsigned_abs o / 3600 < 100 → IsAscii (zone_tex
 ascii-zone o hours =
     IsAscii-cons _ (hours_and_minutes (unsigned_abs o)) (sign_of (int_lt o (pos 0)))
     (IsAscii-append (two_digits (unsigned_abs o / 3600)) (two_digits (unsigned_abs o % 3600 / 60)) (ascii-two _ hours) (ascii-two (unsigned_abs o % 3600 / 60) (omega arith)))
-
-pub ascii-mark : (b : ℕ) (t : List ℕ) → b < 128 → IsAscii t → IsAscii (b ∷ t)
-ascii-mark = IsAscii-cons
 
 pub ascii-strict-zone : (o : ℤ) → unsigned_abs o / 3600 < 100 → IsAscii (strict_zone_text o)
 ascii-strict-zone o hours =

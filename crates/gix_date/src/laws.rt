@@ -13,7 +13,7 @@ ghost use Rattle.gix_date.specs.Families.{RawText, BareEpoch, GitForm, answers_b
 ghost use Rattle.gix_date.specs.FixedZones.{IsFixedZone, IsSecondsPair, IsMonthsPair, less_seconds, less_months, total, Names, NamesAlike, IsSecondsBefore, NamesEarlier};
 ghost use Rattle.gix_date.specs.CanonicalHeader.{is_canonical_header};
 ghost use Rattle.gix_date.specs.FamilyLaws.{AreDisjoint, AreExclusive, AreOverlapping, ComesFirst, IgnoresMoment, Holds};
-ghost use Rattle.gix_date.specs.HeaderLaws.{ComesBack, AreAlike};
+ghost use Rattle.gix_date.specs.HeaderLaws.{CanonicalComesBack, ComesBackFromHeader, AreWrittenAlike};
 ghost use Rattle.gix_date.specs.HeaderReading.{header_time};
 ghost use Rattle.gix_date.specs.HeaderText.{header_text};
 ghost use Rattle.gix_date.specs.Relative.{RelativeDate, Before, IsNamed, relative_date};
@@ -59,7 +59,7 @@ use std::hash::Hash;
 pub fn headline(alloc: Global, text: &str, now: Option<Zoned<'_>>) -> Result<Time, Error>
     ensures first_family { Comes (first_family text.now) text.now now.entry result }
     ensures exclusive { AreDisjoint text.now }
-    ensures canonical { ComesBack text.now ↔ (is_canonical_header text.now ≡ true) }
+    ensures canonical { CanonicalComesBack text.now }
     ensures read_back { (time : Time) → IsPlainTime time → AreReadBack time }
 {
     disjoint(text);
@@ -169,14 +169,14 @@ pub fn printed(time: Time)
 
 /// A text comes back when it is read as a header and written exactly where it is canonical.
 pub fn canonical(text: &str)
-    ensures { ComesBack text.now ↔ (is_canonical_header text.now ≡ true) }
+    ensures { CanonicalComesBack text.now }
 {}
 
 /// A time whose offset is whole minutes, short of 100 hours either way, is read from its header text.
 pub fn written_is_read(time: Time)
     requires short { unsigned_abs time.offset < HUNDRED_HOURS }
     requires whole { unsigned_abs time.offset % 60 ≡ 0 }
-    ensures { IsSomeAnd (header_text time) (λ text. header_time text ≡ Some time) }
+    ensures { ComesBackFromHeader time }
 {}
 
 /// Two times with offsets short of 100 hours are written alike where these agree: the seconds, whether the offset is negative,
@@ -184,7 +184,7 @@ pub fn written_is_read(time: Time)
 pub fn alike(a: Time, b: Time)
     requires first { unsigned_abs a.offset < HUNDRED_HOURS }
     requires second { unsigned_abs b.offset < HUNDRED_HOURS }
-    ensures { (header_text a ≡ header_text b) ↔ AreAlike a b }
+    ensures { AreWrittenAlike a b }
 {}
 
 /// No text is of two of these families: raw, a bare epoch, and Git's own forms. None of the first two is relative.

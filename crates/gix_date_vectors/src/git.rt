@@ -3,7 +3,7 @@ use gix_date::{Error, Time, parse};
 use std::test::Fail;
 
 /// A row's name, a text, and the seconds and the offset of its time.
-pub(crate) const TIMES: [(&str, &str, i64, i32); 39] = [
+pub(crate) const TIMES: [(&str, &str, i64, i32); 44] = [
     (
         "git-dotted",
         "2008.02.14 20:30:45 -0500",
@@ -178,6 +178,26 @@ pub(crate) const TIMES: [(&str, &str, i64, i32); 39] = [
         1_203_021_045,
         0,
     ),
+    (
+        "hours-alone-and-an-offset",
+        "2008-02-14T20-05",
+        1_203_037_200,
+        -18_000,
+    ),
+    (
+        "offset-behind-a-space-and-a-colon",
+        "20080214T203045 -:05",
+        1_203_039_045,
+        -18_000,
+    ),
+    (
+        "offset-behind-a-space-and-a-colon",
+        "2008-02-14 20:30:45 \u{a0}-:05",
+        1_203_039_045,
+        -18_000,
+    ),
+    ("last-second", "2008-02-14 23:59:59", 1_203_033_599, 0),
+    ("fourth-part", "2008-02-14 20:30:45:x", 1_203_021_045, 0),
 ];
 
 #[test]
@@ -233,6 +253,9 @@ fn near_git_texts_are_refused_with_their_bytes(rt: HostRuntime) {
         ("sign-in-a-field", "20080214T+5"),
         ("no-ascii-in-a-field", "2008-02-1é 20:30:45"),
         ("no-ascii-in-a-field", "2008-02-14 20:30:45 é-05"),
+        ("compact-with-a-space", "20080214 20"),
+        ("digits-of-no-clock", "2008.02.14 20304500"),
+        ("offset-with-seconds", "2008.02.14 20:30:45 +050000"),
     ];
     for (row, text) in rows {
         let refusal = parse(rt.alloc(), text, None);

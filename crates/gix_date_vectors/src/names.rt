@@ -1,7 +1,8 @@
 //! Public names, each where it stands, and the traits that callers count on.
 use crate::caller::{
     Unresolved, absolute_date, asks_for_a_moment, authored, authored_in_utc, commit_time,
-    header_bytes, iso_date, kept_by_each, kept_in_header, log_date, read_canonical, resolved,
+    day_before, header_bytes, iso_date, kept_by_each, kept_in_header, log_date, read_canonical,
+    resolved,
 };
 use gix_date::parsing::TimeBuf;
 use gix_date::time::{CustomFormat, Format, format};
@@ -138,16 +139,25 @@ fn callers_answer(rt: HostRuntime) -> Result<(), Fail> {
 
 #[test]
 fn times_are_kept_by_each_format_with_a_clock(rt: HostRuntime) -> Result<(), Fail> {
+    let now = Time::new(1_698_400_800, 0).to_zoned()?;
     let time = Time::new(1_660_874_655, 28_800);
     assert!(rt; matches!(kept_by_each(rt.alloc(), time, None), Ok(times) if times == [time; 6]));
     let before = Time::new(-1, -86_340);
     assert!(rt;
-        matches!(kept_by_each(rt.alloc(), before, None), Ok(times) if times == [before; 6])
+        matches!(kept_by_each(rt.alloc(), before, Some(now)), Ok(times) if times == [before; 6])
     );
     let last = Time::new(253_402_207_199, 0);
-    let now = Time::new(0, 0).to_zoned().ok();
-    assert!(rt; matches!(kept_by_each(rt.alloc(), last, now), Ok(times) if times == [last; 6]));
+    assert!(rt; matches!(kept_by_each(rt.alloc(), last, None), Ok(times) if times == [last; 6]));
     Ok(())
+}
+
+#[test]
+fn a_day_before_has_the_same_offset(rt: HostRuntime) {
+    let time = Time::new(1_698_400_800, 90_000);
+    let before = Time::new(1_698_314_400, 90_000);
+    assert!(rt; matches!(day_before(rt.alloc(), time), Ok(day) if day == before));
+    let first = Time::new(-377_705_023_201, 0);
+    assert!(rt; matches!(day_before(rt.alloc(), first), Err(Error::Range)));
 }
 
 #[test]
@@ -163,8 +173,6 @@ fn laws_are_called_for_nothing_but_what_they_state() {
     laws::apart();
     let _ = laws::named_formats();
     let _ = laws::other_formats();
-    laws::printed(Time::new(0, 0));
-    laws::local_clock(Time::new(0, -1));
     laws::canonical("0 +0000");
     laws::written_is_read(Time::new(0, 60));
     laws::alike(Time::new(0, -30), Time::new(0, -1));
@@ -177,4 +185,21 @@ fn laws_are_called_for_nothing_but_what_they_state() {
     gix_date_tool::lines_are_unique();
     gix_date_tool::replies_are_unique();
     gix_date_tool::canonical_lines(b"0 +0000");
+}
+
+#[test]
+fn laws_are_called_for_what_they_state_of_a_time(rt: HostRuntime) -> Result<(), Fail> {
+    let time = Time::new(1_660_874_655, 28_800);
+    laws::printed(time);
+    laws::local_clock(time);
+    laws::read_back(time);
+    laws::raw_read_back(time);
+    laws::earlier(time, &[(1, 86_400)]);
+    let moment = time.to_zoned()?;
+    laws::yesterday(&moment);
+    laws::seconds_permute(&moment, &[(2, 86_400), (3, 3600)]);
+    laws::months_add(&moment, &[(1, 12), (2, 1)]);
+    let parsed = laws::headline(rt.alloc(), "5 -0130", Some(moment));
+    assert!(rt; matches!(parsed, Ok(raw) if raw == Time::new(5, -5400)));
+    Ok(())
 }

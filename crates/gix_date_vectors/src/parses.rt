@@ -39,6 +39,12 @@ fn dates_are_parsed(rt: HostRuntime) -> Result<(), Fail> {
             i64::MIN,
             53_100,
         ),
+        (
+            "offset-with-seconds",
+            "2022-08-18 12:45:06 +080059",
+            1_660_797_847,
+            28_859,
+        ),
     ];
     for (row, text, seconds, offset) in rows {
         assert_eq!(rt;
@@ -100,6 +106,12 @@ fn other_texts_are_refused_with_their_bytes(rt: HostRuntime) {
         ("raw-readings", "--123456 +0000"),
         ("raw-readings", "1234567 -+1+1+0"),
         ("raw-readings", "1 -+1+0+0"),
+        ("raw-no-quarter", "1 +0020"),
+        ("raw-with-seconds", "1 +000030"),
+        ("epoch-before-1970", "-100000000"),
+        ("two-at-signs", "@@5"),
+        ("second-of-99", "2022-08-18 12:45:99 +0000"),
+        ("default-without-its-day", "Aug 18 12:45:06 2022 +0800"),
     ];
     for (row, text) in rows {
         let refusal = parse(rt.alloc(), text, None);

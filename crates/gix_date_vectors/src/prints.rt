@@ -255,19 +255,55 @@ fn times_are_printed_by_any_pattern(rt: HostRuntime) -> Result<(), Fail> {
     Ok(())
 }
 
+/// Times that each format with a clock keeps, the third at the farthest offset, the last on the last day but one of the year 9999.
+const KEPT: [(i64, i32); 4] = [
+    (1_660_874_655, 28_800),
+    (0, 0),
+    (-1, -86_340),
+    (253_402_207_199, 0),
+];
+
 #[test]
 fn printed_dates_are_parsed_back(rt: HostRuntime) -> Result<(), Fail> {
-    let time = Time::new(1_660_874_655, 28_800);
-    for format in [
+    let moment = Time::new(1_698_400_800, 0).to_zoned()?;
+    let formats = [
         RFC2822,
         GIT_RFC2822,
         ISO8601,
         ISO8601_STRICT,
         GITOXIDE,
         DEFAULT,
-    ] {
-        let text = time.format(rt.alloc(), format.into())?;
-        assert_eq!(rt; parse(rt.alloc(), text.as_str(), None)?, time, "{text}");
+    ];
+    for (seconds, offset) in KEPT {
+        let time = Time::new(seconds, offset);
+        for format in formats {
+            let text = time.format(rt.alloc(), format.into())?;
+            for now in [None, Some(moment)] {
+                assert_eq!(rt; parse(rt.alloc(), text.as_str(), now)?, time, "{text}");
+            }
+        }
+    }
+    Ok(())
+}
+
+#[test]
+fn raw_texts_and_bare_seconds_are_parsed_back(rt: HostRuntime) -> Result<(), Fail> {
+    let moment = Time::new(1_698_400_800, 0).to_zoned()?;
+    let rows = [
+        (1_660_874_655, 28_800, RAW),
+        (0, 0, RAW),
+        (-1, -900, RAW),
+        (i64::MIN, 53_100, RAW),
+        (i64::MAX, -53_100, RAW),
+        (100_000_000, 0, UNIX),
+        (i64::MAX, 0, UNIX),
+    ];
+    for (seconds, offset, format) in rows {
+        let time = Time::new(seconds, offset);
+        let text = time.format(rt.alloc(), format)?;
+        for now in [None, Some(moment)] {
+            assert_eq!(rt; parse(rt.alloc(), text.as_str(), now)?, time, "{text}");
+        }
     }
     Ok(())
 }

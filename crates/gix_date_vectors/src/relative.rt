@@ -467,6 +467,7 @@ fn words_that_are_no_pairs_are_refused(rt: HostRuntime) -> Result<(), Fail> {
         "2 ago",
         "3 fortnights 2 ago",
         "a week ago",
+        "an hour",
         "noon",
         "tomorrow",
         "zero days ago",

@@ -183,7 +183,7 @@ pub fn parse_header(input: &str) -> Option<Time>
     parse_any_header(input)
 }
 
-/// The same, of any text.
+/// The time of a commit header in any form, by its words.
 #[tactic(auto, unfolding(crate::specs::HeaderReading::header_time, crate::specs::HeaderReading::time_of_words))]
 fn parse_any_header(input: &str) -> Option<Time>
     ensures { result ≡ header_time input.now }

@@ -1,4 +1,4 @@
-//! Headers as they are mostly written: a number, one space, and an offset of four digits.
+//! Headers as nearly all are written: a number, one space, and an offset of four digits.
 ghost use Rattle.std.specs.Prelude.{◌≡◌, ◌<◌, ◌^◌, IfSome, Some, length, true};
 ghost use Rattle.std.specs.Str.{all_ascii_digits};
 ghost use Rattle.std.specs.Str.Parse.{digits_value};
@@ -14,7 +14,8 @@ const MOST_DIGITS: usize = 18;
 /// The bytes of a space and of an offset such as `+0800`.
 const ZONE_BYTES: usize = 6;
 
-/// The time of a header that is written plainly. `None` says nothing of a text.
+/// The time of a header in the form that nearly all have: a number of up to 18 digits, one space, and an offset of four digits. That is
+/// read in one pass over the bytes, without a search for words. `None` says of a text only that it has another form.
 pub(crate) fn parse_plain(input: &str) -> Option<Time>
     ensures { IfSome result (λ t. header_time input.now ≡ Some t) }
 {

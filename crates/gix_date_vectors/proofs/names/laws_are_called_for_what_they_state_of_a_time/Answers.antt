@@ -1,0 +1,25 @@
+use Rattle.std.proofs.Common.{◌≡◌, ◌∙◌, ap, arith}
+use Rattle.jiff.specs.Words.{plain_zoned}
+use Rattle.gix_date.specs.Layout.{LocalTime}
+use Rattle.gix_date.specs.LocalClocks.{clock_of, date_of_day}
+use Rattle.gix_date.specs.declared.time.Time.{Time}
+use Rattle.gix_date_vectors.proofs.names.laws_are_called_for_what_they_state_of_a_time.Goals as goal
+
+pub yesterday-requires : goal.yesterday-requires
+yesterday-requires g c = let m = c.in_ok-moment.ensures.value in record { fixed = (m.zone.0, m.zone.2) }
+
+pub seconds_permute-requires-clause-fixed : goal.seconds_permute-requires-clause-fixed
+seconds_permute-requires-clause-fixed g c = let m = c.in_ok-moment.ensures.value in (m.zone.0, m.zone.2)
+
+pub months_add-requires-clause-fixed : goal.months_add-requires-clause-fixed
+months_add-requires-clause-fixed g c = let m = c.in_ok-moment.ensures.value in (m.zone.0, m.zone.2)
+
+-- its own clock shows 2022-08-19, and so does the moment's
+pub months_add-requires-clause-day : goal.months_add-requires-clause-day
+unfolding clock_of date_of_day
+months_add-requires-clause-day g c =
+    let shown = c.local_clock.ensures.shown c.in_ok-moment.moment c.in_ok-moment.ensures.value in
+    let time = c.new-time.ensures in
+    let day : (plain_zoned c.in_ok-moment.moment).datetime.date.day ≡ 19 =
+    ap (λ (l : LocalTime). l.date.day) shown ∙ ap (λ (t : Time). (clock_of t).date.day) time in
+    omega (arith, day)
