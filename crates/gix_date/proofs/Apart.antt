@@ -15,7 +15,7 @@ use Rattle.gix_date.specs.PatternFields.{behind_day_name, behind_spaces, read_na
 use Rattle.gix_date.specs.Patterns.{time_answer, short_answer, rfc2822_answer, iso8601_answer, iso8601_strict_answer, gitoxide_answer, default_answer}
 use Rattle.gix_date.proofs.FieldsRead.{Begins, BeginsNot, Excludes, begins-append, begins_not, digit-no-letter, letter-no-digit, space-no-digit, digit-no-space, field-begins, year-begins, name-begins, weekday-read, date-read}
 use Rattle.gix_date.proofs.FieldsTaken.{went, behind-taken}
-use Rattle.gix_date.proofs.Layouts.{piece-taken, apart-behind, mail-front, short-spelled, iso8601-spelled, iso8601_strict-spelled, gitoxide-spelled, default-spelled}
+use Rattle.gix_date.proofs.Layouts.{piece-taken, apart-behind, mail-front, dates_spelled}
 use Rattle.gix_date.specs.Families.{answers_before_git}
 use Rattle.gix_date.specs.Layout.{LocalTime, Piece, DayName, MonthName, Day, Year, PlainDate, Clock, Spaces, LetterT, Offset, ColonOffset, read_pieces, nothing_read, ArePieces}
 use Rattle.gix_date.specs.declared.parsing.civil.DateFields.{DateFields}
@@ -175,7 +175,7 @@ named-no-epoch name rest text h split = ap epoch_time split ∙ no-epoch-letter 
 
 default-alone : (text : List ℕ) (answer : FamilyAnswer) → default_answer text ≡ Some answer → NoneFrom 7 text
 default-alone text answer e =
-    let h = ((default-spelled text answer).0 e).are in
+    let h = ((dates_spelled.by_default text answer).0 e).are in
     rw (named-no-epoch h.front h.rest text h.is h.whole) refl
 
 -- no clock begins with a year
@@ -202,7 +202,7 @@ year-no-clock g more other next x y e =
 gitoxide-alone : (text : List ℕ) (answer : FamilyAnswer) → gitoxide_answer text ≡ Some answer → NoneFrom 6 text
 unfolding gitoxide_answer default_answer
 gitoxide-alone text answer e =
-    let h = ((gitoxide-spelled text answer).0 e).are in
+    let h = ((dates_spelled.gitoxide text answer).0 e).are in
     let begin = DayName ∷ Spaces ∷ MonthName ∷ Spaces ∷ Day ∷ Spaces ∷ [] in
     let one = Spaces ∷ Clock ∷ Spaces ∷ Offset ∷ [] in
     let other = Spaces ∷ Year ∷ Spaces ∷ Offset ∷ [] in
@@ -218,7 +218,7 @@ plain-first more time text h = subst AfterPlainDate (sym h.whole) (after-plain h
 
 strict-alone : (text : List ℕ) (answer : FamilyAnswer) → iso8601_strict_answer text ≡ Some answer → NoneFrom 5 text
 strict-alone text answer e =
-    let a = (iso8601_strict-spelled text answer).0 e in
+    let a = (dates_spelled.iso8601_strict text answer).0 e in
     plain-alone text (plain-first (LetterT ∷ Clock ∷ ColonOffset ∷ []) a.time text a.are)
 
 no-t : (gap rest : List ℕ) → AreSpaces gap → behind letter_t (gap ++ rest) ≡ None
@@ -240,7 +240,7 @@ spaces-no-t g more other next x y e =
 iso8601-alone : (text : List ℕ) (answer : FamilyAnswer) → iso8601_answer text ≡ Some answer → NoneFrom 4 text
 unfolding iso8601_answer iso8601_strict_answer
 iso8601-alone text answer e =
-    let a = (iso8601-spelled text answer).0 e in
+    let a = (dates_spelled.iso8601 text answer).0 e in
     let one = Clock ∷ Spaces ∷ Offset ∷ [] in
     let other = Clock ∷ ColonOffset ∷ [] in
     let plain = plain-first (Spaces ∷ one) a.time text a.are in
@@ -314,7 +314,7 @@ mail-alone text answer e =
 short-alone : (text : List ℕ) (answer : FamilyAnswer) → short_answer text ≡ Some answer → NoneFrom 2 text
 unfolding iso8601_answer iso8601_strict_answer behind_spaces behind
 short-alone text answer e =
-    let a = (short-spelled text answer).0 e in
+    let a = (dates_spelled.short text answer).0 e in
     let plain = plain-first [] a.time text a.are in
     let read : read_plain_date text ≡ Some (a.time.date, []) = ap read_plain_date (a.are.whole ∙ ap (λ (t : List ℕ). a.are.front ++ t) a.are.more) ∙ date-read a.are.front [] a.time.date a.are.is tt in
     let iso8601 : iso8601_answer text ≡ None = rw read refl in

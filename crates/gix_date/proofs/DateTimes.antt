@@ -30,7 +30,8 @@ after_year d more month day =
     let end : epoch_day d ≡ pos 2_932_896 = here ∙ ap (λ (y : ℤ). days_from_civil y 12 31) last ∙ days_from_civil-max in
     absurd (omega (arith, signed_arith, end, more)))
 
-after_month : (d : Date) → epoch_day d <ℤ pos 2_932_896 → d.day ≡ days_in_month d.year d.month → IsDayOf (epoch_day d +ℤ pos 1)
+after_month : (d : Date) → epoch_day d <ℤ pos 2_932_896 → d.day ≡ days_in_month d.year d.month
+    → IsDayOf (epoch_day d +ℤ pos 1)
 after_month d more last =
     let month_in = d.month_in in
     elim (cases_order d.month 12) [
@@ -93,7 +94,8 @@ clock_exists n h = (
 abbrev IsDateTimeOf : ℤ → Type 0
 IsDateTimeOf n = (dt : DateTime) × (civil_nanos dt ≡ n)
 
-datetime_of : (n : ℤ) → IsDayOf (int_div_euclid n (pos 86_400_000_000_000)) → IsClockOf (unsigned_abs (int_rem_euclid n (pos 86_400_000_000_000))) → IsDateTimeOf n
+datetime_of : (n : ℤ) → IsDayOf (int_div_euclid n (pos 86_400_000_000_000))
+    → IsClockOf (unsigned_abs (int_rem_euclid n (pos 86_400_000_000_000))) → IsDateTimeOf n
 datetime_of n (date, day) (time, clock) =
     let dt : DateTime = record { date = date; time = time } in
     (dt, omega (arith, signed_arith, civil_nanos-parts dt, day, clock))

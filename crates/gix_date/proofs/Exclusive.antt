@@ -37,7 +37,7 @@ use Rattle.gix_date.proofs.FieldsRead.{Begins, name-begins, letter-no-digit, yea
 use Rattle.gix_date.proofs.FieldsTaken.{went, behind-taken, weekday-taken}
 use Rattle.gix_date.proofs.FirstWords.{AreVisible, visible_stays, are-ascii, first-begins, trimmed-words}
 use Rattle.gix_date.proofs.Instants.{both}
-use Rattle.gix_date.proofs.Layouts.{mail-front, short-spelled, rfc2822-spelled, iso8601-spelled, iso8601_strict-spelled, gitoxide-spelled, default-spelled}
+use Rattle.gix_date.proofs.Layouts.{mail-front, dates_spelled}
 use Rattle.gix_date.proofs.QuietWords.{IsQuiet, no-relative}
 use Rattle.gix_date.proofs.QuietDates.{quiet-behind, quiet-short, quiet-mail, quiet-iso8601, quiet-strict, quiet-gitoxide, quiet-default, quiet-int, field-digits, year-digits}
 use Rattle.gix_date.proofs.ReadBack.{first-at}
@@ -183,7 +183,7 @@ visible-append (c ∷ s) t h k = (h.0, visible-append s t h.1 k)
 short-no-git : (text : List ℕ) (answer : FamilyAnswer) → short_answer text ≡ Some answer → git_time text ≡ None
 unfolding git_time
 short-no-git text answer e =
-    let a = (short-spelled text answer).0 e in
+    let a = (dates_spelled.short text answer).0 e in
     let h = a.are.is in
     let split : text ≡ day_text h.year h.month h.day =
     a.are.whole ∙ ap (λ (r : List ℕ). a.are.front ++ r) a.are.more ∙ append-nil a.are.front ∙ h.whole ∙ append_assoc h.year (minus ∷ h.month) (minus ∷ h.day) in
@@ -513,7 +513,7 @@ short-not-relative text = by_answer (short_answer text) refl
     by_real false date = tt
 
     by_answer : (found : Option FamilyAnswer) → short_answer text ≡ found → IsNotRelative found
-    by_answer (Some x) e = let k = (short-spelled text x).0 e in subst IsNotRelative k.comes (by_real (is_date k.time.date) k.time.date)
+    by_answer (Some x) e = let k = (dates_spelled.short text x).0 e in subst IsNotRelative k.comes (by_real (is_date k.time.date) k.time.date)
     by_answer None e = tt
 
 date-not : (layout : List Piece) (family : Family) (text : List ℕ) → Spells (family_answer family) (IsAnswered layout time_answer) → IsNotRelative (family_answer family text)
@@ -543,15 +543,15 @@ counting text date e =
       (
         short-not-relative text,
         (
-          date-not rfc2822_layout Rfc2822 text rfc2822-spelled,
+          date-not rfc2822_layout Rfc2822 text dates_spelled.rfc2822,
           (
-            date-not iso8601_layout Iso8601 text iso8601-spelled,
+            date-not iso8601_layout Iso8601 text dates_spelled.iso8601,
             (
-              date-not iso8601_strict_layout Iso8601Strict text iso8601_strict-spelled,
+              date-not iso8601_strict_layout Iso8601Strict text dates_spelled.iso8601_strict,
               (
-                date-not gitoxide_layout Gitoxide text gitoxide-spelled,
+                date-not gitoxide_layout Gitoxide text dates_spelled.gitoxide,
                 (
-                  date-not default_layout GitDefault text default-spelled,
+                  date-not default_layout GitDefault text dates_spelled.by_default,
                   (not-relative (epoch_time text), (not-relative (git_time text), tt)),
                 ),
               ),
@@ -583,10 +583,10 @@ plain-ignores text n = by_answer (first_family text) refl
 git-ignores-by : (text : List ℕ) (iso strict : Option FamilyAnswer) → IsUtf8 text → family_answer Iso8601 text ≡ iso → family_answer Iso8601Strict text ≡ strict → Holds GitForm text → IgnoresMoment text
 git-ignores-by text (Some x) strict u p q h =
     let k = ap is_some p in
-    ignores-by (family_answer Iso8601 text) text (alone-first Iso8601 text u (differ Iso8601 GitForm refl) (differ Iso8601 RelativeText refl) k) (dated iso8601_layout Iso8601 text iso8601-spelled k)
+    ignores-by (family_answer Iso8601 text) text (alone-first Iso8601 text u (differ Iso8601 GitForm refl) (differ Iso8601 RelativeText refl) k) (dated iso8601_layout Iso8601 text dates_spelled.iso8601 k)
 git-ignores-by text None (Some x) u p q h =
     let k = ap is_some q in
-    ignores-by (family_answer Iso8601Strict text) text (alone-first Iso8601Strict text u (differ Iso8601Strict GitForm refl) (differ Iso8601Strict RelativeText refl) k) (dated iso8601_strict_layout Iso8601Strict text iso8601_strict-spelled k)
+    ignores-by (family_answer Iso8601Strict text) text (alone-first Iso8601Strict text u (differ Iso8601Strict GitForm refl) (differ Iso8601Strict RelativeText refl) k) (dated iso8601_strict_layout Iso8601Strict text dates_spelled.iso8601_strict k)
 git-ignores-by text None None u p q h =
     ignores-by (family_answer GitForm text) text (git-first text u p q h) (not-relative (git_time text))
 

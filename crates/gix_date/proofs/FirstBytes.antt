@@ -1,4 +1,4 @@
--- What no text is that begins so.
+-- Which texts are not raw, not of a Git form and no plain date, by their first bytes.
 use Rattle.std.proofs.Common.{◌≡◌, ◌∙◌, ℕ, ℤ, true, false, List, [], ◌∷◌, ◌++◌, refl, ap, sym, subst, Some, None, IsUtf8}
 use Rattle.std.specs.Char.{is_ascii_digit}
 use Rattle.std.specs.Str.{trim}
@@ -37,7 +37,7 @@ int-no-byte c t n h e =
     head_same : (a b : ℕ) (xs ys : List ℕ) → a ∷ xs ≡ b ∷ ys → a ≡ b
     head_same a b xs ys e = cc
 
--- nor with a visible byte of no number; no Git text begins with one of no digit
+-- no raw text begins with a visible byte that is no digit and no sign, and no Git text with one that is no digit
 pub no-raw-byte : (c : ℕ) (t : List ℕ) → is_visible c ≡ true → is_number_byte c ≡ false → raw_time (c ∷ t) ≡ None
 no-raw-byte c t v h = none-unless (raw_time (c ∷ t)) (λ u e.
     let f = raw-first (c ∷ t) (raw-words (c ∷ t) u e) in

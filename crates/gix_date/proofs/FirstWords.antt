@@ -22,10 +22,6 @@ skip-runs : (cs : List ℕ) → runs (skip_leading_whitespace cs) ≡ runs cs
 skip-runs [] = refl
 skip-runs (c ∷ cs) = skip-by c cs (is_whitespace c) refl (skip-runs cs)
 
-and_then : (a b : Bool) → b ≡ true → (a && b) ≡ true → a ≡ true
-and_then true b h e = refl
-and_then false b h e = e
-
 skip-scalars-by : (c : ℕ) (cs : List ℕ) (b : Bool) → all_scalars (c ∷ cs) ≡ true → all_scalars (skip_leading_whitespace cs) ≡ true → all_scalars (cond b (skip_leading_whitespace cs) (c ∷ cs)) ≡ true
 skip-scalars-by c cs true h more = more
 skip-scalars-by c cs false h more = h
@@ -85,9 +81,6 @@ drop-runs cs =
     let h = trails cs in
     let ts = slice_split is_whitespace (drop_trailing_whitespace cs) in
     sym (ap (filter is_nonempty) h.is ∙ filter-append is_nonempty ts h.empty ∙ ap (λ (ps : List (List ℕ)). filter is_nonempty ts ++ ps) h.none ∙ append-nil (filter is_nonempty ts))
-
-drop-scalars-by : (c : ℕ) (ts : List ℕ) (a b : Bool) → (a && all_scalars ts) ≡ true → (a && all_scalars ts) ≡ true → all_scalars (cond b [] ts) ≡ true → all_scalars (cond b [] ts) ≡ true
-drop-scalars-by c ts a b h k m = m
 
 join : (a b : Bool) → a ≡ true → b ≡ true → (a && b) ≡ true
 join true true p q = refl

@@ -22,7 +22,9 @@ abbrev IsEarlierInstant : Zoned → ℤ → ℤ → Type 0
 IsEarlierInstant z n j = (j ≡ zoned_nanos z -ℤ nanos_of_seconds n) × IsTimestampNanos j
 
 -- a date that reaches the instant so many seconds before, where it is one
-pub names-earlier : (date : RelativeDate) (t : Time) (n : ℤ) → ((z : Zoned) → IsMoment t z → (j : ℤ) → Reaches date (zone_of z) (zoned_nanos z) j ↔ IsEarlierInstant z n j) → NamesEarlier date t n
+pub names-earlier : (date : RelativeDate) (t : Time) (n : ℤ)
+    → ((z : Zoned) → IsMoment t z → (j : ℤ) → Reaches date (zone_of z) (zoned_nanos z) j ↔ IsEarlierInstant z n j)
+    → NamesEarlier date t n
 names-earlier date t n law z m r =
     let nanos = nanos_of_seconds (t.seconds -ℤ n) in (
       λ h.
@@ -48,7 +50,8 @@ pub yesterday-earlier : (t : Time) → NamesEarlier (Before (pos 86_400)) t (pos
 yesterday-earlier t = names-earlier (Before (pos 86_400)) t (pos 86_400) (λ z m j. (λ h. h, λ h. h))
 
 -- An instant that is reached lies within `jiff`'s range, so an i64 holds what was taken off the moment.
-pub seconds-earlier : (t : Time) (pairs : List (ℤ × ℤ)) → All IsLoss pairs → NamesEarlier (less_seconds pairs) t (total pairs)
+pub seconds-earlier : (t : Time) (pairs : List (ℤ × ℤ)) → All IsLoss pairs
+    → NamesEarlier (less_seconds pairs) t (total pairs)
 seconds-earlier t pairs loss = names-earlier (less_seconds pairs) t (total pairs) (λ z m j.
     let range = (plain_zoned z).timestamp.in_range in
     let law = seconds-law (zone_of z) m.zone.0 m.zone.2 pairs (zoned_nanos z) loss range j in

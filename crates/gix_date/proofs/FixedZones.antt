@@ -25,9 +25,11 @@ use Rattle.gix_date.specs.declared.parsing.relative.words.TimeUnit.TheVariants.{
 
 -- what such a zone picks is the clock less the offset
 pub fixed-picked : (o : Offset) (civil j : ℤ) → IsPicked (fixed_zone o) civil j → j ≡ civil -ℤ nanos_of_seconds o.seconds
-fixed-picked o civil j h = h.is_choice ∙ picked_instant-fixed_zone o h.shown ∙ ap (λ (n : ℤ). n -ℤ nanos_of_seconds o.seconds) h.civil_is
+fixed-picked o civil j h =
+    h.is_choice ∙ picked_instant-fixed_zone o h.shown ∙ ap (λ (n : ℤ). n -ℤ nanos_of_seconds o.seconds) h.civil_is
 
-pub fixed-local : (o : Offset) (i : ℤ) (dt : DateTime) → IsLocal (fixed_zone o) i dt → civil_nanos dt ≡ i +ℤ nanos_of_seconds o.seconds
+pub fixed-local : (o : Offset) (i : ℤ) (dt : DateTime) → IsLocal (fixed_zone o) i dt
+    → civil_nanos dt ≡ i +ℤ nanos_of_seconds o.seconds
 fixed-local o i dt h = h ∙ ap (λ (s : ℤ). i +ℤ nanos_of_seconds s) (offset_at-fixed_zone o i)
 
 -- so what its clock shows settles at the instant itself
@@ -37,13 +39,15 @@ fixed-settles o i j h =
     let picked = fixed-picked o (civil_nanos h.local) j h.picked in
     omega (arith, signed_arith, shown, picked)
 
-pub fixed-picks : (o : Offset) (dt : DateTime) (j : ℤ) → j ≡ civil_nanos dt -ℤ nanos_of_seconds o.seconds → IsTimestampNanos j → IsPicked (fixed_zone o) (civil_nanos dt) j
+pub fixed-picks : (o : Offset) (dt : DateTime) (j : ℤ) → j ≡ civil_nanos dt -ℤ nanos_of_seconds o.seconds
+    → IsTimestampNanos j → IsPicked (fixed_zone o) (civil_nanos dt) j
 fixed-picks o dt j e range = record { shown = dt; civil_is = refl; is_choice = e ∙ sym (picked_instant-fixed_zone o dt); in_range = range }
 
 pub fixed-settles-exists : (o : Offset) (i : ℤ) → IsTimestampNanos i → Settles (fixed_zone o) i i
 fixed-settles-exists o i range =
     let in_offset = o.in_range in
-    let clock : IsCivilNanos (i +ℤ nanos_of_seconds o.seconds) = (omega (arith, signed_arith, range, in_offset), omega (arith, signed_arith, range, in_offset)) in
+    let clock : IsCivilNanos (i +ℤ nanos_of_seconds o.seconds) =
+    (omega (arith, signed_arith, range, in_offset), omega (arith, signed_arith, range, in_offset)) in
     let found = datetime_exists (i +ℤ nanos_of_seconds o.seconds) clock in
     let back : i ≡ (civil_nanos found.0 -ℤ nanos_of_seconds o.seconds) = omega (arith, signed_arith, found.1) in
     record {
@@ -53,10 +57,12 @@ fixed-settles-exists o i range =
     }
 
 -- a step of seconds is a plain difference, and exists wherever that is an instant
-pub fixed-seconds : (o : Offset) (n i j : ℤ) → SecondsStep (fixed_zone o) n i j → (j ≡ i -ℤ nanos_of_seconds n) × IsTimestampNanos j
+pub fixed-seconds : (o : Offset) (n i j : ℤ) → SecondsStep (fixed_zone o) n i j
+    → (j ≡ i -ℤ nanos_of_seconds n) × IsTimestampNanos j
 fixed-seconds o n i j h = (fixed-settles o (i -ℤ nanos_of_seconds n) j h.settles, h.settles.picked.in_range)
 
-pub fixed-seconds-exists : (o : Offset) (n i : ℤ) → IsTimestampNanos (i -ℤ nanos_of_seconds n) → SecondsStep (fixed_zone o) n i (i -ℤ nanos_of_seconds n)
+pub fixed-seconds-exists : (o : Offset) (n i : ℤ) → IsTimestampNanos (i -ℤ nanos_of_seconds n)
+    → SecondsStep (fixed_zone o) n i (i -ℤ nanos_of_seconds n)
 fixed-seconds-exists o n i range = record { in_range = range; settles = fixed-settles-exists o (i -ℤ nanos_of_seconds n) range }
 
 -- Lists of pairs.
@@ -66,7 +72,8 @@ abbrev pub IsLoss : ℤ × ℤ → Type 0
 IsLoss p = pos 0 ≤ℤ product p
 
 -- their sum, by the list's own sum, which is the same in any order
-pub total-sum_by : (pairs : List (ℤ × ℤ)) → All IsLoss pairs → total pairs ≡ pos (sum_by (λ p. unsigned_abs (product p)) pairs)
+pub total-sum_by : (pairs : List (ℤ × ℤ)) → All IsLoss pairs
+    → total pairs ≡ pos (sum_by (λ p. unsigned_abs (product p)) pairs)
 total-sum_by [] loss = refl
 total-sum_by (p ∷ more) loss =
     let first = All-head IsLoss p more loss in
@@ -116,7 +123,8 @@ seconds-chain-back o (p ∷ more) i j loss range (e, fits, last) =
     let between : IsTimestampNanos next =
     (omega (arith, signed_arith, e, last, range, falls, left), omega (arith, signed_arith, range, falls)) in
     let due : j ≡ (next -ℤ nanos_of_seconds (total more)) = omega (arith, signed_arith, e) in
-    let later = seconds-chain-back o more next j (All-tail IsLoss p more loss) between (due, All-tail ProductFits p more fits, last) in
+    let later =
+    seconds-chain-back o more next j (All-tail IsLoss p more loss) between (due, All-tail ProductFits p more fits, last) in
     (next, (All-head ProductFits p more fits, fixed-seconds-exists o (product p) i between), later)
 
 -- Relative dates of such pairs.
@@ -195,10 +203,12 @@ pub record IsPlaced (o : Offset) (day : ℕ) (time : Time) (m : ℤ) : Type 0 wh
   pub year_in : IsYear (int_div_euclid m (pos 12))
   pub in_range : IsTimestampNanos (place o day time m)
 
-month-in : (m : ℤ) → (1 ≤ unsigned_abs (int_rem_euclid m (pos 12)) + 1) × (unsigned_abs (int_rem_euclid m (pos 12)) + 1 ≤ 12)
+month-in : (m : ℤ)
+    → (1 ≤ unsigned_abs (int_rem_euclid m (pos 12)) + 1) × (unsigned_abs (int_rem_euclid m (pos 12)) + 1 ≤ 12)
 month-in m = omega (arith, signed_arith)
 
-long-enough : (m : ℤ) (day : ℕ) → IsSmall day → (1 ≤ day) × (day ≤ days_in_month (int_div_euclid m (pos 12)) (unsigned_abs (int_rem_euclid m (pos 12)) + 1))
+long-enough : (m : ℤ) (day : ℕ) → IsSmall day
+    → (1 ≤ day) × (day ≤ days_in_month (int_div_euclid m (pos 12)) (unsigned_abs (int_rem_euclid m (pos 12)) + 1))
 long-enough m day small =
     let long = days_in_month_bounds (int_div_euclid m (pos 12)) (unsigned_abs (int_rem_euclid m (pos 12)) + 1) in
     (small.0, omega (arith, long, small.1))
@@ -219,17 +229,21 @@ shown-there m day time small year = record {
 number-there : (m : ℤ) → int_div_euclid m (pos 12) *ℤ pos 12 +ℤ pos (unsigned_abs (int_rem_euclid m (pos 12)) + 1 - 1) ≡ m
 number-there m = omega (arith, signed_arith)
 
-civil-there : (m : ℤ) (day : ℕ) (time : Time) (small : IsSmall day) (year : IsYear (int_div_euclid m (pos 12))) → civil_nanos (shown-there m day time small year) ≡ civil_of (month_start m +ℤ (pos day -ℤ pos 1)) time
+civil-there : (m : ℤ) (day : ℕ) (time : Time) (small : IsSmall day) (year : IsYear (int_div_euclid m (pos 12)))
+    → civil_nanos (shown-there m day time small year) ≡ civil_of (month_start m +ℤ (pos day -ℤ pos 1)) time
 civil-there m day time small year =
     let dt = shown-there m day time small year in
     omega (arith, signed_arith, civil_nanos-parts dt, days_from_civil-day (int_div_euclid m (pos 12)) (unsigned_abs (int_rem_euclid m (pos 12)) + 1) 1 day (omega arith) small.0)
 
-local-there : (o : Offset) (m : ℤ) (day : ℕ) (time : Time) (small : IsSmall day) (year : IsYear (int_div_euclid m (pos 12))) → IsLocal (fixed_zone o) (place o day time m) (shown-there m day time small year)
+local-there : (o : Offset) (m : ℤ) (day : ℕ) (time : Time) (small : IsSmall day) (year : IsYear (int_div_euclid m (pos 12)))
+    → IsLocal (fixed_zone o) (place o day time m) (shown-there m day time small year)
 local-there o m day time small year =
-    let clock : civil_nanos (shown-there m day time small year) ≡ place o day time m +ℤ nanos_of_seconds o.seconds = omega (arith, signed_arith, civil-there m day time small year) in
+    let clock : civil_nanos (shown-there m day time small year) ≡ place o day time m +ℤ nanos_of_seconds o.seconds =
+    omega (arith, signed_arith, civil-there m day time small year) in
     clock ∙ ap (λ (s : ℤ). place o day time m +ℤ nanos_of_seconds s) (sym (offset_at-fixed_zone o (place o day time m)))
 
-picked-there : (o : Offset) (m : ℤ) (day : ℕ) (time : Time) → IsSmall day → IsPlaced o day time m → IsPicked (fixed_zone o) (civil_of (month_start m +ℤ (pos day -ℤ pos 1)) time) (place o day time m)
+picked-there : (o : Offset) (m : ℤ) (day : ℕ) (time : Time) → IsSmall day → IsPlaced o day time m
+    → IsPicked (fixed_zone o) (civil_of (month_start m +ℤ (pos day -ℤ pos 1)) time) (place o day time m)
 picked-there o m day time small h =
     let dt = shown-there m day time small h.year_in in
     let civil = civil-there m day time small h.year_in in
@@ -241,20 +255,25 @@ Goes o day time n j number =
     FitsSigned w64 (number -ℤ n) × IsYear (int_div_euclid (number -ℤ n) (pos 12)) × IsPicked (fixed_zone o) (civil_of (month_start (number -ℤ n) +ℤ (pos day -ℤ pos 1)) time) j
 
 -- leads to the same day of an earlier month
-pub months-to : (o : Offset) (day : ℕ) (time : Time) (m n j : ℤ) → IsSmall day → IsPlaced o day time m → MonthsStep (fixed_zone o) n (place o day time m) j → IsPlaced o day time (m -ℤ n) × (j ≡ place o day time (m -ℤ n))
+pub months-to : (o : Offset) (day : ℕ) (time : Time) (m n j : ℤ) → IsSmall day → IsPlaced o day time m
+    → MonthsStep (fixed_zone o) n (place o day time m) j → IsPlaced o day time (m -ℤ n) × (j ≡ place o day time (m -ℤ n))
 months-to o day time m n j small here h =
     let dt = shown-there m day time small here.year_in in
     let same : h.local ≡ dt = same_datetime h.local dt (h.local_is ∙ sym (local-there o m day time small here.year_in)) in
-    let from : MonthsFrom (fixed_zone o) n j dt = subst (MonthsFrom (fixed_zone o) n j) same (h.fits, h.year_in, h.picked) in
+    let from : MonthsFrom (fixed_zone o) n j dt =
+    subst (MonthsFrom (fixed_zone o) n j) same (h.fits, h.year_in, h.picked) in
     let goes : Goes o day time n j m = subst (Goes o day time n j) (number-there m) from in
     let is = fixed-picked o (civil_of (month_start (m -ℤ n) +ℤ (pos day -ℤ pos 1)) time) j goes.2 in
     (record { fits = goes.0; year_in = goes.1; in_range = subst IsTimestampNanos is goes.2.in_range }, is)
 
-pub months-from : (o : Offset) (day : ℕ) (time : Time) (m n : ℤ) → IsSmall day → IsPlaced o day time m → IsPlaced o day time (m -ℤ n) → MonthsStep (fixed_zone o) n (place o day time m) (place o day time (m -ℤ n))
+pub months-from : (o : Offset) (day : ℕ) (time : Time) (m n : ℤ) → IsSmall day → IsPlaced o day time m
+    → IsPlaced o day time (m -ℤ n) → MonthsStep (fixed_zone o) n (place o day time m) (place o day time (m -ℤ n))
 months-from o day time m n small here there =
     let dt = shown-there m day time small here.year_in in
-    let goes : Goes o day time n (place o day time (m -ℤ n)) m = (there.fits, there.year_in, picked-there o (m -ℤ n) day time small there) in
-    let from : MonthsFrom (fixed_zone o) n (place o day time (m -ℤ n)) dt = subst (Goes o day time n (place o day time (m -ℤ n))) (sym (number-there m)) goes in
+    let goes : Goes o day time n (place o day time (m -ℤ n)) m =
+    (there.fits, there.year_in, picked-there o (m -ℤ n) day time small there) in
+    let from : MonthsFrom (fixed_zone o) n (place o day time (m -ℤ n)) dt =
+    subst (Goes o day time n (place o day time (m -ℤ n))) (sym (number-there m)) goes in
     record { local = dt; local_is = local-there o m day time small here.year_in; fits = from.0; year_in = from.1; picked = from.2 }
 
 -- earlier months begin earlier, so what lies between two such days is such a day
@@ -266,10 +285,12 @@ months-order a b year le =
     omega (arith, signed_arith, before))
     (λ ge. let e : a ≡ b = omega (arith, signed_arith) in rw e (omega (arith, signed_arith)))
 
-between-placed : (o : Offset) (day : ℕ) (time : Time) (a b c : ℤ) → IsPlaced o day time a → IsPlaced o day time c → a ≤ℤ b → b ≤ℤ c → IsPlaced o day time b
+between-placed : (o : Offset) (day : ℕ) (time : Time) (a b c : ℤ) → IsPlaced o day time a → IsPlaced o day time c → a ≤ℤ b
+    → b ≤ℤ c → IsPlaced o day time b
 between-placed o day time a b c low high le ge =
     let fits : FitsSigned w64 b = omega (arith, signed_arith, low.fits, high.fits, le, ge) in
-    let year : IsYear (int_div_euclid b (pos 12)) = (omega (arith, signed_arith, low.year_in, le), omega (arith, signed_arith, high.year_in, ge)) in
+    let year : IsYear (int_div_euclid b (pos 12)) =
+    (omega (arith, signed_arith, low.year_in, le), omega (arith, signed_arith, high.year_in, ge)) in
     let first = months-order a b low.year_in le in
     let last = months-order b c year ge in
     record { fits = fits; year_in = year; in_range = (omega (arith, signed_arith, first, low.in_range), omega (arith, signed_arith, last, high.in_range)) }
@@ -277,19 +298,22 @@ between-placed o day time a b c low high le ge =
 abbrev month_steps : List (ℤ × ℤ) → List (ℤ × TimeUnit)
 month_steps pairs = map (λ p. (p.0, Months p.1)) pairs
 
-pub months-chain : (o : Offset) (day : ℕ) (time : Time) (pairs : List (ℤ × ℤ)) (m j : ℤ) → IsSmall day → All IsLoss pairs → IsPlaced o day time m
+pub months-chain : (o : Offset) (day : ℕ) (time : Time) (pairs : List (ℤ × ℤ)) (m j : ℤ) → IsSmall day → All IsLoss pairs
+    → IsPlaced o day time m
     → Chain (fixed_zone o) (month_steps pairs) (place o day time m) j → IsPlaced o day time (m -ℤ total pairs) × (j ≡ place o day time (m -ℤ total pairs))
 months-chain o day time [] m j small loss here h =
     let same : m ≡ (m -ℤ pos 0) = omega (arith, signed_arith) in
     (subst (IsPlaced o day time) same here, h ∙ ap (place o day time) same)
 months-chain o day time (p ∷ more) m j small loss here (between, step, rest) =
     let first = months-to o day time m (product p) between small here step.1 in
-    let chain : Chain (fixed_zone o) (month_steps more) (place o day time (m -ℤ product p)) j = subst (λ (k : ℤ). Chain (fixed_zone o) (month_steps more) k j) first.1 rest in
+    let chain : Chain (fixed_zone o) (month_steps more) (place o day time (m -ℤ product p)) j =
+    subst (λ (k : ℤ). Chain (fixed_zone o) (month_steps more) k j) first.1 rest in
     let later = months-chain o day time more (m -ℤ product p) j small (All-tail IsLoss p more loss) first.0 chain in
     let same : ((m -ℤ product p) -ℤ total more) ≡ (m -ℤ total (p ∷ more)) = omega (arith, signed_arith) in
     (subst (IsPlaced o day time) same later.0, later.1 ∙ ap (place o day time) same)
 
-pub months-chain-back : (o : Offset) (day : ℕ) (time : Time) (pairs : List (ℤ × ℤ)) (m : ℤ) → IsSmall day → All IsLoss pairs → FitsSigned w64 (total pairs) → IsPlaced o day time m
+pub months-chain-back : (o : Offset) (day : ℕ) (time : Time) (pairs : List (ℤ × ℤ)) (m : ℤ) → IsSmall day → All IsLoss pairs
+    → FitsSigned w64 (total pairs) → IsPlaced o day time m
     → IsPlaced o day time (m -ℤ total pairs) → Chain (fixed_zone o) (month_steps pairs) (place o day time m) (place o day time (m -ℤ total pairs))
 months-chain-back o day time [] m small loss fits here there =
     let same : (m -ℤ pos 0) ≡ m = omega (arith, signed_arith) in
@@ -310,7 +334,8 @@ months-chain-back o day time (p ∷ more) m small loss fits here there =
 abbrev MonthsBefore : Offset → ℕ → Time → ℤ → ℤ → Type 0
 MonthsBefore o day time m j = IsPlaced o day time m × (j ≡ place o day time m)
 
-months-of : (o : Offset) (day : ℕ) (time : Time) (pairs : List (ℤ × ℤ)) (m : ℤ) → IsSmall day → All IsLoss pairs → FitsSigned w64 (total pairs) → IsPlaced o day time m
+months-of : (o : Offset) (day : ℕ) (time : Time) (pairs : List (ℤ × ℤ)) (m : ℤ) → IsSmall day → All IsLoss pairs
+    → FitsSigned w64 (total pairs) → IsPlaced o day time m
     → Alike (fixed_zone o) (place o day time m) (less_months pairs) (MonthsBefore o day time (m -ℤ total pairs))
 months-of o day time pairs m small loss fits here j = (
   λ h. months-chain o day time pairs m j small loss here (from-start o (place o day time m) j (month_steps pairs) h),
@@ -324,7 +349,8 @@ months-of o day time pairs m small loss fits here j = (
 abbrev SameMonths : List (ℤ × ℤ) → TimeZone → ℤ → Type 0
 SameMonths pairs tz i = (j : ℤ) → Reaches (less_months pairs) tz i j ↔ Reaches (less_months ((total pairs, pos 1) ∷ [])) tz i j
 
-months-same : (o : Offset) (day : ℕ) (time : Time) (pairs : List (ℤ × ℤ)) (m : ℤ) → IsSmall day → All IsLoss pairs → FitsSigned w64 (total pairs) → IsPlaced o day time m → SameMonths pairs (fixed_zone o) (place o day time m)
+months-same : (o : Offset) (day : ℕ) (time : Time) (pairs : List (ℤ × ℤ)) (m : ℤ) → IsSmall day → All IsLoss pairs
+    → FitsSigned w64 (total pairs) → IsPlaced o day time m → SameMonths pairs (fixed_zone o) (place o day time m)
 months-same o day time pairs m small loss fits here j =
     let one : ℤ × ℤ = (total pairs, pos 1) in
     let one_is : IsLoss one = omega (arith, signed_arith, total-loss pairs loss) in
@@ -334,10 +360,12 @@ months-same o day time pairs m small loss fits here j =
     (months-of o day time (one ∷ []) m small (one-loss one one_is) (subst (FitsSigned w64) (sym sum) fits) here j) in
     (λ h. single.1 (many.0 h), λ h. many.1 (single.0 h))
 
-placed-here : (o : Offset) (i : ℤ) (dt : DateTime) → IsLocal (fixed_zone o) i dt → i ≡ place o dt.date.day dt.time (month_number dt.date)
+placed-here : (o : Offset) (i : ℤ) (dt : DateTime) → IsLocal (fixed_zone o) i dt
+    → i ≡ place o dt.date.day dt.time (month_number dt.date)
 placed-here o i dt h = omega (arith, signed_arith, fixed-local o i dt h, civil_nanos-parts dt, day_of dt.date)
 
-months-fixed : (o : Offset) (i : ℤ) (dt : DateTime) (pairs : List (ℤ × ℤ)) → IsLocal (fixed_zone o) i dt → dt.date.day ≤ 28 → IsTimestampNanos i → All IsLoss pairs → FitsSigned w64 (total pairs) → SameMonths pairs (fixed_zone o) i
+months-fixed : (o : Offset) (i : ℤ) (dt : DateTime) (pairs : List (ℤ × ℤ)) → IsLocal (fixed_zone o) i dt → dt.date.day ≤ 28
+    → IsTimestampNanos i → All IsLoss pairs → FitsSigned w64 (total pairs) → SameMonths pairs (fixed_zone o) i
 months-fixed o i dt pairs local day range loss fits =
     let is = placed-here o i dt local in
     let date = dt.date in
@@ -351,6 +379,8 @@ months-fixed o i dt pairs local day range loss fits =
     } in
     subst (SameMonths pairs (fixed_zone o)) (sym is) (months-same o date.day dt.time pairs (month_number date) (day_in.0, day) loss fits here)
 
-pub months-law : (tz : TimeZone) (o : Offset) → tz ≡ fixed_zone o → (i : ℤ) (dt : DateTime) (pairs : List (ℤ × ℤ)) → IsLocal tz i dt → dt.date.day ≤ 28 → IsTimestampNanos i → All IsLoss pairs → FitsSigned w64 (total pairs) → SameMonths pairs tz i
+pub months-law : (tz : TimeZone) (o : Offset) → tz ≡ fixed_zone o → (i : ℤ) (dt : DateTime) (pairs : List (ℤ × ℤ))
+    → IsLocal tz i dt → dt.date.day ≤ 28 → IsTimestampNanos i → All IsLoss pairs → FitsSigned w64 (total pairs)
+    → SameMonths pairs tz i
 months-law tz o e i dt pairs local day range loss fits =
     subst (λ (z : TimeZone). SameMonths pairs z i) (sym e) (months-fixed o i dt pairs (subst (λ (z : TimeZone). IsLocal z i dt) e local) day range loss fits)

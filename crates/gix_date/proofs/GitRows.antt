@@ -143,3 +143,40 @@ offset-of-24-hours = refl
 sign-inside-an-offset : git_offset (codes "+-530") ≡ None
 unfolding computing
 sign-inside-an-offset = refl
+
+-- what ISO 8601 and its strict form read and no Git form does
+offset-with-seconds-is-no-git-offset : git_time (codes "2022-08-18 12:45:06 +080000") ≡ None
+unfolding computing
+offset-with-seconds-is-no-git-offset = refl
+
+offset-of-a-day-is-no-git-offset : git_time (codes "2022-08-18 12:45:06 +2400") ≡ None
+unfolding computing
+offset-of-a-day-is-no-git-offset = refl
+
+month-of-one-digit : git_time (codes "2022-8-18 12:45:06 +0800") ≡ None
+unfolding computing
+month-of-one-digit = refl
+
+day-of-one-digit : git_time (codes "2022-08-8 12:45:06 +0800") ≡ None
+unfolding computing
+day-of-one-digit = refl
+
+second-of-60 : git_time (codes "2022-08-18 12:45:60 +0800") ≡ None
+unfolding computing
+second-of-60 = refl
+
+strict-offset-with-seconds-is-no-git-offset : git_time (codes "2022-08-18T12:45:06+08:00:00") ≡ None
+unfolding computing
+strict-offset-with-seconds-is-no-git-offset = refl
+
+strict-second-of-60 : git_time (codes "2022-08-18T12:45:60+08:00") ≡ None
+unfolding computing
+strict-second-of-60 = refl
+
+strict-month-of-one-digit : git_time (codes "2022-8-18T12:45:06+08:00") ≡ None
+unfolding computing
+strict-month-of-one-digit = refl
+
+strict-offset-of-a-day-is-no-git-offset : git_time (codes "2022-08-18T12:45:06+24:00") ≡ None
+unfolding computing
+strict-offset-of-a-day-is-no-git-offset = refl

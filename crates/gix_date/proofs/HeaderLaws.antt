@@ -361,12 +361,6 @@ comes-back-canonical text k =
 abbrev pub whole_minutes : ℤ → ℕ
 whole_minutes o = unsigned_abs o / 60
 
-fields-of-minutes : (a b : ℤ) → int_lt a (pos 0) ≡ int_lt b (pos 0) → whole_minutes a ≡ whole_minutes b → written_fields a ≡ written_fields b
-fields-of-minutes a b s m =
-    let hours : unsigned_abs a / 3600 ≡ unsigned_abs b / 3600 = omega (arith, m) in
-    let minutes : unsigned_abs a % 3600 / 60 ≡ unsigned_abs b % 3600 / 60 = omega (arith, m) in
-    rw (s, hours, minutes) refl
-
 zone-of-minutes : (a b : ℤ) → int_lt a (pos 0) ≡ int_lt b (pos 0) → whole_minutes a ≡ whole_minutes b → zone_text a ≡ zone_text b
 zone-of-minutes a b s m =
     let hours : unsigned_abs a / 3600 ≡ unsigned_abs b / 3600 = omega (arith, m) in

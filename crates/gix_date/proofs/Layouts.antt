@@ -322,30 +322,25 @@ spelled layout of_time s text answer = (
   λ h. pieces-read layout (given (readable layout) s.is_readable) h.time nothing_read of_time text h.are ∙ s.all h.time ∙ h.comes,
 )
 
--- the formatted dates
-pub short-spelled : Spells short_answer (IsAnswered short_layout real_day_answer)
-unfolding short_answer
-short-spelled = spelled short_layout real_day_answer (record { once = λ t f g. refl; is_readable = refl; all = λ t. refl })
+-- each formatted date is its layout
+pub record AreSpelled : Type 0 where
+  pub short : Spells short_answer (IsAnswered short_layout real_day_answer)
+  pub rfc2822 : Spells rfc2822_answer (IsAnswered rfc2822_layout time_answer)
+  pub iso8601 : Spells iso8601_answer (IsAnswered iso8601_layout time_answer)
+  pub iso8601_strict : Spells iso8601_strict_answer (IsAnswered iso8601_strict_layout time_answer)
+  pub gitoxide : Spells gitoxide_answer (IsAnswered gitoxide_layout time_answer)
+  pub by_default : Spells default_answer (IsAnswered default_layout time_answer)
 
-pub rfc2822-spelled : Spells rfc2822_answer (IsAnswered rfc2822_layout time_answer)
-unfolding rfc2822_answer
-rfc2822-spelled = spelled rfc2822_layout time_answer (record { once = λ t f g. refl; is_readable = refl; all = λ t. refl })
-
-pub iso8601-spelled : Spells iso8601_answer (IsAnswered iso8601_layout time_answer)
-unfolding iso8601_answer
-iso8601-spelled = spelled iso8601_layout time_answer (record { once = λ t f g. refl; is_readable = refl; all = λ t. refl })
-
-pub iso8601_strict-spelled : Spells iso8601_strict_answer (IsAnswered iso8601_strict_layout time_answer)
-unfolding iso8601_strict_answer
-iso8601_strict-spelled = spelled iso8601_strict_layout time_answer (record { once = λ t f g. refl; is_readable = refl; all = λ t. refl })
-
-pub gitoxide-spelled : Spells gitoxide_answer (IsAnswered gitoxide_layout time_answer)
-unfolding gitoxide_answer
-gitoxide-spelled = spelled gitoxide_layout time_answer (record { once = λ t f g. refl; is_readable = refl; all = λ t. refl })
-
-pub default-spelled : Spells default_answer (IsAnswered default_layout time_answer)
-unfolding default_answer
-default-spelled = spelled default_layout time_answer (record { once = λ t f g. refl; is_readable = refl; all = λ t. refl })
+pub dates_spelled : AreSpelled
+unfolding short_answer rfc2822_answer iso8601_answer iso8601_strict_answer gitoxide_answer default_answer
+dates_spelled = record {
+  short = spelled short_layout real_day_answer (record { once = λ t f g. refl; is_readable = refl; all = λ t. refl });
+  rfc2822 = spelled rfc2822_layout time_answer (record { once = λ t f g. refl; is_readable = refl; all = λ t. refl });
+  iso8601 = spelled iso8601_layout time_answer (record { once = λ t f g. refl; is_readable = refl; all = λ t. refl });
+  iso8601_strict = spelled iso8601_strict_layout time_answer (record { once = λ t f g. refl; is_readable = refl; all = λ t. refl });
+  gitoxide = spelled gitoxide_layout time_answer (record { once = λ t f g. refl; is_readable = refl; all = λ t. refl });
+  by_default = spelled default_layout time_answer (record { once = λ t f g. refl; is_readable = refl; all = λ t. refl });
+}
 
 -- what a mail date begins with
 pub record MailFront (text : List ℕ) : Type 0 where
@@ -364,7 +359,7 @@ pub record MailFront (text : List ℕ) : Type 0 where
 
 pub mail-front : (text : List ℕ) (answer : FamilyAnswer) → rfc2822_answer text ≡ Some answer → MailFront text
 mail-front text answer e =
-    let a = (rfc2822-spelled text answer).0 e in
+    let a = (dates_spelled.rfc2822 text answer).0 e in
     let h = a.are in
     let day = h.more in
     let gap = day.more in

@@ -35,29 +35,36 @@ march-bound days = omega arith
 abbrev IsDateAt : ℕ → ℤ × ℕ × ℕ → Type 0
 IsDateAt n (y, m, d) = IsCivilDate y m d × (day_count y m d ≡ n)
 
-date-late : (year before n : ℕ) → march_days year + before + 60 ≡ n → before < 366 → n ≤ 7_304_849 → 366 ≤ n → march_month before ≤ 12 → IsDateAt n (pos year -ℤ pos 10_000, march_month before, march_day before)
+date-late : (year before n : ℕ) → march_days year + before + 60 ≡ n → before < 366 → n ≤ 7_304_849 → 366 ≤ n
+    → march_month before ≤ 12 → IsDateAt n (pos year -ℤ pos 10_000, march_month before, march_day before)
 date-late year before n e short last first month =
     let y = pos year -ℤ pos 10_000 in
     let count = day_count-late y year (march_month before) (march_day before) (omega (arith, signed_arith)) (omega arith) month (omega arith) in
     let in_year : IsYear y = (omega (arith, signed_arith, e, first), omega (arith, signed_arith, e, last)) in
     ((in_year, (omega arith, month), (omega arith, day_in_month y before month)), omega (arith, count, month_and_day before short, e))
 
-date-early : (year before n : ℕ) → march_days year + before + 60 ≡ n → before < 366 → n < march_days (year + 1) + 60 → n ≤ 7_304_849 → 366 ≤ n → 12 < march_month before
+date-early : (year before n : ℕ) → march_days year + before + 60 ≡ n → before < 366 → n < march_days (year + 1) + 60
+    → n ≤ 7_304_849 → 366 ≤ n → 12 < march_month before
     → IsDateAt n (pos (year + 1) -ℤ pos 10_000, march_month before - 12, march_day before)
 date-early year before n e short within last first month =
     let y = pos (year + 1) -ℤ pos 10_000 in
     let shift : y +ℤ pos 10_000 ≡ pos (suc year) = omega (arith, signed_arith) in
     let back : march_month before - 12 + 12 ≡ march_month before = omega arith in
-    let count = day_count-early y year (march_month before - 12) (march_day before) shift (omega arith) (omega arith) (omega arith) in
+    let count =
+    day_count-early y year (march_month before - 12) (march_day before) shift (omega arith) (omega arith) (omega arith) in
     let in_year : IsYear y = (omega (arith, signed_arith, e, first), omega (arith, signed_arith, e, last, month)) in
     let next : year + 1 ≡ suc year = omega arith in
-    let long : before < 365 + leap_day y = omega (arith, march_days-suc year, leap_day-shift y (suc year) shift, rw next at within, e) in
+    let long : before < 365 + leap_day y =
+    omega (arith, march_days-suc year, leap_day-shift y (suc year) shift, rw next at within, e) in
     ((in_year, (omega arith, omega arith), (omega arith, day_in_early_month y before month long)), omega (arith, rw back at count, month_and_day before short, e))
 
-date-by : (year before n : ℕ) (b : Bool) → nat_lt 12 (march_month before) ≡ b → march_days year + before + 60 ≡ n → before < 366 → n < march_days (year + 1) + 60 → n ≤ 7_304_849 → 366 ≤ n
+date-by : (year before n : ℕ) (b : Bool) → nat_lt 12 (march_month before) ≡ b → march_days year + before + 60 ≡ n
+    → before < 366 → n < march_days (year + 1) + 60 → n ≤ 7_304_849 → 366 ≤ n
     → IsDateAt n (if b then (pos (year + 1) -ℤ pos 10_000, march_month before - 12, march_day before) else (pos year -ℤ pos 10_000, march_month before, march_day before))
-date-by year before n true test e short within last first = date-early year before n e short within last first (grind (arith, nat_tests, test))
-date-by year before n false test e short within last first = date-late year before n e short last first (grind (arith, nat_tests, test))
+date-by year before n true test e short within last first =
+    date-early year before n e short within last first (grind (arith, nat_tests, test))
+date-by year before n false test e short within last first =
+    date-late year before n e short last first (grind (arith, nat_tests, test))
 
 date-at : (n : ℕ) → 366 ≤ n → n ≤ 7_304_849 → IsDateAt n (january_date (march_year (n - 60)))
 date-at n first last =
@@ -71,10 +78,13 @@ date-of-day date =
     let range = epoch_day_range date in
     let some = one_part (epoch_day date +ℤ pos 4_371_953) in
     let n = unsigned_abs (epoch_day date +ℤ pos 4_371_953) in
-    let at : IsDateAt n (date_of_day (epoch_day date)) = date-at n (omega (arith, signed_arith, range, some)) (omega (arith, signed_arith, range, some)) in
+    let at : IsDateAt n (date_of_day (epoch_day date)) =
+    date-at n (omega (arith, signed_arith, range, some)) (omega (arith, signed_arith, range, some)) in
     let r = date_of_day (epoch_day date) in
-    let found : Date = record { year = r.0; month = r.1; day = r.2; year_in = at.0.0; month_in = at.0.1; day_in = at.0.2 } in
-    let same : epoch_day found ≡ epoch_day date = omega (arith, signed_arith, at.1, days_from_civil-day_count r.0 r.1 r.2, range, some) in
+    let found : Date =
+    record { year = r.0; month = r.1; day = r.2; year_in = at.0.0; month_in = at.0.1; day_in = at.0.2 } in
+    let same : epoch_day found ≡ epoch_day date =
+    omega (arith, signed_arith, at.1, days_from_civil-day_count r.0 r.1 r.2, range, some) in
     let p = epoch_day_injective found date same in
     λ i. (p.0 i, p.1 i, p.2 i)
 
@@ -87,7 +97,8 @@ day-shown : (z : PlainZoned) (t : Time) → Shows z t → local_day t ≡ epoch_
 day-shown z t h =
     omega (arith, signed_arith, z.shows, h.instant, h.offset_is, civil_nanos-parts z.datetime, time_nanos_bound z.datetime.time)
 
-second-shown : (z : PlainZoned) (t : Time) → Shows z t → second_of_day t ≡ z.datetime.time.hour * 3600 + z.datetime.time.minute * 60 + z.datetime.time.second
+second-shown : (z : PlainZoned) (t : Time) → Shows z t
+    → second_of_day t ≡ z.datetime.time.hour * 3600 + z.datetime.time.minute * 60 + z.datetime.time.second
 second-shown z t h =
     let subsec = z.datetime.time.subsec_in in
     omega (arith, signed_arith, z.shows, h.instant, h.offset_is, civil_nanos-parts z.datetime, time_nanos_bound z.datetime.time, one_part (int_rem_euclid (local_seconds t) (pos 86_400)), subsec)
@@ -133,7 +144,8 @@ year-before date lt =
     let within = day_of_year_bound date.year date.month date.day (date.year_in, date.month_in, date.day_in) in
     omega (arith, signed_arith, here, within, day_count-later_year date.year (pos 1000) (omega (arith, signed_arith, year_in)) lt, days_from_civil-day_count date.year date.month date.day, thousand)
 
-local-is : (z : PlainZoned) (t : Time) → Shows z t → ((epoch_day z.datetime.date *ℤ pos 86_400) ≤ℤ local_seconds t) × (local_seconds t <ℤ (epoch_day z.datetime.date *ℤ pos 86_400 +ℤ pos 86_400))
+local-is : (z : PlainZoned) (t : Time) → Shows z t
+    → ((epoch_day z.datetime.date *ℤ pos 86_400) ≤ℤ local_seconds t) × (local_seconds t <ℤ (epoch_day z.datetime.date *ℤ pos 86_400 +ℤ pos 86_400))
 local-is z t h =
     let parts = civil_nanos-parts z.datetime in
     let bound = time_nanos_bound z.datetime.time in
@@ -177,7 +189,8 @@ shown-by t h =
     let o : Offset = record { seconds = t.offset; in_range = h.0 } in
     let n = nanos_of_seconds t.seconds in
     let range : IsTimestampNanos n = (omega (arith, signed_arith, h.1), omega (arith, signed_arith, h.1)) in
-    let clock : IsCivilNanos (n +ℤ nanos_of_seconds t.offset) = (omega (arith, signed_arith, h.0, h.1), omega (arith, signed_arith, h.0, h.1)) in
+    let clock : IsCivilNanos (n +ℤ nanos_of_seconds t.offset) =
+    (omega (arith, signed_arith, h.0, h.1), omega (arith, signed_arith, h.0, h.1)) in
     let found = datetime_exists (n +ℤ nanos_of_seconds t.offset) clock in
     let z : PlainZoned = record {
       timestamp = record { nanosecond = n; in_range = range };

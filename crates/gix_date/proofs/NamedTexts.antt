@@ -150,30 +150,23 @@ by-pieces : (pattern : List ℕ) {jiff_day day : ℕ → List ℕ} → ShowsDay 
 by-pieces pattern {jiff_day} {day} d ps blanks shows = shows-text pattern (λ t. print_pieces day ps t) (always pattern d ps blanks shows) (λ z o. pieces-ascii d ps (local_time z) (in-range z o))
 
 -- by each of the seven patterns
-pub short-printed : ShowsText short_pattern short_text
-unfolding show_steps directive_text text_of read_flag colon_rest fold_digits
-short-printed = by-pieces short_pattern two-shown short_layout 3 (λ z abbreviation name date iso second low high. refl)
+pub record ArePrinted : Type 0 where
+  pub short : ShowsText short_pattern short_text
+  pub rfc2822 : ShowsText rfc2822_pattern rfc2822_text
+  pub git_rfc2822 : ShowsText git_rfc2822_pattern git_rfc2822_text
+  pub iso8601 : ShowsText iso8601_pattern iso8601_text
+  pub iso8601_strict : ShowsText iso8601_strict_pattern iso8601_strict_text
+  pub gitoxide : ShowsText gitoxide_pattern gitoxide_text
+  pub by_default : ShowsText default_pattern default_text
 
-pub rfc2822-printed : ShowsText rfc2822_pattern rfc2822_text
+pub formats_printed : ArePrinted
 unfolding show_steps directive_text text_of read_flag colon_rest fold_digits
-rfc2822-printed = by-pieces rfc2822_pattern two-shown rfc2822_layout 8 (λ z abbreviation name date iso second low high. rw (low, high) refl)
-
-pub git_rfc2822-printed : ShowsText git_rfc2822_pattern git_rfc2822_text
-unfolding show_steps directive_text text_of read_flag colon_rest fold_digits
-git_rfc2822-printed = by-pieces git_rfc2822_pattern bare-shown rfc2822_layout 9 (λ z abbreviation name date iso second low high. rw (low, high) refl)
-
-pub iso8601-printed : ShowsText iso8601_pattern iso8601_text
-unfolding show_steps directive_text text_of read_flag colon_rest fold_digits
-iso8601-printed = by-pieces iso8601_pattern two-shown iso8601_layout 7 (λ z abbreviation name date iso second low high. refl)
-
-pub iso8601_strict-printed : ShowsText iso8601_strict_pattern iso8601_strict_text
-unfolding show_steps directive_text text_of read_flag colon_rest fold_digits
-iso8601_strict-printed = by-pieces iso8601_strict_pattern two-shown iso8601_strict_layout 8 (λ z abbreviation name date iso second low high. refl)
-
-pub gitoxide-printed : ShowsText gitoxide_pattern gitoxide_text
-unfolding show_steps directive_text text_of read_flag colon_rest fold_digits
-gitoxide-printed = by-pieces gitoxide_pattern two-shown gitoxide_layout 8 (λ z abbreviation name date iso second low high. rw (low, high) refl)
-
-pub default-printed : ShowsText default_pattern default_text
-unfolding show_steps directive_text text_of read_flag colon_rest fold_digits
-default-printed = by-pieces default_pattern bare-shown default_layout 9 (λ z abbreviation name date iso second low high. rw (low, high) refl)
+formats_printed = record {
+  short = by-pieces short_pattern two-shown short_layout 3 (λ z abbreviation name date iso second low high. refl);
+  rfc2822 = by-pieces rfc2822_pattern two-shown rfc2822_layout 8 (λ z abbreviation name date iso second low high. rw (low, high) refl);
+  git_rfc2822 = by-pieces git_rfc2822_pattern bare-shown rfc2822_layout 9 (λ z abbreviation name date iso second low high. rw (low, high) refl);
+  iso8601 = by-pieces iso8601_pattern two-shown iso8601_layout 7 (λ z abbreviation name date iso second low high. refl);
+  iso8601_strict = by-pieces iso8601_strict_pattern two-shown iso8601_strict_layout 8 (λ z abbreviation name date iso second low high. refl);
+  gitoxide = by-pieces gitoxide_pattern two-shown gitoxide_layout 8 (λ z abbreviation name date iso second low high. rw (low, high) refl);
+  by_default = by-pieces default_pattern bare-shown default_layout 9 (λ z abbreviation name date iso second low high. rw (low, high) refl);
+}

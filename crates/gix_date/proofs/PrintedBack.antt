@@ -11,9 +11,9 @@ use Rattle.gix_date.specs.Numbers.{two_digits}
 use Rattle.gix_date.specs.Patterns.{rfc2822_layout, iso8601_layout, iso8601_strict_layout, gitoxide_layout, default_layout, time_answer, rfc2822_answer, iso8601_answer, iso8601_strict_answer, gitoxide_answer, default_answer, IsAnswered, Spells}
 use Rattle.gix_date.specs.ReadingBack.{IsPlainTime, IsReadBack, AreReadBack}
 use Rattle.gix_date.specs.declared.time.Time.{Time}
-use Rattle.gix_date.proofs.Layouts.{rfc2822-spelled, iso8601-spelled, iso8601_strict-spelled, gitoxide-spelled, default-spelled}
+use Rattle.gix_date.proofs.Layouts.{dates_spelled}
 use Rattle.gix_date.proofs.LocalClocks.{clock-shown, ordinary-from, shown-by}
-use Rattle.gix_date.proofs.NamedTexts.{rfc2822-printed, git_rfc2822-printed, iso8601-printed, iso8601_strict-printed, gitoxide-printed, default-printed}
+use Rattle.gix_date.proofs.NamedTexts.{formats_printed}
 use Rattle.gix_date.proofs.PrintedTimes.{printed-as}
 use Rattle.gix_date.proofs.ReadBack.{IsShownPlain, two-is, bare-is, back, first-at}
 
@@ -52,10 +52,10 @@ read-back pattern place family layout day shows stands spells field t h = record
 -- by each of the six formats
 pub are-read-back : (t : Time) → IsPlainTime t → AreReadBack t
 are-read-back t h = record {
-  iso8601 = read-back iso8601_pattern 3 iso8601_answer iso8601_layout two_digits iso8601-printed (λ text x e. e) iso8601-spelled two-is t h;
-  iso8601_strict = read-back iso8601_strict_pattern 4 iso8601_strict_answer iso8601_strict_layout two_digits iso8601_strict-printed (λ text x e. e) iso8601_strict-spelled two-is t h;
-  rfc2822 = read-back rfc2822_pattern 2 rfc2822_answer rfc2822_layout two_digits rfc2822-printed (λ text x e. e) rfc2822-spelled two-is t h;
-  git_rfc2822 = read-back git_rfc2822_pattern 2 rfc2822_answer rfc2822_layout decimal git_rfc2822-printed (λ text x e. e) rfc2822-spelled bare-is t h;
-  gitoxide = read-back gitoxide_pattern 5 gitoxide_answer gitoxide_layout two_digits gitoxide-printed (λ text x e. e) gitoxide-spelled two-is t h;
-  by_default = read-back default_pattern 6 default_answer default_layout decimal default-printed (λ text x e. e) default-spelled bare-is t h;
+  iso8601 = read-back iso8601_pattern 3 iso8601_answer iso8601_layout two_digits formats_printed.iso8601 (λ text x e. e) dates_spelled.iso8601 two-is t h;
+  iso8601_strict = read-back iso8601_strict_pattern 4 iso8601_strict_answer iso8601_strict_layout two_digits formats_printed.iso8601_strict (λ text x e. e) dates_spelled.iso8601_strict two-is t h;
+  rfc2822 = read-back rfc2822_pattern 2 rfc2822_answer rfc2822_layout two_digits formats_printed.rfc2822 (λ text x e. e) dates_spelled.rfc2822 two-is t h;
+  git_rfc2822 = read-back git_rfc2822_pattern 2 rfc2822_answer rfc2822_layout decimal formats_printed.git_rfc2822 (λ text x e. e) dates_spelled.rfc2822 bare-is t h;
+  gitoxide = read-back gitoxide_pattern 5 gitoxide_answer gitoxide_layout two_digits formats_printed.gitoxide (λ text x e. e) dates_spelled.gitoxide two-is t h;
+  by_default = read-back default_pattern 6 default_answer default_layout decimal formats_printed.by_default (λ text x e. e) dates_spelled.by_default bare-is t h;
 }

@@ -7,10 +7,12 @@ use Rattle.gix_date.specs.declared.time.Time.{Time}
 use Rattle.jiff.specs.Words.{plain_zoned}
 use Rattle.gix_date.proofs.LocalClocks.{clock-shown, ordinary-from, moment-shows}
 
-pub printed-as : (pattern : List ℕ) (text : LocalTime → List ℕ) → ShowsText pattern text → (t : Time) → IsPrintedAs pattern text t
+pub printed-as : (pattern : List ℕ) (text : LocalTime → List ℕ) → ShowsText pattern text → (t : Time)
+    → IsPrintedAs pattern text t
 printed-as pattern text law t ordinary (Ok s) (z, moment, shown) =
     let shows = moment-shows t z moment in
-    let same : Ok (string_bytes s) ≡ Ok (text (local_time (plain_zoned z))) = (law (plain_zoned z) (ordinary-from (plain_zoned z) t shows ordinary)).0 (Ok (string_bytes s)) shown in
+    let same : Ok (string_bytes s) ≡ Ok (text (local_time (plain_zoned z))) =
+    (law (plain_zoned z) (ordinary-from (plain_zoned z) t shows ordinary)).0 (Ok (string_bytes s)) shown in
     let bytes : string_bytes s ≡ text (local_time (plain_zoned z)) = cc in
     bytes ∙ ap text (clock-shown (plain_zoned z) t shows)
 printed-as pattern text law t ordinary (Err e) (inl conversion) = inr conversion

@@ -30,7 +30,7 @@ use Rattle.gix_date.specs.declared.parsing.offset.Sign.{Sign}
 use Rattle.gix_date.proofs.FieldsTaken.{went, guard, behind-taken, two-taken}
 use Rattle.gix_date.proofs.Ints.{each_of}
 use Rattle.gix_date.proofs.Instants.{both}
-use Rattle.gix_date.proofs.Layouts.{short-spelled, rfc2822-spelled, iso8601-spelled, iso8601_strict-spelled, gitoxide-spelled, default-spelled}
+use Rattle.gix_date.proofs.Layouts.{dates_spelled}
 use Rattle.gix_date.proofs.PlainHeaders.{int-taken, offset-taken, sign-taken, IsMark}
 use Rattle.gix_date.proofs.QuietWords.{says_nothing, says-by, IsQuiet, like, like-any, any-run, one-run-word}
 use Rattle.gix_date.proofs.WordsWithin.{words-within, one-gap, none-of-empty}
@@ -377,16 +377,16 @@ quiet-pieces (p ∷ Spaces ∷ ps) s t x h =
 quiet-pieces (p ∷ q ∷ ps) s t x h = absurd s
 
 pub quiet-short : (text : List ℕ) (answer : FamilyAnswer) → short_answer text ≡ Some answer → IsQuiet text
-quiet-short text answer e = let a = (short-spelled text answer).0 e in quiet-pieces short_layout tt a.time text a.are
+quiet-short text answer e = let a = (dates_spelled.short text answer).0 e in quiet-pieces short_layout tt a.time text a.are
 
 pub quiet-iso8601 : (text : List ℕ) (answer : FamilyAnswer) → iso8601_answer text ≡ Some answer → IsQuiet text
-quiet-iso8601 text answer e = let a = (iso8601-spelled text answer).0 e in quiet-pieces iso8601_layout tt a.time text a.are
+quiet-iso8601 text answer e = let a = (dates_spelled.iso8601 text answer).0 e in quiet-pieces iso8601_layout tt a.time text a.are
 
 pub quiet-gitoxide : (text : List ℕ) (answer : FamilyAnswer) → gitoxide_answer text ≡ Some answer → IsQuiet text
-quiet-gitoxide text answer e = let a = (gitoxide-spelled text answer).0 e in quiet-pieces gitoxide_layout tt a.time text a.are
+quiet-gitoxide text answer e = let a = (dates_spelled.gitoxide text answer).0 e in quiet-pieces gitoxide_layout tt a.time text a.are
 
 pub quiet-default : (text : List ℕ) (answer : FamilyAnswer) → default_answer text ≡ Some answer → IsQuiet text
-quiet-default text answer e = let a = (default-spelled text answer).0 e in quiet-pieces default_layout tt a.time text a.are
+quiet-default text answer e = let a = (dates_spelled.by_default text answer).0 e in quiet-pieces default_layout tt a.time text a.are
 
 behind_mail_day : List Piece
 behind_mail_day = Day ∷ Spaces ∷ MonthName ∷ Spaces ∷ Year ∷ Spaces ∷ MailClock ∷ Spaces ∷ MailOffset ∷ []
@@ -394,7 +394,7 @@ behind_mail_day = Day ∷ Spaces ∷ MonthName ∷ Spaces ∷ Year ∷ Spaces �
 pub quiet-mail : (text : List ℕ) (answer : FamilyAnswer) → rfc2822_answer text ≡ Some answer → IsQuiet text
 unfolding behind_mail_day
 quiet-mail text answer e =
-    let a = (rfc2822-spelled text answer).0 e in
+    let a = (dates_spelled.rfc2822 text answer).0 e in
     let h = a.are in
     subst IsQuiet (sym h.whole) (behind-name h.front h.rest h.is (quiet-pieces behind_mail_day tt a.time h.rest h.more))
   where
@@ -427,7 +427,7 @@ quiet-strict-parts x d date clock time zone o h c z e =
 
 pub quiet-strict : (text : List ℕ) (answer : FamilyAnswer) → iso8601_strict_answer text ≡ Some answer → IsQuiet text
 quiet-strict text answer e =
-    let a = (iso8601_strict-spelled text answer).0 e in
+    let a = (dates_spelled.iso8601_strict text answer).0 e in
     let date = a.are in
     let mark = date.more in
     let clock = mark.more in

@@ -22,7 +22,7 @@ pub record AreDisjoint (text : List ℕ) : Type 0 where
 abbrev pub Holds : Family → List ℕ → Type 0
 Holds family text = is_some (family_answer family text) ≡ true
 
--- some text is of both families
+-- two different families that share a text
 abbrev pub overlap : Family → Family → Bool
 overlap Iso8601 GitForm = true
 overlap Iso8601Strict GitForm = true
@@ -32,7 +32,7 @@ overlap GitForm RelativeText = true
 overlap RelativeText GitForm = true
 overlap _ _ = false
 
--- a text of one family is of no other that does not overlap with it
+-- a text of one family is of no other family that does not overlap with it
 abbrev pub AreExclusive : List ℕ → Type 0
 AreExclusive text = (a b : Family) → a ≢ b → overlap a b ≡ false → Holds a text → family_answer b text ≡ None
 
@@ -46,7 +46,7 @@ pub record Overlap (a b : Family) : Type 0 where
 abbrev pub AreOverlapping : Type 0
 AreOverlapping = (a b : Family) → overlap a b ≡ true → Overlap a b
 
--- What a family answers is the answer of the first family, where no earlier one answers that it overlaps with.
+-- What a family answers of a text that it holds is the answer of the first family, where no earlier one that it overlaps with has an answer.
 pub record ComesFirst (text : List ℕ) : Type 0 where
   pub alone : (family : Family) → family ≢ GitForm → family ≢ RelativeText → Holds family text
       → first_family text ≡ family_answer family text

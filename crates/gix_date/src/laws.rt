@@ -116,6 +116,7 @@ pub fn named_once()
 
 /// A formatted date is its pieces, one behind the other: what a family of them answers is what the pieces say, and a text that is
 /// so written is of that family.
+#[tactic(auto, using(crate::proofs::Layouts::dates_spelled))]
 pub fn spelled()
     ensures day { Spells short_answer (IsAnswered short_layout real_day_answer) }
     ensures mail { Spells rfc2822_answer (IsAnswered rfc2822_layout time_answer) }
@@ -167,7 +168,8 @@ pub fn printed(time: Time)
     ensures by_default { IsPrintedAs default_pattern default_text time }
 {}
 
-/// A text comes back when it is read as a header and written exactly where it is canonical.
+/// A text comes back, when it is read as a header and written, exactly where it is canonical: the decimal text of an `i64`, one space,
+/// a sign, two digits of hours, two of minutes below 60, and not the offset `-0000`.
 pub fn canonical(text: &str)
     ensures { CanonicalComesBack text.now }
 {}
@@ -179,7 +181,7 @@ pub fn written_is_read(time: Time)
     ensures { ComesBackFromHeader time }
 {}
 
-/// Two times with offsets short of 100 hours are written alike where these agree: the seconds, whether the offset is negative,
+/// Two times with offsets short of 100 hours are written alike exactly where these agree: the seconds, whether the offset is negative,
 /// and its whole minutes.
 pub fn alike(a: Time, b: Time)
     requires first { unsigned_abs a.offset < HUNDRED_HOURS }
@@ -192,8 +194,8 @@ pub fn disjoint(text: &str)
     ensures { AreDisjoint text.now }
 {}
 
-/// No text is of two of the families that [`parse`] asks, but of ISO 8601 and Git's own forms, of strict ISO 8601 and these, and of
-/// these and relative texts (`overlap`): what one of two others holds is refused by the other.
+/// No text is of two of the families that [`parse`] asks, but of ISO 8601 or its strict form and Git's own forms, and of Git's own
+/// forms and relative texts (`overlap`): what one of two others holds is refused by the other.
 pub fn exclusive(text: &str)
     ensures { AreExclusive text.now }
 {}
@@ -210,8 +212,8 @@ pub fn comes_first(text: &str)
     ensures { ComesFirst text.now }
 {}
 
-/// [`parse`] comes to the same at every moment, and without one, for each text that is not relative, such as a raw text and a bare
-/// epoch, and for one of Git's own forms even where it is.
+/// What [`parse`] may answer at one moment it may answer at every other, and without one, for each text that is not relative, such as
+/// a raw text and a bare epoch, and for one of Git's own forms even where it is.
 pub fn ignores_moment(text: &str)
     ensures plain { relative_date text.now ≡ None → IgnoresMoment text.now }
     ensures raw { Holds RawText text.now → IgnoresMoment text.now }

@@ -1,6 +1,6 @@
 //! What a crate that reads and writes commits does with `gix_date`.
 ghost use Rattle.std.specs.Prelude.{◌≡◌, ◌≢◌, ◌↔◌, ◌<◌, ◌%◌, ◌-ℤ◌, pos, true, false, unsigned_abs, IsTrue, IsSome, Some, None, Err, IfSome, IfNone, IsOk, IsSomeAnd, OnOk, IfOk, MatchResult, option_map, replicate, string_bytes};
-ghost use Rattle.gix_date.specs.Answer.{Absolute};
+ghost use Rattle.gix_date.specs.Answer.{Absolute, Relative};
 ghost use Rattle.gix_date.specs.CanonicalHeader.{is_canonical_header};
 ghost use Rattle.gix_date.specs.Epoch.{epoch_time};
 ghost use Rattle.gix_date.specs.Families.{first_family, Comes};
@@ -14,7 +14,7 @@ ghost use Rattle.gix_date.specs.Printed.{PrintsOrSeconds};
 ghost use Rattle.gix_date.specs.PrintedTimes.{PrintsText};
 ghost use Rattle.gix_date.specs.Raw.{raw_time};
 ghost use Rattle.gix_date.specs.ReadingBack.{IsPlainTime};
-ghost use Rattle.gix_date.specs.Relative.{relative_date};
+ghost use Rattle.gix_date.specs.Relative.{RelativeDate, relative_date};
 ghost use Rattle.gix_date.specs.TimeBuf.{text_in};
 ghost use Rattle.gix_date.specs.Zoned.{IsConvertible, IsMoment, is_instant, time_in, time_in_utc};
 ghost use Rattle.gix_date.specs.declared.error.Error.TheVariants.{Conversion, Memory, Range};
@@ -88,6 +88,7 @@ pub fn asks_for_a_moment(alloc: Global, date: &str) -> bool
     ensures raw { (t : Read) → raw_time date.now ≡ Some t → result ≡ false }
     ensures epoch { (t : Read) → epoch_time date.now ≡ Some t → result ≡ false }
     ensures relative { IsTrue result → IsSome (relative_date date.now) }
+    ensures asks { (counts : RelativeDate) → first_family date.now ≡ Some (Relative counts) → result ≡ true }
 {
     laws::disjoint(date);
     laws::comes_first(date);

@@ -18,7 +18,8 @@ IsDayBefore t r =
     × (IsOk r ↔ (is_instant (t.seconds -ℤ pos 86_400) ≡ true))
 
 -- what a call comes to that asks for the day before, by the law
-day-back : (t : Time) (moment : Zoned) (r : Result Time Error) → IsMoment t moment → NamesEarlier (Before (pos 86_400)) t (pos 86_400)
+day-back : (t : Time) (moment : Zoned) (r : Result Time Error) → IsMoment t moment
+    → NamesEarlier (Before (pos 86_400)) t (pos 86_400)
     → Reckons (Before (pos 86_400)) (Some moment) r → IsDayBefore t r
 day-back t moment (Ok a) is law named =
     let h = (law moment is a).0 named in
