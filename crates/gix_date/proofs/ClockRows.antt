@@ -1,11 +1,12 @@
 -- What a time's own clock shows on worked times, and what is printed of it: each row computes.
-use Rattle.std.proofs.Common.{◌≡◌, refl, pos, ◌+ℤ◌, ◌-ℤ◌}
+use Rattle.std.proofs.Common.{◌≡◌, refl, arith, pos, ◌+ℤ◌, ◌-ℤ◌}
 use Rattle.std.specs.Fmt.{digits}
 use Rattle.std.specs.Prelude.{codes}
 use Rattle.jiff_core.specs.Calendar.{weekday_number}
 use Rattle.gix_date.proofs.Rows.{minus, time}
 use Rattle.gix_date.specs.LocalClocks.{clock_of, date_of_day, first_ordinary, last_ordinary}
 use Rattle.gix_date.specs.NamedTexts.{rfc2822_text, iso8601_text, iso8601_strict_text, gitoxide_text, default_text}
+use Rattle.gix_date.specs.ReadingBack.{IsRawOffset}
 
 -- all that a row needs to see computed
 computing : Type 0
@@ -52,3 +53,10 @@ last-of-9999 = refl
 first-of-10000 : (clock_of (time (last_ordinary +ℤ pos 1) (pos 0))).date.year ≡ 10_000
 unfolding computing
 first-of-10000 = refl
+
+-- The farthest offsets of raw texts: 14:45 either way.
+farthest-east : IsRawOffset (pos 53_100)
+farthest-east = record { quarters = refl; short = omega arith }
+
+farthest-west : IsRawOffset (minus 53_100)
+farthest-west = record { quarters = refl; short = omega arith }

@@ -89,6 +89,7 @@ pub fn asks_for_a_moment(alloc: Global, date: &str) -> bool
     ensures epoch { (t : Read) → epoch_time date.now ≡ Some t → result ≡ false }
     ensures relative { IsTrue result → IsSome (relative_date date.now) }
     ensures asks { (counts : RelativeDate) → first_family date.now ≡ Some (Relative counts) → result ≡ true }
+    ensures absolute { (t : Read) → first_family date.now ≡ Some (Absolute t) → result ≡ false }
 {
     laws::disjoint(date);
     laws::comes_first(date);

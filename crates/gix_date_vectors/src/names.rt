@@ -115,6 +115,7 @@ fn callers_answer(rt: HostRuntime) -> Result<(), Fail> {
     assert!(rt; !asks_for_a_moment(rt.alloc(), "5 -0130"));
     assert!(rt; !asks_for_a_moment(rt.alloc(), "1700000000"));
     assert!(rt; !asks_for_a_moment(rt.alloc(), "banana"));
+    assert!(rt; !asks_for_a_moment(rt.alloc(), "2008-02-14 20:30:45.2 days ago"));
     assert!(rt; asks_for_a_moment(rt.alloc(), "2 days ago"));
     let clock = Timestamp::from_second(1_660_874_655)?;
     assert_eq!(rt; authored_in_utc(clock), Time::new(1_660_874_655, 0));
@@ -197,8 +198,12 @@ fn laws_are_called_for_what_they_state_of_a_time(rt: HostRuntime) -> Result<(), 
     laws::earlier(time, &[(1, 86_400)]);
     let moment = time.to_zoned()?;
     laws::yesterday(&moment);
-    laws::seconds_permute(&moment, &[(2, 86_400), (3, 3600)]);
-    laws::months_add(&moment, &[(1, 12), (2, 1)]);
+    // A pair of each period, and of none of it.
+    laws::seconds_permute(
+        &moment,
+        &[(0, 1), (1, 60), (2, 3600), (3, 86_400), (4, 604_800)],
+    );
+    laws::months_add(&moment, &[(0, 1), (1, 12), (2, 1)]);
     let parsed = laws::headline(rt.alloc(), "5 -0130", Some(moment));
     assert!(rt; matches!(parsed, Ok(raw) if raw == Time::new(5, -5400)));
     Ok(())

@@ -66,14 +66,10 @@ pub(crate) fn parse_rfc2822(text: &str) -> Option<Answer<'static>>
 {
     let date = behind_day_name(text).unwrap_or(text);
     let (day, rest) = read_field(date)?;
-    let rest = behind_spaces(rest)?;
-    let (month, rest) = read_month(rest)?;
-    let rest = behind_spaces(rest)?;
-    let (year, rest) = read_year(rest)?;
-    let rest = behind_spaces(rest)?;
-    let (clock, rest) = read_mail_clock(rest)?;
-    let rest = behind_spaces(rest)?;
-    let offset = parse_mail_zone(rest)?;
+    let (month, rest) = read_month(behind_spaces(rest)?)?;
+    let (year, rest) = read_year(behind_spaces(rest)?)?;
+    let (clock, rest) = read_mail_clock(behind_spaces(rest)?)?;
+    let offset = parse_mail_zone(behind_spaces(rest)?)?;
     date_answer(DateFields { year, month, day }, clock, offset)
 }
 
@@ -82,9 +78,7 @@ pub(crate) fn parse_rfc2822(text: &str) -> Option<Answer<'static>>
 fn behind_day_name(text: &str) -> Option<&str>
     ensures { option_copied result ≡ behind_day_name text.now }
 {
-    let rest = behind_weekday(text)?;
-    let rest = behind(',', rest)?;
-    behind_spaces(rest)
+    behind_spaces(behind(',', behind_weekday(text)?)?)
 }
 
 /// Reads an ISO 8601 date as Git prints it, `2022-08-18 12:45:06 +0800`.
@@ -94,10 +88,8 @@ pub(crate) fn parse_iso8601(text: &str) -> Option<Answer<'static>>
     ensures short { IfSome result HasZoneOffset }
 {
     let (date, rest) = read_plain_date(text)?;
-    let rest = behind_spaces(rest)?;
-    let (clock, rest) = read_clock(rest)?;
-    let rest = behind_spaces(rest)?;
-    let offset = parse_compact_zone(rest)?;
+    let (clock, rest) = read_clock(behind_spaces(rest)?)?;
+    let offset = parse_compact_zone(behind_spaces(rest)?)?;
     date_answer(date, clock, offset)
 }
 
@@ -108,8 +100,7 @@ pub(crate) fn parse_iso8601_strict(text: &str) -> Option<Answer<'static>>
     ensures short { IfSome result HasZoneOffset }
 {
     let (date, rest) = read_plain_date(text)?;
-    let rest = behind('T', rest)?;
-    let (clock, rest) = read_clock(rest)?;
+    let (clock, rest) = read_clock(behind('T', rest)?)?;
     let offset = parse_strict_zone(rest)?;
     date_answer(date, clock, offset)
 }
@@ -120,17 +111,11 @@ pub(crate) fn parse_gitoxide(text: &str) -> Option<Answer<'static>>
     ensures answer { option_map answer_of result ≡ gitoxide_answer text.now }
     ensures short { IfSome result HasZoneOffset }
 {
-    let rest = behind_weekday(text)?;
-    let rest = behind_spaces(rest)?;
-    let (month, rest) = read_month(rest)?;
-    let rest = behind_spaces(rest)?;
-    let (day, rest) = read_field(rest)?;
-    let rest = behind_spaces(rest)?;
-    let (year, rest) = read_year(rest)?;
-    let rest = behind_spaces(rest)?;
-    let (clock, rest) = read_clock(rest)?;
-    let rest = behind_spaces(rest)?;
-    let offset = parse_compact_zone(rest)?;
+    let (month, rest) = read_month(behind_spaces(behind_weekday(text)?)?)?;
+    let (day, rest) = read_field(behind_spaces(rest)?)?;
+    let (year, rest) = read_year(behind_spaces(rest)?)?;
+    let (clock, rest) = read_clock(behind_spaces(rest)?)?;
+    let offset = parse_compact_zone(behind_spaces(rest)?)?;
     date_answer(DateFields { year, month, day }, clock, offset)
 }
 
@@ -140,17 +125,11 @@ pub(crate) fn parse_default(text: &str) -> Option<Answer<'static>>
     ensures answer { option_map answer_of result ≡ default_answer text.now }
     ensures short { IfSome result HasZoneOffset }
 {
-    let rest = behind_weekday(text)?;
-    let rest = behind_spaces(rest)?;
-    let (month, rest) = read_month(rest)?;
-    let rest = behind_spaces(rest)?;
-    let (day, rest) = read_field(rest)?;
-    let rest = behind_spaces(rest)?;
-    let (clock, rest) = read_clock(rest)?;
-    let rest = behind_spaces(rest)?;
-    let (year, rest) = read_year(rest)?;
-    let rest = behind_spaces(rest)?;
-    let offset = parse_compact_zone(rest)?;
+    let (month, rest) = read_month(behind_spaces(behind_weekday(text)?)?)?;
+    let (day, rest) = read_field(behind_spaces(rest)?)?;
+    let (clock, rest) = read_clock(behind_spaces(rest)?)?;
+    let (year, rest) = read_year(behind_spaces(rest)?)?;
+    let offset = parse_compact_zone(behind_spaces(rest)?)?;
     date_answer(DateFields { year, month, day }, clock, offset)
 }
 
