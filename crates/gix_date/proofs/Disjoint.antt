@@ -11,10 +11,10 @@ use Rattle.gix_date.specs.Epoch.{epoch_time}
 use Rattle.gix_date.specs.FieldTexts.{IsYear, IsDigit}
 use Rattle.gix_date.specs.Fields.{behind, ◌>>=◌}
 use Rattle.gix_date.specs.Git.{read_marked_date, read_compact_date, dotted_time, compact_time, flexible_time, git_form, git_time, time_behind}
-use Rattle.gix_date.specs.FamilyLaws.{AreDisjoint}
+use Rattle.gix_date.specs.FamilyLaws.{AreDisjointBy}
 use Rattle.gix_date.specs.Numbers.{fits_i64, int_value, read_two_digits, read_year}
 use Rattle.gix_date.specs.Offsets.{offset_fields, offset_of}
-use Rattle.gix_date.specs.Raw.{raw_time, raw_offset, is_quarter}
+use Rattle.gix_date.specs.Raw.{OffsetRule, raw_time_by, raw_offset_by}
 use Rattle.gix_date.specs.SpaceWords.{space_words, first_words}
 use Rattle.gix_date.specs.declared.parsing.civil.DateFields.{DateFields}
 use Rattle.gix_date.specs.declared.parsing.offset.OffsetFields.{OffsetFields}
@@ -180,7 +180,7 @@ pub none-unless : {A : Type 0} (r : Option A) → ((x : A) → r ≡ Some x → 
 none-unless (Some x) h = absurd (h x refl)
 none-unless None h = refl
 
--- The two words of a raw text, and the one of a bare epoch.
+-- The two words of a raw text, by whatever rule for its offset, and the one of a bare epoch.
 pub record RawWords (text : List ℕ) : Type 0 where
   pub front : List ℕ
   pub zone : List ℕ
@@ -207,18 +207,18 @@ two-words-are (x ∷ y ∷ z ∷ more) a b second e h =
 abbrev time_at : ℤ → ℤ → Time
 time_at seconds offset = record { seconds = seconds; offset = offset }
 
-raw-fields : (o : List ℕ) (n : ℤ) → raw_offset o ≡ Some n → (f : OffsetFields) × (offset_fields o ≡ Some f)
-unfolding raw_offset
-raw-fields o n e = let f = went (offset_fields o) (λ f. cond (is_quarter f) (Some (offset_of f)) None) n e in (f.0, f.1)
+raw-fields : (rule : OffsetRule) (o : List ℕ) (n : ℤ) → raw_offset_by rule o ≡ Some n → (f : OffsetFields) × (offset_fields o ≡ Some f)
+unfolding raw_offset_by
+raw-fields rule o n e = let f = went (offset_fields o) (λ f. cond (rule f) (Some (offset_of f)) None) n e in (f.0, f.1)
 
-pub raw-words : (text : List ℕ) (t : Time) → raw_time text ≡ Some t → RawWords text
-unfolding raw_time
-raw-words text t e =
-    let words = went (first_words (space_words text)) (λ words. words.1 >>= λ second. int_value words.0 >>= λ s. raw_offset second >>= λ o. Some (time_at s o)) t e in
-    let second = went words.0.1 (λ second. int_value words.0.0 >>= λ s. raw_offset second >>= λ o. Some (time_at s o)) t words.2 in
-    let seconds = went (int_value words.0.0) (λ s. raw_offset second.0 >>= λ o. Some (time_at s o)) t second.2 in
-    let offset = went (raw_offset second.0) (λ o. Some (time_at seconds.0 o)) t seconds.2 in
-    let fields = raw-fields second.0 offset.0 offset.1 in
+pub raw-words : (rule : OffsetRule) (text : List ℕ) (t : Time) → raw_time_by rule text ≡ Some t → RawWords text
+unfolding raw_time_by
+raw-words rule text t e =
+    let words = went (first_words (space_words text)) (λ words. words.1 >>= λ second. int_value words.0 >>= λ s. raw_offset_by rule second >>= λ o. Some (time_at s o)) t e in
+    let second = went words.0.1 (λ second. int_value words.0.0 >>= λ s. raw_offset_by rule second >>= λ o. Some (time_at s o)) t words.2 in
+    let seconds = went (int_value words.0.0) (λ s. raw_offset_by rule second.0 >>= λ o. Some (time_at s o)) t second.2 in
+    let offset = went (raw_offset_by rule second.0) (λ o. Some (time_at seconds.0 o)) t seconds.2 in
+    let fields = raw-fields rule second.0 offset.0 offset.1 in
     record {
       front = words.0.0;
       zone = second.0;
@@ -239,24 +239,24 @@ raw-first text r = record { word = r.front; words = r.zone ∷ []; is = r.is; va
 pub int-first : (text : List ℕ) (n : ℤ) → int_value text ≡ Some n → FirstNumber text
 int-first text n e = record { word = text; words = []; is = one-word text (int-number text n e); value = n; is_value = e }
 
-pub raw-no-epoch : (text : List ℕ) (t u : Time) → raw_time text ≡ Some t → epoch_time text ≡ Some u → ⊥
-raw-no-epoch text t u e h =
-    let r = raw-words text t e in
+pub raw-no-epoch : (rule : OffsetRule) (text : List ℕ) (t u : Time) → raw_time_by rule text ≡ Some t → epoch_time text ≡ Some u → ⊥
+raw-no-epoch rule text t u e h =
+    let r = raw-words rule text t e in
     let n = epoch-int text u h in
     let clash : r.front ∷ r.zone ∷ [] ≡ text ∷ [] = sym r.is ∙ one-word text (int-number text n.0 n.1) in
     cc
 
-pub quiet-raw : (text : List ℕ) (t : Time) → IsUtf8 text → raw_time text ≡ Some t → IsQuiet text
-quiet-raw text t u e =
-    let r = raw-words text t e in
+pub quiet-raw : (rule : OffsetRule) (text : List ℕ) (t : Time) → IsUtf8 text → raw_time_by rule text ≡ Some t → IsQuiet text
+quiet-raw rule text t u e =
+    let r = raw-words rule text t e in
     quiet-two-words text r.front r.zone u r.is (quiet-int r.front r.value r.is_value) (quiet-offset r.zone r.fields r.is_fields)
 
 -- No text is of two of these families, and none of the first two is relative.
-pub are-disjoint : (text : List ℕ) → IsUtf8 text → AreDisjoint text
-are-disjoint text u = record {
-  raw_epoch = λ t e. none-unless (epoch_time text) (λ v h. raw-no-epoch text t v e h);
-  raw_git = λ t e. none-unless (git_time text) (λ v h. no-git text u (raw-first text (raw-words text t e)) v h);
-  raw_relative = λ t e. no-relative text u (quiet-raw text t u e);
+pub are-disjoint : (rule : OffsetRule) (text : List ℕ) → IsUtf8 text → AreDisjointBy rule text
+are-disjoint rule text u = record {
+  raw_epoch = λ t e. none-unless (epoch_time text) (λ v h. raw-no-epoch rule text t v e h);
+  raw_git = λ t e. none-unless (git_time text) (λ v h. no-git text u (raw-first text (raw-words rule text t e)) v h);
+  raw_relative = λ t e. no-relative text u (quiet-raw rule text t u e);
   epoch_git = λ t e. (let n = epoch-int text t e in none-unless (git_time text) (λ v h. no-git text u (int-first text n.0 n.1) v h));
   epoch_relative = λ t e. (let n = epoch-int text t e in no-relative text u (quiet-int text n.0 n.1));
 }

@@ -10,16 +10,16 @@ use Rattle.std.specs.Prelude.{◌==◌, nat_lt}
 use Rattle.std.specs.Str.{trim, trim_start, trim_end, all_ascii_digits, chars, NonePass, skip_leading_whitespace, drop_trailing_whitespace}
 use Rattle.gix_date.specs.Answer.{FamilyAnswer, Absolute, OffsetBeyond, InstantBeyond, Relative}
 use Rattle.gix_date.specs.Characters.{at_sign, comma, minus, space, is_space}
-use Rattle.gix_date.specs.Epoch.{at_time, epoch_time, utc_time}
-use Rattle.gix_date.specs.Families.{Family, AtText, Short, Rfc2822, Iso8601, Iso8601Strict, Gitoxide, GitDefault, BareEpoch, GitForm, RelativeText, RawText, families, family_answer, answers_before_git, family_answers, first_of, first_family, Comes}
-use Rattle.gix_date.specs.FamilyLaws.{AreExclusive, ComesFirst, IgnoresMoment, Holds, overlap}
+use Rattle.gix_date.specs.Epoch.{at_time_by, epoch_time, utc_time}
+use Rattle.gix_date.specs.Families.{Family, AtText, Short, Rfc2822, Iso8601, Iso8601Strict, Gitoxide, GitDefault, BareEpoch, GitForm, RelativeText, RawText, families, family_answer_by, answers_before_git_by, family_answers_by, first_of, first_family_by, Comes}
+use Rattle.gix_date.specs.FamilyLaws.{AreExclusiveBy, ComesFirstBy, IgnoresMomentBy, HoldsBy, overlap}
 use Rattle.gix_date.specs.FieldTexts.{IsYear, IsField, IsMonthName, IsDayPrefix, AreSpaces}
 use Rattle.gix_date.specs.Fields.{behind, ◌>>=◌}
 use Rattle.gix_date.specs.Git.{git_time, git_form, dotted_time, compact_time, flexible_time, read_marked_date, read_compact_date}
-use Rattle.gix_date.specs.Numbers.{int_value}
+use Rattle.gix_date.specs.Numbers.{int_value, is_number_byte}
 use Rattle.gix_date.specs.Patterns.{short_answer, rfc2822_answer, iso8601_answer, iso8601_strict_answer, gitoxide_answer, default_answer, rfc2822_layout, iso8601_layout, iso8601_strict_layout, gitoxide_layout, default_layout, time_answer, date_answer, day_answer, midnight, Spells, IsAnswered}
 use Rattle.gix_date.specs.PatternFields.{behind_weekday, read_plain_date}
-use Rattle.gix_date.specs.Raw.{raw_time}
+use Rattle.gix_date.specs.Raw.{OffsetRule, raw_time_by}
 use Rattle.gix_date.specs.Relative.{relative_date, RelativeDate}
 use Rattle.gix_date.specs.SpaceWords.{space_words, runs}
 use Rattle.gix_date.specs.Civil.{civil_instant, is_date}
@@ -42,7 +42,7 @@ use Rattle.gix_date.proofs.QuietWords.{IsQuiet, no-relative}
 use Rattle.gix_date.proofs.QuietDates.{quiet-behind, quiet-short, quiet-mail, quiet-iso8601, quiet-strict, quiet-gitoxide, quiet-default, quiet-int, field-digits, year-digits}
 use Rattle.gix_date.proofs.ReadBack.{first-at}
 use Rattle.gix_date.proofs.FirstBytes.{no-git-byte, no-raw-front, no-raw-byte, plain-front, no-plain-by}
-use Rattle.gix_date.proofs.PlainHeaders.{is_number_byte, offset-taken, IsMark}
+use Rattle.gix_date.proofs.PlainHeaders.{offset-taken, IsMark}
 use Rattle.gix_date.proofs.WordSteps.{runs_skip, run_first, stops}
 
 -- Texts that begin with a letter, or with visible bytes alone.
@@ -99,15 +99,15 @@ word-then x xs g gap rest v s =
     ∙ ap (λ (t : List ℕ). t ∷ map encode_utf8_all (runs (chars rest))) (encodes-IsAscii word a)
 
 -- a raw text is none of the formatted dates, nor an at text
-raw-clash : (text : List ℕ) (t : Time) → raw_time text ≡ Some t → raw_time text ≡ None → ⊥
-raw-clash text t e h = let clash : None ≡ Some t = sym h ∙ e in cc
+raw-clash : (rule : OffsetRule) (text : List ℕ) (t : Time) → raw_time_by rule text ≡ Some t → raw_time_by rule text ≡ None → ⊥
+raw-clash rule text t e h = let clash : None ≡ Some t = sym h ∙ e in cc
 
 letter-no-number : (c : ℕ) → is_ascii_alphabetic c ≡ true → is_number_byte c ≡ false
 letter-no-number c h = grind (arith, nat_tests, h)
 
-raw-no-letter : (name rest : List ℕ) (t : Time) → Begins is_ascii_alphabetic name → raw_time (name ++ rest) ≡ Some t → ⊥
-raw-no-letter [] rest t h e = absurd h
-raw-no-letter (c ∷ name) rest t h e = raw-clash (c ∷ (name ++ rest)) t e (no-raw-byte c (name ++ rest) (letter_visible c h) (letter-no-number c h))
+raw-no-letter : (rule : OffsetRule) (name rest : List ℕ) (t : Time) → Begins is_ascii_alphabetic name → raw_time_by rule (name ++ rest) ≡ Some t → ⊥
+raw-no-letter rule [] rest t h e = absurd h
+raw-no-letter rule (c ∷ name) rest t h e = raw-clash rule (c ∷ (name ++ rest)) t e (no-raw-byte rule c (name ++ rest) (letter_visible c h) (letter-no-number c h))
 
 field-visible : (day : List ℕ) (n : ℕ) → IsField day n → AreVisible day
 field-visible [] n h = tt
@@ -122,12 +122,12 @@ mark-no-letter c s (inr p) = rw p.0 refl
 two-same : (a b c d : List ℕ) (ws : List (List ℕ)) → a ∷ b ∷ [] ≡ c ∷ d ∷ ws → b ≡ d
 two-same a b c d ws e = cc
 
-raw-no-day : (day gap month rest : List ℕ) (n m : ℕ) (t : Time) → IsField day n → AreSpaces gap → IsMonthName month m → raw_time (day ++ (gap ++ (month ++ rest))) ≡ Some t → ⊥
-raw-no-day [] gap month rest n m t h s k e = absurd h
-raw-no-day day [] month rest n m t h s k e = absurd s
-raw-no-day day gap [] rest n m t h s k e = absurd k.0
-raw-no-day (c ∷ day) (g ∷ gap) (l ∷ month) rest n m t h s k e =
-    let r = raw-words ((c ∷ day) ++ ((g ∷ gap) ++ ((l ∷ month) ++ rest))) t e in
+raw-no-day : (rule : OffsetRule) (day gap month rest : List ℕ) (n m : ℕ) (t : Time) → IsField day n → AreSpaces gap → IsMonthName month m → raw_time_by rule (day ++ (gap ++ (month ++ rest))) ≡ Some t → ⊥
+raw-no-day rule [] gap month rest n m t h s k e = absurd h
+raw-no-day rule day [] month rest n m t h s k e = absurd s
+raw-no-day rule day gap [] rest n m t h s k e = absurd k.0
+raw-no-day rule (c ∷ day) (g ∷ gap) (l ∷ month) rest n m t h s k e =
+    let r = raw-words rule ((c ∷ day) ++ ((g ∷ gap) ++ ((l ∷ month) ++ rest))) t e in
     let letter = name-begins (l ∷ month) k.0 in
     let b = first-begins l [] (month ++ rest) (letter_visible l letter, tt) in
     let words : r.front ∷ r.zone ∷ [] ≡ (c ∷ day) ∷ (l ∷ b.rest) ∷ b.words = sym r.is ∙ word-then c day g gap ((l ∷ month) ++ rest) (field-visible (c ∷ day) n h) s ∙ ap (λ (ws : List (List ℕ)). (c ∷ day) ∷ ws) b.is in
@@ -140,17 +140,17 @@ raw-no-day (c ∷ day) (g ∷ gap) (l ∷ month) rest n m t h s k e =
     head_same : (a b : ℕ) (xs ys : List ℕ) → a ∷ xs ≡ b ∷ ys → a ≡ b
     head_same a b xs ys e = cc
 
-raw-no-mail : (text : List ℕ) (t : Time) → raw_time text ≡ Some t → rfc2822_answer text ≡ None
-raw-no-mail text t e = none-unless (rfc2822_answer text) (λ answer a.
+raw-no-mail : (rule : OffsetRule) (text : List ℕ) (t : Time) → raw_time_by rule text ≡ Some t → rfc2822_answer text ≡ None
+raw-no-mail rule text t e = none-unless (rfc2822_answer text) (λ answer a.
     let h = mail-front text answer a in
-    by-prefix h.prefix h.day h.gap h.month h.rest h.number h.month_number h.is_prefix h.is_day h.is_gap h.is_month (ap raw_time (sym h.whole) ∙ e))
+    by-prefix h.prefix h.day h.gap h.month h.rest h.number h.month_number h.is_prefix h.is_day h.is_gap h.is_month (ap (raw_time_by rule) (sym h.whole) ∙ e))
   where
-    by-prefix : (prefix day gap month rest : List ℕ) (n m : ℕ) → (prefix ≡ []) ⊎ IsDayPrefix prefix → IsField day n → AreSpaces gap → IsMonthName month m → raw_time (prefix ++ (day ++ (gap ++ (month ++ rest)))) ≡ Some t → ⊥
-    by-prefix prefix day gap month rest n m (inl none) h s k e = raw-no-day day gap month rest n m t h s k (ap (λ (p : List ℕ). raw_time (p ++ (day ++ (gap ++ (month ++ rest))))) (sym none) ∙ e)
+    by-prefix : (prefix day gap month rest : List ℕ) (n m : ℕ) → (prefix ≡ []) ⊎ IsDayPrefix prefix → IsField day n → AreSpaces gap → IsMonthName month m → raw_time_by rule (prefix ++ (day ++ (gap ++ (month ++ rest)))) ≡ Some t → ⊥
+    by-prefix prefix day gap month rest n m (inl none) h s k e = raw-no-day rule day gap month rest n m t h s k (ap (λ (p : List ℕ). raw_time_by rule (p ++ (day ++ (gap ++ (month ++ rest))))) (sym none) ∙ e)
     by-prefix prefix day gap month rest n m (inr named) h s k e =
         let text = day ++ (gap ++ (month ++ rest)) in
         let split : prefix ++ text ≡ named.name ++ (comma ∷ (named.gap ++ text)) = rw named.whole (simp append_assoc) in
-        raw-no-letter named.name (comma ∷ (named.gap ++ text)) t (name-begins named.name named.is_name.0) (ap raw_time (sym split) ∙ e)
+        raw-no-letter rule named.name (comma ∷ (named.gap ++ text)) t (name-begins named.name named.is_name.0) (ap (raw_time_by rule) (sym split) ∙ e)
 
 -- A day alone is no Git text: nothing stands behind its day.
 abbrev day_text : List ℕ → List ℕ → List ℕ → List ℕ
@@ -224,34 +224,34 @@ mail-no-git text answer u a =
         cc
 
 -- A relative text is of no other family but Git's own forms: the texts of the others are quiet.
-quiet-rest : (rest : List ℕ) (t : Time) (raw : Option Time) (int : Option ℤ) → IsUtf8 rest → raw_time rest ≡ raw → int_value rest ≡ int → option_or raw (option_map utc_time int) ≡ Some t → IsQuiet rest
-quiet-rest rest t (Some v) int u e f h = quiet-raw rest v u e
-quiet-rest rest t None (Some n) u e f h = quiet-int rest n f
-quiet-rest rest t None None u e f h = absurd cc
+quiet-rest : (rule : OffsetRule) (rest : List ℕ) (t : Time) (raw : Option Time) (int : Option ℤ) → IsUtf8 rest → raw_time_by rule rest ≡ raw → int_value rest ≡ int → option_or raw (option_map utc_time int) ≡ Some t → IsQuiet rest
+quiet-rest rule rest t (Some v) int u e f h = quiet-raw rule rest v u e
+quiet-rest rule rest t None (Some n) u e f h = quiet-int rest n f
+quiet-rest rule rest t None None u e f h = absurd cc
 
 behind-utf8 : (rest : List ℕ) → IsUtf8 (at_sign ∷ rest) → IsUtf8 rest
 behind-utf8 rest u = IsUtf8-drop (at_sign ∷ rest) 1 u (IsCharBoundary-after_ascii (at_sign ∷ rest) 0 u (omega arith) (omega arith))
 
-quiet-at : (text : List ℕ) (t : Time) → IsUtf8 text → at_time text ≡ Some t → IsQuiet text
-unfolding at_time
-quiet-at text t u e =
-    let rest = went (behind at_sign text) (λ rest. option_or (raw_time rest) (option_map utc_time (int_value rest))) t e in
+quiet-at : (rule : OffsetRule) (text : List ℕ) (t : Time) → IsUtf8 text → at_time_by rule text ≡ Some t → IsQuiet text
+unfolding at_time_by
+quiet-at rule text t u e =
+    let rest = went (behind at_sign text) (λ rest. option_or (raw_time_by rule rest) (option_map utc_time (int_value rest))) t e in
     let split : text ≡ at_sign ∷ rest.0 = behind-taken at_sign text rest.0 rest.1 in
     subst IsQuiet (sym split)
-    (quiet-behind at_sign rest.0 refl (quiet-rest rest.0 t (raw_time rest.0) (int_value rest.0) (behind-utf8 rest.0 (subst IsUtf8 split u)) refl refl rest.2))
+    (quiet-behind at_sign rest.0 refl (quiet-rest rule rest.0 t (raw_time_by rule rest.0) (int_value rest.0) (behind-utf8 rest.0 (subst IsUtf8 split u)) refl refl rest.2))
 
 -- What a family answers, as a fact.
-abbrev Answered : Family → List ℕ → Type 0
-Answered family text = (answer : FamilyAnswer) × (family_answer family text ≡ Some answer)
+abbrev pub Answered : OffsetRule → Family → List ℕ → Type 0
+Answered rule family text = (answer : FamilyAnswer) × (family_answer_by rule family text ≡ Some answer)
 
-answered : (family : Family) (text : List ℕ) → Holds family text → Answered family text
-answered family text h = found (family_answer family text) h
+pub answered : (rule : OffsetRule) (family : Family) (text : List ℕ) → HoldsBy rule family text → Answered rule family text
+answered rule family text h = found (family_answer_by rule family text) h
   where
     found : (r : Option FamilyAnswer) → is_some r ≡ true → (answer : FamilyAnswer) × (r ≡ Some answer)
     found (Some x) e = (x, refl)
     found None e = absurd cc
 
-absolute : (r : Option Time) → is_some (option_map Absolute r) ≡ true → (t : Time) × (r ≡ Some t)
+pub absolute : (r : Option Time) → is_some (option_map Absolute r) ≡ true → (t : Time) × (r ≡ Some t)
 absolute (Some t) e = (t, refl)
 absolute None e = absurd cc
 
@@ -259,30 +259,30 @@ relative : (r : Option RelativeDate) → is_some (option_map Relative r) ≡ tru
 relative (Some d) e n = absurd cc
 relative None e n = absurd cc
 
-none-held : {A : Type 0} (r : Option A) → is_some r ≡ true → r ≡ None → ⊥
+pub none-held : {A : Type 0} (r : Option A) → is_some r ≡ true → r ≡ None → ⊥
 none-held (Some x) e n = absurd cc
 none-held None e n = absurd cc
 
-no-absolute : (r : Option Time) → is_some (option_map Absolute r) ≡ true → r ≡ None → ⊥
+pub no-absolute : (r : Option Time) → is_some (option_map Absolute r) ≡ true → r ≡ None → ⊥
 no-absolute (Some x) e n = absurd cc
 no-absolute None e n = absurd cc
 
 -- no quiet text is relative
-quiet-clash : (text : List ℕ) → IsUtf8 text → IsQuiet text → Holds RelativeText text → ⊥
-quiet-clash text u q h = relative (relative_date text) h (no-relative text u q)
+pub quiet-clash : (rule : OffsetRule) (text : List ℕ) → IsUtf8 text → IsQuiet text → HoldsBy rule RelativeText text → ⊥
+quiet-clash rule text u q h = relative (relative_date text) h (no-relative text u q)
 
-is-quiet : (family : Family) (text : List ℕ) → IsUtf8 text → family ≢ RelativeText → overlap family RelativeText ≡ false → Holds family text → IsQuiet text
-is-quiet AtText text u n o h = let t = absolute (at_time text) h in quiet-at text t.0 u t.1
-is-quiet Short text u n o h = let a = answered Short text h in quiet-short text a.0 a.1
-is-quiet Rfc2822 text u n o h = let a = answered Rfc2822 text h in quiet-mail text a.0 a.1
-is-quiet Iso8601 text u n o h = let a = answered Iso8601 text h in quiet-iso8601 text a.0 a.1
-is-quiet Iso8601Strict text u n o h = let a = answered Iso8601Strict text h in quiet-strict text a.0 a.1
-is-quiet Gitoxide text u n o h = let a = answered Gitoxide text h in quiet-gitoxide text a.0 a.1
-is-quiet GitDefault text u n o h = let a = answered GitDefault text h in quiet-default text a.0 a.1
-is-quiet BareEpoch text u n o h = let t = absolute (epoch_time text) h in let i = epoch-int text t.0 t.1 in quiet-int text i.0 i.1
-is-quiet GitForm text u n o h = absurd cc
-is-quiet RelativeText text u n o h = absurd (n refl)
-is-quiet RawText text u n o h = let t = absolute (raw_time text) h in quiet-raw text t.0 u t.1
+is-quiet : (rule : OffsetRule) (family : Family) (text : List ℕ) → IsUtf8 text → family ≢ RelativeText → overlap family RelativeText ≡ false → HoldsBy rule family text → IsQuiet text
+is-quiet rule AtText text u n o h = let t = absolute (at_time_by rule text) h in quiet-at rule text t.0 u t.1
+is-quiet rule Short text u n o h = let a = answered rule Short text h in quiet-short text a.0 a.1
+is-quiet rule Rfc2822 text u n o h = let a = answered rule Rfc2822 text h in quiet-mail text a.0 a.1
+is-quiet rule Iso8601 text u n o h = let a = answered rule Iso8601 text h in quiet-iso8601 text a.0 a.1
+is-quiet rule Iso8601Strict text u n o h = let a = answered rule Iso8601Strict text h in quiet-strict text a.0 a.1
+is-quiet rule Gitoxide text u n o h = let a = answered rule Gitoxide text h in quiet-gitoxide text a.0 a.1
+is-quiet rule GitDefault text u n o h = let a = answered rule GitDefault text h in quiet-default text a.0 a.1
+is-quiet rule BareEpoch text u n o h = let t = absolute (epoch_time text) h in let i = epoch-int text t.0 t.1 in quiet-int text i.0 i.1
+is-quiet rule GitForm text u n o h = absurd cc
+is-quiet rule RelativeText text u n o h = absurd (n refl)
+is-quiet rule RawText text u n o h = let t = absolute (raw_time_by rule text) h in quiet-raw rule text t.0 u t.1
 
 -- Git's own forms
 named-no-git : (text : List ℕ) (rest : List ℕ) → IsUtf8 text → behind_weekday text ≡ Some rest → git_time text ≡ None
@@ -290,49 +290,49 @@ named-no-git text rest u e =
     let d = weekday-taken text rest e in
     ap git_time d.whole ∙ git-no-letter d.name rest (subst IsUtf8 d.whole u) (name-begins d.name d.is_name.0)
 
-git-clash : (family : Family) (text : List ℕ) → IsUtf8 text → family ≢ GitForm → overlap family GitForm ≡ false → Holds family text → git_time text ≡ None
+git-clash : (rule : OffsetRule) (family : Family) (text : List ℕ) → IsUtf8 text → family ≢ GitForm → overlap family GitForm ≡ false → HoldsBy rule family text → git_time text ≡ None
 unfolding gitoxide_answer default_answer
-git-clash AtText text u n o h =
-    let t = absolute (at_time text) h in
-    let f = at-first text t.0 t.1 in
+git-clash rule AtText text u n o h =
+    let t = absolute (at_time_by rule text) h in
+    let f = at-first rule text t.0 t.1 in
     ap git_time f.1 ∙ no-git-byte at_sign f.0 (subst IsUtf8 f.1 u) refl refl
-git-clash Short text u n o h = let a = answered Short text h in short-no-git text a.0 a.1
-git-clash Rfc2822 text u n o h = let a = answered Rfc2822 text h in mail-no-git text a.0 u a.1
-git-clash Iso8601 text u n o h = absurd cc
-git-clash Iso8601Strict text u n o h = absurd cc
-git-clash Gitoxide text u n o h = let a = answered Gitoxide text h in let d = went (behind_weekday text) _ a.0 a.1 in named-no-git text d.0 u d.1
-git-clash GitDefault text u n o h = let a = answered GitDefault text h in let d = went (behind_weekday text) _ a.0 a.1 in named-no-git text d.0 u d.1
-git-clash BareEpoch text u n o h = let t = absolute (epoch_time text) h in (are-disjoint text u).epoch_git t.0 t.1
-git-clash GitForm text u n o h = absurd (n refl)
-git-clash RelativeText text u n o h = absurd cc
-git-clash RawText text u n o h = let t = absolute (raw_time text) h in (are-disjoint text u).raw_git t.0 t.1
+git-clash rule Short text u n o h = let a = answered rule Short text h in short-no-git text a.0 a.1
+git-clash rule Rfc2822 text u n o h = let a = answered rule Rfc2822 text h in mail-no-git text a.0 u a.1
+git-clash rule Iso8601 text u n o h = absurd cc
+git-clash rule Iso8601Strict text u n o h = absurd cc
+git-clash rule Gitoxide text u n o h = let a = answered rule Gitoxide text h in let d = went (behind_weekday text) _ a.0 a.1 in named-no-git text d.0 u d.1
+git-clash rule GitDefault text u n o h = let a = answered rule GitDefault text h in let d = went (behind_weekday text) _ a.0 a.1 in named-no-git text d.0 u d.1
+git-clash rule BareEpoch text u n o h = let t = absolute (epoch_time text) h in (are-disjoint rule text u).epoch_git t.0 t.1
+git-clash rule GitForm text u n o h = absurd (n refl)
+git-clash rule RelativeText text u n o h = absurd cc
+git-clash rule RawText text u n o h = let t = absolute (raw_time_by rule text) h in (are-disjoint rule text u).raw_git t.0 t.1
 
 -- raw texts
-raw-no-at : (text : List ℕ) (t v : Time) → raw_time text ≡ Some t → at_time text ≡ Some v → ⊥
-raw-no-at text t v e h = let f = at-first text v h in raw-clash text t e (ap raw_time f.1 ∙ no-raw-byte at_sign f.0 refl refl)
+raw-no-at : (rule : OffsetRule) (text : List ℕ) (t v : Time) → raw_time_by rule text ≡ Some t → at_time_by rule text ≡ Some v → ⊥
+raw-no-at rule text t v e h = let f = at-first rule text v h in raw-clash rule text t e (ap (raw_time_by rule) f.1 ∙ no-raw-byte rule at_sign f.0 refl refl)
 
-raw-no-plain : (text : List ℕ) (t : Time) → raw_time text ≡ Some t → NoPlainDate text
-raw-no-plain text t e = no-plain-by text (none-unless (read_plain_date text) (λ d h. raw-clash text t e (no-raw-front text (plain-front text d h))))
+raw-no-plain : (rule : OffsetRule) (text : List ℕ) (t : Time) → raw_time_by rule text ≡ Some t → NoPlainDate text
+raw-no-plain rule text t e = no-plain-by text (none-unless (read_plain_date text) (λ d h. raw-clash rule text t e (no-raw-front rule text (plain-front text d h))))
 
-raw-no-named : (text : List ℕ) (t : Time) → raw_time text ≡ Some t → NoDayFirst text
-raw-no-named text t e =
-    no-day text (none-unless (behind_weekday text) (λ r h. (let w = weekday-taken text r h in raw-no-letter w.name r t (name-begins w.name w.is_name.0) (ap raw_time (sym w.whole) ∙ e))))
+raw-no-named : (rule : OffsetRule) (text : List ℕ) (t : Time) → raw_time_by rule text ≡ Some t → NoDayFirst text
+raw-no-named rule text t e =
+    no-day text (none-unless (behind_weekday text) (λ r h. (let w = weekday-taken text r h in raw-no-letter rule w.name r t (name-begins w.name w.is_name.0) (ap (raw_time_by rule) (sym w.whole) ∙ e))))
 
-raw-alone : (family : Family) (text : List ℕ) (t : Time) → IsUtf8 text → family ≢ RawText → raw_time text ≡ Some t → Holds family text → ⊥
-raw-alone AtText text t u n e h = let v = absolute (at_time text) h in raw-no-at text t v.0 e v.1
-raw-alone Short text t u n e h = none-held (short_answer text) h (raw-no-plain text t e).short
-raw-alone Rfc2822 text t u n e h = none-held (rfc2822_answer text) h (raw-no-mail text t e)
-raw-alone Iso8601 text t u n e h = none-held (iso8601_answer text) h (raw-no-plain text t e).iso8601
-raw-alone Iso8601Strict text t u n e h = none-held (iso8601_strict_answer text) h (raw-no-plain text t e).strict
-raw-alone Gitoxide text t u n e h = none-held (gitoxide_answer text) h (raw-no-named text t e).gitoxide
-raw-alone GitDefault text t u n e h = none-held (default_answer text) h (raw-no-named text t e).by_default
-raw-alone BareEpoch text t u n e h = no-absolute (epoch_time text) h ((are-disjoint text u).raw_epoch t e)
-raw-alone GitForm text t u n e h = no-absolute (git_time text) h ((are-disjoint text u).raw_git t e)
-raw-alone RelativeText text t u n e h = quiet-clash text u (quiet-raw text t u e) h
-raw-alone RawText text t u n e h = absurd (n refl)
+raw-alone : (rule : OffsetRule) (family : Family) (text : List ℕ) (t : Time) → IsUtf8 text → family ≢ RawText → raw_time_by rule text ≡ Some t → HoldsBy rule family text → ⊥
+raw-alone rule AtText text t u n e h = let v = absolute (at_time_by rule text) h in raw-no-at rule text t v.0 e v.1
+raw-alone rule Short text t u n e h = none-held (short_answer text) h (raw-no-plain rule text t e).short
+raw-alone rule Rfc2822 text t u n e h = none-held (rfc2822_answer text) h (raw-no-mail rule text t e)
+raw-alone rule Iso8601 text t u n e h = none-held (iso8601_answer text) h (raw-no-plain rule text t e).iso8601
+raw-alone rule Iso8601Strict text t u n e h = none-held (iso8601_strict_answer text) h (raw-no-plain rule text t e).strict
+raw-alone rule Gitoxide text t u n e h = none-held (gitoxide_answer text) h (raw-no-named rule text t e).gitoxide
+raw-alone rule GitDefault text t u n e h = none-held (default_answer text) h (raw-no-named rule text t e).by_default
+raw-alone rule BareEpoch text t u n e h = no-absolute (epoch_time text) h ((are-disjoint rule text u).raw_epoch t e)
+raw-alone rule GitForm text t u n e h = no-absolute (git_time text) h ((are-disjoint rule text u).raw_git t e)
+raw-alone rule RelativeText text t u n e h = quiet-clash rule text u (quiet-raw rule text t u e) h
+raw-alone rule RawText text t u n e h = absurd (n refl)
 
 -- the families before Git's own forms, by their places
-abbrev place : Family → ℕ
+abbrev pub place : Family → ℕ
 place AtText = 0
 place Short = 1
 place Rfc2822 = 2
@@ -375,24 +375,24 @@ two-of (Some a ∷ answers) zero (suc j) l h k m = let more = some-of answers j 
 two-of (None ∷ answers) (suc i) (suc j) l h k m = two-of answers i j (omega (arith, l)) h k m
 two-of (Some a ∷ answers) (suc i) (suc j) l h k m = let more = some-of answers j k in omega (arith, more, m)
 
-holds-at : (family : Family) (text : List ℕ) → nat_lt (place family) 8 ≡ true → get_or (answers_before_git text) (place family) None ≡ family_answer family text
-holds-at GitForm text e = absurd cc
-holds-at RelativeText text e = absurd cc
-holds-at RawText text e = absurd cc
-holds-at family text e = refl
+holds-at : (rule : OffsetRule) (family : Family) (text : List ℕ) → nat_lt (place family) 8 ≡ true → get_or (answers_before_git_by rule text) (place family) None ≡ family_answer_by rule family text
+holds-at rule GitForm text e = absurd cc
+holds-at rule RelativeText text e = absurd cc
+holds-at rule RawText text e = absurd cc
+holds-at rule family text e = refl
 
-early-clash : (a b : Family) (text : List ℕ) → nat_lt (place a) 8 ≡ true → nat_lt (place b) 8 ≡ true → a ≢ b → Holds a text → Holds b text → ⊥
-early-clash a b text e f n h k =
-    let first : is_some (get_or (answers_before_git text) (place a) None) ≡ true = ap is_some (holds-at a text e) ∙ h in
-    let second : is_some (get_or (answers_before_git text) (place b) None) ≡ true = ap is_some (holds-at b text f) ∙ k in
-    let one = before-git-apart text in
+early-clash : (rule : OffsetRule) (a b : Family) (text : List ℕ) → nat_lt (place a) 8 ≡ true → nat_lt (place b) 8 ≡ true → a ≢ b → HoldsBy rule a text → HoldsBy rule b text → ⊥
+early-clash rule a b text e f n h k =
+    let first : is_some (get_or (answers_before_git_by rule text) (place a) None) ≡ true = ap is_some (holds-at rule a text e) ∙ h in
+    let second : is_some (get_or (answers_before_git_by rule text) (place b) None) ≡ true = ap is_some (holds-at rule b text f) ∙ k in
+    let one = before-git-apart rule text in
     by-order (cases_order (place a) (place b)) first second one
   where
-    by-order : (place a ≡ place b) ⊎ ((place a < place b) ⊎ (place b < place a)) → is_some (get_or (answers_before_git text) (place a) None) ≡ true → is_some (get_or (answers_before_git text) (place b) None) ≡ true
-        → length (filter is_some (answers_before_git text)) ≤ 1 → ⊥
+    by-order : (place a ≡ place b) ⊎ ((place a < place b) ⊎ (place b < place a)) → is_some (get_or (answers_before_git_by rule text) (place a) None) ≡ true → is_some (get_or (answers_before_git_by rule text) (place b) None) ≡ true
+        → length (filter is_some (answers_before_git_by rule text)) ≤ 1 → ⊥
     by-order (inl same) first second one = n (sym (place-back a) ∙ ap family_at same ∙ place-back b)
-    by-order (inr (inl less)) first second one = two-of (answers_before_git text) (place a) (place b) less first second one
-    by-order (inr (inr more)) first second one = two-of (answers_before_git text) (place b) (place a) more second first one
+    by-order (inr (inl less)) first second one = two-of (answers_before_git_by rule text) (place a) (place b) less first second one
+    by-order (inr (inr more)) first second one = two-of (answers_before_git_by rule text) (place b) (place a) more second first one
 
 -- `overlap` is the same both ways
 flip-git : (family : Family) → overlap GitForm family ≡ overlap family GitForm
@@ -404,55 +404,55 @@ flip-relative AtText = refl
 flip-relative family = refl
 
 -- two families that do not overlap
-clash : (a b : Family) (text : List ℕ) → IsUtf8 text → a ≢ b → overlap a b ≡ false → Holds a text → Holds b text → ⊥
-clash RawText b text u n o h k = let t = absolute (raw_time text) h in raw-alone b text t.0 u (λ e. n (sym e)) t.1 k
-clash a RawText text u n o h k = let t = absolute (raw_time text) k in raw-alone a text t.0 u n t.1 h
-clash RelativeText b text u n o h k = quiet-clash text u (is-quiet b text u (λ e. n (sym e)) (sym (flip-relative b) ∙ o) k) h
-clash a RelativeText text u n o h k = quiet-clash text u (is-quiet a text u n o h) k
-clash GitForm b text u n o h k = no-absolute (git_time text) h (git-clash b text u (λ e. n (sym e)) (sym (flip-git b) ∙ o) k)
-clash a GitForm text u n o h k = no-absolute (git_time text) k (git-clash a text u n o h)
-clash a b text u n o h k = early-clash a b text refl refl n h k
+clash : (rule : OffsetRule) (a b : Family) (text : List ℕ) → IsUtf8 text → a ≢ b → overlap a b ≡ false → HoldsBy rule a text → HoldsBy rule b text → ⊥
+clash rule RawText b text u n o h k = let t = absolute (raw_time_by rule text) h in raw-alone rule b text t.0 u (λ e. n (sym e)) t.1 k
+clash rule a RawText text u n o h k = let t = absolute (raw_time_by rule text) k in raw-alone rule a text t.0 u n t.1 h
+clash rule RelativeText b text u n o h k = quiet-clash rule text u (is-quiet rule b text u (λ e. n (sym e)) (sym (flip-relative b) ∙ o) k) h
+clash rule a RelativeText text u n o h k = quiet-clash rule text u (is-quiet rule a text u n o h) k
+clash rule GitForm b text u n o h k = no-absolute (git_time text) h (git-clash rule b text u (λ e. n (sym e)) (sym (flip-git b) ∙ o) k)
+clash rule a GitForm text u n o h k = no-absolute (git_time text) k (git-clash rule a text u n o h)
+clash rule a b text u n o h k = early-clash rule a b text refl refl n h k
 
-pub are-exclusive : (text : List ℕ) → IsUtf8 text → AreExclusive text
-are-exclusive text u a b n o h = none-unless (family_answer b text) (λ x e. clash a b text u n o h (ap is_some e))
+pub are-exclusive : (rule : OffsetRule) (text : List ℕ) → IsUtf8 text → AreExclusiveBy rule text
+are-exclusive rule text u a b n o h = none-unless (family_answer_by rule b text) (λ x e. clash rule a b text u n o h (ap is_some e))
 
 -- What comes first.
-differ : (a b : Family) → (place a == place b) ≡ false → a ≢ b
+pub differ : (a b : Family) → (place a == place b) ≡ false → a ≢ b
 differ a b e s = let same : (place a == place a) ≡ true = grind (arith, nat_tests) in let clash : true ≡ false = sym same ∙ ap (λ (f : Family). place a == place f) s ∙ e in cc
 
-raw-first : (text : List ℕ) → IsUtf8 text → Holds RawText text → first_family text ≡ family_answer RawText text
-unfolding first_family
-raw-first text u h =
-    let none : (b : Family) → (place RawText == place b) ≡ false → overlap RawText b ≡ false → family_answer b text ≡ None = λ b d o. are-exclusive text u RawText b (differ RawText b d) o h in
-    let a = answered RawText text h in
+raw-first : (rule : OffsetRule) (text : List ℕ) → IsUtf8 text → HoldsBy rule RawText text → first_family_by rule text ≡ family_answer_by rule RawText text
+unfolding first_family_by
+raw-first rule text u h =
+    let none : (b : Family) → (place RawText == place b) ≡ false → overlap RawText b ≡ false → family_answer_by rule b text ≡ None = λ b d o. are-exclusive rule text u RawText b (differ RawText b d) o h in
+    let a = answered rule RawText text h in
     rw (none AtText refl refl, none Short refl refl, none Rfc2822 refl refl, none Iso8601 refl refl, none Iso8601Strict refl refl, none Gitoxide refl refl, none GitDefault refl refl, none BareEpoch refl refl, none GitForm refl refl, none RelativeText refl refl, a.1) refl
 
-alone-first : (family : Family) (text : List ℕ) → IsUtf8 text → family ≢ GitForm → family ≢ RelativeText → Holds family text → first_family text ≡ family_answer family text
-alone-first GitForm text u n m h = absurd (n refl)
-alone-first RelativeText text u n m h = absurd (m refl)
-alone-first RawText text u n m h = raw-first text u h
-alone-first family text u n m h = let a = answered family text h in first-at (place family) text a.0 a.1 ∙ sym a.1
+alone-first : (rule : OffsetRule) (family : Family) (text : List ℕ) → IsUtf8 text → family ≢ GitForm → family ≢ RelativeText → HoldsBy rule family text → first_family_by rule text ≡ family_answer_by rule family text
+alone-first rule GitForm text u n m h = absurd (n refl)
+alone-first rule RelativeText text u n m h = absurd (m refl)
+alone-first rule RawText text u n m h = raw-first rule text u h
+alone-first rule family text u n m h = let a = answered rule family text h in first-at rule (place family) text a.0 a.1 ∙ sym a.1
 
-git-first : (text : List ℕ) → IsUtf8 text → family_answer Iso8601 text ≡ None → family_answer Iso8601Strict text ≡ None → Holds GitForm text → first_family text ≡ family_answer GitForm text
-unfolding first_family
-git-first text u p q h =
-    let none : (b : Family) → (place GitForm == place b) ≡ false → overlap GitForm b ≡ false → family_answer b text ≡ None = λ b d o. are-exclusive text u GitForm b (differ GitForm b d) o h in
-    let a = answered GitForm text h in
+git-first : (rule : OffsetRule) (text : List ℕ) → IsUtf8 text → family_answer_by rule Iso8601 text ≡ None → family_answer_by rule Iso8601Strict text ≡ None → HoldsBy rule GitForm text → first_family_by rule text ≡ family_answer_by rule GitForm text
+unfolding first_family_by
+git-first rule text u p q h =
+    let none : (b : Family) → (place GitForm == place b) ≡ false → overlap GitForm b ≡ false → family_answer_by rule b text ≡ None = λ b d o. are-exclusive rule text u GitForm b (differ GitForm b d) o h in
+    let a = answered rule GitForm text h in
     rw (none AtText refl refl, none Short refl refl, none Rfc2822 refl refl, p, q, none Gitoxide refl refl, none GitDefault refl refl, none BareEpoch refl refl, a.1) refl
 
-relative-first : (text : List ℕ) → IsUtf8 text → family_answer GitForm text ≡ None → Holds RelativeText text → first_family text ≡ family_answer RelativeText text
-unfolding first_family
-relative-first text u g h =
-    let none : (b : Family) → (place RelativeText == place b) ≡ false → overlap RelativeText b ≡ false → family_answer b text ≡ None = λ b d o. are-exclusive text u RelativeText b (differ RelativeText b d) o h in
-    let a = answered RelativeText text h in
+relative-first : (rule : OffsetRule) (text : List ℕ) → IsUtf8 text → family_answer_by rule GitForm text ≡ None → HoldsBy rule RelativeText text → first_family_by rule text ≡ family_answer_by rule RelativeText text
+unfolding first_family_by
+relative-first rule text u g h =
+    let none : (b : Family) → (place RelativeText == place b) ≡ false → overlap RelativeText b ≡ false → family_answer_by rule b text ≡ None = λ b d o. are-exclusive rule text u RelativeText b (differ RelativeText b d) o h in
+    let a = answered rule RelativeText text h in
     rw (none AtText refl refl, none Short refl refl, none Rfc2822 refl refl, none Iso8601 refl refl, none Iso8601Strict refl refl, none Gitoxide refl refl, none GitDefault refl refl, none BareEpoch refl refl, g, a.1) refl
 
-pub raw-first-family : (text : List ℕ) (t : Time) → IsUtf8 text → raw_time text ≡ Some t → first_family text ≡ Some (Absolute t)
-raw-first-family text t u e = raw-first text u (ap (λ (r : Option Time). is_some (option_map Absolute r)) e) ∙ ap (option_map Absolute) e
+pub raw-first-family : (rule : OffsetRule) (text : List ℕ) (t : Time) → IsUtf8 text → raw_time_by rule text ≡ Some t → first_family_by rule text ≡ Some (Absolute t)
+raw-first-family rule text t u e = raw-first rule text u (ap (λ (r : Option Time). is_some (option_map Absolute r)) e) ∙ ap (option_map Absolute) e
 
-pub epoch-first-family : (text : List ℕ) (t : Time) → IsUtf8 text → epoch_time text ≡ Some t → first_family text ≡ Some (Absolute t)
-epoch-first-family text t u e =
-    alone-first BareEpoch text u (differ BareEpoch GitForm refl) (differ BareEpoch RelativeText refl) (ap (λ (r : Option Time). is_some (option_map Absolute r)) e)
+pub epoch-first-family : (rule : OffsetRule) (text : List ℕ) (t : Time) → IsUtf8 text → epoch_time text ≡ Some t → first_family_by rule text ≡ Some (Absolute t)
+epoch-first-family rule text t u e =
+    alone-first rule BareEpoch text u (differ BareEpoch GitForm refl) (differ BareEpoch RelativeText refl) (ap (λ (r : Option Time). is_some (option_map Absolute r)) e)
     ∙ ap (option_map Absolute) e
 
 -- No moment is asked where the first family is not the relative one.
@@ -470,20 +470,20 @@ same-for (Some InstantBeyond) text n now other (Err e) h = h
 same-for None text n now other (Ok t) h = h
 same-for None text n now other (Err e) h = h
 
-ignores-by : (found : Option FamilyAnswer) (text : List ℕ) → first_family text ≡ found → IsNotRelative found → IgnoresMoment text
-ignores-by found text e n now other result h =
+ignores-by : (rule : OffsetRule) (found : Option FamilyAnswer) (text : List ℕ) → first_family_by rule text ≡ found → IsNotRelative found → IgnoresMomentBy rule text
+ignores-by rule found text e n now other result h =
     subst (λ (r : Option FamilyAnswer). Comes r text other result) (sym e) (same-for found text n now other result (subst (λ (r : Option FamilyAnswer). Comes r text now result) e h))
 
 not-relative : (r : Option Time) → IsNotRelative (option_map Absolute r)
 not-relative (Some t) = tt
 not-relative None = tt
 
-pub raw-ignores : (text : List ℕ) → IsUtf8 text → Holds RawText text → IgnoresMoment text
-raw-ignores text u h = ignores-by (family_answer RawText text) text (raw-first text u h) (not-relative (raw_time text))
+pub raw-ignores : (rule : OffsetRule) (text : List ℕ) → IsUtf8 text → HoldsBy rule RawText text → IgnoresMomentBy rule text
+raw-ignores rule text u h = ignores-by rule (family_answer_by rule RawText text) text (raw-first rule text u h) (not-relative (raw_time_by rule text))
 
-pub epoch-ignores : (text : List ℕ) → IsUtf8 text → Holds BareEpoch text → IgnoresMoment text
-epoch-ignores text u h =
-    ignores-by (family_answer BareEpoch text) text (alone-first BareEpoch text u (differ BareEpoch GitForm refl) (differ BareEpoch RelativeText refl) h) (not-relative (epoch_time text))
+pub epoch-ignores : (rule : OffsetRule) (text : List ℕ) → IsUtf8 text → HoldsBy rule BareEpoch text → IgnoresMomentBy rule text
+epoch-ignores rule text u h =
+    ignores-by rule (family_answer_by rule BareEpoch text) text (alone-first rule BareEpoch text u (differ BareEpoch GitForm refl) (differ BareEpoch RelativeText refl) h) (not-relative (epoch_time text))
 
 date-not-relative : (date : DateFields) (clock : ClockFields) (offset : ℤ) → IsNotRelative (date_answer date clock offset)
 unfolding date_answer
@@ -495,9 +495,9 @@ date-not-relative date clock offset = by_instant (civil_instant date clock offse
     by_instant (Some s) false = tt
 
 -- a date of such pieces
-dated : (layout : List Piece) (family : Family) (text : List ℕ) → Spells (family_answer family) (IsAnswered layout time_answer) → Holds family text → IsNotRelative (family_answer family text)
-dated layout family text law h =
-    let a = answered family text h in
+dated : (rule : OffsetRule) (layout : List Piece) (family : Family) (text : List ℕ) → Spells (family_answer_by rule family) (IsAnswered layout time_answer) → HoldsBy rule family text → IsNotRelative (family_answer_by rule family text)
+dated rule layout family text law h =
+    let a = answered rule family text h in
     let k = (law text a.0).0 a.1 in
     subst IsNotRelative (k.comes ∙ sym a.1) (date-not-relative k.time.date k.time.clock k.time.offset)
 
@@ -516,11 +516,11 @@ short-not-relative text = by_answer (short_answer text) refl
     by_answer (Some x) e = let k = (dates_spelled.short text x).0 e in subst IsNotRelative k.comes (by_real (is_date k.time.date) k.time.date)
     by_answer None e = tt
 
-date-not : (layout : List Piece) (family : Family) (text : List ℕ) → Spells (family_answer family) (IsAnswered layout time_answer) → IsNotRelative (family_answer family text)
-date-not layout family text law = by_answer (family_answer family text) refl
+date-not : (rule : OffsetRule) (layout : List Piece) (family : Family) (text : List ℕ) → Spells (family_answer_by rule family) (IsAnswered layout time_answer) → IsNotRelative (family_answer_by rule family text)
+date-not rule layout family text law = by_answer (family_answer_by rule family text) refl
   where
-    by_answer : (found : Option FamilyAnswer) → family_answer family text ≡ found → IsNotRelative found
-    by_answer (Some x) e = subst IsNotRelative e (dated layout family text law (ap is_some e))
+    by_answer : (found : Option FamilyAnswer) → family_answer_by rule family text ≡ found → IsNotRelative found
+    by_answer (Some x) e = subst IsNotRelative e (dated rule layout family text law (ap is_some e))
     by_answer None e = tt
 
 abbrev AreNotRelative : List (Option FamilyAnswer) → Type 0
@@ -535,23 +535,23 @@ counting-by [] None None date h e = absurd cc
 counting-by (None ∷ front) counts raw date h e = counting-by front counts raw date h.1 e
 counting-by (Some x ∷ front) counts raw date h e = absurd (subst IsNotRelative e h.0)
 
-counting : (text : List ℕ) (date : RelativeDate) → first_family text ≡ Some (Relative date) → relative_date text ≡ Some date
-unfolding first_family
-counting text date e =
-    counting-by (take 9 (family_answers text)) (relative_date text) (raw_time text) date (
-      not-relative (at_time text),
+counting : (rule : OffsetRule) (text : List ℕ) (date : RelativeDate) → first_family_by rule text ≡ Some (Relative date) → relative_date text ≡ Some date
+unfolding first_family_by
+counting rule text date e =
+    counting-by (take 9 (family_answers_by rule text)) (relative_date text) (raw_time_by rule text) date (
+      not-relative (at_time_by rule text),
       (
         short-not-relative text,
         (
-          date-not rfc2822_layout Rfc2822 text dates_spelled.rfc2822,
+          date-not rule rfc2822_layout Rfc2822 text dates_spelled.rfc2822,
           (
-            date-not iso8601_layout Iso8601 text dates_spelled.iso8601,
+            date-not rule iso8601_layout Iso8601 text dates_spelled.iso8601,
             (
-              date-not iso8601_strict_layout Iso8601Strict text dates_spelled.iso8601_strict,
+              date-not rule iso8601_strict_layout Iso8601Strict text dates_spelled.iso8601_strict,
               (
-                date-not gitoxide_layout Gitoxide text dates_spelled.gitoxide,
+                date-not rule gitoxide_layout Gitoxide text dates_spelled.gitoxide,
                 (
-                  date-not default_layout GitDefault text dates_spelled.by_default,
+                  date-not rule default_layout GitDefault text dates_spelled.by_default,
                   (not-relative (epoch_time text), (not-relative (git_time text), tt)),
                 ),
               ),
@@ -561,34 +561,34 @@ counting text date e =
       ),
     ) e
 
-pub comes-first : (text : List ℕ) → IsUtf8 text → ComesFirst text
-comes-first text u = record {
-  alone = λ family n m h. alone-first family text u n m h;
-  git = λ p q h. git-first text u p q h;
-  relative = λ g h. relative-first text u g h;
-  counting = λ date e. counting text date e;
+pub comes-first : (rule : OffsetRule) (text : List ℕ) → IsUtf8 text → ComesFirstBy rule text
+comes-first rule text u = record {
+  alone = λ family n m h. alone-first rule family text u n m h;
+  git = λ p q h. git-first rule text u p q h;
+  relative = λ g h. relative-first rule text u g h;
+  counting = λ date e. counting rule text date e;
 }
 
 -- a text that is not relative
-pub plain-ignores : (text : List ℕ) → relative_date text ≡ None → IgnoresMoment text
-plain-ignores text n = by_answer (first_family text) refl
+pub plain-ignores : (rule : OffsetRule) (text : List ℕ) → relative_date text ≡ None → IgnoresMomentBy rule text
+plain-ignores rule text n = by_answer (first_family_by rule text) refl
   where
-    by_answer : (found : Option FamilyAnswer) → first_family text ≡ found → IgnoresMoment text
-    by_answer (Some (Relative date)) e = let clash : None ≡ Some date = sym n ∙ counting text date e in absurd cc
-    by_answer (Some (Absolute t)) e = ignores-by (Some (Absolute t)) text e tt
-    by_answer (Some OffsetBeyond) e = ignores-by (Some OffsetBeyond) text e tt
-    by_answer (Some InstantBeyond) e = ignores-by (Some InstantBeyond) text e tt
-    by_answer None e = ignores-by None text e tt
+    by_answer : (found : Option FamilyAnswer) → first_family_by rule text ≡ found → IgnoresMomentBy rule text
+    by_answer (Some (Relative date)) e = let clash : None ≡ Some date = sym n ∙ counting rule text date e in absurd cc
+    by_answer (Some (Absolute t)) e = ignores-by rule (Some (Absolute t)) text e tt
+    by_answer (Some OffsetBeyond) e = ignores-by rule (Some OffsetBeyond) text e tt
+    by_answer (Some InstantBeyond) e = ignores-by rule (Some InstantBeyond) text e tt
+    by_answer None e = ignores-by rule None text e tt
 
-git-ignores-by : (text : List ℕ) (iso strict : Option FamilyAnswer) → IsUtf8 text → family_answer Iso8601 text ≡ iso → family_answer Iso8601Strict text ≡ strict → Holds GitForm text → IgnoresMoment text
-git-ignores-by text (Some x) strict u p q h =
+git-ignores-by : (rule : OffsetRule) (text : List ℕ) (iso strict : Option FamilyAnswer) → IsUtf8 text → family_answer_by rule Iso8601 text ≡ iso → family_answer_by rule Iso8601Strict text ≡ strict → HoldsBy rule GitForm text → IgnoresMomentBy rule text
+git-ignores-by rule text (Some x) strict u p q h =
     let k = ap is_some p in
-    ignores-by (family_answer Iso8601 text) text (alone-first Iso8601 text u (differ Iso8601 GitForm refl) (differ Iso8601 RelativeText refl) k) (dated iso8601_layout Iso8601 text dates_spelled.iso8601 k)
-git-ignores-by text None (Some x) u p q h =
+    ignores-by rule (family_answer_by rule Iso8601 text) text (alone-first rule Iso8601 text u (differ Iso8601 GitForm refl) (differ Iso8601 RelativeText refl) k) (dated rule iso8601_layout Iso8601 text dates_spelled.iso8601 k)
+git-ignores-by rule text None (Some x) u p q h =
     let k = ap is_some q in
-    ignores-by (family_answer Iso8601Strict text) text (alone-first Iso8601Strict text u (differ Iso8601Strict GitForm refl) (differ Iso8601Strict RelativeText refl) k) (dated iso8601_strict_layout Iso8601Strict text dates_spelled.iso8601_strict k)
-git-ignores-by text None None u p q h =
-    ignores-by (family_answer GitForm text) text (git-first text u p q h) (not-relative (git_time text))
+    ignores-by rule (family_answer_by rule Iso8601Strict text) text (alone-first rule Iso8601Strict text u (differ Iso8601Strict GitForm refl) (differ Iso8601Strict RelativeText refl) k) (dated rule iso8601_strict_layout Iso8601Strict text dates_spelled.iso8601_strict k)
+git-ignores-by rule text None None u p q h =
+    ignores-by rule (family_answer_by rule GitForm text) text (git-first rule text u p q h) (not-relative (git_time text))
 
-pub git-ignores : (text : List ℕ) → IsUtf8 text → Holds GitForm text → IgnoresMoment text
-git-ignores text u h = git-ignores-by text (family_answer Iso8601 text) (family_answer Iso8601Strict text) u refl refl h
+pub git-ignores : (rule : OffsetRule) (text : List ℕ) → IsUtf8 text → HoldsBy rule GitForm text → IgnoresMomentBy rule text
+git-ignores rule text u h = git-ignores-by rule text (family_answer_by rule Iso8601 text) (family_answer_by rule Iso8601Strict text) u refl refl h

@@ -6,28 +6,29 @@ use Rattle.gix_date.specs.Characters.{minus}
 use Rattle.gix_date.specs.declared.parsing.civil.DateFields.{DateFields}
 use Rattle.gix_date.proofs.FieldsTaken.{went, year-taken, behind-taken}
 use Rattle.gix_date.specs.Fields.{behind, ◌>>=◌}
+use Rattle.gix_date.specs.FieldTexts.{IsYear}
 use Rattle.gix_date.specs.Git.{git_time}
-use Rattle.gix_date.specs.Numbers.{int_value, read_year, read_field}
+use Rattle.gix_date.specs.Numbers.{int_value, is_number_byte, read_year, read_field}
 use Rattle.gix_date.specs.PatternFields.{read_plain_date}
 use Rattle.gix_date.specs.Patterns.{short_answer, iso8601_answer, iso8601_strict_answer}
-use Rattle.gix_date.specs.Raw.{raw_time}
+use Rattle.gix_date.specs.Raw.{OffsetRule, raw_time_by}
 use Rattle.gix_date.specs.SpaceWords.{space_words}
 use Rattle.gix_date.proofs.Apart.{NoPlainDate}
 use Rattle.gix_date.proofs.Disjoint.{GitFront, year-front, git-front, raw-words, raw-first, none-unless, same-first, int-digits, front-digits}
 use Rattle.gix_date.proofs.FirstWords.{is_visible, first-begins, trimmed-words}
-use Rattle.gix_date.proofs.PlainHeaders.{int-number, is_number_byte}
+use Rattle.gix_date.proofs.PlainHeaders.{int-number}
 
 -- no raw text begins with a digit and has another byte in its first word's front
-pub no-raw-front : (text : List ℕ) → GitFront text → raw_time text ≡ None
-no-raw-front text g = none-unless (raw_time text) (λ t e.
-    let f = raw-first text (raw-words text t e) in
+pub no-raw-front : (rule : OffsetRule) (text : List ℕ) → GitFront text → raw_time_by rule text ≡ None
+no-raw-front rule text g = none-unless (raw_time_by rule text) (λ t e.
+    let f = raw-first text (raw-words rule text t e) in
     let b = first-begins g.first g.more g.rest g.visible in
     let same : f.word ≡ g.first ∷ (g.more ++ b.rest) = same-first f.word (g.first ∷ (g.more ++ b.rest)) f.words b.words (sym f.is ∙ ap space_words g.whole ∙ b.is) in
     let digits = front-digits (g.first ∷ g.more) b.rest (int-digits g.first (g.more ++ b.rest) f.value g.digit (ap int_value (sym same) ∙ f.is_value)) in
     let clash : true ≡ false = sym digits ∙ g.mixed in
     cc)
 
-int-no-byte : (c : ℕ) (t : List ℕ) (n : ℤ) → is_number_byte c ≡ false → int_value (c ∷ t) ≡ Some n → ⊥
+pub int-no-byte : (c : ℕ) (t : List ℕ) (n : ℤ) → is_number_byte c ≡ false → int_value (c ∷ t) ≡ Some n → ⊥
 int-no-byte c t n h e =
     let k = int-number (c ∷ t) n e in
     let same : c ≡ k.first = head_same c k.first t k.rest k.whole in
@@ -38,9 +39,9 @@ int-no-byte c t n h e =
     head_same a b xs ys e = cc
 
 -- no raw text begins with a visible byte that is no digit and no sign, and no Git text with one that is no digit
-pub no-raw-byte : (c : ℕ) (t : List ℕ) → is_visible c ≡ true → is_number_byte c ≡ false → raw_time (c ∷ t) ≡ None
-no-raw-byte c t v h = none-unless (raw_time (c ∷ t)) (λ u e.
-    let f = raw-first (c ∷ t) (raw-words (c ∷ t) u e) in
+pub no-raw-byte : (rule : OffsetRule) (c : ℕ) (t : List ℕ) → is_visible c ≡ true → is_number_byte c ≡ false → raw_time_by rule (c ∷ t) ≡ None
+no-raw-byte rule c t v h = none-unless (raw_time_by rule (c ∷ t)) (λ u e.
+    let f = raw-first (c ∷ t) (raw-words rule (c ∷ t) u e) in
     let b = first-begins c [] t (v, tt) in
     let same : f.word ≡ c ∷ b.rest = same-first f.word (c ∷ b.rest) f.words b.words (sym f.is ∙ b.is) in
     int-no-byte c b.rest f.value h (ap int_value (sym same) ∙ f.is_value))
@@ -67,11 +68,23 @@ no-plain-by text h = record { short = rw h refl; iso8601 = rw h refl; strict = r
 abbrev date_at : ℕ → ℕ → ℕ → List ℕ → DateFields × List ℕ
 date_at year month day rest = (record { year = year; month = month; day = day }, rest)
 
-pub plain-front : (x : List ℕ) (date : DateFields × List ℕ) → read_plain_date x ≡ Some date → GitFront x
+-- what a text begins with that has a day at its front: a year and `-`
+pub record PlainYear (text : List ℕ) : Type 0 where
+  pub year : List ℕ
+  pub number : ℕ
+  pub rest : List ℕ
+  pub whole : text ≡ year ++ (minus ∷ rest)
+  pub is_year : IsYear year number
+
+pub plain-year : (x : List ℕ) (date : DateFields × List ℕ) → read_plain_date x ≡ Some date → PlainYear x
 unfolding read_plain_date
-plain-front x date e =
+plain-year x date e =
     let year = went (read_year x) (λ year. behind minus year.1 >>= λ r. read_field r >>= λ month. behind minus month.1 >>= λ s. read_field s >>= λ day. Some (date_at year.0 month.0 day.0 day.1)) date e in
     let next = went (behind minus year.0.1) (λ r. read_field r >>= λ month. behind minus month.1 >>= λ s. read_field s >>= λ day. Some (date_at year.0.0 month.0 day.0 day.1)) date year.2 in
     let y = year-taken x year.0.0 year.0.1 year.1 in
-    let split : x ≡ y.text ++ (minus ∷ next.0) = y.whole ∙ ap (λ (t : List ℕ). y.text ++ t) (behind-taken minus year.0.1 next.0 next.1) in
-    subst GitFront (sym split) (year-front y.text year.0.0 minus next.0 y.is refl refl)
+    record { year = y.text; number = year.0.0; rest = next.0; whole = y.whole ∙ ap (λ (t : List ℕ). y.text ++ t) (behind-taken minus year.0.1 next.0 next.1); is_year = y.is }
+
+pub plain-front : (x : List ℕ) (date : DateFields × List ℕ) → read_plain_date x ≡ Some date → GitFront x
+plain-front x date e =
+    let p = plain-year x date e in
+    subst GitFront (sym p.whole) (year-front p.year p.number minus p.rest p.is_year refl refl)

@@ -21,6 +21,8 @@ pub mod PrintedBack
 pub mod PrintedTimes
 pub mod FirstBytes
 pub mod Exclusive
+pub mod Widened
+pub mod Shapes
 pub mod Overlaps
 pub mod RawBack
 pub mod RelativeWordSteps
@@ -43,6 +45,7 @@ pub mod GitRows
 pub mod PatternRows
 pub mod PrintRows
 pub mod RelativeRows
+pub mod ShapeRows
 pub mod WhiteSpace
 pub mod Texts
 pub mod HeaderTexts

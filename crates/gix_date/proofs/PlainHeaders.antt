@@ -12,9 +12,9 @@ use Rattle.std.proofs.lemmas.List.Folds.{list_any-append}
 use Rattle.gix_date.specs.Characters.{space, plus, minus, is_colon, has_colon}
 use Rattle.gix_date.specs.Fields.{behind, ◌>>=◌}
 use Rattle.gix_date.specs.FieldTexts.{IsDigit}
-use Rattle.gix_date.specs.Numbers.{fits_i64, is_int_text, int_value, read_two_digits}
+use Rattle.gix_date.specs.Numbers.{fits_i64, is_int_text, int_value, read_two_digits, is_number_byte}
 use Rattle.gix_date.specs.Offsets.{read_sign, last_pair, offset_fields, offset_of}
-use Rattle.gix_date.specs.HeaderReading.{seconds_said, offset_said, time_of_words, header_time}
+use Rattle.gix_date.specs.HeaderReading.{IsPlainHeader, seconds_said, offset_said, time_of_words, header_time}
 use Rattle.gix_date.specs.declared.parsing.offset.Sign.{Sign}
 use Rattle.gix_date.specs.declared.parsing.offset.Sign.TheVariants.{Plus, Minus}
 use Rattle.gix_date.specs.declared.parsing.offset.OffsetFields.{OffsetFields}
@@ -22,12 +22,9 @@ use Rattle.gix_date.specs.declared.time.Time.{Time}
 use Rattle.gix_date.proofs.FieldsTaken.{went, guard, behind-taken, two-taken}
 use Rattle.gix_date.proofs.Ints.{each_of}
 use Rattle.gix_date.proofs.Instants.{both}
+use Rattle.gix_date.specs.Raw.{OffsetRule, raw_time_by, raw_offset_by}
 use Rattle.gix_date.specs.SpaceWords.{space_words, runs}
 use Rattle.gix_date.proofs.WordSteps.{runs_skip, run_first, stops, ends}
-
--- a digit or a sign
-abbrev pub is_number_byte : ℕ → Bool
-is_number_byte c = is_ascii_digit c || c == plus || c == minus
 
 abbrev pub AreNumberBytes : List ℕ → Type 0
 AreNumberBytes [] = Unit {0}
@@ -236,13 +233,33 @@ plain_of front zone n f a b e h =
 pub plain-header : (front zone : List ℕ) (n : ℤ) (f : OffsetFields) → int_value front ≡ Some n → offset_fields zone ≡ Some f → header_time (front ++ (space ∷ zone)) ≡ Some (record { seconds = n; offset = offset_of f })
 plain-header front zone n f e h = plain_of front zone n f (int-number front n e) (offset-number zone f h) e h
 
--- the same, by places
+pub plain-time : (text : List ℕ) (n : ℤ) (f : OffsetFields) → IsPlainHeader text n f → header_time text ≡ Some (record { seconds = n; offset = offset_of f })
+plain-time text n f h = ap header_time h.whole ∙ plain-header h.front h.zone n f h.is_seconds h.are_fields
+
+-- such a text by places
 pub plain-places : (text : List ℕ) (place : ℕ) (n : ℤ) (f : OffsetFields) → place < length text → get_or text place 0 ≡ space → int_value (take place text) ≡ Some n → offset_fields (drop (place + 1) text) ≡ Some f
-    → header_time text ≡ Some (record { seconds = n; offset = offset_of f })
+    → IsPlainHeader text n f
 plain-places text place n f within mark e h =
-    let split : text ≡ take place text ++ (space ∷ drop (place + 1) text) =
-    sym (take-append-drop place text) ∙ ap (λ (t : List ℕ). take place text ++ t) (drop-cons text place 0 within ∙ rw (mark, add-one place) refl) in
-    ap header_time split ∙ plain-header (take place text) (drop (place + 1) text) n f e h
+    record {
+      front = take place text;
+      zone = drop (place + 1) text;
+      whole = sym (take-append-drop place text) ∙ ap (λ (t : List ℕ). take place text ++ t) (drop-cons text place 0 within ∙ rw (mark, add-one place) refl);
+      is_seconds = e;
+      are_fields = h;
+    }
+
+-- the two words of such a text
+pub plain-words : (text : List ℕ) (n : ℤ) (f : OffsetFields) (h : IsPlainHeader text n f) → space_words text ≡ h.front ∷ h.zone ∷ []
+plain-words text n f h =
+    let a = int-number h.front n h.is_seconds in
+    let b = offset-number h.zone f h.are_fields in
+    ap space_words h.whole ∙ rw (a.whole, b.whole) (two-words a.first b.first a.rest b.rest a.bytes b.bytes)
+
+-- the raw time of one, where the rule allows its fields
+pub plain-raw : (rule : OffsetRule) (text : List ℕ) (n : ℤ) (f : OffsetFields) → IsPlainHeader text n f → rule f ≡ true
+    → raw_time_by rule text ≡ Some (record { seconds = n; offset = offset_of f })
+unfolding raw_time_by raw_offset_by
+plain-raw rule text n f h q = rw (plain-words text n f h, h.is_seconds, h.are_fields, q) refl
 
 -- the words of a number alone
 pub one-word : (w : List ℕ) → IsNumber w → space_words w ≡ w ∷ []

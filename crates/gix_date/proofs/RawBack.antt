@@ -7,12 +7,12 @@ use Rattle.std.specs.Prelude.{◌==◌, ◌||◌, nat_le}
 use Rattle.gix_date.specs.Answer.{Absolute}
 use Rattle.gix_date.specs.Characters.{space}
 use Rattle.gix_date.specs.Epoch.{epoch_time, utc_time}
-use Rattle.gix_date.specs.Families.{first_family}
+use Rattle.gix_date.specs.Families.{first_family_by}
 use Rattle.gix_date.specs.HeaderText.{header_text, zone_text}
 use Rattle.gix_date.specs.Numbers.{int_value, decimal_text}
 use Rattle.gix_date.specs.Offsets.{offset_fields, offset_of}
-use Rattle.gix_date.specs.ReadingBack.{IsRawOffset}
-use Rattle.gix_date.specs.Raw.{raw_time, raw_offset, is_quarter}
+use Rattle.gix_date.specs.ReadingBack.{IsRawOffset, IsWideOffset}
+use Rattle.gix_date.specs.Raw.{OffsetRule, raw_time_by, raw_offset_by, is_quarter, is_whole_minutes}
 use Rattle.gix_date.specs.SpaceWords.{space_words}
 use Rattle.gix_date.specs.declared.parsing.function.TheConstants.{LEAST_EPOCH}
 use Rattle.gix_date.specs.declared.parsing.offset.OffsetFields.{OffsetFields}
@@ -21,11 +21,7 @@ use Rattle.gix_date.proofs.HeaderLaws.{written-by, decimal-int, zone-read, back-
 use Rattle.gix_date.proofs.PlainHeaders.{int-number, offset-number, two-words, IsNumber, are_ascii}
 use Rattle.gix_date.proofs.Exclusive.{raw-first-family, epoch-first-family}
 
--- header texts with raw offsets
-by-raw-words : (text a b : List ℕ) (n : ℤ) (f : OffsetFields) → space_words text ≡ a ∷ b ∷ [] → int_value a ≡ Some n → offset_fields b ≡ Some f → is_quarter f ≡ true → raw_time text ≡ Some (record { seconds = n; offset = offset_of f })
-unfolding raw_time raw_offset
-by-raw-words text a b n f w e h q = rw (w, e, h, q) refl
-
+-- Which written offsets the rules allow.
 quarter-minutes : (m k : ℕ) → m ≡ 15 * k → k < 4 → (m == 0 || m == 15 || m == 30 || m == 45) ≡ true
 quarter-minutes m zero e h = rw e refl
 quarter-minutes m (suc zero) e h = rw e refl
@@ -44,36 +40,61 @@ is-quarter-of o m h =
     let n = unsigned_abs o in
     rw (few-hours n h, quarter-minutes (n % 3600 / 60) (n % 3600 / 900) (quarters n m) (omega arith)) refl
 
+hours-of-day : (n : ℕ) → n < 86400 → nat_le (n / 3600) 23 ≡ true
+hours-of-day n h = let few : n / 3600 ≤ 23 = omega arith in grind (arith, nat_tests)
+
+minutes-of-hour : (n : ℕ) → nat_le (n % 3600 / 60) 59 ≡ true
+minutes-of-hour n = let few : n % 3600 / 60 ≤ 59 = omega arith in grind (arith, nat_tests)
+
+are-whole-minutes-of : (o : ℤ) → unsigned_abs o < 86400 → is_whole_minutes (written_fields o) ≡ true
+are-whole-minutes-of o h = rw (hours-of-day (unsigned_abs o) h, minutes-of-hour (unsigned_abs o)) refl
+
+-- A header text is a raw text by each rule that allows its offset.
+by-raw-words : (rule : OffsetRule) (text a b : List ℕ) (n : ℤ) (f : OffsetFields) → space_words text ≡ a ∷ b ∷ [] → int_value a ≡ Some n → offset_fields b ≡ Some f → rule f ≡ true → raw_time_by rule text ≡ Some (record { seconds = n; offset = offset_of f })
+unfolding raw_time_by raw_offset_by
+by-raw-words rule text a b n f w e h q = rw (w, e, h, q) refl
+
 words-of-two : (front zone : List ℕ) → IsNumber front → IsNumber zone → space_words (front ++ (space ∷ zone)) ≡ front ∷ zone ∷ []
 words-of-two front zone a b = rw (a.whole, b.whole) (two-words a.first b.first a.rest b.rest a.bytes b.bytes)
 
 abbrev time_at : ℤ → ℤ → Time
 time_at seconds offset = record { seconds = seconds; offset = offset }
 
-pub raw-back : (t : Time) → FitsSigned w64 t.seconds → IsRawOffset t.offset
-    → IsSomeAnd (header_text t) (λ text. first_family text ≡ Some (Absolute t))
-raw-back t f raw =
-    let short = raw.short in
-    let quarters = raw.quarters in
+back-by : (rule : OffsetRule) (t : Time) → FitsSigned w64 t.seconds → unsigned_abs t.offset < 360000 → unsigned_abs t.offset % 60 ≡ 0 → rule (written_fields t.offset) ≡ true
+    → IsSomeAnd (header_text t) (λ text. first_family_by rule text ≡ Some (Absolute t))
+back-by rule t f short minutes allowed =
     let front = decimal_text t.seconds in
     let zone = zone_text t.offset in
     let text = front ++ (space ∷ zone) in
     let int = decimal-int t.seconds f in
-    let fields = zone-read t.offset (omega arith) in
+    let fields = zone-read t.offset short in
     let a = int-number front t.seconds int in
     let b = offset-number zone (written_fields t.offset) fields in
     let words = words-of-two front zone a b in
-    let read = by-raw-words text front zone t.seconds (written_fields t.offset) words int fields (is-quarter-of t.offset quarters short) in
-    let same : raw_time text ≡ Some t = read ∙ ap (λ (o : ℤ). Some (time_at t.seconds o)) (back-to t.offset (omega arith)) in
-    subst (λ (r : Option (List ℕ)). IsSomeAnd r (λ text. first_family text ≡ Some (Absolute t))) (sym (written-by t (omega arith)))
-    (raw-first-family text t (two-utf8 front zone (number-bytes front a) (number-bytes zone b)) same)
+    let read = by-raw-words rule text front zone t.seconds (written_fields t.offset) words int fields allowed in
+    let same : raw_time_by rule text ≡ Some t = read ∙ ap (λ (o : ℤ). Some (time_at t.seconds o)) (back-to t.offset minutes) in
+    subst (λ (r : Option (List ℕ)). IsSomeAnd r (λ text. first_family_by rule text ≡ Some (Absolute t))) (sym (written-by t short))
+    (raw-first-family rule text t (two-utf8 front zone (number-bytes front a) (number-bytes zone b)) same)
+
+pub raw-back : (t : Time) → FitsSigned w64 t.seconds → IsRawOffset t.offset
+    → IsSomeAnd (header_text t) (λ text. first_family_by is_quarter text ≡ Some (Absolute t))
+raw-back t f raw =
+    let short = raw.short in
+    let quarters = raw.quarters in
+    back-by is_quarter t f (omega arith) (omega arith) (is-quarter-of t.offset quarters short)
+
+pub wide-back : (t : Time) → FitsSigned w64 t.seconds → IsWideOffset t.offset
+    → IsSomeAnd (header_text t) (λ text. first_family_by is_whole_minutes text ≡ Some (Absolute t))
+wide-back t f wide =
+    let short = wide.short in
+    back-by is_whole_minutes t f (omega arith) wide.minutes (are-whole-minutes-of t.offset short)
 
 -- bare seconds
-pub seconds-back : (n : ℤ) → FitsSigned w64 n → LEAST_EPOCH ≤ℤ n → first_family (decimal_text n) ≡ Some (Absolute (utc_time n))
+pub seconds-back : (rule : OffsetRule) (n : ℤ) → FitsSigned w64 n → LEAST_EPOCH ≤ℤ n → first_family_by rule (decimal_text n) ≡ Some (Absolute (utc_time n))
 unfolding epoch_time
-seconds-back n f least =
+seconds-back rule n f least =
     let h : le_z LEAST_EPOCH n ≡ true = search rules in
     let text = decimal_text n in
     let int = decimal-int n f in
     let u : IsUtf8 text = IsUtf8-from_ascii text (are_ascii text (number-bytes text (int-number text n int))) in
-    epoch-first-family text (utc_time n) u (rw (int, h) refl)
+    epoch-first-family rule text (utc_time n) u (rw (int, h) refl)

@@ -18,7 +18,7 @@ use Rattle.jiff_core.specs.Timestamp.{IsTimestampNanos, nanos_of_seconds}
 use Rattle.gix_date.specs.Answer.{FamilyAnswer, Absolute}
 use Rattle.gix_date.specs.Characters.{space, colon}
 use Rattle.gix_date.specs.Civil.{civil_instant, civil_seconds}
-use Rattle.gix_date.specs.Families.{first_of, family_answers, answers_before_git, first_family}
+use Rattle.gix_date.specs.Families.{first_of, family_answers_by, answers_before_git_by, first_family_by}
 use Rattle.gix_date.specs.FieldTexts.{IsField, IsYear, AreSpaces, IsDayName, IsMonthName, IsPlainDate, IsClock, four_digits, date_text, clock_text}
 use Rattle.gix_date.specs.Layout.{LocalTime, Piece, DayName, MailDayName, MonthName, Day, Year, PlainDate, Clock, MailClock, Spaces, LetterT, Offset, ColonOffset, MailOffset, IsPiece, ArePieces, print_piece, print_pieces}
 use Rattle.gix_date.specs.Names.{day_name, month_name}
@@ -28,6 +28,7 @@ use Rattle.gix_date.specs.HeaderText.{zone_text}
 use Rattle.gix_date.specs.Numbers.{two_digits}
 use Rattle.gix_date.specs.PatternFields.{leapless, is_weekday, month_of}
 use Rattle.gix_date.specs.Fields.{behind}
+use Rattle.gix_date.specs.Raw.{OffsetRule}
 use Rattle.std.specs.Int.{int_rem_euclid}
 use Rattle.jiff_core.specs.declared.civil.date.Date.{Date}
 use Rattle.gix_date.specs.declared.parsing.civil.ClockFields.{ClockFields}
@@ -157,9 +158,9 @@ alone-is-first zero (Some y ∷ rest) more x e h = e
 alone-is-first (suc i) (None ∷ rest) more x e h = alone-is-first i rest more x e h
 alone-is-first (suc i) (Some y ∷ rest) more x e h = absurd (omega (arith, h, some-counts i rest x e))
 
-pub first-at : (i : ℕ) (text : List ℕ) (x : FamilyAnswer) → get_or (answers_before_git text) i None ≡ Some x → first_family text ≡ Some x
-unfolding first_family
-first-at i text x e = alone-is-first i (answers_before_git text) (drop 8 (family_answers text)) x e (before-git-apart text)
+pub first-at : (rule : OffsetRule) (i : ℕ) (text : List ℕ) (x : FamilyAnswer) → get_or (answers_before_git_by rule text) i None ≡ Some x → first_family_by rule text ≡ Some x
+unfolding first_family_by
+first-at rule i text x e = alone-is-first i (answers_before_git_by rule text) (drop 8 (family_answers_by rule text)) x e (before-git-apart rule text)
 
 one-space : AreSpaces (space ∷ [])
 one-space = (refl, refl)

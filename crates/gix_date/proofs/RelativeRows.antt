@@ -4,21 +4,14 @@ use Rattle.std.specs.Str.{chars, trim_start, trim_end}
 use lib.Utf8.{encode}
 use Rattle.std.specs.Prelude.{codes, Some, None}
 use Rattle.gix_date.proofs.Rows.{time, minus}
-use Rattle.gix_date.specs.Epoch.{at_time, epoch_time}
 use Rattle.gix_date.specs.Answer.{Absolute, Relative}
-use Rattle.gix_date.specs.Families.{first_family}
-use Rattle.gix_date.specs.Fields.{behind}
-use Rattle.gix_date.specs.Git.{git_time, git_form, dotted_time, compact_time, flexible_time, read_marked_date, read_compact_date}
-use Rattle.gix_date.specs.Numbers.{int_value, read_two_digits, read_digit, read_field, read_year}
-use Rattle.gix_date.specs.Offsets.{offset_fields, read_sign, last_pair}
-use Rattle.gix_date.specs.PatternFields.{behind_day_name, behind_spaces, behind_weekday, read_name, read_month, month_of, is_weekday, read_plain_date, read_minutes, read_second, read_clock, read_mail_clock}
-use Rattle.gix_date.specs.PatternZones.{compact_zone, strict_zone, mail_zone, mail_offset, named_zone, last_colon_pair}
-use Rattle.gix_date.specs.Patterns.{short_answer, rfc2822_answer, iso8601_answer, iso8601_strict_answer, gitoxide_answer, default_answer, date_answer}
-use Rattle.gix_date.specs.Raw.{raw_time, raw_offset}
+use Rattle.gix_date.specs.Computing.{computing}
+use Rattle.gix_date.specs.Families.{first_family, first_family_by}
+use Rattle.gix_date.specs.Numbers.{int_value}
+use Rattle.gix_date.specs.Raw.{is_whole_minutes}
 use Rattle.gix_date.specs.Relative.{Before, Less, relative_date, named_date, pairs_date}
 use Rattle.gix_date.specs.RelativeWords.{relative_words, count_of, named_count, number_named, unit_of, singular, named_unit}
 use Rattle.gix_date.specs.Roles.{is_count_word, has_unit, run, has_flag, has_pair, all_units, are_pairs, pairs}
-use Rattle.gix_date.specs.SpaceWords.{space_words}
 use Rattle.gix_date.specs.declared.parsing.relative.words.TimeUnit.TheVariants.{Seconds, Months}
 
 -- all that a row of relative texts needs to see computed
@@ -130,11 +123,6 @@ nothing : relative_date (codes "") ≡ None
 unfolding relating
 nothing = refl
 
--- all that a row of families needs to see computed
-computing : Type 0
-unfolding relating first_family short_answer rfc2822_answer iso8601_answer iso8601_strict_answer gitoxide_answer default_answer behind_day_name behind_weekday behind_spaces read_name read_month month_of is_weekday read_plain_date read_minutes read_second read_clock read_mail_clock compact_zone strict_zone mail_zone mail_offset named_zone last_colon_pair date_answer read_field read_digit git_time git_form dotted_time compact_time flexible_time read_marked_date read_compact_date read_year at_time epoch_time raw_time raw_offset offset_fields behind read_sign last_pair read_two_digits space_words
-computing = Unit {0}
-
 at-zero : first_family (codes "@0") ≡ Some (Absolute (time (pos 0) (pos 0)))
 unfolding computing
 at-zero = refl
@@ -158,6 +146,18 @@ below-the-bare-epoch = refl
 raw-behind : first_family (codes "5 -0130") ≡ Some (Absolute (time (pos 5) (minus 5400)))
 unfolding computing
 raw-behind = refl
+
+at-no-quarter : first_family (codes "@5 +0007") ≡ None
+unfolding computing
+at-no-quarter = refl
+
+at-wide : first_family_by is_whole_minutes (codes "@5 +0007") ≡ Some (Absolute (time (pos 5) (pos 420)))
+unfolding computing
+at-wide = refl
+
+raw-wide : first_family_by is_whole_minutes (codes "5 -2359") ≡ Some (Absolute (time (pos 5) (minus 86340)))
+unfolding computing
+raw-wide = refl
 
 relative-before-raw : first_family (codes "5 seconds") ≡ Some (Relative (Less ((pos 5, Seconds (pos 1)) ∷ [])))
 unfolding computing

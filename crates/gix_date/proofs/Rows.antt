@@ -11,7 +11,7 @@ use Rattle.gix_date.specs.Offsets.{offset_fields, read_sign, last_pair}
 use Rattle.gix_date.specs.SpaceWords.{space_words}
 use Rattle.gix_date.specs.HeaderText.{header_text}
 use Rattle.gix_date.specs.HeaderReading.{header_time, time_of_words, seconds_said, offset_said}
-use Rattle.gix_date.specs.Raw.{raw_time, raw_offset}
+use Rattle.gix_date.specs.Raw.{is_whole_minutes, raw_time, raw_time_by, raw_offset_by}
 use Rattle.gix_date.specs.CanonicalHeader.{is_canonical_header}
 
 abbrev pub time : ℤ → ℤ → Time
@@ -23,7 +23,7 @@ minus n = neg_ℤ (pos n)
 
 -- all that a row needs to see computed
 computing : Type 0
-unfolding header_text raw_time raw_offset header_time time_of_words seconds_said offset_said offset_fields behind read_sign last_pair read_two_digits int_value digits space_words chars encode
+unfolding header_text raw_time_by raw_offset_by header_time time_of_words seconds_said offset_said offset_fields behind read_sign last_pair read_two_digits int_value digits space_words chars encode
 computing = Unit {0}
 
 abbrev Reads : List ℕ → ℤ → ℤ → Type 0
@@ -165,3 +165,39 @@ raw-past-the-hours = refl
 raw-sign-inside : raw_time (codes "1 -+1+0+0") ≡ None
 unfolding computing
 raw-sign-inside = refl
+
+raw-no-quarter : raw_time (codes "1660797906 +2359") ≡ None
+unfolding computing
+raw-no-quarter = refl
+
+wide-of-a-day : raw_time_by is_whole_minutes (codes "1660797906 +2359") ≡ Some (time (pos 1660797906) (pos 86340))
+unfolding computing
+wide-of-a-day = refl
+
+wide-of-seven-minutes : raw_time_by is_whole_minutes (codes "1660797906 +0007") ≡ Some (time (pos 1660797906) (pos 420))
+unfolding computing
+wide-of-seven-minutes = refl
+
+wide-with-seconds : raw_time_by is_whole_minutes (codes "1660797906 -235900") ≡ Some (time (pos 1660797906) (minus 86340))
+unfolding computing
+wide-with-seconds = refl
+
+wide-of-the-least : raw_time_by is_whole_minutes (codes "-9223372036854775808 +1459") ≡ Some (time (minus 9223372036854775808) (pos 53940))
+unfolding computing
+wide-of-the-least = refl
+
+wide-past-the-hours : raw_time_by is_whole_minutes (codes "1660797906 +2400") ≡ None
+unfolding computing
+wide-past-the-hours = refl
+
+wide-past-the-minutes : raw_time_by is_whole_minutes (codes "5 +2360") ≡ None
+unfolding computing
+wide-past-the-minutes = refl
+
+wide-past-the-minute : raw_time_by is_whole_minutes (codes "5 +235901") ≡ None
+unfolding computing
+wide-past-the-minute = refl
+
+wide-sign-inside : raw_time_by is_whole_minutes (codes "5 +-007") ≡ None
+unfolding computing
+wide-sign-inside = refl

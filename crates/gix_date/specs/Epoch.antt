@@ -5,7 +5,7 @@ use Rattle.std.specs.Int.Signed.{le_z}
 use Rattle.gix_date.specs.Characters.{at_sign}
 use Rattle.gix_date.specs.Fields.{behind, ◌>>=◌}
 use Rattle.gix_date.specs.Numbers.{int_value}
-use Rattle.gix_date.specs.Raw.{raw_time}
+use Rattle.gix_date.specs.Raw.{OffsetRule, is_quarter, raw_time_by}
 use Rattle.gix_date.specs.declared.parsing.function.TheConstants.{LEAST_EPOCH}
 use Rattle.gix_date.specs.declared.time.Time.{Time}
 
@@ -14,13 +14,21 @@ abbrev pub utc_time : ℤ → Time
 utc_time seconds = record { seconds = seconds; offset = pos 0 }
 
 -- `@`, and then a raw text or an int text with nothing round it
-unfoldable pub at_time : List ℕ → Option Time
-at_time text = do
+unfoldable pub at_time_by : OffsetRule → List ℕ → Option Time
+at_time_by rule text = do
   rest ← behind at_sign text
-  option_or (raw_time rest) (option_map utc_time (int_value rest))
+  option_or (raw_time_by rule rest) (option_map utc_time (int_value rest))
+
+-- by quarters of an hour
+abbrev pub at_time : List ℕ → Option Time
+at_time = at_time_by is_quarter
+
+-- the least seconds of a bare epoch
+abbrev pub least_bare_epoch : ℤ
+least_bare_epoch = LEAST_EPOCH
 
 -- an int text with nothing round it, of at least 100000000: seconds that no compact date can be mistaken for
 unfoldable pub epoch_time : List ℕ → Option Time
 epoch_time text = do
   seconds ← int_value text
-  if le_z LEAST_EPOCH seconds then Some (utc_time seconds) else None
+  if le_z least_bare_epoch seconds then Some (utc_time seconds) else None

@@ -4,8 +4,8 @@ use Rattle.std.specs.Option.{option_or}
 use Rattle.jiff.specs.declared.zoned.Zoned.{Zoned}
 use Rattle.gix_date.specs.Answer.{FamilyAnswer, Absolute, OffsetBeyond, InstantBeyond, Relative}
 use Rattle.gix_date.specs.Patterns.{short_answer, rfc2822_answer, iso8601_answer, iso8601_strict_answer, gitoxide_answer, default_answer}
-use Rattle.gix_date.specs.Raw.{raw_time}
-use Rattle.gix_date.specs.Epoch.{at_time, epoch_time}
+use Rattle.gix_date.specs.Raw.{OffsetRule, is_quarter, raw_time_by}
+use Rattle.gix_date.specs.Epoch.{at_time_by, epoch_time}
 use Rattle.gix_date.specs.Git.{git_time}
 use Rattle.gix_date.specs.Relative.{relative_date, Reckons}
 use Rattle.gix_date.specs.declared.error.Error.{Error}
@@ -29,19 +29,19 @@ pub data Family : Type 0 where
   RelativeText : Family
   RawText : Family
 
--- what a family answers of a text, where it holds it
-abbrev pub family_answer : Family → List ℕ → Option FamilyAnswer
-family_answer AtText text = option_map Absolute (at_time text)
-family_answer Short text = short_answer text
-family_answer Rfc2822 text = rfc2822_answer text
-family_answer Iso8601 text = iso8601_answer text
-family_answer Iso8601Strict text = iso8601_strict_answer text
-family_answer Gitoxide text = gitoxide_answer text
-family_answer GitDefault text = default_answer text
-family_answer BareEpoch text = option_map Absolute (epoch_time text)
-family_answer GitForm text = option_map Absolute (git_time text)
-family_answer RelativeText text = option_map Relative (relative_date text)
-family_answer RawText text = option_map Absolute (raw_time text)
+-- what a family answers of a text, where it holds it, by a rule for the offsets of raw texts
+abbrev pub family_answer_by : OffsetRule → Family → List ℕ → Option FamilyAnswer
+family_answer_by rule AtText text = option_map Absolute (at_time_by rule text)
+family_answer_by rule Short text = short_answer text
+family_answer_by rule Rfc2822 text = rfc2822_answer text
+family_answer_by rule Iso8601 text = iso8601_answer text
+family_answer_by rule Iso8601Strict text = iso8601_strict_answer text
+family_answer_by rule Gitoxide text = gitoxide_answer text
+family_answer_by rule GitDefault text = default_answer text
+family_answer_by rule BareEpoch text = option_map Absolute (epoch_time text)
+family_answer_by rule GitForm text = option_map Absolute (git_time text)
+family_answer_by rule RelativeText text = option_map Relative (relative_date text)
+family_answer_by rule RawText text = option_map Absolute (raw_time_by rule text)
 
 -- the families in the order in which they are asked
 abbrev pub families : List Family
@@ -55,16 +55,26 @@ first_of [] = None
 first_of (answer ∷ answers) = option_or answer (first_of answers)
 
 -- what each family answers of a text, in their order
-abbrev pub family_answers : List ℕ → List (Option FamilyAnswer)
-family_answers text = map (λ family. family_answer family text) families
+abbrev pub family_answers_by : OffsetRule → List ℕ → List (Option FamilyAnswer)
+family_answers_by rule text = map (λ family. family_answer_by rule family text) families
 
 -- the answer of the first family that holds the text
-unfoldable pub first_family : List ℕ → Option FamilyAnswer
-first_family text = first_of (family_answers text)
+unfoldable pub first_family_by : OffsetRule → List ℕ → Option FamilyAnswer
+first_family_by rule text = first_of (family_answers_by rule text)
 
 -- the families before Git's own forms
+abbrev pub answers_before_git_by : OffsetRule → List ℕ → List (Option FamilyAnswer)
+answers_before_git_by rule text = take 8 (family_answers_by rule text)
+
+-- the same where raw offsets are quarters of an hour
+abbrev pub family_answer : Family → List ℕ → Option FamilyAnswer
+family_answer = family_answer_by is_quarter
+
+abbrev pub first_family : List ℕ → Option FamilyAnswer
+first_family = first_family_by is_quarter
+
 abbrev pub answers_before_git : List ℕ → List (Option FamilyAnswer)
-answers_before_git text = take 8 (family_answers text)
+answers_before_git = answers_before_git_by is_quarter
 
 -- the refusal of a text that no family holds, or want of memory for its copy
 abbrev pub RefusesUnknown : List ℕ → Error → Type 0

@@ -1,14 +1,15 @@
 -- How the time of a commit header is read.
-use Rattle.std.specs.Prelude.{◌≡◌, ℕ, List, ℤ, pos, if◌then◌else◌, Option, Some, None, Result, Ok, Err, take_while}
+use Rattle.std.specs.Prelude.{◌≡◌, ℕ, List, ◌∷◌, ◌++◌, ℤ, pos, if◌then◌else◌, Option, Some, None, Result, ok_or, take_while}
 use Rattle.std.specs.Option.{option_or, option_map_or}
 use Rattle.std.specs.Char.{is_ascii_digit}
-use Rattle.gix_date.specs.Characters.{has_colon}
+use Rattle.gix_date.specs.Characters.{has_colon, space}
 use Rattle.gix_date.specs.Fields.{◌>>=◌}
 use Rattle.gix_date.specs.Numbers.{int_value}
 use Rattle.gix_date.specs.Offsets.{offset_fields, offset_of}
 use Rattle.gix_date.specs.SpaceWords.{space_words, first_words}
 use Rattle.gix_date.specs.declared.error.Error.{Error}
 use Rattle.gix_date.specs.declared.error.Error.TheVariants.{InvalidTime}
+use Rattle.gix_date.specs.declared.parsing.offset.OffsetFields.{OffsetFields}
 use Rattle.gix_date.specs.declared.time.Time.{Time}
 
 -- what the first word says: its value as an int text, else that of the digits it begins with
@@ -30,8 +31,14 @@ time_of_words words = do
 unfoldable pub header_time : List ℕ → Option Time
 header_time text = if has_colon text then None else time_of_words (space_words text)
 
+-- a number, one space and the fields of an offset, as nearly all headers are
+pub record IsPlainHeader (text : List ℕ) (seconds : ℤ) (fields : OffsetFields) : Type 0 where
+  pub front : List ℕ
+  pub zone : List ℕ
+  pub whole : text ≡ front ++ space ∷ zone
+  pub is_seconds : int_value front ≡ Some seconds
+  pub are_fields : offset_fields zone ≡ Some fields
+
 -- the time that a header says, or the fault of one that says none
 abbrev pub ReadsHeader : List ℕ → Result Time Error → Type 0
-ReadsHeader text (Ok t) = header_time text ≡ Some t
-ReadsHeader text (Err InvalidTime) = header_time text ≡ None
-ReadsHeader text (Err _) = ⊥
+ReadsHeader text result = result ≡ ok_or (header_time text) InvalidTime

@@ -7,7 +7,14 @@ use Rattle.gix_date.specs.Numbers.{decimal_text, two_digits}
 use Rattle.gix_date.specs.declared.error.Error.{Error}
 use Rattle.gix_date.specs.declared.error.Error.TheVariants.{OffsetTooWide, Write}
 use Rattle.gix_date.specs.declared.time.Time.{Time}
-use Rattle.gix_date.specs.declared.time.write.TheConstants.{HUNDRED_HOURS}
+use Rattle.gix_date.specs.declared.time.write.TheConstants.{HUNDRED_HOURS, LONGEST_TEXT}
+
+-- the least seconds of an offset without a text, and the most bytes of a text
+abbrev pub hundred_hours : ℕ
+hundred_hours = HUNDRED_HOURS
+
+abbrev pub longest_text : ℕ
+longest_text = LONGEST_TEXT
 
 -- `-` where the offset is below 0, else `+`
 abbrev pub offset_sign : ℤ → ℕ
@@ -24,7 +31,7 @@ zone_text offset = offset_sign offset ∷ hours_and_minutes (unsigned_abs offset
 -- the header text of a time: none where the offset is 100 hours or more either way
 unfoldable pub header_text : Time → Option (List ℕ)
 header_text t =
-    if nat_lt (unsigned_abs t.offset) HUNDRED_HOURS
+    if nat_lt (unsigned_abs t.offset) hundred_hours
     then Some (decimal_text t.seconds ++ space ∷ zone_text t.offset) else None
 
 -- What writing a time came to: the writer took all of the text, or no byte, or a proper prefix and has that fault.

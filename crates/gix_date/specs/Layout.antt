@@ -12,12 +12,19 @@ use Rattle.gix_date.specs.SpaceWords.{is_nonempty}
 use Rattle.gix_date.specs.declared.parsing.civil.ClockFields.{ClockFields}
 use Rattle.gix_date.specs.declared.parsing.civil.DateFields.{DateFields}
 
+-- a year, a month and a day; an hour, a minute and a second: the names by which another crate says the fields of the code
+abbrev pub LocalDate : Type 0
+LocalDate = DateFields
+
+abbrev pub LocalClock : Type 0
+LocalClock = ClockFields
+
 -- What a formatted date says, as it is read and as it is printed: the day of the week (0 is Monday), the date, the clock, and the
 -- offset in seconds.
 pub record LocalTime : Type 0 where
   pub weekday : ℕ
-  pub date : DateFields
-  pub clock : ClockFields
+  pub date : LocalDate
+  pub clock : LocalClock
   pub offset : ℤ
 
 -- the kinds of pieces

@@ -32,6 +32,7 @@ pub mod Layout
 pub mod Patterns
 pub mod Families
 pub mod FamilyLaws
+pub mod Shapes
 pub mod LocalClocks
 pub mod PrintedTimes
 pub mod ReadingBack
@@ -43,3 +44,4 @@ pub mod Civil
 pub mod ClockCut
 pub mod GitClock
 pub mod Git
+pub mod Computing

@@ -1,12 +1,16 @@
 -- Numbers as texts.
-use Rattle.std.specs.Prelude.{ℕ, ◌+◌, ◌-◌, ◌*◌, ◌/◌, ◌%◌, ◌^◌, Bool, ◌&&◌, List, [], ◌∷◌, length, ℤ, pos, negsuc, nat_lt, if◌then◌else◌, Option, Some, None, option_map}
+use Rattle.std.specs.Prelude.{ℕ, ◌+◌, ◌-◌, ◌*◌, ◌/◌, ◌%◌, ◌^◌, Bool, ◌==◌, ◌&&◌, ◌||◌, List, [], ◌∷◌, length, ℤ, pos, negsuc, nat_lt, if◌then◌else◌, Option, Some, None, option_map}
 use Rattle.std.specs.Char.{is_ascii_digit}
 use Rattle.std.specs.Fmt.{signed_decimal}
 use Rattle.std.specs.Option.{option_or}
 use Rattle.std.specs.Str.{all_ascii_digits}
 use Rattle.std.specs.Str.Parse.{without_leading_sign, signed_digits_value}
-use Rattle.gix_date.specs.Characters.{digit_zero}
+use Rattle.gix_date.specs.Characters.{digit_zero, plus, minus}
 use Rattle.gix_date.specs.Fields.{Read, ◌>>=◌}
+
+-- a digit or a sign
+abbrev pub is_number_byte : ℕ → Bool
+is_number_byte c = is_ascii_digit c || c == plus || c == minus
 
 -- the decimal text of a number: no plus, no leading zero, no `-0`
 abbrev pub decimal_text : ℤ → List ℕ

@@ -8,11 +8,15 @@ use Rattle.gix_date.specs.declared.parsing.patterns.TheConstants.{MAX_OFFSET_IN_
 use Rattle.gix_date.specs.declared.parsing.civil.ClockFields.{ClockFields}
 use Rattle.gix_date.specs.declared.parsing.civil.DateFields.{DateFields}
 
+-- the farthest offset of a formatted date
+abbrev pub most_date_offset : ℕ
+most_date_offset = MAX_OFFSET_IN_SECONDS
+
 -- What a formatted date answers, where there is such an instant: an offset beyond 23:59 is a refusal.
 unfoldable pub date_answer : DateFields → ClockFields → ℤ → Option FamilyAnswer
 date_answer date clock offset = do
   seconds ← civil_instant date clock offset
-  if nat_lt MAX_OFFSET_IN_SECONDS (unsigned_abs offset) then Some OffsetBeyond
+  if nat_lt most_date_offset (unsigned_abs offset) then Some OffsetBeyond
       else Some (Absolute (record { seconds = seconds; offset = offset }))
 
 -- the same of a time that was read

@@ -44,7 +44,7 @@ pub trait Source {
 /// A writer of std as a [`Sink`], and a reader of std as a [`Source`].
 ///
 /// Each call makes one `write` or `read`, and none after a fault. An interrupted call is a fault, and so is a `write` that
-/// takes no byte (`WriteZero`). It takes no memory.
+/// takes no byte (`WriteZero`). It takes no memory but what the writer takes for itself, as a `Vec` that grows.
 #[derive(Debug, Drop)]
 pub struct Device<T> {
     inner: T,
@@ -108,7 +108,8 @@ impl<T: Read> Source for Device<T> {
 
 /// Puts the whole text into a sink, by as many calls of [`Sink::put`] as that takes.
 ///
-/// Where the sink refuses, a proper prefix of the text was taken, and the answer is the sink's fault. Takes no memory.
+/// Where the sink refuses, a proper prefix of the text was taken, and the answer is the sink's fault. Takes no memory of its
+/// own.
 pub fn put_all<W: Sink>(out: &mut W, text: &[u8]) -> Result<(), io::ErrorKind>
     ensures ok { OnOk result (Takes (W.known out.old) (W.known out.new) text.now) }
     ensures cut { OnErr result (TakesProperPrefix (W.known out.old) (W.known out.new) text.now) }

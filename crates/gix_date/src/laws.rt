@@ -7,35 +7,34 @@ ghost use Rattle.std.specs.declared.cmp.Ordering.TheVariants.{Equal};
 ghost use Rattle.std.specs.Hash as fed;
 ghost use Rattle.std.specs.Ordering.{int_cmp, on, then_cmp};
 ghost use Rattle.gix_date.specs.Answer.{Absolute};
-ghost use Rattle.gix_date.specs.Epoch.{utc_time};
+ghost use Rattle.gix_date.specs.Epoch.{utc_time, least_bare_epoch};
 ghost use Rattle.gix_date.specs.Numbers.{decimal_text};
-ghost use Rattle.gix_date.specs.Families.{RawText, BareEpoch, GitForm, answers_before_git, first_family, Comes};
+ghost use Rattle.gix_date.specs.Families.{RawText, BareEpoch, GitForm, answers_before_git, first_family, first_family_by, Comes};
 ghost use Rattle.gix_date.specs.FixedZones.{IsFixedZone, IsSecondsPair, IsMonthsPair, less_seconds, less_months, total, Names, NamesAlike, IsSecondsBefore, NamesEarlier};
 ghost use Rattle.gix_date.specs.CanonicalHeader.{is_canonical_header};
-ghost use Rattle.gix_date.specs.FamilyLaws.{AreDisjoint, AreExclusive, AreOverlapping, ComesFirst, IgnoresMoment, Holds};
+ghost use Rattle.gix_date.specs.FamilyLaws.{AreDisjoint, AreDisjointBy, AreExclusive, AreExclusiveBy, AreOverlapping, ComesFirst, ComesFirstBy, IsWidened, IgnoresMoment, IgnoresMomentBy, Holds, HoldsBy};
 ghost use Rattle.gix_date.specs.HeaderLaws.{CanonicalComesBack, ComesBackFromHeader, AreWrittenAlike};
 ghost use Rattle.gix_date.specs.HeaderReading.{header_time};
-ghost use Rattle.gix_date.specs.HeaderText.{header_text};
+ghost use Rattle.gix_date.specs.HeaderText.{header_text, hundred_hours, longest_text};
+ghost use Rattle.gix_date.specs.Raw.{allows, is_whole_minutes, most_raw_hours, most_wide_hours, most_wide_minutes};
 ghost use Rattle.gix_date.specs.Relative.{RelativeDate, Before, IsNamed, relative_date};
 ghost use Rattle.gix_date.specs.RelativeSteps.{zone_of};
+ghost use Rattle.gix_date.specs.Shapes.{IsDispatched, IsDispatchedBy};
 ghost use Rattle.gix_date.specs.TimeBuf.{text_in};
-ghost use Rattle.gix_date.specs.declared.parsing.function.TheConstants.{LEAST_EPOCH};
-ghost use Rattle.gix_date.specs.declared.parsing.patterns.TheConstants.{MAX_OFFSET_IN_SECONDS};
-ghost use Rattle.gix_date.specs.declared.parsing.raw.TheConstants.{MOST_HOURS};
 ghost use Rattle.gix_date.specs.declared.time.format.Format.TheVariants.{Unix, Raw};
 ghost use Rattle.jiff.specs.Words.{plain_zoned};
 ghost use Rattle.jiff.specs.declared.zoned.Zoned.{Zoned as Moment};
-ghost use Rattle.gix_date.specs.declared.time.write.TheConstants.{HUNDRED_HOURS, LONGEST_TEXT};
 ghost use Rattle.gix_date.specs.LocalClocks.{clock_of, HasOrdinaryClock};
-ghost use Rattle.gix_date.specs.ReadingBack.{IsPlainTime, AreReadBack, IsRawOffset};
+ghost use Rattle.gix_date.specs.ReadingBack.{IsPlainTime, AreReadBack, AreReadBackBy, IsKept, IsKeptBy, IsRawOffset, IsWideOffset};
 ghost use Rattle.gix_date.specs.Zoned.{IsMoment};
 ghost use Rattle.gix_date.specs.PrintedTimes.{IsPrintedAs};
 ghost use Rattle.gix_date.specs.NamedTexts.{local_time, IsOrdinary, short_pattern, short_text, rfc2822_pattern, rfc2822_text, git_rfc2822_pattern, git_rfc2822_text, iso8601_pattern, iso8601_text, iso8601_strict_pattern, iso8601_strict_text, gitoxide_pattern, gitoxide_text, default_pattern, default_text};
-ghost use Rattle.gix_date.specs.Patterns.{short_layout, rfc2822_layout, iso8601_layout, iso8601_strict_layout, gitoxide_layout, default_layout, time_answer, real_day_answer, short_answer, rfc2822_answer, iso8601_answer, iso8601_strict_answer, gitoxide_answer, default_answer, Spells, IsAnswered};
+ghost use Rattle.gix_date.specs.Patterns.{short_layout, rfc2822_layout, iso8601_layout, iso8601_strict_layout, gitoxide_layout, default_layout, time_answer, real_day_answer, short_answer, rfc2822_answer, iso8601_answer, iso8601_strict_answer, gitoxide_answer, default_answer, Spells, IsAnswered, most_date_offset};
 
 use crate::error::Error;
 use crate::parsing::TimeBuf;
-use crate::parsing::function::parse;
+use crate::parsing::function::{parse, parse_with};
+use crate::parsing::raw::RawOffsets;
 use crate::time::Time;
 use crate::time::format::{
     CustomFormat, DEFAULT, Format, GIT_RFC2822, GITOXIDE, ISO8601, ISO8601_STRICT, RAW, RFC2822,
@@ -67,6 +66,23 @@ pub fn headline(alloc: Global, text: &str, now: Option<Zoned<'_>>) -> Result<Tim
     parse(alloc, text, now)
 }
 
+/// The whole promise of [`parse_with`], by either rule for the offsets of raw texts: that of [`headline`], with the texts that are raw by
+/// this rule.
+pub fn headline_with(
+    alloc: Global,
+    text: &str,
+    now: Option<Zoned<'_>>,
+    raw: RawOffsets,
+) -> Result<Time, Error>
+    ensures first_family { Comes (first_family_by (allows raw) text.now) text.now now.entry result }
+    ensures exclusive { AreDisjointBy (allows raw) text.now }
+    ensures canonical { CanonicalComesBack text.now }
+    ensures read_back { (time : Time) → IsPlainTime time → AreReadBackBy (allows raw) time }
+{
+    canonical(text);
+    parse_with(alloc, text, now, raw)
+}
+
 /// The two constants are the seconds and offsets that they are said to be.
 pub fn constants()
     ensures max { Time.MAX ≡ record { seconds = pos 9_223_372_036_854_775_807; offset = pos 359_999 } }
@@ -75,20 +91,29 @@ pub fn constants()
 
 /// The limits that contracts name are the numbers that the documents say, and the longest text is that of the least time.
 pub fn limits()
-    ensures least_bare_epoch { LEAST_EPOCH ≡ pos 100_000_000 }
-    ensures most_raw_hours { MOST_HOURS ≡ 14 }
-    ensures most_date_offset { MAX_OFFSET_IN_SECONDS ≡ 86_340 }
-    ensures offset_without_text { HUNDRED_HOURS ≡ 360_000 }
-    ensures longest_text { LONGEST_TEXT ≡ 26 }
-    ensures text_of_min { IfSome (header_text Time.MIN) (λ text. length text ≡ LONGEST_TEXT) }
+    ensures least_bare_epoch { least_bare_epoch ≡ pos 100_000_000 }
+    ensures most_raw_hours { most_raw_hours ≡ 14 }
+    ensures most_wide_hours { most_wide_hours ≡ 23 }
+    ensures most_wide_minutes { most_wide_minutes ≡ 59 }
+    ensures most_date_offset { most_date_offset ≡ 86_340 }
+    ensures offset_without_text { hundred_hours ≡ 360_000 }
+    ensures longest_text { longest_text ≡ 26 }
+    ensures text_of_min { IfSome (header_text Time.MIN) (λ text. length text ≡ longest_text) }
 {}
 
-/// A clone of a time is that time, a clone of a buffer holds the same text, and neither can fail.
+/// A clone of a time, a rule for raw offsets, a format or a pattern is that value, a clone of a buffer holds the same text, and none
+/// can fail.
 pub fn clones()
     ensures time { (a b : Time) → ⟦<Time as Clone>⟧.is_clone a b → b ≡ a }
     ensures time_succeeds { (a : Time) → ⟦<Time as Clone>⟧.is_infallible a }
     ensures buffer { (a b : TimeBuf) → ⟦<TimeBuf as Clone>⟧.is_clone a b → text_in b ≡ text_in a }
     ensures buffer_succeeds { (a : TimeBuf) → ⟦<TimeBuf as Clone>⟧.is_infallible a }
+    ensures rule { (a b : RawOffsets) → ⟦<RawOffsets as Clone>⟧.is_clone a b → b ≡ a }
+    ensures rule_succeeds { (a : RawOffsets) → ⟦<RawOffsets as Clone>⟧.is_infallible a }
+    ensures format { (a b : Format) → ⟦<Format as Clone>⟧.is_clone a b → b ≡ a }
+    ensures format_succeeds { (a : Format) → ⟦<Format as Clone>⟧.is_infallible a }
+    ensures pattern { (a b : CustomFormat) → ⟦<CustomFormat as Clone>⟧.is_clone a b → b ≡ a }
+    ensures pattern_succeeds { (a : CustomFormat) → ⟦<CustomFormat as Clone>⟧.is_infallible a }
 {}
 
 /// Times are in order of their seconds, and at the same seconds of their offset; those that are equal in this order are
@@ -98,9 +123,10 @@ pub fn order()
     ensures agrees { (a b : Time) → (⟦<Time as Ord>⟧.cmp a b ≡ Equal) ↔ IsTrue (⟦<Time as PartialEq>⟧.eq a b) }
 {}
 
-/// Times are equal by `==` where both numbers are the same, and nowhere else.
+/// Times are equal by `==` where both numbers are the same, and nowhere else; rules for raw offsets where they are the same.
 pub fn equality()
-    ensures { (a b : Time) → IsTrue (⟦<Time as PartialEq>⟧.eq a b) ↔ (a ≡ b) }
+    ensures time { (a b : Time) → IsTrue (⟦<Time as PartialEq>⟧.eq a b) ↔ (a ≡ b) }
+    ensures rule { (a b : RawOffsets) → IsTrue (⟦<RawOffsets as PartialEq>⟧.eq a b) ↔ (a ≡ b) }
 {}
 
 /// A time feeds a hasher its seconds and then its offset, so that equal times hash alike.
@@ -176,7 +202,7 @@ pub fn canonical(text: &str)
 
 /// A time whose offset is whole minutes, short of 100 hours either way, is read from its header text.
 pub fn written_is_read(time: Time)
-    requires short { unsigned_abs time.offset < HUNDRED_HOURS }
+    requires short { unsigned_abs time.offset < hundred_hours }
     requires whole { unsigned_abs time.offset % 60 ≡ 0 }
     ensures { ComesBackFromHeader time }
 {}
@@ -184,8 +210,8 @@ pub fn written_is_read(time: Time)
 /// Two times with offsets short of 100 hours are written alike exactly where these agree: the seconds, whether the offset is negative,
 /// and its whole minutes.
 pub fn alike(a: Time, b: Time)
-    requires first { unsigned_abs a.offset < HUNDRED_HOURS }
-    requires second { unsigned_abs b.offset < HUNDRED_HOURS }
+    requires first { unsigned_abs a.offset < hundred_hours }
+    requires second { unsigned_abs b.offset < hundred_hours }
     ensures { AreWrittenAlike a b }
 {}
 
@@ -194,10 +220,21 @@ pub fn disjoint(text: &str)
     ensures { AreDisjoint text.now }
 {}
 
+/// The same where raw texts have offsets of whole minutes up to 23:59.
+pub fn disjoint_wide(text: &str)
+    ensures { AreDisjointBy is_whole_minutes text.now }
+{}
+
 /// No text is of two of the families that [`parse`] asks, but of ISO 8601 or its strict form and Git's own forms, and of Git's own
 /// forms and relative texts (`overlap`): what one of two others holds is refused by the other.
 pub fn exclusive(text: &str)
     ensures { AreExclusive text.now }
+{}
+
+/// The same where raw texts have offsets of whole minutes up to 23:59: no text is of two of the families that [`parse_with`] asks, but of
+/// those that overlap, none of which is of raw texts.
+pub fn exclusive_wide(text: &str)
+    ensures { AreExclusiveBy is_whole_minutes text.now }
 {}
 
 /// The families that are said to overlap do so: each two have a text that both hold.
@@ -212,6 +249,28 @@ pub fn comes_first(text: &str)
     ensures { ComesFirst text.now }
 {}
 
+/// The same of [`parse_with`], where raw texts have offsets of whole minutes up to 23:59.
+pub fn comes_first_wide(text: &str)
+    ensures { ComesFirstBy is_whole_minutes text.now }
+{}
+
+/// What [`parse`] reads, or refuses by name, is the same to [`parse_with`] by whole minutes; and what is of some family by that rule
+/// alone is a raw text, or an at text with one.
+pub fn widened(text: &str)
+    ensures { IsWidened text.now }
+{}
+
+/// What [`parse`] goes by is what the first family of a text's shape answers that holds it: the shape is told by the first bytes
+/// (`shape_of`), and only a few families can hold a text of each (`shape_families`).
+pub fn dispatched(text: &str)
+    ensures { IsDispatched text.now }
+{}
+
+/// The same of [`parse_with`], where raw texts have offsets of whole minutes up to 23:59.
+pub fn dispatched_wide(text: &str)
+    ensures { IsDispatchedBy is_whole_minutes text.now }
+{}
+
 /// What [`parse`] may answer at one moment it may answer at every other, and without one, for each text that is not relative, such as
 /// a raw text and a bare epoch, and for one of Git's own forms even where it is.
 pub fn ignores_moment(text: &str)
@@ -221,19 +280,44 @@ pub fn ignores_moment(text: &str)
     ensures git { Holds GitForm text.now → IgnoresMoment text.now }
 {}
 
+/// The same of [`parse_with`], where raw texts have offsets of whole minutes up to 23:59.
+pub fn ignores_moment_wide(text: &str)
+    ensures plain { relative_date text.now ≡ None → IgnoresMomentBy is_whole_minutes text.now }
+    ensures raw { HoldsBy is_whole_minutes RawText text.now → IgnoresMomentBy is_whole_minutes text.now }
+    ensures epoch { HoldsBy is_whole_minutes BareEpoch text.now → IgnoresMomentBy is_whole_minutes text.now }
+    ensures git { HoldsBy is_whole_minutes GitForm text.now → IgnoresMomentBy is_whole_minutes text.now }
+{}
+
 /// What a named format with a clock prints of a time is parsed back to it, whatever moment is handed in, or none: where the time
 /// converts, its own clock shows a year from 1000 to 9999, and its offset is whole minutes within 23:59.
 pub fn read_back(time: Time)
     requires plain { IsPlainTime time }
-    ensures { AreReadBack time }
+    ensures formats { AreReadBack time }
+    ensures texts { IsKept time }
+{}
+
+/// The same of [`parse_with`], where raw texts have offsets of whole minutes up to 23:59.
+pub fn read_back_wide(time: Time)
+    requires plain { IsPlainTime time }
+    ensures formats { AreReadBackBy is_whole_minutes time }
+    ensures texts { IsKeptBy is_whole_minutes time }
 {}
 
 /// The header text of a time whose offset is quarters of an hour up to 14:45 is parsed back to it, and the decimal text of seconds
 /// from 100000000 on to these seconds with offset 0: whatever moment is handed in, or none.
 pub fn raw_read_back(time: Time)
     ensures header { IsRawOffset time.offset → IsSomeAnd (header_text time) (λ text. first_family text ≡ Some (Absolute time)) }
-    ensures seconds { LEAST_EPOCH ≤ℤ time.seconds
+    ensures seconds { least_bare_epoch ≤ℤ time.seconds
         → first_family (decimal_text time.seconds) ≡ Some (Absolute (utc_time time.seconds)) }
+{}
+
+/// By [`parse_with`], where raw texts have offsets of whole minutes up to 23:59, the header text of each time with such an offset is
+/// parsed back to it, and the decimal text of seconds as by [`raw_read_back`].
+pub fn raw_read_back_wide(time: Time)
+    ensures header { IsWideOffset time.offset
+        → IsSomeAnd (header_text time) (λ text. first_family_by is_whole_minutes text ≡ Some (Absolute time)) }
+    ensures seconds { least_bare_epoch ≤ℤ time.seconds
+        → first_family_by is_whole_minutes (decimal_text time.seconds) ≡ Some (Absolute (utc_time time.seconds)) }
 {}
 
 /// In a zone of fixed offset `yesterday` and one pair of a day name the same instant, or neither names one.

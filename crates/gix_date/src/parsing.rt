@@ -23,8 +23,9 @@ mod numbers;
 mod offset;
 mod patterns;
 mod plain;
-mod raw;
+pub(crate) mod raw;
 mod relative;
+mod shape;
 mod space_words;
 
 /// A place for the text of one time, of 26 bytes at most, which takes no memory.
@@ -53,10 +54,10 @@ impl TimeBuf {
 }
 
 impl Default for TimeBuf {
+    ghost is_default = { λ buf. text_in buf ≡ [] };
+
     /// An empty buffer.
-    fn default() -> TimeBuf
-        ensures { text_in result ≡ [] }
-    {
+    fn default() -> TimeBuf {
         TimeBuf {
             text: ArrayString::new(),
         }

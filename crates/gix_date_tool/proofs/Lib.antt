@@ -4,3 +4,4 @@ pub mod Taking
 pub mod Replying
 pub mod CanonicalLines
 pub mod Reading
+pub mod Telling

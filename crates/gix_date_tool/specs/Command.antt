@@ -1,12 +1,19 @@
 -- What the words of a command line ask for.
 use Rattle.std.specs.Prelude.{◌≡◌, ℕ, Bool, true, false, ◌&&◌, List, [], ◌∷◌, Option, Some, None, Result, Ok, Err, if◌then◌else◌, codes}
-use Rattle.std.specs.Option.{option_map}
+use Rattle.std.specs.Option.{option_map, ForSome}
+use Rattle.std.specs.Result.{result_ok, result_err}
+use Rattle.std.specs.declared.alloc.AllocError.{AllocError}
 use Rattle.std.specs.Str.{bytes_eq}
-use Rattle.gix_date.specs.Answer.{FamilyAnswer, Absolute}
+use Rattle.gix_date.specs.Answer.{FamilyAnswer, Absolute, OffsetBeyond, InstantBeyond}
+use Rattle.gix_date.specs.Answer as answers
 use Rattle.gix_date.specs.Families.{first_family, is_copied}
-use Rattle.gix_date.specs.Zoned.{is_convertible}
+use Rattle.gix_date.specs.Zoned.{is_convertible, IsConvertible}
 use Rattle.gix_date.specs.declared.time.Time.{Time}
 use Rattle.gix_date_tool.specs.declared.arguments.Mode.{Mode}
+use Rattle.gix_date_tool.specs.declared.arguments.NoMoment.{NoMoment}
+use Rattle.gix_date_tool.specs.declared.arguments.NoMoment.TheVariants.{UnknownFormat, DateConversion, Relative, Conversion}
+use Rattle.gix_date_tool.specs.declared.arguments.Request.{Request}
+use Rattle.gix_date_tool.specs.declared.arguments.Request.TheVariants.{Run, Usage}
 use Rattle.gix_date_tool.specs.declared.arguments.Mode.TheVariants.{Check, Parse}
 use Rattle.gix_date_tool.specs.declared.error.ToolError.{ToolError}
 use Rattle.gix_date_tool.specs.declared.error.ToolError.TheVariants as errors
@@ -18,32 +25,54 @@ mode_of word =
     else if bytes_eq word (codes "parse") then Some Parse
     else None
 
--- the time that a text is a moment of, where a family says one that converts
-abbrev pub moment_by : Option FamilyAnswer → Option Time
-moment_by (Some (Absolute t)) = if is_convertible t then Some t else None
-moment_by _ = None
+-- the time that a text is a moment of, where a family says one that converts, or why there is none
+abbrev pub moment_or_why : Option FamilyAnswer → Result Time NoMoment
+moment_or_why None = Err UnknownFormat
+moment_or_why (Some (Absolute t)) = if is_convertible t then Ok t else Err Conversion
+moment_or_why (Some OffsetBeyond) = Err UnknownFormat
+moment_or_why (Some InstantBeyond) = Err DateConversion
+moment_or_why (Some (answers.Relative date)) = Err Relative
 
 -- one word, which names a mode, or `parse` and a moment
 abbrev pub command_of : List (List ℕ) → Option (Mode × Option Time)
 command_of [] = None
 command_of (word ∷ []) = option_map (λ mode. (mode, None)) (mode_of word)
 command_of (word ∷ now ∷ []) =
-    if bytes_eq word (codes "parse") then option_map (λ t. (Parse, Some t)) (moment_by (first_family now)) else None
+    if bytes_eq word (codes "parse") then option_map (λ t. (Parse, Some t)) (result_ok (moment_or_why (first_family now))) else None
 command_of (word ∷ now ∷ next ∷ more) = None
+
+-- why the second of two words is no moment, where the first is `parse`
+abbrev pub no_moment : List (List ℕ) → Option NoMoment
+no_moment (word ∷ now ∷ []) = if bytes_eq word (codes "parse") then result_err (moment_or_why (first_family now)) else None
+no_moment _ = None
 
 -- a moment is asked for by a text that is copied for a refusal
 abbrev pub has_copied_moment : List (List ℕ) → Bool
 has_copied_moment (word ∷ now ∷ []) = bytes_eq word (codes "parse") && is_copied (first_family now)
 has_copied_moment _ = false
 
+-- memory for the copy of a moment that is none may be wanting
+abbrev pub MayLack : List (List ℕ) → Type 0
+MayLack words = (command_of words ≡ None) × (has_copied_moment words ≡ true)
+
 -- What reading a command line comes to. Memory may be wanting only for the copy of a moment that is none.
 abbrev pub Commands : List (List ℕ) → Result (Option (Mode × Option Time)) ToolError → Type 0
 Commands words (Ok asked) = asked ≡ command_of words
-Commands words (Err errors.Memory) = (command_of words ≡ None) × (has_copied_moment words ≡ true)
+Commands words (Err errors.Memory) = MayLack words
 Commands words (Err _) = ⊥
 
+-- The same of a request, which also says why NOW is no moment.
+abbrev pub IsRequest : List (List ℕ) → Result Request AllocError → Type 0
+IsRequest words (Ok (Run mode now)) = command_of words ≡ Some (mode, now)
+IsRequest words (Ok (Usage why)) = (command_of words ≡ None) × (why ≡ no_moment words)
+IsRequest words (Err _) = MayLack words
+
+-- a run that is asked for may be made
+abbrev pub IsRunnable : Request → Type 0
+IsRunnable (Run mode now) = ForSome now IsConvertible
+IsRunnable (Usage why) = Unit {0}
+
 -- what reading a moment comes to
-abbrev pub IsMomentText : Option FamilyAnswer → Result (Option Time) ToolError → Type 0
-IsMomentText answer (Ok now) = now ≡ moment_by answer
-IsMomentText answer (Err errors.Memory) = (moment_by answer ≡ None) × (is_copied answer ≡ true)
-IsMomentText answer (Err _) = ⊥
+abbrev pub IsMomentText : Option FamilyAnswer → Result (Result Time NoMoment) AllocError → Type 0
+IsMomentText answer (Ok now) = now ≡ moment_or_why answer
+IsMomentText answer (Err _) = (result_ok (moment_or_why answer) ≡ None) × (is_copied answer ≡ true)

@@ -4,4 +4,6 @@ pub mod Outbox
 pub mod Progress
 pub mod Run
 pub mod Command
+pub mod Kinds
+pub mod Messages
 pub mod Program

@@ -1,13 +1,17 @@
 -- What the program does with a command line.
-use Rattle.std.specs.Prelude.{◌≡◌, ◌⊎◌, true, ℕ, List, Option, Some, None, IsSome, Ok, Err}
+use Rattle.std.specs.Prelude.{◌≡◌, ℕ, List, Option, Some, None, Ok, Err}
 use Rattle.gix_date.specs.Known.{Takes, TakesProperPrefix}
 use Rattle.gix_date.specs.declared.time.Time.{Time}
 use Rattle.gix_date_tool.specs.declared.arguments.Mode.{Mode}
-use Rattle.gix_date_tool.specs.declared.error.ToolError.{ToolError}
+use Rattle.gix_date_tool.specs.declared.arguments.NoMoment.{NoMoment}
+use Rattle.gix_date_tool.specs.declared.error.ToolError.TheVariants as errors
+use Rattle.gix_date_tool.specs.declared.end.End.{End}
+use Rattle.gix_date_tool.specs.declared.end.End.TheVariants.{Replied, Fault, NoMemory, Shown}
 use Rattle.gix_date_tool.specs.declared.program.Status.{Status}
 use Rattle.gix_date_tool.specs.declared.program.Status.TheVariants.{Success, Failure, Usage}
 use Rattle.gix_date_tool.specs.declared.program.TheConstants.{USAGE}
-use Rattle.gix_date_tool.specs.Command.{command_of, has_copied_moment}
+use Rattle.gix_date_tool.specs.Command.{command_of, no_moment, MayLack}
+use Rattle.gix_date_tool.specs.Messages.{message_of, Tells}
 use Rattle.gix_date_tool.specs.Run.{Change, Runs}
 
 -- the exit status of the process
@@ -16,32 +20,53 @@ code_of Success = 0
 code_of Failure = 1
 code_of Usage = 2
 
+-- the status that an end has
+abbrev pub status_of : End → Status
+status_of Replied = Success
+status_of (Fault fault) = Failure
+status_of NoMemory = Failure
+status_of (Shown why) = Usage
+
 -- The usage line was written, or the writer has a fault and a proper prefix of it was.
-abbrev pub ShowsUsage : Change → Status → Type 0
-ShowsUsage writing Success = ⊥
-ShowsUsage writing Failure = TakesProperPrefix writing.old writing.new USAGE.now × IsSome writing.new.fault
-ShowsUsage writing Usage = Takes writing.old writing.new USAGE.now
+abbrev pub EndsInUsage : Option NoMoment → Change → End → Type 0
+EndsInUsage why writing (Shown told) = Takes writing.old writing.new USAGE.now × (told ≡ why)
+EndsInUsage why writing (Fault (errors.Write kind)) =
+    TakesProperPrefix writing.old writing.new USAGE.now × (writing.new.fault ≡ Some kind)
+EndsInUsage why writing _ = ⊥
 
 -- A run in this mode at this moment came to its end, or to a fault.
-abbrev pub EndsRun : Mode × Option Time → Change → Change → Status → Type 0
-EndsRun asked reading writing Success = (count : ℕ) × Runs asked.0 asked.1 reading writing (Ok count)
-EndsRun asked reading writing Failure = (fault : ToolError) × Runs asked.0 asked.1 reading writing (Err fault)
-EndsRun asked reading writing Usage = ⊥
+abbrev pub EndsRun : Mode × Option Time → Change → Change → End → Type 0
+EndsRun asked reading writing Replied = (count : ℕ) × Runs asked.0 asked.1 reading writing (Ok count)
+EndsRun asked reading writing (Fault fault) = Runs asked.0 asked.1 reading writing (Err fault)
+EndsRun asked reading writing _ = ⊥
 
 -- What the program comes to by what was asked of it: the usage line is due where that is nothing it has, and then nothing is
 -- read.
-abbrev pub Ends : Option (Mode × Option Time) → Change → Change → Status → Type 0
-Ends None reading writing status = (reading.new ≡ reading.old) × ShowsUsage writing status
-Ends (Some asked) reading writing status = EndsRun asked reading writing status
+abbrev pub EndsBy : Option (Mode × Option Time) → Option NoMoment → Change → Change → End → Type 0
+EndsBy None why reading writing end = (reading.new ≡ reading.old) × EndsInUsage why writing end
+EndsBy (Some asked) why reading writing end = EndsRun asked reading writing end
 
 -- Memory was wanting for the copy of a moment that is none, and nothing was read or written.
 pub record Lacked (words : List (List ℕ)) (reading writing : Change) : Type 0 where
-  pub none_asked : command_of words ≡ None
-  pub is_copied : has_copied_moment words ≡ true
+  pub may_lack : MayLack words
   pub unread : reading.new ≡ reading.old
   pub unwritten : writing.new ≡ writing.old
 
 -- What the program comes to by the words of its command line.
-abbrev pub Executes : List (List ℕ) → Change → Change → Status → Type 0
-Executes words reading writing Failure = Ends (command_of words) reading writing Failure ⊎ Lacked words reading writing
-Executes words reading writing status = Ends (command_of words) reading writing status
+abbrev pub Ends : List (List ℕ) → Change → Change → End → Type 0
+Ends words reading writing NoMemory = Lacked words reading writing
+Ends words reading writing end = EndsBy (command_of words) (no_moment words) reading writing end
+
+-- What was said, and the status, are those of such an end.
+pub record Executes (words : List (List ℕ)) (reading writing telling : Change) (status : Status) : Type 0 where
+  pub end : End
+  pub ends : Ends words reading writing end
+  pub tells : Tells telling (message_of end)
+  pub status_is : status ≡ status_of end
+
+-- The same where the usage line is due.
+pub record ShowsUsage (writing telling : Change) (status : Status) : Type 0 where
+  pub end : End
+  pub ends : EndsInUsage None writing end
+  pub tells : Tells telling (message_of end)
+  pub status_is : status ≡ status_of end

@@ -1,13 +1,14 @@
 //! What the program is asked for.
-ghost use Rattle.std.specs.Prelude.{IfOk, IfSome, map, string_bytes};
+ghost use Rattle.std.specs.Prelude.{◌≡◌, IfOk, IfSome, map, string_bytes};
 ghost use Rattle.std.specs.Option.{ForSome};
 ghost use Rattle.gix_date.specs.Families.{first_family};
 ghost use Rattle.gix_date.specs.Zoned.{IsConvertible};
-ghost use Rattle.gix_date_tool.specs.Command.{Commands, IsMomentText};
+ghost use Rattle.gix_date_tool.specs.Messages.{no_moment_words};
+ghost use Rattle.gix_date_tool.specs.Command.{Commands, IsRequest, IsRunnable, IsMomentText};
 
 use crate::error::ToolError;
 use gix_date::{Error, Time, parse};
-use std::alloc::Global;
+use std::alloc::{AllocError, Global};
 
 /// What [`crate::run`] replies to each line.
 #[derive(Debug, Clone, Copy, PartialEq, Eq)]
@@ -16,6 +17,44 @@ pub enum Mode {
     Check,
     /// The header text of the time that the line is parsed as, or why it is not.
     Parse,
+}
+
+/// What the words of a command line ask for.
+#[derive(Clone, Copy)]
+pub(crate) enum Request {
+    /// A run in this mode, at this moment where there is one.
+    Run(Mode, Option<Time>),
+    /// The usage line, and why NOW is no moment where that is all that is wrong.
+    Usage(Option<NoMoment>),
+}
+
+/// Why NOW is no moment.
+#[derive(Clone, Copy)]
+pub(crate) enum NoMoment {
+    /// No form that a date may have holds it, or its offset is above what a formatted date may have.
+    UnknownFormat,
+    /// It is a day without an instant.
+    DateConversion,
+    /// It is relative to a moment.
+    Relative,
+    /// It is a time that does not convert.
+    Conversion,
+}
+
+impl NoMoment {
+    /// What is said of it.
+    pub(crate) fn text(self) -> &'static str
+        ensures { result.now ≡ no_moment_words self }
+    {
+        match self {
+            NoMoment::UnknownFormat => {
+                "NOW is in no known date format; expected a date, such as \"2022-08-18 12:45:06 +0800\" or \"1660874655 +0800\""
+            }
+            NoMoment::DateConversion => "NOW is beyond the last instant that can be computed with",
+            NoMoment::Relative => "NOW is a relative date, and has no moment to count from",
+            NoMoment::Conversion => "NOW is too far from 1970",
+        }
+    }
 }
 
 /// Reads the words of a command line, without the program's name: the mode, and the moment where there is one.
@@ -29,31 +68,41 @@ pub fn command(alloc: Global, words: &[String]) -> Result<Option<(Mode, Option<T
     ensures answer { Commands (map string_bytes words.now) result }
     ensures moment { IfOk result (λ asked. IfSome asked (λ both. ForSome both.1 IsConvertible)) }
 {
-    match words {
-        [mode] if mode.as_str() == "check" => Ok(Some((Mode::Check, None))),
-        [mode] if mode.as_str() == "parse" => Ok(Some((Mode::Parse, None))),
-        [mode, now] if mode.as_str() == "parse" => match moment(alloc, now.as_str())? {
-            Some(now) => Ok(Some((Mode::Parse, Some(now)))),
-            None => Ok(None),
-        },
-        _ => Ok(None),
+    match read_words(alloc, words) {
+        Ok(Request::Run(mode, now)) => Ok(Some((mode, now))),
+        Ok(Request::Usage(_)) => Ok(None),
+        Err(AllocError) => Err(ToolError::Memory),
     }
 }
 
-/// The time that a text is a moment of.
-fn moment(alloc: Global, text: &str) -> Result<Option<Time>, ToolError>
+/// What the words of a command line ask for, or that memory for the copy of a refused NOW is refused.
+pub(crate) fn read_words(alloc: Global, words: &[String]) -> Result<Request, AllocError>
+    ensures is { IsRequest (map string_bytes words.now) result }
+    ensures runnable { IfOk result IsRunnable }
+{
+    match words {
+        [mode] if mode.as_str() == "check" => Ok(Request::Run(Mode::Check, None)),
+        [mode] if mode.as_str() == "parse" => Ok(Request::Run(Mode::Parse, None)),
+        [mode, now] if mode.as_str() == "parse" => match moment(alloc, now.as_str())? {
+            Ok(now) => Ok(Request::Run(Mode::Parse, Some(now))),
+            Err(why) => Ok(Request::Usage(Some(why))),
+        },
+        _ => Ok(Request::Usage(None)),
+    }
+}
+
+/// The time that a text is a moment of, or why it is none.
+fn moment(alloc: Global, text: &str) -> Result<Result<Time, NoMoment>, AllocError>
     ensures answer { IsMomentText (first_family text.now) result }
-    ensures converts { IfOk result (λ now. ForSome now IsConvertible) }
+    ensures converts { IfOk result (λ now. IfOk now IsConvertible) }
 {
     match parse(alloc, text, None) {
-        Ok(time) if time.to_zoned().is_ok() => Ok(Some(time)),
-        Ok(_)
-        | Err(
-            Error::UnknownFormat { input: _ }
-            | Error::DateConversion { input: _ }
-            | Error::MissingNow,
-        ) => Ok(None),
-        Err(Error::Memory) => Err(ToolError::Memory),
+        Ok(time) if time.to_zoned().is_ok() => Ok(Ok(time)),
+        Ok(_) => Ok(Err(NoMoment::Conversion)),
+        Err(Error::UnknownFormat { input: _ }) => Ok(Err(NoMoment::UnknownFormat)),
+        Err(Error::DateConversion { input: _ }) => Ok(Err(NoMoment::DateConversion)),
+        Err(Error::MissingNow) => Ok(Err(NoMoment::Relative)),
+        Err(Error::Memory) => Err(AllocError),
         // `parse` refuses by none of these, or not without a moment.
         Err(
             Error::InvalidTime

@@ -2,8 +2,12 @@
 #![tactic(auto)]
 
 mod arguments;
+mod end;
 mod error;
+mod kinds;
+pub mod laws;
 mod lines;
+mod messages;
 mod outbox;
 mod program;
 mod progress;

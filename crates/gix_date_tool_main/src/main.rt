@@ -1,4 +1,4 @@
-//! The program: what it is asked for is done by `gix_date_tool`, over standard input and output.
+//! The program: what it is asked for is done by `gix_date_tool`, over the standard streams.
 #![tactic(auto)]
 
 use gix_date::device::Device;
@@ -10,9 +10,16 @@ use std::{env, io};
 fn main(rt: HostRuntime) -> ExitCode {
     let mut reader = Device::new(rt.stdin());
     let mut writer = Device::new(rt.stdout());
+    let mut messages = Device::new(rt.stderr());
     let status = match words(&rt) {
-        Ok(Some(words)) => execute(rt.alloc(), words.as_slice(), &mut reader, &mut writer),
-        Ok(None) => show_usage(&mut writer),
+        Ok(Some(words)) => execute(
+            rt.alloc(),
+            words.as_slice(),
+            &mut reader,
+            &mut writer,
+            &mut messages,
+        ),
+        Ok(None) => show_usage(&mut writer, &mut messages),
         Err(AllocError) => Status::Failure,
     };
     ExitCode::from(status.code())

@@ -1,3 +1,1 @@
-pub mod Resolved
-pub mod ClockTime
-pub mod Kept
+pub mod Words

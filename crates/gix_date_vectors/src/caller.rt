@@ -1,53 +1,54 @@
 //! What a crate that reads and writes commits does with `gix_date`.
-ghost use Rattle.std.specs.Prelude.{◌≡◌, ◌≢◌, ◌↔◌, ◌<◌, ◌%◌, ◌-ℤ◌, pos, true, false, unsigned_abs, IsTrue, IsSome, Some, None, Err, IfSome, IfNone, IsOk, IsSomeAnd, OnOk, IfOk, MatchResult, option_map, replicate, string_bytes};
+ghost use Rattle.std.specs.Prelude.{◌≡◌, ◌≢◌, ◌↔◌, ◌<◌, ◌%◌, ◌-ℤ◌, pos, true, false, unsigned_abs, IsTrue, IsSome, Some, None, Err, Ok, IfSome, IfNone, IsOk, IsOkAnd, IfOk, MatchResult, option_map, unwrap_or, replicate, string_bytes, ℤ, Option};
 ghost use Rattle.gix_date.specs.Answer.{Absolute, Relative};
 ghost use Rattle.gix_date.specs.CanonicalHeader.{is_canonical_header};
 ghost use Rattle.gix_date.specs.Epoch.{epoch_time};
-ghost use Rattle.gix_date.specs.Families.{first_family, Comes};
+ghost use Rattle.gix_date.specs.Families.{first_family, first_family_by, Comes};
 ghost use Rattle.gix_date.specs.FixedZones.{earlier};
 ghost use Rattle.gix_date.specs.HeaderReading.{header_time};
-ghost use Rattle.gix_date.specs.HeaderText.{header_text};
-ghost use Rattle.gix_date.specs.Known.{Takes};
+ghost use Rattle.gix_date.specs.HeaderText.{header_text, Writes, hundred_hours};
 ghost use Rattle.gix_date.specs.LocalClocks.{HasOrdinaryClock};
 ghost use Rattle.gix_date.specs.NamedTexts.{iso8601_text};
 ghost use Rattle.gix_date.specs.Printed.{PrintsOrSeconds};
 ghost use Rattle.gix_date.specs.PrintedTimes.{PrintsText};
-ghost use Rattle.gix_date.specs.Raw.{raw_time};
-ghost use Rattle.gix_date.specs.ReadingBack.{IsPlainTime};
+ghost use Rattle.gix_date.specs.Raw.{is_whole_minutes, raw_time, raw_time_by};
+ghost use Rattle.gix_date.specs.ReadingBack.{IsPlainTime, IsWideOffset, HasClock, PrintsBack};
 ghost use Rattle.gix_date.specs.Relative.{RelativeDate, relative_date};
 ghost use Rattle.gix_date.specs.TimeBuf.{text_in};
 ghost use Rattle.gix_date.specs.Zoned.{IsConvertible, IsMoment, is_instant, time_in, time_in_utc};
-ghost use Rattle.gix_date.specs.declared.error.Error.TheVariants.{Conversion, Memory, Range};
+ghost use Rattle.gix_date.specs.declared.error.Error.TheVariants.{Conversion, InvalidTime, Memory, OffsetTooWide, Range};
 ghost use Rattle.gix_date.specs.declared.time.Time.{Time as Read};
 ghost use Rattle.gix_date.specs.declared.time.format.Format.TheVariants.{Custom};
-ghost use Rattle.gix_date_vectors.specs.ClockTime.{IsClockTime};
-ghost use Rattle.gix_date_vectors.specs.Resolved.{Resolved};
-ghost use Rattle.gix_date_vectors.specs.Kept.{HasClock, PrintsBack};
 ghost use Rattle.jiff.specs.Words.{plain_zone};
+ghost use Rattle.jiff.specs.declared.tz.timezone.TimeZone.{TimeZone as Place};
 ghost use Rattle.jiff.specs.declared.zoned.Zoned.{Zoned as Moment};
 
 use gix_date::device::{Device, Sink};
 use gix_date::parsing::TimeBuf;
-use gix_date::time::{CustomFormat, Format};
-use gix_date::{Error, Time, laws, parse, parse_header};
+use gix_date::time::CustomFormat;
+use gix_date::time::format::{DEFAULT, GIT_RFC2822, GITOXIDE, ISO8601, ISO8601_STRICT, RFC2822};
+use gix_date::{Error, RawOffsets, Time, laws, parse, parse_header, parse_with};
 use jiff::tz::{SystemTimeZone, TimeZone, TimeZoneDatabase};
 use jiff::{Timestamp, Zoned};
 use std::alloc::{AllocError, AllocGlobal, Global};
 use std::rt::{Env, Files};
 use std::time::Clock;
 
-/// Writes the time of a header anew, in the form that Git writes.
+/// Writes the time of a header anew, in the form that Git writes. It is refused where the header says no time, where
+/// that time has no text, and by the writer's fault.
 pub fn rewrite<W: Sink>(header: &str, out: &mut W) -> Result<(), Error>
-    ensures { OnOk result ((t : Read) × (header_time header.now ≡ Some t)
-        × IsSomeAnd (header_text t) (Takes (W.known out.old) (W.known out.new))) }
+    ensures none { header_time header.now ≡ None → result ≡ Err InvalidTime }
+    ensures some { (t : Read) → header_time header.now ≡ Some t → Writes t (W.known out.old) (W.known out.new) result }
 {
     let time: Time = header.parse()?;
     time.write_to(out)
 }
 
-/// The text of a commit header in memory.
+/// The text of a commit header in memory. It is refused where the time has none, and for want of memory, which is the
+/// fault of the `Vec` that is written to.
 pub fn header_bytes(alloc: Global, time: Time) -> Result<Vec<u8>, Error>
-    ensures { IfOk result (λ bytes. header_text time ≡ Some bytes.items) }
+    ensures text { IfOk result (λ bytes. header_text time ≡ Some bytes.items) }
+    ensures wide { header_text time ≡ None → result ≡ Err OffsetTooWide }
 {
     let mut out = Device::new(Vec::new(alloc));
     time.write_to(&mut out)?;
@@ -70,7 +71,7 @@ pub fn read_canonical(header: &str) -> Option<Time>
 
 /// A time that was written into a header and read from it again: the same.
 pub fn kept_in_header(time: Time) -> Option<Time>
-    requires short { unsigned_abs time.offset < 360_000 }
+    requires short { unsigned_abs time.offset < hundred_hours }
     requires whole { unsigned_abs time.offset % 60 ≡ 0 }
     ensures { result ≡ Some time }
 {
@@ -80,6 +81,28 @@ pub fn kept_in_header(time: Time) -> Option<Time>
         Ok(text) => parse_header(text),
         Err(_) => None,
     }
+}
+
+/// A time whose offset is whole minutes short of a day, written as in a header and parsed as a date: the same. No memory is taken.
+pub fn kept_in_date(alloc: Global, time: Time) -> Result<Time, Error>
+    requires { IsWideOffset time.offset }
+    ensures { result ≡ Ok time }
+{
+    laws::raw_read_back_wide(time);
+    let mut buf = TimeBuf::default();
+    match time.to_str(&mut buf) {
+        Ok(text) => parse_with(alloc, text, None, RawOffsets::WholeMinutes),
+        Err(fault) => Err(fault),
+    }
+}
+
+/// The time of a date as programs store it, seconds and an offset, also where that is of odd minutes, as in some commits.
+pub fn stored_date(alloc: Global, date: &str) -> Result<Time, Error>
+    ensures raw { (t : Read) → raw_time_by is_whole_minutes date.now ≡ Some t → result ≡ Ok t }
+    ensures comes { Comes (first_family_by is_whole_minutes date.now) date.now None result }
+{
+    laws::comes_first_wide(date);
+    parse_with(alloc, date, None, RawOffsets::WholeMinutes)
 }
 
 /// Whether a date is read from the moment, so that it has to be handed in: never for what programs store, which are raw texts and
@@ -114,39 +137,27 @@ pub fn date_typed(alloc: Global, date: &str, now: Time) -> Result<Time, Error>
     parse(alloc, date, Some(moment))
 }
 
-/// Why a revision's date was not resolved.
-#[derive(Debug, Drop)]
-pub enum Unresolved {
-    /// The machine's clock or zone was not read.
-    Moment(jiff::Error),
-    /// The date has no time at that moment.
-    Date(Error),
-}
-
-/// The time of a revision's date, as of the words in `@{2 days ago}`, by the machine's clock and in its zone.
+/// The time of a revision's date, as of the words in `@{2 days ago}`, by the machine's clock and in its zone, or why
+/// the date has none. The fault of `jiff` where clock or zone are not read.
 ///
 /// A program hands in its own runtime, as `resolved(&rt, date)` in `main`.
 pub fn resolved<R: Clock + Env + Files + AllocGlobal + Clone + Drop>(
     rt: &R,
     date: &str,
-) -> Result<Time, Unresolved>
-    ensures { Resolved date.now result }
+) -> Result<Result<Time, Error>, jiff::Error>
+    ensures { IfOk result (λ answer. (moment : Moment) × Comes (first_family date.now) date.now (Some moment) answer) }
 {
-    let zones = TimeZoneDatabase::from_env(rt).map_err(Unresolved::Moment)?;
-    let named = SystemTimeZone::read(rt).map_err(Unresolved::Moment)?;
-    let zone = named.time_zone(&zones).map_err(Unresolved::Moment)?;
-    let now = jiff::Zoned::now(rt, zone).map_err(Unresolved::Moment)?;
-    match parse(rt.alloc(), date, Some(now)) {
-        Ok(time) => Ok(time),
-        Err(fault) => Err(Unresolved::Date(fault)),
-    }
+    let zones = TimeZoneDatabase::from_env(rt)?;
+    let named = SystemTimeZone::read(rt)?;
+    let now = Zoned::now(rt, named.time_zone(&zones)?)?;
+    Ok(parse(rt.alloc(), date, Some(now)))
 }
 
 /// The date of a line in a log, or the seconds of a time that has no text in that format. It fails for want of memory alone.
 pub fn log_date(alloc: Global, time: Time, format: CustomFormat) -> Result<String, Error>
     ensures { PrintsOrSeconds time (Custom format) result }
 {
-    time.format_or_unix(alloc, Format::from(format))
+    time.format_or_unix(alloc, format.into())
 }
 
 /// The date of a time as `git log --date=iso` has it: what the time's own clock shows.
@@ -154,8 +165,7 @@ pub fn iso_date(alloc: Global, time: Time) -> Result<String, Error>
     ensures { HasOrdinaryClock time → PrintsText iso8601_text time result }
 {
     laws::printed(time);
-    let formats = laws::named_formats();
-    time.format(alloc, Format::Custom(formats[3]))
+    time.format(alloc, ISO8601.into())
 }
 
 /// The text of a time by one of the six named formats that have a clock, which is parsed back to that time.
@@ -165,7 +175,7 @@ pub fn dated(alloc: Global, time: Time, format: CustomFormat) -> Result<String, 
     ensures { PrintsBack time result }
 {
     laws::read_back(time);
-    time.format(alloc, Format::Custom(format))
+    time.format(alloc, format.into())
 }
 
 /// A time that was printed by such a format and parsed back, at any moment or none: the same time. It fails for want of memory alone.
@@ -190,13 +200,12 @@ pub fn kept_by_each(alloc: Global, time: Time, now: Option<Zoned<'_>>) -> Result
     requires { IsPlainTime time }
     ensures { MatchResult result (λ times. times ≡ replicate 6 time) (λ e. e ≡ Memory) }
 {
-    let formats = laws::named_formats();
-    let mail = kept(alloc, time, formats[1], now)?;
-    let git_mail = kept(alloc, time, formats[2], now)?;
-    let iso = kept(alloc, time, formats[3], now)?;
-    let strict = kept(alloc, time, formats[4], now)?;
-    let gitoxide = kept(alloc, time, formats[5], now)?;
-    let default = kept(alloc, time, formats[6], now)?;
+    let mail = kept(alloc, time, RFC2822, now)?;
+    let git_mail = kept(alloc, time, GIT_RFC2822, now)?;
+    let iso = kept(alloc, time, ISO8601, now)?;
+    let strict = kept(alloc, time, ISO8601_STRICT, now)?;
+    let gitoxide = kept(alloc, time, GITOXIDE, now)?;
+    let default = kept(alloc, time, DEFAULT, now)?;
     Ok([mail, git_mail, iso, strict, gitoxide, default])
 }
 
@@ -228,7 +237,8 @@ pub fn authored_in_utc(clock: Timestamp) -> Time
 pub fn commit_time<R: Clock + Env + Files + AllocGlobal + Clone + Drop>(
     rt: &R,
 ) -> Result<Time, jiff::Error>
-    ensures { IfOk result IsClockTime }
+    ensures { IfOk result (λ t. (instant : ℤ) × (zone : Option Place)
+        × (t ≡ unwrap_or (option_map (λ z. time_in (plain_zone z) instant) zone) (time_in_utc instant))) }
 {
     let zones = TimeZoneDatabase::from_env(rt)?;
     let named = SystemTimeZone::read(rt)?;
@@ -236,10 +246,11 @@ pub fn commit_time<R: Clock + Env + Files + AllocGlobal + Clone + Drop>(
     Ok(Time::now_local_or_utc(Timestamp::now(rt)?, zone))
 }
 
-/// A second buffer with the same text.
+/// A second buffer with the same text. It takes no memory, so it never fails.
 pub fn doubled(buf: &TimeBuf) -> Result<TimeBuf, AllocError>
-    ensures { IfOk result (λ copy. text_in copy ≡ text_in buf.now) }
+    ensures { IsOkAnd result (λ copy. text_in copy ≡ text_in buf.now) }
 {
+    laws::clones();
     buf.clone()
 }
 

@@ -1,10 +1,12 @@
 //! Command lines, and what the program does with them.
-use crate::fakes::{Slow, Supply};
+use crate::fakes::{KINDS, Replied, Slow, Supply};
 use gix_date::Time;
 use gix_date::device::Device;
-use gix_date_tool::{Mode, Status, command, execute, show_usage};
+use gix_date_tool::{Mode, Status, ToolError, command, execute, show_usage};
 use std::alloc::{AllocError, Global};
+use std::cell::Cell;
 use std::io::ErrorKind;
+use std::str;
 use std::test::Fail;
 
 /// The words of a command line.
@@ -136,7 +138,14 @@ fn the_program_ends_with_a_status(rt: HostRuntime) -> Result<(), Fail> {
         let words = words_of(rt.alloc(), line)?;
         let mut source = Device::new(Supply::once(input.as_bytes(), 99, None));
         let mut sink = Device::new(Slow::roomy(rt.alloc()));
-        let ended = execute(rt.alloc(), words.as_slice(), &mut source, &mut sink);
+        let mut messages = Device::new(Slow::roomy(rt.alloc()));
+        let ended = execute(
+            rt.alloc(),
+            words.as_slice(),
+            &mut source,
+            &mut sink,
+            &mut messages,
+        );
         assert_eq!(rt; ended, status, "{line:?}");
         assert_eq!(rt; ended.code(), code, "{line:?}");
         assert_eq!(rt;
@@ -148,20 +157,164 @@ fn the_program_ends_with_a_status(rt: HostRuntime) -> Result<(), Fail> {
     Ok(())
 }
 
+/// How `check` ends over a reader that fails at once and messages with so much room, and what it says.
+fn ended_with(
+    rt: &HostRuntime,
+    kind: ErrorKind,
+    room: usize,
+) -> Result<(Status, Slow), AllocError> {
+    let words = words_of(rt.alloc(), &["check"])?;
+    let mut source = Device::new(Supply::of(b"0", 1, 0, Some(kind)));
+    let mut sink = Device::new(Slow::roomy(rt.alloc()));
+    let mut messages = Device::new(Slow::new(rt.alloc(), 1 << 10, room, ErrorKind::StorageFull));
+    let ended = execute(
+        rt.alloc(),
+        words.as_slice(),
+        &mut source,
+        &mut sink,
+        &mut messages,
+    );
+    Ok((ended, messages.into_inner()))
+}
+
 #[test]
 fn the_program_ends_with_status_1_on_a_fault(rt: HostRuntime) -> Result<(), Fail> {
     let words = words_of(rt.alloc(), &["check"])?;
     let mut source = Device::new(Supply::once(b"0 +0000\n", 3, Some(ErrorKind::ConnectionReset)));
     let mut sink = Device::new(Slow::roomy(rt.alloc()));
-    let ended = execute(rt.alloc(), words.as_slice(), &mut source, &mut sink);
+    let mut messages = Device::new(Slow::roomy(rt.alloc()));
+    let ended = execute(
+        rt.alloc(),
+        words.as_slice(),
+        &mut source,
+        &mut sink,
+        &mut messages,
+    );
     assert_eq!(rt; ended, Status::Failure);
     assert_eq!(rt; ended.code(), 1);
     assert_eq!(rt;
         sink.into_inner().taken.as_slice(),
         b"canonical\n".as_slice()
     );
+    let said = messages.into_inner();
+    assert_eq!(rt;
+        said.taken.as_slice(),
+        b"gix_date_tool: reading failed: connection reset\n".as_slice()
+    );
+    assert_eq!(rt; (said.calls, said.flushes), (1, 0));
+    Ok(())
+}
+
+#[test]
+fn an_unwritten_usage_line_is_said(rt: HostRuntime) -> Result<(), Fail> {
     let mut cut = Device::new(Slow::new(rt.alloc(), 9, 5, ErrorKind::BrokenPipe));
-    assert_eq!(rt; show_usage(&mut cut), Status::Failure);
+    let mut messages = Device::new(Slow::roomy(rt.alloc()));
+    assert_eq!(rt; show_usage(&mut cut, &mut messages), Status::Failure);
     assert_eq!(rt; cut.into_inner().taken.as_slice(), b"usage".as_slice());
+    assert_eq!(rt;
+        messages.into_inner().taken.as_slice(),
+        b"gix_date_tool: writing failed: broken pipe\n".as_slice()
+    );
+    let mut whole = Device::new(Slow::roomy(rt.alloc()));
+    let mut silent = Device::new(Slow::roomy(rt.alloc()));
+    assert_eq!(rt; show_usage(&mut whole, &mut silent), Status::Usage);
+    assert_eq!(rt; silent.into_inner().calls, 0);
+    Ok(())
+}
+
+#[test]
+fn each_kind_of_fault_is_called_as_the_standard_library_has_it(
+    rt: HostRuntime,
+) -> Result<(), Fail> {
+    for kind in KINDS {
+        let (ended, said) = ended_with(&rt, kind, 1 << 10)?;
+        let line = format!(in rt.alloc(); "gix_date_tool: reading failed: {kind}\n")?;
+        let text = format!(in rt.alloc(); "{}", ToolError::Write(kind))?;
+        let wanted = format!(in rt.alloc(); "writing failed: {kind}")?;
+        assert_eq!(rt; ended, Status::Failure, "{kind:?}");
+        assert_eq!(rt; said.taken.as_slice(), line.as_bytes(), "{kind:?}");
+        assert_eq!(rt; text.as_str(), wanted.as_str(), "{kind:?}");
+    }
+    Ok(())
+}
+
+#[test]
+fn messages_that_are_refused_change_no_status(rt: HostRuntime) -> Result<(), Fail> {
+    let line = b"gix_date_tool: reading failed: timed out\n".as_slice();
+    for room in 0..line.len() {
+        let (ended, said) = ended_with(&rt, ErrorKind::TimedOut, room)?;
+        assert_eq!(rt; ended, Status::Failure, "{room}");
+        assert_eq!(rt; said.taken.as_slice(), &line[..room], "{room}");
+    }
+    Ok(())
+}
+
+#[test]
+fn a_refused_moment_is_said_behind_the_usage_line(rt: HostRuntime) -> Result<(), Fail> {
+    let rows = [
+        (["parse", "x"].as_slice(), "no known date format", 1),
+        (["parse", "1 +0001"].as_slice(), "no known date format", 1),
+        (["parse", "2 weeks ago"].as_slice(), "relative", 1),
+        (["parse", "9999-12-31"].as_slice(), "last instant", 1),
+        (["parse", "@253402207201"].as_slice(), "far from 1970", 1),
+        (["check", "x"].as_slice(), "", 0),
+        (["x"].as_slice(), "", 0),
+        (["parse", "x", "y"].as_slice(), "", 0),
+        ([].as_slice(), "", 0),
+    ];
+    for (line, why, lines) in rows {
+        let words = words_of(rt.alloc(), line)?;
+        let mut source = Device::new(Supply::once(b"0 +0000\n", 99, None));
+        let mut sink = Device::new(Slow::roomy(rt.alloc()));
+        let mut messages = Device::new(Slow::roomy(rt.alloc()));
+        let ended = execute(
+            rt.alloc(),
+            words.as_slice(),
+            &mut source,
+            &mut sink,
+            &mut messages,
+        );
+        let said = messages.into_inner();
+        let text = str::from_utf8(said.taken.as_slice()).unwrap_or("not text");
+        assert_eq!(rt; ended, Status::Usage, "{line:?}");
+        assert_eq!(rt;
+            (source.into_inner().calls, said.calls),
+            (0, lines),
+            "{line:?}"
+        );
+        assert!(rt; text.contains(why), "{line:?}");
+        assert_eq!(rt;
+            text.bytes().filter(|b| *b == b'\n').count(),
+            lines,
+            "{line:?}"
+        );
+    }
+    Ok(())
+}
+
+#[test]
+fn too_many_lines_are_said_with_how_to_go_on(rt: HostRuntime) -> Result<(), Fail> {
+    let words = words_of(rt.alloc(), &["check"])?;
+    let replied = Cell::new(0);
+    let mut source = Device::new(Supply::of(&[b'\n'; 4096], 4096, 1_000_001, None));
+    let mut sink = Device::new(Replied(&replied));
+    let mut messages = Device::new(Slow::roomy(rt.alloc()));
+    let ended = execute(
+        rt.alloc(),
+        words.as_slice(),
+        &mut source,
+        &mut sink,
+        &mut messages,
+    );
+    let said = messages.into_inner();
+    let text = str::from_utf8(said.taken.as_slice()).unwrap_or("not text");
+    assert_eq!(rt; ended, Status::Failure);
+    assert_eq!(rt; replied.get(), 1_000_000);
+    assert!(rt;
+        text.starts_with("gix_date_tool: there are more than 1000000 lines"),
+        "{text}"
+    );
+    assert!(rt; text.contains("split -l 1000000 --filter"), "{text}");
+    assert!(rt; text.ends_with('\n'), "{text}");
     Ok(())
 }

@@ -1,5 +1,5 @@
 //! Devices over writers and readers that fail, and what is written to them.
-use crate::fakes::{Dribble, Slow, Supply};
+use crate::fakes::{Dribble, KINDS, Slow, Supply};
 use gix_date::device::{Device, Sink, Source, put_all};
 use gix_date::{Error, Time};
 use std::io::ErrorKind;
@@ -19,11 +19,7 @@ fn a_device_makes_one_write_a_call(rt: HostRuntime) -> Result<(), Fail> {
 
 #[test]
 fn a_device_makes_no_write_and_no_flush_after_a_fault(rt: HostRuntime) {
-    for kind in [
-        ErrorKind::BrokenPipe,
-        ErrorKind::WouldBlock,
-        ErrorKind::Interrupted,
-    ] {
+    for kind in KINDS {
         let mut device = Device::new(Slow::new(rt.alloc(), 1, 1, kind));
         assert_eq!(rt; device.put(b"ab"), Ok(1), "{kind:?}");
         for _ in 0..3 {
@@ -64,16 +60,13 @@ fn an_interrupted_call_is_a_fault(rt: HostRuntime) {
 }
 
 #[test]
-fn a_device_makes_no_read_after_a_fault(rt: HostRuntime) {
-    for kind in [
-        ErrorKind::WouldBlock,
-        ErrorKind::TimedOut,
-        ErrorKind::Interrupted,
-    ] {
+fn a_device_makes_no_read_after_a_fault_and_leaves_the_piece(rt: HostRuntime) {
+    for kind in KINDS {
         let mut device = Device::new(Supply::of(b"x", 1, 0, Some(kind)));
-        let mut piece = [0; 4];
+        let mut piece = *b"abcd";
         for _ in 0..3 {
             assert_eq!(rt; device.get(&mut piece), Err(kind), "{kind:?}");
+            assert_eq!(rt; piece.as_slice(), b"abcd".as_slice(), "{kind:?}");
         }
         assert_eq!(rt; device.into_inner().calls, 1, "{kind:?}");
     }
@@ -86,8 +79,10 @@ fn a_device_reads_until_the_first_fault(rt: HostRuntime) {
     assert_eq!(rt; device.get(&mut piece), Ok(1));
     assert_eq!(rt; piece[0], b'x');
     assert_eq!(rt; device.get(&mut piece), Ok(1));
+    piece = *b"abcd";
     for _ in 0..3 {
         assert_eq!(rt; device.get(&mut piece), Err(ErrorKind::UnexpectedEof));
+        assert_eq!(rt; piece.as_slice(), b"abcd".as_slice());
     }
     assert_eq!(rt; device.into_inner().calls, 3);
 }

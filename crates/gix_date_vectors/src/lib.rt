@@ -17,6 +17,8 @@ mod git;
 #[cfg(test)]
 mod headers;
 #[cfg(test)]
+mod machine;
+#[cfg(test)]
 mod memory;
 #[cfg(test)]
 mod names;
@@ -27,10 +29,14 @@ mod patterns;
 #[cfg(test)]
 mod prints;
 #[cfg(test)]
+mod raw;
+#[cfg(test)]
 mod readme;
 #[cfg(test)]
 mod relative;
 #[cfg(test)]
 mod runs;
+#[cfg(test)]
+mod shapes;
 #[cfg(test)]
 mod times;

@@ -3,9 +3,10 @@ use crate::commands::words_of;
 use crate::fakes::{Hoarder, Small, Supply, take_all};
 use crate::git::TIMES;
 use crate::patterns::TIMES as FORMATTED;
+use crate::raw::{BY_BOTH, BY_NEITHER, BY_WHOLE_MINUTES, RULES};
 use crate::relative::IN_UTC;
 use gix_date::device::Device;
-use gix_date::{Error, Time, parse};
+use gix_date::{Error, RawOffsets, Time, parse, parse_with};
 use gix_date_tool::{Mode, Status, ToolError, command, execute, run};
 use std::test::Fail;
 
@@ -41,6 +42,57 @@ fn an_absolute_date_takes_no_memory(rt: HostRuntime) -> Result<(), Fail> {
 }
 
 #[test]
+fn a_raw_text_takes_no_memory_by_either_rule(rt: HostRuntime) -> Result<(), Fail> {
+    let blocks = take_all(rt.alloc())?;
+    let mut all_right = true;
+    for (_, text, seconds, offset) in BY_BOTH {
+        for raw in RULES {
+            let answer = parse_with(rt.alloc(), text, None, raw);
+            if !matches!(answer, Ok(time) if time == Time::new(seconds, offset)) {
+                all_right = false;
+            }
+        }
+    }
+    drop(blocks);
+    assert!(rt; all_right, "no-memory");
+    Ok(())
+}
+
+#[test]
+fn a_wide_raw_text_takes_no_memory(rt: HostRuntime) -> Result<(), Fail> {
+    let blocks = take_all(rt.alloc())?;
+    let mut all_right = true;
+    for (_, text, seconds, offset) in BY_WHOLE_MINUTES {
+        let refusal = parse_with(rt.alloc(), text, None, RawOffsets::Quarter);
+        let answer = parse_with(rt.alloc(), text, None, RawOffsets::WholeMinutes);
+        if !matches!(refusal, Err(Error::Memory))
+            || !matches!(answer, Ok(time) if time == Time::new(seconds, offset))
+        {
+            all_right = false;
+        }
+    }
+    drop(blocks);
+    assert!(rt; all_right, "no-memory");
+    Ok(())
+}
+
+#[test]
+fn a_text_that_is_raw_by_neither_rule_wants_memory(rt: HostRuntime) -> Result<(), Fail> {
+    let blocks = take_all(rt.alloc())?;
+    let mut all_right = true;
+    for (_, text) in BY_NEITHER {
+        for raw in RULES {
+            if !matches!(parse_with(rt.alloc(), text, None, raw), Err(Error::Memory)) {
+                all_right = false;
+            }
+        }
+    }
+    drop(blocks);
+    assert!(rt; all_right, "no-memory");
+    Ok(())
+}
+
+#[test]
 fn a_formatted_date_takes_no_memory(rt: HostRuntime) -> Result<(), Fail> {
     let blocks = take_all(rt.alloc())?;
     let mut all_right = true;
@@ -69,7 +121,8 @@ fn a_relative_date_takes_no_memory(rt: HostRuntime) -> Result<(), Fail> {
             all_right = false;
         }
     }
-    let missing = matches!(parse(rt.alloc(), "now", None), Err(Error::MissingNow));
+    let missing = matches!(parse(rt.alloc(), "now", None), Err(Error::MissingNow))
+        && matches!(parse(rt.alloc(), "yesterday", None), Err(Error::MissingNow));
     let range = matches!(
         parse(rt.alloc(), "yesterday", Some(first)),
         Err(Error::Range)
@@ -168,8 +221,15 @@ fn a_moment_refused_memory_ends_the_program(rt: HostRuntime) -> Result<(), Fail>
     let due = command(rt.alloc(), dated.as_slice());
     let mut source = Device::new(Supply::once(b"0 +0000\n", 99, None));
     let mut sink = Device::new(Small::new());
-    let ended = execute(rt.alloc(), words.as_slice(), &mut source, &mut sink);
-    let silent = sink.into_inner().is(b"");
+    let mut messages = Device::new(Small::new());
+    let ended = execute(
+        rt.alloc(),
+        words.as_slice(),
+        &mut source,
+        &mut sink,
+        &mut messages,
+    );
+    let silent = sink.into_inner().is(b"") && messages.into_inner().is(b"");
     drop(blocks);
     assert!(rt; matches!(answer, Err(ToolError::Memory)), "no-memory");
     assert!(rt;

@@ -1,18 +1,22 @@
 //! Public names, each where it stands, and the traits that callers count on.
 use crate::caller::{
-    Unresolved, absolute_date, asks_for_a_moment, authored, authored_in_utc, commit_time,
-    day_before, header_bytes, iso_date, kept_by_each, kept_in_header, log_date, read_canonical,
-    resolved,
+    absolute_date, asks_for_a_moment, authored, authored_in_utc, commit_time, date_typed,
+    day_before, doubled, header_bytes, iso_date, kept_by_each, kept_in_date, kept_in_header,
+    log_date, read_canonical, resolved, rewrite, shown, stored_date,
 };
+use crate::fakes::Dribble;
+use crate::machine::Machine;
+use gix_date::device::Device;
 use gix_date::parsing::TimeBuf;
 use gix_date::time::{CustomFormat, Format, format};
 use gix_date::{
-    Error, InputBytes, OffsetInSeconds, SecondsSinceUnixEpoch, Time, Zoned, laws, parse,
+    Error, InputBytes, OffsetInSeconds, RawOffsets, SecondsSinceUnixEpoch, Time, Zoned, laws, parse,
 };
 use gix_date_tool::Mode;
 use jiff::Timestamp;
 use jiff::tz::TimeZone;
 use std::alloc::Global;
+use std::io;
 use std::test::Fail;
 
 /// The two numbers of a time.
@@ -54,6 +58,7 @@ fn types_have_the_traits_that_callers_count_on(rt: HostRuntime) {
     let time = gix_date::time::Time::new(5, -60);
     assert!(rt; same(&time, &Time::new(5, -60)));
     assert!(rt; same(&Mode::Parse, &Mode::Parse));
+    assert!(rt; !same(&RawOffsets::Quarter, &RawOffsets::WholeMinutes));
     let mut buf = TimeBuf::default();
     assert!(rt; time.to_str(&mut buf).is_ok());
     let lent: &TimeBuf = &buf;
@@ -89,10 +94,43 @@ fn formats_have_names(rt: HostRuntime) -> Result<(), Fail> {
 }
 
 #[test]
-fn callers_answer(rt: HostRuntime) -> Result<(), Fail> {
-    let date = absolute_date(rt.alloc(), "2018-12-24")?;
-    assert_eq!(rt; date, Time::new(1_545_609_600, 0));
-    assert!(rt; matches!(absolute_date(rt.alloc(), "now"), Err(Error::MissingNow)));
+fn callers_read_and_write_headers(rt: HostRuntime) -> Result<(), Fail> {
+    let mut out = Device::new(Vec::new(rt.alloc()));
+    rewrite(" 12abc \t+0100\n", &mut out)?;
+    assert!(rt; matches!(rewrite("yesterday", &mut out), Err(Error::InvalidTime)));
+    assert!(rt; matches!(rewrite("0 +9999", &mut out), Err(Error::OffsetTooWide)));
+    assert_eq!(rt; out.into_inner().as_slice(), b"12 +0100".as_slice());
+    let mut full = Dribble::new(3);
+    assert!(rt;
+        matches!(
+            rewrite("12 +0100", &mut full),
+            Err(Error::Write(io::ErrorKind::StorageFull))
+        )
+    );
+    let header = header_bytes(rt.alloc(), Time::new(1_660_874_655, 28_800))?;
+    assert_eq!(rt; header.as_slice(), b"1660874655 +0800".as_slice());
+    let wide = header_bytes(rt.alloc(), Time::new(0, 360_000));
+    assert!(rt; matches!(wide, Err(Error::OffsetTooWide)));
+    let canonical = read_canonical("1660874655 +0800");
+    assert_eq!(rt; canonical, Some(Time::new(1_660_874_655, 28_800)));
+    assert_eq!(rt; read_canonical("0 -0000"), None);
+    assert_eq!(rt; read_canonical("0 +0000 "), None);
+    assert_eq!(rt; read_canonical("yesterday"), None);
+    let least = Time::new(i64::MIN, -359_940);
+    assert_eq!(rt; kept_in_header(least), Some(least));
+    let mut buf = TimeBuf::default();
+    Time::new(0, -12_600).to_str(&mut buf)?;
+    assert_eq!(rt; doubled(&buf)?.as_str(), "0 -0330");
+    assert_eq!(rt;
+        shown(rt.alloc(), Time::new(0, -12_600))?.as_str(),
+        "0 -0330"
+    );
+    assert!(rt; shown(rt.alloc(), Time::new(0, 360_000)).is_err());
+    Ok(())
+}
+
+#[test]
+fn callers_print_dates(rt: HostRuntime) -> Result<(), Fail> {
     let logged = log_date(
         rt.alloc(),
         Time::new(1_659_933_906, 28_800),
@@ -103,20 +141,37 @@ fn callers_answer(rt: HostRuntime) -> Result<(), Fail> {
     assert_eq!(rt; beyond.as_str(), "5");
     let iso = iso_date(rt.alloc(), Time::new(1_660_874_655, 28_800))?;
     assert_eq!(rt; iso.as_str(), "2022-08-19 10:04:15 +0800");
-    let header = header_bytes(rt.alloc(), Time::new(1_660_874_655, 28_800))?;
-    assert_eq!(rt; header.as_slice(), b"1660874655 +0800".as_slice());
-    let canonical = read_canonical("1660874655 +0800");
-    assert_eq!(rt; canonical, Some(Time::new(1_660_874_655, 28_800)));
-    assert_eq!(rt; read_canonical("0 -0000"), None);
-    assert_eq!(rt; read_canonical("0 +0000 "), None);
-    assert_eq!(rt; read_canonical("yesterday"), None);
-    let least = Time::new(i64::MIN, -359_940);
-    assert_eq!(rt; kept_in_header(least), Some(least));
+    assert!(rt; matches!(iso_date(rt.alloc(), Time::MAX), Err(Error::Conversion)));
+    Ok(())
+}
+
+#[test]
+fn callers_parse_dates(rt: HostRuntime) -> Result<(), Fail> {
+    let date = absolute_date(rt.alloc(), "2018-12-24")?;
+    assert_eq!(rt; date, Time::new(1_545_609_600, 0));
+    assert!(rt; matches!(absolute_date(rt.alloc(), "now"), Err(Error::MissingNow)));
+    let wide = Time::new(i64::MIN, -86_340);
+    assert!(rt; matches!(kept_in_date(rt.alloc(), wide), Ok(kept) if kept == wide));
+    let stored = stored_date(rt.alloc(), "1660797906 +0007");
+    assert!(rt; matches!(stored, Ok(time) if time == Time::new(1_660_797_906, 420)));
     assert!(rt; !asks_for_a_moment(rt.alloc(), "5 -0130"));
     assert!(rt; !asks_for_a_moment(rt.alloc(), "1700000000"));
     assert!(rt; !asks_for_a_moment(rt.alloc(), "banana"));
     assert!(rt; !asks_for_a_moment(rt.alloc(), "2008-02-14 20:30:45.2 days ago"));
     assert!(rt; asks_for_a_moment(rt.alloc(), "2 days ago"));
+    let typed = date_typed(rt.alloc(), "2 days ago", Time::new(1_698_400_800, 7200))?;
+    assert_eq!(rt; typed, Time::new(1_698_228_000, 7200));
+    assert!(rt;
+        matches!(
+            date_typed(rt.alloc(), "now", Time::MAX),
+            Err(Error::Conversion)
+        )
+    );
+    Ok(())
+}
+
+#[test]
+fn callers_ask_the_machine(rt: HostRuntime) -> Result<(), Fail> {
     let clock = Timestamp::from_second(1_660_874_655)?;
     assert_eq!(rt; authored_in_utc(clock), Time::new(1_660_874_655, 0));
     let zone = TimeZone::posix("CST-8")?;
@@ -127,15 +182,30 @@ fn callers_answer(rt: HostRuntime) -> Result<(), Fail> {
         )
     );
     assert!(rt; matches!(commit_time(&rt), Ok(time) if time.seconds > 1_700_000_000));
-    assert!(rt; matches!(resolved(&rt, "@5 +0100"), Ok(time) if time == Time::new(5, 3600)));
-    assert!(rt; matches!(resolved(&rt, "now"), Ok(time) if time.seconds > 1_700_000_000));
-    assert!(rt;
-        matches!(
-            resolved(&rt, "99999 years ago"),
-            Err(Unresolved::Date(Error::Range))
-        )
-    );
+    assert!(rt; matches!(resolved(&rt, "@5 +0100"), Ok(Ok(time)) if time == Time::new(5, 3600)));
+    assert!(rt; matches!(resolved(&rt, "now"), Ok(Ok(time)) if time.seconds > 1_700_000_000));
+    assert!(rt; matches!(resolved(&rt, "99999 years ago"), Ok(Err(Error::Range))));
     Ok(())
+}
+
+#[test]
+fn callers_go_by_the_zone_of_the_machine(rt: HostRuntime) {
+    let machine = Machine {
+        rt,
+        seconds: 1_698_400_800,
+        zone: "EST5EDT,M3.2.0,M11.1.0",
+    };
+    let now = Time::new(1_698_400_800, -14_400);
+    assert!(rt; matches!(commit_time(&machine), Ok(time) if time == now));
+    assert!(rt; matches!(resolved(&machine, "now"), Ok(Ok(time)) if time == now));
+    let later = Machine {
+        seconds: 1_701_000_000,
+        ..machine
+    };
+    let winter = Time::new(1_701_000_000, -18_000);
+    assert!(rt; matches!(commit_time(&later), Ok(time) if time == winter));
+    let month_before = Time::new(1_698_318_000, -14_400);
+    assert!(rt; matches!(resolved(&later, "1 month ago"), Ok(Ok(time)) if time == month_before));
 }
 
 #[test]
@@ -178,10 +248,16 @@ fn laws_are_called_for_nothing_but_what_they_state() {
     laws::written_is_read(Time::new(0, 60));
     laws::alike(Time::new(0, -30), Time::new(0, -1));
     laws::disjoint("0 +0000");
+    laws::disjoint_wide("0 +0007");
     laws::exclusive("2 days ago");
+    laws::exclusive_wide("2 days ago");
     laws::overlapping();
     laws::comes_first("2018-12-24");
+    laws::comes_first_wide("2018-12-24");
+    laws::dispatched_wide("@5 +0007");
+    laws::widened("1 +0007");
     laws::ignores_moment("yesterday");
+    laws::ignores_moment_wide("yesterday");
     gix_date_tool::limits();
     gix_date_tool::lines_are_unique();
     gix_date_tool::replies_are_unique();
@@ -194,7 +270,9 @@ fn laws_are_called_for_what_they_state_of_a_time(rt: HostRuntime) -> Result<(), 
     laws::printed(time);
     laws::local_clock(time);
     laws::read_back(time);
+    laws::read_back_wide(time);
     laws::raw_read_back(time);
+    laws::raw_read_back_wide(time);
     laws::earlier(time, &[(1, 86_400)]);
     let moment = time.to_zoned()?;
     laws::yesterday(&moment);
@@ -206,5 +284,7 @@ fn laws_are_called_for_what_they_state_of_a_time(rt: HostRuntime) -> Result<(), 
     laws::months_add(&moment, &[(0, 1), (1, 12), (2, 1)]);
     let parsed = laws::headline(rt.alloc(), "5 -0130", Some(moment));
     assert!(rt; matches!(parsed, Ok(raw) if raw == Time::new(5, -5400)));
+    let wide = laws::headline_with(rt.alloc(), "5 +0007", None, RawOffsets::WholeMinutes);
+    assert!(rt; matches!(wide, Ok(raw) if raw == Time::new(5, 420)));
     Ok(())
 }

@@ -1,9 +1,12 @@
 //! The readers that take a whole text.
-ghost use Rattle.std.specs.Prelude.{◌≡◌, IfOk, IfSome, option_map};
+ghost use Rattle.std.specs.Prelude.{◌≡◌, [], ◌∷◌, IfOk, IfSome, option_map};
 ghost use Rattle.jiff.specs.Words.{IsOffsetSeconds};
-ghost use Rattle.gix_date.specs.Epoch.{at_time, epoch_time};
-ghost use Rattle.gix_date.specs.Families.{first_family, Comes, RefusesUnknown, RefusesDate};
+ghost use Rattle.gix_date.specs.Epoch.{at_time_by, epoch_time};
+ghost use Rattle.gix_date.specs.Families.{Rfc2822, GitForm, RelativeText, RawText, family_answer, first_family, first_family_by, Comes, RefusesUnknown, RefusesDate};
 ghost use Rattle.gix_date.specs.HeaderReading.{header_time, seconds_said, offset_said};
+ghost use Rattle.gix_date.specs.Raw.{allows};
+ghost use Rattle.gix_date.specs.Shapes.{first_among, first_among_by, shape_families};
+ghost use Rattle.gix_date.specs.declared.parsing.shape.Shape.TheVariants.{AtSign, WholeNumber, DashedDay, DottedDay, Letter, Other};
 ghost use Rattle.gix_date.specs.Views.{answer_of, HasZoneOffset};
 
 use crate::error::{Error, InputBytes};
@@ -16,8 +19,9 @@ use crate::parsing::patterns::{
     parse_default, parse_gitoxide, parse_iso8601, parse_iso8601_strict, parse_rfc2822, parse_short,
 };
 use crate::parsing::plain::parse_plain;
-use crate::parsing::raw::parse_raw;
+use crate::parsing::raw::{RawOffsets, parse_plain_raw, parse_raw};
 use crate::parsing::relative;
+use crate::parsing::shape::{Shape, begins_with_year};
 use crate::parsing::space_words::first_words;
 use crate::time::{OffsetInSeconds, SecondsSinceUnixEpoch, Time};
 use jiff::Zoned;
@@ -68,7 +72,24 @@ pub fn parse(alloc: Global, input: &str, now: Option<Zoned<'_>>) -> Result<Time,
     ensures comes { Comes (first_family input.now) input.now now.entry result }
     ensures short { IfOk result (λ t. IsOffsetSeconds t.offset) }
 {
-    match first_answer(input) {
+    parse_with(alloc, input, now, RawOffsets::Quarter)
+}
+
+/// Reads a date as [`parse`] does, but for the offsets of raw texts, and of at texts with one, which are those of the rule `raw`.
+///
+/// [`RawOffsets::Quarter`] is the rule of [`parse`]; by [`RawOffsets::WholeMinutes`] a raw text may have each offset of whole minutes
+/// up to 23:59, as `1660797906 +0007`. All that [`parse`] reads is read alike by both (`laws::widened`), and the refusals are those of
+/// [`parse`]: a raw text whose offset the rule does not allow is of no family.
+pub fn parse_with(
+    alloc: Global,
+    input: &str,
+    now: Option<Zoned<'_>>,
+    raw: RawOffsets,
+) -> Result<Time, Error>
+    ensures comes { Comes (first_family_by (allows raw) input.now) input.now now.entry result }
+    ensures short { IfOk result (λ t. IsOffsetSeconds t.offset) }
+{
+    match first_answer(input, raw) {
         Some(Answer::Absolute(time)) => Ok(time),
         Some(Answer::OffsetBeyond) => Err(unknown_format(alloc, input)),
         Some(Answer::InstantBeyond) => Err(date_conversion(alloc, input)),
@@ -78,18 +99,57 @@ pub fn parse(alloc: Global, input: &str, now: Option<Zoned<'_>>) -> Result<Time,
 }
 
 /// What the first family says that holds the text.
-#[tactic(auto, unfolding(crate::specs::Families::first_family))]
-fn first_answer(input: &str) -> Option<Answer<'_>>
-    ensures first { option_map answer_of result ≡ first_family input.now }
+fn first_answer(input: &str, raw: RawOffsets) -> Option<Answer<'_>>
+    ensures first { option_map answer_of result ≡ first_family_by (allows raw) input.now }
     ensures short { IfSome result HasZoneOffset }
 {
-    if let Some(time) = parse_at(input) {
+    answer_by_shape(Shape::of(input), input, raw)
+}
+
+/// What the first of a shape's families says that holds the text.
+fn answer_by_shape<'a>(shape: Shape, input: &'a str, raw: RawOffsets) -> Option<Answer<'a>>
+    ensures first { option_map answer_of result ≡ first_among_by (allows raw) (shape_families shape) input.now }
+    ensures short { IfSome result HasZoneOffset }
+{
+    match shape {
+        Shape::AtSign => at_answer(input, raw),
+        Shape::WholeNumber => number_answer(input),
+        Shape::DashedDay => dashed_answer(input),
+        Shape::DottedDay => git_answer(input),
+        Shape::CompactDay => git_answer(input),
+        Shape::Letter => letter_answer(input),
+        Shape::Other => other_answer(input, raw),
+    }
+}
+
+/// What a text says that begins with `@`.
+fn at_answer(input: &str, raw: RawOffsets) -> Option<Answer<'_>>
+    ensures first { option_map answer_of result ≡ first_among_by (allows raw) (shape_families AtSign) input.now }
+    ensures short { IfSome result HasZoneOffset }
+{
+    if let Some(time) = parse_at(input, raw) {
         return Some(Answer::Absolute(time));
     }
-    if let Some(answer) = parse_short(input) {
-        return Some(answer);
+    relative_answer(input)
+}
+
+/// What a number says.
+fn number_answer(input: &str) -> Option<Answer<'_>>
+    ensures first { option_map answer_of result ≡ first_among (shape_families WholeNumber) input.now }
+    ensures short { IfSome result HasZoneOffset }
+{
+    if let Some(time) = parse_epoch(input) {
+        return Some(Answer::Absolute(time));
     }
-    if let Some(answer) = parse_rfc2822(input) {
+    None
+}
+
+/// What a text says that begins with a day written with `-`.
+fn dashed_answer(input: &str) -> Option<Answer<'_>>
+    ensures first { option_map answer_of result ≡ first_among (shape_families DashedDay) input.now }
+    ensures short { IfSome result HasZoneOffset }
+{
+    if let Some(answer) = parse_short(input) {
         return Some(answer);
     }
     if let Some(answer) = parse_iso8601(input) {
@@ -98,23 +158,77 @@ fn first_answer(input: &str) -> Option<Answer<'_>>
     if let Some(answer) = parse_iso8601_strict(input) {
         return Some(answer);
     }
+    git_answer(input)
+}
+
+/// What a text says that begins with a day as in one of Git's own forms.
+fn git_answer(input: &str) -> Option<Answer<'_>>
+    ensures first { option_map answer_of result ≡ first_among (shape_families DottedDay) input.now }
+    ensures short { IfSome result HasZoneOffset }
+{
+    if let Some(time) = parse_git_date_format(input) {
+        return Some(Answer::Absolute(time));
+    }
+    relative_answer(input)
+}
+
+/// What a text says that begins with a letter.
+fn letter_answer(input: &str) -> Option<Answer<'_>>
+    ensures first { option_map answer_of result ≡ first_among (shape_families Letter) input.now }
+    ensures short { IfSome result HasZoneOffset }
+{
+    if let Some(answer) = parse_rfc2822(input) {
+        return Some(answer);
+    }
     if let Some(answer) = parse_gitoxide(input) {
         return Some(answer);
     }
     if let Some(answer) = parse_default(input) {
         return Some(answer);
     }
-    if let Some(time) = parse_epoch(input) {
+    relative_answer(input)
+}
+
+/// What a text of no other shape says. One that is raw as nearly all are is of no other family; a formatted date has a year and `-`
+/// first, and no other text here has that is not relative.
+fn other_answer(input: &str, raw: RawOffsets) -> Option<Answer<'_>>
+    ensures first { option_map answer_of result ≡ first_among_by (allows raw) (shape_families Other) input.now }
+    ensures short { IfSome result HasZoneOffset }
+{
+    if let Some(time) = parse_plain_raw(input, raw) {
         return Some(Answer::Absolute(time));
     }
-    if let Some(time) = parse_git_date_format(input) {
+    if begins_with_year(input.as_bytes()) {
+        return dashed_answer(input);
+    }
+    undated_answer(input, raw)
+}
+
+/// What a text of no other shape says that does not begin with a year and `-`.
+fn undated_answer(input: &str, raw: RawOffsets) -> Option<Answer<'_>>
+    ensures first { option_map answer_of result
+        ≡ first_among_by (allows raw) (Rfc2822 ∷ GitForm ∷ RelativeText ∷ RawText ∷ []) input.now }
+    ensures short { IfSome result HasZoneOffset }
+{
+    if let Some(answer) = parse_rfc2822(input) {
+        return Some(answer);
+    }
+    if let Some(answer) = git_answer(input) {
+        return Some(answer);
+    }
+    if let Some(time) = parse_raw(input, raw) {
         return Some(Answer::Absolute(time));
     }
+    None
+}
+
+/// What a relative text says.
+fn relative_answer(input: &str) -> Option<Answer<'_>>
+    ensures first { option_map answer_of result ≡ family_answer RelativeText input.now }
+    ensures short { IfSome result HasZoneOffset }
+{
     if let Some(date) = relative::parse(input) {
         return Some(Answer::Relative(date));
-    }
-    if let Some(time) = parse_raw(input) {
-        return Some(Answer::Absolute(time));
     }
     None
 }
@@ -140,13 +254,13 @@ fn date_conversion(alloc: Global, input: &str) -> Error
 }
 
 /// The time of an at text.
-#[tactic(auto, unfolding(crate::specs::Epoch::at_time))]
-fn parse_at(input: &str) -> Option<Time>
-    ensures time { result ≡ at_time input.now }
+#[tactic(auto, unfolding(crate::specs::Epoch::at_time_by))]
+fn parse_at(input: &str, raw: RawOffsets) -> Option<Time>
+    ensures time { result ≡ at_time_by (allows raw) input.now }
     ensures short { IfSome result (λ t. IsOffsetSeconds t.offset) }
 {
     let text = behind('@', input)?;
-    if let Some(time) = parse_raw(text) {
+    if let Some(time) = parse_raw(text, raw) {
         return Some(time);
     }
     Some(Time::new(parse_int(text)?, 0))

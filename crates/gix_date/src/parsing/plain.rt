@@ -2,10 +2,10 @@
 ghost use Rattle.std.specs.Prelude.{◌≡◌, ◌<◌, ◌^◌, IfSome, Some, length, true};
 ghost use Rattle.std.specs.Str.{all_ascii_digits};
 ghost use Rattle.std.specs.Str.Parse.{digits_value};
-ghost use Rattle.gix_date.specs.HeaderReading.{header_time};
+ghost use Rattle.gix_date.specs.HeaderReading.{header_time, IsPlainHeader};
 ghost use Rattle.gix_date.specs.Numbers.{int_value};
 
-use crate::parsing::offset::parse_offset_fields;
+use crate::parsing::offset::{OffsetFields, parse_offset_fields};
 use crate::time::{SecondsSinceUnixEpoch, Time};
 
 /// The most digits that are read at once: an `i64` holds any so many.
@@ -19,6 +19,14 @@ const ZONE_BYTES: usize = 6;
 pub(crate) fn parse_plain(input: &str) -> Option<Time>
     ensures { IfSome result (λ t. header_time input.now ≡ Some t) }
 {
+    let (seconds, fields) = parse_plain_fields(input)?;
+    Some(Time::new(seconds, fields.in_seconds()))
+}
+
+/// The seconds and the offset's fields of a text in that form.
+pub(crate) fn parse_plain_fields(input: &str) -> Option<(SecondsSinceUnixEpoch, OffsetFields)>
+    ensures { IfSome result (λ found. IsPlainHeader input.now found.0 found.1) }
+{
     let bytes = input.as_bytes();
     if bytes.len() < ZONE_BYTES {
         return None;
@@ -29,7 +37,7 @@ pub(crate) fn parse_plain(input: &str) -> Option<Time>
     }
     let seconds = parse_short_int(&bytes[..place])?;
     let fields = parse_offset_fields(&input[place + 1..])?;
-    Some(Time::new(seconds, fields.in_seconds()))
+    Some((seconds, fields))
 }
 
 /// The value of a short text of digits, with a minus or no sign.

@@ -1,41 +1,85 @@
 //! The raw form of a date, as a commit header has it, read strictly.
-ghost use Rattle.std.specs.Prelude.{◌≡◌, IfSome};
+ghost use Rattle.std.specs.Prelude.{◌≡◌, IfSome, Some};
 ghost use Rattle.jiff.specs.Words.{IsOffsetSeconds};
-ghost use Rattle.gix_date.specs.Raw.{raw_time, raw_offset, is_quarter};
+ghost use Rattle.gix_date.specs.Raw.{raw_time_by, raw_offset_by, allows, is_quarter, is_whole_minutes};
 
 use crate::parsing::numbers::parse_int;
 use crate::parsing::offset::{OffsetFields, parse_offset_fields};
+use crate::parsing::plain::parse_plain_fields;
 use crate::parsing::space_words::first_words;
 use crate::time::{OffsetInSeconds, Time};
 
 /// The most hours of a raw offset, as Git has it.
 const MOST_HOURS: u8 = 14;
 
-/// Reads a raw text, as gix-date does: seconds as an optional sign and digits, and an offset as a sign, two digits of hours
-/// up to 14, two of minutes in quarters of an hour, and optionally `00` for its seconds. White space may stand round each of
-/// the two, and nothing else.
+/// The most hours of a raw offset by the wider rule: those of a day.
+const MOST_WIDE_HOURS: u8 = 23;
+
+/// The most minutes of a raw offset by the wider rule: those of an hour.
+const MOST_MINUTES: u8 = 59;
+
+/// Which offsets a raw text may have, and the raw text of an at text.
+///
+/// An offset is a sign, two digits of hours, two of minutes and optionally two of seconds, which are 00 by both rules.
+#[derive(Debug, Clone, Copy, PartialEq, Eq)]
+pub enum RawOffsets {
+    /// Quarters of an hour up to 14:45, as Git and gix-date have them.
+    Quarter,
+    /// Whole minutes up to 23:59, as some commits have them.
+    WholeMinutes,
+}
+
+impl RawOffsets {
+    /// Whether the rule allows these fields.
+    fn allows(self, fields: OffsetFields) -> bool
+        ensures { result ≡ allows self fields }
+    {
+        match self {
+            RawOffsets::Quarter => is_quarter(fields),
+            RawOffsets::WholeMinutes => is_whole_minutes(fields),
+        }
+    }
+}
+
+/// Reads a raw text, as gix-date does: seconds as an optional sign and digits, and an offset as a sign, two digits of hours,
+/// two of minutes, and optionally `00` for its seconds, which the rule has to allow. White space may stand round each of the
+/// two, and nothing else.
 ///
 /// `None` for any other text. Takes no memory.
-#[tactic(auto, unfolding(crate::specs::Raw::raw_time))]
-pub(crate) fn parse_raw(input: &str) -> Option<Time>
-    ensures time { result ≡ raw_time input.now }
+#[tactic(auto, unfolding(crate::specs::Raw::raw_time_by))]
+pub(crate) fn parse_raw(input: &str, raw: RawOffsets) -> Option<Time>
+    ensures time { result ≡ raw_time_by (allows raw) input.now }
     ensures short { IfSome result (λ t. IsOffsetSeconds t.offset) }
 {
     let (first, second) = first_words(input)?;
     let second = second?;
     let seconds = parse_int(first)?;
-    let offset = parse_raw_offset(second)?;
+    let offset = parse_raw_offset(second, raw)?;
     Some(Time::new(seconds, offset))
 }
 
+/// The time of a raw text in the form that nearly all have, as [`parse_plain_fields`] reads it. `None` says of a text only that it has
+/// another form, or an offset that the rule does not allow.
+pub(crate) fn parse_plain_raw(input: &str, raw: RawOffsets) -> Option<Time>
+    ensures time { IfSome result (λ t. raw_time_by (allows raw) input.now ≡ Some t) }
+    ensures short { IfSome result (λ t. IsOffsetSeconds t.offset) }
+{
+    let (seconds, fields) = parse_plain_fields(input)?;
+    if raw.allows(fields) {
+        Some(Time::new(seconds, fields.in_seconds()))
+    } else {
+        None
+    }
+}
+
 /// The offset of a raw text.
-#[tactic(auto, unfolding(crate::specs::Raw::raw_offset))]
-fn parse_raw_offset(word: &str) -> Option<OffsetInSeconds>
-    ensures offset { result ≡ raw_offset word.now }
+#[tactic(auto, unfolding(crate::specs::Raw::raw_offset_by))]
+fn parse_raw_offset(word: &str, raw: RawOffsets) -> Option<OffsetInSeconds>
+    ensures offset { result ≡ raw_offset_by (allows raw) word.now }
     ensures short { IfSome result (λ offset. IsOffsetSeconds offset) }
 {
     let fields = parse_offset_fields(word)?;
-    if is_quarter(fields) {
+    if raw.allows(fields) {
         Some(fields.in_seconds())
     } else {
         None
@@ -48,5 +92,14 @@ fn is_quarter(fields: OffsetFields) -> bool
 {
     fields.hours <= MOST_HOURS
         && matches!(fields.minutes, 0 | 15 | 30 | 45)
+        && fields.seconds.unwrap_or(0) == 0
+}
+
+/// Whether the fields are whole minutes, up to 23:59.
+fn is_whole_minutes(fields: OffsetFields) -> bool
+    ensures { result ≡ is_whole_minutes fields }
+{
+    fields.hours <= MOST_WIDE_HOURS
+        && fields.minutes <= MOST_MINUTES
         && fields.seconds.unwrap_or(0) == 0
 }

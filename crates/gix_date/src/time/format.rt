@@ -1,7 +1,9 @@
 //! Formats of a time by their names, and times as values of `jiff`.
 //!
 //! [`parse`](crate::parse) reads what these print of a year of four digits and an offset of whole minutes up to 23:59: of [`SHORT`] the
-//! midnight in UTC of that day, of [`UNIX`] from 100000000 on, and of [`RAW`] offsets in quarters of an hour up to 14:45.
+//! midnight in UTC of that day, of [`UNIX`] from 100000000 on, and of [`RAW`] offsets in quarters of an hour up to 14:45;
+//! [`parse_with`](crate::parse_with) reads those of whole minutes up to 23:59. The day `9999-12-31`, which [`SHORT`] prints of
+//! 253402207200 at +0200, is refused by `DateConversion`: its midnight in UTC is no instant.
 ghost use Rattle.std.specs.Prelude.{◌≡◌, ◌↔◌, ◌⊎◌, Some, Err, option_map, IsTrue, IsOk, IfOk, IfErr, string_bytes};
 ghost use Rattle.jiff.specs.Words.{plain_zoned};
 ghost use Rattle.jiff.specs.ZonedText.{zoned_parts};
@@ -49,10 +51,10 @@ impl CustomFormat {
 impl From<CustomFormat> for Format {
     ghost use Rattle.gix_date.specs.declared.time.format.Format.TheVariants.{Custom};
 
+    ghost from_gives = { λ format result. result ≡ Custom format };
+
     /// The format by that pattern. Takes no memory.
-    fn from(format: CustomFormat) -> Format
-        ensures { result ≡ Custom format }
-    {
+    fn from(format: CustomFormat) -> Format {
         Format::Custom(format)
     }
 }

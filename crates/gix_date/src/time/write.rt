@@ -3,7 +3,7 @@ ghost use Rattle.std.specs.Prelude.{◌≡◌, ◌+◌, ◌<◌, ◌≤◌, ◌+
 ghost use Rattle.std.specs.Fmt.{decimal, fmt_error, DisplaysOnOk, DisplaysStyledOnOk};
 ghost use Rattle.arrayvec.specs.ArrayString.{array_string_len};
 ghost use Rattle.gix_date.specs.Numbers.{decimal_text, two_digits};
-ghost use Rattle.gix_date.specs.HeaderText.{header_text, Writes};
+ghost use Rattle.gix_date.specs.HeaderText.{header_text, longest_text, Writes};
 
 use crate::device::{Sink, put_all};
 use crate::error::Error;
@@ -36,7 +36,7 @@ impl Time {
     ///
     /// An offset of 100 hours or more, either way, is refused by [`Error::OffsetTooWide`] before a byte is written.
     /// [`Error::Write`] carries the writer's fault, and then a proper prefix of the text was taken. There are at most 26
-    /// calls of [`Sink::put`] and no flush. Takes no memory.
+    /// calls of [`Sink::put`] and no flush. Takes no memory of its own.
     pub fn write_to<W: Sink>(&self, out: &mut W) -> Result<(), Error>
         ensures { Writes self.now (W.known out.old) (W.known out.new) result }
     {
@@ -49,7 +49,7 @@ impl Time {
     pub const fn size(&self) -> usize
         ensures digits { result ≡ length (decimal_text self.now.seconds) + 6 }
         ensures text { IfSome (header_text self.now) (λ text. result ≡ length text) }
-        ensures most { result ≤ LONGEST_TEXT }
+        ensures most { result ≤ longest_text }
     {
         let digits = decimal_len(self.seconds.unsigned_abs());
         if self.seconds < 0 {

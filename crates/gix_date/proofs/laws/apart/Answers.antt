@@ -1,5 +1,6 @@
+use Rattle.gix_date.specs.Raw.{is_quarter}
 use Rattle.gix_date.proofs.Apart.{before-git-apart}
 use Rattle.gix_date.proofs.laws.apart.Goals as goal
 
 pub returns : goal.returns
-returns c = before-git-apart
+returns c = before-git-apart is_quarter

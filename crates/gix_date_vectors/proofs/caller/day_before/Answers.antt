@@ -1,7 +1,8 @@
 use Rattle.std.proofs.Common.{◌≡◌, ◌↔◌, ◌-ℤ◌, pos, true, Option, Some, Result, Ok, Err, IsOk, MatchResult, refl, ap, subst}
 use Rattle.std.specs.Prelude.{codes}
-use Rattle.gix_date.specs.Answer.{FamilyAnswer}
-use Rattle.gix_date.specs.Families.{Comes}
+use Rattle.gix_date.specs.Answer.{FamilyAnswer, Relative}
+use Rattle.gix_date.specs.Computing.{computing}
+use Rattle.gix_date.specs.Families.{first_family, Comes}
 use Rattle.gix_date.specs.FixedZones.{earlier, NamesEarlier}
 use Rattle.gix_date.specs.Relative.{Before, Reckons}
 use Rattle.gix_date.specs.Zoned.{IsMoment, is_instant}
@@ -9,9 +10,14 @@ use Rattle.gix_date.specs.declared.error.Error.{Error}
 use Rattle.gix_date.specs.declared.error.Error.TheVariants.{Range}
 use Rattle.gix_date.specs.declared.time.Time.{Time}
 use Rattle.jiff.specs.declared.zoned.Zoned.{Zoned}
-use Rattle.gix_date.proofs.RelativeRows.{yesterday-alone}
 use Rattle.gix_date_vectors.proofs.caller.day_before.Goals as goal
 
+-- which answer that text has: it computes
+yesterday-is : first_family (codes "yesterday") ≡ Some (Relative (Before (pos 86_400)))
+unfolding computing
+yesterday-is = refl
+
+-- what is due of a result
 abbrev IsDayBefore : Time → Result Time Error → Type 0
 IsDayBefore t r =
     MatchResult r (λ a. a ≡ earlier t (pos 86_400)) (λ e. e ≡ Range)
@@ -31,6 +37,6 @@ day-back t moment (Err e) is law (range, none) =
 pub returns : goal.returns
 returns c =
     let typed = c.date_typed.ensures.typed c.requires in
-    let comes = subst (λ (a : Option FamilyAnswer). Comes a (codes "yesterday") (Some typed.0) c.date_typed.result) yesterday-alone typed.2 in
+    let comes = subst (λ (a : Option FamilyAnswer). Comes a (codes "yesterday") (Some typed.0) c.date_typed.result) yesterday-is typed.2 in
     let back = day-back c.args.time typed.0 c.date_typed.result typed.1 c.earlier.ensures.yesterday comes in
     record { time = back.0; exists = back.1 }

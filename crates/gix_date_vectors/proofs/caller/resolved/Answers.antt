@@ -1,4 +1,5 @@
 use Rattle.gix_date_vectors.proofs.caller.resolved.Goals as goal
 
-pub returns-in-Ok : goal.returns-in-Ok
-returns-in-Ok g c = (c.in_ok-now.now, c.in-Ok.ensures.comes)
+-- the moment is the one that was handed in
+pub returns : goal.returns
+returns g c = (c.in_ok-now.now, c.parse.ensures.comes)

@@ -1,0 +1,144 @@
+//! The shapes of texts, which tell the families that can hold a text.
+ghost use Rattle.std.specs.Prelude.{◌≡◌, is_some};
+ghost use Rattle.std.specs.List.{list_all};
+ghost use Rattle.gix_date.specs.Shapes.{begins_with_at, are_four_digits, are_two_digits, begins_with_marked_day, begins_with_compact_day, begins_with_letter, begins_with_year, shape_by_front, shape_of};
+ghost use Rattle.gix_date.specs.Numbers.{int_value, is_number_byte};
+
+use crate::parsing::numbers::parse_int;
+
+/// The shape of a text, by its first bytes, or for a number by the whole text.
+#[derive(Clone, Copy)]
+pub(crate) enum Shape {
+    /// `@` first.
+    AtSign,
+    /// A number that an `i64` holds, alone: a sign or none, and digits.
+    WholeNumber,
+    /// `2018-12-` first, with any digits.
+    DashedDay,
+    /// `2018.12.` first, with any digits.
+    DottedDay,
+    /// `20181224T` first, with any digits.
+    CompactDay,
+    /// An ASCII letter first.
+    Letter,
+    /// Any other text, as the empty one.
+    Other,
+}
+
+impl Shape {
+    /// The shape of a text: the first of these that it has.
+    pub(crate) fn of(text: &str) -> Shape
+        ensures { result ≡ shape_of text.now }
+    {
+        shape_by_front(text)
+    }
+}
+
+/// The shape of a text, where the whole text is looked at only if its front does not tell.
+#[tactic(auto, unfolding(crate::specs::Shapes::shape_by_front))]
+fn shape_by_front(text: &str) -> Shape
+    ensures { result ≡ shape_by_front text.now }
+{
+    let bytes = text.as_bytes();
+    if begins_with_at(bytes) {
+        Shape::AtSign
+    } else if begins_with_letter(bytes) {
+        Shape::Letter
+    } else if begins_with_marked_day(b'-', bytes) {
+        Shape::DashedDay
+    } else if begins_with_marked_day(b'.', bytes) {
+        Shape::DottedDay
+    } else if begins_with_compact_day(bytes) {
+        Shape::CompactDay
+    } else if is_whole_number(text) {
+        Shape::WholeNumber
+    } else {
+        Shape::Other
+    }
+}
+
+/// Whether a text is a number that an `i64` holds, which most are not for their bytes already.
+fn is_whole_number(text: &str) -> bool
+    ensures { result ≡ is_some (int_value text.now) }
+{
+    has_number_bytes(text) && parse_int(text).is_some()
+}
+
+/// Whether a text has the bytes of a number alone.
+fn has_number_bytes(text: &str) -> bool
+    ensures { result ≡ list_all is_number_byte text.now }
+{
+    text.bytes()
+        .all(|b| b.is_ascii_digit() || b == b'+' || b == b'-')
+}
+
+#[tactic(auto, unfolding(crate::specs::Shapes::begins_with_at))]
+fn begins_with_at(text: &[u8]) -> bool
+    ensures { result ≡ begins_with_at text.now }
+{
+    matches!(text, [b'@', ..])
+}
+
+#[tactic(auto, unfolding(crate::specs::Shapes::begins_with_letter))]
+fn begins_with_letter(text: &[u8]) -> bool
+    ensures { result ≡ begins_with_letter text.now }
+{
+    match text {
+        [first, ..] => first.is_ascii_alphabetic(),
+        _ => false,
+    }
+}
+
+/// Whether a text begins with four digits, this mark, two digits and the mark again.
+#[tactic(auto, unfolding(crate::specs::Shapes::begins_with_marked_day))]
+fn begins_with_marked_day(mark: u8, text: &[u8]) -> bool
+    ensures { result ≡ begins_with_marked_day mark text.now }
+{
+    match text {
+        [y0, y1, y2, y3, first, m0, m1, second, ..] => {
+            are_four_digits(*y0, *y1, *y2, *y3)
+                && *first == mark
+                && are_two_digits(*m0, *m1)
+                && *second == mark
+        }
+        _ => false,
+    }
+}
+
+/// Whether a text begins with four digits and `-`.
+#[tactic(auto, unfolding(crate::specs::Shapes::begins_with_year))]
+pub(crate) fn begins_with_year(text: &[u8]) -> bool
+    ensures { result ≡ begins_with_year text.now }
+{
+    match text {
+        [a, b, c, d, mark, ..] => are_four_digits(*a, *b, *c, *d) && *mark == b'-',
+        _ => false,
+    }
+}
+
+/// Whether a text begins with eight digits and `T`.
+#[tactic(auto, unfolding(crate::specs::Shapes::begins_with_compact_day))]
+fn begins_with_compact_day(text: &[u8]) -> bool
+    ensures { result ≡ begins_with_compact_day text.now }
+{
+    match text {
+        [y0, y1, y2, y3, m0, m1, d0, d1, mark, ..] => {
+            are_four_digits(*y0, *y1, *y2, *y3)
+                && are_four_digits(*m0, *m1, *d0, *d1)
+                && *mark == b'T'
+        }
+        _ => false,
+    }
+}
+
+fn are_four_digits(a: u8, b: u8, c: u8, d: u8) -> bool
+    ensures { result ≡ are_four_digits a b c d }
+{
+    are_two_digits(a, b) && are_two_digits(c, d)
+}
+
+fn are_two_digits(a: u8, b: u8) -> bool
+    ensures { result ≡ are_two_digits a b }
+{
+    a.is_ascii_digit() && b.is_ascii_digit()
+}

@@ -1,0 +1,59 @@
+-- What the program says on standard error.
+use Rattle.std.specs.Prelude.{◌≡◌, ◌⊎◌, ℕ, List, [], ◌∷◌, ◌++◌, Option, None, Some, IsSome, codes}
+use Rattle.std.specs.Option.{option_map}
+use Rattle.gix_date.specs.Characters.{newline}
+use Rattle.gix_date.specs.Known.{Takes, TakesProperPrefix}
+use Rattle.gix_date_tool.specs.declared.arguments.NoMoment.{NoMoment}
+use Rattle.gix_date_tool.specs.declared.arguments.NoMoment.TheVariants.{UnknownFormat, DateConversion, Relative, Conversion}
+use Rattle.gix_date_tool.specs.declared.error.ToolError.{ToolError}
+use Rattle.gix_date_tool.specs.declared.error.ToolError.TheVariants as errors
+use Rattle.gix_date_tool.specs.declared.end.End.{End}
+use Rattle.gix_date_tool.specs.declared.end.End.TheVariants.{Fault, Shown}
+use Rattle.gix_date_tool.specs.Kinds.{kind_words}
+use Rattle.gix_date_tool.specs.Run.{Change}
+
+-- what has failed, and behind too many lines how to go on
+abbrev pub fault_words : ToolError → List ℕ
+fault_words (errors.Read kind) = codes "reading failed: "
+fault_words (errors.Write kind) = codes "writing failed: "
+fault_words errors.Memory = codes "out of memory"
+fault_words errors.LineTooLong = codes "a line has more than 65536 bytes"
+fault_words errors.TooManyLines = codes "there are more than 1000000 lines; `split -l 1000000 --filter` runs a program on so many at a time"
+
+-- what the fault of a reader or writer is called, and nothing of another
+abbrev pub cause_words : ToolError → List ℕ
+cause_words (errors.Read kind) = kind_words kind
+cause_words (errors.Write kind) = kind_words kind
+cause_words _ = []
+
+-- why NOW is no moment
+abbrev pub no_moment_words : NoMoment → List ℕ
+no_moment_words UnknownFormat = codes "NOW is in no known date format; expected a date, such as \"2022-08-18 12:45:06 +0800\" or \"1660874655 +0800\""
+no_moment_words DateConversion = codes "NOW is beyond the last instant that can be computed with"
+no_moment_words Relative = codes "NOW is a relative date, and has no moment to count from"
+no_moment_words Conversion = codes "NOW is too far from 1970"
+
+-- one line, behind the program's name
+abbrev pub message : List ℕ → List ℕ
+message words = codes "gix_date_tool: " ++ words ++ newline ∷ []
+
+-- what is said of a moment that is none
+abbrev pub message_why : Option NoMoment → Option (List ℕ)
+message_why why = option_map (λ w. message (no_moment_words w)) why
+
+-- what is said of an end, where anything is: the fault, or why NOW is no moment
+abbrev pub message_of : End → Option (List ℕ)
+message_of (Fault fault) = Some (message (fault_words fault ++ cause_words fault))
+message_of (Shown why) = message_why why
+message_of _ = None
+
+-- The text was taken, or the sink has a fault and a proper prefix of it was.
+abbrev pub Says : Change → List ℕ → Type 0
+Says telling text =
+    Takes telling.old telling.new text
+    ⊎ (TakesProperPrefix telling.old telling.new text × IsSome telling.new.fault)
+
+-- The message was said, if there is one, and else nothing.
+abbrev pub Tells : Change → Option (List ℕ) → Type 0
+Tells telling None = telling.new ≡ telling.old
+Tells telling (Some text) = Says telling text

@@ -1,0 +1,16 @@
+//! How the program comes to its end.
+use crate::arguments::NoMoment;
+use crate::error::ToolError;
+
+/// How the program comes to its end.
+#[derive(Drop)]
+pub(crate) enum End {
+    /// The run came to the end of the input.
+    Replied,
+    /// The run has this fault, or the writer refused the usage line.
+    Fault(ToolError),
+    /// Memory for reading the words was refused.
+    NoMemory,
+    /// The usage line was written, and this is why NOW is no moment, where that was all that was wrong.
+    Shown(Option<NoMoment>),
+}
