@@ -1,8 +1,8 @@
 //! The faults of `gix_date`: the texts that they carry, and what they show.
 use crate::names::refused;
 use gix_date::Error;
-use std::io;
 use std::test::Fail;
+use std::{io, str};
 
 #[test]
 fn a_refused_text_shows_as_itself(rt: HostRuntime) -> Result<(), Fail> {
@@ -26,6 +26,17 @@ fn a_refused_text_is_shown_quoted_in_one_line(rt: HostRuntime) -> Result<(), Fai
         let text = format!(in rt.alloc(); "{fault}")?;
         assert!(rt; text.contains("\"1\\n \\\"2\\\"\""), "{text}");
         assert!(rt; !text.contains('\n'), "{text}");
+    }
+    Ok(())
+}
+
+#[test]
+fn a_text_of_any_length_comes_back(rt: HostRuntime) -> Result<(), Fail> {
+    for length in [1, 26, 27, 255, 256, 4095, 65_537, 1_000_000] {
+        let bytes = vec![in rt.alloc(); b'x'; length]?;
+        let text = str::from_utf8(bytes.as_slice()).unwrap_or("0");
+        let input = refused(rt.alloc(), text, None).ok_or("a date")?;
+        assert_eq!(rt; input.as_bytes(), bytes.as_slice(), "{length}");
     }
     Ok(())
 }

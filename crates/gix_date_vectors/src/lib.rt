@@ -1,4 +1,4 @@
-//! Rows of outside values for the public items of `gix_date` and `gix_date_tool`, and callers that are proved.
+//! Rows of outside values for the public items of `gix_date`, `gix_signature` and `gix_date_tool`, and callers that are proved.
 #![tactic(auto)]
 
 pub mod caller;
@@ -38,5 +38,8 @@ mod relative;
 mod runs;
 #[cfg(test)]
 mod shapes;
+pub mod signature_caller;
+#[cfg(test)]
+mod signatures;
 #[cfg(test)]
 mod times;

@@ -8,6 +8,7 @@ use crate::relative::IN_UTC;
 use gix_date::device::Device;
 use gix_date::{Error, RawOffsets, Time, parse, parse_with};
 use gix_date_tool::{Mode, Status, ToolError, command, execute, run};
+use std::str;
 use std::test::Fail;
 
 #[test]
@@ -88,6 +89,27 @@ fn a_text_that_is_raw_by_neither_rule_wants_memory(rt: HostRuntime) -> Result<()
         }
     }
     drop(blocks);
+    assert!(rt; all_right, "no-memory");
+    Ok(())
+}
+
+#[test]
+fn a_text_of_any_length_wants_memory_for_its_copy(rt: HostRuntime) -> Result<(), Fail> {
+    let mut texts = Vec::new(rt.alloc());
+    for length in [1, 26, 27, 255, 256, 4095, 65_537, 1_000_000] {
+        texts.push(vec![in rt.alloc(); b'x'; length]?)?;
+    }
+    let blocks = take_all(rt.alloc())?;
+    let mut all_right = true;
+    for bytes in texts.iter() {
+        let text = str::from_utf8(bytes.as_slice()).unwrap_or("0");
+        if !matches!(parse(rt.alloc(), text, None), Err(Error::Memory)) {
+            all_right = false;
+        }
+    }
+    let taken = blocks.len();
+    drop(blocks);
+    assert!(rt; taken > 0, "no-memory");
     assert!(rt; all_right, "no-memory");
     Ok(())
 }

@@ -400,6 +400,40 @@ fn a_pattern_that_cannot_be_printed_is_refused(rt: HostRuntime) -> Result<(), Fa
 }
 
 #[test]
+fn a_long_pattern_is_printed(rt: HostRuntime) -> Result<(), Fail> {
+    let text = "\
+        0123456789 abcdefghijklmnopqrstuvwxyz, 0123456789 ABCDEFGHIJKLMNOPQRSTUVWXYZ, and once more;\
+        0123456789 abcdefghijklmnopqrstuvwxyz, 0123456789 ABCDEFGHIJKLMNOPQRSTUVWXYZ, and once more;\
+        0123456789 abcdefghijklmnopqrstuvwxyz, 0123456789 ABCDEFGHIJKLMNOPQRSTUVWXYZ, and once more;\
+        0123456789 abcdefghijklmnopqrstuvwxyz, 0123456789 ABCDEFGHIJKLMNOPQRSTUVWXYZ, and once more;\
+        0123456789 abcdefghijklmnopqrstuvwxyz, 0123456789 ABCDEFGHIJKLMNOPQRSTUVWXYZ, and once more;\
+        0123456789 abcdefghijklmnopqrstuvwxyz, 0123456789 ABCDEFGHIJKLMNOPQRSTUVWXYZ, and once more;\
+        0123456789 abcdefghijklmnopqrstuvwxyz, 0123456789 ABCDEFGHIJKLMNOPQRSTUVWXYZ, and once more;\
+        0123456789 abcdefghijklmnopqrstuvwxyz, 0123456789 ABCDEFGHIJKLMNOPQRSTUVWXYZ, and once more;\
+        0123456789 abcdefghijklmnopqrstuvwxyz, 0123456789 ABCDEFGHIJKLMNOPQRSTUVWXYZ, and once more;\
+        0123456789 abcdefghijklmnopqrstuvwxyz, 0123456789 ABCDEFGHIJKLMNOPQRSTUVWXYZ, and once more;\
+        0123456789 abcdefghijklmnopqrstuvwxyz, 0123456789 ABCDEFGHIJKLMNOPQRSTUVWXYZ, and once more;\
+        0123456789 abcdefghijklmnopqrstuvwxyz, 0123456789 ABCDEFGHIJKLMNOPQRSTUVWXYZ, and once more;\
+        0123456789 abcdefghijklmnopqrstuvwxyz, 0123456789 ABCDEFGHIJKLMNOPQRSTUVWXYZ, and once more;\
+        0123456789 abcdefghijklmnopqrstuvwxyz, 0123456789 ABCDEFGHIJKLMNOPQRSTUVWXYZ, and once more;\
+        0123456789 abcdefghijklmnopqrstuvwxyz, 0123456789 ABCDEFGHIJKLMNOPQRSTUVWXYZ, and once more;\
+        0123456789 abcdefghijklmnopqrstuvwxyz, 0123456789 ABCDEFGHIJKLMNOPQRSTUVWXYZ, and once more;\
+        0123456789 abcdefghijklmnopqrstuvwxyz, 0123456789 ABCDEFGHIJKLMNOPQRSTUVWXYZ, and once more;\
+        0123456789 abcdefghijklmnopqrstuvwxyz, 0123456789 ABCDEFGHIJKLMNOPQRSTUVWXYZ, and once more;\
+        0123456789 abcdefghijklmnopqrstuvwxyz, 0123456789 ABCDEFGHIJKLMNOPQRSTUVWXYZ, and once more;\
+        0123456789 abcdefghijklmnopqrstuvwxyz, 0123456789 ABCDEFGHIJKLMNOPQRSTUVWXYZ, and once more;\
+        0123456789 abcdefghijklmnopqrstuvwxyz, 0123456789 ABCDEFGHIJKLMNOPQRSTUVWXYZ, and once more;\
+        0123456789 abcdefghijklmnopqrstuvwxyz, 0123456789 ABCDEFGHIJKLMNOPQRSTUVWXYZ, and once more;\
+        0123456789 abcdefghijklmnopqrstuvwxyz, 0123456789 ABCDEFGHIJKLMNOPQRSTUVWXYZ, and once more;\
+        0123456789 abcdefghijklmnopqrstuvwxyz, 0123456789 ABCDEFGHIJKLMNOPQRSTUVWXYZ, and once more;\
+        ";
+    let format = Format::Custom(CustomFormat::new(text));
+    assert!(rt; text.len() > 2000);
+    assert_eq!(rt; Time::new(5, 0).format(rt.alloc(), format)?.as_str(), text);
+    Ok(())
+}
+
+#[test]
 fn a_text_that_is_refused_memory_is_refused(rt: HostRuntime) -> Result<(), Fail> {
     let time = Time::new(1_660_874_655, 28_800);
     let blocks = take_all(rt.alloc())?;

@@ -225,6 +225,20 @@ fn a_million_lines_are_the_most(rt: HostRuntime) {
     assert!(rt; taken.ends_with(b"none\n"), "too-many-lines");
 }
 
+/// Lines that no family holds.
+const X_LINES: &[u8] =
+    b"x\nx\nx\nx\nx\nx\nx\nx\nx\nx\nx\nx\nx\nx\nx\nx\nx\nx\nx\nx\nx\nx\nx\nx\nx\nx\nx\nx\nx\nx\nx\nx\n";
+
+#[test]
+fn a_million_texts_are_parsed(rt: HostRuntime) {
+    let replied = Cell::new(0);
+    let mut source = Device::new(Supply::of(X_LINES, X_LINES.len(), 2_000_000, None));
+    let mut sink = Device::new(Replied(&replied));
+    let answer = run(rt.alloc(), Mode::Parse, None, &mut source, &mut sink);
+    assert!(rt; matches!(answer, Ok(1_000_000)), "most-lines");
+    assert_eq!(rt; replied.get(), 1_000_000, "most-lines");
+}
+
 #[test]
 fn a_reader_that_fails_midway_ends_a_run(rt: HostRuntime) {
     for a_call in [1, 5, 99] {

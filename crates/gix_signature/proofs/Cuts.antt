@@ -1,0 +1,101 @@
+-- A line has one cut at most.
+use Rattle.std.proofs.Common.{◌≡◌, ◌∙◌, ℕ, Bool, true, false, not, ◌||◌, ◌&&◌, ◌==◌, List, [], ◌∷◌, ◌++◌, length, drop, get_or, refl, ap, sym, append_assoc}
+use Rattle.std.proofs.lemmas.List.{append_cancel_right}
+use Rattle.std.proofs.lemmas.List.Folds.{list_all-append}
+use Rattle.std.specs.List.{list_all}
+use Rattle.std.specs.Prelude.{codes}
+use Rattle.gix_signature.specs.Signature.{Parts, IsCut, may_stand, is_part, are_parts, line_of, opening, closing, newline, nul}
+
+pub and-parts : (a b : Bool) → (a && b) ≡ true → (a ≡ true) × (b ≡ true)
+and-parts true b e = (refl, e)
+and-parts false b e = absurd cc
+
+pub and-both : (a b : Bool) → a ≡ true → b ≡ true → (a && b) ≡ true
+and-both true b h k = k
+and-both false b h k = absurd cc
+
+pub all-both : (p : ℕ → Bool) (xs ys : List ℕ) → list_all p xs ≡ true → list_all p ys ≡ true → list_all p (xs ++ ys) ≡ true
+all-both p xs ys h k = list_all-append p xs ys ∙ and-both (list_all p xs) (list_all p ys) h k
+
+-- what passes one test passes another
+all-of : (p q : ℕ → Bool) → ((c : ℕ) → p c ≡ true → q c ≡ true) → (xs : List ℕ) → list_all p xs ≡ true → list_all q xs ≡ true
+all-of p q to [] h = refl
+all-of p q to (x ∷ xs) h = let each = and-parts (p x) (list_all p xs) h in and-both (q x) (list_all q xs) (to x each.0) (all-of p q to xs each.1)
+
+not-all : (p : ℕ → Bool) (c : ℕ) (xs ys : List ℕ) → p c ≡ false → list_all p (xs ++ (c ∷ ys)) ≡ true → ⊥
+not-all p c xs ys other h =
+    let behind = and-parts (list_all p xs) (list_all p (c ∷ ys)) (sym (list_all-append p xs (c ∷ ys)) ∙ h) in
+    let clash : true ≡ false = sym (and-parts (p c) (list_all p ys) behind.1).0 ∙ other in
+    absurd cc
+
+-- a byte that stands once in a text tells where the text is cut at it
+one-place : (p : ℕ → Bool) (c : ℕ) (xs ys us vs : List ℕ) → p c ≡ false → list_all p us ≡ true → list_all p vs ≡ true
+    → xs ++ (c ∷ ys) ≡ us ++ (c ∷ vs) → (xs ≡ us) × (ys ≡ vs)
+one-place p c [] ys [] vs other a b e = (refl, ap (drop 1) e)
+one-place p c [] ys (u ∷ us) vs other a b e =
+    let clash : true ≡ false = sym (and-parts (p u) (list_all p us) a).0 ∙ ap (λ l. p (get_or l 0 0)) (sym e) ∙ other in absurd cc
+one-place p c (x ∷ xs) ys [] vs other a b e = absurd (not-all p c xs ys other (ap (λ l. list_all p (drop 1 l)) e ∙ b))
+one-place p c (x ∷ xs) ys (u ∷ us) vs other a b e =
+    let rest = one-place p c xs ys us vs other (and-parts (p u) (list_all p us) a).1 b (ap (drop 1) e) in
+    let heads : x ≡ u = ap (λ l. get_or l 0 0) e in
+    (λ i. heads i ∷ rest.0 i, rest.1)
+
+abbrev not_opening : ℕ → Bool
+not_opening c = not (c == opening)
+
+not-or : (a b c d : Bool) → not (a || b || c || d) ≡ true → not a ≡ true
+not-or true b c d h = h
+not-or false b c d h = refl
+
+-- a part holds no `<`
+no-opening : (xs : List ℕ) → is_part xs ≡ true → list_all not_opening xs ≡ true
+no-opening = all-of may_stand not_opening (λ c h. not-or (c == opening) (c == closing) (c == newline) (c == nul) h)
+
+-- what stands behind ` <`
+abbrev pub behind_name : Parts → List ℕ
+behind_name p = p.mail ++ (codes "> " ++ p.time)
+
+-- none of these parts holds a forbidden byte
+pub record ArePlain (p : Parts) : Type 0 where
+  pub name : is_part p.name ≡ true
+  pub mail : is_part p.mail ≡ true
+  pub time : is_part p.time ≡ true
+
+pub plain : (p : Parts) → are_parts p ≡ true → ArePlain p
+plain p h =
+    let three = (and-parts (is_part p.name && is_part p.mail && is_part p.time) (not (length p.time == 0)) h).0 in
+    let last = and-parts (is_part p.name && is_part p.mail) (is_part p.time) three in
+    let front = and-parts (is_part p.name) (is_part p.mail) last.0 in
+    record { name = front.0; mail = front.1; time = last.1 }
+
+-- the name with the space behind it, `<` and what stands behind that
+marked : (name rest : List ℕ) → name ++ (codes " <" ++ rest) ≡ (name ++ (32 ∷ [])) ++ (opening ∷ rest)
+marked name rest = sym (append_assoc name (32 ∷ []) (opening ∷ rest))
+
+-- where ` <` stands in a line that has a cut, the line is cut
+pub the-front : (line name rest : List ℕ) (q : Parts) → line ≡ name ++ (codes " <" ++ rest) → IsCut line q → (name ≡ q.name) × (rest ≡ behind_name q)
+the-front line name rest q whole cut =
+    let are = plain q cut.allowed in
+    let blank : List ℕ = 32 ∷ [] in
+    let same : (name ++ blank) ++ (opening ∷ rest) ≡ (q.name ++ blank) ++ (opening ∷ behind_name q) =
+    sym (marked name rest) ∙ sym whole ∙ cut.whole ∙ marked q.name (behind_name q) in
+    let behind : list_all not_opening (codes "> " ++ q.time) ≡ true = no-opening q.time are.time in
+    let at = one-place not_opening opening (name ++ blank) rest (q.name ++ blank) (behind_name q) refl
+    (all-both not_opening q.name blank (no-opening q.name are.name) refl)
+    (all-both not_opening q.mail (codes "> " ++ q.time) (no-opening q.mail are.mail) behind)
+    same in
+    (append_cancel_right name q.name blank at.0, at.1)
+
+-- where its marks stand in a line that has a cut, the line is cut, whatever stands between them
+pub the-cut : (line : List ℕ) (p q : Parts) → line ≡ line_of p → IsCut line q → p ≡ q
+the-cut line p q whole cut =
+    let are = plain q cut.allowed in
+    let front = the-front line p.name (behind_name p) q whole cut in
+    let at = one-place may_stand closing p.mail (32 ∷ p.time) q.mail (32 ∷ q.time) refl are.mail are.time front.1 in
+    let times : p.time ≡ q.time = ap (drop 1) at.1 in
+    (λ i. record { name = front.0 i; mail = at.0 i; time = times i })
+
+-- a line that is taken apart at its marks into what may not stand has no cut
+pub no-cut : (line : List ℕ) (p : Parts) → line ≡ line_of p → are_parts p ≡ false → (q : Parts) → IsCut line q → ⊥
+no-cut line p whole bad q cut =
+    let clash : true ≡ false = sym cut.allowed ∙ ap are_parts (sym (the-cut line p q whole cut)) ∙ bad in absurd cc

@@ -1,0 +1,154 @@
+-- What is written of a name, a mail and a time, and how it is cut.
+use Rattle.std.proofs.Common.{◌≡◌, ◌≢◌, ◌∙◌, ℕ, ◌+◌, ◌/◌, ◌%◌, ◌^◌, ◌<◌, suc, Bool, true, false, cond, not, ◌&&◌, ◌==◌, List, [], ◌∷◌, ◌++◌, length, ℤ, pos, negsuc, Option, Some, None, Result, Ok, Err, is_some, IsSome, IsSomeAnd, IfOk, OnOk, ok_or, option_map, unwrap_or, unsigned_abs, FitsSigned, w64, refl, ap, sym, subst, arith, length-append}
+use Rattle.std.proofs.lemmas.Bool.Decides.{nat_tests}
+use Rattle.std.proofs.lemmas.Fmt.{decimal_by_steps}
+use Rattle.std.specs.Fmt.{decimal}
+use Rattle.std.specs.Prelude.{if◌then◌else◌, nat_lt, int_lt}
+use Rattle.std.specs.declared.io.ErrorKind.{ErrorKind}
+use Rattle.gix_date.specs.Characters.{space, plus, minus}
+use Rattle.gix_date.specs.HeaderReading.{header_time}
+use Rattle.gix_date.specs.HeaderText.{header_text, zone_text}
+use Rattle.gix_date.specs.Known.{Known, Takes}
+use Rattle.gix_date.specs.Numbers.{decimal_text, two_digits}
+use Rattle.gix_date.specs.declared.time.Time.{Time}
+use Rattle.gix_date.proofs.HeaderLaws.{written-is-read}
+use Rattle.gix_signature.specs.Signature.{Parts, may_stand, is_part, line_of, opening, closing, newline, nul}
+use Rattle.gix_signature.specs.Writing.{line_due, parts_due, Puts, WritesLine, IsWritten}
+use Rattle.gix_signature.specs.declared.error.SignatureError.{SignatureError}
+use Rattle.gix_signature.specs.declared.error.SignatureError.TheVariants.{BadPart, OffsetTooWide, Write}
+use Rattle.gix_signature.proofs.Cuts.{and-both, all-both}
+
+differs : (a b : ℕ) → a ≢ b → (a == b) ≡ false
+differs a b h = grind (arith, nat_tests, h)
+
+-- A header text may stand in a line.
+digit-stands : (n : ℕ) → n < 10 → may_stand (48 + n) ≡ true
+digit-stands n h =
+    rw (differs (48 + n) opening (λ e. omega (arith, e)), differs (48 + n) closing (λ e. omega (arith, e)), differs (48 + n) newline (λ e. omega (arith, e)), differs (48 + n) nul (λ e. omega (arith, e))) refl
+
+one-stands : (n : ℕ) → n < 10 → is_part ((48 + n) ∷ []) ≡ true
+one-stands n h = and-both (may_stand (48 + n)) true (digit-stands n h) refl
+
+decimal-stands : (n : ℕ) → n < 2 ^ 64 → is_part (decimal n) ≡ true
+decimal-stands = decimal_by_steps (λ n ds. is_part ds ≡ true) one-stands (λ n ds more k. all-both may_stand ds ((48 + n % 10) ∷ []) k (one-stands (n % 10) (omega arith)))
+
+seconds-stand : (z : ℤ) → FitsSigned w64 z → is_part (decimal_text z) ≡ true
+seconds-stand (pos n) f = decimal-stands n (omega (arith, f.sfits))
+seconds-stand (negsuc n) f = decimal-stands (suc n) (omega (arith, f.sfits))
+
+pair-stands : (n : ℕ) → n < 100 → is_part (two_digits n) ≡ true
+pair-stands n h = and-both (may_stand (48 + n / 10)) _ (digit-stands (n / 10) (omega arith)) (one-stands (n % 10) (omega arith))
+
+sign-stands : (b : Bool) → may_stand (if b then minus else plus) ≡ true
+sign-stands true = refl
+sign-stands false = refl
+
+zone-stands : (o : ℤ) → unsigned_abs o < 360000 → is_part (zone_text o) ≡ true
+zone-stands o h =
+    let hours = two_digits (unsigned_abs o / 3600) in
+    let minutes = two_digits (unsigned_abs o % 3600 / 60) in
+    and-both (may_stand (if int_lt o (pos 0) then minus else plus)) (is_part (hours ++ minutes)) (sign-stands (int_lt o (pos 0)))
+    (all-both may_stand hours minutes (pair-stands (unsigned_abs o / 3600) (omega arith)) (pair-stands (unsigned_abs o % 3600 / 60) (omega arith)))
+
+text-of : (b : Bool) (xs text : List ℕ) → cond b (Some xs) None ≡ Some text → (b ≡ true) × (xs ≡ text)
+text-of true xs text e = (refl, ap (λ o. unwrap_or o []) e)
+text-of false xs text e = absurd cc
+
+filled : (xs ys : List ℕ) → not (length (xs ++ (space ∷ ys)) == 0) ≡ true
+filled xs ys = rw (differs (length (xs ++ (space ∷ ys))) 0 (λ e. omega (arith, e, length-append xs (space ∷ ys)))) refl
+
+-- what stands of a header text
+record IsText (t : Time) (text : List ℕ) : Type 0 where
+  short : unsigned_abs t.offset < 360000
+  stands : is_part text ≡ true
+  some : not (length text == 0) ≡ true
+
+text-is : (t : Time) (text : List ℕ) → FitsSigned w64 t.seconds → header_text t ≡ Some text → IsText t text
+unfolding header_text
+text-is t text f e =
+    let seconds = decimal_text t.seconds in
+    let zone = zone_text t.offset in
+    let is = text-of (nat_lt (unsigned_abs t.offset) 360000) (seconds ++ (space ∷ zone)) text e in
+    let short : unsigned_abs t.offset < 360000 = grind (arith, nat_tests, is.0) in
+    record {
+      short = short;
+      stands = subst (λ s. is_part s ≡ true) is.1 (all-both may_stand seconds (space ∷ zone) (seconds-stand t.seconds f) (zone-stands t.offset short));
+      some = subst (λ s. not (length s == 0) ≡ true) is.1 (filled seconds zone);
+    }
+
+some-if : (b : Bool) (xs : List ℕ) → is_some (cond b (Some xs) None) ≡ b
+some-if true xs = refl
+some-if false xs = refl
+
+-- a time has a header text exactly where its offset is short of 100 hours
+pub has-text : (t : Time) → is_some (header_text t) ≡ nat_lt (unsigned_abs t.offset) 360000
+unfolding header_text
+has-text t = some-if (nat_lt (unsigned_abs t.offset) 360000) _
+
+-- What is due is cut so again.
+due-by : (name mail : List ℕ) (t : Time) → FitsSigned w64 t.seconds → (b : Bool) → (is_part name && is_part mail) ≡ b → (o : Option (List ℕ)) → header_text t ≡ o
+    → IfOk (cond b (ok_or (option_map line_of (option_map (λ text. record { name = name; mail = mail; time = text }) o)) OffsetTooWide) (Err BadPart)) (IsWritten name mail t)
+due-by name mail t f false parts o h = tt
+due-by name mail t f true parts None h = tt
+due-by name mail t f true parts (Some text) h =
+    let is = text-is t text f h in
+    record {
+      text = text;
+      is_text = h;
+      cut = record { whole = refl; allowed = and-both (is_part name && is_part mail && is_part text) _ (and-both (is_part name && is_part mail) _ parts is.stands) is.some };
+      back = λ whole. subst (λ r. IsSomeAnd r (λ x. header_time x ≡ Some t)) h (written-is-read t f is.short whole);
+    }
+
+pub written-is-cut : (name mail : List ℕ) (t : Time) → FitsSigned w64 t.seconds → IfOk (line_due name mail t) (IsWritten name mail t)
+written-is-cut name mail t f = due-by name mail t f (is_part name && is_part mail) refl (header_text t) refl
+
+-- What writing comes to.
+pub due-is : (name mail : List ℕ) (t : Time) → is_part name ≡ true → is_part mail ≡ true
+    → line_due name mail t ≡ ok_or (option_map line_of (parts_due name mail t)) OffsetTooWide
+due-is name mail t h k = ap (λ b. cond b (ok_or (option_map line_of (parts_due name mail t)) OffsetTooWide) (Err BadPart)) (and-both (is_part name) (is_part mail) h k)
+
+none-of : (o : Option (List ℕ)) → is_some o ≡ false → o ≡ None
+none-of None h = refl
+none-of (Some x) h = absurd cc
+
+pub due-wide : (name mail : List ℕ) (t : Time) → is_part name ≡ true → is_part mail ≡ true → is_some (header_text t) ≡ false
+    → line_due name mail t ≡ Err OffsetTooWide
+due-wide name mail t h k none =
+    due-is name mail t h k
+    ∙ ap (λ o. ok_or (option_map line_of (option_map (λ text. record { name = name; mail = mail; time = text }) o)) OffsetTooWide) (none-of (header_text t) none)
+
+-- the answer of a call that puts a line
+abbrev pub answer_of : Result (Unit {0}) ErrorKind → Result (Unit {0}) SignatureError
+answer_of (Ok u) = Ok u
+answer_of (Err kind) = Err (Write kind)
+
+writes-by : (o : Option Parts) (old new : Known) (r : Result (Unit {0}) ErrorKind) → IsSomeAnd o (λ p. Puts old new (line_of p) r)
+    → WritesLine (ok_or (option_map line_of o) OffsetTooWide) old new (answer_of r)
+writes-by None old new r h = absurd h
+writes-by (Some p) old new (Ok u) h = h
+writes-by (Some p) old new (Err kind) h = h
+
+pub writes : (name mail : List ℕ) (t : Time) (old new : Known) (r : Result (Unit {0}) ErrorKind) → is_part name ≡ true → is_part mail ≡ true
+    → IsSomeAnd (parts_due name mail t) (λ p. Puts old new (line_of p) r) → WritesLine (line_due name mail t) old new (answer_of r)
+writes name mail t old new r h k put =
+    subst (λ due. WritesLine due old new (answer_of r)) (sym (due-is name mail t h k)) (writes-by (parts_due name mail t) old new r put)
+
+wrote-by : (due : Result (List ℕ) SignatureError) (Is : List ℕ → Type 0) (old new : Known) (r : Result (Unit {0}) SignatureError) → IfOk due Is → WritesLine due old new r
+    → OnOk r ((line : List ℕ) × Is line × Takes old new line)
+wrote-by (Ok line) Is old new (Ok u) is h = (line, is, h)
+wrote-by (Err e) Is old new (Ok u) is h = absurd h
+wrote-by (Ok line) Is old new (Err e) is h = tt
+wrote-by (Err d) Is old new (Err e) is h = tt
+
+pub wrote : (name mail : List ℕ) (t : Time) (old new : Known) (r : Result (Unit {0}) SignatureError) → FitsSigned w64 t.seconds → WritesLine (line_due name mail t) old new r
+    → OnOk r ((line : List ℕ) × IsWritten name mail t line × Takes old new line)
+wrote name mail t old new r f h = wrote-by (line_due name mail t) (IsWritten name mail t) old new r (written-is-cut name mail t f) h
+
+-- the pieces of a line, as they are put
+pub parts-by : (name mail : List ℕ) (t : Time) (P : List ℕ → Type 0) → ((text : List ℕ) → header_text t ≡ Some text → P (line_of (record { name = name; mail = mail; time = text })))
+    → IsSome (header_text t) → IsSomeAnd (parts_due name mail t) (λ p. P (line_of p))
+parts-by name mail t P each some = by (header_text t) refl some
+  where
+    by : (o : Option (List ℕ)) → header_text t ≡ o → IsSome o → IsSomeAnd (option_map (λ text. record { name = name; mail = mail; time = text }) o) (λ p. P (line_of p))
+    by None e s = absurd cc
+    by (Some text) e s = each text e

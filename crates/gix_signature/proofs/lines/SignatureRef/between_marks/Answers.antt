@@ -1,0 +1,19 @@
+use Rattle.std.proofs.Common.{None, Some}
+use Rattle.std.proofs.lemmas.Str.Pattern.{split_text_parts}
+use Rattle.std.specs.Prelude.{codes}
+use Rattle.gix_signature.specs.Signature.{HasNoCut}
+use Rattle.gix_signature.proofs.Cuts.{the-front, behind_name}
+use Rattle.gix_signature.proofs.lines.SignatureRef.between_marks.Goals as goal
+
+pub returns-in_err-name : goal.returns-in_err-name
+returns-in_err-name c =
+    let none = split_text_parts (codes " <") c.args.line.now None c.in_err-name.ensures.cases in
+    let fact : HasNoCut c.args.line.now = λ q cut. none q.name (behind_name q) cut.whole in
+    rw c.from_residual.ensures fact
+
+pub returns-in_err-mail : goal.returns-in_err-mail
+returns-in_err-mail c =
+    let found = split_text_parts (codes " <") c.args.line.now (Some (c.in_ok-name.name, c.in_ok-name.rest)) c.in_ok-name.ensures.cases in
+    let none = split_text_parts (codes "> ") c.in_ok-name.rest.now None c.in_err-mail.ensures.cases in
+    let fact : HasNoCut c.args.line.now = λ q cut. none q.mail q.time (the-front c.args.line.now c.in_ok-name.name.now c.in_ok-name.rest.now q found cut).1 in
+    rw c.from_residual-in_err-mail.ensures fact

@@ -1,0 +1,66 @@
+use Rattle.std.proofs.Common.{rules, List, ℕ, Option, Err, IsSomeAnd, subst}
+use Rattle.std.specs.Prelude.{codes}
+use Rattle.gix_signature.specs.Signature.{line_of}
+use Rattle.gix_signature.specs.Writing.{parts_due, Puts}
+use Rattle.gix_signature.proofs.Pieces.{Puts-more, Puts-behind}
+use Rattle.gix_signature.proofs.Written.{parts-by}
+use Rattle.gix_signature.proofs.lines.put_line.Goals as goal
+
+pub returns-in_err-put_text-2 : goal.returns-in_err-put_text-2
+returns-in_err-put_text-2 g c =
+    let old = g.W.Sink.known c.args.out.now in
+    let named = g.W.Sink.known c.put_text.new.out in
+    let new = g.W.Sink.known c.put_text-2.new.out in
+    let kind = c.in_err-put_text-2.field-0.0 in
+    let fact : IsSomeAnd (parts_due c.args.name.now c.args.mail.now c.args.time) (λ p. Puts old new (line_of p) (Err kind)) =
+    parts-by c.args.name.now c.args.mail.now c.args.time (λ line. Puts old new line (Err kind))
+    (λ text e. Puts-behind old named new c.args.name.now _ (Err kind) c.in_ok-put_text.ensures
+    (Puts-more named new (codes " <") _ kind c.in_err-put_text-2.ensures)) c.requires in
+    search (rules, fact)
+
+pub returns-in_err-put_text-3 : goal.returns-in_err-put_text-3
+returns-in_err-put_text-3 g c =
+    let old = g.W.Sink.known c.args.out.now in
+    let named = g.W.Sink.known c.put_text.new.out in
+    let opened = g.W.Sink.known c.put_text-2.new.out in
+    let new = g.W.Sink.known c.put_text-3.new.out in
+    let kind = c.in_err-put_text-3.field-0.0 in
+    let fact : IsSomeAnd (parts_due c.args.name.now c.args.mail.now c.args.time) (λ p. Puts old new (line_of p) (Err kind)) =
+    parts-by c.args.name.now c.args.mail.now c.args.time (λ line. Puts old new line (Err kind))
+    (λ text e. Puts-behind old named new c.args.name.now _ (Err kind) c.in_ok-put_text.ensures
+    (Puts-behind named opened new (codes " <") _ (Err kind) c.in_ok-put_text-2.ensures
+    (Puts-more opened new c.args.mail.now _ kind c.in_err-put_text-3.ensures))) c.requires in
+    search (rules, fact)
+
+pub returns-in_err-put_text-4 : goal.returns-in_err-put_text-4
+returns-in_err-put_text-4 g c =
+    let old = g.W.Sink.known c.args.out.now in
+    let named = g.W.Sink.known c.put_text.new.out in
+    let opened = g.W.Sink.known c.put_text-2.new.out in
+    let mailed = g.W.Sink.known c.put_text-3.new.out in
+    let new = g.W.Sink.known c.put_text-4.new.out in
+    let kind = c.in_err-put_text-4.field-0.0 in
+    let fact : IsSomeAnd (parts_due c.args.name.now c.args.mail.now c.args.time) (λ p. Puts old new (line_of p) (Err kind)) =
+    parts-by c.args.name.now c.args.mail.now c.args.time (λ line. Puts old new line (Err kind))
+    (λ text e. Puts-behind old named new c.args.name.now _ (Err kind) c.in_ok-put_text.ensures
+    (Puts-behind named opened new (codes " <") _ (Err kind) c.in_ok-put_text-2.ensures
+    (Puts-behind opened mailed new c.args.mail.now _ (Err kind) c.in_ok-put_text-3.ensures
+    (Puts-more mailed new (codes "> ") _ kind c.in_err-put_text-4.ensures)))) c.requires in
+    search (rules, fact)
+
+pub returns : goal.returns
+returns g c =
+    let old = g.W.Sink.known c.args.out.now in
+    let named = g.W.Sink.known c.put_text.new.out in
+    let opened = g.W.Sink.known c.put_text-2.new.out in
+    let mailed = g.W.Sink.known c.put_text-3.new.out in
+    let closed = g.W.Sink.known c.put_text-4.new.out in
+    let new = g.W.Sink.known c.put_time.new.out in
+    let r = c.put_time.result in
+    parts-by c.args.name.now c.args.mail.now c.args.time (λ line. Puts old new line r)
+    (λ text e.
+    let timed : Puts closed new text r = subst (λ (o : Option (List ℕ)). IsSomeAnd o (λ t. Puts closed new t r)) e c.put_time.ensures in
+    Puts-behind old named new c.args.name.now _ r c.in_ok-put_text.ensures
+    (Puts-behind named opened new (codes " <") _ r c.in_ok-put_text-2.ensures
+    (Puts-behind opened mailed new c.args.mail.now _ r c.in_ok-put_text-3.ensures
+    (Puts-behind mailed closed new (codes "> ") _ r c.in_ok-put_text-4.ensures timed)))) c.requires

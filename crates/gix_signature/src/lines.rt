@@ -1,0 +1,151 @@
+//! A signature line, as it is cut and written.
+ghost use Rattle.std.specs.Prelude.{◌≡◌, ℕ, List, is_some, IsSome, IsSomeAnd, MatchOption, OnOk};
+ghost use Rattle.gix_date.specs.HeaderReading.{header_time};
+ghost use Rattle.gix_date.specs.HeaderText.{header_text};
+ghost use Rattle.gix_date.specs.Known.{Takes};
+ghost use Rattle.gix_signature.specs.Signature.{IsCut, HasNoCut, may_stand, is_part, are_parts, parts_of, line_of};
+ghost use Rattle.gix_signature.specs.Writing.{line_due, parts_due, Puts, WritesLine, IsWritten};
+
+use crate::error::SignatureError;
+use gix_date::device::{Sink, put_all};
+use gix_date::{Error, Time, parse_header};
+use std::io;
+
+/// The least distance from UTC, in seconds, of an offset that has no header text.
+const HUNDRED_HOURS: u32 = 360_000;
+
+/// The parts of a signature line, each the slice of the line at its place.
+#[derive(Debug, Clone, Copy)]
+pub struct SignatureRef<'a> {
+    /// What stands before ` <`, which may be empty.
+    pub name: &'a str,
+    /// What stands between the brackets, which may be empty. Whether it is an address is not asked.
+    pub mail: &'a str,
+    /// What stands behind `> `, at least one byte: as Git writes it the text of a time in a commit header.
+    pub time: &'a str,
+}
+
+impl<'a> SignatureRef<'a> {
+    /// Cuts a line, without its newline, into its parts: a name, ` <`, a mail, `> `, and a time.
+    ///
+    /// `None` where the line has no such cut: no part holds `<`, `>`, a newline or NUL, and the time is not empty. A line has one cut
+    /// at most. Takes no memory.
+    pub fn from_line(line: &'a str) -> Option<SignatureRef<'a>>
+        ensures { MatchOption result (HasNoCut line.now) (λ s. IsCut line.now (parts_of s)) }
+    {
+        let parts = SignatureRef::between_marks(line)?;
+        if parts.may_stand() { Some(parts) } else { None }
+    }
+
+    /// The time that the line's time is read as, leniently, as [`gix_date::parse_header`] reads the time of a commit header. `None`
+    /// where that reads none. Takes no memory.
+    pub fn time_of(&self) -> Option<Time>
+        ensures { result ≡ header_time self.now.time.now }
+    {
+        parse_header(self.time)
+    }
+
+    /// What stands before, between and behind the first ` <` and the first `> ` behind it, whatever that is.
+    fn between_marks(line: &'a str) -> Option<SignatureRef<'a>>
+        ensures { MatchOption result (HasNoCut line.now) (λ s. line.now ≡ line_of (parts_of s)) }
+    {
+        let (name, rest) = line.split_once(" <")?;
+        let (mail, time) = rest.split_once("> ")?;
+        Some(SignatureRef { name, mail, time })
+    }
+
+    /// Whether these may be the parts of a line.
+    fn may_stand(self) -> bool
+        ensures { result ≡ are_parts (parts_of self.entry) }
+    {
+        is_part(self.name) && is_part(self.mail) && is_part(self.time) && !self.time.is_empty()
+    }
+}
+
+/// Writes a signature line, without a newline: the name, ` <`, the mail, `> `, and the time as [`Time::write_to`] writes it. The
+/// name and the mail may be empty.
+///
+/// [`SignatureError::BadPart`] where the name or the mail holds `<`, `>`, a newline or NUL, and else
+/// [`SignatureError::OffsetTooWide`] where the offset is 100 hours or more, either way; both before a byte is written.
+/// [`SignatureError::Write`] carries the writer's fault, and then a proper prefix of the line was taken. What was written is cut by
+/// [`SignatureRef::from_line`] into this name, this mail and the text of the time, which is read as the time again where its offset
+/// is whole minutes. There is no flush. Takes no memory.
+pub fn write_line<W: Sink>(
+    name: &str,
+    mail: &str,
+    time: Time,
+    out: &mut W,
+) -> Result<(), SignatureError>
+    ensures writes { WritesLine (line_due name.now mail.now time) (W.known out.old) (W.known out.new) result }
+    ensures cut { OnOk result ((line : List ℕ) × IsWritten name.now mail.now time line
+        × Takes (W.known out.old) (W.known out.new) line) }
+{
+    if !is_part(name) || !is_part(mail) {
+        return Err(SignatureError::BadPart);
+    }
+    if !has_text(time) {
+        return Err(SignatureError::OffsetTooWide);
+    }
+    put_line(name, mail, time, out).map_err(SignatureError::Write)
+}
+
+/// Puts a line into a sink.
+fn put_line<W: Sink>(name: &str, mail: &str, time: Time, out: &mut W) -> Result<(), io::ErrorKind>
+    requires { IsSome (header_text time) }
+    ensures { IsSomeAnd (parts_due name.now mail.now time) (λ p. Puts (W.known out.old) (W.known out.new) (line_of p) result) }
+{
+    put_text(name, out)?;
+    put_text(" <", out)?;
+    put_text(mail, out)?;
+    put_text("> ", out)?;
+    put_time(time, out)
+}
+
+fn put_text<W: Sink>(text: &str, out: &mut W) -> Result<(), io::ErrorKind>
+    ensures { Puts (W.known out.old) (W.known out.new) text.now result }
+{
+    put_all(out, text.as_bytes())
+}
+
+fn put_time<W: Sink>(time: Time, out: &mut W) -> Result<(), io::ErrorKind>
+    requires { IsSome (header_text time) }
+    ensures { IsSomeAnd (header_text time) (λ text. Puts (W.known out.old) (W.known out.new) text result) }
+{
+    match time.write_to(out) {
+        Ok(()) => Ok(()),
+        Err(Error::Write(kind)) => Err(kind),
+        // `write_to` refuses a time that has a text by no other.
+        Err(
+            Error::UnknownFormat { input: _ }
+            | Error::InvalidTime
+            | Error::MissingNow
+            | Error::DateConversion { input: _ }
+            | Error::Conversion
+            | Error::Range
+            | Error::OffsetTooWide
+            | Error::Pattern
+            | Error::Memory,
+        ) => unreachable!(),
+    }
+}
+
+/// Whether a time has a text in a commit header.
+fn has_text(time: Time) -> bool
+    ensures { result ≡ is_some (header_text time) }
+{
+    time.offset.unsigned_abs() < HUNDRED_HOURS
+}
+
+/// Whether a text may be a part of a line.
+fn is_part(text: &str) -> bool
+    ensures { result ≡ is_part text.now }
+{
+    text.bytes().all(may_stand)
+}
+
+/// Whether a byte may stand in a part of a line.
+fn may_stand(byte: u8) -> bool
+    ensures { result ≡ may_stand byte }
+{
+    !matches!(byte, b'<' | b'>' | b'\n' | b'\0')
+}
