@@ -46,6 +46,7 @@ pub mod PatternRows
 pub mod PrintRows
 pub mod RelativeRows
 pub mod ShapeRows
+pub mod RawLimits
 pub mod WhiteSpace
 pub mod Texts
 pub mod HeaderTexts

@@ -1,48 +1,100 @@
--- A text of each shape for each family that can hold one: no family of a shape can be left out.
-use Rattle.std.proofs.Common.{◌≡◌, refl, true, List, ℕ}
-use Rattle.std.specs.Prelude.{codes}
+-- For each family of a shape a text of that shape that it alone holds of them, so that no family of a shape can be left out; and the
+-- shape of texts on both sides of each test.
+use Rattle.std.proofs.Common.{◌≡◌, refl, true, List, ℕ, [], ◌∷◌, filter, map, None}
+use Rattle.std.specs.Prelude.{◌==◌, codes, not}
 use Rattle.gix_date.specs.Computing.{computing}
 use Rattle.gix_date.specs.Families.{Family, AtText, Short, Rfc2822, Iso8601, Iso8601Strict, Gitoxide, GitDefault, BareEpoch, GitForm, RelativeText, RawText}
 use Rattle.gix_date.specs.FamilyLaws.{Holds}
-use Rattle.gix_date.specs.Shapes.{begins_with_at, begins_with_marked_day, begins_with_compact_day, begins_with_letter, shape_of}
+use Rattle.gix_date.specs.Shapes.{begins_with_at, begins_with_marked_day, begins_with_compact_day, begins_with_letter, shape_of, shape_families, first_among}
 use Rattle.gix_date.specs.declared.parsing.shape.Shape.{Shape}
 use Rattle.gix_date.specs.declared.parsing.shape.Shape.TheVariants.{AtSign, WholeNumber, DashedDay, DottedDay, CompactDay, Letter, Other}
+use Rattle.gix_date.proofs.Exclusive.{place}
 use Rattle.gix_date.proofs.Shapes.{is_tried}
 
 -- all that a text needs to see computed
-shaping : Type 0
+pub shaping : Type 0
 unfolding computing shape_of begins_with_at begins_with_marked_day begins_with_compact_day begins_with_letter
 shaping = Unit {0}
 
--- a text of this shape that the family holds
+-- the families of a shape without this one
+abbrev others : Shape → Family → List Family
+others shape family = filter (λ other. not (place other == place family)) (shape_families shape)
+
+-- a text of this shape that the family holds, and no other family of the shape
 pub record Witness (shape : Shape) (family : Family) : Type 0 where
   pub text : List ℕ
   pub has_shape : shape_of text ≡ shape
   pub is_held : Holds family text
+  pub is_needed : first_among (others shape family) text ≡ None
 
 pub each-is-needed : (shape : Shape) (family : Family) → is_tried shape family ≡ true → Witness shape family
 unfolding shaping
-each-is-needed AtSign AtText h = record { text = codes "@5"; has_shape = refl; is_held = refl }
-each-is-needed AtSign RelativeText h = record { text = codes "@5 days ago"; has_shape = refl; is_held = refl }
-each-is-needed WholeNumber BareEpoch h = record { text = codes "100000000"; has_shape = refl; is_held = refl }
-each-is-needed DashedDay Short h = record { text = codes "2018-12-24"; has_shape = refl; is_held = refl }
-each-is-needed DashedDay Iso8601 h = record { text = codes "2022-08-18 12:45:06 +0800"; has_shape = refl; is_held = refl }
-each-is-needed DashedDay Iso8601Strict h = record { text = codes "2022-08-18T12:45:06+08:00"; has_shape = refl; is_held = refl }
-each-is-needed DashedDay GitForm h = record { text = codes "2008-02-14 20:30:45 Z"; has_shape = refl; is_held = refl }
-each-is-needed DashedDay RelativeText h = record { text = codes "2018-12-24 5 days ago"; has_shape = refl; is_held = refl }
-each-is-needed DottedDay GitForm h = record { text = codes "2008.02.14 20:30:45 -0500"; has_shape = refl; is_held = refl }
-each-is-needed DottedDay RelativeText h = record { text = codes "2008.02.14 5 days ago"; has_shape = refl; is_held = refl }
-each-is-needed CompactDay GitForm h = record { text = codes "20080214T20"; has_shape = refl; is_held = refl }
-each-is-needed CompactDay RelativeText h = record { text = codes "20080214T20 2 days ago"; has_shape = refl; is_held = refl }
-each-is-needed Letter Rfc2822 h = record { text = codes "Thu, 18 Aug 2022 12:45:06 +0800"; has_shape = refl; is_held = refl }
-each-is-needed Letter Gitoxide h = record { text = codes "Thu Aug 18 2022 12:45:06 +0800"; has_shape = refl; is_held = refl }
-each-is-needed Letter GitDefault h = record { text = codes "Thu Aug 18 12:45:06 2022 +0800"; has_shape = refl; is_held = refl }
-each-is-needed Letter RelativeText h = record { text = codes "last week"; has_shape = refl; is_held = refl }
-each-is-needed Other Short h = record { text = codes "2018-1-2"; has_shape = refl; is_held = refl }
-each-is-needed Other Rfc2822 h = record { text = codes "18 Aug 2022 12:45:06 +0800"; has_shape = refl; is_held = refl }
-each-is-needed Other Iso8601 h = record { text = codes "2022-8-18 12:45:06 +0800"; has_shape = refl; is_held = refl }
-each-is-needed Other Iso8601Strict h = record { text = codes "2022-8-18T12:45:06+08:00"; has_shape = refl; is_held = refl }
-each-is-needed Other GitForm h = record { text = codes " 2008-02-14 20:30:45 Z"; has_shape = refl; is_held = refl }
-each-is-needed Other RelativeText h = record { text = codes "2 weeks ago"; has_shape = refl; is_held = refl }
-each-is-needed Other RawText h = record { text = codes "5 -0130"; has_shape = refl; is_held = refl }
+each-is-needed AtSign AtText h = record { text = codes "@5"; has_shape = refl; is_held = refl; is_needed = refl }
+each-is-needed AtSign RelativeText h = record { text = codes "@5 days ago"; has_shape = refl; is_held = refl; is_needed = refl }
+each-is-needed WholeNumber BareEpoch h = record { text = codes "100000000"; has_shape = refl; is_held = refl; is_needed = refl }
+each-is-needed DashedDay Short h = record { text = codes "2018-12-24"; has_shape = refl; is_held = refl; is_needed = refl }
+each-is-needed DashedDay Iso8601 h = record { text = codes "2022-08-18 12:45:60 +0000"; has_shape = refl; is_held = refl; is_needed = refl }
+each-is-needed DashedDay Iso8601Strict h = record { text = codes "2022-08-18T12:45:60+00:00"; has_shape = refl; is_held = refl; is_needed = refl }
+each-is-needed DashedDay GitForm h = record { text = codes "2008-02-14 20:30:45 Z"; has_shape = refl; is_held = refl; is_needed = refl }
+each-is-needed DashedDay RelativeText h = record { text = codes "2018-12-24 5 days ago"; has_shape = refl; is_held = refl; is_needed = refl }
+each-is-needed DottedDay GitForm h = record { text = codes "2008.02.14 20:30:45 -0500"; has_shape = refl; is_held = refl; is_needed = refl }
+each-is-needed DottedDay RelativeText h = record { text = codes "2008.02.14 5 days ago"; has_shape = refl; is_held = refl; is_needed = refl }
+each-is-needed CompactDay GitForm h = record { text = codes "20080214T20"; has_shape = refl; is_held = refl; is_needed = refl }
+each-is-needed CompactDay RelativeText h = record { text = codes "20080214T20 2 days ago"; has_shape = refl; is_held = refl; is_needed = refl }
+each-is-needed Letter Rfc2822 h = record { text = codes "Thu, 18 Aug 2022 12:45:06 +0800"; has_shape = refl; is_held = refl; is_needed = refl }
+each-is-needed Letter Gitoxide h = record { text = codes "Thu Aug 18 2022 12:45:06 +0800"; has_shape = refl; is_held = refl; is_needed = refl }
+each-is-needed Letter GitDefault h = record { text = codes "Thu Aug 18 12:45:06 2022 +0800"; has_shape = refl; is_held = refl; is_needed = refl }
+each-is-needed Letter RelativeText h = record { text = codes "last week"; has_shape = refl; is_held = refl; is_needed = refl }
+each-is-needed Other Short h = record { text = codes "2018-1-2"; has_shape = refl; is_held = refl; is_needed = refl }
+each-is-needed Other Rfc2822 h = record { text = codes "18 Aug 2022 12:45:06 +0800"; has_shape = refl; is_held = refl; is_needed = refl }
+each-is-needed Other Iso8601 h = record { text = codes "2022-8-18 12:45:06 +0800"; has_shape = refl; is_held = refl; is_needed = refl }
+each-is-needed Other Iso8601Strict h = record { text = codes "2022-8-18T12:45:06+08:00"; has_shape = refl; is_held = refl; is_needed = refl }
+each-is-needed Other GitForm h = record { text = codes " 2008-02-14 20:30:45 Z"; has_shape = refl; is_held = refl; is_needed = refl }
+each-is-needed Other RelativeText h = record { text = codes "2 weeks ago"; has_shape = refl; is_held = refl; is_needed = refl }
+each-is-needed Other RawText h = record { text = codes "5 -0130"; has_shape = refl; is_held = refl; is_needed = refl }
 each-is-needed shape family h = absurd cc
+
+-- Each test, on both sides.
+at-signs : map shape_of (codes "@" ∷ codes "@2018-12-24" ∷ []) ≡ AtSign ∷ AtSign ∷ []
+unfolding shaping
+at-signs = refl
+
+whole-numbers : map shape_of (codes "5" ∷ codes "+5" ∷ codes "-05" ∷ codes "9223372036854775807" ∷ codes "-9223372036854775808" ∷ [])
+    ≡ WholeNumber ∷ WholeNumber ∷ WholeNumber ∷ WholeNumber ∷ WholeNumber ∷ []
+unfolding shaping
+whole-numbers = refl
+
+no-whole-numbers : map shape_of (codes "9223372036854775808" ∷ codes "-9223372036854775809" ∷ codes "+" ∷ codes "+-5" ∷ codes "5-" ∷ codes " 5" ∷ codes "5 " ∷ [])
+    ≡ Other ∷ Other ∷ Other ∷ Other ∷ Other ∷ Other ∷ Other ∷ []
+unfolding shaping
+no-whole-numbers = refl
+
+marked-days : map shape_of (codes "2018-12-" ∷ codes "0999-99-9T" ∷ codes "2018.12." ∷ codes "9000.00. " ∷ [])
+    ≡ DashedDay ∷ DashedDay ∷ DottedDay ∷ DottedDay ∷ []
+unfolding shaping
+marked-days = refl
+
+-- a digit or a mark missing at each place
+no-marked-days : map shape_of (codes "2018-12" ∷ codes ":018-12-24" ∷ codes "2/18-12-24" ∷ codes "20:8-12-24" ∷ codes "201/-12-24" ∷ codes "2018 12-24"
+    ∷ codes "2018-:2-24" ∷ codes "2018-1/-24" ∷ codes "2018-12 24" ∷ codes "2018-12.24" ∷ codes "2018.12-24" ∷ codes "2018/12/24" ∷ [])
+    ≡ Other ∷ Other ∷ Other ∷ Other ∷ Other ∷ Other ∷ Other ∷ Other ∷ Other ∷ Other ∷ Other ∷ Other ∷ []
+unfolding shaping
+no-marked-days = refl
+
+compact-days : map shape_of (codes "20080214T" ∷ codes "09999999Tx" ∷ []) ≡ CompactDay ∷ CompactDay ∷ []
+unfolding shaping
+compact-days = refl
+
+no-compact-days : map shape_of (codes ":0080214T" ∷ codes "2/080214T" ∷ codes "20:80214T" ∷ codes "200/0214T" ∷ codes "2008:214T" ∷ codes "20080/14T"
+    ∷ codes "200802:4T" ∷ codes "2008021/T" ∷ codes "20080214t" ∷ codes "20080214 T" ∷ codes "2008021T" ∷ [])
+    ≡ Other ∷ Other ∷ Other ∷ Other ∷ Other ∷ Other ∷ Other ∷ Other ∷ Other ∷ Other ∷ Other ∷ []
+unfolding shaping
+no-compact-days = refl
+
+letters : map shape_of (codes "A" ∷ codes "Z" ∷ codes "a" ∷ codes "z2018-12-24" ∷ []) ≡ Letter ∷ Letter ∷ Letter ∷ Letter ∷ []
+unfolding shaping
+letters = refl
+
+no-letters : map shape_of (codes "" ∷ codes "[" ∷ codes "`" ∷ codes "{" ∷ codes " a" ∷ codes ",a" ∷ []) ≡ Other ∷ Other ∷ Other ∷ Other ∷ Other ∷ Other ∷ []
+unfolding shaping
+no-letters = refl

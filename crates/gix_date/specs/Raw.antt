@@ -52,6 +52,6 @@ raw_time_by rule text = do
   offset ← raw_offset_by rule second
   Some (record { seconds = seconds; offset = offset })
 
--- by quarters of an hour, as Git and gix-date have them
+-- by quarters of an hour, as gix-date has them
 abbrev pub raw_time : List ℕ → Option Time
 raw_time = raw_time_by is_quarter

@@ -260,8 +260,8 @@ pub fn widened(text: &str)
     ensures { IsWidened text.now }
 {}
 
-/// What [`parse`] goes by is what the first family of a text's shape answers that holds it: the shape is told by the first bytes
-/// (`shape_of`), and only a few families can hold a text of each (`shape_families`).
+/// What [`parse`] goes by is what the first family of a text's shape answers that holds it: the shape is told by its first bytes, or
+/// of a number by the whole text (`shape_of`), and only a few families can hold a text of each (`shape_families`).
 pub fn dispatched(text: &str)
     ensures { IsDispatched text.now }
 {}

@@ -1,10 +1,10 @@
 //! What a crate that reads and writes commits does with `gix_signature`.
-ghost use Rattle.std.specs.Prelude.{◌≡◌, ◌≢◌, ℕ, List, true, false, None, Some, Ok, Err, IfSome, IfNone};
+ghost use Rattle.std.specs.Prelude.{◌≡◌, ◌≢◌, ℕ, List, true, false, None, Some, Ok, Err, IfSome, IfNone, IfErr};
 ghost use Rattle.gix_date.specs.HeaderReading.{header_time};
 ghost use Rattle.gix_date.specs.Known.{Takes};
 ghost use Rattle.gix_date.specs.declared.time.Time.{Time as Read};
 ghost use Rattle.gix_signature.specs.Signature.{Parts, IsCut, HasNoCut};
-ghost use Rattle.gix_signature.specs.Writing.{IsWritten};
+ghost use Rattle.gix_signature.specs.Writing.{line_due, IsWritten, WritesLine};
 ghost use Rattle.gix_signature.specs.declared.error.SignatureError.TheVariants.{BadPart};
 ghost use Rattle.gix_date_vectors.specs.Authored.{IsAuthored};
 
@@ -27,6 +27,8 @@ pub fn redated<W: Sink>(line: &str, time: Time, out: &mut W) -> Result<bool, Sig
     ensures no { result ≡ Ok false → HasNoCut line.now }
     ensures yes { result ≡ Ok true → (p : Parts) × IsCut line.now p × ((redated : List ℕ)
         × IsWritten p.name p.mail time redated × Takes (W.known out.old) (W.known out.new) redated) }
+    ensures refuses { IfErr result (λ e. (p : Parts) × IsCut line.now p
+        × WritesLine (line_due p.name p.mail time) (W.known out.old) (W.known out.new) (Err e)) }
     ensures parts { result ≢ Err BadPart }
 {
     let Some(signature) = SignatureRef::from_line(line) else {

@@ -51,6 +51,12 @@ fn other_lines_have_no_cut(rt: HostRuntime) {
         "A> <a> 0 +0000",
         "A < <a> 0 +0000",
         "A <a> 0 +0000 <",
+        "A\n <a> 0 +0000",
+        "A <a<b> 0 +0000",
+        "A <a>b> 0 +0000",
+        "A <a\0> 0 +0000",
+        "A <a> 0 +0000 >",
+        "A <a> 0 +0000\0",
         "",
     ] {
         assert!(rt; SignatureRef::from_line(line).is_none(), "{line}");
@@ -220,6 +226,7 @@ fn each_fault_of_a_line_has_a_text_and_a_debug_form(rt: HostRuntime) -> Result<(
 
 #[test]
 fn laws_of_lines_are_called_for_nothing_but_what_they_state() {
+    laws::clones();
     laws::one_cut("A <a> 0 +0000");
     laws::written_is_cut("A", "a", Time::new(0, 60));
 }

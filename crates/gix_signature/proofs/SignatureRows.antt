@@ -1,12 +1,15 @@
 -- Lines that the definitions are checked on.
-use Rattle.std.proofs.Common.{◌≡◌, true, false, List, ℕ, [], pos, negsuc, Ok, Err, refl}
+use Rattle.std.proofs.Common.{◌≡◌, ◌≢◌, ◌∙◌, true, false, List, ℕ, [], ◌∷◌, ◌++◌, pos, negsuc, Ok, Err, Some, unwrap_or, refl, ap, sym}
 use Rattle.std.specs.Fmt.{digits}
 use Rattle.std.specs.Prelude.{codes}
+use Rattle.gix_date.specs.HeaderReading.{header_time}
 use Rattle.gix_date.specs.HeaderText.{header_text}
-use Rattle.gix_signature.specs.Signature.{Parts, IsCut, HasNoCut, may_stand}
-use Rattle.gix_signature.specs.Writing.{line_due}
+use Rattle.gix_date.specs.declared.time.Time.{Time}
+use Rattle.gix_signature.specs.Signature.{Parts, IsCut, HasNoCut, may_stand, are_parts, line_of, opening, closing, newline, nul}
+use Rattle.gix_signature.specs.Writing.{line_due, IsWritten}
 use Rattle.gix_signature.specs.declared.error.SignatureError.TheVariants.{BadPart, OffsetTooWide}
 use Rattle.gix_signature.proofs.Cuts.{no-cut}
+use Rattle.gix_signature.proofs.Written.{differs}
 
 abbrev parts : List ℕ → List ℕ → List ℕ → Parts
 parts name mail time = record { name = name; mail = mail; time = time }
@@ -35,6 +38,26 @@ second_bracket = no-cut _ (parts (codes "A") (codes "a") (codes "<b> 0 +0000")) 
 newline_behind : HasNoCut (codes "A <a> 0 +0000\n")
 newline_behind = no-cut _ (parts (codes "A") (codes "a") (codes "0 +0000\n")) refl refl
 
+-- each of the four, in the name, the mail and the time
+none : (name mail time : List ℕ) → are_parts (parts name mail time) ≡ false → HasNoCut (line_of (parts name mail time))
+none name mail time bad = no-cut _ (parts name mail time) refl bad
+
+opening_in_a_part : HasNoCut (codes "A< <a> 0") × HasNoCut (codes "A <a<b> 0") × HasNoCut (codes "A <a> 0<")
+opening_in_a_part = (none (codes "A<") (codes "a") (codes "0") refl, none (codes "A") (codes "a<b") (codes "0") refl, none (codes "A") (codes "a") (codes "0<") refl)
+
+closing_in_a_part : HasNoCut (codes "A> <a> 0") × HasNoCut (codes "A <a>b> 0") × HasNoCut (codes "A <a> 0>")
+closing_in_a_part = (none (codes "A>") (codes "a") (codes "0") refl, none (codes "A") (codes "a>b") (codes "0") refl, none (codes "A") (codes "a") (codes "0>") refl)
+
+newline_in_a_part : HasNoCut (codes "A\n <a> 0") × HasNoCut (codes "A <a\nb> 0") × HasNoCut (codes "A <a> 0\n")
+newline_in_a_part = (none (codes "A\n") (codes "a") (codes "0") refl, none (codes "A") (codes "a\nb") (codes "0") refl, none (codes "A") (codes "a") (codes "0\n") refl)
+
+nul_in_a_part : HasNoCut (0 ∷ codes " <a> 0") × HasNoCut (codes "A <" ++ 0 ∷ codes "> 0") × HasNoCut (codes "A <a> " ++ 0 ∷ [])
+nul_in_a_part = (none (0 ∷ []) (codes "a") (codes "0") refl, none (codes "A") (0 ∷ []) (codes "0") refl, none (codes "A") (codes "a") (0 ∷ []) refl)
+
+-- every other byte may stand
+only_four : (c : ℕ) → c ≢ 60 → c ≢ 62 → c ≢ 10 → c ≢ 0 → may_stand c ≡ true
+only_four c a b d e = rw (differs c opening a, differs c closing b, differs c newline d, differs c nul e) refl
+
 -- a tab, U+00E9 and the byte 255 may stand, and NUL not
 others : (may_stand 9 ≡ true) × (may_stand 195 ≡ true) × (may_stand 169 ≡ true) × (may_stand 255 ≡ true) × (may_stand 0 ≡ false)
 others = (refl, refl, refl, refl, refl)
@@ -53,3 +76,13 @@ wide = refl
 
 bad_mail : line_due (codes "A") (codes "a\n") (record { seconds = pos 0; offset = pos 0 }) ≡ Err BadPart
 bad_mail = refl
+
+-- What was written.
+abbrev behind_utc : Time
+behind_utc = record { seconds = pos 5; offset = negsuc 5399 }
+
+written : (line : List ℕ) → (h : IsWritten (codes "A") (codes "a") behind_utc line) → (line ≡ codes "A <a> 5 -0130") × (header_time h.text ≡ Some behind_utc)
+unfolding header_text digits
+written line h =
+    let text : h.text ≡ codes "5 -0130" = ap (λ o. unwrap_or o []) (sym h.is_text) in
+    (h.cut.whole ∙ ap (λ x. line_of (parts (codes "A") (codes "a") x)) text, h.back refl)

@@ -18,7 +18,7 @@ use Rattle.gix_signature.specs.declared.error.SignatureError.{SignatureError}
 use Rattle.gix_signature.specs.declared.error.SignatureError.TheVariants.{BadPart, OffsetTooWide, Write}
 use Rattle.gix_signature.proofs.Cuts.{and-both, all-both}
 
-differs : (a b : ℕ) → a ≢ b → (a == b) ≡ false
+pub differs : (a b : ℕ) → a ≢ b → (a == b) ≡ false
 differs a b h = grind (arith, nat_tests, h)
 
 -- A header text may stand in a line.

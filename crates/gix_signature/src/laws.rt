@@ -1,8 +1,9 @@
 //! Laws, each the contract of a function that does nothing.
-ghost use Rattle.std.specs.Prelude.{IfOk};
+ghost use Rattle.std.specs.Prelude.{◌≡◌, IfOk};
 ghost use Rattle.gix_signature.specs.Signature.{OneCut};
 ghost use Rattle.gix_signature.specs.Writing.{line_due, IsWritten};
 
+use crate::lines::SignatureRef;
 use gix_date::Time;
 
 /// A line has one cut at most.
@@ -14,4 +15,10 @@ pub fn one_cut(line: &str)
 /// again where its offset is whole minutes.
 pub fn written_is_cut(name: &str, mail: &str, time: Time)
     ensures { IfOk (line_due name.now mail.now time) (IsWritten name.now mail.now time) }
+{}
+
+/// A clone of the parts of a line is those parts, and never fails.
+pub fn clones()
+    ensures parts { (a b : SignatureRef) → ⟦<SignatureRef<'static> as Clone>⟧.is_clone a b → b ≡ a }
+    ensures parts_succeed { (a : SignatureRef) → ⟦<SignatureRef<'static> as Clone>⟧.is_infallible a }
 {}

@@ -189,8 +189,8 @@ fn letter_answer(input: &str) -> Option<Answer<'_>>
     relative_answer(input)
 }
 
-/// What a text of no other shape says. One that is raw as nearly all are is of no other family; a formatted date has a year and `-`
-/// first, and no other text here has that is not relative.
+/// What a text of no other shape says. One that is raw as nearly all are is of no other family. A day alone and both ISO 8601 forms
+/// begin with a year and `-`; of the other families here only relative texts can.
 fn other_answer(input: &str, raw: RawOffsets) -> Option<Answer<'_>>
     ensures first { option_map answer_of result ≡ first_among_by (allows raw) (shape_families Other) input.now }
     ensures short { IfSome result HasZoneOffset }

@@ -9,7 +9,7 @@ use crate::parsing::plain::parse_plain_fields;
 use crate::parsing::space_words::first_words;
 use crate::time::{OffsetInSeconds, Time};
 
-/// The most hours of a raw offset, as Git has it.
+/// The most hours of a raw offset, as gix-date has it.
 const MOST_HOURS: u8 = 14;
 
 /// The most hours of a raw offset by the wider rule: those of a day.
@@ -23,7 +23,7 @@ const MOST_MINUTES: u8 = 59;
 /// An offset is a sign, two digits of hours, two of minutes and optionally two of seconds, which are 00 by both rules.
 #[derive(Debug, Clone, Copy, PartialEq, Eq)]
 pub enum RawOffsets {
-    /// Quarters of an hour up to 14:45, as Git and gix-date have them.
+    /// Quarters of an hour up to 14:45, as gix-date has them.
     Quarter,
     /// Whole minutes up to 23:59, as some commits have them.
     WholeMinutes,
