@@ -5,20 +5,20 @@ use Rattle.std.specs.Prelude.{◌==◌, ◌&&◌, nat_lt}
 use Rattle.std.specs.Char.{is_ascii_digit, is_ascii_alphabetic}
 use Rattle.std.specs.Str.{all_ascii_digits}
 use Rattle.std.specs.Str.Parse.{without_leading_sign, signed_digits_value}
-use Rattle.gix_date.specs.Answer.{FamilyAnswer, Absolute}
-use Rattle.gix_date.specs.Characters.{at_sign, plus, minus, comma, colon, letter_t, is_space}
-use Rattle.gix_date.specs.Epoch.{at_time_by, epoch_time}
-use Rattle.gix_date.specs.FieldTexts.{IsField, IsYear, AreSpaces, IsDayName, IsPlainDate, IsDayPrefix}
-use Rattle.gix_date.specs.Fields.{behind}
-use Rattle.gix_date.specs.Numbers.{fits_i64, int_value, read_two_digits, read_digit, read_field, read_year}
-use Rattle.gix_date.specs.PatternFields.{behind_day_name, behind_spaces, read_name, behind_weekday, read_plain_date, read_clock, read_minutes}
-use Rattle.gix_date.specs.Patterns.{time_answer, short_answer, rfc2822_answer, iso8601_answer, iso8601_strict_answer, gitoxide_answer, default_answer}
+use Rattle.gix_date.specs.Families.Answer.{FamilyAnswer, Absolute}
+use Rattle.gix_date.specs.Text.Characters.{at_sign, plus, minus, comma, colon, letter_t, is_space}
+use Rattle.gix_date.specs.Families.Epoch.{at_time_by, epoch_time}
+use Rattle.gix_date.specs.Fields.FieldTexts.{IsField, IsYear, AreSpaces, IsDayName, IsPlainDate, IsDayPrefix}
+use Rattle.gix_date.specs.Fields.Front.{skip_char}
+use Rattle.gix_date.specs.Text.Numbers.{fits_i64, int_value, read_two_digits, read_digit, read_field, read_year}
+use Rattle.gix_date.specs.Fields.DateFields.{skip_day_name, skip_spaces, read_name, skip_weekday, read_plain_date, read_clock, read_minutes}
+use Rattle.gix_date.specs.Families.Patterns.{time_answer, short_answer, rfc2822_answer, iso8601_answer, iso8601_strict_answer, gitoxide_answer, default_answer}
 use Rattle.gix_date.proofs.FieldsRead.{Begins, BeginsNot, Excludes, begins-append, begins_not, digit-no-letter, letter-no-digit, space-no-digit, digit-no-space, field-begins, year-begins, name-begins, weekday-read, date-read}
-use Rattle.gix_date.proofs.FieldsTaken.{went, behind-taken}
-use Rattle.gix_date.proofs.Layouts.{piece-taken, apart-behind, mail-front, dates_spelled}
-use Rattle.gix_date.specs.Families.{answers_before_git, answers_before_git_by}
-use Rattle.gix_date.specs.Raw.{OffsetRule}
-use Rattle.gix_date.specs.Layout.{LocalTime, Piece, DayName, MonthName, Day, Year, PlainDate, Clock, Spaces, LetterT, Offset, ColonOffset, read_pieces, nothing_read, ArePieces}
+use Rattle.gix_date.proofs.FieldsTaken.{went, after-taken}
+use Rattle.gix_date.proofs.Layouts.{piece-taken, apart-after, mail-front, dates_spelled}
+use Rattle.gix_date.specs.Families.Order.{answers_before_git, answers_before_git_by}
+use Rattle.gix_date.specs.Families.Raw.{OffsetRule}
+use Rattle.gix_date.specs.Fields.Layout.{LocalTime, Piece, DayName, MonthName, Day, Year, PlainDate, Clock, Spaces, LetterT, Offset, ColonOffset, read_pieces, nothing_read, ArePieces}
 use Rattle.gix_date.specs.declared.parsing.civil.DateFields.{DateFields}
 use Rattle.gix_date.specs.declared.time.Time.{Time}
 
@@ -42,15 +42,15 @@ unfolding read_field read_two_digits read_digit
 no-field [] h = refl
 no-field (c ∷ t) h = rw (no_pair c t h, h) refl
 
-pub no-weekday : (t : List ℕ) → BeginsNot is_ascii_alphabetic t → behind_weekday t ≡ None
-unfolding behind_weekday read_name
+pub no-weekday : (t : List ℕ) → BeginsNot is_ascii_alphabetic t → skip_weekday t ≡ None
+unfolding skip_weekday read_name
 no-weekday [] h = refl
 no-weekday (a ∷ []) h = refl
 no-weekday (a ∷ b ∷ []) h = refl
 no-weekday (a ∷ b ∷ c ∷ t) h = rw h refl
 
-pub no-spaces : (t : List ℕ) → BeginsNot is_space t → behind_spaces t ≡ None
-unfolding behind_spaces
+pub no-spaces : (t : List ℕ) → BeginsNot is_space t → skip_spaces t ≡ None
+unfolding skip_spaces
 no-spaces [] h = refl
 no-spaces (c ∷ t) h = rw h refl
 
@@ -69,7 +69,7 @@ pub record NoDayFirst (text : List ℕ) : Type 0 where
   pub gitoxide : gitoxide_answer text ≡ None
   pub by_default : default_answer text ≡ None
 
-pub no-day : (text : List ℕ) → behind_weekday text ≡ None → NoDayFirst text
+pub no-day : (text : List ℕ) → skip_weekday text ≡ None → NoDayFirst text
 unfolding gitoxide_answer default_answer
 no-day text h = record { gitoxide = rw h refl; by_default = rw h refl }
 
@@ -119,7 +119,7 @@ no-epoch-letter (c ∷ t) h = no-epoch c t (letter-no-plus c h) (letter-no-minus
 
 -- no mail date begins with neither a letter nor a digit, nor with a year
 pub no-mail-first : (t : List ℕ) → BeginsNot is_ascii_alphabetic t → BeginsNot is_ascii_digit t → rfc2822_answer t ≡ None
-unfolding rfc2822_answer behind_day_name
+unfolding rfc2822_answer skip_day_name
 no-mail-first t l d = rw (no-weekday t l, no-field t d) refl
 
 pub pair_first : (a b c : ℕ) (rest : List ℕ) → is_ascii_digit a ≡ true → is_ascii_digit b ≡ true → is_ascii_digit c ≡ true → read_field (a ∷ b ∷ c ∷ rest) ≡ Some (10 * (a - 48) + (b - 48), c ∷ rest)
@@ -127,16 +127,16 @@ unfolding read_field read_two_digits
 pair_first a b c rest ha hb hc = rw (ha, hb) refl
 
 pub no-mail-year : (year rest : List ℕ) (n : ℕ) → IsYear year n → rfc2822_answer (year ++ rest) ≡ None
-unfolding rfc2822_answer behind_day_name
+unfolding rfc2822_answer skip_day_name
 no-mail-year [] rest n h = absurd h
 no-mail-year (a ∷ []) rest n h = absurd h
 no-mail-year (a ∷ b ∷ []) rest n h = absurd h
 no-mail-year (a ∷ b ∷ c ∷ []) rest n h = absurd h
 no-mail-year (a ∷ b ∷ c ∷ d ∷ []) rest n h =
     let text = a ∷ b ∷ c ∷ d ∷ rest in
-    let weekday : behind_weekday text ≡ None = no-weekday text (digit-no-letter a h.0) in
+    let weekday : skip_weekday text ≡ None = no-weekday text (digit-no-letter a h.0) in
     let field : read_field text ≡ Some (10 * (a - 48) + (b - 48), c ∷ d ∷ rest) = pair_first a b c (d ∷ rest) h.0 h.1 h.2 in
-    let gap : behind_spaces (c ∷ d ∷ rest) ≡ None = no-spaces (c ∷ d ∷ rest) (digit-no-space c h.2) in
+    let gap : skip_spaces (c ∷ d ∷ rest) ≡ None = no-spaces (c ∷ d ∷ rest) (digit-no-space c h.2) in
     rw (weekday, field, gap) refl
 no-mail-year (a ∷ b ∷ c ∷ d ∷ e ∷ t) rest n h = absurd h
 
@@ -160,11 +160,11 @@ after-plain day rest date h =
       epoch = no-epoch-digits h.year minus (h.month ++ (minus ∷ (h.day ++ rest))) (year-begins h.year date.year h.is_year) refl;
     })
 
--- none of the families from this one on answers; behind the at text a rule for raw offsets is no matter
+-- none of the families from this one on answers; after the at text a rule for raw offsets is no matter
 abbrev NoneFrom : ℕ → List ℕ → Type 0
 NoneFrom n text = filter is_some (drop n (answers_before_git text)) ≡ []
 
--- where each that answers has none behind it, at most one does
+-- where each that answers has none after it, at most one does
 at-most-one : (answers : List (Option FamilyAnswer)) → ((n : ℕ) (answer : FamilyAnswer) → get_or answers n None ≡ Some answer → filter is_some (drop (suc n) answers) ≡ []) → length (filter is_some answers) ≤ 1
 at-most-one [] alone = omega arith
 at-most-one (None ∷ rest) alone = at-most-one rest (λ n. alone (suc n))
@@ -181,7 +181,7 @@ default-alone text answer e =
 
 -- no clock begins with a year
 no-clock-year : (year rest : List ℕ) (n : ℕ) → IsYear year n → read_clock (year ++ rest) ≡ None
-unfolding read_clock read_minutes behind
+unfolding read_clock read_minutes skip_char
 no-clock-year [] rest n h = absurd h
 no-clock-year (a ∷ []) rest n h = absurd h
 no-clock-year (a ∷ b ∷ []) rest n h = absurd h
@@ -207,7 +207,7 @@ gitoxide-alone text answer e =
     let begin = DayName ∷ Spaces ∷ MonthName ∷ Spaces ∷ Day ∷ Spaces ∷ [] in
     let one = Spaces ∷ Clock ∷ Spaces ∷ Offset ∷ [] in
     let other = Spaces ∷ Year ∷ Spaces ∷ Offset ∷ [] in
-    let none : default_answer text ≡ None = apart-behind begin (Year ∷ one) (Clock ∷ other) nothing_read time_answer text answer (λ g rest. year-no-clock g one other time_answer rest answer) e in
+    let none : default_answer text ≡ None = apart-after begin (Year ∷ one) (Clock ∷ other) nothing_read time_answer text answer (λ g rest. year-no-clock g one other time_answer rest answer) e in
     rw (none, named-no-epoch h.front h.rest text h.is h.whole) refl
 
 plain-alone : (text : List ℕ) → AfterPlainDate text → NoneFrom 5 text
@@ -222,8 +222,8 @@ strict-alone text answer e =
     let a = (dates_spelled.iso8601_strict text answer).0 e in
     plain-alone text (plain-first (LetterT ∷ Clock ∷ ColonOffset ∷ []) a.time text a.are)
 
-no-t : (gap rest : List ℕ) → AreSpaces gap → behind letter_t (gap ++ rest) ≡ None
-unfolding behind
+no-t : (gap rest : List ℕ) → AreSpaces gap → skip_char letter_t (gap ++ rest) ≡ None
+unfolding skip_char
 no-t [] rest h = absurd h
 no-t (c ∷ gap) rest h =
     let other : (c == letter_t) ≡ false = space-no-t c h.0 in
@@ -235,7 +235,7 @@ no-t (c ∷ gap) rest h =
 spaces-no-t : (g : LocalTime) (more other : List Piece) (next : LocalTime → Option FamilyAnswer) (x : List ℕ) (y : FamilyAnswer) → read_pieces (Spaces ∷ more) g next x ≡ Some y → read_pieces (LetterT ∷ other) g next x ≡ None
 spaces-no-t g more other next x y e =
     let first = piece-taken Spaces g (λ f rest. read_pieces more f next rest) x y e in
-    let none : behind letter_t x ≡ None = ap (behind letter_t) first.whole ∙ no-t first.text first.rest (first.is first.found first.kept) in
+    let none : skip_char letter_t x ≡ None = ap (skip_char letter_t) first.whole ∙ no-t first.text first.rest (first.is first.found first.kept) in
     rw none refl
 
 iso8601-alone : (text : List ℕ) (answer : FamilyAnswer) → iso8601_answer text ≡ Some answer → NoneFrom 4 text
@@ -245,7 +245,7 @@ iso8601-alone text answer e =
     let one = Clock ∷ Spaces ∷ Offset ∷ [] in
     let other = Clock ∷ ColonOffset ∷ [] in
     let plain = plain-first (Spaces ∷ one) a.time text a.are in
-    let strict : iso8601_strict_answer text ≡ None = apart-behind (PlainDate ∷ []) (Spaces ∷ one) (LetterT ∷ other) nothing_read time_answer text answer (λ g rest. spaces-no-t g one other time_answer rest answer) e in
+    let strict : iso8601_strict_answer text ≡ None = apart-after (PlainDate ∷ []) (Spaces ∷ one) (LetterT ∷ other) nothing_read time_answer text answer (λ g rest. spaces-no-t g one other time_answer rest answer) e in
     rw (strict, plain.gitoxide, plain.by_default, plain.epoch) refl
 
 not_both : (b : Bool) (v : ℕ) (rest : List ℕ) → option_map {U = ℕ × List ℕ} (λ n. (n, rest)) (cond (b && false) (Some v) None) ≡ None
@@ -313,7 +313,7 @@ mail-alone text answer e =
     rw (plain.iso8601, plain.strict, none.day.gitoxide, none.day.by_default, none.epoch) refl
 
 short-alone : (text : List ℕ) (answer : FamilyAnswer) → short_answer text ≡ Some answer → NoneFrom 2 text
-unfolding iso8601_answer iso8601_strict_answer behind_spaces behind
+unfolding iso8601_answer iso8601_strict_answer skip_spaces skip_char
 short-alone text answer e =
     let a = (dates_spelled.short text answer).0 e in
     let plain = plain-first [] a.time text a.are in
@@ -325,8 +325,8 @@ short-alone text answer e =
 pub at-first : (rule : OffsetRule) (text : List ℕ) (time : Time) → at_time_by rule text ≡ Some time → (rest : List ℕ) × (text ≡ at_sign ∷ rest)
 unfolding at_time_by
 at-first rule text time e =
-    let mark = went (behind at_sign text) _ time e in
-    (mark.0, behind-taken at_sign text mark.0 mark.1)
+    let mark = went (skip_char at_sign text) _ time e in
+    (mark.0, after-taken at_sign text mark.0 mark.1)
 
 at-none : (rest : List ℕ) → NoneFrom 1 (at_sign ∷ rest)
 at-none rest =

@@ -1,14 +1,14 @@
 -- One pair after the other off an instant.
-use Rattle.std.proofs.Common.{◌≡◌, ◌∙◌, ℕ, ℤ, pos, List, [], ◌∷◌, refl, sym, ap, subst}
+use Rattle.std.proofs.Common.{◌≡◌, ◌∙◌, ℕ, ℤ, pos, List, [], ◌∷◌, sym, ap, subst}
 use Rattle.std.specs.Prelude.{int_div}
 use Rattle.jiff.specs.Types.{TimeZone}
 use Rattle.jiff.specs.Words.{plain_zoned, zoned_nanos, offset_at}
 use Rattle.jiff.specs.declared.zoned.Zoned.{Zoned}
-use Rattle.gix_date.specs.Relative.{RelativeDate, Before, Less, Reaches, IsNamed}
+use Rattle.gix_date.specs.Relative.Dates.{RelativeDate, Before, Less, Reaches, IsNamed}
 use Rattle.gix_date.specs.declared.time.Time.{Time}
-use Rattle.gix_date.specs.RelativePairs.{pairs_read}
-use Rattle.gix_date.specs.RelativeSteps.{PairStep, Settles, Chain}
-use Rattle.gix_date.specs.Roles.{pairs}
+use Rattle.gix_date.specs.Private.RelativePairs.{pairs_read}
+use Rattle.gix_date.specs.Relative.Steps.{PairStep, Settles, Chain}
+use Rattle.gix_date.specs.Relative.Roles.{pairs}
 use Rattle.gix_date.specs.declared.parsing.relative.words.TimeUnit.{TimeUnit}
 use Rattle.gix_date.specs.declared.parsing.relative.words.TimeUnit.TheVariants.{Seconds, Months}
 use Rattle.gix_date.proofs.RelativeReading.{pairs_are_read}
@@ -33,17 +33,6 @@ left-next tz pair left more all here next start e step h =
       λ g. (from j).0 (next, step, g),
       λ g. let r = (from j).1 g in subst (λ (k : ℤ). Chain tz more k j) (pair-once tz pair here r.0 next r.1 step) r.2,
     )
-
-pub left-none : (tz : TimeZone) (pair : ℤ × TimeUnit) (left more all : List (ℤ × TimeUnit)) (here start : ℤ) → left ≡ pair ∷ more → ((k : ℤ) → ¬ (PairStep tz pair here k)) → Left tz left here all start → (j : ℤ) → ¬ (Chain tz all start j)
-left-none tz pair left more all here start e none h j g =
-    let from : Left tz (pair ∷ more) here all start = subst (λ ps. Left tz ps here all start) e h in
-    let r = (from j).1 g in none r.0 r.1
-
-pub left-end : (tz : TimeZone) (left all : List (ℤ × TimeUnit)) (here start : ℤ) → left ≡ [] → Left tz left here all start → Chain tz all start here
-left-end tz left all here start e h = (h here).0 (subst (λ ps. Chain tz ps here here) (sym e) refl)
-
-pub left-start : (tz : TimeZone) (all : List (ℤ × TimeUnit)) (start : ℤ) → Left tz all start all start
-left-start tz all start j = (λ h. h, λ h. h)
 
 -- what is read leads to what is asked for
 pub reaches-is : (tz : TimeZone) (words : List (List ℕ)) (i start j : ℤ) → Settles tz i start → Chain tz (pairs_read words) start j → Reaches (Less (pairs words)) tz i j

@@ -6,9 +6,10 @@ use Rattle.std.proofs.lemmas.List.{length-append}
 use Rattle.std.proofs.lemmas.List.Prefix.{end_from_reads}
 use Rattle.std.specs.Option.{option_or}
 use Rattle.std.specs.Prelude.{◌==◌, ◌&&◌, nat_lt, slice_index, option_map, unwrap_or}
-use Rattle.gix_date.specs.Characters.{space, letter_z}
-use Rattle.gix_date.specs.ClockCut.{Cut, last_place, is_sign, has_offset_at, trimmed_behind, last_space, last_sign, cut_at_z, cut_at_space, cut_at_space_place, parts_at, cut_at_sign, clock_cut, EndsInZ, CutsAtSpace, CutsAtSign, IsCut, at_z, at_space, at_sign, whole}
-use Rattle.gix_date.specs.Fields.{◌>>=◌}
+use Rattle.gix_date.specs.Text.Characters.{space, letter_z}
+use Rattle.gix_date.specs.Git.ClockCut.{Cut, last_place, is_sign, has_offset_at, trimmed_after, last_space, last_sign, cut_at_z, cut_at_space, cut_at_space_place, cut_at_sign, clock_cut}
+use Rattle.gix_date.specs.Private.Cuts.{EndsInZ, CutsAtSpace, CutsAtSign, IsCut, at_z, at_space, at_sign, whole}
+use Rattle.gix_date.specs.Fields.Front.{◌>>=◌}
 use Rattle.gix_date.proofs.LastPlaces.{is_last, last_is}
 
 pub space_none : (u : List ℕ) → None ≡ last_space u → cut_at_space u ≡ None
@@ -19,32 +20,32 @@ pub space_low : (u : List ℕ) (k : ℕ) → Some k ≡ last_space u → k ≤ 5
 unfolding cut_at_space
 space_low u k e low =
     let test : nat_lt 5 k ≡ false = grind (arith, nat_tests, low) in
-    ap (λ r. r >>= cut_at_space_place u) (sym e) ∙ ap (λ b. cond (b && is_sign (slice_index (trimmed_behind u k) 0)) (Some (take k u, trimmed_behind u k)) None) test
+    ap (λ r. r >>= cut_at_space_place u) (sym e) ∙ ap (λ b. cond (b && is_sign (slice_index (trimmed_after u k) 0)) (Some (take k u, trimmed_after u k)) None) test
 
 pick_none : (a b : Bool) (x : List ℕ × List ℕ) → b ≡ false → cond (a && b) (Some x) None ≡ None
 pick_none true b x h = ap (λ c. cond c (Some x) None) h
 pick_none false b x h = refl
 
-pub space_unsigned : (u o : List ℕ) (k : ℕ) → Some k ≡ last_space u → o ≡ trimmed_behind u k → is_sign (slice_index o 0) ≡ false → cut_at_space u ≡ None
+pub space_unsigned : (u o : List ℕ) (k : ℕ) → Some k ≡ last_space u → o ≡ trimmed_after u k → is_sign (slice_index o 0) ≡ false → cut_at_space u ≡ None
 unfolding cut_at_space
 space_unsigned u o k e f h = ap (λ r. r >>= cut_at_space_place u) (sym e) ∙ pick_none (nat_lt 5 k) _ _ (ap (λ x. is_sign (slice_index x 0)) (sym f) ∙ h)
 
 pick_both : (a b : Bool) (x y : List ℕ × List ℕ) → a ≡ true → b ≡ true → x ≡ y → cond (a && b) (Some x) None ≡ Some y
 pick_both a b x y g h e = ap (λ c. cond (c && b) (Some x) None) g ∙ ap (λ c. cond c (Some x) None) h ∙ ap Some e
 
-pub space_found : (u o t : List ℕ) (k : ℕ) → Some k ≡ last_space u → o ≡ trimmed_behind u k → t ≡ take k u → 5 < k → is_sign (slice_index o 0) ≡ true → cut_at_space u ≡ Some (t, o)
+pub space_found : (u o t : List ℕ) (k : ℕ) → Some k ≡ last_space u → o ≡ trimmed_after u k → t ≡ take k u → 5 < k → is_sign (slice_index o 0) ≡ true → cut_at_space u ≡ Some (t, o)
 unfolding cut_at_space
 space_found u o t k e f g high h =
     ap (λ r. r >>= cut_at_space_place u) (sym e)
-    ∙ pick_both (nat_lt 5 k) (is_sign (slice_index (trimmed_behind u k) 0)) (take k u, trimmed_behind u k) (t, o) (grind (arith, nat_tests, high)) (ap (λ x. is_sign (slice_index x 0)) (sym f) ∙ h) (ap (λ x. (x, trimmed_behind u k)) (sym g) ∙ ap (λ x. (t, x)) (sym f))
+    ∙ pick_both (nat_lt 5 k) (is_sign (slice_index (trimmed_after u k) 0)) (take k u, trimmed_after u k) (t, o) (grind (arith, nat_tests, high)) (ap (λ x. is_sign (slice_index x 0)) (sym f) ∙ h) (ap (λ x. (x, trimmed_after u k)) (sym g) ∙ ap (λ x. (t, x)) (sym f))
 
 pub sign_none : (u : List ℕ) → None ≡ last_sign u → cut_at_sign u ≡ None
 unfolding cut_at_sign
-sign_none u e = ap (λ r. option_map (parts_at u) r) (sym e)
+sign_none u e = ap (λ r. option_map (λ place. (take place u, drop place u)) r) (sym e)
 
 pub sign_found : (u t o : List ℕ) (k : ℕ) → Some k ≡ last_sign u → t ≡ take k u → o ≡ drop k u → cut_at_sign u ≡ Some (t, o)
 unfolding cut_at_sign
-sign_found u t o k e f g = ap (λ r. option_map (parts_at u) r) (sym e) ∙ ap (λ x. Some (x, drop k u)) (sym f) ∙ ap (λ x. Some (t, x)) (sym g)
+sign_found u t o k e f g = ap (λ r. option_map (λ place. (take place u, drop place u)) r) (sym e) ∙ ap (λ x. Some (x, drop k u)) (sym f) ∙ ap (λ x. Some (t, x)) (sym g)
 
 pub z_found : (u t : List ℕ) (r : Bool) → r ≡ true → r ≡ (slice_index u (length u - 1) == letter_z) → t ≡ take (length u - 1) u → cut_at_z u ≡ Some (t, letter_z ∷ [])
 unfolding cut_at_z
@@ -84,9 +85,9 @@ no_space u h s =
     let found : last_place (λ i. slice_index u i == space) (length u) ≡ Some s.0 = last_is (λ i. slice_index u i == space) (length u) s.0 s.1.0 in
     let high : nat_lt 5 s.0 ≡ true = grind (arith, nat_tests, s.1.1) in
     let some : cut_at_space_place u s.0 ≡ None = ap (λ r. r >>= cut_at_space_place u) (sym found) ∙ h in
-    let both : cond (nat_lt 5 s.0 && is_sign (slice_index (trimmed_behind u s.0) 0)) (Some (take s.0 u, trimmed_behind u s.0)) None ≡ Some (take s.0 u, trimmed_behind u s.0) = ap (λ b. cond (b && is_sign (slice_index (trimmed_behind u s.0) 0)) (Some (take s.0 u, trimmed_behind u s.0)) None) high ∙ ap (λ b. cond b (Some (take s.0 u, trimmed_behind u s.0)) None) s.1.2 in
-    let bad : Some (take s.0 u, trimmed_behind u s.0) ≡ None = sym both ∙ some in
-    no_cut_is_none (take s.0 u, trimmed_behind u s.0) bad
+    let both : cond (nat_lt 5 s.0 && is_sign (slice_index (trimmed_after u s.0) 0)) (Some (take s.0 u, trimmed_after u s.0)) None ≡ Some (take s.0 u, trimmed_after u s.0) = ap (λ b. cond (b && is_sign (slice_index (trimmed_after u s.0) 0)) (Some (take s.0 u, trimmed_after u s.0)) None) high ∙ ap (λ b. cond b (Some (take s.0 u, trimmed_after u s.0)) None) s.1.2 in
+    let bad : Some (take s.0 u, trimmed_after u s.0) ≡ None = sym both ∙ some in
+    no_cut_is_none (take s.0 u, trimmed_after u s.0) bad
 
 no_sign : (u : List ℕ) → last_sign u ≡ None → ¬ ((j : ℕ) × CutsAtSign u j)
 unfolding last_sign
@@ -95,18 +96,18 @@ no_sign u h s = let bad : Some s.0 ≡ None = sym (last_is (has_offset_at u) (le
 IsCutPair : List ℕ → List ℕ × List ℕ → Type 0
 IsCutPair u y = IsCut u y.0 y.1
 
-by_sign : (u : List ℕ) (r : Option ℕ) → last_sign u ≡ r → ¬ (EndsInZ u) → ¬ ((j : ℕ) × CutsAtSpace u j) → IsCutPair u (unwrap_or (option_map (parts_at u) r) (u, []))
+by_sign : (u : List ℕ) (r : Option ℕ) → last_sign u ≡ r → ¬ (EndsInZ u) → ¬ ((j : ℕ) × CutsAtSpace u j) → IsCutPair u (unwrap_or (option_map (λ place. (take place u, drop place u)) r) (u, []))
 unfolding last_sign IsCutPair
 by_sign u None e z s = whole z s (no_sign u e)
 by_sign u (Some k) e z s = at_sign k z s (is_last (has_offset_at u) (length u) k e)
 
-space_means : (u : List ℕ) (k : ℕ) (a b : Bool) → nat_lt 5 k ≡ a → is_sign (slice_index (trimmed_behind u k) 0) ≡ b → last_space u ≡ Some k → (y : List ℕ × List ℕ) → cond (a && b) (Some (take k u, trimmed_behind u k)) None ≡ Some y → CutsAtSpace u k × (y ≡ (take k u, trimmed_behind u k))
+space_means : (u : List ℕ) (k : ℕ) (a b : Bool) → nat_lt 5 k ≡ a → is_sign (slice_index (trimmed_after u k) 0) ≡ b → last_space u ≡ Some k → (y : List ℕ × List ℕ) → cond (a && b) (Some (take k u, trimmed_after u k)) None ≡ Some y → CutsAtSpace u k × (y ≡ (take k u, trimmed_after u k))
 unfolding last_space
 space_means u k true true e f at y h = ((is_last (λ i. slice_index u i == space) (length u) k at, grind (arith, nat_tests, e), f), cc)
 space_means u k true false e f at y h = cc
 space_means u k false b e f at y h = cc
 
-space_at : (u : List ℕ) (r : Option ℕ) → last_space u ≡ r → (y : List ℕ × List ℕ) → (r >>= cut_at_space_place u) ≡ Some y → (k : ℕ) × CutsAtSpace u k × (y ≡ (take k u, trimmed_behind u k))
+space_at : (u : List ℕ) (r : Option ℕ) → last_space u ≡ r → (y : List ℕ × List ℕ) → (r >>= cut_at_space_place u) ≡ Some y → (k : ℕ) × CutsAtSpace u k × (y ≡ (take k u, trimmed_after u k))
 space_at u None e y h = cc
 space_at u (Some k) e y h = let m = space_means u k _ _ refl refl e y h in (k, m.0, m.1)
 

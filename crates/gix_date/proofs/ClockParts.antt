@@ -12,8 +12,8 @@ use Rattle.std.specs.Prelude.{not, nat_lt, ◌&&◌}
 use Rattle.std.specs.Result.{result_ok}
 use Rattle.std.specs.Str.{all_ascii_digits}
 use Rattle.std.specs.Str.Parse.{ParsesUnsigned, digits_value}
-use Rattle.gix_date.specs.Characters.{is_colon}
-use Rattle.gix_date.specs.GitClock.{at_most, digits_at_most, clock_of, clock_of_parts, clock_with_colons}
+use Rattle.gix_date.specs.Text.Characters.{is_colon}
+use Rattle.gix_date.specs.Git.Clock.{at_most, digits_at_most, clock_of_fields, clock_of_parts, clock_with_colons}
 use Rattle.gix_date.proofs.Ints.{own}
 
 all_digits : (w : List ℕ) → list_all is_ascii_digit w ≡ all_ascii_digits w
@@ -76,15 +76,15 @@ unpassed false h = refl
 pub one_part : (p : ℕ → Bool) (t : List ℕ) → position_or_len p t ≡ length t → slice_split p t ≡ t ∷ []
 one_part p t e = slice_split_none p t (All-from_get_or (λ x. p x ≡ false) t 0 (λ i l. unpassed (p (get_or t i 0)) (prefix_len_passes (λ x. not (p x)) t i 0 (omega arith))))
 
--- the first part, and the parts behind it
+-- the first part, and the parts after it
 pub more_parts : (p : ℕ → Bool) (t front rest : List ℕ) → position_or_len p t < length t → front ≡ before_first p t → rest ≡ after_first p t → slice_split p t ≡ front ∷ slice_split p rest
 more_parts p t front rest l e f = slice_split_first p t 0 l ∙ ap (λ x. x ∷ slice_split p (after_first p t)) (sym e) ∙ ap (λ x. front ∷ slice_split p x) (sym f)
 
-pub by_one : (t : List ℕ) → position_or_len is_colon t ≡ length t → clock_of (digits_at_most 23 t) (Some 0) (Some 0) ≡ clock_with_colons t
+pub by_one : (t : List ℕ) → position_or_len is_colon t ≡ length t → clock_of_fields (digits_at_most 23 t) (Some 0) (Some 0) ≡ clock_with_colons t
 unfolding clock_with_colons
 by_one t e = ap clock_of_parts (sym (one_part is_colon t e))
 
-pub by_two : (t h m : List ℕ) → slice_split is_colon t ≡ h ∷ slice_split is_colon m → position_or_len is_colon m ≡ length m → clock_of (digits_at_most 23 h) (digits_at_most 59 m) (Some 0) ≡ clock_with_colons t
+pub by_two : (t h m : List ℕ) → slice_split is_colon t ≡ h ∷ slice_split is_colon m → position_or_len is_colon m ≡ length m → clock_of_fields (digits_at_most 23 h) (digits_at_most 59 m) (Some 0) ≡ clock_with_colons t
 unfolding clock_with_colons
 by_two t h m e f = ap (λ ps. clock_of_parts (h ∷ ps)) (sym (one_part is_colon m f)) ∙ ap clock_of_parts (sym e)
 
@@ -96,11 +96,11 @@ first_by p t false e =
     let all : position_or_len p t ≡ length t = omega (arith, far, prefix_len-le-length (λ x. not (p x)) t) in
     ([], one_part p t all ∙ ap (λ x. x ∷ []) (sym (before_none p t all)))
 
-pub by_three : (t h m r s rest : List ℕ) → slice_split is_colon t ≡ h ∷ slice_split is_colon r → slice_split is_colon r ≡ m ∷ slice_split is_colon rest → s ≡ before_first is_colon rest → clock_of (digits_at_most 23 h) (digits_at_most 59 m) (digits_at_most 59 s) ≡ clock_with_colons t
+pub by_three : (t h m r s rest : List ℕ) → slice_split is_colon t ≡ h ∷ slice_split is_colon r → slice_split is_colon r ≡ m ∷ slice_split is_colon rest → s ≡ before_first is_colon rest → clock_of_fields (digits_at_most 23 h) (digits_at_most 59 m) (digits_at_most 59 s) ≡ clock_with_colons t
 unfolding clock_with_colons
 by_three t h m r s rest e f g =
     let first = first_by is_colon rest _ refl in
-    ap (λ x. clock_of (digits_at_most 23 h) (digits_at_most 59 m) (digits_at_most 59 x)) g
+    ap (λ x. clock_of_fields (digits_at_most 23 h) (digits_at_most 59 m) (digits_at_most 59 x)) g
     ∙ ap (λ ps. clock_of_parts (h ∷ m ∷ ps)) (sym first.1)
     ∙ ap (λ ps. clock_of_parts (h ∷ ps)) (sym f)
     ∙ ap clock_of_parts (sym e)

@@ -4,9 +4,9 @@ use Rattle.std.specs.Fmt.{digits}
 use Rattle.std.specs.Prelude.{codes}
 use Rattle.jiff_core.specs.Calendar.{weekday_number}
 use Rattle.gix_date.proofs.Rows.{minus, time}
-use Rattle.gix_date.specs.LocalClocks.{clock_of, date_of_day, first_ordinary, last_ordinary}
-use Rattle.gix_date.specs.NamedTexts.{rfc2822_text, iso8601_text, iso8601_strict_text, gitoxide_text, default_text}
-use Rattle.gix_date.specs.ReadingBack.{IsRawOffset}
+use Rattle.gix_date.specs.Printing.LocalClocks.{clock_of, date_of_day, first_ordinary, last_ordinary}
+use Rattle.gix_date.specs.Printing.NamedTexts.{rfc2822_text, iso8601_text, iso8601_strict_text, gitoxide_text, default_text}
+use Rattle.gix_date.specs.Printing.ReadingBack.{IsRawOffset}
 
 -- all that a row needs to see computed
 computing : Type 0

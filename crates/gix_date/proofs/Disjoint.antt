@@ -1,28 +1,28 @@
 -- Raw texts, bare epochs and Git texts exclude one another, and the first two are not relative.
 use Rattle.std.proofs.Common.{◌≡◌, ◌∙◌, ℕ, ℤ, true, false, cond, List, [], ◌∷◌, ◌++◌, length, refl, ap, ap₂, sym, subst, arith, Some, None, Option, inl, inr, ◌⊎◌, IsUtf8}
+use Rattle.std.proofs.lemmas.Bool.{and_parts as both}
 use Rattle.std.proofs.lemmas.Bool.Decides.{nat_tests}
 use Rattle.std.specs.Char.{is_ascii_digit, is_ascii_alphabetic}
 use Rattle.std.specs.Option.{option_or}
 use Rattle.std.specs.Prelude.{◌==◌, nat_lt}
 use Rattle.std.specs.Str.{all_ascii_digits, trim}
 use Rattle.std.specs.Str.Parse.{without_leading_sign, signed_digits_value}
-use Rattle.gix_date.specs.Characters.{plus, minus, dot, space, letter_t}
-use Rattle.gix_date.specs.Epoch.{epoch_time}
-use Rattle.gix_date.specs.FieldTexts.{IsYear, IsDigit}
-use Rattle.gix_date.specs.Fields.{behind, ◌>>=◌}
-use Rattle.gix_date.specs.Git.{read_marked_date, read_compact_date, dotted_time, compact_time, flexible_time, git_form, git_time, time_behind}
-use Rattle.gix_date.specs.FamilyLaws.{AreDisjointBy}
-use Rattle.gix_date.specs.Numbers.{fits_i64, int_value, read_two_digits, read_year}
-use Rattle.gix_date.specs.Offsets.{offset_fields, offset_of}
-use Rattle.gix_date.specs.Raw.{OffsetRule, raw_time_by, raw_offset_by}
-use Rattle.gix_date.specs.SpaceWords.{space_words, first_words}
+use Rattle.gix_date.specs.Text.Characters.{plus, minus, dot, space, letter_t}
+use Rattle.gix_date.specs.Families.Epoch.{epoch_time}
+use Rattle.gix_date.specs.Fields.FieldTexts.{IsYear, IsDigit}
+use Rattle.gix_date.specs.Fields.Front.{skip_char, ◌>>=◌}
+use Rattle.gix_date.specs.Git.Forms.{read_marked_date, read_compact_date, dotted_time, compact_time, flexible_time, git_form, git_time, time_with_rest}
+use Rattle.gix_date.specs.Families.Laws.{AreDisjointBy}
+use Rattle.gix_date.specs.Text.Numbers.{fits_i64, int_value, read_two_digits, read_year}
+use Rattle.gix_date.specs.Fields.Offsets.{offset_fields, offset_of}
+use Rattle.gix_date.specs.Families.Raw.{OffsetRule, raw_time_by, raw_offset_by}
+use Rattle.gix_date.specs.Text.SpaceWords.{space_words, first_words}
 use Rattle.gix_date.specs.declared.parsing.civil.DateFields.{DateFields}
 use Rattle.gix_date.specs.declared.parsing.offset.OffsetFields.{OffsetFields}
 use Rattle.gix_date.specs.declared.time.Time.{Time}
 use Rattle.gix_date.proofs.Apart.{mixed}
-use Rattle.gix_date.proofs.FieldsTaken.{went, behind-taken, year-taken, two-taken}
+use Rattle.gix_date.proofs.FieldsTaken.{went, after-taken, year-taken, two-taken}
 use Rattle.gix_date.proofs.FirstWords.{AreVisible, is_visible, first-begins, trimmed-words}
-use Rattle.gix_date.proofs.Instants.{both}
 use Rattle.gix_date.proofs.Ints.{each_of}
 use Rattle.gix_date.proofs.PlainHeaders.{int-taken, int-number, one-word, same_some}
 use Rattle.gix_date.proofs.QuietWords.{IsQuiet, no-relative}
@@ -41,7 +41,8 @@ pub record GitFront (text : List ℕ) : Type 0 where
 pub digit_visible : (c : ℕ) → is_ascii_digit c ≡ true → is_visible c ≡ true
 digit_visible c h = grind (arith, nat_tests, h)
 
-pub year-front : (year : List ℕ) (n : ℕ) (mark : ℕ) (rest : List ℕ) → IsYear year n → is_visible mark ≡ true → is_ascii_digit mark ≡ false → GitFront (year ++ (mark ∷ rest))
+pub year-front : (year : List ℕ) (n : ℕ) (mark : ℕ) (rest : List ℕ) → IsYear year n → is_visible mark ≡ true
+    → is_ascii_digit mark ≡ false → GitFront (year ++ (mark ∷ rest))
 year-front [] n mark rest h v d = absurd h
 year-front (a ∷ []) n mark rest h v d = absurd h
 year-front (a ∷ b ∷ []) n mark rest h v d = absurd h
@@ -58,7 +59,9 @@ year-front (a ∷ b ∷ c ∷ e ∷ []) n mark rest h v d =
     }
 year-front (a ∷ b ∷ c ∷ e ∷ f ∷ t) n mark rest h v d = absurd h
 
-pub compact-year : (year : List ℕ) (n : ℕ) (m0 m1 d0 d1 mark : ℕ) (rest : List ℕ) → IsYear year n → IsDigit m0 → IsDigit m1 → IsDigit d0 → IsDigit d1 → is_visible mark ≡ true → is_ascii_digit mark ≡ false → GitFront (year ++ (m0 ∷ m1 ∷ d0 ∷ d1 ∷ mark ∷ rest))
+pub compact-year : (year : List ℕ) (n : ℕ) (m0 m1 d0 d1 mark : ℕ) (rest : List ℕ) → IsYear year n → IsDigit m0
+    → IsDigit m1 → IsDigit d0 → IsDigit d1 → is_visible mark ≡ true → is_ascii_digit mark ≡ false
+    → GitFront (year ++ (m0 ∷ m1 ∷ d0 ∷ d1 ∷ mark ∷ rest))
 compact-year [] n m0 m1 d0 d1 mark rest h p q r s v d = absurd h
 compact-year (a ∷ []) n m0 m1 d0 d1 mark rest h p q r s v d = absurd h
 compact-year (a ∷ b ∷ []) n m0 m1 d0 d1 mark rest h p q r s v d = absurd h
@@ -78,16 +81,19 @@ compact-year (a ∷ b ∷ c ∷ e ∷ f ∷ t) n m0 m1 d0 d1 mark rest h p q r s
 abbrev date_at : ℕ → ℕ → ℕ → List ℕ → DateFields × List ℕ
 date_at year month day rest = (record { year = year; month = month; day = day }, rest)
 
-marked-front : (mark : ℕ) (x : List ℕ) (date : DateFields × List ℕ) → is_visible mark ≡ true → is_ascii_digit mark ≡ false → read_marked_date mark x ≡ Some date → GitFront x
+marked-front : (mark : ℕ) (x : List ℕ) (date : DateFields × List ℕ) → is_visible mark ≡ true
+    → is_ascii_digit mark ≡ false → read_marked_date mark x ≡ Some date → GitFront x
 unfolding read_marked_date
 marked-front mark x date v d e =
-    let year = went (read_year x) (λ year. behind mark year.1 >>= λ r. read_two_digits r >>= λ month. behind mark month.1 >>= λ s. read_two_digits s >>= λ day. Some (date_at year.0 month.0 day.0 day.1)) date e in
-    let next = went (behind mark year.0.1) (λ r. read_two_digits r >>= λ month. behind mark month.1 >>= λ s. read_two_digits s >>= λ day. Some (date_at year.0.0 month.0 day.0 day.1)) date year.2 in
+    let year = went (read_year x) (λ year. skip_char mark year.1 >>= λ r. read_two_digits r >>= λ month. skip_char mark month.1 >>= λ s. read_two_digits s >>= λ day. Some (date_at year.0 month.0 day.0 day.1)) date e in
+    let next = went (skip_char mark year.0.1) (λ r. read_two_digits r >>= λ month. skip_char mark month.1 >>= λ s. read_two_digits s >>= λ day. Some (date_at year.0.0 month.0 day.0 day.1)) date year.2 in
     let y = year-taken x year.0.0 year.0.1 year.1 in
-    let split : x ≡ y.text ++ (mark ∷ next.0) = y.whole ∙ ap (λ (t : List ℕ). y.text ++ t) (behind-taken mark year.0.1 next.0 next.1) in
+    let split : x ≡ y.text ++ (mark ∷ next.0) =
+    y.whole ∙ ap (λ (t : List ℕ). y.text ++ t) (after-taken mark year.0.1 next.0 next.1) in
     subst GitFront (sym split) (year-front y.text year.0.0 mark next.0 y.is v d)
 
-compact-front : (x : List ℕ) (date : DateFields × List ℕ) (rest : List ℕ) → read_compact_date x ≡ Some date → behind letter_t date.1 ≡ Some rest → GitFront x
+compact-front : (x : List ℕ) (date : DateFields × List ℕ) (rest : List ℕ) → read_compact_date x ≡ Some date
+    → skip_char letter_t date.1 ≡ Some rest → GitFront x
 unfolding read_compact_date
 compact-front x date rest e t =
     let year = went (read_year x) (λ year. read_two_digits year.1 >>= λ month. read_two_digits month.1 >>= λ day. Some (date_at year.0 month.0 day.0 day.1)) date e in
@@ -96,36 +102,38 @@ compact-front x date rest e t =
     let y = year-taken x year.0.0 year.0.1 year.1 in
     let m = two-taken year.0.1 month.0.0 month.0.1 month.1 in
     let d = two-taken month.0.1 day.0.0 day.0.1 day.1 in
-    let same : day.0.1 ≡ date.1 = ap (λ (p : DateFields × List ℕ). p.1) (same_some (date_at year.0.0 month.0.0 day.0.0 day.0.1) date day.2) in
-    let behind_day : day.0.1 ≡ letter_t ∷ rest = same ∙ behind-taken letter_t date.1 rest t in
+    let same : day.0.1 ≡ date.1 =
+    ap (λ (p : DateFields × List ℕ). p.1) (same_some (date_at year.0.0 month.0.0 day.0.0 day.0.1) date day.2) in
+    let after_day : day.0.1 ≡ letter_t ∷ rest = same ∙ after-taken letter_t date.1 rest t in
     let split : x ≡ y.text ++ (m.tens ∷ m.ones ∷ d.tens ∷ d.ones ∷ letter_t ∷ rest) =
-    y.whole ∙ ap (λ (t : List ℕ). y.text ++ t) (m.whole ∙ ap (λ (t : List ℕ). m.tens ∷ m.ones ∷ t) (d.whole ∙ ap (λ (t : List ℕ). d.tens ∷ d.ones ∷ t) behind_day)) in
+    y.whole ∙ ap (λ (t : List ℕ). y.text ++ t) (m.whole ∙ ap (λ (t : List ℕ). m.tens ∷ m.ones ∷ t) (d.whole ∙ ap (λ (t : List ℕ). d.tens ∷ d.ones ∷ t) after_day)) in
     subst GitFront (sym split) (compact-year y.text year.0.0 m.tens m.ones d.tens d.ones letter_t rest y.is m.is_tens m.is_ones d.is_tens d.is_ones refl refl)
 
 dotted-front : (x : List ℕ) (t : Time) → dotted_time x ≡ Some t → GitFront x
 unfolding dotted_time
 dotted-front x t e =
-    let date = went (read_marked_date dot x) (λ date. behind space date.1 >>= λ r. time_behind date.0 r) t e in
+    let date = went (read_marked_date dot x) (λ date. skip_char space date.1 >>= λ r. time_with_rest date.0 r) t e in
     marked-front dot x date.0 refl refl date.1
 
 flexible-front : (x : List ℕ) (t : Time) → flexible_time x ≡ Some t → GitFront x
 unfolding flexible_time
 flexible-front x t e =
-    let date = went (read_marked_date minus x) (λ date. option_or (behind letter_t date.1) (behind space date.1) >>= λ r. time_behind date.0 r) t e in
+    let date = went (read_marked_date minus x) (λ date. option_or (skip_char letter_t date.1) (skip_char space date.1) >>= λ r. time_with_rest date.0 r) t e in
     marked-front minus x date.0 refl refl date.1
 
 compact-time-front : (x : List ℕ) (t : Time) → compact_time x ≡ Some t → GitFront x
 unfolding compact_time
 compact-time-front x t e =
-    let date = went (read_compact_date x) (λ date. behind letter_t date.1 >>= λ r. time_behind date.0 r) t e in
-    let mark = went (behind letter_t date.0.1) (λ r. time_behind date.0.0 r) t date.2 in
+    let date = went (read_compact_date x) (λ date. skip_char letter_t date.1 >>= λ r. time_with_rest date.0 r) t e in
+    let mark = went (skip_char letter_t date.0.1) (λ r. time_with_rest date.0.0 r) t date.2 in
     compact-front x date.0 mark.0 date.1 mark.1
 
 first-or : {A : Type 0} (a b : Option A) (t : A) → option_or a b ≡ Some t → (a ≡ Some t) ⊎ (b ≡ Some t)
 first-or (Some x) b t e = inl e
 first-or None b t e = inr e
 
-form-by : (x : List ℕ) (t : Time) → (dotted_time x ≡ Some t) ⊎ (option_or (compact_time x) (flexible_time x) ≡ Some t) → GitFront x
+form-by : (x : List ℕ) (t : Time) → (dotted_time x ≡ Some t) ⊎ (option_or (compact_time x) (flexible_time x) ≡ Some t)
+    → GitFront x
 form-by x t (inl e) = dotted-front x t e
 form-by x t (inr e) = elim (first-or (compact_time x) (flexible_time x) t e) [ inl c ↦ compact-time-front x t c | inr f ↦ flexible-front x t f ]
 
@@ -154,13 +162,14 @@ no-plus : (c : ℕ) → is_ascii_digit c ≡ true → (c == plus) ≡ false
 no-plus c h = grind (arith, nat_tests, h)
 
 -- an int text that begins with a digit is digits
-pub int-digits : (c : ℕ) (t : List ℕ) (n : ℤ) → is_ascii_digit c ≡ true → int_value (c ∷ t) ≡ Some n → all_ascii_digits (c ∷ t) ≡ true
+pub int-digits : (c : ℕ) (t : List ℕ) (n : ℤ) → is_ascii_digit c ≡ true → int_value (c ∷ t) ≡ Some n
+    → all_ascii_digits (c ∷ t) ≡ true
 int-digits c t n d e =
     let parts = each_of (nat_lt 0 (length (without_leading_sign (c ∷ t)))) (all_ascii_digits (without_leading_sign (c ∷ t))) (fits_i64 (signed_digits_value 10 (c ∷ t))) (int-taken (c ∷ t) n e).0 in
     let bare : without_leading_sign (c ∷ t) ≡ c ∷ t = rw (no-minus c d, no-plus c d) refl in
     ap all_ascii_digits (sym bare) ∙ parts.1
 
-pub same-first : (a b : List ℕ) (xs ys : List (List ℕ)) → a ∷ xs ≡ b ∷ ys → a ≡ b
+pub same-first : {A : Type 0} (a b : A) (xs ys : List A) → a ∷ xs ≡ b ∷ ys → a ≡ b
 same-first a b xs ys e = cc
 
 pub no-git : (text : List ℕ) → IsUtf8 text → FirstNumber text → (t : Time) → git_time text ≡ Some t → ⊥
@@ -190,7 +199,8 @@ pub record RawWords (text : List ℕ) : Type 0 where
   pub fields : OffsetFields
   pub is_fields : offset_fields zone ≡ Some fields
 
-pub two-words-are : (ws : List (List ℕ)) (a b : List ℕ) (second : Option (List ℕ)) → first_words ws ≡ Some (a, second) → second ≡ Some b → ws ≡ a ∷ b ∷ []
+pub two-words-are : (ws : List (List ℕ)) (a b : List ℕ) (second : Option (List ℕ)) → first_words ws ≡ Some (a, second)
+    → second ≡ Some b → ws ≡ a ∷ b ∷ []
 two-words-are [] a b second e h = absurd cc
 two-words-are (x ∷ []) a b second e h =
     let pair : ◌≡◌ {A = List ℕ × Option (List ℕ)} (x, None) (a, second) = same_some {A = List ℕ × Option (List ℕ)} (x, None) (a, second) e in
@@ -207,7 +217,8 @@ two-words-are (x ∷ y ∷ z ∷ more) a b second e h =
 abbrev time_at : ℤ → ℤ → Time
 time_at seconds offset = record { seconds = seconds; offset = offset }
 
-raw-fields : (rule : OffsetRule) (o : List ℕ) (n : ℤ) → raw_offset_by rule o ≡ Some n → (f : OffsetFields) × (offset_fields o ≡ Some f)
+raw-fields : (rule : OffsetRule) (o : List ℕ) (n : ℤ) → raw_offset_by rule o ≡ Some n
+    → (f : OffsetFields) × (offset_fields o ≡ Some f)
 unfolding raw_offset_by
 raw-fields rule o n e = let f = went (offset_fields o) (λ f. cond (rule f) (Some (offset_of f)) None) n e in (f.0, f.1)
 
@@ -216,7 +227,8 @@ unfolding raw_time_by
 raw-words rule text t e =
     let words = went (first_words (space_words text)) (λ words. words.1 >>= λ second. int_value words.0 >>= λ s. raw_offset_by rule second >>= λ o. Some (time_at s o)) t e in
     let second = went words.0.1 (λ second. int_value words.0.0 >>= λ s. raw_offset_by rule second >>= λ o. Some (time_at s o)) t words.2 in
-    let seconds = went (int_value words.0.0) (λ s. raw_offset_by rule second.0 >>= λ o. Some (time_at s o)) t second.2 in
+    let seconds =
+    went (int_value words.0.0) (λ s. raw_offset_by rule second.0 >>= λ o. Some (time_at s o)) t second.2 in
     let offset = went (raw_offset_by rule second.0) (λ o. Some (time_at seconds.0 o)) t seconds.2 in
     let fields = raw-fields rule second.0 offset.0 offset.1 in
     record {
@@ -237,16 +249,19 @@ pub raw-first : (text : List ℕ) → RawWords text → FirstNumber text
 raw-first text r = record { word = r.front; words = r.zone ∷ []; is = r.is; value = r.value; is_value = r.is_value }
 
 pub int-first : (text : List ℕ) (n : ℤ) → int_value text ≡ Some n → FirstNumber text
-int-first text n e = record { word = text; words = []; is = one-word text (int-number text n e); value = n; is_value = e }
+int-first text n e =
+    record { word = text; words = []; is = one-word text (int-number text n e); value = n; is_value = e }
 
-pub raw-no-epoch : (rule : OffsetRule) (text : List ℕ) (t u : Time) → raw_time_by rule text ≡ Some t → epoch_time text ≡ Some u → ⊥
+pub raw-no-epoch : (rule : OffsetRule) (text : List ℕ) (t u : Time) → raw_time_by rule text ≡ Some t
+    → epoch_time text ≡ Some u → ⊥
 raw-no-epoch rule text t u e h =
     let r = raw-words rule text t e in
     let n = epoch-int text u h in
     let clash : r.front ∷ r.zone ∷ [] ≡ text ∷ [] = sym r.is ∙ one-word text (int-number text n.0 n.1) in
     cc
 
-pub quiet-raw : (rule : OffsetRule) (text : List ℕ) (t : Time) → IsUtf8 text → raw_time_by rule text ≡ Some t → IsQuiet text
+pub quiet-raw : (rule : OffsetRule) (text : List ℕ) (t : Time) → IsUtf8 text → raw_time_by rule text ≡ Some t
+    → IsQuiet text
 quiet-raw rule text t u e =
     let r = raw-words rule text t e in
     quiet-two-words text r.front r.zone u r.is (quiet-int r.front r.value r.is_value) (quiet-offset r.zone r.fields r.is_fields)

@@ -1,17 +1,18 @@
 -- Fields that are written so are read.
-use Rattle.std.proofs.Common.{◌≡◌, ◌∙◌, ℕ, Bool, true, false, List, [], ◌∷◌, ◌++◌, length, drop, refl, ap, sym, subst, Option, Some, None, append_assoc, arith, ℤ, inl, inr}
+use Rattle.std.proofs.Common.{◌≡◌, ◌∙◌, ℕ, Bool, true, false, List, [], ◌∷◌, ◌++◌, length, refl, ap, sym, subst, Option, Some, None, append_assoc, arith, ℤ, inl, inr}
+use Rattle.std.proofs.Math.Seq.{drop-append_seam}
+use Rattle.std.proofs.lemmas.Bool.{and_parts as both}
 use Rattle.std.proofs.lemmas.Bool.Decides.{nat_tests}
 use Rattle.std.specs.Prelude.{◌==◌, ◌&&◌, nat_lt}
 use Rattle.std.specs.Char.{is_ascii_digit, is_ascii_alphabetic}
 use Rattle.std.specs.List.{prefix_len, list_all}
-use Rattle.gix_date.specs.Characters.{plus, minus, comma, colon, space, is_space}
-use Rattle.gix_date.specs.FieldTexts.{IsField, IsYear, AreSpaces, AreThreeLetters, IsDayName, IsMonthName, IsPlainDate, IsClock, IsMailClock, IsDayPrefix}
-use Rattle.gix_date.specs.Fields.{behind}
-use Rattle.gix_date.specs.Numbers.{read_two_digits, read_digit, read_field, read_year}
-use Rattle.gix_date.specs.Offsets.{offset_fields, read_sign}
-use Rattle.gix_date.specs.PatternFields.{behind_day_name, behind_spaces, read_name, read_month, behind_weekday, read_plain_date, read_minutes, read_second, read_clock, read_mail_clock}
-use Rattle.gix_date.specs.PatternZones.{compact_zone, strict_zone, mail_zone, mail_offset, named_zone}
-use Rattle.gix_date.proofs.Instants.{both}
+use Rattle.gix_date.specs.Text.Characters.{plus, minus, comma, colon, space, is_space}
+use Rattle.gix_date.specs.Fields.FieldTexts.{IsField, IsYear, AreSpaces, AreThreeLetters, IsDayName, IsMonthName, IsPlainDate, IsClock, IsMailClock, IsDayPrefix}
+use Rattle.gix_date.specs.Fields.Front.{skip_char}
+use Rattle.gix_date.specs.Text.Numbers.{read_two_digits, read_digit, read_field, read_year}
+use Rattle.gix_date.specs.Fields.Offsets.{offset_fields, read_sign}
+use Rattle.gix_date.specs.Fields.DateFields.{skip_day_name, skip_spaces, read_name, read_month, skip_weekday, read_plain_date, read_minutes, read_second, read_clock, read_mail_clock}
+use Rattle.gix_date.specs.Fields.DateOffsets.{compact_offset, strict_offset, mail_zone, mail_offset, named_zone}
 use Rattle.gix_date.specs.declared.parsing.civil.ClockFields.{ClockFields}
 use Rattle.gix_date.specs.declared.parsing.civil.DateFields.{DateFields}
 
@@ -103,17 +104,13 @@ spaces_len (c ∷ gap) rest h s =
     let parts = both (is_space c) (list_all is_space gap) h in
     rw parts.0 (omega (arith, spaces_len gap rest parts.1 s))
 
-drop_front : (front rest : List ℕ) → drop (length front) (front ++ rest) ≡ rest
-drop_front [] rest = refl
-drop_front (c ∷ front) rest = drop_front front rest
-
-pub spaces-read : (gap rest : List ℕ) → AreSpaces gap → BeginsNot is_space rest → behind_spaces (gap ++ rest) ≡ Some rest
-unfolding behind_spaces
+pub spaces-read : (gap rest : List ℕ) → AreSpaces gap → BeginsNot is_space rest → skip_spaces (gap ++ rest) ≡ Some rest
+unfolding skip_spaces
 spaces-read [] rest h s = absurd h
 spaces-read (c ∷ gap) rest h s =
     let len : prefix_len is_space ((c ∷ gap) ++ rest) ≡ length (c ∷ gap) = spaces_len (c ∷ gap) rest (rw h.0 h.1) s in
     let some : nat_lt 0 (length (c ∷ gap)) ≡ true = grind (arith, nat_tests) in
-    rw (len, some) (ap Some (drop_front gap rest))
+    rw (len, some) (ap Some (drop-append_seam gap rest))
 
 pub name-read : (t rest : List ℕ) → AreThreeLetters t → read_name (t ++ rest) ≡ Some (t, rest)
 unfolding read_name
@@ -127,25 +124,25 @@ pub month-read : (t rest : List ℕ) (month : ℕ) → IsMonthName t month → r
 unfolding read_month
 month-read t rest month h = rw (name-read t rest h.0, h.1) refl
 
-pub weekday-read : (t rest : List ℕ) → IsDayName t → behind_weekday (t ++ rest) ≡ Some rest
-unfolding behind_weekday
+pub weekday-read : (t rest : List ℕ) → IsDayName t → skip_weekday (t ++ rest) ≡ Some rest
+unfolding skip_weekday
 weekday-read t rest h = rw (name-read t rest h.0, h.1) refl
 
 pub date-read : (t rest : List ℕ) (date : DateFields) → IsPlainDate t date → BeginsNot is_ascii_digit rest → read_plain_date (t ++ rest) ≡ Some (date, rest)
-unfolding read_plain_date behind
+unfolding read_plain_date skip_char
 date-read t rest date h s =
     let split : t ++ rest ≡ h.year ++ (minus ∷ (h.month ++ (minus ∷ (h.day ++ rest)))) = rw h.whole (simp append_assoc) in
     ap read_plain_date split ∙ rw (year-read h.year (minus ∷ (h.month ++ (minus ∷ (h.day ++ rest)))) date.year h.is_year, field-read h.month (minus ∷ (h.day ++ rest)) date.month h.is_month refl, field-read h.day rest date.day h.is_day s) refl
 
-pub prefix-read : (t rest : List ℕ) → IsDayPrefix t → BeginsNot is_space rest → behind_day_name (t ++ rest) ≡ Some rest
-unfolding behind_day_name behind
+pub prefix-read : (t rest : List ℕ) → IsDayPrefix t → BeginsNot is_space rest → skip_day_name (t ++ rest) ≡ Some rest
+unfolding skip_day_name skip_char
 prefix-read t rest h s =
     let split : t ++ rest ≡ h.name ++ (comma ∷ (h.gap ++ rest)) = rw h.whole (simp append_assoc) in
-    ap behind_day_name split ∙ rw (weekday-read h.name (comma ∷ (h.gap ++ rest)) h.is_name, spaces-read h.gap rest h.are_spaces s) refl
+    ap skip_day_name split ∙ rw (weekday-read h.name (comma ∷ (h.gap ++ rest)) h.is_name, spaces-read h.gap rest h.are_spaces s) refl
 
 -- no name of a day stands before a digit
-pub no-prefix : (t : List ℕ) → Begins is_ascii_digit t → behind_day_name t ≡ None
-unfolding behind_day_name behind_weekday read_name
+pub no-prefix : (t : List ℕ) → Begins is_ascii_digit t → skip_day_name t ≡ None
+unfolding skip_day_name skip_weekday read_name
 no-prefix [] h = absurd h
 no-prefix (a ∷ []) h = refl
 no-prefix (a ∷ b ∷ []) h = refl
@@ -158,27 +155,27 @@ with_second : ℕ → ℕ → List ℕ → ℕ → Option (ClockFields × List �
 with_second hour minute rest second = Some (record { hour = hour; minute = minute; second = second }, rest)
 
 pub clock-read : (t rest : List ℕ) (clock : ClockFields) → IsClock t clock → BeginsNot is_ascii_digit rest → read_clock (t ++ rest) ≡ Some (clock, rest)
-unfolding read_clock read_minutes read_second behind with_second
+unfolding read_clock read_minutes read_second skip_char with_second
 clock-read t rest clock h s =
     let split : t ++ rest ≡ h.hour ++ (colon ∷ (h.minute ++ (colon ∷ (h.second ++ rest)))) = rw h.whole (simp append_assoc) in
     ap read_clock split ∙ rw (field-read h.hour (colon ∷ (h.minute ++ (colon ∷ (h.second ++ rest)))) clock.hour h.is_hour refl, field-read h.minute (colon ∷ (h.second ++ rest)) clock.minute h.is_minute refl, field-read h.second rest h.seconds h.is_second s)
     (ap (with_second clock.hour clock.minute rest) (sym h.without_leap))
 
--- what no second stands behind
+-- what no second stands after
 abbrev pub NoColon : List ℕ → Type 0
 NoColon t = BeginsNot (λ c. c == colon) t
 
 no-second : (clock : ClockFields) (t : List ℕ) → NoColon t → read_second clock t ≡ None
-unfolding read_second behind
+unfolding read_second skip_char
 no-second clock [] h = refl
 no-second clock (c ∷ t) h = rw h refl
 
 second-read : {t : List ℕ} {clock : ClockFields} (h : IsClock t clock) (rest : List ℕ) → BeginsNot is_ascii_digit rest → read_second (minutes clock.hour clock.minute) (colon ∷ (h.second ++ rest)) ≡ Some (clock, rest)
-unfolding read_second behind with_second
+unfolding read_second skip_char with_second
 second-read {clock = clock} h rest s = rw (field-read h.second rest h.seconds h.is_second s) (ap (with_second clock.hour clock.minute rest) (sym h.without_leap))
 
 pub mail-clock-read : (t rest : List ℕ) (clock : ClockFields) → IsMailClock t clock → BeginsNot is_ascii_digit rest → NoColon rest → read_mail_clock (t ++ rest) ≡ Some (clock, rest)
-unfolding read_mail_clock read_minutes behind with_second
+unfolding read_mail_clock read_minutes skip_char with_second
 mail-clock-read t rest clock (inl h) s e =
     let split : t ++ rest ≡ h.hour ++ (colon ∷ (h.minute ++ (colon ∷ (h.second ++ rest)))) = rw h.whole (simp append_assoc) in
     let second : read_second (minutes clock.hour clock.minute) (colon ∷ (h.second ++ rest)) ≡ Some (clock, rest) = second-read h rest s in
@@ -192,12 +189,12 @@ is-space : (c : ℕ) → is_space c ≡ true → c ≡ space
 is-space c h = grind (arith, nat_tests, h)
 
 -- no offset begins with a space
-space_no_compact : (t : List ℕ) → compact_zone (space ∷ t) ≡ None
-unfolding compact_zone offset_fields read_sign behind
+space_no_compact : (t : List ℕ) → compact_offset (space ∷ t) ≡ None
+unfolding compact_offset offset_fields read_sign skip_char
 space_no_compact t = refl
 
 space_no_mail : (t : List ℕ) → mail_zone (space ∷ t) ≡ None
-unfolding mail_zone mail_offset named_zone offset_fields read_sign behind
+unfolding mail_zone mail_offset named_zone offset_fields read_sign skip_char
 space_no_mail t = refl
 
 never : (zone : List ℕ → Option ℤ) (c : ℕ) (t : List ℕ) (offset : ℤ) (b : Bool) → ((t : List ℕ) → zone (space ∷ t) ≡ None) → is_space c ≡ b → zone (c ∷ t) ≡ Some offset → b ≡ false
@@ -210,26 +207,26 @@ zone-no-space : (zone : List ℕ → Option ℤ) → ((t : List ℕ) → zone (s
 zone-no-space zone refused [] offset h = tt
 zone-no-space zone refused (c ∷ t) offset h = never zone c t offset (is_space c) refused refl h
 
-pub compact-no-space : (t : List ℕ) (offset : ℤ) → compact_zone t ≡ Some offset → BeginsNot is_space t
-compact-no-space = zone-no-space compact_zone space_no_compact
+pub compact-no-space : (t : List ℕ) (offset : ℤ) → compact_offset t ≡ Some offset → BeginsNot is_space t
+compact-no-space = zone-no-space compact_offset space_no_compact
 
 pub mail-no-space : (t : List ℕ) (offset : ℤ) → mail_zone t ≡ Some offset → BeginsNot is_space t
 mail-no-space = zone-no-space mail_zone space_no_mail
 
 -- nor with a digit
-digit_no_strict : (c : ℕ) (t : List ℕ) → is_ascii_digit c ≡ true → strict_zone (c ∷ t) ≡ None
-unfolding strict_zone read_sign behind
+digit_no_strict : (c : ℕ) (t : List ℕ) → is_ascii_digit c ≡ true → strict_offset (c ∷ t) ≡ None
+unfolding strict_offset read_sign skip_char
 digit_no_strict c t h =
     let no_plus : (c == plus) ≡ false = grind (arith, nat_tests, h) in
     let no_minus : (c == minus) ≡ false = grind (arith, nat_tests, h) in
     rw (no_plus, no_minus) refl
 
-never-digit : (c : ℕ) (t : List ℕ) (offset : ℤ) (b : Bool) → is_ascii_digit c ≡ b → strict_zone (c ∷ t) ≡ Some offset → b ≡ false
+never-digit : (c : ℕ) (t : List ℕ) (offset : ℤ) (b : Bool) → is_ascii_digit c ≡ b → strict_offset (c ∷ t) ≡ Some offset → b ≡ false
 never-digit c t offset false e h = refl
 never-digit c t offset true e h =
     let clash : None ≡ Some offset = sym (digit_no_strict c t e) ∙ h in cc
 
-pub strict-no-digit : (t : List ℕ) (offset : ℤ) → strict_zone t ≡ Some offset → BeginsNot is_ascii_digit t
+pub strict-no-digit : (t : List ℕ) (offset : ℤ) → strict_offset t ≡ Some offset → BeginsNot is_ascii_digit t
 strict-no-digit [] offset h = tt
 strict-no-digit (c ∷ t) offset h = never-digit c t offset (is_ascii_digit c) refl h
 
@@ -245,7 +242,7 @@ mail-clock-begins t rest clock (inr h) =
     let split : t ++ rest ≡ h.hour ++ (colon ∷ (h.minute ++ rest)) = rw h.whole (simp append_assoc) in
     subst (Begins is_ascii_digit) (sym split) (begins-append is_ascii_digit h.hour (colon ∷ (h.minute ++ rest)) (field-begins h.hour clock.hour h.is_hour))
 
--- what may stand behind spaces, and behind a field
+-- what may stand after spaces, and after a field
 pub digit-front : (t rest : List ℕ) → Begins is_ascii_digit t → BeginsNot is_space (t ++ rest)
 digit-front t rest h = begins_not is_ascii_digit is_space (t ++ rest) digit-no-space (begins-append is_ascii_digit t rest h)
 

@@ -1,19 +1,24 @@
 -- Fields that are read are written so.
 use Rattle.std.proofs.Common.{◌≡◌, ◌∙◌, ℕ, ◌<◌, ◌+◌, ◌-◌, ◌*◌, Bool, true, false, cond, List, [], ◌∷◌, ◌++◌, length, drop, take, refl, ap, sym, subst, Option, Some, None, append_assoc, arith, inl, inr, option_map, take-append-drop, one-add}
+use Rattle.std.proofs.lemmas.Bool.{and_parts as both}
 use Rattle.std.proofs.lemmas.Bool.Decides.{nat_tests}
 use Rattle.std.proofs.lemmas.List.Folds.{length-prefix_len}
-use Rattle.std.specs.Prelude.{◌==◌, ◌&&◌, nat_lt, unwrap_or}
+use Rattle.std.specs.Prelude.{◌==◌, ◌&&◌, nat_lt, is_none, unwrap_or}
 use Rattle.std.specs.Char.{is_ascii_digit, is_ascii_alphabetic}
 use Rattle.std.specs.List.{prefix_len, list_all}
 use Rattle.std.specs.Option.{option_or}
-use Rattle.gix_date.specs.Characters.{minus, comma, colon, is_space}
-use Rattle.gix_date.specs.FieldTexts.{IsDigit, IsField, IsYear, AreSpaces, AreThreeLetters, IsDayName, IsMonthName, IsPlainDate, AreMinutes, IsClock, IsMailClock, IsDayPrefix}
-use Rattle.gix_date.specs.Fields.{Read, behind, ◌>>=◌}
-use Rattle.gix_date.specs.Numbers.{read_two_digits, read_digit, read_field, read_year}
-use Rattle.gix_date.specs.PatternFields.{behind_day_name, behind_spaces, read_name, read_month, month_of, is_weekday, behind_weekday, read_plain_date, read_minutes, read_second, read_clock, read_mail_clock, leapless}
-use Rattle.gix_date.proofs.Instants.{both}
+use Rattle.gix_date.specs.Text.Characters.{minus, comma, colon, is_space}
+use Rattle.gix_date.specs.Fields.FieldTexts.{IsDigit, IsField, IsYear, AreSpaces, AreThreeLetters, IsDayName, IsMonthName, IsPlainDate, AreMinutes, IsClock, IsMailClock, IsDayPrefix}
+use Rattle.gix_date.specs.Fields.Front.{ReadFront, skip_char, ◌>>=◌}
+use Rattle.gix_date.specs.Text.Numbers.{read_two_digits, read_digit, read_field, read_year}
+use Rattle.gix_date.specs.Fields.DateFields.{skip_day_name, skip_spaces, read_name, read_month, month_named, is_weekday, skip_weekday, read_plain_date, read_minutes, read_second, read_clock, read_mail_clock, without_leap_second}
 use Rattle.gix_date.specs.declared.parsing.civil.ClockFields.{ClockFields}
 use Rattle.gix_date.specs.declared.parsing.civil.DateFields.{DateFields}
+
+-- an answer that is said to be none
+pub none_is : {A : Type 0} (r : Option A) → is_none r ≡ true → r ≡ None
+none_is None e = refl
+none_is (Some x) e = absurd cc
 
 pub went : {A B : Type 0} (r : Option A) (next : A → Option B) (y : B) → (r >>= next) ≡ Some y → (x : A) × (r ≡ Some x) × (next x ≡ Some y)
 went (Some x) next y e = (x, refl, e)
@@ -36,10 +41,10 @@ pub record TookFront (Is : List ℕ → Type 0) (x rest : List ℕ) : Type 0 whe
 abbrev pub Took : {A : Type 0} → (List ℕ → A → Type 0) → List ℕ → A → List ℕ → Type 0
 Took IsText x value rest = TookFront (λ text. IsText text value) x rest
 
-pub behind-taken : (b : ℕ) (x rest : List ℕ) → behind b x ≡ Some rest → x ≡ b ∷ rest
-unfolding behind
-behind-taken b [] rest e = absurd cc
-behind-taken b (c ∷ t) rest e =
+pub after-taken : (b : ℕ) (x rest : List ℕ) → skip_char b x ≡ Some rest → x ≡ b ∷ rest
+unfolding skip_char
+after-taken b [] rest e = absurd cc
+after-taken b (c ∷ t) rest e =
     let g = guard (c == b) t rest e in
     let first : c ≡ b = grind (arith, nat_tests, g.0) in
     ap (λ k. k ∷ t) first ∙ ap (λ (r : List ℕ). b ∷ r) g.1
@@ -116,8 +121,8 @@ are_spaces x (c ∷ gap) e h =
     let all : list_all is_space (c ∷ gap) ≡ true = ap (list_all is_space) e ∙ spaces_front x in
     both (is_space c) (list_all is_space gap) all
 
-pub spaces-taken : (x rest : List ℕ) → behind_spaces x ≡ Some rest → TookFront AreSpaces x rest
-unfolding behind_spaces
+pub spaces-taken : (x rest : List ℕ) → skip_spaces x ≡ Some rest → TookFront AreSpaces x rest
+unfolding skip_spaces
 spaces-taken x rest e =
     let g = guard (nat_lt 0 (prefix_len is_space x)) (drop (prefix_len is_space x) x) rest e in
     let long : 0 < prefix_len is_space x = grind (arith, nat_tests, g.0) in
@@ -139,8 +144,8 @@ name-taken (a ∷ b ∷ c ∷ t) name rest e =
 pub month-taken : (x : List ℕ) (n : ℕ) (rest : List ℕ) → read_month x ≡ Some (n, rest) → Took IsMonthName x n rest
 unfolding read_month
 month-taken x n rest e =
-    let name = went (read_name x) (λ name. month_of name.0 >>= λ month. Some (at_front month name.1)) (n, rest) e in
-    let month = went (month_of name.0.0) (λ month. Some (at_front month name.0.1)) (n, rest) name.2 in
+    let name = went (read_name x) (λ name. month_named name.0 >>= λ month. Some (at_front month name.1)) (n, rest) e in
+    let month = went (month_named name.0.0) (λ month. Some (at_front month name.0.1)) (n, rest) name.2 in
     let front = name-taken x name.0.0 name.0.1 name.1 in
     took IsMonthName x name.0.0 month.0 n name.0.1 rest (same (at_front month.0 name.0.1) (n, rest) month.2) (front.0, month.1) front.1
 
@@ -150,23 +155,23 @@ pub record TookDay (x rest : List ℕ) : Type 0 where
   pub is_name : IsDayName name
   pub whole : x ≡ name ++ rest
 
-pub weekday-taken : (x rest : List ℕ) → behind_weekday x ≡ Some rest → TookDay x rest
-unfolding behind_weekday
+pub weekday-taken : (x rest : List ℕ) → skip_weekday x ≡ Some rest → TookDay x rest
+unfolding skip_weekday
 weekday-taken x rest e =
     let name = went (read_name x) (λ name. cond (is_weekday name.0) (Some name.1) None) rest e in
     let g = guard (is_weekday name.0.0) name.0.1 rest name.2 in
     let front = name-taken x name.0.0 name.0.1 name.1 in
     record { name = name.0.0; is_name = (front.0, g.0); whole = front.1 ∙ ap (λ (t : List ℕ). name.0.0 ++ t) g.1 }
 
-pub prefix-taken : (x rest : List ℕ) → behind_day_name x ≡ Some rest → TookFront IsDayPrefix x rest
-unfolding behind_day_name
+pub prefix-taken : (x rest : List ℕ) → skip_day_name x ≡ Some rest → TookFront IsDayPrefix x rest
+unfolding skip_day_name
 prefix-taken x rest e =
-    let name = went (behind_weekday x) (λ r. behind comma r >>= λ s. behind_spaces s) rest e in
-    let mark = went (behind comma name.0) (λ s. behind_spaces s) rest name.2 in
+    let name = went (skip_weekday x) (λ r. skip_char comma r >>= λ s. skip_spaces s) rest e in
+    let mark = went (skip_char comma name.0) (λ s. skip_spaces s) rest name.2 in
     let day = weekday-taken x name.0 name.1 in
     let gap = spaces-taken mark.0 rest mark.2 in
-    let behind_name : name.0 ≡ comma ∷ (gap.text ++ rest) = behind-taken comma name.0 mark.0 mark.1 ∙ ap (λ (t : List ℕ). comma ∷ t) gap.whole in
-    let split : x ≡ day.name ++ (comma ∷ (gap.text ++ rest)) = day.whole ∙ ap (λ (t : List ℕ). day.name ++ t) behind_name in
+    let after_name : name.0 ≡ comma ∷ (gap.text ++ rest) = after-taken comma name.0 mark.0 mark.1 ∙ ap (λ (t : List ℕ). comma ∷ t) gap.whole in
+    let split : x ≡ day.name ++ (comma ∷ (gap.text ++ rest)) = day.whole ∙ ap (λ (t : List ℕ). day.name ++ t) after_name in
     record {
       text = day.name ++ (comma ∷ gap.text);
       is = record { name = day.name; gap = gap.text; whole = refl; is_name = day.is_name; are_spaces = gap.is };
@@ -176,27 +181,27 @@ prefix-taken x rest e =
 abbrev date_at : ℕ → ℕ → ℕ → List ℕ → DateFields × List ℕ
 date_at year month day rest = (record { year = year; month = month; day = day }, rest)
 
-behind_day : ℕ → ℕ → List ℕ → Read DateFields
-behind_day year month x = read_field x >>= λ day. Some (date_at year month day.0 day.1)
+after_day : ℕ → ℕ → List ℕ → ReadFront DateFields
+after_day year month x = read_field x >>= λ day. Some (date_at year month day.0 day.1)
 
-behind_month : ℕ → List ℕ → Read DateFields
-behind_month year x = read_field x >>= λ month. behind minus month.1 >>= λ rest. behind_day year month.0 rest
+after_month : ℕ → List ℕ → ReadFront DateFields
+after_month year x = read_field x >>= λ month. skip_char minus month.1 >>= λ rest. after_day year month.0 rest
 
 pub date-taken : (x : List ℕ) (date : DateFields) (rest : List ℕ) → read_plain_date x ≡ Some (date, rest) → Took IsPlainDate x date rest
-unfolding read_plain_date behind_day behind_month
+unfolding read_plain_date after_day after_month
 date-taken x date rest e =
-    let year = went (read_year x) (λ year. behind minus year.1 >>= λ r. behind_month year.0 r) (date, rest) e in
-    let mark = went (behind minus year.0.1) (λ r. behind_month year.0.0 r) (date, rest) year.2 in
-    let month = went (read_field mark.0) (λ month. behind minus month.1 >>= λ r. behind_day year.0.0 month.0 r) (date, rest) mark.2 in
-    let next = went (behind minus month.0.1) (λ r. behind_day year.0.0 month.0.0 r) (date, rest) month.2 in
+    let year = went (read_year x) (λ year. skip_char minus year.1 >>= λ r. after_month year.0 r) (date, rest) e in
+    let mark = went (skip_char minus year.0.1) (λ r. after_month year.0.0 r) (date, rest) year.2 in
+    let month = went (read_field mark.0) (λ month. skip_char minus month.1 >>= λ r. after_day year.0.0 month.0 r) (date, rest) mark.2 in
+    let next = went (skip_char minus month.0.1) (λ r. after_day year.0.0 month.0.0 r) (date, rest) month.2 in
     let day = went (read_field next.0) (λ day. Some (date_at year.0.0 month.0.0 day.0 day.1)) (date, rest) next.2 in
     let y = year-taken x year.0.0 year.0.1 year.1 in
     let m = field-taken mark.0 month.0.0 month.0.1 month.1 in
     let d = field-taken next.0 day.0.0 day.0.1 day.1 in
     let found = same (date_at year.0.0 month.0.0 day.0.0 day.0.1) (date, rest) day.2 in
-    let behind_m : month.0.1 ≡ minus ∷ (d.text ++ day.0.1) = behind-taken minus month.0.1 next.0 next.1 ∙ ap (λ (t : List ℕ). minus ∷ t) d.whole in
-    let behind_y : year.0.1 ≡ minus ∷ (m.text ++ (minus ∷ (d.text ++ day.0.1))) = behind-taken minus year.0.1 mark.0 mark.1 ∙ ap (λ (t : List ℕ). minus ∷ t) (m.whole ∙ ap (λ (t : List ℕ). m.text ++ t) behind_m) in
-    let split : x ≡ y.text ++ (minus ∷ (m.text ++ (minus ∷ (d.text ++ day.0.1)))) = y.whole ∙ ap (λ (t : List ℕ). y.text ++ t) behind_y in
+    let after_m : month.0.1 ≡ minus ∷ (d.text ++ day.0.1) = after-taken minus month.0.1 next.0 next.1 ∙ ap (λ (t : List ℕ). minus ∷ t) d.whole in
+    let after_y : year.0.1 ≡ minus ∷ (m.text ++ (minus ∷ (d.text ++ day.0.1))) = after-taken minus year.0.1 mark.0 mark.1 ∙ ap (λ (t : List ℕ). minus ∷ t) (m.whole ∙ ap (λ (t : List ℕ). m.text ++ t) after_m) in
+    let split : x ≡ y.text ++ (minus ∷ (m.text ++ (minus ∷ (d.text ++ day.0.1)))) = y.whole ∙ ap (λ (t : List ℕ). y.text ++ t) after_y in
     let joined : (y.text ++ minus ∷ m.text ++ minus ∷ d.text) ++ day.0.1 ≡ y.text ++ (minus ∷ (m.text ++ (minus ∷ (d.text ++ day.0.1)))) = simp append_assoc in
     subst (λ (p : DateFields × List ℕ). Took IsPlainDate x p.0 p.1) found (record {
       text = y.text ++ minus ∷ m.text ++ minus ∷ d.text;
@@ -207,44 +212,44 @@ date-taken x date rest e =
 abbrev minutes_at : ℕ → ℕ → List ℕ → ClockFields × List ℕ
 minutes_at hour minute rest = (record { hour = hour; minute = minute; second = 0 }, rest)
 
-behind_hour : ℕ → List ℕ → Read ClockFields
-behind_hour hour x = read_field x >>= λ minute. Some (minutes_at hour minute.0 minute.1)
+after_hour : ℕ → List ℕ → ReadFront ClockFields
+after_hour hour x = read_field x >>= λ minute. Some (minutes_at hour minute.0 minute.1)
 
 minutes-taken : (x : List ℕ) (clock : ClockFields) (rest : List ℕ) → read_minutes x ≡ Some (clock, rest) → Took AreMinutes x clock rest
-unfolding read_minutes behind_hour
+unfolding read_minutes after_hour
 minutes-taken x clock rest e =
-    let hour = went (read_field x) (λ hour. behind colon hour.1 >>= λ r. behind_hour hour.0 r) (clock, rest) e in
-    let mark = went (behind colon hour.0.1) (λ r. behind_hour hour.0.0 r) (clock, rest) hour.2 in
+    let hour = went (read_field x) (λ hour. skip_char colon hour.1 >>= λ r. after_hour hour.0 r) (clock, rest) e in
+    let mark = went (skip_char colon hour.0.1) (λ r. after_hour hour.0.0 r) (clock, rest) hour.2 in
     let minute = went (read_field mark.0) (λ minute. Some (minutes_at hour.0.0 minute.0 minute.1)) (clock, rest) mark.2 in
     let h = field-taken x hour.0.0 hour.0.1 hour.1 in
     let m = field-taken mark.0 minute.0.0 minute.0.1 minute.1 in
     let found = same (minutes_at hour.0.0 minute.0.0 minute.0.1) (clock, rest) minute.2 in
-    let behind_h : hour.0.1 ≡ colon ∷ (m.text ++ minute.0.1) = behind-taken colon hour.0.1 mark.0 mark.1 ∙ ap (λ (t : List ℕ). colon ∷ t) m.whole in
+    let after_h : hour.0.1 ≡ colon ∷ (m.text ++ minute.0.1) = after-taken colon hour.0.1 mark.0 mark.1 ∙ ap (λ (t : List ℕ). colon ∷ t) m.whole in
     let joined : (h.text ++ colon ∷ m.text) ++ minute.0.1 ≡ h.text ++ (colon ∷ (m.text ++ minute.0.1)) = simp append_assoc in
     subst (λ (p : ClockFields × List ℕ). Took AreMinutes x p.0 p.1) found (record {
       text = h.text ++ colon ∷ m.text;
       is = record { hour = h.text; minute = m.text; whole = refl; is_hour = h.is; is_minute = m.is; at_its_start = refl };
-      whole = h.whole ∙ ap (λ (t : List ℕ). h.text ++ t) behind_h ∙ sym joined;
+      whole = h.whole ∙ ap (λ (t : List ℕ). h.text ++ t) after_h ∙ sym joined;
     })
 
 abbrev clock_at : ClockFields → ℕ → List ℕ → ClockFields × List ℕ
-clock_at clock seconds rest = (record clock { second = leapless seconds }, rest)
+clock_at clock seconds rest = (record clock { second = without_leap_second seconds }, rest)
 
--- a second behind minutes makes a clock
+-- a second after minutes makes a clock
 second-taken : (x : List ℕ) (start : ClockFields) (middle : List ℕ) (clock : ClockFields) (rest : List ℕ) → Took AreMinutes x start middle → read_second start middle ≡ Some (clock, rest) → Took IsClock x clock rest
 unfolding read_second
 second-taken x start middle clock rest front e =
-    let mark = went (behind colon middle) (λ r. read_field r >>= λ second. Some (clock_at start second.0 second.1)) (clock, rest) e in
+    let mark = went (skip_char colon middle) (λ r. read_field r >>= λ second. Some (clock_at start second.0 second.1)) (clock, rest) e in
     let second = went (read_field mark.0) (λ second. Some (clock_at start second.0 second.1)) (clock, rest) mark.2 in
     let s = field-taken mark.0 second.0.0 second.0.1 second.1 in
     let found = same (clock_at start second.0.0 second.0.1) (clock, rest) second.2 in
-    let behind_m : middle ≡ colon ∷ (s.text ++ second.0.1) = behind-taken colon middle mark.0 mark.1 ∙ ap (λ (t : List ℕ). colon ∷ t) s.whole in
+    let after_m : middle ≡ colon ∷ (s.text ++ second.0.1) = after-taken colon middle mark.0 mark.1 ∙ ap (λ (t : List ℕ). colon ∷ t) s.whole in
     let f = front.is in
     let joined : (f.hour ++ colon ∷ f.minute ++ colon ∷ s.text) ++ second.0.1 ≡ (f.hour ++ colon ∷ f.minute) ++ (colon ∷ (s.text ++ second.0.1)) = simp append_assoc in
     subst (λ (p : ClockFields × List ℕ). Took IsClock x p.0 p.1) found (record {
       text = f.hour ++ colon ∷ f.minute ++ colon ∷ s.text;
       is = record { hour = f.hour; minute = f.minute; second = s.text; seconds = second.0.0; whole = refl; is_hour = f.is_hour; is_minute = f.is_minute; is_second = s.is; without_leap = refl };
-      whole = front.whole ∙ ap (λ (t : List ℕ). front.text ++ t) behind_m ∙ ap (λ (t : List ℕ). t ++ (colon ∷ (s.text ++ second.0.1))) f.whole ∙ sym joined;
+      whole = front.whole ∙ ap (λ (t : List ℕ). front.text ++ t) after_m ∙ ap (λ (t : List ℕ). t ++ (colon ∷ (s.text ++ second.0.1))) f.whole ∙ sym joined;
     })
 
 pub clock-taken : (x : List ℕ) (clock : ClockFields) (rest : List ℕ) → read_clock x ≡ Some (clock, rest) → Took IsClock x clock rest
@@ -256,7 +261,7 @@ clock-taken x clock rest e =
 as_mail : {x : List ℕ} {clock : ClockFields} {rest : List ℕ} → Took IsClock x clock rest → Took IsMailClock x clock rest
 as_mail t = record { text = t.text; is = inl t.is; whole = t.whole }
 
-with_or_without : (x : List ℕ) (start : ClockFields) (middle : List ℕ) (clock : ClockFields) (rest : List ℕ) (second : Read ClockFields) → read_second start middle ≡ second → Took AreMinutes x start middle
+with_or_without : (x : List ℕ) (start : ClockFields) (middle : List ℕ) (clock : ClockFields) (rest : List ℕ) (second : ReadFront ClockFields) → read_second start middle ≡ second → Took AreMinutes x start middle
     → Some (unwrap_or second (start, middle)) ≡ Some (clock, rest) → Took IsMailClock x clock rest
 with_or_without x start middle clock rest (Some found) s front e =
     let is : found ≡ (clock, rest) = same found (clock, rest) e in

@@ -2,17 +2,18 @@
 use Rattle.std.proofs.Common.{◌≡◌, ◌∙◌, ℕ, ℤ, true, false, List, [], ◌∷◌, ◌++◌, refl, ap, sym, subst, Some, None, IsUtf8}
 use Rattle.std.specs.Char.{is_ascii_digit}
 use Rattle.std.specs.Str.{trim}
-use Rattle.gix_date.specs.Characters.{minus}
+use Rattle.gix_date.specs.Text.Characters.{minus}
 use Rattle.gix_date.specs.declared.parsing.civil.DateFields.{DateFields}
-use Rattle.gix_date.proofs.FieldsTaken.{went, year-taken, behind-taken}
-use Rattle.gix_date.specs.Fields.{behind, ◌>>=◌}
-use Rattle.gix_date.specs.FieldTexts.{IsYear}
-use Rattle.gix_date.specs.Git.{git_time}
-use Rattle.gix_date.specs.Numbers.{int_value, is_number_byte, read_year, read_field}
-use Rattle.gix_date.specs.PatternFields.{read_plain_date}
-use Rattle.gix_date.specs.Patterns.{short_answer, iso8601_answer, iso8601_strict_answer}
-use Rattle.gix_date.specs.Raw.{OffsetRule, raw_time_by}
-use Rattle.gix_date.specs.SpaceWords.{space_words}
+use Rattle.gix_date.proofs.FieldsTaken.{went, year-taken, after-taken}
+use Rattle.gix_date.specs.Fields.Front.{skip_char, ◌>>=◌}
+use Rattle.gix_date.specs.Fields.FieldTexts.{IsYear}
+use Rattle.gix_date.specs.Git.Forms.{git_time}
+use Rattle.gix_date.specs.Text.Numbers.{int_value, read_year, read_field}
+use Rattle.gix_date.specs.Private.Shapes.{is_number_byte}
+use Rattle.gix_date.specs.Fields.DateFields.{read_plain_date}
+use Rattle.gix_date.specs.Families.Patterns.{short_answer, iso8601_answer, iso8601_strict_answer}
+use Rattle.gix_date.specs.Families.Raw.{OffsetRule, raw_time_by}
+use Rattle.gix_date.specs.Text.SpaceWords.{space_words}
 use Rattle.gix_date.proofs.Apart.{NoPlainDate}
 use Rattle.gix_date.proofs.Disjoint.{GitFront, year-front, git-front, raw-words, raw-first, none-unless, same-first, int-digits, front-digits}
 use Rattle.gix_date.proofs.FirstWords.{is_visible, first-begins, trimmed-words}
@@ -31,12 +32,9 @@ no-raw-front rule text g = none-unless (raw_time_by rule text) (λ t e.
 pub int-no-byte : (c : ℕ) (t : List ℕ) (n : ℤ) → is_number_byte c ≡ false → int_value (c ∷ t) ≡ Some n → ⊥
 int-no-byte c t n h e =
     let k = int-number (c ∷ t) n e in
-    let same : c ≡ k.first = head_same c k.first t k.rest k.whole in
+    let same : c ≡ k.first = same-first c k.first t k.rest k.whole in
     let clash : true ≡ false = sym k.bytes.0 ∙ ap is_number_byte (sym same) ∙ h in
     cc
-  where
-    head_same : (a b : ℕ) (xs ys : List ℕ) → a ∷ xs ≡ b ∷ ys → a ≡ b
-    head_same a b xs ys e = cc
 
 -- no raw text begins with a visible byte that is no digit and no sign, and no Git text with one that is no digit
 pub no-raw-byte : (rule : OffsetRule) (c : ℕ) (t : List ℕ) → is_visible c ≡ true → is_number_byte c ≡ false → raw_time_by rule (c ∷ t) ≡ None
@@ -53,12 +51,9 @@ no-git-byte c t u v h = none-unless (git_time (c ∷ t)) (λ w e.
     let a = first-begins g.first g.more g.rest g.visible in
     let b = first-begins c [] t (v, tt) in
     let same : c ∷ b.rest ≡ g.first ∷ (g.more ++ a.rest) = same-first (c ∷ b.rest) (g.first ∷ (g.more ++ a.rest)) b.words a.words (sym b.is ∙ sym (trimmed-words (c ∷ t) u) ∙ ap space_words g.whole ∙ a.is) in
-    let first : c ≡ g.first = head_same c g.first b.rest (g.more ++ a.rest) same in
+    let first : c ≡ g.first = same-first c g.first b.rest (g.more ++ a.rest) same in
     let clash : true ≡ false = sym g.digit ∙ ap is_ascii_digit (sym first) ∙ h in
     cc)
-  where
-    head_same : (a b : ℕ) (xs ys : List ℕ) → a ∷ xs ≡ b ∷ ys → a ≡ b
-    head_same a b xs ys e = cc
 
 pub no-plain-by : (text : List ℕ) → read_plain_date text ≡ None → NoPlainDate text
 unfolding short_answer iso8601_answer iso8601_strict_answer
@@ -79,10 +74,10 @@ pub record PlainYear (text : List ℕ) : Type 0 where
 pub plain-year : (x : List ℕ) (date : DateFields × List ℕ) → read_plain_date x ≡ Some date → PlainYear x
 unfolding read_plain_date
 plain-year x date e =
-    let year = went (read_year x) (λ year. behind minus year.1 >>= λ r. read_field r >>= λ month. behind minus month.1 >>= λ s. read_field s >>= λ day. Some (date_at year.0 month.0 day.0 day.1)) date e in
-    let next = went (behind minus year.0.1) (λ r. read_field r >>= λ month. behind minus month.1 >>= λ s. read_field s >>= λ day. Some (date_at year.0.0 month.0 day.0 day.1)) date year.2 in
+    let year = went (read_year x) (λ year. skip_char minus year.1 >>= λ r. read_field r >>= λ month. skip_char minus month.1 >>= λ s. read_field s >>= λ day. Some (date_at year.0 month.0 day.0 day.1)) date e in
+    let next = went (skip_char minus year.0.1) (λ r. read_field r >>= λ month. skip_char minus month.1 >>= λ s. read_field s >>= λ day. Some (date_at year.0.0 month.0 day.0 day.1)) date year.2 in
     let y = year-taken x year.0.0 year.0.1 year.1 in
-    record { year = y.text; number = year.0.0; rest = next.0; whole = y.whole ∙ ap (λ (t : List ℕ). y.text ++ t) (behind-taken minus year.0.1 next.0 next.1); is_year = y.is }
+    record { year = y.text; number = year.0.0; rest = next.0; whole = y.whole ∙ ap (λ (t : List ℕ). y.text ++ t) (after-taken minus year.0.1 next.0 next.1); is_year = y.is }
 
 pub plain-front : (x : List ℕ) (date : DateFields × List ℕ) → read_plain_date x ≡ Some date → GitFront x
 plain-front x date e =

@@ -1,5 +1,6 @@
 -- The words of a text and of the text without white space at its ends; what the first word begins with.
 use Rattle.std.proofs.Common.{◌≡◌, ◌∙◌, ◌<◌, ℕ, Bool, true, false, cond, List, [], ◌∷◌, ◌++◌, map, filter, length, refl, ap, sym, arith, append-nil, IsAscii, encode_utf8_all, IsUtf8}
+use Rattle.std.proofs.lemmas.Bool.{and_parts as both}
 use Rattle.std.proofs.lemmas.Bool.Decides.{nat_tests}
 use Rattle.std.proofs.lemmas.List.Elements.{filter-append}
 use Rattle.std.proofs.lemmas.List.Splits.{slice_split-cons_yes, slice_split-cons_no}
@@ -9,11 +10,11 @@ use Rattle.std.specs.Char.{is_whitespace}
 use Rattle.std.specs.List.{slice_split, onto_first}
 use Rattle.std.specs.Prelude.{◌==◌, ◌&&◌, nat_lt}
 use Rattle.std.specs.Str.{chars, all_scalars, trim, trim_start, trim_end, skip_leading_whitespace, drop_trailing_whitespace}
-use Rattle.gix_date.specs.SpaceWords.{is_nonempty, runs, space_words}
-use Rattle.gix_date.proofs.Instants.{both}
+use Rattle.gix_date.specs.Text.SpaceWords.{is_nonempty, runs, space_words}
+use Rattle.gix_date.proofs.Instants.{join}
 use Rattle.gix_date.proofs.WordsWithin.{parts-of, onto-append}
 
--- what stands behind white space
+-- what stands after white space
 skip-by : (c : ℕ) (cs : List ℕ) (b : Bool) → is_whitespace c ≡ b → runs (skip_leading_whitespace cs) ≡ runs cs → runs (cond b (skip_leading_whitespace cs) (c ∷ cs)) ≡ runs (c ∷ cs)
 skip-by c cs true e h = h ∙ sym (ap (filter is_nonempty) (slice_split-cons_yes is_whitespace c cs e))
 skip-by c cs false e h = refl
@@ -81,11 +82,6 @@ drop-runs cs =
     let h = trails cs in
     let ts = slice_split is_whitespace (drop_trailing_whitespace cs) in
     sym (ap (filter is_nonempty) h.is ∙ filter-append is_nonempty ts h.empty ∙ ap (λ (ps : List (List ℕ)). filter is_nonempty ts ++ ps) h.none ∙ append-nil (filter is_nonempty ts))
-
-join : (a b : Bool) → a ≡ true → b ≡ true → (a && b) ≡ true
-join true true p q = refl
-join true false p q = q
-join false b p q = p
 
 or-none : (b : Bool) (ts : List ℕ) → all_scalars ts ≡ true → all_scalars (cond b [] ts) ≡ true
 or-none true ts h = refl

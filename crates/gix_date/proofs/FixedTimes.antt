@@ -6,10 +6,10 @@ use Rattle.jiff.specs.Types.{TimeZone}
 use Rattle.jiff.specs.Words.{plain_zoned, zoned_nanos, offset_at, nanos_of_seconds, IsTimestampNanos}
 use Rattle.jiff.specs.declared.zoned.Zoned.{Zoned}
 use Rattle.jiff_core.proofs.SignedLemmas.{signed_arith}
-use Rattle.gix_date.specs.FixedZones.{total, less_seconds, earlier, NamesEarlier}
-use Rattle.gix_date.specs.Relative.{RelativeDate, Before, Reaches}
-use Rattle.gix_date.specs.RelativeSteps.{zone_of}
-use Rattle.gix_date.specs.Zoned.{IsMoment, is_instant}
+use Rattle.gix_date.specs.Relative.FixedZones.{total, less_seconds, earlier, NamesEarlier}
+use Rattle.gix_date.specs.Relative.Dates.{RelativeDate, Before, Reaches}
+use Rattle.gix_date.specs.Relative.Steps.{zone_of}
+use Rattle.gix_date.specs.Printing.Zoned.{IsMoment, is_instant}
 use Rattle.gix_date.specs.declared.time.Time.{Time}
 use Rattle.gix_date.proofs.Chains.{same-time}
 use Rattle.gix_date.proofs.FixedZones.{IsLoss, seconds-law, total-loss, products-fit}

@@ -16,9 +16,9 @@ use Rattle.jiff_core.proofs.DateTimeLemmas.{civil_nanos-parts}
 use Rattle.jiff_core.proofs.SignedLemmas.{signed_arith, one_part}
 use Rattle.jiff_zoned.proofs.SameLemmas.{same_datetime}
 use Rattle.gix_date.proofs.DateTimes.{datetime_exists}
-use Rattle.gix_date.specs.FixedZones.{product, total, ProductFits, IsSecondsPair, IsMonthsPair, less_seconds, less_months}
-use Rattle.gix_date.specs.Relative.{RelativeDate, Less, Reaches}
-use Rattle.gix_date.specs.RelativeSteps.{IsLocal, IsPicked, Settles, SecondsStep, MonthsStep, Chain, civil_of, month_start}
+use Rattle.gix_date.specs.Relative.FixedZones.{product, total, ProductFits, IsSecondsPair, IsMonthsPair, less_seconds, less_months}
+use Rattle.gix_date.specs.Relative.Dates.{RelativeDate, Less, Reaches}
+use Rattle.gix_date.specs.Relative.Steps.{IsLocal, IsPicked, Settles, SecondsStep, MonthsStep, Chain, civil_of, month_start}
 use Rattle.gix_date.proofs.Steps.{MonthsFrom, day_of, year_of}
 use Rattle.gix_date.specs.declared.parsing.relative.words.TimeUnit.{TimeUnit}
 use Rattle.gix_date.specs.declared.parsing.relative.words.TimeUnit.TheVariants.{Seconds, Months}

@@ -1,6 +1,7 @@
 -- The laws of header texts.
 use Rattle.std.proofs.Common.{◌≡◌, ◌∙◌, ◌+◌, ◌-◌, ◌*◌, ◌/◌, ◌%◌, ◌<◌, ◌≤◌, ◌^◌, ℕ, ℤ, pos, negsuc, Bool, true, false, cond, List, [], ◌∷◌, ◌++◌, length, take, drop, get_or, refl, ap, ap₂, sym, subst, Some, None, arith, inl, inr, Option, unsigned_abs, FitsSigned, w64, neg_ℤ, zero, suc, ◌≢◌, add-one, IsSomeAnd, IsUtf8}
 use Rattle.std.proofs.Math.Seq.{take-append_seam}
+use Rattle.std.proofs.lemmas.Bool.{and_parts as both}
 use Rattle.std.proofs.lemmas.Bool.Decides.{nat_tests}
 use Rattle.std.proofs.lemmas.Fmt.{decimal_is_IsNumeral, decimal_nonempty}
 use Rattle.std.proofs.lemmas.Str.Parse.{not_in_digits}
@@ -17,24 +18,24 @@ use Rattle.std.specs.Option.{option_map_or, option_or}
 use Rattle.std.specs.Char.{is_ascii_digit}
 use Rattle.std.specs.Str.{all_ascii_digits, bytes_eq}
 use Rattle.std.specs.Str.Parse.{without_leading_sign, signed_digits_value, digits_value, IsNumeral}
-use Rattle.gix_date.specs.CanonicalHeader.{is_canonical_header, is_canonical_offset, is_decimal_text, has_whole_minutes}
-use Rattle.gix_date.specs.Characters.{space, plus, minus, is_space, has_colon}
-use Rattle.gix_date.specs.HeaderLaws.{ComesBack}
-use Rattle.gix_date.specs.HeaderReading.{header_time, time_of_words, seconds_said, offset_said}
-use Rattle.gix_date.specs.SpaceWords.{space_words, first_words}
-use Rattle.gix_date.specs.HeaderText.{header_text, zone_text, offset_sign, hours_and_minutes}
-use Rattle.gix_date.specs.Numbers.{int_value, fits_i64, decimal_text, two_digits, read_two_digits, is_number_byte}
-use Rattle.gix_date.specs.Offsets.{offset_fields, offset_of, signed, read_sign, last_pair}
-use Rattle.gix_date.specs.Fields.{behind, ◌>>=◌}
-use Rattle.gix_date.specs.FieldTexts.{IsDigit}
+use Rattle.gix_date.specs.Header.Canonical.{is_canonical_header, is_canonical_offset, is_decimal_text, has_whole_minutes}
+use Rattle.gix_date.specs.Text.Characters.{space, plus, minus, is_space, has_colon}
+use Rattle.gix_date.specs.Header.Laws.{ComesBack}
+use Rattle.gix_date.specs.Header.Reading.{header_time, time_of_words, seconds_said, offset_said}
+use Rattle.gix_date.specs.Text.SpaceWords.{space_words, first_words}
+use Rattle.gix_date.specs.Header.Text.{header_text, compact_offset_text, offset_sign, hours_and_minutes}
+use Rattle.gix_date.specs.Text.Numbers.{int_value, fits_i64, decimal_text, two_digits, read_two_digits}
+use Rattle.gix_date.specs.Private.Shapes.{is_number_byte}
+use Rattle.gix_date.specs.Fields.Offsets.{offset_fields, offset_of, signed, read_sign, last_pair}
+use Rattle.gix_date.specs.Fields.Front.{skip_char, ◌>>=◌}
+use Rattle.gix_date.specs.Fields.FieldTexts.{IsDigit}
 use Rattle.gix_date.specs.declared.parsing.offset.OffsetFields.{OffsetFields}
 use Rattle.gix_date.specs.declared.parsing.offset.Sign.{Sign}
 use Rattle.gix_date.specs.declared.parsing.offset.Sign.TheVariants.{Plus, Minus}
 use Rattle.gix_date.specs.declared.time.Time.{Time}
 use Rattle.gix_date.specs.declared.time.write.TheConstants.{HUNDRED_HOURS}
 use Rattle.gix_date.proofs.Ints.{own, int_value_from, fits_from, each_of}
-use Rattle.gix_date.proofs.Instants.{both}
-use Rattle.gix_date.proofs.FieldsTaken.{guard, went}
+use Rattle.gix_date.proofs.FieldsTaken.{guard, went, none_is}
 use Rattle.gix_date.proofs.PlainHeaders.{plain-header, int-taken, offset-taken, IsOffsetText, IsMark, AreNumberBytes, are_ascii, IsNumber, int-number, offset-number, same_some}
 
 -- A canonical header, taken apart.
@@ -54,13 +55,13 @@ pub record IsCanonical (text : List ℕ) : Type 0 where
   pub whole : text ≡ front ++ (space ∷ zone)
   pub is_seconds : int_value front ≡ Some seconds
   pub is_decimal : decimal_text seconds ≡ front
-  pub is_zone : offset_fields zone ≡ Some fields
+  pub is_jiff_offset : offset_fields zone ≡ Some fields
   pub minutes : fields.minutes < 60
   pub none : fields.seconds ≡ None
   pub not_minus_zero : bytes_eq zone (codes "-0000") ≡ false
 
 no_fields : offset_fields [] ≡ None
-unfolding offset_fields read_sign behind
+unfolding offset_fields read_sign skip_char
 no_fields = refl
 
 fields-within : (text : List ℕ) (f : OffsetFields) → offset_fields (after_first is_space text) ≡ Some f → position_or_len is_space text < length text
@@ -89,7 +90,7 @@ canonical-taken text e =
       whole = split_at_first is_space text 0 within ∙ ap (λ (c : ℕ). before ++ (c ∷ after)) mark;
       is_seconds = front.1;
       is_decimal = (bytes_eq-Decides (decimal_text front.0) before).0 front.2;
-      is_zone = zone.1;
+      is_jiff_offset = zone.1;
       minutes = grind (arith, nat_tests, fits.0);
       none = none_is zone.0.seconds fits.1;
       not_minus_zero = not_false _ zone_parts.1;
@@ -97,10 +98,6 @@ canonical-taken text e =
   where
     is_space_byte : (c : ℕ) → is_space c ≡ true → c ≡ space
     is_space_byte c h = grind (arith, nat_tests, h)
-
-    none_is : (r : Option ℕ) → is_none r ≡ true → r ≡ None
-    none_is None h = refl
-    none_is (Some x) h = absurd cc
 
 -- Two digits that were read are written back.
 digit_low : (c : ℕ) → IsDigit c → 48 ≤ c
@@ -127,7 +124,7 @@ plus-sign n = let no : int_lt (pos n) (pos 0) ≡ false = grind (arith, ints) in
 minus-sign : (n : ℕ) → offset_sign (negsuc n) ≡ minus
 minus-sign n = refl
 
-zone-by : (n : ℕ) (mark : ℕ) (sign : Sign) → IsMark mark sign → (sign ≡ Minus → 0 < n) → zone_text (signed sign n) ≡ mark ∷ hours_and_minutes n
+zone-by : (n : ℕ) (mark : ℕ) (sign : Sign) → IsMark mark sign → (sign ≡ Minus → 0 < n) → compact_offset_text (signed sign n) ≡ mark ∷ hours_and_minutes n
 zone-by n mark sign (inl p) some = rw (p.0, p.1, plus-sign n) refl
 zone-by zero mark sign (inr p) some = absurd (omega (arith, some p.1))
 zone-by (suc n) mark sign (inr p) some = rw (p.0, p.1, minus-sign n) refl
@@ -151,12 +148,12 @@ minus-zero x f o e s z =
     mark_of c s (inl p) e = let clash : Plus ≡ Minus = sym p.1 ∙ e in absurd cc
     mark_of c s (inr p) e = p.0
 
-zone-back : (x : List ℕ) (f : OffsetFields) → IsOffsetText x f → f.minutes < 60 → f.seconds ≡ None → bytes_eq x (codes "-0000") ≡ false → zone_text (offset_of f) ≡ x
+zone-back : (x : List ℕ) (f : OffsetFields) → IsOffsetText x f → f.minutes < 60 → f.seconds ≡ None → bytes_eq x (codes "-0000") ≡ false → compact_offset_text (offset_of f) ≡ x
 zone-back x f o small e other =
     let some : f.sign ≡ Minus → 0 < whole_distance f = λ s.
     let nonzero : whole_distance f ≡ 0 → ⊥ = λ z. (let clash : true ≡ false = sym ((bytes_eq-Decides x (codes "-0000")).1 (minus-zero x f o e s z)) ∙ other in cc) in
     omega (arith, nonzero) in
-    ap zone_text (distance-is f e)
+    ap compact_offset_text (distance-is f e)
     ∙ zone-by (whole_distance f) o.mark f.sign o.is_mark some
     ∙ ap (λ (t : List ℕ). o.mark ∷ t) (hours-back f.hours f.minutes small)
     ∙ ap₂ (λ (h m : List ℕ). o.mark ∷ (h ++ m)) (pair-back o.h0 o.h1 f.hours o.is_h0 o.is_h1 o.hours) (pair-back o.m0 o.m1 f.minutes o.is_m0 o.is_m1 o.minutes)
@@ -167,7 +164,7 @@ abs-signed Plus n = refl
 abs-signed Minus zero = refl
 abs-signed Minus (suc n) = refl
 
-pub written-by : (t : Time) → unsigned_abs t.offset < 360000 → header_text t ≡ Some (decimal_text t.seconds ++ (space ∷ zone_text t.offset))
+pub written-by : (t : Time) → unsigned_abs t.offset < 360000 → header_text t ≡ Some (decimal_text t.seconds ++ (space ∷ compact_offset_text t.offset))
 unfolding header_text
 written-by t h = let yes : nat_lt (unsigned_abs t.offset) HUNDRED_HOURS ≡ true = grind (arith, nat_tests, h) in rw yes refl
 
@@ -177,12 +174,12 @@ hours-small x f o = omega (arith, o.hours, digit_high o.h0 o.is_h0, digit_high o
 pub canonical-back : (text : List ℕ) → IsCanonical text → ComesBack text
 canonical-back text k =
     let f = k.fields in
-    let o = offset-taken k.zone f k.is_zone in
+    let o = offset-taken k.zone f k.is_jiff_offset in
     let abs : unsigned_abs (offset_of f) ≡ whole_distance f = ap (λ (z : ℤ). unsigned_abs z) (distance-is f k.none) ∙ abs-signed f.sign (whole_distance f) in
     let short : unsigned_abs (offset_of f) < 360000 = omega (arith, abs, hours-small k.zone f o, k.minutes) in
     record {
       time = record { seconds = k.seconds; offset = offset_of f };
-      is_read = ap header_time k.whole ∙ plain-header k.front k.zone k.seconds f k.is_seconds k.is_zone;
+      is_read = ap header_time k.whole ∙ plain-header k.front k.zone k.seconds f k.is_seconds k.is_jiff_offset;
       is_written = written-by (record { seconds = k.seconds; offset = offset_of f }) short
           ∙ rw (k.is_decimal, zone-back k.zone f o k.minutes k.none k.not_minus_zero) (ap Some (sym k.whole));
     }
@@ -252,7 +249,7 @@ abbrev pub written_fields : ℤ → OffsetFields
 written_fields o = record { sign = sign_for (int_lt o (pos 0)); hours = unsigned_abs o / 3600; minutes = unsigned_abs o % 3600 / 60; seconds = None }
 
 pub sign-read : (b : Bool) (t : List ℕ) → read_sign ((if b then minus else plus) ∷ t) ≡ Some (sign_for b, t)
-unfolding read_sign behind
+unfolding read_sign skip_char
 sign-read true t = refl
 sign-read false t = refl
 
@@ -265,7 +262,7 @@ two-read n rest h =
     let value : 10 * (48 + n / 10 - 48) + (48 + n % 10 - 48) ≡ n = omega arith in
     rw (is-digit (n / 10) (omega arith), is-digit (n % 10) (omega arith), value) refl
 
-pub zone-read : (o : ℤ) → unsigned_abs o < 360000 → offset_fields (zone_text o) ≡ Some (written_fields o)
+pub zone-read : (o : ℤ) → unsigned_abs o < 360000 → offset_fields (compact_offset_text o) ≡ Some (written_fields o)
 unfolding offset_fields last_pair
 zone-read o h =
     let minutes = unsigned_abs o % 3600 / 60 in
@@ -282,12 +279,12 @@ space-at (c ∷ a) b h = rw (byte-no-space c h.0) (omega (arith, space-at a b h.
 pub front-of : (a b : List ℕ) → AreNumberBytes a → before_first is_space (a ++ (space ∷ b)) ≡ a
 front-of a b h = ap (λ (n : ℕ). take n (a ++ (space ∷ b))) (space-at a b h) ∙ take-append_seam a (space ∷ b)
 
-pub behind-of : (a b : List ℕ) → AreNumberBytes a → after_first is_space (a ++ (space ∷ b)) ≡ b
-behind-of a b h = ap (λ (n : ℕ). drop (n + 1) (a ++ (space ∷ b))) (space-at a b h) ∙ ap (λ (n : ℕ). drop n (a ++ (space ∷ b))) (add-one (length a)) ∙ one_behind a
+pub after-of : (a b : List ℕ) → AreNumberBytes a → after_first is_space (a ++ (space ∷ b)) ≡ b
+after-of a b h = ap (λ (n : ℕ). drop (n + 1) (a ++ (space ∷ b))) (space-at a b h) ∙ ap (λ (n : ℕ). drop n (a ++ (space ∷ b))) (add-one (length a)) ∙ one_after a
   where
-    one_behind : (a : List ℕ) → drop (suc (length a)) (a ++ (space ∷ b)) ≡ b
-    one_behind [] = refl
-    one_behind (c ∷ a) = one_behind a
+    one_after : (a : List ℕ) → drop (suc (length a)) (a ++ (space ∷ b)) ≡ b
+    one_after [] = refl
+    one_after (c ∷ a) = one_after a
 
 pub number-bytes : (w : List ℕ) → IsNumber w → AreNumberBytes w
 number-bytes w k = subst AreNumberBytes (sym k.whole) k.bytes
@@ -299,7 +296,7 @@ two-utf8 front zone a b = IsUtf8-from_ascii (front ++ (space ∷ zone)) (IsAscii
 pub canonical-utf8 : (text : List ℕ) → is_canonical_header text ≡ true → IsUtf8 text
 canonical-utf8 text e =
     let k = canonical-taken text e in
-    subst IsUtf8 (sym k.whole) (two-utf8 k.front k.zone (number-bytes k.front (int-number k.front k.seconds k.is_seconds)) (number-bytes k.zone (offset-number k.zone k.fields k.is_zone)))
+    subst IsUtf8 (sym k.whole) (two-utf8 k.front k.zone (number-bytes k.front (int-number k.front k.seconds k.is_seconds)) (number-bytes k.zone (offset-number k.zone k.fields k.is_jiff_offset)))
 
 pub small-minutes : (n : ℕ) → nat_lt (n % 3600 / 60) 60 ≡ true
 small-minutes n = let h : n % 3600 / 60 < 60 = omega arith in grind (arith, nat_tests)
@@ -312,13 +309,13 @@ abbrev minus_zero_fields : OffsetFields
 minus_zero_fields = record { sign = Minus; hours = 0; minutes = 0; seconds = None }
 
 read-minus-zero : offset_fields (codes "-0000") ≡ Some minus_zero_fields
-unfolding offset_fields read_sign behind read_two_digits last_pair
+unfolding offset_fields read_sign skip_char read_two_digits last_pair
 read-minus-zero = refl
 
 -- an offset that is what its text says is not written `-0000`
-no-minus-zero : (o : ℤ) → unsigned_abs o < 360000 → o ≡ offset_of (written_fields o) → bytes_eq (zone_text o) (codes "-0000") ≡ false
-no-minus-zero o h e = false-unless (bytes_eq (zone_text o) (codes "-0000")) (λ yes.
-    let same : zone_text o ≡ codes "-0000" = (bytes_eq-Decides (zone_text o) (codes "-0000")).0 yes in
+no-minus-zero : (o : ℤ) → unsigned_abs o < 360000 → o ≡ offset_of (written_fields o) → bytes_eq (compact_offset_text o) (codes "-0000") ≡ false
+no-minus-zero o h e = false-unless (bytes_eq (compact_offset_text o) (codes "-0000")) (λ yes.
+    let same : compact_offset_text o ≡ codes "-0000" = (bytes_eq-Decides (compact_offset_text o) (codes "-0000")).0 yes in
     let fields : written_fields o ≡ minus_zero_fields = same_some _ _ (sym (zone-read o h) ∙ ap offset_fields same ∙ read-minus-zero) in
     let zero_is : o ≡ pos 0 = e ∙ ap (λ (f : OffsetFields). offset_of f) fields in
     let clash : Plus ≡ Minus = ap (λ (o : ℤ). sign_for (int_lt o (pos 0))) (sym zero_is) ∙ ap (λ (f : OffsetFields). f.sign) fields in
@@ -330,26 +327,26 @@ canonical-parts x front zone e f d o = ap₂ (λ (a b : Bool). a && b) (ap is_de
 decimal-test : (w : List ℕ) (z : ℤ) → int_value w ≡ Some z → decimal_text z ≡ w → is_decimal_text w ≡ true
 decimal-test w z e h = rw e ((bytes_eq-Decides (decimal_text z) w).1 h)
 
-offset-test : (o : ℤ) → unsigned_abs o < 360000 → bytes_eq (zone_text o) (codes "-0000") ≡ false → is_canonical_offset (zone_text o) ≡ true
+offset-test : (o : ℤ) → unsigned_abs o < 360000 → bytes_eq (compact_offset_text o) (codes "-0000") ≡ false → is_canonical_offset (compact_offset_text o) ≡ true
 offset-test o h e =
-    let fields : option_map_or has_whole_minutes (offset_fields (zone_text o)) false ≡ true = rw (zone-read o h, small-minutes (unsigned_abs o)) refl in
+    let fields : option_map_or has_whole_minutes (offset_fields (compact_offset_text o)) false ≡ true = rw (zone-read o h, small-minutes (unsigned_abs o)) refl in
     ap₂ (λ (a b : Bool). a && not b) fields e
 
 -- What is written is canonical, where it is read as the time that was written.
-written-canonical : (t : Time) → header_time (decimal_text t.seconds ++ (space ∷ zone_text t.offset)) ≡ Some t → unsigned_abs t.offset < 360000 → is_canonical_header (decimal_text t.seconds ++ (space ∷ zone_text t.offset)) ≡ true
+written-canonical : (t : Time) → header_time (decimal_text t.seconds ++ (space ∷ compact_offset_text t.offset)) ≡ Some t → unsigned_abs t.offset < 360000 → is_canonical_header (decimal_text t.seconds ++ (space ∷ compact_offset_text t.offset)) ≡ true
 written-canonical t e h =
     let front = decimal_text t.seconds in
-    let zone = zone_text t.offset in
+    let zone = compact_offset_text t.offset in
     let int = decimal-int t.seconds (header-fits (front ++ (space ∷ zone)) t e) in
     let fields = zone-read t.offset h in
     let bytes = number-bytes front (int-number front t.seconds int) in
     let offset : t.offset ≡ offset_of (written_fields t.offset) = ap (λ (t : Time). t.offset) (same_some t _ (sym e ∙ plain-header front zone t.seconds (written_fields t.offset) int fields)) in
-    canonical-parts (front ++ (space ∷ zone)) front zone (front-of front zone bytes) (behind-of front zone bytes) (decimal-test front t.seconds int refl) (offset-test t.offset h (no-minus-zero t.offset h offset))
+    canonical-parts (front ++ (space ∷ zone)) front zone (front-of front zone bytes) (after-of front zone bytes) (decimal-test front t.seconds int refl) (offset-test t.offset h (no-minus-zero t.offset h offset))
 
-written-taken : (t : Time) (text : List ℕ) → header_text t ≡ Some text → (unsigned_abs t.offset < 360000) × (decimal_text t.seconds ++ (space ∷ zone_text t.offset) ≡ text)
+written-taken : (t : Time) (text : List ℕ) → header_text t ≡ Some text → (unsigned_abs t.offset < 360000) × (decimal_text t.seconds ++ (space ∷ compact_offset_text t.offset) ≡ text)
 unfolding header_text
 written-taken t text e =
-    let g = guard (nat_lt (unsigned_abs t.offset) HUNDRED_HOURS) (decimal_text t.seconds ++ (space ∷ zone_text t.offset)) text e in
+    let g = guard (nat_lt (unsigned_abs t.offset) HUNDRED_HOURS) (decimal_text t.seconds ++ (space ∷ compact_offset_text t.offset)) text e in
     (grind (arith, nat_tests, g.0), g.1)
 
 pub comes-back-canonical : (text : List ℕ) → ComesBack text → is_canonical_header text ≡ true
@@ -361,7 +358,7 @@ comes-back-canonical text k =
 abbrev pub whole_minutes : ℤ → ℕ
 whole_minutes o = unsigned_abs o / 60
 
-zone-of-minutes : (a b : ℤ) → int_lt a (pos 0) ≡ int_lt b (pos 0) → whole_minutes a ≡ whole_minutes b → zone_text a ≡ zone_text b
+zone-of-minutes : (a b : ℤ) → int_lt a (pos 0) ≡ int_lt b (pos 0) → whole_minutes a ≡ whole_minutes b → compact_offset_text a ≡ compact_offset_text b
 zone-of-minutes a b s m =
     let hours : unsigned_abs a / 3600 ≡ unsigned_abs b / 3600 = omega (arith, m) in
     let minutes : unsigned_abs a % 3600 / 60 ≡ unsigned_abs b % 3600 / 60 = omega (arith, m) in
@@ -387,15 +384,15 @@ pub alike-to : (t r : Time) → FitsSigned w64 t.seconds → FitsSigned w64 r.se
 alike-to t r f g h k e =
     let a = decimal_text t.seconds in
     let b = decimal_text r.seconds in
-    let x = zone_text t.offset in
-    let y = zone_text r.offset in
+    let x = compact_offset_text t.offset in
+    let y = compact_offset_text r.offset in
     let same : a ++ (space ∷ x) ≡ b ++ (space ∷ y) = same_some (a ++ (space ∷ x)) (b ++ (space ∷ y)) (sym (written-by t h) ∙ e ∙ written-by r k) in
     let int_a = decimal-int t.seconds f in
     let int_b = decimal-int r.seconds g in
     let bytes_a = number-bytes a (int-number a t.seconds int_a) in
     let bytes_b = number-bytes b (int-number b r.seconds int_b) in
     let fronts : a ≡ b = sym (front-of a x bytes_a) ∙ ap (before_first is_space) same ∙ front-of b y bytes_b in
-    let zones : x ≡ y = sym (behind-of a x bytes_a) ∙ ap (after_first is_space) same ∙ behind-of b y bytes_b in
+    let zones : x ≡ y = sym (after-of a x bytes_a) ∙ ap (after_first is_space) same ∙ after-of b y bytes_b in
     let fields : written_fields t.offset ≡ written_fields r.offset = same_some _ _ (sym (zone-read t.offset h) ∙ ap offset_fields zones ∙ zone-read r.offset k) in
     let parts = minutes-of-fields t.offset r.offset fields in
     (same_some t.seconds r.seconds (sym int_a ∙ ap int_value fronts ∙ int_b), parts.0, parts.1)
@@ -413,6 +410,6 @@ back-to (negsuc n) h =
 pub written-is-read : (t : Time) → FitsSigned w64 t.seconds → unsigned_abs t.offset < 360000 → unsigned_abs t.offset % 60 ≡ 0 → IsSomeAnd (header_text t) (λ text. header_time text ≡ Some t)
 written-is-read t f h m =
     let front = decimal_text t.seconds in
-    let zone = zone_text t.offset in
+    let zone = compact_offset_text t.offset in
     let read : header_time (front ++ (space ∷ zone)) ≡ Some t = plain-header front zone t.seconds (written_fields t.offset) (decimal-int t.seconds f) (zone-read t.offset h) ∙ ap (λ (o : ℤ). Some (time_at t.seconds o)) (back-to t.offset m) in
     subst (λ (r : Option (List ℕ)). IsSomeAnd r (λ text. header_time text ≡ Some t)) (sym (written-by t h)) read

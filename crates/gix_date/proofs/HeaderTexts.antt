@@ -4,9 +4,9 @@ use Rattle.std.proofs.lemmas.Bool.Decides.{nat_tests}
 use Rattle.std.proofs.lemmas.Int.{ints}
 use Rattle.std.specs.Prelude.{IfSome, IsSome, unsigned_abs, nat_lt}
 use Rattle.jiff.specs.Words.{IsOffsetSeconds}
-use Rattle.gix_date.specs.Characters.{space}
-use Rattle.gix_date.specs.HeaderText.{header_text, zone_text}
-use Rattle.gix_date.specs.Numbers.{decimal_text}
+use Rattle.gix_date.specs.Text.Characters.{space}
+use Rattle.gix_date.specs.Header.Text.{header_text, compact_offset_text}
+use Rattle.gix_date.specs.Text.Numbers.{decimal_text}
 use Rattle.gix_date.specs.declared.time.Time.{Time}
 use Rattle.gix_date.specs.declared.time.write.TheConstants.{HUNDRED_HOURS}
 
@@ -18,8 +18,8 @@ some_of false xs P h = tt
 pub length-header_text : (t : Time) (n : ℕ) → n ≡ length (decimal_text t.seconds) + 6 → IfSome (header_text t) (λ text. n ≡ length text)
 unfolding header_text
 length-header_text t n h =
-    let behind = space ∷ zone_text t.offset in
-    some_of (nat_lt (unsigned_abs t.offset) HUNDRED_HOURS) _ (λ text. n ≡ length text) (omega (arith, h, length-append (decimal_text t.seconds) behind))
+    let after = space ∷ compact_offset_text t.offset in
+    some_of (nat_lt (unsigned_abs t.offset) HUNDRED_HOURS) _ (λ text. n ≡ length text) (omega (arith, h, length-append (decimal_text t.seconds) after))
 
 is_some_of : (b : Bool) (xs : List ℕ) → b ≡ true → IsSome (cond b (Some xs) None)
 is_some_of true xs h = refl
@@ -30,6 +30,6 @@ short_of (pos n) h = grind (arith, ints, h.1)
 short_of (negsuc n) h = grind (arith, ints, h.0)
 
 -- an offset that a zone can have is short of 100 hours
-pub header_text_in_zone : (t : Time) → IsOffsetSeconds t.offset → IsSome (header_text t)
+pub fitting_has_text : (t : Time) → IsOffsetSeconds t.offset → IsSome (header_text t)
 unfolding header_text
-header_text_in_zone t h = is_some_of (nat_lt (unsigned_abs t.offset) HUNDRED_HOURS) _ (grind (arith, nat_tests, short_of t.offset h))
+fitting_has_text t h = is_some_of (nat_lt (unsigned_abs t.offset) HUNDRED_HOURS) _ (grind (arith, nat_tests, short_of t.offset h))

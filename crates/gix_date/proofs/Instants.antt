@@ -1,7 +1,7 @@
 -- The instant of fields, from what `jiff` says of dates, clocks and instants.
 use Rattle.std.proofs.Common.{◌≡◌, ◌∙◌, ◌↔◌, ◌≤◌, ℕ, ℤ, pos, ◌-ℤ◌, ◌*ℤ◌, Bool, true, false, cond, arith, refl, ap, Some, None, unsigned_abs, int_div}
 use Rattle.std.proofs.lemmas.Bool.Decides.{nat_tests}
-use Rattle.std.proofs.lemmas.Bool.{true_from_ne_false}
+use Rattle.std.proofs.lemmas.Bool.{true_from_ne_false, and_parts as both}
 use Rattle.std.proofs.lemmas.Float.{T_from_true}
 use Rattle.std.specs.Prelude.{◌&&◌, nat_le}
 use Rattle.std.specs.Int.Signed.{le_z, le_z_yes, ◌≤ℤ◌}
@@ -14,9 +14,9 @@ use Rattle.jiff_core.specs.Time.{IsTime, IsHms}
 use Rattle.jiff_core.specs.Timestamp.{IsTimestampNanos, nanos_of_seconds}
 use Rattle.jiff_core.specs.declared.civil.date.Date.{Date}
 use Rattle.jiff_core.specs.declared.civil.datetime.DateTime.{DateTime}
-use Rattle.gix_date.specs.Civil.{is_date, is_clock, civil_seconds, civil_instant}
-use Rattle.gix_date.specs.Zoned.{is_instant}
-use Rattle.gix_date.specs.Zoned.{first_second, last_second}
+use Rattle.gix_date.specs.Fields.Civil.{is_date, is_clock, civil_seconds, civil_instant}
+use Rattle.gix_date.specs.Printing.Zoned.{is_instant}
+use Rattle.gix_date.specs.Printing.Zoned.{first_second, last_second}
 use Rattle.gix_date.specs.declared.parsing.civil.DateFields.{DateFields}
 use Rattle.gix_date.specs.declared.parsing.civil.ClockFields.{ClockFields}
 
@@ -24,12 +24,8 @@ use Rattle.gix_date.specs.declared.parsing.civil.ClockFields.{ClockFields}
 abbrev pub IsInstantSeconds : ℤ → Type 0
 IsInstantSeconds seconds = IsBetween first_second last_second seconds
 
-pub both : (a b : Bool) → (a && b) ≡ true → (a ≡ true) × (b ≡ true)
-both true true h = (refl, refl)
-both true false h = cc
-both false b h = cc
-
-join : (a b : Bool) → a ≡ true → b ≡ true → (a && b) ≡ true
+-- both of two tests
+pub join : (a b : Bool) → a ≡ true → b ≡ true → (a && b) ≡ true
 join true true p q = refl
 join true false p q = q
 join false b p q = p

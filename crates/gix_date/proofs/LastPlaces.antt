@@ -2,11 +2,12 @@
 use Rattle.std.proofs.Common.{◌≡◌, ◌≢◌, ℕ, ◌<◌, ◌≤◌, Bool, true, false, cond, List, length, get_or, refl, sym, ap, ◌∙◌, subst, Option, Some, None, arith, zero, suc}
 use Rattle.std.proofs.lemmas.Bool.Decides.{nat_tests}
 use Rattle.std.proofs.lemmas.Str.Pattern.{rfind_char}
-use Rattle.std.specs.Prelude.{MatchOption, IfSome, ◌==◌, slice_index}
+use Rattle.std.specs.Prelude.{MatchOption, IfSome, ◌==◌}
 use Rattle.std.specs.Str.{IsCharBoundary}
 use Rattle.std.specs.Str.Pattern.{RFindsChar}
-use Rattle.gix_date.specs.Characters.{space}
-use Rattle.gix_date.specs.ClockCut.{last_place, IsLastPlace, has_offset_at, last_space}
+use Rattle.gix_date.specs.Text.Characters.{space}
+use Rattle.gix_date.specs.Git.ClockCut.{last_place, last_space}
+use Rattle.gix_date.specs.Private.Cuts.{IsLastPlace}
 
 -- the step of a search from the end
 pub passes_here : (t : ℕ → Bool) (n : ℕ) → t n ≡ true → last_place t (suc n) ≡ Some n
@@ -65,12 +66,5 @@ by_rfind bs (Some k) h =
     )
 
 -- the step of a search from the end, where the place is one less
-pub found_at : (t : ℕ → Bool) (n k : ℕ) → suc k ≡ n → t k ≡ true → last_place t n ≡ Some k
-found_at t n k e h = ap (last_place t) (sym e) ∙ passes_here t k h
-
 pub not_at : (t : ℕ → Bool) (n k : ℕ) → suc k ≡ n → t k ≡ false → last_place t k ≡ last_place t n
 not_at t n k e h = sym (passes_below t k h) ∙ ap (last_place t) e
-
--- a sign is ASCII
-pub sign_ascii : (u : List ℕ) (i : ℕ) → has_offset_at u i ≡ true → slice_index u i < 128
-sign_ascii u i h = grind (arith, nat_tests, h)

@@ -2,30 +2,30 @@
 use Rattle.std.proofs.Common.{◌≡◌, ◌∙◌, ℕ, ℤ, Bool, List, [], ◌∷◌, ◌++◌, refl, ap, sym, subst, Option, Some, None, inl, inr, ◌⊎◌, append-nil}
 use Rattle.std.specs.Prelude.{true, is_some, unwrap_or}
 use Rattle.std.specs.Char.{is_ascii_digit}
-use Rattle.gix_date.specs.Answer.{FamilyAnswer}
-use Rattle.gix_date.specs.Characters.{letter_t, is_space}
-use Rattle.gix_date.specs.FieldTexts.{IsField, AreSpaces, IsDayName, IsMonthName, IsDayPrefix}
-use Rattle.gix_date.specs.Fields.{behind, ◌>>=◌}
-use Rattle.gix_date.specs.Layout.{LocalTime, Piece, DayName, MailDayName, MonthName, Day, Year, PlainDate, Clock, MailClock, Spaces, LetterT, Offset, ColonOffset, MailOffset, with_year, with_month, with_day, with_date, with_clock, with_offset, read_piece, read_pieces, nothing_read, layout_answer, IsPiece, ArePieces}
-use Rattle.gix_date.specs.Numbers.{read_field, read_year}
-use Rattle.gix_date.specs.PatternFields.{behind_day_name, behind_spaces, behind_weekday, read_month, read_plain_date, read_clock, read_mail_clock}
-use Rattle.gix_date.specs.PatternZones.{compact_zone, strict_zone, mail_zone, mail_offset, named_zone}
-use Rattle.gix_date.specs.Offsets.{offset_fields, read_sign}
-use Rattle.gix_date.specs.Patterns.{short_layout, rfc2822_layout, iso8601_layout, iso8601_strict_layout, gitoxide_layout, default_layout, time_answer, real_day_answer, short_answer, rfc2822_answer, iso8601_answer, iso8601_strict_answer, gitoxide_answer, default_answer, IsAnswered, Spells}
+use Rattle.gix_date.specs.Families.Answer.{FamilyAnswer}
+use Rattle.gix_date.specs.Text.Characters.{letter_t, is_space}
+use Rattle.gix_date.specs.Fields.FieldTexts.{IsField, AreSpaces, IsDayName, IsMonthName, IsDayPrefix}
+use Rattle.gix_date.specs.Fields.Front.{skip_char, ◌>>=◌}
+use Rattle.gix_date.specs.Fields.Layout.{LocalTime, Piece, DayName, MailDayName, MonthName, Day, Year, PlainDate, Clock, MailClock, Spaces, LetterT, Offset, ColonOffset, MailOffset, read_piece, read_pieces, nothing_read, layout_answer, IsPiece, ArePieces}
+use Rattle.gix_date.specs.Text.Numbers.{read_field, read_year}
+use Rattle.gix_date.specs.Fields.DateFields.{skip_day_name, skip_spaces, skip_weekday, read_month, read_plain_date, read_clock, read_mail_clock}
+use Rattle.gix_date.specs.Fields.DateOffsets.{compact_offset, strict_offset, mail_zone, mail_offset, named_zone}
+use Rattle.gix_date.specs.Fields.Offsets.{offset_fields, read_sign}
+use Rattle.gix_date.specs.Families.Patterns.{short_layout, rfc2822_layout, iso8601_layout, iso8601_strict_layout, gitoxide_layout, default_layout, time_answer, real_day_answer, short_answer, rfc2822_answer, iso8601_answer, iso8601_strict_answer, gitoxide_answer, default_answer, IsAnswered, Spells}
 use Rattle.gix_date.proofs.FieldsRead.{Begins, BeginsNot, NoColon, begins-append, begins_not, digit-no-space, field-begins, field-read, year-begins, year-read, spaces-read, month-read, weekday-read, date-read, prefix-read, no-prefix, clock-read, mail-clock-read, compact-no-space, mail-no-space, strict-no-digit, clock-begins, mail-clock-begins, digit-front, name-front, gap-front, gap-no-colon}
-use Rattle.gix_date.proofs.FieldsTaken.{went, TookFront, behind-taken, field-taken, year-taken, spaces-taken, month-taken, weekday-taken, prefix-taken, date-taken, clock-taken, mail-clock-taken}
+use Rattle.gix_date.proofs.FieldsTaken.{went, TookFront, after-taken, field-taken, year-taken, spaces-taken, month-taken, weekday-taken, prefix-taken, date-taken, clock-taken, mail-clock-taken}
 
 -- the second time, with what a piece tells of the first
 abbrev pub set_piece : Piece → LocalTime → LocalTime → LocalTime
-set_piece MonthName t f = with_month f t.date.month
-set_piece Day t f = with_day f t.date.day
-set_piece Year t f = with_year f t.date.year
-set_piece PlainDate t f = with_date f t.date
-set_piece Clock t f = with_clock f t.clock
-set_piece MailClock t f = with_clock f t.clock
-set_piece Offset t f = with_offset f t.offset
-set_piece ColonOffset t f = with_offset f t.offset
-set_piece MailOffset t f = with_offset f t.offset
+set_piece MonthName t f = record f { date = record f.date { month = t.date.month } }
+set_piece Day t f = record f { date = record f.date { day = t.date.day } }
+set_piece Year t f = record f { date = record f.date { year = t.date.year } }
+set_piece PlainDate t f = record f { date = t.date }
+set_piece Clock t f = record f { clock = t.clock }
+set_piece MailClock t f = record f { clock = t.clock }
+set_piece Offset t f = record f { offset = t.offset }
+set_piece ColonOffset t f = record f { offset = t.offset }
+set_piece MailOffset t f = record f { offset = t.offset }
 set_piece _ t f = f
 
 abbrev pub set_pieces : List Piece → LocalTime → LocalTime → LocalTime
@@ -83,7 +83,7 @@ taken {p = p} {f = f} read put rest kept reads takes next x y e =
     }
 
 prefix : {B : Type 0} (f : LocalTime) (next : LocalTime → List ℕ → Option B) (x : List ℕ) (y : B) (found : Option (List ℕ))
-    → behind_day_name x ≡ found → next f (unwrap_or found x) ≡ Some y → PieceTaken MailDayName f next x y
+    → skip_day_name x ≡ found → next f (unwrap_or found x) ≡ Some y → PieceTaken MailDayName f next x y
 prefix f next x y (Some rest) h e =
     let t = prefix-taken x rest h in
     record {
@@ -107,11 +107,11 @@ prefix f next x y None h e = record {
   same = λ other. ap (λ (q : Option (List ℕ)). other f (unwrap_or q x)) h;
 }
 
-name : (x rest : List ℕ) → behind_weekday x ≡ Some rest → TookFront IsDayName x rest
+name : (x rest : List ℕ) → skip_weekday x ≡ Some rest → TookFront IsDayName x rest
 name x rest h = let t = weekday-taken x rest h in record { text = t.name; is = t.is_name; whole = t.whole }
 
-letter : (x rest : List ℕ) → behind letter_t x ≡ Some rest → TookFront (λ text. text ≡ letter_t ∷ []) x rest
-letter x rest h = record { text = letter_t ∷ []; is = refl; whole = behind-taken letter_t x rest h }
+letter : (x rest : List ℕ) → skip_char letter_t x ≡ Some rest → TookFront (λ text. text ≡ letter_t ∷ []) x rest
+letter x rest h = record { text = letter_t ∷ []; is = refl; whole = after-taken letter_t x rest h }
 
 -- an offset is all that is left
 offset : (zone : List ℕ → Option ℤ) (x : List ℕ) (v : ℤ) → zone x ≡ Some v → TookFront (λ text. zone text ≡ Some v) x []
@@ -119,19 +119,19 @@ offset zone x v h = record { text = x; is = h; whole = sym (append-nil x) }
 
 pub piece-taken : {B : Type 0} (p : Piece) (f : LocalTime) (next : LocalTime → List ℕ → Option B) (x : List ℕ) (y : B)
     → read_piece p f next x ≡ Some y → PieceTaken p f next x y
-piece-taken DayName f = taken behind_weekday (λ v. f) (λ v. v) (λ v. refl) (λ x other. refl) name
-piece-taken MailDayName f = λ next x y e. prefix f next x y (behind_day_name x) refl e
-piece-taken MonthName f = taken read_month (λ v. with_month f v.0) (λ v. v.1) (λ v. refl) (λ x other. refl) (λ x v. month-taken x v.0 v.1)
-piece-taken Day f = taken read_field (λ v. with_day f v.0) (λ v. v.1) (λ v. refl) (λ x other. refl) (λ x v. field-taken x v.0 v.1)
-piece-taken Year f = taken read_year (λ v. with_year f v.0) (λ v. v.1) (λ v. refl) (λ x other. refl) (λ x v. year-taken x v.0 v.1)
-piece-taken PlainDate f = taken read_plain_date (λ v. with_date f v.0) (λ v. v.1) (λ v. refl) (λ x other. refl) (λ x v. date-taken x v.0 v.1)
-piece-taken Clock f = taken read_clock (λ v. with_clock f v.0) (λ v. v.1) (λ v. refl) (λ x other. refl) (λ x v. clock-taken x v.0 v.1)
-piece-taken MailClock f = taken read_mail_clock (λ v. with_clock f v.0) (λ v. v.1) (λ v. refl) (λ x other. refl) (λ x v. mail-clock-taken x v.0 v.1)
-piece-taken Spaces f = taken behind_spaces (λ v. f) (λ v. v) (λ v. refl) (λ x other. refl) spaces-taken
-piece-taken LetterT f = taken (behind letter_t) (λ v. f) (λ v. v) (λ v. refl) (λ x other. refl) letter
-piece-taken Offset f = taken compact_zone (with_offset f) (λ v. []) (λ v. refl) (λ x other. refl) (offset compact_zone)
-piece-taken ColonOffset f = taken strict_zone (with_offset f) (λ v. []) (λ v. refl) (λ x other. refl) (offset strict_zone)
-piece-taken MailOffset f = taken mail_zone (with_offset f) (λ v. []) (λ v. refl) (λ x other. refl) (offset mail_zone)
+piece-taken DayName f = taken skip_weekday (λ v. f) (λ v. v) (λ v. refl) (λ x other. refl) name
+piece-taken MailDayName f = λ next x y e. prefix f next x y (skip_day_name x) refl e
+piece-taken MonthName f = taken read_month (λ v. record f { date = record f.date { month = v.0 } }) (λ v. v.1) (λ v. refl) (λ x other. refl) (λ x v. month-taken x v.0 v.1)
+piece-taken Day f = taken read_field (λ v. record f { date = record f.date { day = v.0 } }) (λ v. v.1) (λ v. refl) (λ x other. refl) (λ x v. field-taken x v.0 v.1)
+piece-taken Year f = taken read_year (λ v. record f { date = record f.date { year = v.0 } }) (λ v. v.1) (λ v. refl) (λ x other. refl) (λ x v. year-taken x v.0 v.1)
+piece-taken PlainDate f = taken read_plain_date (λ v. record f { date = v.0 }) (λ v. v.1) (λ v. refl) (λ x other. refl) (λ x v. date-taken x v.0 v.1)
+piece-taken Clock f = taken read_clock (λ v. record f { clock = v.0 }) (λ v. v.1) (λ v. refl) (λ x other. refl) (λ x v. clock-taken x v.0 v.1)
+piece-taken MailClock f = taken read_mail_clock (λ v. record f { clock = v.0 }) (λ v. v.1) (λ v. refl) (λ x other. refl) (λ x v. mail-clock-taken x v.0 v.1)
+piece-taken Spaces f = taken skip_spaces (λ v. f) (λ v. v) (λ v. refl) (λ x other. refl) spaces-taken
+piece-taken LetterT f = taken (skip_char letter_t) (λ v. f) (λ v. v) (λ v. refl) (λ x other. refl) letter
+piece-taken Offset f = taken compact_offset (λ v. record f { offset = v }) (λ v. []) (λ v. refl) (λ x other. refl) (offset compact_offset)
+piece-taken ColonOffset f = taken strict_offset (λ v. record f { offset = v }) (λ v. []) (λ v. refl) (λ x other. refl) (offset strict_offset)
+piece-taken MailOffset f = taken mail_zone (λ v. record f { offset = v }) (λ v. []) (λ v. refl) (λ x other. refl) (offset mail_zone)
 
 -- no piece changes what a piece before it told
 abbrev pub told_first : List Piece → LocalTime → LocalTime → LocalTime → List LocalTime
@@ -173,16 +173,16 @@ pieces-taken (p ∷ ps) once f next x y e =
       goes = more.goes;
     }
 
--- layouts that begin alike are apart where what stands behind is
-pub apart-behind : {B : Type 0} (ps one other : List Piece) (f : LocalTime) (next : LocalTime → Option B) (x : List ℕ) (y : B)
+-- layouts that begin alike are apart where what stands after is
+pub apart-after : {B : Type 0} (ps one other : List Piece) (f : LocalTime) (next : LocalTime → Option B) (x : List ℕ) (y : B)
     → ((g : LocalTime) (rest : List ℕ) → read_pieces one g next rest ≡ Some y → read_pieces other g next rest ≡ None)
     → read_pieces (ps ++ one) f next x ≡ Some y → read_pieces (ps ++ other) f next x ≡ None
-apart-behind [] one other f next x y clash e = clash f x e
-apart-behind (p ∷ ps) one other f next x y clash e =
+apart-after [] one other f next x y clash e = clash f x e
+apart-after (p ∷ ps) one other f next x y clash e =
     let first = piece-taken p f (λ g rest. read_pieces (ps ++ one) g next rest) x y e in
-    first.same (λ g rest. read_pieces (ps ++ other) g next rest) ∙ apart-behind ps one other first.found next first.rest y clash first.goes
+    first.same (λ g rest. read_pieces (ps ++ other) g next rest) ∙ apart-after ps one other first.found next first.rest y clash first.goes
 
--- what the reader of a piece wants of the text behind it
+-- what the reader of a piece wants of the text after it
 abbrev pub Needs : Piece → List ℕ → Type 0
 Needs MailDayName rest = Begins is_ascii_digit rest
 Needs Day rest = BeginsNot is_ascii_digit rest
@@ -205,16 +205,16 @@ pub zone-front : (test : ℕ → Bool) (zone : List ℕ → Option ℤ) → zone
 zone-front test zone empty not [] rest o h = let clash : None ≡ Some o = sym empty ∙ h in absurd cc
 zone-front test zone empty not (c ∷ text) rest o h = not (c ∷ text) o h
 
-pub no-compact : compact_zone [] ≡ None
-unfolding compact_zone offset_fields read_sign behind
+pub no-compact : compact_offset [] ≡ None
+unfolding compact_offset offset_fields read_sign skip_char
 no-compact = refl
 
-pub no-strict : strict_zone [] ≡ None
-unfolding strict_zone read_sign behind
+pub no-strict : strict_offset [] ≡ None
+unfolding strict_offset read_sign skip_char
 no-strict = refl
 
 pub no-mail : mail_zone [] ≡ None
-unfolding mail_zone mail_offset named_zone offset_fields read_sign behind
+unfolding mail_zone mail_offset named_zone offset_fields read_sign skip_char
 no-mail = refl
 
 pub number-front : (front rest : List ℕ) → Begins is_ascii_digit (front ++ rest) → BeginsNot is_space (front ++ rest)
@@ -231,14 +231,14 @@ before Day Spaces = Some (λ t front rest h. gap-front front rest h)
 before PlainDate Spaces = Some (λ t front rest h. gap-front front rest h)
 before PlainDate LetterT = Some (λ t front rest h. subst (λ k. BeginsNot is_ascii_digit (k ++ rest)) (sym h) refl)
 before Clock Spaces = Some (λ t front rest h. gap-front front rest h)
-before Clock ColonOffset = Some (λ t front rest h. zone-front is_ascii_digit strict_zone no-strict strict-no-digit front rest t.offset h)
+before Clock ColonOffset = Some (λ t front rest h. zone-front is_ascii_digit strict_offset no-strict strict-no-digit front rest t.offset h)
 before MailClock Spaces = Some (λ t front rest h. (gap-front front rest h, gap-no-colon front rest h))
 before Spaces MonthName = Some (λ t front rest h. name-front front rest h.0)
 before Spaces Day = Some (λ t front rest h. digit-front front rest (field-begins front t.date.day h))
 before Spaces Year = Some (λ t front rest h. digit-front front rest (year-begins front t.date.year h))
 before Spaces Clock = Some (λ t front rest h. number-front front rest (clock-begins front rest t.clock h))
 before Spaces MailClock = Some (λ t front rest h. number-front front rest (mail-clock-begins front rest t.clock h))
-before Spaces Offset = Some (λ t front rest h. zone-front is_space compact_zone no-compact compact-no-space front rest t.offset h)
+before Spaces Offset = Some (λ t front rest h. zone-front is_space compact_offset no-compact compact-no-space front rest t.offset h)
 before Spaces MailOffset = Some (λ t front rest h. zone-front is_space mail_zone no-mail mail-no-space front rest t.offset h)
 before _ _ = None
 
@@ -267,14 +267,14 @@ readable (p ∷ q ∷ ps) = before p q >>= λ first. readable (q ∷ ps) >>= λ 
 
 letter-read : {B : Type 0} (f : LocalTime) (next : LocalTime → List ℕ → Option B) (rest : List ℕ)
     → read_piece LetterT f next (letter_t ∷ rest) ≡ next f rest
-unfolding behind
+unfolding skip_char
 letter-read f next rest = refl
 
 -- a piece that is written so is read
 piece-read : {B : Type 0} (p : Piece) (t f : LocalTime) (next : LocalTime → List ℕ → Option B) (front rest : List ℕ)
     → IsPiece p t front → Needs p rest → read_piece p f next (front ++ rest) ≡ next (set_piece p t f) rest
 piece-read DayName t f next front rest h n = rw (weekday-read front rest h) refl
-piece-read MailDayName t f next front rest (inl none) n = subst (λ k. next f (unwrap_or (behind_day_name (k ++ rest)) (k ++ rest)) ≡ next f rest) (sym none) (rw (no-prefix rest n) refl)
+piece-read MailDayName t f next front rest (inl none) n = subst (λ k. next f (unwrap_or (skip_day_name (k ++ rest)) (k ++ rest)) ≡ next f rest) (sym none) (rw (no-prefix rest n) refl)
 piece-read MailDayName t f next front rest (inr named) n = rw (prefix-read front rest named (begins_not is_ascii_digit is_space rest digit-no-space n)) refl
 piece-read MonthName t f next front rest h n = rw (month-read front rest t.date.month h) refl
 piece-read Day t f next front rest h n = rw (field-read front rest t.date.day h n) refl
@@ -288,10 +288,10 @@ piece-read Offset t f next front rest h n = rw (n, append-nil front, h) refl
 piece-read ColonOffset t f next front rest h n = rw (n, append-nil front, h) refl
 piece-read MailOffset t f next front rest h n = rw (n, append-nil front, h) refl
 
-behind-piece : (p : Piece) (ps : List Piece) (t : LocalTime) (rest : List ℕ) → Readable (p ∷ ps) → ArePieces ps t rest
+after-piece : (p : Piece) (ps : List Piece) (t : LocalTime) (rest : List ℕ) → Readable (p ∷ ps) → ArePieces ps t rest
     → Needs p rest × Readable ps
-behind-piece p [] t rest r h = (subst (Needs p) (sym h) r, tt)
-behind-piece p (q ∷ ps) t rest r h = (subst (Needs p) (sym h.whole) (r.0 t h.front h.rest h.is), r.1)
+after-piece p [] t rest r h = (subst (Needs p) (sym h) r, tt)
+after-piece p (q ∷ ps) t rest r h = (subst (Needs p) (sym h.whole) (r.0 t h.front h.rest h.is), r.1)
 
 -- pieces that are written so are read
 pub pieces-read : {B : Type 0} (ps : List Piece) → Readable ps
@@ -299,7 +299,7 @@ pub pieces-read : {B : Type 0} (ps : List Piece) → Readable ps
     → read_pieces ps f next text ≡ next (set_pieces ps t f)
 pieces-read [] r t f next text h = rw h refl
 pieces-read (p ∷ ps) r t f next text h =
-    let more = behind-piece p ps t h.rest r h.more in
+    let more = after-piece p ps t h.rest r h.more in
     ap (read_pieces (p ∷ ps) f next) h.whole
     ∙ piece-read p t f (λ g rest. read_pieces ps g next rest) h.front h.rest h.is more.0
     ∙ pieces-read ps more.1 t (set_piece p t f) next h.rest h.more

@@ -38,6 +38,8 @@ pub mod FixedTimes
 pub mod LocalClocks
 pub mod ClockRows
 pub mod Chains
+pub mod FixedSteps
+pub mod NameFronts
 pub mod Ints
 pub mod Decimals
 pub mod Rows

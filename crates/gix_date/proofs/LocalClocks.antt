@@ -15,9 +15,9 @@ use Rattle.jiff_core.proofs.DateLemmas.{epoch_day_range, epoch_day_injective}
 use Rattle.jiff_core.proofs.DateTimeLemmas.{civil_nanos-parts, time_nanos_bound}
 use Rattle.jiff_core.proofs.MarchLemmas.{leap_day, leap_day-shift, march_days-suc, day_count-early, day_count-late, month_and_day, day_in_month, day_in_early_month}
 use Rattle.jiff_core.proofs.SignedLemmas.{signed_arith, one_part}
-use Rattle.gix_date.specs.LocalClocks.{march_year, march_month, march_day, january_date, date_of_day, local_seconds, local_day, second_of_day, clock_of, HasOrdinaryClock}
-use Rattle.gix_date.specs.NamedTexts.{local_time, IsOrdinary}
-use Rattle.gix_date.specs.Zoned.{IsMoment, IsConvertible}
+use Rattle.gix_date.specs.Printing.LocalClocks.{march_year, march_month, march_day, january_date, date_of_day, local_seconds, local_day, second_of_day, clock_of, HasOrdinaryClock}
+use Rattle.gix_date.specs.Printing.NamedTexts.{local_time, IsOrdinary}
+use Rattle.gix_date.specs.Printing.Zoned.{IsMoment, IsConvertible}
 use Rattle.gix_date.specs.declared.time.Time.{Time}
 use Rattle.jiff.specs.declared.zoned.Zoned.{Zoned}
 

@@ -15,14 +15,14 @@ use Rattle.jiff_strtime.specs.Directive.{read_flag, colon_rest}
 use Rattle.jiff_strtime.specs.Number.{fold_digits}
 use Rattle.jiff_strtime.specs.Show.{Shown, show_format, show_steps, directive_text, text_of, offset_text, weekday_name, short}
 use Rattle.jiff_strtime.specs.Text.{month_names as full_names}
-use Rattle.gix_date.specs.Characters.{space, comma, colon, minus, letter_t}
-use Rattle.gix_date.specs.Layout.{LocalTime, Piece, DayName, MailDayName, MonthName, Day, Year, PlainDate, Clock, MailClock, Spaces, LetterT, Offset, ColonOffset, MailOffset, print_piece, print_pieces}
-use Rattle.gix_date.specs.Names.{day_name}
-use Rattle.gix_date.specs.Numbers.{two_digits}
-use Rattle.gix_date.specs.NamedTexts.{local_time, IsOrdinary, ShowsText, short_pattern, short_text, rfc2822_pattern, rfc2822_text, git_rfc2822_pattern, git_rfc2822_text, iso8601_pattern, iso8601_text, iso8601_strict_pattern, iso8601_strict_text, gitoxide_pattern, gitoxide_text, default_pattern, default_text}
-use Rattle.gix_date.specs.Patterns.{short_layout, rfc2822_layout, iso8601_layout, iso8601_strict_layout, gitoxide_layout, default_layout}
+use Rattle.gix_date.specs.Text.Characters.{space, comma, colon, minus, letter_t}
+use Rattle.gix_date.specs.Fields.Layout.{LocalTime, Piece, DayName, MailDayName, MonthName, Day, Year, PlainDate, Clock, MailClock, Spaces, LetterT, Offset, ColonOffset, MailOffset, print_piece, print_pieces}
+use Rattle.gix_date.specs.Text.Names.{day_name}
+use Rattle.gix_date.specs.Text.Numbers.{two_digits}
+use Rattle.gix_date.specs.Printing.NamedTexts.{local_time, IsOrdinary, ShowsText, short_pattern, short_text, rfc2822_pattern, rfc2822_text, git_rfc2822_pattern, git_rfc2822_text, iso8601_pattern, iso8601_text, iso8601_strict_pattern, iso8601_strict_text, gitoxide_pattern, gitoxide_text, default_pattern, default_text}
+use Rattle.gix_date.specs.Families.Patterns.{short_layout, rfc2822_layout, iso8601_layout, iso8601_strict_layout, gitoxide_layout, default_layout}
 use Rattle.gix_date.proofs.Printing.{filled_parts}
-use Rattle.gix_date.proofs.ShownPieces.{AlwaysShows, InRange, ascii-bare, ascii-four, ascii-month, ascii-strict-zone, ascii-two, ascii-weekday, ascii-zone, bare, context, in-range, joined, joined-is, month-short, number, number-bare, number-four, number-two, shows-text, strict-zone-is, strict_config, weekday-short, year-is, zone-is}
+use Rattle.gix_date.proofs.ShownPieces.{AlwaysShows, InRange, ascii-bare, ascii-four, ascii-month, ascii-strict-zone, ascii-two, ascii-weekday, ascii-zone, bare, context, in-range, joined_text, joined_text-is, month-short, number, number-bare, number-four, number-two, shows-text, strict-zone-is, strict_config, weekday-short, year-is, zone-is}
 
 -- what `jiff` shows for a piece: the year apart, since it has a sign there
 abbrev pub jiff_piece : (ℕ → List ℕ) → Piece → ℤ → LocalTime → List (List ℕ)
@@ -40,7 +40,7 @@ jiff_piece day Offset y t = offset_text t.offset false true false ∷ []
 jiff_piece day ColonOffset y t = offset_text t.offset true true false ∷ []
 jiff_piece day MailOffset y t = offset_text t.offset false true false ∷ []
 
--- and for pieces: behind them as many empty ones as are given
+-- and for pieces: after them as many empty ones as are given
 abbrev pub jiff_pieces : (ℕ → List ℕ) → List Piece → ℤ → LocalTime → ℕ → List (List ℕ)
 jiff_pieces day [] y t blanks = replicate blanks []
 jiff_pieces day (p ∷ ps) y t blanks = jiff_piece day p y t ++ jiff_pieces day ps y t blanks
@@ -127,7 +127,7 @@ abbrev pub ShowsPieces : List ℕ → (ℕ → List ℕ) → List Piece → ℕ 
 ShowsPieces pattern jiff_day ps blanks =
     (z : PlainZoned) (abbreviation : List ℕ) (name : Option (List ℕ)) (date : Result Date Error) (iso : Result ISOWeekDate Error) (second : Result ℤ Error)
     → nat_lt z.datetime.date.month 1 ≡ false → nat_lt 12 z.datetime.date.month ≡ false
-    → show_format strict_config pattern (context (filled_parts z abbreviation name) date iso second) ≡ Ok (joined [] (jiff_pieces jiff_day ps z.datetime.date.year (local_time z) blanks))
+    → show_format strict_config pattern (context (filled_parts z abbreviation name) date iso second) ≡ Ok (joined_text [] (jiff_pieces jiff_day ps z.datetime.date.year (local_time z) blanks))
 
 shown : List ℕ → Shown
 shown text = Ok text
@@ -142,8 +142,8 @@ always pattern {jiff_day} {day} d ps blanks shows z o abbreviation name date iso
     let high : nat_lt 12 in_year.month ≡ false = grind (arith, in_year.month_in) in
     let t = local_time z in
     shows z abbreviation name date iso second low high
-    ∙ ap (λ (v : ℤ). shown (joined [] (jiff_pieces jiff_day ps v t blanks))) (year-is z o)
-    ∙ ap shown (joined-is [] (jiff_pieces jiff_day ps (pos t.date.year) t blanks) ∙ pieces-shown d ps t blanks (in-range z o))
+    ∙ ap (λ (v : ℤ). shown (joined_text [] (jiff_pieces jiff_day ps v t blanks))) (year-is z o)
+    ∙ ap shown (joined_text-is [] (jiff_pieces jiff_day ps (pos t.date.year) t blanks) ∙ pieces-shown d ps t blanks (in-range z o))
 
 by-pieces : (pattern : List ℕ) {jiff_day day : ℕ → List ℕ} → ShowsDay jiff_day day → (ps : List Piece) (blanks : ℕ)
     → ShowsPieces pattern jiff_day ps blanks → ShowsText pattern (λ t. print_pieces day ps t)

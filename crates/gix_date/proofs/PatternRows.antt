@@ -3,21 +3,21 @@ use Rattle.std.proofs.Common.{◌≡◌, refl, ℕ, ℤ, List, [], ◌∷◌, po
 use Rattle.jiff_core.specs.Calendar.{days_from_civil, day_count, days_of_years, days_of_months}
 use Rattle.std.specs.Prelude.{codes, Some}
 use Rattle.gix_date.proofs.Rows.{minus, time}
-use Rattle.gix_date.specs.Answer.{FamilyAnswer, Absolute, OffsetBeyond, InstantBeyond}
-use Rattle.gix_date.specs.Civil.{civil_instant}
-use Rattle.gix_date.specs.Fields.{behind}
-use Rattle.gix_date.specs.Layout.{LocalTime, Piece, DayName, MailDayName, MonthName, Day, Year, PlainDate, Clock, MailClock, Spaces, LetterT, Offset, ColonOffset, MailOffset, with_year, with_month, with_day, with_date, with_clock, with_offset, nothing_read, layout_answer}
-use Rattle.gix_date.specs.Numbers.{read_two_digits, read_digit, read_field, read_year}
-use Rattle.gix_date.specs.Offsets.{offset_fields, read_sign, last_pair}
-use Rattle.gix_date.specs.PatternFields.{behind_day_name, behind_spaces, behind_weekday, read_name, read_month, month_of, is_weekday, read_plain_date, read_minutes, read_second, read_clock, read_mail_clock}
-use Rattle.gix_date.specs.PatternZones.{compact_zone, strict_zone, mail_zone, mail_offset, named_zone, last_colon_pair}
-use Rattle.gix_date.specs.Patterns.{short_answer, rfc2822_answer, iso8601_answer, iso8601_strict_answer, gitoxide_answer, default_answer, date_answer}
+use Rattle.gix_date.specs.Families.Answer.{FamilyAnswer, Absolute, OffsetBeyond, InstantBeyond}
+use Rattle.gix_date.specs.Fields.Civil.{civil_instant}
+use Rattle.gix_date.specs.Fields.Front.{skip_char}
+use Rattle.gix_date.specs.Fields.Layout.{LocalTime, Piece, DayName, MailDayName, MonthName, Day, Year, PlainDate, Clock, MailClock, Spaces, LetterT, Offset, ColonOffset, MailOffset, nothing_read, layout_answer}
+use Rattle.gix_date.specs.Text.Numbers.{read_two_digits, read_digit, read_field, read_year}
+use Rattle.gix_date.specs.Fields.Offsets.{offset_fields, read_sign, last_pair}
+use Rattle.gix_date.specs.Fields.DateFields.{skip_day_name, skip_spaces, skip_weekday, read_name, read_month, month_named, is_weekday, read_plain_date, read_minutes, read_second, read_clock, read_mail_clock}
+use Rattle.gix_date.specs.Fields.DateOffsets.{compact_offset, strict_offset, mail_zone, mail_offset, named_zone, last_colon_pair}
+use Rattle.gix_date.specs.Families.Patterns.{short_answer, rfc2822_answer, iso8601_answer, iso8601_strict_answer, gitoxide_answer, default_answer, date_answer}
 use Rattle.gix_date.specs.declared.parsing.civil.ClockFields.{ClockFields}
 use Rattle.gix_date.specs.declared.parsing.civil.DateFields.{DateFields}
 
 -- all that a row needs to see computed
 computing : Type 0
-unfolding behind_spaces behind_weekday read_name read_month month_of is_weekday read_plain_date read_minutes read_second read_clock read_mail_clock compact_zone strict_zone mail_zone mail_offset named_zone last_colon_pair behind_day_name behind read_two_digits read_digit read_field read_year offset_fields read_sign last_pair
+unfolding skip_spaces skip_weekday read_name read_month month_named is_weekday read_plain_date read_minutes read_second read_clock read_mail_clock compact_offset strict_offset mail_zone mail_offset named_zone last_colon_pair skip_day_name skip_char read_two_digits read_digit read_field read_year offset_fields read_sign last_pair
 computing = Unit {0}
 
 -- what a whole date needs to see computed besides
@@ -58,7 +58,7 @@ unfolding computing
 no-mail-day-name = refl
 
 month-name :
-    Tells MonthName (codes "jAN") (with_month nothing_read 1) × Tells MonthName (codes "Dec") (with_month nothing_read 12)
+    Tells MonthName (codes "jAN") (record nothing_read { date = date 0 1 0 }) × Tells MonthName (codes "Dec") (record nothing_read { date = date 0 12 0 })
 unfolding computing
 month-name = (refl, refl)
 
@@ -67,8 +67,8 @@ unfolding computing
 no-month-name = refl
 
 day :
-    Tells Day (codes "7") (with_day nothing_read 7) × Tells Day (codes "07") (with_day nothing_read 7)
-    × Tells Day (codes "31") (with_day nothing_read 31)
+    Tells Day (codes "7") (record nothing_read { date = date 0 0 7 }) × Tells Day (codes "07") (record nothing_read { date = date 0 0 7 })
+    × Tells Day (codes "31") (record nothing_read { date = date 0 0 31 })
 unfolding computing
 day = (refl, refl, refl)
 
@@ -76,7 +76,7 @@ no-day : Refuses (alone Day) (codes "" ∷ codes "123" ∷ codes "+7" ∷ codes 
 unfolding computing
 no-day = refl
 
-year : Tells Year (codes "2022") (with_year nothing_read 2022) × Tells Year (codes "0022") (with_year nothing_read 22)
+year : Tells Year (codes "2022") (record nothing_read { date = date 2022 0 0 }) × Tells Year (codes "0022") (record nothing_read { date = date 22 0 0 })
 unfolding computing
 year = (refl, refl)
 
@@ -84,7 +84,7 @@ no-year : Refuses (alone Year) (codes "22" ∷ codes "122" ∷ codes "12022" ∷
 unfolding computing
 no-year = refl
 
-plain-date : Tells PlainDate (codes "2018-1-02") (with_date nothing_read (date 2018 1 2))
+plain-date : Tells PlainDate (codes "2018-1-02") (record nothing_read { date = date 2018 1 2 })
 unfolding computing
 plain-date = refl
 
@@ -97,9 +97,9 @@ no-plain-date = refl
 
 -- a second of 60 is told as 59, and one of 61 as itself: no day has that clock
 clock-time :
-    Tells Clock (codes "4:5:06") (with_clock nothing_read (clock 4 5 6))
-    × Tells Clock (codes "12:45:60") (with_clock nothing_read (clock 12 45 59))
-    × Tells Clock (codes "12:45:61") (with_clock nothing_read (clock 12 45 61))
+    Tells Clock (codes "4:5:06") (record nothing_read { clock = clock 4 5 6 })
+    × Tells Clock (codes "12:45:60") (record nothing_read { clock = clock 12 45 59 })
+    × Tells Clock (codes "12:45:61") (record nothing_read { clock = clock 12 45 61 })
 unfolding computing
 clock-time = (refl, refl, refl)
 
@@ -111,8 +111,8 @@ unfolding computing
 no-clock = refl
 
 mail-clock :
-    Tells MailClock (codes "12:45") (with_clock nothing_read (clock 12 45 0))
-    × Tells MailClock (codes "12:45:60") (with_clock nothing_read (clock 12 45 59))
+    Tells MailClock (codes "12:45") (record nothing_read { clock = clock 12 45 0 })
+    × Tells MailClock (codes "12:45:60") (record nothing_read { clock = clock 12 45 59 })
 unfolding computing
 mail-clock = (refl, refl)
 
@@ -137,8 +137,8 @@ unfolding computing
 no-letter = refl
 
 offset :
-    Tells Offset (codes "+2559") (with_offset nothing_read (pos 93540))
-    × Tells Offset (codes "-010203") (with_offset nothing_read (minus 3723))
+    Tells Offset (codes "+2559") (record nothing_read { offset = pos 93540 })
+    × Tells Offset (codes "-010203") (record nothing_read { offset = minus 3723 })
 unfolding computing
 offset = (refl, refl)
 
@@ -150,9 +150,9 @@ unfolding computing
 no-offset = refl
 
 colon-offset :
-    Tells ColonOffset (codes "-00:30") (with_offset nothing_read (minus 1800))
-    × Tells ColonOffset (codes "+00:00:01") (with_offset nothing_read (pos 1))
-    × Tells ColonOffset (codes "+25:59:59") (with_offset nothing_read (pos 93599))
+    Tells ColonOffset (codes "-00:30") (record nothing_read { offset = minus 1800 })
+    × Tells ColonOffset (codes "+00:00:01") (record nothing_read { offset = pos 1 })
+    × Tells ColonOffset (codes "+25:59:59") (record nothing_read { offset = pos 93599 })
 unfolding computing
 colon-offset = (refl, refl, refl)
 
@@ -164,9 +164,9 @@ unfolding computing
 no-colon-offset = refl
 
 mail-offset :
-    Tells MailOffset (codes "+0800") (with_offset nothing_read (pos 28800))
-    × Tells MailOffset (codes "pSt") (with_offset nothing_read (minus 28800))
-    × Tells MailOffset (codes "-2559") (with_offset nothing_read (minus 93540))
+    Tells MailOffset (codes "+0800") (record nothing_read { offset = pos 28800 })
+    × Tells MailOffset (codes "pSt") (record nothing_read { offset = minus 28800 })
+    × Tells MailOffset (codes "-2559") (record nothing_read { offset = minus 93540 })
 unfolding computing
 mail-offset = (refl, refl, refl)
 
@@ -184,7 +184,7 @@ no-mail-offset :
 unfolding computing
 no-mail-offset = refl
 
--- Fields at the front of a text, and what stands behind them.
+-- Fields at the front of a text, and what stands after them.
 one-digit-or-two : read_plain_date (codes "2018-1-02x") ≡ Some (date 2018 1 2, codes "x")
 unfolding computing
 one-digit-or-two = refl
@@ -197,7 +197,7 @@ month-written-out : read_month (codes "August") ≡ Some (8, codes "ust")
 unfolding computing
 month-written-out = refl
 
-spaces-at-the-front : behind_spaces (codes "  x ") ≡ Some (codes "x ")
+spaces-at-the-front : skip_spaces (codes "  x ") ≡ Some (codes "x ")
 unfolding computing
 spaces-at-the-front = refl
 

@@ -1,5 +1,6 @@
 -- Headers of two numbers, with one space between them.
 use Rattle.std.proofs.Common.{◌≡◌, ◌∙◌, ◌+◌, ◌<◌, ℕ, ℤ, Bool, true, false, List, [], ◌∷◌, ◌++◌, map, length, refl, ap, sym, subst, Some, None, append-nil, arith, IsAscii, inl, inr, ◌⊎◌, Option, option_map, get_or, take, drop, take-append-drop, drop-cons, add-one}
+use Rattle.std.proofs.lemmas.Bool.{and_parts as both}
 use Rattle.std.proofs.lemmas.Bool.Decides.{nat_tests}
 use Rattle.std.proofs.lemmas.Str.{chars-IsAscii, encodes-IsAscii, IsAscii-append}
 use Rattle.std.proofs.lemmas.Str.Ascii.{IsAscii-nil, IsAscii-cons}
@@ -9,21 +10,22 @@ use Rattle.std.specs.Str.{chars, NonePass, all_ascii_digits}
 use Rattle.std.specs.Str.Parse.{without_leading_sign, signed_digits_value}
 use Rattle.std.specs.Option.{option_or}
 use Rattle.std.proofs.lemmas.List.Folds.{list_any-append}
-use Rattle.gix_date.specs.Characters.{space, plus, minus, is_colon, has_colon}
-use Rattle.gix_date.specs.Fields.{behind, ◌>>=◌}
-use Rattle.gix_date.specs.FieldTexts.{IsDigit}
-use Rattle.gix_date.specs.Numbers.{fits_i64, is_int_text, int_value, read_two_digits, is_number_byte}
-use Rattle.gix_date.specs.Offsets.{read_sign, last_pair, offset_fields, offset_of}
-use Rattle.gix_date.specs.HeaderReading.{IsPlainHeader, seconds_said, offset_said, time_of_words, header_time}
+use Rattle.gix_date.specs.Text.Characters.{space, plus, minus, is_colon, has_colon}
+use Rattle.gix_date.specs.Fields.Front.{skip_char, ◌>>=◌}
+use Rattle.gix_date.specs.Fields.FieldTexts.{IsDigit}
+use Rattle.gix_date.specs.Text.Numbers.{fits_i64, is_int_text, int_value, read_two_digits}
+use Rattle.gix_date.specs.Private.Shapes.{is_number_byte}
+use Rattle.gix_date.specs.Fields.Offsets.{read_sign, last_pair, offset_fields, offset_of}
+use Rattle.gix_date.specs.Header.Reading.{seconds_said, offset_said, time_of_words, header_time}
+use Rattle.gix_date.specs.Private.Headers.{IsPlainHeader}
 use Rattle.gix_date.specs.declared.parsing.offset.Sign.{Sign}
 use Rattle.gix_date.specs.declared.parsing.offset.Sign.TheVariants.{Plus, Minus}
 use Rattle.gix_date.specs.declared.parsing.offset.OffsetFields.{OffsetFields}
 use Rattle.gix_date.specs.declared.time.Time.{Time}
-use Rattle.gix_date.proofs.FieldsTaken.{went, guard, behind-taken, two-taken}
+use Rattle.gix_date.proofs.FieldsTaken.{went, guard, after-taken, two-taken}
 use Rattle.gix_date.proofs.Ints.{each_of}
-use Rattle.gix_date.proofs.Instants.{both}
-use Rattle.gix_date.specs.Raw.{OffsetRule, raw_time_by, raw_offset_by}
-use Rattle.gix_date.specs.SpaceWords.{space_words, runs}
+use Rattle.gix_date.specs.Families.Raw.{OffsetRule, raw_time_by, raw_offset_by}
+use Rattle.gix_date.specs.Text.SpaceWords.{space_words, runs}
 use Rattle.gix_date.proofs.WordSteps.{runs_skip, run_first, stops, ends}
 
 abbrev pub AreNumberBytes : List ℕ → Type 0
@@ -78,10 +80,10 @@ digits_are (c ∷ t) h =
     let parts = both (is_ascii_digit c) (all_ascii_digits t) h in
     (digit_is c parts.0, digits_are t parts.1)
 
-behind_sign : (c : ℕ) (t : List ℕ) (p q : Bool) → (c == minus) ≡ p → (c == plus) ≡ q → all_ascii_digits (without_leading_sign (c ∷ t)) ≡ true → AreNumberBytes (c ∷ t)
-behind_sign c t true q e f h = (minus_is c e, digits_are t (rw e at h))
-behind_sign c t false true e f h = (plus_is c f, digits_are t (rw (e, f) at h))
-behind_sign c t false false e f h = digits_are (c ∷ t) (rw (e, f) at h)
+after_sign : (c : ℕ) (t : List ℕ) (p q : Bool) → (c == minus) ≡ p → (c == plus) ≡ q → all_ascii_digits (without_leading_sign (c ∷ t)) ≡ true → AreNumberBytes (c ∷ t)
+after_sign c t true q e f h = (minus_is c e, digits_are t (rw e at h))
+after_sign c t false true e f h = (plus_is c f, digits_are t (rw (e, f) at h))
+after_sign c t false false e f h = digits_are (c ∷ t) (rw (e, f) at h)
 
 -- the value of an int text
 pub int-taken : (w : List ℕ) (n : ℤ) → int_value w ≡ Some n → (is_int_text w ≡ true) × (signed_digits_value 10 w ≡ n)
@@ -99,7 +101,7 @@ pub int-number : (w : List ℕ) (n : ℤ) → int_value w ≡ Some n → IsNumbe
 int-number [] n e = let h = (int-taken [] n e).0 in absurd cc
 int-number (c ∷ t) n e =
     let parts = each_of (nat_lt 0 (length (without_leading_sign (c ∷ t)))) (all_ascii_digits (without_leading_sign (c ∷ t))) (fits_i64 (signed_digits_value 10 (c ∷ t))) (int-taken (c ∷ t) n e).0 in
-    record { first = c; rest = t; whole = refl; bytes = behind_sign c t (c == minus) (c == plus) refl refl parts.1 }
+    record { first = c; rest = t; whole = refl; bytes = after_sign c t (c == minus) (c == plus) refl refl parts.1 }
 
 -- the mark of a sign
 abbrev pub IsMark : ℕ → Sign → Type 0
@@ -110,19 +112,19 @@ pub record TookSign (x : List ℕ) (s : Sign) (rest : List ℕ) : Type 0 where
   pub is_mark : IsMark mark s
   pub whole : x ≡ mark ∷ rest
 
-sign_from : (x : List ℕ) (a b : Option (List ℕ)) (s : Sign) (rest : List ℕ) → behind plus x ≡ a → behind minus x ≡ b
+sign_from : (x : List ℕ) (a b : Option (List ℕ)) (s : Sign) (rest : List ℕ) → skip_char plus x ≡ a → skip_char minus x ≡ b
     → option_or (option_map {U = Sign × List ℕ} (λ r. (Plus, r)) a) (option_map {U = Sign × List ℕ} (λ r. (Minus, r)) b) ≡ Some (s, rest) → TookSign x s rest
 sign_from x (Some r) b s rest e f h =
     let found : (Plus, r) ≡ (s, rest) = cc in
-    record { mark = plus; is_mark = inl (refl, sym (ap (λ (p : Sign × List ℕ). p.0) found)); whole = behind-taken plus x r e ∙ ap (λ (p : Sign × List ℕ). plus ∷ p.1) found }
+    record { mark = plus; is_mark = inl (refl, sym (ap (λ (p : Sign × List ℕ). p.0) found)); whole = after-taken plus x r e ∙ ap (λ (p : Sign × List ℕ). plus ∷ p.1) found }
 sign_from x None (Some r) s rest e f h =
     let found : (Minus, r) ≡ (s, rest) = cc in
-    record { mark = minus; is_mark = inr (refl, sym (ap (λ (p : Sign × List ℕ). p.0) found)); whole = behind-taken minus x r f ∙ ap (λ (p : Sign × List ℕ). minus ∷ p.1) found }
+    record { mark = minus; is_mark = inr (refl, sym (ap (λ (p : Sign × List ℕ). p.0) found)); whole = after-taken minus x r f ∙ ap (λ (p : Sign × List ℕ). minus ∷ p.1) found }
 sign_from x None None s rest e f h = absurd cc
 
 pub sign-taken : (x : List ℕ) (s : Sign) (rest : List ℕ) → read_sign x ≡ Some (s, rest) → TookSign x s rest
 unfolding read_sign
-sign-taken x s rest e = sign_from x (behind plus x) (behind minus x) s rest refl refl e
+sign-taken x s rest e = sign_from x (skip_char plus x) (skip_char minus x) s rest refl refl e
 
 pub record TookLast (x : List ℕ) (seconds : Option ℕ) : Type 0 where
   pub bytes : AreNumberBytes x

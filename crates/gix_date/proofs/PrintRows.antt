@@ -1,12 +1,13 @@
--- The texts of the named formats on worked times: each row computes. And what the words of printing ask for, and no more.
+-- The texts of the named formats on worked times: each row computes. And what the words of printing ask for, and no
+-- more.
 use Rattle.std.proofs.Common.{◌≡◌, refl, pos, ℕ, ◌≤◌, ◌%◌, None, unsigned_abs}
 use Rattle.std.specs.Fmt.{digits}
 use Rattle.std.specs.Prelude.{codes}
 use Rattle.gix_date.proofs.Rows.{minus}
-use Rattle.gix_date.specs.HeaderText.{header_text}
-use Rattle.gix_date.specs.Layout.{LocalTime}
-use Rattle.gix_date.specs.NamedTexts.{IsOrdinary, short_text, rfc2822_text, git_rfc2822_text, iso8601_text, iso8601_strict_text, gitoxide_text, default_text}
-use Rattle.gix_date.specs.Printed.{HasNoText}
+use Rattle.gix_date.specs.Header.Text.{header_text}
+use Rattle.gix_date.specs.Fields.Layout.{LocalTime}
+use Rattle.gix_date.specs.Printing.NamedTexts.{IsOrdinary, short_text, rfc2822_text, git_rfc2822_text, iso8601_text, iso8601_strict_text, gitoxide_text, default_text}
+use Rattle.gix_date.specs.Printing.Formats.{HasNoText}
 use Rattle.gix_date.specs.declared.time.Time.{Time}
 use Rattle.gix_date.specs.declared.time.format.Format.TheVariants.{Unix, Raw}
 use Rattle.jiff.specs.Types.{PlainZoned}

@@ -1,18 +1,18 @@
 -- What is printed of a time is parsed back, from what is printed of a zoned value.
 use Rattle.std.proofs.Common.{◌≡◌, ◌∙◌, ◌<◌, ℕ, List, Option, None, Some, String, Global, Result, Ok, Err, inl, inr, ap, sym, subst, get_or}
 use Rattle.std.specs.Fmt.{decimal}
-use Rattle.gix_date.specs.Answer.{FamilyAnswer, Absolute}
-use Rattle.gix_date.specs.Families.{first_family_by, answers_before_git_by}
-use Rattle.gix_date.specs.FieldTexts.{IsField}
-use Rattle.gix_date.specs.Layout.{LocalTime, Piece, print_pieces}
-use Rattle.gix_date.specs.LocalClocks.{clock_of}
-use Rattle.gix_date.specs.NamedTexts.{ShowsText, local_time, rfc2822_pattern, git_rfc2822_pattern, iso8601_pattern, iso8601_strict_pattern, gitoxide_pattern, default_pattern, rfc2822_text, git_rfc2822_text, iso8601_text, iso8601_strict_text, gitoxide_text, default_text}
-use Rattle.gix_date.specs.Numbers.{two_digits}
-use Rattle.gix_date.specs.Patterns.{rfc2822_layout, iso8601_layout, iso8601_strict_layout, gitoxide_layout, default_layout, time_answer, rfc2822_answer, iso8601_answer, iso8601_strict_answer, gitoxide_answer, default_answer, IsAnswered, Spells}
-use Rattle.gix_date.specs.Printed.{PrintsBy}
-use Rattle.gix_date.specs.PrintedTimes.{PrintsText}
-use Rattle.gix_date.specs.Raw.{OffsetRule}
-use Rattle.gix_date.specs.ReadingBack.{IsPlainTime, IsReadBackBy, AreReadBackBy, PrintsBackBy, IsKeptBy}
+use Rattle.gix_date.specs.Families.Answer.{FamilyAnswer, Absolute}
+use Rattle.gix_date.specs.Families.Order.{first_family_by, answers_before_git_by}
+use Rattle.gix_date.specs.Fields.FieldTexts.{IsField}
+use Rattle.gix_date.specs.Fields.Layout.{LocalTime, Piece, print_pieces}
+use Rattle.gix_date.specs.Printing.LocalClocks.{clock_of}
+use Rattle.gix_date.specs.Printing.NamedTexts.{ShowsText, local_time, rfc2822_pattern, git_rfc2822_pattern, iso8601_pattern, iso8601_strict_pattern, gitoxide_pattern, default_pattern, rfc2822_text, git_rfc2822_text, iso8601_text, iso8601_strict_text, gitoxide_text, default_text}
+use Rattle.gix_date.specs.Text.Numbers.{two_digits}
+use Rattle.gix_date.specs.Families.Patterns.{rfc2822_layout, iso8601_layout, iso8601_strict_layout, gitoxide_layout, default_layout, time_answer, rfc2822_answer, iso8601_answer, iso8601_strict_answer, gitoxide_answer, default_answer, IsAnswered, Spells}
+use Rattle.gix_date.specs.Printing.Formats.{PrintsBy}
+use Rattle.gix_date.specs.Printing.PrintedTimes.{PrintsText}
+use Rattle.gix_date.specs.Families.Raw.{OffsetRule}
+use Rattle.gix_date.specs.Printing.ReadingBack.{IsPlainTime, IsReadBackBy, AreReadBackBy, PrintsBackBy, IsKeptBy}
 use Rattle.gix_date.specs.declared.error.Error.{Error}
 use Rattle.gix_date.specs.declared.time.Time.{Time}
 use Rattle.gix_date.proofs.Layouts.{dates_spelled}

@@ -1,8 +1,8 @@
 -- What a time is printed as, from what its zoned values are printed as.
 use Rattle.std.proofs.Common.{◌≡◌, ◌∙◌, ℕ, List, Ok, Err, inl, inr, string_bytes, ap}
-use Rattle.gix_date.specs.Layout.{LocalTime}
-use Rattle.gix_date.specs.NamedTexts.{ShowsText, local_time}
-use Rattle.gix_date.specs.PrintedTimes.{IsPrintedAs}
+use Rattle.gix_date.specs.Fields.Layout.{LocalTime}
+use Rattle.gix_date.specs.Printing.NamedTexts.{ShowsText, local_time}
+use Rattle.gix_date.specs.Printing.PrintedTimes.{IsPrintedAs}
 use Rattle.gix_date.specs.declared.time.Time.{Time}
 use Rattle.jiff.specs.Words.{plain_zoned}
 use Rattle.gix_date.proofs.LocalClocks.{clock-shown, ordinary-from, moment-shows}

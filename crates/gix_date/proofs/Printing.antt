@@ -15,13 +15,12 @@ use Rattle.jiff_strtime.specs.declared.tm.BrokenDownTime.{BrokenDownTime}
 use Rattle.jiff_tz.specs.Abbreviation.{abbreviation_text}
 use Rattle.jiff_tz.specs.Zone.{zone_name, IsInfoAt}
 use Rattle.jiff_tz.specs.declared.info.OffsetInfo.{OffsetInfo}
-use Rattle.gix_date.specs.Printed.{ArePrinted, HasNoText, IsShown, IsUnprinted, Prints, PrintsAt, PrintsBy, PrintsOrSeconds, PrintsSeconds}
-use Rattle.gix_date.specs.Zoned.{IsConvertible, IsMoment}
+use Rattle.gix_date.specs.Printing.Formats.{ArePrinted, IsShown, IsUnprinted, PrintsBy}
+use Rattle.gix_date.specs.Private.Printing.{PrintsAt}
+use Rattle.gix_date.specs.Printing.Zoned.{IsConvertible, IsMoment}
 use Rattle.gix_date.specs.declared.error.Error.{Error}
 use Rattle.gix_date.specs.declared.error.Error.TheVariants as errors
 use Rattle.gix_date.specs.declared.time.Time.{Time}
-use Rattle.gix_date.specs.declared.time.format.Format.{Format}
-use Rattle.gix_date.specs.declared.time.format.Format.TheVariants.{Custom, Unix, Raw}
 
 -- the parts that are printed, with the names of the zone
 abbrev pub filled_parts : PlainZoned → List ℕ → Option (List ℕ) → Parts
@@ -56,15 +55,3 @@ pub at-moment : (t : Time) (pattern : List ℕ) (z : Zoned) (r : Result (String 
 at-moment t pattern z (Ok text) m c h = (z, m, h)
 at-moment t pattern z (Err e) m c (inl memory) = inr (inl (memory, c))
 at-moment t pattern z (Err e) m c (inr refused) = inr (inr (refused.0, (z, m, refused.1)))
-
-no-text : (t : Time) (format : Format) (e : Error) → (e ≡ errors.Memory → ⊥) → Prints t format (Err e) → HasNoText t format
-no-text t Unix e n h = n h
-no-text t Raw e n (inl none) = none.1
-no-text t Raw e n (inr memory) = absurd (n memory.0)
-no-text t (Custom f) e n (inl outside) = inl outside.1
-no-text t (Custom f) e n (inr (inl memory)) = absurd (n memory.0)
-no-text t (Custom f) e n (inr (inr refused)) = inr refused.1
-
-pub seconds-instead : (t : Time) (format : Format) (e : Error) (r : Result (String Global) Error) → (e ≡ errors.Memory → ⊥) → Prints t format (Err e) → PrintsSeconds t r → PrintsOrSeconds t format r
-seconds-instead t format e (Ok text) n h s = inr (no-text t format e n h, s)
-seconds-instead t format e (Err f) n h s = s

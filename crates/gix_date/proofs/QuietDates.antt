@@ -1,38 +1,38 @@
 -- Formatted dates and numbers are quiet: their words are digits, and names of days, months and zones.
 use Rattle.std.proofs.Common.{◌≡◌, ◌∙◌, ◌<◌, ◌+◌, ◌-◌, ◌≤◌, ℕ, ℤ, Bool, true, false, cond, List, [], ◌∷◌, ◌++◌, length, take, refl, ap, ap₂, sym, subst, arith, append_assoc, append-nil, Some, None, Option, option_map, inl, inr, ◌⊎◌, IsUtf8, flat_map, zero, suc, get_or}
+use Rattle.std.proofs.lemmas.Bool.{and_parts as both}
 use Rattle.std.proofs.lemmas.Bool.Decides.{nat_tests}
 use Rattle.std.proofs.lemmas.List.Quantifiers.{position-Some}
 use Rattle.std.specs.Char.{is_ascii_digit, is_ascii_alphabetic, is_ascii_alphanumeric, to_ascii_lowercase}
-use Rattle.std.specs.List.{list_all, list_any, position}
+use Rattle.std.specs.List.{list_all, position}
 use Rattle.std.specs.Option.{option_or}
-use Rattle.std.specs.Prelude.{◌==◌, ◌||◌, ◌&&◌, nat_lt, codes}
+use Rattle.std.specs.Prelude.{◌==◌, ◌||◌, ◌&&◌, nat_lt}
 use Rattle.std.specs.Str.{all_ascii_digits}
 use Rattle.std.specs.Str.Parse.{without_leading_sign, signed_digits_value}
-use Rattle.gix_date.specs.Answer.{FamilyAnswer}
-use Rattle.gix_date.specs.Characters.{minus, plus, colon, comma, letter_t}
-use Rattle.gix_date.specs.Fields.{behind, ◌>>=◌}
-use Rattle.gix_date.specs.FieldTexts.{IsField, IsYear, AreSpaces, AreThreeLetters, IsDayName, IsMonthName, IsPlainDate, IsClock, IsMailClock, IsDayPrefix}
-use Rattle.gix_date.specs.Layout.{LocalTime, Piece, DayName, MailDayName, MonthName, Day, Year, PlainDate, Clock, MailClock, Spaces, LetterT, Offset, ColonOffset, MailOffset, IsPiece, ArePieces}
-use Rattle.gix_date.specs.Names.{is_name, day_names, month_names}
-use Rattle.gix_date.specs.Numbers.{fits_i64, int_value, read_two_digits, two_digit_value}
-use Rattle.gix_date.specs.Offsets.{read_sign, offset_fields}
-use Rattle.gix_date.specs.PatternFields.{is_weekday, month_of}
-use Rattle.gix_date.specs.PatternZones.{compact_zone, strict_zone, mail_zone, mail_offset, named_zone, zone_offset, last_colon_pair}
-use Rattle.gix_date.specs.Patterns.{short_layout, iso8601_layout, gitoxide_layout, default_layout, short_answer, rfc2822_answer, iso8601_answer, iso8601_strict_answer, gitoxide_answer, default_answer}
-use Rattle.gix_date.specs.Relative.{named_date}
-use Rattle.gix_date.specs.RelativeWords.{relative_words, is_gap, singular, named_unit, unit_of, is_ago}
-use Rattle.gix_date.specs.Roles.{has_unit}
-use Rattle.gix_date.specs.SpaceWords.{space_words}
+use Rattle.gix_date.specs.Families.Answer.{FamilyAnswer}
+use Rattle.gix_date.specs.Text.Characters.{minus, plus, colon, comma, letter_t}
+use Rattle.gix_date.specs.Fields.Front.{skip_char, ◌>>=◌}
+use Rattle.gix_date.specs.Fields.FieldTexts.{IsField, IsYear, AreSpaces, AreThreeLetters, IsDayName, IsMonthName, IsPlainDate, IsClock, IsMailClock, IsDayPrefix}
+use Rattle.gix_date.specs.Fields.Layout.{LocalTime, Piece, DayName, MailDayName, MonthName, Day, Year, PlainDate, Clock, MailClock, Spaces, LetterT, Offset, ColonOffset, MailOffset, IsPiece, ArePieces}
+use Rattle.gix_date.specs.Text.Names.{is_name, day_names, month_names}
+use Rattle.gix_date.specs.Text.Numbers.{fits_i64, int_value, read_two_digits, two_digit_value}
+use Rattle.gix_date.specs.Fields.Offsets.{read_sign, offset_fields}
+use Rattle.gix_date.specs.Fields.DateFields.{is_weekday, month_named}
+use Rattle.gix_date.specs.Fields.DateOffsets.{compact_offset, strict_offset, mail_zone, mail_offset, named_zone, zone_names, jiff_offset, last_colon_pair}
+use Rattle.gix_date.specs.Families.Patterns.{short_layout, iso8601_layout, gitoxide_layout, default_layout, short_answer, rfc2822_answer, iso8601_answer, iso8601_strict_answer, gitoxide_answer, default_answer}
+use Rattle.gix_date.specs.Relative.Dates.{named_date}
+use Rattle.gix_date.specs.Relative.Words.{relative_words, is_gap, singular, named_unit, unit_of, is_ago}
+use Rattle.gix_date.specs.Relative.Roles.{has_unit}
+use Rattle.gix_date.specs.Text.SpaceWords.{space_words}
 use Rattle.gix_date.specs.declared.parsing.civil.ClockFields.{ClockFields}
 use Rattle.gix_date.specs.declared.parsing.civil.DateFields.{DateFields}
 use Rattle.gix_date.specs.declared.parsing.offset.OffsetFields.{OffsetFields}
 use Rattle.gix_date.specs.declared.parsing.offset.Sign.{Sign}
-use Rattle.gix_date.proofs.FieldsTaken.{went, guard, behind-taken, two-taken}
+use Rattle.gix_date.proofs.FieldsTaken.{went, guard, after-taken, two-taken}
 use Rattle.gix_date.proofs.Ints.{each_of}
-use Rattle.gix_date.proofs.Instants.{both}
 use Rattle.gix_date.proofs.Layouts.{dates_spelled}
 use Rattle.gix_date.proofs.PlainHeaders.{int-taken, offset-taken, sign-taken, IsMark}
-use Rattle.gix_date.proofs.QuietWords.{says_nothing, says-by, IsQuiet, like, like-any, any-run, one-run-word}
+use Rattle.gix_date.proofs.QuietWords.{says_nothing, says-by, IsQuiet, like, like-any, names_of, named-any, any-run, one-run-word}
 use Rattle.gix_date.proofs.WordsWithin.{words-within, one-gap, none-of-empty}
 
 -- A word that begins with no letter says nothing.
@@ -80,7 +80,7 @@ digit-says-nothing c t h =
     no_letter : (c : ℕ) → is_ascii_digit c ≡ true → is_ascii_alphabetic c ≡ false
     no_letter c h = grind (arith, nat_tests, h)
 
--- Texts one behind the other, with a byte of no word between them, are quiet where each is.
+-- Texts one after the other, with a byte of no word between them, are quiet where each is.
 all-append : (p : List ℕ → Bool) (xs ys : List (List ℕ)) → list_all p xs ≡ true → list_all p ys ≡ true → list_all p (xs ++ ys) ≡ true
 all-append p [] ys h k = k
 all-append p (x ∷ xs) ys h k = let parts = both (p x) (list_all p xs) h in rw parts.0 (all-append p xs ys parts.1 k)
@@ -91,8 +91,8 @@ quiet-none = ap (list_all says_nothing) none-of-empty
 pub quiet-gap : (x : List ℕ) (g : ℕ) (y : List ℕ) → is_gap g ≡ true → IsQuiet x → IsQuiet y → IsQuiet (x ++ (g ∷ y))
 quiet-gap x g y h p q = ap (list_all says_nothing) (one-gap x g y h) ∙ all-append says_nothing (relative_words x) (relative_words y) p q
 
-pub quiet-behind : (g : ℕ) (y : List ℕ) → is_gap g ≡ true → IsQuiet y → IsQuiet (g ∷ y)
-quiet-behind g y h q = quiet-gap [] g y h quiet-none q
+pub quiet-after : (g : ℕ) (y : List ℕ) → is_gap g ≡ true → IsQuiet y → IsQuiet (g ∷ y)
+quiet-after g y h q = quiet-gap [] g y h quiet-none q
 
 space_gap : (c : ℕ) → (c == 32) ≡ true → is_gap c ≡ true
 space_gap c h = grind (arith, nat_tests, h)
@@ -101,7 +101,7 @@ quiet-skip : (gap y : List ℕ) → list_all (λ c. c == 32) gap ≡ true → Is
 quiet-skip [] y h q = q
 quiet-skip (c ∷ gap) y h q =
     let parts = both (c == 32) (list_all (λ c. c == 32) gap) h in
-    quiet-behind c (gap ++ y) (space_gap c parts.0) (quiet-skip gap y parts.1 q)
+    quiet-after c (gap ++ y) (space_gap c parts.0) (quiet-skip gap y parts.1 q)
 
 pub quiet-spaces : (x gap y : List ℕ) → AreSpaces gap → IsQuiet x → IsQuiet y → IsQuiet (x ++ (gap ++ y))
 quiet-spaces x [] y s p q = absurd s
@@ -198,7 +198,7 @@ found-name t (Some k) n e h =
     like t (get_or month_names k []) at.1 (all-at month_names k names-quiet.1 at.0)
 
 quiet-month-name : (t : List ℕ) (n : ℕ) → IsMonthName t n → IsQuiet t
-unfolding month_of
+unfolding month_named
 quiet-month-name t n h = quiet-name t (letters-run t h.0) (found-name t (position (is_name t) month_names) n refl h.1)
 
 -- Dates and clocks.
@@ -231,13 +231,13 @@ quiet-offset x f e =
     let k = offset-taken x f e in
     let rest = k.h0 ∷ k.h1 ∷ k.m0 ∷ k.m1 ∷ k.last in
     let all : all_ascii_digits rest ≡ true = rw (k.is_h0, k.is_h1, k.is_m0, k.is_m1) k.is_last.digits in
-    subst IsQuiet (sym k.whole) (quiet-behind k.mark rest (mark_gap k.mark f.sign k.is_mark) (quiet-digits rest all))
+    subst IsQuiet (sym k.whole) (quiet-after k.mark rest (mark_gap k.mark f.sign k.is_mark) (quiet-digits rest all))
 
-quiet-compact : (x : List ℕ) (o : ℤ) → compact_zone x ≡ Some o → IsQuiet x
-unfolding compact_zone
-quiet-compact x o e = let f = went (offset_fields x) (λ f. zone_offset f) o e in quiet-offset x f.0 f.1
+quiet-compact : (x : List ℕ) (o : ℤ) → compact_offset x ≡ Some o → IsQuiet x
+unfolding compact_offset
+quiet-compact x o e = let f = went (offset_fields x) (λ f. jiff_offset f) o e in quiet-offset x f.0 f.1
 
--- a sign, and what stands behind it
+-- a sign, and what stands after it
 record Signed (x : List ℕ) : Type 0 where
   pub mark : ℕ
   pub rest : List ℕ
@@ -271,14 +271,14 @@ quiet-last front (c ∷ a ∷ b ∷ d ∷ t) s e q = absurd cc
 abbrev fields_at : Sign → ℕ → ℕ → Option ℕ → OffsetFields
 fields_at sign h m s = record { sign = sign; hours = h; minutes = m; seconds = s }
 
-strict-signed : (x : List ℕ) (o : ℤ) → strict_zone x ≡ Some o → Signed x
-unfolding strict_zone
+strict-signed : (x : List ℕ) (o : ℤ) → strict_offset x ≡ Some o → Signed x
+unfolding strict_offset
 strict-signed x o e =
-    let sign = went (read_sign x) (λ sign. read_two_digits sign.1 >>= λ h. behind colon h.1 >>= λ r. read_two_digits r >>= λ m. last_colon_pair m.1 >>= λ s. zone_offset (fields_at sign.0 h.0 m.0 s)) o e in
-    let hours = went (read_two_digits sign.0.1) (λ h. behind colon h.1 >>= λ r. read_two_digits r >>= λ m. last_colon_pair m.1 >>= λ s. zone_offset (fields_at sign.0.0 h.0 m.0 s)) o sign.2 in
-    let next = went (behind colon hours.0.1) (λ r. read_two_digits r >>= λ m. last_colon_pair m.1 >>= λ s. zone_offset (fields_at sign.0.0 hours.0.0 m.0 s)) o hours.2 in
-    let minutes = went (read_two_digits next.0) (λ m. last_colon_pair m.1 >>= λ s. zone_offset (fields_at sign.0.0 hours.0.0 m.0 s)) o next.2 in
-    let seconds = went (last_colon_pair minutes.0.1) (λ s. zone_offset (fields_at sign.0.0 hours.0.0 minutes.0.0 s)) o minutes.2 in
+    let sign = went (read_sign x) (λ sign. read_two_digits sign.1 >>= λ h. skip_char colon h.1 >>= λ r. read_two_digits r >>= λ m. last_colon_pair m.1 >>= λ s. jiff_offset (fields_at sign.0 h.0 m.0 s)) o e in
+    let hours = went (read_two_digits sign.0.1) (λ h. skip_char colon h.1 >>= λ r. read_two_digits r >>= λ m. last_colon_pair m.1 >>= λ s. jiff_offset (fields_at sign.0.0 h.0 m.0 s)) o sign.2 in
+    let next = went (skip_char colon hours.0.1) (λ r. read_two_digits r >>= λ m. last_colon_pair m.1 >>= λ s. jiff_offset (fields_at sign.0.0 hours.0.0 m.0 s)) o hours.2 in
+    let minutes = went (read_two_digits next.0) (λ m. last_colon_pair m.1 >>= λ s. jiff_offset (fields_at sign.0.0 hours.0.0 m.0 s)) o next.2 in
+    let seconds = went (last_colon_pair minutes.0.1) (λ s. jiff_offset (fields_at sign.0.0 hours.0.0 minutes.0.0 s)) o minutes.2 in
     let a = sign-taken x sign.0.0 sign.0.1 sign.1 in
     let b = two-taken sign.0.1 hours.0.0 hours.0.1 hours.1 in
     let c = two-taken next.0 minutes.0.0 minutes.0.1 minutes.1 in
@@ -287,7 +287,7 @@ strict-signed x o e =
     let hour_digits : all_ascii_digits hour ≡ true = rw (b.is_tens, b.is_ones) refl in
     let minute_digits : all_ascii_digits minute ≡ true = rw (c.is_tens, c.is_ones) refl in
     let split : x ≡ a.mark ∷ (hour ++ (colon ∷ (minute ++ minutes.0.1))) =
-    a.whole ∙ ap (λ (t : List ℕ). a.mark ∷ t) (b.whole ∙ ap (λ (t : List ℕ). hour ++ t) (behind-taken colon hours.0.1 next.0 next.1 ∙ ap (λ (t : List ℕ). colon ∷ t) c.whole)) in
+    a.whole ∙ ap (λ (t : List ℕ). a.mark ∷ t) (b.whole ∙ ap (λ (t : List ℕ). hour ++ t) (after-taken colon hours.0.1 next.0 next.1 ∙ ap (λ (t : List ℕ). colon ∷ t) c.whole)) in
     record {
       mark = a.mark;
       rest = hour ++ (colon ∷ (minute ++ minutes.0.1));
@@ -296,45 +296,22 @@ strict-signed x o e =
       quiet = quiet-gap hour colon (minute ++ minutes.0.1) refl (quiet-digits hour hour_digits) (quiet-last minute minutes.0.1 seconds.0 seconds.1 (quiet-digits minute minute_digits));
     }
 
-quiet-colon-zone : (x : List ℕ) (o : ℤ) → strict_zone x ≡ Some o → IsQuiet x
-quiet-colon-zone x o e = let s = strict-signed x o e in subst IsQuiet (sym s.whole) (quiet-behind s.mark s.rest s.gap s.quiet)
+quiet-colon-zone : (x : List ℕ) (o : ℤ) → strict_offset x ≡ Some o → IsQuiet x
+quiet-colon-zone x o e = let s = strict-signed x o e in subst IsQuiet (sym s.whole) (quiet-after s.mark s.rest s.gap s.quiet)
 
-abbrev zone_names : List (List ℕ)
-zone_names = codes "ut" ∷ codes "gmt" ∷ codes "edt" ∷ codes "est" ∷ codes "cdt" ∷ codes "cst" ∷ codes "mdt" ∷ codes "mst" ∷ codes "pdt" ∷ codes "pst" ∷ []
-
-zones-quiet : list_all says_nothing zone_names ≡ true
+zones-quiet : list_all says_nothing (names_of zone_names) ≡ true
 unfolding has_unit unit_of singular named_unit named_date
 zones-quiet = refl
 
-named-any : (x : List ℕ) (o : ℤ) → named_zone x ≡ Some o → list_any (is_name x) zone_names ≡ true
-unfolding named_zone
-named-any x o e =
-    by (is_name x (codes "ut")) (is_name x (codes "gmt")) (is_name x (codes "edt")) (is_name x (codes "est")) (is_name x (codes "cdt")) (is_name x (codes "cst")) (is_name x (codes "mdt")) (is_name x (codes "mst")) (is_name x (codes "pdt")) (is_name x (codes "pst")) _ _ _ _ _ _ e
-  where
-    by : (ut gmt edt est cdt cst mdt mst pdt pst : Bool) (u v w y z q : ℤ)
-        → cond (ut || gmt) (Some u) (cond edt (Some v) (cond (est || cdt) (Some w) (cond (cst || mdt) (Some y) (cond (mst || pdt) (Some z) (cond pst (Some q) None))))) ≡ Some o
-        → (ut || (gmt || (edt || (est || (cdt || (cst || (mdt || (mst || (pdt || (pst || false)))))))))) ≡ true
-    by true _ _ _ _ _ _ _ _ _ u v w y z q e = refl
-    by false true _ _ _ _ _ _ _ _ u v w y z q e = refl
-    by false false true _ _ _ _ _ _ _ u v w y z q e = refl
-    by false false false true _ _ _ _ _ _ u v w y z q e = refl
-    by false false false false true _ _ _ _ _ u v w y z q e = refl
-    by false false false false false true _ _ _ _ u v w y z q e = refl
-    by false false false false false false true _ _ _ u v w y z q e = refl
-    by false false false false false false false true _ _ u v w y z q e = refl
-    by false false false false false false false false true _ u v w y z q e = refl
-    by false false false false false false false false false true u v w y z q e = refl
-    by false false false false false false false false false false u v w y z q e = absurd cc
-
 quiet-mail-zone : (x : List ℕ) (o : ℤ) → mail_zone x ≡ Some o → IsQuiet x
-unfolding mail_zone mail_offset
+unfolding mail_zone mail_offset named_zone
 quiet-mail-zone x o e = by_offset (mail_offset x) refl e
   where
     by_offset : (found : Option ℤ) → mail_offset x ≡ found → option_or found (named_zone x) ≡ Some o → IsQuiet x
     by_offset (Some n) h e = let f = went (offset_fields x) _ n h in quiet-offset x f.0 f.1
     by_offset None h e =
-        let any = named-any x o e in
-        quiet-name x (any-run x zone_names refl any) (like-any x zone_names zones-quiet any)
+        let any = named-any zone_names x o e in
+        quiet-name x (any-run x (names_of zone_names) refl any) (like-any x (names_of zone_names) zones-quiet any)
 
 -- Whole dates: each piece is quiet, and spaces stand between them, but for mail and the strict form.
 quiet-t : IsQuiet (letter_t ∷ [])
@@ -388,41 +365,41 @@ quiet-gitoxide text answer e = let a = (dates_spelled.gitoxide text answer).0 e 
 pub quiet-default : (text : List ℕ) (answer : FamilyAnswer) → default_answer text ≡ Some answer → IsQuiet text
 quiet-default text answer e = let a = (dates_spelled.by_default text answer).0 e in quiet-pieces default_layout tt a.time text a.are
 
-behind_mail_day : List Piece
-behind_mail_day = Day ∷ Spaces ∷ MonthName ∷ Spaces ∷ Year ∷ Spaces ∷ MailClock ∷ Spaces ∷ MailOffset ∷ []
+after_mail_day : List Piece
+after_mail_day = Day ∷ Spaces ∷ MonthName ∷ Spaces ∷ Year ∷ Spaces ∷ MailClock ∷ Spaces ∷ MailOffset ∷ []
 
 pub quiet-mail : (text : List ℕ) (answer : FamilyAnswer) → rfc2822_answer text ≡ Some answer → IsQuiet text
-unfolding behind_mail_day
+unfolding after_mail_day
 quiet-mail text answer e =
     let a = (dates_spelled.rfc2822 text answer).0 e in
     let h = a.are in
-    subst IsQuiet (sym h.whole) (behind-name h.front h.rest h.is (quiet-pieces behind_mail_day tt a.time h.rest h.more))
+    subst IsQuiet (sym h.whole) (after-name h.front h.rest h.is (quiet-pieces after_mail_day tt a.time h.rest h.more))
   where
-    behind-name : (prefix rest : List ℕ) → (prefix ≡ []) ⊎ IsDayPrefix prefix → IsQuiet rest → IsQuiet (prefix ++ rest)
-    behind-name prefix rest (inl none) q = subst (λ (p : List ℕ). IsQuiet (p ++ rest)) (sym none) q
-    behind-name prefix rest (inr named) q =
+    after-name : (prefix rest : List ℕ) → (prefix ≡ []) ⊎ IsDayPrefix prefix → IsQuiet rest → IsQuiet (prefix ++ rest)
+    after-name prefix rest (inl none) q = subst (λ (p : List ℕ). IsQuiet (p ++ rest)) (sym none) q
+    after-name prefix rest (inr named) q =
         let split : prefix ++ rest ≡ named.name ++ (comma ∷ (named.gap ++ rest)) = rw named.whole (append_assoc named.name (comma ∷ named.gap) rest) in
         subst IsQuiet (sym split)
         (quiet-gap named.name comma (named.gap ++ rest) refl (quiet-day-name named.name named.is_name) (quiet-spaces [] named.gap rest named.are_spaces quiet-none q))
 
-quiet-strict-parts : (x d : List ℕ) (date : DateFields) (clock : ClockFields) (time zone : List ℕ) (o : ℤ) → IsPlainDate d date → IsClock time clock → strict_zone zone ≡ Some o
+quiet-strict-parts : (x d : List ℕ) (date : DateFields) (clock : ClockFields) (time zone : List ℕ) (o : ℤ) → IsPlainDate d date → IsClock time clock → strict_offset zone ≡ Some o
     → x ≡ d ++ (letter_t ∷ (time ++ zone)) → IsQuiet x
 quiet-strict-parts x d date clock time zone o h c z e =
     let s = strict-signed zone o z in
-    let behind_second = c.second ++ (s.mark ∷ s.rest) in
-    let behind_minute = c.minute ++ (colon ∷ behind_second) in
+    let after_second = c.second ++ (s.mark ∷ s.rest) in
+    let after_minute = c.minute ++ (colon ∷ after_second) in
     let joined = h.day ++ (letter_t ∷ c.hour) in
     let front = h.year ++ (minus ∷ h.month) in
-    let clock_split : time ++ zone ≡ c.hour ++ (colon ∷ behind_minute) =
-    ap₂ (λ (t z : List ℕ). t ++ z) c.whole s.whole ∙ (append_assoc (c.hour ++ (colon ∷ c.minute)) (colon ∷ c.second) (s.mark ∷ s.rest) ∙ append_assoc c.hour (colon ∷ c.minute) (colon ∷ behind_second)) in
-    let date_split : d ++ (letter_t ∷ (time ++ zone)) ≡ front ++ (minus ∷ (joined ++ (colon ∷ behind_minute))) =
-    ap₂ (λ (t z : List ℕ). t ++ (letter_t ∷ z)) h.whole clock_split ∙ (append_assoc front (minus ∷ h.day) (letter_t ∷ (c.hour ++ (colon ∷ behind_minute))) ∙ ap (λ (t : List ℕ). front ++ (minus ∷ t)) (sym (append_assoc h.day (letter_t ∷ c.hour) (colon ∷ behind_minute)))) in
+    let clock_split : time ++ zone ≡ c.hour ++ (colon ∷ after_minute) =
+    ap₂ (λ (t z : List ℕ). t ++ z) c.whole s.whole ∙ (append_assoc (c.hour ++ (colon ∷ c.minute)) (colon ∷ c.second) (s.mark ∷ s.rest) ∙ append_assoc c.hour (colon ∷ c.minute) (colon ∷ after_second)) in
+    let date_split : d ++ (letter_t ∷ (time ++ zone)) ≡ front ++ (minus ∷ (joined ++ (colon ∷ after_minute))) =
+    ap₂ (λ (t z : List ℕ). t ++ (letter_t ∷ z)) h.whole clock_split ∙ (append_assoc front (minus ∷ h.day) (letter_t ∷ (c.hour ++ (colon ∷ after_minute))) ∙ ap (λ (t : List ℕ). front ++ (minus ∷ t)) (sym (append_assoc h.day (letter_t ∷ c.hour) (colon ∷ after_minute)))) in
     subst IsQuiet (sym (e ∙ date_split))
-    (quiet-gap front minus (joined ++ (colon ∷ behind_minute)) refl
+    (quiet-gap front minus (joined ++ (colon ∷ after_minute)) refl
     (quiet-gap h.year minus h.month refl (quiet-digits h.year (year-digits h.year date.year h.is_year)) (quiet-field h.month date.month h.is_month))
-    (quiet-gap joined colon behind_minute refl
+    (quiet-gap joined colon after_minute refl
     (quiet-joined h.day c.hour date.day clock.hour h.is_day c.is_hour)
-    (quiet-gap c.minute colon behind_second refl (quiet-field c.minute clock.minute c.is_minute)
+    (quiet-gap c.minute colon after_second refl (quiet-field c.minute clock.minute c.is_minute)
     (quiet-gap c.second s.mark s.rest s.gap (quiet-field c.second c.seconds c.is_second) s.quiet))))
 
 pub quiet-strict : (text : List ℕ) (answer : FamilyAnswer) → iso8601_strict_answer text ≡ Some answer → IsQuiet text
@@ -441,8 +418,8 @@ sign_gap : (c : ℕ) → (c == minus || c == plus) ≡ true → is_gap c ≡ tru
 sign_gap c h = grind (arith, nat_tests, h)
 
 quiet-number : (c : ℕ) (t : List ℕ) (p q : Bool) → (c == minus) ≡ p → (c == plus) ≡ q → all_ascii_digits (without_leading_sign (c ∷ t)) ≡ true → IsQuiet (c ∷ t)
-quiet-number c t true q e f h = quiet-behind c t (sign_gap c (rw e refl)) (quiet-digits t (rw e at h))
-quiet-number c t false true e f h = quiet-behind c t (sign_gap c (rw (e, f) refl)) (quiet-digits t (rw (e, f) at h))
+quiet-number c t true q e f h = quiet-after c t (sign_gap c (rw e refl)) (quiet-digits t (rw e at h))
+quiet-number c t false true e f h = quiet-after c t (sign_gap c (rw (e, f) refl)) (quiet-digits t (rw (e, f) at h))
 quiet-number c t false false e f h = quiet-digits (c ∷ t) (rw (e, f) at h)
 
 pub quiet-int : (w : List ℕ) (n : ℤ) → int_value w ≡ Some n → IsQuiet w

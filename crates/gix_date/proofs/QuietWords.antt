@@ -1,6 +1,7 @@
 -- Texts whose words say nothing of a moment: no unit, no `ago`, no name of a day. No such text is relative.
-use Rattle.std.proofs.Common.{◌≡◌, ◌∙◌, ◌-◌, ◌<◌, ℕ, Bool, true, false, cond, List, [], ◌∷◌, ◌++◌, filter, length, take, get_or, refl, ap, ap₂, sym, arith, Some, None, Option, IsUtf8, flat_map}
+use Rattle.std.proofs.Common.{◌≡◌, ◌∙◌, ◌-◌, ◌<◌, ℕ, Bool, true, false, cond, List, [], ◌∷◌, ◌++◌, filter, length, map, take, get_or, refl, ap, ap₂, sym, arith, Some, None, Option, IsUtf8, flat_map}
 use Rattle.std.proofs.Math.ListN.{get_or-map}
+use Rattle.std.proofs.lemmas.Bool.{and_parts as both}
 use Rattle.std.proofs.lemmas.Bool.Decides.{nat_tests}
 use Rattle.std.proofs.lemmas.List.{take-map, length-map}
 use Rattle.std.proofs.lemmas.List.Splits.{slice_split-cons_no}
@@ -10,15 +11,15 @@ use Rattle.std.specs.Char.{is_ascii_alphanumeric, to_ascii_lowercase}
 use Rattle.std.specs.List.{slice_split, onto_first, list_all, list_any}
 use Rattle.std.specs.Prelude.{◌==◌, ◌||◌, ◌&&◌, not, is_none, is_some, codes}
 use Rattle.std.specs.Str.{trim, bytes_eq, str_to_ascii_lowercase}
-use Rattle.gix_date.specs.Names.{is_name}
-use Rattle.gix_date.specs.Places.{any_place, all_places}
-use Rattle.gix_date.specs.Relative.{relative_date, named_date, pairs_date, RelativeDate}
-use Rattle.gix_date.specs.RelativeWords.{relative_words, is_gap, singular, named_unit, unit_of, is_ago}
-use Rattle.gix_date.specs.Roles.{are_pairs, has_pair, all_units, has_flag, has_unit, is_no_period, is_count, has_next, next_is_unit}
-use Rattle.gix_date.specs.SpaceWords.{is_nonempty}
+use Rattle.gix_date.specs.Text.Names.{is_name, named_in}
+use Rattle.gix_date.specs.Text.Places.{any_place, all_places}
+use Rattle.gix_date.specs.Relative.Dates.{relative_date, date_names, named_date, pairs_date, RelativeDate}
+use Rattle.gix_date.specs.Relative.Words.{relative_words, is_gap, singular, named_unit, unit_of, is_ago}
+use Rattle.gix_date.specs.Relative.Roles.{are_pairs, has_pair, all_units, has_flag, has_unit, is_no_period, is_count, has_next, next_is_unit}
+use Rattle.gix_date.specs.Text.SpaceWords.{is_nonempty}
 use Rattle.gix_date.proofs.AsciiCuts.{ascii-by}
+use Rattle.gix_date.proofs.FieldsTaken.{none_is}
 use Rattle.gix_date.proofs.FirstWords.{trimmed-words}
-use Rattle.gix_date.proofs.Instants.{both}
 use Rattle.gix_date.proofs.WordsWithin.{words-within}
 
 -- no unit, no `ago`, and no name of a day
@@ -33,10 +34,6 @@ record SaysNothing (word : List ℕ) : Type 0 where
   pub unit : has_unit word ≡ false
   pub ago : is_ago word ≡ false
   pub name : named_date word ≡ None
-
-none_is : {A : Type 0} (r : Option A) → is_none r ≡ true → r ≡ None
-none_is None e = refl
-none_is (Some x) e = absurd cc
 
 not_is : (b : Bool) → not b ≡ true → b ≡ false
 not_is false e = refl
@@ -185,19 +182,21 @@ like-any word (name ∷ names) h e =
     let parts = both (says_nothing name) (list_all says_nothing names) h in
     by-first (is_name word name) (list_any (is_name word) names) (λ f. like word name f parts.0) (λ m. like-any word names parts.1 m) e
 
+-- A word that is in a table is one of its names.
+abbrev pub names_of : {A : Type 0} → List (List ℕ × A) → List (List ℕ)
+names_of table = map (λ row. row.0) table
+
+pub named-any : {A : Type 0} (table : List (List ℕ × A)) (x : List ℕ) (a : A) → named_in table x ≡ Some a → list_any (is_name x) (names_of table) ≡ true
+named-any [] x a e = absurd cc
+named-any ((name, said) ∷ rows) x a e = by-row (is_name x name) (named-any rows x a) e
+  where
+    by-row : (b : Bool) → (named_in rows x ≡ Some a → list_any (is_name x) (names_of rows) ≡ true) → cond b (Some said) (named_in rows x) ≡ Some a → (b || list_any (is_name x) (names_of rows)) ≡ true
+    by-row true more e = refl
+    by-row false more e = more e
+
 -- A text that is a name of a day is no quiet text.
 abbrev day_words : List (List ℕ)
-day_words = codes "now" ∷ codes "today" ∷ codes "yesterday" ∷ []
-
-named-any : (x : List ℕ) (d : RelativeDate) → named_date x ≡ Some d → list_any (is_name x) day_words ≡ true
-unfolding named_date
-named-any x d e = by (is_name x (codes "now")) (is_name x (codes "today")) (is_name x (codes "yesterday")) _ _ e
-  where
-    by : (a b c : Bool) (p q : RelativeDate) → cond (a || b) (Some p) (cond c (Some q) None) ≡ Some d → (a || (b || (c || false))) ≡ true
-    by true b c p q e = refl
-    by false true c p q e = refl
-    by false false true p q e = refl
-    by false false false p q e = absurd cc
+day_words = names_of date_names
 
 pub any-run : (x : List ℕ) (names : List (List ℕ)) → list_all (list_all is_ascii_alphanumeric) names ≡ true → list_any (is_name x) names ≡ true → list_all is_ascii_alphanumeric x ≡ true
 any-run x [] h e = absurd cc
@@ -213,9 +212,10 @@ named-word [] d e h = absurd cc
 named-word (c ∷ t) d e h = one-run-word c t h
 
 not-named : (text : List ℕ) → IsUtf8 text → IsQuiet text → (d : RelativeDate) → named_date (trim text) ≡ Some d → ⊥
+unfolding named_date
 not-named text u q d e =
     let x = trim text in
-    let run = any-run x day_words refl (named-any x d e) in
+    let run = any-run x day_words refl (named-any date_names x d e) in
     let same : relative_words text ≡ x ∷ [] =
     words-within text u ∙ ap (λ (ws : List (List ℕ)). flat_map relative_words ws) (sym (trimmed-words text u))
     ∙ sym (words-within x (IsUtf8-from_ascii x (ascii-by is_ascii_alphanumeric run_ascii x run))) ∙ named-word x d e run in

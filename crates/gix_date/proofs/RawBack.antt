@@ -4,17 +4,17 @@ use Rattle.std.proofs.lemmas.Bool.Decides.{nat_tests}
 use Rattle.std.proofs.lemmas.Str.{IsUtf8-from_ascii}
 use Rattle.std.specs.Int.Signed.{le_z}
 use Rattle.std.specs.Prelude.{◌==◌, ◌||◌, nat_le}
-use Rattle.gix_date.specs.Answer.{Absolute}
-use Rattle.gix_date.specs.Characters.{space}
-use Rattle.gix_date.specs.Epoch.{epoch_time, utc_time}
-use Rattle.gix_date.specs.Families.{first_family_by}
-use Rattle.gix_date.specs.HeaderText.{header_text, zone_text}
-use Rattle.gix_date.specs.Numbers.{int_value, decimal_text}
-use Rattle.gix_date.specs.Offsets.{offset_fields, offset_of}
-use Rattle.gix_date.specs.ReadingBack.{IsRawOffset, IsWideOffset}
-use Rattle.gix_date.specs.Raw.{OffsetRule, raw_time_by, raw_offset_by, is_quarter, is_whole_minutes}
-use Rattle.gix_date.specs.SpaceWords.{space_words}
-use Rattle.gix_date.specs.declared.parsing.function.TheConstants.{LEAST_EPOCH}
+use Rattle.gix_date.specs.Families.Answer.{Absolute}
+use Rattle.gix_date.specs.Text.Characters.{space}
+use Rattle.gix_date.specs.Families.Epoch.{epoch_time, utc_time}
+use Rattle.gix_date.specs.Families.Order.{first_family_by}
+use Rattle.gix_date.specs.Header.Text.{header_text, compact_offset_text}
+use Rattle.gix_date.specs.Text.Numbers.{int_value, decimal_text}
+use Rattle.gix_date.specs.Fields.Offsets.{offset_fields, offset_of}
+use Rattle.gix_date.specs.Printing.ReadingBack.{IsRawOffset, IsWideOffset}
+use Rattle.gix_date.specs.Families.Raw.{OffsetRule, raw_time_by, raw_offset_by, is_raw_offset, is_wide_offset}
+use Rattle.gix_date.specs.Text.SpaceWords.{space_words}
+use Rattle.gix_date.specs.declared.parsing.dates.TheConstants.{MIN_EPOCH}
 use Rattle.gix_date.specs.declared.parsing.offset.OffsetFields.{OffsetFields}
 use Rattle.gix_date.specs.declared.time.Time.{Time}
 use Rattle.gix_date.proofs.HeaderLaws.{written-by, decimal-int, zone-read, back-to, written_fields, number-bytes, two-utf8}
@@ -35,7 +35,7 @@ quarters n h = omega arith
 few-hours : (n : ℕ) → n < 54000 → nat_le (n / 3600) 14 ≡ true
 few-hours n h = let few : n / 3600 ≤ 14 = omega arith in grind (arith, nat_tests)
 
-is-quarter-of : (o : ℤ) → unsigned_abs o % 900 ≡ 0 → unsigned_abs o < 54000 → is_quarter (written_fields o) ≡ true
+is-quarter-of : (o : ℤ) → unsigned_abs o % 900 ≡ 0 → unsigned_abs o < 54000 → is_raw_offset (written_fields o) ≡ true
 is-quarter-of o m h =
     let n = unsigned_abs o in
     rw (few-hours n h, quarter-minutes (n % 3600 / 60) (n % 3600 / 900) (quarters n m) (omega arith)) refl
@@ -46,7 +46,7 @@ hours-of-day n h = let few : n / 3600 ≤ 23 = omega arith in grind (arith, nat_
 minutes-of-hour : (n : ℕ) → nat_le (n % 3600 / 60) 59 ≡ true
 minutes-of-hour n = let few : n % 3600 / 60 ≤ 59 = omega arith in grind (arith, nat_tests)
 
-are-whole-minutes-of : (o : ℤ) → unsigned_abs o < 86400 → is_whole_minutes (written_fields o) ≡ true
+are-whole-minutes-of : (o : ℤ) → unsigned_abs o < 86400 → is_wide_offset (written_fields o) ≡ true
 are-whole-minutes-of o h = rw (hours-of-day (unsigned_abs o) h, minutes-of-hour (unsigned_abs o)) refl
 
 -- A header text is a raw text by each rule that allows its offset.
@@ -64,7 +64,7 @@ back-by : (rule : OffsetRule) (t : Time) → FitsSigned w64 t.seconds → unsign
     → IsSomeAnd (header_text t) (λ text. first_family_by rule text ≡ Some (Absolute t))
 back-by rule t f short minutes allowed =
     let front = decimal_text t.seconds in
-    let zone = zone_text t.offset in
+    let zone = compact_offset_text t.offset in
     let text = front ++ (space ∷ zone) in
     let int = decimal-int t.seconds f in
     let fields = zone-read t.offset short in
@@ -77,23 +77,23 @@ back-by rule t f short minutes allowed =
     (raw-first-family rule text t (two-utf8 front zone (number-bytes front a) (number-bytes zone b)) same)
 
 pub raw-back : (t : Time) → FitsSigned w64 t.seconds → IsRawOffset t.offset
-    → IsSomeAnd (header_text t) (λ text. first_family_by is_quarter text ≡ Some (Absolute t))
+    → IsSomeAnd (header_text t) (λ text. first_family_by is_raw_offset text ≡ Some (Absolute t))
 raw-back t f raw =
     let short = raw.short in
     let quarters = raw.quarters in
-    back-by is_quarter t f (omega arith) (omega arith) (is-quarter-of t.offset quarters short)
+    back-by is_raw_offset t f (omega arith) (omega arith) (is-quarter-of t.offset quarters short)
 
 pub wide-back : (t : Time) → FitsSigned w64 t.seconds → IsWideOffset t.offset
-    → IsSomeAnd (header_text t) (λ text. first_family_by is_whole_minutes text ≡ Some (Absolute t))
+    → IsSomeAnd (header_text t) (λ text. first_family_by is_wide_offset text ≡ Some (Absolute t))
 wide-back t f wide =
     let short = wide.short in
-    back-by is_whole_minutes t f (omega arith) wide.minutes (are-whole-minutes-of t.offset short)
+    back-by is_wide_offset t f (omega arith) wide.minutes (are-whole-minutes-of t.offset short)
 
 -- bare seconds
-pub seconds-back : (rule : OffsetRule) (n : ℤ) → FitsSigned w64 n → LEAST_EPOCH ≤ℤ n → first_family_by rule (decimal_text n) ≡ Some (Absolute (utc_time n))
+pub seconds-back : (rule : OffsetRule) (n : ℤ) → FitsSigned w64 n → MIN_EPOCH ≤ℤ n → first_family_by rule (decimal_text n) ≡ Some (Absolute (utc_time n))
 unfolding epoch_time
 seconds-back rule n f least =
-    let h : le_z LEAST_EPOCH n ≡ true = search rules in
+    let h : le_z MIN_EPOCH n ≡ true = search rules in
     let text = decimal_text n in
     let int = decimal-int n f in
     let u : IsUtf8 text = IsUtf8-from_ascii text (are_ascii text (number-bytes text (int-number text n int))) in

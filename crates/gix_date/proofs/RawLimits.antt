@@ -1,14 +1,13 @@
 -- The offsets that the rules for raw texts allow, and no others.
-use Rattle.std.proofs.Common.{◌≡◌, ◌∙◌, Bool, ◌*◌, ◌+◌, ◌%◌, ◌<◌, ◌≤◌, ℕ, ℤ, true, false, refl, ap, sym, subst, arith, Some, None, Option, unsigned_abs, pos, zero, suc}
+use Rattle.std.proofs.Common.{◌≡◌, ◌∙◌, Bool, ◌*◌, ◌+◌, ◌%◌, ◌<◌, ◌≤◌, ℕ, true, false, refl, ap, sym, subst, arith, unsigned_abs, zero, suc}
 use Rattle.std.proofs.lemmas.Bool.Decides.{nat_tests}
-use Rattle.std.specs.Prelude.{◌==◌, ◌||◌, ◌&&◌, nat_le, neg_ℤ, unwrap_or}
-use Rattle.gix_date.specs.Offsets.{offset_of, signed}
-use Rattle.gix_date.specs.Raw.{is_quarter, is_whole_minutes}
-use Rattle.gix_date.specs.ReadingBack.{IsRawOffset, IsWideOffset}
+use Rattle.std.specs.Prelude.{◌==◌, ◌||◌, unwrap_or}
+use Rattle.gix_date.specs.Fields.Offsets.{offset_of, signed}
+use Rattle.gix_date.specs.Families.Raw.{is_raw_offset, is_wide_offset}
+use Rattle.gix_date.specs.Printing.ReadingBack.{IsRawOffset, IsWideOffset}
 use Rattle.gix_date.specs.declared.parsing.offset.OffsetFields.{OffsetFields}
 use Rattle.gix_date.specs.declared.parsing.offset.Sign.{Sign}
 use Rattle.gix_date.specs.declared.parsing.offset.Sign.TheVariants.{Plus, Minus}
-use Rattle.gix_date.proofs.Instants.{both}
 
 distance : (s : Sign) (n : ℕ) → unsigned_abs (signed s n) ≡ n
 distance Plus n = refl
@@ -21,7 +20,7 @@ wide h m s a b c = (omega arith, omega arith)
 quarter : (h m s k : ℕ) → h ≤ 14 → m ≡ 15 * k → k < 4 → s ≡ 0 → ((3600 * h + 60 * m + s) % 900 ≡ 0) × (3600 * h + 60 * m + s < 54000)
 quarter h m s k a b d c = (omega arith, omega arith)
 
-pub is-wide-offset : (f : OffsetFields) → is_whole_minutes f ≡ true → IsWideOffset (offset_of f)
+pub is-wide-offset : (f : OffsetFields) → is_wide_offset f ≡ true → IsWideOffset (offset_of f)
 is-wide-offset f e =
     let s = unwrap_or f.seconds 0 in
     let hours : f.hours ≤ 23 = grind (arith, nat_tests, e) in
@@ -31,7 +30,7 @@ is-wide-offset f e =
     let d = distance f.sign (3600 * f.hours + 60 * f.minutes + s) in
     record { minutes = ap (λ (n : ℕ). n % 60) d ∙ w.0; short = subst (λ (n : ℕ). n < 86400) (sym d) w.1 }
 
-pub is-raw-offset : (f : OffsetFields) → is_quarter f ≡ true → IsRawOffset (offset_of f)
+pub is-raw-offset : (f : OffsetFields) → is_raw_offset f ≡ true → IsRawOffset (offset_of f)
 is-raw-offset f e =
     let s = unwrap_or f.seconds 0 in
     let hours : f.hours ≤ 14 = grind (arith, nat_tests, e) in

@@ -1,11 +1,10 @@
 -- The texts of the named formats are parsed back.
-use Rattle.std.proofs.Common.{◌≡◌, ◌∙◌, ◌+◌, ◌/◌, ◌%◌, ◌<◌, ◌≤◌, ℕ, ℤ, pos, ◌*ℤ◌, ◌+ℤ◌, true, false, List, [], ◌∷◌, ◌++◌, filter, length, refl, ap, sym, subst, arith, Some, None, Option, is_some, inl, inr, unsigned_abs, zero, suc, get_or, drop}
+use Rattle.std.proofs.Common.{◌≡◌, ◌∙◌, ◌/◌, ◌%◌, ◌<◌, ◌≤◌, ℕ, ℤ, pos, ◌*ℤ◌, ◌+ℤ◌, true, false, List, [], ◌∷◌, ◌++◌, filter, length, refl, ap, sym, subst, arith, Some, None, Option, is_some, inl, inr, unsigned_abs, zero, suc, get_or, drop}
 use Rattle.std.proofs.lemmas.Bool.Decides.{nat_tests}
 use Rattle.std.proofs.lemmas.Bool.{cases_order}
 use Rattle.std.proofs.lemmas.Fmt.{decimal_digit}
 use Rattle.std.specs.Fmt.{decimal}
-use Rattle.std.specs.Char.{is_ascii_digit}
-use Rattle.gix_date.specs.Patterns.{time_answer, IsAnswered, Spells, date_answer}
+use Rattle.gix_date.specs.Families.Patterns.{time_answer, IsAnswered, Spells, date_answer}
 use Rattle.std.specs.Prelude.{◌==◌, nat_lt, nat_le, int_lt}
 use Rattle.jiff.specs.Types.{PlainZoned}
 use Rattle.jiff_core.proofs.DateTimeLemmas.{civil_nanos-parts}
@@ -15,20 +14,20 @@ use Rattle.jiff_core.specs.Calendar.{IsDate, days_in_month, weekday_number}
 use Rattle.jiff_core.specs.Date.{IsYmd, weekday_of, epoch_day}
 use Rattle.jiff_core.specs.Time.{IsTime, IsHms}
 use Rattle.jiff_core.specs.Timestamp.{IsTimestampNanos, nanos_of_seconds}
-use Rattle.gix_date.specs.Answer.{FamilyAnswer, Absolute}
-use Rattle.gix_date.specs.Characters.{space, colon}
-use Rattle.gix_date.specs.Civil.{civil_instant, civil_seconds}
-use Rattle.gix_date.specs.Families.{first_of, family_answers_by, answers_before_git_by, first_family_by}
-use Rattle.gix_date.specs.FieldTexts.{IsField, IsYear, AreSpaces, IsDayName, IsMonthName, IsPlainDate, IsClock, four_digits, date_text, clock_text}
-use Rattle.gix_date.specs.Layout.{LocalTime, Piece, DayName, MailDayName, MonthName, Day, Year, PlainDate, Clock, MailClock, Spaces, LetterT, Offset, ColonOffset, MailOffset, IsPiece, ArePieces, print_piece, print_pieces}
-use Rattle.gix_date.specs.Names.{day_name, month_name}
-use Rattle.gix_date.specs.PatternZones.{strict_zone_text, compact_zone, strict_zone, mail_zone, mail_offset, is_zone, zone_offset, last_colon_pair}
-use Rattle.gix_date.specs.NamedTexts.{local_time, IsOrdinary}
-use Rattle.gix_date.specs.HeaderText.{zone_text}
-use Rattle.gix_date.specs.Numbers.{two_digits}
-use Rattle.gix_date.specs.PatternFields.{leapless, is_weekday, month_of}
-use Rattle.gix_date.specs.Fields.{behind}
-use Rattle.gix_date.specs.Raw.{OffsetRule}
+use Rattle.gix_date.specs.Families.Answer.{FamilyAnswer, Absolute}
+use Rattle.gix_date.specs.Text.Characters.{space, colon}
+use Rattle.gix_date.specs.Fields.Civil.{civil_instant, civil_seconds}
+use Rattle.gix_date.specs.Families.Order.{first_answer_of, family_answers_by, answers_before_git_by, first_family_by}
+use Rattle.gix_date.specs.Fields.FieldTexts.{IsField, IsYear, AreSpaces, IsDayName, IsMonthName, IsPlainDate, IsClock, four_digits, date_text, clock_text}
+use Rattle.gix_date.specs.Fields.Layout.{LocalTime, Piece, DayName, MailDayName, MonthName, Day, Year, PlainDate, Clock, MailClock, Spaces, LetterT, Offset, ColonOffset, MailOffset, IsPiece, ArePieces, print_piece, print_pieces}
+use Rattle.gix_date.specs.Text.Names.{day_name, month_name}
+use Rattle.gix_date.specs.Fields.DateOffsets.{strict_offset_text, compact_offset, strict_offset, mail_zone, mail_offset, is_jiff_offset, jiff_offset, last_colon_pair}
+use Rattle.gix_date.specs.Printing.NamedTexts.{local_time, IsOrdinary}
+use Rattle.gix_date.specs.Header.Text.{compact_offset_text}
+use Rattle.gix_date.specs.Text.Numbers.{two_digits}
+use Rattle.gix_date.specs.Fields.DateFields.{without_leap_second, is_weekday, month_named}
+use Rattle.gix_date.specs.Fields.Front.{skip_char}
+use Rattle.gix_date.specs.Families.Raw.{OffsetRule}
 use Rattle.std.specs.Int.{int_rem_euclid}
 use Rattle.jiff_core.specs.declared.civil.date.Date.{Date}
 use Rattle.gix_date.specs.declared.parsing.civil.ClockFields.{ClockFields}
@@ -40,10 +39,12 @@ use Rattle.gix_date.proofs.Instants.{local_nanos, an_instant, instant_range}
 use Rattle.gix_date.proofs.ShownPieces.{decimal-two, InRange, in-range}
 
 -- The clock and the date that a zone shows, at its offset, are the instant again.
-local-ymd : (z : PlainZoned) → IsOrdinary z → IsYmd (pos (local_time z).date.year) (pos (local_time z).date.month) (pos (local_time z).date.day) z.datetime.date
+local-ymd : (z : PlainZoned) → IsOrdinary z
+    → IsYmd (pos (local_time z).date.year) (pos (local_time z).date.month) (pos (local_time z).date.day) z.datetime.date
 local-ymd z o = (o.year_is ∙ ap (λ (v : ℤ). pos (unsigned_abs v)) (sym o.year_is), refl, refl)
 
-date-of : (z : PlainZoned) → IsOrdinary z → IsDate (pos (local_time z).date.year) (pos (local_time z).date.month) (pos (local_time z).date.day)
+date-of : (z : PlainZoned) → IsOrdinary z
+    → IsDate (pos (local_time z).date.year) (pos (local_time z).date.month) (pos (local_time z).date.day)
 date-of z o =
     let year : z.datetime.date.year ≡ pos (unsigned_abs z.datetime.date.year) = (local-ymd z o).0 in
     let year_in = z.datetime.date.year_in in
@@ -51,7 +52,8 @@ date-of z o =
     let day_in = subst (λ (y : ℤ). IsInRange 1 (days_in_month y z.datetime.date.month) z.datetime.date.day) year z.datetime.date.day_in in
     ((omega (arith, signed_arith, o.low, o.high, year, o.year_is, year_in), omega (arith, signed_arith, o.low, o.high, year, o.year_is, year_in)), (omega (arith, signed_arith, month_in), omega (arith, signed_arith, month_in)), (omega (arith, signed_arith, day_in), omega (arith, signed_arith, day_in)))
 
-clock-of : (z : PlainZoned) → IsTime (pos (local_time z).clock.hour) (pos (local_time z).clock.minute) (pos (local_time z).clock.second) (pos 0)
+clock-of : (z : PlainZoned)
+    → IsTime (pos (local_time z).clock.hour) (pos (local_time z).clock.minute) (pos (local_time z).clock.second) (pos 0)
 clock-of z =
     let time = z.datetime.time in
     let h = time.hour_in in
@@ -63,22 +65,26 @@ clock-of z =
       (omega (arith, signed_arith), omega (arith, signed_arith)),
     )
 
-whole-clock : (z : PlainZoned) (seconds : ℤ) → z.timestamp.nanosecond ≡ nanos_of_seconds seconds → z.datetime.time.subsec_nanosecond ≡ 0
+whole-clock : (z : PlainZoned) (seconds : ℤ) → z.timestamp.nanosecond ≡ nanos_of_seconds seconds
+    → z.datetime.time.subsec_nanosecond ≡ 0
 whole-clock z seconds e =
     let shows = z.shows in
     let sub = z.datetime.time.subsec_in in
     omega (arith, signed_arith, civil_nanos-parts z.datetime, shows, e, sub)
 
-pub local-instant : (z : PlainZoned) (seconds : ℤ) → IsOrdinary z → z.timestamp.nanosecond ≡ nanos_of_seconds seconds → civil_instant (local_time z).date (local_time z).clock z.offset.seconds ≡ Some seconds
+pub local-instant : (z : PlainZoned) (seconds : ℤ) → IsOrdinary z → z.timestamp.nanosecond ≡ nanos_of_seconds seconds
+    → civil_instant (local_time z).date (local_time z).clock z.offset.seconds ≡ Some seconds
 local-instant z seconds o e =
     let t = local_time z in
     let ymd = local-ymd z o in
     let day = z.datetime.date in
     let time = z.datetime.time in
     let whole : pos time.subsec_nanosecond ≡ pos 0 = ap pos (whole-clock z seconds e) in
-    let hms : IsHms (pos t.clock.hour) (pos t.clock.minute) (pos t.clock.second) (pos 0) time = (refl, refl, refl, whole) in
+    let hms : IsHms (pos t.clock.hour) (pos t.clock.minute) (pos t.clock.second) (pos 0) time =
+    (refl, refl, refl, whole) in
     let nanos = local_nanos z.datetime t.date t.clock z.offset.seconds ymd hms in
-    let same : nanos_of_seconds seconds ≡ civil_seconds t.date t.clock z.offset.seconds *ℤ pos 1_000_000_000 = omega (arith, signed_arith, nanos, z.shows, e) in
+    let same : nanos_of_seconds seconds ≡ civil_seconds t.date t.clock z.offset.seconds *ℤ pos 1_000_000_000 =
+    omega (arith, signed_arith, nanos, z.shows, e) in
     let is : seconds ≡ civil_seconds t.date t.clock z.offset.seconds = omega (arith, signed_arith, same) in
     let range : IsTimestampNanos (nanos_of_seconds seconds) = subst IsTimestampNanos e z.timestamp.in_range in
     let date : IsDate (pos t.date.year) (pos t.date.month) (pos t.date.day) = date-of z o in
@@ -86,9 +92,6 @@ local-instant z seconds o e =
     sym (an_instant t.date t.clock z.offset.seconds seconds date clock ((instant_range (nanos_of_seconds seconds) _ same).0 range) is)
 
 -- Fields as they are printed.
-digit-of : (n : ℕ) → n < 10 → is_ascii_digit (48 + n) ≡ true
-digit-of = is-digit
-
 pub two-is : (n : ℕ) → n < 100 → IsField (two_digits n) n
 two-is n h = (is-digit (n / 10) (omega arith), is-digit (n % 10) (omega arith), omega arith)
 
@@ -106,14 +109,14 @@ year-is-four n h = (is-digit (n / 100 / 10) (omega arith), is-digit (n / 100 % 1
 pub date-is : (d : DateFields) → d.year ≤ 9999 → d.month < 100 → d.day < 100 → IsPlainDate (date_text d) d
 date-is d y m e = record { year = four_digits d.year; month = two_digits d.month; day = two_digits d.day; whole = refl; is_year = year-is-four d.year y; is_month = two-is d.month m; is_day = two-is d.day e }
 
-no-leap : (n : ℕ) → n < 60 → leapless n ≡ n
+no-leap : (n : ℕ) → n < 60 → without_leap_second n ≡ n
 no-leap n h = let other : (n == 60) ≡ false = grind (arith, nat_tests) in rw other refl
 
 pub clock-is : (c : ClockFields) → c.hour < 100 → c.minute < 100 → c.second < 60 → IsClock (clock_text c) c
 clock-is c h m s = record { hour = two_digits c.hour; minute = two_digits c.minute; second = two_digits c.second; seconds = c.second; whole = refl; is_hour = two-is c.hour h; is_minute = two-is c.minute m; is_second = two-is c.second (omega arith); without_leap = sym (no-leap c.second s) }
 
 -- an offset as it is printed
-zone-tests : (o : ℤ) → unsigned_abs o ≤ 86340 → is_zone (written_fields o) ≡ true
+zone-tests : (o : ℤ) → unsigned_abs o ≤ 86340 → is_jiff_offset (written_fields o) ≡ true
 zone-tests o h =
     let hours : nat_le (unsigned_abs o / 3600) 25 ≡ true = grind (arith, nat_tests, few (unsigned_abs o) h) in
     let minutes : nat_le (unsigned_abs o % 3600 / 60) 59 ≡ true = grind (arith, nat_tests, fewer (unsigned_abs o)) in
@@ -125,49 +128,55 @@ zone-tests o h =
     fewer : (n : ℕ) → n % 3600 / 60 ≤ 59
     fewer n = omega arith
 
-zone-is-offset : (o : ℤ) → unsigned_abs o ≤ 86340 → unsigned_abs o % 60 ≡ 0 → zone_offset (written_fields o) ≡ Some o
+zone-is-offset : (o : ℤ) → unsigned_abs o ≤ 86340 → unsigned_abs o % 60 ≡ 0 → jiff_offset (written_fields o) ≡ Some o
 zone-is-offset o h m = rw (zone-tests o h) (ap (λ (z : ℤ). Some z) (back-to o m))
 
-pub compact-is : (o : ℤ) → unsigned_abs o ≤ 86340 → unsigned_abs o % 60 ≡ 0 → compact_zone (zone_text o) ≡ Some o
-unfolding compact_zone
+pub compact-is : (o : ℤ) → unsigned_abs o ≤ 86340 → unsigned_abs o % 60 ≡ 0 → compact_offset (compact_offset_text o) ≡ Some o
+unfolding compact_offset
 compact-is o h m = rw (zone-read o (omega arith)) (zone-is-offset o h m)
 
-pub mail-zone-is : (o : ℤ) → unsigned_abs o ≤ 86340 → unsigned_abs o % 60 ≡ 0 → mail_zone (zone_text o) ≡ Some o
+pub mail-zone-is : (o : ℤ) → unsigned_abs o ≤ 86340 → unsigned_abs o % 60 ≡ 0 → mail_zone (compact_offset_text o) ≡ Some o
 unfolding mail_zone mail_offset
 mail-zone-is o h m = rw (zone-read o (omega arith), zone-is-offset o h m) refl
 
 -- the answer
-pub answer-is : (t : Time) (date : DateFields) (clock : ClockFields) → civil_instant date clock t.offset ≡ Some t.seconds → unsigned_abs t.offset ≤ 86340 → date_answer date clock t.offset ≡ Some (Absolute t)
+pub answer-is : (t : Time) (date : DateFields) (clock : ClockFields)
+    → civil_instant date clock t.offset ≡ Some t.seconds → unsigned_abs t.offset ≤ 86340
+    → date_answer date clock t.offset ≡ Some (Absolute t)
 unfolding date_answer
 answer-is t date clock e h =
     let within : nat_lt 86340 (unsigned_abs t.offset) ≡ false = grind (arith, nat_tests, h) in
     rw (e, within) refl
 
 -- Of families that are apart, one that answers is the first.
-some-counts : (i : ℕ) (answers : List (Option FamilyAnswer)) (x : FamilyAnswer) → get_or answers i None ≡ Some x → 1 ≤ length (filter is_some answers)
+some-counts : (i : ℕ) (answers : List (Option FamilyAnswer)) (x : FamilyAnswer) → get_or answers i None ≡ Some x
+    → 1 ≤ length (filter is_some answers)
 some-counts i [] x e = absurd cc
 some-counts zero (None ∷ rest) x e = absurd cc
 some-counts zero (Some y ∷ rest) x e = omega arith
 some-counts (suc i) (None ∷ rest) x e = some-counts i rest x e
 some-counts (suc i) (Some y ∷ rest) x e = omega arith
 
-alone-is-first : (i : ℕ) (answers more : List (Option FamilyAnswer)) (x : FamilyAnswer) → get_or answers i None ≡ Some x → length (filter is_some answers) ≤ 1 → first_of (answers ++ more) ≡ Some x
+alone-is-first : (i : ℕ) (answers more : List (Option FamilyAnswer)) (x : FamilyAnswer) → get_or answers i None ≡ Some x
+    → length (filter is_some answers) ≤ 1 → first_answer_of (answers ++ more) ≡ Some x
 alone-is-first i [] more x e h = absurd cc
 alone-is-first zero (None ∷ rest) more x e h = absurd cc
 alone-is-first zero (Some y ∷ rest) more x e h = e
 alone-is-first (suc i) (None ∷ rest) more x e h = alone-is-first i rest more x e h
 alone-is-first (suc i) (Some y ∷ rest) more x e h = absurd (omega (arith, h, some-counts i rest x e))
 
-pub first-at : (rule : OffsetRule) (i : ℕ) (text : List ℕ) (x : FamilyAnswer) → get_or (answers_before_git_by rule text) i None ≡ Some x → first_family_by rule text ≡ Some x
+pub first-at : (rule : OffsetRule) (i : ℕ) (text : List ℕ) (x : FamilyAnswer)
+    → get_or (answers_before_git_by rule text) i None ≡ Some x → first_family_by rule text ≡ Some x
 unfolding first_family_by
-first-at rule i text x e = alone-is-first i (answers_before_git_by rule text) (drop 8 (family_answers_by rule text)) x e (before-git-apart rule text)
+first-at rule i text x e =
+    alone-is-first i (answers_before_git_by rule text) (drop 8 (family_answers_by rule text)) x e (before-git-apart rule text)
 
 one-space : AreSpaces (space ∷ [])
 one-space = (refl, refl)
 
 -- an offset with a colon
-pub strict-is : (o : ℤ) → unsigned_abs o ≤ 86340 → unsigned_abs o % 60 ≡ 0 → strict_zone (strict_zone_text o) ≡ Some o
-unfolding strict_zone last_colon_pair behind
+pub strict-is : (o : ℤ) → unsigned_abs o ≤ 86340 → unsigned_abs o % 60 ≡ 0 → strict_offset (strict_offset_text o) ≡ Some o
+unfolding strict_offset last_colon_pair skip_char
 strict-is o h m =
     let hours = unsigned_abs o / 3600 in
     let minutes = unsigned_abs o % 3600 / 60 in
@@ -190,7 +199,7 @@ day-is (suc (suc (suc (suc (suc (suc zero)))))) h = (refl, refl)
 day-is (suc (suc (suc (suc (suc (suc (suc n))))))) h = absurd (omega arith)
 
 pub month-is : (n : ℕ) → 1 ≤ n → n ≤ 12 → IsMonthName (month_name n) n
-unfolding month_of
+unfolding month_named
 month-is zero l h = absurd (omega arith)
 month-is (suc zero) l h = (refl, refl)
 month-is (suc (suc zero)) l h = (refl, refl)
@@ -216,9 +225,11 @@ pub record IsPrintable (t : LocalTime) : Type 0 where
   pub within : unsigned_abs t.offset ≤ 86340
 
 -- what is printed for a piece is such a piece, and so for any layout
-piece-is : (day : ℕ → List ℕ) → ((n : ℕ) → n < 100 → IsField (day n) n) → (p : Piece) (t : LocalTime) → IsPrintable t → IsPiece p t (print_piece day p t)
+piece-is : (day : ℕ → List ℕ) → ((n : ℕ) → n < 100 → IsField (day n) n) → (p : Piece) (t : LocalTime) → IsPrintable t
+    → IsPiece p t (print_piece day p t)
 piece-is day field DayName t h = day-is t.weekday h.weekday
-piece-is day field MailDayName t h = inr (record { name = day_name t.weekday; gap = space ∷ []; whole = refl; is_name = day-is t.weekday h.weekday; are_spaces = one-space })
+piece-is day field MailDayName t h =
+    inr (record { name = day_name t.weekday; gap = space ∷ []; whole = refl; is_name = day-is t.weekday h.weekday; are_spaces = one-space })
 piece-is day field MonthName t h = month-is t.date.month h.first_month h.last_month
 piece-is day field Day t h = field t.date.day h.range.day
 piece-is day field Year t h = year-is-four t.date.year h.range.high
@@ -231,9 +242,11 @@ piece-is day field Offset t h = compact-is t.offset h.within h.range.whole
 piece-is day field ColonOffset t h = strict-is t.offset h.within h.range.whole
 piece-is day field MailOffset t h = mail-zone-is t.offset h.within h.range.whole
 
-pub pieces-are : (day : ℕ → List ℕ) → ((n : ℕ) → n < 100 → IsField (day n) n) → (ps : List Piece) (t : LocalTime) → IsPrintable t → ArePieces ps t (print_pieces day ps t)
+pub pieces-are : (day : ℕ → List ℕ) → ((n : ℕ) → n < 100 → IsField (day n) n) → (ps : List Piece) (t : LocalTime)
+    → IsPrintable t → ArePieces ps t (print_pieces day ps t)
 pieces-are day field [] t h = refl
-pieces-are day field (p ∷ ps) t h = record { front = print_piece day p t; rest = print_pieces day ps t; whole = refl; is = piece-is day field p t h; more = pieces-are day field ps t h }
+pieces-are day field (p ∷ ps) t h =
+    record { front = print_piece day p t; rest = print_pieces day ps t; whole = refl; is = piece-is day field p t h; more = pieces-are day field ps t h }
 
 pub record IsShownPlain (z : PlainZoned) (t : Time) : Type 0 where
   pub ordinary : IsOrdinary z
@@ -254,10 +267,17 @@ printable z t h =
     }
 
 -- a layout that is read where a text is its pieces reads what is printed by it
-pub back : (family : List ℕ → Option FamilyAnswer) (layout : List Piece) (day : ℕ → List ℕ) → Spells family (IsAnswered layout time_answer) → ((n : ℕ) → n < 100 → IsField (day n) n)
-    → (z : PlainZoned) (t : Time) → IsShownPlain z t → family (print_pieces day layout (local_time z)) ≡ Some (Absolute t)
+pub back : (family : List ℕ → Option FamilyAnswer) (layout : List Piece) (day : ℕ → List ℕ)
+    → Spells family (IsAnswered layout time_answer) → ((n : ℕ) → n < 100 → IsField (day n) n)
+    → (z : PlainZoned) (t : Time) → IsShownPlain z t
+    → family (print_pieces day layout (local_time z)) ≡ Some (Absolute t)
 back family layout day spells field z t h =
     let l = local_time z in
     let civil : civil_instant l.date l.clock t.offset ≡ Some t.seconds = subst (λ (o : ℤ). civil_instant l.date l.clock o ≡ Some t.seconds) h.offset_is (local-instant z t.seconds h.ordinary h.instant) in
     let comes = subst (λ (o : ℤ). date_answer l.date l.clock o ≡ Some (Absolute t)) (sym h.offset_is) (answer-is t l.date l.clock civil h.within) in
-    (spells (print_pieces day layout l) (Absolute t)).1 (record { time = l; are = pieces-are day field layout l (printable z t h); comes = comes })
+    (spells (print_pieces day layout l) (Absolute t)).1 (record {
+      time =
+          l;
+      are = pieces-are day field layout l (printable z t h);
+      comes = comes;
+    })

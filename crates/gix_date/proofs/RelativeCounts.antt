@@ -1,8 +1,8 @@
 -- A period without its final `s`, as the code takes it off.
 use Rattle.std.proofs.Common.{◌≡◌, ℕ, Bool, true, false, cond, List, length, sym, ap, ◌∙◌}
 use Rattle.std.specs.Prelude.{◌||◌, ◌==◌, ◌-◌, slice_index, take}
-use Rattle.gix_date.specs.Characters.{small_s, letter_s}
-use Rattle.gix_date.specs.RelativeWords.{singular}
+use Rattle.gix_date.specs.Text.Characters.{small_s, letter_s}
+use Rattle.gix_date.specs.Relative.Words.{singular}
 
 pub without_small : (w t : List ℕ) (r : Bool) → r ≡ true → r ≡ (slice_index w (length w - 1) == small_s) → t ≡ take (length w - 1) w → t ≡ singular w
 unfolding singular

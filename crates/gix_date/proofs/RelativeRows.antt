@@ -4,19 +4,19 @@ use Rattle.std.specs.Str.{chars, trim_start, trim_end}
 use lib.Utf8.{encode}
 use Rattle.std.specs.Prelude.{codes, Some, None}
 use Rattle.gix_date.proofs.Rows.{time, minus}
-use Rattle.gix_date.specs.Answer.{Absolute, Relative}
+use Rattle.gix_date.specs.Families.Answer.{Absolute, Relative}
 use Rattle.gix_date.specs.Computing.{computing}
-use Rattle.gix_date.specs.Families.{first_family, first_family_by}
-use Rattle.gix_date.specs.Numbers.{int_value}
-use Rattle.gix_date.specs.Raw.{is_whole_minutes}
-use Rattle.gix_date.specs.Relative.{Before, Less, relative_date, named_date, pairs_date}
-use Rattle.gix_date.specs.RelativeWords.{relative_words, count_of, named_count, number_named, unit_of, singular, named_unit}
-use Rattle.gix_date.specs.Roles.{is_count_word, has_unit, run, has_flag, has_pair, all_units, are_pairs, pairs}
+use Rattle.gix_date.specs.Families.Order.{first_family, first_family_by}
+use Rattle.gix_date.specs.Text.Numbers.{int_value}
+use Rattle.gix_date.specs.Families.Raw.{is_wide_offset}
+use Rattle.gix_date.specs.Relative.Dates.{Before, Less, relative_date, named_date, pairs_date}
+use Rattle.gix_date.specs.Relative.Words.{relative_words, count_of, named_count, number_named, unit_of, singular, named_unit}
+use Rattle.gix_date.specs.Relative.Roles.{is_count_word, has_unit, count_run, has_flag, has_pair, all_units, are_pairs, pairs}
 use Rattle.gix_date.specs.declared.parsing.relative.words.TimeUnit.TheVariants.{Seconds, Months}
 
 -- all that a row of relative texts needs to see computed
 relating : Type 0
-unfolding relative_date named_date pairs_date relative_words count_of named_count number_named unit_of singular named_unit is_count_word has_unit run has_flag has_pair all_units are_pairs pairs int_value trim_start trim_end chars encode
+unfolding relative_date named_date pairs_date relative_words count_of named_count number_named unit_of singular named_unit is_count_word has_unit count_run has_flag has_pair all_units are_pairs pairs int_value trim_start trim_end chars encode
 relating = Unit {0}
 
 two-minutes : relative_date (codes "2 minutes ago") ≡ Some (Less ((pos 2, Seconds (pos 60)) ∷ []))
@@ -143,19 +143,19 @@ below-the-bare-epoch : first_family (codes "99999999") ≡ None
 unfolding computing
 below-the-bare-epoch = refl
 
-raw-behind : first_family (codes "5 -0130") ≡ Some (Absolute (time (pos 5) (minus 5400)))
+raw-after : first_family (codes "5 -0130") ≡ Some (Absolute (time (pos 5) (minus 5400)))
 unfolding computing
-raw-behind = refl
+raw-after = refl
 
 at-no-quarter : first_family (codes "@5 +0007") ≡ None
 unfolding computing
 at-no-quarter = refl
 
-at-wide : first_family_by is_whole_minutes (codes "@5 +0007") ≡ Some (Absolute (time (pos 5) (pos 420)))
+at-wide : first_family_by is_wide_offset (codes "@5 +0007") ≡ Some (Absolute (time (pos 5) (pos 420)))
 unfolding computing
 at-wide = refl
 
-raw-wide : first_family_by is_whole_minutes (codes "5 -2359") ≡ Some (Absolute (time (pos 5) (minus 86340)))
+raw-wide : first_family_by is_wide_offset (codes "5 -2359") ≡ Some (Absolute (time (pos 5) (minus 86340)))
 unfolding computing
 raw-wide = refl
 

@@ -10,9 +10,9 @@ use Rattle.std.specs.List.{prefix_len, slice_split, AllByRecursion}
 use Rattle.std.proofs.lemmas.List.Elements.{All-from_recursion}
 use Rattle.std.specs.Prelude.{filter, not, cond}
 use Rattle.std.specs.Str.{IsCharBoundary, IsUtf8}
-use Rattle.gix_date.proofs.AsciiCuts.{cut_behind}
-use Rattle.gix_date.specs.RelativeWords.{is_gap, relative_words}
-use Rattle.gix_date.specs.SpaceWords.{is_nonempty}
+use Rattle.gix_date.proofs.AsciiCuts.{cut_rest}
+use Rattle.gix_date.specs.Relative.Words.{is_gap, relative_words}
+use Rattle.gix_date.specs.Text.SpaceWords.{is_nonempty}
 
 -- a list that is empty or begins with what does not pass
 data Stops (p : ℕ → Bool) : List ℕ → Type 0 where
@@ -28,13 +28,13 @@ fronts : (p : ℕ → Bool) (xs : List ℕ) → AllByRecursion (λ b. p b ≡ tr
 fronts p [] = tt
 fronts p (x ∷ xs) = one_more p x xs (prefix_len p xs) (p x) refl (fronts p xs)
 
-one_behind : (p : ℕ → Bool) (x : ℕ) (xs : List ℕ) (n : ℕ) (b : Bool) → p x ≡ b → Stops p (drop n xs) → Stops p (drop (cond b (1 + n) 0) (x ∷ xs))
-one_behind p x xs n true e h = rw one-add h
-one_behind p x xs n false e h = stops x xs e
+one_after : (p : ℕ → Bool) (x : ℕ) (xs : List ℕ) (n : ℕ) (b : Bool) → p x ≡ b → Stops p (drop n xs) → Stops p (drop (cond b (1 + n) 0) (x ∷ xs))
+one_after p x xs n true e h = rw one-add h
+one_after p x xs n false e h = stops x xs e
 
-behind : (p : ℕ → Bool) (xs : List ℕ) → Stops p (drop (prefix_len p xs) xs)
-behind p [] = ends
-behind p (x ∷ xs) = one_behind p x xs (prefix_len p xs) (p x) refl (behind p xs)
+after : (p : ℕ → Bool) (xs : List ℕ) → Stops p (drop (prefix_len p xs) xs)
+after p [] = ends
+after p (x ∷ xs) = one_after p x xs (prefix_len p xs) (p x) refl (after p xs)
 
 -- what stands in front of a word makes no word
 words_skip : (gs rest : List ℕ) → AllByRecursion (λ b. is_gap b ≡ true) gs → relative_words (gs ++ rest) ≡ relative_words rest
@@ -69,7 +69,7 @@ nothing _ (stops y ys e) z = absurd (some_len (is_ascii_alphanumeric y) (prefix_
 
 -- no word is left
 pub no_word : (bs : List ℕ) → prefix_len is_ascii_alphanumeric (drop (prefix_len is_gap bs) bs) ≡ 0 → relative_words bs ≡ []
-no_word bs z = from_skip bs ∙ nothing _ (behind is_gap bs) z
+no_word bs z = from_skip bs ∙ nothing _ (after is_gap bs) z
 
 word_front : (es : List ℕ) (n : ℕ) → n ≡ prefix_len is_ascii_alphanumeric es → 0 < n → relative_words es ≡ take n es ∷ relative_words (drop n es)
 word_front es n e long =
@@ -77,20 +77,11 @@ word_front es n e long =
     ∙ words_first (take n es) (drop n es)
     (let within : n ≤ length es = omega (arith, prefix_len-le-length is_ascii_alphanumeric es) in omega (arith, length-take-le n es within))
     (subst (λ k. AllByRecursion (λ b. is_ascii_alphanumeric b ≡ true) (take k es)) (sym e) (fronts is_ascii_alphanumeric es))
-    (subst (λ k. Stops is_ascii_alphanumeric (drop k es)) (sym e) (behind is_ascii_alphanumeric es))
+    (subst (λ k. Stops is_ascii_alphanumeric (drop k es)) (sym e) (after is_ascii_alphanumeric es))
 
 -- a word comes
 pub word_comes : (bs es : List ℕ) (n : ℕ) → es ≡ drop (prefix_len is_gap bs) bs → n ≡ prefix_len is_ascii_alphanumeric es → 0 < n → relative_words bs ≡ take n es ∷ relative_words (drop n es)
 word_comes bs es n f e long = from_skip bs ∙ ap relative_words (sym f) ∙ word_front es n e long
-
-first_of : (w : List ℕ) → 0 < length w → AllByRecursion (λ b. is_ascii_alphanumeric b ≡ true) w → is_ascii_alphanumeric (get_or w 0 0) ≡ true
-first_of [] long h = absurd (omega arith)
-first_of (x ∷ xs) long h = h.0
-
-pub word_begins : (es : List ℕ) (n : ℕ) → n ≡ prefix_len is_ascii_alphanumeric es → 0 < n → is_ascii_alphanumeric (get_or (take n es) 0 0) ≡ true
-word_begins es n e long =
-    let within : n ≤ length es = omega (arith, prefix_len-le-length is_ascii_alphanumeric es) in
-    first_of (take n es) (omega (arith, length-take-le n es within)) (subst (λ k. AllByRecursion (λ b. is_ascii_alphanumeric b ≡ true) (take k es)) (sym e) (fronts is_ascii_alphanumeric es))
 
 ascii : (c : ℕ) → is_ascii_alphanumeric c ≡ true → c < 128
 ascii c h = grind (arith, nat_tests, h)
@@ -104,4 +95,4 @@ cut_before bs n e = (omega (arith, prefix_len-le-length is_gap bs), λ short big
 
 -- and where it ends
 pub cut_after : (bs : List ℕ) (n : ℕ) → IsUtf8 bs → n ≡ prefix_len is_ascii_alphanumeric bs → IsCharBoundary bs n
-cut_after bs n u e = cut_behind is_ascii_alphanumeric ascii bs n u (omega arith)
+cut_after bs n u e = cut_rest is_ascii_alphanumeric ascii bs n u (omega arith)

@@ -5,14 +5,14 @@ use Rattle.std.specs.Str.{chars}
 use lib.Utf8.{encode}
 use Rattle.std.specs.Prelude.{codes, neg_ℤ, Some, None}
 use Rattle.gix_date.specs.declared.time.Time.{Time}
-use Rattle.gix_date.specs.Numbers.{int_value, read_two_digits}
-use Rattle.gix_date.specs.Fields.{behind}
-use Rattle.gix_date.specs.Offsets.{offset_fields, read_sign, last_pair}
-use Rattle.gix_date.specs.SpaceWords.{space_words}
-use Rattle.gix_date.specs.HeaderText.{header_text}
-use Rattle.gix_date.specs.HeaderReading.{header_time, time_of_words, seconds_said, offset_said}
-use Rattle.gix_date.specs.Raw.{is_whole_minutes, raw_time, raw_time_by, raw_offset_by}
-use Rattle.gix_date.specs.CanonicalHeader.{is_canonical_header}
+use Rattle.gix_date.specs.Text.Numbers.{int_value, read_two_digits}
+use Rattle.gix_date.specs.Fields.Front.{skip_char}
+use Rattle.gix_date.specs.Fields.Offsets.{offset_fields, read_sign, last_pair}
+use Rattle.gix_date.specs.Text.SpaceWords.{space_words}
+use Rattle.gix_date.specs.Header.Text.{header_text}
+use Rattle.gix_date.specs.Header.Reading.{header_time, time_of_words, seconds_said, offset_said}
+use Rattle.gix_date.specs.Families.Raw.{is_wide_offset, raw_time, raw_time_by, raw_offset_by}
+use Rattle.gix_date.specs.Header.Canonical.{is_canonical_header}
 
 abbrev pub time : ℤ → ℤ → Time
 time seconds offset = record { seconds = seconds; offset = offset }
@@ -23,7 +23,7 @@ minus n = neg_ℤ (pos n)
 
 -- all that a row needs to see computed
 computing : Type 0
-unfolding header_text raw_time_by raw_offset_by header_time time_of_words seconds_said offset_said offset_fields behind read_sign last_pair read_two_digits int_value digits space_words chars encode
+unfolding header_text raw_time_by raw_offset_by header_time time_of_words seconds_said offset_said offset_fields skip_char read_sign last_pair read_two_digits int_value digits space_words chars encode
 computing = Unit {0}
 
 abbrev Reads : List ℕ → ℤ → ℤ → Type 0
@@ -94,9 +94,9 @@ canonical-zero : is_canonical_header (codes "0 +0000") ≡ true
 unfolding computing
 canonical-zero = refl
 
-canonical-behind : is_canonical_header (codes "-5 -0130") ≡ true
+canonical-after : is_canonical_header (codes "-5 -0130") ≡ true
 unfolding computing
-canonical-behind = refl
+canonical-after = refl
 
 not-canonical-minus-zero-offset : is_canonical_header (codes "0 -0000") ≡ false
 unfolding computing
@@ -126,13 +126,13 @@ not-canonical-second-space : is_canonical_header (codes "0  +0000") ≡ false
 unfolding computing
 not-canonical-second-space = refl
 
-not-canonical-space-behind : is_canonical_header (codes "0 +0000 ") ≡ false
+not-canonical-space-after : is_canonical_header (codes "0 +0000 ") ≡ false
 unfolding computing
-not-canonical-space-behind = refl
+not-canonical-space-after = refl
 
-not-canonical-digit-behind : is_canonical_header (codes "0 +00000") ≡ false
+not-canonical-digit-after : is_canonical_header (codes "0 +00000") ≡ false
 unfolding computing
-not-canonical-digit-behind = refl
+not-canonical-digit-after = refl
 
 not-canonical-space-before : is_canonical_header (codes " 0 +0000") ≡ false
 unfolding computing
@@ -170,34 +170,34 @@ raw-no-quarter : raw_time (codes "1660797906 +2359") ≡ None
 unfolding computing
 raw-no-quarter = refl
 
-wide-of-a-day : raw_time_by is_whole_minutes (codes "1660797906 +2359") ≡ Some (time (pos 1660797906) (pos 86340))
+wide-of-a-day : raw_time_by is_wide_offset (codes "1660797906 +2359") ≡ Some (time (pos 1660797906) (pos 86340))
 unfolding computing
 wide-of-a-day = refl
 
-wide-of-seven-minutes : raw_time_by is_whole_minutes (codes "1660797906 +0007") ≡ Some (time (pos 1660797906) (pos 420))
+wide-of-seven-minutes : raw_time_by is_wide_offset (codes "1660797906 +0007") ≡ Some (time (pos 1660797906) (pos 420))
 unfolding computing
 wide-of-seven-minutes = refl
 
-wide-with-seconds : raw_time_by is_whole_minutes (codes "1660797906 -235900") ≡ Some (time (pos 1660797906) (minus 86340))
+wide-with-seconds : raw_time_by is_wide_offset (codes "1660797906 -235900") ≡ Some (time (pos 1660797906) (minus 86340))
 unfolding computing
 wide-with-seconds = refl
 
-wide-of-the-least : raw_time_by is_whole_minutes (codes "-9223372036854775808 +1459") ≡ Some (time (minus 9223372036854775808) (pos 53940))
+wide-of-the-least : raw_time_by is_wide_offset (codes "-9223372036854775808 +1459") ≡ Some (time (minus 9223372036854775808) (pos 53940))
 unfolding computing
 wide-of-the-least = refl
 
-wide-past-the-hours : raw_time_by is_whole_minutes (codes "1660797906 +2400") ≡ None
+wide-past-the-hours : raw_time_by is_wide_offset (codes "1660797906 +2400") ≡ None
 unfolding computing
 wide-past-the-hours = refl
 
-wide-past-the-minutes : raw_time_by is_whole_minutes (codes "5 +2360") ≡ None
+wide-past-the-minutes : raw_time_by is_wide_offset (codes "5 +2360") ≡ None
 unfolding computing
 wide-past-the-minutes = refl
 
-wide-past-the-minute : raw_time_by is_whole_minutes (codes "5 +235901") ≡ None
+wide-past-the-minute : raw_time_by is_wide_offset (codes "5 +235901") ≡ None
 unfolding computing
 wide-past-the-minute = refl
 
-wide-sign-inside : raw_time_by is_whole_minutes (codes "5 +-007") ≡ None
+wide-sign-inside : raw_time_by is_wide_offset (codes "5 +-007") ≡ None
 unfolding computing
 wide-sign-inside = refl

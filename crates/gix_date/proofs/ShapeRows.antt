@@ -1,11 +1,12 @@
--- For each family of a shape a text of that shape that it alone holds of them, so that no family of a shape can be left out; and the
--- shape of texts on both sides of each test.
+-- For each family of a shape a text of that shape that it alone holds of them, so that no family of a shape can be left
+-- out; and the shape of texts on both sides of each test.
 use Rattle.std.proofs.Common.{◌≡◌, refl, true, List, ℕ, [], ◌∷◌, filter, map, None}
 use Rattle.std.specs.Prelude.{◌==◌, codes, not}
 use Rattle.gix_date.specs.Computing.{computing}
-use Rattle.gix_date.specs.Families.{Family, AtText, Short, Rfc2822, Iso8601, Iso8601Strict, Gitoxide, GitDefault, BareEpoch, GitForm, RelativeText, RawText}
-use Rattle.gix_date.specs.FamilyLaws.{Holds}
-use Rattle.gix_date.specs.Shapes.{begins_with_at, begins_with_marked_day, begins_with_compact_day, begins_with_letter, shape_of, shape_families, first_among}
+use Rattle.gix_date.specs.Families.Order.{Family, AtText, Short, Rfc2822, Iso8601, Iso8601Strict, Gitoxide, GitDefault, BareEpoch, GitForm, RelativeText, RawText}
+use Rattle.gix_date.specs.Families.Laws.{Holds}
+use Rattle.gix_date.specs.Families.Shapes.{begins_with_at, begins_with_marked_day, begins_with_compact_day, begins_with_letter, shape_of, shape_families}
+use Rattle.gix_date.specs.Private.Shapes.{first_among}
 use Rattle.gix_date.specs.declared.parsing.shape.Shape.{Shape}
 use Rattle.gix_date.specs.declared.parsing.shape.Shape.TheVariants.{AtSign, WholeNumber, DashedDay, DottedDay, CompactDay, Letter, Other}
 use Rattle.gix_date.proofs.Exclusive.{place}

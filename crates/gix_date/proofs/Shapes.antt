@@ -1,33 +1,35 @@
 -- Which shapes the texts of each family have: the first family of a text is the first of its shape's.
 use Rattle.std.proofs.Common.{◌≡◌, ◌∙◌, ℕ, ℤ, Bool, true, false, cond, List, [], ◌∷◌, ◌++◌, filter, map, refl, ap, sym, subst, arith, append_assoc, Option, Some, None, is_some, inl, inr, ◌⊎◌, IsUtf8}
+use Rattle.std.proofs.lemmas.Bool.{and_parts as both}
 use Rattle.std.proofs.lemmas.Bool.Decides.{nat_tests}
 use Rattle.std.specs.Char.{is_ascii_digit, is_ascii_alphabetic}
 use Rattle.std.specs.List.{list_any, list_all}
-use Rattle.std.specs.Prelude.{◌==◌, ◌&&◌}
-use Rattle.gix_date.specs.Answer.{FamilyAnswer, Absolute}
-use Rattle.gix_date.specs.Characters.{at_sign, comma, minus, dot, letter_t}
-use Rattle.gix_date.specs.Families.{Family, AtText, Short, Rfc2822, Iso8601, Iso8601Strict, Gitoxide, GitDefault, BareEpoch, GitForm, RelativeText, RawText, families, family_answer_by, first_of, first_family_by}
-use Rattle.gix_date.specs.FamilyLaws.{HoldsBy}
-use Rattle.gix_date.specs.FieldTexts.{IsYear, IsField, IsDayPrefix, AreSpaces}
-use Rattle.gix_date.specs.Numbers.{int_value, is_number_byte}
-use Rattle.gix_date.specs.PatternFields.{behind_weekday, read_plain_date}
-use Rattle.gix_date.specs.Patterns.{short_answer, rfc2822_answer, iso8601_answer, iso8601_strict_answer, gitoxide_answer, default_answer}
-use Rattle.gix_date.specs.Epoch.{at_time_by, epoch_time}
-use Rattle.gix_date.specs.Git.{git_time}
-use Rattle.gix_date.specs.Raw.{OffsetRule, raw_time_by}
-use Rattle.gix_date.specs.Shapes.{are_two_digits, are_four_digits, begins_with_at, begins_with_marked_day, begins_with_compact_day, begins_with_letter, begins_with_year, shape_of, shape_by_front, shape_families, first_among_by, IsDispatchedBy}
+use Rattle.std.specs.Prelude.{◌==◌, ◌&&◌, ◌||◌, not}
+use Rattle.std.specs.Option.{option_or}
+use Rattle.gix_date.specs.Families.Answer.{FamilyAnswer, Absolute}
+use Rattle.gix_date.specs.Text.Characters.{at_sign, comma, minus, dot, space, letter_t}
+use Rattle.gix_date.specs.Families.Order.{Family, AtText, Short, Rfc2822, Iso8601, Iso8601Strict, Gitoxide, GitDefault, BareEpoch, GitForm, RelativeText, RawText, families, family_answer_by, first_answer_of, first_family_by}
+use Rattle.gix_date.specs.Families.Laws.{HoldsBy}
+use Rattle.gix_date.specs.Fields.FieldTexts.{IsYear, IsField, IsDayName, IsDayPrefix, AreSpaces}
+use Rattle.gix_date.specs.Text.Numbers.{int_value}
+use Rattle.gix_date.specs.Private.Shapes.{is_number_byte, begins_with_year, begins_with_count, begins_without_comma, shape_by_front}
+use Rattle.gix_date.specs.Fields.DateFields.{skip_weekday, read_plain_date}
+use Rattle.gix_date.specs.Families.Patterns.{short_answer, rfc2822_answer, iso8601_answer, iso8601_strict_answer, gitoxide_answer, default_answer}
+use Rattle.gix_date.specs.Families.Epoch.{at_time_by, epoch_time}
+use Rattle.gix_date.specs.Git.Forms.{git_time}
+use Rattle.gix_date.specs.Families.Raw.{OffsetRule, raw_time_by}
+use Rattle.gix_date.specs.Families.Shapes.{are_two_digits, are_four_digits, begins_with_at, begins_with_marked_day, begins_with_compact_day, begins_with_letter, shape_of, shape_families, first_among_by, IsDispatchedBy}
 use Rattle.gix_date.specs.declared.parsing.civil.DateFields.{DateFields}
 use Rattle.gix_date.specs.declared.parsing.shape.Shape.{Shape}
 use Rattle.gix_date.specs.declared.parsing.shape.Shape.TheVariants.{AtSign, WholeNumber, DashedDay, DottedDay, CompactDay, Letter, Other}
 use Rattle.gix_date.specs.declared.time.Time.{Time}
 use Rattle.gix_date.proofs.Apart.{at-first, mixed, no-mail-first, no-mail-year}
 use Rattle.gix_date.proofs.Disjoint.{GitFront, year-front, compact-year, raw-words, none-unless, int-digits, int-first, no-git, front-digits, letter_visible, epoch-int}
-use Rattle.gix_date.proofs.Exclusive.{place, raw-first-family, none-held, answered, absolute, quiet-clash}
+use Rattle.gix_date.proofs.Exclusive.{place, git-no-day, raw-first-family, none-held, answered, absolute, quiet-clash}
 use Rattle.gix_date.proofs.FieldsRead.{Begins, begins-append, digit-no-letter, letter-no-digit, space-no-digit, field-begins, name-begins, year-begins}
 use Rattle.gix_date.proofs.FieldsTaken.{went, weekday-taken}
 use Rattle.gix_date.proofs.FirstWords.{is_visible}
 use Rattle.gix_date.proofs.FirstBytes.{int-no-byte, no-raw-front, no-raw-byte, no-git-byte, no-plain-by, plain-front, plain-year}
-use Rattle.gix_date.proofs.Instants.{both}
 use Rattle.gix_date.proofs.Layouts.{mail-front}
 use Rattle.gix_date.proofs.PlainHeaders.{AreNumberBytes, int-number, one-word}
 use Rattle.gix_date.proofs.QuietDates.{quiet-int}
@@ -62,11 +64,11 @@ marked-first mark (a ∷ b ∷ c ∷ d ∷ first ∷ e ∷ f ∷ second ∷ rest
     let front = both (are_four_digits a b c d) (first == mark) some.0 in
     let same : first ≡ mark = grind (arith, nat_tests, front.1) in
     let y = year-of a b c d front.0 in
-    let behind = first ∷ e ∷ f ∷ second ∷ rest in
+    let after = first ∷ e ∷ f ∷ second ∷ rest in
     record {
       year = a ∷ b ∷ c ∷ d ∷ [];
       number = y.0;
-      rest = behind;
+      rest = after;
       whole = refl;
       is_year = y.1;
       front = year-front (a ∷ b ∷ c ∷ d ∷ []) y.0 first (e ∷ f ∷ second ∷ rest) y.1 (ap is_visible same ∙ v) (ap is_ascii_digit same ∙ n);
@@ -399,7 +401,7 @@ raw-tried rule text t e = by-rows text (IsTried RawText) (record {
     no-letter [] h e = absurd h
     no-letter (c ∷ rest) h e = let no : None ≡ Some t = sym (no-raw-byte rule c rest (letter_visible c h) (letter-no-number c h)) ∙ e in cc
 
-named-begins : (text rest : List ℕ) → behind_weekday text ≡ Some rest → Begins is_ascii_alphabetic text
+named-begins : (text rest : List ℕ) → skip_weekday text ≡ Some rest → Begins is_ascii_alphabetic text
 named-begins text rest e =
     let d = weekday-taken text rest e in
     subst (Begins is_ascii_alphabetic) (sym d.whole) (begins-append is_ascii_alphabetic d.name rest (name-begins d.name d.is_name.0))
@@ -412,8 +414,8 @@ tried rule Short text u h = plain-tried Short text (λ n. none-held (short_answe
 tried rule Rfc2822 text u h = let a = answered rule Rfc2822 text h in mail-tried text a.0 a.1
 tried rule Iso8601 text u h = plain-tried Iso8601 text (λ n. none-held (iso8601_answer text) h (no-plain-by text n).iso8601) refl refl
 tried rule Iso8601Strict text u h = plain-tried Iso8601Strict text (λ n. none-held (iso8601_strict_answer text) h (no-plain-by text n).strict) refl refl
-tried rule Gitoxide text u h = let a = answered rule Gitoxide text h in let d = went (behind_weekday text) _ a.0 a.1 in named-tried Gitoxide text (named-begins text d.0 d.1) refl
-tried rule GitDefault text u h = let a = answered rule GitDefault text h in let d = went (behind_weekday text) _ a.0 a.1 in named-tried GitDefault text (named-begins text d.0 d.1) refl
+tried rule Gitoxide text u h = let a = answered rule Gitoxide text h in let d = went (skip_weekday text) _ a.0 a.1 in named-tried Gitoxide text (named-begins text d.0 d.1) refl
+tried rule GitDefault text u h = let a = answered rule GitDefault text h in let d = went (skip_weekday text) _ a.0 a.1 in named-tried GitDefault text (named-begins text d.0 d.1) refl
 tried rule BareEpoch text u h = let t = absolute (epoch_time text) h in let n = epoch-int text t.0 t.1 in int-tried text n.0 n.1
 tried rule GitForm text u h = let t = absolute (git_time text) h in git-tried text t.0 u t.1
 tried rule RelativeText text u h = relative-tried rule text u h
@@ -421,12 +423,12 @@ tried rule RawText text u h = let t = absolute (raw_time_by rule text) h in raw-
 
 -- Families that answer nothing may be left out.
 kept : (answer : Family → Option FamilyAnswer) (keep : Family → Bool) (list : List Family) → ((family : Family) → keep family ≡ false → answer family ≡ None)
-    → first_of (map answer list) ≡ first_of (map answer (filter keep list))
+    → first_answer_of (map answer list) ≡ first_answer_of (map answer (filter keep list))
 kept answer keep [] none = refl
 kept answer keep (family ∷ list) none = by-keep (keep family) refl (kept answer keep list none)
   where
-    by-keep : (k : Bool) → keep family ≡ k → first_of (map answer list) ≡ first_of (map answer (filter keep list))
-        → first_of (map answer (family ∷ list)) ≡ first_of (map answer (filter keep (family ∷ list)))
+    by-keep : (k : Bool) → keep family ≡ k → first_answer_of (map answer list) ≡ first_answer_of (map answer (filter keep list))
+        → first_answer_of (map answer (family ∷ list)) ≡ first_answer_of (map answer (filter keep (family ∷ list)))
     by-keep true e more = rw (e, more) refl
     by-keep false e more = rw (e, none family e, more) refl
 
@@ -447,7 +449,7 @@ is-dispatched rule text u =
     let shape = shape_of text in
     let none : (family : Family) → is_tried shape family ≡ false → family_answer_by rule family text ≡ None =
     λ family n. none-unless (family_answer_by rule family text) (λ x e. (let no : true ≡ false = sym (tried rule family text u (ap is_some e)) ∙ n in cc)) in
-    kept answer (is_tried shape) families none ∙ ap (λ (list : List Family). first_of (map answer list)) (in-order shape)
+    kept answer (is_tried shape) families none ∙ ap (λ (list : List Family). first_answer_of (map answer list)) (in-order shape)
 
 -- Fewer families of the last row, by more of what a text begins with.
 only-other : (shape : Shape) → IsTried RawText shape → shape ≡ Other
@@ -496,3 +498,62 @@ no-year-among rule text h =
     cc
     ))) in
     rw (none.short, none.iso8601, none.strict) refl
+
+or-none : {A : Type 0} (r : Option A) → option_or r None ≡ r
+or-none None = refl
+or-none (Some x) = refl
+
+-- a text with a count and a space first is of no Git form
+count-no-git : (text : List ℕ) (t : Time) → IsUtf8 text → begins_with_count text ≡ true → git_time text ≡ Some t → ⊥
+unfolding begins_with_count
+count-no-git (a ∷ b ∷ c ∷ rest) t u h e =
+    let front = both (is_ascii_digit a) (b == space || is_ascii_digit b && c == space) h in
+    by-space (b == space) refl front.0 front.1
+  where
+    by-space : (s : Bool) → (b == space) ≡ s → is_ascii_digit a ≡ true → (s || is_ascii_digit b && c == space) ≡ true → ⊥
+    by-space true g d k = git-no-day (a ∷ []) (b ∷ []) (c ∷ rest) _ t u (d, refl) (g, refl) e
+    by-space false g d k =
+        let two = both (is_ascii_digit b) (c == space) k in
+        git-no-day (a ∷ b ∷ []) (c ∷ []) rest _ t u (d, two.0, refl) (two.1, refl) e
+count-no-git text t u h e = absurd cc
+
+pub count-among : (rule : OffsetRule) (text : List ℕ) → IsUtf8 text → begins_with_count text ≡ true → first_among_by rule (GitForm ∷ RelativeText ∷ []) text ≡ family_answer_by rule RelativeText text
+count-among rule text u h =
+    let none : git_time text ≡ None = none-unless (git_time text) (λ t e. count-no-git text t u h e) in
+    rw none (or-none (family_answer_by rule RelativeText text))
+
+comma-letter : (text : List ℕ) → begins_without_comma text ≡ true → Begins is_ascii_alphabetic text
+unfolding begins_without_comma
+comma-letter (a ∷ b ∷ c ∷ d ∷ rest) h = (both (is_ascii_alphabetic a) (not (d == comma)) h).0
+comma-letter text h = absurd cc
+
+no-comma : (a b c : ℕ) (rest : List ℕ) → begins_without_comma (a ∷ b ∷ c ∷ comma ∷ rest) ≡ true → ⊥
+unfolding begins_without_comma
+no-comma a b c rest h = let no : false ≡ true = (both (is_ascii_alphabetic a) false h).1 in cc
+
+-- a text with a letter first and no comma after the third byte is no mail date
+comma-no-mail : (text : List ℕ) (answer : FamilyAnswer) → begins_without_comma text ≡ true → rfc2822_answer text ≡ Some answer → ⊥
+comma-no-mail text answer h a =
+    let m = mail-front text answer a in
+    by-prefix m.prefix m.day (m.gap ++ (m.month ++ m.rest)) m.number m.is_prefix m.is_day (ap begins_without_comma (sym m.whole) ∙ h)
+  where
+    by-day : (day rest : List ℕ) (number : ℕ) → IsField day number → begins_without_comma (day ++ rest) ≡ true → ⊥
+    by-day day rest number f h = digit-or-letter (day ++ rest) (begins-append is_ascii_digit day rest (field-begins day number f)) (comma-letter (day ++ rest) h)
+
+    by-name : (name rest : List ℕ) → IsDayName name → begins_without_comma (name ++ (comma ∷ rest)) ≡ true → ⊥
+    by-name [] rest n h = absurd n.0
+    by-name (a ∷ []) rest n h = absurd n.0
+    by-name (a ∷ b ∷ []) rest n h = absurd n.0
+    by-name (a ∷ b ∷ c ∷ []) rest n h = no-comma a b c rest h
+    by-name (a ∷ b ∷ c ∷ d ∷ name) rest n h = absurd n.0
+
+    by-prefix : (prefix day rest : List ℕ) (number : ℕ) → (prefix ≡ []) ⊎ IsDayPrefix prefix → IsField day number → begins_without_comma (prefix ++ (day ++ rest)) ≡ true → ⊥
+    by-prefix prefix day rest number (inl none) f h = by-day day rest number f (ap (λ (p : List ℕ). begins_without_comma (p ++ (day ++ rest))) (sym none) ∙ h)
+    by-prefix prefix day rest number (inr named) f h =
+        let split : prefix ++ (day ++ rest) ≡ named.name ++ (comma ∷ (named.gap ++ (day ++ rest))) = rw named.whole (simp append_assoc) in
+        by-name named.name (named.gap ++ (day ++ rest)) named.is_name (ap begins_without_comma (sym split) ∙ h)
+
+pub comma-among : (rule : OffsetRule) (text : List ℕ) → begins_without_comma text ≡ true → first_among_by rule (shape_families Letter) text ≡ first_among_by rule (Gitoxide ∷ GitDefault ∷ RelativeText ∷ []) text
+comma-among rule text h =
+    let none : rfc2822_answer text ≡ None = none-unless (rfc2822_answer text) (λ answer a. comma-no-mail text answer h a) in
+    rw none refl

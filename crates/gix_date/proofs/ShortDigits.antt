@@ -1,5 +1,6 @@
 -- A few digits, read one after the other.
 use Rattle.std.proofs.Common.{◌≡◌, ℕ, ◌+◌, ◌-◌, ◌*◌, ◌<◌, ◌≤◌, ◌^◌, true, false, List, [], ◌∷◌, length, get_or, take, drop, ap, sym, refl, arith, length-take-le, pos, neg_ℤ, Some, FitsSigned, w64}
+use Rattle.std.proofs.lemmas.Bool.{and_parts as both}
 use Rattle.std.proofs.lemmas.Bool.Decides.{nat_tests}
 use Rattle.std.proofs.lemmas.Int.Digits.{digits_value_more, digits_more}
 use Rattle.std.proofs.lemmas.Str.Parse.{digits_value_short}
@@ -7,9 +8,8 @@ use Rattle.std.specs.Char.{is_ascii_digit, digit_value}
 use Rattle.std.specs.Str.{all_ascii_digits}
 use Rattle.std.specs.Prelude.{◌==◌}
 use Rattle.std.specs.Str.Parse.{digits_value, without_leading_sign, signed_digits_value, IsNumeral}
-use Rattle.gix_date.specs.Numbers.{int_value}
+use Rattle.gix_date.specs.Text.Numbers.{int_value}
 use Rattle.gix_date.proofs.Ints.{own, int_value_from}
-use Rattle.gix_date.proofs.Instants.{both}
 use Rattle.std.proofs.lemmas.Int.{ints}
 use Rattle.std.proofs.Math.Seq.{take-length}
 

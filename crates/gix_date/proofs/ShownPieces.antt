@@ -3,12 +3,11 @@ use Rattle.std.proofs.Common.{◌≡◌, ◌∙◌, ℕ, ℤ, pos, ◌+◌, ◌-
 use Rattle.std.specs.Prelude.{nat_lt}
 use Rattle.std.specs.List.{concat, list_all}
 use Rattle.std.proofs.lemmas.Bool.Decides.{nat_tests}
-use Rattle.gix_date.proofs.Instants.{both}
 use Rattle.std.proofs.lemmas.List.{append-nil}
 use Rattle.std.proofs.lemmas.Str.{IsAscii-append, IsUtf8-from_ascii}
 use Rattle.std.proofs.lemmas.Str.Ascii.{IsAscii-nil, IsAscii-cons}
 use Rattle.std.specs.Str.{IsUtf8, IsAscii}
-use Rattle.std.proofs.lemmas.Bool.{cases_order}
+use Rattle.std.proofs.lemmas.Bool.{cases_order, and_parts as both}
 use Rattle.std.proofs.lemmas.Int.{ints}
 use Rattle.std.proofs.lemmas.Fmt.{decimal_digit, decimal_step, IsAscii-decimal}
 use Rattle.jiff.specs.Types.{PlainZoned}
@@ -24,14 +23,14 @@ use Rattle.jiff_strtime.specs.declared.directive.Config.{Config}
 use Rattle.jiff_strtime.specs.declared.directive.Locale.TheVariants.{Default}
 use Rattle.jiff_tz.specs.Abbreviation.{abbreviation_text}
 use Rattle.jiff_tz.specs.Zone.{zone_name}
-use Rattle.gix_date.specs.HeaderText.{hours_and_minutes, zone_text}
-use Rattle.gix_date.specs.Layout.{LocalTime}
-use Rattle.gix_date.specs.FieldTexts.{four_digits}
-use Rattle.gix_date.specs.PatternZones.{strict_zone_text}
-use Rattle.gix_date.specs.NamedTexts.{local_time, IsOrdinary, ShowsText}
-use Rattle.gix_date.specs.Names.{day_names, month_names, day_name}
-use Rattle.gix_date.specs.Numbers.{two_digits}
-use Rattle.gix_date.specs.Printed.{IsShown, IsUnprinted}
+use Rattle.gix_date.specs.Header.Text.{hours_and_minutes, compact_offset_text}
+use Rattle.gix_date.specs.Fields.Layout.{LocalTime}
+use Rattle.gix_date.specs.Fields.FieldTexts.{four_digits}
+use Rattle.gix_date.specs.Fields.DateOffsets.{strict_offset_text}
+use Rattle.gix_date.specs.Printing.NamedTexts.{local_time, IsOrdinary, ShowsText}
+use Rattle.gix_date.specs.Text.Names.{day_names, month_names, day_name}
+use Rattle.gix_date.specs.Text.Numbers.{two_digits}
+use Rattle.gix_date.specs.Printing.Formats.{IsShown, IsUnprinted}
 use Rattle.gix_date.proofs.Printing.{filled_parts}
 
 -- the printer's context with these parts
@@ -84,13 +83,13 @@ shows-text pattern text always ascii z o =
     (shown-only pattern z (text (local_time z)) (always z o), never-refused pattern z (text (local_time z)) (always z o) (IsUtf8-from_ascii (text (local_time z)) (ascii z o)))
 
 -- pieces one after the other, as the printer adds them
-abbrev pub joined : List ℕ → List (List ℕ) → List ℕ
-joined shown [] = shown
-joined shown (piece ∷ pieces) = joined (shown ++ piece) pieces
+abbrev pub joined_text : List ℕ → List (List ℕ) → List ℕ
+joined_text shown [] = shown
+joined_text shown (piece ∷ pieces) = joined_text (shown ++ piece) pieces
 
-pub joined-is : (shown : List ℕ) (pieces : List (List ℕ)) → joined shown pieces ≡ shown ++ concat pieces
-joined-is shown [] = sym (append-nil shown)
-joined-is shown (piece ∷ pieces) = joined-is (shown ++ piece) pieces ∙ append_assoc shown piece (concat pieces)
+pub joined_text-is : (shown : List ℕ) (pieces : List (List ℕ)) → joined_text shown pieces ≡ shown ++ concat pieces
+joined_text-is shown [] = sym (append-nil shown)
+joined_text-is shown (piece ∷ pieces) = joined_text-is (shown ++ piece) pieces ∙ append_assoc shown piece (concat pieces)
 
 -- a number of a directive with nothing between `%` and its letter, and with `-` there
 abbrev pub number : ℕ → ℤ → List ℕ
@@ -178,12 +177,12 @@ month-short n = short_of full_names n
 minutes-are : (n : ℕ) → n / 60 % 60 ≡ n % 3600 / 60
 minutes-are n = omega arith
 
-pub zone-is : (o : ℤ) → unsigned_abs o % 60 ≡ 0 → unsigned_abs o / 3600 < 100 → offset_text o false true false ≡ zone_text o
+pub zone-is : (o : ℤ) → unsigned_abs o % 60 ≡ 0 → unsigned_abs o / 3600 < 100 → offset_text o false true false ≡ compact_offset_text o
 zone-is o whole few_hours =
     let few : unsigned_abs o % 3600 / 60 < 100 = omega arith in
     rw (whole, minutes-are (unsigned_abs o), padded-two (unsigned_abs o / 3600) few_hours, padded-two (unsigned_abs o % 3600 / 60) few) (simp append-nil refl)
 
-pub strict-zone-is : (o : ℤ) → unsigned_abs o % 60 ≡ 0 → unsigned_abs o / 3600 < 100 → offset_text o true true false ≡ strict_zone_text o
+pub strict-zone-is : (o : ℤ) → unsigned_abs o % 60 ≡ 0 → unsigned_abs o / 3600 < 100 → offset_text o true true false ≡ strict_offset_text o
 strict-zone-is o whole few_hours =
     let few : unsigned_abs o % 3600 / 60 < 100 = omega arith in
     rw (whole, minutes-are (unsigned_abs o), padded-two (unsigned_abs o / 3600) few_hours, padded-two (unsigned_abs o % 3600 / 60) few) refl
@@ -259,12 +258,12 @@ sign_of : (negative : Bool) → (if negative then 45 else 43) < 128
 sign_of true = lit< tt
 sign_of false = lit< tt
 
-pub ascii-zone : (o : ℤ) → unsigned_abs o / 3600 < 100 → IsAscii (zone_text o)
+pub ascii-zone : (o : ℤ) → unsigned_abs o / 3600 < 100 → IsAscii (compact_offset_text o)
 ascii-zone o hours =
     IsAscii-cons _ (hours_and_minutes (unsigned_abs o)) (sign_of (int_lt o (pos 0)))
     (IsAscii-append (two_digits (unsigned_abs o / 3600)) (two_digits (unsigned_abs o % 3600 / 60)) (ascii-two _ hours) (ascii-two (unsigned_abs o % 3600 / 60) (omega arith)))
 
-pub ascii-strict-zone : (o : ℤ) → unsigned_abs o / 3600 < 100 → IsAscii (strict_zone_text o)
+pub ascii-strict-zone : (o : ℤ) → unsigned_abs o / 3600 < 100 → IsAscii (strict_offset_text o)
 ascii-strict-zone o hours =
     IsAscii-cons _ (two_digits (unsigned_abs o / 3600) ++ (58 ∷ two_digits (unsigned_abs o % 3600 / 60))) (sign_of (int_lt o (pos 0)))
     (IsAscii-append (two_digits (unsigned_abs o / 3600)) (58 ∷ two_digits (unsigned_abs o % 3600 / 60)) (ascii-two _ hours)

@@ -10,7 +10,7 @@ use Rattle.std.specs.Prelude.{Option, Some, None, MatchOption}
 use Rattle.std.specs.Str.Iter.{split_whitespace_rest, split_whitespace_steps}
 use Rattle.std.specs.declared.str.SplitWhitespace.{SplitWhitespace}
 use Rattle.std.specs.Str.{chars, all_scalars, NonePass, NoCharPasses, EmptyOrStartsWithPassing, IsUtf8}
-use Rattle.gix_date.specs.SpaceWords.{is_nonempty, runs, space_words}
+use Rattle.gix_date.specs.Text.SpaceWords.{is_nonempty, runs, space_words}
 
 pub from_not : (b : Bool) → not b ≡ false → b ≡ true
 from_not true h = refl
@@ -37,7 +37,7 @@ run_first x xs _ h (stops c cs w) =
     let parts = slice_split-cons_yes is_whitespace c cs w in
     ap (filter is_nonempty) (first_part (x ∷ xs) (c ∷ cs) (slice_split is_whitespace cs) h parts) ∙ ap (λ rs. (x ∷ xs) ∷ filter is_nonempty rs) (sym parts)
 
--- the characters behind a front
+-- the characters after a front
 strip : (us cs t : List ℕ) → encode_utf8_all cs ≡ encode_utf8_all us ++ t → (es : List ℕ) × (cs ≡ us ++ es) × (encode_utf8_all es ≡ t)
 strip [] cs t e = (cs, refl, e)
 strip (u ∷ us) cs t e =
@@ -45,9 +45,9 @@ strip (u ∷ us) cs t e =
     let rest = strip us first.0 t first.2 in
     (rest.0, first.1 ∙ ap (λ zs. u ∷ zs) rest.1, rest.2)
 
-scalars_behind : (us es : List ℕ) → all_scalars (us ++ es) ≡ true → all_scalars es ≡ true
-scalars_behind [] es h = h
-scalars_behind (u ∷ us) es h = scalars_behind us es (search rules)
+scalars_after : (us es : List ℕ) → all_scalars (us ++ es) ≡ true → all_scalars es ≡ true
+scalars_after [] es h = h
+scalars_after (u ∷ us) es h = scalars_after us es (search rules)
 
 -- what begins with white space, read as characters
 stops_at : (es more : List ℕ) → EmptyOrStartsWithPassing is_whitespace (encode_utf8_all es) more → StopsRun es
@@ -69,20 +69,20 @@ unfolding space_words
 word_comes s x t gap more u e long gs xs stop =
     let cs = u.0 in
     let whole : encode_utf8_all cs ≡ encode_utf8_all gs.0 ++ (x ++ t) = u.1.1 ∙ e ∙ ap (λ zs. zs ++ (x ++ t)) (sym gs.1) in
-    let behind_gap = strip gs.0 cs (x ++ t) whole in
-    let behind = strip xs.0 behind_gap.0 t (behind_gap.2 ∙ ap (λ zs. zs ++ t) (sym xs.1)) in
-    let es = behind.0 in
-    let split : cs ≡ gs.0 ++ (xs.0 ++ es) = behind_gap.1 ∙ ap (λ zs. gs.0 ++ zs) behind.1 in
-    let fine : all_scalars es ≡ true = scalars_behind xs.0 es (scalars_behind gs.0 (xs.0 ++ es) (ap all_scalars (sym split) ∙ u.1.0)) in
-    let stopped : StopsRun es = stops_at es more (subst (λ zs. EmptyOrStartsWithPassing is_whitespace zs more) (sym behind.2) stop) in
+    let after_gap = strip gs.0 cs (x ++ t) whole in
+    let after = strip xs.0 after_gap.0 t (after_gap.2 ∙ ap (λ zs. zs ++ t) (sym xs.1)) in
+    let es = after.0 in
+    let split : cs ≡ gs.0 ++ (xs.0 ++ es) = after_gap.1 ∙ ap (λ zs. gs.0 ++ zs) after.1 in
+    let fine : all_scalars es ≡ true = scalars_after xs.0 es (scalars_after gs.0 (xs.0 ++ es) (ap all_scalars (sym split) ∙ u.1.0)) in
+    let stopped : StopsRun es = stops_at es more (subst (λ zs. EmptyOrStartsWithPassing is_whitespace zs more) (sym after.2) stop) in
     let read : chars s ≡ gs.0 ++ (xs.0 ++ es) = ap chars (sym u.1.1) ∙ chars-encodes cs u.1.0 ∙ split in
-    let read_rest : chars t ≡ es = ap chars (sym behind.2) ∙ chars-encodes es fine in
+    let read_rest : chars t ≡ es = ap chars (sym after.2) ∙ chars-encodes es fine in
     let long_too : 0 < length (encode_utf8_all xs.0) = subst (λ zs. 0 < length zs) (sym xs.1) long in (
       ap (λ zs. map encode_utf8_all (runs zs)) read
           ∙ words_of gs.0 es xs.0 long_too gs.2 xs.2 stopped
           ∙ ap (λ zs. zs ∷ map encode_utf8_all (runs es)) xs.1
           ∙ ap (λ zs. x ∷ map encode_utf8_all (runs zs)) (sym read_rest),
-      (es, (fine, behind.2)),
+      (es, (fine, after.2)),
     )
 
 -- nothing but white space

@@ -9,8 +9,8 @@ use Rattle.std.specs.Char.{is_whitespace}
 use Rattle.std.specs.List.{slice_split, onto_first}
 use Rattle.std.specs.Prelude.{◌⊎◌}
 use Rattle.std.specs.Str.{chars}
-use Rattle.gix_date.specs.RelativeWords.{relative_words, is_gap}
-use Rattle.gix_date.specs.SpaceWords.{is_nonempty, space_words}
+use Rattle.gix_date.specs.Relative.Words.{relative_words, is_gap}
+use Rattle.gix_date.specs.Text.SpaceWords.{is_nonempty, space_words}
 
 -- a list that is cut has a first part
 pub record Parts (p : ℕ → Bool) (x : List ℕ) : Type 0 where

@@ -1,21 +1,8 @@
--- Readers of fields: each takes the front of a text, and gives a value and what stands behind it.
-use Rattle.std.specs.Prelude.{ℕ, List, [], ◌∷◌, ◌==◌, if◌then◌else◌, Option, Some, None, option_map, option_and_then}
-use Rattle.std.specs.Borrow.{Bor}
-
--- a value and the rest of the text, where its front has the form
-abbrev pub Read : Type 0 → Type 0
-Read A = Option (A × List ℕ)
-
--- what a reader over slices gave, with the rest as a text
-abbrev pub read_view : {A : Type 0} → Option (A × Bor (List ℕ)) → Read A
-read_view result = option_map (λ found. (found.0, found.1.now)) result
-
-infixl 10 ◌>>=◌
--- to go on with what was found
-abbrev pub ◌>>=◌ : {A B : Type 0} → Option A → (A → Option B) → Option B
-found >>= next = option_and_then next found
-
--- what stands behind this character, where it is the first
-unfoldable pub behind : ℕ → List ℕ → Option (List ℕ)
-behind mark [] = None
-behind mark (c ∷ rest) = if c == mark then Some rest else None
+-- The fields of dates, clocks and offsets: how they are read and written.
+pub mod Front
+pub mod Offsets
+pub mod DateFields
+pub mod DateOffsets
+pub mod FieldTexts
+pub mod Layout
+pub mod Civil

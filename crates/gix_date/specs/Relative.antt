@@ -1,56 +1,6 @@
--- Relative texts, and the times that they name from a moment.
-use Rattle.std.specs.Prelude.{◌≡◌, ℕ, ℤ, pos, ◌-ℤ◌, ◌||◌, List, if◌then◌else◌, Option, Some, None, Result, Ok, Err, codes}
-use Rattle.std.specs.Option.{option_or}
-use Rattle.std.specs.Str.{trim}
-use Rattle.jiff.specs.Words.{zoned_nanos, offset_at, nanos_of_seconds, IsTimestampNanos}
-use Rattle.jiff.specs.Types.{TimeZone}
-use Rattle.jiff.specs.declared.zoned.Zoned.{Zoned}
-use Rattle.gix_date.specs.RelativeSteps.{zone_of, Settles, Chain}
-use Rattle.gix_date.specs.RelativeWords.{relative_words}
-use Rattle.gix_date.specs.Names.{is_name}
-use Rattle.gix_date.specs.Roles.{are_pairs, pairs}
-use Rattle.gix_date.specs.Zoned.{whole_seconds}
-use Rattle.gix_date.specs.declared.error.Error.{Error}
-use Rattle.gix_date.specs.declared.error.Error.TheVariants.{MissingNow, Range}
-use Rattle.gix_date.specs.declared.parsing.relative.words.TimeUnit.{TimeUnit}
-use Rattle.gix_date.specs.declared.time.Time.{Time}
-
--- what a relative text asks for
-pub data RelativeDate : Type 0 where
-  -- so many seconds before the moment
-  Before : ℤ → RelativeDate
-  -- the moment, with one pair after the other taken off
-  Less : List (ℤ × TimeUnit) → RelativeDate
-
--- `now`, `today` or `yesterday`, alone
-unfoldable pub named_date : List ℕ → Option RelativeDate
-named_date name =
-    if is_name name (codes "now") || is_name name (codes "today") then Some (Before (pos 0))
-    else if is_name name (codes "yesterday") then Some (Before (pos 86_400))
-    else None
-
--- pairs of counts and periods
-unfoldable pub pairs_date : List ℕ → Option RelativeDate
-pairs_date text = if are_pairs (relative_words text) then Some (Less (pairs (relative_words text))) else None
-
--- what a text asks for, where it is relative
-unfoldable pub relative_date : List ℕ → Option RelativeDate
-relative_date text = option_or (named_date (trim text)) (pairs_date text)
-
--- the instant that a relative date names, from an instant in a zone
-abbrev pub Reaches : RelativeDate → TimeZone → ℤ → ℤ → Type 0
-Reaches (Before seconds) tz moment instant = (instant ≡ moment -ℤ nanos_of_seconds seconds) × IsTimestampNanos instant
-Reaches (Less list) tz moment instant = (start : ℤ) × Settles tz moment start × Chain tz list start instant
-
--- the time that a relative date names from a moment: whole seconds, and the offset of the moment's zone there
-pub record IsNamed (date : RelativeDate) (moment : Zoned) (t : Time) : Type 0 where
-  pub instant : ℤ
-  pub reaches : Reaches date (zone_of moment) (zoned_nanos moment) instant
-  pub seconds_is : t.seconds ≡ whole_seconds instant
-  pub offset_is : t.offset ≡ offset_at (zone_of moment) instant
-
--- What a call comes to by a relative date and this moment, or none.
-abbrev pub Reckons : RelativeDate → Option Zoned → Result Time Error → Type 0
-Reckons date None result = result ≡ Err MissingNow
-Reckons date (Some moment) (Ok t) = IsNamed date moment t
-Reckons date (Some moment) (Err e) = (e ≡ Range) × ((t : Time) → ¬ (IsNamed date moment t))
+-- Relative texts: their words, and the times that they name.
+pub mod Words
+pub mod Roles
+pub mod Steps
+pub mod Dates
+pub mod FixedZones

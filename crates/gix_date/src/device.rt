@@ -1,8 +1,8 @@
 //! Writers and readers whose bytes and faults a contract can name.
 ghost use Rattle.std.specs.Prelude.{◌≡◌, None, Some, ◌<◌, ◌≤◌, length, IfOk, IfErr, IfSome, OnOk, OnErr};
 ghost use Rattle.std.specs.Io.KnownBytes.{WriteAppends, ReadConsumes};
-ghost use Rattle.gix_date.specs.Known.{Known, Takes, TakesProperPrefix, refusal};
-ghost use Rattle.gix_date.specs.Device.{inner_of, fault_of};
+ghost use Rattle.gix_date.specs.Devices.Known.{Known, Takes, TakesProperPrefix, refusal};
+ghost use Rattle.gix_date.specs.Devices.Device.{inner_of, fault_of};
 
 use std::io;
 use std::io::{Read, Write};
@@ -43,8 +43,8 @@ pub trait Source {
 
 /// A writer of std as a [`Sink`], and a reader of std as a [`Source`].
 ///
-/// Each call makes one `write` or `read`, and none after a fault. An interrupted call is a fault, and so is a `write` that
-/// takes no byte (`WriteZero`). It takes no memory but what the writer takes for itself, as a `Vec` that grows.
+/// Each call makes one `write` or `read`, and none after a fault. An interrupted call is a fault, and so is a `write`
+/// that takes no byte (`WriteZero`). It takes no memory but what the writer takes for itself, as a `Vec` that grows.
 #[derive(Debug, Drop)]
 pub struct Device<T> {
     inner: T,
@@ -52,7 +52,7 @@ pub struct Device<T> {
 }
 
 impl<T> Device<T> {
-    /// The device of this writer or reader, with no fault. Takes no memory.
+    /// The device of this writer or reader, with no fault.
     pub fn new(inner: T) -> Device<T>
         ensures inner { inner_of result ≡ inner }
         ensures fault { fault_of result ≡ None }
@@ -60,7 +60,7 @@ impl<T> Device<T> {
         Device { inner, fault: None }
     }
 
-    /// The writer or reader back. Takes no memory.
+    /// The writer or reader back.
     pub fn into_inner(self) -> T
         ensures { result ≡ inner_of self }
     {
@@ -108,8 +108,8 @@ impl<T: Read> Source for Device<T> {
 
 /// Puts the whole text into a sink, by as many calls of [`Sink::put`] as that takes.
 ///
-/// Where the sink refuses, a proper prefix of the text was taken, and the answer is the sink's fault. Takes no memory of its
-/// own.
+/// Where the sink refuses, a proper prefix of the text was taken, and the answer is the sink's fault. Takes no memory
+/// of its own.
 pub fn put_all<W: Sink>(out: &mut W, text: &[u8]) -> Result<(), io::ErrorKind>
     ensures ok { OnOk result (Takes (W.known out.old) (W.known out.new) text.now) }
     ensures cut { OnErr result (TakesProperPrefix (W.known out.old) (W.known out.new) text.now) }

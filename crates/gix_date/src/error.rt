@@ -1,6 +1,6 @@
 //! Why a call refuses.
 ghost use Rattle.std.specs.Prelude.{◌≡◌, Some, IfOk};
-ghost use Rattle.gix_date.specs.InputBytes.{shown_text};
+ghost use Rattle.gix_date.specs.Devices.InputBytes.{shown_text};
 
 use std::alloc::{AllocError, Global};
 use std::marker::Model;
@@ -66,7 +66,7 @@ impl Model for InputBytes {
 }
 
 impl InputBytes {
-    /// A copy of the bytes of a text, or the want of memory for it.
+    /// A copy of the bytes of a text, or that there is no memory for it.
     pub(crate) fn copied(alloc: Global, input: &str) -> Result<InputBytes, AllocError>
         ensures { IfOk result (λ copy. copy ≡ input.now) }
     {
@@ -74,7 +74,7 @@ impl InputBytes {
         Ok(InputBytes { bytes })
     }
 
-    /// The bytes of the text. Takes no memory.
+    /// The bytes of the text.
     pub fn as_bytes(&self) -> &[u8]
         ensures { result.now ≡ self.now }
     {

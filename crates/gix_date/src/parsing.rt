@@ -4,21 +4,22 @@
 ghost use Rattle.std.specs.Prelude.{◌≡◌, [], ok_or};
 ghost use Rattle.std.specs.Borrow.{sem};
 ghost use Rattle.gix_date.specs.declared.error.Error.TheVariants.{OffsetTooWide};
-ghost use Rattle.gix_date.specs.HeaderText.{GivesText, text_left};
-ghost use Rattle.gix_date.specs.Lending.{LeavesText};
-ghost use Rattle.gix_date.specs.TimeBuf.{text_in};
+ghost use Rattle.gix_date.specs.Header.Text.{GivesText, text_left};
+ghost use Rattle.gix_date.specs.Devices.Lending.{LeavesText};
+ghost use Rattle.gix_date.specs.Devices.TimeBuf.{text_in};
 
 use crate::error::Error;
-use crate::parsing::function::parse_header;
-use crate::time::{LONGEST_TEXT, Time, header_text};
+use crate::parsing::headers::parse_header;
+use crate::time::{MAX_TEXT_LEN, Time, header_text};
 use arrayvec::ArrayString;
 use std::str::FromStr;
 
 mod answer;
 mod civil;
+pub(crate) mod dates;
 mod fields;
-pub(crate) mod function;
 mod git;
+pub(crate) mod headers;
 mod numbers;
 mod offset;
 mod patterns;
@@ -31,11 +32,11 @@ mod space_words;
 /// A place for the text of one time, of 26 bytes at most, which takes no memory.
 #[derive(Clone, Copy)]
 pub struct TimeBuf {
-    text: ArrayString<LONGEST_TEXT>,
+    text: ArrayString<MAX_TEXT_LEN>,
 }
 
 impl TimeBuf {
-    /// The text that the last [`Time::to_str`] put here: empty before the first, and after a refusal. Takes no memory.
+    /// The text that the last [`Time::to_str`] put here: empty before the first, and after a refusal.
     pub fn as_str(&self) -> &str
         ensures { result.now ≡ text_in self.now }
     {
@@ -74,8 +75,7 @@ fn or_too_wide(text: Option<&str>) -> Result<&str, Error>
 impl Time {
     /// The text that [`Time::write_to`] writes, lent out of the buffer, which keeps it.
     ///
-    /// An offset of 100 hours or more is refused by [`Error::OffsetTooWide`], and the buffer is empty then. Takes no
-    /// memory.
+    /// An offset of 100 hours or more is refused by [`Error::OffsetTooWide`], and the buffer is empty then.
     pub fn to_str<'a>(&self, buf: &'a mut TimeBuf) -> Result<&'a str, Error>
         ensures text { GivesText self.now result }
         ensures* after { sem 𝓛 (LeavesText buf.entry (text_left result)) }
@@ -84,10 +84,10 @@ impl Time {
     }
 }
 
-/// Reads the time of a commit header, as [`parse_header`](crate::parse_header) does. [`Error::InvalidTime`] where that gives
-/// `None`. Takes no memory.
+/// Reads the time of a commit header, as [`parse_header`](crate::parse_header) does. [`Error::InvalidTime`] where that
+/// gives `None`.
 impl FromStr for Time {
-    ghost use Rattle.gix_date.specs.HeaderReading.{ReadsHeader};
+    ghost use Rattle.gix_date.specs.Header.Reading.{ReadsHeader};
 
     type Err = Error;
 

@@ -7,7 +7,7 @@ mod write;
 
 pub use format::{CustomFormat, Format};
 use serde::{Deserialize, Serialize};
-pub(crate) use write::{LONGEST_TEXT, header_text};
+pub(crate) use write::{MAX_TEXT_LEN, header_text};
 
 /// Seconds since 1970-01-01 00:00:00 UTC, negative before.
 pub type SecondsSinceUnixEpoch = i64;
@@ -31,7 +31,7 @@ pub struct Time {
 }
 
 impl Time {
-    /// Whether this is another time than 0 seconds with offset 0. Takes no memory.
+    /// Whether this is another time than 0 seconds with offset 0.
     pub fn is_set(&self) -> bool
         ensures { IsTrue result ↔ (self.now ≢ record { seconds = pos 0; offset = pos 0 }) }
     {

@@ -3,10 +3,10 @@ use Rattle.std.proofs.Common.{◌≡◌, ◌∙◌, ℕ, List, Bool, true, false
 use Rattle.std.proofs.lemmas.Slice.Eq.{bytes_eq-Decides}
 use Rattle.std.proofs.lemmas.Str.{is_utf8-from_IsUtf8}
 use Rattle.std.specs.Str.{is_utf8, bytes_eq}
-use Rattle.gix_date.specs.CanonicalHeader.{is_canonical_header}
-use Rattle.gix_date.specs.HeaderLaws.{ComesBack}
-use Rattle.gix_date.specs.HeaderReading.{header_time}
-use Rattle.gix_date.specs.HeaderText.{header_text}
+use Rattle.gix_date.specs.Header.Canonical.{is_canonical_header}
+use Rattle.gix_date.specs.Header.Laws.{ComesBack}
+use Rattle.gix_date.specs.Header.Reading.{header_time}
+use Rattle.gix_date.specs.Header.Text.{header_text}
 use Rattle.gix_date.specs.declared.time.Time.{Time}
 use Rattle.gix_date.proofs.HeaderLaws.{canonical-taken, canonical-back, canonical-utf8, comes-back-canonical}
 use Rattle.gix_date_tool.specs.declared.arguments.Mode.{Mode}

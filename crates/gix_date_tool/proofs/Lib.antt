@@ -1,7 +1,9 @@
 pub mod Splitting
 pub mod Sending
 pub mod Taking
+pub mod Signing
 pub mod Replying
 pub mod CanonicalLines
+pub mod UnchangedLines
 pub mod Reading
 pub mod Telling

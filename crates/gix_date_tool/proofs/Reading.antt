@@ -4,11 +4,11 @@ use Rattle.std.proofs.lemmas.List.Elements.{All-append, All-nil, All-cons}
 use Rattle.std.specs.Prelude.{All}
 use Rattle.std.specs.Io.KnownBytes.{Keeps, Consumes}
 use Rattle.std.specs.declared.io.ErrorKind.{ErrorKind}
-use Rattle.gix_date.specs.Characters.{newline}
-use Rattle.gix_date.specs.Known.{Known, Takes, TakesNothing, Gives, HasEnded}
+use Rattle.gix_date.specs.Text.Characters.{newline}
+use Rattle.gix_date.specs.Devices.Known.{Known, Takes, TakesNothing, Gives, HasEnded}
 use Rattle.gix_date_tool.specs.declared.error.ToolError.{ToolError}
 use Rattle.gix_date_tool.specs.declared.error.ToolError.TheVariants as errors
-use Rattle.gix_date_tool.specs.declared.lines.TheConstants.{MOST_LINES}
+use Rattle.gix_date_tool.specs.declared.lines.TheConstants.{MAX_LINES}
 use Rattle.gix_date_tool.specs.declared.replies.Asked.{Asked}
 use Rattle.gix_date_tool.specs.Lines.{last_line, IsShort, IsWithinLimits}
 use Rattle.gix_date_tool.specs.Replies.{Replied}
@@ -53,7 +53,7 @@ IsReady-first asked sink = record {
   is_line = All-nil (λ b. b ≢ newline);
   is_short = omega arith;
   few = omega arith;
-  none_behind = λ _. refl;
+  none_after = λ _. refl;
 }
 
 -- nothing was read
@@ -86,7 +86,7 @@ HasRead-sent {asked = asked} {sink = sink} {s = s} {s' = s'} h k =
     }
 
 pub IsReady-sent : {s s' : Stage} → IsReady s → SentAll s s' → IsReady s'
-IsReady-sent h k = subst IsReady (sym k.same) (record { is_line = h.is_line; is_short = h.is_short; few = h.few; none_behind = h.none_behind })
+IsReady-sent h k = subst IsReady (sym k.same) (record { is_line = h.is_line; is_short = h.is_short; few = h.few; none_after = h.none_after })
 
 -- a piece was read and taken in
 pub HasRead-taken : {asked : Asked} {sink : Known} {s s' : Stage} {old mid : Known} (new : Known) {bytes : List ℕ}
@@ -184,7 +184,7 @@ within : {asked : Asked} {sink : Known} {s : Stage} {input : List ℕ} (took : T
 within {s = s} took ready =
     let last = last_line s.open_line in (
       All-append IsShort took.lines last took.short (last_short s.open_line ready.is_short),
-      omega (arith, length-append took.lines last, took.counted, room_for_last s.ended MOST_LINES s.open_line ready.few ready.none_behind),
+      omega (arith, length-append took.lines last, took.counted, room_for_last s.ended MAX_LINES s.open_line ready.few ready.none_after),
     )
 
 -- the reader refused
@@ -243,7 +243,7 @@ Ran-ended {asked = asked} {sink = sink} {s = s} s' {old = old} {mid = mid} new (
       read = Gives-append old mid new h.input [] h.read read;
       splits = took.splits;
       short = took.short;
-      stops = (subst (λ n. n < MOST_LINES) (omega (arith, took.counted)) (short_of s.ended MOST_LINES ready.few (λ e. k.1 (ready.none_behind e))), ready.is_short);
+      stops = (subst (λ n. n < MAX_LINES) (omega (arith, took.counted)) (short_of s.ended MAX_LINES ready.few (λ e. k.1 (ready.none_after e))), ready.is_short);
       wrote = subst (λ x. Replied (Puts (all_sent sink) x.output) asked took.lines) (sym k.0) took.put;
     }
 Ran-ended s' new (Err (errors.Read kind)) h ready read end no_fault k = absurd k

@@ -1,21 +1,23 @@
 -- The reply to a line, by what `parse` answers.
-use Rattle.std.proofs.Common.{◌≡◌, ◌∙◌, ℕ, List, Bool, true, false, Option, Some, None, Result, Ok, Err, sym, ap}
+use Rattle.std.proofs.Common.{◌≡◌, ◌∙◌, ℕ, List, Bool, true, false, Option, Some, None, Result, Ok, Err, sym, ap, inl, inr}
 use Rattle.std.specs.Str.{is_utf8}
 use Rattle.jiff.specs.declared.zoned.Zoned.{Zoned}
 use Rattle.gix_date.proofs.Chains.{named-once}
-use Rattle.gix_date.specs.Answer.{FamilyAnswer, Absolute, OffsetBeyond, InstantBeyond, Relative}
-use Rattle.gix_date.specs.Families.{first_family}
-use Rattle.gix_date.specs.Relative.{RelativeDate, Reckons}
+use Rattle.gix_date.specs.Families.Answer.{FamilyAnswer, Absolute, OffsetBeyond, InstantBeyond, Relative}
+use Rattle.gix_date.specs.Families.Order.{first_family}
+use Rattle.gix_date.specs.Relative.Dates.{RelativeDate, RelativeOutcome}
 use Rattle.gix_date.specs.declared.error.Error.{Error}
 use Rattle.gix_date.specs.declared.time.Time.{Time}
 use Rattle.gix_date_tool.specs.declared.arguments.Mode.{Mode}
-use Rattle.gix_date_tool.specs.declared.arguments.Mode.TheVariants.{Check, Parse}
+use Rattle.gix_date_tool.specs.declared.arguments.Mode.TheVariants.{Check, Parse, Sign}
 use Rattle.gix_date_tool.specs.declared.replies.Asked.{Asked}
 use Rattle.gix_date_tool.specs.declared.replies.Reply.{Reply}
-use Rattle.gix_date_tool.specs.Replies.{IsReply, IsReplyTo, IsTextReply, IsParseReply, reckoned_reply, RepliesAreUnique}
+use Rattle.gix_date_tool.specs.Replies.{IsReply, IsReplyTo, IsTextReply, IsParseReply, IsSignReply, relative_reply, RepliesAreUnique}
+use Rattle.gix_date_tool.specs.declared.replies.Reply.TheVariants.{Signed}
+use Rattle.gix_date_tool.proofs.Signing.{signed-once}
 
 -- a relative date comes to one result
-reckons-once : (date : RelativeDate) (now : Option Zoned) (r s : Result Time Error) → Reckons date now r → Reckons date now s → r ≡ s
+reckons-once : (date : RelativeDate) (now : Option Zoned) (r s : Result Time Error) → RelativeOutcome date now r → RelativeOutcome date now s → r ≡ s
 reckons-once date None r s h g = h ∙ sym g
 reckons-once date (Some moment) (Ok t) (Ok u) h g = ap Ok (named-once date moment t u h g)
 reckons-once date (Some moment) (Ok t) (Err e) h g = absurd (g.1 t h)
@@ -27,11 +29,18 @@ parse-once None now a b h g = h ∙ sym g
 parse-once (Some (Absolute t)) now a b h g = h ∙ sym g
 parse-once (Some OffsetBeyond) now a b h g = h ∙ sym g
 parse-once (Some InstantBeyond) now a b h g = h ∙ sym g
-parse-once (Some (Relative date)) now a b h g = h.2 ∙ ap reckoned_reply (reckons-once date now h.0 g.0 h.1 g.1) ∙ sym g.2
+parse-once (Some (Relative date)) now a b h g = h.2 ∙ ap relative_reply (reckons-once date now h.0 g.0 h.1 g.1) ∙ sym g.2
+
+sign-once : (text : List ℕ) (a b : Reply) → IsSignReply text a → IsSignReply text b → a ≡ b
+sign-once text a b (inl h) (inl g) = h.2 ∙ ap Signed (signed-once text h.0 g.0 h.1 g.1) ∙ sym g.2
+sign-once text a b (inl h) (inr g) = absurd (g.0 h.0 h.1)
+sign-once text a b (inr h) (inl g) = absurd (h.0 g.0 g.1)
+sign-once text a b (inr h) (inr g) = h.1 ∙ sym g.1
 
 text-once : (mode : Mode) (now : Option Zoned) (text : List ℕ) (a b : Reply) → IsTextReply mode now text a → IsTextReply mode now text b → a ≡ b
 text-once Check now text a b h g = h ∙ sym g
 text-once Parse now text a b h g = parse-once (first_family text) now a b h g
+text-once Sign now text a b h g = sign-once text a b h g
 
 line-once : (is_text : Bool) (asked : Asked) (line : List ℕ) (a b : Reply) → IsReplyTo is_text asked line a → IsReplyTo is_text asked line b → a ≡ b
 line-once true asked line a b h g = text-once asked.mode asked.now line a b h g

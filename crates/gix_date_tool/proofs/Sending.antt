@@ -6,9 +6,9 @@ use Rattle.std.proofs.lemmas.List.Concat.{flat_map-append}
 use Rattle.std.specs.Prelude.{OnOk, OnErr, IfErr}
 use Rattle.std.specs.Io.KnownBytes.{Appends}
 use Rattle.std.specs.declared.io.ErrorKind.{ErrorKind}
-use Rattle.gix_date.specs.Known.{Known, Takes, TakesProperPrefix}
+use Rattle.gix_date.specs.Devices.Known.{Known, Takes, TakesProperPrefix}
 use Rattle.gix_date.proofs.KnownBytes.{Appends-append}
-use Rattle.gix_date_tool.specs.Outbox.{Output, joined, all_sent, Puts, PutsProperPrefix, Sends}
+use Rattle.gix_date_tool.specs.Outbox.{Output, pieces_text, all_sent, Puts, PutsProperPrefix, Sends}
 
 -- nothing was appended
 Appends-nil : (known : Option (List ℕ)) → Appends known known []
@@ -22,14 +22,14 @@ TakesProperPrefix-more old new xs ys h =
     (h.0, omega (arith, length-append xs ys), subst (Takes old new) (sym (take-append-le h.0 xs ys (omega arith))) h.2)
 
 -- a text, and then a proper prefix of the next
-TakesProperPrefix-behind : (old mid new : Known) (xs ys : List ℕ) → Takes old mid xs → TakesProperPrefix mid new ys → TakesProperPrefix old new (xs ++ ys)
-TakesProperPrefix-behind old mid new xs ys h k =
+TakesProperPrefix-after : (old mid new : Known) (xs ys : List ℕ) → Takes old mid xs → TakesProperPrefix mid new ys → TakesProperPrefix old new (xs ++ ys)
+TakesProperPrefix-after old mid new xs ys h k =
     let within = k.1 in
     (length xs + k.0, omega (arith, length-append xs ys), subst (Takes old new) (sym (take-append-add xs ys k.0)) (Appends-append old.bytes mid.bytes new.bytes xs (take k.0 ys) h k.2))
 
--- what was unsent with a text that was put behind it, and a text behind both
-put_behind : (a b : Output) (x y : List ℕ) (h : Puts a b x) → a.unsent ++ (x ++ y) ≡ h.sent ++ (b.unsent ++ y)
-put_behind a b x y h = sym (append_assoc a.unsent x y) ∙ ap (λ xs. xs ++ y) h.cut ∙ append_assoc h.sent b.unsent y
+-- what was unsent with a text that was put after it, and a text after both
+put_after : (a b : Output) (x y : List ℕ) (h : Puts a b x) → a.unsent ++ (x ++ y) ≡ h.sent ++ (b.unsent ++ y)
+put_after a b x y h = sym (append_assoc a.unsent x y) ∙ ap (λ xs. xs ++ y) h.cut ∙ append_assoc h.sent b.unsent y
 
 -- nothing was put, and nothing was sent
 pub Puts-nil : (a : Output) → Puts a a []
@@ -39,7 +39,7 @@ Puts-nil a = record { sent = []; cut = append-nil a.unsent; taken = Appends-nil 
 pub Puts-then : {a b c : Output} {x y : List ℕ} → Puts a b x → Puts b c y → Puts a c (x ++ y)
 Puts-then {a = a} {b = b} {c = c} {x = x} {y = y} h k = record {
   sent = h.sent ++ k.sent;
-  cut = put_behind a b x y h ∙ ap (λ xs. h.sent ++ xs) k.cut ∙ sym (append_assoc h.sent k.sent c.unsent);
+  cut = put_after a b x y h ∙ ap (λ xs. h.sent ++ xs) k.cut ∙ sym (append_assoc h.sent k.sent c.unsent);
   taken = Appends-append a.sink.bytes b.sink.bytes c.sink.bytes h.sent k.sent h.taken k.taken;
 }
 
@@ -54,7 +54,7 @@ Takes-all_sent {sink = sink} {a = a} h none = subst (Takes sink a.sink) (sym (h.
 -- one text, and then a refusal
 pub PutsProperPrefix-then : {a b c : Output} {x y : List ℕ} {kind : ErrorKind} → Puts a b x → PutsProperPrefix b c y kind → PutsProperPrefix a c (x ++ y) kind
 PutsProperPrefix-then {a = a} {b = b} {c = c} {x = x} {y = y} h k = record {
-  taken = subst (TakesProperPrefix a.sink c.sink) (sym (put_behind a b x y h)) (TakesProperPrefix-behind a.sink b.sink c.sink h.sent (b.unsent ++ y) h.taken k.taken);
+  taken = subst (TakesProperPrefix a.sink c.sink) (sym (put_after a b x y h)) (TakesProperPrefix-after a.sink b.sink c.sink h.sent (b.unsent ++ y) h.taken k.taken);
   fault = k.fault;
 }
 
@@ -70,27 +70,27 @@ PutsProperPrefix-more {a = a} {b = b} {x = x} y h = record {
 }
 
 -- the pieces up to one and that one
-joined-next : (pieces : List (Bor (List ℕ))) (i : ℕ) (d : Bor (List ℕ)) → i < length pieces
-    → joined (take (i + 1) pieces) ≡ joined (take i pieces) ++ (get_or pieces i d).now
-joined-next pieces i d h =
+pieces_text-next : (pieces : List (Bor (List ℕ))) (i : ℕ) (d : Bor (List ℕ)) → i < length pieces
+    → pieces_text (take (i + 1) pieces) ≡ pieces_text (take i pieces) ++ (get_or pieces i d).now
+pieces_text-next pieces i d h =
     let piece = get_or pieces i d in
-    ap joined (take_more pieces i d h) ∙ flat_map-append (λ p. p.now) (take i pieces) (piece ∷ [])
-    ∙ ap (λ xs. joined (take i pieces) ++ xs) (append-nil piece.now)
+    ap pieces_text (take_more pieces i d h) ∙ flat_map-append (λ p. p.now) (take i pieces) (piece ∷ [])
+    ∙ ap (λ xs. pieces_text (take i pieces) ++ xs) (append-nil piece.now)
 
 -- the next piece of a text
 pub Puts-piece : {a b c : Output} (pieces : List (Bor (List ℕ))) (i : ℕ) (d : Bor (List ℕ))
-    → i < length pieces → Puts a b (joined (take i pieces)) → Puts b c (get_or pieces i d).now → Puts a c (joined (take (i + 1) pieces))
-Puts-piece {a = a} {c = c} pieces i d within h k = subst (Puts a c) (sym (joined-next pieces i d within)) (Puts-then h k)
+    → i < length pieces → Puts a b (pieces_text (take i pieces)) → Puts b c (get_or pieces i d).now → Puts a c (pieces_text (take (i + 1) pieces))
+Puts-piece {a = a} {c = c} pieces i d within h k = subst (Puts a c) (sym (pieces_text-next pieces i d within)) (Puts-then h k)
 
 -- a refusal of the next piece is one of the text
 pub PutsProperPrefix-piece : {a b c : Output} (pieces : List (Bor (List ℕ))) (i : ℕ) (d : Bor (List ℕ)) {kind : ErrorKind}
-    → i < length pieces → Puts a b (joined (take i pieces)) → PutsProperPrefix b c (get_or pieces i d).now kind → PutsProperPrefix a c (joined pieces) kind
+    → i < length pieces → Puts a b (pieces_text (take i pieces)) → PutsProperPrefix b c (get_or pieces i d).now kind → PutsProperPrefix a c (pieces_text pieces) kind
 PutsProperPrefix-piece {a = a} {c = c} pieces i d {kind = kind} within h k =
-    let behind = drop (i + 1) pieces in
-    let whole : joined (take (i + 1) pieces) ++ joined behind ≡ joined pieces = sym (flat_map-append (λ p. p.now) (take (i + 1) pieces) behind)
-    ∙ ap joined (take-append-drop (i + 1) pieces) in
-    let front = subst (λ text. PutsProperPrefix a c text kind) (sym (joined-next pieces i d within)) (PutsProperPrefix-then h k) in
-    subst (λ text. PutsProperPrefix a c text kind) whole (PutsProperPrefix-more (joined behind) front)
+    let after = drop (i + 1) pieces in
+    let whole : pieces_text (take (i + 1) pieces) ++ pieces_text after ≡ pieces_text pieces = sym (flat_map-append (λ p. p.now) (take (i + 1) pieces) after)
+    ∙ ap pieces_text (take-append-drop (i + 1) pieces) in
+    let front = subst (λ text. PutsProperPrefix a c text kind) (sym (pieces_text-next pieces i d within)) (PutsProperPrefix-then h k) in
+    subst (λ text. PutsProperPrefix a c text kind) whole (PutsProperPrefix-more (pieces_text after) front)
 
 -- What is sent at once where nothing waits.
 pub Sends-at_once : {a b : Output} (sink : Known) (text : List ℕ) (r : Result (Unit {0}) ErrorKind) → Puts a b [] → b.unsent ≡ []

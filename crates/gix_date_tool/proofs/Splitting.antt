@@ -5,7 +5,7 @@ use Rattle.std.proofs.lemmas.List.Concat.{flat_map-append}
 use Rattle.std.proofs.lemmas.List.Elements.{All-append, All-push, All-nil, All-head, All-tail}
 use Rattle.std.specs.List.{flat_map}
 use Rattle.std.specs.Prelude.{All}
-use Rattle.gix_date.specs.Characters.{newline}
+use Rattle.gix_date.specs.Text.Characters.{newline}
 use Rattle.gix_date_tool.specs.Lines.{IsLine, with_newline, Splits}
 
 -- one line, not ended
@@ -21,7 +21,7 @@ Splits-newline input lines rest h = record {
   rest_is_line = All-nil (λ b. b ≢ newline);
 }
 
--- what comes behind a rest
+-- what comes after a rest
 pub Splits-join : (a b : List ℕ) (lines more : List (List ℕ)) (rest end : List ℕ) → Splits a lines rest → Splits (rest ++ b) more end
     → Splits (a ++ b) (lines ++ more) end
 Splits-join a b lines more rest end h k = record {

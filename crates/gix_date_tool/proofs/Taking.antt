@@ -5,10 +5,10 @@ use Rattle.std.proofs.lemmas.List.Concat.{flat_map-append}
 use Rattle.std.proofs.lemmas.List.Elements.{All-append, All-nil, All-cons, All-take}
 use Rattle.std.specs.Prelude.{OnOk}
 use Rattle.std.specs.declared.io.ErrorKind.{ErrorKind}
-use Rattle.gix_date.specs.Characters.{newline}
+use Rattle.gix_date.specs.Text.Characters.{newline}
 use Rattle.gix_date_tool.specs.declared.error.ToolError.{ToolError}
 use Rattle.gix_date_tool.specs.declared.error.ToolError.TheVariants as errors
-use Rattle.gix_date_tool.specs.declared.lines.TheConstants.{LONGEST_LINE, MOST_LINES}
+use Rattle.gix_date_tool.specs.declared.lines.TheConstants.{MAX_LINE_LEN, MAX_LINES}
 use Rattle.gix_date_tool.specs.declared.replies.Asked.{Asked}
 use Rattle.gix_date_tool.specs.Lines.{IsLine, with_newline, Splits, IsShort}
 use Rattle.gix_date_tool.specs.Replies.{Replied, AreReplies, IsReply, reply_line, reply_lines}
@@ -180,15 +180,15 @@ stops_before {s = s} bytes stop ready at =
     stops_within [] bytes stop (subst IsLine same ready.is_line) (subst (λ rest. StopsAt stop (s.ended + 0) rest bytes) same at)
 
 -- a line that would be too long is so at its first byte beyond the limit
-too_long : {s : Stage} (part more : List ℕ) → IsReady s → IsLine part → s.ended < MOST_LINES → LONGEST_LINE < length (s.open_line ++ part)
+too_long : {s : Stage} (part more : List ℕ) → IsReady s → IsLine part → s.ended < MAX_LINES → MAX_LINE_LEN < length (s.open_line ++ part)
     → StoppedWithin s s (part ++ more) errors.LineTooLong
 too_long {s = s} part more ready line few long =
-    let n = LONGEST_LINE + 1 - length s.open_line in
-    let short : length s.open_line ≤ LONGEST_LINE = ready.is_short in
+    let n = MAX_LINE_LEN + 1 - length s.open_line in
+    let short : length s.open_line ≤ MAX_LINE_LEN = ready.is_short in
     let room : n ≤ length part = omega (arith, length-append s.open_line part) in
     let front = take n part in
     let cut : part ++ more ≡ front ++ (drop n part ++ more) = ap (λ xs. xs ++ more) (sym (take-append-drop n part)) ∙ append_assoc front (drop n part) more in
-    let size : length (s.open_line ++ front) ≡ LONGEST_LINE + 1 = omega (arith, length-append s.open_line front, length-take-le n part room) in
+    let size : length (s.open_line ++ front) ≡ MAX_LINE_LEN + 1 = omega (arith, length-append s.open_line front, length-take-le n part room) in
     let within = stops_within front (drop n part ++ more) errors.LineTooLong (IsLine-more front ready (All-take (λ b. b ≢ newline) n part line)) (omega arith, size) in
     subst (λ bytes. StoppedWithin s s bytes errors.LineTooLong) (sym cut) within
 
@@ -198,7 +198,7 @@ refused s' part more (errors.Write kind) ready line long h = absurd h.1
 refused s' part more (errors.Read kind) ready line long h = absurd h.1
 refused s' part more errors.Memory ready line long h = stops_before (part ++ more) errors.Memory ready (omega (arith, h.1), ready.is_short)
 refused s' part more errors.LineTooLong ready line long h = too_long part more ready line h.1.0 h.1.1
-refused s' part more errors.TooManyLines ready line long h = stops_before (part ++ more) errors.TooManyLines ready (record { all = omega (arith, h.1); none_begun = ready.none_behind h.1; more = long })
+refused s' part more errors.TooManyLines ready line long h = stops_before (part ++ more) errors.TooManyLines ready (record { all = omega (arith, h.1); none_begun = ready.none_after h.1; more = long })
 
 -- bytes that were refused, and have changed nothing
 pub TakesIn-refused : {s : Stage} (s' : Stage) (part more : List ℕ) (e : ToolError) → IsReady s → IsLine part → 0 < length (part ++ more)
@@ -222,7 +222,7 @@ TookIn-nil {s = s} ready = record {
   put = Replied-nil s.asked (Puts-nil s.output);
 }
 
--- bytes were put behind the open line
+-- bytes were put after the open line
 TookIn-extended : {s s' : Stage} (part : List ℕ) → IsReady s → IsLine part → Extended s s' part → TookIn s s' part
 TookIn-extended {s = s} part ready line h = subst (λ x. TookIn s x part) (sym h.same) (record {
   lines = [];
@@ -245,7 +245,7 @@ Splits-ended : (start part : List ℕ) → IsLine (start ++ part) → Splits (st
 Splits-ended start part h =
     subst (λ xs. Splits xs ((start ++ part) ∷ []) []) (append_assoc start part (newline ∷ [])) (Splits-newline (start ++ part) [] (start ++ part) (Splits-open (start ++ part) h))
 
--- the stage with a part of a line behind the open line
+-- the stage with a part of a line after the open line
 abbrev longer : Stage → List ℕ → Stage
 longer s part = record s { open_line = s.open_line ++ part }
 
@@ -276,7 +276,7 @@ RefusedWithin-closed {s = s} {s' = s'} {kind = kind} part ready line k = record 
 }
 
 -- a line ended, and memory for the reply to it was refused
-without_memory : {s s' : Stage} (part : List ℕ) → IsReady s → IsLine part → s.ended < MOST_LINES → IsShort (s.open_line ++ part) → s' ≡ longer s part
+without_memory : {s s' : Stage} (part : List ℕ) → IsReady s → IsLine part → s.ended < MAX_LINES → IsShort (s.open_line ++ part) → s' ≡ longer s part
     → StoppedWithin s s' (with_newline part) errors.Memory
 without_memory {s = s} part ready line few short same = record {
   front = part;
@@ -290,7 +290,7 @@ without_memory {s = s} part ready line few short same = record {
   put = Replied-nil s.asked (subst (λ output. Puts s.output output []) (sym (ap (λ x. x.output) same)) (Puts-nil s.output));
 }
 
-closes : {s : Stage} (s' : Stage) (part : List ℕ) (r : Result (Unit {0}) ToolError) → IsReady s → IsLine part → s.ended < MOST_LINES
+closes : {s : Stage} (s' : Stage) (part : List ℕ) (r : Result (Unit {0}) ToolError) → IsReady s → IsLine part → s.ended < MAX_LINES
     → IsShort (s.open_line ++ part)
     → Closes (longer s part) s' r → TakesIn s s' (with_newline part) r
 closes s' part (Ok u) ready line few short k = TookIn-closed part ready line short k
@@ -311,15 +311,15 @@ IsReady-extended s' part (Ok u) ready line h = subst IsReady (sym h.same) (recor
   is_line = IsLine-more part ready line;
   is_short = h.is_short;
   few = omega (arith, h.few);
-  none_behind = λ e. absurd (omega (arith, h.few, e));
+  none_after = λ e. absurd (omega (arith, h.few, e));
 })
 IsReady-extended s' part (Err e) ready line h = tt
 
-pub IsReady-closed : (s s' : Stage) (r : Result (Unit {0}) ToolError) → s.ended < MOST_LINES → Closes s s' r → OnOk r (IsReady s')
+pub IsReady-closed : (s s' : Stage) (r : Result (Unit {0}) ToolError) → s.ended < MAX_LINES → Closes s s' r → OnOk r (IsReady s')
 IsReady-closed s s' (Ok u) few h = subst IsReady (sym h.same) (record {
   is_line = All-nil (λ b. b ≢ newline);
   is_short = omega arith;
   few = omega (arith, few);
-  none_behind = λ _. refl;
+  none_after = λ _. refl;
 })
 IsReady-closed s s' (Err e) few h = tt

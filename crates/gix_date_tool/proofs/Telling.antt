@@ -2,8 +2,8 @@
 use Rattle.std.proofs.Common.{◌≡◌, ◌∙◌, refl, ℕ, List, [], ◌∷◌, ◌++◌, sym, ap, subst, append_assoc, append-nil, inl, inr, Option, Some, None, Result, Ok, Err}
 use Rattle.std.specs.Prelude.{OnOk, IsSome, codes}
 use Rattle.std.specs.declared.io.ErrorKind.{ErrorKind}
-use Rattle.gix_date.specs.Characters.{newline}
-use Rattle.gix_date.specs.Known.{Takes, TakesProperPrefix}
+use Rattle.gix_date.specs.Text.Characters.{newline}
+use Rattle.gix_date.specs.Devices.Known.{Takes, TakesProperPrefix}
 use Rattle.gix_date_tool.specs.declared.arguments.NoMoment.{NoMoment}
 use Rattle.gix_date_tool.specs.declared.error.ToolError.{ToolError}
 use Rattle.gix_date_tool.specs.declared.end.End.{End}
@@ -37,7 +37,7 @@ fault-told telling end fault words cause is w k said =
     ∙ ap (λ xs. codes "gix_date_tool: " ++ xs) (sym (append_assoc (fault_words fault) (cause_words fault) (newline ∷ []))) in
     subst (λ e. Tells telling (message_of e)) (sym is) (subst (Says telling) whole said)
 
--- those of a moment that is none
+-- those of a text that is not a moment
 pub moment-told : (telling : Change) (given : Option NoMoment) (why : NoMoment) (words : List ℕ)
     → given ≡ Some why → words ≡ no_moment_words why
     → Says telling (codes "gix_date_tool: " ++ (words ++ newline ∷ [])) → Tells telling (message_why given)

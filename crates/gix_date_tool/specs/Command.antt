@@ -4,25 +4,26 @@ use Rattle.std.specs.Option.{option_map, ForSome}
 use Rattle.std.specs.Result.{result_ok, result_err}
 use Rattle.std.specs.declared.alloc.AllocError.{AllocError}
 use Rattle.std.specs.Str.{bytes_eq}
-use Rattle.gix_date.specs.Answer.{FamilyAnswer, Absolute, OffsetBeyond, InstantBeyond}
-use Rattle.gix_date.specs.Answer as answers
-use Rattle.gix_date.specs.Families.{first_family, is_copied}
-use Rattle.gix_date.specs.Zoned.{is_convertible, IsConvertible}
+use Rattle.gix_date.specs.Families.Answer.{FamilyAnswer, Absolute, OffsetBeyond, InstantBeyond}
+use Rattle.gix_date.specs.Families.Answer as answers
+use Rattle.gix_date.specs.Families.Order.{first_family, is_copied}
+use Rattle.gix_date.specs.Printing.Zoned.{is_convertible, IsConvertible}
 use Rattle.gix_date.specs.declared.time.Time.{Time}
 use Rattle.gix_date_tool.specs.declared.arguments.Mode.{Mode}
 use Rattle.gix_date_tool.specs.declared.arguments.NoMoment.{NoMoment}
 use Rattle.gix_date_tool.specs.declared.arguments.NoMoment.TheVariants.{UnknownFormat, DateConversion, Relative, Conversion}
 use Rattle.gix_date_tool.specs.declared.arguments.Request.{Request}
 use Rattle.gix_date_tool.specs.declared.arguments.Request.TheVariants.{Run, Usage}
-use Rattle.gix_date_tool.specs.declared.arguments.Mode.TheVariants.{Check, Parse}
+use Rattle.gix_date_tool.specs.declared.arguments.Mode.TheVariants.{Check, Parse, Sign}
 use Rattle.gix_date_tool.specs.declared.error.ToolError.{ToolError}
 use Rattle.gix_date_tool.specs.declared.error.ToolError.TheVariants as errors
 
--- the word `check` asks for Check, and `parse` for Parse, without a moment
+-- the word `check` asks for Check, `parse` for Parse and `sign` for Sign, without a moment
 abbrev pub mode_of : List ℕ → Option Mode
 mode_of word =
     if bytes_eq word (codes "check") then Some Check
     else if bytes_eq word (codes "parse") then Some Parse
+    else if bytes_eq word (codes "sign") then Some Sign
     else None
 
 -- the time that a text is a moment of, where a family says one that converts, or why there is none
@@ -38,12 +39,14 @@ abbrev pub command_of : List (List ℕ) → Option (Mode × Option Time)
 command_of [] = None
 command_of (word ∷ []) = option_map (λ mode. (mode, None)) (mode_of word)
 command_of (word ∷ now ∷ []) =
-    if bytes_eq word (codes "parse") then option_map (λ t. (Parse, Some t)) (result_ok (moment_or_why (first_family now))) else None
+    if bytes_eq word (codes "parse")
+    then option_map (λ t. (Parse, Some t)) (result_ok (moment_or_why (first_family now))) else None
 command_of (word ∷ now ∷ next ∷ more) = None
 
 -- why the second of two words is no moment, where the first is `parse`
 abbrev pub no_moment : List (List ℕ) → Option NoMoment
-no_moment (word ∷ now ∷ []) = if bytes_eq word (codes "parse") then result_err (moment_or_why (first_family now)) else None
+no_moment (word ∷ now ∷ []) =
+    if bytes_eq word (codes "parse") then result_err (moment_or_why (first_family now)) else None
 no_moment _ = None
 
 -- a moment is asked for by a text that is copied for a refusal
@@ -51,21 +54,21 @@ abbrev pub has_copied_moment : List (List ℕ) → Bool
 has_copied_moment (word ∷ now ∷ []) = bytes_eq word (codes "parse") && is_copied (first_family now)
 has_copied_moment _ = false
 
--- memory for the copy of a moment that is none may be wanting
-abbrev pub MayLack : List (List ℕ) → Type 0
-MayLack words = (command_of words ≡ None) × (has_copied_moment words ≡ true)
+-- memory may run out for the copy of a text that is not a moment
+abbrev pub MayRunOutOfMemory : List (List ℕ) → Type 0
+MayRunOutOfMemory words = (command_of words ≡ None) × (has_copied_moment words ≡ true)
 
--- What reading a command line comes to. Memory may be wanting only for the copy of a moment that is none.
+-- What reading a command line comes to. Memory may run out only for the copy of a text that is not a moment.
 abbrev pub Commands : List (List ℕ) → Result (Option (Mode × Option Time)) ToolError → Type 0
 Commands words (Ok asked) = asked ≡ command_of words
-Commands words (Err errors.Memory) = MayLack words
+Commands words (Err errors.Memory) = MayRunOutOfMemory words
 Commands words (Err _) = ⊥
 
 -- The same of a request, which also says why NOW is no moment.
 abbrev pub IsRequest : List (List ℕ) → Result Request AllocError → Type 0
 IsRequest words (Ok (Run mode now)) = command_of words ≡ Some (mode, now)
 IsRequest words (Ok (Usage why)) = (command_of words ≡ None) × (why ≡ no_moment words)
-IsRequest words (Err _) = MayLack words
+IsRequest words (Err _) = MayRunOutOfMemory words
 
 -- a run that is asked for may be made
 abbrev pub IsRunnable : Request → Type 0

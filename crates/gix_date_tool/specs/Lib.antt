@@ -7,3 +7,4 @@ pub mod Command
 pub mod Kinds
 pub mod Messages
 pub mod Program
+pub mod Signed

@@ -1,8 +1,8 @@
 -- The lines of an input.
 use Rattle.std.specs.Prelude.{◌≡◌, ◌≢◌, ℕ, ◌≤◌, List, [], ◌∷◌, ◌++◌, length, All}
 use Rattle.std.specs.List.{flat_map}
-use Rattle.gix_date.specs.Characters.{newline}
-use Rattle.gix_date_tool.specs.declared.lines.TheConstants.{LONGEST_LINE, MOST_LINES}
+use Rattle.gix_date.specs.Text.Characters.{newline}
+use Rattle.gix_date_tool.specs.declared.lines.TheConstants.{MAX_LINE_LEN, MAX_LINES}
 
 -- no newline
 abbrev pub IsLine : List ℕ → Type 0
@@ -12,7 +12,7 @@ IsLine line = All (λ b. b ≢ newline) line
 abbrev pub with_newline : List ℕ → List ℕ
 with_newline line = line ++ newline ∷ []
 
--- the input is these lines, with a newline behind each, and then a rest with none
+-- the input is these lines, with a newline after each, and then a rest with none
 pub record Splits (input : List ℕ) (lines : List (List ℕ)) (rest : List ℕ) : Type 0 where
   pub whole : input ≡ flat_map with_newline lines ++ rest
   pub each : All IsLine lines
@@ -42,8 +42,8 @@ pub record HasLines (input : List ℕ) (lines : List (List ℕ)) : Type 0 where
 
 -- a line that is not too long
 abbrev pub IsShort : List ℕ → Type 0
-IsShort line = length line ≤ LONGEST_LINE
+IsShort line = length line ≤ MAX_LINE_LEN
 
 -- no line is too long, and there are not too many
 abbrev pub IsWithinLimits : List (List ℕ) → Type 0
-IsWithinLimits lines = All IsShort lines × (length lines ≤ MOST_LINES)
+IsWithinLimits lines = All IsShort lines × (length lines ≤ MAX_LINES)

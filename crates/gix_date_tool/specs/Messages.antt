@@ -1,8 +1,8 @@
 -- What the program says on standard error.
 use Rattle.std.specs.Prelude.{◌≡◌, ◌⊎◌, ℕ, List, [], ◌∷◌, ◌++◌, Option, None, Some, IsSome, codes}
 use Rattle.std.specs.Option.{option_map}
-use Rattle.gix_date.specs.Characters.{newline}
-use Rattle.gix_date.specs.Known.{Takes, TakesProperPrefix}
+use Rattle.gix_date.specs.Text.Characters.{newline}
+use Rattle.gix_date.specs.Devices.Known.{Takes, TakesProperPrefix}
 use Rattle.gix_date_tool.specs.declared.arguments.NoMoment.{NoMoment}
 use Rattle.gix_date_tool.specs.declared.arguments.NoMoment.TheVariants.{UnknownFormat, DateConversion, Relative, Conversion}
 use Rattle.gix_date_tool.specs.declared.error.ToolError.{ToolError}
@@ -12,7 +12,7 @@ use Rattle.gix_date_tool.specs.declared.end.End.TheVariants.{Fault, Shown}
 use Rattle.gix_date_tool.specs.Kinds.{kind_words}
 use Rattle.gix_date_tool.specs.Run.{Change}
 
--- what has failed, and behind too many lines how to go on
+-- what has failed, and after too many lines how to go on
 abbrev pub fault_words : ToolError → List ℕ
 fault_words (errors.Read kind) = codes "reading failed: "
 fault_words (errors.Write kind) = codes "writing failed: "
@@ -33,11 +33,11 @@ no_moment_words DateConversion = codes "NOW is beyond the last instant that can 
 no_moment_words Relative = codes "NOW is a relative date, and has no moment to count from"
 no_moment_words Conversion = codes "NOW is too far from 1970"
 
--- one line, behind the program's name
+-- one line, after the program's name
 abbrev pub message : List ℕ → List ℕ
 message words = codes "gix_date_tool: " ++ words ++ newline ∷ []
 
--- what is said of a moment that is none
+-- what is said of a text that is not a moment
 abbrev pub message_why : Option NoMoment → Option (List ℕ)
 message_why why = option_map (λ w. message (no_moment_words w)) why
 

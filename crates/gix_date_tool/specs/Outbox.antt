@@ -3,7 +3,7 @@ use Rattle.std.specs.Prelude.{◌≡◌, ℕ, List, [], ◌++◌, Some, Result, 
 use Rattle.std.specs.Borrow.{Bor}
 use Rattle.std.specs.List.{flat_map}
 use Rattle.std.specs.declared.io.ErrorKind.{ErrorKind}
-use Rattle.gix_date.specs.Known.{Known, Takes, TakesProperPrefix}
+use Rattle.gix_date.specs.Devices.Known.{Known, Takes, TakesProperPrefix}
 use Rattle.gix_date_tool.specs.declared.outbox.Outbox.{Outbox}
 
 -- what is known of a sink, and what waits to be sent to it
@@ -15,15 +15,15 @@ pub record Output : Type 0 where
 abbrev pub output : Outbox → Known → Output
 output outbox sink = record { sink = sink; unsent = outbox.unsent.bytes }
 
--- the pieces of a text one behind the other
-abbrev pub joined : List (Bor (List ℕ)) → List ℕ
-joined pieces = flat_map (λ piece. piece.now) pieces
+-- the pieces of a text one after the other
+abbrev pub pieces_text : List (Bor (List ℕ)) → List ℕ
+pieces_text pieces = flat_map (λ piece. piece.now) pieces
 
 -- a sink for which nothing waits
 abbrev pub all_sent : Known → Output
 all_sent sink = record { sink = sink; unsent = [] }
 
--- The text was put behind what was unsent, and of both the sink took all but an end, which is unsent now.
+-- The text was put after what was unsent, and of both the sink took all but an end, which is unsent now.
 pub record Puts (old new : Output) (text : List ℕ) : Type 0 where
   pub sent : List ℕ
   pub cut : old.unsent ++ text ≡ sent ++ new.unsent

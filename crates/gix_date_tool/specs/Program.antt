@@ -1,6 +1,6 @@
 -- What the program does with a command line.
 use Rattle.std.specs.Prelude.{◌≡◌, ℕ, List, Option, Some, None, Ok, Err}
-use Rattle.gix_date.specs.Known.{Takes, TakesProperPrefix}
+use Rattle.gix_date.specs.Devices.Known.{Takes, TakesProperPrefix}
 use Rattle.gix_date.specs.declared.time.Time.{Time}
 use Rattle.gix_date_tool.specs.declared.arguments.Mode.{Mode}
 use Rattle.gix_date_tool.specs.declared.arguments.NoMoment.{NoMoment}
@@ -10,7 +10,7 @@ use Rattle.gix_date_tool.specs.declared.end.End.TheVariants.{Replied, Fault, NoM
 use Rattle.gix_date_tool.specs.declared.program.Status.{Status}
 use Rattle.gix_date_tool.specs.declared.program.Status.TheVariants.{Success, Failure, Usage}
 use Rattle.gix_date_tool.specs.declared.program.TheConstants.{USAGE}
-use Rattle.gix_date_tool.specs.Command.{command_of, no_moment, MayLack}
+use Rattle.gix_date_tool.specs.Command.{command_of, no_moment, MayRunOutOfMemory}
 use Rattle.gix_date_tool.specs.Messages.{message_of, Tells}
 use Rattle.gix_date_tool.specs.Run.{Change, Runs}
 
@@ -40,21 +40,21 @@ EndsRun asked reading writing Replied = (count : ℕ) × Runs asked.0 asked.1 re
 EndsRun asked reading writing (Fault fault) = Runs asked.0 asked.1 reading writing (Err fault)
 EndsRun asked reading writing _ = ⊥
 
--- What the program comes to by what was asked of it: the usage line is due where that is nothing it has, and then nothing is
--- read.
+-- What the program comes to by what was asked of it: the usage line is due where that is nothing it has, and then
+-- nothing is read.
 abbrev pub EndsBy : Option (Mode × Option Time) → Option NoMoment → Change → Change → End → Type 0
 EndsBy None why reading writing end = (reading.new ≡ reading.old) × EndsInUsage why writing end
 EndsBy (Some asked) why reading writing end = EndsRun asked reading writing end
 
--- Memory was wanting for the copy of a moment that is none, and nothing was read or written.
-pub record Lacked (words : List (List ℕ)) (reading writing : Change) : Type 0 where
-  pub may_lack : MayLack words
+-- Memory ran out for the copy of a text that is not a moment, and nothing was read or written.
+pub record RanOutOfMemory (words : List (List ℕ)) (reading writing : Change) : Type 0 where
+  pub may_run_out : MayRunOutOfMemory words
   pub unread : reading.new ≡ reading.old
   pub unwritten : writing.new ≡ writing.old
 
 -- What the program comes to by the words of its command line.
 abbrev pub Ends : List (List ℕ) → Change → Change → End → Type 0
-Ends words reading writing NoMemory = Lacked words reading writing
+Ends words reading writing NoMemory = RanOutOfMemory words reading writing
 Ends words reading writing end = EndsBy (command_of words) (no_moment words) reading writing end
 
 -- What was said, and the status, are those of such an end.

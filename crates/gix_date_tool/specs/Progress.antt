@@ -1,10 +1,10 @@
 -- How far a run has come between two reads.
 use Rattle.std.specs.Prelude.{◌≡◌, ◌≢◌, ℕ, ◌+◌, ◌<◌, ◌≤◌, List, [], ◌∷◌, ◌++◌, length, All, Result, Ok, Err}
 use Rattle.std.specs.declared.io.ErrorKind.{ErrorKind}
-use Rattle.gix_date.specs.Known.{Known}
+use Rattle.gix_date.specs.Devices.Known.{Known}
 use Rattle.gix_date_tool.specs.declared.error.ToolError.{ToolError}
 use Rattle.gix_date_tool.specs.declared.error.ToolError.TheVariants as errors
-use Rattle.gix_date_tool.specs.declared.lines.TheConstants.{LONGEST_LINE, MOST_LINES}
+use Rattle.gix_date_tool.specs.declared.lines.TheConstants.{MAX_LINE_LEN, MAX_LINES}
 use Rattle.gix_date_tool.specs.declared.progress.Progress.{Progress}
 use Rattle.gix_date_tool.specs.declared.replies.Asked.{Asked}
 use Rattle.gix_date_tool.specs.Lines.{IsLine, Splits, last_line, HasEndedLines, IsShort}
@@ -40,8 +40,8 @@ IsFresh progress = (sink : Known) → stage progress sink ≡ first_stage progre
 pub record IsReady (s : Stage) : Type 0 where
   pub is_line : IsLine s.open_line
   pub is_short : IsShort s.open_line
-  pub few : s.ended ≤ MOST_LINES
-  pub none_behind : s.ended ≡ MOST_LINES → s.open_line ≡ []
+  pub few : s.ended ≤ MAX_LINES
+  pub none_after : s.ended ≡ MAX_LINES → s.open_line ≡ []
 
 -- all that was unsent was sent
 pub record SentAll (s s' : Stage) : Type 0 where
@@ -55,20 +55,20 @@ SendsAll s s' (Ok _) = SentAll s s'
 SendsAll s s' (Err (errors.Write kind)) = PutsProperPrefix s.output s'.output [] kind
 SendsAll s s' (Err _) = ⊥
 
--- the bytes were put behind the open line
+-- the bytes were put after the open line
 pub record Extended (s s' : Stage) (bytes : List ℕ) : Type 0 where
   pub same : s' ≡ record s { open_line = s.open_line ++ bytes }
   pub is_short : IsShort (s.open_line ++ bytes)
-  pub few : s.ended < MOST_LINES
+  pub few : s.ended < MAX_LINES
 
--- why bytes may not stand behind the open line
+-- why bytes may not stand after the open line
 abbrev pub StopsExtending : ToolError → Stage → List ℕ → Type 0
-StopsExtending errors.LineTooLong s bytes = (s.ended < MOST_LINES) × (LONGEST_LINE < length (s.open_line ++ bytes))
-StopsExtending errors.TooManyLines s bytes = s.ended ≡ MOST_LINES
-StopsExtending errors.Memory s bytes = s.ended < MOST_LINES
+StopsExtending errors.LineTooLong s bytes = (s.ended < MAX_LINES) × (MAX_LINE_LEN < length (s.open_line ++ bytes))
+StopsExtending errors.TooManyLines s bytes = s.ended ≡ MAX_LINES
+StopsExtending errors.Memory s bytes = s.ended < MAX_LINES
 StopsExtending _ s bytes = ⊥
 
--- Bytes that end no line were put behind the open line, or that was refused, and nothing has changed.
+-- Bytes that end no line were put after the open line, or that was refused, and nothing has changed.
 abbrev pub Extends : Stage → Stage → List ℕ → Result Unit ToolError → Type 0
 Extends s s' bytes (Ok _) = Extended s s' bytes
 Extends s s' bytes (Err stop) = (s' ≡ s) × StopsExtending stop s bytes
@@ -81,7 +81,8 @@ pub record Closed (s s' : Stage) : Type 0 where
 -- what replying to the open line comes to
 abbrev pub Closes : Stage → Stage → Result Unit ToolError → Type 0
 Closes s s' (Ok _) = Closed s s'
-Closes s s' (Err (errors.Write kind)) = Replied (λ text. PutsProperPrefix s.output s'.output text kind) s.asked (s.open_line ∷ [])
+Closes s s' (Err (errors.Write kind)) =
+    Replied (λ text. PutsProperPrefix s.output s'.output text kind) s.asked (s.open_line ∷ [])
 Closes s s' (Err errors.Memory) = s' ≡ s
 Closes s s' (Err _) = ⊥
 

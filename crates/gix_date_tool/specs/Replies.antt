@@ -1,26 +1,27 @@
 -- What is replied to a line.
-use Rattle.std.specs.Prelude.{◌≡◌, ◌↔◌, ℕ, Bool, true, false, List, [], ◌∷◌, ◌++◌, if◌then◌else◌, Option, Some, None, IsSome, Result, Ok, Err, unwrap_or, codes}
+use Rattle.std.specs.Prelude.{◌≡◌, ◌↔◌, ◌⊎◌, ℕ, Bool, true, false, List, [], ◌∷◌, ◌++◌, if◌then◌else◌, Option, Some, None, IsSome, Result, Ok, Err, unwrap_or, codes}
 use Rattle.std.specs.Option.{option_map_or}
 use Rattle.std.specs.List.{flat_map}
 use Rattle.std.specs.Str.{is_utf8, bytes_eq}
 use Rattle.gix_date.specs.declared.time.Time.{Time}
-use Rattle.gix_date.specs.CanonicalHeader.{is_canonical_header}
-use Rattle.gix_date.specs.Characters.{space}
-use Rattle.gix_date.specs.Numbers.{decimal_text}
-use Rattle.gix_date.specs.HeaderText.{header_text}
-use Rattle.gix_date.specs.HeaderReading.{header_time}
+use Rattle.gix_date.specs.Header.Canonical.{is_canonical_header}
+use Rattle.gix_date.specs.Text.Characters.{space}
+use Rattle.gix_date.specs.Text.Numbers.{decimal_text}
+use Rattle.gix_date.specs.Header.Text.{header_text}
+use Rattle.gix_date.specs.Header.Reading.{header_time}
 use Rattle.jiff.specs.declared.zoned.Zoned.{Zoned}
-use Rattle.gix_date.specs.Answer.{FamilyAnswer, Absolute, OffsetBeyond, InstantBeyond, Relative}
-use Rattle.gix_date.specs.Families.{first_family}
-use Rattle.gix_date.specs.Relative.{Reckons}
+use Rattle.gix_date.specs.Families.Answer.{FamilyAnswer, Absolute, OffsetBeyond, InstantBeyond, Relative}
+use Rattle.gix_date.specs.Families.Order.{first_family}
+use Rattle.gix_date.specs.Relative.Dates.{RelativeOutcome}
 use Rattle.gix_date.specs.declared.error.Error.{Error}
 use Rattle.gix_date.specs.declared.error.Error.TheVariants as errors
 use Rattle.gix_date_tool.specs.declared.arguments.Mode.{Mode}
-use Rattle.gix_date_tool.specs.declared.arguments.Mode.TheVariants.{Check, Parse}
+use Rattle.gix_date_tool.specs.declared.arguments.Mode.TheVariants.{Check, Parse, Sign}
 use Rattle.gix_date_tool.specs.declared.replies.Asked.{Asked}
 use Rattle.gix_date_tool.specs.declared.replies.Reply.{Reply}
-use Rattle.gix_date_tool.specs.declared.replies.Reply.TheVariants.{NotText, NoTime, Canonical, Read, Parsed, UnknownFormat, DateConversion, MissingMoment, OutOfRange}
+use Rattle.gix_date_tool.specs.declared.replies.Reply.TheVariants.{NotText, NoTime, Canonical, Read, Parsed, UnknownFormat, DateConversion, MissingMoment, OutOfRange, Signed, NoSignature}
 use Rattle.gix_date_tool.specs.Lines.{with_newline}
+use Rattle.gix_date_tool.specs.Signed.{IsSigned, IsUnsigned, IsCanonicalLine}
 
 -- the time has a header text, and it is this one
 abbrev pub is_header_text_of : List ℕ → Time → Bool
@@ -32,10 +33,10 @@ check_reply text None = NoTime
 check_reply text (Some t) = if is_header_text_of text t then Canonical else Read t
 
 -- the reply to what a relative date comes to
-abbrev pub reckoned_reply : Result Time Error → Reply
-reckoned_reply (Ok t) = Parsed t
-reckoned_reply (Err errors.MissingNow) = MissingMoment
-reckoned_reply (Err _) = OutOfRange
+abbrev pub relative_reply : Result Time Error → Reply
+relative_reply (Ok t) = Parsed t
+relative_reply (Err errors.MissingNow) = MissingMoment
+relative_reply (Err _) = OutOfRange
 
 -- the reply of Parse, at this moment, to a text that the first family says this of, or that none holds
 abbrev pub IsParseReply : Option FamilyAnswer → Option Zoned → Reply → Type 0
@@ -43,12 +44,18 @@ IsParseReply None now reply = reply ≡ UnknownFormat
 IsParseReply (Some (Absolute t)) now reply = reply ≡ Parsed t
 IsParseReply (Some OffsetBeyond) now reply = reply ≡ UnknownFormat
 IsParseReply (Some InstantBeyond) now reply = reply ≡ DateConversion
-IsParseReply (Some (Relative date)) now reply = (result : Result Time Error) × Reckons date now result × (reply ≡ reckoned_reply result)
+IsParseReply (Some (Relative date)) now reply =
+    (result : Result Time Error) × RelativeOutcome date now result × (reply ≡ relative_reply result)
+
+-- the reply of Sign to a text: the line that is written of its parts, or that there is none
+abbrev pub IsSignReply : List ℕ → Reply → Type 0
+IsSignReply text reply = ((line : List ℕ) × IsSigned text line × (reply ≡ Signed line)) ⊎ (IsUnsigned text × (reply ≡ NoSignature))
 
 -- the reply to a text in a mode
 abbrev pub IsTextReply : Mode → Option Zoned → List ℕ → Reply → Type 0
 IsTextReply Check now text reply = reply ≡ check_reply text (header_time text)
 IsTextReply Parse now text reply = IsParseReply (first_family text) now reply
+IsTextReply Sign now text reply = IsSignReply text reply
 
 -- the reply to a line, which is text or not
 abbrev pub IsReplyTo : Bool → Asked → List ℕ → Reply → Type 0
@@ -70,6 +77,8 @@ reply_text UnknownFormat = codes "error unknown-format"
 reply_text DateConversion = codes "error date-conversion"
 reply_text MissingMoment = codes "error missing-moment"
 reply_text OutOfRange = codes "error range"
+reply_text (Signed line) = line
+reply_text NoSignature = codes "none"
 
 -- a time to be written has a header text
 abbrev pub IsWritable : Reply → Type 0
@@ -98,8 +107,15 @@ pub record Replied (Is : List ℕ → Type 0) (asked : Asked) (lines : List (Lis
 
 -- each line has one reply at most
 abbrev pub RepliesAreUnique : Type 0
-RepliesAreUnique = (asked : Asked) (line : List ℕ) (reply other : Reply) → IsReply asked line reply → IsReply asked line other → reply ≡ other
+RepliesAreUnique =
+    (asked : Asked) (line : List ℕ) (reply other : Reply)
+    → IsReply asked line reply → IsReply asked line other → reply ≡ other
 
 -- in Check a line is replied to by `canonical` exactly where it is a canonical header
 abbrev pub CanonicalLines : List ℕ → Type 0
-CanonicalLines line = (asked : Asked) → asked.mode ≡ Check → IsReply asked line Canonical ↔ (is_canonical_header line ≡ true)
+CanonicalLines line =
+    (asked : Asked) → asked.mode ≡ Check → IsReply asked line Canonical ↔ (is_canonical_header line ≡ true)
+
+-- in Sign a line is replied to by itself exactly where it is a canonical signature line
+abbrev pub UnchangedLines : List ℕ → Type 0
+UnchangedLines line = (asked : Asked) → asked.mode ≡ Sign → IsReply asked line (Signed line) ↔ IsCanonicalLine line

@@ -1,14 +1,14 @@
 -- What a run comes to.
 use Rattle.std.specs.Prelude.{◌≡◌, ◌⊎◌, Bool, true, false, ℕ, ◌+◌, ◌<◌, List, [], ◌++◌, length, All, Option, Some, None, Result, Ok, Err}
 use Rattle.std.specs.declared.io.ErrorKind.{ErrorKind}
-use Rattle.gix_date.specs.Known.{Known, Takes, TakesProperPrefix, Gives, HasEnded}
-use Rattle.gix_date.specs.Zoned.{IsMoment}
+use Rattle.gix_date.specs.Devices.Known.{Known, Takes, TakesProperPrefix, Gives, HasEnded}
+use Rattle.gix_date.specs.Printing.Zoned.{IsMoment}
 use Rattle.gix_date.specs.declared.time.Time.{Time}
 use Rattle.jiff.specs.declared.zoned.Zoned.{Zoned}
 use Rattle.gix_date_tool.specs.declared.arguments.Mode.{Mode}
 use Rattle.gix_date_tool.specs.declared.error.ToolError.{ToolError}
 use Rattle.gix_date_tool.specs.declared.error.ToolError.TheVariants as errors
-use Rattle.gix_date_tool.specs.declared.lines.TheConstants.{LONGEST_LINE, MOST_LINES}
+use Rattle.gix_date_tool.specs.declared.lines.TheConstants.{MAX_LINE_LEN, MAX_LINES}
 use Rattle.gix_date_tool.specs.declared.replies.Asked.{Asked}
 use Rattle.gix_date_tool.specs.Lines.{Splits, last_line, HasEndedLines, HasLines, IsShort, IsWithinLimits}
 use Rattle.gix_date_tool.specs.Replies.{Replied}
@@ -21,19 +21,19 @@ pub record Change : Type 0 where
 abbrev pub change : Known → Known → Change
 change old new = record { old = old; new = new }
 
--- all lines that an input may have have ended, none was begun, and a byte stands behind them
+-- all lines that an input may have have ended, none was begun, and a byte stands after them
 pub record GoesOn (n : ℕ) (rest beyond : List ℕ) : Type 0 where
-  pub all : n ≡ MOST_LINES
+  pub all : n ≡ MAX_LINES
   pub none_begun : rest ≡ []
   pub more : 0 < length beyond
 
--- Where a run stops: behind n lines, with a rest read of the next, and bytes beyond it. A line is too long where one
+-- Where a run stops: after n lines, with a rest read of the next, and bytes beyond it. A line is too long where one
 -- byte more of it was read than a line may have, and it is among the lines that an input may have. There are too many
--- lines where a byte stands behind the last of these. Memory may be wanting anywhere within the limits.
+-- lines where a byte stands after the last of these. Memory may run out anywhere within the limits.
 abbrev pub StopsAt : ToolError → ℕ → List ℕ → List ℕ → Type 0
-StopsAt errors.LineTooLong n rest beyond = (n < MOST_LINES) × (length rest ≡ LONGEST_LINE + 1)
+StopsAt errors.LineTooLong n rest beyond = (n < MAX_LINES) × (length rest ≡ MAX_LINE_LEN + 1)
 StopsAt errors.TooManyLines n rest beyond = GoesOn n rest beyond
-StopsAt errors.Memory n rest beyond = (n < MOST_LINES) × IsShort rest
+StopsAt errors.Memory n rest beyond = (n < MAX_LINES) × IsShort rest
 StopsAt (errors.Read kind) n rest beyond = ⊥
 StopsAt (errors.Write kind) n rest beyond = ⊥
 

@@ -1,8 +1,8 @@
 //! What the program is asked for.
 ghost use Rattle.std.specs.Prelude.{◌≡◌, IfOk, IfSome, map, string_bytes};
 ghost use Rattle.std.specs.Option.{ForSome};
-ghost use Rattle.gix_date.specs.Families.{first_family};
-ghost use Rattle.gix_date.specs.Zoned.{IsConvertible};
+ghost use Rattle.gix_date.specs.Families.Order.{first_family};
+ghost use Rattle.gix_date.specs.Printing.Zoned.{IsConvertible};
 ghost use Rattle.gix_date_tool.specs.Messages.{no_moment_words};
 ghost use Rattle.gix_date_tool.specs.Command.{Commands, IsRequest, IsRunnable, IsMomentText};
 
@@ -17,6 +17,8 @@ pub enum Mode {
     Check,
     /// The header text of the time that the line is parsed as, or why it is not.
     Parse,
+    /// The line that is written of the signature line's name, mail and time, or that it is no such line.
+    Sign,
 }
 
 /// What the words of a command line ask for.
@@ -59,9 +61,9 @@ impl NoMoment {
 
 /// Reads the words of a command line, without the program's name: the mode, and the moment where there is one.
 ///
-/// The command lines are `check`, `parse` and `parse NOW`, where NOW is a date that [`gix_date::parse`] reads without a moment
-/// (`1698400800 +0000`) and [`Time::to_zoned`] converts. `None` for any other: then the usage is due. A moment that is answered
-/// is one that [`crate::run`] may be given.
+/// The command lines are `check`, `parse`, `parse NOW` and `sign`, where NOW is a date that [`gix_date::parse`]
+/// reads without a moment (`1698400800 +0000`) and [`Time::to_zoned`] converts. `None` for any other: then the usage is
+/// due. A moment that is answered is one that [`crate::run`] may be given.
 ///
 /// [`ToolError::Memory`] where memory for the copy of a refused NOW is refused; it answers in place of `None` alone.
 pub fn command(alloc: Global, words: &[String]) -> Result<Option<(Mode, Option<Time>)>, ToolError>
@@ -83,6 +85,7 @@ pub(crate) fn read_words(alloc: Global, words: &[String]) -> Result<Request, All
     match words {
         [mode] if mode.as_str() == "check" => Ok(Request::Run(Mode::Check, None)),
         [mode] if mode.as_str() == "parse" => Ok(Request::Run(Mode::Parse, None)),
+        [mode] if mode.as_str() == "sign" => Ok(Request::Run(Mode::Sign, None)),
         [mode, now] if mode.as_str() == "parse" => match moment(alloc, now.as_str())? {
             Ok(now) => Ok(Request::Run(Mode::Parse, Some(now))),
             Err(why) => Ok(Request::Usage(Some(why))),

@@ -23,7 +23,7 @@ pub enum ToolError {
 }
 
 impl ToolError {
-    /// What has failed, and behind too many lines how to go on.
+    /// What has failed, and after too many lines how to go on.
     pub(crate) fn text(&self) -> &'static str
         ensures { result.now ≡ fault_words self.now }
     {

@@ -4,7 +4,8 @@ ghost use Rattle.gix_date_tool.specs.Kinds.{kind_words};
 
 use std::io::ErrorKind;
 
-/// What a kind of fault is called, in the words of the standard library. It is a table, so it is as long as there are kinds.
+/// What a kind of fault is called, in the words of the standard library. It is a table, so it is as long as there are
+/// kinds.
 #[tactic(auto, unfolding(crate::specs::Kinds::kind_words))]
 pub(crate) fn kind_text(kind: ErrorKind) -> &'static str
     ensures { result.now ≡ kind_words kind }

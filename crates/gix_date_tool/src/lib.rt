@@ -1,4 +1,5 @@
-//! Replies to the lines of a stream: header texts of Git's times checked, or dates parsed.
+//! Replies to the lines of a stream: header texts of Git's times checked, dates parsed, or signature lines written
+//! again.
 #![tactic(auto)]
 
 mod arguments;
@@ -13,10 +14,11 @@ mod program;
 mod progress;
 mod replies;
 mod runs;
+mod signed;
 
 pub use arguments::{Mode, command};
 pub use error::ToolError;
 pub use lines::{limits, lines_are_unique};
 pub use program::{Status, execute, show_usage};
-pub use replies::{canonical_lines, replies_are_unique};
+pub use replies::{canonical_lines, replies_are_unique, unchanged_lines};
 pub use runs::run;

@@ -1,18 +1,18 @@
 //! The lines of an input.
 ghost use Rattle.std.specs.Prelude.{◌≡◌, ◌++◌, ◌∷◌, MatchOption};
-ghost use Rattle.gix_date.specs.Characters.{newline};
+ghost use Rattle.gix_date.specs.Text.Characters.{newline};
 ghost use Rattle.gix_date_tool.specs.Lines.{IsLine, SplitsAreUnique};
 
 /// The most bytes that a line has, without its newline.
-pub(crate) const LONGEST_LINE: usize = 65536;
+pub(crate) const MAX_LINE_LEN: usize = 65536;
 
 /// The most lines that an input has.
-pub(crate) const MOST_LINES: u64 = 1_000_000;
+pub(crate) const MAX_LINES: u64 = 1_000_000;
 
 /// The limits are the numbers that the texts of the faults name.
 pub fn limits()
-    ensures of_a_line { LONGEST_LINE ≡ 65_536 }
-    ensures of_an_input { MOST_LINES ≡ 1_000_000 }
+    ensures of_a_line { MAX_LINE_LEN ≡ 65_536 }
+    ensures of_an_input { MAX_LINES ≡ 1_000_000 }
 {}
 
 /// An input has one way to be split into lines.
@@ -20,7 +20,7 @@ pub fn lines_are_unique()
     ensures { SplitsAreUnique }
 {}
 
-/// The bytes before the first newline, and those behind it, where there is one.
+/// The bytes before the first newline, and those after it, where there is one.
 pub(crate) fn split_line(bytes: &[u8]) -> Option<(&[u8], &[u8])>
     ensures { MatchOption result (IsLine bytes.now)
         (λ cut. IsLine cut.0.now × (bytes.now ≡ cut.0.now ++ newline ∷ cut.1.now)) }

@@ -1,7 +1,7 @@
 //! What the program says of its end.
 ghost use Rattle.std.specs.Prelude.{◌≡◌};
 ghost use Rattle.gix_date_tool.specs.Messages.{message_of, message_why, Says, Tells};
-ghost use Rattle.gix_date_tool.specs.Outbox.{joined};
+ghost use Rattle.gix_date_tool.specs.Outbox.{pieces_text};
 ghost use Rattle.gix_date_tool.specs.Run.{change};
 
 use crate::arguments::NoMoment;
@@ -36,7 +36,7 @@ fn tell_why<M: Sink>(why: Option<NoMoment>, messages: &mut M)
 
 /// Says a text, given in pieces, by one call where the sink takes so many bytes. What it refuses is not said.
 fn say<M: Sink>(pieces: &[&str], messages: &mut M)
-    ensures { Says (change (M.known messages.old) (M.known messages.new)) (joined pieces.now) }
+    ensures { Says (change (M.known messages.old) (M.known messages.new)) (pieces_text pieces.now) }
 {
     let mut text = Outbox::new();
     if let Ok(()) = text.push(pieces, messages) {

@@ -15,7 +15,7 @@ pub(crate) struct Outbox {
 }
 
 impl Outbox {
-    ghost use Rattle.gix_date_tool.specs.Outbox.{Sends, output, joined};
+    ghost use Rattle.gix_date_tool.specs.Outbox.{Sends, output, pieces_text};
 
     pub(crate) fn new() -> Outbox
         ensures { result.unsent.bytes ≡ [] }
@@ -36,14 +36,14 @@ impl Outbox {
         Ok(())
     }
 
-    /// Puts a text, given in pieces, behind what waits. It may have any length.
+    /// Puts a text, given in pieces, after what waits. It may have any length.
     pub(crate) fn push<W: Sink>(
         &mut self,
         pieces: &[&str],
         out: &mut W,
     ) -> Result<(), io::ErrorKind>
         ensures { Sends (output self.old (W.known out.old)) (output self.new (W.known out.new))
-            (joined pieces.now) result }
+            (pieces_text pieces.now) result }
     {
         for piece in pieces {
             self.push_piece(piece, out)?;
@@ -51,7 +51,7 @@ impl Outbox {
         Ok(())
     }
 
-    /// Puts a text behind what waits, and sends that first where there is no room. A text that can never have room is
+    /// Puts a text after what waits, and sends that first where there is no room. A text that can never have room is
     /// sent at once.
     fn push_piece<W: Sink>(&mut self, piece: &str, out: &mut W) -> Result<(), io::ErrorKind>
         ensures { Sends (output self.old (W.known out.old)) (output self.new (W.known out.new))

@@ -19,7 +19,7 @@ const USAGE: &[u8] = b"usage: gix_date_tool MODE [NOW]\n";
 pub enum Status {
     /// The input was read to its end, and the replies to all its lines were written.
     Success,
-    /// A fault, or want of memory.
+    /// A fault, or out of memory.
     Failure,
     /// The command line is another than the program has, and the usage line was written.
     Usage,
@@ -38,14 +38,14 @@ impl Status {
     }
 }
 
-/// Does what the words of a command line ask for, without the program's name: runs over the reader's lines, or shows how the
-/// program is called where they ask for nothing that it has.
+/// Does what the words of a command line ask for, without the program's name: runs over the reader's lines, or shows
+/// how the program is called where they ask for nothing that it has.
 ///
-/// [`Status::Failure`] where the run has a fault, the usage line is not written, or memory for reading the words is refused: then
-/// nothing is read or written. Takes memory as [`crate::command`] and [`run`] do.
+/// [`Status::Failure`] where the run has a fault, the usage line is not written, or memory for reading the words is
+/// refused: then nothing is read or written. Takes memory as [`crate::command`] and [`run`] do.
 ///
-/// One line is put into the messages: behind the program's name the text of the run's fault, or of the writer's that refused the
-/// usage line, or why NOW is no moment. Else they are not called, and what they refuse changes nothing.
+/// One line is put into the messages: after the program's name the text of the run's fault, or of the writer's that
+/// refused the usage line, or why NOW is no moment. Else they are not called, and what they refuse changes nothing.
 pub fn execute<R: Source, W: Sink, M: Sink>(
     alloc: Global,
     words: &[String],
@@ -62,8 +62,8 @@ pub fn execute<R: Source, W: Sink, M: Sink>(
     status_of(&end)
 }
 
-/// Shows how the program is called. [`Status::Failure`] where the writer refuses, and then its fault is put into the messages.
-/// Takes no memory.
+/// Shows how the program is called. [`Status::Failure`] where the writer refuses, and then its fault is put into the
+/// messages.
 pub fn show_usage<W: Sink, M: Sink>(writer: &mut W, messages: &mut M) -> Status
     ensures { ShowsUsage (change (W.known writer.old) (W.known writer.new))
         (change (M.known messages.old) (M.known messages.new)) result }

@@ -1,12 +1,12 @@
 //! How far a run has come between two reads.
 ghost use Rattle.std.specs.Prelude.{◌≡◌, ◌<◌, ◌≤◌, [], length, IfOk, OnOk};
 ghost use Rattle.std.specs.Io.KnownBytes.{ReadConsumes};
-ghost use Rattle.gix_date.specs.Known.{Known, refusal};
+ghost use Rattle.gix_date.specs.Devices.Known.{Known, refusal};
 ghost use Rattle.gix_date_tool.specs.Lines.{IsLine, IsShort, with_newline};
 ghost use Rattle.gix_date_tool.specs.Run.{Ran, change};
 
 use crate::error::ToolError;
-use crate::lines::{LONGEST_LINE, MOST_LINES, split_line};
+use crate::lines::{MAX_LINE_LEN, MAX_LINES, split_line};
 use crate::outbox::Outbox;
 use crate::replies::{Asked, reply_to};
 use gix_date::device::{Sink, Source};
@@ -103,9 +103,9 @@ impl Progress {
         ensures ready { OnOk result (IsReady (stage self.new (W.known writer.new))) }
     {
         let mut rest = bytes;
-        while let Some((part, behind)) = split_line(rest) {
+        while let Some((part, after)) = split_line(rest) {
             self.end_line(alloc, part, writer)?;
-            rest = behind;
+            rest = after;
         }
         if rest.is_empty() {
             return Ok(());
@@ -132,14 +132,14 @@ impl Progress {
 
     /// Takes in bytes of a line that does not end in them.
     fn extend(&mut self, part: &[u8]) -> Result<(), ToolError>
-        requires few { self.old.ended ≤ MOST_LINES }
+        requires few { self.old.ended ≤ MAX_LINES }
         requires short { IsShort self.old.line.items }
         ensures { (sink : Known) → Extends (stage self.old sink) (stage self.new sink) part.now result }
     {
-        if self.ended == MOST_LINES {
+        if self.ended == MAX_LINES {
             return Err(ToolError::TooManyLines);
         }
-        if part.len() > LONGEST_LINE - self.line.len() {
+        if part.len() > MAX_LINE_LEN - self.line.len() {
             return Err(ToolError::LineTooLong);
         }
         if let Err(AllocError) = self.line.extend_from_slice(part) {
@@ -162,7 +162,7 @@ impl Progress {
 
     /// Replies to the open line, which ends here. Where that is refused, the line stays open.
     fn close_line<W: Sink>(&mut self, alloc: Global, writer: &mut W) -> Result<(), ToolError>
-        requires { self.old.ended < MOST_LINES }
+        requires { self.old.ended < MAX_LINES }
         ensures { Closes (stage self.old (W.known writer.old)) (stage self.new (W.known writer.new)) result }
     {
         let reply = match reply_to(alloc, self.asked, self.line.as_slice()) {

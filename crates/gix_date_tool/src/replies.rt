@@ -1,13 +1,14 @@
 //! The reply to one line.
 ghost use Rattle.std.specs.Prelude.{◌≡◌, ◌⊎◌, IfOk, OnErr};
-ghost use Rattle.gix_date.specs.Families.{first_family};
-ghost use Rattle.gix_date.specs.HeaderReading.{header_time};
+ghost use Rattle.gix_date.specs.Families.Order.{first_family};
+ghost use Rattle.gix_date.specs.Header.Reading.{header_time};
 ghost use Rattle.gix_date_tool.specs.declared.replies.Reply.TheVariants.{Read, UnknownFormat, DateConversion};
 ghost use Rattle.gix_date_tool.specs.Outbox.{Sends, output};
-ghost use Rattle.gix_date_tool.specs.Replies.{RepliesAreUnique, CanonicalLines, IsReply, IsParseReply, IsWritable, reply_line, check_reply, is_header_text_of};
+ghost use Rattle.gix_date_tool.specs.Replies.{RepliesAreUnique, CanonicalLines, UnchangedLines, IsReply, IsParseReply, IsSignReply, IsWritable, reply_line, check_reply, is_header_text_of};
 
 use crate::arguments::Mode;
 use crate::outbox::Outbox;
+use crate::signed::{SignedLine, sign};
 use gix_date::device::Sink;
 use gix_date::parsing::TimeBuf;
 use gix_date::{Error, Time, Zoned, parse, parse_header};
@@ -24,8 +25,8 @@ pub(crate) struct Asked {
 }
 
 /// What is replied to a line.
-#[derive(Clone, Copy)]
-pub(crate) enum Reply {
+#[derive(Drop)]
+pub(crate) enum Reply<'a> {
     /// The line is not UTF-8.
     NotText,
     /// The line is read as no time.
@@ -44,10 +45,14 @@ pub(crate) enum Reply {
     MissingMoment,
     /// The line leads from the moment to no time.
     OutOfRange,
+    /// The line is a signature line, which is written again as this one.
+    Signed(SignedLine<'a>),
+    /// The line is no signature line, or has a time that is not read or cannot be written.
+    NoSignature,
 }
 
-impl Reply {
-    /// Puts the text of a reply, and a newline, behind what is unsent.
+impl Reply<'_> {
+    /// Puts the text of a reply, and a newline, after what is unsent.
     pub(crate) fn push_to<W: Sink>(
         self,
         outbox: &mut Outbox,
@@ -55,7 +60,7 @@ impl Reply {
     ) -> Result<(), io::ErrorKind>
         requires { IsWritable self }
         ensures { Sends (output outbox.old (W.known out.old)) (output outbox.new (W.known out.new))
-            (reply_line self) result }
+            (reply_line self.entry) result }
     {
         match self {
             Reply::NotText => outbox.push(&["not text\n"], out),
@@ -70,11 +75,13 @@ impl Reply {
             Reply::DateConversion => outbox.push(&["error date-conversion\n"], out),
             Reply::MissingMoment => outbox.push(&["error missing-moment\n"], out),
             Reply::OutOfRange => outbox.push(&["error range\n"], out),
+            Reply::Signed(line) => line.push_to(outbox, out),
+            Reply::NoSignature => outbox.push(&["none\n"], out),
         }
     }
 }
 
-/// Puts the seconds and the offset of a time that a line is read as behind what is unsent.
+/// Puts the seconds and the offset of a time that a line is read as after what is unsent.
 fn push_reading<W: Sink>(time: Time, outbox: &mut Outbox, out: &mut W) -> Result<(), io::ErrorKind>
     ensures { Sends (output outbox.old (W.known out.old)) (output outbox.new (W.known out.new))
         (reply_line (Read time)) result }
@@ -102,8 +109,15 @@ pub fn canonical_lines(line: &[u8])
     ensures { CanonicalLines line.now }
 {}
 
-/// The reply to a line. For want of memory it is refused in Parse alone, and there only where `parse` copies the text it refuses.
-pub(crate) fn reply_to(alloc: Global, asked: Asked, line: &[u8]) -> Result<Reply, AllocError>
+/// In Sign a line is replied to by itself exactly where it is a signature line as Git writes it: it is text, it has a
+/// cut, and the time in it is a canonical header (`is_canonical_header`), whatever else is asked.
+pub fn unchanged_lines(line: &[u8])
+    ensures { UnchangedLines line.now }
+{}
+
+/// The reply to a line. When out of memory it is refused in Parse alone, and there only where `parse` copies the text
+/// it refuses.
+pub(crate) fn reply_to(alloc: Global, asked: Asked, line: &[u8]) -> Result<Reply<'_>, AllocError>
     ensures is { IfOk result (IsReply asked line.now) }
     ensures writable { IfOk result IsWritable }
     ensures memory { OnErr result (IsReply asked line.now UnknownFormat ⊎ IsReply asked line.now DateConversion) }
@@ -114,11 +128,12 @@ pub(crate) fn reply_to(alloc: Global, asked: Asked, line: &[u8]) -> Result<Reply
     match asked.mode {
         Mode::Check => Ok(check_reply(text)),
         Mode::Parse => parse_reply(alloc, text, asked.now),
+        Mode::Sign => Ok(sign_reply(text)),
     }
 }
 
 /// Whether a text is a header text that comes back when it is read and written, and else what it is read as.
-fn check_reply(text: &str) -> Reply
+fn check_reply(text: &str) -> Reply<'static>
     ensures is { result ≡ check_reply text.now (header_time text.now) }
     ensures writable { IsWritable result }
 {
@@ -139,8 +154,13 @@ fn is_header_text_of(text: &str, time: Time) -> bool
     }
 }
 
-/// The time that a text is parsed as, or why it is not. For want of memory only a reply is refused that tells of a copy.
-fn parse_reply(alloc: Global, text: &str, now: Option<Zoned<'static>>) -> Result<Reply, AllocError>
+/// The time that a text is parsed as, or why it is not. When out of memory only a reply is refused that tells of a
+/// copy.
+fn parse_reply(
+    alloc: Global,
+    text: &str,
+    now: Option<Zoned<'static>>,
+) -> Result<Reply<'static>, AllocError>
     ensures is { IfOk result (IsParseReply (first_family text.now) now.entry) }
     ensures writable { IfOk result IsWritable }
     ensures memory { OnErr result (IsParseReply (first_family text.now) now.entry UnknownFormat
@@ -161,5 +181,16 @@ fn parse_reply(alloc: Global, text: &str, now: Option<Zoned<'static>>) -> Result
             | Error::Pattern
             | Error::Write(_),
         ) => unreachable!(),
+    }
+}
+
+/// The line that is written of a signature line's parts, or that there is none.
+fn sign_reply(text: &str) -> Reply<'_>
+    ensures is { IsSignReply text.now result }
+    ensures writable { IsWritable result }
+{
+    match sign(text) {
+        Some(line) => Reply::Signed(line),
+        None => Reply::NoSignature,
     }
 }

@@ -1,7 +1,7 @@
 //! A run over the lines of a stream, each replied to in turn.
 ghost use Rattle.std.specs.Prelude.{◌≡◌};
 ghost use Rattle.std.specs.Option.{ForSome};
-ghost use Rattle.gix_date.specs.Zoned.{IsConvertible};
+ghost use Rattle.gix_date.specs.Printing.Zoned.{IsConvertible};
 ghost use Rattle.gix_date_tool.specs.Run.{Runs, change, IsMomentOf, is_unwritten};
 
 use crate::arguments::Mode;
@@ -17,14 +17,14 @@ use std::alloc::Global;
 /// The moment, where there is one, is what a date may be relative to; it has to be one that `Time::to_zoned` converts.
 ///
 /// Lines end at `\n`, and a last line without one counts where it has a byte. The replies to the lines of what was read
-/// are written before more is read. Memory is taken for the line that is read, and in Parse for a copy of a text that is in
-/// no known format: over short lines 64 KiB are enough.
+/// are written before more is read. Memory is taken for the line that is read, and in Parse for a copy of a text that
+/// is in no known format: over short lines 64 KiB are enough.
 ///
-/// A run ends well only at the end of the input. [`ToolError::LineTooLong`] comes where one of the first 1000000 lines has
-/// more than 65536 bytes, [`ToolError::TooManyLines`] where a byte stands behind line 1000000, [`ToolError::Memory`] where
-/// memory for a line or its reply is refused, and [`ToolError::Read`] carries the reader's fault: then the replies to all
-/// lines before were written, and nothing more. [`ToolError::Write`] carries the writer's fault, and then a proper prefix of
-/// the replies that were due was written.
+/// A run ends well only at the end of the input. [`ToolError::LineTooLong`] comes where one of the first 1000000 lines
+/// has more than 65536 bytes, [`ToolError::TooManyLines`] where a byte stands after line 1000000, [`ToolError::Memory`]
+/// where memory for a line or its reply is refused, and [`ToolError::Read`] carries the reader's fault: then the
+/// replies to all lines before were written, and nothing more. [`ToolError::Write`] carries the writer's fault, and
+/// then a proper prefix of the replies that were due was written.
 pub fn run<R: Source, W: Sink>(
     alloc: Global,
     mode: Mode,

@@ -1,21 +1,21 @@
 //! What a crate that reads and writes commits does with `gix_date`.
 ghost use Rattle.std.specs.Prelude.{◌≡◌, ◌≢◌, ◌↔◌, ◌<◌, ◌%◌, ◌-ℤ◌, pos, true, false, unsigned_abs, IsTrue, IsSome, Some, None, Err, Ok, IfSome, IfNone, IsOk, IsOkAnd, IfOk, MatchResult, option_map, unwrap_or, replicate, string_bytes, ℤ, Option};
-ghost use Rattle.gix_date.specs.Answer.{Absolute, Relative};
-ghost use Rattle.gix_date.specs.CanonicalHeader.{is_canonical_header};
-ghost use Rattle.gix_date.specs.Epoch.{epoch_time};
-ghost use Rattle.gix_date.specs.Families.{first_family, first_family_by, Comes};
-ghost use Rattle.gix_date.specs.FixedZones.{earlier};
-ghost use Rattle.gix_date.specs.HeaderReading.{header_time};
-ghost use Rattle.gix_date.specs.HeaderText.{header_text, Writes, hundred_hours};
-ghost use Rattle.gix_date.specs.LocalClocks.{HasOrdinaryClock};
-ghost use Rattle.gix_date.specs.NamedTexts.{iso8601_text};
-ghost use Rattle.gix_date.specs.Printed.{PrintsOrSeconds};
-ghost use Rattle.gix_date.specs.PrintedTimes.{PrintsText};
-ghost use Rattle.gix_date.specs.Raw.{is_whole_minutes, raw_time, raw_time_by};
-ghost use Rattle.gix_date.specs.ReadingBack.{IsPlainTime, IsWideOffset, HasClock, PrintsBack};
-ghost use Rattle.gix_date.specs.Relative.{RelativeDate, relative_date};
-ghost use Rattle.gix_date.specs.TimeBuf.{text_in};
-ghost use Rattle.gix_date.specs.Zoned.{IsConvertible, IsMoment, is_instant, time_in, time_in_utc};
+ghost use Rattle.gix_date.specs.Families.Answer.{Absolute, Relative};
+ghost use Rattle.gix_date.specs.Header.Canonical.{is_canonical_header};
+ghost use Rattle.gix_date.specs.Families.Epoch.{epoch_time};
+ghost use Rattle.gix_date.specs.Families.Order.{first_family, first_family_by, ParseOutcome};
+ghost use Rattle.gix_date.specs.Relative.FixedZones.{earlier};
+ghost use Rattle.gix_date.specs.Header.Reading.{header_time};
+ghost use Rattle.gix_date.specs.Header.Text.{header_text, Writes, hundred_hours};
+ghost use Rattle.gix_date.specs.Printing.LocalClocks.{HasOrdinaryClock};
+ghost use Rattle.gix_date.specs.Printing.NamedTexts.{iso8601_text};
+ghost use Rattle.gix_date.specs.Printing.Formats.{PrintsOrSeconds};
+ghost use Rattle.gix_date.specs.Printing.PrintedTimes.{PrintsText};
+ghost use Rattle.gix_date.specs.Families.Raw.{is_wide_offset, raw_time, raw_time_by};
+ghost use Rattle.gix_date.specs.Printing.ReadingBack.{IsPlainTime, IsWideOffset, HasClock, PrintsBack};
+ghost use Rattle.gix_date.specs.Relative.Dates.{RelativeDate, relative_date};
+ghost use Rattle.gix_date.specs.Devices.TimeBuf.{text_in};
+ghost use Rattle.gix_date.specs.Printing.Zoned.{IsConvertible, IsMoment, is_instant, time_in, time_in_utc};
 ghost use Rattle.gix_date.specs.declared.error.Error.TheVariants.{Conversion, InvalidTime, Memory, OffsetTooWide, Range};
 ghost use Rattle.gix_date.specs.declared.time.Time.{Time as Read};
 ghost use Rattle.gix_date.specs.declared.time.format.Format.TheVariants.{Custom};
@@ -44,7 +44,7 @@ pub fn rewrite<W: Sink>(header: &str, out: &mut W) -> Result<(), Error>
     time.write_to(out)
 }
 
-/// The text of a commit header in memory. It is refused where the time has none, and for want of memory, which is the
+/// The text of a commit header in memory. It is refused where the time has none, and when out of memory, which is the
 /// fault of the `Vec` that is written to.
 pub fn header_bytes(alloc: Global, time: Time) -> Result<Vec<u8>, Error>
     ensures text { IfOk result (λ bytes. header_text time ≡ Some bytes.items) }
@@ -83,7 +83,8 @@ pub fn kept_in_header(time: Time) -> Option<Time>
     }
 }
 
-/// A time whose offset is whole minutes short of a day, written as in a header and parsed as a date: the same. No memory is taken.
+/// A time whose offset is whole minutes short of a day, written as in a header and parsed as a date: the same. No
+/// memory is taken.
 pub fn kept_in_date(alloc: Global, time: Time) -> Result<Time, Error>
     requires { IsWideOffset time.offset }
     ensures { result ≡ Ok time }
@@ -96,17 +97,18 @@ pub fn kept_in_date(alloc: Global, time: Time) -> Result<Time, Error>
     }
 }
 
-/// The time of a date as programs store it, seconds and an offset, also where that is of odd minutes, as in some commits.
+/// The time of a date as programs store it, seconds and an offset, also where that is of odd minutes, as in some
+/// commits.
 pub fn stored_date(alloc: Global, date: &str) -> Result<Time, Error>
-    ensures raw { (t : Read) → raw_time_by is_whole_minutes date.now ≡ Some t → result ≡ Ok t }
-    ensures comes { Comes (first_family_by is_whole_minutes date.now) date.now None result }
+    ensures raw { (t : Read) → raw_time_by is_wide_offset date.now ≡ Some t → result ≡ Ok t }
+    ensures outcome { ParseOutcome (first_family_by is_wide_offset date.now) date.now None result }
 {
     laws::comes_first_wide(date);
     parse_with(alloc, date, None, RawOffsets::WholeMinutes)
 }
 
-/// Whether a date is read from the moment, so that it has to be handed in: never for what programs store, which are raw texts and
-/// bare epochs.
+/// Whether a date is read from the moment, so that it has to be handed in: never for what programs store, which are raw
+/// texts and bare epochs.
 pub fn asks_for_a_moment(alloc: Global, date: &str) -> bool
     ensures raw { (t : Read) → raw_time date.now ≡ Some t → result ≡ false }
     ensures epoch { (t : Read) → epoch_time date.now ≡ Some t → result ≡ false }
@@ -122,7 +124,7 @@ pub fn asks_for_a_moment(alloc: Global, date: &str) -> bool
 /// The time of a date that means the same at any moment.
 pub fn absolute_date(alloc: Global, date: &str) -> Result<Time, Error>
     ensures absolute { IfOk result (λ t. first_family date.now ≡ Some (Absolute t)) }
-    ensures comes { Comes (first_family date.now) date.now None result }
+    ensures outcome { ParseOutcome (first_family date.now) date.now None result }
 {
     parse(alloc, date, None)
 }
@@ -130,7 +132,7 @@ pub fn absolute_date(alloc: Global, date: &str) -> Result<Time, Error>
 /// The time of a date that was typed at this moment.
 pub fn date_typed(alloc: Global, date: &str, now: Time) -> Result<Time, Error>
     ensures typed { IsConvertible now → (moment : Moment) × IsMoment now moment
-        × Comes (first_family date.now) date.now (Some moment) result }
+        × ParseOutcome (first_family date.now) date.now (Some moment) result }
     ensures refuses { ¬ (IsConvertible now) → result ≡ Err Conversion }
 {
     let moment = now.to_zoned()?;
@@ -145,7 +147,8 @@ pub fn resolved<R: Clock + Env + Files + AllocGlobal + Clone + Drop>(
     rt: &R,
     date: &str,
 ) -> Result<Result<Time, Error>, jiff::Error>
-    ensures { IfOk result (λ answer. (moment : Moment) × Comes (first_family date.now) date.now (Some moment) answer) }
+    ensures { IfOk result (λ answer. (moment : Moment)
+        × ParseOutcome (first_family date.now) date.now (Some moment) answer) }
 {
     let zones = TimeZoneDatabase::from_env(rt)?;
     let named = SystemTimeZone::read(rt)?;
@@ -153,7 +156,8 @@ pub fn resolved<R: Clock + Env + Files + AllocGlobal + Clone + Drop>(
     Ok(parse(rt.alloc(), date, Some(now)))
 }
 
-/// The date of a line in a log, or the seconds of a time that has no text in that format. It fails for want of memory alone.
+/// The date of a line in a log, or the seconds of a time that has no text in that format. It fails only when out of
+/// memory.
 pub fn log_date(alloc: Global, time: Time, format: CustomFormat) -> Result<String, Error>
     ensures { PrintsOrSeconds time (Custom format) result }
 {
@@ -178,7 +182,8 @@ pub fn dated(alloc: Global, time: Time, format: CustomFormat) -> Result<String, 
     time.format(alloc, format.into())
 }
 
-/// A time that was printed by such a format and parsed back, at any moment or none: the same time. It fails for want of memory alone.
+/// A time that was printed by such a format and parsed back, at any moment or none: the same time. It fails only when
+/// out of memory.
 pub fn kept(
     alloc: Global,
     time: Time,
@@ -195,7 +200,8 @@ pub fn kept(
     }
 }
 
-/// A time as each of the six keeps it: mail, mail as Git writes it, ISO 8601 and its strict form, gitoxide's and Git's default.
+/// A time as each of the six keeps it: mail, mail as Git writes it, ISO 8601 and its strict form, gitoxide's and Git's
+/// default.
 pub fn kept_by_each(alloc: Global, time: Time, now: Option<Zoned<'_>>) -> Result<[Time; 6], Error>
     requires { IsPlainTime time }
     ensures { MatchResult result (λ times. times ≡ replicate 6 time) (λ e. e ≡ Memory) }
@@ -233,7 +239,8 @@ pub fn authored_in_utc(clock: Timestamp) -> Time
     Time::now_utc(clock)
 }
 
-/// The time of a commit that is made now, by the machine's clock and in its zone, or in UTC where no zone of that name is found.
+/// The time of a commit that is made now, by the machine's clock and in its zone, or in UTC where no zone of that name
+/// is found.
 pub fn commit_time<R: Clock + Env + Files + AllocGlobal + Clone + Drop>(
     rt: &R,
 ) -> Result<Time, jiff::Error>
@@ -254,8 +261,8 @@ pub fn doubled(buf: &TimeBuf) -> Result<TimeBuf, AllocError>
     buf.clone()
 }
 
-/// The text of a time, for a log. Where its offset has no text this fails as it does for want of memory; `to_str` tells the two
-/// apart.
+/// The text of a time, for a log. Where its offset has no text this fails as it does when out of memory; `to_str` tells
+/// the two apart.
 pub fn shown(alloc: Global, time: Time) -> Result<String, AllocError>
     ensures { IfOk result (λ text. IfSome (header_text time) (λ due. string_bytes text ≡ due)) }
 {

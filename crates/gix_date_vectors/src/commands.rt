@@ -5,7 +5,7 @@ use gix_date::device::Device;
 use gix_date_tool::{Mode, Status, ToolError, command, execute, show_usage};
 use std::alloc::{AllocError, Global};
 use std::cell::Cell;
-use std::io::ErrorKind;
+use std::io::{ErrorKind, Read, Write};
 use std::str;
 use std::test::Fail;
 
@@ -16,6 +16,26 @@ pub fn words_of(alloc: Global, line: &[&str]) -> Result<Vec<String>, AllocError>
         words.push(String::from_str(alloc, word)?)?;
     }
     Ok(words)
+}
+
+/// How the program ends over this reader and these writers, and what became of the three.
+pub(crate) fn executed<R: Read, W: Write, M: Write>(
+    alloc: Global,
+    words: &[String],
+    reader: R,
+    writer: W,
+    messages: M,
+) -> (Status, R, W, M) {
+    let mut source = Device::new(reader);
+    let mut sink = Device::new(writer);
+    let mut said = Device::new(messages);
+    let ended = execute(alloc, words, &mut source, &mut sink, &mut said);
+    (
+        ended,
+        source.into_inner(),
+        sink.into_inner(),
+        said.into_inner(),
+    )
 }
 
 #[test]
@@ -33,6 +53,11 @@ fn a_command_line_is_a_mode_and_perhaps_a_moment(rt: HostRuntime) -> Result<(), 
         ),
         ("other-case", ["Check"].as_slice(), None),
         ("parse", ["parse"].as_slice(), Some((Mode::Parse, None))),
+        ("sign", ["sign"].as_slice(), Some((Mode::Sign, None))),
+        ("sign-takes-no-moment", ["sign", "0 +0000"].as_slice(), None),
+        ("sign-takes-no-moment", ["sign", ""].as_slice(), None),
+        ("other-case", ["Sign"].as_slice(), None),
+        ("longer-word", ["sign "].as_slice(), None),
         (
             "raw",
             ["parse", "1698400800 +0000"].as_slice(),
@@ -118,6 +143,13 @@ fn the_program_ends_with_a_status(rt: HostRuntime) -> Result<(), Fail> {
             0,
         ),
         (
+            ["sign"].as_slice(),
+            "A <a> 0 -0000\n5",
+            "A <a> 0 +0000\nnone\n",
+            Status::Success,
+            0,
+        ),
+        (
             ["parse", "1 +0001"].as_slice(),
             "0 -0000\n5",
             usage,
@@ -133,26 +165,26 @@ fn the_program_ends_with_a_status(rt: HostRuntime) -> Result<(), Fail> {
             Status::Usage,
             2,
         ),
+        (
+            ["sign", "0 +0000"].as_slice(),
+            "A <a> 0 -0000\n5",
+            usage,
+            Status::Usage,
+            2,
+        ),
     ];
     for (line, input, output, status, code) in rows {
         let words = words_of(rt.alloc(), line)?;
-        let mut source = Device::new(Supply::once(input.as_bytes(), 99, None));
-        let mut sink = Device::new(Slow::roomy(rt.alloc()));
-        let mut messages = Device::new(Slow::roomy(rt.alloc()));
-        let ended = execute(
+        let (ended, _source, sink, _messages) = executed(
             rt.alloc(),
             words.as_slice(),
-            &mut source,
-            &mut sink,
-            &mut messages,
+            Supply::once(input.as_bytes(), 99, None),
+            Slow::roomy(rt.alloc()),
+            Slow::roomy(rt.alloc()),
         );
         assert_eq!(rt; ended, status, "{line:?}");
         assert_eq!(rt; ended.code(), code, "{line:?}");
-        assert_eq!(rt;
-            sink.into_inner().taken.as_slice(),
-            output.as_bytes(),
-            "{line:?}"
-        );
+        assert_eq!(rt; sink.taken.as_slice(), output.as_bytes(), "{line:?}");
     }
     Ok(())
 }
@@ -164,39 +196,29 @@ fn ended_with(
     room: usize,
 ) -> Result<(Status, Slow), AllocError> {
     let words = words_of(rt.alloc(), &["check"])?;
-    let mut source = Device::new(Supply::of(b"0", 1, 0, Some(kind)));
-    let mut sink = Device::new(Slow::roomy(rt.alloc()));
-    let mut messages = Device::new(Slow::new(rt.alloc(), 1 << 10, room, ErrorKind::StorageFull));
-    let ended = execute(
+    let (ended, _source, _sink, said) = executed(
         rt.alloc(),
         words.as_slice(),
-        &mut source,
-        &mut sink,
-        &mut messages,
+        Supply::of(b"0", 1, 0, Some(kind)),
+        Slow::roomy(rt.alloc()),
+        Slow::new(rt.alloc(), 1 << 10, room, ErrorKind::StorageFull),
     );
-    Ok((ended, messages.into_inner()))
+    Ok((ended, said))
 }
 
 #[test]
 fn the_program_ends_with_status_1_on_a_fault(rt: HostRuntime) -> Result<(), Fail> {
     let words = words_of(rt.alloc(), &["check"])?;
-    let mut source = Device::new(Supply::once(b"0 +0000\n", 3, Some(ErrorKind::ConnectionReset)));
-    let mut sink = Device::new(Slow::roomy(rt.alloc()));
-    let mut messages = Device::new(Slow::roomy(rt.alloc()));
-    let ended = execute(
+    let (ended, _source, sink, said) = executed(
         rt.alloc(),
         words.as_slice(),
-        &mut source,
-        &mut sink,
-        &mut messages,
+        Supply::once(b"0 +0000\n", 3, Some(ErrorKind::ConnectionReset)),
+        Slow::roomy(rt.alloc()),
+        Slow::roomy(rt.alloc()),
     );
     assert_eq!(rt; ended, Status::Failure);
     assert_eq!(rt; ended.code(), 1);
-    assert_eq!(rt;
-        sink.into_inner().taken.as_slice(),
-        b"canonical\n".as_slice()
-    );
-    let said = messages.into_inner();
+    assert_eq!(rt; sink.taken.as_slice(), b"canonical\n".as_slice());
     assert_eq!(rt;
         said.taken.as_slice(),
         b"gix_date_tool: reading failed: connection reset\n".as_slice()
@@ -250,7 +272,7 @@ fn messages_that_are_refused_change_no_status(rt: HostRuntime) -> Result<(), Fai
 }
 
 #[test]
-fn a_refused_moment_is_said_behind_the_usage_line(rt: HostRuntime) -> Result<(), Fail> {
+fn a_refused_moment_is_said_after_the_usage_line(rt: HostRuntime) -> Result<(), Fail> {
     let rows = [
         (["parse", "x"].as_slice(), "no known date format", 1),
         (["parse", "1 +0001"].as_slice(), "no known date format", 1),
@@ -264,24 +286,16 @@ fn a_refused_moment_is_said_behind_the_usage_line(rt: HostRuntime) -> Result<(),
     ];
     for (line, why, lines) in rows {
         let words = words_of(rt.alloc(), line)?;
-        let mut source = Device::new(Supply::once(b"0 +0000\n", 99, None));
-        let mut sink = Device::new(Slow::roomy(rt.alloc()));
-        let mut messages = Device::new(Slow::roomy(rt.alloc()));
-        let ended = execute(
+        let (ended, source, _sink, said) = executed(
             rt.alloc(),
             words.as_slice(),
-            &mut source,
-            &mut sink,
-            &mut messages,
+            Supply::once(b"0 +0000\n", 99, None),
+            Slow::roomy(rt.alloc()),
+            Slow::roomy(rt.alloc()),
         );
-        let said = messages.into_inner();
         let text = str::from_utf8(said.taken.as_slice()).unwrap_or("not text");
         assert_eq!(rt; ended, Status::Usage, "{line:?}");
-        assert_eq!(rt;
-            (source.into_inner().calls, said.calls),
-            (0, lines),
-            "{line:?}"
-        );
+        assert_eq!(rt; (source.calls, said.calls), (0, lines), "{line:?}");
         assert!(rt; text.contains(why), "{line:?}");
         assert_eq!(rt;
             text.bytes().filter(|b| *b == b'\n').count(),
@@ -296,17 +310,13 @@ fn a_refused_moment_is_said_behind_the_usage_line(rt: HostRuntime) -> Result<(),
 fn too_many_lines_are_said_with_how_to_go_on(rt: HostRuntime) -> Result<(), Fail> {
     let words = words_of(rt.alloc(), &["check"])?;
     let replied = Cell::new(0);
-    let mut source = Device::new(Supply::of(&[b'\n'; 4096], 4096, 1_000_001, None));
-    let mut sink = Device::new(Replied(&replied));
-    let mut messages = Device::new(Slow::roomy(rt.alloc()));
-    let ended = execute(
+    let (ended, _source, _sink, said) = executed(
         rt.alloc(),
         words.as_slice(),
-        &mut source,
-        &mut sink,
-        &mut messages,
+        Supply::of(&[b'\n'; 4096], 4096, 1_000_001, None),
+        Replied(&replied),
+        Slow::roomy(rt.alloc()),
     );
-    let said = messages.into_inner();
     let text = str::from_utf8(said.taken.as_slice()).unwrap_or("not text");
     assert_eq!(rt; ended, Status::Failure);
     assert_eq!(rt; replied.get(), 1_000_000);

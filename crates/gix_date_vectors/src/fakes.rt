@@ -51,7 +51,7 @@ pub(crate) const KINDS: [io::ErrorKind; 42] = [
     io::ErrorKind::Uncategorized,
 ];
 
-/// Takes all memory that there is, in ever smaller blocks, until the smallest is refused.
+/// Takes all memory that there is, in ever smaller blocks, until the smallest is refused. It fails where it got none.
 pub(crate) fn take_all(alloc: Global) -> Result<Vec<Vec<u8>>, AllocError> {
     let mut blocks = Vec::with_capacity(alloc, 65536)?;
     let mut size = 1_usize << 46;
@@ -65,6 +65,9 @@ pub(crate) fn take_all(alloc: Global) -> Result<Vec<Vec<u8>>, AllocError> {
             }
         }
         size /= 2;
+    }
+    if blocks.is_empty() {
+        return Err(AllocError);
     }
     Ok(blocks)
 }
@@ -268,8 +271,8 @@ impl fmt::Write for Pieces {
     }
 }
 
-/// A reader that gives header lines, so many a call at most, and counts its calls and those that come before each line that it
-/// gave was replied to.
+/// A reader that gives header lines, so many a call at most, and counts its calls and those that come before each line
+/// that it gave was replied to.
 #[derive(Drop)]
 pub(crate) struct Asking<'a> {
     pub(crate) calls: usize,

@@ -1,5 +1,6 @@
 //! Header texts, read and written.
 use crate::fakes::Pieces;
+use crate::rows::{Row, time_of};
 use gix_date::device::Device;
 use gix_date::parsing::TimeBuf;
 use gix_date::{Error, Time, parse_header};
@@ -7,118 +8,112 @@ use std::fmt::Write;
 use std::str::FromStr;
 use std::test::Fail;
 
+/// Texts and the times that are read of them.
+const READ: [Row; 35] = [
+    ("0 -0000", "0 +0000"),
+    ("123abc +0100", "123 +0100"),
+    ("5 +00-1", "5 +0000"),
+    ("1 +0100 x", "1 +0000"),
+    ("7", "7 +0000"),
+    ("007 +0000", "7 +0000"), // leading zeros
+    ("7 -0100", "7 -0100"),
+    ("7 0100", "7 +0000"), // offset without sign
+    ("7 +0102030", "7 +0000"), // offset of eight bytes
+    ("1\u{a0}+0100", "1 +0100"), // no break space
+    ("-9223372036854775808 -9959", "-9223372036854775808 -9959"), // least seconds
+    ("1660797906 +0800", "1660797906 +0800"),
+    ("1660874655 banana", "1660874655 +0000"),
+    ("12abc +0100", "12 +0100"),
+    ("+0800", "800 +0000"),
+    ("1 -1500", "1 -1500"), // no limit of hours
+    ("20080214", "20080214 +0000"), // compact date as seconds
+    ("5 +0102-3", "5 +0000"), // sign in the offset
+    ("1\u{2028}+0100", "1 +0100"), // line separator
+    ("1\u{85}+0100", "1 +0100"), // next line
+    ("1\u{200b}+0100", "1 +0000"), // no white space
+    ("1\u{1f}+0100", "1 +0000"), // no white space
+    ("-5 +0100", "-5 +0100"),
+    ("-0 -0000", "0 +0000"),
+    ("999999999999999999 -0130", "999999999999999999 -0130"), // eighteen digits
+    ("1234567890123456789 +0000", "1234567890123456789 +0000"), // nineteen digits
+    ("-0000000000000000000000000000007 +0100", "-7 +0100"), // many zeros
+    ("+5 +0100", "5 +0100"),
+    (" +0100", "100 +0000"), // no seconds
+    (" 5 +0100", "5 +0100"),
+    ("5  +0100", "5 +0100"),
+    ("5\t+0100", "5 +0100"), // tab
+    ("5 +0100 ", "5 +0100"),
+    ("5 +010a", "5 +0000"), // letter in the offset
+    ("5x +0100", "5 +0100"), // letter before the space
+];
+
+/// Texts whose offset no header text has, and the seconds and offset of their times.
+const READ_WIDER: [(&str, i64, i32); 2] = [("0 +9999", 0, 362_340), ("7 +010203", 7, 3723)];
+
+/// Texts that say no time.
+const UNREAD: [&str; 11] = [
+    "-1x",
+    "9223372036854775808",
+    "1:2 +0100",
+    "",
+    "+1x +0100", // sign then letter
+    "9223372036854775808x", // digits past the range
+    "@20080214",
+    "\u{661}", // no ascii digit
+    "-+5 +0100", // two signs
+    "- +0100", // a sign alone
+    "é +0100", // no digit before the space
+];
+
+/// Whether the text is read as this time, or as none, by `FromStr` as by `parse_header`.
+fn is_read_as(text: &str, due: Option<Time>) -> bool {
+    let alike = match Time::from_str(text) {
+        Ok(read) => due == Some(read),
+        Err(fault) => due.is_none() && matches!(fault, Error::InvalidTime),
+    };
+    alike && parse_header(text) == due
+}
+
 #[test]
-fn headers_are_read(rt: HostRuntime) {
-    let rows = [
-        ("odd-seconds-dropped", "0 -0000", Some((0, 0))),
-        ("offset-too-wide", "0 +9999", Some((0, 362_340))),
-        ("header-readings", "123abc +0100", Some((123, 3600))),
-        ("header-readings", "-1x", None),
-        ("header-readings", "9223372036854775808", None),
-        ("header-readings", "5 +00-1", Some((5, 0))),
-        ("header-readings", "1 +0100 x", Some((1, 0))),
-        ("header-readings", "1:2 +0100", None),
-        ("header-readings", "", None),
-        ("header-readings", "7 +010203", Some((7, 3723))),
-        ("seconds-alone", "7", Some((7, 0))),
-        ("leading-zeros", "007 +0000", Some((7, 0))),
-        ("behind-utc", "7 -0100", Some((7, -3600))),
-        ("offset-without-sign", "7 0100", Some((7, 0))),
-        ("offset-of-eight-bytes", "7 +0102030", Some((7, 0))),
-        ("no-break-space", "1\u{a0}+0100", Some((1, 3600))),
-        ("sign-then-letter", "+1x +0100", None),
-        (
-            "least-seconds",
-            "-9223372036854775808 -9959",
-            Some((i64::MIN, -359_940)),
-        ),
-        ("digits-past-the-range", "9223372036854775808x", None),
-        ("git-log", "1660797906 +0800", Some((1_660_797_906, 28_800))),
-        ("lenient", "1660874655 banana", Some((1_660_874_655, 0))),
-        ("lenient", "12abc +0100", Some((12, 3600))),
-        ("lenient", "+0800", Some((800, 0))),
-        ("no-limit-of-hours", "1 -1500", Some((1, -54_000))),
-        ("compact-date-as-seconds", "20080214", Some((20_080_214, 0))),
-        ("at-sign", "@20080214", None),
-        ("sign-in-the-offset", "5 +0102-3", Some((5, 0))),
-        ("line-separator", "1\u{2028}+0100", Some((1, 3600))),
-        ("next-line", "1\u{85}+0100", Some((1, 3600))),
-        ("no-white-space", "1\u{200b}+0100", Some((1, 0))),
-        ("no-white-space", "1\u{1f}+0100", Some((1, 0))),
-        ("no-ascii-digit", "\u{661}", None),
-        ("before-1970", "-5 +0100", Some((-5, 3600))),
-        ("minus-zero", "-0 -0000", Some((0, 0))),
-        (
-            "eighteen-digits",
-            "999999999999999999 -0130",
-            Some((999_999_999_999_999_999, -5400)),
-        ),
-        (
-            "nineteen-digits",
-            "1234567890123456789 +0000",
-            Some((1_234_567_890_123_456_789, 0)),
-        ),
-        (
-            "many-zeros",
-            "-0000000000000000000000000000007 +0100",
-            Some((-7, 3600)),
-        ),
-        ("plus", "+5 +0100", Some((5, 3600))),
-        ("two-signs", "-+5 +0100", None),
-        ("a-sign-alone", "- +0100", None),
-        ("no-seconds", " +0100", Some((100, 0))),
-        ("space-before", " 5 +0100", Some((5, 3600))),
-        ("two-spaces", "5  +0100", Some((5, 3600))),
-        ("tab", "5\t+0100", Some((5, 3600))),
-        ("space-behind", "5 +0100 ", Some((5, 3600))),
-        ("letter-in-the-offset", "5 +010a", Some((5, 0))),
-        ("no-digit-before-the-space", "é +0100", None),
-        ("letter-before-the-space", "5x +0100", Some((5, 3600))),
-    ];
-    for (row, text, time) in rows {
-        let time = time.map(|(seconds, offset)| Time::new(seconds, offset));
-        assert_eq!(rt; parse_header(text), time, "{row}: {text}");
-        match Time::from_str(text) {
-            Ok(read) => assert_eq!(rt; Some(read), time, "{row}: {text}"),
-            Err(fault) => {
-                assert!(rt; matches!(fault, Error::InvalidTime), "{row}: {text}");
-                assert_eq!(rt; time, None, "{row}: {text}");
-            }
-        }
+fn headers_are_read(rt: HostRuntime) -> Result<(), Fail> {
+    for (text, header) in READ {
+        let due = time_of(header).ok_or("no header text")?;
+        assert!(rt; is_read_as(text, Some(due)), "{text:?}");
     }
+    for (text, seconds, offset) in READ_WIDER {
+        assert!(rt;
+            is_read_as(text, Some(Time::new(seconds, offset))),
+            "{text:?}"
+        );
+    }
+    for text in UNREAD {
+        assert!(rt; is_read_as(text, None), "{text:?}");
+    }
+    Ok(())
 }
 
 #[test]
 fn times_are_written_and_shown(rt: HostRuntime) -> Result<(), Fail> {
-    let rows = [
-        ("extremes-written", Time::MIN, "-9223372036854775808 -9959"),
-        ("extremes-written", Time::MAX, "9223372036854775807 +9959"),
-        ("odd-seconds-dropped", Time::new(0, -30), "0 -0000"),
-        ("odd-seconds-dropped", Time::new(5, -3723), "5 -0102"),
-        ("widest-offset", Time::new(0, 359_999), "0 +9959"),
-        (
-            "git-log",
-            Time::new(1_660_874_655, 28_800),
-            "1660874655 +0800",
-        ),
-        ("behind-utc", Time::new(-5, -5400), "-5 -0130"),
-    ];
     let mut buf = TimeBuf::default();
     assert_eq!(rt; buf.as_str(), "");
-    for (row, time, text) in rows {
+    for (time, text) in [
+        (Time::MIN, "-9223372036854775808 -9959"),
+        (Time::MAX, "9223372036854775807 +9959"),
+        (Time::new(0, -30), "0 -0000"),
+        (Time::new(5, -3723), "5 -0102"),
+        (Time::new(0, 359_999), "0 +9959"),
+        (Time::new(1_660_874_655, 28_800), "1660874655 +0800"),
+        (Time::new(-5, -5400), "-5 -0130"),
+    ] {
         let mut device = Device::new(Vec::new(rt.alloc()));
-        assert!(rt; time.write_to(&mut device).is_ok(), "{row}: {text}");
-        assert_eq!(rt;
-            device.into_inner().as_slice(),
-            text.as_bytes(),
-            "{row}: {text}"
-        );
-        assert_eq!(rt; time.to_str(&mut buf)?, text, "{row}: {text}");
-        assert_eq!(rt; buf.as_str(), text, "{row}: {text}");
-        assert_eq!(rt; buf.clone()?.as_str(), text, "{row}: {text}");
-        assert_eq!(rt; time.size(), text.len(), "{row}: {text}");
+        assert!(rt; time.write_to(&mut device).is_ok(), "{text}");
+        assert_eq!(rt; device.into_inner().as_slice(), text.as_bytes(), "{text}");
+        assert_eq!(rt; time.to_str(&mut buf)?, text);
+        assert_eq!(rt; buf.as_str(), text);
+        assert_eq!(rt; buf.clone()?.as_str(), text);
+        assert_eq!(rt; time.size(), text.len(), "{text}");
         let shown = format!(in rt.alloc(); "{time}")?;
-        assert_eq!(rt; shown.as_str(), text, "{row}: {text}");
+        assert_eq!(rt; shown.as_str(), text);
     }
     Ok(())
 }

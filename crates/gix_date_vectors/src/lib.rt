@@ -1,4 +1,5 @@
-//! Rows of outside values for the public items of `gix_date`, `gix_signature` and `gix_date_tool`, and callers that are proved.
+//! Rows of outside values for the public items of `gix_date`, `gix_signature` and `gix_date_tool`, and callers that are
+//! proved.
 #![tactic(auto)]
 
 pub mod caller;
@@ -34,6 +35,8 @@ mod raw;
 mod readme;
 #[cfg(test)]
 mod relative;
+#[cfg(test)]
+mod rows;
 #[cfg(test)]
 mod runs;
 #[cfg(test)]

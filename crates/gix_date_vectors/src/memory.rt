@@ -1,42 +1,42 @@
 //! Calls where each request for memory is refused.
-use crate::commands::words_of;
+use crate::commands::{executed, words_of};
 use crate::fakes::{Hoarder, Small, Supply, take_all};
 use crate::git::TIMES;
-use crate::patterns::TIMES as FORMATTED;
-use crate::raw::{BY_BOTH, BY_NEITHER, BY_WHOLE_MINUTES, RULES};
+use crate::patterns::{TIMES as FORMATTED, WITH_SECONDS};
+use crate::raw::{BY_BOTH, BY_NEITHER, BY_WHOLE_MINUTES};
 use crate::relative::IN_UTC;
+use crate::rows::{NOW, RULES, Row, is_time};
 use gix_date::device::Device;
 use gix_date::{Error, RawOffsets, Time, parse, parse_with};
-use gix_date_tool::{Mode, Status, ToolError, command, execute, run};
+use gix_date_tool::{Mode, Status, ToolError, command, run};
+use std::alloc::Global;
 use std::str;
 use std::test::Fail;
+
+/// Whether each text is read as its time by both rules.
+fn are_right(alloc: Global, rows: &[Row]) -> bool {
+    let mut all_right = true;
+    for (text, header) in rows {
+        all_right &= is_time(&parse(alloc, text, None), header);
+        for raw in RULES {
+            all_right &= is_time(&parse_with(alloc, text, None, raw), header);
+        }
+    }
+    all_right
+}
 
 #[test]
 fn an_absolute_date_takes_no_memory(rt: HostRuntime) -> Result<(), Fail> {
     let rows = [
-        ("@-1000", -1000, 0),
-        ("100000000", 100_000_000, 0),
-        ("5 -0130", 5, -5400),
+        ("@-1000", "-1000 +0000"),
+        ("100000000", "100000000 +0000"),
+        ("5 -0130", "5 -0130"),
     ];
     let blocks = take_all(rt.alloc())?;
-    let mut all_right = true;
-    for (text, seconds, offset) in rows {
-        let answer = parse(rt.alloc(), text, None);
-        if !matches!(answer, Ok(time) if time == Time::new(seconds, offset)) {
-            all_right = false;
-        }
-    }
-    for (_, text, seconds, offset) in TIMES {
-        let answer = parse(rt.alloc(), text, None);
-        if !matches!(answer, Ok(time) if time == Time::new(seconds, offset)) {
-            all_right = false;
-        }
-    }
+    let all_right = are_right(rt.alloc(), &rows) && are_right(rt.alloc(), &TIMES);
     let refused = matches!(parse(rt.alloc(), "20080214", None), Err(Error::Memory))
         && matches!(parse(rt.alloc(), "9999-12-31", None), Err(Error::Memory));
-    let taken = blocks.len();
     drop(blocks);
-    assert!(rt; taken > 0, "no-memory");
     assert!(rt; all_right, "no-memory");
     assert!(rt; refused, "no-memory");
     Ok(())
@@ -45,15 +45,7 @@ fn an_absolute_date_takes_no_memory(rt: HostRuntime) -> Result<(), Fail> {
 #[test]
 fn a_raw_text_takes_no_memory_by_either_rule(rt: HostRuntime) -> Result<(), Fail> {
     let blocks = take_all(rt.alloc())?;
-    let mut all_right = true;
-    for (_, text, seconds, offset) in BY_BOTH {
-        for raw in RULES {
-            let answer = parse_with(rt.alloc(), text, None, raw);
-            if !matches!(answer, Ok(time) if time == Time::new(seconds, offset)) {
-                all_right = false;
-            }
-        }
-    }
+    let all_right = are_right(rt.alloc(), &BY_BOTH);
     drop(blocks);
     assert!(rt; all_right, "no-memory");
     Ok(())
@@ -63,12 +55,10 @@ fn a_raw_text_takes_no_memory_by_either_rule(rt: HostRuntime) -> Result<(), Fail
 fn a_wide_raw_text_takes_no_memory(rt: HostRuntime) -> Result<(), Fail> {
     let blocks = take_all(rt.alloc())?;
     let mut all_right = true;
-    for (_, text, seconds, offset) in BY_WHOLE_MINUTES {
+    for (text, header) in BY_WHOLE_MINUTES {
         let refusal = parse_with(rt.alloc(), text, None, RawOffsets::Quarter);
         let answer = parse_with(rt.alloc(), text, None, RawOffsets::WholeMinutes);
-        if !matches!(refusal, Err(Error::Memory))
-            || !matches!(answer, Ok(time) if time == Time::new(seconds, offset))
-        {
+        if !matches!(refusal, Err(Error::Memory)) || !is_time(&answer, header) {
             all_right = false;
         }
     }
@@ -81,7 +71,7 @@ fn a_wide_raw_text_takes_no_memory(rt: HostRuntime) -> Result<(), Fail> {
 fn a_text_that_is_raw_by_neither_rule_wants_memory(rt: HostRuntime) -> Result<(), Fail> {
     let blocks = take_all(rt.alloc())?;
     let mut all_right = true;
-    for (_, text) in BY_NEITHER {
+    for text in BY_NEITHER {
         for raw in RULES {
             if !matches!(parse_with(rt.alloc(), text, None, raw), Err(Error::Memory)) {
                 all_right = false;
@@ -107,9 +97,7 @@ fn a_text_of_any_length_wants_memory_for_its_copy(rt: HostRuntime) -> Result<(),
             all_right = false;
         }
     }
-    let taken = blocks.len();
     drop(blocks);
-    assert!(rt; taken > 0, "no-memory");
     assert!(rt; all_right, "no-memory");
     Ok(())
 }
@@ -117,16 +105,14 @@ fn a_text_of_any_length_wants_memory_for_its_copy(rt: HostRuntime) -> Result<(),
 #[test]
 fn a_formatted_date_takes_no_memory(rt: HostRuntime) -> Result<(), Fail> {
     let blocks = take_all(rt.alloc())?;
-    let mut all_right = true;
-    for (_, text, seconds, offset) in FORMATTED {
+    let mut all_right = are_right(rt.alloc(), &FORMATTED);
+    for (text, seconds, offset) in WITH_SECONDS {
         let answer = parse(rt.alloc(), text, None);
         if !matches!(answer, Ok(time) if time == Time::new(seconds, offset)) {
             all_right = false;
         }
     }
-    let taken = blocks.len();
     drop(blocks);
-    assert!(rt; taken > 0, "no-memory");
     assert!(rt; all_right, "no-memory");
     Ok(())
 }
@@ -136,10 +122,10 @@ fn a_relative_date_takes_no_memory(rt: HostRuntime) -> Result<(), Fail> {
     let first = Time::new(-377_705_023_201, 0).to_zoned()?;
     let blocks = take_all(rt.alloc())?;
     let mut all_right = true;
-    for (_, from, text, seconds, offset) in IN_UTC {
+    for (from, text, header) in IN_UTC {
         let now = Time::new(from, 0).to_zoned();
         let answer = parse(rt.alloc(), text, now.ok());
-        if !matches!(answer, Ok(time) if time == Time::new(seconds, offset)) {
+        if !is_time(&answer, header) {
             all_right = false;
         }
     }
@@ -149,11 +135,25 @@ fn a_relative_date_takes_no_memory(rt: HostRuntime) -> Result<(), Fail> {
         parse(rt.alloc(), "yesterday", Some(first)),
         Err(Error::Range)
     );
-    let taken = blocks.len();
     drop(blocks);
-    assert!(rt; taken > 0, "no-memory");
     assert!(rt; all_right, "no-memory");
     assert!(rt; missing && range, "no-memory");
+    Ok(())
+}
+
+#[test]
+fn a_relative_date_is_refused_without_memory_by_either_rule(rt: HostRuntime) -> Result<(), Fail> {
+    let now = Time::new(NOW, 0).to_zoned()?;
+    let blocks = take_all(rt.alloc())?;
+    let mut all_right = true;
+    for raw in RULES {
+        let missing = parse_with(rt.alloc(), "2 days ago", None, raw);
+        let range = parse_with(rt.alloc(), "12023 years ago", Some(now), raw);
+        all_right &= matches!(missing, Err(Error::MissingNow));
+        all_right &= matches!(range, Err(Error::Range));
+    }
+    drop(blocks);
+    assert!(rt; all_right, "no-memory");
     Ok(())
 }
 
@@ -161,8 +161,8 @@ fn a_relative_date_takes_no_memory(rt: HostRuntime) -> Result<(), Fail> {
 fn a_growth_refused_ends_a_run(rt: HostRuntime) -> Result<(), Fail> {
     let blocks = take_all(rt.alloc())?;
     let mut all_right = true;
-    for mode in [Mode::Check, Mode::Parse] {
-        let mut source = Device::new(Supply::once(b"0 +0000\n", 99, None));
+    for mode in [Mode::Check, Mode::Parse, Mode::Sign] {
+        let mut source = Device::new(Supply::once(b"A <a> 0 +0000\n", 99, None));
         let mut sink = Device::new(Small::new());
         let answer = run(rt.alloc(), mode, None, &mut source, &mut sink);
         if !matches!(answer, Err(ToolError::Memory)) || !sink.into_inner().is(b"") {
@@ -175,7 +175,7 @@ fn a_growth_refused_ends_a_run(rt: HostRuntime) -> Result<(), Fail> {
 }
 
 #[test]
-fn a_later_growth_refused_ends_a_run_behind_its_replies(rt: HostRuntime) {
+fn a_later_growth_refused_ends_a_run_after_its_replies(rt: HostRuntime) {
     let longer = b"100000000                                                       \n".as_slice();
     let rows = [
         (
@@ -185,6 +185,12 @@ fn a_later_growth_refused_ends_a_run_behind_its_replies(rt: HostRuntime) {
             b"canonical\n".as_slice(),
         ),
         ("line", Mode::Parse, [b"0 +0000\n", longer], b"0 +0000\n"),
+        (
+            "line",
+            Mode::Sign,
+            [b"A <a> 0\n", longer],
+            b"A <a> 0 +0000\n",
+        ),
         (
             "copy",
             Mode::Parse,
@@ -216,6 +222,11 @@ fn a_run_over_short_lines_takes_little_memory(rt: HostRuntime) -> Result<(), Fai
             b"0 +0000\nnow\nx\n".as_slice(),
             b"0 +0000\nerror missing-moment\nerror unknown-format\n".as_slice(),
         ),
+        (
+            Mode::Sign,
+            b"A U Thor <author@example.com> 1660874655 +0800\nA <a> 0\nA <a>\n".as_slice(),
+            b"A U Thor <author@example.com> 1660874655 +0800\nA <a> 0 +0000\nnone\n".as_slice(),
+        ),
     ];
     let spare: Vec<u8> = Vec::with_capacity(rt.alloc(), 65_536)?;
     let blocks = take_all(rt.alloc())?;
@@ -241,17 +252,14 @@ fn a_moment_refused_memory_ends_the_program(rt: HostRuntime) -> Result<(), Fail>
     let blocks = take_all(rt.alloc())?;
     let answer = command(rt.alloc(), words.as_slice());
     let due = command(rt.alloc(), dated.as_slice());
-    let mut source = Device::new(Supply::once(b"0 +0000\n", 99, None));
-    let mut sink = Device::new(Small::new());
-    let mut messages = Device::new(Small::new());
-    let ended = execute(
+    let (ended, _source, sink, said) = executed(
         rt.alloc(),
         words.as_slice(),
-        &mut source,
-        &mut sink,
-        &mut messages,
+        Supply::once(b"0 +0000\n", 99, None),
+        Small::new(),
+        Small::new(),
     );
-    let silent = sink.into_inner().is(b"") && messages.into_inner().is(b"");
+    let silent = sink.is(b"") && said.is(b"");
     drop(blocks);
     assert!(rt; matches!(answer, Err(ToolError::Memory)), "no-memory");
     assert!(rt;
@@ -261,4 +269,39 @@ fn a_moment_refused_memory_ends_the_program(rt: HostRuntime) -> Result<(), Fail>
     assert_eq!(rt; ended, Status::Failure);
     assert!(rt; silent, "no-memory");
     Ok(())
+}
+
+#[test]
+fn a_run_refused_memory_ends_the_program_with_a_message(rt: HostRuntime) -> Result<(), Fail> {
+    let words = words_of(rt.alloc(), &["check"])?;
+    let blocks = take_all(rt.alloc())?;
+    let (ended, _source, sink, said) = executed(
+        rt.alloc(),
+        words.as_slice(),
+        Supply::once(b"0 +0000\n", 99, None),
+        Small::new(),
+        Small::new(),
+    );
+    let told = sink.is(b"") && said.is(b"gix_date_tool: out of memory\n");
+    drop(blocks);
+    assert_eq!(rt; ended, Status::Failure);
+    assert!(rt; told, "no-memory");
+    Ok(())
+}
+
+#[test]
+fn a_run_in_sign_takes_memory_for_the_line_alone(rt: HostRuntime) {
+    let pieces = [
+        b"A U Thor <author@example.com> 1660874655 +0800\n".as_slice(),
+        b"A <a> 1660874655\nA <a>\nA <a> x\nA <a> 0 +9999\n\xff\n <> 0 +0000\n",
+    ];
+    let mut source = Device::new(Hoarder::new(rt.alloc(), &pieces));
+    let mut sink = Device::new(Small::new());
+    let answer = run(rt.alloc(), Mode::Sign, None, &mut source, &mut sink);
+    let output_is_right = sink.into_inner().is(
+        b"A U Thor <author@example.com> 1660874655 +0800\nA <a> 1660874655 +0000\nnone\nnone\nnone\nnot text\n <> 0 +0000\n",
+    );
+    drop(source);
+    assert!(rt; matches!(answer, Ok(7)), "no-memory");
+    assert!(rt; output_is_right, "no-memory");
 }

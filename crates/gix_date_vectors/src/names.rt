@@ -58,6 +58,7 @@ fn types_have_the_traits_that_callers_count_on(rt: HostRuntime) {
     let time = gix_date::time::Time::new(5, -60);
     assert!(rt; same(&time, &Time::new(5, -60)));
     assert!(rt; same(&Mode::Parse, &Mode::Parse));
+    assert!(rt; same(&Mode::Sign, &Mode::Sign) && !same(&Mode::Sign, &Mode::Parse));
     assert!(rt; !same(&RawOffsets::Quarter, &RawOffsets::WholeMinutes));
     let mut buf = TimeBuf::default();
     assert!(rt; time.to_str(&mut buf).is_ok());
@@ -239,6 +240,7 @@ fn laws_are_called_for_nothing_but_what_they_state() {
     laws::order();
     laws::equality();
     laws::hash();
+    laws::white_space();
     laws::named_once();
     laws::spelled();
     laws::apart();
@@ -254,6 +256,7 @@ fn laws_are_called_for_nothing_but_what_they_state() {
     laws::overlapping();
     laws::comes_first("2018-12-24");
     laws::comes_first_wide("2018-12-24");
+    laws::dispatched("last week");
     laws::dispatched_wide("@5 +0007");
     laws::widened("1 +0007");
     laws::ignores_moment("yesterday");
@@ -262,6 +265,7 @@ fn laws_are_called_for_nothing_but_what_they_state() {
     gix_date_tool::lines_are_unique();
     gix_date_tool::replies_are_unique();
     gix_date_tool::canonical_lines(b"0 +0000");
+    gix_date_tool::unchanged_lines(b"A <a> 0 +0000");
 }
 
 #[test]

@@ -6,7 +6,7 @@ use gix_date::{Error, parse, parse_header};
 use std::alloc::Global;
 
 fn example(alloc: Global) -> Result<String, Error> {
-    // A date, which needs no moment; a text that is none comes back in the fault, by a copy.
+    // A date, which needs no moment; a text that is not one comes back in the fault, by a copy.
     let time = parse(alloc, "@1660874655 +0800", None)?;
     // Its text in a commit header, lent out of a buffer: "1660874655 +0800". No memory is taken.
     let mut buf = TimeBuf::default();

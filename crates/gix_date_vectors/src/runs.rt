@@ -9,17 +9,23 @@ use std::test::Fail;
 
 /// What a run in Check of this reader answers, and what it wrote to a writer that takes all.
 fn check(rt: &HostRuntime, reader: Supply<'_>) -> (Result<u64, ToolError>, Vec<u8>) {
-    check_into(rt, reader, Slow::roomy(rt.alloc()))
+    run_into(rt, Mode::Check, reader, Slow::roomy(rt.alloc()))
 }
 
-fn check_into(
+/// The same of a run in Sign.
+fn sign(rt: &HostRuntime, reader: Supply<'_>) -> (Result<u64, ToolError>, Vec<u8>) {
+    run_into(rt, Mode::Sign, reader, Slow::roomy(rt.alloc()))
+}
+
+fn run_into(
     rt: &HostRuntime,
+    mode: Mode,
     reader: Supply<'_>,
     writer: Slow,
 ) -> (Result<u64, ToolError>, Vec<u8>) {
     let mut source = Device::new(reader);
     let mut sink = Device::new(writer);
-    let answer = run(rt.alloc(), Mode::Check, None, &mut source, &mut sink);
+    let answer = run(rt.alloc(), mode, None, &mut source, &mut sink);
     let Slow { taken, .. } = sink.into_inner();
     (answer, taken)
 }
@@ -125,6 +131,176 @@ fn relative_lines_are_parsed_from_the_moment(rt: HostRuntime) {
             output.as_bytes(),
             "{row}"
         );
+    }
+}
+
+/// Lines, what Sign replies to them, and how many there are.
+const SIGNED: [(&str, &[u8], &[u8], u64); 14] = [
+    (
+        "sign-lines",
+        b"A U Thor <author@example.com> 1660874655 +0800\nA <a> 1660874655\n <> 0 +0000\nA <a>\nA <a> x\nA <a> 0 +9999\n",
+        b"A U Thor <author@example.com> 1660874655 +0800\nA <a> 1660874655 +0000\n <> 0 +0000\nnone\nnone\nnone\n",
+        6,
+    ),
+    (
+        "space-before-the-time",
+        b"A <a>  0 +0000",
+        b"A <a> 0 +0000\n",
+        1,
+    ),
+    (
+        "space-after-the-name",
+        b"A  <a> 0 +0000",
+        b"A  <a> 0 +0000\n",
+        1,
+    ),
+    (
+        "carriage-return",
+        b"A <a> 5 -0130\r\n",
+        b"A <a> 5 -0130\n",
+        1,
+    ),
+    (
+        "no-cut",
+        b"A<a> 0 +0000\n<a> 0 +0000\nA <a> \nA <a> <b> 0 +0000\n\n",
+        b"none\nnone\nnone\nnone\nnone\n",
+        5,
+    ),
+    (
+        "bad-part",
+        b"A\0 <a> 0 +0000\nA <a\0> 0 +0000\nA <a> 0 +0000\0\nA> <a> 0\nA <<a> 0\nA <a> 0>\n",
+        b"none\nnone\nnone\nnone\nnone\nnone\n",
+        6,
+    ),
+    (
+        "no-time",
+        b"A <a> 1:2 +0000\nA <a> 9223372036854775808 +0000\nA <a> -\nA <a> +x\nA <a>  \n",
+        b"none\nnone\nnone\nnone\nnone\n",
+        5,
+    ),
+    (
+        "lenient-time",
+        b"A <a> 12abc +0100\nA <a> +7 -0000\nA <a> 7 +010203\nA <a> 0 +0060\nA <a> 1 +0100 x\n",
+        b"A <a> 12 +0100\nA <a> 7 +0000\nA <a> 7 +0102\nA <a> 0 +0100\nA <a> 1 +0000\n",
+        5,
+    ),
+    (
+        "widest-offsets",
+        b"A <a> 0 +9959\nA <a> 0 -9959\nA <a> 0 +9960\nA <a> 0 -9960\n",
+        b"A <a> 0 +9959\nA <a> 0 -9959\nnone\nnone\n",
+        4,
+    ),
+    (
+        "first-and-last-second",
+        b"A <a> -9223372036854775808 -9959\nA <a> 9223372036854775807 +9959\n",
+        b"A <a> -9223372036854775808 -9959\nA <a> 9223372036854775807 +9959\n",
+        2,
+    ),
+    (
+        "letters",
+        b"\xc3\xa9 <\xc3\xa9@\xc3\xa9> 0 +0000\nA <a> 0 \xc3\xa9\nA <a> \xc3\xa9\n",
+        b"\xc3\xa9 <\xc3\xa9@\xc3\xa9> 0 +0000\nA <a> 0 +0000\nnone\n",
+        3,
+    ),
+    (
+        "not-text",
+        b"A\xff <a> 0 +0000\nA <\xc3> 0 +0000\nA <a> 0 \xe9\n\xc3\nA <a> 0\n",
+        b"not text\nnot text\nnot text\nnot text\nA <a> 0 +0000\n",
+        5,
+    ),
+    ("newline-alone", b"\n", b"none\n", 1),
+    ("empty-input", b"", b"", 0),
+];
+
+#[test]
+fn signature_lines_are_written_from_their_parts(rt: HostRuntime) {
+    for (row, input, output, count) in SIGNED {
+        for a_call in [1, 2, 7, 4096] {
+            let (answer, taken) = sign(&rt, Supply::once(input, a_call, None));
+            assert!(rt; matches!(answer, Ok(lines) if lines == count), "{row}");
+            assert_eq!(rt; taken.as_slice(), output, "{row}");
+        }
+    }
+}
+
+#[test]
+fn signature_lines_are_written_alike_at_a_moment(rt: HostRuntime) {
+    for (row, input, output, _) in SIGNED {
+        let now = Some(Time::new(1_698_400_800, 93_599));
+        let mut source = Device::new(Supply::once(input, 5, None));
+        let mut sink = Device::new(Slow::roomy(rt.alloc()));
+        let answer = run(rt.alloc(), Mode::Sign, now, &mut source, &mut sink);
+        assert!(rt; answer.is_ok(), "{row}");
+        assert_eq!(rt; sink.into_inner().taken.as_slice(), output, "{row}");
+    }
+}
+
+#[test]
+fn the_longest_signature_line_has_a_longer_reply(rt: HostRuntime) -> Result<(), Fail> {
+    for length in [16_370, 16_384, 16_385, 32_768, 65_536] {
+        let mut input = Vec::new(rt.alloc());
+        for _ in 6..length {
+            input.push(b'A')?;
+        }
+        input.extend_from_slice(b" <> 0 ")?;
+        let (answer, taken) = sign(&rt, Supply::once(input.as_slice(), 5000, None));
+        input.extend_from_slice(b"+0000\n")?;
+        assert!(rt; matches!(answer, Ok(1)), "{length}");
+        assert_eq!(rt; taken.as_slice(), input.as_slice(), "{length}");
+    }
+    Ok(())
+}
+
+#[test]
+fn a_long_signature_line_ends_a_run(rt: HostRuntime) -> Result<(), Fail> {
+    let mut input = Vec::from_slice(rt.alloc(), b"A <a> 0\n")?;
+    for _ in 0..65_532 {
+        input.push(b'A')?;
+    }
+    input.extend_from_slice(b" <> 0\n")?;
+    let (answer, taken) = sign(&rt, Supply::once(input.as_slice(), 4096, None));
+    assert!(rt; matches!(answer, Err(ToolError::LineTooLong)));
+    assert_eq!(rt; taken.as_slice(), b"A <a> 0 +0000\n".as_slice());
+    Ok(())
+}
+
+#[test]
+fn a_reader_that_fails_midway_ends_a_run_in_sign(rt: HostRuntime) {
+    let input = b"A <a> 0 +0000\nA\n\xc3\xa9 <> 5\n".as_slice();
+    for (given, output) in [
+        (0, b"".as_slice()),
+        (13, b""),
+        (14, b"A <a> 0 +0000\n"),
+        (16, b"A <a> 0 +0000\nnone\n"),
+        (23, b"A <a> 0 +0000\nnone\n"),
+        (24, b"A <a> 0 +0000\nnone\n\xc3\xa9 <> 5 +0000\n"),
+    ] {
+        for a_call in [1, 5, 99] {
+            let reader = Supply::of(input, a_call, given, Some(ErrorKind::ConnectionReset));
+            let (answer, taken) = sign(&rt, reader);
+            assert!(rt;
+                matches!(answer, Err(ToolError::Read(ErrorKind::ConnectionReset))),
+                "{given}"
+            );
+            assert_eq!(rt; taken.as_slice(), output, "{given}");
+        }
+    }
+}
+
+#[test]
+fn a_writer_that_fails_midway_ends_a_run_in_sign(rt: HostRuntime) {
+    let input = b"A <a> 0\nA\n\xc3\xa9 <> 5 -0130".as_slice();
+    let output = b"A <a> 0 +0000\nnone\n\xc3\xa9 <> 5 -0130\n".as_slice();
+    for room in 0..output.len() {
+        for a_call in [1, 4, 99] {
+            let writer = Slow::new(rt.alloc(), a_call, room, ErrorKind::StorageFull);
+            let (answer, taken) = run_into(&rt, Mode::Sign, Supply::once(input, 99, None), writer);
+            assert!(rt;
+                matches!(answer, Err(ToolError::Write(ErrorKind::StorageFull))),
+                "{room}"
+            );
+            assert_eq!(rt; taken.as_slice(), &output[..room], "{room}");
+        }
     }
 }
 
@@ -274,7 +450,8 @@ fn a_writer_that_fails_midway_ends_a_run(rt: HostRuntime) {
     for room in 0..output.len() {
         for a_call in [1, 4, 99] {
             let writer = Slow::new(rt.alloc(), a_call, room, ErrorKind::StorageFull);
-            let (answer, taken) = check_into(&rt, Supply::once(input, 99, None), writer);
+            let reader = Supply::once(input, 99, None);
+            let (answer, taken) = run_into(&rt, Mode::Check, reader, writer);
             assert!(rt;
                 matches!(answer, Err(ToolError::Write(ErrorKind::StorageFull))),
                 "failing-writer, {room}"
@@ -302,9 +479,12 @@ fn many_lines_are_written_in_few_calls(rt: HostRuntime) -> Result<(), Fail> {
 
 #[test]
 fn the_types_have_debug_forms(rt: HostRuntime) -> Result<(), Fail> {
-    let mode = format!(in rt.alloc(); "{:?}", Mode::Check)?;
-    assert!(rt; !mode.is_empty());
+    for mode in [Mode::Check, Mode::Parse, Mode::Sign] {
+        let text = format!(in rt.alloc(); "{mode:?}")?;
+        assert!(rt; !text.is_empty());
+    }
     assert!(rt; Mode::Check == Mode::Check && Mode::Check != Mode::Parse);
+    assert!(rt; Mode::Sign == Mode::Sign && Mode::Sign != Mode::Check && Mode::Sign != Mode::Parse);
     let faults = [
         ToolError::Read(ErrorKind::Other),
         ToolError::Write(ErrorKind::Other),

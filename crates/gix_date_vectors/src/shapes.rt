@@ -1,76 +1,39 @@
 //! Texts of each shape, and of each family that can hold one of that shape.
-use gix_date::{Time, parse};
+use crate::rows::{FromMoment, NOW, are_named};
+use jiff::tz::TimeZone;
 use std::test::Fail;
 
-/// A shape, a text, and the seconds and offset that it names at 1698400800 in UTC.
-type Row = (&'static str, &'static str, i64, i32);
-
-const OF_EACH: [Row; 24] = [
-    ("at sign", "@5", 5, 0),
-    ("at sign", "@5 days ago", 1_697_968_800, 0),
-    ("whole number", "100000000", 100_000_000, 0),
-    ("dashed day", "2018-12-24", 1_545_609_600, 0),
-    (
-        "dashed day",
-        "2022-08-18 12:45:06 +0800",
-        1_660_797_906,
-        28_800,
-    ),
-    (
-        "dashed day",
-        "2022-08-18T12:45:06+08:00",
-        1_660_797_906,
-        28_800,
-    ),
-    ("dashed day", "2008-02-14 20:30:45 Z", 1_203_021_045, 0),
-    ("dashed day", "2018-12-24 5 days ago", 1_698_398_758, 0),
-    (
-        "dotted day",
-        "2008.02.14 20:30:45 -0500",
-        1_203_039_045,
-        -18_000,
-    ),
-    ("dotted day", "2008.02.14 5 days ago", 1_698_398_778, 0),
-    ("compact day", "20080214T20", 1_203_019_200, 0),
-    ("compact day", "20080214T20 2 days ago", 1_698_228_000, 0),
-    (
-        "letter",
-        "Thu, 18 Aug 2022 12:45:06 +0800",
-        1_660_797_906,
-        28_800,
-    ),
-    (
-        "letter",
-        "Thu Aug 18 2022 12:45:06 +0800",
-        1_660_797_906,
-        28_800,
-    ),
-    (
-        "letter",
-        "Thu Aug 18 12:45:06 2022 +0800",
-        1_660_797_906,
-        28_800,
-    ),
-    ("letter", "last week", 1_697_796_000, 0),
-    ("other", "2018-1-2", 1_514_851_200, 0),
-    ("other", "18 Aug 2022 12:45:06 +0800", 1_660_797_906, 28_800),
-    ("other", "2022-8-18 12:45:06 +0800", 1_660_797_906, 28_800),
-    ("other", "2022-8-18T12:45:06+08:00", 1_660_797_906, 28_800),
-    ("other", " 2008-02-14 20:30:45 Z", 1_203_021_045, 0),
-    ("other", "2 weeks ago", 1_697_191_200, 0),
-    ("other", "5 -0130", 5, -5400),
-    ("other", " 5  -0130", 5, -5400),
+/// Texts of each shape, and the times that they name.
+const OF_EACH: [FromMoment; 26] = [
+    (NOW, "@5", "5 +0000"), // at sign
+    (NOW, "@5 days ago", "1697968800 +0000"), // at sign
+    (NOW, "100000000", "100000000 +0000"), // whole number
+    (NOW, "2018-12-24", "1545609600 +0000"), // dashed day
+    (NOW, "2022-08-18 12:45:06 +0800", "1660797906 +0800"), // dashed day
+    (NOW, "2022-08-18T12:45:06+08:00", "1660797906 +0800"), // dashed day
+    (NOW, "2022-08-18 12:45:60 +0000", "1660826759 +0000"), // dashed day, second of 60
+    (NOW, "2022-08-18T12:45:60+00:00", "1660826759 +0000"), // dashed day, second of 60
+    (NOW, "2008-02-14 20:30:45 Z", "1203021045 +0000"), // dashed day
+    (NOW, "2018-12-24 5 days ago", "1698398758 +0000"), // dashed day
+    (NOW, "2008.02.14 20:30:45 -0500", "1203039045 -0500"), // dotted day
+    (NOW, "2008.02.14 5 days ago", "1698398778 +0000"), // dotted day
+    (NOW, "20080214T20", "1203019200 +0000"), // compact day
+    (NOW, "20080214T20 2 days ago", "1698228000 +0000"), // compact day
+    (NOW, "Thu, 18 Aug 2022 12:45:06 +0800", "1660797906 +0800"), // letter
+    (NOW, "Thu Aug 18 2022 12:45:06 +0800", "1660797906 +0800"), // letter
+    (NOW, "Thu Aug 18 12:45:06 2022 +0800", "1660797906 +0800"), // letter
+    (NOW, "last week", "1697796000 +0000"), // letter
+    (NOW, "2018-1-2", "1514851200 +0000"), // other
+    (NOW, "18 Aug 2022 12:45:06 +0800", "1660797906 +0800"), // other
+    (NOW, "2022-8-18 12:45:06 +0800", "1660797906 +0800"), // other
+    (NOW, "2022-8-18T12:45:06+08:00", "1660797906 +0800"), // other
+    (NOW, " 2008-02-14 20:30:45 Z", "1203021045 +0000"), // other
+    (NOW, "2 weeks ago", "1697191200 +0000"), // other
+    (NOW, "5 -0130", "5 -0130"), // other
+    (NOW, " 5  -0130", "5 -0130"), // other
 ];
 
 #[test]
 fn each_family_of_a_shape_answers(rt: HostRuntime) -> Result<(), Fail> {
-    for (shape, text, seconds, offset) in OF_EACH {
-        let now = Time::new(1_698_400_800, 0).to_zoned()?;
-        assert_eq!(rt;
-            parse(rt.alloc(), text, Some(now))?,
-            Time::new(seconds, offset),
-            "{shape}: {text}"
-        );
-    }
-    Ok(())
+    are_named(rt.alloc(), TimeZone::UTC, &OF_EACH)
 }

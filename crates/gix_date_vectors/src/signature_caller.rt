@@ -1,7 +1,7 @@
 //! What a crate that reads and writes commits does with `gix_signature`.
 ghost use Rattle.std.specs.Prelude.{◌≡◌, ◌≢◌, ℕ, List, true, false, None, Some, Ok, Err, IfSome, IfNone, IfErr};
-ghost use Rattle.gix_date.specs.HeaderReading.{header_time};
-ghost use Rattle.gix_date.specs.Known.{Takes};
+ghost use Rattle.gix_date.specs.Header.Reading.{header_time};
+ghost use Rattle.gix_date.specs.Devices.Known.{Takes};
 ghost use Rattle.gix_date.specs.declared.time.Time.{Time as Read};
 ghost use Rattle.gix_signature.specs.Signature.{Parts, IsCut, HasNoCut};
 ghost use Rattle.gix_signature.specs.Writing.{line_due, IsWritten, WritesLine};
@@ -12,7 +12,8 @@ use gix_date::Time;
 use gix_date::device::Sink;
 use gix_signature::{SignatureError, SignatureRef, laws, write_line};
 
-/// The time at which a commit's author wrote it, by the commit's line `author A U Thor <author@example.com> 1660874655 +0800`.
+/// The time at which a commit's author wrote it, by the commit's line `author A U Thor <author@example.com> 1660874655
+/// +0800`.
 pub fn author_time(line: &str) -> Option<Time>
     ensures some { IfSome result (λ t. (p : Parts) × IsAuthored line.now p × (header_time p.time ≡ Some t)) }
     ensures none { IfNone result ((p : Parts) → IsAuthored line.now p → header_time p.time ≡ None) }

@@ -24,8 +24,8 @@ all-of p q to (x ∷ xs) h = let each = and-parts (p x) (list_all p xs) h in and
 
 not-all : (p : ℕ → Bool) (c : ℕ) (xs ys : List ℕ) → p c ≡ false → list_all p (xs ++ (c ∷ ys)) ≡ true → ⊥
 not-all p c xs ys other h =
-    let behind = and-parts (list_all p xs) (list_all p (c ∷ ys)) (sym (list_all-append p xs (c ∷ ys)) ∙ h) in
-    let clash : true ≡ false = sym (and-parts (p c) (list_all p ys) behind.1).0 ∙ other in
+    let after = and-parts (list_all p xs) (list_all p (c ∷ ys)) (sym (list_all-append p xs (c ∷ ys)) ∙ h) in
+    let clash : true ≡ false = sym (and-parts (p c) (list_all p ys) after.1).0 ∙ other in
     absurd cc
 
 -- a byte that stands once in a text tells where the text is cut at it
@@ -51,9 +51,9 @@ not-or false b c d h = refl
 no-opening : (xs : List ℕ) → is_part xs ≡ true → list_all not_opening xs ≡ true
 no-opening = all-of may_stand not_opening (λ c h. not-or (c == opening) (c == closing) (c == newline) (c == nul) h)
 
--- what stands behind ` <`
-abbrev pub behind_name : Parts → List ℕ
-behind_name p = p.mail ++ (codes "> " ++ p.time)
+-- what stands after ` <`
+abbrev pub after_name : Parts → List ℕ
+after_name p = p.mail ++ (codes "> " ++ p.time)
 
 -- none of these parts holds a forbidden byte
 pub record ArePlain (p : Parts) : Type 0 where
@@ -68,21 +68,21 @@ plain p h =
     let front = and-parts (is_part p.name) (is_part p.mail) last.0 in
     record { name = front.0; mail = front.1; time = last.1 }
 
--- the name with the space behind it, `<` and what stands behind that
+-- the name with the space after it, `<` and what stands after that
 marked : (name rest : List ℕ) → name ++ (codes " <" ++ rest) ≡ (name ++ (32 ∷ [])) ++ (opening ∷ rest)
 marked name rest = sym (append_assoc name (32 ∷ []) (opening ∷ rest))
 
 -- where ` <` stands in a line that has a cut, the line is cut
-pub the-front : (line name rest : List ℕ) (q : Parts) → line ≡ name ++ (codes " <" ++ rest) → IsCut line q → (name ≡ q.name) × (rest ≡ behind_name q)
+pub the-front : (line name rest : List ℕ) (q : Parts) → line ≡ name ++ (codes " <" ++ rest) → IsCut line q → (name ≡ q.name) × (rest ≡ after_name q)
 the-front line name rest q whole cut =
     let are = plain q cut.allowed in
     let blank : List ℕ = 32 ∷ [] in
-    let same : (name ++ blank) ++ (opening ∷ rest) ≡ (q.name ++ blank) ++ (opening ∷ behind_name q) =
-    sym (marked name rest) ∙ sym whole ∙ cut.whole ∙ marked q.name (behind_name q) in
-    let behind : list_all not_opening (codes "> " ++ q.time) ≡ true = no-opening q.time are.time in
-    let at = one-place not_opening opening (name ++ blank) rest (q.name ++ blank) (behind_name q) refl
+    let same : (name ++ blank) ++ (opening ∷ rest) ≡ (q.name ++ blank) ++ (opening ∷ after_name q) =
+    sym (marked name rest) ∙ sym whole ∙ cut.whole ∙ marked q.name (after_name q) in
+    let after : list_all not_opening (codes "> " ++ q.time) ≡ true = no-opening q.time are.time in
+    let at = one-place not_opening opening (name ++ blank) rest (q.name ++ blank) (after_name q) refl
     (all-both not_opening q.name blank (no-opening q.name are.name) refl)
-    (all-both not_opening q.mail (codes "> " ++ q.time) (no-opening q.mail are.mail) behind)
+    (all-both not_opening q.mail (codes "> " ++ q.time) (no-opening q.mail are.mail) after)
     same in
     (append_cancel_right name q.name blank at.0, at.1)
 
@@ -90,7 +90,7 @@ the-front line name rest q whole cut =
 pub the-cut : (line : List ℕ) (p q : Parts) → line ≡ line_of p → IsCut line q → p ≡ q
 the-cut line p q whole cut =
     let are = plain q cut.allowed in
-    let front = the-front line p.name (behind_name p) q whole cut in
+    let front = the-front line p.name (after_name p) q whole cut in
     let at = one-place may_stand closing p.mail (32 ∷ p.time) q.mail (32 ∷ q.time) refl are.mail are.time front.1 in
     let times : p.time ≡ q.time = ap (drop 1) at.1 in
     (λ i. record { name = front.0 i; mail = at.0 i; time = times i })

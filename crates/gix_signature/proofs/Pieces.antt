@@ -1,11 +1,11 @@
--- Texts that a sink takes one behind the other.
+-- Texts that a sink takes one after the other.
 use Rattle.std.proofs.Common.{◌≡◌, ◌∙◌, ℕ, ◌+◌, List, ◌++◌, length, take, Option, None, Some, sym, ap, subst, append_assoc, length-append, arith}
 use Rattle.std.proofs.Math.Seq.{take-append-add}
 use Rattle.std.proofs.lemmas.List.{take-append-le}
 use Rattle.std.specs.Io.KnownBytes.{Appends}
 use Rattle.std.specs.Prelude.{Result, Ok, Err, OnOk, OnErr, IfErr}
 use Rattle.std.specs.declared.io.ErrorKind.{ErrorKind}
-use Rattle.gix_date.specs.Known.{Known, Takes, TakesProperPrefix}
+use Rattle.gix_date.specs.Devices.Known.{Known, Takes, TakesProperPrefix}
 use Rattle.gix_signature.specs.Writing.{Puts}
 
 Appends-then : (old mid new : Option (List ℕ)) (xs ys : List ℕ) → Appends old mid xs → Appends mid new ys → Appends old new (xs ++ ys)
@@ -25,8 +25,8 @@ Cut-more old new xs ys h =
     (h.0, omega (arith, length-append xs ys), subst (Takes old new) (sym (take-append-le h.0 xs ys (omega arith))) h.2)
 
 -- a text, and then a proper prefix of the next
-pub Cut-behind : (old mid new : Known) (xs ys : List ℕ) → Takes old mid xs → TakesProperPrefix mid new ys → TakesProperPrefix old new (xs ++ ys)
-Cut-behind old mid new xs ys h k =
+pub Cut-after : (old mid new : Known) (xs ys : List ℕ) → Takes old mid xs → TakesProperPrefix mid new ys → TakesProperPrefix old new (xs ++ ys)
+Cut-after old mid new xs ys h k =
     let within = k.1 in
     (length xs + k.0, omega (arith, length-append xs ys), subst (Takes old new) (sym (take-append-add xs ys k.0)) (Takes-then old mid new xs (take k.0 ys) h k.2))
 
@@ -35,12 +35,6 @@ pub Puts-more : (old new : Known) (xs ys : List ℕ) (kind : ErrorKind) → Puts
 Puts-more old new xs ys kind h = (Cut-more old new xs ys h.0, h.1)
 
 -- a text that was taken, and then what the next came to
-pub Puts-behind : (old mid new : Known) (xs ys : List ℕ) (r : Result (Unit {0}) ErrorKind) → Takes old mid xs → Puts mid new ys r → Puts old new (xs ++ ys) r
-Puts-behind old mid new xs ys (Ok u) h k = Takes-then old mid new xs ys h k
-Puts-behind old mid new xs ys (Err kind) h k = (Cut-behind old mid new xs ys h k.0, k.1)
-
--- what `put_all` comes to
-pub Puts-all : (old new : Known) (text : List ℕ) (r : Result (Unit {0}) ErrorKind) → OnOk r (Takes old new text) → OnErr r (TakesProperPrefix old new text)
-    → IfErr r (λ kind. new.fault ≡ Some kind) → Puts old new text r
-Puts-all old new text (Ok u) ok cut fault = ok
-Puts-all old new text (Err kind) ok cut fault = (cut, fault)
+pub Puts-after : (old mid new : Known) (xs ys : List ℕ) (r : Result (Unit {0}) ErrorKind) → Takes old mid xs → Puts mid new ys r → Puts old new (xs ++ ys) r
+Puts-after old mid new xs ys (Ok u) h k = Takes-then old mid new xs ys h k
+Puts-after old mid new xs ys (Err kind) h k = (Cut-after old mid new xs ys h k.0, k.1)

@@ -2,8 +2,8 @@
 use Rattle.std.proofs.Common.{◌≡◌, ◌≢◌, ◌∙◌, true, false, List, ℕ, [], ◌∷◌, ◌++◌, pos, negsuc, Ok, Err, Some, unwrap_or, refl, ap, sym}
 use Rattle.std.specs.Fmt.{digits}
 use Rattle.std.specs.Prelude.{codes}
-use Rattle.gix_date.specs.HeaderReading.{header_time}
-use Rattle.gix_date.specs.HeaderText.{header_text}
+use Rattle.gix_date.specs.Header.Reading.{header_time}
+use Rattle.gix_date.specs.Header.Text.{header_text}
 use Rattle.gix_date.specs.declared.time.Time.{Time}
 use Rattle.gix_signature.specs.Signature.{Parts, IsCut, HasNoCut, may_stand, are_parts, line_of, opening, closing, newline, nul}
 use Rattle.gix_signature.specs.Writing.{line_due, IsWritten}
@@ -23,8 +23,8 @@ two_spaces = record { whole = refl; allowed = refl }
 empty_name_and_mail : IsCut (codes " <> 0 +0000") (parts [] [] (codes "0 +0000"))
 empty_name_and_mail = record { whole = refl; allowed = refl }
 
-time_behind_a_space : IsCut (codes "A <a>  0 +0000") (parts (codes "A") (codes "a") (codes " 0 +0000"))
-time_behind_a_space = record { whole = refl; allowed = refl }
+time_after_a_space : IsCut (codes "A <a>  0 +0000") (parts (codes "A") (codes "a") (codes " 0 +0000"))
+time_after_a_space = record { whole = refl; allowed = refl }
 
 return_in_the_time : IsCut (codes "A <a> 5 -0130\r") (parts (codes "A") (codes "a") (codes "5 -0130\r"))
 return_in_the_time = record { whole = refl; allowed = refl }
@@ -35,8 +35,8 @@ no_time = no-cut _ (parts (codes "A") (codes "a") []) refl refl
 second_bracket : HasNoCut (codes "A <a> <b> 0 +0000")
 second_bracket = no-cut _ (parts (codes "A") (codes "a") (codes "<b> 0 +0000")) refl refl
 
-newline_behind : HasNoCut (codes "A <a> 0 +0000\n")
-newline_behind = no-cut _ (parts (codes "A") (codes "a") (codes "0 +0000\n")) refl refl
+newline_after : HasNoCut (codes "A <a> 0 +0000\n")
+newline_after = no-cut _ (parts (codes "A") (codes "a") (codes "0 +0000\n")) refl refl
 
 -- each of the four, in the name, the mail and the time
 none : (name mail time : List ℕ) → are_parts (parts name mail time) ≡ false → HasNoCut (line_of (parts name mail time))

@@ -5,11 +5,11 @@ use Rattle.std.proofs.lemmas.Fmt.{decimal_by_steps}
 use Rattle.std.specs.Fmt.{decimal}
 use Rattle.std.specs.Prelude.{if◌then◌else◌, nat_lt, int_lt}
 use Rattle.std.specs.declared.io.ErrorKind.{ErrorKind}
-use Rattle.gix_date.specs.Characters.{space, plus, minus}
-use Rattle.gix_date.specs.HeaderReading.{header_time}
-use Rattle.gix_date.specs.HeaderText.{header_text, zone_text}
-use Rattle.gix_date.specs.Known.{Known, Takes}
-use Rattle.gix_date.specs.Numbers.{decimal_text, two_digits}
+use Rattle.gix_date.specs.Text.Characters.{space, plus, minus}
+use Rattle.gix_date.specs.Header.Reading.{header_time}
+use Rattle.gix_date.specs.Header.Text.{header_text, compact_offset_text}
+use Rattle.gix_date.specs.Devices.Known.{Known, Takes}
+use Rattle.gix_date.specs.Text.Numbers.{decimal_text, two_digits}
 use Rattle.gix_date.specs.declared.time.Time.{Time}
 use Rattle.gix_date.proofs.HeaderLaws.{written-is-read}
 use Rattle.gix_signature.specs.Signature.{Parts, may_stand, is_part, line_of, opening, closing, newline, nul}
@@ -43,7 +43,7 @@ sign-stands : (b : Bool) → may_stand (if b then minus else plus) ≡ true
 sign-stands true = refl
 sign-stands false = refl
 
-zone-stands : (o : ℤ) → unsigned_abs o < 360000 → is_part (zone_text o) ≡ true
+zone-stands : (o : ℤ) → unsigned_abs o < 360000 → is_part (compact_offset_text o) ≡ true
 zone-stands o h =
     let hours = two_digits (unsigned_abs o / 3600) in
     let minutes = two_digits (unsigned_abs o % 3600 / 60) in
@@ -67,7 +67,7 @@ text-is : (t : Time) (text : List ℕ) → FitsSigned w64 t.seconds → header_t
 unfolding header_text
 text-is t text f e =
     let seconds = decimal_text t.seconds in
-    let zone = zone_text t.offset in
+    let zone = compact_offset_text t.offset in
     let is = text-of (nat_lt (unsigned_abs t.offset) 360000) (seconds ++ (space ∷ zone)) text e in
     let short : unsigned_abs t.offset < 360000 = grind (arith, nat_tests, is.0) in
     record {
@@ -106,16 +106,6 @@ written-is-cut name mail t f = due-by name mail t f (is_part name && is_part mai
 pub due-is : (name mail : List ℕ) (t : Time) → is_part name ≡ true → is_part mail ≡ true
     → line_due name mail t ≡ ok_or (option_map line_of (parts_due name mail t)) OffsetTooWide
 due-is name mail t h k = ap (λ b. cond b (ok_or (option_map line_of (parts_due name mail t)) OffsetTooWide) (Err BadPart)) (and-both (is_part name) (is_part mail) h k)
-
-none-of : (o : Option (List ℕ)) → is_some o ≡ false → o ≡ None
-none-of None h = refl
-none-of (Some x) h = absurd cc
-
-pub due-wide : (name mail : List ℕ) (t : Time) → is_part name ≡ true → is_part mail ≡ true → is_some (header_text t) ≡ false
-    → line_due name mail t ≡ Err OffsetTooWide
-due-wide name mail t h k none =
-    due-is name mail t h k
-    ∙ ap (λ o. ok_or (option_map line_of (option_map (λ text. record { name = name; mail = mail; time = text }) o)) OffsetTooWide) (none-of (header_text t) none)
 
 -- the answer of a call that puts a line
 abbrev pub answer_of : Result (Unit {0}) ErrorKind → Result (Unit {0}) SignatureError

@@ -1,9 +1,9 @@
 -- What is written of a name, a mail and a time.
 use Rattle.std.specs.Prelude.{◌≡◌, ℕ, ◌%◌, List, unsigned_abs, if◌then◌else◌, ◌&&◌, Option, Some, Result, Ok, Err, ok_or, option_map}
 use Rattle.std.specs.declared.io.ErrorKind.{ErrorKind}
-use Rattle.gix_date.specs.HeaderReading.{header_time}
-use Rattle.gix_date.specs.HeaderText.{header_text}
-use Rattle.gix_date.specs.Known.{Known, Takes, TakesProperPrefix, TakesNothing}
+use Rattle.gix_date.specs.Header.Reading.{header_time}
+use Rattle.gix_date.specs.Header.Text.{header_text}
+use Rattle.gix_date.specs.Devices.Known.{Known, Takes, TakesProperPrefix, TakesNothing}
 use Rattle.gix_date.specs.declared.time.Time.{Time}
 use Rattle.gix_signature.specs.Signature.{Parts, IsCut, is_part, line_of}
 use Rattle.gix_signature.specs.declared.error.SignatureError.{SignatureError}
@@ -18,13 +18,15 @@ Puts old new text (Err kind) = TakesProperPrefix old new text × (new.fault ≡ 
 abbrev pub parts_due : List ℕ → List ℕ → Time → Option Parts
 parts_due name mail t = option_map (λ text. record { name = name; mail = mail; time = text }) (header_text t)
 
--- the line of a name, a mail and a time, or why there is none: a part that may not stand, and else an offset that has no text
+-- the line of a name, a mail and a time, or why there is none: a part that may not stand, and else an offset that has
+-- no text
 abbrev pub line_due : List ℕ → List ℕ → Time → Result (List ℕ) SignatureError
 line_due name mail t =
-    if is_part name && is_part mail then ok_or (option_map line_of (parts_due name mail t)) OffsetTooWide else Err BadPart
+    if is_part name && is_part mail
+    then ok_or (option_map line_of (parts_due name mail t)) OffsetTooWide else Err BadPart
 
--- What writing a line came to: the writer took all of the line that was due, or a proper prefix and has that fault; or there was
--- none, and it took no byte.
+-- What writing a line came to: the writer took all of the line that was due, or a proper prefix and has that fault; or
+-- there was none, and it took no byte.
 abbrev pub WritesLine : Result (List ℕ) SignatureError → Known → Known → Result Unit SignatureError → Type 0
 WritesLine (Ok line) old new (Ok _) = Takes old new line
 WritesLine (Ok line) old new (Err (Write kind)) = TakesProperPrefix old new line × (new.fault ≡ Some kind)
@@ -32,7 +34,8 @@ WritesLine (Ok line) old new (Err _) = ⊥
 WritesLine (Err refusal) old new (Ok _) = ⊥
 WritesLine (Err refusal) old new (Err e) = (e ≡ refusal) × TakesNothing old new
 
--- the line is cut into the name, the mail and the text of the time, which is read as the time again where its offset is whole minutes
+-- the line is cut into the name, the mail and the text of the time, which is read as the time again where its offset is
+-- whole minutes
 pub record IsWritten (name mail : List ℕ) (t : Time) (line : List ℕ) : Type 0 where
   pub text : List ℕ
   pub is_text : header_text t ≡ Some text

@@ -1,8 +1,8 @@
 //! A signature line, as it is cut and written.
 ghost use Rattle.std.specs.Prelude.{◌≡◌, ℕ, List, is_some, IsSome, IsSomeAnd, MatchOption, OnOk};
-ghost use Rattle.gix_date.specs.HeaderReading.{header_time};
-ghost use Rattle.gix_date.specs.HeaderText.{header_text};
-ghost use Rattle.gix_date.specs.Known.{Takes};
+ghost use Rattle.gix_date.specs.Header.Reading.{header_time};
+ghost use Rattle.gix_date.specs.Header.Text.{header_text};
+ghost use Rattle.gix_date.specs.Devices.Known.{Takes};
 ghost use Rattle.gix_signature.specs.Signature.{IsCut, HasNoCut, may_stand, is_part, are_parts, parts_of, line_of};
 ghost use Rattle.gix_signature.specs.Writing.{line_due, parts_due, Puts, WritesLine, IsWritten};
 
@@ -21,15 +21,15 @@ pub struct SignatureRef<'a> {
     pub name: &'a str,
     /// What stands between the brackets, which may be empty. Whether it is an address is not asked.
     pub mail: &'a str,
-    /// What stands behind `> `, at least one byte: as Git writes it the text of a time in a commit header.
+    /// What stands after `> `, at least one byte: as Git writes it the text of a time in a commit header.
     pub time: &'a str,
 }
 
 impl<'a> SignatureRef<'a> {
     /// Cuts a line, without its newline, into its parts: a name, ` <`, a mail, `> `, and a time.
     ///
-    /// `None` where the line has no such cut: no part holds `<`, `>`, a newline or NUL, and the time is not empty. A line has one cut
-    /// at most. Takes no memory.
+    /// `None` where the line has no such cut: no part holds `<`, `>`, a newline or NUL, and the time is not empty. A
+    /// line has one cut at most.
     pub fn from_line(line: &'a str) -> Option<SignatureRef<'a>>
         ensures { MatchOption result (HasNoCut line.now) (λ s. IsCut line.now (parts_of s)) }
     {
@@ -37,15 +37,15 @@ impl<'a> SignatureRef<'a> {
         if parts.may_stand() { Some(parts) } else { None }
     }
 
-    /// The time that the line's time is read as, leniently, as [`gix_date::parse_header`] reads the time of a commit header. `None`
-    /// where that reads none. Takes no memory.
+    /// The time that the line's time is read as, leniently, as [`gix_date::parse_header`] reads the time of a commit
+    /// header. `None` where that reads none.
     pub fn time_of(&self) -> Option<Time>
         ensures { result ≡ header_time self.now.time.now }
     {
         parse_header(self.time)
     }
 
-    /// What stands before, between and behind the first ` <` and the first `> ` behind it, whatever that is.
+    /// What stands before, between and after the first ` <` and the first `> ` after it, whatever that is.
     fn between_marks(line: &'a str) -> Option<SignatureRef<'a>>
         ensures { MatchOption result (HasNoCut line.now) (λ s. line.now ≡ line_of (parts_of s)) }
     {
@@ -62,14 +62,14 @@ impl<'a> SignatureRef<'a> {
     }
 }
 
-/// Writes a signature line, without a newline: the name, ` <`, the mail, `> `, and the time as [`Time::write_to`] writes it. The
-/// name and the mail may be empty.
+/// Writes a signature line, without a newline: the name, ` <`, the mail, `> `, and the time as [`Time::write_to`]
+/// writes it. The name and the mail may be empty.
 ///
 /// [`SignatureError::BadPart`] where the name or the mail holds `<`, `>`, a newline or NUL, and else
 /// [`SignatureError::OffsetTooWide`] where the offset is 100 hours or more, either way; both before a byte is written.
-/// [`SignatureError::Write`] carries the writer's fault, and then a proper prefix of the line was taken. What was written is cut by
-/// [`SignatureRef::from_line`] into this name, this mail and the text of the time, which is read as the time again where its offset
-/// is whole minutes. There is no flush. Takes no memory.
+/// [`SignatureError::Write`] carries the writer's fault, and then a proper prefix of the line was taken. What was
+/// written is cut by [`SignatureRef::from_line`] into this name, this mail and the text of the time, which is read as
+/// the time again where its offset is whole minutes. There is no flush.
 pub fn write_line<W: Sink>(
     name: &str,
     mail: &str,
@@ -92,7 +92,8 @@ pub fn write_line<W: Sink>(
 /// Puts a line into a sink.
 fn put_line<W: Sink>(name: &str, mail: &str, time: Time, out: &mut W) -> Result<(), io::ErrorKind>
     requires { IsSome (header_text time) }
-    ensures { IsSomeAnd (parts_due name.now mail.now time) (λ p. Puts (W.known out.old) (W.known out.new) (line_of p) result) }
+    ensures { IsSomeAnd (parts_due name.now mail.now time)
+        (λ p. Puts (W.known out.old) (W.known out.new) (line_of p) result) }
 {
     put_text(name, out)?;
     put_text(" <", out)?;

@@ -1,7 +1,8 @@
 //! Dates and clocks as texts say them, and the instants that they are.
 ghost use Rattle.std.specs.Prelude.{◌≡◌};
 ghost use Rattle.jiff.specs.Words.{IsOffsetSeconds};
-ghost use Rattle.gix_date.specs.Civil.{DateFits, ClockFits, is_date, civil_instant};
+ghost use Rattle.gix_date.specs.Fields.Civil.{is_date, civil_instant};
+ghost use Rattle.gix_date.specs.Private.Civil.{DateFits, ClockFits};
 
 use crate::time::{OffsetInSeconds, SecondsSinceUnixEpoch};
 use jiff::civil::{Date, DateTime};
@@ -25,8 +26,7 @@ pub(crate) struct ClockFields {
 
 /// The seconds since 1970-01-01 00:00:00 UTC of this clock on this day, at this offset from UTC.
 ///
-/// `None` where the calendar does not have the day, or the day not the clock, or `jiff` no instant of these seconds. Takes no
-/// memory.
+/// `None` where the calendar does not have the day, or the day not the clock, or `jiff` no instant of these seconds.
 pub(crate) fn civil_instant(
     date: DateFields,
     clock: ClockFields,

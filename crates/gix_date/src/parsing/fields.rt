@@ -1,12 +1,12 @@
 //! What all readers of fields stand on.
 ghost use Rattle.std.specs.Prelude.{◌≡◌, ◌<◌, option_copied};
-ghost use Rattle.gix_date.specs.Characters.{has_colon};
-ghost use Rattle.gix_date.specs.Fields.{behind};
+ghost use Rattle.gix_date.specs.Text.Characters.{has_colon};
+ghost use Rattle.gix_date.specs.Fields.Front.{skip_char};
 
-/// What stands behind this character, where it is the first.
-pub(crate) fn behind(mark: char, text: &str) -> Option<&str>
+/// What stands after this character, where it is the first.
+pub(crate) fn skip_char(mark: char, text: &str) -> Option<&str>
     requires { mark < 128 }
-    ensures { option_copied result ≡ behind mark text.now }
+    ensures { option_copied result ≡ skip_char mark text.now }
 {
     text.strip_prefix(mark)
 }

@@ -1,12 +1,12 @@
 //! Git's own forms of a date.
 ghost use Rattle.std.specs.Prelude.{◌≡◌, ◌<◌, ◌≤◌, IfSome};
 ghost use Rattle.jiff.specs.Words.{IsOffsetSeconds};
-ghost use Rattle.gix_date.specs.Civil.{DateFits};
-ghost use Rattle.gix_date.specs.Fields.{read_view};
-ghost use Rattle.gix_date.specs.Git.{read_marked_date, read_compact_date, time_behind, time_of_cut, dotted_time, compact_time, flexible_time, git_form, git_time};
+ghost use Rattle.gix_date.specs.Private.Civil.{DateFits};
+ghost use Rattle.gix_date.specs.Private.Views.{read_view};
+ghost use Rattle.gix_date.specs.Git.Forms.{read_marked_date, read_compact_date, time_with_rest, time_of_cut, dotted_time, compact_time, flexible_time, git_form, git_time};
 
 use crate::parsing::civil::{DateFields, civil_instant};
-use crate::parsing::fields::behind;
+use crate::parsing::fields::skip_char;
 use crate::parsing::git::clock::parse_clock;
 use crate::parsing::git::cut::clock_cut;
 use crate::parsing::git::offset::parse_git_offset;
@@ -23,20 +23,20 @@ mod offset;
 /// - compact: `20080214T203045.019-04:00`;
 /// - flexible: `2008-02-14 20:30:45 Z`, `2008-02-14T20 +05`.
 ///
-/// `None` for any other text, and where the date does not exist or `jiff` has no such instant. Takes no memory.
-#[tactic(auto, unfolding(crate::specs::Git::git_time))]
-pub(crate) fn parse_git_date_format(input: &str) -> Option<Time>
+/// `None` for any other text, and where the date does not exist or `jiff` has no such instant.
+#[tactic(auto, unfolding(crate::specs::Git::Forms::git_time))]
+pub(crate) fn parse_git(input: &str) -> Option<Time>
     ensures time { result ≡ git_time input.now }
-    ensures short { IfSome result (λ t. IsOffsetSeconds t.offset) }
+    ensures offset_fits { IfSome result (λ t. IsOffsetSeconds t.offset) }
 {
     parse_form(input.trim())
 }
 
 /// The first of the three forms that a trimmed text has.
-#[tactic(auto, unfolding(crate::specs::Git::git_form))]
+#[tactic(auto, unfolding(crate::specs::Git::Forms::git_form))]
 fn parse_form(text: &str) -> Option<Time>
     ensures time { result ≡ git_form text.now }
-    ensures short { IfSome result (λ t. IsOffsetSeconds t.offset) }
+    ensures offset_fits { IfSome result (λ t. IsOffsetSeconds t.offset) }
 {
     if let Some(time) = parse_dotted(text) {
         return Some(time);
@@ -48,57 +48,57 @@ fn parse_form(text: &str) -> Option<Time>
 }
 
 /// `YYYY.MM.DD`, one space, a clock and perhaps an offset.
-#[tactic(auto, unfolding(crate::specs::Git::dotted_time))]
+#[tactic(auto, unfolding(crate::specs::Git::Forms::dotted_time))]
 fn parse_dotted(text: &str) -> Option<Time>
     ensures time { result ≡ dotted_time text.now }
-    ensures short { IfSome result (λ t. IsOffsetSeconds t.offset) }
+    ensures offset_fits { IfSome result (λ t. IsOffsetSeconds t.offset) }
 {
     let (date, rest) = read_marked_date('.', text)?;
-    let rest = behind(' ', rest)?;
-    parse_behind(date, rest)
+    let rest = skip_char(' ', rest)?;
+    parse_rest(date, rest)
 }
 
 /// `YYYYMMDD`, `T`, a clock and perhaps an offset.
-#[tactic(auto, unfolding(crate::specs::Git::compact_time))]
+#[tactic(auto, unfolding(crate::specs::Git::Forms::compact_time))]
 fn parse_compact(text: &str) -> Option<Time>
     ensures time { result ≡ compact_time text.now }
-    ensures short { IfSome result (λ t. IsOffsetSeconds t.offset) }
+    ensures offset_fits { IfSome result (λ t. IsOffsetSeconds t.offset) }
 {
     let (date, rest) = read_compact_date(text)?;
-    let rest = behind('T', rest)?;
-    parse_behind(date, rest)
+    let rest = skip_char('T', rest)?;
+    parse_rest(date, rest)
 }
 
 /// `YYYY-MM-DD`, `T` or one space, a clock and perhaps an offset.
-#[tactic(auto, unfolding(crate::specs::Git::flexible_time))]
+#[tactic(auto, unfolding(crate::specs::Git::Forms::flexible_time))]
 fn parse_flexible(text: &str) -> Option<Time>
     ensures time { result ≡ flexible_time text.now }
-    ensures short { IfSome result (λ t. IsOffsetSeconds t.offset) }
+    ensures offset_fits { IfSome result (λ t. IsOffsetSeconds t.offset) }
 {
     let (date, rest) = read_marked_date('-', text)?;
-    if let Some(rest) = behind('T', rest) {
-        return parse_behind(date, rest);
+    if let Some(rest) = skip_char('T', rest) {
+        return parse_rest(date, rest);
     }
-    let rest = behind(' ', rest)?;
-    parse_behind(date, rest)
+    let rest = skip_char(' ', rest)?;
+    parse_rest(date, rest)
 }
 
-/// The time of a date, and of a clock and an offset that stand behind it.
-fn parse_behind(date: DateFields, rest: &str) -> Option<Time>
+/// The time of a date, and of a clock and an offset that stand after it.
+fn parse_rest(date: DateFields, rest: &str) -> Option<Time>
     requires { DateFits date }
-    ensures time { result ≡ time_behind date rest.now }
-    ensures short { IfSome result (λ t. IsOffsetSeconds t.offset) }
+    ensures time { result ≡ time_with_rest date rest.now }
+    ensures offset_fits { IfSome result (λ t. IsOffsetSeconds t.offset) }
 {
     let (clock, offset) = clock_cut(rest.trim());
     parse_cut(date, clock, offset)
 }
 
 /// The time of a date, a clock and an offset.
-#[tactic(auto, unfolding(crate::specs::Git::time_of_cut))]
+#[tactic(auto, unfolding(crate::specs::Git::Forms::time_of_cut))]
 fn parse_cut(date: DateFields, clock: &str, offset: &str) -> Option<Time>
     requires { DateFits date }
     ensures time { result ≡ time_of_cut date (clock.now, offset.now) }
-    ensures short { IfSome result (λ t. IsOffsetSeconds t.offset) }
+    ensures offset_fits { IfSome result (λ t. IsOffsetSeconds t.offset) }
 {
     let clock = parse_clock(clock)?;
     let offset = parse_git_offset(offset)?;
@@ -107,22 +107,22 @@ fn parse_cut(date: DateFields, clock: &str, offset: &str) -> Option<Time>
 }
 
 /// A year of four digits, a month of two and a day of two, with a mark between them.
-#[tactic(auto, unfolding(crate::specs::Git::read_marked_date))]
+#[tactic(auto, unfolding(crate::specs::Git::Forms::read_marked_date))]
 fn read_marked_date(mark: char, text: &str) -> Option<(DateFields, &str)>
     requires { mark < 128 }
     ensures value { read_view result ≡ read_marked_date mark text.now }
     ensures fits { IfSome result (λ found. DateFits found.0) }
 {
     let (year, rest) = read_year(text)?;
-    let rest = behind(mark, rest)?;
+    let rest = skip_char(mark, rest)?;
     let (month, rest) = read_two_digits(rest)?;
-    let rest = behind(mark, rest)?;
+    let rest = skip_char(mark, rest)?;
     let (day, rest) = read_two_digits(rest)?;
     Some((DateFields { year, month, day }, rest))
 }
 
 /// A year of four digits, a month of two and a day of two, with no mark between them.
-#[tactic(auto, unfolding(crate::specs::Git::read_compact_date))]
+#[tactic(auto, unfolding(crate::specs::Git::Forms::read_compact_date))]
 fn read_compact_date(text: &str) -> Option<(DateFields, &str)>
     ensures value { read_view result ≡ read_compact_date text.now }
     ensures fits { IfSome result (λ found. DateFits found.0) }

@@ -1,11 +1,12 @@
 //! Numbers and digits.
 //!
-//! A `read_` function takes the front of a text, and gives the value and the rest; a `parse_` function takes a whole text.
+//! A `read_` function takes the front of a text, and gives the value and the rest; a `parse_` function takes a whole
+//! text.
 ghost use Rattle.std.specs.Prelude.{◌≡◌, ◌<◌, ◌≤◌, IfSome, take_while};
 ghost use Rattle.std.specs.List.{prefix_len};
 ghost use Rattle.std.specs.Char.{is_ascii_digit};
-ghost use Rattle.gix_date.specs.Fields.{read_view};
-ghost use Rattle.gix_date.specs.Numbers.{int_value, two_digit_value, read_two_digits, read_digit, read_field, read_year};
+ghost use Rattle.gix_date.specs.Private.Views.{read_view};
+ghost use Rattle.gix_date.specs.Text.Numbers.{int_value, two_digit_value, read_two_digits, read_digit, read_field, read_year};
 
 /// The value of an optional sign and digits, where an `i64` can hold it.
 pub(crate) fn parse_int(word: &str) -> Option<i64>
@@ -40,7 +41,7 @@ pub(crate) fn parse_two_digits(tens: u8, ones: u8) -> Option<u8>
 }
 
 /// The number that two digits at the front write.
-#[tactic(auto, unfolding(crate::specs::Numbers::read_two_digits))]
+#[tactic(auto, unfolding(crate::specs::Text::Numbers::read_two_digits))]
 pub(crate) fn read_two_digits(text: &str) -> Option<(u8, &str)>
     ensures value { read_view result ≡ read_two_digits text.now }
     ensures small { IfSome result (λ found. found.0 < 100) }
@@ -55,7 +56,7 @@ pub(crate) fn read_two_digits(text: &str) -> Option<(u8, &str)>
 }
 
 /// The number that one digit at the front writes.
-#[tactic(auto, unfolding(crate::specs::Numbers::read_digit))]
+#[tactic(auto, unfolding(crate::specs::Text::Numbers::read_digit))]
 fn read_digit(text: &str) -> Option<(u8, &str)>
     ensures value { read_view result ≡ read_digit text.now }
     ensures small { IfSome result (λ found. found.0 < 100) }
@@ -67,7 +68,7 @@ fn read_digit(text: &str) -> Option<(u8, &str)>
 }
 
 /// The number that two digits at the front write, or else one.
-#[tactic(auto, unfolding(crate::specs::Numbers::read_field))]
+#[tactic(auto, unfolding(crate::specs::Text::Numbers::read_field))]
 pub(crate) fn read_field(text: &str) -> Option<(u8, &str)>
     ensures value { read_view result ≡ read_field text.now }
     ensures small { IfSome result (λ found. found.0 < 100) }
@@ -79,7 +80,7 @@ pub(crate) fn read_field(text: &str) -> Option<(u8, &str)>
 }
 
 /// The number that four digits at the front write.
-#[tactic(auto, unfolding(crate::specs::Numbers::read_year))]
+#[tactic(auto, unfolding(crate::specs::Text::Numbers::read_year))]
 pub(crate) fn read_year(text: &str) -> Option<(u16, &str)>
     ensures value { read_view result ≡ read_year text.now }
     ensures small { IfSome result (λ found. found.0 ≤ 9999) }

@@ -1,9 +1,9 @@
 //! The fields of an offset from UTC, as header lines and dates write it. Each reader has limits of its own on them.
 ghost use Rattle.std.specs.Prelude.{◌≡◌};
-ghost use Rattle.gix_date.specs.Fields.{read_view};
-ghost use Rattle.gix_date.specs.Offsets.{read_sign, last_pair, offset_fields};
+ghost use Rattle.gix_date.specs.Private.Views.{read_view};
+ghost use Rattle.gix_date.specs.Fields.Offsets.{read_sign, last_pair, offset_fields};
 
-use crate::parsing::fields::behind;
+use crate::parsing::fields::skip_char;
 use crate::parsing::numbers::{parse_two_digits, read_two_digits};
 use crate::time::{OffsetInSeconds, SECONDS_PER_HOUR};
 
@@ -26,7 +26,7 @@ pub(crate) struct OffsetFields {
 }
 
 impl OffsetFields {
-    ghost use Rattle.gix_date.specs.Offsets.{offset_of};
+    ghost use Rattle.gix_date.specs.Fields.Offsets.{offset_of};
 
     /// The offset in seconds, positive east of UTC.
     pub(crate) fn in_seconds(self) -> OffsetInSeconds
@@ -43,8 +43,8 @@ impl OffsetFields {
 
 /// Reads a whole text that is a sign, two digits of hours, two of minutes and perhaps two of seconds.
 ///
-/// `None` for any other text. Takes no memory.
-#[tactic(auto, unfolding(crate::specs::Offsets::offset_fields))]
+/// `None` for any other text.
+#[tactic(auto, unfolding(crate::specs::Fields::Offsets::offset_fields))]
 pub(crate) fn parse_offset_fields(text: &str) -> Option<OffsetFields>
     ensures { result ≡ offset_fields text.now }
 {
@@ -61,18 +61,18 @@ pub(crate) fn parse_offset_fields(text: &str) -> Option<OffsetFields>
 }
 
 /// A sign at the front.
-#[tactic(auto, unfolding(crate::specs::Offsets::read_sign))]
+#[tactic(auto, unfolding(crate::specs::Fields::Offsets::read_sign))]
 pub(crate) fn read_sign(text: &str) -> Option<(Sign, &str)>
     ensures { read_view result ≡ read_sign text.now }
 {
-    if let Some(rest) = behind('+', text) {
+    if let Some(rest) = skip_char('+', text) {
         return Some((Sign::Plus, rest));
     }
-    Some((Sign::Minus, behind('-', text)?))
+    Some((Sign::Minus, skip_char('-', text)?))
 }
 
 /// Nothing more, or two digits more.
-#[tactic(auto, unfolding(crate::specs::Offsets::last_pair))]
+#[tactic(auto, unfolding(crate::specs::Fields::Offsets::last_pair))]
 fn parse_last_pair(text: &str) -> Option<Option<u8>>
     ensures { result ≡ last_pair text.now }
 {

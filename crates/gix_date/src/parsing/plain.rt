@@ -2,20 +2,22 @@
 ghost use Rattle.std.specs.Prelude.{◌≡◌, ◌<◌, ◌^◌, IfSome, Some, length, true};
 ghost use Rattle.std.specs.Str.{all_ascii_digits};
 ghost use Rattle.std.specs.Str.Parse.{digits_value};
-ghost use Rattle.gix_date.specs.HeaderReading.{header_time, IsPlainHeader};
-ghost use Rattle.gix_date.specs.Numbers.{int_value};
+ghost use Rattle.gix_date.specs.Header.Reading.{header_time};
+ghost use Rattle.gix_date.specs.Private.Headers.{IsPlainHeader};
+ghost use Rattle.gix_date.specs.Text.Numbers.{int_value};
 
 use crate::parsing::offset::{OffsetFields, parse_offset_fields};
 use crate::time::{SecondsSinceUnixEpoch, Time};
 
 /// The most digits that are read at once: an `i64` holds any so many.
-const MOST_DIGITS: usize = 18;
+const MAX_DIGITS: usize = 18;
 
 /// The bytes of a space and of an offset such as `+0800`.
 const ZONE_BYTES: usize = 6;
 
-/// The time of a header in the form that nearly all have: a number of up to 18 digits, one space, and an offset of four digits. That is
-/// read in one pass over the bytes, without a search for words. `None` says of a text only that it has another form.
+/// The time of a header in the form that nearly all have: a number of up to 18 digits, one space, and an offset of four
+/// digits. That is read in one pass over the bytes, without a search for words. `None` says of a text only that it has
+/// another form.
 pub(crate) fn parse_plain(input: &str) -> Option<Time>
     ensures { IfSome result (λ t. header_time input.now ≡ Some t) }
 {
@@ -57,7 +59,7 @@ fn parse_short_digits(digits: &[u8]) -> Option<u64>
     ensures value { IfSome result (λ n. n ≡ digits_value 10 digits.now) }
     ensures small { IfSome result (λ n. n < 10 ^ 18) }
 {
-    if digits.is_empty() || digits.len() > MOST_DIGITS {
+    if digits.is_empty() || digits.len() > MAX_DIGITS {
         return None;
     }
     let mut value = 0;

@@ -1,7 +1,7 @@
 //! The raw form of a date, as a commit header has it, read strictly.
 ghost use Rattle.std.specs.Prelude.{◌≡◌, IfSome, Some};
 ghost use Rattle.jiff.specs.Words.{IsOffsetSeconds};
-ghost use Rattle.gix_date.specs.Raw.{raw_time_by, raw_offset_by, allows, is_quarter, is_whole_minutes};
+ghost use Rattle.gix_date.specs.Families.Raw.{raw_time_by, raw_offset_by, allows, is_raw_offset, is_wide_offset};
 
 use crate::parsing::numbers::parse_int;
 use crate::parsing::offset::{OffsetFields, parse_offset_fields};
@@ -10,13 +10,13 @@ use crate::parsing::space_words::first_words;
 use crate::time::{OffsetInSeconds, Time};
 
 /// The most hours of a raw offset, as gix-date has it.
-const MOST_HOURS: u8 = 14;
+const MAX_HOURS: u8 = 14;
 
 /// The most hours of a raw offset by the wider rule: those of a day.
-const MOST_WIDE_HOURS: u8 = 23;
+const MAX_WIDE_HOURS: u8 = 23;
 
 /// The most minutes of a raw offset by the wider rule: those of an hour.
-const MOST_MINUTES: u8 = 59;
+const MAX_MINUTES: u8 = 59;
 
 /// Which offsets a raw text may have, and the raw text of an at text.
 ///
@@ -35,21 +35,21 @@ impl RawOffsets {
         ensures { result ≡ allows self fields }
     {
         match self {
-            RawOffsets::Quarter => is_quarter(fields),
-            RawOffsets::WholeMinutes => is_whole_minutes(fields),
+            RawOffsets::Quarter => is_raw_offset(fields),
+            RawOffsets::WholeMinutes => is_wide_offset(fields),
         }
     }
 }
 
-/// Reads a raw text, as gix-date does: seconds as an optional sign and digits, and an offset as a sign, two digits of hours,
-/// two of minutes, and optionally `00` for its seconds, which the rule has to allow. White space may stand round each of the
-/// two, and nothing else.
+/// Reads a raw text, as gix-date does: seconds as an optional sign and digits, and an offset as a sign, two digits of
+/// hours, two of minutes, and optionally `00` for its seconds, which the rule has to allow. White space may stand round
+/// each of the two, and nothing else.
 ///
-/// `None` for any other text. Takes no memory.
-#[tactic(auto, unfolding(crate::specs::Raw::raw_time_by))]
+/// `None` for any other text.
+#[tactic(auto, unfolding(crate::specs::Families::Raw::raw_time_by))]
 pub(crate) fn parse_raw(input: &str, raw: RawOffsets) -> Option<Time>
     ensures time { result ≡ raw_time_by (allows raw) input.now }
-    ensures short { IfSome result (λ t. IsOffsetSeconds t.offset) }
+    ensures offset_fits { IfSome result (λ t. IsOffsetSeconds t.offset) }
 {
     let (first, second) = first_words(input)?;
     let second = second?;
@@ -58,11 +58,11 @@ pub(crate) fn parse_raw(input: &str, raw: RawOffsets) -> Option<Time>
     Some(Time::new(seconds, offset))
 }
 
-/// The time of a raw text in the form that nearly all have, as [`parse_plain_fields`] reads it. `None` says of a text only that it has
-/// another form, or an offset that the rule does not allow.
+/// The time of a raw text in the form that nearly all have, as [`parse_plain_fields`] reads it. `None` says of a text
+/// only that it has another form, or an offset that the rule does not allow.
 pub(crate) fn parse_plain_raw(input: &str, raw: RawOffsets) -> Option<Time>
     ensures time { IfSome result (λ t. raw_time_by (allows raw) input.now ≡ Some t) }
-    ensures short { IfSome result (λ t. IsOffsetSeconds t.offset) }
+    ensures offset_fits { IfSome result (λ t. IsOffsetSeconds t.offset) }
 {
     let (seconds, fields) = parse_plain_fields(input)?;
     if raw.allows(fields) {
@@ -73,10 +73,10 @@ pub(crate) fn parse_plain_raw(input: &str, raw: RawOffsets) -> Option<Time>
 }
 
 /// The offset of a raw text.
-#[tactic(auto, unfolding(crate::specs::Raw::raw_offset_by))]
+#[tactic(auto, unfolding(crate::specs::Families::Raw::raw_offset_by))]
 fn parse_raw_offset(word: &str, raw: RawOffsets) -> Option<OffsetInSeconds>
     ensures offset { result ≡ raw_offset_by (allows raw) word.now }
-    ensures short { IfSome result (λ offset. IsOffsetSeconds offset) }
+    ensures offset_fits { IfSome result (λ offset. IsOffsetSeconds offset) }
 {
     let fields = parse_offset_fields(word)?;
     if raw.allows(fields) {
@@ -87,19 +87,19 @@ fn parse_raw_offset(word: &str, raw: RawOffsets) -> Option<OffsetInSeconds>
 }
 
 /// Whether the fields are quarters of an hour, up to 14:45.
-fn is_quarter(fields: OffsetFields) -> bool
-    ensures { result ≡ is_quarter fields }
+fn is_raw_offset(fields: OffsetFields) -> bool
+    ensures { result ≡ is_raw_offset fields }
 {
-    fields.hours <= MOST_HOURS
+    fields.hours <= MAX_HOURS
         && matches!(fields.minutes, 0 | 15 | 30 | 45)
         && fields.seconds.unwrap_or(0) == 0
 }
 
 /// Whether the fields are whole minutes, up to 23:59.
-fn is_whole_minutes(fields: OffsetFields) -> bool
-    ensures { result ≡ is_whole_minutes fields }
+fn is_wide_offset(fields: OffsetFields) -> bool
+    ensures { result ≡ is_wide_offset fields }
 {
-    fields.hours <= MOST_WIDE_HOURS
-        && fields.minutes <= MOST_MINUTES
+    fields.hours <= MAX_WIDE_HOURS
+        && fields.minutes <= MAX_MINUTES
         && fields.seconds.unwrap_or(0) == 0
 }

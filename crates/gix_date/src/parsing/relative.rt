@@ -1,12 +1,15 @@
 //! Relative texts: `yesterday`, `2 weeks ago`, `1 month 2 days ago`.
 ghost use Rattle.std.specs.Prelude.{◌≡◌, pos, IfOk, IfSome, option_map};
-ghost use Rattle.gix_date.specs.Zoned.{whole_seconds};
-ghost use Rattle.jiff.specs.Words.{zoned_nanos, offset_at, KeepsZone, IsOffsetSeconds};
-ghost use Rattle.gix_date.specs.Relative.{named_date, relative_date, Reckons, Reaches};
-ghost use Rattle.gix_date.specs.Views.{date_of};
-ghost use Rattle.gix_date.specs.RelativePairs.{pairs_read};
-ghost use Rattle.gix_date.specs.RelativeSteps.{IsAt, zone_of, Chain};
-ghost use Rattle.gix_date.specs.RelativeWords.{relative_words};
+ghost use Rattle.std.specs.Str.{trim};
+ghost use Rattle.gix_date.specs.Printing.Zoned.{whole_seconds};
+ghost use Rattle.jiff.specs.Words.{zoned_nanos, fixed_zone, offset_at, KeepsZone, IsOffsetSeconds};
+ghost use Rattle.gix_date.specs.Relative.Dates.{named_date, relative_date, RelativeOutcome, Reaches};
+ghost use Rattle.gix_date.specs.Private.Names.{begins_no_name, IsNamedIfAny};
+ghost use Rattle.gix_date.specs.Private.Views.{relative_date_of};
+ghost use Rattle.gix_date.specs.Private.RelativePairs.{pairs_read};
+ghost use Rattle.gix_date.specs.Relative.Steps.{zone_of, Chain};
+ghost use Rattle.gix_date.specs.Private.Steps.{ChooseAlike, IsAt, IsAtInstant};
+ghost use Rattle.gix_date.specs.Relative.Words.{relative_words};
 
 use crate::error::Error;
 use crate::parsing::relative::pairs::next_pair;
@@ -14,8 +17,10 @@ use crate::parsing::relative::scan::are_pairs;
 use crate::parsing::relative::steps::{earlier, settle, subtract};
 use crate::parsing::relative::words::SECONDS_PER_DAY;
 use crate::time::Time;
-use jiff::Zoned;
+use jiff::tz::Offset;
+use jiff::{Timestamp, Zoned};
 
+mod fixed;
 mod pairs;
 mod scan;
 mod steps;
@@ -30,13 +35,13 @@ pub(crate) enum Relative<'a> {
     Pairs(&'a str),
 }
 
-/// What a text asks for, where it is relative: white space aside `now`, `today` or `yesterday` in any letter case, or pairs
-/// of counts and periods (`2 days 3 hours ago`).
-#[tactic(auto, unfolding(crate::specs::Relative::relative_date, crate::specs::Relative::pairs_date))]
-pub(crate) fn parse(input: &str) -> Option<Relative<'_>>
-    ensures { option_map date_of result ≡ relative_date input.now }
+/// What a text asks for, where it is relative: white space aside `now`, `today` or `yesterday` in any letter case, or
+/// pairs of counts and periods (`2 days 3 hours ago`).
+#[tactic(auto, unfolding(crate::specs::Relative::Dates::relative_date, crate::specs::Relative::Dates::pairs_date))]
+pub(crate) fn parse_relative(input: &str) -> Option<Relative<'_>>
+    ensures { option_map relative_date_of result ≡ relative_date input.now }
 {
-    if let Some(date) = parse_named(input.trim()) {
+    if let Some(date) = parse_name(input) {
         return Some(date);
     }
     if are_pairs(input) {
@@ -45,10 +50,33 @@ pub(crate) fn parse(input: &str) -> Option<Relative<'_>>
     None
 }
 
+/// What a name alone asks for. Most texts begin with a byte that begins none.
+fn parse_name(input: &str) -> Option<Relative<'static>>
+    ensures { option_map relative_date_of result ≡ named_date (trim input.now) }
+{
+    if begins_no_name(input.as_bytes()) {
+        return None;
+    }
+    parse_named(input.trim())
+}
+
+#[tactic(auto, unfolding(crate::specs::Private::Names::begins_no_name))]
+fn begins_no_name(text: &[u8]) -> bool
+    ensures { result ≡ begins_no_name text.now }
+{
+    match text {
+        [first, ..] => {
+            let lower = first.to_ascii_lowercase();
+            first.is_ascii_alphanumeric() && lower != b'n' && lower != b't' && lower != b'y'
+        }
+        _ => false,
+    }
+}
+
 /// What a name asks for.
-#[tactic(auto, unfolding(crate::specs::Relative::named_date))]
+#[tactic(auto, unfolding(crate::specs::Relative::Dates::named_date))]
 fn parse_named(name: &str) -> Option<Relative<'static>>
-    ensures { option_map date_of result ≡ named_date name.now }
+    ensures { option_map relative_date_of result ≡ named_date name.now }
 {
     if name.eq_ignore_ascii_case("now") || name.eq_ignore_ascii_case("today") {
         Some(Relative::Before(0))
@@ -64,21 +92,61 @@ impl<'a> Relative<'a> {
     ///
     /// [`Error::MissingNow`] without a moment, and [`Error::Range`] where there is no such time.
     pub(crate) fn time(self, now: Option<Zoned<'_>>) -> Result<Time, Error>
-        ensures reckons { Reckons (date_of self.entry) now.entry result }
-        ensures short { IfOk result (λ t. IsOffsetSeconds t.offset) }
+        ensures outcome { RelativeOutcome (relative_date_of self.entry) now.entry result }
+        ensures offset_fits { IfOk result (λ t. IsOffsetSeconds t.offset) }
     {
         let Some(moment) = now else {
             return Err(Error::MissingNow);
         };
-        match self.instant(moment) {
-            Some(instant) => Ok(time_of(instant)),
+        match self.time_from(moment) {
+            Some(time) => Ok(time),
             None => Err(Error::Range),
+        }
+    }
+
+    /// The time that is asked for from a moment. A zone of one offset is told by its offset, which takes far less time.
+    fn time_from(self, moment: Zoned<'_>) -> Option<Time>
+        ensures named { IsNamedIfAny (relative_date_of self.entry) moment.entry result }
+        ensures offset_fits { IfSome result (λ t. IsOffsetSeconds t.offset) }
+    {
+        match moment.time_zone().to_fixed_offset() {
+            Ok(offset) => self.time_at(moment, offset),
+            Err(_) => self.time_in(moment),
+        }
+    }
+
+    /// The time that is asked for from a moment in any zone.
+    fn time_in(self, moment: Zoned<'_>) -> Option<Time>
+        ensures named { IsNamedIfAny (relative_date_of self.entry) moment.entry result }
+        ensures offset_fits { IfSome result (λ t. IsOffsetSeconds t.offset) }
+    {
+        let instant = self.instant(moment)?;
+        Some(time_of(instant))
+    }
+
+    /// The time that is asked for from a moment whose zone has this offset alone.
+    fn time_at(self, moment: Zoned<'_>, offset: Offset) -> Option<Time>
+        requires { ChooseAlike (zone_of moment) (fixed_zone offset) }
+        ensures named { IsNamedIfAny (relative_date_of self.entry) moment.entry result }
+        ensures offset_fits { IfSome result (λ t. IsOffsetSeconds t.offset) }
+    {
+        let instant = self.instant_at(moment.timestamp(), offset)?;
+        Some(Time::new(instant.as_second(), offset.seconds()))
+    }
+
+    /// The instant that is asked for, in a zone that has this offset alone.
+    fn instant_at(self, instant: Timestamp, offset: Offset) -> Option<Timestamp>
+        ensures { IsAtInstant (Reaches (relative_date_of self.entry) (fixed_zone offset) instant.nanosecond) result }
+    {
+        match self {
+            Relative::Before(seconds) => fixed::subtract_seconds(instant, seconds),
+            Relative::Pairs(text) => fixed::subtract_pairs(instant, offset, text),
         }
     }
 
     /// The instant that is asked for, in the moment's zone.
     fn instant<'z>(self, moment: Zoned<'z>) -> Option<Zoned<'z>>
-        ensures reaches { IsAt (Reaches (date_of self.entry) (zone_of moment.entry) (zoned_nanos moment.entry)) result }
+        ensures reaches { IsAt (Reaches (relative_date_of self.entry) (zone_of moment.entry) (zoned_nanos moment.entry)) result }
         ensures zone { IfSome result (KeepsZone moment.entry) }
     {
         match self {
@@ -95,9 +163,9 @@ fn subtract_pairs<'a>(start: Zoned<'a>, text: &str) -> Option<Zoned<'a>>
 {
     let mut moment = start;
     let mut rest = text;
-    while let Some((pair, behind)) = next_pair(rest) {
+    while let Some((pair, after)) = next_pair(rest) {
         moment = subtract(moment, pair)?;
-        rest = behind;
+        rest = after;
     }
     Some(moment)
 }
@@ -106,7 +174,7 @@ fn subtract_pairs<'a>(start: Zoned<'a>, text: &str) -> Option<Zoned<'a>>
 fn time_of(moment: Zoned<'_>) -> Time
     ensures seconds { result.seconds ≡ whole_seconds (zoned_nanos moment.entry) }
     ensures offset { result.offset ≡ offset_at (zone_of moment.entry) (zoned_nanos moment.entry) }
-    ensures short { IsOffsetSeconds result.offset }
+    ensures offset_fits { IsOffsetSeconds result.offset }
 {
     Time::new(moment.timestamp().as_second(), moment.offset().seconds())
 }

@@ -1,8 +1,9 @@
 //! The shapes of texts, which tell the families that can hold a text.
 ghost use Rattle.std.specs.Prelude.{◌≡◌, is_some};
 ghost use Rattle.std.specs.List.{list_all};
-ghost use Rattle.gix_date.specs.Shapes.{begins_with_at, are_four_digits, are_two_digits, begins_with_marked_day, begins_with_compact_day, begins_with_letter, begins_with_year, shape_by_front, shape_of};
-ghost use Rattle.gix_date.specs.Numbers.{int_value, is_number_byte};
+ghost use Rattle.gix_date.specs.Families.Shapes.{begins_with_at, are_four_digits, are_two_digits, begins_with_marked_day, begins_with_compact_day, begins_with_letter, shape_of};
+ghost use Rattle.gix_date.specs.Private.Shapes.{begins_with_year, begins_with_count, begins_without_comma, shape_by_front, is_number_byte};
+ghost use Rattle.gix_date.specs.Text.Numbers.{int_value};
 
 use crate::parsing::numbers::parse_int;
 
@@ -35,7 +36,7 @@ impl Shape {
 }
 
 /// The shape of a text, where the whole text is looked at only if its front does not tell.
-#[tactic(auto, unfolding(crate::specs::Shapes::shape_by_front))]
+#[tactic(auto, unfolding(crate::specs::Private::Shapes::shape_by_front))]
 fn shape_by_front(text: &str) -> Shape
     ensures { result ≡ shape_by_front text.now }
 {
@@ -72,14 +73,14 @@ fn has_number_bytes(text: &str) -> bool
         .all(|b| b.is_ascii_digit() || b == b'+' || b == b'-')
 }
 
-#[tactic(auto, unfolding(crate::specs::Shapes::begins_with_at))]
+#[tactic(auto, unfolding(crate::specs::Families::Shapes::begins_with_at))]
 fn begins_with_at(text: &[u8]) -> bool
     ensures { result ≡ begins_with_at text.now }
 {
     matches!(text, [b'@', ..])
 }
 
-#[tactic(auto, unfolding(crate::specs::Shapes::begins_with_letter))]
+#[tactic(auto, unfolding(crate::specs::Families::Shapes::begins_with_letter))]
 fn begins_with_letter(text: &[u8]) -> bool
     ensures { result ≡ begins_with_letter text.now }
 {
@@ -90,7 +91,7 @@ fn begins_with_letter(text: &[u8]) -> bool
 }
 
 /// Whether a text begins with four digits, this mark, two digits and the mark again.
-#[tactic(auto, unfolding(crate::specs::Shapes::begins_with_marked_day))]
+#[tactic(auto, unfolding(crate::specs::Families::Shapes::begins_with_marked_day))]
 fn begins_with_marked_day(mark: u8, text: &[u8]) -> bool
     ensures { result ≡ begins_with_marked_day mark text.now }
 {
@@ -106,7 +107,7 @@ fn begins_with_marked_day(mark: u8, text: &[u8]) -> bool
 }
 
 /// Whether a text begins with four digits and `-`.
-#[tactic(auto, unfolding(crate::specs::Shapes::begins_with_year))]
+#[tactic(auto, unfolding(crate::specs::Private::Shapes::begins_with_year))]
 pub(crate) fn begins_with_year(text: &[u8]) -> bool
     ensures { result ≡ begins_with_year text.now }
 {
@@ -116,8 +117,30 @@ pub(crate) fn begins_with_year(text: &[u8]) -> bool
     }
 }
 
+/// Whether a text begins with a number of one or two digits and a space, as `2 weeks ago` does and no form of Git's.
+#[tactic(auto, unfolding(crate::specs::Private::Shapes::begins_with_count))]
+pub(crate) fn begins_with_count(text: &[u8]) -> bool
+    ensures { result ≡ begins_with_count text.now }
+{
+    match text {
+        [a, b, c, ..] => a.is_ascii_digit() && (*b == b' ' || b.is_ascii_digit() && *c == b' '),
+        _ => false,
+    }
+}
+
+/// Whether a text begins with a letter and has no comma after its third byte, where mail has one after a day's name.
+#[tactic(auto, unfolding(crate::specs::Private::Shapes::begins_without_comma))]
+pub(crate) fn begins_without_comma(text: &[u8]) -> bool
+    ensures { result ≡ begins_without_comma text.now }
+{
+    match text {
+        [first, _, _, fourth, ..] => first.is_ascii_alphabetic() && *fourth != b',',
+        _ => false,
+    }
+}
+
 /// Whether a text begins with eight digits and `T`.
-#[tactic(auto, unfolding(crate::specs::Shapes::begins_with_compact_day))]
+#[tactic(auto, unfolding(crate::specs::Families::Shapes::begins_with_compact_day))]
 fn begins_with_compact_day(text: &[u8]) -> bool
     ensures { result ≡ begins_with_compact_day text.now }
 {

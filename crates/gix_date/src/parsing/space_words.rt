@@ -1,10 +1,11 @@
 //! The words of a text that stand between white space.
 ghost use Rattle.std.specs.Prelude.{◌≡◌};
-ghost use Rattle.gix_date.specs.SpaceWords.{space_words, first_words, words_view};
+ghost use Rattle.gix_date.specs.Text.SpaceWords.{space_words, first_words};
+ghost use Rattle.gix_date.specs.Private.Views.{words_view};
 
 /// The first word of a text, and the second where the two are all. `None` where there is no word.
 ///
-/// Words stand between Unicode white space. Takes no memory.
+/// Words stand between Unicode white space.
 pub(crate) fn first_words(text: &str) -> Option<(&str, Option<&str>)>
     ensures { words_view result ≡ first_words (space_words text.now) }
 {

@@ -1,16 +1,18 @@
 //! Formats of a time by their names, and times as values of `jiff`.
 //!
-//! [`parse`](crate::parse) reads what these print of a year of four digits and an offset of whole minutes up to 23:59: of [`SHORT`] the
-//! midnight in UTC of that day, of [`UNIX`] from 100000000 on, and of [`RAW`] offsets in quarters of an hour up to 14:45;
-//! [`parse_with`](crate::parse_with) reads those of whole minutes up to 23:59. The day `9999-12-31`, which [`SHORT`] prints of
-//! 253402207200 at +0200, is refused by `DateConversion`: its midnight in UTC is no instant.
+//! [`parse`](crate::parse) reads what these print of a year of four digits and an offset of whole minutes up to 23:59:
+//! of [`SHORT`] the midnight in UTC of that day, of [`UNIX`] from 100000000 on, and of [`RAW`] offsets in quarters of
+//! an hour up to 14:45; [`parse_with`](crate::parse_with) reads those of whole minutes up to 23:59. The day
+//! `9999-12-31`, which [`SHORT`] prints of 253402207200 at +0200, is refused by `DateConversion`: its midnight in UTC
+//! is no instant.
 ghost use Rattle.std.specs.Prelude.{◌≡◌, ◌↔◌, ◌⊎◌, Some, Err, option_map, IsTrue, IsOk, IfOk, IfErr, string_bytes};
 ghost use Rattle.jiff.specs.Words.{plain_zoned};
 ghost use Rattle.jiff.specs.ZonedText.{zoned_parts};
 ghost use Rattle.jiff_core.specs.Date.{weekday_of};
 ghost use Rattle.jiff_strtime.specs.Text.{parts_of};
 ghost use Rattle.jiff_core.specs.declared.error.Error.TheVariants as jiff_errors;
-ghost use Rattle.gix_date.specs.Printed.{Prints, PrintsOrSeconds, PrintsAt, PrintsBy, PrintsHeader, PrintsSeconds};
+ghost use Rattle.gix_date.specs.Printing.Formats.{Prints, PrintsOrSeconds, PrintsBy, PrintsHeader, PrintsSeconds};
+ghost use Rattle.gix_date.specs.Private.Printing.{PrintsAt};
 ghost use Rattle.gix_date.specs.declared.error.Error.TheVariants as errors;
 
 use crate::error::Error;
@@ -40,7 +42,7 @@ pub struct CustomFormat {
 impl CustomFormat {
     ghost use Rattle.std.specs.Prelude.{◌≡◌};
 
-    /// The format of this pattern, whether or not it can be printed. Takes no memory.
+    /// The format of this pattern, whether or not it can be printed.
     pub const fn new(format: &'static str) -> CustomFormat
         ensures { result.pattern.now ≡ format.now }
     {
@@ -53,7 +55,7 @@ impl From<CustomFormat> for Format {
 
     ghost from_gives = { λ format result. result ≡ Custom format };
 
-    /// The format by that pattern. Takes no memory.
+    /// The format by that pattern.
     fn from(format: CustomFormat) -> Format {
         Format::Custom(format)
     }
@@ -69,7 +71,8 @@ pub const RFC2822: CustomFormat = CustomFormat {
     pattern: "%a, %d %b %Y %H:%M:%S %z",
 };
 
-/// A date as in mail, with no zero before the day, as Git prints it (`git log --pretty=%aD`): `Mon, 8 Aug 2022 12:45:06 +0800`.
+/// A date as in mail, with no zero before the day, as Git prints it (`git log --pretty=%aD`): `Mon, 8 Aug 2022 12:45:06
+/// +0800`.
 pub const GIT_RFC2822: CustomFormat = CustomFormat {
     pattern: "%a, %-d %b %Y %H:%M:%S %z",
 };
@@ -112,14 +115,16 @@ fn printing_fault(error: jiff::Error) -> Error
 }
 
 /// The parts that are printed, with the abbreviation and the name of the zone.
-fn parts_of<'t>(
+fn broken_down_time<'t>(
     moment: &Zoned<'_>,
     abbreviation: &'t str,
     name: Option<&'t str>,
 ) -> BrokenDownTime<'t>
     ensures { parts_of result
-        ≡ record (zoned_parts (plain_zoned moment.now).datetime (plain_zoned moment.now).offset (plain_zoned moment.now).timestamp
-        abbreviation.now (option_map (λ s. s.now) name.entry)) { weekday = Some (weekday_of (plain_zoned moment.now).datetime.date) } }
+        ≡ record (zoned_parts (plain_zoned moment.now).datetime (plain_zoned moment.now).offset
+        (plain_zoned moment.now).timestamp
+        abbreviation.now (option_map (λ s. s.now) name.entry))
+        { weekday = Some (weekday_of (plain_zoned moment.now).datetime.date) } }
 {
     let plain = moment.to_plain();
     BrokenDownTime {
@@ -132,14 +137,15 @@ fn parts_of<'t>(
     }
 }
 
-/// What `jiff`'s strict printer shows by a pattern. The day of the week is told, since the printer promises none by itself.
-fn printed(alloc: Global, pattern: &str, moment: &Zoned<'_>) -> Result<String, Error>
+/// What `jiff`'s strict printer shows by a pattern. The day of the week is told, since the printer promises none by
+/// itself.
+fn pattern_text(alloc: Global, pattern: &str, moment: &Zoned<'_>) -> Result<String, Error>
     ensures { PrintsAt pattern.now (plain_zoned moment.now) result }
 {
     let plain = moment.to_plain();
     let info = plain.time_zone.to_offset_info(plain.timestamp);
     let (abbreviation, name) = (info.abbreviation.as_str(), plain.time_zone.iana_name());
-    let parts = parts_of(moment, abbreviation, name);
+    let parts = broken_down_time(moment, abbreviation, name);
     match to_string(alloc, Config::new(), pattern.as_bytes(), &parts) {
         Ok(text) => Ok(text),
         Err(error) => Err(printing_fault(error)),
@@ -153,7 +159,7 @@ fn is_memory(error: &Error) -> bool
 }
 
 /// A copy of a text.
-fn owned(alloc: Global, text: &str) -> Result<String, Error>
+fn copy_text(alloc: Global, text: &str) -> Result<String, Error>
     ensures text { IfOk result (λ copy. string_bytes copy ≡ text.now) }
     ensures memory { IfErr result (λ e. e ≡ errors.Memory) }
 {
@@ -165,15 +171,15 @@ fn owned(alloc: Global, text: &str) -> Result<String, Error>
 
 impl Time {
     ghost use Rattle.std.specs.Prelude.{◌≡◌};
-    ghost use Rattle.gix_date.specs.Zoned.{IsConvertible, IsMoment};
+    ghost use Rattle.gix_date.specs.Printing.Zoned.{IsConvertible, IsMoment};
     ghost use Rattle.gix_date.specs.declared.error.Error.TheVariants.{Conversion};
 
-    /// The text of this time in a format: the seconds in decimal, the text of a commit header, or what `jiff`'s strict printer shows
-    /// of [`Time::to_zoned`] by the pattern.
+    /// The text of this time in a format: the seconds in decimal, the text of a commit header, or what `jiff`'s strict
+    /// printer shows of [`Time::to_zoned`] by the pattern.
     ///
-    /// [`Error::OffsetTooWide`] where a time has no header text, [`Error::Conversion`] where `to_zoned` refuses, both before any memory
-    /// is taken; [`Error::Pattern`] where the printer refuses the pattern, or what it shows is no UTF-8; [`Error::Memory`] where memory
-    /// for the text is refused.
+    /// [`Error::OffsetTooWide`] where a time has no header text, [`Error::Conversion`] where `to_zoned` refuses, both
+    /// before any memory is taken; [`Error::Pattern`] where the printer refuses the pattern, or what it shows is no
+    /// UTF-8; [`Error::Memory`] where memory for the text is refused.
     pub fn format(&self, alloc: Global, format: Format) -> Result<String, Error>
         ensures { Prints self.now format result }
     {
@@ -184,8 +190,8 @@ impl Time {
         }
     }
 
-    /// The text of [`Time::format`], or the seconds in decimal for a time that has none in that format: where `format` answers
-    /// [`Error::Conversion`], [`Error::OffsetTooWide`] or [`Error::Pattern`].
+    /// The text of [`Time::format`], or the seconds in decimal for a time that has none in that format: where `format`
+    /// answers [`Error::Conversion`], [`Error::OffsetTooWide`] or [`Error::Pattern`].
     ///
     /// The one refusal is [`Error::Memory`], where memory for the text is refused.
     pub fn format_or_unix(&self, alloc: Global, format: Format) -> Result<String, Error>
@@ -201,7 +207,7 @@ impl Time {
     fn unix_seconds(self, alloc: Global) -> Result<String, Error>
         ensures { PrintsSeconds self result }
     {
-        owned(alloc, itoa::Buffer::new().format(self.seconds))
+        copy_text(alloc, itoa::Buffer::new().format(self.seconds))
     }
 
     fn header(self, alloc: Global) -> Result<String, Error>
@@ -210,19 +216,19 @@ impl Time {
         let Some(text) = header_text(self) else {
             return Err(Error::OffsetTooWide);
         };
-        owned(alloc, text.as_str())
+        copy_text(alloc, text.as_str())
     }
 
     fn by_pattern(self, alloc: Global, pattern: &str) -> Result<String, Error>
         ensures { PrintsBy self pattern.now result }
     {
-        printed(alloc, pattern, &self.to_zoned()?)
+        pattern_text(alloc, pattern, &self.to_zoned()?)
     }
 
     /// This instant, in the zone that always has this offset.
     ///
     /// [`Error::Conversion`] where the offset is beyond 93599 seconds (25:59:59) either way, or the seconds are outside
-    /// -377705023201 to 253402207200, the instants of `jiff`, and nowhere else. Takes no memory.
+    /// -377705023201 to 253402207200, the instants of `jiff`, and nowhere else.
     pub fn to_zoned(self) -> Result<Zoned<'static>, Error>
         ensures succeeds { IsOk result ↔ IsConvertible self }
         ensures value { IfOk result (IsMoment self) }

@@ -2,8 +2,8 @@
 ghost use Rattle.std.specs.Prelude.{◌≡◌, ◌+◌, ◌<◌, ◌≤◌, ◌++◌, length, None, Err, IfSome, option_map};
 ghost use Rattle.std.specs.Fmt.{decimal, fmt_error, DisplaysOnOk, DisplaysStyledOnOk};
 ghost use Rattle.arrayvec.specs.ArrayString.{array_string_len};
-ghost use Rattle.gix_date.specs.Numbers.{decimal_text, two_digits};
-ghost use Rattle.gix_date.specs.HeaderText.{header_text, longest_text, Writes};
+ghost use Rattle.gix_date.specs.Text.Numbers.{decimal_text, two_digits};
+ghost use Rattle.gix_date.specs.Header.Text.{header_text, max_text_len, Writes};
 
 use crate::device::{Sink, put_all};
 use crate::error::Error;
@@ -15,11 +15,11 @@ use std::fmt;
 const HUNDRED_HOURS: u32 = 100 * SECONDS_PER_HOUR as u32;
 
 /// The most bytes that the text of a time has: those of the least seconds with an offset.
-pub(crate) const LONGEST_TEXT: usize = 26;
+pub(crate) const MAX_TEXT_LEN: usize = 26;
 
 impl Time {
-    /// The greatest seconds with the greatest offset that has a text, 99:59:59 east of UTC. Another time can lie beyond,
-    /// since an offset can be any number.
+    /// The greatest seconds with the greatest offset that has a text, 99:59:59 east of UTC. Another time can lie
+    /// beyond, since an offset can be any number.
     pub const MAX: Time = Time {
         seconds: SecondsSinceUnixEpoch::MAX,
         offset: 359_999,
@@ -35,8 +35,8 @@ impl Time {
     /// of hours and two of minutes (`1660874655 +0800`). What the offset has beyond whole minutes is dropped.
     ///
     /// An offset of 100 hours or more, either way, is refused by [`Error::OffsetTooWide`] before a byte is written.
-    /// [`Error::Write`] carries the writer's fault, and then a proper prefix of the text was taken. There are at most 26
-    /// calls of [`Sink::put`] and no flush. Takes no memory of its own.
+    /// [`Error::Write`] carries the writer's fault, and then a proper prefix of the text was taken. There are at most
+    /// 26 calls of [`Sink::put`] and no flush. Takes no memory of its own.
     pub fn write_to<W: Sink>(&self, out: &mut W) -> Result<(), Error>
         ensures { Writes self.now (W.known out.old) (W.known out.new) result }
     {
@@ -45,11 +45,11 @@ impl Time {
     }
 
     /// How many bytes [`Time::write_to`] writes, at most 26: the digits of the seconds, 1 more where they are negative,
-    /// and 6. Where the offset is too wide to be written, the number is the same as for an offset that is not. Takes no memory.
+    /// and 6. Where the offset is too wide to be written, the number is the same as for an offset that is not.
     pub const fn size(&self) -> usize
         ensures digits { result ≡ length (decimal_text self.now.seconds) + 6 }
         ensures text { IfSome (header_text self.now) (λ text. result ≡ length text) }
-        ensures most { result ≤ longest_text }
+        ensures most { result ≤ max_text_len }
     {
         let digits = decimal_len(self.seconds.unsigned_abs());
         if self.seconds < 0 {
@@ -60,8 +60,8 @@ impl Time {
     }
 }
 
-/// Shows the text that [`Time::write_to`] writes, in one piece. The formatting fault where there is none, and then nothing
-/// is written. Takes no memory.
+/// Shows the text that [`Time::write_to`] writes, in one piece. The formatting fault where there is none, and then
+/// nothing is written.
 impl fmt::Display for Time {
     ghost output = { header_text };
 
@@ -93,8 +93,8 @@ const fn decimal_len(n: u64) -> usize
 }
 
 /// The header text of a time, where its offset is short of 100 hours.
-#[tactic(auto, unfolding(crate::specs::HeaderText::header_text))]
-pub(crate) fn header_text(time: Time) -> Option<ArrayString<LONGEST_TEXT>>
+#[tactic(auto, unfolding(crate::specs::Header::Text::header_text))]
+pub(crate) fn header_text(time: Time) -> Option<ArrayString<MAX_TEXT_LEN>>
     ensures { option_map (λ text. text.bytes) result ≡ header_text time }
 {
     let distance = time.offset.unsigned_abs();
@@ -110,9 +110,9 @@ pub(crate) fn header_text(time: Time) -> Option<ArrayString<LONGEST_TEXT>>
     Some(text)
 }
 
-fn push_two_digits(text: &mut ArrayString<LONGEST_TEXT>, n: u32)
+fn push_two_digits(text: &mut ArrayString<MAX_TEXT_LEN>, n: u32)
     requires small { n < 100 }
-    requires room { array_string_len text.old + 2 ≤ LONGEST_TEXT }
+    requires room { array_string_len text.old + 2 ≤ MAX_TEXT_LEN }
     ensures { text.new.bytes ≡ text.old.bytes ++ two_digits n }
 {
     text.push(char::from(b'0' + (n / 10) as u8));

@@ -1,4 +1,4 @@
-use Rattle.gix_date.specs.Raw.{allows}
+use Rattle.gix_date.specs.Families.Raw.{allows}
 use Rattle.gix_date.proofs.Disjoint.{are-disjoint}
 use Rattle.gix_date.proofs.PrintedBack.{are-read-back}
 use Rattle.gix_date.proofs.laws.headline_with.Goals as goal

@@ -1,15 +1,8 @@
-use Rattle.gix_date.specs.Raw.{is_whole_minutes}
-use Rattle.gix_date.proofs.Exclusive.{plain-ignores, raw-ignores, epoch-ignores, git-ignores}
+use Rattle.gix_date.specs.Families.Raw.{is_wide_offset}
+use Rattle.gix_date.proofs.Exclusive.{ignores}
 use Rattle.gix_date.proofs.laws.ignores_moment_wide.Goals as goal
 
-pub returns-clause-raw : goal.returns-clause-raw
-returns-clause-raw c = raw-ignores is_whole_minutes c.args.text.now c.utf8.text
-
-pub returns-clause-epoch : goal.returns-clause-epoch
-returns-clause-epoch c = epoch-ignores is_whole_minutes c.args.text.now c.utf8.text
-
-pub returns-clause-git : goal.returns-clause-git
-returns-clause-git c = git-ignores is_whole_minutes c.args.text.now c.utf8.text
-
-pub returns-clause-plain : goal.returns-clause-plain
-returns-clause-plain c = plain-ignores is_whole_minutes c.args.text.now
+pub returns : goal.returns
+returns c =
+    let all = ignores is_wide_offset c.args.text.now c.utf8.text in
+    record { plain = all.0; raw = all.1; epoch = all.2; git = all.3 }

@@ -1,5 +1,5 @@
 use Rattle.jiff.specs.Words.{plain_zoned, zoned_nanos}
-use Rattle.gix_date.specs.RelativeSteps.{zone_of}
+use Rattle.gix_date.specs.Relative.Steps.{zone_of}
 use Rattle.gix_date.proofs.FixedZones.{months-law, all-months-loss}
 use Rattle.gix_date.proofs.Steps.{shows-local}
 use Rattle.gix_date.proofs.laws.months_add.Goals as goal

@@ -1,4 +1,4 @@
-use Rattle.gix_date.specs.NamedTexts.{short_pattern, short_text, rfc2822_pattern, rfc2822_text, git_rfc2822_pattern, git_rfc2822_text, iso8601_pattern, iso8601_text, iso8601_strict_pattern, iso8601_strict_text, gitoxide_pattern, gitoxide_text, default_pattern, default_text}
+use Rattle.gix_date.specs.Printing.NamedTexts.{short_pattern, short_text, rfc2822_pattern, rfc2822_text, git_rfc2822_pattern, git_rfc2822_text, iso8601_pattern, iso8601_text, iso8601_strict_pattern, iso8601_strict_text, gitoxide_pattern, gitoxide_text, default_pattern, default_text}
 use Rattle.gix_date.proofs.NamedTexts.{formats_printed}
 use Rattle.gix_date.proofs.PrintedTimes.{printed-as}
 use Rattle.gix_date.proofs.laws.printed.Goals as goal

@@ -1,8 +1,8 @@
 use Rattle.std.proofs.Common.{◌≡◌, ◌∙◌, pos, unsigned_abs, ap, sym}
 use Rattle.std.proofs.lemmas.List.Sorted.{All-permutation, IsPermutation-sym, sum_by-IsPermutation}
 use Rattle.jiff.specs.Words.{plain_zoned, zoned_nanos}
-use Rattle.gix_date.specs.FixedZones.{ProductFits, product, total}
-use Rattle.gix_date.specs.RelativeSteps.{zone_of}
+use Rattle.gix_date.specs.Relative.FixedZones.{ProductFits, product, total}
+use Rattle.gix_date.specs.Relative.Steps.{zone_of}
 use Rattle.gix_date.proofs.FixedZones.{IsLoss, total-sum_by, seconds-law, same-seconds, all-seconds-loss}
 use Rattle.gix_date.proofs.laws.seconds_permute.Goals as goal
 

@@ -2,21 +2,21 @@
 ghost use Rattle.std.specs.Prelude.{◌≡◌, ◌<◌, ◌≤◌, IfSome};
 ghost use Rattle.std.specs.Char.{is_ascii, is_ascii_digit};
 ghost use Rattle.std.specs.List.{list_all, before_first};
-ghost use Rattle.gix_date.specs.Characters.{is_colon, is_dot};
-ghost use Rattle.gix_date.specs.Civil.{ClockFits};
-ghost use Rattle.gix_date.specs.Fields.{read_view};
-ghost use Rattle.gix_date.specs.GitClock.{digits_at_most, clock_of, clock_with_colons, read_pair_or_end, clock_without_colons, trimmed_clock, git_clock};
+ghost use Rattle.gix_date.specs.Text.Characters.{is_colon, is_dot};
+ghost use Rattle.gix_date.specs.Private.Civil.{ClockFits};
+ghost use Rattle.gix_date.specs.Private.Views.{read_view};
+ghost use Rattle.gix_date.specs.Git.Clock.{digits_at_most, clock_of_fields, clock_with_colons, read_pair_or_end, clock_without_colons, trimmed_clock, git_clock};
 
 use crate::parsing::civil::ClockFields;
 use crate::parsing::fields::has_colon;
 use crate::parsing::numbers::read_two_digits;
 
-/// Reads the clock of a Git text: hours, and perhaps minutes and seconds, in digits alone. It ends at its first dot, if there is
-/// one, white space may stand round it, and all of it is ASCII.
+/// Reads the clock of a Git text: hours, and perhaps minutes and seconds, in digits alone. It ends at its first dot, if
+/// there is one, white space may stand round it, and all of it is ASCII.
 ///
-/// With a colon its parts stand between colons and have any width, one that is not there is 0, and those behind the third say
-/// nothing; without a colon it has two, four or six digits. `None` for any other text. Takes no memory.
-#[tactic(auto, unfolding(crate::specs::GitClock::git_clock))]
+/// With a colon its parts stand between colons and have any width, one that is not there is 0, and those after the
+/// third are ignored; without a colon it has two, four or six digits. `None` for any other text.
+#[tactic(auto, unfolding(crate::specs::Git::Clock::git_clock))]
 pub(crate) fn parse_clock(text: &str) -> Option<ClockFields>
     ensures value { result ≡ git_clock text.now }
     ensures fits { IfSome result ClockFits }
@@ -25,7 +25,7 @@ pub(crate) fn parse_clock(text: &str) -> Option<ClockFields>
 }
 
 /// The clock of a text that has neither its dot nor white space round it.
-#[tactic(auto, unfolding(crate::specs::GitClock::trimmed_clock))]
+#[tactic(auto, unfolding(crate::specs::Git::Clock::trimmed_clock))]
 fn parse_trimmed_clock(text: &str) -> Option<ClockFields>
     ensures value { result ≡ trimmed_clock text.now }
     ensures fits { IfSome result ClockFits }
@@ -78,13 +78,13 @@ fn parse_clock_with_colons(text: &str) -> Option<ClockFields>
     ensures fits { IfSome result ClockFits }
 {
     let Some((hours, rest)) = text.split_once(':') else {
-        return clock_of(digits_at_most(23, text), Some(0), Some(0));
+        return clock_of_fields(digits_at_most(23, text), Some(0), Some(0));
     };
     let Some((minutes, seconds)) = rest.split_once(':') else {
-        return clock_of(digits_at_most(23, hours), digits_at_most(59, rest), Some(0));
+        return clock_of_fields(digits_at_most(23, hours), digits_at_most(59, rest), Some(0));
     };
     let seconds = before_colon(seconds);
-    clock_of(
+    clock_of_fields(
         digits_at_most(23, hours),
         digits_at_most(59, minutes),
         digits_at_most(59, seconds),
@@ -92,11 +92,11 @@ fn parse_clock_with_colons(text: &str) -> Option<ClockFields>
 }
 
 /// The clock of these fields, where there are all.
-fn clock_of(hour: Option<u8>, minute: Option<u8>, second: Option<u8>) -> Option<ClockFields>
+fn clock_of_fields(hour: Option<u8>, minute: Option<u8>, second: Option<u8>) -> Option<ClockFields>
     requires hour { IfSome hour (λ n. n ≤ 99) }
     requires minute { IfSome minute (λ n. n ≤ 99) }
     requires second { IfSome second (λ n. n ≤ 99) }
-    ensures value { result ≡ clock_of hour minute second }
+    ensures value { result ≡ clock_of_fields hour minute second }
     ensures fits { IfSome result ClockFits }
 {
     match (hour, minute, second) {
@@ -127,7 +127,7 @@ fn digits_at_most(most: u8, text: &str) -> Option<u8>
 }
 
 /// A clock of two, four or six digits.
-#[tactic(auto, unfolding(crate::specs::GitClock::clock_without_colons))]
+#[tactic(auto, unfolding(crate::specs::Git::Clock::clock_without_colons))]
 fn parse_clock_without_colons(text: &str) -> Option<ClockFields>
     ensures value { result ≡ clock_without_colons text.now }
     ensures fits { IfSome result ClockFits }
@@ -147,7 +147,7 @@ fn parse_clock_without_colons(text: &str) -> Option<ClockFields>
 }
 
 /// Two digits, or 0 where nothing is left.
-#[tactic(auto, unfolding(crate::specs::GitClock::read_pair_or_end))]
+#[tactic(auto, unfolding(crate::specs::Git::Clock::read_pair_or_end))]
 fn read_pair_or_end(text: &str) -> Option<(u8, &str)>
     ensures value { read_view result ≡ read_pair_or_end text.now }
     ensures small { IfSome result (λ found. found.0 < 100) }

@@ -1,16 +1,15 @@
 //! Where the clock of a Git text ends, and its offset begins.
 ghost use Rattle.std.specs.Prelude.{◌≡◌, ◌<◌, length, IfSome, option_map, slice_index};
-ghost use Rattle.gix_date.specs.Characters.{space};
-ghost use Rattle.gix_date.specs.ClockCut.{IsCut, clock_cut, has_offset_at, is_sign, cut_at_sign, last_sign, cut_at_space, last_space, cut_at_z};
+ghost use Rattle.gix_date.specs.Text.Characters.{space};
+ghost use Rattle.gix_date.specs.Git.ClockCut.{clock_cut, has_offset_at, is_sign, cut_at_sign, last_sign, cut_at_space, last_space, cut_at_z};
+ghost use Rattle.gix_date.specs.Private.Cuts.{IsCut};
 
 /// The slices of a text, already trimmed, that are its clock and its offset: the first of these cuts that there is.
 ///
 /// 1. The text ends in `Z`, which is the offset.
-/// 2. Its last space stands above place 5, and behind it, white space aside, a sign is first: that is the offset.
+/// 2. Its last space stands above place 5, and after it, white space aside, a sign is first: that is the offset.
 /// 3. The last sign directly before a digit, at a place of 2 or more, begins the offset.
 /// 4. All is the clock, and the offset is empty.
-///
-/// Takes no memory.
 pub(crate) fn clock_cut(text: &str) -> (&str, &str)
     ensures value { (result.0.now, result.1.now) ≡ clock_cut text.now }
     ensures meaning { IsCut text.now result.0.now result.1.now }
@@ -19,7 +18,7 @@ pub(crate) fn clock_cut(text: &str) -> (&str, &str)
 }
 
 /// The cuts, tried in their order.
-#[tactic(auto, unfolding(crate::specs::ClockCut::clock_cut))]
+#[tactic(auto, unfolding(crate::specs::Git::ClockCut::clock_cut))]
 fn first_cut(text: &str) -> (&str, &str)
     ensures { (result.0.now, result.1.now) ≡ clock_cut text.now }
 {

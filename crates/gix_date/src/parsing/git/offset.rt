@@ -1,20 +1,20 @@
 //! The offset of a Git text.
 ghost use Rattle.std.specs.Prelude.{◌≡◌, ◌≤◌, [], ◌∷◌, None, IfSome, MatchOption};
 ghost use Rattle.jiff.specs.Words.{IsOffsetSeconds};
-ghost use Rattle.gix_date.specs.Git.{without_colons, fields_of, offset_of_digits, is_within_a_day, git_offset};
+ghost use Rattle.gix_date.specs.Git.Forms.{without_colons, fields_of, offset_of_digits, is_within_a_day, git_offset};
 
 use crate::parsing::numbers::parse_two_digits;
 use crate::parsing::offset::{OffsetFields, Sign, read_sign};
 use crate::time::OffsetInSeconds;
 
-/// Reads the offset of a Git text: 0 where it is empty or `Z`, else a sign and, once all colons are struck out, two digits of
-/// hours up to 23 and perhaps two of minutes up to 59.
+/// Reads the offset of a Git text: 0 where it is empty or `Z`, else a sign and, once all colons are struck out, two
+/// digits of hours up to 23 and perhaps two of minutes up to 59.
 ///
-/// `None` for any other text. Takes no memory.
-#[tactic(auto, unfolding(crate::specs::Git::git_offset))]
+/// `None` for any other text.
+#[tactic(auto, unfolding(crate::specs::Git::Forms::git_offset))]
 pub(crate) fn parse_git_offset(text: &str) -> Option<OffsetInSeconds>
     ensures value { result ≡ git_offset text.now }
-    ensures in_zone { IfSome result IsOffsetSeconds }
+    ensures offset_fits { IfSome result IsOffsetSeconds }
 {
     if text.is_empty() || text == "Z" {
         return Some(0);
@@ -73,17 +73,17 @@ fn fields_of(sign: Sign, hours: Option<u8>, minutes: Option<u8>) -> Option<Offse
     }
 }
 
-/// The first byte that is no colon, and what stands behind it.
+/// The first byte that is no colon, and what stands after it.
 fn first_but_colons(text: &[u8]) -> Option<(u8, &[u8])>
     ensures { MatchOption result (without_colons text.now ≡ [])
         (λ found. without_colons text.now ≡ found.0 ∷ without_colons found.1.now) }
 {
     let mut rest = text;
-    while let [b':', behind @ ..] = rest {
-        rest = behind;
+    while let [b':', after @ ..] = rest {
+        rest = after;
     }
     match rest {
         [] => None,
-        [first, behind @ ..] => Some((*first, behind)),
+        [first, after @ ..] => Some((*first, after)),
     }
 }

@@ -1,14 +1,13 @@
 //! The fields of formatted dates.
 ghost use Rattle.std.specs.Prelude.{◌≡◌, ◌<◌, IfSome, option_copied};
 ghost use Rattle.std.specs.List.{prefix_len};
-ghost use Rattle.gix_date.specs.Characters.{is_space};
-ghost use Rattle.gix_date.specs.Civil.{DateFits, ClockFits};
-ghost use Rattle.gix_date.specs.Fields.{read_view};
-ghost use Rattle.gix_date.specs.PatternFields.{behind_spaces, read_name, month_of, is_weekday, read_month, behind_weekday, read_plain_date, read_minutes, read_second, read_clock, read_mail_clock, leapless};
-ghost use Rattle.gix_date.specs.Views.{name_view};
+ghost use Rattle.gix_date.specs.Text.Characters.{is_space};
+ghost use Rattle.gix_date.specs.Private.Civil.{DateFits, ClockFits};
+ghost use Rattle.gix_date.specs.Private.Views.{read_view, name_view};
+ghost use Rattle.gix_date.specs.Fields.DateFields.{skip_spaces, read_name, month_named, is_weekday, read_month, skip_weekday, read_plain_date, read_minutes, read_second, read_clock, read_mail_clock, without_leap_second};
 
 use crate::parsing::civil::{ClockFields, DateFields};
-use crate::parsing::fields::behind;
+use crate::parsing::fields::skip_char;
 use crate::parsing::numbers::{read_field, read_year};
 
 /// The names of months and of days of the week.
@@ -18,10 +17,10 @@ const MONTHS: [&str; 12] = [
 
 const WEEKDAYS: [&str; 7] = ["Mon", "Tue", "Wed", "Thu", "Fri", "Sat", "Sun"];
 
-/// What stands behind one space or more.
-#[tactic(auto, unfolding(crate::specs::PatternFields::behind_spaces))]
-pub(crate) fn behind_spaces(text: &str) -> Option<&str>
-    ensures { option_copied result ≡ behind_spaces text.now }
+/// What stands after one space or more.
+#[tactic(auto, unfolding(crate::specs::Fields::DateFields::skip_spaces))]
+pub(crate) fn skip_spaces(text: &str) -> Option<&str>
+    ensures { option_copied result ≡ skip_spaces text.now }
 {
     let len = spaces_len(text);
     if len == 0 {
@@ -37,7 +36,7 @@ fn spaces_len(text: &str) -> usize
 }
 
 /// Three letters at the front.
-#[tactic(auto, unfolding(crate::specs::PatternFields::read_name))]
+#[tactic(auto, unfolding(crate::specs::Fields::DateFields::read_name))]
 fn read_name(text: &str) -> Option<(&str, &str)>
     ensures { name_view result ≡ read_name text.now }
 {
@@ -51,9 +50,9 @@ fn read_name(text: &str) -> Option<(&str, &str)>
 }
 
 /// The month of this name, in any letter case.
-#[tactic(auto, unfolding(crate::specs::PatternFields::month_of))]
-fn month_of(name: &str) -> Option<u8>
-    ensures value { result ≡ month_of name.now }
+#[tactic(auto, unfolding(crate::specs::Fields::DateFields::month_named))]
+fn month_named(name: &str) -> Option<u8>
+    ensures value { result ≡ month_named name.now }
     ensures small { IfSome result (λ month. month < 100) }
 {
     let place = MONTHS
@@ -63,7 +62,7 @@ fn month_of(name: &str) -> Option<u8>
 }
 
 /// Whether a day of the week has this name, in any letter case.
-#[tactic(auto, unfolding(crate::specs::PatternFields::is_weekday))]
+#[tactic(auto, unfolding(crate::specs::Fields::DateFields::is_weekday))]
 fn is_weekday(name: &str) -> bool
     ensures { result ≡ is_weekday name.now }
 {
@@ -71,47 +70,47 @@ fn is_weekday(name: &str) -> bool
 }
 
 /// A month's name at the front.
-#[tactic(auto, unfolding(crate::specs::PatternFields::read_month))]
+#[tactic(auto, unfolding(crate::specs::Fields::DateFields::read_month))]
 pub(crate) fn read_month(text: &str) -> Option<(u8, &str)>
     ensures value { read_view result ≡ read_month text.now }
     ensures small { IfSome result (λ found. found.0 < 100) }
 {
     let (name, rest) = read_name(text)?;
-    let month = month_of(name)?;
+    let month = month_named(name)?;
     Some((month, rest))
 }
 
-/// What stands behind the name of a day of the week, whichever it is: it is not compared with the date.
-#[tactic(auto, unfolding(crate::specs::PatternFields::behind_weekday))]
-pub(crate) fn behind_weekday(text: &str) -> Option<&str>
-    ensures { option_copied result ≡ behind_weekday text.now }
+/// What stands after the name of a day of the week, whichever it is: it is not compared with the date.
+#[tactic(auto, unfolding(crate::specs::Fields::DateFields::skip_weekday))]
+pub(crate) fn skip_weekday(text: &str) -> Option<&str>
+    ensures { option_copied result ≡ skip_weekday text.now }
 {
     let (name, rest) = read_name(text)?;
     if is_weekday(name) { Some(rest) } else { None }
 }
 
 /// A year of four digits, and a month and a day of one or two, with `-` between them.
-#[tactic(auto, unfolding(crate::specs::PatternFields::read_plain_date))]
+#[tactic(auto, unfolding(crate::specs::Fields::DateFields::read_plain_date))]
 pub(crate) fn read_plain_date(text: &str) -> Option<(DateFields, &str)>
     ensures value { read_view result ≡ read_plain_date text.now }
     ensures fits { IfSome result (λ found. DateFits found.0) }
 {
     let (year, rest) = read_year(text)?;
-    let rest = behind('-', rest)?;
+    let rest = skip_char('-', rest)?;
     let (month, rest) = read_field(rest)?;
-    let rest = behind('-', rest)?;
+    let rest = skip_char('-', rest)?;
     let (day, rest) = read_field(rest)?;
     Some((DateFields { year, month, day }, rest))
 }
 
 /// An hour and a minute.
-#[tactic(auto, unfolding(crate::specs::PatternFields::read_minutes))]
+#[tactic(auto, unfolding(crate::specs::Fields::DateFields::read_minutes))]
 fn read_minutes(text: &str) -> Option<(ClockFields, &str)>
     ensures value { read_view result ≡ read_minutes text.now }
     ensures fits { IfSome result (λ found. ClockFits found.0) }
 {
     let (hour, rest) = read_field(text)?;
-    let rest = behind(':', rest)?;
+    let rest = skip_char(':', rest)?;
     let (minute, rest) = read_field(rest)?;
     let second = 0;
     Some((
@@ -124,30 +123,30 @@ fn read_minutes(text: &str) -> Option<(ClockFields, &str)>
     ))
 }
 
-/// A second behind an hour and a minute, where 60 is read as 59.
-#[tactic(auto, unfolding(crate::specs::PatternFields::read_second))]
+/// A second after an hour and a minute, where 60 is read as 59.
+#[tactic(auto, unfolding(crate::specs::Fields::DateFields::read_second))]
 fn read_second(clock: ClockFields, text: &str) -> Option<(ClockFields, &str)>
     requires { ClockFits clock }
     ensures value { read_view result ≡ read_second clock text.now }
     ensures fits { IfSome result (λ found. ClockFits found.0) }
 {
-    let rest = behind(':', text)?;
+    let rest = skip_char(':', text)?;
     let (second, rest) = read_field(rest)?;
-    let second = leapless(second);
+    let second = without_leap_second(second);
     Some((ClockFields { second, ..clock }, rest))
 }
 
 /// A second, which is 59 where it is 60.
-fn leapless(second: u8) -> u8
+fn without_leap_second(second: u8) -> u8
     requires { second < 100 }
-    ensures value { result ≡ leapless second }
+    ensures value { result ≡ without_leap_second second }
     ensures small { result < 100 }
 {
     if second == 60 { 59 } else { second }
 }
 
 /// An hour, a minute and a second.
-#[tactic(auto, unfolding(crate::specs::PatternFields::read_clock))]
+#[tactic(auto, unfolding(crate::specs::Fields::DateFields::read_clock))]
 pub(crate) fn read_clock(text: &str) -> Option<(ClockFields, &str)>
     ensures value { read_view result ≡ read_clock text.now }
     ensures fits { IfSome result (λ found. ClockFits found.0) }
@@ -157,7 +156,7 @@ pub(crate) fn read_clock(text: &str) -> Option<(ClockFields, &str)>
 }
 
 /// An hour, a minute and a second, or else the first two.
-#[tactic(auto, unfolding(crate::specs::PatternFields::read_mail_clock))]
+#[tactic(auto, unfolding(crate::specs::Fields::DateFields::read_mail_clock))]
 pub(crate) fn read_mail_clock(text: &str) -> Option<(ClockFields, &str)>
     ensures value { read_view result ≡ read_mail_clock text.now }
     ensures fits { IfSome result (λ found. ClockFits found.0) }

@@ -1,7 +1,7 @@
 //! Pairs of counts and periods, off the front of a text.
 ghost use Rattle.std.specs.Prelude.{◌≡◌, ◌∷◌, [], ◌<◌, length, IfSome, MatchOption};
-ghost use Rattle.gix_date.specs.RelativePairs.{pairs_read, pair_of};
-ghost use Rattle.gix_date.specs.RelativeWords.{relative_words, unit_or_seconds};
+ghost use Rattle.gix_date.specs.Private.RelativePairs.{pairs_read, pair_of};
+ghost use Rattle.gix_date.specs.Relative.Words.{relative_words, unit_or_seconds};
 
 use crate::parsing::relative::words::{TimeUnit, count_of, next_word, unit_of};
 
@@ -12,7 +12,8 @@ pub(crate) struct Pair {
     pub(crate) unit: TimeUnit,
 }
 
-/// The first pair of a text, and what stands behind it. Words that are no count are skipped, and a last count without a period.
+/// The first pair of a text, and what stands after it. Words that are no count are skipped, and a last count without a
+/// period.
 pub(crate) fn next_pair(text: &str) -> Option<(Pair, &str)>
     ensures pairs { MatchOption result (pairs_read (relative_words text.now) ≡ [])
         (λ found. pairs_read (relative_words text.now) ≡ pair_of found.0 ∷ pairs_read (relative_words found.1.now)) }
@@ -24,11 +25,11 @@ pub(crate) fn next_pair(text: &str) -> Option<(Pair, &str)>
             rest = after;
             continue;
         };
-        let Some((period, behind)) = next_word(after) else {
+        let Some((period, after)) = next_word(after) else {
             return None;
         };
         let unit = unit_or_seconds(period);
-        return Some((Pair { count, unit }, behind));
+        return Some((Pair { count, unit }, after));
     }
     None
 }

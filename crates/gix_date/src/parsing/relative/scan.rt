@@ -1,8 +1,9 @@
 //! The first pass over a relative text: whether its words are pairs.
 ghost use Rattle.std.specs.Prelude.{◌≡◌, ◌↔◌, IsTrue};
-ghost use Rattle.gix_date.specs.RelativeScan.{step, verdict};
-ghost use Rattle.gix_date.specs.RelativeWords.{relative_words};
-ghost use Rattle.gix_date.specs.Roles.{are_pairs, ArePairs};
+ghost use Rattle.gix_date.specs.Private.RelativeScan.{step, verdict};
+ghost use Rattle.gix_date.specs.Relative.Words.{relative_words};
+ghost use Rattle.gix_date.specs.Relative.Roles.{are_pairs};
+ghost use Rattle.gix_date.specs.Private.Pairs.{ArePairs};
 
 use crate::parsing::relative::words::{has_unit, is_ago, is_count_word, next_word};
 
@@ -19,8 +20,8 @@ struct Scan {
     ago: bool,
 }
 
-/// Whether the words of a text are pairs of counts and periods: there is one, and each period is a unit, or the flag is set by
-/// an `ago` that is no period itself.
+/// Whether the words of a text are pairs of counts and periods: there is one, and each period is a unit, or the flag is
+/// set by an `ago` that is no period itself.
 pub(crate) fn are_pairs(text: &str) -> bool
     ensures value { result ≡ are_pairs (relative_words text.now) }
     ensures meaning { IsTrue result ↔ ArePairs (relative_words text.now) }

@@ -2,9 +2,10 @@
 ghost use Rattle.std.specs.Prelude.{◌≡◌, ◌↔◌, ◌+ℤ◌, ◌-ℤ◌, pos, IfSome, IsSome};
 ghost use Rattle.std.specs.Int.{int_div_euclid, int_rem_euclid};
 ghost use Rattle.jiff.specs.Words.{plain_zone, zoned_nanos, nanos_of_seconds, KeepsZone, IsTimestampNanos, IsYear, IsYmd, IsEpochDay, IsBetween, epoch_day, month_number};
-ghost use Rattle.gix_date.specs.RelativeFields.{IsInstantOf, HasDay};
-ghost use Rattle.gix_date.specs.RelativePairs.{pair_of};
-ghost use Rattle.gix_date.specs.RelativeSteps.{IsAt, zone_of, Settles, SecondsStep, MonthsStep, PairStep, IsPicked, civil_of};
+ghost use Rattle.gix_date.specs.Private.RelativeFields.{IsInstantOf, HasDay};
+ghost use Rattle.gix_date.specs.Private.RelativePairs.{pair_of};
+ghost use Rattle.gix_date.specs.Relative.Steps.{zone_of, Settles, SecondsStep, MonthsStep, PairStep, IsPicked, civil_of};
+ghost use Rattle.gix_date.specs.Private.Steps.{IsAt};
 
 use crate::parsing::relative::pairs::Pair;
 use crate::parsing::relative::words::{MONTHS_PER_YEAR, SECONDS_PER_DAY, TimeUnit};
@@ -24,7 +25,7 @@ pub(crate) struct Fields {
 
 impl<'a> From<Zoned<'a>> for Fields {
     ghost use Rattle.jiff.specs.Words.{plain_zoned};
-    ghost use Rattle.gix_date.specs.RelativeFields.{AreFieldsOf};
+    ghost use Rattle.gix_date.specs.Private.RelativeFields.{AreFieldsOf};
 
     ghost from_gives = { λ moment fields. AreFieldsOf (plain_zoned moment).datetime fields };
 
@@ -40,14 +41,14 @@ impl<'a> From<Zoned<'a>> for Fields {
 impl Fields {
     /// The instant that a zone chooses for the fields: the first of the month, and the day beyond it, at that time.
     ///
-    /// In a fold it is the earlier, and in a gap it is moved later, as `jiff` does it. `None` where there is no such date or
-    /// instant.
+    /// In a fold it is the earlier, and in a gap it is moved later, as `jiff` does it. `None` where there is no such
+    /// date or instant.
     fn normalize<'a>(self, zone: TimeZone<'a>) -> Option<Zoned<'a>>
         requires { HasDay self }
         ensures instant { IsAt (IsInstantOf (plain_zone zone.entry) self) result }
         ensures zone { IfSome result (λ r. zone_of r ≡ plain_zone zone.entry) }
     {
-        let first = first_of(self.month_number)?;
+        let first = first_day_of(self.month_number)?;
         let date = roll(first, self.day)?;
         pick(date, self.time, zone)
     }
@@ -110,14 +111,14 @@ fn subtract_months<'a>(moment: Zoned<'a>, months: i64) -> Option<Zoned<'a>>
 }
 
 /// The months from January of the year 0 to a date's.
-fn month_number(date: Date) -> i64
+pub(crate) fn month_number(date: Date) -> i64
     ensures { result ≡ month_number date }
 {
     date.year() as i64 * MONTHS_PER_YEAR + date.month() as i64 - 1
 }
 
 /// The first day of a month.
-fn first_of(month_number: i64) -> Option<Date>
+pub(crate) fn first_day_of(month_number: i64) -> Option<Date>
     ensures some { IsSome result ↔ IsYear (int_div_euclid month_number (pos 12)) }
     ensures value { IfSome result (IsYmd (int_div_euclid month_number (pos 12))
         (int_rem_euclid month_number (pos 12) +ℤ pos 1) (pos 1)) }
@@ -133,7 +134,7 @@ fn first_of(month_number: i64) -> Option<Date>
 }
 
 /// A day that counts from the first of a month, and may lie past its end.
-fn roll(first: Date, day: i8) -> Option<Date>
+pub(crate) fn roll(first: Date, day: i8) -> Option<Date>
     requires { IsBetween (pos 1) (pos 31) day }
     ensures some { IsSome result ↔ IsEpochDay (epoch_day first +ℤ (day -ℤ pos 1)) }
     ensures value { IfSome result (λ d. epoch_day d ≡ epoch_day first +ℤ (day -ℤ pos 1)) }

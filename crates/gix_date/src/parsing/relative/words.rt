@@ -2,8 +2,8 @@
 ghost use Rattle.std.specs.Prelude.{◌≡◌, ◌∷◌, [], ◌<◌, length, IfSome, MatchOption, drop};
 ghost use Rattle.std.specs.List.{prefix_len, list_all};
 ghost use Rattle.std.specs.Char.{is_ascii_alphanumeric, is_ascii_digit};
-ghost use Rattle.gix_date.specs.RelativeWords.{relative_words, is_gap, count_of, named_count, number_named, singular, named_unit, unit_of, is_ago};
-ghost use Rattle.gix_date.specs.Roles.{is_count_word, has_unit};
+ghost use Rattle.gix_date.specs.Relative.Words.{relative_words, is_gap, count_of, named_count, number_named, singular, named_unit, unit_of, is_ago};
+ghost use Rattle.gix_date.specs.Relative.Roles.{is_count_word, has_unit};
 
 use crate::parsing::numbers::parse_int;
 
@@ -26,7 +26,7 @@ pub(crate) enum TimeUnit {
     Months(i64),
 }
 
-/// The first word of a text, and what stands behind it. A word is a longest run of ASCII letters and digits.
+/// The first word of a text, and what stands after it. A word is a longest run of ASCII letters and digits.
 pub(crate) fn next_word(text: &str) -> Option<(&str, &str)>
     ensures words { MatchOption result (relative_words text.now ≡ [])
         (λ found. relative_words text.now ≡ found.0.now ∷ relative_words found.1.now) }
@@ -65,8 +65,9 @@ fn word_len(text: &str) -> usize
         .count()
 }
 
-/// What a count word counts: digits whose number an `i64` holds, or in any letter case `one` to `ten`, and `last`, which is 1.
-#[tactic(auto, unfolding(crate::specs::RelativeWords::count_of))]
+/// What a count word counts: digits whose number an `i64` holds, or in any letter case `one` to `ten`, and `last`,
+/// which is 1.
+#[tactic(auto, unfolding(crate::specs::Relative::Words::count_of))]
 pub(crate) fn count_of(word: &str) -> Option<i64>
     ensures { result ≡ count_of word.now }
 {
@@ -85,7 +86,7 @@ fn is_number(word: &str) -> bool
 }
 
 /// What `one` to `ten` count, and `last`.
-#[tactic(auto, unfolding(crate::specs::RelativeWords::named_count))]
+#[tactic(auto, unfolding(crate::specs::Relative::Words::named_count))]
 fn named_count(word: &str) -> Option<i64>
     ensures { result ≡ named_count word.now }
 {
@@ -96,7 +97,7 @@ fn named_count(word: &str) -> Option<i64>
 }
 
 /// The number from 1 to 10 of this name, in any letter case.
-#[tactic(auto, unfolding(crate::specs::RelativeWords::number_named))]
+#[tactic(auto, unfolding(crate::specs::Relative::Words::number_named))]
 fn number_named(word: &str) -> Option<i64>
     ensures { result ≡ number_named word.now }
 {
@@ -107,7 +108,7 @@ fn number_named(word: &str) -> Option<i64>
 }
 
 /// Whether a word counts.
-#[tactic(auto, unfolding(crate::specs::Roles::is_count_word))]
+#[tactic(auto, unfolding(crate::specs::Relative::Roles::is_count_word))]
 pub(crate) fn is_count_word(word: &str) -> bool
     ensures { result ≡ is_count_word word.now }
 {
@@ -115,7 +116,7 @@ pub(crate) fn is_count_word(word: &str) -> bool
 }
 
 /// The unit that a period names in any letter case, one final `s` aside.
-#[tactic(auto, unfolding(crate::specs::RelativeWords::unit_of))]
+#[tactic(auto, unfolding(crate::specs::Relative::Words::unit_of))]
 pub(crate) fn unit_of(period: &str) -> Option<TimeUnit>
     ensures { result ≡ unit_of period.now }
 {
@@ -136,7 +137,7 @@ fn singular(period: &str) -> &str
 }
 
 /// The unit of this name.
-#[tactic(auto, unfolding(crate::specs::RelativeWords::named_unit))]
+#[tactic(auto, unfolding(crate::specs::Relative::Words::named_unit))]
 fn named_unit(name: &str) -> Option<TimeUnit>
     ensures { result ≡ named_unit name.now }
 {
@@ -160,7 +161,7 @@ fn named_unit(name: &str) -> Option<TimeUnit>
 }
 
 /// Whether a period names a unit.
-#[tactic(auto, unfolding(crate::specs::Roles::has_unit))]
+#[tactic(auto, unfolding(crate::specs::Relative::Roles::has_unit))]
 pub(crate) fn has_unit(period: &str) -> bool
     ensures { result ≡ has_unit period.now }
 {

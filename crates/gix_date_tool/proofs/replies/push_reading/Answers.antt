@@ -1,7 +1,7 @@
 use Rattle.std.proofs.Common.{rules, ◌≡◌, ℕ, List, [], ◌∷◌, ◌++◌, sym, ap, ◌∙◌, subst, append_assoc}
 use Rattle.std.specs.Prelude.{codes}
-use Rattle.gix_date.specs.Characters.{newline, space}
-use Rattle.gix_date.specs.Numbers.{decimal_text}
+use Rattle.gix_date.specs.Text.Characters.{newline, space}
+use Rattle.gix_date.specs.Text.Numbers.{decimal_text}
 use Rattle.gix_date.specs.declared.time.Time.{Time}
 use Rattle.gix_date_tool.specs.declared.replies.Reply.TheVariants.{Read}
 use Rattle.gix_date_tool.specs.Lines.{with_newline}
@@ -9,7 +9,7 @@ use Rattle.gix_date_tool.specs.Outbox.{Sends, output}
 use Rattle.gix_date_tool.specs.Replies.{reply_text}
 use Rattle.gix_date_tool.proofs.replies.push_reading.Goals as goal
 
--- the pieces of a reading, one behind the other
+-- the pieces of a reading, one after the other
 abbrev pieces_of : List ℕ → List ℕ → List ℕ
 pieces_of seconds offset = codes "read " ++ (seconds ++ (space ∷ (offset ++ newline ∷ [])))
 

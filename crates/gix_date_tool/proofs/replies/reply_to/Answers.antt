@@ -53,3 +53,7 @@ returns-in-Parse-clause-memory c =
     let told : (reply : Reply) → IsTextReply Parse c.args.asked.now c.in-Ok.text.now reply → IsReply c.args.asked c.args.line.now reply =
     λ reply h. text_reply-is_reply c.args.asked Parse c.in-Ok.text.now c.args.line.now reply c.in-Ok.ensures.cases.0 c.in-Parse.is c.in-Ok.ensures.cases.1 h in
     err-weaker c.parse_reply.result _ _ (either (told UnknownFormat) (told DateConversion)) c.parse_reply.ensures.memory
+
+pub returns-in-Sign-clause-is : goal.returns-in-Sign-clause-is
+returns-in-Sign-clause-is c =
+    text_reply-is_reply c.args.asked _ c.in-Ok.text.now c.args.line.now c.sign_reply.result c.in-Ok.ensures.cases.0 c.in-Sign.is c.in-Ok.ensures.cases.1 c.sign_reply.ensures.is

@@ -2,4 +2,4 @@ use Rattle.gix_date_vectors.proofs.caller.resolved.Goals as goal
 
 -- the moment is the one that was handed in
 pub returns : goal.returns
-returns g c = (c.in_ok-now.now, c.parse.ensures.comes)
+returns g c = (c.in_ok-now.now, c.parse.ensures.outcome)

@@ -1,19 +1,19 @@
 use Rattle.std.proofs.Common.{◌≡◌, ◌∙◌, ℕ, List, Option, Some, None, Result, Ok, is_some, option_map, ap, subst}
-use Rattle.gix_date.specs.Answer.{FamilyAnswer, Absolute}
-use Rattle.gix_date.specs.Families.{RawText, first_family_by, Comes}
-use Rattle.gix_date.specs.FamilyLaws.{ComesFirstBy, HoldsBy}
-use Rattle.gix_date.specs.Raw.{is_whole_minutes, raw_time_by}
+use Rattle.gix_date.specs.Families.Answer.{FamilyAnswer, Absolute}
+use Rattle.gix_date.specs.Families.Order.{RawText, first_family_by, ParseOutcome}
+use Rattle.gix_date.specs.Families.Laws.{ComesFirstBy, HoldsBy}
+use Rattle.gix_date.specs.Families.Raw.{is_wide_offset, raw_time_by}
 use Rattle.gix_date.specs.declared.error.Error.{Error}
 use Rattle.gix_date.specs.declared.time.Time.{Time}
 use Rattle.gix_date_vectors.proofs.caller.stored_date.Goals as goal
 
 -- what comes of a raw text, by the law that its family answers first
-comes_so : (t : Time) (text : List ℕ) (r : Result Time Error) → ComesFirstBy is_whole_minutes text
-    → Comes (first_family_by is_whole_minutes text) text None r → raw_time_by is_whole_minutes text ≡ Some t → r ≡ Ok t
+comes_so : (t : Time) (text : List ℕ) (r : Result Time Error) → ComesFirstBy is_wide_offset text
+    → ParseOutcome (first_family_by is_wide_offset text) text None r → raw_time_by is_wide_offset text ≡ Some t → r ≡ Ok t
 comes_so t text r law h e =
-    let held : HoldsBy is_whole_minutes RawText text = ap (λ (q : Option Time). is_some (option_map Absolute q)) e in
+    let held : HoldsBy is_wide_offset RawText text = ap (λ (q : Option Time). is_some (option_map Absolute q)) e in
     let first = law.alone RawText (λ q. cc) (λ q. cc) held ∙ ap (option_map Absolute) e in
-    subst (λ (a : Option FamilyAnswer). Comes a text None r) first h
+    subst (λ (a : Option FamilyAnswer). ParseOutcome a text None r) first h
 
 pub returns-clause-raw : goal.returns-clause-raw
-returns-clause-raw c t e = comes_so t c.args.date.now c.parse_with.result c.comes_first_wide.ensures c.parse_with.ensures.comes e
+returns-clause-raw c t e = comes_so t c.args.date.now c.parse_with.result c.comes_first_wide.ensures c.parse_with.ensures.outcome e

@@ -1,7 +1,7 @@
 use Rattle.std.proofs.Common.{◌≡◌, ◌∙◌, ap, arith}
 use Rattle.jiff.specs.Words.{plain_zoned}
-use Rattle.gix_date.specs.Layout.{LocalTime}
-use Rattle.gix_date.specs.LocalClocks.{clock_of, date_of_day}
+use Rattle.gix_date.specs.Fields.Layout.{LocalTime}
+use Rattle.gix_date.specs.Printing.LocalClocks.{clock_of, date_of_day}
 use Rattle.gix_date.specs.declared.time.Time.{Time}
 use Rattle.gix_date_vectors.proofs.names.laws_are_called_for_what_they_state_of_a_time.Goals as goal
 

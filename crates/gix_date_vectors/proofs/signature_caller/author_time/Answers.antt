@@ -1,6 +1,6 @@
 use Rattle.std.proofs.Common.{◌≡◌, ◌∙◌, ℕ, List, ◌++◌, Option, Some, None, IfNone, codes, ap, sym, subst, rules}
 use Rattle.std.proofs.lemmas.List.{append_cancel_left}
-use Rattle.gix_date.specs.HeaderReading.{header_time}
+use Rattle.gix_date.specs.Header.Reading.{header_time}
 use Rattle.gix_date.specs.declared.time.Time.{Time}
 use Rattle.gix_signature.specs.Signature.{Parts, IsCut, OneCut, parts_of}
 use Rattle.gix_date_vectors.specs.Authored.{IsAuthored}

@@ -2,7 +2,7 @@ use Rattle.std.proofs.Common.{rules, List, ℕ, Option, Err, IsSomeAnd, subst}
 use Rattle.std.specs.Prelude.{codes}
 use Rattle.gix_signature.specs.Signature.{line_of}
 use Rattle.gix_signature.specs.Writing.{parts_due, Puts}
-use Rattle.gix_signature.proofs.Pieces.{Puts-more, Puts-behind}
+use Rattle.gix_signature.proofs.Pieces.{Puts-more, Puts-after}
 use Rattle.gix_signature.proofs.Written.{parts-by}
 use Rattle.gix_signature.proofs.lines.put_line.Goals as goal
 
@@ -14,7 +14,7 @@ returns-in_err-put_text-2 g c =
     let kind = c.in_err-put_text-2.field-0.0 in
     let fact : IsSomeAnd (parts_due c.args.name.now c.args.mail.now c.args.time) (λ p. Puts old new (line_of p) (Err kind)) =
     parts-by c.args.name.now c.args.mail.now c.args.time (λ line. Puts old new line (Err kind))
-    (λ text e. Puts-behind old named new c.args.name.now _ (Err kind) c.in_ok-put_text.ensures
+    (λ text e. Puts-after old named new c.args.name.now _ (Err kind) c.in_ok-put_text.ensures
     (Puts-more named new (codes " <") _ kind c.in_err-put_text-2.ensures)) c.requires in
     search (rules, fact)
 
@@ -27,8 +27,8 @@ returns-in_err-put_text-3 g c =
     let kind = c.in_err-put_text-3.field-0.0 in
     let fact : IsSomeAnd (parts_due c.args.name.now c.args.mail.now c.args.time) (λ p. Puts old new (line_of p) (Err kind)) =
     parts-by c.args.name.now c.args.mail.now c.args.time (λ line. Puts old new line (Err kind))
-    (λ text e. Puts-behind old named new c.args.name.now _ (Err kind) c.in_ok-put_text.ensures
-    (Puts-behind named opened new (codes " <") _ (Err kind) c.in_ok-put_text-2.ensures
+    (λ text e. Puts-after old named new c.args.name.now _ (Err kind) c.in_ok-put_text.ensures
+    (Puts-after named opened new (codes " <") _ (Err kind) c.in_ok-put_text-2.ensures
     (Puts-more opened new c.args.mail.now _ kind c.in_err-put_text-3.ensures))) c.requires in
     search (rules, fact)
 
@@ -42,9 +42,9 @@ returns-in_err-put_text-4 g c =
     let kind = c.in_err-put_text-4.field-0.0 in
     let fact : IsSomeAnd (parts_due c.args.name.now c.args.mail.now c.args.time) (λ p. Puts old new (line_of p) (Err kind)) =
     parts-by c.args.name.now c.args.mail.now c.args.time (λ line. Puts old new line (Err kind))
-    (λ text e. Puts-behind old named new c.args.name.now _ (Err kind) c.in_ok-put_text.ensures
-    (Puts-behind named opened new (codes " <") _ (Err kind) c.in_ok-put_text-2.ensures
-    (Puts-behind opened mailed new c.args.mail.now _ (Err kind) c.in_ok-put_text-3.ensures
+    (λ text e. Puts-after old named new c.args.name.now _ (Err kind) c.in_ok-put_text.ensures
+    (Puts-after named opened new (codes " <") _ (Err kind) c.in_ok-put_text-2.ensures
+    (Puts-after opened mailed new c.args.mail.now _ (Err kind) c.in_ok-put_text-3.ensures
     (Puts-more mailed new (codes "> ") _ kind c.in_err-put_text-4.ensures)))) c.requires in
     search (rules, fact)
 
@@ -60,7 +60,7 @@ returns g c =
     parts-by c.args.name.now c.args.mail.now c.args.time (λ line. Puts old new line r)
     (λ text e.
     let timed : Puts closed new text r = subst (λ (o : Option (List ℕ)). IsSomeAnd o (λ t. Puts closed new t r)) e c.put_time.ensures in
-    Puts-behind old named new c.args.name.now _ r c.in_ok-put_text.ensures
-    (Puts-behind named opened new (codes " <") _ r c.in_ok-put_text-2.ensures
-    (Puts-behind opened mailed new c.args.mail.now _ r c.in_ok-put_text-3.ensures
-    (Puts-behind mailed closed new (codes "> ") _ r c.in_ok-put_text-4.ensures timed)))) c.requires
+    Puts-after old named new c.args.name.now _ r c.in_ok-put_text.ensures
+    (Puts-after named opened new (codes " <") _ r c.in_ok-put_text-2.ensures
+    (Puts-after opened mailed new c.args.mail.now _ r c.in_ok-put_text-3.ensures
+    (Puts-after mailed closed new (codes "> ") _ r c.in_ok-put_text-4.ensures timed)))) c.requires

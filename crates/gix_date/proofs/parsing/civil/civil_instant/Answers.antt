@@ -2,7 +2,7 @@ use Rattle.std.proofs.Common.{◌≡◌, ◌<◌, ◌^◌, ◌∙◌, refl, arit
 use Rattle.std.proofs.lemmas.Int.{to_z-of_z, to_z_pos}
 use Rattle.jiff_core.proofs.SignedLemmas.{signed_arith}
 use mir.Val.{hbits}
-use Rattle.gix_date.specs.Civil.{civil_seconds}
+use Rattle.gix_date.specs.Fields.Civil.{civil_seconds}
 use Rattle.gix_date.proofs.Instants.{no_date_or_clock, no_instant, an_instant, local_nanos, instant_range, whole_seconds}
 use Rattle.gix_date.proofs.parsing.civil.civil_instant.Goals as goal
 

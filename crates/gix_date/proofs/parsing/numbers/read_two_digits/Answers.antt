@@ -2,7 +2,7 @@ use Rattle.std.proofs.Common.{◌≡◌, ℕ, ◌<◌, Bool, true, false, cond, 
 use Rattle.std.proofs.lemmas.Str.{IsCharBoundary-after_ascii}
 use Rattle.std.specs.Char.{is_ascii_digit}
 use Rattle.std.specs.Prelude.{◌&&◌}
-use Rattle.gix_date.specs.Numbers.{two_digit_value}
+use Rattle.gix_date.specs.Text.Numbers.{two_digit_value}
 use Rattle.gix_date.proofs.AsciiCuts.{digit_is_ascii}
 use Rattle.gix_date.proofs.parsing.numbers.read_two_digits.Goals as goal
 

@@ -1,10 +1,10 @@
 use Rattle.std.proofs.Common.{rules, arith, ◌≡◌, ◌∙◌, ◌+◌, ◌-◌, ap, sym, subst, length, get_or, take, drop, List, ℕ, ℤ, Some, FitsSigned, w64}
 use Rattle.std.proofs.lemmas.Int.{to_z-of_z}
 use Rattle.std.proofs.lemmas.Str.{IsCharBoundary-after_ascii}
-use Rattle.gix_date.specs.Characters.{space}
-use Rattle.gix_date.specs.HeaderReading.{IsPlainHeader}
-use Rattle.gix_date.specs.Numbers.{int_value}
-use Rattle.gix_date.specs.Offsets.{offset_fields}
+use Rattle.gix_date.specs.Text.Characters.{space}
+use Rattle.gix_date.specs.Private.Headers.{IsPlainHeader}
+use Rattle.gix_date.specs.Text.Numbers.{int_value}
+use Rattle.gix_date.specs.Fields.Offsets.{offset_fields}
 use Rattle.gix_date.proofs.PlainHeaders.{plain-places}
 use Rattle.gix_date.proofs.parsing.plain.parse_plain_fields.Goals as goal
 

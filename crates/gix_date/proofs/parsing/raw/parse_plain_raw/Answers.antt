@@ -1,6 +1,6 @@
 use Rattle.std.proofs.Common.{rules, ◌∙◌, ap, sym, ℤ, Some, FitsSigned, w64, w32}
 use Rattle.std.proofs.lemmas.Int.{to_z-of_z}
-use Rattle.gix_date.specs.Raw.{allows}
+use Rattle.gix_date.specs.Families.Raw.{allows}
 use Rattle.gix_date.specs.declared.time.Time.{Time}
 use Rattle.gix_date.proofs.PlainHeaders.{plain-raw}
 use Rattle.gix_date.proofs.parsing.raw.parse_plain_raw.Goals as goal

@@ -4,7 +4,7 @@ use Rattle.std.specs.Prelude.{is_some, option_copied, if◌then◌else◌}
 use Rattle.std.specs.Str.{IsUtf8}
 use Rattle.std.specs.Str.Iter.{split_whitespace_rest, split_whitespace_steps}
 use Rattle.std.specs.declared.str.SplitWhitespace.{SplitWhitespace}
-use Rattle.gix_date.specs.SpaceWords.{space_words, first_words}
+use Rattle.gix_date.specs.Text.SpaceWords.{space_words, first_words}
 use Rattle.gix_date.proofs.WordSteps.{step}
 use Rattle.gix_date.proofs.parsing.space_words.first_words.Goals as goal
 

@@ -1,5 +1,5 @@
 use Rattle.std.proofs.Common.{arith, rules, ap, [], ◌∷◌, length-append}
-use Rattle.gix_date.specs.Characters.{newline}
+use Rattle.gix_date.specs.Text.Characters.{newline}
 use Rattle.gix_date_tool.specs.Progress.{stage}
 use Rattle.gix_date_tool.proofs.Taking.{TakesIn-refused, TakesIn-closes, IsReady-closed}
 use Rattle.gix_date_tool.proofs.progress.Progress.end_line.Goals as goal

@@ -1,5 +1,5 @@
 use Rattle.std.proofs.Common.{◌≡◌, ◌<◌, ◌≤◌, ℕ, List, length-append, arith, refl, ap}
-use Rattle.gix_date.specs.Known.{Known}
+use Rattle.gix_date.specs.Devices.Known.{Known}
 use Rattle.gix_date_tool.specs.declared.progress.Progress.{Progress}
 use Rattle.gix_date_tool.specs.Outbox.{output}
 use Rattle.gix_date_tool.specs.Progress.{Stage}

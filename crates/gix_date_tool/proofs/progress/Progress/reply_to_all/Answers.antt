@@ -1,5 +1,5 @@
 use Rattle.std.proofs.Common.{rules, ◌<◌, length, take, subst}
-use Rattle.gix_date.specs.Known.{Gives}
+use Rattle.gix_date.specs.Devices.Known.{Gives}
 use Rattle.gix_date_tool.specs.Progress.{stage}
 use Rattle.gix_date_tool.proofs.Reading.{HasRead-first, HasRead-sent, HasRead-taken, IsReady-fresh, IsReady-sent, Ran-unsent, Ran-unread, Ran-ended, Ran-stopped}
 use Rattle.gix_date_tool.proofs.progress.Progress.reply_to_all.Goals as goal

@@ -1,5 +1,5 @@
 use Rattle.std.proofs.Common.{◌+◌, ◌-◌, ◌*◌, length}
-use Rattle.gix_date_tool.specs.declared.lines.TheConstants.{LONGEST_LINE, MOST_LINES}
+use Rattle.gix_date_tool.specs.declared.lines.TheConstants.{MAX_LINE_LEN, MAX_LINES}
 use Rattle.gix_date_tool.specs.Progress.{stage, IsReady}
 use Rattle.gix_date_tool.specs.Run.{change}
 use Rattle.gix_date_tool.proofs.Reading.{HasRead}
@@ -16,4 +16,4 @@ invariant-pieces g l =
 
 -- how many bytes may still come within the limits, each newline with its line
 abbrev pub decreases-pieces : goal.decreases-pieces
-decreases-pieces g l = (MOST_LINES + 1) * (LONGEST_LINE + 1) - (l.self.ended * (LONGEST_LINE + 1) + length l.self.line.items)
+decreases-pieces g l = (MAX_LINES + 1) * (MAX_LINE_LEN + 1) - (l.self.ended * (MAX_LINE_LEN + 1) + length l.self.line.items)

@@ -1,16 +1,16 @@
 use Rattle.std.proofs.Common.{arith, rules, ◌≡◌, ◌<◌, length, Bool, false, List, ℕ, [], ◌∷◌, ◌++◌, ◌∙◌, sym, ap, refl, subst, append_assoc, Ok, Err}
 use Rattle.std.proofs.lemmas.Bool.Decides.{nat_tests}
 use Rattle.std.specs.Prelude.{◌==◌}
-use Rattle.gix_date.specs.Characters.{newline}
+use Rattle.gix_date.specs.Text.Characters.{newline}
 use Rattle.gix_date_tool.specs.Lines.{with_newline}
 use Rattle.gix_date_tool.specs.Progress.{stage, TakesIn}
 use Rattle.gix_date_tool.proofs.Taking.{TakesIn-then, TakesIn-beyond, TakesIn-last, TookIn-nil, IsReady-extended}
 use Rattle.gix_date_tool.proofs.progress.Progress.take_in.Goals as goal
 
 -- a front, then a line with its newline, then the rest
-with_line : (bytes front rest part behind : List ℕ) → bytes ≡ front ++ rest → rest ≡ part ++ newline ∷ behind → bytes ≡ (front ++ with_newline part) ++ behind
-with_line bytes front rest part behind e k = e ∙ ap (λ xs. front ++ xs) (k ∙ sym (append_assoc part (newline ∷ []) behind))
-    ∙ sym (append_assoc front (with_newline part) behind)
+with_line : (bytes front rest part after : List ℕ) → bytes ≡ front ++ rest → rest ≡ part ++ newline ∷ after → bytes ≡ (front ++ with_newline part) ++ after
+with_line bytes front rest part after e k = e ∙ ap (λ xs. front ++ xs) (k ∙ sym (append_assoc part (newline ∷ []) after))
+    ∙ sym (append_assoc front (with_newline part) after)
 
 some_byte : (xs : List ℕ) (b : Bool) → b ≡ (length xs == 0) → b ≡ false → 0 < length xs
 some_byte xs b e h = grind (arith, nat_tests)
@@ -29,8 +29,8 @@ returns-in_err-end_line-clause-takes g c =
     let first = stage c.args.self.now (g.W.Sink.known c.args.writer.now) in
     let last = stage c.end_line.new.self (g.W.Sink.known c.end_line.new.writer) in
     let taken = TakesIn-then last ended (Err fault) far.took c.in_err-end_line.ensures.takes in
-    let all = sym (with_line c.args.bytes.now far.front c.loop-part.rest.now c.in-Some.part.now c.in-Some.behind.now far.cut c.in-Some.ensures.1) in
-    let stopped = subst (λ bytes. TakesIn first last bytes (Err fault)) all (TakesIn-beyond first last (far.front ++ ended) c.in-Some.behind.now fault taken) in
+    let all = sym (with_line c.args.bytes.now far.front c.loop-part.rest.now c.in-Some.part.now c.in-Some.after.now far.cut c.in-Some.ensures.1) in
+    let stopped = subst (λ bytes. TakesIn first last bytes (Err fault)) all (TakesIn-beyond first last (far.front ++ ended) c.in-Some.after.now fault taken) in
     search (rules, stopped)
 
 pub loop-part-preserved : goal.loop-part-preserved
@@ -41,7 +41,7 @@ loop-part-preserved g c =
     record {
       so_far = record {
         front = far.front ++ ended;
-        cut = with_line c.args.bytes.now far.front c.loop-part.rest.now c.in-Some.part.now c.in-Some.behind.now far.cut c.in-Some.ensures.1;
+        cut = with_line c.args.bytes.now far.front c.loop-part.rest.now c.in-Some.part.now c.in-Some.after.now far.cut c.in-Some.ensures.1;
         took = TakesIn-then last ended (Ok tt) far.took c.in_ok-end_line.ensures.takes;
       };
       ready = c.in_ok-end_line.ensures.ready;

@@ -2,13 +2,13 @@ use Rattle.std.proofs.Common.{None, Some}
 use Rattle.std.proofs.lemmas.Str.Pattern.{split_text_parts}
 use Rattle.std.specs.Prelude.{codes}
 use Rattle.gix_signature.specs.Signature.{HasNoCut}
-use Rattle.gix_signature.proofs.Cuts.{the-front, behind_name}
+use Rattle.gix_signature.proofs.Cuts.{the-front, after_name}
 use Rattle.gix_signature.proofs.lines.SignatureRef.between_marks.Goals as goal
 
 pub returns-in_err-name : goal.returns-in_err-name
 returns-in_err-name c =
     let none = split_text_parts (codes " <") c.args.line.now None c.in_err-name.ensures.cases in
-    let fact : HasNoCut c.args.line.now = λ q cut. none q.name (behind_name q) cut.whole in
+    let fact : HasNoCut c.args.line.now = λ q cut. none q.name (after_name q) cut.whole in
     rw c.from_residual.ensures fact
 
 pub returns-in_err-mail : goal.returns-in_err-mail

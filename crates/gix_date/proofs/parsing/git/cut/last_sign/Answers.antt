@@ -1,5 +1,5 @@
 use Rattle.std.proofs.Common.{◌≡◌, ◌-◌, ap, ◌∙◌, sym, arith, false}
-use Rattle.gix_date.specs.ClockCut.{last_place, has_offset_at, last_sign}
+use Rattle.gix_date.specs.Git.ClockCut.{last_place, has_offset_at, last_sign}
 use Rattle.gix_date.proofs.LastPlaces.{not_at}
 use Rattle.gix_date.proofs.parsing.git.cut.last_sign.Goals as goal
 

@@ -1,5 +1,5 @@
 use Rattle.std.proofs.Common.{◌≡◌, ◌≤◌, length}
-use Rattle.gix_date.specs.ClockCut.{last_place, has_offset_at, last_sign}
+use Rattle.gix_date.specs.Git.ClockCut.{last_place, has_offset_at, last_sign}
 use Rattle.gix_date.proofs.parsing.git.cut.last_sign.Given as goal
 
 -- no place from here on passes

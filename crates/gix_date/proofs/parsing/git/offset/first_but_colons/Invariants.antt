@@ -1,5 +1,5 @@
 use Rattle.std.proofs.Common.{◌≡◌, length}
-use Rattle.gix_date.specs.Git.{without_colons}
+use Rattle.gix_date.specs.Git.Forms.{without_colons}
 use Rattle.gix_date.proofs.parsing.git.offset.first_but_colons.Given as goal
 
 -- only colons were passed

@@ -1,8 +1,8 @@
 use Rattle.std.proofs.Common.{ℕ, List, Bor, rules, tests}
 use Rattle.std.proofs.lemmas.Iterator.{YieldsList-from_slice}
 use Rattle.std.proofs.lemmas.Iterator.Search.{any_from_yields_List}
-use Rattle.gix_date.specs.Names.{is_name}
-use Rattle.gix_date.specs.PatternFields.{is_weekday}
+use Rattle.gix_date.specs.Text.Names.{is_name}
+use Rattle.gix_date.specs.Fields.DateFields.{is_weekday}
 use Rattle.gix_date.proofs.parsing.patterns.fields.is_weekday.Goals as goal
 
 pub returns : goal.returns

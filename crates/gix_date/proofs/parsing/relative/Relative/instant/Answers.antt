@@ -1,5 +1,5 @@
 use Rattle.jiff.specs.Words.{plain_zoned, zoned_nanos}
-use Rattle.gix_date.specs.RelativeWords.{relative_words}
+use Rattle.gix_date.specs.Relative.Words.{relative_words}
 use Rattle.gix_date.proofs.Chains.{reaches-is, reaches-back}
 use Rattle.gix_date.proofs.Steps.{at-same}
 use Rattle.gix_date.proofs.parsing.relative.Relative.instant.Goals as goal

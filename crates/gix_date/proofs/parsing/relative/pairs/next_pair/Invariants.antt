@@ -1,8 +1,8 @@
 use Rattle.std.proofs.Common.{◌≡◌, ◌≤◌, length}
 use denote.Text.{Utf8}
 use denote.Shadow.{shadow}
-use Rattle.gix_date.specs.RelativePairs.{pairs_read}
-use Rattle.gix_date.specs.RelativeWords.{relative_words}
+use Rattle.gix_date.specs.Private.RelativePairs.{pairs_read}
+use Rattle.gix_date.specs.Relative.Words.{relative_words}
 use Rattle.gix_date.proofs.parsing.relative.pairs.next_pair.Given as goal
 
 abbrev pub invariant-loop-word : goal.invariant-loop-word

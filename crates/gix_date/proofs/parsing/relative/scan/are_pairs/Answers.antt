@@ -1,4 +1,4 @@
-use Rattle.gix_date.specs.RelativeWords.{relative_words}
+use Rattle.gix_date.specs.Relative.Words.{relative_words}
 use Rattle.gix_date.proofs.RelativeScans.{verdict_at_end}
 use Rattle.gix_date.proofs.RolePlaces.{meant_by}
 use Rattle.gix_date.proofs.parsing.relative.scan.are_pairs.Goals as goal

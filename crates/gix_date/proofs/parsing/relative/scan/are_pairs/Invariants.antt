@@ -2,8 +2,8 @@ use Rattle.std.proofs.Common.{◌≡◌, true, false, length}
 use denote.Text.{Utf8}
 use denote.Shadow.{shadow}
 use Rattle.std.specs.List.{fold}
-use Rattle.gix_date.specs.RelativeWords.{relative_words}
-use Rattle.gix_date.specs.RelativeScan.{step}
+use Rattle.gix_date.specs.Relative.Words.{relative_words}
+use Rattle.gix_date.specs.Private.RelativeScan.{step}
 use Rattle.gix_date.proofs.RelativeScans.{scan}
 use Rattle.gix_date.proofs.parsing.relative.scan.are_pairs.Given as goal
 

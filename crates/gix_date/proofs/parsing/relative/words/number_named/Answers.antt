@@ -1,8 +1,8 @@
 use Rattle.std.proofs.Common.{◌∙◌, sym, ap, ℕ, ◌+◌, pos, List, Bor, rules, tests, option_map}
 use Rattle.std.proofs.lemmas.Iterator.{YieldsList-from_slice}
 use Rattle.std.proofs.lemmas.Iterator.Search.{position_from_yields_List}
-use Rattle.gix_date.specs.Names.{is_name}
-use Rattle.gix_date.specs.RelativeWords.{number_named}
+use Rattle.gix_date.specs.Text.Names.{is_name}
+use Rattle.gix_date.specs.Relative.Words.{number_named}
 use Rattle.gix_date.proofs.parsing.relative.words.number_named.Goals as goal
 
 pub returns-in_err-place : goal.returns-in_err-place

@@ -1,0 +1,6 @@
+-- Sinks and sources, and the texts that are lent and copied.
+pub mod Known
+pub mod Device
+pub mod Lending
+pub mod TimeBuf
+pub mod InputBytes

@@ -1,0 +1,14 @@
+-- What a family answers.
+use Rattle.gix_date.specs.Relative.Dates.{RelativeDate}
+use Rattle.gix_date.specs.declared.time.Time.{Time}
+
+-- what a family answers of a text that it holds
+pub data FamilyAnswer : Type 0 where
+  -- a time, whatever the moment
+  Absolute : Time → FamilyAnswer
+  -- a formatted date whose offset is above 23:59
+  OffsetBeyond : FamilyAnswer
+  -- a day whose midnight is no instant
+  InstantBeyond : FamilyAnswer
+  -- a time that the moment is needed for
+  Relative : RelativeDate → FamilyAnswer

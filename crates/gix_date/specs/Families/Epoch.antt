@@ -1,0 +1,34 @@
+-- Seconds alone: at texts, and the bare epoch.
+use Rattle.std.specs.Prelude.{ℕ, List, ℤ, pos, if◌then◌else◌, Option, Some, None, option_map}
+use Rattle.std.specs.Option.{option_or}
+use Rattle.std.specs.Int.Signed.{le_z}
+use Rattle.gix_date.specs.Text.Characters.{at_sign}
+use Rattle.gix_date.specs.Fields.Front.{skip_char, ◌>>=◌}
+use Rattle.gix_date.specs.Text.Numbers.{int_value}
+use Rattle.gix_date.specs.Families.Raw.{OffsetRule, is_raw_offset, raw_time_by}
+use Rattle.gix_date.specs.declared.parsing.dates.TheConstants.{MIN_EPOCH}
+use Rattle.gix_date.specs.declared.time.Time.{Time}
+
+-- the time of these seconds in UTC
+abbrev pub utc_time : ℤ → Time
+utc_time seconds = record { seconds = seconds; offset = pos 0 }
+
+-- `@`, and then a raw text or an int text with nothing round it
+unfoldable pub at_time_by : OffsetRule → List ℕ → Option Time
+at_time_by rule text = do
+  rest ← skip_char at_sign text
+  option_or (raw_time_by rule rest) (option_map utc_time (int_value rest))
+
+-- by quarters of an hour
+abbrev pub at_time : List ℕ → Option Time
+at_time = at_time_by is_raw_offset
+
+-- the least seconds of a bare epoch
+abbrev pub min_bare_epoch : ℤ
+min_bare_epoch = MIN_EPOCH
+
+-- an int text with nothing round it, of at least 100000000: seconds that no compact date can be mistaken for
+unfoldable pub epoch_time : List ℕ → Option Time
+epoch_time text = do
+  seconds ← int_value text
+  if le_z min_bare_epoch seconds then Some (utc_time seconds) else None

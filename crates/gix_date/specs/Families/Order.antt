@@ -1,0 +1,107 @@
+-- The families of texts that a date may have, in their order, and the answer of the first that holds a text.
+use Rattle.std.specs.Prelude.{◌≡◌, ℕ, List, [], ◌∷◌, ◌++◌, map, Option, Some, None, option_map, Result, Ok, Bool, true, false}
+use Rattle.std.specs.Option.{option_or}
+use Rattle.std.specs.Result.{IsErrAnd}
+use Rattle.jiff.specs.declared.zoned.Zoned.{Zoned}
+use Rattle.gix_date.specs.Families.Answer.{FamilyAnswer, Absolute, OffsetBeyond, InstantBeyond, Relative}
+use Rattle.gix_date.specs.Families.Patterns.{short_answer, rfc2822_answer, iso8601_answer, iso8601_strict_answer, gitoxide_answer, default_answer}
+use Rattle.gix_date.specs.Families.Raw.{OffsetRule, is_raw_offset, raw_time_by}
+use Rattle.gix_date.specs.Families.Epoch.{at_time_by, epoch_time}
+use Rattle.gix_date.specs.Git.Forms.{git_time}
+use Rattle.gix_date.specs.Relative.Dates.{relative_date, RelativeOutcome}
+use Rattle.gix_date.specs.declared.error.Error.{Error}
+use Rattle.gix_date.specs.declared.error.Error.TheVariants as errors
+use Rattle.gix_date.specs.declared.time.Time.{Time}
+
+-- the families, by their names
+pub data Family : Type 0 where
+  AtText : Family
+  -- a day alone
+  Short : Family
+  Rfc2822 : Family
+  Iso8601 : Family
+  Iso8601Strict : Family
+  Gitoxide : Family
+  -- Git's default format
+  GitDefault : Family
+  BareEpoch : Family
+  -- Git's own forms
+  GitForm : Family
+  RelativeText : Family
+  RawText : Family
+
+-- what a family answers of a text, where it holds it, by a rule for the offsets of raw texts
+abbrev pub family_answer_by : OffsetRule → Family → List ℕ → Option FamilyAnswer
+family_answer_by rule AtText text = option_map Absolute (at_time_by rule text)
+family_answer_by rule Short text = short_answer text
+family_answer_by rule Rfc2822 text = rfc2822_answer text
+family_answer_by rule Iso8601 text = iso8601_answer text
+family_answer_by rule Iso8601Strict text = iso8601_strict_answer text
+family_answer_by rule Gitoxide text = gitoxide_answer text
+family_answer_by rule GitDefault text = default_answer text
+family_answer_by rule BareEpoch text = option_map Absolute (epoch_time text)
+family_answer_by rule GitForm text = option_map Absolute (git_time text)
+family_answer_by rule RelativeText text = option_map Relative (relative_date text)
+family_answer_by rule RawText text = option_map Absolute (raw_time_by rule text)
+
+-- the families before Git's own forms, and all of them, in the order in which they are asked
+abbrev pub families_before_git : List Family
+families_before_git = AtText ∷ Short ∷ Rfc2822 ∷ Iso8601 ∷ Iso8601Strict ∷ Gitoxide ∷ GitDefault ∷ BareEpoch ∷ []
+
+abbrev pub families : List Family
+families = families_before_git ++ GitForm ∷ RelativeText ∷ RawText ∷ []
+
+-- the answer of the first that has one
+abbrev pub first_answer_of : List (Option FamilyAnswer) → Option FamilyAnswer
+first_answer_of [] = None
+first_answer_of (answer ∷ answers) = option_or answer (first_answer_of answers)
+
+-- what each family answers of a text, in their order
+abbrev pub family_answers_by : OffsetRule → List ℕ → List (Option FamilyAnswer)
+family_answers_by rule text = map (λ family. family_answer_by rule family text) families
+
+-- the answer of the first family that holds the text
+unfoldable pub first_family_by : OffsetRule → List ℕ → Option FamilyAnswer
+first_family_by rule text = first_answer_of (family_answers_by rule text)
+
+-- what each family before Git's own forms answers
+abbrev pub answers_before_git_by : OffsetRule → List ℕ → List (Option FamilyAnswer)
+answers_before_git_by rule text = map (λ family. family_answer_by rule family text) families_before_git
+
+-- the same where raw offsets are quarters of an hour
+abbrev pub family_answer : Family → List ℕ → Option FamilyAnswer
+family_answer = family_answer_by is_raw_offset
+
+abbrev pub first_family : List ℕ → Option FamilyAnswer
+first_family = first_family_by is_raw_offset
+
+abbrev pub answers_before_git : List ℕ → List (Option FamilyAnswer)
+answers_before_git = answers_before_git_by is_raw_offset
+
+-- the refusal of a text that no family holds, or out of memory for its copy
+abbrev pub RefusesUnknown : List ℕ → Error → Type 0
+RefusesUnknown text (errors.UnknownFormat input) = input ≡ text
+RefusesUnknown text errors.Memory = Unit {0}
+RefusesUnknown text _ = ⊥
+
+-- the refusal of a day that is no instant, or out of memory for the copy of its text
+abbrev pub RefusesDate : List ℕ → Error → Type 0
+RefusesDate text (errors.DateConversion input) = input ≡ text
+RefusesDate text errors.Memory = Unit {0}
+RefusesDate text _ = ⊥
+
+-- a call with this answer copies its text for a refusal
+abbrev pub is_copied : Option FamilyAnswer → Bool
+is_copied None = true
+is_copied (Some OffsetBeyond) = true
+is_copied (Some InstantBeyond) = true
+is_copied (Some _) = false
+
+-- What a call comes to that was given this text and this moment. A time, and what a relative text comes to, is never
+-- replaced by a refusal of memory.
+abbrev pub ParseOutcome : Option FamilyAnswer → List ℕ → Option Zoned → Result Time Error → Type 0
+ParseOutcome (Some (Absolute t)) text now result = result ≡ Ok t
+ParseOutcome (Some (Relative date)) text now result = RelativeOutcome date now result
+ParseOutcome (Some OffsetBeyond) text now result = IsErrAnd result (RefusesUnknown text)
+ParseOutcome (Some InstantBeyond) text now result = IsErrAnd result (RefusesDate text)
+ParseOutcome None text now result = IsErrAnd result (RefusesUnknown text)

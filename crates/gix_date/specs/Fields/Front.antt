@@ -1,0 +1,16 @@
+-- Readers of fields: each takes the front of a text, and gives a value and what stands after it.
+use Rattle.std.specs.Prelude.{ℕ, List, [], ◌∷◌, ◌==◌, if◌then◌else◌, Option, Some, None, option_and_then}
+
+-- a value and the rest of the text, where its front has the form
+abbrev pub ReadFront : Type 0 → Type 0
+ReadFront A = Option (A × List ℕ)
+
+infixl 10 ◌>>=◌
+-- to go on with what was found
+abbrev pub ◌>>=◌ : {A B : Type 0} → Option A → (A → Option B) → Option B
+found >>= next = option_and_then next found
+
+-- what stands after this character, where it is the first
+unfoldable pub skip_char : ℕ → List ℕ → Option (List ℕ)
+skip_char mark [] = None
+skip_char mark (c ∷ rest) = if c == mark then Some rest else None

@@ -1,0 +1,147 @@
+-- Formatted dates as lists of pieces: one list says how a text is read, which texts are written so, and what is
+-- printed.
+use Rattle.std.specs.Prelude.{◌≡◌, ℕ, ℤ, pos, List, [], ◌∷◌, ◌++◌, ◌⊎◌, if◌then◌else◌, Option, Some, None, unwrap_or}
+use Rattle.gix_date.specs.Text.Characters.{space, comma, letter_t}
+use Rattle.gix_date.specs.Fields.Front.{skip_char, ◌>>=◌}
+use Rattle.gix_date.specs.Fields.FieldTexts.{IsField, IsYear, AreSpaces, IsDayName, IsMonthName, IsPlainDate, IsClock, IsMailClock, IsDayPrefix, four_digits, date_text, clock_text}
+use Rattle.gix_date.specs.Header.Text.{compact_offset_text}
+use Rattle.gix_date.specs.Text.Names.{day_name, month_name}
+use Rattle.gix_date.specs.Text.Numbers.{read_field, read_year}
+use Rattle.gix_date.specs.Fields.DateFields.{skip_day_name, skip_spaces, skip_weekday, read_month, read_plain_date, read_clock, read_mail_clock}
+use Rattle.gix_date.specs.Fields.DateOffsets.{compact_offset, strict_offset, mail_zone, strict_offset_text}
+use Rattle.gix_date.specs.Text.SpaceWords.{is_nonempty}
+use Rattle.gix_date.specs.declared.parsing.civil.ClockFields.{ClockFields}
+use Rattle.gix_date.specs.declared.parsing.civil.DateFields.{DateFields}
+
+-- a year, a month and a day; an hour, a minute and a second: the names by which another crate says the fields of the
+-- code
+abbrev pub LocalDate : Type 0
+LocalDate = DateFields
+
+abbrev pub LocalClock : Type 0
+LocalClock = ClockFields
+
+-- What a formatted date says, as it is read and as it is printed: the day of the week (0 is Monday), the date, the
+-- clock, and the offset in seconds.
+pub record LocalTime : Type 0 where
+  pub weekday : ℕ
+  pub date : DateFields
+  pub clock : ClockFields
+  pub offset : ℤ
+
+-- the kinds of pieces
+pub data Piece : Type 0 where
+  -- `Www`
+  DayName : Piece
+  -- `Www, `, which may be left out
+  MailDayName : Piece
+  -- `Mmm`
+  MonthName : Piece
+  -- the day of the month, one digit or two
+  Day : Piece
+  -- four digits
+  Year : Piece
+  -- `YYYY-M-D`
+  PlainDate : Piece
+  -- `h:m:s`
+  Clock : Piece
+  -- `h:m:s` or `h:m`
+  MailClock : Piece
+  -- one space or more
+  Spaces : Piece
+  -- `T`
+  LetterT : Piece
+  -- `+hhmm`, or with seconds
+  Offset : Piece
+  -- `+hh:mm`, or with seconds
+  ColonOffset : Piece
+  -- `+hhmm`, or a zone's name
+  MailOffset : Piece
+
+-- How a piece is read off the front of a text: `t` is what was read before it, and `next` goes on with `t` with what
+-- the piece tells and with the rest of the text. A day's name may be any and is not kept; an offset is all that is left
+-- of the text.
+abbrev pub read_piece : {B : Type 0} → Piece → LocalTime → (LocalTime → List ℕ → Option B) → List ℕ → Option B
+read_piece DayName t next text = skip_weekday text >>= λ rest. next t rest
+read_piece MailDayName t next text = next t (unwrap_or (skip_day_name text) text)
+read_piece MonthName t next text =
+    read_month text >>= λ month. next (record t { date = record t.date { month = month.0 } }) month.1
+read_piece Day t next text = read_field text >>= λ day. next (record t { date = record t.date { day = day.0 } }) day.1
+read_piece Year t next text =
+    read_year text >>= λ year. next (record t { date = record t.date { year = year.0 } }) year.1
+read_piece PlainDate t next text = read_plain_date text >>= λ date. next (record t { date = date.0 }) date.1
+read_piece Clock t next text = read_clock text >>= λ clock. next (record t { clock = clock.0 }) clock.1
+read_piece MailClock t next text = read_mail_clock text >>= λ clock. next (record t { clock = clock.0 }) clock.1
+read_piece Spaces t next text = skip_spaces text >>= λ rest. next t rest
+read_piece LetterT t next text = skip_char letter_t text >>= λ rest. next t rest
+read_piece Offset t next text = compact_offset text >>= λ offset. next (record t { offset = offset }) []
+read_piece ColonOffset t next text = strict_offset text >>= λ offset. next (record t { offset = offset }) []
+read_piece MailOffset t next text = mail_zone text >>= λ offset. next (record t { offset = offset }) []
+
+-- pieces, one after the other, and nothing after the last
+abbrev pub read_pieces : {B : Type 0} → List Piece → LocalTime → (LocalTime → Option B) → List ℕ → Option B
+read_pieces [] t next text = if is_nonempty text then None else next t
+read_pieces (piece ∷ pieces) t next text = read_piece piece t (λ more. read_pieces pieces more next) text
+
+-- before the first piece
+abbrev pub nothing_read : LocalTime
+nothing_read = record {
+  weekday = 0;
+  date = record { year = 0; month = 0; day = 0 };
+  clock = record { hour = 0; minute = 0; second = 0 };
+  offset = pos 0;
+}
+
+-- a whole text is read by a layout, and what was read is answered
+abbrev pub layout_answer : {B : Type 0} → List Piece → (LocalTime → Option B) → List ℕ → Option B
+layout_answer layout answer text = read_pieces layout nothing_read answer text
+
+-- which texts are this piece of such a time
+abbrev pub IsPiece : Piece → LocalTime → List ℕ → Type 0
+IsPiece DayName t text = IsDayName text
+IsPiece MailDayName t text = (text ≡ []) ⊎ IsDayPrefix text
+IsPiece MonthName t text = IsMonthName text t.date.month
+IsPiece Day t text = IsField text t.date.day
+IsPiece Year t text = IsYear text t.date.year
+IsPiece PlainDate t text = IsPlainDate text t.date
+IsPiece Clock t text = IsClock text t.clock
+IsPiece MailClock t text = IsMailClock text t.clock
+IsPiece Spaces t text = AreSpaces text
+IsPiece LetterT t text = text ≡ letter_t ∷ []
+IsPiece Offset t text = compact_offset text ≡ Some t.offset
+IsPiece ColonOffset t text = strict_offset text ≡ Some t.offset
+IsPiece MailOffset t text = mail_zone text ≡ Some t.offset
+
+-- the text begins with this piece of such a time, and the rest is more
+pub record BeginsWith (piece : Piece) (t : LocalTime) (IsMore : List ℕ → Type 0) (text : List ℕ) : Type 0 where
+  pub front : List ℕ
+  pub rest : List ℕ
+  pub whole : text ≡ front ++ rest
+  pub is : IsPiece piece t front
+  pub more : IsMore rest
+
+-- the text is these pieces of such a time, one after the other
+abbrev pub ArePieces : List Piece → LocalTime → List ℕ → Type 0
+ArePieces [] t text = text ≡ []
+ArePieces (piece ∷ pieces) t text = BeginsWith piece t (ArePieces pieces t) text
+
+-- how this piece of such a time is printed, with the day of the month by `day`
+abbrev pub print_piece : (ℕ → List ℕ) → Piece → LocalTime → List ℕ
+print_piece day DayName t = day_name t.weekday
+print_piece day MailDayName t = day_name t.weekday ++ comma ∷ space ∷ []
+print_piece day MonthName t = month_name t.date.month
+print_piece day Day t = day t.date.day
+print_piece day Year t = four_digits t.date.year
+print_piece day PlainDate t = date_text t.date
+print_piece day Clock t = clock_text t.clock
+print_piece day MailClock t = clock_text t.clock
+print_piece day Spaces t = space ∷ []
+print_piece day LetterT t = letter_t ∷ []
+print_piece day Offset t = compact_offset_text t.offset
+print_piece day ColonOffset t = strict_offset_text t.offset
+print_piece day MailOffset t = compact_offset_text t.offset
+
+-- the pieces, one after the other
+abbrev pub print_pieces : (ℕ → List ℕ) → List Piece → LocalTime → List ℕ
+print_pieces day [] t = []
+print_pieces day (piece ∷ pieces) t = print_piece day piece t ++ print_pieces day pieces t

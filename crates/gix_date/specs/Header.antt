@@ -1,0 +1,5 @@
+-- Commit headers: how their times are written and read.
+pub mod Text
+pub mod Reading
+pub mod Canonical
+pub mod Laws

@@ -1,0 +1,31 @@
+-- What the laws of headers say.
+use Rattle.std.specs.Prelude.{◌≡◌, ◌↔◌, ◌/◌, ℕ, List, true, Some, IsSomeAnd, unsigned_abs, int_lt, pos}
+use Rattle.gix_date.specs.Header.Canonical.{is_canonical_header}
+use Rattle.gix_date.specs.Header.Reading.{header_time}
+use Rattle.gix_date.specs.Header.Text.{header_text}
+use Rattle.gix_date.specs.declared.time.Time.{Time}
+
+-- reading a text and writing what was read gives the text back
+pub record ComesBack (text : List ℕ) : Type 0 where
+  pub time : Time
+  pub is_read : header_time text ≡ Some time
+  pub is_written : header_text time ≡ Some text
+
+-- a text comes back exactly where it is canonical
+abbrev pub CanonicalComesBack : List ℕ → Type 0
+CanonicalComesBack text = ComesBack text ↔ (is_canonical_header text ≡ true)
+
+-- a time has a header text, and is read from it
+abbrev pub ComesBackFromHeader : Time → Type 0
+ComesBackFromHeader t = IsSomeAnd (header_text t) (λ text. header_time text ≡ Some t)
+
+-- two times are alike in a header: their seconds agree, whether the offset is negative, and its whole minutes
+abbrev pub AreAlike : Time → Time → Type 0
+AreAlike a b =
+    (a.seconds ≡ b.seconds)
+    × (int_lt a.offset (pos 0) ≡ int_lt b.offset (pos 0))
+    × (unsigned_abs a.offset / 60 ≡ unsigned_abs b.offset / 60)
+
+-- two times have the same header text exactly where they are alike
+abbrev pub AreWrittenAlike : Time → Time → Type 0
+AreWrittenAlike a b = (header_text a ≡ header_text b) ↔ AreAlike a b

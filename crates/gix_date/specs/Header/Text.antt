@@ -1,0 +1,53 @@
+-- The text of a time in a commit header.
+use Rattle.std.specs.Prelude.{◌≡◌, ℕ, ◌/◌, ◌%◌, List, [], ◌∷◌, ◌++◌, ℤ, pos, int_lt, nat_lt, unsigned_abs, if◌then◌else◌, Option, Some, None, IsSomeAnd, Result, Ok, Err}
+use Rattle.std.specs.Borrow.{Bor}
+use Rattle.gix_date.specs.Text.Characters.{space, plus, minus}
+use Rattle.gix_date.specs.Devices.Known.{Known, Takes, TakesProperPrefix, TakesNothing}
+use Rattle.gix_date.specs.Text.Numbers.{decimal_text, two_digits}
+use Rattle.gix_date.specs.declared.error.Error.{Error}
+use Rattle.gix_date.specs.declared.error.Error.TheVariants.{OffsetTooWide, Write}
+use Rattle.gix_date.specs.declared.time.Time.{Time}
+use Rattle.gix_date.specs.declared.time.write.TheConstants.{HUNDRED_HOURS, MAX_TEXT_LEN}
+
+-- the least seconds of an offset without a text, and the most bytes of a text
+abbrev pub hundred_hours : ℕ
+hundred_hours = HUNDRED_HOURS
+
+abbrev pub max_text_len : ℕ
+max_text_len = MAX_TEXT_LEN
+
+-- `-` where the offset is below 0, else `+`
+abbrev pub offset_sign : ℤ → ℕ
+offset_sign offset = if int_lt offset (pos 0) then minus else plus
+
+-- two digits of whole hours, and two of the whole minutes that remain
+abbrev pub hours_and_minutes : ℕ → List ℕ
+hours_and_minutes seconds = two_digits (seconds / 3600) ++ two_digits (seconds % 3600 / 60)
+
+-- an offset as `+hhmm`
+abbrev pub compact_offset_text : ℤ → List ℕ
+compact_offset_text offset = offset_sign offset ∷ hours_and_minutes (unsigned_abs offset)
+
+-- the header text of a time: none where the offset is 100 hours or more either way
+unfoldable pub header_text : Time → Option (List ℕ)
+header_text t =
+    if nat_lt (unsigned_abs t.offset) hundred_hours
+    then Some (decimal_text t.seconds ++ space ∷ compact_offset_text t.offset) else None
+
+-- What writing a time came to: the writer took all of the text, or no byte, or a proper prefix and has that fault.
+abbrev pub Writes : Time → Known → Known → Result Unit Error → Type 0
+Writes t old new (Ok _) = IsSomeAnd (header_text t) (Takes old new)
+Writes t old new (Err OffsetTooWide) = (header_text t ≡ None) × TakesNothing old new
+Writes t old new (Err (Write kind)) = IsSomeAnd (header_text t) (TakesProperPrefix old new) × (new.fault ≡ Some kind)
+Writes t old new (Err _) = ⊥
+
+-- the header text of a time, or the refusal of one that has none
+abbrev pub GivesText : Time → Result (Bor (List ℕ)) Error → Type 0
+GivesText t (Ok text) = header_text t ≡ Some text.now
+GivesText t (Err OffsetTooWide) = header_text t ≡ None
+GivesText t (Err _) = ⊥
+
+-- what stays in the buffer: the text that was lent, and nothing after a refusal
+abbrev pub text_left : Result (Bor (List ℕ)) Error → List ℕ
+text_left (Ok text) = text.now
+text_left (Err _) = []

@@ -1,0 +1,72 @@
+-- What the clock of a time shows at its offset, from its seconds.
+use Rattle.std.specs.Prelude.{◌≡◌, ℕ, ◌+◌, ◌-◌, ◌*◌, ◌/◌, ◌%◌, nat_lt, if◌then◌else◌, ℤ, pos, neg_ℤ, ◌+ℤ◌, ◌-ℤ◌, unsigned_abs}
+use Rattle.std.specs.Int.{int_div_euclid, int_rem_euclid}
+use Rattle.jiff_core.specs.Calendar.{IsBetween, weekday_number}
+use Rattle.gix_date.specs.Fields.Layout.{LocalTime}
+use Rattle.gix_date.specs.declared.time.Time.{Time}
+
+-- Years that begin on 1 March, so that a leap day comes last, count from the year -10000, and days from its 1 March. Of
+-- quarters of a day such a year has 1461 and a century 146097, taken over four of them.
+abbrev pub century_of : ℕ → ℕ
+century_of days = (4 * days + 3) / 146_097
+
+abbrev pub day_of_century : ℕ → ℕ
+day_of_century days = (4 * days + 3) % 146_097 / 4
+
+-- the year in which a day lies, and how many of its days come before
+abbrev pub march_year : ℕ → ℕ × ℕ
+march_year days =
+    (100 * century_of days + (4 * day_of_century days + 3) / 1461, (4 * day_of_century days + 3) % 1461 / 4)
+
+-- The month, from 3 to 14, and the day of it, by how many days of such a year come before: five months have 153.
+abbrev pub march_month : ℕ → ℕ
+march_month before = (5 * before + 461) / 153
+
+abbrev pub march_day : ℕ → ℕ
+march_day before = (5 * before + 461) % 153 / 5 + 1
+
+-- the date by the calendar: months 13 and 14 are January and February of the next year
+abbrev pub january_date : ℕ × ℕ → ℤ × ℕ × ℕ
+january_date (year, before) =
+    if nat_lt 12 (march_month before) then (pos (year + 1) -ℤ pos 10_000, march_month before - 12, march_day before)
+    else (pos year -ℤ pos 10_000, march_month before, march_day before)
+
+-- the year, month and day of a day number: 4371953 days lie from 1 January of the year -10000 to that of 1970, and 60
+-- to its 1 March
+unfoldable pub date_of_day : ℤ → ℤ × ℕ × ℕ
+date_of_day day = january_date (march_year (unsigned_abs (day +ℤ pos 4_371_953) - 60))
+
+-- the seconds that a time's own clock has counted since 1970-01-01 00:00:00, the days of these, and the seconds of its
+-- day
+abbrev pub local_seconds : Time → ℤ
+local_seconds t = t.seconds +ℤ t.offset
+
+abbrev pub local_day : Time → ℤ
+local_day t = int_div_euclid (local_seconds t) (pos 86_400)
+
+abbrev pub second_of_day : Time → ℕ
+second_of_day t = unsigned_abs (int_rem_euclid (local_seconds t) (pos 86_400))
+
+-- what a time's own clock shows
+unfoldable pub clock_of : Time → LocalTime
+clock_of t =
+    let (year, month, day) = date_of_day (local_day t) in
+    let second = second_of_day t in
+    record {
+      weekday = weekday_number (local_day t);
+      date = record { year = unsigned_abs year; month = month; day = day };
+      clock = record { hour = second / 3600; minute = second / 60 % 60; second = second % 60 };
+      offset = t.offset;
+    }
+
+-- the first second of the year 1000 by a clock, and the last of the year 9999
+abbrev pub first_ordinary : ℤ
+first_ordinary = neg_ℤ (pos 30_610_224_000)
+
+abbrev pub last_ordinary : ℤ
+last_ordinary = pos 253_402_300_799
+
+-- the time's own clock shows a year of four digits, and its offset is whole minutes
+pub record HasOrdinaryClock (t : Time) : Type 0 where
+  pub in_years : IsBetween first_ordinary last_ordinary (local_seconds t)
+  pub minutes : unsigned_abs t.offset % 60 ≡ 0

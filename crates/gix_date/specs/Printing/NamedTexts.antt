@@ -1,0 +1,77 @@
+-- The texts of the named formats.
+use Rattle.std.specs.Prelude.{◌≡◌, ℕ, ◌%◌, ◌≤◌, List, pos, unsigned_abs, codes, Ok}
+use Rattle.std.specs.Fmt.{decimal}
+use Rattle.jiff.specs.Types.{PlainZoned}
+use Rattle.jiff_core.specs.Date.{weekday_of}
+use Rattle.jiff_strtime.specs.Show.{Shown}
+use Rattle.gix_date.specs.Fields.Layout.{LocalTime, print_pieces}
+use Rattle.gix_date.specs.Text.Numbers.{two_digits}
+use Rattle.gix_date.specs.Families.Patterns.{short_layout, rfc2822_layout, iso8601_layout, iso8601_strict_layout, gitoxide_layout, default_layout}
+use Rattle.gix_date.specs.Printing.Formats.{IsShown, IsUnprinted}
+
+-- what a zone's clock shows
+abbrev pub local_time : PlainZoned → LocalTime
+local_time z = record {
+  weekday = weekday_of z.datetime.date;
+  date = record { year = unsigned_abs z.datetime.date.year; month = z.datetime.date.month; day = z.datetime.date.day };
+  clock = record { hour = z.datetime.time.hour; minute = z.datetime.time.minute; second = z.datetime.time.second };
+  offset = z.offset.seconds;
+}
+
+-- the year has four digits, and the offset whole minutes
+pub record IsOrdinary (z : PlainZoned) : Type 0 where
+  pub year : ℕ
+  pub year_is : z.datetime.date.year ≡ pos year
+  pub low : 1000 ≤ year
+  pub high : year ≤ 9999
+  pub minutes : unsigned_abs z.offset.seconds % 60 ≡ 0
+
+-- The pattern of each named format, and the text that it shows: the pieces of a formatted date, with the day of the
+-- month in two digits or in as few as it has.
+abbrev pub short_pattern : List ℕ
+short_pattern = codes "%Y-%m-%d"
+
+abbrev pub short_text : LocalTime → List ℕ
+short_text t = print_pieces two_digits short_layout t
+
+abbrev pub rfc2822_pattern : List ℕ
+rfc2822_pattern = codes "%a, %d %b %Y %H:%M:%S %z"
+
+abbrev pub rfc2822_text : LocalTime → List ℕ
+rfc2822_text t = print_pieces two_digits rfc2822_layout t
+
+abbrev pub git_rfc2822_pattern : List ℕ
+git_rfc2822_pattern = codes "%a, %-d %b %Y %H:%M:%S %z"
+
+abbrev pub git_rfc2822_text : LocalTime → List ℕ
+git_rfc2822_text t = print_pieces decimal rfc2822_layout t
+
+abbrev pub iso8601_pattern : List ℕ
+iso8601_pattern = codes "%Y-%m-%d %H:%M:%S %z"
+
+abbrev pub iso8601_text : LocalTime → List ℕ
+iso8601_text t = print_pieces two_digits iso8601_layout t
+
+abbrev pub iso8601_strict_pattern : List ℕ
+iso8601_strict_pattern = codes "%Y-%m-%dT%H:%M:%S%:z"
+
+abbrev pub iso8601_strict_text : LocalTime → List ℕ
+iso8601_strict_text t = print_pieces two_digits iso8601_strict_layout t
+
+abbrev pub gitoxide_pattern : List ℕ
+gitoxide_pattern = codes "%a %b %d %Y %H:%M:%S %z"
+
+abbrev pub gitoxide_text : LocalTime → List ℕ
+gitoxide_text t = print_pieces two_digits gitoxide_layout t
+
+abbrev pub default_pattern : List ℕ
+default_pattern = codes "%a %b %-d %H:%M:%S %Y %z"
+
+abbrev pub default_text : LocalTime → List ℕ
+default_text t = print_pieces decimal default_layout t
+
+-- by this pattern an ordinary zoned value is printed so, and never refused
+abbrev pub ShowsText : List ℕ → (LocalTime → List ℕ) → Type 0
+ShowsText pattern text =
+    (z : PlainZoned) → IsOrdinary z
+    → ((shown : Shown) → IsShown pattern z shown → shown ≡ Ok (text (local_time z))) × (IsUnprinted pattern z → ⊥)

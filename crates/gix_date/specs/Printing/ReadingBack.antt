@@ -1,0 +1,78 @@
+-- What the laws of reading back say of a time.
+use Rattle.std.specs.Prelude.{◌≡◌, ◌⊎◌, ◌≤◌, ◌<◌, ◌%◌, ℕ, ℤ, List, Some, Result, MatchResult, String, string_bytes, unsigned_abs}
+use Rattle.std.specs.Global.{Global}
+use Rattle.gix_date.specs.Families.Answer.{Absolute}
+use Rattle.gix_date.specs.Families.Order.{first_family_by}
+use Rattle.gix_date.specs.Fields.Layout.{LocalTime}
+use Rattle.gix_date.specs.Printing.LocalClocks.{clock_of, HasOrdinaryClock}
+use Rattle.gix_date.specs.Printing.NamedTexts.{rfc2822_pattern, rfc2822_text, git_rfc2822_pattern, git_rfc2822_text, iso8601_pattern, iso8601_text, iso8601_strict_pattern, iso8601_strict_text, gitoxide_pattern, gitoxide_text, default_pattern, default_text}
+use Rattle.gix_date.specs.Families.Patterns.{max_date_offset}
+use Rattle.gix_date.specs.Printing.Formats.{PrintsBy}
+use Rattle.gix_date.specs.Printing.PrintedTimes.{IsPrintedAs}
+use Rattle.gix_date.specs.Families.Raw.{OffsetRule, is_raw_offset}
+use Rattle.gix_date.specs.Printing.Zoned.{IsConvertible}
+use Rattle.gix_date.specs.declared.error.Error.{Error}
+use Rattle.gix_date.specs.declared.error.Error.TheVariants.{Memory}
+use Rattle.gix_date.specs.declared.time.Time.{Time}
+
+-- a time whose printed texts come back: it converts, its clock is ordinary, and its offset is within 23:59
+pub record IsPlainTime (t : Time) : Type 0 where
+  pub converts : IsConvertible t
+  pub ordinary : HasOrdinaryClock t
+  pub within : unsigned_abs t.offset ≤ max_date_offset
+
+-- by the pattern the time is printed as this text of what its own clock shows, and the text is parsed back to it by the
+-- rule
+pub record IsReadBackBy (rule : OffsetRule) (pattern : List ℕ) (text : LocalTime → List ℕ) (t : Time) : Type 0 where
+  pub printed : IsPrintedAs pattern text t
+  pub parsed : first_family_by rule (text (clock_of t)) ≡ Some (Absolute t)
+
+-- so by each of the six named formats that have a clock
+pub record AreReadBackBy (rule : OffsetRule) (t : Time) : Type 0 where
+  pub iso8601 : IsReadBackBy rule iso8601_pattern iso8601_text t
+  pub iso8601_strict : IsReadBackBy rule iso8601_strict_pattern iso8601_strict_text t
+  pub rfc2822 : IsReadBackBy rule rfc2822_pattern rfc2822_text t
+  pub git_rfc2822 : IsReadBackBy rule git_rfc2822_pattern git_rfc2822_text t
+  pub gitoxide : IsReadBackBy rule gitoxide_pattern gitoxide_text t
+  pub by_default : IsReadBackBy rule default_pattern default_text t
+
+-- the same where raw offsets are quarters of an hour
+abbrev pub IsReadBack : List ℕ → (LocalTime → List ℕ) → Time → Type 0
+IsReadBack = IsReadBackBy is_raw_offset
+
+abbrev pub AreReadBack : Time → Type 0
+AreReadBack = AreReadBackBy is_raw_offset
+
+-- the pattern of one of these six
+abbrev pub HasClock : List ℕ → Type 0
+HasClock pattern =
+    (pattern ≡ iso8601_pattern) ⊎ (pattern ≡ iso8601_strict_pattern) ⊎ (pattern ≡ rfc2822_pattern)
+    ⊎ (pattern ≡ git_rfc2822_pattern) ⊎ (pattern ≡ gitoxide_pattern) ⊎ (pattern ≡ default_pattern)
+
+-- a text that is parsed back to the time, or out of memory for it
+abbrev pub PrintsBackBy : OffsetRule → Time → Result (String Global) Error → Type 0
+PrintsBackBy rule t result =
+    MatchResult result (λ text. first_family_by rule (string_bytes text) ≡ Some (Absolute t)) (λ e. e ≡ Memory)
+
+-- what printing the time by such a pattern comes to is such a text, or out of memory
+abbrev pub IsKeptBy : OffsetRule → Time → Type 0
+IsKeptBy rule t =
+    (pattern : List ℕ) (result : Result (String Global) Error) → HasClock pattern → PrintsBy t pattern result
+    → PrintsBackBy rule t result
+
+-- the same where raw offsets are quarters of an hour
+abbrev pub PrintsBack : Time → Result (String Global) Error → Type 0
+PrintsBack = PrintsBackBy is_raw_offset
+
+abbrev pub IsKept : Time → Type 0
+IsKept = IsKeptBy is_raw_offset
+
+-- the offset of a raw text: whole quarters of an hour, short of 15 hours either way
+pub record IsRawOffset (offset : ℤ) : Type 0 where
+  pub quarters : unsigned_abs offset % 900 ≡ 0
+  pub short : unsigned_abs offset < 54_000
+
+-- the offset of a raw text by the wider rule: whole minutes, short of a day either way
+pub record IsWideOffset (offset : ℤ) : Type 0 where
+  pub minutes : unsigned_abs offset % 60 ≡ 0
+  pub short : unsigned_abs offset < 86_400

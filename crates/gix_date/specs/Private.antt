@@ -1,0 +1,13 @@
+-- What contracts within the crate alone speak of.
+pub mod Views
+pub mod RelativeScan
+pub mod RelativePairs
+pub mod RelativeFields
+pub mod Pairs
+pub mod Cuts
+pub mod Civil
+pub mod Steps
+pub mod Names
+pub mod Headers
+pub mod Printing
+pub mod Shapes

@@ -1,0 +1,75 @@
+-- What pairs of counts and units come to in a zone that keeps one offset.
+use Rattle.std.specs.Prelude.{◌≡◌, ◌⊎◌, ◌↔◌, ℤ, pos, ◌+ℤ◌, ◌-ℤ◌, ◌*ℤ◌, ◌≤ℤ◌, FitsSigned, List, [], ◌∷◌, map, true}
+use Rattle.std.specs.Int.{w64}
+use Rattle.std.specs.List.{All}
+use Rattle.jiff.specs.Types.{Offset, TimeZone}
+use Rattle.jiff.specs.Words.{fixed_zone, nanos_of_seconds, zoned_nanos, IsTimestampNanos}
+use Rattle.jiff.specs.declared.zoned.Zoned.{Zoned}
+use Rattle.gix_date.specs.Relative.Dates.{RelativeDate, Less, Reaches, IsNamed}
+use Rattle.gix_date.specs.Relative.Steps.{zone_of}
+use Rattle.gix_date.specs.Printing.Zoned.{IsMoment, is_instant}
+use Rattle.gix_date.specs.declared.parsing.relative.words.TimeUnit.TheVariants.{Seconds, Months}
+use Rattle.gix_date.specs.declared.time.Time.{Time}
+
+-- the zone is one that `jiff` makes of an offset, UTC among them
+abbrev pub IsFixedZone : TimeZone → Type 0
+IsFixedZone tz = (o : Offset) × (tz ≡ fixed_zone o)
+
+-- the seconds of a second, a minute, an hour, a day or a week
+abbrev pub IsUnitOfSeconds : ℤ → Type 0
+IsUnitOfSeconds unit = (unit ≡ pos 1) ⊎ (unit ≡ pos 60) ⊎ (unit ≡ pos 3600) ⊎ (unit ≡ pos 86_400) ⊎ (unit ≡ pos 604_800)
+
+-- the months of a month or a year
+abbrev pub IsUnitOfMonths : ℤ → Type 0
+IsUnitOfMonths unit = (unit ≡ pos 1) ⊎ (unit ≡ pos 12)
+
+-- a count, which is never negative, and such a unit
+abbrev pub IsSecondsPair : ℤ × ℤ → Type 0
+IsSecondsPair (count, unit) = (pos 0 ≤ℤ count) × IsUnitOfSeconds unit
+
+abbrev pub IsMonthsPair : ℤ × ℤ → Type 0
+IsMonthsPair (count, unit) = (pos 0 ≤ℤ count) × IsUnitOfMonths unit
+
+-- what a relative text of such pairs asks for
+abbrev pub less_seconds : List (ℤ × ℤ) → RelativeDate
+less_seconds pairs = Less (map (λ p. (p.0, Seconds p.1)) pairs)
+
+abbrev pub less_months : List (ℤ × ℤ) → RelativeDate
+less_months pairs = Less (map (λ p. (p.0, Months p.1)) pairs)
+
+-- count times unit
+abbrev pub product : ℤ × ℤ → ℤ
+product (count, unit) = count *ℤ unit
+
+-- the sum of the products
+abbrev pub total : List (ℤ × ℤ) → ℤ
+total [] = pos 0
+total (pair ∷ more) = product pair +ℤ total more
+
+-- an `i64` holds the product
+abbrev pub ProductFits : ℤ × ℤ → Type 0
+ProductFits pair = FitsSigned w64 (product pair)
+
+-- a relative date names this instant from the moment
+abbrev pub Names : RelativeDate → Zoned → ℤ → Type 0
+Names date moment instant = Reaches date (zone_of moment) (zoned_nanos moment) instant
+
+-- two relative dates name the same instant from the moment, or neither names one
+abbrev pub NamesAlike : Zoned → RelativeDate → RelativeDate → Type 0
+NamesAlike moment a b = (instant : ℤ) → Names a moment instant ↔ Names b moment instant
+
+-- the moment less the sum of the pairs, where an `i64` holds each product and this is an instant
+abbrev pub IsSecondsBefore : List (ℤ × ℤ) → Zoned → ℤ → Type 0
+IsSecondsBefore pairs moment instant =
+    (instant ≡ zoned_nanos moment -ℤ nanos_of_seconds (total pairs)) × All ProductFits pairs × IsTimestampNanos instant
+
+-- so many seconds before a time, at its offset
+abbrev pub earlier : Time → ℤ → Time
+earlier t seconds = record { seconds = t.seconds -ℤ seconds; offset = t.offset }
+
+-- from each moment of the time the date names the time so many seconds before, where this has an instant, and nothing
+-- else
+abbrev pub NamesEarlier : RelativeDate → Time → ℤ → Type 0
+NamesEarlier date t seconds =
+    (moment : Zoned) → IsMoment t moment
+    → (r : Time) → IsNamed date moment r ↔ ((r ≡ earlier t seconds) × (is_instant r.seconds ≡ true))

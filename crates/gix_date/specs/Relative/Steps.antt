@@ -1,0 +1,68 @@
+-- What takes an instant back in a zone, in jiff's words.
+use Rattle.std.specs.Prelude.{◌≡◌, ◌+◌, ℤ, pos, ◌+ℤ◌, ◌-ℤ◌, ◌*ℤ◌, unsigned_abs, FitsSigned, List, [], ◌∷◌}
+use Rattle.std.specs.Int.{w64, int_div_euclid, int_rem_euclid}
+use Rattle.jiff.specs.Words.{plain_zoned, offset_at, picked_instant, civil_nanos, nanos_of_seconds, time_nanos, month_number, IsTimestampNanos, IsYear}
+use Rattle.jiff.specs.Types.{TimeZone, DateTime, Date, Time}
+use Rattle.jiff.specs.declared.zoned.Zoned.{Zoned}
+use Rattle.jiff_core.specs.Calendar.{days_from_civil}
+use Rattle.gix_date.specs.declared.parsing.relative.words.TimeUnit.{TimeUnit}
+use Rattle.gix_date.specs.declared.parsing.relative.words.TimeUnit.TheVariants.{Seconds, Months}
+
+-- the zone of a moment
+abbrev pub zone_of : Zoned → TimeZone
+zone_of moment = (plain_zoned moment).time_zone
+
+-- the zone's clock shows this datetime at the instant
+abbrev pub IsLocal : TimeZone → ℤ → DateTime → Type 0
+IsLocal tz instant shown = civil_nanos shown ≡ instant +ℤ nanos_of_seconds (offset_at tz instant)
+
+-- nanoseconds of a day and a time of day
+abbrev pub civil_of : ℤ → Time → ℤ
+civil_of day time = day *ℤ pos 86_400_000_000_000 +ℤ pos (time_nanos time)
+
+-- the instant that the zone chooses for the datetime of these nanoseconds
+pub record IsPicked (tz : TimeZone) (civil instant : ℤ) : Type 0 where
+  pub shown : DateTime
+  pub civil_is : civil_nanos shown ≡ civil
+  pub is_choice : instant ≡ picked_instant tz shown
+  pub in_range : IsTimestampNanos instant
+
+-- the instant that the zone chooses for what its clock shows at this one
+pub record Settles (tz : TimeZone) (instant after : ℤ) : Type 0 where
+  pub local : DateTime
+  pub local_is : IsLocal tz instant local
+  pub picked : IsPicked tz (civil_nanos local) after
+
+-- seconds off the instant, and what the zone chooses there
+pub record SecondsStep (tz : TimeZone) (seconds instant after : ℤ) : Type 0 where
+  pub in_range : IsTimestampNanos (instant -ℤ nanos_of_seconds seconds)
+  pub settles : Settles tz (instant -ℤ nanos_of_seconds seconds) after
+
+-- the day number of the first of a month, which counts from January of the year 0
+abbrev pub month_start : ℤ → ℤ
+month_start number =
+    days_from_civil (int_div_euclid number (pos 12)) (unsigned_abs (int_rem_euclid number (pos 12)) + 1) 1
+
+-- the day number of a day of that month, which may lie past its end
+abbrev pub rolled_day : ℤ → Date → ℤ
+rolled_day number date = month_start number +ℤ (pos date.day -ℤ pos 1)
+
+-- months off the month that the zone's clock shows, with its day and time, and what the zone chooses there
+pub record MonthsStep (tz : TimeZone) (months instant after : ℤ) : Type 0 where
+  pub local : DateTime
+  pub local_is : IsLocal tz instant local
+  pub fits : FitsSigned w64 (month_number local.date -ℤ months)
+  pub year_in : IsYear (int_div_euclid (month_number local.date -ℤ months) (pos 12))
+  pub picked : IsPicked tz (civil_of (rolled_day (month_number local.date -ℤ months) local.date) local.time) after
+
+-- that many of a unit off the instant
+abbrev pub PairStep : TimeZone → ℤ × TimeUnit → ℤ → ℤ → Type 0
+PairStep tz (count, Seconds size) instant after =
+    FitsSigned w64 (count *ℤ size) × SecondsStep tz (count *ℤ size) instant after
+PairStep tz (count, Months size) instant after =
+    FitsSigned w64 (count *ℤ size) × MonthsStep tz (count *ℤ size) instant after
+
+-- one pair after the other off the instant
+abbrev pub Chain : TimeZone → List (ℤ × TimeUnit) → ℤ → ℤ → Type 0
+Chain tz [] instant after = after ≡ instant
+Chain tz (pair ∷ more) instant after = (between : ℤ) × PairStep tz pair instant between × Chain tz more between after

@@ -1,0 +1,6 @@
+-- Texts: their characters, names, numbers and words.
+pub mod Characters
+pub mod Names
+pub mod Numbers
+pub mod SpaceWords
+pub mod Places

@@ -1,0 +1,32 @@
+-- Names, and those of days, months and numbers.
+use Rattle.std.specs.Prelude.{ℕ, ◌-◌, Bool, get_or, List, [], ◌∷◌, codes, if◌then◌else◌, Option, Some, None}
+use Rattle.std.specs.Str.{str_eq_ignore_ascii_case}
+
+-- a word is this name, in any letter case
+abbrev pub is_name : List ℕ → List ℕ → Bool
+is_name word name = str_eq_ignore_ascii_case word name
+
+-- what stands in a table beside the first name that a word is
+abbrev pub named_in : {A : Type 0} → List (List ℕ × A) → List ℕ → Option A
+named_in [] word = None
+named_in ((name, said) ∷ rows) word = if is_name word name then Some said else named_in rows word
+
+abbrev pub day_names : List (List ℕ)
+day_names = codes "Mon" ∷ codes "Tue" ∷ codes "Wed" ∷ codes "Thu" ∷ codes "Fri" ∷ codes "Sat" ∷ codes "Sun" ∷ []
+
+abbrev pub month_names : List (List ℕ)
+month_names =
+    codes "Jan" ∷ codes "Feb" ∷ codes "Mar" ∷ codes "Apr" ∷ codes "May" ∷ codes "Jun" ∷ codes "Jul" ∷ codes "Aug"
+    ∷ codes "Sep" ∷ codes "Oct" ∷ codes "Nov" ∷ codes "Dec" ∷ []
+
+-- the name of a day of the week, from 0 for Monday, and of a month, from 1 for January
+abbrev pub day_name : ℕ → List ℕ
+day_name weekday = get_or day_names weekday []
+
+abbrev pub month_name : ℕ → List ℕ
+month_name month = get_or month_names (month - 1) []
+
+abbrev pub number_names : List (List ℕ)
+number_names =
+    codes "one" ∷ codes "two" ∷ codes "three" ∷ codes "four" ∷ codes "five" ∷ codes "six" ∷ codes "seven"
+    ∷ codes "eight" ∷ codes "nine" ∷ codes "ten" ∷ []

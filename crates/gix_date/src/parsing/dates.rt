@@ -1,0 +1,302 @@
+//! Dates: a whole text by the first family that holds it.
+ghost use Rattle.std.specs.Prelude.{◌≡◌, [], ◌∷◌, IfOk, IfSome, option_map};
+ghost use Rattle.jiff.specs.Words.{IsOffsetSeconds};
+ghost use Rattle.gix_date.specs.Families.Epoch.{at_time_by, epoch_time};
+ghost use Rattle.gix_date.specs.Families.Order.{Rfc2822, Gitoxide, GitDefault, GitForm, RelativeText, RawText, family_answer, first_family, first_family_by, ParseOutcome, RefusesUnknown, RefusesDate};
+ghost use Rattle.gix_date.specs.Families.Raw.{allows};
+ghost use Rattle.gix_date.specs.Families.Shapes.{first_among_by, shape_families};
+ghost use Rattle.gix_date.specs.Private.Shapes.{first_among};
+ghost use Rattle.gix_date.specs.declared.parsing.shape.Shape.TheVariants.{AtSign, WholeNumber, DashedDay, DottedDay, Letter, Other};
+ghost use Rattle.gix_date.specs.Private.Views.{answer_of, HasJiffOffset};
+
+use crate::error::{Error, InputBytes};
+use crate::parsing::answer::Answer;
+use crate::parsing::fields::skip_char;
+use crate::parsing::git::parse_git;
+use crate::parsing::numbers::parse_int;
+use crate::parsing::patterns::{
+    parse_default, parse_gitoxide, parse_iso8601, parse_iso8601_strict, parse_rfc2822, parse_short,
+};
+use crate::parsing::raw::{RawOffsets, parse_plain_raw, parse_raw};
+use crate::parsing::relative::parse_relative;
+use crate::parsing::shape::{Shape, begins_with_count, begins_with_year, begins_without_comma};
+use crate::time::Time;
+use jiff::Zoned;
+use std::alloc::Global;
+
+/// The least seconds that stand for themselves: fewer could be meant as a compact date, as Git has it.
+const MIN_EPOCH: i64 = 100_000_000;
+
+/// Reads a date, by the first of these families that holds the whole text:
+///
+/// 1. an at text: `@`, and then a raw text (`@1745582210 +0200`) or seconds with a sign or none (`@-1000`);
+/// 2. a day alone, `2018-12-24`: its midnight in UTC;
+/// 3. a date as in mail (RFC 2822), `Thu, 18 Aug 2022 12:45:06 +0800`, where the day's name and the seconds may be left
+///    out, and the zone may be `UT`, `GMT`, `EDT`, `EST`, `CDT`, `CST`, `MDT`, `MST`, `PDT` or `PST`;
+/// 4. ISO 8601 as Git has it, `2022-08-18 12:45:06 +0800`;
+/// 5. strict ISO 8601, `2022-08-18T12:45:06+08:00`;
+/// 6. gitoxide's form, `Thu Aug 18 2022 12:45:06 +0800`;
+/// 7. Git's default form, `Thu Aug 18 12:45:06 2022 +0800`;
+/// 8. a bare epoch: seconds with a sign or none, of at least 100000000 (`1700000000`);
+/// 9. one of Git's own forms, with white space round it or none: dotted (`2008.02.14 20:30:45 -0500`), compact
+///    (`20080214T203045.019-04:00`) or flexible (`2008-02-14 20:30:45 Z`, `2008-02-14T20 +05`), whose clock and offset
+///    have many widths;
+/// 10. a relative text: `now`, `today` or `yesterday`, with white space round it or none, or pairs of counts and
+///     periods (`2 weeks ago`, `3.days.ago`, `1 month 2 days ago`, `last year`), as Git has them;
+/// 11. a raw text: seconds and an offset in quarters of an hour up to 14:45, with white space round each
+///     (`1660874655 +0800`).
+///
+/// In 2 to 7 a year has four digits, and the other fields of date and clock one or two; names are in any letter case,
+/// and the weekday is not compared with the date; a second of 60 is read as 59; where a space stands there may be more,
+/// and an offset may have seconds, but for mail (`2008-02-14 20:30:45 +010203`). In 2 to 7 and in 9 the day has to
+/// exist, and in 3 to 7 and in 9 `jiff` has to have the instant: from -377705023201 to 253402207200 seconds.
+///
+/// Seconds count from 1970-01-01 00:00:00 UTC, and have the offset 0 where none is written, but for a relative text.
+///
+/// A relative text is read from the moment `now` in its zone, and its time has the zone's offset there, which may be up
+/// to 25:59:59. `now` and `today` are the moment, `yesterday` is 24 hours before. Of pairs, the words are runs of ASCII
+/// letters and digits, in any letter case; a count is digits that an `i64` holds, `one` to `ten` or `last`, and the
+/// word after it is its period: `second` to `week`, taken off the instant, or `month` or `year`, taken off the
+/// calendar, where a day past the end of its month falls into the next; one final `s` is ignored. A word `ago` that is
+/// no period itself makes any other period count seconds; all other words are ignored. What the zone's clock shows
+/// twice is the earlier instant, and what it skips is moved later, before the first pair and after each.
+///
+/// [`Error::MissingNow`] refuses a relative text where no moment is given, and [`Error::Range`] one that leaves the
+/// years -9999 to 9999, or the instants that `jiff` has. [`Error::UnknownFormat`] carries the text where no family
+/// holds it, or where the offset of one of 3 to 7 is above 23:59, and [`Error::DateConversion`] where a day alone has
+/// no instant (`9999-12-31`); [`Error::Memory`] stands for them where memory for that copy is refused. All else is
+/// answered even where no memory is to be had.
+pub fn parse(alloc: Global, input: &str, now: Option<Zoned<'_>>) -> Result<Time, Error>
+    ensures outcome { ParseOutcome (first_family input.now) input.now now.entry result }
+    ensures offset_fits { IfOk result (λ t. IsOffsetSeconds t.offset) }
+{
+    parse_with(alloc, input, now, RawOffsets::Quarter)
+}
+
+/// Reads a date as [`parse`] does, but for the offsets of raw texts, and of at texts with one, which are those of the
+/// rule `raw`.
+///
+/// [`RawOffsets::Quarter`] is the rule of [`parse`]; by [`RawOffsets::WholeMinutes`] a raw text may have each offset of
+/// whole minutes up to 23:59, as `1660797906 +0007`. All that [`parse`] reads is read alike by both (`laws::widened`),
+/// and the refusals are those of [`parse`]: a raw text whose offset the rule does not allow is of no family.
+pub fn parse_with(
+    alloc: Global,
+    input: &str,
+    now: Option<Zoned<'_>>,
+    raw: RawOffsets,
+) -> Result<Time, Error>
+    ensures outcome { ParseOutcome (first_family_by (allows raw) input.now) input.now now.entry result }
+    ensures offset_fits { IfOk result (λ t. IsOffsetSeconds t.offset) }
+{
+    match first_answer(input, raw) {
+        Some(Answer::Absolute(time)) => Ok(time),
+        Some(Answer::OffsetBeyond) => Err(unknown_format(alloc, input)),
+        Some(Answer::InstantBeyond) => Err(date_conversion(alloc, input)),
+        Some(Answer::Relative(date)) => date.time(now),
+        None => Err(unknown_format(alloc, input)),
+    }
+}
+
+/// What the first family says that holds the text.
+fn first_answer(input: &str, raw: RawOffsets) -> Option<Answer<'_>>
+    ensures first { option_map answer_of result ≡ first_family_by (allows raw) input.now }
+    ensures offset_fits { IfSome result HasJiffOffset }
+{
+    answer_by_shape(Shape::of(input), input, raw)
+}
+
+/// What the first of a shape's families says that holds the text.
+fn answer_by_shape<'a>(shape: Shape, input: &'a str, raw: RawOffsets) -> Option<Answer<'a>>
+    ensures first { option_map answer_of result ≡ first_among_by (allows raw) (shape_families shape) input.now }
+    ensures offset_fits { IfSome result HasJiffOffset }
+{
+    match shape {
+        Shape::AtSign => at_answer(input, raw),
+        Shape::WholeNumber => number_answer(input),
+        Shape::DashedDay => dashed_answer(input),
+        Shape::DottedDay => git_answer(input),
+        Shape::CompactDay => git_answer(input),
+        Shape::Letter => letter_answer(input),
+        Shape::Other => other_answer(input, raw),
+    }
+}
+
+/// What a text says that begins with `@`.
+fn at_answer(input: &str, raw: RawOffsets) -> Option<Answer<'_>>
+    ensures first { option_map answer_of result ≡ first_among_by (allows raw) (shape_families AtSign) input.now }
+    ensures offset_fits { IfSome result HasJiffOffset }
+{
+    if let Some(time) = parse_at(input, raw) {
+        return Some(Answer::Absolute(time));
+    }
+    relative_answer(input)
+}
+
+/// What a number says.
+fn number_answer(input: &str) -> Option<Answer<'_>>
+    ensures first { option_map answer_of result ≡ first_among (shape_families WholeNumber) input.now }
+    ensures offset_fits { IfSome result HasJiffOffset }
+{
+    if let Some(time) = parse_epoch(input) {
+        return Some(Answer::Absolute(time));
+    }
+    None
+}
+
+/// What a text says that begins with a day written with `-`.
+fn dashed_answer(input: &str) -> Option<Answer<'_>>
+    ensures first { option_map answer_of result ≡ first_among (shape_families DashedDay) input.now }
+    ensures offset_fits { IfSome result HasJiffOffset }
+{
+    if let Some(answer) = parse_short(input) {
+        return Some(answer);
+    }
+    if let Some(answer) = parse_iso8601(input) {
+        return Some(answer);
+    }
+    if let Some(answer) = parse_iso8601_strict(input) {
+        return Some(answer);
+    }
+    git_answer(input)
+}
+
+/// What a text says that begins with a day as in one of Git's own forms.
+fn git_answer(input: &str) -> Option<Answer<'_>>
+    ensures first { option_map answer_of result ≡ first_among (shape_families DottedDay) input.now }
+    ensures offset_fits { IfSome result HasJiffOffset }
+{
+    if let Some(time) = parse_git(input) {
+        return Some(Answer::Absolute(time));
+    }
+    relative_answer(input)
+}
+
+/// What a text says that begins with a letter. Without its comma it is no mail date.
+fn letter_answer(input: &str) -> Option<Answer<'_>>
+    ensures first { option_map answer_of result ≡ first_among (shape_families Letter) input.now }
+    ensures offset_fits { IfSome result HasJiffOffset }
+{
+    if begins_without_comma(input.as_bytes()) {
+        return named_answer(input);
+    }
+    if let Some(answer) = parse_rfc2822(input) {
+        return Some(answer);
+    }
+    named_answer(input)
+}
+
+/// What a text says that begins with a letter and is no mail date.
+fn named_answer(input: &str) -> Option<Answer<'_>>
+    ensures first { option_map answer_of result ≡ first_among (Gitoxide ∷ GitDefault ∷ RelativeText ∷ []) input.now }
+    ensures offset_fits { IfSome result HasJiffOffset }
+{
+    if let Some(answer) = parse_gitoxide(input) {
+        return Some(answer);
+    }
+    if let Some(answer) = parse_default(input) {
+        return Some(answer);
+    }
+    relative_answer(input)
+}
+
+/// What a text of no other shape says. One that is raw as nearly all are is of no other family. A day alone and both
+/// ISO 8601 forms begin with a year and `-`; of the other families here only relative texts can.
+fn other_answer(input: &str, raw: RawOffsets) -> Option<Answer<'_>>
+    ensures first { option_map answer_of result ≡ first_among_by (allows raw) (shape_families Other) input.now }
+    ensures offset_fits { IfSome result HasJiffOffset }
+{
+    if let Some(time) = parse_plain_raw(input, raw) {
+        return Some(Answer::Absolute(time));
+    }
+    if begins_with_year(input.as_bytes()) {
+        return dashed_answer(input);
+    }
+    undated_answer(input, raw)
+}
+
+/// What a text of no other shape says that does not begin with a year and `-`.
+fn undated_answer(input: &str, raw: RawOffsets) -> Option<Answer<'_>>
+    ensures first { option_map answer_of result
+        ≡ first_among_by (allows raw) (Rfc2822 ∷ GitForm ∷ RelativeText ∷ RawText ∷ []) input.now }
+    ensures offset_fits { IfSome result HasJiffOffset }
+{
+    if let Some(answer) = parse_rfc2822(input) {
+        return Some(answer);
+    }
+    if let Some(answer) = count_answer(input) {
+        return Some(answer);
+    }
+    if let Some(time) = parse_raw(input, raw) {
+        return Some(Answer::Absolute(time));
+    }
+    None
+}
+
+/// What one of Git's own forms says, or else a relative text. After a count and a space stands none of the former.
+fn count_answer(input: &str) -> Option<Answer<'_>>
+    ensures first { option_map answer_of result ≡ first_among (GitForm ∷ RelativeText ∷ []) input.now }
+    ensures offset_fits { IfSome result HasJiffOffset }
+{
+    if begins_with_count(input.as_bytes()) {
+        return relative_answer(input);
+    }
+    git_answer(input)
+}
+
+/// What a relative text says.
+fn relative_answer(input: &str) -> Option<Answer<'_>>
+    ensures first { option_map answer_of result ≡ family_answer RelativeText input.now }
+    ensures offset_fits { IfSome result HasJiffOffset }
+{
+    if let Some(date) = parse_relative(input) {
+        return Some(Answer::Relative(date));
+    }
+    None
+}
+
+/// The refusal of a text that no family holds.
+fn unknown_format(alloc: Global, input: &str) -> Error
+    ensures { RefusesUnknown input.now result }
+{
+    match InputBytes::copied(alloc, input) {
+        Ok(input) => Error::UnknownFormat { input },
+        Err(_) => Error::Memory,
+    }
+}
+
+/// The refusal of a day whose midnight is no instant.
+fn date_conversion(alloc: Global, input: &str) -> Error
+    ensures { RefusesDate input.now result }
+{
+    match InputBytes::copied(alloc, input) {
+        Ok(input) => Error::DateConversion { input },
+        Err(_) => Error::Memory,
+    }
+}
+
+/// The time of an at text.
+#[tactic(auto, unfolding(crate::specs::Families::Epoch::at_time_by))]
+fn parse_at(input: &str, raw: RawOffsets) -> Option<Time>
+    ensures time { result ≡ at_time_by (allows raw) input.now }
+    ensures offset_fits { IfSome result (λ t. IsOffsetSeconds t.offset) }
+{
+    let text = skip_char('@', input)?;
+    if let Some(time) = parse_raw(text, raw) {
+        return Some(time);
+    }
+    Some(Time::new(parse_int(text)?, 0))
+}
+
+/// The time of a bare epoch.
+#[tactic(auto, unfolding(crate::specs::Families::Epoch::epoch_time))]
+fn parse_epoch(input: &str) -> Option<Time>
+    ensures time { result ≡ epoch_time input.now }
+    ensures offset_fits { IfSome result (λ t. IsOffsetSeconds t.offset) }
+{
+    let seconds = parse_int(input)?;
+    if seconds >= MIN_EPOCH {
+        Some(Time::new(seconds, 0))
+    } else {
+        None
+    }
+}

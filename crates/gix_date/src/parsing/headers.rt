@@ -1,0 +1,66 @@
+//! Commit headers: a whole text by its words.
+ghost use Rattle.std.specs.Prelude.{◌≡◌};
+ghost use Rattle.gix_date.specs.Header.Reading.{header_time, seconds_said, offset_said};
+
+use crate::parsing::fields::has_colon;
+use crate::parsing::numbers::{leading_digits, parse_int};
+use crate::parsing::offset::parse_offset_fields;
+use crate::parsing::plain::parse_plain;
+use crate::parsing::space_words::first_words;
+use crate::time::{OffsetInSeconds, SecondsSinceUnixEpoch, Time};
+
+/// Reads the time of a commit header, as gix-date does: leniently in what stands round the numbers.
+///
+/// The text is cut into words at Unicode white space. The first word gives the seconds: an optional sign and digits, or
+/// else the digits that it begins with. With two words the second gives the offset where it is a sign, two digits of
+/// hours, two of minutes and optionally two of seconds, with no limit on any of them; else the offset is 0.
+///
+/// `None` where the text has a colon or no word, or where its first word gives no number that an `i64` can hold.
+pub fn parse_header(input: &str) -> Option<Time>
+    ensures { result ≡ header_time input.now }
+{
+    if let Some(time) = parse_plain(input) {
+        return Some(time);
+    }
+    parse_any_header(input)
+}
+
+/// The time of a commit header in any form, by its words.
+#[tactic(auto, unfolding(crate::specs::Header::Reading::header_time, crate::specs::Header::Reading::time_of_words))]
+fn parse_any_header(input: &str) -> Option<Time>
+    ensures { result ≡ header_time input.now }
+{
+    if has_colon(input) {
+        return None;
+    }
+    let (first, second) = first_words(input)?;
+    let seconds = parse_seconds(first)?;
+    let offset = match second {
+        Some(word) => parse_header_offset(word),
+        None => 0,
+    };
+    Some(Time::new(seconds, offset))
+}
+
+/// The seconds that the first word of a header says.
+#[tactic(auto, unfolding(crate::specs::Header::Reading::seconds_said))]
+fn parse_seconds(word: &str) -> Option<SecondsSinceUnixEpoch>
+    ensures { result ≡ seconds_said word.now }
+{
+    let whole = parse_int(word);
+    if whole.is_some() {
+        return whole;
+    }
+    parse_int(leading_digits(word))
+}
+
+/// The offset that the second word of a header says, 0 where it has another form.
+#[tactic(auto, unfolding(crate::specs::Header::Reading::offset_said))]
+fn parse_header_offset(word: &str) -> OffsetInSeconds
+    ensures { result ≡ offset_said word.now }
+{
+    match parse_offset_fields(word) {
+        Some(fields) => fields.in_seconds(),
+        None => 0,
+    }
+}

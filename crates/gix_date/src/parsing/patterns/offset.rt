@@ -1,0 +1,109 @@
+//! The offsets of formatted dates. Each reader takes a whole text.
+ghost use Rattle.std.specs.Prelude.{◌≡◌, IfSome};
+ghost use Rattle.jiff.specs.Words.{IsOffsetSeconds};
+ghost use Rattle.gix_date.specs.Fields.DateOffsets.{compact_offset, strict_offset, mail_zone, mail_offset, named_zone, jiff_offset, last_colon_pair};
+
+use crate::parsing::fields::skip_char;
+use crate::parsing::numbers::{parse_two_digits, read_two_digits};
+use crate::parsing::offset::{OffsetFields, parse_offset_fields, read_sign};
+use crate::time::{OffsetInSeconds, SECONDS_PER_HOUR};
+
+/// The offset of fields: hours of at most 25, and minutes and seconds of at most 59.
+fn jiff_offset(fields: OffsetFields) -> Option<OffsetInSeconds>
+    ensures value { result ≡ jiff_offset fields }
+    ensures offset_fits { IfSome result (λ offset. IsOffsetSeconds offset) }
+{
+    if fields.hours <= 25 && fields.minutes <= 59 && fields.seconds.unwrap_or(0) <= 59 {
+        Some(fields.in_seconds())
+    } else {
+        None
+    }
+}
+
+/// A sign, two digits of hours, two of minutes, and perhaps two of seconds.
+#[tactic(auto, unfolding(crate::specs::Fields::DateOffsets::compact_offset))]
+pub(crate) fn parse_compact_offset(text: &str) -> Option<OffsetInSeconds>
+    ensures value { result ≡ compact_offset text.now }
+    ensures offset_fits { IfSome result (λ offset. IsOffsetSeconds offset) }
+{
+    jiff_offset(parse_offset_fields(text)?)
+}
+
+/// The same, with a colon between the pairs.
+#[tactic(auto, unfolding(crate::specs::Fields::DateOffsets::strict_offset))]
+pub(crate) fn parse_strict_offset(text: &str) -> Option<OffsetInSeconds>
+    ensures value { result ≡ strict_offset text.now }
+    ensures offset_fits { IfSome result (λ offset. IsOffsetSeconds offset) }
+{
+    let (sign, rest) = read_sign(text)?;
+    let (hours, rest) = read_two_digits(rest)?;
+    let rest = skip_char(':', rest)?;
+    let (minutes, rest) = read_two_digits(rest)?;
+    let seconds = parse_last_colon_pair(rest)?;
+    jiff_offset(OffsetFields {
+        sign,
+        hours,
+        minutes,
+        seconds,
+    })
+}
+
+/// Nothing more, or a colon and two digits more.
+#[tactic(auto, unfolding(crate::specs::Fields::DateOffsets::last_colon_pair))]
+fn parse_last_colon_pair(text: &str) -> Option<Option<u8>>
+    ensures { result ≡ last_colon_pair text.now }
+{
+    match text.as_bytes() {
+        [] => Some(None),
+        [b':', tens, ones] => Some(Some(parse_two_digits(*tens, *ones)?)),
+        _ => None,
+    }
+}
+
+/// A sign, two digits of hours and two of minutes, or else the name of a zone.
+#[tactic(auto, unfolding(crate::specs::Fields::DateOffsets::mail_zone))]
+pub(crate) fn parse_mail_zone(text: &str) -> Option<OffsetInSeconds>
+    ensures value { result ≡ mail_zone text.now }
+    ensures offset_fits { IfSome result (λ offset. IsOffsetSeconds offset) }
+{
+    if let Some(offset) = parse_mail_offset(text) {
+        return Some(offset);
+    }
+    named_zone(text)
+}
+
+/// A sign, two digits of hours and two of minutes.
+#[tactic(auto, unfolding(crate::specs::Fields::DateOffsets::mail_offset))]
+fn parse_mail_offset(text: &str) -> Option<OffsetInSeconds>
+    ensures value { result ≡ mail_offset text.now }
+    ensures offset_fits { IfSome result (λ offset. IsOffsetSeconds offset) }
+{
+    let fields = parse_offset_fields(text)?;
+    if fields.seconds.is_some() {
+        return None;
+    }
+    jiff_offset(fields)
+}
+
+/// The offset of a zone's name in mail, in any letter case.
+#[tactic(auto, unfolding(crate::specs::Fields::DateOffsets::named_zone))]
+fn named_zone(name: &str) -> Option<OffsetInSeconds>
+    ensures value { result ≡ named_zone name.now }
+    ensures offset_fits { IfSome result (λ offset. IsOffsetSeconds offset) }
+{
+    if name.eq_ignore_ascii_case("ut") || name.eq_ignore_ascii_case("gmt") {
+        Some(0)
+    } else if name.eq_ignore_ascii_case("edt") {
+        Some(-4 * SECONDS_PER_HOUR)
+    } else if name.eq_ignore_ascii_case("est") || name.eq_ignore_ascii_case("cdt") {
+        Some(-5 * SECONDS_PER_HOUR)
+    } else if name.eq_ignore_ascii_case("cst") || name.eq_ignore_ascii_case("mdt") {
+        Some(-6 * SECONDS_PER_HOUR)
+    } else if name.eq_ignore_ascii_case("mst") || name.eq_ignore_ascii_case("pdt") {
+        Some(-7 * SECONDS_PER_HOUR)
+    } else if name.eq_ignore_ascii_case("pst") {
+        Some(-8 * SECONDS_PER_HOUR)
+    } else {
+        None
+    }
+}

@@ -1,0 +1,71 @@
+//! Steps that take an instant back at one offset. Nothing is shown twice or skipped there, so nothing is settled
+//! elsewhere: seconds need no clock, and no zone is carried from pair to pair.
+ghost use Rattle.std.specs.Prelude.{◌≡◌, ◌↔◌, ◌-ℤ◌, IfSome, IsSome};
+ghost use Rattle.jiff.specs.Words.{fixed_zone, epoch_day, nanos_of_seconds, IsTimestampNanos};
+ghost use Rattle.gix_date.specs.Private.RelativePairs.{pair_of, pairs_read};
+ghost use Rattle.gix_date.specs.Relative.Steps.{MonthsStep, PairStep, Chain, civil_of};
+ghost use Rattle.gix_date.specs.Private.Steps.{IsAtInstant};
+ghost use Rattle.gix_date.specs.Relative.Words.{relative_words};
+
+use crate::parsing::relative::pairs::{Pair, next_pair};
+use crate::parsing::relative::steps::{first_day_of, month_number, roll};
+use crate::parsing::relative::words::TimeUnit;
+use jiff::civil::{Date, Time};
+use jiff::tz::Offset;
+use jiff::{SignedDuration, Timestamp};
+
+/// The instant, with the pairs of a text taken off one after the other.
+pub(crate) fn subtract_pairs(start: Timestamp, offset: Offset, text: &str) -> Option<Timestamp>
+    ensures { IsAtInstant (Chain (fixed_zone offset) (pairs_read (relative_words text.now)) start.nanosecond) result }
+{
+    let mut instant = start;
+    let mut rest = text;
+    while let Some((pair, after)) = next_pair(rest) {
+        instant = subtract(instant, offset, pair)?;
+        rest = after;
+    }
+    Some(instant)
+}
+
+/// A pair off an instant.
+fn subtract(instant: Timestamp, offset: Offset, pair: Pair) -> Option<Timestamp>
+    ensures { IsAtInstant (PairStep (fixed_zone offset) (pair_of pair) instant.nanosecond) result }
+{
+    match pair.unit {
+        TimeUnit::Seconds(size) => subtract_seconds(instant, pair.count.checked_mul(size)?),
+        TimeUnit::Months(size) => subtract_months(instant, offset, pair.count.checked_mul(size)?),
+    }
+}
+
+/// Seconds off an instant.
+pub(crate) fn subtract_seconds(instant: Timestamp, seconds: i64) -> Option<Timestamp>
+    ensures some { IsSome result ↔ IsTimestampNanos (instant.nanosecond -ℤ nanos_of_seconds seconds) }
+    ensures value { IfSome result (λ r. r.nanosecond ≡ instant.nanosecond -ℤ nanos_of_seconds seconds) }
+{
+    match instant.checked_sub(SignedDuration::from_secs(seconds)) {
+        Ok(earlier) => Some(earlier),
+        Err(_) => None,
+    }
+}
+
+/// Months off an instant, by what a clock at the offset shows there.
+fn subtract_months(instant: Timestamp, offset: Offset, months: i64) -> Option<Timestamp>
+    ensures { IsAtInstant (MonthsStep (fixed_zone offset) months instant.nanosecond) result }
+{
+    let shown = offset.to_datetime(instant);
+    let number = month_number(shown.date()).checked_sub(months)?;
+    let first = first_day_of(number)?;
+    let date = roll(first, shown.day())?;
+    pick(date, shown.time(), offset)
+}
+
+/// The instant at which a clock at the offset shows a date and a time of day.
+fn pick(date: Date, time: Time, offset: Offset) -> Option<Timestamp>
+    ensures some { IsSome result ↔ IsTimestampNanos (civil_of (epoch_day date) time -ℤ nanos_of_seconds offset.seconds) }
+    ensures value { IfSome result (λ r. r.nanosecond ≡ civil_of (epoch_day date) time -ℤ nanos_of_seconds offset.seconds) }
+{
+    match offset.to_timestamp(date.to_datetime(time)) {
+        Ok(instant) => Some(instant),
+        Err(_) => None,
+    }
+}

@@ -1,0 +1,57 @@
+-- What is written of a signature line's parts.
+use Rattle.std.proofs.Common.{◌≡◌, ◌∙◌, ℕ, List, [], false, Option, Some, None, Result, Ok, Err, is_some, ok_or, option_map, unwrap_or, refl, sym, ap}
+use Rattle.gix_date.specs.Header.Reading.{header_time}
+use Rattle.gix_date.specs.Header.Text.{header_text}
+use Rattle.gix_date.specs.declared.time.Time.{Time}
+use Rattle.gix_signature.specs.Signature.{Parts, IsCut, OneCut, line_of}
+use Rattle.gix_signature.specs.Writing.{line_due}
+use Rattle.gix_signature.specs.declared.error.SignatureError.{SignatureError}
+use Rattle.gix_signature.specs.declared.error.SignatureError.TheVariants.{OffsetTooWide}
+use Rattle.gix_signature.proofs.Cuts.{the-cut, plain}
+use Rattle.gix_signature.proofs.Written.{due-is}
+use Rattle.gix_date_tool.specs.Signed.{IsSigned, IsUnsigned}
+
+abbrev ok-line : Result (List ℕ) SignatureError → List ℕ
+ok-line (Ok line) = line
+ok-line (Err e) = []
+
+pub same-line : (x y : List ℕ) → ◌≡◌ {A = Result (List ℕ) SignatureError} (Ok x) (Ok y) → x ≡ y
+same-line x y e = ap ok-line e
+
+same-time : (t r : Time) → Some t ≡ Some r → t ≡ r
+same-time t r e = ap (λ o. unwrap_or o t) e
+
+-- a text is written again as one line
+pub signed-once : (text a b : List ℕ) → IsSigned text a → IsSigned text b → a ≡ b
+signed-once text a b h g =
+    let parts : h.parts ≡ g.parts = the-cut text h.parts g.parts h.cut.whole g.cut in
+    let times : h.time ≡ g.time = same-time h.time g.time (sym h.read ∙ ap (λ (p : Parts). header_time p.time) parts ∙ g.read) in
+    let dues : line_due h.parts.name h.parts.mail h.time ≡ line_due g.parts.name g.parts.mail g.time = λ i. line_due (parts i).name (parts i).mail (times i) in
+    same-line a b (sym h.due ∙ dues ∙ g.due)
+
+-- one from whose last part no time is read is not
+pub no-time-unsigned : (text : List ℕ) (p : Parts) → OneCut text → IsCut text p → header_time p.time ≡ None → IsUnsigned text
+no-time-unsigned text p one cut none line h =
+    let clash : Some h.time ≡ None = sym h.read ∙ ap (λ (q : Parts). header_time q.time) (one h.parts p h.cut cut) ∙ none in
+    absurd cc
+
+-- what is due of the parts of a line, by what text their time has
+pub due-of : (text : List ℕ) (p : Parts) (t : Time) (o : Option (List ℕ)) → IsCut text p → header_text t ≡ o
+    → line_due p.name p.mail t ≡ ok_or (option_map line_of (option_map (λ x. record { name = p.name; mail = p.mail; time = x }) o)) OffsetTooWide
+due-of text p t o cut e =
+    let are = plain p cut.allowed in
+    due-is p.name p.mail t are.name are.mail
+    ∙ ap (λ q. ok_or (option_map line_of (option_map (λ x. record { name = p.name; mail = p.mail; time = x }) q)) OffsetTooWide) e
+
+none-of : (o : Option (List ℕ)) → is_some o ≡ false → o ≡ None
+none-of None h = refl
+none-of (Some x) h = absurd cc
+
+-- nor is one whose time has no header text
+pub wide-unsigned : (text : List ℕ) (p : Parts) (t : Time) → OneCut text → IsCut text p → header_time p.time ≡ Some t → is_some (header_text t) ≡ false → IsUnsigned text
+wide-unsigned text p t one cut read wide line h =
+    let parts = one h.parts p h.cut cut in
+    let times : h.time ≡ t = same-time h.time t (sym h.read ∙ ap (λ (q : Parts). header_time q.time) parts ∙ read) in
+    let dues : line_due h.parts.name h.parts.mail h.time ≡ line_due p.name p.mail t = λ i. line_due (parts i).name (parts i).mail (times i) in
+    let clash : ◌≡◌ {A = Result (List ℕ) SignatureError} (Ok line) (Err OffsetTooWide) = sym h.due ∙ dues ∙ due-of text p t None cut (none-of (header_text t) wide) in
+    absurd cc

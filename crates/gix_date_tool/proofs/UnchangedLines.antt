@@ -1,0 +1,56 @@
+-- A line is replied to by itself in Sign exactly where it is a canonical signature line.
+use Rattle.std.proofs.Common.{◌≡◌, ◌∙◌, ℕ, List, [], Bool, true, false, Option, Some, None, Result, Ok, Err, refl, sym, ap, subst, inl, inr}
+use Rattle.std.specs.Str.{is_utf8}
+use Rattle.gix_date.specs.Header.Laws.{ComesBack}
+use Rattle.gix_date.specs.Header.Text.{header_text}
+use Rattle.gix_date.proofs.HeaderLaws.{canonical-taken, canonical-back, comes-back-canonical}
+use Rattle.gix_signature.specs.Signature.{Parts, line_of}
+use Rattle.gix_signature.specs.declared.error.SignatureError.{SignatureError}
+use Rattle.gix_signature.specs.declared.error.SignatureError.TheVariants.{OffsetTooWide}
+use Rattle.gix_signature.proofs.Cuts.{the-cut}
+use Rattle.gix_date_tool.specs.declared.arguments.Mode.TheVariants.{Sign}
+use Rattle.gix_date_tool.specs.declared.replies.Asked.{Asked}
+use Rattle.gix_date_tool.specs.declared.replies.Reply.{Reply}
+use Rattle.gix_date_tool.specs.declared.replies.Reply.TheVariants.{NotText, Signed, NoSignature}
+use Rattle.gix_date_tool.specs.Replies.{IsReply, IsReplyTo, IsSignReply, UnchangedLines}
+use Rattle.gix_date_tool.specs.Signed.{IsSigned, IsCanonicalLine}
+use Rattle.gix_date_tool.proofs.Signing.{due-of, same-line}
+
+-- where a line is due of its own parts, their time comes back
+time-back : (line : List ℕ) (s : IsSigned line line) (o : Option (List ℕ)) → header_text s.time ≡ o → ComesBack s.parts.time
+time-back line s None e =
+    let clash : ◌≡◌ {A = Result (List ℕ) SignatureError} (Ok line) (Err OffsetTooWide) = sym s.due ∙ due-of line s.parts s.time None s.cut e in
+    absurd cc
+time-back line s (Some x) e =
+    let p : Parts = record { name = s.parts.name; mail = s.parts.mail; time = x } in
+    let whole : line ≡ line_of p = same-line line (line_of p) (sym s.due ∙ due-of line s.parts s.time (Some x) s.cut e) in
+    let parts : p ≡ s.parts = the-cut line p s.parts whole s.cut in
+    record { time = s.time; is_read = s.read; is_written = e ∙ ap (λ (q : Parts). Some q.time) parts }
+
+abbrev line-in : Reply → List ℕ
+line-in (Signed line) = line
+line-in _ = []
+
+canonical-of : (line : List ℕ) → is_utf8 line ≡ true → IsSignReply line (Signed line) → IsCanonicalLine line
+canonical-of line u (inl h) =
+    let same : line ≡ h.0 = ap line-in h.2 in
+    let s : IsSigned line line = subst (IsSigned line) (sym same) h.1 in
+    record { is_text = u; parts = s.parts; cut = s.cut; canonical = comes-back-canonical s.parts.time (time-back line s (header_text s.time) refl) }
+canonical-of line u (inr h) = let clash : Signed line ≡ NoSignature = h.1 in absurd cc
+
+signed-of : (line : List ℕ) → IsCanonicalLine line → IsSigned line line
+signed-of line c =
+    let p = c.parts in
+    let back : ComesBack p.time = canonical-back p.time (canonical-taken p.time c.canonical) in
+    record { parts = p; time = back.time; cut = c.cut; read = back.is_read; due = due-of line p back.time (Some p.time) c.cut back.is_written ∙ ap (λ (l : List ℕ). Ok l) (sym c.cut.whole) }
+
+by-text : (asked : Asked) (line : List ℕ) (is_text : Bool) → asked.mode ≡ Sign → is_utf8 line ≡ is_text → IsReplyTo is_text asked line (Signed line) → IsCanonicalLine line
+by-text asked line false m u h = let clash : Signed line ≡ NotText = h in absurd cc
+by-text asked line true m u h = canonical-of line u (rw m at h)
+
+pub unchanged-lines : (line : List ℕ) → UnchangedLines line
+unfolding IsReply
+unchanged-lines line asked m = (
+  λ h. by-text asked line (is_utf8 line) m refl h,
+  λ c. rw (c.is_text, m) (inl (line, signed-of line c, refl)),
+)

@@ -1,0 +1,15 @@
+use Rattle.std.proofs.Common.{◌∙◌, sym}
+use Rattle.gix_signature.specs.Signature.{parts_of}
+use Rattle.gix_date_tool.proofs.Signing.{no-time-unsigned, wide-unsigned}
+use Rattle.gix_date_tool.proofs.signed.sign.Goals as goal
+
+pub returns-in_err-time : goal.returns-in_err-time
+returns-in_err-time c =
+    let parts = parts_of c.in_ok-signature.signature in
+    rw c.from_residual-in_err-time.ensures
+    (no-time-unsigned c.args.text.now parts c.one_cut.ensures c.in_ok-signature.ensures (sym c.time_of.ensures ∙ c.in_err-time.was))
+
+pub returns-else-has_text : goal.returns-else-has_text
+returns-else-has_text c =
+    wide-unsigned c.args.text.now (parts_of c.in_ok-signature.signature) c.in_ok-time.time c.one_cut.ensures c.in_ok-signature.ensures
+    (sym c.time_of.ensures ∙ c.in_ok-time.was) (sym c.has_text.ensures ∙ c.if-has_text.false)
