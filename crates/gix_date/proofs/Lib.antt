@@ -23,6 +23,7 @@ pub mod FirstBytes
 pub mod Exclusive
 pub mod Widened
 pub mod Shapes
+pub mod DateFronts
 pub mod Overlaps
 pub mod RawBack
 pub mod RelativeWordSteps

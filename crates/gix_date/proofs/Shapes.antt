@@ -499,7 +499,7 @@ no-year-among rule text h =
     ))) in
     rw (none.short, none.iso8601, none.strict) refl
 
-or-none : {A : Type 0} (r : Option A) → option_or r None ≡ r
+pub or-none : {A : Type 0} (r : Option A) → option_or r None ≡ r
 or-none None = refl
 or-none (Some x) = refl
 

@@ -1,6 +1,7 @@
 -- The shape of a text as it is found, and its families by quarters of an hour.
-use Rattle.std.specs.Prelude.{ℕ, Bool, false, not, ◌&&◌, ◌||◌, List, ◌∷◌, ◌==◌, if◌then◌else◌, Option, is_some}
-use Rattle.std.specs.Char.{is_ascii_digit, is_ascii_alphabetic}
+use Rattle.std.specs.Prelude.{ℕ, Bool, false, not, ◌&&◌, ◌||◌, List, ◌∷◌, ◌==◌, if◌then◌else◌, codes, Option, is_some}
+use Rattle.std.specs.Char.{is_ascii_digit, is_ascii_alphabetic, to_ascii_lowercase}
+use Rattle.std.specs.List.{list_any}
 use Rattle.gix_date.specs.Families.Answer.{FamilyAnswer}
 use Rattle.gix_date.specs.Text.Characters.{comma, minus, dot, space, plus}
 use Rattle.gix_date.specs.Families.Order.{Family}
@@ -24,6 +25,26 @@ begins_with_count _ = false
 unfoldable pub begins_without_comma : List ℕ → Bool
 begins_without_comma (first ∷ _ ∷ _ ∷ fourth ∷ rest) = is_ascii_alphabetic first && not (fourth == comma)
 begins_without_comma _ = false
+
+-- the letter begins the name of a month, in any letter case
+abbrev pub begins_month : ℕ → Bool
+begins_month c = list_any (λ letter. to_ascii_lowercase c == letter) (codes "jfmasond")
+
+-- after the third byte the text has no space, or one and then a letter that begins no month
+unfoldable pub begins_no_named_day : List ℕ → Bool
+begins_no_named_day (_ ∷ _ ∷ _ ∷ fourth ∷ fifth ∷ rest) =
+    not (fourth == space) || is_ascii_alphabetic fifth && not (begins_month fifth)
+begins_no_named_day _ = false
+
+-- a word that begins with this letter and has that one as its fourth byte
+abbrev pub are_long_word : ℕ → ℕ → Bool
+are_long_word first fourth = is_ascii_alphabetic first && is_ascii_alphabetic fourth
+
+-- the text begins with a number of one or two digits, a space, and a word of more letters than a month's name has
+unfoldable pub begins_with_count_and_word : List ℕ → Bool
+begins_with_count_and_word (a ∷ b ∷ c ∷ d ∷ e ∷ f ∷ g ∷ rest) =
+    is_ascii_digit a && (b == space && are_long_word c f || is_ascii_digit b && c == space && are_long_word d g)
+begins_with_count_and_word _ = false
 
 -- `shape_of`, with the test of the whole text last
 unfoldable pub shape_by_front : List ℕ → Shape

@@ -19,7 +19,10 @@ use crate::parsing::patterns::{
 };
 use crate::parsing::raw::{RawOffsets, parse_plain_raw, parse_raw};
 use crate::parsing::relative::parse_relative;
-use crate::parsing::shape::{Shape, begins_with_count, begins_with_year, begins_without_comma};
+use crate::parsing::shape::{
+    Shape, begins_no_named_day, begins_with_count, begins_with_count_and_word, begins_with_year,
+    begins_without_comma,
+};
 use crate::time::Time;
 use jiff::Zoned;
 use std::alloc::Global;
@@ -185,11 +188,14 @@ fn letter_answer(input: &str) -> Option<Answer<'_>>
     named_answer(input)
 }
 
-/// What a text says that begins with a letter and is no mail date.
+/// What a text says that begins with a letter and is no mail date. With no two names first it is relative, if anything.
 fn named_answer(input: &str) -> Option<Answer<'_>>
     ensures first { option_map answer_of result ≡ first_among (Gitoxide ∷ GitDefault ∷ RelativeText ∷ []) input.now }
     ensures offset_fits { IfSome result HasJiffOffset }
 {
+    if begins_no_named_day(input.as_bytes()) {
+        return relative_answer(input);
+    }
     if let Some(answer) = parse_gitoxide(input) {
         return Some(answer);
     }
@@ -214,15 +220,28 @@ fn other_answer(input: &str, raw: RawOffsets) -> Option<Answer<'_>>
     undated_answer(input, raw)
 }
 
-/// What a text of no other shape says that does not begin with a year and `-`.
+/// What a text of no other shape says that does not begin with a year and `-`. One that begins with a count and a word is no mail
+/// date.
 fn undated_answer(input: &str, raw: RawOffsets) -> Option<Answer<'_>>
     ensures first { option_map answer_of result
         ≡ first_among_by (allows raw) (Rfc2822 ∷ GitForm ∷ RelativeText ∷ RawText ∷ []) input.now }
     ensures offset_fits { IfSome result HasJiffOffset }
 {
+    if begins_with_count_and_word(input.as_bytes()) {
+        return unmailed_answer(input, raw);
+    }
     if let Some(answer) = parse_rfc2822(input) {
         return Some(answer);
     }
+    unmailed_answer(input, raw)
+}
+
+/// What a text of no other shape says that is no mail date either, and does not begin with a year and `-`.
+fn unmailed_answer(input: &str, raw: RawOffsets) -> Option<Answer<'_>>
+    ensures first { option_map answer_of result
+        ≡ first_among_by (allows raw) (GitForm ∷ RelativeText ∷ RawText ∷ []) input.now }
+    ensures offset_fits { IfSome result HasJiffOffset }
+{
     if let Some(answer) = count_answer(input) {
         return Some(answer);
     }

@@ -2,7 +2,7 @@
 ghost use Rattle.std.specs.Prelude.{◌≡◌, is_some};
 ghost use Rattle.std.specs.List.{list_all};
 ghost use Rattle.gix_date.specs.Families.Shapes.{begins_with_at, are_four_digits, are_two_digits, begins_with_marked_day, begins_with_compact_day, begins_with_letter, shape_of};
-ghost use Rattle.gix_date.specs.Private.Shapes.{begins_with_year, begins_with_count, begins_without_comma, shape_by_front, is_number_byte};
+ghost use Rattle.gix_date.specs.Private.Shapes.{begins_with_year, begins_with_count, begins_with_count_and_word, begins_without_comma, begins_no_named_day, begins_month, are_long_word, shape_by_front, is_number_byte};
 ghost use Rattle.gix_date.specs.Text.Numbers.{int_value};
 
 use crate::parsing::numbers::parse_int;
@@ -137,6 +137,51 @@ pub(crate) fn begins_without_comma(text: &[u8]) -> bool
         [first, _, _, fourth, ..] => first.is_ascii_alphabetic() && *fourth != b',',
         _ => false,
     }
+}
+
+/// Whether a text has no day and month by their names first, `Thu Aug`: no space after its third byte, or one and then a letter that
+/// begins no month.
+#[tactic(auto, unfolding(crate::specs::Private::Shapes::begins_no_named_day))]
+pub(crate) fn begins_no_named_day(text: &[u8]) -> bool
+    ensures { result ≡ begins_no_named_day text.now }
+{
+    match text {
+        [_, _, _, fourth, fifth, ..] => {
+            *fourth != b' ' || fifth.is_ascii_alphabetic() && !begins_month(*fifth)
+        }
+        _ => false,
+    }
+}
+
+/// Whether a letter begins the name of a month, in any letter case.
+fn begins_month(letter: u8) -> bool
+    ensures { result ≡ begins_month letter }
+{
+    matches!(
+        letter.to_ascii_lowercase(),
+        b'j' | b'f' | b'm' | b'a' | b's' | b'o' | b'n' | b'd'
+    )
+}
+
+/// Whether a text begins with a count, a space, and a word of four letters or more, as `2 weeks ago` does and no mail date.
+#[tactic(auto, unfolding(crate::specs::Private::Shapes::begins_with_count_and_word))]
+pub(crate) fn begins_with_count_and_word(text: &[u8]) -> bool
+    ensures { result ≡ begins_with_count_and_word text.now }
+{
+    match text {
+        [a, b, c, d, _, f, g, ..] => {
+            a.is_ascii_digit()
+                && (*b == b' ' && are_long_word(*c, *f)
+                    || b.is_ascii_digit() && *c == b' ' && are_long_word(*d, *g))
+        }
+        _ => false,
+    }
+}
+
+fn are_long_word(first: u8, fourth: u8) -> bool
+    ensures { result ≡ are_long_word first fourth }
+{
+    first.is_ascii_alphabetic() && fourth.is_ascii_alphabetic()
 }
 
 /// Whether a text begins with eight digits and `T`.
