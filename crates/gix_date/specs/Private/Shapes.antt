@@ -40,7 +40,8 @@ begins_no_named_day _ = false
 abbrev pub are_long_word : ℕ → ℕ → Bool
 are_long_word first fourth = is_ascii_alphabetic first && is_ascii_alphabetic fourth
 
--- the text begins with a number of one or two digits, a space, and a word of more letters than a month's name has
+-- the text begins with a number of one or two digits, a space, and a letter with another three bytes after it, where a
+-- month's name has ended
 unfoldable pub begins_with_count_and_word : List ℕ → Bool
 begins_with_count_and_word (a ∷ b ∷ c ∷ d ∷ e ∷ f ∷ g ∷ rest) =
     is_ascii_digit a && (b == space && are_long_word c f || is_ascii_digit b && c == space && are_long_word d g)

@@ -220,8 +220,8 @@ fn other_answer(input: &str, raw: RawOffsets) -> Option<Answer<'_>>
     undated_answer(input, raw)
 }
 
-/// What a text of no other shape says that does not begin with a year and `-`. One that begins with a count and a word is no mail
-/// date.
+/// What a text of no other shape says that does not begin with a year and `-`. One that begins with a count and a word
+/// is no mail date.
 fn undated_answer(input: &str, raw: RawOffsets) -> Option<Answer<'_>>
     ensures first { option_map answer_of result
         ≡ first_among_by (allows raw) (Rfc2822 ∷ GitForm ∷ RelativeText ∷ RawText ∷ []) input.now }

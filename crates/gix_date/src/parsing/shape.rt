@@ -139,8 +139,8 @@ pub(crate) fn begins_without_comma(text: &[u8]) -> bool
     }
 }
 
-/// Whether a text has no day and month by their names first, `Thu Aug`: no space after its third byte, or one and then a letter that
-/// begins no month.
+/// Whether a text has no day and month by their names first, `Thu Aug`: no space after its third byte, or one and then
+/// a letter that begins no month.
 #[tactic(auto, unfolding(crate::specs::Private::Shapes::begins_no_named_day))]
 pub(crate) fn begins_no_named_day(text: &[u8]) -> bool
     ensures { result ≡ begins_no_named_day text.now }
@@ -163,7 +163,8 @@ fn begins_month(letter: u8) -> bool
     )
 }
 
-/// Whether a text begins with a count, a space, and a word of four letters or more, as `2 weeks ago` does and no mail date.
+/// Whether a text begins with a count, a space, and a letter with another three bytes after it, as `2 weeks ago` does
+/// and no mail date.
 #[tactic(auto, unfolding(crate::specs::Private::Shapes::begins_with_count_and_word))]
 pub(crate) fn begins_with_count_and_word(text: &[u8]) -> bool
     ensures { result ≡ begins_with_count_and_word text.now }
