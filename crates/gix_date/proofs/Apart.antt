@@ -9,16 +9,16 @@ use Rattle.gix_date.specs.Families.Answer.{FamilyAnswer, Absolute}
 use Rattle.gix_date.specs.Text.Characters.{at_sign, plus, minus, comma, colon, letter_t, is_space}
 use Rattle.gix_date.specs.Families.Epoch.{at_time_by, epoch_time}
 use Rattle.gix_date.specs.Fields.FieldTexts.{IsField, IsYear, AreSpaces, IsDayName, IsPlainDate, IsDayPrefix}
-use Rattle.gix_date.specs.Fields.Front.{skip_char}
+use Rattle.gix_date.specs.Fields.Front.{skip_char, ◌>>=◌}
 use Rattle.gix_date.specs.Text.Numbers.{fits_i64, int_value, read_two_digits, read_digit, read_field, read_year}
 use Rattle.gix_date.specs.Fields.DateFields.{skip_day_name, skip_spaces, read_name, skip_weekday, read_plain_date, read_clock, read_minutes}
-use Rattle.gix_date.specs.Families.Patterns.{time_answer, short_answer, rfc2822_answer, iso8601_answer, iso8601_strict_answer, gitoxide_answer, default_answer}
+use Rattle.gix_date.specs.Families.Patterns.{gitoxide_layout, iso8601_layout, time_answer, short_answer, rfc2822_answer, iso8601_answer, iso8601_strict_answer, gitoxide_answer, default_answer}
 use Rattle.gix_date.proofs.FieldsRead.{Begins, BeginsNot, Excludes, begins-append, begins_not, digit-no-letter, letter-no-digit, space-no-digit, digit-no-space, field-begins, year-begins, name-begins, weekday-read, date-read}
 use Rattle.gix_date.proofs.FieldsTaken.{went, after-taken}
 use Rattle.gix_date.proofs.Layouts.{piece-taken, apart-after, mail-front, dates_spelled}
 use Rattle.gix_date.specs.Families.Order.{answers_before_git, answers_before_git_by}
 use Rattle.gix_date.specs.Families.Raw.{OffsetRule}
-use Rattle.gix_date.specs.Fields.Layout.{LocalTime, Piece, DayName, MonthName, Day, Year, PlainDate, Clock, Spaces, LetterT, Offset, ColonOffset, read_pieces, nothing_read, ArePieces}
+use Rattle.gix_date.specs.Fields.Layout.{LocalTime, Piece, DayName, MonthName, Day, Year, PlainDate, Clock, Spaces, LetterT, Offset, ColonOffset, read_piece, read_pieces, nothing_read, ArePieces}
 use Rattle.gix_date.specs.declared.parsing.civil.DateFields.{DateFields}
 use Rattle.gix_date.specs.declared.time.Time.{Time}
 
@@ -194,10 +194,11 @@ no-clock-year (a ∷ b ∷ c ∷ d ∷ []) rest n h =
     digit-no-colon c h = grind (arith, nat_tests, h)
 no-clock-year (a ∷ b ∷ c ∷ d ∷ e ∷ t) rest n h = absurd h
 
-year-no-clock : (g : LocalTime) (more other : List Piece) (next : LocalTime → Option FamilyAnswer) (x : List ℕ) (y : FamilyAnswer) → read_pieces (Year ∷ more) g next x ≡ Some y → read_pieces (Clock ∷ other) g next x ≡ None
-year-no-clock g more other next x y e =
-    let first = piece-taken Year g (λ f rest. read_pieces more f next rest) x y e in
-    let none : read_clock x ≡ None = ap read_clock first.whole ∙ no-clock-year first.text first.rest first.found.date.year (first.is first.found first.kept) in
+year-no-clock : (g : LocalTime) (more other : List Piece) (x : List ℕ) (y : LocalTime) → read_pieces (Year ∷ more) g x ≡ Some y → read_pieces (Clock ∷ other) g x ≡ None
+year-no-clock g more other x y e =
+    let read = went (read_piece Year g x) (λ r. read_pieces more r.0 r.1) y e in
+    let first = piece-taken Year g x read.0 read.1 in
+    let none : read_clock x ≡ None = ap read_clock first.whole ∙ no-clock-year first.text read.0.1 read.0.0.date.year (first.is read.0.0 first.kept) in
     rw none refl
 
 gitoxide-alone : (text : List ℕ) (answer : FamilyAnswer) → gitoxide_answer text ≡ Some answer → NoneFrom 6 text
@@ -207,7 +208,8 @@ gitoxide-alone text answer e =
     let begin = DayName ∷ Spaces ∷ MonthName ∷ Spaces ∷ Day ∷ Spaces ∷ [] in
     let one = Spaces ∷ Clock ∷ Spaces ∷ Offset ∷ [] in
     let other = Spaces ∷ Year ∷ Spaces ∷ Offset ∷ [] in
-    let none : default_answer text ≡ None = apart-after begin (Year ∷ one) (Clock ∷ other) nothing_read time_answer text answer (λ g rest. year-no-clock g one other time_answer rest answer) e in
+    let read = went (read_pieces gitoxide_layout nothing_read text) time_answer answer e in
+    let none : default_answer text ≡ None = ap (λ (found : Option LocalTime). found >>= time_answer) (apart-after begin (Year ∷ one) (Clock ∷ other) nothing_read text read.0 (λ g rest. year-no-clock g one other rest read.0) read.1) in
     rw (none, named-no-epoch h.front h.rest text h.is h.whole) refl
 
 plain-alone : (text : List ℕ) → AfterPlainDate text → NoneFrom 5 text
@@ -232,10 +234,11 @@ no-t (c ∷ gap) rest h =
     space-no-t : Excludes is_space (λ c. c == letter_t)
     space-no-t c h = grind (arith, nat_tests, h)
 
-spaces-no-t : (g : LocalTime) (more other : List Piece) (next : LocalTime → Option FamilyAnswer) (x : List ℕ) (y : FamilyAnswer) → read_pieces (Spaces ∷ more) g next x ≡ Some y → read_pieces (LetterT ∷ other) g next x ≡ None
-spaces-no-t g more other next x y e =
-    let first = piece-taken Spaces g (λ f rest. read_pieces more f next rest) x y e in
-    let none : skip_char letter_t x ≡ None = ap (skip_char letter_t) first.whole ∙ no-t first.text first.rest (first.is first.found first.kept) in
+spaces-no-t : (g : LocalTime) (more other : List Piece) (x : List ℕ) (y : LocalTime) → read_pieces (Spaces ∷ more) g x ≡ Some y → read_pieces (LetterT ∷ other) g x ≡ None
+spaces-no-t g more other x y e =
+    let read = went (read_piece Spaces g x) (λ r. read_pieces more r.0 r.1) y e in
+    let first = piece-taken Spaces g x read.0 read.1 in
+    let none : skip_char letter_t x ≡ None = ap (skip_char letter_t) first.whole ∙ no-t first.text read.0.1 (first.is read.0.0 first.kept) in
     rw none refl
 
 iso8601-alone : (text : List ℕ) (answer : FamilyAnswer) → iso8601_answer text ≡ Some answer → NoneFrom 4 text
@@ -245,7 +248,8 @@ iso8601-alone text answer e =
     let one = Clock ∷ Spaces ∷ Offset ∷ [] in
     let other = Clock ∷ ColonOffset ∷ [] in
     let plain = plain-first (Spaces ∷ one) a.time text a.are in
-    let strict : iso8601_strict_answer text ≡ None = apart-after (PlainDate ∷ []) (Spaces ∷ one) (LetterT ∷ other) nothing_read time_answer text answer (λ g rest. spaces-no-t g one other time_answer rest answer) e in
+    let read = went (read_pieces iso8601_layout nothing_read text) time_answer answer e in
+    let strict : iso8601_strict_answer text ≡ None = ap (λ (found : Option LocalTime). found >>= time_answer) (apart-after (PlainDate ∷ []) (Spaces ∷ one) (LetterT ∷ other) nothing_read text read.0 (λ g rest. spaces-no-t g one other rest read.0) read.1) in
     rw (strict, plain.gitoxide, plain.by_default, plain.epoch) refl
 
 not_both : (b : Bool) (v : ℕ) (rest : List ℕ) → option_map {U = ℕ × List ℕ} (λ n. (n, rest)) (cond (b && false) (Some v) None) ≡ None

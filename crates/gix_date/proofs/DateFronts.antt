@@ -1,8 +1,7 @@
 -- Texts that are no date with names by what stands at their front.
 use Rattle.std.proofs.Common.{◌≡◌, ◌∙◌, ℕ, Bool, true, false, List, [], ◌∷◌, ◌++◌, refl, sym, ap, None, Some, Option}
-use Rattle.std.specs.Prelude.{◌==◌, ◌&&◌, ◌||◌, not, codes}
+use Rattle.std.specs.Prelude.{◌==◌, ◌&&◌, ◌||◌, not}
 use Rattle.std.specs.Char.{is_ascii_alphabetic, is_ascii_digit, to_ascii_lowercase}
-use Rattle.std.specs.List.{list_any}
 use Rattle.std.proofs.lemmas.Bool.{and_parts as both}
 use Rattle.gix_date.specs.Text.Characters.{space, is_space}
 use Rattle.gix_date.specs.Fields.DateFields.{month_named, read_month, read_name, skip_day_name, skip_spaces, skip_weekday, is_weekday}

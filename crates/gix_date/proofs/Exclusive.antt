@@ -1,5 +1,5 @@
 -- Which families hold texts of one another.
-use Rattle.std.proofs.Common.{pos, ◌≡◌, ◌≢◌, ◌∙◌, ◌<◌, ◌≤◌, ℕ, ℤ, Bool, true, false, List, [], ◌∷◌, ◌++◌, length, filter, get_or, refl, ap, sym, subst, arith, append-nil, append_assoc, map, encode_utf8_all, Some, None, Option, is_some, option_map, cond, unwrap_or, take, unsigned_abs, Result, Ok, Err, inl, inr, ◌⊎◌, IsUtf8, zero, suc}
+use Rattle.std.proofs.Common.{pos, ◌≡◌, ◌≢◌, ◌∙◌, ◌<◌, ◌≤◌, ℕ, ℤ, Bool, true, false, List, [], ◌∷◌, ◌++◌, length, filter, get_or, refl, ap, sym, subst, arith, append-nil, append_assoc, map, encode_utf8_all, Some, None, Option, is_some, option_map, cond, unwrap_or, take, unsigned_abs, Result, inl, inr, ◌⊎◌, IsUtf8, zero, suc}
 use Rattle.std.proofs.lemmas.Bool.{cases_order, and_parts as both}
 use Rattle.std.proofs.lemmas.Bool.Decides.{nat_tests}
 use Rattle.std.proofs.lemmas.Str.{IsUtf8-drop, IsCharBoundary-after_ascii, IsUtf8-from_ascii, chars-append, chars-IsAscii, encodes-IsAscii}
@@ -11,7 +11,7 @@ use Rattle.std.specs.Str.{trim, trim_start, trim_end, all_ascii_digits, chars, N
 use Rattle.gix_date.specs.Families.Answer.{FamilyAnswer, Absolute, OffsetBeyond, InstantBeyond, Relative}
 use Rattle.gix_date.specs.Text.Characters.{at_sign, comma, minus, space, is_space}
 use Rattle.gix_date.specs.Families.Epoch.{at_time_by, epoch_time, utc_time}
-use Rattle.gix_date.specs.Families.Order.{Family, AtText, Short, Rfc2822, Iso8601, Iso8601Strict, Gitoxide, GitDefault, BareEpoch, GitForm, RelativeText, RawText, families, family_answer_by, answers_before_git_by, family_answers_by, first_answer_of, first_family_by, ParseOutcome}
+use Rattle.gix_date.specs.Families.Order.{Family, AtText, Short, Rfc2822, Iso8601, Iso8601Strict, Gitoxide, GitDefault, BareEpoch, GitForm, RelativeText, RawText, families, family_answer_by, answers_before_git_by, family_answers_by, first_answer_of, first_family_by, ParseNoAllocOutcome}
 use Rattle.gix_date.specs.Families.Laws.{AreExclusiveBy, ComesFirstBy, IgnoresMomentBy, HoldsBy, overlap}
 use Rattle.gix_date.specs.Fields.FieldTexts.{IsYear, IsField, IsMonthName, IsDayPrefix, AreSpaces}
 use Rattle.gix_date.specs.Fields.Front.{skip_char, ◌>>=◌}
@@ -24,8 +24,8 @@ use Rattle.gix_date.specs.Families.Raw.{OffsetRule, raw_time_by}
 use Rattle.gix_date.specs.Relative.Dates.{relative_date, RelativeDate}
 use Rattle.gix_date.specs.Text.SpaceWords.{space_words, runs}
 use Rattle.gix_date.specs.Fields.Civil.{civil_instant, is_date}
-use Rattle.gix_date.specs.Fields.Layout.{Piece}
-use Rattle.gix_date.specs.declared.error.Error.{Error}
+use Rattle.gix_date.specs.Fields.Layout.{LocalTime, Piece, DayName, BeginsWith}
+use Rattle.gix_date.specs.declared.error.ParseError.{ParseError}
 use Rattle.gix_date.specs.declared.parsing.civil.ClockFields.{ClockFields}
 use Rattle.gix_date.specs.declared.parsing.civil.DateFields.{DateFields}
 use Rattle.gix_date.specs.declared.parsing.patterns.TheConstants.{MAX_OFFSET_IN_SECONDS}
@@ -314,14 +314,12 @@ is-quiet rule RelativeText text u n o h = absurd (n refl)
 is-quiet rule RawText text u n o h = let t = absolute (raw_time_by rule text) h in quiet-raw rule text t.0 u t.1
 
 -- Git's own forms
-named-no-git : (text : List ℕ) (rest : List ℕ) → IsUtf8 text → skip_weekday text ≡ Some rest → git_time text ≡ None
-named-no-git text rest u e =
-    let d = weekday-taken text rest e in
-    ap git_time d.whole ∙ git-no-letter d.name rest (subst IsUtf8 d.whole u) (name-begins d.name d.is_name.0)
+named-no-git : {IsMore : List ℕ → Type 0} (time : LocalTime) (text : List ℕ) → IsUtf8 text → BeginsWith DayName time IsMore text
+    → git_time text ≡ None
+named-no-git time text u h = ap git_time h.whole ∙ git-no-letter h.front h.rest (subst IsUtf8 h.whole u) (name-begins h.front h.is.0)
 
 git-clash : (rule : OffsetRule) (family : Family) (text : List ℕ) → IsUtf8 text → family ≢ GitForm
     → overlap family GitForm ≡ false → HoldsBy rule family text → git_time text ≡ None
-unfolding gitoxide_answer default_answer
 git-clash rule AtText text u n o h =
     let t = absolute (at_time_by rule text) h in
     let f = at-first rule text t.0 t.1 in
@@ -330,8 +328,8 @@ git-clash rule Short text u n o h = let a = answered rule Short text h in short-
 git-clash rule Rfc2822 text u n o h = let a = answered rule Rfc2822 text h in mail-no-git text a.0 u a.1
 git-clash rule Iso8601 text u n o h = absurd cc
 git-clash rule Iso8601Strict text u n o h = absurd cc
-git-clash rule Gitoxide text u n o h = let a = answered rule Gitoxide text h in let d = went (skip_weekday text) _ a.0 a.1 in named-no-git text d.0 u d.1
-git-clash rule GitDefault text u n o h = let a = answered rule GitDefault text h in let d = went (skip_weekday text) _ a.0 a.1 in named-no-git text d.0 u d.1
+git-clash rule Gitoxide text u n o h = let a = answered rule Gitoxide text h in let d = (dates_spelled.gitoxide text a.0).0 a.1 in named-no-git d.time text u d.are
+git-clash rule GitDefault text u n o h = let a = answered rule GitDefault text h in let d = (dates_spelled.by_default text a.0).0 a.1 in named-no-git d.time text u d.are
 git-clash rule BareEpoch text u n o h = let t = absolute (epoch_time text) h in (are-disjoint rule text u).epoch_git t.0 t.1
 git-clash rule GitForm text u n o h = absurd (n refl)
 git-clash rule RelativeText text u n o h = absurd cc
@@ -517,22 +515,21 @@ abbrev IsNotRelative : Option FamilyAnswer → Type 0
 IsNotRelative (Some (Relative date)) = ⊥
 IsNotRelative _ = Unit {0}
 
-same-for : (found : Option FamilyAnswer) (text : List ℕ) → IsNotRelative found
-    → (now other : Option Zoned) (result : Result Time Error) → ParseOutcome found text now result
-    → ParseOutcome found text other result
-same-for (Some (Absolute t)) text n now other result h = h
-same-for (Some (Relative date)) text n now other result h = absurd n
-same-for (Some OffsetBeyond) text n now other (Ok t) h = h
-same-for (Some OffsetBeyond) text n now other (Err e) h = h
-same-for (Some InstantBeyond) text n now other (Ok t) h = h
-same-for (Some InstantBeyond) text n now other (Err e) h = h
-same-for None text n now other (Ok t) h = h
-same-for None text n now other (Err e) h = h
+same-for : (found : Option FamilyAnswer) → IsNotRelative found
+    → (now other : Option Zoned) (result : Result Time ParseError) → ParseNoAllocOutcome found now result
+    → ParseNoAllocOutcome found other result
+same-for (Some (Absolute t)) n now other result h = h
+same-for (Some (Relative date)) n now other result h = absurd n
+same-for (Some OffsetBeyond) n now other result h = h
+same-for (Some InstantBeyond) n now other result h = h
+same-for None n now other result h = h
 
 ignores-by : (rule : OffsetRule) (found : Option FamilyAnswer) (text : List ℕ) → first_family_by rule text ≡ found
     → IsNotRelative found → IgnoresMomentBy rule text
 ignores-by rule found text e n now other result h =
-    subst (λ (r : Option FamilyAnswer). ParseOutcome r text other result) (sym e) (same-for found text n now other result (subst (λ (r : Option FamilyAnswer). ParseOutcome r text now result) e h))
+    let at-now = subst (λ (r : Option FamilyAnswer). ParseNoAllocOutcome r now h.0) e h.1 in
+    let same = same-for found n now other h.0 at-now in
+    (h.0, subst (λ (r : Option FamilyAnswer). ParseNoAllocOutcome r other h.0) (sym e) same, h.2)
 
 not-relative : (r : Option Time) → IsNotRelative (option_map Absolute r)
 not-relative (Some t) = tt

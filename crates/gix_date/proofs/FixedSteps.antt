@@ -1,18 +1,17 @@
 -- Steps at one offset, and in a zone that has no other.
-use Rattle.std.proofs.Common.{◌≡◌, ◌∙◌, ◌↔◌, ℕ, ℤ, pos, ◌+ℤ◌, ◌-ℤ◌, refl, sym, ap, subst, arith, List, [], ◌∷◌, Option, None, Some, is_some, FitsSigned, w64}
+use Rattle.std.proofs.Common.{◌≡◌, ◌∙◌, ◌↔◌, ℕ, ℤ, pos, ◌+ℤ◌, ◌-ℤ◌, refl, sym, ap, subst, List, [], ◌∷◌, Option, None, Some, FitsSigned, w64}
 use Rattle.std.specs.Int.{int_div_euclid, int_rem_euclid}
-use Rattle.std.specs.Prelude.{IsSome, IfSome, IsOk}
+use Rattle.std.specs.Prelude.{IsSome, IfSome}
 use Rattle.jiff.proofs.ZoneFacts.{offset_at-fixed_zone, picked_instant-fixed_zone}
 use Rattle.jiff.specs.Types.{TimeZone, DateTime, Date, Time, Offset, Timestamp}
-use Rattle.jiff.specs.Words.{fixed_zone, offset_at, picked_instant, civil_nanos, epoch_day, month_number, nanos_of_seconds, zoned_nanos, IsTimestampNanos, IsEpochDay, IsYear, IsYmd}
+use Rattle.jiff.specs.Words.{fixed_zone, offset_at, picked_instant, civil_nanos, epoch_day, month_number, nanos_of_seconds, zoned_nanos, IsTimestampNanos, IsYear, IsYmd}
 use Rattle.jiff.specs.declared.zoned.Zoned.{Zoned}
 use Rattle.jiff_core.proofs.DateTimeLemmas.{civil_nanos-parts}
-use Rattle.jiff_core.proofs.SignedLemmas.{signed_arith}
 use Rattle.jiff_tz.specs.Zone.{IsFixed, ambiguous_at}
 use Rattle.jiff_tz.specs.declared.timezone.TimeZone.TheVariants.{UTC, Unknown, Fixed, Posix, Tzif}
 use Rattle.gix_date.specs.Relative.Dates.{RelativeDate, Before, Less, Reaches, IsNamed}
 use Rattle.gix_date.specs.Private.RelativePairs.{pairs_read}
-use Rattle.gix_date.specs.Relative.Steps.{IsLocal, IsPicked, Settles, SecondsStep, MonthsStep, PairStep, Chain, zone_of, civil_of, month_start, rolled_day}
+use Rattle.gix_date.specs.Relative.Steps.{IsLocal, IsPicked, Settles, SecondsStep, MonthsStep, PairStep, Chain, zone_of, civil_of, rolled_day}
 use Rattle.gix_date.specs.Private.Steps.{ChooseAlike, IsAtInstant}
 use Rattle.gix_date.specs.Relative.Roles.{pairs}
 use Rattle.gix_date.specs.Printing.Zoned.{whole_seconds}
@@ -20,8 +19,8 @@ use Rattle.gix_date.specs.declared.parsing.relative.words.TimeUnit.{TimeUnit}
 use Rattle.gix_date.specs.declared.parsing.relative.words.TimeUnit.TheVariants.{Seconds, Months}
 use Rattle.gix_date.specs.declared.time.Time.{Time as OurTime}
 use Rattle.gix_date.proofs.Chains.{reaches-is, reaches-back}
-use Rattle.gix_date.proofs.FixedZones.{fixed-local, fixed-picked, fixed-picks, fixed-settles-exists, fixed-seconds, fixed-seconds-exists}
-use Rattle.gix_date.proofs.Steps.{MonthsFrom, first-is, picked-day}
+use Rattle.gix_date.proofs.FixedZones.{fixed-picked, fixed-picks, fixed-settles-exists, fixed-seconds-exists}
+use Rattle.gix_date.proofs.Steps.{MonthsFrom, first-is}
 use Rattle.jiff_zoned.proofs.SameLemmas.{same_datetime}
 
 picks : (tz : TimeZone) (o : Offset) → IsFixed tz → ((n : ℤ) → o.seconds ≡ offset_at tz n) → (dt : DateTime) → picked_instant tz dt ≡ civil_nanos dt -ℤ nanos_of_seconds o.seconds

@@ -35,16 +35,15 @@ set_pieces (p ∷ ps) t f = set_pieces ps t (set_piece p t f)
 goes_on : {A B : Type 0} (r : Option A) (x : A) (next : A → Option B) → r ≡ Some x → (r >>= next) ≡ next x
 goes_on {A} {B} r x next e = ap (λ (q : Option A). q >>= next) e
 
+some_same : {A : Type 0} (x y : A) → Some x ≡ Some y → x ≡ y
+some_same x y e = cc
+
 -- a piece that was read is written so, whatever else the time is
-pub record PieceTaken {B : Type 0} (p : Piece) (f : LocalTime) (next : LocalTime → List ℕ → Option B) (x : List ℕ) (y : B) : Type 0 where
+pub record PieceTaken (p : Piece) (f : LocalTime) (x : List ℕ) (read : LocalTime × List ℕ) : Type 0 where
   pub text : List ℕ
-  pub rest : List ℕ
-  pub found : LocalTime
-  pub whole : x ≡ text ++ rest
-  pub kept : set_piece p found f ≡ found
-  pub is : (t : LocalTime) → set_piece p t f ≡ found → IsPiece p t text
-  pub goes : next found rest ≡ Some y
-  pub same : (other : LocalTime → List ℕ → Option B) → read_piece p f other x ≡ other found rest
+  pub whole : x ≡ text ++ read.1
+  pub kept : set_piece p read.0 f ≡ read.0
+  pub is : (t : LocalTime) → set_piece p t f ≡ read.0 → IsPiece p t text
 
 -- what is read of one time is read of each that tells the same
 piece-told : (p : Piece) (t f : LocalTime) (text : List ℕ) → IsPiece p (set_piece p t f) text → IsPiece p t text
@@ -63,49 +62,28 @@ piece-told ColonOffset t f text h = h
 piece-told MailOffset t f text h = h
 
 -- a piece that a reader reads, where the front of what it took is such a piece of the time with what was found
-taken : {B C : Type 0} {p : Piece} {f : LocalTime} (read : List ℕ → Option C) (put : C → LocalTime) (rest : C → List ℕ)
+taken : {C : Type 0} {p : Piece} {f : LocalTime} (read : List ℕ → Option C) (put : C → LocalTime) (rest : C → List ℕ)
     → ((v : C) → set_piece p (put v) f ≡ put v)
-    → ((x : List ℕ) (other : LocalTime → List ℕ → Option B) → read_piece p f other x ≡ (read x >>= λ v. other (put v) (rest v)))
+    → ((x : List ℕ) → read_piece p f x ≡ (read x >>= λ v. Some (put v, rest v)))
     → ((x : List ℕ) (v : C) → read x ≡ Some v → TookFront (λ text. IsPiece p (put v) text) x (rest v))
-    → (next : LocalTime → List ℕ → Option B) (x : List ℕ) (y : B) → read_piece p f next x ≡ Some y → PieceTaken p f next x y
-taken {p = p} {f = f} read put rest kept reads takes next x y e =
-    let r = went (read x) (λ v. next (put v) (rest v)) y (sym (reads x next) ∙ e) in
+    → (x : List ℕ) (y : LocalTime × List ℕ) → read_piece p f x ≡ Some y → PieceTaken p f x y
+taken {p = p} {f = f} read put rest kept reads takes x y e =
+    let r = went (read x) (λ v. Some (put v, rest v)) y (sym (reads x) ∙ e) in
     let t = takes x r.0 r.1 in
-    record {
+    let made : (put r.0, rest r.0) ≡ y = some_same (put r.0, rest r.0) y r.2 in
+    subst (PieceTaken p f x) made (record {
       text = t.text;
-      rest = rest r.0;
-      found = put r.0;
       whole = t.whole;
       kept = kept r.0;
       is = λ u h. piece-told p u f t.text (subst (λ (k : LocalTime). IsPiece p k t.text) (sym h) t.is);
-      goes = r.2;
-      same = λ other. reads x other ∙ goes_on (read x) r.0 (λ v. other (put v) (rest v)) r.1;
-    }
+    })
 
-prefix : {B : Type 0} (f : LocalTime) (next : LocalTime → List ℕ → Option B) (x : List ℕ) (y : B) (found : Option (List ℕ))
-    → skip_day_name x ≡ found → next f (unwrap_or found x) ≡ Some y → PieceTaken MailDayName f next x y
-prefix f next x y (Some rest) h e =
+prefix : (f : LocalTime) (x : List ℕ) (found : Option (List ℕ))
+    → skip_day_name x ≡ found → PieceTaken MailDayName f x (f, unwrap_or found x)
+prefix f x (Some rest) h =
     let t = prefix-taken x rest h in
-    record {
-      text = t.text;
-      rest = rest;
-      found = f;
-      whole = t.whole;
-      kept = refl;
-      is = λ u k. inr t.is;
-      goes = e;
-      same = λ other. ap (λ (q : Option (List ℕ)). other f (unwrap_or q x)) h;
-    }
-prefix f next x y None h e = record {
-  text = [];
-  rest = x;
-  found = f;
-  whole = refl;
-  kept = refl;
-  is = λ u k. inl refl;
-  goes = e;
-  same = λ other. ap (λ (q : Option (List ℕ)). other f (unwrap_or q x)) h;
-}
+    record { text = t.text; whole = t.whole; kept = refl; is = λ u k. inr t.is }
+prefix f x None h = record { text = []; whole = refl; kept = refl; is = λ u k. inl refl }
 
 name : (x rest : List ℕ) → skip_weekday x ≡ Some rest → TookFront IsDayName x rest
 name x rest h = let t = weekday-taken x rest h in record { text = t.name; is = t.is_name; whole = t.whole }
@@ -117,21 +95,20 @@ letter x rest h = record { text = letter_t ∷ []; is = refl; whole = after-take
 offset : (zone : List ℕ → Option ℤ) (x : List ℕ) (v : ℤ) → zone x ≡ Some v → TookFront (λ text. zone text ≡ Some v) x []
 offset zone x v h = record { text = x; is = h; whole = sym (append-nil x) }
 
-pub piece-taken : {B : Type 0} (p : Piece) (f : LocalTime) (next : LocalTime → List ℕ → Option B) (x : List ℕ) (y : B)
-    → read_piece p f next x ≡ Some y → PieceTaken p f next x y
-piece-taken DayName f = taken skip_weekday (λ v. f) (λ v. v) (λ v. refl) (λ x other. refl) name
-piece-taken MailDayName f = λ next x y e. prefix f next x y (skip_day_name x) refl e
-piece-taken MonthName f = taken read_month (λ v. record f { date = record f.date { month = v.0 } }) (λ v. v.1) (λ v. refl) (λ x other. refl) (λ x v. month-taken x v.0 v.1)
-piece-taken Day f = taken read_field (λ v. record f { date = record f.date { day = v.0 } }) (λ v. v.1) (λ v. refl) (λ x other. refl) (λ x v. field-taken x v.0 v.1)
-piece-taken Year f = taken read_year (λ v. record f { date = record f.date { year = v.0 } }) (λ v. v.1) (λ v. refl) (λ x other. refl) (λ x v. year-taken x v.0 v.1)
-piece-taken PlainDate f = taken read_plain_date (λ v. record f { date = v.0 }) (λ v. v.1) (λ v. refl) (λ x other. refl) (λ x v. date-taken x v.0 v.1)
-piece-taken Clock f = taken read_clock (λ v. record f { clock = v.0 }) (λ v. v.1) (λ v. refl) (λ x other. refl) (λ x v. clock-taken x v.0 v.1)
-piece-taken MailClock f = taken read_mail_clock (λ v. record f { clock = v.0 }) (λ v. v.1) (λ v. refl) (λ x other. refl) (λ x v. mail-clock-taken x v.0 v.1)
-piece-taken Spaces f = taken skip_spaces (λ v. f) (λ v. v) (λ v. refl) (λ x other. refl) spaces-taken
-piece-taken LetterT f = taken (skip_char letter_t) (λ v. f) (λ v. v) (λ v. refl) (λ x other. refl) letter
-piece-taken Offset f = taken compact_offset (λ v. record f { offset = v }) (λ v. []) (λ v. refl) (λ x other. refl) (offset compact_offset)
-piece-taken ColonOffset f = taken strict_offset (λ v. record f { offset = v }) (λ v. []) (λ v. refl) (λ x other. refl) (offset strict_offset)
-piece-taken MailOffset f = taken mail_zone (λ v. record f { offset = v }) (λ v. []) (λ v. refl) (λ x other. refl) (offset mail_zone)
+pub piece-taken : (p : Piece) (f : LocalTime) (x : List ℕ) (y : LocalTime × List ℕ) → read_piece p f x ≡ Some y → PieceTaken p f x y
+piece-taken DayName f = taken skip_weekday (λ v. f) (λ v. v) (λ v. refl) (λ x. refl) name
+piece-taken MailDayName f = λ x y e. subst (PieceTaken MailDayName f x) (some_same (f, unwrap_or (skip_day_name x) x) y e) (prefix f x (skip_day_name x) refl)
+piece-taken MonthName f = taken read_month (λ v. record f { date = record f.date { month = v.0 } }) (λ v. v.1) (λ v. refl) (λ x. refl) (λ x v. month-taken x v.0 v.1)
+piece-taken Day f = taken read_field (λ v. record f { date = record f.date { day = v.0 } }) (λ v. v.1) (λ v. refl) (λ x. refl) (λ x v. field-taken x v.0 v.1)
+piece-taken Year f = taken read_year (λ v. record f { date = record f.date { year = v.0 } }) (λ v. v.1) (λ v. refl) (λ x. refl) (λ x v. year-taken x v.0 v.1)
+piece-taken PlainDate f = taken read_plain_date (λ v. record f { date = v.0 }) (λ v. v.1) (λ v. refl) (λ x. refl) (λ x v. date-taken x v.0 v.1)
+piece-taken Clock f = taken read_clock (λ v. record f { clock = v.0 }) (λ v. v.1) (λ v. refl) (λ x. refl) (λ x v. clock-taken x v.0 v.1)
+piece-taken MailClock f = taken read_mail_clock (λ v. record f { clock = v.0 }) (λ v. v.1) (λ v. refl) (λ x. refl) (λ x v. mail-clock-taken x v.0 v.1)
+piece-taken Spaces f = taken skip_spaces (λ v. f) (λ v. v) (λ v. refl) (λ x. refl) spaces-taken
+piece-taken LetterT f = taken (skip_char letter_t) (λ v. f) (λ v. v) (λ v. refl) (λ x. refl) letter
+piece-taken Offset f = taken compact_offset (λ v. record f { offset = v }) (λ v. []) (λ v. refl) (λ x. refl) (offset compact_offset)
+piece-taken ColonOffset f = taken strict_offset (λ v. record f { offset = v }) (λ v. []) (λ v. refl) (λ x. refl) (offset strict_offset)
+piece-taken MailOffset f = taken mail_zone (λ v. record f { offset = v }) (λ v. []) (λ v. refl) (λ x. refl) (offset mail_zone)
 
 -- no piece changes what a piece before it told
 abbrev pub told_first : List Piece → LocalTime → LocalTime → LocalTime → List LocalTime
@@ -149,38 +126,35 @@ both_same : {A : Type 0} (x y : A) (xs ys : List A) → x ∷ xs ≡ y ∷ ys �
 both_same x y xs ys e = (cc, cc)
 
 -- pieces that were read are written so
-record PiecesTaken {B : Type 0} (ps : List Piece) (f : LocalTime) (next : LocalTime → Option B) (x : List ℕ) (y : B) : Type 0 where
-  pub time : LocalTime
+record PiecesTaken (ps : List Piece) (f : LocalTime) (x : List ℕ) (time : LocalTime) : Type 0 where
   pub are : ArePieces ps time x
   pub made : set_pieces ps time f ≡ time
-  pub goes : next time ≡ Some y
 
-pieces-taken : {B : Type 0} (ps : List Piece) → ToldOnce ps
-    → (f : LocalTime) (next : LocalTime → Option B) (x : List ℕ) (y : B) → read_pieces ps f next x ≡ Some y
-    → PiecesTaken ps f next x y
-pieces-taken [] once f next [] y e = record { time = f; are = refl; made = refl; goes = e }
-pieces-taken [] once f next (c ∷ x) y e = absurd cc
-pieces-taken (p ∷ ps) once f next x y e =
-    let one = piece-taken p f (λ g rest. read_pieces ps g next rest) x y e in
+pieces-taken : (ps : List Piece) → ToldOnce ps → (f : LocalTime) (x : List ℕ) (y : LocalTime) → read_pieces ps f x ≡ Some y
+    → PiecesTaken ps f x y
+pieces-taken [] once f [] y e = record { are = refl; made = some_same f y e }
+pieces-taken [] once f (c ∷ x) y e = absurd cc
+pieces-taken (p ∷ ps) once f x y e =
+    let r = went (read_piece p f x) (λ r. read_pieces ps r.0 r.1) y e in
+    let one = piece-taken p f x r.0 r.1 in
+    let found = r.0.0 in
     let later : ToldOnce ps = λ t u g. (both_same (set_piece p (set_pieces ps t u) g) (set_piece p u g) (told_last ps t u g) (told_first ps t u g) (once t u g)).1 in
-    let more = pieces-taken ps later one.found next one.rest y one.goes in
-    let first = (both_same (set_piece p (set_pieces ps more.time one.found) f) (set_piece p one.found f) (told_last ps more.time one.found f) (told_first ps more.time one.found f) (once more.time one.found f)).0 in
-    let part : set_piece p more.time f ≡ one.found = ap (λ (t : LocalTime). set_piece p t f) (sym more.made) ∙ first ∙ one.kept in
+    let more = pieces-taken ps later found r.0.1 y r.2 in
+    let first = (both_same (set_piece p (set_pieces ps y found) f) (set_piece p found f) (told_last ps y found f) (told_first ps y found f) (once y found f)).0 in
+    let part : set_piece p y f ≡ found = ap (λ (t : LocalTime). set_piece p t f) (sym more.made) ∙ first ∙ one.kept in
     record {
-      time = more.time;
-      are = record { front = one.text; rest = one.rest; whole = one.whole; is = one.is more.time part; more = more.are };
-      made = ap (set_pieces ps more.time) part ∙ more.made;
-      goes = more.goes;
+      are = record { front = one.text; rest = r.0.1; whole = one.whole; is = one.is y part; more = more.are };
+      made = ap (set_pieces ps y) part ∙ more.made;
     }
 
 -- layouts that begin alike are apart where what stands after is
-pub apart-after : {B : Type 0} (ps one other : List Piece) (f : LocalTime) (next : LocalTime → Option B) (x : List ℕ) (y : B)
-    → ((g : LocalTime) (rest : List ℕ) → read_pieces one g next rest ≡ Some y → read_pieces other g next rest ≡ None)
-    → read_pieces (ps ++ one) f next x ≡ Some y → read_pieces (ps ++ other) f next x ≡ None
-apart-after [] one other f next x y clash e = clash f x e
-apart-after (p ∷ ps) one other f next x y clash e =
-    let first = piece-taken p f (λ g rest. read_pieces (ps ++ one) g next rest) x y e in
-    first.same (λ g rest. read_pieces (ps ++ other) g next rest) ∙ apart-after ps one other first.found next first.rest y clash first.goes
+pub apart-after : (ps one other : List Piece) (f : LocalTime) (x : List ℕ) (y : LocalTime)
+    → ((g : LocalTime) (rest : List ℕ) → read_pieces one g rest ≡ Some y → read_pieces other g rest ≡ None)
+    → read_pieces (ps ++ one) f x ≡ Some y → read_pieces (ps ++ other) f x ≡ None
+apart-after [] one other f x y clash e = clash f x e
+apart-after (p ∷ ps) one other f x y clash e =
+    let r = went (read_piece p f x) (λ r. read_pieces (ps ++ one) r.0 r.1) y e in
+    goes_on (read_piece p f x) r.0 (λ r. read_pieces (ps ++ other) r.0 r.1) r.1 ∙ apart-after ps one other r.0.0 r.0.1 y clash r.2
 
 -- what the reader of a piece wants of the text after it
 abbrev pub Needs : Piece → List ℕ → Type 0
@@ -265,28 +239,27 @@ readable [] = Some tt
 readable (p ∷ []) = ends p
 readable (p ∷ q ∷ ps) = before p q >>= λ first. readable (q ∷ ps) >>= λ more. Some (first, more)
 
-letter-read : {B : Type 0} (f : LocalTime) (next : LocalTime → List ℕ → Option B) (rest : List ℕ)
-    → read_piece LetterT f next (letter_t ∷ rest) ≡ next f rest
+letter-read : (f : LocalTime) (rest : List ℕ) → read_piece LetterT f (letter_t ∷ rest) ≡ Some (f, rest)
 unfolding skip_char
-letter-read f next rest = refl
+letter-read f rest = refl
 
 -- a piece that is written so is read
-piece-read : {B : Type 0} (p : Piece) (t f : LocalTime) (next : LocalTime → List ℕ → Option B) (front rest : List ℕ)
-    → IsPiece p t front → Needs p rest → read_piece p f next (front ++ rest) ≡ next (set_piece p t f) rest
-piece-read DayName t f next front rest h n = rw (weekday-read front rest h) refl
-piece-read MailDayName t f next front rest (inl none) n = subst (λ k. next f (unwrap_or (skip_day_name (k ++ rest)) (k ++ rest)) ≡ next f rest) (sym none) (rw (no-prefix rest n) refl)
-piece-read MailDayName t f next front rest (inr named) n = rw (prefix-read front rest named (begins_not is_ascii_digit is_space rest digit-no-space n)) refl
-piece-read MonthName t f next front rest h n = rw (month-read front rest t.date.month h) refl
-piece-read Day t f next front rest h n = rw (field-read front rest t.date.day h n) refl
-piece-read Year t f next front rest h n = rw (year-read front rest t.date.year h) refl
-piece-read PlainDate t f next front rest h n = rw (date-read front rest t.date h n) refl
-piece-read Clock t f next front rest h n = rw (clock-read front rest t.clock h n) refl
-piece-read MailClock t f next front rest h n = rw (mail-clock-read front rest t.clock h n.0 n.1) refl
-piece-read Spaces t f next front rest h n = rw (spaces-read front rest h n) refl
-piece-read LetterT t f next front rest h n = subst (λ k. read_piece LetterT f next (k ++ rest) ≡ next f rest) (sym h) (letter-read f next rest)
-piece-read Offset t f next front rest h n = rw (n, append-nil front, h) refl
-piece-read ColonOffset t f next front rest h n = rw (n, append-nil front, h) refl
-piece-read MailOffset t f next front rest h n = rw (n, append-nil front, h) refl
+piece-read : (p : Piece) (t f : LocalTime) (front rest : List ℕ) → IsPiece p t front → Needs p rest
+    → read_piece p f (front ++ rest) ≡ Some (set_piece p t f, rest)
+piece-read DayName t f front rest h n = rw (weekday-read front rest h) refl
+piece-read MailDayName t f front rest (inl none) n = subst (λ k. read_piece MailDayName f (k ++ rest) ≡ Some (f, rest)) (sym none) (rw (no-prefix rest n) refl)
+piece-read MailDayName t f front rest (inr named) n = rw (prefix-read front rest named (begins_not is_ascii_digit is_space rest digit-no-space n)) refl
+piece-read MonthName t f front rest h n = rw (month-read front rest t.date.month h) refl
+piece-read Day t f front rest h n = rw (field-read front rest t.date.day h n) refl
+piece-read Year t f front rest h n = rw (year-read front rest t.date.year h) refl
+piece-read PlainDate t f front rest h n = rw (date-read front rest t.date h n) refl
+piece-read Clock t f front rest h n = rw (clock-read front rest t.clock h n) refl
+piece-read MailClock t f front rest h n = rw (mail-clock-read front rest t.clock h n.0 n.1) refl
+piece-read Spaces t f front rest h n = rw (spaces-read front rest h n) refl
+piece-read LetterT t f front rest h n = subst (λ k. read_piece LetterT f (k ++ rest) ≡ Some (f, rest)) (sym h) (letter-read f rest)
+piece-read Offset t f front rest h n = rw (n, append-nil front, h) refl
+piece-read ColonOffset t f front rest h n = rw (n, append-nil front, h) refl
+piece-read MailOffset t f front rest h n = rw (n, append-nil front, h) refl
 
 after-piece : (p : Piece) (ps : List Piece) (t : LocalTime) (rest : List ℕ) → Readable (p ∷ ps) → ArePieces ps t rest
     → Needs p rest × Readable ps
@@ -294,15 +267,14 @@ after-piece p [] t rest r h = (subst (Needs p) (sym h) r, tt)
 after-piece p (q ∷ ps) t rest r h = (subst (Needs p) (sym h.whole) (r.0 t h.front h.rest h.is), r.1)
 
 -- pieces that are written so are read
-pub pieces-read : {B : Type 0} (ps : List Piece) → Readable ps
-    → (t f : LocalTime) (next : LocalTime → Option B) (text : List ℕ) → ArePieces ps t text
-    → read_pieces ps f next text ≡ next (set_pieces ps t f)
-pieces-read [] r t f next text h = rw h refl
-pieces-read (p ∷ ps) r t f next text h =
+pub pieces-read : (ps : List Piece) → Readable ps → (t f : LocalTime) (text : List ℕ) → ArePieces ps t text
+    → read_pieces ps f text ≡ Some (set_pieces ps t f)
+pieces-read [] r t f text h = rw h refl
+pieces-read (p ∷ ps) r t f text h =
     let more = after-piece p ps t h.rest r h.more in
-    ap (read_pieces (p ∷ ps) f next) h.whole
-    ∙ piece-read p t f (λ g rest. read_pieces ps g next rest) h.front h.rest h.is more.0
-    ∙ pieces-read ps more.1 t (set_piece p t f) next h.rest h.more
+    ap (read_pieces (p ∷ ps) f) h.whole
+    ∙ goes_on (read_piece p f (h.front ++ h.rest)) (set_piece p t f, h.rest) (λ r. read_pieces ps r.0 r.1) (piece-read p t f h.front h.rest h.is more.0)
+    ∙ pieces-read ps more.1 t (set_piece p t f) h.rest h.more
 
 given : {A : Type 0} (found : Option A) → is_some found ≡ true → A
 given (Some x) e = x
@@ -318,8 +290,13 @@ pub record IsSound (layout : List Piece) (of_time : LocalTime → Option FamilyA
 pub spelled : (layout : List Piece) (of_time : LocalTime → Option FamilyAnswer) → IsSound layout of_time
     → Spells (layout_answer layout of_time) (IsAnswered layout of_time)
 spelled layout of_time s text answer = (
-  λ e. let r = pieces-taken layout s.once nothing_read of_time text answer e in record { time = r.time; are = r.are; comes = r.goes },
-  λ h. pieces-read layout (given (readable layout) s.is_readable) h.time nothing_read of_time text h.are ∙ s.all h.time ∙ h.comes,
+  λ e.
+      let r = went (read_pieces layout nothing_read text) of_time answer e in
+      let t = pieces-taken layout s.once nothing_read text r.0 r.1 in
+      record { time = r.0; are = t.are; comes = r.2 },
+  λ h.
+      goes_on (read_pieces layout nothing_read text) (set_pieces layout h.time nothing_read) of_time (pieces-read layout (given (readable layout) s.is_readable) h.time nothing_read text h.are)
+      ∙ s.all h.time ∙ h.comes,
 )
 
 -- each formatted date is its layout

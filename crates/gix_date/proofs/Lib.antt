@@ -13,6 +13,7 @@ pub mod PlainHeaders
 pub mod HeaderLaws
 pub mod WordsWithin
 pub mod FirstWords
+pub mod Places
 pub mod QuietWords
 pub mod QuietDates
 pub mod Disjoint

@@ -113,7 +113,7 @@ clock-shown z t h =
     let second_in = z.datetime.time.second_in in
     let date = sym (ap (λ (n : ℤ). date_of_day n) day ∙ date-of-day z.datetime.date) in
     let hour : z.datetime.time.hour ≡ second_of_day t / 3600 = omega (arith, second) in
-    let minute : z.datetime.time.minute ≡ second_of_day t / 60 % 60 = omega (arith, second) in
+    let minute : z.datetime.time.minute ≡ second_of_day t % 3600 / 60 = omega (arith, second) in
     let last : z.datetime.time.second ≡ second_of_day t % 60 = omega (arith, second) in
     λ i. record {
       weekday = weekday_number (sym day i);

@@ -1,10 +1,9 @@
 -- A text that begins with a byte that begins no name is none.
-use Rattle.std.proofs.Common.{◌≡◌, ◌∙◌, ℕ, ◌+◌, ◌<◌, Bool, true, false, cond, List, [], ◌∷◌, ◌++◌, refl, ap, sym, subst, arith, None, Some, IsUtf8}
+use Rattle.std.proofs.Common.{◌≡◌, ◌∙◌, ℕ, ◌+◌, ◌<◌, Bool, true, false, cond, List, [], ◌∷◌, refl, ap, sym, arith, None, Some, IsUtf8}
 use Rattle.std.proofs.lemmas.Bool.Decides.{nat_tests}
 use Rattle.std.specs.Char.{is_ascii_alphanumeric, to_ascii_lowercase}
-use Rattle.std.specs.Prelude.{◌==◌, ◌&&◌, not, nat_lt, codes}
+use Rattle.std.specs.Prelude.{◌==◌, ◌&&◌, not, nat_lt}
 use Rattle.std.specs.Str.{trim}
-use Rattle.gix_date.specs.Text.Names.{is_name}
 use Rattle.gix_date.specs.Relative.Dates.{RelativeDate, named_date}
 use Rattle.gix_date.specs.Private.Names.{begins_no_name}
 use Rattle.gix_date.specs.Text.SpaceWords.{space_words}

@@ -12,10 +12,10 @@ use Rattle.std.specs.List.{slice_split, onto_first, list_all, list_any}
 use Rattle.std.specs.Prelude.{◌==◌, ◌||◌, ◌&&◌, not, is_none, is_some, codes}
 use Rattle.std.specs.Str.{trim, bytes_eq, str_to_ascii_lowercase}
 use Rattle.gix_date.specs.Text.Names.{is_name, named_in}
-use Rattle.gix_date.specs.Text.Places.{any_place, all_places}
+use Rattle.gix_date.proofs.Places.{any_place, all_places}
 use Rattle.gix_date.specs.Relative.Dates.{relative_date, date_names, named_date, pairs_date, RelativeDate}
 use Rattle.gix_date.specs.Relative.Words.{relative_words, is_gap, singular, named_unit, unit_of, is_ago}
-use Rattle.gix_date.specs.Relative.Roles.{are_pairs, has_pair, all_units, has_flag, has_unit, is_no_period, is_count, has_next, next_is_unit}
+use Rattle.gix_date.specs.Relative.Roles.{are_pairs, has_pair, all_units, has_flag, has_unit, is_count_word, is_no_period, has_next, next_is_unit}
 use Rattle.gix_date.specs.Text.SpaceWords.{is_nonempty}
 use Rattle.gix_date.proofs.AsciiCuts.{ascii-by}
 use Rattle.gix_date.proofs.FieldsTaken.{none_is}
@@ -51,6 +51,9 @@ says-by word u a n = rw (u, a, n) refl
 -- Such words are no pairs.
 abbrev is_flag : List (List ℕ) → List ℕ → List (List ℕ) → Bool
 is_flag front word back = is_no_period front && is_ago word
+
+abbrev is_count : List (List ℕ) → List ℕ → Bool
+is_count front word = is_no_period front && is_count_word word
 
 abbrev starts_pair : List (List ℕ) → List ℕ → List (List ℕ) → Bool
 starts_pair front word back = is_count front word && has_next back

@@ -2,7 +2,7 @@
 use Rattle.std.proofs.Common.{◌≡◌, ℕ, Bool, true, false, cond, List, [], ◌∷◌, ◌++◌, refl, sym, ap, ◌∙◌, ℤ, Option, Some, None}
 use Rattle.std.specs.Prelude.{not, is_some}
 use Rattle.gix_date.proofs.CountRuns.{even_after}
-use Rattle.gix_date.specs.Text.Places.{flat_places}
+use Rattle.gix_date.proofs.Places.{flat_places}
 use Rattle.gix_date.specs.Private.RelativePairs.{pairs_from, pairs_read}
 use Rattle.gix_date.specs.Relative.Words.{count_of, unit_or_seconds}
 use Rattle.gix_date.specs.Relative.Roles.{is_even, is_count_word, count_run, pair_here, pairs}

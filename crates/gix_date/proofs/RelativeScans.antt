@@ -3,7 +3,7 @@ use Rattle.std.proofs.Common.{◌≡◌, ℕ, Bool, true, false, cond, List, [],
 use Rattle.std.specs.List.{fold}
 use Rattle.std.specs.Prelude.{not, ◌&&◌, ◌||◌}
 use Rattle.gix_date.specs.Relative.Words.{is_ago}
-use Rattle.gix_date.specs.Text.Places.{any_place, all_places}
+use Rattle.gix_date.proofs.Places.{any_place, all_places}
 use Rattle.gix_date.specs.Relative.Roles.{is_even, is_count_word, has_unit, count_run, has_next, next_is_unit, has_flag, has_pair, all_units, are_pairs}
 use Rattle.gix_date.specs.Private.RelativeScan.{step, verdict}
 use Rattle.gix_date.specs.declared.parsing.relative.scan.Scan.{Scan}

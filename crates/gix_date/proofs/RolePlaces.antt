@@ -2,7 +2,7 @@
 use Rattle.std.proofs.Common.{◌≡◌, ℕ, Bool, true, false, List, [], ◌∷◌, ◌++◌, refl, sym, ap, ◌∙◌, subst, inl, inr, append_assoc, append-nil}
 use Rattle.std.proofs.lemmas.Bool.{and_parts as and_cases}
 use Rattle.std.specs.Prelude.{not, ◌&&◌, ◌||◌, ◌⊎◌, ◌↔◌, IsTrue}
-use Rattle.gix_date.specs.Text.Places.{any_place, all_places}
+use Rattle.gix_date.proofs.Places.{Words, any_place, all_places}
 use Rattle.gix_date.specs.Relative.Words.{is_ago}
 use Rattle.gix_date.specs.Relative.Roles.{is_even, is_count_word, has_unit, count_run, has_next, next_is_unit, has_flag, has_pair, all_units, are_pairs}
 use Rattle.gix_date.specs.Private.Pairs.{HasFlag, HasPair, AllUnits, ArePairs}
@@ -19,8 +19,8 @@ or_right : (a b : Bool) → b ≡ true → (a || b) ≡ true
 or_right true b h = refl
 or_right false b h = h
 
-some_place : {X : Type 0} (t : List X → X → List X → Bool) (xs front : List X) → any_place t front xs ≡ true
-    → (a : List X) × (x : X) × (b : List X) × (xs ≡ a ++ x ∷ b) × (t (front ++ a) x b ≡ true)
+some_place : (t : Words → List ℕ → Words → Bool) (xs front : Words) → any_place t front xs ≡ true
+    → (a : Words) × (x : List ℕ) × (b : Words) × (xs ≡ a ++ x ∷ b) × (t (front ++ a) x b ≡ true)
 some_place t [] front h = cc
 some_place t (x ∷ xs) front h =
     elim (or_cases (t front x xs) (any_place t (front ++ x ∷ []) xs) h) [
@@ -28,17 +28,17 @@ some_place t (x ∷ xs) front h =
       | inr q ↦ let r = some_place t xs (front ++ x ∷ []) q in (x ∷ r.0, r.1, r.2, ap (λ zs. x ∷ zs) r.3, subst (λ f. t f r.1 r.2 ≡ true) (append_assoc front (x ∷ []) r.0) r.4)
     ]
 
-place_some : {X : Type 0} (t : List X → X → List X → Bool) (a : List X) (x : X) (b front : List X) → t (front ++ a) x b ≡ true → any_place t front (a ++ x ∷ b) ≡ true
+place_some : (t : Words → List ℕ → Words → Bool) (a : Words) (x : List ℕ) (b front : Words) → t (front ++ a) x b ≡ true → any_place t front (a ++ x ∷ b) ≡ true
 place_some t [] x b front h = or_left (t front x b) _ (subst (λ f. t f x b ≡ true) (append-nil front) h)
 place_some t (y ∷ ys) x b front h =
     or_right (t front y (ys ++ x ∷ b)) _ (place_some t ys x b (front ++ y ∷ []) (subst (λ f. t f x b ≡ true) (sym (append_assoc front (y ∷ []) ys)) h))
 
-each_place : {X : Type 0} (t : List X → X → List X → Bool) (a : List X) (x : X) (b front : List X) → all_places t front (a ++ x ∷ b) ≡ true → t (front ++ a) x b ≡ true
+each_place : (t : Words → List ℕ → Words → Bool) (a : Words) (x : List ℕ) (b front : Words) → all_places t front (a ++ x ∷ b) ≡ true → t (front ++ a) x b ≡ true
 each_place t [] x b front h = subst (λ f. t f x b ≡ true) (sym (append-nil front)) (and_cases (t front x b) _ h).0
 each_place t (y ∷ ys) x b front h =
     subst (λ f. t f x b ≡ true) (append_assoc front (y ∷ []) ys) (each_place t ys x b (front ++ y ∷ []) (and_cases (t front y (ys ++ x ∷ b)) _ h).1)
 
-place_each : {X : Type 0} (t : List X → X → List X → Bool) (xs front : List X) → ((a : List X) (x : X) (b : List X) → xs ≡ a ++ x ∷ b → t (front ++ a) x b ≡ true) → all_places t front xs ≡ true
+place_each : (t : Words → List ℕ → Words → Bool) (xs front : Words) → ((a : Words) (x : List ℕ) (b : Words) → xs ≡ a ++ x ∷ b → t (front ++ a) x b ≡ true) → all_places t front xs ≡ true
 place_each t [] front h = refl
 place_each t (x ∷ xs) front h =
     and_both (t front x xs) _ (subst (λ f. t f x xs ≡ true) (append-nil front) (h [] x xs refl))

@@ -13,8 +13,9 @@ use Rattle.gix_date.specs.Families.Laws.{HoldsBy}
 use Rattle.gix_date.specs.Fields.FieldTexts.{IsYear, IsField, IsDayName, IsDayPrefix, AreSpaces}
 use Rattle.gix_date.specs.Text.Numbers.{int_value}
 use Rattle.gix_date.specs.Private.Shapes.{is_number_byte, begins_with_year, begins_with_count, begins_without_comma, shape_by_front}
-use Rattle.gix_date.specs.Fields.DateFields.{skip_weekday, read_plain_date}
-use Rattle.gix_date.specs.Families.Patterns.{short_answer, rfc2822_answer, iso8601_answer, iso8601_strict_answer, gitoxide_answer, default_answer}
+use Rattle.gix_date.specs.Fields.DateFields.{read_plain_date}
+use Rattle.gix_date.specs.Fields.Layout.{LocalTime, DayName, BeginsWith}
+use Rattle.gix_date.specs.Families.Patterns.{short_answer, rfc2822_answer, iso8601_answer, iso8601_strict_answer}
 use Rattle.gix_date.specs.Families.Epoch.{at_time_by, epoch_time}
 use Rattle.gix_date.specs.Git.Forms.{git_time}
 use Rattle.gix_date.specs.Families.Raw.{OffsetRule, raw_time_by}
@@ -27,10 +28,9 @@ use Rattle.gix_date.proofs.Apart.{at-first, mixed, no-mail-first, no-mail-year}
 use Rattle.gix_date.proofs.Disjoint.{GitFront, year-front, compact-year, raw-words, none-unless, int-digits, int-first, no-git, front-digits, letter_visible, epoch-int}
 use Rattle.gix_date.proofs.Exclusive.{place, git-no-day, raw-first-family, none-held, answered, absolute, quiet-clash}
 use Rattle.gix_date.proofs.FieldsRead.{Begins, begins-append, digit-no-letter, letter-no-digit, space-no-digit, field-begins, name-begins, year-begins}
-use Rattle.gix_date.proofs.FieldsTaken.{went, weekday-taken}
 use Rattle.gix_date.proofs.FirstWords.{is_visible}
 use Rattle.gix_date.proofs.FirstBytes.{int-no-byte, no-raw-front, no-raw-byte, no-git-byte, no-plain-by, plain-front, plain-year}
-use Rattle.gix_date.proofs.Layouts.{mail-front}
+use Rattle.gix_date.proofs.Layouts.{mail-front, dates_spelled}
 use Rattle.gix_date.proofs.PlainHeaders.{AreNumberBytes, int-number, one-word}
 use Rattle.gix_date.proofs.QuietDates.{quiet-int}
 
@@ -401,21 +401,20 @@ raw-tried rule text t e = by-rows text (IsTried RawText) (record {
     no-letter [] h e = absurd h
     no-letter (c ∷ rest) h e = let no : None ≡ Some t = sym (no-raw-byte rule c rest (letter_visible c h) (letter-no-number c h)) ∙ e in cc
 
-named-begins : (text rest : List ℕ) → skip_weekday text ≡ Some rest → Begins is_ascii_alphabetic text
-named-begins text rest e =
-    let d = weekday-taken text rest e in
-    subst (Begins is_ascii_alphabetic) (sym d.whole) (begins-append is_ascii_alphabetic d.name rest (name-begins d.name d.is_name.0))
+named-begins : {IsMore : List ℕ → Type 0} (time : LocalTime) (text : List ℕ) → BeginsWith DayName time IsMore text
+    → Begins is_ascii_alphabetic text
+named-begins time text h =
+    subst (Begins is_ascii_alphabetic) (sym h.whole) (begins-append is_ascii_alphabetic h.front h.rest (name-begins h.front h.is.0))
 
 -- A family that holds a text stands among those of the text's shape.
 tried : (rule : OffsetRule) (family : Family) (text : List ℕ) → IsUtf8 text → HoldsBy rule family text → IsTried family (shape_of text)
-unfolding gitoxide_answer default_answer
 tried rule AtText text u h = let t = absolute (at_time_by rule text) h in at-tried rule text t.0 t.1
 tried rule Short text u h = plain-tried Short text (λ n. none-held (short_answer text) h (no-plain-by text n).short) refl refl
 tried rule Rfc2822 text u h = let a = answered rule Rfc2822 text h in mail-tried text a.0 a.1
 tried rule Iso8601 text u h = plain-tried Iso8601 text (λ n. none-held (iso8601_answer text) h (no-plain-by text n).iso8601) refl refl
 tried rule Iso8601Strict text u h = plain-tried Iso8601Strict text (λ n. none-held (iso8601_strict_answer text) h (no-plain-by text n).strict) refl refl
-tried rule Gitoxide text u h = let a = answered rule Gitoxide text h in let d = went (skip_weekday text) _ a.0 a.1 in named-tried Gitoxide text (named-begins text d.0 d.1) refl
-tried rule GitDefault text u h = let a = answered rule GitDefault text h in let d = went (skip_weekday text) _ a.0 a.1 in named-tried GitDefault text (named-begins text d.0 d.1) refl
+tried rule Gitoxide text u h = let a = answered rule Gitoxide text h in let d = (dates_spelled.gitoxide text a.0).0 a.1 in named-tried Gitoxide text (named-begins d.time text d.are) refl
+tried rule GitDefault text u h = let a = answered rule GitDefault text h in let d = (dates_spelled.by_default text a.0).0 a.1 in named-tried GitDefault text (named-begins d.time text d.are) refl
 tried rule BareEpoch text u h = let t = absolute (epoch_time text) h in let n = epoch-int text t.0 t.1 in int-tried text n.0 n.1
 tried rule GitForm text u h = let t = absolute (git_time text) h in git-tried text t.0 u t.1
 tried rule RelativeText text u h = relative-tried rule text u h

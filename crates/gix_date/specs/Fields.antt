@@ -1,4 +1,5 @@
 -- The fields of dates, clocks and offsets: how they are read and written.
+pub mod ClockNumbers
 pub mod Front
 pub mod Offsets
 pub mod DateFields

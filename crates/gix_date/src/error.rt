@@ -49,6 +49,25 @@ pub enum Error {
     Memory,
 }
 
+/// Why [`parse_no_alloc`](crate::parse_no_alloc) refuses: what [`Error`] says of a date, without the text.
+#[derive(Clone, Copy, Debug, PartialEq, Eq, Error)]
+pub enum ParseError {
+    /// No form that a date may have holds the text, or its offset is above what a formatted date may have.
+    #[error("no known date format; expected seconds since 1970, such as \"@0\" or \"1700000000\", \
+        seconds and an offset, such as \"1660874655 +0800\", a date, such as \"2022-08-18 12:45:06 +0800\", \
+        or a relative one, such as \"2 weeks ago\"")]
+    UnknownFormat,
+    /// The date exists, and its midnight in UTC is outside the instants that can be computed with.
+    #[error("the date is beyond the last instant that can be computed with")]
+    DateConversion,
+    /// The text names a time relative to now, and no moment was given.
+    #[error("a relative date needs a moment to count from, and none was given")]
+    MissingNow,
+    /// The relative text names an instant that cannot be computed.
+    #[error("the relative date leads to an instant that cannot be computed with")]
+    Range,
+}
+
 /// A copy of the text that a call refused.
 ///
 /// It shows as that text.

@@ -32,7 +32,7 @@ ghost use Rattle.gix_date.specs.Printing.PrintedTimes.{IsPrintedAs};
 ghost use Rattle.gix_date.specs.Printing.NamedTexts.{local_time, IsOrdinary, short_pattern, short_text, rfc2822_pattern, rfc2822_text, git_rfc2822_pattern, git_rfc2822_text, iso8601_pattern, iso8601_text, iso8601_strict_pattern, iso8601_strict_text, gitoxide_pattern, gitoxide_text, default_pattern, default_text};
 ghost use Rattle.gix_date.specs.Families.Patterns.{short_layout, rfc2822_layout, iso8601_layout, iso8601_strict_layout, gitoxide_layout, default_layout, time_answer, real_day_answer, short_answer, rfc2822_answer, iso8601_answer, iso8601_strict_answer, gitoxide_answer, default_answer, Spells, IsAnswered, max_date_offset};
 
-use crate::error::Error;
+use crate::error::{Error, ParseError};
 use crate::parsing::TimeBuf;
 use crate::parsing::dates::{parse, parse_with};
 use crate::parsing::raw::RawOffsets;
@@ -103,8 +103,8 @@ pub fn limits()
     ensures text_of_min { IfSome (header_text Time.MIN) (λ text. length text ≡ max_text_len) }
 {}
 
-/// A clone of a time, a rule for raw offsets, a format or a pattern is that value, a clone of a buffer holds the same
-/// text, and none can fail.
+/// A clone of a time, a rule for raw offsets, a refusal without its text, a format or a pattern is that value, a clone
+/// of a buffer holds the same text, and none can fail.
 pub fn clones()
     ensures time { (a b : Time) → ⟦<Time as Clone>⟧.is_clone a b → b ≡ a }
     ensures time_succeeds { (a : Time) → ⟦<Time as Clone>⟧.is_infallible a }
@@ -112,6 +112,8 @@ pub fn clones()
     ensures buffer_succeeds { (a : TimeBuf) → ⟦<TimeBuf as Clone>⟧.is_infallible a }
     ensures rule { (a b : RawOffsets) → ⟦<RawOffsets as Clone>⟧.is_clone a b → b ≡ a }
     ensures rule_succeeds { (a : RawOffsets) → ⟦<RawOffsets as Clone>⟧.is_infallible a }
+    ensures refusal { (a b : ParseError) → ⟦<ParseError as Clone>⟧.is_clone a b → b ≡ a }
+    ensures refusal_succeeds { (a : ParseError) → ⟦<ParseError as Clone>⟧.is_infallible a }
     ensures format { (a b : Format) → ⟦<Format as Clone>⟧.is_clone a b → b ≡ a }
     ensures format_succeeds { (a : Format) → ⟦<Format as Clone>⟧.is_infallible a }
     ensures pattern { (a b : CustomFormat) → ⟦<CustomFormat as Clone>⟧.is_clone a b → b ≡ a }
@@ -126,11 +128,12 @@ pub fn order()
     ensures agrees { (a b : Time) → (⟦<Time as Ord>⟧.cmp a b ≡ Equal) ↔ IsTrue (⟦<Time as PartialEq>⟧.eq a b) }
 {}
 
-/// Times are equal by `==` where both numbers are the same, and nowhere else; rules for raw offsets where they are the
-/// same.
+/// Times are equal by `==` where both numbers are the same, and nowhere else; rules for raw offsets, and refusals
+/// without their text, where they are the same.
 pub fn equality()
     ensures time { (a b : Time) → IsTrue (⟦<Time as PartialEq>⟧.eq a b) ↔ (a ≡ b) }
     ensures rule { (a b : RawOffsets) → IsTrue (⟦<RawOffsets as PartialEq>⟧.eq a b) ↔ (a ≡ b) }
+    ensures refusal { (a b : ParseError) → IsTrue (⟦<ParseError as PartialEq>⟧.eq a b) ↔ (a ≡ b) }
 {}
 
 /// A time feeds a hasher its seconds and then its offset, so that equal times hash alike.

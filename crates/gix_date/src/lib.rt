@@ -1,7 +1,8 @@
 //! Git's times: the text of a commit header read and written, dates parsed, and times printed.
 //!
 //! [`parse_header`] reads the time of a commit header, leniently as gix-date does; [`parse`] reads a date in one of
-//! several forms, each of which holds a text whole, and [`parse_with`] takes the rule for the offsets of raw ones.
+//! several forms, each of which holds a text whole, [`parse_with`] takes the rule for the offsets of raw ones, and
+//! [`parse_no_alloc`] answers the same without memory and without an allocator.
 //! [`Time::to_str`] and [`Time::write_to`] write the text of a commit header, [`Time::format`] prints a time in one of
 //! Git's formats or by any pattern, and [`Time::now_local`] makes one of a clock and a zone.
 //!
@@ -13,9 +14,9 @@
 //! ```
 //!
 //! The names and modules are those of the Rust crate gix-date 0.18.1, but for `parsing`, which is `parse` there, and
-//! `device`, `laws`, [`InputBytes`], [`parse_with`] and [`RawOffsets`], which are not there. Clock and zone are always
-//! handed in, and no call here takes memory unless it is given an allocator, but for what a writer takes for itself, as
-//! a `Device` of a `Vec` that grows.
+//! `device`, `laws`, [`InputBytes`], [`ParseError`], [`parse_no_alloc`], [`parse_with`] and [`RawOffsets`], which are
+//! not there. Clock and zone are always handed in, and no call here takes memory unless it is given an allocator, but
+//! for what a writer takes for itself, as a `Device` of a `Vec` that grows.
 #![tactic(auto)]
 
 pub mod device;
@@ -24,9 +25,9 @@ pub mod laws;
 pub mod parsing;
 pub mod time;
 
-pub use error::{Error, InputBytes};
+pub use error::{Error, InputBytes, ParseError};
 pub use jiff::Zoned;
-pub use parsing::dates::{parse, parse_with};
+pub use parsing::dates::{parse, parse_no_alloc, parse_with};
 pub use parsing::headers::parse_header;
 pub use parsing::raw::RawOffsets;
 pub use time::{OffsetInSeconds, SecondsSinceUnixEpoch, Time};

@@ -9,6 +9,7 @@ ghost use Rattle.gix_date.specs.Devices.Lending.{LeavesText};
 ghost use Rattle.gix_date.specs.Devices.TimeBuf.{text_in};
 
 use crate::error::Error;
+pub use crate::parsing::dates::parse_no_alloc;
 use crate::parsing::headers::parse_header;
 use crate::time::{MAX_TEXT_LEN, Time, header_text};
 use arrayvec::ArrayString;

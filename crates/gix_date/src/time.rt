@@ -15,8 +15,23 @@ pub type SecondsSinceUnixEpoch = i64;
 /// Seconds that a place's clock is ahead of UTC, negative where it is behind: positive is east.
 pub type OffsetInSeconds = i32;
 
+/// The last hour of a day.
+pub(crate) const MAX_HOUR: u8 = 23;
+
+/// The last minute of an hour.
+pub(crate) const MAX_MINUTE: u8 = 59;
+
+/// The last second of a minute.
+pub(crate) const MAX_SECOND: u8 = 59;
+
+/// Seconds of a minute.
+pub(crate) const SECONDS_PER_MINUTE: OffsetInSeconds = 60;
+
 /// Seconds of an hour.
-pub(crate) const SECONDS_PER_HOUR: OffsetInSeconds = 60 * 60;
+pub(crate) const SECONDS_PER_HOUR: OffsetInSeconds = 60 * SECONDS_PER_MINUTE;
+
+/// Seconds of a day in which the zone's offset does not change.
+pub(crate) const SECONDS_PER_DAY: SecondsSinceUnixEpoch = 86_400;
 
 /// An instant in whole seconds, and the offset of the place where it was written down.
 ///

@@ -233,19 +233,7 @@ Ran-ended {asked = asked} {s = s} s' {old = old} {mid = mid} new (Err (errors.Wr
       wrote = Replied-map (λ text put. put.taken) cut;
       fault = cut.text.fault;
     }
-Ran-ended {asked = asked} {sink = sink} {s = s} s' {old = old} {mid = mid} new (Err errors.Memory) h ready read end no_fault k =
-    let took = h.took in
-    record {
-      front = h.input;
-      beyond = [];
-      lines = took.lines;
-      rest = s.open_line;
-      read = Gives-append old mid new h.input [] h.read read;
-      splits = took.splits;
-      short = took.short;
-      stops = (subst (λ n. n < MAX_LINES) (omega (arith, took.counted)) (short_of s.ended MAX_LINES ready.few (λ e. k.1 (ready.none_after e))), ready.is_short);
-      wrote = subst (λ x. Replied (Puts (all_sent sink) x.output) asked took.lines) (sym k.0) took.put;
-    }
+Ran-ended s' new (Err errors.Memory) h ready read end no_fault k = absurd k
 Ran-ended s' new (Err (errors.Read kind)) h ready read end no_fault k = absurd k
 Ran-ended s' new (Err errors.LineTooLong) h ready read end no_fault k = absurd k
 Ran-ended s' new (Err errors.TooManyLines) h ready read end no_fault k = absurd k

@@ -1,16 +1,17 @@
 -- What is taken in piece by piece.
-use Rattle.std.proofs.Common.{◌≡◌, ◌≢◌, ℕ, ◌+◌, ◌-◌, ◌<◌, ◌≤◌, List, [], ◌∷◌, ◌++◌, length, take, drop, refl, sym, ap, ◌∙◌, subst, append_assoc, append-nil, length-append, arith, Result, Ok, Err}
+use Rattle.std.proofs.Common.{◌≡◌, ◌≢◌, ℕ, ◌+◌, ◌-◌, ◌<◌, ◌≤◌, List, [], ◌∷◌, ◌++◌, length, take, drop, refl, sym, ap, ◌∙◌, subst, append_assoc, append-nil, length-append, arith, Bool, false, Result, Ok, Err}
+use Rattle.std.proofs.lemmas.Bool.Decides.{nat_tests}
 use Rattle.std.proofs.lemmas.List.{take-append-drop, length-take-le}
 use Rattle.std.proofs.lemmas.List.Concat.{flat_map-append}
-use Rattle.std.proofs.lemmas.List.Elements.{All-append, All-nil, All-cons, All-take}
-use Rattle.std.specs.Prelude.{OnOk}
+use Rattle.std.proofs.lemmas.List.Elements.{All-append, All-nil, All-cons, All-head, All-take}
+use Rattle.std.specs.Prelude.{◌==◌, OnOk}
 use Rattle.std.specs.declared.io.ErrorKind.{ErrorKind}
 use Rattle.gix_date.specs.Text.Characters.{newline}
 use Rattle.gix_date_tool.specs.declared.error.ToolError.{ToolError}
 use Rattle.gix_date_tool.specs.declared.error.ToolError.TheVariants as errors
 use Rattle.gix_date_tool.specs.declared.lines.TheConstants.{MAX_LINE_LEN, MAX_LINES}
 use Rattle.gix_date_tool.specs.declared.replies.Asked.{Asked}
-use Rattle.gix_date_tool.specs.Lines.{IsLine, with_newline, Splits, IsShort}
+use Rattle.gix_date_tool.specs.Lines.{IsLine, LineGoesOn, with_newline, Splits, IsShort}
 use Rattle.gix_date_tool.specs.Replies.{Replied, AreReplies, IsReply, reply_line, reply_lines}
 use Rattle.gix_date_tool.specs.declared.replies.Reply.{Reply}
 use Rattle.gix_date_tool.specs.Outbox.{Output, Puts, PutsProperPrefix}
@@ -112,11 +113,25 @@ TakesIn-then s2 b (Err errors.Memory) h k = StoppedWithin-then h k
 TakesIn-then s2 b (Err errors.LineTooLong) h k = StoppedWithin-then h k
 TakesIn-then s2 b (Err errors.TooManyLines) h k = StoppedWithin-then h k
 
+-- the line goes on, whatever stands after that
+goes-on-more : (beyond more : List ℕ) → LineGoesOn beyond → LineGoesOn (beyond ++ more)
+goes-on-more [] more h = absurd h
+goes-on-more (byte ∷ bytes) more h = h
+
+-- the line goes on by a part of it
+goes-on : (part more : List ℕ) → IsLine part → 0 < length part → LineGoesOn (part ++ more)
+goes-on [] more line long = absurd (omega (arith, long))
+goes-on (byte ∷ bytes) more line long = All-head (λ b. b ≢ newline) byte bytes line
+
+-- bytes that are not empty by a test
+pub some_byte : (xs : List ℕ) (b : Bool) → b ≡ (length xs == 0) → b ≡ false → 0 < length xs
+some_byte xs b e h = grind (arith, nat_tests)
+
 -- more bytes stand beyond the place where a run stops
 StopsAt-beyond : (stop : ToolError) (n : ℕ) (rest beyond more : List ℕ) → StopsAt stop n rest beyond → StopsAt stop n rest (beyond ++ more)
 StopsAt-beyond errors.LineTooLong n rest beyond more h = h
 StopsAt-beyond errors.TooManyLines n rest beyond more h = record { all = h.all; none_begun = h.none_begun; more = omega (arith, length-append beyond more, h.more) }
-StopsAt-beyond errors.Memory n rest beyond more h = h
+StopsAt-beyond errors.Memory n rest beyond more h = (h.0, h.1, goes-on-more beyond more h.2)
 StopsAt-beyond (errors.Read kind) n rest beyond more h = h
 StopsAt-beyond (errors.Write kind) n rest beyond more h = h
 
@@ -196,7 +211,9 @@ refused : {s : Stage} (s' : Stage) (part more : List ℕ) (e : ToolError) → Is
     → Extends s s' part (Err e) → TakesIn s s (part ++ more) (Err e)
 refused s' part more (errors.Write kind) ready line long h = absurd h.1
 refused s' part more (errors.Read kind) ready line long h = absurd h.1
-refused s' part more errors.Memory ready line long h = stops_before (part ++ more) errors.Memory ready (omega (arith, h.1), ready.is_short)
+refused {s = s} s' part more errors.Memory ready line long h =
+    stops_before (part ++ more) errors.Memory ready
+    (omega (arith, h.1.0), omega (arith, length-append s.open_line part, h.1.1, h.1.2), goes-on part more line h.1.2)
 refused s' part more errors.LineTooLong ready line long h = too_long part more ready line h.1.0 h.1.1
 refused s' part more errors.TooManyLines ready line long h = stops_before (part ++ more) errors.TooManyLines ready (record { all = omega (arith, h.1); none_begun = ready.none_after h.1; more = long })
 
@@ -275,27 +292,12 @@ RefusedWithin-closed {s = s} {s' = s'} {kind = kind} part ready line k = record 
   put = k;
 }
 
--- a line ended, and memory for the reply to it was refused
-without_memory : {s s' : Stage} (part : List ℕ) → IsReady s → IsLine part → s.ended < MAX_LINES → IsShort (s.open_line ++ part) → s' ≡ longer s part
-    → StoppedWithin s s' (with_newline part) errors.Memory
-without_memory {s = s} part ready line few short same = record {
-  front = part;
-  beyond = newline ∷ [];
-  lines = [];
-  rest = s.open_line ++ part;
-  cut = refl;
-  splits = Splits-open (s.open_line ++ part) (IsLine-more part ready line);
-  short = All-nil IsShort;
-  stops = (omega (arith, few), short);
-  put = Replied-nil s.asked (subst (λ output. Puts s.output output []) (sym (ap (λ x. x.output) same)) (Puts-nil s.output));
-}
-
 closes : {s : Stage} (s' : Stage) (part : List ℕ) (r : Result (Unit {0}) ToolError) → IsReady s → IsLine part → s.ended < MAX_LINES
     → IsShort (s.open_line ++ part)
     → Closes (longer s part) s' r → TakesIn s s' (with_newline part) r
 closes s' part (Ok u) ready line few short k = TookIn-closed part ready line short k
 closes s' part (Err (errors.Write kind)) ready line few short k = RefusedWithin-closed part ready line k
-closes s' part (Err errors.Memory) ready line few short k = without_memory part ready line few short k
+closes s' part (Err errors.Memory) ready line few short k = absurd k
 closes s' part (Err (errors.Read kind)) ready line few short k = absurd k
 closes s' part (Err errors.LineTooLong) ready line few short k = absurd k
 closes s' part (Err errors.TooManyLines) ready line few short k = absurd k

@@ -1,12 +1,11 @@
 -- What the words of a command line ask for.
-use Rattle.std.specs.Prelude.{◌≡◌, ℕ, Bool, true, false, ◌&&◌, List, [], ◌∷◌, Option, Some, None, Result, Ok, Err, if◌then◌else◌, codes}
+use Rattle.std.specs.Prelude.{◌≡◌, ℕ, List, [], ◌∷◌, Option, Some, None, Result, Ok, Err, if◌then◌else◌, codes}
 use Rattle.std.specs.Option.{option_map, ForSome}
 use Rattle.std.specs.Result.{result_ok, result_err}
-use Rattle.std.specs.declared.alloc.AllocError.{AllocError}
 use Rattle.std.specs.Str.{bytes_eq}
 use Rattle.gix_date.specs.Families.Answer.{FamilyAnswer, Absolute, OffsetBeyond, InstantBeyond}
 use Rattle.gix_date.specs.Families.Answer as answers
-use Rattle.gix_date.specs.Families.Order.{first_family, is_copied}
+use Rattle.gix_date.specs.Families.Order.{first_family}
 use Rattle.gix_date.specs.Printing.Zoned.{is_convertible, IsConvertible}
 use Rattle.gix_date.specs.declared.time.Time.{Time}
 use Rattle.gix_date_tool.specs.declared.arguments.Mode.{Mode}
@@ -15,8 +14,6 @@ use Rattle.gix_date_tool.specs.declared.arguments.NoMoment.TheVariants.{UnknownF
 use Rattle.gix_date_tool.specs.declared.arguments.Request.{Request}
 use Rattle.gix_date_tool.specs.declared.arguments.Request.TheVariants.{Run, Usage}
 use Rattle.gix_date_tool.specs.declared.arguments.Mode.TheVariants.{Check, Parse, Sign}
-use Rattle.gix_date_tool.specs.declared.error.ToolError.{ToolError}
-use Rattle.gix_date_tool.specs.declared.error.ToolError.TheVariants as errors
 
 -- the word `check` asks for Check, `parse` for Parse and `sign` for Sign, without a moment
 abbrev pub mode_of : List ℕ → Option Mode
@@ -49,33 +46,12 @@ no_moment (word ∷ now ∷ []) =
     if bytes_eq word (codes "parse") then result_err (moment_or_why (first_family now)) else None
 no_moment _ = None
 
--- a moment is asked for by a text that is copied for a refusal
-abbrev pub has_copied_moment : List (List ℕ) → Bool
-has_copied_moment (word ∷ now ∷ []) = bytes_eq word (codes "parse") && is_copied (first_family now)
-has_copied_moment _ = false
-
--- memory may run out for the copy of a text that is not a moment
-abbrev pub MayRunOutOfMemory : List (List ℕ) → Type 0
-MayRunOutOfMemory words = (command_of words ≡ None) × (has_copied_moment words ≡ true)
-
--- What reading a command line comes to. Memory may run out only for the copy of a text that is not a moment.
-abbrev pub Commands : List (List ℕ) → Result (Option (Mode × Option Time)) ToolError → Type 0
-Commands words (Ok asked) = asked ≡ command_of words
-Commands words (Err errors.Memory) = MayRunOutOfMemory words
-Commands words (Err _) = ⊥
-
--- The same of a request, which also says why NOW is no moment.
-abbrev pub IsRequest : List (List ℕ) → Result Request AllocError → Type 0
-IsRequest words (Ok (Run mode now)) = command_of words ≡ Some (mode, now)
-IsRequest words (Ok (Usage why)) = (command_of words ≡ None) × (why ≡ no_moment words)
-IsRequest words (Err _) = MayRunOutOfMemory words
+-- The request asks for the same, and says why NOW is no moment where the usage line is due.
+abbrev pub IsRequest : List (List ℕ) → Request → Type 0
+IsRequest words (Run mode now) = command_of words ≡ Some (mode, now)
+IsRequest words (Usage why) = (command_of words ≡ None) × (why ≡ no_moment words)
 
 -- a run that is asked for may be made
 abbrev pub IsRunnable : Request → Type 0
 IsRunnable (Run mode now) = ForSome now IsConvertible
 IsRunnable (Usage why) = Unit {0}
-
--- what reading a moment comes to
-abbrev pub IsMomentText : Option FamilyAnswer → Result (Result Time NoMoment) AllocError → Type 0
-IsMomentText answer (Ok now) = now ≡ moment_or_why answer
-IsMomentText answer (Err _) = (result_ok (moment_or_why answer) ≡ None) × (is_copied answer ≡ true)

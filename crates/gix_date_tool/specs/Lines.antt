@@ -29,6 +29,11 @@ abbrev pub last_line : List ℕ → List (List ℕ)
 last_line [] = []
 last_line (b ∷ bs) = (b ∷ bs) ∷ []
 
+-- the next byte is one of the same line
+abbrev pub LineGoesOn : List ℕ → Type 0
+LineGoesOn [] = ⊥
+LineGoesOn (byte ∷ more) = byte ≢ newline
+
 -- these are the lines that end in the input
 abbrev pub HasEndedLines : List ℕ → List (List ℕ) → Type 0
 HasEndedLines input lines = (rest : List ℕ) × Splits input lines rest

@@ -6,11 +6,11 @@ use Rattle.gix_date_tool.specs.declared.arguments.Mode.{Mode}
 use Rattle.gix_date_tool.specs.declared.arguments.NoMoment.{NoMoment}
 use Rattle.gix_date_tool.specs.declared.error.ToolError.TheVariants as errors
 use Rattle.gix_date_tool.specs.declared.end.End.{End}
-use Rattle.gix_date_tool.specs.declared.end.End.TheVariants.{Replied, Fault, NoMemory, Shown}
+use Rattle.gix_date_tool.specs.declared.end.End.TheVariants.{Replied, Fault, Shown}
 use Rattle.gix_date_tool.specs.declared.program.Status.{Status}
 use Rattle.gix_date_tool.specs.declared.program.Status.TheVariants.{Success, Failure, Usage}
 use Rattle.gix_date_tool.specs.declared.program.TheConstants.{USAGE}
-use Rattle.gix_date_tool.specs.Command.{command_of, no_moment, MayRunOutOfMemory}
+use Rattle.gix_date_tool.specs.Command.{command_of, no_moment}
 use Rattle.gix_date_tool.specs.Messages.{message_of, Tells}
 use Rattle.gix_date_tool.specs.Run.{Change, Runs}
 
@@ -24,7 +24,6 @@ code_of Usage = 2
 abbrev pub status_of : End → Status
 status_of Replied = Success
 status_of (Fault fault) = Failure
-status_of NoMemory = Failure
 status_of (Shown why) = Usage
 
 -- The usage line was written, or the writer has a fault and a proper prefix of it was.
@@ -46,15 +45,8 @@ abbrev pub EndsBy : Option (Mode × Option Time) → Option NoMoment → Change 
 EndsBy None why reading writing end = (reading.new ≡ reading.old) × EndsInUsage why writing end
 EndsBy (Some asked) why reading writing end = EndsRun asked reading writing end
 
--- Memory ran out for the copy of a text that is not a moment, and nothing was read or written.
-pub record RanOutOfMemory (words : List (List ℕ)) (reading writing : Change) : Type 0 where
-  pub may_run_out : MayRunOutOfMemory words
-  pub unread : reading.new ≡ reading.old
-  pub unwritten : writing.new ≡ writing.old
-
 -- What the program comes to by the words of its command line.
 abbrev pub Ends : List (List ℕ) → Change → Change → End → Type 0
-Ends words reading writing NoMemory = RanOutOfMemory words reading writing
 Ends words reading writing end = EndsBy (command_of words) (no_moment words) reading writing end
 
 -- What was said, and the status, are those of such an end.

@@ -1,5 +1,5 @@
 -- How far a run has come between two reads.
-use Rattle.std.specs.Prelude.{◌≡◌, ◌≢◌, ℕ, ◌+◌, ◌<◌, ◌≤◌, List, [], ◌∷◌, ◌++◌, length, All, Result, Ok, Err}
+use Rattle.std.specs.Prelude.{◌≡◌, ℕ, ◌+◌, ◌<◌, ◌≤◌, List, [], ◌∷◌, ◌++◌, length, All, Result, Ok, Err}
 use Rattle.std.specs.declared.io.ErrorKind.{ErrorKind}
 use Rattle.gix_date.specs.Devices.Known.{Known}
 use Rattle.gix_date_tool.specs.declared.error.ToolError.{ToolError}
@@ -65,7 +65,8 @@ pub record Extended (s s' : Stage) (bytes : List ℕ) : Type 0 where
 abbrev pub StopsExtending : ToolError → Stage → List ℕ → Type 0
 StopsExtending errors.LineTooLong s bytes = (s.ended < MAX_LINES) × (MAX_LINE_LEN < length (s.open_line ++ bytes))
 StopsExtending errors.TooManyLines s bytes = s.ended ≡ MAX_LINES
-StopsExtending errors.Memory s bytes = s.ended < MAX_LINES
+StopsExtending errors.Memory s bytes =
+    (s.ended < MAX_LINES) × (length (s.open_line ++ bytes) ≤ MAX_LINE_LEN) × (0 < length bytes)
 StopsExtending _ s bytes = ⊥
 
 -- Bytes that end no line were put after the open line, or that was refused, and nothing has changed.
@@ -83,7 +84,6 @@ abbrev pub Closes : Stage → Stage → Result Unit ToolError → Type 0
 Closes s s' (Ok _) = Closed s s'
 Closes s s' (Err (errors.Write kind)) =
     Replied (λ text. PutsProperPrefix s.output s'.output text kind) s.asked (s.open_line ∷ [])
-Closes s s' (Err errors.Memory) = s' ≡ s
 Closes s s' (Err _) = ⊥
 
 -- the bytes were taken in, and the lines that they ended were replied to
@@ -132,5 +132,4 @@ abbrev pub EndsAt : Stage → Stage → Result ℕ ToolError → Type 0
 EndsAt s s' (Ok count) = EndedAll s s' count
 EndsAt s s' (Err (errors.Write kind)) =
     Replied (λ text. PutsProperPrefix s.output s'.output text kind) s.asked (last_line s.open_line)
-EndsAt s s' (Err errors.Memory) = (s' ≡ s) × (s.open_line ≢ [])
 EndsAt s s' (Err _) = ⊥

@@ -10,11 +10,10 @@ use Rattle.gix_date.specs.Text.Numbers.{decimal_text}
 use Rattle.gix_date.specs.Header.Text.{header_text}
 use Rattle.gix_date.specs.Header.Reading.{header_time}
 use Rattle.jiff.specs.declared.zoned.Zoned.{Zoned}
-use Rattle.gix_date.specs.Families.Answer.{FamilyAnswer, Absolute, OffsetBeyond, InstantBeyond, Relative}
-use Rattle.gix_date.specs.Families.Order.{first_family}
-use Rattle.gix_date.specs.Relative.Dates.{RelativeOutcome}
-use Rattle.gix_date.specs.declared.error.Error.{Error}
-use Rattle.gix_date.specs.declared.error.Error.TheVariants as errors
+use Rattle.gix_date.specs.Families.Answer.{FamilyAnswer}
+use Rattle.gix_date.specs.Families.Order.{first_family, ParseNoAllocOutcome}
+use Rattle.gix_date.specs.declared.error.ParseError.{ParseError}
+use Rattle.gix_date.specs.declared.error.ParseError.TheVariants as errors
 use Rattle.gix_date_tool.specs.declared.arguments.Mode.{Mode}
 use Rattle.gix_date_tool.specs.declared.arguments.Mode.TheVariants.{Check, Parse, Sign}
 use Rattle.gix_date_tool.specs.declared.replies.Asked.{Asked}
@@ -32,20 +31,18 @@ abbrev pub check_reply : List ℕ → Option Time → Reply
 check_reply text None = NoTime
 check_reply text (Some t) = if is_header_text_of text t then Canonical else Read t
 
--- the reply to what a relative date comes to
-abbrev pub relative_reply : Result Time Error → Reply
-relative_reply (Ok t) = Parsed t
-relative_reply (Err errors.MissingNow) = MissingMoment
-relative_reply (Err _) = OutOfRange
+-- the reply to what a call comes to
+abbrev pub parse_reply : Result Time ParseError → Reply
+parse_reply (Ok t) = Parsed t
+parse_reply (Err errors.UnknownFormat) = UnknownFormat
+parse_reply (Err errors.DateConversion) = DateConversion
+parse_reply (Err errors.MissingNow) = MissingMoment
+parse_reply (Err errors.Range) = OutOfRange
 
 -- the reply of Parse, at this moment, to a text that the first family says this of, or that none holds
 abbrev pub IsParseReply : Option FamilyAnswer → Option Zoned → Reply → Type 0
-IsParseReply None now reply = reply ≡ UnknownFormat
-IsParseReply (Some (Absolute t)) now reply = reply ≡ Parsed t
-IsParseReply (Some OffsetBeyond) now reply = reply ≡ UnknownFormat
-IsParseReply (Some InstantBeyond) now reply = reply ≡ DateConversion
-IsParseReply (Some (Relative date)) now reply =
-    (result : Result Time Error) × RelativeOutcome date now result × (reply ≡ relative_reply result)
+IsParseReply answer now reply =
+    (result : Result Time ParseError) × ParseNoAllocOutcome answer now result × (reply ≡ parse_reply result)
 
 -- the reply of Sign to a text: the line that is written of its parts, or that there is none
 abbrev pub IsSignReply : List ℕ → Reply → Type 0

@@ -10,7 +10,7 @@ use Rattle.gix_date_tool.specs.declared.error.ToolError.{ToolError}
 use Rattle.gix_date_tool.specs.declared.error.ToolError.TheVariants as errors
 use Rattle.gix_date_tool.specs.declared.lines.TheConstants.{MAX_LINE_LEN, MAX_LINES}
 use Rattle.gix_date_tool.specs.declared.replies.Asked.{Asked}
-use Rattle.gix_date_tool.specs.Lines.{Splits, last_line, HasEndedLines, HasLines, IsShort, IsWithinLimits}
+use Rattle.gix_date_tool.specs.Lines.{Splits, last_line, LineGoesOn, HasEndedLines, HasLines, IsShort, IsWithinLimits}
 use Rattle.gix_date_tool.specs.Replies.{Replied}
 
 -- what is known of a reader or a writer before a call and after it
@@ -29,11 +29,11 @@ pub record GoesOn (n : ℕ) (rest beyond : List ℕ) : Type 0 where
 
 -- Where a run stops: after n lines, with a rest read of the next, and bytes beyond it. A line is too long where one
 -- byte more of it was read than a line may have, and it is among the lines that an input may have. There are too many
--- lines where a byte stands after the last of these. Memory may run out anywhere within the limits.
+-- lines where a byte stands after the last of these. Memory may run out only where a line goes on within the limits.
 abbrev pub StopsAt : ToolError → ℕ → List ℕ → List ℕ → Type 0
 StopsAt errors.LineTooLong n rest beyond = (n < MAX_LINES) × (length rest ≡ MAX_LINE_LEN + 1)
 StopsAt errors.TooManyLines n rest beyond = GoesOn n rest beyond
-StopsAt errors.Memory n rest beyond = (n < MAX_LINES) × IsShort rest
+StopsAt errors.Memory n rest beyond = (n < MAX_LINES) × (length rest < MAX_LINE_LEN) × LineGoesOn beyond
 StopsAt (errors.Read kind) n rest beyond = ⊥
 StopsAt (errors.Write kind) n rest beyond = ⊥
 

@@ -4,11 +4,9 @@ ghost use Rattle.std.specs.Option.{ForSome};
 ghost use Rattle.gix_date.specs.Families.Order.{first_family};
 ghost use Rattle.gix_date.specs.Printing.Zoned.{IsConvertible};
 ghost use Rattle.gix_date_tool.specs.Messages.{no_moment_words};
-ghost use Rattle.gix_date_tool.specs.Command.{Commands, IsRequest, IsRunnable, IsMomentText};
+ghost use Rattle.gix_date_tool.specs.Command.{command_of, moment_or_why, IsRequest, IsRunnable};
 
-use crate::error::ToolError;
-use gix_date::{Error, Time, parse};
-use std::alloc::{AllocError, Global};
+use gix_date::{ParseError, RawOffsets, Time, parse_no_alloc};
 
 /// What [`crate::run`] replies to each line.
 #[derive(Debug, Clone, Copy, PartialEq, Eq)]
@@ -63,57 +61,46 @@ impl NoMoment {
 ///
 /// The command lines are `check`, `parse`, `parse NOW` and `sign`, where NOW is a date that [`gix_date::parse`]
 /// reads without a moment (`1698400800 +0000`) and [`Time::to_zoned`] converts. `None` for any other: then the usage is
-/// due. A moment that is answered is one that [`crate::run`] may be given.
-///
-/// [`ToolError::Memory`] where memory for the copy of a refused NOW is refused; it answers in place of `None` alone.
-pub fn command(alloc: Global, words: &[String]) -> Result<Option<(Mode, Option<Time>)>, ToolError>
-    ensures answer { Commands (map string_bytes words.now) result }
-    ensures moment { IfOk result (λ asked. IfSome asked (λ both. ForSome both.1 IsConvertible)) }
+/// due. A moment that is answered is one that [`crate::run`] may be given. Takes no memory.
+pub fn command(words: &[String]) -> Option<(Mode, Option<Time>)>
+    ensures answer { result ≡ command_of (map string_bytes words.now) }
+    ensures moment { IfSome result (λ both. ForSome both.1 IsConvertible) }
 {
-    match read_words(alloc, words) {
-        Ok(Request::Run(mode, now)) => Ok(Some((mode, now))),
-        Ok(Request::Usage(_)) => Ok(None),
-        Err(AllocError) => Err(ToolError::Memory),
+    match read_words(words) {
+        Request::Run(mode, now) => Some((mode, now)),
+        Request::Usage(_) => None,
     }
 }
 
-/// What the words of a command line ask for, or that memory for the copy of a refused NOW is refused.
-pub(crate) fn read_words(alloc: Global, words: &[String]) -> Result<Request, AllocError>
+/// What the words of a command line ask for.
+pub(crate) fn read_words(words: &[String]) -> Request
     ensures is { IsRequest (map string_bytes words.now) result }
-    ensures runnable { IfOk result IsRunnable }
+    ensures runnable { IsRunnable result }
 {
     match words {
-        [mode] if mode.as_str() == "check" => Ok(Request::Run(Mode::Check, None)),
-        [mode] if mode.as_str() == "parse" => Ok(Request::Run(Mode::Parse, None)),
-        [mode] if mode.as_str() == "sign" => Ok(Request::Run(Mode::Sign, None)),
-        [mode, now] if mode.as_str() == "parse" => match moment(alloc, now.as_str())? {
-            Ok(now) => Ok(Request::Run(Mode::Parse, Some(now))),
-            Err(why) => Ok(Request::Usage(Some(why))),
+        [mode] if mode.as_str() == "check" => Request::Run(Mode::Check, None),
+        [mode] if mode.as_str() == "parse" => Request::Run(Mode::Parse, None),
+        [mode] if mode.as_str() == "sign" => Request::Run(Mode::Sign, None),
+        [mode, now] if mode.as_str() == "parse" => match moment(now.as_str()) {
+            Ok(now) => Request::Run(Mode::Parse, Some(now)),
+            Err(why) => Request::Usage(Some(why)),
         },
-        _ => Ok(Request::Usage(None)),
+        _ => Request::Usage(None),
     }
 }
 
 /// The time that a text is a moment of, or why it is none.
-fn moment(alloc: Global, text: &str) -> Result<Result<Time, NoMoment>, AllocError>
-    ensures answer { IsMomentText (first_family text.now) result }
-    ensures converts { IfOk result (λ now. IfOk now IsConvertible) }
+fn moment(text: &str) -> Result<Time, NoMoment>
+    ensures answer { result ≡ moment_or_why (first_family text.now) }
+    ensures converts { IfOk result IsConvertible }
 {
-    match parse(alloc, text, None) {
-        Ok(time) if time.to_zoned().is_ok() => Ok(Ok(time)),
-        Ok(_) => Ok(Err(NoMoment::Conversion)),
-        Err(Error::UnknownFormat { input: _ }) => Ok(Err(NoMoment::UnknownFormat)),
-        Err(Error::DateConversion { input: _ }) => Ok(Err(NoMoment::DateConversion)),
-        Err(Error::MissingNow) => Ok(Err(NoMoment::Relative)),
-        Err(Error::Memory) => Err(AllocError),
-        // `parse` refuses by none of these, or not without a moment.
-        Err(
-            Error::InvalidTime
-            | Error::Conversion
-            | Error::Range
-            | Error::OffsetTooWide
-            | Error::Pattern
-            | Error::Write(_),
-        ) => unreachable!(),
+    match parse_no_alloc(text, None, RawOffsets::Quarter) {
+        Ok(time) if time.to_zoned().is_ok() => Ok(time),
+        Ok(_) => Err(NoMoment::Conversion),
+        Err(ParseError::UnknownFormat) => Err(NoMoment::UnknownFormat),
+        Err(ParseError::DateConversion) => Err(NoMoment::DateConversion),
+        Err(ParseError::MissingNow) => Err(NoMoment::Relative),
+        // Without a moment nothing leads out of the range.
+        Err(ParseError::Range) => unreachable!(),
     }
 }

@@ -9,8 +9,6 @@ pub(crate) enum End {
     Replied,
     /// The run has this fault, or the writer refused the usage line.
     Fault(ToolError),
-    /// Memory for reading the words was refused.
-    NoMemory,
     /// The usage line was written, and this is why NOW is no moment, where that was all that was wrong.
     Shown(Option<NoMoment>),
 }

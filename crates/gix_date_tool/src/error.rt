@@ -6,7 +6,7 @@ use crate::kinds::kind_text;
 use std::io;
 use thiserror::Error;
 
-/// Why [`crate::run`] or [`crate::command`] refuses.
+/// Why [`crate::run`] refuses.
 #[derive(Debug, Drop, Error)]
 #[error("{}{}", self.text(), self.cause())]
 pub enum ToolError {
@@ -14,7 +14,7 @@ pub enum ToolError {
     Read(io::ErrorKind),
     /// The writer refused, and this is its fault.
     Write(io::ErrorKind),
-    /// Memory was asked for and refused.
+    /// Memory for a line was asked for and refused.
     Memory,
     /// A line has more than 65536 bytes.
     LineTooLong,

@@ -20,7 +20,6 @@ pub(crate) fn tell<M: Sink>(end: &End, messages: &mut M)
         End::Fault(fault) => say(&[SPEAKER, fault.text(), fault.cause(), "\n"], messages),
         End::Shown(why) => tell_why(*why, messages),
         End::Replied => {}
-        End::NoMemory => {}
     }
 }
 

@@ -9,7 +9,7 @@ use crate::error::ToolError;
 use crate::messages::tell;
 use crate::runs::run;
 use gix_date::device::{Sink, Source, put_all};
-use std::alloc::{AllocError, Global};
+use std::alloc::Global;
 
 /// How the program is called.
 const USAGE: &[u8] = b"usage: gix_date_tool MODE [NOW]\n";
@@ -41,8 +41,7 @@ impl Status {
 /// Does what the words of a command line ask for, without the program's name: runs over the reader's lines, or shows
 /// how the program is called where they ask for nothing that it has.
 ///
-/// [`Status::Failure`] where the run has a fault, the usage line is not written, or memory for reading the words is
-/// refused: then nothing is read or written. Takes memory as [`crate::command`] and [`run`] do.
+/// [`Status::Failure`] where the run has a fault, or the usage line is not written. Takes memory as [`run`] does.
 ///
 /// One line is put into the messages: after the program's name the text of the run's fault, or of the writer's that
 /// refused the usage line, or why NOW is no moment. Else they are not called, and what they refuse changes nothing.
@@ -83,13 +82,12 @@ fn carry_out<R: Source, W: Sink>(
     ensures { Ends (map string_bytes words.now) (change (R.known reader.old) (R.known reader.new))
         (change (W.known writer.old) (W.known writer.new)) result }
 {
-    match read_words(alloc, words) {
-        Ok(Request::Run(mode, now)) => match run(alloc, mode, now, reader, writer) {
+    match read_words(words) {
+        Request::Run(mode, now) => match run(alloc, mode, now, reader, writer) {
             Ok(_) => End::Replied,
             Err(fault) => End::Fault(fault),
         },
-        Ok(Request::Usage(why)) => usage_end(writer, why),
-        Err(AllocError) => End::NoMemory,
+        Request::Usage(why) => usage_end(writer, why),
     }
 }
 
@@ -110,7 +108,6 @@ fn status_of(end: &End) -> Status
     match end {
         End::Replied => Status::Success,
         End::Fault(_) => Status::Failure,
-        End::NoMemory => Status::Failure,
         End::Shown(_) => Status::Usage,
     }
 }

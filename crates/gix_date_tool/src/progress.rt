@@ -49,7 +49,6 @@ impl Progress {
     /// Replies to all lines, and says how many they were. What waits in the outbox at the end is still to be sent.
     pub(crate) fn reply_to_all<R: Source, W: Sink>(
         &mut self,
-        alloc: Global,
         reader: &mut R,
         writer: &mut W,
     ) -> Result<u64, ToolError>
@@ -66,9 +65,9 @@ impl Progress {
                 Err(kind) => return Err(ToolError::Read(kind)),
             };
             if count == 0 {
-                return self.end_input(alloc, writer);
+                return self.end_input(writer);
             }
-            self.take_in(alloc, &piece[..count], writer)?;
+            self.take_in(&piece[..count], writer)?;
         }
     }
 
@@ -91,12 +90,7 @@ impl Progress {
     }
 
     /// Takes in the next bytes, and replies to the lines that they end.
-    fn take_in<W: Sink>(
-        &mut self,
-        alloc: Global,
-        bytes: &[u8],
-        writer: &mut W,
-    ) -> Result<(), ToolError>
+    fn take_in<W: Sink>(&mut self, bytes: &[u8], writer: &mut W) -> Result<(), ToolError>
         requires { IsReady (stage self.old (W.known writer.old)) }
         ensures takes { TakesIn (stage self.old (W.known writer.old)) (stage self.new (W.known writer.new))
             bytes.now result }
@@ -104,7 +98,7 @@ impl Progress {
     {
         let mut rest = bytes;
         while let Some((part, after)) = split_line(rest) {
-            self.end_line(alloc, part, writer)?;
+            self.end_line(part, writer)?;
             rest = after;
         }
         if rest.is_empty() {
@@ -114,12 +108,7 @@ impl Progress {
     }
 
     /// Takes in the last bytes of a line and its newline, and replies to it.
-    fn end_line<W: Sink>(
-        &mut self,
-        alloc: Global,
-        part: &[u8],
-        writer: &mut W,
-    ) -> Result<(), ToolError>
+    fn end_line<W: Sink>(&mut self, part: &[u8], writer: &mut W) -> Result<(), ToolError>
         requires ready { IsReady (stage self.old (W.known writer.old)) }
         requires is_line { IsLine part.now }
         ensures takes { TakesIn (stage self.old (W.known writer.old)) (stage self.new (W.known writer.new))
@@ -127,10 +116,10 @@ impl Progress {
         ensures ready { OnOk result (IsReady (stage self.new (W.known writer.new))) }
     {
         self.extend(part)?;
-        self.close_line(alloc, writer)
+        self.close_line(writer)
     }
 
-    /// Takes in bytes of a line that does not end in them.
+    /// Takes in bytes of a line that does not end in them. Of no byte no memory is asked.
     fn extend(&mut self, part: &[u8]) -> Result<(), ToolError>
         requires few { self.old.ended ≤ MAX_LINES }
         requires short { IsShort self.old.line.items }
@@ -138,6 +127,9 @@ impl Progress {
     {
         if self.ended == MAX_LINES {
             return Err(ToolError::TooManyLines);
+        }
+        if part.is_empty() {
+            return Ok(());
         }
         if part.len() > MAX_LINE_LEN - self.line.len() {
             return Err(ToolError::LineTooLong);
@@ -149,26 +141,23 @@ impl Progress {
     }
 
     /// Replies to the line that stands open at the end of the input, and says how many lines there were.
-    fn end_input<W: Sink>(&mut self, alloc: Global, writer: &mut W) -> Result<u64, ToolError>
+    fn end_input<W: Sink>(&mut self, writer: &mut W) -> Result<u64, ToolError>
         requires { IsReady (stage self.old (W.known writer.old)) }
         ensures { EndsAt (stage self.old (W.known writer.old)) (stage self.new (W.known writer.new)) result }
     {
         if self.line.is_empty() {
             return Ok(self.ended);
         }
-        self.close_line(alloc, writer)?;
+        self.close_line(writer)?;
         Ok(self.ended)
     }
 
     /// Replies to the open line, which ends here. Where that is refused, the line stays open.
-    fn close_line<W: Sink>(&mut self, alloc: Global, writer: &mut W) -> Result<(), ToolError>
+    fn close_line<W: Sink>(&mut self, writer: &mut W) -> Result<(), ToolError>
         requires { self.old.ended < MAX_LINES }
         ensures { Closes (stage self.old (W.known writer.old)) (stage self.new (W.known writer.new)) result }
     {
-        let reply = match reply_to(alloc, self.asked, self.line.as_slice()) {
-            Ok(reply) => reply,
-            Err(AllocError) => return Err(ToolError::Memory),
-        };
+        let reply = reply_to(self.asked, self.line.as_slice());
         if let Err(kind) = reply.push_to(&mut self.outbox, writer) {
             return Err(ToolError::Write(kind));
         }

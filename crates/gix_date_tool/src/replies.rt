@@ -1,8 +1,8 @@
 //! The reply to one line.
-ghost use Rattle.std.specs.Prelude.{◌≡◌, ◌⊎◌, IfOk, OnErr};
+ghost use Rattle.std.specs.Prelude.{◌≡◌};
 ghost use Rattle.gix_date.specs.Families.Order.{first_family};
 ghost use Rattle.gix_date.specs.Header.Reading.{header_time};
-ghost use Rattle.gix_date_tool.specs.declared.replies.Reply.TheVariants.{Read, UnknownFormat, DateConversion};
+ghost use Rattle.gix_date_tool.specs.declared.replies.Reply.TheVariants.{Read};
 ghost use Rattle.gix_date_tool.specs.Outbox.{Sends, output};
 ghost use Rattle.gix_date_tool.specs.Replies.{RepliesAreUnique, CanonicalLines, UnchangedLines, IsReply, IsParseReply, IsSignReply, IsWritable, reply_line, check_reply, is_header_text_of};
 
@@ -11,8 +11,7 @@ use crate::outbox::Outbox;
 use crate::signed::{SignedLine, sign};
 use gix_date::device::Sink;
 use gix_date::parsing::TimeBuf;
-use gix_date::{Error, Time, Zoned, parse, parse_header};
-use std::alloc::{AllocError, Global};
+use gix_date::{ParseError, RawOffsets, Time, Zoned, parse_header, parse_no_alloc};
 use std::{io, str};
 
 /// What is asked of each line.
@@ -115,20 +114,18 @@ pub fn unchanged_lines(line: &[u8])
     ensures { UnchangedLines line.now }
 {}
 
-/// The reply to a line. When out of memory it is refused in Parse alone, and there only where `parse` copies the text
-/// it refuses.
-pub(crate) fn reply_to(alloc: Global, asked: Asked, line: &[u8]) -> Result<Reply<'_>, AllocError>
-    ensures is { IfOk result (IsReply asked line.now) }
-    ensures writable { IfOk result IsWritable }
-    ensures memory { OnErr result (IsReply asked line.now UnknownFormat ⊎ IsReply asked line.now DateConversion) }
+/// The reply to a line.
+pub(crate) fn reply_to(asked: Asked, line: &[u8]) -> Reply<'_>
+    ensures is { IsReply asked line.now result }
+    ensures writable { IsWritable result }
 {
     let Ok(text) = str::from_utf8(line) else {
-        return Ok(Reply::NotText);
+        return Reply::NotText;
     };
     match asked.mode {
-        Mode::Check => Ok(check_reply(text)),
-        Mode::Parse => parse_reply(alloc, text, asked.now),
-        Mode::Sign => Ok(sign_reply(text)),
+        Mode::Check => check_reply(text),
+        Mode::Parse => parse_reply(text, asked.now),
+        Mode::Sign => sign_reply(text),
     }
 }
 
@@ -154,33 +151,17 @@ fn is_header_text_of(text: &str, time: Time) -> bool
     }
 }
 
-/// The time that a text is parsed as, or why it is not. When out of memory only a reply is refused that tells of a
-/// copy.
-fn parse_reply(
-    alloc: Global,
-    text: &str,
-    now: Option<Zoned<'static>>,
-) -> Result<Reply<'static>, AllocError>
-    ensures is { IfOk result (IsParseReply (first_family text.now) now.entry) }
-    ensures writable { IfOk result IsWritable }
-    ensures memory { OnErr result (IsParseReply (first_family text.now) now.entry UnknownFormat
-        ⊎ IsParseReply (first_family text.now) now.entry DateConversion) }
+/// The time that a text is parsed as, or why it is not.
+fn parse_reply(text: &str, now: Option<Zoned<'static>>) -> Reply<'static>
+    ensures is { IsParseReply (first_family text.now) now.entry result }
+    ensures writable { IsWritable result }
 {
-    match parse(alloc, text, now) {
-        Ok(time) => Ok(Reply::Parsed(time)),
-        Err(Error::UnknownFormat { input: _ }) => Ok(Reply::UnknownFormat),
-        Err(Error::DateConversion { input: _ }) => Ok(Reply::DateConversion),
-        Err(Error::MissingNow) => Ok(Reply::MissingMoment),
-        Err(Error::Range) => Ok(Reply::OutOfRange),
-        Err(Error::Memory) => Err(AllocError),
-        // `parse` refuses by none of these.
-        Err(
-            Error::InvalidTime
-            | Error::Conversion
-            | Error::OffsetTooWide
-            | Error::Pattern
-            | Error::Write(_),
-        ) => unreachable!(),
+    match parse_no_alloc(text, now, RawOffsets::Quarter) {
+        Ok(time) => Reply::Parsed(time),
+        Err(ParseError::UnknownFormat) => Reply::UnknownFormat,
+        Err(ParseError::DateConversion) => Reply::DateConversion,
+        Err(ParseError::MissingNow) => Reply::MissingMoment,
+        Err(ParseError::Range) => Reply::OutOfRange,
     }
 }
 

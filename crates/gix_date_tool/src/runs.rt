@@ -17,12 +17,12 @@ use std::alloc::Global;
 /// The moment, where there is one, is what a date may be relative to; it has to be one that `Time::to_zoned` converts.
 ///
 /// Lines end at `\n`, and a last line without one counts where it has a byte. The replies to the lines of what was read
-/// are written before more is read. Memory is taken for the line that is read, and in Parse for a copy of a text that
-/// is in no known format: over short lines 64 KiB are enough.
+/// are written before more is read. Memory is taken for the line that is read alone: over short lines 64 KiB are
+/// enough.
 ///
 /// A run ends well only at the end of the input. [`ToolError::LineTooLong`] comes where one of the first 1000000 lines
 /// has more than 65536 bytes, [`ToolError::TooManyLines`] where a byte stands after line 1000000, [`ToolError::Memory`]
-/// where memory for a line or its reply is refused, and [`ToolError::Read`] carries the reader's fault: then the
+/// where memory for a line that grows is refused, and [`ToolError::Read`] carries the reader's fault: then the
 /// replies to all lines before were written, and nothing more. [`ToolError::Write`] carries the writer's fault, and
 /// then a proper prefix of the replies that were due was written.
 pub fn run<R: Source, W: Sink>(
@@ -41,7 +41,7 @@ pub fn run<R: Source, W: Sink>(
         now: moment_of(now),
     };
     let mut progress = Progress::new(alloc, asked);
-    let outcome = progress.reply_to_all(alloc, reader, writer);
+    let outcome = progress.reply_to_all(reader, writer);
     if is_unwritten(&outcome) {
         return outcome;
     }

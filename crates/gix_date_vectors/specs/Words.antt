@@ -4,7 +4,7 @@ pub use Rattle.gix_date.specs.Header.Canonical.{is_canonical_header}
 pub use Rattle.gix_date.specs.Computing.{computing}
 pub use Rattle.gix_date.specs.Devices.Device.{inner_of, fault_of}
 pub use Rattle.gix_date.specs.Families.Epoch.{epoch_time, utc_time, min_bare_epoch}
-pub use Rattle.gix_date.specs.Families.Order.{first_family, ParseOutcome, Family, families, family_answer, RefusesDate, answers_before_git, RefusesUnknown, first_family_by, family_answer_by}
+pub use Rattle.gix_date.specs.Families.Order.{first_family, ParseNoAllocOutcome, ParseOutcome, WithCopy, RefusesWithCopy, Family, families, family_answer, RefusesDate, answers_before_git, RefusesUnknown, first_family_by, family_answer_by}
 pub use Rattle.gix_date.specs.Families.Laws.{Holds, overlap, AreExclusive, AreOverlapping, Overlap, AreDisjoint, ComesFirst, IgnoresMoment, HoldsBy, AreDisjointBy, AreExclusiveBy, ComesFirstBy, IgnoresMomentBy, IsWidened}
 pub use Rattle.gix_date.specs.Relative.FixedZones.{IsFixedZone, IsSecondsPair, IsMonthsPair, less_seconds, less_months, total, Names, NamesAlike, IsSecondsBefore, earlier, NamesEarlier}
 pub use Rattle.gix_date.specs.Git.Forms.{git_time}

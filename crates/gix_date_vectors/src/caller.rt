@@ -27,7 +27,9 @@ use gix_date::device::{Device, Sink};
 use gix_date::parsing::TimeBuf;
 use gix_date::time::CustomFormat;
 use gix_date::time::format::{DEFAULT, GIT_RFC2822, GITOXIDE, ISO8601, ISO8601_STRICT, RFC2822};
-use gix_date::{Error, RawOffsets, Time, laws, parse, parse_header, parse_with};
+use gix_date::{
+    Error, ParseError, RawOffsets, Time, laws, parse, parse_header, parse_no_alloc, parse_with,
+};
 use jiff::tz::{SystemTimeZone, TimeZone, TimeZoneDatabase};
 use jiff::{Timestamp, Zoned};
 use std::alloc::{AllocError, AllocGlobal, Global};
@@ -108,8 +110,8 @@ pub fn stored_date(alloc: Global, date: &str) -> Result<Time, Error>
 }
 
 /// Whether a date is read from the moment, so that it has to be handed in: never for what programs store, which are raw
-/// texts and bare epochs.
-pub fn asks_for_a_moment(alloc: Global, date: &str) -> bool
+/// texts and bare epochs. No memory is taken, also where the text is no date.
+pub fn asks_for_a_moment(date: &str) -> bool
     ensures raw { (t : Read) → raw_time date.now ≡ Some t → result ≡ false }
     ensures epoch { (t : Read) → epoch_time date.now ≡ Some t → result ≡ false }
     ensures relative { IsTrue result → IsSome (relative_date date.now) }
@@ -118,7 +120,7 @@ pub fn asks_for_a_moment(alloc: Global, date: &str) -> bool
 {
     laws::disjoint(date);
     laws::comes_first(date);
-    matches!(parse(alloc, date, None), Err(Error::MissingNow))
+    parse_no_alloc(date, None, RawOffsets::Quarter) == Err(ParseError::MissingNow)
 }
 
 /// The time of a date that means the same at any moment.

@@ -124,6 +124,38 @@ impl Write for Slow {
     }
 }
 
+/// A writer that takes one byte a call, up to a limit, and then none.
+#[derive(Drop)]
+pub(crate) struct Halting {
+    pub(crate) taken: Vec<u8>,
+    pub(crate) calls: usize,
+    room: usize,
+}
+
+impl Halting {
+    pub(crate) fn new(alloc: Global, room: usize) -> Halting {
+        Halting {
+            taken: Vec::new(alloc),
+            calls: 0,
+            room,
+        }
+    }
+}
+
+impl Write for Halting {
+    fn write(&mut self, buf: &[u8]) -> io::Result<usize> {
+        self.calls = self.calls.saturating_add(1);
+        let room = self.room.saturating_sub(self.taken.len());
+        let count = buf.len().min(1).min(room);
+        self.taken.extend_from_slice(&buf[..count])?;
+        Ok(count)
+    }
+
+    fn flush(&mut self) -> io::Result<()> {
+        Ok(())
+    }
+}
+
 /// A reader that gives a text over and over, a few bytes a call, so many bytes in all, and then ends or fails.
 #[derive(Drop)]
 pub(crate) struct Supply<'a> {

@@ -8,6 +8,8 @@ mod commands;
 #[cfg(test)]
 mod devices;
 #[cfg(test)]
+mod failing;
+#[cfg(test)]
 mod fakes;
 #[cfg(test)]
 mod families;
@@ -17,6 +19,8 @@ mod faults;
 mod git;
 #[cfg(test)]
 mod headers;
+#[cfg(test)]
+mod hostile;
 #[cfg(test)]
 mod machine;
 #[cfg(test)]

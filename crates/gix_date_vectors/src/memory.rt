@@ -191,12 +191,6 @@ fn a_later_growth_refused_ends_a_run_after_its_replies(rt: HostRuntime) {
             [b"A <a> 0\n", longer],
             b"A <a> 0 +0000\n",
         ),
-        (
-            "copy",
-            Mode::Parse,
-            [b"20080214\n", b"20080215\n"],
-            b"error unknown-format\n",
-        ),
     ];
     for (row, mode, pieces, output) in rows {
         let mut source = Device::new(Hoarder::new(rt.alloc(), &pieces));
@@ -246,12 +240,12 @@ fn a_run_over_short_lines_takes_little_memory(rt: HostRuntime) -> Result<(), Fai
 }
 
 #[test]
-fn a_moment_refused_memory_ends_the_program(rt: HostRuntime) -> Result<(), Fail> {
+fn a_moment_is_read_without_memory(rt: HostRuntime) -> Result<(), Fail> {
     let words = words_of(rt.alloc(), &["parse", "x"])?;
     let dated = words_of(rt.alloc(), &["parse", "0 +0000"])?;
     let blocks = take_all(rt.alloc())?;
-    let answer = command(rt.alloc(), words.as_slice());
-    let due = command(rt.alloc(), dated.as_slice());
+    let answer = command(words.as_slice());
+    let due = command(dated.as_slice());
     let (ended, _source, sink, said) = executed(
         rt.alloc(),
         words.as_slice(),
@@ -259,15 +253,15 @@ fn a_moment_refused_memory_ends_the_program(rt: HostRuntime) -> Result<(), Fail>
         Small::new(),
         Small::new(),
     );
-    let silent = sink.is(b"") && said.is(b"");
+    let told = sink.is(b"usage: gix_date_tool MODE [NOW]\n")
+        && said.is(
+            b"gix_date_tool: NOW is in no known date format; expected a date, such as \"2022-08-18 12:45:06 +0800\" or \"1660874655 +0800\"\n",
+        );
     drop(blocks);
-    assert!(rt; matches!(answer, Err(ToolError::Memory)), "no-memory");
-    assert!(rt;
-        matches!(due, Ok(Some((Mode::Parse, Some(now)))) if now == Time::new(0, 0)),
-        "no-memory"
-    );
-    assert_eq!(rt; ended, Status::Failure);
-    assert!(rt; silent, "no-memory");
+    assert_eq!(rt; answer, None);
+    assert_eq!(rt; due, Some((Mode::Parse, Some(Time::new(0, 0)))));
+    assert_eq!(rt; ended, Status::Usage);
+    assert!(rt; told, "no-memory");
     Ok(())
 }
 
@@ -287,6 +281,23 @@ fn a_run_refused_memory_ends_the_program_with_a_message(rt: HostRuntime) -> Resu
     assert_eq!(rt; ended, Status::Failure);
     assert!(rt; told, "no-memory");
     Ok(())
+}
+
+#[test]
+fn a_run_in_parse_takes_memory_for_the_line_alone(rt: HostRuntime) {
+    let pieces = [
+        b"2008.02.14 20:30:45 -0500\n".as_slice(),
+        b"20080214\n9999-12-31\nyesterday\nbanana\n\n1 +0007\n0 -0000\n\xff\n@5",
+    ];
+    let mut source = Device::new(Hoarder::new(rt.alloc(), &pieces));
+    let mut sink = Device::new(Small::new());
+    let answer = run(rt.alloc(), Mode::Parse, None, &mut source, &mut sink);
+    let output_is_right = sink.into_inner().is(
+        b"1203039045 -0500\nerror unknown-format\nerror date-conversion\nerror missing-moment\nerror unknown-format\nerror unknown-format\nerror unknown-format\n0 +0000\nnot text\n5 +0000\n",
+    );
+    drop(source);
+    assert!(rt; matches!(answer, Ok(10)), "no-memory");
+    assert!(rt; output_is_right, "no-memory");
 }
 
 #[test]

@@ -10,7 +10,8 @@ use gix_date::device::Device;
 use gix_date::parsing::TimeBuf;
 use gix_date::time::{CustomFormat, Format, format};
 use gix_date::{
-    Error, InputBytes, OffsetInSeconds, RawOffsets, SecondsSinceUnixEpoch, Time, Zoned, laws, parse,
+    Error, InputBytes, OffsetInSeconds, ParseError, RawOffsets, SecondsSinceUnixEpoch, Time, Zoned,
+    laws, parse,
 };
 use gix_date_tool::Mode;
 use jiff::Timestamp;
@@ -44,6 +45,8 @@ fn names_stand_at_the_root(rt: HostRuntime) -> Result<(), Fail> {
     let moment = Time::new(5, -60).to_zoned()?;
     let input = refused(rt.alloc(), "1:2", Some(moment)).ok_or("a date")?;
     assert_eq!(rt; input.as_bytes(), b"1:2".as_slice());
+    let refusal = gix_date::parsing::parse_no_alloc("1:2", Some(moment), RawOffsets::Quarter);
+    assert_eq!(rt; refusal, Err(ParseError::UnknownFormat));
     assert_eq!(rt; TimeBuf::default().as_str(), "");
     Ok(())
 }
@@ -60,6 +63,8 @@ fn types_have_the_traits_that_callers_count_on(rt: HostRuntime) {
     assert!(rt; same(&Mode::Parse, &Mode::Parse));
     assert!(rt; same(&Mode::Sign, &Mode::Sign) && !same(&Mode::Sign, &Mode::Parse));
     assert!(rt; !same(&RawOffsets::Quarter, &RawOffsets::WholeMinutes));
+    assert!(rt; same(&ParseError::Range, &ParseError::Range));
+    assert!(rt; !same(&ParseError::Range, &ParseError::MissingNow));
     let mut buf = TimeBuf::default();
     assert!(rt; time.to_str(&mut buf).is_ok());
     let lent: &TimeBuf = &buf;
@@ -155,11 +160,11 @@ fn callers_parse_dates(rt: HostRuntime) -> Result<(), Fail> {
     assert!(rt; matches!(kept_in_date(rt.alloc(), wide), Ok(kept) if kept == wide));
     let stored = stored_date(rt.alloc(), "1660797906 +0007");
     assert!(rt; matches!(stored, Ok(time) if time == Time::new(1_660_797_906, 420)));
-    assert!(rt; !asks_for_a_moment(rt.alloc(), "5 -0130"));
-    assert!(rt; !asks_for_a_moment(rt.alloc(), "1700000000"));
-    assert!(rt; !asks_for_a_moment(rt.alloc(), "banana"));
-    assert!(rt; !asks_for_a_moment(rt.alloc(), "2008-02-14 20:30:45.2 days ago"));
-    assert!(rt; asks_for_a_moment(rt.alloc(), "2 days ago"));
+    assert!(rt; !asks_for_a_moment("5 -0130"));
+    assert!(rt; !asks_for_a_moment("1700000000"));
+    assert!(rt; !asks_for_a_moment("banana"));
+    assert!(rt; !asks_for_a_moment("2008-02-14 20:30:45.2 days ago"));
+    assert!(rt; asks_for_a_moment("2 days ago"));
     let typed = date_typed(rt.alloc(), "2 days ago", Time::new(1_698_400_800, 7200))?;
     assert_eq!(rt; typed, Time::new(1_698_228_000, 7200));
     assert!(rt;

@@ -120,8 +120,9 @@ fn times_are_printed_by_any_pattern(rt: HostRuntime) -> Result<(), Fail> {
     ];
     for (seconds, offset, pattern, due) in rows {
         let format = CustomFormat::new(pattern).into();
-        let text = Time::new(seconds, offset).format(rt.alloc(), format)?;
-        assert_eq!(rt; text.as_str(), due);
+        let time = Time::new(seconds, offset);
+        assert_eq!(rt; time.format(rt.alloc(), format)?.as_str(), due);
+        assert_eq!(rt; time.format_by_pattern(rt.alloc(), pattern)?.as_str(), due);
     }
     Ok(())
 }
@@ -227,6 +228,8 @@ fn a_time_without_a_text_has_its_seconds(rt: HostRuntime) -> Result<(), Fail> {
     for (time, seconds) in rows {
         let refused = time.format(rt.alloc(), ISO);
         assert!(rt; matches!(refused, Err(Error::Conversion)));
+        let by_pattern = time.format_by_pattern(rt.alloc(), "%Y");
+        assert!(rt; matches!(by_pattern, Err(Error::Conversion)));
         let text = time.format_or_unix(rt.alloc(), ISO)?;
         assert_eq!(rt; text.as_str(), seconds);
     }
@@ -242,6 +245,12 @@ fn a_pattern_that_cannot_be_printed_is_refused(rt: HostRuntime) -> Result<(), Fa
     for pattern in ["%!", "%", "%Y-%"] {
         let format = Format::Custom(CustomFormat::new(pattern));
         assert!(rt; matches!(time.format(rt.alloc(), format), Err(Error::Pattern)));
+        assert!(rt;
+            matches!(
+                time.format_by_pattern(rt.alloc(), pattern),
+                Err(Error::Pattern)
+            )
+        );
         assert_eq!(rt; time.format_or_unix(rt.alloc(), format)?.as_str(), "5");
     }
     Ok(())
@@ -289,6 +298,7 @@ fn a_text_that_is_refused_memory_is_refused(rt: HostRuntime) -> Result<(), Fail>
     for format in [UNIX, RAW, ISO] {
         if !matches!(time.format(rt.alloc(), format), Err(Error::Memory))
             || !matches!(time.format_or_unix(rt.alloc(), format), Err(Error::Memory))
+            || !matches!(time.format_by_pattern(rt.alloc(), "%Y"), Err(Error::Memory))
         {
             all_right = false;
         }

@@ -1,6 +1,6 @@
 //! Raw texts, by both rules for their offsets.
 use crate::rows::{NOW, RULES, Row, are_read, are_unknown, is_beyond, is_time, refuses};
-use gix_date::{Error, RawOffsets, Time, parse_with};
+use gix_date::{Error, ParseError, RawOffsets, Time, parse_no_alloc, parse_with};
 use std::test::Fail;
 
 /// Raw texts by both rules, and their times.
@@ -128,4 +128,43 @@ fn refusals_are_the_same_by_both_rules(rt: HostRuntime) -> Result<(), Fail> {
         assert!(rt; is_beyond(&beyond, "9999-12-31"), "{raw:?}");
     }
     are_unknown(rt.alloc(), &["2008-02-14 20:30:45 +2400"])
+}
+
+#[test]
+fn refusals_are_the_same_without_an_allocator(rt: HostRuntime) -> Result<(), Fail> {
+    let now = Time::new(NOW, 7200).to_zoned()?;
+    let rows = [
+        ("2 days ago", None, ParseError::MissingNow),
+        ("12023 years ago", Some(now), ParseError::Range),
+        ("9999-12-31", None, ParseError::DateConversion),
+        ("9999-12-31", Some(now), ParseError::DateConversion),
+        ("2008-02-14 20:30:45 +2400", None, ParseError::UnknownFormat),
+        ("banana", Some(now), ParseError::UnknownFormat),
+    ];
+    for (text, now, due) in rows {
+        for raw in RULES {
+            assert_eq!(rt;
+                parse_no_alloc(text, now, raw),
+                Err(due),
+                "{text:?} by {raw:?}"
+            );
+        }
+    }
+    Ok(())
+}
+
+#[test]
+fn refusals_without_their_text_have_a_text_and_a_debug_form(rt: HostRuntime) -> Result<(), Fail> {
+    for (refusal, name) in [
+        (ParseError::UnknownFormat, "UnknownFormat"),
+        (ParseError::DateConversion, "DateConversion"),
+        (ParseError::MissingNow, "MissingNow"),
+        (ParseError::Range, "Range"),
+    ] {
+        let text = format!(in rt.alloc(); "{refusal}")?;
+        assert!(rt; text.len() > 10 && !text.contains('\n'), "{text}");
+        let debug = format!(in rt.alloc(); "{refusal:?}")?;
+        assert_eq!(rt; debug.as_str(), name);
+    }
+    Ok(())
 }

@@ -1,5 +1,5 @@
 //! How rows of outside values are run. A time stands in them as its header text.
-use gix_date::{Error, RawOffsets, Time, Zoned, parse, parse_with};
+use gix_date::{Error, ParseError, RawOffsets, Time, Zoned, parse, parse_no_alloc, parse_with};
 use jiff::Timestamp;
 use jiff::tz::TimeZone;
 use std::alloc::Global;
@@ -60,7 +60,7 @@ pub(crate) fn is_beyond(answer: &Result<Time, Error>, text: &str) -> bool {
     matches!(answer, Err(Error::DateConversion { input }) if input.as_bytes() == text.as_bytes())
 }
 
-/// The text is read as this time by both rules, at no moment and at any.
+/// The text is read as this time by both rules, with an allocator and without, at no moment and at any.
 pub(crate) fn reads(alloc: Global, text: &str, due: Time) -> Result<(), Fail> {
     for at in MOMENTS {
         let now = moment(at)?;
@@ -68,6 +68,7 @@ pub(crate) fn reads(alloc: Global, text: &str, due: Time) -> Result<(), Fail> {
         for raw in RULES {
             let answer = parse_with(alloc, text, now, raw);
             right &= matches!(answer, Ok(time) if time == due);
+            right &= parse_no_alloc(text, now, raw) == Ok(due);
         }
         if !right {
             return Err(Fail::new(format_args!("{text:?} is not {due:?} at {at:?}")));
@@ -84,13 +85,15 @@ pub(crate) fn are_read(alloc: Global, rows: &[Row]) -> Result<(), Fail> {
     Ok(())
 }
 
-/// The text comes back as one of no family, from `parse` and by these rules, at no moment and at any.
+/// The text comes back as one of no family, from `parse` and by these rules, at no moment and at any, and without an
+/// allocator it is named as one.
 pub(crate) fn refuses(alloc: Global, rules: &[RawOffsets], text: &str) -> Result<(), Fail> {
     for at in MOMENTS {
         let now = moment(at)?;
         let mut right = is_unknown(&parse(alloc, text, now), text);
         for raw in rules {
             right &= is_unknown(&parse_with(alloc, text, now, *raw), text);
+            right &= parse_no_alloc(text, now, *raw) == Err(ParseError::UnknownFormat);
         }
         if !right {
             return Err(Fail::new(format_args!("{text:?} is not refused at {at:?}")));
@@ -115,7 +118,8 @@ pub(crate) fn are_named(
 ) -> Result<(), Fail> {
     for (from, text, header) in rows {
         let now = Timestamp::from_second(*from)?.to_zoned(zone);
-        if !is_time(&parse(alloc, text, Some(now)), header) {
+        let plain = parse_no_alloc(text, Some(now), RawOffsets::Quarter);
+        if !is_time(&parse(alloc, text, Some(now)), header) || plain.ok() != time_of(header) {
             return Err(Fail::new(format_args!("{text:?} is not {header} at {from}")));
         }
     }

@@ -265,46 +265,6 @@ fn a_long_signature_line_ends_a_run(rt: HostRuntime) -> Result<(), Fail> {
 }
 
 #[test]
-fn a_reader_that_fails_midway_ends_a_run_in_sign(rt: HostRuntime) {
-    let input = b"A <a> 0 +0000\nA\n\xc3\xa9 <> 5\n".as_slice();
-    for (given, output) in [
-        (0, b"".as_slice()),
-        (13, b""),
-        (14, b"A <a> 0 +0000\n"),
-        (16, b"A <a> 0 +0000\nnone\n"),
-        (23, b"A <a> 0 +0000\nnone\n"),
-        (24, b"A <a> 0 +0000\nnone\n\xc3\xa9 <> 5 +0000\n"),
-    ] {
-        for a_call in [1, 5, 99] {
-            let reader = Supply::of(input, a_call, given, Some(ErrorKind::ConnectionReset));
-            let (answer, taken) = sign(&rt, reader);
-            assert!(rt;
-                matches!(answer, Err(ToolError::Read(ErrorKind::ConnectionReset))),
-                "{given}"
-            );
-            assert_eq!(rt; taken.as_slice(), output, "{given}");
-        }
-    }
-}
-
-#[test]
-fn a_writer_that_fails_midway_ends_a_run_in_sign(rt: HostRuntime) {
-    let input = b"A <a> 0\nA\n\xc3\xa9 <> 5 -0130".as_slice();
-    let output = b"A <a> 0 +0000\nnone\n\xc3\xa9 <> 5 -0130\n".as_slice();
-    for room in 0..output.len() {
-        for a_call in [1, 4, 99] {
-            let writer = Slow::new(rt.alloc(), a_call, room, ErrorKind::StorageFull);
-            let (answer, taken) = run_into(&rt, Mode::Sign, Supply::once(input, 99, None), writer);
-            assert!(rt;
-                matches!(answer, Err(ToolError::Write(ErrorKind::StorageFull))),
-                "{room}"
-            );
-            assert_eq!(rt; taken.as_slice(), &output[..room], "{room}");
-        }
-    }
-}
-
-#[test]
 fn replies_are_written_before_more_is_read(rt: HostRuntime) {
     // The last row fills each piece of 16384 bytes.
     for (lines, lines_a_call, calls) in [(40, 1, 41), (41, 3, 15), (6144, 2048, 4)] {
@@ -441,24 +401,6 @@ fn a_reader_that_fails_midway_ends_a_run(rt: HostRuntime) {
         "interrupted-reader"
     );
     assert!(rt; taken.is_empty(), "interrupted-reader");
-}
-
-#[test]
-fn a_writer_that_fails_midway_ends_a_run(rt: HostRuntime) {
-    let input = b"0 +0000\n0 -0000\n+1 +0000".as_slice();
-    let output = b"canonical\nread 0 0\nread 1 0\n".as_slice();
-    for room in 0..output.len() {
-        for a_call in [1, 4, 99] {
-            let writer = Slow::new(rt.alloc(), a_call, room, ErrorKind::StorageFull);
-            let reader = Supply::once(input, 99, None);
-            let (answer, taken) = run_into(&rt, Mode::Check, reader, writer);
-            assert!(rt;
-                matches!(answer, Err(ToolError::Write(ErrorKind::StorageFull))),
-                "failing-writer, {room}"
-            );
-            assert_eq!(rt; taken.as_slice(), &output[..room], "failing-writer, {room}");
-        }
-    }
 }
 
 #[test]

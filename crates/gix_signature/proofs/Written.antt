@@ -1,10 +1,9 @@
 -- What is written of a name, a mail and a time, and how it is cut.
-use Rattle.std.proofs.Common.{◌≡◌, ◌≢◌, ◌∙◌, ℕ, ◌+◌, ◌/◌, ◌%◌, ◌^◌, ◌<◌, suc, Bool, true, false, cond, not, ◌&&◌, ◌==◌, List, [], ◌∷◌, ◌++◌, length, ℤ, pos, negsuc, Option, Some, None, Result, Ok, Err, is_some, IsSome, IsSomeAnd, IfOk, OnOk, ok_or, option_map, unwrap_or, unsigned_abs, FitsSigned, w64, refl, ap, sym, subst, arith, length-append}
+use Rattle.std.proofs.Common.{◌≡◌, ◌≢◌, ℕ, ◌+◌, ◌/◌, ◌%◌, ◌^◌, ◌<◌, suc, Bool, true, false, cond, not, ◌&&◌, ◌==◌, List, [], ◌∷◌, ◌++◌, length, ℤ, pos, negsuc, Option, Some, None, Result, Ok, Err, IsSomeAnd, IfOk, OnOk, ok_or, option_map, unwrap_or, unsigned_abs, FitsSigned, w64, refl, ap, subst, arith, length-append}
 use Rattle.std.proofs.lemmas.Bool.Decides.{nat_tests}
 use Rattle.std.proofs.lemmas.Fmt.{decimal_by_steps}
 use Rattle.std.specs.Fmt.{decimal}
 use Rattle.std.specs.Prelude.{if◌then◌else◌, nat_lt, int_lt}
-use Rattle.std.specs.declared.io.ErrorKind.{ErrorKind}
 use Rattle.gix_date.specs.Text.Characters.{space, plus, minus}
 use Rattle.gix_date.specs.Header.Reading.{header_time}
 use Rattle.gix_date.specs.Header.Text.{header_text, compact_offset_text}
@@ -12,8 +11,8 @@ use Rattle.gix_date.specs.Devices.Known.{Known, Takes}
 use Rattle.gix_date.specs.Text.Numbers.{decimal_text, two_digits}
 use Rattle.gix_date.specs.declared.time.Time.{Time}
 use Rattle.gix_date.proofs.HeaderLaws.{written-is-read}
-use Rattle.gix_signature.specs.Signature.{Parts, may_stand, is_part, line_of, opening, closing, newline, nul}
-use Rattle.gix_signature.specs.Writing.{line_due, parts_due, Puts, WritesLine, IsWritten}
+use Rattle.gix_signature.specs.Signature.{may_stand, is_part, line_of, opening, closing, newline, nul}
+use Rattle.gix_signature.specs.Writing.{line_due, parts_due, WritesLine, IsWritten}
 use Rattle.gix_signature.specs.declared.error.SignatureError.{SignatureError}
 use Rattle.gix_signature.specs.declared.error.SignatureError.TheVariants.{BadPart, OffsetTooWide, Write}
 use Rattle.gix_signature.proofs.Cuts.{and-both, all-both}
@@ -76,15 +75,6 @@ text-is t text f e =
       some = subst (λ s. not (length s == 0) ≡ true) is.1 (filled seconds zone);
     }
 
-some-if : (b : Bool) (xs : List ℕ) → is_some (cond b (Some xs) None) ≡ b
-some-if true xs = refl
-some-if false xs = refl
-
--- a time has a header text exactly where its offset is short of 100 hours
-pub has-text : (t : Time) → is_some (header_text t) ≡ nat_lt (unsigned_abs t.offset) 360000
-unfolding header_text
-has-text t = some-if (nat_lt (unsigned_abs t.offset) 360000) _
-
 -- What is due is cut so again.
 due-by : (name mail : List ℕ) (t : Time) → FitsSigned w64 t.seconds → (b : Bool) → (is_part name && is_part mail) ≡ b → (o : Option (List ℕ)) → header_text t ≡ o
     → IfOk (cond b (ok_or (option_map line_of (option_map (λ text. record { name = name; mail = mail; time = text }) o)) OffsetTooWide) (Err BadPart)) (IsWritten name mail t)
@@ -107,22 +97,6 @@ pub due-is : (name mail : List ℕ) (t : Time) → is_part name ≡ true → is_
     → line_due name mail t ≡ ok_or (option_map line_of (parts_due name mail t)) OffsetTooWide
 due-is name mail t h k = ap (λ b. cond b (ok_or (option_map line_of (parts_due name mail t)) OffsetTooWide) (Err BadPart)) (and-both (is_part name) (is_part mail) h k)
 
--- the answer of a call that puts a line
-abbrev pub answer_of : Result (Unit {0}) ErrorKind → Result (Unit {0}) SignatureError
-answer_of (Ok u) = Ok u
-answer_of (Err kind) = Err (Write kind)
-
-writes-by : (o : Option Parts) (old new : Known) (r : Result (Unit {0}) ErrorKind) → IsSomeAnd o (λ p. Puts old new (line_of p) r)
-    → WritesLine (ok_or (option_map line_of o) OffsetTooWide) old new (answer_of r)
-writes-by None old new r h = absurd h
-writes-by (Some p) old new (Ok u) h = h
-writes-by (Some p) old new (Err kind) h = h
-
-pub writes : (name mail : List ℕ) (t : Time) (old new : Known) (r : Result (Unit {0}) ErrorKind) → is_part name ≡ true → is_part mail ≡ true
-    → IsSomeAnd (parts_due name mail t) (λ p. Puts old new (line_of p) r) → WritesLine (line_due name mail t) old new (answer_of r)
-writes name mail t old new r h k put =
-    subst (λ due. WritesLine due old new (answer_of r)) (sym (due-is name mail t h k)) (writes-by (parts_due name mail t) old new r put)
-
 wrote-by : (due : Result (List ℕ) SignatureError) (Is : List ℕ → Type 0) (old new : Known) (r : Result (Unit {0}) SignatureError) → IfOk due Is → WritesLine due old new r
     → OnOk r ((line : List ℕ) × Is line × Takes old new line)
 wrote-by (Ok line) Is old new (Ok u) is h = (line, is, h)
@@ -133,12 +107,3 @@ wrote-by (Err d) Is old new (Err e) is h = tt
 pub wrote : (name mail : List ℕ) (t : Time) (old new : Known) (r : Result (Unit {0}) SignatureError) → FitsSigned w64 t.seconds → WritesLine (line_due name mail t) old new r
     → OnOk r ((line : List ℕ) × IsWritten name mail t line × Takes old new line)
 wrote name mail t old new r f h = wrote-by (line_due name mail t) (IsWritten name mail t) old new r (written-is-cut name mail t f) h
-
--- the pieces of a line, as they are put
-pub parts-by : (name mail : List ℕ) (t : Time) (P : List ℕ → Type 0) → ((text : List ℕ) → header_text t ≡ Some text → P (line_of (record { name = name; mail = mail; time = text })))
-    → IsSome (header_text t) → IsSomeAnd (parts_due name mail t) (λ p. P (line_of p))
-parts-by name mail t P each some = by (header_text t) refl some
-  where
-    by : (o : Option (List ℕ)) → header_text t ≡ o → IsSome o → IsSomeAnd (option_map (λ text. record { name = name; mail = mail; time = text }) o) (λ p. P (line_of p))
-    by None e s = absurd cc
-    by (Some text) e s = each text e

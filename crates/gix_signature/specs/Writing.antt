@@ -1,6 +1,7 @@
 -- What is written of a name, a mail and a time.
 use Rattle.std.specs.Prelude.{◌≡◌, ℕ, ◌%◌, List, unsigned_abs, if◌then◌else◌, ◌&&◌, Option, Some, Result, Ok, Err, ok_or, option_map}
 use Rattle.std.specs.declared.io.ErrorKind.{ErrorKind}
+use Rattle.gix_date.specs.Fields.ClockNumbers.{seconds_per_minute}
 use Rattle.gix_date.specs.Header.Reading.{header_time}
 use Rattle.gix_date.specs.Header.Text.{header_text}
 use Rattle.gix_date.specs.Devices.Known.{Known, Takes, TakesProperPrefix, TakesNothing}
@@ -40,4 +41,4 @@ pub record IsWritten (name mail : List ℕ) (t : Time) (line : List ℕ) : Type 
   pub text : List ℕ
   pub is_text : header_text t ≡ Some text
   pub cut : IsCut line (record { name = name; mail = mail; time = text })
-  pub back : unsigned_abs t.offset % 60 ≡ 0 → header_time text ≡ Some t
+  pub back : unsigned_abs t.offset % seconds_per_minute ≡ 0 → header_time text ≡ Some t

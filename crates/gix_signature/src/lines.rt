@@ -1,18 +1,15 @@
 //! A signature line, as it is cut and written.
-ghost use Rattle.std.specs.Prelude.{◌≡◌, ℕ, List, is_some, IsSome, IsSomeAnd, MatchOption, OnOk};
+ghost use Rattle.std.specs.Prelude.{◌≡◌, ℕ, List, MatchOption, OnOk};
 ghost use Rattle.gix_date.specs.Header.Reading.{header_time};
-ghost use Rattle.gix_date.specs.Header.Text.{header_text};
 ghost use Rattle.gix_date.specs.Devices.Known.{Takes};
 ghost use Rattle.gix_signature.specs.Signature.{IsCut, HasNoCut, may_stand, is_part, are_parts, parts_of, line_of};
-ghost use Rattle.gix_signature.specs.Writing.{line_due, parts_due, Puts, WritesLine, IsWritten};
+ghost use Rattle.gix_signature.specs.Writing.{line_due, Puts, WritesLine, IsWritten};
 
 use crate::error::SignatureError;
 use gix_date::device::{Sink, put_all};
-use gix_date::{Error, Time, parse_header};
+use gix_date::parsing::TimeBuf;
+use gix_date::{Time, parse_header};
 use std::io;
-
-/// The least distance from UTC, in seconds, of an offset that has no header text.
-const HUNDRED_HOURS: u32 = 360_000;
 
 /// The parts of a signature line, each the slice of the line at its place.
 #[derive(Debug, Clone, Copy)]
@@ -83,58 +80,28 @@ pub fn write_line<W: Sink>(
     if !is_part(name) || !is_part(mail) {
         return Err(SignatureError::BadPart);
     }
-    if !has_text(time) {
+    let mut buf = TimeBuf::default();
+    let Ok(time) = time.to_str(&mut buf) else {
         return Err(SignatureError::OffsetTooWide);
-    }
-    put_line(name, mail, time, out).map_err(SignatureError::Write)
+    };
+    put_line(SignatureRef { name, mail, time }, out).map_err(SignatureError::Write)
 }
 
-/// Puts a line into a sink.
-fn put_line<W: Sink>(name: &str, mail: &str, time: Time, out: &mut W) -> Result<(), io::ErrorKind>
-    requires { IsSome (header_text time) }
-    ensures { IsSomeAnd (parts_due name.now mail.now time)
-        (λ p. Puts (W.known out.old) (W.known out.new) (line_of p) result) }
+/// Puts the line of these parts into a sink.
+fn put_line<W: Sink>(parts: SignatureRef<'_>, out: &mut W) -> Result<(), io::ErrorKind>
+    ensures { Puts (W.known out.old) (W.known out.new) (line_of (parts_of parts.entry)) result }
 {
-    put_text(name, out)?;
+    put_text(parts.name, out)?;
     put_text(" <", out)?;
-    put_text(mail, out)?;
+    put_text(parts.mail, out)?;
     put_text("> ", out)?;
-    put_time(time, out)
+    put_text(parts.time, out)
 }
 
 fn put_text<W: Sink>(text: &str, out: &mut W) -> Result<(), io::ErrorKind>
     ensures { Puts (W.known out.old) (W.known out.new) text.now result }
 {
     put_all(out, text.as_bytes())
-}
-
-fn put_time<W: Sink>(time: Time, out: &mut W) -> Result<(), io::ErrorKind>
-    requires { IsSome (header_text time) }
-    ensures { IsSomeAnd (header_text time) (λ text. Puts (W.known out.old) (W.known out.new) text result) }
-{
-    match time.write_to(out) {
-        Ok(()) => Ok(()),
-        Err(Error::Write(kind)) => Err(kind),
-        // `write_to` refuses a time that has a text by no other.
-        Err(
-            Error::UnknownFormat { input: _ }
-            | Error::InvalidTime
-            | Error::MissingNow
-            | Error::DateConversion { input: _ }
-            | Error::Conversion
-            | Error::Range
-            | Error::OffsetTooWide
-            | Error::Pattern
-            | Error::Memory,
-        ) => unreachable!(),
-    }
-}
-
-/// Whether a time has a text in a commit header.
-fn has_text(time: Time) -> bool
-    ensures { result ≡ is_some (header_text time) }
-{
-    time.offset.unsigned_abs() < HUNDRED_HOURS
 }
 
 /// Whether a text may be a part of a line.

@@ -67,7 +67,8 @@ pub record ComesFirstBy (rule : OffsetRule) (text : List ℕ) : Type 0 where
 -- a call with this text comes to the same at every moment, and without one
 abbrev pub IgnoresMomentBy : OffsetRule → List ℕ → Type 0
 IgnoresMomentBy rule text = (now other : Option Zoned) (result : Result Time Error)
-    → ParseOutcome (first_family_by rule text) text now result → ParseOutcome (first_family_by rule text) text other result
+    → ParseOutcome (first_family_by rule text) text now result
+    → ParseOutcome (first_family_by rule text) text other result
 
 -- what is read by quarters of an hour is read alike by whole minutes, and what is read by these alone is a raw text or
 -- an at text

@@ -1,5 +1,5 @@
 -- The families of texts that a date may have, in their order, and the answer of the first that holds a text.
-use Rattle.std.specs.Prelude.{◌≡◌, ℕ, List, [], ◌∷◌, ◌++◌, map, Option, Some, None, option_map, Result, Ok, Bool, true, false}
+use Rattle.std.specs.Prelude.{◌≡◌, ℕ, List, [], ◌∷◌, ◌++◌, map, Option, Some, None, option_map, Result, Ok, Err}
 use Rattle.std.specs.Option.{option_or}
 use Rattle.std.specs.Result.{IsErrAnd}
 use Rattle.jiff.specs.declared.zoned.Zoned.{Zoned}
@@ -11,6 +11,8 @@ use Rattle.gix_date.specs.Git.Forms.{git_time}
 use Rattle.gix_date.specs.Relative.Dates.{relative_date, RelativeOutcome}
 use Rattle.gix_date.specs.declared.error.Error.{Error}
 use Rattle.gix_date.specs.declared.error.Error.TheVariants as errors
+use Rattle.gix_date.specs.declared.error.ParseError.{ParseError}
+use Rattle.gix_date.specs.declared.error.ParseError.TheVariants.{UnknownFormat, DateConversion, MissingNow, Range}
 use Rattle.gix_date.specs.declared.time.Time.{Time}
 
 -- the families, by their names
@@ -90,18 +92,28 @@ RefusesDate text (errors.DateConversion input) = input ≡ text
 RefusesDate text errors.Memory = Unit {0}
 RefusesDate text _ = ⊥
 
--- a call with this answer copies its text for a refusal
-abbrev pub is_copied : Option FamilyAnswer → Bool
-is_copied None = true
-is_copied (Some OffsetBeyond) = true
-is_copied (Some InstantBeyond) = true
-is_copied (Some _) = false
+-- What a call that takes no memory comes to by the answer of the first family and this moment.
+abbrev pub ParseNoAllocOutcome : Option FamilyAnswer → Option Zoned → Result Time ParseError → Type 0
+ParseNoAllocOutcome (Some (Absolute t)) now result = result ≡ Ok t
+ParseNoAllocOutcome (Some (Relative date)) now result = RelativeOutcome date now result
+ParseNoAllocOutcome (Some OffsetBeyond) now result = result ≡ Err UnknownFormat
+ParseNoAllocOutcome (Some InstantBeyond) now result = result ≡ Err DateConversion
+ParseNoAllocOutcome None now result = result ≡ Err UnknownFormat
 
--- What a call comes to that was given this text and this moment. A time, and what a relative text comes to, is never
--- replaced by a refusal of memory.
+-- the same refusal, with a copy of the text that is refused, where it has one
+abbrev pub RefusesWithCopy : List ℕ → ParseError → Error → Type 0
+RefusesWithCopy text UnknownFormat e = RefusesUnknown text e
+RefusesWithCopy text DateConversion e = RefusesDate text e
+RefusesWithCopy text MissingNow e = e ≡ errors.MissingNow
+RefusesWithCopy text Range e = e ≡ errors.Range
+
+-- the same time, or the same refusal with its copy
+abbrev pub WithCopy : List ℕ → Result Time ParseError → Result Time Error → Type 0
+WithCopy text (Ok t) result = result ≡ Ok t
+WithCopy text (Err refusal) result = IsErrAnd result (RefusesWithCopy text refusal)
+
+-- What a call comes to that was given this text and this moment: what one comes to that takes no memory, and then the
+-- copy of a text that is refused. So a refusal of memory never replaces a time, nor what a relative text comes to.
 abbrev pub ParseOutcome : Option FamilyAnswer → List ℕ → Option Zoned → Result Time Error → Type 0
-ParseOutcome (Some (Absolute t)) text now result = result ≡ Ok t
-ParseOutcome (Some (Relative date)) text now result = RelativeOutcome date now result
-ParseOutcome (Some OffsetBeyond) text now result = IsErrAnd result (RefusesUnknown text)
-ParseOutcome (Some InstantBeyond) text now result = IsErrAnd result (RefusesDate text)
-ParseOutcome None text now result = IsErrAnd result (RefusesUnknown text)
+ParseOutcome answer text now result =
+    (uncopied : Result Time ParseError) × ParseNoAllocOutcome answer now uncopied × WithCopy text uncopied result

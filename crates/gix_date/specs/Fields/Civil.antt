@@ -1,6 +1,7 @@
 -- Dates of the calendar and times of the clock, and the instants that they are at an offset.
 use Rattle.std.specs.Prelude.{ℕ, ◌+◌, ◌*◌, Bool, ◌&&◌, List, ℤ, pos, ◌+ℤ◌, ◌-ℤ◌, ◌*ℤ◌, nat_le, if◌then◌else◌, Option, Some, None}
 use Rattle.jiff_core.specs.Calendar.{days_from_civil, days_in_month}
+use Rattle.gix_date.specs.Fields.ClockNumbers.{max_hour, max_minute, max_second, seconds_per_minute, seconds_per_hour, seconds_per_day}
 use Rattle.gix_date.specs.Fields.Front.{ReadFront, ◌>>=◌}
 use Rattle.gix_date.specs.Text.Numbers.{read_year}
 use Rattle.gix_date.specs.Printing.Zoned.{is_instant}
@@ -24,15 +25,16 @@ is_date d = nat_le 1 d.month && nat_le d.month 12 && nat_le 1 d.day && nat_le d.
 
 -- the day has this hour, minute and second
 abbrev pub is_clock : ClockFields → Bool
-is_clock c = nat_le c.hour 23 && nat_le c.minute 59 && nat_le c.second 59
+is_clock c = nat_le c.hour max_hour && nat_le c.minute max_minute && nat_le c.second max_second
 
 -- seconds since midnight
 abbrev pub clock_seconds : ClockFields → ℕ
-clock_seconds c = 3600 * c.hour + 60 * c.minute + c.second
+clock_seconds c = seconds_per_hour * c.hour + seconds_per_minute * c.minute + c.second
 
 -- seconds since 1970-01-01 00:00:00 UTC of that clock on that day, at an offset from UTC
 abbrev pub civil_seconds : DateFields → ClockFields → ℤ → ℤ
-civil_seconds d c offset = pos 86_400 *ℤ days_from_civil (pos d.year) d.month d.day +ℤ pos (clock_seconds c) -ℤ offset
+civil_seconds d c offset =
+    pos seconds_per_day *ℤ days_from_civil (pos d.year) d.month d.day +ℤ pos (clock_seconds c) -ℤ offset
 
 -- the instant of a day and a clock at an offset, where there are such
 unfoldable pub civil_instant : DateFields → ClockFields → ℤ → Option ℤ

@@ -3,6 +3,7 @@ use Rattle.std.specs.Prelude.{ℕ, ◌+◌, Bool, ◌&&◌, List, [], ◌∷◌,
 use Rattle.std.specs.Char.{is_ascii_alphabetic}
 use Rattle.std.specs.List.{prefix_len, list_any, position}
 use Rattle.std.specs.Option.{option_map}
+use Rattle.gix_date.specs.Fields.ClockNumbers.{max_second}
 use Rattle.gix_date.specs.Text.Characters.{is_space, comma, minus, colon}
 use Rattle.gix_date.specs.Fields.Civil.{read_date}
 use Rattle.gix_date.specs.Fields.Front.{ReadFront, skip_char, ◌>>=◌}
@@ -57,7 +58,7 @@ read_plain_date text = read_date read_field (skip_char minus) text
 
 -- a second of 60 is read as 59
 abbrev pub without_leap_second : ℕ → ℕ
-without_leap_second second = if second == 60 then 59 else second
+without_leap_second second = if second == 60 then max_second else second
 
 -- `h:m`
 unfoldable pub read_minutes : List ℕ → ReadFront ClockFields

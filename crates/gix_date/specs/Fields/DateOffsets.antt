@@ -1,6 +1,7 @@
 -- The offsets of formatted dates: what a whole text says by its digits, or in mail by the name of a zone.
-use Rattle.std.specs.Prelude.{ℕ, ◌/◌, ◌%◌, Bool, ◌&&◌, List, [], ◌∷◌, ◌++◌, ℤ, pos, neg_ℤ, unsigned_abs, ◌==◌, nat_le, codes, if◌then◌else◌, Option, Some, None, is_some, option_map, unwrap_or}
+use Rattle.std.specs.Prelude.{ℕ, Bool, ◌&&◌, List, [], ◌∷◌, ◌++◌, ℤ, pos, neg_ℤ, unsigned_abs, ◌==◌, nat_le, codes, if◌then◌else◌, Option, Some, None, is_some, option_map, unwrap_or}
 use Rattle.std.specs.Option.{option_or}
+use Rattle.gix_date.specs.Fields.ClockNumbers.{max_minute, max_second, hours_in, minutes_in}
 use Rattle.gix_date.specs.Text.Characters.{colon}
 use Rattle.gix_date.specs.Fields.Front.{skip_char, ◌>>=◌}
 use Rattle.gix_date.specs.Header.Text.{offset_sign}
@@ -11,7 +12,7 @@ use Rattle.gix_date.specs.declared.parsing.offset.OffsetFields.{OffsetFields}
 
 -- hours of at most 25, and minutes and seconds of at most 59
 abbrev pub is_jiff_offset : OffsetFields → Bool
-is_jiff_offset f = nat_le f.hours 25 && nat_le f.minutes 59 && nat_le (unwrap_or f.seconds 0) 59
+is_jiff_offset f = nat_le f.hours 25 && nat_le f.minutes max_minute && nat_le (unwrap_or f.seconds 0) max_second
 
 -- the offset of such fields
 abbrev pub jiff_offset : OffsetFields → Option ℤ
@@ -66,5 +67,5 @@ mail_zone text = option_or (mail_offset text) (named_zone text)
 -- an offset as `+hh:mm`
 abbrev pub strict_offset_text : ℤ → List ℕ
 strict_offset_text offset =
-    offset_sign offset ∷ two_digits (unsigned_abs offset / 3600)
-    ++ colon ∷ two_digits (unsigned_abs offset % 3600 / 60)
+    offset_sign offset ∷ two_digits (hours_in (unsigned_abs offset))
+    ++ colon ∷ two_digits (minutes_in (unsigned_abs offset))

@@ -2,7 +2,7 @@
 -- printed.
 use Rattle.std.specs.Prelude.{◌≡◌, ℕ, ℤ, pos, List, [], ◌∷◌, ◌++◌, ◌⊎◌, if◌then◌else◌, Option, Some, None, unwrap_or}
 use Rattle.gix_date.specs.Text.Characters.{space, comma, letter_t}
-use Rattle.gix_date.specs.Fields.Front.{skip_char, ◌>>=◌}
+use Rattle.gix_date.specs.Fields.Front.{ReadFront, skip_char, ◌>>=◌}
 use Rattle.gix_date.specs.Fields.FieldTexts.{IsField, IsYear, AreSpaces, IsDayName, IsMonthName, IsPlainDate, IsClock, IsMailClock, IsDayPrefix, four_digits, date_text, clock_text}
 use Rattle.gix_date.specs.Header.Text.{compact_offset_text}
 use Rattle.gix_date.specs.Text.Names.{day_name, month_name}
@@ -58,30 +58,29 @@ pub data Piece : Type 0 where
   -- `+hhmm`, or a zone's name
   MailOffset : Piece
 
--- How a piece is read off the front of a text: `t` is what was read before it, and `next` goes on with `t` with what
--- the piece tells and with the rest of the text. A day's name may be any and is not kept; an offset is all that is left
--- of the text.
-abbrev pub read_piece : {B : Type 0} → Piece → LocalTime → (LocalTime → List ℕ → Option B) → List ℕ → Option B
-read_piece DayName t next text = skip_weekday text >>= λ rest. next t rest
-read_piece MailDayName t next text = next t (unwrap_or (skip_day_name text) text)
-read_piece MonthName t next text =
-    read_month text >>= λ month. next (record t { date = record t.date { month = month.0 } }) month.1
-read_piece Day t next text = read_field text >>= λ day. next (record t { date = record t.date { day = day.0 } }) day.1
-read_piece Year t next text =
-    read_year text >>= λ year. next (record t { date = record t.date { year = year.0 } }) year.1
-read_piece PlainDate t next text = read_plain_date text >>= λ date. next (record t { date = date.0 }) date.1
-read_piece Clock t next text = read_clock text >>= λ clock. next (record t { clock = clock.0 }) clock.1
-read_piece MailClock t next text = read_mail_clock text >>= λ clock. next (record t { clock = clock.0 }) clock.1
-read_piece Spaces t next text = skip_spaces text >>= λ rest. next t rest
-read_piece LetterT t next text = skip_char letter_t text >>= λ rest. next t rest
-read_piece Offset t next text = compact_offset text >>= λ offset. next (record t { offset = offset }) []
-read_piece ColonOffset t next text = strict_offset text >>= λ offset. next (record t { offset = offset }) []
-read_piece MailOffset t next text = mail_zone text >>= λ offset. next (record t { offset = offset }) []
+-- How a piece is read off the front of a text: `t` is what was read before it, and the answer is `t` with what the
+-- piece tells, and the rest of the text. A day's name may be any and is not kept; an offset is all that is left of the
+-- text.
+abbrev pub read_piece : Piece → LocalTime → List ℕ → ReadFront LocalTime
+read_piece DayName t text = skip_weekday text >>= λ rest. Some (t, rest)
+read_piece MailDayName t text = Some (t, unwrap_or (skip_day_name text) text)
+read_piece MonthName t text =
+    read_month text >>= λ month. Some (record t { date = record t.date { month = month.0 } }, month.1)
+read_piece Day t text = read_field text >>= λ day. Some (record t { date = record t.date { day = day.0 } }, day.1)
+read_piece Year t text = read_year text >>= λ year. Some (record t { date = record t.date { year = year.0 } }, year.1)
+read_piece PlainDate t text = read_plain_date text >>= λ date. Some (record t { date = date.0 }, date.1)
+read_piece Clock t text = read_clock text >>= λ clock. Some (record t { clock = clock.0 }, clock.1)
+read_piece MailClock t text = read_mail_clock text >>= λ clock. Some (record t { clock = clock.0 }, clock.1)
+read_piece Spaces t text = skip_spaces text >>= λ rest. Some (t, rest)
+read_piece LetterT t text = skip_char letter_t text >>= λ rest. Some (t, rest)
+read_piece Offset t text = compact_offset text >>= λ offset. Some (record t { offset = offset }, [])
+read_piece ColonOffset t text = strict_offset text >>= λ offset. Some (record t { offset = offset }, [])
+read_piece MailOffset t text = mail_zone text >>= λ offset. Some (record t { offset = offset }, [])
 
 -- pieces, one after the other, and nothing after the last
-abbrev pub read_pieces : {B : Type 0} → List Piece → LocalTime → (LocalTime → Option B) → List ℕ → Option B
-read_pieces [] t next text = if is_nonempty text then None else next t
-read_pieces (piece ∷ pieces) t next text = read_piece piece t (λ more. read_pieces pieces more next) text
+abbrev pub read_pieces : List Piece → LocalTime → List ℕ → Option LocalTime
+read_pieces [] t text = if is_nonempty text then None else Some t
+read_pieces (piece ∷ pieces) t text = read_piece piece t text >>= λ read. read_pieces pieces read.0 read.1
 
 -- before the first piece
 abbrev pub nothing_read : LocalTime
@@ -94,7 +93,7 @@ nothing_read = record {
 
 -- a whole text is read by a layout, and what was read is answered
 abbrev pub layout_answer : {B : Type 0} → List Piece → (LocalTime → Option B) → List ℕ → Option B
-layout_answer layout answer text = read_pieces layout nothing_read answer text
+layout_answer layout answer text = read_pieces layout nothing_read text >>= answer
 
 -- which texts are this piece of such a time
 abbrev pub IsPiece : Piece → LocalTime → List ℕ → Type 0

@@ -1,6 +1,7 @@
 -- The fields of an offset from UTC: a sign, and pairs of digits.
 use Rattle.std.specs.Prelude.{ℕ, ◌+◌, ◌*◌, Bool, List, [], ◌∷◌, ℤ, pos, neg_ℤ, if◌then◌else◌, Option, Some, None, option_map, unwrap_or}
 use Rattle.std.specs.Option.{option_or}
+use Rattle.gix_date.specs.Fields.ClockNumbers.{seconds_per_minute, seconds_per_hour}
 use Rattle.gix_date.specs.Text.Characters.{plus, minus}
 use Rattle.gix_date.specs.Fields.Front.{ReadFront, skip_char, ◌>>=◌}
 use Rattle.gix_date.specs.Text.Numbers.{two_digit_value, read_two_digits}
@@ -36,7 +37,8 @@ signed Minus n = neg_ℤ (pos n)
 
 -- the offset that the fields say, in seconds east of UTC
 abbrev pub offset_of : OffsetFields → ℤ
-offset_of f = signed f.sign (3600 * f.hours + 60 * f.minutes + unwrap_or f.seconds 0)
+offset_of f =
+    signed f.sign (seconds_per_hour * f.hours + seconds_per_minute * f.minutes + unwrap_or f.seconds 0)
 
 -- the same of fields that a rule allows
 abbrev pub offset_by : (OffsetFields → Bool) → OffsetFields → Option ℤ

@@ -4,6 +4,7 @@ use Rattle.std.specs.Char.{is_ascii, is_ascii_digit}
 use Rattle.std.specs.List.{list_all, slice_split, before_first}
 use Rattle.std.specs.Str.{trim}
 use Rattle.std.specs.Str.Parse.{digits_value}
+use Rattle.gix_date.specs.Fields.ClockNumbers.{max_hour, max_minute, max_second}
 use Rattle.gix_date.specs.Text.Characters.{is_colon, is_dot, has_colon}
 use Rattle.gix_date.specs.Fields.Front.{ReadFront, ◌>>=◌}
 use Rattle.gix_date.specs.Text.Numbers.{read_two_digits}
@@ -28,9 +29,10 @@ clock_of_fields None m s = None
 -- hours, minutes and seconds; a part that is not there is 0, and those after the third are ignored
 abbrev pub clock_of_parts : List (List ℕ) → Option ClockFields
 clock_of_parts [] = None
-clock_of_parts (h ∷ []) = clock_of_fields (digits_at_most 23 h) (Some 0) (Some 0)
-clock_of_parts (h ∷ m ∷ []) = clock_of_fields (digits_at_most 23 h) (digits_at_most 59 m) (Some 0)
-clock_of_parts (h ∷ m ∷ s ∷ more) = clock_of_fields (digits_at_most 23 h) (digits_at_most 59 m) (digits_at_most 59 s)
+clock_of_parts (h ∷ []) = clock_of_fields (digits_at_most max_hour h) (Some 0) (Some 0)
+clock_of_parts (h ∷ m ∷ []) = clock_of_fields (digits_at_most max_hour h) (digits_at_most max_minute m) (Some 0)
+clock_of_parts (h ∷ m ∷ s ∷ more) =
+    clock_of_fields (digits_at_most max_hour h) (digits_at_most max_minute m) (digits_at_most max_second s)
 
 -- a clock with colons between its parts
 unfoldable pub clock_with_colons : List ℕ → Option ClockFields

@@ -2,6 +2,7 @@
 use Rattle.std.specs.Prelude.{ℕ, Bool, not, ◌&&◌, ◌||◌, List, [], ◌∷◌, filter, length, ℤ, pos, ◌==◌, nat_le, codes, if◌then◌else◌, Option, Some, None}
 use Rattle.std.specs.Option.{option_or}
 use Rattle.std.specs.Str.{trim, bytes_eq}
+use Rattle.gix_date.specs.Fields.ClockNumbers.{max_hour, max_minute}
 use Rattle.gix_date.specs.Text.Characters.{space, dot, minus, colon, letter_t}
 use Rattle.gix_date.specs.Fields.Civil.{civil_instant, read_date}
 use Rattle.gix_date.specs.Git.ClockCut.{Cut, clock_cut}
@@ -32,7 +33,7 @@ offset_of_digits sign _ = None
 
 -- hours are at most 23, and minutes at most 59
 abbrev pub is_within_a_day : OffsetFields → Bool
-is_within_a_day f = nat_le f.hours 23 && nat_le f.minutes 59
+is_within_a_day f = nat_le f.hours max_hour && nat_le f.minutes max_minute
 
 -- the offset of a Git text: none written or `Z` is 0; else a sign and, colons struck out, two or four digits
 unfoldable pub git_offset : List ℕ → Option ℤ

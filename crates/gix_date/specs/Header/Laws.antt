@@ -1,5 +1,6 @@
 -- What the laws of headers say.
 use Rattle.std.specs.Prelude.{◌≡◌, ◌↔◌, ◌/◌, ℕ, List, true, Some, IsSomeAnd, unsigned_abs, int_lt, pos}
+use Rattle.gix_date.specs.Fields.ClockNumbers.{seconds_per_minute}
 use Rattle.gix_date.specs.Header.Canonical.{is_canonical_header}
 use Rattle.gix_date.specs.Header.Reading.{header_time}
 use Rattle.gix_date.specs.Header.Text.{header_text}
@@ -24,7 +25,7 @@ abbrev pub AreAlike : Time → Time → Type 0
 AreAlike a b =
     (a.seconds ≡ b.seconds)
     × (int_lt a.offset (pos 0) ≡ int_lt b.offset (pos 0))
-    × (unsigned_abs a.offset / 60 ≡ unsigned_abs b.offset / 60)
+    × (unsigned_abs a.offset / seconds_per_minute ≡ unsigned_abs b.offset / seconds_per_minute)
 
 -- two times have the same header text exactly where they are alike
 abbrev pub AreWrittenAlike : Time → Time → Type 0

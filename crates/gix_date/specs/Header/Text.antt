@@ -1,6 +1,7 @@
 -- The text of a time in a commit header.
-use Rattle.std.specs.Prelude.{◌≡◌, ℕ, ◌/◌, ◌%◌, List, [], ◌∷◌, ◌++◌, ℤ, pos, int_lt, nat_lt, unsigned_abs, if◌then◌else◌, Option, Some, None, IsSomeAnd, Result, Ok, Err}
+use Rattle.std.specs.Prelude.{◌≡◌, ℕ, List, [], ◌∷◌, ◌++◌, ℤ, pos, int_lt, nat_lt, unsigned_abs, if◌then◌else◌, Option, Some, None, IsSomeAnd, Result, Ok, Err}
 use Rattle.std.specs.Borrow.{Bor}
+use Rattle.gix_date.specs.Fields.ClockNumbers.{hours_in, minutes_in}
 use Rattle.gix_date.specs.Text.Characters.{space, plus, minus}
 use Rattle.gix_date.specs.Devices.Known.{Known, Takes, TakesProperPrefix, TakesNothing}
 use Rattle.gix_date.specs.Text.Numbers.{decimal_text, two_digits}
@@ -22,7 +23,7 @@ offset_sign offset = if int_lt offset (pos 0) then minus else plus
 
 -- two digits of whole hours, and two of the whole minutes that remain
 abbrev pub hours_and_minutes : ℕ → List ℕ
-hours_and_minutes seconds = two_digits (seconds / 3600) ++ two_digits (seconds % 3600 / 60)
+hours_and_minutes seconds = two_digits (hours_in seconds) ++ two_digits (minutes_in seconds)
 
 -- an offset as `+hhmm`
 abbrev pub compact_offset_text : ℤ → List ℕ

@@ -2,6 +2,7 @@
 use Rattle.std.specs.Prelude.{◌≡◌, ℕ, ◌+◌, ◌-◌, ◌*◌, ◌/◌, ◌%◌, nat_lt, if◌then◌else◌, ℤ, pos, neg_ℤ, ◌+ℤ◌, ◌-ℤ◌, unsigned_abs}
 use Rattle.std.specs.Int.{int_div_euclid, int_rem_euclid}
 use Rattle.jiff_core.specs.Calendar.{IsBetween, weekday_number}
+use Rattle.gix_date.specs.Fields.ClockNumbers.{seconds_per_minute, seconds_per_day, hours_in, minutes_in}
 use Rattle.gix_date.specs.Fields.Layout.{LocalTime}
 use Rattle.gix_date.specs.declared.time.Time.{Time}
 
@@ -42,10 +43,10 @@ abbrev pub local_seconds : Time → ℤ
 local_seconds t = t.seconds +ℤ t.offset
 
 abbrev pub local_day : Time → ℤ
-local_day t = int_div_euclid (local_seconds t) (pos 86_400)
+local_day t = int_div_euclid (local_seconds t) (pos seconds_per_day)
 
 abbrev pub second_of_day : Time → ℕ
-second_of_day t = unsigned_abs (int_rem_euclid (local_seconds t) (pos 86_400))
+second_of_day t = unsigned_abs (int_rem_euclid (local_seconds t) (pos seconds_per_day))
 
 -- what a time's own clock shows
 unfoldable pub clock_of : Time → LocalTime
@@ -55,7 +56,7 @@ clock_of t =
     record {
       weekday = weekday_number (local_day t);
       date = record { year = unsigned_abs year; month = month; day = day };
-      clock = record { hour = second / 3600; minute = second / 60 % 60; second = second % 60 };
+      clock = record { hour = hours_in second; minute = minutes_in second; second = second % seconds_per_minute };
       offset = t.offset;
     }
 
@@ -69,4 +70,4 @@ last_ordinary = pos 253_402_300_799
 -- the time's own clock shows a year of four digits, and its offset is whole minutes
 pub record HasOrdinaryClock (t : Time) : Type 0 where
   pub in_years : IsBetween first_ordinary last_ordinary (local_seconds t)
-  pub minutes : unsigned_abs t.offset % 60 ≡ 0
+  pub minutes : unsigned_abs t.offset % seconds_per_minute ≡ 0

@@ -4,6 +4,7 @@ use Rattle.std.specs.Fmt.{decimal}
 use Rattle.jiff.specs.Types.{PlainZoned}
 use Rattle.jiff_core.specs.Date.{weekday_of}
 use Rattle.jiff_strtime.specs.Show.{Shown}
+use Rattle.gix_date.specs.Fields.ClockNumbers.{seconds_per_minute}
 use Rattle.gix_date.specs.Fields.Layout.{LocalTime, print_pieces}
 use Rattle.gix_date.specs.Text.Numbers.{two_digits}
 use Rattle.gix_date.specs.Families.Patterns.{short_layout, rfc2822_layout, iso8601_layout, iso8601_strict_layout, gitoxide_layout, default_layout}
@@ -24,7 +25,7 @@ pub record IsOrdinary (z : PlainZoned) : Type 0 where
   pub year_is : z.datetime.date.year ≡ pos year
   pub low : 1000 ≤ year
   pub high : year ≤ 9999
-  pub minutes : unsigned_abs z.offset.seconds % 60 ≡ 0
+  pub minutes : unsigned_abs z.offset.seconds % seconds_per_minute ≡ 0
 
 -- The pattern of each named format, and the text that it shows: the pieces of a formatted date, with the day of the
 -- month in two digits or in as few as it has.

@@ -1,6 +1,7 @@
 -- What the laws of reading back say of a time.
 use Rattle.std.specs.Prelude.{◌≡◌, ◌⊎◌, ◌≤◌, ◌<◌, ◌%◌, ℕ, ℤ, List, Some, Result, MatchResult, String, string_bytes, unsigned_abs}
 use Rattle.std.specs.Global.{Global}
+use Rattle.gix_date.specs.Fields.ClockNumbers.{seconds_per_minute, seconds_per_day}
 use Rattle.gix_date.specs.Families.Answer.{Absolute}
 use Rattle.gix_date.specs.Families.Order.{first_family_by}
 use Rattle.gix_date.specs.Fields.Layout.{LocalTime}
@@ -74,5 +75,5 @@ pub record IsRawOffset (offset : ℤ) : Type 0 where
 
 -- the offset of a raw text by the wider rule: whole minutes, short of a day either way
 pub record IsWideOffset (offset : ℤ) : Type 0 where
-  pub minutes : unsigned_abs offset % 60 ≡ 0
-  pub short : unsigned_abs offset < 86_400
+  pub minutes : unsigned_abs offset % seconds_per_minute ≡ 0
+  pub short : unsigned_abs offset < seconds_per_day

@@ -5,13 +5,14 @@ use Rattle.std.specs.Str.{trim}
 use Rattle.jiff.specs.Words.{zoned_nanos, offset_at, nanos_of_seconds, IsTimestampNanos}
 use Rattle.jiff.specs.Types.{TimeZone}
 use Rattle.jiff.specs.declared.zoned.Zoned.{Zoned}
+use Rattle.gix_date.specs.Fields.ClockNumbers.{seconds_per_day}
 use Rattle.gix_date.specs.Relative.Steps.{zone_of, Settles, Chain}
 use Rattle.gix_date.specs.Relative.Words.{relative_words}
 use Rattle.gix_date.specs.Text.Names.{named_in}
 use Rattle.gix_date.specs.Relative.Roles.{are_pairs, pairs}
 use Rattle.gix_date.specs.Printing.Zoned.{whole_seconds}
-use Rattle.gix_date.specs.declared.error.Error.{Error}
-use Rattle.gix_date.specs.declared.error.Error.TheVariants.{MissingNow, Range}
+use Rattle.gix_date.specs.declared.error.ParseError.{ParseError}
+use Rattle.gix_date.specs.declared.error.ParseError.TheVariants.{MissingNow, Range}
 use Rattle.gix_date.specs.declared.parsing.relative.words.TimeUnit.{TimeUnit}
 use Rattle.gix_date.specs.declared.time.Time.{Time}
 
@@ -25,7 +26,8 @@ pub data RelativeDate : Type 0 where
 -- the relative dates by their names
 abbrev pub date_names : List (List ℕ × RelativeDate)
 date_names =
-    (codes "now", Before (pos 0)) ∷ (codes "today", Before (pos 0)) ∷ (codes "yesterday", Before (pos 86_400)) ∷ []
+    (codes "now", Before (pos 0)) ∷ (codes "today", Before (pos 0))
+    ∷ (codes "yesterday", Before (pos seconds_per_day)) ∷ []
 
 -- `now`, `today` or `yesterday`, alone
 unfoldable pub named_date : List ℕ → Option RelativeDate
@@ -52,7 +54,7 @@ pub record IsNamed (date : RelativeDate) (moment : Zoned) (t : Time) : Type 0 wh
   pub offset_is : t.offset ≡ offset_at (zone_of moment) instant
 
 -- What a call comes to by a relative date and this moment, or none.
-abbrev pub RelativeOutcome : RelativeDate → Option Zoned → Result Time Error → Type 0
+abbrev pub RelativeOutcome : RelativeDate → Option Zoned → Result Time ParseError → Type 0
 RelativeOutcome date None result = result ≡ Err MissingNow
 RelativeOutcome date (Some moment) (Ok t) = IsNamed date moment t
 RelativeOutcome date (Some moment) (Err e) = (e ≡ Range) × ((t : Time) → ¬ (IsNamed date moment t))

@@ -1,10 +1,11 @@
 -- What pairs of counts and units come to in a zone that keeps one offset.
-use Rattle.std.specs.Prelude.{◌≡◌, ◌⊎◌, ◌↔◌, ℤ, pos, ◌+ℤ◌, ◌-ℤ◌, ◌*ℤ◌, ◌≤ℤ◌, FitsSigned, List, [], ◌∷◌, map, true}
+use Rattle.std.specs.Prelude.{◌≡◌, ◌⊎◌, ◌↔◌, ◌*◌, ℤ, pos, ◌+ℤ◌, ◌-ℤ◌, ◌*ℤ◌, ◌≤ℤ◌, FitsSigned, List, [], ◌∷◌, map, true}
 use Rattle.std.specs.Int.{w64}
 use Rattle.std.specs.List.{All}
 use Rattle.jiff.specs.Types.{Offset, TimeZone}
 use Rattle.jiff.specs.Words.{fixed_zone, nanos_of_seconds, zoned_nanos, IsTimestampNanos}
 use Rattle.jiff.specs.declared.zoned.Zoned.{Zoned}
+use Rattle.gix_date.specs.Fields.ClockNumbers.{seconds_per_minute, seconds_per_hour, seconds_per_day}
 use Rattle.gix_date.specs.Relative.Dates.{RelativeDate, Less, Reaches, IsNamed}
 use Rattle.gix_date.specs.Relative.Steps.{zone_of}
 use Rattle.gix_date.specs.Printing.Zoned.{IsMoment, is_instant}
@@ -17,7 +18,9 @@ IsFixedZone tz = (o : Offset) × (tz ≡ fixed_zone o)
 
 -- the seconds of a second, a minute, an hour, a day or a week
 abbrev pub IsUnitOfSeconds : ℤ → Type 0
-IsUnitOfSeconds unit = (unit ≡ pos 1) ⊎ (unit ≡ pos 60) ⊎ (unit ≡ pos 3600) ⊎ (unit ≡ pos 86_400) ⊎ (unit ≡ pos 604_800)
+IsUnitOfSeconds unit =
+    (unit ≡ pos 1) ⊎ (unit ≡ pos seconds_per_minute) ⊎ (unit ≡ pos seconds_per_hour) ⊎ (unit ≡ pos seconds_per_day)
+    ⊎ (unit ≡ pos (7 * seconds_per_day))
 
 -- the months of a month or a year
 abbrev pub IsUnitOfMonths : ℤ → Type 0

@@ -1,7 +1,7 @@
 -- Which words of a text are counts and periods, and which texts are pairs of these.
-use Rattle.std.specs.Prelude.{ℕ, Bool, true, false, not, ◌&&◌, ◌||◌, List, [], ◌∷◌, ℤ, Option, Some, None, is_some, reverse, zero, suc}
-use Rattle.std.specs.List.{prefix_len}
-use Rattle.gix_date.specs.Text.Places.{any_place, all_places, flat_places}
+use Rattle.std.specs.Prelude.{ℕ, Bool, true, false, not, ◌&&◌, ◌||◌, List, [], ◌∷◌, ℤ, Option, Some, None, is_some, reverse, flat_map, zero, suc}
+use Rattle.std.specs.List.{prefix_len, list_any, list_all}
+use Rattle.gix_date.specs.Text.Places.{Place, places}
 use Rattle.gix_date.specs.Relative.Words.{count_of, unit_of, unit_or_seconds, is_ago}
 use Rattle.gix_date.specs.declared.parsing.relative.words.TimeUnit.{TimeUnit}
 
@@ -23,9 +23,9 @@ count_run words = prefix_len is_count_word (reverse words)
 abbrev pub is_no_period : List (List ℕ) → Bool
 is_no_period front = is_even (count_run front)
 
--- a word is a count: a count word that is no period
-abbrev pub is_count : List (List ℕ) → List ℕ → Bool
-is_count front word = is_no_period front && is_count_word word
+-- a count stands here: a count word that is no period
+abbrev pub is_count : Place → Bool
+is_count p = is_no_period p.front && is_count_word p.word
 
 abbrev pub has_next : List (List ℕ) → Bool
 has_next [] = false
@@ -37,15 +37,15 @@ next_is_unit (period ∷ back) = has_unit period
 
 -- the flag: some `ago` is no period
 unfoldable pub has_flag : List (List ℕ) → Bool
-has_flag words = any_place (λ front word back. is_no_period front && is_ago word) [] words
+has_flag words = list_any (λ p. is_no_period p.front && is_ago p.word) (places words)
 
 -- some count has a period
 unfoldable pub has_pair : List (List ℕ) → Bool
-has_pair words = any_place (λ front word back. is_count front word && has_next back) [] words
+has_pair words = list_any (λ p. is_count p && has_next p.back) (places words)
 
 -- each period of a count is a unit
 unfoldable pub all_units : List (List ℕ) → Bool
-all_units words = all_places (λ front word back. not (is_count front word) || next_is_unit back) [] words
+all_units words = list_all (λ p. not (is_count p) || next_is_unit p.back) (places words)
 
 -- some count has a period, and each period of a count is a unit, or the flag is set
 unfoldable pub are_pairs : List (List ℕ) → Bool
@@ -60,4 +60,4 @@ pair_here false count back = []
 
 -- the pairs of counts and units, in order
 unfoldable pub pairs : List (List ℕ) → List (ℤ × TimeUnit)
-pairs words = flat_places (λ front word back. pair_here (is_no_period front) (count_of word) back) [] words
+pairs words = flat_map (λ p. pair_here (is_no_period p.front) (count_of p.word) p.back) (places words)

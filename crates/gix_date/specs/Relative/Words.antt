@@ -1,8 +1,9 @@
 -- The words of a relative text: what each counts, and which unit it names.
-use Rattle.std.specs.Prelude.{ℕ, ◌+◌, ◌-◌, Bool, ◌||◌, not, List, [], ◌∷◌, length, take, filter, ℤ, pos, ◌==◌, if◌then◌else◌, Option, Some, unwrap_or, slice_index, codes}
+use Rattle.std.specs.Prelude.{ℕ, ◌+◌, ◌-◌, ◌*◌, Bool, ◌||◌, not, List, [], ◌∷◌, length, take, filter, ℤ, pos, ◌==◌, if◌then◌else◌, Option, Some, unwrap_or, slice_index, codes}
 use Rattle.std.specs.Option.{option_map}
 use Rattle.std.specs.Char.{is_ascii_alphanumeric, is_ascii_digit}
 use Rattle.std.specs.List.{slice_split, list_all, position}
+use Rattle.gix_date.specs.Fields.ClockNumbers.{seconds_per_minute, seconds_per_hour, seconds_per_day}
 use Rattle.gix_date.specs.Text.Characters.{small_s, letter_s}
 use Rattle.gix_date.specs.Text.Names.{is_name, named_in, number_names}
 use Rattle.gix_date.specs.Text.Numbers.{int_value}
@@ -39,9 +40,10 @@ singular period =
 -- the units by their names
 abbrev pub unit_names : List (List ℕ × TimeUnit)
 unit_names =
-    (codes "second", Seconds (pos 1)) ∷ (codes "minute", Seconds (pos 60)) ∷ (codes "hour", Seconds (pos 3600))
-    ∷ (codes "day", Seconds (pos 86_400)) ∷ (codes "week", Seconds (pos 604_800))
-    ∷ (codes "month", Months (pos 1)) ∷ (codes "year", Months (pos 12)) ∷ []
+    (codes "second", Seconds (pos 1)) ∷ (codes "minute", Seconds (pos seconds_per_minute))
+    ∷ (codes "hour", Seconds (pos seconds_per_hour)) ∷ (codes "day", Seconds (pos seconds_per_day))
+    ∷ (codes "week", Seconds (pos (7 * seconds_per_day))) ∷ (codes "month", Months (pos 1))
+    ∷ (codes "year", Months (pos 12)) ∷ []
 
 -- the unit of this name
 unfoldable pub named_unit : List ℕ → Option TimeUnit

@@ -1,18 +1,18 @@
--- The places of a list: at each, what stands before it, what stands there, and what stands after.
-use Rattle.std.specs.Prelude.{Bool, true, false, ◌&&◌, ◌||◌, List, [], ◌∷◌, ◌++◌}
+-- The places of some words.
+use Rattle.std.specs.Prelude.{ℕ, List, [], ◌∷◌, ◌++◌}
 
-module _ {X : Type 0} (t : List X → X → List X → Bool) where
-  -- some place after the front passes
-  abbrev pub any_place : List X → List X → Bool
-  any_place front [] = false
-  any_place front (x ∷ xs) = t front x xs || any_place (front ++ x ∷ []) xs
+-- a word, and the words that stand before it and after it
+pub record Place : Type 0 where
+  pub front : List (List ℕ)
+  pub word : List ℕ
+  pub back : List (List ℕ)
 
-  -- each place after the front passes
-  abbrev pub all_places : List X → List X → Bool
-  all_places front [] = true
-  all_places front (x ∷ xs) = t front x xs && all_places (front ++ x ∷ []) xs
+-- the places of the words that stand after these, in order
+abbrev pub places_after : List (List ℕ) → List (List ℕ) → List Place
+places_after front [] = []
+places_after front (word ∷ back) =
+    record { front = front; word = word; back = back } ∷ places_after (front ++ word ∷ []) back
 
--- what each place gives, in order
-abbrev pub flat_places : {X Y : Type 0} → (List X → X → List X → List Y) → List X → List X → List Y
-flat_places f front [] = []
-flat_places f front (x ∷ xs) = f front x xs ++ flat_places f (front ++ x ∷ []) xs
+-- the places of all words
+abbrev pub places : List (List ℕ) → List Place
+places words = places_after [] words

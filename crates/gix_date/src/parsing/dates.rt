@@ -2,14 +2,14 @@
 ghost use Rattle.std.specs.Prelude.{◌≡◌, [], ◌∷◌, IfOk, IfSome, option_map};
 ghost use Rattle.jiff.specs.Words.{IsOffsetSeconds};
 ghost use Rattle.gix_date.specs.Families.Epoch.{at_time_by, epoch_time};
-ghost use Rattle.gix_date.specs.Families.Order.{Rfc2822, Gitoxide, GitDefault, GitForm, RelativeText, RawText, family_answer, first_family, first_family_by, ParseOutcome, RefusesUnknown, RefusesDate};
+ghost use Rattle.gix_date.specs.Families.Order.{Rfc2822, Gitoxide, GitDefault, GitForm, RelativeText, RawText, family_answer, first_family, first_family_by, ParseOutcome, ParseNoAllocOutcome, RefusesWithCopy, RefusesUnknown, RefusesDate};
 ghost use Rattle.gix_date.specs.Families.Raw.{allows};
 ghost use Rattle.gix_date.specs.Families.Shapes.{first_among_by, shape_families};
 ghost use Rattle.gix_date.specs.Private.Shapes.{first_among};
 ghost use Rattle.gix_date.specs.declared.parsing.shape.Shape.TheVariants.{AtSign, WholeNumber, DashedDay, DottedDay, Letter, Other};
 ghost use Rattle.gix_date.specs.Private.Views.{answer_of, HasJiffOffset};
 
-use crate::error::{Error, InputBytes};
+use crate::error::{Error, InputBytes, ParseError};
 use crate::parsing::answer::Answer;
 use crate::parsing::fields::skip_char;
 use crate::parsing::git::parse_git;
@@ -91,12 +91,45 @@ pub fn parse_with(
     ensures outcome { ParseOutcome (first_family_by (allows raw) input.now) input.now now.entry result }
     ensures offset_fits { IfOk result (λ t. IsOffsetSeconds t.offset) }
 {
+    match parse_no_alloc(input, now, raw) {
+        Ok(time) => Ok(time),
+        Err(refusal) => Err(with_copy(alloc, input, refusal)),
+    }
+}
+
+/// Reads a date as [`parse_with`] does, and takes no memory: it is handed no allocator, and its refusals are without
+/// the text.
+///
+/// [`ParseError::UnknownFormat`] where no family holds the text, or where the offset of a formatted date is above
+/// 23:59; [`ParseError::DateConversion`] where a day alone has no instant; [`ParseError::MissingNow`] for a relative
+/// text where no moment is given, and [`ParseError::Range`] for one that leaves the years -9999 to 9999, or the
+/// instants that `jiff` has.
+pub fn parse_no_alloc(
+    input: &str,
+    now: Option<Zoned<'_>>,
+    raw: RawOffsets,
+) -> Result<Time, ParseError>
+    ensures outcome { ParseNoAllocOutcome (first_family_by (allows raw) input.now) now.entry result }
+    ensures offset_fits { IfOk result (λ t. IsOffsetSeconds t.offset) }
+{
     match first_answer(input, raw) {
         Some(Answer::Absolute(time)) => Ok(time),
-        Some(Answer::OffsetBeyond) => Err(unknown_format(alloc, input)),
-        Some(Answer::InstantBeyond) => Err(date_conversion(alloc, input)),
+        Some(Answer::OffsetBeyond) => Err(ParseError::UnknownFormat),
+        Some(Answer::InstantBeyond) => Err(ParseError::DateConversion),
         Some(Answer::Relative(date)) => date.time(now),
-        None => Err(unknown_format(alloc, input)),
+        None => Err(ParseError::UnknownFormat),
+    }
+}
+
+/// The refusal with a copy of the text, where it has one.
+fn with_copy(alloc: Global, input: &str, refusal: ParseError) -> Error
+    ensures { RefusesWithCopy input.now refusal result }
+{
+    match refusal {
+        ParseError::UnknownFormat => unknown_format(alloc, input),
+        ParseError::DateConversion => date_conversion(alloc, input),
+        ParseError::MissingNow => Error::MissingNow,
+        ParseError::Range => Error::Range,
     }
 }
 

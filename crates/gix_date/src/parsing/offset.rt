@@ -5,7 +5,7 @@ ghost use Rattle.gix_date.specs.Fields.Offsets.{read_sign, last_pair, offset_fie
 
 use crate::parsing::fields::skip_char;
 use crate::parsing::numbers::{parse_two_digits, read_two_digits};
-use crate::time::{OffsetInSeconds, SECONDS_PER_HOUR};
+use crate::time::{OffsetInSeconds, SECONDS_PER_HOUR, SECONDS_PER_MINUTE};
 
 /// Which side of UTC an offset lies on.
 #[derive(Clone, Copy)]
@@ -32,8 +32,9 @@ impl OffsetFields {
     pub(crate) fn in_seconds(self) -> OffsetInSeconds
         ensures { result ≡ offset_of self }
     {
-        let whole_minutes = SECONDS_PER_HOUR * i32::from(self.hours) + 60 * i32::from(self.minutes);
-        let distance = whole_minutes + i32::from(self.seconds.unwrap_or(0));
+        let hours = SECONDS_PER_HOUR * i32::from(self.hours);
+        let minutes = SECONDS_PER_MINUTE * i32::from(self.minutes);
+        let distance = hours + minutes + i32::from(self.seconds.unwrap_or(0));
         match self.sign {
             Sign::Plus => distance,
             Sign::Minus => -distance,

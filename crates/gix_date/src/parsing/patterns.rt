@@ -16,13 +16,13 @@ use crate::parsing::patterns::fields::{
 use crate::parsing::patterns::offset::{
     parse_compact_offset, parse_mail_zone, parse_strict_offset,
 };
-use crate::time::{OffsetInSeconds, Time};
+use crate::time::{OffsetInSeconds, SECONDS_PER_DAY, SECONDS_PER_MINUTE, Time};
 
 mod fields;
 mod offset;
 
 /// The farthest offset of a formatted date: 23:59 either way.
-const MAX_OFFSET_IN_SECONDS: u32 = (23 * 60 + 59) * 60;
+const MAX_OFFSET_IN_SECONDS: u32 = SECONDS_PER_DAY as u32 - SECONDS_PER_MINUTE as u32;
 
 /// The beginning of a day.
 const MIDNIGHT: ClockFields = ClockFields {

@@ -7,16 +7,16 @@ use crate::parsing::numbers::parse_int;
 use crate::parsing::offset::{OffsetFields, parse_offset_fields};
 use crate::parsing::plain::parse_plain_fields;
 use crate::parsing::space_words::first_words;
-use crate::time::{OffsetInSeconds, Time};
+use crate::time::{MAX_HOUR, MAX_MINUTE, OffsetInSeconds, Time};
 
 /// The most hours of a raw offset, as gix-date has it.
 const MAX_HOURS: u8 = 14;
 
 /// The most hours of a raw offset by the wider rule: those of a day.
-const MAX_WIDE_HOURS: u8 = 23;
+const MAX_WIDE_HOURS: u8 = MAX_HOUR;
 
 /// The most minutes of a raw offset by the wider rule: those of an hour.
-const MAX_MINUTES: u8 = 59;
+const MAX_MINUTES: u8 = MAX_MINUTE;
 
 /// Which offsets a raw text may have, and the raw text of an at text.
 ///

@@ -11,12 +11,11 @@ ghost use Rattle.gix_date.specs.Relative.Steps.{zone_of, Chain};
 ghost use Rattle.gix_date.specs.Private.Steps.{ChooseAlike, IsAt, IsAtInstant};
 ghost use Rattle.gix_date.specs.Relative.Words.{relative_words};
 
-use crate::error::Error;
+use crate::error::ParseError;
 use crate::parsing::relative::pairs::next_pair;
 use crate::parsing::relative::scan::are_pairs;
 use crate::parsing::relative::steps::{earlier, settle, subtract};
-use crate::parsing::relative::words::SECONDS_PER_DAY;
-use crate::time::Time;
+use crate::time::{SECONDS_PER_DAY, Time};
 use jiff::tz::Offset;
 use jiff::{Timestamp, Zoned};
 
@@ -90,17 +89,17 @@ fn parse_named(name: &str) -> Option<Relative<'static>>
 impl<'a> Relative<'a> {
     /// The time that is asked for, from this moment: whole seconds, and the offset of the moment's zone there.
     ///
-    /// [`Error::MissingNow`] without a moment, and [`Error::Range`] where there is no such time.
-    pub(crate) fn time(self, now: Option<Zoned<'_>>) -> Result<Time, Error>
+    /// [`ParseError::MissingNow`] without a moment, and [`ParseError::Range`] where there is no such time.
+    pub(crate) fn time(self, now: Option<Zoned<'_>>) -> Result<Time, ParseError>
         ensures outcome { RelativeOutcome (relative_date_of self.entry) now.entry result }
         ensures offset_fits { IfOk result (λ t. IsOffsetSeconds t.offset) }
     {
         let Some(moment) = now else {
-            return Err(Error::MissingNow);
+            return Err(ParseError::MissingNow);
         };
         match self.time_from(moment) {
             Some(time) => Ok(time),
-            None => Err(Error::Range),
+            None => Err(ParseError::Range),
         }
     }
 

@@ -184,7 +184,7 @@ impl Time {
         ensures { Prints self.now format result }
     {
         match format {
-            Format::Custom(custom) => self.by_pattern(alloc, custom.pattern),
+            Format::Custom(custom) => self.format_by_pattern(alloc, custom.pattern),
             Format::Unix => self.unix_seconds(alloc),
             Format::Raw => self.header(alloc),
         }
@@ -204,6 +204,15 @@ impl Time {
         }
     }
 
+    /// The text of this time by a pattern, which need not be `'static` as that of a [`CustomFormat`] is.
+    ///
+    /// The refusals are those of [`Time::format`] by this pattern.
+    pub fn format_by_pattern(&self, alloc: Global, pattern: &str) -> Result<String, Error>
+        ensures { PrintsBy self.now pattern.now result }
+    {
+        pattern_text(alloc, pattern, &self.to_zoned()?)
+    }
+
     fn unix_seconds(self, alloc: Global) -> Result<String, Error>
         ensures { PrintsSeconds self result }
     {
@@ -217,12 +226,6 @@ impl Time {
             return Err(Error::OffsetTooWide);
         };
         copy_text(alloc, text.as_str())
-    }
-
-    fn by_pattern(self, alloc: Global, pattern: &str) -> Result<String, Error>
-        ensures { PrintsBy self pattern.now result }
-    {
-        pattern_text(alloc, pattern, &self.to_zoned()?)
     }
 
     /// This instant, in the zone that always has this offset.

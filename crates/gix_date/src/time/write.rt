@@ -7,7 +7,7 @@ ghost use Rattle.gix_date.specs.Header.Text.{header_text, max_text_len, Writes};
 
 use crate::device::{Sink, put_all};
 use crate::error::Error;
-use crate::time::{SECONDS_PER_HOUR, SecondsSinceUnixEpoch, Time};
+use crate::time::{SECONDS_PER_HOUR, SECONDS_PER_MINUTE, SecondsSinceUnixEpoch, Time};
 use arrayvec::ArrayString;
 use std::fmt;
 
@@ -106,7 +106,10 @@ pub(crate) fn header_text(time: Time) -> Option<ArrayString<MAX_TEXT_LEN>>
     text.push(' ');
     text.push(if time.offset < 0 { '-' } else { '+' });
     push_two_digits(&mut text, distance / SECONDS_PER_HOUR as u32);
-    push_two_digits(&mut text, distance % SECONDS_PER_HOUR as u32 / 60);
+    push_two_digits(
+        &mut text,
+        distance % SECONDS_PER_HOUR as u32 / SECONDS_PER_MINUTE as u32,
+    );
     Some(text)
 }
 

@@ -10,6 +10,7 @@ ghost use Rattle.gix_date.specs.Git.Clock.{digits_at_most, clock_of_fields, cloc
 use crate::parsing::civil::ClockFields;
 use crate::parsing::fields::has_colon;
 use crate::parsing::numbers::read_two_digits;
+use crate::time::{MAX_HOUR, MAX_MINUTE, MAX_SECOND};
 
 /// Reads the clock of a Git text: hours, and perhaps minutes and seconds, in digits alone. It ends at its first dot, if
 /// there is one, white space may stand round it, and all of it is ASCII.
@@ -78,16 +79,20 @@ fn parse_clock_with_colons(text: &str) -> Option<ClockFields>
     ensures fits { IfSome result ClockFits }
 {
     let Some((hours, rest)) = text.split_once(':') else {
-        return clock_of_fields(digits_at_most(23, text), Some(0), Some(0));
+        return clock_of_fields(digits_at_most(MAX_HOUR, text), Some(0), Some(0));
     };
     let Some((minutes, seconds)) = rest.split_once(':') else {
-        return clock_of_fields(digits_at_most(23, hours), digits_at_most(59, rest), Some(0));
+        return clock_of_fields(
+            digits_at_most(MAX_HOUR, hours),
+            digits_at_most(MAX_MINUTE, rest),
+            Some(0),
+        );
     };
     let seconds = before_colon(seconds);
     clock_of_fields(
-        digits_at_most(23, hours),
-        digits_at_most(59, minutes),
-        digits_at_most(59, seconds),
+        digits_at_most(MAX_HOUR, hours),
+        digits_at_most(MAX_MINUTE, minutes),
+        digits_at_most(MAX_SECOND, seconds),
     )
 }
 

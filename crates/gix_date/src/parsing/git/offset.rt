@@ -5,7 +5,7 @@ ghost use Rattle.gix_date.specs.Git.Forms.{without_colons, fields_of, offset_of_
 
 use crate::parsing::numbers::parse_two_digits;
 use crate::parsing::offset::{OffsetFields, Sign, read_sign};
-use crate::time::OffsetInSeconds;
+use crate::time::{MAX_HOUR, MAX_MINUTE, OffsetInSeconds};
 
 /// Reads the offset of a Git text: 0 where it is empty or `Z`, else a sign and, once all colons are struck out, two
 /// digits of hours up to 23 and perhaps two of minutes up to 59.
@@ -31,7 +31,7 @@ pub(crate) fn parse_git_offset(text: &str) -> Option<OffsetInSeconds>
 fn is_within_a_day(fields: OffsetFields) -> bool
     ensures { result ≡ is_within_a_day fields }
 {
-    fields.hours <= 23 && fields.minutes <= 59
+    fields.hours <= MAX_HOUR && fields.minutes <= MAX_MINUTE
 }
 
 /// Two digits of hours, or four of hours and minutes, among any colons.

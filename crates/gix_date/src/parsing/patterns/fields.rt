@@ -9,6 +9,7 @@ ghost use Rattle.gix_date.specs.Fields.DateFields.{skip_spaces, read_name, month
 use crate::parsing::civil::{ClockFields, DateFields};
 use crate::parsing::fields::skip_char;
 use crate::parsing::numbers::{read_field, read_year};
+use crate::time::MAX_SECOND;
 
 /// The names of months and of days of the week.
 const MONTHS: [&str; 12] = [
@@ -142,7 +143,7 @@ fn without_leap_second(second: u8) -> u8
     ensures value { result ≡ without_leap_second second }
     ensures small { result < 100 }
 {
-    if second == 60 { 59 } else { second }
+    if second == 60 { MAX_SECOND } else { second }
 }
 
 /// An hour, a minute and a second.

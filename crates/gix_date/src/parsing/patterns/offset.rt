@@ -6,14 +6,17 @@ ghost use Rattle.gix_date.specs.Fields.DateOffsets.{compact_offset, strict_offse
 use crate::parsing::fields::skip_char;
 use crate::parsing::numbers::{parse_two_digits, read_two_digits};
 use crate::parsing::offset::{OffsetFields, parse_offset_fields, read_sign};
-use crate::time::{OffsetInSeconds, SECONDS_PER_HOUR};
+use crate::time::{MAX_MINUTE, MAX_SECOND, OffsetInSeconds, SECONDS_PER_HOUR};
 
 /// The offset of fields: hours of at most 25, and minutes and seconds of at most 59.
 fn jiff_offset(fields: OffsetFields) -> Option<OffsetInSeconds>
     ensures value { result ≡ jiff_offset fields }
     ensures offset_fits { IfSome result (λ offset. IsOffsetSeconds offset) }
 {
-    if fields.hours <= 25 && fields.minutes <= 59 && fields.seconds.unwrap_or(0) <= 59 {
+    if fields.hours <= 25
+        && fields.minutes <= MAX_MINUTE
+        && fields.seconds.unwrap_or(0) <= MAX_SECOND
+    {
         Some(fields.in_seconds())
     } else {
         None

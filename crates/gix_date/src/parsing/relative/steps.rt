@@ -8,7 +8,8 @@ ghost use Rattle.gix_date.specs.Relative.Steps.{zone_of, Settles, SecondsStep, M
 ghost use Rattle.gix_date.specs.Private.Steps.{IsAt};
 
 use crate::parsing::relative::pairs::Pair;
-use crate::parsing::relative::words::{MONTHS_PER_YEAR, SECONDS_PER_DAY, TimeUnit};
+use crate::parsing::relative::words::{MONTHS_PER_YEAR, TimeUnit};
+use crate::time::SECONDS_PER_DAY;
 use jiff::civil::{Date, Time};
 use jiff::tz::TimeZone;
 use jiff::{SignedDuration, Zoned};

@@ -6,9 +6,7 @@ ghost use Rattle.gix_date.specs.Relative.Words.{relative_words, is_gap, count_of
 ghost use Rattle.gix_date.specs.Relative.Roles.{is_count_word, has_unit};
 
 use crate::parsing::numbers::parse_int;
-
-/// The seconds of a day in which the zone's offset does not change.
-pub(crate) const SECONDS_PER_DAY: i64 = 24 * 60 * 60;
+use crate::time::{SECONDS_PER_DAY, SECONDS_PER_HOUR, SECONDS_PER_MINUTE};
 
 pub(crate) const MONTHS_PER_YEAR: i64 = 12;
 
@@ -144,9 +142,9 @@ fn named_unit(name: &str) -> Option<TimeUnit>
     if name.eq_ignore_ascii_case("second") {
         Some(TimeUnit::Seconds(1))
     } else if name.eq_ignore_ascii_case("minute") {
-        Some(TimeUnit::Seconds(60))
+        Some(TimeUnit::Seconds(i64::from(SECONDS_PER_MINUTE)))
     } else if name.eq_ignore_ascii_case("hour") {
-        Some(TimeUnit::Seconds(60 * 60))
+        Some(TimeUnit::Seconds(i64::from(SECONDS_PER_HOUR)))
     } else if name.eq_ignore_ascii_case("day") {
         Some(TimeUnit::Seconds(SECONDS_PER_DAY))
     } else if name.eq_ignore_ascii_case("week") {

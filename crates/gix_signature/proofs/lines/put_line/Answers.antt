@@ -1,9 +1,8 @@
-use Rattle.std.proofs.Common.{rules, List, ℕ, Option, Err, IsSomeAnd, subst}
+use Rattle.std.proofs.Common.{rules, Err}
 use Rattle.std.specs.Prelude.{codes}
-use Rattle.gix_signature.specs.Signature.{line_of}
-use Rattle.gix_signature.specs.Writing.{parts_due, Puts}
+use Rattle.gix_signature.specs.Signature.{line_of, parts_of}
+use Rattle.gix_signature.specs.Writing.{Puts}
 use Rattle.gix_signature.proofs.Pieces.{Puts-more, Puts-after}
-use Rattle.gix_signature.proofs.Written.{parts-by}
 use Rattle.gix_signature.proofs.lines.put_line.Goals as goal
 
 pub returns-in_err-put_text-2 : goal.returns-in_err-put_text-2
@@ -12,10 +11,9 @@ returns-in_err-put_text-2 g c =
     let named = g.W.Sink.known c.put_text.new.out in
     let new = g.W.Sink.known c.put_text-2.new.out in
     let kind = c.in_err-put_text-2.field-0.0 in
-    let fact : IsSomeAnd (parts_due c.args.name.now c.args.mail.now c.args.time) (λ p. Puts old new (line_of p) (Err kind)) =
-    parts-by c.args.name.now c.args.mail.now c.args.time (λ line. Puts old new line (Err kind))
-    (λ text e. Puts-after old named new c.args.name.now _ (Err kind) c.in_ok-put_text.ensures
-    (Puts-more named new (codes " <") _ kind c.in_err-put_text-2.ensures)) c.requires in
+    let fact : Puts old new (line_of (parts_of c.args.parts)) (Err kind) =
+    Puts-after old named new c.args.parts.name.now _ (Err kind) c.in_ok-put_text.ensures
+    (Puts-more named new (codes " <") _ kind c.in_err-put_text-2.ensures) in
     search (rules, fact)
 
 pub returns-in_err-put_text-3 : goal.returns-in_err-put_text-3
@@ -25,11 +23,10 @@ returns-in_err-put_text-3 g c =
     let opened = g.W.Sink.known c.put_text-2.new.out in
     let new = g.W.Sink.known c.put_text-3.new.out in
     let kind = c.in_err-put_text-3.field-0.0 in
-    let fact : IsSomeAnd (parts_due c.args.name.now c.args.mail.now c.args.time) (λ p. Puts old new (line_of p) (Err kind)) =
-    parts-by c.args.name.now c.args.mail.now c.args.time (λ line. Puts old new line (Err kind))
-    (λ text e. Puts-after old named new c.args.name.now _ (Err kind) c.in_ok-put_text.ensures
+    let fact : Puts old new (line_of (parts_of c.args.parts)) (Err kind) =
+    Puts-after old named new c.args.parts.name.now _ (Err kind) c.in_ok-put_text.ensures
     (Puts-after named opened new (codes " <") _ (Err kind) c.in_ok-put_text-2.ensures
-    (Puts-more opened new c.args.mail.now _ kind c.in_err-put_text-3.ensures))) c.requires in
+    (Puts-more opened new c.args.parts.mail.now _ kind c.in_err-put_text-3.ensures)) in
     search (rules, fact)
 
 pub returns-in_err-put_text-4 : goal.returns-in_err-put_text-4
@@ -40,12 +37,11 @@ returns-in_err-put_text-4 g c =
     let mailed = g.W.Sink.known c.put_text-3.new.out in
     let new = g.W.Sink.known c.put_text-4.new.out in
     let kind = c.in_err-put_text-4.field-0.0 in
-    let fact : IsSomeAnd (parts_due c.args.name.now c.args.mail.now c.args.time) (λ p. Puts old new (line_of p) (Err kind)) =
-    parts-by c.args.name.now c.args.mail.now c.args.time (λ line. Puts old new line (Err kind))
-    (λ text e. Puts-after old named new c.args.name.now _ (Err kind) c.in_ok-put_text.ensures
+    let fact : Puts old new (line_of (parts_of c.args.parts)) (Err kind) =
+    Puts-after old named new c.args.parts.name.now _ (Err kind) c.in_ok-put_text.ensures
     (Puts-after named opened new (codes " <") _ (Err kind) c.in_ok-put_text-2.ensures
-    (Puts-after opened mailed new c.args.mail.now _ (Err kind) c.in_ok-put_text-3.ensures
-    (Puts-more mailed new (codes "> ") _ kind c.in_err-put_text-4.ensures)))) c.requires in
+    (Puts-after opened mailed new c.args.parts.mail.now _ (Err kind) c.in_ok-put_text-3.ensures
+    (Puts-more mailed new (codes "> ") _ kind c.in_err-put_text-4.ensures))) in
     search (rules, fact)
 
 pub returns : goal.returns
@@ -55,12 +51,9 @@ returns g c =
     let opened = g.W.Sink.known c.put_text-2.new.out in
     let mailed = g.W.Sink.known c.put_text-3.new.out in
     let closed = g.W.Sink.known c.put_text-4.new.out in
-    let new = g.W.Sink.known c.put_time.new.out in
-    let r = c.put_time.result in
-    parts-by c.args.name.now c.args.mail.now c.args.time (λ line. Puts old new line r)
-    (λ text e.
-    let timed : Puts closed new text r = subst (λ (o : Option (List ℕ)). IsSomeAnd o (λ t. Puts closed new t r)) e c.put_time.ensures in
-    Puts-after old named new c.args.name.now _ r c.in_ok-put_text.ensures
+    let new = g.W.Sink.known c.put_text-5.new.out in
+    let r = c.put_text-5.result in
+    Puts-after old named new c.args.parts.name.now _ r c.in_ok-put_text.ensures
     (Puts-after named opened new (codes " <") _ r c.in_ok-put_text-2.ensures
-    (Puts-after opened mailed new c.args.mail.now _ r c.in_ok-put_text-3.ensures
-    (Puts-after mailed closed new (codes "> ") _ r c.in_ok-put_text-4.ensures timed)))) c.requires
+    (Puts-after opened mailed new c.args.parts.mail.now _ r c.in_ok-put_text-3.ensures
+    (Puts-after mailed closed new (codes "> ") _ r c.in_ok-put_text-4.ensures c.put_text-5.ensures)))

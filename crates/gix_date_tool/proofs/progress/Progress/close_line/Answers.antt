@@ -4,14 +4,14 @@ use Rattle.gix_date_tool.specs.Replies.{IsReply}
 use Rattle.gix_date_tool.proofs.Taking.{Replied-one}
 use Rattle.gix_date_tool.proofs.progress.Progress.close_line.Goals as goal
 
-pub returns-in-Err-push_to : goal.returns-in-Err-push_to
-returns-in-Err-push_to g c =
+pub returns-in-Err : goal.returns-in-Err
+returns-in-Err g c =
     let asked = c.args.self.now.asked in
     let line = c.args.self.now.line.items in
     let before = output c.args.self.now.outbox (g.W.Sink.known c.args.writer.now) in
     let after = output c.push_to.new.outbox (g.W.Sink.known c.push_to.new.out) in
-    let is = subst (λ bytes. IsReply asked bytes c.in-Ok.reply) c.as_slice.ensures.value c.in-Ok.ensures.is in
-    Replied-one {Is = λ text. PutsProperPrefix before after text c.in-Err-push_to.kind} asked line c.in-Ok.reply is c.in-Err-push_to.ensures
+    let is = subst (λ bytes. IsReply asked bytes c.reply_to-reply.result) c.as_slice.ensures.value c.reply_to-reply.ensures.is in
+    Replied-one {Is = λ text. PutsProperPrefix before after text c.in-Err.kind} asked line c.reply_to-reply.result is c.in-Err.ensures
 
 pub returns : goal.returns
 returns g c =
@@ -19,8 +19,8 @@ returns g c =
     let line = c.args.self.now.line.items in
     let before = output c.args.self.now.outbox (g.W.Sink.known c.args.writer.now) in
     let after = output c.push_to.new.outbox (g.W.Sink.known c.push_to.new.out) in
-    let is = subst (λ bytes. IsReply asked bytes c.in-Ok.reply) c.as_slice.ensures.value c.in-Ok.ensures.is in
+    let is = subst (λ bytes. IsReply asked bytes c.reply_to-reply.result) c.as_slice.ensures.value c.reply_to-reply.ensures.is in
     record {
       same = rw c.clear.ensures.items refl;
-      put = Replied-one {Is = Puts before after} asked line c.in-Ok.reply is c.in_default.ensures;
+      put = Replied-one {Is = Puts before after} asked line c.reply_to-reply.result is c.in_default.ensures;
     }

@@ -1,19 +1,14 @@
-use Rattle.std.proofs.Common.{arith, rules, ◌≡◌, ◌<◌, length, Bool, false, List, ℕ, [], ◌∷◌, ◌++◌, ◌∙◌, sym, ap, refl, subst, append_assoc, Ok, Err}
-use Rattle.std.proofs.lemmas.Bool.Decides.{nat_tests}
-use Rattle.std.specs.Prelude.{◌==◌}
+use Rattle.std.proofs.Common.{rules, ◌≡◌, List, ℕ, [], ◌∷◌, ◌++◌, ◌∙◌, sym, ap, refl, subst, append_assoc, Ok, Err}
 use Rattle.gix_date.specs.Text.Characters.{newline}
 use Rattle.gix_date_tool.specs.Lines.{with_newline}
 use Rattle.gix_date_tool.specs.Progress.{stage, TakesIn}
-use Rattle.gix_date_tool.proofs.Taking.{TakesIn-then, TakesIn-beyond, TakesIn-last, TookIn-nil, IsReady-extended}
+use Rattle.gix_date_tool.proofs.Taking.{TakesIn-then, TakesIn-beyond, TakesIn-last, some_byte, TookIn-nil, IsReady-extended}
 use Rattle.gix_date_tool.proofs.progress.Progress.take_in.Goals as goal
 
 -- a front, then a line with its newline, then the rest
 with_line : (bytes front rest part after : List ℕ) → bytes ≡ front ++ rest → rest ≡ part ++ newline ∷ after → bytes ≡ (front ++ with_newline part) ++ after
 with_line bytes front rest part after e k = e ∙ ap (λ xs. front ++ xs) (k ∙ sym (append_assoc part (newline ∷ []) after))
     ∙ sym (append_assoc front (with_newline part) after)
-
-some_byte : (xs : List ℕ) (b : Bool) → b ≡ (length xs == 0) → b ≡ false → 0 < length xs
-some_byte xs b e h = grind (arith, nat_tests)
 
 pub loop-part-init : goal.loop-part-init
 loop-part-init g c = record {

@@ -1,0 +1,42 @@
+/* Makes one call of gix_date.h so many times: calls KIND COUNT TEXT. */
+#include "gix_date.h"
+
+#include <stdio.h>
+#include <stdlib.h>
+#include <string.h>
+
+static const gix_date_instant now = {1698400800, 0};
+static const gix_date_time day = {1660797906, 28800};
+
+/* One call, by the first letter of its kind; the rest of the kind of a format is its number. */
+static uint32_t call(const char *kind, const uint8_t *text, size_t len)
+{
+    gix_date_time time;
+    uint8_t out[64];
+    size_t out_len;
+    switch (kind[0]) {
+    case 'h':
+        return gix_date_parse_header(text, len, &time);
+    case 'w':
+        return gix_date_write_header(&day, out, sizeof out, &out_len);
+    case 'p':
+        return gix_date_parse(text, len, GIX_DATE_QUARTERS, &time);
+    case 'r':
+        return gix_date_parse_at_offset(text, len, GIX_DATE_QUARTERS, &now, 0, &time);
+    default:
+        return gix_date_format(&day, (uint32_t)strtoul(kind + 1, NULL, 10), out, sizeof out,
+                               &out_len);
+    }
+}
+
+int main(int count, char **words)
+{
+    if (count != 4)
+        return 2;
+    size_t len = strlen(words[3]);
+    uint32_t status = 0;
+    for (long i = strtol(words[2], NULL, 10); i > 0; i--)
+        status |= call(words[1], (const uint8_t *)words[3], len);
+    printf("%u\n", (unsigned)status);
+    return 0;
+}

@@ -1,0 +1,471 @@
+/* Calls each function of gix_date.h on rows with outside values, on bad input, and by sixteen
+ * threads at once. Counts what the library asks malloc and realloc for: link with
+ * -Wl,--wrap=malloc,--wrap=realloc. */
+#include "gix_date.h"
+
+#include <pthread.h>
+#include <stdatomic.h>
+#include <stdio.h>
+#include <stdlib.h>
+#include <string.h>
+
+static atomic_size_t requests;
+static _Atomic bool refuses;
+
+void *__real_malloc(size_t size);
+void *__real_realloc(void *block, size_t size);
+void *__wrap_malloc(size_t size);
+void *__wrap_realloc(void *block, size_t size);
+
+void *__wrap_malloc(size_t size)
+{
+    requests++;
+    return refuses ? NULL : __real_malloc(size);
+}
+
+void *__wrap_realloc(void *block, size_t size)
+{
+    requests++;
+    return refuses ? NULL : __real_realloc(block, size);
+}
+
+static atomic_int failures;
+
+#define EXPECT(holds, ...)                                                                         \
+    do {                                                                                           \
+        if (!(holds)) {                                                                            \
+            failures++;                                                                            \
+            fprintf(stderr, "%s:%d: %s: ", __FILE__, __LINE__, #holds);                            \
+            fprintf(stderr, __VA_ARGS__);                                                          \
+            fputc('\n', stderr);                                                                   \
+        }                                                                                          \
+    } while (0)
+
+/* A text and its length. */
+#define TEXT(text) (const uint8_t *)(text), strlen(text)
+#define BYTES(bytes) (const uint8_t *)(bytes), sizeof(bytes) - 1
+
+/* What no call stores. */
+static const gix_date_time untouched = {-77, -7};
+
+static bool is_time(gix_date_time time, int64_t seconds, int32_t offset)
+{
+    return time.seconds == seconds && time.offset == offset;
+}
+
+static void headers(void)
+{
+    static const struct {
+        const char *text;
+        uint32_t status;
+        gix_date_time time;
+        bool canonical;
+    } rows[] = {
+        {"1660874655 +0800", GIX_DATE_OK, {1660874655, 28800}, true},
+        {"-5 -0130", GIX_DATE_OK, {-5, -5400}, true},
+        {"12abc +0100", GIX_DATE_OK, {12, 3600}, false},
+        {"0 -0000", GIX_DATE_OK, {0, 0}, false},
+        {"", GIX_DATE_INVALID_TIME, {0, 0}, false},
+        {"1:2", GIX_DATE_INVALID_TIME, {0, 0}, false},
+        {"yesterday", GIX_DATE_INVALID_TIME, {0, 0}, false},
+    };
+    for (size_t i = 0; i < sizeof rows / sizeof *rows; i++) {
+        gix_date_time time = untouched,
+                      wanted = rows[i].status == GIX_DATE_OK ? rows[i].time : untouched;
+        uint32_t status = gix_date_parse_header(TEXT(rows[i].text), &time);
+        EXPECT(status == rows[i].status, "%s: %u", rows[i].text, status);
+        EXPECT(is_time(time, wanted.seconds, wanted.offset), "%s: %lld", rows[i].text,
+               (long long)time.seconds);
+        EXPECT(gix_date_is_canonical_header(TEXT(rows[i].text)) == rows[i].canonical, "%s",
+               rows[i].text);
+    }
+    gix_date_time time = untouched;
+    EXPECT(gix_date_parse_header(BYTES("12\xff"), &time) == GIX_DATE_NOT_TEXT,
+           "a byte that is no text");
+    EXPECT(is_time(time, untouched.seconds, untouched.offset), "stored for no text");
+    EXPECT(!gix_date_is_canonical_header(BYTES("\xff")), "a byte that is no text");
+    EXPECT(gix_date_parse_header(BYTES("1"), &time) == GIX_DATE_OK && is_time(time, 1, 0),
+           "one byte");
+}
+
+/* Texts and buffers of no bytes, at NULL. */
+static void null_pointers(void)
+{
+    static const gix_date_time day = {1660797906, 28800};
+    static const gix_date_instant now = {0, 0};
+    gix_date_time time = untouched;
+    gix_date_signature parts;
+    size_t len = 99;
+    EXPECT(gix_date_parse_header(NULL, 0, &time) == GIX_DATE_INVALID_TIME, "a header");
+    EXPECT(!gix_date_is_canonical_header(NULL, 0), "a header");
+    EXPECT(gix_date_parse(NULL, 0, 0, &time) == GIX_DATE_UNKNOWN_FORMAT, "a date");
+    EXPECT(gix_date_parse_at_offset(NULL, 0, 0, &now, 0, &time) == GIX_DATE_UNKNOWN_FORMAT,
+           "a date");
+    EXPECT(gix_date_parse_in_posix_zone(TEXT("now"), 0, &now, NULL, 0, &time) ==
+               GIX_DATE_INVALID_ZONE,
+           "a rule");
+    EXPECT(gix_date_cut_signature(NULL, 0, &parts) == GIX_DATE_NO_SIGNATURE, "a line");
+    EXPECT(is_time(time, untouched.seconds, untouched.offset), "a refusal stores nothing");
+    EXPECT(gix_date_write_header(&day, NULL, 0, &len) == GIX_DATE_NO_ROOM && len == 16, "%zu", len);
+    EXPECT(gix_date_write_signature(NULL, 0, NULL, 0, &day, NULL, 0, &len) == GIX_DATE_NO_ROOM &&
+               len == 20,
+           "%zu", len);
+}
+
+/* Whether a call put this text at the front of a buffer full of '#', and touched no other byte. */
+static bool holds(const char *buffer, size_t room, const char *text, size_t len)
+{
+    if (len != strlen(text) || len > room || memcmp(buffer, text, len) != 0)
+        return false;
+    for (size_t i = len; i < room; i++)
+        if (buffer[i] != '#')
+            return false;
+    return true;
+}
+
+static bool is_untouched(const char *buffer, size_t room)
+{
+    return holds(buffer, room, "", 0);
+}
+
+static void written_headers(void)
+{
+    static const gix_date_time least = {INT64_MIN, -359999}, wide = {0, 360000};
+    const char *text = "-9223372036854775808 -9959";
+    for (size_t room = 0; room <= 28; room++) {
+        char *buffer = malloc(room + 1);
+        memset(buffer, '#', room + 1);
+        size_t len = 99, before = requests;
+        uint32_t status = gix_date_write_header(&least, (uint8_t *)buffer, room, &len);
+        EXPECT(requests == before, "memory was asked for");
+        EXPECT(len == GIX_DATE_MAX_HEADER, "%zu", len);
+        EXPECT(status == (room < 26 ? GIX_DATE_NO_ROOM : GIX_DATE_OK), "%zu: %u", room, status);
+        EXPECT(room < 26 ? is_untouched(buffer, room + 1) : holds(buffer, room + 1, text, len),
+               "%zu", room);
+        EXPECT(gix_date_write_header(&wide, (uint8_t *)buffer, room, &len) ==
+                   GIX_DATE_OFFSET_TOO_WIDE,
+               "%zu", room);
+        EXPECT(len == 0, "%zu", len);
+        free(buffer);
+    }
+}
+
+static void dates(void)
+{
+    static const struct {
+        const char *text;
+        uint32_t raw_offsets, status;
+        gix_date_time time;
+    } rows[] = {
+        {"@1745582210 +0200", 0, GIX_DATE_OK, {1745582210, 7200}},
+        {"@-1000", 0, GIX_DATE_OK, {-1000, 0}},
+        {"2018-12-24", 0, GIX_DATE_OK, {1545609600, 0}},
+        {"Thu, 18 Aug 2022 12:45:06 +0800", 0, GIX_DATE_OK, {1660797906, 28800}},
+        {"2022-08-18 12:45:06 +0800", 0, GIX_DATE_OK, {1660797906, 28800}},
+        {"2022-08-18T12:45:06+08:00", 0, GIX_DATE_OK, {1660797906, 28800}},
+        {"Thu Aug 18 2022 12:45:06 +0800", 0, GIX_DATE_OK, {1660797906, 28800}},
+        {"Thu Aug 18 12:45:06 2022 +0800", 0, GIX_DATE_OK, {1660797906, 28800}},
+        {"1700000000", 0, GIX_DATE_OK, {1700000000, 0}},
+        {"2008.02.14 20:30:45 -0500", 0, GIX_DATE_OK, {1203039045, -18000}},
+        {"20080214T203045.019-04:00", 0, GIX_DATE_OK, {1203035445, -14400}},
+        {"1660874655 +0800", 0, GIX_DATE_OK, {1660874655, 28800}},
+        {"@5 +0007", 0, GIX_DATE_UNKNOWN_FORMAT, {0, 0}},
+        {"@5 +0007", 1, GIX_DATE_OK, {5, 420}},
+        {"1660797906 -235900", 0, GIX_DATE_UNKNOWN_FORMAT, {0, 0}},
+        {"1660797906 -235900", 1, GIX_DATE_OK, {1660797906, -86340}},
+        {"", 0, GIX_DATE_UNKNOWN_FORMAT, {0, 0}},
+        {"banana", 1, GIX_DATE_UNKNOWN_FORMAT, {0, 0}},
+        {"9999-12-31", 0, GIX_DATE_DATE_CONVERSION, {0, 0}},
+        {"yesterday", 0, GIX_DATE_MISSING_NOW, {0, 0}},
+        {"2018-12-24", 2, GIX_DATE_NO_SUCH_OPTION, {0, 0}},
+    };
+    for (size_t i = 0; i < sizeof rows / sizeof *rows; i++) {
+        gix_date_time time = untouched,
+                      wanted = rows[i].status == GIX_DATE_OK ? rows[i].time : untouched;
+        uint32_t status = gix_date_parse(TEXT(rows[i].text), rows[i].raw_offsets, &time);
+        EXPECT(status == rows[i].status, "%s: %u", rows[i].text, status);
+        EXPECT(is_time(time, wanted.seconds, wanted.offset), "%s: %lld", rows[i].text,
+               (long long)time.seconds);
+    }
+    gix_date_time time = untouched;
+    EXPECT(gix_date_parse(BYTES("2018\xc3"), 0, &time) == GIX_DATE_NOT_TEXT, "half a character");
+}
+
+static void relative_dates(void)
+{
+    static const gix_date_instant now = {1698400800, 0}, beyond = {253402207201, 0},
+                                  odd = {0, 1000000000};
+    static const gix_date_instant in_fold = {1699165800, 0};
+    const char *rule = "EST5EDT,M3.2.0,M11.1.0";
+    gix_date_time time = untouched;
+    EXPECT(gix_date_parse_at_offset(TEXT("yesterday"), 0, &now, 7200, &time) == GIX_DATE_OK,
+           "yesterday");
+    EXPECT(is_time(time, 1698314400, 7200), "%lld", (long long)time.seconds);
+    EXPECT(gix_date_parse_at_offset(TEXT("1 month 2 days ago"), 0, &now, 7200, &time) ==
+               GIX_DATE_OK,
+           "a month and two days");
+    EXPECT(is_time(time, 1695636000, 7200), "%lld", (long long)time.seconds);
+    EXPECT(gix_date_parse_at_offset(TEXT("@0"), 0, &now, 7200, &time) == GIX_DATE_OK &&
+               is_time(time, 0, 0),
+           "@0");
+    EXPECT(gix_date_parse_in_posix_zone(TEXT("now"), 0, &in_fold, TEXT(rule), &time) == GIX_DATE_OK,
+           "now");
+    EXPECT(is_time(time, 1699165800, -18000), "%lld %d", (long long)time.seconds, (int)time.offset);
+    EXPECT(gix_date_parse_in_posix_zone(TEXT("1 hour ago"), 0, &in_fold, TEXT(rule), &time) ==
+               GIX_DATE_OK,
+           "1 hour ago");
+    EXPECT(is_time(time, 1699158600, -14400), "%lld %d", (long long)time.seconds, (int)time.offset);
+
+    time = untouched;
+    EXPECT(gix_date_parse_at_offset(TEXT("12023 years ago"), 0, &now, 0, &time) == GIX_DATE_RANGE,
+           "too long ago");
+    EXPECT(gix_date_parse_at_offset(TEXT("now"), 0, &now, 93600, &time) == GIX_DATE_INVALID_ZONE,
+           "26 hours");
+    EXPECT(gix_date_parse_at_offset(TEXT("now"), 0, &beyond, 0, &time) == GIX_DATE_INVALID_INSTANT,
+           "beyond the last instant");
+    EXPECT(gix_date_parse_at_offset(TEXT("now"), 0, &odd, 0, &time) == GIX_DATE_INVALID_INSTANT,
+           "a second of nanoseconds");
+    EXPECT(gix_date_parse_at_offset(BYTES("\xff"), 0, &now, 0, &time) == GIX_DATE_NOT_TEXT,
+           "no text");
+    EXPECT(gix_date_parse_at_offset(TEXT("banana"), 0, &now, 0, &time) == GIX_DATE_UNKNOWN_FORMAT,
+           "no date");
+    EXPECT(gix_date_parse_at_offset(TEXT("now"), 7, &now, 0, &time) == GIX_DATE_NO_SUCH_OPTION,
+           "no rule");
+    EXPECT(gix_date_parse_in_posix_zone(TEXT("now"), 0, &now, TEXT("banana"), &time) ==
+               GIX_DATE_INVALID_ZONE,
+           "no rule");
+    EXPECT(gix_date_parse_in_posix_zone(TEXT("now"), 0, &now, BYTES("\xff"), &time) ==
+               GIX_DATE_NOT_TEXT,
+           "no text");
+    EXPECT(is_time(time, untouched.seconds, untouched.offset), "a refusal stores nothing");
+}
+
+/* New York's zone as a file: version 2, no transition, and the rule. */
+static const char zone_file[] = "TZif2\0\0\0\0\0\0\0\0\0\0\0\0\0\0\0\0\0\0\0\0\0\0\0\0\0\0\0\0\0\0"
+                                "\0\0\0\0\1\0\0\0\4\0\0\0\0\0\0EST\0"
+                                "TZif2\0\0\0\0\0\0\0\0\0\0\0\0\0\0\0\0\0\0\0\0\0\0\0\0\0\0\0\0\0\0"
+                                "\0\0\0\0\1\0\0\0\4\xff\xff\xb9\xb0\0\0EST\0"
+                                "\nEST5EDT,M3.2.0,M11.1.0\n";
+
+static void zone_files(void)
+{
+    static const gix_date_instant now = {1699165800, 0};
+    gix_date_time time = untouched;
+    size_t before = requests;
+    EXPECT(gix_date_parse_in_tzif_zone(TEXT("1 hour ago"), 0, &now, BYTES(zone_file), &time) ==
+               GIX_DATE_OK,
+           "1 hour ago");
+    EXPECT(is_time(time, 1699158600, -14400), "%lld %d", (long long)time.seconds, (int)time.offset);
+    size_t taken = requests - before;
+    time = untouched;
+    for (size_t len = 0; len < sizeof zone_file - 1; len++)
+        EXPECT(gix_date_parse_in_tzif_zone(TEXT("now"), 0, &now, (const uint8_t *)zone_file, len,
+                                           &time) == GIX_DATE_INVALID_ZONE,
+               "a file of %zu bytes", len);
+    refuses = true;
+    uint32_t status = gix_date_parse_in_tzif_zone(TEXT("now"), 0, &now, BYTES(zone_file), &time);
+    refuses = false;
+    EXPECT(status == (taken > 0 ? GIX_DATE_OUT_OF_MEMORY : GIX_DATE_OK), "%u after %zu requests",
+           status, taken);
+    EXPECT(taken == 0 || is_time(time, untouched.seconds, untouched.offset),
+           "a refusal stores nothing");
+}
+
+typedef uint32_t formatter(const gix_date_time *, uint32_t, uint8_t *, size_t, size_t *);
+
+static void formats(formatter *format)
+{
+    static const char *const texts[] = {
+        "2022-08-18",
+        "Thu, 18 Aug 2022 12:45:06 +0800",
+        "Thu, 18 Aug 2022 12:45:06 +0800",
+        "2022-08-18 12:45:06 +0800",
+        "2022-08-18T12:45:06+08:00",
+        "Thu Aug 18 2022 12:45:06 +0800",
+        "Thu Aug 18 12:45:06 2022 +0800",
+        "1660797906",
+        "1660797906 +0800",
+    };
+    static const gix_date_time time = {1660797906, 28800};
+    for (uint32_t i = 0; i < sizeof texts / sizeof *texts; i++) {
+        for (size_t room = 0; room <= strlen(texts[i]) + 1; room++) {
+            char *buffer = malloc(room + 1);
+            memset(buffer, '#', room + 1);
+            size_t len = 99;
+            uint32_t status = format(&time, i, (uint8_t *)buffer, room, &len);
+            bool fits = room >= strlen(texts[i]);
+            EXPECT(status == (fits ? GIX_DATE_OK : GIX_DATE_NO_ROOM) && len == strlen(texts[i]),
+                   "%s: %u", texts[i], status);
+            EXPECT(fits ? holds(buffer, room + 1, texts[i], len) : is_untouched(buffer, room + 1),
+                   "%s", texts[i]);
+            free(buffer);
+        }
+    }
+    char buffer[64];
+    size_t len = 99;
+    memset(buffer, '#', sizeof buffer);
+    EXPECT(format(&time, 9, (uint8_t *)buffer, sizeof buffer, &len) == GIX_DATE_NO_SUCH_OPTION &&
+               len == 0,
+           "format 9");
+    refuses = true;
+    EXPECT(format(&time, GIX_DATE_ISO8601, (uint8_t *)buffer, sizeof buffer, &len) ==
+               GIX_DATE_OUT_OF_MEMORY,
+           "no memory");
+    refuses = false;
+    EXPECT(len == 0 && is_untouched(buffer, sizeof buffer), "a refusal stores nothing");
+}
+
+static void refused_formats(void)
+{
+    static const gix_date_time wide = {5, 360000}, far = {INT64_MAX, 0}, day = {1660797906, 28800};
+    char buffer[64];
+    uint8_t *out = (uint8_t *)buffer;
+    size_t len;
+    memset(buffer, '#', sizeof buffer);
+    EXPECT(gix_date_format(&wide, GIX_DATE_RAW, out, sizeof buffer, &len) ==
+               GIX_DATE_OFFSET_TOO_WIDE,
+           "raw");
+    EXPECT(gix_date_format(&far, GIX_DATE_ISO8601, out, sizeof buffer, &len) == GIX_DATE_CONVERSION,
+           "the last second");
+    EXPECT(gix_date_format_by_pattern(&far, TEXT("%Y"), out, sizeof buffer, &len) ==
+               GIX_DATE_CONVERSION,
+           "the last second");
+    EXPECT(gix_date_format_by_pattern(&day, TEXT("%!"), out, sizeof buffer, &len) ==
+               GIX_DATE_PATTERN,
+           "no directive");
+    EXPECT(gix_date_format_by_pattern(&day, BYTES("\xff"), out, sizeof buffer, &len) ==
+                   GIX_DATE_NOT_TEXT &&
+               len == 0,
+           "no text");
+    EXPECT(gix_date_format_by_pattern_or_unix(&day, BYTES("\xff"), out, sizeof buffer, &len) ==
+               GIX_DATE_NOT_TEXT,
+           "no text");
+    EXPECT(is_untouched(buffer, sizeof buffer), "a refusal stores nothing");
+    EXPECT(gix_date_format_or_unix(&wide, GIX_DATE_RAW, out, sizeof buffer, &len) == GIX_DATE_OK,
+           "raw");
+    EXPECT(holds(buffer, sizeof buffer, "5", len), "the seconds of 5");
+    EXPECT(gix_date_format_by_pattern(&day, TEXT("%H:%M"), out, sizeof buffer, &len) == GIX_DATE_OK,
+           "a clock");
+    EXPECT(len == 5 && memcmp(buffer, "12:45", 5) == 0, "a clock");
+    EXPECT(gix_date_format_by_pattern(&day, TEXT("%H:%M"), out, 4, &len) == GIX_DATE_NO_ROOM &&
+               len == 5,
+           "four bytes");
+    EXPECT(gix_date_format_by_pattern_or_unix(&day, TEXT("%!"), out, sizeof buffer, &len) ==
+               GIX_DATE_OK,
+           "no directive");
+    EXPECT(len == 10 && memcmp(buffer, "1660797906", 10) == 0, "the seconds");
+}
+
+/* Whether a part of a line is this text. */
+static bool is_part(const char *line, gix_date_span part, const char *text)
+{
+    return part.len == strlen(text) && memcmp(line + part.start, text, part.len) == 0;
+}
+
+static void signatures(void)
+{
+    static const gix_date_time time = {1660874655, 28800}, wide = {0, 360000};
+    const char *line = "A U Thor <author@example.com> 1660874655 +0800";
+    gix_date_signature parts = {{9, 9}, {9, 9}, {9, 9}};
+    EXPECT(gix_date_cut_signature(TEXT(line), &parts) == GIX_DATE_OK, "%s", line);
+    EXPECT(is_part(line, parts.name, "A U Thor") && is_part(line, parts.mail, "author@example.com"),
+           "%s", line);
+    EXPECT(is_part(line, parts.time, "1660874655 +0800") && parts.name.start == 0, "%s", line);
+    gix_date_signature same = {{9, 9}, {9, 9}, {9, 9}};
+    EXPECT(gix_date_cut_signature(TEXT("A <a>"), &same) == GIX_DATE_NO_SIGNATURE, "no time");
+    EXPECT(gix_date_cut_signature(TEXT(""), &same) == GIX_DATE_NO_SIGNATURE, "no line");
+    EXPECT(gix_date_cut_signature(BYTES("A <\xff> 1"), &same) == GIX_DATE_NOT_TEXT, "no text");
+    EXPECT(same.name.start == 9 && same.mail.len == 9 && same.time.len == 9,
+           "a refusal stores nothing");
+
+    size_t wanted = strlen(line);
+    for (size_t room = 0; room <= wanted + 1; room++) {
+        char *buffer = malloc(room + 1);
+        memset(buffer, '#', room + 1);
+        size_t len = 99;
+        uint32_t status = gix_date_write_signature(TEXT("A U Thor"), TEXT("author@example.com"),
+                                                   &time, (uint8_t *)buffer, room, &len);
+        EXPECT(status == (room < wanted ? GIX_DATE_NO_ROOM : GIX_DATE_OK) && len == wanted,
+               "%zu: %u", room, status);
+        EXPECT(room < wanted ? is_untouched(buffer, room + 1) : holds(buffer, room + 1, line, len),
+               "%zu", room);
+        free(buffer);
+    }
+    char buffer[64];
+    uint8_t *out = (uint8_t *)buffer;
+    size_t len = 99;
+    memset(buffer, '#', sizeof buffer);
+    EXPECT(gix_date_write_signature(TEXT("A>"), TEXT("a"), &time, out, sizeof buffer, &len) ==
+               GIX_DATE_BAD_PART,
+           "A>");
+    EXPECT(gix_date_write_signature(TEXT("A"), BYTES("a\0"), &time, out, sizeof buffer, &len) ==
+               GIX_DATE_BAD_PART,
+           "NUL");
+    EXPECT(gix_date_write_signature(TEXT("A"), TEXT("a"), &wide, out, sizeof buffer, &len) ==
+               GIX_DATE_OFFSET_TOO_WIDE,
+           "wide");
+    EXPECT(gix_date_write_signature(BYTES("\xff"), TEXT("a"), &time, out, sizeof buffer, &len) ==
+               GIX_DATE_NOT_TEXT,
+           "no text");
+    EXPECT(len == 0 && is_untouched(buffer, sizeof buffer), "a refusal stores nothing");
+    EXPECT(gix_date_write_signature(TEXT(""), TEXT(""), &time, out, sizeof buffer, &len) ==
+               GIX_DATE_OK,
+           "empty parts");
+    EXPECT(holds(buffer, sizeof buffer, " <> 1660874655 +0800", len), "empty parts");
+}
+
+/* Runs what has to ask for no memory, and sees that it did not. */
+static void without_memory(void (*rows)(void), const char *name)
+{
+    size_t before = requests;
+    rows();
+    EXPECT(requests == before, "%s asked for memory %zu times", name, (size_t)requests - before);
+}
+
+static void *reads_and_formats(void *unused)
+{
+    (void)unused;
+    for (int i = 0; i < 200; i++) {
+        headers();
+        dates();
+        relative_dates();
+        char buffer[64];
+        size_t len;
+        static const gix_date_time time = {1660797906, 28800};
+        EXPECT(gix_date_format(&time, GIX_DATE_ISO8601, (uint8_t *)buffer, sizeof buffer, &len) ==
+                   GIX_DATE_OK,
+               "a thread");
+        EXPECT(len == 25 && memcmp(buffer, "2022-08-18 12:45:06 +0800", 25) == 0, "a thread");
+    }
+    return NULL;
+}
+
+static void threads(void)
+{
+    pthread_t all[16];
+    for (int i = 0; i < 16; i++)
+        if (pthread_create(&all[i], NULL, reads_and_formats, NULL) != 0)
+            abort();
+    for (int i = 0; i < 16; i++)
+        pthread_join(all[i], NULL);
+}
+
+int main(void)
+{
+    EXPECT(gix_date_version() == GIX_DATE_VERSION_NUMBER, "%u", gix_date_version());
+    without_memory(headers, "headers");
+    without_memory(null_pointers, "texts at NULL");
+    without_memory(dates, "dates");
+    without_memory(relative_dates, "relative dates");
+    written_headers();
+    zone_files();
+    formats(gix_date_format);
+    formats(gix_date_format_or_unix);
+    refused_formats();
+    signatures();
+    threads();
+    if (failures > 0)
+        return 1;
+    puts("each call of gix_date.h answers as its rows say");
+    return 0;
+}

@@ -1,0 +1,78 @@
+//! Why a call refuses.
+
+use std::fmt;
+
+/// Why a call refuses: the statuses of `include/gix_date.h`, but for those that a `&str` and these types rule out.
+#[derive(Clone, Copy, Debug, PartialEq, Eq, Hash)]
+pub enum Error {
+    /// The text is no time of a header.
+    InvalidTime,
+    /// No form that a date may have holds the text, or its offset is above 23:59.
+    UnknownFormat,
+    /// The day's midnight in UTC is no instant that can be computed with.
+    DateConversion,
+    /// The text is relative to a moment, and none was given.
+    MissingNow,
+    /// The relative text names an instant that cannot be computed.
+    Range,
+    /// The moment is outside the instants that can be computed with.
+    InvalidInstant,
+    /// The offset is beyond 25:59:59, or the rule or the file of the zone cannot be read.
+    InvalidZone,
+    /// The seconds or the offset are outside what a civil date can be computed for.
+    Conversion,
+    /// The offset is 100 hours or more.
+    OffsetTooWide,
+    /// The pattern cannot be printed.
+    Pattern,
+    /// Memory was asked for and refused.
+    OutOfMemory,
+    /// The line is no signature line.
+    NoSignature,
+    /// The name or the mail holds `<`, `>`, a newline or NUL.
+    BadPart,
+}
+
+impl Error {
+    /// The refusal of a status that is not `GIX_DATE_OK`.
+    pub(crate) fn of_status(status: u32) -> Error {
+        match status {
+            4 => Error::InvalidTime,
+            5 => Error::UnknownFormat,
+            6 => Error::DateConversion,
+            7 => Error::MissingNow,
+            8 => Error::Range,
+            9 => Error::InvalidInstant,
+            10 => Error::InvalidZone,
+            11 => Error::Conversion,
+            12 => Error::OffsetTooWide,
+            13 => Error::Pattern,
+            14 => Error::OutOfMemory,
+            15 => Error::NoSignature,
+            16 => Error::BadPart,
+            status => unreachable!("the library answers no status {status} here"),
+        }
+    }
+}
+
+impl fmt::Display for Error {
+    fn fmt(&self, f: &mut fmt::Formatter<'_>) -> fmt::Result {
+        f.write_str(match self {
+            Error::InvalidTime => "not a time: expected seconds since 1970, perhaps an offset such as +0100, and no colon",
+            Error::UnknownFormat => "no known date format",
+            Error::DateConversion => "the date is beyond the last instant that can be computed with",
+            Error::MissingNow => "a relative date needs a moment to count from, and none was given",
+            Error::Range => "the relative date leads to an instant that cannot be computed with",
+            Error::InvalidInstant => "the moment is no instant that can be computed with",
+            Error::InvalidZone => "the zone of the moment cannot be read, or its offset is beyond 25:59:59",
+            Error::Conversion => "the time is too far from 1970, or its offset from UTC is beyond 25:59:59",
+            Error::OffsetTooWide => "an offset of 100 hours or more from UTC cannot be written",
+            Error::Pattern => "the pattern cannot be printed",
+            Error::OutOfMemory => "out of memory",
+            Error::NoSignature => "not a signature line: expected a name, <, a mail, > and a time",
+            Error::BadPart => "a name or a mail holds <, >, a newline or NUL",
+        })
+    }
+}
+
+impl std::error::Error for Error {}

@@ -1,0 +1,115 @@
+//! The calls of `include/gix_date.h`.
+
+#[repr(C)]
+#[derive(Clone, Copy)]
+pub struct CTime {
+    pub seconds: i64,
+    pub offset: i32,
+}
+
+#[repr(C)]
+#[derive(Clone, Copy)]
+pub struct CInstant {
+    pub seconds: i64,
+    pub nanoseconds: i32,
+}
+
+#[repr(C)]
+#[derive(Clone, Copy, Default)]
+pub struct CSpan {
+    pub start: usize,
+    pub len: usize,
+}
+
+#[repr(C)]
+#[derive(Clone, Copy, Default)]
+pub struct CSignature {
+    pub name: CSpan,
+    pub mail: CSpan,
+    pub time: CSpan,
+}
+
+extern "C" {
+    pub fn gix_date_version() -> u32;
+    pub fn gix_date_parse_header(text: *const u8, text_len: usize, time: *mut CTime) -> u32;
+    pub fn gix_date_is_canonical_header(text: *const u8, text_len: usize) -> bool;
+    pub fn gix_date_write_header(
+        time: *const CTime,
+        out: *mut u8,
+        out_len: usize,
+        len: *mut usize,
+    ) -> u32;
+    pub fn gix_date_parse(
+        text: *const u8,
+        text_len: usize,
+        raw_offsets: u32,
+        time: *mut CTime,
+    ) -> u32;
+    pub fn gix_date_parse_at_offset(
+        text: *const u8,
+        text_len: usize,
+        raw_offsets: u32,
+        now: *const CInstant,
+        offset: i32,
+        time: *mut CTime,
+    ) -> u32;
+    pub fn gix_date_parse_in_posix_zone(
+        text: *const u8,
+        text_len: usize,
+        raw_offsets: u32,
+        now: *const CInstant,
+        rule: *const u8,
+        rule_len: usize,
+        time: *mut CTime,
+    ) -> u32;
+    pub fn gix_date_parse_in_tzif_zone(
+        text: *const u8,
+        text_len: usize,
+        raw_offsets: u32,
+        now: *const CInstant,
+        file: *const u8,
+        file_len: usize,
+        time: *mut CTime,
+    ) -> u32;
+    pub fn gix_date_format(
+        time: *const CTime,
+        format: u32,
+        out: *mut u8,
+        out_len: usize,
+        len: *mut usize,
+    ) -> u32;
+    pub fn gix_date_format_or_unix(
+        time: *const CTime,
+        format: u32,
+        out: *mut u8,
+        out_len: usize,
+        len: *mut usize,
+    ) -> u32;
+    pub fn gix_date_format_by_pattern(
+        time: *const CTime,
+        pattern: *const u8,
+        pattern_len: usize,
+        out: *mut u8,
+        out_len: usize,
+        len: *mut usize,
+    ) -> u32;
+    pub fn gix_date_format_by_pattern_or_unix(
+        time: *const CTime,
+        pattern: *const u8,
+        pattern_len: usize,
+        out: *mut u8,
+        out_len: usize,
+        len: *mut usize,
+    ) -> u32;
+    pub fn gix_date_cut_signature(line: *const u8, line_len: usize, parts: *mut CSignature) -> u32;
+    pub fn gix_date_write_signature(
+        name: *const u8,
+        name_len: usize,
+        mail: *const u8,
+        mail_len: usize,
+        time: *const CTime,
+        out: *mut u8,
+        out_len: usize,
+        len: *mut usize,
+    ) -> u32;
+}

@@ -1,0 +1,6 @@
+pub mod Buffers
+pub mod Parsing
+pub mod Printing
+pub mod Signatures
+pub mod Statuses
+pub mod Times

@@ -1,0 +1,60 @@
+-- Times, as they are printed for C.
+use Rattle.std.specs.Prelude.{◌≡◌, ◌⊎◌, ◌<◌, ℕ, Bool, true, false, List, [], ◌∷◌, Some, Result, Ok, Err, MatchResult, String, string_bytes, slice_get}
+use Rattle.std.specs.Result.{result_map_both}
+use Rattle.std.specs.Global.{Global}
+use Rattle.gix_date.specs.Printing.Formats.{PrintsBy, AtMoment, IsUnprinted}
+use Rattle.gix_date.specs.Printing.NamedTexts.{short_pattern, rfc2822_pattern, git_rfc2822_pattern, iso8601_pattern, iso8601_strict_pattern, gitoxide_pattern, default_pattern}
+use Rattle.gix_date.specs.Printing.Zoned.{IsConvertible}
+use Rattle.gix_date.specs.Text.Numbers.{decimal_text}
+use Rattle.gix_date.specs.declared.error.Error.{Error}
+use Rattle.gix_date.specs.declared.error.Error.TheVariants as errors
+use Rattle.gix_date.specs.declared.time.Time.{Time}
+use Rattle.gix_date.specs.declared.time.format.Format.{Format}
+use Rattle.gix_date.specs.declared.time.format.Format.TheVariants.{Custom, Unix, Raw}
+use Rattle.gix_date_c.specs.declared.status.Status.{Status}
+use Rattle.gix_date_c.specs.declared.status.Status.TheVariants as statuses
+
+-- the patterns of the formats that have one, in the order of their numbers
+abbrev pub named_patterns : List (List ℕ)
+named_patterns =
+    short_pattern ∷ rfc2822_pattern ∷ git_rfc2822_pattern ∷ iso8601_pattern ∷ iso8601_strict_pattern ∷ gitoxide_pattern
+    ∷ default_pattern ∷ []
+
+-- the format of a number: the patterns first, then the seconds, and then the header text
+abbrev pub IsFormat : ℕ → Format → Type 0
+IsFormat number (Custom format) = slice_get named_patterns number ≡ Some format.pattern.now
+IsFormat number Unix = number ≡ 7
+IsFormat number Raw = number ≡ 8
+
+-- the status of a refusal to print
+abbrev pub print_status : Error → Status
+print_status errors.Conversion = statuses.Conversion
+print_status errors.OffsetTooWide = statuses.OffsetTooWide
+print_status errors.Memory = statuses.Memory
+print_status _ = statuses.Pattern
+
+-- what the library printed, as a text for a buffer
+abbrev pub printed_text : Result (String Global) Error → Result (List ℕ) Status
+printed_text = result_map_both string_bytes print_status
+
+abbrev pub IsPrinted : (Result (String Global) Error → Type 0) → Result (List ℕ) Status → Type 0
+IsPrinted Prints answer = (result : Result (String Global) Error) × Prints result × (answer ≡ printed_text result)
+
+-- printing in the format of a number, as the library does it in that format
+abbrev pub IsFormatted : (Format → Result (String Global) Error → Type 0) → ℕ → Result (List ℕ) Status → Type 0
+IsFormatted Prints number answer =
+    ((format : Format) × IsFormat number format × IsPrinted (Prints format) answer)
+    ⊎ ((8 < number) × (answer ≡ Err statuses.NoSuchOption))
+
+-- printing by a pattern, which is text or not
+abbrev pub IsPatternPrinted : (Result (String Global) Error → Type 0) → Bool → Result (List ℕ) Status → Type 0
+IsPatternPrinted Prints true answer = IsPrinted Prints answer
+IsPatternPrinted Prints false answer = answer ≡ Err statuses.NotText
+
+-- what a pattern shows of a time, or the seconds for a time that has no text by it
+abbrev pub PrintsByOrSeconds : Time → List ℕ → Result (String Global) Error → Type 0
+PrintsByOrSeconds t pattern result =
+    MatchResult result
+    (λ text. PrintsBy t pattern (Ok text)
+    ⊎ (((IsConvertible t → ⊥) ⊎ AtMoment t (IsUnprinted pattern)) × (string_bytes text ≡ decimal_text t.seconds)))
+    (λ e. e ≡ errors.Memory)

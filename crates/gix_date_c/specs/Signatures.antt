@@ -1,0 +1,46 @@
+-- Signature lines, as they are cut for C and written.
+use Rattle.std.specs.Prelude.{◌≡◌, ℕ, ◌+◌, ◌&&◌, if◌then◌else◌, List, length, true, false, Result, Ok, Err}
+use Rattle.std.specs.Result.{result_map_both}
+use Rattle.std.specs.Str.{is_utf8}
+use Rattle.gix_date.specs.declared.time.Time.{Time}
+use Rattle.gix_signature.specs.Signature.{Parts, IsCut, HasNoCut}
+use Rattle.gix_signature.specs.Writing.{line_due}
+use Rattle.gix_signature.specs.declared.error.SignatureError.{SignatureError}
+use Rattle.gix_signature.specs.declared.error.SignatureError.TheVariants as refusals
+use Rattle.gix_date_c.specs.Statuses.{number_of}
+use Rattle.gix_date_c.specs.declared.signature.CSignature.{CSignature}
+use Rattle.gix_date_c.specs.declared.status.Status.{Status}
+use Rattle.gix_date_c.specs.declared.status.Status.TheVariants.{Done, NotText, NoSignature, OffsetTooWide, BadPart, NoRoom}
+
+-- what cutting bytes into the parts of a signature line comes to
+abbrev pub IsCutAnswer : List ℕ → Result Parts Status → Type 0
+IsCutAnswer line (Ok p) = (is_utf8 line ≡ true) × IsCut line p
+IsCutAnswer line (Err NoSignature) = (is_utf8 line ≡ true) × HasNoCut line
+IsCutAnswer line (Err NotText) = is_utf8 line ≡ false
+IsCutAnswer line (Err _) = ⊥
+
+-- where the parts of a line stand: the name first, the mail after ` <`, the time after `> `
+abbrev pub spans_of : Parts → CSignature
+spans_of p =
+    record {
+      name = record { start = 0; len = length p.name };
+      mail = record { start = length p.name + 2; len = length p.mail };
+      time = record { start = length p.name + 2 + length p.mail + 2; len = length p.time };
+    }
+
+-- What a call did that gives parts: where they stand is there; or what was there is as it was, and the status says why.
+abbrev pub StoresParts : Result Parts Status → CSignature → CSignature → ℕ → Type 0
+StoresParts (Ok p) old new status = (new ≡ spans_of p) × (status ≡ number_of Done)
+StoresParts (Err refusal) old new status = (new ≡ old) × (status ≡ number_of refusal)
+
+-- the status of a refusal to write a line; a buffer that is written to has no fault but its end
+abbrev pub line_status : SignatureError → Status
+line_status refusals.BadPart = BadPart
+line_status refusals.OffsetTooWide = OffsetTooWide
+line_status (refusals.Write _) = NoRoom
+
+-- the line of a name, a mail and a time
+abbrev pub line_answer : List ℕ → List ℕ → Time → Result (List ℕ) Status
+line_answer name mail t =
+    if is_utf8 name && is_utf8 mail
+    then result_map_both (λ line. line) line_status (line_due name mail t) else Err NotText

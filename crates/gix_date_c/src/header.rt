@@ -1,0 +1,63 @@
+//! Times of commit headers.
+ghost use Rattle.std.specs.Prelude.{◌≡◌};
+ghost use Rattle.gix_date.specs.Header.Canonical.{is_canonical_header};
+ghost use Rattle.gix_date_c.specs.Buffers.{Outcome, outcome_of, header_text_answer};
+ghost use Rattle.gix_date_c.specs.Times.{StoresTime, header_answer, is_text_of, time_of};
+
+use crate::buffer::store_text;
+use crate::status::Status;
+use crate::text::text_of;
+use crate::time::{CTime, store_time, time_of};
+use gix_date::parsing::TimeBuf;
+use gix_date::{Time, laws, parse_header};
+
+/// The time of a commit header, read leniently.
+#[unsafe(no_mangle)]
+pub extern "C" fn gix_date_parse_header(text: &[u8], time: &mut CTime) -> u32
+    ensures { StoresTime (header_answer text.now) time.old time.new result }
+{
+    store_time(header_time(text), time)
+}
+
+fn header_time(text: &[u8]) -> Result<Time, Status>
+    ensures { result ≡ header_answer text.now }
+{
+    parse_header(text_of(text)?).ok_or(Status::InvalidTime)
+}
+
+/// The text of a time in a commit header.
+#[unsafe(no_mangle)]
+pub extern "C" fn gix_date_write_header(time: &CTime, out: &mut [u8], len: &mut usize) -> u32
+    ensures { record { bytes = out.new; len = len.new; status = result }
+        ≡ outcome_of (header_text_answer (time_of time.now)) out.old }
+{
+    match time_of(time).to_str(&mut TimeBuf::default()) {
+        Ok(text) => store_text(Ok(text), out, len),
+        Err(_) => store_text(Err(Status::OffsetTooWide), out, len),
+    }
+}
+
+/// Whether a text comes back when it is read as a header and written.
+#[unsafe(no_mangle)]
+pub extern "C" fn gix_date_is_canonical_header(text: &[u8]) -> bool
+    ensures { result ≡ is_canonical_header text.now }
+{
+    let Ok(text) = text_of(text) else {
+        return false;
+    };
+    laws::canonical(text);
+    match parse_header(text) {
+        Some(time) => is_written_as(time, text),
+        None => false,
+    }
+}
+
+/// Whether a time is written as this text.
+fn is_written_as(time: Time, text: &str) -> bool
+    ensures { result ≡ is_text_of time text.now }
+{
+    match time.to_str(&mut TimeBuf::default()) {
+        Ok(written) => written == text,
+        Err(_) => false,
+    }
+}

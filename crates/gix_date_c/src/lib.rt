@@ -1,0 +1,16 @@
+//! The calls of `gix_date` and `gix_signature` for C, as `include/gix_date.h` declares them.
+//!
+//! A text is bytes, given by a pointer and a length, which need not be UTF-8: `Status::NotText` where they are not. A
+//! call answers the number of a [`Status`]. No call has a condition that C would have to meet but for its pointers and
+//! lengths, which have to be valid, and none keeps a pointer.
+#![tactic(auto)]
+
+mod buffer;
+mod header;
+mod parse;
+mod print;
+mod signature;
+mod status;
+mod text;
+mod time;
+mod version;

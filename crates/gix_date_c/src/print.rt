@@ -1,0 +1,149 @@
+//! Times printed.
+ghost use Rattle.std.specs.Prelude.{◌≡◌, ℕ, List, Result, IfSome, IfNone, IsTrue, ◌<◌, ◌↔◌};
+ghost use Rattle.std.specs.Str.{is_utf8};
+ghost use Rattle.gix_date.specs.Printing.Formats.{Prints, PrintsBy, PrintsOrSeconds};
+ghost use Rattle.gix_date.specs.declared.error.Error.TheVariants as errors;
+ghost use Rattle.gix_date_c.specs.Buffers.{Outcome, outcome_of};
+ghost use Rattle.gix_date_c.specs.Printing.{IsFormat, IsFormatted, IsPatternPrinted, PrintsByOrSeconds, print_status, printed_text};
+ghost use Rattle.gix_date_c.specs.Times.{time_of};
+
+use crate::buffer::store_text;
+use crate::status::Status;
+use crate::text::text_of;
+use crate::time::{CTime, time_of};
+use gix_date::time::format::{
+    DEFAULT, Format, GIT_RFC2822, GITOXIDE, ISO8601, ISO8601_STRICT, RAW, RFC2822, SHORT, UNIX,
+};
+use gix_date::{Error, Time};
+use std::alloc::Global;
+
+/// Puts the text of a time in a named format into a buffer.
+#[unsafe(no_mangle)]
+pub extern "C" fn gix_date_format(
+    alloc: Global,
+    time: &CTime,
+    format: u32,
+    out: &mut [u8],
+    len: &mut usize,
+) -> u32
+    ensures { (answer : Result (List ℕ) Status) × IsFormatted (Prints (time_of time.now)) format answer
+        × (record { bytes = out.new; len = len.new; status = result } ≡ outcome_of answer out.old) }
+{
+    let Some(format) = format_of(format) else {
+        return store_text(Err(Status::NoSuchOption), out, len);
+    };
+    store_printed(time_of(time).format(alloc, format), out, len)
+}
+
+/// The same, with the seconds for a time that has no text in that format.
+#[unsafe(no_mangle)]
+pub extern "C" fn gix_date_format_or_unix(
+    alloc: Global,
+    time: &CTime,
+    format: u32,
+    out: &mut [u8],
+    len: &mut usize,
+) -> u32
+    ensures { (answer : Result (List ℕ) Status) × IsFormatted (PrintsOrSeconds (time_of time.now)) format answer
+        × (record { bytes = out.new; len = len.new; status = result } ≡ outcome_of answer out.old) }
+{
+    let Some(format) = format_of(format) else {
+        return store_text(Err(Status::NoSuchOption), out, len);
+    };
+    store_printed(time_of(time).format_or_unix(alloc, format), out, len)
+}
+
+/// Puts the text of a time by a pattern into a buffer.
+#[unsafe(no_mangle)]
+pub extern "C" fn gix_date_format_by_pattern(
+    alloc: Global,
+    time: &CTime,
+    pattern: &[u8],
+    out: &mut [u8],
+    len: &mut usize,
+) -> u32
+    ensures { (answer : Result (List ℕ) Status)
+        × IsPatternPrinted (PrintsBy (time_of time.now) pattern.now) (is_utf8 pattern.now) answer
+        × (record { bytes = out.new; len = len.new; status = result } ≡ outcome_of answer out.old) }
+{
+    match text_of(pattern) {
+        Ok(pattern) => store_printed(time_of(time).format_by_pattern(alloc, pattern), out, len),
+        Err(status) => store_text(Err(status), out, len),
+    }
+}
+
+/// The same, with the seconds for a time that has no text by that pattern.
+#[unsafe(no_mangle)]
+pub extern "C" fn gix_date_format_by_pattern_or_unix(
+    alloc: Global,
+    time: &CTime,
+    pattern: &[u8],
+    out: &mut [u8],
+    len: &mut usize,
+) -> u32
+    ensures { (answer : Result (List ℕ) Status)
+        × IsPatternPrinted (PrintsByOrSeconds (time_of time.now) pattern.now) (is_utf8 pattern.now) answer
+        × (record { bytes = out.new; len = len.new; status = result } ≡ outcome_of answer out.old) }
+{
+    match text_of(pattern) {
+        Ok(pattern) => store_printed(by_pattern_or_unix(alloc, time_of(time), pattern), out, len),
+        Err(status) => store_text(Err(status), out, len),
+    }
+}
+
+fn by_pattern_or_unix(alloc: Global, time: Time, pattern: &str) -> Result<String, Error>
+    ensures { PrintsByOrSeconds time pattern.now result }
+{
+    match time.format_by_pattern(alloc, pattern) {
+        Ok(text) => Ok(text),
+        Err(error) if is_memory(&error) => Err(error),
+        Err(_other) => time.format(alloc, UNIX),
+    }
+}
+
+fn is_memory(error: &Error) -> bool
+    ensures { IsTrue result ↔ (error.now ≡ errors.Memory) }
+{
+    matches!(error, Error::Memory)
+}
+
+/// Stores what was printed.
+fn store_printed(printed: Result<String, Error>, out: &mut [u8], len: &mut usize) -> u32
+    ensures { record { bytes = out.new; len = len.new; status = result } ≡ outcome_of (printed_text printed) out.old }
+{
+    match printed {
+        Ok(text) => store_text(Ok(text.as_str()), out, len),
+        Err(error) => store_text(Err(print_status(error)), out, len),
+    }
+}
+
+/// The status of a refusal to print.
+fn print_status(error: Error) -> Status
+    ensures { result ≡ print_status error }
+{
+    match error {
+        Error::Conversion => Status::Conversion,
+        Error::OffsetTooWide => Status::OffsetTooWide,
+        Error::Memory => Status::Memory,
+        _ => Status::Pattern,
+    }
+}
+
+/// The format of a number.
+fn format_of(number: u32) -> Option<Format>
+    ensures format { IfSome result (IsFormat number) }
+    ensures none { IfNone result (8 < number) }
+{
+    match number {
+        0 => Some(SHORT.into()),
+        1 => Some(RFC2822.into()),
+        2 => Some(GIT_RFC2822.into()),
+        3 => Some(ISO8601.into()),
+        4 => Some(ISO8601_STRICT.into()),
+        5 => Some(GITOXIDE.into()),
+        6 => Some(DEFAULT.into()),
+        7 => Some(UNIX),
+        8 => Some(RAW),
+        _ => None,
+    }
+}

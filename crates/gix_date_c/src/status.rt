@@ -1,0 +1,51 @@
+//! What a call answers.
+ghost use Rattle.std.specs.Prelude.{◌≡◌};
+ghost use Rattle.gix_date_c.specs.Statuses.{number_of};
+
+/// How a call ended. C gets the number, and `include/gix_date.h` has the same names and numbers.
+#[derive(Clone, Copy)]
+pub(crate) enum Status {
+    /// The call did what it is for.
+    Done = 0,
+    /// Bytes that have to be UTF-8 are not.
+    NotText = 1,
+    /// A number stands for no format, or for no rule.
+    NoSuchOption = 2,
+    /// The buffer is too short for the text.
+    NoRoom = 3,
+    /// The text is no time of a header.
+    InvalidTime = 4,
+    /// No form that a date may have holds the text.
+    UnknownFormat = 5,
+    /// The day's midnight in UTC is no instant that can be computed with.
+    DateConversion = 6,
+    /// The text is relative to a moment, and none was given.
+    MissingNow = 7,
+    /// The relative text names an instant that cannot be computed.
+    Range = 8,
+    /// The moment is outside the instants that can be computed with.
+    InvalidInstant = 9,
+    /// The zone of the moment is none: its offset is too wide, or its rule or file cannot be read.
+    InvalidZone = 10,
+    /// The seconds or the offset are outside what a civil date can be computed for.
+    Conversion = 11,
+    /// The offset is 100 hours or more.
+    OffsetTooWide = 12,
+    /// The pattern cannot be printed.
+    Pattern = 13,
+    /// Memory was asked for and refused.
+    Memory = 14,
+    /// The line is no signature line.
+    NoSignature = 15,
+    /// The name or the mail holds `<`, `>`, a newline or NUL.
+    BadPart = 16,
+}
+
+impl Status {
+    /// The number for C.
+    pub(crate) fn number(self) -> u32
+        ensures { result ≡ number_of self }
+    {
+        self as u32
+    }
+}

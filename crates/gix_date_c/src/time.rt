@@ -1,0 +1,37 @@
+//! A time as C has it.
+ghost use Rattle.std.specs.Prelude.{◌≡◌};
+ghost use Rattle.gix_date_c.specs.Times.{time_of, StoresTime};
+
+use crate::status::Status;
+use gix_date::Time;
+
+/// Seconds since 1970-01-01 00:00:00 UTC, and the offset from UTC in seconds east of it: `struct gix_date_time`.
+#[repr(C)]
+#[derive(Clone, Copy)]
+pub struct CTime {
+    pub seconds: i64,
+    pub offset: i32,
+}
+
+/// The same time.
+pub(crate) fn time_of(time: &CTime) -> Time
+    ensures { result ≡ time_of time.now }
+{
+    Time::new(time.seconds, time.offset)
+}
+
+/// Stores the time of an answer and tells how the call ended. A refusal leaves what is there as it is.
+pub(crate) fn store_time(answer: Result<Time, Status>, time: &mut CTime) -> u32
+    ensures { StoresTime answer time.old time.new result }
+{
+    match answer {
+        Ok(found) => {
+            *time = CTime {
+                seconds: found.seconds,
+                offset: found.offset,
+            };
+            Status::Done.number()
+        }
+        Err(status) => status.number(),
+    }
+}
