@@ -195,7 +195,7 @@ static void relative_dates(void)
 {
     static const gix_date_instant now = {1698400800, 0}, beyond = {253402207201, 0},
                                   odd = {0, 1000000000};
-    static const gix_date_instant in_fold = {1699165800, 0};
+    static const gix_date_instant in_fold = {1699165800, 0}, before_a_second = {1, -1};
     const char *rule = "EST5EDT,M3.2.0,M11.1.0";
     gix_date_time time = untouched;
     EXPECT(gix_date_parse_at_offset(TEXT("yesterday"), 0, &now, 7200, &time) == GIX_DATE_OK,
@@ -215,6 +215,10 @@ static void relative_dates(void)
                GIX_DATE_OK,
            "1 hour ago");
     EXPECT(is_time(time, 1699158600, -14400), "%lld %d", (long long)time.seconds, (int)time.offset);
+
+    EXPECT(gix_date_parse_at_offset(TEXT("now"), 0, &before_a_second, 0, &time) == GIX_DATE_OK &&
+               is_time(time, 0, 0),
+           "a nanosecond before second 1 is in second 0");
 
     time = untouched;
     EXPECT(gix_date_parse_at_offset(TEXT("12023 years ago"), 0, &now, 0, &time) == GIX_DATE_RANGE,

@@ -25,6 +25,7 @@ pub mod Exclusive
 pub mod Widened
 pub mod Shapes
 pub mod DateFronts
+mod AfterDay
 pub mod Overlaps
 pub mod RawBack
 pub mod RelativeWordSteps
@@ -38,6 +39,7 @@ pub mod DateTimes
 pub mod FixedZones
 pub mod FixedTimes
 pub mod LocalClocks
+pub mod ShownTexts
 pub mod ClockRows
 pub mod Chains
 pub mod FixedSteps

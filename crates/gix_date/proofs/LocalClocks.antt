@@ -1,8 +1,8 @@
 -- What a time's own clock shows is what each moment of it shows.
-use Rattle.std.proofs.Common.{◌≡◌, ◌∙◌, ◌≤◌, ◌<◌, ◌+◌, ◌-◌, ◌*◌, ◌/◌, ◌%◌, ℕ, suc, Bool, true, false, nat_lt, if◌then◌else◌, ℤ, pos, neg_ℤ, ◌+ℤ◌, ◌-ℤ◌, ◌*ℤ◌, ◌≤ℤ◌, ◌<ℤ◌, unsigned_abs, refl, sym, ap, subst, arith}
+use Rattle.std.proofs.Common.{◌≡◌, ◌∙◌, ◌≤◌, ◌<◌, ◌+◌, ◌-◌, ◌*◌, ◌/◌, ◌%◌, ℕ, suc, Bool, true, false, nat_lt, if◌then◌else◌, ℤ, pos, negsuc, neg_ℤ, ◌+ℤ◌, ◌-ℤ◌, ◌*ℤ◌, ◌≤ℤ◌, ◌<ℤ◌, unsigned_abs, refl, sym, ap, subst, arith}
 use Rattle.std.proofs.lemmas.Bool.Decides.{nat_tests}
 use Rattle.std.proofs.lemmas.Int.{by_lt_z}
-use Rattle.std.specs.Int.{int_rem_euclid}
+use Rattle.std.specs.Int.{int_rem_euclid, FitsUnsignedBits}
 use Rattle.jiff.specs.Types.{Date, Offset, PlainZoned}
 use Rattle.jiff.proofs.ZoneFacts.{offset_at-fixed_zone}
 use Rattle.jiff.specs.Words.{plain_zoned, nanos_of_seconds, fixed_zone, IsTimestampNanos, IsCivilNanos}
@@ -15,6 +15,9 @@ use Rattle.jiff_core.proofs.DateLemmas.{epoch_day_range, epoch_day_injective}
 use Rattle.jiff_core.proofs.DateTimeLemmas.{civil_nanos-parts, time_nanos_bound}
 use Rattle.jiff_core.proofs.MarchLemmas.{leap_day, leap_day-shift, march_days-suc, day_count-early, day_count-late, month_and_day, day_in_month, day_in_early_month}
 use Rattle.jiff_core.proofs.SignedLemmas.{signed_arith, one_part}
+use Rattle.gix_date.specs.Fields.ClockNumbers.{hours_in, minutes_in}
+use Rattle.gix_date.specs.Fields.Layout.{LocalTime}
+use Rattle.gix_date.specs.declared.parsing.civil.ClockFields.{ClockFields}
 use Rattle.gix_date.specs.Printing.LocalClocks.{march_year, march_month, march_day, january_date, date_of_day, local_seconds, local_day, second_of_day, clock_of, HasOrdinaryClock}
 use Rattle.gix_date.specs.Printing.NamedTexts.{local_time, IsOrdinary}
 use Rattle.gix_date.specs.Printing.Zoned.{IsMoment, IsConvertible}
@@ -181,11 +184,8 @@ pub moment-shows : (t : Time) (z : Zoned) → IsMoment t z → Shows (plain_zone
 moment-shows t z h = record { instant = h.instant; offset_is = h.offset_is }
 
 -- each time that converts has such a value
-abbrev IsShownBy : Time → Type 0
-IsShownBy t = (z : PlainZoned) × Shows z t
-
-pub shown-by : (t : Time) → IsConvertible t → IsShownBy t
-shown-by t h =
+pub moment-of : (t : Time) → IsConvertible t → (z : Zoned) × IsMoment t z
+moment-of t h =
     let o : Offset = record { seconds = t.offset; in_range = h.0 } in
     let n = nanos_of_seconds t.seconds in
     let range : IsTimestampNanos n = (omega (arith, signed_arith, h.1), omega (arith, signed_arith, h.1)) in
@@ -200,4 +200,37 @@ shown-by t h =
       shows = found.1;
       offset_is = sym (offset_at-fixed_zone o n);
     } in
-    (z, record { instant = refl; offset_is = refl })
+    (record { inner = z }, record { instant = refl; offset_is = refl; zone = (o, refl, refl) })
+
+abbrev IsShownBy : Time → Type 0
+IsShownBy t = (z : PlainZoned) × Shows z t
+
+pub shown-by : (t : Time) → IsConvertible t → IsShownBy t
+shown-by t h =
+    let m = moment-of t h in
+    (plain_zoned m.0, moment-shows t m.0 m.1)
+
+-- what a clock shows is its date by the day number, and its time by the second of the day
+pub clock-by : (t : Time) (day : ℤ) (date : Date) (year second weekday : ℕ) (clock : ClockFields) → day ≡ local_day t
+    → epoch_day date ≡ day → date.year ≡ pos year → second ≡ second_of_day t → weekday ≡ unsigned_abs (int_rem_euclid (day +ℤ pos 3) (pos 7))
+    → clock.hour ≡ hours_in second → clock.minute ≡ minutes_in second → clock.second ≡ second % 60
+    → ◌≡◌ {A = LocalTime} (record { weekday = weekday; date = record { year = year; month = date.month; day = date.day }; clock = clock; offset = t.offset }) (clock_of t)
+unfolding clock_of weekday_number
+clock-by t day date year second weekday clock is_day at is_year is_second is_weekday hour minute last =
+    let d = sym (ap (λ (n : ℤ). date_of_day n) (at ∙ is_day)) in
+    let same : date_of_day (local_day t) ≡ (date.year, date.month, date.day) = d ∙ date-of-day date in
+    let y : year ≡ unsigned_abs (date_of_day (local_day t)).0 = sym (ap (λ (v : ℤ). unsigned_abs v) is_year) ∙ ap (λ (r : ℤ × ℕ × ℕ). unsigned_abs r.0) (sym same) in
+    let w : weekday ≡ unsigned_abs (int_rem_euclid (local_day t +ℤ pos 3) (pos 7)) = is_weekday ∙ ap (λ (n : ℤ). unsigned_abs (int_rem_euclid (n +ℤ pos 3) (pos 7))) is_day in
+    let h = hour ∙ ap (λ (n : ℕ). hours_in n) is_second in
+    let m = minute ∙ ap (λ (n : ℕ). minutes_in n) is_second in
+    let s = last ∙ ap (λ (n : ℕ). n % 60) is_second in
+    λ i. record {
+      weekday = w i;
+      date = record { year = y i; month = (sym same i).1; day = (sym same i).2 };
+      clock = record { hour = h i; minute = m i; second = s i };
+      offset = t.offset;
+    }
+
+pub unsigned-is : (z : ℤ) → FitsUnsignedBits 16 z → z ≡ pos (unsigned_abs z)
+unsigned-is (pos n) h = refl
+unsigned-is (negsuc n) h = absurd h

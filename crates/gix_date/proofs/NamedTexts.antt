@@ -22,7 +22,7 @@ use Rattle.gix_date.specs.Text.Numbers.{two_digits}
 use Rattle.gix_date.specs.Printing.NamedTexts.{local_time, IsOrdinary, ShowsText, short_pattern, short_text, rfc2822_pattern, rfc2822_text, git_rfc2822_pattern, git_rfc2822_text, iso8601_pattern, iso8601_text, iso8601_strict_pattern, iso8601_strict_text, gitoxide_pattern, gitoxide_text, default_pattern, default_text}
 use Rattle.gix_date.specs.Families.Patterns.{short_layout, rfc2822_layout, iso8601_layout, iso8601_strict_layout, gitoxide_layout, default_layout}
 use Rattle.gix_date.proofs.Printing.{filled_parts}
-use Rattle.gix_date.proofs.ShownPieces.{AlwaysShows, InRange, ascii-bare, ascii-four, ascii-month, ascii-strict-zone, ascii-two, ascii-weekday, ascii-zone, bare, context, in-range, joined_text, joined_text-is, month-short, number, number-bare, number-four, number-two, shows-text, strict-zone-is, strict_config, weekday-short, year-is, zone-is}
+use Rattle.gix_date.proofs.ShownPieces.{AlwaysShows, AlwaysShowsText, InRange, ascii-bare, ascii-four, ascii-month, ascii-strict-zone, ascii-two, ascii-weekday, ascii-zone, bare, context, in-range, joined_text, joined_text-is, month-short, number, number-bare, number-four, number-two, shows-text, strict-zone-is, strict_config, weekday-short, year-is, zone-is}
 
 -- what `jiff` shows for a piece: the year apart, since it has a sign there
 abbrev pub jiff_piece : (ℕ → List ℕ) → Piece → ℤ → LocalTime → List (List ℕ)
@@ -145,21 +145,28 @@ always pattern {jiff_day} {day} d ps blanks shows z o abbreviation name date iso
     ∙ ap (λ (v : ℤ). shown (joined_text [] (jiff_pieces jiff_day ps v t blanks))) (year-is z o)
     ∙ ap shown (joined_text-is [] (jiff_pieces jiff_day ps (pos t.date.year) t blanks) ∙ pieces-shown d ps t blanks (in-range z o))
 
+-- whatever is shown of an ordinary zoned value is this text, and that is shown
+pub record IsTextOf (pattern : List ℕ) (text : LocalTime → List ℕ) : Type 0 where
+  pub only : ShowsText pattern text
+  pub always : AlwaysShowsText pattern text
+
 by-pieces : (pattern : List ℕ) {jiff_day day : ℕ → List ℕ} → ShowsDay jiff_day day → (ps : List Piece) (blanks : ℕ)
-    → ShowsPieces pattern jiff_day ps blanks → ShowsText pattern (λ t. print_pieces day ps t)
-by-pieces pattern {jiff_day} {day} d ps blanks shows = shows-text pattern (λ t. print_pieces day ps t) (always pattern d ps blanks shows) (λ z o. pieces-ascii d ps (local_time z) (in-range z o))
+    → ShowsPieces pattern jiff_day ps blanks → IsTextOf pattern (λ t. print_pieces day ps t)
+by-pieces pattern {jiff_day} {day} d ps blanks shows =
+    let shown = always pattern d ps blanks shows in
+    record { only = shows-text pattern (λ t. print_pieces day ps t) shown (λ z o. pieces-ascii d ps (local_time z) (in-range z o)); always = shown }
 
 -- by each of the seven patterns
-pub record ArePrinted : Type 0 where
-  pub short : ShowsText short_pattern short_text
-  pub rfc2822 : ShowsText rfc2822_pattern rfc2822_text
-  pub git_rfc2822 : ShowsText git_rfc2822_pattern git_rfc2822_text
-  pub iso8601 : ShowsText iso8601_pattern iso8601_text
-  pub iso8601_strict : ShowsText iso8601_strict_pattern iso8601_strict_text
-  pub gitoxide : ShowsText gitoxide_pattern gitoxide_text
-  pub by_default : ShowsText default_pattern default_text
+pub record AreTexts : Type 0 where
+  pub short : IsTextOf short_pattern short_text
+  pub rfc2822 : IsTextOf rfc2822_pattern rfc2822_text
+  pub git_rfc2822 : IsTextOf git_rfc2822_pattern git_rfc2822_text
+  pub iso8601 : IsTextOf iso8601_pattern iso8601_text
+  pub iso8601_strict : IsTextOf iso8601_strict_pattern iso8601_strict_text
+  pub gitoxide : IsTextOf gitoxide_pattern gitoxide_text
+  pub by_default : IsTextOf default_pattern default_text
 
-pub formats_printed : ArePrinted
+pub formats_printed : AreTexts
 unfolding show_steps directive_text text_of read_flag colon_rest fold_digits
 formats_printed = record {
   short = by-pieces short_pattern two-shown short_layout 3 (λ z abbreviation name date iso second low high. refl);

@@ -56,12 +56,12 @@ read-back rule pattern place family layout day shows stands spells field t h = r
 -- by each of the six formats
 pub are-read-back : (rule : OffsetRule) (t : Time) → IsPlainTime t → AreReadBackBy rule t
 are-read-back rule t h = record {
-  iso8601 = read-back rule iso8601_pattern 3 iso8601_answer iso8601_layout two_digits formats_printed.iso8601 (λ rule text x e. e) dates_spelled.iso8601 two-is t h;
-  iso8601_strict = read-back rule iso8601_strict_pattern 4 iso8601_strict_answer iso8601_strict_layout two_digits formats_printed.iso8601_strict (λ rule text x e. e) dates_spelled.iso8601_strict two-is t h;
-  rfc2822 = read-back rule rfc2822_pattern 2 rfc2822_answer rfc2822_layout two_digits formats_printed.rfc2822 (λ rule text x e. e) dates_spelled.rfc2822 two-is t h;
-  git_rfc2822 = read-back rule git_rfc2822_pattern 2 rfc2822_answer rfc2822_layout decimal formats_printed.git_rfc2822 (λ rule text x e. e) dates_spelled.rfc2822 bare-is t h;
-  gitoxide = read-back rule gitoxide_pattern 5 gitoxide_answer gitoxide_layout two_digits formats_printed.gitoxide (λ rule text x e. e) dates_spelled.gitoxide two-is t h;
-  by_default = read-back rule default_pattern 6 default_answer default_layout decimal formats_printed.by_default (λ rule text x e. e) dates_spelled.by_default bare-is t h;
+  iso8601 = read-back rule iso8601_pattern 3 iso8601_answer iso8601_layout two_digits formats_printed.iso8601.only (λ rule text x e. e) dates_spelled.iso8601 two-is t h;
+  iso8601_strict = read-back rule iso8601_strict_pattern 4 iso8601_strict_answer iso8601_strict_layout two_digits formats_printed.iso8601_strict.only (λ rule text x e. e) dates_spelled.iso8601_strict two-is t h;
+  rfc2822 = read-back rule rfc2822_pattern 2 rfc2822_answer rfc2822_layout two_digits formats_printed.rfc2822.only (λ rule text x e. e) dates_spelled.rfc2822 two-is t h;
+  git_rfc2822 = read-back rule git_rfc2822_pattern 2 rfc2822_answer rfc2822_layout decimal formats_printed.git_rfc2822.only (λ rule text x e. e) dates_spelled.rfc2822 bare-is t h;
+  gitoxide = read-back rule gitoxide_pattern 5 gitoxide_answer gitoxide_layout two_digits formats_printed.gitoxide.only (λ rule text x e. e) dates_spelled.gitoxide two-is t h;
+  by_default = read-back rule default_pattern 6 default_answer default_layout decimal formats_printed.by_default.only (λ rule text x e. e) dates_spelled.by_default bare-is t h;
 }
 
 text-back : (rule : OffsetRule) (pattern : List ℕ) (text : LocalTime → List ℕ) (t : Time) (r : Result (String Global) Error) → IsPlainTime t

@@ -46,6 +46,10 @@ AlwaysShows pattern z text =
     (abbreviation : List ℕ) (name : Option (List ℕ)) (date : Result Date Error) (iso : Result ISOWeekDate Error) (second : Result ℤ Error)
     → show_format strict_config pattern (context (filled_parts z abbreviation name) date iso second) ≡ Ok text
 
+-- the pattern always shows this text of an ordinary zoned value
+abbrev pub AlwaysShowsText : List ℕ → (LocalTime → List ℕ) → Type 0
+AlwaysShowsText pattern text = (z : PlainZoned) → IsOrdinary z → AlwaysShows pattern z (text (local_time z))
+
 config_is : (config : Config) → config.locale ≡ Default → config.lenient ≡ false → config ≡ strict_config
 config_is config l s = rw (l, s) refl
 
@@ -254,7 +258,7 @@ ascii-weekday n = name_ascii day_names n refl
 pub ascii-month : (n : ℕ) → IsAscii (get_or month_names n [])
 ascii-month n = name_ascii month_names n refl
 
-sign_of : (negative : Bool) → (if negative then 45 else 43) < 128
+pub sign_of : (negative : Bool) → (if negative then 45 else 43) < 128
 sign_of true = lit< tt
 sign_of false = lit< tt
 

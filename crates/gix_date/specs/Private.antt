@@ -1,4 +1,5 @@
 -- What contracts within the crate alone speak of.
+pub mod AfterDay
 pub mod Views
 pub mod RelativeScan
 pub mod RelativePairs
@@ -10,4 +11,5 @@ pub mod Steps
 pub mod Names
 pub mod Headers
 pub mod Printing
+pub mod NamedTexts
 pub mod Shapes

@@ -16,7 +16,7 @@ use arrayvec::ArrayString;
 use std::str::FromStr;
 
 mod answer;
-mod civil;
+pub(crate) mod civil;
 pub(crate) mod dates;
 mod fields;
 mod git;

@@ -3,6 +3,7 @@ ghost use Rattle.std.specs.Prelude.{◌≢◌, ◌↔◌, pos, IsTrue};
 
 pub mod format;
 mod init;
+mod named;
 mod write;
 
 pub use format::{CustomFormat, Format};

@@ -14,9 +14,7 @@ use crate::parsing::answer::Answer;
 use crate::parsing::fields::skip_char;
 use crate::parsing::git::parse_git;
 use crate::parsing::numbers::parse_int;
-use crate::parsing::patterns::{
-    parse_default, parse_gitoxide, parse_iso8601, parse_iso8601_strict, parse_rfc2822, parse_short,
-};
+use crate::parsing::patterns::{parse_dashed, parse_default, parse_gitoxide, parse_rfc2822};
 use crate::parsing::raw::{RawOffsets, parse_plain_raw, parse_raw};
 use crate::parsing::relative::parse_relative;
 use crate::parsing::shape::{
@@ -184,13 +182,7 @@ fn dashed_answer(input: &str) -> Option<Answer<'_>>
     ensures first { option_map answer_of result ≡ first_among (shape_families DashedDay) input.now }
     ensures offset_fits { IfSome result HasJiffOffset }
 {
-    if let Some(answer) = parse_short(input) {
-        return Some(answer);
-    }
-    if let Some(answer) = parse_iso8601(input) {
-        return Some(answer);
-    }
-    if let Some(answer) = parse_iso8601_strict(input) {
+    if let Some(answer) = parse_dashed(input) {
         return Some(answer);
     }
     git_answer(input)

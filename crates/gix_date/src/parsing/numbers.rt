@@ -2,17 +2,57 @@
 //!
 //! A `read_` function takes the front of a text, and gives the value and the rest; a `parse_` function takes a whole
 //! text.
-ghost use Rattle.std.specs.Prelude.{◌≡◌, ◌<◌, ◌≤◌, IfSome, take_while};
+ghost use Rattle.std.specs.Prelude.{◌≡◌, ◌<◌, ◌≤◌, ◌^◌, IfSome, Some, length, take_while, true};
 ghost use Rattle.std.specs.List.{prefix_len};
 ghost use Rattle.std.specs.Char.{is_ascii_digit};
+ghost use Rattle.std.specs.Str.{all_ascii_digits};
+ghost use Rattle.std.specs.Str.Parse.{digits_value};
 ghost use Rattle.gix_date.specs.Private.Views.{read_view};
 ghost use Rattle.gix_date.specs.Text.Numbers.{int_value, two_digit_value, read_two_digits, read_digit, read_field, read_year};
 
-/// The value of an optional sign and digits, where an `i64` can hold it.
+/// The most digits that are read at once: an `i64` holds any so many.
+const MAX_DIGITS: usize = 18;
+
+/// The value of an optional sign and digits, where an `i64` can hold it. Nearly all numbers are short.
 pub(crate) fn parse_int(word: &str) -> Option<i64>
     ensures { result ≡ int_value word.now }
 {
+    if let Some(value) = parse_short_int(word.as_bytes()) {
+        return Some(value);
+    }
     word.parse::<i64>().ok()
+}
+
+/// The value of a short text of digits, with a minus or no sign.
+#[inline(always)]
+pub(crate) fn parse_short_int(text: &[u8]) -> Option<i64>
+    ensures { IfSome result (λ n. int_value text.now ≡ Some n) }
+{
+    match text {
+        [b'-', digits @ ..] => Some(-(parse_short_digits(digits)? as i64)),
+        _ => Some(parse_short_digits(text)? as i64),
+    }
+}
+
+/// The value of a few digits.
+#[inline(always)]
+fn parse_short_digits(digits: &[u8]) -> Option<u64>
+    ensures some { IfSome result (λ n. 0 < length digits.now) }
+    ensures digits { IfSome result (λ n. all_ascii_digits digits.now ≡ true) }
+    ensures value { IfSome result (λ n. n ≡ digits_value 10 digits.now) }
+    ensures small { IfSome result (λ n. n < 10 ^ 18) }
+{
+    if digits.is_empty() || digits.len() > MAX_DIGITS {
+        return None;
+    }
+    let mut value = 0;
+    for digit in digits {
+        if !digit.is_ascii_digit() {
+            return None;
+        }
+        value = 10 * value + u64::from(*digit - b'0');
+    }
+    Some(value)
 }
 
 /// The digits that a word begins with.
@@ -29,6 +69,7 @@ fn leading_digits_len(word: &str) -> usize
 }
 
 /// The number that two digits write.
+#[inline(always)]
 pub(crate) fn parse_two_digits(tens: u8, ones: u8) -> Option<u8>
     ensures value { result ≡ two_digit_value tens ones }
     ensures small { IfSome result (λ n. n < 100) }
@@ -42,6 +83,7 @@ pub(crate) fn parse_two_digits(tens: u8, ones: u8) -> Option<u8>
 
 /// The number that two digits at the front write.
 #[tactic(auto, unfolding(crate::specs::Text::Numbers::read_two_digits))]
+#[inline(always)]
 pub(crate) fn read_two_digits(text: &str) -> Option<(u8, &str)>
     ensures value { read_view result ≡ read_two_digits text.now }
     ensures small { IfSome result (λ found. found.0 < 100) }
@@ -57,6 +99,7 @@ pub(crate) fn read_two_digits(text: &str) -> Option<(u8, &str)>
 
 /// The number that one digit at the front writes.
 #[tactic(auto, unfolding(crate::specs::Text::Numbers::read_digit))]
+#[inline(always)]
 fn read_digit(text: &str) -> Option<(u8, &str)>
     ensures value { read_view result ≡ read_digit text.now }
     ensures small { IfSome result (λ found. found.0 < 100) }
@@ -69,6 +112,7 @@ fn read_digit(text: &str) -> Option<(u8, &str)>
 
 /// The number that two digits at the front write, or else one.
 #[tactic(auto, unfolding(crate::specs::Text::Numbers::read_field))]
+#[inline(always)]
 pub(crate) fn read_field(text: &str) -> Option<(u8, &str)>
     ensures value { read_view result ≡ read_field text.now }
     ensures small { IfSome result (λ found. found.0 < 100) }
@@ -81,6 +125,7 @@ pub(crate) fn read_field(text: &str) -> Option<(u8, &str)>
 
 /// The number that four digits at the front write.
 #[tactic(auto, unfolding(crate::specs::Text::Numbers::read_year))]
+#[inline(always)]
 pub(crate) fn read_year(text: &str) -> Option<(u16, &str)>
     ensures value { read_view result ≡ read_year text.now }
     ensures small { IfSome result (λ found. found.0 ≤ 9999) }

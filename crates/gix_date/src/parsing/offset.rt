@@ -29,6 +29,7 @@ impl OffsetFields {
     ghost use Rattle.gix_date.specs.Fields.Offsets.{offset_of};
 
     /// The offset in seconds, positive east of UTC.
+    #[inline(always)]
     pub(crate) fn in_seconds(self) -> OffsetInSeconds
         ensures { result ≡ offset_of self }
     {
@@ -46,6 +47,7 @@ impl OffsetFields {
 ///
 /// `None` for any other text.
 #[tactic(auto, unfolding(crate::specs::Fields::Offsets::offset_fields))]
+#[inline(always)]
 pub(crate) fn parse_offset_fields(text: &str) -> Option<OffsetFields>
     ensures { result ≡ offset_fields text.now }
 {
@@ -63,6 +65,7 @@ pub(crate) fn parse_offset_fields(text: &str) -> Option<OffsetFields>
 
 /// A sign at the front.
 #[tactic(auto, unfolding(crate::specs::Fields::Offsets::read_sign))]
+#[inline(always)]
 pub(crate) fn read_sign(text: &str) -> Option<(Sign, &str)>
     ensures { read_view result ≡ read_sign text.now }
 {
@@ -74,6 +77,7 @@ pub(crate) fn read_sign(text: &str) -> Option<(Sign, &str)>
 
 /// Nothing more, or two digits more.
 #[tactic(auto, unfolding(crate::specs::Fields::Offsets::last_pair))]
+#[inline(always)]
 fn parse_last_pair(text: &str) -> Option<Option<u8>>
     ensures { result ≡ last_pair text.now }
 {

@@ -1,7 +1,9 @@
 //! Formatted dates, as logs and other programs print them.
-ghost use Rattle.std.specs.Prelude.{◌≡◌, IfSome, option_map, option_copied};
+ghost use Rattle.std.specs.Prelude.{◌≡◌, IfSome, [], ◌∷◌, option_map, option_copied};
 ghost use Rattle.gix_date.specs.Fields.DateFields.{skip_day_name};
-ghost use Rattle.gix_date.specs.Families.Patterns.{short_answer, day_answer, date_answer, rfc2822_answer, iso8601_answer, iso8601_strict_answer, gitoxide_answer, default_answer};
+ghost use Rattle.gix_date.specs.Families.Patterns.{day_answer, real_day_answer, time_answer, date_answer, rfc2822_answer, gitoxide_answer, default_answer};
+ghost use Rattle.gix_date.specs.Fields.Layout.{Spaces, Clock, Offset, LetterT, ColonOffset};
+ghost use Rattle.gix_date.specs.Private.AfterDay.{answer_after, dashed_answer};
 ghost use Rattle.gix_date.specs.Private.Civil.{DateFits, ClockFits};
 ghost use Rattle.jiff.specs.Words.{IsOffsetSeconds};
 ghost use Rattle.gix_date.specs.Private.Views.{answer_of, HasJiffOffset};
@@ -31,20 +33,33 @@ const MIDNIGHT: ClockFields = ClockFields {
     second: 0,
 };
 
-/// Reads a day alone, `2018-12-24`: its midnight in UTC.
-#[tactic(auto, unfolding(crate::specs::Families::Patterns::short_answer))]
-pub(crate) fn parse_short(text: &str) -> Option<Answer<'static>>
-    ensures answer { option_map answer_of result ≡ short_answer text.now }
+/// Reads a date that begins with a day: the day alone, `2018-12-24`, which is its midnight in UTC; ISO 8601 as Git prints
+/// it, `2022-08-18 12:45:06 +0800`; or its strict form, `2022-08-18T12:45:06+08:00`. The day is read once for all three.
+pub(crate) fn parse_dashed(text: &str) -> Option<Answer<'static>>
+    ensures answer { option_map answer_of result ≡ dashed_answer text.now }
     ensures offset_fits { IfSome result HasJiffOffset }
 {
     let (date, rest) = read_plain_date(text)?;
-    if !rest.is_empty() {
-        return None;
+    if rest.is_empty() {
+        return real_day_answer(date);
     }
-    if !is_date(date) {
-        return None;
+    if let Some(answer) = iso8601_after(date, rest) {
+        return Some(answer);
     }
-    Some(day_answer(date))
+    iso8601_strict_after(date, rest)
+}
+
+/// What a day alone answers that the calendar has.
+fn real_day_answer(date: DateFields) -> Option<Answer<'static>>
+    requires { DateFits date }
+    ensures answer { option_map answer_of result ≡ answer_after [] real_day_answer date [] }
+    ensures offset_fits { IfSome result HasJiffOffset }
+{
+    if is_date(date) {
+        Some(day_answer(date))
+    } else {
+        None
+    }
 }
 
 /// What a day alone answers.
@@ -83,25 +98,25 @@ fn skip_day_name(text: &str) -> Option<&str>
     skip_spaces(skip_char(',', skip_weekday(text)?)?)
 }
 
-/// Reads an ISO 8601 date as Git prints it, `2022-08-18 12:45:06 +0800`.
-#[tactic(auto, unfolding(crate::specs::Families::Patterns::iso8601_answer))]
-pub(crate) fn parse_iso8601(text: &str) -> Option<Answer<'static>>
-    ensures answer { option_map answer_of result ≡ iso8601_answer text.now }
+/// What an ISO 8601 date answers as Git prints it, after its day.
+fn iso8601_after(date: DateFields, rest: &str) -> Option<Answer<'static>>
+    requires { DateFits date }
+    ensures answer { option_map answer_of result
+        ≡ answer_after (Spaces ∷ Clock ∷ Spaces ∷ Offset ∷ []) time_answer date rest.now }
     ensures offset_fits { IfSome result HasJiffOffset }
 {
-    let (date, rest) = read_plain_date(text)?;
     let (clock, rest) = read_clock(skip_spaces(rest)?)?;
     let offset = parse_compact_offset(skip_spaces(rest)?)?;
     date_answer(date, clock, offset)
 }
 
-/// Reads a strict ISO 8601 date, `2022-08-18T12:45:06+08:00`.
-#[tactic(auto, unfolding(crate::specs::Families::Patterns::iso8601_strict_answer))]
-pub(crate) fn parse_iso8601_strict(text: &str) -> Option<Answer<'static>>
-    ensures answer { option_map answer_of result ≡ iso8601_strict_answer text.now }
+/// What a strict ISO 8601 date answers, after its day.
+fn iso8601_strict_after(date: DateFields, rest: &str) -> Option<Answer<'static>>
+    requires { DateFits date }
+    ensures answer { option_map answer_of result
+        ≡ answer_after (LetterT ∷ Clock ∷ ColonOffset ∷ []) time_answer date rest.now }
     ensures offset_fits { IfSome result HasJiffOffset }
 {
-    let (date, rest) = read_plain_date(text)?;
     let (clock, rest) = read_clock(skip_char('T', rest)?)?;
     let offset = parse_strict_offset(rest)?;
     date_answer(date, clock, offset)

@@ -37,6 +37,7 @@ impl Shape {
 
 /// The shape of a text, where the whole text is looked at only if its front does not tell.
 #[tactic(auto, unfolding(crate::specs::Private::Shapes::shape_by_front))]
+#[inline(always)]
 fn shape_by_front(text: &str) -> Shape
     ensures { result ≡ shape_by_front text.now }
 {
@@ -66,6 +67,7 @@ fn is_whole_number(text: &str) -> bool
 }
 
 /// Whether a text has the bytes of a number alone.
+#[inline(always)]
 fn has_number_bytes(text: &str) -> bool
     ensures { result ≡ list_all is_number_byte text.now }
 {
@@ -74,6 +76,7 @@ fn has_number_bytes(text: &str) -> bool
 }
 
 #[tactic(auto, unfolding(crate::specs::Families::Shapes::begins_with_at))]
+#[inline(always)]
 fn begins_with_at(text: &[u8]) -> bool
     ensures { result ≡ begins_with_at text.now }
 {
@@ -81,6 +84,7 @@ fn begins_with_at(text: &[u8]) -> bool
 }
 
 #[tactic(auto, unfolding(crate::specs::Families::Shapes::begins_with_letter))]
+#[inline(always)]
 fn begins_with_letter(text: &[u8]) -> bool
     ensures { result ≡ begins_with_letter text.now }
 {
@@ -92,6 +96,7 @@ fn begins_with_letter(text: &[u8]) -> bool
 
 /// Whether a text begins with four digits, this mark, two digits and the mark again.
 #[tactic(auto, unfolding(crate::specs::Families::Shapes::begins_with_marked_day))]
+#[inline(always)]
 fn begins_with_marked_day(mark: u8, text: &[u8]) -> bool
     ensures { result ≡ begins_with_marked_day mark text.now }
 {
@@ -187,6 +192,7 @@ fn are_long_word(first: u8, fourth: u8) -> bool
 
 /// Whether a text begins with eight digits and `T`.
 #[tactic(auto, unfolding(crate::specs::Families::Shapes::begins_with_compact_day))]
+#[inline(always)]
 fn begins_with_compact_day(text: &[u8]) -> bool
     ensures { result ≡ begins_with_compact_day text.now }
 {
@@ -200,12 +206,14 @@ fn begins_with_compact_day(text: &[u8]) -> bool
     }
 }
 
+#[inline(always)]
 fn are_four_digits(a: u8, b: u8, c: u8, d: u8) -> bool
     ensures { result ≡ are_four_digits a b c d }
 {
     are_two_digits(a, b) && are_two_digits(c, d)
 }
 
+#[inline(always)]
 fn are_two_digits(a: u8, b: u8) -> bool
     ensures { result ≡ are_two_digits a b }
 {

@@ -16,6 +16,7 @@ ghost use Rattle.gix_date.specs.Private.Printing.{PrintsAt};
 ghost use Rattle.gix_date.specs.declared.error.Error.TheVariants as errors;
 
 use crate::error::Error;
+use crate::time::named::named_text;
 use crate::time::{Time, header_text};
 use jiff::fmt::strtime::{BrokenDownTime, Config, to_string};
 use jiff::tz::Offset;
@@ -159,7 +160,7 @@ fn is_memory(error: &Error) -> bool
 }
 
 /// A copy of a text.
-fn copy_text(alloc: Global, text: &str) -> Result<String, Error>
+pub(crate) fn copy_text(alloc: Global, text: &str) -> Result<String, Error>
     ensures text { IfOk result (λ copy. string_bytes copy ≡ text.now) }
     ensures memory { IfErr result (λ e. e ≡ errors.Memory) }
 {
@@ -210,6 +211,9 @@ impl Time {
     pub fn format_by_pattern(&self, alloc: Global, pattern: &str) -> Result<String, Error>
         ensures { PrintsBy self.now pattern.now result }
     {
+        if let Some(printed) = named_text(alloc, pattern, *self) {
+            return printed;
+        }
         pattern_text(alloc, pattern, &self.to_zoned()?)
     }
 

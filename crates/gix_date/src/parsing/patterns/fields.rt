@@ -20,6 +20,7 @@ const WEEKDAYS: [&str; 7] = ["Mon", "Tue", "Wed", "Thu", "Fri", "Sat", "Sun"];
 
 /// What stands after one space or more.
 #[tactic(auto, unfolding(crate::specs::Fields::DateFields::skip_spaces))]
+#[inline(always)]
 pub(crate) fn skip_spaces(text: &str) -> Option<&str>
     ensures { option_copied result ≡ skip_spaces text.now }
 {
@@ -30,6 +31,7 @@ pub(crate) fn skip_spaces(text: &str) -> Option<&str>
     Some(&text[len..])
 }
 
+#[inline(always)]
 fn spaces_len(text: &str) -> usize
     ensures { result ≡ prefix_len is_space text.now }
 {
@@ -92,6 +94,7 @@ pub(crate) fn skip_weekday(text: &str) -> Option<&str>
 
 /// A year of four digits, and a month and a day of one or two, with `-` between them.
 #[tactic(auto, unfolding(crate::specs::Fields::DateFields::read_plain_date))]
+#[inline(always)]
 pub(crate) fn read_plain_date(text: &str) -> Option<(DateFields, &str)>
     ensures value { read_view result ≡ read_plain_date text.now }
     ensures fits { IfSome result (λ found. DateFits found.0) }
@@ -106,6 +109,7 @@ pub(crate) fn read_plain_date(text: &str) -> Option<(DateFields, &str)>
 
 /// An hour and a minute.
 #[tactic(auto, unfolding(crate::specs::Fields::DateFields::read_minutes))]
+#[inline(always)]
 fn read_minutes(text: &str) -> Option<(ClockFields, &str)>
     ensures value { read_view result ≡ read_minutes text.now }
     ensures fits { IfSome result (λ found. ClockFits found.0) }
@@ -126,6 +130,7 @@ fn read_minutes(text: &str) -> Option<(ClockFields, &str)>
 
 /// A second after an hour and a minute, where 60 is read as 59.
 #[tactic(auto, unfolding(crate::specs::Fields::DateFields::read_second))]
+#[inline(always)]
 fn read_second(clock: ClockFields, text: &str) -> Option<(ClockFields, &str)>
     requires { ClockFits clock }
     ensures value { read_view result ≡ read_second clock text.now }
@@ -138,6 +143,7 @@ fn read_second(clock: ClockFields, text: &str) -> Option<(ClockFields, &str)>
 }
 
 /// A second, which is 59 where it is 60.
+#[inline(always)]
 fn without_leap_second(second: u8) -> u8
     requires { second < 100 }
     ensures value { result ≡ without_leap_second second }
@@ -148,6 +154,7 @@ fn without_leap_second(second: u8) -> u8
 
 /// An hour, a minute and a second.
 #[tactic(auto, unfolding(crate::specs::Fields::DateFields::read_clock))]
+#[inline(always)]
 pub(crate) fn read_clock(text: &str) -> Option<(ClockFields, &str)>
     ensures value { read_view result ≡ read_clock text.now }
     ensures fits { IfSome result (λ found. ClockFits found.0) }

@@ -9,6 +9,7 @@ use crate::parsing::offset::{OffsetFields, parse_offset_fields, read_sign};
 use crate::time::{MAX_MINUTE, MAX_SECOND, OffsetInSeconds, SECONDS_PER_HOUR};
 
 /// The offset of fields: hours of at most 25, and minutes and seconds of at most 59.
+#[inline(always)]
 fn jiff_offset(fields: OffsetFields) -> Option<OffsetInSeconds>
     ensures value { result ≡ jiff_offset fields }
     ensures offset_fits { IfSome result (λ offset. IsOffsetSeconds offset) }
@@ -25,6 +26,7 @@ fn jiff_offset(fields: OffsetFields) -> Option<OffsetInSeconds>
 
 /// A sign, two digits of hours, two of minutes, and perhaps two of seconds.
 #[tactic(auto, unfolding(crate::specs::Fields::DateOffsets::compact_offset))]
+#[inline(always)]
 pub(crate) fn parse_compact_offset(text: &str) -> Option<OffsetInSeconds>
     ensures value { result ≡ compact_offset text.now }
     ensures offset_fits { IfSome result (λ offset. IsOffsetSeconds offset) }
@@ -34,6 +36,7 @@ pub(crate) fn parse_compact_offset(text: &str) -> Option<OffsetInSeconds>
 
 /// The same, with a colon between the pairs.
 #[tactic(auto, unfolding(crate::specs::Fields::DateOffsets::strict_offset))]
+#[inline(always)]
 pub(crate) fn parse_strict_offset(text: &str) -> Option<OffsetInSeconds>
     ensures value { result ≡ strict_offset text.now }
     ensures offset_fits { IfSome result (λ offset. IsOffsetSeconds offset) }
@@ -53,6 +56,7 @@ pub(crate) fn parse_strict_offset(text: &str) -> Option<OffsetInSeconds>
 
 /// Nothing more, or a colon and two digits more.
 #[tactic(auto, unfolding(crate::specs::Fields::DateOffsets::last_colon_pair))]
+#[inline(always)]
 fn parse_last_colon_pair(text: &str) -> Option<Option<u8>>
     ensures { result ≡ last_colon_pair text.now }
 {

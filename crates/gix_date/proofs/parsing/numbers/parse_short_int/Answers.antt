@@ -1,7 +1,7 @@
 use Rattle.std.proofs.Common.{rules, arith, ◌≡◌, ◌∙◌, ap, sym, ℤ, pos, neg_ℤ, to_z, of_z, w64, Some, ◌-ℤ◌}
 use Rattle.std.proofs.lemmas.Int.{ints}
 use Rattle.gix_date.proofs.ShortDigits.{bare-int, minus-rest}
-use Rattle.gix_date.proofs.parsing.plain.parse_short_int.Goals as goal
+use Rattle.gix_date.proofs.parsing.numbers.parse_short_int.Goals as goal
 
 pub returns-in_ok-parse_short_digits-in-45 : goal.returns-in_ok-parse_short_digits-in-45
 returns-in_ok-parse_short_digits-in-45 c =

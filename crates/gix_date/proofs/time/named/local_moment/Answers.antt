@@ -1,0 +1,35 @@
+use Rattle.std.proofs.Common.{rules, ◌≡◌, ◌∙◌, sym, ap, arith, ℤ, pos, ◌+ℤ◌, unsigned_abs, FitsSigned, w64, w16, w32}
+use Rattle.std.proofs.lemmas.Int.{to_z-of_z}
+use Rattle.std.specs.Int.{int_div_euclid, int_rem_euclid}
+use Rattle.jiff_core.proofs.DateLemmas.{epoch_day_range}
+use Rattle.jiff_core.proofs.SignedLemmas.{signed_arith}
+use Rattle.gix_date.specs.Printing.LocalClocks.{local_day, second_of_day}
+use Rattle.gix_date.proofs.LocalClocks.{clock-by, unsigned-is}
+use Rattle.gix_date.proofs.time.named.local_moment.Goals as goal
+
+pub returns-clause-shown : goal.returns-clause-shown
+returns-clause-shown c =
+    let t = c.args.time in
+    let local = c.in_ok-local.local in
+    let date = c.in-Ok.date in
+    let a = c.in_ok-local.ensures.value in
+    let local_fits : FitsSigned w64 local = search rules in
+    let offset_fits : FitsSigned w32 t.offset = search rules in
+    let day_fits : FitsSigned w64 c.div_euclid-day.result = search rules in
+    let year_fits : FitsSigned w16 date.year = search rules in
+    let div = simp to_z-of_z at c.div_euclid-day.ensures in
+    let day : c.div_euclid-day.result ≡ local_day t = div ∙ ap (λ (n : ℤ). int_div_euclid n (pos 86_400)) a in
+    let at = simp to_z-of_z at c.in-Ok.ensures.value in
+    let y = simp to_z-of_z at c.in-Ok-try_from.ensures in
+    let year : date.year ≡ pos c.in-Ok-try_from.year = unsigned-is date.year y.0 ∙ ap pos (sym y.1) in
+    let next_fits : FitsSigned w64 (c.div_euclid-day.result +ℤ pos 3) = omega (arith, signed_arith, epoch_day_range date, at) in
+    let r = simp to_z-of_z at c.rem_euclid.ensures.value in
+    let r2 = simp to_z-of_z at c.rem_euclid-2.ensures.value in
+    let second : unsigned_abs c.rem_euclid-2.result ≡ second_of_day t = ap unsigned_abs r2 ∙ ap (λ (n : ℤ). unsigned_abs (int_rem_euclid n (pos 86_400))) a in
+    let weekday_fits : FitsSigned w64 c.rem_euclid.result = search rules in
+    let second_fits : FitsSigned w64 c.rem_euclid-2.result = search rules in
+    let k = c.clock_at.ensures in
+    let hour = simp to_z-of_z at k.hour in
+    let minute = simp to_z-of_z at k.minute in
+    let last = simp to_z-of_z at k.second in
+    simp to_z-of_z (clock-by t c.div_euclid-day.result date c.in-Ok-try_from.year (unsigned_abs c.rem_euclid-2.result) (unsigned_abs c.rem_euclid.result) c.clock_at.result day at year second (ap unsigned_abs r) hour minute last)
