@@ -1,8 +1,6 @@
 -- The statuses that calls answer, and their numbers.
 use Rattle.std.specs.Prelude.{ℕ, List, Result, Err, if◌then◌else◌}
 use Rattle.std.specs.Str.{is_utf8}
-use Rattle.gix_date.specs.declared.error.Error.{Error}
-use Rattle.gix_date.specs.declared.error.Error.TheVariants as errors
 use Rattle.gix_date_c.specs.declared.status.Status.{Status}
 use Rattle.gix_date_c.specs.declared.status.Status.TheVariants as statuses
 
@@ -25,13 +23,6 @@ number_of statuses.Pattern = 13
 number_of statuses.Memory = 14
 number_of statuses.NoSignature = 15
 number_of statuses.BadPart = 16
-
--- the status of a refusal that prints
-abbrev pub status_of : Error → Status
-status_of errors.Conversion = statuses.Conversion
-status_of errors.OffsetTooWide = statuses.OffsetTooWide
-status_of errors.Memory = statuses.Memory
-status_of _ = statuses.Pattern
 
 -- what is answered of bytes that are text, and else that they are not
 abbrev pub if_text : {T : Type 0} → List ℕ → Result T Status → Result T Status

@@ -1,15 +1,16 @@
 //! The texts that named formats show of most times, each written at once.
-ghost use Rattle.std.specs.Prelude.{◌≡◌, ◌≤◌, ◌<◌, ◌++◌, ◌%◌, IfSome, IfOk, IfErr, string_bytes, unsigned_abs};
+ghost use Rattle.std.specs.Prelude.{◌≡◌, ◌≤◌, ◌<◌, ◌++◌, ◌%◌, [], ◌∷◌, drop, IfSome, IfOk, IfErr, string_bytes, unsigned_abs};
+ghost use Rattle.gix_date.specs.Text.Characters.{comma, space};
 ghost use Rattle.gix_date.specs.Text.Names.{day_name, month_name};
 ghost use Rattle.gix_date.specs.Text.Numbers.{two_digits};
 ghost use Rattle.gix_date.specs.Fields.ClockNumbers.{hours_in, minutes_in, seconds_per_minute};
 ghost use Rattle.gix_date.specs.Fields.FieldTexts.{four_digits};
 ghost use Rattle.gix_date.specs.Fields.Layout.{print_pieces};
-ghost use Rattle.gix_date.specs.Families.Patterns.{default_layout};
+ghost use Rattle.gix_date.specs.Families.Patterns.{default_layout, rfc2822_layout};
 ghost use Rattle.gix_date.specs.Header.Text.{compact_offset_text};
 ghost use Rattle.gix_date.specs.Printing.Formats.{PrintsBy};
 ghost use Rattle.gix_date.specs.Printing.LocalClocks.{local_seconds, clock_of, HasOrdinaryClock};
-ghost use Rattle.gix_date.specs.Printing.NamedTexts.{short_text, iso8601_text, iso8601_strict_text, gitoxide_text};
+ghost use Rattle.gix_date.specs.Printing.NamedTexts.{short_text, rfc2822_text, iso8601_text, iso8601_strict_text, gitoxide_text};
 ghost use Rattle.gix_date.specs.Printing.Zoned.{IsConvertible};
 ghost use Rattle.gix_date.specs.Private.NamedTexts.{local_of, one_digit};
 ghost use Rattle.gix_date.specs.declared.error.Error.TheVariants as errors;
@@ -250,6 +251,66 @@ fn iso8601_strict(t: LocalMoment) -> [u8; 25]
     ]
 }
 
+/// `Www, `.
+fn mail_day(weekday: u8) -> Option<[u8; 5]>
+    ensures { IfSome result (λ text. text ≡ day_name weekday ++ comma ∷ space ∷ []) }
+{
+    let [u, v, w] = day_bytes(weekday)?;
+    Some([u, v, w, b',', b' '])
+}
+
+/// `DD Mmm YYYY hh:mm:ss +hhmm`.
+fn mail_rest(t: LocalMoment) -> Option<[u8; 26]>
+    requires year { t.date.year ≤ 9999 }
+    requires offset { unsigned_abs t.offset < 360000 }
+    ensures { IfSome result (λ text. text
+        ≡ print_pieces two_digits (drop 1 rfc2822_layout) (local_of t)) }
+{
+    let [x, y, z] = month_bytes(t.date.month)?;
+    let [g, h] = digits(t.date.day);
+    let [a, b, c, d, i, j, k, l, m, n, o, p, q, r, s] = year_clock_and_offset(t);
+    Some([
+        g, h, b' ', x, y, z, b' ', a, b, c, d, b' ', i, j, b':', k, l, b':', m, n, b' ', o, p, q,
+        r, s,
+    ])
+}
+
+/// `Www, DD Mmm YYYY hh:mm:ss +hhmm`. It is put together of two, since so long an array is proved by its parts alone.
+fn mail(t: LocalMoment) -> Option<[u8; 31]>
+    requires year { t.date.year ≤ 9999 }
+    requires offset { unsigned_abs t.offset < 360000 }
+    ensures { IfSome result (λ text. text ≡ rfc2822_text (local_of t)) }
+{
+    Some(mail_of(mail_day(t.weekday)?, mail_rest(t)?))
+}
+
+/// The text of a date in mail by its two parts.
+fn mail_of(day: [u8; 5], rest: [u8; 26]) -> [u8; 31]
+    ensures { result ≡ day ++ rest }
+{
+    let mut text = [0; 31];
+    text[..5].copy_from_slice(&day);
+    text[5..].copy_from_slice(&rest);
+    text
+}
+
+/// The same as [`mail`] with one digit of the day.
+fn short_mail(t: LocalMoment) -> Option<[u8; 30]>
+    requires year { t.date.year ≤ 9999 }
+    requires offset { unsigned_abs t.offset < 360000 }
+    requires day { t.date.day < 10 }
+    ensures { IfSome result (λ text. text ≡ print_pieces one_digit rfc2822_layout (local_of t)) }
+{
+    let [u, v, w] = day_bytes(t.weekday)?;
+    let [x, y, z] = month_bytes(t.date.month)?;
+    let [a, b, c, d, i, j, k, l, m, n, o, p, q, r, s] = year_clock_and_offset(t);
+    let h = b'0' + t.date.day;
+    Some([
+        u, v, w, b',', b' ', h, b' ', x, y, z, b' ', a, b, c, d, b' ', i, j, b':', k, l, b':', m,
+        n, b' ', o, p, q, r, s,
+    ])
+}
+
 /// `Www Mmm DD YYYY hh:mm:ss +hhmm`.
 fn gitoxide(t: LocalMoment) -> Option<[u8; 30]>
     requires year { t.date.year ≤ 9999 }
@@ -319,6 +380,9 @@ pub(crate) fn named_text(alloc: Global, pattern: &str, time: Time) -> Option<Res
         "%Y-%m-%d" => copied(alloc, &short(t)),
         "%Y-%m-%d %H:%M:%S %z" => copied(alloc, &iso8601(t)),
         "%Y-%m-%dT%H:%M:%S%:z" => copied(alloc, &iso8601_strict(t)),
+        "%a, %d %b %Y %H:%M:%S %z" => copied(alloc, &mail(t)?),
+        "%a, %-d %b %Y %H:%M:%S %z" if t.date.day < 10 => copied(alloc, &short_mail(t)?),
+        "%a, %-d %b %Y %H:%M:%S %z" => copied(alloc, &mail(t)?),
         "%a %b %d %Y %H:%M:%S %z" => copied(alloc, &gitoxide(t)?),
         "%a %b %-d %H:%M:%S %Y %z" if t.date.day < 10 => copied(alloc, &short_git(t)?),
         "%a %b %-d %H:%M:%S %Y %z" => copied(alloc, &git(t)?),
