@@ -44,10 +44,7 @@ pub extern "C" fn gix_date_parse_at_offset(
         × (answer : Result Time Status) × IsParsedIn raw_offsets now.now zone text.now answer
         × StoresTime answer time.old time.new result }
 {
-    match offset_zone(offset) {
-        Ok(zone) => store_time(parse_in(text, raw_offsets, now, zone), time),
-        Err(status) => store_time(Err(status), time),
-    }
+    store_time(parse_in(text, raw_offsets, now, offset_zone(offset)), time)
 }
 
 /// Parses a date, which may be relative to a moment in the zone of a POSIX rule.
@@ -63,10 +60,7 @@ pub extern "C" fn gix_date_parse_in_posix_zone(
         × (answer : Result Time Status) × IsParsedIn raw_offsets now.now zone text.now answer
         × StoresTime answer time.old time.new result }
 {
-    match rule_zone(rule) {
-        Ok(zone) => store_time(parse_in(text, raw_offsets, now, zone), time),
-        Err(status) => store_time(Err(status), time),
-    }
+    store_time(parse_in(text, raw_offsets, now, rule_zone(rule)), time)
 }
 
 /// Parses a date, which may be relative to a moment in the zone of a TZif file.
@@ -85,8 +79,8 @@ pub extern "C" fn gix_date_parse_in_tzif_zone(
 {
     match Tzif::parse(alloc, None, file) {
         Ok(table) => {
-            let answer = parse_in(text, raw_offsets, now, TimeZone::tzif(&table));
-            store_time(answer, time)
+            let zone = Ok(TimeZone::tzif(&table));
+            store_time(parse_in(text, raw_offsets, now, zone), time)
         }
         Err(error) => store_time(Err(file_status(error)), time),
     }
@@ -116,16 +110,17 @@ fn parse_text(text: &[u8], raw_offsets: u32, now: Option<Zoned<'_>>) -> Result<T
     }
 }
 
-/// What a text says at an instant in a zone.
+/// What a text says at an instant in a zone, where there is the zone.
 fn parse_in(
     text: &[u8],
     raw_offsets: u32,
     instant: &CInstant,
-    zone: TimeZone<'_>,
+    zone: Result<TimeZone<'_>, Status>,
 ) -> Result<Time, Status>
-    ensures { IsParsedIn raw_offsets instant.now (Ok (plain_zone zone.entry)) text.now result }
+    ensures { IsParsedIn raw_offsets instant.now
+        (result_map_both plain_zone (λ status. status) zone.entry) text.now result }
 {
-    let now = moment(instant, zone)?;
+    let now = moment(instant, zone?)?;
     parse_text(text, raw_offsets, Some(now))
 }
 

@@ -6,7 +6,7 @@ use Rattle.gix_date_c.proofs.parse.gix_date_parse_in_tzif_zone.Goals as goal
 pub returns-in-Ok : goal.returns-in-Ok
 returns-in-Ok c =
     let is_zone : IsFileZone c.args.file.now (Ok (plain_zone c.tzif.result)) = (_, c.in-Ok.ensures.value, c.tzif.ensures) in
-    (Ok (plain_zone c.tzif.result), is_zone, c.parse_in-answer.result, c.parse_in-answer.ensures, c.store_time.ensures)
+    (Ok (plain_zone c.tzif.result), is_zone, c.parse_in.result, c.parse_in.ensures, c.store_time.ensures)
 
 pub returns-in-Err : goal.returns-in-Err
 returns-in-Err c =
