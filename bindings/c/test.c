@@ -244,6 +244,31 @@ static void relative_dates(void)
     EXPECT(is_time(time, untouched.seconds, untouched.offset), "a refusal stores nothing");
 }
 
+/* The rule for raw offsets, as each call that takes a moment is given it. */
+static void rules_of_offsets(void)
+{
+    static const gix_date_instant now = {1698400800, 0};
+    const char *text = "@5 +0007", *rule = "EST5EDT,M3.2.0,M11.1.0";
+    gix_date_time time = untouched;
+    EXPECT(gix_date_parse_at_offset(TEXT(text), GIX_DATE_WHOLE_MINUTES, &now, 0, &time) ==
+               GIX_DATE_OK,
+           "%s", text);
+    EXPECT(is_time(time, 5, 420), "%d", (int)time.offset);
+    time = untouched;
+    EXPECT(gix_date_parse_in_posix_zone(TEXT(text), GIX_DATE_WHOLE_MINUTES, &now, TEXT(rule),
+                                        &time) == GIX_DATE_OK,
+           "%s", text);
+    EXPECT(is_time(time, 5, 420), "%d", (int)time.offset);
+    time = untouched;
+    EXPECT(gix_date_parse_at_offset(TEXT(text), GIX_DATE_QUARTERS, &now, 0, &time) ==
+               GIX_DATE_UNKNOWN_FORMAT,
+           "%s", text);
+    EXPECT(gix_date_parse_in_posix_zone(TEXT(text), GIX_DATE_QUARTERS, &now, TEXT(rule), &time) ==
+               GIX_DATE_UNKNOWN_FORMAT,
+           "%s", text);
+    EXPECT(is_time(time, untouched.seconds, untouched.offset), "a refusal stores nothing");
+}
+
 /* New York's zone as a file: version 2, no transition, and the rule. */
 static const char zone_file[] = "TZif2\0\0\0\0\0\0\0\0\0\0\0\0\0\0\0\0\0\0\0\0\0\0\0\0\0\0\0\0\0\0"
                                 "\0\0\0\0\1\0\0\0\4\0\0\0\0\0\0EST\0"
@@ -354,10 +379,33 @@ static void refused_formats(void)
     EXPECT(gix_date_format_by_pattern(&day, TEXT("%H:%M"), out, 4, &len) == GIX_DATE_NO_ROOM &&
                len == 5,
            "four bytes");
+    EXPECT(gix_date_format_by_pattern_or_unix(&far, TEXT("%Y"), out, sizeof buffer, &len) ==
+               GIX_DATE_OK,
+           "the last second");
+    EXPECT(len == 19 && memcmp(buffer, "9223372036854775807", 19) == 0, "the last second");
     EXPECT(gix_date_format_by_pattern_or_unix(&day, TEXT("%!"), out, sizeof buffer, &len) ==
                GIX_DATE_OK,
            "no directive");
     EXPECT(len == 10 && memcmp(buffer, "1660797906", 10) == 0, "the seconds");
+}
+
+static void patterns_without_memory(void)
+{
+    static const gix_date_time day = {1660797906, 28800};
+    char buffer[64];
+    uint8_t *out = (uint8_t *)buffer;
+    size_t len = 99, len_or_unix = 99;
+    memset(buffer, '#', sizeof buffer);
+    refuses = true;
+    EXPECT(gix_date_format_by_pattern(&day, TEXT("%H:%M"), out, sizeof buffer, &len) ==
+               GIX_DATE_OUT_OF_MEMORY,
+           "a clock");
+    EXPECT(gix_date_format_by_pattern_or_unix(&day, TEXT("%H:%M"), out, sizeof buffer,
+                                              &len_or_unix) == GIX_DATE_OUT_OF_MEMORY,
+           "a clock");
+    refuses = false;
+    EXPECT(len == 0 && len_or_unix == 0 && is_untouched(buffer, sizeof buffer),
+           "a refusal stores nothing");
 }
 
 /* Whether a part of a line is this text. */
@@ -461,11 +509,13 @@ int main(void)
     without_memory(null_pointers, "texts at NULL");
     without_memory(dates, "dates");
     without_memory(relative_dates, "relative dates");
+    without_memory(rules_of_offsets, "rules for offsets");
     written_headers();
     zone_files();
     formats(gix_date_format);
     formats(gix_date_format_or_unix);
     refused_formats();
+    patterns_without_memory();
     signatures();
     threads();
     if (failures > 0)
