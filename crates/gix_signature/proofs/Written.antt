@@ -14,7 +14,7 @@ use Rattle.gix_date.proofs.HeaderLaws.{written-is-read}
 use Rattle.gix_signature.specs.Signature.{may_stand, is_part, line_of, opening, closing, newline, nul}
 use Rattle.gix_signature.specs.Writing.{line_due, parts_due, WritesLine, IsWritten}
 use Rattle.gix_signature.specs.declared.error.SignatureError.{SignatureError}
-use Rattle.gix_signature.specs.declared.error.SignatureError.TheVariants.{BadPart, OffsetTooWide, Write}
+use Rattle.gix_signature.specs.declared.error.SignatureError.TheVariants.{BadPart, OffsetTooWide}
 use Rattle.gix_signature.proofs.Cuts.{and-both, all-both}
 
 pub differs : (a b : ℕ) → a ≢ b → (a == b) ≡ false
