@@ -12,7 +12,8 @@ use thiserror::Error;
 pub enum Error {
     /// No form that a date may have holds the text, or its offset is above what a formatted date may have (`parse`).
     #[error("no known date format: {:?}; expected seconds since 1970, such as \"@0\" or \"1700000000\", \
-        seconds and an offset, such as \"1660874655 +0800\", a date, such as \"2022-08-18 12:45:06 +0800\", or a relative one, such as \"2 weeks ago\"", .input.as_text())]
+        seconds and an offset, such as \"1660874655 +0800\", a date, such as \"2022-08-18 12:45:06 +0800\", \
+        or a relative one, such as \"2 weeks ago\"", .input.as_text())]
     UnknownFormat {
         /// The text that was given.
         input: InputBytes,

@@ -162,7 +162,11 @@ fn line_len(line: SignatureRef<'_>) -> usize
 
 /// Puts a line at the front of a buffer that has room for it.
 fn store_line(line: SignatureRef<'_>, out: &mut [u8]) -> Status
-    ensures { record { bytes = out.new; len = as_usize (length (line_of (parts_of line.entry))); status = number_of result }
+    ensures { record {
+      bytes = out.new;
+      len = as_usize (length (line_of (parts_of line.entry)));
+      status = number_of result;
+    }
         ≡ text_outcome (line_of (parts_of line.entry)) out.old }
 {
     if line_len(line) > out.len() {

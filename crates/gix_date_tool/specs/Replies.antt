@@ -46,7 +46,8 @@ IsParseReply answer now reply =
 
 -- the reply of Sign to a text: the line that is written of its parts, or that there is none
 abbrev pub IsSignReply : List ℕ → Reply → Type 0
-IsSignReply text reply = ((line : List ℕ) × IsSigned text line × (reply ≡ Signed line)) ⊎ (IsUnsigned text × (reply ≡ NoSignature))
+IsSignReply text reply =
+    ((line : List ℕ) × IsSigned text line × (reply ≡ Signed line)) ⊎ (IsUnsigned text × (reply ≡ NoSignature))
 
 -- the reply to a text in a mode
 abbrev pub IsTextReply : Mode → Option Zoned → List ℕ → Reply → Type 0

@@ -48,7 +48,8 @@ impl NoMoment {
     {
         match self {
             NoMoment::UnknownFormat => {
-                "NOW is in no known date format; expected a date, such as \"2022-08-18 12:45:06 +0800\" or \"1660874655 +0800\""
+                "NOW is in no known date format; expected a date, \
+                 such as \"2022-08-18 12:45:06 +0800\" or \"1660874655 +0800\""
             }
             NoMoment::DateConversion => "NOW is beyond the last instant that can be computed with",
             NoMoment::Relative => "NOW is a relative date, and has no moment to count from",

@@ -255,7 +255,8 @@ fn a_moment_is_read_without_memory(rt: HostRuntime) -> Result<(), Fail> {
     );
     let told = sink.is(b"usage: gix_date_tool MODE [NOW]\n")
         && said.is(
-            b"gix_date_tool: NOW is in no known date format; expected a date, such as \"2022-08-18 12:45:06 +0800\" or \"1660874655 +0800\"\n",
+            b"gix_date_tool: NOW is in no known date format; expected a date, \
+              such as \"2022-08-18 12:45:06 +0800\" or \"1660874655 +0800\"\n",
         );
     drop(blocks);
     assert_eq!(rt; answer, None);
@@ -293,7 +294,8 @@ fn a_run_in_parse_takes_memory_for_the_line_alone(rt: HostRuntime) {
     let mut sink = Device::new(Small::new());
     let answer = run(rt.alloc(), Mode::Parse, None, &mut source, &mut sink);
     let output_is_right = sink.into_inner().is(
-        b"1203039045 -0500\nerror unknown-format\nerror date-conversion\nerror missing-moment\nerror unknown-format\nerror unknown-format\nerror unknown-format\n0 +0000\nnot text\n5 +0000\n",
+        b"1203039045 -0500\nerror unknown-format\nerror date-conversion\nerror missing-moment\n\
+          error unknown-format\nerror unknown-format\nerror unknown-format\n0 +0000\nnot text\n5 +0000\n",
     );
     drop(source);
     assert!(rt; matches!(answer, Ok(10)), "no-memory");
@@ -310,7 +312,8 @@ fn a_run_in_sign_takes_memory_for_the_line_alone(rt: HostRuntime) {
     let mut sink = Device::new(Small::new());
     let answer = run(rt.alloc(), Mode::Sign, None, &mut source, &mut sink);
     let output_is_right = sink.into_inner().is(
-        b"A U Thor <author@example.com> 1660874655 +0800\nA <a> 1660874655 +0000\nnone\nnone\nnone\nnot text\n <> 0 +0000\n",
+        b"A U Thor <author@example.com> 1660874655 +0800\nA <a> 1660874655 +0000\n\
+          none\nnone\nnone\nnot text\n <> 0 +0000\n",
     );
     drop(source);
     assert!(rt; matches!(answer, Ok(7)), "no-memory");

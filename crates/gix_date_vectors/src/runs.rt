@@ -75,7 +75,8 @@ fn lines_are_answered(rt: HostRuntime) {
 fn absolute_lines_are_parsed_alike_at_any_moment(rt: HostRuntime) {
     let input = b"@-1000\n100000000\n20080214\n2008-02-14 20:30:45Z\n5 -0130\n\n\xff\n".as_slice();
     let output =
-        "-1000 +0000\n100000000 +0000\nerror unknown-format\n1203021045 +0000\n5 -0130\nerror unknown-format\nnot text\n";
+        "-1000 +0000\n100000000 +0000\nerror unknown-format\n1203021045 +0000\n5 -0130\nerror unknown-format\n\
+         not text\n";
     for now in [
         None,
         Some(Time::new(1_698_400_800, 0)),
@@ -138,7 +139,8 @@ fn relative_lines_are_parsed_from_the_moment(rt: HostRuntime) {
 const SIGNED: [(&str, &[u8], &[u8], u64); 14] = [
     (
         "sign-lines",
-        b"A U Thor <author@example.com> 1660874655 +0800\nA <a> 1660874655\n <> 0 +0000\nA <a>\nA <a> x\nA <a> 0 +9999\n",
+        b"A U Thor <author@example.com> 1660874655 +0800\nA <a> 1660874655\n <> 0 +0000\n\
+          A <a>\nA <a> x\nA <a> 0 +9999\n",
         b"A U Thor <author@example.com> 1660874655 +0800\nA <a> 1660874655 +0000\n <> 0 +0000\nnone\nnone\nnone\n",
         6,
     ),

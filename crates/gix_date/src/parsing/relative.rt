@@ -145,7 +145,8 @@ impl<'a> Relative<'a> {
 
     /// The instant that is asked for, in the moment's zone.
     fn instant<'z>(self, moment: Zoned<'z>) -> Option<Zoned<'z>>
-        ensures reaches { IsAt (Reaches (relative_date_of self.entry) (zone_of moment.entry) (zoned_nanos moment.entry)) result }
+        ensures reaches { IsAt
+            (Reaches (relative_date_of self.entry) (zone_of moment.entry) (zoned_nanos moment.entry)) result }
         ensures zone { IfSome result (KeepsZone moment.entry) }
     {
         match self {
@@ -157,7 +158,8 @@ impl<'a> Relative<'a> {
 
 /// The moment, with the pairs of a text taken off one after the other.
 fn subtract_pairs<'a>(start: Zoned<'a>, text: &str) -> Option<Zoned<'a>>
-    ensures chain { IsAt (Chain (zone_of start.entry) (pairs_read (relative_words text.now)) (zoned_nanos start.entry)) result }
+    ensures chain { IsAt
+        (Chain (zone_of start.entry) (pairs_read (relative_words text.now)) (zoned_nanos start.entry)) result }
     ensures zone { IfSome result (KeepsZone start.entry) }
 {
     let mut moment = start;

@@ -35,7 +35,8 @@ impl Time {
     /// The time that a clock shows, with the offset that the zone has there, or with 0 where no zone is handed in.
     pub fn now_local_or_utc(clock: Timestamp, zone: Option<TimeZone<'_>>) -> Time
         ensures { result
-            ≡ unwrap_or (option_map (λ z. time_in (plain_zone z) clock.nanosecond) zone.entry) (time_in_utc clock.nanosecond) }
+            ≡ unwrap_or (option_map (λ z. time_in (plain_zone z) clock.nanosecond) zone.entry)
+            (time_in_utc clock.nanosecond) }
     {
         Time::now_local(clock, zone).unwrap_or(Time::now_utc(clock))
     }

@@ -61,8 +61,10 @@ fn subtract_months(instant: Timestamp, offset: Offset, months: i64) -> Option<Ti
 
 /// The instant at which a clock at the offset shows a date and a time of day.
 fn pick(date: Date, time: Time, offset: Offset) -> Option<Timestamp>
-    ensures some { IsSome result ↔ IsTimestampNanos (civil_of (epoch_day date) time -ℤ nanos_of_seconds offset.seconds) }
-    ensures value { IfSome result (λ r. r.nanosecond ≡ civil_of (epoch_day date) time -ℤ nanos_of_seconds offset.seconds) }
+    ensures some { IsSome result
+        ↔ IsTimestampNanos (civil_of (epoch_day date) time -ℤ nanos_of_seconds offset.seconds) }
+    ensures value { IfSome result
+        (λ r. r.nanosecond ≡ civil_of (epoch_day date) time -ℤ nanos_of_seconds offset.seconds) }
 {
     match offset.to_timestamp(date.to_datetime(time)) {
         Ok(instant) => Some(instant),
