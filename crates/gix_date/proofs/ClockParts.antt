@@ -28,10 +28,10 @@ field_no most (c ∷ cs) h = ap (λ b. cond b (at_most most (digits_value 10 (c 
 above : (most n : ℕ) → most < n → None ≡ at_most most n
 above most n h = let test : nat_lt most n ≡ true = grind (arith, nat_tests, h) in ap (λ b. cond b None (Some n)) (sym test)
 
-below : (most n : ℕ) → n ≤ most → Some n ≡ at_most most n
+pub below : (most n : ℕ) → n ≤ most → Some n ≡ at_most most n
 below most n h = let test : nat_lt most n ≡ false = grind (arith, nat_tests, h) in ap (λ b. cond b None (Some n)) (sym test)
 
-field_yes : (most : ℕ) (t : List ℕ) → list_all is_ascii_digit t ≡ true → 0 < length t → at_most most (digits_value 10 t) ≡ digits_at_most most t
+pub field_yes : (most : ℕ) (t : List ℕ) → list_all is_ascii_digit t ≡ true → 0 < length t → at_most most (digits_value 10 t) ≡ digits_at_most most t
 unfolding digits_at_most
 field_yes most [] h long = absurd (omega arith)
 field_yes most (c ∷ cs) h long = ap (λ b. cond b (at_most most (digits_value 10 (c ∷ cs))) None) (sym h)

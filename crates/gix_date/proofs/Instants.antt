@@ -9,7 +9,7 @@ use Rattle.jiff_core.proofs.SignedLemmas.{signed_arith}
 use Rattle.jiff_core.proofs.DateTimeLemmas.{civil_nanos-parts}
 use Rattle.jiff_core.specs.Calendar.{IsDate, IsBetween, days_from_civil, days_in_month}
 use Rattle.jiff_core.specs.Date.{IsYmd, epoch_day}
-use Rattle.jiff_core.specs.DateTime.{civil_nanos}
+use Rattle.jiff_core.specs.DateTime.{civil_nanos, civil_seconds as shown_seconds}
 use Rattle.jiff_core.specs.Time.{IsTime, IsHms}
 use Rattle.jiff_core.specs.Timestamp.{IsTimestampNanos, nanos_of_seconds}
 use Rattle.jiff_core.specs.declared.civil.date.Date.{Date}
@@ -100,6 +100,14 @@ local_nanos local d c offset date time =
     let day = epoch_day_of local.date (pos d.year) (pos d.month) (pos d.day) date in
     omega (arith, signed_arith, civil_nanos-parts local, day, time.0, time.1, time.2, time.3)
 
+-- the same in seconds, as the datetime says them
+pub local_seconds : (local : DateTime) (d : DateFields) (c : ClockFields) (offset : ℤ) → IsYmd (pos d.year) (pos d.month) (pos d.day) local.date
+    → IsHms (pos c.hour) (pos c.minute) (pos c.second) (pos 0) local.time → shown_seconds local -ℤ offset ≡ civil_seconds d c offset
+unfolding shown_seconds
+local_seconds local d c offset date time =
+    let day = epoch_day_of local.date (pos d.year) (pos d.month) (pos d.day) date in
+    omega (arith, signed_arith, day, time.0, time.1, time.2)
+
 pub instant_range : (n s : ℤ) → n ≡ s *ℤ pos 1_000_000_000 → IsTimestampNanos n ↔ IsInstantSeconds s
 instant_range n s e = (λ h. omega (arith, signed_arith), λ h. omega (arith, signed_arith))
 
@@ -138,3 +146,13 @@ pub an_instant : (d : DateFields) (c : ClockFields) (offset s : ℤ) → IsDate 
 unfolding civil_instant
 an_instant d c offset s date time instant is =
     ap Some is ∙ chosen (is_date d && is_clock c && is_instant (civil_seconds d c offset)) _ (join _ _ (join _ _ (date_from d date) (clock_from c time)) (instant_from _ instant))
+
+-- a day that has an instant is a date
+
+first-test : (a b c : Bool) (x s : ℤ) → Some s ≡ cond (a && b && c) (Some x) None → a ≡ true
+first-test true b c x s e = refl
+first-test false b c x s e = absurd cc
+
+pub is-dated : (d : DateFields) (c : ClockFields) (offset s : ℤ) → Some s ≡ civil_instant d c offset → is_date d ≡ true
+unfolding civil_instant
+is-dated d c offset s e = first-test (is_date d) (is_clock c) (is_instant (civil_seconds d c offset)) (civil_seconds d c offset) s e

@@ -26,6 +26,7 @@ pub mod Widened
 pub mod Shapes
 pub mod DateFronts
 mod AfterDay
+mod NamesRead
 pub mod Overlaps
 pub mod RawBack
 pub mod RelativeWordSteps
@@ -59,4 +60,6 @@ pub mod HeaderTexts
 pub mod Instants
 pub mod LastPlaces
 pub mod ClockCuts
+pub mod Trimmed
+pub mod PlainRests
 pub mod ClockParts

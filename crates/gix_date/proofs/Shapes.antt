@@ -1,22 +1,24 @@
 -- Which shapes the texts of each family have: the first family of a text is the first of its shape's.
-use Rattle.std.proofs.Common.{◌≡◌, ◌∙◌, ℕ, ℤ, Bool, true, false, cond, List, [], ◌∷◌, ◌++◌, filter, map, refl, ap, sym, subst, arith, append_assoc, Option, Some, None, is_some, inl, inr, ◌⊎◌, IsUtf8}
+use Rattle.std.proofs.Common.{◌≡◌, ◌∙◌, ℕ, ℤ, Bool, true, false, cond, List, [], ◌∷◌, ◌++◌, filter, map, refl, ap, sym, subst, arith, append_assoc, Option, Some, None, is_some, option_map, inl, inr, ◌⊎◌, IsUtf8}
 use Rattle.std.proofs.lemmas.Bool.{and_parts as both}
 use Rattle.std.proofs.lemmas.Bool.Decides.{nat_tests}
 use Rattle.std.specs.Char.{is_ascii_digit, is_ascii_alphabetic}
 use Rattle.std.specs.List.{list_any, list_all}
-use Rattle.std.specs.Prelude.{◌==◌, ◌&&◌, ◌||◌, not}
+use Rattle.std.specs.Prelude.{◌==◌, ◌&&◌, ◌||◌, not, if◌then◌else◌}
+use Rattle.std.specs.Int.Signed.{le_z}
 use Rattle.std.specs.Option.{option_or}
 use Rattle.gix_date.specs.Families.Answer.{FamilyAnswer, Absolute}
 use Rattle.gix_date.specs.Text.Characters.{at_sign, comma, minus, dot, space, letter_t}
 use Rattle.gix_date.specs.Families.Order.{Family, AtText, Short, Rfc2822, Iso8601, Iso8601Strict, Gitoxide, GitDefault, BareEpoch, GitForm, RelativeText, RawText, families, family_answer_by, first_answer_of, first_family_by}
 use Rattle.gix_date.specs.Families.Laws.{HoldsBy}
 use Rattle.gix_date.specs.Fields.FieldTexts.{IsYear, IsField, IsDayName, IsDayPrefix, AreSpaces}
+use Rattle.gix_date.specs.Fields.Front.{skip_char}
 use Rattle.gix_date.specs.Text.Numbers.{int_value}
 use Rattle.gix_date.specs.Private.Shapes.{is_number_byte, begins_with_year, begins_with_count, begins_without_comma, shape_by_front}
 use Rattle.gix_date.specs.Fields.DateFields.{read_plain_date}
 use Rattle.gix_date.specs.Fields.Layout.{LocalTime, DayName, BeginsWith}
 use Rattle.gix_date.specs.Families.Patterns.{short_answer, rfc2822_answer, iso8601_answer, iso8601_strict_answer}
-use Rattle.gix_date.specs.Families.Epoch.{at_time_by, epoch_time}
+use Rattle.gix_date.specs.Families.Epoch.{at_time_by, epoch_time, min_bare_epoch, utc_time}
 use Rattle.gix_date.specs.Git.Forms.{git_time}
 use Rattle.gix_date.specs.Families.Raw.{OffsetRule, raw_time_by}
 use Rattle.gix_date.specs.Families.Shapes.{are_two_digits, are_four_digits, begins_with_at, begins_with_marked_day, begins_with_compact_day, begins_with_letter, shape_of, shape_families, first_among_by, IsDispatchedBy}
@@ -26,7 +28,7 @@ use Rattle.gix_date.specs.declared.parsing.shape.Shape.TheVariants.{AtSign, Whol
 use Rattle.gix_date.specs.declared.time.Time.{Time}
 use Rattle.gix_date.proofs.Apart.{at-first, mixed, no-mail-first, no-mail-year}
 use Rattle.gix_date.proofs.Disjoint.{GitFront, year-front, compact-year, raw-words, none-unless, int-digits, int-first, no-git, front-digits, letter_visible, epoch-int}
-use Rattle.gix_date.proofs.Exclusive.{place, git-no-day, raw-first-family, none-held, answered, absolute, quiet-clash}
+use Rattle.gix_date.proofs.Exclusive.{place, git-no-day, none-held, answered, absolute, quiet-clash}
 use Rattle.gix_date.proofs.FieldsRead.{Begins, begins-append, digit-no-letter, letter-no-digit, space-no-digit, field-begins, name-begins, year-begins}
 use Rattle.gix_date.proofs.FirstWords.{is_visible}
 use Rattle.gix_date.proofs.FirstBytes.{int-no-byte, no-raw-front, no-raw-byte, no-git-byte, no-plain-by, plain-front, plain-year}
@@ -332,9 +334,8 @@ named-tried family text begins tried = by-rows text (IsTried family) (record {
         let no : true ≡ false = sym letter ∙ digit-no-letter g.first g.digit in
         cc
 
-int-tried : (text : List ℕ) (n : ℤ) → int_value text ≡ Some n → IsTried BareEpoch (shape_of text)
-unfolding IsTried
-int-tried text n e = by-rows text (IsTried BareEpoch) (record {
+int-shape : (text : List ℕ) (n : ℤ) → int_value text ≡ Some n → shape_of text ≡ WholeNumber
+int-shape text n e = by-rows text (λ (shape : Shape). shape ≡ WholeNumber) (record {
   at = λ rest s. absurd (int-no-at rest n (ap int_value (sym s) ∙ e));
   int = λ m i. refl;
   dashed = λ m y. absurd (int-no-front text n e y.front);
@@ -343,6 +344,10 @@ int-tried text n e = by-rows text (IsTried BareEpoch) (record {
   letter = λ l. absurd (int-no-letter text n e l);
   other = λ i l. (let no : true ≡ false = sym (ap is_some e) ∙ i in absurd cc);
 })
+
+int-tried : (text : List ℕ) (n : ℤ) → int_value text ≡ Some n → IsTried BareEpoch (shape_of text)
+unfolding IsTried
+int-tried text n e = subst (IsTried BareEpoch) (sym (int-shape text n e)) refl
 
 git-tried : (text : List ℕ) (t : Time) → IsUtf8 text → git_time text ≡ Some t → IsTried GitForm (shape_of text)
 unfolding IsTried
@@ -376,11 +381,18 @@ relative-tried rule text u h = by-rows text (IsTried RelativeText) (record {
   other = λ i l. refl;
 })
 
+int-no-raw : (rule : OffsetRule) (text : List ℕ) (n : ℤ) → int_value text ≡ Some n → raw_time_by rule text ≡ None
+int-no-raw rule text n i = none-unless (raw_time_by rule text) (λ t e. (
+    let r = raw-words rule text t e in
+    let no : r.front ∷ r.zone ∷ [] ≡ text ∷ [] = sym r.is ∙ one-word text (int-number text n i) in
+    cc
+    ))
+
 raw-tried : (rule : OffsetRule) (text : List ℕ) (t : Time) → raw_time_by rule text ≡ Some t → IsTried RawText (shape_of text)
 unfolding IsTried
 raw-tried rule text t e = by-rows text (IsTried RawText) (record {
   at = λ rest s. absurd (clash (ap (raw_time_by rule) s ∙ no-raw-byte rule at_sign rest refl refl));
-  int = λ n i. absurd (one-no-raw n i);
+  int = λ n i. absurd (clash (int-no-raw rule text n i));
   dashed = λ m y. absurd (clash (no-raw-front rule text y.front));
   dotted = λ m y. absurd (clash (no-raw-front rule text y.front));
   compact = λ m y. absurd (clash (no-raw-front rule text y.front));
@@ -390,12 +402,6 @@ raw-tried rule text t e = by-rows text (IsTried RawText) (record {
   where
     clash : raw_time_by rule text ≡ None → ⊥
     clash n = let no : None ≡ Some t = sym n ∙ e in cc
-
-    one-no-raw : (n : ℤ) → int_value text ≡ Some n → ⊥
-    one-no-raw n i =
-        let r = raw-words rule text t e in
-        let no : r.front ∷ r.zone ∷ [] ≡ text ∷ [] = sym r.is ∙ one-word text (int-number text n i) in
-        cc
 
     no-letter : (text : List ℕ) → Begins is_ascii_alphabetic text → raw_time_by rule text ≡ Some t → ⊥
     no-letter [] h e = absurd h
@@ -450,23 +456,28 @@ is-dispatched rule text u =
     λ family n. none-unless (family_answer_by rule family text) (λ x e. (let no : true ≡ false = sym (tried rule family text u (ap is_some e)) ∙ n in cc)) in
     kept answer (is_tried shape) families none ∙ ap (λ (list : List Family). first_answer_of (map answer list)) (in-order shape)
 
+-- What a number alone says: it is a bare epoch or nothing.
+pub number-says : (rule : OffsetRule) (text : List ℕ) (n : ℤ) → int_value text ≡ Some n
+    → first_among_by rule (shape_families WholeNumber) text ≡ (if le_z min_bare_epoch n then Some (Absolute (utc_time n)) else None)
+unfolding epoch_time
+number-says rule text n e = rw e (by-least (le_z min_bare_epoch n))
+  where
+    by-least : (b : Bool) → option_or (option_map Absolute (cond b (Some (utc_time n)) None)) None ≡ cond b (Some (Absolute (utc_time n))) None
+    by-least true = refl
+    by-least false = refl
+
+pub number-first : (rule : OffsetRule) (text : List ℕ) (n : ℤ) → IsUtf8 text → int_value text ≡ Some n
+    → first_family_by rule text ≡ (if le_z min_bare_epoch n then Some (Absolute (utc_time n)) else None)
+number-first rule text n u e =
+    is-dispatched rule text u ∙ ap (λ (shape : Shape). first_among_by rule (shape_families shape) text) (int-shape text n e) ∙ number-says rule text n e
+
+-- an at text of a number alone
+pub at-int : (rule : OffsetRule) (text rest : List ℕ) (n : ℤ) → skip_char at_sign text ≡ Some rest → int_value rest ≡ Some n
+    → at_time_by rule text ≡ Some (utc_time n)
+unfolding at_time_by
+at-int rule text rest n s e = rw (s, int-no-raw rule rest n e, e) refl
+
 -- Fewer families of the last row, by more of what a text begins with.
-only-other : (shape : Shape) → IsTried RawText shape → shape ≡ Other
-unfolding IsTried
-only-other AtSign h = absurd cc
-only-other WholeNumber h = absurd cc
-only-other DashedDay h = absurd cc
-only-other DottedDay h = absurd cc
-only-other CompactDay h = absurd cc
-only-other Letter h = absurd cc
-only-other Other h = refl
-
--- a raw text
-pub raw-among : (rule : OffsetRule) (text : List ℕ) (t : Time) → IsUtf8 text → raw_time_by rule text ≡ Some t → first_among_by rule (shape_families Other) text ≡ Some (Absolute t)
-raw-among rule text t u e =
-    ap (λ (shape : Shape). first_among_by rule (shape_families shape) text) (sym (only-other (shape_of text) (raw-tried rule text t e)))
-    ∙ sym (is-dispatched rule text u) ∙ raw-first-family rule text t u e
-
 -- a text with a year and `-` first, and one without
 pub year-among : (rule : OffsetRule) (text : List ℕ) → begins_with_year text ≡ true → first_among_by rule (shape_families Other) text ≡ first_among_by rule (shape_families DashedDay) text
 unfolding begins_with_year

@@ -1,5 +1,5 @@
 -- What the strict printer shows by a named pattern is its text: not only nothing else, but that.
-use Rattle.std.proofs.Common.{◌≡◌, ◌∙◌, ◌/◌, ◌%◌, ◌++◌, ℤ, pos, int_lt, unsigned_abs, Bool, true, length, Bor, option_map, arith, lit<, if◌then◌else◌, ◌<◌, ◌≤◌, ℕ, List, [], ◌∷◌, decimal, Option, Some, None, Result, Ok, Err, IfSome, IfOk, IfErr, String, Global, refl, sym, ap, subst, inl, inr, false, string_bytes, suc, zero}
+use Rattle.std.proofs.Common.{◌≡◌, ◌∙◌, ◌+◌, ◌/◌, ◌%◌, ◌++◌, ℤ, pos, int_lt, unsigned_abs, Bool, true, length, Bor, option_map, arith, lit<, if◌then◌else◌, ◌<◌, ◌≤◌, ℕ, List, [], ◌∷◌, decimal, Option, Some, None, Result, Ok, Err, IfOk, IfErr, String, Global, refl, sym, ap, append_assoc, subst, inl, inr, false, string_bytes, suc, zero}
 use Rattle.std.proofs.lemmas.Fmt.{decimal_digit}
 use Rattle.jiff.specs.Types.{PlainZoned}
 use Rattle.jiff_core.specs.declared.error.Error.TheVariants.{Missing}
@@ -31,14 +31,14 @@ use Rattle.gix_date.specs.Printing.NamedTexts.{local_time}
 use Rattle.gix_date.specs.Printing.LocalClocks.{clock_of, HasOrdinaryClock}
 use Rattle.gix_date.specs.Printing.Formats.{IsShown, AtMoment, PrintsBy}
 use Rattle.gix_date.specs.Printing.Zoned.{IsConvertible}
-use Rattle.gix_date.specs.Private.NamedTexts.{HasParts, one_digit}
+use Rattle.gix_date.specs.Private.NamedTexts.{HasParts, IsShownByAll}
 use Rattle.gix_date.specs.Text.Numbers.{two_digits}
 use Rattle.gix_date.specs.declared.error.Error.{Error}
 use Rattle.gix_date.specs.declared.error.Error.TheVariants as errors
 use Rattle.gix_date.specs.declared.time.Time.{Time}
 use Rattle.gix_date.proofs.LocalClocks.{moment-of, moment-shows, clock-shown, ordinary-from}
 use Rattle.gix_date.proofs.Printing.{are-printed, filled_parts}
-use Rattle.gix_date.proofs.ShownPieces.{AlwaysShows, AlwaysShowsText, ascii-two, sign_of, context, decimal-two, in-range, strict_config}
+use Rattle.gix_date.proofs.ShownPieces.{AlwaysShows, AlwaysShowsText, ascii-two, sign_of, context, decimal-two, strict_config}
 
 -- the abbreviation with this text
 abbrev named_so : (text : List ℕ) → length text ≤ 15 → IsAscii text → Abbreviation
@@ -165,15 +165,13 @@ shows-always pattern z text always =
       };
     }
 
--- so it shows this text of a time that converts and whose clock is ordinary
-shown-at : (pattern : List ℕ) (text : LocalTime → List ℕ) → AlwaysShowsText pattern text → (t : Time) → IsConvertible t
-    → HasOrdinaryClock t → AtMoment t (λ z. IsShown pattern z (Ok (text (clock_of t))))
-shown-at pattern text always t converts ordinary =
-    let m = moment-of t converts in
-    let shows = moment-shows t m.0 m.1 in
-    let z = plain_zoned m.0 in
-    let shown = shows-always pattern z (text (local_time z)) (always z (ordinary-from z t shows ordinary)) in
-    (m.0, m.1, subst (λ (c : LocalTime). IsShown pattern z (Ok (text c))) (clock-shown z t shows) shown)
+-- so it shows its text of each ordinary zoned value with that clock
+pub named-shown : (pattern named : List ℕ) (text : LocalTime → List ℕ) (local : LocalTime) (bytes : List ℕ)
+    → AlwaysShowsText named text → pattern ≡ named → bytes ≡ text local → IsShownByAll pattern local bytes
+named-shown pattern named text local bytes always p b z ordinary shows =
+    let shown = shows-always named z (text (local_time z)) (always z ordinary) in
+    let whole : text (local_time z) ≡ bytes = ap text shows ∙ sym b in
+    subst (λ (q : List ℕ). IsShown q z (Ok bytes)) (sym p) (subst (λ (s : List ℕ). IsShown named z (Ok s)) whole shown)
 
 -- what a copy of this text comes to is what the pattern prints
 prints-either : (pattern : List ℕ) (t : Time) (text : List ℕ) (r : Result (String Global) Error) → IsConvertible t
@@ -182,31 +180,23 @@ prints-either : (pattern : List ℕ) (t : Time) (text : List ℕ) (r : Result (S
 prints-either pattern t text (Ok copy) converts (z, m, shown) ok err = (z, m, subst (λ (s : List ℕ). IsShown pattern (plain_zoned z) (Ok s)) (sym ok) shown)
 prints-either pattern t text (Err e) converts h ok err = inr (inl (err, converts))
 
-pub record IsKnown (t : Time) (local : LocalTime) : Type 0 where
-  pub shown : local ≡ clock_of t
-  pub converts : IsConvertible t
-  pub ordinary : HasOrdinaryClock t
+pub copy-prints : (pattern : List ℕ) (t : Time) (local : LocalTime) (bytes : List ℕ) (r : Result (String Global) Error)
+    → IsShownByAll pattern local bytes → local ≡ clock_of t → IsConvertible t → HasOrdinaryClock t
+    → IfOk r (λ copy. string_bytes copy ≡ bytes) → IfErr r (λ e. e ≡ errors.Memory) → PrintsBy t pattern r
+copy-prints pattern t local bytes r shown clock converts ordinary ok err =
+    let m = moment-of t converts in
+    let shows = moment-shows t m.0 m.1 in
+    let z = plain_zoned m.0 in
+    prints-either pattern t bytes r converts (m.0, m.1, shown z (ordinary-from z t shows ordinary) (clock-shown z t shows ∙ sym clock)) ok err
 
-pub copy-prints : (pattern named : List ℕ) (text : LocalTime → List ℕ) (t : Time) (local : LocalTime) (bytes : List ℕ) (r : Option (Result (String Global) Error))
-    → AlwaysShowsText named text → IsKnown t local → pattern ≡ named → bytes ≡ text local
-    → IfSome r (λ a. IfOk a (λ copy. string_bytes copy ≡ bytes)) → IfSome r (λ a. IfErr a (λ e. e ≡ errors.Memory)) → IfSome r (λ a. PrintsBy t pattern a)
-copy-prints pattern named text t local bytes None always known p b ok err = tt
-copy-prints pattern named text t local bytes (Some a) always known p b ok err =
-    let shown = shown-at named text always t known.converts known.ordinary in
-    let whole : text (clock_of t) ≡ bytes = sym (b ∙ ap text known.shown) in
-    let same = subst (λ (s : List ℕ). AtMoment t (λ z. IsShown named z (Ok s))) whole shown in
-    prints-either pattern t bytes a known.converts (subst (λ (q : List ℕ). AtMoment t (λ z. IsShown q z (Ok bytes))) (sym p) same) ok err
+-- a text, and two more after it
+pub three-joined : (first second whole a b c : List ℕ) → first ≡ a → second ≡ first ++ b → whole ≡ second ++ c → whole ≡ a ++ (b ++ c)
+three-joined first second whole a b c e f g =
+    g ∙ ap (λ (xs : List ℕ). xs ++ c) (f ∙ ap (λ (xs : List ℕ). xs ++ b) e) ∙ append_assoc a b c
 
 -- the day of the month, in one digit or two
-pub day-of-one : (day : ℕ) → day < 10 → one_digit day ≡ decimal day
+pub day-of-one : (day : ℕ) → day < 10 → (48 + day) ∷ [] ≡ decimal day
 day-of-one day h = sym (decimal_digit day h)
 
 pub day-of-two : (day : ℕ) → 10 ≤ day → day < 100 → two_digits day ≡ decimal day
 day-of-two day low high = sym (decimal-two day low high)
-
-pub known-day : (t : Time) (local : LocalTime) → IsKnown t local → local.date.day < 100
-known-day t local known =
-    let m = moment-of t known.converts in
-    let shows = moment-shows t m.0 m.1 in
-    let z = plain_zoned m.0 in
-    subst (λ (l : LocalTime). l.date.day < 100) (clock-shown z t shows ∙ sym known.shown) ((in-range z (ordinary-from z t shows known.ordinary)).day)

@@ -6,6 +6,7 @@ pub mod RelativePairs
 pub mod RelativeFields
 pub mod Pairs
 pub mod Cuts
+pub mod PlainRests
 pub mod Civil
 pub mod Steps
 pub mod Names

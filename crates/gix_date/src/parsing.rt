@@ -45,6 +45,7 @@ impl TimeBuf {
     }
 
     /// Puts the text of a time here and lends it, or leaves nothing here where the time has none.
+    #[inline(always)]
     fn text_of(&mut self, time: &Time) -> Option<&str>
         ensures text { GivesText time.now (ok_or result OffsetTooWide) }
         ensures* after { sem 𝓛 (LeavesText self.entry (text_left (ok_or result OffsetTooWide))) }
@@ -77,6 +78,7 @@ impl Time {
     /// The text that [`Time::write_to`] writes, lent out of the buffer, which keeps it.
     ///
     /// An offset of 100 hours or more is refused by [`Error::OffsetTooWide`], and the buffer is empty then.
+    #[inline(always)]
     pub fn to_str<'a>(&self, buf: &'a mut TimeBuf) -> Result<&'a str, Error>
         ensures text { GivesText self.now result }
         ensures* after { sem 𝓛 (LeavesText buf.entry (text_left result)) }

@@ -8,7 +8,7 @@ mod write;
 
 pub use format::{CustomFormat, Format};
 use serde::{Deserialize, Serialize};
-pub(crate) use write::{MAX_TEXT_LEN, header_text};
+pub(crate) use write::{MAX_TEXT_LEN, header_text, push_hours, push_minutes, push_two_digits};
 
 /// Seconds since 1970-01-01 00:00:00 UTC, negative before.
 pub type SecondsSinceUnixEpoch = i64;

@@ -29,10 +29,6 @@ abbrev pub HasJiffOffset : Answer → Type 0
 HasJiffOffset (answer.Absolute t) = IsOffsetSeconds t.offset
 HasJiffOffset _ = Unit {0}
 
--- a name and the rest, as texts
-abbrev pub name_view : Option (Bor (List ℕ) × Bor (List ℕ)) → ReadFront (List ℕ)
-name_view result = option_map (λ found. (found.0.now, found.1.now)) result
-
 -- what a reader over slices gave, with the rest as a text
 abbrev pub read_view : {A : Type 0} → Option (A × Bor (List ℕ)) → ReadFront A
 read_view result = option_map (λ found. (found.0, found.1.now)) result

@@ -5,8 +5,8 @@ ghost use Rattle.gix_date.specs.Fields.Civil.{is_date, civil_instant};
 ghost use Rattle.gix_date.specs.Private.Civil.{DateFits, ClockFits};
 
 use crate::time::{OffsetInSeconds, SecondsSinceUnixEpoch};
+use jiff::Timestamp;
 use jiff::civil::{Date, DateTime};
-use jiff::tz::Offset;
 
 /// A year, month and day, whether or not the calendar has it.
 #[derive(Clone, Copy)]
@@ -37,16 +37,14 @@ pub(crate) fn civil_instant(
     requires offset { IsOffsetSeconds offset }
     ensures { result ≡ civil_instant date clock offset }
 {
-    let Ok(offset) = Offset::from_seconds(offset) else {
-        return None;
-    };
     let (year, month, day) = (date.year as i16, date.month as i8, date.day as i8);
     let (hour, minute, second) = (clock.hour as i8, clock.minute as i8, clock.second as i8);
     let Ok(local) = DateTime::new(year, month, day, hour, minute, second, 0) else {
         return None;
     };
-    match offset.to_timestamp(local) {
-        Ok(instant) => Some(instant.as_second()),
+    let seconds = local.to_plain().to_second() - i64::from(offset);
+    match Timestamp::from_second(seconds) {
+        Ok(_) => Some(seconds),
         Err(_) => None,
     }
 }

@@ -1,7 +1,9 @@
 //! Dates: a whole text by the first family that holds it.
-ghost use Rattle.std.specs.Prelude.{◌≡◌, [], ◌∷◌, IfOk, IfSome, option_map};
+ghost use Rattle.std.specs.Prelude.{◌≡◌, [], ◌∷◌, if◌then◌else◌, IfOk, IfSome, Some, None, option_map};
+ghost use Rattle.std.specs.Int.Signed.{le_z};
 ghost use Rattle.jiff.specs.Words.{IsOffsetSeconds};
-ghost use Rattle.gix_date.specs.Families.Epoch.{at_time_by, epoch_time};
+ghost use Rattle.gix_date.specs.Families.Answer.{Absolute};
+ghost use Rattle.gix_date.specs.Families.Epoch.{at_time_by, min_bare_epoch, utc_time};
 ghost use Rattle.gix_date.specs.Families.Order.{Rfc2822, Gitoxide, GitDefault, GitForm, RelativeText, RawText, family_answer, first_family, first_family_by, ParseOutcome, ParseNoAllocOutcome, RefusesWithCopy, RefusesUnknown, RefusesDate};
 ghost use Rattle.gix_date.specs.Families.Raw.{allows};
 ghost use Rattle.gix_date.specs.Families.Shapes.{first_among_by, shape_families};
@@ -13,15 +15,16 @@ use crate::error::{Error, InputBytes, ParseError};
 use crate::parsing::answer::Answer;
 use crate::parsing::fields::skip_char;
 use crate::parsing::git::parse_git;
-use crate::parsing::numbers::parse_int;
-use crate::parsing::patterns::{parse_dashed, parse_default, parse_gitoxide, parse_rfc2822};
+use crate::parsing::numbers::{parse_int, parse_short_int};
+use crate::parsing::patterns::{parse_dashed, parse_named_day, parse_rfc2822};
+use crate::parsing::plain::parse_plain_number;
 use crate::parsing::raw::{RawOffsets, parse_plain_raw, parse_raw};
 use crate::parsing::relative::parse_relative;
 use crate::parsing::shape::{
     Shape, begins_no_named_day, begins_with_count, begins_with_count_and_word, begins_with_year,
     begins_without_comma,
 };
-use crate::time::Time;
+use crate::time::{SecondsSinceUnixEpoch, Time};
 use jiff::Zoned;
 use std::alloc::Global;
 
@@ -131,11 +134,18 @@ fn with_copy(alloc: Global, input: &str, refusal: ParseError) -> Error
     }
 }
 
-/// What the first family says that holds the text.
+/// What the first family says that holds the text. A text that is raw as nearly all are is of no other family, and a
+/// number is a bare epoch or none.
 fn first_answer(input: &str, raw: RawOffsets) -> Option<Answer<'_>>
     ensures first { option_map answer_of result ≡ first_family_by (allows raw) input.now }
     ensures offset_fits { IfSome result HasJiffOffset }
 {
+    if let Some(time) = parse_plain_raw(input, raw) {
+        return Some(Answer::Absolute(time));
+    }
+    if let Some(seconds) = parse_plain_number(input) {
+        return epoch_answer(seconds);
+    }
     answer_by_shape(Shape::of(input), input, raw)
 }
 
@@ -167,14 +177,27 @@ fn at_answer(input: &str, raw: RawOffsets) -> Option<Answer<'_>>
 }
 
 /// What a number says.
+#[tactic(auto, unfolding(crate::specs::Families::Epoch::epoch_time))]
 fn number_answer(input: &str) -> Option<Answer<'_>>
     ensures first { option_map answer_of result ≡ first_among (shape_families WholeNumber) input.now }
     ensures offset_fits { IfSome result HasJiffOffset }
 {
-    if let Some(time) = parse_epoch(input) {
-        return Some(Answer::Absolute(time));
+    let seconds = parse_int(input)?;
+    epoch_answer(seconds)
+}
+
+/// What so many seconds say as a bare epoch.
+#[inline(always)]
+fn epoch_answer<'a>(seconds: SecondsSinceUnixEpoch) -> Option<Answer<'a>>
+    ensures first { option_map answer_of result
+        ≡ (if le_z min_bare_epoch seconds then Some (Absolute (utc_time seconds)) else None) }
+    ensures offset_fits { IfSome result HasJiffOffset }
+{
+    if seconds >= MIN_EPOCH {
+        Some(Answer::Absolute(Time::new(seconds, 0)))
+    } else {
+        None
     }
-    None
 }
 
 /// What a text says that begins with a day written with `-`.
@@ -221,24 +244,18 @@ fn named_answer(input: &str) -> Option<Answer<'_>>
     if begins_no_named_day(input.as_bytes()) {
         return relative_answer(input);
     }
-    if let Some(answer) = parse_gitoxide(input) {
-        return Some(answer);
-    }
-    if let Some(answer) = parse_default(input) {
+    if let Some(answer) = parse_named_day(input) {
         return Some(answer);
     }
     relative_answer(input)
 }
 
-/// What a text of no other shape says. One that is raw as nearly all are is of no other family. A day alone and both
-/// ISO 8601 forms begin with a year and `-`; of the other families here only relative texts can.
+/// What a text of no other shape says. A day alone and both ISO 8601 forms begin with a year and `-`; of the other
+/// families here only relative texts can.
 fn other_answer(input: &str, raw: RawOffsets) -> Option<Answer<'_>>
     ensures first { option_map answer_of result ≡ first_among_by (allows raw) (shape_families Other) input.now }
     ensures offset_fits { IfSome result HasJiffOffset }
 {
-    if let Some(time) = parse_plain_raw(input, raw) {
-        return Some(Answer::Absolute(time));
-    }
     if begins_with_year(input.as_bytes()) {
         return dashed_answer(input);
     }
@@ -318,29 +335,21 @@ fn date_conversion(alloc: Global, input: &str) -> Error
     }
 }
 
-/// The time of an at text.
+/// The time of an at text. Most have digits alone, which are no raw text.
 #[tactic(auto, unfolding(crate::specs::Families::Epoch::at_time_by))]
 fn parse_at(input: &str, raw: RawOffsets) -> Option<Time>
     ensures time { result ≡ at_time_by (allows raw) input.now }
     ensures offset_fits { IfSome result (λ t. IsOffsetSeconds t.offset) }
 {
     let text = skip_char('@', input)?;
+    if let Some(time) = parse_plain_raw(text, raw) {
+        return Some(time);
+    }
+    if let Some(seconds) = parse_short_int(text.as_bytes()) {
+        return Some(Time::new(seconds, 0));
+    }
     if let Some(time) = parse_raw(text, raw) {
         return Some(time);
     }
     Some(Time::new(parse_int(text)?, 0))
-}
-
-/// The time of a bare epoch.
-#[tactic(auto, unfolding(crate::specs::Families::Epoch::epoch_time))]
-fn parse_epoch(input: &str) -> Option<Time>
-    ensures time { result ≡ epoch_time input.now }
-    ensures offset_fits { IfSome result (λ t. IsOffsetSeconds t.offset) }
-{
-    let seconds = parse_int(input)?;
-    if seconds >= MIN_EPOCH {
-        Some(Time::new(seconds, 0))
-    } else {
-        None
-    }
 }

@@ -1,21 +1,25 @@
 //! Git's own forms of a date.
 ghost use Rattle.std.specs.Prelude.{◌≡◌, ◌<◌, ◌≤◌, IfSome};
 ghost use Rattle.jiff.specs.Words.{IsOffsetSeconds};
-ghost use Rattle.gix_date.specs.Private.Civil.{DateFits};
+ghost use Rattle.std.specs.Str.{trim};
+ghost use Rattle.gix_date.specs.Private.Civil.{ClockFits, DateFits};
+ghost use Rattle.gix_date.specs.Private.PlainRests.{time_at};
 ghost use Rattle.gix_date.specs.Private.Views.{read_view};
 ghost use Rattle.gix_date.specs.Git.Forms.{read_marked_date, read_compact_date, time_with_rest, time_of_cut, dotted_time, compact_time, flexible_time, git_form, git_time};
 
-use crate::parsing::civil::{DateFields, civil_instant};
+use crate::parsing::civil::{ClockFields, DateFields, civil_instant};
 use crate::parsing::fields::skip_char;
 use crate::parsing::git::clock::parse_clock;
 use crate::parsing::git::cut::clock_cut;
-use crate::parsing::git::offset::parse_git_offset;
+use crate::parsing::git::offset::{parse_git_offset, seconds_within_a_day};
+use crate::parsing::git::plain::parse_plain_rest;
 use crate::parsing::numbers::{read_two_digits, read_year};
-use crate::time::Time;
+use crate::time::{OffsetInSeconds, Time};
 
 mod clock;
 mod cut;
 mod offset;
+mod plain;
 
 /// Reads a date in one of Git's own forms, with white space round it or none:
 ///
@@ -29,7 +33,7 @@ pub(crate) fn parse_git(input: &str) -> Option<Time>
     ensures time { result ≡ git_time input.now }
     ensures offset_fits { IfSome result (λ t. IsOffsetSeconds t.offset) }
 {
-    parse_form(input.trim())
+    parse_form(trimmed(input))
 }
 
 /// The first of the three forms that a trimmed text has.
@@ -89,12 +93,19 @@ fn parse_rest(date: DateFields, rest: &str) -> Option<Time>
     ensures time { result ≡ time_with_rest date rest.now }
     ensures offset_fits { IfSome result (λ t. IsOffsetSeconds t.offset) }
 {
-    let (clock, offset) = clock_cut(rest.trim());
+    let rest = trimmed(rest);
+    if let Some((clock, fields)) = parse_plain_rest(rest) {
+        let Some(offset) = seconds_within_a_day(fields) else {
+            return None;
+        };
+        return time_at(date, clock, offset);
+    }
+    let (clock, offset) = clock_cut(rest);
     parse_cut(date, clock, offset)
 }
 
 /// The time of a date, a clock and an offset.
-#[tactic(auto, unfolding(crate::specs::Git::Forms::time_of_cut))]
+#[tactic(auto, unfolding(crate::specs::Git::Forms::time_of_cut, crate::specs::Private::PlainRests::time_at))]
 fn parse_cut(date: DateFields, clock: &str, offset: &str) -> Option<Time>
     requires { DateFits date }
     ensures time { result ≡ time_of_cut date (clock.now, offset.now) }
@@ -102,8 +113,30 @@ fn parse_cut(date: DateFields, clock: &str, offset: &str) -> Option<Time>
 {
     let clock = parse_clock(clock)?;
     let offset = parse_git_offset(offset)?;
+    time_at(date, clock, offset)
+}
+
+/// The time of a date and a clock at an offset.
+#[tactic(auto, unfolding(crate::specs::Private::PlainRests::time_at))]
+fn time_at(date: DateFields, clock: ClockFields, offset: OffsetInSeconds) -> Option<Time>
+    requires date { DateFits date }
+    requires clock { ClockFits clock }
+    requires offset { IsOffsetSeconds offset }
+    ensures time { result ≡ time_at date clock offset }
+    ensures offset_fits { IfSome result (λ t. IsOffsetSeconds t.offset) }
+{
     let seconds = civil_instant(date, clock, offset)?;
     Some(Time::new(seconds, offset))
+}
+
+/// A text without the white space round it. Nearly none has any.
+fn trimmed(text: &str) -> &str
+    ensures { result.now ≡ trim text.now }
+{
+    match text.as_bytes() {
+        [first, .., last] if first.is_ascii_graphic() && last.is_ascii_graphic() => text,
+        _ => text.trim(),
+    }
 }
 
 /// A year of four digits, a month of two and a day of two, with a mark between them.

@@ -2,7 +2,7 @@
 //!
 //! A `read_` function takes the front of a text, and gives the value and the rest; a `parse_` function takes a whole
 //! text.
-ghost use Rattle.std.specs.Prelude.{◌≡◌, ◌<◌, ◌≤◌, ◌^◌, IfSome, Some, length, take_while, true};
+ghost use Rattle.std.specs.Prelude.{◌≡◌, ◌<◌, ◌≤◌, ◌^◌, [], ◌∷◌, IfSome, Some, length, take_while, true};
 ghost use Rattle.std.specs.List.{prefix_len};
 ghost use Rattle.std.specs.Char.{is_ascii_digit};
 ghost use Rattle.std.specs.Str.{all_ascii_digits};
@@ -11,7 +11,10 @@ ghost use Rattle.gix_date.specs.Private.Views.{read_view};
 ghost use Rattle.gix_date.specs.Text.Numbers.{int_value, two_digit_value, read_two_digits, read_digit, read_field, read_year};
 
 /// The most digits that are read at once: an `i64` holds any so many.
-const MAX_DIGITS: usize = 18;
+pub(crate) const MAX_DIGITS: usize = 18;
+
+/// What five bytes `0` come to, weighted as digits are: 11111 times that byte.
+const FIVE_ZEROS: u64 = 533_328;
 
 /// The value of an optional sign and digits, where an `i64` can hold it. Nearly all numbers are short.
 pub(crate) fn parse_int(word: &str) -> Option<i64>
@@ -34,7 +37,7 @@ pub(crate) fn parse_short_int(text: &[u8]) -> Option<i64>
     }
 }
 
-/// The value of a few digits.
+/// The value of a few digits. Nearly all times have ten.
 #[inline(always)]
 fn parse_short_digits(digits: &[u8]) -> Option<u64>
     ensures some { IfSome result (λ n. 0 < length digits.now) }
@@ -42,6 +45,9 @@ fn parse_short_digits(digits: &[u8]) -> Option<u64>
     ensures value { IfSome result (λ n. n ≡ digits_value 10 digits.now) }
     ensures small { IfSome result (λ n. n < 10 ^ 18) }
 {
+    if let Some(value) = parse_ten_digits(digits) {
+        return Some(value);
+    }
     if digits.is_empty() || digits.len() > MAX_DIGITS {
         return None;
     }
@@ -53,6 +59,44 @@ fn parse_short_digits(digits: &[u8]) -> Option<u64>
         value = 10 * value + u64::from(*digit - b'0');
     }
     Some(value)
+}
+
+/// The value of ten digits, without a loop.
+#[inline(always)]
+fn parse_ten_digits(digits: &[u8]) -> Option<u64>
+    ensures some { IfSome result (λ n. 0 < length digits.now) }
+    ensures digits { IfSome result (λ n. all_ascii_digits digits.now ≡ true) }
+    ensures value { IfSome result (λ n. n ≡ digits_value 10 digits.now) }
+    ensures small { IfSome result (λ n. n < 10 ^ 18) }
+{
+    match digits {
+        [a, b, c, d, e, f, g, h, i, j] => {
+            let high = parse_five_digits(*a, *b, *c, *d, *e)?;
+            let low = parse_five_digits(*f, *g, *h, *i, *j)?;
+            Some(100_000 * high + low)
+        }
+        _ => None,
+    }
+}
+
+/// The number that five digits write.
+#[inline(always)]
+fn parse_five_digits(a: u8, b: u8, c: u8, d: u8, e: u8) -> Option<u64>
+    ensures digits { IfSome result (λ n. all_ascii_digits (a ∷ b ∷ c ∷ d ∷ e ∷ []) ≡ true) }
+    ensures value { IfSome result (λ n. n ≡ digits_value 10 (a ∷ b ∷ c ∷ d ∷ e ∷ [])) }
+    ensures small { IfSome result (λ n. n < 10 ^ 5) }
+{
+    if !(a.is_ascii_digit()
+        && b.is_ascii_digit()
+        && c.is_ascii_digit()
+        && d.is_ascii_digit()
+        && e.is_ascii_digit())
+    {
+        return None;
+    }
+    let first = 10 * (10 * u64::from(a) + u64::from(b)) + u64::from(c);
+    let value = 10 * (10 * first + u64::from(d)) + u64::from(e);
+    Some(value - FIVE_ZEROS)
 }
 
 /// The digits that a word begins with.

@@ -1,12 +1,12 @@
 //! Formatted dates, as logs and other programs print them.
 ghost use Rattle.std.specs.Prelude.{◌≡◌, IfSome, [], ◌∷◌, option_map, option_copied};
 ghost use Rattle.gix_date.specs.Fields.DateFields.{skip_day_name};
-ghost use Rattle.gix_date.specs.Families.Patterns.{day_answer, real_day_answer, time_answer, date_answer, rfc2822_answer, gitoxide_answer, default_answer};
-ghost use Rattle.gix_date.specs.Fields.Layout.{Spaces, Clock, Offset, LetterT, ColonOffset};
-ghost use Rattle.gix_date.specs.Private.AfterDay.{answer_after, dashed_answer};
+ghost use Rattle.gix_date.specs.Families.Patterns.{real_day_answer, time_answer, date_answer, rfc2822_answer};
+ghost use Rattle.gix_date.specs.Fields.Layout.{Spaces, Year, Clock, Offset, LetterT, ColonOffset};
+ghost use Rattle.gix_date.specs.Private.AfterDay.{answer_after, dashed_answer, read_named_day, named_day_answer};
 ghost use Rattle.gix_date.specs.Private.Civil.{DateFits, ClockFits};
 ghost use Rattle.jiff.specs.Words.{IsOffsetSeconds};
-ghost use Rattle.gix_date.specs.Private.Views.{answer_of, HasJiffOffset};
+ghost use Rattle.gix_date.specs.Private.Views.{answer_of, read_view, HasJiffOffset};
 
 use crate::parsing::answer::Answer;
 use crate::parsing::civil::{ClockFields, DateFields, civil_instant, is_date};
@@ -33,8 +33,9 @@ const MIDNIGHT: ClockFields = ClockFields {
     second: 0,
 };
 
-/// Reads a date that begins with a day: the day alone, `2018-12-24`, which is its midnight in UTC; ISO 8601 as Git prints
-/// it, `2022-08-18 12:45:06 +0800`; or its strict form, `2022-08-18T12:45:06+08:00`. The day is read once for all three.
+/// Reads a date that begins with a day: the day alone, `2018-12-24`, which is its midnight in UTC; ISO 8601 as Git
+/// prints it, `2022-08-18 12:45:06 +0800`; or its strict form, `2022-08-18T12:45:06+08:00`. The day is read once for all
+/// three.
 pub(crate) fn parse_dashed(text: &str) -> Option<Answer<'static>>
     ensures answer { option_map answer_of result ≡ dashed_answer text.now }
     ensures offset_fits { IfSome result HasJiffOffset }
@@ -49,29 +50,20 @@ pub(crate) fn parse_dashed(text: &str) -> Option<Answer<'static>>
     iso8601_strict_after(date, rest)
 }
 
-/// What a day alone answers that the calendar has.
+/// What a day alone answers. Only the last day has no instant, so it is seldom asked whether the calendar has the day.
+#[inline(always)]
 fn real_day_answer(date: DateFields) -> Option<Answer<'static>>
     requires { DateFits date }
     ensures answer { option_map answer_of result ≡ answer_after [] real_day_answer date [] }
     ensures offset_fits { IfSome result HasJiffOffset }
 {
+    if let Some(seconds) = civil_instant(date, MIDNIGHT, 0) {
+        return Some(Answer::Absolute(Time::new(seconds, 0)));
+    }
     if is_date(date) {
-        Some(day_answer(date))
-    } else {
-        None
+        return Some(Answer::InstantBeyond);
     }
-}
-
-/// What a day alone answers.
-fn day_answer(date: DateFields) -> Answer<'static>
-    requires { DateFits date }
-    ensures answer { answer_of result ≡ day_answer date }
-    ensures offset_fits { HasJiffOffset result }
-{
-    match civil_instant(date, MIDNIGHT, 0) {
-        Some(seconds) => Answer::Absolute(Time::new(seconds, 0)),
-        None => Answer::InstantBeyond,
-    }
+    None
 }
 
 /// Reads a date as in mail, `Thu, 18 Aug 2022 12:45:06 +0800` (RFC 2822): the day's name and the seconds may be left
@@ -92,6 +84,7 @@ pub(crate) fn parse_rfc2822(text: &str) -> Option<Answer<'static>>
 
 /// What stands after a day's name, a comma and spaces.
 #[tactic(auto, unfolding(crate::specs::Fields::DateFields::skip_day_name))]
+#[inline(always)]
 fn skip_day_name(text: &str) -> Option<&str>
     ensures { option_copied result ≡ skip_day_name text.now }
 {
@@ -99,6 +92,7 @@ fn skip_day_name(text: &str) -> Option<&str>
 }
 
 /// What an ISO 8601 date answers as Git prints it, after its day.
+#[inline(always)]
 fn iso8601_after(date: DateFields, rest: &str) -> Option<Answer<'static>>
     requires { DateFits date }
     ensures answer { option_map answer_of result
@@ -111,6 +105,7 @@ fn iso8601_after(date: DateFields, rest: &str) -> Option<Answer<'static>>
 }
 
 /// What a strict ISO 8601 date answers, after its day.
+#[inline(always)]
 fn iso8601_strict_after(date: DateFields, rest: &str) -> Option<Answer<'static>>
     requires { DateFits date }
     ensures answer { option_map answer_of result
@@ -122,36 +117,64 @@ fn iso8601_strict_after(date: DateFields, rest: &str) -> Option<Answer<'static>>
     date_answer(date, clock, offset)
 }
 
-/// Reads a date as gitoxide prints it, `Thu Aug 18 2022 12:45:06 +0800`.
-#[tactic(auto, unfolding(crate::specs::Families::Patterns::gitoxide_answer))]
-pub(crate) fn parse_gitoxide(text: &str) -> Option<Answer<'static>>
-    ensures answer { option_map answer_of result ≡ gitoxide_answer text.now }
+/// Reads a date that begins with a day of the week, a month and a day: as gitoxide prints it, `Thu Aug 18 2022 12:45:06
+/// +0800`; or as Git does by default, `Thu Aug 18 12:45:06 2022 +0800`. These three are read once for both.
+pub(crate) fn parse_named_day(text: &str) -> Option<Answer<'static>>
+    ensures answer { option_map answer_of result ≡ named_day_answer text.now }
     ensures offset_fits { IfSome result HasJiffOffset }
 {
-    let (month, rest) = read_month(skip_spaces(skip_weekday(text)?)?)?;
-    let (day, rest) = read_field(skip_spaces(rest)?)?;
-    let (year, rest) = read_year(skip_spaces(rest)?)?;
-    let (clock, rest) = read_clock(skip_spaces(rest)?)?;
-    let offset = parse_compact_offset(skip_spaces(rest)?)?;
-    date_answer(DateFields { year, month, day }, clock, offset)
+    let (date, rest) = read_named_day(text)?;
+    if let Some(answer) = gitoxide_after(date, rest) {
+        return Some(answer);
+    }
+    default_after(date, rest)
 }
 
-/// Reads a date as Git prints it by default, `Thu Aug 18 12:45:06 2022 +0800`.
-#[tactic(auto, unfolding(crate::specs::Families::Patterns::default_answer))]
-pub(crate) fn parse_default(text: &str) -> Option<Answer<'static>>
-    ensures answer { option_map answer_of result ≡ default_answer text.now }
-    ensures offset_fits { IfSome result HasJiffOffset }
+/// A day of the week, a month by its name, a day, and the spaces after each, with the year left at 0.
+#[tactic(auto, unfolding(crate::specs::Private::AfterDay::read_named_day))]
+#[inline(always)]
+fn read_named_day(text: &str) -> Option<(DateFields, &str)>
+    ensures value { read_view result ≡ read_named_day text.now }
+    ensures fits { IfSome result (λ found. DateFits found.0) }
 {
     let (month, rest) = read_month(skip_spaces(skip_weekday(text)?)?)?;
     let (day, rest) = read_field(skip_spaces(rest)?)?;
+    let rest = skip_spaces(rest)?;
+    let year = 0;
+    Some((DateFields { year, month, day }, rest))
+}
+
+/// What a date answers as gitoxide prints it, after its month and day.
+#[inline(always)]
+fn gitoxide_after(date: DateFields, rest: &str) -> Option<Answer<'static>>
+    requires { DateFits date }
+    ensures answer { option_map answer_of result
+        ≡ answer_after (Year ∷ Spaces ∷ Clock ∷ Spaces ∷ Offset ∷ []) time_answer date rest.now }
+    ensures offset_fits { IfSome result HasJiffOffset }
+{
+    let (year, rest) = read_year(rest)?;
     let (clock, rest) = read_clock(skip_spaces(rest)?)?;
+    let offset = parse_compact_offset(skip_spaces(rest)?)?;
+    date_answer(DateFields { year, ..date }, clock, offset)
+}
+
+/// What a date answers as Git prints it by default, after its month and day.
+#[inline(always)]
+fn default_after(date: DateFields, rest: &str) -> Option<Answer<'static>>
+    requires { DateFits date }
+    ensures answer { option_map answer_of result
+        ≡ answer_after (Clock ∷ Spaces ∷ Year ∷ Spaces ∷ Offset ∷ []) time_answer date rest.now }
+    ensures offset_fits { IfSome result HasJiffOffset }
+{
+    let (clock, rest) = read_clock(rest)?;
     let (year, rest) = read_year(skip_spaces(rest)?)?;
     let offset = parse_compact_offset(skip_spaces(rest)?)?;
-    date_answer(DateFields { year, month, day }, clock, offset)
+    date_answer(DateFields { year, ..date }, clock, offset)
 }
 
 /// What a formatted date answers, where there is such an instant.
 #[tactic(auto, unfolding(crate::specs::Families::Patterns::date_answer))]
+#[inline(always)]
 fn date_answer(
     date: DateFields,
     clock: ClockFields,

@@ -1,16 +1,20 @@
-//! Headers as nearly all are written: a number, one space, and an offset of four digits.
+//! Headers as nearly all are written: a number, one space, and an offset of four digits; and numbers alone.
 ghost use Rattle.std.specs.Prelude.{◌≡◌, IfSome, Some};
 ghost use Rattle.gix_date.specs.Header.Reading.{header_time};
 ghost use Rattle.gix_date.specs.Private.Headers.{IsPlainHeader};
+ghost use Rattle.gix_date.specs.Text.Numbers.{int_value};
 
-use crate::parsing::numbers::parse_short_int;
+use crate::parsing::numbers::{MAX_DIGITS, parse_short_int};
 use crate::parsing::offset::{OffsetFields, parse_offset_fields};
 use crate::time::{SecondsSinceUnixEpoch, Time};
 
 /// The bytes of a space and of an offset such as `+0800`.
 const ZONE_BYTES: usize = 6;
 
-/// The time of a header in the form that nearly all have: a number of up to 18 digits, one space, and an offset of four
+/// The least bytes of a bare epoch.
+const EPOCH_BYTES: usize = 9;
+
+/// The time of a header in the form that nearly all have: a number of up to 18 bytes, one space, and an offset of four
 /// digits. That is read in one pass over the bytes, without a search for words. `None` says of a text only that it has
 /// another form.
 pub(crate) fn parse_plain(input: &str) -> Option<Time>
@@ -30,10 +34,31 @@ pub(crate) fn parse_plain_fields(input: &str) -> Option<(SecondsSinceUnixEpoch, 
         return None;
     }
     let place = bytes.len() - ZONE_BYTES;
+    if place > MAX_DIGITS {
+        return None;
+    }
     if bytes[place] != b' ' {
         return None;
     }
     let seconds = parse_short_int(&bytes[..place])?;
     let fields = parse_offset_fields(&input[place + 1..])?;
     Some((seconds, fields))
+}
+
+/// The value of a number in the form that nearly all epochs have, of 9 to 18 bytes. `None` says of a text only that it
+/// has another form. Two bytes tell that of nearly all dates: the first of their last six, and the ninth.
+#[inline(always)]
+pub(crate) fn parse_plain_number(input: &str) -> Option<SecondsSinceUnixEpoch>
+    ensures { IfSome result (λ n. int_value input.now ≡ Some n) }
+{
+    let bytes = input.as_bytes();
+    if bytes.len() < EPOCH_BYTES || bytes.len() > MAX_DIGITS {
+        return None;
+    }
+    if !bytes[bytes.len() - ZONE_BYTES].is_ascii_digit()
+        || !bytes[EPOCH_BYTES - 1].is_ascii_digit()
+    {
+        return None;
+    }
+    parse_short_int(bytes)
 }

@@ -60,6 +60,7 @@ pub(crate) fn parse_raw(input: &str, raw: RawOffsets) -> Option<Time>
 
 /// The time of a raw text in the form that nearly all have, as [`parse_plain_fields`] reads it. `None` says of a text
 /// only that it has another form, or an offset that the rule does not allow.
+#[inline(always)]
 pub(crate) fn parse_plain_raw(input: &str, raw: RawOffsets) -> Option<Time>
     ensures time { IfSome result (λ t. raw_time_by (allows raw) input.now ≡ Some t) }
     ensures offset_fits { IfSome result (λ t. IsOffsetSeconds t.offset) }

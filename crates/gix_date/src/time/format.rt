@@ -5,7 +5,7 @@
 //! an hour up to 14:45; [`parse_with`](crate::parse_with) reads those of whole minutes up to 23:59. The day
 //! `9999-12-31`, which [`SHORT`] prints of 253402207200 at +0200, is refused by `DateConversion`: its midnight in UTC
 //! is no instant.
-ghost use Rattle.std.specs.Prelude.{◌≡◌, ◌↔◌, ◌⊎◌, Some, Err, option_map, IsTrue, IsOk, IfOk, IfErr, string_bytes};
+ghost use Rattle.std.specs.Prelude.{◌≡◌, ◌↔◌, ◌⊎◌, Some, Err, option_map, IsTrue, IsOk, IfOk, IfErr};
 ghost use Rattle.jiff.specs.Words.{plain_zoned};
 ghost use Rattle.jiff.specs.ZonedText.{zoned_parts};
 ghost use Rattle.jiff_core.specs.Date.{weekday_of};
@@ -16,7 +16,7 @@ ghost use Rattle.gix_date.specs.Private.Printing.{PrintsAt};
 ghost use Rattle.gix_date.specs.declared.error.Error.TheVariants as errors;
 
 use crate::error::Error;
-use crate::time::named::named_text;
+use crate::time::named::{copy_text, named_text};
 use crate::time::{Time, header_text};
 use jiff::fmt::strtime::{BrokenDownTime, Config, to_string};
 use jiff::tz::Offset;
@@ -157,17 +157,6 @@ fn is_memory(error: &Error) -> bool
     ensures { IsTrue result ↔ (error.now ≡ errors.Memory) }
 {
     matches!(error, Error::Memory)
-}
-
-/// A copy of a text.
-pub(crate) fn copy_text(alloc: Global, text: &str) -> Result<String, Error>
-    ensures text { IfOk result (λ copy. string_bytes copy ≡ text.now) }
-    ensures memory { IfErr result (λ e. e ≡ errors.Memory) }
-{
-    match String::from_str(alloc, text) {
-        Ok(copy) => Ok(copy),
-        Err(_) => Err(Error::Memory),
-    }
 }
 
 impl Time {

@@ -1,30 +1,28 @@
 //! The texts that named formats show of most times, each written at once.
-ghost use Rattle.std.specs.Prelude.{◌≡◌, ◌≤◌, ◌<◌, ◌++◌, ◌%◌, [], ◌∷◌, drop, IfSome, IfOk, IfErr, string_bytes, unsigned_abs};
+ghost use Rattle.std.specs.Prelude.{◌≡◌, ◌+◌, ◌≤◌, ◌<◌, ◌++◌, ◌%◌, [], ◌∷◌, length, decimal, IfSome, IfOk, IfErr, string_bytes};
+ghost use Rattle.std.specs.Int.{IsInRange};
+ghost use Rattle.arrayvec.specs.ArrayString.{array_string_len};
 ghost use Rattle.gix_date.specs.Text.Characters.{comma, space};
 ghost use Rattle.gix_date.specs.Text.Names.{day_name, month_name};
-ghost use Rattle.gix_date.specs.Text.Numbers.{two_digits};
 ghost use Rattle.gix_date.specs.Fields.ClockNumbers.{hours_in, minutes_in, seconds_per_minute};
-ghost use Rattle.gix_date.specs.Fields.FieldTexts.{four_digits};
-ghost use Rattle.gix_date.specs.Fields.Layout.{print_pieces};
-ghost use Rattle.gix_date.specs.Families.Patterns.{default_layout, rfc2822_layout};
+ghost use Rattle.gix_date.specs.Fields.FieldTexts.{four_digits, date_text, clock_text};
 ghost use Rattle.gix_date.specs.Header.Text.{compact_offset_text};
 ghost use Rattle.gix_date.specs.Printing.Formats.{PrintsBy};
 ghost use Rattle.gix_date.specs.Printing.LocalClocks.{local_seconds, clock_of, HasOrdinaryClock};
-ghost use Rattle.gix_date.specs.Printing.NamedTexts.{short_text, rfc2822_text, iso8601_text, iso8601_strict_text, gitoxide_text};
+ghost use Rattle.gix_date.specs.Printing.NamedTexts.{rfc2822_text, git_rfc2822_text, iso8601_text, iso8601_strict_text, gitoxide_text, default_text};
 ghost use Rattle.gix_date.specs.Printing.Zoned.{IsConvertible};
-ghost use Rattle.gix_date.specs.Private.NamedTexts.{local_of, one_digit};
+ghost use Rattle.gix_date.specs.Private.NamedTexts.{local_of, HasFields, IsShownByAll};
 ghost use Rattle.gix_date.specs.declared.error.Error.TheVariants as errors;
 
 use crate::error::Error;
 use crate::parsing::civil::{ClockFields, DateFields};
-use crate::time::format::copy_text;
 use crate::time::{
     OffsetInSeconds, SECONDS_PER_DAY, SECONDS_PER_HOUR, SECONDS_PER_MINUTE, SecondsSinceUnixEpoch,
-    Time,
+    Time, push_hours, push_minutes, push_two_digits,
 };
+use arrayvec::ArrayString;
 use jiff_core::civil::Date;
 use std::alloc::Global;
-use std::str;
 
 /// The most seconds that the offset of a zone has, either way.
 const MAX_ZONE_OFFSET: u32 = 93_599;
@@ -40,6 +38,12 @@ const FIRST_ORDINARY: SecondsSinceUnixEpoch = -30_610_224_000;
 
 /// The last second of the year 9999.
 const LAST_ORDINARY: SecondsSinceUnixEpoch = 253_402_300_799;
+
+/// The most bytes of such a text: those of a date in mail.
+const MAX_NAMED_LEN: usize = 31;
+
+/// A place for such a text, which takes no memory.
+type NamedText = ArrayString<MAX_NAMED_LEN>;
 
 /// What a time's own clock shows, with the day of the week from 0 for Monday.
 #[derive(Clone, Copy)]
@@ -90,8 +94,7 @@ fn local_moment(time: Time) -> Option<LocalMoment>
     ensures shown { IfSome result (λ local. local_of local ≡ clock_of time) }
     ensures converts { IfSome result (λ _. IsConvertible time) }
     ensures ordinary { IfSome result (λ _. HasOrdinaryClock time) }
-    ensures year { IfSome result (λ local. local.date.year ≤ 9999) }
-    ensures offset { IfSome result (λ local. unsigned_abs local.offset < 360000) }
+    ensures fields { IfSome result HasFields }
 {
     let local = ordinary_seconds(time)?;
     let day = local.div_euclid(SECONDS_PER_DAY);
@@ -113,262 +116,294 @@ fn local_moment(time: Time) -> Option<LocalMoment>
     })
 }
 
-/// The two digits of a number below 100.
-fn digits(n: u8) -> [u8; 2]
-    ensures { result ≡ two_digits n }
-{
-    [b'0' + n / 10, b'0' + n % 10]
-}
-
-/// The four digits of a year.
-fn year_digits(year: u16) -> [u8; 4]
-    requires { year ≤ 9999 }
-    ensures { result ≡ four_digits year }
-{
-    let [a, b] = digits((year / 100) as u8);
-    let [c, d] = digits((year % 100) as u8);
-    [a, b, c, d]
-}
-
-/// The digits of a date: four of the year, two of the month and two of the day.
-fn date_digits(date: DateFields) -> [u8; 8]
-    requires { date.year ≤ 9999 }
-    ensures { result ≡ four_digits date.year ++ two_digits date.month ++ two_digits date.day }
-{
-    let [a, b, c, d] = year_digits(date.year);
-    let [e, f] = digits(date.month);
-    let [g, h] = digits(date.day);
-    [a, b, c, d, e, f, g, h]
-}
-
-/// An offset as `+hhmm`.
-fn offset_bytes(offset: OffsetInSeconds) -> [u8; 5]
-    requires { unsigned_abs offset < 360000 }
-    ensures { result ≡ compact_offset_text offset }
-{
-    let distance = offset.unsigned_abs();
-    let sign = if offset < 0 { b'-' } else { b'+' };
-    let [a, b] = digits((distance / SECONDS_PER_HOUR as u32) as u8);
-    let [c, d] = digits((distance % SECONDS_PER_HOUR as u32 / SECONDS_PER_MINUTE as u32) as u8);
-    [sign, a, b, c, d]
-}
-
-/// The digits of the clock, and then the offset.
-fn clock_and_offset(t: LocalMoment) -> [u8; 11]
-    requires { unsigned_abs t.offset < 360000 }
-    ensures { result
-        ≡ two_digits t.clock.hour ++ two_digits t.clock.minute ++ two_digits t.clock.second
-        ++ compact_offset_text t.offset }
-{
-    let [a, b] = digits(t.clock.hour);
-    let [c, d] = digits(t.clock.minute);
-    let [e, f] = digits(t.clock.second);
-    let [sign, g, h, i, j] = offset_bytes(t.offset);
-    [a, b, c, d, e, f, sign, g, h, i, j]
-}
-
-/// The digits of the year, those of the clock, and then the offset.
-fn year_clock_and_offset(t: LocalMoment) -> [u8; 15]
-    requires year { t.date.year ≤ 9999 }
-    requires offset { unsigned_abs t.offset < 360000 }
-    ensures { result ≡ four_digits t.date.year ++ two_digits t.clock.hour ++ two_digits t.clock.minute
-        ++ two_digits t.clock.second ++ compact_offset_text t.offset }
-{
-    let [a, b, c, d] = year_digits(t.date.year);
-    let [e, f, g, h, i, j, sign, k, l, m, n] = clock_and_offset(t);
-    [a, b, c, d, e, f, g, h, i, j, sign, k, l, m, n]
-}
-
 /// The name of a day of the week, from 0 for Monday.
-fn day_bytes(weekday: u8) -> Option<[u8; 3]>
-    ensures { IfSome result (λ name. name ≡ day_name weekday) }
+#[inline(always)]
+fn day_name(weekday: u8) -> &'static str
+    requires { weekday < 7 }
+    ensures name { result.now ≡ day_name weekday }
+    ensures len { length result.now ≡ 3 }
 {
     match weekday {
-        0 => Some([b'M', b'o', b'n']),
-        1 => Some([b'T', b'u', b'e']),
-        2 => Some([b'W', b'e', b'd']),
-        3 => Some([b'T', b'h', b'u']),
-        4 => Some([b'F', b'r', b'i']),
-        5 => Some([b'S', b'a', b't']),
-        6 => Some([b'S', b'u', b'n']),
-        _ => None,
+        0 => "Mon",
+        1 => "Tue",
+        2 => "Wed",
+        3 => "Thu",
+        4 => "Fri",
+        5 => "Sat",
+        6 => "Sun",
+        _ => unreachable!(),
     }
 }
 
 /// The name of a month, from 1 for January.
-fn month_bytes(month: u8) -> Option<[u8; 3]>
-    ensures { IfSome result (λ name. name ≡ month_name month) }
+#[inline(always)]
+fn month_name(month: u8) -> &'static str
+    requires { IsInRange 1 12 month }
+    ensures name { result.now ≡ month_name month }
+    ensures len { length result.now ≡ 3 }
 {
     match month {
-        1 => Some([b'J', b'a', b'n']),
-        2 => Some([b'F', b'e', b'b']),
-        3 => Some([b'M', b'a', b'r']),
-        4 => Some([b'A', b'p', b'r']),
-        5 => Some([b'M', b'a', b'y']),
-        6 => Some([b'J', b'u', b'n']),
-        7 => Some([b'J', b'u', b'l']),
-        8 => Some([b'A', b'u', b'g']),
-        9 => Some([b'S', b'e', b'p']),
-        10 => Some([b'O', b'c', b't']),
-        11 => Some([b'N', b'o', b'v']),
-        12 => Some([b'D', b'e', b'c']),
-        _ => None,
+        1 => "Jan",
+        2 => "Feb",
+        3 => "Mar",
+        4 => "Apr",
+        5 => "May",
+        6 => "Jun",
+        7 => "Jul",
+        8 => "Aug",
+        9 => "Sep",
+        10 => "Oct",
+        11 => "Nov",
+        12 => "Dec",
+        _ => unreachable!(),
     }
 }
 
-/// `YYYY-MM-DD`.
-fn short(t: LocalMoment) -> [u8; 10]
-    requires { t.date.year ≤ 9999 }
-    ensures { result ≡ short_text (local_of t) }
+/// Appends the four digits of a year.
+#[inline(always)]
+fn push_year(text: &mut NamedText, year: u16)
+    requires year { year ≤ 9999 }
+    requires room { array_string_len text.old + 4 ≤ MAX_NAMED_LEN }
+    ensures bytes { text.new.bytes ≡ text.old.bytes ++ four_digits year }
+    ensures len { array_string_len text.new ≡ array_string_len text.old + 4 }
 {
-    let [a, b, c, d, e, f, g, h] = date_digits(t.date);
-    [a, b, c, d, b'-', e, f, b'-', g, h]
+    push_two_digits(text, (year / 100) as u8);
+    push_two_digits(text, (year % 100) as u8);
+}
+
+/// Appends the day of the month, with no zero before it.
+#[inline(always)]
+fn push_day(text: &mut NamedText, day: u8)
+    requires day { day < 100 }
+    requires room { array_string_len text.old + 2 ≤ MAX_NAMED_LEN }
+    ensures bytes { text.new.bytes ≡ text.old.bytes ++ decimal day }
+    ensures len { array_string_len text.new ≤ array_string_len text.old + 2 }
+{
+    if day < 10 {
+        text.push(char::from(b'0' + day));
+    } else {
+        push_two_digits(text, day);
+    }
+}
+
+/// Appends `YYYY-MM-DD`.
+#[inline(always)]
+fn push_date(text: &mut NamedText, date: DateFields)
+    requires year { date.year ≤ 9999 }
+    requires room { array_string_len text.old + 10 ≤ MAX_NAMED_LEN }
+    ensures bytes { text.new.bytes ≡ text.old.bytes ++ date_text date }
+    ensures len { array_string_len text.new ≡ array_string_len text.old + 10 }
+{
+    push_year(text, date.year);
+    text.push('-');
+    push_two_digits(text, date.month);
+    text.push('-');
+    push_two_digits(text, date.day);
+}
+
+/// Appends `hh:mm:ss`.
+#[inline(always)]
+fn push_clock(text: &mut NamedText, clock: ClockFields)
+    requires { array_string_len text.old + 8 ≤ MAX_NAMED_LEN }
+    ensures bytes { text.new.bytes ≡ text.old.bytes ++ clock_text clock }
+    ensures len { array_string_len text.new ≡ array_string_len text.old + 8 }
+{
+    push_two_digits(text, clock.hour);
+    text.push(':');
+    push_two_digits(text, clock.minute);
+    text.push(':');
+    push_two_digits(text, clock.second);
+}
+
+/// A copy of a text.
+pub(crate) fn copy_text(alloc: Global, text: &str) -> Result<String, Error>
+    ensures text { IfOk result (λ copy. string_bytes copy ≡ text.now) }
+    ensures memory { IfErr result (λ e. e ≡ errors.Memory) }
+{
+    match String::from_str(alloc, text) {
+        Ok(copy) => Ok(copy),
+        Err(_) => Err(Error::Memory),
+    }
+}
+
+/// Appends ` hh:mm:ss +hhmm`.
+#[inline(always)]
+fn push_clock_and_offset(text: &mut NamedText, t: LocalMoment)
+    requires fields { HasFields t }
+    requires room { array_string_len text.old + 15 ≤ MAX_NAMED_LEN }
+    ensures bytes { text.new.bytes
+        ≡ text.old.bytes ++ space ∷ clock_text t.clock ++ space ∷ compact_offset_text t.offset }
+    ensures len { array_string_len text.new ≡ array_string_len text.old + 15 }
+{
+    text.push(' ');
+    push_clock(text, t.clock);
+    text.push(' ');
+    push_hours(text, t.offset);
+    push_minutes(text, t.offset);
 }
 
 /// `YYYY-MM-DD hh:mm:ss +hhmm`.
-fn iso8601(t: LocalMoment) -> [u8; 25]
-    requires year { t.date.year ≤ 9999 }
-    requires offset { unsigned_abs t.offset < 360000 }
-    ensures { result ≡ iso8601_text (local_of t) }
+#[inline(always)]
+fn push_iso8601(text: &mut NamedText, t: LocalMoment)
+    requires empty { text.old.bytes ≡ [] }
+    requires fields { HasFields t }
+    ensures { text.new.bytes ≡ iso8601_text (local_of t) }
 {
-    let [a, b, c, d, e, f, g, h] = date_digits(t.date);
-    let [i, j, k, l, m, n, o, p, q, r, s] = clock_and_offset(t);
-    [
-        a, b, c, d, b'-', e, f, b'-', g, h, b' ', i, j, b':', k, l, b':', m, n, b' ', o, p, q, r, s,
-    ]
+    push_date(text, t.date);
+    push_clock_and_offset(text, t);
 }
 
 /// `YYYY-MM-DDThh:mm:ss+hh:mm`.
-fn iso8601_strict(t: LocalMoment) -> [u8; 25]
-    requires year { t.date.year ≤ 9999 }
-    requires offset { unsigned_abs t.offset < 360000 }
-    ensures { result ≡ iso8601_strict_text (local_of t) }
+#[inline(always)]
+fn push_iso8601_strict(text: &mut NamedText, t: LocalMoment)
+    requires empty { text.old.bytes ≡ [] }
+    requires fields { HasFields t }
+    ensures { text.new.bytes ≡ iso8601_strict_text (local_of t) }
 {
-    let [a, b, c, d, e, f, g, h] = date_digits(t.date);
-    let [i, j, k, l, m, n, o, p, q, r, s] = clock_and_offset(t);
-    [
-        a, b, c, d, b'-', e, f, b'-', g, h, b'T', i, j, b':', k, l, b':', m, n, o, p, q, b':', r, s,
-    ]
+    push_date(text, t.date);
+    text.push('T');
+    push_clock(text, t.clock);
+    push_hours(text, t.offset);
+    text.push(':');
+    push_minutes(text, t.offset);
+}
+
+/// Appends ` YYYY hh:mm:ss +hhmm`.
+#[inline(always)]
+fn push_from_year(text: &mut NamedText, t: LocalMoment)
+    requires fields { HasFields t }
+    requires room { array_string_len text.old + 20 ≤ MAX_NAMED_LEN }
+    ensures bytes { text.new.bytes ≡ text.old.bytes ++ space ∷ four_digits t.date.year ++ space ∷ clock_text t.clock
+        ++ space ∷ compact_offset_text t.offset }
+    ensures len { array_string_len text.new ≡ array_string_len text.old + 20 }
+{
+    text.push(' ');
+    push_year(text, t.date.year);
+    push_clock_and_offset(text, t);
+}
+
+/// Appends ` Mmm YYYY hh:mm:ss +hhmm`.
+#[inline(always)]
+fn push_from_month(text: &mut NamedText, t: LocalMoment)
+    requires fields { HasFields t }
+    requires room { array_string_len text.old + 24 ≤ MAX_NAMED_LEN }
+    ensures { text.new.bytes ≡ text.old.bytes ++ space ∷ month_name t.date.month ++ space ∷ four_digits t.date.year
+        ++ space ∷ clock_text t.clock ++ space ∷ compact_offset_text t.offset }
+{
+    text.push(' ');
+    text.push_str(month_name(t.date.month));
+    push_from_year(text, t);
 }
 
 /// `Www, `.
-fn mail_day(weekday: u8) -> Option<[u8; 5]>
-    ensures { IfSome result (λ text. text ≡ day_name weekday ++ comma ∷ space ∷ []) }
+#[inline(always)]
+fn push_mail_name(text: &mut NamedText, weekday: u8)
+    requires empty { text.old.bytes ≡ [] }
+    requires weekday { weekday < 7 }
+    ensures bytes { text.new.bytes ≡ day_name weekday ++ comma ∷ space ∷ [] }
+    ensures len { array_string_len text.new ≡ 5 }
 {
-    let [u, v, w] = day_bytes(weekday)?;
-    Some([u, v, w, b',', b' '])
+    text.push_str(day_name(weekday));
+    text.push_str(", ");
 }
 
-/// `DD Mmm YYYY hh:mm:ss +hhmm`.
-fn mail_rest(t: LocalMoment) -> Option<[u8; 26]>
-    requires year { t.date.year ≤ 9999 }
-    requires offset { unsigned_abs t.offset < 360000 }
-    ensures { IfSome result (λ text. text
-        ≡ print_pieces two_digits (drop 1 rfc2822_layout) (local_of t)) }
+/// `Www, DD Mmm YYYY hh:mm:ss +hhmm`.
+#[inline(always)]
+fn push_mail(text: &mut NamedText, t: LocalMoment)
+    requires empty { text.old.bytes ≡ [] }
+    requires fields { HasFields t }
+    ensures { text.new.bytes ≡ rfc2822_text (local_of t) }
 {
-    let [x, y, z] = month_bytes(t.date.month)?;
-    let [g, h] = digits(t.date.day);
-    let [a, b, c, d, i, j, k, l, m, n, o, p, q, r, s] = year_clock_and_offset(t);
-    Some([
-        g, h, b' ', x, y, z, b' ', a, b, c, d, b' ', i, j, b':', k, l, b':', m, n, b' ', o, p, q,
-        r, s,
-    ])
+    push_mail_name(text, t.weekday);
+    push_two_digits(text, t.date.day);
+    push_from_month(text, t);
 }
 
-/// `Www, DD Mmm YYYY hh:mm:ss +hhmm`. It is put together of two, since so long an array is proved by its parts alone.
-fn mail(t: LocalMoment) -> Option<[u8; 31]>
-    requires year { t.date.year ≤ 9999 }
-    requires offset { unsigned_abs t.offset < 360000 }
-    ensures { IfSome result (λ text. text ≡ rfc2822_text (local_of t)) }
+/// The same with no zero before the day.
+#[inline(always)]
+fn push_git_mail(text: &mut NamedText, t: LocalMoment)
+    requires empty { text.old.bytes ≡ [] }
+    requires fields { HasFields t }
+    ensures { text.new.bytes ≡ git_rfc2822_text (local_of t) }
 {
-    Some(mail_of(mail_day(t.weekday)?, mail_rest(t)?))
+    push_mail_name(text, t.weekday);
+    push_day(text, t.date.day);
+    push_from_month(text, t);
 }
 
-/// The text of a date in mail by its two parts.
-fn mail_of(day: [u8; 5], rest: [u8; 26]) -> [u8; 31]
-    ensures { result ≡ day ++ rest }
+/// `Www Mmm `.
+#[inline(always)]
+fn push_names(text: &mut NamedText, t: LocalMoment)
+    requires empty { text.old.bytes ≡ [] }
+    requires fields { HasFields t }
+    ensures bytes { text.new.bytes ≡ day_name t.weekday ++ (space ∷ (month_name t.date.month ++ (space ∷ []))) }
+    ensures len { array_string_len text.new ≡ 8 }
 {
-    let mut text = [0; 31];
-    text[..5].copy_from_slice(&day);
-    text[5..].copy_from_slice(&rest);
-    text
-}
-
-/// The same as [`mail`] with one digit of the day.
-fn short_mail(t: LocalMoment) -> Option<[u8; 30]>
-    requires year { t.date.year ≤ 9999 }
-    requires offset { unsigned_abs t.offset < 360000 }
-    requires day { t.date.day < 10 }
-    ensures { IfSome result (λ text. text ≡ print_pieces one_digit rfc2822_layout (local_of t)) }
-{
-    let [u, v, w] = day_bytes(t.weekday)?;
-    let [x, y, z] = month_bytes(t.date.month)?;
-    let [a, b, c, d, i, j, k, l, m, n, o, p, q, r, s] = year_clock_and_offset(t);
-    let h = b'0' + t.date.day;
-    Some([
-        u, v, w, b',', b' ', h, b' ', x, y, z, b' ', a, b, c, d, b' ', i, j, b':', k, l, b':', m,
-        n, b' ', o, p, q, r, s,
-    ])
+    text.push_str(day_name(t.weekday));
+    text.push(' ');
+    text.push_str(month_name(t.date.month));
+    text.push(' ');
 }
 
 /// `Www Mmm DD YYYY hh:mm:ss +hhmm`.
-fn gitoxide(t: LocalMoment) -> Option<[u8; 30]>
-    requires year { t.date.year ≤ 9999 }
-    requires offset { unsigned_abs t.offset < 360000 }
-    ensures { IfSome result (λ text. text ≡ gitoxide_text (local_of t)) }
+#[inline(always)]
+fn push_gitoxide(text: &mut NamedText, t: LocalMoment)
+    requires empty { text.old.bytes ≡ [] }
+    requires fields { HasFields t }
+    ensures { text.new.bytes ≡ gitoxide_text (local_of t) }
 {
-    let [u, v, w] = day_bytes(t.weekday)?;
-    let [x, y, z] = month_bytes(t.date.month)?;
-    let [g, h] = digits(t.date.day);
-    let [a, b, c, d, i, j, k, l, m, n, o, p, q, r, s] = year_clock_and_offset(t);
-    Some([
-        u, v, w, b' ', x, y, z, b' ', g, h, b' ', a, b, c, d, b' ', i, j, b':', k, l, b':', m, n,
-        b' ', o, p, q, r, s,
-    ])
+    push_names(text, t);
+    push_two_digits(text, t.date.day);
+    push_from_year(text, t);
 }
 
-/// `Www Mmm DD hh:mm:ss YYYY +hhmm`.
-fn git(t: LocalMoment) -> Option<[u8; 30]>
-    requires year { t.date.year ≤ 9999 }
-    requires offset { unsigned_abs t.offset < 360000 }
-    ensures { IfSome result (λ text. text ≡ print_pieces two_digits default_layout (local_of t)) }
+/// Appends ` hh:mm:ss YYYY +hhmm`.
+#[inline(always)]
+fn push_from_clock(text: &mut NamedText, t: LocalMoment)
+    requires fields { HasFields t }
+    requires room { array_string_len text.old + 20 ≤ MAX_NAMED_LEN }
+    ensures { text.new.bytes ≡ text.old.bytes ++ space ∷ clock_text t.clock ++ space ∷ four_digits t.date.year
+        ++ space ∷ compact_offset_text t.offset }
 {
-    let [u, v, w] = day_bytes(t.weekday)?;
-    let [x, y, z] = month_bytes(t.date.month)?;
-    let [g, h] = digits(t.date.day);
-    let [a, b, c, d, i, j, k, l, m, n, o, p, q, r, s] = year_clock_and_offset(t);
-    Some([
-        u, v, w, b' ', x, y, z, b' ', g, h, b' ', i, j, b':', k, l, b':', m, n, b' ', a, b, c, d,
-        b' ', o, p, q, r, s,
-    ])
+    text.push(' ');
+    push_clock(text, t.clock);
+    text.push(' ');
+    push_year(text, t.date.year);
+    text.push(' ');
+    push_hours(text, t.offset);
+    push_minutes(text, t.offset);
 }
 
-/// The same with one digit of the day.
-fn short_git(t: LocalMoment) -> Option<[u8; 29]>
-    requires year { t.date.year ≤ 9999 }
-    requires offset { unsigned_abs t.offset < 360000 }
-    requires day { t.date.day < 10 }
-    ensures { IfSome result (λ text. text ≡ print_pieces one_digit default_layout (local_of t)) }
+/// `Www Mmm D hh:mm:ss YYYY +hhmm`.
+#[inline(always)]
+fn push_git(text: &mut NamedText, t: LocalMoment)
+    requires empty { text.old.bytes ≡ [] }
+    requires fields { HasFields t }
+    ensures { text.new.bytes ≡ default_text (local_of t) }
 {
-    let [u, v, w] = day_bytes(t.weekday)?;
-    let [x, y, z] = month_bytes(t.date.month)?;
-    let [a, b, c, d, i, j, k, l, m, n, o, p, q, r, s] = year_clock_and_offset(t);
-    let h = b'0' + t.date.day;
-    Some([
-        u, v, w, b' ', x, y, z, b' ', h, b' ', i, j, b':', k, l, b':', m, n, b' ', a, b, c, d,
-        b' ', o, p, q, r, s,
-    ])
+    push_names(text, t);
+    push_day(text, t.date.day);
+    push_from_clock(text, t);
 }
 
-/// A copy of bytes, where they are a text.
-fn copied(alloc: Global, bytes: &[u8]) -> Option<Result<String, Error>>
-    ensures text { IfSome result (λ r. IfOk r (λ copy. string_bytes copy ≡ bytes.now)) }
-    ensures memory { IfSome result (λ r. IfErr r (λ e. e ≡ errors.Memory)) }
+/// Appends what a named pattern shows by such a clock.
+#[inline(always)]
+fn push_named(text: &mut NamedText, pattern: &str, t: LocalMoment) -> Option<()>
+    requires empty { text.old.bytes ≡ [] }
+    requires fields { HasFields t }
+    ensures { IfSome result (λ _. IsShownByAll pattern.now (local_of t) text.new.bytes) }
 {
-    match str::from_utf8(bytes) {
-        Ok(text) => Some(copy_text(alloc, text)),
-        Err(_) => None,
+    match pattern {
+        "%Y-%m-%d" => push_date(text, t.date),
+        "%Y-%m-%d %H:%M:%S %z" => push_iso8601(text, t),
+        "%Y-%m-%dT%H:%M:%S%:z" => push_iso8601_strict(text, t),
+        "%a, %d %b %Y %H:%M:%S %z" => push_mail(text, t),
+        "%a, %-d %b %Y %H:%M:%S %z" => push_git_mail(text, t),
+        "%a %b %d %Y %H:%M:%S %z" => push_gitoxide(text, t),
+        "%a %b %-d %H:%M:%S %Y %z" => push_git(text, t),
+        _ => return None,
     }
+    Some(())
 }
 
 /// What a named pattern prints of a time, where it is known: interpreting the pattern takes four times as long.
@@ -376,16 +411,7 @@ pub(crate) fn named_text(alloc: Global, pattern: &str, time: Time) -> Option<Res
     ensures { IfSome result (PrintsBy time pattern.now) }
 {
     let t = local_moment(time)?;
-    match pattern {
-        "%Y-%m-%d" => copied(alloc, &short(t)),
-        "%Y-%m-%d %H:%M:%S %z" => copied(alloc, &iso8601(t)),
-        "%Y-%m-%dT%H:%M:%S%:z" => copied(alloc, &iso8601_strict(t)),
-        "%a, %d %b %Y %H:%M:%S %z" => copied(alloc, &mail(t)?),
-        "%a, %-d %b %Y %H:%M:%S %z" if t.date.day < 10 => copied(alloc, &short_mail(t)?),
-        "%a, %-d %b %Y %H:%M:%S %z" => copied(alloc, &mail(t)?),
-        "%a %b %d %Y %H:%M:%S %z" => copied(alloc, &gitoxide(t)?),
-        "%a %b %-d %H:%M:%S %Y %z" if t.date.day < 10 => copied(alloc, &short_git(t)?),
-        "%a %b %-d %H:%M:%S %Y %z" => copied(alloc, &git(t)?),
-        _ => None,
-    }
+    let mut text = ArrayString::new();
+    push_named(&mut text, pattern, t)?;
+    Some(copy_text(alloc, text.as_str()))
 }

@@ -1,6 +1,7 @@
 //! The offset of a Git text.
 ghost use Rattle.std.specs.Prelude.{◌≡◌, ◌≤◌, [], ◌∷◌, None, IfSome, MatchOption};
 ghost use Rattle.jiff.specs.Words.{IsOffsetSeconds};
+ghost use Rattle.gix_date.specs.Fields.Offsets.{offset_by};
 ghost use Rattle.gix_date.specs.Git.Forms.{without_colons, fields_of, offset_of_digits, is_within_a_day, git_offset};
 
 use crate::parsing::numbers::parse_two_digits;
@@ -20,7 +21,16 @@ pub(crate) fn parse_git_offset(text: &str) -> Option<OffsetInSeconds>
         return Some(0);
     }
     let (sign, rest) = read_sign(text)?;
-    let fields = offset_of_digits(sign, rest.as_bytes())?;
+    seconds_within_a_day(offset_of_digits(sign, rest.as_bytes())?)
+}
+
+/// The offset in seconds, where it is of less than a day.
+#[inline(always)]
+pub(crate) fn seconds_within_a_day(fields: OffsetFields) -> Option<OffsetInSeconds>
+    requires { fields.seconds ≡ None }
+    ensures value { result ≡ offset_by is_within_a_day fields }
+    ensures offset_fits { IfSome result IsOffsetSeconds }
+{
     if is_within_a_day(fields) {
         Some(fields.in_seconds())
     } else {

@@ -1,22 +1,16 @@
 //! The fields of formatted dates.
-ghost use Rattle.std.specs.Prelude.{◌≡◌, ◌<◌, IfSome, option_copied};
+ghost use Rattle.std.specs.Prelude.{◌≡◌, ◌<◌, IfSome, [], ◌∷◌, true, option_copied};
 ghost use Rattle.std.specs.List.{prefix_len};
 ghost use Rattle.gix_date.specs.Text.Characters.{is_space};
+ghost use Rattle.gix_date.specs.Fields.FieldTexts.{AreThreeLetters};
 ghost use Rattle.gix_date.specs.Private.Civil.{DateFits, ClockFits};
-ghost use Rattle.gix_date.specs.Private.Views.{read_view, name_view};
-ghost use Rattle.gix_date.specs.Fields.DateFields.{skip_spaces, read_name, month_named, is_weekday, read_month, skip_weekday, read_plain_date, read_minutes, read_second, read_clock, read_mail_clock, without_leap_second};
+ghost use Rattle.gix_date.specs.Private.Views.{read_view};
+ghost use Rattle.gix_date.specs.Fields.DateFields.{skip_spaces, month_named, is_weekday, read_month, skip_weekday, read_plain_date, read_minutes, read_second, read_clock, read_mail_clock, without_leap_second};
 
 use crate::parsing::civil::{ClockFields, DateFields};
 use crate::parsing::fields::skip_char;
 use crate::parsing::numbers::{read_field, read_year};
 use crate::time::MAX_SECOND;
-
-/// The names of months and of days of the week.
-const MONTHS: [&str; 12] = [
-    "Jan", "Feb", "Mar", "Apr", "May", "Jun", "Jul", "Aug", "Sep", "Oct", "Nov", "Dec",
-];
-
-const WEEKDAYS: [&str; 7] = ["Mon", "Tue", "Wed", "Thu", "Fri", "Sat", "Sun"];
 
 /// What stands after one space or more.
 #[tactic(auto, unfolding(crate::specs::Fields::DateFields::skip_spaces))]
@@ -38,58 +32,90 @@ fn spaces_len(text: &str) -> usize
     text.bytes().take_while(|b| *b == b' ').count()
 }
 
-/// Three letters at the front.
-#[tactic(auto, unfolding(crate::specs::Fields::DateFields::read_name))]
-fn read_name(text: &str) -> Option<(&str, &str)>
-    ensures { name_view result ≡ read_name text.now }
+/// The month that three letters name, in any letter case.
+#[tactic(auto, unfolding(crate::specs::Fields::DateFields::month_named))]
+#[inline(always)]
+fn month_named(a: u8, b: u8, c: u8) -> Option<u8>
+    ensures value { result ≡ month_named (a ∷ b ∷ c ∷ []) }
+    ensures small { IfSome result (λ month. month < 100) }
+    ensures letters { IfSome result (λ month. AreThreeLetters (a ∷ b ∷ c ∷ [])) }
+{
+    match (
+        a.to_ascii_lowercase(),
+        b.to_ascii_lowercase(),
+        c.to_ascii_lowercase(),
+    ) {
+        (b'j', b'a', b'n') => Some(1),
+        (b'f', b'e', b'b') => Some(2),
+        (b'm', b'a', b'r') => Some(3),
+        (b'a', b'p', b'r') => Some(4),
+        (b'm', b'a', b'y') => Some(5),
+        (b'j', b'u', b'n') => Some(6),
+        (b'j', b'u', b'l') => Some(7),
+        (b'a', b'u', b'g') => Some(8),
+        (b's', b'e', b'p') => Some(9),
+        (b'o', b'c', b't') => Some(10),
+        (b'n', b'o', b'v') => Some(11),
+        (b'd', b'e', b'c') => Some(12),
+        _ => None,
+    }
+}
+
+/// Whether three letters name a day of the week, in any letter case.
+#[tactic(auto, unfolding(crate::specs::Fields::DateFields::is_weekday))]
+#[inline(always)]
+fn is_weekday(a: u8, b: u8, c: u8) -> bool
+    ensures value { result ≡ is_weekday (a ∷ b ∷ c ∷ []) }
+    ensures letters { result ≡ true → AreThreeLetters (a ∷ b ∷ c ∷ []) }
+{
+    match (
+        a.to_ascii_lowercase(),
+        b.to_ascii_lowercase(),
+        c.to_ascii_lowercase(),
+    ) {
+        (b'm', b'o', b'n') => true,
+        (b't', b'u', b'e') => true,
+        (b'w', b'e', b'd') => true,
+        (b't', b'h', b'u') => true,
+        (b'f', b'r', b'i') => true,
+        (b's', b'a', b't') => true,
+        (b's', b'u', b'n') => true,
+        _ => false,
+    }
+}
+
+/// A month's name at the front.
+#[tactic(auto, unfolding(crate::specs::Fields::DateFields::read_month))]
+#[inline(always)]
+pub(crate) fn read_month(text: &str) -> Option<(u8, &str)>
+    ensures value { read_view result ≡ read_month text.now }
+    ensures small { IfSome result (λ found. found.0 < 100) }
 {
     match text.as_bytes() {
-        [a, b, c, ..]
-            if a.is_ascii_alphabetic() && b.is_ascii_alphabetic() && c.is_ascii_alphabetic() => {
-            Some(text.split_at(3))
+        [a, b, c, ..] => {
+            let month = month_named(*a, *b, *c)?;
+            Some((month, &text[3..]))
         }
         _ => None,
     }
 }
 
-/// The month of this name, in any letter case.
-#[tactic(auto, unfolding(crate::specs::Fields::DateFields::month_named))]
-fn month_named(name: &str) -> Option<u8>
-    ensures value { result ≡ month_named name.now }
-    ensures small { IfSome result (λ month. month < 100) }
-{
-    let place = MONTHS
-        .iter()
-        .position(|month| name.eq_ignore_ascii_case(month))?;
-    Some(place as u8 + 1)
-}
-
-/// Whether a day of the week has this name, in any letter case.
-#[tactic(auto, unfolding(crate::specs::Fields::DateFields::is_weekday))]
-fn is_weekday(name: &str) -> bool
-    ensures { result ≡ is_weekday name.now }
-{
-    WEEKDAYS.iter().any(|day| name.eq_ignore_ascii_case(day))
-}
-
-/// A month's name at the front.
-#[tactic(auto, unfolding(crate::specs::Fields::DateFields::read_month))]
-pub(crate) fn read_month(text: &str) -> Option<(u8, &str)>
-    ensures value { read_view result ≡ read_month text.now }
-    ensures small { IfSome result (λ found. found.0 < 100) }
-{
-    let (name, rest) = read_name(text)?;
-    let month = month_named(name)?;
-    Some((month, rest))
-}
-
 /// What stands after the name of a day of the week, whichever it is: it is not compared with the date.
 #[tactic(auto, unfolding(crate::specs::Fields::DateFields::skip_weekday))]
+#[inline(always)]
 pub(crate) fn skip_weekday(text: &str) -> Option<&str>
     ensures { option_copied result ≡ skip_weekday text.now }
 {
-    let (name, rest) = read_name(text)?;
-    if is_weekday(name) { Some(rest) } else { None }
+    match text.as_bytes() {
+        [a, b, c, ..] => {
+            if is_weekday(*a, *b, *c) {
+                Some(&text[3..])
+            } else {
+                None
+            }
+        }
+        _ => None,
+    }
 }
 
 /// A year of four digits, and a month and a day of one or two, with `-` between them.
@@ -165,6 +191,7 @@ pub(crate) fn read_clock(text: &str) -> Option<(ClockFields, &str)>
 
 /// An hour, a minute and a second, or else the first two.
 #[tactic(auto, unfolding(crate::specs::Fields::DateFields::read_mail_clock))]
+#[inline(always)]
 pub(crate) fn read_mail_clock(text: &str) -> Option<(ClockFields, &str)>
     ensures value { read_view result ≡ read_mail_clock text.now }
     ensures fits { IfSome result (λ found. ClockFits found.0) }

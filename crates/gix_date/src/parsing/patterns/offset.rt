@@ -69,6 +69,7 @@ fn parse_last_colon_pair(text: &str) -> Option<Option<u8>>
 
 /// A sign, two digits of hours and two of minutes, or else the name of a zone.
 #[tactic(auto, unfolding(crate::specs::Fields::DateOffsets::mail_zone))]
+#[inline(always)]
 pub(crate) fn parse_mail_zone(text: &str) -> Option<OffsetInSeconds>
     ensures value { result ≡ mail_zone text.now }
     ensures offset_fits { IfSome result (λ offset. IsOffsetSeconds offset) }
@@ -81,6 +82,7 @@ pub(crate) fn parse_mail_zone(text: &str) -> Option<OffsetInSeconds>
 
 /// A sign, two digits of hours and two of minutes.
 #[tactic(auto, unfolding(crate::specs::Fields::DateOffsets::mail_offset))]
+#[inline(always)]
 fn parse_mail_offset(text: &str) -> Option<OffsetInSeconds>
     ensures value { result ≡ mail_offset text.now }
     ensures offset_fits { IfSome result (λ offset. IsOffsetSeconds offset) }

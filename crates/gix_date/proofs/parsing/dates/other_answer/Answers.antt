@@ -1,11 +1,8 @@
 use Rattle.std.proofs.Common.{◌∙◌, ap, sym}
 use Rattle.gix_date.specs.Families.Raw.{allows}
 use Rattle.gix_date.specs.Private.Shapes.{begins_with_year}
-use Rattle.gix_date.proofs.Shapes.{raw-among, year-among, no-year-among}
+use Rattle.gix_date.proofs.Shapes.{year-among, no-year-among}
 use Rattle.gix_date.proofs.parsing.dates.other_answer.Goals as goal
-
-pub returns-in-Some-clause-first : goal.returns-in-Some-clause-first
-returns-in-Some-clause-first c = sym (raw-among (allows c.args.raw) c.args.input.now _ c.utf8.input c.in-Some.ensures.time)
 
 pub returns-then-begins_with_year-clause-first : goal.returns-then-begins_with_year-clause-first
 returns-then-begins_with_year-clause-first c =

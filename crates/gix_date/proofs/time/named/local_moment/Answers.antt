@@ -2,9 +2,11 @@ use Rattle.std.proofs.Common.{rules, ◌≡◌, ◌∙◌, sym, ap, arith, ℤ, 
 use Rattle.std.proofs.lemmas.Int.{to_z-of_z}
 use Rattle.std.specs.Int.{int_div_euclid, int_rem_euclid}
 use Rattle.jiff_core.proofs.DateLemmas.{epoch_day_range}
-use Rattle.jiff_core.proofs.SignedLemmas.{signed_arith}
+use Rattle.jiff_core.proofs.CalendarLemmas.{days_in_month_bounds}
+use Rattle.jiff_core.proofs.SignedLemmas.{signed_arith, one_part}
 use Rattle.gix_date.specs.Printing.LocalClocks.{local_day, second_of_day}
 use Rattle.gix_date.proofs.LocalClocks.{clock-by, unsigned-is}
+use Rattle.gix_date.specs.Private.NamedTexts.{HasFields}
 use Rattle.gix_date.proofs.time.named.local_moment.Goals as goal
 
 pub returns-clause-shown : goal.returns-clause-shown
@@ -33,3 +35,23 @@ returns-clause-shown c =
     let minute = simp to_z-of_z at k.minute in
     let last = simp to_z-of_z at k.second in
     simp to_z-of_z (clock-by t c.div_euclid-day.result date c.in-Ok-try_from.year (unsigned_abs c.rem_euclid-2.result) (unsigned_abs c.rem_euclid.result) c.clock_at.result day at year second (ap unsigned_abs r) hour minute last)
+
+pub returns-clause-fields : goal.returns-clause-fields
+returns-clause-fields c =
+    let t = c.args.time in
+    let date = c.in-Ok.date in
+    let offset_fits : FitsSigned w32 t.offset = search rules in
+    let year_fits : FitsSigned w16 date.year = search rules in
+    let weekday_fits : FitsSigned w64 c.rem_euclid.result = search rules in
+    let y = simp to_z-of_z at c.in-Ok-try_from.ensures in
+    let year_in = date.year_in in
+    let day_in = date.day_in in
+    let long = days_in_month_bounds date.year date.month in
+    let fields : HasFields (record { weekday = unsigned_abs c.rem_euclid.result; date = record { year = c.in-Ok-try_from.year; month = date.month; day = date.day }; clock = c.clock_at.result; offset = t.offset }) = record {
+      weekday = omega (arith, signed_arith, one_part c.rem_euclid.result, c.rem_euclid.ensures.lower_bound, c.rem_euclid.ensures.upper_bound);
+      year = omega (arith, signed_arith, one_part date.year, y, year_in);
+      month = date.month_in;
+      day = omega (arith, day_in, long);
+      offset = omega (arith, signed_arith, one_part t.offset, (c.in_ok-local.ensures.converts).0);
+    } in
+    simp to_z-of_z fields

@@ -9,7 +9,7 @@ use Rattle.gix_date.specs.Fields.Offsets.{signed, offset_of}
 use Rattle.gix_date.specs.declared.parsing.offset.OffsetFields.{OffsetFields}
 use Rattle.gix_date.specs.declared.parsing.offset.Sign.{Sign}
 use Rattle.gix_date.specs.declared.parsing.offset.Sign.TheVariants.{Plus, Minus}
-use Rattle.gix_date.proofs.parsing.git.offset.parse_git_offset.Goals as goal
+use Rattle.gix_date.proofs.parsing.git.offset.seconds_within_a_day.Goals as goal
 
 signed_short : (sign : Sign) (n : ℕ) → n ≤ 93599 → IsOffsetSeconds (signed sign n)
 signed_short Plus n h = (grind (arith, ints, h), grind (arith, ints, h))
@@ -26,6 +26,6 @@ within f whole day =
 
 pub returns-then-is_within_a_day-clause-offset_fits : goal.returns-then-is_within_a_day-clause-offset_fits
 returns-then-is_within_a_day-clause-offset_fits c =
-    let short = within c.in_ok-fields.fields c.in_ok-fields.ensures.whole_minutes (sym c.is_within_a_day.ensures ∙ c.if-is_within_a_day.true) in
+    let short = within c.args.fields c.requires (sym c.is_within_a_day.ensures ∙ c.if-is_within_a_day.true) in
     let fits : FitsSigned w32 c.in_seconds.result = search rules in
     simp to_z-of_z (subst IsOffsetSeconds (sym c.in_seconds.ensures) short)

@@ -1,0 +1,12 @@
+use Rattle.std.proofs.Common.{◌∙◌, ◌++◌, [], ◌∷◌, List, ℕ, ap, arith}
+use Rattle.gix_date.proofs.ShownTexts.{day-of-one, day-of-two}
+use Rattle.gix_date.proofs.time.named.push_day.Goals as goal
+
+pub returns-then-day-lt10-clause-bytes : goal.returns-then-day-lt10-clause-bytes
+returns-then-day-lt10-clause-bytes c =
+    c.push.ensures.ascii (omega (arith, c.from.ensures))
+    ∙ ap (λ (d : List ℕ). c.args.text.now.bytes ++ d) (ap (λ (n : ℕ). n ∷ []) c.from.ensures ∙ day-of-one c.args.day c.if-day-lt10.true)
+
+pub returns-else-day-lt10-clause-bytes : goal.returns-else-day-lt10-clause-bytes
+returns-else-day-lt10-clause-bytes c =
+    c.push_two_digits.ensures.bytes ∙ ap (λ (d : List ℕ). c.args.text.now.bytes ++ d) (day-of-two c.args.day c.if-day-lt10.false c.requires.day)

@@ -1,0 +1,150 @@
+//! What stands after the date of a Git text, as nearly all write it.
+ghost use Rattle.std.specs.Prelude.{◌≡◌, None, IfSome};
+ghost use Rattle.gix_date.specs.Fields.Civil.{is_clock};
+ghost use Rattle.gix_date.specs.Private.Civil.{ClockFits};
+ghost use Rattle.gix_date.specs.Private.PlainRests.{IsPlainOffset, IsRest, read_bare_clock, read_colon_clock, read_whole_clock, skip_colon, skip_digits, skip_fraction, skip_space};
+ghost use Rattle.gix_date.specs.Private.Views.{read_view};
+
+use crate::parsing::civil::ClockFields;
+use crate::parsing::fields::skip_char;
+use crate::parsing::numbers::{leading_digits, read_two_digits};
+use crate::parsing::offset::{OffsetFields, read_sign};
+use crate::time::{MAX_HOUR, MAX_MINUTE, MAX_SECOND};
+
+/// The clock of a text, already trimmed, and the fields of its offset, in the form that nearly all have: `HH:MM:SS` or
+/// `HHMMSS`, perhaps a dot and digits, perhaps one space, and then `±HHMM` or `±HH:MM`. That is read in one pass, with
+/// no search for the cut. `None` says of a text only that it has another form.
+pub(crate) fn parse_plain_rest(text: &str) -> Option<(ClockFields, OffsetFields)>
+    ensures rest { IfSome result (λ found. IsRest text.now found.0 found.1) }
+    ensures fits { IfSome result (λ found. ClockFits found.0) }
+    ensures whole_minutes { IfSome result (λ found. found.1.seconds ≡ None) }
+{
+    let (clock, rest) = read_whole_clock(text)?;
+    if !is_clock(clock) {
+        return None;
+    }
+    let fields = parse_plain_offset(skip_space(skip_fraction(rest)))?;
+    Some((clock, fields))
+}
+
+/// `HH:MM:SS` or `HHMMSS` at the front.
+#[tactic(auto, unfolding(crate::specs::Private::PlainRests::read_whole_clock))]
+#[inline(always)]
+fn read_whole_clock(text: &str) -> Option<(ClockFields, &str)>
+    ensures value { read_view result ≡ read_whole_clock text.now }
+    ensures fits { IfSome result (λ found. ClockFits found.0) }
+{
+    if let Some(found) = read_colon_clock(text) {
+        return Some(found);
+    }
+    read_bare_clock(text)
+}
+
+#[tactic(auto, unfolding(crate::specs::Private::PlainRests::read_colon_clock))]
+#[inline(always)]
+fn read_colon_clock(text: &str) -> Option<(ClockFields, &str)>
+    ensures value { read_view result ≡ read_colon_clock text.now }
+    ensures fits { IfSome result (λ found. ClockFits found.0) }
+{
+    let (hour, rest) = read_two_digits(text)?;
+    let rest = skip_char(':', rest)?;
+    let (minute, rest) = read_two_digits(rest)?;
+    let rest = skip_char(':', rest)?;
+    let (second, rest) = read_two_digits(rest)?;
+    Some((
+        ClockFields {
+            hour,
+            minute,
+            second,
+        },
+        rest,
+    ))
+}
+
+#[tactic(auto, unfolding(crate::specs::Private::PlainRests::read_bare_clock))]
+#[inline(always)]
+fn read_bare_clock(text: &str) -> Option<(ClockFields, &str)>
+    ensures value { read_view result ≡ read_bare_clock text.now }
+    ensures fits { IfSome result (λ found. ClockFits found.0) }
+{
+    let (hour, rest) = read_two_digits(text)?;
+    let (minute, rest) = read_two_digits(rest)?;
+    let (second, rest) = read_two_digits(rest)?;
+    Some((
+        ClockFields {
+            hour,
+            minute,
+            second,
+        },
+        rest,
+    ))
+}
+
+/// What stands after a dot and digits, where they are first.
+#[tactic(auto, unfolding(crate::specs::Private::PlainRests::skip_fraction))]
+#[inline(always)]
+fn skip_fraction(text: &str) -> &str
+    ensures { result.now ≡ skip_fraction text.now }
+{
+    match skip_char('.', text) {
+        Some(rest) => skip_digits(rest),
+        None => text,
+    }
+}
+
+fn skip_digits(text: &str) -> &str
+    ensures { result.now ≡ skip_digits text.now }
+{
+    &text[leading_digits(text).len()..]
+}
+
+/// What stands after one space, where it is first.
+#[tactic(auto, unfolding(crate::specs::Private::PlainRests::skip_space))]
+#[inline(always)]
+fn skip_space(text: &str) -> &str
+    ensures { result.now ≡ skip_space text.now }
+{
+    match skip_char(' ', text) {
+        Some(rest) => rest,
+        None => text,
+    }
+}
+
+/// Whether the day has this clock.
+#[inline(always)]
+fn is_clock(clock: ClockFields) -> bool
+    ensures { result ≡ is_clock clock }
+{
+    clock.hour <= MAX_HOUR && clock.minute <= MAX_MINUTE && clock.second <= MAX_SECOND
+}
+
+/// A sign, two digits of hours and two of minutes, perhaps with a colon between them.
+#[inline(always)]
+fn parse_plain_offset(text: &str) -> Option<OffsetFields>
+    ensures { IfSome result (λ f. IsPlainOffset text.now f) }
+{
+    let (sign, rest) = read_sign(text)?;
+    let (hours, rest) = read_two_digits(rest)?;
+    let (minutes, rest) = read_two_digits(skip_colon(rest))?;
+    if !rest.is_empty() {
+        return None;
+    }
+    Some(OffsetFields {
+        sign,
+        hours,
+        minutes,
+        seconds: None,
+    })
+}
+
+/// What stands after one colon, where it is first.
+#[tactic(auto, unfolding(crate::specs::Private::PlainRests::skip_colon))]
+#[inline(always)]
+fn skip_colon(text: &str) -> &str
+    ensures { result.now ≡ skip_colon text.now }
+{
+    match skip_char(':', text) {
+        Some(rest) => rest,
+        None => text,
+    }
+}
