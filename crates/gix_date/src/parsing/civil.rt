@@ -1,7 +1,8 @@
 //! Dates and clocks as texts say them, and the instants that they are.
-ghost use Rattle.std.specs.Prelude.{◌≡◌};
+ghost use Rattle.std.specs.Prelude.{◌≡◌, pos};
 ghost use Rattle.jiff.specs.Words.{IsOffsetSeconds};
 ghost use Rattle.gix_date.specs.Fields.Civil.{is_date, civil_instant};
+ghost use Rattle.gix_date.specs.Families.Patterns.{midnight};
 ghost use Rattle.gix_date.specs.Private.Civil.{DateFits, ClockFits};
 
 use crate::time::{OffsetInSeconds, SecondsSinceUnixEpoch};
@@ -24,10 +25,40 @@ pub(crate) struct ClockFields {
     pub(crate) second: u8,
 }
 
+/// The beginning of a day.
+const MIDNIGHT: ClockFields = ClockFields {
+    hour: 0,
+    minute: 0,
+    second: 0,
+};
+
 /// The seconds since 1970-01-01 00:00:00 UTC of this clock on this day, at this offset from UTC.
 ///
 /// `None` where the calendar does not have the day, or the day not the clock, or `jiff` no instant of these seconds.
 pub(crate) fn civil_instant(
+    date: DateFields,
+    clock: ClockFields,
+    offset: OffsetInSeconds,
+) -> Option<SecondsSinceUnixEpoch>
+    requires date { DateFits date }
+    requires clock { ClockFits clock }
+    requires offset { IsOffsetSeconds offset }
+    ensures { result ≡ civil_instant date clock offset }
+{
+    instant_at(date, clock, offset)
+}
+
+/// The same of a day's midnight in UTC: a clock that is known leaves less to compute.
+pub(crate) fn midnight_instant(date: DateFields) -> Option<SecondsSinceUnixEpoch>
+    requires { DateFits date }
+    ensures { result ≡ civil_instant date midnight (pos 0) }
+{
+    instant_at(date, MIDNIGHT, 0)
+}
+
+/// What both answer, inlined into each.
+#[inline(always)]
+fn instant_at(
     date: DateFields,
     clock: ClockFields,
     offset: OffsetInSeconds,

@@ -9,7 +9,7 @@ ghost use Rattle.jiff.specs.Words.{IsOffsetSeconds};
 ghost use Rattle.gix_date.specs.Private.Views.{answer_of, read_view, HasJiffOffset};
 
 use crate::parsing::answer::Answer;
-use crate::parsing::civil::{ClockFields, DateFields, civil_instant, is_date};
+use crate::parsing::civil::{ClockFields, DateFields, civil_instant, is_date, midnight_instant};
 use crate::parsing::fields::skip_char;
 use crate::parsing::numbers::{read_field, read_year};
 use crate::parsing::patterns::fields::{
@@ -25,13 +25,6 @@ mod offset;
 
 /// The farthest offset of a formatted date: 23:59 either way.
 const MAX_OFFSET_IN_SECONDS: u32 = SECONDS_PER_DAY as u32 - SECONDS_PER_MINUTE as u32;
-
-/// The beginning of a day.
-const MIDNIGHT: ClockFields = ClockFields {
-    hour: 0,
-    minute: 0,
-    second: 0,
-};
 
 /// Reads a date that begins with a day: the day alone, `2018-12-24`, which is its midnight in UTC; ISO 8601 as Git
 /// prints it, `2022-08-18 12:45:06 +0800`; or its strict form, `2022-08-18T12:45:06+08:00`. The day is read once for all
@@ -57,7 +50,7 @@ fn real_day_answer(date: DateFields) -> Option<Answer<'static>>
     ensures answer { option_map answer_of result ≡ answer_after [] real_day_answer date [] }
     ensures offset_fits { IfSome result HasJiffOffset }
 {
-    if let Some(seconds) = civil_instant(date, MIDNIGHT, 0) {
+    if let Some(seconds) = midnight_instant(date) {
         return Some(Answer::Absolute(Time::new(seconds, 0)));
     }
     if is_date(date) {

@@ -215,17 +215,6 @@ fn push_clock(text: &mut NamedText, clock: ClockFields)
     push_two_digits(text, clock.second);
 }
 
-/// A copy of a text.
-pub(crate) fn copy_text(alloc: Global, text: &str) -> Result<String, Error>
-    ensures text { IfOk result (λ copy. string_bytes copy ≡ text.now) }
-    ensures memory { IfErr result (λ e. e ≡ errors.Memory) }
-{
-    match String::from_str(alloc, text) {
-        Ok(copy) => Ok(copy),
-        Err(_) => Err(Error::Memory),
-    }
-}
-
 /// Appends ` hh:mm:ss +hhmm`.
 #[inline(always)]
 fn push_clock_and_offset(text: &mut NamedText, t: LocalMoment)
@@ -404,6 +393,17 @@ fn push_named(text: &mut NamedText, pattern: &str, t: LocalMoment) -> Option<()>
         _ => return None,
     }
     Some(())
+}
+
+/// A copy of a text.
+pub(crate) fn copy_text(alloc: Global, text: &str) -> Result<String, Error>
+    ensures text { IfOk result (λ copy. string_bytes copy ≡ text.now) }
+    ensures memory { IfErr result (λ e. e ≡ errors.Memory) }
+{
+    match String::from_str(alloc, text) {
+        Ok(copy) => Ok(copy),
+        Err(_) => Err(Error::Memory),
+    }
 }
 
 /// What a named pattern prints of a time, where it is known: interpreting the pattern takes four times as long.

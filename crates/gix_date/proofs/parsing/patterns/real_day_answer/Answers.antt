@@ -8,6 +8,6 @@ use Rattle.gix_date.proofs.parsing.patterns.real_day_answer.Goals as goal
 
 pub returns-in-Some-clause-answer : goal.returns-in-Some-clause-answer
 returns-in-Some-clause-answer c =
-    let f : FitsSigned w64 c.in-Some.seconds = first_of (search rules, omega (arith, signed_arith, c.civil_instant.type_inv)) in
+    let f : FitsSigned w64 c.in-Some.seconds = first_of (search rules, omega (arith, signed_arith, c.midnight_instant.type_inv)) in
     let made = simp to_z-of_z at c.new.ensures in
     ap (λ (t : Time). Some (Absolute t)) made ∙ day-with-instant c.args.date c.in-Some.seconds c.in-Some.ensures
