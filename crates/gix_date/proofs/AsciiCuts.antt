@@ -1,5 +1,5 @@
 -- Texts of ASCII, and where a text may be cut: after ASCII.
-use Rattle.std.proofs.Common.{◌≡◌, ℕ, ◌<◌, ◌≤◌, Bool, true, List, [], ◌∷◌, get_or, arith, subst, zero, suc, IsAscii}
+use Rattle.std.proofs.Common.{◌≡◌, ℕ, ◌+◌, ◌-◌, ◌<◌, ◌≤◌, Bool, true, false, cond, List, [], ◌∷◌, length, get_or, Some, None, refl, arith, ap, subst, zero, suc, IsAscii}
 use Rattle.std.proofs.lemmas.Bool.{and_parts as both}
 use Rattle.std.proofs.lemmas.Bool.Decides.{nat_tests}
 use Rattle.std.proofs.lemmas.List.Sums.{prefix_len-le-length, prefix_len_passes}
@@ -7,7 +7,9 @@ use Rattle.std.proofs.lemmas.Str.{IsCharBoundary-after_ascii, IsCharBoundary-sta
 use Rattle.std.proofs.lemmas.Str.Ascii.{IsAscii-nil, IsAscii-cons}
 use Rattle.std.specs.Char.{is_ascii_digit, is_ascii_alphabetic}
 use Rattle.std.specs.List.{prefix_len, list_all}
+use Rattle.std.specs.Prelude.{◌&&◌}
 use Rattle.std.specs.Str.{IsCharBoundary, IsUtf8}
+use Rattle.gix_date.specs.Text.Numbers.{two_digit_value}
 
 pub digit_is_ascii : (c : ℕ) → is_ascii_digit c ≡ true → c < 128
 digit_is_ascii c h = grind (arith, nat_tests, h)
@@ -24,3 +26,18 @@ cut_rest p ascii bs (suc n) u h = subst (IsCharBoundary bs) (omega arith) (IsCha
 pub ascii-by : (p : ℕ → Bool) → ((c : ℕ) → p c ≡ true → c < 128) → (t : List ℕ) → list_all p t ≡ true → IsAscii t
 ascii-by p ascii [] h = IsAscii-nil
 ascii-by p ascii (c ∷ t) h = let parts = both (p c) (list_all p t) h in IsAscii-cons c t (ascii c parts.0) (ascii-by p ascii t parts.1)
+
+second_holds : (p q : Bool) (n m : ℕ) → Some m ≡ cond (p && q) (Some n) None → q ≡ true
+second_holds true true n m h = refl
+second_holds true false n m h = cc
+second_holds false q n m h = cc
+
+ones_ascii : (tens ones m : ℕ) → Some m ≡ two_digit_value tens ones → ones < 128
+ones_ascii tens ones m h = digit_is_ascii ones (second_holds (is_ascii_digit tens) (is_ascii_digit ones) _ m h)
+
+-- after two digits, the second of which is this one
+pub cut-pair : (bytes text : List ℕ) (last m : ℕ) → bytes ≡ text → IsUtf8 text → last < length bytes
+    → Some m ≡ two_digit_value (get_or bytes (last - 1) 0) (get_or bytes last 0) → IsCharBoundary text (last + 1)
+cut-pair bytes text last m e u n value =
+    let ascii = ones_ascii (get_or bytes (last - 1) 0) (get_or bytes last 0) m value in
+    IsCharBoundary-after_ascii text last u (omega (arith, ap length e)) (subst (λ bs. get_or bs last 0 < 128) e ascii)

@@ -1,7 +1,14 @@
 //! What all readers of fields stand on.
-ghost use Rattle.std.specs.Prelude.{◌≡◌, ◌<◌, option_copied};
+ghost use Rattle.std.specs.Prelude.{◌≡◌, ◌<◌, IfSome, option_copied};
 ghost use Rattle.gix_date.specs.Text.Characters.{has_colon};
 ghost use Rattle.gix_date.specs.Fields.Front.{skip_char};
+ghost use Rattle.gix_date.specs.Git.Forms.{read_marked_date};
+ghost use Rattle.gix_date.specs.Private.Civil.{ClockFits, DateFits};
+ghost use Rattle.gix_date.specs.Private.PlainRests.{read_colon_clock};
+ghost use Rattle.gix_date.specs.Private.Views.{read_view};
+
+use crate::parsing::civil::{ClockFields, DateFields};
+use crate::parsing::numbers::parse_two_digits;
 
 /// What stands after this character, where it is the first.
 #[tactic(auto, unfolding(crate::specs::Fields::Front::skip_char))]
@@ -21,4 +28,49 @@ pub(crate) fn has_colon(text: &str) -> bool
     ensures { result ≡ has_colon text.now }
 {
     text.as_bytes().contains(&b':')
+}
+
+/// A year of four digits, a month of two and a day of two, with a mark between them, matched at once.
+#[tactic(auto, unfolding(crate::specs::Computing::computing))]
+#[inline(always)]
+pub(crate) fn read_marked_date(mark: char, text: &str) -> Option<(DateFields, &str)>
+    requires { mark < 128 }
+    ensures value { read_view result ≡ read_marked_date mark text.now }
+    ensures fits { IfSome result (λ found. DateFits found.0) }
+{
+    match text.as_bytes() {
+        [a, b, c, d, first, e, f, second, g, h, ..]
+            if char::from(*first) == mark && char::from(*second) == mark => {
+            let century = parse_two_digits(*a, *b)?;
+            let year = parse_two_digits(*c, *d)?;
+            let month = parse_two_digits(*e, *f)?;
+            let day = parse_two_digits(*g, *h)?;
+            let year = 100 * u16::from(century) + u16::from(year);
+            Some((DateFields { year, month, day }, &text[10..]))
+        }
+        _ => None,
+    }
+}
+
+/// `HH:MM:SS` at the front, matched at once.
+#[tactic(auto, unfolding(crate::specs::Computing::computing, crate::specs::Private::PlainRests::read_colon_clock))]
+#[inline(always)]
+pub(crate) fn read_colon_clock(text: &str) -> Option<(ClockFields, &str)>
+    ensures value { read_view result ≡ read_colon_clock text.now }
+    ensures fits { IfSome result (λ found. ClockFits found.0) }
+{
+    match text.as_bytes() {
+        [h0, h1, b':', m0, m1, b':', s0, s1, ..] => {
+            let hour = parse_two_digits(*h0, *h1)?;
+            let minute = parse_two_digits(*m0, *m1)?;
+            let second = parse_two_digits(*s0, *s1)?;
+            let clock = ClockFields {
+                hour,
+                minute,
+                second,
+            };
+            Some((clock, &text[8..]))
+        }
+        _ => None,
+    }
 }

@@ -5,10 +5,10 @@ ghost use Rattle.std.specs.Str.{trim};
 ghost use Rattle.gix_date.specs.Private.Civil.{ClockFits, DateFits};
 ghost use Rattle.gix_date.specs.Private.PlainRests.{time_at};
 ghost use Rattle.gix_date.specs.Private.Views.{read_view};
-ghost use Rattle.gix_date.specs.Git.Forms.{read_marked_date, read_compact_date, time_with_rest, time_of_cut, dotted_time, compact_time, flexible_time, git_form, git_time};
+ghost use Rattle.gix_date.specs.Git.Forms.{read_compact_date, time_with_rest, time_of_cut, dotted_time, compact_time, flexible_time, git_form, git_time};
 
 use crate::parsing::civil::{ClockFields, DateFields, civil_instant};
-use crate::parsing::fields::skip_char;
+use crate::parsing::fields::{read_marked_date, skip_char};
 use crate::parsing::git::clock::parse_clock;
 use crate::parsing::git::cut::clock_cut;
 use crate::parsing::git::offset::{parse_git_offset, seconds_within_a_day};
@@ -137,21 +137,6 @@ fn trimmed(text: &str) -> &str
         [first, .., last] if first.is_ascii_graphic() && last.is_ascii_graphic() => text,
         _ => text.trim(),
     }
-}
-
-/// A year of four digits, a month of two and a day of two, with a mark between them.
-#[tactic(auto, unfolding(crate::specs::Git::Forms::read_marked_date))]
-fn read_marked_date(mark: char, text: &str) -> Option<(DateFields, &str)>
-    requires { mark < 128 }
-    ensures value { read_view result ≡ read_marked_date mark text.now }
-    ensures fits { IfSome result (λ found. DateFits found.0) }
-{
-    let (year, rest) = read_year(text)?;
-    let rest = skip_char(mark, rest)?;
-    let (month, rest) = read_two_digits(rest)?;
-    let rest = skip_char(mark, rest)?;
-    let (day, rest) = read_two_digits(rest)?;
-    Some((DateFields { year, month, day }, rest))
 }
 
 /// A year of four digits, a month of two and a day of two, with no mark between them.

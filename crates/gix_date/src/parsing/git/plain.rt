@@ -6,7 +6,7 @@ ghost use Rattle.gix_date.specs.Private.PlainRests.{IsPlainOffset, IsRest, read_
 ghost use Rattle.gix_date.specs.Private.Views.{read_view};
 
 use crate::parsing::civil::ClockFields;
-use crate::parsing::fields::skip_char;
+use crate::parsing::fields::{read_colon_clock, skip_char};
 use crate::parsing::numbers::{leading_digits, read_two_digits};
 use crate::parsing::offset::{OffsetFields, read_sign};
 use crate::time::{MAX_HOUR, MAX_MINUTE, MAX_SECOND};
@@ -38,27 +38,6 @@ fn read_whole_clock(text: &str) -> Option<(ClockFields, &str)>
         return Some(found);
     }
     read_bare_clock(text)
-}
-
-#[tactic(auto, unfolding(crate::specs::Private::PlainRests::read_colon_clock))]
-#[inline(always)]
-fn read_colon_clock(text: &str) -> Option<(ClockFields, &str)>
-    ensures value { read_view result ≡ read_colon_clock text.now }
-    ensures fits { IfSome result (λ found. ClockFits found.0) }
-{
-    let (hour, rest) = read_two_digits(text)?;
-    let rest = skip_char(':', rest)?;
-    let (minute, rest) = read_two_digits(rest)?;
-    let rest = skip_char(':', rest)?;
-    let (second, rest) = read_two_digits(rest)?;
-    Some((
-        ClockFields {
-            hour,
-            minute,
-            second,
-        },
-        rest,
-    ))
 }
 
 #[tactic(auto, unfolding(crate::specs::Private::PlainRests::read_bare_clock))]

@@ -8,14 +8,25 @@ ghost use Rattle.gix_date.specs.Private.Views.{read_view};
 ghost use Rattle.gix_date.specs.Fields.DateFields.{skip_spaces, month_named, is_weekday, read_month, skip_weekday, read_plain_date, read_minutes, read_second, read_clock, read_mail_clock, without_leap_second};
 
 use crate::parsing::civil::{ClockFields, DateFields};
-use crate::parsing::fields::skip_char;
+use crate::parsing::fields::{read_colon_clock, read_marked_date, skip_char};
 use crate::parsing::numbers::{read_field, read_year};
 use crate::time::MAX_SECOND;
 
-/// What stands after one space or more.
+/// What stands after one space or more. Nearly all texts have one.
 #[tactic(auto, unfolding(crate::specs::Fields::DateFields::skip_spaces))]
 #[inline(always)]
 pub(crate) fn skip_spaces(text: &str) -> Option<&str>
+    ensures { option_copied result ≡ skip_spaces text.now }
+{
+    match text.as_bytes() {
+        [b' ', next, ..] if *next != b' ' => Some(&text[1..]),
+        _ => skip_any_spaces(text),
+    }
+}
+
+/// The same of any text.
+#[tactic(auto, unfolding(crate::specs::Fields::DateFields::skip_spaces))]
+fn skip_any_spaces(text: &str) -> Option<&str>
     ensures { option_copied result ≡ skip_spaces text.now }
 {
     let len = spaces_len(text);
@@ -118,13 +129,16 @@ pub(crate) fn skip_weekday(text: &str) -> Option<&str>
     }
 }
 
-/// A year of four digits, and a month and a day of one or two, with `-` between them.
-#[tactic(auto, unfolding(crate::specs::Fields::DateFields::read_plain_date))]
+/// A year of four digits, and a month and a day of one or two, nearly always two, with `-` between them.
+#[tactic(auto, unfolding(crate::specs::Computing::computing))]
 #[inline(always)]
 pub(crate) fn read_plain_date(text: &str) -> Option<(DateFields, &str)>
     ensures value { read_view result ≡ read_plain_date text.now }
     ensures fits { IfSome result (λ found. DateFits found.0) }
 {
+    if let Some(found) = read_marked_date('-', text) {
+        return Some(found);
+    }
     let (year, rest) = read_year(text)?;
     let rest = skip_char('-', rest)?;
     let (month, rest) = read_field(rest)?;
@@ -178,27 +192,30 @@ fn without_leap_second(second: u8) -> u8
     if second == 60 { MAX_SECOND } else { second }
 }
 
-/// An hour, a minute and a second.
-#[tactic(auto, unfolding(crate::specs::Fields::DateFields::read_clock))]
+/// An hour, a minute and a second, nearly always of two digits each.
+#[tactic(auto, unfolding(crate::specs::Computing::computing, crate::specs::Private::PlainRests::read_colon_clock))]
 #[inline(always)]
 pub(crate) fn read_clock(text: &str) -> Option<(ClockFields, &str)>
     ensures value { read_view result ≡ read_clock text.now }
     ensures fits { IfSome result (λ found. ClockFits found.0) }
 {
+    if let Some((clock, rest)) = read_colon_clock(text) {
+        let second = without_leap_second(clock.second);
+        return Some((ClockFields { second, ..clock }, rest));
+    }
     let (clock, rest) = read_minutes(text)?;
     read_second(clock, rest)
 }
 
 /// An hour, a minute and a second, or else the first two.
-#[tactic(auto, unfolding(crate::specs::Fields::DateFields::read_mail_clock))]
+#[tactic(auto, unfolding(crate::specs::Fields::DateFields::read_mail_clock, crate::specs::Fields::DateFields::read_clock))]
 #[inline(always)]
 pub(crate) fn read_mail_clock(text: &str) -> Option<(ClockFields, &str)>
     ensures value { read_view result ≡ read_mail_clock text.now }
     ensures fits { IfSome result (λ found. ClockFits found.0) }
 {
-    let (clock, rest) = read_minutes(text)?;
-    if let Some(found) = read_second(clock, rest) {
+    if let Some(found) = read_clock(text) {
         return Some(found);
     }
-    Some((clock, rest))
+    read_minutes(text)
 }
