@@ -97,6 +97,7 @@ fn file_status(error: jiff::Error) -> Status
 }
 
 /// What a text says by the rule for raw offsets of a number.
+#[inline(always)]
 fn parse_text(text: &[u8], raw_offsets: u32, now: Option<Zoned<'_>>) -> Result<Time, Status>
     ensures { IsParsed raw_offsets now.entry text.now result }
 {

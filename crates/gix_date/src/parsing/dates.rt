@@ -105,6 +105,8 @@ pub fn parse_with(
 /// 23:59; [`ParseError::DateConversion`] where a day alone has no instant; [`ParseError::MissingNow`] for a relative
 /// text where no moment is given, and [`ParseError::Range`] for one that leaves the years -9999 to 9999, or the
 /// instants that `jiff` has.
+// Inlined, so that a caller without a moment hands none on.
+#[inline(always)]
 pub fn parse_no_alloc(
     input: &str,
     now: Option<Zoned<'_>>,

@@ -90,6 +90,7 @@ impl<'a> Relative<'a> {
     /// The time that is asked for, from this moment: whole seconds, and the offset of the moment's zone there.
     ///
     /// [`ParseError::MissingNow`] without a moment, and [`ParseError::Range`] where there is no such time.
+    #[inline(always)]
     pub(crate) fn time(self, now: Option<Zoned<'_>>) -> Result<Time, ParseError>
         ensures outcome { RelativeOutcome (relative_date_of self.entry) now.entry result }
         ensures offset_fits { IfOk result (λ t. IsOffsetSeconds t.offset) }
