@@ -1,4 +1,4 @@
-/* Makes one call of gix_date.h so many times: calls KIND COUNT TEXT. */
+/* Makes one call of gix_date.h so many times: calls KIND TEXT COUNT. */
 #include "gix_date.h"
 
 #include <stdio.h>
@@ -33,10 +33,10 @@ int main(int count, char **words)
 {
     if (count != 4)
         return 2;
-    size_t len = strlen(words[3]);
+    size_t len = strlen(words[2]);
     uint32_t status = 0;
-    for (long i = strtol(words[2], NULL, 10); i > 0; i--)
-        status |= call(words[1], (const uint8_t *)words[3], len);
+    for (long i = strtol(words[3], NULL, 10); i > 0; i--)
+        status |= call(words[1], (const uint8_t *)words[2], len);
     printf("%u\n", (unsigned)status);
     return 0;
 }
