@@ -8,13 +8,13 @@
 static const gix_date_instant now = {1698400800, 0};
 static const gix_date_time day = {1660797906, 28800};
 
-/* One call, by the first letter of its kind; the rest of the kind of a format is its number. */
-static uint32_t call(const char *kind, const uint8_t *text, size_t len)
+/* One call, by the letter of its kind. */
+static uint32_t call(char kind, uint32_t format, const uint8_t *text, size_t len)
 {
     gix_date_time time;
     uint8_t out[64];
     size_t out_len;
-    switch (kind[0]) {
+    switch (kind) {
     case 'h':
         return gix_date_parse_header(text, len, &time);
     case 'w':
@@ -24,8 +24,7 @@ static uint32_t call(const char *kind, const uint8_t *text, size_t len)
     case 'r':
         return gix_date_parse_at_offset(text, len, GIX_DATE_QUARTERS, &now, 0, &time);
     default:
-        return gix_date_format(&day, (uint32_t)strtoul(kind + 1, NULL, 10), out, sizeof out,
-                               &out_len);
+        return gix_date_format(&day, format, out, sizeof out, &out_len);
     }
 }
 
@@ -33,10 +32,13 @@ int main(int count, char **words)
 {
     if (count != 4)
         return 2;
+    /* The kind of a format has its number after the letter. */
+    char kind = words[1][0];
+    uint32_t format = kind == 'f' ? (uint32_t)strtoul(words[1] + 1, NULL, 10) : 0;
     size_t len = strlen(words[2]);
     uint32_t status = 0;
     for (long i = strtol(words[3], NULL, 10); i > 0; i--)
-        status |= call(words[1], (const uint8_t *)words[2], len);
+        status |= call(kind, format, (const uint8_t *)words[2], len);
     printf("%u\n", (unsigned)status);
     return 0;
 }
