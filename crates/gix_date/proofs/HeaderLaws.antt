@@ -301,7 +301,7 @@ canonical-utf8 text e =
 pub small-minutes : (n : ℕ) → nat_lt (n % 3600 / 60) 60 ≡ true
 small-minutes n = let h : n % 3600 / 60 < 60 = omega arith in grind (arith, nat_tests)
 
-false-unless : (b : Bool) → (b ≡ true → ⊥) → b ≡ false
+pub false-unless : (b : Bool) → (b ≡ true → ⊥) → b ≡ false
 false-unless true h = absurd (h refl)
 false-unless false h = refl
 
@@ -321,10 +321,10 @@ no-minus-zero o h e = false-unless (bytes_eq (compact_offset_text o) (codes "-00
     let clash : Plus ≡ Minus = ap (λ (o : ℤ). sign_for (int_lt o (pos 0))) (sym zero_is) ∙ ap (λ (f : OffsetFields). f.sign) fields in
     cc)
 
-canonical-parts : (x front zone : List ℕ) → before_first is_space x ≡ front → after_first is_space x ≡ zone → is_decimal_text front ≡ true → is_canonical_offset zone ≡ true → is_canonical_header x ≡ true
+pub canonical-parts : (x front zone : List ℕ) → before_first is_space x ≡ front → after_first is_space x ≡ zone → is_decimal_text front ≡ true → is_canonical_offset zone ≡ true → is_canonical_header x ≡ true
 canonical-parts x front zone e f d o = ap₂ (λ (a b : Bool). a && b) (ap is_decimal_text e ∙ d) (ap is_canonical_offset f ∙ o)
 
-decimal-test : (w : List ℕ) (z : ℤ) → int_value w ≡ Some z → decimal_text z ≡ w → is_decimal_text w ≡ true
+pub decimal-test : (w : List ℕ) (z : ℤ) → int_value w ≡ Some z → decimal_text z ≡ w → is_decimal_text w ≡ true
 decimal-test w z e h = rw e ((bytes_eq-Decides (decimal_text z) w).1 h)
 
 offset-test : (o : ℤ) → unsigned_abs o < 360000 → bytes_eq (compact_offset_text o) (codes "-0000") ≡ false → is_canonical_offset (compact_offset_text o) ≡ true

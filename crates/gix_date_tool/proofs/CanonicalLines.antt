@@ -29,7 +29,7 @@ replied : (text : List ℕ) (found : Option Time) → header_time text ≡ found
 replied text None e h = absurd cc
 replied text (Some t) e h = by-test text t (header_text t) (is_header_text_of text t) e refl refl h
 
-back-replied : (text : List ℕ) → ComesBack text → Canonical ≡ check_reply text (header_time text)
+pub back-replied : (text : List ℕ) → ComesBack text → Canonical ≡ check_reply text (header_time text)
 back-replied text b =
     let same : bytes_eq text text ≡ true = (bytes_eq-Decides text text).1 refl in
     rw (b.is_read, b.is_written, same) refl

@@ -10,6 +10,7 @@ pub mod laws;
 mod lines;
 mod messages;
 mod outbox;
+mod plain;
 mod program;
 mod progress;
 mod replies;

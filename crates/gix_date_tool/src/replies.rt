@@ -8,6 +8,7 @@ ghost use Rattle.gix_date_tool.specs.Replies.{RepliesAreUnique, CanonicalLines, 
 
 use crate::arguments::Mode;
 use crate::outbox::Outbox;
+use crate::plain::is_plain_canonical;
 use crate::signed::{SignedLine, sign};
 use gix_date::device::Sink;
 use gix_date::parsing::TimeBuf;
@@ -134,6 +135,9 @@ fn check_reply(text: &str) -> Reply<'static>
     ensures is { result ≡ check_reply text.now (header_time text.now) }
     ensures writable { IsWritable result }
 {
+    if is_plain_canonical(text) {
+        return Reply::Canonical;
+    }
     match parse_header(text) {
         None => Reply::NoTime,
         Some(time) if is_header_text_of(text, time) => Reply::Canonical,

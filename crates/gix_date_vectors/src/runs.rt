@@ -53,6 +53,24 @@ fn lines_are_answered(rt: HostRuntime) {
             "read 0 0\nread 0 0\nread 0 3600\nread 0 0\n",
             4,
         ),
+        (
+            "canonical-at-a-glance",
+            b"1660874655 +0800\n1660874655 -0130\n999999999999999999 +0059\n".as_slice(),
+            "canonical\ncanonical\ncanonical\n",
+            3,
+        ),
+        (
+            "canonical-at-a-second-glance",
+            b"0 +0800\n-5 +0800\n1000000000000000000 +0059\n1660874655 -0030\n".as_slice(),
+            "canonical\ncanonical\ncanonical\ncanonical\n",
+            4,
+        ),
+        (
+            "nearly-canonical",
+            b"1660874655 -0000\n1660874655 +0060\n01660874655 +0800\n1660874655  +0800\n".as_slice(),
+            "read 1660874655 0\nread 1660874655 3600\nread 1660874655 28800\nread 1660874655 28800\n",
+            4,
+        ),
         ("behind-utc", b"-5 -0130".as_slice(), "canonical\n", 1),
         ("newline-alone", b"\n".as_slice(), "none\n", 1),
         (
