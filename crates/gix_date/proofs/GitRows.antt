@@ -136,6 +136,14 @@ offset-of-three-digits : git_offset (codes "+053") ≡ None
 unfolding computing
 offset-of-three-digits = refl
 
+offset-of-60-minutes : git_offset (codes "+0560") ≡ None
+unfolding computing
+offset-of-60-minutes = refl
+
+farthest-offset : git_offset (codes "-2359") ≡ Some (neg_ℤ (pos 86340))
+unfolding computing
+farthest-offset = refl
+
 offset-of-24-hours : git_offset (codes "+2400") ≡ None
 unfolding computing
 offset-of-24-hours = refl
@@ -152,6 +160,23 @@ offset-with-seconds-is-no-git-offset = refl
 offset-of-a-day-is-no-git-offset : git_time (codes "2022-08-18 12:45:06 +2400") ≡ None
 unfolding computing
 offset-of-a-day-is-no-git-offset = refl
+
+dotted-with-t : git_time (codes "2008.02.14T20:30:45") ≡ None
+unfolding computing
+dotted-with-t = refl
+
+small-t : git_time (codes "2008-02-14t20:30:45") ≡ None
+unfolding computing
+small-t = refl
+
+-- a colon after a sign, behind one space and two
+colon-after-a-sign : git_time (codes "2008-02-14 20:30 +:05") ≡ None
+unfolding computing
+colon-after-a-sign = refl
+
+colon-after-a-sign-behind-spaces : git_time (codes "2008-02-14  20:30 +:05") ≡ None
+unfolding computing
+colon-after-a-sign-behind-spaces = refl
 
 month-of-one-digit : git_time (codes "2022-8-18 12:45:06 +0800") ≡ None
 unfolding computing

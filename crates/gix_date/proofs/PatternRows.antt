@@ -257,6 +257,10 @@ strict : iso8601_strict_answer (codes "2022-08-17T21:43:13+08:00") ≡ at (pos 1
 unfolding whole
 strict = refl
 
+strict-offset-of-a-day-ahead : iso8601_strict_answer (codes "2022-08-17T21:43:13+24:00") ≡ Some OffsetBeyond
+unfolding whole
+strict-offset-of-a-day-ahead = refl
+
 strict-offset-of-a-day : iso8601_strict_answer (codes "2022-08-17T21:43:13-24:00") ≡ Some OffsetBeyond
 unfolding whole
 strict-offset-of-a-day = refl

@@ -143,6 +143,10 @@ below-the-bare-epoch : first_family (codes "99999999") ≡ None
 unfolding computing
 below-the-bare-epoch = refl
 
+no-epoch-behind-1970 : first_family (codes "-100000000") ≡ None
+unfolding computing
+no-epoch-behind-1970 = refl
+
 raw-after : first_family (codes "5 -0130") ≡ Some (Absolute (time (pos 5) (minus 5400)))
 unfolding computing
 raw-after = refl

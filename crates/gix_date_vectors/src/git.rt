@@ -51,7 +51,7 @@ pub(crate) const TIMES: [Row; 44] = [
 ];
 
 /// Texts of no family.
-const UNKNOWN: [&str; 37] = [
+const UNKNOWN: [&str; 39] = [
     "2008-02-30 20:30:45 +0000", // day not there
     "2008-02-14 20:30:45 +2400", // offset of a day
     "2008.02.14 20:30:45 +2400", // offset of a day
@@ -77,6 +77,8 @@ const UNKNOWN: [&str; 37] = [
     "2008-00-14 20:30:45", // month of 0
     "2008-02-00 20:30:45", // day of 0
     "2008-02-14 20:30:45-:05", // offset after a colon
+    "2008-02-14 20:30 +:05", // offset after a colon
+    "2008-02-14  20:30 +:05", // offset after a colon
     "2008-02-14 20:30:60", // second of 60
     "9999-12-31 23:59:59 +0000", // past the last instant
     "9999-12-30 22:00:01 +0000", // past the last instant
