@@ -11,9 +11,9 @@ const MAX_DIGITS: usize = 18;
 /// The bytes of a space and of an offset such as `+0800`.
 const OFFSET_BYTES: usize = 6;
 
-/// Whether a text is a canonical header as nearly all are: at most 18 digits, the first no zero, one space, and an offset
-/// that is not behind UTC by less than an hour. Such a text need not be read and written to tell. `false` says of a text
-/// only that it has another form.
+/// Whether a text is a canonical header as nearly all are: at most 18 digits, the first no zero, one space, and an
+/// offset that is not behind UTC by less than an hour. Such a text need not be read and written to tell. `false` says
+/// of a text only that it has another form.
 pub(crate) fn is_plain_canonical(text: &str) -> bool
     ensures { IsTrue result → is_canonical_header text.now ≡ true }
 {

@@ -41,7 +41,7 @@ read_whole_clock text = option_or (read_colon_clock text) (read_bare_clock text)
 abbrev pub skip_digits : List ℕ → List ℕ
 skip_digits text = drop (prefix_len is_ascii_digit text) text
 
--- what stands after a dot and digits, where they are first
+-- what stands after a dot and any digits, where a dot is first
 unfoldable pub skip_fraction : List ℕ → List ℕ
 skip_fraction text = unwrap_or (option_map skip_digits (skip_char dot text)) text
 

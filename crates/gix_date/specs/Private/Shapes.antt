@@ -16,12 +16,12 @@ unfoldable pub begins_with_year : List ℕ → Bool
 begins_with_year (a ∷ b ∷ c ∷ d ∷ mark ∷ rest) = are_four_digits a b c d && mark == minus
 begins_with_year _ = false
 
--- the text begins with a number of one or two digits and a space
+-- the text has three bytes or more, and begins with a number of one or two digits and a space
 unfoldable pub begins_with_count : List ℕ → Bool
 begins_with_count (a ∷ b ∷ c ∷ rest) = is_ascii_digit a && (b == space || is_ascii_digit b && c == space)
 begins_with_count _ = false
 
--- the text begins with a letter and has no comma after its third byte
+-- the text begins with a letter and has a fourth byte that is no comma
 unfoldable pub begins_without_comma : List ℕ → Bool
 begins_without_comma (first ∷ _ ∷ _ ∷ fourth ∷ rest) = is_ascii_alphabetic first && not (fourth == comma)
 begins_without_comma _ = false
@@ -30,7 +30,7 @@ begins_without_comma _ = false
 abbrev pub begins_month : ℕ → Bool
 begins_month c = list_any (λ letter. to_ascii_lowercase c == letter) (codes "jfmasond")
 
--- after the third byte the text has no space, or one and then a letter that begins no month
+-- the text has five bytes or more, and after the third no space, or one and then a letter that begins no month
 unfoldable pub begins_no_named_day : List ℕ → Bool
 begins_no_named_day (_ ∷ _ ∷ _ ∷ fourth ∷ fifth ∷ rest) =
     not (fourth == space) || is_ascii_alphabetic fifth && not (begins_month fifth)
@@ -40,8 +40,8 @@ begins_no_named_day _ = false
 abbrev pub are_long_word : ℕ → ℕ → Bool
 are_long_word first fourth = is_ascii_alphabetic first && is_ascii_alphabetic fourth
 
--- the text begins with a number of one or two digits, a space, and a letter with another three bytes after it, where a
--- month's name has ended
+-- the text has seven bytes or more, and begins with a number of one or two digits, a space, and a letter with another
+-- three bytes after it, of which the third is a letter, where a month's name has ended
 unfoldable pub begins_with_count_and_word : List ℕ → Bool
 begins_with_count_and_word (a ∷ b ∷ c ∷ d ∷ e ∷ f ∷ g ∷ rest) =
     is_ascii_digit a && (b == space && are_long_word c f || is_ascii_digit b && c == space && are_long_word d g)

@@ -52,7 +52,7 @@ const MIN_EPOCH: i64 = 100_000_000;
 ///
 /// In 2 to 7 a year has four digits, and the other fields of date and clock one or two; names are in any letter case,
 /// and the weekday is not compared with the date; a second of 60 is read as 59; where a space stands there may be more,
-/// and an offset may have seconds, but for mail (`2008-02-14 20:30:45 +010203`). In 2 to 7 and in 9 the day has to
+/// and but for mail an offset may have seconds (`2008-02-14 20:30:45 +010203`). In 2 to 7 and in 9 the day has to
 /// exist, and in 3 to 7 and in 9 `jiff` has to have the instant: from -377705023201 to 253402207200 seconds.
 ///
 /// Seconds count from 1970-01-01 00:00:00 UTC, and have the offset 0 where none is written, but for a relative text.
@@ -253,7 +253,7 @@ fn named_answer(input: &str) -> Option<Answer<'_>>
 }
 
 /// What a text of no other shape says. A day alone and both ISO 8601 forms begin with a year and `-`; of the other
-/// families here only relative texts can.
+/// families here mail and raw texts do not.
 fn other_answer(input: &str, raw: RawOffsets) -> Option<Answer<'_>>
     ensures first { option_map answer_of result ≡ first_among_by (allows raw) (shape_families Other) input.now }
     ensures offset_fits { IfSome result HasJiffOffset }
@@ -265,7 +265,7 @@ fn other_answer(input: &str, raw: RawOffsets) -> Option<Answer<'_>>
 }
 
 /// What a text of no other shape says that does not begin with a year and `-`. One that begins with a count and a word
-/// is no mail date.
+/// that is longer than a month's name is no mail date.
 fn undated_answer(input: &str, raw: RawOffsets) -> Option<Answer<'_>>
     ensures first { option_map answer_of result
         ≡ first_among_by (allows raw) (Rfc2822 ∷ GitForm ∷ RelativeText ∷ RawText ∷ []) input.now }

@@ -1,7 +1,7 @@
 //! Numbers and digits.
 //!
 //! A `read_` function takes the front of a text, and gives the value and the rest; a `parse_` function takes a whole
-//! text.
+//! text, or the bytes of one field.
 ghost use Rattle.std.specs.Prelude.{◌≡◌, ◌<◌, ◌≤◌, ◌^◌, [], ◌∷◌, IfSome, Some, length, take_while, true};
 ghost use Rattle.std.specs.List.{prefix_len};
 ghost use Rattle.std.specs.Char.{is_ascii_digit};

@@ -27,8 +27,8 @@ mod offset;
 const MAX_OFFSET_IN_SECONDS: u32 = SECONDS_PER_DAY as u32 - SECONDS_PER_MINUTE as u32;
 
 /// Reads a date that begins with a day: the day alone, `2018-12-24`, which is its midnight in UTC; ISO 8601 as Git
-/// prints it, `2022-08-18 12:45:06 +0800`; or its strict form, `2022-08-18T12:45:06+08:00`. The day is read once for all
-/// three.
+/// prints it, `2022-08-18 12:45:06 +0800`; or its strict form, `2022-08-18T12:45:06+08:00`. The day is read once for
+/// all three.
 pub(crate) fn parse_dashed(text: &str) -> Option<Answer<'static>>
     ensures answer { option_map answer_of result ≡ dashed_answer text.now }
     ensures offset_fits { IfSome result HasJiffOffset }

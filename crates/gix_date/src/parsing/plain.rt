@@ -14,9 +14,9 @@ const ZONE_BYTES: usize = 6;
 /// The least bytes of a bare epoch.
 const EPOCH_BYTES: usize = 9;
 
-/// The time of a header in the form that nearly all have: a number of up to 18 bytes, one space, and an offset of four
-/// digits. That is read in one pass over the bytes, without a search for words. `None` says of a text only that it has
-/// another form.
+/// The time of a header in the form that nearly all have: digits, perhaps after a minus, of up to 18 bytes in all, one
+/// space, and an offset of four digits. That is read in one pass over the bytes, without a search for words. `None`
+/// says of a text only that it has another form.
 pub(crate) fn parse_plain(input: &str) -> Option<Time>
     ensures { IfSome result (λ t. header_time input.now ≡ Some t) }
 {
@@ -45,8 +45,9 @@ pub(crate) fn parse_plain_fields(input: &str) -> Option<(SecondsSinceUnixEpoch, 
     Some((seconds, fields))
 }
 
-/// The value of a number in the form that nearly all epochs have, of 9 to 18 bytes. `None` says of a text only that it
-/// has another form. Two bytes tell that of nearly all dates: the first of their last six, and the ninth.
+/// The value of a number in the form that nearly all epochs have: digits, perhaps after a minus, of 9 to 18 bytes in
+/// all. `None` says of a text only that it has another form. Two bytes tell that of nearly all dates: the first of
+/// their last six, and the ninth.
 #[inline(always)]
 pub(crate) fn parse_plain_number(input: &str) -> Option<SecondsSinceUnixEpoch>
     ensures { IfSome result (λ n. int_value input.now ≡ Some n) }

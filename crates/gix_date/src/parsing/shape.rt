@@ -122,7 +122,8 @@ pub(crate) fn begins_with_year(text: &[u8]) -> bool
     }
 }
 
-/// Whether a text begins with a number of one or two digits and a space, as `2 weeks ago` does and no form of Git's.
+/// Whether a text of three bytes or more begins with a number of one or two digits and a space, as `2 weeks ago` does
+/// and no form of Git's.
 #[tactic(auto, unfolding(crate::specs::Private::Shapes::begins_with_count))]
 pub(crate) fn begins_with_count(text: &[u8]) -> bool
     ensures { result ≡ begins_with_count text.now }
@@ -133,7 +134,7 @@ pub(crate) fn begins_with_count(text: &[u8]) -> bool
     }
 }
 
-/// Whether a text begins with a letter and has no comma after its third byte, where mail has one after a day's name.
+/// Whether a text begins with a letter and has a fourth byte that is no comma, which mail has after a day's name.
 #[tactic(auto, unfolding(crate::specs::Private::Shapes::begins_without_comma))]
 pub(crate) fn begins_without_comma(text: &[u8]) -> bool
     ensures { result ≡ begins_without_comma text.now }
@@ -144,8 +145,8 @@ pub(crate) fn begins_without_comma(text: &[u8]) -> bool
     }
 }
 
-/// Whether a text has no day and month by their names first, `Thu Aug`: no space after its third byte, or one and then
-/// a letter that begins no month.
+/// Whether a text of five bytes or more has no day and month by their names first, `Thu Aug`: no space after its third
+/// byte, or one and then a letter that begins no month.
 #[tactic(auto, unfolding(crate::specs::Private::Shapes::begins_no_named_day))]
 pub(crate) fn begins_no_named_day(text: &[u8]) -> bool
     ensures { result ≡ begins_no_named_day text.now }
@@ -168,8 +169,8 @@ fn begins_month(letter: u8) -> bool
     )
 }
 
-/// Whether a text begins with a count, a space, and a letter with another three bytes after it, as `2 weeks ago` does
-/// and no mail date.
+/// Whether a text of seven bytes or more begins with a count, a space, and a letter with another three bytes after it,
+/// of which the third is a letter, as `2 weeks ago` does and no mail date.
 #[tactic(auto, unfolding(crate::specs::Private::Shapes::begins_with_count_and_word))]
 pub(crate) fn begins_with_count_and_word(text: &[u8]) -> bool
     ensures { result ≡ begins_with_count_and_word text.now }

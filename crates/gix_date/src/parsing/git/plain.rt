@@ -12,8 +12,8 @@ use crate::parsing::offset::{OffsetFields, read_sign};
 use crate::time::{MAX_HOUR, MAX_MINUTE, MAX_SECOND};
 
 /// The clock of a text, already trimmed, and the fields of its offset, in the form that nearly all have: `HH:MM:SS` or
-/// `HHMMSS`, perhaps a dot and digits, perhaps one space, and then `±HHMM` or `±HH:MM`. That is read in one pass, with
-/// no search for the cut. `None` says of a text only that it has another form.
+/// `HHMMSS`, perhaps a dot and any digits, perhaps one space, and then `±HHMM` or `±HH:MM`. That is read in one pass,
+/// with no search for the cut. `None` says of a text only that it has another form, or a clock that no day has.
 pub(crate) fn parse_plain_rest(text: &str) -> Option<(ClockFields, OffsetFields)>
     ensures rest { IfSome result (λ found. IsRest text.now found.0 found.1) }
     ensures fits { IfSome result (λ found. ClockFits found.0) }
@@ -59,7 +59,7 @@ fn read_bare_clock(text: &str) -> Option<(ClockFields, &str)>
     ))
 }
 
-/// What stands after a dot and digits, where they are first.
+/// What stands after a dot and any digits, where a dot is first.
 #[tactic(auto, unfolding(crate::specs::Private::PlainRests::skip_fraction))]
 #[inline(always)]
 fn skip_fraction(text: &str) -> &str
