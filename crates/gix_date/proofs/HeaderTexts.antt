@@ -1,5 +1,5 @@
 -- How long a header text is, and where there is one.
-use Rattle.std.proofs.Common.{◌≡◌, ℕ, ◌+◌, ◌∷◌, Bool, true, false, cond, List, length, arith, length-append, refl, Some, None, ℤ, pos, negsuc, ◌<◌}
+use Rattle.std.proofs.Common.{◌≡◌, ℕ, ◌+◌, ◌∷◌, Bool, true, false, cond, List, length, arith, length-append, refl, Some, None, Err, ℤ, pos, negsuc, ◌<◌}
 use Rattle.std.proofs.lemmas.Bool.Decides.{nat_tests}
 use Rattle.std.proofs.lemmas.Int.{ints}
 use Rattle.std.specs.Prelude.{IfSome, IsSome, unsigned_abs, nat_lt}
@@ -7,6 +7,9 @@ use Rattle.jiff.specs.Words.{IsOffsetSeconds}
 use Rattle.gix_date.specs.Text.Characters.{space}
 use Rattle.gix_date.specs.Header.Text.{header_text, compact_offset_text}
 use Rattle.gix_date.specs.Text.Numbers.{decimal_text}
+use Rattle.gix_date.specs.Devices.TimeBuf.{HoldsText}
+use Rattle.gix_date.specs.declared.error.Error.{Error}
+use Rattle.gix_date.specs.declared.error.Error.TheVariants.{OffsetTooWide}
 use Rattle.gix_date.specs.declared.time.Time.{Time}
 use Rattle.gix_date.specs.declared.time.write.TheConstants.{HUNDRED_HOURS}
 
@@ -33,3 +36,8 @@ short_of (negsuc n) h = grind (arith, ints, h.0)
 pub fitting_has_text : (t : Time) → IsOffsetSeconds t.offset → IsSome (header_text t)
 unfolding header_text
 fitting_has_text t h = is_some_of (nat_lt (unsigned_abs t.offset) HUNDRED_HOURS) _ (grind (arith, nat_tests, short_of t.offset h))
+
+-- a time whose text no buffer could hold has none
+pub no-text-held : (t : Time) (refusal : Error) → HoldsText t (Err refusal) → header_text t ≡ None
+no-text-held t OffsetTooWide h = h
+no-text-held t _ h = absurd h

@@ -36,7 +36,7 @@ pub enum Error {
     /// The relative text names an instant that cannot be computed (`parse`).
     #[error("the relative date leads to an instant that cannot be computed with")]
     Range,
-    /// The offset is 100 hours or more, so four digits cannot say it (`write_to`, `to_str`, `format`).
+    /// The offset is 100 hours or more, so four digits cannot say it (`write_to`, `to_str`, `to_buf`, `format`).
     #[error("an offset of 100 hours or more from UTC cannot be written")]
     OffsetTooWide,
     /// The pattern has a directive that cannot be printed (`format`).

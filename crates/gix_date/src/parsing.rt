@@ -6,7 +6,7 @@ ghost use Rattle.std.specs.Borrow.{sem};
 ghost use Rattle.gix_date.specs.declared.error.Error.TheVariants.{OffsetTooWide};
 ghost use Rattle.gix_date.specs.Header.Text.{GivesText, text_left};
 ghost use Rattle.gix_date.specs.Devices.Lending.{LeavesText};
-ghost use Rattle.gix_date.specs.Devices.TimeBuf.{text_in};
+ghost use Rattle.gix_date.specs.Devices.TimeBuf.{text_in, HoldsText};
 
 use crate::error::Error;
 pub use crate::parsing::dates::parse_no_alloc;
@@ -37,7 +37,7 @@ pub struct TimeBuf {
 }
 
 impl TimeBuf {
-    /// The text that the last [`Time::to_str`] put here: empty before the first, and after a refusal.
+    /// The text that [`Time::to_buf`] or the last [`Time::to_str`] put here: empty before the first, and after a refusal.
     pub fn as_str(&self) -> &str
         ensures { result.now ≡ text_in self.now }
     {
@@ -75,6 +75,19 @@ fn or_too_wide(text: Option<&str>) -> Result<&str, Error>
 }
 
 impl Time {
+    /// The text that [`Time::write_to`] writes, in a buffer of its own: [`TimeBuf::as_str`] lends it. Takes no memory.
+    ///
+    /// An offset of 100 hours or more, either way, is refused by [`Error::OffsetTooWide`].
+    #[inline(always)]
+    pub fn to_buf(self) -> Result<TimeBuf, Error>
+        ensures { HoldsText self result }
+    {
+        match header_text(self) {
+            Some(text) => Ok(TimeBuf { text }),
+            None => Err(Error::OffsetTooWide),
+        }
+    }
+
     /// The text that [`Time::write_to`] writes, lent out of the buffer, which keeps it.
     ///
     /// An offset of 100 hours or more is refused by [`Error::OffsetTooWide`], and the buffer is empty then.

@@ -8,7 +8,6 @@ use crate::buffer::store_text;
 use crate::status::Status;
 use crate::text::text_of;
 use crate::time::{CTime, store_time, time_of};
-use gix_date::parsing::TimeBuf;
 use gix_date::{Time, laws, parse_header};
 
 /// The time of a commit header, read leniently.
@@ -31,10 +30,10 @@ pub extern "C" fn gix_date_write_header(time: &CTime, out: &mut [u8], len: &mut 
     ensures { record { bytes = out.new; len = len.new; status = result }
         ≡ outcome_of (header_text_answer (time_of time.now)) out.old }
 {
-    match time_of(time).to_str(&mut TimeBuf::default()) {
-        Ok(text) => store_text(Ok(text), out, len),
-        Err(_) => store_text(Err(Status::OffsetTooWide), out, len),
-    }
+    let Ok(buf) = time_of(time).to_buf() else {
+        return store_text(Err(Status::OffsetTooWide), out, len);
+    };
+    store_text(Ok(buf.as_str()), out, len)
 }
 
 /// Whether a text comes back when it is read as a header and written.
@@ -56,8 +55,8 @@ pub extern "C" fn gix_date_is_canonical_header(text: &[u8]) -> bool
 fn is_written_as(time: Time, text: &str) -> bool
     ensures { result ≡ is_text_of time text.now }
 {
-    match time.to_str(&mut TimeBuf::default()) {
-        Ok(written) => written == text,
-        Err(_) => false,
-    }
+    let Ok(buf) = time.to_buf() else {
+        return false;
+    };
+    buf.as_str() == text
 }

@@ -130,10 +130,12 @@ fn line_of<'a>(
     let name = text_of(name)?;
     let mail = text_of(mail)?;
     may_write(name, mail, time)?;
-    match time.to_str(buf) {
-        Ok(time) => Ok(SignatureRef { name, mail, time }),
-        Err(_) => Err(Status::OffsetTooWide),
-    }
+    let Ok(text) = time.to_buf() else {
+        return Err(Status::OffsetTooWide);
+    };
+    *buf = text;
+    let time = buf.as_str();
+    Ok(SignatureRef { name, mail, time })
 }
 
 /// Whether these have a line, which [`write_line`] tells.

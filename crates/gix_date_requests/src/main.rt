@@ -163,14 +163,25 @@ fn tell<W: Sink>(answer: &Answer<'_>, out: &mut W) -> Result<(), ErrorKind> {
 
 /// Writes a time by each of the calls that write one, which have to agree.
 fn tell_time<W: Sink>(time: Time, out: &mut W) -> Result<(), ErrorKind> {
-    match time.to_str(&mut TimeBuf::default()) {
-        Ok(text) if text.len() == time.size() => put_all(out, text.as_bytes())?,
-        _ => return put_all(out, b"no header text"),
+    let Ok(buf) = time.to_buf() else {
+        return put_all(out, b"no header text");
+    };
+    if !is_lent(time, buf.as_str()) {
+        return put_all(out, b"another header text");
     }
+    put_all(out, buf.as_str().as_bytes())?;
     put_all(out, b"\n")?;
     match time.write_to(out) {
         Err(Error::Write(kind)) => Err(kind),
         _ => Ok(()),
+    }
+}
+
+/// Whether a time lends this text, and has as many bytes.
+fn is_lent(time: Time, text: &str) -> bool {
+    match time.to_str(&mut TimeBuf::default()) {
+        Ok(lent) => lent == text && lent.len() == time.size(),
+        Err(_) => false,
     }
 }
 

@@ -1,5 +1,5 @@
 -- What is written of a signature line's parts.
-use Rattle.std.proofs.Common.{◌≡◌, ◌∙◌, ℕ, List, [], false, Option, Some, None, Result, Ok, Err, is_some, ok_or, option_map, unwrap_or, refl, sym, ap}
+use Rattle.std.proofs.Common.{◌≡◌, ◌∙◌, ℕ, List, [], Option, Some, None, Result, Ok, Err, ok_or, option_map, unwrap_or, sym, ap}
 use Rattle.gix_date.specs.Header.Reading.{header_time}
 use Rattle.gix_date.specs.Header.Text.{header_text}
 use Rattle.gix_date.specs.declared.time.Time.{Time}
@@ -43,15 +43,11 @@ due-of text p t o cut e =
     due-is p.name p.mail t are.name are.mail
     ∙ ap (λ q. ok_or (option_map line_of (option_map (λ x. record { name = p.name; mail = p.mail; time = x }) q)) OffsetTooWide) e
 
-none-of : (o : Option (List ℕ)) → is_some o ≡ false → o ≡ None
-none-of None h = refl
-none-of (Some x) h = absurd cc
-
 -- nor is one whose time has no header text
-pub wide-unsigned : (text : List ℕ) (p : Parts) (t : Time) → OneCut text → IsCut text p → header_time p.time ≡ Some t → is_some (header_text t) ≡ false → IsUnsigned text
+pub wide-unsigned : (text : List ℕ) (p : Parts) (t : Time) → OneCut text → IsCut text p → header_time p.time ≡ Some t → header_text t ≡ None → IsUnsigned text
 wide-unsigned text p t one cut read wide line h =
     let parts = one h.parts p h.cut cut in
     let times : h.time ≡ t = same-time h.time t (sym h.read ∙ ap (λ (q : Parts). header_time q.time) parts ∙ read) in
     let dues : line_due h.parts.name h.parts.mail h.time ≡ line_due p.name p.mail t = λ i. line_due (parts i).name (parts i).mail (times i) in
-    let clash : ◌≡◌ {A = Result (List ℕ) SignatureError} (Ok line) (Err OffsetTooWide) = sym h.due ∙ dues ∙ due-of text p t None cut (none-of (header_text t) wide) in
+    let clash : ◌≡◌ {A = Result (List ℕ) SignatureError} (Ok line) (Err OffsetTooWide) = sym h.due ∙ dues ∙ due-of text p t None cut wide in
     absurd cc

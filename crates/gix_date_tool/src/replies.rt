@@ -11,7 +11,6 @@ use crate::outbox::Outbox;
 use crate::plain::is_plain_canonical;
 use crate::signed::{SignedLine, sign};
 use gix_date::device::Sink;
-use gix_date::parsing::TimeBuf;
 use gix_date::{ParseError, RawOffsets, Time, Zoned, parse_header, parse_no_alloc};
 use std::{io, str};
 
@@ -67,8 +66,8 @@ impl Reply<'_> {
             Reply::NoTime => outbox.push(&["none\n"], out),
             Reply::Canonical => outbox.push(&["canonical\n"], out),
             Reply::Read(time) => push_reading(time, outbox, out),
-            Reply::Parsed(time) => match time.to_str(&mut TimeBuf::default()) {
-                Ok(text) => outbox.push(&[text, "\n"], out),
+            Reply::Parsed(time) => match time.to_buf() {
+                Ok(buf) => outbox.push(&[buf.as_str(), "\n"], out),
                 Err(_) => unreachable!(),
             },
             Reply::UnknownFormat => outbox.push(&["error unknown-format\n"], out),
@@ -149,10 +148,10 @@ fn check_reply(text: &str) -> Reply<'static>
 fn is_header_text_of(text: &str, time: Time) -> bool
     ensures { result ≡ is_header_text_of text.now time }
 {
-    match time.to_str(&mut TimeBuf::default()) {
-        Ok(written) => written == text,
-        Err(_) => false,
-    }
+    let Ok(buf) = time.to_buf() else {
+        return false;
+    };
+    buf.as_str() == text
 }
 
 /// The time that a text is parsed as, or why it is not.

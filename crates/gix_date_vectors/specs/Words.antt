@@ -27,6 +27,6 @@ pub use Rattle.gix_date.specs.Relative.Dates.{relative_date, RelativeDate, Befor
 pub use Rattle.gix_date.specs.Relative.Steps.{zone_of, Settles, Chain, SecondsStep, MonthsStep, IsPicked}
 pub use Rattle.gix_date.specs.Families.Shapes.{shape_of, shape_families, IsDispatched, IsDispatchedBy}
 pub use Rattle.gix_date.specs.Text.SpaceWords.{StdWhiteSpaceIsUnicodes, white_space}
-pub use Rattle.gix_date.specs.Devices.TimeBuf.{text_in}
+pub use Rattle.gix_date.specs.Devices.TimeBuf.{text_in, HoldsText}
 pub use Rattle.gix_date.specs.Printing.Zoned.{time_in, time_in_utc, is_instant, IsConvertible, IsMoment}
 pub use Rattle.jiff.specs.Words.{plain_zone, plain_zoned, IsOffsetSeconds}

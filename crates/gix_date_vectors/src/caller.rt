@@ -78,11 +78,10 @@ pub fn kept_in_header(time: Time) -> Option<Time>
     ensures { result ≡ Some time }
 {
     laws::written_is_read(time);
-    let mut buf = TimeBuf::default();
-    match time.to_str(&mut buf) {
-        Ok(text) => parse_header(text),
-        Err(_) => None,
-    }
+    let Ok(buf) = time.to_buf() else {
+        return None;
+    };
+    parse_header(buf.as_str())
 }
 
 /// A time whose offset is whole minutes short of a day, written as in a header and parsed as a date: the same. No
@@ -92,11 +91,8 @@ pub fn kept_in_date(alloc: Global, time: Time) -> Result<Time, Error>
     ensures { result ≡ Ok time }
 {
     laws::raw_read_back_wide(time);
-    let mut buf = TimeBuf::default();
-    match time.to_str(&mut buf) {
-        Ok(text) => parse_with(alloc, text, None, RawOffsets::WholeMinutes),
-        Err(fault) => Err(fault),
-    }
+    let buf = time.to_buf()?;
+    parse_with(alloc, buf.as_str(), None, RawOffsets::WholeMinutes)
 }
 
 /// The time of a date as programs store it, seconds and an offset, also where that is of odd minutes, as in some

@@ -111,6 +111,7 @@ fn times_are_written_and_shown(rt: HostRuntime) -> Result<(), Fail> {
         assert_eq!(rt; time.to_str(&mut buf)?, text);
         assert_eq!(rt; buf.as_str(), text);
         assert_eq!(rt; buf.clone()?.as_str(), text);
+        assert_eq!(rt; time.to_buf()?.as_str(), text);
         assert_eq!(rt; time.size(), text.len(), "{text}");
         let shown = format!(in rt.alloc(); "{time}")?;
         assert_eq!(rt; shown.as_str(), text);
@@ -155,6 +156,7 @@ fn a_wide_offset_is_refused(rt: HostRuntime) -> Result<(), Fail> {
             "{row}"
         );
         assert_eq!(rt; buf.as_str(), "", "{row}");
+        assert!(rt; matches!(time.to_buf(), Err(Error::OffsetTooWide)), "{row}");
         assert!(rt; format!(in rt.alloc(); "{time}").is_err(), "{row}");
     }
     Ok(())

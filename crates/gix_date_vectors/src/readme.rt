@@ -1,6 +1,5 @@
 //! The example of README.md, as it stands there.
 use gix_date::device::Device;
-use gix_date::parsing::TimeBuf;
 use gix_date::time::format::ISO8601;
 use gix_date::{Error, parse, parse_header};
 use std::alloc::Global;
@@ -8,11 +7,10 @@ use std::alloc::Global;
 fn example(alloc: Global) -> Result<String, Error> {
     // A date, which needs no moment; a text that is not one comes back in the fault, by a copy.
     let time = parse(alloc, "@1660874655 +0800", None)?;
-    // Its text in a commit header, lent out of a buffer: "1660874655 +0800". No memory is taken.
-    let mut buf = TimeBuf::default();
-    let text = time.to_str(&mut buf)?;
+    // Its text in a commit header, in a buffer of its own: "1660874655 +0800". No memory is taken.
+    let text = time.to_buf()?;
     // The time of a commit header, read leniently. No memory is taken.
-    let same = parse_header(text).ok_or(Error::InvalidTime)?;
+    let same = parse_header(text.as_str()).ok_or(Error::InvalidTime)?;
     // The same text again, into any `Write`.
     let mut out = Device::new(Vec::new(alloc));
     same.write_to(&mut out)?;

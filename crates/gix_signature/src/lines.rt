@@ -7,7 +7,6 @@ ghost use Rattle.gix_signature.specs.Writing.{line_due, Puts, WritesLine, IsWrit
 
 use crate::error::SignatureError;
 use gix_date::device::{Sink, put_all};
-use gix_date::parsing::TimeBuf;
 use gix_date::{Time, parse_header};
 use std::io;
 
@@ -80,10 +79,10 @@ pub fn write_line<W: Sink>(
     if !is_part(name) || !is_part(mail) {
         return Err(SignatureError::BadPart);
     }
-    let mut buf = TimeBuf::default();
-    let Ok(time) = time.to_str(&mut buf) else {
+    let Ok(buf) = time.to_buf() else {
         return Err(SignatureError::OffsetTooWide);
     };
+    let time = buf.as_str();
     put_line(SignatureRef { name, mail, time }, out).map_err(SignatureError::Write)
 }
 

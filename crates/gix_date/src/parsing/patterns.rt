@@ -2,7 +2,7 @@
 ghost use Rattle.std.specs.Prelude.{◌≡◌, IfSome, [], ◌∷◌, option_map, option_copied};
 ghost use Rattle.gix_date.specs.Fields.DateFields.{skip_day_name};
 ghost use Rattle.gix_date.specs.Families.Patterns.{real_day_answer, time_answer, date_answer, rfc2822_answer};
-ghost use Rattle.gix_date.specs.Fields.Layout.{Spaces, Year, Clock, Offset, LetterT, ColonOffset};
+ghost use Rattle.gix_date.specs.Fields.Layout.{Spaces, Year, Clock, MailClock, Offset, MailOffset, LetterT, ColonOffset};
 ghost use Rattle.gix_date.specs.Private.AfterDay.{answer_after, dashed_answer, read_named_day, named_day_answer};
 ghost use Rattle.gix_date.specs.Private.Civil.{DateFits, ClockFits};
 ghost use Rattle.jiff.specs.Words.{IsOffsetSeconds};
@@ -70,9 +70,20 @@ pub(crate) fn parse_rfc2822(text: &str) -> Option<Answer<'static>>
     let (day, rest) = read_field(date)?;
     let (month, rest) = read_month(skip_spaces(rest)?)?;
     let (year, rest) = read_year(skip_spaces(rest)?)?;
-    let (clock, rest) = read_mail_clock(skip_spaces(rest)?)?;
+    mail_after(DateFields { year, month, day }, skip_spaces(rest)?)
+}
+
+/// What a date answers as in mail, after its year.
+#[inline(always)]
+fn mail_after(date: DateFields, rest: &str) -> Option<Answer<'static>>
+    requires { DateFits date }
+    ensures answer { option_map answer_of result
+        ≡ answer_after (MailClock ∷ Spaces ∷ MailOffset ∷ []) time_answer date rest.now }
+    ensures offset_fits { IfSome result HasJiffOffset }
+{
+    let (clock, rest) = read_mail_clock(rest)?;
     let offset = parse_mail_zone(skip_spaces(rest)?)?;
-    date_answer(DateFields { year, month, day }, clock, offset)
+    date_answer(date, clock, offset)
 }
 
 /// What stands after a day's name, a comma and spaces.

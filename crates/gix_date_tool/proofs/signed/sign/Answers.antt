@@ -1,4 +1,5 @@
 use Rattle.std.proofs.Common.{◌∙◌, sym}
+use Rattle.gix_date.proofs.HeaderTexts.{no-text-held}
 use Rattle.gix_signature.specs.Signature.{parts_of}
 use Rattle.gix_date_tool.proofs.Signing.{no-time-unsigned, wide-unsigned}
 use Rattle.gix_date_tool.proofs.signed.sign.Goals as goal
@@ -9,7 +10,7 @@ returns-in_err-time c =
     rw c.from_residual-in_err-time.ensures
     (no-time-unsigned c.args.text.now parts c.one_cut.ensures c.in_ok-signature.ensures (sym c.time_of.ensures ∙ c.in_err-time.was))
 
-pub returns-else-has_text : goal.returns-else-has_text
-returns-else-has_text c =
+pub returns-in_default : goal.returns-in_default
+returns-in_default c =
     wide-unsigned c.args.text.now (parts_of c.in_ok-signature.signature) c.in_ok-time.time c.one_cut.ensures c.in_ok-signature.ensures
-    (sym c.time_of.ensures ∙ c.in_ok-time.was) (sym c.has_text.ensures ∙ c.if-has_text.false)
+    (sym c.time_of.ensures ∙ c.in_ok-time.was) (no-text-held c.in_ok-time.time c.in_default.field-0 c.in_default.ensures)
