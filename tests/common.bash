@@ -1,0 +1,60 @@
+# What the parts of test_all share: each reads this first, and goes on at the top of the repository.
+set -euo pipefail
+cd "$(dirname "${BASH_SOURCE[0]}")/.."
+
+# What a part writes for itself goes here, and away at its end.
+room=$(mktemp -d)
+trap 'rm -rf "$room"' EXIT
+
+fail() {
+    printf '%s\n' "$@" >&2
+    exit 1
+}
+
+# Whether a tool is there; what it would have shown is said to be left out otherwise.
+has() {
+    command -v "$1" >/dev/null || {
+        echo "no $1 is here: $2 is left out"
+        return 1
+    }
+}
+
+# A command has to end with this status, and to print exactly this text.
+answers() {
+    local wanted="$2status $1" answered
+    shift 2
+    answered=$(status=0; "$@" || status=$?; echo "status $status")
+    [ "$answered" = "$wanted" ] || fail "wanted of $*:" "$wanted" 'and the answer is:' "$answered"
+}
+
+# A command has to say exactly this text on standard error, whatever else it does.
+says() {
+    local wanted=$1 said
+    shift
+    said=$("$@" 2>&1 >/dev/null || true; echo .)
+    [ "$said" = "$wanted." ] || fail "wanted on standard error of $*:" "$wanted" 'and it is:' "${said%.}"
+}
+
+# What a program prints has to be this.
+prints() {
+    local wanted=$1 said
+    shift
+    said=$("$@")
+    [ "$said" = "$wanted" ] || fail "wanted of $*:" "$wanted" 'and it is:' "$said"
+    echo "$*: it prints what its document says"
+}
+
+# What the blocks of this language in a document hold.
+blocks() {
+    awk -v begin="\`\`\`$1" '$0 == begin { on = 1; next } /^```$/ { on = 0 } on'
+}
+
+# Builds the program where its script would, so that a build neither fails unseen nor speaks among the answers that are compared.
+build_program() {
+    ./gix_date_tool check </dev/null
+}
+
+# The program's modes, as its help names them.
+modes() {
+    ./gix_date_tool --help | sed -nE 's/^([a-z]+) {3,}.*/\1/p'
+}
