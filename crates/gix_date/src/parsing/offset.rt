@@ -33,9 +33,9 @@ impl OffsetFields {
     pub(crate) fn in_seconds(self) -> OffsetInSeconds
         ensures { result ≡ offset_of self }
     {
-        let hours = SECONDS_PER_HOUR * i32::from(self.hours);
-        let minutes = SECONDS_PER_MINUTE * i32::from(self.minutes);
-        let distance = hours + minutes + i32::from(self.seconds.unwrap_or(0));
+        let hours = SECONDS_PER_HOUR as u32 * u32::from(self.hours);
+        let minutes = SECONDS_PER_MINUTE as u32 * u32::from(self.minutes);
+        let distance = (hours + minutes + u32::from(self.seconds.unwrap_or(0))) as i32;
         match self.sign {
             Sign::Plus => distance,
             Sign::Minus => -distance,
