@@ -3,7 +3,7 @@
 //! A `read_` function takes the front of a text, and gives the value and the rest; a `parse_` function takes a whole
 //! text, or the bytes of one field.
 ghost use Rattle.std.specs.Prelude.{◌≡◌, ◌<◌, ◌≤◌, ◌^◌, [], ◌∷◌, IfSome, Some, length, take_while, true};
-ghost use Rattle.std.specs.List.{prefix_len};
+ghost use Rattle.std.specs.List.{prefix_len, list_all};
 ghost use Rattle.std.specs.Char.{is_ascii_digit};
 ghost use Rattle.std.specs.Str.{all_ascii_digits};
 ghost use Rattle.std.specs.Str.Parse.{digits_value};
@@ -97,6 +97,13 @@ fn parse_five_digits(a: u8, b: u8, c: u8, d: u8, e: u8) -> Option<u64>
     let first = 10 * (10 * u64::from(a) + u64::from(b)) + u64::from(c);
     let value = 10 * (10 * first + u64::from(d)) + u64::from(e);
     Some(value - FIVE_ZEROS)
+}
+
+/// Whether a text is digits alone, or has no character.
+pub(crate) fn are_digits(text: &str) -> bool
+    ensures { result ≡ list_all is_ascii_digit text.now }
+{
+    text.bytes().all(|b| b.is_ascii_digit())
 }
 
 /// The digits that a word begins with.

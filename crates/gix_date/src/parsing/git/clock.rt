@@ -1,6 +1,6 @@
 //! The clock of a Git text.
 ghost use Rattle.std.specs.Prelude.{◌≡◌, ◌<◌, ◌≤◌, IfSome};
-ghost use Rattle.std.specs.Char.{is_ascii, is_ascii_digit};
+ghost use Rattle.std.specs.Char.{is_ascii};
 ghost use Rattle.std.specs.List.{list_all, before_first};
 ghost use Rattle.gix_date.specs.Text.Characters.{is_colon, is_dot};
 ghost use Rattle.gix_date.specs.Private.Civil.{ClockFits};
@@ -9,7 +9,7 @@ ghost use Rattle.gix_date.specs.Git.Clock.{digits_at_most, clock_of_fields, cloc
 
 use crate::parsing::civil::ClockFields;
 use crate::parsing::fields::has_colon;
-use crate::parsing::numbers::read_two_digits;
+use crate::parsing::numbers::{are_digits, read_two_digits};
 use crate::time::{MAX_HOUR, MAX_MINUTE, MAX_SECOND};
 
 /// Reads the clock of a Git text: hours, and perhaps minutes and seconds, in digits alone. It ends at its first dot, if
@@ -67,12 +67,6 @@ fn is_all_ascii(text: &str) -> bool
     text.bytes().all(|b| b.is_ascii())
 }
 
-fn is_all_digits(text: &str) -> bool
-    ensures { result ≡ list_all is_ascii_digit text.now }
-{
-    text.bytes().all(|b| b.is_ascii_digit())
-}
-
 /// A clock of parts between colons.
 fn parse_clock_with_colons(text: &str) -> Option<ClockFields>
     ensures value { result ≡ clock_with_colons text.now }
@@ -119,7 +113,7 @@ fn digits_at_most(most: u8, text: &str) -> Option<u8>
     ensures value { result ≡ digits_at_most most text.now }
     ensures bound { IfSome result (λ n. n ≤ most) }
 {
-    if !is_all_digits(text) {
+    if !are_digits(text) {
         return None;
     }
     let Some(number) = text.parse::<u32>().ok() else {

@@ -1,11 +1,11 @@
 //! The words of a relative text: what each counts, and which unit it names.
 ghost use Rattle.std.specs.Prelude.{◌≡◌, ◌∷◌, [], ◌<◌, length, IfSome, MatchOption, drop};
-ghost use Rattle.std.specs.List.{prefix_len, list_all};
-ghost use Rattle.std.specs.Char.{is_ascii_alphanumeric, is_ascii_digit};
+ghost use Rattle.std.specs.List.{prefix_len};
+ghost use Rattle.std.specs.Char.{is_ascii_alphanumeric};
 ghost use Rattle.gix_date.specs.Relative.Words.{relative_words, is_gap, count_of, named_count, number_named, singular, named_unit, unit_of, is_ago};
 ghost use Rattle.gix_date.specs.Relative.Roles.{is_count_word, has_unit};
 
-use crate::parsing::numbers::parse_int;
+use crate::parsing::numbers::{are_digits, parse_int};
 use crate::time::{SECONDS_PER_DAY, SECONDS_PER_HOUR, SECONDS_PER_MINUTE};
 
 pub(crate) const MONTHS_PER_YEAR: i64 = 12;
@@ -69,18 +69,12 @@ fn word_len(text: &str) -> usize
 pub(crate) fn count_of(word: &str) -> Option<i64>
     ensures { result ≡ count_of word.now }
 {
-    if is_number(word) {
+    // A sign is not read as part of a number.
+    if are_digits(word) {
         parse_int(word)
     } else {
         named_count(word)
     }
-}
-
-/// Whether a word is digits alone, so that no sign is read as part of a number.
-fn is_number(word: &str) -> bool
-    ensures { result ≡ list_all is_ascii_digit word.now }
-{
-    word.bytes().all(|b| b.is_ascii_digit())
 }
 
 /// What `one` to `ten` count, and `last`.
