@@ -72,6 +72,7 @@ run_rt() {
     done
     wait "$builder" || status=$?
     builder=''
+    show_progress || :
     return "$status"
 }
 
