@@ -7,7 +7,7 @@ use Rattle.std.specs.Str.{all_ascii_digits}
 use Rattle.std.specs.Str.Parse.{without_leading_sign, signed_digits_value}
 use Rattle.gix_date.specs.Families.Answer.{FamilyAnswer, Absolute}
 use Rattle.gix_date.specs.Text.Characters.{at_sign, plus, minus, comma, colon, letter_t, is_space}
-use Rattle.gix_date.specs.Families.Epoch.{at_time_by, epoch_time}
+use Rattle.gix_date.specs.Families.Epoch.{at_time, epoch_time}
 use Rattle.gix_date.specs.Fields.FieldTexts.{IsField, IsYear, AreSpaces, IsDayName, IsPlainDate, IsDayPrefix}
 use Rattle.gix_date.specs.Fields.Front.{skip_char, ◌>>=◌}
 use Rattle.gix_date.specs.Text.Numbers.{fits_i64, int_value, read_two_digits, read_digit, read_field, read_year}
@@ -16,8 +16,8 @@ use Rattle.gix_date.specs.Families.Patterns.{gitoxide_layout, iso8601_layout, ti
 use Rattle.gix_date.proofs.FieldsRead.{Begins, BeginsNot, Excludes, begins-append, begins_not, digit-no-letter, letter-no-digit, space-no-digit, digit-no-space, field-begins, year-begins, name-begins, weekday-read, date-read}
 use Rattle.gix_date.proofs.FieldsTaken.{went, after-taken}
 use Rattle.gix_date.proofs.Layouts.{piece-taken, apart-after, mail-front, dates_spelled}
-use Rattle.gix_date.specs.Families.Order.{answers_before_git, answers_before_git_by}
-use Rattle.gix_date.specs.Families.Raw.{OffsetRule}
+use Rattle.gix_date.specs.Families.Order.{answers_before_git}
+use Rattle.gix_date.specs.Families.Raw.{OffsetRule, is_raw_offset}
 use Rattle.gix_date.specs.Fields.Layout.{LocalTime, Piece, DayName, MonthName, Day, Year, PlainDate, Clock, Spaces, LetterT, Offset, ColonOffset, read_piece, read_pieces, nothing_read, ArePieces}
 use Rattle.gix_date.specs.declared.parsing.civil.DateFields.{DateFields}
 use Rattle.gix_date.specs.declared.time.Time.{Time}
@@ -162,7 +162,7 @@ after-plain day rest date h =
 
 -- none of the families from this one on answers; after the at text a rule for raw offsets is no matter
 abbrev NoneFrom : ℕ → List ℕ → Type 0
-NoneFrom n text = filter is_some (drop n (answers_before_git text)) ≡ []
+NoneFrom n text = filter is_some (drop n (answers_before_git is_raw_offset text)) ≡ []
 
 -- where each that answers has none after it, at most one does
 at-most-one : (answers : List (Option FamilyAnswer)) → ((n : ℕ) (answer : FamilyAnswer) → get_or answers n None ≡ Some answer → filter is_some (drop (suc n) answers) ≡ []) → length (filter is_some answers) ≤ 1
@@ -326,8 +326,8 @@ short-alone text answer e =
     let strict : iso8601_strict_answer text ≡ None = rw read refl in
     rw (plain.mail, iso8601, strict, plain.gitoxide, plain.by_default, plain.epoch) refl
 
-pub at-first : (rule : OffsetRule) (text : List ℕ) (time : Time) → at_time_by rule text ≡ Some time → (rest : List ℕ) × (text ≡ at_sign ∷ rest)
-unfolding at_time_by
+pub at-first : (rule : OffsetRule) (text : List ℕ) (time : Time) → at_time rule text ≡ Some time → (rest : List ℕ) × (text ≡ at_sign ∷ rest)
+unfolding at_time
 at-first rule text time e =
     let mark = went (skip_char at_sign text) _ time e in
     (mark.0, after-taken at_sign text mark.0 mark.1)
@@ -339,17 +339,17 @@ at-none rest =
     let day = no-day text (no-weekday text refl) in
     rw (plain.short, no-mail-first text refl refl, plain.iso8601, plain.strict, day.gitoxide, day.by_default, no-epoch at_sign rest refl refl (mixed [] at_sign rest refl)) refl
 
-at-alone : (rule : OffsetRule) (text : List ℕ) (answer : FamilyAnswer) (found : Option Time) → at_time_by rule text ≡ found → option_map Absolute found ≡ Some answer → NoneFrom 1 text
+at-alone : (rule : OffsetRule) (text : List ℕ) (answer : FamilyAnswer) (found : Option Time) → at_time rule text ≡ found → option_map Absolute found ≡ Some answer → NoneFrom 1 text
 at-alone rule text answer None h e = absurd cc
 at-alone rule text answer (Some time) h e =
     let first = at-first rule text time h in
     subst (λ t. NoneFrom 1 t) (sym first.1) (at-none first.0)
 
-pub before-git-apart : (rule : OffsetRule) (text : List ℕ) → length (filter is_some (answers_before_git_by rule text)) ≤ 1
-before-git-apart rule text = at-most-one (answers_before_git_by rule text) alone
+pub before-git-apart : (rule : OffsetRule) (text : List ℕ) → length (filter is_some (answers_before_git rule text)) ≤ 1
+before-git-apart rule text = at-most-one (answers_before_git rule text) alone
   where
-    alone : (n : ℕ) (answer : FamilyAnswer) → get_or (answers_before_git_by rule text) n None ≡ Some answer → filter is_some (drop (suc n) (answers_before_git_by rule text)) ≡ []
-    alone zero answer e = at-alone rule text answer (at_time_by rule text) refl e
+    alone : (n : ℕ) (answer : FamilyAnswer) → get_or (answers_before_git rule text) n None ≡ Some answer → filter is_some (drop (suc n) (answers_before_git rule text)) ≡ []
+    alone zero answer e = at-alone rule text answer (at_time rule text) refl e
     alone (suc zero) answer e = short-alone text answer e
     alone (suc (suc zero)) answer e = mail-alone text answer e
     alone (suc (suc (suc zero))) answer e = iso8601-alone text answer e

@@ -12,7 +12,7 @@ use Rattle.gix_date.specs.Families.Epoch.{epoch_time}
 use Rattle.gix_date.specs.Fields.FieldTexts.{IsYear, IsDigit}
 use Rattle.gix_date.specs.Fields.Front.{skip_char, ◌>>=◌}
 use Rattle.gix_date.specs.Git.Forms.{read_marked_date, read_compact_date, dotted_time, compact_time, flexible_time, git_form, git_time, time_with_rest}
-use Rattle.gix_date.specs.Families.Laws.{AreDisjointBy}
+use Rattle.gix_date.specs.Families.Laws.{AreDisjoint}
 use Rattle.gix_date.specs.Text.Numbers.{fits_i64, int_value, read_two_digits, read_year}
 use Rattle.gix_date.specs.Fields.Offsets.{offset_fields, offset_of}
 use Rattle.gix_date.specs.Families.Raw.{OffsetRule, raw_time_by, raw_offset_by}
@@ -267,7 +267,7 @@ quiet-raw rule text t u e =
     quiet-two-words text r.front r.zone u r.is (quiet-int r.front r.value r.is_value) (quiet-offset r.zone r.fields r.is_fields)
 
 -- No text is of two of these families, and none of the first two is relative.
-pub are-disjoint : (rule : OffsetRule) (text : List ℕ) → IsUtf8 text → AreDisjointBy rule text
+pub are-disjoint : (rule : OffsetRule) (text : List ℕ) → IsUtf8 text → AreDisjoint rule text
 are-disjoint rule text u = record {
   raw_epoch = λ t e. none-unless (epoch_time text) (λ v h. raw-no-epoch rule text t v e h);
   raw_git = λ t e. none-unless (git_time text) (λ v h. no-git text u (raw-first text (raw-words rule text t e)) v h);

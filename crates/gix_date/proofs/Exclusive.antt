@@ -10,14 +10,13 @@ use Rattle.std.specs.Prelude.{◌==◌, nat_lt}
 use Rattle.std.specs.Str.{trim, trim_start, trim_end, all_ascii_digits, chars, NonePass, skip_leading_whitespace, drop_trailing_whitespace}
 use Rattle.gix_date.specs.Families.Answer.{FamilyAnswer, Absolute, OffsetBeyond, InstantBeyond, Relative}
 use Rattle.gix_date.specs.Text.Characters.{at_sign, comma, minus, space, is_space}
-use Rattle.gix_date.specs.Families.Epoch.{at_time_by, epoch_time, utc_time}
-use Rattle.gix_date.specs.Families.Order.{Family, AtText, Short, Rfc2822, Iso8601, Iso8601Strict, Gitoxide, GitDefault, BareEpoch, GitForm, RelativeText, RawText, families, family_answer_by, answers_before_git_by, family_answers_by, first_answer_of, first_family_by, ParseNoAllocOutcome}
-use Rattle.gix_date.specs.Families.Laws.{AreExclusiveBy, ComesFirstBy, IgnoresMomentBy, HoldsBy, overlap}
+use Rattle.gix_date.specs.Families.Epoch.{at_time, epoch_time, utc_time}
+use Rattle.gix_date.specs.Families.Order.{Family, AtText, Short, Rfc2822, Iso8601, Iso8601Strict, Gitoxide, GitDefault, BareEpoch, GitForm, RelativeText, RawText, families, family_answer, answers_before_git, family_answers, first_answer_of, first_family_by, ParseNoAllocOutcome}
+use Rattle.gix_date.specs.Families.Laws.{AreExclusive, ComesFirst, IgnoresMoment, Holds, overlap}
 use Rattle.gix_date.specs.Fields.FieldTexts.{IsYear, IsField, IsMonthName, IsDayPrefix, AreSpaces}
 use Rattle.gix_date.specs.Fields.Front.{skip_char, ◌>>=◌}
 use Rattle.gix_date.specs.Git.Forms.{git_time, git_form, dotted_time, compact_time, flexible_time, read_marked_date, read_compact_date}
 use Rattle.gix_date.specs.Text.Numbers.{int_value}
-use Rattle.gix_date.specs.Private.Shapes.{is_number_byte}
 use Rattle.gix_date.specs.Families.Patterns.{short_answer, rfc2822_answer, iso8601_answer, iso8601_strict_answer, gitoxide_answer, default_answer, rfc2822_layout, iso8601_layout, iso8601_strict_layout, gitoxide_layout, default_layout, time_answer, date_answer, day_answer, midnight, Spells, IsAnswered}
 use Rattle.gix_date.specs.Fields.DateFields.{skip_weekday, read_plain_date}
 use Rattle.gix_date.specs.Families.Raw.{OffsetRule, raw_time_by}
@@ -42,7 +41,7 @@ use Rattle.gix_date.proofs.QuietWords.{IsQuiet, no-relative}
 use Rattle.gix_date.proofs.QuietDates.{quiet-after, quiet-short, quiet-mail, quiet-iso8601, quiet-strict, quiet-gitoxide, quiet-default, quiet-int, field-digits, year-digits}
 use Rattle.gix_date.proofs.ReadBack.{first-at}
 use Rattle.gix_date.proofs.FirstBytes.{no-git-byte, no-raw-front, no-raw-byte, plain-front, no-plain-by}
-use Rattle.gix_date.proofs.PlainHeaders.{offset-taken, IsMark}
+use Rattle.gix_date.proofs.PlainHeaders.{is_number_byte, offset-taken, IsMark}
 use Rattle.gix_date.proofs.WordSteps.{runs_skip, run_first, stops}
 
 -- Texts that begin with a letter, or with visible bytes alone.
@@ -258,8 +257,8 @@ after-utf8 : (rest : List ℕ) → IsUtf8 (at_sign ∷ rest) → IsUtf8 rest
 after-utf8 rest u =
     IsUtf8-drop (at_sign ∷ rest) 1 u (IsCharBoundary-after_ascii (at_sign ∷ rest) 0 u (omega arith) (omega arith))
 
-quiet-at : (rule : OffsetRule) (text : List ℕ) (t : Time) → IsUtf8 text → at_time_by rule text ≡ Some t → IsQuiet text
-unfolding at_time_by
+quiet-at : (rule : OffsetRule) (text : List ℕ) (t : Time) → IsUtf8 text → at_time rule text ≡ Some t → IsQuiet text
+unfolding at_time
 quiet-at rule text t u e =
     let rest =
     went (skip_char at_sign text) (λ rest. option_or (raw_time_by rule rest) (option_map utc_time (int_value rest))) t e in
@@ -269,11 +268,11 @@ quiet-at rule text t u e =
 
 -- What a family answers, as a fact.
 abbrev pub Answered : OffsetRule → Family → List ℕ → Type 0
-Answered rule family text = (answer : FamilyAnswer) × (family_answer_by rule family text ≡ Some answer)
+Answered rule family text = (answer : FamilyAnswer) × (family_answer rule family text ≡ Some answer)
 
-pub answered : (rule : OffsetRule) (family : Family) (text : List ℕ) → HoldsBy rule family text
+pub answered : (rule : OffsetRule) (family : Family) (text : List ℕ) → Holds rule family text
     → Answered rule family text
-answered rule family text h = found (family_answer_by rule family text) h
+answered rule family text h = found (family_answer rule family text) h
   where
     found : (r : Option FamilyAnswer) → is_some r ≡ true → (answer : FamilyAnswer) × (r ≡ Some answer)
     found (Some x) e = (x, refl)
@@ -296,12 +295,12 @@ no-absolute (Some x) e n = absurd cc
 no-absolute None e n = absurd cc
 
 -- no quiet text is relative
-pub quiet-clash : (rule : OffsetRule) (text : List ℕ) → IsUtf8 text → IsQuiet text → HoldsBy rule RelativeText text → ⊥
+pub quiet-clash : (rule : OffsetRule) (text : List ℕ) → IsUtf8 text → IsQuiet text → Holds rule RelativeText text → ⊥
 quiet-clash rule text u q h = relative (relative_date text) h (no-relative text u q)
 
 is-quiet : (rule : OffsetRule) (family : Family) (text : List ℕ) → IsUtf8 text → family ≢ RelativeText
-    → overlap family RelativeText ≡ false → HoldsBy rule family text → IsQuiet text
-is-quiet rule AtText text u n o h = let t = absolute (at_time_by rule text) h in quiet-at rule text t.0 u t.1
+    → overlap family RelativeText ≡ false → Holds rule family text → IsQuiet text
+is-quiet rule AtText text u n o h = let t = absolute (at_time rule text) h in quiet-at rule text t.0 u t.1
 is-quiet rule Short text u n o h = let a = answered rule Short text h in quiet-short text a.0 a.1
 is-quiet rule Rfc2822 text u n o h = let a = answered rule Rfc2822 text h in quiet-mail text a.0 a.1
 is-quiet rule Iso8601 text u n o h = let a = answered rule Iso8601 text h in quiet-iso8601 text a.0 a.1
@@ -319,9 +318,9 @@ named-no-git : {IsMore : List ℕ → Type 0} (time : LocalTime) (text : List �
 named-no-git time text u h = ap git_time h.whole ∙ git-no-letter h.front h.rest (subst IsUtf8 h.whole u) (name-begins h.front h.is.0)
 
 git-clash : (rule : OffsetRule) (family : Family) (text : List ℕ) → IsUtf8 text → family ≢ GitForm
-    → overlap family GitForm ≡ false → HoldsBy rule family text → git_time text ≡ None
+    → overlap family GitForm ≡ false → Holds rule family text → git_time text ≡ None
 git-clash rule AtText text u n o h =
-    let t = absolute (at_time_by rule text) h in
+    let t = absolute (at_time rule text) h in
     let f = at-first rule text t.0 t.1 in
     ap git_time f.1 ∙ no-git-byte at_sign f.0 (subst IsUtf8 f.1 u) refl refl
 git-clash rule Short text u n o h = let a = answered rule Short text h in short-no-git text a.0 a.1
@@ -337,7 +336,7 @@ git-clash rule RawText text u n o h = let t = absolute (raw_time_by rule text) h
 
 -- raw texts
 raw-no-at : (rule : OffsetRule) (text : List ℕ) (t v : Time) → raw_time_by rule text ≡ Some t
-    → at_time_by rule text ≡ Some v → ⊥
+    → at_time rule text ≡ Some v → ⊥
 raw-no-at rule text t v e h = let f = at-first rule text v h in raw-clash rule text t e (ap (raw_time_by rule) f.1 ∙ no-raw-byte rule at_sign f.0 refl refl)
 
 raw-no-plain : (rule : OffsetRule) (text : List ℕ) (t : Time) → raw_time_by rule text ≡ Some t → NoPlainDate text
@@ -350,8 +349,8 @@ raw-no-named rule text t e =
     weekday-taken text r h in raw-no-letter rule w.name r t (name-begins w.name w.is_name.0) (ap (raw_time_by rule) (sym w.whole) ∙ e))))
 
 raw-alone : (rule : OffsetRule) (family : Family) (text : List ℕ) (t : Time) → IsUtf8 text → family ≢ RawText
-    → raw_time_by rule text ≡ Some t → HoldsBy rule family text → ⊥
-raw-alone rule AtText text t u n e h = let v = absolute (at_time_by rule text) h in raw-no-at rule text t v.0 e v.1
+    → raw_time_by rule text ≡ Some t → Holds rule family text → ⊥
+raw-alone rule AtText text t u n e h = let v = absolute (at_time rule text) h in raw-no-at rule text t v.0 e v.1
 raw-alone rule Short text t u n e h = none-held (short_answer text) h (raw-no-plain rule text t e).short
 raw-alone rule Rfc2822 text t u n e h = none-held (rfc2822_answer text) h (raw-no-mail rule text t e)
 raw-alone rule Iso8601 text t u n e h = none-held (iso8601_answer text) h (raw-no-plain rule text t e).iso8601
@@ -411,31 +410,31 @@ two-of (None ∷ answers) (suc i) (suc j) l h k m = two-of answers i j (omega (a
 two-of (Some a ∷ answers) (suc i) (suc j) l h k m = let more = some-of answers j k in omega (arith, more, m)
 
 holds-at : (rule : OffsetRule) (family : Family) (text : List ℕ) → nat_lt (place family) 8 ≡ true
-    → get_or (answers_before_git_by rule text) (place family) None ≡ family_answer_by rule family text
+    → get_or (answers_before_git rule text) (place family) None ≡ family_answer rule family text
 holds-at rule GitForm text e = absurd cc
 holds-at rule RelativeText text e = absurd cc
 holds-at rule RawText text e = absurd cc
 holds-at rule family text e = refl
 
 early-clash : (rule : OffsetRule) (a b : Family) (text : List ℕ) → nat_lt (place a) 8 ≡ true → nat_lt (place b) 8 ≡ true
-    → a ≢ b → HoldsBy rule a text → HoldsBy rule b text → ⊥
+    → a ≢ b → Holds rule a text → Holds rule b text → ⊥
 early-clash rule a b text e f n h k =
-    let first : is_some (get_or (answers_before_git_by rule text) (place a) None) ≡ true =
+    let first : is_some (get_or (answers_before_git rule text) (place a) None) ≡ true =
     ap is_some (holds-at rule a text e) ∙ h in
-    let second : is_some (get_or (answers_before_git_by rule text) (place b) None) ≡ true =
+    let second : is_some (get_or (answers_before_git rule text) (place b) None) ≡ true =
     ap is_some (holds-at rule b text f) ∙ k in
     let one = before-git-apart rule text in
     by-order (cases_order (place a) (place b)) first second one
   where
     by-order : (place a ≡ place b) ⊎ ((place a < place b) ⊎ (place b < place a))
-        → is_some (get_or (answers_before_git_by rule text) (place a) None) ≡ true
-        → is_some (get_or (answers_before_git_by rule text) (place b) None) ≡ true
-        → length (filter is_some (answers_before_git_by rule text)) ≤ 1 → ⊥
+        → is_some (get_or (answers_before_git rule text) (place a) None) ≡ true
+        → is_some (get_or (answers_before_git rule text) (place b) None) ≡ true
+        → length (filter is_some (answers_before_git rule text)) ≤ 1 → ⊥
     by-order (inl same) first second one = n (sym (place-back a) ∙ ap family_at same ∙ place-back b)
     by-order (inr (inl less)) first second one =
-        two-of (answers_before_git_by rule text) (place a) (place b) less first second one
+        two-of (answers_before_git rule text) (place a) (place b) less first second one
     by-order (inr (inr more)) first second one =
-        two-of (answers_before_git_by rule text) (place b) (place a) more second first one
+        two-of (answers_before_git rule text) (place b) (place a) more second first one
 
 -- `overlap` is the same both ways
 flip-git : (family : Family) → overlap GitForm family ≡ overlap family GitForm
@@ -448,7 +447,7 @@ flip-relative family = refl
 
 -- two families that do not overlap
 clash : (rule : OffsetRule) (a b : Family) (text : List ℕ) → IsUtf8 text → a ≢ b → overlap a b ≡ false
-    → HoldsBy rule a text → HoldsBy rule b text → ⊥
+    → Holds rule a text → Holds rule b text → ⊥
 clash rule RawText b text u n o h k = let t = absolute (raw_time_by rule text) h in raw-alone rule b text t.0 u (λ e. n (sym e)) t.1 k
 clash rule a RawText text u n o h k = let t = absolute (raw_time_by rule text) k in raw-alone rule a text t.0 u n t.1 h
 clash rule RelativeText b text u n o h k =
@@ -459,43 +458,43 @@ clash rule GitForm b text u n o h k =
 clash rule a GitForm text u n o h k = no-absolute (git_time text) k (git-clash rule a text u n o h)
 clash rule a b text u n o h k = early-clash rule a b text refl refl n h k
 
-pub are-exclusive : (rule : OffsetRule) (text : List ℕ) → IsUtf8 text → AreExclusiveBy rule text
+pub are-exclusive : (rule : OffsetRule) (text : List ℕ) → IsUtf8 text → AreExclusive rule text
 are-exclusive rule text u a b n o h =
-    none-unless (family_answer_by rule b text) (λ x e. clash rule a b text u n o h (ap is_some e))
+    none-unless (family_answer rule b text) (λ x e. clash rule a b text u n o h (ap is_some e))
 
 -- What comes first.
 pub differ : (a b : Family) → (place a == place b) ≡ false → a ≢ b
 differ a b e s = let same : (place a == place a) ≡ true = grind (arith, nat_tests) in let clash : true ≡ false = sym same ∙ ap (λ (f : Family). place a == place f) s ∙ e in cc
 
-raw-first : (rule : OffsetRule) (text : List ℕ) → IsUtf8 text → HoldsBy rule RawText text
-    → first_family_by rule text ≡ family_answer_by rule RawText text
+raw-first : (rule : OffsetRule) (text : List ℕ) → IsUtf8 text → Holds rule RawText text
+    → first_family_by rule text ≡ family_answer rule RawText text
 unfolding first_family_by
 raw-first rule text u h =
-    let none : (b : Family) → (place RawText == place b) ≡ false → overlap RawText b ≡ false → family_answer_by rule b text ≡ None = λ b d o. are-exclusive rule text u RawText b (differ RawText b d) o h in
+    let none : (b : Family) → (place RawText == place b) ≡ false → overlap RawText b ≡ false → family_answer rule b text ≡ None = λ b d o. are-exclusive rule text u RawText b (differ RawText b d) o h in
     let a = answered rule RawText text h in
     rw (none AtText refl refl, none Short refl refl, none Rfc2822 refl refl, none Iso8601 refl refl, none Iso8601Strict refl refl, none Gitoxide refl refl, none GitDefault refl refl, none BareEpoch refl refl, none GitForm refl refl, none RelativeText refl refl, a.1) refl
 
 alone-first : (rule : OffsetRule) (family : Family) (text : List ℕ) → IsUtf8 text → family ≢ GitForm
-    → family ≢ RelativeText → HoldsBy rule family text → first_family_by rule text ≡ family_answer_by rule family text
+    → family ≢ RelativeText → Holds rule family text → first_family_by rule text ≡ family_answer rule family text
 alone-first rule GitForm text u n m h = absurd (n refl)
 alone-first rule RelativeText text u n m h = absurd (m refl)
 alone-first rule RawText text u n m h = raw-first rule text u h
 alone-first rule family text u n m h = let a = answered rule family text h in first-at rule (place family) text a.0 a.1 ∙ sym a.1
 
-git-first : (rule : OffsetRule) (text : List ℕ) → IsUtf8 text → family_answer_by rule Iso8601 text ≡ None
-    → family_answer_by rule Iso8601Strict text ≡ None → HoldsBy rule GitForm text
-    → first_family_by rule text ≡ family_answer_by rule GitForm text
+git-first : (rule : OffsetRule) (text : List ℕ) → IsUtf8 text → family_answer rule Iso8601 text ≡ None
+    → family_answer rule Iso8601Strict text ≡ None → Holds rule GitForm text
+    → first_family_by rule text ≡ family_answer rule GitForm text
 unfolding first_family_by
 git-first rule text u p q h =
-    let none : (b : Family) → (place GitForm == place b) ≡ false → overlap GitForm b ≡ false → family_answer_by rule b text ≡ None = λ b d o. are-exclusive rule text u GitForm b (differ GitForm b d) o h in
+    let none : (b : Family) → (place GitForm == place b) ≡ false → overlap GitForm b ≡ false → family_answer rule b text ≡ None = λ b d o. are-exclusive rule text u GitForm b (differ GitForm b d) o h in
     let a = answered rule GitForm text h in
     rw (none AtText refl refl, none Short refl refl, none Rfc2822 refl refl, p, q, none Gitoxide refl refl, none GitDefault refl refl, none BareEpoch refl refl, a.1) refl
 
-relative-first : (rule : OffsetRule) (text : List ℕ) → IsUtf8 text → family_answer_by rule GitForm text ≡ None
-    → HoldsBy rule RelativeText text → first_family_by rule text ≡ family_answer_by rule RelativeText text
+relative-first : (rule : OffsetRule) (text : List ℕ) → IsUtf8 text → family_answer rule GitForm text ≡ None
+    → Holds rule RelativeText text → first_family_by rule text ≡ family_answer rule RelativeText text
 unfolding first_family_by
 relative-first rule text u g h =
-    let none : (b : Family) → (place RelativeText == place b) ≡ false → overlap RelativeText b ≡ false → family_answer_by rule b text ≡ None = λ b d o. are-exclusive rule text u RelativeText b (differ RelativeText b d) o h in
+    let none : (b : Family) → (place RelativeText == place b) ≡ false → overlap RelativeText b ≡ false → family_answer rule b text ≡ None = λ b d o. are-exclusive rule text u RelativeText b (differ RelativeText b d) o h in
     let a = answered rule RelativeText text h in
     rw (none AtText refl refl, none Short refl refl, none Rfc2822 refl refl, none Iso8601 refl refl, none Iso8601Strict refl refl, none Gitoxide refl refl, none GitDefault refl refl, none BareEpoch refl refl, g, a.1) refl
 
@@ -525,7 +524,7 @@ same-for (Some InstantBeyond) n now other result h = h
 same-for None n now other result h = h
 
 ignores-by : (rule : OffsetRule) (found : Option FamilyAnswer) (text : List ℕ) → first_family_by rule text ≡ found
-    → IsNotRelative found → IgnoresMomentBy rule text
+    → IsNotRelative found → IgnoresMoment rule text
 ignores-by rule found text e n now other result h =
     let at-now = subst (λ (r : Option FamilyAnswer). ParseNoAllocOutcome r now h.0) e h.1 in
     let same = same-for found n now other h.0 at-now in
@@ -535,15 +534,15 @@ not-relative : (r : Option Time) → IsNotRelative (option_map Absolute r)
 not-relative (Some t) = tt
 not-relative None = tt
 
-raw-ignores : (rule : OffsetRule) (text : List ℕ) → IsUtf8 text → HoldsBy rule RawText text
-    → IgnoresMomentBy rule text
+raw-ignores : (rule : OffsetRule) (text : List ℕ) → IsUtf8 text → Holds rule RawText text
+    → IgnoresMoment rule text
 raw-ignores rule text u h =
-    ignores-by rule (family_answer_by rule RawText text) text (raw-first rule text u h) (not-relative (raw_time_by rule text))
+    ignores-by rule (family_answer rule RawText text) text (raw-first rule text u h) (not-relative (raw_time_by rule text))
 
-epoch-ignores : (rule : OffsetRule) (text : List ℕ) → IsUtf8 text → HoldsBy rule BareEpoch text
-    → IgnoresMomentBy rule text
+epoch-ignores : (rule : OffsetRule) (text : List ℕ) → IsUtf8 text → Holds rule BareEpoch text
+    → IgnoresMoment rule text
 epoch-ignores rule text u h =
-    ignores-by rule (family_answer_by rule BareEpoch text) text (alone-first rule BareEpoch text u (differ BareEpoch GitForm refl) (differ BareEpoch RelativeText refl) h) (not-relative (epoch_time text))
+    ignores-by rule (family_answer rule BareEpoch text) text (alone-first rule BareEpoch text u (differ BareEpoch GitForm refl) (differ BareEpoch RelativeText refl) h) (not-relative (epoch_time text))
 
 date-not-relative : (date : DateFields) (clock : ClockFields) (offset : ℤ)
     → IsNotRelative (date_answer date clock offset)
@@ -559,8 +558,8 @@ date-not-relative date clock offset =
 
 -- a date of such pieces
 dated : (rule : OffsetRule) (layout : List Piece) (family : Family) (text : List ℕ)
-    → Spells (family_answer_by rule family) (IsAnswered layout time_answer) → HoldsBy rule family text
-    → IsNotRelative (family_answer_by rule family text)
+    → Spells (family_answer rule family) (IsAnswered layout time_answer) → Holds rule family text
+    → IsNotRelative (family_answer rule family text)
 dated rule layout family text law h =
     let a = answered rule family text h in
     let k = (law text a.0).0 a.1 in
@@ -583,11 +582,11 @@ short-not-relative text = by_answer (short_answer text) refl
     by_answer None e = tt
 
 date-not : (rule : OffsetRule) (layout : List Piece) (family : Family) (text : List ℕ)
-    → Spells (family_answer_by rule family) (IsAnswered layout time_answer)
-    → IsNotRelative (family_answer_by rule family text)
-date-not rule layout family text law = by_answer (family_answer_by rule family text) refl
+    → Spells (family_answer rule family) (IsAnswered layout time_answer)
+    → IsNotRelative (family_answer rule family text)
+date-not rule layout family text law = by_answer (family_answer rule family text) refl
   where
-    by_answer : (found : Option FamilyAnswer) → family_answer_by rule family text ≡ found → IsNotRelative found
+    by_answer : (found : Option FamilyAnswer) → family_answer rule family text ≡ found → IsNotRelative found
     by_answer (Some x) e = subst IsNotRelative e (dated rule layout family text law (ap is_some e))
     by_answer None e = tt
 
@@ -609,8 +608,8 @@ counting : (rule : OffsetRule) (text : List ℕ) (date : RelativeDate) → first
     → relative_date text ≡ Some date
 unfolding first_family_by
 counting rule text date e =
-    counting-by (take 9 (family_answers_by rule text)) (relative_date text) (raw_time_by rule text) date (
-      not-relative (at_time_by rule text),
+    counting-by (take 9 (family_answers rule text)) (relative_date text) (raw_time_by rule text) date (
+      not-relative (at_time rule text),
       (
         short-not-relative text,
         (
@@ -632,7 +631,7 @@ counting rule text date e =
       ),
     ) e
 
-pub comes-first : (rule : OffsetRule) (text : List ℕ) → IsUtf8 text → ComesFirstBy rule text
+pub comes-first : (rule : OffsetRule) (text : List ℕ) → IsUtf8 text → ComesFirst rule text
 comes-first rule text u = record {
   alone = λ family n m h. alone-first rule family text u n m h;
   git = λ p q h. git-first rule text u p q h;
@@ -641,10 +640,10 @@ comes-first rule text u = record {
 }
 
 -- a text that is not relative
-plain-ignores : (rule : OffsetRule) (text : List ℕ) → relative_date text ≡ None → IgnoresMomentBy rule text
+plain-ignores : (rule : OffsetRule) (text : List ℕ) → relative_date text ≡ None → IgnoresMoment rule text
 plain-ignores rule text n = by_answer (first_family_by rule text) refl
   where
-    by_answer : (found : Option FamilyAnswer) → first_family_by rule text ≡ found → IgnoresMomentBy rule text
+    by_answer : (found : Option FamilyAnswer) → first_family_by rule text ≡ found → IgnoresMoment rule text
     by_answer (Some (Relative date)) e = let clash : None ≡ Some date = sym n ∙ counting rule text date e in absurd cc
     by_answer (Some (Absolute t)) e = ignores-by rule (Some (Absolute t)) text e tt
     by_answer (Some OffsetBeyond) e = ignores-by rule (Some OffsetBeyond) text e tt
@@ -652,24 +651,24 @@ plain-ignores rule text n = by_answer (first_family_by rule text) refl
     by_answer None e = ignores-by rule None text e tt
 
 git-ignores-by : (rule : OffsetRule) (text : List ℕ) (iso strict : Option FamilyAnswer) → IsUtf8 text
-    → family_answer_by rule Iso8601 text ≡ iso → family_answer_by rule Iso8601Strict text ≡ strict
-    → HoldsBy rule GitForm text → IgnoresMomentBy rule text
+    → family_answer rule Iso8601 text ≡ iso → family_answer rule Iso8601Strict text ≡ strict
+    → Holds rule GitForm text → IgnoresMoment rule text
 git-ignores-by rule text (Some x) strict u p q h =
     let k = ap is_some p in
-    ignores-by rule (family_answer_by rule Iso8601 text) text (alone-first rule Iso8601 text u (differ Iso8601 GitForm refl) (differ Iso8601 RelativeText refl) k) (dated rule iso8601_layout Iso8601 text dates_spelled.iso8601 k)
+    ignores-by rule (family_answer rule Iso8601 text) text (alone-first rule Iso8601 text u (differ Iso8601 GitForm refl) (differ Iso8601 RelativeText refl) k) (dated rule iso8601_layout Iso8601 text dates_spelled.iso8601 k)
 git-ignores-by rule text None (Some x) u p q h =
     let k = ap is_some q in
-    ignores-by rule (family_answer_by rule Iso8601Strict text) text (alone-first rule Iso8601Strict text u (differ Iso8601Strict GitForm refl) (differ Iso8601Strict RelativeText refl) k) (dated rule iso8601_strict_layout Iso8601Strict text dates_spelled.iso8601_strict k)
+    ignores-by rule (family_answer rule Iso8601Strict text) text (alone-first rule Iso8601Strict text u (differ Iso8601Strict GitForm refl) (differ Iso8601Strict RelativeText refl) k) (dated rule iso8601_strict_layout Iso8601Strict text dates_spelled.iso8601_strict k)
 git-ignores-by rule text None None u p q h =
-    ignores-by rule (family_answer_by rule GitForm text) text (git-first rule text u p q h) (not-relative (git_time text))
+    ignores-by rule (family_answer rule GitForm text) text (git-first rule text u p q h) (not-relative (git_time text))
 
-git-ignores : (rule : OffsetRule) (text : List ℕ) → IsUtf8 text → HoldsBy rule GitForm text
-    → IgnoresMomentBy rule text
+git-ignores : (rule : OffsetRule) (text : List ℕ) → IsUtf8 text → Holds rule GitForm text
+    → IgnoresMoment rule text
 git-ignores rule text u h =
-    git-ignores-by rule text (family_answer_by rule Iso8601 text) (family_answer_by rule Iso8601Strict text) u refl refl h
+    git-ignores-by rule text (family_answer rule Iso8601 text) (family_answer rule Iso8601Strict text) u refl refl h
 
 -- all of these
 pub ignores : (rule : OffsetRule) (text : List ℕ) → IsUtf8 text
-    → (relative_date text ≡ None → IgnoresMomentBy rule text) × (HoldsBy rule RawText text → IgnoresMomentBy rule text)
-    × (HoldsBy rule BareEpoch text → IgnoresMomentBy rule text) × (HoldsBy rule GitForm text → IgnoresMomentBy rule text)
+    → (relative_date text ≡ None → IgnoresMoment rule text) × (Holds rule RawText text → IgnoresMoment rule text)
+    × (Holds rule BareEpoch text → IgnoresMoment rule text) × (Holds rule GitForm text → IgnoresMoment rule text)
 ignores rule text u = (plain-ignores rule text, raw-ignores rule text u, epoch-ignores rule text u, git-ignores rule text u)

@@ -9,7 +9,6 @@ use Rattle.gix_date.specs.Fields.Front.{skip_char, ◌>>=◌}
 use Rattle.gix_date.specs.Fields.FieldTexts.{IsYear}
 use Rattle.gix_date.specs.Git.Forms.{git_time}
 use Rattle.gix_date.specs.Text.Numbers.{int_value, read_year, read_field}
-use Rattle.gix_date.specs.Private.Shapes.{is_number_byte}
 use Rattle.gix_date.specs.Fields.DateFields.{read_plain_date}
 use Rattle.gix_date.specs.Families.Patterns.{short_answer, iso8601_answer, iso8601_strict_answer}
 use Rattle.gix_date.specs.Families.Raw.{OffsetRule, raw_time_by}
@@ -17,7 +16,7 @@ use Rattle.gix_date.specs.Text.SpaceWords.{space_words}
 use Rattle.gix_date.proofs.Apart.{NoPlainDate}
 use Rattle.gix_date.proofs.Disjoint.{GitFront, year-front, git-front, raw-words, raw-first, none-unless, same-first, int-digits, front-digits}
 use Rattle.gix_date.proofs.FirstWords.{is_visible, first-begins, trimmed-words}
-use Rattle.gix_date.proofs.PlainHeaders.{int-number}
+use Rattle.gix_date.proofs.PlainHeaders.{is_number_byte, int-number}
 
 -- no raw text begins with a digit and has another byte in its first word's front
 pub no-raw-front : (rule : OffsetRule) (text : List ℕ) → GitFront text → raw_time_by rule text ≡ None

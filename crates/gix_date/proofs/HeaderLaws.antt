@@ -25,7 +25,6 @@ use Rattle.gix_date.specs.Header.Reading.{header_time, time_of_words, seconds_sa
 use Rattle.gix_date.specs.Text.SpaceWords.{space_words, first_words}
 use Rattle.gix_date.specs.Header.Text.{header_text, compact_offset_text, offset_sign, hours_and_minutes}
 use Rattle.gix_date.specs.Text.Numbers.{int_value, fits_i64, decimal_text, two_digits, read_two_digits}
-use Rattle.gix_date.specs.Private.Shapes.{is_number_byte}
 use Rattle.gix_date.specs.Fields.Offsets.{offset_fields, offset_of, signed, read_sign, last_pair}
 use Rattle.gix_date.specs.Fields.Front.{skip_char, ◌>>=◌}
 use Rattle.gix_date.specs.Fields.FieldTexts.{IsDigit}
@@ -36,7 +35,7 @@ use Rattle.gix_date.specs.declared.time.Time.{Time}
 use Rattle.gix_date.specs.declared.time.write.TheConstants.{HUNDRED_HOURS}
 use Rattle.gix_date.proofs.Ints.{own, int_value_from, fits_from, each_of}
 use Rattle.gix_date.proofs.FieldsTaken.{guard, went, none_is}
-use Rattle.gix_date.proofs.PlainHeaders.{plain-header, int-taken, offset-taken, IsOffsetText, IsMark, AreNumberBytes, are_ascii, IsNumber, int-number, offset-number, same_some}
+use Rattle.gix_date.proofs.PlainHeaders.{is_number_byte, plain-header, int-taken, offset-taken, IsOffsetText, IsMark, AreNumberBytes, are_ascii, IsNumber, int-number, offset-number, same_some}
 
 -- A canonical header, taken apart.
 from_test : {A : Type 0} (r : Option A) (test : A → Bool) → option_map_or test r false ≡ true → (x : A) × (r ≡ Some x) × (test x ≡ true)

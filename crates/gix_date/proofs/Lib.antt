@@ -24,7 +24,6 @@ pub mod FirstBytes
 pub mod Exclusive
 pub mod Widened
 pub mod Shapes
-pub mod DateFronts
 mod AfterDay
 mod NamesRead
 pub mod Overlaps
@@ -44,7 +43,6 @@ pub mod ShownTexts
 pub mod ClockRows
 pub mod Chains
 pub mod FixedSteps
-pub mod NameFronts
 pub mod Ints
 pub mod Decimals
 pub mod Rows

@@ -14,7 +14,6 @@ use Rattle.gix_date.specs.Text.Characters.{space, plus, minus, is_colon, has_col
 use Rattle.gix_date.specs.Fields.Front.{skip_char, ◌>>=◌}
 use Rattle.gix_date.specs.Fields.FieldTexts.{IsDigit}
 use Rattle.gix_date.specs.Text.Numbers.{fits_i64, is_int_text, int_value, read_two_digits}
-use Rattle.gix_date.specs.Private.Shapes.{is_number_byte}
 use Rattle.gix_date.specs.Fields.Offsets.{read_sign, last_pair, offset_fields, offset_of}
 use Rattle.gix_date.specs.Header.Reading.{seconds_said, offset_said, time_of_words, header_time}
 use Rattle.gix_date.specs.Private.Headers.{IsPlainHeader}
@@ -27,6 +26,10 @@ use Rattle.gix_date.proofs.Ints.{each_of}
 use Rattle.gix_date.specs.Families.Raw.{OffsetRule, raw_time_by, raw_offset_by}
 use Rattle.gix_date.specs.Text.SpaceWords.{space_words, runs}
 use Rattle.gix_date.proofs.WordSteps.{runs_skip, run_first, stops, ends}
+
+-- a digit or a sign
+abbrev pub is_number_byte : ℕ → Bool
+is_number_byte c = is_ascii_digit c || c == plus || c == minus
 
 abbrev pub AreNumberBytes : List ℕ → Type 0
 AreNumberBytes [] = Unit {0}

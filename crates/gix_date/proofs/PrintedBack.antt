@@ -2,7 +2,7 @@
 use Rattle.std.proofs.Common.{◌≡◌, ◌∙◌, ◌<◌, ℕ, List, Option, None, Some, String, Global, Result, Ok, Err, inl, inr, ap, sym, subst, get_or}
 use Rattle.std.specs.Fmt.{decimal}
 use Rattle.gix_date.specs.Families.Answer.{FamilyAnswer, Absolute}
-use Rattle.gix_date.specs.Families.Order.{first_family_by, answers_before_git_by}
+use Rattle.gix_date.specs.Families.Order.{first_family_by, answers_before_git}
 use Rattle.gix_date.specs.Fields.FieldTexts.{IsField}
 use Rattle.gix_date.specs.Fields.Layout.{LocalTime, Piece, print_pieces}
 use Rattle.gix_date.specs.Printing.LocalClocks.{clock_of}
@@ -12,7 +12,7 @@ use Rattle.gix_date.specs.Families.Patterns.{rfc2822_layout, iso8601_layout, iso
 use Rattle.gix_date.specs.Printing.Formats.{PrintsBy}
 use Rattle.gix_date.specs.Printing.PrintedTimes.{PrintsText}
 use Rattle.gix_date.specs.Families.Raw.{OffsetRule}
-use Rattle.gix_date.specs.Printing.ReadingBack.{IsPlainTime, IsReadBackBy, AreReadBackBy, PrintsBackBy, IsKeptBy}
+use Rattle.gix_date.specs.Printing.ReadingBack.{IsPlainTime, IsReadBack, AreReadBack, PrintsBack, IsKept}
 use Rattle.gix_date.specs.declared.error.Error.{Error}
 use Rattle.gix_date.specs.declared.time.Time.{Time}
 use Rattle.gix_date.proofs.Layouts.{dates_spelled}
@@ -24,7 +24,7 @@ use Rattle.gix_date.proofs.ReadBack.{IsShownPlain, two-is, bare-is, back, first-
 -- the family stands at this place of the list, by whatever rule for raw offsets
 abbrev StandsAt : ℕ → (List ℕ → Option FamilyAnswer) → Type 0
 StandsAt place family =
-    (rule : OffsetRule) (text : List ℕ) (x : FamilyAnswer) → family text ≡ Some x → get_or (answers_before_git_by rule text) place None ≡ Some x
+    (rule : OffsetRule) (text : List ℕ) (x : FamilyAnswer) → family text ≡ Some x → get_or (answers_before_git rule text) place None ≡ Some x
 
 -- what a layout prints of a time, with the day of the month so, is read by its family, which is the first that holds it
 parsed-back : (rule : OffsetRule) (place : ℕ) (family : List ℕ → Option FamilyAnswer) (layout : List Piece) (day : ℕ → List ℕ) → StandsAt place family
@@ -47,14 +47,14 @@ parsed-back rule place family layout day stands spells field t h =
 read-back : (rule : OffsetRule) (pattern : List ℕ) (place : ℕ) (family : List ℕ → Option FamilyAnswer) (layout : List Piece) (day : ℕ → List ℕ)
     → ShowsText pattern (λ l. print_pieces day layout l) → StandsAt place family → Spells family (IsAnswered layout time_answer)
     → ((n : ℕ) → n < 100 → IsField (day n) n)
-    → (t : Time) → IsPlainTime t → IsReadBackBy rule pattern (λ l. print_pieces day layout l) t
+    → (t : Time) → IsPlainTime t → IsReadBack rule pattern (λ l. print_pieces day layout l) t
 read-back rule pattern place family layout day shows stands spells field t h = record {
   printed = printed-as pattern (λ l. print_pieces day layout l) shows t;
   parsed = parsed-back rule place family layout day stands spells field t h;
 }
 
 -- by each of the six formats
-pub are-read-back : (rule : OffsetRule) (t : Time) → IsPlainTime t → AreReadBackBy rule t
+pub are-read-back : (rule : OffsetRule) (t : Time) → IsPlainTime t → AreReadBack rule t
 are-read-back rule t h = record {
   iso8601 = read-back rule iso8601_pattern 3 iso8601_answer iso8601_layout two_digits formats_printed.iso8601.only (λ rule text x e. e) dates_spelled.iso8601 two-is t h;
   iso8601_strict = read-back rule iso8601_strict_pattern 4 iso8601_strict_answer iso8601_strict_layout two_digits formats_printed.iso8601_strict.only (λ rule text x e. e) dates_spelled.iso8601_strict two-is t h;
@@ -65,18 +65,18 @@ are-read-back rule t h = record {
 }
 
 text-back : (rule : OffsetRule) (pattern : List ℕ) (text : LocalTime → List ℕ) (t : Time) (r : Result (String Global) Error) → IsPlainTime t
-    → IsReadBackBy rule pattern text t → PrintsText text t r → PrintsBackBy rule t r
+    → IsReadBack rule pattern text t → PrintsText text t r → PrintsBack rule t r
 text-back rule pattern text t (Ok s) plain back h = ap (first_family_by rule) h ∙ back.parsed
 text-back rule pattern text t (Err e) plain back (inl memory) = memory
 text-back rule pattern text t (Err e) plain back (inr conversion) = absurd (conversion.1 plain.converts)
 
 by-pattern : (rule : OffsetRule) (pattern own : List ℕ) (text : LocalTime → List ℕ) (t : Time) (r : Result (String Global) Error) → IsPlainTime t
-    → IsReadBackBy rule pattern text t → own ≡ pattern → PrintsBy t own r → PrintsBackBy rule t r
+    → IsReadBack rule pattern text t → own ≡ pattern → PrintsBy t own r → PrintsBack rule t r
 by-pattern rule pattern own text t r plain back e h =
     text-back rule pattern text t r plain back (back.printed plain.ordinary r (subst (λ p. PrintsBy t p r) e h))
 
 -- by whichever of their patterns
-pub is-kept : (rule : OffsetRule) (t : Time) → IsPlainTime t → IsKeptBy rule t
+pub is-kept : (rule : OffsetRule) (t : Time) → IsPlainTime t → IsKept rule t
 is-kept rule t plain own r clock h =
     let all = are-read-back rule t plain in
     elim clock [

@@ -17,7 +17,7 @@ use Rattle.jiff_core.specs.Timestamp.{IsTimestampNanos, nanos_of_seconds}
 use Rattle.gix_date.specs.Families.Answer.{FamilyAnswer, Absolute}
 use Rattle.gix_date.specs.Text.Characters.{space, colon}
 use Rattle.gix_date.specs.Fields.Civil.{civil_instant, civil_seconds}
-use Rattle.gix_date.specs.Families.Order.{first_answer_of, family_answers_by, answers_before_git_by, first_family_by}
+use Rattle.gix_date.specs.Families.Order.{first_answer_of, family_answers, answers_before_git, first_family_by}
 use Rattle.gix_date.specs.Fields.FieldTexts.{IsField, IsYear, AreSpaces, IsDayName, IsMonthName, IsPlainDate, IsClock, four_digits, date_text, clock_text}
 use Rattle.gix_date.specs.Fields.Layout.{LocalTime, Piece, DayName, MailDayName, MonthName, Day, Year, PlainDate, Clock, MailClock, Spaces, LetterT, Offset, ColonOffset, MailOffset, IsPiece, ArePieces, print_piece, print_pieces}
 use Rattle.gix_date.specs.Text.Names.{day_name, month_name}
@@ -166,10 +166,10 @@ alone-is-first (suc i) (None ∷ rest) more x e h = alone-is-first i rest more x
 alone-is-first (suc i) (Some y ∷ rest) more x e h = absurd (omega (arith, h, some-counts i rest x e))
 
 pub first-at : (rule : OffsetRule) (i : ℕ) (text : List ℕ) (x : FamilyAnswer)
-    → get_or (answers_before_git_by rule text) i None ≡ Some x → first_family_by rule text ≡ Some x
+    → get_or (answers_before_git rule text) i None ≡ Some x → first_family_by rule text ≡ Some x
 unfolding first_family_by
 first-at rule i text x e =
-    alone-is-first i (answers_before_git_by rule text) (drop 8 (family_answers_by rule text)) x e (before-git-apart rule text)
+    alone-is-first i (answers_before_git rule text) (drop 8 (family_answers rule text)) x e (before-git-apart rule text)
 
 one-space : AreSpaces (space ∷ [])
 one-space = (refl, refl)

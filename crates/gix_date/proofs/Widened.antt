@@ -6,9 +6,9 @@ use Rattle.std.specs.Option.{option_or}
 use Rattle.std.specs.Prelude.{◌==◌}
 use Rattle.gix_date.specs.Families.Answer.{FamilyAnswer, Absolute}
 use Rattle.gix_date.specs.Text.Characters.{at_sign}
-use Rattle.gix_date.specs.Families.Epoch.{at_time_by, utc_time}
-use Rattle.gix_date.specs.Families.Order.{Family, AtText, Short, Rfc2822, Iso8601, Iso8601Strict, Gitoxide, GitDefault, BareEpoch, GitForm, RelativeText, RawText, family_answer_by, family_answers_by, first_answer_of, first_family_by}
-use Rattle.gix_date.specs.Families.Laws.{HoldsBy, IsWidened, overlap}
+use Rattle.gix_date.specs.Families.Epoch.{at_time, utc_time}
+use Rattle.gix_date.specs.Families.Order.{Family, AtText, Short, Rfc2822, Iso8601, Iso8601Strict, Gitoxide, GitDefault, BareEpoch, GitForm, RelativeText, RawText, family_answer, family_answers, first_answer_of, first_family_by}
+use Rattle.gix_date.specs.Families.Laws.{Holds, IsWidened, overlap}
 use Rattle.gix_date.specs.Fields.Front.{skip_char, ◌>>=◌}
 use Rattle.gix_date.specs.Text.Numbers.{int_value}
 use Rattle.gix_date.specs.Fields.Offsets.{offset_fields, offset_of}
@@ -58,8 +58,8 @@ int-no-raw w text n e = none-unless (raw_time_by w text) (λ t h.
     let clash : r.front ∷ r.zone ∷ [] ≡ text ∷ [] = sym r.is ∙ one-word text (int-number text n e) in
     cc)
 
-at-wider : (r w : OffsetRule) → Within r w → (text : List ℕ) (t : Time) → at_time_by r text ≡ Some t → at_time_by w text ≡ Some t
-unfolding at_time_by
+at-wider : (r w : OffsetRule) → Within r w → (text : List ℕ) (t : Time) → at_time r text ≡ Some t → at_time w text ≡ Some t
+unfolding at_time
 at-wider r w h text t e =
     let rest = went (skip_char at_sign text) (λ rest. option_or (raw_time_by r rest) (option_map utc_time (int_value rest))) t e in
     ap (λ (q : Option (List ℕ)). q >>= λ rest. option_or (raw_time_by w rest) (option_map utc_time (int_value rest))) rest.1
@@ -86,15 +86,15 @@ last-answers (None ∷ front) p q x e f = last-answers front p q x e f
 
 -- the families between the at text and the raw one, which no rule changes
 abbrev between : List ℕ → List (Option FamilyAnswer)
-between text = take 9 (drop 1 (family_answers_by is_raw_offset text))
+between text = take 9 (drop 1 (family_answers is_raw_offset text))
 
 after-none : (text : List ℕ) (p : Option FamilyAnswer) → between text ≡ None ∷ None ∷ None ∷ None ∷ None ∷ None ∷ None ∷ None ∷ None ∷ [] → p ≡ None → first_answer_of (between text ++ (p ∷ [])) ≡ None
 after-none text p e n = ap (λ (front : List (Option FamilyAnswer)). first_answer_of (front ++ (p ∷ []))) e ∙ ap (λ (q : Option FamilyAnswer). option_or q None) n
 
 -- where the wider rule has an at text, no other family holds the text
-at-alone : (w : OffsetRule) (text : List ℕ) → IsUtf8 text → HoldsBy w AtText text → (between text ≡ None ∷ None ∷ None ∷ None ∷ None ∷ None ∷ None ∷ None ∷ None ∷ []) × (raw_time_by w text ≡ None)
+at-alone : (w : OffsetRule) (text : List ℕ) → IsUtf8 text → Holds w AtText text → (between text ≡ None ∷ None ∷ None ∷ None ∷ None ∷ None ∷ None ∷ None ∷ None ∷ []) × (raw_time_by w text ≡ None)
 at-alone w text u h =
-    let none : (b : Family) → (place AtText == place b) ≡ false → overlap AtText b ≡ false → family_answer_by w b text ≡ None = λ b d o. are-exclusive w text u AtText b (differ AtText b d) o h in (
+    let none : (b : Family) → (place AtText == place b) ≡ false → overlap AtText b ≡ false → family_answer w b text ≡ None = λ b d o. are-exclusive w text u AtText b (differ AtText b d) o h in (
       rw (none Short refl refl, none Rfc2822 refl refl, none Iso8601 refl refl, none Iso8601Strict refl refl, none Gitoxide refl refl, none GitDefault refl refl, none BareEpoch refl refl, none GitForm refl refl, none RelativeText refl refl) refl,
       no-time (raw_time_by w text) (none RawText refl refl),
     )
@@ -111,7 +111,7 @@ raw-answer text x None e h = absurd cc
 abbrev answer_by : OffsetRule → Option Time → List ℕ → Option FamilyAnswer
 answer_by rule at text = option_or (option_map Absolute at) (first_answer_of (between text ++ (option_map Absolute (raw_time_by rule text) ∷ [])))
 
-alike-by : (text : List ℕ) → IsUtf8 text → (x : FamilyAnswer) (a b : Option Time) → at_time_by is_raw_offset text ≡ a → at_time_by is_wide_offset text ≡ b → answer_by is_raw_offset a text ≡ Some x → answer_by is_wide_offset b text ≡ Some x
+alike-by : (text : List ℕ) → IsUtf8 text → (x : FamilyAnswer) (a b : Option Time) → at_time is_raw_offset text ≡ a → at_time is_wide_offset text ≡ b → answer_by is_raw_offset a text ≡ Some x → answer_by is_wide_offset b text ≡ Some x
 alike-by text u x (Some t) b ea eb e =
     ap (λ (b : Option Time). answer_by is_wide_offset b text) (sym eb ∙ at-wider is_raw_offset is_wide_offset quarters-within text t ea) ∙ e
 alike-by text u x None (Some v) ea eb e =
@@ -124,8 +124,8 @@ alike-by text u x None (Some v) ea eb e =
 alike-by text u x None None ea eb e =
     last-wider (between text) (option_map Absolute (raw_time_by is_raw_offset text)) (option_map Absolute (raw_time_by is_wide_offset text)) x (raw-answer text x (raw_time_by is_raw_offset text) refl) e
 
-more-by : (text : List ℕ) (x : FamilyAnswer) (a b : Option Time) → at_time_by is_wide_offset text ≡ b → answer_by is_raw_offset a text ≡ None → answer_by is_wide_offset b text ≡ Some x
-    → HoldsBy is_wide_offset AtText text ⊎ HoldsBy is_wide_offset RawText text
+more-by : (text : List ℕ) (x : FamilyAnswer) (a b : Option Time) → at_time is_wide_offset text ≡ b → answer_by is_raw_offset a text ≡ None → answer_by is_wide_offset b text ≡ Some x
+    → Holds is_wide_offset AtText text ⊎ Holds is_wide_offset RawText text
 more-by text x a (Some v) eb e f = inl (ap (λ (r : Option Time). is_some (option_map Absolute r)) eb)
 more-by text x (Some t) None eb e f = absurd cc
 more-by text x None None eb e f =
@@ -134,6 +134,6 @@ more-by text x None None eb e f =
 pub is-widened : (text : List ℕ) → IsUtf8 text → IsWidened text
 unfolding first_family_by
 is-widened text u = record {
-  alike = λ x e. alike-by text u x (at_time_by is_raw_offset text) (at_time_by is_wide_offset text) refl refl e;
-  more = λ x e f. more-by text x (at_time_by is_raw_offset text) (at_time_by is_wide_offset text) refl e f;
+  alike = λ x e. alike-by text u x (at_time is_raw_offset text) (at_time is_wide_offset text) refl refl e;
+  more = λ x e f. more-by text x (at_time is_raw_offset text) (at_time is_wide_offset text) refl e f;
 }

@@ -13,4 +13,3 @@ pub mod Names
 pub mod Headers
 pub mod Printing
 pub mod NamedTexts
-pub mod Shapes

@@ -4,8 +4,8 @@ pub use Rattle.gix_date.specs.Header.Canonical.{is_canonical_header}
 pub use Rattle.gix_date.specs.Computing.{computing}
 pub use Rattle.gix_date.specs.Devices.Device.{inner_of, fault_of}
 pub use Rattle.gix_date.specs.Families.Epoch.{epoch_time, utc_time, min_bare_epoch}
-pub use Rattle.gix_date.specs.Families.Order.{first_family, ParseNoAllocOutcome, ParseOutcome, WithCopy, RefusesWithCopy, Family, families, family_answer, RefusesDate, answers_before_git, RefusesUnknown, first_family_by, family_answer_by}
-pub use Rattle.gix_date.specs.Families.Laws.{Holds, overlap, AreExclusive, AreOverlapping, Overlap, AreDisjoint, ComesFirst, IgnoresMoment, HoldsBy, AreDisjointBy, AreExclusiveBy, ComesFirstBy, IgnoresMomentBy, IsWidened}
+pub use Rattle.gix_date.specs.Families.Order.{first_family, ParseNoAllocOutcome, ParseOutcome, WithCopy, RefusesWithCopy, Family, families, family_answer, RefusesDate, answers_before_git, RefusesUnknown, first_family_by}
+pub use Rattle.gix_date.specs.Families.Laws.{Holds, overlap, AreExclusive, AreOverlapping, Overlap, AreDisjoint, ComesFirst, IgnoresMoment, IsWidened}
 pub use Rattle.gix_date.specs.Relative.FixedZones.{IsFixedZone, IsSecondsPair, IsMonthsPair, less_seconds, less_months, total, Names, NamesAlike, IsSecondsBefore, earlier, NamesEarlier}
 pub use Rattle.gix_date.specs.Git.Forms.{git_time}
 pub use Rattle.gix_date.specs.Header.Laws.{CanonicalComesBack, ComesBack, ComesBackFromHeader, AreWrittenAlike, AreAlike}
@@ -22,10 +22,10 @@ pub use Rattle.gix_date.specs.Families.Patterns.{Spells, IsAnswered, time_answer
 pub use Rattle.gix_date.specs.Printing.Formats.{Prints, PrintsSeconds, PrintsHeader, PrintsBy, PrintsOrSeconds, IsShown, AtMoment}
 pub use Rattle.gix_date.specs.Printing.PrintedTimes.{IsPrintedAs, PrintsText}
 pub use Rattle.gix_date.specs.Families.Raw.{raw_time, raw_time_by, max_raw_hours, OffsetRule, is_raw_offset, is_wide_offset, allows, max_wide_hours, max_wide_minutes}
-pub use Rattle.gix_date.specs.Printing.ReadingBack.{AreReadBack, IsReadBack, IsPlainTime, IsRawOffset, HasClock, PrintsBack, IsKept, AreReadBackBy, IsReadBackBy, IsWideOffset, IsKeptBy}
+pub use Rattle.gix_date.specs.Printing.ReadingBack.{AreReadBack, IsReadBack, IsPlainTime, IsRawOffset, HasClock, PrintsBack, IsKept, IsWideOffset}
 pub use Rattle.gix_date.specs.Relative.Dates.{relative_date, RelativeDate, Before, Less, RelativeOutcome, IsNamed, Reaches}
 pub use Rattle.gix_date.specs.Relative.Steps.{zone_of, Settles, Chain, SecondsStep, MonthsStep, IsPicked}
-pub use Rattle.gix_date.specs.Families.Shapes.{shape_of, shape_families, IsDispatched, IsDispatchedBy}
+pub use Rattle.gix_date.specs.Families.Shapes.{shape_of, shape_families, IsDispatched}
 pub use Rattle.gix_date.specs.Text.SpaceWords.{StdWhiteSpaceIsUnicodes, white_space}
 pub use Rattle.gix_date.specs.Devices.TimeBuf.{text_in, HoldsText}
 pub use Rattle.gix_date.specs.Printing.Zoned.{time_in, time_in_utc, is_instant, IsConvertible, IsMoment}

@@ -11,7 +11,7 @@ ghost use Rattle.gix_date.specs.Printing.LocalClocks.{HasOrdinaryClock};
 ghost use Rattle.gix_date.specs.Printing.NamedTexts.{iso8601_text};
 ghost use Rattle.gix_date.specs.Printing.Formats.{PrintsOrSeconds};
 ghost use Rattle.gix_date.specs.Printing.PrintedTimes.{PrintsText};
-ghost use Rattle.gix_date.specs.Families.Raw.{is_wide_offset, raw_time, raw_time_by};
+ghost use Rattle.gix_date.specs.Families.Raw.{is_raw_offset, is_wide_offset, raw_time, raw_time_by};
 ghost use Rattle.gix_date.specs.Printing.ReadingBack.{IsPlainTime, IsWideOffset, HasClock, PrintsBack};
 ghost use Rattle.gix_date.specs.Relative.Dates.{RelativeDate, relative_date};
 ghost use Rattle.gix_date.specs.Devices.TimeBuf.{text_in};
@@ -101,7 +101,7 @@ pub fn stored_date(alloc: Global, date: &str) -> Result<Time, Error>
     ensures raw { (t : Read) → raw_time_by is_wide_offset date.now ≡ Some t → result ≡ Ok t }
     ensures outcome { ParseOutcome (first_family_by is_wide_offset date.now) date.now None result }
 {
-    laws::comes_first_wide(date);
+    laws::comes_first(date, RawOffsets::WholeMinutes);
     parse_with(alloc, date, None, RawOffsets::WholeMinutes)
 }
 
@@ -115,7 +115,7 @@ pub fn asks_for_a_moment(date: &str) -> bool
     ensures absolute { (t : Read) → first_family date.now ≡ Some (Absolute t) → result ≡ false }
 {
     laws::disjoint(date);
-    laws::comes_first(date);
+    laws::comes_first(date, RawOffsets::Quarter);
     parse_no_alloc(date, None, RawOffsets::Quarter) == Err(ParseError::MissingNow)
 }
 
@@ -174,7 +174,7 @@ pub fn iso_date(alloc: Global, time: Time) -> Result<String, Error>
 pub fn dated(alloc: Global, time: Time, format: CustomFormat) -> Result<String, Error>
     requires plain { IsPlainTime time }
     requires clock { HasClock format.pattern.now }
-    ensures { PrintsBack time result }
+    ensures { PrintsBack is_raw_offset time result }
 {
     laws::read_back(time);
     time.format(alloc, format.into())

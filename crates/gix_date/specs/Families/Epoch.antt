@@ -5,7 +5,7 @@ use Rattle.std.specs.Int.Signed.{le_z}
 use Rattle.gix_date.specs.Text.Characters.{at_sign}
 use Rattle.gix_date.specs.Fields.Front.{skip_char, ◌>>=◌}
 use Rattle.gix_date.specs.Text.Numbers.{int_value}
-use Rattle.gix_date.specs.Families.Raw.{OffsetRule, is_raw_offset, raw_time_by}
+use Rattle.gix_date.specs.Families.Raw.{OffsetRule, raw_time_by}
 use Rattle.gix_date.specs.declared.parsing.dates.TheConstants.{MIN_EPOCH}
 use Rattle.gix_date.specs.declared.time.Time.{Time}
 
@@ -14,14 +14,10 @@ abbrev pub utc_time : ℤ → Time
 utc_time seconds = record { seconds = seconds; offset = pos 0 }
 
 -- `@`, and then a raw text or an int text with nothing round it
-unfoldable pub at_time_by : OffsetRule → List ℕ → Option Time
-at_time_by rule text = do
+unfoldable pub at_time : OffsetRule → List ℕ → Option Time
+at_time rule text = do
   rest ← skip_char at_sign text
   option_or (raw_time_by rule rest) (option_map utc_time (int_value rest))
-
--- by quarters of an hour
-abbrev pub at_time : List ℕ → Option Time
-at_time = at_time_by is_raw_offset
 
 -- the least seconds of a bare epoch
 abbrev pub min_bare_epoch : ℤ

@@ -3,7 +3,7 @@ use Rattle.std.specs.Prelude.{◌≡◌, ◌≢◌, ◌⊎◌, ℕ, Bool, true, 
 use Rattle.jiff.specs.declared.zoned.Zoned.{Zoned}
 use Rattle.gix_date.specs.Families.Answer.{FamilyAnswer, Relative}
 use Rattle.gix_date.specs.Families.Epoch.{epoch_time}
-use Rattle.gix_date.specs.Families.Order.{Family, AtText, RawText, Iso8601, Iso8601Strict, GitForm, RelativeText, family_answer_by, first_family_by, ParseOutcome}
+use Rattle.gix_date.specs.Families.Order.{Family, AtText, RawText, Iso8601, Iso8601Strict, GitForm, RelativeText, family_answer, first_family_by, ParseOutcome}
 use Rattle.gix_date.specs.Git.Forms.{git_time}
 use Rattle.gix_date.specs.Families.Raw.{OffsetRule, is_raw_offset, is_wide_offset, raw_time_by}
 use Rattle.gix_date.specs.Relative.Dates.{RelativeDate, relative_date}
@@ -12,7 +12,7 @@ use Rattle.gix_date.specs.declared.time.Time.{Time}
 
 -- A text that is raw by the rule is neither a bare epoch nor a Git text nor relative, and a bare epoch neither a Git
 -- text nor relative.
-pub record AreDisjointBy (rule : OffsetRule) (text : List ℕ) : Type 0 where
+pub record AreDisjoint (rule : OffsetRule) (text : List ℕ) : Type 0 where
   pub raw_epoch : (t : Time) → raw_time_by rule text ≡ Some t → epoch_time text ≡ None
   pub raw_git : (t : Time) → raw_time_by rule text ≡ Some t → git_time text ≡ None
   pub raw_relative : (t : Time) → raw_time_by rule text ≡ Some t → relative_date text ≡ None
@@ -20,11 +20,8 @@ pub record AreDisjointBy (rule : OffsetRule) (text : List ℕ) : Type 0 where
   pub epoch_relative : (t : Time) → epoch_time text ≡ Some t → relative_date text ≡ None
 
 -- a family holds the text
-abbrev pub HoldsBy : OffsetRule → Family → List ℕ → Type 0
-HoldsBy rule family text = is_some (family_answer_by rule family text) ≡ true
-
-abbrev pub Holds : Family → List ℕ → Type 0
-Holds = HoldsBy is_raw_offset
+abbrev pub Holds : OffsetRule → Family → List ℕ → Type 0
+Holds rule family text = is_some (family_answer rule family text) ≡ true
 
 -- two different families that share a text
 abbrev pub overlap : Family → Family → Bool
@@ -37,36 +34,36 @@ overlap RelativeText GitForm = true
 overlap _ _ = false
 
 -- a text of one family is of no other family that does not overlap with it
-abbrev pub AreExclusiveBy : OffsetRule → List ℕ → Type 0
-AreExclusiveBy rule text =
-    (a b : Family) → a ≢ b → overlap a b ≡ false → HoldsBy rule a text → family_answer_by rule b text ≡ None
+abbrev pub AreExclusive : OffsetRule → List ℕ → Type 0
+AreExclusive rule text =
+    (a b : Family) → a ≢ b → overlap a b ≡ false → Holds rule a text → family_answer rule b text ≡ None
 
 -- a text of both families
 pub record Overlap (a b : Family) : Type 0 where
   pub text : List ℕ
   pub is_text : IsUtf8 text
-  pub first : Holds a text
-  pub second : Holds b text
+  pub first : Holds is_raw_offset a text
+  pub second : Holds is_raw_offset b text
 
 abbrev pub AreOverlapping : Type 0
 AreOverlapping = (a b : Family) → overlap a b ≡ true → Overlap a b
 
 -- What a family answers of a text that it holds is the answer of the first family, where no earlier one that it
 -- overlaps with has an answer.
-pub record ComesFirstBy (rule : OffsetRule) (text : List ℕ) : Type 0 where
-  pub alone : (family : Family) → family ≢ GitForm → family ≢ RelativeText → HoldsBy rule family text
-      → first_family_by rule text ≡ family_answer_by rule family text
-  pub git : family_answer_by rule Iso8601 text ≡ None → family_answer_by rule Iso8601Strict text ≡ None
-      → HoldsBy rule GitForm text → first_family_by rule text ≡ family_answer_by rule GitForm text
-  pub relative : family_answer_by rule GitForm text ≡ None → HoldsBy rule RelativeText text
-      → first_family_by rule text ≡ family_answer_by rule RelativeText text
+pub record ComesFirst (rule : OffsetRule) (text : List ℕ) : Type 0 where
+  pub alone : (family : Family) → family ≢ GitForm → family ≢ RelativeText → Holds rule family text
+      → first_family_by rule text ≡ family_answer rule family text
+  pub git : family_answer rule Iso8601 text ≡ None → family_answer rule Iso8601Strict text ≡ None
+      → Holds rule GitForm text → first_family_by rule text ≡ family_answer rule GitForm text
+  pub relative : family_answer rule GitForm text ≡ None → Holds rule RelativeText text
+      → first_family_by rule text ≡ family_answer rule RelativeText text
   -- and it counts from a moment for relative texts alone
   pub counting : (date : RelativeDate) → first_family_by rule text ≡ Some (Relative date)
       → relative_date text ≡ Some date
 
 -- a call with this text comes to the same at every moment, and without one
-abbrev pub IgnoresMomentBy : OffsetRule → List ℕ → Type 0
-IgnoresMomentBy rule text = (now other : Option Zoned) (result : Result Time Error)
+abbrev pub IgnoresMoment : OffsetRule → List ℕ → Type 0
+IgnoresMoment rule text = (now other : Option Zoned) (result : Result Time Error)
     → ParseOutcome (first_family_by rule text) text now result
     → ParseOutcome (first_family_by rule text) text other result
 
@@ -77,17 +74,4 @@ pub record IsWidened (text : List ℕ) : Type 0 where
       → first_family_by is_wide_offset text ≡ Some answer
   pub more : (answer : FamilyAnswer) → first_family_by is_raw_offset text ≡ None
       → first_family_by is_wide_offset text ≡ Some answer
-      → HoldsBy is_wide_offset AtText text ⊎ HoldsBy is_wide_offset RawText text
-
--- the same where raw offsets are quarters of an hour
-abbrev pub AreDisjoint : List ℕ → Type 0
-AreDisjoint = AreDisjointBy is_raw_offset
-
-abbrev pub AreExclusive : List ℕ → Type 0
-AreExclusive = AreExclusiveBy is_raw_offset
-
-abbrev pub ComesFirst : List ℕ → Type 0
-ComesFirst = ComesFirstBy is_raw_offset
-
-abbrev pub IgnoresMoment : List ℕ → Type 0
-IgnoresMoment = IgnoresMomentBy is_raw_offset
+      → Holds is_wide_offset AtText text ⊎ Holds is_wide_offset RawText text

@@ -6,7 +6,7 @@ use Rattle.jiff.specs.declared.zoned.Zoned.{Zoned}
 use Rattle.gix_date.specs.Families.Answer.{FamilyAnswer, Absolute, OffsetBeyond, InstantBeyond, Relative}
 use Rattle.gix_date.specs.Families.Patterns.{short_answer, rfc2822_answer, iso8601_answer, iso8601_strict_answer, gitoxide_answer, default_answer}
 use Rattle.gix_date.specs.Families.Raw.{OffsetRule, is_raw_offset, raw_time_by}
-use Rattle.gix_date.specs.Families.Epoch.{at_time_by, epoch_time}
+use Rattle.gix_date.specs.Families.Epoch.{at_time, epoch_time}
 use Rattle.gix_date.specs.Git.Forms.{git_time}
 use Rattle.gix_date.specs.Relative.Dates.{relative_date, RelativeOutcome}
 use Rattle.gix_date.specs.declared.error.Error.{Error}
@@ -33,18 +33,18 @@ pub data Family : Type 0 where
   RawText : Family
 
 -- what a family answers of a text, where it holds it, by a rule for the offsets of raw texts
-abbrev pub family_answer_by : OffsetRule → Family → List ℕ → Option FamilyAnswer
-family_answer_by rule AtText text = option_map Absolute (at_time_by rule text)
-family_answer_by rule Short text = short_answer text
-family_answer_by rule Rfc2822 text = rfc2822_answer text
-family_answer_by rule Iso8601 text = iso8601_answer text
-family_answer_by rule Iso8601Strict text = iso8601_strict_answer text
-family_answer_by rule Gitoxide text = gitoxide_answer text
-family_answer_by rule GitDefault text = default_answer text
-family_answer_by rule BareEpoch text = option_map Absolute (epoch_time text)
-family_answer_by rule GitForm text = option_map Absolute (git_time text)
-family_answer_by rule RelativeText text = option_map Relative (relative_date text)
-family_answer_by rule RawText text = option_map Absolute (raw_time_by rule text)
+abbrev pub family_answer : OffsetRule → Family → List ℕ → Option FamilyAnswer
+family_answer rule AtText text = option_map Absolute (at_time rule text)
+family_answer rule Short text = short_answer text
+family_answer rule Rfc2822 text = rfc2822_answer text
+family_answer rule Iso8601 text = iso8601_answer text
+family_answer rule Iso8601Strict text = iso8601_strict_answer text
+family_answer rule Gitoxide text = gitoxide_answer text
+family_answer rule GitDefault text = default_answer text
+family_answer rule BareEpoch text = option_map Absolute (epoch_time text)
+family_answer rule GitForm text = option_map Absolute (git_time text)
+family_answer rule RelativeText text = option_map Relative (relative_date text)
+family_answer rule RawText text = option_map Absolute (raw_time_by rule text)
 
 -- the families before Git's own forms, and all of them, in the order in which they are asked
 abbrev pub families_before_git : List Family
@@ -59,26 +59,20 @@ first_answer_of [] = None
 first_answer_of (answer ∷ answers) = option_or answer (first_answer_of answers)
 
 -- what each family answers of a text, in their order
-abbrev pub family_answers_by : OffsetRule → List ℕ → List (Option FamilyAnswer)
-family_answers_by rule text = map (λ family. family_answer_by rule family text) families
+abbrev pub family_answers : OffsetRule → List ℕ → List (Option FamilyAnswer)
+family_answers rule text = map (λ family. family_answer rule family text) families
 
 -- the answer of the first family that holds the text
 unfoldable pub first_family_by : OffsetRule → List ℕ → Option FamilyAnswer
-first_family_by rule text = first_answer_of (family_answers_by rule text)
+first_family_by rule text = first_answer_of (family_answers rule text)
 
 -- what each family before Git's own forms answers
-abbrev pub answers_before_git_by : OffsetRule → List ℕ → List (Option FamilyAnswer)
-answers_before_git_by rule text = map (λ family. family_answer_by rule family text) families_before_git
+abbrev pub answers_before_git : OffsetRule → List ℕ → List (Option FamilyAnswer)
+answers_before_git rule text = map (λ family. family_answer rule family text) families_before_git
 
 -- the same where raw offsets are quarters of an hour
-abbrev pub family_answer : Family → List ℕ → Option FamilyAnswer
-family_answer = family_answer_by is_raw_offset
-
 abbrev pub first_family : List ℕ → Option FamilyAnswer
 first_family = first_family_by is_raw_offset
-
-abbrev pub answers_before_git : List ℕ → List (Option FamilyAnswer)
-answers_before_git = answers_before_git_by is_raw_offset
 
 -- the refusal of a text that no family holds, or out of memory for its copy
 abbrev pub RefusesUnknown : List ℕ → Error → Type 0

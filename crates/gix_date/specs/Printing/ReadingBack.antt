@@ -10,7 +10,7 @@ use Rattle.gix_date.specs.Printing.NamedTexts.{rfc2822_pattern, rfc2822_text, gi
 use Rattle.gix_date.specs.Families.Patterns.{max_date_offset}
 use Rattle.gix_date.specs.Printing.Formats.{PrintsBy}
 use Rattle.gix_date.specs.Printing.PrintedTimes.{IsPrintedAs}
-use Rattle.gix_date.specs.Families.Raw.{OffsetRule, is_raw_offset}
+use Rattle.gix_date.specs.Families.Raw.{OffsetRule}
 use Rattle.gix_date.specs.Printing.Zoned.{IsConvertible}
 use Rattle.gix_date.specs.declared.error.Error.{Error}
 use Rattle.gix_date.specs.declared.error.Error.TheVariants.{Memory}
@@ -24,25 +24,18 @@ pub record IsPlainTime (t : Time) : Type 0 where
 
 -- by the pattern the time is printed as this text of what its own clock shows, and the text is parsed back to it by the
 -- rule
-pub record IsReadBackBy (rule : OffsetRule) (pattern : List ℕ) (text : LocalTime → List ℕ) (t : Time) : Type 0 where
+pub record IsReadBack (rule : OffsetRule) (pattern : List ℕ) (text : LocalTime → List ℕ) (t : Time) : Type 0 where
   pub printed : IsPrintedAs pattern text t
   pub parsed : first_family_by rule (text (clock_of t)) ≡ Some (Absolute t)
 
 -- so by each of the six named formats that have a clock
-pub record AreReadBackBy (rule : OffsetRule) (t : Time) : Type 0 where
-  pub iso8601 : IsReadBackBy rule iso8601_pattern iso8601_text t
-  pub iso8601_strict : IsReadBackBy rule iso8601_strict_pattern iso8601_strict_text t
-  pub rfc2822 : IsReadBackBy rule rfc2822_pattern rfc2822_text t
-  pub git_rfc2822 : IsReadBackBy rule git_rfc2822_pattern git_rfc2822_text t
-  pub gitoxide : IsReadBackBy rule gitoxide_pattern gitoxide_text t
-  pub by_default : IsReadBackBy rule default_pattern default_text t
-
--- the same where raw offsets are quarters of an hour
-abbrev pub IsReadBack : List ℕ → (LocalTime → List ℕ) → Time → Type 0
-IsReadBack = IsReadBackBy is_raw_offset
-
-abbrev pub AreReadBack : Time → Type 0
-AreReadBack = AreReadBackBy is_raw_offset
+pub record AreReadBack (rule : OffsetRule) (t : Time) : Type 0 where
+  pub iso8601 : IsReadBack rule iso8601_pattern iso8601_text t
+  pub iso8601_strict : IsReadBack rule iso8601_strict_pattern iso8601_strict_text t
+  pub rfc2822 : IsReadBack rule rfc2822_pattern rfc2822_text t
+  pub git_rfc2822 : IsReadBack rule git_rfc2822_pattern git_rfc2822_text t
+  pub gitoxide : IsReadBack rule gitoxide_pattern gitoxide_text t
+  pub by_default : IsReadBack rule default_pattern default_text t
 
 -- the pattern of one of these six
 abbrev pub HasClock : List ℕ → Type 0
@@ -51,22 +44,15 @@ HasClock pattern =
     ⊎ (pattern ≡ git_rfc2822_pattern) ⊎ (pattern ≡ gitoxide_pattern) ⊎ (pattern ≡ default_pattern)
 
 -- a text that is parsed back to the time, or out of memory for it
-abbrev pub PrintsBackBy : OffsetRule → Time → Result (String Global) Error → Type 0
-PrintsBackBy rule t result =
+abbrev pub PrintsBack : OffsetRule → Time → Result (String Global) Error → Type 0
+PrintsBack rule t result =
     MatchResult result (λ text. first_family_by rule (string_bytes text) ≡ Some (Absolute t)) (λ e. e ≡ Memory)
 
 -- what printing the time by such a pattern comes to is such a text, or out of memory
-abbrev pub IsKeptBy : OffsetRule → Time → Type 0
-IsKeptBy rule t =
+abbrev pub IsKept : OffsetRule → Time → Type 0
+IsKept rule t =
     (pattern : List ℕ) (result : Result (String Global) Error) → HasClock pattern → PrintsBy t pattern result
-    → PrintsBackBy rule t result
-
--- the same where raw offsets are quarters of an hour
-abbrev pub PrintsBack : Time → Result (String Global) Error → Type 0
-PrintsBack = PrintsBackBy is_raw_offset
-
-abbrev pub IsKept : Time → Type 0
-IsKept = IsKeptBy is_raw_offset
+    → PrintsBack rule t result
 
 -- the offset of a raw text: whole quarters of an hour, short of 15 hours either way
 pub record IsRawOffset (offset : ℤ) : Type 0 where

@@ -50,21 +50,9 @@ letter_t = 84
 abbrev pub letter_z : ℕ
 letter_z = 90
 
--- `n`
-abbrev pub small_n : ℕ
-small_n = 110
-
 -- `s`
 abbrev pub small_s : ℕ
 small_s = 115
-
--- `t`
-abbrev pub small_t : ℕ
-small_t = 116
-
--- `y`
-abbrev pub small_y : ℕ
-small_y = 121
 
 abbrev pub is_space : ℕ → Bool
 is_space c = c == space

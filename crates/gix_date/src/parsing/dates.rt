@@ -1,14 +1,14 @@
 //! Dates: a whole text by the first family that holds it.
-ghost use Rattle.std.specs.Prelude.{◌≡◌, [], ◌∷◌, if◌then◌else◌, IfOk, IfSome, Some, None, option_map};
+ghost use Rattle.std.specs.Prelude.{◌≡◌, if◌then◌else◌, IfOk, IfSome, Some, None, option_map};
 ghost use Rattle.std.specs.Int.Signed.{le_z};
 ghost use Rattle.jiff.specs.Words.{IsOffsetSeconds};
-ghost use Rattle.gix_date.specs.Families.Answer.{Absolute};
-ghost use Rattle.gix_date.specs.Families.Epoch.{at_time_by, min_bare_epoch, utc_time};
-ghost use Rattle.gix_date.specs.Families.Order.{Rfc2822, Gitoxide, GitDefault, GitForm, RelativeText, RawText, family_answer, first_family, first_family_by, ParseOutcome, ParseNoAllocOutcome, RefusesWithCopy, RefusesUnknown, RefusesDate};
+ghost use Rattle.gix_date.specs.Families.Answer.{Absolute, Relative};
+ghost use Rattle.gix_date.specs.Families.Epoch.{at_time, min_bare_epoch, utc_time};
+ghost use Rattle.gix_date.specs.Families.Order.{AtText, RawText, family_answer, first_family, first_family_by, ParseOutcome, ParseNoAllocOutcome, RefusesWithCopy, RefusesUnknown, RefusesDate};
 ghost use Rattle.gix_date.specs.Families.Raw.{allows};
-ghost use Rattle.gix_date.specs.Families.Shapes.{first_among_by, shape_families};
-ghost use Rattle.gix_date.specs.Private.Shapes.{first_among};
-ghost use Rattle.gix_date.specs.declared.parsing.shape.Shape.TheVariants.{AtSign, WholeNumber, DashedDay, DottedDay, Letter, Other};
+ghost use Rattle.gix_date.specs.Families.Shapes.{first_among, shape_families};
+ghost use Rattle.gix_date.specs.Git.Forms.{git_time};
+ghost use Rattle.gix_date.specs.Relative.Dates.{relative_date};
 ghost use Rattle.gix_date.specs.Private.Views.{answer_of, HasJiffOffset};
 
 use crate::error::{Error, InputBytes, ParseError};
@@ -20,10 +20,7 @@ use crate::parsing::patterns::{parse_dashed, parse_named_day, parse_rfc2822};
 use crate::parsing::plain::parse_plain_number;
 use crate::parsing::raw::{RawOffsets, parse_plain_raw, parse_raw};
 use crate::parsing::relative::parse_relative;
-use crate::parsing::shape::{
-    Shape, begins_no_named_day, begins_with_count, begins_with_count_and_word, begins_with_year,
-    begins_without_comma,
-};
+use crate::parsing::shape::Shape;
 use crate::time::{SecondsSinceUnixEpoch, Time};
 use jiff::Zoned;
 use std::alloc::Global;
@@ -152,40 +149,37 @@ fn first_answer(input: &str, raw: RawOffsets) -> Option<Answer<'_>>
 }
 
 /// What the first of a shape's families says that holds the text.
+#[tactic(auto, unfolding(crate::specs::Families::Epoch::epoch_time))]
 fn answer_by_shape<'a>(shape: Shape, input: &'a str, raw: RawOffsets) -> Option<Answer<'a>>
-    ensures first { option_map answer_of result ≡ first_among_by (allows raw) (shape_families shape) input.now }
+    ensures first { option_map answer_of result ≡ first_among (allows raw) (shape_families shape) input.now }
     ensures offset_fits { IfSome result HasJiffOffset }
 {
     match shape {
-        Shape::AtSign => at_answer(input, raw),
-        Shape::WholeNumber => number_answer(input),
-        Shape::DashedDay => dashed_answer(input),
-        Shape::DottedDay => git_answer(input),
-        Shape::CompactDay => git_answer(input),
-        Shape::Letter => letter_answer(input),
-        Shape::Other => other_answer(input, raw),
+        Shape::AtSign => at_answer(input, raw).or_else(|| relative_answer(input)),
+        Shape::MailDay => parse_rfc2822(input).or_else(|| relative_answer(input)),
+        Shape::NamedDay => parse_named_day(input).or_else(|| relative_answer(input)),
+        Shape::Word => relative_answer(input),
+        Shape::DashedDay => parse_dashed(input)
+            .or_else(|| git_answer(input))
+            .or_else(|| relative_answer(input)),
+        Shape::GitDay => git_answer(input).or_else(|| relative_answer(input)),
+        Shape::Count => parse_rfc2822(input)
+            .or_else(|| relative_answer(input))
+            .or_else(|| raw_answer(input, raw)),
+        Shape::WholeNumber => epoch_answer(parse_int(input)?),
+        Shape::Other => git_answer(input)
+            .or_else(|| relative_answer(input))
+            .or_else(|| raw_answer(input, raw)),
     }
 }
 
-/// What a text says that begins with `@`.
+/// What an at text says.
+#[inline(always)]
 fn at_answer(input: &str, raw: RawOffsets) -> Option<Answer<'_>>
-    ensures first { option_map answer_of result ≡ first_among_by (allows raw) (shape_families AtSign) input.now }
+    ensures answer { option_map answer_of result ≡ family_answer (allows raw) AtText input.now }
     ensures offset_fits { IfSome result HasJiffOffset }
 {
-    if let Some(time) = parse_at(input, raw) {
-        return Some(Answer::Absolute(time));
-    }
-    relative_answer(input)
-}
-
-/// What a number says.
-#[tactic(auto, unfolding(crate::specs::Families::Epoch::epoch_time))]
-fn number_answer(input: &str) -> Option<Answer<'_>>
-    ensures first { option_map answer_of result ≡ first_among (shape_families WholeNumber) input.now }
-    ensures offset_fits { IfSome result HasJiffOffset }
-{
-    let seconds = parse_int(input)?;
-    epoch_answer(seconds)
+    Some(Answer::Absolute(parse_at(input, raw)?))
 }
 
 /// What so many seconds say as a bare epoch.
@@ -202,119 +196,31 @@ fn epoch_answer<'a>(seconds: SecondsSinceUnixEpoch) -> Option<Answer<'a>>
     }
 }
 
-/// What a text says that begins with a day written with `-`.
-fn dashed_answer(input: &str) -> Option<Answer<'_>>
-    ensures first { option_map answer_of result ≡ first_among (shape_families DashedDay) input.now }
-    ensures offset_fits { IfSome result HasJiffOffset }
-{
-    if let Some(answer) = parse_dashed(input) {
-        return Some(answer);
-    }
-    git_answer(input)
-}
-
-/// What a text says that begins with a day as in one of Git's own forms.
+/// What one of Git's own forms says.
+#[inline(always)]
 fn git_answer(input: &str) -> Option<Answer<'_>>
-    ensures first { option_map answer_of result ≡ first_among (shape_families DottedDay) input.now }
+    ensures answer { option_map answer_of result ≡ option_map Absolute (git_time input.now) }
     ensures offset_fits { IfSome result HasJiffOffset }
 {
-    if let Some(time) = parse_git(input) {
-        return Some(Answer::Absolute(time));
-    }
-    relative_answer(input)
-}
-
-/// What a text says that begins with a letter. Without its comma it is no mail date.
-fn letter_answer(input: &str) -> Option<Answer<'_>>
-    ensures first { option_map answer_of result ≡ first_among (shape_families Letter) input.now }
-    ensures offset_fits { IfSome result HasJiffOffset }
-{
-    if begins_without_comma(input.as_bytes()) {
-        return named_answer(input);
-    }
-    if let Some(answer) = parse_rfc2822(input) {
-        return Some(answer);
-    }
-    named_answer(input)
-}
-
-/// What a text says that begins with a letter and is no mail date. With no two names first it is relative, if anything.
-fn named_answer(input: &str) -> Option<Answer<'_>>
-    ensures first { option_map answer_of result ≡ first_among (Gitoxide ∷ GitDefault ∷ RelativeText ∷ []) input.now }
-    ensures offset_fits { IfSome result HasJiffOffset }
-{
-    if begins_no_named_day(input.as_bytes()) {
-        return relative_answer(input);
-    }
-    if let Some(answer) = parse_named_day(input) {
-        return Some(answer);
-    }
-    relative_answer(input)
-}
-
-/// What a text of no other shape says. A day alone and both ISO 8601 forms begin with a year and `-`; of the other
-/// families here mail and raw texts do not.
-fn other_answer(input: &str, raw: RawOffsets) -> Option<Answer<'_>>
-    ensures first { option_map answer_of result ≡ first_among_by (allows raw) (shape_families Other) input.now }
-    ensures offset_fits { IfSome result HasJiffOffset }
-{
-    if begins_with_year(input.as_bytes()) {
-        return dashed_answer(input);
-    }
-    undated_answer(input, raw)
-}
-
-/// What a text of no other shape says that does not begin with a year and `-`. One that begins with a count and a word
-/// that is longer than a month's name is no mail date.
-fn undated_answer(input: &str, raw: RawOffsets) -> Option<Answer<'_>>
-    ensures first { option_map answer_of result
-        ≡ first_among_by (allows raw) (Rfc2822 ∷ GitForm ∷ RelativeText ∷ RawText ∷ []) input.now }
-    ensures offset_fits { IfSome result HasJiffOffset }
-{
-    if begins_with_count_and_word(input.as_bytes()) {
-        return unmailed_answer(input, raw);
-    }
-    if let Some(answer) = parse_rfc2822(input) {
-        return Some(answer);
-    }
-    unmailed_answer(input, raw)
-}
-
-/// What a text of no other shape says that is no mail date either, and does not begin with a year and `-`.
-fn unmailed_answer(input: &str, raw: RawOffsets) -> Option<Answer<'_>>
-    ensures first { option_map answer_of result
-        ≡ first_among_by (allows raw) (GitForm ∷ RelativeText ∷ RawText ∷ []) input.now }
-    ensures offset_fits { IfSome result HasJiffOffset }
-{
-    if let Some(answer) = count_answer(input) {
-        return Some(answer);
-    }
-    if let Some(time) = parse_raw(input, raw) {
-        return Some(Answer::Absolute(time));
-    }
-    None
-}
-
-/// What one of Git's own forms says, or else a relative text. After a count and a space stands none of the former.
-fn count_answer(input: &str) -> Option<Answer<'_>>
-    ensures first { option_map answer_of result ≡ first_among (GitForm ∷ RelativeText ∷ []) input.now }
-    ensures offset_fits { IfSome result HasJiffOffset }
-{
-    if begins_with_count(input.as_bytes()) {
-        return relative_answer(input);
-    }
-    git_answer(input)
+    Some(Answer::Absolute(parse_git(input)?))
 }
 
 /// What a relative text says.
+#[inline(always)]
 fn relative_answer(input: &str) -> Option<Answer<'_>>
-    ensures first { option_map answer_of result ≡ family_answer RelativeText input.now }
+    ensures answer { option_map answer_of result ≡ option_map Relative (relative_date input.now) }
     ensures offset_fits { IfSome result HasJiffOffset }
 {
-    if let Some(date) = parse_relative(input) {
-        return Some(Answer::Relative(date));
-    }
-    None
+    Some(Answer::Relative(parse_relative(input)?))
+}
+
+/// What a raw text says.
+#[inline(always)]
+fn raw_answer(input: &str, raw: RawOffsets) -> Option<Answer<'_>>
+    ensures answer { option_map answer_of result ≡ family_answer (allows raw) RawText input.now }
+    ensures offset_fits { IfSome result HasJiffOffset }
+{
+    Some(Answer::Absolute(parse_raw(input, raw)?))
 }
 
 /// The refusal of a text that no family holds.
@@ -338,9 +244,9 @@ fn date_conversion(alloc: Global, input: &str) -> Error
 }
 
 /// The time of an at text. Most have digits alone, which are no raw text.
-#[tactic(auto, unfolding(crate::specs::Families::Epoch::at_time_by))]
+#[tactic(auto, unfolding(crate::specs::Families::Epoch::at_time))]
 fn parse_at(input: &str, raw: RawOffsets) -> Option<Time>
-    ensures time { result ≡ at_time_by (allows raw) input.now }
+    ensures time { result ≡ at_time (allows raw) input.now }
     ensures offset_fits { IfSome result (λ t. IsOffsetSeconds t.offset) }
 {
     let text = skip_char('@', input)?;

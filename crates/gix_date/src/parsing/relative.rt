@@ -1,10 +1,9 @@
 //! Relative texts: `yesterday`, `2 weeks ago`, `1 month 2 days ago`.
 ghost use Rattle.std.specs.Prelude.{◌≡◌, pos, IfOk, IfSome, option_map};
-ghost use Rattle.std.specs.Str.{trim};
 ghost use Rattle.gix_date.specs.Printing.Zoned.{whole_seconds};
 ghost use Rattle.jiff.specs.Words.{zoned_nanos, fixed_zone, offset_at, KeepsZone, IsOffsetSeconds};
 ghost use Rattle.gix_date.specs.Relative.Dates.{named_date, relative_date, RelativeOutcome, Reaches};
-ghost use Rattle.gix_date.specs.Private.Names.{begins_no_name, IsNamedIfAny};
+ghost use Rattle.gix_date.specs.Private.Names.{IsNamedIfAny};
 ghost use Rattle.gix_date.specs.Private.Views.{relative_date_of};
 ghost use Rattle.gix_date.specs.Private.RelativePairs.{pairs_read};
 ghost use Rattle.gix_date.specs.Relative.Steps.{zone_of, Chain};
@@ -40,36 +39,13 @@ pub(crate) enum Relative<'a> {
 pub(crate) fn parse_relative(input: &str) -> Option<Relative<'_>>
     ensures { option_map relative_date_of result ≡ relative_date input.now }
 {
-    if let Some(date) = parse_name(input) {
+    if let Some(date) = parse_named(input.trim()) {
         return Some(date);
     }
     if are_pairs(input) {
         return Some(Relative::Pairs(input));
     }
     None
-}
-
-/// What a name alone asks for. Most texts begin with a byte that begins none.
-fn parse_name(input: &str) -> Option<Relative<'static>>
-    ensures { option_map relative_date_of result ≡ named_date (trim input.now) }
-{
-    if begins_no_name(input.as_bytes()) {
-        return None;
-    }
-    parse_named(input.trim())
-}
-
-#[tactic(auto, unfolding(crate::specs::Private::Names::begins_no_name))]
-fn begins_no_name(text: &[u8]) -> bool
-    ensures { result ≡ begins_no_name text.now }
-{
-    match text {
-        [first, ..] => {
-            let lower = first.to_ascii_lowercase();
-            first.is_ascii_alphanumeric() && lower != b'n' && lower != b't' && lower != b'y'
-        }
-        _ => false,
-    }
 }
 
 /// What a name asks for.

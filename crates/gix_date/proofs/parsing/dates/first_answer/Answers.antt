@@ -1,7 +1,7 @@
 use Rattle.std.proofs.Common.{rules, ◌∙◌, ap, sym, FitsSigned, w64}
 use Rattle.std.proofs.lemmas.Int.{to_z-of_z}
 use Rattle.gix_date.specs.Families.Raw.{allows}
-use Rattle.gix_date.specs.Families.Shapes.{first_among_by, shape_families}
+use Rattle.gix_date.specs.Families.Shapes.{first_among, shape_families}
 use Rattle.gix_date.specs.declared.parsing.shape.Shape.{Shape}
 use Rattle.gix_date.proofs.Exclusive.{raw-first-family}
 use Rattle.gix_date.proofs.Shapes.{is-dispatched, number-first}
@@ -21,5 +21,5 @@ pub returns-clause-first : goal.returns-clause-first
 returns-clause-first c =
     let text = c.args.input.now in
     c.answer_by_shape.ensures.first
-    ∙ ap (λ (shape : Shape). first_among_by (allows c.args.raw) (shape_families shape) text) c.of.ensures
+    ∙ ap (λ (shape : Shape). first_among (allows c.args.raw) (shape_families shape) text) c.of.ensures
     ∙ sym (is-dispatched (allows c.args.raw) text c.utf8.input)

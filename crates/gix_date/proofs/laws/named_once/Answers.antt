@@ -1,5 +1,0 @@
-use Rattle.gix_date.proofs.Chains.{named-once}
-use Rattle.gix_date.proofs.laws.named_once.Goals as goal
-
-pub returns : goal.returns
-returns c = named-once

@@ -1,9 +1,0 @@
-use Rattle.gix_date.specs.Families.Raw.{is_wide_offset}
-use Rattle.gix_date.proofs.PrintedBack.{are-read-back, is-kept}
-use Rattle.gix_date.proofs.laws.read_back_wide.Goals as goal
-
-pub returns : goal.returns
-returns c = record {
-  formats = are-read-back is_wide_offset c.args.time c.requires.plain;
-  texts = is-kept is_wide_offset c.args.time c.requires.plain;
-}

@@ -1,0 +1,100 @@
+//! Laws of what is printed: the named formats, their texts, and what is parsed back.
+ghost use Rattle.std.specs.Prelude.{◌≡◌, ◌↔◌, ◌≤◌, ◌≤ℤ◌, ℤ, map, [], ◌∷◌, IsSomeAnd, Some};
+ghost use Rattle.gix_date.specs.Families.Answer.{Absolute};
+ghost use Rattle.gix_date.specs.Families.Epoch.{utc_time, min_bare_epoch};
+ghost use Rattle.gix_date.specs.Text.Numbers.{decimal_text};
+ghost use Rattle.gix_date.specs.Families.Order.{first_family, first_family_by};
+ghost use Rattle.gix_date.specs.Header.Text.{header_text};
+ghost use Rattle.gix_date.specs.Families.Raw.{is_raw_offset, is_wide_offset};
+ghost use Rattle.gix_date.specs.declared.time.format.Format.TheVariants.{Unix, Raw};
+ghost use Rattle.jiff.specs.Words.{plain_zoned};
+ghost use Rattle.jiff.specs.declared.zoned.Zoned.{Zoned as Moment};
+ghost use Rattle.gix_date.specs.Printing.LocalClocks.{clock_of, HasOrdinaryClock};
+ghost use Rattle.gix_date.specs.Printing.ReadingBack.{IsPlainTime, AreReadBack, IsKept, IsRawOffset, IsWideOffset};
+ghost use Rattle.gix_date.specs.Printing.Zoned.{IsMoment};
+ghost use Rattle.gix_date.specs.Printing.PrintedTimes.{IsPrintedAs};
+ghost use Rattle.gix_date.specs.Printing.NamedTexts.{local_time, IsOrdinary, short_pattern, short_text, rfc2822_pattern, rfc2822_text, git_rfc2822_pattern, git_rfc2822_text, iso8601_pattern, iso8601_text, iso8601_strict_pattern, iso8601_strict_text, gitoxide_pattern, gitoxide_text, default_pattern, default_text};
+
+use crate::time::Time;
+use crate::time::format::{
+    CustomFormat, DEFAULT, Format, GIT_RFC2822, GITOXIDE, ISO8601, ISO8601_STRICT, RAW, RFC2822,
+    SHORT, UNIX,
+};
+
+/// The formats that are patterns are these seven, in the order of their names here: short, RFC 2822, the same as Git
+/// prints it, ISO 8601, strict ISO 8601, gitoxide's and Git's default.
+pub fn named_formats() -> [CustomFormat; 7]
+    ensures { map (λ f. f.pattern.now) result
+        ≡ short_pattern ∷ rfc2822_pattern ∷ git_rfc2822_pattern ∷ iso8601_pattern ∷ iso8601_strict_pattern
+        ∷ gitoxide_pattern ∷ default_pattern ∷ [] }
+{
+    [
+        SHORT,
+        RFC2822,
+        GIT_RFC2822,
+        ISO8601,
+        ISO8601_STRICT,
+        GITOXIDE,
+        DEFAULT,
+    ]
+}
+
+/// The formats that are no patterns: seconds, and the text of a commit header.
+pub fn other_formats() -> [Format; 2]
+    ensures { result ≡ Unix ∷ Raw ∷ [] }
+{
+    [UNIX, RAW]
+}
+
+/// What the own clock of a time shows, by computing from its seconds and its offset, is what each of its moments shows.
+/// It is ordinary, with a year from 1000 to 9999 and an offset of whole minutes, exactly where these moments are.
+pub fn local_clock(time: Time)
+    ensures shown { (moment : Moment) → IsMoment time moment → local_time (plain_zoned moment) ≡ clock_of time }
+    ensures ordinary { (moment : Moment) → IsMoment time moment
+        → IsOrdinary (plain_zoned moment) ↔ HasOrdinaryClock time }
+{}
+
+/// By the named formats that are patterns a time whose own clock shows a year from 1000 to 9999, and whose offset is
+/// whole minutes, is printed so, by what that clock shows; the printer refuses none of them.
+pub fn printed(time: Time)
+    ensures short { IsPrintedAs short_pattern short_text time }
+    ensures rfc2822 { IsPrintedAs rfc2822_pattern rfc2822_text time }
+    ensures git_rfc2822 { IsPrintedAs git_rfc2822_pattern git_rfc2822_text time }
+    ensures iso8601 { IsPrintedAs iso8601_pattern iso8601_text time }
+    ensures iso8601_strict { IsPrintedAs iso8601_strict_pattern iso8601_strict_text time }
+    ensures gitoxide { IsPrintedAs gitoxide_pattern gitoxide_text time }
+    ensures by_default { IsPrintedAs default_pattern default_text time }
+{}
+
+/// What a named format with a clock prints of a time is parsed back to it, whatever moment is handed in, or none: where
+/// the time converts, its own clock shows a year from 1000 to 9999, and its offset is whole minutes within 23:59.
+pub fn read_back(time: Time)
+    requires plain { IsPlainTime time }
+    ensures formats { AreReadBack is_raw_offset time }
+    ensures texts { IsKept is_raw_offset time }
+{}
+
+/// The same of [`parse_with`], where raw texts have offsets of whole minutes up to 23:59.
+pub fn read_back_wide(time: Time)
+    requires plain { IsPlainTime time }
+    ensures formats { AreReadBack is_wide_offset time }
+    ensures texts { IsKept is_wide_offset time }
+{}
+
+/// The header text of a time whose offset is quarters of an hour up to 14:45 is parsed back to it, and the decimal text
+/// of seconds from 100000000 on to these seconds with offset 0: whatever moment is handed in, or none.
+pub fn raw_read_back(time: Time)
+    ensures header { IsRawOffset time.offset
+        → IsSomeAnd (header_text time) (λ text. first_family text ≡ Some (Absolute time)) }
+    ensures seconds { min_bare_epoch ≤ℤ time.seconds
+        → first_family (decimal_text time.seconds) ≡ Some (Absolute (utc_time time.seconds)) }
+{}
+
+/// By [`parse_with`], where raw texts have offsets of whole minutes up to 23:59, the header text of each time with such
+/// an offset is parsed back to it, and the decimal text of seconds as by [`raw_read_back`].
+pub fn raw_read_back_wide(time: Time)
+    ensures header { IsWideOffset time.offset
+        → IsSomeAnd (header_text time) (λ text. first_family_by is_wide_offset text ≡ Some (Absolute time)) }
+    ensures seconds { min_bare_epoch ≤ℤ time.seconds
+        → first_family_by is_wide_offset (decimal_text time.seconds) ≡ Some (Absolute (utc_time time.seconds)) }
+{}

@@ -1,0 +1,84 @@
+//! Laws of values: constants, limits, clones, equality, order and hash, and white space.
+ghost use Rattle.std.specs.Prelude.{◌≡◌, ◌↔◌, ◌++◌, pos, neg_ℤ, length, IfSome, IsTrue};
+ghost use Rattle.std.specs.declared.cmp.Ordering.TheVariants.{Equal};
+ghost use Rattle.std.specs.Hash as fed;
+ghost use Rattle.std.specs.Ordering.{int_cmp, on, then_cmp};
+ghost use Rattle.gix_date.specs.Families.Epoch.{min_bare_epoch};
+ghost use Rattle.gix_date.specs.Header.Text.{header_text, hundred_hours, max_text_len};
+ghost use Rattle.gix_date.specs.Families.Raw.{max_raw_hours, max_wide_hours, max_wide_minutes};
+ghost use Rattle.gix_date.specs.Text.SpaceWords.{StdWhiteSpaceIsUnicodes};
+ghost use Rattle.gix_date.specs.Devices.TimeBuf.{text_in};
+ghost use Rattle.gix_date.specs.Families.Patterns.{max_date_offset};
+
+use crate::error::ParseError;
+use crate::parsing::TimeBuf;
+use crate::parsing::raw::RawOffsets;
+use crate::time::Time;
+use crate::time::format::{CustomFormat, Format};
+use std::hash::Hash;
+
+/// The two constants are the seconds and offsets that they are said to be.
+pub fn constants()
+    ensures max { Time.MAX ≡ record { seconds = pos 9_223_372_036_854_775_807; offset = pos 359_999 } }
+    ensures min { Time.MIN ≡ record { seconds = neg_ℤ (pos 9_223_372_036_854_775_808); offset = neg_ℤ (pos 359_999) } }
+{}
+
+/// The limits that contracts name are the numbers that the documents say, and the longest text is that of the least
+/// time.
+pub fn limits()
+    ensures min_bare_epoch { min_bare_epoch ≡ pos 100_000_000 }
+    ensures max_raw_hours { max_raw_hours ≡ 14 }
+    ensures max_wide_hours { max_wide_hours ≡ 23 }
+    ensures max_wide_minutes { max_wide_minutes ≡ 59 }
+    ensures max_date_offset { max_date_offset ≡ 86_340 }
+    ensures offset_without_text { hundred_hours ≡ 360_000 }
+    ensures max_text_len { max_text_len ≡ 26 }
+    ensures text_of_min { IfSome (header_text Time.MIN) (λ text. length text ≡ max_text_len) }
+{}
+
+/// A clone of a time, a rule for raw offsets, a refusal without its text, a format or a pattern is that value, a clone
+/// of a buffer holds the same text, and none can fail.
+pub fn clones()
+    ensures time { (a b : Time) → ⟦<Time as Clone>⟧.is_clone a b → b ≡ a }
+    ensures time_succeeds { (a : Time) → ⟦<Time as Clone>⟧.is_infallible a }
+    ensures buffer { (a b : TimeBuf) → ⟦<TimeBuf as Clone>⟧.is_clone a b → text_in b ≡ text_in a }
+    ensures buffer_succeeds { (a : TimeBuf) → ⟦<TimeBuf as Clone>⟧.is_infallible a }
+    ensures rule { (a b : RawOffsets) → ⟦<RawOffsets as Clone>⟧.is_clone a b → b ≡ a }
+    ensures rule_succeeds { (a : RawOffsets) → ⟦<RawOffsets as Clone>⟧.is_infallible a }
+    ensures refusal { (a b : ParseError) → ⟦<ParseError as Clone>⟧.is_clone a b → b ≡ a }
+    ensures refusal_succeeds { (a : ParseError) → ⟦<ParseError as Clone>⟧.is_infallible a }
+    ensures format { (a b : Format) → ⟦<Format as Clone>⟧.is_clone a b → b ≡ a }
+    ensures format_succeeds { (a : Format) → ⟦<Format as Clone>⟧.is_infallible a }
+    ensures pattern { (a b : CustomFormat) → ⟦<CustomFormat as Clone>⟧.is_clone a b → b ≡ a }
+    ensures pattern_succeeds { (a : CustomFormat) → ⟦<CustomFormat as Clone>⟧.is_infallible a }
+{}
+
+/// Times are in order of their seconds, and at the same seconds of their offset; those that are equal in this order are
+/// equal by `==`.
+pub fn order()
+    ensures by_parts { (a b : Time)
+        → ⟦<Time as Ord>⟧.cmp a b ≡ then_cmp (on (λ t. t.seconds) int_cmp) (on (λ t. t.offset) int_cmp) a b }
+    ensures agrees { (a b : Time) → (⟦<Time as Ord>⟧.cmp a b ≡ Equal) ↔ IsTrue (⟦<Time as PartialEq>⟧.eq a b) }
+{}
+
+/// Times are equal by `==` where both numbers are the same, and nowhere else; rules for raw offsets, and refusals
+/// without their text, where they are the same.
+pub fn equality()
+    ensures time { (a b : Time) → IsTrue (⟦<Time as PartialEq>⟧.eq a b) ↔ (a ≡ b) }
+    ensures rule { (a b : RawOffsets) → IsTrue (⟦<RawOffsets as PartialEq>⟧.eq a b) ↔ (a ≡ b) }
+    ensures refusal { (a b : ParseError) → IsTrue (⟦<ParseError as PartialEq>⟧.eq a b) ↔ (a ≡ b) }
+{}
+
+/// A time feeds a hasher its seconds and then its offset, so that equal times hash alike.
+pub fn hash()
+    ensures input { (a : Time) → ⟦<Time as Hash>⟧.hash_input a ≡ fed.i64 a.seconds ++ fed.i32 a.offset }
+    ensures alike { (a b : Time) → IsTrue (⟦<Time as PartialEq>⟧.eq a b)
+        → ⟦<Time as Hash>⟧.hash_input a ≡ ⟦<Time as Hash>⟧.hash_input b }
+{}
+
+/// The white space between words, which is that of the standard library, is Unicode's White_Space: these characters and
+/// no other.
+#[tactic(auto, using(crate::proofs::WhiteSpace::is_whitespace_listed))]
+pub fn white_space()
+    ensures { StdWhiteSpaceIsUnicodes }
+{}
