@@ -1,5 +1,5 @@
--- For each family of a shape a text of that shape that it alone holds of them, so that no family of a shape can be left
--- out; and the shape of texts on both sides of each test.
+-- For each family of a shape, a text of that shape that no other family of the shape holds. So no family of a shape can
+-- be left out. After them texts on both sides of each test, and their shapes.
 use Rattle.std.proofs.Common.{◌≡◌, refl, true, Bool, List, ℕ, [], ◌∷◌, filter, map, None}
 use Rattle.std.specs.List.{list_any}
 use Rattle.std.specs.Prelude.{◌==◌, codes, not}
@@ -12,12 +12,12 @@ use Rattle.gix_date.specs.declared.parsing.shape.Shape.{Shape}
 use Rattle.gix_date.specs.declared.parsing.shape.Shape.TheVariants.{AtSign, MailDay, NamedDay, Word, DashedDay, GitDay, Count, WholeNumber, Other}
 use Rattle.gix_date.proofs.Exclusive.{place}
 
--- all that a text needs to see computed
+-- the definitions that a row computes
 pub shaping : Type 0
 unfolding computing shape_of letter_shape begins_with_at begins_with_letter begins_with_year begins_with_dotted_day begins_with_compact_day begins_with_count
 shaping = Unit {0}
 
--- a family stands among those of a shape
+-- the family is one of the shape's
 abbrev is_tried : Shape → Family → Bool
 is_tried shape family = list_any (λ other. place other == place family) (shape_families shape)
 

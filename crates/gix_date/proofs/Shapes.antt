@@ -1,4 +1,4 @@
--- The first family of a text is the first of its shape's: no other family holds a text of that shape, or an earlier one.
+-- The first family that holds a text is one of its shape's: no other family holds a text of that shape.
 use Rattle.std.proofs.Common.{◌≡◌, ◌∙◌, ℕ, ℤ, Bool, true, false, cond, List, [], ◌∷◌, ◌++◌, drop, refl, ap, sym, subst, arith, append_assoc, Option, Some, None, is_some, option_map, inl, inr, ◌⊎◌, IsUtf8}
 use Rattle.std.proofs.lemmas.Bool.{and_parts as both}
 use Rattle.std.proofs.lemmas.Bool.Decides.{nat_tests}
@@ -30,7 +30,7 @@ use Rattle.gix_date.proofs.PlainHeaders.{AreNumberBytes, is_number_byte, int-num
 use Rattle.gix_date.proofs.QuietDates.{quiet-int}
 use Rattle.gix_date.proofs.QuietWords.{no-relative}
 
--- What a text is not by each of the tests that it does not pass.
+-- Which families do not hold a text, by each test of its front that it fails.
 no-at : (rule : OffsetRule) (text : List ℕ) → begins_with_at text ≡ false → at_time rule text ≡ None
 unfolding at_time begins_with_at skip_char
 no-at rule [] h = refl
@@ -66,7 +66,7 @@ no-epoch : (text : List ℕ) → int_value text ≡ None → epoch_time text ≡
 unfolding epoch_time
 no-epoch text h = rw h refl
 
--- A text that begins with a visible byte that is in no number.
+-- A text is no number, no Git text and no raw text if its first byte is visible, and neither a digit nor a sign.
 record NoNumber (rule : OffsetRule) (text : List ℕ) : Type 0 where
   pub epoch : epoch_time text ≡ None
   pub git : git_time text ≡ None
@@ -98,7 +98,7 @@ at-dispatched rule (c ∷ rest) u h =
         let number = no-number rule at_sign rest u refl refl refl in
         rw (plain.short, plain.iso8601, plain.strict, no-mail-first text refl refl, names.gitoxide, names.by_default, number.epoch, number.git, number.raw) refl
 
--- A text that begins with a letter, by its fourth byte.
+-- A text that begins with a letter: its fourth byte decides which dates it can be.
 weekday-or : (text : List ℕ) → (skip_weekday text ≡ None) ⊎ (skip_weekday text ≡ Some (drop 3 text))
 unfolding skip_weekday read_name
 weekday-or [] = inl refl
@@ -186,7 +186,7 @@ letter-dispatched rule (a ∷ b ∷ c ∷ d ∷ rest) l = by (d == comma) (d == 
     by false true e f = named-dispatched rule text l (rw e refl)
     by false false e f = word-dispatched rule text l (rw e refl) f
 
--- A text that begins with a year, and not with digits alone.
+-- A text that begins with a year is no mail date, number or raw text if a visible byte ends its first digits.
 record AfterYear (rule : OffsetRule) (text : List ℕ) : Type 0 where
   pub mail : rfc2822_answer text ≡ None
   pub epoch : epoch_time text ≡ None
@@ -285,7 +285,7 @@ int-no-raw rule text n i = none-unless (raw_time_by rule text) (λ t e. (
     cc
     ))
 
--- A text with a count and a space first is no Git text and no number, and a mail date has them or a letter first.
+-- A text that begins with a count and a space is no Git text and no number. A mail date begins so, or with a letter.
 record CountFirst (text : List ℕ) : Type 0 where
   pub git : git_time text ≡ None
   pub int : int_value text ≡ None
@@ -337,7 +337,7 @@ no-mail text l c = none-unless (rfc2822_answer text) (λ answer a. (
         let no : true ≡ false = sym (letter-so text (subst (Begins is_ascii_alphabetic) (sym split) (begins-append is_ascii_alphabetic named.name (comma ∷ (named.gap ++ more)) (name-begins named.name named.is_name.0)))) ∙ l in
         cc
 
--- A number alone.
+-- A number alone is a bare epoch, or no family holds it.
 no-count : (text : List ℕ) (n : ℤ) → IsUtf8 text → int_value text ≡ Some n → (b : Bool) → begins_with_count text ≡ b → b ≡ false
 no-count text n u e true h = let no : None ≡ Some n = sym (count-first text u h).int ∙ e in absurd cc
 no-count text n u e false h = refl
@@ -365,7 +365,7 @@ int-dispatched rule text n u e =
     let git : git_time text ≡ None = none-unless (git_time text) (λ t h. no-git text u (int-first text n e) t h) in
     rw (no-at rule text (number-no-at text bytes), dates.short, mail, dates.iso8601, dates.strict, names.gitoxide, names.by_default, git, no-relative text u (quiet-int text n e), int-no-raw rule text n e) refl
 
--- Each shape by the tests that lead to it.
+-- Each shape, by the tests of `shape_of` in their order.
 pub is-dispatched : (rule : OffsetRule) (text : List ℕ) → IsUtf8 text → IsDispatched rule text
 unfolding shape_of first_family_by
 is-dispatched rule text u =
@@ -406,7 +406,7 @@ number-first rule text n u e = int-dispatched rule text n u e ∙ rw e (by (le_z
     by true = refl
     by false = refl
 
--- an at text of a number alone
+-- the time of an at text that is a number after its `@`
 pub at-int : (rule : OffsetRule) (text rest : List ℕ) (n : ℤ) → skip_char at_sign text ≡ Some rest → int_value rest ≡ Some n
     → at_time rule text ≡ Some (utc_time n)
 unfolding at_time

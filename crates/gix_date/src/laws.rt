@@ -1,4 +1,4 @@
-//! Laws, each the contract of a function that does nothing.
+//! Laws: each is the contract of a function. Only [`headline`] and [`headline_with`] do anything when they run.
 ghost use Rattle.gix_date.specs.Families.Order.{first_family, first_family_by, ParseOutcome};
 ghost use Rattle.gix_date.specs.Families.Laws.{AreDisjoint};
 ghost use Rattle.gix_date.specs.Header.Laws.{CanonicalComesBack};
@@ -31,14 +31,14 @@ mod values;
 
 /// The whole promise, in four parts.
 ///
-/// - For every text, moment and zone handed in, [`parse`] gives the answer or refusal of the first family in its list
-///   that holds the text; this function hands on what `parse` gives.
-/// - Raw texts, bare epochs and Git's own forms exclude one another, and none of the first two is relative.
-/// - Reading a header and writing it returns exactly the canonical texts.
-/// - The texts of the six named formats that have a clock are parsed back, where the time converts, its own clock shows
-///   a year from 1000 to 9999, and its offset is whole minutes within 23:59.
+/// - For every text, moment and zone, [`parse`] gives the answer or refusal of the first family in its list that holds
+///   the text. This function returns what `parse` gives.
+/// - Raw texts, bare epochs and Git's own forms exclude one another. No raw text or bare epoch is relative.
+/// - Reading a header and writing it gives the same text exactly where the text is canonical.
+/// - The texts of the six named formats with a clock are parsed back to the time. The time has to convert, its own
+///   clock to show a year from 1000 to 9999, and its offset to be whole minutes within 23:59.
 ///
-/// Refusals of memory aside, and in writing the writer's faults. The parts are the contract of `parse` and the laws
+/// This holds unless memory runs out or the writer fails. The parts are the contract of `parse` and the laws
 /// [`disjoint`], [`canonical`] and [`read_back`].
 pub fn headline(alloc: Global, text: &str, now: Option<Zoned<'_>>) -> Result<Time, Error>
     ensures first_family { ParseOutcome (first_family text.now) text.now now.entry result }
@@ -51,8 +51,8 @@ pub fn headline(alloc: Global, text: &str, now: Option<Zoned<'_>>) -> Result<Tim
     parse(alloc, text, now)
 }
 
-/// The whole promise of [`parse_with`], by either rule for the offsets of raw texts: that of [`headline`], with the
-/// texts that are raw by this rule.
+/// The whole promise of [`parse_with`], by either rule for the offsets of raw texts. It is that of [`headline`], for
+/// the texts that are raw by this rule.
 pub fn headline_with(
     alloc: Global,
     text: &str,

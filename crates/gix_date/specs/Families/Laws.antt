@@ -48,8 +48,8 @@ pub record Overlap (a b : Family) : Type 0 where
 abbrev pub AreOverlapping : Type 0
 AreOverlapping = (a b : Family) → overlap a b ≡ true → Overlap a b
 
--- What a family answers of a text that it holds is the answer of the first family, where no earlier one that it
--- overlaps with has an answer.
+-- The answer of a family that holds the text is that of the first family. For two families, those that they overlap
+-- with and that come earlier may have no answer.
 pub record ComesFirst (rule : OffsetRule) (text : List ℕ) : Type 0 where
   pub alone : (family : Family) → family ≢ GitForm → family ≢ RelativeText → Holds rule family text
       → first_family_by rule text ≡ family_answer rule family text
@@ -57,18 +57,18 @@ pub record ComesFirst (rule : OffsetRule) (text : List ℕ) : Type 0 where
       → Holds rule GitForm text → first_family_by rule text ≡ family_answer rule GitForm text
   pub relative : family_answer rule GitForm text ≡ None → Holds rule RelativeText text
       → first_family_by rule text ≡ family_answer rule RelativeText text
-  -- and it counts from a moment for relative texts alone
+  -- only for a relative text is the answer a relative date
   pub counting : (date : RelativeDate) → first_family_by rule text ≡ Some (Relative date)
       → relative_date text ≡ Some date
 
--- a call with this text comes to the same at every moment, and without one
+-- what a call with this text may result in at one moment, it may result in at every other and without one
 abbrev pub IgnoresMoment : OffsetRule → List ℕ → Type 0
 IgnoresMoment rule text = (now other : Option Zoned) (result : Result Time Error)
     → ParseOutcome (first_family_by rule text) text now result
     → ParseOutcome (first_family_by rule text) text other result
 
--- what is read by quarters of an hour is read alike by whole minutes, and what is read by these alone is a raw text or
--- an at text
+-- An answer by quarters of an hour is the answer by whole minutes too. A text that has one by whole minutes alone is a
+-- raw text or an at text.
 pub record IsWidened (text : List ℕ) : Type 0 where
   pub alike : (answer : FamilyAnswer) → first_family_by is_raw_offset text ≡ Some answer
       → first_family_by is_wide_offset text ≡ Some answer

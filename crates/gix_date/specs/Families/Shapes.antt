@@ -42,7 +42,7 @@ unfoldable pub begins_with_letter : List ℕ → Bool
 begins_with_letter [] = false
 begins_with_letter (c ∷ rest) = is_ascii_alphabetic c
 
--- the text has three bytes or more, and begins with a number of one or two digits and a space
+-- the text has three bytes or more, and begins with one or two digits and a space
 unfoldable pub begins_with_count : List ℕ → Bool
 begins_with_count (a ∷ b ∷ c ∷ rest) = is_ascii_digit a && (b == space || is_ascii_digit b && c == space)
 begins_with_count _ = false
@@ -76,10 +76,10 @@ shape_families Count = Rfc2822 ∷ RelativeText ∷ RawText ∷ []
 shape_families WholeNumber = BareEpoch ∷ []
 shape_families Other = GitForm ∷ RelativeText ∷ RawText ∷ []
 
--- what the first of these families answers that holds the text
+-- the answer of the first of these families that holds the text
 abbrev pub first_among : OffsetRule → List Family → List ℕ → Option FamilyAnswer
 first_among rule list text = first_answer_of (map (λ family. family_answer rule family text) list)
 
--- the first family that holds the text is the first of its shape's families that does
+-- the first family that holds the text is the first of its shape's families that holds it
 abbrev pub IsDispatched : OffsetRule → List ℕ → Type 0
 IsDispatched rule text = first_family_by rule text ≡ first_among rule (shape_families (shape_of text)) text

@@ -9,8 +9,8 @@ ghost use Rattle.gix_date.specs.Families.Patterns.{short_layout, rfc2822_layout,
 
 use crate::parsing::raw::RawOffsets;
 
-/// A formatted date is its pieces, one after the other: what a family of them answers is what the pieces say, and a
-/// text that is so written is of that family.
+/// A formatted date is a sequence of pieces. Its family answers what the pieces say, and holds each text that is
+/// written so.
 #[tactic(auto, using(crate::proofs::Layouts::dates_spelled))]
 pub fn spelled()
     ensures day { Spells short_answer (IsAnswered short_layout real_day_answer) }
@@ -21,12 +21,13 @@ pub fn spelled()
     ensures by_default { Spells default_answer (IsAnswered default_layout time_answer) }
 {}
 
-/// No text is of two of the families that stand before Git's own forms, by whatever rule for the offsets of raw texts.
+/// No text is of two of the families before Git's own forms, by any rule for the offsets of raw texts.
 pub fn apart()
     ensures { (rule : OffsetRule) (text : List ℕ) → length (filter is_some (answers_before_git rule text)) ≤ 1 }
 {}
 
-/// No text is of two of these families: raw, a bare epoch, and Git's own forms. None of the first two is relative.
+/// No text is of two of these families: raw texts, bare epochs and Git's own forms. No raw text or bare epoch is
+/// relative.
 pub fn disjoint(text: &str)
     ensures { AreDisjoint is_raw_offset text.now }
 {}
@@ -36,41 +37,41 @@ pub fn disjoint_wide(text: &str)
     ensures { AreDisjoint is_wide_offset text.now }
 {}
 
-/// No text is of two of the families that [`parse_with`] asks, by either rule for the offsets of raw texts, but of ISO
-/// 8601 or its strict form and Git's own forms, and of Git's own forms and relative texts (`overlap`): what one of two
-/// others holds is refused by the other.
+/// What one family holds, each family that does not overlap with it refuses, by either rule for the offsets of raw
+/// texts. Two pairs overlap (`overlap`): ISO 8601 or its strict form with Git's own forms, and Git's own forms with
+/// relative texts.
 pub fn exclusive(text: &str, raw: RawOffsets)
     ensures { AreExclusive (allows raw) text.now }
 {}
 
-/// The families that are said to overlap do so: each two have a text that both hold.
+/// Each two families that overlap have a text that both hold.
 pub fn overlapping()
     ensures { AreOverlapping }
 {}
 
-/// What a family answers of a text is what [`parse_with`] goes by, by either rule. For a Git text this is so where
-/// neither ISO 8601 nor its strict form holds it, and for a relative one where no Git form does; no text of the other
-/// families is of an earlier one. And [`parse_with`] counts from a moment for relative texts alone.
+/// The answer of a family that holds the text is the one that `parse_with` uses, by either rule. For a Git text neither
+/// ISO 8601 nor its strict form may hold it. For a relative text no Git form may. Only for a relative text does the
+/// result depend on the moment.
 pub fn comes_first(text: &str, raw: RawOffsets)
     ensures { ComesFirst (allows raw) text.now }
 {}
 
-/// What [`parse`] reads, or refuses by name, is the same to [`parse_with`] by whole minutes; and what is of some family
-/// by that rule alone is a raw text, or an at text with one.
+/// What the first family answers by the rule of `parse`, it answers by whole minutes too. A text that has an answer by
+/// whole minutes alone is a raw text or an at text.
 pub fn widened(text: &str)
     ensures { IsWidened text.now }
 {}
 
-/// What [`parse_with`] goes by, by either rule, is what the first family of a text's shape answers that holds it: the
-/// shape is told by its first bytes, or of a number by the whole text (`shape_of`), and only a few families can hold a
-/// text of each (`shape_families`).
+/// The first family that holds a text is also the first that holds it among the families of its shape, by either rule.
+/// The first bytes decide the shape, or for a number the whole text (`shape_of`). Few families can hold a text of each
+/// shape (`shape_families`).
 pub fn dispatched(text: &str, raw: RawOffsets)
     ensures { IsDispatched (allows raw) text.now }
 {}
 
-/// What [`parse_with`] may answer at one moment, by either rule, it may answer at every other, and without one, for
-/// each text that is not relative, such as a raw text and a bare epoch, and for one of Git's own forms even where it
-/// is.
+/// What `parse_with` may answer at one moment it may answer at every other and without one, by either rule. This holds
+/// for each text that is not relative, such as a raw text or a bare epoch. It also holds for each text in one of Git's
+/// own forms.
 pub fn ignores_moment(text: &str, raw: RawOffsets)
     ensures plain { relative_date text.now ≡ None → IgnoresMoment (allows raw) text.now }
     ensures raw { Holds (allows raw) RawText text.now → IgnoresMoment (allows raw) text.now }

@@ -21,8 +21,8 @@ use crate::time::format::{
     SHORT, UNIX,
 };
 
-/// The formats that are patterns are these seven, in the order of their names here: short, RFC 2822, the same as Git
-/// prints it, ISO 8601, strict ISO 8601, gitoxide's and Git's default.
+/// The seven named formats that are patterns: short, RFC 2822, RFC 2822 as Git prints it, ISO 8601, strict ISO 8601,
+/// gitoxide's and Git's default.
 pub fn named_formats() -> [CustomFormat; 7]
     ensures { map (λ f. f.pattern.now) result
         ≡ short_pattern ∷ rfc2822_pattern ∷ git_rfc2822_pattern ∷ iso8601_pattern ∷ iso8601_strict_pattern
@@ -39,23 +39,23 @@ pub fn named_formats() -> [CustomFormat; 7]
     ]
 }
 
-/// The formats that are no patterns: seconds, and the text of a commit header.
+/// The two formats that are not patterns: seconds, and the text of a commit header.
 pub fn other_formats() -> [Format; 2]
     ensures { result ≡ Unix ∷ Raw ∷ [] }
 {
     [UNIX, RAW]
 }
 
-/// What the own clock of a time shows, by computing from its seconds and its offset, is what each of its moments shows.
-/// It is ordinary, with a year from 1000 to 9999 and an offset of whole minutes, exactly where these moments are.
+/// What a time's own clock shows, computed from its seconds and its offset, is what each of its moments shows. The
+/// clock is ordinary exactly where these moments are: a year from 1000 to 9999, and an offset of whole minutes.
 pub fn local_clock(time: Time)
     ensures shown { (moment : Moment) → IsMoment time moment → local_time (plain_zoned moment) ≡ clock_of time }
     ensures ordinary { (moment : Moment) → IsMoment time moment
         → IsOrdinary (plain_zoned moment) ↔ HasOrdinaryClock time }
 {}
 
-/// By the named formats that are patterns a time whose own clock shows a year from 1000 to 9999, and whose offset is
-/// whole minutes, is printed so, by what that clock shows; the printer refuses none of them.
+/// Each named pattern prints what the time's own clock shows, where that is a year from 1000 to 9999 and the offset is
+/// whole minutes. The printer refuses no such time.
 pub fn printed(time: Time)
     ensures short { IsPrintedAs short_pattern short_text time }
     ensures rfc2822 { IsPrintedAs rfc2822_pattern rfc2822_text time }
@@ -66,23 +66,23 @@ pub fn printed(time: Time)
     ensures by_default { IsPrintedAs default_pattern default_text time }
 {}
 
-/// What a named format with a clock prints of a time is parsed back to it, whatever moment is handed in, or none: where
-/// the time converts, its own clock shows a year from 1000 to 9999, and its offset is whole minutes within 23:59.
+/// What a named format with a clock prints of a time is parsed back to it, at every moment and without one. The time
+/// has to convert, its own clock to show a year from 1000 to 9999, and its offset to be whole minutes within 23:59.
 pub fn read_back(time: Time)
     requires plain { IsPlainTime time }
     ensures formats { AreReadBack is_raw_offset time }
     ensures texts { IsKept is_raw_offset time }
 {}
 
-/// The same of [`parse_with`], where raw texts have offsets of whole minutes up to 23:59.
+/// The same of `parse_with`, where raw texts have offsets of whole minutes up to 23:59.
 pub fn read_back_wide(time: Time)
     requires plain { IsPlainTime time }
     ensures formats { AreReadBack is_wide_offset time }
     ensures texts { IsKept is_wide_offset time }
 {}
 
-/// The header text of a time whose offset is quarters of an hour up to 14:45 is parsed back to it, and the decimal text
-/// of seconds from 100000000 on to these seconds with offset 0: whatever moment is handed in, or none.
+/// The header text of a time whose offset is quarters of an hour up to 14:45 is parsed back to it. The decimal text of
+/// seconds from 100000000 on is parsed back to these seconds with offset 0. Both hold at every moment and without one.
 pub fn raw_read_back(time: Time)
     ensures header { IsRawOffset time.offset
         → IsSomeAnd (header_text time) (λ text. first_family text ≡ Some (Absolute time)) }
@@ -90,8 +90,7 @@ pub fn raw_read_back(time: Time)
         → first_family (decimal_text time.seconds) ≡ Some (Absolute (utc_time time.seconds)) }
 {}
 
-/// By [`parse_with`], where raw texts have offsets of whole minutes up to 23:59, the header text of each time with such
-/// an offset is parsed back to it, and the decimal text of seconds as by [`raw_read_back`].
+/// The same of `parse_with`, for header texts whose offset is whole minutes up to 23:59.
 pub fn raw_read_back_wide(time: Time)
     ensures header { IsWideOffset time.offset
         → IsSomeAnd (header_text time) (λ text. first_family_by is_wide_offset text ≡ Some (Absolute time)) }

@@ -12,21 +12,21 @@ ghost use Rattle.jiff.specs.declared.zoned.Zoned.{Zoned as Moment};
 use crate::time::Time;
 use jiff::Zoned;
 
-/// A relative date names one time at most, from each moment.
+/// A relative date names at most one time from each moment.
 pub fn named_once()
     ensures { (date : RelativeDate) (moment : Moment) (a b : Time)
         → IsNamed date moment a → IsNamed date moment b → a ≡ b }
 {}
 
-/// In a zone of fixed offset `yesterday` and one pair of a day name the same instant, or neither names one.
+/// In a zone of fixed offset `yesterday` and one pair of a day name the same instant, or neither names an instant.
 pub fn yesterday(moment: &Zoned<'_>)
     requires fixed { IsFixedZone (zone_of moment.now) }
     ensures { NamesAlike moment.now (Before (pos 86_400)) (less_seconds ((pos 1, pos 86_400) ∷ [])) }
 {}
 
-/// In a zone of fixed offset pairs of seconds name the moment less their sum, where an `i64` holds each product and
-/// that is an instant, and nothing else; so their order is no matter. In a zone whose clock goes back a pair may do
-/// more than take seconds off.
+/// In a zone of fixed offset pairs of seconds name the moment less their sum. An `i64` has to hold each product, and
+/// the result has to be an instant. They name nothing else, so their order does not matter. In a zone whose clock goes
+/// back a pair may do more than subtract seconds.
 pub fn seconds_permute(moment: &Zoned<'_>, pairs: &[(i64, i64)])
     requires fixed { IsFixedZone (zone_of moment.now) }
     requires pairs { All IsSecondsPair pairs.now }
@@ -36,8 +36,8 @@ pub fn seconds_permute(moment: &Zoned<'_>, pairs: &[(i64, i64)])
         → NamesAlike moment.now (less_seconds pairs.now) (less_seconds other) }
 {}
 
-/// In a zone of fixed offset, from a day of the month up to the 28th, pairs of months name what one pair of their sum
-/// names, or neither names an instant. From a later day the months between may be too short for it.
+/// In a zone of fixed offset pairs of months name what one pair of their sum names, or neither names an instant. This
+/// needs a day of the month up to the 28th: for a later one a month between may be too short.
 pub fn months_add(moment: &Zoned<'_>, pairs: &[(i64, i64)])
     requires fixed { IsFixedZone (zone_of moment.now) }
     requires pairs { All IsMonthsPair pairs.now }
@@ -46,8 +46,8 @@ pub fn months_add(moment: &Zoned<'_>, pairs: &[(i64, i64)])
     ensures { NamesAlike moment.now (less_months pairs.now) (less_months ((total pairs.now, pos 1) ∷ [])) }
 {}
 
-/// From a time, at its offset, `yesterday` and pairs of seconds name the time so many seconds earlier at the same
-/// offset, where that has an instant, and nothing else.
+/// From a time, at its offset, `yesterday` and pairs of seconds name the time that many seconds earlier at the same
+/// offset. This is where that time has an instant, and they name nothing else.
 pub fn earlier(time: Time, pairs: &[(i64, i64)])
     requires { All IsSecondsPair pairs.now }
     ensures yesterday { NamesEarlier (Before (pos 86_400)) time (pos 86_400) }

@@ -17,14 +17,13 @@ use crate::time::Time;
 use crate::time::format::{CustomFormat, Format};
 use std::hash::Hash;
 
-/// The two constants are the seconds and offsets that they are said to be.
+/// The seconds and offsets of the two constants.
 pub fn constants()
     ensures max { Time.MAX ≡ record { seconds = pos 9_223_372_036_854_775_807; offset = pos 359_999 } }
     ensures min { Time.MIN ≡ record { seconds = neg_ℤ (pos 9_223_372_036_854_775_808); offset = neg_ℤ (pos 359_999) } }
 {}
 
-/// The limits that contracts name are the numbers that the documents say, and the longest text is that of the least
-/// time.
+/// The limits that contracts name, as numbers. The least time has the longest header text.
 pub fn limits()
     ensures min_bare_epoch { min_bare_epoch ≡ pos 100_000_000 }
     ensures max_raw_hours { max_raw_hours ≡ 14 }
@@ -36,8 +35,8 @@ pub fn limits()
     ensures text_of_min { IfSome (header_text Time.MIN) (λ text. length text ≡ max_text_len) }
 {}
 
-/// A clone of a time, a rule for raw offsets, a refusal without its text, a format or a pattern is that value, a clone
-/// of a buffer holds the same text, and none can fail.
+/// A clone of a time, a rule for raw offsets, a `ParseError`, a format or a pattern is that value. A clone of a buffer
+/// holds the same text. No clone fails.
 pub fn clones()
     ensures time { (a b : Time) → ⟦<Time as Clone>⟧.is_clone a b → b ≡ a }
     ensures time_succeeds { (a : Time) → ⟦<Time as Clone>⟧.is_infallible a }
@@ -53,31 +52,31 @@ pub fn clones()
     ensures pattern_succeeds { (a : CustomFormat) → ⟦<CustomFormat as Clone>⟧.is_infallible a }
 {}
 
-/// Times are in order of their seconds, and at the same seconds of their offset; those that are equal in this order are
-/// equal by `==`.
+/// Times are ordered by their seconds, and then by their offset. Two times are equal in this order exactly where `==`
+/// holds.
 pub fn order()
     ensures by_parts { (a b : Time)
         → ⟦<Time as Ord>⟧.cmp a b ≡ then_cmp (on (λ t. t.seconds) int_cmp) (on (λ t. t.offset) int_cmp) a b }
     ensures agrees { (a b : Time) → (⟦<Time as Ord>⟧.cmp a b ≡ Equal) ↔ IsTrue (⟦<Time as PartialEq>⟧.eq a b) }
 {}
 
-/// Times are equal by `==` where both numbers are the same, and nowhere else; rules for raw offsets, and refusals
-/// without their text, where they are the same.
+/// Times are equal by `==` exactly where both numbers are the same. The same is so of rules for raw offsets and of
+/// `ParseError`s.
 pub fn equality()
     ensures time { (a b : Time) → IsTrue (⟦<Time as PartialEq>⟧.eq a b) ↔ (a ≡ b) }
     ensures rule { (a b : RawOffsets) → IsTrue (⟦<RawOffsets as PartialEq>⟧.eq a b) ↔ (a ≡ b) }
     ensures refusal { (a b : ParseError) → IsTrue (⟦<ParseError as PartialEq>⟧.eq a b) ↔ (a ≡ b) }
 {}
 
-/// A time feeds a hasher its seconds and then its offset, so that equal times hash alike.
+/// A time feeds a hasher its seconds and then its offset. So equal times hash alike.
 pub fn hash()
     ensures input { (a : Time) → ⟦<Time as Hash>⟧.hash_input a ≡ fed.i64 a.seconds ++ fed.i32 a.offset }
     ensures alike { (a b : Time) → IsTrue (⟦<Time as PartialEq>⟧.eq a b)
         → ⟦<Time as Hash>⟧.hash_input a ≡ ⟦<Time as Hash>⟧.hash_input b }
 {}
 
-/// The white space between words, which is that of the standard library, is Unicode's White_Space: these characters and
-/// no other.
+/// The white space between words is that of the standard library, which is Unicode's White_Space: these characters and
+/// no others.
 #[tactic(auto, using(crate::proofs::WhiteSpace::is_whitespace_listed))]
 pub fn white_space()
     ensures { StdWhiteSpaceIsUnicodes }

@@ -133,8 +133,8 @@ fn with_copy(alloc: Global, input: &str, refusal: ParseError) -> Error
     }
 }
 
-/// What the first family says that holds the text. A text that is raw as nearly all are is of no other family, and a
-/// number is a bare epoch or none.
+/// The answer of the first family that holds the text. Raw texts and numbers in their usual form come first, since no
+/// other family holds them.
 fn first_answer(input: &str, raw: RawOffsets) -> Option<Answer<'_>>
     ensures first { option_map answer_of result ≡ first_family_by (allows raw) input.now }
     ensures offset_fits { IfSome result HasJiffOffset }
@@ -148,7 +148,8 @@ fn first_answer(input: &str, raw: RawOffsets) -> Option<Answer<'_>>
     answer_by_shape(Shape::of(input), input, raw)
 }
 
-/// What the first of a shape's families says that holds the text.
+/// The answer of the first of a shape's families that holds the text. Each arm asks the families of `shape_families` in
+/// their order, and nothing below it chooses again.
 #[tactic(auto, unfolding(crate::specs::Families::Epoch::epoch_time))]
 fn answer_by_shape<'a>(shape: Shape, input: &'a str, raw: RawOffsets) -> Option<Answer<'a>>
     ensures first { option_map answer_of result ≡ first_among (allows raw) (shape_families shape) input.now }
@@ -173,7 +174,7 @@ fn answer_by_shape<'a>(shape: Shape, input: &'a str, raw: RawOffsets) -> Option<
     }
 }
 
-/// What an at text says.
+/// The answer of the family of at texts.
 #[inline(always)]
 fn at_answer(input: &str, raw: RawOffsets) -> Option<Answer<'_>>
     ensures answer { option_map answer_of result ≡ family_answer (allows raw) AtText input.now }
@@ -182,7 +183,7 @@ fn at_answer(input: &str, raw: RawOffsets) -> Option<Answer<'_>>
     Some(Answer::Absolute(parse_at(input, raw)?))
 }
 
-/// What so many seconds say as a bare epoch.
+/// The answer of the family of bare epochs for this number.
 #[inline(always)]
 fn epoch_answer<'a>(seconds: SecondsSinceUnixEpoch) -> Option<Answer<'a>>
     ensures first { option_map answer_of result
@@ -196,7 +197,7 @@ fn epoch_answer<'a>(seconds: SecondsSinceUnixEpoch) -> Option<Answer<'a>>
     }
 }
 
-/// What one of Git's own forms says.
+/// The answer of the family of Git's own forms.
 #[inline(always)]
 fn git_answer(input: &str) -> Option<Answer<'_>>
     ensures answer { option_map answer_of result ≡ option_map Absolute (git_time input.now) }
@@ -205,7 +206,7 @@ fn git_answer(input: &str) -> Option<Answer<'_>>
     Some(Answer::Absolute(parse_git(input)?))
 }
 
-/// What a relative text says.
+/// The answer of the family of relative texts.
 #[inline(always)]
 fn relative_answer(input: &str) -> Option<Answer<'_>>
     ensures answer { option_map answer_of result ≡ option_map Relative (relative_date input.now) }
@@ -214,7 +215,7 @@ fn relative_answer(input: &str) -> Option<Answer<'_>>
     Some(Answer::Relative(parse_relative(input)?))
 }
 
-/// What a raw text says.
+/// The answer of the family of raw texts.
 #[inline(always)]
 fn raw_answer(input: &str, raw: RawOffsets) -> Option<Answer<'_>>
     ensures answer { option_map answer_of result ≡ family_answer (allows raw) RawText input.now }
@@ -243,7 +244,7 @@ fn date_conversion(alloc: Global, input: &str) -> Error
     }
 }
 
-/// The time of an at text. Most have digits alone, which are no raw text.
+/// The time of an at text. Its usual forms come first: a raw text in its plain form, and digits alone.
 #[tactic(auto, unfolding(crate::specs::Families::Epoch::at_time))]
 fn parse_at(input: &str, raw: RawOffsets) -> Option<Time>
     ensures time { result ≡ at_time (allows raw) input.now }

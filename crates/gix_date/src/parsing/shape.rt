@@ -1,29 +1,29 @@
-//! The shapes of texts, which tell the families that can hold a text.
+//! The shape of a text, which decides the families that are asked for it.
 ghost use Rattle.std.specs.Prelude.{◌≡◌};
 ghost use Rattle.gix_date.specs.Families.Shapes.{begins_with_at, are_two_digits, are_four_digits, begins_with_year, begins_with_dotted_day, begins_with_compact_day, begins_with_letter, begins_with_count, letter_shape, shape_of};
 
 use crate::parsing::numbers::parse_int;
 
-/// The shape of a text, by its first bytes, or for a number by the whole text.
+/// The shape of a text: the first of these that it has. The first bytes decide it, or for a number the whole text.
 #[derive(Clone, Copy)]
 pub(crate) enum Shape {
-    /// `@` first.
+    /// Begins with `@`.
     AtSign,
-    /// An ASCII letter first, and a comma as the fourth byte, `Thu,`.
+    /// Begins with an ASCII letter, and its fourth byte is a comma: `Thu,`.
     MailDay,
-    /// An ASCII letter first, and a space as the fourth byte, `Thu Aug`.
+    /// Begins with an ASCII letter, and its fourth byte is a space: `Thu Aug`.
     NamedDay,
-    /// An ASCII letter first, and neither of these.
+    /// Begins with an ASCII letter, and has neither there.
     Word,
-    /// `2018-` first, with any digits.
+    /// Begins with four digits and `-`: `2018-`.
     DashedDay,
-    /// `2018.12.` or `20181224T` first, with any digits.
+    /// Begins with four digits, `.`, two digits and `.`, or with eight digits and `T`: `2018.12.`, `20181224T`.
     GitDay,
-    /// A number of one or two digits first, a space and another byte, `2 w`.
+    /// Has three bytes or more, and begins with one or two digits and a space: `2 w`.
     Count,
-    /// A number that an `i64` holds, alone: a sign or none, and digits.
+    /// Is an int text: digits with a sign or without, whose number an `i64` holds.
     WholeNumber,
-    /// Any other text, as the empty one.
+    /// Any other text, such as the empty one.
     Other,
 }
 
@@ -130,8 +130,8 @@ fn begins_with_compact_day(text: &[u8]) -> bool
     }
 }
 
-/// Whether a text of three bytes or more begins with a number of one or two digits and a space, as `2 weeks ago` does
-/// and no form of Git's.
+/// Whether a text of three bytes or more begins with one or two digits and a space, as `2 weeks ago` does. No form of
+/// Git's own begins so.
 #[tactic(auto, unfolding(crate::specs::Families::Shapes::begins_with_count))]
 #[inline(always)]
 fn begins_with_count(text: &[u8]) -> bool
