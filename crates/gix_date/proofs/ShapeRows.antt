@@ -7,14 +7,14 @@ use Rattle.gix_date.specs.Computing.{computing}
 use Rattle.gix_date.specs.Families.Order.{Family, AtText, Short, Rfc2822, Iso8601, Iso8601Strict, Gitoxide, GitDefault, BareEpoch, GitForm, RelativeText, RawText}
 use Rattle.gix_date.specs.Families.Laws.{Holds}
 use Rattle.gix_date.specs.Families.Raw.{is_raw_offset}
-use Rattle.gix_date.specs.Families.Shapes.{begins_with_at, begins_with_letter, begins_with_year, begins_with_dotted_day, begins_with_compact_day, begins_with_count, letter_shape, shape_of, shape_families, first_among}
+use Rattle.gix_date.specs.Families.Shapes.{begins_with_at, begins_with_letter, begins_with_year, begins_with_dashed_day, begins_with_dotted_day, begins_with_compact_day, begins_with_count, letter_shape, shape_of, shape_families, first_among, row_families}
 use Rattle.gix_date.specs.declared.parsing.shape.Shape.{Shape}
 use Rattle.gix_date.specs.declared.parsing.shape.Shape.TheVariants.{AtSign, MailDay, NamedDay, Word, DashedDay, GitDay, Count, WholeNumber, Other}
 use Rattle.gix_date.proofs.Exclusive.{place}
 
 -- the definitions that a row computes
 pub shaping : Type 0
-unfolding computing shape_of letter_shape begins_with_at begins_with_letter begins_with_year begins_with_dotted_day begins_with_compact_day begins_with_count
+unfolding computing shape_of letter_shape row_families begins_with_at begins_with_letter begins_with_year begins_with_dashed_day begins_with_dotted_day begins_with_compact_day begins_with_count
 shaping = Unit {0}
 
 -- the family is one of the shape's
@@ -132,3 +132,20 @@ named-days = refl
 no-letters : map shape_of (codes "" ∷ codes "[" ∷ codes "`" ∷ codes "{" ∷ codes " a" ∷ codes ",a" ∷ []) ≡ Other ∷ Other ∷ Other ∷ Other ∷ Other ∷ Other ∷ []
 unfolding shaping
 no-letters = refl
+
+-- The seven rows: a text of each, and the families that it has.
+each-row : map row_families (codes "@5 days ago" ∷ codes "100000000" ∷ codes "2018-12-24" ∷ codes "2008.02.14 20:30:45 -0500" ∷ codes "20080214T20" ∷ codes "last week" ∷ codes "18 Aug 2022 12:45:06 +0800" ∷ [])
+    ≡ (AtText ∷ RelativeText ∷ []) ∷ (BareEpoch ∷ []) ∷ (Short ∷ Iso8601 ∷ Iso8601Strict ∷ GitForm ∷ RelativeText ∷ []) ∷ (GitForm ∷ RelativeText ∷ [])
+    ∷ (GitForm ∷ RelativeText ∷ []) ∷ (Rfc2822 ∷ Gitoxide ∷ GitDefault ∷ RelativeText ∷ [])
+    ∷ (Short ∷ Rfc2822 ∷ Iso8601 ∷ Iso8601Strict ∷ GitForm ∷ RelativeText ∷ RawText ∷ []) ∷ []
+unfolding shaping
+each-row = refl
+
+-- texts of the last row, which nearly are of one before it
+last-row : List Family
+last-row = Short ∷ Rfc2822 ∷ Iso8601 ∷ Iso8601Strict ∷ GitForm ∷ RelativeText ∷ RawText ∷ []
+
+nearly-rows : map row_families ([] ∷ codes " @5" ∷ codes "5 " ∷ codes "2018-1-2" ∷ codes "2018.1.2" ∷ codes "2018-12" ∷ codes "20181224 " ∷ [])
+    ≡ last-row ∷ last-row ∷ last-row ∷ last-row ∷ last-row ∷ last-row ∷ last-row ∷ []
+unfolding shaping last-row
+nearly-rows = refl

@@ -8,7 +8,7 @@ use Rattle.std.specs.Int.Signed.{le_z}
 use Rattle.std.specs.Option.{option_or}
 use Rattle.gix_date.specs.Families.Answer.{Absolute}
 use Rattle.gix_date.specs.Text.Characters.{at_sign, comma, minus, dot, space, is_space, letter_t}
-use Rattle.gix_date.specs.Families.Order.{first_family_by}
+use Rattle.gix_date.specs.Families.Order.{AtText, Short, Rfc2822, Iso8601, Iso8601Strict, Gitoxide, GitDefault, BareEpoch, GitForm, RelativeText, RawText, first_family_by}
 use Rattle.gix_date.specs.Fields.DateFields.{is_weekday, read_name, read_plain_date, skip_day_name, skip_weekday}
 use Rattle.gix_date.specs.Fields.FieldTexts.{IsField, IsYear, AreSpaces, IsMonthName, IsDayPrefix}
 use Rattle.gix_date.specs.Fields.Front.{skip_char}
@@ -17,7 +17,7 @@ use Rattle.gix_date.specs.Families.Patterns.{rfc2822_answer, gitoxide_answer, de
 use Rattle.gix_date.specs.Families.Epoch.{at_time, epoch_time, min_bare_epoch, utc_time}
 use Rattle.gix_date.specs.Git.Forms.{git_time}
 use Rattle.gix_date.specs.Families.Raw.{OffsetRule, raw_time_by}
-use Rattle.gix_date.specs.Families.Shapes.{are_two_digits, are_four_digits, begins_with_at, begins_with_letter, begins_with_year, begins_with_dotted_day, begins_with_compact_day, begins_with_count, letter_shape, shape_of, shape_families, first_among, IsDispatched}
+use Rattle.gix_date.specs.Families.Shapes.{are_two_digits, are_four_digits, begins_with_at, begins_with_letter, begins_with_year, begins_with_dashed_day, begins_with_dotted_day, begins_with_compact_day, begins_with_count, letter_shape, shape_of, shape_families, first_among, IsDispatched, row_families, IsInItsRow}
 use Rattle.gix_date.specs.declared.parsing.shape.Shape.TheVariants.{AtSign, MailDay, NamedDay, Word, DashedDay, GitDay, Count, WholeNumber, Other}
 use Rattle.gix_date.proofs.Apart.{NoPlainDate, NoDayFirst, no-day, no-field, no-mail-first, no-mail-year, no-plain, no-spaces, no-weekday, no-year}
 use Rattle.gix_date.proofs.Disjoint.{GitFront, year-front, compact-year, raw-words, none-unless, int-digits, int-first, no-git, front-digits, letter_visible}
@@ -396,6 +396,88 @@ is-dispatched rule text u =
         let names = no-names text el in
         let dates = no-dates text ey in
         rw (no-at rule text ea, dates.short, no-mail text el ec, dates.iso8601, dates.strict, names.gitoxide, names.by_default, no-epoch text ei) refl
+
+-- The seven rows, by their tests. A day in one of them begins with a digit, and with `-` after the year or with another byte.
+record DayFirst (year : Bool) (text : List ℕ) : Type 0 where
+  pub letter : begins_with_letter text ≡ false
+  pub marked : begins_with_year text ≡ year
+
+digit-no-letter : (c : ℕ) → is_ascii_digit c ≡ true → is_ascii_alphabetic c ≡ false
+digit-no-letter c h = grind (arith, nat_tests, h)
+
+day-first : (a b c d mark : ℕ) (rest : List ℕ) (year : Bool) → are_four_digits a b c d ≡ true → (mark == minus) ≡ year
+    → DayFirst year (a ∷ b ∷ c ∷ d ∷ mark ∷ rest)
+unfolding begins_with_letter begins_with_year
+day-first a b c d mark rest year h m = record { letter = digit-no-letter a (four-are a b c d h).0; marked = rw (h, m) refl }
+
+dot-no-minus : (c : ℕ) → (c == dot) ≡ true → (c == minus) ≡ false
+dot-no-minus c h = grind (arith, nat_tests, h)
+
+digit-no-minus : (c : ℕ) → is_ascii_digit c ≡ true → (c == minus) ≡ false
+digit-no-minus c h = grind (arith, nat_tests, h)
+
+dashed-first : (text : List ℕ) → begins_with_dashed_day text ≡ true → DayFirst true text
+unfolding begins_with_dashed_day
+dashed-first (a ∷ b ∷ c ∷ d ∷ mark ∷ e ∷ f ∷ second ∷ rest) h =
+    let all = both (are_four_digits a b c d && mark == minus && are_two_digits e f) (second == minus) h in
+    let some = both (are_four_digits a b c d && mark == minus) (are_two_digits e f) all.0 in
+    let front = both (are_four_digits a b c d) (mark == minus) some.0 in
+    day-first a b c d mark (e ∷ f ∷ second ∷ rest) true front.0 front.1
+dashed-first text h = absurd cc
+
+dotted-first : (text : List ℕ) → begins_with_dotted_day text ≡ true → DayFirst false text
+unfolding begins_with_dotted_day
+dotted-first (a ∷ b ∷ c ∷ d ∷ mark ∷ e ∷ f ∷ second ∷ rest) h =
+    let all = both (are_four_digits a b c d && mark == dot && are_two_digits e f) (second == dot) h in
+    let some = both (are_four_digits a b c d && mark == dot) (are_two_digits e f) all.0 in
+    let front = both (are_four_digits a b c d) (mark == dot) some.0 in
+    day-first a b c d mark (e ∷ f ∷ second ∷ rest) false front.0 (dot-no-minus mark front.1)
+dotted-first text h = absurd cc
+
+compact-first : (text : List ℕ) → begins_with_compact_day text ≡ true → DayFirst false text
+unfolding begins_with_compact_day
+compact-first (a ∷ b ∷ c ∷ d ∷ m0 ∷ m1 ∷ d0 ∷ d1 ∷ mark ∷ rest) h =
+    let all = both (are_four_digits a b c d && are_four_digits m0 m1 d0 d1) (mark == letter_t) h in
+    let front = both (are_four_digits a b c d) (are_four_digits m0 m1 d0 d1) all.0 in
+    day-first a b c d m0 (m1 ∷ d0 ∷ d1 ∷ mark ∷ rest) false front.0 (digit-no-minus m0 (four-are m0 m1 d0 d1 front.1).0)
+compact-first text h = absurd cc
+
+-- which families do not hold a text of Git's days
+git-day-row : (rule : OffsetRule) (text : List ℕ) → begins_with_at text ≡ false → DayFirst false text → AfterYear rule text
+    → first_family_by rule text ≡ first_among rule (GitForm ∷ RelativeText ∷ []) text
+unfolding first_family_by
+git-day-row rule text ea day after =
+    let names = no-names text day.letter in
+    let dates = no-dates text day.marked in
+    rw (no-at rule text ea, dates.short, after.mail, dates.iso8601, dates.strict, names.gitoxide, names.by_default, after.epoch, after.raw) refl
+
+pub is-in-its-row : (rule : OffsetRule) (text : List ℕ) → IsUtf8 text → IsInItsRow rule text
+unfolding row_families first_family_by
+is-in-its-row rule text u =
+    by (begins_with_at text) (int_value text) (begins_with_dashed_day text) (begins_with_dotted_day text) (begins_with_compact_day text) (begins_with_letter text) refl refl refl refl refl refl
+  where
+    by : (a : Bool) (i : Option ℤ) (s d k l : Bool) → begins_with_at text ≡ a → int_value text ≡ i → begins_with_dashed_day text ≡ s
+        → begins_with_dotted_day text ≡ d → begins_with_compact_day text ≡ k → begins_with_letter text ≡ l
+        → first_family_by rule text
+        ≡ first_among rule (cond a (AtText ∷ RelativeText ∷ []) (cond (is_some i) (BareEpoch ∷ [])
+        (cond s (Short ∷ Iso8601 ∷ Iso8601Strict ∷ GitForm ∷ RelativeText ∷ []) (cond d (GitForm ∷ RelativeText ∷ [])
+        (cond k (GitForm ∷ RelativeText ∷ []) (cond l (Rfc2822 ∷ Gitoxide ∷ GitDefault ∷ RelativeText ∷ [])
+        (Short ∷ Rfc2822 ∷ Iso8601 ∷ Iso8601Strict ∷ GitForm ∷ RelativeText ∷ RawText ∷ []))))))) text
+    by true i s d k l ea ei es ed ek el = at-dispatched rule text u ea
+    by false (Some n) s d k l ea ei es ed ek el = int-dispatched rule text n u ei
+    by false None true d k l ea ei es ed ek el =
+        let day = dashed-first text es in
+        let names = no-names text day.letter in
+        let after = dashed-after rule text day.marked in
+        rw (no-at rule text ea, after.mail, names.gitoxide, names.by_default, after.epoch, after.raw) refl
+    by false None false true k l ea ei es ed ek el = git-day-row rule text ea (dotted-first text ed) (dotted-after rule text ed)
+    by false None false false true l ea ei es ed ek el = git-day-row rule text ea (compact-first text ek) (compact-after rule text ek)
+    by false None false false false true ea ei es ed ek el =
+        let l = lettered rule text u ea el in
+        rw (l.at, l.dates.short, l.dates.iso8601, l.dates.strict, l.number.epoch, l.number.git, l.number.raw) refl
+    by false None false false false false ea ei es ed ek el =
+        let names = no-names text el in
+        rw (no-at rule text ea, names.gitoxide, names.by_default, no-epoch text ei) refl
 
 pub number-first : (rule : OffsetRule) (text : List ℕ) (n : ℤ) → IsUtf8 text → int_value text ≡ Some n
     → first_family_by rule text ≡ (if le_z min_bare_epoch n then Some (Absolute (utc_time n)) else None)

@@ -10,8 +10,8 @@ use crate::parsing::dates::{parse, parse_with};
 use crate::parsing::raw::RawOffsets;
 use crate::time::Time;
 pub use families::{
-    apart, comes_first, disjoint, disjoint_wide, dispatched, exclusive, ignores_moment,
-    overlapping, spelled, widened,
+    apart, comes_first, disjoint, disjoint_wide, dispatched, dispatched_by_rows, exclusive,
+    ignores_moment, overlapping, spelled, widened,
 };
 pub use formats::{
     local_clock, named_formats, other_formats, printed, raw_read_back, raw_read_back_wide,

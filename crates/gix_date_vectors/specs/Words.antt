@@ -25,7 +25,7 @@ pub use Rattle.gix_date.specs.Families.Raw.{raw_time, raw_time_by, max_raw_hours
 pub use Rattle.gix_date.specs.Printing.ReadingBack.{AreReadBack, IsReadBack, IsPlainTime, IsRawOffset, HasClock, PrintsBack, IsKept, IsWideOffset}
 pub use Rattle.gix_date.specs.Relative.Dates.{relative_date, RelativeDate, Before, Less, RelativeOutcome, IsNamed, Reaches}
 pub use Rattle.gix_date.specs.Relative.Steps.{zone_of, Settles, Chain, SecondsStep, MonthsStep, IsPicked}
-pub use Rattle.gix_date.specs.Families.Shapes.{shape_of, shape_families, IsDispatched}
+pub use Rattle.gix_date.specs.Families.Shapes.{shape_of, shape_families, IsDispatched, row_families, IsInItsRow}
 pub use Rattle.gix_date.specs.Text.SpaceWords.{StdWhiteSpaceIsUnicodes, white_space}
 pub use Rattle.gix_date.specs.Devices.TimeBuf.{text_in, HoldsText}
 pub use Rattle.gix_date.specs.Printing.Zoned.{time_in, time_in_utc, is_instant, IsConvertible, IsMoment}

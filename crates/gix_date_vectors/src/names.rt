@@ -260,6 +260,7 @@ fn laws_are_called_for_nothing_but_what_they_state() {
     laws::overlapping();
     laws::comes_first("2018-12-24", RawOffsets::Quarter);
     laws::dispatched("@5 +0007", RawOffsets::WholeMinutes);
+    laws::dispatched_by_rows("last week", RawOffsets::Quarter);
     laws::widened("1 +0007");
     laws::ignores_moment("yesterday", RawOffsets::Quarter);
     gix_date_tool::limits();

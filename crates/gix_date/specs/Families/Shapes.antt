@@ -25,6 +25,12 @@ unfoldable pub begins_with_year : List ℕ → Bool
 begins_with_year (a ∷ b ∷ c ∷ d ∷ mark ∷ rest) = are_four_digits a b c d && mark == minus
 begins_with_year _ = false
 
+-- the text begins with four digits, `-`, two digits and `-`
+unfoldable pub begins_with_dashed_day : List ℕ → Bool
+begins_with_dashed_day (y0 ∷ y1 ∷ y2 ∷ y3 ∷ first ∷ m0 ∷ m1 ∷ second ∷ rest) =
+    are_four_digits y0 y1 y2 y3 && first == minus && are_two_digits m0 m1 && second == minus
+begins_with_dashed_day _ = false
+
 -- the text begins with four digits, `.`, two digits and `.`
 unfoldable pub begins_with_dotted_day : List ℕ → Bool
 begins_with_dotted_day (y0 ∷ y1 ∷ y2 ∷ y3 ∷ first ∷ m0 ∷ m1 ∷ second ∷ rest) =
@@ -83,3 +89,18 @@ first_among rule list text = first_answer_of (map (λ family. family_answer rule
 -- the first family that holds the text is the first of its shape's families that holds it
 abbrev pub IsDispatched : OffsetRule → List ℕ → Type 0
 IsDispatched rule text = first_family_by rule text ≡ first_among rule (shape_families (shape_of text)) text
+
+-- A coarser table of seven rows: the families of the first row that fits the text, in their order.
+unfoldable pub row_families : List ℕ → List Family
+row_families text =
+    if begins_with_at text then AtText ∷ RelativeText ∷ []
+    else if is_some (int_value text) then BareEpoch ∷ []
+    else if begins_with_dashed_day text then Short ∷ Iso8601 ∷ Iso8601Strict ∷ GitForm ∷ RelativeText ∷ []
+    else if begins_with_dotted_day text then GitForm ∷ RelativeText ∷ []
+    else if begins_with_compact_day text then GitForm ∷ RelativeText ∷ []
+    else if begins_with_letter text then Rfc2822 ∷ Gitoxide ∷ GitDefault ∷ RelativeText ∷ []
+    else Short ∷ Rfc2822 ∷ Iso8601 ∷ Iso8601Strict ∷ GitForm ∷ RelativeText ∷ RawText ∷ []
+
+-- the first family that holds the text is the first of its row's families that holds it
+abbrev pub IsInItsRow : OffsetRule → List ℕ → Type 0
+IsInItsRow rule text = first_family_by rule text ≡ first_among rule (row_families text) text

@@ -4,7 +4,7 @@ ghost use Rattle.gix_date.specs.Families.Order.{RawText, BareEpoch, GitForm, ans
 ghost use Rattle.gix_date.specs.Families.Laws.{AreDisjoint, AreExclusive, AreOverlapping, ComesFirst, IsWidened, IgnoresMoment, Holds};
 ghost use Rattle.gix_date.specs.Families.Raw.{OffsetRule, allows, is_raw_offset, is_wide_offset};
 ghost use Rattle.gix_date.specs.Relative.Dates.{relative_date};
-ghost use Rattle.gix_date.specs.Families.Shapes.{IsDispatched};
+ghost use Rattle.gix_date.specs.Families.Shapes.{IsDispatched, IsInItsRow};
 ghost use Rattle.gix_date.specs.Families.Patterns.{short_layout, rfc2822_layout, iso8601_layout, iso8601_strict_layout, gitoxide_layout, default_layout, time_answer, real_day_answer, short_answer, rfc2822_answer, iso8601_answer, iso8601_strict_answer, gitoxide_answer, default_answer, Spells, IsAnswered};
 
 use crate::parsing::raw::RawOffsets;
@@ -67,6 +67,12 @@ pub fn widened(text: &str)
 /// shape (`shape_families`).
 pub fn dispatched(text: &str, raw: RawOffsets)
     ensures { IsDispatched (allows raw) text.now }
+{}
+
+/// The same by a coarser table of seven rows (`row_families`), by either rule: `@` at the front, a number, a day with
+/// `-`, with `.` or with neither, a letter at the front, and all other texts.
+pub fn dispatched_by_rows(text: &str, raw: RawOffsets)
+    ensures { IsInItsRow (allows raw) text.now }
 {}
 
 /// What `parse_with` may answer at one moment it may answer at every other and without one, by either rule. This holds
