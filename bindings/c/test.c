@@ -55,34 +55,11 @@ static bool is_time(gix_date_time time, int64_t seconds, int32_t offset)
 
 static void headers(void)
 {
-    static const struct {
-        const char *text;
-        uint32_t status;
-        gix_date_time time;
-        bool canonical;
-    } rows[] = {
-        {"1660874655 +0800", GIX_DATE_OK, {1660874655, 28800}, true},
-        {"-5 -0130", GIX_DATE_OK, {-5, -5400}, true},
-        {"12abc +0100", GIX_DATE_OK, {12, 3600}, false},
-        {"0 -0000", GIX_DATE_OK, {0, 0}, false},
-        {"", GIX_DATE_INVALID_TIME, {0, 0}, false},
-        {"1:2", GIX_DATE_INVALID_TIME, {0, 0}, false},
-        {"yesterday", GIX_DATE_INVALID_TIME, {0, 0}, false},
-    };
-    for (size_t i = 0; i < sizeof rows / sizeof *rows; i++) {
-        gix_date_time time = untouched,
-                      wanted = rows[i].status == GIX_DATE_OK ? rows[i].time : untouched;
-        uint32_t status = gix_date_parse_header(TEXT(rows[i].text), &time);
-        EXPECT(status == rows[i].status, "%s: %u", rows[i].text, status);
-        EXPECT(is_time(time, wanted.seconds, wanted.offset), "%s: %lld", rows[i].text,
-               (long long)time.seconds);
-        EXPECT(gix_date_is_canonical_header(TEXT(rows[i].text)) == rows[i].canonical, "%s",
-               rows[i].text);
-    }
     gix_date_time time = untouched;
+    EXPECT(gix_date_parse_header(TEXT("1:2"), &time) == GIX_DATE_INVALID_TIME, "a colon");
     EXPECT(gix_date_parse_header(BYTES("12\xff"), &time) == GIX_DATE_NOT_TEXT,
            "a byte that is no text");
-    EXPECT(is_time(time, untouched.seconds, untouched.offset), "stored for no text");
+    EXPECT(is_time(time, untouched.seconds, untouched.offset), "stored for no time");
     EXPECT(!gix_date_is_canonical_header(BYTES("\xff")), "a byte that is no text");
     EXPECT(gix_date_parse_header(BYTES("1"), &time) == GIX_DATE_OK && is_time(time, 1, 0),
            "one byte");
@@ -155,40 +132,23 @@ static void dates(void)
     static const struct {
         const char *text;
         uint32_t raw_offsets, status;
-        gix_date_time time;
     } rows[] = {
-        {"@1745582210 +0200", 0, GIX_DATE_OK, {1745582210, 7200}},
-        {"@-1000", 0, GIX_DATE_OK, {-1000, 0}},
-        {"2018-12-24", 0, GIX_DATE_OK, {1545609600, 0}},
-        {"Thu, 18 Aug 2022 12:45:06 +0800", 0, GIX_DATE_OK, {1660797906, 28800}},
-        {"2022-08-18 12:45:06 +0800", 0, GIX_DATE_OK, {1660797906, 28800}},
-        {"2022-08-18T12:45:06+08:00", 0, GIX_DATE_OK, {1660797906, 28800}},
-        {"Thu Aug 18 2022 12:45:06 +0800", 0, GIX_DATE_OK, {1660797906, 28800}},
-        {"Thu Aug 18 12:45:06 2022 +0800", 0, GIX_DATE_OK, {1660797906, 28800}},
-        {"1700000000", 0, GIX_DATE_OK, {1700000000, 0}},
-        {"2008.02.14 20:30:45 -0500", 0, GIX_DATE_OK, {1203039045, -18000}},
-        {"20080214T203045.019-04:00", 0, GIX_DATE_OK, {1203035445, -14400}},
-        {"1660874655 +0800", 0, GIX_DATE_OK, {1660874655, 28800}},
-        {"@5 +0007", 0, GIX_DATE_UNKNOWN_FORMAT, {0, 0}},
-        {"@5 +0007", 1, GIX_DATE_OK, {5, 420}},
-        {"1660797906 -235900", 0, GIX_DATE_UNKNOWN_FORMAT, {0, 0}},
-        {"1660797906 -235900", 1, GIX_DATE_OK, {1660797906, -86340}},
-        {"", 0, GIX_DATE_UNKNOWN_FORMAT, {0, 0}},
-        {"banana", 1, GIX_DATE_UNKNOWN_FORMAT, {0, 0}},
-        {"9999-12-31", 0, GIX_DATE_DATE_CONVERSION, {0, 0}},
-        {"yesterday", 0, GIX_DATE_MISSING_NOW, {0, 0}},
-        {"2018-12-24", 2, GIX_DATE_NO_SUCH_OPTION, {0, 0}},
+        {"@5 +0007", GIX_DATE_QUARTERS, GIX_DATE_UNKNOWN_FORMAT},
+        {"9999-12-31", GIX_DATE_QUARTERS, GIX_DATE_DATE_CONVERSION},
+        {"yesterday", GIX_DATE_WHOLE_MINUTES, GIX_DATE_MISSING_NOW},
+        {"2018-12-24", 2, GIX_DATE_NO_SUCH_OPTION},
+        {"2018\xc3", GIX_DATE_QUARTERS, GIX_DATE_NOT_TEXT},
+        {"2018\xc3", 2, GIX_DATE_NO_SUCH_OPTION},
     };
+    gix_date_time time = untouched;
     for (size_t i = 0; i < sizeof rows / sizeof *rows; i++) {
-        gix_date_time time = untouched,
-                      wanted = rows[i].status == GIX_DATE_OK ? rows[i].time : untouched;
         uint32_t status = gix_date_parse(TEXT(rows[i].text), rows[i].raw_offsets, &time);
         EXPECT(status == rows[i].status, "%s: %u", rows[i].text, status);
-        EXPECT(is_time(time, wanted.seconds, wanted.offset), "%s: %lld", rows[i].text,
-               (long long)time.seconds);
+        EXPECT(is_time(time, untouched.seconds, untouched.offset), "%s", rows[i].text);
     }
-    gix_date_time time = untouched;
-    EXPECT(gix_date_parse(BYTES("2018\xc3"), 0, &time) == GIX_DATE_NOT_TEXT, "half a character");
+    EXPECT(gix_date_parse(TEXT("@-1000"), GIX_DATE_QUARTERS, &time) == GIX_DATE_OK &&
+               is_time(time, -1000, 0),
+           "%lld", (long long)time.seconds);
 }
 
 static void relative_dates(void)
@@ -502,9 +462,18 @@ static void threads(void)
         pthread_join(all[i], NULL);
 }
 
+/* The version in its three forms: the header's text and number, and the library's number. */
+static void version(void)
+{
+    unsigned number = gix_date_version();
+    char text[16];
+    snprintf(text, sizeof text, "%u.%u.%u", number / 10000, number / 100 % 100, number % 100);
+    EXPECT(number == GIX_DATE_VERSION_NUMBER && strcmp(text, GIX_DATE_VERSION) == 0, "%s", text);
+}
+
 int main(void)
 {
-    EXPECT(gix_date_version() == GIX_DATE_VERSION_NUMBER, "%u", gix_date_version());
+    version();
     without_memory(headers, "headers");
     without_memory(null_pointers, "texts at NULL");
     without_memory(dates, "dates");

@@ -76,3 +76,39 @@ impl fmt::Display for Error {
 }
 
 impl std::error::Error for Error {}
+
+#[cfg(test)]
+mod tests {
+    use super::Error;
+
+    /// The statuses of the header and their numbers, in camel case.
+    fn statuses() -> Vec<(String, u32)> {
+        let header = include_str!("../../../include/gix_date.h");
+        let (_, rest) = header.split_once("enum gix_date_status {").unwrap();
+        let (body, _) = rest.split_once("};").unwrap();
+        let lines = body
+            .lines()
+            .filter_map(|line| line.trim().strip_prefix("GIX_DATE_"));
+        lines
+            .map(|line| {
+                let (name, number) = line.trim_end_matches(',').split_once(" = ").unwrap();
+                let words = name
+                    .split('_')
+                    .map(|word| word[..1].to_string() + &word[1..].to_lowercase());
+                (words.collect(), number.parse().unwrap())
+            })
+            .collect()
+    }
+
+    #[test]
+    fn each_status_is_its_error() {
+        let statuses = statuses();
+        assert_eq!(statuses.len(), 17);
+        for (name, number) in statuses {
+            // What a `&str` and the types of this crate rule out.
+            if !["Ok", "NotText", "NoSuchOption", "NoRoom"].contains(&name.as_str()) {
+                assert_eq!(format!("{:?}", Error::of_status(number)), name);
+            }
+        }
+    }
+}

@@ -1,159 +1,285 @@
-//! Each call on rows with outside values, its refusals, and sixteen threads at once.
+//! Runs the rows of outside values that the library is tested by (`crates/gix_date_rows/data`), by this crate's calls.
 
 use gix_date_proved::{
-    is_canonical_header, parse, parse_header, parse_with, version, write_signature, Error, Format,
-    Moment, RawOffsets, Signature, Time, Zone,
+    is_canonical_header, parse, parse_header, parse_with, write_signature, Error, Format, Moment,
+    RawOffsets, Signature, Time, Zone,
 };
-use std::thread;
+use std::collections::BTreeMap;
+use std::fs;
+use std::path::PathBuf;
 
-const DAY: Time = Time {
-    seconds: 1660797906,
-    offset: 28800,
-};
+/// What a call answers: a text, or the name of a refusal.
+type Answer = Result<String, String>;
 
-fn time(seconds: i64, offset: i32) -> Result<Time, Error> {
-    Ok(Time { seconds, offset })
+/// Calls that other callers of the rows have, and this crate has not.
+const LACKING: [&str; 2] = ["to_zoned", "now_local"];
+
+/// Moments at which a text that is not relative means the same.
+const ANY: [&str; 6] = [
+    "none",
+    "1698400800 0 0",
+    "1698400800 0 3600",
+    "1698400800 0 7200",
+    "-1 0 -34200",
+    "0 0 93599",
+];
+
+fn folder() -> PathBuf {
+    PathBuf::from(env!("CARGO_MANIFEST_DIR")).join("../../crates/gix_date_rows/data")
 }
 
-#[test]
-fn headers_are_read_and_written() {
-    assert_eq!(parse_header("1660797906 +0800"), Ok(DAY));
-    assert_eq!(parse_header("12abc +0100"), time(12, 3600));
-    assert_eq!(parse_header(""), Err(Error::InvalidTime));
-    assert!(is_canonical_header("-5 -0130"));
-    assert!(!is_canonical_header("0 -0000"));
-    assert_eq!(DAY.to_header().as_deref(), Ok("1660797906 +0800"));
-    let least = Time {
-        seconds: i64::MIN,
-        offset: -359999,
-    };
-    assert_eq!(
-        least.to_header().as_deref(),
-        Ok("-9223372036854775808 -9959")
-    );
-    assert_eq!(
-        Time {
-            seconds: 0,
-            offset: 360000
+/// The bytes of a field without its escapes.
+fn unescaped(field: &str) -> Option<Vec<u8>> {
+    let mut bytes = Vec::new();
+    let mut rest = field;
+    while let Some((plain, escape)) = rest.split_once('\\') {
+        bytes.extend_from_slice(plain.as_bytes());
+        rest = match escape.chars().next()? {
+            't' => push(&mut bytes, b'\t', &escape[1..]),
+            'n' => push(&mut bytes, b'\n', &escape[1..]),
+            'r' => push(&mut bytes, b'\r', &escape[1..]),
+            '\\' => push(&mut bytes, b'\\', &escape[1..]),
+            'x' => {
+                let byte = u8::from_str_radix(escape.get(1..3)?, 16).ok()?;
+                push(&mut bytes, byte, &escape[3..])
+            }
+            _ => {
+                let (digits, after) = escape.strip_prefix("u{")?.split_once('}')?;
+                let character = char::from_u32(u32::from_str_radix(digits, 16).ok()?)?;
+                bytes.extend_from_slice(character.to_string().as_bytes());
+                after
+            }
+        };
+    }
+    bytes.extend_from_slice(rest.as_bytes());
+    Some(bytes)
+}
+
+fn push<'a>(bytes: &mut Vec<u8>, byte: u8, rest: &'a str) -> &'a str {
+    bytes.push(byte);
+    rest
+}
+
+fn told<T>(answer: Result<T, Error>, text: impl Fn(T) -> String) -> Answer {
+    answer.map(text).map_err(|error| format!("{error:?}"))
+}
+
+fn told_time(answer: Result<Time, Error>) -> Answer {
+    told(answer, |time| format!("{} {}", time.seconds, time.offset))
+}
+
+fn time(fields: &mut &[String]) -> Option<Time> {
+    let seconds = text(fields)?.parse().ok()?;
+    let offset = text(fields)?.parse().ok()?;
+    Some(Time { seconds, offset })
+}
+
+/// The next field.
+fn text<'a>(fields: &mut &'a [String]) -> Option<&'a str> {
+    let (first, rest) = fields.split_first()?;
+    *fields = rest;
+    Some(first)
+}
+
+/// The one answer of all. `None` where there is none.
+fn agreeing(answers: impl IntoIterator<Item = Option<Answer>>) -> Option<Answer> {
+    let mut answers = answers.into_iter();
+    let first = answers.next()??;
+    for other in answers {
+        if other? != first {
+            return Some(Err("CallsDiffer".to_string()));
         }
-        .to_header(),
-        Err(Error::OffsetTooWide)
-    );
+    }
+    Some(first)
 }
 
-#[test]
-fn dates_are_parsed() {
-    assert_eq!(parse("Thu, 18 Aug 2022 12:45:06 +0800", None), Ok(DAY));
-    assert_eq!(
-        parse("2008.02.14 20:30:45 -0500", None),
-        time(1203039045, -18000)
-    );
-    assert_eq!(parse("2018-12-24", None), time(1545609600, 0));
-    assert_eq!(parse("@5 +0007", None), Err(Error::UnknownFormat));
-    assert_eq!(
-        parse_with("@5 +0007", None, RawOffsets::WholeMinutes),
-        time(5, 420)
-    );
-    assert_eq!(parse("9999-12-31", None), Err(Error::DateConversion));
-    assert_eq!(parse("yesterday", None), Err(Error::MissingNow));
+fn parsed(rules: &str, moments: &str, text: &str) -> Option<Answer> {
+    let rules: &[RawOffsets] = match rules {
+        "both" => &[RawOffsets::Quarter, RawOffsets::WholeMinutes],
+        "quarters" => &[RawOffsets::Quarter],
+        "minutes" => &[RawOffsets::WholeMinutes],
+        _ => return None,
+    };
+    let one = [moments];
+    let moments: &[&str] = if moments == "any" { &ANY } else { &one };
+    agreeing(moments.iter().flat_map(|at| {
+        rules
+            .iter()
+            .map(move |rule| parsed_at(*rule, at, text))
+            .collect::<Vec<_>>()
+    }))
 }
 
-#[test]
-fn relative_dates_are_parsed_in_their_zone() {
-    let now = Moment::at_offset(1698400800, 7200);
-    assert_eq!(parse("yesterday", Some(&now)), time(1698314400, 7200));
-    assert_eq!(parse("12023 years ago", Some(&now)), Err(Error::Range));
-    assert_eq!(
-        parse("now", Some(&Moment::at_offset(0, 93600))),
-        Err(Error::InvalidZone)
-    );
-    assert_eq!(
-        parse("now", Some(&Moment::at_offset(253402207201, 0))),
-        Err(Error::InvalidInstant)
-    );
-    let in_fold = Moment {
-        seconds: 1699165800,
-        nanoseconds: 0,
-        zone: Zone::Posix("EST5EDT,M3.2.0,M11.1.0"),
+/// A date parsed at a moment: `none`, or its seconds, its nanoseconds and its zone.
+fn parsed_at(rule: RawOffsets, moment: &str, text: &str) -> Option<Answer> {
+    if moment == "none" {
+        return parsed_by(rule, None, text);
+    }
+    let (seconds, rest) = moment.split_once(' ')?;
+    let (nanoseconds, zone) = rest.split_once(' ')?;
+    let file = if zone.ends_with(".tzif") {
+        fs::read(folder().join(zone)).ok()?
+    } else {
+        Vec::new()
     };
-    assert_eq!(
-        parse("1 hour ago", Some(&in_fold)),
-        time(1699158600, -14400)
-    );
-    let unknown = Moment {
-        zone: Zone::Posix("banana"),
-        ..in_fold
+    let zone = match zone.parse() {
+        Ok(offset) => Zone::Offset(offset),
+        Err(_) if file.is_empty() => Zone::Posix(zone),
+        Err(_) => Zone::Tzif(&file),
     };
-    assert_eq!(parse("now", Some(&unknown)), Err(Error::InvalidZone));
-    let empty_file = Moment {
-        zone: Zone::Tzif(b""),
-        ..in_fold
+    let now = Moment {
+        seconds: seconds.parse().ok()?,
+        nanoseconds: nanoseconds.parse().ok()?,
+        zone,
     };
-    assert_eq!(parse("now", Some(&empty_file)), Err(Error::InvalidZone));
+    parsed_by(rule, Some(&now), text)
 }
 
-#[test]
-fn times_are_printed() {
-    assert_eq!(DAY.format(Format::Short).as_deref(), Ok("2022-08-18"));
-    assert_eq!(
-        DAY.format(Format::Rfc2822).as_deref(),
-        Ok("Thu, 18 Aug 2022 12:45:06 +0800")
-    );
-    assert_eq!(DAY.format(Format::Raw).as_deref(), Ok("1660797906 +0800"));
-    assert_eq!(DAY.format_by_pattern("%H:%M").as_deref(), Ok("12:45"));
-    let long = "%Y-%m-%d %H:%M:%S %z, ".repeat(4);
-    assert_eq!(
-        DAY.format_by_pattern(&long),
-        Ok("2022-08-18 12:45:06 +0800, ".repeat(4))
-    );
-    assert_eq!(DAY.format_by_pattern("%!"), Err(Error::Pattern));
-    assert_eq!(
-        DAY.format_by_pattern_or_unix("%!").as_deref(),
-        Ok("1660797906")
-    );
-    let wide = Time {
-        seconds: 5,
-        offset: 360000,
-    };
-    assert_eq!(wide.format(Format::Raw), Err(Error::OffsetTooWide));
-    assert_eq!(wide.format(Format::Iso8601), Err(Error::Conversion));
-    assert_eq!(wide.format_or_unix(Format::Raw).as_deref(), Ok("5"));
+/// The same by each call that has this rule.
+fn parsed_by(rule: RawOffsets, now: Option<&Moment<'_>>, text: &str) -> Option<Answer> {
+    let with = told_time(parse_with(text, now, rule));
+    if rule != RawOffsets::default() {
+        return Some(with);
+    }
+    agreeing([Some(told_time(parse(text, now))), Some(with)])
 }
 
-#[test]
-fn signature_lines_are_cut_and_written() {
-    let line = "A U Thor <author@example.com> 1660797906 +0800";
-    let signature = Signature::from_line(line).unwrap();
-    assert_eq!(
-        signature,
-        Signature {
-            name: "A U Thor",
-            mail: "author@example.com",
-            time: "1660797906 +0800"
+fn format(name: &str) -> Option<Format> {
+    Some(match name {
+        "SHORT" => Format::Short,
+        "RFC2822" => Format::Rfc2822,
+        "GIT_RFC2822" => Format::GitRfc2822,
+        "ISO8601" => Format::Iso8601,
+        "ISO8601_STRICT" => Format::Iso8601Strict,
+        "GITOXIDE" => Format::Gitoxide,
+        "DEFAULT" => Format::Default,
+        "UNIX" => Format::Unix,
+        "RAW" => Format::Raw,
+        _ => return None,
+    })
+}
+
+/// A text, where the call that gives the seconds if there is none agrees.
+fn printed(time: Time, text: Result<String, Error>, always: Result<String, Error>) -> Answer {
+    let due = match &text {
+        Ok(text) => text.clone(),
+        Err(_) => time.seconds.to_string(),
+    };
+    if always != Ok(due) {
+        return Err("CallsDiffer".to_string());
+    }
+    told(text, |text| text)
+}
+
+/// What the call answers that the fields name. `None` where they name none, or not its arguments.
+fn answer(mut fields: &[String]) -> Option<Answer> {
+    let row = &mut fields;
+    let answer = match text(row)? {
+        "parse_header" => told_time(parse_header(text(row)?)),
+        "is_canonical_header" => Ok(if is_canonical_header(text(row)?) {
+            "yes"
+        } else {
+            "no"
         }
-    );
-    assert_eq!(signature.time(), Ok(DAY));
-    assert_eq!(
-        write_signature(signature.name, signature.mail, DAY).as_deref(),
-        Ok(line)
-    );
-    assert_eq!(Signature::from_line("A <a>"), Err(Error::NoSignature));
-    assert_eq!(write_signature("A>", "a", DAY), Err(Error::BadPart));
+        .into()),
+        "header_text" => told(time(row)?.to_header(), |text| text),
+        "parse" => parsed(text(row)?, text(row)?, text(row)?)?,
+        "format" => {
+            let format = format(text(row)?)?;
+            let time = time(row)?;
+            printed(time, time.format(format), time.format_or_unix(format))
+        }
+        "format_by_pattern" => {
+            let pattern = text(row)?;
+            let time = time(row)?;
+            let always = time.format_by_pattern_or_unix(pattern);
+            printed(time, time.format_by_pattern(pattern), always)
+        }
+        "cut_signature" => told(Signature::from_line(text(row)?), |parts| {
+            format!("{}<{}>{}", parts.name, parts.mail, parts.time)
+        }),
+        "signature_time" => {
+            told_time(Signature::from_line(text(row)?).and_then(|parts| parts.time()))
+        }
+        "write_signature" => {
+            let (name, mail) = (text(row)?, text(row)?);
+            told(write_signature(name, mail, time(row)?), |line| line)
+        }
+        _ => return None,
+    };
+    row.is_empty().then_some(answer)
+}
+
+/// What became of a row.
+enum Outcome {
+    Agrees,
+    Differs(String),
+    /// It is left out, and why.
+    LeftOut(String),
+}
+
+fn outcome(row: &str) -> Outcome {
+    let Some((call, due)) = row.rsplit_once('\t') else {
+        return Outcome::Differs("no row".into());
+    };
+    let fields: Option<Vec<_>> = call.split('\t').map(unescaped).collect();
+    let Some(fields) = fields else {
+        return Outcome::Differs("no row".into());
+    };
+    let texts: Result<Vec<_>, _> = fields.into_iter().map(String::from_utf8).collect();
+    let Ok(texts) = texts else {
+        return Outcome::LeftOut("bytes that are no text".into());
+    };
+    if LACKING.contains(&texts[0].as_str()) {
+        return Outcome::LeftOut(texts[0].clone());
+    }
+    let due = match due.strip_prefix('!') {
+        Some(name) => Some(Err(name.to_string())),
+        None => unescaped(due)
+            .and_then(|text| String::from_utf8(text).ok())
+            .map(Ok),
+    };
+    match answer(&texts) {
+        Some(answer) if Some(&answer) == due.as_ref() => Outcome::Agrees,
+        Some(answer) => Outcome::Differs(format!("it answers {answer:?}")),
+        None => Outcome::Differs("no row".into()),
+    }
 }
 
 #[test]
-fn threads_share_nothing() {
-    let threads: Vec<_> = (0..16)
-        .map(|_| {
-            thread::spawn(|| (0..200).all(|_| parse("2022-08-18 12:45:06 +0800", None) == Ok(DAY)))
-        })
+fn rows_agree() {
+    let mut names: Vec<_> = fs::read_dir(folder())
+        .unwrap()
+        .map(|entry| entry.unwrap().file_name().into_string().unwrap())
+        .filter(|name| name.ends_with(".rows"))
         .collect();
-    assert!(threads.into_iter().all(|thread| thread.join().unwrap()));
-}
-
-#[test]
-fn errors_are_errors() {
-    let error: Box<dyn std::error::Error> = Box::new(parse("banana", None).unwrap_err());
-    assert_eq!(error.to_string(), "no known date format");
-    assert_eq!(version(), 1801);
+    names.sort();
+    assert!(names.len() >= 8, "{names:?}");
+    let mut differing = 0;
+    for name in names {
+        let file = fs::read_to_string(folder().join(&name)).unwrap();
+        let mut left_out: BTreeMap<String, usize> = BTreeMap::new();
+        let (mut rows, mut differ) = (0, 0);
+        for (number, line) in (1..).zip(file.split('\n')) {
+            if line.is_empty() || line.starts_with('#') {
+                continue;
+            }
+            rows += 1;
+            match outcome(line) {
+                Outcome::Agrees => {}
+                Outcome::Differs(why) => {
+                    differ += 1;
+                    println!("{name}:{number}: {why}: {line}");
+                }
+                Outcome::LeftOut(why) => *left_out.entry(why).or_default() += 1,
+            }
+        }
+        println!("{name}: {rows} rows, {differ} differ");
+        for (why, count) in left_out {
+            println!("{name}: {count} are left out: {why}");
+        }
+        assert!(rows > 0, "{name} has no row");
+        differing += differ;
+    }
+    assert_eq!(differing, 0);
 }

@@ -1,5 +1,5 @@
 //! Makes one call of a library and tells its answer, taking no memory itself, so that the requests of the call can be
-//! counted and refused. Standard input holds three lines: the call, what it is handed beside its text, and the text.
+//! counted and refused. Standard input holds a line with the call, a line with what it is handed beside its text, and the text.
 #![tactic(auto)]
 
 use gix_date::device::{Device, Sink, Source, put_all};
@@ -43,10 +43,8 @@ fn main(rt: HostRuntime) -> ExitCode {
         return ExitCode::from(2);
     };
     let input = str::from_utf8(&piece[..count]).unwrap_or("");
-    let mut lines = input.split('\n');
-    let call = lines.next().unwrap_or("");
-    let with = lines.next().unwrap_or("");
-    let text = lines.next().unwrap_or("");
+    let (call, rest) = input.split_once('\n').unwrap_or((input, ""));
+    let (with, text) = rest.split_once('\n').unwrap_or((rest, ""));
     match tell(&answer_to(rt.alloc(), call, with, text), &mut writer) {
         Ok(()) => ExitCode::from(0),
         Err(_) => ExitCode::from(2),

@@ -1,8 +1,22 @@
 //! The faults of `gix_date`: the texts that they carry, and what they show.
 use crate::names::refused;
-use gix_date::Error;
+use gix_date::{Error, ParseError, RawOffsets};
 use std::test::Fail;
 use std::{io, str};
+
+const NO_MOMENT: &str = "a relative date needs a moment to count from, and none was given";
+
+const NO_INSTANT: &str = "the relative date leads to an instant that cannot be computed with";
+
+const UNKNOWN: &str =
+    "no known date format; expected seconds since 1970, such as \"@0\" or \"1700000000\", seconds and an \
+     offset, such as \"1660874655 +0800\", a date, such as \"2022-08-18 12:45:06 +0800\", or a relative one, such as \
+     \"2 weeks ago\"";
+
+const UNKNOWN_X: &str =
+    "no known date format: \"x\"; expected seconds since 1970, such as \"@0\" or \"1700000000\", seconds and an \
+     offset, such as \"1660874655 +0800\", a date, such as \"2022-08-18 12:45:06 +0800\", or a relative one, such as \
+     \"2 weeks ago\"";
 
 #[test]
 fn a_refused_text_shows_as_itself(rt: HostRuntime) -> Result<(), Fail> {
@@ -42,28 +56,76 @@ fn a_text_of_any_length_comes_back(rt: HostRuntime) -> Result<(), Fail> {
 }
 
 #[test]
-fn each_fault_has_a_text_and_a_debug_form(rt: HostRuntime) -> Result<(), Fail> {
-    let faults = [
-        Error::UnknownFormat {
-            input: refused(rt.alloc(), "x", None).ok_or("a date")?,
-        },
-        Error::InvalidTime,
-        Error::MissingNow,
-        Error::DateConversion {
-            input: refused(rt.alloc(), "x", None).ok_or("a date")?,
-        },
-        Error::Conversion,
-        Error::Range,
-        Error::OffsetTooWide,
-        Error::Pattern,
-        Error::Write(io::ErrorKind::BrokenPipe),
-        Error::Memory,
-    ];
-    for fault in faults {
-        let text = format!(in rt.alloc(); "{fault}")?;
-        assert!(rt; text.len() > 10 && !text.contains('\n'));
-        let debug = format!(in rt.alloc(); "{fault:?}")?;
-        assert!(rt; !debug.is_empty());
+fn each_fault_says_what_is_wrong(rt: HostRuntime) -> Result<(), Fail> {
+    for (fault, text, debug) in [
+        (
+            Error::InvalidTime,
+            "not a time: expected seconds since 1970, perhaps an offset such as +0100, and no colon",
+            "InvalidTime",
+        ),
+        (Error::MissingNow, NO_MOMENT, "MissingNow"),
+        (
+            Error::Conversion,
+            "the time is too far from 1970, or its offset from UTC is beyond 25:59:59",
+            "Conversion",
+        ),
+        (Error::Range, NO_INSTANT, "Range"),
+        (
+            Error::OffsetTooWide,
+            "an offset of 100 hours or more from UTC cannot be written",
+            "OffsetTooWide",
+        ),
+        (Error::Pattern, "the pattern cannot be printed", "Pattern"),
+        (
+            Error::Write(io::ErrorKind::BrokenPipe),
+            "writing failed: broken pipe",
+            "Write(BrokenPipe)",
+        ),
+        (Error::Memory, "out of memory", "Memory"),
+    ] {
+        assert_eq!(rt; format!(in rt.alloc(); "{fault}")?.as_str(), text);
+        assert_eq!(rt; format!(in rt.alloc(); "{fault:?}")?.as_str(), debug);
+    }
+    Ok(())
+}
+
+#[test]
+fn a_refused_text_stands_in_its_fault(rt: HostRuntime) -> Result<(), Fail> {
+    let unknown = refused(rt.alloc(), "x", None).ok_or("a date")?;
+    let beyond = refused(rt.alloc(), "x", None).ok_or("a date")?;
+    let text = format!(in rt.alloc(); "{}", Error::UnknownFormat { input: unknown })?;
+    assert_eq!(rt; text.as_str(), UNKNOWN_X);
+    let text = format!(in rt.alloc(); "{}", Error::DateConversion { input: beyond })?;
+    assert_eq!(rt;
+        text.as_str(),
+        "the date is beyond the last instant that can be computed with: \"x\""
+    );
+    Ok(())
+}
+
+#[test]
+fn rules_have_debug_forms(rt: HostRuntime) -> Result<(), Fail> {
+    let quarter = format!(in rt.alloc(); "{:?}", RawOffsets::Quarter)?;
+    assert_eq!(rt; quarter.as_str(), "Quarter");
+    let whole = format!(in rt.alloc(); "{:?}", RawOffsets::WholeMinutes)?;
+    assert_eq!(rt; whole.as_str(), "WholeMinutes");
+    Ok(())
+}
+
+#[test]
+fn each_refusal_without_its_text_says_what_is_wrong(rt: HostRuntime) -> Result<(), Fail> {
+    for (refusal, text, debug) in [
+        (ParseError::UnknownFormat, UNKNOWN, "UnknownFormat"),
+        (
+            ParseError::DateConversion,
+            "the date is beyond the last instant that can be computed with",
+            "DateConversion",
+        ),
+        (ParseError::MissingNow, NO_MOMENT, "MissingNow"),
+        (ParseError::Range, NO_INSTANT, "Range"),
+    ] {
+        assert_eq!(rt; format!(in rt.alloc(); "{refusal}")?.as_str(), text);
+        assert_eq!(rt; format!(in rt.alloc(); "{refusal:?}")?.as_str(), debug);
     }
     Ok(())
 }

@@ -4,7 +4,6 @@ use crate::caller::{
     day_before, doubled, header_bytes, iso_date, kept_by_each, kept_in_date, kept_in_header,
     log_date, read_canonical, resolved, rewrite, shown, stored_date,
 };
-use crate::fakes::Dribble;
 use crate::machine::Machine;
 use gix_date::device::Device;
 use gix_date::parsing::TimeBuf;
@@ -13,6 +12,7 @@ use gix_date::{
     Error, InputBytes, OffsetInSeconds, ParseError, RawOffsets, SecondsSinceUnixEpoch, Time, Zoned,
     laws, parse,
 };
+use gix_date_fakes::Dribble;
 use gix_date_tool::Mode;
 use jiff::Timestamp;
 use jiff::tz::TimeZone;

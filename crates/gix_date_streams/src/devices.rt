@@ -1,7 +1,7 @@
 //! Devices over writers and readers that fail, and what is written to them.
-use crate::fakes::{Dribble, KINDS, Slow, Supply};
 use gix_date::device::{Device, Sink, Source, put_all};
 use gix_date::{Error, Time};
+use gix_date_fakes::{Dribble, KINDS, Slow, Supply};
 use std::io::ErrorKind;
 use std::test::Fail;
 
@@ -32,12 +32,22 @@ fn a_device_makes_no_write_and_no_flush_after_a_fault(rt: HostRuntime) {
 }
 
 #[test]
-fn a_device_flushes_at_no_newline(rt: HostRuntime) {
-    let mut device = Device::new(Slow::new(rt.alloc(), 9, 99, ErrorKind::Other));
+fn a_device_flushes_neither_at_a_newline_nor_after_a_long_piece(rt: HostRuntime) {
+    let mut device = Device::new(Slow::new(rt.alloc(), 999, 9999, ErrorKind::Other));
     assert_eq!(rt; device.put(b"a\n"), Ok(2));
     assert_eq!(rt; device.put(b"\n"), Ok(1));
+    assert_eq!(rt; device.put(&[b'x'; 100]), Ok(100));
     let inner = device.into_inner();
-    assert_eq!(rt; (inner.calls, inner.flushes), (2, 0));
+    assert_eq!(rt; (inner.calls, inner.flushes), (3, 0));
+}
+
+#[test]
+fn a_device_writes_nothing_behind_what_it_reads(rt: HostRuntime) {
+    let mut device = Device::new(Supply::once(b"abc", 9, None));
+    let mut piece = [b'#'; 100];
+    assert_eq!(rt; device.get(&mut piece), Ok(3));
+    assert!(rt; piece.starts_with(b"abc"));
+    assert!(rt; piece.iter().filter(|b| **b == b'#').count() == 97);
 }
 
 #[test]

@@ -1,87 +1,11 @@
-//! Calls where each request for memory is refused.
-use crate::commands::{executed, words_of};
-use crate::fakes::{Hoarder, Small, Supply, take_all};
-use crate::git::TIMES;
-use crate::patterns::{TIMES as FORMATTED, WITH_SECONDS};
-use crate::raw::{BY_BOTH, BY_NEITHER, BY_WHOLE_MINUTES};
-use crate::relative::IN_UTC;
-use crate::rows::{NOW, RULES, Row, is_time};
+//! Runs and calls where each request for memory is refused. What the calls of single texts ask for, `tests/memory` counts.
+use crate::harness::{executed, words_of};
 use gix_date::device::Device;
-use gix_date::{Error, RawOffsets, Time, parse, parse_with};
+use gix_date::{Error, Time, parse};
+use gix_date_fakes::{Hoarder, Small, Supply, take_all};
 use gix_date_tool::{Mode, Status, ToolError, command, run};
-use std::alloc::Global;
 use std::str;
 use std::test::Fail;
-
-/// Whether each text is read as its time by both rules.
-fn are_right(alloc: Global, rows: &[Row]) -> bool {
-    let mut all_right = true;
-    for (text, header) in rows {
-        all_right &= is_time(&parse(alloc, text, None), header);
-        for raw in RULES {
-            all_right &= is_time(&parse_with(alloc, text, None, raw), header);
-        }
-    }
-    all_right
-}
-
-#[test]
-fn an_absolute_date_takes_no_memory(rt: HostRuntime) -> Result<(), Fail> {
-    let rows = [
-        ("@-1000", "-1000 +0000"),
-        ("100000000", "100000000 +0000"),
-        ("5 -0130", "5 -0130"),
-    ];
-    let blocks = take_all(rt.alloc())?;
-    let all_right = are_right(rt.alloc(), &rows) && are_right(rt.alloc(), &TIMES);
-    let refused = matches!(parse(rt.alloc(), "20080214", None), Err(Error::Memory))
-        && matches!(parse(rt.alloc(), "9999-12-31", None), Err(Error::Memory));
-    drop(blocks);
-    assert!(rt; all_right, "no-memory");
-    assert!(rt; refused, "no-memory");
-    Ok(())
-}
-
-#[test]
-fn a_raw_text_takes_no_memory_by_either_rule(rt: HostRuntime) -> Result<(), Fail> {
-    let blocks = take_all(rt.alloc())?;
-    let all_right = are_right(rt.alloc(), &BY_BOTH);
-    drop(blocks);
-    assert!(rt; all_right, "no-memory");
-    Ok(())
-}
-
-#[test]
-fn a_wide_raw_text_takes_no_memory(rt: HostRuntime) -> Result<(), Fail> {
-    let blocks = take_all(rt.alloc())?;
-    let mut all_right = true;
-    for (text, header) in BY_WHOLE_MINUTES {
-        let refusal = parse_with(rt.alloc(), text, None, RawOffsets::Quarter);
-        let answer = parse_with(rt.alloc(), text, None, RawOffsets::WholeMinutes);
-        if !matches!(refusal, Err(Error::Memory)) || !is_time(&answer, header) {
-            all_right = false;
-        }
-    }
-    drop(blocks);
-    assert!(rt; all_right, "no-memory");
-    Ok(())
-}
-
-#[test]
-fn a_text_that_is_raw_by_neither_rule_wants_memory(rt: HostRuntime) -> Result<(), Fail> {
-    let blocks = take_all(rt.alloc())?;
-    let mut all_right = true;
-    for text in BY_NEITHER {
-        for raw in RULES {
-            if !matches!(parse_with(rt.alloc(), text, None, raw), Err(Error::Memory)) {
-                all_right = false;
-            }
-        }
-    }
-    drop(blocks);
-    assert!(rt; all_right, "no-memory");
-    Ok(())
-}
 
 #[test]
 fn a_text_of_any_length_wants_memory_for_its_copy(rt: HostRuntime) -> Result<(), Fail> {
@@ -96,61 +20,6 @@ fn a_text_of_any_length_wants_memory_for_its_copy(rt: HostRuntime) -> Result<(),
         if !matches!(parse(rt.alloc(), text, None), Err(Error::Memory)) {
             all_right = false;
         }
-    }
-    drop(blocks);
-    assert!(rt; all_right, "no-memory");
-    Ok(())
-}
-
-#[test]
-fn a_formatted_date_takes_no_memory(rt: HostRuntime) -> Result<(), Fail> {
-    let blocks = take_all(rt.alloc())?;
-    let mut all_right = are_right(rt.alloc(), &FORMATTED);
-    for (text, seconds, offset) in WITH_SECONDS {
-        let answer = parse(rt.alloc(), text, None);
-        if !matches!(answer, Ok(time) if time == Time::new(seconds, offset)) {
-            all_right = false;
-        }
-    }
-    drop(blocks);
-    assert!(rt; all_right, "no-memory");
-    Ok(())
-}
-
-#[test]
-fn a_relative_date_takes_no_memory(rt: HostRuntime) -> Result<(), Fail> {
-    let first = Time::new(-377_705_023_201, 0).to_zoned()?;
-    let blocks = take_all(rt.alloc())?;
-    let mut all_right = true;
-    for (from, text, header) in IN_UTC {
-        let now = Time::new(from, 0).to_zoned();
-        let answer = parse(rt.alloc(), text, now.ok());
-        if !is_time(&answer, header) {
-            all_right = false;
-        }
-    }
-    let missing = matches!(parse(rt.alloc(), "now", None), Err(Error::MissingNow))
-        && matches!(parse(rt.alloc(), "yesterday", None), Err(Error::MissingNow));
-    let range = matches!(
-        parse(rt.alloc(), "yesterday", Some(first)),
-        Err(Error::Range)
-    );
-    drop(blocks);
-    assert!(rt; all_right, "no-memory");
-    assert!(rt; missing && range, "no-memory");
-    Ok(())
-}
-
-#[test]
-fn a_relative_date_is_refused_without_memory_by_either_rule(rt: HostRuntime) -> Result<(), Fail> {
-    let now = Time::new(NOW, 0).to_zoned()?;
-    let blocks = take_all(rt.alloc())?;
-    let mut all_right = true;
-    for raw in RULES {
-        let missing = parse_with(rt.alloc(), "2 days ago", None, raw);
-        let range = parse_with(rt.alloc(), "12023 years ago", Some(now), raw);
-        all_right &= matches!(missing, Err(Error::MissingNow));
-        all_right &= matches!(range, Err(Error::Range));
     }
     drop(blocks);
     assert!(rt; all_right, "no-memory");

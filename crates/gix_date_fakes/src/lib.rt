@@ -1,4 +1,6 @@
-//! Writers and readers that take and give a few bytes a call, count the calls, and fail on demand.
+//! Writers and readers for tests: they take and give a few bytes a call, count the calls, and fail on demand.
+#![tactic(auto)]
+
 use gix_date::device::Sink;
 use std::alloc::{AllocError, Global};
 use std::cell::Cell;
@@ -6,7 +8,7 @@ use std::io::{Read, Write};
 use std::{fmt, io};
 
 /// Every kind of fault that a reader or writer may have.
-pub(crate) const KINDS: [io::ErrorKind; 42] = [
+pub const KINDS: [io::ErrorKind; 42] = [
     io::ErrorKind::NotFound,
     io::ErrorKind::PermissionDenied,
     io::ErrorKind::ConnectionRefused,
@@ -52,7 +54,7 @@ pub(crate) const KINDS: [io::ErrorKind; 42] = [
 ];
 
 /// Takes all memory that there is, in ever smaller blocks, until the smallest is refused. It fails where it got none.
-pub(crate) fn take_all(alloc: Global) -> Result<Vec<Vec<u8>>, AllocError> {
+pub fn take_all(alloc: Global) -> Result<Vec<Vec<u8>>, AllocError> {
     let mut blocks = Vec::with_capacity(alloc, 65536)?;
     let mut size = 1_usize << 46;
     for _ in 0..47 {
@@ -74,22 +76,17 @@ pub(crate) fn take_all(alloc: Global) -> Result<Vec<Vec<u8>>, AllocError> {
 
 /// A writer that takes a few bytes a call, up to a limit, and then fails.
 #[derive(Drop)]
-pub(crate) struct Slow {
-    pub(crate) taken: Vec<u8>,
-    pub(crate) calls: usize,
-    pub(crate) flushes: usize,
+pub struct Slow {
+    pub taken: Vec<u8>,
+    pub calls: usize,
+    pub flushes: usize,
     bytes_a_call: usize,
     room: usize,
     kind: io::ErrorKind,
 }
 
 impl Slow {
-    pub(crate) fn new(
-        alloc: Global,
-        bytes_a_call: usize,
-        room: usize,
-        kind: io::ErrorKind,
-    ) -> Slow {
+    pub fn new(alloc: Global, bytes_a_call: usize, room: usize, kind: io::ErrorKind) -> Slow {
         Slow {
             taken: Vec::new(alloc),
             calls: 0,
@@ -101,7 +98,7 @@ impl Slow {
     }
 
     /// A writer that takes all that it is given.
-    pub(crate) fn roomy(alloc: Global) -> Slow {
+    pub fn roomy(alloc: Global) -> Slow {
         Slow::new(alloc, 1 << 20, 1 << 30, io::ErrorKind::Other)
     }
 }
@@ -126,14 +123,14 @@ impl Write for Slow {
 
 /// A writer that takes one byte a call, up to a limit, and then none.
 #[derive(Drop)]
-pub(crate) struct Halting {
-    pub(crate) taken: Vec<u8>,
-    pub(crate) calls: usize,
+pub struct Halting {
+    pub taken: Vec<u8>,
+    pub calls: usize,
     room: usize,
 }
 
 impl Halting {
-    pub(crate) fn new(alloc: Global, room: usize) -> Halting {
+    pub fn new(alloc: Global, room: usize) -> Halting {
         Halting {
             taken: Vec::new(alloc),
             calls: 0,
@@ -158,8 +155,8 @@ impl Write for Halting {
 
 /// A reader that gives a text over and over, a few bytes a call, so many bytes in all, and then ends or fails.
 #[derive(Drop)]
-pub(crate) struct Supply<'a> {
-    pub(crate) calls: usize,
+pub struct Supply<'a> {
+    pub calls: usize,
     text: &'a [u8],
     place: usize,
     bytes_a_call: usize,
@@ -169,16 +166,12 @@ pub(crate) struct Supply<'a> {
 
 impl<'a> Supply<'a> {
     /// The text once.
-    pub(crate) fn once(
-        text: &'a [u8],
-        bytes_a_call: usize,
-        fault: Option<io::ErrorKind>,
-    ) -> Supply<'a> {
+    pub fn once(text: &'a [u8], bytes_a_call: usize, fault: Option<io::ErrorKind>) -> Supply<'a> {
         Supply::of(text, bytes_a_call, text.len(), fault)
     }
 
     /// So many bytes of the text and its repetitions.
-    pub(crate) fn of(
+    pub fn of(
         text: &'a [u8],
         bytes_a_call: usize,
         left: usize,
@@ -222,14 +215,14 @@ impl Read for Supply<'_> {
 
 /// A reader that gives one piece a call, and takes all memory that there is before it gives the last.
 #[derive(Drop)]
-pub(crate) struct Hoarder<'a> {
+pub struct Hoarder<'a> {
     alloc: Global,
     pieces: &'a [&'a [u8]],
     blocks: Option<Vec<Vec<u8>>>,
 }
 
 impl<'a> Hoarder<'a> {
-    pub(crate) fn new(alloc: Global, pieces: &'a [&'a [u8]]) -> Hoarder<'a> {
+    pub fn new(alloc: Global, pieces: &'a [&'a [u8]]) -> Hoarder<'a> {
         Hoarder {
             alloc,
             pieces,
@@ -255,14 +248,14 @@ impl Read for Hoarder<'_> {
 
 /// A sink that is no device: it takes one byte a call, so many in all, and then refuses.
 #[derive(Drop)]
-pub(crate) struct Dribble {
-    pub(crate) calls: usize,
+pub struct Dribble {
+    pub calls: usize,
     room: usize,
     fault: Option<io::ErrorKind>,
 }
 
 impl Dribble {
-    pub(crate) fn new(room: usize) -> Dribble {
+    pub fn new(room: usize) -> Dribble {
         Dribble {
             calls: 0,
             room,
@@ -292,8 +285,8 @@ impl Sink for Dribble {
 
 /// A place for texts that counts its pieces.
 #[derive(Drop)]
-pub(crate) struct Pieces {
-    pub(crate) count: usize,
+pub struct Pieces {
+    pub count: usize,
 }
 
 impl fmt::Write for Pieces {
@@ -306,9 +299,9 @@ impl fmt::Write for Pieces {
 /// A reader that gives header lines, so many a call at most, and counts its calls and those that come before each line
 /// that it gave was replied to.
 #[derive(Drop)]
-pub(crate) struct Asking<'a> {
-    pub(crate) calls: usize,
-    pub(crate) early: usize,
+pub struct Asking<'a> {
+    pub calls: usize,
+    pub early: usize,
     left: usize,
     lines_a_call: usize,
     given: usize,
@@ -316,7 +309,7 @@ pub(crate) struct Asking<'a> {
 }
 
 impl<'a> Asking<'a> {
-    pub(crate) fn new(lines: usize, lines_a_call: usize, replied: &'a Cell<usize>) -> Asking<'a> {
+    pub fn new(lines: usize, lines_a_call: usize, replied: &'a Cell<usize>) -> Asking<'a> {
         Asking {
             calls: 0,
             early: 0,
@@ -347,7 +340,7 @@ impl Read for Asking<'_> {
 
 /// A writer that counts the lines that were written.
 #[derive(Drop)]
-pub(crate) struct Replied<'a>(pub(crate) &'a Cell<usize>);
+pub struct Replied<'a>(pub &'a Cell<usize>);
 
 impl Write for Replied<'_> {
     fn write(&mut self, buf: &[u8]) -> io::Result<usize> {
@@ -363,13 +356,13 @@ impl Write for Replied<'_> {
 
 /// A writer with a place for a few bytes, which takes no memory.
 #[derive(Drop)]
-pub(crate) struct Small {
+pub struct Small {
     bytes: [u8; 256],
     len: usize,
 }
 
 impl Small {
-    pub(crate) fn new() -> Small {
+    pub fn new() -> Small {
         Small {
             bytes: [0; 256],
             len: 0,
@@ -377,7 +370,7 @@ impl Small {
     }
 
     /// Whether exactly this was written.
-    pub(crate) fn is(&self, text: &[u8]) -> bool {
+    pub fn is(&self, text: &[u8]) -> bool {
         self.len <= self.bytes.len() && &self.bytes[..self.len] == text
     }
 }

@@ -1,0 +1,484 @@
+/* Runs rows of outside values on the library for C: those of the files that are named, in the
+ * folder that it runs in. A line that is empty or begins with '#' is no row. A row is a call, its
+ * arguments and the answer that is due, cut by tabs; a refusal is due where the last field is '!'
+ * and its name. Says which rows differ, and of each file how many there are, and which calls this
+ * library lacks. */
+#include "gix_date.h"
+
+#include <inttypes.h>
+#include <stdio.h>
+#include <stdlib.h>
+#include <string.h>
+
+enum { MAX_FIELDS = 8, MAX_ANSWER = 8192 };
+
+/* The bytes of a field, with a NUL after them. */
+typedef struct field {
+    char *bytes;
+    size_t len;
+} field;
+
+/* Fields, and how many of them are taken. */
+typedef struct arguments {
+    field fields[MAX_FIELDS];
+    size_t count, taken;
+} arguments;
+
+typedef struct answer {
+    bool refused;
+    char bytes[MAX_ANSWER];
+    size_t len;
+} answer;
+
+/* What became of a call: its answer is there, the row has not its arguments, or there is no such
+ * call here. */
+enum outcome { ANSWERED, MALFORMED, LACKING };
+
+static const struct {
+    const char *name;
+    uint32_t number;
+} formats[] =
+    {
+        {"SHORT", GIX_DATE_SHORT},
+        {"RFC2822", GIX_DATE_RFC2822},
+        {"GIT_RFC2822", GIX_DATE_GIT_RFC2822},
+        {"ISO8601", GIX_DATE_ISO8601},
+        {"ISO8601_STRICT", GIX_DATE_ISO8601_STRICT},
+        {"GITOXIDE", GIX_DATE_GITOXIDE},
+        {"DEFAULT", GIX_DATE_DEFAULT},
+        {"UNIX", GIX_DATE_UNIX},
+        {"RAW", GIX_DATE_RAW},
+},
+  refusals[] = {
+      {"NotText", GIX_DATE_NOT_TEXT},
+      {"NoSuchOption", GIX_DATE_NO_SUCH_OPTION},
+      {"NoRoom", GIX_DATE_NO_ROOM},
+      {"InvalidTime", GIX_DATE_INVALID_TIME},
+      {"UnknownFormat", GIX_DATE_UNKNOWN_FORMAT},
+      {"DateConversion", GIX_DATE_DATE_CONVERSION},
+      {"MissingNow", GIX_DATE_MISSING_NOW},
+      {"Range", GIX_DATE_RANGE},
+      {"InvalidInstant", GIX_DATE_INVALID_INSTANT},
+      {"InvalidZone", GIX_DATE_INVALID_ZONE},
+      {"Conversion", GIX_DATE_CONVERSION},
+      {"OffsetTooWide", GIX_DATE_OFFSET_TOO_WIDE},
+      {"Pattern", GIX_DATE_PATTERN},
+      {"OutOfMemory", GIX_DATE_OUT_OF_MEMORY},
+      {"NoSignature", GIX_DATE_NO_SIGNATURE},
+      {"BadPart", GIX_DATE_BAD_PART},
+};
+
+#define LENGTH(array) (sizeof(array) / sizeof *(array))
+#define TEXT(field) (const uint8_t *)(field).bytes, (field).len
+
+/* Calls that other callers of the rows have, and this library has not. */
+static const char *const lacking[] = {"to_zoned", "now_local"};
+
+/* The name where calls differ that have to agree. No row has it. */
+static const char APART[] = "CallsDiffer";
+
+static void fail(const char *what, const char *which)
+{
+    fprintf(stderr, "%s: %s\n", which, what);
+    exit(2);
+}
+
+/* The whole of a file, with a NUL after it. */
+static field read_file(const char *name)
+{
+    FILE *file = fopen(name, "rb");
+    field whole = {malloc(1), 0};
+    char piece[4096];
+    size_t count;
+    if (!file)
+        fail("cannot be opened", name);
+    while ((count = fread(piece, 1, sizeof piece, file)) > 0) {
+        whole.bytes = realloc(whole.bytes, whole.len + count + 1);
+        if (!whole.bytes)
+            fail("no memory", name);
+        memcpy(whole.bytes + whole.len, piece, count);
+        whole.len += count;
+    }
+    fclose(file);
+    whole.bytes[whole.len] = 0;
+    return whole;
+}
+
+/* The UTF-8 of a character, at most four bytes. */
+static size_t put_character(unsigned long code, char *out)
+{
+    size_t more = code < 0x80 ? 0 : code < 0x800 ? 1 : code < 0x10000 ? 2 : 3;
+    static const unsigned char first[] = {0, 0xc0, 0xe0, 0xf0};
+    out[0] = (char)(first[more] | code >> 6 * more);
+    for (size_t i = 1; i <= more; i++)
+        out[i] = (char)(0x80 | (code >> 6 * (more - i) & 0x3f));
+    return more + 1;
+}
+
+/* Takes the escapes out of a field in place: \t, \n, \r, \\, \xff and \u{2028}. */
+static bool unescape(field *text)
+{
+    char *from = text->bytes, *to = text->bytes, *end;
+    while (*from) {
+        unsigned long code;
+        if (*from != '\\') {
+            *to++ = *from++;
+            continue;
+        }
+        switch (from[1]) {
+        case 't':
+            *to++ = '\t';
+            from += 2;
+            break;
+        case 'n':
+            *to++ = '\n';
+            from += 2;
+            break;
+        case 'r':
+            *to++ = '\r';
+            from += 2;
+            break;
+        case '\\':
+            *to++ = '\\';
+            from += 2;
+            break;
+        case 'x': {
+            char digits[3] = {from[2], from[2] ? from[3] : 0, 0};
+            code = strtoul(digits, &end, 16);
+            if (end != digits + 2)
+                return false;
+            *to++ = (char)code;
+            from += 4;
+            break;
+        }
+        case 'u':
+            code = from[2] == '{' ? strtoul(from + 3, &end, 16) : 0;
+            if (from[2] != '{' || end == from + 3 || *end != '}' || code > 0x10ffff)
+                return false;
+            to += put_character(code, to);
+            from = end + 1;
+            break;
+        default: return false;
+        }
+    }
+    text->len = (size_t)(to - text->bytes);
+    *to = 0;
+    return true;
+}
+
+/* The next field; one of no bytes where there is none, and then more are taken than there are. */
+static field take(arguments *row)
+{
+    static char none[1];
+    return row->taken++ < row->count ? row->fields[row->taken - 1] : (field){none, 0};
+}
+
+static bool to_number(const char *text, int64_t *number)
+{
+    char *end;
+    *number = strtoll(text, &end, 10);
+    return end != text && *end == 0;
+}
+
+static bool take_time(arguments *row, gix_date_time *time)
+{
+    int64_t offset;
+    bool is_one = to_number(take(row).bytes, &time->seconds);
+    is_one &= to_number(take(row).bytes, &offset);
+    time->offset = (int32_t)offset;
+    return is_one && time->offset == offset;
+}
+
+/* Answers a status, where it is a refusal. */
+static bool is_refused(uint32_t status, answer *told)
+{
+    told->refused = status != GIX_DATE_OK;
+    for (size_t i = 0; i < LENGTH(refusals); i++)
+        if (refusals[i].number == status)
+            told->len = (size_t)snprintf(told->bytes, MAX_ANSWER, "%s", refusals[i].name);
+    return told->refused;
+}
+
+static void tell_time(uint32_t status, gix_date_time time, answer *told)
+{
+    if (!is_refused(status, told))
+        told->len = (size_t)snprintf(told->bytes, MAX_ANSWER, "%" PRId64 " %" PRId32, time.seconds,
+                                     time.offset);
+}
+
+/* Keeps the answer where another one is the same. */
+static void agree(answer *told, const answer *other)
+{
+    if (told->refused == other->refused && told->len == other->len &&
+        !memcmp(told->bytes, other->bytes, told->len))
+        return;
+    told->refused = true;
+    told->len = (size_t)snprintf(told->bytes, MAX_ANSWER, "%s", APART);
+}
+
+/* A date parsed at a moment: `none`, or its seconds, its nanoseconds and its zone: an offset, the
+ * name of a TZif file, or a rule. */
+static bool parse_at(field moment, uint32_t rule, field text, answer *told)
+{
+    gix_date_time time = {-77, -7};
+    if (!strcmp(moment.bytes, "none")) {
+        tell_time(gix_date_parse(TEXT(text), rule, &time), time, told);
+        return true;
+    }
+    gix_date_instant now;
+    char *rest;
+    now.seconds = strtoll(moment.bytes, &rest, 10);
+    now.nanoseconds = (int32_t)strtol(rest, &rest, 10);
+    if (*rest != ' ')
+        return false;
+    field zone = {rest + 1, strlen(rest + 1)};
+    int64_t offset;
+    if (zone.len > 5 && !strcmp(zone.bytes + zone.len - 5, ".tzif")) {
+        field file = read_file(zone.bytes);
+        tell_time(gix_date_parse_in_tzif_zone(TEXT(text), rule, &now, TEXT(file), &time), time,
+                  told);
+        free(file.bytes);
+    } else if (to_number(zone.bytes, &offset)) {
+        tell_time(gix_date_parse_at_offset(TEXT(text), rule, &now, (int32_t)offset, &time), time,
+                  told);
+    } else {
+        tell_time(gix_date_parse_in_posix_zone(TEXT(text), rule, &now, TEXT(zone), &time), time,
+                  told);
+    }
+    return true;
+}
+
+/* Moments at which a text that is not relative means the same. */
+static const char *const any[] = {
+    "none", "1698400800 0 0", "1698400800 0 3600", "1698400800 0 7200", "-1 0 -34200", "0 0 93599",
+};
+
+static bool parse(arguments *row, answer *told)
+{
+    static const struct {
+        const char *name;
+        size_t first, last;
+    } rules[] = {{"both", 0, 1}, {"quarters", 0, 0}, {"minutes", 1, 1}};
+    static const uint32_t numbers[] = {GIX_DATE_QUARTERS, GIX_DATE_WHOLE_MINUTES};
+    field name = take(row), moment = take(row), text = take(row);
+    bool is_any = !strcmp(moment.bytes, "any"), is_first = true;
+    for (size_t i = 0; i < LENGTH(rules); i++) {
+        if (strcmp(rules[i].name, name.bytes) != 0)
+            continue;
+        for (size_t rule = rules[i].first; rule <= rules[i].last; rule++) {
+            for (size_t at = 0; at < (is_any ? LENGTH(any) : 1); at++) {
+                field now = is_any ? (field){(char *)any[at], strlen(any[at])} : moment;
+                answer other;
+                if (!parse_at(now, numbers[rule], text, is_first ? told : &other))
+                    return false;
+                if (!is_first)
+                    agree(told, &other);
+                is_first = false;
+            }
+        }
+    }
+    return !is_first;
+}
+
+/* A text in a format or by a pattern, and by the call that gives the seconds where there is none.
+ */
+static bool print(arguments *row, bool by_pattern, answer *told)
+{
+    field how = take(row);
+    gix_date_time time;
+    if (!take_time(row, &time))
+        return false;
+    answer always = {false, "", 0}, seconds = {false, "", 0};
+    uint8_t *out = (uint8_t *)told->bytes, *other = (uint8_t *)always.bytes;
+    uint32_t status = 0, also = 0;
+    bool is_known = by_pattern;
+    if (by_pattern) {
+        status = gix_date_format_by_pattern(&time, TEXT(how), out, MAX_ANSWER, &told->len);
+        also = gix_date_format_by_pattern_or_unix(&time, TEXT(how), other, MAX_ANSWER, &always.len);
+    }
+    for (size_t i = 0; !by_pattern && i < LENGTH(formats); i++) {
+        if (strcmp(formats[i].name, how.bytes) != 0)
+            continue;
+        status = gix_date_format(&time, formats[i].number, out, MAX_ANSWER, &told->len);
+        also = gix_date_format_or_unix(&time, formats[i].number, other, MAX_ANSWER, &always.len);
+        is_known = true;
+    }
+    if (!is_known)
+        return false;
+    if (is_refused(status, told)) {
+        seconds.len = (size_t)snprintf(seconds.bytes, MAX_ANSWER, "%" PRId64, time.seconds);
+        agree(&always, &seconds);
+        if (also != GIX_DATE_OK || always.refused)
+            told->len = (size_t)snprintf(told->bytes, MAX_ANSWER, "%s", APART);
+    } else {
+        always.refused = also != GIX_DATE_OK;
+        agree(told, &always);
+    }
+    return true;
+}
+
+static void cut_signature(field line, answer *told)
+{
+    gix_date_signature parts;
+    if (is_refused(gix_date_cut_signature(TEXT(line), &parts), told))
+        return;
+    const gix_date_span spans[] = {parts.name, parts.mail, parts.time};
+    for (size_t i = told->len = 0; i < LENGTH(spans); i++) {
+        memcpy(told->bytes + told->len, line.bytes + spans[i].start, spans[i].len);
+        told->len += spans[i].len;
+        if (i < 2)
+            told->bytes[told->len++] = "<>"[i];
+    }
+}
+
+static void signature_time(field line, answer *told)
+{
+    gix_date_signature parts;
+    gix_date_time time = {0, 0};
+    if (is_refused(gix_date_cut_signature(TEXT(line), &parts), told))
+        return;
+    const uint8_t *start = (const uint8_t *)line.bytes + parts.time.start;
+    uint32_t status = gix_date_parse_header(start, parts.time.len, &time);
+    tell_time(status, time, told);
+}
+
+static bool write_signature(arguments *row, answer *told)
+{
+    field name = take(row), mail = take(row);
+    gix_date_time time;
+    if (!take_time(row, &time))
+        return false;
+    uint8_t *out = (uint8_t *)told->bytes;
+    is_refused(gix_date_write_signature(TEXT(name), TEXT(mail), &time, out, MAX_ANSWER, &told->len),
+               told);
+    return true;
+}
+
+static bool header_text(arguments *row, answer *told)
+{
+    gix_date_time time;
+    if (!take_time(row, &time))
+        return false;
+    is_refused(gix_date_write_header(&time, (uint8_t *)told->bytes, MAX_ANSWER, &told->len), told);
+    return true;
+}
+
+static void parse_header(field text, answer *told)
+{
+    gix_date_time time = {0, 0};
+    uint32_t status = gix_date_parse_header(TEXT(text), &time);
+    tell_time(status, time, told);
+}
+
+static void is_canonical_header(field text, answer *told)
+{
+    told->refused = false;
+    told->len = (size_t)snprintf(told->bytes, MAX_ANSWER, "%s",
+                                 gix_date_is_canonical_header(TEXT(text)) ? "yes" : "no");
+}
+
+/* Makes the call that a row names. */
+static enum outcome call(arguments *row, answer *told)
+{
+    const char *name = take(row).bytes;
+    bool is_right = true;
+    for (size_t i = 0; i < LENGTH(lacking); i++)
+        if (!strcmp(lacking[i], name))
+            return LACKING;
+    if (!strcmp(name, "parse"))
+        is_right = parse(row, told);
+    else if (!strcmp(name, "parse_header"))
+        parse_header(take(row), told);
+    else if (!strcmp(name, "is_canonical_header"))
+        is_canonical_header(take(row), told);
+    else if (!strcmp(name, "header_text"))
+        is_right = header_text(row, told);
+    else if (!strcmp(name, "format") || !strcmp(name, "format_by_pattern"))
+        is_right = print(row, !strcmp(name, "format_by_pattern"), told);
+    else if (!strcmp(name, "cut_signature"))
+        cut_signature(take(row), told);
+    else if (!strcmp(name, "signature_time"))
+        signature_time(take(row), told);
+    else if (!strcmp(name, "write_signature"))
+        is_right = write_signature(row, told);
+    else
+        return MALFORMED;
+    return is_right && row->taken == row->count ? ANSWERED : MALFORMED;
+}
+
+/* Cuts a row at its tabs. The last field keeps its escapes, since '!' means another thing there
+ * than `\x21`. */
+static bool cut(char *line, arguments *row, field *due)
+{
+    char *tab = strrchr(line, '\t');
+    if (!tab)
+        return false;
+    *tab = 0;
+    *due = (field){tab + 1, strlen(tab + 1)};
+    for (row->count = row->taken = 0; line && row->count < MAX_FIELDS; row->count++) {
+        char *end = strchr(line, '\t');
+        if (end)
+            *end = 0;
+        row->fields[row->count] = (field){line, 0};
+        if (!unescape(&row->fields[row->count]))
+            return false;
+        line = end ? end + 1 : NULL;
+    }
+    return !line;
+}
+
+/* Runs a row, and says what is wrong with it. */
+static enum outcome run(const char *file, size_t number, char *line)
+{
+    arguments row;
+    field due;
+    answer told;
+    enum outcome outcome = cut(line, &row, &due) ? call(&row, &told) : MALFORMED;
+    if (outcome == MALFORMED)
+        printf("%s:%zu: no row\n", file, number);
+    if (outcome != ANSWERED)
+        return outcome;
+    bool refused = due.bytes[0] == '!';
+    due.bytes += refused;
+    if (unescape(&due) && refused == told.refused && due.len == told.len &&
+        !memcmp(due.bytes, told.bytes, due.len))
+        return ANSWERED;
+    printf("%s:%zu: it answers %s%.*s\n", file, number, told.refused ? "!" : "", (int)told.len,
+           told.bytes);
+    return MALFORMED;
+}
+
+/* Runs the rows of a file, and answers how many differ. */
+static size_t run_file(const char *name)
+{
+    field file = read_file(name);
+    size_t rows = 0, differing = 0, number = 0, left_out[LENGTH(lacking)] = {0};
+    for (char *line = file.bytes, *end; *line; line = end + 1) {
+        end = strchr(line, '\n');
+        if (!end)
+            fail("its last line has no end", name);
+        *end = 0;
+        number++;
+        if (!*line || *line == '#')
+            continue;
+        rows++;
+        enum outcome outcome = run(name, number, line);
+        differing += outcome == MALFORMED;
+        for (size_t i = 0; outcome == LACKING && i < LENGTH(lacking); i++)
+            left_out[i] += !strcmp(lacking[i], line);
+    }
+    free(file.bytes);
+    printf("%s: %zu rows, %zu differ\n", name, rows, differing);
+    for (size_t i = 0; i < LENGTH(lacking); i++)
+        if (left_out[i])
+            printf("%s: %zu left out: %s\n", name, left_out[i], lacking[i]);
+    return differing;
+}
+
+int main(int count, char **names)
+{
+    size_t differing = 0;
+    for (int i = 1; i < count; i++)
+        differing += run_file(names[i]);
+    return count < 2 || differing > 0;
+}

@@ -1,0 +1,188 @@
+//! Each call of this crate, its refusals, and sixteen threads at once. The rows of outside values are run by `rows.rs`.
+
+use gix_date_proved::{
+    is_canonical_header, parse, parse_header, parse_with, version, write_signature, Error, Format,
+    Moment, RawOffsets, Signature, Time, Zone,
+};
+use std::thread;
+
+const DAY: Time = Time {
+    seconds: 1660797906,
+    offset: 28800,
+};
+
+fn time(seconds: i64, offset: i32) -> Result<Time, Error> {
+    Ok(Time { seconds, offset })
+}
+
+#[test]
+fn headers_are_read_and_written() {
+    assert_eq!(parse_header("1660797906 +0800"), Ok(DAY));
+    assert_eq!(parse_header("12abc +0100"), time(12, 3600));
+    assert_eq!(parse_header(""), Err(Error::InvalidTime));
+    assert!(is_canonical_header("-5 -0130"));
+    assert!(!is_canonical_header("0 -0000"));
+    assert_eq!(DAY.to_header().as_deref(), Ok("1660797906 +0800"));
+    let least = Time {
+        seconds: i64::MIN,
+        offset: -359999,
+    };
+    assert_eq!(
+        least.to_header().as_deref(),
+        Ok("-9223372036854775808 -9959")
+    );
+    assert_eq!(
+        Time {
+            seconds: 0,
+            offset: 360000
+        }
+        .to_header(),
+        Err(Error::OffsetTooWide)
+    );
+}
+
+#[test]
+fn dates_are_parsed() {
+    assert_eq!(parse("Thu, 18 Aug 2022 12:45:06 +0800", None), Ok(DAY));
+    assert_eq!(
+        parse("2008.02.14 20:30:45 -0500", None),
+        time(1203039045, -18000)
+    );
+    assert_eq!(parse("2018-12-24", None), time(1545609600, 0));
+    assert_eq!(parse("@5 +0007", None), Err(Error::UnknownFormat));
+    assert_eq!(
+        parse_with("@5 +0007", None, RawOffsets::WholeMinutes),
+        time(5, 420)
+    );
+    assert_eq!(parse("9999-12-31", None), Err(Error::DateConversion));
+    assert_eq!(parse("yesterday", None), Err(Error::MissingNow));
+}
+
+#[test]
+fn relative_dates_are_parsed_in_their_zone() {
+    let now = Moment::at_offset(1698400800, 7200);
+    assert_eq!(parse("yesterday", Some(&now)), time(1698314400, 7200));
+    assert_eq!(parse("12023 years ago", Some(&now)), Err(Error::Range));
+    assert_eq!(
+        parse("now", Some(&Moment::at_offset(0, 93600))),
+        Err(Error::InvalidZone)
+    );
+    assert_eq!(
+        parse("now", Some(&Moment::at_offset(253402207201, 0))),
+        Err(Error::InvalidInstant)
+    );
+    let in_fold = Moment {
+        seconds: 1699165800,
+        nanoseconds: 0,
+        zone: Zone::Posix("EST5EDT,M3.2.0,M11.1.0"),
+    };
+    assert_eq!(
+        parse("1 hour ago", Some(&in_fold)),
+        time(1699158600, -14400)
+    );
+    let unknown = Moment {
+        zone: Zone::Posix("banana"),
+        ..in_fold
+    };
+    assert_eq!(parse("now", Some(&unknown)), Err(Error::InvalidZone));
+    let empty_file = Moment {
+        zone: Zone::Tzif(b""),
+        ..in_fold
+    };
+    assert_eq!(parse("now", Some(&empty_file)), Err(Error::InvalidZone));
+}
+
+#[test]
+fn times_are_printed() {
+    assert_eq!(DAY.format(Format::Short).as_deref(), Ok("2022-08-18"));
+    assert_eq!(
+        DAY.format(Format::Rfc2822).as_deref(),
+        Ok("Thu, 18 Aug 2022 12:45:06 +0800")
+    );
+    assert_eq!(DAY.format(Format::Raw).as_deref(), Ok("1660797906 +0800"));
+    assert_eq!(DAY.format_by_pattern("%H:%M").as_deref(), Ok("12:45"));
+    let long = "%Y-%m-%d %H:%M:%S %z, ".repeat(4);
+    assert_eq!(
+        DAY.format_by_pattern(&long),
+        Ok("2022-08-18 12:45:06 +0800, ".repeat(4))
+    );
+    assert_eq!(DAY.format_by_pattern("%!"), Err(Error::Pattern));
+    assert_eq!(
+        DAY.format_by_pattern_or_unix("%!").as_deref(),
+        Ok("1660797906")
+    );
+    let wide = Time {
+        seconds: 5,
+        offset: 360000,
+    };
+    assert_eq!(wide.format(Format::Raw), Err(Error::OffsetTooWide));
+    assert_eq!(wide.format(Format::Iso8601), Err(Error::Conversion));
+    assert_eq!(wide.format_or_unix(Format::Raw).as_deref(), Ok("5"));
+}
+
+#[test]
+fn signature_lines_are_cut_and_written() {
+    let line = "A U Thor <author@example.com> 1660797906 +0800";
+    let signature = Signature::from_line(line).unwrap();
+    assert_eq!(
+        signature,
+        Signature {
+            name: "A U Thor",
+            mail: "author@example.com",
+            time: "1660797906 +0800"
+        }
+    );
+    assert_eq!(signature.time(), Ok(DAY));
+    assert_eq!(
+        write_signature(signature.name, signature.mail, DAY).as_deref(),
+        Ok(line)
+    );
+    assert_eq!(Signature::from_line("A <a>"), Err(Error::NoSignature));
+    assert_eq!(write_signature("A>", "a", DAY), Err(Error::BadPart));
+}
+
+#[test]
+fn threads_share_nothing() {
+    let threads: Vec<_> = (0..16)
+        .map(|_| {
+            thread::spawn(|| (0..200).all(|_| parse("2022-08-18 12:45:06 +0800", None) == Ok(DAY)))
+        })
+        .collect();
+    assert!(threads.into_iter().all(|thread| thread.join().unwrap()));
+}
+
+#[test]
+fn times_are_in_order_of_their_seconds() {
+    let rising = [(-1, 3600), (0, -3600), (0, 0), (1, -3600)];
+    let times: Vec<_> = rising
+        .map(|(seconds, offset)| Time { seconds, offset })
+        .into();
+    assert!(times.windows(2).all(|pair| pair[0] < pair[1]));
+    assert_eq!(time(0, 0), Ok(Time::default()));
+}
+
+/// Derives that callers count on, each a bound.
+#[test]
+fn types_have_their_traits() {
+    fn are_values<T: Copy + std::fmt::Debug + PartialEq>() {}
+    fn are_keys<T: Copy + std::fmt::Debug + Eq + std::hash::Hash>() {}
+    are_keys::<Time>();
+    are_keys::<Error>();
+    are_values::<Format>();
+    are_values::<RawOffsets>();
+    are_values::<Signature<'_>>();
+    assert_eq!(RawOffsets::default(), RawOffsets::Quarter);
+}
+
+#[test]
+fn errors_are_errors() {
+    let error: Box<dyn std::error::Error> = Box::new(parse("banana", None).unwrap_err());
+    assert_eq!(error.to_string(), "no known date format");
+    let [major, minor, patch] = [
+        env!("CARGO_PKG_VERSION_MAJOR"),
+        env!("CARGO_PKG_VERSION_MINOR"),
+        env!("CARGO_PKG_VERSION_PATCH"),
+    ]
+    .map(|part| part.parse::<u32>().unwrap());
+    assert_eq!(version(), 10_000 * major + 100 * minor + patch);
+}

@@ -1,0 +1,103 @@
+//! What a call answers.
+use gix_date::{Error, ParseError, Time};
+use gix_signature::SignatureError;
+use std::alloc::AllocError;
+use std::fmt;
+
+/// What a call answers.
+#[derive(Drop)]
+pub(crate) enum Answer {
+    /// A time, shown as its seconds, a space and its offset in seconds.
+    Time(Time),
+    /// A text.
+    Text(String),
+    /// A refusal, by its name.
+    Refused(&'static str),
+}
+
+impl Answer {
+    /// The answer where calls differ that have to agree. No row has this name.
+    pub(crate) const APART: Answer = Answer::Refused("CallsDiffer");
+
+    /// Whether it is a refusal.
+    pub(crate) fn is_refusal(&self) -> bool {
+        matches!(self, Answer::Refused(_))
+    }
+
+    /// A time, or a refusal of this name where there is none.
+    pub(crate) fn of_time(time: Option<Time>, refusal: &'static str) -> Answer {
+        match time {
+            Some(time) => Answer::Time(time),
+            None => Answer::Refused(refusal),
+        }
+    }
+}
+
+impl fmt::Display for Answer {
+    fn fmt<W: fmt::Write>(&self, f: &mut fmt::Formatter<W>) -> fmt::Result {
+        match self {
+            Answer::Time(time) => {
+                let (seconds, offset) = (time.seconds, time.offset);
+                write!(f, "{seconds} {offset}")
+            }
+            Answer::Text(text) => f.write_str(text.as_str()),
+            Answer::Refused(name) => f.write_str(name),
+        }
+    }
+}
+
+/// The variant of a fault.
+pub(crate) fn name_of(fault: &Error) -> &'static str {
+    match fault {
+        Error::UnknownFormat { input: _ } => "UnknownFormat",
+        Error::InvalidTime => "InvalidTime",
+        Error::MissingNow => "MissingNow",
+        Error::DateConversion { input: _ } => "DateConversion",
+        Error::Conversion => "Conversion",
+        Error::Range => "Range",
+        Error::OffsetTooWide => "OffsetTooWide",
+        Error::Pattern => "Pattern",
+        Error::Write(_) => "Write",
+        Error::Memory => "Memory",
+    }
+}
+
+impl From<Result<Time, ParseError>> for Answer {
+    fn from(answer: Result<Time, ParseError>) -> Answer {
+        match answer {
+            Ok(time) => Answer::Time(time),
+            Err(ParseError::UnknownFormat) => Answer::Refused("UnknownFormat"),
+            Err(ParseError::DateConversion) => Answer::Refused("DateConversion"),
+            Err(ParseError::MissingNow) => Answer::Refused("MissingNow"),
+            Err(ParseError::Range) => Answer::Refused("Range"),
+        }
+    }
+}
+
+impl From<Result<String, Error>> for Answer {
+    fn from(answer: Result<String, Error>) -> Answer {
+        match answer {
+            Ok(text) => Answer::Text(text),
+            Err(fault) => Answer::Refused(name_of(&fault)),
+        }
+    }
+}
+
+impl From<SignatureError> for Answer {
+    fn from(fault: SignatureError) -> Answer {
+        Answer::Refused(match fault {
+            SignatureError::BadPart => "BadPart",
+            SignatureError::OffsetTooWide => "OffsetTooWide",
+            SignatureError::Write(_) => "Write",
+        })
+    }
+}
+
+impl From<Result<String, AllocError>> for Answer {
+    fn from(text: Result<String, AllocError>) -> Answer {
+        match text {
+            Ok(text) => Answer::Text(text),
+            Err(AllocError) => Answer::Refused("Memory"),
+        }
+    }
+}

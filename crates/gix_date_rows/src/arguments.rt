@@ -1,0 +1,72 @@
+//! The fields of a row, taken one after the other.
+use gix_date::time::Format;
+use gix_date::time::format::{
+    DEFAULT, GIT_RFC2822, GITOXIDE, ISO8601, ISO8601_STRICT, RFC2822, SHORT,
+};
+use gix_date::{RawOffsets, Time};
+use jiff::Timestamp;
+
+/// Fields, and how many of them are taken.
+#[derive(Drop)]
+pub(crate) struct Arguments<'a> {
+    fields: &'a [&'a str],
+    taken: usize,
+}
+
+impl<'a> Arguments<'a> {
+    pub(crate) fn new(fields: &'a [&'a str]) -> Arguments<'a> {
+        Arguments { fields, taken: 0 }
+    }
+
+    /// Whether each field is taken.
+    pub(crate) fn is_empty(&self) -> bool {
+        self.fields.len() == self.taken
+    }
+
+    /// The next field.
+    pub(crate) fn text(&mut self) -> Option<&'a str> {
+        let field = self.fields.get(self.taken)?;
+        self.taken = self.taken.saturating_add(1);
+        Some(field)
+    }
+
+    /// A time: its seconds and its offset.
+    pub(crate) fn time(&mut self) -> Option<Time> {
+        let seconds = self.text()?.parse().ok()?;
+        let offset = self.text()?.parse().ok()?;
+        Some(Time::new(seconds, offset))
+    }
+
+    /// An instant: its seconds and its nanoseconds.
+    pub(crate) fn instant(&mut self) -> Option<Timestamp> {
+        let seconds = self.text()?.parse().ok()?;
+        let nanoseconds = self.text()?.parse().ok()?;
+        Timestamp::new(seconds, nanoseconds).ok()
+    }
+
+    /// Rules for raw offsets: both, or the one of this name.
+    pub(crate) fn rules(&mut self) -> Option<&'static [RawOffsets]> {
+        match self.text()? {
+            "both" => Some(&[RawOffsets::Quarter, RawOffsets::WholeMinutes]),
+            "quarters" => Some(&[RawOffsets::Quarter]),
+            "minutes" => Some(&[RawOffsets::WholeMinutes]),
+            _ => None,
+        }
+    }
+
+    /// A format, by its name.
+    pub(crate) fn format(&mut self) -> Option<Format> {
+        Some(match self.text()? {
+            "SHORT" => SHORT.into(),
+            "RFC2822" => RFC2822.into(),
+            "GIT_RFC2822" => GIT_RFC2822.into(),
+            "ISO8601" => ISO8601.into(),
+            "ISO8601_STRICT" => ISO8601_STRICT.into(),
+            "GITOXIDE" => GITOXIDE.into(),
+            "DEFAULT" => DEFAULT.into(),
+            "UNIX" => Format::Unix,
+            "RAW" => Format::Raw,
+            _ => return None,
+        })
+    }
+}

@@ -1,0 +1,207 @@
+//! The calls of rows, each named as in the library.
+use crate::answer::{Answer, name_of};
+use crate::arguments::Arguments;
+use crate::moments::{parsed, zone_of};
+use gix_date::device::Device;
+use gix_date::parsing::TimeBuf;
+use gix_date::time::Format;
+use gix_date::{Error, Time, parse_header};
+use gix_signature::{SignatureError, SignatureRef, write_line};
+use jiff::Timestamp;
+use jiff::tz::TimeZoneDatabase;
+use std::alloc::{AllocError, Global};
+
+/// What the call answers that a row's fields name. `None` where they name none, or not its arguments.
+pub(crate) fn answer_to(
+    alloc: Global,
+    zones: &TimeZoneDatabase,
+    row: &mut Arguments<'_>,
+) -> Option<Answer> {
+    match row.text()? {
+        "parse_header" => Some(header_time(row.text()?)),
+        "is_canonical_header" => Some(is_canonical_header(alloc, row.text()?)),
+        "header_text" => Some(header_text(alloc, row.time()?)),
+        "parse" => {
+            let rules = row.rules()?;
+            let moments = row.text()?;
+            parsed(alloc, zones, rules, moments, row.text()?)
+        }
+        "to_zoned" => Some(converted(row.time()?)),
+        "now_local" => {
+            let clock = row.instant()?;
+            now_local(zones, clock, row.text()?)
+        }
+        call => printed(alloc, call, row).or_else(|| signature(alloc, call, row)),
+    }
+}
+
+/// What a call that prints a time answers.
+fn printed(alloc: Global, call: &str, row: &mut Arguments<'_>) -> Option<Answer> {
+    match call {
+        "format" => {
+            let format = row.format()?;
+            Some(format_text(alloc, format, row.time()?))
+        }
+        "format_by_pattern" => {
+            let pattern = row.text()?;
+            Some(row.time()?.format_by_pattern(alloc, pattern).into())
+        }
+        _ => None,
+    }
+}
+
+/// What a call for signature lines answers.
+fn signature(alloc: Global, call: &str, row: &mut Arguments<'_>) -> Option<Answer> {
+    match call {
+        "cut_signature" => Some(cut(alloc, row.text()?)),
+        "signature_time" => Some(signature_time(row.text()?)),
+        "write_signature" => {
+            let name = row.text()?;
+            let mail = row.text()?;
+            Some(signature_line(alloc, name, mail, row.time()?))
+        }
+        _ => None,
+    }
+}
+
+/// The time of a header, where both calls that read one agree.
+fn header_time(text: &str) -> Answer {
+    let time = parse_header(text);
+    let is_same = match text.parse::<Time>() {
+        Ok(other) => time == Some(other),
+        Err(fault) => time.is_none() && matches!(fault, Error::InvalidTime),
+    };
+    if is_same {
+        Answer::of_time(time, "InvalidTime")
+    } else {
+        Answer::APART
+    }
+}
+
+/// Whether a text is that of a time as it is written.
+fn is_canonical_header(alloc: Global, text: &str) -> Answer {
+    let word: Result<String, AllocError> = String::from_str(
+        alloc,
+        if comes_back(text) { "yes" } else { "no" },
+    );
+    word.into()
+}
+
+/// Whether a text comes back when it is read as a header and written.
+fn comes_back(text: &str) -> bool {
+    let Some(time) = parse_header(text) else {
+        return false;
+    };
+    let Ok(buf) = time.to_buf() else {
+        return false;
+    };
+    buf.as_str() == text
+}
+
+/// The text of a time in a header, where the calls that write one agree.
+fn header_text(alloc: Global, time: Time) -> Answer {
+    let mut out = Device::new(Vec::new(alloc));
+    let written = time.write_to(&mut out);
+    let bytes = out.into_inner();
+    let shown: Result<String, AllocError> = format!(in alloc; "{time}");
+    let mut lent = TimeBuf::default();
+    match (time.to_buf(), time.to_str(&mut lent)) {
+        (Ok(buf), Ok(text)) => {
+            let is_same = written.is_ok()
+                && bytes.as_slice() == text.as_bytes()
+                && buf.as_str() == text
+                && matches!(&shown, Ok(shown) if shown.as_str() == text)
+                && time.size() == text.len();
+            if is_same { shown.into() } else { Answer::APART }
+        }
+        (Err(Error::OffsetTooWide), Err(fault))
+            if written.is_err() && bytes.is_empty() && shown.is_err() => {
+            Answer::Refused(name_of(&fault))
+        }
+        _ => Answer::APART,
+    }
+}
+
+/// The time of the zoned value of a time.
+fn converted(time: Time) -> Answer {
+    match time.to_zoned() {
+        Ok(zoned) => Answer::Time(Time::new(
+            zoned.timestamp().as_second(),
+            zoned.offset().seconds(),
+        )),
+        Err(fault) => Answer::Refused(name_of(&fault)),
+    }
+}
+
+/// The time that a clock shows in a zone, where the calls for one agree. `None` where there is no such zone.
+fn now_local(zones: &TimeZoneDatabase, clock: Timestamp, zone: &str) -> Option<Answer> {
+    let zone = zone_of(zones, zone)?;
+    let utc = Time::now_utc(clock);
+    let local = Time::now_local_or_utc(clock, Some(zone));
+    let do_agree = Time::now_local(clock, Some(zone)) == Some(local)
+        && Time::now_local(clock, None).is_none()
+        && Time::now_local_or_utc(clock, None) == utc
+        && utc == Time::new(local.seconds, 0);
+    Some(if do_agree {
+        Answer::Time(local)
+    } else {
+        Answer::APART
+    })
+}
+
+/// The text of a time in a format. `format_or_unix` has to answer the same, or the seconds where there is none.
+fn format_text(alloc: Global, format: Format, time: Time) -> Answer {
+    let (text, always) = (
+        time.format(alloc, format),
+        time.format_or_unix(alloc, format),
+    );
+    let seconds = time.format(alloc, Format::Unix);
+    let is_same = match (&text, &always, &seconds) {
+        (Ok(text), Ok(always), _) => text.as_str() == always.as_str(),
+        (Err(_), Ok(always), Ok(seconds)) => always.as_str() == seconds.as_str(),
+        _ => false,
+    };
+    if is_same { text.into() } else { Answer::APART }
+}
+
+/// The name, the mail and the time of a line, with the brackets between them.
+fn cut(alloc: Global, line: &str) -> Answer {
+    match SignatureRef::from_line(line) {
+        Some(SignatureRef { name, mail, time }) => {
+            let text: Result<String, AllocError> = format!(in alloc; "{name}<{mail}>{time}");
+            text.into()
+        }
+        None => Answer::Refused("NoSignature"),
+    }
+}
+
+/// The time of a line.
+fn signature_time(line: &str) -> Answer {
+    match SignatureRef::from_line(line) {
+        Some(parts) => Answer::of_time(parts.time_of(), "InvalidTime"),
+        None => Answer::Refused("NoSignature"),
+    }
+}
+
+/// The line that is written of these parts. Where they are refused, nothing may be written.
+fn signature_line(alloc: Global, name: &str, mail: &str, time: Time) -> Answer {
+    let mut out = Device::new(Vec::new(alloc));
+    let written = write_line(name, mail, time, &mut out);
+    let bytes = out.into_inner();
+    match written {
+        Ok(()) => match String::from_utf8(bytes) {
+            Ok(line) => Answer::Text(line),
+            Err(_fault) => Answer::APART,
+        },
+        Err(fault) => refused_line(fault, bytes.is_empty()),
+    }
+}
+
+/// The refusal of a line, where nothing was written.
+fn refused_line(fault: SignatureError, is_unwritten: bool) -> Answer {
+    if is_unwritten {
+        fault.into()
+    } else {
+        Answer::APART
+    }
+}

@@ -1,0 +1,127 @@
+//! Dates parsed at no moment, at one, or at any.
+use crate::answer::Answer;
+use gix_date::{Error, ParseError, RawOffsets, Time, Zoned, parse, parse_no_alloc, parse_with};
+use jiff::Timestamp;
+use jiff::tz::{Offset, TimeZone, TimeZoneDatabase};
+use std::alloc::Global;
+
+/// Moments by their seconds and offset, at which a text that is not relative means the same as at none.
+const MOMENTS: [(i64, i32); 5] = [
+    (1_698_400_800, 0),
+    (1_698_400_800, 3600),
+    (1_698_400_800, 7200),
+    (-1, -34_200),
+    (0, 93_599),
+];
+
+/// What a text answers by each of these rules at the moments that a field says: `none`, `any` or one, as `moment_of` has it.
+/// `None` where it says none of these.
+pub(crate) fn parsed(
+    alloc: Global,
+    zones: &TimeZoneDatabase,
+    rules: &[RawOffsets],
+    moments: &str,
+    text: &str,
+) -> Option<Answer> {
+    match moments {
+        "none" => Some(by_each(alloc, rules, text, None)),
+        "any" => Some(at_any(alloc, rules, text)),
+        at => match moment_of(zones, at)? {
+            Ok(now) => Some(by_each(alloc, rules, text, Some(now))),
+            Err(refusal) => Some(Answer::Refused(refusal)),
+        },
+    }
+}
+
+/// The moment that is written as its seconds, its nanoseconds and its zone with a space after each of the first two, or the name of
+/// what is wrong with it. `None` where it is written otherwise.
+fn moment_of<'a>(
+    zones: &'a TimeZoneDatabase,
+    text: &str,
+) -> Option<Result<Zoned<'a>, &'static str>> {
+    let (seconds, rest) = text.split_once(' ')?;
+    let (nanoseconds, zone) = rest.split_once(' ')?;
+    let seconds = seconds.parse().ok()?;
+    let nanoseconds = nanoseconds.parse().ok()?;
+    let Some(zone) = zone_of(zones, zone) else {
+        return Some(Err("InvalidZone"));
+    };
+    match Timestamp::new(seconds, nanoseconds) {
+        Ok(instant) => Some(Ok(instant.to_zoned(zone))),
+        Err(_) => Some(Err("InvalidInstant")),
+    }
+}
+
+/// A zone: an offset in seconds, the name of a TZif file, or a rule as POSIX has it.
+pub(crate) fn zone_of<'a>(zones: &'a TimeZoneDatabase, name: &str) -> Option<TimeZone<'a>> {
+    if name.ends_with(".tzif") {
+        return zones.get(name).ok();
+    }
+    if let Ok(offset) = name.parse::<i32>() {
+        return Some(Offset::from_seconds(offset).ok()?.to_time_zone());
+    }
+    TimeZone::posix(name).ok()
+}
+
+/// The answer that is the same at no moment and at each of `MOMENTS`.
+fn at_any(alloc: Global, rules: &[RawOffsets], text: &str) -> Answer {
+    let first = by_all(alloc, rules, text, None);
+    for (seconds, offset) in MOMENTS {
+        let now = Time::new(seconds, offset).to_zoned().ok();
+        if by_all(alloc, rules, text, now) != first {
+            return Answer::APART;
+        }
+    }
+    of_same(first)
+}
+
+/// The answer at one moment.
+fn by_each(alloc: Global, rules: &[RawOffsets], text: &str, now: Option<Zoned<'_>>) -> Answer {
+    of_same(by_all(alloc, rules, text, now))
+}
+
+fn of_same(answer: Option<Result<Time, ParseError>>) -> Answer {
+    match answer {
+        Some(answer) => answer.into(),
+        None => Answer::APART,
+    }
+}
+
+/// What a text is by each of these rules. `None` where they differ, or the calls with an allocator and without it.
+fn by_all(
+    alloc: Global,
+    rules: &[RawOffsets],
+    text: &str,
+    now: Option<Zoned<'_>>,
+) -> Option<Result<Time, ParseError>> {
+    let mut found = None;
+    for raw in rules {
+        let answer = parse_no_alloc(text, now, *raw);
+        let mut is_same = found.unwrap_or(answer) == answer;
+        is_same &= is_alike(&parse_with(alloc, text, now, *raw), text, answer);
+        if *raw == RawOffsets::Quarter {
+            is_same &= is_alike(&parse(alloc, text, now), text, answer);
+        }
+        if !is_same {
+            return None;
+        }
+        found = Some(answer);
+    }
+    found
+}
+
+/// Whether a call with an allocator answers the same, and gives the text back where it refuses that.
+fn is_alike(one: &Result<Time, Error>, text: &str, other: Result<Time, ParseError>) -> bool {
+    match (one, other) {
+        (Ok(time), Ok(other)) => *time == other,
+        (Err(Error::UnknownFormat { input }), Err(ParseError::UnknownFormat)) => {
+            input.as_bytes() == text.as_bytes()
+        }
+        (Err(Error::DateConversion { input }), Err(ParseError::DateConversion)) => {
+            input.as_bytes() == text.as_bytes()
+        }
+        (Err(Error::MissingNow), Err(ParseError::MissingNow)) => true,
+        (Err(Error::Range), Err(ParseError::Range)) => true,
+        _ => false,
+    }
+}

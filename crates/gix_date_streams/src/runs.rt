@@ -1,0 +1,158 @@
+//! Runs over the lines of a stream, as readers give them piece by piece.
+use gix_date::Time;
+use gix_date::device::Device;
+use gix_date_fakes::{Asking, Replied, Slow, Supply};
+use gix_date_tool::{Mode, ToolError, run};
+use std::cell::Cell;
+use std::io::ErrorKind;
+use std::test::Fail;
+
+/// A mode, a moment as seconds and offset, lines, the replies to them, and how many there are.
+type Row = (Mode, Option<(i64, i32)>, &'static [u8], &'static [u8], u64);
+
+const ROWS: [Row; 8] = [
+    (
+        Mode::Check,
+        None,
+        b"0 +0000\n0 -0000\n+1 +0000\n\n0 +9999\n0 +0000\r\n",
+        b"canonical\nread 0 0\nread 1 0\nnone\nread 0 362340\nread 0 0\n",
+        6,
+    ),
+    (Mode::Check, None, b"", b"", 0),
+    (
+        Mode::Check,
+        None,
+        b"\xff\n0 +0000",
+        b"not text\ncanonical\n",
+        2,
+    ),
+    (
+        Mode::Parse,
+        Some((1_698_400_800, 0)),
+        b"2 minutes ago\n\nyesterday",
+        b"1698400680 +0000\nerror unknown-format\n1698314400 +0000\n",
+        3,
+    ),
+    (
+        Mode::Parse,
+        Some((1_698_400_800, 90_000)),
+        b"now\n1 day ago\n@-1000\n",
+        b"1698400800 +2500\n1698314400 +2500\n-1000 +0000\n",
+        3,
+    ),
+    (
+        Mode::Parse,
+        None,
+        b"2 minutes ago\n9999-12-31\n",
+        b"error missing-moment\nerror date-conversion\n",
+        2,
+    ),
+    (
+        Mode::Sign,
+        None,
+        b"A U Thor <author@example.com> 1660874655 +0800\nA <a> 1660874655\n <> 0 +0000\n\
+          A <a>\nA <a> x\nA <a> 0 +9999\n",
+        b"A U Thor <author@example.com> 1660874655 +0800\nA <a> 1660874655 +0000\n <> 0 +0000\nnone\nnone\nnone\n",
+        6,
+    ),
+    (
+        Mode::Sign,
+        Some((1_698_400_800, 93_599)),
+        b"A <a> 12abc +0100\nA <\xc3> 0 +0000\n",
+        b"A <a> 12 +0100\nnot text\n",
+        2,
+    ),
+];
+
+#[test]
+fn lines_are_answered_alike_by_pieces_of_any_length(rt: HostRuntime) {
+    for (mode, at, input, output, count) in ROWS {
+        let now = at.map(|(seconds, offset)| Time::new(seconds, offset));
+        for a_call in [1, 2, 7, 4096] {
+            let mut source = Device::new(Supply::once(input, a_call, None));
+            let mut sink = Device::new(Slow::roomy(rt.alloc()));
+            let answer = run(rt.alloc(), mode, now, &mut source, &mut sink);
+            assert!(rt;
+                matches!(answer, Ok(lines) if lines == count),
+                "{mode:?}, {a_call}"
+            );
+            let taken = sink.into_inner().taken;
+            assert_eq!(rt; taken.as_slice(), output, "{mode:?}, {a_call}");
+        }
+    }
+}
+
+#[test]
+fn replies_are_written_before_more_is_read(rt: HostRuntime) {
+    // The last row fills each piece of 16384 bytes.
+    for (lines, lines_a_call, calls) in [(40, 1, 41), (41, 3, 15), (6144, 2048, 4)] {
+        let replied = Cell::new(0);
+        let mut source = Device::new(Asking::new(lines, lines_a_call, &replied));
+        let mut sink = Device::new(Replied(&replied));
+        let answer = run(rt.alloc(), Mode::Check, None, &mut source, &mut sink);
+        assert!(rt; matches!(answer, Ok(_)), "{lines_a_call}");
+        assert_eq!(rt; replied.get(), lines, "{lines_a_call}");
+        let source = source.into_inner();
+        assert_eq!(rt; (source.calls, source.early), (calls, 0), "{lines_a_call}");
+    }
+}
+
+#[test]
+fn many_lines_are_written_in_few_calls(rt: HostRuntime) -> Result<(), Fail> {
+    let mut input = Vec::new(rt.alloc());
+    for _ in 0..10_000 {
+        input.extend_from_slice(b"0 +0000\n")?;
+    }
+    let mut source = Device::new(Supply::once(input.as_slice(), 1 << 20, None));
+    let mut sink = Device::new(Slow::roomy(rt.alloc()));
+    let answer = run(rt.alloc(), Mode::Check, None, &mut source, &mut sink);
+    assert!(rt; matches!(answer, Ok(10_000)));
+    let inner = sink.into_inner();
+    assert_eq!(rt; inner.taken.len(), 100_000);
+    assert!(rt; inner.calls <= 10);
+    Ok(())
+}
+
+#[test]
+fn modes_and_faults_say_what_they_are(rt: HostRuntime) -> Result<(), Fail> {
+    for (mode, debug) in [
+        (Mode::Check, "Check"),
+        (Mode::Parse, "Parse"),
+        (Mode::Sign, "Sign"),
+    ] {
+        assert_eq!(rt; format!(in rt.alloc(); "{mode:?}")?.as_str(), debug);
+        for other in [Mode::Check, Mode::Parse, Mode::Sign] {
+            let is_same = format!(in rt.alloc(); "{other:?}")?.as_str() == debug;
+            assert_eq!(rt; mode == other, is_same, "{mode:?}, {other:?}");
+        }
+    }
+    for (fault, text, debug) in [
+        (
+            ToolError::Read(ErrorKind::BrokenPipe),
+            "reading failed: broken pipe",
+            "Read(BrokenPipe)",
+        ),
+        (
+            ToolError::Write(ErrorKind::BrokenPipe),
+            "writing failed: broken pipe",
+            "Write(BrokenPipe)",
+        ),
+        (ToolError::Memory, "out of memory", "Memory"),
+        (
+            ToolError::LineTooLong,
+            "a line has more than 65536 bytes",
+            "LineTooLong",
+        ),
+    ] {
+        assert_eq!(rt; format!(in rt.alloc(); "{fault}")?.as_str(), text);
+        assert_eq!(rt; format!(in rt.alloc(); "{fault:?}")?.as_str(), debug);
+    }
+    let text = format!(in rt.alloc(); "{}", ToolError::TooManyLines)?;
+    assert!(rt;
+        text.starts_with("there are more than 1000000 lines"),
+        "{text}"
+    );
+    let debug = format!(in rt.alloc(); "{:?}", ToolError::TooManyLines)?;
+    assert_eq!(rt; debug.as_str(), "TooManyLines");
+    Ok(())
+}
