@@ -127,10 +127,14 @@ fn parsed_at(rule: RawOffsets, moment: &str, text: &str) -> Option<Answer> {
         Err(_) if file.is_empty() => Zone::Posix(zone),
         Err(_) => Zone::Tzif(&file),
     };
-    let now = Moment {
-        seconds: seconds.parse().ok()?,
-        nanoseconds: nanoseconds.parse().ok()?,
-        zone,
+    let (seconds, nanoseconds) = (seconds.parse().ok()?, nanoseconds.parse().ok()?);
+    let now = match zone {
+        Zone::Offset(offset) if nanoseconds == 0 => Moment::at_offset(seconds, offset),
+        zone => Moment {
+            seconds,
+            nanoseconds,
+            zone,
+        },
     };
     parsed_by(rule, Some(&now), text)
 }
