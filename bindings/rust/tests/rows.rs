@@ -250,40 +250,50 @@ fn outcome(row: &str) -> Outcome {
     }
 }
 
+/// Runs the rows of a file, says which differ, and answers how many there are and how many differ.
+fn run(name: &str) -> (usize, usize) {
+    let file = fs::read_to_string(folder().join(name)).unwrap();
+    let mut left_out: BTreeMap<String, usize> = BTreeMap::new();
+    let (mut rows, mut differ) = (0, 0);
+    for (number, line) in (1..).zip(file.split('\n')) {
+        if line.is_empty() || line.starts_with('#') {
+            continue;
+        }
+        rows += 1;
+        match outcome(line) {
+            Outcome::Agrees => {}
+            Outcome::Differs(why) => {
+                differ += 1;
+                println!("{name}:{number}: {why}: {line}");
+            }
+            Outcome::LeftOut(why) => *left_out.entry(why).or_default() += 1,
+        }
+    }
+    println!("{name}: {rows} rows, {differ} differ");
+    for (why, count) in left_out {
+        println!("{name}: {count} left out: {why}");
+    }
+    (rows, differ)
+}
+
 #[test]
 fn rows_agree() {
     let mut names: Vec<_> = fs::read_dir(folder())
         .unwrap()
         .map(|entry| entry.unwrap().file_name().into_string().unwrap())
-        .filter(|name| name.ends_with(".rows"))
+        .filter(|name| name.ends_with(".rows") && name != "wrong.rows")
         .collect();
     names.sort();
     assert!(names.len() >= 8, "{names:?}");
-    let mut differing = 0;
     for name in names {
-        let file = fs::read_to_string(folder().join(&name)).unwrap();
-        let mut left_out: BTreeMap<String, usize> = BTreeMap::new();
-        let (mut rows, mut differ) = (0, 0);
-        for (number, line) in (1..).zip(file.split('\n')) {
-            if line.is_empty() || line.starts_with('#') {
-                continue;
-            }
-            rows += 1;
-            match outcome(line) {
-                Outcome::Agrees => {}
-                Outcome::Differs(why) => {
-                    differ += 1;
-                    println!("{name}:{number}: {why}: {line}");
-                }
-                Outcome::LeftOut(why) => *left_out.entry(why).or_default() += 1,
-            }
-        }
-        println!("{name}: {rows} rows, {differ} differ");
-        for (why, count) in left_out {
-            println!("{name}: {count} are left out: {why}");
-        }
-        assert!(rows > 0, "{name} has no row");
-        differing += differ;
+        let (rows, differ) = run(&name);
+        assert!(rows > 0 && differ == 0, "{name}");
     }
-    assert_eq!(differing, 0);
+}
+
+#[test]
+fn wrong_rows_are_told() {
+    let (rows, differ) = run("wrong.rows");
+    assert!(rows > 0);
+    assert_eq!(rows, differ);
 }
