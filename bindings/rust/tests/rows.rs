@@ -232,7 +232,10 @@ fn outcome(row: &str) -> Outcome {
     };
     let texts: Result<Vec<_>, _> = fields.into_iter().map(String::from_utf8).collect();
     let Ok(texts) = texts else {
-        return Outcome::LeftOut("bytes that are no text".into());
+        return match due {
+            "!NotText" => Outcome::LeftOut("bytes that are no text".into()),
+            _ => Outcome::Differs("no row".into()),
+        };
     };
     if LACKING.contains(&texts[0].as_str()) {
         return Outcome::LeftOut(texts[0].clone());
