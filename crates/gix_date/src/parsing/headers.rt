@@ -59,7 +59,7 @@ fn parse_seconds(word: &str) -> Option<SecondsSinceUnixEpoch>
 fn parse_header_offset(word: &str) -> OffsetInSeconds
     ensures { result ≡ offset_said word.now }
 {
-    match parse_offset_fields(word) {
+    match parse_offset_fields(false, word) {
         Some(fields) => fields.in_seconds(),
         None => 0,
     }

@@ -1,7 +1,11 @@
 //! The fields of an offset from UTC, as header lines and dates write it. Each reader has limits of its own on them.
-ghost use Rattle.std.specs.Prelude.{◌≡◌};
-ghost use Rattle.gix_date.specs.Private.Views.{read_view};
+ghost use Rattle.std.specs.Prelude.{◌≡◌, ◌<◌, IfSome, true, false, if◌then◌else◌, option_and_then};
+ghost use Rattle.gix_date.specs.Fields.DateOffsets.{jiff_offset, last_colon_pair, strict_offset};
+ghost use Rattle.gix_date.specs.Fields.Front.{skip_char};
 ghost use Rattle.gix_date.specs.Fields.Offsets.{read_sign, last_pair, offset_fields};
+ghost use Rattle.gix_date.specs.Private.Views.{read_view};
+ghost use Rattle.gix_date.specs.Text.Characters.{colon};
+ghost use Rattle.gix_date.specs.Text.Numbers.{read_two_digits};
 
 use crate::parsing::fields::skip_char;
 use crate::parsing::numbers::{parse_two_digits, read_two_digits};
@@ -43,18 +47,20 @@ impl OffsetFields {
     }
 }
 
-/// Reads a whole text that is a sign, two digits of hours, two of minutes and perhaps two of seconds.
+/// Reads a whole text that is a sign, two digits of hours, two of minutes and perhaps two of seconds, with a colon
+/// between the pairs or without.
 ///
 /// `None` for any other text.
-#[tactic(auto, unfolding(crate::specs::Fields::Offsets::offset_fields))]
+#[tactic(auto, unfolding(crate::specs::Fields::Offsets::offset_fields, crate::specs::Fields::DateOffsets::strict_offset))]
 #[inline(always)]
-pub(crate) fn parse_offset_fields(text: &str) -> Option<OffsetFields>
-    ensures { result ≡ offset_fields text.now }
+pub(crate) fn parse_offset_fields(colons: bool, text: &str) -> Option<OffsetFields>
+    ensures compact { colons ≡ false → result ≡ offset_fields text.now }
+    ensures strict { colons ≡ true → option_and_then jiff_offset result ≡ strict_offset text.now }
 {
     let (sign, rest) = read_sign(text)?;
     let (hours, rest) = read_two_digits(rest)?;
-    let (minutes, rest) = read_two_digits(rest)?;
-    let seconds = parse_last_pair(rest)?;
+    let (minutes, rest) = read_pair(colons, rest)?;
+    let seconds = parse_last_pair(colons, rest)?;
     Some(OffsetFields {
         sign,
         hours,
@@ -75,15 +81,29 @@ pub(crate) fn read_sign(text: &str) -> Option<(Sign, &str)>
     Some((Sign::Minus, skip_char('-', text)?))
 }
 
-/// Nothing more, or two digits more.
-#[tactic(auto, unfolding(crate::specs::Fields::Offsets::last_pair))]
+/// Two digits at the front, with a colon before them or without.
 #[inline(always)]
-fn parse_last_pair(text: &str) -> Option<Option<u8>>
-    ensures { result ≡ last_pair text.now }
+fn read_pair(colons: bool, text: &str) -> Option<(u8, &str)>
+    ensures value { read_view result
+        ≡ (if colons then option_and_then read_two_digits (skip_char colon text.now) else read_two_digits text.now) }
+    ensures small { IfSome result (λ found. found.0 < 100) }
+{
+    if colons {
+        return read_two_digits(skip_char(':', text)?);
+    }
+    read_two_digits(text)
+}
+
+/// Nothing more, or such two digits.
+#[tactic(auto, unfolding(crate::specs::Fields::Offsets::last_pair, crate::specs::Fields::DateOffsets::last_colon_pair))]
+#[inline(always)]
+fn parse_last_pair(colons: bool, text: &str) -> Option<Option<u8>>
+    ensures { result ≡ (if colons then last_colon_pair text.now else last_pair text.now) }
 {
     match text.as_bytes() {
         [] => Some(None),
-        [tens, ones] => Some(Some(parse_two_digits(*tens, *ones)?)),
+        [b':', tens, ones] if colons => Some(Some(parse_two_digits(*tens, *ones)?)),
+        [tens, ones] if !colons => Some(Some(parse_two_digits(*tens, *ones)?)),
         _ => None,
     }
 }

@@ -15,9 +15,7 @@ use crate::parsing::numbers::{read_field, read_year};
 use crate::parsing::patterns::fields::{
     read_clock, read_mail_clock, read_month, read_plain_date, skip_spaces, skip_weekday,
 };
-use crate::parsing::patterns::offset::{
-    parse_compact_offset, parse_mail_zone, parse_strict_offset,
-};
+use crate::parsing::patterns::offset::{parse_date_offset, parse_mail_zone};
 use crate::time::{OffsetInSeconds, SECONDS_PER_DAY, SECONDS_PER_MINUTE, Time};
 
 mod fields;
@@ -104,7 +102,7 @@ fn iso8601_after(date: DateFields, rest: &str) -> Option<Answer<'static>>
     ensures offset_fits { IfSome result HasJiffOffset }
 {
     let (clock, rest) = read_clock(skip_spaces(rest)?)?;
-    let offset = parse_compact_offset(skip_spaces(rest)?)?;
+    let offset = parse_date_offset(false, skip_spaces(rest)?)?;
     date_answer(date, clock, offset)
 }
 
@@ -117,7 +115,7 @@ fn iso8601_strict_after(date: DateFields, rest: &str) -> Option<Answer<'static>>
     ensures offset_fits { IfSome result HasJiffOffset }
 {
     let (clock, rest) = read_clock(skip_char('T', rest)?)?;
-    let offset = parse_strict_offset(rest)?;
+    let offset = parse_date_offset(true, rest)?;
     date_answer(date, clock, offset)
 }
 
@@ -158,7 +156,7 @@ fn gitoxide_after(date: DateFields, rest: &str) -> Option<Answer<'static>>
 {
     let (year, rest) = read_year(rest)?;
     let (clock, rest) = read_clock(skip_spaces(rest)?)?;
-    let offset = parse_compact_offset(skip_spaces(rest)?)?;
+    let offset = parse_date_offset(false, skip_spaces(rest)?)?;
     date_answer(DateFields { year, ..date }, clock, offset)
 }
 
@@ -172,7 +170,7 @@ fn default_after(date: DateFields, rest: &str) -> Option<Answer<'static>>
 {
     let (clock, rest) = read_clock(rest)?;
     let (year, rest) = read_year(skip_spaces(rest)?)?;
-    let offset = parse_compact_offset(skip_spaces(rest)?)?;
+    let offset = parse_date_offset(false, skip_spaces(rest)?)?;
     date_answer(DateFields { year, ..date }, clock, offset)
 }
 

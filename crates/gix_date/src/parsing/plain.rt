@@ -41,7 +41,7 @@ pub(crate) fn parse_plain_fields(input: &str) -> Option<(SecondsSinceUnixEpoch, 
         return None;
     }
     let seconds = parse_short_int(&bytes[..place])?;
-    let fields = parse_offset_fields(&input[place + 1..])?;
+    let fields = parse_offset_fields(false, &input[place + 1..])?;
     Some((seconds, fields))
 }
 

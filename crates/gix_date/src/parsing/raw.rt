@@ -79,7 +79,7 @@ fn parse_raw_offset(word: &str, raw: RawOffsets) -> Option<OffsetInSeconds>
     ensures offset { result ≡ raw_offset_by (allows raw) word.now }
     ensures offset_fits { IfSome result (λ offset. IsOffsetSeconds offset) }
 {
-    let fields = parse_offset_fields(word)?;
+    let fields = parse_offset_fields(false, word)?;
     if raw.allows(fields) {
         Some(fields.in_seconds())
     } else {

@@ -1,11 +1,9 @@
 //! The offsets of formatted dates. Each reader takes a whole text.
-ghost use Rattle.std.specs.Prelude.{◌≡◌, IfSome};
+ghost use Rattle.std.specs.Prelude.{◌≡◌, IfSome, if◌then◌else◌};
 ghost use Rattle.jiff.specs.Words.{IsOffsetSeconds};
-ghost use Rattle.gix_date.specs.Fields.DateOffsets.{compact_offset, strict_offset, mail_zone, mail_offset, named_zone, jiff_offset, last_colon_pair};
+ghost use Rattle.gix_date.specs.Fields.DateOffsets.{compact_offset, strict_offset, mail_zone, mail_offset, named_zone, jiff_offset};
 
-use crate::parsing::fields::skip_char;
-use crate::parsing::numbers::{parse_two_digits, read_two_digits};
-use crate::parsing::offset::{OffsetFields, parse_offset_fields, read_sign};
+use crate::parsing::offset::{OffsetFields, parse_offset_fields};
 use crate::time::{MAX_MINUTE, MAX_SECOND, OffsetInSeconds, SECONDS_PER_HOUR};
 
 /// The offset of fields: hours of at most 25, and minutes and seconds of at most 59.
@@ -24,47 +22,14 @@ fn jiff_offset(fields: OffsetFields) -> Option<OffsetInSeconds>
     }
 }
 
-/// A sign, two digits of hours, two of minutes, and perhaps two of seconds.
+/// A sign, two digits of hours, two of minutes, and perhaps two of seconds, with a colon between the pairs or without.
 #[tactic(auto, unfolding(crate::specs::Fields::DateOffsets::compact_offset))]
 #[inline(always)]
-pub(crate) fn parse_compact_offset(text: &str) -> Option<OffsetInSeconds>
-    ensures value { result ≡ compact_offset text.now }
+pub(crate) fn parse_date_offset(colons: bool, text: &str) -> Option<OffsetInSeconds>
+    ensures value { result ≡ (if colons then strict_offset text.now else compact_offset text.now) }
     ensures offset_fits { IfSome result (λ offset. IsOffsetSeconds offset) }
 {
-    jiff_offset(parse_offset_fields(text)?)
-}
-
-/// The same, with a colon between the pairs.
-#[tactic(auto, unfolding(crate::specs::Fields::DateOffsets::strict_offset))]
-#[inline(always)]
-pub(crate) fn parse_strict_offset(text: &str) -> Option<OffsetInSeconds>
-    ensures value { result ≡ strict_offset text.now }
-    ensures offset_fits { IfSome result (λ offset. IsOffsetSeconds offset) }
-{
-    let (sign, rest) = read_sign(text)?;
-    let (hours, rest) = read_two_digits(rest)?;
-    let rest = skip_char(':', rest)?;
-    let (minutes, rest) = read_two_digits(rest)?;
-    let seconds = parse_last_colon_pair(rest)?;
-    jiff_offset(OffsetFields {
-        sign,
-        hours,
-        minutes,
-        seconds,
-    })
-}
-
-/// Nothing more, or a colon and two digits more.
-#[tactic(auto, unfolding(crate::specs::Fields::DateOffsets::last_colon_pair))]
-#[inline(always)]
-fn parse_last_colon_pair(text: &str) -> Option<Option<u8>>
-    ensures { result ≡ last_colon_pair text.now }
-{
-    match text.as_bytes() {
-        [] => Some(None),
-        [b':', tens, ones] => Some(Some(parse_two_digits(*tens, *ones)?)),
-        _ => None,
-    }
+    jiff_offset(parse_offset_fields(colons, text)?)
 }
 
 /// A sign, two digits of hours and two of minutes, or else the name of a zone.
@@ -87,7 +52,7 @@ fn parse_mail_offset(text: &str) -> Option<OffsetInSeconds>
     ensures value { result ≡ mail_offset text.now }
     ensures offset_fits { IfSome result (λ offset. IsOffsetSeconds offset) }
 {
-    let fields = parse_offset_fields(text)?;
+    let fields = parse_offset_fields(false, text)?;
     if fields.seconds.is_some() {
         return None;
     }

@@ -1,4 +1,4 @@
-use Rattle.std.proofs.Common.{rules, arith, ◌≡◌, ◌∙◌, ◌+◌, ◌-◌, ap, sym, subst, length, get_or, take, drop, List, ℕ, ℤ, Some, FitsSigned, w64}
+use Rattle.std.proofs.Common.{rules, arith, ◌≡◌, ◌∙◌, ◌+◌, ◌-◌, ap, refl, sym, subst, length, get_or, take, drop, List, ℕ, ℤ, Some, FitsSigned, w64}
 use Rattle.std.proofs.lemmas.Int.{to_z-of_z}
 use Rattle.std.proofs.lemmas.Str.{IsCharBoundary-after_ascii}
 use Rattle.gix_date.specs.Text.Characters.{space}
@@ -21,7 +21,7 @@ returns c =
     let same = c.as_bytes-bytes.ensures.value in
     let byte : get_or input place 0 ≡ space = subst (λ (bs : List ℕ). get_or bs place 0 ≡ space) same c.if-bytes-place-ne32.false in
     let seconds : int_value (take place input) ≡ Some c.in_ok-seconds.seconds = subst (λ (bs : List ℕ). int_value (take place bs) ≡ Some c.in_ok-seconds.seconds) same c.in_ok-seconds.ensures in
-    let fields : offset_fields (drop (place + 1) input) ≡ Some c.in_ok-fields.fields = ap offset_fields (sym c.range_from.ensures.value) ∙ sym c.in_ok-fields.ensures in
+    let fields : offset_fields (drop (place + 1) input) ≡ Some c.in_ok-fields.fields = ap offset_fields (sym c.range_from.ensures.value) ∙ sym (c.in_ok-fields.ensures.compact refl) in
     let plain = plain-places input place c.in_ok-seconds.seconds c.in_ok-fields.fields (omega (arith, c.as_bytes-bytes.ensures.len, c.if-bytes-lt-ZONE_BYTES.false)) byte seconds fields in
     let fits : FitsSigned w64 c.in_ok-seconds.seconds = search rules in
     subst (λ (n : ℤ). IsPlainHeader input n c.in_ok-fields.fields) (sym (to_z-of_z w64 c.in_ok-seconds.seconds fits)) plain
