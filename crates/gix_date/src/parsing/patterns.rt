@@ -13,7 +13,7 @@ use crate::parsing::civil::{ClockFields, DateFields, civil_instant, is_date, mid
 use crate::parsing::fields::skip_char;
 use crate::parsing::numbers::{read_field, read_year};
 use crate::parsing::patterns::fields::{
-    read_clock, read_mail_clock, read_month, read_plain_date, skip_spaces, skip_weekday,
+    read_clock, read_month, read_plain_date, skip_spaces, skip_weekday,
 };
 use crate::parsing::patterns::offset::{parse_date_offset, parse_mail_zone};
 use crate::time::{OffsetInSeconds, SECONDS_PER_DAY, SECONDS_PER_MINUTE, Time};
@@ -79,7 +79,7 @@ fn mail_after(date: DateFields, rest: &str) -> Option<Answer<'static>>
         ≡ answer_after (MailClock ∷ Spaces ∷ MailOffset ∷ []) time_answer date rest.now }
     ensures offset_fits { IfSome result HasJiffOffset }
 {
-    let (clock, rest) = read_mail_clock(rest)?;
+    let (clock, rest) = read_clock(true, rest)?;
     let offset = parse_mail_zone(skip_spaces(rest)?)?;
     date_answer(date, clock, offset)
 }
@@ -101,7 +101,7 @@ fn iso8601_after(date: DateFields, rest: &str) -> Option<Answer<'static>>
         ≡ answer_after (Spaces ∷ Clock ∷ Spaces ∷ Offset ∷ []) time_answer date rest.now }
     ensures offset_fits { IfSome result HasJiffOffset }
 {
-    let (clock, rest) = read_clock(skip_spaces(rest)?)?;
+    let (clock, rest) = read_clock(false, skip_spaces(rest)?)?;
     let offset = parse_date_offset(false, skip_spaces(rest)?)?;
     date_answer(date, clock, offset)
 }
@@ -114,7 +114,7 @@ fn iso8601_strict_after(date: DateFields, rest: &str) -> Option<Answer<'static>>
         ≡ answer_after (LetterT ∷ Clock ∷ ColonOffset ∷ []) time_answer date rest.now }
     ensures offset_fits { IfSome result HasJiffOffset }
 {
-    let (clock, rest) = read_clock(skip_char('T', rest)?)?;
+    let (clock, rest) = read_clock(false, skip_char('T', rest)?)?;
     let offset = parse_date_offset(true, rest)?;
     date_answer(date, clock, offset)
 }
@@ -155,7 +155,7 @@ fn gitoxide_after(date: DateFields, rest: &str) -> Option<Answer<'static>>
     ensures offset_fits { IfSome result HasJiffOffset }
 {
     let (year, rest) = read_year(rest)?;
-    let (clock, rest) = read_clock(skip_spaces(rest)?)?;
+    let (clock, rest) = read_clock(false, skip_spaces(rest)?)?;
     let offset = parse_date_offset(false, skip_spaces(rest)?)?;
     date_answer(DateFields { year, ..date }, clock, offset)
 }
@@ -168,7 +168,7 @@ fn default_after(date: DateFields, rest: &str) -> Option<Answer<'static>>
         ≡ answer_after (Clock ∷ Spaces ∷ Year ∷ Spaces ∷ Offset ∷ []) time_answer date rest.now }
     ensures offset_fits { IfSome result HasJiffOffset }
 {
-    let (clock, rest) = read_clock(rest)?;
+    let (clock, rest) = read_clock(false, rest)?;
     let (year, rest) = read_year(skip_spaces(rest)?)?;
     let offset = parse_date_offset(false, skip_spaces(rest)?)?;
     date_answer(DateFields { year, ..date }, clock, offset)

@@ -1,11 +1,11 @@
 //! The fields of formatted dates.
-ghost use Rattle.std.specs.Prelude.{◌≡◌, ◌<◌, IfSome, [], ◌∷◌, true, option_copied};
+ghost use Rattle.std.specs.Prelude.{◌≡◌, ◌<◌, IfSome, [], ◌∷◌, true, if◌then◌else◌, option_copied};
 ghost use Rattle.std.specs.List.{prefix_len};
 ghost use Rattle.gix_date.specs.Text.Characters.{is_space};
 ghost use Rattle.gix_date.specs.Fields.FieldTexts.{AreThreeLetters};
 ghost use Rattle.gix_date.specs.Private.Civil.{DateFits, ClockFits};
 ghost use Rattle.gix_date.specs.Private.Views.{read_view};
-ghost use Rattle.gix_date.specs.Fields.DateFields.{skip_spaces, month_named, is_weekday, read_month, skip_weekday, read_plain_date, read_minutes, read_second, read_clock, read_mail_clock, without_leap_second};
+ghost use Rattle.gix_date.specs.Fields.DateFields.{skip_spaces, month_named, is_weekday, read_month, skip_weekday, read_plain_date, read_second, read_clock, read_mail_clock, without_leap_second};
 
 use crate::parsing::civil::{ClockFields, DateFields};
 use crate::parsing::fields::{read_colon_clock, read_marked_date, skip_char};
@@ -147,27 +147,6 @@ pub(crate) fn read_plain_date(text: &str) -> Option<(DateFields, &str)>
     Some((DateFields { year, month, day }, rest))
 }
 
-/// An hour and a minute.
-#[tactic(auto, unfolding(crate::specs::Fields::DateFields::read_minutes))]
-#[inline(always)]
-fn read_minutes(text: &str) -> Option<(ClockFields, &str)>
-    ensures value { read_view result ≡ read_minutes text.now }
-    ensures fits { IfSome result (λ found. ClockFits found.0) }
-{
-    let (hour, rest) = read_field(text)?;
-    let rest = skip_char(':', rest)?;
-    let (minute, rest) = read_field(rest)?;
-    let second = 0;
-    Some((
-        ClockFields {
-            hour,
-            minute,
-            second,
-        },
-        rest,
-    ))
-}
-
 /// A second after an hour and a minute, where 60 is read as 59.
 #[tactic(auto, unfolding(crate::specs::Fields::DateFields::read_second))]
 #[inline(always)]
@@ -192,30 +171,27 @@ fn without_leap_second(second: u8) -> u8
     if second == 60 { MAX_SECOND } else { second }
 }
 
-/// An hour, a minute and a second, nearly always of two digits each.
+/// An hour, a minute and a second, nearly always of two digits each. In mail the second may be left out.
 #[tactic(auto, unfolding(crate::specs::Computing::computing, crate::specs::Private::PlainRests::read_colon_clock))]
 #[inline(always)]
-pub(crate) fn read_clock(text: &str) -> Option<(ClockFields, &str)>
-    ensures value { read_view result ≡ read_clock text.now }
+pub(crate) fn read_clock(is_mail: bool, text: &str) -> Option<(ClockFields, &str)>
+    ensures value { read_view result ≡ (if is_mail then read_mail_clock text.now else read_clock text.now) }
     ensures fits { IfSome result (λ found. ClockFits found.0) }
 {
     if let Some((clock, rest)) = read_colon_clock(text) {
         let second = without_leap_second(clock.second);
         return Some((ClockFields { second, ..clock }, rest));
     }
-    let (clock, rest) = read_minutes(text)?;
-    read_second(clock, rest)
-}
-
-/// An hour, a minute and a second, or else the first two.
-#[tactic(auto, unfolding(crate::specs::Fields::DateFields::read_mail_clock, crate::specs::Fields::DateFields::read_clock))]
-#[inline(always)]
-pub(crate) fn read_mail_clock(text: &str) -> Option<(ClockFields, &str)>
-    ensures value { read_view result ≡ read_mail_clock text.now }
-    ensures fits { IfSome result (λ found. ClockFits found.0) }
-{
-    if let Some(found) = read_clock(text) {
-        return Some(found);
+    let (hour, rest) = read_field(text)?;
+    let (minute, rest) = read_field(skip_char(':', rest)?)?;
+    let second = 0;
+    let clock = ClockFields {
+        hour,
+        minute,
+        second,
+    };
+    match read_second(clock, rest) {
+        None if is_mail => Some((clock, rest)),
+        found => found,
     }
-    read_minutes(text)
 }
