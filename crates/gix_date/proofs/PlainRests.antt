@@ -22,7 +22,7 @@ use Rattle.gix_date.specs.Git.Clock.{at_most, digits_at_most, clock_of_fields, c
 use Rattle.gix_date.specs.Git.ClockCut.{is_sign, has_offset_at, trimmed_after, last_space, last_sign, cut_at_z, cut_at_space, cut_at_sign, clock_cut}
 use Rattle.gix_date.specs.Fields.Offsets.{read_sign, offset_by}
 use Rattle.gix_date.specs.Git.Forms.{without_colons, fields_of, offset_of_digits, is_within_a_day, git_offset, time_of_cut}
-use Rattle.gix_date.specs.Private.PlainRests.{IsPlainOffset, is_clock_byte, skip_colon, skip_digits, skip_fraction, skip_space, read_clock_by, read_colon_clock, read_bare_clock, read_whole_clock, IsRest, time_at}
+use Rattle.gix_date.specs.Private.PlainRests.{IsPlainOffset, is_clock_byte, skip_any, skip_digits, skip_fraction, read_clock_by, read_colon_clock, read_bare_clock, read_whole_clock, IsRest, time_at}
 use Rattle.gix_date.specs.Text.Characters.{space, dot, plus, minus, colon, letter_z, is_dot, is_colon, has_colon}
 use Rattle.gix_date.specs.Text.Numbers.{two_digit_value, read_two_digits}
 use Rattle.gix_date.specs.declared.parsing.civil.ClockFields.{ClockFields}
@@ -290,14 +290,13 @@ fraction-taken : (text : List ℕ) → HasFraction text (skip_fraction text)
 unfolding skip_fraction
 fraction-taken text = fraction-by text (skip_char dot text) refl
 
--- one space or none
-gap-by : (text : List ℕ) (r : Option (List ℕ)) → skip_char space text ≡ r → (text ≡ unwrap_or r text) ⊎ (text ≡ space ∷ unwrap_or r text)
-gap-by text None e = inl refl
-gap-by text (Some t) e = inr (after-taken space text t e)
+-- one mark or none
+gap-by : (mark : ℕ) (text : List ℕ) (r : Option (List ℕ)) → skip_char mark text ≡ r → (text ≡ unwrap_or r text) ⊎ (text ≡ mark ∷ unwrap_or r text)
+gap-by mark text None e = inl refl
+gap-by mark text (Some t) e = inr (after-taken mark text t e)
 
-gap-taken : (text : List ℕ) → (text ≡ skip_space text) ⊎ (text ≡ space ∷ skip_space text)
-unfolding skip_space
-gap-taken text = gap-by text (skip_char space text) refl
+gap-taken : (mark : ℕ) (text : List ℕ) → (text ≡ skip_any mark text) ⊎ (text ≡ mark ∷ skip_any mark text)
+gap-taken mark text = gap-by mark text (skip_char mark text) refl
 
 -- a sign, a digit, and digits and colons
 record IsOffsetText (text : List ℕ) : Type 0 where
@@ -319,15 +318,6 @@ some-long k t = grind (arith, nat_tests)
 mark-no-z : (c : ℕ) (s : Sign) (t : List ℕ) → IsMark c s → (length (c ∷ t) == 0 || bytes_eq (c ∷ t) (codes "Z")) ≡ false
 mark-no-z c s t (inl h) = ap (λ k. length (k ∷ t) == 0 || bytes_eq (k ∷ t) (codes "Z")) h.0 ∙ ap (λ b. b || bytes_eq (plus ∷ t) (codes "Z")) (some-long plus t)
 mark-no-z c s t (inr h) = ap (λ k. length (k ∷ t) == 0 || bytes_eq (k ∷ t) (codes "Z")) h.0 ∙ ap (λ b. b || bytes_eq (minus ∷ t) (codes "Z")) (some-long minus t)
-
--- one colon or none
-colon-by : (text : List ℕ) (r : Option (List ℕ)) → skip_char colon text ≡ r → (text ≡ unwrap_or r text) ⊎ (text ≡ colon ∷ unwrap_or r text)
-colon-by text None e = inl refl
-colon-by text (Some t) e = inr (after-taken colon text t e)
-
-colon-taken-off : (text : List ℕ) → (text ≡ skip_colon text) ⊎ (text ≡ colon ∷ skip_colon text)
-unfolding skip_colon
-colon-taken-off text = colon-by text (skip_char colon text) refl
 
 -- digits with a colon between them or none
 record HasFour (text : List ℕ) (a b c d : ℕ) : Type 0 where
@@ -362,9 +352,9 @@ unfolding git_offset
 offset-taken text f h =
     let s = sign-taken text f.sign h.after_sign h.sign in
     let b = two-taken h.after_sign f.hours h.after_hours h.hours in
-    let d = two-taken (skip_colon h.after_hours) f.minutes [] h.minutes in
+    let d = two-taken (skip_any colon h.after_hours) f.minutes [] h.minutes in
     let more : (h.after_hours ≡ d.tens ∷ d.ones ∷ []) ⊎ (h.after_hours ≡ colon ∷ d.tens ∷ d.ones ∷ []) =
-    subst (λ (t : List ℕ). (h.after_hours ≡ t) ⊎ (h.after_hours ≡ colon ∷ t)) d.whole (colon-taken-off h.after_hours) in
+    subst (λ (t : List ℕ). (h.after_hours ≡ t) ⊎ (h.after_hours ≡ colon ∷ t)) d.whole (gap-taken colon h.after_hours) in
     let all : HasFour h.after_sign b.tens b.ones d.tens d.ones =
     subst (λ (t : List ℕ). HasFour t b.tens b.ones d.tens d.ones) (sym b.whole) (four b.tens b.ones d.tens d.ones h.after_hours b.is_tens b.is_ones d.is_tens d.is_ones more) in
     let no_z : (length text == 0 || bytes_eq text (codes "Z")) ≡ false = ap (λ (t : List ℕ). length t == 0 || bytes_eq t (codes "Z")) s.whole ∙ mark-no-z s.mark f.sign h.after_sign s.is_mark in
@@ -498,18 +488,18 @@ clock-trimmed front long bytes =
     (all-get is_ascii_graphic front graphic 0 (omega arith)) (all-get is_ascii_graphic front graphic (length front - 1) (omega arith))
 
 -- what is read of such a rest is what its cut says
-pub plain-rest : (text rest : List ℕ) (clock : ClockFields) (fields : OffsetFields) → read_whole_clock text ≡ Some (clock, rest) → is_clock clock ≡ true → IsPlainOffset (skip_space (skip_fraction rest)) fields
+pub plain-rest : (text rest : List ℕ) (clock : ClockFields) (fields : OffsetFields) → read_whole_clock text ≡ Some (clock, rest) → is_clock clock ≡ true → IsPlainOffset (skip_any space (skip_fraction rest)) fields
     → IsRest text clock fields
 unfolding git_clock
 plain-rest text rest clock fields read day offset =
     let c = clock-taken text clock rest read in
     let f = fraction-taken rest in
-    let taken = offset-taken (skip_space (skip_fraction rest)) fields offset in
+    let taken = offset-taken (skip_any space (skip_fraction rest)) fields offset in
     let o = taken.is in
     let front = c.front ++ f.fraction in
     let more = skip_fraction rest in
     let zone = o.sign ∷ o.rest in
-    let gap : (more ≡ zone) ⊎ (more ≡ space ∷ zone) = subst (λ (z : List ℕ). (more ≡ z) ⊎ (more ≡ space ∷ z)) o.whole (gap-taken more) in
+    let gap : (more ≡ zone) ⊎ (more ≡ space ∷ zone) = subst (λ (z : List ℕ). (more ≡ z) ⊎ (more ≡ space ∷ z)) o.whole (gap-taken space more) in
     let whole : text ≡ front ++ more = c.whole ∙ ap (λ (t : List ℕ). c.front ++ t) f.whole ∙ sym (append_assoc c.front f.fraction more) in
     let quiet = all-append is_no_space c.front f.fraction (all-imply is_clock_byte is_no_space c.front byte-is-no-space c.bytes)
     (all-imply is_fraction_byte is_no_space f.fraction (λ x h. ap not (fraction-no-space x h)) f.bytes) in

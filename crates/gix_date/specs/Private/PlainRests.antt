@@ -9,7 +9,7 @@ use Rattle.gix_date.specs.Fields.Offsets.{read_sign, offset_by}
 use Rattle.gix_date.specs.Git.Clock.{git_clock}
 use Rattle.gix_date.specs.Git.ClockCut.{clock_cut}
 use Rattle.gix_date.specs.Git.Forms.{is_within_a_day, git_offset}
-use Rattle.gix_date.specs.Text.Characters.{space, dot, colon}
+use Rattle.gix_date.specs.Text.Characters.{dot, colon}
 use Rattle.gix_date.specs.Text.Numbers.{read_two_digits}
 use Rattle.gix_date.specs.declared.parsing.civil.ClockFields.{ClockFields}
 use Rattle.gix_date.specs.declared.parsing.civil.DateFields.{DateFields}
@@ -45,16 +45,12 @@ skip_digits text = drop (prefix_len is_ascii_digit text) text
 unfoldable pub skip_fraction : List ℕ → List ℕ
 skip_fraction text = unwrap_or (option_map skip_digits (skip_char dot text)) text
 
--- what stands after one space, where it is first
-unfoldable pub skip_space : List ℕ → List ℕ
-skip_space text = unwrap_or (skip_char space text) text
+-- what stands after this mark, where it is first
+abbrev pub skip_any : ℕ → List ℕ → List ℕ
+skip_any mark text = unwrap_or (skip_char mark text) text
 
 abbrev pub is_clock_byte : ℕ → Bool
 is_clock_byte c = is_ascii_digit c || c == colon
-
--- what stands after one colon, where it is first
-unfoldable pub skip_colon : List ℕ → List ℕ
-skip_colon text = unwrap_or (skip_char colon text) text
 
 -- the text is a sign, two digits of hours and two of minutes, perhaps with a colon between them
 pub record IsPlainOffset (text : List ℕ) (fields : OffsetFields) : Type 0 where
@@ -62,7 +58,7 @@ pub record IsPlainOffset (text : List ℕ) (fields : OffsetFields) : Type 0 wher
   pub after_hours : List ℕ
   pub sign : read_sign text ≡ Some (fields.sign, after_sign)
   pub hours : read_two_digits after_sign ≡ Some (fields.hours, after_hours)
-  pub minutes : read_two_digits (skip_colon after_hours) ≡ Some (fields.minutes, [])
+  pub minutes : read_two_digits (skip_any colon after_hours) ≡ Some (fields.minutes, [])
   pub seconds : fields.seconds ≡ None
 
 -- the clock of a text, already trimmed, and the fields of its offset

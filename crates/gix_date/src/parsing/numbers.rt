@@ -8,7 +8,7 @@ ghost use Rattle.std.specs.Char.{is_ascii_digit};
 ghost use Rattle.std.specs.Str.{all_ascii_digits};
 ghost use Rattle.std.specs.Str.Parse.{digits_value};
 ghost use Rattle.gix_date.specs.Private.Views.{read_view};
-ghost use Rattle.gix_date.specs.Text.Numbers.{int_value, two_digit_value, read_two_digits, read_digit, read_field, read_year};
+ghost use Rattle.gix_date.specs.Text.Numbers.{int_value, two_digit_value, read_two_digits, read_field, read_year};
 
 /// The most digits that are read at once: an `i64` holds any so many.
 pub(crate) const MAX_DIGITS: usize = 18;
@@ -148,21 +148,8 @@ pub(crate) fn read_two_digits(text: &str) -> Option<(u8, &str)>
     }
 }
 
-/// The number that one digit at the front writes.
-#[tactic(auto, unfolding(crate::specs::Text::Numbers::read_digit))]
-#[inline(always)]
-fn read_digit(text: &str) -> Option<(u8, &str)>
-    ensures value { read_view result ≡ read_digit text.now }
-    ensures small { IfSome result (λ found. found.0 < 100) }
-{
-    match text.as_bytes() {
-        [digit, ..] if digit.is_ascii_digit() => Some((digit - b'0', &text[1..])),
-        _ => None,
-    }
-}
-
 /// The number that two digits at the front write, or else one.
-#[tactic(auto, unfolding(crate::specs::Text::Numbers::read_field))]
+#[tactic(auto, unfolding(crate::specs::Text::Numbers::read_field, crate::specs::Text::Numbers::read_digit))]
 #[inline(always)]
 pub(crate) fn read_field(text: &str) -> Option<(u8, &str)>
     ensures value { read_view result ≡ read_field text.now }
@@ -171,7 +158,10 @@ pub(crate) fn read_field(text: &str) -> Option<(u8, &str)>
     if let Some(found) = read_two_digits(text) {
         return Some(found);
     }
-    read_digit(text)
+    match text.as_bytes() {
+        [digit, ..] if digit.is_ascii_digit() => Some((digit - b'0', &text[1..])),
+        _ => None,
+    }
 }
 
 /// The number that four digits at the front write.

@@ -1,7 +1,7 @@
 //! The raw form of a date, as a commit header has it, read strictly.
 ghost use Rattle.std.specs.Prelude.{◌≡◌, IfSome, Some};
 ghost use Rattle.jiff.specs.Words.{IsOffsetSeconds};
-ghost use Rattle.gix_date.specs.Families.Raw.{raw_time_by, raw_offset_by, allows, is_raw_offset, is_wide_offset};
+ghost use Rattle.gix_date.specs.Families.Raw.{raw_time_by, raw_offset_by, allows};
 
 use crate::parsing::numbers::parse_int;
 use crate::parsing::offset::{OffsetFields, parse_offset_fields};
@@ -35,8 +35,16 @@ impl RawOffsets {
         ensures { result ≡ allows self fields }
     {
         match self {
-            RawOffsets::Quarter => is_raw_offset(fields),
-            RawOffsets::WholeMinutes => is_wide_offset(fields),
+            RawOffsets::Quarter => {
+                fields.hours <= MAX_HOURS
+                    && matches!(fields.minutes, 0 | 15 | 30 | 45)
+                    && fields.seconds.unwrap_or(0) == 0
+            }
+            RawOffsets::WholeMinutes => {
+                fields.hours <= MAX_WIDE_HOURS
+                    && fields.minutes <= MAX_MINUTES
+                    && fields.seconds.unwrap_or(0) == 0
+            }
         }
     }
 }
@@ -85,22 +93,4 @@ fn parse_raw_offset(word: &str, raw: RawOffsets) -> Option<OffsetInSeconds>
     } else {
         None
     }
-}
-
-/// Whether the fields are quarters of an hour, up to 14:45.
-fn is_raw_offset(fields: OffsetFields) -> bool
-    ensures { result ≡ is_raw_offset fields }
-{
-    fields.hours <= MAX_HOURS
-        && matches!(fields.minutes, 0 | 15 | 30 | 45)
-        && fields.seconds.unwrap_or(0) == 0
-}
-
-/// Whether the fields are whole minutes, up to 23:59.
-fn is_wide_offset(fields: OffsetFields) -> bool
-    ensures { result ≡ is_wide_offset fields }
-{
-    fields.hours <= MAX_WIDE_HOURS
-        && fields.minutes <= MAX_MINUTES
-        && fields.seconds.unwrap_or(0) == 0
 }

@@ -1,8 +1,7 @@
 //! The clock of a Git text.
-ghost use Rattle.std.specs.Prelude.{◌≡◌, ◌<◌, ◌≤◌, IfSome};
+ghost use Rattle.std.specs.Prelude.{◌≡◌, ◌<◌, ◌≤◌, ◌==◌, IfSome};
 ghost use Rattle.std.specs.Char.{is_ascii};
 ghost use Rattle.std.specs.List.{list_all, before_first};
-ghost use Rattle.gix_date.specs.Text.Characters.{is_colon, is_dot};
 ghost use Rattle.gix_date.specs.Private.Civil.{ClockFits};
 ghost use Rattle.gix_date.specs.Private.Views.{read_view};
 ghost use Rattle.gix_date.specs.Git.Clock.{digits_at_most, clock_of_fields, clock_with_colons, read_pair_or_end, clock_without_colons, trimmed_clock, git_clock};
@@ -22,7 +21,7 @@ pub(crate) fn parse_clock(text: &str) -> Option<ClockFields>
     ensures value { result ≡ git_clock text.now }
     ensures fits { IfSome result ClockFits }
 {
-    parse_trimmed_clock(before_dot(text).trim())
+    parse_trimmed_clock(before('.', text).trim())
 }
 
 /// The clock of a text that has neither its dot nor white space round it.
@@ -41,30 +40,21 @@ fn parse_trimmed_clock(text: &str) -> Option<ClockFields>
     }
 }
 
-/// What stands before the first dot.
-fn before_dot(text: &str) -> &str
-    ensures { result.now ≡ before_first is_dot text.now }
-{
-    match text.split_once('.') {
-        Some((front, _)) => front,
-        None => text,
-    }
-}
-
-/// What stands before the first colon.
-fn before_colon(text: &str) -> &str
-    ensures { result.now ≡ before_first is_colon text.now }
-{
-    match text.split_once(':') {
-        Some((front, _)) => front,
-        None => text,
-    }
-}
-
 fn is_all_ascii(text: &str) -> bool
     ensures { result ≡ list_all is_ascii text.now }
 {
     text.bytes().all(|b| b.is_ascii())
+}
+
+/// What stands before this character, where it first stands.
+fn before(mark: char, text: &str) -> &str
+    requires { mark < 128 }
+    ensures { result.now ≡ before_first (λ c. c == mark) text.now }
+{
+    match text.split_once(mark) {
+        Some((front, _)) => front,
+        None => text,
+    }
 }
 
 /// A clock of parts between colons.
@@ -82,7 +72,7 @@ fn parse_clock_with_colons(text: &str) -> Option<ClockFields>
             Some(0),
         );
     };
-    let seconds = before_colon(seconds);
+    let seconds = before(':', seconds);
     clock_of_fields(
         digits_at_most(MAX_HOUR, hours),
         digits_at_most(MAX_MINUTE, minutes),

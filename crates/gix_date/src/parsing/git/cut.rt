@@ -1,7 +1,6 @@
 //! Where the clock of a Git text ends, and its offset begins.
 ghost use Rattle.std.specs.Prelude.{◌≡◌, ◌<◌, length, IfSome, option_map, slice_index};
-ghost use Rattle.gix_date.specs.Text.Characters.{space};
-ghost use Rattle.gix_date.specs.Git.ClockCut.{clock_cut, has_offset_at, is_sign, cut_at_sign, last_sign, cut_at_space, last_space, cut_at_z};
+ghost use Rattle.gix_date.specs.Git.ClockCut.{clock_cut, has_offset_at, is_sign, cut_at_sign, last_sign, cut_at_space, cut_at_z};
 ghost use Rattle.gix_date.specs.Private.Cuts.{IsCut};
 
 /// The slices of a text, already trimmed, that are its clock and its offset: the first of these cuts that there is.
@@ -47,7 +46,7 @@ fn cut_at_z(text: &str) -> Option<(&str, &str)>
 fn cut_at_space(text: &str) -> Option<(&str, &str)>
     ensures { option_map (λ cut. (cut.0.now, cut.1.now)) result ≡ cut_at_space text.now }
 {
-    let Some(place) = last_space(text) else {
+    let Some(place) = text.rfind(' ') else {
         return None;
     };
     if place <= 5 {
@@ -67,14 +66,6 @@ fn cut_at_sign(text: &str) -> Option<(&str, &str)>
         return None;
     };
     Some(text.split_at(place))
-}
-
-/// The last space.
-fn last_space(text: &str) -> Option<usize>
-    ensures value { result ≡ last_space text.now }
-    ensures found { IfSome result (λ k. (k < length text.now) × (slice_index text.now k ≡ space)) }
-{
-    text.rfind(' ')
 }
 
 /// The last place of 2 or more that has a sign directly before a digit.
@@ -98,16 +89,10 @@ fn has_offset_at(bytes: &[u8], place: usize) -> bool
     requires { place < length bytes.now }
     ensures { result ≡ has_offset_at bytes.now place }
 {
-    if place < 2 || !is_sign(bytes[place]) {
+    if place < 2 || !matches!(bytes[place], b'+' | b'-') {
         return false;
     }
     place + 1 < bytes.len() && bytes[place + 1].is_ascii_digit()
-}
-
-fn is_sign(byte: u8) -> bool
-    ensures { result ≡ is_sign byte }
-{
-    byte == b'+' || byte == b'-'
 }
 
 fn begins_with_sign(text: &str) -> bool

@@ -31,17 +31,11 @@ pub(crate) fn seconds_within_a_day(fields: OffsetFields) -> Option<OffsetInSecon
     ensures value { result ≡ offset_by is_within_a_day fields }
     ensures offset_fits { IfSome result IsOffsetSeconds }
 {
-    if is_within_a_day(fields) {
+    if fields.hours <= MAX_HOUR && fields.minutes <= MAX_MINUTE {
         Some(fields.in_seconds())
     } else {
         None
     }
-}
-
-fn is_within_a_day(fields: OffsetFields) -> bool
-    ensures { result ≡ is_within_a_day fields }
-{
-    fields.hours <= MAX_HOUR && fields.minutes <= MAX_MINUTE
 }
 
 /// Two digits of hours, or four of hours and minutes, among any colons.

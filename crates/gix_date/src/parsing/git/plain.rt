@@ -1,8 +1,7 @@
 //! What stands after the date of a Git text, as nearly all write it.
 ghost use Rattle.std.specs.Prelude.{◌≡◌, None, IfSome};
-ghost use Rattle.gix_date.specs.Fields.Civil.{is_clock};
 ghost use Rattle.gix_date.specs.Private.Civil.{ClockFits};
-ghost use Rattle.gix_date.specs.Private.PlainRests.{IsPlainOffset, IsRest, read_bare_clock, read_colon_clock, read_whole_clock, skip_colon, skip_digits, skip_fraction, skip_space};
+ghost use Rattle.gix_date.specs.Private.PlainRests.{IsPlainOffset, IsRest, read_bare_clock, read_colon_clock, read_whole_clock, skip_digits, skip_fraction};
 ghost use Rattle.gix_date.specs.Private.Views.{read_view};
 
 use crate::parsing::civil::ClockFields;
@@ -20,10 +19,11 @@ pub(crate) fn parse_plain_rest(text: &str) -> Option<(ClockFields, OffsetFields)
     ensures whole_minutes { IfSome result (λ found. found.1.seconds ≡ None) }
 {
     let (clock, rest) = read_whole_clock(text)?;
-    if !is_clock(clock) {
+    if clock.hour > MAX_HOUR || clock.minute > MAX_MINUTE || clock.second > MAX_SECOND {
         return None;
     }
-    let fields = parse_plain_offset(skip_space(skip_fraction(rest)))?;
+    let rest = skip_fraction(rest);
+    let fields = parse_plain_offset(skip_char(' ', rest).unwrap_or(rest))?;
     Some((clock, fields))
 }
 
@@ -77,26 +77,6 @@ fn skip_digits(text: &str) -> &str
     &text[leading_digits(text).len()..]
 }
 
-/// What stands after one space, where it is first.
-#[tactic(auto, unfolding(crate::specs::Private::PlainRests::skip_space))]
-#[inline(always)]
-fn skip_space(text: &str) -> &str
-    ensures { result.now ≡ skip_space text.now }
-{
-    match skip_char(' ', text) {
-        Some(rest) => rest,
-        None => text,
-    }
-}
-
-/// Whether the day has this clock.
-#[inline(always)]
-fn is_clock(clock: ClockFields) -> bool
-    ensures { result ≡ is_clock clock }
-{
-    clock.hour <= MAX_HOUR && clock.minute <= MAX_MINUTE && clock.second <= MAX_SECOND
-}
-
 /// A sign, two digits of hours and two of minutes, perhaps with a colon between them.
 #[inline(always)]
 fn parse_plain_offset(text: &str) -> Option<OffsetFields>
@@ -104,7 +84,7 @@ fn parse_plain_offset(text: &str) -> Option<OffsetFields>
 {
     let (sign, rest) = read_sign(text)?;
     let (hours, rest) = read_two_digits(rest)?;
-    let (minutes, rest) = read_two_digits(skip_colon(rest))?;
+    let (minutes, rest) = read_two_digits(skip_char(':', rest).unwrap_or(rest))?;
     if !rest.is_empty() {
         return None;
     }
@@ -114,16 +94,4 @@ fn parse_plain_offset(text: &str) -> Option<OffsetFields>
         minutes,
         seconds: None,
     })
-}
-
-/// What stands after one colon, where it is first.
-#[tactic(auto, unfolding(crate::specs::Private::PlainRests::skip_colon))]
-#[inline(always)]
-fn skip_colon(text: &str) -> &str
-    ensures { result.now ≡ skip_colon text.now }
-{
-    match skip_char(':', text) {
-        Some(rest) => rest,
-        None => text,
-    }
 }

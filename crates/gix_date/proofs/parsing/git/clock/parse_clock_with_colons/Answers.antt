@@ -24,7 +24,7 @@ returns-clause-value c =
     ∙ ap (λ x. clock_of_fields x c.digits_at_most-3.result c.digits_at_most-4.result) c.digits_at_most-2.ensures.value
     ∙ ap (λ x. clock_of_fields (digits_at_most 23 c.in-Some.hours.now) x c.digits_at_most-4.result) c.digits_at_most-3.ensures.value
     ∙ ap (λ x. clock_of_fields (digits_at_most 23 c.in-Some.hours.now) (digits_at_most 59 c.in-Some-split_once.minutes.now) x) c.digits_at_most-4.ensures.value
-    ∙ by_three c.args.text.now c.in-Some.hours.now c.in-Some-split_once.minutes.now c.in-Some.rest.now c.before_colon-seconds.result.now c.in-Some-split_once.seconds.now
+    ∙ by_three c.args.text.now c.in-Some.hours.now c.in-Some-split_once.minutes.now c.in-Some.rest.now c.before-seconds.result.now c.in-Some-split_once.seconds.now
     (more_parts is_colon c.args.text.now c.in-Some.hours.now c.in-Some.rest.now first.2 first.0 first.1)
     (more_parts is_colon c.in-Some.rest.now c.in-Some-split_once.minutes.now c.in-Some-split_once.seconds.now second.2 second.0 second.1)
-    c.before_colon-seconds.ensures
+    c.before-seconds.ensures

@@ -1,4 +1,4 @@
-use Rattle.std.proofs.Common.{◌≡◌, ◌∙◌, ℕ, List, [], ◌∷◌, true, length, refl, ap, sym, arith, Some}
+use Rattle.std.proofs.Common.{rules, ◌≡◌, ◌∙◌, ℕ, List, [], ◌∷◌, true, length, refl, ap, sym, arith, Some}
 use Rattle.std.proofs.lemmas.Bool.Decides.{nat_tests}
 use Rattle.std.specs.Prelude.{◌==◌}
 use Rattle.gix_date.specs.Text.Numbers.{read_two_digits}
@@ -16,6 +16,6 @@ returns c =
       after_hours = c.in_ok-hours.rest.now;
       sign = sym c.in_ok-sign.ensures;
       hours = sym c.in_ok-hours.ensures.value;
-      minutes = ap read_two_digits (sym c.skip_colon.ensures) ∙ sym c.in_ok-minutes.ensures.value ∙ ap (λ (t : List ℕ). Some (c.in_ok-minutes.minutes, t)) end;
+      minutes = ap read_two_digits (search rules) ∙ sym c.in_ok-minutes.ensures.value ∙ ap (λ (t : List ℕ). Some (c.in_ok-minutes.minutes, t)) end;
       seconds = refl;
     }
