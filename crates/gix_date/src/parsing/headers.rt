@@ -1,13 +1,13 @@
 //! Commit headers: a whole text by its words.
 ghost use Rattle.std.specs.Prelude.{◌≡◌};
-ghost use Rattle.gix_date.specs.Header.Reading.{header_time, seconds_said, offset_said};
+ghost use Rattle.gix_date.specs.Header.Reading.{header_time, seconds_said};
 
 use crate::parsing::fields::has_colon;
 use crate::parsing::numbers::{leading_digits, parse_int};
 use crate::parsing::offset::parse_offset_fields;
 use crate::parsing::plain::parse_plain;
 use crate::parsing::space_words::first_words;
-use crate::time::{OffsetInSeconds, SecondsSinceUnixEpoch, Time};
+use crate::time::{SecondsSinceUnixEpoch, Time};
 
 /// Reads the time of a commit header, as gix-date does: leniently in what stands round the numbers.
 ///
@@ -26,7 +26,7 @@ pub fn parse_header(input: &str) -> Option<Time>
 }
 
 /// The time of a commit header in any form, by its words.
-#[tactic(auto, unfolding(crate::specs::Header::Reading::header_time, crate::specs::Header::Reading::time_of_words))]
+#[tactic(auto, unfolding(crate::specs::Header::Reading::header_time, crate::specs::Header::Reading::time_of_words, crate::specs::Header::Reading::offset_said))]
 fn parse_any_header(input: &str) -> Option<Time>
     ensures { result ≡ header_time input.now }
 {
@@ -36,7 +36,10 @@ fn parse_any_header(input: &str) -> Option<Time>
     let (first, second) = first_words(input)?;
     let seconds = parse_seconds(first)?;
     let offset = match second {
-        Some(word) => parse_header_offset(word),
+        Some(word) => match parse_offset_fields(false, word) {
+            Some(fields) => fields.in_seconds(),
+            None => 0,
+        },
         None => 0,
     };
     Some(Time::new(seconds, offset))
@@ -52,15 +55,4 @@ fn parse_seconds(word: &str) -> Option<SecondsSinceUnixEpoch>
         return whole;
     }
     parse_int(leading_digits(word))
-}
-
-/// The offset that the second word of a header says, 0 where it has another form.
-#[tactic(auto, unfolding(crate::specs::Header::Reading::offset_said))]
-fn parse_header_offset(word: &str) -> OffsetInSeconds
-    ensures { result ≡ offset_said word.now }
-{
-    match parse_offset_fields(false, word) {
-        Some(fields) => fields.in_seconds(),
-        None => 0,
-    }
 }

@@ -29,17 +29,20 @@ pub(crate) enum Shape {
 
 impl Shape {
     /// The shape of a text.
-    #[tactic(auto, unfolding(crate::specs::Families::Shapes::shape_of))]
+    #[tactic(auto, unfolding(crate::specs::Families::Shapes::shape_of, crate::specs::Families::Shapes::begins_with_at, crate::specs::Families::Shapes::begins_with_letter, crate::specs::Families::Shapes::letter_shape))]
     #[inline(always)]
     pub(crate) fn of(text: &str) -> Shape
         ensures { result ≡ shape_of text.now }
     {
         let bytes = text.as_bytes();
-        if begins_with_at(bytes) {
-            Shape::AtSign
-        } else if begins_with_letter(bytes) {
-            letter_shape(bytes)
-        } else if begins_with_year(bytes) {
+        match bytes {
+            [b'@', ..] => return Shape::AtSign,
+            [a, _, _, b',', ..] if a.is_ascii_alphabetic() => return Shape::MailDay,
+            [a, _, _, b' ', ..] if a.is_ascii_alphabetic() => return Shape::NamedDay,
+            [a, ..] if a.is_ascii_alphabetic() => return Shape::Word,
+            _ => {}
+        }
+        if begins_with_year(bytes) {
             Shape::DashedDay
         } else if begins_with_dotted_day(bytes) || begins_with_compact_day(bytes) {
             Shape::GitDay
@@ -50,38 +53,6 @@ impl Shape {
         } else {
             Shape::Other
         }
-    }
-}
-
-#[tactic(auto, unfolding(crate::specs::Families::Shapes::begins_with_at))]
-#[inline(always)]
-fn begins_with_at(text: &[u8]) -> bool
-    ensures { result ≡ begins_with_at text.now }
-{
-    matches!(text, [b'@', ..])
-}
-
-#[tactic(auto, unfolding(crate::specs::Families::Shapes::begins_with_letter))]
-#[inline(always)]
-fn begins_with_letter(text: &[u8]) -> bool
-    ensures { result ≡ begins_with_letter text.now }
-{
-    match text {
-        [first, ..] => first.is_ascii_alphabetic(),
-        _ => false,
-    }
-}
-
-/// The shape of a text that begins with a letter.
-#[tactic(auto, unfolding(crate::specs::Families::Shapes::letter_shape))]
-#[inline(always)]
-fn letter_shape(text: &[u8]) -> Shape
-    ensures { result ≡ letter_shape text.now }
-{
-    match text {
-        [_, _, _, b',', ..] => Shape::MailDay,
-        [_, _, _, b' ', ..] => Shape::NamedDay,
-        _ => Shape::Word,
     }
 }
 

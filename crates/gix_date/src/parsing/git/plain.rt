@@ -1,7 +1,7 @@
 //! What stands after the date of a Git text, as nearly all write it.
 ghost use Rattle.std.specs.Prelude.{◌≡◌, None, IfSome};
 ghost use Rattle.gix_date.specs.Private.Civil.{ClockFits};
-ghost use Rattle.gix_date.specs.Private.PlainRests.{IsPlainOffset, IsRest, read_bare_clock, read_colon_clock, read_whole_clock, skip_digits, skip_fraction};
+ghost use Rattle.gix_date.specs.Private.PlainRests.{IsPlainOffset, IsRest, read_colon_clock, read_whole_clock, skip_digits, skip_fraction};
 ghost use Rattle.gix_date.specs.Private.Views.{read_view};
 
 use crate::parsing::civil::ClockFields;
@@ -28,7 +28,7 @@ pub(crate) fn parse_plain_rest(text: &str) -> Option<(ClockFields, OffsetFields)
 }
 
 /// `HH:MM:SS` or `HHMMSS` at the front.
-#[tactic(auto, unfolding(crate::specs::Private::PlainRests::read_whole_clock))]
+#[tactic(auto, unfolding(crate::specs::Private::PlainRests::read_whole_clock, crate::specs::Private::PlainRests::read_bare_clock))]
 #[inline(always)]
 fn read_whole_clock(text: &str) -> Option<(ClockFields, &str)>
     ensures value { read_view result ≡ read_whole_clock text.now }
@@ -37,15 +37,6 @@ fn read_whole_clock(text: &str) -> Option<(ClockFields, &str)>
     if let Some(found) = read_colon_clock(text) {
         return Some(found);
     }
-    read_bare_clock(text)
-}
-
-#[tactic(auto, unfolding(crate::specs::Private::PlainRests::read_bare_clock))]
-#[inline(always)]
-fn read_bare_clock(text: &str) -> Option<(ClockFields, &str)>
-    ensures value { read_view result ≡ read_bare_clock text.now }
-    ensures fits { IfSome result (λ found. ClockFits found.0) }
-{
     let (hour, rest) = read_two_digits(text)?;
     let (minute, rest) = read_two_digits(rest)?;
     let (second, rest) = read_two_digits(rest)?;
