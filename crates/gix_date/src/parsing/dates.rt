@@ -1,6 +1,7 @@
 //! Dates: a whole text by the first family that holds it.
 ghost use Rattle.std.specs.Prelude.{◌≡◌, if◌then◌else◌, IfOk, IfSome, Some, None, option_map};
 ghost use Rattle.std.specs.Int.Signed.{le_z};
+ghost use Rattle.std.specs.Option.{option_or};
 ghost use Rattle.jiff.specs.Words.{IsOffsetSeconds};
 ghost use Rattle.gix_date.specs.Families.Answer.{Absolute, Relative};
 ghost use Rattle.gix_date.specs.Families.Epoch.{at_time, min_bare_epoch, utc_time};
@@ -156,21 +157,15 @@ fn answer_by_shape<'a>(shape: Shape, input: &'a str, raw: RawOffsets) -> Option<
     ensures offset_fits { IfSome result HasJiffOffset }
 {
     match shape {
-        Shape::AtSign => at_answer(input, raw).or_else(|| relative_answer(input)),
-        Shape::MailDay => parse_rfc2822(input).or_else(|| relative_answer(input)),
-        Shape::NamedDay => parse_named_day(input).or_else(|| relative_answer(input)),
-        Shape::Word => relative_answer(input),
-        Shape::DashedDay => parse_dashed(input)
-            .or_else(|| git_answer(input))
-            .or_else(|| relative_answer(input)),
-        Shape::GitDay => git_answer(input).or_else(|| relative_answer(input)),
-        Shape::Count => parse_rfc2822(input)
-            .or_else(|| relative_answer(input))
-            .or_else(|| raw_answer(input, raw)),
+        Shape::AtSign => or_relative(at_answer(input, raw), input),
+        Shape::MailDay => or_relative(parse_rfc2822(input), input),
+        Shape::NamedDay => or_relative(parse_named_day(input), input),
+        Shape::Word => or_relative(None, input),
+        Shape::DashedDay => or_relative(or_git(parse_dashed(input), input), input),
+        Shape::GitDay => or_relative(or_git(None, input), input),
+        Shape::Count => or_raw(or_relative(parse_rfc2822(input), input), input, raw),
         Shape::WholeNumber => epoch_answer(parse_int(input)?),
-        Shape::Other => git_answer(input)
-            .or_else(|| relative_answer(input))
-            .or_else(|| raw_answer(input, raw)),
+        Shape::Other => or_raw(or_relative(or_git(None, input), input), input, raw),
     }
 }
 
@@ -197,30 +192,45 @@ fn epoch_answer<'a>(seconds: SecondsSinceUnixEpoch) -> Option<Answer<'a>>
     }
 }
 
-/// The answer of the family of Git's own forms.
+/// What was found, or else the answer of the family of Git's own forms.
 #[inline(always)]
-fn git_answer(input: &str) -> Option<Answer<'_>>
-    ensures answer { option_map answer_of result ≡ option_map Absolute (git_time input.now) }
+fn or_git<'a>(found: Option<Answer<'a>>, input: &'a str) -> Option<Answer<'a>>
+    requires { IfSome found HasJiffOffset }
+    ensures answer { option_map answer_of result
+        ≡ option_or (option_map answer_of found.entry) (option_map Absolute (git_time input.now)) }
     ensures offset_fits { IfSome result HasJiffOffset }
 {
+    if found.is_some() {
+        return found;
+    }
     Some(Answer::Absolute(parse_git(input)?))
 }
 
-/// The answer of the family of relative texts.
+/// What was found, or else the answer of the family of relative texts.
 #[inline(always)]
-fn relative_answer(input: &str) -> Option<Answer<'_>>
-    ensures answer { option_map answer_of result ≡ option_map Relative (relative_date input.now) }
+fn or_relative<'a>(found: Option<Answer<'a>>, input: &'a str) -> Option<Answer<'a>>
+    requires { IfSome found HasJiffOffset }
+    ensures answer { option_map answer_of result
+        ≡ option_or (option_map answer_of found.entry) (option_map Relative (relative_date input.now)) }
     ensures offset_fits { IfSome result HasJiffOffset }
 {
+    if found.is_some() {
+        return found;
+    }
     Some(Answer::Relative(parse_relative(input)?))
 }
 
-/// The answer of the family of raw texts.
+/// What was found, or else the answer of the family of raw texts.
 #[inline(always)]
-fn raw_answer(input: &str, raw: RawOffsets) -> Option<Answer<'_>>
-    ensures answer { option_map answer_of result ≡ family_answer (allows raw) RawText input.now }
+fn or_raw<'a>(found: Option<Answer<'a>>, input: &'a str, raw: RawOffsets) -> Option<Answer<'a>>
+    requires { IfSome found HasJiffOffset }
+    ensures answer { option_map answer_of result
+        ≡ option_or (option_map answer_of found.entry) (family_answer (allows raw) RawText input.now) }
     ensures offset_fits { IfSome result HasJiffOffset }
 {
+    if found.is_some() {
+        return found;
+    }
     Some(Answer::Absolute(parse_raw(input, raw)?))
 }
 
