@@ -11,7 +11,7 @@ use Rattle.gix_date.specs.Fields.Front.{skip_char, ◌>>=◌}
 use Rattle.gix_date.specs.Fields.Layout.{Piece, DayName, MonthName, Day, Year, Spaces, Clock, Offset, LetterT, ColonOffset, layout_answer}
 use Rattle.gix_date.specs.Private.AfterDay.{dashed_answer, answer_after, named_day_answer, read_named_day}
 use Rattle.gix_date.specs.Text.Numbers.{read_field}
-use Rattle.gix_date.specs.declared.parsing.civil.DateFields.{DateFields}
+use Rattle.gix_date.specs.declared.civil.DateFields.{DateFields}
 use Rattle.gix_date.proofs.Instants.{is-dated}
 
 -- the answers after a day

@@ -19,7 +19,7 @@ use Rattle.gix_date.proofs.Layouts.{piece-taken, apart-after, mail-front, dates_
 use Rattle.gix_date.specs.Families.Order.{answers_before_git}
 use Rattle.gix_date.specs.Families.Raw.{OffsetRule, is_raw_offset}
 use Rattle.gix_date.specs.Fields.Layout.{LocalTime, Piece, DayName, MonthName, Day, Year, PlainDate, Clock, Spaces, LetterT, Offset, ColonOffset, read_piece, read_pieces, nothing_read, ArePieces}
-use Rattle.gix_date.specs.declared.parsing.civil.DateFields.{DateFields}
+use Rattle.gix_date.specs.declared.civil.DateFields.{DateFields}
 use Rattle.gix_date.specs.declared.time.Time.{Time}
 
 -- families by what a text begins with

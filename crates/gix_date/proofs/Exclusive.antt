@@ -25,8 +25,8 @@ use Rattle.gix_date.specs.Text.SpaceWords.{space_words, runs}
 use Rattle.gix_date.specs.Fields.Civil.{civil_instant, is_date}
 use Rattle.gix_date.specs.Fields.Layout.{LocalTime, Piece, DayName, BeginsWith}
 use Rattle.gix_date.specs.declared.error.ParseError.{ParseError}
-use Rattle.gix_date.specs.declared.parsing.civil.ClockFields.{ClockFields}
-use Rattle.gix_date.specs.declared.parsing.civil.DateFields.{DateFields}
+use Rattle.gix_date.specs.declared.civil.ClockFields.{ClockFields}
+use Rattle.gix_date.specs.declared.civil.DateFields.{DateFields}
 use Rattle.gix_date.specs.declared.parsing.patterns.TheConstants.{MAX_OFFSET_IN_SECONDS}
 use Rattle.jiff.specs.declared.zoned.Zoned.{Zoned}
 use Rattle.gix_date.specs.declared.time.Time.{Time}

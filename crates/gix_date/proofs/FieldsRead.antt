@@ -13,8 +13,8 @@ use Rattle.gix_date.specs.Text.Numbers.{read_two_digits, read_digit, read_field,
 use Rattle.gix_date.specs.Fields.Offsets.{offset_fields, read_sign}
 use Rattle.gix_date.specs.Fields.DateFields.{skip_day_name, skip_spaces, read_name, read_month, skip_weekday, read_plain_date, read_minutes, read_second, read_clock, read_mail_clock}
 use Rattle.gix_date.specs.Fields.DateOffsets.{compact_offset, strict_offset, mail_zone, mail_offset, named_zone}
-use Rattle.gix_date.specs.declared.parsing.civil.ClockFields.{ClockFields}
-use Rattle.gix_date.specs.declared.parsing.civil.DateFields.{DateFields}
+use Rattle.gix_date.specs.declared.civil.ClockFields.{ClockFields}
+use Rattle.gix_date.specs.declared.civil.DateFields.{DateFields}
 
 -- What begins with such a character, and what does not begin with one.
 abbrev pub Begins : (ℕ → Bool) → List ℕ → Type 0

@@ -10,8 +10,8 @@ use Rattle.gix_date.specs.Git.Forms.{git_time, git_form, dotted_time, compact_ti
 use Rattle.gix_date.specs.Git.Clock.{git_clock, trimmed_clock, clock_with_colons, clock_without_colons, read_pair_or_end, digits_at_most}
 use Rattle.gix_date.specs.Text.Numbers.{read_two_digits, read_year}
 use Rattle.gix_date.specs.Fields.Offsets.{read_sign}
-use Rattle.gix_date.specs.declared.parsing.civil.ClockFields.{ClockFields}
-use Rattle.gix_date.specs.declared.parsing.civil.DateFields.{DateFields}
+use Rattle.gix_date.specs.declared.civil.ClockFields.{ClockFields}
+use Rattle.gix_date.specs.declared.civil.DateFields.{DateFields}
 
 -- all that a row needs to see computed
 computing : Type 0

@@ -17,8 +17,8 @@ use Rattle.jiff_core.specs.declared.civil.datetime.DateTime.{DateTime}
 use Rattle.gix_date.specs.Fields.Civil.{is_date, is_clock, civil_seconds, civil_instant}
 use Rattle.gix_date.specs.Printing.Zoned.{is_instant}
 use Rattle.gix_date.specs.Printing.Zoned.{first_second, last_second}
-use Rattle.gix_date.specs.declared.parsing.civil.DateFields.{DateFields}
-use Rattle.gix_date.specs.declared.parsing.civil.ClockFields.{ClockFields}
+use Rattle.gix_date.specs.declared.civil.DateFields.{DateFields}
+use Rattle.gix_date.specs.declared.civil.ClockFields.{ClockFields}
 
 -- the seconds are those of an instant
 abbrev pub IsInstantSeconds : ℤ → Type 0

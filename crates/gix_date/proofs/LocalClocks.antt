@@ -17,7 +17,7 @@ use Rattle.jiff_core.proofs.MarchLemmas.{leap_day, leap_day-shift, march_days-su
 use Rattle.jiff_core.proofs.SignedLemmas.{signed_arith, one_part}
 use Rattle.gix_date.specs.Fields.ClockNumbers.{hours_in, minutes_in}
 use Rattle.gix_date.specs.Fields.Layout.{LocalTime}
-use Rattle.gix_date.specs.declared.parsing.civil.ClockFields.{ClockFields}
+use Rattle.gix_date.specs.declared.civil.ClockFields.{ClockFields}
 use Rattle.gix_date.specs.Printing.LocalClocks.{march_year, march_month, march_day, january_date, date_of_day, local_seconds, local_day, second_of_day, clock_of, HasOrdinaryClock}
 use Rattle.gix_date.specs.Printing.NamedTexts.{local_time, IsOrdinary}
 use Rattle.gix_date.specs.Printing.Zoned.{IsMoment, IsConvertible}

@@ -25,8 +25,8 @@ use Rattle.gix_date.specs.Git.Forms.{without_colons, fields_of, offset_of_digits
 use Rattle.gix_date.specs.Private.PlainRests.{IsPlainOffset, is_clock_byte, skip_any, skip_digits, skip_fraction, read_clock_by, read_colon_clock, read_bare_clock, read_whole_clock, IsRest, time_at}
 use Rattle.gix_date.specs.Text.Characters.{space, dot, plus, minus, colon, letter_z, is_dot, is_colon, has_colon}
 use Rattle.gix_date.specs.Text.Numbers.{two_digit_value, read_two_digits}
-use Rattle.gix_date.specs.declared.parsing.civil.ClockFields.{ClockFields}
-use Rattle.gix_date.specs.declared.parsing.civil.DateFields.{DateFields}
+use Rattle.gix_date.specs.declared.civil.ClockFields.{ClockFields}
+use Rattle.gix_date.specs.declared.civil.DateFields.{DateFields}
 use Rattle.gix_date.specs.declared.parsing.offset.OffsetFields.{OffsetFields}
 use Rattle.gix_date.specs.declared.parsing.offset.Sign.{Sign}
 use Rattle.gix_date.proofs.AsciiCuts.{ascii-by}

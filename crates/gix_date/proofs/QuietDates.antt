@@ -24,8 +24,8 @@ use Rattle.gix_date.specs.Relative.Dates.{named_date}
 use Rattle.gix_date.specs.Relative.Words.{relative_words, is_gap, singular, named_unit, unit_of, is_ago}
 use Rattle.gix_date.specs.Relative.Roles.{has_unit}
 use Rattle.gix_date.specs.Text.SpaceWords.{space_words}
-use Rattle.gix_date.specs.declared.parsing.civil.ClockFields.{ClockFields}
-use Rattle.gix_date.specs.declared.parsing.civil.DateFields.{DateFields}
+use Rattle.gix_date.specs.declared.civil.ClockFields.{ClockFields}
+use Rattle.gix_date.specs.declared.civil.DateFields.{DateFields}
 use Rattle.gix_date.specs.declared.parsing.offset.OffsetFields.{OffsetFields}
 use Rattle.gix_date.specs.declared.parsing.offset.Sign.{Sign}
 use Rattle.gix_date.proofs.FieldsTaken.{went, guard, after-taken, two-taken}

@@ -30,8 +30,8 @@ use Rattle.gix_date.specs.Fields.Front.{skip_char}
 use Rattle.gix_date.specs.Families.Raw.{OffsetRule}
 use Rattle.std.specs.Int.{int_rem_euclid}
 use Rattle.jiff_core.specs.declared.civil.date.Date.{Date}
-use Rattle.gix_date.specs.declared.parsing.civil.ClockFields.{ClockFields}
-use Rattle.gix_date.specs.declared.parsing.civil.DateFields.{DateFields}
+use Rattle.gix_date.specs.declared.civil.ClockFields.{ClockFields}
+use Rattle.gix_date.specs.declared.civil.DateFields.{DateFields}
 use Rattle.gix_date.specs.declared.time.Time.{Time}
 use Rattle.gix_date.proofs.Apart.{before-git-apart}
 use Rattle.gix_date.proofs.HeaderLaws.{zone-read, back-to, written_fields, is-digit, sign-read, two-read}

@@ -19,6 +19,7 @@
 //! for what a writer takes for itself, as a `Device` of a `Vec` that grows.
 #![tactic(auto)]
 
+mod civil;
 pub mod device;
 mod error;
 pub mod laws;

@@ -16,7 +16,6 @@ use arrayvec::ArrayString;
 use std::str::FromStr;
 
 mod answer;
-pub(crate) mod civil;
 pub(crate) mod dates;
 mod fields;
 mod git;

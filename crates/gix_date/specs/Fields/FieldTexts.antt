@@ -5,8 +5,8 @@ use Rattle.std.specs.List.{list_all}
 use Rattle.gix_date.specs.Text.Characters.{minus, comma, colon, digit_zero, is_space}
 use Rattle.gix_date.specs.Text.Numbers.{two_digits}
 use Rattle.gix_date.specs.Fields.DateFields.{is_weekday, month_named, without_leap_second}
-use Rattle.gix_date.specs.declared.parsing.civil.ClockFields.{ClockFields}
-use Rattle.gix_date.specs.declared.parsing.civil.DateFields.{DateFields}
+use Rattle.gix_date.specs.declared.civil.ClockFields.{ClockFields}
+use Rattle.gix_date.specs.declared.civil.DateFields.{DateFields}
 
 abbrev pub IsDigit : ℕ → Type 0
 IsDigit c = is_ascii_digit c ≡ true

@@ -10,8 +10,8 @@ use Rattle.gix_date.specs.Text.Numbers.{read_field, read_year}
 use Rattle.gix_date.specs.Fields.DateFields.{skip_day_name, skip_spaces, skip_weekday, read_month, read_plain_date, read_clock, read_mail_clock}
 use Rattle.gix_date.specs.Fields.DateOffsets.{compact_offset, strict_offset, mail_zone, strict_offset_text}
 use Rattle.gix_date.specs.Text.SpaceWords.{is_nonempty}
-use Rattle.gix_date.specs.declared.parsing.civil.ClockFields.{ClockFields}
-use Rattle.gix_date.specs.declared.parsing.civil.DateFields.{DateFields}
+use Rattle.gix_date.specs.declared.civil.ClockFields.{ClockFields}
+use Rattle.gix_date.specs.declared.civil.DateFields.{DateFields}
 
 -- a year, a month and a day; an hour, a minute and a second: the names by which another crate says the fields of the
 -- code

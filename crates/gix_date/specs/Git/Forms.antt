@@ -10,7 +10,7 @@ use Rattle.gix_date.specs.Fields.Front.{ReadFront, skip_char, ◌>>=◌}
 use Rattle.gix_date.specs.Git.Clock.{git_clock}
 use Rattle.gix_date.specs.Text.Numbers.{two_digit_value, read_two_digits}
 use Rattle.gix_date.specs.Fields.Offsets.{read_sign, offset_by}
-use Rattle.gix_date.specs.declared.parsing.civil.DateFields.{DateFields}
+use Rattle.gix_date.specs.declared.civil.DateFields.{DateFields}
 use Rattle.gix_date.specs.declared.parsing.offset.OffsetFields.{OffsetFields}
 use Rattle.gix_date.specs.declared.parsing.offset.Sign.{Sign}
 use Rattle.gix_date.specs.declared.time.Time.{Time}

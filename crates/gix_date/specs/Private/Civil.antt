@@ -1,7 +1,7 @@
 -- What the fields of a date and a clock have room for.
 use Rattle.std.specs.Prelude.{◌≤◌}
-use Rattle.gix_date.specs.declared.parsing.civil.DateFields.{DateFields}
-use Rattle.gix_date.specs.declared.parsing.civil.ClockFields.{ClockFields}
+use Rattle.gix_date.specs.declared.civil.DateFields.{DateFields}
+use Rattle.gix_date.specs.declared.civil.ClockFields.{ClockFields}
 
 -- the fields have at most four, two and two digits
 pub record DateFits (d : DateFields) : Type 0 where

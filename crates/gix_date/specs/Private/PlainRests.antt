@@ -11,8 +11,8 @@ use Rattle.gix_date.specs.Git.ClockCut.{clock_cut}
 use Rattle.gix_date.specs.Git.Forms.{is_within_a_day, git_offset}
 use Rattle.gix_date.specs.Text.Characters.{dot, colon}
 use Rattle.gix_date.specs.Text.Numbers.{read_two_digits}
-use Rattle.gix_date.specs.declared.parsing.civil.ClockFields.{ClockFields}
-use Rattle.gix_date.specs.declared.parsing.civil.DateFields.{DateFields}
+use Rattle.gix_date.specs.declared.civil.ClockFields.{ClockFields}
+use Rattle.gix_date.specs.declared.civil.DateFields.{DateFields}
 use Rattle.gix_date.specs.declared.parsing.offset.OffsetFields.{OffsetFields}
 use Rattle.gix_date.specs.declared.time.Time.{Time}
 

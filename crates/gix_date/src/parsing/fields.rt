@@ -7,7 +7,7 @@ ghost use Rattle.gix_date.specs.Private.Civil.{ClockFits, DateFits};
 ghost use Rattle.gix_date.specs.Private.PlainRests.{read_colon_clock};
 ghost use Rattle.gix_date.specs.Private.Views.{read_view};
 
-use crate::parsing::civil::{ClockFields, DateFields};
+use crate::civil::{ClockFields, DateFields};
 use crate::parsing::numbers::parse_two_digits;
 
 /// What stands after this character, where it is the first.

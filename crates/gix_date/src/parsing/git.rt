@@ -7,7 +7,7 @@ ghost use Rattle.gix_date.specs.Private.PlainRests.{time_at};
 ghost use Rattle.gix_date.specs.Private.Views.{read_view};
 ghost use Rattle.gix_date.specs.Git.Forms.{read_compact_date, time_with_rest, time_of_cut, dotted_time, compact_time, flexible_time, git_form, git_time};
 
-use crate::parsing::civil::{ClockFields, DateFields, civil_instant};
+use crate::civil::{ClockFields, DateFields, civil_instant};
 use crate::parsing::fields::{read_marked_date, skip_char};
 use crate::parsing::git::clock::parse_clock;
 use crate::parsing::git::cut::clock_cut;

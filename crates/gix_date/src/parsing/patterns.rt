@@ -8,8 +8,8 @@ ghost use Rattle.gix_date.specs.Private.Civil.{DateFits, ClockFits};
 ghost use Rattle.jiff.specs.Words.{IsOffsetSeconds};
 ghost use Rattle.gix_date.specs.Private.Views.{answer_of, read_view, HasJiffOffset};
 
+use crate::civil::{ClockFields, DateFields, civil_instant, is_date, midnight_instant};
 use crate::parsing::answer::Answer;
-use crate::parsing::civil::{ClockFields, DateFields, civil_instant, is_date, midnight_instant};
 use crate::parsing::fields::skip_char;
 use crate::parsing::numbers::{read_field, read_year};
 use crate::parsing::patterns::fields::{

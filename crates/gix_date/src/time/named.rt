@@ -14,8 +14,8 @@ ghost use Rattle.gix_date.specs.Printing.Zoned.{IsConvertible};
 ghost use Rattle.gix_date.specs.Private.NamedTexts.{local_of, HasFields, IsShownByAll};
 ghost use Rattle.gix_date.specs.declared.error.Error.TheVariants as errors;
 
+use crate::civil::{ClockFields, DateFields};
 use crate::error::Error;
-use crate::parsing::civil::{ClockFields, DateFields};
 use crate::time::{
     OffsetInSeconds, SECONDS_PER_DAY, SECONDS_PER_HOUR, SECONDS_PER_MINUTE, SecondsSinceUnixEpoch,
     Time, push_hours, push_minutes, push_two_digits,

@@ -6,7 +6,7 @@ ghost use Rattle.gix_date.specs.Private.Civil.{ClockFits};
 ghost use Rattle.gix_date.specs.Private.Views.{read_view};
 ghost use Rattle.gix_date.specs.Git.Clock.{digits_at_most, clock_of_fields, clock_with_colons, read_pair_or_end, clock_without_colons, trimmed_clock, git_clock};
 
-use crate::parsing::civil::ClockFields;
+use crate::civil::ClockFields;
 use crate::parsing::fields::has_colon;
 use crate::parsing::numbers::{are_digits, read_two_digits};
 use crate::time::{MAX_HOUR, MAX_MINUTE, MAX_SECOND};

@@ -4,7 +4,7 @@ ghost use Rattle.gix_date.specs.Private.Civil.{ClockFits};
 ghost use Rattle.gix_date.specs.Private.PlainRests.{IsPlainOffset, IsRest, read_colon_clock, read_whole_clock, skip_digits, skip_fraction};
 ghost use Rattle.gix_date.specs.Private.Views.{read_view};
 
-use crate::parsing::civil::ClockFields;
+use crate::civil::ClockFields;
 use crate::parsing::fields::{read_colon_clock, skip_char};
 use crate::parsing::numbers::{leading_digits, read_two_digits};
 use crate::parsing::offset::{OffsetFields, read_sign};

@@ -7,7 +7,7 @@ ghost use Rattle.gix_date.specs.Private.Civil.{DateFits, ClockFits};
 ghost use Rattle.gix_date.specs.Private.Views.{read_view};
 ghost use Rattle.gix_date.specs.Fields.DateFields.{skip_spaces, month_named, is_weekday, read_month, skip_weekday, read_plain_date, read_second, read_clock, read_mail_clock, without_leap_second};
 
-use crate::parsing::civil::{ClockFields, DateFields};
+use crate::civil::{ClockFields, DateFields};
 use crate::parsing::fields::{read_colon_clock, read_marked_date, skip_char};
 use crate::parsing::numbers::{read_field, read_year};
 use crate::time::MAX_SECOND;
