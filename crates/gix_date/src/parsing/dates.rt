@@ -149,6 +149,20 @@ fn first_answer(input: &str, raw: RawOffsets) -> Option<Answer<'_>>
     answer_by_shape(Shape::of(input), input, raw)
 }
 
+/// The first of these answers that there is. Those after it are not computed. A closure, as `or_else` takes, would be
+/// proved anew at each place.
+macro_rules! first_of {
+    ($last:expr) => {
+        $last
+    };
+    ($answer:expr, $($others:expr),+) => {
+        match $answer {
+            Some(answer) => Some(answer),
+            None => first_of!($($others),+),
+        }
+    };
+}
+
 /// The answer of the first of a shape's families that holds the text. Each arm asks the families of `shape_families` in
 /// their order, and nothing below it chooses again.
 #[tactic(auto, unfolding(crate::specs::Families::Epoch::epoch_time))]
@@ -157,15 +171,29 @@ fn answer_by_shape<'a>(shape: Shape, input: &'a str, raw: RawOffsets) -> Option<
     ensures offset_fits { IfSome result HasJiffOffset }
 {
     match shape {
-        Shape::AtSign => or_relative(at_answer(input, raw), input),
-        Shape::MailDay => or_relative(parse_rfc2822(input), input),
-        Shape::NamedDay => or_relative(parse_named_day(input), input),
-        Shape::Word => or_relative(None, input),
-        Shape::DashedDay => or_relative(or_git(parse_dashed(input), input), input),
-        Shape::GitDay => or_relative(or_git(None, input), input),
-        Shape::Count => or_raw(or_relative(parse_rfc2822(input), input), input, raw),
+        Shape::AtSign => first_of!(at_answer(input, raw), relative_answer(input)),
+        Shape::MailDay => first_of!(parse_rfc2822(input), relative_answer(input)),
+        Shape::NamedDay => first_of!(parse_named_day(input), relative_answer(input)),
+        Shape::Word => relative_answer(input),
+        Shape::DashedDay => {
+            first_of!(
+                parse_dashed(input),
+                git_answer(input),
+                relative_answer(input)
+            )
+        }
+        Shape::GitDay => first_of!(git_answer(input), relative_answer(input)),
+        Shape::Count => first_of!(
+            parse_rfc2822(input),
+            relative_answer(input),
+            raw_answer(input, raw)
+        ),
         Shape::WholeNumber => epoch_answer(parse_int(input)?),
-        Shape::Other => or_raw(or_relative(or_git(None, input), input), input, raw),
+        Shape::Other => first_of!(
+            git_answer(input),
+            relative_answer(input),
+            raw_answer(input, raw)
+        ),
     }
 }
 
@@ -192,45 +220,30 @@ fn epoch_answer<'a>(seconds: SecondsSinceUnixEpoch) -> Option<Answer<'a>>
     }
 }
 
-/// What was found, or else the answer of the family of Git's own forms.
+/// The answer of the family of Git's own forms.
 #[inline(always)]
-fn or_git<'a>(found: Option<Answer<'a>>, input: &'a str) -> Option<Answer<'a>>
-    requires { IfSome found HasJiffOffset }
-    ensures answer { option_map answer_of result
-        ≡ option_or (option_map answer_of found.entry) (option_map Absolute (git_time input.now)) }
+fn git_answer(input: &str) -> Option<Answer<'_>>
+    ensures answer { option_map answer_of result ≡ option_map Absolute (git_time input.now) }
     ensures offset_fits { IfSome result HasJiffOffset }
 {
-    if found.is_some() {
-        return found;
-    }
     Some(Answer::Absolute(parse_git(input)?))
 }
 
-/// What was found, or else the answer of the family of relative texts.
+/// The answer of the family of relative texts.
 #[inline(always)]
-fn or_relative<'a>(found: Option<Answer<'a>>, input: &'a str) -> Option<Answer<'a>>
-    requires { IfSome found HasJiffOffset }
-    ensures answer { option_map answer_of result
-        ≡ option_or (option_map answer_of found.entry) (option_map Relative (relative_date input.now)) }
+fn relative_answer(input: &str) -> Option<Answer<'_>>
+    ensures answer { option_map answer_of result ≡ option_map Relative (relative_date input.now) }
     ensures offset_fits { IfSome result HasJiffOffset }
 {
-    if found.is_some() {
-        return found;
-    }
     Some(Answer::Relative(parse_relative(input)?))
 }
 
-/// What was found, or else the answer of the family of raw texts.
+/// The answer of the family of raw texts.
 #[inline(always)]
-fn or_raw<'a>(found: Option<Answer<'a>>, input: &'a str, raw: RawOffsets) -> Option<Answer<'a>>
-    requires { IfSome found HasJiffOffset }
-    ensures answer { option_map answer_of result
-        ≡ option_or (option_map answer_of found.entry) (family_answer (allows raw) RawText input.now) }
+fn raw_answer(input: &str, raw: RawOffsets) -> Option<Answer<'_>>
+    ensures answer { option_map answer_of result ≡ family_answer (allows raw) RawText input.now }
     ensures offset_fits { IfSome result HasJiffOffset }
 {
-    if found.is_some() {
-        return found;
-    }
     Some(Answer::Absolute(parse_raw(input, raw)?))
 }
 
