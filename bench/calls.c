@@ -17,6 +17,8 @@ static uint32_t call(char kind, uint32_t format, const uint8_t *text, size_t len
     switch (kind) {
     case 'h':
         return gix_date_parse_header(text, len, &time);
+    case 'c':
+        return gix_date_is_canonical_header(text, len);
     case 'w':
         return gix_date_write_header(&day, out, sizeof out, &out_len);
     case 'p':

@@ -23,7 +23,7 @@ use Rattle.gix_date.specs.Text.Characters.{space, plus, minus, is_space, has_col
 use Rattle.gix_date.specs.Header.Laws.{ComesBack}
 use Rattle.gix_date.specs.Header.Reading.{header_time, time_of_words, seconds_said, offset_said}
 use Rattle.gix_date.specs.Text.SpaceWords.{space_words, first_words}
-use Rattle.gix_date.specs.Header.Text.{header_text, compact_offset_text, offset_sign, hours_and_minutes}
+use Rattle.gix_date.specs.Header.Text.{header_text, is_header_text_of, compact_offset_text, offset_sign, hours_and_minutes}
 use Rattle.gix_date.specs.Text.Numbers.{int_value, fits_i64, decimal_text, two_digits, read_two_digits}
 use Rattle.gix_date.specs.Fields.Offsets.{offset_fields, offset_of, signed, read_sign, last_pair}
 use Rattle.gix_date.specs.Fields.Front.{skip_char, ◌>>=◌}
@@ -412,3 +412,24 @@ written-is-read t f h m =
     let zone = compact_offset_text t.offset in
     let read : header_time (front ++ (space ∷ zone)) ≡ Some t = plain-header front zone t.seconds (written_fields t.offset) (decimal-int t.seconds f) (zone-read t.offset h) ∙ ap (λ (o : ℤ). Some (time_at t.seconds o)) (back-to t.offset m) in
     subst (λ (r : Option (List ℕ)). IsSomeAnd r (λ text. header_time text ≡ Some t)) (sym (written-by t h)) read
+
+-- A text that is read as a time is canonical exactly where it is what that time is written as.
+pub canonical-written : (text : List ℕ) (t : Time) → header_time text ≡ Some t → is_header_text_of t text ≡ is_canonical_header text
+canonical-written text t e = by-test (is_canonical_header text) (header_text t) refl refl
+  where
+    back : (written : Option (List ℕ)) → header_text t ≡ written → option_map_or (λ w. bytes_eq w text) written false ≡ true → ComesBack text
+    back None f h = absurd cc
+    back (Some w) f h = record { time = t; is_read = e; is_written = f ∙ ap Some ((bytes_eq-Decides w text).0 h) }
+
+    by-test : (canonical : Bool) (written : Option (List ℕ)) → is_canonical_header text ≡ canonical → header_text t ≡ written → option_map_or (λ w. bytes_eq w text) written false ≡ canonical
+    by-test false written c f = false-unless _ (λ h. let clash : false ≡ true = sym c ∙ comes-back-canonical text (back written f h) in absurd cc)
+    by-test true written c f =
+        let k = canonical-back text (canonical-taken text c) in
+        let same : k.time ≡ t = same_some k.time t (sym k.is_read ∙ e) in
+        let is : written ≡ Some text = sym f ∙ ap header_text (sym same) ∙ k.is_written in
+        rw is ((bytes_eq-Decides text text).1 refl)
+
+-- A text that is read as no time is not canonical.
+pub not-canonical : (text : List ℕ) → header_time text ≡ None → false ≡ is_canonical_header text
+not-canonical text e = sym (false-unless _ (λ c.
+    let clash : None ≡ Some _ = sym e ∙ (canonical-back text (canonical-taken text c)).is_read in absurd cc))

@@ -11,6 +11,7 @@ pub mod WordSteps
 pub mod ShortDigits
 pub mod PlainHeaders
 pub mod HeaderLaws
+pub mod CanonicalBytes
 pub mod WordsWithin
 pub mod FirstWords
 pub mod Places

@@ -11,5 +11,6 @@ pub mod Civil
 pub mod Steps
 pub mod Names
 pub mod Headers
+pub mod CanonicalBytes
 pub mod Printing
 pub mod NamedTexts

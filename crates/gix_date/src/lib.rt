@@ -3,6 +3,7 @@
 //! [`parse_header`] reads the time of a commit header, leniently as gix-date does; [`parse`] reads a date in one of
 //! several forms, each of which holds a text whole, [`parse_with`] takes the rule for the offsets of raw ones, and
 //! [`parse_no_alloc`] answers the same without memory and without an allocator.
+//! [`is_canonical_header`] says whether a header comes back when it is read and written.
 //! [`Time::to_str`] and [`Time::write_to`] write the text of a commit header, [`Time::format`] prints a time in one of
 //! Git's formats or by any pattern, and [`Time::now_local`] makes one of a clock and a zone.
 //!
@@ -14,8 +15,9 @@
 //! ```
 //!
 //! The names and modules are those of the Rust crate gix-date 0.18.1, but for `parsing`, which is `parse` there, and
-//! `device`, `laws`, [`InputBytes`], [`ParseError`], [`parse_no_alloc`], [`parse_with`] and [`RawOffsets`], which are
-//! not there. Clock and zone are always handed in, and no call here takes memory unless it is given an allocator, but
+//! `device`, `laws`, [`Error`], [`InputBytes`], [`ParseError`], [`RawOffsets`], [`is_canonical_header`],
+//! [`parse_no_alloc`], [`parse_with`], [`Time::to_buf`], [`Time::format_by_pattern`] and
+//! [`Time::format_by_pattern_or_unix`], which are not there. Clock and zone are always handed in, and no call here takes memory unless it is given an allocator, but
 //! for what a writer takes for itself, as a `Device` of a `Vec` that grows.
 #![tactic(auto)]
 
@@ -29,6 +31,6 @@ pub mod time;
 pub use error::{Error, InputBytes, ParseError};
 pub use jiff::Zoned;
 pub use parsing::dates::{parse, parse_no_alloc, parse_with};
-pub use parsing::headers::parse_header;
+pub use parsing::headers::{is_canonical_header, parse_header};
 pub use parsing::raw::RawOffsets;
 pub use time::{OffsetInSeconds, SecondsSinceUnixEpoch, Time};

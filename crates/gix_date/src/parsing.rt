@@ -16,6 +16,7 @@ use arrayvec::ArrayString;
 use std::str::FromStr;
 
 mod answer;
+mod canonical;
 pub(crate) mod dates;
 mod fields;
 mod git;

@@ -1,14 +1,10 @@
 -- Times, as they are printed for C.
-use Rattle.std.specs.Prelude.{◌≡◌, ◌⊎◌, ◌<◌, ℕ, Bool, true, false, List, [], ◌∷◌, Some, Result, Ok, Err, MatchResult, String, string_bytes, slice_get}
+use Rattle.std.specs.Prelude.{◌≡◌, ◌⊎◌, ◌<◌, ℕ, Bool, true, false, List, [], ◌∷◌, Some, Result, Err, String, string_bytes, slice_get}
 use Rattle.std.specs.Result.{result_map_both}
 use Rattle.std.specs.Global.{Global}
-use Rattle.gix_date.specs.Printing.Formats.{PrintsBy, AtMoment, IsUnprinted}
 use Rattle.gix_date.specs.Printing.NamedTexts.{short_pattern, rfc2822_pattern, git_rfc2822_pattern, iso8601_pattern, iso8601_strict_pattern, gitoxide_pattern, default_pattern}
-use Rattle.gix_date.specs.Printing.Zoned.{IsConvertible}
-use Rattle.gix_date.specs.Text.Numbers.{decimal_text}
 use Rattle.gix_date.specs.declared.error.Error.{Error}
 use Rattle.gix_date.specs.declared.error.Error.TheVariants as errors
-use Rattle.gix_date.specs.declared.time.Time.{Time}
 use Rattle.gix_date.specs.declared.time.format.Format.{Format}
 use Rattle.gix_date.specs.declared.time.format.Format.TheVariants.{Custom, Unix, Raw}
 use Rattle.gix_date_c.specs.declared.status.Status.{Status}
@@ -50,11 +46,3 @@ IsFormatted Prints number answer =
 abbrev pub IsPatternPrinted : (Result (String Global) Error → Type 0) → Bool → Result (List ℕ) Status → Type 0
 IsPatternPrinted Prints true answer = IsPrinted Prints answer
 IsPatternPrinted Prints false answer = answer ≡ Err statuses.NotText
-
--- what a pattern shows of a time, or the seconds for a time that has no text by it
-abbrev pub PrintsByOrSeconds : Time → List ℕ → Result (String Global) Error → Type 0
-PrintsByOrSeconds t pattern result =
-    MatchResult result
-    (λ text. PrintsBy t pattern (Ok text)
-    ⊎ (((IsConvertible t → ⊥) ⊎ AtMoment t (IsUnprinted pattern)) × (string_bytes text ≡ decimal_text t.seconds)))
-    (λ e. e ≡ errors.Memory)

@@ -1,9 +1,6 @@
 -- Times as C has them, and what calls that give one answer.
-use Rattle.std.specs.Prelude.{◌≡◌, ℕ, Bool, false, List, Result, Ok, Err, ok_or}
-use Rattle.std.specs.Option.{option_map_or}
-use Rattle.std.specs.Str.{bytes_eq}
+use Rattle.std.specs.Prelude.{◌≡◌, ℕ, List, Result, Ok, Err, ok_or}
 use Rattle.gix_date.specs.Header.Reading.{header_time}
-use Rattle.gix_date.specs.Header.Text.{header_text}
 use Rattle.gix_date.specs.declared.time.Time.{Time}
 use Rattle.gix_date_c.specs.Statuses.{number_of, if_text}
 use Rattle.gix_date_c.specs.declared.status.Status.{Status}
@@ -22,7 +19,3 @@ StoresTime (Err refusal) old new status = (new ≡ old) × (status ≡ number_of
 -- the time that a header says
 abbrev pub header_answer : List ℕ → Result Time Status
 header_answer text = if_text text (ok_or (header_time text) InvalidTime)
-
--- the time has a header text, and it is this one
-abbrev pub is_text_of : Time → List ℕ → Bool
-is_text_of t text = option_map_or (λ written. bytes_eq written text) (header_text t) false

@@ -2,13 +2,13 @@
 ghost use Rattle.std.specs.Prelude.{◌≡◌};
 ghost use Rattle.gix_date.specs.Header.Canonical.{is_canonical_header};
 ghost use Rattle.gix_date_c.specs.Buffers.{Outcome, outcome_of, header_text_answer};
-ghost use Rattle.gix_date_c.specs.Times.{StoresTime, header_answer, is_text_of, time_of};
+ghost use Rattle.gix_date_c.specs.Times.{StoresTime, header_answer, time_of};
 
 use crate::buffer::store_text;
 use crate::status::Status;
 use crate::text::text_of;
 use crate::time::{CTime, store_time, time_of};
-use gix_date::{Time, laws, parse_header};
+use gix_date::{Time, is_canonical_header, parse_header};
 
 /// The time of a commit header, read leniently.
 #[unsafe(no_mangle)]
@@ -41,22 +41,8 @@ pub extern "C" fn gix_date_write_header(time: &CTime, out: &mut [u8], len: &mut 
 pub extern "C" fn gix_date_is_canonical_header(text: &[u8]) -> bool
     ensures { result ≡ is_canonical_header text.now }
 {
-    let Ok(text) = text_of(text) else {
-        return false;
-    };
-    laws::canonical(text);
-    match parse_header(text) {
-        Some(time) => is_written_as(time, text),
-        None => false,
+    match text_of(text) {
+        Ok(text) => is_canonical_header(text),
+        Err(_) => false,
     }
-}
-
-/// Whether a time is written as this text.
-fn is_written_as(time: Time, text: &str) -> bool
-    ensures { result ≡ is_text_of time text.now }
-{
-    let Ok(buf) = time.to_buf() else {
-        return false;
-    };
-    buf.as_str() == text
 }

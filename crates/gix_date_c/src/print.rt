@@ -1,10 +1,9 @@
 //! Times printed.
-ghost use Rattle.std.specs.Prelude.{◌≡◌, ℕ, List, Result, IfSome, IfNone, IsTrue, ◌<◌, ◌↔◌};
+ghost use Rattle.std.specs.Prelude.{◌≡◌, ℕ, List, Result, IfSome, IfNone, ◌<◌};
 ghost use Rattle.std.specs.Str.{is_utf8};
-ghost use Rattle.gix_date.specs.Printing.Formats.{Prints, PrintsBy, PrintsOrSeconds};
-ghost use Rattle.gix_date.specs.declared.error.Error.TheVariants as errors;
+ghost use Rattle.gix_date.specs.Printing.Formats.{Prints, PrintsBy, PrintsByOrSeconds, PrintsOrSeconds};
 ghost use Rattle.gix_date_c.specs.Buffers.{Outcome, outcome_of};
-ghost use Rattle.gix_date_c.specs.Printing.{IsFormat, IsFormatted, IsPatternPrinted, PrintsByOrSeconds, print_status, printed_text};
+ghost use Rattle.gix_date_c.specs.Printing.{IsFormat, IsFormatted, IsPatternPrinted, print_status, printed_text};
 ghost use Rattle.gix_date_c.specs.Times.{time_of};
 
 use crate::buffer::store_text;
@@ -86,25 +85,12 @@ pub extern "C" fn gix_date_format_by_pattern_or_unix(
         × (record { bytes = out.new; len = len.new; status = result } ≡ outcome_of answer out.old) }
 {
     match text_of(pattern) {
-        Ok(pattern) => store_printed(by_pattern_or_unix(alloc, time_of(time), pattern), out, len),
+        Ok(pattern) => {
+            let printed = time_of(time).format_by_pattern_or_unix(alloc, pattern);
+            store_printed(printed, out, len)
+        }
         Err(status) => store_text(Err(status), out, len),
     }
-}
-
-fn by_pattern_or_unix(alloc: Global, time: Time, pattern: &str) -> Result<String, Error>
-    ensures { PrintsByOrSeconds time pattern.now result }
-{
-    match time.format_by_pattern(alloc, pattern) {
-        Ok(text) => Ok(text),
-        Err(error) if is_memory(&error) => Err(error),
-        Err(_other) => time.format(alloc, UNIX),
-    }
-}
-
-fn is_memory(error: &Error) -> bool
-    ensures { IsTrue result ↔ (error.now ≡ errors.Memory) }
-{
-    matches!(error, Error::Memory)
 }
 
 /// Stores what was printed.

@@ -82,20 +82,13 @@ fn header_time(text: &str) -> Answer {
 fn is_canonical_header(alloc: Global, text: &str) -> Answer {
     let word: Result<String, AllocError> = String::from_str(
         alloc,
-        if comes_back(text) { "yes" } else { "no" },
+        if gix_date::is_canonical_header(text) {
+            "yes"
+        } else {
+            "no"
+        },
     );
     word.into()
-}
-
-/// Whether a text comes back when it is read as a header and written.
-fn comes_back(text: &str) -> bool {
-    let Some(time) = parse_header(text) else {
-        return false;
-    };
-    let Ok(buf) = time.to_buf() else {
-        return false;
-    };
-    buf.as_str() == text
 }
 
 /// The text of a time in a header, where the calls that write one agree.

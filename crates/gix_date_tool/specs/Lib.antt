@@ -8,4 +8,3 @@ pub mod Kinds
 pub mod Messages
 pub mod Program
 pub mod Signed
-pub mod PlainHeaders

@@ -1,8 +1,8 @@
 -- What is replied to a line.
-use Rattle.std.specs.Prelude.{◌≡◌, ◌↔◌, ◌⊎◌, ℕ, Bool, true, false, List, [], ◌∷◌, ◌++◌, if◌then◌else◌, Option, Some, None, IsSome, Result, Ok, Err, unwrap_or, codes}
+use Rattle.std.specs.Prelude.{◌≡◌, ◌↔◌, ◌⊎◌, ℕ, Bool, true, false, List, [], ◌∷◌, ◌++◌, if◌then◌else◌, Option, IsSome, Result, Ok, Err, unwrap_or, codes}
 use Rattle.std.specs.Option.{option_map_or}
 use Rattle.std.specs.List.{flat_map}
-use Rattle.std.specs.Str.{is_utf8, bytes_eq}
+use Rattle.std.specs.Str.{is_utf8}
 use Rattle.gix_date.specs.declared.time.Time.{Time}
 use Rattle.gix_date.specs.Header.Canonical.{is_canonical_header}
 use Rattle.gix_date.specs.Text.Characters.{space}
@@ -22,14 +22,9 @@ use Rattle.gix_date_tool.specs.declared.replies.Reply.TheVariants.{NotText, NoTi
 use Rattle.gix_date_tool.specs.Lines.{with_newline}
 use Rattle.gix_date_tool.specs.Signed.{IsSigned, IsUnsigned, IsCanonicalLine}
 
--- the time has a header text, and it is this one
-abbrev pub is_header_text_of : List ℕ → Time → Bool
-is_header_text_of text t = option_map_or (λ written. bytes_eq written text) (header_text t) false
-
--- the reply of Check to a text that is read as this time, or as none
-abbrev pub check_reply : List ℕ → Option Time → Reply
-check_reply text None = NoTime
-check_reply text (Some t) = if is_header_text_of text t then Canonical else Read t
+-- the reply of Check to a text: a canonical header, or else what it is read as
+abbrev pub check_reply : List ℕ → Reply
+check_reply text = if is_canonical_header text then Canonical else option_map_or Read (header_time text) NoTime
 
 -- the reply to what a call comes to
 abbrev pub parse_reply : Result Time ParseError → Reply
@@ -51,7 +46,7 @@ IsSignReply text reply =
 
 -- the reply to a text in a mode
 abbrev pub IsTextReply : Mode → Option Zoned → List ℕ → Reply → Type 0
-IsTextReply Check now text reply = reply ≡ check_reply text (header_time text)
+IsTextReply Check now text reply = reply ≡ check_reply text
 IsTextReply Parse now text reply = IsParseReply (first_family text) now reply
 IsTextReply Sign now text reply = IsSignReply text reply
 

@@ -10,7 +10,6 @@ pub mod laws;
 mod lines;
 mod messages;
 mod outbox;
-mod plain;
 mod program;
 mod progress;
 mod replies;

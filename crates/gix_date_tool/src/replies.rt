@@ -4,14 +4,13 @@ ghost use Rattle.gix_date.specs.Families.Order.{first_family};
 ghost use Rattle.gix_date.specs.Header.Reading.{header_time};
 ghost use Rattle.gix_date_tool.specs.declared.replies.Reply.TheVariants.{Read};
 ghost use Rattle.gix_date_tool.specs.Outbox.{Sends, output};
-ghost use Rattle.gix_date_tool.specs.Replies.{RepliesAreUnique, CanonicalLines, UnchangedLines, IsReply, IsParseReply, IsSignReply, IsWritable, reply_line, check_reply, is_header_text_of};
+ghost use Rattle.gix_date_tool.specs.Replies.{RepliesAreUnique, CanonicalLines, UnchangedLines, IsReply, IsParseReply, IsSignReply, IsWritable, reply_line, check_reply};
 
 use crate::arguments::Mode;
 use crate::outbox::Outbox;
-use crate::plain::is_plain_canonical;
 use crate::signed::{SignedLine, sign};
 use gix_date::device::Sink;
-use gix_date::{ParseError, RawOffsets, Time, Zoned, parse_header, parse_no_alloc};
+use gix_date::{ParseError, RawOffsets, Time, Zoned, is_canonical_header, parse_header, parse_no_alloc};
 use std::{io, str};
 
 /// What is asked of each line.
@@ -131,27 +130,16 @@ pub(crate) fn reply_to(asked: Asked, line: &[u8]) -> Reply<'_>
 
 /// Whether a text is a header text that comes back when it is read and written, and else what it is read as.
 fn check_reply(text: &str) -> Reply<'static>
-    ensures is { result ≡ check_reply text.now (header_time text.now) }
+    ensures is { result ≡ check_reply text.now }
     ensures writable { IsWritable result }
 {
-    if is_plain_canonical(text) {
+    if is_canonical_header(text) {
         return Reply::Canonical;
     }
     match parse_header(text) {
-        None => Reply::NoTime,
-        Some(time) if is_header_text_of(text, time) => Reply::Canonical,
         Some(time) => Reply::Read(time),
+        None => Reply::NoTime,
     }
-}
-
-/// Whether a text is what a time is written as.
-fn is_header_text_of(text: &str, time: Time) -> bool
-    ensures { result ≡ is_header_text_of text.now time }
-{
-    let Ok(buf) = time.to_buf() else {
-        return false;
-    };
-    buf.as_str() == text
 }
 
 /// The time that a text is parsed as, or why it is not.

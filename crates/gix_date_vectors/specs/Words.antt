@@ -10,7 +10,7 @@ pub use Rattle.gix_date.specs.Relative.FixedZones.{IsFixedZone, IsSecondsPair, I
 pub use Rattle.gix_date.specs.Git.Forms.{git_time}
 pub use Rattle.gix_date.specs.Header.Laws.{CanonicalComesBack, ComesBack, ComesBackFromHeader, AreWrittenAlike, AreAlike}
 pub use Rattle.gix_date.specs.Header.Reading.{header_time, ReadsHeader}
-pub use Rattle.gix_date.specs.Header.Text.{header_text, Writes, GivesText, text_left, max_text_len, hundred_hours}
+pub use Rattle.gix_date.specs.Header.Text.{header_text, is_header_text_of, Writes, GivesText, text_left, max_text_len, hundred_hours}
 pub use Rattle.gix_date.specs.Devices.InputBytes.{shown_text}
 pub use Rattle.gix_date.specs.Devices.Known.{Known, Takes, TakesProperPrefix, TakesNothing, Gives, HasEnded, refusal}
 pub use Rattle.gix_date.specs.Fields.Layout.{LocalTime, LocalDate, LocalClock, Piece, ArePieces, IsPiece, print_pieces}
@@ -19,7 +19,7 @@ pub use Rattle.gix_date.specs.Printing.LocalClocks.{clock_of, HasOrdinaryClock}
 pub use Rattle.gix_date.specs.Printing.NamedTexts.{short_text, rfc2822_text, git_rfc2822_text, iso8601_text, iso8601_strict_text, gitoxide_text, default_text, short_pattern, rfc2822_pattern, git_rfc2822_pattern, iso8601_pattern, iso8601_strict_pattern, gitoxide_pattern, default_pattern, IsOrdinary, local_time}
 pub use Rattle.gix_date.specs.Text.Numbers.{decimal_text}
 pub use Rattle.gix_date.specs.Families.Patterns.{Spells, IsAnswered, time_answer, real_day_answer, short_layout, rfc2822_layout, iso8601_layout, iso8601_strict_layout, gitoxide_layout, default_layout, short_answer, rfc2822_answer, iso8601_answer, iso8601_strict_answer, gitoxide_answer, default_answer, max_date_offset}
-pub use Rattle.gix_date.specs.Printing.Formats.{Prints, PrintsSeconds, PrintsHeader, PrintsBy, PrintsOrSeconds, IsShown, AtMoment}
+pub use Rattle.gix_date.specs.Printing.Formats.{Prints, PrintsSeconds, PrintsHeader, PrintsBy, PrintsOrSeconds, HasNoText, HasNoTextBy, PrintsByOrSeconds, IsShown, AtMoment}
 pub use Rattle.gix_date.specs.Printing.PrintedTimes.{IsPrintedAs, PrintsText}
 pub use Rattle.gix_date.specs.Families.Raw.{raw_time, raw_time_by, max_raw_hours, OffsetRule, is_raw_offset, is_wide_offset, allows, max_wide_hours, max_wide_minutes}
 pub use Rattle.gix_date.specs.Printing.ReadingBack.{AreReadBack, IsReadBack, IsPlainTime, IsRawOffset, HasClock, PrintsBack, IsKept, IsWideOffset}

@@ -9,7 +9,7 @@ ghost use Rattle.gix_date.specs.Header.Reading.{header_time};
 ghost use Rattle.gix_date.specs.Header.Text.{header_text, Writes, hundred_hours};
 ghost use Rattle.gix_date.specs.Printing.LocalClocks.{HasOrdinaryClock};
 ghost use Rattle.gix_date.specs.Printing.NamedTexts.{iso8601_text};
-ghost use Rattle.gix_date.specs.Printing.Formats.{PrintsOrSeconds};
+ghost use Rattle.gix_date.specs.Printing.Formats.{PrintsOrSeconds, PrintsByOrSeconds};
 ghost use Rattle.gix_date.specs.Printing.PrintedTimes.{PrintsText};
 ghost use Rattle.gix_date.specs.Families.Raw.{is_raw_offset, is_wide_offset, raw_time, raw_time_by};
 ghost use Rattle.gix_date.specs.Printing.ReadingBack.{IsPlainTime, IsWideOffset, HasClock, PrintsBack};
@@ -28,7 +28,8 @@ use gix_date::parsing::TimeBuf;
 use gix_date::time::CustomFormat;
 use gix_date::time::format::{DEFAULT, GIT_RFC2822, GITOXIDE, ISO8601, ISO8601_STRICT, RFC2822};
 use gix_date::{
-    Error, ParseError, RawOffsets, Time, laws, parse, parse_header, parse_no_alloc, parse_with,
+    Error, ParseError, RawOffsets, Time, is_canonical_header, laws, parse, parse_header,
+    parse_no_alloc, parse_with,
 };
 use jiff::tz::{SystemTimeZone, TimeZone, TimeZoneDatabase};
 use jiff::{Timestamp, Zoned};
@@ -63,12 +64,10 @@ pub fn read_canonical(header: &str) -> Option<Time>
     ensures none { IfNone result (is_canonical_header header.now ≢ true) }
 {
     laws::canonical(header);
-    let time = parse_header(header)?;
-    let mut buf = TimeBuf::default();
-    match time.to_str(&mut buf) {
-        Ok(text) if text == header => Some(time),
-        _ => None,
+    if !is_canonical_header(header) {
+        return None;
     }
+    parse_header(header)
 }
 
 /// A time that was written into a header and read from it again: the same.
@@ -160,6 +159,13 @@ pub fn log_date(alloc: Global, time: Time, format: CustomFormat) -> Result<Strin
     ensures { PrintsOrSeconds time (Custom format) result }
 {
     time.format_or_unix(alloc, format.into())
+}
+
+/// The same by a pattern that a user wrote, as that of `git log --date=format:..`.
+pub fn log_date_by(alloc: Global, time: Time, pattern: &str) -> Result<String, Error>
+    ensures { PrintsByOrSeconds time pattern.now result }
+{
+    time.format_by_pattern_or_unix(alloc, pattern)
 }
 
 /// The date of a time as `git log --date=iso` has it: what the time's own clock shows.

@@ -1,6 +1,8 @@
 -- The text of a time in a commit header.
-use Rattle.std.specs.Prelude.{◌≡◌, ℕ, List, [], ◌∷◌, ◌++◌, ℤ, pos, int_lt, nat_lt, unsigned_abs, if◌then◌else◌, Option, Some, None, IsSomeAnd, Result, Ok, Err}
+use Rattle.std.specs.Prelude.{◌≡◌, ℕ, List, [], ◌∷◌, ◌++◌, Bool, false, ℤ, pos, int_lt, nat_lt, unsigned_abs, if◌then◌else◌, Option, Some, None, IsSomeAnd, Result, Ok, Err}
 use Rattle.std.specs.Borrow.{Bor}
+use Rattle.std.specs.Option.{option_map_or}
+use Rattle.std.specs.Str.{bytes_eq}
 use Rattle.gix_date.specs.Fields.ClockNumbers.{hours_in, minutes_in}
 use Rattle.gix_date.specs.Text.Characters.{space, plus, minus}
 use Rattle.gix_date.specs.Devices.Known.{Known, Takes, TakesProperPrefix, TakesNothing}
@@ -34,6 +36,10 @@ unfoldable pub header_text : Time → Option (List ℕ)
 header_text t =
     if nat_lt (unsigned_abs t.offset) hundred_hours
     then Some (decimal_text t.seconds ++ space ∷ compact_offset_text t.offset) else None
+
+-- whether the time has a header text, and it is this one
+abbrev pub is_header_text_of : Time → List ℕ → Bool
+is_header_text_of t text = option_map_or (λ written. bytes_eq written text) (header_text t) false
 
 -- What writing a time came to: the writer took all of the text, or no byte, or a proper prefix and has that fault.
 abbrev pub Writes : Time → Known → Known → Result Unit Error → Type 0

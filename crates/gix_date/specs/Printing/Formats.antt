@@ -71,13 +71,24 @@ Prints t Unix result = PrintsSeconds t result
 Prints t Raw result = PrintsHeader t result
 Prints t (Custom format) result = PrintsBy t format.pattern.now result
 
+-- a time has no text by a pattern
+abbrev pub HasNoTextBy : Time → List ℕ → Type 0
+HasNoTextBy t pattern = (IsConvertible t → ⊥) ⊎ AtMoment t (IsUnprinted pattern)
+
+-- what a pattern shows of a time, or the seconds for a time that has no text by it
+abbrev pub PrintsByOrSeconds : Time → List ℕ → Result (String Global) Error → Type 0
+PrintsByOrSeconds t pattern result =
+    MatchResult result
+    (λ text. PrintsBy t pattern (Ok text) ⊎ (HasNoTextBy t pattern × (string_bytes text ≡ decimal_text t.seconds)))
+    (λ e. e ≡ errors.Memory)
+
 -- a time has no text in a format
 abbrev pub HasNoText : Time → Format → Type 0
 HasNoText t Unix = ⊥
 HasNoText t Raw = header_text t ≡ None
-HasNoText t (Custom format) = (IsConvertible t → ⊥) ⊎ AtMoment t (IsUnprinted format.pattern.now)
+HasNoText t (Custom format) = HasNoTextBy t format.pattern.now
 
--- the same, with the seconds for a time that has no text in that format
+-- what printing comes to with the seconds for a time that has no text in that format
 abbrev pub PrintsOrSeconds : Time → Format → Result (String Global) Error → Type 0
 PrintsOrSeconds t format result =
     MatchResult result

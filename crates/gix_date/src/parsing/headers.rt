@@ -1,13 +1,16 @@
 //! Commit headers: a whole text by its words.
 ghost use Rattle.std.specs.Prelude.{◌≡◌};
+ghost use Rattle.gix_date.specs.Header.Canonical.{is_canonical_header};
 ghost use Rattle.gix_date.specs.Header.Reading.{header_time, seconds_said};
+ghost use Rattle.gix_date.specs.Header.Text.{is_header_text_of};
 
+use crate::parsing::canonical::is_plain_canonical;
 use crate::parsing::fields::has_colon;
 use crate::parsing::numbers::{leading_digits, parse_int};
 use crate::parsing::offset::parse_offset_fields;
 use crate::parsing::plain::parse_plain;
 use crate::parsing::space_words::first_words;
-use crate::time::{SecondsSinceUnixEpoch, Time};
+use crate::time::{SecondsSinceUnixEpoch, Time, header_text};
 
 /// Reads the time of a commit header, as gix-date does: leniently in what stands round the numbers.
 ///
@@ -23,6 +26,32 @@ pub fn parse_header(input: &str) -> Option<Time>
         return Some(time);
     }
     parse_any_header(input)
+}
+
+/// Whether a text is a canonical header: [`parse_header`] reads it, and the time that it gives is written as this text.
+///
+/// A canonical header is the decimal text of an `i64`, one space, a sign, two digits of hours, and two of minutes below
+/// 60; its offset is not `-0000`. Takes no memory. The original has no such call.
+pub fn is_canonical_header(input: &str) -> bool
+    ensures { result ≡ is_canonical_header input.now }
+{
+    if is_plain_canonical(input) {
+        return true;
+    }
+    match parse_header(input) {
+        Some(time) => is_header_text_of(time, input),
+        None => false,
+    }
+}
+
+/// Whether a time is written as this text.
+fn is_header_text_of(time: Time, text: &str) -> bool
+    ensures { result ≡ is_header_text_of time text.now }
+{
+    match header_text(time) {
+        Some(written) => written.as_str() == text,
+        None => false,
+    }
 }
 
 /// The time of a commit header in any form, by its words.

@@ -99,11 +99,12 @@ fn parse_five_digits(a: u8, b: u8, c: u8, d: u8, e: u8) -> Option<u64>
     Some(value - FIVE_ZEROS)
 }
 
-/// Whether a text is digits alone, or has no character.
-pub(crate) fn are_digits(text: &str) -> bool
-    ensures { result ≡ list_all is_ascii_digit text.now }
+/// Whether bytes are digits alone, or there are none.
+#[inline(always)]
+pub(crate) fn are_digits(bytes: &[u8]) -> bool
+    ensures { result ≡ list_all is_ascii_digit bytes.now }
 {
-    text.bytes().all(|b| b.is_ascii_digit())
+    bytes.iter().all(|b| b.is_ascii_digit())
 }
 
 /// The digits that a word begins with.

@@ -9,7 +9,7 @@ use crate::parsing::offset::{OffsetFields, parse_offset_fields};
 use crate::time::{SecondsSinceUnixEpoch, Time};
 
 /// The bytes of a space and of an offset such as `+0800`.
-const ZONE_BYTES: usize = 6;
+pub(crate) const ZONE_BYTES: usize = 6;
 
 /// The least bytes of a bare epoch.
 const EPOCH_BYTES: usize = 9;

@@ -11,7 +11,7 @@ ghost use Rattle.jiff.specs.ZonedText.{zoned_parts};
 ghost use Rattle.jiff_core.specs.Date.{weekday_of};
 ghost use Rattle.jiff_strtime.specs.Text.{parts_of};
 ghost use Rattle.jiff_core.specs.declared.error.Error.TheVariants as jiff_errors;
-ghost use Rattle.gix_date.specs.Printing.Formats.{Prints, PrintsOrSeconds, PrintsBy, PrintsHeader, PrintsSeconds};
+ghost use Rattle.gix_date.specs.Printing.Formats.{Prints, PrintsOrSeconds, PrintsBy, PrintsByOrSeconds, PrintsHeader, PrintsSeconds};
 ghost use Rattle.gix_date.specs.Private.Printing.{PrintsAt};
 ghost use Rattle.gix_date.specs.declared.error.Error.TheVariants as errors;
 
@@ -204,6 +204,20 @@ impl Time {
             return printed;
         }
         pattern_text(alloc, pattern, &self.to_zoned()?)
+    }
+
+    /// The text of [`Time::format_by_pattern`], or the seconds in decimal for a time that has none by that pattern: where
+    /// `format_by_pattern` answers [`Error::Conversion`] or [`Error::Pattern`].
+    ///
+    /// The one refusal is [`Error::Memory`], where memory for the text is refused.
+    pub fn format_by_pattern_or_unix(&self, alloc: Global, pattern: &str) -> Result<String, Error>
+        ensures { PrintsByOrSeconds self.now pattern.now result }
+    {
+        match self.format_by_pattern(alloc, pattern) {
+            Ok(text) => Ok(text),
+            Err(error) if is_memory(&error) => Err(error),
+            Err(_other) => self.unix_seconds(alloc),
+        }
     }
 
     fn unix_seconds(self, alloc: Global) -> Result<String, Error>

@@ -103,7 +103,7 @@ fn digits_at_most(most: u8, text: &str) -> Option<u8>
     ensures value { result ≡ digits_at_most most text.now }
     ensures bound { IfSome result (λ n. n ≤ most) }
 {
-    if !are_digits(text) {
+    if !are_digits(text.as_bytes()) {
         return None;
     }
     let Some(number) = text.parse::<u32>().ok() else {

@@ -70,7 +70,7 @@ pub(crate) fn count_of(word: &str) -> Option<i64>
     ensures { result ≡ count_of word.now }
 {
     // A sign is not read as part of a number.
-    if are_digits(word) {
+    if are_digits(word.as_bytes()) {
         parse_int(word)
     } else {
         named_count(word)

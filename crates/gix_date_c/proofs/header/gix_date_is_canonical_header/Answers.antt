@@ -11,5 +11,5 @@ not_canonical text false is no_text = refl
 not_canonical text true is no_text =
     let clash : true ≡ false = sym (is_utf8-from_IsUtf8 text (canonical-utf8 text is)) ∙ no_text in absurd cc
 
-pub returns-in_default : goal.returns-in_default
-returns-in_default c = not_canonical c.args.text.now _ refl c.in_default.ensures.1
+pub returns-in-Err : goal.returns-in-Err
+returns-in-Err c = not_canonical c.args.text.now _ refl c.in-Err.ensures.1

@@ -1,9 +1,9 @@
--- Canonical headers as nearly all are.
+-- Canonical headers as nearly all are, by their bytes.
 use Rattle.std.specs.Prelude.{ℕ, Bool, false, ◌&&◌, ◌||◌, ◌==◌, ◌+◌, not, nat_lt, List, [], ◌∷◌, length}
 use Rattle.std.specs.Char.{is_ascii_digit}
 use Rattle.std.specs.List.{list_all}
 use Rattle.gix_date.specs.Text.Characters.{space, plus, minus, digit_zero}
-use Rattle.gix_date_tool.specs.declared.plain.TheConstants.{MAX_DIGITS}
+use Rattle.gix_date.specs.declared.parsing.numbers.TheConstants.{MAX_DIGITS}
 
 -- at most 18 digits, the first no zero
 unfoldable pub are_plain_seconds : List ℕ → Bool

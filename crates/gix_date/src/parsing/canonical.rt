@@ -1,15 +1,10 @@
 //! Canonical headers as nearly all are, which are told by their bytes.
 ghost use Rattle.std.specs.Prelude.{◌≡◌, true, IsTrue};
-ghost use Rattle.std.specs.Char.{is_ascii_digit};
-ghost use Rattle.std.specs.List.{list_all};
 ghost use Rattle.gix_date.specs.Header.Canonical.{is_canonical_header};
-ghost use Rattle.gix_date_tool.specs.PlainHeaders.{are_hours_and_minutes, are_plain_seconds, is_plain_offset};
+ghost use Rattle.gix_date.specs.Private.CanonicalBytes.{are_hours_and_minutes, are_plain_seconds, is_plain_offset};
 
-/// The most digits of which an `i64` holds each number.
-const MAX_DIGITS: usize = 18;
-
-/// The bytes of a space and of an offset such as `+0800`.
-const OFFSET_BYTES: usize = 6;
+use crate::parsing::numbers::{MAX_DIGITS, are_digits};
+use crate::parsing::plain::ZONE_BYTES;
 
 /// Whether a text is a canonical header as nearly all are: at most 18 digits, the first no zero, one space, and an
 /// offset that is not behind UTC by less than an hour. Such a text need not be read and written to tell. `false` says
@@ -18,15 +13,15 @@ pub(crate) fn is_plain_canonical(text: &str) -> bool
     ensures { IsTrue result → is_canonical_header text.now ≡ true }
 {
     let bytes = text.as_bytes();
-    if bytes.len() < OFFSET_BYTES {
+    if bytes.len() < ZONE_BYTES {
         return false;
     }
-    let (seconds, offset) = bytes.split_at(bytes.len() - OFFSET_BYTES);
+    let (seconds, offset) = bytes.split_at(bytes.len() - ZONE_BYTES);
     are_plain_seconds(seconds) && is_plain_offset(offset)
 }
 
 /// Whether bytes are digits, the first no zero, and few enough for an `i64`.
-#[tactic(auto, unfolding(crate::specs::PlainHeaders::are_plain_seconds))]
+#[tactic(auto, unfolding(crate::specs::Private::CanonicalBytes::are_plain_seconds))]
 fn are_plain_seconds(bytes: &[u8]) -> bool
     ensures { result ≡ are_plain_seconds bytes.now }
 {
@@ -38,15 +33,8 @@ fn are_plain_seconds(bytes: &[u8]) -> bool
     }
 }
 
-#[inline(always)]
-fn are_digits(bytes: &[u8]) -> bool
-    ensures { result ≡ list_all is_ascii_digit bytes.now }
-{
-    bytes.iter().all(|b| b.is_ascii_digit())
-}
-
 /// Whether bytes are a space and an offset of whole minutes, with hours where it is behind UTC.
-#[tactic(auto, unfolding(crate::specs::PlainHeaders::is_plain_offset))]
+#[tactic(auto, unfolding(crate::specs::Private::CanonicalBytes::is_plain_offset))]
 fn is_plain_offset(bytes: &[u8]) -> bool
     ensures { result ≡ is_plain_offset bytes.now }
 {

@@ -1,7 +1,7 @@
 use Rattle.std.proofs.Common.{rules, ◌≡◌, ◌-◌, length, true}
-use Rattle.gix_date_tool.proofs.PlainHeaders.{plain-canonical}
-use Rattle.gix_date_tool.specs.PlainHeaders.{are_plain_seconds, is_plain_offset}
-use Rattle.gix_date_tool.proofs.plain.is_plain_canonical.Goals as goal
+use Rattle.gix_date.proofs.CanonicalBytes.{plain-canonical}
+use Rattle.gix_date.specs.Private.CanonicalBytes.{are_plain_seconds, is_plain_offset}
+use Rattle.gix_date.proofs.parsing.canonical.is_plain_canonical.Goals as goal
 
 pub returns-then-are_plain_seconds : goal.returns-then-are_plain_seconds
 returns-then-are_plain_seconds c = λ h.

@@ -1,4 +1,4 @@
--- Canonical headers as nearly all are.
+-- Canonical headers as nearly all are, by their bytes.
 use Rattle.std.proofs.Common.{◌≡◌, ◌∙◌, ◌+◌, ◌-◌, ◌*◌, ◌<◌, ◌^◌, ℕ, Bool, true, false, List, [], ◌∷◌, ◌++◌, length, take, drop, get_or, refl, ap, ap₂, sym, Some, arith, pos}
 use Rattle.std.proofs.lemmas.Bool.{and_parts as both}
 use Rattle.std.proofs.lemmas.Bool.Decides.{nat_tests}
@@ -20,7 +20,7 @@ use Rattle.gix_date.proofs.HeaderLaws.{canonical-parts, decimal-test, false-unle
 use Rattle.gix_date.proofs.Ints.{own}
 use Rattle.gix_date.proofs.PlainHeaders.{int-number}
 use Rattle.gix_date.proofs.ShortDigits.{bare-int}
-use Rattle.gix_date_tool.specs.PlainHeaders.{are_plain_seconds, are_hours_and_minutes, is_plain_offset}
+use Rattle.gix_date.specs.Private.CanonicalBytes.{are_plain_seconds, are_hours_and_minutes, is_plain_offset}
 
 same-digits : (ds : List ℕ) → list_all is_ascii_digit ds ≡ all_ascii_digits ds
 same-digits [] = refl
