@@ -1,10 +1,13 @@
 -- One pair after the other off an instant.
-use Rattle.std.proofs.Common.{◌≡◌, ◌∙◌, ℕ, ℤ, pos, List, [], ◌∷◌, sym, ap, subst}
+use Rattle.std.proofs.Common.{◌≡◌, ◌∙◌, ℕ, ℤ, pos, List, [], ◌∷◌, sym, ap, subst, Option, Some, None, Result, Ok, Err}
 use Rattle.std.specs.Prelude.{int_div}
 use Rattle.jiff.specs.Types.{TimeZone}
 use Rattle.jiff.specs.Words.{plain_zoned, zoned_nanos, offset_at}
 use Rattle.jiff.specs.declared.zoned.Zoned.{Zoned}
-use Rattle.gix_date.specs.Relative.Dates.{RelativeDate, Before, Less, Reaches, IsNamed}
+use Rattle.gix_date.specs.Families.Answer.{FamilyAnswer, Absolute, OffsetBeyond, InstantBeyond, Relative}
+use Rattle.gix_date.specs.Families.Order.{ParseNoAllocOutcome}
+use Rattle.gix_date.specs.declared.error.ParseError.{ParseError}
+use Rattle.gix_date.specs.Relative.Dates.{RelativeDate, Before, Less, Reaches, IsNamed, RelativeOutcome}
 use Rattle.gix_date.specs.declared.time.Time.{Time}
 use Rattle.gix_date.specs.Private.RelativePairs.{pairs_read}
 use Rattle.gix_date.specs.Relative.Steps.{PairStep, Settles, Chain}
@@ -60,3 +63,20 @@ named-once date moment a b h g =
     same-time a b
     (h.seconds_is ∙ ap (λ (i : ℤ). int_div i (pos 1_000_000_000)) same ∙ sym g.seconds_is)
     (h.offset_is ∙ ap (λ (i : ℤ). offset_at tz i) same ∙ sym g.offset_is)
+
+-- so it comes to one result from each moment, or from none
+outcome-once : (date : RelativeDate) (now : Option Zoned) (a b : Result Time ParseError) → RelativeOutcome date now a → RelativeOutcome date now b → a ≡ b
+outcome-once date None a b h g = h ∙ sym g
+outcome-once date (Some moment) (Ok t) (Ok u) h g = ap Ok (named-once date moment t u h g)
+outcome-once date (Some moment) (Ok t) (Err e) h g = absurd (g.1 t h)
+outcome-once date (Some moment) (Err e) (Ok u) h g = absurd (h.1 u g)
+outcome-once date (Some moment) (Err e) (Err f) h g = ap Err (h.0 ∙ sym g.0)
+
+-- and so does each call
+pub one-outcome : (answer : Option FamilyAnswer) (now : Option Zoned) (a b : Result Time ParseError)
+    → ParseNoAllocOutcome answer now a → ParseNoAllocOutcome answer now b → a ≡ b
+one-outcome None now a b h g = h ∙ sym g
+one-outcome (Some (Absolute t)) now a b h g = h ∙ sym g
+one-outcome (Some OffsetBeyond) now a b h g = h ∙ sym g
+one-outcome (Some InstantBeyond) now a b h g = h ∙ sym g
+one-outcome (Some (Relative date)) now a b h g = outcome-once date now a b h g

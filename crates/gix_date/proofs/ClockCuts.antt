@@ -1,6 +1,6 @@
 -- What each cut of a clock gives, and that the first of them is the cut by places.
 use Rattle.std.proofs.Common.{◌≡◌, ℕ, ◌+◌, ◌-◌, ◌<◌, ◌≤◌, Bool, true, false, cond, List, [], ◌∷◌, ◌++◌, length, get_or, take, drop, refl, sym, ap, ◌∙◌, subst, Option, Some, None, arith, add-zero}
-use Rattle.std.proofs.Math.Seq.{get_or-append_seam}
+use Rattle.std.proofs.Math.Seq.{get_or-append_seam, take-append_seam}
 use Rattle.std.proofs.lemmas.Bool.Decides.{nat_tests}
 use Rattle.std.proofs.lemmas.List.{length-append}
 use Rattle.std.proofs.lemmas.List.Prefix.{end_from_reads}
@@ -8,7 +8,7 @@ use Rattle.std.specs.Option.{option_or}
 use Rattle.std.specs.Prelude.{◌==◌, ◌&&◌, nat_lt, slice_index, option_map, unwrap_or}
 use Rattle.gix_date.specs.Text.Characters.{space, letter_z}
 use Rattle.gix_date.specs.Git.ClockCut.{Cut, last_place, is_sign, has_offset_at, trimmed_after, last_space, last_sign, cut_at_z, cut_at_space, cut_at_space_place, cut_at_sign, clock_cut}
-use Rattle.gix_date.specs.Private.Cuts.{EndsInZ, CutsAtSpace, CutsAtSign, IsCut, at_z, at_space, at_sign, whole}
+use Rattle.gix_date.specs.Git.Cuts.{EndsInZ, CutsAtSpace, CutsAtSign, IsCut, at_z, at_space, at_sign, whole}
 use Rattle.gix_date.specs.Fields.Front.{◌>>=◌}
 use Rattle.gix_date.proofs.LastPlaces.{is_last, last_is}
 
@@ -126,3 +126,55 @@ by_z u false e = by_space u (cut_at_space u) refl (no_z u e)
 pub cut_means : (u : List ℕ) (clock offset : List ℕ) → (clock, offset) ≡ clock_cut u → IsCut u clock offset
 unfolding clock_cut cut_at_z IsCutPair
 cut_means u clock offset e = subst (IsCutPair u) (sym e) (by_z u _ refl)
+
+-- The other way round: a text is cut where the facts say.
+take_z : (front : List ℕ) → take (length (front ++ letter_z ∷ []) - 1) (front ++ letter_z ∷ []) ≡ front
+take_z front =
+    let place : length (front ++ letter_z ∷ []) - 1 ≡ length front = omega (arith, length-append front (letter_z ∷ [])) in
+    ap (λ n. take n (front ++ letter_z ∷ [])) place ∙ take-append_seam front (letter_z ∷ [])
+
+cut_z : (u front : List ℕ) → u ≡ front ++ letter_z ∷ [] → cut_at_z u ≡ Some (front, letter_z ∷ [])
+cut_z u front e =
+    let last : (slice_index u (length u - 1) == letter_z) ≡ true = ap (λ c. c == letter_z) (z_last u front e) in
+    z_found u front true refl (sym last) (sym (ap (λ (x : List ℕ). take (length x - 1) x) e ∙ take_z front))
+
+none_z : (u : List ℕ) → ¬ (EndsInZ u) → cut_at_z u ≡ None
+none_z u n = z_none u false refl (by (get_or u (length u - 1) 0 == letter_z) refl)
+  where
+    by : (b : Bool) → (get_or u (length u - 1) 0 == letter_z) ≡ b → false ≡ b
+    by true e = absurd (n (take (length u - 1) u, ends u (eq_from _ letter_z e)))
+    by false e = refl
+
+cut_space : (u : List ℕ) (k : ℕ) → CutsAtSpace u k → cut_at_space u ≡ Some (take k u, trimmed_after u k)
+unfolding last_space
+cut_space u k c = space_found u (trimmed_after u k) (take k u) k (sym (last_is (λ i. slice_index u i == space) (length u) k c.0)) refl refl c.1 c.2
+
+none_space : (u : List ℕ) → ¬ ((j : ℕ) × CutsAtSpace u j) → cut_at_space u ≡ None
+unfolding cut_at_space
+none_space u n = by (cut_at_space u) refl
+  where
+    by : (r : Option (List ℕ × List ℕ)) → cut_at_space u ≡ r → r ≡ None
+    by None e = refl
+    by (Some y) e = let s = space_at u (last_space u) refl y e in absurd (n (s.0, s.1))
+
+cut_sign : (u : List ℕ) (k : ℕ) → CutsAtSign u k → cut_at_sign u ≡ Some (take k u, drop k u)
+unfolding last_sign
+cut_sign u k c = sign_found u (take k u) (drop k u) k (sym (last_is (has_offset_at u) (length u) k c)) refl refl
+
+none_sign : (u : List ℕ) → ¬ ((j : ℕ) × CutsAtSign u j) → cut_at_sign u ≡ None
+unfolding last_sign
+none_sign u n = by (last_place (has_offset_at u) (length u)) refl
+  where
+    by : (r : Option ℕ) → last_sign u ≡ r → cut_at_sign u ≡ None
+    by None e = sign_none u (sym e)
+    by (Some k) e = absurd (n (k, is_last (has_offset_at u) (length u) k e))
+
+first_cut : (u : List ℕ) (a b c : Option Cut) → cut_at_z u ≡ a → cut_at_space u ≡ b → cut_at_sign u ≡ c → clock_cut u ≡ unwrap_or (option_or a (option_or b c)) (u, [])
+unfolding clock_cut
+first_cut u a b c e f g = rw (e, f, g) refl
+
+pub means_cut : (u clock offset : List ℕ) → IsCut u clock offset → clock_cut u ≡ (clock, offset)
+means_cut u clock offset (at_z front e) = first_cut u (Some (front, letter_z ∷ [])) (cut_at_space u) (cut_at_sign u) (cut_z u front e) refl refl
+means_cut u clock offset (at_space k z c) = first_cut u None (Some (take k u, trimmed_after u k)) (cut_at_sign u) (none_z u z) (cut_space u k c) refl
+means_cut u clock offset (at_sign k z s c) = first_cut u None None (Some (take k u, drop k u)) (none_z u z) (none_space u s) (cut_sign u k c)
+means_cut u clock offset (whole z s n) = first_cut u None None None (none_z u z) (none_space u s) (none_sign u n)

@@ -128,7 +128,7 @@ compact-time-front x t e =
     let mark = went (skip_char letter_t date.0.1) (λ r. time_with_rest date.0.0 r) t date.2 in
     compact-front x date.0 mark.0 date.1 mark.1
 
-first-or : {A : Type 0} (a b : Option A) (t : A) → option_or a b ≡ Some t → (a ≡ Some t) ⊎ (b ≡ Some t)
+pub first-or : {A : Type 0} (a b : Option A) (t : A) → option_or a b ≡ Some t → (a ≡ Some t) ⊎ (b ≡ Some t)
 first-or (Some x) b t e = inl e
 first-or None b t e = inr e
 

@@ -12,7 +12,7 @@ use Rattle.gix_date.specs.Families.Answer.{FamilyAnswer, Absolute, OffsetBeyond,
 use Rattle.gix_date.specs.Text.Characters.{at_sign, comma, minus, space, is_space}
 use Rattle.gix_date.specs.Families.Epoch.{at_time, epoch_time, utc_time}
 use Rattle.gix_date.specs.Families.Order.{Family, AtText, Short, Rfc2822, Iso8601, Iso8601Strict, Gitoxide, GitDefault, BareEpoch, GitForm, RelativeText, RawText, families, family_answer, answers_before_git, family_answers, first_answer_of, first_family_by, ParseNoAllocOutcome}
-use Rattle.gix_date.specs.Families.Laws.{AreExclusive, ComesFirst, IgnoresMoment, Holds, overlap}
+use Rattle.gix_date.specs.Families.Laws.{AreExclusive, IgnoresMoment, Holds, overlap}
 use Rattle.gix_date.specs.Fields.FieldTexts.{IsYear, IsField, IsMonthName, IsDayPrefix, AreSpaces}
 use Rattle.gix_date.specs.Fields.Front.{skip_char, ◌>>=◌}
 use Rattle.gix_date.specs.Git.Forms.{git_time, git_form, dotted_time, compact_time, flexible_time, read_marked_date, read_compact_date}
@@ -50,15 +50,15 @@ git-no-letter : (name rest : List ℕ) → IsUtf8 (name ++ rest) → Begins is_a
 git-no-letter [] rest u h = absurd h
 git-no-letter (c ∷ name) rest u h = no-git-byte c (name ++ rest) u (letter_visible c h) (letter-no-digit c h)
 
-skip-visible : (x : List ℕ) → AreVisible x → skip_leading_whitespace x ≡ x
+pub skip-visible : (x : List ℕ) → AreVisible x → skip_leading_whitespace x ≡ x
 skip-visible [] h = refl
 skip-visible (c ∷ x) h = rw (visible_stays c h.0) refl
 
-drop-visible : (x : List ℕ) → AreVisible x → drop_trailing_whitespace x ≡ x
+pub drop-visible : (x : List ℕ) → AreVisible x → drop_trailing_whitespace x ≡ x
 drop-visible [] h = refl
 drop-visible (c ∷ x) h = rw (visible_stays c h.0) (ap (λ (t : List ℕ). c ∷ t) (drop-visible x h.1))
 
-trim-visible : (x : List ℕ) → AreVisible x → trim x ≡ x
+pub trim-visible : (x : List ℕ) → AreVisible x → trim x ≡ x
 unfolding trim_start trim_end
 trim-visible x h =
     let a = are-ascii x h in
@@ -70,10 +70,10 @@ trim-visible x h =
     ∙ ap encode_utf8_all (drop-visible x h) ∙ encodes-IsAscii x a
 
 -- a word of visible bytes, spaces, and what stands after them
-space_ascii : (c : ℕ) → is_space c ≡ true → c < 128
+pub space_ascii : (c : ℕ) → is_space c ≡ true → c < 128
 space_ascii c h = grind (arith, nat_tests, h)
 
-space-white : (c : ℕ) → is_space c ≡ true → is_whitespace c ≡ true
+pub space-white : (c : ℕ) → is_space c ≡ true → is_whitespace c ≡ true
 space-white c h = let is : c ≡ space = grind (arith, nat_tests, h) in rw is refl
 
 none-stay : (gap : List ℕ) → list_all is_space gap ≡ true → NonePass is_not_whitespace gap
@@ -119,7 +119,7 @@ raw-no-letter rule [] rest t h e = absurd h
 raw-no-letter rule (c ∷ name) rest t h e =
     raw-clash rule (c ∷ (name ++ rest)) t e (no-raw-byte rule c (name ++ rest) (letter_visible c h) (letter-no-number c h))
 
-field-visible : (day : List ℕ) (n : ℕ) → IsField day n → AreVisible day
+pub field-visible : (day : List ℕ) (n : ℕ) → IsField day n → AreVisible day
 field-visible [] n h = tt
 field-visible (a ∷ []) n h = (digit_visible a h.0, tt)
 field-visible (a ∷ b ∷ []) n h = (digit_visible a h.0, (digit_visible b h.1, tt))
@@ -189,11 +189,11 @@ day-no-form year (a ∷ b ∷ []) (c ∷ e ∷ []) n m d y h k =
 day-no-form year (a ∷ b ∷ []) (c ∷ e ∷ f ∷ t) n m d y h k = absurd k
 day-no-form year (a ∷ b ∷ c ∷ t) day n m d y h k = absurd h
 
-digits-visible : (t : List ℕ) → all_ascii_digits t ≡ true → AreVisible t
+pub digits-visible : (t : List ℕ) → all_ascii_digits t ≡ true → AreVisible t
 digits-visible [] h = tt
 digits-visible (c ∷ t) h = let parts = both (is_ascii_digit c) (all_ascii_digits t) h in (digit_visible c parts.0, digits-visible t parts.1)
 
-visible-append : (s t : List ℕ) → AreVisible s → AreVisible t → AreVisible (s ++ t)
+pub visible-append : (s t : List ℕ) → AreVisible s → AreVisible t → AreVisible (s ++ t)
 visible-append [] t h k = k
 visible-append (c ∷ s) t h k = (h.0, visible-append s t h.1 k)
 
@@ -474,14 +474,14 @@ raw-first rule text u h =
     let a = answered rule RawText text h in
     rw (none AtText refl refl, none Short refl refl, none Rfc2822 refl refl, none Iso8601 refl refl, none Iso8601Strict refl refl, none Gitoxide refl refl, none GitDefault refl refl, none BareEpoch refl refl, none GitForm refl refl, none RelativeText refl refl, a.1) refl
 
-alone-first : (rule : OffsetRule) (family : Family) (text : List ℕ) → IsUtf8 text → family ≢ GitForm
+pub alone-first : (rule : OffsetRule) (family : Family) (text : List ℕ) → IsUtf8 text → family ≢ GitForm
     → family ≢ RelativeText → Holds rule family text → first_family_by rule text ≡ family_answer rule family text
 alone-first rule GitForm text u n m h = absurd (n refl)
 alone-first rule RelativeText text u n m h = absurd (m refl)
 alone-first rule RawText text u n m h = raw-first rule text u h
 alone-first rule family text u n m h = let a = answered rule family text h in first-at rule (place family) text a.0 a.1 ∙ sym a.1
 
-git-first : (rule : OffsetRule) (text : List ℕ) → IsUtf8 text → family_answer rule Iso8601 text ≡ None
+pub git-first : (rule : OffsetRule) (text : List ℕ) → IsUtf8 text → family_answer rule Iso8601 text ≡ None
     → family_answer rule Iso8601Strict text ≡ None → Holds rule GitForm text
     → first_family_by rule text ≡ family_answer rule GitForm text
 unfolding first_family_by
@@ -490,7 +490,7 @@ git-first rule text u p q h =
     let a = answered rule GitForm text h in
     rw (none AtText refl refl, none Short refl refl, none Rfc2822 refl refl, p, q, none Gitoxide refl refl, none GitDefault refl refl, none BareEpoch refl refl, a.1) refl
 
-relative-first : (rule : OffsetRule) (text : List ℕ) → IsUtf8 text → family_answer rule GitForm text ≡ None
+pub relative-first : (rule : OffsetRule) (text : List ℕ) → IsUtf8 text → family_answer rule GitForm text ≡ None
     → Holds rule RelativeText text → first_family_by rule text ≡ family_answer rule RelativeText text
 unfolding first_family_by
 relative-first rule text u g h =
@@ -604,7 +604,7 @@ counting-by [] None None date h e = absurd cc
 counting-by (None ∷ front) counts raw date h e = counting-by front counts raw date h.1 e
 counting-by (Some x ∷ front) counts raw date h e = absurd (subst IsNotRelative e h.0)
 
-counting : (rule : OffsetRule) (text : List ℕ) (date : RelativeDate) → first_family_by rule text ≡ Some (Relative date)
+pub counting : (rule : OffsetRule) (text : List ℕ) (date : RelativeDate) → first_family_by rule text ≡ Some (Relative date)
     → relative_date text ≡ Some date
 unfolding first_family_by
 counting rule text date e =
@@ -630,14 +630,6 @@ counting rule text date e =
         ),
       ),
     ) e
-
-pub comes-first : (rule : OffsetRule) (text : List ℕ) → IsUtf8 text → ComesFirst rule text
-comes-first rule text u = record {
-  alone = λ family n m h. alone-first rule family text u n m h;
-  git = λ p q h. git-first rule text u p q h;
-  relative = λ g h. relative-first rule text u g h;
-  counting = λ date e. counting rule text date e;
-}
 
 -- a text that is not relative
 plain-ignores : (rule : OffsetRule) (text : List ℕ) → relative_date text ≡ None → IgnoresMoment rule text

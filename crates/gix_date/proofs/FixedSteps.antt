@@ -1,15 +1,17 @@
 -- Steps at one offset, and in a zone that has no other.
-use Rattle.std.proofs.Common.{◌≡◌, ◌∙◌, ◌↔◌, ℕ, ℤ, pos, ◌+ℤ◌, ◌-ℤ◌, refl, sym, ap, subst, List, [], ◌∷◌, Option, None, Some, FitsSigned, w64}
+use Rattle.std.proofs.Common.{◌≡◌, ◌∙◌, ◌↔◌, ◌≤◌, Bool, true, false, cond, int_eq, ℕ, ℤ, pos, ◌+ℤ◌, ◌-ℤ◌, refl, sym, ap, subst, List, [], ◌∷◌, Option, None, Some, FitsSigned, w64}
 use Rattle.std.specs.Int.{int_div_euclid, int_rem_euclid}
+use Rattle.std.specs.List.{All}
 use Rattle.std.specs.Prelude.{IsSome, IfSome}
 use Rattle.jiff.proofs.ZoneFacts.{offset_at-fixed_zone, picked_instant-fixed_zone}
 use Rattle.jiff.specs.Types.{TimeZone, DateTime, Date, Time, Offset, Timestamp}
 use Rattle.jiff.specs.Words.{fixed_zone, offset_at, picked_instant, civil_nanos, epoch_day, month_number, nanos_of_seconds, zoned_nanos, IsTimestampNanos, IsYear, IsYmd}
 use Rattle.jiff.specs.declared.zoned.Zoned.{Zoned}
 use Rattle.jiff_core.proofs.DateTimeLemmas.{civil_nanos-parts}
-use Rattle.jiff_tz.specs.Zone.{IsFixed, ambiguous_at}
+use Rattle.jiff_tz.specs.Zone.{IsFixed, utc_offset, ambiguous_at}
 use Rattle.jiff_tz.specs.declared.timezone.TimeZone.TheVariants.{UTC, Unknown, Fixed, Posix, Tzif}
 use Rattle.gix_date.specs.Relative.Dates.{RelativeDate, Before, Less, Reaches, IsNamed}
+use Rattle.gix_date.specs.Relative.FixedZones.{total, less_seconds, less_months}
 use Rattle.gix_date.specs.Private.RelativePairs.{pairs_read}
 use Rattle.gix_date.specs.Relative.Steps.{IsLocal, IsPicked, Settles, SecondsStep, MonthsStep, PairStep, Chain, zone_of, civil_of, rolled_day}
 use Rattle.gix_date.specs.Private.Steps.{ChooseAlike, IsAtInstant}
@@ -19,7 +21,7 @@ use Rattle.gix_date.specs.declared.parsing.relative.words.TimeUnit.{TimeUnit}
 use Rattle.gix_date.specs.declared.parsing.relative.words.TimeUnit.TheVariants.{Seconds, Months}
 use Rattle.gix_date.specs.declared.time.Time.{Time as OurTime}
 use Rattle.gix_date.proofs.Chains.{reaches-is, reaches-back}
-use Rattle.gix_date.proofs.FixedZones.{fixed-picked, fixed-picks, fixed-settles-exists, fixed-seconds-exists}
+use Rattle.gix_date.proofs.FixedZones.{IsLoss, IsBefore, Alike, seconds-law, yesterday-law, months-law, fixed-picked, fixed-picks, fixed-settles-exists, fixed-seconds-exists}
 use Rattle.gix_date.proofs.Steps.{MonthsFrom, first-is}
 use Rattle.jiff_zoned.proofs.SameLemmas.{same_datetime}
 
@@ -71,9 +73,53 @@ chain-alike : (a b : TimeZone) → ChooseAlike a b → (list : List (ℤ × Time
 chain-alike a b h [] i j c = c
 chain-alike a b h (pair ∷ more) i j (between, step, rest) = (between, step-alike a b h pair i between step, chain-alike a b h more between j rest)
 
-reaches-alike : (a b : TimeZone) → ChooseAlike a b → (date : RelativeDate) (i j : ℤ) → Reaches date a i j → Reaches date b i j
+pub reaches-alike : (a b : TimeZone) → ChooseAlike a b → (date : RelativeDate) (i j : ℤ) → Reaches date a i j → Reaches date b i j
 reaches-alike a b h (Before seconds) i j r = r
 reaches-alike a b h (Less list) i j (start, s, c) = (start, settles-alike a b h i start s, chain-alike a b h list start j c)
+
+-- the offset of such a zone
+pub fixed-offset : (tz : TimeZone) → IsFixed tz → (o : Offset) × ((n : ℤ) → o.seconds ≡ offset_at tz n)
+unfolding offset_at
+fixed-offset UTC f = (utc_offset, λ n. refl)
+fixed-offset Unknown f = (utc_offset, λ n. refl)
+fixed-offset (Fixed o) f = (o, λ n. refl)
+fixed-offset (Posix r) f = absurd f
+fixed-offset (Tzif z) f = absurd f
+
+-- a zone that is made of an offset is one
+pub fixed-zone : (o : Offset) → IsFixed (fixed_zone o)
+fixed-zone o = by (int_eq o.seconds (pos 0))
+  where
+    by : (b : Bool) → IsFixed (cond b UTC (Fixed o))
+    by true = tt
+    by false = tt
+
+-- what is so at each offset is so in each such zone
+pub at-one-offset : (tz : TimeZone) → IsFixed tz → (i : ℤ) (date : RelativeDate) (Such : ℤ → Type 0)
+    → ((o : Offset) → ChooseAlike tz (fixed_zone o) → Alike (fixed_zone o) i date Such) → Alike tz i date Such
+at-one-offset tz f i date Such law j =
+    let o = fixed-offset tz f in
+    let alike = one-offset tz o.0 f o.1 in
+    let at = law o.0 alike j in
+    (λ h. at.0 (reaches-alike tz (fixed_zone o.0) alike date i j h), λ h. reaches-alike (fixed_zone o.0) tz (turned tz (fixed_zone o.0) alike) date i j (at.1 h))
+
+pub seconds-in : (tz : TimeZone) → IsFixed tz → (pairs : List (ℤ × ℤ)) (i : ℤ) → All IsLoss pairs → IsTimestampNanos i
+    → Alike tz i (less_seconds pairs) (IsBefore pairs i)
+seconds-in tz f pairs i loss range = at-one-offset tz f i (less_seconds pairs) (IsBefore pairs i) (λ o a. seconds-law (fixed_zone o) o refl pairs i loss range)
+
+pub yesterday-in : (tz : TimeZone) → IsFixed tz → (i : ℤ) → IsTimestampNanos i
+    → (j : ℤ) → ((j ≡ i -ℤ nanos_of_seconds (pos 86_400)) × IsTimestampNanos j) ↔ Reaches (less_seconds ((pos 1, pos 86_400) ∷ [])) tz i j
+yesterday-in tz f i range j =
+    let day : RelativeDate = less_seconds ((pos 1, pos 86_400) ∷ []) in
+    let law = at-one-offset tz f i day (λ j. (j ≡ i -ℤ nanos_of_seconds (pos 86_400)) × IsTimestampNanos j) (λ o a k. let y = yesterday-law (fixed_zone o) o refl i range k in (y.1, y.0)) j in
+    (law.1, law.0)
+
+pub months-in : (tz : TimeZone) → IsFixed tz → (i : ℤ) (dt : DateTime) (pairs : List (ℤ × ℤ)) → IsLocal tz i dt → dt.date.day ≤ 28 → IsTimestampNanos i
+    → All IsLoss pairs → FitsSigned w64 (total pairs) → (j : ℤ) → Reaches (less_months pairs) tz i j ↔ Reaches (less_months ((total pairs, pos 1) ∷ [])) tz i j
+months-in tz f i dt pairs local day range loss fits = at-one-offset tz f i (less_months pairs) (λ j. Reaches (less_months ((total pairs, pos 1) ∷ [])) tz i j) (λ o a j.
+    let law = months-law (fixed_zone o) o refl i dt pairs (local-alike tz (fixed_zone o) a i dt local) day range loss fits j in
+    let one : RelativeDate = less_months ((total pairs, pos 1) ∷ []) in
+    (λ h. reaches-alike (fixed_zone o) tz (turned tz (fixed_zone o) a) one i j (law.0 h), λ h. law.1 (reaches-alike tz (fixed_zone o) a one i j h)))
 
 -- The time that is named, by the instant that is reached at the one offset.
 

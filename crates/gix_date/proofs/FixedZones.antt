@@ -277,7 +277,7 @@ months-from o day time m n small here there =
     record { local = dt; local_is = local-there o m day time small here.year_in; fits = from.0; year_in = from.1; picked = from.2 }
 
 -- earlier months begin earlier, so what lies between two such days is such a day
-months-order : (a b : ℤ) → IsYear (int_div_euclid a (pos 12)) → a ≤ℤ b → month_start a ≤ℤ month_start b
+pub months-order : (a b : ℤ) → IsYear (int_div_euclid a (pos 12)) → a ≤ℤ b → month_start a ≤ℤ month_start b
 months-order a b year le =
     by_lt_z a b
     (λ lt. let before = days_from_civil-month (int_div_euclid a (pos 12)) (int_div_euclid b (pos 12)) (unsigned_abs (int_rem_euclid a (pos 12)) + 1) (unsigned_abs (int_rem_euclid b (pos 12)) + 1) 1 1

@@ -30,10 +30,10 @@ join true true p q = refl
 join true false p q = q
 join false b p q = p
 
-z_test : (a b : ℤ) → le_z a b ≡ true → a ≤ℤ b
+pub z_test : (a b : ℤ) → le_z a b ≡ true → a ≤ℤ b
 z_test a b h = le_z_yes (T_from_true (le_z a b) h)
 
-z_holds : (a b : ℤ) → a ≤ℤ b → le_z a b ≡ true
+pub z_holds : (a b : ℤ) → a ≤ℤ b → le_z a b ≡ true
 z_holds a b h = true_from_ne_false (le_z a b) (λ n. absurd (rw n at h.le))
 
 n_test : (a b : ℕ) → nat_le a b ≡ true → a ≤ b

@@ -7,7 +7,7 @@ use Rattle.std.specs.Str.{IsCharBoundary}
 use Rattle.std.specs.Str.Pattern.{RFindsChar}
 use Rattle.gix_date.specs.Text.Characters.{space}
 use Rattle.gix_date.specs.Git.ClockCut.{last_place, last_space}
-use Rattle.gix_date.specs.Private.Cuts.{IsLastPlace}
+use Rattle.gix_date.specs.Git.Cuts.{IsLastPlace}
 
 -- the step of a search from the end
 pub passes_here : (t : ℕ → Bool) (n : ℕ) → t n ≡ true → last_place t (suc n) ≡ Some n

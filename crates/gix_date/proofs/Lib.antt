@@ -23,27 +23,35 @@ pub mod PrintedBack
 pub mod PrintedTimes
 pub mod FirstBytes
 pub mod Exclusive
+pub mod Ranges
+pub mod Agree
 pub mod Widened
 pub mod Shapes
 mod AfterDay
 mod NamesRead
 pub mod Overlaps
 pub mod RawBack
+pub mod RawHeaders
+pub mod Grammars
+pub mod GitGrammar
 pub mod RelativeWordSteps
 pub mod RelativeCounts
 pub mod CountRuns
 pub mod RelativeScans
 pub mod RolePlaces
 pub mod RelativeReading
+pub mod RelativeGrammar
 pub mod Steps
 pub mod DateTimes
 pub mod FixedZones
 pub mod FixedTimes
 pub mod LocalClocks
 pub mod ShownTexts
+pub mod ShortBack
 pub mod ClockRows
 pub mod Chains
 pub mod FixedSteps
+pub mod NeverLater
 pub mod Ints
 pub mod Decimals
 pub mod Rows

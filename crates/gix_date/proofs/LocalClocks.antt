@@ -147,7 +147,7 @@ year-before date lt =
     let within = day_of_year_bound date.year date.month date.day (date.year_in, date.month_in, date.day_in) in
     omega (arith, signed_arith, here, within, day_count-later_year date.year (pos 1000) (omega (arith, signed_arith, year_in)) lt, days_from_civil-day_count date.year date.month date.day, thousand)
 
-local-is : (z : PlainZoned) (t : Time) → Shows z t
+pub local-is : (z : PlainZoned) (t : Time) → Shows z t
     → ((epoch_day z.datetime.date *ℤ pos 86_400) ≤ℤ local_seconds t) × (local_seconds t <ℤ (epoch_day z.datetime.date *ℤ pos 86_400 +ℤ pos 86_400))
 local-is z t h =
     let parts = civil_nanos-parts z.datetime in

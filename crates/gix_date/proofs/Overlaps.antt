@@ -11,8 +11,7 @@ use lib.Utf8.{encode}
 use Rattle.gix_date.proofs.AsciiCuts.{ascii-by}
 use Rattle.gix_date.specs.Fields.Civil.{civil_instant}
 use Rattle.gix_date.specs.Git.ClockCut.{clock_cut, cut_at_z, cut_at_space, cut_at_sign, last_space, last_sign}
-use Rattle.gix_date.specs.Families.Order.{Family, Iso8601, Iso8601Strict, GitForm, RelativeText, family_answer}
-use Rattle.gix_date.specs.Families.Raw.{is_raw_offset}
+use Rattle.gix_date.specs.Families.Order.{Family, Iso8601, Iso8601Strict, GitForm, RelativeText}
 use Rattle.gix_date.specs.Families.Laws.{Overlap, AreOverlapping}
 use Rattle.gix_date.specs.Fields.Front.{skip_char}
 use Rattle.gix_date.specs.Git.Forms.{git_time, git_form, dotted_time, compact_time, flexible_time, read_marked_date, read_compact_date, time_of_cut, git_offset}
@@ -48,15 +47,6 @@ unfolding computing
 strict-and-git =
     let text = codes "2022-08-18T12:45:06+08:00" in
     record { text = text; is_text = ascii-text text refl; first = refl; second = refl }
-
--- ISO 8601 and Git say the same of these.
-iso8601-as-git : family_answer is_raw_offset Iso8601 (codes "2022-08-18 12:45:06 +0800") ≡ family_answer is_raw_offset GitForm (codes "2022-08-18 12:45:06 +0800")
-unfolding computing
-iso8601-as-git = refl
-
-strict-as-git : family_answer is_raw_offset Iso8601Strict (codes "2022-08-18T12:45:06+08:00") ≡ family_answer is_raw_offset GitForm (codes "2022-08-18T12:45:06+08:00")
-unfolding computing
-strict-as-git = refl
 
 git-and-relative : Overlap GitForm RelativeText
 unfolding computing

@@ -214,15 +214,15 @@ neither : (a b : Bool) → a ≡ false → b ≡ false → (a || b) ≡ false
 neither false b p q = q
 neither true b p q = p
 
-no_colon : (t : List ℕ) → AreNumberBytes t → has_colon t ≡ false
+pub no_colon : (t : List ℕ) → AreNumberBytes t → has_colon t ≡ false
 no_colon [] h = refl
 no_colon (c ∷ t) h = neither (is_colon c) (has_colon t) (byte_no_colon c h.0) (no_colon t h.1)
 
-by_words : (text a b : List ℕ) (t : Time) → has_colon text ≡ false → space_words text ≡ a ∷ b ∷ [] → time_of_words (a ∷ b ∷ []) ≡ Some t → header_time text ≡ Some t
+pub by_words : (text a b : List ℕ) (t : Time) → has_colon text ≡ false → space_words text ≡ a ∷ b ∷ [] → time_of_words (a ∷ b ∷ []) ≡ Some t → header_time text ≡ Some t
 unfolding header_time
 by_words text a b t c w e = rw (c, w) e
 
-said : (a b : List ℕ) (n : ℤ) (f : OffsetFields) → int_value a ≡ Some n → offset_fields b ≡ Some f → time_of_words (a ∷ b ∷ []) ≡ Some (record { seconds = n; offset = offset_of f })
+pub said : (a b : List ℕ) (n : ℤ) (f : OffsetFields) → int_value a ≡ Some n → offset_fields b ≡ Some f → time_of_words (a ∷ b ∷ []) ≡ Some (record { seconds = n; offset = offset_of f })
 unfolding time_of_words seconds_said offset_said
 said a b n f e h = rw (e, h) refl
 

@@ -43,13 +43,13 @@ use Rattle.gix_date.proofs.Trimmed.{trim-ends}
 graphic-ascii : (c : ℕ) → is_ascii_graphic c ≡ true → c < 128
 graphic-ascii c h = grind (arith, nat_tests, h)
 
-digit-byte : (c : ℕ) → IsDigit c → is_clock_byte c ≡ true
+pub digit-byte : (c : ℕ) → IsDigit c → is_clock_byte c ≡ true
 digit-byte c h = grind (arith, nat_tests, h)
 
-digit-no-colon : (c : ℕ) → IsDigit c → is_colon c ≡ false
+pub digit-no-colon : (c : ℕ) → IsDigit c → is_colon c ≡ false
 digit-no-colon c h = grind (arith, nat_tests, h)
 
-byte-ascii : (c : ℕ) → is_clock_byte c ≡ true → is_ascii c ≡ true
+pub byte-ascii : (c : ℕ) → is_clock_byte c ≡ true → is_ascii c ≡ true
 byte-ascii c h = grind (arith, nat_tests, h)
 
 byte-graphic : (c : ℕ) → is_clock_byte c ≡ true → is_ascii_graphic c ≡ true
@@ -58,7 +58,7 @@ byte-graphic c h = grind (arith, nat_tests, h)
 byte-no-dot : (c : ℕ) → is_clock_byte c ≡ true → is_dot c ≡ false
 byte-no-dot c h = grind (arith, nat_tests, h)
 
-byte-no-space : (c : ℕ) → is_clock_byte c ≡ true → (c == space) ≡ false
+pub byte-no-space : (c : ℕ) → is_clock_byte c ≡ true → (c == space) ≡ false
 byte-no-space c h = grind (arith, nat_tests, h)
 
 byte-no-z : (c : ℕ) → is_clock_byte c ≡ true → (c == letter_z) ≡ false
@@ -74,12 +74,12 @@ sign-no-space : (c : ℕ) → is_sign c ≡ true → (c == space) ≡ false
 sign-no-space c h = grind (arith, nat_tests, h)
 
 -- all bytes
-all-get : (p : ℕ → Bool) (xs : List ℕ) → list_all p xs ≡ true → (i : ℕ) → i < length xs → p (get_or xs i 0) ≡ true
+pub all-get : (p : ℕ → Bool) (xs : List ℕ) → list_all p xs ≡ true → (i : ℕ) → i < length xs → p (get_or xs i 0) ≡ true
 all-get p [] h i l = absurd (omega arith)
 all-get p (x ∷ xs) h zero l = (both (p x) (list_all p xs) h).0
 all-get p (x ∷ xs) h (suc i) l = all-get p xs (both (p x) (list_all p xs) h).1 i (omega arith)
 
-all-imply : (p q : ℕ → Bool) (xs : List ℕ) → ((c : ℕ) → p c ≡ true → q c ≡ true) → list_all p xs ≡ true → list_all q xs ≡ true
+pub all-imply : (p q : ℕ → Bool) (xs : List ℕ) → ((c : ℕ) → p c ≡ true → q c ≡ true) → list_all p xs ≡ true → list_all q xs ≡ true
 all-imply p q [] f h = refl
 all-imply p q (x ∷ xs) f h = let parts = both (p x) (list_all p xs) h in join _ _ (f x parts.0) (all-imply p q xs f parts.1)
 
@@ -100,12 +100,12 @@ pair most a b n ha hb e small =
     let value : n ≡ digits_value 10 ds = omega (arith, one, two, e) in
     sym (below most n small ∙ ap (at_most most) value ∙ field_yes most ds (join _ _ ha (join _ _ hb refl)) (omega arith))
 
-pair-then : (a b : ℕ) (t : List ℕ) → IsDigit a → IsDigit b → slice_split is_colon (a ∷ b ∷ colon ∷ t) ≡ (a ∷ b ∷ []) ∷ slice_split is_colon t
+pub pair-then : (a b : ℕ) (t : List ℕ) → IsDigit a → IsDigit b → slice_split is_colon (a ∷ b ∷ colon ∷ t) ≡ (a ∷ b ∷ []) ∷ slice_split is_colon t
 pair-then a b t ha hb =
     slice_split-cons_no is_colon a (b ∷ colon ∷ t) (digit-no-colon a ha)
     ∙ ap (onto_first a) (slice_split-cons_no is_colon b (colon ∷ t) (digit-no-colon b hb) ∙ ap (onto_first b) (slice_split-cons_yes is_colon colon t refl))
 
-pair-last : (a b : ℕ) → IsDigit a → IsDigit b → slice_split is_colon (a ∷ b ∷ []) ≡ (a ∷ b ∷ []) ∷ []
+pub pair-last : (a b : ℕ) → IsDigit a → IsDigit b → slice_split is_colon (a ∷ b ∷ []) ≡ (a ∷ b ∷ []) ∷ []
 pair-last a b ha hb =
     slice_split-cons_no is_colon a (b ∷ []) (digit-no-colon a ha)
     ∙ ap (onto_first a) (slice_split-cons_no is_colon b [] (digit-no-colon b hb))
@@ -163,7 +163,7 @@ parts-taken gap text clock rest e =
     })
 
 -- a clock is ASCII
-clock-ascii : (t : List ℕ) → list_all is_clock_byte t ≡ true → list_all is_ascii t ≡ true
+pub clock-ascii : (t : List ℕ) → list_all is_clock_byte t ≡ true → list_all is_ascii t ≡ true
 clock-ascii t h = all-imply is_clock_byte is_ascii t byte-ascii h
 
 colon-clock : (a b c d e f h m s : ℕ) → IsDigit a → IsDigit b → IsDigit c → IsDigit d → IsDigit e → IsDigit f
@@ -299,23 +299,23 @@ gap-taken : (mark : ℕ) (text : List ℕ) → (text ≡ skip_any mark text) ⊎
 gap-taken mark text = gap-by mark text (skip_char mark text) refl
 
 -- a sign, a digit, and digits and colons
-record IsOffsetText (text : List ℕ) : Type 0 where
-  sign : ℕ
-  rest : List ℕ
-  whole : text ≡ sign ∷ rest
-  is_sign : is_sign sign ≡ true
-  some : 0 < length rest
-  first : is_ascii_digit (get_or rest 0 0) ≡ true
-  bytes : list_all is_clock_byte rest ≡ true
+pub record IsOffsetText (text : List ℕ) : Type 0 where
+  pub sign : ℕ
+  pub rest : List ℕ
+  pub whole : text ≡ sign ∷ rest
+  pub is_sign : is_sign sign ≡ true
+  pub some : 0 < length rest
+  pub first : is_ascii_digit (get_or rest 0 0) ≡ true
+  pub bytes : list_all is_clock_byte rest ≡ true
 
-mark-sign : (c : ℕ) (s : Sign) → IsMark c s → is_sign c ≡ true
+pub mark-sign : (c : ℕ) (s : Sign) → IsMark c s → is_sign c ≡ true
 mark-sign c s (inl h) = ap is_sign h.0
 mark-sign c s (inr h) = ap is_sign h.0
 
 some-long : (k : ℕ) (t : List ℕ) → (length (k ∷ t) == 0) ≡ false
 some-long k t = grind (arith, nat_tests)
 
-mark-no-z : (c : ℕ) (s : Sign) (t : List ℕ) → IsMark c s → (length (c ∷ t) == 0 || bytes_eq (c ∷ t) (codes "Z")) ≡ false
+pub mark-no-z : (c : ℕ) (s : Sign) (t : List ℕ) → IsMark c s → (length (c ∷ t) == 0 || bytes_eq (c ∷ t) (codes "Z")) ≡ false
 mark-no-z c s t (inl h) = ap (λ k. length (k ∷ t) == 0 || bytes_eq (k ∷ t) (codes "Z")) h.0 ∙ ap (λ b. b || bytes_eq (plus ∷ t) (codes "Z")) (some-long plus t)
 mark-no-z c s t (inr h) = ap (λ k. length (k ∷ t) == 0 || bytes_eq (k ∷ t) (codes "Z")) h.0 ∙ ap (λ b. b || bytes_eq (minus ∷ t) (codes "Z")) (some-long minus t)
 
@@ -340,14 +340,14 @@ four a b c d more ha hb hc hd (inr e) = subst (λ (t : List ℕ). HasFour (a ∷
   first = ha;
 })
 
-two-value : (a b n : ℕ) → IsDigit a → IsDigit b → n ≡ 10 * (a - 48) + (b - 48) → two_digit_value a b ≡ Some n
+pub two-value : (a b n : ℕ) → IsDigit a → IsDigit b → n ≡ 10 * (a - 48) + (b - 48) → two_digit_value a b ≡ Some n
 two-value a b n ha hb e = rw (ha, hb) (ap (λ (k : ℕ). Some k) (sym e))
 
-record TookOffset (text : List ℕ) (f : OffsetFields) : Type 0 where
-  is : IsOffsetText text
-  says : git_offset text ≡ offset_by is_within_a_day f
+pub record TookOffset (text : List ℕ) (f : OffsetFields) : Type 0 where
+  pub is : IsOffsetText text
+  pub says : git_offset text ≡ offset_by is_within_a_day f
 
-offset-taken : (text : List ℕ) (f : OffsetFields) → IsPlainOffset text f → TookOffset text f
+pub offset-taken : (text : List ℕ) (f : OffsetFields) → IsPlainOffset text f → TookOffset text f
 unfolding git_offset
 offset-taken text f h =
     let s = sign-taken text f.sign h.after_sign h.sign in
@@ -405,52 +405,60 @@ after-gap front s rest h bytes i a b =
     let quiet : list_all (λ c. not (c == space)) zone ≡ true = join _ _ (ap not (sign-no-space s h)) (all-imply is_clock_byte (λ c. not (c == space)) rest (λ c e. ap not (byte-no-space c e)) bytes) in
     ap (λ c. c == space) here ∙ not-so (get_or zone k 0 == space) (all-get (λ c. not (c == space)) zone quiet k (omega arith))
 
--- one space before the offset
-cut-after-space : (front : List ℕ) (s : ℕ) (rest : List ℕ) → 5 < length front → is_sign s ≡ true → 0 < length rest → list_all is_clock_byte rest ≡ true
-    → clock_cut (front ++ space ∷ s ∷ rest) ≡ (front, s ∷ rest)
-unfolding clock_cut last_space
-cut-after-space front s rest long h some bytes =
+-- the last space, and what stands before the offset there
+pub gap-at : (front : List ℕ) (s : ℕ) (rest : List ℕ) → is_sign s ≡ true → list_all is_clock_byte rest ≡ true → last_space (front ++ space ∷ s ∷ rest) ≡ Some (length front)
+unfolding last_space
+gap-at front s rest h bytes =
     let zone = s ∷ rest in
     let u = front ++ space ∷ zone in
     let n = length front in
     let size = length-append front (space ∷ zone) in
-    let no_z : cut_at_z u ≡ None = ap cut_at_z (sym (append_assoc front (space ∷ s ∷ []) rest)) ∙ ends-so (front ++ space ∷ s ∷ []) rest some bytes in
     let after : (i : ℕ) → n < i → i < length u → (slice_index u i == space) ≡ false = λ i a b. after-gap front s rest h bytes i a (omega (arith, size)) in
-    let at : last_space u ≡ Some n = last_is (λ i. slice_index u i == space) (length u) n (record {
+    last_is (λ i. slice_index u i == space) (length u) n (record {
       within = omega (arith, size);
       passes = ap (λ c. c == space) (get_or-append_seam front space zone 0);
       last = after;
-    }) in
+    })
+
+-- one space before the offset
+pub cut-after-space : (front : List ℕ) (s : ℕ) (rest : List ℕ) → 5 < length front → is_sign s ≡ true → 0 < length rest → list_all is_clock_byte rest ≡ true
+    → clock_cut (front ++ space ∷ s ∷ rest) ≡ (front, s ∷ rest)
+unfolding clock_cut
+cut-after-space front s rest long h some bytes =
+    let zone = s ∷ rest in
+    let u = front ++ space ∷ zone in
+    let n = length front in
+    let no_z : cut_at_z u ≡ None = ap cut_at_z (sym (append_assoc front (space ∷ s ∷ []) rest)) ∙ ends-so (front ++ space ∷ s ∷ []) rest some bytes in
+    let at = gap-at front s rest h bytes in
     let trimmed : trimmed_after u n ≡ zone = ap trim (drop-append-add front (space ∷ zone) 1) ∙ offset-trimmed s rest h some bytes in
     let cut : cut_at_space u ≡ Some (front, zone) = space_found u zone front n (sym at) (sym trimmed) (sym (take-append_seam front (space ∷ zone))) long h in
     ap (λ (r : Option (List ℕ × List ℕ)). unwrap_or (option_or r (option_or (cut_at_space u) (cut_at_sign u))) (u, [])) no_z
     ∙ ap (λ (r : Option (List ℕ × List ℕ)). unwrap_or (option_or r (cut_at_sign u)) (u, [])) cut
 
 -- no space before the offset, nor anywhere else
-abbrev is_no_space : ℕ → Bool
+abbrev pub is_no_space : ℕ → Bool
 is_no_space c = not (c == space)
 
-byte-is-no-space : (c : ℕ) → is_clock_byte c ≡ true → is_no_space c ≡ true
+pub byte-is-no-space : (c : ℕ) → is_clock_byte c ≡ true → is_no_space c ≡ true
 byte-is-no-space c h = ap not (byte-no-space c h)
 
-all-append : (p : ℕ → Bool) (xs ys : List ℕ) → list_all p xs ≡ true → list_all p ys ≡ true → list_all p (xs ++ ys) ≡ true
+pub all-append : (p : ℕ → Bool) (xs ys : List ℕ) → list_all p xs ≡ true → list_all p ys ≡ true → list_all p (xs ++ ys) ≡ true
 all-append p xs ys h k = list_all-append p xs ys ∙ join _ _ h k
 
 no-offset : (a b c : Bool) → b ≡ false → (a && b && c) ≡ false
 no-offset true b c h = ap (λ q. q && c) h
 no-offset false b c h = refl
 
-cut-at-a-sign : (front : List ℕ) (s : ℕ) (rest : List ℕ) → 5 < length front → list_all is_no_space front ≡ true → is_sign s ≡ true → 0 < length rest
+-- a sign begins the offset, where no space does
+pub cut-by-sign : (front : List ℕ) (s : ℕ) (rest : List ℕ) → 1 < length front → cut_at_space (front ++ s ∷ rest) ≡ None → is_sign s ≡ true → 0 < length rest
     → is_ascii_digit (get_or rest 0 0) ≡ true → list_all is_clock_byte rest ≡ true → clock_cut (front ++ s ∷ rest) ≡ (front, s ∷ rest)
-unfolding clock_cut last_space last_sign
-cut-at-a-sign front s rest long quiet h some first bytes =
+unfolding clock_cut last_sign
+cut-by-sign front s rest long no_space h some first bytes =
     let zone = s ∷ rest in
     let u = front ++ zone in
     let n = length front in
     let size = length-append front zone in
     let no_z : cut_at_z u ≡ None = ap cut_at_z (sym (append_assoc front (s ∷ []) rest)) ∙ ends-so (front ++ s ∷ []) rest some bytes in
-    let none : list_all is_no_space u ≡ true = all-append is_no_space front zone quiet (join _ _ (ap not (sign-no-space s h)) (all-imply is_clock_byte is_no_space rest byte-is-no-space bytes)) in
-    let no_space : cut_at_space u ≡ None = space_none u (sym (last_none (λ i. slice_index u i == space) (length u) (λ i l. not-so (get_or u i 0 == space) (all-get is_no_space u none i l)))) in
     let high : nat_lt 1 n ≡ true = grind (arith, nat_tests, long) in
     let here : is_sign (get_or u n 0) ≡ true = ap is_sign (get_or-append_seam front s rest 0) ∙ h in
     let next : is_ascii_digit (get_or u (n + 1) 0) ≡ true = ap is_ascii_digit (behind front zone (n + 1) 1 refl) ∙ first in
@@ -465,9 +473,18 @@ cut-at-a-sign front s rest long quiet h some first bytes =
     ∙ ap (λ (r : Option (List ℕ × List ℕ)). unwrap_or (option_or r (cut_at_sign u)) (u, [])) no_space
     ∙ ap (λ (r : Option (List ℕ × List ℕ)). unwrap_or r (u, [])) cut
 
+pub cut-at-a-sign : (front : List ℕ) (s : ℕ) (rest : List ℕ) → 1 < length front → list_all is_no_space front ≡ true → is_sign s ≡ true → 0 < length rest
+    → is_ascii_digit (get_or rest 0 0) ≡ true → list_all is_clock_byte rest ≡ true → clock_cut (front ++ s ∷ rest) ≡ (front, s ∷ rest)
+unfolding last_space
+cut-at-a-sign front s rest long quiet h some first bytes =
+    let u = front ++ s ∷ rest in
+    let none : list_all is_no_space u ≡ true = all-append is_no_space front (s ∷ rest) quiet (join _ _ (ap not (sign-no-space s h)) (all-imply is_clock_byte is_no_space rest byte-is-no-space bytes)) in
+    let no_space : cut_at_space u ≡ None = space_none u (sym (last_none (λ i. slice_index u i == space) (length u) (λ i l. not-so (get_or u i 0 == space) (all-get is_no_space u none i l)))) in
+    cut-by-sign front s rest long no_space h some first bytes
+
 cut-either : (front more : List ℕ) (s : ℕ) (rest : List ℕ) → (more ≡ s ∷ rest) ⊎ (more ≡ space ∷ s ∷ rest) → 5 < length front → list_all is_no_space front ≡ true → is_sign s ≡ true → 0 < length rest
     → is_ascii_digit (get_or rest 0 0) ≡ true → list_all is_clock_byte rest ≡ true → clock_cut (front ++ more) ≡ (front, s ∷ rest)
-cut-either front more s rest (inl e) long quiet h some first bytes = ap (λ (t : List ℕ). clock_cut (front ++ t)) e ∙ cut-at-a-sign front s rest long quiet h some first bytes
+cut-either front more s rest (inl e) long quiet h some first bytes = ap (λ (t : List ℕ). clock_cut (front ++ t)) e ∙ cut-at-a-sign front s rest (omega arith) quiet h some first bytes
 cut-either front more s rest (inr e) long quiet h some first bytes = ap (λ (t : List ℕ). clock_cut (front ++ t)) e ∙ cut-after-space front s rest long h some bytes
 
 -- a clock ends at its fraction

@@ -214,15 +214,19 @@ unfolding named_date
 named-word [] d e h = absurd cc
 named-word (c ∷ t) d e h = one-run-word c t h
 
-not-named : (text : List ℕ) → IsUtf8 text → IsQuiet text → (d : RelativeDate) → named_date (trim text) ≡ Some d → ⊥
+-- such a text is that word alone
+pub named-alone : (text : List ℕ) → IsUtf8 text → (d : RelativeDate) → named_date (trim text) ≡ Some d → relative_words text ≡ trim text ∷ []
 unfolding named_date
-not-named text u q d e =
+named-alone text u d e =
     let x = trim text in
     let run = any-run x day_words refl (named-any date_names x d e) in
-    let same : relative_words text ≡ x ∷ [] =
     words-within text u ∙ ap (λ (ws : List (List ℕ)). flat_map relative_words ws) (sym (trimmed-words text u))
-    ∙ sym (words-within x (IsUtf8-from_ascii x (ascii-by is_ascii_alphanumeric run_ascii x run))) ∙ named-word x d e run in
-    let parts = both (says_nothing x) true (ap (list_all says_nothing) (sym same) ∙ q) in
+    ∙ sym (words-within x (IsUtf8-from_ascii x (ascii-by is_ascii_alphanumeric run_ascii x run))) ∙ named-word x d e run
+
+not-named : (text : List ℕ) → IsUtf8 text → IsQuiet text → (d : RelativeDate) → named_date (trim text) ≡ Some d → ⊥
+not-named text u q d e =
+    let x = trim text in
+    let parts = both (says_nothing x) true (ap (list_all says_nothing) (sym (named-alone text u d e)) ∙ q) in
     let clash : None ≡ Some d = sym (says-parts x parts.0).name ∙ e in
     cc
 

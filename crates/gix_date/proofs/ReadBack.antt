@@ -39,11 +39,11 @@ use Rattle.gix_date.proofs.Instants.{local_nanos, an_instant, instant_range}
 use Rattle.gix_date.proofs.ShownPieces.{decimal-two, InRange, in-range}
 
 -- The clock and the date that a zone shows, at its offset, are the instant again.
-local-ymd : (z : PlainZoned) → IsOrdinary z
+pub local-ymd : (z : PlainZoned) → IsOrdinary z
     → IsYmd (pos (local_time z).date.year) (pos (local_time z).date.month) (pos (local_time z).date.day) z.datetime.date
 local-ymd z o = (o.year_is ∙ ap (λ (v : ℤ). pos (unsigned_abs v)) (sym o.year_is), refl, refl)
 
-date-of : (z : PlainZoned) → IsOrdinary z
+pub date-of : (z : PlainZoned) → IsOrdinary z
     → IsDate (pos (local_time z).date.year) (pos (local_time z).date.month) (pos (local_time z).date.day)
 date-of z o =
     let year : z.datetime.date.year ≡ pos (unsigned_abs z.datetime.date.year) = (local-ymd z o).0 in

@@ -5,7 +5,7 @@ use Rattle.std.specs.Prelude.{not, ◌&&◌, ◌||◌, ◌⊎◌, ◌↔◌, IsT
 use Rattle.gix_date.proofs.Places.{Words, any_place, all_places}
 use Rattle.gix_date.specs.Relative.Words.{is_ago}
 use Rattle.gix_date.specs.Relative.Roles.{is_even, is_count_word, has_unit, count_run, has_next, next_is_unit, has_flag, has_pair, all_units, are_pairs}
-use Rattle.gix_date.specs.Private.Pairs.{HasFlag, HasPair, AllUnits, ArePairs}
+use Rattle.gix_date.specs.Relative.Pairs.{HasFlag, HasPair, AllUnits, ArePairs}
 use Rattle.gix_date.proofs.Instants.{join as and_both}
 
 or_cases : (a b : Bool) → (a || b) ≡ true → (a ≡ true) ⊎ (b ≡ true)

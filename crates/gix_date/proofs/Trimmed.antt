@@ -21,7 +21,7 @@ some-left : (xs : List ℕ) (c : ℕ) → (length (xs ++ c ∷ []) == 0) ≡ fal
 some-left [] c = refl
 some-left (x ∷ xs) c = grind (arith, nat_tests)
 
-kept : (a b : Bool) (ts : List ℕ) → b ≡ false → cond (a && b) [] ts ≡ ts
+pub kept : (a b : Bool) (ts : List ℕ) → b ≡ false → cond (a && b) [] ts ≡ ts
 kept true b ts h = ap (λ q. cond q [] ts) h
 kept false b ts h = refl
 

@@ -6,3 +6,4 @@ pub mod Patterns
 pub mod Order
 pub mod Shapes
 pub mod Laws
+pub mod Grammars

@@ -2,3 +2,5 @@
 pub mod ClockCut
 pub mod Clock
 pub mod Forms
+pub mod Cuts
+pub mod Grammar

@@ -4,8 +4,6 @@ pub mod Views
 pub mod RelativeScan
 pub mod RelativePairs
 pub mod RelativeFields
-pub mod Pairs
-pub mod Cuts
 pub mod PlainRests
 pub mod Civil
 pub mod Steps

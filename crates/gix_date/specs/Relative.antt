@@ -4,3 +4,4 @@ pub mod Roles
 pub mod Steps
 pub mod Dates
 pub mod FixedZones
+pub mod Pairs

@@ -10,16 +10,20 @@ use crate::parsing::dates::{parse, parse_with};
 use crate::parsing::raw::RawOffsets;
 use crate::time::Time;
 pub use families::{
-    apart, comes_first, disjoint, disjoint_wide, dispatched, dispatched_by_rows, exclusive,
-    ignores_moment, overlapping, spelled, widened,
+    agree, apart, comes_first, disjoint, disjoint_wide, dispatched, dispatched_by_rows, exclusive,
+    ignores_moment, one_outcome, overlapping, ranges, spelled, spelled_git, spelled_numbers,
+    widened,
 };
 pub use formats::{
     local_clock, named_formats, other_formats, printed, raw_read_back, raw_read_back_wide,
-    read_back, read_back_wide,
+    read_back, read_back_wide, short_read_back,
 };
-pub use headers::{alike, canonical, written_is_read};
+pub use headers::{alike, canonical, raw_is_header, written_is_read};
 use jiff::Zoned;
-pub use relative::{earlier, months_add, named_once, seconds_permute, yesterday};
+pub use relative::{
+    earlier, months_add, named_converts, named_once, never_later, seconds_before, seconds_permute,
+    spelled_relative, yesterday,
+};
 use std::alloc::Global;
 pub use values::{clones, constants, equality, hash, limits, order, white_space};
 

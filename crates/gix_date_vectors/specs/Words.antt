@@ -5,8 +5,12 @@ pub use Rattle.gix_date.specs.Computing.{computing}
 pub use Rattle.gix_date.specs.Devices.Device.{inner_of, fault_of}
 pub use Rattle.gix_date.specs.Families.Epoch.{epoch_time, utc_time, min_bare_epoch}
 pub use Rattle.gix_date.specs.Families.Order.{first_family, ParseNoAllocOutcome, ParseOutcome, WithCopy, RefusesWithCopy, Family, families, family_answer, RefusesDate, answers_before_git, RefusesUnknown, first_family_by}
-pub use Rattle.gix_date.specs.Families.Laws.{Holds, overlap, AreExclusive, AreOverlapping, Overlap, AreDisjoint, ComesFirst, IgnoresMoment, IsWidened}
-pub use Rattle.gix_date.specs.Relative.FixedZones.{IsFixedZone, IsSecondsPair, IsMonthsPair, less_seconds, less_months, total, Names, NamesAlike, IsSecondsBefore, earlier, NamesEarlier}
+pub use Rattle.gix_date.specs.Families.Laws.{Agree, Holds, overlap, AreExclusive, AreOverlapping, Overlap, AreDisjoint, ComesFirst, IgnoresMoment, IsWidened}
+pub use Rattle.gix_date.specs.Relative.FixedZones.{IsSecondsPair, IsMonthsPair, less_seconds, less_months, total, Names, NamesAlike, IsSecondsBefore, NamesBefore, earlier, NamesEarlier}
+pub use Rattle.gix_date.specs.Relative.Pairs.{ArePairs, IsRelativeText}
+pub use Rattle.gix_date.specs.Families.Grammars.{IsInt, AreOffsetFields, IsRawText, IsEpochText, IsAtText}
+pub use Rattle.gix_date.specs.Git.Cuts.{IsCut}
+pub use Rattle.gix_date.specs.Git.Grammar.{IsGitDate, IsGitFront, IsGitText}
 pub use Rattle.gix_date.specs.Git.Forms.{git_time}
 pub use Rattle.gix_date.specs.Header.Laws.{CanonicalComesBack, ComesBack, ComesBackFromHeader, AreWrittenAlike, AreAlike}
 pub use Rattle.gix_date.specs.Header.Reading.{header_time, ReadsHeader}
@@ -22,7 +26,7 @@ pub use Rattle.gix_date.specs.Families.Patterns.{Spells, IsAnswered, time_answer
 pub use Rattle.gix_date.specs.Printing.Formats.{Prints, PrintsSeconds, PrintsHeader, PrintsBy, PrintsOrSeconds, HasNoText, HasNoTextBy, PrintsByOrSeconds, IsShown, AtMoment}
 pub use Rattle.gix_date.specs.Printing.PrintedTimes.{IsPrintedAs, PrintsText}
 pub use Rattle.gix_date.specs.Families.Raw.{raw_time, raw_time_by, max_raw_hours, OffsetRule, is_raw_offset, is_wide_offset, allows, max_wide_hours, max_wide_minutes}
-pub use Rattle.gix_date.specs.Printing.ReadingBack.{AreReadBack, IsReadBack, IsPlainTime, IsRawOffset, HasClock, PrintsBack, IsKept, IsWideOffset}
+pub use Rattle.gix_date.specs.Printing.ReadingBack.{AreReadBack, IsReadBack, IsPlainTime, IsRawOffset, HasClock, PrintsBack, IsKept, IsWideOffset, IsRuleOffset, midnight_of, day_read_back}
 pub use Rattle.gix_date.specs.Relative.Dates.{relative_date, RelativeDate, Before, Less, RelativeOutcome, IsNamed, Reaches}
 pub use Rattle.gix_date.specs.Relative.Steps.{zone_of, Settles, Chain, SecondsStep, MonthsStep, IsPicked}
 pub use Rattle.gix_date.specs.Families.Shapes.{shape_of, shape_families, IsDispatched, row_families, IsInItsRow}

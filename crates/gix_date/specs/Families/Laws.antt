@@ -1,13 +1,16 @@
 -- Which families hold texts of one another, and what follows for the answer of the first.
-use Rattle.std.specs.Prelude.{◌≡◌, ◌≢◌, ◌⊎◌, ℕ, Bool, true, false, List, IsUtf8, Option, Some, None, is_some, Result}
+use Rattle.std.specs.Prelude.{◌≡◌, ◌≢◌, ◌⊎◌, ◌≤◌, ℕ, Bool, true, false, List, IsUtf8, Option, Some, None, is_some, IsSome, Result, Ok, unsigned_abs}
 use Rattle.jiff.specs.declared.zoned.Zoned.{Zoned}
-use Rattle.gix_date.specs.Families.Answer.{FamilyAnswer, Relative}
+use Rattle.gix_date.specs.Families.Answer.{FamilyAnswer, Absolute, Relative}
 use Rattle.gix_date.specs.Families.Epoch.{epoch_time}
-use Rattle.gix_date.specs.Families.Order.{Family, AtText, RawText, Iso8601, Iso8601Strict, GitForm, RelativeText, family_answer, first_family_by, ParseOutcome}
+use Rattle.gix_date.specs.Families.Order.{Family, AtText, RawText, Iso8601, Iso8601Strict, GitForm, RelativeText, family_answer, first_family_by, ParseNoAllocOutcome, ParseOutcome}
 use Rattle.gix_date.specs.Git.Forms.{git_time}
+use Rattle.gix_date.specs.Families.Patterns.{max_date_offset}
+use Rattle.gix_date.specs.Header.Text.{header_text}
 use Rattle.gix_date.specs.Families.Raw.{OffsetRule, is_raw_offset, is_wide_offset, raw_time_by}
 use Rattle.gix_date.specs.Relative.Dates.{RelativeDate, relative_date}
 use Rattle.gix_date.specs.declared.error.Error.{Error}
+use Rattle.gix_date.specs.declared.error.ParseError.{ParseError}
 use Rattle.gix_date.specs.declared.time.Time.{Time}
 
 -- A text that is raw by the rule is neither a bare epoch nor a Git text nor relative, and a bare epoch neither a Git
@@ -48,13 +51,15 @@ pub record Overlap (a b : Family) : Type 0 where
 abbrev pub AreOverlapping : Type 0
 AreOverlapping = (a b : Family) → overlap a b ≡ true → Overlap a b
 
--- The answer of a family that holds the text is that of the first family. For two families, those that they overlap
--- with and that come earlier may have no answer.
+-- where both families hold the text, they answer the same
+abbrev pub Agree : OffsetRule → Family → Family → List ℕ → Type 0
+Agree rule a b text = Holds rule a text → Holds rule b text → family_answer rule a text ≡ family_answer rule b text
+
+-- The answer of a family that holds the text is that of the first family. A relative text has to be of no Git form.
 pub record ComesFirst (rule : OffsetRule) (text : List ℕ) : Type 0 where
   pub alone : (family : Family) → family ≢ GitForm → family ≢ RelativeText → Holds rule family text
       → first_family_by rule text ≡ family_answer rule family text
-  pub git : family_answer rule Iso8601 text ≡ None → family_answer rule Iso8601Strict text ≡ None
-      → Holds rule GitForm text → first_family_by rule text ≡ family_answer rule GitForm text
+  pub git : Holds rule GitForm text → first_family_by rule text ≡ family_answer rule GitForm text
   pub relative : family_answer rule GitForm text ≡ None → Holds rule RelativeText text
       → first_family_by rule text ≡ family_answer rule RelativeText text
   -- only for a relative text is the answer a relative date
@@ -75,3 +80,20 @@ pub record IsWidened (text : List ℕ) : Type 0 where
   pub more : (answer : FamilyAnswer) → first_family_by is_raw_offset text ≡ None
       → first_family_by is_wide_offset text ≡ Some answer
       → Holds is_wide_offset AtText text ⊎ Holds is_wide_offset RawText text
+
+-- a time that is the answer of the first family has an offset within 23:59
+abbrev pub AnswersWithinDay : OffsetRule → List ℕ → Type 0
+AnswersWithinDay rule text =
+    (t : Time) → first_family_by rule text ≡ Some (Absolute t) → unsigned_abs t.offset ≤ max_date_offset
+
+-- each time that a call with this text may answer has a header text
+abbrev pub IsWritable : OffsetRule → List ℕ → Type 0
+IsWritable rule text =
+    (now : Option Zoned) (t : Time) → ParseNoAllocOutcome (first_family_by rule text) now (Ok t)
+    → IsSome (header_text t)
+
+-- one answer and one moment allow one result
+abbrev pub HasOneOutcome : Type 0
+HasOneOutcome =
+    (answer : Option FamilyAnswer) (now : Option Zoned) (a b : Result Time ParseError)
+    → ParseNoAllocOutcome answer now a → ParseNoAllocOutcome answer now b → a ≡ b

@@ -90,5 +90,5 @@ pub record IsAnswered (layout : List Piece) (of_time : LocalTime → Option Fami
   pub comes : of_time time ≡ Some answer
 
 -- a family answers what such a text comes to, and nothing of another text
-abbrev pub Spells : (List ℕ → Option FamilyAnswer) → (List ℕ → FamilyAnswer → Type 0) → Type 0
-Spells family Is = (text : List ℕ) (answer : FamilyAnswer) → (family text ≡ Some answer) ↔ Is text answer
+abbrev pub Spells : {A : Type 0} → (List ℕ → Option A) → (List ℕ → A → Type 0) → Type 0
+Spells {A} family Is = (text : List ℕ) (answer : A) → (family text ≡ Some answer) ↔ Is text answer

@@ -10,7 +10,7 @@ use Rattle.gix_date.specs.Relative.Steps.{zone_of, Settles, Chain}
 use Rattle.gix_date.specs.Relative.Words.{relative_words}
 use Rattle.gix_date.specs.Text.Names.{named_in}
 use Rattle.gix_date.specs.Relative.Roles.{are_pairs, pairs}
-use Rattle.gix_date.specs.Printing.Zoned.{whole_seconds}
+use Rattle.gix_date.specs.Printing.Zoned.{whole_seconds, IsConvertible}
 use Rattle.gix_date.specs.declared.error.ParseError.{ParseError}
 use Rattle.gix_date.specs.declared.error.ParseError.TheVariants.{MissingNow, Range}
 use Rattle.gix_date.specs.declared.parsing.relative.words.TimeUnit.{TimeUnit}
@@ -58,3 +58,12 @@ abbrev pub RelativeOutcome : RelativeDate → Option Zoned → Result Time Parse
 RelativeOutcome date None result = result ≡ Err MissingNow
 RelativeOutcome date (Some moment) (Ok t) = IsNamed date moment t
 RelativeOutcome date (Some moment) (Err e) = (e ≡ Range) × ((t : Time) → ¬ (IsNamed date moment t))
+
+-- a relative date names at most one time from a moment
+abbrev pub AreNamedOnce : Type 0
+AreNamedOnce =
+    (date : RelativeDate) (moment : Zoned) (a b : Time) → IsNamed date moment a → IsNamed date moment b → a ≡ b
+
+-- each time that a relative date names is one of `jiff`: an instant, and an offset of a zone
+abbrev pub AreConvertible : Type 0
+AreConvertible = (date : RelativeDate) (moment : Zoned) (t : Time) → IsNamed date moment t → IsConvertible t

@@ -1,20 +1,16 @@
 -- What pairs of counts and units come to in a zone that keeps one offset.
-use Rattle.std.specs.Prelude.{◌≡◌, ◌⊎◌, ◌↔◌, ◌*◌, ℤ, pos, ◌+ℤ◌, ◌-ℤ◌, ◌*ℤ◌, ◌≤ℤ◌, FitsSigned, List, [], ◌∷◌, map, true}
+use Rattle.std.specs.Prelude.{◌≡◌, ◌⊎◌, ◌↔◌, ◌*◌, ℕ, ℤ, pos, ◌+ℤ◌, ◌-ℤ◌, ◌*ℤ◌, ◌≤ℤ◌, FitsSigned, List, [], ◌∷◌, map, Some, true}
 use Rattle.std.specs.Int.{w64}
 use Rattle.std.specs.List.{All}
-use Rattle.jiff.specs.Types.{Offset, TimeZone}
-use Rattle.jiff.specs.Words.{fixed_zone, nanos_of_seconds, zoned_nanos, IsTimestampNanos}
+use Rattle.std.specs.List.Sorted.{IsPermutation}
+use Rattle.jiff.specs.Words.{nanos_of_seconds, zoned_nanos, IsTimestampNanos}
 use Rattle.jiff.specs.declared.zoned.Zoned.{Zoned}
 use Rattle.gix_date.specs.Fields.ClockNumbers.{seconds_per_minute, seconds_per_hour, seconds_per_day}
-use Rattle.gix_date.specs.Relative.Dates.{RelativeDate, Less, Reaches, IsNamed}
+use Rattle.gix_date.specs.Relative.Dates.{RelativeDate, Less, Reaches, IsNamed, relative_date}
 use Rattle.gix_date.specs.Relative.Steps.{zone_of}
-use Rattle.gix_date.specs.Printing.Zoned.{IsMoment, is_instant}
+use Rattle.gix_date.specs.Printing.Zoned.{IsMoment, is_instant, time_in}
 use Rattle.gix_date.specs.declared.parsing.relative.words.TimeUnit.TheVariants.{Seconds, Months}
 use Rattle.gix_date.specs.declared.time.Time.{Time}
-
--- the zone is one that `jiff` makes of an offset, UTC among them
-abbrev pub IsFixedZone : TimeZone → Type 0
-IsFixedZone tz = (o : Offset) × (tz ≡ fixed_zone o)
 
 -- the seconds of a second, a minute, an hour, a day or a week
 abbrev pub IsUnitOfSeconds : ℤ → Type 0
@@ -76,3 +72,26 @@ abbrev pub NamesEarlier : RelativeDate → Time → ℤ → Type 0
 NamesEarlier date t seconds =
     (moment : Zoned) → IsMoment t moment
     → (r : Time) → IsNamed date moment r ↔ ((r ≡ earlier t seconds) × (is_instant r.seconds ≡ true))
+
+-- the date names the time of the instant so many seconds before the moment, where this is an instant, and nothing else
+abbrev pub NamesBefore : RelativeDate → Zoned → ℤ → Type 0
+NamesBefore date moment seconds =
+    let instant = zoned_nanos moment -ℤ nanos_of_seconds seconds in
+    (t : Time) → IsNamed date moment t ↔ ((t ≡ time_in (zone_of moment) instant) × IsTimestampNanos instant)
+
+-- pairs of seconds name the moment less their sum, and nothing else
+abbrev pub NamesSum : List (ℤ × ℤ) → Zoned → Type 0
+NamesSum pairs moment =
+    (instant : ℤ) → Names (less_seconds pairs) moment instant ↔ IsSecondsBefore pairs moment instant
+
+-- the same pairs in another order name the same
+abbrev pub IgnoresOrder : List (ℤ × ℤ) → Zoned → Type 0
+IgnoresOrder pairs moment =
+    (other : List (ℤ × ℤ)) → IsPermutation pairs other
+    → NamesAlike moment (less_seconds pairs) (less_seconds other)
+
+-- a relative text names no instant after the moment
+abbrev pub NamesNoneLater : List ℕ → Zoned → Type 0
+NamesNoneLater text moment =
+    (date : RelativeDate) (instant : ℤ) → relative_date text ≡ Some date → Names date moment instant
+    → instant ≤ℤ zoned_nanos moment

@@ -1,8 +1,12 @@
 //! Laws of families: how formatted dates are written, which families share texts, and whose answer comes first.
 ghost use Rattle.std.specs.Prelude.{◌≡◌, ◌≤◌, List, ℕ, is_some, filter, None, length};
-ghost use Rattle.gix_date.specs.Families.Order.{RawText, BareEpoch, GitForm, answers_before_git};
-ghost use Rattle.gix_date.specs.Families.Laws.{AreDisjoint, AreExclusive, AreOverlapping, ComesFirst, IsWidened, IgnoresMoment, Holds};
-ghost use Rattle.gix_date.specs.Families.Raw.{OffsetRule, allows, is_raw_offset, is_wide_offset};
+ghost use Rattle.gix_date.specs.Families.Order.{RawText, BareEpoch, Iso8601, Iso8601Strict, GitForm, answers_before_git};
+ghost use Rattle.gix_date.specs.Families.Laws.{Agree, AnswersWithinDay, AreDisjoint, AreExclusive, AreOverlapping, ComesFirst, IsWidened, IgnoresMoment, HasOneOutcome, Holds, IsWritable};
+ghost use Rattle.gix_date.specs.Families.Raw.{OffsetRule, allows, is_raw_offset, is_wide_offset, raw_time_by};
+ghost use Rattle.gix_date.specs.Families.Epoch.{at_time, epoch_time};
+ghost use Rattle.gix_date.specs.Families.Grammars.{IsAtText, IsEpochText, IsRawText};
+ghost use Rattle.gix_date.specs.Git.Forms.{git_time};
+ghost use Rattle.gix_date.specs.Git.Grammar.{IsGitText};
 ghost use Rattle.gix_date.specs.Relative.Dates.{relative_date};
 ghost use Rattle.gix_date.specs.Families.Shapes.{IsDispatched, IsInItsRow};
 ghost use Rattle.gix_date.specs.Families.Patterns.{short_layout, rfc2822_layout, iso8601_layout, iso8601_strict_layout, gitoxide_layout, default_layout, time_answer, real_day_answer, short_answer, rfc2822_answer, iso8601_answer, iso8601_strict_answer, gitoxide_answer, default_answer, Spells, IsAnswered};
@@ -19,6 +23,20 @@ pub fn spelled()
     ensures strict { Spells iso8601_strict_answer (IsAnswered iso8601_strict_layout time_answer) }
     ensures gitoxide { Spells gitoxide_answer (IsAnswered gitoxide_layout time_answer) }
     ensures by_default { Spells default_answer (IsAnswered default_layout time_answer) }
+{}
+
+/// At texts, bare epochs and raw texts, by either rule. Each family answers what the digits say, and holds each text that
+/// is written so.
+pub fn spelled_numbers(raw: RawOffsets)
+    ensures at_text { Spells (at_time (allows raw)) (IsAtText (allows raw)) }
+    ensures epoch { Spells epoch_time IsEpochText }
+    ensures raw_text { Spells (raw_time_by (allows raw)) (IsRawText (allows raw)) }
+{}
+
+/// Git's own forms hold exactly the texts that are a date, a gap and a rest, with white space around them. The rest is
+/// cut into a clock and an offset (`IsCut`).
+pub fn spelled_git()
+    ensures { Spells git_time IsGitText }
 {}
 
 /// No text is of two of the families before Git's own forms, by any rule for the offsets of raw texts.
@@ -49,9 +67,15 @@ pub fn overlapping()
     ensures { AreOverlapping }
 {}
 
-/// The answer of a family that holds the text is the one that `parse_with` uses, by either rule. For a Git text neither
-/// ISO 8601 nor its strict form may hold it. For a relative text no Git form may. Only for a relative text does the
-/// result depend on the moment.
+/// Where ISO 8601 or its strict form and one of Git's own forms hold a text, they answer the same. So their order does not
+/// matter.
+pub fn agree(text: &str, raw: RawOffsets)
+    ensures iso8601 { Agree (allows raw) Iso8601 GitForm text.now }
+    ensures strict { Agree (allows raw) Iso8601Strict GitForm text.now }
+{}
+
+/// The answer of a family that holds the text is the one that `parse_with` uses, by either rule. A relative text has to
+/// be of no Git form. Only for a relative text does the result depend on the moment.
 pub fn comes_first(text: &str, raw: RawOffsets)
     ensures { ComesFirst (allows raw) text.now }
 {}
@@ -83,4 +107,16 @@ pub fn ignores_moment(text: &str, raw: RawOffsets)
     ensures raw { Holds (allows raw) RawText text.now → IgnoresMoment (allows raw) text.now }
     ensures epoch { Holds (allows raw) BareEpoch text.now → IgnoresMoment (allows raw) text.now }
     ensures git { Holds (allows raw) GitForm text.now → IgnoresMoment (allows raw) text.now }
+{}
+
+/// A time that a text itself gives has an offset of at most 23:59. Each time that `parse_with` answers has a header text.
+/// Both hold by either rule.
+pub fn ranges(text: &str, raw: RawOffsets)
+    ensures absolute { AnswersWithinDay (allows raw) text.now }
+    ensures written { IsWritable (allows raw) text.now }
+{}
+
+/// The answer of the first family and the moment determine the result of a call that takes no memory.
+pub fn one_outcome()
+    ensures { HasOneOutcome }
 {}

@@ -1,20 +1,17 @@
 //! Laws of what is printed: the named formats, their texts, and what is parsed back.
 ghost use Rattle.std.specs.Prelude.{◌≡◌, ◌↔◌, ◌≤◌, ◌≤ℤ◌, ℤ, map, [], ◌∷◌, IsSomeAnd, Some};
-ghost use Rattle.gix_date.specs.Families.Answer.{Absolute};
-ghost use Rattle.gix_date.specs.Families.Epoch.{utc_time, min_bare_epoch};
-ghost use Rattle.gix_date.specs.Text.Numbers.{decimal_text};
-ghost use Rattle.gix_date.specs.Families.Order.{first_family, first_family_by};
-ghost use Rattle.gix_date.specs.Header.Text.{header_text};
-ghost use Rattle.gix_date.specs.Families.Raw.{is_raw_offset, is_wide_offset};
+ghost use Rattle.gix_date.specs.Families.Raw.{allows, is_raw_offset, is_wide_offset};
 ghost use Rattle.gix_date.specs.declared.time.format.Format.TheVariants.{Unix, Raw};
 ghost use Rattle.jiff.specs.Words.{plain_zoned};
 ghost use Rattle.jiff.specs.declared.zoned.Zoned.{Zoned as Moment};
 ghost use Rattle.gix_date.specs.Printing.LocalClocks.{clock_of, HasOrdinaryClock};
-ghost use Rattle.gix_date.specs.Printing.ReadingBack.{IsPlainTime, AreReadBack, IsKept, IsRawOffset, IsWideOffset};
-ghost use Rattle.gix_date.specs.Printing.Zoned.{IsMoment};
+ghost use Rattle.gix_date.specs.Printing.ReadingBack.{IsPlainTime, AreReadBack, IsKept, HeaderIsReadBack, SecondsAreReadBack, ShortIsReadBack};
+ghost use Rattle.gix_date.specs.Printing.Zoned.{IsMoment, IsConvertible};
+ghost use Rattle.gix_date.specs.declared.parsing.raw.RawOffsets.TheVariants.{Quarter, WholeMinutes};
 ghost use Rattle.gix_date.specs.Printing.PrintedTimes.{IsPrintedAs};
 ghost use Rattle.gix_date.specs.Printing.NamedTexts.{local_time, IsOrdinary, short_pattern, short_text, rfc2822_pattern, rfc2822_text, git_rfc2822_pattern, git_rfc2822_text, iso8601_pattern, iso8601_text, iso8601_strict_pattern, iso8601_strict_text, gitoxide_pattern, gitoxide_text, default_pattern, default_text};
 
+use crate::parsing::raw::RawOffsets;
 use crate::time::Time;
 use crate::time::format::{
     CustomFormat, DEFAULT, Format, GIT_RFC2822, GITOXIDE, ISO8601, ISO8601_STRICT, RAW, RFC2822,
@@ -81,19 +78,24 @@ pub fn read_back_wide(time: Time)
     ensures texts { IsKept is_wide_offset time }
 {}
 
+/// What [`SHORT`] prints of a time is parsed as midnight in UTC of the day that the time's own clock shows. For
+/// 9999-12-31 that midnight is no instant, so `parse` refuses this text. The time has to convert, and its clock to be
+/// ordinary.
+pub fn short_read_back(time: Time, raw: RawOffsets)
+    requires converts { IsConvertible time }
+    requires ordinary { HasOrdinaryClock time }
+    ensures { ShortIsReadBack (allows raw) time }
+{}
+
 /// The header text of a time whose offset is quarters of an hour up to 14:45 is parsed back to it. The decimal text of
 /// seconds from 100000000 on is parsed back to these seconds with offset 0. Both hold at every moment and without one.
 pub fn raw_read_back(time: Time)
-    ensures header { IsRawOffset time.offset
-        → IsSomeAnd (header_text time) (λ text. first_family text ≡ Some (Absolute time)) }
-    ensures seconds { min_bare_epoch ≤ℤ time.seconds
-        → first_family (decimal_text time.seconds) ≡ Some (Absolute (utc_time time.seconds)) }
+    ensures header { HeaderIsReadBack Quarter time }
+    ensures seconds { SecondsAreReadBack Quarter time.seconds }
 {}
 
 /// The same of `parse_with`, for header texts whose offset is whole minutes up to 23:59.
 pub fn raw_read_back_wide(time: Time)
-    ensures header { IsWideOffset time.offset
-        → IsSomeAnd (header_text time) (λ text. first_family_by is_wide_offset text ≡ Some (Absolute time)) }
-    ensures seconds { min_bare_epoch ≤ℤ time.seconds
-        → first_family_by is_wide_offset (decimal_text time.seconds) ≡ Some (Absolute (utc_time time.seconds)) }
+    ensures header { HeaderIsReadBack WholeMinutes time }
+    ensures seconds { SecondsAreReadBack WholeMinutes time.seconds }
 {}

@@ -1,8 +1,10 @@
 //! Laws of commit headers: which come back, and which times are written alike.
 ghost use Rattle.std.specs.Prelude.{◌≡◌, ◌<◌, ◌%◌, unsigned_abs};
-ghost use Rattle.gix_date.specs.Header.Laws.{CanonicalComesBack, ComesBackFromHeader, AreWrittenAlike};
+ghost use Rattle.gix_date.specs.Header.Laws.{CanonicalComesBack, ComesBackFromHeader, AreWrittenAlike, RawIsHeader, HeaderIsParsed};
+ghost use Rattle.gix_date.specs.Families.Raw.{allows};
 ghost use Rattle.gix_date.specs.Header.Text.{hundred_hours};
 
+use crate::parsing::raw::RawOffsets;
 use crate::time::Time;
 
 /// Reading a header and writing it gives the same text exactly where the text is canonical. A canonical header is the
@@ -25,4 +27,11 @@ pub fn alike(a: Time, b: Time)
     requires first { unsigned_abs a.offset < hundred_hours }
     requires second { unsigned_abs b.offset < hundred_hours }
     ensures { AreWrittenAlike a b }
+{}
+
+/// A raw text is a header of the same time, by either rule. A canonical header whose offset the rule allows is parsed to
+/// the same time.
+pub fn raw_is_header(text: &str, raw: RawOffsets)
+    ensures read { RawIsHeader (allows raw) text.now }
+    ensures canonical { HeaderIsParsed raw text.now }
 {}

@@ -1,45 +1,53 @@
-//! Laws of relative dates: that each names one time, and how pairs add up in a zone of fixed offset.
-ghost use Rattle.std.specs.Prelude.{◌≡◌, ◌↔◌, ◌≤◌, List, ℤ, [], ◌∷◌, pos, FitsSigned};
+//! Laws of relative dates: how their texts are written, that each names one time, and how pairs add up at one offset.
+ghost use Rattle.std.specs.Prelude.{◌≤◌, [], ◌∷◌, pos, FitsSigned};
 ghost use Rattle.std.specs.Int.{w64};
 ghost use Rattle.std.specs.List.{All};
-ghost use Rattle.std.specs.List.Sorted.{IsPermutation};
-ghost use Rattle.gix_date.specs.Relative.FixedZones.{IsFixedZone, IsSecondsPair, IsMonthsPair, less_seconds, less_months, total, Names, NamesAlike, IsSecondsBefore, NamesEarlier};
-ghost use Rattle.gix_date.specs.Relative.Dates.{RelativeDate, Before, IsNamed};
+ghost use Rattle.gix_date.specs.Relative.FixedZones.{IsSecondsPair, IsMonthsPair, less_seconds, less_months, total, NamesAlike, NamesSum, IgnoresOrder, NamesEarlier, NamesBefore, NamesNoneLater};
+ghost use Rattle.gix_date.specs.Relative.Dates.{Before, AreNamedOnce, AreConvertible};
+ghost use Rattle.gix_date.specs.Relative.Pairs.{IsSpelledSo};
 ghost use Rattle.gix_date.specs.Relative.Steps.{zone_of};
-ghost use Rattle.jiff.specs.Words.{plain_zoned};
-ghost use Rattle.jiff.specs.declared.zoned.Zoned.{Zoned as Moment};
+ghost use Rattle.jiff.specs.Words.{plain_zoned, IsFixed};
 
 use crate::time::Time;
 use jiff::Zoned;
 
 /// A relative date names at most one time from each moment.
 pub fn named_once()
-    ensures { (date : RelativeDate) (moment : Moment) (a b : Time)
-        → IsNamed date moment a → IsNamed date moment b → a ≡ b }
+    ensures { AreNamedOnce }
 {}
 
-/// In a zone of fixed offset `yesterday` and one pair of a day name the same instant, or neither names an instant.
+/// Each time that a relative date names is an instant of `jiff`, at an offset of at most 25:59:59.
+pub fn named_converts()
+    ensures { AreConvertible }
+{}
+
+/// Relative texts are the names `now`, `today` and `yesterday` and the texts whose words are pairs. In pairs some count has
+/// a period. Each period of a count is a unit, or some free word is `ago`.
+pub fn spelled_relative(text: &str)
+    ensures { IsSpelledSo text.now }
+{}
+
+/// In a zone of one offset `yesterday` and one pair of a day name the same instant, or neither names an instant. Such a
+/// zone is UTC, an unknown zone, or one that `jiff` makes of an offset.
 pub fn yesterday(moment: &Zoned<'_>)
-    requires fixed { IsFixedZone (zone_of moment.now) }
+    requires fixed { IsFixed (zone_of moment.now) }
     ensures { NamesAlike moment.now (Before (pos 86_400)) (less_seconds ((pos 1, pos 86_400) ∷ [])) }
 {}
 
-/// In a zone of fixed offset pairs of seconds name the moment less their sum. An `i64` has to hold each product, and
-/// the result has to be an instant. They name nothing else, so their order does not matter. In a zone whose clock goes
-/// back a pair may do more than subtract seconds.
+/// In a zone of one offset pairs of seconds name the moment less their sum. An `i64` has to hold each product, and the
+/// result has to be an instant. They name nothing else, so their order does not matter. In a zone whose clock goes back a
+/// pair may do more than subtract seconds.
 pub fn seconds_permute(moment: &Zoned<'_>, pairs: &[(i64, i64)])
-    requires fixed { IsFixedZone (zone_of moment.now) }
+    requires fixed { IsFixed (zone_of moment.now) }
     requires pairs { All IsSecondsPair pairs.now }
-    ensures sum { (instant : ℤ) → Names (less_seconds pairs.now) moment.now instant
-        ↔ IsSecondsBefore pairs.now moment.now instant }
-    ensures order { (other : List (ℤ × ℤ)) → IsPermutation pairs.now other
-        → NamesAlike moment.now (less_seconds pairs.now) (less_seconds other) }
+    ensures sum { NamesSum pairs.now moment.now }
+    ensures order { IgnoresOrder pairs.now moment.now }
 {}
 
-/// In a zone of fixed offset pairs of months name what one pair of their sum names, or neither names an instant. This
+/// In a zone of one offset pairs of months name what one pair of their sum names, or neither names an instant. This
 /// needs a day of the month up to the 28th: for a later one a month between may be too short.
 pub fn months_add(moment: &Zoned<'_>, pairs: &[(i64, i64)])
-    requires fixed { IsFixedZone (zone_of moment.now) }
+    requires fixed { IsFixed (zone_of moment.now) }
     requires pairs { All IsMonthsPair pairs.now }
     requires sum { FitsSigned w64 (total pairs.now) }
     requires day { (plain_zoned moment.now).datetime.date.day ≤ 28 }
@@ -52,4 +60,19 @@ pub fn earlier(time: Time, pairs: &[(i64, i64)])
     requires { All IsSecondsPair pairs.now }
     ensures yesterday { NamesEarlier (Before (pos 86_400)) time (pos 86_400) }
     ensures pairs { NamesEarlier (less_seconds pairs.now) time (total pairs.now) }
+{}
+
+/// In a zone of one offset `yesterday` and pairs of seconds name the instant that many seconds before the moment. They
+/// name nothing else. The moment may have a fraction of a second.
+pub fn seconds_before(moment: &Zoned<'_>, pairs: &[(i64, i64)])
+    requires fixed { IsFixed (zone_of moment.now) }
+    requires pairs { All IsSecondsPair pairs.now }
+    ensures yesterday { NamesBefore (Before (pos 86_400)) moment.now (pos 86_400) }
+    ensures pairs { NamesBefore (less_seconds pairs.now) moment.now (total pairs.now) }
+{}
+
+/// In a zone of one offset a relative text names no instant after the moment.
+pub fn never_later(text: &str, moment: &Zoned<'_>)
+    requires fixed { IsFixed (zone_of moment.now) }
+    ensures { NamesNoneLater text.now moment.now }
 {}

@@ -1,7 +1,7 @@
 //! Where the clock of a Git text ends, and its offset begins.
 ghost use Rattle.std.specs.Prelude.{◌≡◌, ◌<◌, length, IfSome, option_map, slice_index};
 ghost use Rattle.gix_date.specs.Git.ClockCut.{clock_cut, has_offset_at, is_sign, cut_at_sign, last_sign, cut_at_space, cut_at_z};
-ghost use Rattle.gix_date.specs.Private.Cuts.{IsCut};
+ghost use Rattle.gix_date.specs.Git.Cuts.{IsCut};
 
 /// The slices of a text, already trimmed, that are its clock and its offset: the first of these cuts that there is.
 ///

@@ -3,7 +3,7 @@ ghost use Rattle.std.specs.Prelude.{◌≡◌, ◌↔◌, IsTrue};
 ghost use Rattle.gix_date.specs.Private.RelativeScan.{step, verdict};
 ghost use Rattle.gix_date.specs.Relative.Words.{relative_words};
 ghost use Rattle.gix_date.specs.Relative.Roles.{are_pairs};
-ghost use Rattle.gix_date.specs.Private.Pairs.{ArePairs};
+ghost use Rattle.gix_date.specs.Relative.Pairs.{ArePairs};
 
 use crate::parsing::relative::words::{has_unit, is_ago, is_count_word, next_word};
 

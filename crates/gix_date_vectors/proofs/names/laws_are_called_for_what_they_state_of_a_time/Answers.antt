@@ -3,16 +3,17 @@ use Rattle.jiff.specs.Words.{plain_zoned}
 use Rattle.gix_date.specs.Fields.Layout.{LocalTime}
 use Rattle.gix_date.specs.Printing.LocalClocks.{clock_of, date_of_day}
 use Rattle.gix_date.specs.declared.time.Time.{Time}
+use Rattle.gix_date.proofs.FixedTimes.{moment-fixed}
 use Rattle.gix_date_vectors.proofs.names.laws_are_called_for_what_they_state_of_a_time.Goals as goal
 
 pub yesterday-requires : goal.yesterday-requires
-yesterday-requires g c = let m = c.in_ok-moment.ensures.value in record { fixed = (m.zone.0, m.zone.2) }
+yesterday-requires g c = record { fixed = moment-fixed _ c.in_ok-moment.moment c.in_ok-moment.ensures.value }
 
 pub seconds_permute-requires-clause-fixed : goal.seconds_permute-requires-clause-fixed
-seconds_permute-requires-clause-fixed g c = let m = c.in_ok-moment.ensures.value in (m.zone.0, m.zone.2)
+seconds_permute-requires-clause-fixed g c = moment-fixed _ c.in_ok-moment.moment c.in_ok-moment.ensures.value
 
 pub months_add-requires-clause-fixed : goal.months_add-requires-clause-fixed
-months_add-requires-clause-fixed g c = let m = c.in_ok-moment.ensures.value in (m.zone.0, m.zone.2)
+months_add-requires-clause-fixed g c = moment-fixed _ c.in_ok-moment.moment c.in_ok-moment.ensures.value
 
 -- its own clock shows 2022-08-19, and so does the moment's
 pub months_add-requires-clause-day : goal.months_add-requires-clause-day

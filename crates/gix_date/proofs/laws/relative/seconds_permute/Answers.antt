@@ -3,14 +3,15 @@ use Rattle.std.proofs.lemmas.List.Sorted.{All-permutation, IsPermutation-sym, su
 use Rattle.jiff.specs.Words.{plain_zoned, zoned_nanos}
 use Rattle.gix_date.specs.Relative.FixedZones.{ProductFits, product, total}
 use Rattle.gix_date.specs.Relative.Steps.{zone_of}
-use Rattle.gix_date.proofs.FixedZones.{IsLoss, total-sum_by, seconds-law, same-seconds, all-seconds-loss}
+use Rattle.gix_date.proofs.FixedSteps.{seconds-in}
+use Rattle.gix_date.proofs.FixedZones.{IsLoss, total-sum_by, same-seconds, all-seconds-loss}
 use Rattle.gix_date.proofs.laws.relative.seconds_permute.Goals as goal
 
 pub returns-clause-sum : goal.returns-clause-sum
 returns-clause-sum c =
     let z = c.args.moment.now in
     let pairs = c.args.pairs.now in
-    seconds-law (zone_of z) c.requires.fixed.0 c.requires.fixed.1 pairs (zoned_nanos z) (all-seconds-loss pairs c.requires.pairs)
+    seconds-in (zone_of z) c.requires.fixed pairs (zoned_nanos z) (all-seconds-loss pairs c.requires.pairs)
     (plain_zoned z).timestamp.in_range
 
 pub returns-clause-order : goal.returns-clause-order
@@ -24,5 +25,5 @@ returns-clause-order c other h =
     let range = (plain_zoned z).timestamp.in_range in
     same-seconds (zone_of z) pairs other (zoned_nanos z) same
     (All-permutation ProductFits pairs other h, All-permutation ProductFits other pairs (IsPermutation-sym pairs other h))
-    (seconds-law (zone_of z) c.requires.fixed.0 c.requires.fixed.1 pairs (zoned_nanos z) loss range)
-    (seconds-law (zone_of z) c.requires.fixed.0 c.requires.fixed.1 other (zoned_nanos z) other_loss range)
+    (seconds-in (zone_of z) c.requires.fixed pairs (zoned_nanos z) loss range)
+    (seconds-in (zone_of z) c.requires.fixed other (zoned_nanos z) other_loss range)

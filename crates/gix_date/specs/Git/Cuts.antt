@@ -1,4 +1,4 @@
--- Cuts of a clock as facts, for the reader that finds them.
+-- Cuts of a clock as facts.
 use Rattle.std.specs.Prelude.{◌≡◌, ℕ, ◌<◌, Bool, true, false, List, [], ◌∷◌, ◌++◌, length, take, drop, ◌==◌, slice_index}
 use Rattle.gix_date.specs.Text.Characters.{space, letter_z}
 use Rattle.gix_date.specs.Git.ClockCut.{is_sign, has_offset_at, trimmed_after}

@@ -1,0 +1,5 @@
+use Rattle.gix_date.proofs.Chains.{one-outcome}
+use Rattle.gix_date.proofs.laws.families.one_outcome.Goals as goal
+
+pub returns : goal.returns
+returns c = one-outcome

@@ -1,0 +1,5 @@
+use Rattle.gix_date.proofs.RelativeGrammar.{relative-spelled}
+use Rattle.gix_date.proofs.laws.relative.spelled_relative.Goals as goal
+
+pub returns : goal.returns
+returns c = relative-spelled c.args.text.now c.utf8.text
