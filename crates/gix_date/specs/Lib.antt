@@ -7,4 +7,5 @@ pub mod Families
 pub mod Printing
 pub mod Devices
 pub mod Private
+pub mod Values
 pub mod Computing

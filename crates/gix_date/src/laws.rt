@@ -1,9 +1,9 @@
 //! Laws: each is the contract of a function. Only [`headline`] and [`headline_with`] do anything when they run.
 ghost use Rattle.gix_date.specs.Families.Order.{first_family, first_family_by, ParseOutcome};
-ghost use Rattle.gix_date.specs.Families.Laws.{AreDisjoint};
+ghost use Rattle.gix_date.specs.Families.Laws.{AreDisjoint, AreExclusive};
 ghost use Rattle.gix_date.specs.Header.Laws.{CanonicalComesBack};
 ghost use Rattle.gix_date.specs.Families.Raw.{allows, is_raw_offset};
-ghost use Rattle.gix_date.specs.Printing.ReadingBack.{IsPlainTime, AreReadBack};
+ghost use Rattle.gix_date.specs.Printing.ReadingBack.{PlainTimesComeBack};
 
 use crate::error::Error;
 use crate::parsing::dates::{parse, parse_with};
@@ -33,24 +33,27 @@ mod headers;
 mod relative;
 mod values;
 
-/// The whole promise, in four parts.
+/// The whole promise, in five parts.
 ///
 /// - For every text, moment and zone, [`parse`] gives the answer or refusal of the first family in its list that holds
 ///   the text. This function returns what `parse` gives.
 /// - Raw texts, bare epochs and Git's own forms exclude one another. No raw text or bare epoch is relative.
+/// - No text is of two families, but Git's own forms share texts with ISO 8601, its strict form and relative texts.
 /// - Reading a header and writing it gives the same text exactly where the text is canonical.
 /// - The texts of the six named formats with a clock are parsed back to the time. The time has to convert, its own
 ///   clock to show a year from 1000 to 9999, and its offset to be whole minutes within 23:59.
 ///
 /// This holds unless memory runs out or the writer fails. The parts are the contract of `parse` and the laws
-/// [`disjoint`], [`canonical`] and [`read_back`].
+/// [`disjoint`], [`exclusive`], [`canonical`] and [`read_back`].
 pub fn headline(alloc: Global, text: &str, now: Option<Zoned<'_>>) -> Result<Time, Error>
     ensures first_family { ParseOutcome (first_family text.now) text.now now.entry result }
-    ensures exclusive { AreDisjoint is_raw_offset text.now }
+    ensures disjoint { AreDisjoint is_raw_offset text.now }
+    ensures exclusive { AreExclusive is_raw_offset text.now }
     ensures canonical { CanonicalComesBack text.now }
-    ensures read_back { (time : Time) → IsPlainTime time → AreReadBack is_raw_offset time }
+    ensures read_back { PlainTimesComeBack is_raw_offset }
 {
     disjoint(text);
+    exclusive(text, RawOffsets::Quarter);
     canonical(text);
     parse(alloc, text, now)
 }
@@ -64,10 +67,12 @@ pub fn headline_with(
     raw: RawOffsets,
 ) -> Result<Time, Error>
     ensures first_family { ParseOutcome (first_family_by (allows raw) text.now) text.now now.entry result }
-    ensures exclusive { AreDisjoint (allows raw) text.now }
+    ensures disjoint { AreDisjoint (allows raw) text.now }
+    ensures exclusive { AreExclusive (allows raw) text.now }
     ensures canonical { CanonicalComesBack text.now }
-    ensures read_back { (time : Time) → IsPlainTime time → AreReadBack (allows raw) time }
+    ensures read_back { PlainTimesComeBack (allows raw) }
 {
+    exclusive(text, raw);
     canonical(text);
     parse_with(alloc, text, now, raw)
 }

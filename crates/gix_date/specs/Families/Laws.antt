@@ -1,9 +1,9 @@
 -- Which families hold texts of one another, and what follows for the answer of the first.
-use Rattle.std.specs.Prelude.{◌≡◌, ◌≢◌, ◌⊎◌, ◌≤◌, ℕ, Bool, true, false, List, IsUtf8, Option, Some, None, is_some, IsSome, Result, Ok, unsigned_abs}
+use Rattle.std.specs.Prelude.{◌≡◌, ◌≢◌, ◌⊎◌, ◌≤◌, ℕ, Bool, true, false, List, length, filter, IsUtf8, Option, Some, None, is_some, IsSome, Result, Ok, unsigned_abs}
 use Rattle.jiff.specs.declared.zoned.Zoned.{Zoned}
 use Rattle.gix_date.specs.Families.Answer.{FamilyAnswer, Absolute, Relative}
 use Rattle.gix_date.specs.Families.Epoch.{epoch_time}
-use Rattle.gix_date.specs.Families.Order.{Family, AtText, RawText, Iso8601, Iso8601Strict, GitForm, RelativeText, family_answer, first_family_by, ParseNoAllocOutcome, ParseOutcome}
+use Rattle.gix_date.specs.Families.Order.{Family, AtText, RawText, Iso8601, Iso8601Strict, GitForm, RelativeText, family_answer, answers_before_git, first_family_by, ParseNoAllocOutcome, ParseOutcome}
 use Rattle.gix_date.specs.Git.Forms.{git_time}
 use Rattle.gix_date.specs.Families.Patterns.{max_date_offset}
 use Rattle.gix_date.specs.Header.Text.{header_text}
@@ -25,6 +25,10 @@ pub record AreDisjoint (rule : OffsetRule) (text : List ℕ) : Type 0 where
 -- a family holds the text
 abbrev pub Holds : OffsetRule → Family → List ℕ → Type 0
 Holds rule family text = is_some (family_answer rule family text) ≡ true
+
+-- no text is of two of the families before Git's own forms
+abbrev pub AreApart : Type 0
+AreApart = (rule : OffsetRule) (text : List ℕ) → length (filter is_some (answers_before_git rule text)) ≤ 1
 
 -- two different families that share a text
 abbrev pub overlap : Family → Family → Bool
@@ -87,8 +91,8 @@ AnswersWithinDay rule text =
     (t : Time) → first_family_by rule text ≡ Some (Absolute t) → unsigned_abs t.offset ≤ max_date_offset
 
 -- each time that a call with this text may answer has a header text
-abbrev pub IsWritable : OffsetRule → List ℕ → Type 0
-IsWritable rule text =
+abbrev pub AnswersHaveText : OffsetRule → List ℕ → Type 0
+AnswersHaveText rule text =
     (now : Option Zoned) (t : Time) → ParseNoAllocOutcome (first_family_by rule text) now (Ok t)
     → IsSome (header_text t)
 

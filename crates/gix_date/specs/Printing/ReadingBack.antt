@@ -42,6 +42,10 @@ pub record AreReadBack (rule : OffsetRule) (t : Time) : Type 0 where
   pub gitoxide : IsReadBack rule gitoxide_pattern gitoxide_text t
   pub by_default : IsReadBack rule default_pattern default_text t
 
+-- so for each plain time
+abbrev pub PlainTimesComeBack : OffsetRule → Type 0
+PlainTimesComeBack rule = (t : Time) → IsPlainTime t → AreReadBack rule t
+
 -- the pattern of one of these six
 abbrev pub HasClock : List ℕ → Type 0
 HasClock pattern =

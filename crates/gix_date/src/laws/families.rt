@@ -1,8 +1,8 @@
 //! Laws of families: how formatted dates are written, which families share texts, and whose answer comes first.
-ghost use Rattle.std.specs.Prelude.{◌≡◌, ◌≤◌, List, ℕ, is_some, filter, None, length};
-ghost use Rattle.gix_date.specs.Families.Order.{RawText, BareEpoch, Iso8601, Iso8601Strict, GitForm, answers_before_git};
-ghost use Rattle.gix_date.specs.Families.Laws.{Agree, AnswersWithinDay, AreDisjoint, AreExclusive, AreOverlapping, ComesFirst, IsWidened, IgnoresMoment, HasOneOutcome, Holds, IsWritable};
-ghost use Rattle.gix_date.specs.Families.Raw.{OffsetRule, allows, is_raw_offset, is_wide_offset, raw_time_by};
+ghost use Rattle.std.specs.Prelude.{◌≡◌, None};
+ghost use Rattle.gix_date.specs.Families.Order.{RawText, BareEpoch, Iso8601, Iso8601Strict, GitForm};
+ghost use Rattle.gix_date.specs.Families.Laws.{Agree, AnswersWithinDay, AreApart, AreDisjoint, AreExclusive, AreOverlapping, ComesFirst, IsWidened, IgnoresMoment, HasOneOutcome, Holds, AnswersHaveText};
+ghost use Rattle.gix_date.specs.Families.Raw.{allows, is_raw_offset, is_wide_offset, raw_time_by};
 ghost use Rattle.gix_date.specs.Families.Epoch.{at_time, epoch_time};
 ghost use Rattle.gix_date.specs.Families.Grammars.{IsAtText, IsEpochText, IsRawText};
 ghost use Rattle.gix_date.specs.Git.Forms.{git_time};
@@ -41,7 +41,7 @@ pub fn spelled_git()
 
 /// No text is of two of the families before Git's own forms, by any rule for the offsets of raw texts.
 pub fn apart()
-    ensures { (rule : OffsetRule) (text : List ℕ) → length (filter is_some (answers_before_git rule text)) ≤ 1 }
+    ensures { AreApart }
 {}
 
 /// No text is of two of these families: raw texts, bare epochs and Git's own forms. No raw text or bare epoch is
@@ -113,7 +113,7 @@ pub fn ignores_moment(text: &str, raw: RawOffsets)
 /// Both hold by either rule.
 pub fn ranges(text: &str, raw: RawOffsets)
     ensures absolute { AnswersWithinDay (allows raw) text.now }
-    ensures written { IsWritable (allows raw) text.now }
+    ensures written { AnswersHaveText (allows raw) text.now }
 {}
 
 /// The answer of the first family and the moment determine the result of a call that takes no memory.

@@ -1,14 +1,12 @@
 //! Laws of values: constants, limits, clones, equality, order and hash, and white space.
-ghost use Rattle.std.specs.Prelude.{◌≡◌, ◌↔◌, ◌++◌, pos, neg_ℤ, length, IfSome, IsTrue};
-ghost use Rattle.std.specs.declared.cmp.Ordering.TheVariants.{Equal};
-ghost use Rattle.std.specs.Hash as fed;
-ghost use Rattle.std.specs.Ordering.{int_cmp, on, then_cmp};
+ghost use Rattle.std.specs.Prelude.{◌≡◌, pos, neg_ℤ, length, IfSome};
 ghost use Rattle.gix_date.specs.Families.Epoch.{min_bare_epoch};
 ghost use Rattle.gix_date.specs.Header.Text.{header_text, hundred_hours, max_text_len};
 ghost use Rattle.gix_date.specs.Families.Raw.{max_raw_hours, max_wide_hours, max_wide_minutes};
 ghost use Rattle.gix_date.specs.Text.SpaceWords.{StdWhiteSpaceIsUnicodes};
 ghost use Rattle.gix_date.specs.Devices.TimeBuf.{text_in};
 ghost use Rattle.gix_date.specs.Families.Patterns.{max_date_offset};
+ghost use Rattle.gix_date.specs.Values.{ComparesParts, AgreesWith, IsEquality, FeedsParts, FeedsAlike};
 
 use crate::error::ParseError;
 use crate::parsing::TimeBuf;
@@ -55,24 +53,22 @@ pub fn clones()
 /// Times are ordered by their seconds, and then by their offset. Two times are equal in this order exactly where `==`
 /// holds.
 pub fn order()
-    ensures by_parts { (a b : Time)
-        → ⟦<Time as Ord>⟧.cmp a b ≡ then_cmp (on (λ t. t.seconds) int_cmp) (on (λ t. t.offset) int_cmp) a b }
-    ensures agrees { (a b : Time) → (⟦<Time as Ord>⟧.cmp a b ≡ Equal) ↔ IsTrue (⟦<Time as PartialEq>⟧.eq a b) }
+    ensures by_parts { ComparesParts ⟦<Time as Ord>⟧.cmp }
+    ensures agrees { AgreesWith ⟦<Time as Ord>⟧.cmp ⟦<Time as PartialEq>⟧.eq }
 {}
 
 /// Times are equal by `==` exactly where both numbers are the same. The same is so of rules for raw offsets and of
 /// `ParseError`s.
 pub fn equality()
-    ensures time { (a b : Time) → IsTrue (⟦<Time as PartialEq>⟧.eq a b) ↔ (a ≡ b) }
-    ensures rule { (a b : RawOffsets) → IsTrue (⟦<RawOffsets as PartialEq>⟧.eq a b) ↔ (a ≡ b) }
-    ensures refusal { (a b : ParseError) → IsTrue (⟦<ParseError as PartialEq>⟧.eq a b) ↔ (a ≡ b) }
+    ensures time { IsEquality ⟦<Time as PartialEq>⟧.eq }
+    ensures rule { IsEquality ⟦<RawOffsets as PartialEq>⟧.eq }
+    ensures refusal { IsEquality ⟦<ParseError as PartialEq>⟧.eq }
 {}
 
 /// A time feeds a hasher its seconds and then its offset. So equal times hash alike.
 pub fn hash()
-    ensures input { (a : Time) → ⟦<Time as Hash>⟧.hash_input a ≡ fed.i64 a.seconds ++ fed.i32 a.offset }
-    ensures alike { (a b : Time) → IsTrue (⟦<Time as PartialEq>⟧.eq a b)
-        → ⟦<Time as Hash>⟧.hash_input a ≡ ⟦<Time as Hash>⟧.hash_input b }
+    ensures input { FeedsParts ⟦<Time as Hash>⟧.hash_input }
+    ensures alike { FeedsAlike ⟦<Time as PartialEq>⟧.eq ⟦<Time as Hash>⟧.hash_input }
 {}
 
 /// The white space between words is that of the standard library, which is Unicode's White_Space: these characters and

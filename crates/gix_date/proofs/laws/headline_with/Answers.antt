@@ -3,8 +3,8 @@ use Rattle.gix_date.proofs.Disjoint.{are-disjoint}
 use Rattle.gix_date.proofs.PrintedBack.{are-read-back}
 use Rattle.gix_date.proofs.laws.headline_with.Goals as goal
 
-pub returns-clause-exclusive : goal.returns-clause-exclusive
-returns-clause-exclusive c = are-disjoint (allows c.args.raw) c.args.text.now c.utf8.text
+pub returns-clause-disjoint : goal.returns-clause-disjoint
+returns-clause-disjoint c = are-disjoint (allows c.args.raw) c.args.text.now c.utf8.text
 
 pub returns-clause-read_back : goal.returns-clause-read_back
 returns-clause-read_back c time plain = are-read-back (allows c.args.raw) time plain
