@@ -30,7 +30,7 @@ skip-scalars-by c cs false h more = h
 scalar_parts : (c : ℕ) (cs : List ℕ) → all_scalars (c ∷ cs) ≡ true → all_scalars cs ≡ true
 scalar_parts c cs h = (both _ (all_scalars cs) h).1
 
-skip-scalars : (cs : List ℕ) → all_scalars cs ≡ true → all_scalars (skip_leading_whitespace cs) ≡ true
+pub skip-scalars : (cs : List ℕ) → all_scalars cs ≡ true → all_scalars (skip_leading_whitespace cs) ≡ true
 skip-scalars [] h = h
 skip-scalars (c ∷ cs) h = skip-scalars-by c cs (is_whitespace c) h (skip-scalars cs (scalar_parts c cs h))
 
@@ -87,7 +87,7 @@ or-none : (b : Bool) (ts : List ℕ) → all_scalars ts ≡ true → all_scalars
 or-none true ts h = refl
 or-none false ts h = h
 
-drop-scalars : (cs : List ℕ) → all_scalars cs ≡ true → all_scalars (drop_trailing_whitespace cs) ≡ true
+pub drop-scalars : (cs : List ℕ) → all_scalars cs ≡ true → all_scalars (drop_trailing_whitespace cs) ≡ true
 drop-scalars [] h = h
 drop-scalars (c ∷ cs) h =
     let parts = both _ (all_scalars cs) h in

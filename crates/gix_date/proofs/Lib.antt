@@ -32,6 +32,7 @@ mod NamesRead
 pub mod Overlaps
 pub mod RawBack
 pub mod RawHeaders
+pub mod AroundTexts
 pub mod Grammars
 pub mod GitGrammar
 pub mod RelativeWordSteps

@@ -86,7 +86,7 @@ words-colon [] = refl
 words-colon ([] ∷ ps) = words-colon ps
 words-colon ((c ∷ part) ∷ ps) = ap₂ (λ a b. a || b) (sym (chars-colon (c ∷ part))) (words-colon ps)
 
-colon-within : (text : List ℕ) → IsUtf8 text → has_colon text ≡ list_any has_colon (space_words text)
+pub colon-within : (text : List ℕ) → IsUtf8 text → has_colon text ≡ list_any has_colon (space_words text)
 unfolding space_words
 colon-within text u =
     ap has_colon (sym (encodes-chars text u)) ∙ chars-colon (chars text) ∙ parts-colon (chars text) ∙ words-colon (slice_split is_whitespace (chars text))

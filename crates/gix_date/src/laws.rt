@@ -12,7 +12,7 @@ use crate::time::Time;
 pub use families::{
     agree, apart, comes_first, disjoint, disjoint_wide, dispatched, dispatched_by_rows, exclusive,
     ignores_moment, one_outcome, overlapping, ranges, spelled, spelled_git, spelled_numbers,
-    widened,
+    trimmed, widened,
 };
 pub use formats::{
     local_clock, named_formats, other_formats, printed, raw_read_back, raw_read_back_wide,

@@ -31,11 +31,13 @@ hours_and_minutes seconds = two_digits (hours_in seconds) ++ two_digits (minutes
 abbrev pub compact_offset_text : ℤ → List ℕ
 compact_offset_text offset = offset_sign offset ∷ hours_and_minutes (unsigned_abs offset)
 
+-- the seconds, a space and the offset
+abbrev pub written_text : Time → List ℕ
+written_text t = decimal_text t.seconds ++ space ∷ compact_offset_text t.offset
+
 -- the header text of a time: none where the offset is 100 hours or more either way
 unfoldable pub header_text : Time → Option (List ℕ)
-header_text t =
-    if nat_lt (unsigned_abs t.offset) hundred_hours
-    then Some (decimal_text t.seconds ++ space ∷ compact_offset_text t.offset) else None
+header_text t = if nat_lt (unsigned_abs t.offset) hundred_hours then Some (written_text t) else None
 
 -- whether the time has a header text, and it is this one
 abbrev pub is_header_text_of : Time → List ℕ → Bool

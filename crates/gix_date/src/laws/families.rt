@@ -1,7 +1,9 @@
 //! Laws of families: how formatted dates are written, which families share texts, and whose answer comes first.
 ghost use Rattle.std.specs.Prelude.{◌≡◌, None};
-ghost use Rattle.gix_date.specs.Families.Order.{RawText, BareEpoch, Iso8601, Iso8601Strict, GitForm};
-ghost use Rattle.gix_date.specs.Families.Laws.{Agree, AnswersWithinDay, AreApart, AreDisjoint, AreExclusive, AreOverlapping, ComesFirst, IsWidened, IgnoresMoment, HasOneOutcome, Holds, AnswersHaveText};
+ghost use Rattle.std.specs.Str.{trim};
+ghost use Rattle.gix_date.specs.Header.Reading.{header_time};
+ghost use Rattle.gix_date.specs.Families.Order.{RawText, BareEpoch, Iso8601, Iso8601Strict, GitForm, RelativeText};
+ghost use Rattle.gix_date.specs.Families.Laws.{Agree, AnswersWithinDay, AreApart, AreDisjoint, AreExclusive, AreOverlapping, ComesFirst, IsWidened, IgnoresMoment, HasOneOutcome, IgnoresSpace, Holds, AnswersHaveText};
 ghost use Rattle.gix_date.specs.Families.Raw.{allows, is_raw_offset, is_wide_offset, raw_time_by};
 ghost use Rattle.gix_date.specs.Families.Epoch.{at_time, epoch_time};
 ghost use Rattle.gix_date.specs.Families.Grammars.{IsAtText, IsEpochText, IsRawText};
@@ -119,4 +121,13 @@ pub fn ranges(text: &str, raw: RawOffsets)
 /// The answer of the first family and the moment determine the result of a call that takes no memory.
 pub fn one_outcome()
     ensures { HasOneOutcome }
+{}
+
+/// White space around a text changes no answer of Git's own forms, relative texts and raw texts, by either rule. It does
+/// not change what a header says.
+pub fn trimmed(text: &str, raw: RawOffsets)
+    ensures git { IgnoresSpace (allows raw) GitForm text.now }
+    ensures relative { IgnoresSpace (allows raw) RelativeText text.now }
+    ensures raw_text { IgnoresSpace (allows raw) RawText text.now }
+    ensures header { header_time (trim text.now) ≡ header_time text.now }
 {}

@@ -15,10 +15,11 @@ use crate::time::Time;
 use crate::time::format::{CustomFormat, Format};
 use std::hash::Hash;
 
-/// The seconds and offsets of the two constants.
+/// The seconds and offsets of the two constants and of the default, which is 0 with offset 0.
 pub fn constants()
     ensures max { Time.MAX ≡ record { seconds = pos 9_223_372_036_854_775_807; offset = pos 359_999 } }
     ensures min { Time.MIN ≡ record { seconds = neg_ℤ (pos 9_223_372_036_854_775_808); offset = neg_ℤ (pos 359_999) } }
+    ensures default_is { (t : Time) → ⟦<Time as Default>⟧.is_default t → t ≡ record { seconds = pos 0; offset = pos 0 } }
 {}
 
 /// The limits that contracts name, as numbers. The least time has the longest header text.
