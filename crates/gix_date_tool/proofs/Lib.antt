@@ -4,6 +4,7 @@ pub mod Taking
 pub mod Signing
 pub mod Replying
 pub mod CanonicalLines
+pub mod ParsedLines
 pub mod UnchangedLines
 pub mod Reading
 pub mod Telling

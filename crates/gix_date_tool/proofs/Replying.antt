@@ -2,7 +2,7 @@
 use Rattle.std.proofs.Common.{◌≡◌, ◌∙◌, ℕ, List, Bool, true, false, Option, Some, None, Result, Ok, Err, sym, ap, inl, inr}
 use Rattle.std.specs.Str.{is_utf8}
 use Rattle.jiff.specs.declared.zoned.Zoned.{Zoned}
-use Rattle.gix_date.proofs.Chains.{named-once}
+use Rattle.gix_date.proofs.Chains.{one-outcome}
 use Rattle.gix_date.specs.Families.Answer.{FamilyAnswer, Absolute, OffsetBeyond, InstantBeyond, Relative}
 use Rattle.gix_date.specs.Families.Order.{first_family, ParseNoAllocOutcome}
 use Rattle.gix_date.specs.Relative.Dates.{RelativeDate, RelativeOutcome}
@@ -16,25 +16,8 @@ use Rattle.gix_date_tool.specs.Replies.{IsReply, IsReplyTo, IsTextReply, IsParse
 use Rattle.gix_date_tool.specs.declared.replies.Reply.TheVariants.{Signed}
 use Rattle.gix_date_tool.proofs.Signing.{signed-once}
 
--- a relative date comes to one result
-reckons-once : (date : RelativeDate) (now : Option Zoned) (r s : Result Time ParseError) → RelativeOutcome date now r → RelativeOutcome date now s → r ≡ s
-reckons-once date None r s h g = h ∙ sym g
-reckons-once date (Some moment) (Ok t) (Ok u) h g = ap Ok (named-once date moment t u h g)
-reckons-once date (Some moment) (Ok t) (Err e) h g = absurd (g.1 t h)
-reckons-once date (Some moment) (Err e) (Ok u) h g = absurd (h.1 u g)
-reckons-once date (Some moment) (Err e) (Err f) h g = ap Err (h.0 ∙ sym g.0)
-
--- so does each call
-comes-once : (answer : Option FamilyAnswer) (now : Option Zoned) (r s : Result Time ParseError)
-    → ParseNoAllocOutcome answer now r → ParseNoAllocOutcome answer now s → r ≡ s
-comes-once None now r s h g = h ∙ sym g
-comes-once (Some (Absolute t)) now r s h g = h ∙ sym g
-comes-once (Some OffsetBeyond) now r s h g = h ∙ sym g
-comes-once (Some InstantBeyond) now r s h g = h ∙ sym g
-comes-once (Some (Relative date)) now r s h g = reckons-once date now r s h g
-
 parse-once : (answer : Option FamilyAnswer) (now : Option Zoned) (a b : Reply) → IsParseReply answer now a → IsParseReply answer now b → a ≡ b
-parse-once answer now a b h g = h.2 ∙ ap parse_reply (comes-once answer now h.0 g.0 h.1 g.1) ∙ sym g.2
+parse-once answer now a b h g = h.2 ∙ ap parse_reply (one-outcome answer now h.0 g.0 h.1 g.1) ∙ sym g.2
 
 sign-once : (text : List ℕ) (a b : Reply) → IsSignReply text a → IsSignReply text b → a ≡ b
 sign-once text a b (inl h) (inl g) = h.2 ∙ ap Signed (signed-once text h.0 g.0 h.1 g.1) ∙ sym g.2

@@ -1,5 +1,5 @@
 -- What is replied to a line.
-use Rattle.std.specs.Prelude.{◌≡◌, ◌↔◌, ◌⊎◌, ℕ, Bool, true, false, List, [], ◌∷◌, ◌++◌, if◌then◌else◌, Option, IsSome, Result, Ok, Err, unwrap_or, codes}
+use Rattle.std.specs.Prelude.{◌≡◌, ◌↔◌, ◌⊎◌, ℕ, Bool, true, false, List, [], ◌∷◌, ◌++◌, if◌then◌else◌, Option, IsSome, Result, Ok, Err, codes}
 use Rattle.std.specs.Option.{option_map_or}
 use Rattle.std.specs.List.{flat_map}
 use Rattle.std.specs.Str.{is_utf8}
@@ -7,7 +7,7 @@ use Rattle.gix_date.specs.declared.time.Time.{Time}
 use Rattle.gix_date.specs.Header.Canonical.{is_canonical_header}
 use Rattle.gix_date.specs.Text.Characters.{space}
 use Rattle.gix_date.specs.Text.Numbers.{decimal_text}
-use Rattle.gix_date.specs.Header.Text.{header_text}
+use Rattle.gix_date.specs.Header.Text.{header_text, written_text}
 use Rattle.gix_date.specs.Header.Reading.{header_time}
 use Rattle.jiff.specs.declared.zoned.Zoned.{Zoned}
 use Rattle.gix_date.specs.Families.Answer.{FamilyAnswer}
@@ -65,7 +65,7 @@ reply_text NotText = codes "not text"
 reply_text NoTime = codes "none"
 reply_text Canonical = codes "canonical"
 reply_text (Read t) = codes "read " ++ decimal_text t.seconds ++ space ∷ decimal_text t.offset
-reply_text (Parsed t) = unwrap_or (header_text t) []
+reply_text (Parsed t) = written_text t
 reply_text UnknownFormat = codes "error unknown-format"
 reply_text DateConversion = codes "error date-conversion"
 reply_text MissingMoment = codes "error missing-moment"
@@ -103,6 +103,11 @@ abbrev pub RepliesAreUnique : Type 0
 RepliesAreUnique =
     (asked : Asked) (line : List ℕ) (reply other : Reply)
     → IsReply asked line reply → IsReply asked line other → reply ≡ other
+
+-- the reply to a line that is parsed as a time is the header text of that time
+abbrev pub ParsedLines : List ℕ → Type 0
+ParsedLines line =
+    (asked : Asked) (t : Time) → IsReply asked line (Parsed t) → header_text t ≡ Some (reply_text (Parsed t))
 
 -- in Check a line is replied to by `canonical` exactly where it is a canonical header
 abbrev pub CanonicalLines : List ℕ → Type 0

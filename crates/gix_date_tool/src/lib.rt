@@ -20,5 +20,5 @@ pub use arguments::{Mode, command};
 pub use error::ToolError;
 pub use lines::{limits, lines_are_unique};
 pub use program::{Status, execute, show_usage};
-pub use replies::{canonical_lines, replies_are_unique, unchanged_lines};
+pub use replies::{canonical_lines, parsed_lines, replies_are_unique, unchanged_lines};
 pub use runs::run;

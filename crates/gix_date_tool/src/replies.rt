@@ -4,7 +4,7 @@ ghost use Rattle.gix_date.specs.Families.Order.{first_family};
 ghost use Rattle.gix_date.specs.Header.Reading.{header_time};
 ghost use Rattle.gix_date_tool.specs.declared.replies.Reply.TheVariants.{Read};
 ghost use Rattle.gix_date_tool.specs.Outbox.{Sends, output};
-ghost use Rattle.gix_date_tool.specs.Replies.{RepliesAreUnique, CanonicalLines, UnchangedLines, IsReply, IsParseReply, IsSignReply, IsWritable, reply_line, check_reply};
+ghost use Rattle.gix_date_tool.specs.Replies.{RepliesAreUnique, CanonicalLines, ParsedLines, UnchangedLines, IsReply, IsParseReply, IsSignReply, IsWritable, reply_line, check_reply};
 
 use crate::arguments::Mode;
 use crate::outbox::Outbox;
@@ -99,6 +99,11 @@ fn push_reading<W: Sink>(time: Time, outbox: &mut Outbox, out: &mut W) -> Result
 /// Each line has one reply at most, in a mode and at a moment.
 pub fn replies_are_unique()
     ensures { RepliesAreUnique }
+{}
+
+/// The reply to a line that is parsed as a time is the header text of that time, so it is never empty.
+pub fn parsed_lines(line: &[u8])
+    ensures { ParsedLines line.now }
 {}
 
 /// In Check a line is replied to by `canonical` exactly where it is the header text of a time as Git writes it

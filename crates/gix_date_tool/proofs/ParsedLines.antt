@@ -1,0 +1,64 @@
+-- The reply to a line that is parsed as a time is its header text.
+use Rattle.std.proofs.Common.{◌≡◌, ◌∙◌, ℕ, List, Bool, true, false, cond, Option, Some, None, Result, Ok, Err, refl, sym, ap, subst, inl, inr}
+use Rattle.std.specs.Prelude.{is_some, IsSome, nat_lt, unsigned_abs}
+use Rattle.std.specs.Str.{is_utf8}
+use Rattle.jiff.specs.declared.zoned.Zoned.{Zoned}
+use Rattle.gix_date.specs.Families.Order.{first_family, ParseNoAllocOutcome}
+use Rattle.gix_date.specs.Header.Reading.{header_time}
+use Rattle.gix_date.specs.Header.Text.{header_text, written_text, hundred_hours}
+use Rattle.gix_date.specs.declared.error.ParseError.{ParseError}
+use Rattle.gix_date.specs.declared.error.ParseError.TheVariants as errors
+use Rattle.gix_date.specs.declared.parsing.raw.RawOffsets.TheVariants.{Quarter}
+use Rattle.gix_date.specs.declared.time.Time.{Time}
+use Rattle.gix_date.proofs.PlainHeaders.{same_some}
+use Rattle.gix_date.proofs.Ranges.{outcome-written}
+use Rattle.gix_date_tool.specs.declared.arguments.Mode.{Mode}
+use Rattle.gix_date_tool.specs.declared.arguments.Mode.TheVariants.{Check, Parse, Sign}
+use Rattle.gix_date_tool.specs.declared.replies.Asked.{Asked}
+use Rattle.gix_date_tool.specs.declared.replies.Reply.TheVariants.{Canonical, Read, Parsed}
+use Rattle.gix_date_tool.specs.Replies.{IsReply, IsReplyTo, IsTextReply, is_header_text_of, check_reply, parse_reply, ParsedLines}
+
+-- where a time has a header text, it is what is written of the time
+pub written-is : (t : Time) → IsSome (header_text t) → header_text t ≡ Some (written_text t)
+unfolding header_text
+written-is t h = by (nat_lt (unsigned_abs t.offset) hundred_hours) h
+  where
+    by : (b : Bool) → IsSome (cond b (Some (written_text t)) None) → cond b (Some (written_text t)) None ≡ Some (written_text t)
+    by true h = refl
+    by false h = absurd cc
+
+-- so a header text of a time is that
+pub text-written : (t : Time) (text : List ℕ) → header_text t ≡ Some text → text ≡ written_text t
+text-written t text e = same_some text (written_text t) (sym e ∙ written-is t (ap is_some e))
+
+-- a reply of Check is of no parsed time
+no-check : (text : List ℕ) (t : Time) (found : Option Time) → Parsed t ≡ check_reply text found → ⊥
+no-check text t None e = absurd cc
+no-check text t (Some u) e = by (is_header_text_of text u) e
+  where
+    by : (b : Bool) → Parsed t ≡ cond b Canonical (Read u) → ⊥
+    by true e = absurd cc
+    by false e = absurd cc
+
+of-result : (text : List ℕ) (now : Option Zoned) (t : Time) (result : Result Time ParseError) → ParseNoAllocOutcome (first_family text) now result
+    → Parsed t ≡ parse_reply result → IsSome (header_text t)
+of-result text now t (Ok u) h e =
+    let same : u ≡ t = cc in outcome-written Quarter text now t (subst (λ (v : Time). ParseNoAllocOutcome (first_family text) now (Ok v)) same h)
+of-result text now t (Err errors.UnknownFormat) h e = absurd cc
+of-result text now t (Err errors.DateConversion) h e = absurd cc
+of-result text now t (Err errors.MissingNow) h e = absurd cc
+of-result text now t (Err errors.Range) h e = absurd cc
+
+of-text : (mode : Mode) (now : Option Zoned) (text : List ℕ) (t : Time) → IsTextReply mode now text (Parsed t) → IsSome (header_text t)
+of-text Check now text t h = absurd (no-check text t (header_time text) h)
+of-text Parse now text t (result, outcome, e) = of-result text now t result outcome e
+of-text Sign now text t (inl h) = absurd cc
+of-text Sign now text t (inr h) = absurd cc
+
+of-line : (is_text : Bool) (asked : Asked) (line : List ℕ) (t : Time) → IsReplyTo is_text asked line (Parsed t) → IsSome (header_text t)
+of-line true asked line t h = of-text asked.mode asked.now line t h
+of-line false asked line t h = absurd cc
+
+pub parsed-lines : (line : List ℕ) → ParsedLines line
+unfolding IsReply
+parsed-lines line asked t h = written-is t (of-line (is_utf8 line) asked line t h)
