@@ -6,7 +6,7 @@ use Rattle.std.specs.Str.{is_utf8}
 use Rattle.gix_date.specs.Header.Canonical.{is_canonical_header}
 use Rattle.gix_date.specs.Header.Reading.{header_time}
 use Rattle.gix_date.specs.declared.time.Time.{Time}
-use Rattle.gix_date.proofs.HeaderLaws.{canonical-utf8}
+use Rattle.gix_date.proofs.Header.HeaderLaws.{canonical-utf8}
 use Rattle.gix_date_tool.specs.declared.arguments.Mode.{Mode}
 use Rattle.gix_date_tool.specs.declared.arguments.Mode.TheVariants.{Check}
 use Rattle.gix_date_tool.specs.declared.replies.Asked.{Asked}

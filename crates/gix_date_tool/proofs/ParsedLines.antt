@@ -10,8 +10,8 @@ use Rattle.gix_date.specs.declared.error.ParseError.{ParseError}
 use Rattle.gix_date.specs.declared.error.ParseError.TheVariants as errors
 use Rattle.gix_date.specs.declared.parsing.raw.RawOffsets.TheVariants.{Quarter}
 use Rattle.gix_date.specs.declared.time.Time.{Time}
-use Rattle.gix_date.proofs.PlainHeaders.{same_some}
-use Rattle.gix_date.proofs.Ranges.{outcome-written}
+use Rattle.gix_date.proofs.Fast.FastHeaders.{same_some}
+use Rattle.gix_date.proofs.Families.Ranges.{outcome-written}
 use Rattle.gix_date_tool.specs.declared.arguments.Mode.{Mode}
 use Rattle.gix_date_tool.specs.declared.arguments.Mode.TheVariants.{Check, Parse, Sign}
 use Rattle.gix_date_tool.specs.declared.replies.Asked.{Asked}

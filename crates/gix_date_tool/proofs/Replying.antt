@@ -2,7 +2,7 @@
 use Rattle.std.proofs.Common.{◌≡◌, ◌∙◌, ℕ, List, Bool, true, false, Option, Some, None, Result, Ok, Err, sym, ap, inl, inr}
 use Rattle.std.specs.Str.{is_utf8}
 use Rattle.jiff.specs.declared.zoned.Zoned.{Zoned}
-use Rattle.gix_date.proofs.Chains.{one-outcome}
+use Rattle.gix_date.proofs.Relative.Chains.{one-outcome}
 use Rattle.gix_date.specs.Families.Answer.{FamilyAnswer, Absolute, OffsetBeyond, InstantBeyond, Relative}
 use Rattle.gix_date.specs.Families.Order.{first_family, ParseNoAllocOutcome}
 use Rattle.gix_date.specs.Relative.Dates.{RelativeDate, RelativeOutcome}

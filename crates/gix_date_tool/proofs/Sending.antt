@@ -7,7 +7,7 @@ use Rattle.std.specs.Prelude.{OnOk, OnErr, IfErr}
 use Rattle.std.specs.Io.KnownBytes.{Appends}
 use Rattle.std.specs.declared.io.ErrorKind.{ErrorKind}
 use Rattle.gix_date.specs.Devices.Known.{Known, Takes, TakesProperPrefix}
-use Rattle.gix_date.proofs.KnownBytes.{Appends-append}
+use Rattle.gix_date.proofs.Text.KnownBytes.{Appends-append}
 use Rattle.gix_date_tool.specs.Outbox.{Output, pieces_text, all_sent, Puts, PutsProperPrefix, Sends}
 
 -- nothing was appended

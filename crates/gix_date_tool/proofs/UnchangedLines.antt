@@ -3,7 +3,7 @@ use Rattle.std.proofs.Common.{◌≡◌, ◌∙◌, ℕ, List, [], Bool, true, f
 use Rattle.std.specs.Str.{is_utf8}
 use Rattle.gix_date.specs.Header.Laws.{ComesBack}
 use Rattle.gix_date.specs.Header.Text.{header_text}
-use Rattle.gix_date.proofs.HeaderLaws.{canonical-taken, canonical-back, comes-back-canonical}
+use Rattle.gix_date.proofs.Header.HeaderLaws.{canonical-taken, canonical-back, comes-back-canonical}
 use Rattle.gix_signature.specs.Signature.{Parts, line_of}
 use Rattle.gix_signature.specs.declared.error.SignatureError.{SignatureError}
 use Rattle.gix_signature.specs.declared.error.SignatureError.TheVariants.{OffsetTooWide}

@@ -10,7 +10,7 @@ use Rattle.gix_date.specs.Header.Text.{header_text, compact_offset_text}
 use Rattle.gix_date.specs.Devices.Known.{Known, Takes}
 use Rattle.gix_date.specs.Text.Numbers.{decimal_text, two_digits}
 use Rattle.gix_date.specs.declared.time.Time.{Time}
-use Rattle.gix_date.proofs.HeaderLaws.{written-is-read}
+use Rattle.gix_date.proofs.Header.HeaderLaws.{written-is-read}
 use Rattle.gix_signature.specs.Signature.{may_stand, is_part, line_of, opening, closing, newline, nul}
 use Rattle.gix_signature.specs.Writing.{line_due, parts_due, WritesLine, IsWritten}
 use Rattle.gix_signature.specs.declared.error.SignatureError.{SignatureError}

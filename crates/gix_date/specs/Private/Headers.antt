@@ -6,7 +6,7 @@ use Rattle.gix_date.specs.Fields.Offsets.{offset_fields}
 use Rattle.gix_date.specs.declared.parsing.offset.OffsetFields.{OffsetFields}
 
 -- a number, one space and the fields of an offset, as nearly all headers are
-pub record IsPlainHeader (text : List ℕ) (seconds : ℤ) (fields : OffsetFields) : Type 0 where
+pub record IsUsualHeader (text : List ℕ) (seconds : ℤ) (fields : OffsetFields) : Type 0 where
   pub front : List ℕ
   pub zone : List ℕ
   pub whole : text ≡ front ++ space ∷ zone

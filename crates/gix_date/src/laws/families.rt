@@ -17,7 +17,7 @@ use crate::parsing::raw::RawOffsets;
 
 /// A formatted date is a sequence of pieces. Its family answers what the pieces say, and holds each text that is
 /// written so.
-#[tactic(auto, using(crate::proofs::Layouts::dates_spelled))]
+#[tactic(auto, using(crate::proofs::Fields::Layouts::dates_spelled))]
 pub fn spelled()
     ensures day { Spells short_answer (IsAnswered short_layout real_day_answer) }
     ensures mail { Spells rfc2822_answer (IsAnswered rfc2822_layout time_answer) }

@@ -74,7 +74,7 @@ pub fn hash()
 
 /// The white space between words is that of the standard library, which is Unicode's White_Space: these characters and
 /// no others.
-#[tactic(auto, using(crate::proofs::WhiteSpace::is_whitespace_listed))]
+#[tactic(auto, using(crate::proofs::Text::WhiteSpace::is_whitespace_listed))]
 pub fn white_space()
     ensures { StdWhiteSpaceIsUnicodes }
 {}

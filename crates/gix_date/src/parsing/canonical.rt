@@ -1,15 +1,15 @@
 //! Canonical headers as nearly all are, which are told by their bytes.
 ghost use Rattle.std.specs.Prelude.{◌≡◌, true, IsTrue};
 ghost use Rattle.gix_date.specs.Header.Canonical.{is_canonical_header};
-ghost use Rattle.gix_date.specs.Private.CanonicalBytes.{are_hours_and_minutes, are_plain_seconds, is_plain_offset};
+ghost use Rattle.gix_date.specs.Private.CanonicalBytes.{are_hours_and_minutes, are_usual_seconds, is_usual_offset};
 
+use crate::parsing::fast::ZONE_BYTES;
 use crate::parsing::numbers::{MAX_DIGITS, are_digits};
-use crate::parsing::plain::ZONE_BYTES;
 
 /// Whether a text is a canonical header as nearly all are: at most 18 digits, the first no zero, one space, and an
 /// offset that is not behind UTC by less than an hour. Such a text need not be read and written to tell. `false` says
 /// of a text only that it has another form.
-pub(crate) fn is_plain_canonical(text: &str) -> bool
+pub(crate) fn fast_canonical(text: &str) -> bool
     ensures { IsTrue result → is_canonical_header text.now ≡ true }
 {
     let bytes = text.as_bytes();
@@ -17,13 +17,13 @@ pub(crate) fn is_plain_canonical(text: &str) -> bool
         return false;
     }
     let (seconds, offset) = bytes.split_at(bytes.len() - ZONE_BYTES);
-    are_plain_seconds(seconds) && is_plain_offset(offset)
+    are_usual_seconds(seconds) && is_usual_offset(offset)
 }
 
 /// Whether bytes are digits, the first no zero, and few enough for an `i64`.
-#[tactic(auto, unfolding(crate::specs::Private::CanonicalBytes::are_plain_seconds))]
-fn are_plain_seconds(bytes: &[u8]) -> bool
-    ensures { result ≡ are_plain_seconds bytes.now }
+#[tactic(auto, unfolding(crate::specs::Private::CanonicalBytes::are_usual_seconds))]
+fn are_usual_seconds(bytes: &[u8]) -> bool
+    ensures { result ≡ are_usual_seconds bytes.now }
 {
     match bytes {
         [first, rest @ ..] => {
@@ -34,9 +34,9 @@ fn are_plain_seconds(bytes: &[u8]) -> bool
 }
 
 /// Whether bytes are a space and an offset of whole minutes, with hours where it is behind UTC.
-#[tactic(auto, unfolding(crate::specs::Private::CanonicalBytes::is_plain_offset))]
-fn is_plain_offset(bytes: &[u8]) -> bool
-    ensures { result ≡ is_plain_offset bytes.now }
+#[tactic(auto, unfolding(crate::specs::Private::CanonicalBytes::is_usual_offset))]
+fn is_usual_offset(bytes: &[u8]) -> bool
+    ensures { result ≡ is_usual_offset bytes.now }
 {
     match bytes {
         [blank, sign, a, b, c, d] => {

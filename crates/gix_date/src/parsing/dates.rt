@@ -14,12 +14,12 @@ ghost use Rattle.gix_date.specs.Private.Views.{answer_of, HasJiffOffset};
 
 use crate::error::{Error, InputBytes, ParseError};
 use crate::parsing::answer::Answer;
+use crate::parsing::fast::fast_number;
 use crate::parsing::fields::skip_char;
 use crate::parsing::git::parse_git;
-use crate::parsing::numbers::{parse_int, parse_short_int};
+use crate::parsing::numbers::{fast_int, parse_int};
 use crate::parsing::patterns::{parse_dashed, parse_named_day, parse_rfc2822};
-use crate::parsing::plain::parse_plain_number;
-use crate::parsing::raw::{RawOffsets, parse_plain_raw, parse_raw};
+use crate::parsing::raw::{RawOffsets, fast_raw, parse_raw};
 use crate::parsing::relative::parse_relative;
 use crate::parsing::shape::Shape;
 use crate::time::{SecondsSinceUnixEpoch, Time};
@@ -140,10 +140,10 @@ fn first_answer(input: &str, raw: RawOffsets) -> Option<Answer<'_>>
     ensures first { option_map answer_of result ≡ first_family_by (allows raw) input.now }
     ensures offset_fits { IfSome result HasJiffOffset }
 {
-    if let Some(time) = parse_plain_raw(input, raw) {
+    if let Some(time) = fast_raw(input, raw) {
         return Some(Answer::Absolute(time));
     }
-    if let Some(seconds) = parse_plain_number(input) {
+    if let Some(seconds) = fast_number(input) {
         return epoch_answer(seconds);
     }
     answer_by_shape(Shape::of(input), input, raw)
@@ -274,10 +274,10 @@ fn parse_at(input: &str, raw: RawOffsets) -> Option<Time>
     ensures offset_fits { IfSome result (λ t. IsOffsetSeconds t.offset) }
 {
     let text = skip_char('@', input)?;
-    if let Some(time) = parse_plain_raw(text, raw) {
+    if let Some(time) = fast_raw(text, raw) {
         return Some(time);
     }
-    if let Some(seconds) = parse_short_int(text.as_bytes()) {
+    if let Some(seconds) = fast_int(text.as_bytes()) {
         return Some(Time::new(seconds, 0));
     }
     if let Some(time) = parse_raw(text, raw) {

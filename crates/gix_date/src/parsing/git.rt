@@ -3,7 +3,7 @@ ghost use Rattle.std.specs.Prelude.{◌≡◌, ◌<◌, ◌≤◌, IfSome};
 ghost use Rattle.jiff.specs.Words.{IsOffsetSeconds};
 ghost use Rattle.std.specs.Str.{trim};
 ghost use Rattle.gix_date.specs.Private.Civil.{ClockFits, DateFits};
-ghost use Rattle.gix_date.specs.Private.PlainRests.{time_at};
+ghost use Rattle.gix_date.specs.Private.FastRests.{time_at};
 ghost use Rattle.gix_date.specs.Private.Views.{read_view};
 ghost use Rattle.gix_date.specs.Git.Forms.{read_compact_date, time_with_rest, time_of_cut, dotted_time, compact_time, flexible_time, git_form, git_time};
 
@@ -11,15 +11,15 @@ use crate::civil::{ClockFields, DateFields, civil_instant};
 use crate::parsing::fields::{read_marked_date, skip_char};
 use crate::parsing::git::clock::parse_clock;
 use crate::parsing::git::cut::clock_cut;
+use crate::parsing::git::fast::fast_rest;
 use crate::parsing::git::offset::{parse_git_offset, seconds_within_a_day};
-use crate::parsing::git::plain::parse_plain_rest;
 use crate::parsing::numbers::{read_two_digits, read_year};
 use crate::time::{OffsetInSeconds, Time};
 
 mod clock;
 mod cut;
+mod fast;
 mod offset;
-mod plain;
 
 /// Reads a date in one of Git's own forms, with white space round it or none:
 ///
@@ -94,7 +94,7 @@ fn parse_rest(date: DateFields, rest: &str) -> Option<Time>
     ensures offset_fits { IfSome result (λ t. IsOffsetSeconds t.offset) }
 {
     let rest = trimmed(rest);
-    if let Some((clock, fields)) = parse_plain_rest(rest) {
+    if let Some((clock, fields)) = fast_rest(rest) {
         let Some(offset) = seconds_within_a_day(fields) else {
             return None;
         };
@@ -105,7 +105,7 @@ fn parse_rest(date: DateFields, rest: &str) -> Option<Time>
 }
 
 /// The time of a date, a clock and an offset.
-#[tactic(auto, unfolding(crate::specs::Git::Forms::time_of_cut, crate::specs::Private::PlainRests::time_at))]
+#[tactic(auto, unfolding(crate::specs::Git::Forms::time_of_cut, crate::specs::Private::FastRests::time_at))]
 fn parse_cut(date: DateFields, clock: &str, offset: &str) -> Option<Time>
     requires { DateFits date }
     ensures time { result ≡ time_of_cut date (clock.now, offset.now) }
@@ -117,7 +117,7 @@ fn parse_cut(date: DateFields, clock: &str, offset: &str) -> Option<Time>
 }
 
 /// The time of a date and a clock at an offset.
-#[tactic(auto, unfolding(crate::specs::Private::PlainRests::time_at))]
+#[tactic(auto, unfolding(crate::specs::Private::FastRests::time_at))]
 fn time_at(date: DateFields, clock: ClockFields, offset: OffsetInSeconds) -> Option<Time>
     requires date { DateFits date }
     requires clock { ClockFits clock }

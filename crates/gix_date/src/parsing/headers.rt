@@ -4,11 +4,11 @@ ghost use Rattle.gix_date.specs.Header.Canonical.{is_canonical_header};
 ghost use Rattle.gix_date.specs.Header.Reading.{header_time, seconds_said};
 ghost use Rattle.gix_date.specs.Header.Text.{is_header_text_of};
 
-use crate::parsing::canonical::is_plain_canonical;
+use crate::parsing::canonical::fast_canonical;
+use crate::parsing::fast::fast_header;
 use crate::parsing::fields::has_colon;
 use crate::parsing::numbers::{leading_digits, parse_int};
 use crate::parsing::offset::parse_offset_fields;
-use crate::parsing::plain::parse_plain;
 use crate::parsing::space_words::first_words;
 use crate::time::{SecondsSinceUnixEpoch, Time, header_text};
 
@@ -22,7 +22,7 @@ use crate::time::{SecondsSinceUnixEpoch, Time, header_text};
 pub fn parse_header(input: &str) -> Option<Time>
     ensures { result ≡ header_time input.now }
 {
-    if let Some(time) = parse_plain(input) {
+    if let Some(time) = fast_header(input) {
         return Some(time);
     }
     parse_any_header(input)
@@ -35,7 +35,7 @@ pub fn parse_header(input: &str) -> Option<Time>
 pub fn is_canonical_header(input: &str) -> bool
     ensures { result ≡ is_canonical_header input.now }
 {
-    if is_plain_canonical(input) {
+    if fast_canonical(input) {
         return true;
     }
     match parse_header(input) {

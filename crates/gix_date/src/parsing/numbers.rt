@@ -20,7 +20,7 @@ const FIVE_ZEROS: u64 = 533_328;
 pub(crate) fn parse_int(word: &str) -> Option<i64>
     ensures { result ≡ int_value word.now }
 {
-    if let Some(value) = parse_short_int(word.as_bytes()) {
+    if let Some(value) = fast_int(word.as_bytes()) {
         return Some(value);
     }
     word.parse::<i64>().ok()
@@ -28,7 +28,7 @@ pub(crate) fn parse_int(word: &str) -> Option<i64>
 
 /// The value of a short text of digits, with a minus or no sign.
 #[inline(always)]
-pub(crate) fn parse_short_int(text: &[u8]) -> Option<i64>
+pub(crate) fn fast_int(text: &[u8]) -> Option<i64>
     ensures { IfSome result (λ n. int_value text.now ≡ Some n) }
 {
     match text {

@@ -3,9 +3,9 @@ ghost use Rattle.std.specs.Prelude.{◌≡◌, IfSome, Some};
 ghost use Rattle.jiff.specs.Words.{IsOffsetSeconds};
 ghost use Rattle.gix_date.specs.Families.Raw.{raw_time_by, raw_offset_by, allows};
 
+use crate::parsing::fast::fast_fields;
 use crate::parsing::numbers::parse_int;
 use crate::parsing::offset::{OffsetFields, parse_offset_fields};
-use crate::parsing::plain::parse_plain_fields;
 use crate::parsing::space_words::first_words;
 use crate::time::{MAX_HOUR, MAX_MINUTE, OffsetInSeconds, Time};
 
@@ -66,14 +66,14 @@ pub(crate) fn parse_raw(input: &str, raw: RawOffsets) -> Option<Time>
     Some(Time::new(seconds, offset))
 }
 
-/// The time of a raw text in the form that nearly all have, as [`parse_plain_fields`] reads it. `None` says of a text
+/// The time of a raw text in the form that nearly all have, as [`fast_fields`] reads it. `None` says of a text
 /// only that it has another form, or an offset that the rule does not allow.
 #[inline(always)]
-pub(crate) fn parse_plain_raw(input: &str, raw: RawOffsets) -> Option<Time>
+pub(crate) fn fast_raw(input: &str, raw: RawOffsets) -> Option<Time>
     ensures time { IfSome result (λ t. raw_time_by (allows raw) input.now ≡ Some t) }
     ensures offset_fits { IfSome result (λ t. IsOffsetSeconds t.offset) }
 {
-    let (seconds, fields) = parse_plain_fields(input)?;
+    let (seconds, fields) = fast_fields(input)?;
     if raw.allows(fields) {
         Some(Time::new(seconds, fields.in_seconds()))
     } else {

@@ -16,7 +16,7 @@ ghost use Rattle.gix_date.specs.Private.Printing.{PrintsAt};
 ghost use Rattle.gix_date.specs.declared.error.Error.TheVariants as errors;
 
 use crate::error::Error;
-use crate::time::named::{copy_text, named_text};
+use crate::time::named::{copy_text, fast_text};
 use crate::time::{Time, header_text};
 use jiff::fmt::strtime::{BrokenDownTime, Config, to_string};
 use jiff::tz::Offset;
@@ -200,7 +200,7 @@ impl Time {
     pub fn format_by_pattern(&self, alloc: Global, pattern: &str) -> Result<String, Error>
         ensures { PrintsBy self.now pattern.now result }
     {
-        if let Some(printed) = named_text(alloc, pattern, *self) {
+        if let Some(printed) = fast_text(alloc, pattern, *self) {
             return printed;
         }
         pattern_text(alloc, pattern, &self.to_zoned()?)

@@ -407,7 +407,7 @@ pub(crate) fn copy_text(alloc: Global, text: &str) -> Result<String, Error>
 }
 
 /// What a named pattern prints of a time, where it is known: interpreting the pattern takes four times as long.
-pub(crate) fn named_text(alloc: Global, pattern: &str, time: Time) -> Option<Result<String, Error>>
+pub(crate) fn fast_text(alloc: Global, pattern: &str, time: Time) -> Option<Result<String, Error>>
     ensures { IfSome result (PrintsBy time pattern.now) }
 {
     let t = local_moment(time)?;

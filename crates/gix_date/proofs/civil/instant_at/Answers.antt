@@ -4,7 +4,7 @@ use Rattle.jiff_core.proofs.SignedLemmas.{signed_arith}
 use Rattle.jiff_core.specs.DateTime.{civil_seconds as shown_seconds}
 use mir.Val.{hbits}
 use Rattle.gix_date.specs.Fields.Civil.{civil_seconds}
-use Rattle.gix_date.proofs.Instants.{no_date_or_clock, no_instant, an_instant, local_seconds, instant_range}
+use Rattle.gix_date.proofs.Fields.Instants.{no_date_or_clock, no_instant, an_instant, local_seconds, instant_range}
 use Rattle.gix_date.proofs.civil.instant_at.Goals as goal
 
 pub returns-in_default : goal.returns-in_default

@@ -1,5 +1,5 @@
 use Rattle.std.proofs.Common.{arith}
-use Rattle.gix_date.proofs.KnownBytes.{Appends-take}
+use Rattle.gix_date.proofs.Text.KnownBytes.{Appends-take}
 use Rattle.gix_date.proofs.device.put_all.Goals as goal
 
 pub loop-done-preserved : goal.loop-done-preserved

@@ -1,5 +1,5 @@
 use Rattle.gix_date.specs.Families.Raw.{is_raw_offset}
-use Rattle.gix_date.proofs.PrintedBack.{are-read-back}
+use Rattle.gix_date.proofs.Printing.PrintedBack.{are-read-back}
 use Rattle.gix_date.proofs.laws.headline.Goals as goal
 
 pub returns-clause-read_back : goal.returns-clause-read_back

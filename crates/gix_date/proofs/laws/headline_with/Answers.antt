@@ -1,6 +1,6 @@
 use Rattle.gix_date.specs.Families.Raw.{allows}
-use Rattle.gix_date.proofs.Disjoint.{are-disjoint}
-use Rattle.gix_date.proofs.PrintedBack.{are-read-back}
+use Rattle.gix_date.proofs.Families.Disjoint.{are-disjoint}
+use Rattle.gix_date.proofs.Printing.PrintedBack.{are-read-back}
 use Rattle.gix_date.proofs.laws.headline_with.Goals as goal
 
 pub returns-clause-disjoint : goal.returns-clause-disjoint

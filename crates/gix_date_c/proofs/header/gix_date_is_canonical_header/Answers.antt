@@ -2,7 +2,7 @@ use Rattle.std.proofs.Common.{◌≡◌, ◌∙◌, ℕ, List, Bool, true, false
 use Rattle.std.proofs.lemmas.Str.{is_utf8-from_IsUtf8}
 use Rattle.std.specs.Str.{is_utf8}
 use Rattle.gix_date.specs.Header.Canonical.{is_canonical_header}
-use Rattle.gix_date.proofs.HeaderLaws.{canonical-utf8}
+use Rattle.gix_date.proofs.Header.HeaderLaws.{canonical-utf8}
 use Rattle.gix_date_c.proofs.header.gix_date_is_canonical_header.Goals as goal
 
 -- bytes that are no text are no canonical header

@@ -1,6 +1,6 @@
 use Rattle.std.proofs.Common.{refl}
 use Rattle.std.proofs.lemmas.Str.{is_utf8-from_IsUtf8}
-use Rattle.gix_date.proofs.Texts.{no_text}
+use Rattle.gix_date.proofs.Text.Texts.{no_text}
 use Rattle.gix_date_c.proofs.text.text_of.Goals as goal
 
 pub returns-in-Ok : goal.returns-in-Ok

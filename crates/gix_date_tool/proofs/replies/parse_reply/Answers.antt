@@ -1,4 +1,4 @@
-use Rattle.gix_date.proofs.HeaderTexts.{fitting_has_text}
+use Rattle.gix_date.proofs.Header.HeaderTexts.{fitting_has_text}
 use Rattle.gix_date_tool.proofs.replies.parse_reply.Goals as goal
 
 pub returns-in-Ok-clause-writable : goal.returns-in-Ok-clause-writable

@@ -1,7 +1,7 @@
 use Rattle.std.proofs.Common.{◌≡◌, ℕ, List, refl, sym, subst}
 use Rattle.std.proofs.lemmas.Str.{is_utf8-from_IsUtf8}
 use Rattle.std.specs.Prelude.{IsUtf8}
-use Rattle.gix_date.proofs.Texts.{no_text}
+use Rattle.gix_date.proofs.Text.Texts.{no_text}
 use Rattle.gix_date_tool.specs.declared.arguments.Mode.{Mode}
 use Rattle.gix_date_tool.specs.declared.replies.Asked.{Asked}
 use Rattle.gix_date_tool.specs.declared.replies.Reply.{Reply}

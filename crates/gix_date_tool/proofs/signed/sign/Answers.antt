@@ -1,5 +1,5 @@
 use Rattle.std.proofs.Common.{◌∙◌, sym}
-use Rattle.gix_date.proofs.HeaderTexts.{no-text-held}
+use Rattle.gix_date.proofs.Header.HeaderTexts.{no-text-held}
 use Rattle.gix_signature.specs.Signature.{parts_of}
 use Rattle.gix_date_tool.proofs.Signing.{no-time-unsigned, wide-unsigned}
 use Rattle.gix_date_tool.proofs.signed.sign.Goals as goal

@@ -3,7 +3,7 @@ use Rattle.jiff.specs.Words.{plain_zoned}
 use Rattle.gix_date.specs.Fields.Layout.{LocalTime}
 use Rattle.gix_date.specs.Printing.LocalClocks.{clock_of, date_of_day}
 use Rattle.gix_date.specs.declared.time.Time.{Time}
-use Rattle.gix_date.proofs.FixedTimes.{moment-fixed}
+use Rattle.gix_date.proofs.Relative.FixedTimes.{moment-fixed}
 use Rattle.gix_date_vectors.proofs.names.laws_are_called_for_what_they_state_of_a_time.Goals as goal
 
 pub yesterday-requires : goal.yesterday-requires

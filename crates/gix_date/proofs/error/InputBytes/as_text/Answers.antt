@@ -1,7 +1,7 @@
 use Rattle.std.proofs.Common.{sym, ◌∙◌, subst}
 use Rattle.std.specs.Prelude.{codes}
 use Rattle.std.specs.Str.{IsUtf8}
-use Rattle.gix_date.proofs.Texts.{if_text, if_no_text}
+use Rattle.gix_date.proofs.Text.Texts.{if_text, if_no_text}
 use Rattle.gix_date.proofs.error.InputBytes.as_text.Goals as goal
 
 pub returns-in-Ok : goal.returns-in-Ok

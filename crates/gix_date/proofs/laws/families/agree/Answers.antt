@@ -1,5 +1,5 @@
 use Rattle.gix_date.specs.Families.Raw.{allows}
-use Rattle.gix_date.proofs.Agree.{iso8601-git, strict-git}
+use Rattle.gix_date.proofs.Families.Agree.{iso8601-git, strict-git}
 use Rattle.gix_date.proofs.laws.families.agree.Goals as goal
 
 pub returns-clause-iso8601 : goal.returns-clause-iso8601

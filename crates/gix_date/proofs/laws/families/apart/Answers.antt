@@ -1,4 +1,4 @@
-use Rattle.gix_date.proofs.Apart.{before-git-apart}
+use Rattle.gix_date.proofs.Families.Apart.{before-git-apart}
 use Rattle.gix_date.proofs.laws.families.apart.Goals as goal
 
 pub returns : goal.returns

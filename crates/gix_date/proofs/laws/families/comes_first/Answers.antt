@@ -1,5 +1,5 @@
 use Rattle.gix_date.specs.Families.Raw.{allows}
-use Rattle.gix_date.proofs.Agree.{comes-first}
+use Rattle.gix_date.proofs.Families.Agree.{comes-first}
 use Rattle.gix_date.proofs.laws.families.comes_first.Goals as goal
 
 pub returns : goal.returns

@@ -1,5 +1,5 @@
 use Rattle.gix_date.specs.Families.Raw.{is_wide_offset}
-use Rattle.gix_date.proofs.Disjoint.{are-disjoint}
+use Rattle.gix_date.proofs.Families.Disjoint.{are-disjoint}
 use Rattle.gix_date.proofs.laws.families.disjoint_wide.Goals as goal
 
 pub returns : goal.returns

@@ -1,5 +1,5 @@
 use Rattle.gix_date.specs.Families.Raw.{allows}
-use Rattle.gix_date.proofs.Shapes.{is-dispatched}
+use Rattle.gix_date.proofs.Families.Shapes.{is-dispatched}
 use Rattle.gix_date.proofs.laws.families.dispatched.Goals as goal
 
 pub returns : goal.returns

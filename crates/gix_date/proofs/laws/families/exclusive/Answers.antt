@@ -1,5 +1,5 @@
 use Rattle.gix_date.specs.Families.Raw.{allows}
-use Rattle.gix_date.proofs.Exclusive.{are-exclusive}
+use Rattle.gix_date.proofs.Families.Exclusive.{are-exclusive}
 use Rattle.gix_date.proofs.laws.families.exclusive.Goals as goal
 
 pub returns : goal.returns

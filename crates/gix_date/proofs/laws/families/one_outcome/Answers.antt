@@ -1,4 +1,4 @@
-use Rattle.gix_date.proofs.Chains.{one-outcome}
+use Rattle.gix_date.proofs.Relative.Chains.{one-outcome}
 use Rattle.gix_date.proofs.laws.families.one_outcome.Goals as goal
 
 pub returns : goal.returns

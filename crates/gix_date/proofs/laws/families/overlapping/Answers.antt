@@ -1,4 +1,4 @@
-use Rattle.gix_date.proofs.Overlaps.{are-overlapping}
+use Rattle.gix_date.proofs.Families.Overlaps.{are-overlapping}
 use Rattle.gix_date.proofs.laws.families.overlapping.Goals as goal
 
 pub returns : goal.returns

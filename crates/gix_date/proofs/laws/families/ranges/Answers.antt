@@ -1,4 +1,4 @@
-use Rattle.gix_date.proofs.Ranges.{absolute-near, outcome-written}
+use Rattle.gix_date.proofs.Families.Ranges.{absolute-near, outcome-written}
 use Rattle.gix_date.proofs.laws.families.ranges.Goals as goal
 
 pub returns-clause-absolute : goal.returns-clause-absolute

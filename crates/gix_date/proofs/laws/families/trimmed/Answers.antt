@@ -1,5 +1,5 @@
 use Rattle.gix_date.specs.Families.Raw.{allows}
-use Rattle.gix_date.proofs.AroundTexts.{git-around, relative-around, raw-around, header-around}
+use Rattle.gix_date.proofs.Text.AroundTexts.{git-around, relative-around, raw-around, header-around}
 use Rattle.gix_date.proofs.laws.families.trimmed.Goals as goal
 
 pub returns-clause-git : goal.returns-clause-git

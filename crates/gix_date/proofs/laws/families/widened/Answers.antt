@@ -1,4 +1,4 @@
-use Rattle.gix_date.proofs.Widened.{is-widened}
+use Rattle.gix_date.proofs.Families.Widened.{is-widened}
 use Rattle.gix_date.proofs.laws.families.widened.Goals as goal
 
 pub returns : goal.returns

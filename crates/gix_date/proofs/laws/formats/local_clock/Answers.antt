@@ -1,5 +1,5 @@
 use Rattle.jiff.specs.Words.{plain_zoned}
-use Rattle.gix_date.proofs.LocalClocks.{clock-shown, ordinary-to, ordinary-from, moment-shows}
+use Rattle.gix_date.proofs.Printing.LocalClocks.{clock-shown, ordinary-to, ordinary-from, moment-shows}
 use Rattle.gix_date.proofs.laws.formats.local_clock.Goals as goal
 
 pub returns-clause-shown : goal.returns-clause-shown

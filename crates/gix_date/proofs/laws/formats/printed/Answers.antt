@@ -1,6 +1,6 @@
 use Rattle.gix_date.specs.Printing.NamedTexts.{short_pattern, short_text, rfc2822_pattern, rfc2822_text, git_rfc2822_pattern, git_rfc2822_text, iso8601_pattern, iso8601_text, iso8601_strict_pattern, iso8601_strict_text, gitoxide_pattern, gitoxide_text, default_pattern, default_text}
-use Rattle.gix_date.proofs.NamedTexts.{formats_printed}
-use Rattle.gix_date.proofs.PrintedTimes.{printed-as}
+use Rattle.gix_date.proofs.Printing.NamedTexts.{formats_printed}
+use Rattle.gix_date.proofs.Printing.PrintedTimes.{printed-as}
 use Rattle.gix_date.proofs.laws.formats.printed.Goals as goal
 
 pub returns-clause-short : goal.returns-clause-short

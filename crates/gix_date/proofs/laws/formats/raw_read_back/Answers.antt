@@ -1,6 +1,6 @@
 use Rattle.std.proofs.Common.{rules, FitsSigned, w64}
 use Rattle.gix_date.specs.Families.Raw.{is_raw_offset}
-use Rattle.gix_date.proofs.RawBack.{raw-back, seconds-back}
+use Rattle.gix_date.proofs.Printing.RawBack.{raw-back, seconds-back}
 use Rattle.gix_date.proofs.laws.formats.raw_read_back.Goals as goal
 
 pub returns-clause-header : goal.returns-clause-header

@@ -1,5 +1,5 @@
 use Rattle.gix_date.specs.Families.Raw.{is_raw_offset}
-use Rattle.gix_date.proofs.PrintedBack.{are-read-back, is-kept}
+use Rattle.gix_date.proofs.Printing.PrintedBack.{are-read-back, is-kept}
 use Rattle.gix_date.proofs.laws.formats.read_back.Goals as goal
 
 pub returns : goal.returns

@@ -1,5 +1,5 @@
 use Rattle.gix_date.specs.Families.Raw.{allows}
-use Rattle.gix_date.proofs.ShortBack.{short-back}
+use Rattle.gix_date.proofs.Printing.ShortBack.{short-back}
 use Rattle.gix_date.proofs.laws.formats.short_read_back.Goals as goal
 
 pub returns : goal.returns

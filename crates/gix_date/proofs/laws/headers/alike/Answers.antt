@@ -1,5 +1,5 @@
 use Rattle.std.proofs.Common.{rules, FitsSigned, w64}
-use Rattle.gix_date.proofs.HeaderLaws.{alike-to, alike-from}
+use Rattle.gix_date.proofs.Header.HeaderLaws.{alike-to, alike-from}
 use Rattle.gix_date.proofs.laws.headers.alike.Goals as goal
 
 pub returns : goal.returns

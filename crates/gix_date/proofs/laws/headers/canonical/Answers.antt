@@ -1,4 +1,4 @@
-use Rattle.gix_date.proofs.HeaderLaws.{canonical-taken, canonical-back, comes-back-canonical}
+use Rattle.gix_date.proofs.Header.HeaderLaws.{canonical-taken, canonical-back, comes-back-canonical}
 use Rattle.gix_date.proofs.laws.headers.canonical.Goals as goal
 
 pub returns : goal.returns

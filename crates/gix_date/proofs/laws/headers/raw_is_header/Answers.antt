@@ -1,5 +1,5 @@
 use Rattle.gix_date.specs.Families.Raw.{allows}
-use Rattle.gix_date.proofs.RawHeaders.{raw-header, canonical-raw}
+use Rattle.gix_date.proofs.Header.RawHeaders.{raw-header, canonical-raw}
 use Rattle.gix_date.proofs.laws.headers.raw_is_header.Goals as goal
 
 pub returns-clause-read : goal.returns-clause-read

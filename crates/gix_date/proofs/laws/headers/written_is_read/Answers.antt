@@ -1,5 +1,5 @@
 use Rattle.std.proofs.Common.{rules, FitsSigned, w64}
-use Rattle.gix_date.proofs.HeaderLaws.{written-is-read}
+use Rattle.gix_date.proofs.Header.HeaderLaws.{written-is-read}
 use Rattle.gix_date.proofs.laws.headers.written_is_read.Goals as goal
 
 pub returns : goal.returns

@@ -1,8 +1,8 @@
 use Rattle.jiff.specs.Words.{plain_zoned, zoned_nanos}
 use Rattle.gix_date.specs.Relative.Steps.{zone_of}
-use Rattle.gix_date.proofs.FixedSteps.{months-in}
-use Rattle.gix_date.proofs.FixedZones.{all-months-loss}
-use Rattle.gix_date.proofs.Steps.{shows-local}
+use Rattle.gix_date.proofs.Relative.FixedSteps.{months-in}
+use Rattle.gix_date.proofs.Relative.FixedZones.{all-months-loss}
+use Rattle.gix_date.proofs.Relative.Steps.{shows-local}
 use Rattle.gix_date.proofs.laws.relative.months_add.Goals as goal
 
 pub returns : goal.returns

@@ -1,4 +1,4 @@
-use Rattle.gix_date.proofs.Ranges.{named-converts}
+use Rattle.gix_date.proofs.Families.Ranges.{named-converts}
 use Rattle.gix_date.proofs.laws.relative.named_converts.Goals as goal
 
 pub returns : goal.returns

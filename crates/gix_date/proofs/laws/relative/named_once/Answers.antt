@@ -1,4 +1,4 @@
-use Rattle.gix_date.proofs.Chains.{named-once}
+use Rattle.gix_date.proofs.Relative.Chains.{named-once}
 use Rattle.gix_date.proofs.laws.relative.named_once.Goals as goal
 
 pub returns : goal.returns

@@ -1,6 +1,6 @@
 use Rattle.jiff.specs.Words.{zoned_nanos}
 use Rattle.gix_date.specs.Relative.Steps.{zone_of}
-use Rattle.gix_date.proofs.NeverLater.{never-later}
+use Rattle.gix_date.proofs.Relative.NeverLater.{never-later}
 use Rattle.gix_date.proofs.laws.relative.never_later.Goals as goal
 
 pub returns : goal.returns

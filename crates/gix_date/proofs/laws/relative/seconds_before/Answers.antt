@@ -1,5 +1,5 @@
-use Rattle.gix_date.proofs.FixedTimes.{yesterday-before, seconds-before}
-use Rattle.gix_date.proofs.FixedZones.{all-seconds-loss}
+use Rattle.gix_date.proofs.Relative.FixedTimes.{yesterday-before, seconds-before}
+use Rattle.gix_date.proofs.Relative.FixedZones.{all-seconds-loss}
 use Rattle.gix_date.proofs.laws.relative.seconds_before.Goals as goal
 
 pub returns-clause-yesterday : goal.returns-clause-yesterday

@@ -3,8 +3,8 @@ use Rattle.std.proofs.lemmas.List.Sorted.{All-permutation, IsPermutation-sym, su
 use Rattle.jiff.specs.Words.{plain_zoned, zoned_nanos}
 use Rattle.gix_date.specs.Relative.FixedZones.{ProductFits, product, total}
 use Rattle.gix_date.specs.Relative.Steps.{zone_of}
-use Rattle.gix_date.proofs.FixedSteps.{seconds-in}
-use Rattle.gix_date.proofs.FixedZones.{IsLoss, total-sum_by, same-seconds, all-seconds-loss}
+use Rattle.gix_date.proofs.Relative.FixedSteps.{seconds-in}
+use Rattle.gix_date.proofs.Relative.FixedZones.{IsLoss, total-sum_by, same-seconds, all-seconds-loss}
 use Rattle.gix_date.proofs.laws.relative.seconds_permute.Goals as goal
 
 pub returns-clause-sum : goal.returns-clause-sum

@@ -1,4 +1,4 @@
-use Rattle.gix_date.proofs.RelativeGrammar.{relative-spelled}
+use Rattle.gix_date.proofs.Relative.RelativeGrammar.{relative-spelled}
 use Rattle.gix_date.proofs.laws.relative.spelled_relative.Goals as goal
 
 pub returns : goal.returns

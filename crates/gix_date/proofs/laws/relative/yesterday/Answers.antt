@@ -1,6 +1,6 @@
 use Rattle.jiff.specs.Words.{plain_zoned, zoned_nanos}
 use Rattle.gix_date.specs.Relative.Steps.{zone_of}
-use Rattle.gix_date.proofs.FixedSteps.{yesterday-in}
+use Rattle.gix_date.proofs.Relative.FixedSteps.{yesterday-in}
 use Rattle.gix_date.proofs.laws.relative.yesterday.Goals as goal
 
 pub returns : goal.returns

@@ -1,5 +1,5 @@
 use Rattle.std.proofs.Common.{arith}
-use Rattle.gix_date.proofs.AsciiCuts.{cut-pair}
+use Rattle.gix_date.proofs.Text.AsciiCuts.{cut-pair}
 use Rattle.gix_date.proofs.parsing.fields.read_marked_date.Goals as goal
 
 pub range_from-requires : goal.range_from-requires

@@ -3,8 +3,8 @@ use Rattle.std.proofs.lemmas.Int.{to_z-of_z}
 use Rattle.gix_date.specs.Fields.Front.{◌>>=◌}
 use Rattle.gix_date.specs.Git.ClockCut.{clock_cut}
 use Rattle.gix_date.specs.Git.Forms.{time_of_cut}
-use Rattle.gix_date.specs.Private.PlainRests.{time_at}
-use Rattle.gix_date.proofs.PlainRests.{rest-time}
+use Rattle.gix_date.specs.Private.FastRests.{time_at}
+use Rattle.gix_date.proofs.Fast.FastRests.{rest-time}
 use Rattle.gix_date.proofs.parsing.git.parse_rest.Goals as goal
 
 pub returns-in_default-seconds_within_a_day-clause-time : goal.returns-in_default-seconds_within_a_day-clause-time

@@ -1,5 +1,5 @@
 use Rattle.std.proofs.Common.{◌∙◌, sym}
-use Rattle.gix_date.proofs.HeaderLaws.{canonical-written, not-canonical}
+use Rattle.gix_date.proofs.Header.HeaderLaws.{canonical-written, not-canonical}
 use Rattle.gix_date.proofs.parsing.headers.is_canonical_header.Goals as goal
 
 pub returns-in-Some : goal.returns-in-Some

@@ -1,6 +1,6 @@
 use Rattle.std.proofs.Common.{arith}
 use Rattle.std.specs.Char.{is_ascii_digit}
-use Rattle.gix_date.proofs.AsciiCuts.{digit_is_ascii, cut_rest}
+use Rattle.gix_date.proofs.Text.AsciiCuts.{digit_is_ascii, cut_rest}
 use Rattle.gix_date.proofs.parsing.numbers.leading_digits.Goals as goal
 
 pub range-requires-clause-end_boundary : goal.range-requires-clause-end_boundary

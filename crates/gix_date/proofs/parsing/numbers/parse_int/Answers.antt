@@ -1,5 +1,5 @@
 use Rattle.std.proofs.Common.{◌∙◌}
-use Rattle.gix_date.proofs.Ints.{int_value_lem}
+use Rattle.gix_date.proofs.Text.Ints.{int_value_lem}
 use Rattle.gix_date.proofs.parsing.numbers.parse_int.Goals as goal
 
 pub returns : goal.returns

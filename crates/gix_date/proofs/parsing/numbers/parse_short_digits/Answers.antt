@@ -1,6 +1,6 @@
 use Rattle.std.proofs.Common.{rules, arith, ◌≡◌, ◌∙◌, ◌<◌, ◌^◌, ◌+◌, ◌*◌, sym, get_or, true}
 use Rattle.std.specs.Char.{is_ascii_digit}
-use Rattle.gix_date.proofs.ShortDigits.{so_far-small, value-more, digits-more}
+use Rattle.gix_date.proofs.Text.ShortDigits.{so_far-small, value-more, digits-more}
 use Rattle.gix_date.proofs.parsing.numbers.parse_short_digits.Goals as goal
 
 pub overflow_mul-value : goal.overflow_mul-value

@@ -1,5 +1,5 @@
 use Rattle.std.proofs.Common.{◌≡◌, length, arith}
-use Rattle.gix_date.proofs.ShortDigits.{ten-value, ten-all}
+use Rattle.gix_date.proofs.Text.ShortDigits.{ten-value, ten-all}
 use Rattle.gix_date.proofs.parsing.numbers.parse_ten_digits.Goals as goal
 
 pub returns-in_ok-low-in-len10-clause-digits : goal.returns-in_ok-low-in-len10-clause-digits

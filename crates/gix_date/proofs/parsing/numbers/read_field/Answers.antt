@@ -1,6 +1,6 @@
 use Rattle.std.proofs.Common.{◌<◌, ◌∙◌, sym, get_or, arith, subst}
 use Rattle.std.proofs.lemmas.Str.{IsCharBoundary-after_ascii}
-use Rattle.gix_date.proofs.AsciiCuts.{digit_is_ascii}
+use Rattle.gix_date.proofs.Text.AsciiCuts.{digit_is_ascii}
 use Rattle.gix_date.proofs.parsing.numbers.read_field.Goals as goal
 
 pub range_from-requires : goal.range_from-requires

@@ -1,4 +1,4 @@
-use Rattle.gix_date.proofs.AsciiCuts.{cut-pair}
+use Rattle.gix_date.proofs.Text.AsciiCuts.{cut-pair}
 use Rattle.std.proofs.Common.{arith}
 use Rattle.gix_date.proofs.parsing.numbers.read_two_digits.Goals as goal
 

@@ -4,7 +4,7 @@ use Rattle.jiff.specs.Types.{TimeZone}
 use Rattle.gix_date.specs.Private.RelativePairs.{pair_of, pairs_read}
 use Rattle.gix_date.specs.Relative.Steps.{PairStep}
 use Rattle.gix_date.specs.Relative.Words.{relative_words}
-use Rattle.gix_date.proofs.Chains.{left-next}
+use Rattle.gix_date.proofs.Relative.Chains.{left-next}
 use Rattle.gix_date.proofs.parsing.relative.subtract_pairs.Goals as goal
 
 pub loop-pair-preserved : goal.loop-pair-preserved

@@ -5,7 +5,7 @@ use Rattle.std.specs.Str.{IsUtf8}
 use Rattle.std.specs.Str.Iter.{split_whitespace_rest, split_whitespace_steps}
 use Rattle.std.specs.declared.str.SplitWhitespace.{SplitWhitespace}
 use Rattle.gix_date.specs.Text.SpaceWords.{space_words, first_words}
-use Rattle.gix_date.proofs.WordSteps.{step}
+use Rattle.gix_date.proofs.Text.WordSteps.{step}
 use Rattle.gix_date.proofs.parsing.space_words.first_words.Goals as goal
 
 -- what three steps say, the first of which gave a word

@@ -1,5 +1,5 @@
 use Rattle.std.proofs.Common.{refl}
-use Rattle.gix_date.proofs.Printing.{at-moment}
+use Rattle.gix_date.proofs.Printing.Printing.{at-moment}
 use Rattle.gix_date.proofs.time.Time.format_by_pattern.Goals as goal
 
 pub returns : goal.returns

@@ -1,7 +1,7 @@
 use Rattle.std.proofs.Common.{arith, ◌+◌}
 use Rattle.std.proofs.lemmas.Grind.{common_steps}
-use Rattle.gix_date.proofs.Decimals.{length-decimal_i64}
-use Rattle.gix_date.proofs.HeaderTexts.{length-header_text}
+use Rattle.gix_date.proofs.Text.Decimals.{length-decimal_i64}
+use Rattle.gix_date.proofs.Header.HeaderTexts.{length-header_text}
 use Rattle.gix_date.proofs.time.Time.size.Goals as goal
 
 pub overflow_add-result : goal.overflow_add-result

@@ -5,7 +5,7 @@ use Rattle.jiff_core.specs.declared.error.Error.TheVariants.{OutOfMemory}
 use Rattle.jiff_strtime.specs.Show.{IsShownAs, IsBadText}
 use Rattle.jiff_strtime.specs.Text.{parts_of}
 use Rattle.jiff_tz.specs.Zone.{zone_name, IsInfoAt}
-use Rattle.gix_date.proofs.Printing.{are-printed, shown-by, refused-by}
+use Rattle.gix_date.proofs.Printing.Printing.{are-printed, shown-by, refused-by}
 use Rattle.gix_date.proofs.time.format.pattern_text.Goals as goal
 
 pub returns-in-Ok : goal.returns-in-Ok

@@ -1,5 +1,5 @@
 use Rattle.std.proofs.Common.{◌∙◌, ◌++◌, [], ◌∷◌, List, ℕ, ap, arith}
-use Rattle.gix_date.proofs.ShownTexts.{day-of-one, day-of-two}
+use Rattle.gix_date.proofs.Printing.ShownTexts.{day-of-one, day-of-two}
 use Rattle.gix_date.proofs.time.named.push_day.Goals as goal
 
 pub returns-then-day-lt10-clause-bytes : goal.returns-then-day-lt10-clause-bytes

@@ -1,5 +1,5 @@
 use Rattle.std.proofs.Common.{arith}
-use Rattle.gix_date.proofs.Decimals.{length-decimal_step, length-decimal_digit, length-decimal_most}
+use Rattle.gix_date.proofs.Text.Decimals.{length-decimal_step, length-decimal_digit, length-decimal_most}
 use Rattle.gix_date.proofs.time.write.decimal_len.Goals as goal
 
 pub overflow_add-digits : goal.overflow_add-digits

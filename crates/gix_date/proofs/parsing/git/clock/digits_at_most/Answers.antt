@@ -1,7 +1,7 @@
 use Rattle.std.proofs.Common.{◌∙◌, sym, ap, arith}
 use Rattle.std.specs.Char.{is_ascii_digit}
 use Rattle.std.specs.List.{list_all}
-use Rattle.gix_date.proofs.ClockParts.{field_no, field_none, field_above, field_is}
+use Rattle.gix_date.proofs.Git.ClockParts.{field_no, field_none, field_above, field_is}
 use Rattle.gix_date.proofs.parsing.git.clock.digits_at_most.Goals as goal
 
 pub returns-then-not-are_digits-clause-value : goal.returns-then-not-are_digits-clause-value

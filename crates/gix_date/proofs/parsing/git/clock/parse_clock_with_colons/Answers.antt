@@ -1,7 +1,7 @@
 use Rattle.std.proofs.Common.{ap, ◌∙◌, rules, Some}
 use Rattle.gix_date.specs.Text.Characters.{is_colon}
 use Rattle.gix_date.specs.Git.Clock.{clock_of_fields, digits_at_most}
-use Rattle.gix_date.proofs.ClockParts.{by_one, by_two, by_three, more_parts}
+use Rattle.gix_date.proofs.Git.ClockParts.{by_one, by_two, by_three, more_parts}
 use Rattle.gix_date.proofs.parsing.git.clock.parse_clock_with_colons.Goals as goal
 
 pub returns-in_default-clause-value : goal.returns-in_default-clause-value

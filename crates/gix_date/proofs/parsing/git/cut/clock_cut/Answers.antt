@@ -1,4 +1,4 @@
-use Rattle.gix_date.proofs.ClockCuts.{cut_means}
+use Rattle.gix_date.proofs.Git.ClockCuts.{cut_means}
 use Rattle.gix_date.proofs.parsing.git.cut.clock_cut.Goals as goal
 
 pub returns-clause-meaning : goal.returns-clause-meaning

@@ -1,5 +1,5 @@
 use Rattle.std.proofs.Common.{sym}
-use Rattle.gix_date.proofs.ClockCuts.{sign_none, sign_found}
+use Rattle.gix_date.proofs.Git.ClockCuts.{sign_none, sign_found}
 use Rattle.gix_date.proofs.parsing.git.cut.cut_at_sign.Goals as goal
 
 pub returns-in_default : goal.returns-in_default

@@ -2,8 +2,8 @@ use Rattle.std.proofs.Common.{Some, None, ap, ◌∙◌, sym, arith}
 use Rattle.std.proofs.lemmas.Grind.{common_steps}
 use Rattle.std.proofs.lemmas.Str.{IsCharBoundary-after_ascii}
 use Rattle.std.specs.Str.{trim}
-use Rattle.gix_date.proofs.ClockCuts.{space_none, space_low, space_unsigned, space_found}
-use Rattle.gix_date.proofs.LastPlaces.{by_rfind}
+use Rattle.gix_date.proofs.Git.ClockCuts.{space_none, space_low, space_unsigned, space_found}
+use Rattle.gix_date.proofs.Text.LastPlaces.{by_rfind}
 use Rattle.gix_date.proofs.parsing.git.cut.cut_at_space.Goals as goal
 
 pub returns-in_default : goal.returns-in_default

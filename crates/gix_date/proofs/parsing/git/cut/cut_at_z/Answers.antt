@@ -1,6 +1,6 @@
 use Rattle.std.proofs.Common.{arith, rules, sym}
 use Rattle.std.proofs.lemmas.Grind.{common_steps}
-use Rattle.gix_date.proofs.ClockCuts.{z_found, z_none}
+use Rattle.gix_date.proofs.Git.ClockCuts.{z_found, z_none}
 use Rattle.gix_date.proofs.parsing.git.cut.cut_at_z.Goals as goal
 
 pub returns-then-ends_with : goal.returns-then-ends_with

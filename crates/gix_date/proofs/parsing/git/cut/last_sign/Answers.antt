@@ -1,6 +1,6 @@
 use Rattle.std.proofs.Common.{◌≡◌, ◌-◌, ap, ◌∙◌, sym, arith, false}
 use Rattle.gix_date.specs.Git.ClockCut.{last_place, has_offset_at, last_sign}
-use Rattle.gix_date.proofs.LastPlaces.{not_at}
+use Rattle.gix_date.proofs.Text.LastPlaces.{not_at}
 use Rattle.gix_date.proofs.parsing.git.cut.last_sign.Goals as goal
 
 pub loop-end-init : goal.loop-end-init

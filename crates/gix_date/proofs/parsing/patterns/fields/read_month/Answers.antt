@@ -1,6 +1,6 @@
 use Rattle.std.proofs.Common.{ℕ, List, ◌∙◌, ap, sym, Some, arith}
 use Rattle.gix_date.specs.Private.Views.{read_view}
-use Rattle.gix_date.proofs.NamesRead.{month-of, no-month-of, short-no-month, cut-three}
+use Rattle.gix_date.proofs.Fields.NamesRead.{month-of, no-month-of, short-no-month, cut-three}
 use Rattle.gix_date.proofs.parsing.patterns.fields.read_month.Goals as goal
 
 pub returns-in_err-month-in-len3-up-clause-value : goal.returns-in_err-month-in-len3-up-clause-value

@@ -1,7 +1,7 @@
 use Rattle.std.proofs.Common.{◌≡◌, ℕ, ◌<◌, true, arith}
 use Rattle.std.proofs.lemmas.Bool.Decides.{nat_tests}
 use Rattle.gix_date.specs.Text.Characters.{is_space}
-use Rattle.gix_date.proofs.AsciiCuts.{cut_rest}
+use Rattle.gix_date.proofs.Text.AsciiCuts.{cut_rest}
 use Rattle.gix_date.proofs.parsing.patterns.fields.skip_any_spaces.Goals as goal
 
 space_is_ascii : (c : ℕ) → is_space c ≡ true → c < 128

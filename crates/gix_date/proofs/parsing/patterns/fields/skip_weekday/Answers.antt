@@ -1,5 +1,5 @@
 use Rattle.std.proofs.Common.{◌∙◌, ap, sym, Some, arith}
-use Rattle.gix_date.proofs.NamesRead.{day-of, no-day-of, short-no-day, cut-three}
+use Rattle.gix_date.proofs.Fields.NamesRead.{day-of, no-day-of, short-no-day, cut-three}
 use Rattle.gix_date.proofs.parsing.patterns.fields.skip_weekday.Goals as goal
 
 pub range_from-requires : goal.range_from-requires

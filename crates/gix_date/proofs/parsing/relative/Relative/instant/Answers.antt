@@ -1,7 +1,7 @@
 use Rattle.jiff.specs.Words.{plain_zoned, zoned_nanos}
 use Rattle.gix_date.specs.Relative.Words.{relative_words}
-use Rattle.gix_date.proofs.Chains.{reaches-is, reaches-back}
-use Rattle.gix_date.proofs.Steps.{at-same}
+use Rattle.gix_date.proofs.Relative.Chains.{reaches-is, reaches-back}
+use Rattle.gix_date.proofs.Relative.Steps.{at-same}
 use Rattle.gix_date.proofs.parsing.relative.Relative.instant.Goals as goal
 
 pub returns-in_err-settle-in-Pairs-clause-reaches : goal.returns-in_err-settle-in-Pairs-clause-reaches

@@ -1,7 +1,7 @@
 use Rattle.std.proofs.Common.{rules, FitsSigned, w64}
 use Rattle.std.proofs.lemmas.Int.{to_z-of_z}
 use Rattle.gix_date.specs.Relative.Words.{relative_words}
-use Rattle.gix_date.proofs.FixedSteps.{before-fixed, pairs-fixed}
+use Rattle.gix_date.proofs.Relative.FixedSteps.{before-fixed, pairs-fixed}
 use Rattle.gix_date.proofs.parsing.relative.Relative.instant_at.Goals as goal
 
 pub returns-in-Before : goal.returns-in-Before

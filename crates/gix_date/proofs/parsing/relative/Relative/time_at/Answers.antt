@@ -2,7 +2,7 @@ use Rattle.std.proofs.Common.{rules, ap, ◌∙◌, FitsSigned, w32, w64}
 use Rattle.std.proofs.lemmas.Int.{to_z-of_z}
 use Rattle.gix_date.specs.Private.Views.{relative_date_of}
 use Rattle.gix_date.specs.declared.time.Time.{Time}
-use Rattle.gix_date.proofs.FixedSteps.{named-at, none-named}
+use Rattle.gix_date.proofs.Relative.FixedSteps.{named-at, none-named}
 use Rattle.gix_date.proofs.parsing.relative.Relative.time_at.Goals as goal
 
 pub returns-in_err-instant-clause-named : goal.returns-in_err-instant-clause-named

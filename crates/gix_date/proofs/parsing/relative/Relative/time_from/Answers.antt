@@ -1,6 +1,6 @@
 use Rattle.std.proofs.Common.{refl}
 use Rattle.jiff.specs.Words.{plain_zoned}
-use Rattle.gix_date.proofs.FixedSteps.{one-offset}
+use Rattle.gix_date.proofs.Relative.FixedSteps.{one-offset}
 use Rattle.gix_date.proofs.parsing.relative.Relative.time_from.Goals as goal
 
 pub time_at-requires : goal.time_at-requires

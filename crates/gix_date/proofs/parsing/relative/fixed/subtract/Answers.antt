@@ -1,6 +1,6 @@
 use Rattle.std.proofs.Common.{rules, FitsSigned, w64}
 use Rattle.std.proofs.lemmas.Int.{to_z-of_z}
-use Rattle.gix_date.proofs.FixedSteps.{same-instants, seconds-fixed}
+use Rattle.gix_date.proofs.Relative.FixedSteps.{same-instants, seconds-fixed}
 use Rattle.gix_date.proofs.parsing.relative.fixed.subtract.Goals as goal
 
 pub returns-in_err-checked_mul-in-Seconds : goal.returns-in_err-checked_mul-in-Seconds

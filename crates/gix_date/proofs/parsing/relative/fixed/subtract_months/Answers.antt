@@ -6,8 +6,8 @@ use Rattle.jiff.specs.Words.{fixed_zone, month_number, IsYear, IsEpochDay}
 use Rattle.jiff_core.proofs.CalendarLemmas.{days_in_month_bounds}
 use Rattle.jiff_core.proofs.SignedLemmas.{signed_arith}
 use Rattle.gix_date.specs.Relative.Steps.{rolled_day}
-use Rattle.gix_date.proofs.FixedSteps.{fixed-shows, months-from, months-at, rolled-from}
-use Rattle.gix_date.proofs.Steps.{picked-day}
+use Rattle.gix_date.proofs.Relative.FixedSteps.{fixed-shows, months-from, months-at, rolled-from}
+use Rattle.gix_date.proofs.Relative.Steps.{picked-day}
 use Rattle.gix_date.proofs.parsing.relative.fixed.subtract_months.Goals as goal
 
 pub roll-requires : goal.roll-requires

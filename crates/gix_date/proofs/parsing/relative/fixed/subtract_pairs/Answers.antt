@@ -2,7 +2,7 @@ use Rattle.std.proofs.Common.{rules}
 use Rattle.jiff.specs.Words.{fixed_zone}
 use Rattle.gix_date.specs.Private.RelativePairs.{pair_of, pairs_read}
 use Rattle.gix_date.specs.Relative.Words.{relative_words}
-use Rattle.gix_date.proofs.Chains.{left-next}
+use Rattle.gix_date.proofs.Relative.Chains.{left-next}
 use Rattle.gix_date.proofs.parsing.relative.fixed.subtract_pairs.Goals as goal
 
 pub loop-pair-preserved : goal.loop-pair-preserved

@@ -4,7 +4,7 @@ use denote.Shadow.{shadow}
 use Rattle.jiff.specs.Words.{fixed_zone}
 use Rattle.gix_date.specs.Private.RelativePairs.{pairs_read}
 use Rattle.gix_date.specs.Relative.Words.{relative_words}
-use Rattle.gix_date.proofs.Chains.{Left}
+use Rattle.gix_date.proofs.Relative.Chains.{Left}
 use Rattle.gix_date.proofs.parsing.relative.fixed.subtract_pairs.Given as goal
 
 abbrev pub invariant-loop-pair : goal.invariant-loop-pair

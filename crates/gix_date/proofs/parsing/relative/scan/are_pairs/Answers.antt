@@ -1,6 +1,6 @@
 use Rattle.gix_date.specs.Relative.Words.{relative_words}
-use Rattle.gix_date.proofs.RelativeScans.{verdict_at_end}
-use Rattle.gix_date.proofs.RolePlaces.{meant_by}
+use Rattle.gix_date.proofs.Relative.RelativeScans.{verdict_at_end}
+use Rattle.gix_date.proofs.Relative.RolePlaces.{meant_by}
 use Rattle.gix_date.proofs.parsing.relative.scan.are_pairs.Goals as goal
 
 pub returns-clause-value : goal.returns-clause-value

@@ -1,7 +1,7 @@
 use Rattle.std.proofs.Common.{◌∙◌, ap, arith, ℤ, pos, ◌+ℤ◌, FitsSigned, w8, w16, w64}
 use Rattle.std.proofs.lemmas.Int.{to_z-of_z}
 use Rattle.jiff_core.proofs.SignedLemmas.{signed_arith}
-use Rattle.gix_date.proofs.Steps.{first-exists}
+use Rattle.gix_date.proofs.Relative.Steps.{first-exists}
 use Rattle.gix_date.proofs.parsing.relative.steps.first_day_of.Goals as goal
 
 pub returns-in-Ok-new-clause-value : goal.returns-in-Ok-new-clause-value

@@ -1,5 +1,5 @@
 use Rattle.jiff.specs.Words.{plain_zoned}
-use Rattle.gix_date.proofs.Steps.{shows-local, settles-is, settles-back, at-same}
+use Rattle.gix_date.proofs.Relative.Steps.{shows-local, settles-is, settles-back, at-same}
 use Rattle.gix_date.proofs.parsing.relative.steps.settle.Goals as goal
 
 pub returns-clause-step : goal.returns-clause-step

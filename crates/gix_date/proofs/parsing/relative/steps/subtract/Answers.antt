@@ -1,6 +1,6 @@
 use Rattle.std.proofs.Common.{rules, FitsSigned, w64}
 use Rattle.std.proofs.lemmas.Int.{to_z-of_z}
-use Rattle.gix_date.proofs.Steps.{at-same}
+use Rattle.gix_date.proofs.Relative.Steps.{at-same}
 use Rattle.gix_date.proofs.parsing.relative.steps.subtract.Goals as goal
 
 pub returns-in_err-checked_mul-in-Seconds-clause-step : goal.returns-in_err-checked_mul-in-Seconds-clause-step

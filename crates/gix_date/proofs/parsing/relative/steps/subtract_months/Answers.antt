@@ -1,7 +1,7 @@
 use Rattle.std.proofs.Common.{rules, FitsSigned, w8, w64}
 use Rattle.std.proofs.lemmas.Int.{to_z-of_z}
 use Rattle.jiff.specs.Words.{plain_zoned}
-use Rattle.gix_date.proofs.Steps.{shows-local, months-step, months-back, at-same}
+use Rattle.gix_date.proofs.Relative.Steps.{shows-local, months-step, months-back, at-same}
 use Rattle.gix_date.proofs.parsing.relative.steps.subtract_months.Goals as goal
 
 pub returns-in_err-month_number-clause-step : goal.returns-in_err-month_number-clause-step

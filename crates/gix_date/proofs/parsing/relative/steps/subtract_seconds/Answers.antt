@@ -1,6 +1,6 @@
 use Rattle.std.proofs.Common.{refl, FitsSigned, w64}
 use Rattle.std.proofs.lemmas.Int.{to_z-of_z}
-use Rattle.gix_date.proofs.Steps.{at-same}
+use Rattle.gix_date.proofs.Relative.Steps.{at-same}
 use Rattle.gix_date.proofs.parsing.relative.steps.subtract_seconds.Goals as goal
 
 pub returns-clause-step : goal.returns-clause-step

@@ -2,7 +2,7 @@ use Rattle.std.proofs.Common.{◌<◌, ap, ◌∙◌, sym, arith, ◌∷◌, dro
 use Rattle.std.specs.List.{prefix_len}
 use Rattle.std.specs.Char.{is_ascii_alphanumeric}
 use Rattle.gix_date.specs.Relative.Words.{relative_words}
-use Rattle.gix_date.proofs.RelativeWordSteps.{no_word, word_comes, cut_after}
+use Rattle.gix_date.proofs.Relative.RelativeWordSteps.{no_word, word_comes, cut_after}
 use Rattle.gix_date.proofs.parsing.relative.words.next_word.Goals as goal
 
 pub returns-then-len-eq0-clause-words : goal.returns-then-len-eq0-clause-words

@@ -1,6 +1,6 @@
 use Rattle.std.proofs.Common.{◌≡◌, ◌-◌, ap, ◌∙◌, sym, arith, rules, length, take, cond}
 use Rattle.std.proofs.lemmas.Grind.{common_steps}
-use Rattle.gix_date.proofs.RelativeCounts.{without_small, without_other}
+use Rattle.gix_date.proofs.Relative.RelativeCounts.{without_small, without_other}
 use Rattle.gix_date.proofs.parsing.relative.words.singular.Goals as goal
 
 pub returns-then-ends_with : goal.returns-then-ends_with

@@ -1,4 +1,4 @@
-use Rattle.gix_date.proofs.RelativeWordSteps.{cut_before}
+use Rattle.gix_date.proofs.Relative.RelativeWordSteps.{cut_before}
 use Rattle.gix_date.proofs.parsing.relative.words.skip_gap.Goals as goal
 
 pub range_from-requires : goal.range_from-requires

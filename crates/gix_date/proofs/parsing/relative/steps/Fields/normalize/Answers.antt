@@ -1,7 +1,7 @@
 use Rattle.std.proofs.Common.{rules, refl, FitsSigned, w8, w64}
 use Rattle.std.proofs.lemmas.Int.{to_z-of_z}
 use Rattle.jiff.specs.Words.{plain_zone}
-use Rattle.gix_date.proofs.Steps.{first-is, picked-day, at-same}
+use Rattle.gix_date.proofs.Relative.Steps.{first-is, picked-day, at-same}
 use Rattle.gix_date.proofs.parsing.relative.steps.Fields.normalize.Goals as goal
 
 pub returns-in_err-date-clause-instant : goal.returns-in_err-date-clause-instant

@@ -1,0 +1,11 @@
+-- The families of texts, their order and what they share.
+pub mod Apart
+pub mod Disjoint
+pub mod Exclusive
+pub mod Ranges
+pub mod Agree
+pub mod Widened
+pub mod Shapes
+pub mod Overlaps
+pub mod Grammars
+pub mod RawLimits

@@ -1,0 +1,277 @@
+-- Raw texts, bare epochs and Git texts exclude one another, and the first two are not relative.
+use Rattle.std.proofs.Common.{◌≡◌, ◌∙◌, ℕ, ℤ, true, false, cond, List, [], ◌∷◌, ◌++◌, length, refl, ap, ap₂, sym, subst, arith, Some, None, Option, inl, inr, ◌⊎◌, IsUtf8}
+use Rattle.std.proofs.lemmas.Bool.{and_parts as both}
+use Rattle.std.proofs.lemmas.Bool.Decides.{nat_tests}
+use Rattle.std.specs.Char.{is_ascii_digit, is_ascii_alphabetic}
+use Rattle.std.specs.Option.{option_or}
+use Rattle.std.specs.Prelude.{◌==◌, nat_lt}
+use Rattle.std.specs.Str.{all_ascii_digits, trim}
+use Rattle.std.specs.Str.Parse.{without_leading_sign, signed_digits_value}
+use Rattle.gix_date.specs.Text.Characters.{plus, minus, dot, space, letter_t}
+use Rattle.gix_date.specs.Families.Epoch.{epoch_time}
+use Rattle.gix_date.specs.Fields.FieldTexts.{IsYear, IsDigit}
+use Rattle.gix_date.specs.Fields.Front.{skip_char, ◌>>=◌}
+use Rattle.gix_date.specs.Git.Forms.{read_marked_date, read_compact_date, dotted_time, compact_time, flexible_time, git_form, git_time, time_with_rest}
+use Rattle.gix_date.specs.Families.Laws.{AreDisjoint}
+use Rattle.gix_date.specs.Text.Numbers.{fits_i64, int_value, read_two_digits, read_year}
+use Rattle.gix_date.specs.Fields.Offsets.{offset_fields, offset_of}
+use Rattle.gix_date.specs.Families.Raw.{OffsetRule, raw_time_by, raw_offset_by}
+use Rattle.gix_date.specs.Text.SpaceWords.{space_words, first_words}
+use Rattle.gix_date.specs.declared.civil.DateFields.{DateFields}
+use Rattle.gix_date.specs.declared.parsing.offset.OffsetFields.{OffsetFields}
+use Rattle.gix_date.specs.declared.time.Time.{Time}
+use Rattle.gix_date.proofs.Families.Apart.{mixed}
+use Rattle.gix_date.proofs.Fields.FieldsTaken.{went, after-taken, year-taken, two-taken}
+use Rattle.gix_date.proofs.Text.FirstWords.{AreVisible, is_visible, first-begins, trimmed-words}
+use Rattle.gix_date.proofs.Text.Ints.{each_of}
+use Rattle.gix_date.proofs.Fast.FastHeaders.{int-taken, int-number, one-word, same_some}
+use Rattle.gix_date.proofs.Relative.QuietWords.{IsQuiet, no-relative}
+use Rattle.gix_date.proofs.Relative.QuietDates.{quiet-int, quiet-offset, quiet-two-words}
+
+-- What a Git text begins with: a digit, and not digits alone.
+pub record GitFront (text : List ℕ) : Type 0 where
+  pub first : ℕ
+  pub more : List ℕ
+  pub rest : List ℕ
+  pub whole : text ≡ (first ∷ more) ++ rest
+  pub visible : AreVisible (first ∷ more)
+  pub digit : is_ascii_digit first ≡ true
+  pub mixed : all_ascii_digits (first ∷ more) ≡ false
+
+pub digit_visible : (c : ℕ) → is_ascii_digit c ≡ true → is_visible c ≡ true
+digit_visible c h = grind (arith, nat_tests, h)
+
+pub year-front : (year : List ℕ) (n : ℕ) (mark : ℕ) (rest : List ℕ) → IsYear year n → is_visible mark ≡ true
+    → is_ascii_digit mark ≡ false → GitFront (year ++ (mark ∷ rest))
+year-front [] n mark rest h v d = absurd h
+year-front (a ∷ []) n mark rest h v d = absurd h
+year-front (a ∷ b ∷ []) n mark rest h v d = absurd h
+year-front (a ∷ b ∷ c ∷ []) n mark rest h v d = absurd h
+year-front (a ∷ b ∷ c ∷ e ∷ []) n mark rest h v d =
+    record {
+      first = a;
+      more = b ∷ c ∷ e ∷ mark ∷ [];
+      rest = rest;
+      whole = refl;
+      visible = (digit_visible a h.0, (digit_visible b h.1, (digit_visible c h.2, (digit_visible e h.3, (v, tt)))));
+      digit = h.0;
+      mixed = mixed (a ∷ b ∷ c ∷ e ∷ []) mark [] d;
+    }
+year-front (a ∷ b ∷ c ∷ e ∷ f ∷ t) n mark rest h v d = absurd h
+
+pub compact-year : (year : List ℕ) (n : ℕ) (m0 m1 d0 d1 mark : ℕ) (rest : List ℕ) → IsYear year n → IsDigit m0
+    → IsDigit m1 → IsDigit d0 → IsDigit d1 → is_visible mark ≡ true → is_ascii_digit mark ≡ false
+    → GitFront (year ++ (m0 ∷ m1 ∷ d0 ∷ d1 ∷ mark ∷ rest))
+compact-year [] n m0 m1 d0 d1 mark rest h p q r s v d = absurd h
+compact-year (a ∷ []) n m0 m1 d0 d1 mark rest h p q r s v d = absurd h
+compact-year (a ∷ b ∷ []) n m0 m1 d0 d1 mark rest h p q r s v d = absurd h
+compact-year (a ∷ b ∷ c ∷ []) n m0 m1 d0 d1 mark rest h p q r s v d = absurd h
+compact-year (a ∷ b ∷ c ∷ e ∷ []) n m0 m1 d0 d1 mark rest h p q r s v d =
+    record {
+      first = a;
+      more = b ∷ c ∷ e ∷ m0 ∷ m1 ∷ d0 ∷ d1 ∷ mark ∷ [];
+      rest = rest;
+      whole = refl;
+      visible = (digit_visible a h.0, (digit_visible b h.1, (digit_visible c h.2, (digit_visible e h.3, (digit_visible m0 p, (digit_visible m1 q, (digit_visible d0 r, (digit_visible d1 s, (v, tt)))))))));
+      digit = h.0;
+      mixed = mixed (a ∷ b ∷ c ∷ e ∷ m0 ∷ m1 ∷ d0 ∷ d1 ∷ []) mark [] d;
+    }
+compact-year (a ∷ b ∷ c ∷ e ∷ f ∷ t) n m0 m1 d0 d1 mark rest h p q r s v d = absurd h
+
+abbrev date_at : ℕ → ℕ → ℕ → List ℕ → DateFields × List ℕ
+date_at year month day rest = (record { year = year; month = month; day = day }, rest)
+
+marked-front : (mark : ℕ) (x : List ℕ) (date : DateFields × List ℕ) → is_visible mark ≡ true
+    → is_ascii_digit mark ≡ false → read_marked_date mark x ≡ Some date → GitFront x
+unfolding read_marked_date
+marked-front mark x date v d e =
+    let year = went (read_year x) (λ year. skip_char mark year.1 >>= λ r. read_two_digits r >>= λ month. skip_char mark month.1 >>= λ s. read_two_digits s >>= λ day. Some (date_at year.0 month.0 day.0 day.1)) date e in
+    let next = went (skip_char mark year.0.1) (λ r. read_two_digits r >>= λ month. skip_char mark month.1 >>= λ s. read_two_digits s >>= λ day. Some (date_at year.0.0 month.0 day.0 day.1)) date year.2 in
+    let y = year-taken x year.0.0 year.0.1 year.1 in
+    let split : x ≡ y.text ++ (mark ∷ next.0) =
+    y.whole ∙ ap (λ (t : List ℕ). y.text ++ t) (after-taken mark year.0.1 next.0 next.1) in
+    subst GitFront (sym split) (year-front y.text year.0.0 mark next.0 y.is v d)
+
+compact-front : (x : List ℕ) (date : DateFields × List ℕ) (rest : List ℕ) → read_compact_date x ≡ Some date
+    → skip_char letter_t date.1 ≡ Some rest → GitFront x
+unfolding read_compact_date
+compact-front x date rest e t =
+    let year = went (read_year x) (λ year. read_two_digits year.1 >>= λ month. read_two_digits month.1 >>= λ day. Some (date_at year.0 month.0 day.0 day.1)) date e in
+    let month = went (read_two_digits year.0.1) (λ month. read_two_digits month.1 >>= λ day. Some (date_at year.0.0 month.0 day.0 day.1)) date year.2 in
+    let day = went (read_two_digits month.0.1) (λ day. Some (date_at year.0.0 month.0.0 day.0 day.1)) date month.2 in
+    let y = year-taken x year.0.0 year.0.1 year.1 in
+    let m = two-taken year.0.1 month.0.0 month.0.1 month.1 in
+    let d = two-taken month.0.1 day.0.0 day.0.1 day.1 in
+    let same : day.0.1 ≡ date.1 =
+    ap (λ (p : DateFields × List ℕ). p.1) (same_some (date_at year.0.0 month.0.0 day.0.0 day.0.1) date day.2) in
+    let after_day : day.0.1 ≡ letter_t ∷ rest = same ∙ after-taken letter_t date.1 rest t in
+    let split : x ≡ y.text ++ (m.tens ∷ m.ones ∷ d.tens ∷ d.ones ∷ letter_t ∷ rest) =
+    y.whole ∙ ap (λ (t : List ℕ). y.text ++ t) (m.whole ∙ ap (λ (t : List ℕ). m.tens ∷ m.ones ∷ t) (d.whole ∙ ap (λ (t : List ℕ). d.tens ∷ d.ones ∷ t) after_day)) in
+    subst GitFront (sym split) (compact-year y.text year.0.0 m.tens m.ones d.tens d.ones letter_t rest y.is m.is_tens m.is_ones d.is_tens d.is_ones refl refl)
+
+dotted-front : (x : List ℕ) (t : Time) → dotted_time x ≡ Some t → GitFront x
+unfolding dotted_time
+dotted-front x t e =
+    let date = went (read_marked_date dot x) (λ date. skip_char space date.1 >>= λ r. time_with_rest date.0 r) t e in
+    marked-front dot x date.0 refl refl date.1
+
+flexible-front : (x : List ℕ) (t : Time) → flexible_time x ≡ Some t → GitFront x
+unfolding flexible_time
+flexible-front x t e =
+    let date = went (read_marked_date minus x) (λ date. option_or (skip_char letter_t date.1) (skip_char space date.1) >>= λ r. time_with_rest date.0 r) t e in
+    marked-front minus x date.0 refl refl date.1
+
+compact-time-front : (x : List ℕ) (t : Time) → compact_time x ≡ Some t → GitFront x
+unfolding compact_time
+compact-time-front x t e =
+    let date = went (read_compact_date x) (λ date. skip_char letter_t date.1 >>= λ r. time_with_rest date.0 r) t e in
+    let mark = went (skip_char letter_t date.0.1) (λ r. time_with_rest date.0.0 r) t date.2 in
+    compact-front x date.0 mark.0 date.1 mark.1
+
+pub first-or : {A : Type 0} (a b : Option A) (t : A) → option_or a b ≡ Some t → (a ≡ Some t) ⊎ (b ≡ Some t)
+first-or (Some x) b t e = inl e
+first-or None b t e = inr e
+
+form-by : (x : List ℕ) (t : Time) → (dotted_time x ≡ Some t) ⊎ (option_or (compact_time x) (flexible_time x) ≡ Some t)
+    → GitFront x
+form-by x t (inl e) = dotted-front x t e
+form-by x t (inr e) = elim (first-or (compact_time x) (flexible_time x) t e) [ inl c ↦ compact-time-front x t c | inr f ↦ flexible-front x t f ]
+
+pub git-front : (x : List ℕ) (t : Time) → git_form x ≡ Some t → GitFront x
+unfolding git_form
+git-front x t e = form-by x t (first-or (dotted_time x) (option_or (compact_time x) (flexible_time x)) t e)
+
+-- A text whose first word is an int text.
+pub record FirstNumber (text : List ℕ) : Type 0 where
+  pub word : List ℕ
+  pub words : List (List ℕ)
+  pub is : space_words text ≡ word ∷ words
+  pub value : ℤ
+  pub is_value : int_value word ≡ Some value
+
+pub front-digits : (a b : List ℕ) → all_ascii_digits (a ++ b) ≡ true → all_ascii_digits a ≡ true
+front-digits [] b h = refl
+front-digits (c ∷ a) b h =
+    let parts = both (is_ascii_digit c) (all_ascii_digits (a ++ b)) h in
+    rw parts.0 (front-digits a b parts.1)
+
+no-minus : (c : ℕ) → is_ascii_digit c ≡ true → (c == minus) ≡ false
+no-minus c h = grind (arith, nat_tests, h)
+
+no-plus : (c : ℕ) → is_ascii_digit c ≡ true → (c == plus) ≡ false
+no-plus c h = grind (arith, nat_tests, h)
+
+-- an int text that begins with a digit is digits
+pub int-digits : (c : ℕ) (t : List ℕ) (n : ℤ) → is_ascii_digit c ≡ true → int_value (c ∷ t) ≡ Some n
+    → all_ascii_digits (c ∷ t) ≡ true
+int-digits c t n d e =
+    let parts = each_of (nat_lt 0 (length (without_leading_sign (c ∷ t)))) (all_ascii_digits (without_leading_sign (c ∷ t))) (fits_i64 (signed_digits_value 10 (c ∷ t))) (int-taken (c ∷ t) n e).0 in
+    let bare : without_leading_sign (c ∷ t) ≡ c ∷ t = rw (no-minus c d, no-plus c d) refl in
+    ap all_ascii_digits (sym bare) ∙ parts.1
+
+pub same-first : {A : Type 0} (a b : A) (xs ys : List A) → a ∷ xs ≡ b ∷ ys → a ≡ b
+same-first a b xs ys e = cc
+
+pub no-git : (text : List ℕ) → IsUtf8 text → FirstNumber text → (t : Time) → git_time text ≡ Some t → ⊥
+unfolding git_time
+no-git text u f t e =
+    let g = git-front (trim text) t e in
+    let b = first-begins g.first g.more g.rest g.visible in
+    let same : f.word ≡ g.first ∷ (g.more ++ b.rest) = same-first f.word (g.first ∷ (g.more ++ b.rest)) f.words b.words (sym f.is ∙ sym (trimmed-words text u) ∙ ap space_words g.whole ∙ b.is) in
+    let digits = front-digits (g.first ∷ g.more) b.rest (int-digits g.first (g.more ++ b.rest) f.value g.digit (ap int_value (sym same) ∙ f.is_value)) in
+    let clash : true ≡ false = sym digits ∙ g.mixed in
+    cc
+
+pub letter_visible : (c : ℕ) → is_ascii_alphabetic c ≡ true → is_visible c ≡ true
+letter_visible c h = grind (arith, nat_tests, h)
+
+pub none-unless : {A : Type 0} (r : Option A) → ((x : A) → r ≡ Some x → ⊥) → r ≡ None
+none-unless (Some x) h = absurd (h x refl)
+none-unless None h = refl
+
+-- The two words of a raw text, by whatever rule for its offset, and the one of a bare epoch.
+pub record RawWords (text : List ℕ) : Type 0 where
+  pub front : List ℕ
+  pub zone : List ℕ
+  pub is : space_words text ≡ front ∷ zone ∷ []
+  pub value : ℤ
+  pub is_value : int_value front ≡ Some value
+  pub fields : OffsetFields
+  pub is_fields : offset_fields zone ≡ Some fields
+
+pub two-words-are : (ws : List (List ℕ)) (a b : List ℕ) (second : Option (List ℕ)) → first_words ws ≡ Some (a, second)
+    → second ≡ Some b → ws ≡ a ∷ b ∷ []
+two-words-are [] a b second e h = absurd cc
+two-words-are (x ∷ []) a b second e h =
+    let pair : ◌≡◌ {A = List ℕ × Option (List ℕ)} (x, None) (a, second) = same_some {A = List ℕ × Option (List ℕ)} (x, None) (a, second) e in
+    let clash : ◌≡◌ {A = Option (List ℕ)} None (Some b) = ap (λ (p : List ℕ × Option (List ℕ)). p.1) pair ∙ h in absurd cc
+two-words-are (x ∷ y ∷ []) a b second e h =
+    let pair : (x, Some y) ≡ (a, second) = same_some {A = List ℕ × Option (List ℕ)} (x, Some y) (a, second) e in
+    let first : x ≡ a = ap (λ (p : List ℕ × Option (List ℕ)). p.0) pair in
+    let next : y ≡ b = same_some y b (ap (λ (p : List ℕ × Option (List ℕ)). p.1) pair ∙ h) in
+    ap₂ (λ (s t : List ℕ). s ∷ t ∷ []) first next
+two-words-are (x ∷ y ∷ z ∷ more) a b second e h =
+    let pair : ◌≡◌ {A = List ℕ × Option (List ℕ)} (x, None) (a, second) = same_some {A = List ℕ × Option (List ℕ)} (x, None) (a, second) e in
+    let clash : ◌≡◌ {A = Option (List ℕ)} None (Some b) = ap (λ (p : List ℕ × Option (List ℕ)). p.1) pair ∙ h in absurd cc
+
+abbrev time_at : ℤ → ℤ → Time
+time_at seconds offset = record { seconds = seconds; offset = offset }
+
+raw-fields : (rule : OffsetRule) (o : List ℕ) (n : ℤ) → raw_offset_by rule o ≡ Some n
+    → (f : OffsetFields) × (offset_fields o ≡ Some f)
+unfolding raw_offset_by
+raw-fields rule o n e = let f = went (offset_fields o) (λ f. cond (rule f) (Some (offset_of f)) None) n e in (f.0, f.1)
+
+pub raw-words : (rule : OffsetRule) (text : List ℕ) (t : Time) → raw_time_by rule text ≡ Some t → RawWords text
+unfolding raw_time_by
+raw-words rule text t e =
+    let words = went (first_words (space_words text)) (λ words. words.1 >>= λ second. int_value words.0 >>= λ s. raw_offset_by rule second >>= λ o. Some (time_at s o)) t e in
+    let second = went words.0.1 (λ second. int_value words.0.0 >>= λ s. raw_offset_by rule second >>= λ o. Some (time_at s o)) t words.2 in
+    let seconds =
+    went (int_value words.0.0) (λ s. raw_offset_by rule second.0 >>= λ o. Some (time_at s o)) t second.2 in
+    let offset = went (raw_offset_by rule second.0) (λ o. Some (time_at seconds.0 o)) t seconds.2 in
+    let fields = raw-fields rule second.0 offset.0 offset.1 in
+    record {
+      front = words.0.0;
+      zone = second.0;
+      is = two-words-are (space_words text) words.0.0 second.0 words.0.1 words.1 second.1;
+      value = seconds.0;
+      is_value = seconds.1;
+      fields = fields.0;
+      is_fields = fields.1;
+    }
+
+pub epoch-int : (text : List ℕ) (t : Time) → epoch_time text ≡ Some t → (n : ℤ) × (int_value text ≡ Some n)
+unfolding epoch_time
+epoch-int text t e = let n = went (int_value text) _ t e in (n.0, n.1)
+
+pub raw-first : (text : List ℕ) → RawWords text → FirstNumber text
+raw-first text r = record { word = r.front; words = r.zone ∷ []; is = r.is; value = r.value; is_value = r.is_value }
+
+pub int-first : (text : List ℕ) (n : ℤ) → int_value text ≡ Some n → FirstNumber text
+int-first text n e =
+    record { word = text; words = []; is = one-word text (int-number text n e); value = n; is_value = e }
+
+pub raw-no-epoch : (rule : OffsetRule) (text : List ℕ) (t u : Time) → raw_time_by rule text ≡ Some t
+    → epoch_time text ≡ Some u → ⊥
+raw-no-epoch rule text t u e h =
+    let r = raw-words rule text t e in
+    let n = epoch-int text u h in
+    let clash : r.front ∷ r.zone ∷ [] ≡ text ∷ [] = sym r.is ∙ one-word text (int-number text n.0 n.1) in
+    cc
+
+pub quiet-raw : (rule : OffsetRule) (text : List ℕ) (t : Time) → IsUtf8 text → raw_time_by rule text ≡ Some t
+    → IsQuiet text
+quiet-raw rule text t u e =
+    let r = raw-words rule text t e in
+    quiet-two-words text r.front r.zone u r.is (quiet-int r.front r.value r.is_value) (quiet-offset r.zone r.fields r.is_fields)
+
+-- No text is of two of these families, and none of the first two is relative.
+pub are-disjoint : (rule : OffsetRule) (text : List ℕ) → IsUtf8 text → AreDisjoint rule text
+are-disjoint rule text u = record {
+  raw_epoch = λ t e. none-unless (epoch_time text) (λ v h. raw-no-epoch rule text t v e h);
+  raw_git = λ t e. none-unless (git_time text) (λ v h. no-git text u (raw-first text (raw-words rule text t e)) v h);
+  raw_relative = λ t e. no-relative text u (quiet-raw rule text t u e);
+  epoch_git = λ t e. (let n = epoch-int text t e in none-unless (git_time text) (λ v h. no-git text u (int-first text n.0 n.1) v h));
+  epoch_relative = λ t e. (let n = epoch-int text t e in no-relative text u (quiet-int text n.0 n.1));
+}

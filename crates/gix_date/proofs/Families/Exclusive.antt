@@ -1,0 +1,666 @@
+-- Which families hold texts of one another.
+use Rattle.std.proofs.Common.{pos, ◌≡◌, ◌≢◌, ◌∙◌, ◌<◌, ◌≤◌, ℕ, ℤ, Bool, true, false, List, [], ◌∷◌, ◌++◌, length, filter, get_or, refl, ap, sym, subst, arith, append-nil, append_assoc, map, encode_utf8_all, Some, None, Option, is_some, option_map, cond, unwrap_or, take, unsigned_abs, Result, inl, inr, ◌⊎◌, IsUtf8, zero, suc}
+use Rattle.std.proofs.lemmas.Bool.{cases_order, and_parts as both}
+use Rattle.std.proofs.lemmas.Bool.Decides.{nat_tests}
+use Rattle.std.proofs.lemmas.Str.{IsUtf8-drop, IsCharBoundary-after_ascii, IsUtf8-from_ascii, chars-append, chars-IsAscii, encodes-IsAscii}
+use Rattle.std.specs.Char.{is_ascii_digit, is_ascii_alphabetic, is_whitespace, is_not_whitespace}
+use Rattle.std.specs.List.{list_all}
+use Rattle.std.specs.Option.{option_or}
+use Rattle.std.specs.Prelude.{◌==◌, nat_lt}
+use Rattle.std.specs.Str.{trim, trim_start, trim_end, all_ascii_digits, chars, NonePass, skip_leading_whitespace, drop_trailing_whitespace}
+use Rattle.gix_date.specs.Families.Answer.{FamilyAnswer, Absolute, OffsetBeyond, InstantBeyond, Relative}
+use Rattle.gix_date.specs.Text.Characters.{at_sign, comma, minus, space, is_space}
+use Rattle.gix_date.specs.Families.Epoch.{at_time, epoch_time, utc_time}
+use Rattle.gix_date.specs.Families.Order.{Family, AtText, Short, Rfc2822, Iso8601, Iso8601Strict, Gitoxide, GitDefault, BareEpoch, GitForm, RelativeText, RawText, families, family_answer, answers_before_git, family_answers, first_answer_of, first_family_by, ParseNoAllocOutcome}
+use Rattle.gix_date.specs.Families.Laws.{AreExclusive, IgnoresMoment, Holds, overlap}
+use Rattle.gix_date.specs.Fields.FieldTexts.{IsYear, IsField, IsMonthName, IsDayPrefix, AreSpaces}
+use Rattle.gix_date.specs.Fields.Front.{skip_char, ◌>>=◌}
+use Rattle.gix_date.specs.Git.Forms.{git_time, git_form, dotted_time, compact_time, flexible_time, read_marked_date, read_compact_date}
+use Rattle.gix_date.specs.Text.Numbers.{int_value}
+use Rattle.gix_date.specs.Families.Patterns.{short_answer, rfc2822_answer, iso8601_answer, iso8601_strict_answer, gitoxide_answer, default_answer, rfc2822_layout, iso8601_layout, iso8601_strict_layout, gitoxide_layout, default_layout, time_answer, date_answer, day_answer, midnight, Spells, IsAnswered}
+use Rattle.gix_date.specs.Fields.DateFields.{skip_weekday, read_plain_date}
+use Rattle.gix_date.specs.Families.Raw.{OffsetRule, raw_time_by}
+use Rattle.gix_date.specs.Relative.Dates.{relative_date, RelativeDate}
+use Rattle.gix_date.specs.Text.SpaceWords.{space_words, runs}
+use Rattle.gix_date.specs.Fields.Civil.{civil_instant, is_date}
+use Rattle.gix_date.specs.Fields.Layout.{LocalTime, Piece, DayName, BeginsWith}
+use Rattle.gix_date.specs.declared.error.ParseError.{ParseError}
+use Rattle.gix_date.specs.declared.civil.ClockFields.{ClockFields}
+use Rattle.gix_date.specs.declared.civil.DateFields.{DateFields}
+use Rattle.gix_date.specs.declared.parsing.patterns.TheConstants.{MAX_OFFSET_IN_SECONDS}
+use Rattle.jiff.specs.declared.zoned.Zoned.{Zoned}
+use Rattle.gix_date.specs.declared.time.Time.{Time}
+use Rattle.gix_date.proofs.Families.Apart.{at-first, before-git-apart, NoPlainDate, NoDayFirst, no-day, no_pair, no_pair_of, pair_read, one-no-pair}
+use Rattle.gix_date.proofs.Text.AsciiCuts.{ascii-by}
+use Rattle.gix_date.proofs.Families.Disjoint.{none-unless, are-disjoint, raw-words, quiet-raw, epoch-int, git-front, same-first, front-digits, letter_visible, digit_visible}
+use Rattle.gix_date.proofs.Fields.FieldsRead.{Begins, name-begins, letter-no-digit, year-read}
+use Rattle.gix_date.proofs.Fields.FieldsTaken.{went, after-taken, weekday-taken}
+use Rattle.gix_date.proofs.Text.FirstWords.{AreVisible, visible_stays, are-ascii, first-begins, trimmed-words}
+use Rattle.gix_date.proofs.Fields.Layouts.{mail-front, dates_spelled}
+use Rattle.gix_date.proofs.Relative.QuietWords.{IsQuiet, no-relative}
+use Rattle.gix_date.proofs.Relative.QuietDates.{quiet-after, quiet-short, quiet-mail, quiet-iso8601, quiet-strict, quiet-gitoxide, quiet-default, quiet-int, field-digits, year-digits}
+use Rattle.gix_date.proofs.Printing.ReadBack.{first-at}
+use Rattle.gix_date.proofs.Text.FirstBytes.{no-git-byte, no-raw-front, no-raw-byte, plain-front, no-plain-by}
+use Rattle.gix_date.proofs.Fast.FastHeaders.{is_number_byte, offset-taken, IsMark}
+use Rattle.gix_date.proofs.Text.WordSteps.{runs_skip, run_first, stops}
+
+-- Texts that begin with a letter, or with visible bytes alone.
+git-no-letter : (name rest : List ℕ) → IsUtf8 (name ++ rest) → Begins is_ascii_alphabetic name
+    → git_time (name ++ rest) ≡ None
+git-no-letter [] rest u h = absurd h
+git-no-letter (c ∷ name) rest u h = no-git-byte c (name ++ rest) u (letter_visible c h) (letter-no-digit c h)
+
+pub skip-visible : (x : List ℕ) → AreVisible x → skip_leading_whitespace x ≡ x
+skip-visible [] h = refl
+skip-visible (c ∷ x) h = rw (visible_stays c h.0) refl
+
+pub drop-visible : (x : List ℕ) → AreVisible x → drop_trailing_whitespace x ≡ x
+drop-visible [] h = refl
+drop-visible (c ∷ x) h = rw (visible_stays c h.0) (ap (λ (t : List ℕ). c ∷ t) (drop-visible x h.1))
+
+pub trim-visible : (x : List ℕ) → AreVisible x → trim x ≡ x
+unfolding trim_start trim_end
+trim-visible x h =
+    let a = are-ascii x h in
+    let front : encode_utf8_all (skip_leading_whitespace (chars x)) ≡ x =
+    ap (λ (cs : List ℕ). encode_utf8_all (skip_leading_whitespace cs)) (chars-IsAscii x a)
+    ∙ ap encode_utf8_all (skip-visible x h) ∙ encodes-IsAscii x a in
+    ap (λ (t : List ℕ). encode_utf8_all (drop_trailing_whitespace (chars t))) front
+    ∙ ap (λ (cs : List ℕ). encode_utf8_all (drop_trailing_whitespace cs)) (chars-IsAscii x a)
+    ∙ ap encode_utf8_all (drop-visible x h) ∙ encodes-IsAscii x a
+
+-- a word of visible bytes, spaces, and what stands after them
+pub space_ascii : (c : ℕ) → is_space c ≡ true → c < 128
+space_ascii c h = grind (arith, nat_tests, h)
+
+pub space-white : (c : ℕ) → is_space c ≡ true → is_whitespace c ≡ true
+space-white c h = let is : c ≡ space = grind (arith, nat_tests, h) in rw is refl
+
+none-stay : (gap : List ℕ) → list_all is_space gap ≡ true → NonePass is_not_whitespace gap
+none-stay [] h = tt
+none-stay (c ∷ gap) h = let p = both (is_space c) (list_all is_space gap) h in (rw (space-white c p.0) refl, none-stay gap p.1)
+
+none-white : (t : List ℕ) → AreVisible t → NonePass is_whitespace t
+none-white [] h = tt
+none-white (c ∷ t) h = (visible_stays c h.0, none-white t h.1)
+
+word-then : (x : ℕ) (xs : List ℕ) (g : ℕ) (gap rest : List ℕ) → AreVisible (x ∷ xs) → AreSpaces (g ∷ gap)
+    → space_words ((x ∷ xs) ++ ((g ∷ gap) ++ rest)) ≡ (x ∷ xs) ∷ space_words rest
+unfolding space_words
+word-then x xs g gap rest v s =
+    let word = x ∷ xs in
+    let spaces = g ∷ gap in
+    let all : list_all is_space spaces ≡ true = rw (s.0, s.1) refl in
+    let a = are-ascii word v in
+    let b = ascii-by is_space space_ascii spaces all in
+    let read_word : chars (word ++ (spaces ++ rest)) ≡ word ++ chars (spaces ++ rest) =
+    chars-append word (spaces ++ rest) (IsUtf8-from_ascii word a)
+    ∙ ap (λ (t : List ℕ). t ++ chars (spaces ++ rest)) (chars-IsAscii word a) in
+    let read_gap : chars (spaces ++ rest) ≡ spaces ++ chars rest =
+    chars-append spaces rest (IsUtf8-from_ascii spaces b)
+    ∙ ap (λ (t : List ℕ). t ++ chars rest) (chars-IsAscii spaces b) in
+    let cut : runs (word ++ (spaces ++ chars rest)) ≡ word ∷ runs (chars rest) =
+    run_first x xs (spaces ++ chars rest) (none-white word v) (stops g (gap ++ chars rest) (space-white g s.0)) ∙ ap (λ (rs : List (List ℕ)). word ∷ rs) (runs_skip spaces (chars rest) (none-stay spaces all)) in
+    ap (λ (cs : List ℕ). map encode_utf8_all (runs cs)) (read_word ∙ ap (λ (t : List ℕ). word ++ t) read_gap)
+    ∙ ap (map encode_utf8_all) cut
+    ∙ ap (λ (t : List ℕ). t ∷ map encode_utf8_all (runs (chars rest))) (encodes-IsAscii word a)
+
+-- a raw text is none of the formatted dates, nor an at text
+raw-clash : (rule : OffsetRule) (text : List ℕ) (t : Time) → raw_time_by rule text ≡ Some t
+    → raw_time_by rule text ≡ None → ⊥
+raw-clash rule text t e h = let clash : None ≡ Some t = sym h ∙ e in cc
+
+letter-no-number : (c : ℕ) → is_ascii_alphabetic c ≡ true → is_number_byte c ≡ false
+letter-no-number c h = grind (arith, nat_tests, h)
+
+raw-no-letter : (rule : OffsetRule) (name rest : List ℕ) (t : Time) → Begins is_ascii_alphabetic name
+    → raw_time_by rule (name ++ rest) ≡ Some t → ⊥
+raw-no-letter rule [] rest t h e = absurd h
+raw-no-letter rule (c ∷ name) rest t h e =
+    raw-clash rule (c ∷ (name ++ rest)) t e (no-raw-byte rule c (name ++ rest) (letter_visible c h) (letter-no-number c h))
+
+pub field-visible : (day : List ℕ) (n : ℕ) → IsField day n → AreVisible day
+field-visible [] n h = tt
+field-visible (a ∷ []) n h = (digit_visible a h.0, tt)
+field-visible (a ∷ b ∷ []) n h = (digit_visible a h.0, (digit_visible b h.1, tt))
+field-visible (a ∷ b ∷ c ∷ t) n h = absurd h
+
+mark-no-letter : (c : ℕ) (s : _) → IsMark c s → is_ascii_alphabetic c ≡ false
+mark-no-letter c s (inl p) = rw p.0 refl
+mark-no-letter c s (inr p) = rw p.0 refl
+
+two-same : (a b c d : List ℕ) (ws : List (List ℕ)) → a ∷ b ∷ [] ≡ c ∷ d ∷ ws → b ≡ d
+two-same a b c d ws e = cc
+
+raw-no-day : (rule : OffsetRule) (day gap month rest : List ℕ) (n m : ℕ) (t : Time) → IsField day n → AreSpaces gap
+    → IsMonthName month m → raw_time_by rule (day ++ (gap ++ (month ++ rest))) ≡ Some t → ⊥
+raw-no-day rule [] gap month rest n m t h s k e = absurd h
+raw-no-day rule day [] month rest n m t h s k e = absurd s
+raw-no-day rule day gap [] rest n m t h s k e = absurd k.0
+raw-no-day rule (c ∷ day) (g ∷ gap) (l ∷ month) rest n m t h s k e =
+    let r = raw-words rule ((c ∷ day) ++ ((g ∷ gap) ++ ((l ∷ month) ++ rest))) t e in
+    let letter = name-begins (l ∷ month) k.0 in
+    let b = first-begins l [] (month ++ rest) (letter_visible l letter, tt) in
+    let words : r.front ∷ r.zone ∷ [] ≡ (c ∷ day) ∷ (l ∷ b.rest) ∷ b.words =
+    sym r.is ∙ word-then c day g gap ((l ∷ month) ++ rest) (field-visible (c ∷ day) n h) s
+    ∙ ap (λ (ws : List (List ℕ)). (c ∷ day) ∷ ws) b.is in
+    let o = offset-taken r.zone r.fields r.is_fields in
+    let same : l ∷ b.rest ≡ o.mark ∷ (o.h0 ∷ o.h1 ∷ o.m0 ∷ o.m1 ∷ o.last) =
+    sym (two-same r.front r.zone (c ∷ day) (l ∷ b.rest) b.words words) ∙ o.whole in
+    let first : l ≡ o.mark = same-first l o.mark b.rest _ same in
+    let clash : true ≡ false =
+    sym letter ∙ ap is_ascii_alphabetic first ∙ mark-no-letter o.mark r.fields.sign o.is_mark in
+    cc
+
+raw-no-mail : (rule : OffsetRule) (text : List ℕ) (t : Time) → raw_time_by rule text ≡ Some t
+    → rfc2822_answer text ≡ None
+raw-no-mail rule text t e = none-unless (rfc2822_answer text) (λ answer a.
+    let h = mail-front text answer a in
+    by-prefix h.prefix h.day h.gap h.month h.rest h.number h.month_number h.is_prefix h.is_day h.is_gap h.is_month (ap (raw_time_by rule) (sym h.whole) ∙ e))
+  where
+    by-prefix : (prefix day gap month rest : List ℕ) (n m : ℕ) → (prefix ≡ []) ⊎ IsDayPrefix prefix → IsField day n
+        → AreSpaces gap → IsMonthName month m → raw_time_by rule (prefix ++ (day ++ (gap ++ (month ++ rest)))) ≡ Some t
+        → ⊥
+    by-prefix prefix day gap month rest n m (inl none) h s k e =
+        raw-no-day rule day gap month rest n m t h s k (ap (λ (p : List ℕ). raw_time_by rule (p ++ (day ++ (gap ++ (month ++ rest))))) (sym none) ∙ e)
+    by-prefix prefix day gap month rest n m (inr named) h s k e =
+        let text = day ++ (gap ++ (month ++ rest)) in
+        let split : prefix ++ text ≡ named.name ++ (comma ∷ (named.gap ++ text)) = rw named.whole (simp append_assoc) in
+        raw-no-letter rule named.name (comma ∷ (named.gap ++ text)) t (name-begins named.name named.is_name.0) (ap (raw_time_by rule) (sym split) ∙ e)
+
+-- A day alone is no Git text: nothing stands after its day.
+abbrev day_text : List ℕ → List ℕ → List ℕ → List ℕ
+day_text year month day = year ++ (minus ∷ (month ++ (minus ∷ day)))
+
+day-no-form : (year month day : List ℕ) (n m d : ℕ) → IsYear year n → IsField month m → IsField day d
+    → git_form (day_text year month day) ≡ None
+unfolding git_form dotted_time compact_time flexible_time read_marked_date read_compact_date skip_char
+day-no-form year [] day n m d y h k = absurd h
+day-no-form year (a ∷ []) day n m d y h k =
+    let rest = a ∷ minus ∷ day in
+    rw (year-read year (minus ∷ rest) n y, no_pair minus rest refl, no_pair_of a minus day refl) refl
+day-no-form year (a ∷ b ∷ []) [] n m d y h k = absurd k
+day-no-form year (a ∷ b ∷ []) (c ∷ []) n m d y h k =
+    let rest = a ∷ b ∷ minus ∷ c ∷ [] in
+    rw (year-read year (minus ∷ rest) n y, no_pair minus rest refl, pair_read a b (minus ∷ c ∷ []) h.0 h.1, one-no-pair c) refl
+day-no-form year (a ∷ b ∷ []) (c ∷ e ∷ []) n m d y h k =
+    let rest = a ∷ b ∷ minus ∷ c ∷ e ∷ [] in
+    rw (year-read year (minus ∷ rest) n y, no_pair minus rest refl, pair_read a b (minus ∷ c ∷ e ∷ []) h.0 h.1, pair_read c e [] k.0 k.1) refl
+day-no-form year (a ∷ b ∷ []) (c ∷ e ∷ f ∷ t) n m d y h k = absurd k
+day-no-form year (a ∷ b ∷ c ∷ t) day n m d y h k = absurd h
+
+pub digits-visible : (t : List ℕ) → all_ascii_digits t ≡ true → AreVisible t
+digits-visible [] h = tt
+digits-visible (c ∷ t) h = let parts = both (is_ascii_digit c) (all_ascii_digits t) h in (digit_visible c parts.0, digits-visible t parts.1)
+
+pub visible-append : (s t : List ℕ) → AreVisible s → AreVisible t → AreVisible (s ++ t)
+visible-append [] t h k = k
+visible-append (c ∷ s) t h k = (h.0, visible-append s t h.1 k)
+
+short-no-git : (text : List ℕ) (answer : FamilyAnswer) → short_answer text ≡ Some answer → git_time text ≡ None
+unfolding git_time
+short-no-git text answer e =
+    let a = (dates_spelled.short text answer).0 e in
+    let h = a.are.is in
+    let split : text ≡ day_text h.year h.month h.day =
+    a.are.whole ∙ ap (λ (r : List ℕ). a.are.front ++ r) a.are.more ∙ append-nil a.are.front ∙ h.whole ∙ append_assoc h.year (minus ∷ h.month) (minus ∷ h.day) in
+    let visible : AreVisible (day_text h.year h.month h.day) =
+    visible-append h.year (minus ∷ (h.month ++ (minus ∷ h.day))) (digits-visible h.year (year-digits h.year a.time.date.year h.is_year))
+    (refl, visible-append h.month (minus ∷ h.day) (field-visible h.month a.time.date.month h.is_month) (refl, field-visible h.day a.time.date.day h.is_day)) in
+    ap git_time split ∙ ap git_form (trim-visible (day_text h.year h.month h.day) visible) ∙ day-no-form h.year h.month h.day a.time.date.year a.time.date.month a.time.date.day h.is_year h.is_month h.is_day
+
+-- A mail date is no Git text: its first word is a day of the month, or begins with a letter.
+pub git-no-day : (day gap rest : List ℕ) (n : ℕ) (t : Time) → IsUtf8 (day ++ (gap ++ rest)) → IsField day n → AreSpaces gap
+    → git_time (day ++ (gap ++ rest)) ≡ Some t → ⊥
+unfolding git_time
+git-no-day [] gap rest n t u h s e = absurd h
+git-no-day (c ∷ day) [] rest n t u h s e = absurd s
+git-no-day (c ∷ day) (g ∷ gap) rest n t u h s e =
+    let text = (c ∷ day) ++ ((g ∷ gap) ++ rest) in
+    let f = git-front (trim text) t e in
+    let b = first-begins f.first f.more f.rest f.visible in
+    let same : c ∷ day ≡ f.first ∷ (f.more ++ b.rest) =
+    same-first (c ∷ day) (f.first ∷ (f.more ++ b.rest)) (space_words rest) b.words
+    (sym (word-then c day g gap rest (field-visible (c ∷ day) n h) s) ∙ sym (trimmed-words text u) ∙ ap space_words f.whole ∙ b.is) in
+    let digits = front-digits (f.first ∷ f.more) b.rest (ap all_ascii_digits (sym same) ∙ field-digits (c ∷ day) n h) in
+    let clash : true ≡ false = sym digits ∙ f.mixed in
+    cc
+
+pub mail-no-git : (text : List ℕ) (answer : FamilyAnswer) → IsUtf8 text → rfc2822_answer text ≡ Some answer
+    → git_time text ≡ None
+mail-no-git text answer u a =
+    let h = mail-front text answer a in
+    none-unless (git_time text) (λ t e. by-prefix h.prefix h.day h.gap (h.month ++ h.rest) h.number t (subst IsUtf8 h.whole u) h.is_prefix h.is_day h.is_gap (ap git_time (sym h.whole) ∙ e))
+  where
+    by-prefix : (prefix day gap rest : List ℕ) (n : ℕ) (t : Time) → IsUtf8 (prefix ++ (day ++ (gap ++ rest)))
+        → (prefix ≡ []) ⊎ IsDayPrefix prefix → IsField day n → AreSpaces gap
+        → git_time (prefix ++ (day ++ (gap ++ rest))) ≡ Some t → ⊥
+    by-prefix prefix day gap rest n t u (inl none) h s e =
+        git-no-day day gap rest n t (subst (λ (p : List ℕ). IsUtf8 (p ++ (day ++ (gap ++ rest)))) none u) h s (ap (λ (p : List ℕ). git_time (p ++ (day ++ (gap ++ rest)))) (sym none) ∙ e)
+    by-prefix prefix day gap rest n t u (inr named) h s e =
+        let text = day ++ (gap ++ rest) in
+        let split : prefix ++ text ≡ named.name ++ (comma ∷ (named.gap ++ text)) =
+        rw named.whole (append_assoc named.name (comma ∷ named.gap) text) in
+        let none = git-no-letter named.name (comma ∷ (named.gap ++ text)) (subst IsUtf8 split u) (name-begins named.name named.is_name.0) in
+        let clash : None ≡ Some t = sym none ∙ ap git_time (sym split) ∙ e in
+        cc
+
+-- A relative text is of no other family but Git's own forms: the texts of the others are quiet.
+quiet-rest : (rule : OffsetRule) (rest : List ℕ) (t : Time) (raw : Option Time) (int : Option ℤ) → IsUtf8 rest
+    → raw_time_by rule rest ≡ raw → int_value rest ≡ int → option_or raw (option_map utc_time int) ≡ Some t
+    → IsQuiet rest
+quiet-rest rule rest t (Some v) int u e f h = quiet-raw rule rest v u e
+quiet-rest rule rest t None (Some n) u e f h = quiet-int rest n f
+quiet-rest rule rest t None None u e f h = absurd cc
+
+after-utf8 : (rest : List ℕ) → IsUtf8 (at_sign ∷ rest) → IsUtf8 rest
+after-utf8 rest u =
+    IsUtf8-drop (at_sign ∷ rest) 1 u (IsCharBoundary-after_ascii (at_sign ∷ rest) 0 u (omega arith) (omega arith))
+
+quiet-at : (rule : OffsetRule) (text : List ℕ) (t : Time) → IsUtf8 text → at_time rule text ≡ Some t → IsQuiet text
+unfolding at_time
+quiet-at rule text t u e =
+    let rest =
+    went (skip_char at_sign text) (λ rest. option_or (raw_time_by rule rest) (option_map utc_time (int_value rest))) t e in
+    let split : text ≡ at_sign ∷ rest.0 = after-taken at_sign text rest.0 rest.1 in
+    subst IsQuiet (sym split)
+    (quiet-after at_sign rest.0 refl (quiet-rest rule rest.0 t (raw_time_by rule rest.0) (int_value rest.0) (after-utf8 rest.0 (subst IsUtf8 split u)) refl refl rest.2))
+
+-- What a family answers, as a fact.
+abbrev pub Answered : OffsetRule → Family → List ℕ → Type 0
+Answered rule family text = (answer : FamilyAnswer) × (family_answer rule family text ≡ Some answer)
+
+pub answered : (rule : OffsetRule) (family : Family) (text : List ℕ) → Holds rule family text
+    → Answered rule family text
+answered rule family text h = found (family_answer rule family text) h
+  where
+    found : (r : Option FamilyAnswer) → is_some r ≡ true → (answer : FamilyAnswer) × (r ≡ Some answer)
+    found (Some x) e = (x, refl)
+    found None e = absurd cc
+
+pub absolute : (r : Option Time) → is_some (option_map Absolute r) ≡ true → (t : Time) × (r ≡ Some t)
+absolute (Some t) e = (t, refl)
+absolute None e = absurd cc
+
+relative : (r : Option RelativeDate) → is_some (option_map Relative r) ≡ true → r ≡ None → ⊥
+relative (Some d) e n = absurd cc
+relative None e n = absurd cc
+
+pub none-held : {A : Type 0} (r : Option A) → is_some r ≡ true → r ≡ None → ⊥
+none-held (Some x) e n = absurd cc
+none-held None e n = absurd cc
+
+pub no-absolute : (r : Option Time) → is_some (option_map Absolute r) ≡ true → r ≡ None → ⊥
+no-absolute (Some x) e n = absurd cc
+no-absolute None e n = absurd cc
+
+-- no quiet text is relative
+pub quiet-clash : (rule : OffsetRule) (text : List ℕ) → IsUtf8 text → IsQuiet text → Holds rule RelativeText text → ⊥
+quiet-clash rule text u q h = relative (relative_date text) h (no-relative text u q)
+
+is-quiet : (rule : OffsetRule) (family : Family) (text : List ℕ) → IsUtf8 text → family ≢ RelativeText
+    → overlap family RelativeText ≡ false → Holds rule family text → IsQuiet text
+is-quiet rule AtText text u n o h = let t = absolute (at_time rule text) h in quiet-at rule text t.0 u t.1
+is-quiet rule Short text u n o h = let a = answered rule Short text h in quiet-short text a.0 a.1
+is-quiet rule Rfc2822 text u n o h = let a = answered rule Rfc2822 text h in quiet-mail text a.0 a.1
+is-quiet rule Iso8601 text u n o h = let a = answered rule Iso8601 text h in quiet-iso8601 text a.0 a.1
+is-quiet rule Iso8601Strict text u n o h = let a = answered rule Iso8601Strict text h in quiet-strict text a.0 a.1
+is-quiet rule Gitoxide text u n o h = let a = answered rule Gitoxide text h in quiet-gitoxide text a.0 a.1
+is-quiet rule GitDefault text u n o h = let a = answered rule GitDefault text h in quiet-default text a.0 a.1
+is-quiet rule BareEpoch text u n o h = let t = absolute (epoch_time text) h in let i = epoch-int text t.0 t.1 in quiet-int text i.0 i.1
+is-quiet rule GitForm text u n o h = absurd cc
+is-quiet rule RelativeText text u n o h = absurd (n refl)
+is-quiet rule RawText text u n o h = let t = absolute (raw_time_by rule text) h in quiet-raw rule text t.0 u t.1
+
+-- Git's own forms
+named-no-git : {IsMore : List ℕ → Type 0} (time : LocalTime) (text : List ℕ) → IsUtf8 text → BeginsWith DayName time IsMore text
+    → git_time text ≡ None
+named-no-git time text u h = ap git_time h.whole ∙ git-no-letter h.front h.rest (subst IsUtf8 h.whole u) (name-begins h.front h.is.0)
+
+git-clash : (rule : OffsetRule) (family : Family) (text : List ℕ) → IsUtf8 text → family ≢ GitForm
+    → overlap family GitForm ≡ false → Holds rule family text → git_time text ≡ None
+git-clash rule AtText text u n o h =
+    let t = absolute (at_time rule text) h in
+    let f = at-first rule text t.0 t.1 in
+    ap git_time f.1 ∙ no-git-byte at_sign f.0 (subst IsUtf8 f.1 u) refl refl
+git-clash rule Short text u n o h = let a = answered rule Short text h in short-no-git text a.0 a.1
+git-clash rule Rfc2822 text u n o h = let a = answered rule Rfc2822 text h in mail-no-git text a.0 u a.1
+git-clash rule Iso8601 text u n o h = absurd cc
+git-clash rule Iso8601Strict text u n o h = absurd cc
+git-clash rule Gitoxide text u n o h = let a = answered rule Gitoxide text h in let d = (dates_spelled.gitoxide text a.0).0 a.1 in named-no-git d.time text u d.are
+git-clash rule GitDefault text u n o h = let a = answered rule GitDefault text h in let d = (dates_spelled.by_default text a.0).0 a.1 in named-no-git d.time text u d.are
+git-clash rule BareEpoch text u n o h = let t = absolute (epoch_time text) h in (are-disjoint rule text u).epoch_git t.0 t.1
+git-clash rule GitForm text u n o h = absurd (n refl)
+git-clash rule RelativeText text u n o h = absurd cc
+git-clash rule RawText text u n o h = let t = absolute (raw_time_by rule text) h in (are-disjoint rule text u).raw_git t.0 t.1
+
+-- raw texts
+raw-no-at : (rule : OffsetRule) (text : List ℕ) (t v : Time) → raw_time_by rule text ≡ Some t
+    → at_time rule text ≡ Some v → ⊥
+raw-no-at rule text t v e h = let f = at-first rule text v h in raw-clash rule text t e (ap (raw_time_by rule) f.1 ∙ no-raw-byte rule at_sign f.0 refl refl)
+
+raw-no-plain : (rule : OffsetRule) (text : List ℕ) (t : Time) → raw_time_by rule text ≡ Some t → NoPlainDate text
+raw-no-plain rule text t e =
+    no-plain-by text (none-unless (read_plain_date text) (λ d h. raw-clash rule text t e (no-raw-front rule text (plain-front text d h))))
+
+raw-no-named : (rule : OffsetRule) (text : List ℕ) (t : Time) → raw_time_by rule text ≡ Some t → NoDayFirst text
+raw-no-named rule text t e =
+    no-day text (none-unless (skip_weekday text) (λ r h. (let w =
+    weekday-taken text r h in raw-no-letter rule w.name r t (name-begins w.name w.is_name.0) (ap (raw_time_by rule) (sym w.whole) ∙ e))))
+
+raw-alone : (rule : OffsetRule) (family : Family) (text : List ℕ) (t : Time) → IsUtf8 text → family ≢ RawText
+    → raw_time_by rule text ≡ Some t → Holds rule family text → ⊥
+raw-alone rule AtText text t u n e h = let v = absolute (at_time rule text) h in raw-no-at rule text t v.0 e v.1
+raw-alone rule Short text t u n e h = none-held (short_answer text) h (raw-no-plain rule text t e).short
+raw-alone rule Rfc2822 text t u n e h = none-held (rfc2822_answer text) h (raw-no-mail rule text t e)
+raw-alone rule Iso8601 text t u n e h = none-held (iso8601_answer text) h (raw-no-plain rule text t e).iso8601
+raw-alone rule Iso8601Strict text t u n e h =
+    none-held (iso8601_strict_answer text) h (raw-no-plain rule text t e).strict
+raw-alone rule Gitoxide text t u n e h = none-held (gitoxide_answer text) h (raw-no-named rule text t e).gitoxide
+raw-alone rule GitDefault text t u n e h = none-held (default_answer text) h (raw-no-named rule text t e).by_default
+raw-alone rule BareEpoch text t u n e h = no-absolute (epoch_time text) h ((are-disjoint rule text u).raw_epoch t e)
+raw-alone rule GitForm text t u n e h = no-absolute (git_time text) h ((are-disjoint rule text u).raw_git t e)
+raw-alone rule RelativeText text t u n e h = quiet-clash rule text u (quiet-raw rule text t u e) h
+raw-alone rule RawText text t u n e h = absurd (n refl)
+
+-- the families before Git's own forms, by their places
+abbrev pub place : Family → ℕ
+place AtText = 0
+place Short = 1
+place Rfc2822 = 2
+place Iso8601 = 3
+place Iso8601Strict = 4
+place Gitoxide = 5
+place GitDefault = 6
+place BareEpoch = 7
+place GitForm = 8
+place RelativeText = 9
+place RawText = 10
+
+abbrev family_at : ℕ → Family
+family_at n = get_or families n RawText
+
+place-back : (family : Family) → family_at (place family) ≡ family
+place-back AtText = refl
+place-back Short = refl
+place-back Rfc2822 = refl
+place-back Iso8601 = refl
+place-back Iso8601Strict = refl
+place-back Gitoxide = refl
+place-back GitDefault = refl
+place-back BareEpoch = refl
+place-back GitForm = refl
+place-back RelativeText = refl
+place-back RawText = refl
+
+some-of : (answers : List (Option FamilyAnswer)) (i : ℕ) → is_some (get_or answers i None) ≡ true
+    → 1 ≤ length (filter is_some answers)
+some-of [] i h = absurd cc
+some-of (None ∷ answers) zero h = absurd cc
+some-of (None ∷ answers) (suc i) h = some-of answers i h
+some-of (Some a ∷ answers) i h = omega arith
+
+two-of : (answers : List (Option FamilyAnswer)) (i j : ℕ) → i < j → is_some (get_or answers i None) ≡ true
+    → is_some (get_or answers j None) ≡ true → length (filter is_some answers) ≤ 1 → ⊥
+two-of [] i j l h k m = absurd cc
+two-of (a ∷ answers) i zero l h k m = omega (arith, l)
+two-of (None ∷ answers) zero (suc j) l h k m = absurd cc
+two-of (Some a ∷ answers) zero (suc j) l h k m = let more = some-of answers j k in omega (arith, more, m)
+two-of (None ∷ answers) (suc i) (suc j) l h k m = two-of answers i j (omega (arith, l)) h k m
+two-of (Some a ∷ answers) (suc i) (suc j) l h k m = let more = some-of answers j k in omega (arith, more, m)
+
+holds-at : (rule : OffsetRule) (family : Family) (text : List ℕ) → nat_lt (place family) 8 ≡ true
+    → get_or (answers_before_git rule text) (place family) None ≡ family_answer rule family text
+holds-at rule GitForm text e = absurd cc
+holds-at rule RelativeText text e = absurd cc
+holds-at rule RawText text e = absurd cc
+holds-at rule family text e = refl
+
+early-clash : (rule : OffsetRule) (a b : Family) (text : List ℕ) → nat_lt (place a) 8 ≡ true → nat_lt (place b) 8 ≡ true
+    → a ≢ b → Holds rule a text → Holds rule b text → ⊥
+early-clash rule a b text e f n h k =
+    let first : is_some (get_or (answers_before_git rule text) (place a) None) ≡ true =
+    ap is_some (holds-at rule a text e) ∙ h in
+    let second : is_some (get_or (answers_before_git rule text) (place b) None) ≡ true =
+    ap is_some (holds-at rule b text f) ∙ k in
+    let one = before-git-apart rule text in
+    by-order (cases_order (place a) (place b)) first second one
+  where
+    by-order : (place a ≡ place b) ⊎ ((place a < place b) ⊎ (place b < place a))
+        → is_some (get_or (answers_before_git rule text) (place a) None) ≡ true
+        → is_some (get_or (answers_before_git rule text) (place b) None) ≡ true
+        → length (filter is_some (answers_before_git rule text)) ≤ 1 → ⊥
+    by-order (inl same) first second one = n (sym (place-back a) ∙ ap family_at same ∙ place-back b)
+    by-order (inr (inl less)) first second one =
+        two-of (answers_before_git rule text) (place a) (place b) less first second one
+    by-order (inr (inr more)) first second one =
+        two-of (answers_before_git rule text) (place b) (place a) more second first one
+
+-- `overlap` is the same both ways
+flip-git : (family : Family) → overlap GitForm family ≡ overlap family GitForm
+flip-git AtText = refl
+flip-git family = refl
+
+flip-relative : (family : Family) → overlap RelativeText family ≡ overlap family RelativeText
+flip-relative AtText = refl
+flip-relative family = refl
+
+-- two families that do not overlap
+clash : (rule : OffsetRule) (a b : Family) (text : List ℕ) → IsUtf8 text → a ≢ b → overlap a b ≡ false
+    → Holds rule a text → Holds rule b text → ⊥
+clash rule RawText b text u n o h k = let t = absolute (raw_time_by rule text) h in raw-alone rule b text t.0 u (λ e. n (sym e)) t.1 k
+clash rule a RawText text u n o h k = let t = absolute (raw_time_by rule text) k in raw-alone rule a text t.0 u n t.1 h
+clash rule RelativeText b text u n o h k =
+    quiet-clash rule text u (is-quiet rule b text u (λ e. n (sym e)) (sym (flip-relative b) ∙ o) k) h
+clash rule a RelativeText text u n o h k = quiet-clash rule text u (is-quiet rule a text u n o h) k
+clash rule GitForm b text u n o h k =
+    no-absolute (git_time text) h (git-clash rule b text u (λ e. n (sym e)) (sym (flip-git b) ∙ o) k)
+clash rule a GitForm text u n o h k = no-absolute (git_time text) k (git-clash rule a text u n o h)
+clash rule a b text u n o h k = early-clash rule a b text refl refl n h k
+
+pub are-exclusive : (rule : OffsetRule) (text : List ℕ) → IsUtf8 text → AreExclusive rule text
+are-exclusive rule text u a b n o h =
+    none-unless (family_answer rule b text) (λ x e. clash rule a b text u n o h (ap is_some e))
+
+-- What comes first.
+pub differ : (a b : Family) → (place a == place b) ≡ false → a ≢ b
+differ a b e s = let same : (place a == place a) ≡ true = grind (arith, nat_tests) in let clash : true ≡ false = sym same ∙ ap (λ (f : Family). place a == place f) s ∙ e in cc
+
+raw-first : (rule : OffsetRule) (text : List ℕ) → IsUtf8 text → Holds rule RawText text
+    → first_family_by rule text ≡ family_answer rule RawText text
+unfolding first_family_by
+raw-first rule text u h =
+    let none : (b : Family) → (place RawText == place b) ≡ false → overlap RawText b ≡ false → family_answer rule b text ≡ None = λ b d o. are-exclusive rule text u RawText b (differ RawText b d) o h in
+    let a = answered rule RawText text h in
+    rw (none AtText refl refl, none Short refl refl, none Rfc2822 refl refl, none Iso8601 refl refl, none Iso8601Strict refl refl, none Gitoxide refl refl, none GitDefault refl refl, none BareEpoch refl refl, none GitForm refl refl, none RelativeText refl refl, a.1) refl
+
+pub alone-first : (rule : OffsetRule) (family : Family) (text : List ℕ) → IsUtf8 text → family ≢ GitForm
+    → family ≢ RelativeText → Holds rule family text → first_family_by rule text ≡ family_answer rule family text
+alone-first rule GitForm text u n m h = absurd (n refl)
+alone-first rule RelativeText text u n m h = absurd (m refl)
+alone-first rule RawText text u n m h = raw-first rule text u h
+alone-first rule family text u n m h = let a = answered rule family text h in first-at rule (place family) text a.0 a.1 ∙ sym a.1
+
+pub git-first : (rule : OffsetRule) (text : List ℕ) → IsUtf8 text → family_answer rule Iso8601 text ≡ None
+    → family_answer rule Iso8601Strict text ≡ None → Holds rule GitForm text
+    → first_family_by rule text ≡ family_answer rule GitForm text
+unfolding first_family_by
+git-first rule text u p q h =
+    let none : (b : Family) → (place GitForm == place b) ≡ false → overlap GitForm b ≡ false → family_answer rule b text ≡ None = λ b d o. are-exclusive rule text u GitForm b (differ GitForm b d) o h in
+    let a = answered rule GitForm text h in
+    rw (none AtText refl refl, none Short refl refl, none Rfc2822 refl refl, p, q, none Gitoxide refl refl, none GitDefault refl refl, none BareEpoch refl refl, a.1) refl
+
+pub relative-first : (rule : OffsetRule) (text : List ℕ) → IsUtf8 text → family_answer rule GitForm text ≡ None
+    → Holds rule RelativeText text → first_family_by rule text ≡ family_answer rule RelativeText text
+unfolding first_family_by
+relative-first rule text u g h =
+    let none : (b : Family) → (place RelativeText == place b) ≡ false → overlap RelativeText b ≡ false → family_answer rule b text ≡ None = λ b d o. are-exclusive rule text u RelativeText b (differ RelativeText b d) o h in
+    let a = answered rule RelativeText text h in
+    rw (none AtText refl refl, none Short refl refl, none Rfc2822 refl refl, none Iso8601 refl refl, none Iso8601Strict refl refl, none Gitoxide refl refl, none GitDefault refl refl, none BareEpoch refl refl, g, a.1) refl
+
+pub raw-first-family : (rule : OffsetRule) (text : List ℕ) (t : Time) → IsUtf8 text → raw_time_by rule text ≡ Some t
+    → first_family_by rule text ≡ Some (Absolute t)
+raw-first-family rule text t u e =
+    raw-first rule text u (ap (λ (r : Option Time). is_some (option_map Absolute r)) e) ∙ ap (option_map Absolute) e
+
+pub epoch-first-family : (rule : OffsetRule) (text : List ℕ) (t : Time) → IsUtf8 text → epoch_time text ≡ Some t
+    → first_family_by rule text ≡ Some (Absolute t)
+epoch-first-family rule text t u e =
+    alone-first rule BareEpoch text u (differ BareEpoch GitForm refl) (differ BareEpoch RelativeText refl) (ap (λ (r : Option Time). is_some (option_map Absolute r)) e)
+    ∙ ap (option_map Absolute) e
+
+-- No moment is asked where the first family is not the relative one.
+abbrev IsNotRelative : Option FamilyAnswer → Type 0
+IsNotRelative (Some (Relative date)) = ⊥
+IsNotRelative _ = Unit {0}
+
+same-for : (found : Option FamilyAnswer) → IsNotRelative found
+    → (now other : Option Zoned) (result : Result Time ParseError) → ParseNoAllocOutcome found now result
+    → ParseNoAllocOutcome found other result
+same-for (Some (Absolute t)) n now other result h = h
+same-for (Some (Relative date)) n now other result h = absurd n
+same-for (Some OffsetBeyond) n now other result h = h
+same-for (Some InstantBeyond) n now other result h = h
+same-for None n now other result h = h
+
+ignores-by : (rule : OffsetRule) (found : Option FamilyAnswer) (text : List ℕ) → first_family_by rule text ≡ found
+    → IsNotRelative found → IgnoresMoment rule text
+ignores-by rule found text e n now other result h =
+    let at-now = subst (λ (r : Option FamilyAnswer). ParseNoAllocOutcome r now h.0) e h.1 in
+    let same = same-for found n now other h.0 at-now in
+    (h.0, subst (λ (r : Option FamilyAnswer). ParseNoAllocOutcome r other h.0) (sym e) same, h.2)
+
+not-relative : (r : Option Time) → IsNotRelative (option_map Absolute r)
+not-relative (Some t) = tt
+not-relative None = tt
+
+raw-ignores : (rule : OffsetRule) (text : List ℕ) → IsUtf8 text → Holds rule RawText text
+    → IgnoresMoment rule text
+raw-ignores rule text u h =
+    ignores-by rule (family_answer rule RawText text) text (raw-first rule text u h) (not-relative (raw_time_by rule text))
+
+epoch-ignores : (rule : OffsetRule) (text : List ℕ) → IsUtf8 text → Holds rule BareEpoch text
+    → IgnoresMoment rule text
+epoch-ignores rule text u h =
+    ignores-by rule (family_answer rule BareEpoch text) text (alone-first rule BareEpoch text u (differ BareEpoch GitForm refl) (differ BareEpoch RelativeText refl) h) (not-relative (epoch_time text))
+
+date-not-relative : (date : DateFields) (clock : ClockFields) (offset : ℤ)
+    → IsNotRelative (date_answer date clock offset)
+unfolding date_answer
+date-not-relative date clock offset =
+    by_instant (civil_instant date clock offset) (nat_lt MAX_OFFSET_IN_SECONDS (unsigned_abs offset))
+  where
+    by_instant : (found : Option ℤ) (far : Bool)
+        → IsNotRelative (found >>= (λ seconds. cond far (Some OffsetBeyond) (Some (Absolute (record { seconds = seconds; offset = offset })))))
+    by_instant None far = tt
+    by_instant (Some s) true = tt
+    by_instant (Some s) false = tt
+
+-- a date of such pieces
+dated : (rule : OffsetRule) (layout : List Piece) (family : Family) (text : List ℕ)
+    → Spells (family_answer rule family) (IsAnswered layout time_answer) → Holds rule family text
+    → IsNotRelative (family_answer rule family text)
+dated rule layout family text law h =
+    let a = answered rule family text h in
+    let k = (law text a.0).0 a.1 in
+    subst IsNotRelative (k.comes ∙ sym a.1) (date-not-relative k.time.date k.time.clock k.time.offset)
+
+short-not-relative : (text : List ℕ) → IsNotRelative (short_answer text)
+short-not-relative text = by_answer (short_answer text) refl
+  where
+    by_day : (found : Option ℤ)
+        → IsNotRelative (Some (unwrap_or (found >>= (λ seconds. Some (Absolute (record { seconds = seconds; offset = pos 0 })))) InstantBeyond))
+    by_day (Some s) = tt
+    by_day None = tt
+
+    by_real : (real : Bool) (date : DateFields) → IsNotRelative (cond real (Some (day_answer date)) None)
+    by_real true date = by_day (civil_instant date midnight (pos 0))
+    by_real false date = tt
+
+    by_answer : (found : Option FamilyAnswer) → short_answer text ≡ found → IsNotRelative found
+    by_answer (Some x) e = let k = (dates_spelled.short text x).0 e in subst IsNotRelative k.comes (by_real (is_date k.time.date) k.time.date)
+    by_answer None e = tt
+
+date-not : (rule : OffsetRule) (layout : List Piece) (family : Family) (text : List ℕ)
+    → Spells (family_answer rule family) (IsAnswered layout time_answer)
+    → IsNotRelative (family_answer rule family text)
+date-not rule layout family text law = by_answer (family_answer rule family text) refl
+  where
+    by_answer : (found : Option FamilyAnswer) → family_answer rule family text ≡ found → IsNotRelative found
+    by_answer (Some x) e = subst IsNotRelative e (dated rule layout family text law (ap is_some e))
+    by_answer None e = tt
+
+abbrev AreNotRelative : List (Option FamilyAnswer) → Type 0
+AreNotRelative [] = Unit {0}
+AreNotRelative (answer ∷ answers) = IsNotRelative answer × AreNotRelative answers
+
+counting-by : (front : List (Option FamilyAnswer)) (counts : Option RelativeDate) (raw : Option Time) (date : RelativeDate)
+    → AreNotRelative front
+    → first_answer_of (front ++ (option_map Relative counts ∷ option_map Absolute raw ∷ [])) ≡ Some (Relative date)
+    → counts ≡ Some date
+counting-by [] (Some d) raw date h e = cc
+counting-by [] None (Some t) date h e = absurd cc
+counting-by [] None None date h e = absurd cc
+counting-by (None ∷ front) counts raw date h e = counting-by front counts raw date h.1 e
+counting-by (Some x ∷ front) counts raw date h e = absurd (subst IsNotRelative e h.0)
+
+pub counting : (rule : OffsetRule) (text : List ℕ) (date : RelativeDate) → first_family_by rule text ≡ Some (Relative date)
+    → relative_date text ≡ Some date
+unfolding first_family_by
+counting rule text date e =
+    counting-by (take 9 (family_answers rule text)) (relative_date text) (raw_time_by rule text) date (
+      not-relative (at_time rule text),
+      (
+        short-not-relative text,
+        (
+          date-not rule rfc2822_layout Rfc2822 text dates_spelled.rfc2822,
+          (
+            date-not rule iso8601_layout Iso8601 text dates_spelled.iso8601,
+            (
+              date-not rule iso8601_strict_layout Iso8601Strict text dates_spelled.iso8601_strict,
+              (
+                date-not rule gitoxide_layout Gitoxide text dates_spelled.gitoxide,
+                (
+                  date-not rule default_layout GitDefault text dates_spelled.by_default,
+                  (not-relative (epoch_time text), (not-relative (git_time text), tt)),
+                ),
+              ),
+            ),
+          ),
+        ),
+      ),
+    ) e
+
+-- a text that is not relative
+plain-ignores : (rule : OffsetRule) (text : List ℕ) → relative_date text ≡ None → IgnoresMoment rule text
+plain-ignores rule text n = by_answer (first_family_by rule text) refl
+  where
+    by_answer : (found : Option FamilyAnswer) → first_family_by rule text ≡ found → IgnoresMoment rule text
+    by_answer (Some (Relative date)) e = let clash : None ≡ Some date = sym n ∙ counting rule text date e in absurd cc
+    by_answer (Some (Absolute t)) e = ignores-by rule (Some (Absolute t)) text e tt
+    by_answer (Some OffsetBeyond) e = ignores-by rule (Some OffsetBeyond) text e tt
+    by_answer (Some InstantBeyond) e = ignores-by rule (Some InstantBeyond) text e tt
+    by_answer None e = ignores-by rule None text e tt
+
+git-ignores-by : (rule : OffsetRule) (text : List ℕ) (iso strict : Option FamilyAnswer) → IsUtf8 text
+    → family_answer rule Iso8601 text ≡ iso → family_answer rule Iso8601Strict text ≡ strict
+    → Holds rule GitForm text → IgnoresMoment rule text
+git-ignores-by rule text (Some x) strict u p q h =
+    let k = ap is_some p in
+    ignores-by rule (family_answer rule Iso8601 text) text (alone-first rule Iso8601 text u (differ Iso8601 GitForm refl) (differ Iso8601 RelativeText refl) k) (dated rule iso8601_layout Iso8601 text dates_spelled.iso8601 k)
+git-ignores-by rule text None (Some x) u p q h =
+    let k = ap is_some q in
+    ignores-by rule (family_answer rule Iso8601Strict text) text (alone-first rule Iso8601Strict text u (differ Iso8601Strict GitForm refl) (differ Iso8601Strict RelativeText refl) k) (dated rule iso8601_strict_layout Iso8601Strict text dates_spelled.iso8601_strict k)
+git-ignores-by rule text None None u p q h =
+    ignores-by rule (family_answer rule GitForm text) text (git-first rule text u p q h) (not-relative (git_time text))
+
+git-ignores : (rule : OffsetRule) (text : List ℕ) → IsUtf8 text → Holds rule GitForm text
+    → IgnoresMoment rule text
+git-ignores rule text u h =
+    git-ignores-by rule text (family_answer rule Iso8601 text) (family_answer rule Iso8601Strict text) u refl refl h
+
+-- all of these
+pub ignores : (rule : OffsetRule) (text : List ℕ) → IsUtf8 text
+    → (relative_date text ≡ None → IgnoresMoment rule text) × (Holds rule RawText text → IgnoresMoment rule text)
+    × (Holds rule BareEpoch text → IgnoresMoment rule text) × (Holds rule GitForm text → IgnoresMoment rule text)
+ignores rule text u = (plain-ignores rule text, raw-ignores rule text u, epoch-ignores rule text u, git-ignores rule text u)

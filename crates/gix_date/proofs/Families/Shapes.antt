@@ -1,0 +1,495 @@
+-- The first family that holds a text is one of its shape's: no other family holds a text of that shape.
+use Rattle.std.proofs.Common.{◌≡◌, ◌∙◌, ℕ, ℤ, Bool, true, false, cond, List, [], ◌∷◌, ◌++◌, drop, refl, ap, sym, subst, arith, append_assoc, Option, Some, None, is_some, option_map, inl, inr, ◌⊎◌, IsUtf8}
+use Rattle.std.proofs.lemmas.Bool.{and_parts as both}
+use Rattle.std.proofs.lemmas.Bool.Decides.{nat_tests}
+use Rattle.std.specs.Char.{is_ascii_digit, is_ascii_alphabetic}
+use Rattle.std.specs.Prelude.{◌==◌, ◌&&◌, ◌||◌, if◌then◌else◌}
+use Rattle.std.specs.Int.Signed.{le_z}
+use Rattle.std.specs.Option.{option_or}
+use Rattle.gix_date.specs.Families.Answer.{Absolute}
+use Rattle.gix_date.specs.Text.Characters.{at_sign, comma, minus, dot, space, is_space, letter_t}
+use Rattle.gix_date.specs.Families.Order.{AtText, Short, Rfc2822, Iso8601, Iso8601Strict, Gitoxide, GitDefault, BareEpoch, GitForm, RelativeText, RawText, first_family_by}
+use Rattle.gix_date.specs.Fields.DateFields.{is_weekday, read_name, read_plain_date, skip_day_name, skip_weekday}
+use Rattle.gix_date.specs.Fields.FieldTexts.{IsField, IsYear, AreSpaces, IsMonthName, IsDayPrefix}
+use Rattle.gix_date.specs.Fields.Front.{skip_char}
+use Rattle.gix_date.specs.Text.Numbers.{int_value, read_field}
+use Rattle.gix_date.specs.Families.Patterns.{rfc2822_answer, gitoxide_answer, default_answer}
+use Rattle.gix_date.specs.Families.Epoch.{at_time, epoch_time, min_bare_epoch, utc_time}
+use Rattle.gix_date.specs.Git.Forms.{git_time}
+use Rattle.gix_date.specs.Families.Raw.{OffsetRule, raw_time_by}
+use Rattle.gix_date.specs.Families.Shapes.{are_two_digits, are_four_digits, begins_with_at, begins_with_letter, begins_with_year, begins_with_dashed_day, begins_with_dotted_day, begins_with_compact_day, begins_with_count, letter_shape, shape_of, shape_families, first_among, IsDispatched, row_families, IsInItsRow}
+use Rattle.gix_date.specs.declared.parsing.shape.Shape.TheVariants.{AtSign, MailDay, NamedDay, Word, DashedDay, GitDay, Count, WholeNumber, Other}
+use Rattle.gix_date.proofs.Families.Apart.{NoPlainDate, NoDayFirst, no-day, no-field, no-mail-first, no-mail-year, no-plain, no-spaces, no-weekday, no-year}
+use Rattle.gix_date.proofs.Families.Disjoint.{GitFront, year-front, compact-year, raw-words, none-unless, int-digits, int-first, no-git, front-digits, letter_visible}
+use Rattle.gix_date.proofs.Families.Exclusive.{git-no-day}
+use Rattle.gix_date.proofs.Fields.FieldsRead.{Begins, BeginsNot, begins-append, letter-no-digit, name-begins}
+use Rattle.gix_date.proofs.Text.FirstWords.{is_visible}
+use Rattle.gix_date.proofs.Text.FirstBytes.{int-no-byte, no-raw-front, no-raw-byte, no-git-byte, no-plain-by, plain-front, plain-year}
+use Rattle.gix_date.proofs.Fields.Layouts.{mail-front}
+use Rattle.gix_date.proofs.Fast.FastHeaders.{AreNumberBytes, is_number_byte, int-number, one-word}
+use Rattle.gix_date.proofs.Relative.QuietDates.{quiet-int}
+use Rattle.gix_date.proofs.Relative.QuietWords.{no-relative}
+
+-- Which families do not hold a text, by each test of its front that it fails.
+no-at : (rule : OffsetRule) (text : List ℕ) → begins_with_at text ≡ false → at_time rule text ≡ None
+unfolding at_time begins_with_at skip_char
+no-at rule [] h = refl
+no-at rule (c ∷ rest) h = rw h refl
+
+no-names : (text : List ℕ) → begins_with_letter text ≡ false → NoDayFirst text
+unfolding begins_with_letter
+no-names [] h = no-day [] (no-weekday [] tt)
+no-names (c ∷ rest) h = no-day (c ∷ rest) (no-weekday (c ∷ rest) h)
+
+letter-so : (text : List ℕ) → Begins is_ascii_alphabetic text → begins_with_letter text ≡ true
+unfolding begins_with_letter
+letter-so [] h = absurd h
+letter-so (c ∷ rest) h = h
+
+year-so : (year rest : List ℕ) (n : ℕ) → IsYear year n → begins_with_year (year ++ (minus ∷ rest)) ≡ true
+unfolding begins_with_year
+year-so [] rest n y = absurd y
+year-so (a ∷ []) rest n y = absurd y
+year-so (a ∷ b ∷ []) rest n y = absurd y
+year-so (a ∷ b ∷ c ∷ []) rest n y = absurd y
+year-so (a ∷ b ∷ c ∷ d ∷ []) rest n y = rw (y.0, y.1, y.2, y.3) refl
+year-so (a ∷ b ∷ c ∷ d ∷ e ∷ year) rest n y = absurd y
+
+no-dates : (text : List ℕ) → begins_with_year text ≡ false → NoPlainDate text
+no-dates text h = no-plain-by text (none-unless (read_plain_date text) (λ found e. (
+    let p = plain-year text found e in
+    let no : true ≡ false = sym (ap begins_with_year p.whole ∙ year-so p.year p.rest p.number p.is_year) ∙ h in
+    cc
+    )))
+
+no-epoch : (text : List ℕ) → int_value text ≡ None → epoch_time text ≡ None
+unfolding epoch_time
+no-epoch text h = rw h refl
+
+-- A text is no number, no Git text and no raw text if its first byte is visible, and neither a digit nor a sign.
+record NoNumber (rule : OffsetRule) (text : List ℕ) : Type 0 where
+  pub epoch : epoch_time text ≡ None
+  pub git : git_time text ≡ None
+  pub raw : raw_time_by rule text ≡ None
+
+no-number : (rule : OffsetRule) (c : ℕ) (rest : List ℕ) → IsUtf8 (c ∷ rest) → is_visible c ≡ true → is_number_byte c ≡ false → is_ascii_digit c ≡ false
+    → NoNumber rule (c ∷ rest)
+no-number rule c rest u v n d = record {
+  epoch = no-epoch (c ∷ rest) (none-unless (int_value (c ∷ rest)) (λ k e. int-no-byte c rest k n e));
+  git = no-git-byte c rest u v d;
+  raw = no-raw-byte rule c rest v n;
+}
+
+at-dispatched : (rule : OffsetRule) (text : List ℕ) → IsUtf8 text → begins_with_at text ≡ true
+    → first_family_by rule text ≡ first_among rule (shape_families AtSign) text
+unfolding begins_with_at first_family_by
+at-dispatched rule [] u h = absurd cc
+at-dispatched rule (c ∷ rest) u h =
+    let same : c ≡ at_sign = grind (arith, nat_tests, h) in
+    subst (λ (c : ℕ). IsUtf8 (c ∷ rest) → first_family_by rule (c ∷ rest) ≡ first_among rule (shape_families AtSign) (c ∷ rest)) (sym same) by u
+  where
+    text : List ℕ
+    text = at_sign ∷ rest
+
+    by : IsUtf8 text → first_family_by rule text ≡ first_among rule (shape_families AtSign) text
+    by u =
+        let plain = no-plain text (no-year text refl) in
+        let names = no-day text (no-weekday text refl) in
+        let number = no-number rule at_sign rest u refl refl refl in
+        rw (plain.short, plain.iso8601, plain.strict, no-mail-first text refl refl, names.gitoxide, names.by_default, number.epoch, number.git, number.raw) refl
+
+-- A text that begins with a letter: its fourth byte decides which dates it can be.
+weekday-or : (text : List ℕ) → (skip_weekday text ≡ None) ⊎ (skip_weekday text ≡ Some (drop 3 text))
+unfolding skip_weekday read_name
+weekday-or [] = inl refl
+weekday-or (a ∷ []) = inl refl
+weekday-or (a ∷ b ∷ []) = inl refl
+weekday-or (a ∷ b ∷ c ∷ rest) = by (is_ascii_alphabetic a && is_ascii_alphabetic b && is_ascii_alphabetic c) (is_weekday (a ∷ b ∷ c ∷ [])) refl refl
+  where
+    text : List ℕ
+    text = a ∷ b ∷ c ∷ rest
+
+    by : (p q : Bool) → (is_ascii_alphabetic a && is_ascii_alphabetic b && is_ascii_alphabetic c) ≡ p → is_weekday (a ∷ b ∷ c ∷ []) ≡ q
+        → (skip_weekday text ≡ None) ⊎ (skip_weekday text ≡ Some rest)
+    by true true g h = inr (rw (g, h) refl)
+    by true false g h = inl (rw (g, h) refl)
+    by false q g h = inl (rw g refl)
+
+no-comma : (text : List ℕ) → read_field text ≡ None → skip_char comma (drop 3 text) ≡ None → rfc2822_answer text ≡ None
+unfolding rfc2822_answer skip_day_name
+no-comma text f h = elim (weekday-or text) [ inl w ↦ rw (w, f) refl | inr w ↦ rw (w, h, f) refl ]
+
+no-space : (text : List ℕ) → BeginsNot is_space (drop 3 text) → NoDayFirst text
+unfolding gitoxide_answer default_answer
+no-space text h =
+    let none = no-spaces (drop 3 text) h in
+    elim (weekday-or text) [ inl w ↦ no-day text w | inr w ↦ record { gitoxide = rw (w, none) refl; by_default = rw (w, none) refl } ]
+
+letter-no-number : (c : ℕ) → is_ascii_alphabetic c ≡ true → is_number_byte c ≡ false
+letter-no-number c h = grind (arith, nat_tests, h)
+
+comma-no-space : (c : ℕ) → (c == comma) ≡ true → is_space c ≡ false
+comma-no-space c h = grind (arith, nat_tests, h)
+
+record Lettered (rule : OffsetRule) (text : List ℕ) : Type 0 where
+  pub at : at_time rule text ≡ None
+  pub dates : NoPlainDate text
+  pub field : read_field text ≡ None
+  pub number : NoNumber rule text
+
+lettered : (rule : OffsetRule) (text : List ℕ) → IsUtf8 text → begins_with_at text ≡ false → begins_with_letter text ≡ true → Lettered rule text
+unfolding begins_with_letter
+lettered rule [] u n h = absurd cc
+lettered rule (c ∷ rest) u n h =
+    let digit = letter-no-digit c h in
+    record {
+      at = no-at rule (c ∷ rest) n;
+      dates = no-plain (c ∷ rest) (no-year (c ∷ rest) digit);
+      field = no-field (c ∷ rest) digit;
+      number = no-number rule c rest u (letter_visible c h) (letter-no-number c h) digit;
+    }
+
+mail-dispatched : (rule : OffsetRule) (text : List ℕ) → Lettered rule text → BeginsNot is_space (drop 3 text)
+    → first_family_by rule text ≡ first_among rule (shape_families MailDay) text
+unfolding first_family_by
+mail-dispatched rule text l h =
+    let names = no-space text h in
+    rw (l.at, l.dates.short, l.dates.iso8601, l.dates.strict, names.gitoxide, names.by_default, l.number.epoch, l.number.git, l.number.raw) refl
+
+named-dispatched : (rule : OffsetRule) (text : List ℕ) → Lettered rule text → skip_char comma (drop 3 text) ≡ None
+    → first_family_by rule text ≡ first_among rule (shape_families NamedDay) text
+unfolding first_family_by
+named-dispatched rule text l h =
+    rw (l.at, l.dates.short, no-comma text l.field h, l.dates.iso8601, l.dates.strict, l.number.epoch, l.number.git, l.number.raw) refl
+
+word-dispatched : (rule : OffsetRule) (text : List ℕ) → Lettered rule text → skip_char comma (drop 3 text) ≡ None → BeginsNot is_space (drop 3 text)
+    → first_family_by rule text ≡ first_among rule (shape_families Word) text
+unfolding first_family_by
+word-dispatched rule text l h k =
+    let names = no-space text k in
+    rw (l.at, l.dates.short, no-comma text l.field h, l.dates.iso8601, l.dates.strict, names.gitoxide, names.by_default, l.number.epoch, l.number.git, l.number.raw) refl
+
+letter-dispatched : (rule : OffsetRule) (text : List ℕ) → Lettered rule text
+    → first_family_by rule text ≡ first_among rule (shape_families (letter_shape text)) text
+unfolding letter_shape skip_char
+letter-dispatched rule [] l = word-dispatched rule [] l refl tt
+letter-dispatched rule (a ∷ []) l = word-dispatched rule (a ∷ []) l refl tt
+letter-dispatched rule (a ∷ b ∷ []) l = word-dispatched rule (a ∷ b ∷ []) l refl tt
+letter-dispatched rule (a ∷ b ∷ c ∷ []) l = word-dispatched rule (a ∷ b ∷ c ∷ []) l refl tt
+letter-dispatched rule (a ∷ b ∷ c ∷ d ∷ rest) l = by (d == comma) (d == space) refl refl
+  where
+    text : List ℕ
+    text = a ∷ b ∷ c ∷ d ∷ rest
+
+    by : (m s : Bool) → (d == comma) ≡ m → (d == space) ≡ s → first_family_by rule text ≡ first_among rule (shape_families (cond m MailDay (cond s NamedDay Word))) text
+    by true s e f = mail-dispatched rule text l (comma-no-space d e)
+    by false true e f = named-dispatched rule text l (rw e refl)
+    by false false e f = word-dispatched rule text l (rw e refl) f
+
+-- A text that begins with a year is no mail date, number or raw text if a visible byte ends its first digits.
+record AfterYear (rule : OffsetRule) (text : List ℕ) : Type 0 where
+  pub mail : rfc2822_answer text ≡ None
+  pub epoch : epoch_time text ≡ None
+  pub raw : raw_time_by rule text ≡ None
+
+int-no-front : (text : List ℕ) (n : ℤ) → int_value text ≡ Some n → GitFront text → ⊥
+int-no-front text n e g =
+    let digits = front-digits (g.first ∷ g.more) g.rest (int-digits g.first (g.more ++ g.rest) n g.digit (ap int_value (sym g.whole) ∙ e)) in
+    let clash : true ≡ false = sym digits ∙ g.mixed in
+    cc
+
+after-year : (rule : OffsetRule) (year rest : List ℕ) (n : ℕ) → IsYear year n → GitFront (year ++ rest) → AfterYear rule (year ++ rest)
+after-year rule year rest n y g = record {
+  mail = no-mail-year year rest n y;
+  epoch = no-epoch (year ++ rest) (none-unless (int_value (year ++ rest)) (λ k e. int-no-front (year ++ rest) k e g));
+  raw = no-raw-front rule (year ++ rest) g;
+}
+
+four-are : (a b c d : ℕ) → are_four_digits a b c d ≡ true
+    → (is_ascii_digit a ≡ true) × (is_ascii_digit b ≡ true) × (is_ascii_digit c ≡ true) × (is_ascii_digit d ≡ true)
+four-are a b c d h =
+    let halves = both (are_two_digits a b) (are_two_digits c d) h in
+    let one = both (is_ascii_digit a) (is_ascii_digit b) halves.0 in
+    let two = both (is_ascii_digit c) (is_ascii_digit d) halves.1 in
+    (one.0, one.1, two.0, two.1)
+
+after-mark : (rule : OffsetRule) (a b c d mark : ℕ) (rest : List ℕ) → are_four_digits a b c d ≡ true → is_visible mark ≡ true → is_ascii_digit mark ≡ false
+    → AfterYear rule (a ∷ b ∷ c ∷ d ∷ mark ∷ rest)
+after-mark rule a b c d mark rest h v n =
+    let k = four-are a b c d h in
+    let year = a ∷ b ∷ c ∷ d ∷ [] in
+    let y : IsYear year _ = (k.0, k.1, k.2, k.3, refl) in
+    after-year rule year (mark ∷ rest) _ y (year-front year _ mark rest y v n)
+
+is-visible : (c mark : ℕ) → (c == mark) ≡ true → is_visible mark ≡ true → is_visible c ≡ true
+is-visible c mark h v = let same : c ≡ mark = grind (arith, nat_tests, h) in ap is_visible same ∙ v
+
+is-no-digit : (c mark : ℕ) → (c == mark) ≡ true → is_ascii_digit mark ≡ false → is_ascii_digit c ≡ false
+is-no-digit c mark h n = let same : c ≡ mark = grind (arith, nat_tests, h) in ap is_ascii_digit same ∙ n
+
+dashed-after : (rule : OffsetRule) (text : List ℕ) → begins_with_year text ≡ true → AfterYear rule text
+unfolding begins_with_year
+dashed-after rule (a ∷ b ∷ c ∷ d ∷ mark ∷ rest) h =
+    let front = both (are_four_digits a b c d) (mark == minus) h in
+    after-mark rule a b c d mark rest front.0 (is-visible mark minus front.1 refl) (is-no-digit mark minus front.1 refl)
+dashed-after rule text h = absurd cc
+
+dotted-after : (rule : OffsetRule) (text : List ℕ) → begins_with_dotted_day text ≡ true → AfterYear rule text
+unfolding begins_with_dotted_day
+dotted-after rule (a ∷ b ∷ c ∷ d ∷ mark ∷ e ∷ f ∷ second ∷ rest) h =
+    let all = both (are_four_digits a b c d && mark == dot && are_two_digits e f) (second == dot) h in
+    let some = both (are_four_digits a b c d && mark == dot) (are_two_digits e f) all.0 in
+    let front = both (are_four_digits a b c d) (mark == dot) some.0 in
+    after-mark rule a b c d mark (e ∷ f ∷ second ∷ rest) front.0 (is-visible mark dot front.1 refl) (is-no-digit mark dot front.1 refl)
+dotted-after rule text h = absurd cc
+
+compact-after : (rule : OffsetRule) (text : List ℕ) → begins_with_compact_day text ≡ true → AfterYear rule text
+unfolding begins_with_compact_day
+compact-after rule (a ∷ b ∷ c ∷ d ∷ m0 ∷ m1 ∷ d0 ∷ d1 ∷ mark ∷ rest) h =
+    let all = both (are_four_digits a b c d && are_four_digits m0 m1 d0 d1) (mark == letter_t) h in
+    let front = both (are_four_digits a b c d) (are_four_digits m0 m1 d0 d1) all.0 in
+    let k = four-are a b c d front.0 in
+    let more = four-are m0 m1 d0 d1 front.1 in
+    let year = a ∷ b ∷ c ∷ d ∷ [] in
+    let y : IsYear year _ = (k.0, k.1, k.2, k.3, refl) in
+    after-year rule year (m0 ∷ m1 ∷ d0 ∷ d1 ∷ mark ∷ rest) _ y
+    (compact-year year _ m0 m1 d0 d1 mark rest y more.0 more.1 more.2 more.3 (is-visible mark letter_t all.1 refl) (is-no-digit mark letter_t all.1 refl))
+compact-after rule text h = absurd cc
+
+git-day-after : (rule : OffsetRule) (text : List ℕ) → (begins_with_dotted_day text || begins_with_compact_day text) ≡ true → AfterYear rule text
+git-day-after rule text h = by (begins_with_dotted_day text) refl h
+  where
+    by : (b : Bool) → begins_with_dotted_day text ≡ b → (b || begins_with_compact_day text) ≡ true → AfterYear rule text
+    by true e h = dotted-after rule text e
+    by false e h = compact-after rule text h
+
+-- A text with a space in it is no number.
+gap-in : (front rest : List ℕ) (c : ℕ) → AreNumberBytes (front ++ (c ∷ rest)) → is_number_byte c ≡ true
+gap-in [] rest c h = h.0
+gap-in (d ∷ front) rest c h = gap-in front rest c h.1
+
+space-no-number : (c : ℕ) → is_space c ≡ true → is_number_byte c ≡ false
+space-no-number c h = grind (arith, nat_tests, h)
+
+int-no-gap : (front gap rest : List ℕ) (n : ℤ) → AreSpaces gap → int_value (front ++ (gap ++ rest)) ≡ Some n → ⊥
+int-no-gap front [] rest n s e = absurd s
+int-no-gap front (g ∷ gap) rest n s e =
+    let k = int-number (front ++ (g ∷ (gap ++ rest))) n e in
+    let no : true ≡ false = sym (gap-in front (gap ++ rest) g (subst AreNumberBytes (sym k.whole) k.bytes)) ∙ space-no-number g s.0 in
+    cc
+
+pub int-no-raw : (rule : OffsetRule) (text : List ℕ) (n : ℤ) → int_value text ≡ Some n → raw_time_by rule text ≡ None
+int-no-raw rule text n i = none-unless (raw_time_by rule text) (λ t e. (
+    let r = raw-words rule text t e in
+    let no : r.front ∷ r.zone ∷ [] ≡ text ∷ [] = sym r.is ∙ one-word text (int-number text n i) in
+    cc
+    ))
+
+-- A text that begins with a count and a space is no Git text and no number. A mail date begins so, or with a letter.
+record CountFirst (text : List ℕ) : Type 0 where
+  pub git : git_time text ≡ None
+  pub int : int_value text ≡ None
+
+count-by : (count gap rest : List ℕ) (n : ℕ) → IsUtf8 (count ++ (gap ++ rest)) → IsField count n → AreSpaces gap → CountFirst (count ++ (gap ++ rest))
+count-by count gap rest n u f s =
+    let text = count ++ (gap ++ rest) in
+    record {
+      git = none-unless (git_time text) (λ t e. git-no-day count gap rest n t u f s e);
+      int = none-unless (int_value text) (λ k e. int-no-gap count gap rest k s e);
+    }
+
+count-first : (text : List ℕ) → IsUtf8 text → begins_with_count text ≡ true → CountFirst text
+unfolding begins_with_count
+count-first (a ∷ b ∷ c ∷ rest) u h =
+    let front = both (is_ascii_digit a) (b == space || is_ascii_digit b && c == space) h in
+    by (b == space) refl front.0 front.1
+  where
+    by : (s : Bool) → (b == space) ≡ s → is_ascii_digit a ≡ true → (s || is_ascii_digit b && c == space) ≡ true → CountFirst (a ∷ b ∷ c ∷ rest)
+    by true g d k = count-by (a ∷ []) (b ∷ []) (c ∷ rest) _ u (d, refl) (g, refl)
+    by false g d k = let two = both (is_ascii_digit b) (c == space) k in count-by (a ∷ b ∷ []) (c ∷ []) rest _ u (d, two.0, refl) (two.1, refl)
+count-first text u h = absurd cc
+
+count-so : (day gap month rest : List ℕ) (n m : ℕ) → IsField day n → AreSpaces gap → IsMonthName month m
+    → begins_with_count (day ++ (gap ++ (month ++ rest))) ≡ true
+unfolding begins_with_count
+count-so [] gap month rest n m f s k = absurd f
+count-so day [] month rest n m f s k = absurd s
+count-so day gap [] rest n m f s k = absurd k.0
+count-so (a ∷ []) (g ∷ []) (l ∷ month) rest n m f s k = rw (f.0, s.0) refl
+count-so (a ∷ []) (g ∷ h ∷ gap) (l ∷ month) rest n m f s k = rw (f.0, s.0) refl
+count-so (a ∷ b ∷ []) (g ∷ gap) (l ∷ month) rest n m f s k = second (b == space)
+  where
+    second : (q : Bool) → (is_ascii_digit a && (q || is_ascii_digit b && g == space)) ≡ true
+    second true = rw f.0 refl
+    second false = rw (f.0, f.1, s.0) refl
+count-so (a ∷ b ∷ c ∷ day) gap month rest n m f s k = absurd f
+
+no-mail : (text : List ℕ) → begins_with_letter text ≡ false → begins_with_count text ≡ false → rfc2822_answer text ≡ None
+no-mail text l c = none-unless (rfc2822_answer text) (λ answer a. (
+    let m = mail-front text answer a in
+    by m.prefix (m.day ++ (m.gap ++ (m.month ++ m.rest))) m.whole m.is_prefix (count-so m.day m.gap m.month m.rest m.number m.month_number m.is_day m.is_gap m.is_month)
+    ))
+  where
+    by : (prefix more : List ℕ) → text ≡ prefix ++ more → (prefix ≡ []) ⊎ IsDayPrefix prefix → begins_with_count more ≡ true → ⊥
+    by prefix more w (inl none) h = let no : true ≡ false = sym h ∙ ap begins_with_count (sym (w ∙ ap (λ (p : List ℕ). p ++ more) none)) ∙ c in cc
+    by prefix more w (inr named) h =
+        let split : text ≡ named.name ++ (comma ∷ (named.gap ++ more)) = w ∙ rw named.whole (simp append_assoc) in
+        let no : true ≡ false = sym (letter-so text (subst (Begins is_ascii_alphabetic) (sym split) (begins-append is_ascii_alphabetic named.name (comma ∷ (named.gap ++ more)) (name-begins named.name named.is_name.0)))) ∙ l in
+        cc
+
+-- A number alone is a bare epoch, or no family holds it.
+no-count : (text : List ℕ) (n : ℤ) → IsUtf8 text → int_value text ≡ Some n → (b : Bool) → begins_with_count text ≡ b → b ≡ false
+no-count text n u e true h = let no : None ≡ Some n = sym (count-first text u h).int ∙ e in absurd cc
+no-count text n u e false h = refl
+
+number-no-at : (text : List ℕ) → AreNumberBytes text → begins_with_at text ≡ false
+unfolding begins_with_at
+number-no-at [] h = refl
+number-no-at (c ∷ rest) h = grind (arith, nat_tests, h.0)
+
+number-no-letter : (text : List ℕ) → AreNumberBytes text → begins_with_letter text ≡ false
+unfolding begins_with_letter
+number-no-letter [] h = refl
+number-no-letter (c ∷ rest) h = grind (arith, nat_tests, h.0)
+
+int-dispatched : (rule : OffsetRule) (text : List ℕ) (n : ℤ) → IsUtf8 text → int_value text ≡ Some n
+    → first_family_by rule text ≡ first_among rule (shape_families WholeNumber) text
+unfolding first_family_by
+int-dispatched rule text n u e =
+    let k = int-number text n e in
+    let bytes = subst AreNumberBytes (sym k.whole) k.bytes in
+    let letter = number-no-letter text bytes in
+    let names = no-names text letter in
+    let mail = no-mail text letter (no-count text n u e (begins_with_count text) refl) in
+    let dates = no-plain-by text (none-unless (read_plain_date text) (λ found h. int-no-front text n e (plain-front text found h))) in
+    let git : git_time text ≡ None = none-unless (git_time text) (λ t h. no-git text u (int-first text n e) t h) in
+    rw (no-at rule text (number-no-at text bytes), dates.short, mail, dates.iso8601, dates.strict, names.gitoxide, names.by_default, git, no-relative text u (quiet-int text n e), int-no-raw rule text n e) refl
+
+-- Each shape, by the tests of `shape_of` in their order.
+pub is-dispatched : (rule : OffsetRule) (text : List ℕ) → IsUtf8 text → IsDispatched rule text
+unfolding shape_of first_family_by
+is-dispatched rule text u =
+    by (begins_with_at text) (begins_with_letter text) (begins_with_year text) (begins_with_dotted_day text || begins_with_compact_day text) (begins_with_count text) (int_value text) refl refl refl refl refl refl
+  where
+    by : (a l y d c : Bool) (i : Option ℤ) → begins_with_at text ≡ a → begins_with_letter text ≡ l → begins_with_year text ≡ y
+        → (begins_with_dotted_day text || begins_with_compact_day text) ≡ d → begins_with_count text ≡ c → int_value text ≡ i
+        → first_family_by rule text
+        ≡ first_among rule (shape_families (cond a AtSign (cond l (letter_shape text) (cond y DashedDay (cond d GitDay (cond c Count (cond (is_some i) WholeNumber Other))))))) text
+    by true l y d c i ea el ey ed ec ei = at-dispatched rule text u ea
+    by false true y d c i ea el ey ed ec ei = letter-dispatched rule text (lettered rule text u ea el)
+    by false false true d c i ea el ey ed ec ei =
+        let names = no-names text el in
+        let after = dashed-after rule text ey in
+        rw (no-at rule text ea, after.mail, names.gitoxide, names.by_default, after.epoch, after.raw) refl
+    by false false false true c i ea el ey ed ec ei =
+        let names = no-names text el in
+        let dates = no-dates text ey in
+        let after = git-day-after rule text ed in
+        rw (no-at rule text ea, dates.short, after.mail, dates.iso8601, dates.strict, names.gitoxide, names.by_default, after.epoch, after.raw) refl
+    by false false false false true i ea el ey ed ec ei =
+        let names = no-names text el in
+        let dates = no-dates text ey in
+        let count = count-first text u ec in
+        rw (no-at rule text ea, dates.short, dates.iso8601, dates.strict, names.gitoxide, names.by_default, no-epoch text count.int, count.git) refl
+    by false false false false false (Some n) ea el ey ed ec ei = int-dispatched rule text n u ei
+    by false false false false false None ea el ey ed ec ei =
+        let names = no-names text el in
+        let dates = no-dates text ey in
+        rw (no-at rule text ea, dates.short, no-mail text el ec, dates.iso8601, dates.strict, names.gitoxide, names.by_default, no-epoch text ei) refl
+
+-- The seven rows, by their tests. A day in one of them begins with a digit, and with `-` after the year or with another byte.
+record DayFirst (year : Bool) (text : List ℕ) : Type 0 where
+  pub letter : begins_with_letter text ≡ false
+  pub marked : begins_with_year text ≡ year
+
+digit-no-letter : (c : ℕ) → is_ascii_digit c ≡ true → is_ascii_alphabetic c ≡ false
+digit-no-letter c h = grind (arith, nat_tests, h)
+
+day-first : (a b c d mark : ℕ) (rest : List ℕ) (year : Bool) → are_four_digits a b c d ≡ true → (mark == minus) ≡ year
+    → DayFirst year (a ∷ b ∷ c ∷ d ∷ mark ∷ rest)
+unfolding begins_with_letter begins_with_year
+day-first a b c d mark rest year h m = record { letter = digit-no-letter a (four-are a b c d h).0; marked = rw (h, m) refl }
+
+dot-no-minus : (c : ℕ) → (c == dot) ≡ true → (c == minus) ≡ false
+dot-no-minus c h = grind (arith, nat_tests, h)
+
+digit-no-minus : (c : ℕ) → is_ascii_digit c ≡ true → (c == minus) ≡ false
+digit-no-minus c h = grind (arith, nat_tests, h)
+
+dashed-first : (text : List ℕ) → begins_with_dashed_day text ≡ true → DayFirst true text
+unfolding begins_with_dashed_day
+dashed-first (a ∷ b ∷ c ∷ d ∷ mark ∷ e ∷ f ∷ second ∷ rest) h =
+    let all = both (are_four_digits a b c d && mark == minus && are_two_digits e f) (second == minus) h in
+    let some = both (are_four_digits a b c d && mark == minus) (are_two_digits e f) all.0 in
+    let front = both (are_four_digits a b c d) (mark == minus) some.0 in
+    day-first a b c d mark (e ∷ f ∷ second ∷ rest) true front.0 front.1
+dashed-first text h = absurd cc
+
+dotted-first : (text : List ℕ) → begins_with_dotted_day text ≡ true → DayFirst false text
+unfolding begins_with_dotted_day
+dotted-first (a ∷ b ∷ c ∷ d ∷ mark ∷ e ∷ f ∷ second ∷ rest) h =
+    let all = both (are_four_digits a b c d && mark == dot && are_two_digits e f) (second == dot) h in
+    let some = both (are_four_digits a b c d && mark == dot) (are_two_digits e f) all.0 in
+    let front = both (are_four_digits a b c d) (mark == dot) some.0 in
+    day-first a b c d mark (e ∷ f ∷ second ∷ rest) false front.0 (dot-no-minus mark front.1)
+dotted-first text h = absurd cc
+
+compact-first : (text : List ℕ) → begins_with_compact_day text ≡ true → DayFirst false text
+unfolding begins_with_compact_day
+compact-first (a ∷ b ∷ c ∷ d ∷ m0 ∷ m1 ∷ d0 ∷ d1 ∷ mark ∷ rest) h =
+    let all = both (are_four_digits a b c d && are_four_digits m0 m1 d0 d1) (mark == letter_t) h in
+    let front = both (are_four_digits a b c d) (are_four_digits m0 m1 d0 d1) all.0 in
+    day-first a b c d m0 (m1 ∷ d0 ∷ d1 ∷ mark ∷ rest) false front.0 (digit-no-minus m0 (four-are m0 m1 d0 d1 front.1).0)
+compact-first text h = absurd cc
+
+-- which families do not hold a text of Git's days
+git-day-row : (rule : OffsetRule) (text : List ℕ) → begins_with_at text ≡ false → DayFirst false text → AfterYear rule text
+    → first_family_by rule text ≡ first_among rule (GitForm ∷ RelativeText ∷ []) text
+unfolding first_family_by
+git-day-row rule text ea day after =
+    let names = no-names text day.letter in
+    let dates = no-dates text day.marked in
+    rw (no-at rule text ea, dates.short, after.mail, dates.iso8601, dates.strict, names.gitoxide, names.by_default, after.epoch, after.raw) refl
+
+pub is-in-its-row : (rule : OffsetRule) (text : List ℕ) → IsUtf8 text → IsInItsRow rule text
+unfolding row_families first_family_by
+is-in-its-row rule text u =
+    by (begins_with_at text) (int_value text) (begins_with_dashed_day text) (begins_with_dotted_day text) (begins_with_compact_day text) (begins_with_letter text) refl refl refl refl refl refl
+  where
+    by : (a : Bool) (i : Option ℤ) (s d k l : Bool) → begins_with_at text ≡ a → int_value text ≡ i → begins_with_dashed_day text ≡ s
+        → begins_with_dotted_day text ≡ d → begins_with_compact_day text ≡ k → begins_with_letter text ≡ l
+        → first_family_by rule text
+        ≡ first_among rule (cond a (AtText ∷ RelativeText ∷ []) (cond (is_some i) (BareEpoch ∷ [])
+        (cond s (Short ∷ Iso8601 ∷ Iso8601Strict ∷ GitForm ∷ RelativeText ∷ []) (cond d (GitForm ∷ RelativeText ∷ [])
+        (cond k (GitForm ∷ RelativeText ∷ []) (cond l (Rfc2822 ∷ Gitoxide ∷ GitDefault ∷ RelativeText ∷ [])
+        (Short ∷ Rfc2822 ∷ Iso8601 ∷ Iso8601Strict ∷ GitForm ∷ RelativeText ∷ RawText ∷ []))))))) text
+    by true i s d k l ea ei es ed ek el = at-dispatched rule text u ea
+    by false (Some n) s d k l ea ei es ed ek el = int-dispatched rule text n u ei
+    by false None true d k l ea ei es ed ek el =
+        let day = dashed-first text es in
+        let names = no-names text day.letter in
+        let after = dashed-after rule text day.marked in
+        rw (no-at rule text ea, after.mail, names.gitoxide, names.by_default, after.epoch, after.raw) refl
+    by false None false true k l ea ei es ed ek el = git-day-row rule text ea (dotted-first text ed) (dotted-after rule text ed)
+    by false None false false true l ea ei es ed ek el = git-day-row rule text ea (compact-first text ek) (compact-after rule text ek)
+    by false None false false false true ea ei es ed ek el =
+        let l = lettered rule text u ea el in
+        rw (l.at, l.dates.short, l.dates.iso8601, l.dates.strict, l.number.epoch, l.number.git, l.number.raw) refl
+    by false None false false false false ea ei es ed ek el =
+        let names = no-names text el in
+        rw (no-at rule text ea, names.gitoxide, names.by_default, no-epoch text ei) refl
+
+pub number-first : (rule : OffsetRule) (text : List ℕ) (n : ℤ) → IsUtf8 text → int_value text ≡ Some n
+    → first_family_by rule text ≡ (if le_z min_bare_epoch n then Some (Absolute (utc_time n)) else None)
+unfolding epoch_time
+number-first rule text n u e = int-dispatched rule text n u e ∙ rw e (by (le_z min_bare_epoch n))
+  where
+    by : (b : Bool) → option_or (option_map Absolute (cond b (Some (utc_time n)) None)) None ≡ cond b (Some (Absolute (utc_time n))) None
+    by true = refl
+    by false = refl
+
+-- the time of an at text that is a number after its `@`
+pub at-int : (rule : OffsetRule) (text rest : List ℕ) (n : ℤ) → skip_char at_sign text ≡ Some rest → int_value rest ≡ Some n
+    → at_time rule text ≡ Some (utc_time n)
+unfolding at_time
+at-int rule text rest n s e = rw (s, int-no-raw rule rest n e, e) refl

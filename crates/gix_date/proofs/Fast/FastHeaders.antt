@@ -1,0 +1,277 @@
+-- Headers of two numbers, with one space between them.
+use Rattle.std.proofs.Common.{◌≡◌, ◌∙◌, ◌+◌, ◌<◌, ℕ, ℤ, Bool, true, false, List, [], ◌∷◌, ◌++◌, map, length, refl, ap, sym, subst, Some, None, append-nil, arith, IsAscii, inl, inr, ◌⊎◌, Option, option_map, get_or, take, drop, take-append-drop, drop-cons, add-one}
+use Rattle.std.proofs.lemmas.Bool.{and_parts as both}
+use Rattle.std.proofs.lemmas.Bool.Decides.{nat_tests}
+use Rattle.std.proofs.lemmas.Str.{chars-IsAscii, encodes-IsAscii, IsAscii-append}
+use Rattle.std.proofs.lemmas.Str.Ascii.{IsAscii-nil, IsAscii-cons}
+use Rattle.std.specs.Char.{is_whitespace, is_ascii_digit}
+use Rattle.std.specs.Prelude.{◌==◌, ◌||◌, ◌&&◌, nat_lt, cond, ◌-◌, ◌*◌, encode_utf8_all}
+use Rattle.std.specs.Str.{chars, NonePass, all_ascii_digits}
+use Rattle.std.specs.Str.Parse.{without_leading_sign, signed_digits_value}
+use Rattle.std.specs.Option.{option_or}
+use Rattle.std.proofs.lemmas.List.Folds.{list_any-append}
+use Rattle.gix_date.specs.Text.Characters.{space, plus, minus, is_colon, has_colon}
+use Rattle.gix_date.specs.Fields.Front.{skip_char, ◌>>=◌}
+use Rattle.gix_date.specs.Fields.FieldTexts.{IsDigit}
+use Rattle.gix_date.specs.Text.Numbers.{fits_i64, is_int_text, int_value, read_two_digits}
+use Rattle.gix_date.specs.Fields.Offsets.{read_sign, last_pair, offset_fields, offset_of}
+use Rattle.gix_date.specs.Header.Reading.{seconds_said, offset_said, time_of_words, header_time}
+use Rattle.gix_date.specs.Private.Headers.{IsUsualHeader}
+use Rattle.gix_date.specs.declared.parsing.offset.Sign.{Sign}
+use Rattle.gix_date.specs.declared.parsing.offset.Sign.TheVariants.{Plus, Minus}
+use Rattle.gix_date.specs.declared.parsing.offset.OffsetFields.{OffsetFields}
+use Rattle.gix_date.specs.declared.time.Time.{Time}
+use Rattle.gix_date.proofs.Fields.FieldsTaken.{went, guard, after-taken, two-taken}
+use Rattle.gix_date.proofs.Text.Ints.{each_of}
+use Rattle.gix_date.specs.Families.Raw.{OffsetRule, raw_time_by, raw_offset_by}
+use Rattle.gix_date.specs.Text.SpaceWords.{space_words, runs}
+use Rattle.gix_date.proofs.Text.WordSteps.{runs_skip, run_first, stops, ends}
+
+-- a digit or a sign
+abbrev pub is_number_byte : ℕ → Bool
+is_number_byte c = is_ascii_digit c || c == plus || c == minus
+
+abbrev pub AreNumberBytes : List ℕ → Type 0
+AreNumberBytes [] = Unit {0}
+AreNumberBytes (c ∷ t) = (is_number_byte c ≡ true) × AreNumberBytes t
+
+byte_ascii : (c : ℕ) → is_number_byte c ≡ true → c < 128
+byte_ascii c h = grind (arith, nat_tests, h)
+
+byte_stays : (c : ℕ) → is_number_byte c ≡ true → is_whitespace c ≡ false
+byte_stays c h = grind (arith, nat_tests, h)
+
+pub are_ascii : (t : List ℕ) → AreNumberBytes t → IsAscii t
+are_ascii [] h = IsAscii-nil
+are_ascii (c ∷ t) h = IsAscii-cons c t (byte_ascii c h.0) (are_ascii t h.1)
+
+no_white_space : (t : List ℕ) → AreNumberBytes t → NonePass is_whitespace t
+no_white_space [] h = tt
+no_white_space (c ∷ t) h = (byte_stays c h.0, no_white_space t h.1)
+
+two_runs : (x y : ℕ) (xs ys : List ℕ) → NonePass is_whitespace (x ∷ xs) → NonePass is_whitespace (y ∷ ys) → runs ((x ∷ xs) ++ (space ∷ (y ∷ ys))) ≡ (x ∷ xs) ∷ (y ∷ ys) ∷ []
+two_runs x y xs ys h k =
+    run_first x xs (space ∷ (y ∷ ys)) h (stops space (y ∷ ys) refl)
+    ∙ ap (λ rs. (x ∷ xs) ∷ rs) (runs_skip (space ∷ []) (y ∷ ys) (refl, tt) ∙ ap runs (sym (append-nil (y ∷ ys))) ∙ run_first y ys [] k ends)
+
+-- the words of two numbers with a space between them
+pub two-words : (x y : ℕ) (xs ys : List ℕ) → AreNumberBytes (x ∷ xs) → AreNumberBytes (y ∷ ys) → space_words ((x ∷ xs) ++ (space ∷ (y ∷ ys))) ≡ (x ∷ xs) ∷ (y ∷ ys) ∷ []
+unfolding space_words
+two-words x y xs ys h k =
+    let a = are_ascii (x ∷ xs) h in
+    let b = are_ascii (y ∷ ys) k in
+    let whole : IsAscii ((x ∷ xs) ++ (space ∷ (y ∷ ys))) = IsAscii-append (x ∷ xs) (space ∷ (y ∷ ys)) a (IsAscii-cons space (y ∷ ys) (omega arith) b) in
+    ap (λ cs. map encode_utf8_all (runs cs)) (chars-IsAscii ((x ∷ xs) ++ (space ∷ (y ∷ ys))) whole)
+    ∙ ap (map encode_utf8_all) (two_runs x y xs ys (no_white_space (x ∷ xs) h) (no_white_space (y ∷ ys) k))
+    ∙ rw (encodes-IsAscii (x ∷ xs) a, encodes-IsAscii (y ∷ ys) b) refl
+
+pub same_some : {A : Type 0} (x y : A) → Some x ≡ Some y → x ≡ y
+same_some x y e = cc
+
+digit_is : (c : ℕ) → is_ascii_digit c ≡ true → is_number_byte c ≡ true
+digit_is c h = grind (arith, nat_tests, h)
+
+minus_is : (c : ℕ) → (c == minus) ≡ true → is_number_byte c ≡ true
+minus_is c h = grind (arith, nat_tests, h)
+
+plus_is : (c : ℕ) → (c == plus) ≡ true → is_number_byte c ≡ true
+plus_is c h = grind (arith, nat_tests, h)
+
+digits_are : (t : List ℕ) → all_ascii_digits t ≡ true → AreNumberBytes t
+digits_are [] h = tt
+digits_are (c ∷ t) h =
+    let parts = both (is_ascii_digit c) (all_ascii_digits t) h in
+    (digit_is c parts.0, digits_are t parts.1)
+
+after_sign : (c : ℕ) (t : List ℕ) (p q : Bool) → (c == minus) ≡ p → (c == plus) ≡ q → all_ascii_digits (without_leading_sign (c ∷ t)) ≡ true → AreNumberBytes (c ∷ t)
+after_sign c t true q e f h = (minus_is c e, digits_are t (rw e at h))
+after_sign c t false true e f h = (plus_is c f, digits_are t (rw (e, f) at h))
+after_sign c t false false e f h = digits_are (c ∷ t) (rw (e, f) at h)
+
+-- the value of an int text
+pub int-taken : (w : List ℕ) (n : ℤ) → int_value w ≡ Some n → (is_int_text w ≡ true) × (signed_digits_value 10 w ≡ n)
+unfolding int_value
+int-taken w n e = guard (is_int_text w) (signed_digits_value 10 w) n e
+
+-- an int text has a byte, and they are digits and signs
+pub record IsNumber (w : List ℕ) : Type 0 where
+  pub first : ℕ
+  pub rest : List ℕ
+  pub whole : w ≡ first ∷ rest
+  pub bytes : AreNumberBytes (first ∷ rest)
+
+pub int-number : (w : List ℕ) (n : ℤ) → int_value w ≡ Some n → IsNumber w
+int-number [] n e = let h = (int-taken [] n e).0 in absurd cc
+int-number (c ∷ t) n e =
+    let parts = each_of (nat_lt 0 (length (without_leading_sign (c ∷ t)))) (all_ascii_digits (without_leading_sign (c ∷ t))) (fits_i64 (signed_digits_value 10 (c ∷ t))) (int-taken (c ∷ t) n e).0 in
+    record { first = c; rest = t; whole = refl; bytes = after_sign c t (c == minus) (c == plus) refl refl parts.1 }
+
+-- the mark of a sign
+abbrev pub IsMark : ℕ → Sign → Type 0
+IsMark c s = ((c ≡ plus) × (s ≡ Plus)) ⊎ ((c ≡ minus) × (s ≡ Minus))
+
+pub record TookSign (x : List ℕ) (s : Sign) (rest : List ℕ) : Type 0 where
+  pub mark : ℕ
+  pub is_mark : IsMark mark s
+  pub whole : x ≡ mark ∷ rest
+
+sign_from : (x : List ℕ) (a b : Option (List ℕ)) (s : Sign) (rest : List ℕ) → skip_char plus x ≡ a → skip_char minus x ≡ b
+    → option_or (option_map {U = Sign × List ℕ} (λ r. (Plus, r)) a) (option_map {U = Sign × List ℕ} (λ r. (Minus, r)) b) ≡ Some (s, rest) → TookSign x s rest
+sign_from x (Some r) b s rest e f h =
+    let found : (Plus, r) ≡ (s, rest) = cc in
+    record { mark = plus; is_mark = inl (refl, sym (ap (λ (p : Sign × List ℕ). p.0) found)); whole = after-taken plus x r e ∙ ap (λ (p : Sign × List ℕ). plus ∷ p.1) found }
+sign_from x None (Some r) s rest e f h =
+    let found : (Minus, r) ≡ (s, rest) = cc in
+    record { mark = minus; is_mark = inr (refl, sym (ap (λ (p : Sign × List ℕ). p.0) found)); whole = after-taken minus x r f ∙ ap (λ (p : Sign × List ℕ). minus ∷ p.1) found }
+sign_from x None None s rest e f h = absurd cc
+
+pub sign-taken : (x : List ℕ) (s : Sign) (rest : List ℕ) → read_sign x ≡ Some (s, rest) → TookSign x s rest
+unfolding read_sign
+sign-taken x s rest e = sign_from x (skip_char plus x) (skip_char minus x) s rest refl refl e
+
+pub record TookLast (x : List ℕ) (seconds : Option ℕ) : Type 0 where
+  pub bytes : AreNumberBytes x
+  pub none : seconds ≡ None → x ≡ []
+  pub digits : all_ascii_digits x ≡ true
+
+last_from : (a b : ℕ) (v : ℕ) (p q : Bool) (seconds : Option ℕ) → is_ascii_digit a ≡ p → is_ascii_digit b ≡ q → option_map {U = Option ℕ} (λ n. Some n) (cond (p && q) (Some v) None) ≡ Some seconds → TookLast (a ∷ b ∷ []) seconds
+last_from a b v true true seconds e f h =
+    record { bytes = (digit_is a e, (digit_is b f, tt)); none = λ n. absurd cc; digits = rw (e, f) refl }
+last_from a b v true false seconds e f h = absurd cc
+last_from a b v false q seconds e f h = absurd cc
+
+pub last-taken : (x : List ℕ) (seconds : Option ℕ) → last_pair x ≡ Some seconds → TookLast x seconds
+unfolding last_pair
+last-taken [] seconds e = record { bytes = tt; none = λ n. refl; digits = refl }
+last-taken (a ∷ []) seconds e = absurd cc
+last-taken (a ∷ b ∷ []) seconds e = last_from a b _ (is_ascii_digit a) (is_ascii_digit b) seconds refl refl e
+last-taken (a ∷ b ∷ c ∷ t) seconds e = absurd cc
+
+-- the bytes of an offset's fields
+pub record IsOffsetText (x : List ℕ) (f : OffsetFields) : Type 0 where
+  pub mark : ℕ
+  pub h0 : ℕ
+  pub h1 : ℕ
+  pub m0 : ℕ
+  pub m1 : ℕ
+  pub last : List ℕ
+  pub whole : x ≡ mark ∷ h0 ∷ h1 ∷ m0 ∷ m1 ∷ last
+  pub is_mark : IsMark mark f.sign
+  pub is_h0 : IsDigit h0
+  pub is_h1 : IsDigit h1
+  pub hours : f.hours ≡ 10 * (h0 - 48) + (h1 - 48)
+  pub is_m0 : IsDigit m0
+  pub is_m1 : IsDigit m1
+  pub minutes : f.minutes ≡ 10 * (m0 - 48) + (m1 - 48)
+  pub is_last : TookLast last f.seconds
+
+abbrev fields_at : Sign → ℕ → ℕ → Option ℕ → OffsetFields
+fields_at sign h m s = record { sign = sign; hours = h; minutes = m; seconds = s }
+
+pub offset-taken : (x : List ℕ) (f : OffsetFields) → offset_fields x ≡ Some f → IsOffsetText x f
+unfolding offset_fields
+offset-taken x f e =
+    let sign = went (read_sign x) (λ sign. read_two_digits sign.1 >>= λ h. read_two_digits h.1 >>= λ m. last_pair m.1 >>= λ s. Some (fields_at sign.0 h.0 m.0 s)) f e in
+    let hours = went (read_two_digits sign.0.1) (λ h. read_two_digits h.1 >>= λ m. last_pair m.1 >>= λ s. Some (fields_at sign.0.0 h.0 m.0 s)) f sign.2 in
+    let minutes = went (read_two_digits hours.0.1) (λ m. last_pair m.1 >>= λ s. Some (fields_at sign.0.0 hours.0.0 m.0 s)) f hours.2 in
+    let seconds = went (last_pair minutes.0.1) (λ s. Some (fields_at sign.0.0 hours.0.0 minutes.0.0 s)) f minutes.2 in
+    let found : fields_at sign.0.0 hours.0.0 minutes.0.0 seconds.0 ≡ f = same_some _ f seconds.2 in
+    let a = sign-taken x sign.0.0 sign.0.1 sign.1 in
+    let b = two-taken sign.0.1 hours.0.0 hours.0.1 hours.1 in
+    let c = two-taken hours.0.1 minutes.0.0 minutes.0.1 minutes.1 in
+    let d = last-taken minutes.0.1 seconds.0 seconds.1 in
+    subst (IsOffsetText x) found (record {
+      mark = a.mark;
+      h0 = b.tens;
+      h1 = b.ones;
+      m0 = c.tens;
+      m1 = c.ones;
+      last = minutes.0.1;
+      whole = a.whole ∙ ap (λ t. a.mark ∷ t) b.whole ∙ ap (λ t. a.mark ∷ b.tens ∷ b.ones ∷ t) c.whole;
+      is_mark = a.is_mark;
+      is_h0 = b.is_tens;
+      is_h1 = b.is_ones;
+      hours = b.value;
+      is_m0 = c.is_tens;
+      is_m1 = c.is_ones;
+      minutes = c.value;
+      is_last = d;
+    })
+
+mark_is : (c : ℕ) (s : Sign) → IsMark c s → is_number_byte c ≡ true
+mark_is c s (inl p) = rw p.0 refl
+mark_is c s (inr p) = rw p.0 refl
+
+pub offset-number : (x : List ℕ) (f : OffsetFields) → offset_fields x ≡ Some f → IsNumber x
+offset-number x f e =
+    let o = offset-taken x f e in
+    record { first = o.mark; rest = o.h0 ∷ o.h1 ∷ o.m0 ∷ o.m1 ∷ o.last; whole = o.whole; bytes = (mark_is o.mark f.sign o.is_mark, (digit_is o.h0 o.is_h0, (digit_is o.h1 o.is_h1, (digit_is o.m0 o.is_m0, (digit_is o.m1 o.is_m1, o.is_last.bytes))))) }
+
+byte_no_colon : (c : ℕ) → is_number_byte c ≡ true → is_colon c ≡ false
+byte_no_colon c h = grind (arith, nat_tests, h)
+
+neither : (a b : Bool) → a ≡ false → b ≡ false → (a || b) ≡ false
+neither false b p q = q
+neither true b p q = p
+
+pub no_colon : (t : List ℕ) → AreNumberBytes t → has_colon t ≡ false
+no_colon [] h = refl
+no_colon (c ∷ t) h = neither (is_colon c) (has_colon t) (byte_no_colon c h.0) (no_colon t h.1)
+
+pub by_words : (text a b : List ℕ) (t : Time) → has_colon text ≡ false → space_words text ≡ a ∷ b ∷ [] → time_of_words (a ∷ b ∷ []) ≡ Some t → header_time text ≡ Some t
+unfolding header_time
+by_words text a b t c w e = rw (c, w) e
+
+pub said : (a b : List ℕ) (n : ℤ) (f : OffsetFields) → int_value a ≡ Some n → offset_fields b ≡ Some f → time_of_words (a ∷ b ∷ []) ≡ Some (record { seconds = n; offset = offset_of f })
+unfolding time_of_words seconds_said offset_said
+said a b n f e h = rw (e, h) refl
+
+plain_of : (front zone : List ℕ) (n : ℤ) (f : OffsetFields) → IsNumber front → IsNumber zone → int_value front ≡ Some n → offset_fields zone ≡ Some f → header_time (front ++ (space ∷ zone)) ≡ Some (record { seconds = n; offset = offset_of f })
+plain_of front zone n f a b e h =
+    let x = a.first ∷ a.rest in
+    let y = b.first ∷ b.rest in
+    let colon : has_colon (front ++ (space ∷ zone)) ≡ false = rw (a.whole, b.whole) (list_any-append is_colon x (space ∷ y) ∙ neither (has_colon x) (has_colon (space ∷ y)) (no_colon x a.bytes) (no_colon y b.bytes)) in
+    let words : space_words (front ++ (space ∷ zone)) ≡ front ∷ zone ∷ [] = rw (a.whole, b.whole) (two-words a.first b.first a.rest b.rest a.bytes b.bytes) in
+    by_words (front ++ (space ∷ zone)) front zone _ colon words (said front zone n f e h)
+
+-- A number, one space and an offset's fields: the header's time is what they say.
+pub usual-header : (front zone : List ℕ) (n : ℤ) (f : OffsetFields) → int_value front ≡ Some n → offset_fields zone ≡ Some f → header_time (front ++ (space ∷ zone)) ≡ Some (record { seconds = n; offset = offset_of f })
+usual-header front zone n f e h = plain_of front zone n f (int-number front n e) (offset-number zone f h) e h
+
+pub plain-time : (text : List ℕ) (n : ℤ) (f : OffsetFields) → IsUsualHeader text n f → header_time text ≡ Some (record { seconds = n; offset = offset_of f })
+plain-time text n f h = ap header_time h.whole ∙ usual-header h.front h.zone n f h.is_seconds h.are_fields
+
+-- such a text by places
+pub plain-places : (text : List ℕ) (place : ℕ) (n : ℤ) (f : OffsetFields) → place < length text → get_or text place 0 ≡ space → int_value (take place text) ≡ Some n → offset_fields (drop (place + 1) text) ≡ Some f
+    → IsUsualHeader text n f
+plain-places text place n f within mark e h =
+    record {
+      front = take place text;
+      zone = drop (place + 1) text;
+      whole = sym (take-append-drop place text) ∙ ap (λ (t : List ℕ). take place text ++ t) (drop-cons text place 0 within ∙ rw (mark, add-one place) refl);
+      is_seconds = e;
+      are_fields = h;
+    }
+
+-- the two words of such a text
+pub plain-words : (text : List ℕ) (n : ℤ) (f : OffsetFields) (h : IsUsualHeader text n f) → space_words text ≡ h.front ∷ h.zone ∷ []
+plain-words text n f h =
+    let a = int-number h.front n h.is_seconds in
+    let b = offset-number h.zone f h.are_fields in
+    ap space_words h.whole ∙ rw (a.whole, b.whole) (two-words a.first b.first a.rest b.rest a.bytes b.bytes)
+
+-- the raw time of one, where the rule allows its fields
+pub plain-raw : (rule : OffsetRule) (text : List ℕ) (n : ℤ) (f : OffsetFields) → IsUsualHeader text n f → rule f ≡ true
+    → raw_time_by rule text ≡ Some (record { seconds = n; offset = offset_of f })
+unfolding raw_time_by raw_offset_by
+plain-raw rule text n f h q = rw (plain-words text n f h, h.is_seconds, h.are_fields, q) refl
+
+-- the words of a number alone
+pub one-word : (w : List ℕ) → IsNumber w → space_words w ≡ w ∷ []
+unfolding space_words
+one-word w k =
+    let front = k.first ∷ k.rest in
+    let a = are_ascii front k.bytes in
+    let one : runs front ≡ front ∷ [] = ap runs (sym (append-nil front)) ∙ run_first k.first k.rest [] (no_white_space front k.bytes) ends in
+    let words : map encode_utf8_all (runs (chars front)) ≡ front ∷ [] = ap (λ cs. map encode_utf8_all (runs cs)) (chars-IsAscii front a) ∙ ap (map encode_utf8_all) one ∙ ap (λ (t : List ℕ). t ∷ []) (encodes-IsAscii front a) in
+    ap (λ (t : List ℕ). map encode_utf8_all (runs (chars t))) k.whole ∙ words ∙ ap (λ (t : List ℕ). t ∷ []) (sym k.whole)

@@ -1,0 +1,90 @@
+-- Names of three letters at the front of a text: where the letters name a month or a day of the week, and where not.
+use Rattle.std.proofs.Common.{◌≡◌, ◌<◌, ◌≤◌, ℕ, Bool, true, false, List, [], ◌∷◌, length, drop, get_or, Some, None, refl, sym, ap, subst, arith, IsUtf8}
+use Rattle.std.proofs.lemmas.Bool.{and_parts as both}
+use Rattle.std.proofs.lemmas.Str.{IsCharBoundary-after_ascii}
+use Rattle.std.specs.Char.{is_ascii_alphabetic}
+use Rattle.std.specs.Prelude.{◌&&◌}
+use Rattle.std.specs.Str.{IsCharBoundary}
+use Rattle.gix_date.specs.Fields.DateFields.{read_name, read_month, skip_weekday, month_named, is_weekday}
+use Rattle.gix_date.specs.Fields.FieldTexts.{AreThreeLetters}
+use Rattle.gix_date.proofs.Text.AsciiCuts.{letter_is_ascii}
+
+-- the first three bytes
+abbrev pub three : List ℕ → List ℕ
+three text = get_or text 0 0 ∷ get_or text 1 0 ∷ get_or text 2 0 ∷ []
+
+month-at : (text : List ℕ) (m : ℕ) → 3 ≤ length text → AreThreeLetters (three text) → month_named (three text) ≡ Some m
+    → read_month text ≡ Some (m, drop 3 text)
+unfolding read_month read_name
+month-at (a ∷ b ∷ c ∷ rest) m n letters e = rw (letters, e) refl
+month-at [] m n letters e = absurd (omega arith)
+month-at (a ∷ []) m n letters e = absurd (omega arith)
+month-at (a ∷ b ∷ []) m n letters e = absurd (omega arith)
+
+no-month-at : (text : List ℕ) → month_named (three text) ≡ None → read_month text ≡ None
+unfolding read_month read_name
+no-month-at [] e = refl
+no-month-at (a ∷ []) e = refl
+no-month-at (a ∷ b ∷ []) e = refl
+no-month-at (a ∷ b ∷ c ∷ rest) e = by (is_ascii_alphabetic a && is_ascii_alphabetic b && is_ascii_alphabetic c) refl
+  where
+    by : (q : Bool) → (is_ascii_alphabetic a && is_ascii_alphabetic b && is_ascii_alphabetic c) ≡ q → read_month (a ∷ b ∷ c ∷ rest) ≡ None
+    by true q = rw (q, e) refl
+    by false q = rw q refl
+
+day-at : (text : List ℕ) → 3 ≤ length text → AreThreeLetters (three text) → is_weekday (three text) ≡ true
+    → skip_weekday text ≡ Some (drop 3 text)
+unfolding skip_weekday read_name
+day-at (a ∷ b ∷ c ∷ rest) n letters e = rw (letters, e) refl
+day-at [] n letters e = absurd (omega arith)
+day-at (a ∷ []) n letters e = absurd (omega arith)
+day-at (a ∷ b ∷ []) n letters e = absurd (omega arith)
+
+no-day-at : (text : List ℕ) → is_weekday (three text) ≡ false → skip_weekday text ≡ None
+unfolding skip_weekday read_name
+no-day-at [] e = refl
+no-day-at (a ∷ []) e = refl
+no-day-at (a ∷ b ∷ []) e = refl
+no-day-at (a ∷ b ∷ c ∷ rest) e = by (is_ascii_alphabetic a && is_ascii_alphabetic b && is_ascii_alphabetic c) refl
+  where
+    by : (q : Bool) → (is_ascii_alphabetic a && is_ascii_alphabetic b && is_ascii_alphabetic c) ≡ q → skip_weekday (a ∷ b ∷ c ∷ rest) ≡ None
+    by true q = rw (q, e) refl
+    by false q = rw q refl
+
+-- shorter texts begin with neither
+pub short-no-month : (text : List ℕ) → length text < 3 → read_month text ≡ None
+unfolding read_month read_name
+short-no-month [] n = refl
+short-no-month (a ∷ []) n = refl
+short-no-month (a ∷ b ∷ []) n = refl
+short-no-month (a ∷ b ∷ c ∷ rest) n = absurd (omega arith)
+
+-- the same of the bytes of a text
+
+pub month-of : (bytes text : List ℕ) (m : ℕ) → bytes ≡ text → 3 ≤ length bytes → AreThreeLetters (three bytes) → Some m ≡ month_named (three bytes)
+    → read_month text ≡ Some (m, drop 3 text)
+month-of bytes text m e n letters is = subst (λ t. read_month t ≡ Some (m, drop 3 t)) e (month-at bytes m n letters (sym is))
+
+pub no-month-of : (bytes text : List ℕ) → bytes ≡ text → None ≡ month_named (three bytes) → read_month text ≡ None
+no-month-of bytes text e is = subst (λ t. read_month t ≡ None) e (no-month-at bytes (sym is))
+
+pub day-of : (bytes text : List ℕ) → bytes ≡ text → 3 ≤ length bytes → AreThreeLetters (three bytes) → is_weekday (three bytes) ≡ true
+    → skip_weekday text ≡ Some (drop 3 text)
+day-of bytes text e n letters is = subst (λ t. skip_weekday t ≡ Some (drop 3 t)) e (day-at bytes n letters is)
+
+pub no-day-of : (bytes text : List ℕ) → bytes ≡ text → is_weekday (three bytes) ≡ false → skip_weekday text ≡ None
+no-day-of bytes text e is = subst (λ t. skip_weekday t ≡ None) e (no-day-at bytes is)
+
+pub short-no-day : (text : List ℕ) → length text < 3 → skip_weekday text ≡ None
+unfolding skip_weekday read_name
+short-no-day [] n = refl
+short-no-day (a ∷ []) n = refl
+short-no-day (a ∷ b ∷ []) n = refl
+short-no-day (a ∷ b ∷ c ∷ rest) n = absurd (omega arith)
+
+-- a text may be cut after three letters
+pub cut-three : (bytes text : List ℕ) → bytes ≡ text → IsUtf8 text → 3 ≤ length bytes → AreThreeLetters (three bytes) → IsCharBoundary text 3
+cut-three bytes text e u n letters =
+    let last = both (is_ascii_alphabetic (get_or bytes 0 0) && is_ascii_alphabetic (get_or bytes 1 0)) (is_ascii_alphabetic (get_or bytes 2 0)) letters in
+    let third : get_or text 2 0 < 128 = subst (λ t. get_or t 2 0 < 128) e (letter_is_ascii (get_or bytes 2 0) last.1) in
+    IsCharBoundary-after_ascii text 2 u (omega (arith, ap length e)) third

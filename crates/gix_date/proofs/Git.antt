@@ -1,0 +1,4 @@
+-- Git's own forms.
+pub mod GitGrammar
+pub mod ClockCuts
+pub mod ClockParts

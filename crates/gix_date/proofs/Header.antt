@@ -1,0 +1,4 @@
+-- Commit headers.
+pub mod HeaderLaws
+pub mod RawHeaders
+pub mod HeaderTexts

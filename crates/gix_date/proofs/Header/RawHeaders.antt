@@ -1,0 +1,129 @@
+-- A raw text is read as a header with the same time.
+use Rattle.std.proofs.Common.{◌≡◌, ◌∙◌, ◌<◌, ◌≤◌, ℕ, ℤ, Bool, true, false, List, [], ◌∷◌, map, filter, length, get_or, refl, ap, ap₂, sym, subst, arith, append-nil, Some, Option, encode_utf8, encode_utf8_all, IsUtf8, inl, inr, ◌⊎◌}
+use Rattle.std.proofs.lemmas.Bool.{cases_lt}
+use Rattle.std.proofs.lemmas.Bool.Decides.{nat_tests}
+use Rattle.std.proofs.lemmas.List.Elements.{All-from_get_or}
+use Rattle.std.proofs.lemmas.List.Folds.{list_any-append, list_any_none}
+use Rattle.std.proofs.lemmas.List.Splits.{slice_split-cons_yes, slice_split-cons_no}
+use Rattle.std.proofs.lemmas.Str.{encodes-chars, encode_ascii, inside_one}
+use Rattle.std.specs.Char.{is_whitespace}
+use Rattle.std.specs.List.{slice_split, onto_first, list_any}
+use Rattle.std.specs.Prelude.{◌||◌, IsSomeAnd}
+use Rattle.std.specs.Str.{chars}
+use Rattle.gix_date.specs.Families.Answer.{Absolute}
+use Rattle.gix_date.specs.Families.Order.{first_family_by}
+use Rattle.gix_date.specs.Families.Raw.{OffsetRule, allows, raw_time_by, raw_offset_by}
+use Rattle.gix_date.specs.Fields.Front.{◌>>=◌}
+use Rattle.gix_date.specs.Fields.Offsets.{offset_fields, offset_of, offset_by}
+use Rattle.gix_date.specs.Header.Canonical.{is_canonical_header}
+use Rattle.gix_date.specs.Header.Reading.{header_time}
+use Rattle.gix_date.specs.Header.Text.{header_text}
+use Rattle.gix_date.specs.Printing.ReadingBack.{IsRuleOffset}
+use Rattle.gix_date.specs.Text.Characters.{colon, is_colon, has_colon}
+use Rattle.gix_date.specs.Text.Numbers.{int_value}
+use Rattle.gix_date.specs.Text.SpaceWords.{is_nonempty, space_words, first_words}
+use Rattle.gix_date.specs.declared.parsing.raw.RawOffsets.{RawOffsets}
+use Rattle.gix_date.specs.declared.parsing.raw.RawOffsets.TheVariants.{Quarter, WholeMinutes}
+use Rattle.gix_date.specs.declared.time.Time.{Time}
+use Rattle.gix_date.proofs.Families.Disjoint.{two-words-are}
+use Rattle.gix_date.proofs.Fields.FieldsTaken.{went, guard}
+use Rattle.gix_date.proofs.Header.HeaderLaws.{canonical-taken, canonical-back, header-fits}
+use Rattle.gix_date.proofs.Fast.FastHeaders.{same_some, by_words, said, no_colon, int-number, offset-number, IsNumber}
+use Rattle.gix_date.proofs.Printing.RawBack.{raw-back, wide-back}
+use Rattle.gix_date.proofs.Text.WordsWithin.{parts-of}
+
+-- A text has a colon where one of its words has one: none is in white space, nor in a character of more bytes.
+wide-no-colon : (b : ℕ) → 128 ≤ b → is_colon b ≡ false
+wide-no-colon b h = grind (arith, nat_tests, h)
+
+byte-no-colon : (c k : ℕ) → 128 ≤ c → k < length (encode_utf8 c) → (get_or (encode_utf8 c) k 0 < 128) ⊎ (128 ≤ get_or (encode_utf8 c) k 0) → is_colon (get_or (encode_utf8 c) k 0) ≡ false
+byte-no-colon c k w l (inl small) =
+    let same : c ≡ get_or (encode_utf8 c) k 0 = inside_one c [] (encode_utf8 c) k (sym (append-nil (encode_utf8 c))) l small in
+    absurd (omega (arith, same, small, w))
+byte-no-colon c k w l (inr large) = wide-no-colon _ large
+
+or-false : (b : Bool) → (b || false) ≡ b
+or-false true = refl
+or-false false = refl
+
+char-colon : (c : ℕ) → (c < 128) ⊎ (128 ≤ c) → has_colon (encode_utf8 c) ≡ is_colon c
+char-colon c (inl small) = ap has_colon (encode_ascii c small) ∙ or-false (is_colon c)
+char-colon c (inr large) =
+    list_any_none is_colon (encode_utf8 c) (All-from_get_or (λ b. is_colon b ≡ false) (encode_utf8 c) 0 (λ k l. byte-no-colon c k large l (cases_lt (get_or (encode_utf8 c) k 0) 128)))
+    ∙ sym (wide-no-colon c large)
+
+chars-colon : (cs : List ℕ) → has_colon (encode_utf8_all cs) ≡ list_any is_colon cs
+chars-colon [] = refl
+chars-colon (c ∷ cs) = list_any-append is_colon (encode_utf8 c) (encode_utf8_all cs) ∙ ap₂ (λ a b. a || b) (char-colon c (cases_lt c 128)) (chars-colon cs)
+
+white-no-colon : (c : ℕ) (b : Bool) → is_colon c ≡ b → is_whitespace c ≡ true → b ≡ false
+white-no-colon c false e h = refl
+white-no-colon c true e h =
+    let is : c ≡ colon = grind (arith, nat_tests, e) in
+    sym (ap is_whitespace (sym is) ∙ h)
+
+or-or : (a b c : Bool) → (a || (b || c)) ≡ ((a || b) || c)
+or-or true b c = refl
+or-or false b c = refl
+
+abbrev any_colon : List (List ℕ) → Bool
+any_colon ps = list_any (list_any is_colon) ps
+
+parts-by : (c : ℕ) (cs : List ℕ) (b : Bool) → is_whitespace c ≡ b → list_any is_colon cs ≡ any_colon (slice_split is_whitespace cs) → list_any is_colon (c ∷ cs) ≡ any_colon (slice_split is_whitespace (c ∷ cs))
+parts-by c cs true e more =
+    ap (λ b. b || list_any is_colon cs) (white-no-colon c (is_colon c) refl e) ∙ more ∙ sym (ap any_colon (slice_split-cons_yes is_whitespace c cs e))
+parts-by c cs false e more =
+    let ps = parts-of is_whitespace cs in
+    ap (λ b. is_colon c || b) (more ∙ ap any_colon ps.is) ∙ or-or (is_colon c) (list_any is_colon ps.part) (any_colon ps.parts)
+    ∙ sym (ap any_colon (slice_split-cons_no is_whitespace c cs e ∙ ap (onto_first c) ps.is))
+
+parts-colon : (cs : List ℕ) → list_any is_colon cs ≡ any_colon (slice_split is_whitespace cs)
+parts-colon [] = refl
+parts-colon (c ∷ cs) = parts-by c cs (is_whitespace c) refl (parts-colon cs)
+
+words-colon : (ps : List (List ℕ)) → any_colon ps ≡ list_any has_colon (map encode_utf8_all (filter is_nonempty ps))
+words-colon [] = refl
+words-colon ([] ∷ ps) = words-colon ps
+words-colon ((c ∷ part) ∷ ps) = ap₂ (λ a b. a || b) (sym (chars-colon (c ∷ part))) (words-colon ps)
+
+pub colon-within : (text : List ℕ) → IsUtf8 text → has_colon text ≡ list_any has_colon (space_words text)
+unfolding space_words
+colon-within text u =
+    ap has_colon (sym (encodes-chars text u)) ∙ chars-colon (chars text) ∙ parts-colon (chars text) ∙ words-colon (slice_split is_whitespace (chars text))
+
+number-no-colon : (w : List ℕ) → IsNumber w → has_colon w ≡ false
+number-no-colon w n = ap has_colon n.whole ∙ no_colon (n.first ∷ n.rest) n.bytes
+
+abbrev time_at : ℤ → ℤ → Time
+time_at seconds offset = record { seconds = seconds; offset = offset }
+
+pub raw-header : (rule : OffsetRule) (text : List ℕ) (t : Time) → IsUtf8 text → raw_time_by rule text ≡ Some t → header_time text ≡ Some t
+unfolding raw_time_by raw_offset_by
+raw-header rule text t u e =
+    let words = went (first_words (space_words text)) (λ words. words.1 >>= λ second. int_value words.0 >>= λ s. raw_offset_by rule second >>= λ o. Some (time_at s o)) t e in
+    let second = went words.0.1 (λ second. int_value words.0.0 >>= λ s. raw_offset_by rule second >>= λ o. Some (time_at s o)) t words.2 in
+    let seconds = went (int_value words.0.0) (λ s. raw_offset_by rule second.0 >>= λ o. Some (time_at s o)) t second.2 in
+    let offset = went (raw_offset_by rule second.0) (λ o. Some (time_at seconds.0 o)) t seconds.2 in
+    let fields = went (offset_fields second.0) (λ f. offset_by rule f) offset.0 offset.1 in
+    let g = guard (rule fields.0) (offset_of fields.0) offset.0 fields.2 in
+    let are = two-words-are (space_words text) words.0.0 second.0 words.0.1 words.1 second.1 in
+    let first = number-no-colon words.0.0 (int-number words.0.0 seconds.0 seconds.1) in
+    let last = number-no-colon second.0 (offset-number second.0 fields.0 fields.1) in
+    let none : has_colon text ≡ false = colon-within text u ∙ ap (list_any has_colon) are ∙ rw (first, last) refl in
+    let time : time_at seconds.0 (offset_of fields.0) ≡ t = ap (time_at seconds.0) g.1 ∙ same_some (time_at seconds.0 offset.0) t offset.2 in
+    by_words text words.0.0 second.0 t none are (said words.0.0 second.0 seconds.0 fields.0 seconds.1 fields.1 ∙ ap (λ (k : Time). Some k) time)
+
+-- A canonical header with an offset that the rule allows is a raw text.
+is-said : (rule : OffsetRule) (text : List ℕ) (t : Time) → header_text t ≡ Some text → IsSomeAnd (header_text t) (λ x. first_family_by rule x ≡ Some (Absolute t)) → first_family_by rule text ≡ Some (Absolute t)
+is-said rule text t e h = subst (λ (r : Option (List ℕ)). IsSomeAnd r (λ x. first_family_by rule x ≡ Some (Absolute t))) e h
+
+pub canonical-raw : (raw : RawOffsets) (text : List ℕ) (t : Time) → is_canonical_header text ≡ true → header_time text ≡ Some t → IsRuleOffset raw t.offset → first_family_by (allows raw) text ≡ Some (Absolute t)
+canonical-raw raw text t h e o =
+    let back = canonical-back text (canonical-taken text h) in
+    let same : back.time ≡ t = same_some back.time t (sym back.is_read ∙ e) in
+    let written : header_text t ≡ Some text = ap header_text (sym same) ∙ back.is_written in
+    by raw o written
+  where
+    by : (raw : RawOffsets) → IsRuleOffset raw t.offset → header_text t ≡ Some text → first_family_by (allows raw) text ≡ Some (Absolute t)
+    by Quarter o w = is-said (allows Quarter) text t w (raw-back t (header-fits text t e) o)
+    by WholeMinutes o w = is-said (allows WholeMinutes) text t w (wide-back t (header-fits text t e) o)

@@ -1,0 +1,236 @@
+-- What a time's own clock shows is what each moment of it shows.
+use Rattle.std.proofs.Common.{◌≡◌, ◌∙◌, ◌≤◌, ◌<◌, ◌+◌, ◌-◌, ◌*◌, ◌/◌, ◌%◌, ℕ, suc, Bool, true, false, nat_lt, if◌then◌else◌, ℤ, pos, negsuc, neg_ℤ, ◌+ℤ◌, ◌-ℤ◌, ◌*ℤ◌, ◌≤ℤ◌, ◌<ℤ◌, unsigned_abs, refl, sym, ap, subst, arith}
+use Rattle.std.proofs.lemmas.Bool.Decides.{nat_tests}
+use Rattle.std.proofs.lemmas.Int.{by_lt_z}
+use Rattle.std.specs.Int.{int_rem_euclid, FitsUnsignedBits}
+use Rattle.jiff.specs.Types.{Date, Offset, PlainZoned}
+use Rattle.jiff.proofs.ZoneFacts.{offset_at-fixed_zone}
+use Rattle.jiff.specs.Words.{plain_zoned, nanos_of_seconds, fixed_zone, IsTimestampNanos, IsCivilNanos}
+use Rattle.gix_date.proofs.Fields.DateTimes.{datetime_exists}
+use Rattle.jiff_core.specs.Calendar.{IsYear, IsCivilDate, day_count, weekday_number}
+use Rattle.jiff_core.specs.Date.{epoch_day}
+use Rattle.jiff_core.specs.March.{march_days}
+use Rattle.jiff_core.proofs.CalendarLemmas.{days_from_civil-day_count, day_count-later_year, day_count-day_of_year, day_of_year_bound}
+use Rattle.jiff_core.proofs.DateLemmas.{epoch_day_range, epoch_day_injective}
+use Rattle.jiff_core.proofs.DateTimeLemmas.{civil_nanos-parts, time_nanos_bound}
+use Rattle.jiff_core.proofs.MarchLemmas.{leap_day, leap_day-shift, march_days-suc, day_count-early, day_count-late, month_and_day, day_in_month, day_in_early_month}
+use Rattle.jiff_core.proofs.SignedLemmas.{signed_arith, one_part}
+use Rattle.gix_date.specs.Fields.ClockNumbers.{hours_in, minutes_in}
+use Rattle.gix_date.specs.Fields.Layout.{LocalTime}
+use Rattle.gix_date.specs.declared.civil.ClockFields.{ClockFields}
+use Rattle.gix_date.specs.Printing.LocalClocks.{march_year, march_month, march_day, january_date, date_of_day, local_seconds, local_day, second_of_day, clock_of, HasOrdinaryClock}
+use Rattle.gix_date.specs.Printing.NamedTexts.{local_time, IsOrdinary}
+use Rattle.gix_date.specs.Printing.Zoned.{IsMoment, IsConvertible}
+use Rattle.gix_date.specs.declared.time.Time.{Time}
+use Rattle.jiff.specs.declared.zoned.Zoned.{Zoned}
+
+-- years that begin in March
+march-value : (days : ℕ) → march_days (march_year days).0 + (march_year days).1 ≡ days
+march-value days = omega arith
+
+march-within : (days : ℕ) → days < march_days ((march_year days).0 + 1)
+march-within days = omega arith
+
+march-bound : (days : ℕ) → (march_year days).1 < 366
+march-bound days = omega arith
+
+-- the date has the day count, and the calendar has it
+abbrev IsDateAt : ℕ → ℤ × ℕ × ℕ → Type 0
+IsDateAt n (y, m, d) = IsCivilDate y m d × (day_count y m d ≡ n)
+
+date-late : (year before n : ℕ) → march_days year + before + 60 ≡ n → before < 366 → n ≤ 7_304_849 → 366 ≤ n
+    → march_month before ≤ 12 → IsDateAt n (pos year -ℤ pos 10_000, march_month before, march_day before)
+date-late year before n e short last first month =
+    let y = pos year -ℤ pos 10_000 in
+    let count = day_count-late y year (march_month before) (march_day before) (omega (arith, signed_arith)) (omega arith) month (omega arith) in
+    let in_year : IsYear y = (omega (arith, signed_arith, e, first), omega (arith, signed_arith, e, last)) in
+    ((in_year, (omega arith, month), (omega arith, day_in_month y before month)), omega (arith, count, month_and_day before short, e))
+
+date-early : (year before n : ℕ) → march_days year + before + 60 ≡ n → before < 366 → n < march_days (year + 1) + 60
+    → n ≤ 7_304_849 → 366 ≤ n → 12 < march_month before
+    → IsDateAt n (pos (year + 1) -ℤ pos 10_000, march_month before - 12, march_day before)
+date-early year before n e short within last first month =
+    let y = pos (year + 1) -ℤ pos 10_000 in
+    let shift : y +ℤ pos 10_000 ≡ pos (suc year) = omega (arith, signed_arith) in
+    let back : march_month before - 12 + 12 ≡ march_month before = omega arith in
+    let count =
+    day_count-early y year (march_month before - 12) (march_day before) shift (omega arith) (omega arith) (omega arith) in
+    let in_year : IsYear y = (omega (arith, signed_arith, e, first), omega (arith, signed_arith, e, last, month)) in
+    let next : year + 1 ≡ suc year = omega arith in
+    let long : before < 365 + leap_day y =
+    omega (arith, march_days-suc year, leap_day-shift y (suc year) shift, rw next at within, e) in
+    ((in_year, (omega arith, omega arith), (omega arith, day_in_early_month y before month long)), omega (arith, rw back at count, month_and_day before short, e))
+
+date-by : (year before n : ℕ) (b : Bool) → nat_lt 12 (march_month before) ≡ b → march_days year + before + 60 ≡ n
+    → before < 366 → n < march_days (year + 1) + 60 → n ≤ 7_304_849 → 366 ≤ n
+    → IsDateAt n (if b then (pos (year + 1) -ℤ pos 10_000, march_month before - 12, march_day before) else (pos year -ℤ pos 10_000, march_month before, march_day before))
+date-by year before n true test e short within last first =
+    date-early year before n e short within last first (grind (arith, nat_tests, test))
+date-by year before n false test e short within last first =
+    date-late year before n e short last first (grind (arith, nat_tests, test))
+
+date-at : (n : ℕ) → 366 ≤ n → n ≤ 7_304_849 → IsDateAt n (january_date (march_year (n - 60)))
+date-at n first last =
+    let days = n - 60 in
+    date-by (march_year days).0 (march_year days).1 n _ refl (omega (arith, march-value days)) (march-bound days) (omega (arith, march-within days)) last first
+
+-- a date is the one of its day number
+pub date-of-day : (date : Date) → date_of_day (epoch_day date) ≡ (date.year, date.month, date.day)
+unfolding date_of_day
+date-of-day date =
+    let range = epoch_day_range date in
+    let some = one_part (epoch_day date +ℤ pos 4_371_953) in
+    let n = unsigned_abs (epoch_day date +ℤ pos 4_371_953) in
+    let at : IsDateAt n (date_of_day (epoch_day date)) =
+    date-at n (omega (arith, signed_arith, range, some)) (omega (arith, signed_arith, range, some)) in
+    let r = date_of_day (epoch_day date) in
+    let found : Date =
+    record { year = r.0; month = r.1; day = r.2; year_in = at.0.0; month_in = at.0.1; day_in = at.0.2 } in
+    let same : epoch_day found ≡ epoch_day date =
+    omega (arith, signed_arith, at.1, days_from_civil-day_count r.0 r.1 r.2, range, some) in
+    let p = epoch_day_injective found date same in
+    λ i. (p.0 i, p.1 i, p.2 i)
+
+-- a zoned value that is at the time, at its offset
+pub record Shows (z : PlainZoned) (t : Time) : Type 0 where
+  pub instant : z.timestamp.nanosecond ≡ nanos_of_seconds t.seconds
+  pub offset_is : z.offset.seconds ≡ t.offset
+
+day-shown : (z : PlainZoned) (t : Time) → Shows z t → local_day t ≡ epoch_day z.datetime.date
+day-shown z t h =
+    omega (arith, signed_arith, z.shows, h.instant, h.offset_is, civil_nanos-parts z.datetime, time_nanos_bound z.datetime.time)
+
+second-shown : (z : PlainZoned) (t : Time) → Shows z t
+    → second_of_day t ≡ z.datetime.time.hour * 3600 + z.datetime.time.minute * 60 + z.datetime.time.second
+second-shown z t h =
+    let subsec = z.datetime.time.subsec_in in
+    omega (arith, signed_arith, z.shows, h.instant, h.offset_is, civil_nanos-parts z.datetime, time_nanos_bound z.datetime.time, one_part (int_rem_euclid (local_seconds t) (pos 86_400)), subsec)
+
+pub clock-shown : (z : PlainZoned) (t : Time) → Shows z t → local_time z ≡ clock_of t
+unfolding clock_of
+clock-shown z t h =
+    let day = day-shown z t h in
+    let second = second-shown z t h in
+    let hour_in = z.datetime.time.hour_in in
+    let minute_in = z.datetime.time.minute_in in
+    let second_in = z.datetime.time.second_in in
+    let date = sym (ap (λ (n : ℤ). date_of_day n) day ∙ date-of-day z.datetime.date) in
+    let hour : z.datetime.time.hour ≡ second_of_day t / 3600 = omega (arith, second) in
+    let minute : z.datetime.time.minute ≡ second_of_day t % 3600 / 60 = omega (arith, second) in
+    let last : z.datetime.time.second ≡ second_of_day t % 60 = omega (arith, second) in
+    λ i. record {
+      weekday = weekday_number (sym day i);
+      date = record { year = unsigned_abs (date i).0; month = (date i).1; day = (date i).2 };
+      clock = record { hour = hour i; minute = minute i; second = last i };
+      offset = h.offset_is i;
+    }
+
+-- years and seconds
+thousand : day_count (pos 1000) 1 1 ≡ 4_017_668
+thousand = day_count-early (pos 1000) 10_999 1 1 refl (omega arith) (omega arith) (omega arith)
+
+-- the year is 1000 or more exactly from its first day on
+year-from : (date : Date) → pos 1000 ≤ℤ date.year → neg_ℤ (pos 354_285) ≤ℤ epoch_day date
+year-from date le =
+    let day_in = date.day_in in
+    let here = day_count-day_of_year date.year date.month date.day day_in.0 in
+    by_lt_z (pos 1000) date.year
+    (λ lt. omega (arith, signed_arith, here, day_count-later_year (pos 1000) date.year (omega (arith, signed_arith)) lt, days_from_civil-day_count date.year date.month date.day, thousand, day_in))
+    (λ ge. let same : date.year ≡ pos 1000 = omega (arith, signed_arith) in
+    omega (arith, signed_arith, here, ap (λ (y : ℤ). day_count y 1 1) same, days_from_civil-day_count date.year date.month date.day, thousand, day_in))
+
+year-before : (date : Date) → date.year <ℤ pos 1000 → epoch_day date <ℤ neg_ℤ (pos 354_285)
+year-before date lt =
+    let day_in = date.day_in in
+    let year_in = date.year_in in
+    let here = day_count-day_of_year date.year date.month date.day day_in.0 in
+    let within = day_of_year_bound date.year date.month date.day (date.year_in, date.month_in, date.day_in) in
+    omega (arith, signed_arith, here, within, day_count-later_year date.year (pos 1000) (omega (arith, signed_arith, year_in)) lt, days_from_civil-day_count date.year date.month date.day, thousand)
+
+pub local-is : (z : PlainZoned) (t : Time) → Shows z t
+    → ((epoch_day z.datetime.date *ℤ pos 86_400) ≤ℤ local_seconds t) × (local_seconds t <ℤ (epoch_day z.datetime.date *ℤ pos 86_400 +ℤ pos 86_400))
+local-is z t h =
+    let parts = civil_nanos-parts z.datetime in
+    let bound = time_nanos_bound z.datetime.time in
+    (omega (arith, signed_arith, z.shows, h.instant, h.offset_is, parts, bound), omega (arith, signed_arith, z.shows, h.instant, h.offset_is, parts, bound))
+
+pub ordinary-to : (z : PlainZoned) (t : Time) → Shows z t → IsOrdinary z → HasOrdinaryClock t
+ordinary-to z t h o =
+    let low = year-from z.datetime.date (omega (arith, signed_arith, o.year_is, o.low)) in
+    let range = epoch_day_range z.datetime.date in
+    let local = local-is z t h in
+    record { in_years = (omega (arith, signed_arith, low, local), omega (arith, signed_arith, range, local)); minutes = subst (λ (s : ℤ). unsigned_abs s % 60 ≡ 0) h.offset_is o.minutes }
+
+ordinary-year : (z : PlainZoned) (t : Time) → Shows z t → HasOrdinaryClock t → pos 1000 ≤ℤ z.datetime.date.year
+ordinary-year z t h o =
+    by_lt_z z.datetime.date.year (pos 1000)
+    (λ lt. absurd (omega (arith, signed_arith, year-before z.datetime.date lt, local-is z t h, o.in_years)))
+    (λ ge. ge)
+
+pub ordinary-from : (z : PlainZoned) (t : Time) → Shows z t → HasOrdinaryClock t → IsOrdinary z
+ordinary-from z t h o =
+    let low = ordinary-year z t h o in
+    let year_in = z.datetime.date.year_in in
+    let some = one_part z.datetime.date.year in
+    record {
+      year = unsigned_abs z.datetime.date.year;
+      year_is = omega (arith, signed_arith, low, some);
+      low = omega (arith, signed_arith, low, some);
+      high = omega (arith, signed_arith, low, some, year_in);
+      minutes = subst (λ (s : ℤ). unsigned_abs s % 60 ≡ 0) (sym h.offset_is) o.minutes;
+    }
+
+pub moment-shows : (t : Time) (z : Zoned) → IsMoment t z → Shows (plain_zoned z) t
+moment-shows t z h = record { instant = h.instant; offset_is = h.offset_is }
+
+-- each time that converts has such a value
+pub moment-of : (t : Time) → IsConvertible t → (z : Zoned) × IsMoment t z
+moment-of t h =
+    let o : Offset = record { seconds = t.offset; in_range = h.0 } in
+    let n = nanos_of_seconds t.seconds in
+    let range : IsTimestampNanos n = (omega (arith, signed_arith, h.1), omega (arith, signed_arith, h.1)) in
+    let clock : IsCivilNanos (n +ℤ nanos_of_seconds t.offset) =
+    (omega (arith, signed_arith, h.0, h.1), omega (arith, signed_arith, h.0, h.1)) in
+    let found = datetime_exists (n +ℤ nanos_of_seconds t.offset) clock in
+    let z : PlainZoned = record {
+      timestamp = record { nanosecond = n; in_range = range };
+      datetime = found.0;
+      offset = o;
+      time_zone = fixed_zone o;
+      shows = found.1;
+      offset_is = sym (offset_at-fixed_zone o n);
+    } in
+    (record { inner = z }, record { instant = refl; offset_is = refl; zone = (o, refl, refl) })
+
+abbrev IsShownBy : Time → Type 0
+IsShownBy t = (z : PlainZoned) × Shows z t
+
+pub shown-by : (t : Time) → IsConvertible t → IsShownBy t
+shown-by t h =
+    let m = moment-of t h in
+    (plain_zoned m.0, moment-shows t m.0 m.1)
+
+-- what a clock shows is its date by the day number, and its time by the second of the day
+pub clock-by : (t : Time) (day : ℤ) (date : Date) (year second weekday : ℕ) (clock : ClockFields) → day ≡ local_day t
+    → epoch_day date ≡ day → date.year ≡ pos year → second ≡ second_of_day t → weekday ≡ unsigned_abs (int_rem_euclid (day +ℤ pos 3) (pos 7))
+    → clock.hour ≡ hours_in second → clock.minute ≡ minutes_in second → clock.second ≡ second % 60
+    → ◌≡◌ {A = LocalTime} (record { weekday = weekday; date = record { year = year; month = date.month; day = date.day }; clock = clock; offset = t.offset }) (clock_of t)
+unfolding clock_of weekday_number
+clock-by t day date year second weekday clock is_day at is_year is_second is_weekday hour minute last =
+    let d = sym (ap (λ (n : ℤ). date_of_day n) (at ∙ is_day)) in
+    let same : date_of_day (local_day t) ≡ (date.year, date.month, date.day) = d ∙ date-of-day date in
+    let y : year ≡ unsigned_abs (date_of_day (local_day t)).0 = sym (ap (λ (v : ℤ). unsigned_abs v) is_year) ∙ ap (λ (r : ℤ × ℕ × ℕ). unsigned_abs r.0) (sym same) in
+    let w : weekday ≡ unsigned_abs (int_rem_euclid (local_day t +ℤ pos 3) (pos 7)) = is_weekday ∙ ap (λ (n : ℤ). unsigned_abs (int_rem_euclid (n +ℤ pos 3) (pos 7))) is_day in
+    let h = hour ∙ ap (λ (n : ℕ). hours_in n) is_second in
+    let m = minute ∙ ap (λ (n : ℕ). minutes_in n) is_second in
+    let s = last ∙ ap (λ (n : ℕ). n % 60) is_second in
+    λ i. record {
+      weekday = w i;
+      date = record { year = y i; month = (sym same i).1; day = (sym same i).2 };
+      clock = record { hour = h i; minute = m i; second = s i };
+      offset = t.offset;
+    }
+
+pub unsigned-is : (z : ℤ) → FitsUnsignedBits 16 z → z ≡ pos (unsigned_abs z)
+unsigned-is (pos n) h = refl
+unsigned-is (negsuc n) h = absurd h

@@ -1,0 +1,274 @@
+-- The pieces of a printed text.
+use Rattle.std.proofs.Common.{◌≡◌, ◌∙◌, ℕ, ℤ, pos, ◌+◌, ◌-◌, ◌/◌, ◌%◌, ◌<◌, ◌≤◌, ◌^◌, Bool, true, false, List, [], ◌∷◌, ◌++◌, Option, Ok, Err, Result, refl, sym, ap, arith, append_assoc, decimal, length, get_or, replicate, min, int_le, inl, inr, zero, suc, unsigned_abs, lit<, if◌then◌else◌, int_lt, map}
+use Rattle.std.specs.Prelude.{nat_lt}
+use Rattle.std.specs.List.{concat, list_all}
+use Rattle.std.proofs.lemmas.Bool.Decides.{nat_tests}
+use Rattle.std.proofs.lemmas.List.{append-nil}
+use Rattle.std.proofs.lemmas.Str.{IsAscii-append, IsUtf8-from_ascii}
+use Rattle.std.proofs.lemmas.Str.Ascii.{IsAscii-nil, IsAscii-cons}
+use Rattle.std.specs.Str.{IsUtf8, IsAscii}
+use Rattle.std.proofs.lemmas.Bool.{cases_order, and_parts as both}
+use Rattle.std.proofs.lemmas.Int.{ints}
+use Rattle.std.proofs.lemmas.Fmt.{decimal_digit, decimal_step, IsAscii-decimal}
+use Rattle.jiff.specs.Types.{PlainZoned}
+use Rattle.jiff_core.proofs.CalendarLemmas.{days_in_month_bounds}
+use Rattle.jiff_core.proofs.SignedLemmas.{signed_arith, one_part}
+use Rattle.jiff_core.specs.declared.civil.date.Date.{Date}
+use Rattle.jiff_core.specs.declared.civil.iso_week_date.ISOWeekDate.{ISOWeekDate}
+use Rattle.jiff_core.specs.declared.error.Error.{Error}
+use Rattle.jiff_strtime.specs.Directive.{plain}
+use Rattle.jiff_strtime.specs.Show.{Context, Shown, show_format, padded, int_text, no_pad, offset_text, weekday_name, short}
+use Rattle.jiff_strtime.specs.Text.{Parts, month_names as full_names, weekday_names}
+use Rattle.jiff_strtime.specs.declared.directive.Config.{Config}
+use Rattle.jiff_strtime.specs.declared.directive.Locale.TheVariants.{Default}
+use Rattle.jiff_tz.specs.Abbreviation.{abbreviation_text}
+use Rattle.jiff_tz.specs.Zone.{zone_name}
+use Rattle.gix_date.specs.Header.Text.{hours_and_minutes, compact_offset_text}
+use Rattle.gix_date.specs.Fields.Layout.{LocalTime}
+use Rattle.gix_date.specs.Fields.FieldTexts.{four_digits}
+use Rattle.gix_date.specs.Fields.DateOffsets.{strict_offset_text}
+use Rattle.gix_date.specs.Printing.NamedTexts.{local_time, IsOrdinary, ShowsText}
+use Rattle.gix_date.specs.Text.Names.{day_names, month_names, day_name}
+use Rattle.gix_date.specs.Text.Numbers.{two_digits}
+use Rattle.gix_date.specs.Printing.Formats.{IsShown, IsUnprinted}
+use Rattle.gix_date.proofs.Printing.Printing.{filled_parts}
+
+-- the printer's context with these parts
+abbrev pub context : Parts → Result Date Error → Result ISOWeekDate Error → Result ℤ Error → Context
+context parts date iso second = record { parts = parts; date = date; iso = iso; second = second }
+
+abbrev pub strict_config : Config
+strict_config = record { locale = Default; lenient = false }
+
+-- whatever the zone's names and the dates and instants of a context came to, the pattern shows this text
+abbrev pub AlwaysShows : List ℕ → PlainZoned → List ℕ → Type 0
+AlwaysShows pattern z text =
+    (abbreviation : List ℕ) (name : Option (List ℕ)) (date : Result Date Error) (iso : Result ISOWeekDate Error) (second : Result ℤ Error)
+    → show_format strict_config pattern (context (filled_parts z abbreviation name) date iso second) ≡ Ok text
+
+-- the pattern always shows this text of an ordinary zoned value
+abbrev pub AlwaysShowsText : List ℕ → (LocalTime → List ℕ) → Type 0
+AlwaysShowsText pattern text = (z : PlainZoned) → IsOrdinary z → AlwaysShows pattern z (text (local_time z))
+
+config_is : (config : Config) → config.locale ≡ Default → config.lenient ≡ false → config ≡ strict_config
+config_is config l s = rw (l, s) refl
+
+context_is : (cx : Context) (parts : Parts) → cx.parts ≡ parts → cx ≡ context parts cx.date cx.iso cx.second
+context_is cx parts e = ap (λ (p : Parts). context p cx.date cx.iso cx.second) e
+
+-- so that text is all that can be shown
+shown-only : (pattern : List ℕ) (z : PlainZoned) (text : List ℕ) → AlwaysShows pattern z text → (shown : Shown) → IsShown pattern z shown → shown ≡ Ok text
+shown-only pattern z text always shown h =
+    let cx = h.is_shown.context in
+    let info = h.are_printed.are_parts.0 in
+    let parts = filled_parts z (abbreviation_text info.abbreviation) (zone_name z.time_zone) in
+    let named = ap (λ (p : Parts). let q : Parts = record p { weekday = parts.weekday } in q) h.are_printed.are_parts.2 in
+    let at_cx = context_is cx parts (h.is_shown.is_context.parts ∙ h.are_printed.is_filled ∙ named) in
+    sym h.is_shown.shown_is
+    ∙ ap (λ (c : Config). show_format c pattern cx) (config_is h.config h.locale h.strict)
+    ∙ ap (λ (x : Context). show_format strict_config pattern x) at_cx
+    ∙ always (abbreviation_text info.abbreviation) (zone_name z.time_zone) cx.date cx.iso cx.second
+
+abbrev text_or_none : Shown → List ℕ
+text_or_none (Ok text) = text
+text_or_none (Err e) = []
+
+never-refused : (pattern : List ℕ) (z : PlainZoned) (text : List ℕ) → AlwaysShows pattern z text → IsUtf8 text → IsUnprinted pattern z → ⊥
+never-refused pattern z text always u (inl (e, h)) =
+    let clash : ◌≡◌ {A = Shown} (Err e) (Ok text) = shown-only pattern z text always (Err e) h in
+    cc
+never-refused pattern z text always u (inr (shown, h, bad)) =
+    let same : shown ≡ text = ap text_or_none (shown-only pattern z text always (Ok shown) h) in
+    bad (rw same u)
+
+pub shows-text : (pattern : List ℕ) (text : LocalTime → List ℕ) → ((z : PlainZoned) → IsOrdinary z → AlwaysShows pattern z (text (local_time z)))
+    → ((z : PlainZoned) → IsOrdinary z → IsAscii (text (local_time z))) → ShowsText pattern text
+shows-text pattern text always ascii z o =
+    (shown-only pattern z (text (local_time z)) (always z o), never-refused pattern z (text (local_time z)) (always z o) (IsUtf8-from_ascii (text (local_time z)) (ascii z o)))
+
+-- pieces one after the other, as the printer adds them
+abbrev pub joined_text : List ℕ → List (List ℕ) → List ℕ
+joined_text shown [] = shown
+joined_text shown (piece ∷ pieces) = joined_text (shown ++ piece) pieces
+
+pub joined_text-is : (shown : List ℕ) (pieces : List (List ℕ)) → joined_text shown pieces ≡ shown ++ concat pieces
+joined_text-is shown [] = sym (append-nil shown)
+joined_text-is shown (piece ∷ pieces) = joined_text-is (shown ++ piece) pieces ∙ append_assoc shown piece (concat pieces)
+
+-- a number of a directive with nothing between `%` and its letter, and with `-` there
+abbrev pub number : ℕ → ℤ → List ℕ
+number width n = int_text plain 48 width n
+
+abbrev pub bare : ℤ → List ℕ
+bare n = int_text no_pad 48 2 n
+
+number-padded : (width n : ℕ) → number width (pos n) ≡ padded n 48 width
+number-padded width n =
+    let e : int_le (pos 0) (pos n) ≡ true = grind (arith, ints) in
+    rw e refl
+
+pub decimal-two : (n : ℕ) → 10 ≤ n → n < 100 → decimal n ≡ (48 + n / 10) ∷ (48 + n % 10) ∷ []
+decimal-two n low high =
+    let big : n < 2 ^ 64 = omega arith in
+    let ten : n / 10 < 10 = omega arith in
+    decimal_step n low big ∙ ap (λ (t : List ℕ). t ++ ((48 + n % 10) ∷ [])) (decimal_digit (n / 10) ten)
+
+padded-by : (n : ℕ) (ds : List ℕ) → decimal n ≡ ds → (width : ℕ) → padded n 48 width ≡ replicate (min width 20 - length ds) 48 ++ ds
+padded-by n ds e width = ap (λ (t : List ℕ). replicate (min width 20 - length t) 48 ++ t) e
+
+padded-small : (n : ℕ) → n < 10 → padded n 48 2 ≡ two_digits n
+padded-small n small =
+    let q : n / 10 ≡ 0 = omega arith in
+    let r : n % 10 ≡ n = omega arith in
+    padded-by n _ (decimal_digit n small) 2 ∙ rw (q, r) refl
+
+padded-two : (n : ℕ) → n < 100 → padded n 48 2 ≡ two_digits n
+padded-two n h =
+    elim (cases_order n 10) [
+      | inr (inl small) ↦ padded-small n small
+      | inl ten ↦ padded-by n _ (decimal-two n (omega arith) h) 2
+      | inr (inr large) ↦ padded-by n _ (decimal-two n (omega arith) h) 2
+    ]
+
+decimal-four : (n : ℕ) → 1000 ≤ n → n ≤ 9999 → decimal n ≡ four_digits n
+decimal-four n low high =
+    let big : n < 2 ^ 64 = omega arith in
+    let low_1 : 10 ≤ n = omega arith in
+    let low_2 : 10 ≤ n / 10 = omega arith in
+    let low_3 : 10 ≤ n / 10 / 10 = omega arith in
+    let big_2 : n / 10 < 2 ^ 64 = omega arith in
+    let big_3 : n / 10 / 10 < 2 ^ 64 = omega arith in
+    let last : n / 10 / 10 / 10 < 10 = omega arith in
+    let thousands : n / 10 / 10 / 10 ≡ n / 100 / 10 = omega arith in
+    let hundreds : n / 10 / 10 % 10 ≡ n / 100 % 10 = omega arith in
+    let tens : n / 10 % 10 ≡ n % 100 / 10 = omega arith in
+    let ones : n % 10 ≡ n % 100 % 10 = omega arith in
+    decimal_step n low_1 big
+    ∙ ap (λ (t : List ℕ). t ++ ((48 + n % 10) ∷ [])) (decimal_step (n / 10) low_2 big_2
+    ∙ ap (λ (t : List ℕ). t ++ ((48 + n / 10 % 10) ∷ [])) (decimal_step (n / 10 / 10) low_3 big_3
+    ∙ ap (λ (t : List ℕ). t ++ ((48 + n / 10 / 10 % 10) ∷ [])) (decimal_digit (n / 10 / 10 / 10) last)))
+    ∙ rw (thousands, hundreds, tens, ones) refl
+
+pub number-two : (n : ℕ) → n < 100 → number 2 (pos n) ≡ two_digits n
+number-two n h = number-padded 2 n ∙ padded-two n h
+
+pub number-four : (n : ℕ) → 1000 ≤ n → n ≤ 9999 → number 4 (pos n) ≡ four_digits n
+number-four n low high = number-padded 4 n ∙ padded-by n _ (decimal-four n low high) 4
+
+bare-padded : (n : ℕ) → padded n 48 0 ≡ decimal n
+bare-padded n =
+    let none : 0 - length (decimal n) ≡ 0 = omega arith in
+    ap (λ (k : ℕ). replicate k 48 ++ decimal n) none
+
+pub number-bare : (n : ℕ) → bare (pos n) ≡ decimal n
+number-bare n =
+    let e : int_le (pos 0) (pos n) ≡ true = grind (arith, ints) in
+    rw e (bare-padded n)
+
+-- a name in a table of names that are cut to three letters
+short_of : (names : List (List ℕ)) (n : ℕ) → short (get_or names n []) ≡ get_or (map short names) n []
+short_of [] n = refl
+short_of (name ∷ names) zero = refl
+short_of (name ∷ names) (suc n) = short_of names n
+
+pub weekday-short : (n : ℕ) → short (weekday_name n) ≡ day_name n
+weekday-short n = short_of weekday_names n
+
+pub month-short : (n : ℕ) → short (get_or full_names n []) ≡ get_or month_names n []
+month-short n = short_of full_names n
+
+-- an offset of whole minutes
+minutes-are : (n : ℕ) → n / 60 % 60 ≡ n % 3600 / 60
+minutes-are n = omega arith
+
+pub zone-is : (o : ℤ) → unsigned_abs o % 60 ≡ 0 → unsigned_abs o / 3600 < 100 → offset_text o false true false ≡ compact_offset_text o
+zone-is o whole few_hours =
+    let few : unsigned_abs o % 3600 / 60 < 100 = omega arith in
+    rw (whole, minutes-are (unsigned_abs o), padded-two (unsigned_abs o / 3600) few_hours, padded-two (unsigned_abs o % 3600 / 60) few) (simp append-nil refl)
+
+pub strict-zone-is : (o : ℤ) → unsigned_abs o % 60 ≡ 0 → unsigned_abs o / 3600 < 100 → offset_text o true true false ≡ strict_offset_text o
+strict-zone-is o whole few_hours =
+    let few : unsigned_abs o % 3600 / 60 < 100 = omega arith in
+    rw (whole, minutes-are (unsigned_abs o), padded-two (unsigned_abs o / 3600) few_hours, padded-two (unsigned_abs o % 3600 / 60) few) refl
+
+-- what an ordinary zoned value shows
+pub record InRange (t : LocalTime) : Type 0 where
+  pub low : 1000 ≤ t.date.year
+  pub high : t.date.year ≤ 9999
+  pub day : t.date.day < 100
+  pub month : t.date.month < 100
+  pub hour : t.clock.hour < 100
+  pub minute : t.clock.minute < 100
+  pub second : t.clock.second < 100
+  pub hours : unsigned_abs t.offset / 3600 < 100
+  pub whole : unsigned_abs t.offset % 60 ≡ 0
+
+pub in-range : (z : PlainZoned) → IsOrdinary z → InRange (local_time z)
+in-range z o =
+    let day = z.datetime.date in
+    let time = z.datetime.time in
+    let long = days_in_month_bounds day.year day.month in
+    let year_abs : unsigned_abs day.year ≡ o.year = ap (λ (v : ℤ). unsigned_abs v) o.year_is in
+    record {
+      low = rw year_abs o.low;
+      high = rw year_abs o.high;
+      day = omega (arith, day.day_in, long);
+      month = omega (arith, day.month_in);
+      hour = omega (arith, time.hour_in);
+      minute = omega (arith, time.minute_in);
+      second = omega (arith, time.second_in);
+      hours = omega (arith, signed_arith, one_part z.offset.seconds, z.offset.in_range);
+      whole = o.minutes;
+    }
+
+pub year-is : (z : PlainZoned) → IsOrdinary z → z.datetime.date.year ≡ pos (local_time z).date.year
+year-is z o = o.year_is ∙ ap pos (sym (ap (λ (v : ℤ). unsigned_abs v) o.year_is))
+
+-- what is shown is ASCII
+ascii_two : (a b : ℕ) → a < 128 → b < 128 → IsAscii (a ∷ b ∷ [])
+ascii_two a b in_a in_b = IsAscii-cons a (b ∷ []) in_a (IsAscii-cons b [] in_b IsAscii-nil)
+
+pub ascii-two : (n : ℕ) → n < 100 → IsAscii (two_digits n)
+ascii-two n h = ascii_two _ _ (omega arith) (omega arith)
+
+pub ascii-four : (n : ℕ) → n ≤ 9999 → IsAscii (four_digits n)
+ascii-four n h = IsAscii-append (two_digits (n / 100)) (two_digits (n % 100)) (ascii-two (n / 100) (omega arith)) (ascii-two (n % 100) (omega arith))
+
+pub ascii-bare : (n : ℕ) → n < 100 → IsAscii (decimal n)
+ascii-bare n h = IsAscii-decimal n (omega arith)
+
+-- a name in a table whose names are ASCII
+abbrev is_low : ℕ → Bool
+is_low b = nat_lt b 128
+
+ascii_by : (t : List ℕ) → list_all is_low t ≡ true → IsAscii t
+ascii_by [] h = IsAscii-nil
+ascii_by (c ∷ t) h =
+    let parts = both (is_low c) (list_all is_low t) h in
+    IsAscii-cons c t (grind (arith, nat_tests, parts.0)) (ascii_by t parts.1)
+
+name_ascii : (names : List (List ℕ)) (n : ℕ) → list_all (list_all is_low) names ≡ true → IsAscii (get_or names n [])
+name_ascii [] n h = IsAscii-nil
+name_ascii (name ∷ names) zero h = ascii_by name ((both (list_all is_low name) (list_all (list_all is_low) names) h).0)
+name_ascii (name ∷ names) (suc n) h = name_ascii names n ((both (list_all is_low name) (list_all (list_all is_low) names) h).1)
+
+pub ascii-weekday : (n : ℕ) → IsAscii (day_name n)
+ascii-weekday n = name_ascii day_names n refl
+
+pub ascii-month : (n : ℕ) → IsAscii (get_or month_names n [])
+ascii-month n = name_ascii month_names n refl
+
+pub sign_of : (negative : Bool) → (if negative then 45 else 43) < 128
+sign_of true = lit< tt
+sign_of false = lit< tt
+
+pub ascii-zone : (o : ℤ) → unsigned_abs o / 3600 < 100 → IsAscii (compact_offset_text o)
+ascii-zone o hours =
+    IsAscii-cons _ (hours_and_minutes (unsigned_abs o)) (sign_of (int_lt o (pos 0)))
+    (IsAscii-append (two_digits (unsigned_abs o / 3600)) (two_digits (unsigned_abs o % 3600 / 60)) (ascii-two _ hours) (ascii-two (unsigned_abs o % 3600 / 60) (omega arith)))
+
+pub ascii-strict-zone : (o : ℤ) → unsigned_abs o / 3600 < 100 → IsAscii (strict_offset_text o)
+ascii-strict-zone o hours =
+    IsAscii-cons _ (two_digits (unsigned_abs o / 3600) ++ (58 ∷ two_digits (unsigned_abs o % 3600 / 60))) (sign_of (int_lt o (pos 0)))
+    (IsAscii-append (two_digits (unsigned_abs o / 3600)) (58 ∷ two_digits (unsigned_abs o % 3600 / 60)) (ascii-two _ hours)
+    (IsAscii-cons 58 (two_digits (unsigned_abs o % 3600 / 60)) (lit< tt) (ascii-two (unsigned_abs o % 3600 / 60) (omega arith))))

@@ -1,0 +1,202 @@
+-- What the strict printer shows by a named pattern is its text: not only nothing else, but that.
+use Rattle.std.proofs.Common.{◌≡◌, ◌∙◌, ◌+◌, ◌/◌, ◌%◌, ◌++◌, ℤ, pos, int_lt, unsigned_abs, Bool, true, length, Bor, option_map, arith, lit<, if◌then◌else◌, ◌<◌, ◌≤◌, ℕ, List, [], ◌∷◌, decimal, Option, Some, None, Result, Ok, Err, IfOk, IfErr, String, Global, refl, sym, ap, append_assoc, subst, inl, inr, false, string_bytes, suc, zero}
+use Rattle.std.proofs.lemmas.Fmt.{decimal_digit}
+use Rattle.jiff.specs.Types.{PlainZoned}
+use Rattle.jiff_core.specs.declared.error.Error.TheVariants.{Missing}
+use Rattle.jiff_core.specs.declared.error.Part.TheVariants.{Date as NoDate, Year}
+use Rattle.jiff_strtime.specs.Text.{Parts, from_hour, parts_of}
+use Rattle.jiff_tz.specs.Abbreviation.{abbreviation_text, colon_digits, not_zero, offset_text}
+use Rattle.jiff_tz.specs.Zone.{zone_name, utc_offset, IsInfoAt}
+use Rattle.jiff_tz.specs.PosixRule as PosixRule
+use Rattle.jiff_tz.specs.Tzif as Table
+use Rattle.jiff_tz.specs.declared.abbreviation.Abbreviation.{Abbreviation}
+use Rattle.jiff_tz.specs.declared.info.Dst.TheVariants.{No}
+use Rattle.jiff_tz.specs.declared.info.OffsetInfo.{OffsetInfo}
+use Rattle.jiff_tz.specs.declared.timezone.TimeZone.{TimeZone}
+use Rattle.jiff_tz.specs.declared.timezone.TimeZone.TheVariants.{UTC, Unknown, Fixed, Posix, Tzif}
+use Rattle.std.proofs.Math.Seq.{take-length}
+use Rattle.std.proofs.lemmas.Str.{IsAscii-append, IsUtf8-from_ascii}
+use Rattle.std.proofs.lemmas.Str.Ascii.{IsAscii-nil, IsAscii-cons}
+use Rattle.std.specs.Str.{IsUtf8, IsAscii}
+use Rattle.jiff_core.proofs.SignedLemmas.{signed_arith, one_part}
+use Rattle.jiff_core.specs.Calendar.{weekday_number}
+use Rattle.jiff_core.specs.Date.{weekday_of, epoch_day}
+use Rattle.jiff_core.specs.Weekday.{monday_zero}
+use Rattle.jiff_core.specs.declared.civil.weekday.Weekday.{Weekday}
+use Rattle.jiff_core.specs.declared.civil.weekday.Weekday.TheVariants.{Monday, Tuesday, Wednesday, Thursday, Friday, Saturday, Sunday}
+use Rattle.jiff_strtime.specs.declared.tm.BrokenDownTime.{BrokenDownTime}
+use Rattle.jiff.specs.Words.{plain_zoned}
+use Rattle.gix_date.specs.Fields.Layout.{LocalTime}
+use Rattle.gix_date.specs.Printing.NamedTexts.{local_time}
+use Rattle.gix_date.specs.Printing.LocalClocks.{clock_of, HasOrdinaryClock}
+use Rattle.gix_date.specs.Printing.Formats.{IsShown, AtMoment, PrintsBy}
+use Rattle.gix_date.specs.Printing.Zoned.{IsConvertible}
+use Rattle.gix_date.specs.Private.NamedTexts.{HasParts, IsShownByAll}
+use Rattle.gix_date.specs.Text.Numbers.{two_digits}
+use Rattle.gix_date.specs.declared.error.Error.{Error}
+use Rattle.gix_date.specs.declared.error.Error.TheVariants as errors
+use Rattle.gix_date.specs.declared.time.Time.{Time}
+use Rattle.gix_date.proofs.Printing.LocalClocks.{moment-of, moment-shows, clock-shown, ordinary-from}
+use Rattle.gix_date.proofs.Printing.Printing.{are-printed, filled_parts}
+use Rattle.gix_date.proofs.Printing.ShownPieces.{AlwaysShows, AlwaysShowsText, ascii-two, sign_of, context, decimal-two, strict_config}
+
+-- the abbreviation with this text
+abbrev named_so : (text : List ℕ) → length text ≤ 15 → IsAscii text → Abbreviation
+named_so text short ascii = record { bytes = text; len = length text; fits = short; text = ∣ subst IsUtf8 (sym (take-length text)) (IsUtf8-from_ascii text ascii) ∣₁ }
+
+named-so : (text : List ℕ) (short : length text ≤ 15) (ascii : IsAscii text) → abbreviation_text (named_so text short ascii) ≡ text
+unfolding abbreviation_text
+named-so text short ascii = take-length text
+
+-- an offset as an abbreviation is short, and ASCII
+abbrev behind_hours : Bool → Bool → ℕ → ℕ → List ℕ
+behind_hours has_seconds has_minutes m s = if has_seconds then colon_digits m ++ colon_digits s else (if has_minutes then colon_digits m else [])
+
+colon-ascii : (n : ℕ) → n < 100 → IsAscii (colon_digits n)
+colon-ascii n h = IsAscii-cons 58 (two_digits n) (lit< tt) (ascii-two n h)
+
+behind-ascii : (has_seconds has_minutes : Bool) (m s : ℕ) → m < 100 → s < 100 → IsAscii (behind_hours has_seconds has_minutes m s)
+behind-ascii true b m s in_m in_s = IsAscii-append (colon_digits m) (colon_digits s) (colon-ascii m in_m) (colon-ascii s in_s)
+behind-ascii false true m s in_m in_s = colon-ascii m in_m
+behind-ascii false false m s in_m in_s = IsAscii-nil
+
+behind-short : (has_seconds has_minutes : Bool) (m s : ℕ) → length (behind_hours has_seconds has_minutes m s) ≤ 6
+behind-short true b m s = omega arith
+behind-short false true m s = omega arith
+behind-short false false m s = omega arith
+
+offset-ascii : (o : ℤ) → unsigned_abs o / 3600 < 100 → IsAscii (offset_text o)
+offset-ascii o hours =
+    IsAscii-append (_ ∷ two_digits (unsigned_abs o / 3600)) (behind_hours _ _ (unsigned_abs o / 60 % 60) (unsigned_abs o % 60)) (IsAscii-cons _ (two_digits (unsigned_abs o / 3600)) (sign_of (int_lt o (pos 0))) (ascii-two (unsigned_abs o / 3600) hours))
+    (behind-ascii (not_zero (unsigned_abs o % 60)) (not_zero (unsigned_abs o / 60 % 60)) (unsigned_abs o / 60 % 60) (unsigned_abs o % 60) (omega arith) (omega arith))
+
+offset-short : (o : ℤ) → length (offset_text o) ≤ 15
+offset-short o = omega (arith, behind-short (not_zero (unsigned_abs o % 60)) (not_zero (unsigned_abs o / 60 % 60)) (unsigned_abs o / 60 % 60) (unsigned_abs o % 60))
+
+utc-ascii : IsAscii (85 ∷ 84 ∷ 67 ∷ [])
+utc-ascii = IsAscii-cons 85 (84 ∷ 67 ∷ []) (lit< tt) (IsAscii-cons 84 (67 ∷ []) (lit< tt) (IsAscii-cons 67 [] (lit< tt) IsAscii-nil))
+
+-- something holds at each instant in each zone
+some-info : (tz : TimeZone) (n : ℤ) → (info : OffsetInfo) × IsInfoAt tz n info
+some-info UTC n = (record { offset = utc_offset; abbreviation = named_so (85 ∷ 84 ∷ 67 ∷ []) (lit< tt) utc-ascii; dst = No }, (refl, named-so (85 ∷ 84 ∷ 67 ∷ []) (lit< tt) utc-ascii, refl))
+some-info Unknown n = (record { offset = utc_offset; abbreviation = named_so (85 ∷ 84 ∷ 67 ∷ []) (lit< tt) utc-ascii; dst = No }, (refl, named-so (85 ∷ 84 ∷ 67 ∷ []) (lit< tt) utc-ascii, refl))
+some-info (Fixed o) n =
+    let hours : unsigned_abs o.seconds / 3600 < 100 = omega (arith, signed_arith, one_part o.seconds, o.in_range) in
+    let short = offset-short o.seconds in
+    let ascii = offset-ascii o.seconds hours in
+    (record { offset = o; abbreviation = named_so (offset_text o.seconds) short ascii; dst = No }, (refl, named-so (offset_text o.seconds) short ascii, refl))
+some-info (Posix tz) n = (PosixRule.info_at tz n, refl)
+some-info (Tzif z) n = (Table.info_at z.now n, refl)
+
+lent : List ℕ → Bor (List ℕ)
+lent text = record { ref_ptr = (0, 0); now = text }
+
+lent-back : (name : Option (List ℕ)) → option_map (λ s. s.now) (option_map lent name) ≡ name
+unfolding lent
+lent-back None = refl
+lent-back (Some text) = refl
+
+-- each day has a day of the week
+some-weekday : (n : ℕ) → n < 7 → (w : Weekday) × (monday_zero w ≡ n)
+some-weekday zero h = (Monday, refl)
+some-weekday (suc zero) h = (Tuesday, refl)
+some-weekday (suc (suc zero)) h = (Wednesday, refl)
+some-weekday (suc (suc (suc zero))) h = (Thursday, refl)
+some-weekday (suc (suc (suc (suc zero)))) h = (Friday, refl)
+some-weekday (suc (suc (suc (suc (suc zero))))) h = (Saturday, refl)
+some-weekday (suc (suc (suc (suc (suc (suc zero)))))) h = (Sunday, refl)
+some-weekday (suc (suc (suc (suc (suc (suc (suc n))))))) h = absurd (omega arith)
+
+in-week : (day : ℤ) → weekday_number day < 7
+unfolding weekday_number
+in-week day = omega (arith, signed_arith)
+
+-- each zoned value has parts that are printed
+has-parts : (z : PlainZoned) → HasParts z
+unfolding lent
+has-parts z =
+    let w = some-weekday (weekday_of z.datetime.date) (in-week (epoch_day z.datetime.date)) in
+    let info = some-info z.time_zone z.timestamp.nanosecond in
+    let abbreviation = abbreviation_text info.0.abbreviation in
+    let name = zone_name z.time_zone in
+    let filled : BrokenDownTime = record {
+      year = Some z.datetime.date.year;
+      month = Some z.datetime.date.month;
+      day = Some z.datetime.date.day;
+      day_of_year = None;
+      iso_week_year = None;
+      iso_week = None;
+      week_sun = None;
+      week_mon = None;
+      hour = Some z.datetime.time.hour;
+      minute = Some z.datetime.time.minute;
+      second = Some z.datetime.time.second;
+      subsec = Some z.datetime.time.subsec_nanosecond;
+      offset = Some z.offset;
+      weekday = Some w.0;
+      meridiem = Some (from_hour z.datetime.time.hour);
+      timestamp = Some z.timestamp;
+      tz_abbreviation = Some (lent abbreviation);
+      iana = option_map lent name;
+    } in
+    let with_weekday : parts_of filled ≡ filled_parts z abbreviation (option_map (λ s. s.now) (option_map lent name)) =
+    ap (λ (d : ℕ). let q : Parts = record (filled_parts z abbreviation (option_map (λ s. s.now) (option_map lent name))) { weekday = Some d } in q) w.1 in
+    let same : parts_of filled ≡ filled_parts z abbreviation name = with_weekday ∙ ap (λ (t : Option (List ℕ)). filled_parts z abbreviation t) (lent-back name) in
+    (filled, are-printed z info.0 abbreviation name (parts_of filled) info.1 refl refl same)
+
+-- a text that is always shown is shown: no date, no week and no instant of a context is needed
+shows-always : (pattern : List ℕ) (z : PlainZoned) (text : List ℕ) → AlwaysShows pattern z text → IsShown pattern z (Ok text)
+shows-always pattern z text always =
+    let h = has-parts z in
+    let info = h.1.are_parts.0 in
+    let parts = filled_parts z (abbreviation_text info.abbreviation) (zone_name z.time_zone) in
+    let named = ap (λ (p : Parts). let q : Parts = record p { weekday = parts.weekday } in q) h.1.are_parts.2 in
+    let filled_is : parts_of h.0 ≡ parts = h.1.is_filled ∙ named in
+    record {
+      config = strict_config;
+      locale = refl;
+      strict = refl;
+      filled = h.0;
+      are_printed = h.1;
+      is_shown = record {
+        context = context parts (Err (Missing Year)) (Err (Missing NoDate)) (Err (Missing Year));
+        is_context = record { parts = sym filled_is; date = inr (inl refl); iso = refl; second = inl (inl (inr (inl refl))) };
+        shown_is = always (abbreviation_text info.abbreviation) (zone_name z.time_zone) (Err (Missing Year)) (Err (Missing NoDate)) (Err (Missing Year));
+      };
+    }
+
+-- so it shows its text of each ordinary zoned value with that clock
+pub named-shown : (pattern named : List ℕ) (text : LocalTime → List ℕ) (local : LocalTime) (bytes : List ℕ)
+    → AlwaysShowsText named text → pattern ≡ named → bytes ≡ text local → IsShownByAll pattern local bytes
+named-shown pattern named text local bytes always p b z ordinary shows =
+    let shown = shows-always named z (text (local_time z)) (always z ordinary) in
+    let whole : text (local_time z) ≡ bytes = ap text shows ∙ sym b in
+    subst (λ (q : List ℕ). IsShown q z (Ok bytes)) (sym p) (subst (λ (s : List ℕ). IsShown named z (Ok s)) whole shown)
+
+-- what a copy of this text comes to is what the pattern prints
+prints-either : (pattern : List ℕ) (t : Time) (text : List ℕ) (r : Result (String Global) Error) → IsConvertible t
+    → AtMoment t (λ z. IsShown pattern z (Ok text)) → IfOk r (λ copy. string_bytes copy ≡ text) → IfErr r (λ e. e ≡ errors.Memory)
+    → PrintsBy t pattern r
+prints-either pattern t text (Ok copy) converts (z, m, shown) ok err = (z, m, subst (λ (s : List ℕ). IsShown pattern (plain_zoned z) (Ok s)) (sym ok) shown)
+prints-either pattern t text (Err e) converts h ok err = inr (inl (err, converts))
+
+pub copy-prints : (pattern : List ℕ) (t : Time) (local : LocalTime) (bytes : List ℕ) (r : Result (String Global) Error)
+    → IsShownByAll pattern local bytes → local ≡ clock_of t → IsConvertible t → HasOrdinaryClock t
+    → IfOk r (λ copy. string_bytes copy ≡ bytes) → IfErr r (λ e. e ≡ errors.Memory) → PrintsBy t pattern r
+copy-prints pattern t local bytes r shown clock converts ordinary ok err =
+    let m = moment-of t converts in
+    let shows = moment-shows t m.0 m.1 in
+    let z = plain_zoned m.0 in
+    prints-either pattern t bytes r converts (m.0, m.1, shown z (ordinary-from z t shows ordinary) (clock-shown z t shows ∙ sym clock)) ok err
+
+-- a text, and two more after it
+pub three-joined : (first second whole a b c : List ℕ) → first ≡ a → second ≡ first ++ b → whole ≡ second ++ c → whole ≡ a ++ (b ++ c)
+three-joined first second whole a b c e f g =
+    g ∙ ap (λ (xs : List ℕ). xs ++ c) (f ∙ ap (λ (xs : List ℕ). xs ++ b) e) ∙ append_assoc a b c
+
+-- the day of the month, in one digit or two
+pub day-of-one : (day : ℕ) → day < 10 → (48 + day) ∷ [] ≡ decimal day
+day-of-one day h = sym (decimal_digit day h)
+
+pub day-of-two : (day : ℕ) → 10 ≤ day → day < 100 → two_digits day ≡ decimal day
+day-of-two day low high = sym (decimal-two day low high)

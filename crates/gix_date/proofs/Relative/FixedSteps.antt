@@ -1,0 +1,224 @@
+-- Steps at one offset, and in a zone that has no other.
+use Rattle.std.proofs.Common.{◌≡◌, ◌∙◌, ◌↔◌, ◌≤◌, Bool, true, false, cond, int_eq, ℕ, ℤ, pos, ◌+ℤ◌, ◌-ℤ◌, refl, sym, ap, subst, List, [], ◌∷◌, Option, None, Some, FitsSigned, w64}
+use Rattle.std.specs.Int.{int_div_euclid, int_rem_euclid}
+use Rattle.std.specs.List.{All}
+use Rattle.std.specs.Prelude.{IsSome, IfSome}
+use Rattle.jiff.proofs.ZoneFacts.{offset_at-fixed_zone, picked_instant-fixed_zone}
+use Rattle.jiff.specs.Types.{TimeZone, DateTime, Date, Time, Offset, Timestamp}
+use Rattle.jiff.specs.Words.{fixed_zone, offset_at, picked_instant, civil_nanos, epoch_day, month_number, nanos_of_seconds, zoned_nanos, IsTimestampNanos, IsYear, IsYmd}
+use Rattle.jiff.specs.declared.zoned.Zoned.{Zoned}
+use Rattle.jiff_core.proofs.DateTimeLemmas.{civil_nanos-parts}
+use Rattle.jiff_tz.specs.Zone.{IsFixed, utc_offset, ambiguous_at}
+use Rattle.jiff_tz.specs.declared.timezone.TimeZone.TheVariants.{UTC, Unknown, Fixed, Posix, Tzif}
+use Rattle.gix_date.specs.Relative.Dates.{RelativeDate, Before, Less, Reaches, IsNamed}
+use Rattle.gix_date.specs.Relative.FixedZones.{total, less_seconds, less_months}
+use Rattle.gix_date.specs.Private.RelativePairs.{pairs_read}
+use Rattle.gix_date.specs.Relative.Steps.{IsLocal, IsPicked, Settles, SecondsStep, MonthsStep, PairStep, Chain, zone_of, civil_of, rolled_day}
+use Rattle.gix_date.specs.Private.Steps.{ChooseAlike, IsAtInstant}
+use Rattle.gix_date.specs.Relative.Roles.{pairs}
+use Rattle.gix_date.specs.Printing.Zoned.{whole_seconds}
+use Rattle.gix_date.specs.declared.parsing.relative.words.TimeUnit.{TimeUnit}
+use Rattle.gix_date.specs.declared.parsing.relative.words.TimeUnit.TheVariants.{Seconds, Months}
+use Rattle.gix_date.specs.declared.time.Time.{Time as OurTime}
+use Rattle.gix_date.proofs.Relative.Chains.{reaches-is, reaches-back}
+use Rattle.gix_date.proofs.Relative.FixedZones.{IsLoss, IsBefore, Alike, seconds-law, yesterday-law, months-law, fixed-picked, fixed-picks, fixed-settles-exists, fixed-seconds-exists}
+use Rattle.gix_date.proofs.Relative.Steps.{MonthsFrom, first-is}
+use Rattle.jiff_zoned.proofs.SameLemmas.{same_datetime}
+
+picks : (tz : TimeZone) (o : Offset) → IsFixed tz → ((n : ℤ) → o.seconds ≡ offset_at tz n) → (dt : DateTime) → picked_instant tz dt ≡ civil_nanos dt -ℤ nanos_of_seconds o.seconds
+unfolding offset_at ambiguous_at
+picks UTC o f h dt = ap (λ (s : ℤ). civil_nanos dt -ℤ nanos_of_seconds s) (sym (h (pos 0)))
+picks Unknown o f h dt = ap (λ (s : ℤ). civil_nanos dt -ℤ nanos_of_seconds s) (sym (h (pos 0)))
+picks (Fixed p) o f h dt = ap (λ (s : ℤ). civil_nanos dt -ℤ nanos_of_seconds s) (sym (h (pos 0)))
+picks (Posix r) o f h dt = absurd f
+picks (Tzif z) o f h dt = absurd f
+
+-- a zone of a kind that has one offset is like the one that is made of it
+pub one-offset : (tz : TimeZone) (o : Offset) → IsFixed tz → ((n : ℤ) → o.seconds ≡ offset_at tz n) → ChooseAlike tz (fixed_zone o)
+one-offset tz o f h = record {
+  offset = λ n. sym (h n) ∙ sym (offset_at-fixed_zone o n);
+  picks = λ dt. picks tz o f h dt ∙ sym (picked_instant-fixed_zone o dt);
+}
+
+pub turned : (a b : TimeZone) → ChooseAlike a b → ChooseAlike b a
+turned a b h = record { offset = λ n. sym (h.offset n); picks = λ dt. sym (h.picks dt) }
+
+local-alike : (a b : TimeZone) → ChooseAlike a b → (i : ℤ) (dt : DateTime) → IsLocal a i dt → IsLocal b i dt
+local-alike a b h i dt l = l ∙ ap (λ (s : ℤ). i +ℤ nanos_of_seconds s) (h.offset i)
+
+picked-alike : (a b : TimeZone) → ChooseAlike a b → (civil j : ℤ) → IsPicked a civil j → IsPicked b civil j
+picked-alike a b h civil j p = record { shown = p.shown; civil_is = p.civil_is; is_choice = p.is_choice ∙ h.picks p.shown; in_range = p.in_range }
+
+settles-alike : (a b : TimeZone) → ChooseAlike a b → (i j : ℤ) → Settles a i j → Settles b i j
+settles-alike a b h i j s = record {
+  local = s.local;
+  local_is = local-alike a b h i s.local s.local_is;
+  picked = picked-alike a b h (civil_nanos s.local) j s.picked;
+}
+
+step-alike : (a b : TimeZone) → ChooseAlike a b → (pair : ℤ × TimeUnit) (i j : ℤ) → PairStep a pair i j → PairStep b pair i j
+step-alike a b h (n, Seconds size) i j (fits, s) = (fits, record { in_range = s.in_range; settles = settles-alike a b h _ j s.settles })
+step-alike a b h (n, Months size) i j (fits, s) = (
+  fits,
+  record {
+    local = s.local;
+    local_is = local-alike a b h i s.local s.local_is;
+    fits = s.fits;
+    year_in = s.year_in;
+    picked = picked-alike a b h _ j s.picked;
+  },
+)
+
+chain-alike : (a b : TimeZone) → ChooseAlike a b → (list : List (ℤ × TimeUnit)) (i j : ℤ) → Chain a list i j → Chain b list i j
+chain-alike a b h [] i j c = c
+chain-alike a b h (pair ∷ more) i j (between, step, rest) = (between, step-alike a b h pair i between step, chain-alike a b h more between j rest)
+
+pub reaches-alike : (a b : TimeZone) → ChooseAlike a b → (date : RelativeDate) (i j : ℤ) → Reaches date a i j → Reaches date b i j
+reaches-alike a b h (Before seconds) i j r = r
+reaches-alike a b h (Less list) i j (start, s, c) = (start, settles-alike a b h i start s, chain-alike a b h list start j c)
+
+-- the offset of such a zone
+pub fixed-offset : (tz : TimeZone) → IsFixed tz → (o : Offset) × ((n : ℤ) → o.seconds ≡ offset_at tz n)
+unfolding offset_at
+fixed-offset UTC f = (utc_offset, λ n. refl)
+fixed-offset Unknown f = (utc_offset, λ n. refl)
+fixed-offset (Fixed o) f = (o, λ n. refl)
+fixed-offset (Posix r) f = absurd f
+fixed-offset (Tzif z) f = absurd f
+
+-- a zone that is made of an offset is one
+pub fixed-zone : (o : Offset) → IsFixed (fixed_zone o)
+fixed-zone o = by (int_eq o.seconds (pos 0))
+  where
+    by : (b : Bool) → IsFixed (cond b UTC (Fixed o))
+    by true = tt
+    by false = tt
+
+-- what is so at each offset is so in each such zone
+pub at-one-offset : (tz : TimeZone) → IsFixed tz → (i : ℤ) (date : RelativeDate) (Such : ℤ → Type 0)
+    → ((o : Offset) → ChooseAlike tz (fixed_zone o) → Alike (fixed_zone o) i date Such) → Alike tz i date Such
+at-one-offset tz f i date Such law j =
+    let o = fixed-offset tz f in
+    let alike = one-offset tz o.0 f o.1 in
+    let at = law o.0 alike j in
+    (λ h. at.0 (reaches-alike tz (fixed_zone o.0) alike date i j h), λ h. reaches-alike (fixed_zone o.0) tz (turned tz (fixed_zone o.0) alike) date i j (at.1 h))
+
+pub seconds-in : (tz : TimeZone) → IsFixed tz → (pairs : List (ℤ × ℤ)) (i : ℤ) → All IsLoss pairs → IsTimestampNanos i
+    → Alike tz i (less_seconds pairs) (IsBefore pairs i)
+seconds-in tz f pairs i loss range = at-one-offset tz f i (less_seconds pairs) (IsBefore pairs i) (λ o a. seconds-law (fixed_zone o) o refl pairs i loss range)
+
+pub yesterday-in : (tz : TimeZone) → IsFixed tz → (i : ℤ) → IsTimestampNanos i
+    → (j : ℤ) → ((j ≡ i -ℤ nanos_of_seconds (pos 86_400)) × IsTimestampNanos j) ↔ Reaches (less_seconds ((pos 1, pos 86_400) ∷ [])) tz i j
+yesterday-in tz f i range j =
+    let day : RelativeDate = less_seconds ((pos 1, pos 86_400) ∷ []) in
+    let law = at-one-offset tz f i day (λ j. (j ≡ i -ℤ nanos_of_seconds (pos 86_400)) × IsTimestampNanos j) (λ o a k. let y = yesterday-law (fixed_zone o) o refl i range k in (y.1, y.0)) j in
+    (law.1, law.0)
+
+pub months-in : (tz : TimeZone) → IsFixed tz → (i : ℤ) (dt : DateTime) (pairs : List (ℤ × ℤ)) → IsLocal tz i dt → dt.date.day ≤ 28 → IsTimestampNanos i
+    → All IsLoss pairs → FitsSigned w64 (total pairs) → (j : ℤ) → Reaches (less_months pairs) tz i j ↔ Reaches (less_months ((total pairs, pos 1) ∷ [])) tz i j
+months-in tz f i dt pairs local day range loss fits = at-one-offset tz f i (less_months pairs) (λ j. Reaches (less_months ((total pairs, pos 1) ∷ [])) tz i j) (λ o a j.
+    let law = months-law (fixed_zone o) o refl i dt pairs (local-alike tz (fixed_zone o) a i dt local) day range loss fits j in
+    let one : RelativeDate = less_months ((total pairs, pos 1) ∷ []) in
+    (λ h. reaches-alike (fixed_zone o) tz (turned tz (fixed_zone o) a) one i j (law.0 h), λ h. law.1 (reaches-alike tz (fixed_zone o) a one i j h)))
+
+-- The time that is named, by the instant that is reached at the one offset.
+
+pub named-at : (date : RelativeDate) (moment : Zoned) (o : Offset) (j : ℤ) (t : OurTime) → ChooseAlike (zone_of moment) (fixed_zone o)
+    → Reaches date (fixed_zone o) (zoned_nanos moment) j → t.seconds ≡ whole_seconds j → t.offset ≡ o.seconds → IsNamed date moment t
+named-at date moment o j t alike r s e = record {
+  instant = j;
+  reaches = reaches-alike (fixed_zone o) (zone_of moment) (turned _ _ alike) date (zoned_nanos moment) j r;
+  seconds_is = s;
+  offset_is = e ∙ sym (alike.offset j ∙ offset_at-fixed_zone o j);
+}
+
+pub none-named : (date : RelativeDate) (moment : Zoned) (o : Offset) → ChooseAlike (zone_of moment) (fixed_zone o)
+    → ((j : ℤ) → ¬ (Reaches date (fixed_zone o) (zoned_nanos moment) j)) → (t : OurTime) → ¬ (IsNamed date moment t)
+none-named date moment o alike none t n = none n.instant (reaches-alike (zone_of moment) (fixed_zone o) alike date (zoned_nanos moment) n.instant n.reaches)
+
+-- The same instants, said otherwise.
+
+pub same-instants : (instant : Option Timestamp) (Such Same : ℤ → Type 0) → ((j : ℤ) → Such j → Same j) → ((j : ℤ) → Same j → Such j) → IsAtInstant Such instant → IsAtInstant Same instant
+same-instants None Such Same f g h = λ j s. h j (g j s)
+same-instants (Some instant) Such Same f g h = f instant.nanosecond h
+
+-- so many seconds before, where that is an instant
+pub seconds-at : (Such : ℤ → Type 0) (result : Option Timestamp) (i n : ℤ) → (IsSome result ↔ IsTimestampNanos (i -ℤ nanos_of_seconds n))
+    → IfSome result (λ r. r.nanosecond ≡ i -ℤ nanos_of_seconds n)
+    → (IsTimestampNanos (i -ℤ nanos_of_seconds n) → Such (i -ℤ nanos_of_seconds n))
+    → ((j : ℤ) → Such j → IsTimestampNanos (i -ℤ nanos_of_seconds n)) → IsAtInstant Such result
+seconds-at Such None i n some value f g = λ j s. let r = some.1 (g j s) in absurd cc
+seconds-at Such (Some r) i n some value f g = subst Such (sym value) (f (some.0 refl))
+
+pub seconds-fixed : (o : Offset) (result : Option Timestamp) (i n : ℤ) → (IsSome result ↔ IsTimestampNanos (i -ℤ nanos_of_seconds n))
+    → IfSome result (λ r. r.nanosecond ≡ i -ℤ nanos_of_seconds n) → IsAtInstant (SecondsStep (fixed_zone o) n i) result
+seconds-fixed o result i n some value =
+    seconds-at (SecondsStep (fixed_zone o) n i) result i n some value (fixed-seconds-exists o n i) (λ j s. s.in_range)
+
+pub before-fixed : (o : Offset) (result : Option Timestamp) (i n : ℤ) → (IsSome result ↔ IsTimestampNanos (i -ℤ nanos_of_seconds n))
+    → IfSome result (λ r. r.nanosecond ≡ i -ℤ nanos_of_seconds n) → IsAtInstant (Reaches (Before n) (fixed_zone o) i) result
+before-fixed o result i n some value =
+    seconds-at (Reaches (Before n) (fixed_zone o) i) result i n some value (λ range. (refl, range)) (λ j r. subst IsTimestampNanos r.0 r.1)
+
+-- nothing is settled elsewhere, so the pairs lead from the instant itself
+pub pairs-fixed : (o : Offset) (words : List (List ℕ)) (i : ℤ) (result : Option Timestamp) → IsTimestampNanos i
+    → IsAtInstant (Chain (fixed_zone o) (pairs_read words) i) result → IsAtInstant (Reaches (Less (pairs words)) (fixed_zone o) i) result
+pairs-fixed o words i result range h =
+    let settles = fixed-settles-exists o i range in
+    same-instants result (Chain (fixed_zone o) (pairs_read words) i) (Reaches (Less (pairs words)) (fixed_zone o) i)
+    (λ j c. reaches-is (fixed_zone o) words i i j settles c)
+    (λ j r. reaches-back (fixed_zone o) words i i j settles r) h
+
+-- Months by what a clock at the offset shows.
+
+pub fixed-shows : (o : Offset) (i : ℤ) (dt : DateTime) → civil_nanos dt ≡ i +ℤ nanos_of_seconds o.seconds → IsLocal (fixed_zone o) i dt
+fixed-shows o i dt e = e ∙ ap (λ (s : ℤ). i +ℤ nanos_of_seconds s) (sym (offset_at-fixed_zone o i))
+
+pub civil-shown : (dt : DateTime) (date : Date) (time : Time) → dt.date ≡ date → dt.time ≡ time → civil_nanos dt ≡ civil_of (epoch_day date) time
+civil-shown dt date time d t = civil_nanos-parts dt ∙ rw (d, t) refl
+
+pub months-from : (tz : TimeZone) (n i j : ℤ) (shown : DateTime) → IsLocal tz i shown → MonthsStep tz n i j → MonthsFrom tz n j shown
+months-from tz n i j shown l g =
+    let same : g.local ≡ shown = same_datetime g.local shown (g.local_is ∙ sym l) in
+    subst (MonthsFrom tz n j) same (g.fits, g.year_in, g.picked)
+
+pub months-found : (o : Offset) (n i j : ℤ) (shown : DateTime) → IsLocal (fixed_zone o) i shown
+    → FitsSigned w64 (month_number shown.date -ℤ n) → IsYear (int_div_euclid (month_number shown.date -ℤ n) (pos 12))
+    → (date : Date) → epoch_day date ≡ rolled_day (month_number shown.date -ℤ n) shown.date
+    → j ≡ civil_of (epoch_day date) shown.time -ℤ nanos_of_seconds o.seconds → IsTimestampNanos j → MonthsStep (fixed_zone o) n i j
+months-found o n i j shown l fits year date day e range =
+    let dt : DateTime = record { date = date; time = shown.time } in
+    let civil : civil_nanos dt ≡ civil_of (rolled_day (month_number shown.date -ℤ n) shown.date) shown.time = civil_nanos-parts dt ∙ ap (λ (d : ℤ). civil_of d shown.time) day in
+    record {
+      local = shown;
+      local_is = l;
+      fits = fits;
+      year_in = year;
+      picked = subst (λ (c : ℤ). IsPicked (fixed_zone o) c j) civil (fixed-picks o dt j (e ∙ ap (λ (c : ℤ). c -ℤ nanos_of_seconds o.seconds) (sym (civil_nanos-parts dt))) range);
+    }
+
+pub months-picked : (o : Offset) (n i j : ℤ) (shown : DateTime) (date : Date) → IsLocal (fixed_zone o) i shown
+    → epoch_day date ≡ rolled_day (month_number shown.date -ℤ n) shown.date → MonthsStep (fixed_zone o) n i j
+    → (j ≡ civil_of (epoch_day date) shown.time -ℤ nanos_of_seconds o.seconds) × IsTimestampNanos j
+months-picked o n i j shown date l day h =
+    let from = months-from (fixed_zone o) n i j shown l h in
+    (fixed-picked o _ j from.2 ∙ ap (λ (d : ℤ). civil_of d shown.time -ℤ nanos_of_seconds o.seconds) (sym day), from.2.in_range)
+
+pub months-at : (o : Offset) (n i : ℤ) (shown : DateTime) (date : Date) (result : Option Timestamp) → IsLocal (fixed_zone o) i shown
+    → FitsSigned w64 (month_number shown.date -ℤ n) → IsYear (int_div_euclid (month_number shown.date -ℤ n) (pos 12))
+    → epoch_day date ≡ rolled_day (month_number shown.date -ℤ n) shown.date
+    → (IsSome result ↔ IsTimestampNanos (civil_of (epoch_day date) shown.time -ℤ nanos_of_seconds o.seconds))
+    → IfSome result (λ r. r.nanosecond ≡ civil_of (epoch_day date) shown.time -ℤ nanos_of_seconds o.seconds)
+    → IsAtInstant (MonthsStep (fixed_zone o) n i) result
+months-at o n i shown date None l fits year day some value = λ j h.
+    let p = months-picked o n i j shown date l day h in
+    let r = some.1 (subst IsTimestampNanos p.0 p.1) in
+    absurd cc
+months-at o n i shown date (Some r) l fits year day some value =
+    months-found o n i r.nanosecond shown l fits year date day value (subst IsTimestampNanos (sym value) (some.0 refl))
+
+-- the day of the month that is shown, in another month
+pub rolled-from : (number : ℤ) (shown : Date) (first : Date) (day : ℤ)
+    → IsYmd (int_div_euclid number (pos 12)) (int_rem_euclid number (pos 12) +ℤ pos 1) (pos 1) first → day ≡ pos shown.day
+    → (epoch_day first +ℤ (day -ℤ pos 1)) ≡ rolled_day number shown
+rolled-from number shown first day ymd e = rw (first-is number first ymd, e) refl

@@ -1,0 +1,434 @@
+-- Formatted dates and numbers are quiet: their words are digits, and names of days, months and zones.
+use Rattle.std.proofs.Common.{◌≡◌, ◌∙◌, ◌<◌, ◌+◌, ◌-◌, ◌≤◌, ℕ, ℤ, Bool, true, false, cond, List, [], ◌∷◌, ◌++◌, length, take, refl, ap, ap₂, sym, subst, arith, append_assoc, append-nil, Some, None, Option, option_map, inl, inr, ◌⊎◌, IsUtf8, flat_map, zero, suc, get_or}
+use Rattle.std.proofs.lemmas.Bool.{and_parts as both}
+use Rattle.std.proofs.lemmas.Bool.Decides.{nat_tests}
+use Rattle.std.proofs.lemmas.List.Quantifiers.{position-Some}
+use Rattle.std.specs.Char.{is_ascii_digit, is_ascii_alphabetic, is_ascii_alphanumeric, to_ascii_lowercase}
+use Rattle.std.specs.List.{list_all, position}
+use Rattle.std.specs.Option.{option_or}
+use Rattle.std.specs.Prelude.{◌==◌, ◌||◌, ◌&&◌, nat_lt}
+use Rattle.std.specs.Str.{all_ascii_digits}
+use Rattle.std.specs.Str.Parse.{without_leading_sign, signed_digits_value}
+use Rattle.gix_date.specs.Families.Answer.{FamilyAnswer}
+use Rattle.gix_date.specs.Text.Characters.{minus, plus, colon, comma, letter_t}
+use Rattle.gix_date.specs.Fields.Front.{skip_char, ◌>>=◌}
+use Rattle.gix_date.specs.Fields.FieldTexts.{IsField, IsYear, AreSpaces, AreThreeLetters, IsDayName, IsMonthName, IsPlainDate, IsClock, IsMailClock, IsDayPrefix}
+use Rattle.gix_date.specs.Fields.Layout.{LocalTime, Piece, DayName, MailDayName, MonthName, Day, Year, PlainDate, Clock, MailClock, Spaces, LetterT, Offset, ColonOffset, MailOffset, IsPiece, ArePieces}
+use Rattle.gix_date.specs.Text.Names.{is_name, day_names, month_names}
+use Rattle.gix_date.specs.Text.Numbers.{fits_i64, int_value, read_two_digits, two_digit_value}
+use Rattle.gix_date.specs.Fields.Offsets.{read_sign, offset_fields}
+use Rattle.gix_date.specs.Fields.DateFields.{is_weekday, month_named}
+use Rattle.gix_date.specs.Fields.DateOffsets.{compact_offset, strict_offset, mail_zone, mail_offset, named_zone, zone_names, jiff_offset, last_colon_pair}
+use Rattle.gix_date.specs.Families.Patterns.{short_layout, iso8601_layout, gitoxide_layout, default_layout, short_answer, rfc2822_answer, iso8601_answer, iso8601_strict_answer, gitoxide_answer, default_answer}
+use Rattle.gix_date.specs.Relative.Dates.{named_date}
+use Rattle.gix_date.specs.Relative.Words.{relative_words, is_gap, singular, named_unit, unit_of, is_ago}
+use Rattle.gix_date.specs.Relative.Roles.{has_unit}
+use Rattle.gix_date.specs.Text.SpaceWords.{space_words}
+use Rattle.gix_date.specs.declared.civil.ClockFields.{ClockFields}
+use Rattle.gix_date.specs.declared.civil.DateFields.{DateFields}
+use Rattle.gix_date.specs.declared.parsing.offset.OffsetFields.{OffsetFields}
+use Rattle.gix_date.specs.declared.parsing.offset.Sign.{Sign}
+use Rattle.gix_date.proofs.Fields.FieldsTaken.{went, guard, after-taken, two-taken}
+use Rattle.gix_date.proofs.Text.Ints.{each_of}
+use Rattle.gix_date.proofs.Fields.Layouts.{dates_spelled}
+use Rattle.gix_date.proofs.Fast.FastHeaders.{int-taken, offset-taken, sign-taken, IsMark}
+use Rattle.gix_date.proofs.Relative.QuietWords.{says_nothing, says-by, IsQuiet, like, like-any, names_of, named-any, any-run, one-run-word}
+use Rattle.gix_date.proofs.Text.WordsWithin.{words-within, one-gap, none-of-empty}
+
+-- A word that begins with no letter says nothing.
+no_lower : (c n : ℕ) → is_ascii_alphabetic c ≡ false → 97 ≤ n → n ≤ 122 → (to_ascii_lowercase c == n) ≡ false
+no_lower c n h l m = grind (arith, nat_tests, h, l, m)
+
+no_s : (c : ℕ) → is_ascii_alphabetic c ≡ false → (c == 115 || c == 83) ≡ false
+no_s c h = grind (arith, nat_tests, h)
+
+no-name : (c : ℕ) (t : List ℕ) → is_ascii_alphabetic c ≡ false → named_unit (c ∷ t) ≡ None
+unfolding named_unit
+no-name c t h =
+    rw (
+      no_lower c 115 h (omega arith) (omega arith),
+      no_lower c 109 h (omega arith) (omega arith),
+      no_lower c 104 h (omega arith) (omega arith),
+      no_lower c 100 h (omega arith) (omega arith),
+      no_lower c 119 h (omega arith) (omega arith),
+      no_lower c 121 h (omega arith) (omega arith),
+    ) refl
+
+cut-name : (b : Bool) (c d : ℕ) (t : List ℕ) → is_ascii_alphabetic c ≡ false → named_unit (cond b (take (length (c ∷ d ∷ t) - 1) (c ∷ d ∷ t)) (c ∷ d ∷ t)) ≡ None
+cut-name true c d t h =
+    let long : length (c ∷ d ∷ t) - 1 ≡ suc (length t) = omega arith in
+    ap (λ (n : ℕ). named_unit (take n (c ∷ d ∷ t))) long ∙ no-name c (take (length t) (d ∷ t)) h
+cut-name false c d t h = no-name c (d ∷ t) h
+
+no-unit : (c : ℕ) (t : List ℕ) → is_ascii_alphabetic c ≡ false → has_unit (c ∷ t) ≡ false
+unfolding has_unit unit_of singular
+no-unit c [] h = rw (no_s c h, no-name c [] h) refl
+no-unit c (d ∷ t) h = rw (cut-name _ c d t h) refl
+
+no-date : (c : ℕ) (t : List ℕ) → is_ascii_alphabetic c ≡ false → named_date (c ∷ t) ≡ None
+unfolding named_date
+no-date c t h = rw (no_lower c 110 h (omega arith) (omega arith), no_lower c 116 h (omega arith) (omega arith), no_lower c 121 h (omega arith) (omega arith)) refl
+
+no-ago : (c : ℕ) (t : List ℕ) → is_ascii_alphabetic c ≡ false → is_ago (c ∷ t) ≡ false
+no-ago c t h = rw (no_lower c 97 h (omega arith) (omega arith)) refl
+
+digit-says-nothing : (c : ℕ) (t : List ℕ) → is_ascii_digit c ≡ true → says_nothing (c ∷ t) ≡ true
+digit-says-nothing c t h =
+    let no : is_ascii_alphabetic c ≡ false = no_letter c h in
+    says-by (c ∷ t) (no-unit c t no) (no-ago c t no) (no-date c t no)
+  where
+    no_letter : (c : ℕ) → is_ascii_digit c ≡ true → is_ascii_alphabetic c ≡ false
+    no_letter c h = grind (arith, nat_tests, h)
+
+-- Texts one after the other, with a byte of no word between them, are quiet where each is.
+all-append : (p : List ℕ → Bool) (xs ys : List (List ℕ)) → list_all p xs ≡ true → list_all p ys ≡ true → list_all p (xs ++ ys) ≡ true
+all-append p [] ys h k = k
+all-append p (x ∷ xs) ys h k = let parts = both (p x) (list_all p xs) h in rw parts.0 (all-append p xs ys parts.1 k)
+
+pub quiet-none : IsQuiet []
+quiet-none = ap (list_all says_nothing) none-of-empty
+
+pub quiet-gap : (x : List ℕ) (g : ℕ) (y : List ℕ) → is_gap g ≡ true → IsQuiet x → IsQuiet y → IsQuiet (x ++ (g ∷ y))
+quiet-gap x g y h p q = ap (list_all says_nothing) (one-gap x g y h) ∙ all-append says_nothing (relative_words x) (relative_words y) p q
+
+pub quiet-after : (g : ℕ) (y : List ℕ) → is_gap g ≡ true → IsQuiet y → IsQuiet (g ∷ y)
+quiet-after g y h q = quiet-gap [] g y h quiet-none q
+
+space_gap : (c : ℕ) → (c == 32) ≡ true → is_gap c ≡ true
+space_gap c h = grind (arith, nat_tests, h)
+
+quiet-skip : (gap y : List ℕ) → list_all (λ c. c == 32) gap ≡ true → IsQuiet y → IsQuiet (gap ++ y)
+quiet-skip [] y h q = q
+quiet-skip (c ∷ gap) y h q =
+    let parts = both (c == 32) (list_all (λ c. c == 32) gap) h in
+    quiet-after c (gap ++ y) (space_gap c parts.0) (quiet-skip gap y parts.1 q)
+
+pub quiet-spaces : (x gap y : List ℕ) → AreSpaces gap → IsQuiet x → IsQuiet y → IsQuiet (x ++ (gap ++ y))
+quiet-spaces x [] y s p q = absurd s
+quiet-spaces x (c ∷ gap) y s p q = quiet-gap x c (gap ++ y) (space_gap c s.0) p (quiet-skip gap y s.1 q)
+
+-- One word.
+quiet-word : (c : ℕ) (t : List ℕ) → list_all is_ascii_alphanumeric (c ∷ t) ≡ true → says_nothing (c ∷ t) ≡ true → IsQuiet (c ∷ t)
+quiet-word c t h s = ap (list_all says_nothing) (one-run-word c t h) ∙ rw s refl
+
+digit_run : (c : ℕ) → is_ascii_digit c ≡ true → is_ascii_alphanumeric c ≡ true
+digit_run c h = rw h refl
+
+letter_run : (c : ℕ) → is_ascii_alphabetic c ≡ true → is_ascii_alphanumeric c ≡ true
+letter_run c h = grind (arith, nat_tests, h)
+
+digits-run : (t : List ℕ) → all_ascii_digits t ≡ true → list_all is_ascii_alphanumeric t ≡ true
+digits-run [] h = refl
+digits-run (c ∷ t) h = let parts = both (is_ascii_digit c) (all_ascii_digits t) h in rw (digit_run c parts.0) (digits-run t parts.1)
+
+-- a run that begins with a digit
+quiet-run : (c : ℕ) (t : List ℕ) → is_ascii_digit c ≡ true → list_all is_ascii_alphanumeric t ≡ true → IsQuiet (c ∷ t)
+quiet-run c t d h = quiet-word c t (rw (digit_run c d) h) (digit-says-nothing c t d)
+
+pub quiet-digits : (t : List ℕ) → all_ascii_digits t ≡ true → IsQuiet t
+quiet-digits [] h = quiet-none
+quiet-digits (c ∷ t) h = let parts = both (is_ascii_digit c) (all_ascii_digits t) h in quiet-run c t parts.0 (digits-run t parts.1)
+
+pub field-digits : (t : List ℕ) (n : ℕ) → IsField t n → all_ascii_digits t ≡ true
+field-digits [] n h = absurd h
+field-digits (a ∷ []) n h = rw h.0 refl
+field-digits (a ∷ b ∷ []) n h = rw (h.0, h.1) refl
+field-digits (a ∷ b ∷ c ∷ t) n h = absurd h
+
+pub year-digits : (t : List ℕ) (n : ℕ) → IsYear t n → all_ascii_digits t ≡ true
+year-digits [] n h = absurd h
+year-digits (a ∷ []) n h = absurd h
+year-digits (a ∷ b ∷ []) n h = absurd h
+year-digits (a ∷ b ∷ c ∷ []) n h = absurd h
+year-digits (a ∷ b ∷ c ∷ d ∷ []) n h = rw (h.0, h.1, h.2, h.3) refl
+year-digits (a ∷ b ∷ c ∷ d ∷ e ∷ t) n h = absurd h
+
+quiet-field : (t : List ℕ) (n : ℕ) → IsField t n → IsQuiet t
+quiet-field t n h = quiet-digits t (field-digits t n h)
+
+-- a field, `T`, and another
+run-append : (s t : List ℕ) → list_all is_ascii_alphanumeric s ≡ true → list_all is_ascii_alphanumeric t ≡ true → list_all is_ascii_alphanumeric (s ++ t) ≡ true
+run-append [] t h k = k
+run-append (c ∷ s) t h k = let parts = both (is_ascii_alphanumeric c) (list_all is_ascii_alphanumeric s) h in rw parts.0 (run-append s t parts.1 k)
+
+quiet-joined : (day hour : List ℕ) (n m : ℕ) → IsField day n → IsField hour m → IsQuiet (day ++ (letter_t ∷ hour))
+quiet-joined [] hour n m h k = absurd h
+quiet-joined (c ∷ day) hour n m h k =
+    let parts = both (is_ascii_digit c) (all_ascii_digits day) (field-digits (c ∷ day) n h) in
+    let more : list_all is_ascii_alphanumeric (letter_t ∷ hour) ≡ true = digits-run hour (field-digits hour m k) in
+    quiet-run c (day ++ (letter_t ∷ hour)) parts.0 (run-append day (letter_t ∷ hour) (digits-run day parts.1) more)
+
+-- Names.
+names-quiet : list_all says_nothing day_names ≡ true × list_all says_nothing month_names ≡ true
+unfolding has_unit unit_of singular named_unit named_date
+names-quiet = (refl, refl)
+
+three : (a b c : Bool) → (a && b && c) ≡ true → (a ≡ true) × (b ≡ true) × (c ≡ true)
+three true true true h = (refl, refl, refl)
+three true true false h = absurd cc
+three true false c h = absurd cc
+three false b c h = absurd cc
+
+letters-run : (t : List ℕ) → AreThreeLetters t → list_all is_ascii_alphanumeric t ≡ true
+letters-run [] h = absurd h
+letters-run (a ∷ []) h = absurd h
+letters-run (a ∷ b ∷ []) h = absurd h
+letters-run (a ∷ b ∷ c ∷ []) h =
+    let parts = three (is_ascii_alphabetic a) (is_ascii_alphabetic b) (is_ascii_alphabetic c) h in
+    rw (letter_run a parts.0, letter_run b parts.1, letter_run c parts.2) refl
+letters-run (a ∷ b ∷ c ∷ d ∷ t) h = absurd h
+
+quiet-name : (t : List ℕ) → list_all is_ascii_alphanumeric t ≡ true → says_nothing t ≡ true → IsQuiet t
+quiet-name [] h s = quiet-none
+quiet-name (c ∷ t) h s = quiet-word c t h s
+
+quiet-day-name : (t : List ℕ) → IsDayName t → IsQuiet t
+unfolding is_weekday
+quiet-day-name t h = quiet-name t (letters-run t h.0) (like-any t day_names names-quiet.0 h.1)
+
+all-at : (names : List (List ℕ)) (k : ℕ) → list_all says_nothing names ≡ true → k < length names → says_nothing (get_or names k []) ≡ true
+all-at [] k h l = absurd (omega (arith, l))
+all-at (x ∷ xs) zero h l = (both (says_nothing x) (list_all says_nothing xs) h).0
+all-at (x ∷ xs) (suc k) h l = all-at xs k (both (says_nothing x) (list_all says_nothing xs) h).1 (omega (arith, l))
+
+found-name : (t : List ℕ) (place : Option ℕ) (n : ℕ) → position (is_name t) month_names ≡ place → option_map {U = ℕ} (λ k. k + 1) place ≡ Some n → says_nothing t ≡ true
+found-name t None n e h = absurd cc
+found-name t (Some k) n e h =
+    let at = position-Some (is_name t) month_names k [] e in
+    like t (get_or month_names k []) at.1 (all-at month_names k names-quiet.1 at.0)
+
+quiet-month-name : (t : List ℕ) (n : ℕ) → IsMonthName t n → IsQuiet t
+unfolding month_named
+quiet-month-name t n h = quiet-name t (letters-run t h.0) (found-name t (position (is_name t) month_names) n refl h.1)
+
+-- Dates and clocks.
+quiet-date : (x : List ℕ) (date : DateFields) → IsPlainDate x date → IsQuiet x
+quiet-date x date h =
+    subst IsQuiet (sym h.whole)
+    (quiet-gap (h.year ++ (minus ∷ h.month)) minus h.day refl
+    (quiet-gap h.year minus h.month refl (quiet-digits h.year (year-digits h.year date.year h.is_year)) (quiet-field h.month date.month h.is_month))
+    (quiet-field h.day date.day h.is_day))
+
+quiet-clock : (x : List ℕ) (clock : ClockFields) → IsClock x clock → IsQuiet x
+quiet-clock x clock h =
+    subst IsQuiet (sym h.whole)
+    (quiet-gap (h.hour ++ (colon ∷ h.minute)) colon h.second refl
+    (quiet-gap h.hour colon h.minute refl (quiet-field h.hour clock.hour h.is_hour) (quiet-field h.minute clock.minute h.is_minute))
+    (quiet-field h.second h.seconds h.is_second))
+
+quiet-mail-clock : (x : List ℕ) (clock : ClockFields) → IsMailClock x clock → IsQuiet x
+quiet-mail-clock x clock (inl h) = quiet-clock x clock h
+quiet-mail-clock x clock (inr h) =
+    subst IsQuiet (sym h.whole) (quiet-gap h.hour colon h.minute refl (quiet-field h.hour clock.hour h.is_hour) (quiet-field h.minute clock.minute h.is_minute))
+
+-- Offsets.
+mark_gap : (c : ℕ) (s : Sign) → IsMark c s → is_gap c ≡ true
+mark_gap c s (inl p) = rw p.0 refl
+mark_gap c s (inr p) = rw p.0 refl
+
+pub quiet-offset : (x : List ℕ) (f : OffsetFields) → offset_fields x ≡ Some f → IsQuiet x
+quiet-offset x f e =
+    let k = offset-taken x f e in
+    let rest = k.h0 ∷ k.h1 ∷ k.m0 ∷ k.m1 ∷ k.last in
+    let all : all_ascii_digits rest ≡ true = rw (k.is_h0, k.is_h1, k.is_m0, k.is_m1) k.is_last.digits in
+    subst IsQuiet (sym k.whole) (quiet-after k.mark rest (mark_gap k.mark f.sign k.is_mark) (quiet-digits rest all))
+
+quiet-compact : (x : List ℕ) (o : ℤ) → compact_offset x ≡ Some o → IsQuiet x
+unfolding compact_offset
+quiet-compact x o e = let f = went (offset_fields x) (λ f. jiff_offset f) o e in quiet-offset x f.0 f.1
+
+-- a sign, and what stands after it
+record Signed (x : List ℕ) : Type 0 where
+  pub mark : ℕ
+  pub rest : List ℕ
+  pub whole : x ≡ mark ∷ rest
+  pub gap : is_gap mark ≡ true
+  pub quiet : IsQuiet rest
+
+colon_gap : (c : ℕ) → (c == colon) ≡ true → is_gap c ≡ true
+colon_gap c h = grind (arith, nat_tests, h)
+
+pair-digits : (a b v : ℕ) (n : ℕ) → cond (is_ascii_digit a && is_ascii_digit b) (Some v) None ≡ Some n → all_ascii_digits (a ∷ b ∷ []) ≡ true
+pair-digits a b v n e =
+    let g = guard (is_ascii_digit a && is_ascii_digit b) v n e in
+    let parts = both (is_ascii_digit a) (is_ascii_digit b) g.0 in
+    rw (parts.0, parts.1) refl
+
+quiet-last : (front last : List ℕ) (s : Option ℕ) → last_colon_pair last ≡ Some s → IsQuiet front → IsQuiet (front ++ last)
+unfolding last_colon_pair
+quiet-last front [] s e q = subst IsQuiet (sym (append-nil front)) q
+quiet-last front (c ∷ []) s e q = absurd cc
+quiet-last front (c ∷ a ∷ []) s e q = absurd cc
+quiet-last front (c ∷ a ∷ b ∷ []) s e q = by_colon (c == colon) refl e
+  where
+    by_colon : (mark : Bool) → (c == colon) ≡ mark → cond mark (two_digit_value a b >>= (λ n. Some (Some n))) None ≡ Some s → IsQuiet (front ++ (c ∷ a ∷ b ∷ []))
+    by_colon true m e =
+        let n = went (two_digit_value a b) (λ n. Some (Some n)) s e in
+        quiet-gap front c (a ∷ b ∷ []) (colon_gap c m) q (quiet-digits (a ∷ b ∷ []) (pair-digits a b _ n.0 n.1))
+    by_colon false m e = absurd cc
+quiet-last front (c ∷ a ∷ b ∷ d ∷ t) s e q = absurd cc
+
+abbrev fields_at : Sign → ℕ → ℕ → Option ℕ → OffsetFields
+fields_at sign h m s = record { sign = sign; hours = h; minutes = m; seconds = s }
+
+strict-signed : (x : List ℕ) (o : ℤ) → strict_offset x ≡ Some o → Signed x
+unfolding strict_offset
+strict-signed x o e =
+    let sign = went (read_sign x) (λ sign. read_two_digits sign.1 >>= λ h. skip_char colon h.1 >>= λ r. read_two_digits r >>= λ m. last_colon_pair m.1 >>= λ s. jiff_offset (fields_at sign.0 h.0 m.0 s)) o e in
+    let hours = went (read_two_digits sign.0.1) (λ h. skip_char colon h.1 >>= λ r. read_two_digits r >>= λ m. last_colon_pair m.1 >>= λ s. jiff_offset (fields_at sign.0.0 h.0 m.0 s)) o sign.2 in
+    let next = went (skip_char colon hours.0.1) (λ r. read_two_digits r >>= λ m. last_colon_pair m.1 >>= λ s. jiff_offset (fields_at sign.0.0 hours.0.0 m.0 s)) o hours.2 in
+    let minutes = went (read_two_digits next.0) (λ m. last_colon_pair m.1 >>= λ s. jiff_offset (fields_at sign.0.0 hours.0.0 m.0 s)) o next.2 in
+    let seconds = went (last_colon_pair minutes.0.1) (λ s. jiff_offset (fields_at sign.0.0 hours.0.0 minutes.0.0 s)) o minutes.2 in
+    let a = sign-taken x sign.0.0 sign.0.1 sign.1 in
+    let b = two-taken sign.0.1 hours.0.0 hours.0.1 hours.1 in
+    let c = two-taken next.0 minutes.0.0 minutes.0.1 minutes.1 in
+    let hour = b.tens ∷ b.ones ∷ [] in
+    let minute = c.tens ∷ c.ones ∷ [] in
+    let hour_digits : all_ascii_digits hour ≡ true = rw (b.is_tens, b.is_ones) refl in
+    let minute_digits : all_ascii_digits minute ≡ true = rw (c.is_tens, c.is_ones) refl in
+    let split : x ≡ a.mark ∷ (hour ++ (colon ∷ (minute ++ minutes.0.1))) =
+    a.whole ∙ ap (λ (t : List ℕ). a.mark ∷ t) (b.whole ∙ ap (λ (t : List ℕ). hour ++ t) (after-taken colon hours.0.1 next.0 next.1 ∙ ap (λ (t : List ℕ). colon ∷ t) c.whole)) in
+    record {
+      mark = a.mark;
+      rest = hour ++ (colon ∷ (minute ++ minutes.0.1));
+      whole = split;
+      gap = mark_gap a.mark sign.0.0 a.is_mark;
+      quiet = quiet-gap hour colon (minute ++ minutes.0.1) refl (quiet-digits hour hour_digits) (quiet-last minute minutes.0.1 seconds.0 seconds.1 (quiet-digits minute minute_digits));
+    }
+
+quiet-colon-zone : (x : List ℕ) (o : ℤ) → strict_offset x ≡ Some o → IsQuiet x
+quiet-colon-zone x o e = let s = strict-signed x o e in subst IsQuiet (sym s.whole) (quiet-after s.mark s.rest s.gap s.quiet)
+
+zones-quiet : list_all says_nothing (names_of zone_names) ≡ true
+unfolding has_unit unit_of singular named_unit named_date
+zones-quiet = refl
+
+quiet-mail-zone : (x : List ℕ) (o : ℤ) → mail_zone x ≡ Some o → IsQuiet x
+unfolding mail_zone mail_offset named_zone
+quiet-mail-zone x o e = by_offset (mail_offset x) refl e
+  where
+    by_offset : (found : Option ℤ) → mail_offset x ≡ found → option_or found (named_zone x) ≡ Some o → IsQuiet x
+    by_offset (Some n) h e = let f = went (offset_fields x) _ n h in quiet-offset x f.0 f.1
+    by_offset None h e =
+        let any = named-any zone_names x o e in
+        quiet-name x (any-run x (names_of zone_names) refl any) (like-any x (names_of zone_names) zones-quiet any)
+
+-- Whole dates: each piece is quiet, and spaces stand between them, but for mail and the strict form.
+quiet-t : IsQuiet (letter_t ∷ [])
+unfolding has_unit unit_of singular named_unit named_date
+quiet-t = quiet-word letter_t [] refl refl
+
+quiet-piece : (p : Piece) (t : LocalTime) (x : List ℕ) → IsPiece p t x → IsQuiet x
+quiet-piece DayName t x h = quiet-day-name x h
+quiet-piece MailDayName t x (inl none) = subst IsQuiet (sym none) quiet-none
+quiet-piece MailDayName t x (inr h) =
+    subst IsQuiet (sym h.whole) (quiet-gap h.name comma h.gap refl (quiet-day-name h.name h.is_name) (quiet-blank h.gap h.are_spaces))
+  where
+    quiet-blank : (gap : List ℕ) → AreSpaces gap → IsQuiet gap
+    quiet-blank gap s = subst IsQuiet (append-nil gap) (quiet-spaces [] gap [] s quiet-none quiet-none)
+quiet-piece MonthName t x h = quiet-month-name x t.date.month h
+quiet-piece Day t x h = quiet-field x t.date.day h
+quiet-piece Year t x h = quiet-digits x (year-digits x t.date.year h)
+quiet-piece PlainDate t x h = quiet-date x t.date h
+quiet-piece Clock t x h = quiet-clock x t.clock h
+quiet-piece MailClock t x h = quiet-mail-clock x t.clock h
+quiet-piece Spaces t x h = subst IsQuiet (append-nil x) (quiet-spaces [] x [] h quiet-none quiet-none)
+quiet-piece LetterT t x h = subst IsQuiet (sym h) quiet-t
+quiet-piece Offset t x h = quiet-compact x t.offset h
+quiet-piece ColonOffset t x h = quiet-colon-zone x t.offset h
+quiet-piece MailOffset t x h = quiet-mail-zone x t.offset h
+
+-- every second piece is spaces
+abbrev AreSpaced : List Piece → Type 0
+AreSpaced (p ∷ []) = Unit {0}
+AreSpaced (p ∷ Spaces ∷ pieces) = AreSpaced pieces
+AreSpaced _ = ⊥
+
+quiet-pieces : (ps : List Piece) → AreSpaced ps → (t : LocalTime) (x : List ℕ) → ArePieces ps t x → IsQuiet x
+quiet-pieces [] s t x h = absurd s
+quiet-pieces (p ∷ []) s t x h = subst IsQuiet (sym (h.whole ∙ ap (λ (r : List ℕ). h.front ++ r) h.more ∙ append-nil h.front)) (quiet-piece p t h.front h.is)
+quiet-pieces (p ∷ Spaces ∷ ps) s t x h =
+    let gap = h.more in
+    subst IsQuiet (sym (h.whole ∙ ap (λ (r : List ℕ). h.front ++ r) gap.whole))
+    (quiet-spaces h.front gap.front gap.rest gap.is (quiet-piece p t h.front h.is) (quiet-pieces ps s t gap.rest gap.more))
+quiet-pieces (p ∷ q ∷ ps) s t x h = absurd s
+
+pub quiet-short : (text : List ℕ) (answer : FamilyAnswer) → short_answer text ≡ Some answer → IsQuiet text
+quiet-short text answer e = let a = (dates_spelled.short text answer).0 e in quiet-pieces short_layout tt a.time text a.are
+
+pub quiet-iso8601 : (text : List ℕ) (answer : FamilyAnswer) → iso8601_answer text ≡ Some answer → IsQuiet text
+quiet-iso8601 text answer e = let a = (dates_spelled.iso8601 text answer).0 e in quiet-pieces iso8601_layout tt a.time text a.are
+
+pub quiet-gitoxide : (text : List ℕ) (answer : FamilyAnswer) → gitoxide_answer text ≡ Some answer → IsQuiet text
+quiet-gitoxide text answer e = let a = (dates_spelled.gitoxide text answer).0 e in quiet-pieces gitoxide_layout tt a.time text a.are
+
+pub quiet-default : (text : List ℕ) (answer : FamilyAnswer) → default_answer text ≡ Some answer → IsQuiet text
+quiet-default text answer e = let a = (dates_spelled.by_default text answer).0 e in quiet-pieces default_layout tt a.time text a.are
+
+after_mail_day : List Piece
+after_mail_day = Day ∷ Spaces ∷ MonthName ∷ Spaces ∷ Year ∷ Spaces ∷ MailClock ∷ Spaces ∷ MailOffset ∷ []
+
+pub quiet-mail : (text : List ℕ) (answer : FamilyAnswer) → rfc2822_answer text ≡ Some answer → IsQuiet text
+unfolding after_mail_day
+quiet-mail text answer e =
+    let a = (dates_spelled.rfc2822 text answer).0 e in
+    let h = a.are in
+    subst IsQuiet (sym h.whole) (after-name h.front h.rest h.is (quiet-pieces after_mail_day tt a.time h.rest h.more))
+  where
+    after-name : (prefix rest : List ℕ) → (prefix ≡ []) ⊎ IsDayPrefix prefix → IsQuiet rest → IsQuiet (prefix ++ rest)
+    after-name prefix rest (inl none) q = subst (λ (p : List ℕ). IsQuiet (p ++ rest)) (sym none) q
+    after-name prefix rest (inr named) q =
+        let split : prefix ++ rest ≡ named.name ++ (comma ∷ (named.gap ++ rest)) = rw named.whole (append_assoc named.name (comma ∷ named.gap) rest) in
+        subst IsQuiet (sym split)
+        (quiet-gap named.name comma (named.gap ++ rest) refl (quiet-day-name named.name named.is_name) (quiet-spaces [] named.gap rest named.are_spaces quiet-none q))
+
+quiet-strict-parts : (x d : List ℕ) (date : DateFields) (clock : ClockFields) (time zone : List ℕ) (o : ℤ) → IsPlainDate d date → IsClock time clock → strict_offset zone ≡ Some o
+    → x ≡ d ++ (letter_t ∷ (time ++ zone)) → IsQuiet x
+quiet-strict-parts x d date clock time zone o h c z e =
+    let s = strict-signed zone o z in
+    let after_second = c.second ++ (s.mark ∷ s.rest) in
+    let after_minute = c.minute ++ (colon ∷ after_second) in
+    let joined = h.day ++ (letter_t ∷ c.hour) in
+    let front = h.year ++ (minus ∷ h.month) in
+    let clock_split : time ++ zone ≡ c.hour ++ (colon ∷ after_minute) =
+    ap₂ (λ (t z : List ℕ). t ++ z) c.whole s.whole ∙ (append_assoc (c.hour ++ (colon ∷ c.minute)) (colon ∷ c.second) (s.mark ∷ s.rest) ∙ append_assoc c.hour (colon ∷ c.minute) (colon ∷ after_second)) in
+    let date_split : d ++ (letter_t ∷ (time ++ zone)) ≡ front ++ (minus ∷ (joined ++ (colon ∷ after_minute))) =
+    ap₂ (λ (t z : List ℕ). t ++ (letter_t ∷ z)) h.whole clock_split ∙ (append_assoc front (minus ∷ h.day) (letter_t ∷ (c.hour ++ (colon ∷ after_minute))) ∙ ap (λ (t : List ℕ). front ++ (minus ∷ t)) (sym (append_assoc h.day (letter_t ∷ c.hour) (colon ∷ after_minute)))) in
+    subst IsQuiet (sym (e ∙ date_split))
+    (quiet-gap front minus (joined ++ (colon ∷ after_minute)) refl
+    (quiet-gap h.year minus h.month refl (quiet-digits h.year (year-digits h.year date.year h.is_year)) (quiet-field h.month date.month h.is_month))
+    (quiet-gap joined colon after_minute refl
+    (quiet-joined h.day c.hour date.day clock.hour h.is_day c.is_hour)
+    (quiet-gap c.minute colon after_second refl (quiet-field c.minute clock.minute c.is_minute)
+    (quiet-gap c.second s.mark s.rest s.gap (quiet-field c.second c.seconds c.is_second) s.quiet))))
+
+pub quiet-strict : (text : List ℕ) (answer : FamilyAnswer) → iso8601_strict_answer text ≡ Some answer → IsQuiet text
+quiet-strict text answer e =
+    let a = (dates_spelled.iso8601_strict text answer).0 e in
+    let date = a.are in
+    let mark = date.more in
+    let clock = mark.more in
+    let zone = clock.more in
+    let end : zone.front ++ zone.rest ≡ zone.front = ap (λ (t : List ℕ). zone.front ++ t) zone.more ∙ append-nil zone.front in
+    quiet-strict-parts text date.front a.time.date a.time.clock clock.front zone.front a.time.offset date.is clock.is zone.is
+    (date.whole ∙ ap (λ (t : List ℕ). date.front ++ t) (mark.whole ∙ ap₂ (λ (s t : List ℕ). s ++ t) mark.is (clock.whole ∙ ap (λ (t : List ℕ). clock.front ++ t) (zone.whole ∙ end))))
+
+-- Numbers, raw texts and at texts.
+sign_gap : (c : ℕ) → (c == minus || c == plus) ≡ true → is_gap c ≡ true
+sign_gap c h = grind (arith, nat_tests, h)
+
+quiet-number : (c : ℕ) (t : List ℕ) (p q : Bool) → (c == minus) ≡ p → (c == plus) ≡ q → all_ascii_digits (without_leading_sign (c ∷ t)) ≡ true → IsQuiet (c ∷ t)
+quiet-number c t true q e f h = quiet-after c t (sign_gap c (rw e refl)) (quiet-digits t (rw e at h))
+quiet-number c t false true e f h = quiet-after c t (sign_gap c (rw (e, f) refl)) (quiet-digits t (rw (e, f) at h))
+quiet-number c t false false e f h = quiet-digits (c ∷ t) (rw (e, f) at h)
+
+pub quiet-int : (w : List ℕ) (n : ℤ) → int_value w ≡ Some n → IsQuiet w
+quiet-int [] n e = quiet-none
+quiet-int (c ∷ t) n e =
+    let parts = each_of (nat_lt 0 (length (without_leading_sign (c ∷ t)))) (all_ascii_digits (without_leading_sign (c ∷ t))) (fits_i64 (signed_digits_value 10 (c ∷ t))) (int-taken (c ∷ t) n e).0 in
+    quiet-number c t (c == minus) (c == plus) refl refl parts.1
+
+pub quiet-two-words : (text a b : List ℕ) → IsUtf8 text → space_words text ≡ a ∷ b ∷ [] → IsQuiet a → IsQuiet b → IsQuiet text
+quiet-two-words text a b u e p q =
+    ap (list_all says_nothing) (words-within text u ∙ ap (λ (ws : List (List ℕ)). flat_map relative_words ws) e)
+    ∙ all-append says_nothing (relative_words a) (relative_words b ++ []) p (all-append says_nothing (relative_words b) [] q refl)

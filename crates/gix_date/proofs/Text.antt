@@ -1,0 +1,16 @@
+-- Texts: characters, places, numbers and words.
+pub mod KnownBytes
+pub mod AsciiCuts
+pub mod WordSteps
+pub mod ShortDigits
+pub mod WordsWithin
+pub mod FirstWords
+pub mod Places
+pub mod FirstBytes
+pub mod AroundTexts
+pub mod Ints
+pub mod Decimals
+pub mod WhiteSpace
+pub mod Texts
+pub mod LastPlaces
+pub mod Trimmed

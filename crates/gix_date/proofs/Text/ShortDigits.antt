@@ -1,0 +1,96 @@
+-- A few digits, read one after the other.
+use Rattle.std.proofs.Common.{◌≡◌, ◌∙◌, ℕ, ◌+◌, ◌-◌, ◌*◌, ◌<◌, ◌≤◌, ◌^◌, true, false, List, [], ◌∷◌, ◌++◌, length, get_or, take, drop, ap, sym, refl, arith, length-take-le, pos, neg_ℤ, Some, FitsSigned, w64}
+use Rattle.std.proofs.lemmas.Bool.{and_parts as both}
+use Rattle.std.proofs.lemmas.Bool.Decides.{nat_tests}
+use Rattle.std.proofs.lemmas.List.Folds.{list_all-append}
+use Rattle.std.proofs.lemmas.Int.Digits.{digits_value_more, digits_more}
+use Rattle.std.proofs.lemmas.Str.Parse.{digits_value_short}
+use Rattle.std.specs.Char.{is_ascii_digit, digit_value}
+use Rattle.std.specs.Str.{all_ascii_digits}
+use Rattle.std.specs.Prelude.{◌==◌}
+use Rattle.std.specs.Str.Parse.{digits_value, without_leading_sign, signed_digits_value, IsNumeral}
+use Rattle.gix_date.specs.Text.Numbers.{int_value}
+use Rattle.gix_date.proofs.Text.Ints.{own, int_value_from}
+use Rattle.std.proofs.lemmas.Int.{ints}
+use Rattle.std.proofs.Math.Seq.{take-length}
+
+digit_is : (c : ℕ) → is_ascii_digit c ≡ true → digit_value c ≡ c - 48
+digit_is c h = grind (arith, nat_tests, h)
+
+below_ten : (c : ℕ) → is_ascii_digit c ≡ true → digit_value c < 10
+below_ten c h = grind (arith, nat_tests, h)
+
+-- the number so far
+pub so_far-small : (ds : List ℕ) (i k : ℕ) → all_ascii_digits (take i ds) ≡ true → i ≤ k → i ≤ length ds → digits_value 10 (take i ds) < 10 ^ k
+so_far-small ds i k h short within = digits_value_short own (take i ds) k h (omega (arith, length-take-le i ds within))
+
+-- one digit more
+pub value-more : (ds : List ℕ) (i : ℕ) → i < length ds → is_ascii_digit (get_or ds i 0) ≡ true → digits_value 10 (take (i + 1) ds) ≡ 10 * digits_value 10 (take i ds) + (get_or ds i 0 - 48)
+value-more ds i within h =
+    let more = digits_value_more 10 ds i within in
+    let digit = digit_is (get_or ds i 0) h in
+    omega (arith, more, digit)
+
+pub digits-more : (ds : List ℕ) (i : ℕ) → i < length ds → all_ascii_digits (take i ds) ≡ true → is_ascii_digit (get_or ds i 0) ≡ true → all_ascii_digits (take (i + 1) ds) ≡ true
+digits-more ds i within h d = own.from (take (i + 1) ds) (digits_more 10 ds i within (own.to (take i ds) h) (below_ten (get_or ds i 0) d))
+
+-- ten digits, as two times five
+abbrev five : List ℕ → ℕ → List ℕ
+five ds i = get_or ds i 0 ∷ get_or ds (i + 1) 0 ∷ get_or ds (i + 2) 0 ∷ get_or ds (i + 3) 0 ∷ get_or ds (i + 4) 0 ∷ []
+
+ten-are : (ds : List ℕ) → length ds ≡ 10 → ds ≡ five ds 0 ++ five ds 5
+ten-are (a ∷ b ∷ c ∷ d ∷ e ∷ f ∷ g ∷ h ∷ i ∷ j ∷ []) n = refl
+ten-are ds n = absurd (omega (arith, n))
+
+pub ten-all : (ds : List ℕ) → length ds ≡ 10 → all_ascii_digits (five ds 0) ≡ true → all_ascii_digits (five ds 5) ≡ true → all_ascii_digits ds ≡ true
+ten-all ds n p q = ap all_ascii_digits (ten-are ds n) ∙ list_all-append is_ascii_digit (five ds 0) (five ds 5) ∙ rw (p, q) refl
+
+pub ten-value : (ds : List ℕ) (high low : ℕ) → length ds ≡ 10 → high ≡ digits_value 10 (five ds 0) → low ≡ digits_value 10 (five ds 5)
+    → 100000 * high + low ≡ digits_value 10 ds
+ten-value ds high low n p q =
+    let whole : digits_value 10 ds ≡ digits_value 10 (five ds 0 ++ five ds 5) = ap (digits_value 10) (ten-are ds n) in
+    omega (arith, p, q, whole)
+
+no-minus : (c : ℕ) → is_ascii_digit c ≡ true → (c == 45) ≡ false
+no-minus c h = grind (arith, nat_tests, h)
+
+no-plus : (c : ℕ) → is_ascii_digit c ≡ true → (c == 43) ≡ false
+no-plus c h = grind (arith, nat_tests, h)
+
+fits-pos : (n : ℕ) → n < 10 ^ 18 → FitsSigned w64 (pos n)
+fits-pos n h = record { sfits = omega (arith, h) }
+
+fits-neg : (n : ℕ) → n < 10 ^ 18 → FitsSigned w64 (neg_ℤ (pos n))
+fits-neg n h = record { sfits = omega (arith, ints, h) }
+
+numeral : (ds : List ℕ) → 0 < length ds → all_ascii_digits ds ≡ true → IsNumeral 10 ds
+numeral ds some h = (some, own.to ds h)
+
+-- digits alone
+pub bare-int : (ds : List ℕ) (n : ℕ) → 0 < length ds → all_ascii_digits ds ≡ true → n ≡ digits_value 10 ds → n < 10 ^ 18 → int_value ds ≡ Some (pos n)
+bare-int [] n some h e small = absurd (omega arith)
+bare-int (c ∷ t) n some h e small =
+    let first = (both (is_ascii_digit c) (all_ascii_digits t) h).0 in
+    let bare : without_leading_sign (c ∷ t) ≡ c ∷ t = rw (no-minus c first, no-plus c first) refl in
+    let value : signed_digits_value 10 (c ∷ t) ≡ pos n = rw (no-minus c first, no-plus c first) (ap pos (sym e)) in
+    int_value_from (c ∷ t) (pos n) (rw bare (numeral (c ∷ t) some h)) value (fits-pos n small)
+
+-- a minus and digits
+pub minus-int : (text : List ℕ) (n : ℕ) → get_or text 0 0 ≡ 45 → 0 < length (drop 1 text) → all_ascii_digits (drop 1 text) ≡ true → n ≡ digits_value 10 (drop 1 text) → n < 10 ^ 18 → int_value text ≡ Some (neg_ℤ (pos n))
+minus-int [] n m some h e small = absurd (omega arith)
+minus-int (c ∷ ds) n m some h e small =
+    let is : (c == 45) ≡ true = rw m refl in
+    let bare : without_leading_sign (c ∷ ds) ≡ ds = rw is refl in
+    let value : signed_digits_value 10 (c ∷ ds) ≡ neg_ℤ (pos n) = rw is (ap (λ (k : ℕ). neg_ℤ (pos k)) (sym e)) in
+    int_value_from (c ∷ ds) (neg_ℤ (pos n)) (rw bare (numeral ds some h)) value (fits-neg n small)
+
+all-of : (ds : List ℕ) (n : ℕ) → n ≡ length ds → take n ds ≡ ds
+all-of ds n e = rw e (take-length ds)
+
+-- the same, as a pattern of a slice gives its rest
+pub minus-rest : (text : List ℕ) (n : ℕ) → get_or text 0 0 ≡ 45 → 0 < length (take (length text - 1) (drop 1 text)) → all_ascii_digits (take (length text - 1) (drop 1 text)) ≡ true → n ≡ digits_value 10 (take (length text - 1) (drop 1 text)) → n < 10 ^ 18
+    → int_value text ≡ Some (neg_ℤ (pos n))
+minus-rest [] n m some h e small = absurd (omega arith)
+minus-rest (c ∷ ds) n m some h e small =
+    let rest : take (length (c ∷ ds) - 1) ds ≡ ds = all-of ds (length (c ∷ ds) - 1) (omega arith) in
+    minus-int (c ∷ ds) n m (rw rest at some) (rw rest at h) (rw rest at e) small
