@@ -2,7 +2,7 @@
 pub mod FieldsRead
 pub mod FieldsTaken
 pub mod Layouts
-mod AfterDay
-mod NamesRead
+pub mod AfterDay
+pub mod NamesRead
 pub mod DateTimes
 pub mod Instants

@@ -247,7 +247,12 @@ fn laws_are_called_for_nothing_but_what_they_state() {
     laws::hash();
     laws::white_space();
     laws::named_once();
+    laws::named_converts();
+    laws::one_outcome();
     laws::spelled();
+    laws::spelled_numbers(RawOffsets::WholeMinutes);
+    laws::spelled_git();
+    laws::spelled_relative("2 days ago");
     laws::apart();
     let _ = laws::named_formats();
     let _ = laws::other_formats();
@@ -258,6 +263,10 @@ fn laws_are_called_for_nothing_but_what_they_state() {
     laws::disjoint_wide("0 +0007");
     laws::exclusive("2 days ago", RawOffsets::Quarter);
     laws::overlapping();
+    laws::agree("2022-08-18 12:45:06 +0800", RawOffsets::Quarter);
+    laws::trimmed(" 5 +0000 ", RawOffsets::Quarter);
+    laws::ranges("yesterday", RawOffsets::WholeMinutes);
+    laws::raw_is_header("5 +0007", RawOffsets::WholeMinutes);
     laws::comes_first("2018-12-24", RawOffsets::Quarter);
     laws::dispatched("@5 +0007", RawOffsets::WholeMinutes);
     laws::dispatched_by_rows("last week", RawOffsets::Quarter);
@@ -266,6 +275,7 @@ fn laws_are_called_for_nothing_but_what_they_state() {
     gix_date_tool::limits();
     gix_date_tool::lines_are_unique();
     gix_date_tool::replies_are_unique();
+    gix_date_tool::parsed_lines(b"5 +0000");
     gix_date_tool::canonical_lines(b"0 +0000");
     gix_date_tool::unchanged_lines(b"A <a> 0 +0000");
 }
@@ -279,6 +289,7 @@ fn laws_are_called_for_what_they_state_of_a_time(rt: HostRuntime) -> Result<(), 
     laws::read_back_wide(time);
     laws::raw_read_back(time);
     laws::raw_read_back_wide(time);
+    laws::short_read_back(time, RawOffsets::Quarter);
     laws::earlier(time, &[(1, 86_400)]);
     let moment = time.to_zoned()?;
     laws::yesterday(&moment);
@@ -287,6 +298,8 @@ fn laws_are_called_for_what_they_state_of_a_time(rt: HostRuntime) -> Result<(), 
         &moment,
         &[(0, 1), (1, 60), (2, 3600), (3, 86_400), (4, 604_800)],
     );
+    laws::seconds_before(&moment, &[(2, 3600)]);
+    laws::never_later("2 hours ago", &moment);
     laws::months_add(&moment, &[(0, 1), (1, 12), (2, 1)]);
     let parsed = laws::headline(rt.alloc(), "5 -0130", Some(moment));
     assert!(rt; matches!(parsed, Ok(raw) if raw == Time::new(5, -5400)));

@@ -24,3 +24,9 @@ months_add-requires-clause-day g c =
     let day : (plain_zoned c.in_ok-moment.moment).datetime.date.day ≡ 19 =
     ap (λ (l : LocalTime). l.date.day) shown ∙ ap (λ (t : Time). (clock_of t).date.day) time in
     omega (arith, day)
+
+pub seconds_before-requires-clause-fixed : goal.seconds_before-requires-clause-fixed
+seconds_before-requires-clause-fixed g c = moment-fixed _ c.in_ok-moment.moment c.in_ok-moment.ensures.value
+
+pub never_later-requires : goal.never_later-requires
+never_later-requires g c = record { fixed = moment-fixed _ c.in_ok-moment.moment c.in_ok-moment.ensures.value }
