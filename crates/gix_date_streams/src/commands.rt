@@ -35,7 +35,7 @@ fn a_command_line_is_a_mode_and_perhaps_a_moment(rt: HostRuntime) -> Result<(), 
     ];
     for (line, wanted) in rows {
         let words = words_of(rt.alloc(), line)?;
-        assert_eq!(rt; command(words.as_slice()), wanted, "{line:?}");
+        assert_eq!(rt; command(rt.alloc(), words.as_slice())?, wanted, "{line:?}");
     }
     Ok(())
 }

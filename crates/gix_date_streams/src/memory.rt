@@ -113,8 +113,8 @@ fn a_moment_is_read_without_memory(rt: HostRuntime) -> Result<(), Fail> {
     let words = words_of(rt.alloc(), &["parse", "x"])?;
     let dated = words_of(rt.alloc(), &["parse", "0 +0000"])?;
     let blocks = take_all(rt.alloc())?;
-    let answer = command(words.as_slice());
-    let due = command(dated.as_slice());
+    let answer = command(rt.alloc(), words.as_slice());
+    let due = command(rt.alloc(), dated.as_slice());
     let (ended, _source, sink, said) = executed(
         rt.alloc(),
         words.as_slice(),
@@ -128,8 +128,8 @@ fn a_moment_is_read_without_memory(rt: HostRuntime) -> Result<(), Fail> {
               such as \"2022-08-18 12:45:06 +0800\" or \"1660874655 +0800\"\n",
         );
     drop(blocks);
-    assert_eq!(rt; answer, None);
-    assert_eq!(rt; due, Some((Mode::Parse, Some(Time::new(0, 0)))));
+    assert_eq!(rt; answer?, None);
+    assert_eq!(rt; due?, Some((Mode::Parse, Some(Time::new(0, 0)))));
     assert_eq!(rt; ended, Status::Usage);
     assert!(rt; told, "no-memory");
     Ok(())

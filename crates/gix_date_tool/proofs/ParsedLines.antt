@@ -1,9 +1,11 @@
 -- The reply to a line that is parsed as a time is its header text.
 use Rattle.std.proofs.Common.{◌≡◌, ◌∙◌, ℕ, List, Bool, true, false, cond, Option, Some, None, Result, Ok, Err, refl, sym, ap, subst, inl, inr}
 use Rattle.std.specs.Prelude.{is_some, IsSome, nat_lt, unsigned_abs}
+use Rattle.std.specs.Option.{option_map_or}
 use Rattle.std.specs.Str.{is_utf8}
 use Rattle.jiff.specs.declared.zoned.Zoned.{Zoned}
 use Rattle.gix_date.specs.Families.Order.{first_family, ParseNoAllocOutcome}
+use Rattle.gix_date.specs.Header.Canonical.{is_canonical_header}
 use Rattle.gix_date.specs.Header.Reading.{header_time}
 use Rattle.gix_date.specs.Header.Text.{header_text, written_text, hundred_hours}
 use Rattle.gix_date.specs.declared.error.ParseError.{ParseError}
@@ -15,8 +17,8 @@ use Rattle.gix_date.proofs.Families.Ranges.{outcome-written}
 use Rattle.gix_date_tool.specs.declared.arguments.Mode.{Mode}
 use Rattle.gix_date_tool.specs.declared.arguments.Mode.TheVariants.{Check, Parse, Sign}
 use Rattle.gix_date_tool.specs.declared.replies.Asked.{Asked}
-use Rattle.gix_date_tool.specs.declared.replies.Reply.TheVariants.{Canonical, Read, Parsed}
-use Rattle.gix_date_tool.specs.Replies.{IsReply, IsReplyTo, IsTextReply, is_header_text_of, check_reply, parse_reply, ParsedLines}
+use Rattle.gix_date_tool.specs.declared.replies.Reply.TheVariants.{Canonical, Read, NoTime, Parsed}
+use Rattle.gix_date_tool.specs.Replies.{IsReply, IsReplyTo, IsTextReply, parse_reply, ParsedLines}
 
 -- where a time has a header text, it is what is written of the time
 pub written-is : (t : Time) → IsSome (header_text t) → header_text t ≡ Some (written_text t)
@@ -32,13 +34,10 @@ pub text-written : (t : Time) (text : List ℕ) → header_text t ≡ Some text 
 text-written t text e = same_some text (written_text t) (sym e ∙ written-is t (ap is_some e))
 
 -- a reply of Check is of no parsed time
-no-check : (text : List ℕ) (t : Time) (found : Option Time) → Parsed t ≡ check_reply text found → ⊥
-no-check text t None e = absurd cc
-no-check text t (Some u) e = by (is_header_text_of text u) e
-  where
-    by : (b : Bool) → Parsed t ≡ cond b Canonical (Read u) → ⊥
-    by true e = absurd cc
-    by false e = absurd cc
+no-check : (canonical : Bool) (found : Option Time) (t : Time) → Parsed t ≡ cond canonical Canonical (option_map_or Read found NoTime) → ⊥
+no-check true found t e = absurd cc
+no-check false None t e = absurd cc
+no-check false (Some u) t e = absurd cc
 
 of-result : (text : List ℕ) (now : Option Zoned) (t : Time) (result : Result Time ParseError) → ParseNoAllocOutcome (first_family text) now result
     → Parsed t ≡ parse_reply result → IsSome (header_text t)
@@ -50,7 +49,7 @@ of-result text now t (Err errors.MissingNow) h e = absurd cc
 of-result text now t (Err errors.Range) h e = absurd cc
 
 of-text : (mode : Mode) (now : Option Zoned) (text : List ℕ) (t : Time) → IsTextReply mode now text (Parsed t) → IsSome (header_text t)
-of-text Check now text t h = absurd (no-check text t (header_time text) h)
+of-text Check now text t h = absurd (no-check (is_canonical_header text) (header_time text) t h)
 of-text Parse now text t (result, outcome, e) = of-result text now t result outcome e
 of-text Sign now text t (inl h) = absurd cc
 of-text Sign now text t (inr h) = absurd cc

@@ -1,13 +1,10 @@
 -- The reply to a line, by what `parse` answers.
-use Rattle.std.proofs.Common.{◌≡◌, ◌∙◌, ℕ, List, Bool, true, false, Option, Some, None, Result, Ok, Err, sym, ap, inl, inr}
+use Rattle.std.proofs.Common.{◌≡◌, ◌∙◌, ℕ, List, Bool, true, false, Option, sym, ap, inl, inr}
 use Rattle.std.specs.Str.{is_utf8}
 use Rattle.jiff.specs.declared.zoned.Zoned.{Zoned}
 use Rattle.gix_date.proofs.Relative.Chains.{one-outcome}
-use Rattle.gix_date.specs.Families.Answer.{FamilyAnswer, Absolute, OffsetBeyond, InstantBeyond, Relative}
-use Rattle.gix_date.specs.Families.Order.{first_family, ParseNoAllocOutcome}
-use Rattle.gix_date.specs.Relative.Dates.{RelativeDate, RelativeOutcome}
-use Rattle.gix_date.specs.declared.error.ParseError.{ParseError}
-use Rattle.gix_date.specs.declared.time.Time.{Time}
+use Rattle.gix_date.specs.Families.Answer.{FamilyAnswer}
+use Rattle.gix_date.specs.Families.Order.{first_family}
 use Rattle.gix_date_tool.specs.declared.arguments.Mode.{Mode}
 use Rattle.gix_date_tool.specs.declared.arguments.Mode.TheVariants.{Check, Parse, Sign}
 use Rattle.gix_date_tool.specs.declared.replies.Asked.{Asked}

@@ -1,12 +1,14 @@
 //! What the program is asked for.
-ghost use Rattle.std.specs.Prelude.{◌≡◌, IfOk, IfSome, map, string_bytes};
+ghost use Rattle.std.specs.Prelude.{◌≡◌, IfOk, IfSome, Ok, map, string_bytes};
 ghost use Rattle.std.specs.Option.{ForSome};
 ghost use Rattle.gix_date.specs.Families.Order.{first_family};
 ghost use Rattle.gix_date.specs.Printing.Zoned.{IsConvertible};
 ghost use Rattle.gix_date_tool.specs.Messages.{no_moment_words};
 ghost use Rattle.gix_date_tool.specs.Command.{command_of, moment_or_why, IsRequest, IsRunnable};
 
+use crate::error::ToolError;
 use gix_date::{ParseError, RawOffsets, Time, parse_no_alloc};
+use std::alloc::Global;
 
 /// What [`crate::run`] replies to each line.
 #[derive(Debug, Clone, Copy, PartialEq, Eq)]
@@ -61,15 +63,16 @@ impl NoMoment {
 /// Reads the words of a command line, without the program's name: the mode, and the moment where there is one.
 ///
 /// The command lines are `check`, `parse`, `parse NOW` and `sign`, where NOW is a date that [`gix_date::parse`]
-/// reads without a moment (`1698400800 +0000`) and [`Time::to_zoned`] converts. `None` for any other: then the usage is
-/// due. A moment that is answered is one that [`crate::run`] may be given. Takes no memory.
-pub fn command(words: &[String]) -> Option<(Mode, Option<Time>)>
-    ensures answer { result ≡ command_of (map string_bytes words.now) }
-    ensures moment { IfSome result (λ both. ForSome both.1 IsConvertible) }
+/// reads without a moment (`1698400800 +0000`) and [`Time::to_zoned`] converts. `None` for any other: then the usage line
+/// is due. A moment that is answered is one that [`crate::run`] may be given. It is always `Ok`, since it asks the
+/// allocator for nothing.
+pub fn command(_alloc: Global, words: &[String]) -> Result<Option<(Mode, Option<Time>)>, ToolError>
+    ensures answer { result ≡ Ok (command_of (map string_bytes words.now)) }
+    ensures moment { IfOk result (λ asked. IfSome asked (λ both. ForSome both.1 IsConvertible)) }
 {
     match read_words(words) {
-        Request::Run(mode, now) => Some((mode, now)),
-        Request::Usage(_) => None,
+        Request::Run(mode, now) => Ok(Some((mode, now))),
+        Request::Usage(_) => Ok(None),
     }
 }
 

@@ -10,7 +10,9 @@ use crate::arguments::Mode;
 use crate::outbox::Outbox;
 use crate::signed::{SignedLine, sign};
 use gix_date::device::Sink;
-use gix_date::{ParseError, RawOffsets, Time, Zoned, is_canonical_header, parse_header, parse_no_alloc};
+use gix_date::{
+    ParseError, RawOffsets, Time, Zoned, is_canonical_header, parse_header, parse_no_alloc,
+};
 use std::{io, str};
 
 /// What is asked of each line.
