@@ -45,6 +45,8 @@ impl TimeBuf {
     }
 
     /// Puts the text of a time here and lends it, or leaves nothing here where the time has none.
+    // Apart from `to_str`: the prover shows what a buffer holds after a loan only where the result owns no memory, as an
+    // `Error` may.
     #[inline(always)]
     fn text_of(&mut self, time: &Time) -> Option<&str>
         ensures text { GivesText time.now (ok_or result OffsetTooWide) }

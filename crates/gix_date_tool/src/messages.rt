@@ -33,7 +33,8 @@ fn tell_why<M: Sink>(why: Option<NoMoment>, messages: &mut M)
     }
 }
 
-/// Says a text, given in pieces, by one call where the sink takes so many bytes. What it refuses is not said.
+/// Says a text, given in pieces, by one call where the sink takes so many bytes, so that lines of programs side by side
+/// do not mix. What the sink refuses is not said.
 fn say<M: Sink>(pieces: &[&str], messages: &mut M)
     ensures { Says (change (M.known messages.old) (M.known messages.new)) (pieces_text pieces.now) }
 {

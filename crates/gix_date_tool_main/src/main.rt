@@ -20,6 +20,7 @@ fn main(rt: HostRuntime) -> ExitCode {
             &mut messages,
         ),
         Ok(None) => show_usage(&mut writer, &mut messages),
+        // Nothing was read or written.
         Err(AllocError) => Status::Failure,
     };
     ExitCode::from(status.code())

@@ -1,4 +1,4 @@
-//! What all readers of fields stand on.
+//! What the readers of fields share. A field is read off the front of a `&str`, so each cut is at the end of a character.
 ghost use Rattle.std.specs.Prelude.{◌≡◌, ◌<◌, IfSome, option_copied};
 ghost use Rattle.gix_date.specs.Text.Characters.{has_colon};
 ghost use Rattle.gix_date.specs.Fields.Front.{skip_char};

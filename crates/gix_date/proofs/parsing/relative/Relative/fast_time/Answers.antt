@@ -3,7 +3,7 @@ use Rattle.std.proofs.lemmas.Int.{to_z-of_z}
 use Rattle.gix_date.specs.Private.Views.{relative_date_of}
 use Rattle.gix_date.specs.declared.time.Time.{Time}
 use Rattle.gix_date.proofs.Relative.FixedSteps.{named-at, none-named}
-use Rattle.gix_date.proofs.parsing.relative.Relative.time_at.Goals as goal
+use Rattle.gix_date.proofs.parsing.relative.Relative.fast_time.Goals as goal
 
 pub returns-in_err-instant-clause-named : goal.returns-in_err-instant-clause-named
 returns-in_err-instant-clause-named c =
