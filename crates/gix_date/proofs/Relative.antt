@@ -8,6 +8,7 @@ pub mod RelativeScans
 pub mod RolePlaces
 pub mod RelativeReading
 pub mod RelativeGrammar
+pub mod LetterCase
 pub mod Steps
 pub mod FixedZones
 pub mod FixedTimes

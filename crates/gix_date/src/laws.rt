@@ -10,9 +10,9 @@ use crate::parsing::dates::{parse, parse_with};
 use crate::parsing::raw::RawOffsets;
 use crate::time::Time;
 pub use families::{
-    agree, apart, comes_first, disjoint, disjoint_wide, dispatched, dispatched_by_rows, exclusive,
-    ignores_moment, one_outcome, overlapping, ranges, spelled, spelled_git, spelled_numbers,
-    trimmed, widened,
+    agree, any_case, apart, comes_first, disjoint, disjoint_wide, dispatched, dispatched_by_rows,
+    exclusive, ignores_moment, one_outcome, overlapping, ranges, spelled, spelled_git,
+    spelled_numbers, trimmed, widened,
 };
 pub use formats::{
     local_clock, named_formats, other_formats, printed, raw_read_back, raw_read_back_wide,

@@ -264,6 +264,7 @@ fn laws_are_called_for_nothing_but_what_they_state() {
     laws::exclusive("2 days ago", RawOffsets::Quarter);
     laws::overlapping();
     laws::agree("2022-08-18 12:45:06 +0800", RawOffsets::Quarter);
+    laws::any_case("2 Days Ago", RawOffsets::Quarter);
     laws::trimmed(" 5 +0000 ", RawOffsets::Quarter);
     laws::ranges("yesterday", RawOffsets::WholeMinutes);
     laws::raw_is_header("5 +0007", RawOffsets::WholeMinutes);

@@ -109,7 +109,7 @@ run_ascii : (c : ℕ) → is_ascii_alphanumeric c ≡ true → c < 128
 run_ascii c h = grind (arith, nat_tests, h)
 
 -- Words that differ in case alone say the same.
-same_class : (c : ℕ) → is_ascii_alphanumeric (to_ascii_lowercase c) ≡ is_ascii_alphanumeric c
+pub same_class : (c : ℕ) → is_ascii_alphanumeric (to_ascii_lowercase c) ≡ is_ascii_alphanumeric c
 same_class c = grind (arith, nat_tests)
 
 classes : (t : List ℕ) → list_all is_ascii_alphanumeric (str_to_ascii_lowercase t) ≡ list_all is_ascii_alphanumeric t
@@ -119,17 +119,17 @@ classes (c ∷ t) = ap₂ (λ (a b : Bool). a && b) (same_class c) (classes t)
 pub lower-same : (word name : List ℕ) → is_name word name ≡ true → str_to_ascii_lowercase word ≡ str_to_ascii_lowercase name
 lower-same word name h = (bytes_eq-Decides (str_to_ascii_lowercase word) (str_to_ascii_lowercase name)).0 h
 
-like-ago : (word name : List ℕ) → str_to_ascii_lowercase word ≡ str_to_ascii_lowercase name → is_ago word ≡ is_ago name
+pub like-ago : (word name : List ℕ) → str_to_ascii_lowercase word ≡ str_to_ascii_lowercase name → is_ago word ≡ is_ago name
 like-ago word name e = ap (λ (t : List ℕ). bytes_eq t (str_to_ascii_lowercase (codes "ago"))) e
 
-like-name : (word name other : List ℕ) → str_to_ascii_lowercase word ≡ str_to_ascii_lowercase name → is_name word other ≡ is_name name other
+pub like-name : (word name other : List ℕ) → str_to_ascii_lowercase word ≡ str_to_ascii_lowercase name → is_name word other ≡ is_name name other
 like-name word name other e = ap (λ (t : List ℕ). bytes_eq t (str_to_ascii_lowercase other)) e
 
 like-date : (word name : List ℕ) → str_to_ascii_lowercase word ≡ str_to_ascii_lowercase name → named_date name ≡ None → named_date word ≡ None
 unfolding named_date
 like-date word name e h = rw (like-name word name (codes "now") e, like-name word name (codes "today") e, like-name word name (codes "yesterday") e) h
 
-like-unit : (word name : List ℕ) → str_to_ascii_lowercase word ≡ str_to_ascii_lowercase name → named_unit word ≡ named_unit name
+pub like-unit : (word name : List ℕ) → str_to_ascii_lowercase word ≡ str_to_ascii_lowercase name → named_unit word ≡ named_unit name
 unfolding named_unit
 like-unit word name e =
     rw (
@@ -143,7 +143,7 @@ like-unit word name e =
     ) refl
 
 -- the same without a final `s`, of a word in small letters
-abbrev without_s : List ℕ → List ℕ
+abbrev pub without_s : List ℕ → List ℕ
 without_s t = cond (get_or t (length t - 1) 0 == 115) (take (length t - 1) t) t
 
 is_s : (c : ℕ) → (c == 115 || c == 83) ≡ (to_ascii_lowercase c == 115)
@@ -153,7 +153,7 @@ lower_cond : (b : Bool) (x y : List ℕ) → str_to_ascii_lowercase (cond b x y)
 lower_cond true x y = refl
 lower_cond false x y = refl
 
-lower-singular : (word : List ℕ) → str_to_ascii_lowercase (singular word) ≡ without_s (str_to_ascii_lowercase word)
+pub lower-singular : (word : List ℕ) → str_to_ascii_lowercase (singular word) ≡ without_s (str_to_ascii_lowercase word)
 unfolding singular
 lower-singular word =
     let place = length word - 1 in
@@ -164,7 +164,7 @@ lower-singular word =
     ∙ ap (λ (t : List ℕ). cond (get_or (str_to_ascii_lowercase word) place 0 == 115) t (str_to_ascii_lowercase word)) (sym (take-map to_ascii_lowercase place word))
     ∙ ap (λ (n : ℕ). cond (get_or (str_to_ascii_lowercase word) (n - 1) 0 == 115) (take (n - 1) (str_to_ascii_lowercase word)) (str_to_ascii_lowercase word)) (sym long)
 
-like-singular : (word name : List ℕ) → str_to_ascii_lowercase word ≡ str_to_ascii_lowercase name → has_unit word ≡ has_unit name
+pub like-singular : (word name : List ℕ) → str_to_ascii_lowercase word ≡ str_to_ascii_lowercase name → has_unit word ≡ has_unit name
 unfolding has_unit unit_of
 like-singular word name e = ap is_some (like-unit (singular word) (singular name) (lower-singular word ∙ ap without_s e ∙ sym (lower-singular name)))
 

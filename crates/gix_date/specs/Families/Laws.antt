@@ -1,6 +1,6 @@
 -- Which families hold texts of one another, and what follows for the answer of the first.
 use Rattle.std.specs.Prelude.{◌≡◌, ◌≢◌, ◌⊎◌, ◌≤◌, ℕ, Bool, true, false, List, length, filter, IsUtf8, Option, Some, None, is_some, IsSome, Result, Ok, unsigned_abs}
-use Rattle.std.specs.Str.{trim}
+use Rattle.std.specs.Str.{trim, str_to_ascii_lowercase}
 use Rattle.jiff.specs.declared.zoned.Zoned.{Zoned}
 use Rattle.gix_date.specs.Families.Answer.{FamilyAnswer, Absolute, Relative}
 use Rattle.gix_date.specs.Families.Epoch.{epoch_time}
@@ -94,6 +94,10 @@ AnswersWithinDay rule text =
 -- the family answers the text as it answers the text without the white space around it
 abbrev pub IgnoresSpace : OffsetRule → Family → List ℕ → Type 0
 IgnoresSpace rule family text = family_answer rule family (trim text) ≡ family_answer rule family text
+
+-- the family answers the text as it answers the text in small ASCII letters
+abbrev pub IgnoresCase : OffsetRule → Family → List ℕ → Type 0
+IgnoresCase rule family text = family_answer rule family (str_to_ascii_lowercase text) ≡ family_answer rule family text
 
 -- each time that a call with this text may answer has a header text
 abbrev pub AnswersHaveText : OffsetRule → List ℕ → Type 0

@@ -3,7 +3,7 @@ ghost use Rattle.std.specs.Prelude.{◌≡◌, None};
 ghost use Rattle.std.specs.Str.{trim};
 ghost use Rattle.gix_date.specs.Header.Reading.{header_time};
 ghost use Rattle.gix_date.specs.Families.Order.{RawText, BareEpoch, Iso8601, Iso8601Strict, GitForm, RelativeText};
-ghost use Rattle.gix_date.specs.Families.Laws.{Agree, AnswersWithinDay, AreApart, AreDisjoint, AreExclusive, AreOverlapping, ComesFirst, IsWidened, IgnoresMoment, HasOneOutcome, IgnoresSpace, Holds, AnswersHaveText};
+ghost use Rattle.gix_date.specs.Families.Laws.{Agree, AnswersWithinDay, AreApart, AreDisjoint, AreExclusive, AreOverlapping, ComesFirst, IsWidened, IgnoresMoment, HasOneOutcome, IgnoresCase, IgnoresSpace, Holds, AnswersHaveText};
 ghost use Rattle.gix_date.specs.Families.Raw.{allows, is_raw_offset, is_wide_offset, raw_time_by};
 ghost use Rattle.gix_date.specs.Families.Epoch.{at_time, epoch_time};
 ghost use Rattle.gix_date.specs.Families.Grammars.{IsAtText, IsEpochText, IsRawText};
@@ -130,4 +130,9 @@ pub fn trimmed(text: &str, raw: RawOffsets)
     ensures relative { IgnoresSpace (allows raw) RelativeText text.now }
     ensures raw_text { IgnoresSpace (allows raw) RawText text.now }
     ensures header { header_time (trim text.now) ≡ header_time text.now }
+{}
+
+/// The case of ASCII letters changes nothing that a relative text asks for.
+pub fn any_case(text: &str, raw: RawOffsets)
+    ensures { IgnoresCase (allows raw) RelativeText text.now }
 {}

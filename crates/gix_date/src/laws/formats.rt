@@ -1,5 +1,5 @@
 //! Laws of what is printed: the named formats, their texts, and what is parsed back.
-ghost use Rattle.std.specs.Prelude.{◌≡◌, ◌↔◌, ◌≤◌, ◌≤ℤ◌, ℤ, map, [], ◌∷◌, IsSomeAnd, Some};
+ghost use Rattle.std.specs.Prelude.{◌≡◌, ◌↔◌, map, [], ◌∷◌};
 ghost use Rattle.gix_date.specs.Families.Raw.{allows, is_raw_offset, is_wide_offset};
 ghost use Rattle.gix_date.specs.declared.time.format.Format.TheVariants.{Unix, Raw};
 ghost use Rattle.jiff.specs.Words.{plain_zoned};
