@@ -124,7 +124,7 @@ fn a_moment_is_read_without_memory(rt: HostRuntime) -> Result<(), Fail> {
     );
     let told = sink.is(b"usage: gix_date_tool MODE [NOW]\n")
         && said.is(
-            b"gix_date_tool: NOW is in no known date format; expected a date, \
+            b"gix_date_tool: NOW is in no known date format, or its offset is above 23:59; expected a date, \
               such as \"2022-08-18 12:45:06 +0800\" or \"1660874655 +0800\"\n",
         );
     drop(blocks);

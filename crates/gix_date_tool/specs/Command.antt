@@ -5,12 +5,13 @@ use Rattle.std.specs.Result.{result_ok, result_err}
 use Rattle.std.specs.Str.{bytes_eq}
 use Rattle.gix_date.specs.Families.Answer.{FamilyAnswer, Absolute, OffsetBeyond, InstantBeyond}
 use Rattle.gix_date.specs.Families.Answer as answers
-use Rattle.gix_date.specs.Families.Order.{first_family}
+use Rattle.gix_date.specs.Families.Order.{first_family, first_family_by}
+use Rattle.gix_date.specs.Families.Raw.{is_wide_offset}
 use Rattle.gix_date.specs.Printing.Zoned.{is_convertible, IsConvertible}
 use Rattle.gix_date.specs.declared.time.Time.{Time}
 use Rattle.gix_date_tool.specs.declared.arguments.Mode.{Mode}
 use Rattle.gix_date_tool.specs.declared.arguments.NoMoment.{NoMoment}
-use Rattle.gix_date_tool.specs.declared.arguments.NoMoment.TheVariants.{UnknownFormat, DateConversion, Relative, Conversion}
+use Rattle.gix_date_tool.specs.declared.arguments.NoMoment.TheVariants.{UnknownFormat, RawOffset, DateConversion, Relative, Conversion}
 use Rattle.gix_date_tool.specs.declared.arguments.Request.{Request}
 use Rattle.gix_date_tool.specs.declared.arguments.Request.TheVariants.{Run, Usage}
 use Rattle.gix_date_tool.specs.declared.arguments.Mode.TheVariants.{Check, Parse, Sign}
@@ -23,13 +24,22 @@ mode_of word =
     else if bytes_eq word (codes "sign") then Some Sign
     else None
 
--- the time that a text is a moment of, where a family says one that converts, or why there is none
-abbrev pub moment_or_why : Option FamilyAnswer → Result Time NoMoment
-moment_or_why None = Err UnknownFormat
-moment_or_why (Some (Absolute t)) = if is_convertible t then Ok t else Err Conversion
-moment_or_why (Some OffsetBeyond) = Err UnknownFormat
-moment_or_why (Some InstantBeyond) = Err DateConversion
-moment_or_why (Some (answers.Relative date)) = Err Relative
+-- Why a text that is not read is no moment. By the rule of whole minutes it would be a time, or not.
+abbrev pub why_unread : Option FamilyAnswer → NoMoment
+why_unread (Some (Absolute t)) = RawOffset
+why_unread _ = UnknownFormat
+
+-- the time that an answer gives, where it converts, or why there is none; why a text is not read, is given
+abbrev pub moment_by : NoMoment → Option FamilyAnswer → Result Time NoMoment
+moment_by unread None = Err unread
+moment_by unread (Some (Absolute t)) = if is_convertible t then Ok t else Err Conversion
+moment_by unread (Some OffsetBeyond) = Err unread
+moment_by unread (Some InstantBeyond) = Err DateConversion
+moment_by unread (Some (answers.Relative date)) = Err Relative
+
+-- the time that a text is a moment of, or why there is none
+abbrev pub moment_or_why : List ℕ → Result Time NoMoment
+moment_or_why now = moment_by (why_unread (first_family_by is_wide_offset now)) (first_family now)
 
 -- one word, which names a mode, or `parse` and a moment
 abbrev pub command_of : List (List ℕ) → Option (Mode × Option Time)
@@ -37,13 +47,13 @@ command_of [] = None
 command_of (word ∷ []) = option_map (λ mode. (mode, None)) (mode_of word)
 command_of (word ∷ now ∷ []) =
     if bytes_eq word (codes "parse")
-    then option_map (λ t. (Parse, Some t)) (result_ok (moment_or_why (first_family now))) else None
+    then option_map (λ t. (Parse, Some t)) (result_ok (moment_or_why now)) else None
 command_of (word ∷ now ∷ next ∷ more) = None
 
 -- why the second of two words is no moment, where the first is `parse`
 abbrev pub no_moment : List (List ℕ) → Option NoMoment
 no_moment (word ∷ now ∷ []) =
-    if bytes_eq word (codes "parse") then result_err (moment_or_why (first_family now)) else None
+    if bytes_eq word (codes "parse") then result_err (moment_or_why now) else None
 no_moment _ = None
 
 -- The request asks for the same, and says why NOW is no moment where the usage line is due.

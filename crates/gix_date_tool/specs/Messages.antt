@@ -4,7 +4,7 @@ use Rattle.std.specs.Option.{option_map}
 use Rattle.gix_date.specs.Text.Characters.{newline}
 use Rattle.gix_date.specs.Devices.Known.{Takes, TakesProperPrefix}
 use Rattle.gix_date_tool.specs.declared.arguments.NoMoment.{NoMoment}
-use Rattle.gix_date_tool.specs.declared.arguments.NoMoment.TheVariants.{UnknownFormat, DateConversion, Relative, Conversion}
+use Rattle.gix_date_tool.specs.declared.arguments.NoMoment.TheVariants.{UnknownFormat, RawOffset, DateConversion, Relative, Conversion}
 use Rattle.gix_date_tool.specs.declared.error.ToolError.{ToolError}
 use Rattle.gix_date_tool.specs.declared.error.ToolError.TheVariants as errors
 use Rattle.gix_date_tool.specs.declared.end.End.{End}
@@ -28,7 +28,8 @@ cause_words _ = []
 
 -- why NOW is no moment
 abbrev pub no_moment_words : NoMoment → List ℕ
-no_moment_words UnknownFormat = codes "NOW is in no known date format; expected a date, such as \"2022-08-18 12:45:06 +0800\" or \"1660874655 +0800\""
+no_moment_words UnknownFormat = codes "NOW is in no known date format, or its offset is above 23:59; expected a date, such as \"2022-08-18 12:45:06 +0800\" or \"1660874655 +0800\""
+no_moment_words RawOffset = codes "NOW has an offset that a raw date may not have; expected at most 14:45, and 00, 15, 30 or 45 minutes"
 no_moment_words DateConversion = codes "NOW is beyond the last instant that can be computed with"
 no_moment_words Relative = codes "NOW is a relative date, and has no moment to count from"
 no_moment_words Conversion = codes "NOW is too far from 1970"

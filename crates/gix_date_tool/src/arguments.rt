@@ -1,10 +1,11 @@
 //! What the program is asked for.
 ghost use Rattle.std.specs.Prelude.{◌≡◌, IfOk, IfSome, Ok, map, string_bytes};
 ghost use Rattle.std.specs.Option.{ForSome};
-ghost use Rattle.gix_date.specs.Families.Order.{first_family};
+ghost use Rattle.gix_date.specs.Families.Order.{first_family_by};
+ghost use Rattle.gix_date.specs.Families.Raw.{is_wide_offset};
 ghost use Rattle.gix_date.specs.Printing.Zoned.{IsConvertible};
 ghost use Rattle.gix_date_tool.specs.Messages.{no_moment_words};
-ghost use Rattle.gix_date_tool.specs.Command.{command_of, moment_or_why, IsRequest, IsRunnable};
+ghost use Rattle.gix_date_tool.specs.Command.{command_of, moment_or_why, why_unread, IsRequest, IsRunnable};
 
 use crate::error::ToolError;
 use gix_date::{ParseError, RawOffsets, Time, parse_no_alloc};
@@ -35,6 +36,8 @@ pub(crate) enum Request {
 pub(crate) enum NoMoment {
     /// No form that a date may have holds it, or its offset is above what a formatted date may have.
     UnknownFormat,
+    /// It is raw, or an at text, but for an offset that is no quarter of an hour or above 14:45.
+    RawOffset,
     /// It is a day without an instant.
     DateConversion,
     /// It is relative to a moment.
@@ -50,8 +53,12 @@ impl NoMoment {
     {
         match self {
             NoMoment::UnknownFormat => {
-                "NOW is in no known date format; expected a date, \
+                "NOW is in no known date format, or its offset is above 23:59; expected a date, \
                  such as \"2022-08-18 12:45:06 +0800\" or \"1660874655 +0800\""
+            }
+            NoMoment::RawOffset => {
+                "NOW has an offset that a raw date may not have; \
+                 expected at most 14:45, and 00, 15, 30 or 45 minutes"
             }
             NoMoment::DateConversion => "NOW is beyond the last instant that can be computed with",
             NoMoment::Relative => "NOW is a relative date, and has no moment to count from",
@@ -95,16 +102,26 @@ pub(crate) fn read_words(words: &[String]) -> Request
 
 /// The time that a text is a moment of, or why it is none.
 fn moment(text: &str) -> Result<Time, NoMoment>
-    ensures answer { result ≡ moment_or_why (first_family text.now) }
+    ensures answer { result ≡ moment_or_why text.now }
     ensures converts { IfOk result IsConvertible }
 {
     match parse_no_alloc(text, None, RawOffsets::Quarter) {
         Ok(time) if time.to_zoned().is_ok() => Ok(time),
         Ok(_) => Err(NoMoment::Conversion),
-        Err(ParseError::UnknownFormat) => Err(NoMoment::UnknownFormat),
+        Err(ParseError::UnknownFormat) => Err(why_unread(text)),
         Err(ParseError::DateConversion) => Err(NoMoment::DateConversion),
         Err(ParseError::MissingNow) => Err(NoMoment::Relative),
         // Without a moment nothing leads out of the range.
         Err(ParseError::Range) => unreachable!(),
+    }
+}
+
+/// Why a text that is not read is no moment.
+fn why_unread(text: &str) -> NoMoment
+    ensures { result ≡ why_unread (first_family_by is_wide_offset text.now) }
+{
+    match parse_no_alloc(text, None, RawOffsets::WholeMinutes) {
+        Ok(_) => NoMoment::RawOffset,
+        Err(_) => NoMoment::UnknownFormat,
     }
 }
