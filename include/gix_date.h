@@ -51,8 +51,8 @@ enum gix_date_status {
     GIX_DATE_MISSING_NOW = 7,
     /* The relative text names an instant that cannot be computed. */
     GIX_DATE_RANGE = 8,
-    /* The moment is outside -377705023201 to 253402207200 seconds, or its nanoseconds are outside
-     * -999999999 to 999999999. */
+    /* The seconds of the moment are outside -377705023201 to 253402207200, its nanoseconds are
+     * outside -999999999 to 999999999, or their sum is before the first instant. */
     GIX_DATE_INVALID_INSTANT = 9,
     /* The offset is beyond 25:59:59, or the rule or the file of the zone cannot be read. */
     GIX_DATE_INVALID_ZONE = 10,
@@ -133,9 +133,9 @@ bool gix_date_is_canonical_header(const uint8_t *text, size_t text_len);
 uint32_t gix_date_write_header(const gix_date_time *time, uint8_t *out, size_t out_len,
                                size_t *len);
 
-/* Parses a date in one of the forms that docs/CALLING.md lists, by a rule of enum
- * gix_date_raw_offsets. A date that is relative
- * ("2 days ago") is refused, since there is no moment that it counts from.
+/* Parses a date in one of the forms that docs/SPECIFICATION.md lists, by a rule of enum
+ * gix_date_raw_offsets. A date that is relative ("2 days ago") is refused, since there is no moment
+ * that it counts from.
  * GIX_DATE_NO_SUCH_OPTION, GIX_DATE_NOT_TEXT, GIX_DATE_UNKNOWN_FORMAT, GIX_DATE_DATE_CONVERSION,
  * GIX_DATE_MISSING_NOW. */
 uint32_t gix_date_parse(const uint8_t *text, size_t text_len, uint32_t raw_offsets,
