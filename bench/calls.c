@@ -9,10 +9,10 @@ static const gix_date_instant now = {1698400800, 0};
 static const gix_date_time day = {1660797906, 28800};
 
 /* One call, by the letter of its kind. */
-static uint32_t call(char kind, uint32_t format, const uint8_t *text, size_t len)
+static uint32_t call(char kind, uint32_t format, const char *text, size_t len)
 {
     gix_date_time time;
-    uint8_t out[64];
+    char out[64];
     size_t out_len;
     switch (kind) {
     case 'h':
@@ -40,7 +40,7 @@ int main(int count, char **words)
     size_t len = strlen(words[2]);
     uint32_t status = 0;
     for (long i = strtol(words[3], NULL, 10); i > 0; i--)
-        status |= call(kind, format, (const uint8_t *)words[2], len);
+        status |= call(kind, format, words[2], len);
     printf("%u\n", (unsigned)status);
     return 0;
 }

@@ -1,7 +1,8 @@
 /* Git's times for C and C++: commit headers, dates, signature lines and printed times.
  *
  * Each call is proved to do what docs/C.md says of it, for every input, as long as its pointers and
- * lengths are valid. It is a static library; docs/C.md tells how to build and link it.
+ * lengths are valid. docs/C.md tells how to build and link the library. It is for Linux with glibc
+ * on x86-64 processors.
  *
  * Texts are bytes, given by a pointer and a length, and need no NUL at their end. They have to be
  * UTF-8, and are refused by GIX_DATE_NOT_TEXT where they are not. Pointers and lengths have to be
@@ -70,6 +71,49 @@ enum gix_date_status {
     GIX_DATE_BAD_PART = 16
 };
 
+/* What a status means, in words for a person, in English; "unknown status" for another number. */
+static inline const char *gix_date_status_text(uint32_t status)
+{
+    switch (status) {
+    case GIX_DATE_OK:
+        return "done";
+    case GIX_DATE_NOT_TEXT:
+        return "the bytes are not UTF-8";
+    case GIX_DATE_NO_SUCH_OPTION:
+        return "there is no format or rule of this number";
+    case GIX_DATE_NO_ROOM:
+        return "the buffer is too short for the text";
+    case GIX_DATE_INVALID_TIME:
+        return "not a time: expected seconds since 1970, perhaps an offset such as +0100, and no colon";
+    case GIX_DATE_UNKNOWN_FORMAT:
+        return "no known date format";
+    case GIX_DATE_DATE_CONVERSION:
+        return "the date is beyond the last instant that can be computed with";
+    case GIX_DATE_MISSING_NOW:
+        return "a relative date needs a moment to count from, and none was given";
+    case GIX_DATE_RANGE:
+        return "the relative date leads to an instant that cannot be computed with";
+    case GIX_DATE_INVALID_INSTANT:
+        return "the moment is no instant that can be computed with";
+    case GIX_DATE_INVALID_ZONE:
+        return "the zone of the moment cannot be read, or its offset is beyond 25:59:59";
+    case GIX_DATE_CONVERSION:
+        return "the time is too far from 1970, or its offset from UTC is beyond 25:59:59";
+    case GIX_DATE_OFFSET_TOO_WIDE:
+        return "an offset of 100 hours or more from UTC cannot be written";
+    case GIX_DATE_PATTERN:
+        return "the pattern cannot be printed";
+    case GIX_DATE_OUT_OF_MEMORY:
+        return "out of memory";
+    case GIX_DATE_NO_SIGNATURE:
+        return "not a signature line: expected a name, <, a mail, > and a time";
+    case GIX_DATE_BAD_PART:
+        return "a name or a mail holds <, >, a newline or NUL";
+    default:
+        return "unknown status";
+    }
+}
+
 /* Which offsets a raw text ("1660797906 +0800") may have. */
 enum gix_date_raw_offsets {
     GIX_DATE_QUARTERS = 0,     /* quarters of an hour up to 14:45 */
@@ -120,17 +164,17 @@ uint32_t gix_date_version(void);
 
 /* Reads the time of a commit header, "1660797906 +0800", leniently as gix-date does: "12abc" is 12,
  * 0. GIX_DATE_NOT_TEXT, GIX_DATE_INVALID_TIME. */
-uint32_t gix_date_parse_header(const uint8_t *text, size_t text_len, gix_date_time *time);
+uint32_t gix_date_parse_header(const char *text, size_t text_len, gix_date_time *time);
 
 /* Whether a text comes back byte for byte when it is read as a header and written: whether it is as
  * Git writes it. */
-bool gix_date_is_canonical_header(const uint8_t *text, size_t text_len);
+bool gix_date_is_canonical_header(const char *text, size_t text_len);
 
 /* Puts the text of a time in a commit header at the front of a buffer, and its length into *len.
  * The rest of the buffer is as it was. Seconds beyond the whole minutes of the offset are dropped.
  * GIX_DATE_NO_ROOM, and then *len is the length that the buffer needs, at most GIX_DATE_MAX_HEADER;
  * GIX_DATE_OFFSET_TOO_WIDE, and then *len is 0. */
-uint32_t gix_date_write_header(const gix_date_time *time, uint8_t *out, size_t out_len,
+uint32_t gix_date_write_header(const gix_date_time *time, char *out, size_t out_len,
                                size_t *len);
 
 /* Parses a date in one of the forms that docs/SPECIFICATION.md lists, by a rule of enum
@@ -138,62 +182,62 @@ uint32_t gix_date_write_header(const gix_date_time *time, uint8_t *out, size_t o
  * that it counts from.
  * GIX_DATE_NO_SUCH_OPTION, GIX_DATE_NOT_TEXT, GIX_DATE_UNKNOWN_FORMAT, GIX_DATE_DATE_CONVERSION,
  * GIX_DATE_MISSING_NOW. */
-uint32_t gix_date_parse(const uint8_t *text, size_t text_len, uint32_t raw_offsets,
+uint32_t gix_date_parse(const char *text, size_t text_len, uint32_t raw_offsets,
                         gix_date_time *time);
 
 /* The same for a text that may be relative to the moment now, in the zone that always has this
  * offset. GIX_DATE_INVALID_ZONE, GIX_DATE_INVALID_INSTANT; GIX_DATE_NO_SUCH_OPTION,
  * GIX_DATE_NOT_TEXT, GIX_DATE_UNKNOWN_FORMAT, GIX_DATE_DATE_CONVERSION, GIX_DATE_RANGE. */
-uint32_t gix_date_parse_at_offset(const uint8_t *text, size_t text_len, uint32_t raw_offsets,
+uint32_t gix_date_parse_at_offset(const char *text, size_t text_len, uint32_t raw_offsets,
                                   const gix_date_instant *now, int32_t offset, gix_date_time *time);
 
 /* The same in the zone of a POSIX rule, "EST5EDT,M3.2.0,M11.1.0". The statuses are those of
  * gix_date_parse_at_offset. */
-uint32_t gix_date_parse_in_posix_zone(const uint8_t *text, size_t text_len, uint32_t raw_offsets,
-                                      const gix_date_instant *now, const uint8_t *rule,
+uint32_t gix_date_parse_in_posix_zone(const char *text, size_t text_len, uint32_t raw_offsets,
+                                      const gix_date_instant *now, const char *rule,
                                       size_t rule_len, gix_date_time *time);
 
 /* The same in the zone of a TZif file, as those in /usr/share/zoneinfo, by its bytes. Takes memory
  * for the zone. The statuses are those of gix_date_parse_at_offset, and GIX_DATE_OUT_OF_MEMORY. */
-uint32_t gix_date_parse_in_tzif_zone(const uint8_t *text, size_t text_len, uint32_t raw_offsets,
-                                     const gix_date_instant *now, const uint8_t *file,
+uint32_t gix_date_parse_in_tzif_zone(const char *text, size_t text_len, uint32_t raw_offsets,
+                                     const gix_date_instant *now, const void *file,
                                      size_t file_len, gix_date_time *time);
 
 /* Puts the text of a time in a format of enum gix_date_named_format at the front of a buffer, and
  * its length into *len. The rest of the buffer is as it was. Takes memory for the text.
  * GIX_DATE_NO_ROOM, and then *len is the length that the buffer needs; GIX_DATE_NO_SUCH_OPTION,
  * GIX_DATE_CONVERSION, GIX_DATE_OFFSET_TOO_WIDE, GIX_DATE_OUT_OF_MEMORY, and then *len is 0. */
-uint32_t gix_date_format(const gix_date_time *time, uint32_t format, uint8_t *out, size_t out_len,
+uint32_t gix_date_format(const gix_date_time *time, uint32_t format, char *out, size_t out_len,
                          size_t *len);
 
 /* The same, with the seconds in decimal for a time that has no text in that format.
  * GIX_DATE_NO_ROOM, GIX_DATE_NO_SUCH_OPTION, GIX_DATE_OUT_OF_MEMORY. */
-uint32_t gix_date_format_or_unix(const gix_date_time *time, uint32_t format, uint8_t *out,
+uint32_t gix_date_format_or_unix(const gix_date_time *time, uint32_t format, char *out,
                                  size_t out_len, size_t *len);
 
 /* Puts the text of a time by a pattern of strftime, as jiff has its directives, at the front of a
  * buffer. Takes memory for it. GIX_DATE_NO_ROOM, GIX_DATE_NOT_TEXT, GIX_DATE_CONVERSION,
  * GIX_DATE_PATTERN, GIX_DATE_OUT_OF_MEMORY; *len as in gix_date_format. */
-uint32_t gix_date_format_by_pattern(const gix_date_time *time, const uint8_t *pattern,
-                                    size_t pattern_len, uint8_t *out, size_t out_len, size_t *len);
+uint32_t gix_date_format_by_pattern(const gix_date_time *time, const char *pattern,
+                                    size_t pattern_len, char *out, size_t out_len, size_t *len);
 
 /* The same, with the seconds in decimal for a time that has no text by that pattern.
  * GIX_DATE_NO_ROOM, GIX_DATE_NOT_TEXT, GIX_DATE_OUT_OF_MEMORY. */
-uint32_t gix_date_format_by_pattern_or_unix(const gix_date_time *time, const uint8_t *pattern,
-                                            size_t pattern_len, uint8_t *out, size_t out_len,
+uint32_t gix_date_format_by_pattern_or_unix(const gix_date_time *time, const char *pattern,
+                                            size_t pattern_len, char *out, size_t out_len,
                                             size_t *len);
 
 /* Cuts a signature line, without its newline, into its parts: "A U Thor <author@example.com>
  * 1660797906 +0800". The time is read by gix_date_parse_header. GIX_DATE_NOT_TEXT,
  * GIX_DATE_NO_SIGNATURE. */
-uint32_t gix_date_cut_signature(const uint8_t *line, size_t line_len, gix_date_signature *parts);
+uint32_t gix_date_cut_signature(const char *line, size_t line_len, gix_date_signature *parts);
 
 /* Puts the signature line of a name, a mail and a time at the front of a buffer, without a newline,
  * and its length into *len. The rest of the buffer is as it was. GIX_DATE_NO_ROOM, and then *len is
  * the length that the buffer needs; GIX_DATE_NOT_TEXT, GIX_DATE_BAD_PART, GIX_DATE_OFFSET_TOO_WIDE,
  * and then *len is 0. */
-uint32_t gix_date_write_signature(const uint8_t *name, size_t name_len, const uint8_t *mail,
-                                  size_t mail_len, const gix_date_time *time, uint8_t *out,
+uint32_t gix_date_write_signature(const char *name, size_t name_len, const char *mail,
+                                  size_t mail_len, const gix_date_time *time, char *out,
                                   size_t out_len, size_t *len);
 
 #ifdef __cplusplus

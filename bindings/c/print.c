@@ -16,8 +16,7 @@ int main(void)
         for (size_t i = 0; i <= last; i++) {
             char text[64];
             size_t len;
-            if (gix_date_format(&time, formats[i], (uint8_t *)text, sizeof text, &len) !=
-                GIX_DATE_OK)
+            if (gix_date_format(&time, formats[i], text, sizeof text, &len) != GIX_DATE_OK)
                 return 1;
             printf("%.*s%c", (int)len, text, i < last ? '|' : '\n');
         }

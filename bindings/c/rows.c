@@ -69,7 +69,7 @@ static const struct {
 };
 
 #define LENGTH(array) (sizeof(array) / sizeof *(array))
-#define TEXT(field) (const uint8_t *)(field).bytes, (field).len
+#define TEXT(field) (field).bytes, (field).len
 
 /* Calls that other callers of the rows have, and this library has not. */
 static const char *const lacking[] = {"to_zoned", "now_local"};
@@ -289,7 +289,7 @@ static bool print(arguments *row, bool by_pattern, answer *told)
     if (!take_time(row, &time))
         return false;
     answer always = {false, "", 0}, seconds = {false, "", 0};
-    uint8_t *out = (uint8_t *)told->bytes, *other = (uint8_t *)always.bytes;
+    char *out = told->bytes, *other = always.bytes;
     uint32_t status = 0, also = 0;
     bool is_known = by_pattern;
     if (by_pattern) {
@@ -337,7 +337,7 @@ static void signature_time(field line, answer *told)
     gix_date_time time = {0, 0};
     if (is_refused(gix_date_cut_signature(TEXT(line), &parts), told))
         return;
-    const uint8_t *start = (const uint8_t *)line.bytes + parts.time.start;
+    const char *start = line.bytes + parts.time.start;
     uint32_t status = gix_date_parse_header(start, parts.time.len, &time);
     tell_time(status, time, told);
 }
@@ -348,7 +348,7 @@ static bool write_signature(arguments *row, answer *told)
     gix_date_time time;
     if (!take_time(row, &time))
         return false;
-    uint8_t *out = (uint8_t *)told->bytes;
+    char *out = told->bytes;
     is_refused(gix_date_write_signature(TEXT(name), TEXT(mail), &time, out, MAX_ANSWER, &told->len),
                told);
     return true;
@@ -359,7 +359,7 @@ static bool header_text(arguments *row, answer *told)
     gix_date_time time;
     if (!take_time(row, &time))
         return false;
-    is_refused(gix_date_write_header(&time, (uint8_t *)told->bytes, MAX_ANSWER, &told->len), told);
+    is_refused(gix_date_write_header(&time, told->bytes, MAX_ANSWER, &told->len), told);
     return true;
 }
 

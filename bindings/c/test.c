@@ -42,8 +42,8 @@ static atomic_int failures;
     } while (0)
 
 /* A text and its length. */
-#define TEXT(text) (const uint8_t *)(text), strlen(text)
-#define BYTES(bytes) (const uint8_t *)(bytes), sizeof(bytes) - 1
+#define TEXT(text) (text), strlen(text)
+#define BYTES(bytes) (bytes), sizeof(bytes) - 1
 
 /* What no call stores. */
 static const gix_date_time untouched = {-77, -7};
@@ -113,13 +113,13 @@ static void written_headers(void)
         char *buffer = malloc(room + 1);
         memset(buffer, '#', room + 1);
         size_t len = 99, before = requests;
-        uint32_t status = gix_date_write_header(&least, (uint8_t *)buffer, room, &len);
+        uint32_t status = gix_date_write_header(&least, buffer, room, &len);
         EXPECT(requests == before, "memory was asked for");
         EXPECT(len == GIX_DATE_MAX_HEADER, "%zu", len);
         EXPECT(status == (room < 26 ? GIX_DATE_NO_ROOM : GIX_DATE_OK), "%zu: %u", room, status);
         EXPECT(room < 26 ? is_untouched(buffer, room + 1) : holds(buffer, room + 1, text, len),
                "%zu", room);
-        EXPECT(gix_date_write_header(&wide, (uint8_t *)buffer, room, &len) ==
+        EXPECT(gix_date_write_header(&wide, buffer, room, &len) ==
                    GIX_DATE_OFFSET_TOO_WIDE,
                "%zu", room);
         EXPECT(len == 0, "%zu", len);
@@ -248,7 +248,7 @@ static void zone_files(void)
     size_t taken = requests - before;
     time = untouched;
     for (size_t len = 0; len < sizeof zone_file - 1; len++)
-        EXPECT(gix_date_parse_in_tzif_zone(TEXT("now"), 0, &now, (const uint8_t *)zone_file, len,
+        EXPECT(gix_date_parse_in_tzif_zone(TEXT("now"), 0, &now, zone_file, len,
                                            &time) == GIX_DATE_INVALID_ZONE,
                "a file of %zu bytes", len);
     refuses = true;
@@ -260,7 +260,7 @@ static void zone_files(void)
            "a refusal stores nothing");
 }
 
-typedef uint32_t formatter(const gix_date_time *, uint32_t, uint8_t *, size_t, size_t *);
+typedef uint32_t formatter(const gix_date_time *, uint32_t, char *, size_t, size_t *);
 
 static void formats(formatter *format)
 {
@@ -281,7 +281,7 @@ static void formats(formatter *format)
             char *buffer = malloc(room + 1);
             memset(buffer, '#', room + 1);
             size_t len = 99;
-            uint32_t status = format(&time, i, (uint8_t *)buffer, room, &len);
+            uint32_t status = format(&time, i, buffer, room, &len);
             bool fits = room >= strlen(texts[i]);
             EXPECT(status == (fits ? GIX_DATE_OK : GIX_DATE_NO_ROOM) && len == strlen(texts[i]),
                    "%s: %u", texts[i], status);
@@ -293,11 +293,11 @@ static void formats(formatter *format)
     char buffer[64];
     size_t len = 99;
     memset(buffer, '#', sizeof buffer);
-    EXPECT(format(&time, 9, (uint8_t *)buffer, sizeof buffer, &len) == GIX_DATE_NO_SUCH_OPTION &&
+    EXPECT(format(&time, 9, buffer, sizeof buffer, &len) == GIX_DATE_NO_SUCH_OPTION &&
                len == 0,
            "format 9");
     refuses = true;
-    EXPECT(format(&time, GIX_DATE_ISO8601, (uint8_t *)buffer, sizeof buffer, &len) ==
+    EXPECT(format(&time, GIX_DATE_ISO8601, buffer, sizeof buffer, &len) ==
                GIX_DATE_OUT_OF_MEMORY,
            "no memory");
     refuses = false;
@@ -308,7 +308,7 @@ static void refused_formats(void)
 {
     static const gix_date_time wide = {5, 360000}, far = {INT64_MAX, 0}, day = {1660797906, 28800};
     char buffer[64];
-    uint8_t *out = (uint8_t *)buffer;
+    char *out = buffer;
     size_t len;
     memset(buffer, '#', sizeof buffer);
     EXPECT(gix_date_format(&wide, GIX_DATE_RAW, out, sizeof buffer, &len) ==
@@ -353,7 +353,7 @@ static void patterns_without_memory(void)
 {
     static const gix_date_time day = {1660797906, 28800};
     char buffer[64];
-    uint8_t *out = (uint8_t *)buffer;
+    char *out = buffer;
     size_t len = 99, len_or_unix = 99;
     memset(buffer, '#', sizeof buffer);
     refuses = true;
@@ -396,7 +396,7 @@ static void signatures(void)
         memset(buffer, '#', room + 1);
         size_t len = 99;
         uint32_t status = gix_date_write_signature(TEXT("A U Thor"), TEXT("author@example.com"),
-                                                   &time, (uint8_t *)buffer, room, &len);
+                                                   &time, buffer, room, &len);
         EXPECT(status == (room < wanted ? GIX_DATE_NO_ROOM : GIX_DATE_OK) && len == wanted,
                "%zu: %u", room, status);
         EXPECT(room < wanted ? is_untouched(buffer, room + 1) : holds(buffer, room + 1, line, len),
@@ -404,7 +404,7 @@ static void signatures(void)
         free(buffer);
     }
     char buffer[64];
-    uint8_t *out = (uint8_t *)buffer;
+    char *out = buffer;
     size_t len = 99;
     memset(buffer, '#', sizeof buffer);
     EXPECT(gix_date_write_signature(TEXT("A>"), TEXT("a"), &time, out, sizeof buffer, &len) ==
@@ -444,7 +444,7 @@ static void *reads_and_formats(void *unused)
         char buffer[64];
         size_t len;
         static const gix_date_time time = {1660797906, 28800};
-        EXPECT(gix_date_format(&time, GIX_DATE_ISO8601, (uint8_t *)buffer, sizeof buffer, &len) ==
+        EXPECT(gix_date_format(&time, GIX_DATE_ISO8601, buffer, sizeof buffer, &len) ==
                    GIX_DATE_OK,
                "a thread");
         EXPECT(len == 25 && memcmp(buffer, "2022-08-18 12:45:06 +0800", 25) == 0, "a thread");
@@ -471,9 +471,39 @@ static void version(void)
     EXPECT(number == GIX_DATE_VERSION_NUMBER && strcmp(text, GIX_DATE_VERSION) == 0, "%s", text);
 }
 
+/* Each status has words of its own, and a number that is no status has none. */
+static void status_texts(void)
+{
+    static const char *const texts[] = {
+        "done",
+        "the bytes are not UTF-8",
+        "there is no format or rule of this number",
+        "the buffer is too short for the text",
+        "not a time: expected seconds since 1970, perhaps an offset such as +0100, and no colon",
+        "no known date format",
+        "the date is beyond the last instant that can be computed with",
+        "a relative date needs a moment to count from, and none was given",
+        "the relative date leads to an instant that cannot be computed with",
+        "the moment is no instant that can be computed with",
+        "the zone of the moment cannot be read, or its offset is beyond 25:59:59",
+        "the time is too far from 1970, or its offset from UTC is beyond 25:59:59",
+        "an offset of 100 hours or more from UTC cannot be written",
+        "the pattern cannot be printed",
+        "out of memory",
+        "not a signature line: expected a name, <, a mail, > and a time",
+        "a name or a mail holds <, >, a newline or NUL",
+        "unknown status",
+    };
+    const uint32_t unknown = sizeof texts / sizeof *texts - 1;
+    for (uint32_t status = 0; status <= unknown; status++)
+        EXPECT(strcmp(gix_date_status_text(status), texts[status]) == 0, "%u", (unsigned)status);
+    EXPECT(strcmp(gix_date_status_text(UINT32_MAX), texts[unknown]) == 0, "the greatest number");
+}
+
 int main(void)
 {
     version();
+    status_texts();
     without_memory(headers, "headers");
     without_memory(null_pointers, "texts at NULL");
     without_memory(dates, "dates");
