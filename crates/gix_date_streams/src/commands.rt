@@ -100,10 +100,14 @@ fn each_kind_of_fault_is_called_as_the_standard_library_has_it(
     rt: HostRuntime,
 ) -> Result<(), Fail> {
     for kind in KINDS {
+        let more = match kind {
+            ErrorKind::Uncategorized => ", as of a closed stream",
+            _ => "",
+        };
         let (ended, said) = ended_with(&rt, kind, 1 << 10)?;
-        let line = format!(in rt.alloc(); "gix_date_tool: reading failed: {kind}\n")?;
+        let line = format!(in rt.alloc(); "gix_date_tool: reading failed: {kind}{more}\n")?;
         let text = format!(in rt.alloc(); "{}", ToolError::Write(kind))?;
-        let wanted = format!(in rt.alloc(); "writing failed: {kind}")?;
+        let wanted = format!(in rt.alloc(); "writing failed: {kind}{more}")?;
         assert_eq!(rt; ended, Status::Failure, "{kind:?}");
         assert_eq!(rt; said.taken.as_slice(), line.as_bytes(), "{kind:?}");
         assert_eq!(rt; text.as_str(), wanted.as_str(), "{kind:?}");

@@ -4,8 +4,8 @@ ghost use Rattle.gix_date_tool.specs.Kinds.{kind_words};
 
 use std::io::ErrorKind;
 
-/// What a kind of fault is called, in the words of the standard library. It is a table, so it is as long as there are
-/// kinds.
+/// What a kind of fault is called, in the words of the standard library, which promises no text for it: so this is a
+/// table of our own. A closed stream has no kind, so the last row says that it may be one.
 #[tactic(auto, unfolding(crate::specs::Kinds::kind_words))]
 pub(crate) fn kind_text(kind: ErrorKind) -> &'static str
     ensures { result.now ≡ kind_words kind }
@@ -52,6 +52,6 @@ pub(crate) fn kind_text(kind: ErrorKind) -> &'static str
         ErrorKind::OutOfMemory => "out of memory",
         ErrorKind::InProgress => "in progress",
         ErrorKind::Other => "other error",
-        ErrorKind::Uncategorized => "uncategorized error",
+        ErrorKind::Uncategorized => "uncategorized error, as of a closed stream",
     }
 }
