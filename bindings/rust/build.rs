@@ -1,4 +1,4 @@
-//! Links the static library that `./build_c_library` built.
+//! Links the static library that `./build_c_library` built. Without it `cargo check`, `clippy` and `doc` work nonetheless.
 
 use std::env;
 use std::path::PathBuf;
@@ -14,11 +14,12 @@ fn library_folder() -> PathBuf {
 fn main() {
     let folder = library_folder();
     let library = folder.join("libgix_date.a");
-    assert!(
-        library.exists(),
-        "{} is not there: run ./build_c_library, or set GIX_DATE_LIB_DIR to its folder",
-        library.display()
-    );
+    if !library.exists() {
+        println!(
+            "cargo:warning={} is not there, so no program can be linked: run ./build_c_library, or set GIX_DATE_LIB_DIR to its folder",
+            library.display()
+        );
+    }
     println!("cargo:rerun-if-env-changed=GIX_DATE_LIB_DIR");
     println!("cargo:rerun-if-changed={}", library.display());
     println!("cargo:rustc-link-search=native={}", folder.display());

@@ -2,9 +2,12 @@
 
 use std::fmt;
 
-/// Why a call refuses: the statuses of `include/gix_date.h`, but for those that a `&str` and these types rule out.
+/// Why a call refuses: the statuses of `include/gix_date.h`, but for those that the types of this crate rule out.
 #[derive(Clone, Copy, Debug, PartialEq, Eq, Hash)]
+#[non_exhaustive]
 pub enum Error {
+    /// The bytes are not UTF-8.
+    NotText,
     /// The text is no time of a header.
     InvalidTime,
     /// No form that a date may have holds the text, or its offset is above 23:59.
@@ -37,6 +40,7 @@ impl Error {
     /// The refusal of a status that is not `GIX_DATE_OK`.
     pub(crate) fn of_status(status: u32) -> Error {
         match status {
+            1 => Error::NotText,
             4 => Error::InvalidTime,
             5 => Error::UnknownFormat,
             6 => Error::DateConversion,
@@ -58,6 +62,7 @@ impl Error {
 impl fmt::Display for Error {
     fn fmt(&self, f: &mut fmt::Formatter<'_>) -> fmt::Result {
         f.write_str(match self {
+            Error::NotText => "the bytes are not UTF-8",
             Error::InvalidTime => "not a time: expected seconds since 1970, perhaps an offset such as +0100, and no colon",
             Error::UnknownFormat => "no known date format",
             Error::DateConversion => "the date is beyond the last instant that can be computed with",
@@ -105,8 +110,8 @@ mod tests {
         let statuses = statuses();
         assert_eq!(statuses.len(), 17);
         for (name, number) in statuses {
-            // What a `&str` and the types of this crate rule out.
-            if !["Ok", "NotText", "NoSuchOption", "NoRoom"].contains(&name.as_str()) {
+            // The types of this crate rule out the others.
+            if !["Ok", "NoSuchOption", "NoRoom"].contains(&name.as_str()) {
                 assert_eq!(format!("{:?}", Error::of_status(number)), name);
             }
         }

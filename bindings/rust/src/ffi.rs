@@ -1,11 +1,6 @@
-//! The calls of `include/gix_date.h`.
+//! The calls of `include/gix_date.h`. [`Time`] is laid out as its `gix_date_time`.
 
-#[repr(C)]
-#[derive(Clone, Copy)]
-pub struct CTime {
-    pub seconds: i64,
-    pub offset: i32,
-}
+use crate::Time;
 
 #[repr(C)]
 #[derive(Clone, Copy)]
@@ -31,10 +26,10 @@ pub struct CSignature {
 
 extern "C" {
     pub fn gix_date_version() -> u32;
-    pub fn gix_date_parse_header(text: *const u8, text_len: usize, time: *mut CTime) -> u32;
+    pub fn gix_date_parse_header(text: *const u8, text_len: usize, time: *mut Time) -> u32;
     pub fn gix_date_is_canonical_header(text: *const u8, text_len: usize) -> bool;
     pub fn gix_date_write_header(
-        time: *const CTime,
+        time: *const Time,
         out: *mut u8,
         out_len: usize,
         len: *mut usize,
@@ -43,7 +38,7 @@ extern "C" {
         text: *const u8,
         text_len: usize,
         raw_offsets: u32,
-        time: *mut CTime,
+        time: *mut Time,
     ) -> u32;
     pub fn gix_date_parse_at_offset(
         text: *const u8,
@@ -51,7 +46,7 @@ extern "C" {
         raw_offsets: u32,
         now: *const CInstant,
         offset: i32,
-        time: *mut CTime,
+        time: *mut Time,
     ) -> u32;
     pub fn gix_date_parse_in_posix_zone(
         text: *const u8,
@@ -60,7 +55,7 @@ extern "C" {
         now: *const CInstant,
         rule: *const u8,
         rule_len: usize,
-        time: *mut CTime,
+        time: *mut Time,
     ) -> u32;
     pub fn gix_date_parse_in_tzif_zone(
         text: *const u8,
@@ -69,24 +64,24 @@ extern "C" {
         now: *const CInstant,
         file: *const u8,
         file_len: usize,
-        time: *mut CTime,
+        time: *mut Time,
     ) -> u32;
     pub fn gix_date_format(
-        time: *const CTime,
+        time: *const Time,
         format: u32,
         out: *mut u8,
         out_len: usize,
         len: *mut usize,
     ) -> u32;
     pub fn gix_date_format_or_unix(
-        time: *const CTime,
+        time: *const Time,
         format: u32,
         out: *mut u8,
         out_len: usize,
         len: *mut usize,
     ) -> u32;
     pub fn gix_date_format_by_pattern(
-        time: *const CTime,
+        time: *const Time,
         pattern: *const u8,
         pattern_len: usize,
         out: *mut u8,
@@ -94,7 +89,7 @@ extern "C" {
         len: *mut usize,
     ) -> u32;
     pub fn gix_date_format_by_pattern_or_unix(
-        time: *const CTime,
+        time: *const Time,
         pattern: *const u8,
         pattern_len: usize,
         out: *mut u8,
@@ -107,7 +102,7 @@ extern "C" {
         name_len: usize,
         mail: *const u8,
         mail_len: usize,
-        time: *const CTime,
+        time: *const Time,
         out: *mut u8,
         out_len: usize,
         len: *mut usize,

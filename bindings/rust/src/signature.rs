@@ -1,10 +1,11 @@
 //! Signature lines.
 
-use crate::ffi::{self, CSignature, CSpan};
-use crate::{parse_header, text_of, Error, Time};
+use crate::ffi::CSpan;
+use crate::{calls, parse_header, Error, Time};
+use std::fmt;
 
-/// The parts of a signature line, `A U Thor <author@example.com> 1660797906 +0800`, each a slice of it.
-#[derive(Clone, Copy, Debug, PartialEq, Eq)]
+/// The parts of a signature line, `A U Thor <author@example.com> 1660797906 +0800`, each a slice of it. As a text it is the line.
+#[derive(Clone, Copy, Debug, PartialEq, Eq, Hash)]
 pub struct Signature<'a> {
     /// What stands before ` <`, which may be empty.
     pub name: &'a str,
@@ -17,37 +18,46 @@ pub struct Signature<'a> {
 impl<'a> Signature<'a> {
     /// Cuts a line, without its newline, into its parts. [`Error::NoSignature`].
     pub fn from_line(line: &'a str) -> Result<Signature<'a>, Error> {
-        let mut parts = CSignature::default();
+        let parts = calls::cut_signature(line.as_bytes())?;
         let part = |span: CSpan| &line[span.start..span.start + span.len];
-        match unsafe { ffi::gix_date_cut_signature(line.as_ptr(), line.len(), &mut parts) } {
-            crate::OK => Ok(Signature {
-                name: part(parts.name),
-                mail: part(parts.mail),
-                time: part(parts.time),
-            }),
-            status => Err(Error::of_status(status)),
-        }
+        Ok(Signature {
+            name: part(parts.name),
+            mail: part(parts.mail),
+            time: part(parts.time),
+        })
     }
 
-    /// The time, read as leniently as [`parse_header`] does. [`Error::InvalidTime`].
+    /// Cuts a line of bytes as [`Signature::from_line()`] does. [`Error::NotText`], [`Error::NoSignature`].
+    ///
+    /// A line with a name in Latin-1 is not UTF-8. The time of such a line can be read by itself:
+    ///
+    /// ```
+    /// use gix_date_proved::{bytes, Error, Signature, Time};
+    ///
+    /// let line = b"Ren\xe9 <rene@example.com> 1660797906 +0800";
+    /// assert_eq!(Signature::from_bytes(line), Err(Error::NotText));
+    /// let time = line.rsplit(|byte| *byte == b'>').next().unwrap();
+    /// assert_eq!(bytes::parse_header(time), Ok(Time::new(1660797906, 28800)));
+    /// ```
+    pub fn from_bytes(line: &'a [u8]) -> Result<Signature<'a>, Error> {
+        let line = std::str::from_utf8(line).map_err(|_| Error::NotText)?;
+        Signature::from_line(line)
+    }
+
+    /// The time, read as leniently as [`parse_header()`] does. [`Error::InvalidTime`].
     pub fn time(&self) -> Result<Time, Error> {
-        parse_header(self.time)
+        parse_header(self.time).ok_or(Error::InvalidTime)
     }
 }
 
-/// The signature line of a name, a mail and a time, without a newline. [`Error::BadPart`], [`Error::OffsetTooWide`].
+impl fmt::Display for Signature<'_> {
+    fn fmt(&self, f: &mut fmt::Formatter<'_>) -> fmt::Result {
+        write!(f, "{} <{}> {}", self.name, self.mail, self.time)
+    }
+}
+
+/// The signature line of a name, a mail and a time, without a newline. [`Error::BadPart`], [`Error::OffsetTooWide`],
+/// [`Error::OutOfMemory`].
 pub fn write_signature(name: &str, mail: &str, time: Time) -> Result<String, Error> {
-    let time = time.for_c();
-    text_of(name.len() + mail.len() + 30, |out, room, len| unsafe {
-        ffi::gix_date_write_signature(
-            name.as_ptr(),
-            name.len(),
-            mail.as_ptr(),
-            mail.len(),
-            &time,
-            out,
-            room,
-            len,
-        )
-    })
+    calls::write_signature(name, mail, &time)
 }

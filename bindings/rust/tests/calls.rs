@@ -1,10 +1,15 @@
 //! Each call of this crate, its refusals, and sixteen threads at once. The rows of outside values are run by `rows.rs`.
 
+use gix_date_proved::parse::TimeBuf;
+use gix_date_proved::time::{format, CustomFormat, Format};
 use gix_date_proved::{
-    is_canonical_header, parse, parse_header, parse_with, version, write_signature, Error, Format,
+    bytes, is_canonical_header, parse, parse_header, parse_with, version, write_signature, Error,
     Moment, RawOffsets, Signature, Time, Zone,
 };
+use std::collections::HashSet;
+use std::io;
 use std::thread;
+use std::time::{Duration, SystemTime, UNIX_EPOCH};
 
 const DAY: Time = Time {
     seconds: 1660797906,
@@ -17,9 +22,9 @@ fn time(seconds: i64, offset: i32) -> Result<Time, Error> {
 
 #[test]
 fn headers_are_read_and_written() {
-    assert_eq!(parse_header("1660797906 +0800"), Ok(DAY));
-    assert_eq!(parse_header("12abc +0100"), time(12, 3600));
-    assert_eq!(parse_header(""), Err(Error::InvalidTime));
+    assert_eq!(parse_header("1660797906 +0800"), Some(DAY));
+    assert_eq!(parse_header("12abc +0100"), time(12, 3600).ok());
+    assert_eq!(parse_header(""), None);
     assert!(is_canonical_header("-5 -0130"));
     assert!(!is_canonical_header("0 -0000"));
     assert_eq!(DAY.to_header().as_deref(), Ok("1660797906 +0800"));
@@ -42,6 +47,30 @@ fn headers_are_read_and_written() {
 }
 
 #[test]
+fn no_header_of_an_offset_of_100_hours_panics() {
+    let wide = Time::new(5, 360000);
+    let mut buf = TimeBuf::default();
+    assert_eq!(DAY.to_str(&mut buf), Ok("1660797906 +0800"));
+    assert_eq!(wide.to_str(&mut buf), Err(Error::OffsetTooWide));
+    assert_eq!(buf.as_str(), "");
+    assert_eq!(wide.to_string(), "5");
+    let mut out = Vec::new();
+    let fault = wide.write_to(&mut out).unwrap_err();
+    assert_eq!(fault.to_string(), Error::OffsetTooWide.to_string());
+    assert!(out.is_empty());
+    for time in [Time::MIN, Time::MAX] {
+        assert_eq!(time.to_str(&mut buf).map(str::len), Ok(time.size()));
+    }
+}
+
+#[test]
+fn a_fault_of_the_writer_is_told() {
+    let mut full = &mut [0; 5][..];
+    let fault = DAY.write_to(&mut full).unwrap_err();
+    assert_eq!(fault.kind(), io::ErrorKind::WriteZero);
+}
+
+#[test]
 fn dates_are_parsed() {
     assert_eq!(parse("Thu, 18 Aug 2022 12:45:06 +0800", None), Ok(DAY));
     assert_eq!(
@@ -61,42 +90,48 @@ fn dates_are_parsed() {
 #[test]
 fn relative_dates_are_parsed_in_their_zone() {
     let now = Moment::at_offset(1698400800, 7200);
-    assert_eq!(parse("yesterday", Some(&now)), time(1698314400, 7200));
-    assert_eq!(parse("12023 years ago", Some(&now)), Err(Error::Range));
     assert_eq!(
-        parse("now", Some(&Moment::at_offset(0, 93600))),
+        parse("yesterday", Some(now.clone())),
+        time(1698314400, 7200)
+    );
+    assert_eq!(
+        parse("12023 years ago", Some(now.clone())),
+        Err(Error::Range)
+    );
+    assert_eq!(
+        parse("now", Some(Moment::at_offset(0, 93600))),
         Err(Error::InvalidZone)
     );
     assert_eq!(
-        parse("now", Some(&Moment::at_offset(253402207201, 0))),
+        parse("now", Some(Moment::at_offset(253402207201, 0))),
         Err(Error::InvalidInstant)
     );
     let in_fold = Moment {
         seconds: 1699165800,
         nanoseconds: 0,
-        zone: Zone::Posix("EST5EDT,M3.2.0,M11.1.0"),
+        zone: Zone::Posix("EST5EDT,M3.2.0,M11.1.0".into()),
     };
     assert_eq!(
-        parse("1 hour ago", Some(&in_fold)),
+        parse("1 hour ago", Some(in_fold.clone())),
         time(1699158600, -14400)
     );
     let unknown = Moment {
-        zone: Zone::Posix("banana"),
-        ..in_fold
+        zone: Zone::Posix("banana".into()),
+        ..in_fold.clone()
     };
-    assert_eq!(parse("now", Some(&unknown)), Err(Error::InvalidZone));
+    assert_eq!(parse("now", Some(unknown)), Err(Error::InvalidZone));
     let empty_file = Moment {
-        zone: Zone::Tzif(b""),
+        zone: Zone::Tzif([].into()),
         ..in_fold
     };
-    assert_eq!(parse("now", Some(&empty_file)), Err(Error::InvalidZone));
+    assert_eq!(parse("now", Some(empty_file)), Err(Error::InvalidZone));
 }
 
 #[test]
 fn times_are_printed() {
-    assert_eq!(DAY.format(Format::Short).as_deref(), Ok("2022-08-18"));
+    assert_eq!(DAY.format(format::SHORT).as_deref(), Ok("2022-08-18"));
     assert_eq!(
-        DAY.format(Format::Rfc2822).as_deref(),
+        DAY.format(format::RFC2822).as_deref(),
         Ok("Thu, 18 Aug 2022 12:45:06 +0800")
     );
     assert_eq!(DAY.format(Format::Raw).as_deref(), Ok("1660797906 +0800"));
@@ -116,8 +151,8 @@ fn times_are_printed() {
         offset: 360000,
     };
     assert_eq!(wide.format(Format::Raw), Err(Error::OffsetTooWide));
-    assert_eq!(wide.format(Format::Iso8601), Err(Error::Conversion));
-    assert_eq!(wide.format_or_unix(Format::Raw).as_deref(), Ok("5"));
+    assert_eq!(wide.format(format::ISO8601), Err(Error::Conversion));
+    assert_eq!(wide.format_or_unix(Format::Raw), "5");
 }
 
 #[test]
@@ -139,6 +174,101 @@ fn signature_lines_are_cut_and_written() {
     );
     assert_eq!(Signature::from_line("A <a>"), Err(Error::NoSignature));
     assert_eq!(write_signature("A>", "a", DAY), Err(Error::BadPart));
+}
+
+#[test]
+fn bytes_that_are_no_text_are_refused() {
+    let line = b"Ren\xe9 <r@example.com> 1660797906 +0800";
+    assert_eq!(Signature::from_bytes(line), Err(Error::NotText));
+    assert_eq!(bytes::parse_header(b"5 +0100\xff"), Err(Error::NotText));
+    assert_eq!(bytes::parse(b"@5\xff", None), Err(Error::NotText));
+    assert!(!bytes::is_canonical_header(b"5 +0100\xff"));
+    let line = "Ren\u{e9} <r@example.com> 1660797906 +0800";
+    let signature = Signature::from_bytes(line.as_bytes()).unwrap();
+    assert_eq!(signature.name, "Ren\u{e9}");
+    assert_eq!(signature.to_string(), line);
+    assert_eq!(bytes::parse_header(b"5 +0100"), time(5, 3600));
+    assert_eq!(bytes::parse_header(b""), Err(Error::InvalidTime));
+    let raw = RawOffsets::WholeMinutes;
+    assert_eq!(bytes::parse_with(b"@5 +0007", None, raw), time(5, 420));
+}
+
+#[test]
+fn moments_are_those_of_the_system() {
+    let nano = Duration::from_nanos(1);
+    for (system, seconds, nanoseconds, second) in [
+        (UNIX_EPOCH, 0, 0, 0),
+        (UNIX_EPOCH + nano, 0, 1, 0),
+        (UNIX_EPOCH - nano, 0, -1, 0),
+        (
+            UNIX_EPOCH + Duration::new(5, 999_999_999),
+            5,
+            999_999_999,
+            5,
+        ),
+        (UNIX_EPOCH - Duration::new(5, 1), -5, -1, -5),
+    ] {
+        let moment = Moment::from(system);
+        let due = Moment {
+            seconds,
+            nanoseconds,
+            zone: Zone::UTC,
+        };
+        assert_eq!(moment, due);
+        assert_eq!(SystemTime::try_from(&moment), Ok(system));
+        assert_eq!(Time::from(system), Time::new(second, 0));
+        assert_eq!(moment.to_time(), Ok(Time::from(system)));
+    }
+    let later = UNIX_EPOCH + Duration::from_secs(1660797906);
+    assert_eq!(SystemTime::try_from(DAY), Ok(later));
+    // Systems differ in which times they have.
+    if let Ok(first) = SystemTime::try_from(Time::new(i64::MIN, 0)) {
+        assert_eq!(Moment::from(first).seconds, i64::MIN);
+        let before = Moment {
+            nanoseconds: -1,
+            ..Moment::from(first)
+        };
+        assert_eq!(SystemTime::try_from(&before), Err(Error::InvalidInstant));
+        assert_eq!(before.to_time(), Err(Error::InvalidInstant));
+    }
+}
+
+#[test]
+fn moments_tell_their_time() {
+    let moment = Moment {
+        seconds: 1699165800,
+        nanoseconds: -1,
+        zone: Zone::Posix("EST5EDT,M3.2.0,M11.1.0".into()),
+    };
+    assert_eq!(moment.to_time(), time(1699165799, -18000));
+    assert_eq!(DAY.to_zoned(), Ok(Moment::from(DAY)));
+    assert_eq!(Moment::from(DAY).to_time(), Ok(DAY));
+    assert_eq!(Time::new(0, 93600).to_zoned(), Err(Error::Conversion));
+    assert_eq!(Time::MAX.to_zoned(), Err(Error::Conversion));
+}
+
+#[test]
+fn moments_and_zones_compare() {
+    let zones = [
+        Zone::UTC,
+        Zone::Offset(3600),
+        Zone::Posix("UTC0".into()),
+        Zone::Posix("EST5".into()),
+        Zone::Tzif([].into()),
+        Zone::Tzif(b"UTC0"[..].into()),
+    ];
+    for (place, zone) in zones.iter().enumerate() {
+        let equal = zones.iter().position(|other| other == zone);
+        assert_eq!(equal, Some(place));
+    }
+    assert_eq!(Zone::default(), Zone::UTC);
+    let moments = [(0, 0), (0, 1), (1, 0)].map(|(seconds, nanoseconds)| Moment {
+        seconds,
+        nanoseconds,
+        zone: Zone::UTC,
+    });
+    assert_eq!(HashSet::from(moments).len(), 3);
+    assert_ne!(Moment::at_offset(0, 0), Moment::at_offset(0, 3600));
 }
 
 #[test]
@@ -164,13 +294,18 @@ fn times_are_in_order_of_their_seconds() {
 /// Derives that callers count on, each a bound.
 #[test]
 fn types_have_their_traits() {
-    fn are_values<T: Copy + std::fmt::Debug + PartialEq>() {}
+    fn are_shared<T: Clone + std::fmt::Debug + Send + Sync + 'static>() {}
     fn are_keys<T: Copy + std::fmt::Debug + Eq + std::hash::Hash>() {}
     are_keys::<Time>();
     are_keys::<Error>();
-    are_values::<Format>();
-    are_values::<RawOffsets>();
-    are_values::<Signature<'_>>();
+    are_keys::<Format>();
+    are_keys::<CustomFormat>();
+    are_keys::<RawOffsets>();
+    are_keys::<Signature<'_>>();
+    are_shared::<Moment>();
+    are_shared::<TimeBuf>();
+    assert_eq!(Format::default(), format::DEFAULT.into());
+    assert_eq!(CustomFormat::default(), format::DEFAULT);
     assert_eq!(RawOffsets::default(), RawOffsets::Quarter);
 }
 

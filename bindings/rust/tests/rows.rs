@@ -1,18 +1,16 @@
 //! Runs the rows of outside values that the library is tested by (`crates/gix_date_rows/data`), by this crate's calls.
 
+use gix_date_proved::parse::TimeBuf;
+use gix_date_proved::time::{format as formats, Format};
 use gix_date_proved::{
-    is_canonical_header, parse, parse_header, parse_with, write_signature, Error, Format, Moment,
+    bytes, is_canonical_header, parse, parse_header, parse_with, write_signature, Error, Moment,
     RawOffsets, Signature, Time, Zone,
 };
-use std::collections::BTreeMap;
 use std::fs;
 use std::path::PathBuf;
 
 /// What a call answers: a text, or the name of a refusal.
 type Answer = Result<String, String>;
-
-/// Calls that other callers of the rows have, and this crate has not.
-const LACKING: [&str; 2] = ["to_zoned", "now_local"];
 
 /// Moments at which a text that is not relative means the same.
 const ANY: [&str; 6] = [
@@ -111,54 +109,112 @@ fn parsed(rules: &str, moments: &str, text: &str) -> Option<Answer> {
 }
 
 /// A date parsed at a moment: `none`, or its seconds, its nanoseconds and its zone.
-fn parsed_at(rule: RawOffsets, moment: &str, text: &str) -> Option<Answer> {
-    if moment == "none" {
-        return parsed_by(rule, None, text);
-    }
-    let (seconds, rest) = moment.split_once(' ')?;
-    let (nanoseconds, zone) = rest.split_once(' ')?;
-    let file = if zone.ends_with(".tzif") {
-        fs::read(folder().join(zone)).ok()?
-    } else {
-        Vec::new()
+fn parsed_at(rule: RawOffsets, at: &str, text: &str) -> Option<Answer> {
+    let now = match at {
+        "none" => None,
+        at => {
+            let (seconds, rest) = at.split_once(' ')?;
+            let (nanoseconds, zone) = rest.split_once(' ')?;
+            Some(moment(seconds, nanoseconds, zone)?)
+        }
     };
-    let zone = match zone.parse() {
-        Ok(offset) => Zone::Offset(offset),
-        Err(_) if file.is_empty() => Zone::Posix(zone),
-        Err(_) => Zone::Tzif(&file),
-    };
+    parsed_by(rule, now, text)
+}
+
+fn moment(seconds: &str, nanoseconds: &str, zone: &str) -> Option<Moment> {
     let (seconds, nanoseconds) = (seconds.parse().ok()?, nanoseconds.parse().ok()?);
-    let now = match zone {
+    Some(match zone_of(zone)? {
         Zone::Offset(offset) if nanoseconds == 0 => Moment::at_offset(seconds, offset),
         zone => Moment {
             seconds,
             nanoseconds,
             zone,
         },
-    };
-    parsed_by(rule, Some(&now), text)
+    })
+}
+
+/// A zone: an offset, the name of a TZif file, or a rule.
+fn zone_of(zone: &str) -> Option<Zone> {
+    Some(match zone.parse() {
+        Ok(offset) => Zone::Offset(offset),
+        Err(_) if zone.ends_with(".tzif") => Zone::Tzif(fs::read(folder().join(zone)).ok()?.into()),
+        Err(_) => Zone::Posix(zone.into()),
+    })
 }
 
 /// The same by each call that has this rule.
-fn parsed_by(rule: RawOffsets, now: Option<&Moment<'_>>, text: &str) -> Option<Answer> {
-    let with = told_time(parse_with(text, now, rule));
-    if rule != RawOffsets::default() {
-        return Some(with);
+fn parsed_by(rule: RawOffsets, now: Option<Moment>, text: &str) -> Option<Answer> {
+    let mut answers = vec![
+        parse_with(text, now.clone(), rule),
+        bytes::parse_with(text.as_bytes(), now.clone(), rule),
+    ];
+    if rule == RawOffsets::default() {
+        answers.push(parse(text, now.clone()));
+        answers.push(bytes::parse(text.as_bytes(), now));
     }
-    agreeing([Some(told_time(parse(text, now))), Some(with)])
+    agreeing(answers.into_iter().map(|answer| Some(told_time(answer))))
+}
+
+/// The time of a header, by each call that reads it.
+fn header(text: &str) -> Option<Answer> {
+    agreeing([
+        Some(told_time(parse_header(text).ok_or(Error::InvalidTime))),
+        Some(told_time(text.parse())),
+        Some(told_time(bytes::parse_header(text.as_bytes()))),
+    ])
+}
+
+/// The text of a header, by each call that writes it and can refuse. `Display` and `size` have to agree.
+fn header_text(time: Time) -> Option<Answer> {
+    let mut written = Vec::new();
+    let written = match time.write_to(&mut written) {
+        Ok(()) => Ok(String::from_utf8(written).ok()?),
+        Err(_) if written.is_empty() => Err("OffsetTooWide".to_string()),
+        Err(_) => return None,
+    };
+    let shown = match &written {
+        Ok(text) if text.len() == time.size() => text.clone(),
+        Ok(_) => return Some(Err("SizeDiffers".to_string())),
+        Err(_) => time.seconds.to_string(),
+    };
+    if time.to_string() != shown {
+        return Some(Err("DisplayDiffers".to_string()));
+    }
+    let mut buf = TimeBuf::default();
+    let kept = told(time.to_str(&mut buf), str::to_string);
+    agreeing([
+        Some(written),
+        Some(kept),
+        Some(told(time.to_header(), |text| text)),
+    ])
+}
+
+/// The parts of a line, which as a text are the line again.
+fn parts(line: &str) -> Option<Answer> {
+    let parts = Signature::from_line(line);
+    if parts.is_ok_and(|parts| parts.to_string() != line) {
+        return Some(Err("DisplayDiffers".to_string()));
+    }
+    agreeing([parts, Signature::from_bytes(line.as_bytes())].map(|parts| Some(told_parts(parts))))
+}
+
+fn told_parts(parts: Result<Signature<'_>, Error>) -> Answer {
+    told(parts, |parts| {
+        format!("{}<{}>{}", parts.name, parts.mail, parts.time)
+    })
 }
 
 fn format(name: &str) -> Option<Format> {
     Some(match name {
-        "SHORT" => Format::Short,
-        "RFC2822" => Format::Rfc2822,
-        "GIT_RFC2822" => Format::GitRfc2822,
-        "ISO8601" => Format::Iso8601,
-        "ISO8601_STRICT" => Format::Iso8601Strict,
-        "GITOXIDE" => Format::Gitoxide,
-        "DEFAULT" => Format::Default,
-        "UNIX" => Format::Unix,
-        "RAW" => Format::Raw,
+        "SHORT" => formats::SHORT.into(),
+        "RFC2822" => formats::RFC2822.into(),
+        "GIT_RFC2822" => formats::GIT_RFC2822.into(),
+        "ISO8601" => formats::ISO8601.into(),
+        "ISO8601_STRICT" => formats::ISO8601_STRICT.into(),
+        "GITOXIDE" => formats::GITOXIDE.into(),
+        "DEFAULT" => formats::DEFAULT.into(),
+        "UNIX" => formats::UNIX,
+        "RAW" => formats::RAW,
         _ => return None,
     })
 }
@@ -179,19 +235,23 @@ fn printed(time: Time, text: Result<String, Error>, always: Result<String, Error
 fn answer(mut fields: &[String]) -> Option<Answer> {
     let row = &mut fields;
     let answer = match text(row)? {
-        "parse_header" => told_time(parse_header(text(row)?)),
-        "is_canonical_header" => Ok(if is_canonical_header(text(row)?) {
-            "yes"
-        } else {
-            "no"
+        "parse_header" => header(text(row)?)?,
+        "is_canonical_header" => {
+            let text = text(row)?;
+            let answers = [
+                is_canonical_header(text),
+                bytes::is_canonical_header(text.as_bytes()),
+            ];
+            agreeing(answers.map(|is| Some(Ok(if is { "yes" } else { "no" }.into()))))?
         }
-        .into()),
-        "header_text" => told(time(row)?.to_header(), |text| text),
+        "header_text" => header_text(time(row)?)?,
+        "to_zoned" => told_time(time(row)?.to_zoned().and_then(|moment| moment.to_time())),
+        "now_local" => told_time(moment(text(row)?, text(row)?, text(row)?)?.to_time()),
         "parse" => parsed(text(row)?, text(row)?, text(row)?)?,
         "format" => {
             let format = format(text(row)?)?;
             let time = time(row)?;
-            printed(time, time.format(format), time.format_or_unix(format))
+            printed(time, time.format(format), Ok(time.format_or_unix(format)))
         }
         "format_by_pattern" => {
             let pattern = text(row)?;
@@ -199,9 +259,7 @@ fn answer(mut fields: &[String]) -> Option<Answer> {
             let always = time.format_by_pattern_or_unix(pattern);
             printed(time, time.format_by_pattern(pattern), always)
         }
-        "cut_signature" => told(Signature::from_line(text(row)?), |parts| {
-            format!("{}<{}>{}", parts.name, parts.mail, parts.time)
-        }),
+        "cut_signature" => parts(text(row)?)?,
         "signature_time" => {
             told_time(Signature::from_line(text(row)?).and_then(|parts| parts.time()))
         }
@@ -214,12 +272,19 @@ fn answer(mut fields: &[String]) -> Option<Answer> {
     row.is_empty().then_some(answer)
 }
 
+/// The same where the fields are not all UTF-8.
+fn answer_of_bytes(fields: &[Vec<u8>]) -> Option<Answer> {
+    match fields {
+        [call, text] if call == b"parse_header" => Some(told_time(bytes::parse_header(text))),
+        [call, line] if call == b"cut_signature" => Some(told_parts(Signature::from_bytes(line))),
+        _ => None,
+    }
+}
+
 /// What became of a row.
 enum Outcome {
     Agrees,
     Differs(String),
-    /// It is left out, and why.
-    LeftOut(String),
 }
 
 fn outcome(row: &str) -> Outcome {
@@ -230,23 +295,18 @@ fn outcome(row: &str) -> Outcome {
     let Some(fields) = fields else {
         return Outcome::Differs("no row".into());
     };
-    let texts: Result<Vec<_>, _> = fields.into_iter().map(String::from_utf8).collect();
-    let Ok(texts) = texts else {
-        return match due {
-            "!NotText" => Outcome::LeftOut("bytes that are no text".into()),
-            _ => Outcome::Differs("no row".into()),
-        };
+    let texts: Result<Vec<_>, _> = fields.iter().cloned().map(String::from_utf8).collect();
+    let answer = match texts {
+        Ok(texts) => answer(&texts),
+        Err(_) => answer_of_bytes(&fields),
     };
-    if LACKING.contains(&texts[0].as_str()) {
-        return Outcome::LeftOut(texts[0].clone());
-    }
     let due = match due.strip_prefix('!') {
         Some(name) => Some(Err(name.to_string())),
         None => unescaped(due)
             .and_then(|text| String::from_utf8(text).ok())
             .map(Ok),
     };
-    match answer(&texts) {
+    match answer {
         Some(answer) if Some(&answer) == due.as_ref() => Outcome::Agrees,
         Some(answer) => Outcome::Differs(format!("it answers {answer:?}")),
         None => Outcome::Differs("no row".into()),
@@ -256,7 +316,6 @@ fn outcome(row: &str) -> Outcome {
 /// Runs the rows of a file, says which differ, and answers how many there are and how many differ.
 fn run(name: &str) -> (usize, usize) {
     let file = fs::read_to_string(folder().join(name)).unwrap();
-    let mut left_out: BTreeMap<String, usize> = BTreeMap::new();
     let (mut rows, mut differ) = (0, 0);
     for (number, line) in (1..).zip(file.split('\n')) {
         if line.is_empty() || line.starts_with('#') {
@@ -269,13 +328,9 @@ fn run(name: &str) -> (usize, usize) {
                 differ += 1;
                 println!("{name}:{number}: {why}: {line}");
             }
-            Outcome::LeftOut(why) => *left_out.entry(why).or_default() += 1,
         }
     }
     println!("{name}: {rows} rows, {differ} differ");
-    for (why, count) in left_out {
-        println!("{name}: {count} left out: {why}");
-    }
     (rows, differ)
 }
 

@@ -1,0 +1,24 @@
+//! The calls that read texts, for bytes that may not be UTF-8. Such bytes are refused by [`Error::NotText`].
+
+use crate::{calls, Error, Moment, RawOffsets, Time};
+
+/// Reads the time of a commit header as [`parse_header()`](crate::parse_header) does. [`Error::NotText`],
+/// [`Error::InvalidTime`].
+pub fn parse_header(input: &[u8]) -> Result<Time, Error> {
+    calls::parse_header(input)
+}
+
+/// Whether the bytes come back when they are read as a header and written. `false` where they are not UTF-8.
+pub fn is_canonical_header(input: &[u8]) -> bool {
+    calls::is_canonical_header(input)
+}
+
+/// Parses a date as [`parse()`](crate::parse()) does. The same refusals, and [`Error::NotText`].
+pub fn parse(input: &[u8], now: Option<Moment>) -> Result<Time, Error> {
+    parse_with(input, now, RawOffsets::default())
+}
+
+/// Parses a date as [`parse_with()`](crate::parse_with) does. The same refusals, and [`Error::NotText`].
+pub fn parse_with(input: &[u8], now: Option<Moment>, raw: RawOffsets) -> Result<Time, Error> {
+    calls::parse(input, now.as_ref(), raw)
+}

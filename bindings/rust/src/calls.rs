@@ -1,0 +1,165 @@
+//! The calls of the library, each behind a safe function. No other module has an `unsafe` block.
+
+use crate::ffi::{self, CInstant, CSignature};
+use crate::{Error, Moment, RawOffsets, Time, Zone};
+
+const OK: u32 = 0;
+const NO_ROOM: u32 = 3;
+
+/// The most bytes of a header text.
+pub(crate) const MAX_HEADER: usize = 26;
+
+/// What a call stored, or its refusal.
+fn stored<T>(status: u32, value: T) -> Result<T, Error> {
+    match status {
+        OK => Ok(value),
+        status => Err(Error::of_status(status)),
+    }
+}
+
+/// The text that a call puts into a buffer: of this many bytes at first, and then of as many as the call asks for.
+fn text_of(room: usize, call: impl Fn(&mut [u8], &mut usize) -> u32) -> Result<String, Error> {
+    let mut len = room;
+    let mut bytes = Vec::new();
+    loop {
+        bytes
+            .try_reserve_exact(len)
+            .map_err(|_| Error::OutOfMemory)?;
+        bytes.resize(len, 0);
+        match call(&mut bytes, &mut len) {
+            NO_ROOM => bytes.clear(),
+            status => {
+                stored(status, ())?;
+                bytes.truncate(len);
+                return Ok(String::from_utf8(bytes).expect("the library writes UTF-8"));
+            }
+        }
+    }
+}
+
+pub(crate) fn version() -> u32 {
+    // SAFETY: the call has no argument.
+    unsafe { ffi::gix_date_version() }
+}
+
+pub(crate) fn parse_header(text: &[u8]) -> Result<Time, Error> {
+    let mut time = Time::default();
+    // SAFETY: the text is valid for its length, and the time is a place of its own.
+    let status = unsafe { ffi::gix_date_parse_header(text.as_ptr(), text.len(), &mut time) };
+    stored(status, time)
+}
+
+pub(crate) fn is_canonical_header(text: &[u8]) -> bool {
+    // SAFETY: the text is valid for its length.
+    unsafe { ffi::gix_date_is_canonical_header(text.as_ptr(), text.len()) }
+}
+
+/// The length of the header text that now stands at the front of the buffer, which has room for each.
+pub(crate) fn write_header(time: &Time, out: &mut [u8; MAX_HEADER]) -> Result<usize, Error> {
+    let mut len = 0;
+    // SAFETY: the time is valid, and the buffer, of the length given, and the length are places of their own.
+    let status = unsafe { ffi::gix_date_write_header(time, out.as_mut_ptr(), out.len(), &mut len) };
+    stored(status, len)
+}
+
+pub(crate) fn parse(text: &[u8], now: Option<&Moment>, raw: RawOffsets) -> Result<Time, Error> {
+    match now {
+        Some(now) => parse_at(text, now, raw),
+        None => parse_absolute(text, raw),
+    }
+}
+
+fn parse_absolute(text: &[u8], raw: RawOffsets) -> Result<Time, Error> {
+    let mut time = Time::default();
+    // SAFETY: the text is valid for its length, and the time is a place of its own.
+    let status = unsafe { ffi::gix_date_parse(text.as_ptr(), text.len(), raw as u32, &mut time) };
+    stored(status, time)
+}
+
+fn parse_at(text: &[u8], now: &Moment, raw: RawOffsets) -> Result<Time, Error> {
+    let instant = CInstant {
+        seconds: now.seconds,
+        nanoseconds: now.nanoseconds,
+    };
+    let mut time = Time::default();
+    let (start, len, raw) = (text.as_ptr(), text.len(), raw as u32);
+    let status = match &now.zone {
+        // SAFETY: the text is valid for its length, the instant is valid, and the time is a place of its own.
+        Zone::Offset(offset) => unsafe {
+            ffi::gix_date_parse_at_offset(start, len, raw, &instant, *offset, &mut time)
+        },
+        // SAFETY: as above, and the rule is valid for its length.
+        Zone::Posix(rule) => unsafe {
+            let (rule, rule_len) = (rule.as_ptr(), rule.len());
+            ffi::gix_date_parse_in_posix_zone(start, len, raw, &instant, rule, rule_len, &mut time)
+        },
+        // SAFETY: as above, and the file is valid for its length.
+        Zone::Tzif(file) => unsafe {
+            let (file, file_len) = (file.as_ptr(), file.len());
+            ffi::gix_date_parse_in_tzif_zone(start, len, raw, &instant, file, file_len, &mut time)
+        },
+    };
+    stored(status, time)
+}
+
+/// The room that is enough for the text of a time in each named format, and in most others.
+const FORMAT_ROOM: usize = 32;
+
+pub(crate) fn format(time: &Time, format: u32) -> Result<String, Error> {
+    // SAFETY: the time is valid, and the buffer, of the length given, and the length are places of their own.
+    text_of(FORMAT_ROOM, |out, len| unsafe {
+        ffi::gix_date_format(time, format, out.as_mut_ptr(), out.len(), len)
+    })
+}
+
+pub(crate) fn format_or_unix(time: &Time, format: u32) -> Result<String, Error> {
+    // SAFETY: as for `format`.
+    text_of(FORMAT_ROOM, |out, len| unsafe {
+        ffi::gix_date_format_or_unix(time, format, out.as_mut_ptr(), out.len(), len)
+    })
+}
+
+pub(crate) fn format_by_pattern(time: &Time, pattern: &str) -> Result<String, Error> {
+    let (start, size) = (pattern.as_ptr(), pattern.len());
+    // SAFETY: as for `format`, and the pattern is valid for its length.
+    text_of(FORMAT_ROOM, |out, len| unsafe {
+        ffi::gix_date_format_by_pattern(time, start, size, out.as_mut_ptr(), out.len(), len)
+    })
+}
+
+pub(crate) fn format_by_pattern_or_unix(time: &Time, pattern: &str) -> Result<String, Error> {
+    let (start, size) = (pattern.as_ptr(), pattern.len());
+    // SAFETY: as for `format`, and the pattern is valid for its length.
+    text_of(FORMAT_ROOM, |out, len| unsafe {
+        ffi::gix_date_format_by_pattern_or_unix(time, start, size, out.as_mut_ptr(), out.len(), len)
+    })
+}
+
+pub(crate) fn cut_signature(line: &[u8]) -> Result<CSignature, Error> {
+    let mut parts = CSignature::default();
+    // SAFETY: the line is valid for its length, and the parts are a place of their own.
+    let status = unsafe { ffi::gix_date_cut_signature(line.as_ptr(), line.len(), &mut parts) };
+    stored(status, parts)
+}
+
+pub(crate) fn write_signature(name: &str, mail: &str, time: &Time) -> Result<String, Error> {
+    // Two brackets and two spaces stand between the parts.
+    let room = name
+        .len()
+        .saturating_add(mail.len())
+        .saturating_add(4 + MAX_HEADER);
+    // SAFETY: name and mail are valid for their lengths, the time is valid, and the buffer, of the length given, and the
+    // length are places of their own.
+    text_of(room, |out, len| unsafe {
+        ffi::gix_date_write_signature(
+            name.as_ptr(),
+            name.len(),
+            mail.as_ptr(),
+            mail.len(),
+            time,
+            out.as_mut_ptr(),
+            out.len(),
+            len,
+        )
+    })
+}

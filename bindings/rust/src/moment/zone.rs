@@ -1,0 +1,158 @@
+//! Time zones, and that of the machine.
+
+use super::Moment;
+use crate::{Error, OffsetInSeconds};
+use std::env;
+use std::ffi::OsStr;
+use std::fs;
+use std::path::{Path, PathBuf};
+use std::sync::Arc;
+
+/// A time zone. Two are equal where they are given alike: a rule is not compared with a file.
+#[derive(Clone, Debug, PartialEq, Eq, Hash)]
+#[non_exhaustive]
+pub enum Zone {
+    /// The zone that always has this offset, in seconds east of UTC, up to 93599 either way.
+    Offset(OffsetInSeconds),
+    /// The zone of a POSIX rule, `EST5EDT,M3.2.0,M11.1.0`.
+    Posix(Arc<str>),
+    /// The zone of a TZif file, by its bytes. Each call takes memory for it.
+    Tzif(Arc<[u8]>),
+}
+
+impl Default for Zone {
+    /// UTC.
+    fn default() -> Zone {
+        Zone::UTC
+    }
+}
+
+impl Zone {
+    /// The zone that always has the offset 0.
+    pub const UTC: Zone = Zone::Offset(0);
+
+    /// The machine's zone: that of the variable `TZ`, or without it that of `/etc/localtime`.
+    ///
+    /// `TZ` may be empty, for UTC. Else it is the path of a TZif file, below `TZDIR` or `/usr/share/zoneinfo` where it is not
+    /// absolute, or a POSIX rule. A colon before it is skipped.
+    ///
+    /// [`Error::InvalidZone`] where this names no zone that can be read, [`Error::OutOfMemory`].
+    pub fn local() -> Result<Zone, Error> {
+        let folder = env::var_os("TZDIR").unwrap_or_else(|| "/usr/share/zoneinfo".into());
+        let variable = env::var_os("TZ");
+        Settings {
+            variable: variable.as_deref(),
+            folder: folder.into(),
+            default_file: Path::new("/etc/localtime"),
+        }
+        .zone()
+    }
+
+    /// This zone, where the library can read it.
+    fn if_valid(self) -> Result<Zone, Error> {
+        let moment = Moment {
+            seconds: 0,
+            nanoseconds: 0,
+            zone: self,
+        };
+        moment.to_time()?;
+        Ok(moment.zone)
+    }
+
+    /// The zone of a TZif file. `None` where there is no file.
+    fn of_file(path: &Path) -> Option<Result<Zone, Error>> {
+        // A device or a pipe may never end.
+        let is_file = fs::metadata(path).is_ok_and(|found| found.is_file());
+        let bytes = is_file.then(|| fs::read(path))?.ok()?;
+        Some(Zone::Tzif(bytes.into()).if_valid())
+    }
+}
+
+/// What says which zone a machine has.
+struct Settings<'a> {
+    /// The variable `TZ`.
+    variable: Option<&'a OsStr>,
+    /// Where the files of zones lie.
+    folder: PathBuf,
+    /// The file of the zone where the variable is not set.
+    default_file: &'a Path,
+}
+
+impl Settings<'_> {
+    fn zone(&self) -> Result<Zone, Error> {
+        let Some(variable) = self.variable else {
+            return Zone::of_file(self.default_file).unwrap_or(Err(Error::InvalidZone));
+        };
+        let text = variable.to_str().ok_or(Error::InvalidZone)?;
+        match text.strip_prefix(':').unwrap_or(text) {
+            "" => Ok(Zone::UTC),
+            name => Zone::of_file(&self.folder.join(name))
+                .unwrap_or_else(|| Zone::Posix(name.into()).if_valid()),
+        }
+    }
+}
+
+#[cfg(test)]
+mod tests {
+    use super::*;
+
+    const NEW_YORK: &str = "new_york_2023.tzif";
+    const RULE: &str = "EST5EDT,M3.2.0,M11.1.0";
+
+    fn folder() -> PathBuf {
+        Path::new(env!("CARGO_MANIFEST_DIR")).join("../../crates/gix_date_rows/data")
+    }
+
+    fn new_york() -> Zone {
+        Zone::Tzif(fs::read(folder().join(NEW_YORK)).unwrap().into())
+    }
+
+    /// The zone of a machine with this variable, whose file of the zone is this one of the folder.
+    fn zone(variable: Option<&str>, default_file: &str) -> Result<Zone, Error> {
+        Settings {
+            variable: variable.map(OsStr::new),
+            folder: folder(),
+            default_file: &folder().join(default_file),
+        }
+        .zone()
+    }
+
+    #[test]
+    fn without_a_variable_it_is_that_of_the_file() {
+        assert_eq!(zone(None, NEW_YORK), Ok(new_york()));
+        for none in ["none", "raw.rows", "."] {
+            assert_eq!(zone(None, none), Err(Error::InvalidZone), "{none}");
+        }
+    }
+
+    #[test]
+    fn a_variable_names_a_file_or_tells_a_rule() {
+        let absolute = folder().join(NEW_YORK);
+        let absolute = absolute.to_str().unwrap();
+        for name in [NEW_YORK, absolute, &format!(":{NEW_YORK}")] {
+            assert_eq!(zone(Some(name), "none"), Ok(new_york()), "{name}");
+        }
+        assert_eq!(zone(Some(RULE), NEW_YORK), Ok(Zone::Posix(RULE.into())));
+        for empty in ["", ":"] {
+            assert_eq!(zone(Some(empty), NEW_YORK), Ok(Zone::UTC));
+        }
+        for none in ["banana", "raw.rows", "/dev/zero", ".", "EST5EDT,M3"] {
+            assert_eq!(
+                zone(Some(none), NEW_YORK),
+                Err(Error::InvalidZone),
+                "{none}"
+            );
+        }
+    }
+
+    #[test]
+    fn a_variable_that_is_no_text_names_none() {
+        use std::os::unix::ffi::OsStrExt;
+        let settings = Settings {
+            variable: Some(OsStr::from_bytes(b"\xff")),
+            folder: folder(),
+            default_file: &folder().join(NEW_YORK),
+        };
+        assert_eq!(settings.zone(), Err(Error::InvalidZone));
+    }
+}
