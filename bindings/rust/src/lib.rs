@@ -20,7 +20,7 @@
 //! let now = Moment::at_offset(1698400800, 7200);
 //! assert_eq!(parse("yesterday", Some(now)).unwrap().seconds, 1698314400);
 //! ```
-#![deny(missing_docs, unsafe_code)]
+#![deny(missing_docs, unsafe_code, clippy::undocumented_unsafe_blocks)]
 
 pub mod bytes;
 #[allow(unsafe_code)]

@@ -86,7 +86,7 @@ impl Time {
         }
     }
 
-    /// The same, with the seconds for a time that has no text in that format.
+    /// The same, with the seconds for a time that has no text in that format, and where the library is refused memory.
     ///
     /// ```
     /// use gix_date_proved::{time::format, Time};
