@@ -24,7 +24,9 @@ fn times_are_values() {
     assert_eq!(gix_date::Time::new(seconds, offset), DAY);
     assert_eq!(Time::default(), Time::new(0, 0));
     assert!(DAY.is_set() && !Time::default().is_set());
-    assert!(Time::MIN < Time::MAX);
+    assert!(Time::new(1, 0).is_set() && Time::new(0, 1).is_set());
+    assert_eq!(Time::MIN, Time::new(i64::MIN, -359999));
+    assert_eq!(Time::MAX, Time::new(i64::MAX, 359999));
     assert_eq!(HashSet::from([DAY, DAY]).len(), 1);
     assert_eq!(BTreeSet::from([DAY, Time::MIN]).first(), Some(&Time::MIN));
     assert!(format!("{DAY:?}").starts_with("Time {"));

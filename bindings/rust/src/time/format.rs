@@ -41,7 +41,7 @@ const NAMED: [CustomFormat; 7] = [
     DEFAULT,
 ];
 
-/// How the library is asked for a format. A number spares it to read the pattern.
+/// How the library is asked for a format. It prints by a number without reading a pattern, so faster.
 #[derive(Debug, PartialEq, Eq)]
 enum Request {
     Number(u32),

@@ -12,7 +12,7 @@ impl Time {
     /// The last time that can be written in a header.
     pub const MAX: Time = Time::new(SecondsSinceUnixEpoch::MAX, MAX_OFFSET);
 
-    /// The first time that can be written in a header. No header text is longer than its.
+    /// The first time that can be written in a header. Its text is the longest one.
     pub const MIN: Time = Time::new(SecondsSinceUnixEpoch::MIN, -MAX_OFFSET);
 
     /// A time of its seconds and its offset.
