@@ -1,19 +1,21 @@
 /* Git's times for C and C++: commit headers, dates, signature lines and printed times.
  *
- * Each call is proved to do what docs/C.md says of it, for every input, as long as its pointers and
- * lengths are valid. docs/C.md tells how to build and link the library. It is for Linux with glibc
- * on x86-64 processors.
+ * Each call is proved to do what docs/C.md says of it, for every input with valid pointers and
+ * lengths. docs/C.md tells how to build and link the library, for Linux with glibc on x86-64.
  *
- * Texts are bytes, given by a pointer and a length, and need no NUL at their end. They have to be
- * UTF-8, and are refused by GIX_DATE_NOT_TEXT where they are not. Pointers and lengths have to be
- * valid, and a place that is written to overlaps no other argument. A text or a buffer of no bytes
- * may come with any pointer; all other pointers are not NULL.
+ * A text is UTF-8, given by a pointer and a length, and needs no NUL. Other bytes are refused by
+ * GIX_DATE_NOT_TEXT or false. With length 0 any pointer is valid; no other pointer is NULL. Outputs
+ * overlap no other argument.
+ *
+ * A call that writes a text puts it at the front of a buffer, without a NUL, and its length into
+ * *len. If the buffer is too short (GIX_DATE_NO_ROOM), *len is the length that is needed. After any
+ * other refusal it is 0.
  *
  * Seconds count from 1970-01-01 00:00:00 UTC, and an offset is seconds east of UTC.
  *
- * No call takes memory but those that say so here; these take it by malloc, and free it before they
- * return. No call keeps a pointer, has a state, or reads the clock, the environment or a file. So
- * each may be called by many threads at once, but not from a signal handler if it takes memory. */
+ * Only calls that say so take memory, by malloc, and free it before they return: do not call these
+ * in a signal handler. No call keeps a pointer, has a state, or reads the clock, the environment or
+ * a file, so threads may call at once. */
 #ifndef GIX_DATE_H
 #define GIX_DATE_H
 
@@ -25,39 +27,46 @@
 extern "C" {
 #endif
 
-/* The version that this header belongs to, and the number that gix_date_version answers for it. */
-#define GIX_DATE_VERSION "0.18.1"
-#define GIX_DATE_VERSION_NUMBER 1801
+/* The version of this library, and the number that gix_date_version answers for it: ten thousands
+ * for the first number, hundreds for the second. The first number rises if programs have to be
+ * changed or linked again, the second if there are new calls. */
+#define GIX_DATE_VERSION "1.0.0"
+#define GIX_DATE_VERSION_NUMBER 10000
+
+/* The version of the Rust crate gix-date that this library ports, and its number. */
+#define GIX_DATE_PORTED_VERSION "0.18.1"
+#define GIX_DATE_PORTED_VERSION_NUMBER 1801
 
 /* The most bytes of a header text. */
 #define GIX_DATE_MAX_HEADER 26
 
-/* How a call ended. Each call lists the statuses that it answers beside GIX_DATE_OK. For these,
- * what it was to write is as it was, but for *len. */
+/* How a call ended. Each call lists the statuses that it answers beside GIX_DATE_OK. After these
+ * all outputs but *len are unchanged. */
 enum gix_date_status {
     GIX_DATE_OK = 0,
     /* Bytes that have to be UTF-8 are not. */
     GIX_DATE_NOT_TEXT = 1,
-    /* A number is that of no format, or of no rule for raw offsets. */
+    /* No format, or no rule for raw offsets, has this number. */
     GIX_DATE_NO_SUCH_OPTION = 2,
     /* The buffer is too short for the text. */
     GIX_DATE_NO_ROOM = 3,
     /* The text is no time of a header. */
     GIX_DATE_INVALID_TIME = 4,
-    /* The text is in no form that a date may have, or its offset is above 23:59. */
+    /* The text has no known form of a date, or its offset is above 23:59. */
     GIX_DATE_UNKNOWN_FORMAT = 5,
-    /* The day's midnight in UTC is no instant that can be computed with. */
+    /* The day's midnight in UTC is after the last instant, 253402207200. */
     GIX_DATE_DATE_CONVERSION = 6,
     /* The text is relative to a moment, and none was given. */
     GIX_DATE_MISSING_NOW = 7,
     /* The relative text names an instant that cannot be computed. */
     GIX_DATE_RANGE = 8,
     /* The seconds of the moment are outside -377705023201 to 253402207200, its nanoseconds are
-     * outside -999999999 to 999999999, or their sum is before the first instant. */
+     * outside -999999999 to 999999999, or their sum is before the first instant. So 253402207201,
+     * -1 is refused, though 253402207200, 999999999 is the same instant and is not. */
     GIX_DATE_INVALID_INSTANT = 9,
     /* The offset is beyond 25:59:59, or the rule or the file of the zone cannot be read. */
     GIX_DATE_INVALID_ZONE = 10,
-    /* The seconds or the offset are outside what a civil date can be computed for. */
+    /* The seconds are outside -377705023201 to 253402207200, or the offset is beyond 25:59:59. */
     GIX_DATE_CONVERSION = 11,
     /* The offset is 100 hours or more. */
     GIX_DATE_OFFSET_TOO_WIDE = 12,
@@ -71,7 +80,7 @@ enum gix_date_status {
     GIX_DATE_BAD_PART = 16
 };
 
-/* What a status means, in words for a person, in English; "unknown status" for another number. */
+/* What a status means, in English; "unknown status" for another number. */
 static inline const char *gix_date_status_text(uint32_t status)
 {
     switch (status) {
@@ -133,7 +142,7 @@ enum gix_date_named_format {
     GIX_DATE_RAW = 8             /* 1660797906 +0800 */
 };
 
-/* A time: seconds since 1970, and an offset in seconds east of UTC. Any two numbers are one. */
+/* A time: seconds since 1970, and an offset in seconds east of UTC. Any two numbers are a time. */
 typedef struct gix_date_time {
     int64_t seconds;
     int32_t offset;
@@ -159,27 +168,34 @@ typedef struct gix_date_signature {
     gix_date_span time;
 } gix_date_signature;
 
-/* The version of the library that is linked: GIX_DATE_VERSION_NUMBER of its header. */
+/* The version of the library that is linked: GIX_DATE_VERSION_NUMBER of its own header. */
 uint32_t gix_date_version(void);
+
+/* The version of gix-date that the linked library ports. */
+uint32_t gix_date_ported_version(void);
+
+/* Whether the linked library has all that this header declares: its first number is the header's,
+ * and it is not older. */
+static inline bool gix_date_version_fits(void)
+{
+    const uint32_t linked = gix_date_version();
+    return linked / 10000 == GIX_DATE_VERSION_NUMBER / 10000 && linked >= GIX_DATE_VERSION_NUMBER;
+}
 
 /* Reads the time of a commit header, "1660797906 +0800", leniently as gix-date does: "12abc" is 12,
  * 0. GIX_DATE_NOT_TEXT, GIX_DATE_INVALID_TIME. */
 uint32_t gix_date_parse_header(const char *text, size_t text_len, gix_date_time *time);
 
-/* Whether a text comes back byte for byte when it is read as a header and written: whether it is as
- * Git writes it. */
+/* Whether a text is as Git writes it: read as a header and written, it comes back byte for byte. */
 bool gix_date_is_canonical_header(const char *text, size_t text_len);
 
-/* Puts the text of a time in a commit header at the front of a buffer, and its length into *len.
- * The rest of the buffer is as it was. Seconds beyond the whole minutes of the offset are dropped.
- * GIX_DATE_NO_ROOM, and then *len is the length that the buffer needs, at most GIX_DATE_MAX_HEADER;
- * GIX_DATE_OFFSET_TOO_WIDE, and then *len is 0. */
+/* Writes the text of a time in a commit header, of at most GIX_DATE_MAX_HEADER bytes. Seconds of an
+ * offset beyond whole minutes are dropped. GIX_DATE_NO_ROOM, GIX_DATE_OFFSET_TOO_WIDE. */
 uint32_t gix_date_write_header(const gix_date_time *time, char *out, size_t out_len,
                                size_t *len);
 
 /* Parses a date in one of the forms that docs/SPECIFICATION.md lists, by a rule of enum
- * gix_date_raw_offsets. A date that is relative ("2 days ago") is refused, since there is no moment
- * that it counts from.
+ * gix_date_raw_offsets. A relative date ("2 days ago") is refused, since no moment is given.
  * GIX_DATE_NO_SUCH_OPTION, GIX_DATE_NOT_TEXT, GIX_DATE_UNKNOWN_FORMAT, GIX_DATE_DATE_CONVERSION,
  * GIX_DATE_MISSING_NOW. */
 uint32_t gix_date_parse(const char *text, size_t text_len, uint32_t raw_offsets,
@@ -203,10 +219,9 @@ uint32_t gix_date_parse_in_tzif_zone(const char *text, size_t text_len, uint32_t
                                      const gix_date_instant *now, const void *file,
                                      size_t file_len, gix_date_time *time);
 
-/* Puts the text of a time in a format of enum gix_date_named_format at the front of a buffer, and
- * its length into *len. The rest of the buffer is as it was. Takes memory for the text.
- * GIX_DATE_NO_ROOM, and then *len is the length that the buffer needs; GIX_DATE_NO_SUCH_OPTION,
- * GIX_DATE_CONVERSION, GIX_DATE_OFFSET_TOO_WIDE, GIX_DATE_OUT_OF_MEMORY, and then *len is 0. */
+/* Writes a time in a format of enum gix_date_named_format. Takes memory for the text.
+ * GIX_DATE_NO_ROOM, GIX_DATE_NO_SUCH_OPTION, GIX_DATE_CONVERSION, GIX_DATE_OFFSET_TOO_WIDE,
+ * GIX_DATE_OUT_OF_MEMORY. */
 uint32_t gix_date_format(const gix_date_time *time, uint32_t format, char *out, size_t out_len,
                          size_t *len);
 
@@ -215,9 +230,9 @@ uint32_t gix_date_format(const gix_date_time *time, uint32_t format, char *out, 
 uint32_t gix_date_format_or_unix(const gix_date_time *time, uint32_t format, char *out,
                                  size_t out_len, size_t *len);
 
-/* Puts the text of a time by a pattern of strftime, as jiff has its directives, at the front of a
- * buffer. Takes memory for it. GIX_DATE_NO_ROOM, GIX_DATE_NOT_TEXT, GIX_DATE_CONVERSION,
- * GIX_DATE_PATTERN, GIX_DATE_OUT_OF_MEMORY; *len as in gix_date_format. */
+/* Writes a time by a pattern of strftime, with the directives of jiff. Takes memory for the text.
+ * GIX_DATE_NO_ROOM, GIX_DATE_NOT_TEXT, GIX_DATE_CONVERSION, GIX_DATE_PATTERN,
+ * GIX_DATE_OUT_OF_MEMORY. */
 uint32_t gix_date_format_by_pattern(const gix_date_time *time, const char *pattern,
                                     size_t pattern_len, char *out, size_t out_len, size_t *len);
 
@@ -232,10 +247,8 @@ uint32_t gix_date_format_by_pattern_or_unix(const gix_date_time *time, const cha
  * GIX_DATE_NO_SIGNATURE. */
 uint32_t gix_date_cut_signature(const char *line, size_t line_len, gix_date_signature *parts);
 
-/* Puts the signature line of a name, a mail and a time at the front of a buffer, without a newline,
- * and its length into *len. The rest of the buffer is as it was. GIX_DATE_NO_ROOM, and then *len is
- * the length that the buffer needs; GIX_DATE_NOT_TEXT, GIX_DATE_BAD_PART, GIX_DATE_OFFSET_TOO_WIDE,
- * and then *len is 0. */
+/* Writes the signature line of a name, a mail and a time, without a newline. GIX_DATE_NO_ROOM,
+ * GIX_DATE_NOT_TEXT, GIX_DATE_BAD_PART, GIX_DATE_OFFSET_TOO_WIDE. */
 uint32_t gix_date_write_signature(const char *name, size_t name_len, const char *mail,
                                   size_t mail_len, const gix_date_time *time, char *out,
                                   size_t out_len, size_t *len);

@@ -9,7 +9,7 @@
 #include <stdlib.h>
 #include <string.h>
 
-static atomic_size_t requests;
+static atomic_size_t requests, bytes;
 static _Atomic bool refuses;
 
 void *__real_malloc(size_t size);
@@ -20,13 +20,25 @@ void *__wrap_realloc(void *block, size_t size);
 void *__wrap_malloc(size_t size)
 {
     requests++;
+    bytes += size;
     return refuses ? NULL : __real_malloc(size);
 }
 
 void *__wrap_realloc(void *block, size_t size)
 {
     requests++;
+    bytes += size;
     return refuses ? NULL : __real_realloc(block, size);
+}
+
+/* Requests for memory, and how many bytes they ask for together. */
+typedef struct demand {
+    size_t requests, bytes;
+} demand;
+
+static demand so_far(void)
+{
+    return (demand){requests, bytes};
 }
 
 static atomic_int failures;
@@ -44,6 +56,16 @@ static atomic_int failures;
 /* A text and its length. */
 #define TEXT(text) (text), strlen(text)
 #define BYTES(bytes) (bytes), sizeof(bytes) - 1
+
+/* What a call asked for since then has to be this. */
+static void expect_demand(demand since, demand wanted, const char *call)
+{
+    const demand seen = {requests - since.requests, bytes - since.bytes};
+    EXPECT(seen.requests == wanted.requests && seen.bytes == wanted.bytes,
+           "%s makes %zu requests for %zu bytes", call, seen.requests, seen.bytes);
+}
+
+static const demand none = {0, 0};
 
 /* What no call stores. */
 static const gix_date_time untouched = {-77, -7};
@@ -154,7 +176,8 @@ static void dates(void)
 static void relative_dates(void)
 {
     static const gix_date_instant now = {1698400800, 0}, beyond = {253402207201, 0},
-                                  odd = {0, 1000000000};
+                                  odd = {0, 1000000000}, last = {253402207200, 999999999},
+                                  last_otherwise = {253402207201, -1};
     static const gix_date_instant in_fold = {1699165800, 0}, before_a_second = {1, -1};
     const char *rule = "EST5EDT,M3.2.0,M11.1.0";
     gix_date_time time = untouched;
@@ -180,7 +203,14 @@ static void relative_dates(void)
                is_time(time, 0, 0),
            "a nanosecond before second 1 is in second 0");
 
+    EXPECT(gix_date_parse_at_offset(TEXT("now"), 0, &last, 0, &time) == GIX_DATE_OK &&
+               is_time(time, 253402207200, 0),
+           "the last instant");
+
     time = untouched;
+    EXPECT(gix_date_parse_at_offset(TEXT("now"), 0, &last_otherwise, 0, &time) ==
+               GIX_DATE_INVALID_INSTANT,
+           "the last instant by a second more");
     EXPECT(gix_date_parse_at_offset(TEXT("12023 years ago"), 0, &now, 0, &time) == GIX_DATE_RANGE,
            "too long ago");
     EXPECT(gix_date_parse_at_offset(TEXT("now"), 0, &now, 93600, &time) == GIX_DATE_INVALID_ZONE,
@@ -229,35 +259,39 @@ static void rules_of_offsets(void)
     EXPECT(is_time(time, untouched.seconds, untouched.offset), "a refusal stores nothing");
 }
 
-/* New York's zone as a file: version 2, no transition, and the rule. */
+/* New York's zone as a file: version 2, the change of March 2023, and the rule. */
 static const char zone_file[] = "TZif2\0\0\0\0\0\0\0\0\0\0\0\0\0\0\0\0\0\0\0\0\0\0\0\0\0\0\0\0\0\0"
                                 "\0\0\0\0\1\0\0\0\4\0\0\0\0\0\0EST\0"
-                                "TZif2\0\0\0\0\0\0\0\0\0\0\0\0\0\0\0\0\0\0\0\0\0\0\0\0\0\0\0\0\0\0"
-                                "\0\0\0\0\1\0\0\0\4\xff\xff\xb9\xb0\0\0EST\0"
+                                "TZif2\0\0\0\0\0\0\0\0\0\0\0\0\0\0\0\0\0\0\0\0\0\0\0\0\0\0\0\0"
+                                "\0\0\1\0\0\0\2\0\0\0\x8"
+                                "\0\0\0\0\x64\x0d\x78\x70\1"
+                                "\xff\xff\xb9\xb0\0\0\xff\xff\xc7\xc0\1\4"
+                                "EST\0EDT\0"
                                 "\nEST5EDT,M3.2.0,M11.1.0\n";
 
 static void zone_files(void)
 {
     static const gix_date_instant now = {1699165800, 0};
     gix_date_time time = untouched;
-    size_t before = requests;
+    demand before = so_far();
     EXPECT(gix_date_parse_in_tzif_zone(TEXT("1 hour ago"), 0, &now, BYTES(zone_file), &time) ==
                GIX_DATE_OK,
            "1 hour ago");
+    expect_demand(before, (demand){1, 40}, "a zone of one change");
     EXPECT(is_time(time, 1699158600, -14400), "%lld %d", (long long)time.seconds, (int)time.offset);
-    size_t taken = requests - before;
     time = untouched;
     for (size_t len = 0; len < sizeof zone_file - 1; len++)
         EXPECT(gix_date_parse_in_tzif_zone(TEXT("now"), 0, &now, zone_file, len,
                                            &time) == GIX_DATE_INVALID_ZONE,
                "a file of %zu bytes", len);
     refuses = true;
-    uint32_t status = gix_date_parse_in_tzif_zone(TEXT("now"), 0, &now, BYTES(zone_file), &time);
+    before = so_far();
+    EXPECT(gix_date_parse_in_tzif_zone(TEXT("now"), 0, &now, BYTES(zone_file), &time) ==
+               GIX_DATE_OUT_OF_MEMORY,
+           "no memory");
+    expect_demand(before, (demand){1, 40}, "a zone that is refused memory");
     refuses = false;
-    EXPECT(status == (taken > 0 ? GIX_DATE_OUT_OF_MEMORY : GIX_DATE_OK), "%u after %zu requests",
-           status, taken);
-    EXPECT(taken == 0 || is_time(time, untouched.seconds, untouched.offset),
-           "a refusal stores nothing");
+    EXPECT(is_time(time, untouched.seconds, untouched.offset), "a refusal stores nothing");
 }
 
 typedef uint32_t formatter(const gix_date_time *, uint32_t, char *, size_t, size_t *);
@@ -281,7 +315,9 @@ static void formats(formatter *format)
             char *buffer = malloc(room + 1);
             memset(buffer, '#', room + 1);
             size_t len = 99;
+            demand before = so_far();
             uint32_t status = format(&time, i, buffer, room, &len);
+            expect_demand(before, (demand){1, strlen(texts[i])}, texts[i]);
             bool fits = room >= strlen(texts[i]);
             EXPECT(status == (fits ? GIX_DATE_OK : GIX_DATE_NO_ROOM) && len == strlen(texts[i]),
                    "%s: %u", texts[i], status);
@@ -293,13 +329,16 @@ static void formats(formatter *format)
     char buffer[64];
     size_t len = 99;
     memset(buffer, '#', sizeof buffer);
+    demand before = so_far();
     EXPECT(format(&time, 9, buffer, sizeof buffer, &len) == GIX_DATE_NO_SUCH_OPTION &&
                len == 0,
            "format 9");
+    expect_demand(before, none, "format 9");
     refuses = true;
     EXPECT(format(&time, GIX_DATE_ISO8601, buffer, sizeof buffer, &len) ==
                GIX_DATE_OUT_OF_MEMORY,
            "no memory");
+    expect_demand(before, (demand){1, 25}, "a format that is refused memory");
     refuses = false;
     EXPECT(len == 0 && is_untouched(buffer, sizeof buffer), "a refusal stores nothing");
 }
@@ -349,6 +388,53 @@ static void refused_formats(void)
     EXPECT(len == 10 && memcmp(buffer, "1660797906", 10) == 0, "the seconds");
 }
 
+enum { BY_PATTERN = 99 };
+
+/* A print of a time: by a format or by a pattern, or in its place the seconds. */
+static void print(const gix_date_time *time, uint32_t format, const char *pattern, bool or_unix)
+{
+    char out[64];
+    size_t len;
+    if (format == BY_PATTERN)
+        (or_unix ? gix_date_format_by_pattern_or_unix
+                 : gix_date_format_by_pattern)(time, TEXT(pattern), out, sizeof out, &len);
+    else
+        (or_unix ? gix_date_format_or_unix : gix_date_format)(time, format, out, sizeof out, &len);
+}
+
+/* What each print asks for. By a pattern that is no named one, or for a time that is printed by it,
+ * the first request is for twice the pattern's length, and others follow only for a longer text. */
+static void memory_of_prints(void)
+{
+    static const gix_date_time day = {1660874655, 28800}, early = {-62198755200, 0},
+                               far = {INT64_MAX, 0}, wide = {0, 362340};
+    static const struct {
+        const gix_date_time *time;
+        uint32_t format;
+        const char *pattern;
+        demand wanted, or_unix;
+    } rows[] = {
+        {&early, GIX_DATE_ISO8601, "", {1, 40}, {1, 40}},
+        {&far, GIX_DATE_ISO8601, "", {0, 0}, {1, 19}},
+        {&wide, GIX_DATE_RAW, "", {0, 0}, {1, 1}},
+        {&day, BY_PATTERN, "%Y-%m-%d %H:%M:%S %z", {1, 25}, {1, 25}},
+        {&day, BY_PATTERN, "%H:%M", {1, 10}, {1, 10}},
+        {&day, BY_PATTERN, "%A, %B, %A, %B", {2, 28 + 56}, {2, 28 + 56}},
+        {&day, BY_PATTERN, "", {0, 0}, {0, 0}},
+        {&day, BY_PATTERN, "%!", {1, 4}, {2, 4 + 10}},
+        {&day, BY_PATTERN, "\xff", {0, 0}, {0, 0}},
+        {&far, BY_PATTERN, "%Y", {0, 0}, {1, 19}},
+    };
+    for (size_t i = 0; i < sizeof rows / sizeof *rows; i++) {
+        demand before = so_far();
+        print(rows[i].time, rows[i].format, rows[i].pattern, false);
+        expect_demand(before, rows[i].wanted, rows[i].pattern);
+        before = so_far();
+        print(rows[i].time, rows[i].format, rows[i].pattern, true);
+        expect_demand(before, rows[i].or_unix, rows[i].pattern);
+    }
+}
+
 static void patterns_without_memory(void)
 {
     static const gix_date_time day = {1660797906, 28800};
@@ -356,6 +442,7 @@ static void patterns_without_memory(void)
     char *out = buffer;
     size_t len = 99, len_or_unix = 99;
     memset(buffer, '#', sizeof buffer);
+    demand before = so_far();
     refuses = true;
     EXPECT(gix_date_format_by_pattern(&day, TEXT("%H:%M"), out, sizeof buffer, &len) ==
                GIX_DATE_OUT_OF_MEMORY,
@@ -364,6 +451,7 @@ static void patterns_without_memory(void)
                                               &len_or_unix) == GIX_DATE_OUT_OF_MEMORY,
            "a clock");
     refuses = false;
+    expect_demand(before, (demand){2, 10 + 10}, "two patterns that are refused memory");
     EXPECT(len == 0 && len_or_unix == 0 && is_untouched(buffer, sizeof buffer),
            "a refusal stores nothing");
 }
@@ -462,13 +550,20 @@ static void threads(void)
         pthread_join(all[i], NULL);
 }
 
-/* The version in its three forms: the header's text and number, and the library's number. */
+/* A version in its three forms: the header's text and number, and the library's number. */
+static void is_version(const char *text, unsigned number, unsigned linked)
+{
+    char told[16];
+    snprintf(told, sizeof told, "%u.%u.%u", linked / 10000, linked / 100 % 100, linked % 100);
+    EXPECT(number == linked && strcmp(told, text) == 0,
+           "the header says %s or %u, and the library %s", text, number, told);
+}
+
 static void version(void)
 {
-    unsigned number = gix_date_version();
-    char text[16];
-    snprintf(text, sizeof text, "%u.%u.%u", number / 10000, number / 100 % 100, number % 100);
-    EXPECT(number == GIX_DATE_VERSION_NUMBER && strcmp(text, GIX_DATE_VERSION) == 0, "%s", text);
+    is_version(GIX_DATE_VERSION, GIX_DATE_VERSION_NUMBER, gix_date_version());
+    is_version(GIX_DATE_PORTED_VERSION, GIX_DATE_PORTED_VERSION_NUMBER, gix_date_ported_version());
+    EXPECT(gix_date_version_fits(), "the library does not fit its header");
 }
 
 /* Each status has words of its own, and a number that is no status has none. */
@@ -514,6 +609,7 @@ int main(void)
     formats(gix_date_format);
     formats(gix_date_format_or_unix);
     refused_formats();
+    memory_of_prints();
     patterns_without_memory();
     signatures();
     threads();

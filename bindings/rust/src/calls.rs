@@ -42,6 +42,11 @@ pub(crate) fn version() -> u32 {
     unsafe { ffi::gix_date_version() }
 }
 
+pub(crate) fn ported_version() -> u32 {
+    // SAFETY: the call has no argument.
+    unsafe { ffi::gix_date_ported_version() }
+}
+
 pub(crate) fn parse_header(text: &[u8]) -> Result<Time, Error> {
     let mut time = Time::default();
     // SAFETY: the text is valid for its length, and the time is a place of its own.

@@ -26,6 +26,7 @@ pub struct CSignature {
 
 extern "C" {
     pub fn gix_date_version() -> u32;
+    pub fn gix_date_ported_version() -> u32;
     pub fn gix_date_parse_header(text: *const u8, text_len: usize, time: *mut Time) -> u32;
     pub fn gix_date_is_canonical_header(text: *const u8, text_len: usize) -> bool;
     pub fn gix_date_write_header(

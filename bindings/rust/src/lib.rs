@@ -29,14 +29,18 @@ mod error;
 mod ffi;
 mod moment;
 pub mod parse;
+#[cfg(feature = "serde")]
+mod serde;
 mod signature;
 pub mod time;
+mod version;
 
 pub use error::Error;
 pub use moment::{Moment, Zone, Zoned};
 pub use parse::function::{is_canonical_header, parse, parse_header, parse_with, RawOffsets};
 pub use signature::{write_signature, Signature};
 pub use time::Format;
+pub use version::{Version, VersionError};
 
 /// A time: seconds since 1970, and an offset from UTC. Any two numbers are one. Times are in order of their seconds, then of
 /// their offsets.
@@ -55,7 +59,17 @@ pub type SecondsSinceUnixEpoch = i64;
 /// An offset from UTC in seconds; below 0 for places west of it.
 pub type OffsetInSeconds = i32;
 
-/// The version of the library that is linked, as `include/gix_date.h` numbers it: 1801 for 0.18.1.
-pub fn version() -> u32 {
-    calls::version()
+/// The version of the linked library.
+pub fn library_version() -> Version {
+    Version::of_number(calls::version())
+}
+
+/// The version of gix-date that the linked library ports.
+pub fn ported_version() -> Version {
+    Version::of_number(calls::ported_version())
+}
+
+/// Whether this crate can use the linked library. The build compares the library's header alone.
+pub fn check_library() -> Result<(), VersionError> {
+    library_version().serves(Version::of_crate())
 }

@@ -3,8 +3,8 @@
 use gix_date_proved::parse::TimeBuf;
 use gix_date_proved::time::{format, CustomFormat, Format};
 use gix_date_proved::{
-    bytes, is_canonical_header, parse, parse_header, parse_with, version, write_signature, Error,
-    Moment, RawOffsets, Signature, Time, Zone,
+    bytes, check_library, is_canonical_header, library_version, parse, parse_header, parse_with,
+    ported_version, write_signature, Error, Moment, RawOffsets, Signature, Time, Version, Zone,
 };
 use std::collections::HashSet;
 use std::io;
@@ -313,11 +313,37 @@ fn types_have_their_traits() {
 fn errors_are_errors() {
     let error: Box<dyn std::error::Error> = Box::new(parse("banana", None).unwrap_err());
     assert_eq!(error.to_string(), "no known date format");
-    let [major, minor, patch] = [
-        env!("CARGO_PKG_VERSION_MAJOR"),
-        env!("CARGO_PKG_VERSION_MINOR"),
-        env!("CARGO_PKG_VERSION_PATCH"),
-    ]
-    .map(|part| part.parse::<u32>().unwrap());
-    assert_eq!(version(), 10_000 * major + 100 * minor + patch);
+}
+
+fn version([major, minor, patch]: [u32; 3]) -> Version {
+    Version {
+        major,
+        minor,
+        patch,
+    }
+}
+
+#[test]
+fn the_library_is_of_the_version_of_this_crate() {
+    if let Err(error) = check_library() {
+        panic!("{error}");
+    }
+    assert_eq!(library_version(), Version::of_crate());
+    assert_eq!(library_version().to_string(), env!("CARGO_PKG_VERSION"));
+    assert_eq!(ported_version().to_string(), "0.18.1");
+}
+
+#[test]
+fn a_library_serves_crates_of_its_first_number_that_are_not_newer() {
+    let [library, wanted] = [[1, 2, 3], [2, 0, 0]].map(version);
+    for older in [[1, 2, 3], [1, 2, 2], [1, 1, 9], [1, 0, 0]] {
+        assert_eq!(library.serves(version(older)), Ok(()));
+    }
+    for other in [[1, 2, 4], [1, 3, 0], [2, 0, 0], [0, 18, 1]] {
+        assert_ne!(library.serves(version(other)), Ok(()));
+    }
+    assert_eq!(
+        library.serves(wanted).unwrap_err().to_string(),
+        "the library gix_date has version 1.2.3, and this crate needs 2.0.0 or a later 2.x"
+    );
 }

@@ -3,9 +3,5 @@ pub mod Apart
 pub mod Disjoint
 pub mod Exclusive
 pub mod Ranges
-pub mod Agree
-pub mod Widened
 pub mod Shapes
-pub mod Overlaps
-pub mod Grammars
 pub mod RawLimits

@@ -1,4 +1,3 @@
 -- Git's own forms.
-pub mod GitGrammar
 pub mod ClockCuts
 pub mod ClockParts

@@ -1,4 +1,3 @@
 -- Commit headers.
 pub mod HeaderLaws
-pub mod RawHeaders
 pub mod HeaderTexts

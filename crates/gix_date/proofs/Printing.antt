@@ -8,4 +8,3 @@ pub mod PrintedTimes
 pub mod RawBack
 pub mod LocalClocks
 pub mod ShownTexts
-pub mod ShortBack

@@ -7,8 +7,6 @@ pub mod CountRuns
 pub mod RelativeScans
 pub mod RolePlaces
 pub mod RelativeReading
-pub mod RelativeGrammar
-pub mod LetterCase
 pub mod Steps
 pub mod FixedZones
 pub mod FixedTimes

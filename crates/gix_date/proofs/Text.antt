@@ -7,7 +7,6 @@ pub mod WordsWithin
 pub mod FirstWords
 pub mod Places
 pub mod FirstBytes
-pub mod AroundTexts
 pub mod Ints
 pub mod Decimals
 pub mod WhiteSpace

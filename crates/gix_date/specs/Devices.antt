@@ -1,5 +1,5 @@
 -- Sinks and sources, and the texts that are lent and copied.
-pub mod Known
+pub mod StreamState
 pub mod Device
 pub mod Lending
 pub mod TimeBuf

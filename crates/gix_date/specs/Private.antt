@@ -12,3 +12,4 @@ pub mod Headers
 pub mod CanonicalBytes
 pub mod Printing
 pub mod NamedTexts
+pub mod Types

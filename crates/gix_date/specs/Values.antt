@@ -12,11 +12,11 @@ abbrev pub ComparesParts : (Time → Time → Ordering) → Type 0
 ComparesParts compare =
     (a b : Time) → compare a b ≡ then_cmp (on (λ t. t.seconds) int_cmp) (on (λ t. t.offset) int_cmp) a b
 
--- two times compare as equal exactly where they pass the test
+-- two times compare as `Equal` iff they pass the test
 abbrev pub AgreesWith : (Time → Time → Ordering) → (Time → Time → Bool) → Type 0
 AgreesWith compare test = (a b : Time) → (compare a b ≡ Equal) ↔ IsTrue (test a b)
 
--- two values pass the test exactly where they are the same
+-- two values pass the test iff they are the same
 abbrev pub IsEquality : {A : Type 0} → (A → A → Bool) → Type 0
 IsEquality {A} test = (a b : A) → IsTrue (test a b) ↔ (a ≡ b)
 

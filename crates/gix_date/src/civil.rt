@@ -34,7 +34,7 @@ const MIDNIGHT: ClockFields = ClockFields {
 
 /// The seconds since 1970-01-01 00:00:00 UTC of this clock on this day, at this offset from UTC.
 ///
-/// `None` where the calendar does not have the day, or the day not the clock, or `jiff` no instant of these seconds.
+/// `None` if the calendar has no such day, the day no such clock, or `jiff` no such instant.
 pub(crate) fn civil_instant(
     date: DateFields,
     clock: ClockFields,
@@ -48,7 +48,7 @@ pub(crate) fn civil_instant(
     instant_at(date, clock, offset)
 }
 
-/// The same of a day's midnight in UTC: a clock that is known leaves less to compute.
+/// The same for a day's midnight in UTC, where the constant clock leaves less to compute.
 pub(crate) fn midnight_instant(date: DateFields) -> Option<SecondsSinceUnixEpoch>
     requires { DateFits date }
     ensures { result ≡ civil_instant date midnight (pos 0) }
@@ -56,7 +56,7 @@ pub(crate) fn midnight_instant(date: DateFields) -> Option<SecondsSinceUnixEpoch
     instant_at(date, MIDNIGHT, 0)
 }
 
-/// What both answer, inlined into each.
+/// The body of both, inlined so that a constant clock folds away.
 #[inline(always)]
 fn instant_at(
     date: DateFields,

@@ -1,19 +1,19 @@
 //! Writers and readers whose bytes and faults a contract can name.
 ghost use Rattle.std.specs.Prelude.{◌≡◌, None, Some, ◌<◌, ◌≤◌, length, IfOk, IfErr, IfSome, OnOk, OnErr};
 ghost use Rattle.std.specs.Io.KnownBytes.{WriteAppends, ReadConsumes};
-ghost use Rattle.gix_date.specs.Devices.Known.{Known, Takes, TakesProperPrefix, refusal};
+ghost use Rattle.gix_date.specs.Devices.StreamState.{StreamState, Takes, TakesProperPrefix, refusal};
 ghost use Rattle.gix_date.specs.Devices.Device.{inner_of, fault_of};
 
 use std::io;
 use std::io::{Read, Write};
 
-/// A place that takes bytes, and stays at its first fault.
+/// A place that takes bytes. After a fault each call answers that fault.
 pub trait Sink {
-    // The bytes taken so far, where the sink tells them, and the fault of the last call, if that was a refusal.
-    ghost known: { Self → Known };
+    // The bytes taken so far, if the sink reports them, and the fault of the last call, if it refused.
+    ghost known: { Self → StreamState };
 
-    /// Takes the first bytes of a piece, at least one, and answers how many. A refusal takes none, and is the answer of
-    /// each later call.
+    /// Takes the first bytes of a piece, at least one, and answers how many. A refusal takes no byte, and each later call
+    /// answers it again.
     ///
     /// The piece may not be empty.
     fn put(&mut self, piece: &[u8]) -> Result<usize, io::ErrorKind>
@@ -24,13 +24,13 @@ pub trait Sink {
         ensures again { IfSome (known self.old).fault (λ kind. result ≡ Err kind) };
 }
 
-/// A place that gives bytes, and stays at its first fault.
+/// A place that gives bytes. After a fault each call answers that fault.
 pub trait Source {
-    // The bytes that are left, where the source tells them, and the fault of the last call, if that was a refusal.
-    ghost known: { Self → Known };
+    // The bytes that are left, if the source reports them, and the fault of the last call, if it refused.
+    ghost known: { Self → StreamState };
 
-    /// Puts the next bytes at the front of a piece, and answers how many: none only at the end. A refusal gives none,
-    /// and is the answer of each later call.
+    /// Puts the next bytes at the front of a piece, and answers how many: 0 only at the end. A refusal gives no byte, and
+    /// each later call answers it again.
     ///
     /// The piece may not be empty.
     fn get(&mut self, piece: &mut [u8]) -> Result<usize, io::ErrorKind>
@@ -44,7 +44,7 @@ pub trait Source {
 /// A writer of std as a [`Sink`], and a reader of std as a [`Source`].
 ///
 /// Each call makes one `write` or `read`, and none after a fault. An interrupted call is a fault, and so is a `write`
-/// that takes no byte (`WriteZero`). It takes no memory but what the writer takes for itself, as a `Vec` that grows.
+/// that takes no byte (`WriteZero`). Only the writer itself may allocate, as a `Vec` that grows.
 #[derive(Debug, Drop)]
 pub struct Device<T> {
     inner: T,
@@ -60,7 +60,7 @@ impl<T> Device<T> {
         Device { inner, fault: None }
     }
 
-    /// The writer or reader back.
+    /// The writer or reader inside.
     pub fn into_inner(self) -> T
         ensures { result ≡ inner_of self }
     {
@@ -108,8 +108,8 @@ impl<T: Read> Source for Device<T> {
 
 /// Puts the whole text into a sink, by as many calls of [`Sink::put`] as that takes.
 ///
-/// Where the sink refuses, a proper prefix of the text was taken, and the answer is the sink's fault. Takes no memory
-/// of its own.
+/// If the sink refuses, it has taken a proper prefix of the text, and the answer is its fault. Takes no memory of its
+/// own.
 pub fn put_all<W: Sink>(out: &mut W, text: &[u8]) -> Result<(), io::ErrorKind>
     ensures ok { OnOk result (Takes (W.known out.old) (W.known out.new) text.now) }
     ensures cut { OnErr result (TakesProperPrefix (W.known out.old) (W.known out.new) text.now) }

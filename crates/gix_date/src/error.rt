@@ -10,7 +10,7 @@ use thiserror::Error;
 /// Why a call of this crate refuses. Each variant names the calls that answer it.
 #[derive(Debug, Drop, Error)]
 pub enum Error {
-    /// No form that a date may have holds the text, or its offset is above what a formatted date may have (`parse`).
+    /// The text is of no family, or a formatted date has an offset above 23:59 (`parse`).
     #[error("no known date format: {:?}; expected seconds since 1970, such as \"@0\" or \"1700000000\", \
         seconds and an offset, such as \"1660874655 +0800\", a date, such as \"2022-08-18 12:45:06 +0800\", \
         or a relative one, such as \"2 weeks ago\"", .input.as_text())]
@@ -18,53 +18,53 @@ pub enum Error {
         /// The text that was given.
         input: InputBytes,
     },
-    /// The text is no time of a header (`from_str`).
+    /// The header says no time (`from_str`).
     #[error("not a time: expected seconds since 1970, perhaps an offset such as +0100, and no colon")]
     InvalidTime,
-    /// The text names a time relative to now, and no moment was given (`parse`).
+    /// The text is relative, and no moment was given (`parse`).
     #[error("a relative date needs a moment to count from, and none was given")]
     MissingNow,
-    /// The date exists, and its midnight in UTC is outside the instants that can be computed with (`parse`).
+    /// The day's midnight in UTC is no instant of `jiff` (`parse`).
     #[error("the date is beyond the last instant that can be computed with: {:?}", .input.as_text())]
     DateConversion {
         /// The text that was given.
         input: InputBytes,
     },
-    /// The seconds or the offset are outside what a civil date can be computed for (`to_zoned`, `format`).
+    /// The seconds are no instant of `jiff`, or the offset is above 25:59:59 either way (`to_zoned`, `format`).
     #[error("the time is too far from 1970, or its offset from UTC is beyond 25:59:59")]
     Conversion,
-    /// The relative text names an instant that cannot be computed (`parse`).
+    /// The relative text names no instant of `jiff` (`parse`).
     #[error("the relative date leads to an instant that cannot be computed with")]
     Range,
-    /// The offset is 100 hours or more, so four digits cannot say it (`write_to`, `to_str`, `to_buf`, `format`).
+    /// The offset is 100 hours or more, which four digits cannot write (`write_to`, `to_str`, `to_buf`, `format`).
     #[error("an offset of 100 hours or more from UTC cannot be written")]
     OffsetTooWide,
-    /// The pattern has a directive that cannot be printed (`format`).
+    /// `jiff` refuses the pattern, or prints no UTF-8 (`format`).
     #[error("the pattern cannot be printed")]
     Pattern,
     /// The writer refused, and this is its fault (`write_to`).
     #[error("writing failed: {0}")]
     Write(io::ErrorKind),
-    /// Memory was asked for and refused (each call that is given an allocator).
+    /// An allocation failed (each call with an allocator).
     #[error("out of memory")]
     Memory,
 }
 
-/// Why [`parse_no_alloc`](crate::parse_no_alloc) refuses: what [`Error`] says of a date, without the text.
+/// Why [`parse_no_alloc`](crate::parse_no_alloc) refuses: the faults of `parse`, without the text.
 #[derive(Clone, Copy, Debug, PartialEq, Eq, Error)]
 pub enum ParseError {
-    /// No form that a date may have holds the text, or its offset is above what a formatted date may have.
+    /// The text is of no family, or a formatted date has an offset above 23:59.
     #[error("no known date format; expected seconds since 1970, such as \"@0\" or \"1700000000\", \
         seconds and an offset, such as \"1660874655 +0800\", a date, such as \"2022-08-18 12:45:06 +0800\", \
         or a relative one, such as \"2 weeks ago\"")]
     UnknownFormat,
-    /// The date exists, and its midnight in UTC is outside the instants that can be computed with.
+    /// The day's midnight in UTC is no instant of `jiff`.
     #[error("the date is beyond the last instant that can be computed with")]
     DateConversion,
-    /// The text names a time relative to now, and no moment was given.
+    /// The text is relative, and no moment was given.
     #[error("a relative date needs a moment to count from, and none was given")]
     MissingNow,
-    /// The relative text names an instant that cannot be computed.
+    /// The relative text names no instant of `jiff`.
     #[error("the relative date leads to an instant that cannot be computed with")]
     Range,
 }
@@ -86,7 +86,7 @@ impl Model for InputBytes {
 }
 
 impl InputBytes {
-    /// A copy of the bytes of a text, or that there is no memory for it.
+    /// A copy of the bytes of a text, or the fault of its allocation.
     pub(crate) fn copied(alloc: Global, input: &str) -> Result<InputBytes, AllocError>
         ensures { IfOk result (λ copy. copy ≡ input.now) }
     {

@@ -1,37 +1,25 @@
-//! Laws: each is the contract of a function. Only [`headline`] and [`headline_with`] do anything when they run.
+//! Laws: each is the contract of a function. When they run, only [`headline`] and [`headline_with`] do something.
 ghost use Rattle.gix_date.specs.Families.Order.{first_family, first_family_by, ParseOutcome};
 ghost use Rattle.gix_date.specs.Families.Laws.{AreDisjoint, AreExclusive};
 ghost use Rattle.gix_date.specs.Header.Laws.{CanonicalComesBack};
 ghost use Rattle.gix_date.specs.Families.Raw.{allows, is_raw_offset};
-ghost use Rattle.gix_date.specs.Printing.ReadingBack.{PlainTimesComeBack};
+ghost use Rattle.gix_date.specs.Printing.ReadingBack.{TimesRoundTrip};
 
 use crate::error::Error;
 use crate::parsing::dates::{parse, parse_with};
 use crate::parsing::raw::RawOffsets;
 use crate::time::Time;
-pub use families::{
-    agree, any_case, apart, comes_first, disjoint, disjoint_wide, dispatched, dispatched_by_rows,
-    exclusive, ignores_moment, one_outcome, overlapping, ranges, spelled, spelled_git,
-    spelled_numbers, trimmed, widened,
-};
-pub use formats::{
-    local_clock, named_formats, other_formats, printed, raw_read_back, raw_read_back_wide,
-    read_back, read_back_wide, short_read_back,
-};
-pub use headers::{alike, canonical, raw_is_header, written_is_read};
+pub use families::{disjoint, disjoint_wide, exclusive};
+pub use formats::{raw_read_back, raw_read_back_wide, read_back, read_back_wide};
+pub use headers::{alike, canonical, written_is_read};
 use jiff::Zoned;
-pub use relative::{
-    earlier, months_add, named_converts, named_once, never_later, seconds_before, seconds_permute,
-    spelled_relative, yesterday,
-};
+pub use relative::{months_add, seconds_permute, yesterday};
 use std::alloc::Global;
-pub use values::{clones, constants, equality, hash, limits, order, white_space};
 
 mod families;
 mod formats;
 mod headers;
 mod relative;
-mod values;
 
 /// The whole promise, in five parts.
 ///
@@ -39,7 +27,7 @@ mod values;
 ///   the text. This function returns what `parse` gives.
 /// - Raw texts, bare epochs and Git's own forms exclude one another. No raw text or bare epoch is relative.
 /// - No text is of two families, but Git's own forms share texts with ISO 8601, its strict form and relative texts.
-/// - Reading a header and writing it gives the same text exactly where the text is canonical.
+/// - Reading a header and writing it gives the same text iff the text is canonical.
 /// - The texts of the six named formats with a clock are parsed back to the time. The time has to convert, its own
 ///   clock to show a year from 1000 to 9999, and its offset to be whole minutes within 23:59.
 ///
@@ -50,7 +38,7 @@ pub fn headline(alloc: Global, text: &str, now: Option<Zoned<'_>>) -> Result<Tim
     ensures disjoint { AreDisjoint is_raw_offset text.now }
     ensures exclusive { AreExclusive is_raw_offset text.now }
     ensures canonical { CanonicalComesBack text.now }
-    ensures read_back { PlainTimesComeBack is_raw_offset }
+    ensures read_back { TimesRoundTrip is_raw_offset }
 {
     disjoint(text);
     exclusive(text, RawOffsets::Quarter);
@@ -70,7 +58,7 @@ pub fn headline_with(
     ensures disjoint { AreDisjoint (allows raw) text.now }
     ensures exclusive { AreExclusive (allows raw) text.now }
     ensures canonical { CanonicalComesBack text.now }
-    ensures read_back { PlainTimesComeBack (allows raw) }
+    ensures read_back { TimesRoundTrip (allows raw) }
 {
     exclusive(text, raw);
     canonical(text);

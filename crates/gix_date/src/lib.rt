@@ -1,11 +1,9 @@
-//! Git's times: the text of a commit header read and written, dates parsed, and times printed.
+//! Git's times: commit headers read and written, dates parsed, and times printed.
 //!
-//! [`parse_header`] reads the time of a commit header, leniently as gix-date does; [`parse`] reads a date in one of
-//! several forms, each of which holds a text whole, [`parse_with`] takes the rule for the offsets of raw ones, and
-//! [`parse_no_alloc`] answers the same without memory and without an allocator.
-//! [`is_canonical_header`] says whether a header comes back when it is read and written.
-//! [`Time::to_str`] and [`Time::write_to`] write the text of a commit header, [`Time::format`] prints a time in one of
-//! Git's formats or by any pattern, and [`Time::now_local`] makes one of a clock and a zone.
+//! [`parse_header`] reads a commit header leniently; [`is_canonical_header`] accepts only what Git writes. [`parse`]
+//! reads a date in one of eleven forms. [`parse_with`] takes the rule for raw offsets, and [`parse_no_alloc`] needs no
+//! allocator. [`Time::to_str`] and [`Time::write_to`] write a header, [`Time::format`] prints by a format, and
+//! [`Time::now_local`] makes a time of a clock and a zone.
 //!
 //! ```
 //! let time = parse_header("1660874655 +0800"); // Some(Time { seconds: 1660874655, offset: 28800 })
@@ -14,11 +12,9 @@
 //! let date = time?.format(alloc, ISO8601.into()); // Ok("2022-08-19 10:04:15 +0800")
 //! ```
 //!
-//! The names and modules are those of the Rust crate gix-date 0.18.1, but for `parsing`, which is `parse` there, and
-//! `device`, `laws`, [`Error`], [`InputBytes`], [`ParseError`], [`RawOffsets`], [`is_canonical_header`],
-//! [`parse_no_alloc`], [`parse_with`], [`Time::to_buf`], [`Time::format_by_pattern`] and
-//! [`Time::format_by_pattern_or_unix`], which are not there. Clock and zone are always handed in, and no call here takes memory unless it is given an allocator, but
-//! for what a writer takes for itself, as a `Device` of a `Vec` that grows.
+//! Names and modules are those of the Rust crate gix-date 0.18.1, except for `parsing`, which is `parse` there.
+//! `docs/DIFFERENCES.md` lists what is not there. The caller always passes clock and zone. A call takes memory only by
+//! an allocator that it is given, or as a `Vec` that is written to grows.
 #![tactic(auto)]
 
 mod civil;

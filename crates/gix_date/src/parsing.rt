@@ -1,4 +1,4 @@
-//! Texts to times, and the buffer for the text of a time.
+//! Reading headers and dates, and the buffer for a header text.
 //!
 //! The Rust crate names this module `parse`. Here a module and a function beside it cannot share a name.
 ghost use Rattle.std.specs.Prelude.{◌≡◌, [], ok_or};
@@ -30,21 +30,21 @@ mod relative;
 mod shape;
 mod space_words;
 
-/// A place for the text of one time, of 26 bytes at most, which takes no memory.
+/// A buffer for the header text of one time, of at most 26 bytes, without an allocation.
 #[derive(Clone, Copy)]
 pub struct TimeBuf {
     text: ArrayString<MAX_TEXT_LEN>,
 }
 
 impl TimeBuf {
-    /// The text that [`Time::to_buf`] or the last [`Time::to_str`] put here: empty before the first, and after a refusal.
+    /// The text that [`Time::to_buf`] or the last [`Time::to_str`] wrote here; empty before, and after a refusal.
     pub fn as_str(&self) -> &str
         ensures { result.now ≡ text_in self.now }
     {
         self.text.as_str()
     }
 
-    /// Puts the text of a time here and lends it, or leaves nothing here where the time has none.
+    /// Writes the text of a time here and lends it, or empties the buffer if the time has none.
     // Apart from `to_str`: the prover shows what a buffer holds after a loan only where the result owns no memory, as an
     // `Error` may.
     #[inline(always)]

@@ -34,6 +34,9 @@ pub(crate) const SECONDS_PER_HOUR: OffsetInSeconds = 60 * SECONDS_PER_MINUTE;
 /// Seconds of a day in which the zone's offset does not change.
 pub(crate) const SECONDS_PER_DAY: SecondsSinceUnixEpoch = 86_400;
 
+/// The farthest offset of a formatted date: 23:59 either way.
+pub(crate) const MAX_OFFSET_IN_SECONDS: u32 = SECONDS_PER_DAY as u32 - SECONDS_PER_MINUTE as u32;
+
 /// An instant in whole seconds, and the offset of the place where it was written down.
 ///
 /// The offset says how to show the instant, and does not change it. Both numbers can be any of their type. Times are in

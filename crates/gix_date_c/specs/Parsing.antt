@@ -48,12 +48,12 @@ IsParsedIf true rule now text answer = IsTextParsed rule now text answer
 IsParsedIf false rule now text answer = answer ≡ Err statuses.NotText
 
 -- the same by the number of a rule, which may be none
-abbrev pub IsParsedBy : Option RawOffsets → Option Zoned → List ℕ → Result Time Status → Type 0
-IsParsedBy None now text answer = answer ≡ Err statuses.NoSuchOption
-IsParsedBy (Some rule) now text answer = IsParsedIf (is_utf8 text) rule now text answer
+abbrev pub IsParsedWithRule : Option RawOffsets → Option Zoned → List ℕ → Result Time Status → Type 0
+IsParsedWithRule None now text answer = answer ≡ Err statuses.NoSuchOption
+IsParsedWithRule (Some rule) now text answer = IsParsedIf (is_utf8 text) rule now text answer
 
 abbrev pub IsParsed : ℕ → Option Zoned → List ℕ → Result Time Status → Type 0
-IsParsed raw_offsets = IsParsedBy (raw_rule raw_offsets)
+IsParsed raw_offsets = IsParsedWithRule (raw_rule raw_offsets)
 
 -- the moment is this instant, in this zone
 abbrev pub IsInstantIn : CInstant → TimeZone → Zoned → Type 0

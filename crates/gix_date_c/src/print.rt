@@ -1,7 +1,7 @@
 //! Times printed.
 ghost use Rattle.std.specs.Prelude.{◌≡◌, ℕ, List, Result, IfSome, IfNone, ◌<◌};
 ghost use Rattle.std.specs.Str.{is_utf8};
-ghost use Rattle.gix_date.specs.Printing.Formats.{Prints, PrintsBy, PrintsByOrSeconds, PrintsOrSeconds};
+ghost use Rattle.gix_date.specs.Printing.Formats.{Prints, PrintsPattern, PrintsPatternOrSeconds, PrintsOrSeconds};
 ghost use Rattle.gix_date_c.specs.Buffers.{Outcome, outcome_of};
 ghost use Rattle.gix_date_c.specs.Printing.{IsFormat, IsFormatted, IsPatternPrinted, print_status, printed_text};
 ghost use Rattle.gix_date_c.specs.Times.{time_of};
@@ -62,7 +62,7 @@ pub extern "C" fn gix_date_format_by_pattern(
     len: &mut usize,
 ) -> u32
     ensures { (answer : Result (List ℕ) Status)
-        × IsPatternPrinted (PrintsBy (time_of time.now) pattern.now) (is_utf8 pattern.now) answer
+        × IsPatternPrinted (PrintsPattern (time_of time.now) pattern.now) (is_utf8 pattern.now) answer
         × (record { bytes = out.new; len = len.new; status = result } ≡ outcome_of answer out.old) }
 {
     match text_of(pattern) {
@@ -81,7 +81,7 @@ pub extern "C" fn gix_date_format_by_pattern_or_unix(
     len: &mut usize,
 ) -> u32
     ensures { (answer : Result (List ℕ) Status)
-        × IsPatternPrinted (PrintsByOrSeconds (time_of time.now) pattern.now) (is_utf8 pattern.now) answer
+        × IsPatternPrinted (PrintsPatternOrSeconds (time_of time.now) pattern.now) (is_utf8 pattern.now) answer
         × (record { bytes = out.new; len = len.new; status = result } ≡ outcome_of answer out.old) }
 {
     match text_of(pattern) {

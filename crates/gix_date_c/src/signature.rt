@@ -117,7 +117,7 @@ impl Sink for Nowhere {
     }
 }
 
-/// The line of a name, a mail and a time, by its parts.
+/// The line of a name, an email and a time, by its parts.
 fn line_of<'a>(
     name: &'a [u8],
     mail: &'a [u8],

@@ -37,7 +37,7 @@ pub(crate) enum Status {
     Memory = 14,
     /// The line is no signature line.
     NoSignature = 15,
-    /// The name or the mail holds `<`, `>`, a newline or NUL.
+    /// The name or the email holds `<`, `>`, a newline or NUL.
     BadPart = 16,
 }
 

@@ -1,13 +1,24 @@
-//! The version of the library.
+//! The version of this library, and of the crate that it ports.
 ghost use Rattle.std.specs.Prelude.{◌≡◌};
 
-/// The version, 0.18.1: ten thousands for the first number, hundreds for the second, ones for the third.
-const VERSION: u32 = 1801;
+/// The version, 1.0.0: ten thousands for the first number, hundreds for the second, ones for the third.
+const VERSION: u32 = 10000;
 
-/// The version of the library.
+/// The version of the crate gix-date that is ported, 0.18.1.
+const PORTED_VERSION: u32 = 1801;
+
+/// The version of this library.
 #[unsafe(no_mangle)]
 pub extern "C" fn gix_date_version() -> u32
-    ensures { result ≡ 1801 }
+    ensures { result ≡ 10000 }
 {
     VERSION
+}
+
+/// The version of the crate gix-date that this library ports.
+#[unsafe(no_mangle)]
+pub extern "C" fn gix_date_ported_version() -> u32
+    ensures { result ≡ 1801 }
+{
+    PORTED_VERSION
 }

@@ -157,7 +157,7 @@ fn format_text(alloc: Global, format: Format, time: Time) -> Answer {
     if is_same { text.into() } else { Answer::APART }
 }
 
-/// The name, the mail and the time of a line, with the brackets between them.
+/// The name, the email and the time of a line, with the brackets between them.
 fn cut(alloc: Global, line: &str) -> Answer {
     match SignatureRef::from_line(line) {
         Some(SignatureRef { name, mail, time }) => {

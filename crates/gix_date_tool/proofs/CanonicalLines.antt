@@ -9,7 +9,7 @@ use Rattle.gix_date.specs.declared.time.Time.{Time}
 use Rattle.gix_date.proofs.Header.HeaderLaws.{canonical-utf8}
 use Rattle.gix_date_tool.specs.declared.arguments.Mode.{Mode}
 use Rattle.gix_date_tool.specs.declared.arguments.Mode.TheVariants.{Check}
-use Rattle.gix_date_tool.specs.declared.replies.Asked.{Asked}
+use Rattle.gix_date_tool.specs.declared.replies.Query.{Query}
 use Rattle.gix_date_tool.specs.declared.replies.Reply.TheVariants.{Canonical, Read, NoTime}
 use Rattle.gix_date_tool.specs.Replies.{IsReply, IsReplyTo, CanonicalLines}
 
@@ -19,13 +19,13 @@ by-test true found h = refl
 by-test false None h = absurd cc
 by-test false (Some t) h = absurd cc
 
-by-mode : (mode : Mode) (asked : Asked) (line : List ℕ) (is_text : Bool) → asked.mode ≡ Check → is_utf8 line ≡ is_text → IsReplyTo is_text asked line Canonical → is_canonical_header line ≡ true
-by-mode mode asked line false m u h = absurd cc
-by-mode mode asked line true m u h = by-test (is_canonical_header line) (header_time line) (rw m at h)
+by-mode : (mode : Mode) (query : Query) (line : List ℕ) (is_text : Bool) → query.mode ≡ Check → is_utf8 line ≡ is_text → IsReplyTo is_text query line Canonical → is_canonical_header line ≡ true
+by-mode mode query line false m u h = absurd cc
+by-mode mode query line true m u h = by-test (is_canonical_header line) (header_time line) (rw m at h)
 
 pub canonical-lines : (line : List ℕ) → CanonicalLines line
 unfolding IsReply
-canonical-lines line asked m = (
-  λ h. by-mode asked.mode asked line (is_utf8 line) m refl h,
+canonical-lines line query m = (
+  λ h. by-mode query.mode query line (is_utf8 line) m refl h,
   λ c. let u = is_utf8-from_IsUtf8 line (canonical-utf8 line c) in rw (u, m, c) refl,
 )

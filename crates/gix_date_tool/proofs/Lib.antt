@@ -7,4 +7,4 @@ pub mod CanonicalLines
 pub mod ParsedLines
 pub mod UnchangedLines
 pub mod Reading
-pub mod Telling
+pub mod Reporting

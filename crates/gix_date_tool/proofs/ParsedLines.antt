@@ -16,7 +16,7 @@ use Rattle.gix_date.proofs.Fast.FastHeaders.{same_some}
 use Rattle.gix_date.proofs.Families.Ranges.{outcome-written}
 use Rattle.gix_date_tool.specs.declared.arguments.Mode.{Mode}
 use Rattle.gix_date_tool.specs.declared.arguments.Mode.TheVariants.{Check, Parse, Sign}
-use Rattle.gix_date_tool.specs.declared.replies.Asked.{Asked}
+use Rattle.gix_date_tool.specs.declared.replies.Query.{Query}
 use Rattle.gix_date_tool.specs.declared.replies.Reply.TheVariants.{Canonical, Read, NoTime, Parsed}
 use Rattle.gix_date_tool.specs.Replies.{IsReply, IsReplyTo, IsTextReply, parse_reply, ParsedLines}
 
@@ -54,10 +54,10 @@ of-text Parse now text t (result, outcome, e) = of-result text now t result outc
 of-text Sign now text t (inl h) = absurd cc
 of-text Sign now text t (inr h) = absurd cc
 
-of-line : (is_text : Bool) (asked : Asked) (line : List ℕ) (t : Time) → IsReplyTo is_text asked line (Parsed t) → IsSome (header_text t)
-of-line true asked line t h = of-text asked.mode asked.now line t h
-of-line false asked line t h = absurd cc
+of-line : (is_text : Bool) (query : Query) (line : List ℕ) (t : Time) → IsReplyTo is_text query line (Parsed t) → IsSome (header_text t)
+of-line true query line t h = of-text query.mode query.now line t h
+of-line false query line t h = absurd cc
 
 pub parsed-lines : (line : List ℕ) → ParsedLines line
 unfolding IsReply
-parsed-lines line asked t h = written-is t (of-line (is_utf8 line) asked line t h)
+parsed-lines line query t h = written-is t (of-line (is_utf8 line) query line t h)

@@ -5,11 +5,11 @@ use Rattle.std.specs.Prelude.{All}
 use Rattle.std.specs.Io.KnownBytes.{Keeps, Consumes}
 use Rattle.std.specs.declared.io.ErrorKind.{ErrorKind}
 use Rattle.gix_date.specs.Text.Characters.{newline}
-use Rattle.gix_date.specs.Devices.Known.{Known, Takes, TakesNothing, Gives, HasEnded}
+use Rattle.gix_date.specs.Devices.StreamState.{StreamState, Takes, TakesNothing, Gives, HasEnded}
 use Rattle.gix_date_tool.specs.declared.error.ToolError.{ToolError}
 use Rattle.gix_date_tool.specs.declared.error.ToolError.TheVariants as errors
 use Rattle.gix_date_tool.specs.declared.lines.TheConstants.{MAX_LINES}
-use Rattle.gix_date_tool.specs.declared.replies.Asked.{Asked}
+use Rattle.gix_date_tool.specs.declared.replies.Query.{Query}
 use Rattle.gix_date_tool.specs.Lines.{last_line, IsShort, IsWithinLimits}
 use Rattle.gix_date_tool.specs.Replies.{Replied}
 use Rattle.gix_date_tool.specs.Outbox.{Output, all_sent, Puts, PutsProperPrefix}
@@ -35,21 +35,21 @@ Consumes-kept (Some us) (Some vs) None xs h k = absurd k
 Consumes-kept (Some us) (Some vs) (Some ws) xs h k = h ∙ ap (λ zs. xs ++ zs) (sym k)
 
 -- some bytes were given and then more
-Gives-append : (old mid new : Known) (xs ys : List ℕ) → Gives old mid xs → Gives mid new ys → Gives old new (xs ++ ys)
+Gives-append : (old mid new : StreamState) (xs ys : List ℕ) → Gives old mid xs → Gives mid new ys → Gives old new (xs ++ ys)
 Gives-append old mid new xs ys h k = Consumes-append old.bytes mid.bytes new.bytes xs ys h k
 
 -- the same bytes with none beyond
-without_beyond : (old new : Known) (xs : List ℕ) → Gives old new xs → Gives old new (xs ++ [])
+without_beyond : (old new : StreamState) (xs : List ℕ) → Gives old new xs → Gives old new (xs ++ [])
 without_beyond old new xs h = subst (Gives old new) (sym (append-nil xs)) h
 
 -- Of a run that was asked this and writes to this sink: what was read so far was taken in.
-pub record HasRead (asked : Asked) (sink : Known) (s : Stage) (reading : Change) : Type 0 where
+pub record HasRead (query : Query) (sink : StreamState) (s : Stage) (reading : Change) : Type 0 where
   pub input : List ℕ
   pub read : Gives reading.old reading.new input
-  pub took : TookIn (first_stage asked sink) s input
+  pub took : TookIn (first_stage query sink) s input
 
-IsReady-first : (asked : Asked) (sink : Known) → IsReady (first_stage asked sink)
-IsReady-first asked sink = record {
+IsReady-first : (query : Query) (sink : StreamState) → IsReady (first_stage query sink)
+IsReady-first query sink = record {
   is_line = All-nil (λ b. b ≢ newline);
   is_short = omega arith;
   few = omega arith;
@@ -57,21 +57,21 @@ IsReady-first asked sink = record {
 }
 
 -- nothing was read
-pub HasRead-first : (asked : Asked) (sink : Known) (s : Stage) (reader : Known) → s ≡ first_stage asked sink → HasRead asked sink s (change reader reader)
-HasRead-first asked sink s reader fresh = record {
+pub HasRead-first : (query : Query) (sink : StreamState) (s : Stage) (reader : StreamState) → s ≡ first_stage query sink → HasRead query sink s (change reader reader)
+HasRead-first query sink s reader fresh = record {
   input = [];
   read = Consumes-nil reader.bytes;
-  took = subst (λ x. TookIn (first_stage asked sink) x []) (sym fresh) (TookIn-nil (IsReady-first asked sink));
+  took = subst (λ x. TookIn (first_stage query sink) x []) (sym fresh) (TookIn-nil (IsReady-first query sink));
 }
 
-pub IsReady-fresh : (asked : Asked) (sink : Known) (s : Stage) → s ≡ first_stage asked sink → IsReady s
-IsReady-fresh asked sink s fresh = subst IsReady (sym fresh) (IsReady-first asked sink)
+pub IsReady-fresh : (query : Query) (sink : StreamState) (s : Stage) → s ≡ first_stage query sink → IsReady s
+IsReady-fresh query sink s fresh = subst IsReady (sym fresh) (IsReady-first query sink)
 
 -- what was unsent was sent
-pub HasRead-sent : {asked : Asked} {sink : Known} {s s' : Stage} {reading : Change} → HasRead asked sink s reading → SentAll s s'
-    → HasRead asked sink s' reading
-HasRead-sent {asked = asked} {sink = sink} {s = s} {s' = s'} h k =
-    let sent : TookIn (first_stage asked sink) (record s { output = s'.output }) h.input = record {
+pub HasRead-sent : {query : Query} {sink : StreamState} {s s' : Stage} {reading : Change} → HasRead query sink s reading → SentAll s s'
+    → HasRead query sink s' reading
+HasRead-sent {query = query} {sink = sink} {s = s} {s' = s'} h k =
+    let sent : TookIn (first_stage query sink) (record s { output = s'.output }) h.input = record {
       lines = h.took.lines;
       splits = h.took.splits;
       short = h.took.short;
@@ -82,15 +82,15 @@ HasRead-sent {asked = asked} {sink = sink} {s = s} {s' = s'} h k =
     record {
       input = h.input;
       read = h.read;
-      took = subst (λ x. TookIn (first_stage asked sink) x h.input) (sym k.same) sent;
+      took = subst (λ x. TookIn (first_stage query sink) x h.input) (sym k.same) sent;
     }
 
 pub IsReady-sent : {s s' : Stage} → IsReady s → SentAll s s' → IsReady s'
 IsReady-sent h k = subst IsReady (sym k.same) (record { is_line = h.is_line; is_short = h.is_short; few = h.few; none_after = h.none_after })
 
 -- a piece was read and taken in
-pub HasRead-taken : {asked : Asked} {sink : Known} {s s' : Stage} {old mid : Known} (new : Known) {bytes : List ℕ}
-    → HasRead asked sink s (change old mid) → Gives mid new bytes → TookIn s s' bytes → HasRead asked sink s' (change old new)
+pub HasRead-taken : {query : Query} {sink : StreamState} {s s' : Stage} {old mid : StreamState} (new : StreamState) {bytes : List ℕ}
+    → HasRead query sink s (change old mid) → Gives mid new bytes → TookIn s s' bytes → HasRead query sink s' (change old new)
 HasRead-taken {s' = s'} {old = old} {mid = mid} new {bytes = bytes} h read k = record {
   input = h.input ++ bytes;
   read = Gives-append old mid new h.input bytes h.read read;
@@ -98,8 +98,8 @@ HasRead-taken {s' = s'} {old = old} {mid = mid} new {bytes = bytes} h read k = r
 }
 
 -- the writer refused what was unsent
-refused : {asked : Asked} {sink : Known} {s : Stage} (s' : Stage) {reading : Change} {kind : ErrorKind}
-    → HasRead asked sink s reading → PutsProperPrefix s.output s'.output [] kind → Unwritten asked reading (change sink s'.output.sink) kind
+refused : {query : Query} {sink : StreamState} {s : Stage} (s' : Stage) {reading : Change} {kind : ErrorKind}
+    → HasRead query sink s reading → PutsProperPrefix s.output s'.output [] kind → Unwritten query reading (change sink s'.output.sink) kind
 refused {s = s} s' {reading = reading} h k =
     let cut = Replied-map (λ text put. PutsProperPrefix-sent put k) h.took.put in
     record {
@@ -112,8 +112,8 @@ refused {s = s} s' {reading = reading} h k =
       fault = cut.text.fault;
     }
 
-pub Ran-unsent : {asked : Asked} {sink : Known} {s : Stage} (s' : Stage) {reading : Change} (e : ToolError)
-    → HasRead asked sink s reading → SendsAll s s' (Err e) → Ran (Puts (all_sent sink) s'.output) asked reading (change sink s'.output.sink) (Err e)
+pub Ran-unsent : {query : Query} {sink : StreamState} {s : Stage} (s' : Stage) {reading : Change} (e : ToolError)
+    → HasRead query sink s reading → SendsAll s s' (Err e) → Ran (Puts (all_sent sink) s'.output) query reading (change sink s'.output.sink) (Err e)
 Ran-unsent s' (errors.Write kind) h k = refused s' h k
 Ran-unsent s' (errors.Read kind) h k = absurd k
 Ran-unsent s' errors.Memory h k = absurd k
@@ -121,8 +121,8 @@ Ran-unsent s' errors.LineTooLong h k = absurd k
 Ran-unsent s' errors.TooManyLines h k = absurd k
 
 -- the writer refused within what was read
-RefusedWithin-ran : {asked : Asked} {sink : Known} {s : Stage} {reading : Change} {input : List ℕ} {kind : ErrorKind}
-    → Gives reading.old reading.new input → RefusedWithin (first_stage asked sink) s input kind → Unwritten asked reading (change sink s.output.sink) kind
+RefusedWithin-ran : {query : Query} {sink : StreamState} {s : Stage} {reading : Change} {input : List ℕ} {kind : ErrorKind}
+    → Gives reading.old reading.new input → RefusedWithin (first_stage query sink) s input kind → Unwritten query reading (change sink s.output.sink) kind
 RefusedWithin-ran {reading = reading} read k = record {
   front = k.front;
   beyond = k.beyond;
@@ -134,8 +134,8 @@ RefusedWithin-ran {reading = reading} read k = record {
 }
 
 -- the run stops within what was read
-StoppedWithin-ran : {asked : Asked} {sink : Known} {s : Stage} {reading : Change} {input : List ℕ} {stop : ToolError}
-    → Gives reading.old reading.new input → StoppedWithin (first_stage asked sink) s input stop → Stopped (Puts (all_sent sink) s.output) asked reading stop
+StoppedWithin-ran : {query : Query} {sink : StreamState} {s : Stage} {reading : Change} {input : List ℕ} {stop : ToolError}
+    → Gives reading.old reading.new input → StoppedWithin (first_stage query sink) s input stop → Stopped (Puts (all_sent sink) s.output) query reading stop
 StoppedWithin-ran {reading = reading} {stop = stop} read k = record {
   front = k.front;
   beyond = k.beyond;
@@ -148,21 +148,21 @@ StoppedWithin-ran {reading = reading} {stop = stop} read k = record {
   wrote = k.put;
 }
 
-stopped : (asked : Asked) (sink : Known) (s : Stage) (reading : Change) (input : List ℕ) (stop : ToolError)
-    → Gives reading.old reading.new input → TakesIn (first_stage asked sink) s input (Err stop)
-    → Ran (Puts (all_sent sink) s.output) asked reading (change sink s.output.sink) (Err stop)
-stopped asked sink s reading input (errors.Write kind) read k = RefusedWithin-ran read k
-stopped asked sink s reading input (errors.Read kind) read k = absurd k.stops
-stopped asked sink s reading input errors.Memory read k = StoppedWithin-ran read k
-stopped asked sink s reading input errors.LineTooLong read k = StoppedWithin-ran read k
-stopped asked sink s reading input errors.TooManyLines read k = StoppedWithin-ran read k
+stopped : (query : Query) (sink : StreamState) (s : Stage) (reading : Change) (input : List ℕ) (stop : ToolError)
+    → Gives reading.old reading.new input → TakesIn (first_stage query sink) s input (Err stop)
+    → Ran (Puts (all_sent sink) s.output) query reading (change sink s.output.sink) (Err stop)
+stopped query sink s reading input (errors.Write kind) read k = RefusedWithin-ran read k
+stopped query sink s reading input (errors.Read kind) read k = absurd k.stops
+stopped query sink s reading input errors.Memory read k = StoppedWithin-ran read k
+stopped query sink s reading input errors.LineTooLong read k = StoppedWithin-ran read k
+stopped query sink s reading input errors.TooManyLines read k = StoppedWithin-ran read k
 
 -- a piece was read, and the run stops within it
-pub Ran-stopped : {asked : Asked} {sink : Known} {s : Stage} (s' : Stage) {old mid : Known} (new : Known) (bytes : List ℕ) (stop : ToolError)
-    → HasRead asked sink s (change old mid) → Gives mid new bytes → TakesIn s s' bytes (Err stop)
-    → Ran (Puts (all_sent sink) s'.output) asked (change old new) (change sink s'.output.sink) (Err stop)
-Ran-stopped {asked = asked} {sink = sink} s' {old = old} {mid = mid} new bytes stop h read k =
-    stopped asked sink s' (change old new) (h.input ++ bytes) stop (Gives-append old mid new h.input bytes h.read read) (TakesIn-then s' bytes (Err stop) h.took k)
+pub Ran-stopped : {query : Query} {sink : StreamState} {s : Stage} (s' : Stage) {old mid : StreamState} (new : StreamState) (bytes : List ℕ) (stop : ToolError)
+    → HasRead query sink s (change old mid) → Gives mid new bytes → TakesIn s s' bytes (Err stop)
+    → Ran (Puts (all_sent sink) s'.output) query (change old new) (change sink s'.output.sink) (Err stop)
+Ran-stopped {query = query} {sink = sink} s' {old = old} {mid = mid} new bytes stop h read k =
+    stopped query sink s' (change old new) (h.input ++ bytes) stop (Gives-append old mid new h.input bytes h.read read) (TakesIn-then s' bytes (Err stop) h.took k)
 
 last_short : (rest : List ℕ) → IsShort rest → All IsShort (last_line rest)
 last_short [] h = All-nil IsShort
@@ -179,7 +179,7 @@ room_for_last n most [] few none = omega arith
 room_for_last n most (b ∷ bs) few none = omega (arith, short_of n most few (λ e. not_empty b bs (none e)))
 
 -- what was read is within the limits
-within : {asked : Asked} {sink : Known} {s : Stage} {input : List ℕ} (took : TookIn (first_stage asked sink) s input) → IsReady s
+within : {query : Query} {sink : StreamState} {s : Stage} {input : List ℕ} (took : TookIn (first_stage query sink) s input) → IsReady s
     → IsWithinLimits (took.lines ++ last_line s.open_line)
 within {s = s} took ready =
     let last = last_line s.open_line in (
@@ -188,9 +188,9 @@ within {s = s} took ready =
     )
 
 -- the reader refused
-pub Ran-unread : {asked : Asked} {sink : Known} {s : Stage} {old mid : Known} (new : Known) {kind : ErrorKind}
-    → HasRead asked sink s (change old mid) → IsReady s → TakesNothing mid new → new.fault ≡ Some kind
-    → Ran (Puts (all_sent sink) s.output) asked (change old new) (change sink s.output.sink) (Err (errors.Read kind))
+pub Ran-unread : {query : Query} {sink : StreamState} {s : Stage} {old mid : StreamState} (new : StreamState) {kind : ErrorKind}
+    → HasRead query sink s (change old mid) → IsReady s → TakesNothing mid new → new.fault ≡ Some kind
+    → Ran (Puts (all_sent sink) s.output) query (change old new) (change sink s.output.sink) (Err (errors.Read kind))
 Ran-unread {s = s} {old = old} {mid = mid} new h ready kept fault = record {
   input = h.input;
   lines = h.took.lines;
@@ -203,10 +203,10 @@ Ran-unread {s = s} {old = old} {mid = mid} new h ready kept fault = record {
 }
 
 -- the input is at its end, and the last line was replied to
-pub Ran-ended : {asked : Asked} {sink : Known} {s : Stage} (s' : Stage) {old mid : Known} (new : Known) (r : Result ℕ ToolError)
-    → HasRead asked sink s (change old mid) → IsReady s → Gives mid new [] → HasEnded new → new.fault ≡ None → EndsAt s s' r
-    → Ran (Puts (all_sent sink) s'.output) asked (change old new) (change sink s'.output.sink) r
-Ran-ended {asked = asked} {s = s} s' {old = old} {mid = mid} new (Ok count) h ready read end no_fault k =
+pub Ran-ended : {query : Query} {sink : StreamState} {s : Stage} (s' : Stage) {old mid : StreamState} (new : StreamState) (r : Result ℕ ToolError)
+    → HasRead query sink s (change old mid) → IsReady s → Gives mid new [] → HasEnded new → new.fault ≡ None → EndsAt s s' r
+    → Ran (Puts (all_sent sink) s'.output) query (change old new) (change sink s'.output.sink) r
+Ran-ended {query = query} {s = s} s' {old = old} {mid = mid} new (Ok count) h ready read end no_fault k =
     let took = h.took in
     let last = last_line s.open_line in
     record {
@@ -217,13 +217,13 @@ Ran-ended {asked = asked} {s = s} s' {old = old} {mid = mid} new (Ok count) h re
       no_fault = no_fault;
       all = record { ended = took.lines; rest = s.open_line; splits = took.splits; with_last = refl };
       within = within took ready;
-      wrote = Puts-replies asked took.lines last took.put (subst (λ a. Replied (Puts s.output s'.output) a last) took.same k.put);
+      wrote = Puts-replies query took.lines last took.put (subst (λ a. Replied (Puts s.output s'.output) a last) took.same k.put);
       count_is = omega (arith, length-append took.lines last, took.counted, k.counted);
     }
-Ran-ended {asked = asked} {s = s} s' {old = old} {mid = mid} new (Err (errors.Write kind)) h ready read end no_fault k =
+Ran-ended {query = query} {s = s} s' {old = old} {mid = mid} new (Err (errors.Write kind)) h ready read end no_fault k =
     let took = h.took in
     let last = last_line s.open_line in
-    let cut = PutsProperPrefix-replies asked took.lines last took.put (subst (λ a. Replied (λ text. PutsProperPrefix s.output s'.output text kind) a last) took.same k) in
+    let cut = PutsProperPrefix-replies query took.lines last took.put (subst (λ a. Replied (λ text. PutsProperPrefix s.output s'.output text kind) a last) took.same k) in
     record {
       front = h.input;
       beyond = [];
@@ -239,26 +239,26 @@ Ran-ended s' new (Err errors.LineTooLong) h ready read end no_fault k = absurd k
 Ran-ended s' new (Err errors.TooManyLines) h ready read end no_fault k = absurd k
 
 -- a run that was replied to but for what is unsent
-abbrev pub RanBut : Known → Stage → Asked → Change → Result ℕ ToolError → Type 0
-RanBut sink s asked reading r = Ran (Puts (all_sent sink) s.output) asked reading (change sink s.output.sink) r
+abbrev pub RanBut : StreamState → Stage → Query → Change → Result ℕ ToolError → Type 0
+RanBut sink s query reading r = Ran (Puts (all_sent sink) s.output) query reading (change sink s.output.sink) r
 
 -- The writer refused in the run.
-pub Ran-unwritten : (sink : Known) (s : Stage) (asked : Asked) (reading : Change) (r : Result ℕ ToolError)
-    → is_unwritten r ≡ true → RanBut sink s asked reading r → Ran (Takes sink s.output.sink) asked reading (change sink s.output.sink) r
-Ran-unwritten sink s asked reading (Err (errors.Write kind)) is h = h
-Ran-unwritten sink s asked reading (Ok count) is h = cc
-Ran-unwritten sink s asked reading (Err (errors.Read kind)) is h = cc
-Ran-unwritten sink s asked reading (Err errors.Memory) is h = cc
-Ran-unwritten sink s asked reading (Err errors.LineTooLong) is h = cc
-Ran-unwritten sink s asked reading (Err errors.TooManyLines) is h = cc
+pub Ran-unwritten : (sink : StreamState) (s : Stage) (query : Query) (reading : Change) (r : Result ℕ ToolError)
+    → is_unwritten r ≡ true → RanBut sink s query reading r → Ran (Takes sink s.output.sink) query reading (change sink s.output.sink) r
+Ran-unwritten sink s query reading (Err (errors.Write kind)) is h = h
+Ran-unwritten sink s query reading (Ok count) is h = cc
+Ran-unwritten sink s query reading (Err (errors.Read kind)) is h = cc
+Ran-unwritten sink s query reading (Err errors.Memory) is h = cc
+Ran-unwritten sink s query reading (Err errors.LineTooLong) is h = cc
+Ran-unwritten sink s query reading (Err errors.TooManyLines) is h = cc
 
 -- What was put, and then sent.
-put_and_sent : {sink : Known} {s s' : Stage} {asked : Asked} {lines : List (List ℕ)} → Replied (Puts (all_sent sink) s.output) asked lines → SentAll s s'
-    → Replied (Takes sink s'.output.sink) asked lines
+put_and_sent : {sink : StreamState} {s s' : Stage} {query : Query} {lines : List (List ℕ)} → Replied (Puts (all_sent sink) s.output) query lines → SentAll s s'
+    → Replied (Takes sink s'.output.sink) query lines
 put_and_sent h k = Replied-map (λ text put. Takes-all_sent (Puts-sent put k.sent) k.none_unsent) h
 
-Stopped-sent : {sink : Known} {s s' : Stage} {asked : Asked} {reading : Change} {stop : ToolError}
-    → Stopped (Puts (all_sent sink) s.output) asked reading stop → SentAll s s' → Stopped (Takes sink s'.output.sink) asked reading stop
+Stopped-sent : {sink : StreamState} {s s' : Stage} {query : Query} {reading : Change} {stop : ToolError}
+    → Stopped (Puts (all_sent sink) s.output) query reading stop → SentAll s s' → Stopped (Takes sink s'.output.sink) query reading stop
 Stopped-sent h k = record {
   front = h.front;
   beyond = h.beyond;
@@ -272,9 +272,9 @@ Stopped-sent h k = record {
 }
 
 -- What a run comes to once what was unsent is sent.
-pub Ran-sent : (sink : Known) (s s' : Stage) (asked : Asked) (reading : Change) (r : Result ℕ ToolError)
-    → is_unwritten r ≡ false → RanBut sink s asked reading r → SentAll s s' → Ran (Takes sink s'.output.sink) asked reading (change sink s'.output.sink) r
-Ran-sent sink s s' asked reading (Ok count) not h k = record {
+pub Ran-sent : (sink : StreamState) (s s' : Stage) (query : Query) (reading : Change) (r : Result ℕ ToolError)
+    → is_unwritten r ≡ false → RanBut sink s query reading r → SentAll s s' → Ran (Takes sink s'.output.sink) query reading (change sink s'.output.sink) r
+Ran-sent sink s s' query reading (Ok count) not h k = record {
   input = h.input;
   lines = h.lines;
   read = h.read;
@@ -285,7 +285,7 @@ Ran-sent sink s s' asked reading (Ok count) not h k = record {
   wrote = put_and_sent h.wrote k;
   count_is = h.count_is;
 }
-Ran-sent sink s s' asked reading (Err (errors.Read kind)) not h k = record {
+Ran-sent sink s s' query reading (Err (errors.Read kind)) not h k = record {
   input = h.input;
   lines = h.lines;
   rest = h.rest;
@@ -295,38 +295,38 @@ Ran-sent sink s s' asked reading (Err (errors.Read kind)) not h k = record {
   within = h.within;
   wrote = put_and_sent h.wrote k;
 }
-Ran-sent sink s s' asked reading (Err (errors.Write kind)) not h k = cc
-Ran-sent sink s s' asked reading (Err errors.Memory) not h k = Stopped-sent h k
-Ran-sent sink s s' asked reading (Err errors.LineTooLong) not h k = Stopped-sent h k
-Ran-sent sink s s' asked reading (Err errors.TooManyLines) not h k = Stopped-sent h k
+Ran-sent sink s s' query reading (Err (errors.Write kind)) not h k = cc
+Ran-sent sink s s' query reading (Err errors.Memory) not h k = Stopped-sent h k
+Ran-sent sink s s' query reading (Err errors.LineTooLong) not h k = Stopped-sent h k
+Ran-sent sink s s' query reading (Err errors.TooManyLines) not h k = Stopped-sent h k
 
 -- The writer refused the replies to lines that were due.
-cut_off : {sink : Known} {b c : Output} {kind : ErrorKind} {asked : Asked} {reading : Change} (front beyond : List ℕ) (lines : List (List ℕ))
+cut_off : {sink : StreamState} {b c : Output} {kind : ErrorKind} {query : Query} {reading : Change} (front beyond : List ℕ) (lines : List (List ℕ))
     → Gives reading.old reading.new (front ++ beyond)
-    → WereDue reading.new front beyond lines → Replied (Puts (all_sent sink) b) asked lines → PutsProperPrefix b c [] kind
-    → Unwritten asked reading (change sink c.sink) kind
+    → WereDue reading.new front beyond lines → Replied (Puts (all_sent sink) b) query lines → PutsProperPrefix b c [] kind
+    → Unwritten query reading (change sink c.sink) kind
 cut_off front beyond lines read due put k =
     let cut = Replied-map (λ text sent. PutsProperPrefix-sent sent k) put in
     record { front = front; beyond = beyond; lines = lines; read = read; due = due; wrote = Replied-map (λ text sent. sent.taken) cut; fault = cut.text.fault }
 
-cut_short : (sink : Known) (s s' : Stage) (asked : Asked) (reading : Change) (r : Result ℕ ToolError) (kind : ErrorKind)
-    → is_unwritten r ≡ false → RanBut sink s asked reading r → PutsProperPrefix s.output s'.output [] kind
-    → Unwritten asked reading (change sink s'.output.sink) kind
-cut_short sink s s' asked reading (Ok count) kind not h k =
+cut_short : (sink : StreamState) (s s' : Stage) (query : Query) (reading : Change) (r : Result ℕ ToolError) (kind : ErrorKind)
+    → is_unwritten r ≡ false → RanBut sink s query reading r → PutsProperPrefix s.output s'.output [] kind
+    → Unwritten query reading (change sink s'.output.sink) kind
+cut_short sink s s' query reading (Ok count) kind not h k =
     cut_off h.input [] h.lines (without_beyond reading.old reading.new h.input h.read) (inr (record { at_end = h.at_end; none_beyond = refl; all = h.all })) h.wrote k
-cut_short sink s s' asked reading (Err (errors.Read first)) kind not h k =
+cut_short sink s s' query reading (Err (errors.Read first)) kind not h k =
     cut_off h.input [] h.lines (without_beyond reading.old reading.new h.input h.read) (inl (h.rest, h.splits)) h.wrote k
-cut_short sink s s' asked reading (Err (errors.Write first)) kind not h k = cc
-cut_short sink s s' asked reading (Err errors.Memory) kind not h k = cut_off h.front h.beyond h.lines h.read (inl (h.rest, h.splits)) h.wrote k
-cut_short sink s s' asked reading (Err errors.LineTooLong) kind not h k = cut_off h.front h.beyond h.lines h.read (inl (h.rest, h.splits)) h.wrote k
-cut_short sink s s' asked reading (Err errors.TooManyLines) kind not h k = cut_off h.front h.beyond h.lines h.read (inl (h.rest, h.splits)) h.wrote k
+cut_short sink s s' query reading (Err (errors.Write first)) kind not h k = cc
+cut_short sink s s' query reading (Err errors.Memory) kind not h k = cut_off h.front h.beyond h.lines h.read (inl (h.rest, h.splits)) h.wrote k
+cut_short sink s s' query reading (Err errors.LineTooLong) kind not h k = cut_off h.front h.beyond h.lines h.read (inl (h.rest, h.splits)) h.wrote k
+cut_short sink s s' query reading (Err errors.TooManyLines) kind not h k = cut_off h.front h.beyond h.lines h.read (inl (h.rest, h.splits)) h.wrote k
 
 -- What a run comes to where the writer refuses what was unsent.
-pub Ran-cut : (sink : Known) (s s' : Stage) (asked : Asked) (reading : Change) (r : Result ℕ ToolError) (e : ToolError)
-    → is_unwritten r ≡ false → RanBut sink s asked reading r → SendsAll s s' (Err e)
-    → Ran (Takes sink s'.output.sink) asked reading (change sink s'.output.sink) (Err e)
-Ran-cut sink s s' asked reading r (errors.Write kind) not h k = cut_short sink s s' asked reading r kind not h k
-Ran-cut sink s s' asked reading r (errors.Read kind) not h k = absurd k
-Ran-cut sink s s' asked reading r errors.Memory not h k = absurd k
-Ran-cut sink s s' asked reading r errors.LineTooLong not h k = absurd k
-Ran-cut sink s s' asked reading r errors.TooManyLines not h k = absurd k
+pub Ran-cut : (sink : StreamState) (s s' : Stage) (query : Query) (reading : Change) (r : Result ℕ ToolError) (e : ToolError)
+    → is_unwritten r ≡ false → RanBut sink s query reading r → SendsAll s s' (Err e)
+    → Ran (Takes sink s'.output.sink) query reading (change sink s'.output.sink) (Err e)
+Ran-cut sink s s' query reading r (errors.Write kind) not h k = cut_short sink s s' query reading r kind not h k
+Ran-cut sink s s' query reading r (errors.Read kind) not h k = absurd k
+Ran-cut sink s s' query reading r errors.Memory not h k = absurd k
+Ran-cut sink s s' query reading r errors.LineTooLong not h k = absurd k
+Ran-cut sink s s' query reading r errors.TooManyLines not h k = absurd k

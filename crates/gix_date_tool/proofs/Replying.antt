@@ -7,7 +7,7 @@ use Rattle.gix_date.specs.Families.Answer.{FamilyAnswer}
 use Rattle.gix_date.specs.Families.Order.{first_family}
 use Rattle.gix_date_tool.specs.declared.arguments.Mode.{Mode}
 use Rattle.gix_date_tool.specs.declared.arguments.Mode.TheVariants.{Check, Parse, Sign}
-use Rattle.gix_date_tool.specs.declared.replies.Asked.{Asked}
+use Rattle.gix_date_tool.specs.declared.replies.Query.{Query}
 use Rattle.gix_date_tool.specs.declared.replies.Reply.{Reply}
 use Rattle.gix_date_tool.specs.Replies.{IsReply, IsReplyTo, IsTextReply, IsParseReply, IsSignReply, parse_reply, RepliesAreUnique}
 use Rattle.gix_date_tool.specs.declared.replies.Reply.TheVariants.{Signed}
@@ -27,10 +27,10 @@ text-once Check now text a b h g = h ∙ sym g
 text-once Parse now text a b h g = parse-once (first_family text) now a b h g
 text-once Sign now text a b h g = sign-once text a b h g
 
-line-once : (is_text : Bool) (asked : Asked) (line : List ℕ) (a b : Reply) → IsReplyTo is_text asked line a → IsReplyTo is_text asked line b → a ≡ b
-line-once true asked line a b h g = text-once asked.mode asked.now line a b h g
-line-once false asked line a b h g = h ∙ sym g
+line-once : (is_text : Bool) (query : Query) (line : List ℕ) (a b : Reply) → IsReplyTo is_text query line a → IsReplyTo is_text query line b → a ≡ b
+line-once true query line a b h g = text-once query.mode query.now line a b h g
+line-once false query line a b h g = h ∙ sym g
 
 pub reply-once : RepliesAreUnique
 unfolding IsReply
-reply-once asked line a b h g = line-once (is_utf8 line) asked line a b h g
+reply-once query line a b h g = line-once (is_utf8 line) query line a b h g

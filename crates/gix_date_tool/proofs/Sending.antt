@@ -6,7 +6,7 @@ use Rattle.std.proofs.lemmas.List.Concat.{flat_map-append}
 use Rattle.std.specs.Prelude.{OnOk, OnErr, IfErr}
 use Rattle.std.specs.Io.KnownBytes.{Appends}
 use Rattle.std.specs.declared.io.ErrorKind.{ErrorKind}
-use Rattle.gix_date.specs.Devices.Known.{Known, Takes, TakesProperPrefix}
+use Rattle.gix_date.specs.Devices.StreamState.{StreamState, Takes, TakesProperPrefix}
 use Rattle.gix_date.proofs.Text.KnownBytes.{Appends-append}
 use Rattle.gix_date_tool.specs.Outbox.{Output, pieces_text, all_sent, Puts, PutsProperPrefix, Sends}
 
@@ -16,13 +16,13 @@ Appends-nil None = tt
 Appends-nil (Some xs) = sym (append-nil xs)
 
 -- a proper prefix is one of a longer text too
-TakesProperPrefix-more : (old new : Known) (xs ys : List ℕ) → TakesProperPrefix old new xs → TakesProperPrefix old new (xs ++ ys)
+TakesProperPrefix-more : (old new : StreamState) (xs ys : List ℕ) → TakesProperPrefix old new xs → TakesProperPrefix old new (xs ++ ys)
 TakesProperPrefix-more old new xs ys h =
     let within = h.1 in
     (h.0, omega (arith, length-append xs ys), subst (Takes old new) (sym (take-append-le h.0 xs ys (omega arith))) h.2)
 
 -- a text, and then a proper prefix of the next
-TakesProperPrefix-after : (old mid new : Known) (xs ys : List ℕ) → Takes old mid xs → TakesProperPrefix mid new ys → TakesProperPrefix old new (xs ++ ys)
+TakesProperPrefix-after : (old mid new : StreamState) (xs ys : List ℕ) → Takes old mid xs → TakesProperPrefix mid new ys → TakesProperPrefix old new (xs ++ ys)
 TakesProperPrefix-after old mid new xs ys h k =
     let within = k.1 in
     (length xs + k.0, omega (arith, length-append xs ys), subst (Takes old new) (sym (take-append-add xs ys k.0)) (Appends-append old.bytes mid.bytes new.bytes xs (take k.0 ys) h k.2))
@@ -48,7 +48,7 @@ pub Puts-sent : {a b c : Output} {x : List ℕ} → Puts a b x → Puts b c [] �
 Puts-sent {a = a} {c = c} {x = x} h k = subst (Puts a c) (append-nil x) (Puts-then h k)
 
 -- all that was put for a sink was sent
-pub Takes-all_sent : {sink : Known} {a : Output} {text : List ℕ} → Puts (all_sent sink) a text → a.unsent ≡ [] → Takes sink a.sink text
+pub Takes-all_sent : {sink : StreamState} {a : Output} {text : List ℕ} → Puts (all_sent sink) a text → a.unsent ≡ [] → Takes sink a.sink text
 Takes-all_sent {sink = sink} {a = a} h none = subst (Takes sink a.sink) (sym (h.cut ∙ ap (λ xs. h.sent ++ xs) none ∙ append-nil h.sent)) h.taken
 
 -- one text, and then a refusal
@@ -93,7 +93,7 @@ PutsProperPrefix-piece {a = a} {c = c} pieces i d {kind = kind} within h k =
     subst (λ text. PutsProperPrefix a c text kind) whole (PutsProperPrefix-more (pieces_text after) front)
 
 -- What is sent at once where nothing waits.
-pub Sends-at_once : {a b : Output} (sink : Known) (text : List ℕ) (r : Result (Unit {0}) ErrorKind) → Puts a b [] → b.unsent ≡ []
+pub Sends-at_once : {a b : Output} (sink : StreamState) (text : List ℕ) (r : Result (Unit {0}) ErrorKind) → Puts a b [] → b.unsent ≡ []
     → OnOk r (Takes b.sink sink text) → OnErr r (TakesProperPrefix b.sink sink text) → IfErr r (λ kind. sink.fault ≡ Some kind)
     → Sends a (record b { sink = sink }) text r
 Sends-at_once {b = b} sink text (Ok u) h empty ok cut fault =

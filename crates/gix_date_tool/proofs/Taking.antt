@@ -10,7 +10,7 @@ use Rattle.gix_date.specs.Text.Characters.{newline}
 use Rattle.gix_date_tool.specs.declared.error.ToolError.{ToolError}
 use Rattle.gix_date_tool.specs.declared.error.ToolError.TheVariants as errors
 use Rattle.gix_date_tool.specs.declared.lines.TheConstants.{MAX_LINE_LEN, MAX_LINES}
-use Rattle.gix_date_tool.specs.declared.replies.Asked.{Asked}
+use Rattle.gix_date_tool.specs.declared.replies.Query.{Query}
 use Rattle.gix_date_tool.specs.Lines.{IsLine, LineGoesOn, with_newline, Splits, IsShort}
 use Rattle.gix_date_tool.specs.Replies.{Replied, AreReplies, IsReply, reply_line, reply_lines}
 use Rattle.gix_date_tool.specs.declared.replies.Reply.{Reply}
@@ -20,42 +20,42 @@ use Rattle.gix_date_tool.specs.Progress.{Stage, IsReady, Extended, Extends, Clos
 use Rattle.gix_date_tool.proofs.Splitting.{Splits-open, Splits-newline, Splits-join}
 use Rattle.gix_date_tool.proofs.Sending.{Puts-nil, Puts-then, PutsProperPrefix-then}
 
-AreReplies-append : (asked : Asked) (lines more : List (List ℕ)) (replies others : List Reply) → AreReplies asked lines replies → AreReplies asked more others
-    → AreReplies asked (lines ++ more) (replies ++ others)
-AreReplies-append asked [] more [] others h k = k
-AreReplies-append asked [] more (reply ∷ replies) others h k = absurd h
-AreReplies-append asked (line ∷ lines) more [] others h k = absurd h
-AreReplies-append asked (line ∷ lines) more (reply ∷ replies) others h k = (h.0, AreReplies-append asked lines more replies others h.1 k)
+AreReplies-append : (query : Query) (lines more : List (List ℕ)) (replies others : List Reply) → AreReplies query lines replies → AreReplies query more others
+    → AreReplies query (lines ++ more) (replies ++ others)
+AreReplies-append query [] more [] others h k = k
+AreReplies-append query [] more (reply ∷ replies) others h k = absurd h
+AreReplies-append query (line ∷ lines) more [] others h k = absurd h
+AreReplies-append query (line ∷ lines) more (reply ∷ replies) others h k = (h.0, AreReplies-append query lines more replies others h.1 k)
 
 -- the replies to some lines and to more
-pub Puts-replies : {a b c : Output} (asked : Asked) (lines more : List (List ℕ)) → Replied (Puts a b) asked lines → Replied (Puts b c) asked more
-    → Replied (Puts a c) asked (lines ++ more)
-Puts-replies {a = a} {c = c} asked lines more h k = record {
+pub Puts-replies : {a b c : Output} (query : Query) (lines more : List (List ℕ)) → Replied (Puts a b) query lines → Replied (Puts b c) query more
+    → Replied (Puts a c) query (lines ++ more)
+Puts-replies {a = a} {c = c} query lines more h k = record {
   replies = h.replies ++ k.replies;
-  each = AreReplies-append asked lines more h.replies k.replies h.each k.each;
+  each = AreReplies-append query lines more h.replies k.replies h.each k.each;
   text = subst (Puts a c) (sym (flat_map-append reply_line h.replies k.replies)) (Puts-then h.text k.text);
 }
 
-pub PutsProperPrefix-replies : {a b c : Output} (asked : Asked) (lines more : List (List ℕ)) {kind : ErrorKind}
-    → Replied (Puts a b) asked lines → Replied (λ text. PutsProperPrefix b c text kind) asked more → Replied (λ text. PutsProperPrefix a c text kind) asked (lines ++ more)
-PutsProperPrefix-replies {a = a} {c = c} asked lines more {kind = kind} h k = record {
+pub PutsProperPrefix-replies : {a b c : Output} (query : Query) (lines more : List (List ℕ)) {kind : ErrorKind}
+    → Replied (Puts a b) query lines → Replied (λ text. PutsProperPrefix b c text kind) query more → Replied (λ text. PutsProperPrefix a c text kind) query (lines ++ more)
+PutsProperPrefix-replies {a = a} {c = c} query lines more {kind = kind} h k = record {
   replies = h.replies ++ k.replies;
-  each = AreReplies-append asked lines more h.replies k.replies h.each k.each;
+  each = AreReplies-append query lines more h.replies k.replies h.each k.each;
   text = subst (λ text. PutsProperPrefix a c text kind) (sym (flat_map-append reply_line h.replies k.replies)) (PutsProperPrefix-then h.text k.text);
 }
 
 -- the same replies, of whose text something else holds
-pub Replied-map : {Is Becomes : List ℕ → Type 0} {asked : Asked} {lines : List (List ℕ)} → ((text : List ℕ) → Is text → Becomes text) → Replied Is asked lines
-    → Replied Becomes asked lines
+pub Replied-map : {Is Becomes : List ℕ → Type 0} {query : Query} {lines : List (List ℕ)} → ((text : List ℕ) → Is text → Becomes text) → Replied Is query lines
+    → Replied Becomes query lines
 Replied-map f h = record { replies = h.replies; each = h.each; text = f (reply_lines h.replies) h.text }
 
 -- the reply to one line
-pub Replied-one : {Is : List ℕ → Type 0} (asked : Asked) (line : List ℕ) (reply : Reply) → IsReply asked line reply → Is (reply_line reply) → Replied Is asked (line ∷ [])
-Replied-one {Is = Is} asked line reply h k = record { replies = reply ∷ []; each = (h, tt); text = subst Is (sym (append-nil (reply_line reply))) k }
+pub Replied-one : {Is : List ℕ → Type 0} (query : Query) (line : List ℕ) (reply : Reply) → IsReply query line reply → Is (reply_line reply) → Replied Is query (line ∷ [])
+Replied-one {Is = Is} query line reply h k = record { replies = reply ∷ []; each = (h, tt); text = subst Is (sym (append-nil (reply_line reply))) k }
 
 -- no line has no reply
-pub Replied-nil : {Is : List ℕ → Type 0} (asked : Asked) → Is [] → Replied Is asked []
-Replied-nil asked h = record { replies = []; each = tt; text = h }
+pub Replied-nil : {Is : List ℕ → Type 0} (query : Query) → Is [] → Replied Is query []
+Replied-nil query h = record { replies = []; each = tt; text = h }
 
 -- bytes before those that were cut
 recut : (a b front beyond : List ℕ) → b ≡ front ++ beyond → a ++ b ≡ (a ++ front) ++ beyond
@@ -75,7 +75,7 @@ TookIn-then {s0 = s0} {s1 = s1} {s2 = s2} {a = a} {b = b} h k = record {
   short = All-append IsShort h.lines k.lines h.short k.short;
   counted = omega (arith, h.counted, k.counted, length-append h.lines k.lines);
   same = k.same ∙ h.same;
-  put = Puts-replies s0.asked h.lines k.lines h.put (subst (λ asked. Replied (Puts s1.output s2.output) asked k.lines) h.same k.put);
+  put = Puts-replies s0.query h.lines k.lines h.put (subst (λ query. Replied (Puts s1.output s2.output) query k.lines) h.same k.put);
 }
 
 -- bytes that were taken in, and then bytes whose replies the writer refused
@@ -86,7 +86,7 @@ RefusedWithin-then {s0 = s0} {s1 = s1} {s2 = s2} {a = a} {b = b} {kind = kind} h
   lines = h.lines ++ k.lines;
   cut = recut a b k.front k.beyond k.cut;
   due = (k.due.0, Splits-more s0.open_line a k.front h.splits k.due.1);
-  put = PutsProperPrefix-replies s0.asked h.lines k.lines h.put (subst (λ asked. Replied (λ text. PutsProperPrefix s1.output s2.output text kind) asked k.lines) h.same k.put);
+  put = PutsProperPrefix-replies s0.query h.lines k.lines h.put (subst (λ query. Replied (λ text. PutsProperPrefix s1.output s2.output text kind) query k.lines) h.same k.put);
 }
 
 -- bytes that were taken in, and then bytes within which the run stops
@@ -100,7 +100,7 @@ StoppedWithin-then {s0 = s0} {s1 = s1} {s2 = s2} {a = a} {b = b} {stop = stop} h
   splits = Splits-more s0.open_line a k.front h.splits k.splits;
   short = All-append IsShort h.lines k.lines h.short k.short;
   stops = subst (λ n. StopsAt stop n k.rest k.beyond) (omega (arith, h.counted, length-append h.lines k.lines)) k.stops;
-  put = Puts-replies s0.asked h.lines k.lines h.put (subst (λ asked. Replied (Puts s1.output s2.output) asked k.lines) h.same k.put);
+  put = Puts-replies s0.query h.lines k.lines h.put (subst (λ query. Replied (Puts s1.output s2.output) query k.lines) h.same k.put);
 }
 
 -- bytes that were taken in, and then more bytes, whatever came of these
@@ -185,7 +185,7 @@ stops_within {s = s} front beyond stop line at = record {
   splits = Splits-open (s.open_line ++ front) line;
   short = All-nil IsShort;
   stops = at;
-  put = Replied-nil s.asked (Puts-nil s.output);
+  put = Replied-nil s.query (Puts-nil s.output);
 }
 
 -- the same where no byte was taken in
@@ -236,7 +236,7 @@ TookIn-nil {s = s} ready = record {
   short = All-nil IsShort;
   counted = omega arith;
   same = refl;
-  put = Replied-nil s.asked (Puts-nil s.output);
+  put = Replied-nil s.query (Puts-nil s.output);
 }
 
 -- bytes were put after the open line
@@ -247,7 +247,7 @@ TookIn-extended {s = s} part ready line h = subst (λ x. TookIn s x part) (sym h
   short = All-nil IsShort;
   counted = omega arith;
   same = refl;
-  put = Replied-nil s.asked (Puts-nil s.output);
+  put = Replied-nil s.query (Puts-nil s.output);
 })
 
 -- the last bytes of a piece, which end no line
@@ -276,13 +276,13 @@ TookIn-closed {s = s} {s' = s'} part ready line short k =
       splits = subst (Splits (s.open_line ++ with_newline part) (ended ∷ [])) (sym (ap (λ x. x.open_line) k.same)) (Splits-ended s.open_line part (IsLine-more part ready line));
       short = All-cons IsShort ended [] short (All-nil IsShort);
       counted = omega (arith, ap (λ x. x.ended) k.same);
-      same = ap (λ x. x.asked) k.same;
+      same = ap (λ x. x.query) k.same;
       put = k.put;
     }
 
 -- a line ended, and the writer refused the reply to it
 RefusedWithin-closed : {s s' : Stage} {kind : ErrorKind} (part : List ℕ) → IsReady s → IsLine part
-    → Replied (λ text. PutsProperPrefix s.output s'.output text kind) s.asked ((s.open_line ++ part) ∷ []) → RefusedWithin s s' (with_newline part) kind
+    → Replied (λ text. PutsProperPrefix s.output s'.output text kind) s.query ((s.open_line ++ part) ∷ []) → RefusedWithin s s' (with_newline part) kind
 RefusedWithin-closed {s = s} {s' = s'} {kind = kind} part ready line k = record {
   front = with_newline part;
   beyond = [];

@@ -9,7 +9,7 @@ use Rattle.gix_signature.specs.declared.error.SignatureError.{SignatureError}
 use Rattle.gix_signature.specs.declared.error.SignatureError.TheVariants.{OffsetTooWide}
 use Rattle.gix_signature.proofs.Cuts.{the-cut}
 use Rattle.gix_date_tool.specs.declared.arguments.Mode.TheVariants.{Sign}
-use Rattle.gix_date_tool.specs.declared.replies.Asked.{Asked}
+use Rattle.gix_date_tool.specs.declared.replies.Query.{Query}
 use Rattle.gix_date_tool.specs.declared.replies.Reply.{Reply}
 use Rattle.gix_date_tool.specs.declared.replies.Reply.TheVariants.{NotText, Signed, NoSignature}
 use Rattle.gix_date_tool.specs.Replies.{IsReply, IsReplyTo, IsSignReply, UnchangedLines}
@@ -44,13 +44,13 @@ signed-of line c =
     let back : ComesBack p.time = canonical-back p.time (canonical-taken p.time c.canonical) in
     record { parts = p; time = back.time; cut = c.cut; read = back.is_read; due = due-of line p back.time (Some p.time) c.cut back.is_written ∙ ap (λ (l : List ℕ). Ok l) (sym c.cut.whole) }
 
-by-text : (asked : Asked) (line : List ℕ) (is_text : Bool) → asked.mode ≡ Sign → is_utf8 line ≡ is_text → IsReplyTo is_text asked line (Signed line) → IsCanonicalLine line
-by-text asked line false m u h = let clash : Signed line ≡ NotText = h in absurd cc
-by-text asked line true m u h = canonical-of line u (rw m at h)
+by-text : (query : Query) (line : List ℕ) (is_text : Bool) → query.mode ≡ Sign → is_utf8 line ≡ is_text → IsReplyTo is_text query line (Signed line) → IsCanonicalLine line
+by-text query line false m u h = let clash : Signed line ≡ NotText = h in absurd cc
+by-text query line true m u h = canonical-of line u (rw m at h)
 
 pub unchanged-lines : (line : List ℕ) → UnchangedLines line
 unfolding IsReply
-unchanged-lines line asked m = (
-  λ h. by-text asked line (is_utf8 line) m refl h,
+unchanged-lines line query m = (
+  λ h. by-text query line (is_utf8 line) m refl h,
   λ c. rw (c.is_text, m) (inl (line, signed-of line c, refl)),
 )

@@ -3,7 +3,7 @@ use Rattle.std.specs.Prelude.{◌≡◌, ℕ, List, [], ◌∷◌, Option, Some,
 use Rattle.std.specs.Option.{option_map, ForSome}
 use Rattle.std.specs.Result.{result_ok, result_err}
 use Rattle.std.specs.Str.{bytes_eq}
-use Rattle.gix_date.specs.Families.Answer.{FamilyAnswer, Absolute, OffsetBeyond, InstantBeyond}
+use Rattle.gix_date.specs.Families.Answer.{FamilyAnswer, Absolute, OffsetAboveDay, NoInstant}
 use Rattle.gix_date.specs.Families.Answer as answers
 use Rattle.gix_date.specs.Families.Order.{first_family, first_family_by}
 use Rattle.gix_date.specs.Families.Raw.{is_wide_offset}
@@ -33,8 +33,8 @@ why_unread _ = UnknownFormat
 abbrev pub moment_by : NoMoment → Option FamilyAnswer → Result Time NoMoment
 moment_by unread None = Err unread
 moment_by unread (Some (Absolute t)) = if is_convertible t then Ok t else Err Conversion
-moment_by unread (Some OffsetBeyond) = Err unread
-moment_by unread (Some InstantBeyond) = Err DateConversion
+moment_by unread (Some OffsetAboveDay) = Err unread
+moment_by unread (Some NoInstant) = Err DateConversion
 moment_by unread (Some (answers.Relative date)) = Err Relative
 
 -- the time that a text is a moment of, or why there is none

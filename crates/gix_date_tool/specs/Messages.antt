@@ -2,13 +2,13 @@
 use Rattle.std.specs.Prelude.{◌≡◌, ◌⊎◌, ℕ, List, [], ◌∷◌, ◌++◌, Option, None, Some, IsSome, codes}
 use Rattle.std.specs.Option.{option_map}
 use Rattle.gix_date.specs.Text.Characters.{newline}
-use Rattle.gix_date.specs.Devices.Known.{Takes, TakesProperPrefix}
+use Rattle.gix_date.specs.Devices.StreamState.{Takes, TakesProperPrefix}
 use Rattle.gix_date_tool.specs.declared.arguments.NoMoment.{NoMoment}
 use Rattle.gix_date_tool.specs.declared.arguments.NoMoment.TheVariants.{UnknownFormat, RawOffset, DateConversion, Relative, Conversion}
 use Rattle.gix_date_tool.specs.declared.error.ToolError.{ToolError}
 use Rattle.gix_date_tool.specs.declared.error.ToolError.TheVariants as errors
-use Rattle.gix_date_tool.specs.declared.end.End.{End}
-use Rattle.gix_date_tool.specs.declared.end.End.TheVariants.{Fault, Shown}
+use Rattle.gix_date_tool.specs.declared.outcome.Outcome.{Outcome}
+use Rattle.gix_date_tool.specs.declared.outcome.Outcome.TheVariants.{Fault, Shown}
 use Rattle.gix_date_tool.specs.Kinds.{kind_words}
 use Rattle.gix_date_tool.specs.Run.{Change}
 
@@ -43,18 +43,18 @@ abbrev pub message_why : Option NoMoment → Option (List ℕ)
 message_why why = option_map (λ w. message (no_moment_words w)) why
 
 -- what is said of an end, where anything is: the fault, or why NOW is no moment
-abbrev pub message_of : End → Option (List ℕ)
+abbrev pub message_of : Outcome → Option (List ℕ)
 message_of (Fault fault) = Some (message (fault_words fault ++ cause_words fault))
 message_of (Shown why) = message_why why
 message_of _ = None
 
 -- The text was taken, or the sink has a fault and a proper prefix of it was.
-abbrev pub Says : Change → List ℕ → Type 0
-Says telling text =
+abbrev pub WritesMessage : Change → List ℕ → Type 0
+WritesMessage telling text =
     Takes telling.old telling.new text
     ⊎ (TakesProperPrefix telling.old telling.new text × IsSome telling.new.fault)
 
 -- The message was said, if there is one, and else nothing.
-abbrev pub Tells : Change → Option (List ℕ) → Type 0
-Tells telling None = telling.new ≡ telling.old
-Tells telling (Some text) = Says telling text
+abbrev pub Reports : Change → Option (List ℕ) → Type 0
+Reports telling None = telling.new ≡ telling.old
+Reports telling (Some text) = WritesMessage telling text

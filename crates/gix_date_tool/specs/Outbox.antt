@@ -3,16 +3,16 @@ use Rattle.std.specs.Prelude.{◌≡◌, ℕ, List, [], ◌++◌, Some, Result, 
 use Rattle.std.specs.Borrow.{Bor}
 use Rattle.std.specs.List.{flat_map}
 use Rattle.std.specs.declared.io.ErrorKind.{ErrorKind}
-use Rattle.gix_date.specs.Devices.Known.{Known, Takes, TakesProperPrefix}
+use Rattle.gix_date.specs.Devices.StreamState.{StreamState, Takes, TakesProperPrefix}
 use Rattle.gix_date_tool.specs.declared.outbox.Outbox.{Outbox}
 
 -- what is known of a sink, and what waits to be sent to it
 pub record Output : Type 0 where
-  pub sink : Known
+  pub sink : StreamState
   pub unsent : List ℕ
 
 -- an outbox and its sink
-abbrev pub output : Outbox → Known → Output
+abbrev pub output : Outbox → StreamState → Output
 output outbox sink = record { sink = sink; unsent = outbox.unsent.bytes }
 
 -- the pieces of a text one after the other
@@ -20,7 +20,7 @@ abbrev pub pieces_text : List (Bor (List ℕ)) → List ℕ
 pieces_text pieces = flat_map (λ piece. piece.now) pieces
 
 -- a sink for which nothing waits
-abbrev pub all_sent : Known → Output
+abbrev pub all_sent : StreamState → Output
 all_sent sink = record { sink = sink; unsent = [] }
 
 -- The text was put after what was unsent, and of both the sink took all but an end, which is unsent now.

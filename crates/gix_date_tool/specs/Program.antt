@@ -1,17 +1,17 @@
 -- What the program does with a command line.
 use Rattle.std.specs.Prelude.{◌≡◌, ℕ, List, Option, Some, None, Ok, Err}
-use Rattle.gix_date.specs.Devices.Known.{Takes, TakesProperPrefix}
+use Rattle.gix_date.specs.Devices.StreamState.{Takes, TakesProperPrefix}
 use Rattle.gix_date.specs.declared.time.Time.{Time}
 use Rattle.gix_date_tool.specs.declared.arguments.Mode.{Mode}
 use Rattle.gix_date_tool.specs.declared.arguments.NoMoment.{NoMoment}
 use Rattle.gix_date_tool.specs.declared.error.ToolError.TheVariants as errors
-use Rattle.gix_date_tool.specs.declared.end.End.{End}
-use Rattle.gix_date_tool.specs.declared.end.End.TheVariants.{Replied, Fault, Shown}
+use Rattle.gix_date_tool.specs.declared.outcome.Outcome.{Outcome}
+use Rattle.gix_date_tool.specs.declared.outcome.Outcome.TheVariants.{Replied, Fault, Shown}
 use Rattle.gix_date_tool.specs.declared.program.Status.{Status}
 use Rattle.gix_date_tool.specs.declared.program.Status.TheVariants.{Success, Failure, Usage}
 use Rattle.gix_date_tool.specs.declared.program.TheConstants.{USAGE}
 use Rattle.gix_date_tool.specs.Command.{command_of, no_moment}
-use Rattle.gix_date_tool.specs.Messages.{message_of, Tells}
+use Rattle.gix_date_tool.specs.Messages.{message_of, Reports}
 use Rattle.gix_date_tool.specs.Run.{Change, Runs}
 
 -- the exit status of the process
@@ -21,44 +21,44 @@ code_of Failure = 1
 code_of Usage = 2
 
 -- the status that an end has
-abbrev pub status_of : End → Status
+abbrev pub status_of : Outcome → Status
 status_of Replied = Success
 status_of (Fault fault) = Failure
 status_of (Shown why) = Usage
 
 -- The usage line was written, or the writer has a fault and a proper prefix of it was.
-abbrev pub EndsInUsage : Option NoMoment → Change → End → Type 0
+abbrev pub EndsInUsage : Option NoMoment → Change → Outcome → Type 0
 EndsInUsage why writing (Shown told) = Takes writing.old writing.new USAGE.now × (told ≡ why)
 EndsInUsage why writing (Fault (errors.Write kind)) =
     TakesProperPrefix writing.old writing.new USAGE.now × (writing.new.fault ≡ Some kind)
 EndsInUsage why writing _ = ⊥
 
 -- A run in this mode at this moment came to its end, or to a fault.
-abbrev pub EndsRun : Mode × Option Time → Change → Change → End → Type 0
-EndsRun asked reading writing Replied = (count : ℕ) × Runs asked.0 asked.1 reading writing (Ok count)
-EndsRun asked reading writing (Fault fault) = Runs asked.0 asked.1 reading writing (Err fault)
-EndsRun asked reading writing _ = ⊥
+abbrev pub EndsRun : Mode × Option Time → Change → Change → Outcome → Type 0
+EndsRun query reading writing Replied = (count : ℕ) × Runs query.0 query.1 reading writing (Ok count)
+EndsRun query reading writing (Fault fault) = Runs query.0 query.1 reading writing (Err fault)
+EndsRun query reading writing _ = ⊥
 
 -- What the program comes to by what was asked of it: the usage line is due where that is nothing it has, and then
 -- nothing is read.
-abbrev pub EndsBy : Option (Mode × Option Time) → Option NoMoment → Change → Change → End → Type 0
-EndsBy None why reading writing end = (reading.new ≡ reading.old) × EndsInUsage why writing end
-EndsBy (Some asked) why reading writing end = EndsRun asked reading writing end
+abbrev pub EndsBy : Option (Mode × Option Time) → Option NoMoment → Change → Change → Outcome → Type 0
+EndsBy None why reading writing outcome = (reading.new ≡ reading.old) × EndsInUsage why writing outcome
+EndsBy (Some query) why reading writing outcome = EndsRun query reading writing outcome
 
 -- What the program comes to by the words of its command line.
-abbrev pub Ends : List (List ℕ) → Change → Change → End → Type 0
-Ends words reading writing end = EndsBy (command_of words) (no_moment words) reading writing end
+abbrev pub Ends : List (List ℕ) → Change → Change → Outcome → Type 0
+Ends words reading writing outcome = EndsBy (command_of words) (no_moment words) reading writing outcome
 
 -- What was said, and the status, are those of such an end.
 pub record Executes (words : List (List ℕ)) (reading writing telling : Change) (status : Status) : Type 0 where
-  pub end : End
-  pub ends : Ends words reading writing end
-  pub tells : Tells telling (message_of end)
-  pub status_is : status ≡ status_of end
+  pub outcome : Outcome
+  pub ends : Ends words reading writing outcome
+  pub reports : Reports telling (message_of outcome)
+  pub status_is : status ≡ status_of outcome
 
 -- The same where the usage line is due.
 pub record ShowsUsage (writing telling : Change) (status : Status) : Type 0 where
-  pub end : End
-  pub ends : EndsInUsage None writing end
-  pub tells : Tells telling (message_of end)
-  pub status_is : status ≡ status_of end
+  pub outcome : Outcome
+  pub ends : EndsInUsage None writing outcome
+  pub reports : Reports telling (message_of outcome)
+  pub status_is : status ≡ status_of outcome

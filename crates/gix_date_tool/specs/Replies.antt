@@ -16,7 +16,7 @@ use Rattle.gix_date.specs.declared.error.ParseError.{ParseError}
 use Rattle.gix_date.specs.declared.error.ParseError.TheVariants as errors
 use Rattle.gix_date_tool.specs.declared.arguments.Mode.{Mode}
 use Rattle.gix_date_tool.specs.declared.arguments.Mode.TheVariants.{Check, Parse, Sign}
-use Rattle.gix_date_tool.specs.declared.replies.Asked.{Asked}
+use Rattle.gix_date_tool.specs.declared.replies.Query.{Query}
 use Rattle.gix_date_tool.specs.declared.replies.Reply.{Reply}
 use Rattle.gix_date_tool.specs.declared.replies.Reply.TheVariants.{NotText, NoTime, Canonical, Read, Parsed, UnknownFormat, DateConversion, MissingMoment, OutOfRange, Signed, NoSignature}
 use Rattle.gix_date_tool.specs.Lines.{with_newline}
@@ -51,13 +51,13 @@ IsTextReply Parse now text reply = IsParseReply (first_family text) now reply
 IsTextReply Sign now text reply = IsSignReply text reply
 
 -- the reply to a line, which is text or not
-abbrev pub IsReplyTo : Bool → Asked → List ℕ → Reply → Type 0
-IsReplyTo true asked line reply = IsTextReply asked.mode asked.now line reply
-IsReplyTo false asked line reply = reply ≡ NotText
+abbrev pub IsReplyTo : Bool → Query → List ℕ → Reply → Type 0
+IsReplyTo true query line reply = IsTextReply query.mode query.now line reply
+IsReplyTo false query line reply = reply ≡ NotText
 
 -- the reply to a line
-unfoldable pub IsReply : Asked → List ℕ → Reply → Type 0
-IsReply asked line reply = IsReplyTo (is_utf8 line) asked line reply
+unfoldable pub IsReply : Query → List ℕ → Reply → Type 0
+IsReply query line reply = IsReplyTo (is_utf8 line) query line reply
 
 -- the text of a reply
 abbrev pub reply_text : Reply → List ℕ
@@ -87,33 +87,33 @@ abbrev pub reply_lines : List Reply → List ℕ
 reply_lines replies = flat_map reply_line replies
 
 -- the replies to some lines, in order
-abbrev pub AreReplies : Asked → List (List ℕ) → List Reply → Type 0
-AreReplies asked [] [] = Unit {0}
-AreReplies asked (line ∷ lines) (reply ∷ replies) = IsReply asked line reply × AreReplies asked lines replies
-AreReplies asked _ _ = ⊥
+abbrev pub AreReplies : Query → List (List ℕ) → List Reply → Type 0
+AreReplies query [] [] = Unit {0}
+AreReplies query (line ∷ lines) (reply ∷ replies) = IsReply query line reply × AreReplies query lines replies
+AreReplies query _ _ = ⊥
 
 -- what is written of the replies to some lines is such a text
-pub record Replied (Is : List ℕ → Type 0) (asked : Asked) (lines : List (List ℕ)) : Type 0 where
+pub record Replied (Is : List ℕ → Type 0) (query : Query) (lines : List (List ℕ)) : Type 0 where
   pub replies : List Reply
-  pub each : AreReplies asked lines replies
+  pub each : AreReplies query lines replies
   pub text : Is (reply_lines replies)
 
 -- each line has one reply at most
 abbrev pub RepliesAreUnique : Type 0
 RepliesAreUnique =
-    (asked : Asked) (line : List ℕ) (reply other : Reply)
-    → IsReply asked line reply → IsReply asked line other → reply ≡ other
+    (query : Query) (line : List ℕ) (reply other : Reply)
+    → IsReply query line reply → IsReply query line other → reply ≡ other
 
 -- the reply to a line that is parsed as a time is the header text of that time
 abbrev pub ParsedLines : List ℕ → Type 0
 ParsedLines line =
-    (asked : Asked) (t : Time) → IsReply asked line (Parsed t) → header_text t ≡ Some (reply_text (Parsed t))
+    (query : Query) (t : Time) → IsReply query line (Parsed t) → header_text t ≡ Some (reply_text (Parsed t))
 
 -- in Check a line is replied to by `canonical` exactly where it is a canonical header
 abbrev pub CanonicalLines : List ℕ → Type 0
 CanonicalLines line =
-    (asked : Asked) → asked.mode ≡ Check → IsReply asked line Canonical ↔ (is_canonical_header line ≡ true)
+    (query : Query) → query.mode ≡ Check → IsReply query line Canonical ↔ (is_canonical_header line ≡ true)
 
 -- in Sign a line is replied to by itself exactly where it is a canonical signature line
 abbrev pub UnchangedLines : List ℕ → Type 0
-UnchangedLines line = (asked : Asked) → asked.mode ≡ Sign → IsReply asked line (Signed line) ↔ IsCanonicalLine line
+UnchangedLines line = (query : Query) → query.mode ≡ Sign → IsReply query line (Signed line) ↔ IsCanonicalLine line

@@ -1,7 +1,7 @@
 -- What a run comes to.
 use Rattle.std.specs.Prelude.{◌≡◌, ◌⊎◌, Bool, true, false, ℕ, ◌+◌, ◌<◌, List, [], ◌++◌, length, All, Option, Some, None, Result, Ok, Err}
 use Rattle.std.specs.declared.io.ErrorKind.{ErrorKind}
-use Rattle.gix_date.specs.Devices.Known.{Known, Takes, TakesProperPrefix, Gives, HasEnded}
+use Rattle.gix_date.specs.Devices.StreamState.{StreamState, Takes, TakesProperPrefix, Gives, HasEnded}
 use Rattle.gix_date.specs.Printing.Zoned.{IsMoment}
 use Rattle.gix_date.specs.declared.time.Time.{Time}
 use Rattle.jiff.specs.declared.zoned.Zoned.{Zoned}
@@ -9,16 +9,16 @@ use Rattle.gix_date_tool.specs.declared.arguments.Mode.{Mode}
 use Rattle.gix_date_tool.specs.declared.error.ToolError.{ToolError}
 use Rattle.gix_date_tool.specs.declared.error.ToolError.TheVariants as errors
 use Rattle.gix_date_tool.specs.declared.lines.TheConstants.{MAX_LINE_LEN, MAX_LINES}
-use Rattle.gix_date_tool.specs.declared.replies.Asked.{Asked}
+use Rattle.gix_date_tool.specs.declared.replies.Query.{Query}
 use Rattle.gix_date_tool.specs.Lines.{Splits, last_line, LineGoesOn, HasEndedLines, HasLines, IsShort, IsWithinLimits}
 use Rattle.gix_date_tool.specs.Replies.{Replied}
 
 -- what is known of a reader or a writer before a call and after it
 pub record Change : Type 0 where
-  pub old : Known
-  pub new : Known
+  pub old : StreamState
+  pub new : StreamState
 
-abbrev pub change : Known → Known → Change
+abbrev pub change : StreamState → StreamState → Change
 change old new = record { old = old; new = new }
 
 -- all lines that an input may have have ended, none was begun, and a byte stands after them
@@ -38,7 +38,7 @@ StopsAt (errors.Read kind) n rest beyond = ⊥
 StopsAt (errors.Write kind) n rest beyond = ⊥
 
 -- The whole input was read with no fault, no limit applies to it, and exactly the replies to its lines were written.
-pub record Succeeded (Wrote : List ℕ → Type 0) (asked : Asked) (reading : Change) (count : ℕ) : Type 0 where
+pub record Succeeded (Wrote : List ℕ → Type 0) (query : Query) (reading : Change) (count : ℕ) : Type 0 where
   pub input : List ℕ
   pub lines : List (List ℕ)
   pub read : Gives reading.old reading.new input
@@ -46,11 +46,11 @@ pub record Succeeded (Wrote : List ℕ → Type 0) (asked : Asked) (reading : Ch
   pub no_fault : reading.new.fault ≡ None
   pub all : HasLines input lines
   pub within : IsWithinLimits lines
-  pub wrote : Replied Wrote asked lines
+  pub wrote : Replied Wrote query lines
   pub count_is : count ≡ length lines
 
 -- The reader refused, and the replies to the lines that had ended were written.
-pub record Unread (Wrote : List ℕ → Type 0) (asked : Asked) (reading : Change) (kind : ErrorKind) : Type 0 where
+pub record Unread (Wrote : List ℕ → Type 0) (query : Query) (reading : Change) (kind : ErrorKind) : Type 0 where
   pub input : List ℕ
   pub lines : List (List ℕ)
   pub rest : List ℕ
@@ -58,31 +58,31 @@ pub record Unread (Wrote : List ℕ → Type 0) (asked : Asked) (reading : Chang
   pub fault : reading.new.fault ≡ Some kind
   pub splits : Splits input lines rest
   pub within : IsWithinLimits (lines ++ last_line rest)
-  pub wrote : Replied Wrote asked lines
+  pub wrote : Replied Wrote query lines
 
 -- these are all the lines of the input, which was read to its end
-pub record EndsInput (reader : Known) (front beyond : List ℕ) (lines : List (List ℕ)) : Type 0 where
+pub record EndsInput (reader : StreamState) (front beyond : List ℕ) (lines : List (List ℕ)) : Type 0 where
   pub at_end : HasEnded reader
   pub none_beyond : beyond ≡ []
   pub all : HasLines front lines
 
 -- The lines whose replies were due when the writer refused: those that had ended in a front of what was read, or at the
 -- end of the input all.
-abbrev pub WereDue : Known → List ℕ → List ℕ → List (List ℕ) → Type 0
+abbrev pub WereDue : StreamState → List ℕ → List ℕ → List (List ℕ) → Type 0
 WereDue reader front beyond lines = HasEndedLines front lines ⊎ EndsInput reader front beyond lines
 
 -- The writer refused, and a proper prefix of the replies that were due was written.
-pub record Unwritten (asked : Asked) (reading writing : Change) (kind : ErrorKind) : Type 0 where
+pub record Unwritten (query : Query) (reading writing : Change) (kind : ErrorKind) : Type 0 where
   pub front : List ℕ
   pub beyond : List ℕ
   pub lines : List (List ℕ)
   pub read : Gives reading.old reading.new (front ++ beyond)
   pub due : WereDue reading.new front beyond lines
-  pub wrote : Replied (TakesProperPrefix writing.old writing.new) asked lines
+  pub wrote : Replied (TakesProperPrefix writing.old writing.new) query lines
   pub fault : writing.new.fault ≡ Some kind
 
 -- The run stopped within a line, and the replies to the lines before it were written.
-pub record Stopped (Wrote : List ℕ → Type 0) (asked : Asked) (reading : Change) (stop : ToolError) : Type 0 where
+pub record Stopped (Wrote : List ℕ → Type 0) (query : Query) (reading : Change) (stop : ToolError) : Type 0 where
   pub front : List ℕ
   pub beyond : List ℕ
   pub lines : List (List ℕ)
@@ -91,14 +91,14 @@ pub record Stopped (Wrote : List ℕ → Type 0) (asked : Asked) (reading : Chan
   pub splits : Splits front lines rest
   pub short : All IsShort lines
   pub stops : StopsAt stop (length lines) rest beyond
-  pub wrote : Replied Wrote asked lines
+  pub wrote : Replied Wrote query lines
 
 -- What a run comes to that was asked this. Wrote says of a text that exactly it was written.
-abbrev pub Ran : (List ℕ → Type 0) → Asked → Change → Change → Result ℕ ToolError → Type 0
-Ran Wrote asked reading writing (Ok count) = Succeeded Wrote asked reading count
-Ran Wrote asked reading writing (Err (errors.Read kind)) = Unread Wrote asked reading kind
-Ran Wrote asked reading writing (Err (errors.Write kind)) = Unwritten asked reading writing kind
-Ran Wrote asked reading writing (Err stop) = Stopped Wrote asked reading stop
+abbrev pub Ran : (List ℕ → Type 0) → Query → Change → Change → Result ℕ ToolError → Type 0
+Ran Wrote query reading writing (Ok count) = Succeeded Wrote query reading count
+Ran Wrote query reading writing (Err (errors.Read kind)) = Unread Wrote query reading kind
+Ran Wrote query reading writing (Err (errors.Write kind)) = Unwritten query reading writing kind
+Ran Wrote query reading writing (Err stop) = Stopped Wrote query reading stop
 
 -- the writer refused
 abbrev pub is_unwritten : Result ℕ ToolError → Bool

@@ -18,7 +18,7 @@ pub enum Mode {
     Check,
     /// The header text of the time that the line is parsed as, or why it is not.
     Parse,
-    /// The line that is written of the signature line's name, mail and time, or that it is no such line.
+    /// The line that is written of the signature line's name, email and time, or that it is no such line.
     Sign,
 }
 

@@ -1,8 +1,18 @@
 //! Laws, each the contract of a function that does nothing.
-ghost use Rattle.std.specs.Prelude.{◌≡◌, ◌↔◌, IsTrue};
+ghost use Rattle.std.specs.Prelude.{◌≡◌, ◌↔◌, ◌++◌, ◌∷◌, [], IsTrue, codes};
+ghost use Rattle.gix_date.specs.Text.Characters.{newline};
+ghost use Rattle.gix_date_tool.specs.declared.lines.TheConstants.{MAX_LINE_LEN, MAX_LINES};
+ghost use Rattle.gix_date_tool.specs.declared.program.TheConstants.{USAGE};
 
 use crate::arguments::Mode;
 use crate::program::Status;
+
+/// The limits are the numbers that the texts of the faults name, and the usage line is this text.
+pub fn limits()
+    ensures of_a_line { MAX_LINE_LEN ≡ 65_536 }
+    ensures of_an_input { MAX_LINES ≡ 1_000_000 }
+    ensures usage { USAGE.now ≡ codes "usage: gix_date_tool MODE [NOW]" ++ newline ∷ [] }
+{}
 
 /// A clone of a mode or a status is that value, and neither can fail.
 pub fn clones()
@@ -12,7 +22,7 @@ pub fn clones()
     ensures status_succeeds { (a : Status) → ⟦<Status as Clone>⟧.is_infallible a }
 {}
 
-/// Modes, and statuses, are equal by `==` where they are the same, and nowhere else.
+/// Modes, and statuses, are equal by `==` iff they are the same.
 pub fn equality()
     ensures mode { (a b : Mode) → IsTrue (⟦<Mode as PartialEq>⟧.eq a b) ↔ (a ≡ b) }
     ensures status { (a b : Status) → IsTrue (⟦<Status as PartialEq>⟧.eq a b) ↔ (a ≡ b) }

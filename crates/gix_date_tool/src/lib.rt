@@ -3,13 +3,13 @@
 #![tactic(auto)]
 
 mod arguments;
-mod end;
 mod error;
 mod kinds;
 pub mod laws;
 mod lines;
 mod messages;
 mod outbox;
+mod outcome;
 mod program;
 mod progress;
 mod replies;
@@ -18,7 +18,8 @@ mod signed;
 
 pub use arguments::{Mode, command};
 pub use error::ToolError;
-pub use lines::{limits, lines_are_unique};
+pub use laws::limits;
+pub use lines::lines_are_unique;
 pub use program::{Status, execute, show_usage};
 pub use replies::{canonical_lines, parsed_lines, replies_are_unique, unchanged_lines};
 pub use runs::run;

@@ -9,12 +9,6 @@ pub(crate) const MAX_LINE_LEN: usize = 65536;
 /// The most lines that an input has.
 pub(crate) const MAX_LINES: u64 = 1_000_000;
 
-/// The limits are the numbers that the texts of the faults name.
-pub fn limits()
-    ensures of_a_line { MAX_LINE_LEN ≡ 65_536 }
-    ensures of_an_input { MAX_LINES ≡ 1_000_000 }
-{}
-
 /// An input has one way to be split into lines.
 pub fn lines_are_unique()
     ensures { SplitsAreUnique }

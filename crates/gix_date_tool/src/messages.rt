@@ -1,42 +1,45 @@
 //! What the program says of its end.
 ghost use Rattle.std.specs.Prelude.{◌≡◌};
-ghost use Rattle.gix_date_tool.specs.Messages.{message_of, message_why, Says, Tells};
+ghost use Rattle.gix_date_tool.specs.Messages.{message_of, message_why, WritesMessage, Reports};
 ghost use Rattle.gix_date_tool.specs.Outbox.{pieces_text};
 ghost use Rattle.gix_date_tool.specs.Run.{change};
 
 use crate::arguments::NoMoment;
-use crate::end::End;
 use crate::outbox::Outbox;
+use crate::outcome::Outcome;
 use gix_date::device::Sink;
 
 /// What a message begins with, so that its reader knows who speaks.
-const SPEAKER: &str = "gix_date_tool: ";
+const PREFIX: &str = "gix_date_tool: ";
 
 /// Says in one line why the program ends so, where there is something to say.
-pub(crate) fn tell<M: Sink>(end: &End, messages: &mut M)
-    ensures { Tells (change (M.known messages.old) (M.known messages.new)) (message_of end.now) }
+pub(crate) fn report<M: Sink>(outcome: &Outcome, messages: &mut M)
+    ensures { Reports (change (M.known messages.old) (M.known messages.new)) (message_of outcome.now) }
 {
-    match end {
-        End::Fault(fault) => say(&[SPEAKER, fault.text(), fault.cause(), "\n"], messages),
-        End::Shown(why) => tell_why(*why, messages),
-        End::Replied => {}
+    match outcome {
+        Outcome::Fault(fault) => write_message(
+            &[PREFIX, fault.text(), fault.cause(), "\n"],
+            messages,
+        ),
+        Outcome::Shown(why) => report_why(*why, messages),
+        Outcome::Replied => {}
     }
 }
 
 /// Says in one line why NOW is no moment, where that was wrong.
-fn tell_why<M: Sink>(why: Option<NoMoment>, messages: &mut M)
-    ensures { Tells (change (M.known messages.old) (M.known messages.new)) (message_why why) }
+fn report_why<M: Sink>(why: Option<NoMoment>, messages: &mut M)
+    ensures { Reports (change (M.known messages.old) (M.known messages.new)) (message_why why) }
 {
     match why {
-        Some(why) => say(&[SPEAKER, why.text(), "\n"], messages),
+        Some(why) => write_message(&[PREFIX, why.text(), "\n"], messages),
         None => {}
     }
 }
 
 /// Says a text, given in pieces, by one call where the sink takes so many bytes, so that lines of programs side by side
 /// do not mix. What the sink refuses is not said.
-fn say<M: Sink>(pieces: &[&str], messages: &mut M)
-    ensures { Says (change (M.known messages.old) (M.known messages.new)) (pieces_text pieces.now) }
+fn write_message<M: Sink>(pieces: &[&str], messages: &mut M)
+    ensures { WritesMessage (change (M.known messages.old) (M.known messages.new)) (pieces_text pieces.now) }
 {
     let mut text = Outbox::new();
     if let Ok(()) = text.push(pieces, messages) {

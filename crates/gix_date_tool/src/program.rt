@@ -4,15 +4,15 @@ ghost use Rattle.gix_date_tool.specs.Run.{change};
 ghost use Rattle.gix_date_tool.specs.Program.{code_of, status_of, EndsInUsage, Ends, ShowsUsage, Executes};
 
 use crate::arguments::{NoMoment, Request, read_words};
-use crate::end::End;
 use crate::error::ToolError;
-use crate::messages::tell;
+use crate::messages::report;
+use crate::outcome::Outcome;
 use crate::runs::run;
 use gix_date::device::{Sink, Source, put_all};
 use std::alloc::Global;
 
 /// How the program is called.
-const USAGE: &[u8] = b"usage: gix_date_tool MODE [NOW]\n";
+pub(crate) const USAGE: &[u8] = b"usage: gix_date_tool MODE [NOW]\n";
 
 /// How the program ends.
 #[derive(Debug, Clone, Copy, PartialEq, Eq)]
@@ -38,10 +38,10 @@ impl Status {
     }
 }
 
-/// Does what the words of a command line ask for, without the program's name: runs over the reader's lines, or shows
-/// how the program is called where they ask for nothing that it has.
+/// Does what the words of a command line, without the program's name, ask for: runs over the reader's lines, or writes
+/// the usage line if the words are invalid.
 ///
-/// [`Status::Failure`] where the run has a fault, or the usage line is not written. Takes memory as [`run`] does.
+/// [`Status::Failure`] if the run has a fault, or the usage line is not written. Takes memory as [`run`] does.
 ///
 /// One line is put into the messages: after the program's name the text of the run's fault, or of the writer's that
 /// refused the usage line, or why NOW is no moment. Else they are not called, and what they refuse changes nothing.
@@ -56,58 +56,57 @@ pub fn execute<R: Source, W: Sink, M: Sink>(
         (change (W.known writer.old) (W.known writer.new))
         (change (M.known messages.old) (M.known messages.new)) result }
 {
-    let end = carry_out(alloc, words, reader, writer);
-    tell(&end, messages);
-    status_of(&end)
+    let outcome = dispatch(alloc, words, reader, writer);
+    report(&outcome, messages);
+    status_of(&outcome)
 }
 
-/// Shows how the program is called. [`Status::Failure`] where the writer refuses, and then its fault is put into the
-/// messages.
+/// Writes the usage line. [`Status::Failure`] if the writer refuses; its fault then goes into the messages.
 pub fn show_usage<W: Sink, M: Sink>(writer: &mut W, messages: &mut M) -> Status
     ensures { ShowsUsage (change (W.known writer.old) (W.known writer.new))
         (change (M.known messages.old) (M.known messages.new)) result }
 {
-    let end = usage_end(writer, None);
-    tell(&end, messages);
-    status_of(&end)
+    let outcome = usage_outcome(writer, None);
+    report(&outcome, messages);
+    status_of(&outcome)
 }
 
 /// Does what the words ask for, but for the messages.
-fn carry_out<R: Source, W: Sink>(
+fn dispatch<R: Source, W: Sink>(
     alloc: Global,
     words: &[String],
     reader: &mut R,
     writer: &mut W,
-) -> End
+) -> Outcome
     ensures { Ends (map string_bytes words.now) (change (R.known reader.old) (R.known reader.new))
         (change (W.known writer.old) (W.known writer.new)) result }
 {
     match read_words(words) {
         Request::Run(mode, now) => match run(alloc, mode, now, reader, writer) {
-            Ok(_) => End::Replied,
-            Err(fault) => End::Fault(fault),
+            Ok(_) => Outcome::Replied,
+            Err(fault) => Outcome::Fault(fault),
         },
-        Request::Usage(why) => usage_end(writer, why),
+        Request::Usage(why) => usage_outcome(writer, why),
     }
 }
 
 /// Writes the usage line.
-fn usage_end<W: Sink>(writer: &mut W, why: Option<NoMoment>) -> End
+fn usage_outcome<W: Sink>(writer: &mut W, why: Option<NoMoment>) -> Outcome
     ensures { EndsInUsage why (change (W.known writer.old) (W.known writer.new)) result }
 {
     match put_all(writer, USAGE) {
-        Ok(()) => End::Shown(why),
-        Err(kind) => End::Fault(ToolError::Write(kind)),
+        Ok(()) => Outcome::Shown(why),
+        Err(kind) => Outcome::Fault(ToolError::Write(kind)),
     }
 }
 
 /// The status that an end has.
-fn status_of(end: &End) -> Status
-    ensures { result ≡ status_of end.now }
+fn status_of(outcome: &Outcome) -> Status
+    ensures { result ≡ status_of outcome.now }
 {
-    match end {
-        End::Replied => Status::Success,
-        End::Fault(_) => Status::Failure,
-        End::Shown(_) => Status::Usage,
+    match outcome {
+        Outcome::Replied => Status::Success,
+        Outcome::Fault(_) => Status::Failure,
+        Outcome::Shown(_) => Status::Usage,
     }
 }

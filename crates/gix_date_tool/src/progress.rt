@@ -1,26 +1,26 @@
 //! How far a run has come between two reads.
 ghost use Rattle.std.specs.Prelude.{◌≡◌, ◌<◌, ◌≤◌, [], length, IfOk, OnOk};
 ghost use Rattle.std.specs.Io.KnownBytes.{ReadConsumes};
-ghost use Rattle.gix_date.specs.Devices.Known.{Known, refusal};
+ghost use Rattle.gix_date.specs.Devices.StreamState.{StreamState, refusal};
 ghost use Rattle.gix_date_tool.specs.Lines.{IsLine, IsShort, with_newline};
 ghost use Rattle.gix_date_tool.specs.Run.{Ran, change};
 
 use crate::error::ToolError;
 use crate::lines::{MAX_LINE_LEN, MAX_LINES, split_line};
 use crate::outbox::Outbox;
-use crate::replies::{Asked, reply_to};
+use crate::replies::{Query, reply_to};
 use gix_date::device::{Sink, Source};
 use std::alloc::{AllocError, Global};
 use std::io;
 
 /// How many bytes are read at most at a time.
-const PIECE: usize = 16384;
+const CHUNK: usize = 16384;
 
 /// What is known between two reads.
 #[derive(Drop)]
 pub(crate) struct Progress {
     /// What is asked of each line.
-    asked: Asked,
+    query: Query,
     /// The bytes read of the line that has not ended.
     line: Vec<u8>,
     /// How many lines have ended.
@@ -34,12 +34,12 @@ impl Progress {
     ghost use Rattle.gix_date_tool.specs.Progress.{stage, IsFresh, IsReady, SendsAll, Extends, Closes, TakesIn, EndsAt};
 
     /// The progress of a run that has read nothing.
-    pub(crate) fn new(alloc: Global, asked: Asked) -> Progress
+    pub(crate) fn new(alloc: Global, query: Query) -> Progress
         ensures fresh { IsFresh result }
-        ensures asked { result.asked ≡ asked }
+        ensures query { result.query ≡ query }
     {
         Progress {
-            asked,
+            query,
             line: Vec::new(alloc),
             ended: 0,
             outbox: Outbox::new(),
@@ -54,10 +54,10 @@ impl Progress {
     ) -> Result<u64, ToolError>
         requires { IsFresh self.old }
         ensures { Ran (Puts (all_sent (W.known writer.old)) (output self.new.outbox (W.known writer.new)))
-            self.old.asked (change (R.known reader.old) (R.known reader.new))
+            self.old.query (change (R.known reader.old) (R.known reader.new))
             (change (W.known writer.old) (W.known writer.new)) result }
     {
-        let mut piece = [0; PIECE];
+        let mut piece = [0; CHUNK];
         'pieces: loop {
             self.send(writer)?;
             let count = match self.read(reader, &mut piece) {
@@ -67,11 +67,11 @@ impl Progress {
             if count == 0 {
                 return self.end_input(writer);
             }
-            self.take_in(&piece[..count], writer)?;
+            self.feed(&piece[..count], writer)?;
         }
     }
 
-    /// Reads the next bytes. No reply may wait then: a reader may make the program wait.
+    /// Reads the next bytes. No reply may wait meanwhile, since a reader may block.
     fn read<R: Source>(&self, reader: &mut R, piece: &mut [u8]) -> Result<usize, io::ErrorKind>
         requires piece { 0 < length piece.old }
         requires sent { self.now.outbox.unsent.bytes ≡ [] }
@@ -90,7 +90,7 @@ impl Progress {
     }
 
     /// Takes in the next bytes, and replies to the lines that they end.
-    fn take_in<W: Sink>(&mut self, bytes: &[u8], writer: &mut W) -> Result<(), ToolError>
+    fn feed<W: Sink>(&mut self, bytes: &[u8], writer: &mut W) -> Result<(), ToolError>
         requires { IsReady (stage self.old (W.known writer.old)) }
         ensures takes { TakesIn (stage self.old (W.known writer.old)) (stage self.new (W.known writer.new))
             bytes.now result }
@@ -119,11 +119,11 @@ impl Progress {
         self.close_line(writer)
     }
 
-    /// Takes in bytes of a line that does not end in them. Of no byte no memory is asked.
+    /// Appends bytes to the open line. An empty slice never allocates.
     fn extend(&mut self, part: &[u8]) -> Result<(), ToolError>
         requires few { self.old.ended ≤ MAX_LINES }
         requires short { IsShort self.old.line.items }
-        ensures { (sink : Known) → Extends (stage self.old sink) (stage self.new sink) part.now result }
+        ensures { (sink : StreamState) → Extends (stage self.old sink) (stage self.new sink) part.now result }
     {
         if self.ended == MAX_LINES {
             return Err(ToolError::TooManyLines);
@@ -157,7 +157,7 @@ impl Progress {
         requires { self.old.ended < MAX_LINES }
         ensures { Closes (stage self.old (W.known writer.old)) (stage self.new (W.known writer.new)) result }
     {
-        let reply = reply_to(self.asked, self.line.as_slice());
+        let reply = reply_to(self.query, self.line.as_slice());
         if let Err(kind) = reply.push_to(&mut self.outbox, writer) {
             return Err(ToolError::Write(kind));
         }

@@ -17,7 +17,7 @@ use std::{io, str};
 
 /// What is asked of each line.
 #[derive(Clone, Copy)]
-pub(crate) struct Asked {
+pub(crate) struct Query {
     /// Which replies the lines get.
     pub(crate) mode: Mode,
     /// What a date may be relative to.
@@ -98,7 +98,7 @@ fn push_reading<W: Sink>(time: Time, outbox: &mut Outbox, out: &mut W) -> Result
     outbox.push(&pieces, out)
 }
 
-/// Each line has one reply at most, in a mode and at a moment.
+/// Each line has at most one reply, in a mode and at a moment.
 pub fn replies_are_unique()
     ensures { RepliesAreUnique }
 {}
@@ -108,29 +108,29 @@ pub fn parsed_lines(line: &[u8])
     ensures { ParsedLines line.now }
 {}
 
-/// In Check a line is replied to by `canonical` exactly where it is the header text of a time as Git writes it
-/// (`is_canonical_header`), whatever else is asked.
+/// In Check the reply to a line is `canonical` iff the line is a canonical header (`is_canonical_header`), whatever the
+/// moment.
 pub fn canonical_lines(line: &[u8])
     ensures { CanonicalLines line.now }
 {}
 
-/// In Sign a line is replied to by itself exactly where it is a signature line as Git writes it: it is text, it has a
-/// cut, and the time in it is a canonical header (`is_canonical_header`), whatever else is asked.
+/// In Sign the reply to a line is the line iff it is text, has a cut, and has a canonical header as its time
+/// (`is_canonical_header`), whatever the moment.
 pub fn unchanged_lines(line: &[u8])
     ensures { UnchangedLines line.now }
 {}
 
 /// The reply to a line.
-pub(crate) fn reply_to(asked: Asked, line: &[u8]) -> Reply<'_>
-    ensures is { IsReply asked line.now result }
+pub(crate) fn reply_to(query: Query, line: &[u8]) -> Reply<'_>
+    ensures is { IsReply query line.now result }
     ensures writable { IsWritable result }
 {
     let Ok(text) = str::from_utf8(line) else {
         return Reply::NotText;
     };
-    match asked.mode {
+    match query.mode {
         Mode::Check => check_reply(text),
-        Mode::Parse => parse_reply(text, asked.now),
+        Mode::Parse => parse_reply(text, query.now),
         Mode::Sign => sign_reply(text),
     }
 }

@@ -7,14 +7,14 @@ ghost use Rattle.gix_date_tool.specs.Run.{Runs, change, IsMomentOf, is_unwritten
 use crate::arguments::Mode;
 use crate::error::ToolError;
 use crate::progress::Progress;
-use crate::replies::Asked;
+use crate::replies::Query;
 use gix_date::device::{Sink, Source};
 use gix_date::{Time, Zoned};
 use std::alloc::Global;
 
-/// Replies to each line that a reader gives, by a line of output, and says how many lines there were.
+/// Replies to each line of a reader by a line of output, and answers the number of lines.
 ///
-/// The moment, where there is one, is what a date may be relative to; it has to be one that `Time::to_zoned` converts.
+/// Relative dates count from the moment, which `Time::to_zoned` has to convert.
 ///
 /// Lines end at `\n`, and a last line without one counts where it has a byte. The replies to the lines of what was read
 /// are written before more is read. Memory is taken for the line that is read alone: over short lines 64 KiB are
@@ -36,11 +36,11 @@ pub fn run<R: Source, W: Sink>(
     ensures { Runs mode now (change (R.known reader.old) (R.known reader.new))
         (change (W.known writer.old) (W.known writer.new)) result }
 {
-    let asked = Asked {
+    let query = Query {
         mode,
         now: moment_of(now),
     };
-    let mut progress = Progress::new(alloc, asked);
+    let mut progress = Progress::new(alloc, query);
     let outcome = progress.reply_to_all(reader, writer);
     if is_unwritten(&outcome) {
         return outcome;

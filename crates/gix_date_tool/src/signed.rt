@@ -11,7 +11,7 @@ use gix_signature::{SignatureRef, laws};
 use std::io;
 use std::marker::Model;
 
-/// The line of a name, a mail and the text of a time. Contracts see its text.
+/// The line of a name, an email and the text of a time. Contracts see its text.
 #[derive(Drop)]
 pub(crate) struct SignedLine<'a> {
     name: &'a str,
@@ -48,7 +48,7 @@ impl SignedLine<'_> {
     }
 }
 
-/// The line that is written of a signature line's name, mail and time. `None` where the text has no cut, where no time
+/// The line that is written of a signature line's name, email and time. `None` where the text has no cut, where no time
 /// is read from its last part, and where the offset of that time is 100 hours or more.
 pub(crate) fn sign(text: &str) -> Option<SignedLine<'_>>
     ensures { MatchOption result (IsUnsigned text.now) (IsSigned text.now) }

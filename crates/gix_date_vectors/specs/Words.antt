@@ -1,34 +1,34 @@
 -- Each word of the contracts and laws of `gix_date`, imported as another crate does.
-pub use Rattle.gix_date.specs.Families.Answer.{FamilyAnswer, Absolute, Relative, OffsetBeyond, InstantBeyond}
+pub use Rattle.gix_date.specs.Families.Answer.{FamilyAnswer, Absolute, Relative, OffsetAboveDay, NoInstant}
 pub use Rattle.gix_date.specs.Header.Canonical.{is_canonical_header}
 pub use Rattle.gix_date.specs.Computing.{computing}
 pub use Rattle.gix_date.specs.Devices.Device.{inner_of, fault_of}
-pub use Rattle.gix_date.specs.Families.Epoch.{epoch_time, utc_time, min_bare_epoch}
+pub use Rattle.gix_date.specs.Families.Epoch.{at_time, epoch_time, utc_time, min_bare_epoch}
 pub use Rattle.gix_date.specs.Families.Order.{first_family, ParseNoAllocOutcome, ParseOutcome, WithCopy, RefusesWithCopy, Family, families, family_answer, RefusesDate, answers_before_git, RefusesUnknown, first_family_by}
 pub use Rattle.gix_date.specs.Families.Laws.{Agree, AnswersHaveText, AnswersWithinDay, AreApart, HasOneOutcome, IgnoresCase, IgnoresSpace, Holds, overlap, AreExclusive, AreOverlapping, Overlap, AreDisjoint, ComesFirst, IgnoresMoment, IsWidened}
 pub use Rattle.gix_date.specs.Relative.FixedZones.{NamesSum, IgnoresOrder, NamesNoneLater, IsSecondsPair, IsMonthsPair, less_seconds, less_months, total, Names, NamesAlike, IsSecondsBefore, NamesBefore, earlier, NamesEarlier}
 pub use Rattle.gix_date.specs.Relative.Pairs.{ArePairs, IsRelativeText, IsSpelledSo}
 pub use Rattle.gix_date.specs.Families.Grammars.{AreDigits, IsInt, IsPair, IsSign, AreOffsetFields, IsRawText, IsEpochText, IsAtText}
 pub use Rattle.gix_date.specs.Git.Cuts.{IsCut}
-pub use Rattle.gix_date.specs.Git.Grammar.{IsGitDate, IsGitFront, IsGitText}
+pub use Rattle.gix_date.specs.Git.Grammar.{IsGitDate, IsGitFront, IsGitClock, IsGitOffset, IsGitText}
 pub use Rattle.gix_date.specs.Git.Forms.{git_time}
 pub use Rattle.gix_date.specs.Header.Laws.{RawIsHeader, HeaderIsParsed, CanonicalComesBack, ComesBack, ComesBackFromHeader, AreWrittenAlike, AreAlike}
 pub use Rattle.gix_date.specs.Header.Reading.{header_time, ReadsHeader}
 pub use Rattle.gix_date.specs.Header.Text.{header_text, written_text, is_header_text_of, Writes, GivesText, text_left, max_text_len, hundred_hours}
 pub use Rattle.gix_date.specs.Devices.InputBytes.{shown_text}
-pub use Rattle.gix_date.specs.Devices.Known.{Known, Takes, TakesProperPrefix, TakesNothing, Gives, HasEnded, refusal}
+pub use Rattle.gix_date.specs.Devices.StreamState.{StreamState, Takes, TakesProperPrefix, TakesNothing, Gives, HasEnded, refusal}
 pub use Rattle.gix_date.specs.Fields.Layout.{LocalTime, LocalDate, LocalClock, Piece, ArePieces, IsPiece, print_pieces}
 pub use Rattle.gix_date.specs.Devices.Lending.{LeavesText}
-pub use Rattle.gix_date.specs.Printing.LocalClocks.{clock_of, HasOrdinaryClock}
-pub use Rattle.gix_date.specs.Printing.NamedTexts.{short_text, rfc2822_text, git_rfc2822_text, iso8601_text, iso8601_strict_text, gitoxide_text, default_text, short_pattern, rfc2822_pattern, git_rfc2822_pattern, iso8601_pattern, iso8601_strict_pattern, gitoxide_pattern, default_pattern, IsOrdinary, local_time}
+pub use Rattle.gix_date.specs.Printing.LocalClocks.{clock_of, HasFourDigitFields}
+pub use Rattle.gix_date.specs.Printing.NamedTexts.{short_text, rfc2822_text, git_rfc2822_text, iso8601_text, iso8601_strict_text, gitoxide_text, default_text, short_pattern, rfc2822_pattern, git_rfc2822_pattern, iso8601_pattern, iso8601_strict_pattern, gitoxide_pattern, default_pattern, ShowsFourDigitFields, local_time}
 pub use Rattle.gix_date.specs.Text.Numbers.{decimal_text}
 pub use Rattle.gix_date.specs.Values.{ComparesParts, AgreesWith, IsEquality, FeedsParts, FeedsAlike}
-pub use Rattle.gix_date.specs.Families.Patterns.{Spells, IsAnswered, time_answer, real_day_answer, short_layout, rfc2822_layout, iso8601_layout, iso8601_strict_layout, gitoxide_layout, default_layout, short_answer, rfc2822_answer, iso8601_answer, iso8601_strict_answer, gitoxide_answer, default_answer, max_date_offset}
-pub use Rattle.gix_date.specs.Printing.Formats.{Prints, PrintsSeconds, PrintsHeader, PrintsBy, PrintsOrSeconds, HasNoText, HasNoTextBy, PrintsByOrSeconds, IsShown, AtMoment}
+pub use Rattle.gix_date.specs.Families.Patterns.{Accepts, IsMeaning, time_answer, real_day_answer, short_layout, rfc2822_layout, iso8601_layout, iso8601_strict_layout, gitoxide_layout, default_layout, short_answer, rfc2822_answer, iso8601_answer, iso8601_strict_answer, gitoxide_answer, default_answer, max_date_offset}
+pub use Rattle.gix_date.specs.Printing.Formats.{Prints, PrintsSeconds, PrintsHeader, PrintsPattern, PrintsOrSeconds, HasNoText, HasNoPatternText, PrintsPatternOrSeconds, IsShown, AtMoment}
 pub use Rattle.gix_date.specs.Printing.PrintedTimes.{IsPrintedAs, PrintsText}
 pub use Rattle.gix_date.specs.Families.Raw.{raw_time, raw_time_by, max_raw_hours, OffsetRule, is_raw_offset, is_wide_offset, allows, max_wide_hours, max_wide_minutes}
-pub use Rattle.gix_date.specs.Printing.ReadingBack.{PlainTimesComeBack, HeaderIsReadBack, SecondsAreReadBack, ShortIsReadBack, AreReadBack, IsReadBack, IsPlainTime, IsRawOffset, HasClock, PrintsBack, IsKept, IsWideOffset, IsRuleOffset, midnight_of, day_read_back}
-pub use Rattle.gix_date.specs.Relative.Dates.{AreNamedOnce, AreConvertible, relative_date, RelativeDate, Before, Less, RelativeOutcome, IsNamed, Reaches}
+pub use Rattle.gix_date.specs.Printing.ReadingBack.{TimesRoundTrip, HeaderRoundTrips, SecondsRoundTrip, ShortIsReadBack, RoundTripsByEach, RoundTripsBy, RoundTrips, IsRawOffset, HasClock, RoundTripsAs, RoundTripsByPattern, IsWideOffset, IsRuleOffset, midnight_of, day_read_back}
+pub use Rattle.gix_date.specs.Relative.Dates.{AreNamedOnce, AreConvertible, relative_date, RelativeDate, MinusSeconds, MinusPairs, RelativeOutcome, IsNamed, Reaches}
 pub use Rattle.gix_date.specs.Relative.Steps.{zone_of, Settles, Chain, SecondsStep, MonthsStep, IsPicked}
 pub use Rattle.gix_date.specs.Families.Shapes.{shape_of, shape_families, IsDispatched, row_families, IsInItsRow}
 pub use Rattle.gix_date.specs.Text.SpaceWords.{StdWhiteSpaceIsUnicodes, white_space}

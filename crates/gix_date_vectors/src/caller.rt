@@ -1,5 +1,5 @@
 //! What a crate that reads and writes commits does with `gix_date`.
-ghost use Rattle.std.specs.Prelude.{◌≡◌, ◌≢◌, ◌↔◌, ◌<◌, ◌%◌, ◌-ℤ◌, pos, true, false, unsigned_abs, IsTrue, IsSome, Some, None, Err, Ok, IfSome, IfNone, IsOk, IsOkAnd, IfOk, MatchResult, option_map, unwrap_or, replicate, string_bytes, ℤ, Option};
+ghost use Rattle.std.specs.Prelude.{◌≡◌, ◌≢◌, ◌↔◌, ◌<◌, ◌%◌, ◌-ℤ◌, pos, true, false, unsigned_abs, IsTrue, IsSome, Some, None, Err, Ok, IfSome, IfNone, IsOk, IsOkAnd, IsSomeAnd, IfOk, MatchResult, option_map, unwrap_or, replicate, string_bytes, ℤ, Option};
 ghost use Rattle.gix_date.specs.Families.Answer.{Absolute, Relative};
 ghost use Rattle.gix_date.specs.Header.Canonical.{is_canonical_header};
 ghost use Rattle.gix_date.specs.Families.Epoch.{epoch_time};
@@ -7,12 +7,12 @@ ghost use Rattle.gix_date.specs.Families.Order.{first_family, first_family_by, P
 ghost use Rattle.gix_date.specs.Relative.FixedZones.{earlier};
 ghost use Rattle.gix_date.specs.Header.Reading.{header_time};
 ghost use Rattle.gix_date.specs.Header.Text.{header_text, Writes, hundred_hours};
-ghost use Rattle.gix_date.specs.Printing.LocalClocks.{HasOrdinaryClock};
+ghost use Rattle.gix_date.specs.Printing.LocalClocks.{HasFourDigitFields};
 ghost use Rattle.gix_date.specs.Printing.NamedTexts.{iso8601_text};
-ghost use Rattle.gix_date.specs.Printing.Formats.{PrintsOrSeconds, PrintsByOrSeconds};
+ghost use Rattle.gix_date.specs.Printing.Formats.{PrintsOrSeconds, PrintsPatternOrSeconds};
 ghost use Rattle.gix_date.specs.Printing.PrintedTimes.{PrintsText};
 ghost use Rattle.gix_date.specs.Families.Raw.{is_raw_offset, is_wide_offset, raw_time, raw_time_by};
-ghost use Rattle.gix_date.specs.Printing.ReadingBack.{IsPlainTime, IsWideOffset, HasClock, PrintsBack};
+ghost use Rattle.gix_date.specs.Printing.ReadingBack.{RoundTrips, IsWideOffset, HasClock};
 ghost use Rattle.gix_date.specs.Relative.Dates.{RelativeDate, relative_date};
 ghost use Rattle.gix_date.specs.Devices.TimeBuf.{text_in};
 ghost use Rattle.gix_date.specs.Printing.Zoned.{IsConvertible, IsMoment, is_instant, time_in, time_in_utc};
@@ -100,7 +100,7 @@ pub fn stored_date(alloc: Global, date: &str) -> Result<Time, Error>
     ensures raw { (t : Read) → raw_time_by is_wide_offset date.now ≡ Some t → result ≡ Ok t }
     ensures outcome { ParseOutcome (first_family_by is_wide_offset date.now) date.now None result }
 {
-    laws::comes_first(date, RawOffsets::WholeMinutes);
+    gix_date_laws::comes_first(date, RawOffsets::WholeMinutes);
     parse_with(alloc, date, None, RawOffsets::WholeMinutes)
 }
 
@@ -114,7 +114,7 @@ pub fn asks_for_a_moment(date: &str) -> bool
     ensures absolute { (t : Read) → first_family date.now ≡ Some (Absolute t) → result ≡ false }
 {
     laws::disjoint(date);
-    laws::comes_first(date, RawOffsets::Quarter);
+    gix_date_laws::comes_first(date, RawOffsets::Quarter);
     parse_no_alloc(date, None, RawOffsets::Quarter) == Err(ParseError::MissingNow)
 }
 
@@ -163,52 +163,65 @@ pub fn log_date(alloc: Global, time: Time, format: CustomFormat) -> Result<Strin
 
 /// The same by a pattern that a user wrote, as that of `git log --date=format:..`.
 pub fn log_date_by(alloc: Global, time: Time, pattern: &str) -> Result<String, Error>
-    ensures { PrintsByOrSeconds time pattern.now result }
+    ensures { PrintsPatternOrSeconds time pattern.now result }
 {
     time.format_by_pattern_or_unix(alloc, pattern)
 }
 
 /// The date of a time as `git log --date=iso` has it: what the time's own clock shows.
 pub fn iso_date(alloc: Global, time: Time) -> Result<String, Error>
-    ensures { HasOrdinaryClock time → PrintsText iso8601_text time result }
+    ensures { HasFourDigitFields time → PrintsText iso8601_text time result }
 {
-    laws::printed(time);
+    gix_date_laws::printed(time);
     time.format(alloc, ISO8601.into())
 }
 
-/// The text of a time by one of the six named formats that have a clock, which is parsed back to that time.
-pub fn dated(alloc: Global, time: Time, format: CustomFormat) -> Result<String, Error>
-    requires plain { IsPlainTime time }
-    requires clock { HasClock format.pattern.now }
-    ensures { PrintsBack is_raw_offset time result }
+/// The text by which a program stores a time, in one of the six named formats with a clock; `None` for a time that need
+/// not be read back from it. It fails only when out of memory.
+pub fn store(alloc: Global, time: Time, format: CustomFormat) -> Result<Option<String>, Error>
+    requires { HasClock format.pattern.now }
+    ensures some { RoundTrips time → MatchResult result (λ stored. IsSomeAnd stored (λ text. first_family (string_bytes text) ≡ Some (Absolute time))) (λ e. e ≡ Memory) }
+    ensures none { ¬ (RoundTrips time) → result ≡ Ok None }
 {
+    if !time.round_trips() {
+        return Ok(None);
+    }
     laws::read_back(time);
-    time.format(alloc, format.into())
+    Ok(Some(time.format(alloc, format.into())?))
 }
 
-/// A time that was printed by such a format and parsed back, at any moment or none: the same time. It fails only when
-/// out of memory.
+/// The time that was stored as this text, at any moment or none.
+pub fn load(alloc: Global, text: &str, now: Option<Zoned<'_>>) -> Result<Time, Error>
+    ensures { (t : Read) → first_family text.now ≡ Some (Absolute t) → result ≡ Ok t }
+{
+    parse(alloc, text, now)
+}
+
+/// A time that was stored by such a format and loaded again: the same time.
 pub fn kept(
     alloc: Global,
     time: Time,
     format: CustomFormat,
     now: Option<Zoned<'_>>,
-) -> Result<Time, Error>
-    requires plain { IsPlainTime time }
-    requires clock { HasClock format.pattern.now }
-    ensures { MatchResult result (λ back. back ≡ time) (λ e. e ≡ Memory) }
+) -> Result<Option<Time>, Error>
+    requires { HasClock format.pattern.now }
+    ensures some { RoundTrips time → MatchResult result (λ back. back ≡ Some time) (λ e. e ≡ Memory) }
+    ensures none { ¬ (RoundTrips time) → result ≡ Ok None }
 {
-    match dated(alloc, time, format) {
-        Ok(text) => parse(alloc, &text, now),
-        Err(error) => Err(error),
+    match store(alloc, time, format)? {
+        Some(text) => Ok(Some(load(alloc, &text, now)?)),
+        None => Ok(None),
     }
 }
 
-/// A time as each of the six keeps it: mail, mail as Git writes it, ISO 8601 and its strict form, gitoxide's and Git's
-/// default.
-pub fn kept_by_each(alloc: Global, time: Time, now: Option<Zoned<'_>>) -> Result<[Time; 6], Error>
-    requires { IsPlainTime time }
-    ensures { MatchResult result (λ times. times ≡ replicate 6 time) (λ e. e ≡ Memory) }
+/// A time as each of the six keeps it: RFC 2822, the same as Git writes it, ISO 8601 and its strict form, gitoxide's and
+/// Git's default.
+pub fn kept_by_each(
+    alloc: Global,
+    time: Time,
+    now: Option<Zoned<'_>>,
+) -> Result<[Option<Time>; 6], Error>
+    ensures { RoundTrips time → MatchResult result (λ times. times ≡ replicate 6 (Some time)) (λ e. e ≡ Memory) }
 {
     let mail = kept(alloc, time, RFC2822, now)?;
     let git_mail = kept(alloc, time, GIT_RFC2822, now)?;
@@ -225,7 +238,7 @@ pub fn day_before(alloc: Global, time: Time) -> Result<Time, Error>
     ensures time { MatchResult result (λ t. t ≡ earlier time (pos 86_400)) (λ e. e ≡ Range) }
     ensures exists { IsOk result ↔ (is_instant (time.seconds -ℤ pos 86_400) ≡ true) }
 {
-    laws::earlier(time, &[]);
+    gix_date_laws::earlier(time, &[]);
     date_typed(alloc, "yesterday", time)
 }
 
@@ -261,7 +274,7 @@ pub fn commit_time<R: Clock + Env + Files + AllocGlobal + Clone + Drop>(
 pub fn doubled(buf: &TimeBuf) -> Result<TimeBuf, AllocError>
     ensures { IsOkAnd result (λ copy. text_in copy ≡ text_in buf.now) }
 {
-    laws::clones();
+    gix_date_laws::clones();
     buf.clone()
 }
 

@@ -218,13 +218,19 @@ fn callers_go_by_the_zone_of_the_machine(rt: HostRuntime) {
 fn times_are_kept_by_each_format_with_a_clock(rt: HostRuntime) -> Result<(), Fail> {
     let now = Time::new(1_698_400_800, 0).to_zoned()?;
     let time = Time::new(1_660_874_655, 28_800);
-    assert!(rt; matches!(kept_by_each(rt.alloc(), time, None), Ok(times) if times == [time; 6]));
+    assert!(rt;
+        matches!(kept_by_each(rt.alloc(), time, None), Ok(times) if times == [Some(time); 6])
+    );
     let before = Time::new(-1, -86_340);
     assert!(rt;
-        matches!(kept_by_each(rt.alloc(), before, Some(now)), Ok(times) if times == [before; 6])
+        matches!(kept_by_each(rt.alloc(), before, Some(now)), Ok(times) if times == [Some(before); 6])
     );
     let last = Time::new(253_402_207_199, 0);
-    assert!(rt; matches!(kept_by_each(rt.alloc(), last, None), Ok(times) if times == [last; 6]));
+    assert!(rt;
+        matches!(kept_by_each(rt.alloc(), last, None), Ok(times) if times == [Some(last); 6])
+    );
+    let odd = Time::new(0, -30);
+    assert!(rt; matches!(kept_by_each(rt.alloc(), odd, None), Ok(times) if times == [None; 6]));
     Ok(())
 }
 
@@ -239,40 +245,40 @@ fn a_day_before_has_the_same_offset(rt: HostRuntime) {
 
 #[test]
 fn laws_are_called_for_nothing_but_what_they_state() {
-    laws::constants();
-    laws::limits();
-    laws::clones();
-    laws::order();
-    laws::equality();
-    laws::hash();
-    laws::white_space();
-    laws::named_once();
-    laws::named_converts();
-    laws::one_outcome();
-    laws::spelled();
-    laws::spelled_numbers(RawOffsets::WholeMinutes);
-    laws::spelled_git();
-    laws::spelled_relative("2 days ago");
-    laws::apart();
-    let _ = laws::named_formats();
-    let _ = laws::other_formats();
+    gix_date_laws::constants();
+    gix_date_laws::limits();
+    gix_date_laws::clones();
+    gix_date_laws::order();
+    gix_date_laws::equality();
+    gix_date_laws::hash();
+    gix_date_laws::white_space();
+    gix_date_laws::named_once();
+    gix_date_laws::named_converts();
+    gix_date_laws::one_outcome();
+    gix_date_laws::spelled();
+    gix_date_laws::spelled_numbers(RawOffsets::WholeMinutes);
+    gix_date_laws::spelled_git();
+    gix_date_laws::spelled_relative("2 days ago");
+    gix_date_laws::apart();
+    let _ = gix_date_laws::named_formats();
+    let _ = gix_date_laws::other_formats();
     laws::canonical("0 +0000");
     laws::written_is_read(Time::new(0, 60));
     laws::alike(Time::new(0, -30), Time::new(0, -1));
     laws::disjoint("0 +0000");
     laws::disjoint_wide("0 +0007");
     laws::exclusive("2 days ago", RawOffsets::Quarter);
-    laws::overlapping();
-    laws::agree("2022-08-18 12:45:06 +0800", RawOffsets::Quarter);
-    laws::any_case("2 Days Ago", RawOffsets::Quarter);
-    laws::trimmed(" 5 +0000 ", RawOffsets::Quarter);
-    laws::ranges("yesterday", RawOffsets::WholeMinutes);
-    laws::raw_is_header("5 +0007", RawOffsets::WholeMinutes);
-    laws::comes_first("2018-12-24", RawOffsets::Quarter);
-    laws::dispatched("@5 +0007", RawOffsets::WholeMinutes);
-    laws::dispatched_by_rows("last week", RawOffsets::Quarter);
-    laws::widened("1 +0007");
-    laws::ignores_moment("yesterday", RawOffsets::Quarter);
+    gix_date_laws::overlapping();
+    gix_date_laws::agree("2022-08-18 12:45:06 +0800", RawOffsets::Quarter);
+    gix_date_laws::any_case("2 Days Ago", RawOffsets::Quarter);
+    gix_date_laws::trimmed(" 5 +0000 ", RawOffsets::Quarter);
+    gix_date_laws::ranges("yesterday", RawOffsets::WholeMinutes);
+    gix_date_laws::raw_is_header("5 +0007", RawOffsets::WholeMinutes);
+    gix_date_laws::comes_first("2018-12-24", RawOffsets::Quarter);
+    gix_date_laws::dispatched("@5 +0007", RawOffsets::WholeMinutes);
+    gix_date_laws::dispatched_by_rows("last week", RawOffsets::Quarter);
+    gix_date_laws::widened("1 +0007");
+    gix_date_laws::ignores_moment("yesterday", RawOffsets::Quarter);
     gix_date_tool::limits();
     gix_date_tool::lines_are_unique();
     gix_date_tool::replies_are_unique();
@@ -284,14 +290,14 @@ fn laws_are_called_for_nothing_but_what_they_state() {
 #[test]
 fn laws_are_called_for_what_they_state_of_a_time(rt: HostRuntime) -> Result<(), Fail> {
     let time = Time::new(1_660_874_655, 28_800);
-    laws::printed(time);
-    laws::local_clock(time);
+    gix_date_laws::printed(time);
+    gix_date_laws::local_clock(time);
     laws::read_back(time);
     laws::read_back_wide(time);
     laws::raw_read_back(time);
     laws::raw_read_back_wide(time);
-    laws::short_read_back(time, RawOffsets::Quarter);
-    laws::earlier(time, &[(1, 86_400)]);
+    gix_date_laws::short_read_back(time, RawOffsets::Quarter);
+    gix_date_laws::earlier(time, &[(1, 86_400)]);
     let moment = time.to_zoned()?;
     laws::yesterday(&moment);
     // A pair of each period, and of none of it.
@@ -299,8 +305,8 @@ fn laws_are_called_for_what_they_state_of_a_time(rt: HostRuntime) -> Result<(), 
         &moment,
         &[(0, 1), (1, 60), (2, 3600), (3, 86_400), (4, 604_800)],
     );
-    laws::seconds_before(&moment, &[(2, 3600)]);
-    laws::never_later("2 hours ago", &moment);
+    gix_date_laws::seconds_before(&moment, &[(2, 3600)]);
+    gix_date_laws::never_later("2 hours ago", &moment);
     laws::months_add(&moment, &[(0, 1), (1, 12), (2, 1)]);
     let parsed = laws::headline(rt.alloc(), "5 -0130", Some(moment));
     assert!(rt; matches!(parsed, Ok(raw) if raw == Time::new(5, -5400)));

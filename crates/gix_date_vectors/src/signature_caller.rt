@@ -1,7 +1,7 @@
 //! What a crate that reads and writes commits does with `gix_signature`.
 ghost use Rattle.std.specs.Prelude.{◌≡◌, ◌≢◌, ℕ, List, true, false, None, Some, Ok, Err, IfSome, IfNone, IfErr};
 ghost use Rattle.gix_date.specs.Header.Reading.{header_time};
-ghost use Rattle.gix_date.specs.Devices.Known.{Takes};
+ghost use Rattle.gix_date.specs.Devices.StreamState.{Takes};
 ghost use Rattle.gix_date.specs.declared.time.Time.{Time as Read};
 ghost use Rattle.gix_signature.specs.Signature.{Parts, IsCut, HasNoCut};
 ghost use Rattle.gix_signature.specs.Writing.{line_due, IsWritten, WritesLine};
@@ -23,7 +23,7 @@ pub fn author_time(line: &str) -> Option<Time>
     SignatureRef::from_line(author)?.time_of()
 }
 
-/// Writes a signature line with another time, and answers whether the line was one: the name and the mail stay.
+/// Writes a signature line with another time, and answers whether the line was one: the name and the email stay.
 pub fn redated<W: Sink>(line: &str, time: Time, out: &mut W) -> Result<bool, SignatureError>
     ensures no { result ≡ Ok false → HasNoCut line.now }
     ensures yes { result ≡ Ok true → (p : Parts) × IsCut line.now p × ((redated : List ℕ)

@@ -49,6 +49,30 @@ fn a_time_is_set_where_it_is_not_zero(rt: HostRuntime) {
 }
 
 #[test]
+fn a_time_says_whether_its_texts_are_read_back(rt: HostRuntime) {
+    // 1000-01-01 00:00:00 is -30610224000 at UTC, and 86340 seconds earlier at +23:59. 253402207200 is `jiff`'s last
+    // second.
+    let rows = [
+        ("year-1000", -30_610_224_000, 0, true),
+        ("year-999", -30_610_224_001, 0, false),
+        ("year-1000-by-its-own-clock", -30_610_310_340, 86_340, true),
+        ("year-999-by-its-own-clock", -30_610_224_000, -60, false),
+        ("last-second", 253_402_207_200, 86_340, true),
+        ("no-instant", 253_402_207_201, 0, false),
+        ("offset-of-23:59", 0, -86_340, true),
+        ("offset-of-a-day", 0, -86_400, false),
+        ("offset-of-odd-seconds", 0, 30, false),
+    ];
+    for (row, seconds, offset, round_trips) in rows {
+        assert_eq!(rt;
+            Time::new(seconds, offset).round_trips(),
+            round_trips,
+            "{row}"
+        );
+    }
+}
+
+#[test]
 fn a_time_has_a_debug_form(rt: HostRuntime) -> Result<(), Fail> {
     let text = format!(in rt.alloc(); "{:?}", Time::new(5, -60))?;
     assert_eq!(rt; text.as_str(), "Time { seconds: 5, offset: -60 }");

@@ -4,7 +4,7 @@ use Rattle.std.proofs.lemmas.List.{append_cancel_right}
 use Rattle.std.proofs.lemmas.List.Folds.{list_all-append}
 use Rattle.std.specs.List.{list_all}
 use Rattle.std.specs.Prelude.{codes}
-use Rattle.gix_signature.specs.Signature.{Parts, IsCut, may_stand, is_part, are_parts, line_of, opening, closing, newline, nul}
+use Rattle.gix_signature.specs.Signature.{Parts, IsCut, is_allowed, is_part, are_parts, line_of, opening, closing, newline, nul}
 
 pub and-parts : (a b : Bool) → (a && b) ≡ true → (a ≡ true) × (b ≡ true)
 and-parts true b e = (refl, e)
@@ -49,7 +49,7 @@ not-or false b c d h = refl
 
 -- a part holds no `<`
 no-opening : (xs : List ℕ) → is_part xs ≡ true → list_all not_opening xs ≡ true
-no-opening = all-of may_stand not_opening (λ c h. not-or (c == opening) (c == closing) (c == newline) (c == nul) h)
+no-opening = all-of is_allowed not_opening (λ c h. not-or (c == opening) (c == closing) (c == newline) (c == nul) h)
 
 -- what stands after ` <`
 abbrev pub after_name : Parts → List ℕ
@@ -91,7 +91,7 @@ pub the-cut : (line : List ℕ) (p q : Parts) → line ≡ line_of p → IsCut l
 the-cut line p q whole cut =
     let are = plain q cut.allowed in
     let front = the-front line p.name (after_name p) q whole cut in
-    let at = one-place may_stand closing p.mail (32 ∷ p.time) q.mail (32 ∷ q.time) refl are.mail are.time front.1 in
+    let at = one-place is_allowed closing p.mail (32 ∷ p.time) q.mail (32 ∷ q.time) refl are.mail are.time front.1 in
     let times : p.time ≡ q.time = ap (drop 1) at.1 in
     (λ i. record { name = front.0 i; mail = at.0 i; time = times i })
 

@@ -5,7 +5,7 @@ use Rattle.std.proofs.lemmas.List.{take-append-le}
 use Rattle.std.specs.Io.KnownBytes.{Appends}
 use Rattle.std.specs.Prelude.{Result, Ok, Err}
 use Rattle.std.specs.declared.io.ErrorKind.{ErrorKind}
-use Rattle.gix_date.specs.Devices.Known.{Known, Takes, TakesProperPrefix}
+use Rattle.gix_date.specs.Devices.StreamState.{StreamState, Takes, TakesProperPrefix}
 use Rattle.gix_signature.specs.Writing.{Puts}
 
 Appends-then : (old mid new : Option (List ℕ)) (xs ys : List ℕ) → Appends old mid xs → Appends mid new ys → Appends old new (xs ++ ys)
@@ -15,26 +15,26 @@ Appends-then (Some us) (Some vs) None xs ys h k = absurd k
 Appends-then (Some us) (Some vs) (Some ws) xs ys h k = k ∙ ap (λ zs. zs ++ ys) h ∙ append_assoc us xs ys
 
 -- one text, and then the next
-pub Takes-then : (old mid new : Known) (xs ys : List ℕ) → Takes old mid xs → Takes mid new ys → Takes old new (xs ++ ys)
+pub Takes-then : (old mid new : StreamState) (xs ys : List ℕ) → Takes old mid xs → Takes mid new ys → Takes old new (xs ++ ys)
 Takes-then old mid new xs ys h k = Appends-then old.bytes mid.bytes new.bytes xs ys h k
 
 -- a proper prefix of a text is one of a longer text too
-pub Cut-more : (old new : Known) (xs ys : List ℕ) → TakesProperPrefix old new xs → TakesProperPrefix old new (xs ++ ys)
+pub Cut-more : (old new : StreamState) (xs ys : List ℕ) → TakesProperPrefix old new xs → TakesProperPrefix old new (xs ++ ys)
 Cut-more old new xs ys h =
     let within = h.1 in
     (h.0, omega (arith, length-append xs ys), subst (Takes old new) (sym (take-append-le h.0 xs ys (omega arith))) h.2)
 
 -- a text, and then a proper prefix of the next
-pub Cut-after : (old mid new : Known) (xs ys : List ℕ) → Takes old mid xs → TakesProperPrefix mid new ys → TakesProperPrefix old new (xs ++ ys)
+pub Cut-after : (old mid new : StreamState) (xs ys : List ℕ) → Takes old mid xs → TakesProperPrefix mid new ys → TakesProperPrefix old new (xs ++ ys)
 Cut-after old mid new xs ys h k =
     let within = k.1 in
     (length xs + k.0, omega (arith, length-append xs ys), subst (Takes old new) (sym (take-append-add xs ys k.0)) (Takes-then old mid new xs (take k.0 ys) h k.2))
 
 -- a refusal within a text is one within a longer text too
-pub Puts-more : (old new : Known) (xs ys : List ℕ) (kind : ErrorKind) → Puts old new xs (Err kind) → Puts old new (xs ++ ys) (Err kind)
+pub Puts-more : (old new : StreamState) (xs ys : List ℕ) (kind : ErrorKind) → Puts old new xs (Err kind) → Puts old new (xs ++ ys) (Err kind)
 Puts-more old new xs ys kind h = (Cut-more old new xs ys h.0, h.1)
 
 -- a text that was taken, and then what the next came to
-pub Puts-after : (old mid new : Known) (xs ys : List ℕ) (r : Result (Unit {0}) ErrorKind) → Takes old mid xs → Puts mid new ys r → Puts old new (xs ++ ys) r
+pub Puts-after : (old mid new : StreamState) (xs ys : List ℕ) (r : Result (Unit {0}) ErrorKind) → Takes old mid xs → Puts mid new ys r → Puts old new (xs ++ ys) r
 Puts-after old mid new xs ys (Ok u) h k = Takes-then old mid new xs ys h k
 Puts-after old mid new xs ys (Err kind) h k = (Cut-after old mid new xs ys h k.0, k.1)

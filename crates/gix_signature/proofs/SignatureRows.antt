@@ -5,7 +5,7 @@ use Rattle.std.specs.Prelude.{codes}
 use Rattle.gix_date.specs.Header.Reading.{header_time}
 use Rattle.gix_date.specs.Header.Text.{header_text}
 use Rattle.gix_date.specs.declared.time.Time.{Time}
-use Rattle.gix_signature.specs.Signature.{Parts, IsCut, HasNoCut, may_stand, are_parts, line_of, opening, closing, newline, nul}
+use Rattle.gix_signature.specs.Signature.{Parts, IsCut, HasNoCut, is_allowed, are_parts, line_of, opening, closing, newline, nul}
 use Rattle.gix_signature.specs.Writing.{line_due, IsWritten}
 use Rattle.gix_signature.specs.declared.error.SignatureError.TheVariants.{BadPart, OffsetTooWide}
 use Rattle.gix_signature.proofs.Cuts.{no-cut}
@@ -55,11 +55,11 @@ nul_in_a_part : HasNoCut (0 ∷ codes " <a> 0") × HasNoCut (codes "A <" ++ 0 �
 nul_in_a_part = (none (0 ∷ []) (codes "a") (codes "0") refl, none (codes "A") (0 ∷ []) (codes "0") refl, none (codes "A") (codes "a") (0 ∷ []) refl)
 
 -- every other byte may stand
-only_four : (c : ℕ) → c ≢ 60 → c ≢ 62 → c ≢ 10 → c ≢ 0 → may_stand c ≡ true
+only_four : (c : ℕ) → c ≢ 60 → c ≢ 62 → c ≢ 10 → c ≢ 0 → is_allowed c ≡ true
 only_four c a b d e = rw (differs c opening a, differs c closing b, differs c newline d, differs c nul e) refl
 
 -- a tab, U+00E9 and the byte 255 may stand, and NUL not
-others : (may_stand 9 ≡ true) × (may_stand 195 ≡ true) × (may_stand 169 ≡ true) × (may_stand 255 ≡ true) × (may_stand 0 ≡ false)
+others : (is_allowed 9 ≡ true) × (is_allowed 195 ≡ true) × (is_allowed 169 ≡ true) × (is_allowed 255 ≡ true) × (is_allowed 0 ≡ false)
 others = (refl, refl, refl, refl, refl)
 
 -- What is due.

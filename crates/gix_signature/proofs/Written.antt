@@ -7,11 +7,11 @@ use Rattle.std.specs.Prelude.{if◌then◌else◌, nat_lt, int_lt}
 use Rattle.gix_date.specs.Text.Characters.{space, plus, minus}
 use Rattle.gix_date.specs.Header.Reading.{header_time}
 use Rattle.gix_date.specs.Header.Text.{header_text, compact_offset_text}
-use Rattle.gix_date.specs.Devices.Known.{Known, Takes}
+use Rattle.gix_date.specs.Devices.StreamState.{StreamState, Takes}
 use Rattle.gix_date.specs.Text.Numbers.{decimal_text, two_digits}
 use Rattle.gix_date.specs.declared.time.Time.{Time}
 use Rattle.gix_date.proofs.Header.HeaderLaws.{written-is-read}
-use Rattle.gix_signature.specs.Signature.{may_stand, is_part, line_of, opening, closing, newline, nul}
+use Rattle.gix_signature.specs.Signature.{is_allowed, is_part, line_of, opening, closing, newline, nul}
 use Rattle.gix_signature.specs.Writing.{line_due, parts_due, WritesLine, IsWritten}
 use Rattle.gix_signature.specs.declared.error.SignatureError.{SignatureError}
 use Rattle.gix_signature.specs.declared.error.SignatureError.TheVariants.{BadPart, OffsetTooWide}
@@ -21,24 +21,24 @@ pub differs : (a b : ℕ) → a ≢ b → (a == b) ≡ false
 differs a b h = grind (arith, nat_tests, h)
 
 -- A header text may stand in a line.
-digit-stands : (n : ℕ) → n < 10 → may_stand (48 + n) ≡ true
+digit-stands : (n : ℕ) → n < 10 → is_allowed (48 + n) ≡ true
 digit-stands n h =
     rw (differs (48 + n) opening (λ e. omega (arith, e)), differs (48 + n) closing (λ e. omega (arith, e)), differs (48 + n) newline (λ e. omega (arith, e)), differs (48 + n) nul (λ e. omega (arith, e))) refl
 
 one-stands : (n : ℕ) → n < 10 → is_part ((48 + n) ∷ []) ≡ true
-one-stands n h = and-both (may_stand (48 + n)) true (digit-stands n h) refl
+one-stands n h = and-both (is_allowed (48 + n)) true (digit-stands n h) refl
 
 decimal-stands : (n : ℕ) → n < 2 ^ 64 → is_part (decimal n) ≡ true
-decimal-stands = decimal_by_steps (λ n ds. is_part ds ≡ true) one-stands (λ n ds more k. all-both may_stand ds ((48 + n % 10) ∷ []) k (one-stands (n % 10) (omega arith)))
+decimal-stands = decimal_by_steps (λ n ds. is_part ds ≡ true) one-stands (λ n ds more k. all-both is_allowed ds ((48 + n % 10) ∷ []) k (one-stands (n % 10) (omega arith)))
 
 seconds-stand : (z : ℤ) → FitsSigned w64 z → is_part (decimal_text z) ≡ true
 seconds-stand (pos n) f = decimal-stands n (omega (arith, f.sfits))
 seconds-stand (negsuc n) f = decimal-stands (suc n) (omega (arith, f.sfits))
 
 pair-stands : (n : ℕ) → n < 100 → is_part (two_digits n) ≡ true
-pair-stands n h = and-both (may_stand (48 + n / 10)) _ (digit-stands (n / 10) (omega arith)) (one-stands (n % 10) (omega arith))
+pair-stands n h = and-both (is_allowed (48 + n / 10)) _ (digit-stands (n / 10) (omega arith)) (one-stands (n % 10) (omega arith))
 
-sign-stands : (b : Bool) → may_stand (if b then minus else plus) ≡ true
+sign-stands : (b : Bool) → is_allowed (if b then minus else plus) ≡ true
 sign-stands true = refl
 sign-stands false = refl
 
@@ -46,8 +46,8 @@ zone-stands : (o : ℤ) → unsigned_abs o < 360000 → is_part (compact_offset_
 zone-stands o h =
     let hours = two_digits (unsigned_abs o / 3600) in
     let minutes = two_digits (unsigned_abs o % 3600 / 60) in
-    and-both (may_stand (if int_lt o (pos 0) then minus else plus)) (is_part (hours ++ minutes)) (sign-stands (int_lt o (pos 0)))
-    (all-both may_stand hours minutes (pair-stands (unsigned_abs o / 3600) (omega arith)) (pair-stands (unsigned_abs o % 3600 / 60) (omega arith)))
+    and-both (is_allowed (if int_lt o (pos 0) then minus else plus)) (is_part (hours ++ minutes)) (sign-stands (int_lt o (pos 0)))
+    (all-both is_allowed hours minutes (pair-stands (unsigned_abs o / 3600) (omega arith)) (pair-stands (unsigned_abs o % 3600 / 60) (omega arith)))
 
 text-of : (b : Bool) (xs text : List ℕ) → cond b (Some xs) None ≡ Some text → (b ≡ true) × (xs ≡ text)
 text-of true xs text e = (refl, ap (λ o. unwrap_or o []) e)
@@ -71,7 +71,7 @@ text-is t text f e =
     let short : unsigned_abs t.offset < 360000 = grind (arith, nat_tests, is.0) in
     record {
       short = short;
-      stands = subst (λ s. is_part s ≡ true) is.1 (all-both may_stand seconds (space ∷ zone) (seconds-stand t.seconds f) (zone-stands t.offset short));
+      stands = subst (λ s. is_part s ≡ true) is.1 (all-both is_allowed seconds (space ∷ zone) (seconds-stand t.seconds f) (zone-stands t.offset short));
       some = subst (λ s. not (length s == 0) ≡ true) is.1 (filled seconds zone);
     }
 
@@ -97,13 +97,13 @@ pub due-is : (name mail : List ℕ) (t : Time) → is_part name ≡ true → is_
     → line_due name mail t ≡ ok_or (option_map line_of (parts_due name mail t)) OffsetTooWide
 due-is name mail t h k = ap (λ b. cond b (ok_or (option_map line_of (parts_due name mail t)) OffsetTooWide) (Err BadPart)) (and-both (is_part name) (is_part mail) h k)
 
-wrote-by : (due : Result (List ℕ) SignatureError) (Is : List ℕ → Type 0) (old new : Known) (r : Result (Unit {0}) SignatureError) → IfOk due Is → WritesLine due old new r
+wrote-by : (due : Result (List ℕ) SignatureError) (Is : List ℕ → Type 0) (old new : StreamState) (r : Result (Unit {0}) SignatureError) → IfOk due Is → WritesLine due old new r
     → OnOk r ((line : List ℕ) × Is line × Takes old new line)
 wrote-by (Ok line) Is old new (Ok u) is h = (line, is, h)
 wrote-by (Err e) Is old new (Ok u) is h = absurd h
 wrote-by (Ok line) Is old new (Err e) is h = tt
 wrote-by (Err d) Is old new (Err e) is h = tt
 
-pub wrote : (name mail : List ℕ) (t : Time) (old new : Known) (r : Result (Unit {0}) SignatureError) → FitsSigned w64 t.seconds → WritesLine (line_due name mail t) old new r
+pub wrote : (name mail : List ℕ) (t : Time) (old new : StreamState) (r : Result (Unit {0}) SignatureError) → FitsSigned w64 t.seconds → WritesLine (line_due name mail t) old new r
     → OnOk r ((line : List ℕ) × IsWritten name mail t line × Takes old new line)
 wrote name mail t old new r f h = wrote-by (line_due name mail t) (IsWritten name mail t) old new r (written-is-cut name mail t f) h

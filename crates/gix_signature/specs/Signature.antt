@@ -19,15 +19,15 @@ newline = 10
 abbrev pub nul : ℕ
 nul = 0
 
--- a byte that a part may hold
-abbrev pub may_stand : ℕ → Bool
-may_stand c = not (c == opening || c == closing || c == newline || c == nul)
+-- the byte may be in a part: not `<`, `>`, a newline or NUL
+abbrev pub is_allowed : ℕ → Bool
+is_allowed c = not (c == opening || c == closing || c == newline || c == nul)
 
--- a text that may be a part of a line, but for a time, which may not be empty
+-- the text may be a name or an email, or a time if it is not empty
 abbrev pub is_part : List ℕ → Bool
-is_part text = list_all may_stand text
+is_part text = list_all is_allowed text
 
--- what a line is cut into
+-- the parts that a line is cut into
 pub record Parts : Type 0 where
   pub name : List ℕ
   pub mail : List ℕ
@@ -41,19 +41,19 @@ parts_of s = record { name = s.name.now; mail = s.mail.now; time = s.time.now }
 abbrev pub line_of : Parts → List ℕ
 line_of p = p.name ++ (codes " <" ++ (p.mail ++ (codes "> " ++ p.time)))
 
--- these may be the parts of a line: none holds `<`, `>`, a newline or NUL, and there is a time
+-- the parts are those of a line: no byte is `<`, `>`, a newline or NUL, and the time is not empty
 abbrev pub are_parts : Parts → Bool
 are_parts p = is_part p.name && is_part p.mail && is_part p.time && not (length p.time == 0)
 
--- the line is name, ` <`, mail, `> `, time, and these may be its parts
+-- the line is the name, ` <`, the email, `> ` and the time, and these may be its parts
 pub record IsCut (line : List ℕ) (p : Parts) : Type 0 where
   pub whole : line ≡ line_of p
   pub allowed : are_parts p ≡ true
 
--- the line is cut in no way, so it is no signature line
+-- the line is no signature line: it has no cut
 abbrev pub HasNoCut : List ℕ → Type 0
 HasNoCut line = (p : Parts) → ¬ (IsCut line p)
 
--- a line has one cut at most
+-- the line has at most one cut
 abbrev pub OneCut : List ℕ → Type 0
 OneCut line = (p q : Parts) → IsCut line p → IsCut line q → p ≡ q

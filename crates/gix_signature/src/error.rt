@@ -5,7 +5,7 @@ use thiserror::Error;
 /// Why [`crate::write_line`] refuses.
 #[derive(Debug, Drop, Error)]
 pub enum SignatureError {
-    /// The name or the mail holds `<`, `>`, a newline or NUL, so a line of it has no cut.
+    /// The name or the email holds `<`, `>`, a newline or NUL, so a line of it has no cut.
     #[error("a name or mail may not hold `<`, `>`, a newline or NUL")]
     BadPart,
     /// The offset is 100 hours or more, so four digits cannot say it.

@@ -6,13 +6,13 @@ ghost use Rattle.gix_signature.specs.Writing.{line_due, IsWritten};
 use crate::lines::SignatureRef;
 use gix_date::Time;
 
-/// A line has one cut at most.
+/// A line has at most one cut.
 pub fn one_cut(line: &str)
     ensures { OneCut line.now }
 {}
 
-/// What is written of a name, a mail and a time is cut into the name, the mail and the text of the time, and that is
-/// read as the time again where its offset is whole minutes.
+/// What is written of a name, an email and a time is cut into the name, the email and the text of the time. This text
+/// is read as the time again if the offset is whole minutes.
 pub fn written_is_cut(name: &str, mail: &str, time: Time)
     ensures { IfOk (line_due name.now mail.now time) (IsWritten name.now mail.now time) }
 {}

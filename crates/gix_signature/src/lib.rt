@@ -1,8 +1,8 @@
-//! Signature lines of commits and tags: cut into name, mail and time, and written from these.
+//! Signature lines of commits and tags: cut into name, email and time, and written from these.
 //!
 //! ```
 //! let line = "A U Thor <author@example.com> 1660874655 +0800";
-//! let author = SignatureRef::from_line(line)?; // name "A U Thor", mail "author@example.com", time "1660874655 +0800"
+//! let author = SignatureRef::from_line(line)?; // name "A U Thor", email "author@example.com", time "1660874655 +0800"
 //! let time = author.time_of()?;                // Time { seconds: 1660874655, offset: 28800 }
 //! write_line(author.name, author.mail, time, out)?; // the line again
 //! ```

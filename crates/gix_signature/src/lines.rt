@@ -1,8 +1,8 @@
 //! A signature line, as it is cut and written.
 ghost use Rattle.std.specs.Prelude.{◌≡◌, ℕ, List, MatchOption, OnOk};
 ghost use Rattle.gix_date.specs.Header.Reading.{header_time};
-ghost use Rattle.gix_date.specs.Devices.Known.{Takes};
-ghost use Rattle.gix_signature.specs.Signature.{IsCut, HasNoCut, may_stand, is_part, are_parts, parts_of, line_of};
+ghost use Rattle.gix_date.specs.Devices.StreamState.{Takes};
+ghost use Rattle.gix_signature.specs.Signature.{IsCut, HasNoCut, is_allowed, is_part, are_parts, parts_of, line_of};
 ghost use Rattle.gix_signature.specs.Writing.{line_due, Puts, WritesLine, IsWritten};
 
 use crate::error::SignatureError;
@@ -22,7 +22,7 @@ pub struct SignatureRef<'a> {
 }
 
 impl<'a> SignatureRef<'a> {
-    /// Cuts a line, without its newline, into its parts: a name, ` <`, a mail, `> `, and a time.
+    /// Cuts a line, without its newline, into its parts: a name, ` <`, an email, `> `, and a time.
     ///
     /// `None` where the line has no such cut: no part holds `<`, `>`, a newline or NUL, and the time is not empty. A
     /// line has one cut at most.
@@ -30,7 +30,11 @@ impl<'a> SignatureRef<'a> {
         ensures { MatchOption result (HasNoCut line.now) (λ s. IsCut line.now (parts_of s)) }
     {
         let parts = SignatureRef::between_marks(line)?;
-        if parts.may_stand() { Some(parts) } else { None }
+        if parts.are_allowed() {
+            Some(parts)
+        } else {
+            None
+        }
     }
 
     /// The time that the line's time is read as, leniently, as [`gix_date::parse_header`] reads the time of a commit
@@ -51,21 +55,21 @@ impl<'a> SignatureRef<'a> {
     }
 
     /// Whether these may be the parts of a line.
-    fn may_stand(self) -> bool
+    fn are_allowed(self) -> bool
         ensures { result ≡ are_parts (parts_of self.entry) }
     {
         is_part(self.name) && is_part(self.mail) && is_part(self.time) && !self.time.is_empty()
     }
 }
 
-/// Writes a signature line, without a newline: the name, ` <`, the mail, `> `, and the time as [`Time::write_to`]
-/// writes it. The name and the mail may be empty.
+/// Writes a signature line, without a newline: the name, ` <`, the email, `> `, and the time as [`Time::write_to`]
+/// writes it. The name and the email may be empty.
 ///
-/// [`SignatureError::BadPart`] where the name or the mail holds `<`, `>`, a newline or NUL, and else
-/// [`SignatureError::OffsetTooWide`] where the offset is 100 hours or more, either way; both before a byte is written.
-/// [`SignatureError::Write`] carries the writer's fault, and then a proper prefix of the line was taken. What was
-/// written is cut by [`SignatureRef::from_line`] into this name, this mail and the text of the time, which is read as
-/// the time again where its offset is whole minutes. There is no flush.
+/// [`SignatureError::BadPart`] if the name or the email holds `<`, `>`, a newline or NUL; else
+/// [`SignatureError::OffsetTooWide`] if the offset is 100 hours or more, either way. Neither writes a byte.
+/// [`SignatureError::Write`] carries the writer's fault after a proper prefix of the line. There is no flush.
+/// [`SignatureRef::from_line`] cuts what was written into these parts; their time is read again if its offset is whole
+/// minutes.
 pub fn write_line<W: Sink>(
     name: &str,
     mail: &str,
@@ -107,12 +111,12 @@ fn put_text<W: Sink>(text: &str, out: &mut W) -> Result<(), io::ErrorKind>
 fn is_part(text: &str) -> bool
     ensures { result ≡ is_part text.now }
 {
-    text.bytes().all(may_stand)
+    text.bytes().all(is_allowed)
 }
 
 /// Whether a byte may stand in a part of a line.
-fn may_stand(byte: u8) -> bool
-    ensures { result ≡ may_stand byte }
+fn is_allowed(byte: u8) -> bool
+    ensures { result ≡ is_allowed byte }
 {
     !matches!(byte, b'<' | b'>' | b'\n' | b'\0')
 }

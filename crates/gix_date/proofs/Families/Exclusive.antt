@@ -8,7 +8,7 @@ use Rattle.std.specs.List.{list_all}
 use Rattle.std.specs.Option.{option_or}
 use Rattle.std.specs.Prelude.{◌==◌, nat_lt}
 use Rattle.std.specs.Str.{trim, trim_start, trim_end, all_ascii_digits, chars, NonePass, skip_leading_whitespace, drop_trailing_whitespace}
-use Rattle.gix_date.specs.Families.Answer.{FamilyAnswer, Absolute, OffsetBeyond, InstantBeyond, Relative}
+use Rattle.gix_date.specs.Families.Answer.{FamilyAnswer, Absolute, OffsetAboveDay, NoInstant, Relative}
 use Rattle.gix_date.specs.Text.Characters.{at_sign, comma, minus, space, is_space}
 use Rattle.gix_date.specs.Families.Epoch.{at_time, epoch_time, utc_time}
 use Rattle.gix_date.specs.Families.Order.{Family, AtText, Short, Rfc2822, Iso8601, Iso8601Strict, Gitoxide, GitDefault, BareEpoch, GitForm, RelativeText, RawText, families, family_answer, answers_before_git, family_answers, first_answer_of, first_family_by, ParseNoAllocOutcome}
@@ -17,7 +17,7 @@ use Rattle.gix_date.specs.Fields.FieldTexts.{IsYear, IsField, IsMonthName, IsDay
 use Rattle.gix_date.specs.Fields.Front.{skip_char, ◌>>=◌}
 use Rattle.gix_date.specs.Git.Forms.{git_time, git_form, dotted_time, compact_time, flexible_time, read_marked_date, read_compact_date}
 use Rattle.gix_date.specs.Text.Numbers.{int_value}
-use Rattle.gix_date.specs.Families.Patterns.{short_answer, rfc2822_answer, iso8601_answer, iso8601_strict_answer, gitoxide_answer, default_answer, rfc2822_layout, iso8601_layout, iso8601_strict_layout, gitoxide_layout, default_layout, time_answer, date_answer, day_answer, midnight, Spells, IsAnswered}
+use Rattle.gix_date.specs.Families.Patterns.{short_answer, rfc2822_answer, iso8601_answer, iso8601_strict_answer, gitoxide_answer, default_answer, rfc2822_layout, iso8601_layout, iso8601_strict_layout, gitoxide_layout, default_layout, time_answer, date_answer, day_answer, midnight, Accepts, IsMeaning}
 use Rattle.gix_date.specs.Fields.DateFields.{skip_weekday, read_plain_date}
 use Rattle.gix_date.specs.Families.Raw.{OffsetRule, raw_time_by}
 use Rattle.gix_date.specs.Relative.Dates.{relative_date, RelativeDate}
@@ -27,7 +27,7 @@ use Rattle.gix_date.specs.Fields.Layout.{LocalTime, Piece, DayName, BeginsWith}
 use Rattle.gix_date.specs.declared.error.ParseError.{ParseError}
 use Rattle.gix_date.specs.declared.civil.ClockFields.{ClockFields}
 use Rattle.gix_date.specs.declared.civil.DateFields.{DateFields}
-use Rattle.gix_date.specs.declared.parsing.patterns.TheConstants.{MAX_OFFSET_IN_SECONDS}
+use Rattle.gix_date.specs.declared.time.TheConstants.{MAX_OFFSET_IN_SECONDS}
 use Rattle.jiff.specs.declared.zoned.Zoned.{Zoned}
 use Rattle.gix_date.specs.declared.time.Time.{Time}
 use Rattle.gix_date.proofs.Families.Apart.{at-first, before-git-apart, NoPlainDate, NoDayFirst, no-day, no_pair, no_pair_of, pair_read, one-no-pair}
@@ -519,8 +519,8 @@ same-for : (found : Option FamilyAnswer) → IsNotRelative found
     → ParseNoAllocOutcome found other result
 same-for (Some (Absolute t)) n now other result h = h
 same-for (Some (Relative date)) n now other result h = absurd n
-same-for (Some OffsetBeyond) n now other result h = h
-same-for (Some InstantBeyond) n now other result h = h
+same-for (Some OffsetAboveDay) n now other result h = h
+same-for (Some NoInstant) n now other result h = h
 same-for None n now other result h = h
 
 ignores-by : (rule : OffsetRule) (found : Option FamilyAnswer) (text : List ℕ) → first_family_by rule text ≡ found
@@ -551,14 +551,14 @@ date-not-relative date clock offset =
     by_instant (civil_instant date clock offset) (nat_lt MAX_OFFSET_IN_SECONDS (unsigned_abs offset))
   where
     by_instant : (found : Option ℤ) (far : Bool)
-        → IsNotRelative (found >>= (λ seconds. cond far (Some OffsetBeyond) (Some (Absolute (record { seconds = seconds; offset = offset })))))
+        → IsNotRelative (found >>= (λ seconds. cond far (Some OffsetAboveDay) (Some (Absolute (record { seconds = seconds; offset = offset })))))
     by_instant None far = tt
     by_instant (Some s) true = tt
     by_instant (Some s) false = tt
 
 -- a date of such pieces
 dated : (rule : OffsetRule) (layout : List Piece) (family : Family) (text : List ℕ)
-    → Spells (family_answer rule family) (IsAnswered layout time_answer) → Holds rule family text
+    → Accepts (family_answer rule family) (IsMeaning layout time_answer) → Holds rule family text
     → IsNotRelative (family_answer rule family text)
 dated rule layout family text law h =
     let a = answered rule family text h in
@@ -569,7 +569,7 @@ short-not-relative : (text : List ℕ) → IsNotRelative (short_answer text)
 short-not-relative text = by_answer (short_answer text) refl
   where
     by_day : (found : Option ℤ)
-        → IsNotRelative (Some (unwrap_or (found >>= (λ seconds. Some (Absolute (record { seconds = seconds; offset = pos 0 })))) InstantBeyond))
+        → IsNotRelative (Some (unwrap_or (found >>= (λ seconds. Some (Absolute (record { seconds = seconds; offset = pos 0 })))) NoInstant))
     by_day (Some s) = tt
     by_day None = tt
 
@@ -582,7 +582,7 @@ short-not-relative text = by_answer (short_answer text) refl
     by_answer None e = tt
 
 date-not : (rule : OffsetRule) (layout : List Piece) (family : Family) (text : List ℕ)
-    → Spells (family_answer rule family) (IsAnswered layout time_answer)
+    → Accepts (family_answer rule family) (IsMeaning layout time_answer)
     → IsNotRelative (family_answer rule family text)
 date-not rule layout family text law = by_answer (family_answer rule family text) refl
   where
@@ -638,8 +638,8 @@ plain-ignores rule text n = by_answer (first_family_by rule text) refl
     by_answer : (found : Option FamilyAnswer) → first_family_by rule text ≡ found → IgnoresMoment rule text
     by_answer (Some (Relative date)) e = let clash : None ≡ Some date = sym n ∙ counting rule text date e in absurd cc
     by_answer (Some (Absolute t)) e = ignores-by rule (Some (Absolute t)) text e tt
-    by_answer (Some OffsetBeyond) e = ignores-by rule (Some OffsetBeyond) text e tt
-    by_answer (Some InstantBeyond) e = ignores-by rule (Some InstantBeyond) text e tt
+    by_answer (Some OffsetAboveDay) e = ignores-by rule (Some OffsetAboveDay) text e tt
+    by_answer (Some NoInstant) e = ignores-by rule (Some NoInstant) text e tt
     by_answer None e = ignores-by rule None text e tt
 
 git-ignores-by : (rule : OffsetRule) (text : List ℕ) (iso strict : Option FamilyAnswer) → IsUtf8 text

@@ -13,10 +13,10 @@ use Rattle.jiff_tz.specs.PosixRule as PosixRule
 use Rattle.jiff_tz.specs.Tzif as Table
 use Rattle.jiff_tz.specs.Zone.{zero_in_range}
 use Rattle.jiff_tz.specs.declared.timezone.TimeZone.TheVariants.{UTC, Unknown, Fixed, Posix, Tzif}
-use Rattle.gix_date.specs.Families.Answer.{FamilyAnswer, Absolute, OffsetBeyond, InstantBeyond, Relative}
+use Rattle.gix_date.specs.Families.Answer.{FamilyAnswer, Absolute, OffsetAboveDay, NoInstant, Relative}
 use Rattle.gix_date.specs.Families.Epoch.{at_time, epoch_time, utc_time}
 use Rattle.gix_date.specs.Families.Order.{family_answers, first_answer_of, first_family_by, ParseNoAllocOutcome}
-use Rattle.gix_date.specs.Families.Patterns.{short_answer, rfc2822_answer, iso8601_answer, iso8601_strict_answer, gitoxide_answer, default_answer, date_answer, day_answer, midnight, time_answer, max_date_offset, Spells, IsAnswered}
+use Rattle.gix_date.specs.Families.Patterns.{short_answer, rfc2822_answer, iso8601_answer, iso8601_strict_answer, gitoxide_answer, default_answer, date_answer, day_answer, midnight, time_answer, max_date_offset, Accepts, IsMeaning}
 use Rattle.gix_date.specs.Families.Raw.{allows, raw_time_by, raw_offset_by}
 use Rattle.gix_date.specs.Fields.Civil.{civil_instant, is_date}
 use Rattle.gix_date.specs.Fields.Front.{skip_char, ◌>>=◌}
@@ -24,10 +24,10 @@ use Rattle.gix_date.specs.Fields.Layout.{Piece}
 use Rattle.gix_date.specs.Fields.Offsets.{read_sign, offset_fields, offset_of, offset_by, signed}
 use Rattle.gix_date.specs.Git.Clock.{git_clock}
 use Rattle.gix_date.specs.Git.ClockCut.{Cut, clock_cut}
-use Rattle.gix_date.specs.Git.Forms.{without_colons, fields_of, offset_of_digits, is_within_a_day, git_offset, git_time, git_form, dotted_time, compact_time, flexible_time, time_of_cut, time_by, time_with_rest, read_marked_date, read_compact_date}
+use Rattle.gix_date.specs.Git.Forms.{without_colons, fields_of, offset_of_digits, is_within_a_day, git_offset, git_time, git_form, dotted_time, compact_time, flexible_time, time_of_cut, form_time, time_with_rest, read_marked_date, read_compact_date}
 use Rattle.gix_date.specs.Header.Text.{header_text}
 use Rattle.gix_date.specs.Printing.Zoned.{IsConvertible}
-use Rattle.gix_date.specs.Relative.Dates.{RelativeDate, Before, Less, Reaches, IsNamed, relative_date}
+use Rattle.gix_date.specs.Relative.Dates.{RelativeDate, MinusSeconds, MinusPairs, Reaches, IsNamed, relative_date}
 use Rattle.gix_date.specs.Relative.Steps.{PairStep, Chain, zone_of}
 use Rattle.gix_date.specs.Text.Characters.{at_sign, dot, minus, space, letter_t}
 use Rattle.gix_date.specs.Text.Numbers.{int_value, two_digit_value}
@@ -144,7 +144,7 @@ near-cut date cut t e =
     let seconds = went (civil_instant date clock.0 offset.0) (λ s. Some (time_at s offset.0)) t offset.2 in
     subst IsNear (ap (λ (u : Time). u.offset) (same_some (time_at seconds.0 offset.0) t seconds.2)) (near-git-offset cut.1 offset.0 offset.1)
 
-near-by : (read : List ℕ → Option (DateFields × List ℕ)) (gap : List ℕ → Option (List ℕ)) (text : List ℕ) (t : Time) → time_by read gap text ≡ Some t → IsNear t.offset
+near-by : (read : List ℕ → Option (DateFields × List ℕ)) (gap : List ℕ → Option (List ℕ)) (text : List ℕ) (t : Time) → form_time read gap text ≡ Some t → IsNear t.offset
 near-by read gap text t e =
     let date = went (read text) (λ d. gap d.1 >>= λ r. time_with_rest d.0 r) t e in
     let rest = went (gap date.0.1) (λ r. time_with_rest date.0.0 r) t date.2 in
@@ -173,17 +173,17 @@ by-time None h t e = absurd cc
 near-date : (date : DateFields) (clock : ClockFields) (offset : ℤ) → AnswersNear (date_answer date clock offset)
 unfolding date_answer
 near-date date clock offset t e =
-    let s = went (civil_instant date clock offset) (λ s. cond (nat_lt max_date_offset (unsigned_abs offset)) (Some OffsetBeyond) (Some (Absolute (time_at s offset)))) (Absolute t) e in
+    let s = went (civil_instant date clock offset) (λ s. cond (nat_lt max_date_offset (unsigned_abs offset)) (Some OffsetAboveDay) (Some (Absolute (time_at s offset)))) (Absolute t) e in
     by s.0 (nat_lt max_date_offset (unsigned_abs offset)) refl s.2
   where
-    by : (s : ℤ) (b : Bool) → nat_lt max_date_offset (unsigned_abs offset) ≡ b → cond b (Some OffsetBeyond) (Some (Absolute (time_at s offset))) ≡ Some (Absolute t) → IsNear t.offset
+    by : (s : ℤ) (b : Bool) → nat_lt max_date_offset (unsigned_abs offset) ≡ b → cond b (Some OffsetAboveDay) (Some (Absolute (time_at s offset))) ≡ Some (Absolute t) → IsNear t.offset
     by s true q h = absurd cc
     by s false q h =
         let same : time_at s offset ≡ t = cc in
         let small : IsNear offset = grind (arith, nat_tests, q) in
         subst (λ (v : Time). IsNear v.offset) same small
 
-near-dated : (layout : List Piece) (family : List ℕ → Option FamilyAnswer) (text : List ℕ) → Spells family (IsAnswered layout time_answer) → AnswersNear (family text)
+near-dated : (layout : List Piece) (family : List ℕ → Option FamilyAnswer) (text : List ℕ) → Accepts family (IsMeaning layout time_answer) → AnswersNear (family text)
 near-dated layout family text law t e =
     let a = (law text (Absolute t)).0 e in
     near-date a.time.date a.time.clock a.time.offset t a.comes
@@ -194,7 +194,7 @@ near-short text t e =
     let g = guard (is_date a.time.date) (day_answer a.time.date) (Absolute t) a.comes in
     by (civil_instant a.time.date midnight (pos 0)) g.1
   where
-    by : (s : Option ℤ) → unwrap_or (option_map (λ n. Absolute (utc_time n)) s) InstantBeyond ≡ Absolute t → IsNear t.offset
+    by : (s : Option ℤ) → unwrap_or (option_map (λ n. Absolute (utc_time n)) s) NoInstant ≡ Absolute t → IsNear t.offset
     by (Some n) h = near-utc n t cc
     by None h = absurd cc
 
@@ -258,8 +258,8 @@ chain-range tz [] i j range h = subst IsTimestampNanos (sym h) range
 chain-range tz (pair ∷ more) i j range (k, step, rest) = chain-range tz more k j (step-range tz pair i k step) rest
 
 reaches-range : (date : RelativeDate) (tz : TimeZone) (i j : ℤ) → Reaches date tz i j → IsTimestampNanos j
-reaches-range (Before seconds) tz i j h = h.1
-reaches-range (Less list) tz i j (start, settles, chain) = chain-range tz list start j settles.picked.in_range chain
+reaches-range (MinusSeconds seconds) tz i j h = h.1
+reaches-range (MinusPairs list) tz i j (start, settles, chain) = chain-range tz list start j settles.picked.in_range chain
 
 pub named-converts : (date : RelativeDate) (moment : Zoned) (t : Time) → IsNamed date moment t → IsConvertible t
 named-converts date moment t h =
@@ -278,6 +278,6 @@ outcome-written raw text now t h = by (first_family_by (allows raw) text) refl n
         fitting_has_text t (fits t.offset (absolute-near raw text t (e ∙ ap (λ (v : Time). Some (Absolute v)) (sym same))))
     by (Some (Relative date)) e None h = absurd cc
     by (Some (Relative date)) e (Some moment) h = fitting_has_text t (named-converts date moment t h).0
-    by (Some OffsetBeyond) e now h = absurd cc
-    by (Some InstantBeyond) e now h = absurd cc
+    by (Some OffsetAboveDay) e now h = absurd cc
+    by (Some NoInstant) e now h = absurd cc
     by None e now h = absurd cc

@@ -15,7 +15,7 @@ use Rattle.gix_date.specs.Fields.Front.{skip_char, ◌>>=◌}
 use Rattle.gix_date.specs.Fields.FieldTexts.{IsDigit}
 use Rattle.gix_date.specs.Text.Numbers.{fits_i64, is_int_text, int_value, read_two_digits}
 use Rattle.gix_date.specs.Fields.Offsets.{read_sign, last_pair, offset_fields, offset_of}
-use Rattle.gix_date.specs.Header.Reading.{seconds_said, offset_said, time_of_words, header_time}
+use Rattle.gix_date.specs.Header.Reading.{header_seconds, header_offset, time_of_words, header_time}
 use Rattle.gix_date.specs.Private.Headers.{IsUsualHeader}
 use Rattle.gix_date.specs.declared.parsing.offset.Sign.{Sign}
 use Rattle.gix_date.specs.declared.parsing.offset.Sign.TheVariants.{Plus, Minus}
@@ -223,7 +223,7 @@ unfolding header_time
 by_words text a b t c w e = rw (c, w) e
 
 pub said : (a b : List ℕ) (n : ℤ) (f : OffsetFields) → int_value a ≡ Some n → offset_fields b ≡ Some f → time_of_words (a ∷ b ∷ []) ≡ Some (record { seconds = n; offset = offset_of f })
-unfolding time_of_words seconds_said offset_said
+unfolding time_of_words header_seconds header_offset
 said a b n f e h = rw (e, h) refl
 
 plain_of : (front zone : List ℕ) (n : ℤ) (f : OffsetFields) → IsNumber front → IsNumber zone → int_value front ≡ Some n → offset_fields zone ≡ Some f → header_time (front ++ (space ∷ zone)) ≡ Some (record { seconds = n; offset = offset_of f })

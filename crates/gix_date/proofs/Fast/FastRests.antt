@@ -22,7 +22,7 @@ use Rattle.gix_date.specs.Git.Clock.{at_most, digits_at_most, clock_of_fields, c
 use Rattle.gix_date.specs.Git.ClockCut.{is_sign, has_offset_at, trimmed_after, last_space, last_sign, cut_at_z, cut_at_space, cut_at_sign, clock_cut}
 use Rattle.gix_date.specs.Fields.Offsets.{read_sign, offset_by}
 use Rattle.gix_date.specs.Git.Forms.{without_colons, fields_of, offset_of_digits, is_within_a_day, git_offset, time_of_cut}
-use Rattle.gix_date.specs.Private.FastRests.{IsUsualOffset, is_clock_byte, skip_any, skip_digits, skip_fraction, read_clock_by, read_colon_clock, read_bare_clock, read_whole_clock, IsRest, time_at}
+use Rattle.gix_date.specs.Private.FastRests.{IsUsualOffset, is_clock_byte, skip_any, skip_digits, skip_fraction, read_clock_with, read_colon_clock, read_bare_clock, read_whole_clock, IsRest, time_at}
 use Rattle.gix_date.specs.Text.Characters.{space, dot, plus, minus, colon, letter_z, is_dot, is_colon, has_colon}
 use Rattle.gix_date.specs.Text.Numbers.{two_digit_value, read_two_digits}
 use Rattle.gix_date.specs.declared.civil.ClockFields.{ClockFields}
@@ -141,7 +141,7 @@ after_hours gap h x = read_two_digits x >>= λ m. gap m.1 >>= λ r. after_minute
 same_pair : (x y : ClockFields × List ℕ) → (λ (z : ClockFields × List ℕ). Some z) x ≡ Some y → x ≡ y
 same_pair x y e = cc
 
-parts-taken : (gap : List ℕ → Option (List ℕ)) (text : List ℕ) (clock : ClockFields) (rest : List ℕ) → read_clock_by gap text ≡ Some (clock, rest) → AreParts gap text clock rest
+parts-taken : (gap : List ℕ → Option (List ℕ)) (text : List ℕ) (clock : ClockFields) (rest : List ℕ) → read_clock_with gap text ≡ Some (clock, rest) → AreParts gap text clock rest
 unfolding after_minutes after_hours
 parts-taken gap text clock rest e =
     let h = went (read_two_digits text) (λ h. gap h.1 >>= λ r. after_hours gap h.0 r) (clock, rest) e in

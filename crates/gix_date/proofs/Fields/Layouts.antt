@@ -11,7 +11,7 @@ use Rattle.gix_date.specs.Text.Numbers.{read_field, read_year}
 use Rattle.gix_date.specs.Fields.DateFields.{skip_day_name, skip_spaces, skip_weekday, read_month, read_plain_date, read_clock, read_mail_clock}
 use Rattle.gix_date.specs.Fields.DateOffsets.{compact_offset, strict_offset, mail_zone, mail_offset, named_zone}
 use Rattle.gix_date.specs.Fields.Offsets.{offset_fields, read_sign}
-use Rattle.gix_date.specs.Families.Patterns.{short_layout, rfc2822_layout, iso8601_layout, iso8601_strict_layout, gitoxide_layout, default_layout, time_answer, real_day_answer, short_answer, rfc2822_answer, iso8601_answer, iso8601_strict_answer, gitoxide_answer, default_answer, IsAnswered, Spells}
+use Rattle.gix_date.specs.Families.Patterns.{short_layout, rfc2822_layout, iso8601_layout, iso8601_strict_layout, gitoxide_layout, default_layout, time_answer, real_day_answer, short_answer, rfc2822_answer, iso8601_answer, iso8601_strict_answer, gitoxide_answer, default_answer, IsMeaning, Accepts}
 use Rattle.gix_date.proofs.Fields.FieldsRead.{Begins, BeginsNot, NoColon, begins-append, begins_not, digit-no-space, field-begins, field-read, year-begins, year-read, spaces-read, month-read, weekday-read, date-read, prefix-read, no-prefix, clock-read, mail-clock-read, compact-no-space, mail-no-space, strict-no-digit, clock-begins, mail-clock-begins, digit-front, name-front, gap-front, gap-no-colon}
 use Rattle.gix_date.proofs.Fields.FieldsTaken.{went, TookFront, after-taken, field-taken, year-taken, spaces-taken, month-taken, weekday-taken, prefix-taken, date-taken, clock-taken, mail-clock-taken}
 
@@ -288,7 +288,7 @@ pub record IsSound (layout : List Piece) (of_time : LocalTime → Option FamilyA
 
 -- such a layout is read where a text is its pieces, and nowhere else
 pub spelled : (layout : List Piece) (of_time : LocalTime → Option FamilyAnswer) → IsSound layout of_time
-    → Spells (layout_answer layout of_time) (IsAnswered layout of_time)
+    → Accepts (layout_answer layout of_time) (IsMeaning layout of_time)
 spelled layout of_time s text answer = (
   λ e.
       let r = went (read_pieces layout nothing_read text) of_time answer e in
@@ -301,12 +301,12 @@ spelled layout of_time s text answer = (
 
 -- each formatted date is its layout
 pub record AreSpelled : Type 0 where
-  pub short : Spells short_answer (IsAnswered short_layout real_day_answer)
-  pub rfc2822 : Spells rfc2822_answer (IsAnswered rfc2822_layout time_answer)
-  pub iso8601 : Spells iso8601_answer (IsAnswered iso8601_layout time_answer)
-  pub iso8601_strict : Spells iso8601_strict_answer (IsAnswered iso8601_strict_layout time_answer)
-  pub gitoxide : Spells gitoxide_answer (IsAnswered gitoxide_layout time_answer)
-  pub by_default : Spells default_answer (IsAnswered default_layout time_answer)
+  pub short : Accepts short_answer (IsMeaning short_layout real_day_answer)
+  pub rfc2822 : Accepts rfc2822_answer (IsMeaning rfc2822_layout time_answer)
+  pub iso8601 : Accepts iso8601_answer (IsMeaning iso8601_layout time_answer)
+  pub iso8601_strict : Accepts iso8601_strict_answer (IsMeaning iso8601_strict_layout time_answer)
+  pub gitoxide : Accepts gitoxide_answer (IsMeaning gitoxide_layout time_answer)
+  pub by_default : Accepts default_answer (IsMeaning default_layout time_answer)
 
 pub dates_spelled : AreSpelled
 unfolding short_answer rfc2822_answer iso8601_answer iso8601_strict_answer gitoxide_answer default_answer

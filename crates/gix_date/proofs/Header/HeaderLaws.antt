@@ -21,7 +21,7 @@ use Rattle.std.specs.Str.Parse.{without_leading_sign, signed_digits_value, digit
 use Rattle.gix_date.specs.Header.Canonical.{is_canonical_header, is_canonical_offset, is_decimal_text, has_whole_minutes}
 use Rattle.gix_date.specs.Text.Characters.{space, plus, minus, is_space, has_colon}
 use Rattle.gix_date.specs.Header.Laws.{ComesBack}
-use Rattle.gix_date.specs.Header.Reading.{header_time, time_of_words, seconds_said, offset_said}
+use Rattle.gix_date.specs.Header.Reading.{header_time, time_of_words, header_seconds, header_offset}
 use Rattle.gix_date.specs.Text.SpaceWords.{space_words, first_words}
 use Rattle.gix_date.specs.Header.Text.{header_text, is_header_text_of, compact_offset_text, offset_sign, hours_and_minutes}
 use Rattle.gix_date.specs.Text.Numbers.{int_value, fits_i64, decimal_text, two_digits, read_two_digits}
@@ -224,10 +224,10 @@ abbrev time_at : ℤ → ℤ → Time
 time_at seconds offset = record { seconds = seconds; offset = offset }
 
 words-fit : (words : List (List ℕ)) (t : Time) → time_of_words words ≡ Some t → FitsSigned w64 t.seconds
-unfolding time_of_words seconds_said
+unfolding time_of_words header_seconds
 words-fit words t e =
-    let first = went (first_words words) (λ first. seconds_said first.0 >>= λ s. Some (time_at s (option_map_or offset_said first.1 (pos 0)))) t e in
-    let seconds = went (seconds_said first.0.0) (λ s. Some (time_at s (option_map_or offset_said first.0.1 (pos 0)))) t first.2 in
+    let first = went (first_words words) (λ first. header_seconds first.0 >>= λ s. Some (time_at s (option_map_or header_offset first.1 (pos 0)))) t e in
+    let seconds = went (header_seconds first.0.0) (λ s. Some (time_at s (option_map_or header_offset first.0.1 (pos 0)))) t first.2 in
     let same : seconds.0 ≡ t.seconds = ap (λ (t : Time). t.seconds) (same_some _ t seconds.2) in
     subst (FitsSigned w64) same (said-fits first.0.0 (take_while is_ascii_digit first.0.0) (int_value first.0.0) (int_value (take_while is_ascii_digit first.0.0)) seconds.0 refl refl seconds.1)
 

@@ -18,8 +18,8 @@ use Rattle.jiff_core.proofs.SignedLemmas.{signed_arith, one_part}
 use Rattle.gix_date.specs.Fields.ClockNumbers.{hours_in, minutes_in}
 use Rattle.gix_date.specs.Fields.Layout.{LocalTime}
 use Rattle.gix_date.specs.declared.civil.ClockFields.{ClockFields}
-use Rattle.gix_date.specs.Printing.LocalClocks.{march_year, march_month, march_day, january_date, date_of_day, local_seconds, local_day, second_of_day, clock_of, HasOrdinaryClock}
-use Rattle.gix_date.specs.Printing.NamedTexts.{local_time, IsOrdinary}
+use Rattle.gix_date.specs.Printing.LocalClocks.{march_year, march_month, march_day, january_date, date_of_day, local_seconds, local_day, second_of_day, clock_of, HasFourDigitFields}
+use Rattle.gix_date.specs.Printing.NamedTexts.{local_time, ShowsFourDigitFields}
 use Rattle.gix_date.specs.Printing.Zoned.{IsMoment, IsConvertible}
 use Rattle.gix_date.specs.declared.time.Time.{Time}
 use Rattle.jiff.specs.declared.zoned.Zoned.{Zoned}
@@ -154,22 +154,22 @@ local-is z t h =
     let bound = time_nanos_bound z.datetime.time in
     (omega (arith, signed_arith, z.shows, h.instant, h.offset_is, parts, bound), omega (arith, signed_arith, z.shows, h.instant, h.offset_is, parts, bound))
 
-pub ordinary-to : (z : PlainZoned) (t : Time) → Shows z t → IsOrdinary z → HasOrdinaryClock t
-ordinary-to z t h o =
+pub four-digits-to : (z : PlainZoned) (t : Time) → Shows z t → ShowsFourDigitFields z → HasFourDigitFields t
+four-digits-to z t h o =
     let low = year-from z.datetime.date (omega (arith, signed_arith, o.year_is, o.low)) in
     let range = epoch_day_range z.datetime.date in
     let local = local-is z t h in
     record { in_years = (omega (arith, signed_arith, low, local), omega (arith, signed_arith, range, local)); minutes = subst (λ (s : ℤ). unsigned_abs s % 60 ≡ 0) h.offset_is o.minutes }
 
-ordinary-year : (z : PlainZoned) (t : Time) → Shows z t → HasOrdinaryClock t → pos 1000 ≤ℤ z.datetime.date.year
-ordinary-year z t h o =
+four-digits-year : (z : PlainZoned) (t : Time) → Shows z t → HasFourDigitFields t → pos 1000 ≤ℤ z.datetime.date.year
+four-digits-year z t h o =
     by_lt_z z.datetime.date.year (pos 1000)
     (λ lt. absurd (omega (arith, signed_arith, year-before z.datetime.date lt, local-is z t h, o.in_years)))
     (λ ge. ge)
 
-pub ordinary-from : (z : PlainZoned) (t : Time) → Shows z t → HasOrdinaryClock t → IsOrdinary z
-ordinary-from z t h o =
-    let low = ordinary-year z t h o in
+pub four-digits-from : (z : PlainZoned) (t : Time) → Shows z t → HasFourDigitFields t → ShowsFourDigitFields z
+four-digits-from z t h o =
+    let low = four-digits-year z t h o in
     let year_in = z.datetime.date.year_in in
     let some = one_part z.datetime.date.year in
     record {

@@ -19,7 +19,7 @@ use Rattle.gix_date.specs.Text.Characters.{space, comma, colon, minus, letter_t}
 use Rattle.gix_date.specs.Fields.Layout.{LocalTime, Piece, DayName, MailDayName, MonthName, Day, Year, PlainDate, Clock, MailClock, Spaces, LetterT, Offset, ColonOffset, MailOffset, print_piece, print_pieces}
 use Rattle.gix_date.specs.Text.Names.{day_name}
 use Rattle.gix_date.specs.Text.Numbers.{two_digits}
-use Rattle.gix_date.specs.Printing.NamedTexts.{local_time, IsOrdinary, ShowsText, short_pattern, short_text, rfc2822_pattern, rfc2822_text, git_rfc2822_pattern, git_rfc2822_text, iso8601_pattern, iso8601_text, iso8601_strict_pattern, iso8601_strict_text, gitoxide_pattern, gitoxide_text, default_pattern, default_text}
+use Rattle.gix_date.specs.Printing.NamedTexts.{local_time, ShowsFourDigitFields, ShowsText, short_pattern, short_text, rfc2822_pattern, rfc2822_text, git_rfc2822_pattern, git_rfc2822_text, iso8601_pattern, iso8601_text, iso8601_strict_pattern, iso8601_strict_text, gitoxide_pattern, gitoxide_text, default_pattern, default_text}
 use Rattle.gix_date.specs.Families.Patterns.{short_layout, rfc2822_layout, iso8601_layout, iso8601_strict_layout, gitoxide_layout, default_layout}
 use Rattle.gix_date.proofs.Printing.Printing.{filled_parts}
 use Rattle.gix_date.proofs.Printing.ShownPieces.{AlwaysShows, AlwaysShowsText, InRange, ascii-bare, ascii-four, ascii-month, ascii-strict-zone, ascii-two, ascii-weekday, ascii-zone, bare, context, in-range, joined_text, joined_text-is, month-short, number, number-bare, number-four, number-two, shows-text, strict-zone-is, strict_config, weekday-short, year-is, zone-is}
@@ -133,7 +133,7 @@ shown : List ℕ → Shown
 shown text = Ok text
 
 always : (pattern : List ℕ) {jiff_day day : ℕ → List ℕ} → ShowsDay jiff_day day → (ps : List Piece) (blanks : ℕ)
-    → ShowsPieces pattern jiff_day ps blanks → (z : PlainZoned) → IsOrdinary z
+    → ShowsPieces pattern jiff_day ps blanks → (z : PlainZoned) → ShowsFourDigitFields z
     → AlwaysShows pattern z (print_pieces day ps (local_time z))
 unfolding shown
 always pattern {jiff_day} {day} d ps blanks shows z o abbreviation name date iso second =
@@ -145,7 +145,7 @@ always pattern {jiff_day} {day} d ps blanks shows z o abbreviation name date iso
     ∙ ap (λ (v : ℤ). shown (joined_text [] (jiff_pieces jiff_day ps v t blanks))) (year-is z o)
     ∙ ap shown (joined_text-is [] (jiff_pieces jiff_day ps (pos t.date.year) t blanks) ∙ pieces-shown d ps t blanks (in-range z o))
 
--- whatever is shown of an ordinary zoned value is this text, and that is shown
+-- whatever is shown of a zoned value with four-digit fields is this text, and that is shown
 pub record IsTextOf (pattern : List ℕ) (text : LocalTime → List ℕ) : Type 0 where
   pub only : ShowsText pattern text
   pub always : AlwaysShowsText pattern text

@@ -8,15 +8,15 @@ use Rattle.gix_date.specs.Fields.Layout.{LocalTime, Piece, print_pieces}
 use Rattle.gix_date.specs.Printing.LocalClocks.{clock_of}
 use Rattle.gix_date.specs.Printing.NamedTexts.{ShowsText, local_time, rfc2822_pattern, git_rfc2822_pattern, iso8601_pattern, iso8601_strict_pattern, gitoxide_pattern, default_pattern, rfc2822_text, git_rfc2822_text, iso8601_text, iso8601_strict_text, gitoxide_text, default_text}
 use Rattle.gix_date.specs.Text.Numbers.{two_digits}
-use Rattle.gix_date.specs.Families.Patterns.{rfc2822_layout, iso8601_layout, iso8601_strict_layout, gitoxide_layout, default_layout, time_answer, rfc2822_answer, iso8601_answer, iso8601_strict_answer, gitoxide_answer, default_answer, IsAnswered, Spells}
-use Rattle.gix_date.specs.Printing.Formats.{PrintsBy}
+use Rattle.gix_date.specs.Families.Patterns.{rfc2822_layout, iso8601_layout, iso8601_strict_layout, gitoxide_layout, default_layout, time_answer, rfc2822_answer, iso8601_answer, iso8601_strict_answer, gitoxide_answer, default_answer, IsMeaning, Accepts}
+use Rattle.gix_date.specs.Printing.Formats.{PrintsPattern}
 use Rattle.gix_date.specs.Printing.PrintedTimes.{PrintsText}
 use Rattle.gix_date.specs.Families.Raw.{OffsetRule}
-use Rattle.gix_date.specs.Printing.ReadingBack.{IsPlainTime, IsReadBack, AreReadBack, PrintsBack, IsKept}
+use Rattle.gix_date.specs.Printing.ReadingBack.{RoundTrips, RoundTripsBy, RoundTripsByEach, RoundTripsAs, RoundTripsByPattern}
 use Rattle.gix_date.specs.declared.error.Error.{Error}
 use Rattle.gix_date.specs.declared.time.Time.{Time}
 use Rattle.gix_date.proofs.Fields.Layouts.{dates_spelled}
-use Rattle.gix_date.proofs.Printing.LocalClocks.{clock-shown, ordinary-from, shown-by}
+use Rattle.gix_date.proofs.Printing.LocalClocks.{clock-shown, four-digits-from, shown-by}
 use Rattle.gix_date.proofs.Printing.NamedTexts.{formats_printed}
 use Rattle.gix_date.proofs.Printing.PrintedTimes.{printed-as}
 use Rattle.gix_date.proofs.Printing.ReadBack.{IsShownPlain, two-is, bare-is, back, first-at}
@@ -28,14 +28,14 @@ StandsAt place family =
 
 -- what a layout prints of a time, with the day of the month so, is read by its family, which is the first that holds it
 parsed-back : (rule : OffsetRule) (place : ℕ) (family : List ℕ → Option FamilyAnswer) (layout : List Piece) (day : ℕ → List ℕ) → StandsAt place family
-    → Spells family (IsAnswered layout time_answer) → ((n : ℕ) → n < 100 → IsField (day n) n)
-    → (t : Time) → IsPlainTime t → first_family_by rule (print_pieces day layout (clock_of t)) ≡ Some (Absolute t)
+    → Accepts family (IsMeaning layout time_answer) → ((n : ℕ) → n < 100 → IsField (day n) n)
+    → (t : Time) → RoundTrips t → first_family_by rule (print_pieces day layout (clock_of t)) ≡ Some (Absolute t)
 parsed-back rule place family layout day stands spells field t h =
     let found = shown-by t h.converts in
     let z = found.0 in
     let shows = found.1 in
     let plain : IsShownPlain z t = record {
-      ordinary = ordinary-from z t shows h.ordinary;
+      four_digits = four-digits-from z t shows h.four_digits;
       instant = shows.instant;
       offset_is = shows.offset_is;
       within = h.within;
@@ -45,17 +45,17 @@ parsed-back rule place family layout day stands spells field t h =
     ∙ first-at rule place text (Absolute t) (stands rule text (Absolute t) (back family layout day spells field z t plain))
 
 read-back : (rule : OffsetRule) (pattern : List ℕ) (place : ℕ) (family : List ℕ → Option FamilyAnswer) (layout : List Piece) (day : ℕ → List ℕ)
-    → ShowsText pattern (λ l. print_pieces day layout l) → StandsAt place family → Spells family (IsAnswered layout time_answer)
+    → ShowsText pattern (λ l. print_pieces day layout l) → StandsAt place family → Accepts family (IsMeaning layout time_answer)
     → ((n : ℕ) → n < 100 → IsField (day n) n)
-    → (t : Time) → IsPlainTime t → IsReadBack rule pattern (λ l. print_pieces day layout l) t
+    → (t : Time) → RoundTrips t → RoundTripsBy rule pattern (λ l. print_pieces day layout l) t
 read-back rule pattern place family layout day shows stands spells field t h = record {
   printed = printed-as pattern (λ l. print_pieces day layout l) shows t;
   parsed = parsed-back rule place family layout day stands spells field t h;
 }
 
 -- by each of the six formats
-pub are-read-back : (rule : OffsetRule) (t : Time) → IsPlainTime t → AreReadBack rule t
-are-read-back rule t h = record {
+pub round-trips-by-each : (rule : OffsetRule) (t : Time) → RoundTrips t → RoundTripsByEach rule t
+round-trips-by-each rule t h = record {
   iso8601 = read-back rule iso8601_pattern 3 iso8601_answer iso8601_layout two_digits formats_printed.iso8601.only (λ rule text x e. e) dates_spelled.iso8601 two-is t h;
   iso8601_strict = read-back rule iso8601_strict_pattern 4 iso8601_strict_answer iso8601_strict_layout two_digits formats_printed.iso8601_strict.only (λ rule text x e. e) dates_spelled.iso8601_strict two-is t h;
   rfc2822 = read-back rule rfc2822_pattern 2 rfc2822_answer rfc2822_layout two_digits formats_printed.rfc2822.only (λ rule text x e. e) dates_spelled.rfc2822 two-is t h;
@@ -64,21 +64,21 @@ are-read-back rule t h = record {
   by_default = read-back rule default_pattern 6 default_answer default_layout decimal formats_printed.by_default.only (λ rule text x e. e) dates_spelled.by_default bare-is t h;
 }
 
-text-back : (rule : OffsetRule) (pattern : List ℕ) (text : LocalTime → List ℕ) (t : Time) (r : Result (String Global) Error) → IsPlainTime t
-    → IsReadBack rule pattern text t → PrintsText text t r → PrintsBack rule t r
+text-back : (rule : OffsetRule) (pattern : List ℕ) (text : LocalTime → List ℕ) (t : Time) (r : Result (String Global) Error) → RoundTrips t
+    → RoundTripsBy rule pattern text t → PrintsText text t r → RoundTripsAs rule t r
 text-back rule pattern text t (Ok s) plain back h = ap (first_family_by rule) h ∙ back.parsed
 text-back rule pattern text t (Err e) plain back (inl memory) = memory
 text-back rule pattern text t (Err e) plain back (inr conversion) = absurd (conversion.1 plain.converts)
 
-by-pattern : (rule : OffsetRule) (pattern own : List ℕ) (text : LocalTime → List ℕ) (t : Time) (r : Result (String Global) Error) → IsPlainTime t
-    → IsReadBack rule pattern text t → own ≡ pattern → PrintsBy t own r → PrintsBack rule t r
+by-pattern : (rule : OffsetRule) (pattern own : List ℕ) (text : LocalTime → List ℕ) (t : Time) (r : Result (String Global) Error) → RoundTrips t
+    → RoundTripsBy rule pattern text t → own ≡ pattern → PrintsPattern t own r → RoundTripsAs rule t r
 by-pattern rule pattern own text t r plain back e h =
-    text-back rule pattern text t r plain back (back.printed plain.ordinary r (subst (λ p. PrintsBy t p r) e h))
+    text-back rule pattern text t r plain back (back.printed plain.four_digits r (subst (λ p. PrintsPattern t p r) e h))
 
 -- by whichever of their patterns
-pub is-kept : (rule : OffsetRule) (t : Time) → IsPlainTime t → IsKept rule t
-is-kept rule t plain own r clock h =
-    let all = are-read-back rule t plain in
+pub round-trips-by-pattern : (rule : OffsetRule) (t : Time) → RoundTrips t → RoundTripsByPattern rule t
+round-trips-by-pattern rule t plain own r clock h =
+    let all = round-trips-by-each rule t plain in
     elim clock [
       | inl e ↦ by-pattern rule iso8601_pattern own iso8601_text t r plain all.iso8601 e h
       | inr (inl e) ↦ by-pattern rule iso8601_strict_pattern own iso8601_strict_text t r plain all.iso8601_strict e h

@@ -15,7 +15,7 @@ use Rattle.jiff_strtime.specs.declared.tm.BrokenDownTime.{BrokenDownTime}
 use Rattle.jiff_tz.specs.Abbreviation.{abbreviation_text}
 use Rattle.jiff_tz.specs.Zone.{zone_name, IsInfoAt}
 use Rattle.jiff_tz.specs.declared.info.OffsetInfo.{OffsetInfo}
-use Rattle.gix_date.specs.Printing.Formats.{ArePrinted, IsShown, IsUnprinted, PrintsBy}
+use Rattle.gix_date.specs.Printing.Formats.{ArePrinted, IsShown, IsUnprinted, PrintsPattern}
 use Rattle.gix_date.specs.Private.Printing.{PrintsAt}
 use Rattle.gix_date.specs.Printing.Zoned.{IsConvertible, IsMoment}
 use Rattle.gix_date.specs.declared.error.Error.{Error}
@@ -51,7 +51,7 @@ refused-by pattern z config filled e fault l s a (inr other) (inl memory) = absu
 refused-by pattern z config filled e fault l s a (inr other) (inr (inl bad)) = inr (other.1, inr (bad.shown, shown-by pattern z config filled (Ok bad.shown) l s a bad.shown_as, bad.no_text))
 refused-by pattern z config filled e fault l s a (inr other) (inr (inr h)) = inr (other.1, inl (e, shown-by pattern z config filled (Err e) l s a h))
 
-pub at-moment : (t : Time) (pattern : List ℕ) (z : Zoned) (r : Result (String Global) Error) → IsMoment t z → IsConvertible t → PrintsAt pattern (plain_zoned z) r → PrintsBy t pattern r
+pub at-moment : (t : Time) (pattern : List ℕ) (z : Zoned) (r : Result (String Global) Error) → IsMoment t z → IsConvertible t → PrintsAt pattern (plain_zoned z) r → PrintsPattern t pattern r
 at-moment t pattern z (Ok text) m c h = (z, m, h)
 at-moment t pattern z (Err e) m c (inl memory) = inr (inl (memory, c))
 at-moment t pattern z (Err e) m c (inr refused) = inr (inr (refused.0, (z, m, refused.1)))

@@ -4,7 +4,7 @@ use Rattle.std.proofs.lemmas.Bool.Decides.{nat_tests}
 use Rattle.std.proofs.lemmas.Bool.{cases_order}
 use Rattle.std.proofs.lemmas.Fmt.{decimal_digit}
 use Rattle.std.specs.Fmt.{decimal}
-use Rattle.gix_date.specs.Families.Patterns.{time_answer, IsAnswered, Spells, date_answer}
+use Rattle.gix_date.specs.Families.Patterns.{time_answer, IsMeaning, Accepts, date_answer}
 use Rattle.std.specs.Prelude.{◌==◌, nat_lt, nat_le, int_lt}
 use Rattle.jiff.specs.Types.{PlainZoned}
 use Rattle.jiff_core.proofs.DateTimeLemmas.{civil_nanos-parts}
@@ -22,7 +22,7 @@ use Rattle.gix_date.specs.Fields.FieldTexts.{IsField, IsYear, AreSpaces, IsDayNa
 use Rattle.gix_date.specs.Fields.Layout.{LocalTime, Piece, DayName, MailDayName, MonthName, Day, Year, PlainDate, Clock, MailClock, Spaces, LetterT, Offset, ColonOffset, MailOffset, IsPiece, ArePieces, print_piece, print_pieces}
 use Rattle.gix_date.specs.Text.Names.{day_name, month_name}
 use Rattle.gix_date.specs.Fields.DateOffsets.{strict_offset_text, compact_offset, strict_offset, mail_zone, mail_offset, is_jiff_offset, jiff_offset, last_colon_pair}
-use Rattle.gix_date.specs.Printing.NamedTexts.{local_time, IsOrdinary}
+use Rattle.gix_date.specs.Printing.NamedTexts.{local_time, ShowsFourDigitFields}
 use Rattle.gix_date.specs.Header.Text.{compact_offset_text}
 use Rattle.gix_date.specs.Text.Numbers.{two_digits}
 use Rattle.gix_date.specs.Fields.DateFields.{without_leap_second, is_weekday, month_named}
@@ -39,11 +39,11 @@ use Rattle.gix_date.proofs.Fields.Instants.{local_nanos, an_instant, instant_ran
 use Rattle.gix_date.proofs.Printing.ShownPieces.{decimal-two, InRange, in-range}
 
 -- The clock and the date that a zone shows, at its offset, are the instant again.
-pub local-ymd : (z : PlainZoned) → IsOrdinary z
+pub local-ymd : (z : PlainZoned) → ShowsFourDigitFields z
     → IsYmd (pos (local_time z).date.year) (pos (local_time z).date.month) (pos (local_time z).date.day) z.datetime.date
 local-ymd z o = (o.year_is ∙ ap (λ (v : ℤ). pos (unsigned_abs v)) (sym o.year_is), refl, refl)
 
-pub date-of : (z : PlainZoned) → IsOrdinary z
+pub date-of : (z : PlainZoned) → ShowsFourDigitFields z
     → IsDate (pos (local_time z).date.year) (pos (local_time z).date.month) (pos (local_time z).date.day)
 date-of z o =
     let year : z.datetime.date.year ≡ pos (unsigned_abs z.datetime.date.year) = (local-ymd z o).0 in
@@ -72,7 +72,7 @@ whole-clock z seconds e =
     let sub = z.datetime.time.subsec_in in
     omega (arith, signed_arith, civil_nanos-parts z.datetime, shows, e, sub)
 
-pub local-instant : (z : PlainZoned) (seconds : ℤ) → IsOrdinary z → z.timestamp.nanosecond ≡ nanos_of_seconds seconds
+pub local-instant : (z : PlainZoned) (seconds : ℤ) → ShowsFourDigitFields z → z.timestamp.nanosecond ≡ nanos_of_seconds seconds
     → civil_instant (local_time z).date (local_time z).clock z.offset.seconds ≡ Some seconds
 local-instant z seconds o e =
     let t = local_time z in
@@ -249,7 +249,7 @@ pieces-are day field (p ∷ ps) t h =
     record { front = print_piece day p t; rest = print_pieces day ps t; whole = refl; is = piece-is day field p t h; more = pieces-are day field ps t h }
 
 pub record IsShownPlain (z : PlainZoned) (t : Time) : Type 0 where
-  pub ordinary : IsOrdinary z
+  pub four_digits : ShowsFourDigitFields z
   pub instant : z.timestamp.nanosecond ≡ nanos_of_seconds t.seconds
   pub offset_is : z.offset.seconds ≡ t.offset
   pub within : unsigned_abs t.offset ≤ 86340
@@ -258,7 +258,7 @@ printable : (z : PlainZoned) (t : Time) → IsShownPlain z t → IsPrintable (lo
 printable z t h =
     let month_in = z.datetime.date.month_in in
     record {
-      range = in-range z h.ordinary;
+      range = in-range z h.four_digits;
       weekday = weekday-small z.datetime.date;
       first_month = month_in.0;
       last_month = month_in.1;
@@ -268,12 +268,12 @@ printable z t h =
 
 -- a layout that is read where a text is its pieces reads what is printed by it
 pub back : (family : List ℕ → Option FamilyAnswer) (layout : List Piece) (day : ℕ → List ℕ)
-    → Spells family (IsAnswered layout time_answer) → ((n : ℕ) → n < 100 → IsField (day n) n)
+    → Accepts family (IsMeaning layout time_answer) → ((n : ℕ) → n < 100 → IsField (day n) n)
     → (z : PlainZoned) (t : Time) → IsShownPlain z t
     → family (print_pieces day layout (local_time z)) ≡ Some (Absolute t)
 back family layout day spells field z t h =
     let l = local_time z in
-    let civil : civil_instant l.date l.clock t.offset ≡ Some t.seconds = subst (λ (o : ℤ). civil_instant l.date l.clock o ≡ Some t.seconds) h.offset_is (local-instant z t.seconds h.ordinary h.instant) in
+    let civil : civil_instant l.date l.clock t.offset ≡ Some t.seconds = subst (λ (o : ℤ). civil_instant l.date l.clock o ≡ Some t.seconds) h.offset_is (local-instant z t.seconds h.four_digits h.instant) in
     let comes = subst (λ (o : ℤ). date_answer l.date l.clock o ≡ Some (Absolute t)) (sym h.offset_is) (answer-is t l.date l.clock civil h.within) in
     (spells (print_pieces day layout l) (Absolute t)).1 (record {
       time =

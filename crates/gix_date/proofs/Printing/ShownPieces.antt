@@ -27,7 +27,7 @@ use Rattle.gix_date.specs.Header.Text.{hours_and_minutes, compact_offset_text}
 use Rattle.gix_date.specs.Fields.Layout.{LocalTime}
 use Rattle.gix_date.specs.Fields.FieldTexts.{four_digits}
 use Rattle.gix_date.specs.Fields.DateOffsets.{strict_offset_text}
-use Rattle.gix_date.specs.Printing.NamedTexts.{local_time, IsOrdinary, ShowsText}
+use Rattle.gix_date.specs.Printing.NamedTexts.{local_time, ShowsFourDigitFields, ShowsText}
 use Rattle.gix_date.specs.Text.Names.{day_names, month_names, day_name}
 use Rattle.gix_date.specs.Text.Numbers.{two_digits}
 use Rattle.gix_date.specs.Printing.Formats.{IsShown, IsUnprinted}
@@ -46,9 +46,9 @@ AlwaysShows pattern z text =
     (abbreviation : List ℕ) (name : Option (List ℕ)) (date : Result Date Error) (iso : Result ISOWeekDate Error) (second : Result ℤ Error)
     → show_format strict_config pattern (context (filled_parts z abbreviation name) date iso second) ≡ Ok text
 
--- the pattern always shows this text of an ordinary zoned value
+-- the pattern always shows this text of a zoned value with four-digit fields
 abbrev pub AlwaysShowsText : List ℕ → (LocalTime → List ℕ) → Type 0
-AlwaysShowsText pattern text = (z : PlainZoned) → IsOrdinary z → AlwaysShows pattern z (text (local_time z))
+AlwaysShowsText pattern text = (z : PlainZoned) → ShowsFourDigitFields z → AlwaysShows pattern z (text (local_time z))
 
 config_is : (config : Config) → config.locale ≡ Default → config.lenient ≡ false → config ≡ strict_config
 config_is config l s = rw (l, s) refl
@@ -81,8 +81,8 @@ never-refused pattern z text always u (inr (shown, h, bad)) =
     let same : shown ≡ text = ap text_or_none (shown-only pattern z text always (Ok shown) h) in
     bad (rw same u)
 
-pub shows-text : (pattern : List ℕ) (text : LocalTime → List ℕ) → ((z : PlainZoned) → IsOrdinary z → AlwaysShows pattern z (text (local_time z)))
-    → ((z : PlainZoned) → IsOrdinary z → IsAscii (text (local_time z))) → ShowsText pattern text
+pub shows-text : (pattern : List ℕ) (text : LocalTime → List ℕ) → ((z : PlainZoned) → ShowsFourDigitFields z → AlwaysShows pattern z (text (local_time z)))
+    → ((z : PlainZoned) → ShowsFourDigitFields z → IsAscii (text (local_time z))) → ShowsText pattern text
 shows-text pattern text always ascii z o =
     (shown-only pattern z (text (local_time z)) (always z o), never-refused pattern z (text (local_time z)) (always z o) (IsUtf8-from_ascii (text (local_time z)) (ascii z o)))
 
@@ -191,7 +191,7 @@ strict-zone-is o whole few_hours =
     let few : unsigned_abs o % 3600 / 60 < 100 = omega arith in
     rw (whole, minutes-are (unsigned_abs o), padded-two (unsigned_abs o / 3600) few_hours, padded-two (unsigned_abs o % 3600 / 60) few) refl
 
--- what an ordinary zoned value shows
+-- what a zoned value with four-digit fields shows
 pub record InRange (t : LocalTime) : Type 0 where
   pub low : 1000 ≤ t.date.year
   pub high : t.date.year ≤ 9999
@@ -203,7 +203,7 @@ pub record InRange (t : LocalTime) : Type 0 where
   pub hours : unsigned_abs t.offset / 3600 < 100
   pub whole : unsigned_abs t.offset % 60 ≡ 0
 
-pub in-range : (z : PlainZoned) → IsOrdinary z → InRange (local_time z)
+pub in-range : (z : PlainZoned) → ShowsFourDigitFields z → InRange (local_time z)
 in-range z o =
     let day = z.datetime.date in
     let time = z.datetime.time in
@@ -221,7 +221,7 @@ in-range z o =
       whole = o.minutes;
     }
 
-pub year-is : (z : PlainZoned) → IsOrdinary z → z.datetime.date.year ≡ pos (local_time z).date.year
+pub year-is : (z : PlainZoned) → ShowsFourDigitFields z → z.datetime.date.year ≡ pos (local_time z).date.year
 year-is z o = o.year_is ∙ ap pos (sym (ap (λ (v : ℤ). unsigned_abs v) o.year_is))
 
 -- what is shown is ASCII

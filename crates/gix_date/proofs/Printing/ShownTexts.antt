@@ -28,15 +28,15 @@ use Rattle.jiff_strtime.specs.declared.tm.BrokenDownTime.{BrokenDownTime}
 use Rattle.jiff.specs.Words.{plain_zoned}
 use Rattle.gix_date.specs.Fields.Layout.{LocalTime}
 use Rattle.gix_date.specs.Printing.NamedTexts.{local_time}
-use Rattle.gix_date.specs.Printing.LocalClocks.{clock_of, HasOrdinaryClock}
-use Rattle.gix_date.specs.Printing.Formats.{IsShown, AtMoment, PrintsBy}
+use Rattle.gix_date.specs.Printing.LocalClocks.{clock_of, HasFourDigitFields}
+use Rattle.gix_date.specs.Printing.Formats.{IsShown, AtMoment, PrintsPattern}
 use Rattle.gix_date.specs.Printing.Zoned.{IsConvertible}
 use Rattle.gix_date.specs.Private.NamedTexts.{HasParts, IsShownByAll}
 use Rattle.gix_date.specs.Text.Numbers.{two_digits}
 use Rattle.gix_date.specs.declared.error.Error.{Error}
 use Rattle.gix_date.specs.declared.error.Error.TheVariants as errors
 use Rattle.gix_date.specs.declared.time.Time.{Time}
-use Rattle.gix_date.proofs.Printing.LocalClocks.{moment-of, moment-shows, clock-shown, ordinary-from}
+use Rattle.gix_date.proofs.Printing.LocalClocks.{moment-of, moment-shows, clock-shown, four-digits-from}
 use Rattle.gix_date.proofs.Printing.Printing.{are-printed, filled_parts}
 use Rattle.gix_date.proofs.Printing.ShownPieces.{AlwaysShows, AlwaysShowsText, ascii-two, sign_of, context, decimal-two, strict_config}
 
@@ -165,29 +165,29 @@ shows-always pattern z text always =
       };
     }
 
--- so it shows its text of each ordinary zoned value with that clock
+-- so it shows its text of each zoned value with four-digit fields with that clock
 pub named-shown : (pattern named : List ℕ) (text : LocalTime → List ℕ) (local : LocalTime) (bytes : List ℕ)
     → AlwaysShowsText named text → pattern ≡ named → bytes ≡ text local → IsShownByAll pattern local bytes
-named-shown pattern named text local bytes always p b z ordinary shows =
-    let shown = shows-always named z (text (local_time z)) (always z ordinary) in
+named-shown pattern named text local bytes always p b z four_digits shows =
+    let shown = shows-always named z (text (local_time z)) (always z four_digits) in
     let whole : text (local_time z) ≡ bytes = ap text shows ∙ sym b in
     subst (λ (q : List ℕ). IsShown q z (Ok bytes)) (sym p) (subst (λ (s : List ℕ). IsShown named z (Ok s)) whole shown)
 
 -- what a copy of this text comes to is what the pattern prints
 prints-either : (pattern : List ℕ) (t : Time) (text : List ℕ) (r : Result (String Global) Error) → IsConvertible t
     → AtMoment t (λ z. IsShown pattern z (Ok text)) → IfOk r (λ copy. string_bytes copy ≡ text) → IfErr r (λ e. e ≡ errors.Memory)
-    → PrintsBy t pattern r
+    → PrintsPattern t pattern r
 prints-either pattern t text (Ok copy) converts (z, m, shown) ok err = (z, m, subst (λ (s : List ℕ). IsShown pattern (plain_zoned z) (Ok s)) (sym ok) shown)
 prints-either pattern t text (Err e) converts h ok err = inr (inl (err, converts))
 
 pub copy-prints : (pattern : List ℕ) (t : Time) (local : LocalTime) (bytes : List ℕ) (r : Result (String Global) Error)
-    → IsShownByAll pattern local bytes → local ≡ clock_of t → IsConvertible t → HasOrdinaryClock t
-    → IfOk r (λ copy. string_bytes copy ≡ bytes) → IfErr r (λ e. e ≡ errors.Memory) → PrintsBy t pattern r
-copy-prints pattern t local bytes r shown clock converts ordinary ok err =
+    → IsShownByAll pattern local bytes → local ≡ clock_of t → IsConvertible t → HasFourDigitFields t
+    → IfOk r (λ copy. string_bytes copy ≡ bytes) → IfErr r (λ e. e ≡ errors.Memory) → PrintsPattern t pattern r
+copy-prints pattern t local bytes r shown clock converts four_digits ok err =
     let m = moment-of t converts in
     let shows = moment-shows t m.0 m.1 in
     let z = plain_zoned m.0 in
-    prints-either pattern t bytes r converts (m.0, m.1, shown z (ordinary-from z t shows ordinary) (clock-shown z t shows ∙ sym clock)) ok err
+    prints-either pattern t bytes r converts (m.0, m.1, shown z (four-digits-from z t shows four_digits) (clock-shown z t shows ∙ sym clock)) ok err
 
 -- a text, and two more after it
 pub three-joined : (first second whole a b c : List ℕ) → first ≡ a → second ≡ first ++ b → whole ≡ second ++ c → whole ≡ a ++ (b ++ c)

@@ -4,10 +4,10 @@ use Rattle.std.specs.Prelude.{int_div}
 use Rattle.jiff.specs.Types.{TimeZone}
 use Rattle.jiff.specs.Words.{plain_zoned, zoned_nanos, offset_at}
 use Rattle.jiff.specs.declared.zoned.Zoned.{Zoned}
-use Rattle.gix_date.specs.Families.Answer.{FamilyAnswer, Absolute, OffsetBeyond, InstantBeyond, Relative}
+use Rattle.gix_date.specs.Families.Answer.{FamilyAnswer, Absolute, OffsetAboveDay, NoInstant, Relative}
 use Rattle.gix_date.specs.Families.Order.{ParseNoAllocOutcome}
 use Rattle.gix_date.specs.declared.error.ParseError.{ParseError}
-use Rattle.gix_date.specs.Relative.Dates.{RelativeDate, Before, Less, Reaches, IsNamed, RelativeOutcome}
+use Rattle.gix_date.specs.Relative.Dates.{RelativeDate, MinusSeconds, MinusPairs, Reaches, IsNamed, RelativeOutcome}
 use Rattle.gix_date.specs.declared.time.Time.{Time}
 use Rattle.gix_date.specs.Private.RelativePairs.{pairs_read}
 use Rattle.gix_date.specs.Relative.Steps.{PairStep, Settles, Chain}
@@ -38,17 +38,17 @@ left-next tz pair left more all here next start e step h =
     )
 
 -- what is read leads to what is asked for
-pub reaches-is : (tz : TimeZone) (words : List (List ℕ)) (i start j : ℤ) → Settles tz i start → Chain tz (pairs_read words) start j → Reaches (Less (pairs words)) tz i j
+pub reaches-is : (tz : TimeZone) (words : List (List ℕ)) (i start j : ℤ) → Settles tz i start → Chain tz (pairs_read words) start j → Reaches (MinusPairs (pairs words)) tz i j
 reaches-is tz words i start j h g = (start, h, subst (λ ps. Chain tz ps start j) (sym (pairs_are_read words)) g)
 
-pub reaches-back : (tz : TimeZone) (words : List (List ℕ)) (i start j : ℤ) → Settles tz i start → Reaches (Less (pairs words)) tz i j → Chain tz (pairs_read words) start j
+pub reaches-back : (tz : TimeZone) (words : List (List ℕ)) (i start j : ℤ) → Settles tz i start → Reaches (MinusPairs (pairs words)) tz i j → Chain tz (pairs_read words) start j
 reaches-back tz words i start j h g =
     let from = subst (λ (k : ℤ). Chain tz (pairs words) k j) (settles-once tz i g.0 start g.1 h) g.2 in
     subst (λ ps. Chain tz ps start j) (pairs_are_read words) from
 
 reaches-once : (date : RelativeDate) (tz : TimeZone) (i a b : ℤ) → Reaches date tz i a → Reaches date tz i b → a ≡ b
-reaches-once (Before seconds) tz i a b h g = h.0 ∙ sym g.0
-reaches-once (Less pairs) tz i a b h g =
+reaches-once (MinusSeconds seconds) tz i a b h g = h.0 ∙ sym g.0
+reaches-once (MinusPairs pairs) tz i a b h g =
     chain-once tz pairs g.0 a b (subst (λ (k : ℤ). Chain tz pairs k a) (settles-once tz i h.0 g.0 h.1 g.1) h.2) g.2
 
 -- two times with the same numbers are one
@@ -77,6 +77,6 @@ pub one-outcome : (answer : Option FamilyAnswer) (now : Option Zoned) (a b : Res
     → ParseNoAllocOutcome answer now a → ParseNoAllocOutcome answer now b → a ≡ b
 one-outcome None now a b h g = h ∙ sym g
 one-outcome (Some (Absolute t)) now a b h g = h ∙ sym g
-one-outcome (Some OffsetBeyond) now a b h g = h ∙ sym g
-one-outcome (Some InstantBeyond) now a b h g = h ∙ sym g
+one-outcome (Some OffsetAboveDay) now a b h g = h ∙ sym g
+one-outcome (Some NoInstant) now a b h g = h ∙ sym g
 one-outcome (Some (Relative date)) now a b h g = outcome-once date now a b h g

@@ -10,7 +10,7 @@ use Rattle.jiff.specs.declared.zoned.Zoned.{Zoned}
 use Rattle.jiff_core.proofs.DateTimeLemmas.{civil_nanos-parts}
 use Rattle.jiff_tz.specs.Zone.{IsFixed, utc_offset, ambiguous_at}
 use Rattle.jiff_tz.specs.declared.timezone.TimeZone.TheVariants.{UTC, Unknown, Fixed, Posix, Tzif}
-use Rattle.gix_date.specs.Relative.Dates.{RelativeDate, Before, Less, Reaches, IsNamed}
+use Rattle.gix_date.specs.Relative.Dates.{RelativeDate, MinusSeconds, MinusPairs, Reaches, IsNamed}
 use Rattle.gix_date.specs.Relative.FixedZones.{total, less_seconds, less_months}
 use Rattle.gix_date.specs.Private.RelativePairs.{pairs_read}
 use Rattle.gix_date.specs.Relative.Steps.{IsLocal, IsPicked, Settles, SecondsStep, MonthsStep, PairStep, Chain, zone_of, civil_of, rolled_day}
@@ -74,8 +74,8 @@ chain-alike a b h [] i j c = c
 chain-alike a b h (pair ∷ more) i j (between, step, rest) = (between, step-alike a b h pair i between step, chain-alike a b h more between j rest)
 
 pub reaches-alike : (a b : TimeZone) → ChooseAlike a b → (date : RelativeDate) (i j : ℤ) → Reaches date a i j → Reaches date b i j
-reaches-alike a b h (Before seconds) i j r = r
-reaches-alike a b h (Less list) i j (start, s, c) = (start, settles-alike a b h i start s, chain-alike a b h list start j c)
+reaches-alike a b h (MinusSeconds seconds) i j r = r
+reaches-alike a b h (MinusPairs list) i j (start, s, c) = (start, settles-alike a b h i start s, chain-alike a b h list start j c)
 
 -- the offset of such a zone
 pub fixed-offset : (tz : TimeZone) → IsFixed tz → (o : Offset) × ((n : ℤ) → o.seconds ≡ offset_at tz n)
@@ -156,16 +156,16 @@ seconds-fixed o result i n some value =
     seconds-at (SecondsStep (fixed_zone o) n i) result i n some value (fixed-seconds-exists o n i) (λ j s. s.in_range)
 
 pub before-fixed : (o : Offset) (result : Option Timestamp) (i n : ℤ) → (IsSome result ↔ IsTimestampNanos (i -ℤ nanos_of_seconds n))
-    → IfSome result (λ r. r.nanosecond ≡ i -ℤ nanos_of_seconds n) → IsAtInstant (Reaches (Before n) (fixed_zone o) i) result
+    → IfSome result (λ r. r.nanosecond ≡ i -ℤ nanos_of_seconds n) → IsAtInstant (Reaches (MinusSeconds n) (fixed_zone o) i) result
 before-fixed o result i n some value =
-    seconds-at (Reaches (Before n) (fixed_zone o) i) result i n some value (λ range. (refl, range)) (λ j r. subst IsTimestampNanos r.0 r.1)
+    seconds-at (Reaches (MinusSeconds n) (fixed_zone o) i) result i n some value (λ range. (refl, range)) (λ j r. subst IsTimestampNanos r.0 r.1)
 
 -- nothing is settled elsewhere, so the pairs lead from the instant itself
 pub pairs-fixed : (o : Offset) (words : List (List ℕ)) (i : ℤ) (result : Option Timestamp) → IsTimestampNanos i
-    → IsAtInstant (Chain (fixed_zone o) (pairs_read words) i) result → IsAtInstant (Reaches (Less (pairs words)) (fixed_zone o) i) result
+    → IsAtInstant (Chain (fixed_zone o) (pairs_read words) i) result → IsAtInstant (Reaches (MinusPairs (pairs words)) (fixed_zone o) i) result
 pairs-fixed o words i result range h =
     let settles = fixed-settles-exists o i range in
-    same-instants result (Chain (fixed_zone o) (pairs_read words) i) (Reaches (Less (pairs words)) (fixed_zone o) i)
+    same-instants result (Chain (fixed_zone o) (pairs_read words) i) (Reaches (MinusPairs (pairs words)) (fixed_zone o) i)
     (λ j c. reaches-is (fixed_zone o) words i i j settles c)
     (λ j r. reaches-back (fixed_zone o) words i i j settles r) h
 

@@ -8,7 +8,7 @@ use Rattle.jiff.specs.declared.zoned.Zoned.{Zoned}
 use Rattle.jiff_core.proofs.SignedLemmas.{signed_arith}
 use Rattle.jiff_tz.specs.Zone.{IsFixed}
 use Rattle.gix_date.specs.Relative.FixedZones.{total, less_seconds, earlier, NamesEarlier, NamesBefore}
-use Rattle.gix_date.specs.Relative.Dates.{RelativeDate, Before, Reaches}
+use Rattle.gix_date.specs.Relative.Dates.{RelativeDate, MinusSeconds, Reaches}
 use Rattle.gix_date.specs.Relative.Steps.{zone_of}
 use Rattle.gix_date.specs.Printing.Zoned.{IsMoment, is_instant, time_in, whole_seconds as seconds_of}
 use Rattle.gix_date.specs.declared.time.Time.{Time}
@@ -48,8 +48,8 @@ names-earlier date t n law z m r =
           },
     )
 
-pub yesterday-earlier : (t : Time) → NamesEarlier (Before (pos 86_400)) t (pos 86_400)
-yesterday-earlier t = names-earlier (Before (pos 86_400)) t (pos 86_400) (λ z m j. (λ h. h, λ h. h))
+pub yesterday-earlier : (t : Time) → NamesEarlier (MinusSeconds (pos 86_400)) t (pos 86_400)
+yesterday-earlier t = names-earlier (MinusSeconds (pos 86_400)) t (pos 86_400) (λ z m j. (λ h. h, λ h. h))
 
 -- An instant that is reached lies within `jiff`'s range, so an i64 holds what was taken off the moment.
 total-fits : (pairs : List (ℤ × ℤ)) → All IsLoss pairs → (i j : ℤ) → IsTimestampNanos i → IsTimestampNanos j
@@ -78,8 +78,8 @@ names-before date z n law t =
       },
     )
 
-pub yesterday-before : (z : Zoned) → NamesBefore (Before (pos 86_400)) z (pos 86_400)
-yesterday-before z = names-before (Before (pos 86_400)) z (pos 86_400) (λ j. (λ h. h, λ h. h))
+pub yesterday-before : (z : Zoned) → NamesBefore (MinusSeconds (pos 86_400)) z (pos 86_400)
+yesterday-before z = names-before (MinusSeconds (pos 86_400)) z (pos 86_400) (λ j. (λ h. h, λ h. h))
 
 pub seconds-before : (z : Zoned) → IsFixed (zone_of z) → (pairs : List (ℤ × ℤ)) → All IsLoss pairs → NamesBefore (less_seconds pairs) z (total pairs)
 seconds-before z f pairs loss = names-before (less_seconds pairs) z (total pairs) (λ j.

@@ -17,7 +17,7 @@ use Rattle.jiff_core.proofs.SignedLemmas.{signed_arith, one_part}
 use Rattle.jiff_zoned.proofs.SameLemmas.{same_datetime}
 use Rattle.gix_date.proofs.Fields.DateTimes.{datetime_exists}
 use Rattle.gix_date.specs.Relative.FixedZones.{product, total, ProductFits, IsSecondsPair, IsMonthsPair, less_seconds, less_months}
-use Rattle.gix_date.specs.Relative.Dates.{RelativeDate, Less, Reaches}
+use Rattle.gix_date.specs.Relative.Dates.{RelativeDate, MinusPairs, Reaches}
 use Rattle.gix_date.specs.Relative.Steps.{IsLocal, IsPicked, Settles, SecondsStep, MonthsStep, Chain, civil_of, month_start}
 use Rattle.gix_date.proofs.Relative.Steps.{MonthsFrom, day_of, year_of}
 use Rattle.gix_date.specs.declared.parsing.relative.words.TimeUnit.{TimeUnit}
@@ -132,7 +132,7 @@ seconds-chain-back o (p ∷ more) i j loss range (e, fits, last) =
 abbrev pub Alike : TimeZone → ℤ → RelativeDate → (ℤ → Type 0) → Type 0
 Alike tz i date Such = (j : ℤ) → Reaches date tz i j ↔ Such j
 
-from-start : (o : Offset) (i j : ℤ) (date : List (ℤ × TimeUnit)) → Reaches (Less date) (fixed_zone o) i j
+from-start : (o : Offset) (i j : ℤ) (date : List (ℤ × TimeUnit)) → Reaches (MinusPairs date) (fixed_zone o) i j
     → Chain (fixed_zone o) date i j
 from-start o i j date (start, settles, chain) =
     subst (λ (k : ℤ). Chain (fixed_zone o) date k j) (fixed-settles o i start settles) chain

@@ -12,8 +12,8 @@ use Rattle.jiff.specs.Words.{fixed_zone, month_number}
 use Rattle.jiff_core.proofs.DateTimeLemmas.{civil_nanos-parts}
 use Rattle.jiff_core.proofs.SignedLemmas.{signed_arith}
 use Rattle.jiff_tz.specs.Zone.{IsFixed}
-use Rattle.gix_date.specs.Relative.Dates.{RelativeDate, Before, Less, Reaches, date_names, named_date, pairs_date, relative_date}
-use Rattle.gix_date.specs.Relative.Roles.{are_pairs, is_no_period, pair_here, pairs}
+use Rattle.gix_date.specs.Relative.Dates.{RelativeDate, MinusSeconds, MinusPairs, Reaches, date_names, named_date, pairs_date, relative_date}
+use Rattle.gix_date.specs.Relative.Roles.{are_pairs, next_is_free, pair_here, pairs}
 use Rattle.gix_date.specs.Relative.Steps.{PairStep, MonthsStep, Chain}
 use Rattle.gix_date.specs.Relative.Words.{relative_words, count_of, named_count, number_named, unit_names, named_unit, singular, unit_of, unit_or_seconds}
 use Rattle.gix_date.specs.Text.Characters.{minus}
@@ -41,8 +41,8 @@ GoBack [] = Unit {0}
 GoBack ((count, unit) ∷ more) = IsLow count × IsUnit unit × GoBack more
 
 abbrev GoesBack : RelativeDate → Type 0
-GoesBack (Before seconds) = IsLow seconds
-GoesBack (Less list) = GoBack list
+GoesBack (MinusSeconds seconds) = IsLow seconds
+GoesBack (MinusPairs list) = GoBack list
 
 low : (n : ℕ) → IsLow (pos n)
 low n = omega (arith, signed_arith)
@@ -109,9 +109,9 @@ back-append : (a b : List (ℤ × TimeUnit)) → GoBack a → GoBack b → GoBac
 back-append [] b h k = k
 back-append ((count, unit) ∷ a) b h k = (h.0, h.1, back-append a b h.2 k)
 
-places-back : (ps : List Place) → GoBack (flat_map (λ p. pair_here (is_no_period p.front) (count_of p.word) p.back) ps)
+places-back : (ps : List Place) → GoBack (flat_map (λ p. pair_here (next_is_free p.front) (count_of p.word) p.back) ps)
 places-back [] = tt
-places-back (p ∷ ps) = back-append (pair_here (is_no_period p.front) (count_of p.word) p.back) _ (here-back (is_no_period p.front) p.word (count_of p.word) p.back refl) (places-back ps)
+places-back (p ∷ ps) = back-append (pair_here (next_is_free p.front) (count_of p.word) p.back) _ (here-back (next_is_free p.front) p.word (count_of p.word) p.back refl) (places-back ps)
 
 pairs-back : (words : List (List ℕ)) → GoBack (pairs words)
 unfolding pairs
@@ -121,9 +121,9 @@ text-back : (text : List ℕ) (date : RelativeDate) → relative_date text ≡ S
 unfolding relative_date named_date pairs_date
 text-back text date e = by (named_in date_names (trim text)) refl e
   where
-    by : (r : Option RelativeDate) → named_in date_names (trim text) ≡ r → option_or r (cond (are_pairs (relative_words text)) (Some (Less (pairs (relative_words text)))) None) ≡ Some date → GoesBack date
+    by : (r : Option RelativeDate) → named_in date_names (trim text) ≡ r → option_or r (cond (are_pairs (relative_words text)) (Some (MinusPairs (pairs (relative_words text)))) None) ≡ Some date → GoesBack date
     by (Some d) q k = subst GoesBack (same_some d date k) (said-of GoesBack date_names (trim text) d (low 0, (low 0, (low 86400, tt))) q)
-    by None q k = subst GoesBack (guard (are_pairs (relative_words text)) (Less (pairs (relative_words text))) date k).1 (pairs-back (relative_words text))
+    by None q k = subst GoesBack (guard (are_pairs (relative_words text)) (MinusPairs (pairs (relative_words text))) date k).1 (pairs-back (relative_words text))
 
 -- So it leads to no later instant.
 product-low : (a b : ℤ) → IsLow a → IsLow b → IsLow (a *ℤ b)
@@ -153,8 +153,8 @@ chain-back o ((n, unit) ∷ more) i j h (k, step, rest) =
     omega (arith, signed_arith, first, later)
 
 reached-back : (o : Offset) (date : RelativeDate) (i j : ℤ) → GoesBack date → Reaches date (fixed_zone o) i j → j ≤ℤ i
-reached-back o (Before seconds) i j h r = omega (arith, signed_arith, h, r.0)
-reached-back o (Less list) i j h (start, settles, chain) =
+reached-back o (MinusSeconds seconds) i j h r = omega (arith, signed_arith, h, r.0)
+reached-back o (MinusPairs list) i j h (start, settles, chain) =
     let at = fixed-settles o i start settles in
     let less = chain-back o list start j h chain in
     omega (arith, signed_arith, at, less)

@@ -15,7 +15,7 @@ use Rattle.gix_date.specs.Text.Names.{is_name, named_in}
 use Rattle.gix_date.proofs.Text.Places.{any_place, all_places}
 use Rattle.gix_date.specs.Relative.Dates.{relative_date, date_names, named_date, pairs_date, RelativeDate}
 use Rattle.gix_date.specs.Relative.Words.{relative_words, is_gap, singular, named_unit, unit_of, is_ago}
-use Rattle.gix_date.specs.Relative.Roles.{are_pairs, has_pair, all_units, has_flag, has_unit, is_count_word, is_no_period, has_next, next_is_unit}
+use Rattle.gix_date.specs.Relative.Roles.{are_pairs, has_pair, all_units, has_flag, has_unit, is_count_word, next_is_free, has_next, next_is_unit}
 use Rattle.gix_date.specs.Text.SpaceWords.{is_nonempty}
 use Rattle.gix_date.proofs.Text.AsciiCuts.{ascii-by}
 use Rattle.gix_date.proofs.Fields.FieldsTaken.{none_is}
@@ -50,10 +50,10 @@ says-by word u a n = rw (u, a, n) refl
 
 -- Such words are no pairs.
 abbrev is_flag : List (List ℕ) → List ℕ → List (List ℕ) → Bool
-is_flag front word back = is_no_period front && is_ago word
+is_flag front word back = next_is_free front && is_ago word
 
 abbrev is_count : List (List ℕ) → List ℕ → Bool
-is_count front word = is_no_period front && is_count_word word
+is_count front word = next_is_free front && is_count_word word
 
 abbrev starts_pair : List (List ℕ) → List ℕ → List (List ℕ) → Bool
 starts_pair front word back = is_count front word && has_next back
@@ -69,7 +69,7 @@ no-flag : (front words : List (List ℕ)) → list_all says_nothing words ≡ tr
 no-flag front [] h = refl
 no-flag front (word ∷ words) h =
     let parts = both (says_nothing word) (list_all says_nothing words) h in
-    rw ((says-parts word parts.0).ago, and_false (is_no_period front), no-flag (front ++ word ∷ []) words parts.1) refl
+    rw ((says-parts word parts.0).ago, and_false (next_is_free front), no-flag (front ++ word ∷ []) words parts.1) refl
 
 no-unit : (front words : List (List ℕ)) → list_all says_nothing words ≡ true → any_place starts_pair front words ≡ true → all_places counts_unit front words ≡ false
 no-unit front [] h e = absurd cc

@@ -4,7 +4,7 @@ use Rattle.std.specs.Fmt.{digits}
 use Rattle.std.specs.Prelude.{codes}
 use Rattle.jiff_core.specs.Calendar.{weekday_number}
 use Rattle.gix_date.proofs.Rows.HeaderRows.{minus, time}
-use Rattle.gix_date.specs.Printing.LocalClocks.{clock_of, date_of_day, first_ordinary, last_ordinary}
+use Rattle.gix_date.specs.Printing.LocalClocks.{clock_of, date_of_day, first_of_year_1000, last_of_year_9999}
 use Rattle.gix_date.specs.Printing.NamedTexts.{rfc2822_text, iso8601_text, iso8601_strict_text, gitoxide_text, default_text}
 use Rattle.gix_date.specs.Printing.ReadingBack.{IsRawOffset}
 
@@ -37,20 +37,20 @@ last-second : iso8601_text (clock_of (time (pos 253_402_207_199) (pos 0))) ≡ c
 unfolding computing
 last-second = refl
 
--- The ends of the ordinary years.
-first-of-1000 : iso8601_text (clock_of (time first_ordinary (pos 0))) ≡ codes "1000-01-01 00:00:00 +0000"
+-- The ends of the years of four digits.
+first-of-1000 : iso8601_text (clock_of (time first_of_year_1000 (pos 0))) ≡ codes "1000-01-01 00:00:00 +0000"
 unfolding computing
 first-of-1000 = refl
 
-last-of-999 : iso8601_text (clock_of (time (first_ordinary -ℤ pos 1) (pos 0))) ≡ codes "0999-12-31 23:59:59 +0000"
+last-of-999 : iso8601_text (clock_of (time (first_of_year_1000 -ℤ pos 1) (pos 0))) ≡ codes "0999-12-31 23:59:59 +0000"
 unfolding computing
 last-of-999 = refl
 
-last-of-9999 : iso8601_text (clock_of (time last_ordinary (pos 0))) ≡ codes "9999-12-31 23:59:59 +0000"
+last-of-9999 : iso8601_text (clock_of (time last_of_year_9999 (pos 0))) ≡ codes "9999-12-31 23:59:59 +0000"
 unfolding computing
 last-of-9999 = refl
 
-first-of-10000 : (clock_of (time (last_ordinary +ℤ pos 1) (pos 0))).date.year ≡ 10_000
+first-of-10000 : (clock_of (time (last_of_year_9999 +ℤ pos 1) (pos 0))).date.year ≡ 10_000
 unfolding computing
 first-of-10000 = refl
 

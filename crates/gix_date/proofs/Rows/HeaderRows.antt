@@ -10,7 +10,7 @@ use Rattle.gix_date.specs.Fields.Front.{skip_char}
 use Rattle.gix_date.specs.Fields.Offsets.{offset_fields, read_sign, last_pair}
 use Rattle.gix_date.specs.Text.SpaceWords.{space_words}
 use Rattle.gix_date.specs.Header.Text.{header_text}
-use Rattle.gix_date.specs.Header.Reading.{header_time, time_of_words, seconds_said, offset_said}
+use Rattle.gix_date.specs.Header.Reading.{header_time, time_of_words, header_seconds, header_offset}
 use Rattle.gix_date.specs.Families.Raw.{is_wide_offset, raw_time, raw_time_by, raw_offset_by}
 use Rattle.gix_date.specs.Header.Canonical.{is_canonical_header}
 
@@ -23,7 +23,7 @@ minus n = neg_ℤ (pos n)
 
 -- all that a row needs to see computed
 computing : Type 0
-unfolding header_text raw_time_by raw_offset_by header_time time_of_words seconds_said offset_said offset_fields skip_char read_sign last_pair read_two_digits int_value digits space_words chars encode
+unfolding header_text raw_time_by raw_offset_by header_time time_of_words header_seconds header_offset offset_fields skip_char read_sign last_pair read_two_digits int_value digits space_words chars encode
 computing = Unit {0}
 
 abbrev Reads : List ℕ → ℤ → ℤ → Type 0

@@ -3,7 +3,7 @@ use Rattle.std.proofs.Common.{◌≡◌, refl, ℕ, ℤ, List, [], ◌∷◌, po
 use Rattle.jiff_core.specs.Calendar.{days_from_civil, day_count, days_of_years, days_of_months}
 use Rattle.std.specs.Prelude.{codes, Some}
 use Rattle.gix_date.proofs.Rows.HeaderRows.{minus, time}
-use Rattle.gix_date.specs.Families.Answer.{FamilyAnswer, Absolute, OffsetBeyond, InstantBeyond}
+use Rattle.gix_date.specs.Families.Answer.{FamilyAnswer, Absolute, OffsetAboveDay, NoInstant}
 use Rattle.gix_date.specs.Fields.Civil.{civil_instant}
 use Rattle.gix_date.specs.Fields.Front.{skip_char}
 use Rattle.gix_date.specs.Fields.Layout.{LocalTime, Piece, DayName, MailDayName, MonthName, Day, Year, PlainDate, Clock, MailClock, Spaces, LetterT, Offset, ColonOffset, MailOffset, nothing_read, layout_answer}
@@ -213,7 +213,7 @@ a-day : short_answer (codes "2024-12-31") ≡ at (pos 1735603200) (pos 0)
 unfolding whole
 a-day = refl
 
-the-last-day : short_answer (codes "9999-12-31") ≡ Some InstantBeyond
+the-last-day : short_answer (codes "9999-12-31") ≡ Some NoInstant
 unfolding whole
 the-last-day = refl
 
@@ -257,11 +257,11 @@ strict : iso8601_strict_answer (codes "2022-08-17T21:43:13+08:00") ≡ at (pos 1
 unfolding whole
 strict = refl
 
-strict-offset-of-a-day-ahead : iso8601_strict_answer (codes "2022-08-17T21:43:13+24:00") ≡ Some OffsetBeyond
+strict-offset-of-a-day-ahead : iso8601_strict_answer (codes "2022-08-17T21:43:13+24:00") ≡ Some OffsetAboveDay
 unfolding whole
 strict-offset-of-a-day-ahead = refl
 
-strict-offset-of-a-day : iso8601_strict_answer (codes "2022-08-17T21:43:13-24:00") ≡ Some OffsetBeyond
+strict-offset-of-a-day : iso8601_strict_answer (codes "2022-08-17T21:43:13-24:00") ≡ Some OffsetAboveDay
 unfolding whole
 strict-offset-of-a-day = refl
 

@@ -6,7 +6,7 @@ use Rattle.std.specs.Prelude.{codes}
 use Rattle.gix_date.proofs.Rows.HeaderRows.{minus}
 use Rattle.gix_date.specs.Header.Text.{header_text}
 use Rattle.gix_date.specs.Fields.Layout.{LocalTime}
-use Rattle.gix_date.specs.Printing.NamedTexts.{IsOrdinary, short_text, rfc2822_text, git_rfc2822_text, iso8601_text, iso8601_strict_text, gitoxide_text, default_text}
+use Rattle.gix_date.specs.Printing.NamedTexts.{ShowsFourDigitFields, short_text, rfc2822_text, git_rfc2822_text, iso8601_text, iso8601_strict_text, gitoxide_text, default_text}
 use Rattle.gix_date.specs.Printing.Formats.{HasNoText}
 use Rattle.gix_date.specs.declared.time.Time.{Time}
 use Rattle.gix_date.specs.declared.time.format.Format.TheVariants.{Unix, Raw}
@@ -75,8 +75,8 @@ by-default-of-a-sunday = refl
 strict-of-a-sunday : iso8601_strict_text sunday ≡ codes "1000-12-07T00:00:00+00:00"
 strict-of-a-sunday = refl
 
-ordinary : (z : PlainZoned) (year : ℕ) → z.datetime.date.year ≡ pos year → 1000 ≤ year → year ≤ 9999 → unsigned_abs z.offset.seconds % 60 ≡ 0 → IsOrdinary z
-ordinary z year is low high whole = record { year = year; year_is = is; low = low; high = high; minutes = whole }
+four_digits : (z : PlainZoned) (year : ℕ) → z.datetime.date.year ≡ pos year → 1000 ≤ year → year ≤ 9999 → unsigned_abs z.offset.seconds % 60 ≡ 0 → ShowsFourDigitFields z
+four_digits z year is low high whole = record { year = year; year_is = is; low = low; high = high; minutes = whole }
 
 each-time-has-seconds : (t : Time) → ¬ (HasNoText t Unix)
 each-time-has-seconds t h = h

@@ -9,7 +9,7 @@ use Rattle.gix_date.specs.Computing.{computing}
 use Rattle.gix_date.specs.Families.Order.{first_family, first_family_by}
 use Rattle.gix_date.specs.Text.Numbers.{int_value}
 use Rattle.gix_date.specs.Families.Raw.{is_wide_offset}
-use Rattle.gix_date.specs.Relative.Dates.{Before, Less, relative_date, named_date, pairs_date}
+use Rattle.gix_date.specs.Relative.Dates.{MinusSeconds, MinusPairs, relative_date, named_date, pairs_date}
 use Rattle.gix_date.specs.Relative.Words.{relative_words, count_of, named_count, number_named, unit_of, singular, named_unit}
 use Rattle.gix_date.specs.Relative.Roles.{is_count_word, has_unit, count_run, has_flag, has_pair, all_units, are_pairs, pairs}
 use Rattle.gix_date.specs.declared.parsing.relative.words.TimeUnit.TheVariants.{Seconds, Months}
@@ -19,79 +19,79 @@ relating : Type 0
 unfolding relative_date named_date pairs_date relative_words count_of named_count number_named unit_of singular named_unit is_count_word has_unit count_run has_flag has_pair all_units are_pairs pairs int_value trim_start trim_end chars encode
 relating = Unit {0}
 
-two-minutes : relative_date (codes "2 minutes ago") ≡ Some (Less ((pos 2, Seconds (pos 60)) ∷ []))
+two-minutes : relative_date (codes "2 minutes ago") ≡ Some (MinusPairs ((pos 2, Seconds (pos 60)) ∷ []))
 unfolding relating
 two-minutes = refl
 
-pairs-in-order : relative_date (codes "2 days 3 hours ago") ≡ Some (Less ((pos 2, Seconds (pos 86_400)) ∷ (pos 3, Seconds (pos 3600)) ∷ []))
+pairs-in-order : relative_date (codes "2 days 3 hours ago") ≡ Some (MinusPairs ((pos 2, Seconds (pos 86_400)) ∷ (pos 3, Seconds (pos 3600)) ∷ []))
 unfolding relating
 pairs-in-order = refl
 
-months-and-days : relative_date (codes "1 month 2 days ago") ≡ Some (Less ((pos 1, Months (pos 1)) ∷ (pos 2, Seconds (pos 86_400)) ∷ []))
+months-and-days : relative_date (codes "1 month 2 days ago") ≡ Some (MinusPairs ((pos 1, Months (pos 1)) ∷ (pos 2, Seconds (pos 86_400)) ∷ []))
 unfolding relating
 months-and-days = refl
 
-at-sign-says-nothing : relative_date (codes "@5 days ago") ≡ Some (Less ((pos 5, Seconds (pos 86_400)) ∷ []))
+at-sign-says-nothing : relative_date (codes "@5 days ago") ≡ Some (MinusPairs ((pos 5, Seconds (pos 86_400)) ∷ []))
 unfolding relating
 at-sign-says-nothing = refl
 
-dots-say-nothing : relative_date (codes "1.hour.ago") ≡ Some (Less ((pos 1, Seconds (pos 3600)) ∷ []))
+dots-say-nothing : relative_date (codes "1.hour.ago") ≡ Some (MinusPairs ((pos 1, Seconds (pos 3600)) ∷ []))
 unfolding relating
 dots-say-nothing = refl
 
-count-word-as-a-period : relative_date (codes "2 3 days ago") ≡ Some (Less ((pos 2, Seconds (pos 1)) ∷ []))
+count-word-as-a-period : relative_date (codes "2 3 days ago") ≡ Some (MinusPairs ((pos 2, Seconds (pos 1)) ∷ []))
 unfolding relating
 count-word-as-a-period = refl
 
-count-past-an-i64 : relative_date (codes "99999999999999999999 3 days") ≡ Some (Less ((pos 3, Seconds (pos 86_400)) ∷ []))
+count-past-an-i64 : relative_date (codes "99999999999999999999 3 days") ≡ Some (MinusPairs ((pos 3, Seconds (pos 86_400)) ∷ []))
 unfolding relating
 count-past-an-i64 = refl
 
-unknown-period : relative_date (codes "3 fortnights ago") ≡ Some (Less ((pos 3, Seconds (pos 1)) ∷ []))
+unknown-period : relative_date (codes "3 fortnights ago") ≡ Some (MinusPairs ((pos 3, Seconds (pos 1)) ∷ []))
 unfolding relating
 unknown-period = refl
 
-flag-before-the-pair : relative_date (codes "ago 3 fortnights") ≡ Some (Less ((pos 3, Seconds (pos 1)) ∷ []))
+flag-before-the-pair : relative_date (codes "ago 3 fortnights") ≡ Some (MinusPairs ((pos 3, Seconds (pos 1)) ∷ []))
 unfolding relating
 flag-before-the-pair = refl
 
-last-as-a-period : relative_date (codes "one last ago") ≡ Some (Less ((pos 1, Seconds (pos 1)) ∷ []))
+last-as-a-period : relative_date (codes "one last ago") ≡ Some (MinusPairs ((pos 1, Seconds (pos 1)) ∷ []))
 unfolding relating
 last-as-a-period = refl
 
-last-as-a-count : relative_date (codes "last week") ≡ Some (Less ((pos 1, Seconds (pos 604_800)) ∷ []))
+last-as-a-count : relative_date (codes "last week") ≡ Some (MinusPairs ((pos 1, Seconds (pos 604_800)) ∷ []))
 unfolding relating
 last-as-a-count = refl
 
-named-count : relative_date (codes "Ten minutes") ≡ Some (Less ((pos 10, Seconds (pos 60)) ∷ []))
+named-count : relative_date (codes "Ten minutes") ≡ Some (MinusPairs ((pos 10, Seconds (pos 60)) ∷ []))
 unfolding relating
 named-count = refl
 
-last-count-dropped : relative_date (codes "2 days 3") ≡ Some (Less ((pos 2, Seconds (pos 86_400)) ∷ []))
+last-count-dropped : relative_date (codes "2 days 3") ≡ Some (MinusPairs ((pos 2, Seconds (pos 86_400)) ∷ []))
 unfolding relating
 last-count-dropped = refl
 
-words-that-say-nothing : relative_date (codes "1 hour from now") ≡ Some (Less ((pos 1, Seconds (pos 3600)) ∷ []))
+words-that-say-nothing : relative_date (codes "1 hour from now") ≡ Some (MinusPairs ((pos 1, Seconds (pos 3600)) ∷ []))
 unfolding relating
 words-that-say-nothing = refl
 
-date-of-counts : relative_date (codes "2018-12-24 days ago") ≡ Some (Less ((pos 2018, Seconds (pos 1)) ∷ (pos 24, Seconds (pos 86_400)) ∷ []))
+date-of-counts : relative_date (codes "2018-12-24 days ago") ≡ Some (MinusPairs ((pos 2018, Seconds (pos 1)) ∷ (pos 24, Seconds (pos 86_400)) ∷ []))
 unfolding relating
 date-of-counts = refl
 
-two-final-letters : relative_date (codes "2 dayss ago") ≡ Some (Less ((pos 2, Seconds (pos 1)) ∷ []))
+two-final-letters : relative_date (codes "2 dayss ago") ≡ Some (MinusPairs ((pos 2, Seconds (pos 1)) ∷ []))
 unfolding relating
 two-final-letters = refl
 
-now : relative_date (codes " NOW ") ≡ Some (Before (pos 0))
+now : relative_date (codes " NOW ") ≡ Some (MinusSeconds (pos 0))
 unfolding relating
 now = refl
 
-today : relative_date (codes "Today") ≡ Some (Before (pos 0))
+today : relative_date (codes "Today") ≡ Some (MinusSeconds (pos 0))
 unfolding relating
 today = refl
 
-yesterday : relative_date (codes "YESTERDAY") ≡ Some (Before (pos 86_400))
+yesterday : relative_date (codes "YESTERDAY") ≡ Some (MinusSeconds (pos 86_400))
 unfolding relating
 yesterday = refl
 
@@ -163,14 +163,14 @@ raw-wide : first_family_by is_wide_offset (codes "5 -2359") ≡ Some (Absolute (
 unfolding computing
 raw-wide = refl
 
-relative-before-raw : first_family (codes "5 seconds") ≡ Some (Relative (Less ((pos 5, Seconds (pos 1)) ∷ [])))
+relative-before-raw : first_family (codes "5 seconds") ≡ Some (Relative (MinusPairs ((pos 5, Seconds (pos 1)) ∷ [])))
 unfolding computing
 relative-before-raw = refl
 
-at-sign-of-no-time : first_family (codes "@5 days ago") ≡ Some (Relative (Less ((pos 5, Seconds (pos 86_400)) ∷ [])))
+at-sign-of-no-time : first_family (codes "@5 days ago") ≡ Some (Relative (MinusPairs ((pos 5, Seconds (pos 86_400)) ∷ [])))
 unfolding computing
 at-sign-of-no-time = refl
 
-pub yesterday-alone : first_family (codes "yesterday") ≡ Some (Relative (Before (pos 86_400)))
+pub yesterday-alone : first_family (codes "yesterday") ≡ Some (Relative (MinusSeconds (pos 86_400)))
 unfolding computing
 yesterday-alone = refl

@@ -2,13 +2,13 @@
 use Rattle.gix_date.specs.Relative.Dates.{RelativeDate}
 use Rattle.gix_date.specs.declared.time.Time.{Time}
 
--- what a family answers of a text that it holds
+-- what a family answers for a text that it holds
 pub data FamilyAnswer : Type 0 where
   -- a time, whatever the moment
   Absolute : Time → FamilyAnswer
   -- a formatted date whose offset is above 23:59
-  OffsetBeyond : FamilyAnswer
+  OffsetAboveDay : FamilyAnswer
   -- a day whose midnight is no instant
-  InstantBeyond : FamilyAnswer
-  -- a time that the moment is needed for
+  NoInstant : FamilyAnswer
+  -- a relative date, whose time depends on the moment
   Relative : RelativeDate → FamilyAnswer

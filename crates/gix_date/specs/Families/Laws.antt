@@ -14,8 +14,7 @@ use Rattle.gix_date.specs.declared.error.Error.{Error}
 use Rattle.gix_date.specs.declared.error.ParseError.{ParseError}
 use Rattle.gix_date.specs.declared.time.Time.{Time}
 
--- A text that is raw by the rule is neither a bare epoch nor a Git text nor relative, and a bare epoch neither a Git
--- text nor relative.
+-- A raw text is neither a bare epoch nor a Git text nor relative. A bare epoch is neither a Git text nor relative.
 pub record AreDisjoint (rule : OffsetRule) (text : List ℕ) : Type 0 where
   pub raw_epoch : (t : Time) → raw_time_by rule text ≡ Some t → epoch_time text ≡ None
   pub raw_git : (t : Time) → raw_time_by rule text ≡ Some t → git_time text ≡ None
@@ -23,7 +22,7 @@ pub record AreDisjoint (rule : OffsetRule) (text : List ℕ) : Type 0 where
   pub epoch_git : (t : Time) → epoch_time text ≡ Some t → git_time text ≡ None
   pub epoch_relative : (t : Time) → epoch_time text ≡ Some t → relative_date text ≡ None
 
--- a family holds the text
+-- the family holds the text
 abbrev pub Holds : OffsetRule → Family → List ℕ → Type 0
 Holds rule family text = is_some (family_answer rule family text) ≡ true
 
@@ -31,7 +30,7 @@ Holds rule family text = is_some (family_answer rule family text) ≡ true
 abbrev pub AreApart : Type 0
 AreApart = (rule : OffsetRule) (text : List ℕ) → length (filter is_some (answers_before_git rule text)) ≤ 1
 
--- two different families that share a text
+-- whether two different families share texts
 abbrev pub overlap : Family → Family → Bool
 overlap Iso8601 GitForm = true
 overlap Iso8601Strict GitForm = true
@@ -41,7 +40,7 @@ overlap GitForm RelativeText = true
 overlap RelativeText GitForm = true
 overlap _ _ = false
 
--- a text of one family is of no other family that does not overlap with it
+-- a text of one family is of no other family, unless the two overlap
 abbrev pub AreExclusive : OffsetRule → List ℕ → Type 0
 AreExclusive rule text =
     (a b : Family) → a ≢ b → overlap a b ≡ false → Holds rule a text → family_answer rule b text ≡ None
@@ -53,32 +52,33 @@ pub record Overlap (a b : Family) : Type 0 where
   pub first : Holds is_raw_offset a text
   pub second : Holds is_raw_offset b text
 
+-- each pair of families that overlap has a text of both
 abbrev pub AreOverlapping : Type 0
 AreOverlapping = (a b : Family) → overlap a b ≡ true → Overlap a b
 
--- where both families hold the text, they answer the same
+-- the two families answer the same where both hold the text
 abbrev pub Agree : OffsetRule → Family → Family → List ℕ → Type 0
 Agree rule a b text = Holds rule a text → Holds rule b text → family_answer rule a text ≡ family_answer rule b text
 
--- The answer of a family that holds the text is that of the first family. A relative text has to be of no Git form.
+-- A family that holds the text gives the first answer. A relative text does so if it is of no Git form.
 pub record ComesFirst (rule : OffsetRule) (text : List ℕ) : Type 0 where
   pub alone : (family : Family) → family ≢ GitForm → family ≢ RelativeText → Holds rule family text
       → first_family_by rule text ≡ family_answer rule family text
   pub git : Holds rule GitForm text → first_family_by rule text ≡ family_answer rule GitForm text
   pub relative : family_answer rule GitForm text ≡ None → Holds rule RelativeText text
       → first_family_by rule text ≡ family_answer rule RelativeText text
-  -- only for a relative text is the answer a relative date
+  -- the answer is a relative date only for a relative text
   pub counting : (date : RelativeDate) → first_family_by rule text ≡ Some (Relative date)
       → relative_date text ≡ Some date
 
--- what a call with this text may result in at one moment, it may result in at every other and without one
+-- each result that a call with this text may have at one moment, it may have at every other and at none
 abbrev pub IgnoresMoment : OffsetRule → List ℕ → Type 0
 IgnoresMoment rule text = (now other : Option Zoned) (result : Result Time Error)
     → ParseOutcome (first_family_by rule text) text now result
     → ParseOutcome (first_family_by rule text) text other result
 
--- An answer by quarters of an hour is the answer by whole minutes too. A text that has one by whole minutes alone is a
--- raw text or an at text.
+-- An answer by quarters of an hour is the answer by whole minutes too. Only raw and at texts have an answer by whole
+-- minutes alone.
 pub record IsWidened (text : List ℕ) : Type 0 where
   pub alike : (answer : FamilyAnswer) → first_family_by is_raw_offset text ≡ Some answer
       → first_family_by is_wide_offset text ≡ Some answer
@@ -86,16 +86,16 @@ pub record IsWidened (text : List ℕ) : Type 0 where
       → first_family_by is_wide_offset text ≡ Some answer
       → Holds is_wide_offset AtText text ⊎ Holds is_wide_offset RawText text
 
--- a time that is the answer of the first family has an offset within 23:59
+-- if the first answer is a time, its offset is within 23:59
 abbrev pub AnswersWithinDay : OffsetRule → List ℕ → Type 0
 AnswersWithinDay rule text =
     (t : Time) → first_family_by rule text ≡ Some (Absolute t) → unsigned_abs t.offset ≤ max_date_offset
 
--- the family answers the text as it answers the text without the white space around it
+-- the family answers the text and the trimmed text alike
 abbrev pub IgnoresSpace : OffsetRule → Family → List ℕ → Type 0
 IgnoresSpace rule family text = family_answer rule family (trim text) ≡ family_answer rule family text
 
--- the family answers the text as it answers the text in small ASCII letters
+-- the family answers the text and the text in small ASCII letters alike
 abbrev pub IgnoresCase : OffsetRule → Family → List ℕ → Type 0
 IgnoresCase rule family text = family_answer rule family (str_to_ascii_lowercase text) ≡ family_answer rule family text
 

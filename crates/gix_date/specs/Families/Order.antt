@@ -3,7 +3,7 @@ use Rattle.std.specs.Prelude.{◌≡◌, ℕ, List, [], ◌∷◌, ◌++◌, map
 use Rattle.std.specs.Option.{option_or}
 use Rattle.std.specs.Result.{IsErrAnd}
 use Rattle.jiff.specs.declared.zoned.Zoned.{Zoned}
-use Rattle.gix_date.specs.Families.Answer.{FamilyAnswer, Absolute, OffsetBeyond, InstantBeyond, Relative}
+use Rattle.gix_date.specs.Families.Answer.{FamilyAnswer, Absolute, OffsetAboveDay, NoInstant, Relative}
 use Rattle.gix_date.specs.Families.Patterns.{short_answer, rfc2822_answer, iso8601_answer, iso8601_strict_answer, gitoxide_answer, default_answer}
 use Rattle.gix_date.specs.Families.Raw.{OffsetRule, is_raw_offset, raw_time_by}
 use Rattle.gix_date.specs.Families.Epoch.{at_time, epoch_time}
@@ -32,7 +32,7 @@ pub data Family : Type 0 where
   RelativeText : Family
   RawText : Family
 
--- what a family answers of a text, where it holds it, by a rule for the offsets of raw texts
+-- what the family answers for the text, by a rule for raw offsets; `None` if it does not hold the text
 abbrev pub family_answer : OffsetRule → Family → List ℕ → Option FamilyAnswer
 family_answer rule AtText text = option_map Absolute (at_time rule text)
 family_answer rule Short text = short_answer text
@@ -46,14 +46,15 @@ family_answer rule GitForm text = option_map Absolute (git_time text)
 family_answer rule RelativeText text = option_map Relative (relative_date text)
 family_answer rule RawText text = option_map Absolute (raw_time_by rule text)
 
--- the families before Git's own forms, and all of them, in the order in which they are asked
+-- the families before Git's own forms, in their order
 abbrev pub families_before_git : List Family
 families_before_git = AtText ∷ Short ∷ Rfc2822 ∷ Iso8601 ∷ Iso8601Strict ∷ Gitoxide ∷ GitDefault ∷ BareEpoch ∷ []
 
+-- all families, in the order in which they are tried
 abbrev pub families : List Family
 families = families_before_git ++ GitForm ∷ RelativeText ∷ RawText ∷ []
 
--- the answer of the first that has one
+-- the first answer, or `None` if there is none
 abbrev pub first_answer_of : List (Option FamilyAnswer) → Option FamilyAnswer
 first_answer_of [] = None
 first_answer_of (answer ∷ answers) = option_or answer (first_answer_of answers)
@@ -62,52 +63,53 @@ first_answer_of (answer ∷ answers) = option_or answer (first_answer_of answers
 abbrev pub family_answers : OffsetRule → List ℕ → List (Option FamilyAnswer)
 family_answers rule text = map (λ family. family_answer rule family text) families
 
--- the answer of the first family that holds the text
+-- the answer of the first family that holds the text, by a rule for raw offsets
 unfoldable pub first_family_by : OffsetRule → List ℕ → Option FamilyAnswer
 first_family_by rule text = first_answer_of (family_answers rule text)
 
--- what each family before Git's own forms answers
+-- what each family before Git's own forms answers, in their order
 abbrev pub answers_before_git : OffsetRule → List ℕ → List (Option FamilyAnswer)
 answers_before_git rule text = map (λ family. family_answer rule family text) families_before_git
 
--- the same where raw offsets are quarters of an hour
+-- the answer of the first family that holds the text, with raw offsets in quarters of an hour
 abbrev pub first_family : List ℕ → Option FamilyAnswer
 first_family = first_family_by is_raw_offset
 
--- the refusal of a text that no family holds, or out of memory for its copy
+-- the fault is `UnknownFormat` with the text's bytes, or `Memory` for their copy
 abbrev pub RefusesUnknown : List ℕ → Error → Type 0
 RefusesUnknown text (errors.UnknownFormat input) = input ≡ text
 RefusesUnknown text errors.Memory = Unit {0}
 RefusesUnknown text _ = ⊥
 
--- the refusal of a day that is no instant, or out of memory for the copy of its text
+-- the fault is `DateConversion` with the text's bytes, or `Memory` for their copy
 abbrev pub RefusesDate : List ℕ → Error → Type 0
 RefusesDate text (errors.DateConversion input) = input ≡ text
 RefusesDate text errors.Memory = Unit {0}
 RefusesDate text _ = ⊥
 
--- What a call that takes no memory comes to by the answer of the first family and this moment.
+-- What a call without an allocator results in, by the first answer and the moment: the time; `RelativeOutcome`;
+-- `DateConversion` for a day without an instant; else `UnknownFormat`.
 abbrev pub ParseNoAllocOutcome : Option FamilyAnswer → Option Zoned → Result Time ParseError → Type 0
 ParseNoAllocOutcome (Some (Absolute t)) now result = result ≡ Ok t
 ParseNoAllocOutcome (Some (Relative date)) now result = RelativeOutcome date now result
-ParseNoAllocOutcome (Some OffsetBeyond) now result = result ≡ Err UnknownFormat
-ParseNoAllocOutcome (Some InstantBeyond) now result = result ≡ Err DateConversion
+ParseNoAllocOutcome (Some OffsetAboveDay) now result = result ≡ Err UnknownFormat
+ParseNoAllocOutcome (Some NoInstant) now result = result ≡ Err DateConversion
 ParseNoAllocOutcome None now result = result ≡ Err UnknownFormat
 
--- the same refusal, with a copy of the text that is refused, where it has one
+-- the fault of the same name, by `RefusesUnknown` or `RefusesDate` if it carries the text
 abbrev pub RefusesWithCopy : List ℕ → ParseError → Error → Type 0
 RefusesWithCopy text UnknownFormat e = RefusesUnknown text e
 RefusesWithCopy text DateConversion e = RefusesDate text e
 RefusesWithCopy text MissingNow e = e ≡ errors.MissingNow
 RefusesWithCopy text Range e = e ≡ errors.Range
 
--- the same time, or the same refusal with its copy
+-- the result is the same time, or the same refusal by `RefusesWithCopy`
 abbrev pub WithCopy : List ℕ → Result Time ParseError → Result Time Error → Type 0
 WithCopy text (Ok t) result = result ≡ Ok t
 WithCopy text (Err refusal) result = IsErrAnd result (RefusesWithCopy text refusal)
 
--- What a call comes to that was given this text and this moment: what one comes to that takes no memory, and then the
--- copy of a text that is refused. So a refusal of memory never replaces a time, nor what a relative text comes to.
+-- What a call results in: `ParseNoAllocOutcome`, and then the copy of a refused text. So `Memory` never replaces a
+-- time, `MissingNow` or `Range`.
 abbrev pub ParseOutcome : Option FamilyAnswer → List ℕ → Option Zoned → Result Time Error → Type 0
 ParseOutcome answer text now result =
     (uncopied : Result Time ParseError) × ParseNoAllocOutcome answer now uncopied × WithCopy text uncopied result

@@ -1,16 +1,16 @@
 -- The formatted dates: what a time answers that was read of one, and of each the pieces and what it answers of a whole
 -- text.
 use Rattle.std.specs.Prelude.{◌≡◌, ℕ, List, [], ◌∷◌, pos, nat_lt, ℤ, unsigned_abs, if◌then◌else◌, Option, Some, None, option_map, unwrap_or, ◌↔◌}
-use Rattle.gix_date.specs.Families.Answer.{FamilyAnswer, Absolute, InstantBeyond, OffsetBeyond}
+use Rattle.gix_date.specs.Families.Answer.{FamilyAnswer, Absolute, NoInstant, OffsetAboveDay}
 use Rattle.gix_date.specs.Fields.Civil.{is_date, civil_instant}
 use Rattle.gix_date.specs.Families.Epoch.{utc_time}
 use Rattle.gix_date.specs.Fields.Front.{◌>>=◌}
 use Rattle.gix_date.specs.Fields.Layout.{LocalTime, Piece, DayName, MailDayName, MonthName, Day, Year, PlainDate, Clock, MailClock, Spaces, LetterT, Offset, ColonOffset, MailOffset, layout_answer, ArePieces}
-use Rattle.gix_date.specs.declared.parsing.patterns.TheConstants.{MAX_OFFSET_IN_SECONDS}
+use Rattle.gix_date.specs.declared.time.TheConstants.{MAX_OFFSET_IN_SECONDS}
 use Rattle.gix_date.specs.declared.civil.ClockFields.{ClockFields}
 use Rattle.gix_date.specs.declared.civil.DateFields.{DateFields}
 
--- the farthest offset of a formatted date
+-- the widest offset of a formatted date: 86340 seconds, which is 23:59
 abbrev pub max_date_offset : ℕ
 max_date_offset = MAX_OFFSET_IN_SECONDS
 
@@ -18,77 +18,85 @@ max_date_offset = MAX_OFFSET_IN_SECONDS
 unfoldable pub date_answer : DateFields → ClockFields → ℤ → Option FamilyAnswer
 date_answer date clock offset = do
   seconds ← civil_instant date clock offset
-  if nat_lt max_date_offset (unsigned_abs offset) then Some OffsetBeyond
+  if nat_lt max_date_offset (unsigned_abs offset) then Some OffsetAboveDay
       else Some (Absolute (record { seconds = seconds; offset = offset }))
 
--- the same of a time that was read
+-- what the time of a formatted date answers: its instant and offset, or `OffsetAboveDay`; `None` without an instant
 abbrev pub time_answer : LocalTime → Option FamilyAnswer
 time_answer t = date_answer t.date t.clock t.offset
 
+-- the first second of a day
 abbrev pub midnight : ClockFields
 midnight = record { hour = 0; minute = 0; second = 0 }
 
 -- what a day alone answers: its midnight in UTC, where it is an instant
 abbrev pub day_answer : DateFields → FamilyAnswer
 day_answer date =
-    unwrap_or (option_map (λ seconds. Absolute (utc_time seconds)) (civil_instant date midnight (pos 0))) InstantBeyond
+    unwrap_or (option_map (λ seconds. Absolute (utc_time seconds)) (civil_instant date midnight (pos 0))) NoInstant
 
--- the same of the date that was read, where the calendar has that date
+-- what a day alone answers: its midnight in UTC, or `NoInstant`; `None` if the calendar has no such day
 abbrev pub real_day_answer : LocalTime → Option FamilyAnswer
 real_day_answer t = if is_date t.date then Some (day_answer t.date) else None
 
--- `YYYY-M-D`
+-- the pieces of a day alone: `YYYY-M-D`
 abbrev pub short_layout : List Piece
 short_layout = PlainDate ∷ []
 
+-- what the family `Short` answers for the text
 unfoldable pub short_answer : List ℕ → Option FamilyAnswer
 short_answer text = layout_answer short_layout real_day_answer text
 
--- `Www, D Mmm YYYY h:m:s Z`, where the day's name and the seconds may be left out, and Z may be a name
+-- the pieces of an RFC 2822 date: `Www, D Mmm YYYY h:m:s Z`, where the day's name and the seconds may be left out, and
+-- Z may be a name
 abbrev pub rfc2822_layout : List Piece
 rfc2822_layout =
     MailDayName ∷ Day ∷ Spaces ∷ MonthName ∷ Spaces ∷ Year ∷ Spaces ∷ MailClock ∷ Spaces ∷ MailOffset ∷ []
 
+-- what the family `Rfc2822` answers for the text
 unfoldable pub rfc2822_answer : List ℕ → Option FamilyAnswer
 rfc2822_answer text = layout_answer rfc2822_layout time_answer text
 
--- `YYYY-M-D h:m:s Z`
+-- the pieces of an ISO 8601 date: `YYYY-M-D h:m:s Z`
 abbrev pub iso8601_layout : List Piece
 iso8601_layout = PlainDate ∷ Spaces ∷ Clock ∷ Spaces ∷ Offset ∷ []
 
+-- what the family `Iso8601` answers for the text
 unfoldable pub iso8601_answer : List ℕ → Option FamilyAnswer
 iso8601_answer text = layout_answer iso8601_layout time_answer text
 
--- `YYYY-M-DTh:m:sZ`, with colons between the pairs of Z
+-- the pieces of a strict ISO 8601 date: `YYYY-M-DTh:m:sZ`, with colons between the pairs of Z
 abbrev pub iso8601_strict_layout : List Piece
 iso8601_strict_layout = PlainDate ∷ LetterT ∷ Clock ∷ ColonOffset ∷ []
 
+-- what the family `Iso8601Strict` answers for the text
 unfoldable pub iso8601_strict_answer : List ℕ → Option FamilyAnswer
 iso8601_strict_answer text = layout_answer iso8601_strict_layout time_answer text
 
--- `Www Mmm D YYYY h:m:s Z`
+-- the pieces of gitoxide's date: `Www Mmm D YYYY h:m:s Z`
 abbrev pub gitoxide_layout : List Piece
 gitoxide_layout =
     DayName ∷ Spaces ∷ MonthName ∷ Spaces ∷ Day ∷ Spaces ∷ Year ∷ Spaces ∷ Clock ∷ Spaces ∷ Offset ∷ []
 
+-- what the family `Gitoxide` answers for the text
 unfoldable pub gitoxide_answer : List ℕ → Option FamilyAnswer
 gitoxide_answer text = layout_answer gitoxide_layout time_answer text
 
--- `Www Mmm D h:m:s YYYY Z`
+-- the pieces of Git's default date: `Www Mmm D h:m:s YYYY Z`
 abbrev pub default_layout : List Piece
 default_layout =
     DayName ∷ Spaces ∷ MonthName ∷ Spaces ∷ Day ∷ Spaces ∷ Clock ∷ Spaces ∷ Year ∷ Spaces ∷ Offset ∷ []
 
+-- what the family `GitDefault` answers for the text
 unfoldable pub default_answer : List ℕ → Option FamilyAnswer
 default_answer text = layout_answer default_layout time_answer text
 
--- the text is such pieces of a time, and this is what the time answers
-pub record IsAnswered (layout : List Piece) (of_time : LocalTime → Option FamilyAnswer) (text : List ℕ)
+-- the text is the pieces of some time by this layout, and the time has this answer by `of_time`
+pub record IsMeaning (layout : List Piece) (of_time : LocalTime → Option FamilyAnswer) (text : List ℕ)
     (answer : FamilyAnswer) : Type 0 where
   pub time : LocalTime
   pub are : ArePieces layout time text
   pub comes : of_time time ≡ Some answer
 
--- a family answers what such a text comes to, and nothing of another text
-abbrev pub Spells : {A : Type 0} → (List ℕ → Option A) → (List ℕ → A → Type 0) → Type 0
-Spells {A} family Is = (text : List ℕ) (answer : A) → (family text ≡ Some answer) ↔ Is text answer
+-- the family answers exactly what `Is` says of a text and an answer
+abbrev pub Accepts : {A : Type 0} → (List ℕ → Option A) → (List ℕ → A → Type 0) → Type 0
+Accepts {A} family Is = (text : List ℕ) (answer : A) → (family text ≡ Some answer) ↔ Is text answer

@@ -14,9 +14,11 @@ unfoldable pub begins_with_at : List ℕ → Bool
 begins_with_at [] = false
 begins_with_at (c ∷ rest) = c == at_sign
 
+-- both characters are digits
 abbrev pub are_two_digits : ℕ → ℕ → Bool
 are_two_digits a b = is_ascii_digit a && is_ascii_digit b
 
+-- all four characters are digits
 abbrev pub are_four_digits : ℕ → ℕ → ℕ → ℕ → Bool
 are_four_digits a b c d = are_two_digits a b && are_two_digits c d
 
@@ -59,7 +61,7 @@ letter_shape (_ ∷ _ ∷ _ ∷ fourth ∷ rest) =
     if fourth == comma then MailDay else if fourth == space then NamedDay else Word
 letter_shape _ = Word
 
--- the shape of a text: the first of these that it has
+-- the shape of a text: the first that fits
 unfoldable pub shape_of : List ℕ → Shape
 shape_of text =
     if begins_with_at text then AtSign
@@ -86,11 +88,11 @@ shape_families Other = GitForm ∷ RelativeText ∷ RawText ∷ []
 abbrev pub first_among : OffsetRule → List Family → List ℕ → Option FamilyAnswer
 first_among rule list text = first_answer_of (map (λ family. family_answer rule family text) list)
 
--- the first family that holds the text is the first of its shape's families that holds it
+-- the first family that holds the text is the first of its shape's families that does
 abbrev pub IsDispatched : OffsetRule → List ℕ → Type 0
 IsDispatched rule text = first_family_by rule text ≡ first_among rule (shape_families (shape_of text)) text
 
--- A coarser table of seven rows: the families of the first row that fits the text, in their order.
+-- the families of the first of seven rows that fits the text, in their order: a coarser table than that of shapes
 unfoldable pub row_families : List ℕ → List Family
 row_families text =
     if begins_with_at text then AtText ∷ RelativeText ∷ []
@@ -101,6 +103,6 @@ row_families text =
     else if begins_with_letter text then Rfc2822 ∷ Gitoxide ∷ GitDefault ∷ RelativeText ∷ []
     else Short ∷ Rfc2822 ∷ Iso8601 ∷ Iso8601Strict ∷ GitForm ∷ RelativeText ∷ RawText ∷ []
 
--- the first family that holds the text is the first of its row's families that holds it
+-- the first family that holds the text is the first of its row's families that does
 abbrev pub IsInItsRow : OffsetRule → List ℕ → Type 0
 IsInItsRow rule text = first_family_by rule text ≡ first_among rule (row_families text) text

@@ -13,23 +13,22 @@ use Rattle.gix_date.specs.Text.SpaceWords.{is_nonempty}
 use Rattle.gix_date.specs.declared.civil.ClockFields.{ClockFields}
 use Rattle.gix_date.specs.declared.civil.DateFields.{DateFields}
 
--- a year, a month and a day; an hour, a minute and a second: the names by which another crate says the fields of the
--- code
+-- the fields of a date, `year`, `month` and `day`, under a name that another crate can import
 abbrev pub LocalDate : Type 0
 LocalDate = DateFields
 
+-- the fields of a clock, `hour`, `minute` and `second`, under a name that another crate can import
 abbrev pub LocalClock : Type 0
 LocalClock = ClockFields
 
--- What a formatted date says, as it is read and as it is printed: the day of the week (0 is Monday), the date, the
--- clock, and the offset in seconds.
+-- what a formatted date says: the day of the week (0 is Monday), the date, the clock, and the offset in seconds
 pub record LocalTime : Type 0 where
   pub weekday : ℕ
   pub date : DateFields
   pub clock : ClockFields
   pub offset : ℤ
 
--- the kinds of pieces
+-- the pieces that formatted dates are made of
 pub data Piece : Type 0 where
   -- `Www`
   DayName : Piece
@@ -95,7 +94,7 @@ nothing_read = record {
 abbrev pub layout_answer : {B : Type 0} → List Piece → (LocalTime → Option B) → List ℕ → Option B
 layout_answer layout answer text = read_pieces layout nothing_read text >>= answer
 
--- which texts are this piece of such a time
+-- the text is this piece of the time
 abbrev pub IsPiece : Piece → LocalTime → List ℕ → Type 0
 IsPiece DayName t text = IsDayName text
 IsPiece MailDayName t text = (text ≡ []) ⊎ IsDayPrefix text
@@ -119,7 +118,7 @@ pub record BeginsWith (piece : Piece) (t : LocalTime) (IsMore : List ℕ → Typ
   pub is : IsPiece piece t front
   pub more : IsMore rest
 
--- the text is these pieces of such a time, one after the other
+-- the text is these pieces of the time, one after the other
 abbrev pub ArePieces : List Piece → LocalTime → List ℕ → Type 0
 ArePieces [] t text = text ≡ []
 ArePieces (piece ∷ pieces) t text = BeginsWith piece t (ArePieces pieces t) text
@@ -140,7 +139,7 @@ print_piece day Offset t = compact_offset_text t.offset
 print_piece day ColonOffset t = strict_offset_text t.offset
 print_piece day MailOffset t = compact_offset_text t.offset
 
--- the pieces, one after the other
+-- the printed pieces of a time, one after the other, with the day of the month by `day`
 abbrev pub print_pieces : (ℕ → List ℕ) → List Piece → LocalTime → List ℕ
 print_pieces day [] t = []
 print_pieces day (piece ∷ pieces) t = print_piece day piece t ++ print_pieces day pieces t

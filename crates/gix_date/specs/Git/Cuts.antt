@@ -3,12 +3,13 @@ use Rattle.std.specs.Prelude.{◌≡◌, ℕ, ◌<◌, Bool, true, false, List, 
 use Rattle.gix_date.specs.Text.Characters.{space, letter_z}
 use Rattle.gix_date.specs.Git.ClockCut.{is_sign, has_offset_at, trimmed_after}
 
--- the same as a fact: the test holds at k, and at no later place below n
+-- the test holds at k, and at no later place below n
 pub record IsLastPlace (test : ℕ → Bool) (n k : ℕ) : Type 0 where
   pub within : k < n
   pub passes : test k ≡ true
   pub last : (i : ℕ) → k < i → i < n → test i ≡ false
 
+-- the text ends in `Z`
 abbrev pub EndsInZ : List ℕ → Type 0
 EndsInZ text = (front : List ℕ) × (text ≡ front ++ letter_z ∷ [])
 
@@ -22,7 +23,8 @@ CutsAtSpace text k =
 abbrev pub CutsAtSign : List ℕ → ℕ → Type 0
 CutsAtSign text k = IsLastPlace (has_offset_at text) (length text) k
 
--- the clock and the offset that a text is cut into
+-- The text is cut into this clock and this offset: at a final `Z`; else at the last space, if it can begin an offset;
+-- else at the last sign that can; else all is the clock.
 pub data IsCut (text : List ℕ) : List ℕ → List ℕ → Type 0 where
   at_z : (clock : List ℕ) → text ≡ clock ++ letter_z ∷ [] → IsCut text clock (letter_z ∷ [])
   at_space : (k : ℕ) → ¬ (EndsInZ text) → CutsAtSpace text k → IsCut text (take k text) (trimmed_after text k)

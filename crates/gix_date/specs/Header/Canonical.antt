@@ -21,7 +21,8 @@ abbrev pub is_canonical_offset : List ℕ → Bool
 is_canonical_offset word =
     option_map_or has_whole_minutes (offset_fields word) false && not (bytes_eq word (codes "-0000"))
 
--- the decimal text of an i64, one space, and such an offset
+-- a canonical header: the decimal text of an `i64`, one space, and a sign, two digits of hours and two of minutes below
+-- 60, but not `-0000`
 abbrev pub is_canonical_header : List ℕ → Bool
 is_canonical_header text =
     is_decimal_text (before_first is_space text) && is_canonical_offset (after_first is_space text)

@@ -11,28 +11,28 @@ use Rattle.gix_date.specs.Printing.ReadingBack.{IsRuleOffset}
 use Rattle.gix_date.specs.declared.parsing.raw.RawOffsets.{RawOffsets}
 use Rattle.gix_date.specs.declared.time.Time.{Time}
 
--- reading a text and writing what was read gives the text back
+-- reading the text and writing what was read gives the text back
 pub record ComesBack (text : List ℕ) : Type 0 where
   pub time : Time
   pub is_read : header_time text ≡ Some time
   pub is_written : header_text time ≡ Some text
 
--- a text comes back exactly where it is canonical
+-- the text comes back iff it is canonical
 abbrev pub CanonicalComesBack : List ℕ → Type 0
 CanonicalComesBack text = ComesBack text ↔ (is_canonical_header text ≡ true)
 
--- a time has a header text, and is read from it
+-- the time has a header text, and is read from it
 abbrev pub ComesBackFromHeader : Time → Type 0
 ComesBackFromHeader t = IsSomeAnd (header_text t) (λ text. header_time text ≡ Some t)
 
--- two times are alike in a header: their seconds agree, whether the offset is negative, and its whole minutes
+-- the times have equal seconds, equal signs of their offsets, and equal whole minutes of these
 abbrev pub AreAlike : Time → Time → Type 0
 AreAlike a b =
     (a.seconds ≡ b.seconds)
     × (int_lt a.offset (pos 0) ≡ int_lt b.offset (pos 0))
     × (unsigned_abs a.offset / seconds_per_minute ≡ unsigned_abs b.offset / seconds_per_minute)
 
--- two times have the same header text exactly where they are alike
+-- the times have the same header text iff they are alike
 abbrev pub AreWrittenAlike : Time → Time → Type 0
 AreWrittenAlike a b = (header_text a ≡ header_text b) ↔ AreAlike a b
 

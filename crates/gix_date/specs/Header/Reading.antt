@@ -12,24 +12,24 @@ use Rattle.gix_date.specs.declared.error.Error.TheVariants.{InvalidTime}
 use Rattle.gix_date.specs.declared.time.Time.{Time}
 
 -- what the first word says: its value as an int text, else that of the digits it begins with
-unfoldable pub seconds_said : List ℕ → Option ℤ
-seconds_said word = option_or (int_value word) (int_value (take_while is_ascii_digit word))
+unfoldable pub header_seconds : List ℕ → Option ℤ
+header_seconds word = option_or (int_value word) (int_value (take_while is_ascii_digit word))
 
 -- what the second word says: the offset of its fields, with no limit on any, and any other word is 0
-unfoldable pub offset_said : List ℕ → ℤ
-offset_said word = option_map_or offset_of (offset_fields word) (pos 0)
+unfoldable pub header_offset : List ℕ → ℤ
+header_offset word = option_map_or offset_of (offset_fields word) (pos 0)
 
 -- The time that the words say. The second has a say only where the two are all.
 unfoldable pub time_of_words : List (List ℕ) → Option Time
 time_of_words words = do
   first ← first_words words
-  seconds ← seconds_said first.0
-  Some (record { seconds = seconds; offset = option_map_or offset_said first.1 (pos 0) })
+  seconds ← header_seconds first.0
+  Some (record { seconds = seconds; offset = option_map_or header_offset first.1 (pos 0) })
 
--- The time that a header says. None where there is a colon, or no word, or the first says no seconds.
+-- the time that a header says; `None` if there is a colon, or no word, or if the first word says no seconds
 unfoldable pub header_time : List ℕ → Option Time
 header_time text = if has_colon text then None else time_of_words (space_words text)
 
--- the time that a header says, or the fault of one that says none
+-- the result is the time that a header says, or `InvalidTime` if it says none
 abbrev pub ReadsHeader : List ℕ → Result Time Error → Type 0
 ReadsHeader text result = result ≡ ok_or (header_time text) InvalidTime

@@ -5,17 +5,18 @@ use Rattle.std.specs.Option.{option_map_or}
 use Rattle.std.specs.Str.{bytes_eq}
 use Rattle.gix_date.specs.Fields.ClockNumbers.{hours_in, minutes_in}
 use Rattle.gix_date.specs.Text.Characters.{space, plus, minus}
-use Rattle.gix_date.specs.Devices.Known.{Known, Takes, TakesProperPrefix, TakesNothing}
+use Rattle.gix_date.specs.Devices.StreamState.{StreamState, Takes, TakesProperPrefix, TakesNothing}
 use Rattle.gix_date.specs.Text.Numbers.{decimal_text, two_digits}
 use Rattle.gix_date.specs.declared.error.Error.{Error}
 use Rattle.gix_date.specs.declared.error.Error.TheVariants.{OffsetTooWide, Write}
 use Rattle.gix_date.specs.declared.time.Time.{Time}
 use Rattle.gix_date.specs.declared.time.write.TheConstants.{HUNDRED_HOURS, MAX_TEXT_LEN}
 
--- the least seconds of an offset without a text, and the most bytes of a text
+-- the least seconds of an offset without a header text: 360000
 abbrev pub hundred_hours : ℕ
 hundred_hours = HUNDRED_HOURS
 
+-- the most bytes of a header text: 26
 abbrev pub max_text_len : ℕ
 max_text_len = MAX_TEXT_LEN
 
@@ -31,32 +32,33 @@ hours_and_minutes seconds = two_digits (hours_in seconds) ++ two_digits (minutes
 abbrev pub compact_offset_text : ℤ → List ℕ
 compact_offset_text offset = offset_sign offset ∷ hours_and_minutes (unsigned_abs offset)
 
--- the seconds, a space and the offset
+-- the seconds in decimal, a space and the offset as `+hhmm`, whatever the offset
 abbrev pub written_text : Time → List ℕ
 written_text t = decimal_text t.seconds ++ space ∷ compact_offset_text t.offset
 
--- the header text of a time: none where the offset is 100 hours or more either way
+-- the header text of a time; `None` if the offset is 100 hours or more either way
 unfoldable pub header_text : Time → Option (List ℕ)
 header_text t = if nat_lt (unsigned_abs t.offset) hundred_hours then Some (written_text t) else None
 
--- whether the time has a header text, and it is this one
+-- whether this is the header text of the time
 abbrev pub is_header_text_of : Time → List ℕ → Bool
 is_header_text_of t text = option_map_or (λ written. bytes_eq written text) (header_text t) false
 
--- What writing a time came to: the writer took all of the text, or no byte, or a proper prefix and has that fault.
-abbrev pub Writes : Time → Known → Known → Result Unit Error → Type 0
+-- What writing a time results in: the writer took all of the header text; or there is none, `OffsetTooWide`, and it
+-- took no byte; or it took a proper prefix and has that fault.
+abbrev pub Writes : Time → StreamState → StreamState → Result Unit Error → Type 0
 Writes t old new (Ok _) = IsSomeAnd (header_text t) (Takes old new)
 Writes t old new (Err OffsetTooWide) = (header_text t ≡ None) × TakesNothing old new
 Writes t old new (Err (Write kind)) = IsSomeAnd (header_text t) (TakesProperPrefix old new) × (new.fault ≡ Some kind)
 Writes t old new (Err _) = ⊥
 
--- the header text of a time, or the refusal of one that has none
+-- the result is the header text of the time, or `OffsetTooWide` if there is none
 abbrev pub GivesText : Time → Result (Bor (List ℕ)) Error → Type 0
 GivesText t (Ok text) = header_text t ≡ Some text.now
 GivesText t (Err OffsetTooWide) = header_text t ≡ None
 GivesText t (Err _) = ⊥
 
--- what stays in the buffer: the text that was lent, and nothing after a refusal
+-- what stays in the buffer after `to_str`: the lent text, or nothing after a refusal
 abbrev pub text_left : Result (Bor (List ℕ)) Error → List ℕ
 text_left (Ok text) = text.now
 text_left (Err _) = []

@@ -43,52 +43,53 @@ IsUnprinted pattern z =
     ((e : JiffError) × IsShown pattern z (Err e))
     ⊎ ((shown : List ℕ) × IsShown pattern z (Ok shown) × (IsUtf8 shown → ⊥))
 
--- a zoned value of that time has this
+-- the time has a zoned value of which `Has` holds
 abbrev pub AtMoment : Time → (PlainZoned → Type 0) → Type 0
 AtMoment t Has = (z : Zoned) × IsMoment t z × Has (plain_zoned z)
 
--- the seconds of a time in decimal
+-- the result is the seconds of a time in decimal, or `Memory`
 abbrev pub PrintsSeconds : Time → Result (String Global) Error → Type 0
 PrintsSeconds t result =
     MatchResult result (λ text. string_bytes text ≡ decimal_text t.seconds) (λ e. e ≡ errors.Memory)
 
--- the header text of a time, where it has one; memory is no matter where it has none
+-- the result is the header text of the time, or `Memory` for it, or `OffsetTooWide` if there is none
 abbrev pub PrintsHeader : Time → Result (String Global) Error → Type 0
 PrintsHeader t result =
     MatchResult result (λ text. header_text t ≡ Some (string_bytes text))
     (λ e. ((e ≡ errors.OffsetTooWide) × (header_text t ≡ None)) ⊎ ((e ≡ errors.Memory) × IsSome (header_text t)))
 
--- what a pattern shows of a time, where the time converts; memory is no matter where it does not
-abbrev pub PrintsBy : Time → List ℕ → Result (String Global) Error → Type 0
-PrintsBy t pattern result =
+-- What printing by a pattern results in: `Conversion` if the time does not convert; else the text that `IsShown`,
+-- `Pattern` if `jiff` refuses the pattern or shows no UTF-8, or `Memory`.
+abbrev pub PrintsPattern : Time → List ℕ → Result (String Global) Error → Type 0
+PrintsPattern t pattern result =
     MatchResult result (λ text. AtMoment t (λ z. IsShown pattern z (Ok (string_bytes text))))
     (λ e. ((e ≡ errors.Conversion) × (IsConvertible t → ⊥)) ⊎ ((e ≡ errors.Memory) × IsConvertible t)
     ⊎ ((e ≡ errors.Pattern) × AtMoment t (IsUnprinted pattern)))
 
--- what printing a time in a format comes to
+-- what printing in a format results in: `PrintsSeconds`, `PrintsHeader`, or `PrintsPattern` its pattern
 abbrev pub Prints : Time → Format → Result (String Global) Error → Type 0
 Prints t Unix result = PrintsSeconds t result
 Prints t Raw result = PrintsHeader t result
-Prints t (Custom format) result = PrintsBy t format.pattern.now result
+Prints t (Custom format) result = PrintsPattern t format.pattern.now result
 
--- a time has no text by a pattern
-abbrev pub HasNoTextBy : Time → List ℕ → Type 0
-HasNoTextBy t pattern = (IsConvertible t → ⊥) ⊎ AtMoment t (IsUnprinted pattern)
+-- the time has no text by the pattern: it does not convert, or the printer refuses or shows no UTF-8
+abbrev pub HasNoPatternText : Time → List ℕ → Type 0
+HasNoPatternText t pattern = (IsConvertible t → ⊥) ⊎ AtMoment t (IsUnprinted pattern)
 
--- what a pattern shows of a time, or the seconds for a time that has no text by it
-abbrev pub PrintsByOrSeconds : Time → List ℕ → Result (String Global) Error → Type 0
-PrintsByOrSeconds t pattern result =
+-- what printing by a pattern results in, with the seconds in decimal for a time that has no text by it
+abbrev pub PrintsPatternOrSeconds : Time → List ℕ → Result (String Global) Error → Type 0
+PrintsPatternOrSeconds t pattern result =
     MatchResult result
-    (λ text. PrintsBy t pattern (Ok text) ⊎ (HasNoTextBy t pattern × (string_bytes text ≡ decimal_text t.seconds)))
+    (λ text. PrintsPattern t pattern (Ok text) ⊎ (HasNoPatternText t pattern × (string_bytes text ≡ decimal_text t.seconds)))
     (λ e. e ≡ errors.Memory)
 
--- a time has no text in a format
+-- the time has no text in the format
 abbrev pub HasNoText : Time → Format → Type 0
 HasNoText t Unix = ⊥
 HasNoText t Raw = header_text t ≡ None
-HasNoText t (Custom format) = HasNoTextBy t format.pattern.now
+HasNoText t (Custom format) = HasNoPatternText t format.pattern.now
 
--- what printing comes to with the seconds for a time that has no text in that format
+-- what printing in a format results in, with the seconds in decimal for a time that has no text in it
 abbrev pub PrintsOrSeconds : Time → Format → Result (String Global) Error → Type 0
 PrintsOrSeconds t format result =
     MatchResult result

@@ -37,14 +37,15 @@ january_date (year, before) =
 unfoldable pub date_of_day : ℤ → ℤ × ℕ × ℕ
 date_of_day day = january_date (march_year (unsigned_abs (day +ℤ pos 4_371_953) - 60))
 
--- the seconds that a time's own clock has counted since 1970-01-01 00:00:00, the days of these, and the seconds of its
--- day
+-- the seconds that a time's own clock has counted since 1970-01-01 00:00:00
 abbrev pub local_seconds : Time → ℤ
 local_seconds t = t.seconds +ℤ t.offset
 
+-- the day number by the time's own clock, from 0 for 1970-01-01
 abbrev pub local_day : Time → ℤ
 local_day t = int_div_euclid (local_seconds t) (pos seconds_per_day)
 
+-- the seconds since midnight by the time's own clock
 abbrev pub second_of_day : Time → ℕ
 second_of_day t = unsigned_abs (int_rem_euclid (local_seconds t) (pos seconds_per_day))
 
@@ -60,14 +61,15 @@ clock_of t =
       offset = t.offset;
     }
 
--- the first second of the year 1000 by a clock, and the last of the year 9999
-abbrev pub first_ordinary : ℤ
-first_ordinary = neg_ℤ (pos 30_610_224_000)
+-- the first second of the year 1000 by a clock
+abbrev pub first_of_year_1000 : ℤ
+first_of_year_1000 = neg_ℤ (pos 30_610_224_000)
 
-abbrev pub last_ordinary : ℤ
-last_ordinary = pos 253_402_300_799
+-- the last second of the year 9999 by a clock
+abbrev pub last_of_year_9999 : ℤ
+last_of_year_9999 = pos 253_402_300_799
 
 -- the time's own clock shows a year of four digits, and its offset is whole minutes
-pub record HasOrdinaryClock (t : Time) : Type 0 where
-  pub in_years : IsBetween first_ordinary last_ordinary (local_seconds t)
+pub record HasFourDigitFields (t : Time) : Type 0 where
+  pub in_years : IsBetween first_of_year_1000 last_of_year_9999 (local_seconds t)
   pub minutes : unsigned_abs t.offset % seconds_per_minute ≡ 0

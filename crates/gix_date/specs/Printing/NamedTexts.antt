@@ -10,7 +10,7 @@ use Rattle.gix_date.specs.Text.Numbers.{two_digits}
 use Rattle.gix_date.specs.Families.Patterns.{short_layout, rfc2822_layout, iso8601_layout, iso8601_strict_layout, gitoxide_layout, default_layout}
 use Rattle.gix_date.specs.Printing.Formats.{IsShown, IsUnprinted}
 
--- what a zone's clock shows
+-- what the clock of a zoned value shows
 abbrev pub local_time : PlainZoned → LocalTime
 local_time z = record {
   weekday = weekday_of z.datetime.date;
@@ -19,60 +19,72 @@ local_time z = record {
   offset = z.offset.seconds;
 }
 
--- the year has four digits, and the offset whole minutes
-pub record IsOrdinary (z : PlainZoned) : Type 0 where
+-- the year of a zoned value has four digits, and its offset is whole minutes
+pub record ShowsFourDigitFields (z : PlainZoned) : Type 0 where
   pub year : ℕ
   pub year_is : z.datetime.date.year ≡ pos year
   pub low : 1000 ≤ year
   pub high : year ≤ 9999
   pub minutes : unsigned_abs z.offset.seconds % seconds_per_minute ≡ 0
 
--- The pattern of each named format, and the text that it shows: the pieces of a formatted date, with the day of the
--- month in two digits or in as few as it has.
+-- the pattern of `SHORT`
 abbrev pub short_pattern : List ℕ
 short_pattern = codes "%Y-%m-%d"
 
+-- the text of a clock by `SHORT`, such as `2022-08-08`
 abbrev pub short_text : LocalTime → List ℕ
 short_text t = print_pieces two_digits short_layout t
 
+-- the pattern of `RFC2822`
 abbrev pub rfc2822_pattern : List ℕ
 rfc2822_pattern = codes "%a, %d %b %Y %H:%M:%S %z"
 
+-- the text of a clock by `RFC2822`, such as `Mon, 08 Aug 2022 12:45:06 +0800`
 abbrev pub rfc2822_text : LocalTime → List ℕ
 rfc2822_text t = print_pieces two_digits rfc2822_layout t
 
+-- the pattern of `GIT_RFC2822`
 abbrev pub git_rfc2822_pattern : List ℕ
 git_rfc2822_pattern = codes "%a, %-d %b %Y %H:%M:%S %z"
 
+-- the text of a clock by `GIT_RFC2822`, such as `Mon, 8 Aug 2022 12:45:06 +0800`
 abbrev pub git_rfc2822_text : LocalTime → List ℕ
 git_rfc2822_text t = print_pieces decimal rfc2822_layout t
 
+-- the pattern of `ISO8601`
 abbrev pub iso8601_pattern : List ℕ
 iso8601_pattern = codes "%Y-%m-%d %H:%M:%S %z"
 
+-- the text of a clock by `ISO8601`, such as `2022-08-08 12:45:06 +0800`
 abbrev pub iso8601_text : LocalTime → List ℕ
 iso8601_text t = print_pieces two_digits iso8601_layout t
 
+-- the pattern of `ISO8601_STRICT`
 abbrev pub iso8601_strict_pattern : List ℕ
 iso8601_strict_pattern = codes "%Y-%m-%dT%H:%M:%S%:z"
 
+-- the text of a clock by `ISO8601_STRICT`, such as `2022-08-08T12:45:06+08:00`
 abbrev pub iso8601_strict_text : LocalTime → List ℕ
 iso8601_strict_text t = print_pieces two_digits iso8601_strict_layout t
 
+-- the pattern of `GITOXIDE`
 abbrev pub gitoxide_pattern : List ℕ
 gitoxide_pattern = codes "%a %b %d %Y %H:%M:%S %z"
 
+-- the text of a clock by `GITOXIDE`, such as `Mon Aug 08 2022 12:45:06 +0800`
 abbrev pub gitoxide_text : LocalTime → List ℕ
 gitoxide_text t = print_pieces two_digits gitoxide_layout t
 
+-- the pattern of `DEFAULT`
 abbrev pub default_pattern : List ℕ
 default_pattern = codes "%a %b %-d %H:%M:%S %Y %z"
 
+-- the text of a clock by `DEFAULT`, such as `Mon Aug 8 12:45:06 2022 +0800`
 abbrev pub default_text : LocalTime → List ℕ
 default_text t = print_pieces decimal default_layout t
 
--- by this pattern an ordinary zoned value is printed so, and never refused
+-- by this pattern a zoned value with four-digit fields is printed so, and never refused
 abbrev pub ShowsText : List ℕ → (LocalTime → List ℕ) → Type 0
 ShowsText pattern text =
-    (z : PlainZoned) → IsOrdinary z
+    (z : PlainZoned) → ShowsFourDigitFields z
     → ((shown : Shown) → IsShown pattern z shown → shown ≡ Ok (text (local_time z))) × (IsUnprinted pattern z → ⊥)

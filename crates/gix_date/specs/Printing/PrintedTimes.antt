@@ -2,20 +2,20 @@
 use Rattle.std.specs.Prelude.{◌≡◌, ◌⊎◌, ℕ, List, Result, MatchResult, String, string_bytes}
 use Rattle.std.specs.Global.{Global}
 use Rattle.gix_date.specs.Fields.Layout.{LocalTime}
-use Rattle.gix_date.specs.Printing.LocalClocks.{clock_of, HasOrdinaryClock}
-use Rattle.gix_date.specs.Printing.Formats.{PrintsBy}
+use Rattle.gix_date.specs.Printing.LocalClocks.{clock_of, HasFourDigitFields}
+use Rattle.gix_date.specs.Printing.Formats.{PrintsPattern}
 use Rattle.gix_date.specs.Printing.Zoned.{IsConvertible}
 use Rattle.gix_date.specs.declared.error.Error.{Error}
 use Rattle.gix_date.specs.declared.error.Error.TheVariants as errors
 use Rattle.gix_date.specs.declared.time.Time.{Time}
 
--- the text of what the time's own clock shows; it is refused when out of memory, or where the time does not convert
+-- the result is the text of what the time's own clock shows; or `Memory`; or `Conversion`, if the time does not convert
 abbrev pub PrintsText : (LocalTime → List ℕ) → Time → Result (String Global) Error → Type 0
 PrintsText text t result =
     MatchResult result (λ s. string_bytes s ≡ text (clock_of t))
     (λ e. (e ≡ errors.Memory) ⊎ ((e ≡ errors.Conversion) × (IsConvertible t → ⊥)))
 
--- by the pattern a time with an ordinary clock is printed so
+-- if the time's own clock is ordinary, the pattern prints it as this text, by `PrintsText`
 abbrev pub IsPrintedAs : List ℕ → (LocalTime → List ℕ) → Time → Type 0
 IsPrintedAs pattern text t =
-    HasOrdinaryClock t → (result : Result (String Global) Error) → PrintsBy t pattern result → PrintsText text t result
+    HasFourDigitFields t → (result : Result (String Global) Error) → PrintsPattern t pattern result → PrintsText text t result

@@ -17,8 +17,8 @@ use Rattle.gix_date.specs.declared.parsing.offset.OffsetFields.{OffsetFields}
 use Rattle.gix_date.specs.declared.time.Time.{Time}
 
 -- hours, minutes and seconds of two digits at the front, after what `gap` takes
-abbrev pub read_clock_by : (List ℕ → Option (List ℕ)) → List ℕ → ReadFront ClockFields
-read_clock_by gap text = do
+abbrev pub read_clock_with : (List ℕ → Option (List ℕ)) → List ℕ → ReadFront ClockFields
+read_clock_with gap text = do
   hour ← read_two_digits text
   rest ← gap hour.1
   minute ← read_two_digits rest
@@ -28,11 +28,11 @@ read_clock_by gap text = do
 
 -- `HH:MM:SS` at the front
 unfoldable pub read_colon_clock : List ℕ → ReadFront ClockFields
-read_colon_clock text = read_clock_by (skip_char colon) text
+read_colon_clock text = read_clock_with (skip_char colon) text
 
 -- `HHMMSS` at the front
 unfoldable pub read_bare_clock : List ℕ → ReadFront ClockFields
-read_bare_clock text = read_clock_by Some text
+read_bare_clock text = read_clock_with Some text
 
 -- one of these
 unfoldable pub read_whole_clock : List ℕ → ReadFront ClockFields

@@ -7,7 +7,7 @@ use Rattle.jiff_strtime.specs.Text.{parts_of}
 use Rattle.jiff_strtime.specs.declared.tm.BrokenDownTime.{BrokenDownTime}
 use Rattle.gix_date.specs.Fields.Layout.{LocalTime}
 use Rattle.gix_date.specs.Printing.Formats.{ArePrinted, IsShown}
-use Rattle.gix_date.specs.Printing.NamedTexts.{local_time, IsOrdinary}
+use Rattle.gix_date.specs.Printing.NamedTexts.{local_time, ShowsFourDigitFields}
 use Rattle.gix_date.specs.declared.time.named.LocalMoment.{LocalMoment}
 
 -- the same in the fields of a formatted date
@@ -22,10 +22,10 @@ pub record HasFields (t : LocalMoment) : Type 0 where
   pub day : t.date.day < 100
   pub offset : unsigned_abs t.offset < 360000
 
--- by this pattern each ordinary zoned value whose clock shows this is printed so
+-- by this pattern each zoned value with four-digit fields whose clock shows this is printed so
 abbrev pub IsShownByAll : List ℕ → LocalTime → List ℕ → Type 0
 IsShownByAll pattern local text =
-    (z : PlainZoned) → IsOrdinary z → local_time z ≡ local → IsShown pattern z (Ok text)
+    (z : PlainZoned) → ShowsFourDigitFields z → local_time z ≡ local → IsShown pattern z (Ok text)
 
 -- there are parts of a zoned value that are printed
 abbrev pub HasParts : PlainZoned → Type 0

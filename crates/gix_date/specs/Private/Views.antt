@@ -2,9 +2,9 @@
 use Rattle.std.specs.Prelude.{ℕ, List, Option, option_map, option_copied}
 use Rattle.std.specs.Borrow.{Bor}
 use Rattle.jiff.specs.Words.{IsOffsetSeconds}
-use Rattle.gix_date.specs.Families.Answer.{FamilyAnswer, Absolute, OffsetBeyond, InstantBeyond, Relative}
+use Rattle.gix_date.specs.Families.Answer.{FamilyAnswer, Absolute, OffsetAboveDay, NoInstant, Relative}
 use Rattle.gix_date.specs.Fields.Front.{ReadFront}
-use Rattle.gix_date.specs.Relative.Dates.{RelativeDate, Before, Less}
+use Rattle.gix_date.specs.Relative.Dates.{RelativeDate, MinusSeconds, MinusPairs}
 use Rattle.gix_date.specs.Relative.Words.{relative_words}
 use Rattle.gix_date.specs.Relative.Roles.{pairs}
 use Rattle.gix_date.specs.declared.parsing.answer.Answer.{Answer}
@@ -14,14 +14,14 @@ use Rattle.gix_date.specs.declared.parsing.relative.Relative.TheVariants as text
 
 -- what a relative text asks for: the pairs are those of its words
 abbrev pub relative_date_of : RelativeText → RelativeDate
-relative_date_of (text.Before seconds) = Before seconds
-relative_date_of (text.Pairs found) = Less (pairs (relative_words found.now))
+relative_date_of (text.MinusSeconds seconds) = MinusSeconds seconds
+relative_date_of (text.MinusPairs found) = MinusPairs (pairs (relative_words found.now))
 
 -- what a text says
 abbrev pub answer_of : Answer → FamilyAnswer
 answer_of (answer.Absolute t) = Absolute t
-answer_of answer.OffsetBeyond = OffsetBeyond
-answer_of answer.InstantBeyond = InstantBeyond
+answer_of answer.OffsetAboveDay = OffsetAboveDay
+answer_of answer.NoInstant = NoInstant
 answer_of (answer.Relative found) = Relative (relative_date_of found)
 
 -- an offset that is said is that of a zone

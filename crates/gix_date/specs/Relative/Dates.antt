@@ -19,15 +19,15 @@ use Rattle.gix_date.specs.declared.time.Time.{Time}
 -- what a relative text asks for
 pub data RelativeDate : Type 0 where
   -- so many seconds before the moment
-  Before : ℤ → RelativeDate
-  -- the moment, with one pair after the other taken off
-  Less : List (ℤ × TimeUnit) → RelativeDate
+  MinusSeconds : ℤ → RelativeDate
+  -- one pair of count and unit after the other subtracted from the moment
+  MinusPairs : List (ℤ × TimeUnit) → RelativeDate
 
 -- the relative dates by their names
 abbrev pub date_names : List (List ℕ × RelativeDate)
 date_names =
-    (codes "now", Before (pos 0)) ∷ (codes "today", Before (pos 0))
-    ∷ (codes "yesterday", Before (pos seconds_per_day)) ∷ []
+    (codes "now", MinusSeconds (pos 0)) ∷ (codes "today", MinusSeconds (pos 0))
+    ∷ (codes "yesterday", MinusSeconds (pos seconds_per_day)) ∷ []
 
 -- `now`, `today` or `yesterday`, alone
 unfoldable pub named_date : List ℕ → Option RelativeDate
@@ -35,25 +35,25 @@ named_date name = named_in date_names name
 
 -- pairs of counts and periods
 unfoldable pub pairs_date : List ℕ → Option RelativeDate
-pairs_date text = if are_pairs (relative_words text) then Some (Less (pairs (relative_words text))) else None
+pairs_date text = if are_pairs (relative_words text) then Some (MinusPairs (pairs (relative_words text))) else None
 
--- what a text asks for, where it is relative
+-- what the text asks for; `None` if it is not relative
 unfoldable pub relative_date : List ℕ → Option RelativeDate
 relative_date text = option_or (named_date (trim text)) (pairs_date text)
 
--- the instant that a relative date names, from an instant in a zone
+-- the date names this instant in the zone, counted from the instant `moment`, both in nanoseconds
 abbrev pub Reaches : RelativeDate → TimeZone → ℤ → ℤ → Type 0
-Reaches (Before seconds) tz moment instant = (instant ≡ moment -ℤ nanos_of_seconds seconds) × IsTimestampNanos instant
-Reaches (Less list) tz moment instant = (start : ℤ) × Settles tz moment start × Chain tz list start instant
+Reaches (MinusSeconds seconds) tz moment instant = (instant ≡ moment -ℤ nanos_of_seconds seconds) × IsTimestampNanos instant
+Reaches (MinusPairs list) tz moment instant = (start : ℤ) × Settles tz moment start × Chain tz list start instant
 
--- the time that a relative date names from a moment: whole seconds, and the offset of the moment's zone there
+-- the date names this time from the moment: whole seconds, and the offset of the moment's zone there
 pub record IsNamed (date : RelativeDate) (moment : Zoned) (t : Time) : Type 0 where
   pub instant : ℤ
   pub reaches : Reaches date (zone_of moment) (zoned_nanos moment) instant
   pub seconds_is : t.seconds ≡ whole_seconds instant
   pub offset_is : t.offset ≡ offset_at (zone_of moment) instant
 
--- What a call comes to by a relative date and this moment, or none.
+-- what a relative date results in: a time that `IsNamed`; `Range` if there is none; `MissingNow` without a moment
 abbrev pub RelativeOutcome : RelativeDate → Option Zoned → Result Time ParseError → Type 0
 RelativeOutcome date None result = result ≡ Err MissingNow
 RelativeOutcome date (Some moment) (Ok t) = IsNamed date moment t
@@ -64,6 +64,6 @@ abbrev pub AreNamedOnce : Type 0
 AreNamedOnce =
     (date : RelativeDate) (moment : Zoned) (a b : Time) → IsNamed date moment a → IsNamed date moment b → a ≡ b
 
--- each time that a relative date names is one of `jiff`: an instant, and an offset of a zone
+-- each time that a relative date names converts
 abbrev pub AreConvertible : Type 0
 AreConvertible = (date : RelativeDate) (moment : Zoned) (t : Time) → IsNamed date moment t → IsConvertible t

@@ -20,12 +20,12 @@ unfoldable pub count_run : List (List ℕ) → ℕ
 count_run words = prefix_len is_count_word (reverse words)
 
 -- the word after these is no period: an even number of count words stands directly before it
-abbrev pub is_no_period : List (List ℕ) → Bool
-is_no_period front = is_even (count_run front)
+abbrev pub next_is_free : List (List ℕ) → Bool
+next_is_free front = is_even (count_run front)
 
 -- a count stands here: a count word that is no period
 abbrev pub is_count : Place → Bool
-is_count p = is_no_period p.front && is_count_word p.word
+is_count p = next_is_free p.front && is_count_word p.word
 
 abbrev pub has_next : List (List ℕ) → Bool
 has_next [] = false
@@ -37,7 +37,7 @@ next_is_unit (period ∷ back) = has_unit period
 
 -- the flag: some `ago` is no period
 unfoldable pub has_flag : List (List ℕ) → Bool
-has_flag words = list_any (λ p. is_no_period p.front && is_ago p.word) (places words)
+has_flag words = list_any (λ p. next_is_free p.front && is_ago p.word) (places words)
 
 -- some count has a period
 unfoldable pub has_pair : List (List ℕ) → Bool
@@ -60,4 +60,4 @@ pair_here false count back = []
 
 -- the pairs of counts and units, in order
 unfoldable pub pairs : List (List ℕ) → List (ℤ × TimeUnit)
-pairs words = flat_map (λ p. pair_here (is_no_period p.front) (count_of p.word) p.back) (places words)
+pairs words = flat_map (λ p. pair_here (next_is_free p.front) (count_of p.word) p.back) (places words)

@@ -20,20 +20,20 @@ IsLocal tz instant shown = civil_nanos shown ≡ instant +ℤ nanos_of_seconds (
 abbrev pub civil_of : ℤ → Time → ℤ
 civil_of day time = day *ℤ pos 86_400_000_000_000 +ℤ pos (time_nanos time)
 
--- the instant that the zone chooses for the datetime of these nanoseconds
+-- the zone chooses this instant for the date and clock of these nanoseconds
 pub record IsPicked (tz : TimeZone) (civil instant : ℤ) : Type 0 where
   pub shown : DateTime
   pub civil_is : civil_nanos shown ≡ civil
   pub is_choice : instant ≡ picked_instant tz shown
   pub in_range : IsTimestampNanos instant
 
--- the instant that the zone chooses for what its clock shows at this one
+-- the zone chooses the instant `after` for what its clock shows at `instant`
 pub record Settles (tz : TimeZone) (instant after : ℤ) : Type 0 where
   pub local : DateTime
   pub local_is : IsLocal tz instant local
   pub picked : IsPicked tz (civil_nanos local) after
 
--- seconds off the instant, and what the zone chooses there
+-- so many seconds before `instant` the zone chooses `after`
 pub record SecondsStep (tz : TimeZone) (seconds instant after : ℤ) : Type 0 where
   pub in_range : IsTimestampNanos (instant -ℤ nanos_of_seconds seconds)
   pub settles : Settles tz (instant -ℤ nanos_of_seconds seconds) after
@@ -47,7 +47,7 @@ month_start number =
 abbrev pub rolled_day : ℤ → Date → ℤ
 rolled_day number date = month_start number +ℤ (pos date.day -ℤ pos 1)
 
--- months off the month that the zone's clock shows, with its day and time, and what the zone chooses there
+-- for the day and clock so many months before those at `instant` the zone chooses `after`
 pub record MonthsStep (tz : TimeZone) (months instant after : ℤ) : Type 0 where
   pub local : DateTime
   pub local_is : IsLocal tz instant local
@@ -55,14 +55,14 @@ pub record MonthsStep (tz : TimeZone) (months instant after : ℤ) : Type 0 wher
   pub year_in : IsYear (int_div_euclid (month_number local.date -ℤ months) (pos 12))
   pub picked : IsPicked tz (civil_of (rolled_day (month_number local.date -ℤ months) local.date) local.time) after
 
--- that many of a unit off the instant
+-- one pair of count and unit leads from `instant` back to `after`
 abbrev pub PairStep : TimeZone → ℤ × TimeUnit → ℤ → ℤ → Type 0
 PairStep tz (count, Seconds size) instant after =
     FitsSigned w64 (count *ℤ size) × SecondsStep tz (count *ℤ size) instant after
 PairStep tz (count, Months size) instant after =
     FitsSigned w64 (count *ℤ size) × MonthsStep tz (count *ℤ size) instant after
 
--- one pair after the other off the instant
+-- the pairs, one after the other, lead from `instant` back to `after`
 abbrev pub Chain : TimeZone → List (ℤ × TimeUnit) → ℤ → ℤ → Type 0
 Chain tz [] instant after = after ≡ instant
 Chain tz (pair ∷ more) instant after = (between : ℤ) × PairStep tz pair instant between × Chain tz more between after

@@ -1,50 +1,8 @@
 //! Laws of families: how formatted dates are written, which families share texts, and whose answer comes first.
-ghost use Rattle.std.specs.Prelude.{◌≡◌, None};
-ghost use Rattle.std.specs.Str.{trim};
-ghost use Rattle.gix_date.specs.Header.Reading.{header_time};
-ghost use Rattle.gix_date.specs.Families.Order.{RawText, BareEpoch, Iso8601, Iso8601Strict, GitForm, RelativeText};
-ghost use Rattle.gix_date.specs.Families.Laws.{Agree, AnswersWithinDay, AreApart, AreDisjoint, AreExclusive, AreOverlapping, ComesFirst, IsWidened, IgnoresMoment, HasOneOutcome, IgnoresCase, IgnoresSpace, Holds, AnswersHaveText};
-ghost use Rattle.gix_date.specs.Families.Raw.{allows, is_raw_offset, is_wide_offset, raw_time_by};
-ghost use Rattle.gix_date.specs.Families.Epoch.{at_time, epoch_time};
-ghost use Rattle.gix_date.specs.Families.Grammars.{IsAtText, IsEpochText, IsRawText};
-ghost use Rattle.gix_date.specs.Git.Forms.{git_time};
-ghost use Rattle.gix_date.specs.Git.Grammar.{IsGitText};
-ghost use Rattle.gix_date.specs.Relative.Dates.{relative_date};
-ghost use Rattle.gix_date.specs.Families.Shapes.{IsDispatched, IsInItsRow};
-ghost use Rattle.gix_date.specs.Families.Patterns.{short_layout, rfc2822_layout, iso8601_layout, iso8601_strict_layout, gitoxide_layout, default_layout, time_answer, real_day_answer, short_answer, rfc2822_answer, iso8601_answer, iso8601_strict_answer, gitoxide_answer, default_answer, Spells, IsAnswered};
+ghost use Rattle.gix_date.specs.Families.Laws.{AreDisjoint, AreExclusive};
+ghost use Rattle.gix_date.specs.Families.Raw.{allows, is_raw_offset, is_wide_offset};
 
 use crate::parsing::raw::RawOffsets;
-
-/// A formatted date is a sequence of pieces. Its family answers what the pieces say, and holds each text that is
-/// written so.
-#[tactic(auto, using(crate::proofs::Fields::Layouts::dates_spelled))]
-pub fn spelled()
-    ensures day { Spells short_answer (IsAnswered short_layout real_day_answer) }
-    ensures mail { Spells rfc2822_answer (IsAnswered rfc2822_layout time_answer) }
-    ensures iso8601 { Spells iso8601_answer (IsAnswered iso8601_layout time_answer) }
-    ensures strict { Spells iso8601_strict_answer (IsAnswered iso8601_strict_layout time_answer) }
-    ensures gitoxide { Spells gitoxide_answer (IsAnswered gitoxide_layout time_answer) }
-    ensures by_default { Spells default_answer (IsAnswered default_layout time_answer) }
-{}
-
-/// At texts, bare epochs and raw texts, by either rule. Each family answers what the digits say, and holds each text that
-/// is written so.
-pub fn spelled_numbers(raw: RawOffsets)
-    ensures at_text { Spells (at_time (allows raw)) (IsAtText (allows raw)) }
-    ensures epoch { Spells epoch_time IsEpochText }
-    ensures raw_text { Spells (raw_time_by (allows raw)) (IsRawText (allows raw)) }
-{}
-
-/// Git's own forms hold exactly the texts that are a date, a gap and a rest, with white space around them. The rest is
-/// cut into a clock and an offset (`IsCut`).
-pub fn spelled_git()
-    ensures { Spells git_time IsGitText }
-{}
-
-/// No text is of two of the families before Git's own forms, by any rule for the offsets of raw texts.
-pub fn apart()
-    ensures { AreApart }
-{}
 
 /// No text is of two of these families: raw texts, bare epochs and Git's own forms. No raw text or bare epoch is
 /// relative.
@@ -57,82 +15,8 @@ pub fn disjoint_wide(text: &str)
     ensures { AreDisjoint is_wide_offset text.now }
 {}
 
-/// What one family holds, each family that does not overlap with it refuses, by either rule for the offsets of raw
-/// texts. Two pairs overlap (`overlap`): ISO 8601 or its strict form with Git's own forms, and Git's own forms with
-/// relative texts.
+/// A text of one family is of no other family, unless the two overlap, by either rule for raw offsets. Git's own forms
+/// overlap with ISO 8601, its strict form and relative texts (`overlap`).
 pub fn exclusive(text: &str, raw: RawOffsets)
     ensures { AreExclusive (allows raw) text.now }
-{}
-
-/// Each two families that overlap have a text that both hold.
-pub fn overlapping()
-    ensures { AreOverlapping }
-{}
-
-/// Where ISO 8601 or its strict form and one of Git's own forms hold a text, they answer the same. So their order does not
-/// matter.
-pub fn agree(text: &str, raw: RawOffsets)
-    ensures iso8601 { Agree (allows raw) Iso8601 GitForm text.now }
-    ensures strict { Agree (allows raw) Iso8601Strict GitForm text.now }
-{}
-
-/// The answer of a family that holds the text is the one that `parse_with` uses, by either rule. A relative text has to
-/// be of no Git form. Only for a relative text does the result depend on the moment.
-pub fn comes_first(text: &str, raw: RawOffsets)
-    ensures { ComesFirst (allows raw) text.now }
-{}
-
-/// What the first family answers by the rule of `parse`, it answers by whole minutes too. A text that has an answer by
-/// whole minutes alone is a raw text or an at text.
-pub fn widened(text: &str)
-    ensures { IsWidened text.now }
-{}
-
-/// The first family that holds a text is also the first that holds it among the families of its shape, by either rule.
-/// The first bytes decide the shape, or for a number the whole text (`shape_of`). Few families can hold a text of each
-/// shape (`shape_families`).
-pub fn dispatched(text: &str, raw: RawOffsets)
-    ensures { IsDispatched (allows raw) text.now }
-{}
-
-/// The same by a coarser table of seven rows (`row_families`), by either rule: `@` at the front, a number, a day with
-/// `-`, with `.` or with neither, a letter at the front, and all other texts.
-pub fn dispatched_by_rows(text: &str, raw: RawOffsets)
-    ensures { IsInItsRow (allows raw) text.now }
-{}
-
-/// What `parse_with` may answer at one moment it may answer at every other and without one, by either rule. This holds
-/// for each text that is not relative, such as a raw text or a bare epoch. It also holds for each text in one of Git's
-/// own forms.
-pub fn ignores_moment(text: &str, raw: RawOffsets)
-    ensures plain { relative_date text.now ≡ None → IgnoresMoment (allows raw) text.now }
-    ensures raw { Holds (allows raw) RawText text.now → IgnoresMoment (allows raw) text.now }
-    ensures epoch { Holds (allows raw) BareEpoch text.now → IgnoresMoment (allows raw) text.now }
-    ensures git { Holds (allows raw) GitForm text.now → IgnoresMoment (allows raw) text.now }
-{}
-
-/// A time that a text itself gives has an offset of at most 23:59. Each time that `parse_with` answers has a header text.
-/// Both hold by either rule.
-pub fn ranges(text: &str, raw: RawOffsets)
-    ensures absolute { AnswersWithinDay (allows raw) text.now }
-    ensures written { AnswersHaveText (allows raw) text.now }
-{}
-
-/// The answer of the first family and the moment determine the result of a call that takes no memory.
-pub fn one_outcome()
-    ensures { HasOneOutcome }
-{}
-
-/// White space around a text changes no answer of Git's own forms, relative texts and raw texts, by either rule. It does
-/// not change what a header says.
-pub fn trimmed(text: &str, raw: RawOffsets)
-    ensures git { IgnoresSpace (allows raw) GitForm text.now }
-    ensures relative { IgnoresSpace (allows raw) RelativeText text.now }
-    ensures raw_text { IgnoresSpace (allows raw) RawText text.now }
-    ensures header { header_time (trim text.now) ≡ header_time text.now }
-{}
-
-/// The case of ASCII letters changes nothing that a relative text asks for.
-pub fn any_case(text: &str, raw: RawOffsets)
-    ensures { IgnoresCase (allows raw) RelativeText text.now }
 {}

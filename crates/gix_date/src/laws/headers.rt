@@ -1,37 +1,28 @@
 //! Laws of commit headers: which come back, and which times are written alike.
 ghost use Rattle.std.specs.Prelude.{◌≡◌, ◌<◌, ◌%◌, unsigned_abs};
-ghost use Rattle.gix_date.specs.Header.Laws.{CanonicalComesBack, ComesBackFromHeader, AreWrittenAlike, RawIsHeader, HeaderIsParsed};
-ghost use Rattle.gix_date.specs.Families.Raw.{allows};
+ghost use Rattle.gix_date.specs.Header.Laws.{CanonicalComesBack, ComesBackFromHeader, AreWrittenAlike};
 ghost use Rattle.gix_date.specs.Header.Text.{hundred_hours};
 
-use crate::parsing::raw::RawOffsets;
 use crate::time::Time;
 
-/// Reading a header and writing it gives the same text exactly where the text is canonical. A canonical header is the
+/// Reading a header and writing it gives the same text iff the text is canonical. A canonical header is the
 /// decimal text of an `i64`, one space, a sign, two digits of hours and two of minutes below 60. Its offset is not
 /// `-0000`.
 pub fn canonical(text: &str)
     ensures { CanonicalComesBack text.now }
 {}
 
-/// A time is read back from its header text where its offset is whole minutes, short of 100 hours either way.
+/// A time is read back from its header text, if its offset is whole minutes below 100 hours either way.
 pub fn written_is_read(time: Time)
     requires short { unsigned_abs time.offset < hundred_hours }
     requires whole { unsigned_abs time.offset % 60 ≡ 0 }
     ensures { ComesBackFromHeader time }
 {}
 
-/// Two times with offsets short of 100 hours have the same header text exactly where these agree: the seconds, whether
-/// the offset is negative, and its whole minutes.
+/// Two times with offsets below 100 hours have the same header text iff their seconds are equal, and their offsets have
+/// equal signs and whole minutes.
 pub fn alike(a: Time, b: Time)
     requires first { unsigned_abs a.offset < hundred_hours }
     requires second { unsigned_abs b.offset < hundred_hours }
     ensures { AreWrittenAlike a b }
-{}
-
-/// A raw text is a header of the same time, by either rule. A canonical header whose offset the rule allows is parsed to
-/// the same time.
-pub fn raw_is_header(text: &str, raw: RawOffsets)
-    ensures read { RawIsHeader (allows raw) text.now }
-    ensures canonical { HeaderIsParsed raw text.now }
 {}

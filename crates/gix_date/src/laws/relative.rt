@@ -2,36 +2,18 @@
 ghost use Rattle.std.specs.Prelude.{◌≤◌, [], ◌∷◌, pos, FitsSigned};
 ghost use Rattle.std.specs.Int.{w64};
 ghost use Rattle.std.specs.List.{All};
-ghost use Rattle.gix_date.specs.Relative.FixedZones.{IsSecondsPair, IsMonthsPair, less_seconds, less_months, total, NamesAlike, NamesSum, IgnoresOrder, NamesEarlier, NamesBefore, NamesNoneLater};
-ghost use Rattle.gix_date.specs.Relative.Dates.{Before, AreNamedOnce, AreConvertible};
-ghost use Rattle.gix_date.specs.Relative.Pairs.{IsSpelledSo};
+ghost use Rattle.gix_date.specs.Relative.FixedZones.{IsSecondsPair, IsMonthsPair, less_seconds, less_months, total, NamesAlike, NamesSum, IgnoresOrder};
+ghost use Rattle.gix_date.specs.Relative.Dates.{MinusSeconds};
 ghost use Rattle.gix_date.specs.Relative.Steps.{zone_of};
 ghost use Rattle.jiff.specs.Words.{plain_zoned, IsFixed};
 
-use crate::time::Time;
 use jiff::Zoned;
-
-/// A relative date names at most one time from each moment.
-pub fn named_once()
-    ensures { AreNamedOnce }
-{}
-
-/// Each time that a relative date names is an instant of `jiff`, at an offset of at most 25:59:59.
-pub fn named_converts()
-    ensures { AreConvertible }
-{}
-
-/// Relative texts are the names `now`, `today` and `yesterday` and the texts whose words are pairs. In pairs some count has
-/// a period. Each period of a count is a unit, or some free word is `ago`.
-pub fn spelled_relative(text: &str)
-    ensures { IsSpelledSo text.now }
-{}
 
 /// In a zone of one offset `yesterday` and one pair of a day name the same instant, or neither names an instant. Such a
 /// zone is UTC, an unknown zone, or one that `jiff` makes of an offset.
 pub fn yesterday(moment: &Zoned<'_>)
     requires fixed { IsFixed (zone_of moment.now) }
-    ensures { NamesAlike moment.now (Before (pos 86_400)) (less_seconds ((pos 1, pos 86_400) ∷ [])) }
+    ensures { NamesAlike moment.now (MinusSeconds (pos 86_400)) (less_seconds ((pos 1, pos 86_400) ∷ [])) }
 {}
 
 /// In a zone of one offset pairs of seconds name the moment less their sum. An `i64` has to hold each product, and the
@@ -52,27 +34,4 @@ pub fn months_add(moment: &Zoned<'_>, pairs: &[(i64, i64)])
     requires sum { FitsSigned w64 (total pairs.now) }
     requires day { (plain_zoned moment.now).datetime.date.day ≤ 28 }
     ensures { NamesAlike moment.now (less_months pairs.now) (less_months ((total pairs.now, pos 1) ∷ [])) }
-{}
-
-/// From a time, at its offset, `yesterday` and pairs of seconds name the time that many seconds earlier at the same
-/// offset. This is where that time has an instant, and they name nothing else.
-pub fn earlier(time: Time, pairs: &[(i64, i64)])
-    requires { All IsSecondsPair pairs.now }
-    ensures yesterday { NamesEarlier (Before (pos 86_400)) time (pos 86_400) }
-    ensures pairs { NamesEarlier (less_seconds pairs.now) time (total pairs.now) }
-{}
-
-/// In a zone of one offset `yesterday` and pairs of seconds name the instant that many seconds before the moment. They
-/// name nothing else. The moment may have a fraction of a second.
-pub fn seconds_before(moment: &Zoned<'_>, pairs: &[(i64, i64)])
-    requires fixed { IsFixed (zone_of moment.now) }
-    requires pairs { All IsSecondsPair pairs.now }
-    ensures yesterday { NamesBefore (Before (pos 86_400)) moment.now (pos 86_400) }
-    ensures pairs { NamesBefore (less_seconds pairs.now) moment.now (total pairs.now) }
-{}
-
-/// In a zone of one offset a relative text names no instant after the moment.
-pub fn never_later(text: &str, moment: &Zoned<'_>)
-    requires fixed { IsFixed (zone_of moment.now) }
-    ensures { NamesNoneLater text.now moment.now }
 {}

@@ -7,10 +7,10 @@ use crate::time::Time;
 pub(crate) enum Answer<'a> {
     /// A time, whatever the moment.
     Absolute(Time),
-    /// Nothing: a formatted date whose offset is above 23:59.
-    OffsetBeyond,
-    /// Nothing: a day whose midnight is no instant.
-    InstantBeyond,
-    /// A time that the moment is needed for.
+    /// No time: a formatted date whose offset is above 23:59.
+    OffsetAboveDay,
+    /// No time: a day whose midnight is no instant.
+    NoInstant,
+    /// A relative date, whose time depends on the moment.
     Relative(Relative<'a>),
 }

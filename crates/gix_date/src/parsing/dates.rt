@@ -16,58 +16,39 @@ use crate::error::{Error, InputBytes, ParseError};
 use crate::parsing::answer::Answer;
 use crate::parsing::fast::fast_number;
 use crate::parsing::fields::skip_char;
-use crate::parsing::git::parse_git;
+use crate::parsing::git::parse_git_date_format;
 use crate::parsing::numbers::{fast_int, parse_int};
 use crate::parsing::patterns::{parse_dashed, parse_named_day, parse_rfc2822};
 use crate::parsing::raw::{RawOffsets, fast_raw, parse_raw};
-use crate::parsing::relative::parse_relative;
+use crate::parsing::relative;
 use crate::parsing::shape::Shape;
 use crate::time::{SecondsSinceUnixEpoch, Time};
 use jiff::Zoned;
 use std::alloc::Global;
 
-/// The least seconds that stand for themselves: fewer could be meant as a compact date, as Git has it.
+/// The least seconds of a bare epoch: less could be a compact date, as in Git.
 const MIN_EPOCH: i64 = 100_000_000;
 
-/// Reads a date, by the first of these families that holds the whole text:
+/// Reads a date, by the first of these families, in order, that holds the whole text:
 ///
-/// 1. an at text: `@`, and then a raw text (`@1745582210 +0200`) or seconds with a sign or none (`@-1000`);
-/// 2. a day alone, `2018-12-24`: its midnight in UTC;
-/// 3. a date as in mail (RFC 2822), `Thu, 18 Aug 2022 12:45:06 +0800`, where the day's name and the seconds may be left
-///    out, and the zone may be `UT`, `GMT`, `EDT`, `EST`, `CDT`, `CST`, `MDT`, `MST`, `PDT` or `PST`;
-/// 4. ISO 8601 as Git has it, `2022-08-18 12:45:06 +0800`;
-/// 5. strict ISO 8601, `2022-08-18T12:45:06+08:00`;
-/// 6. gitoxide's form, `Thu Aug 18 2022 12:45:06 +0800`;
-/// 7. Git's default form, `Thu Aug 18 12:45:06 2022 +0800`;
-/// 8. a bare epoch: seconds with a sign or none, of at least 100000000 (`1700000000`);
-/// 9. one of Git's own forms, with white space round it or none: dotted (`2008.02.14 20:30:45 -0500`), compact
-///    (`20080214T203045.019-04:00`) or flexible (`2008-02-14 20:30:45 Z`, `2008-02-14T20 +05`), whose clock and offset
-///    have many widths;
-/// 10. a relative text: `now`, `today` or `yesterday`, with white space round it or none, or pairs of counts and
-///     periods (`2 weeks ago`, `3.days.ago`, `1 month 2 days ago`, `last year`), as Git has them;
-/// 11. a raw text: seconds and an offset in quarters of an hour up to 14:45, with white space round each
-///     (`1660874655 +0800`).
+/// - at text: `@` and a raw text (`@1745582210 +0200`), or `@` and seconds (`@-1000`)
+/// - day alone, at its midnight in UTC: `2018-12-24`
+/// - RFC 2822: `Thu, 18 Aug 2022 12:45:06 +0800`
+/// - ISO 8601, then its strict form: `2022-08-18 12:45:06 +0800`, `2022-08-18T12:45:06+08:00`
+/// - gitoxide's form, then Git's default form: `Thu Aug 18 2022 12:45:06 +0800`, `Thu Aug 18 12:45:06 2022 +0800`
+/// - bare epoch: seconds from 100000000 (`1700000000`)
+/// - one of Git's own forms: `2008.02.14 20:30:45 -0500`, `20080214T203045.019-04:00`, `2008-02-14T20 +05`
+/// - relative text: `now`, `today`, `yesterday`, or counts and periods (`2 weeks ago`, `1 month 2 days ago`, `last
+///   year`)
+/// - raw text: seconds and an offset in quarters of an hour up to 14:45 (`1660874655 +0800`)
 ///
-/// In 2 to 7 a year has four digits, and the other fields of date and clock one or two; names are in any letter case,
-/// and the weekday is not compared with the date; a second of 60 is read as 59; where a space stands there may be more,
-/// and but for mail an offset may have seconds (`2008-02-14 20:30:45 +010203`). In 2 to 7 and in 9 the day has to
-/// exist, and in 3 to 7 and in 9 `jiff` has to have the instant: from -377705023201 to 253402207200 seconds.
+/// `docs/SPECIFICATION.md` has their grammars. Without an offset a date is in UTC. A relative text counts from the moment
+/// `now`, and has its zone's offset.
 ///
-/// Seconds count from 1970-01-01 00:00:00 UTC, and have the offset 0 where none is written, but for a relative text.
-///
-/// A relative text is read from the moment `now` in its zone, and its time has the zone's offset there, which may be up
-/// to 25:59:59. `now` and `today` are the moment, `yesterday` is 24 hours before. Of pairs, the words are runs of ASCII
-/// letters and digits, in any letter case; a count is digits that an `i64` holds, `one` to `ten` or `last`, and the
-/// word after it is its period: `second` to `week`, taken off the instant, or `month` or `year`, taken off the
-/// calendar, where a day past the end of its month falls into the next; one final `s` is ignored. A word `ago` that is
-/// no period itself makes any other period count seconds; all other words are ignored. What the zone's clock shows
-/// twice is the earlier instant, and what it skips is moved later, before the first pair and after each.
-///
-/// [`Error::MissingNow`] refuses a relative text where no moment is given, and [`Error::Range`] one that leaves the
-/// years -9999 to 9999, or the instants that `jiff` has. [`Error::UnknownFormat`] carries the text where no family
-/// holds it, or where the offset of one of 3 to 7 is above 23:59, and [`Error::DateConversion`] where a day alone has
-/// no instant (`9999-12-31`); [`Error::Memory`] stands for them where memory for that copy is refused. All else is
-/// answered even where no memory is to be had.
+/// [`Error::UnknownFormat`] if no family holds the text, or a formatted date has an offset above 23:59.
+/// [`Error::DateConversion`] if a day alone has no instant (`9999-12-31`). Both carry a copy of the text, or
+/// [`Error::Memory`] replaces them; nothing else takes memory. [`Error::MissingNow`] for a relative text without a
+/// moment, and [`Error::Range`] if it names no instant of `jiff`.
 pub fn parse(alloc: Global, input: &str, now: Option<Zoned<'_>>) -> Result<Time, Error>
     ensures outcome { ParseOutcome (first_family input.now) input.now now.entry result }
     ensures offset_fits { IfOk result (λ t. IsOffsetSeconds t.offset) }
@@ -75,12 +56,11 @@ pub fn parse(alloc: Global, input: &str, now: Option<Zoned<'_>>) -> Result<Time,
     parse_with(alloc, input, now, RawOffsets::Quarter)
 }
 
-/// Reads a date as [`parse`] does, but for the offsets of raw texts, and of at texts with one, which are those of the
-/// rule `raw`.
+/// Reads a date as [`parse`] does, by the rule `raw` for the offsets of raw texts, also after `@`.
 ///
-/// [`RawOffsets::Quarter`] is the rule of [`parse`]; by [`RawOffsets::WholeMinutes`] a raw text may have each offset of
-/// whole minutes up to 23:59, as `1660797906 +0007`. All that [`parse`] reads is read alike by both (`laws::widened`),
-/// and the refusals are those of [`parse`]: a raw text whose offset the rule does not allow is of no family.
+/// [`RawOffsets::Quarter`] is the rule of [`parse`]. [`RawOffsets::WholeMinutes`] allows whole minutes up to 23:59, as
+/// in `1660797906 +0007`. What [`parse`] reads, both rules read alike (`gix_date_laws::widened`). The refusals are
+/// those of [`parse`]; a raw text with another offset is of no family.
 pub fn parse_with(
     alloc: Global,
     input: &str,
@@ -96,14 +76,12 @@ pub fn parse_with(
     }
 }
 
-/// Reads a date as [`parse_with`] does, and takes no memory: it is handed no allocator, and its refusals are without
-/// the text.
+/// Reads a date as [`parse_with`] does, without an allocator. It takes no memory, and its refusals have no text.
 ///
-/// [`ParseError::UnknownFormat`] where no family holds the text, or where the offset of a formatted date is above
-/// 23:59; [`ParseError::DateConversion`] where a day alone has no instant; [`ParseError::MissingNow`] for a relative
-/// text where no moment is given, and [`ParseError::Range`] for one that leaves the years -9999 to 9999, or the
-/// instants that `jiff` has.
-// Inlined, so that a caller without a moment hands none on.
+/// [`ParseError::UnknownFormat`] if no family holds the text, or a formatted date has an offset above 23:59.
+/// [`ParseError::DateConversion`] if a day alone has no instant. [`ParseError::MissingNow`] for a relative text without
+/// a moment, and [`ParseError::Range`] if it names no instant of `jiff`.
+// Inlined, so that a caller without a moment passes none on.
 #[inline(always)]
 pub fn parse_no_alloc(
     input: &str,
@@ -115,8 +93,8 @@ pub fn parse_no_alloc(
 {
     match first_answer(input, raw) {
         Some(Answer::Absolute(time)) => Ok(time),
-        Some(Answer::OffsetBeyond) => Err(ParseError::UnknownFormat),
-        Some(Answer::InstantBeyond) => Err(ParseError::DateConversion),
+        Some(Answer::OffsetAboveDay) => Err(ParseError::UnknownFormat),
+        Some(Answer::NoInstant) => Err(ParseError::DateConversion),
         Some(Answer::Relative(date)) => date.time(now),
         None => Err(ParseError::UnknownFormat),
     }
@@ -149,8 +127,8 @@ fn first_answer(input: &str, raw: RawOffsets) -> Option<Answer<'_>>
     answer_by_shape(Shape::of(input), input, raw)
 }
 
-/// The first of these answers that there is. Those after it are not computed. A closure, as `or_else` takes, would be
-/// proved anew at each place.
+/// The first answer that is not `None`; later ones are not computed. A closure, as for `or_else`, would be proved again
+/// at each place.
 macro_rules! first_of {
     ($last:expr) => {
         $last
@@ -163,8 +141,8 @@ macro_rules! first_of {
     };
 }
 
-/// The answer of the first of a shape's families that holds the text. Each arm asks the families of `shape_families` in
-/// their order, and nothing below it chooses again.
+/// The answer of the first of a shape's families that holds the text. Each arm tries the families of `shape_families`, in
+/// their order.
 #[tactic(auto, unfolding(crate::specs::Families::Epoch::epoch_time))]
 fn answer_by_shape<'a>(shape: Shape, input: &'a str, raw: RawOffsets) -> Option<Answer<'a>>
     ensures first { option_map answer_of result ≡ first_among (allows raw) (shape_families shape) input.now }
@@ -226,7 +204,7 @@ fn git_answer(input: &str) -> Option<Answer<'_>>
     ensures answer { option_map answer_of result ≡ option_map Absolute (git_time input.now) }
     ensures offset_fits { IfSome result HasJiffOffset }
 {
-    Some(Answer::Absolute(parse_git(input)?))
+    Some(Answer::Absolute(parse_git_date_format(input)?))
 }
 
 /// The answer of the family of relative texts.
@@ -235,7 +213,7 @@ fn relative_answer(input: &str) -> Option<Answer<'_>>
     ensures answer { option_map answer_of result ≡ option_map Relative (relative_date input.now) }
     ensures offset_fits { IfSome result HasJiffOffset }
 {
-    Some(Answer::Relative(parse_relative(input)?))
+    Some(Answer::Relative(relative::parse(input)?))
 }
 
 /// The answer of the family of raw texts.
@@ -267,7 +245,7 @@ fn date_conversion(alloc: Global, input: &str) -> Error
     }
 }
 
-/// The time of an at text. Its usual forms come first: a raw text in its plain form, and digits alone.
+/// The time of an at text. Its usual forms come first: a usual raw text, and digits alone.
 #[tactic(auto, unfolding(crate::specs::Families::Epoch::at_time))]
 fn parse_at(input: &str, raw: RawOffsets) -> Option<Time>
     ensures time { result ≡ at_time (allows raw) input.now }

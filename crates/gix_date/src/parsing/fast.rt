@@ -1,4 +1,4 @@
-//! Fast paths for usual headers and numbers. `None` says of a text only that it has another form.
+//! Fast paths for usual headers and numbers. `None` means only that the text has another form.
 ghost use Rattle.std.specs.Prelude.{◌≡◌, IfSome, Some};
 ghost use Rattle.gix_date.specs.Header.Reading.{header_time};
 ghost use Rattle.gix_date.specs.Private.Headers.{IsUsualHeader};

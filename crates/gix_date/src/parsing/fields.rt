@@ -1,4 +1,4 @@
-//! What the readers of fields share. A field is read off the front of a `&str`, so each cut is at the end of a character.
+//! Helpers shared by the readers of fields, which read a field off the front of a `&str`.
 ghost use Rattle.std.specs.Prelude.{◌≡◌, ◌<◌, IfSome, option_copied};
 ghost use Rattle.gix_date.specs.Text.Characters.{has_colon};
 ghost use Rattle.gix_date.specs.Fields.Front.{skip_char};
@@ -10,7 +10,7 @@ ghost use Rattle.gix_date.specs.Private.Views.{read_view};
 use crate::civil::{ClockFields, DateFields};
 use crate::parsing::numbers::parse_two_digits;
 
-/// What stands after this character, where it is the first.
+/// The text after this character, if it is the first.
 #[tactic(auto, unfolding(crate::specs::Fields::Front::skip_char))]
 #[inline(always)]
 pub(crate) fn skip_char(mark: char, text: &str) -> Option<&str>

@@ -27,9 +27,9 @@ mod offset;
 /// - compact: `20080214T203045.019-04:00`;
 /// - flexible: `2008-02-14 20:30:45 Z`, `2008-02-14T20 +05`.
 ///
-/// `None` for any other text, and where the date does not exist or `jiff` has no such instant.
+/// `None` for any other text, for a date that does not exist, and without an instant of `jiff`.
 #[tactic(auto, unfolding(crate::specs::Git::Forms::git_time))]
-pub(crate) fn parse_git(input: &str) -> Option<Time>
+pub(crate) fn parse_git_date_format(input: &str) -> Option<Time>
     ensures time { result ≡ git_time input.now }
     ensures offset_fits { IfSome result (λ t. IsOffsetSeconds t.offset) }
 {
@@ -129,7 +129,7 @@ fn time_at(date: DateFields, clock: ClockFields, offset: OffsetInSeconds) -> Opt
     Some(Time::new(seconds, offset))
 }
 
-/// A text without the white space round it. Nearly none has any.
+/// A text without the white space round it. Nearly all texts have none.
 fn trimmed(text: &str) -> &str
     ensures { result.now ≡ trim text.now }
 {

@@ -1,7 +1,7 @@
 //! Commit headers: a whole text by its words.
 ghost use Rattle.std.specs.Prelude.{◌≡◌};
 ghost use Rattle.gix_date.specs.Header.Canonical.{is_canonical_header};
-ghost use Rattle.gix_date.specs.Header.Reading.{header_time, seconds_said};
+ghost use Rattle.gix_date.specs.Header.Reading.{header_time, header_seconds};
 ghost use Rattle.gix_date.specs.Header.Text.{is_header_text_of};
 
 use crate::parsing::canonical::fast_canonical;
@@ -12,13 +12,13 @@ use crate::parsing::offset::parse_offset_fields;
 use crate::parsing::space_words::first_words;
 use crate::time::{SecondsSinceUnixEpoch, Time, header_text};
 
-/// Reads the time of a commit header, as gix-date does: leniently in what stands round the numbers.
+/// Reads the time of a commit header leniently, as gix-date does.
 ///
 /// The text is cut into words at Unicode white space. The first word gives the seconds: an optional sign and digits, or
 /// else the digits that it begins with. With two words the second gives the offset where it is a sign, two digits of
 /// hours, two of minutes and optionally two of seconds, with no limit on any of them; else the offset is 0.
 ///
-/// `None` where the text has a colon or no word, or where its first word gives no number that an `i64` can hold.
+/// `None` if the text has a colon or no word, or if its first word gives no number that an `i64` holds.
 pub fn parse_header(input: &str) -> Option<Time>
     ensures { result ≡ header_time input.now }
 {
@@ -55,7 +55,7 @@ fn is_header_text_of(time: Time, text: &str) -> bool
 }
 
 /// The time of a commit header in any form, by its words.
-#[tactic(auto, unfolding(crate::specs::Header::Reading::header_time, crate::specs::Header::Reading::time_of_words, crate::specs::Header::Reading::offset_said))]
+#[tactic(auto, unfolding(crate::specs::Header::Reading::header_time, crate::specs::Header::Reading::time_of_words, crate::specs::Header::Reading::header_offset))]
 fn parse_any_header(input: &str) -> Option<Time>
     ensures { result ≡ header_time input.now }
 {
@@ -75,9 +75,9 @@ fn parse_any_header(input: &str) -> Option<Time>
 }
 
 /// The seconds that the first word of a header says.
-#[tactic(auto, unfolding(crate::specs::Header::Reading::seconds_said))]
+#[tactic(auto, unfolding(crate::specs::Header::Reading::header_seconds))]
 fn parse_seconds(word: &str) -> Option<SecondsSinceUnixEpoch>
-    ensures { result ≡ seconds_said word.now }
+    ensures { result ≡ header_seconds word.now }
 {
     let whole = parse_int(word);
     if whole.is_some() {

@@ -16,13 +16,10 @@ use crate::parsing::patterns::fields::{
     read_clock, read_month, read_plain_date, skip_spaces, skip_weekday,
 };
 use crate::parsing::patterns::offset::{parse_date_offset, parse_mail_zone};
-use crate::time::{OffsetInSeconds, SECONDS_PER_DAY, SECONDS_PER_MINUTE, Time};
+use crate::time::{MAX_OFFSET_IN_SECONDS, OffsetInSeconds, Time};
 
 mod fields;
 mod offset;
-
-/// The farthest offset of a formatted date: 23:59 either way.
-const MAX_OFFSET_IN_SECONDS: u32 = SECONDS_PER_DAY as u32 - SECONDS_PER_MINUTE as u32;
 
 /// Reads a date that begins with a day: the day alone, `2018-12-24`, which is its midnight in UTC; ISO 8601 as Git
 /// prints it, `2022-08-18 12:45:06 +0800`; or its strict form, `2022-08-18T12:45:06+08:00`. The day is read once for
@@ -41,7 +38,7 @@ pub(crate) fn parse_dashed(text: &str) -> Option<Answer<'static>>
     iso8601_strict_after(date, rest)
 }
 
-/// What a day alone answers. Only the last day has no instant, so it is seldom asked whether the calendar has the day.
+/// What a day alone answers. The calendar check runs only if there is no instant.
 #[inline(always)]
 fn real_day_answer(date: DateFields) -> Option<Answer<'static>>
     requires { DateFits date }
@@ -52,12 +49,12 @@ fn real_day_answer(date: DateFields) -> Option<Answer<'static>>
         return Some(Answer::Absolute(Time::new(seconds, 0)));
     }
     if is_date(date) {
-        return Some(Answer::InstantBeyond);
+        return Some(Answer::NoInstant);
     }
     None
 }
 
-/// Reads a date as in mail, `Thu, 18 Aug 2022 12:45:06 +0800` (RFC 2822): the day's name and the seconds may be left
+/// Reads an RFC 2822 date, `Thu, 18 Aug 2022 12:45:06 +0800`: the day's name and the seconds may be left
 /// out, and a zone may be named.
 #[tactic(auto, unfolding(crate::specs::Families::Patterns::rfc2822_answer))]
 pub(crate) fn parse_rfc2822(text: &str) -> Option<Answer<'static>>
@@ -71,7 +68,7 @@ pub(crate) fn parse_rfc2822(text: &str) -> Option<Answer<'static>>
     mail_after(DateFields { year, month, day }, skip_spaces(rest)?)
 }
 
-/// What a date answers as in mail, after its year.
+/// What an RFC 2822 date answers, after its year.
 #[inline(always)]
 fn mail_after(date: DateFields, rest: &str) -> Option<Answer<'static>>
     requires { DateFits date }
@@ -190,7 +187,7 @@ fn date_answer(
 {
     let seconds = civil_instant(date, clock, offset)?;
     if offset.unsigned_abs() > MAX_OFFSET_IN_SECONDS {
-        return Some(Answer::OffsetBeyond);
+        return Some(Answer::OffsetAboveDay);
     }
     Some(Answer::Absolute(Time::new(seconds, offset)))
 }

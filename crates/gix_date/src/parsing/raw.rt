@@ -18,7 +18,7 @@ const MAX_WIDE_HOURS: u8 = MAX_HOUR;
 /// The most minutes of a raw offset by the wider rule: those of an hour.
 const MAX_MINUTES: u8 = MAX_MINUTE;
 
-/// Which offsets a raw text may have, and the raw text of an at text.
+/// Which offsets raw texts may have, also after `@`.
 ///
 /// An offset is a sign, two digits of hours, two of minutes and optionally two of seconds, which are 00 by both rules.
 #[derive(Debug, Clone, Copy, PartialEq, Eq)]
@@ -66,8 +66,8 @@ pub(crate) fn parse_raw(input: &str, raw: RawOffsets) -> Option<Time>
     Some(Time::new(seconds, offset))
 }
 
-/// The time of a raw text that is a usual header ([`fast_fields`]). `None` says only that the text has another form, or an
-/// offset that the rule does not allow. Saves 1373 of 1659 instructions, since no shape and no other family is tried.
+/// The time of a raw text that is a usual header ([`fast_fields`]). `None` means only that the text has another form, or
+/// an offset that the rule does not allow. Saves 1373 of 1659 instructions, since no shape and no other family is tried.
 #[inline(always)]
 pub(crate) fn fast_raw(input: &str, raw: RawOffsets) -> Option<Time>
     ensures time { IfSome result (λ t. raw_time_by (allows raw) input.now ≡ Some t) }

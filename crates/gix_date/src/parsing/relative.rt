@@ -28,23 +28,23 @@ mod words;
 #[derive(Clone, Copy)]
 pub(crate) enum Relative<'a> {
     /// So many seconds before the moment.
-    Before(i64),
-    /// The moment, with the pairs of this text taken off one after the other. They are read again, so that no memory is
+    MinusSeconds(i64),
+    /// The pairs of this text, subtracted from the moment one after the other. They are read again, so that no memory is
     /// taken.
-    Pairs(&'a str),
+    MinusPairs(&'a str),
 }
 
 /// What a text asks for, where it is relative: white space aside `now`, `today` or `yesterday` in any letter case, or
 /// pairs of counts and periods (`2 days 3 hours ago`).
 #[tactic(auto, unfolding(crate::specs::Relative::Dates::relative_date, crate::specs::Relative::Dates::pairs_date))]
-pub(crate) fn parse_relative(input: &str) -> Option<Relative<'_>>
+pub(crate) fn parse(input: &str) -> Option<Relative<'_>>
     ensures { option_map relative_date_of result ≡ relative_date input.now }
 {
     if let Some(date) = parse_named(input.trim()) {
         return Some(date);
     }
     if are_pairs(input) {
-        return Some(Relative::Pairs(input));
+        return Some(Relative::MinusPairs(input));
     }
     None
 }
@@ -55,9 +55,9 @@ fn parse_named(name: &str) -> Option<Relative<'static>>
     ensures { option_map relative_date_of result ≡ named_date name.now }
 {
     if name.eq_ignore_ascii_case("now") || name.eq_ignore_ascii_case("today") {
-        Some(Relative::Before(0))
+        Some(Relative::MinusSeconds(0))
     } else if name.eq_ignore_ascii_case("yesterday") {
-        Some(Relative::Before(SECONDS_PER_DAY))
+        Some(Relative::MinusSeconds(SECONDS_PER_DAY))
     } else {
         None
     }
@@ -66,7 +66,7 @@ fn parse_named(name: &str) -> Option<Relative<'static>>
 impl<'a> Relative<'a> {
     /// The time that is asked for, from this moment: whole seconds, and the offset of the moment's zone there.
     ///
-    /// [`ParseError::MissingNow`] without a moment, and [`ParseError::Range`] where there is no such time.
+    /// [`ParseError::MissingNow`] without a moment, and [`ParseError::Range`] if there is no such time.
     #[inline(always)]
     pub(crate) fn time(self, now: Option<Zoned<'_>>) -> Result<Time, ParseError>
         ensures outcome { RelativeOutcome (relative_date_of self.entry) now.entry result }
@@ -117,8 +117,8 @@ impl<'a> Relative<'a> {
         ensures { IsAtInstant (Reaches (relative_date_of self.entry) (fixed_zone offset) instant.nanosecond) result }
     {
         match self {
-            Relative::Before(seconds) => fixed::subtract_seconds(instant, seconds),
-            Relative::Pairs(text) => fixed::subtract_pairs(instant, offset, text),
+            Relative::MinusSeconds(seconds) => fixed::subtract_seconds(instant, seconds),
+            Relative::MinusPairs(text) => fixed::subtract_pairs(instant, offset, text),
         }
     }
 
@@ -129,13 +129,13 @@ impl<'a> Relative<'a> {
         ensures zone { IfSome result (KeepsZone moment.entry) }
     {
         match self {
-            Relative::Before(seconds) => earlier(moment, seconds),
-            Relative::Pairs(text) => subtract_pairs(settle(moment)?, text),
+            Relative::MinusSeconds(seconds) => earlier(moment, seconds),
+            Relative::MinusPairs(text) => subtract_pairs(settle(moment)?, text),
         }
     }
 }
 
-/// The moment, with the pairs of a text taken off one after the other.
+/// Subtracts the pairs of a text from the moment, one after the other.
 fn subtract_pairs<'a>(start: Zoned<'a>, text: &str) -> Option<Zoned<'a>>
     ensures chain { IsAt
         (Chain (zone_of start.entry) (pairs_read (relative_words text.now)) (zoned_nanos start.entry)) result }

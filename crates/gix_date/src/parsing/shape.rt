@@ -1,10 +1,10 @@
-//! The shape of a text, which decides the families that are asked for it.
+//! The shape of a text, which selects the families that are tried.
 ghost use Rattle.std.specs.Prelude.{◌≡◌};
 ghost use Rattle.gix_date.specs.Families.Shapes.{begins_with_at, are_two_digits, are_four_digits, begins_with_year, begins_with_dotted_day, begins_with_compact_day, begins_with_letter, begins_with_count, letter_shape, shape_of};
 
 use crate::parsing::numbers::parse_int;
 
-/// The shape of a text: the first of these that it has. The first bytes decide it, or for a number the whole text.
+/// The shape of a text: the first that fits. The first bytes decide it, or for a number the whole text.
 #[derive(Clone, Copy)]
 pub(crate) enum Shape {
     /// Begins with `@`.

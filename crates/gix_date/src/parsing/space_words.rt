@@ -1,9 +1,9 @@
-//! The words of a text that stand between white space.
+//! The words of a text, between white space.
 ghost use Rattle.std.specs.Prelude.{◌≡◌};
 ghost use Rattle.gix_date.specs.Text.SpaceWords.{space_words, first_words};
 ghost use Rattle.gix_date.specs.Private.Views.{words_view};
 
-/// The first word of a text, and the second where the two are all. `None` where there is no word.
+/// The first word of a text, and the second if there are exactly two. `None` without a word.
 ///
 /// Words stand between Unicode white space.
 pub(crate) fn first_words(text: &str) -> Option<(&str, Option<&str>)>

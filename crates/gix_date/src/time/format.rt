@@ -11,7 +11,7 @@ ghost use Rattle.jiff.specs.ZonedText.{zoned_parts};
 ghost use Rattle.jiff_core.specs.Date.{weekday_of};
 ghost use Rattle.jiff_strtime.specs.Text.{parts_of};
 ghost use Rattle.jiff_core.specs.declared.error.Error.TheVariants as jiff_errors;
-ghost use Rattle.gix_date.specs.Printing.Formats.{Prints, PrintsOrSeconds, PrintsBy, PrintsByOrSeconds, PrintsHeader, PrintsSeconds};
+ghost use Rattle.gix_date.specs.Printing.Formats.{Prints, PrintsOrSeconds, PrintsPattern, PrintsPatternOrSeconds, PrintsHeader, PrintsSeconds};
 ghost use Rattle.gix_date.specs.Private.Printing.{PrintsAt};
 ghost use Rattle.gix_date.specs.declared.error.Error.TheVariants as errors;
 
@@ -67,12 +67,12 @@ pub const SHORT: CustomFormat = CustomFormat {
     pattern: "%Y-%m-%d",
 };
 
-/// A date as in mail (RFC 2822): `Mon, 08 Aug 2022 12:45:06 +0800`.
+/// An RFC 2822 date: `Mon, 08 Aug 2022 12:45:06 +0800`.
 pub const RFC2822: CustomFormat = CustomFormat {
     pattern: "%a, %d %b %Y %H:%M:%S %z",
 };
 
-/// A date as in mail, with no zero before the day, as Git prints it (`git log --pretty=%aD`): `Mon, 8 Aug 2022 12:45:06
+/// An RFC 2822 date without a zero before the day, as Git prints it (`git log --pretty=%aD`): `Mon, 8 Aug 2022 12:45:06
 /// +0800`.
 pub const GIT_RFC2822: CustomFormat = CustomFormat {
     pattern: "%a, %-d %b %Y %H:%M:%S %z",
@@ -104,7 +104,7 @@ pub const DEFAULT: CustomFormat = CustomFormat {
     pattern: "%a %b %-d %H:%M:%S %Y %z",
 };
 
-/// The fault that one of `jiff`'s printer is.
+/// Maps a fault of `jiff`'s printer.
 fn printing_fault(error: jiff::Error) -> Error
     ensures { ((error ≡ jiff_errors.OutOfMemory) × (result ≡ errors.Memory))
         ⊎ ((error ≡ jiff_errors.OutOfMemory → ⊥) × (result ≡ errors.Pattern)) }
@@ -138,8 +138,7 @@ fn broken_down_time<'t>(
     }
 }
 
-/// What `jiff`'s strict printer shows by a pattern. The day of the week is told, since the printer promises none by
-/// itself.
+/// What `jiff`'s strict printer shows by a pattern. It is given the day of the week, since it promises none by itself.
 fn pattern_text(alloc: Global, pattern: &str, moment: &Zoned<'_>) -> Result<String, Error>
     ensures { PrintsAt pattern.now (plain_zoned moment.now) result }
 {
@@ -198,7 +197,7 @@ impl Time {
     ///
     /// The refusals are those of [`Time::format`] by this pattern.
     pub fn format_by_pattern(&self, alloc: Global, pattern: &str) -> Result<String, Error>
-        ensures { PrintsBy self.now pattern.now result }
+        ensures { PrintsPattern self.now pattern.now result }
     {
         if let Some(printed) = fast_text(alloc, pattern, *self) {
             return printed;
@@ -211,7 +210,7 @@ impl Time {
     ///
     /// The one refusal is [`Error::Memory`], where memory for the text is refused.
     pub fn format_by_pattern_or_unix(&self, alloc: Global, pattern: &str) -> Result<String, Error>
-        ensures { PrintsByOrSeconds self.now pattern.now result }
+        ensures { PrintsPatternOrSeconds self.now pattern.now result }
     {
         match self.format_by_pattern(alloc, pattern) {
             Ok(text) => Ok(text),

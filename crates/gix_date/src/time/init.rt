@@ -8,8 +8,7 @@ use jiff::Timestamp;
 use jiff::tz::TimeZone;
 
 impl Time {
-    /// The time of these seconds since 1970-01-01 00:00:00 UTC and this offset in seconds east of UTC, whatever they
-    /// are.
+    /// The time of any seconds since 1970-01-01 00:00:00 UTC and any offset in seconds east of UTC.
     pub fn new(seconds: SecondsSinceUnixEpoch, offset: OffsetInSeconds) -> Time
         ensures { result ≡ record { seconds = seconds; offset = offset } }
     {
@@ -23,8 +22,7 @@ impl Time {
         Time::new(clock.as_second(), 0)
     }
 
-    /// The time that a clock shows, with the offset that the zone has there; `None` where no zone is handed in, and
-    /// nowhere else.
+    /// The time that a clock shows, with the zone's offset at that instant; `None` iff there is no zone.
     pub fn now_local(clock: Timestamp, zone: Option<TimeZone<'_>>) -> Option<Time>
         ensures { result ≡ option_map (λ z. time_in (plain_zone z) clock.nanosecond) zone.entry }
     {
@@ -32,7 +30,7 @@ impl Time {
         Some(Time::new(clock.as_second(), zone.to_offset(clock).seconds()))
     }
 
-    /// The time that a clock shows, with the offset that the zone has there, or with 0 where no zone is handed in.
+    /// The time that a clock shows, with the zone's offset at that instant, or with 0 without a zone.
     pub fn now_local_or_utc(clock: Timestamp, zone: Option<TimeZone<'_>>) -> Time
         ensures { result
             ≡ unwrap_or (option_map (λ z. time_in (plain_zone z) clock.nanosecond) zone.entry)

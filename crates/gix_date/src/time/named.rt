@@ -1,5 +1,5 @@
-//! Fast path for printing: the texts that named formats show of most times, each written at once.
-ghost use Rattle.std.specs.Prelude.{◌≡◌, ◌+◌, ◌≤◌, ◌<◌, ◌++◌, ◌%◌, [], ◌∷◌, length, decimal, IfSome, IfOk, IfErr, string_bytes};
+//! Fast path for printing: writes the text of a named format without interpreting its pattern.
+ghost use Rattle.std.specs.Prelude.{◌≡◌, ◌+◌, ◌≤◌, ◌<◌, ◌++◌, ◌%◌, [], ◌∷◌, length, decimal, IfSome, IfNone, IfOk, IfErr, string_bytes};
 ghost use Rattle.std.specs.Int.{IsInRange};
 ghost use Rattle.arrayvec.specs.ArrayString.{array_string_len};
 ghost use Rattle.gix_date.specs.Text.Characters.{comma, space};
@@ -7,8 +7,8 @@ ghost use Rattle.gix_date.specs.Text.Names.{day_name, month_name};
 ghost use Rattle.gix_date.specs.Fields.ClockNumbers.{hours_in, minutes_in, seconds_per_minute};
 ghost use Rattle.gix_date.specs.Fields.FieldTexts.{four_digits, date_text, clock_text};
 ghost use Rattle.gix_date.specs.Header.Text.{compact_offset_text};
-ghost use Rattle.gix_date.specs.Printing.Formats.{PrintsBy};
-ghost use Rattle.gix_date.specs.Printing.LocalClocks.{local_seconds, clock_of, HasOrdinaryClock};
+ghost use Rattle.gix_date.specs.Printing.Formats.{PrintsPattern};
+ghost use Rattle.gix_date.specs.Printing.LocalClocks.{local_seconds, clock_of, HasFourDigitFields};
 ghost use Rattle.gix_date.specs.Printing.NamedTexts.{rfc2822_text, git_rfc2822_text, iso8601_text, iso8601_strict_text, gitoxide_text, default_text};
 ghost use Rattle.gix_date.specs.Printing.Zoned.{IsConvertible};
 ghost use Rattle.gix_date.specs.Private.NamedTexts.{local_of, HasFields, IsShownByAll};
@@ -17,8 +17,8 @@ ghost use Rattle.gix_date.specs.declared.error.Error.TheVariants as errors;
 use crate::civil::{ClockFields, DateFields};
 use crate::error::Error;
 use crate::time::{
-    OffsetInSeconds, SECONDS_PER_DAY, SECONDS_PER_HOUR, SECONDS_PER_MINUTE, SecondsSinceUnixEpoch,
-    Time, push_hours, push_minutes, push_two_digits,
+    MAX_OFFSET_IN_SECONDS, OffsetInSeconds, SECONDS_PER_DAY, SECONDS_PER_HOUR, SECONDS_PER_MINUTE,
+    SecondsSinceUnixEpoch, Time, push_hours, push_minutes, push_two_digits,
 };
 use arrayvec::ArrayString;
 use jiff_core::civil::Date;
@@ -34,12 +34,12 @@ const FIRST_SECOND: SecondsSinceUnixEpoch = -377_705_023_201;
 const LAST_SECOND: SecondsSinceUnixEpoch = 253_402_207_200;
 
 /// The first second of the year 1000 by a clock.
-const FIRST_ORDINARY: SecondsSinceUnixEpoch = -30_610_224_000;
+const FIRST_OF_YEAR_1000: SecondsSinceUnixEpoch = -30_610_224_000;
 
 /// The last second of the year 9999.
-const LAST_ORDINARY: SecondsSinceUnixEpoch = 253_402_300_799;
+const LAST_OF_YEAR_9999: SecondsSinceUnixEpoch = 253_402_300_799;
 
-/// The most bytes of such a text: those of a date in mail.
+/// The most bytes of such a text: those of an RFC 2822 date.
 const MAX_NAMED_LEN: usize = 31;
 
 /// A place for such a text, which takes no memory.
@@ -54,12 +54,13 @@ pub(crate) struct LocalMoment {
     offset: OffsetInSeconds,
 }
 
-/// The seconds that a time's own clock has counted, where the time converts, the year has four digits and the offset is
-/// whole minutes.
-fn ordinary_seconds(time: Time) -> Option<SecondsSinceUnixEpoch>
+/// The seconds that a time's own clock has counted. `None` unless the time converts, the year has four digits and the
+/// offset is whole minutes.
+fn local_seconds(time: Time) -> Option<SecondsSinceUnixEpoch>
     ensures value { IfSome result (λ local. local ≡ local_seconds time) }
     ensures converts { IfSome result (λ _. IsConvertible time) }
-    ensures ordinary { IfSome result (λ _. HasOrdinaryClock time) }
+    ensures four_digits { IfSome result (λ _. HasFourDigitFields time) }
+    ensures none { IfNone result (¬ (IsConvertible time × HasFourDigitFields time)) }
 {
     let distance = time.offset.unsigned_abs();
     if distance > MAX_ZONE_OFFSET || distance % SECONDS_PER_MINUTE as u32 != 0 {
@@ -69,10 +70,26 @@ fn ordinary_seconds(time: Time) -> Option<SecondsSinceUnixEpoch>
         return None;
     }
     let local = time.seconds + SecondsSinceUnixEpoch::from(time.offset);
-    if local < FIRST_ORDINARY || local > LAST_ORDINARY {
+    if local < FIRST_OF_YEAR_1000 || local > LAST_OF_YEAR_9999 {
         return None;
     }
     Some(local)
+}
+
+impl Time {
+    ghost use Rattle.std.specs.Prelude.{◌↔◌, IsTrue};
+    ghost use Rattle.gix_date.specs.Printing.ReadingBack.{RoundTrips};
+
+    /// Whether [`Time::to_zoned`] accepts this time, its own clock shows a year from 1000 to 9999, and its offset is whole
+    /// minutes within 23:59.
+    ///
+    /// If so, [`parse`](crate::parse) reads this time back from what each of the six named formats with a clock prints
+    /// of it ([`laws::read_back`](crate::laws::read_back)). No memory is taken.
+    pub fn round_trips(self) -> bool
+        ensures { IsTrue result ↔ RoundTrips self }
+    {
+        self.offset.unsigned_abs() <= MAX_OFFSET_IN_SECONDS && local_seconds(self).is_some()
+    }
 }
 
 /// The clock that shows so many seconds of a day.
@@ -93,10 +110,10 @@ fn clock_at(second: u32) -> ClockFields
 fn local_moment(time: Time) -> Option<LocalMoment>
     ensures shown { IfSome result (λ local. local_of local ≡ clock_of time) }
     ensures converts { IfSome result (λ _. IsConvertible time) }
-    ensures ordinary { IfSome result (λ _. HasOrdinaryClock time) }
+    ensures four_digits { IfSome result (λ _. HasFourDigitFields time) }
     ensures fields { IfSome result HasFields }
 {
-    let local = ordinary_seconds(time)?;
+    let local = local_seconds(time)?;
     let day = local.div_euclid(SECONDS_PER_DAY);
     let Ok(date) = Date::from_unix_epoch_day(day) else {
         return None;
@@ -409,7 +426,7 @@ pub(crate) fn copy_text(alloc: Global, text: &str) -> Result<String, Error>
 /// What a named pattern prints of a time, where it is known. Saves some 2650 of 3280 instructions, which `jiff` needs to
 /// interpret the pattern.
 pub(crate) fn fast_text(alloc: Global, pattern: &str, time: Time) -> Option<Result<String, Error>>
-    ensures { IfSome result (PrintsBy time pattern.now) }
+    ensures { IfSome result (PrintsPattern time pattern.now) }
 {
     let t = local_moment(time)?;
     let mut text = ArrayString::new();

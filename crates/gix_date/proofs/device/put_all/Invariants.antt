@@ -1,5 +1,5 @@
 use Rattle.std.proofs.Common.{length, ◌-◌, ◌≤◌, take}
-use Rattle.gix_date.specs.Devices.Known.{Takes}
+use Rattle.gix_date.specs.Devices.StreamState.{Takes}
 use Rattle.gix_date.proofs.device.put_all.Given as goal
 
 abbrev pub invariant-loop-done : goal.invariant-loop-done

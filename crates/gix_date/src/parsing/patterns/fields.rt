@@ -171,7 +171,7 @@ fn without_leap_second(second: u8) -> u8
     if second == 60 { MAX_SECOND } else { second }
 }
 
-/// An hour, a minute and a second, nearly always of two digits each. In mail the second may be left out.
+/// An hour, a minute and a second, nearly always of two digits each. In RFC 2822 the second may be left out.
 #[tactic(auto, unfolding(crate::specs::Computing::computing, crate::specs::Private::FastRests::read_colon_clock))]
 #[inline(always)]
 pub(crate) fn read_clock(is_mail: bool, text: &str) -> Option<(ClockFields, &str)>

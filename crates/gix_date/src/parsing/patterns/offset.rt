@@ -59,7 +59,7 @@ fn parse_mail_offset(text: &str) -> Option<OffsetInSeconds>
     jiff_offset(fields)
 }
 
-/// The offset of a zone's name in mail, in any letter case.
+/// The offset of a zone's name in RFC 2822, in any letter case.
 #[tactic(auto, unfolding(crate::specs::Fields::DateOffsets::named_zone))]
 fn named_zone(name: &str) -> Option<OffsetInSeconds>
     ensures value { result ≡ named_zone name.now }

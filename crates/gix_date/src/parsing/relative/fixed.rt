@@ -1,5 +1,5 @@
-//! Steps that take an instant back at one offset. Nothing is shown twice or skipped there, so nothing is settled
-//! elsewhere: seconds need no clock, and no zone is carried from pair to pair.
+//! Steps that take an instant back at one offset. A fixed offset has no folds or gaps, so seconds are subtracted
+//! directly, and no zoned value is passed from pair to pair.
 ghost use Rattle.std.specs.Prelude.{◌≡◌, ◌↔◌, ◌-ℤ◌, IfSome, IsSome};
 ghost use Rattle.jiff.specs.Words.{fixed_zone, epoch_day, nanos_of_seconds, IsTimestampNanos};
 ghost use Rattle.gix_date.specs.Private.RelativePairs.{pair_of, pairs_read};
@@ -8,13 +8,13 @@ ghost use Rattle.gix_date.specs.Private.Steps.{IsAtInstant};
 ghost use Rattle.gix_date.specs.Relative.Words.{relative_words};
 
 use crate::parsing::relative::pairs::{Pair, next_pair};
-use crate::parsing::relative::steps::{first_day_of, month_number, roll};
+use crate::parsing::relative::steps::{day_from, first_day_of, month_number};
 use crate::parsing::relative::words::TimeUnit;
 use jiff::civil::{Date, Time};
 use jiff::tz::Offset;
 use jiff::{SignedDuration, Timestamp};
 
-/// The instant, with the pairs of a text taken off one after the other.
+/// Subtracts the pairs of a text from an instant, one after the other.
 pub(crate) fn subtract_pairs(start: Timestamp, offset: Offset, text: &str) -> Option<Timestamp>
     ensures { IsAtInstant (Chain (fixed_zone offset) (pairs_read (relative_words text.now)) start.nanosecond) result }
 {
@@ -27,7 +27,7 @@ pub(crate) fn subtract_pairs(start: Timestamp, offset: Offset, text: &str) -> Op
     Some(instant)
 }
 
-/// A pair off an instant.
+/// Subtracts a pair from an instant.
 fn subtract(instant: Timestamp, offset: Offset, pair: Pair) -> Option<Timestamp>
     ensures { IsAtInstant (PairStep (fixed_zone offset) (pair_of pair) instant.nanosecond) result }
 {
@@ -37,7 +37,7 @@ fn subtract(instant: Timestamp, offset: Offset, pair: Pair) -> Option<Timestamp>
     }
 }
 
-/// Seconds off an instant.
+/// Subtracts seconds from an instant.
 pub(crate) fn subtract_seconds(instant: Timestamp, seconds: i64) -> Option<Timestamp>
     ensures some { IsSome result ↔ IsTimestampNanos (instant.nanosecond -ℤ nanos_of_seconds seconds) }
     ensures value { IfSome result (λ r. r.nanosecond ≡ instant.nanosecond -ℤ nanos_of_seconds seconds) }
@@ -48,14 +48,14 @@ pub(crate) fn subtract_seconds(instant: Timestamp, seconds: i64) -> Option<Times
     }
 }
 
-/// Months off an instant, by what a clock at the offset shows there.
+/// Subtracts months from an instant, by what a clock at the offset shows there.
 fn subtract_months(instant: Timestamp, offset: Offset, months: i64) -> Option<Timestamp>
     ensures { IsAtInstant (MonthsStep (fixed_zone offset) months instant.nanosecond) result }
 {
     let shown = offset.to_datetime(instant);
     let number = month_number(shown.date()).checked_sub(months)?;
     let first = first_day_of(number)?;
-    let date = roll(first, shown.day())?;
+    let date = day_from(first, shown.day())?;
     pick(date, shown.time(), offset)
 }
 

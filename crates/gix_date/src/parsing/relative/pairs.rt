@@ -12,8 +12,7 @@ pub(crate) struct Pair {
     pub(crate) unit: TimeUnit,
 }
 
-/// The first pair of a text, and what stands after it. Words that are no count are skipped, and a last count without a
-/// period.
+/// The first pair of a text, and the text after it. Skips words that are no count, and a last count without a period.
 pub(crate) fn next_pair(text: &str) -> Option<(Pair, &str)>
     ensures pairs { MatchOption result (pairs_read (relative_words text.now) ≡ [])
         (λ found. pairs_read (relative_words text.now) ≡ pair_of found.0 ∷ pairs_read (relative_words found.1.now)) }

@@ -42,15 +42,14 @@ impl<'a> From<Zoned<'a>> for Fields {
 impl Fields {
     /// The instant that a zone chooses for the fields: the first of the month, and the day beyond it, at that time.
     ///
-    /// In a fold it is the earlier, and in a gap it is moved later, as `jiff` does it. `None` where there is no such
-    /// date or instant.
+    /// In a fold it is the earlier, and in a gap it is moved later, as in `jiff`. `None` without such a date or instant.
     fn normalize<'a>(self, zone: TimeZone<'a>) -> Option<Zoned<'a>>
         requires { HasDay self }
         ensures instant { IsAt (IsInstantOf (plain_zone zone.entry) self) result }
         ensures zone { IfSome result (λ r. zone_of r ≡ plain_zone zone.entry) }
     {
         let first = first_day_of(self.month_number)?;
-        let date = roll(first, self.day)?;
+        let date = day_from(first, self.day)?;
         pick(date, self.time, zone)
     }
 }
@@ -63,7 +62,7 @@ pub(crate) fn settle<'a>(moment: Zoned<'a>) -> Option<Zoned<'a>>
     Fields::from(moment).normalize(moment.time_zone())
 }
 
-/// A pair off a moment.
+/// Subtracts a pair from a moment.
 pub(crate) fn subtract<'a>(moment: Zoned<'a>, pair: Pair) -> Option<Zoned<'a>>
     ensures step { IsAt (PairStep (zone_of moment.entry) (pair_of pair) (zoned_nanos moment.entry)) result }
     ensures zone { IfSome result (KeepsZone moment.entry) }
@@ -74,7 +73,7 @@ pub(crate) fn subtract<'a>(moment: Zoned<'a>, pair: Pair) -> Option<Zoned<'a>>
     }
 }
 
-/// Seconds off a moment.
+/// Subtracts seconds from a moment.
 fn subtract_seconds<'a>(moment: Zoned<'a>, seconds: i64) -> Option<Zoned<'a>>
     ensures step { IsAt (SecondsStep (zone_of moment.entry) seconds (zoned_nanos moment.entry)) result }
     ensures zone { IfSome result (KeepsZone moment.entry) }
@@ -97,7 +96,7 @@ pub(crate) fn earlier<'a>(moment: Zoned<'a>, seconds: i64) -> Option<Zoned<'a>>
     }
 }
 
-/// Months off a moment: its day and time stay, so that a day past the end of a month falls into the next.
+/// Subtracts months from a moment. Day and time stay, so a day past the end of its month falls into the next.
 fn subtract_months<'a>(moment: Zoned<'a>, months: i64) -> Option<Zoned<'a>>
     ensures step { IsAt (MonthsStep (zone_of moment.entry) months (zoned_nanos moment.entry)) result }
     ensures zone { IfSome result (KeepsZone moment.entry) }
@@ -134,8 +133,8 @@ pub(crate) fn first_day_of(month_number: i64) -> Option<Date>
     }
 }
 
-/// A day that counts from the first of a month, and may lie past its end.
-pub(crate) fn roll(first: Date, day: i8) -> Option<Date>
+/// The date so many days after the first of a month, which may fall into the next month.
+pub(crate) fn day_from(first: Date, day: i8) -> Option<Date>
     requires { IsBetween (pos 1) (pos 31) day }
     ensures some { IsSome result ↔ IsEpochDay (epoch_day first +ℤ (day -ℤ pos 1)) }
     ensures value { IfSome result (λ d. epoch_day d ≡ epoch_day first +ℤ (day -ℤ pos 1)) }

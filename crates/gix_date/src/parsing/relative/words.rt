@@ -15,7 +15,7 @@ const NUMBERS: [&str; 10] = [
     "one", "two", "three", "four", "five", "six", "seven", "eight", "nine", "ten",
 ];
 
-/// A unit, and how one of it is taken off an instant.
+/// A unit, as the seconds or the months to subtract.
 #[derive(Debug, Clone, Copy)]
 pub(crate) enum TimeUnit {
     /// So many seconds.

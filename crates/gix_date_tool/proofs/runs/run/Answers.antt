@@ -1,5 +1,5 @@
 use Rattle.std.proofs.Common.{rules, sym, ◌∙◌, subst}
-use Rattle.gix_date_tool.specs.declared.replies.Asked.{Asked}
+use Rattle.gix_date_tool.specs.declared.replies.Query.{Query}
 use Rattle.gix_date_tool.specs.Run.{change}
 use Rattle.gix_date_tool.specs.Progress.{stage}
 use Rattle.gix_date_tool.proofs.Reading.{RanBut, Ran-unwritten, Ran-sent, Ran-cut}
@@ -10,10 +10,10 @@ returns-then-is_unwritten g c =
     let sink = g.W.Sink.known c.args.writer.now in
     let s = stage c.reply_to_all-outcome.new.self (g.W.Sink.known c.reply_to_all-outcome.new.writer) in
     let reading = change (g.R.Source.known c.args.reader.now) (g.R.Source.known c.reply_to_all-outcome.new.reader) in
-    let asked : Asked = record { mode = c.args.mode; now = c.moment_of.result } in
+    let query : Query = record { mode = c.args.mode; now = c.moment_of.result } in
     let outcome = c.reply_to_all-outcome.result in
-    let ran = subst (λ a. RanBut sink s a reading outcome) c.new-progress.ensures.asked c.reply_to_all-outcome.ensures in
-    (c.moment_of.result, c.moment_of.ensures, Ran-unwritten sink s asked reading outcome (sym c.is_unwritten.ensures ∙ c.if-is_unwritten.true) ran)
+    let ran = subst (λ a. RanBut sink s a reading outcome) c.new-progress.ensures.query c.reply_to_all-outcome.ensures in
+    (c.moment_of.result, c.moment_of.ensures, Ran-unwritten sink s query reading outcome (sym c.is_unwritten.ensures ∙ c.if-is_unwritten.true) ran)
 
 pub returns-in_err-send : goal.returns-in_err-send
 returns-in_err-send g c =
@@ -21,10 +21,10 @@ returns-in_err-send g c =
     let s = stage c.reply_to_all-outcome.new.self (g.W.Sink.known c.reply_to_all-outcome.new.writer) in
     let s' = stage c.send.new.self (g.W.Sink.known c.send.new.writer) in
     let reading = change (g.R.Source.known c.args.reader.now) (g.R.Source.known c.reply_to_all-outcome.new.reader) in
-    let asked : Asked = record { mode = c.args.mode; now = c.moment_of.result } in
+    let query : Query = record { mode = c.args.mode; now = c.moment_of.result } in
     let outcome = c.reply_to_all-outcome.result in
-    let ran = subst (λ a. RanBut sink s a reading outcome) c.new-progress.ensures.asked c.reply_to_all-outcome.ensures in
-    let cut = Ran-cut sink s s' asked reading outcome c.in_err-send.field-0.0 (sym c.is_unwritten.ensures ∙ c.if-is_unwritten.false) ran c.in_err-send.ensures in
+    let ran = subst (λ a. RanBut sink s a reading outcome) c.new-progress.ensures.query c.reply_to_all-outcome.ensures in
+    let cut = Ran-cut sink s s' query reading outcome c.in_err-send.field-0.0 (sym c.is_unwritten.ensures ∙ c.if-is_unwritten.false) ran c.in_err-send.ensures in
     (c.moment_of.result, c.moment_of.ensures, search (rules, cut))
 
 pub returns : goal.returns
@@ -33,7 +33,7 @@ returns g c =
     let s = stage c.reply_to_all-outcome.new.self (g.W.Sink.known c.reply_to_all-outcome.new.writer) in
     let s' = stage c.send.new.self (g.W.Sink.known c.send.new.writer) in
     let reading = change (g.R.Source.known c.args.reader.now) (g.R.Source.known c.reply_to_all-outcome.new.reader) in
-    let asked : Asked = record { mode = c.args.mode; now = c.moment_of.result } in
+    let query : Query = record { mode = c.args.mode; now = c.moment_of.result } in
     let outcome = c.reply_to_all-outcome.result in
-    let ran = subst (λ a. RanBut sink s a reading outcome) c.new-progress.ensures.asked c.reply_to_all-outcome.ensures in
-    (c.moment_of.result, c.moment_of.ensures, Ran-sent sink s s' asked reading outcome (sym c.is_unwritten.ensures ∙ c.if-is_unwritten.false) ran c.in_ok-send.ensures)
+    let ran = subst (λ a. RanBut sink s a reading outcome) c.new-progress.ensures.query c.reply_to_all-outcome.ensures in
+    (c.moment_of.result, c.moment_of.ensures, Ran-sent sink s s' query reading outcome (sym c.is_unwritten.ensures ∙ c.if-is_unwritten.false) ran c.in_ok-send.ensures)

@@ -5,7 +5,7 @@ use Rattle.gix_date.specs.Families.Answer.{FamilyAnswer, Relative}
 use Rattle.gix_date.specs.Computing.{computing}
 use Rattle.gix_date.specs.Families.Order.{first_family, ParseNoAllocOutcome, WithCopy}
 use Rattle.gix_date.specs.Relative.FixedZones.{earlier, NamesEarlier}
-use Rattle.gix_date.specs.Relative.Dates.{Before, RelativeOutcome}
+use Rattle.gix_date.specs.Relative.Dates.{MinusSeconds, RelativeOutcome}
 use Rattle.gix_date.specs.Printing.Zoned.{IsMoment, is_instant}
 use Rattle.gix_date.specs.declared.error.Error.{Error}
 use Rattle.gix_date.specs.declared.error.Error.TheVariants.{Range}
@@ -15,7 +15,7 @@ use Rattle.jiff.specs.declared.zoned.Zoned.{Zoned}
 use Rattle.gix_date_vectors.proofs.caller.day_before.Goals as goal
 
 -- which answer that text has: it computes
-yesterday-is : first_family (codes "yesterday") ≡ Some (Relative (Before (pos 86_400)))
+yesterday-is : first_family (codes "yesterday") ≡ Some (Relative (MinusSeconds (pos 86_400)))
 unfolding computing
 yesterday-is = refl
 
@@ -33,8 +33,8 @@ refused t (Err e) range none = (range, (λ ok. absurd cc, λ instant. absurd (no
 
 -- what a call comes to that asks for the day before, by the law
 day-back : (t : Time) (moment : Zoned) (uncopied : Result Time ParseError) (r : Result Time Error) → IsMoment t moment
-    → NamesEarlier (Before (pos 86_400)) t (pos 86_400)
-    → RelativeOutcome (Before (pos 86_400)) (Some moment) uncopied → WithCopy (codes "yesterday") uncopied r → IsDayBefore t r
+    → NamesEarlier (MinusSeconds (pos 86_400)) t (pos 86_400)
+    → RelativeOutcome (MinusSeconds (pos 86_400)) (Some moment) uncopied → WithCopy (codes "yesterday") uncopied r → IsDayBefore t r
 day-back t moment (Ok a) r is law named same =
     let h = (law moment is a).0 named in
     let seconds : a.seconds ≡ t.seconds -ℤ pos 86_400 = ap (λ (q : Time). q.seconds) h.0 in

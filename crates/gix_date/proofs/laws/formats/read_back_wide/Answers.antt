@@ -1,9 +1,9 @@
 use Rattle.gix_date.specs.Families.Raw.{is_wide_offset}
-use Rattle.gix_date.proofs.Printing.PrintedBack.{are-read-back, is-kept}
+use Rattle.gix_date.proofs.Printing.PrintedBack.{round-trips-by-each, round-trips-by-pattern}
 use Rattle.gix_date.proofs.laws.formats.read_back_wide.Goals as goal
 
 pub returns : goal.returns
 returns c = record {
-  formats = are-read-back is_wide_offset c.args.time c.requires.plain;
-  texts = is-kept is_wide_offset c.args.time c.requires.plain;
+  formats = round-trips-by-each is_wide_offset c.args.time c.requires;
+  texts = round-trips-by-pattern is_wide_offset c.args.time c.requires;
 }

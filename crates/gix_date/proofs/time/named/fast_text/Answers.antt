@@ -7,4 +7,4 @@ pub returns : goal.returns
 returns c =
     let h = c.in_ok-t.ensures in
     let shown = subst (λ (text : List ℕ). IsShownByAll c.args.pattern.now (local_of c.in_ok-t.t) text) (sym c.as_str.ensures.value) c.in_ok-push_named.ensures in
-    copy-prints c.args.pattern.now c.args.time (local_of c.in_ok-t.t) c.as_str.result.now c.copy_text.result shown h.shown h.converts h.ordinary c.copy_text.ensures.text c.copy_text.ensures.memory
+    copy-prints c.args.pattern.now c.args.time (local_of c.in_ok-t.t) c.as_str.result.now c.copy_text.result shown h.shown h.converts h.four_digits c.copy_text.ensures.text c.copy_text.ensures.memory

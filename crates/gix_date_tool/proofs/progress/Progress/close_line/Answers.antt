@@ -6,21 +6,21 @@ use Rattle.gix_date_tool.proofs.progress.Progress.close_line.Goals as goal
 
 pub returns-in-Err : goal.returns-in-Err
 returns-in-Err g c =
-    let asked = c.args.self.now.asked in
+    let query = c.args.self.now.query in
     let line = c.args.self.now.line.items in
     let before = output c.args.self.now.outbox (g.W.Sink.known c.args.writer.now) in
     let after = output c.push_to.new.outbox (g.W.Sink.known c.push_to.new.out) in
-    let is = subst (λ bytes. IsReply asked bytes c.reply_to-reply.result) c.as_slice.ensures.value c.reply_to-reply.ensures.is in
-    Replied-one {Is = λ text. PutsProperPrefix before after text c.in-Err.kind} asked line c.reply_to-reply.result is c.in-Err.ensures
+    let is = subst (λ bytes. IsReply query bytes c.reply_to-reply.result) c.as_slice.ensures.value c.reply_to-reply.ensures.is in
+    Replied-one {Is = λ text. PutsProperPrefix before after text c.in-Err.kind} query line c.reply_to-reply.result is c.in-Err.ensures
 
 pub returns : goal.returns
 returns g c =
-    let asked = c.args.self.now.asked in
+    let query = c.args.self.now.query in
     let line = c.args.self.now.line.items in
     let before = output c.args.self.now.outbox (g.W.Sink.known c.args.writer.now) in
     let after = output c.push_to.new.outbox (g.W.Sink.known c.push_to.new.out) in
-    let is = subst (λ bytes. IsReply asked bytes c.reply_to-reply.result) c.as_slice.ensures.value c.reply_to-reply.ensures.is in
+    let is = subst (λ bytes. IsReply query bytes c.reply_to-reply.result) c.as_slice.ensures.value c.reply_to-reply.ensures.is in
     record {
       same = rw c.clear.ensures.items refl;
-      put = Replied-one {Is = Puts before after} asked line c.reply_to-reply.result is c.in_default.ensures;
+      put = Replied-one {Is = Puts before after} query line c.reply_to-reply.result is c.in_default.ensures;
     }

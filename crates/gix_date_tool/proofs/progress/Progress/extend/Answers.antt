@@ -1,5 +1,5 @@
 use Rattle.std.proofs.Common.{◌≡◌, ◌<◌, ◌≤◌, ℕ, List, length-append, arith, refl, ap}
-use Rattle.gix_date.specs.Devices.Known.{Known}
+use Rattle.gix_date.specs.Devices.StreamState.{StreamState}
 use Rattle.gix_date_tool.specs.declared.progress.Progress.{Progress}
 use Rattle.gix_date_tool.specs.Outbox.{output}
 use Rattle.gix_date_tool.specs.Progress.{Stage}
@@ -10,8 +10,8 @@ short_of : (n most : ℕ) → n ≤ most → (n ≡ most → ⊥) → n < most
 short_of n most few not = omega (arith, not)
 
 -- a stage but for its open line
-abbrev with_open_line : Progress → Known → List ℕ → Stage
-with_open_line p sink line = record { asked = p.asked; open_line = line; ended = p.ended; output = output p.outbox sink }
+abbrev with_open_line : Progress → StreamState → List ℕ → Stage
+with_open_line p sink line = record { query = p.query; open_line = line; ended = p.ended; output = output p.outbox sink }
 
 pub returns-then-part-len : goal.returns-then-part-len
 returns-then-part-len c = λ sink. (refl, (omega arith, omega (arith, length-append c.args.self.now.line.items c.args.part.now)))

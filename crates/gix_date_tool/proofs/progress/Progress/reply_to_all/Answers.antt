@@ -1,5 +1,5 @@
 use Rattle.std.proofs.Common.{rules, ◌<◌, length, take, subst}
-use Rattle.gix_date.specs.Devices.Known.{Gives}
+use Rattle.gix_date.specs.Devices.StreamState.{Gives}
 use Rattle.gix_date_tool.specs.Progress.{stage}
 use Rattle.gix_date_tool.proofs.Reading.{HasRead-first, HasRead-sent, HasRead-taken, IsReady-fresh, IsReady-sent, Ran-unsent, Ran-unread, Ran-ended, Ran-stopped}
 use Rattle.gix_date_tool.proofs.progress.Progress.reply_to_all.Goals as goal
@@ -9,8 +9,8 @@ pieces-init g c =
     let sink = g.W.Sink.known c.args.writer.now in
     let first = stage c.args.self.now sink in
     record {
-      so_far = HasRead-first c.args.self.now.asked sink first (g.R.Source.known c.args.reader.now) (c.requires sink);
-      ready = IsReady-fresh c.args.self.now.asked sink first (c.requires sink);
+      so_far = HasRead-first c.args.self.now.query sink first (g.R.Source.known c.args.reader.now) (c.requires sink);
+      ready = IsReady-fresh c.args.self.now.query sink first (c.requires sink);
     }
 
 pub returns-in_err-send : goal.returns-in_err-send
@@ -38,22 +38,22 @@ returns-then-count-eq0 g c =
     let ready = IsReady-sent {s' = sent} c.pieces.invariant.ready c.in_ok-send.ensures in
     Ran-ended last after c.end_input.result far ready read (c.in-Ok.ensures.bytes.1 c.if-count-eq0.true piece) c.in-Ok.ensures.fault c.end_input.ensures
 
-pub returns-in_err-take_in : goal.returns-in_err-take_in
-returns-in_err-take_in g c =
-    let last = stage c.take_in.new.self (g.W.Sink.known c.take_in.new.writer) in
+pub returns-in_err-feed : goal.returns-in_err-feed
+returns-in_err-feed g c =
+    let last = stage c.feed.new.self (g.W.Sink.known c.feed.new.writer) in
     let sent = stage c.send.new.self (g.W.Sink.known c.send.new.writer) in
     let far = HasRead-sent {s' = sent} c.pieces.invariant.so_far c.in_ok-send.ensures in
-    let stopped = Ran-stopped last (g.R.Source.known c.read.new.reader) (take c.in-Ok.count c.read.new.piece) c.in_err-take_in.field-0.0 far c.in-Ok.ensures.bytes.0 c.in_err-take_in.ensures.takes in
+    let stopped = Ran-stopped last (g.R.Source.known c.read.new.reader) (take c.in-Ok.count c.read.new.piece) c.in_err-feed.field-0.0 far c.in-Ok.ensures.bytes.0 c.in_err-feed.ensures.takes in
     search (rules, stopped)
 
 pub pieces-preserved : goal.pieces-preserved
 pieces-preserved g c =
     let sent = stage c.send.new.self (g.W.Sink.known c.send.new.writer) in
     let far = HasRead-sent {s' = sent} c.pieces.invariant.so_far c.in_ok-send.ensures in
-    let last = stage c.take_in.new.self (g.W.Sink.known c.take_in.new.writer) in
+    let last = stage c.feed.new.self (g.W.Sink.known c.feed.new.writer) in
     record {
-      so_far = HasRead-taken {s' = last} (g.R.Source.known c.read.new.reader) far c.in-Ok.ensures.bytes.0 c.in_ok-take_in.ensures.takes;
-      ready = c.in_ok-take_in.ensures.ready;
+      so_far = HasRead-taken {s' = last} (g.R.Source.known c.read.new.reader) far c.in-Ok.ensures.bytes.0 c.in_ok-feed.ensures.takes;
+      ready = c.in_ok-feed.ensures.ready;
     }
 
 pub read-requires-clause-sent : goal.read-requires-clause-sent

@@ -10,7 +10,7 @@ abbrev pub invariant-pieces : goal.invariant-pieces
 invariant-pieces g l =
     let reached = stage l.self (g.W.Sink.known l.writer) in
     record {
-      so_far : HasRead l.initial.self.asked (g.W.Sink.known l.initial.writer) reached (change (g.R.Source.known l.initial.reader) (g.R.Source.known l.reader));
+      so_far : HasRead l.initial.self.query (g.W.Sink.known l.initial.writer) reached (change (g.R.Source.known l.initial.reader) (g.R.Source.known l.reader));
       ready : IsReady reached;
     }
 

@@ -10,8 +10,8 @@ use Rattle.gix_date.proofs.Relative.FixedSteps.{fixed-shows, months-from, months
 use Rattle.gix_date.proofs.Relative.Steps.{picked-day}
 use Rattle.gix_date.proofs.parsing.relative.fixed.subtract_months.Goals as goal
 
-pub roll-requires : goal.roll-requires
-roll-requires c =
+pub day_from-requires : goal.day_from-requires
+day_from-requires c =
     let shown = c.to_datetime-shown.result in
     let date = shown.date in
     let day_in = date.day_in in

@@ -1,9 +1,0 @@
-use Rattle.gix_date.specs.Families.Raw.{allows}
-use Rattle.gix_date.proofs.Header.RawHeaders.{raw-header, canonical-raw}
-use Rattle.gix_date.proofs.laws.headers.raw_is_header.Goals as goal
-
-pub returns-clause-read : goal.returns-clause-read
-returns-clause-read c t e = raw-header (allows c.args.raw) c.args.text.now t c.utf8.text e
-
-pub returns-clause-canonical : goal.returns-clause-canonical
-returns-clause-canonical c = canonical-raw c.args.raw c.args.text.now

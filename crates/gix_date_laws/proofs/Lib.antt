@@ -1,0 +1,13 @@
+mod AroundTexts
+mod RawHeaders
+mod GitClocks
+mod GitOffsets
+mod GitGrammar
+mod RelativeGrammar
+mod LetterCase
+mod DateCase
+mod Grammars
+mod Overlaps
+mod Agreement
+mod WiderRules
+mod ShortBack

@@ -1,0 +1,5 @@
+use Rattle.gix_date_laws.proofs.Overlaps.{are-overlapping}
+use Rattle.gix_date_laws.proofs.families.overlapping.Goals as goal
+
+pub returns : goal.returns
+returns c = are-overlapping

@@ -1,0 +1,5 @@
+use Rattle.gix_date_laws.proofs.GitGrammar.{git-spelled}
+use Rattle.gix_date_laws.proofs.families.spelled_git.Goals as goal
+
+pub returns : goal.returns
+returns c = git-spelled

@@ -1,0 +1,22 @@
+//! More laws of `gix_date`, beside those of `gix_date::laws`: each is the contract of a function that does nothing.
+//!
+//! They stand in a crate of their own, so that a program that stands on `gix_date` does not prove them first. The rows of
+//! its definitions are here too (`proofs/Rows`).
+#![tactic(auto)]
+
+mod families;
+mod formats;
+mod headers;
+mod relative;
+mod values;
+
+pub use families::{
+    agree, any_case, apart, comes_first, dispatched, dispatched_by_rows, ignores_moment,
+    one_outcome, overlapping, ranges, spelled, spelled_git, spelled_numbers, trimmed, widened,
+};
+pub use formats::{local_clock, named_formats, other_formats, printed, short_read_back};
+pub use headers::raw_is_header;
+pub use relative::{
+    earlier, named_converts, named_once, never_later, seconds_before, spelled_relative,
+};
+pub use values::{clones, constants, equality, hash, limits, order, white_space};

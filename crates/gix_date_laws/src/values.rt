@@ -1,0 +1,76 @@
+//! Laws of values: constants, limits, clones, equality, order and hash, and white space.
+ghost use Rattle.std.specs.Prelude.{◌≡◌, pos, neg_ℤ, length, IfSome};
+ghost use Rattle.gix_date.specs.Families.Epoch.{min_bare_epoch};
+ghost use Rattle.gix_date.specs.Header.Text.{header_text, hundred_hours, max_text_len};
+ghost use Rattle.gix_date.specs.Families.Raw.{max_raw_hours, max_wide_hours, max_wide_minutes};
+ghost use Rattle.gix_date.specs.Text.SpaceWords.{StdWhiteSpaceIsUnicodes};
+ghost use Rattle.gix_date.specs.Devices.TimeBuf.{text_in};
+ghost use Rattle.gix_date.specs.Families.Patterns.{max_date_offset};
+ghost use Rattle.gix_date.specs.Values.{ComparesParts, AgreesWith, IsEquality, FeedsParts, FeedsAlike};
+
+use gix_date::parsing::TimeBuf;
+use gix_date::time::format::{CustomFormat, Format};
+use gix_date::{ParseError, RawOffsets, Time};
+use std::hash::Hash;
+
+/// The seconds and offsets of the two constants and of the default, which is 0 with offset 0.
+pub fn constants()
+    ensures max { Time.MAX ≡ record { seconds = pos 9_223_372_036_854_775_807; offset = pos 359_999 } }
+    ensures min { Time.MIN ≡ record { seconds = neg_ℤ (pos 9_223_372_036_854_775_808); offset = neg_ℤ (pos 359_999) } }
+    ensures default_is { (t : Time) → ⟦<Time as Default>⟧.is_default t → t ≡ record { seconds = pos 0; offset = pos 0 } }
+{}
+
+/// The limits that contracts name, as numbers. The least time has the longest header text.
+pub fn limits()
+    ensures min_bare_epoch { min_bare_epoch ≡ pos 100_000_000 }
+    ensures max_raw_hours { max_raw_hours ≡ 14 }
+    ensures max_wide_hours { max_wide_hours ≡ 23 }
+    ensures max_wide_minutes { max_wide_minutes ≡ 59 }
+    ensures max_date_offset { max_date_offset ≡ 86_340 }
+    ensures offset_without_text { hundred_hours ≡ 360_000 }
+    ensures max_text_len { max_text_len ≡ 26 }
+    ensures text_of_min { IfSome (header_text Time.MIN) (λ text. length text ≡ max_text_len) }
+{}
+
+/// A clone of a time, a rule for raw offsets, a `ParseError`, a format or a pattern is that value. A clone of a buffer
+/// holds the same text. No clone fails.
+pub fn clones()
+    ensures time { (a b : Time) → ⟦<Time as Clone>⟧.is_clone a b → b ≡ a }
+    ensures time_succeeds { (a : Time) → ⟦<Time as Clone>⟧.is_infallible a }
+    ensures buffer { (a b : TimeBuf) → ⟦<TimeBuf as Clone>⟧.is_clone a b → text_in b ≡ text_in a }
+    ensures buffer_succeeds { (a : TimeBuf) → ⟦<TimeBuf as Clone>⟧.is_infallible a }
+    ensures rule { (a b : RawOffsets) → ⟦<RawOffsets as Clone>⟧.is_clone a b → b ≡ a }
+    ensures rule_succeeds { (a : RawOffsets) → ⟦<RawOffsets as Clone>⟧.is_infallible a }
+    ensures refusal { (a b : ParseError) → ⟦<ParseError as Clone>⟧.is_clone a b → b ≡ a }
+    ensures refusal_succeeds { (a : ParseError) → ⟦<ParseError as Clone>⟧.is_infallible a }
+    ensures format { (a b : Format) → ⟦<Format as Clone>⟧.is_clone a b → b ≡ a }
+    ensures format_succeeds { (a : Format) → ⟦<Format as Clone>⟧.is_infallible a }
+    ensures pattern { (a b : CustomFormat) → ⟦<CustomFormat as Clone>⟧.is_clone a b → b ≡ a }
+    ensures pattern_succeeds { (a : CustomFormat) → ⟦<CustomFormat as Clone>⟧.is_infallible a }
+{}
+
+/// Times are ordered by their seconds, and then by their offset. Two times are equal in this order iff `==` holds.
+pub fn order()
+    ensures by_parts { ComparesParts ⟦<Time as Ord>⟧.cmp }
+    ensures agrees { AgreesWith ⟦<Time as Ord>⟧.cmp ⟦<Time as PartialEq>⟧.eq }
+{}
+
+/// Times are equal by `==` iff both numbers are the same. The same holds for rules for raw offsets and for `ParseError`s.
+pub fn equality()
+    ensures time { IsEquality ⟦<Time as PartialEq>⟧.eq }
+    ensures rule { IsEquality ⟦<RawOffsets as PartialEq>⟧.eq }
+    ensures refusal { IsEquality ⟦<ParseError as PartialEq>⟧.eq }
+{}
+
+/// A time feeds a hasher its seconds and then its offset. So equal times hash alike.
+pub fn hash()
+    ensures input { FeedsParts ⟦<Time as Hash>⟧.hash_input }
+    ensures alike { FeedsAlike ⟦<Time as PartialEq>⟧.eq ⟦<Time as Hash>⟧.hash_input }
+{}
+
+/// The white space between words is that of the standard library, which is Unicode's White_Space: these characters and
+/// no others.
+#[tactic(auto, using(gix_date::proofs::Text::WhiteSpace::is_whitespace_listed))]
+pub fn white_space()
+    ensures { StdWhiteSpaceIsUnicodes }
+{}

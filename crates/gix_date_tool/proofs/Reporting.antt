@@ -1,0 +1,45 @@
+-- What the program says, as one line.
+use Rattle.std.proofs.Common.{◌≡◌, ◌∙◌, refl, ℕ, List, [], ◌∷◌, ◌++◌, sym, ap, subst, append_assoc, append-nil, inl, inr, Option, Some, Result, Ok, Err}
+use Rattle.std.specs.Prelude.{OnOk, IsSome, codes}
+use Rattle.std.specs.declared.io.ErrorKind.{ErrorKind}
+use Rattle.gix_date.specs.Text.Characters.{newline}
+use Rattle.gix_date.specs.Devices.StreamState.{Takes, TakesProperPrefix}
+use Rattle.gix_date_tool.specs.declared.arguments.NoMoment.{NoMoment}
+use Rattle.gix_date_tool.specs.declared.error.ToolError.{ToolError}
+use Rattle.gix_date_tool.specs.declared.outcome.Outcome.{Outcome}
+use Rattle.gix_date_tool.specs.declared.outcome.Outcome.TheVariants.{Fault}
+use Rattle.gix_date_tool.specs.Messages.{fault_words, cause_words, no_moment_words, message, message_of, message_why, WritesMessage, Reports}
+use Rattle.gix_date_tool.specs.Outbox.{Output, Puts, PutsProperPrefix, Sends}
+use Rattle.gix_date_tool.specs.Run.{Change, change}
+use Rattle.gix_date_tool.proofs.Sending.{Puts-sent, PutsProperPrefix-sent}
+
+-- a refusal, where nothing waited before
+pub refused-is-written : {a b : Output} {text : List ℕ} {kind : ErrorKind} → a.unsent ≡ [] → PutsProperPrefix a b text kind → WritesMessage (change a.sink b.sink) text
+refused-is-written {a = a} {b = b} {text = text} none h =
+    inr (subst (TakesProperPrefix a.sink b.sink) (ap (λ xs. xs ++ text) none) h.taken, subst IsSome (sym h.fault) refl)
+
+-- a text that was put where nothing waited, and then sent
+pub sent-is-written : (a b c : Output) {text : List ℕ} (r : Result (Unit {0}) ErrorKind) → a.unsent ≡ [] → Puts a b text → Sends b c [] r → OnOk r (c.unsent ≡ []) → WritesMessage (change a.sink c.sink) text
+sent-is-written a b c {text = text} (Ok u) none put sent all =
+    let h = Puts-sent put sent in
+    let whole : text ≡ h.sent = ap (λ xs. xs ++ text) (sym none) ∙ h.cut ∙ ap (λ xs. h.sent ++ xs) all ∙ append-nil h.sent in
+    inl (subst (Takes a.sink c.sink) (sym whole) h.taken)
+sent-is-written a b c (Err kind) none put sent all = refused-is-written none (PutsProperPrefix-sent put sent)
+
+-- the pieces of a fault's line
+pub fault-reported : (telling : Change) (outcome : Outcome) (fault : ToolError) (words cause : List ℕ)
+    → outcome ≡ Fault fault → words ≡ fault_words fault → cause ≡ cause_words fault
+    → WritesMessage telling (codes "gix_date_tool: " ++ (words ++ (cause ++ newline ∷ []))) → Reports telling (message_of outcome)
+fault-reported telling outcome fault words cause is w k said =
+    let whole : codes "gix_date_tool: " ++ (words ++ (cause ++ newline ∷ [])) ≡ message (fault_words fault ++ cause_words fault) =
+    ap (λ xs. codes "gix_date_tool: " ++ (xs ++ (cause ++ newline ∷ []))) w
+    ∙ ap (λ xs. codes "gix_date_tool: " ++ (fault_words fault ++ (xs ++ newline ∷ []))) k
+    ∙ ap (λ xs. codes "gix_date_tool: " ++ xs) (sym (append_assoc (fault_words fault) (cause_words fault) (newline ∷ []))) in
+    subst (λ e. Reports telling (message_of e)) (sym is) (subst (WritesMessage telling) whole said)
+
+-- those of a text that is not a moment
+pub moment-reported : (telling : Change) (given : Option NoMoment) (why : NoMoment) (words : List ℕ)
+    → given ≡ Some why → words ≡ no_moment_words why
+    → WritesMessage telling (codes "gix_date_tool: " ++ (words ++ newline ∷ [])) → Reports telling (message_why given)
+moment-reported telling given why words is w said =
+    subst (λ o. Reports telling (message_why o)) (sym is) (subst (λ xs. WritesMessage telling (message xs)) w said)
