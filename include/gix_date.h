@@ -41,12 +41,12 @@ extern "C" {
 #define GIX_DATE_MAX_HEADER 26
 
 /* How a call ended. Each call lists the statuses that it answers beside GIX_DATE_OK. After these
- * all outputs but *len are unchanged. */
+ * all outputs but *len are unchanged, and *place after GIX_DATE_UNCLEAR. */
 enum gix_date_status {
     GIX_DATE_OK = 0,
     /* Bytes that have to be UTF-8 are not. */
     GIX_DATE_NOT_TEXT = 1,
-    /* No format, or no rule for raw offsets, has this number. */
+    /* No format, or no option, has this number. */
     GIX_DATE_NO_SUCH_OPTION = 2,
     /* The buffer is too short for the text. */
     GIX_DATE_NO_ROOM = 3,
@@ -56,9 +56,10 @@ enum gix_date_status {
     GIX_DATE_UNKNOWN_FORMAT = 5,
     /* The day's midnight in UTC is after the last instant, 253402207200. */
     GIX_DATE_DATE_CONVERSION = 6,
-    /* The text is relative to a moment, and none was given. */
+    /* The text is relative to a moment or a date in its zone, and none was given. */
     GIX_DATE_MISSING_NOW = 7,
-    /* The relative text names an instant that cannot be computed. */
+    /* The relative text names an instant that cannot be computed, or a date in the moment's zone
+     * has none. */
     GIX_DATE_RANGE = 8,
     /* The seconds of the moment are outside -377705023201 to 253402207200, its nanoseconds are
      * outside -999999999 to 999999999, or their sum is before the first instant. So 253402207201,
@@ -77,7 +78,10 @@ enum gix_date_status {
     /* The line is no signature line. */
     GIX_DATE_NO_SIGNATURE = 15,
     /* The name or the mail holds '<', '>', a newline or NUL. */
-    GIX_DATE_BAD_PART = 16
+    GIX_DATE_BAD_PART = 16,
+    /* The relative text is not careful. *place is the byte from which on it is not understood, or
+     * the text's length if "ago" is missing at its end. */
+    GIX_DATE_UNCLEAR = 17
 };
 
 /* What a status means, in English; "unknown status" for another number. */
@@ -89,7 +93,7 @@ static inline const char *gix_date_status_text(uint32_t status)
     case GIX_DATE_NOT_TEXT:
         return "the bytes are not UTF-8";
     case GIX_DATE_NO_SUCH_OPTION:
-        return "there is no format or rule of this number";
+        return "there is no format or option of this number";
     case GIX_DATE_NO_ROOM:
         return "the buffer is too short for the text";
     case GIX_DATE_INVALID_TIME:
@@ -118,6 +122,8 @@ static inline const char *gix_date_status_text(uint32_t status)
         return "not a signature line: expected a name, <, a mail, > and a time";
     case GIX_DATE_BAD_PART:
         return "a name or a mail holds <, >, a newline or NUL";
+    case GIX_DATE_UNCLEAR:
+        return "the relative date is not clear: expected counts and whole units, then ago";
     default:
         return "unknown status";
     }
@@ -127,6 +133,19 @@ static inline const char *gix_date_status_text(uint32_t status)
 enum gix_date_raw_offsets {
     GIX_DATE_QUARTERS = 0,     /* quarters of an hour up to 14:45 */
     GIX_DATE_WHOLE_MINUTES = 1 /* whole minutes up to 23:59 */
+};
+
+/* What a date means in which no offset is written, such as "2024-01-05 10:00". In the moment's zone
+ * a time that its clock shows twice is the earlier one, and one that it skips is moved later. */
+enum gix_date_without_offset {
+    GIX_DATE_UTC = 0,         /* a time in UTC, as for gix_date_parse */
+    GIX_DATE_MOMENTS_ZONE = 1 /* a time in the moment's zone */
+};
+
+/* Which relative texts are read. */
+enum gix_date_relative_texts {
+    GIX_DATE_CAREFUL = 0,     /* "2 weeks and 3 days ago": counts and whole units, then "ago" */
+    GIX_DATE_ALL_RELATIVE = 1 /* all that gix_date_parse reads */
 };
 
 /* What a time is printed as. */
@@ -154,6 +173,14 @@ typedef struct gix_date_instant {
     int64_t seconds;
     int32_t nanoseconds;
 } gix_date_instant;
+
+/* How a date is parsed carefully. All zero is the usual: quarters of an hour, UTC, and careful
+ * relative texts. */
+typedef struct gix_date_careful_options {
+    uint32_t raw_offsets;    /* of enum gix_date_raw_offsets */
+    uint32_t without_offset; /* of enum gix_date_without_offset */
+    uint32_t relative;       /* of enum gix_date_relative_texts */
+} gix_date_careful_options;
 
 /* A part of a text: the bytes text[start] to text[start + len - 1]. */
 typedef struct gix_date_span {
@@ -218,6 +245,36 @@ uint32_t gix_date_parse_in_posix_zone(const char *text, size_t text_len, uint32_
 uint32_t gix_date_parse_in_tzif_zone(const char *text, size_t text_len, uint32_t raw_offsets,
                                      const gix_date_instant *now, const void *file,
                                      size_t file_len, gix_date_time *time);
+
+/* Parses a date as gix_date_parse does, but does not guess where the options say so. With
+ * GIX_DATE_UNCLEAR *place says where the text stops being clear; no other status changes it. The
+ * statuses are those of gix_date_parse, and GIX_DATE_UNCLEAR. */
+uint32_t gix_date_parse_carefully(const char *text, size_t text_len,
+                                  const gix_date_careful_options *options, gix_date_time *time,
+                                  size_t *place);
+
+/* The same at the moment now, in the zone that always has this offset. The statuses are those of
+ * gix_date_parse_at_offset, and GIX_DATE_UNCLEAR. */
+uint32_t gix_date_parse_carefully_at_offset(const char *text, size_t text_len,
+                                            const gix_date_careful_options *options,
+                                            const gix_date_instant *now, int32_t offset,
+                                            gix_date_time *time, size_t *place);
+
+/* The same in the zone of a POSIX rule. The statuses are those of
+ * gix_date_parse_carefully_at_offset. */
+uint32_t gix_date_parse_carefully_in_posix_zone(const char *text, size_t text_len,
+                                                const gix_date_careful_options *options,
+                                                const gix_date_instant *now, const char *rule,
+                                                size_t rule_len, gix_date_time *time,
+                                                size_t *place);
+
+/* The same in the zone of a TZif file, by its bytes. Takes memory for the zone. The statuses are
+ * those of gix_date_parse_carefully_at_offset, and GIX_DATE_OUT_OF_MEMORY. */
+uint32_t gix_date_parse_carefully_in_tzif_zone(const char *text, size_t text_len,
+                                               const gix_date_careful_options *options,
+                                               const gix_date_instant *now, const void *file,
+                                               size_t file_len, gix_date_time *time,
+                                               size_t *place);
 
 /* Writes a time in a format of enum gix_date_named_format. Takes memory for the text.
  * GIX_DATE_NO_ROOM, GIX_DATE_NO_SUCH_OPTION, GIX_DATE_CONVERSION, GIX_DATE_OFFSET_TOO_WIDE,

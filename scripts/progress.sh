@@ -2,7 +2,7 @@
 # shellcheck shell=sh disable=SC2034,SC2154
 
 # How long a build takes where nothing has been proved yet.
-how_long='some ten minutes on four cores, twenty on two'
+how_long='some eight minutes on four cores, ten on two'
 
 # A line on standard error; nothing fails where that is closed.
 say() {

@@ -66,6 +66,7 @@ static const struct {
       {"OutOfMemory", GIX_DATE_OUT_OF_MEMORY},
       {"NoSignature", GIX_DATE_NO_SIGNATURE},
       {"BadPart", GIX_DATE_BAD_PART},
+      {"Unclear", GIX_DATE_UNCLEAR},
 };
 
 #define LENGTH(array) (sizeof(array) / sizeof *(array))
@@ -216,35 +217,83 @@ static void agree(answer *told, const answer *other)
     told->len = (size_t)snprintf(told->bytes, MAX_ANSWER, "%s", APART);
 }
 
-/* A date parsed at a moment: `none`, or its seconds, its nanoseconds and its zone: an offset, the
- * name of a TZif file, or a rule. */
-static bool parse_at(field moment, uint32_t rule, field text, answer *told)
+/* How a date is to be parsed: carefully by the options, or else by their rule for raw offsets. */
+typedef struct manner {
+    bool carefully;
+    gix_date_careful_options options;
+} manner;
+
+/* What a call stores where it stores nothing. */
+static const gix_date_time no_time = {-77, -7};
+static const size_t no_place = SIZE_MAX;
+
+/* Tells a date that was parsed, and of a text that is not clear the place. No other stores one. */
+static void tell_date(uint32_t status, gix_date_time time, size_t place, answer *told)
 {
-    gix_date_time time = {-77, -7};
-    if (!strcmp(moment.bytes, "none")) {
-        tell_time(gix_date_parse(TEXT(text), rule, &time), time, told);
-        return true;
+    tell_time(status, time, told);
+    if (status == GIX_DATE_UNCLEAR) {
+        told->len = (size_t)snprintf(told->bytes, MAX_ANSWER, "Unclear %zu", place);
+    } else if (place != no_place) {
+        told->refused = true;
+        told->len = (size_t)snprintf(told->bytes, MAX_ANSWER, "%s", APART);
     }
+}
+
+/* A date parsed at no moment. */
+static void parse_alone(const manner *how, field text, answer *told)
+{
+    gix_date_time time = no_time;
+    size_t place = no_place;
+    uint32_t status = how->carefully
+                          ? gix_date_parse_carefully(TEXT(text), &how->options, &time, &place)
+                          : gix_date_parse(TEXT(text), how->options.raw_offsets, &time);
+    tell_date(status, time, place, told);
+}
+
+/* A date parsed at an instant in a zone: an offset, the name of a TZif file, or a rule. */
+static void parse_in(const manner *how, field text, const gix_date_instant *now, field zone,
+                     answer *told)
+{
+    const gix_date_careful_options *options = &how->options;
+    gix_date_time time = no_time;
+    size_t place = no_place;
+    int64_t offset;
+    uint32_t status, rule = options->raw_offsets;
+    if (zone.len > 5 && !strcmp(zone.bytes + zone.len - 5, ".tzif")) {
+        field file = read_file(zone.bytes);
+        status = how->carefully
+                     ? gix_date_parse_carefully_in_tzif_zone(TEXT(text), options, now, TEXT(file),
+                                                             &time, &place)
+                     : gix_date_parse_in_tzif_zone(TEXT(text), rule, now, TEXT(file), &time);
+        free(file.bytes);
+    } else if (to_number(zone.bytes, &offset)) {
+        status = how->carefully
+                     ? gix_date_parse_carefully_at_offset(TEXT(text), options, now, (int32_t)offset,
+                                                          &time, &place)
+                     : gix_date_parse_at_offset(TEXT(text), rule, now, (int32_t)offset, &time);
+    } else {
+        status = how->carefully
+                     ? gix_date_parse_carefully_in_posix_zone(TEXT(text), options, now, TEXT(zone),
+                                                              &time, &place)
+                     : gix_date_parse_in_posix_zone(TEXT(text), rule, now, TEXT(zone), &time);
+    }
+    tell_date(status, time, place, told);
+}
+
+/* A date parsed at a moment: `none`, or its seconds, its nanoseconds and its zone. */
+static bool parse_at(field moment, const manner *how, field text, answer *told)
+{
     gix_date_instant now;
     char *rest;
+    if (!strcmp(moment.bytes, "none")) {
+        parse_alone(how, text, told);
+        return true;
+    }
     now.seconds = strtoll(moment.bytes, &rest, 10);
     now.nanoseconds = (int32_t)strtol(rest, &rest, 10);
     if (*rest != ' ')
         return false;
-    field zone = {rest + 1, strlen(rest + 1)};
-    int64_t offset;
-    if (zone.len > 5 && !strcmp(zone.bytes + zone.len - 5, ".tzif")) {
-        field file = read_file(zone.bytes);
-        tell_time(gix_date_parse_in_tzif_zone(TEXT(text), rule, &now, TEXT(file), &time), time,
-                  told);
-        free(file.bytes);
-    } else if (to_number(zone.bytes, &offset)) {
-        tell_time(gix_date_parse_at_offset(TEXT(text), rule, &now, (int32_t)offset, &time), time,
-                  told);
-    } else {
-        tell_time(gix_date_parse_in_posix_zone(TEXT(text), rule, &now, TEXT(zone), &time), time,
-                  told);
-    }
+    parse_in(how, text, &now, (field){rest + 1, strlen(rest + 1)}, told);
     return true;
 }
 
@@ -253,23 +302,45 @@ static const char *const any[] = {
     "none", "1698400800 0 0", "1698400800 0 3600", "1698400800 0 7200", "-1 0 -34200", "0 0 93599",
 };
 
-static bool parse(arguments *row, answer *told)
+/* Takes one of two words: the number of an option. */
+static bool take_option(arguments *row, const char *first, const char *second, uint32_t *number)
+{
+    const char *word = take(row).bytes;
+    *number = strcmp(word, first) != 0;
+    return !*number || !strcmp(word, second);
+}
+
+/* Takes the words of the options that only the careful calls have. */
+static bool take_options(arguments *row, gix_date_careful_options *options)
+{
+    bool are_all = take_option(row, "utc", "local", &options->without_offset);
+    return are_all & take_option(row, "careful", "all", &options->relative);
+}
+
+/* A date by each rule that the row names, at each moment that it means. */
+static bool parse(arguments *row, bool carefully, answer *told)
 {
     static const struct {
         const char *name;
-        size_t first, last;
-    } rules[] = {{"both", 0, 1}, {"quarters", 0, 0}, {"minutes", 1, 1}};
-    static const uint32_t numbers[] = {GIX_DATE_QUARTERS, GIX_DATE_WHOLE_MINUTES};
-    field name = take(row), moment = take(row), text = take(row);
-    bool is_any = !strcmp(moment.bytes, "any"), is_first = true;
+        uint32_t first, last;
+    } rules[] = {{"both", GIX_DATE_QUARTERS, GIX_DATE_WHOLE_MINUTES},
+                 {"quarters", GIX_DATE_QUARTERS, GIX_DATE_QUARTERS},
+                 {"minutes", GIX_DATE_WHOLE_MINUTES, GIX_DATE_WHOLE_MINUTES}};
+    manner how = {carefully, {0, 0, 0}};
+    field name = take(row);
+    if (carefully && !take_options(row, &how.options))
+        return false;
+    field moment = take(row), text = take(row);
+    bool is_any = !carefully && !strcmp(moment.bytes, "any"), is_first = true;
     for (size_t i = 0; i < LENGTH(rules); i++) {
         if (strcmp(rules[i].name, name.bytes) != 0)
             continue;
-        for (size_t rule = rules[i].first; rule <= rules[i].last; rule++) {
+        for (uint32_t rule = rules[i].first; rule <= rules[i].last; rule++) {
+            how.options.raw_offsets = rule;
             for (size_t at = 0; at < (is_any ? LENGTH(any) : 1); at++) {
                 field now = is_any ? (field){(char *)any[at], strlen(any[at])} : moment;
                 answer other;
-                if (!parse_at(now, numbers[rule], text, is_first ? told : &other))
+                if (!parse_at(now, &how, text, is_first ? told : &other))
                     return false;
                 if (!is_first)
                     agree(told, &other);
@@ -385,8 +456,8 @@ static enum outcome call(arguments *row, answer *told)
     for (size_t i = 0; i < LENGTH(lacking); i++)
         if (!strcmp(lacking[i], name))
             return LACKING;
-    if (!strcmp(name, "parse"))
-        is_right = parse(row, told);
+    if (!strcmp(name, "parse") || !strcmp(name, "parse_carefully"))
+        is_right = parse(row, !strcmp(name, "parse_carefully"), told);
     else if (!strcmp(name, "parse_header"))
         parse_header(take(row), told);
     else if (!strcmp(name, "is_canonical_header"))

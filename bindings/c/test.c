@@ -92,9 +92,10 @@ static void null_pointers(void)
 {
     static const gix_date_time day = {1660797906, 28800};
     static const gix_date_instant now = {0, 0};
+    static const gix_date_careful_options options = {0, 0, 0};
     gix_date_time time = untouched;
     gix_date_signature parts;
-    size_t len = 99;
+    size_t len = 99, place = 99;
     EXPECT(gix_date_parse_header(NULL, 0, &time) == GIX_DATE_INVALID_TIME, "a header");
     EXPECT(!gix_date_is_canonical_header(NULL, 0), "a header");
     EXPECT(gix_date_parse(NULL, 0, 0, &time) == GIX_DATE_UNKNOWN_FORMAT, "a date");
@@ -103,7 +104,10 @@ static void null_pointers(void)
     EXPECT(gix_date_parse_in_posix_zone(TEXT("now"), 0, &now, NULL, 0, &time) ==
                GIX_DATE_INVALID_ZONE,
            "a rule");
+    EXPECT(gix_date_parse_carefully(NULL, 0, &options, &time, &place) == GIX_DATE_UNKNOWN_FORMAT,
+           "a date");
     EXPECT(gix_date_cut_signature(NULL, 0, &parts) == GIX_DATE_NO_SIGNATURE, "a line");
+    EXPECT(place == 99, "a refusal stores no place");
     EXPECT(is_time(time, untouched.seconds, untouched.offset), "a refusal stores nothing");
     EXPECT(gix_date_write_header(&day, NULL, 0, &len) == GIX_DATE_NO_ROOM && len == 16, "%zu", len);
     EXPECT(gix_date_write_signature(NULL, 0, NULL, 0, &day, NULL, 0, &len) == GIX_DATE_NO_ROOM &&
@@ -234,6 +238,124 @@ static void relative_dates(void)
     EXPECT(is_time(time, untouched.seconds, untouched.offset), "a refusal stores nothing");
 }
 
+/* Options of careful calls: the usual, dates in the moment's zone, and all relative texts. */
+static const gix_date_careful_options usual = {0, 0, 0},
+                                      local = {GIX_DATE_QUARTERS, GIX_DATE_MOMENTS_ZONE,
+                                               GIX_DATE_CAREFUL},
+                                      lenient = {GIX_DATE_WHOLE_MINUTES, GIX_DATE_UTC,
+                                                 GIX_DATE_ALL_RELATIVE};
+
+/* The place that no call stores. */
+enum { NO_PLACE = 99 };
+
+/* What a careful call answers: a time, or a status and perhaps a place. */
+typedef struct careful_answer {
+    uint32_t status;
+    gix_date_time time;
+    size_t place;
+} careful_answer;
+
+/* A careful call has to answer this, and to leave alone what it does not store. */
+static void expect_answer(careful_answer seen, careful_answer due, const char *text)
+{
+    EXPECT(seen.status == due.status && seen.place == due.place &&
+               is_time(seen.time, due.time.seconds, due.time.offset),
+           "%s: %u, %lld %d, %zu", text, seen.status, (long long)seen.time.seconds,
+           (int)seen.time.offset, seen.place);
+}
+
+static careful_answer refused(uint32_t status)
+{
+    return (careful_answer){status, untouched, NO_PLACE};
+}
+
+static careful_answer unclear(size_t place)
+{
+    return (careful_answer){GIX_DATE_UNCLEAR, untouched, place};
+}
+
+static careful_answer answers(int64_t seconds, int32_t offset)
+{
+    return (careful_answer){GIX_DATE_OK, {seconds, offset}, NO_PLACE};
+}
+
+static void expect_careful(const char *text, gix_date_careful_options options, careful_answer due)
+{
+    careful_answer seen = {0, untouched, NO_PLACE};
+    seen.status = gix_date_parse_carefully(TEXT(text), &options, &seen.time, &seen.place);
+    expect_answer(seen, due, text);
+}
+
+static void careful_dates(void)
+{
+    static const gix_date_careful_options none_such[] = {{2, 0, 0}, {0, 2, 0}, {0, 0, 2}};
+    expect_careful("2024-01-05 10:00", usual, answers(1704448800, 0));
+    expect_careful("30 min ago", usual, unclear(3));
+    expect_careful("in 2 weeks", usual, unclear(0));
+    expect_careful("2 weeks", usual, unclear(7));
+    expect_careful("2 weeks ago", usual, refused(GIX_DATE_MISSING_NOW));
+    expect_careful("30 min ago", lenient, refused(GIX_DATE_MISSING_NOW));
+    expect_careful("2024-01-05 10:00", local, refused(GIX_DATE_MISSING_NOW));
+    expect_careful("2024-01-05 10:00 +0100", local, answers(1704445200, 3600));
+    expect_careful("@5 +0007", usual, refused(GIX_DATE_UNKNOWN_FORMAT));
+    expect_careful("@5 +0007", lenient, answers(5, 420));
+    expect_careful("9999-12-31", usual, refused(GIX_DATE_DATE_CONVERSION));
+    expect_careful("", local, refused(GIX_DATE_UNKNOWN_FORMAT));
+    expect_careful("2018\xc3", usual, refused(GIX_DATE_NOT_TEXT));
+    for (size_t i = 0; i < sizeof none_such / sizeof *none_such; i++) {
+        expect_careful("@0", none_such[i], refused(GIX_DATE_NO_SUCH_OPTION));
+        expect_careful("2018\xc3", none_such[i], refused(GIX_DATE_NO_SUCH_OPTION));
+    }
+}
+
+static void expect_at_offset(const char *text, gix_date_careful_options options, int32_t offset,
+                             careful_answer due)
+{
+    static const gix_date_instant now = {1698400800, 0};
+    careful_answer seen = {0, untouched, NO_PLACE};
+    seen.status = gix_date_parse_carefully_at_offset(TEXT(text), &options, &now, offset, &seen.time,
+                                                     &seen.place);
+    expect_answer(seen, due, text);
+}
+
+static void expect_in_zone(const char *text, gix_date_careful_options options, const char *rule,
+                           careful_answer due)
+{
+    static const gix_date_instant now = {1699165800, 0};
+    careful_answer seen = {0, untouched, NO_PLACE};
+    seen.status = gix_date_parse_carefully_in_posix_zone(TEXT(text), &options, &now, TEXT(rule),
+                                                         &seen.time, &seen.place);
+    expect_answer(seen, due, text);
+}
+
+static void careful_dates_at_moments(void)
+{
+    static const gix_date_instant odd = {0, 1000000000};
+    const char *rule = "EST5EDT,M3.2.0,M11.1.0";
+    expect_at_offset("2 weeks ago", usual, 7200, answers(1697191200, 7200));
+    expect_at_offset("2024-01-05 10:00", usual, 7200, answers(1704448800, 0));
+    expect_at_offset("2024-01-05 10:00", local, 7200, answers(1704441600, 7200));
+    expect_at_offset("30 min ago", local, 7200, unclear(3));
+    expect_at_offset("30 min ago", lenient, 7200, answers(1698400770, 7200));
+    expect_at_offset("12023 years ago", usual, 7200, refused(GIX_DATE_RANGE));
+    expect_at_offset("9999-12-30 21:00", local, -7200, refused(GIX_DATE_RANGE));
+    expect_at_offset("now", usual, 93600, refused(GIX_DATE_INVALID_ZONE));
+    expect_at_offset("now", (gix_date_careful_options){0, 0, 2}, 0,
+                     refused(GIX_DATE_NO_SUCH_OPTION));
+    expect_in_zone("2024-01-05 10:00", local, rule, answers(1704466800, -18000));
+    /* A clock time that is there twice, and one that is skipped. */
+    expect_in_zone("2023-11-05 01:30", local, rule, answers(1699162200, -14400));
+    expect_in_zone("2024-03-10 02:30", local, rule, answers(1710055800, -14400));
+    expect_in_zone("1 hour ago", usual, rule, answers(1699158600, -14400));
+    expect_in_zone("1 hour", usual, rule, unclear(6));
+    expect_in_zone("now", usual, "banana", refused(GIX_DATE_INVALID_ZONE));
+    expect_in_zone("now", usual, "\xff", refused(GIX_DATE_NOT_TEXT));
+    careful_answer seen = {0, untouched, NO_PLACE};
+    seen.status =
+        gix_date_parse_carefully_at_offset(TEXT("now"), &usual, &odd, 0, &seen.time, &seen.place);
+    expect_answer(seen, refused(GIX_DATE_INVALID_INSTANT), "a second of nanoseconds");
+}
+
 /* The rule for raw offsets, as each call that takes a moment is given it. */
 static void rules_of_offsets(void)
 {
@@ -292,6 +414,29 @@ static void zone_files(void)
     expect_demand(before, (demand){1, 40}, "a zone that is refused memory");
     refuses = false;
     EXPECT(is_time(time, untouched.seconds, untouched.offset), "a refusal stores nothing");
+}
+
+static void expect_in_file(const char *text, size_t file_len, careful_answer due, demand wanted)
+{
+    static const gix_date_instant now = {1699165800, 0};
+    careful_answer seen = {0, untouched, NO_PLACE};
+    demand before = so_far();
+    seen.status = gix_date_parse_carefully_in_tzif_zone(TEXT(text), &local, &now, zone_file,
+                                                        file_len, &seen.time, &seen.place);
+    expect_demand(before, wanted, text);
+    expect_answer(seen, due, text);
+}
+
+static void careful_dates_by_zone_files(void)
+{
+    const size_t whole = sizeof zone_file - 1;
+    expect_in_file("2024-01-05 10:00", whole, answers(1704466800, -18000), (demand){1, 40});
+    expect_in_file("1 hour ago", whole, answers(1699158600, -14400), (demand){1, 40});
+    expect_in_file("1 hour from now", whole, unclear(7), (demand){1, 40});
+    expect_in_file("now", 0, refused(GIX_DATE_INVALID_ZONE), none);
+    refuses = true;
+    expect_in_file("now", whole, refused(GIX_DATE_OUT_OF_MEMORY), (demand){1, 40});
+    refuses = false;
 }
 
 typedef uint32_t formatter(const gix_date_time *, uint32_t, char *, size_t, size_t *);
@@ -572,7 +717,7 @@ static void status_texts(void)
     static const char *const texts[] = {
         "done",
         "the bytes are not UTF-8",
-        "there is no format or rule of this number",
+        "there is no format or option of this number",
         "the buffer is too short for the text",
         "not a time: expected seconds since 1970, perhaps an offset such as +0100, and no colon",
         "no known date format",
@@ -587,6 +732,7 @@ static void status_texts(void)
         "out of memory",
         "not a signature line: expected a name, <, a mail, > and a time",
         "a name or a mail holds <, >, a newline or NUL",
+        "the relative date is not clear: expected counts and whole units, then ago",
         "unknown status",
     };
     const uint32_t unknown = sizeof texts / sizeof *texts - 1;
@@ -604,8 +750,11 @@ int main(void)
     without_memory(dates, "dates");
     without_memory(relative_dates, "relative dates");
     without_memory(rules_of_offsets, "rules for offsets");
+    without_memory(careful_dates, "careful dates");
+    without_memory(careful_dates_at_moments, "careful dates at moments");
     written_headers();
     zone_files();
+    careful_dates_by_zone_files();
     formats(gix_date_format);
     formats(gix_date_format_or_unix);
     refused_formats();

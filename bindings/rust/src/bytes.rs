@@ -1,6 +1,6 @@
 //! The calls that read texts, for bytes that may not be UTF-8. Such bytes are refused by [`Error::NotText`].
 
-use crate::{calls, Error, Moment, RawOffsets, Time};
+use crate::{calls, CarefulError, CarefulOptions, Error, Moment, RawOffsets, Time};
 
 /// Reads the time of a commit header as [`parse_header()`](crate::parse_header) does. [`Error::NotText`],
 /// [`Error::InvalidTime`].
@@ -21,4 +21,14 @@ pub fn parse(input: &[u8], now: Option<Moment>) -> Result<Time, Error> {
 /// Parses a date as [`parse_with()`](crate::parse_with) does. The same refusals, and [`Error::NotText`].
 pub fn parse_with(input: &[u8], now: Option<Moment>, raw: RawOffsets) -> Result<Time, Error> {
     calls::parse(input, now.as_ref(), raw)
+}
+
+/// Parses a date as [`parse_carefully()`](crate::parse_carefully) does. The same refusals, and [`Error::NotText`] in
+/// [`CarefulError::Refused`].
+pub fn parse_carefully(
+    input: &[u8],
+    now: Option<Moment>,
+    options: CarefulOptions,
+) -> Result<Time, CarefulError> {
+    calls::parse_carefully(input, now.as_ref(), options)
 }

@@ -1,10 +1,11 @@
 //! The calls of the library, each behind a safe function. No other module has an `unsafe` block.
 
-use crate::ffi::{self, CInstant, CSignature};
-use crate::{Error, Moment, RawOffsets, Time, Zone};
+use crate::ffi::{self, CCarefulOptions, CInstant, CSignature};
+use crate::{CarefulError, CarefulOptions, Error, Moment, RawOffsets, Time, Zone};
 
 const OK: u32 = 0;
 const NO_ROOM: u32 = 3;
+const UNCLEAR: u32 = 17;
 
 /// The most bytes of a header text.
 pub(crate) const MAX_HEADER: usize = 26;
@@ -82,10 +83,7 @@ fn parse_absolute(text: &[u8], raw: RawOffsets) -> Result<Time, Error> {
 }
 
 fn parse_at(text: &[u8], now: &Moment, raw: RawOffsets) -> Result<Time, Error> {
-    let instant = CInstant {
-        seconds: now.seconds,
-        nanoseconds: now.nanoseconds,
-    };
+    let instant = instant_of(now);
     let mut time = Time::default();
     let (start, len, raw) = (text.as_ptr(), text.len(), raw as u32);
     let status = match &now.zone {
@@ -105,6 +103,73 @@ fn parse_at(text: &[u8], now: &Moment, raw: RawOffsets) -> Result<Time, Error> {
         },
     };
     stored(status, time)
+}
+
+fn instant_of(moment: &Moment) -> CInstant {
+    CInstant {
+        seconds: moment.seconds,
+        nanoseconds: moment.nanoseconds,
+    }
+}
+
+pub(crate) fn parse_carefully(
+    text: &[u8],
+    now: Option<&Moment>,
+    options: CarefulOptions,
+) -> Result<Time, CarefulError> {
+    let options = CCarefulOptions {
+        raw_offsets: options.raw as u32,
+        without_offset: options.without_offset as u32,
+        relative: options.relative as u32,
+    };
+    let (mut time, mut place) = (Time::default(), 0);
+    let status = match now {
+        Some(now) => parse_carefully_at(text, now, &options, &mut time, &mut place),
+        // SAFETY: the text is valid for its length, the options are valid, and the time and the place are places of their own.
+        None => unsafe {
+            let (start, len) = (text.as_ptr(), text.len());
+            ffi::gix_date_parse_carefully(start, len, &options, &mut time, &mut place)
+        },
+    };
+    match status {
+        UNCLEAR => Err(CarefulError::Unclear(place)),
+        status => Ok(stored(status, time)?),
+    }
+}
+
+/// The status of a date that is parsed at a moment.
+fn parse_carefully_at(
+    text: &[u8],
+    now: &Moment,
+    options: &CCarefulOptions,
+    time: &mut Time,
+    place: &mut usize,
+) -> u32 {
+    let instant = instant_of(now);
+    let (start, len) = (text.as_ptr(), text.len());
+    match &now.zone {
+        // SAFETY: the text is valid for its length, options and instant are valid, and the time and the place are places of
+        // their own.
+        Zone::Offset(offset) => unsafe {
+            ffi::gix_date_parse_carefully_at_offset(
+                start, len, options, &instant, *offset, time, place,
+            )
+        },
+        // SAFETY: as above, and the rule is valid for its length.
+        Zone::Posix(rule) => unsafe {
+            let (rule, rule_len) = (rule.as_ptr(), rule.len());
+            ffi::gix_date_parse_carefully_in_posix_zone(
+                start, len, options, &instant, rule, rule_len, time, place,
+            )
+        },
+        // SAFETY: as above, and the file is valid for its length.
+        Zone::Tzif(file) => unsafe {
+            let (file, file_len) = (file.as_ptr(), file.len());
+            ffi::gix_date_parse_carefully_in_tzif_zone(
+                start, len, options, &instant, file, file_len, time, place,
+            )
+        },
+    }
 }
 
 /// The room that is enough for the text of a time in each named format, and in most others.

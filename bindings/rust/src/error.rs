@@ -14,9 +14,9 @@ pub enum Error {
     UnknownFormat,
     /// The day's midnight in UTC is no instant that can be computed with.
     DateConversion,
-    /// The text is relative to a moment, and none was given.
+    /// The text is relative to a moment or a date in its zone, and none was given.
     MissingNow,
-    /// The relative text names an instant that cannot be computed.
+    /// The relative text names an instant that cannot be computed, or a date in the moment's zone has none.
     Range,
     /// The moment is outside the instants that can be computed with.
     InvalidInstant,
@@ -37,7 +37,7 @@ pub enum Error {
 }
 
 impl Error {
-    /// The refusal of a status that is not `GIX_DATE_OK`.
+    /// The refusal of a status that is neither `GIX_DATE_OK` nor `GIX_DATE_UNCLEAR`.
     pub(crate) fn of_status(status: u32) -> Error {
         match status {
             1 => Error::NotText,
@@ -82,6 +82,37 @@ impl fmt::Display for Error {
 
 impl std::error::Error for Error {}
 
+/// Why [`parse_carefully()`](crate::parse_carefully) refuses.
+#[derive(Clone, Copy, Debug, PartialEq, Eq, Hash)]
+#[non_exhaustive]
+pub enum CarefulError {
+    /// The relative text is not careful: the place, in bytes, of the first word or character that is not understood, or the
+    /// text's length if `ago` is missing at its end. The text can be cut there.
+    Unclear(usize),
+    /// The text is refused as by [`parse_with()`](crate::parse_with).
+    Refused(Error),
+}
+
+impl From<Error> for CarefulError {
+    fn from(error: Error) -> CarefulError {
+        CarefulError::Refused(error)
+    }
+}
+
+impl fmt::Display for CarefulError {
+    fn fmt(&self, f: &mut fmt::Formatter<'_>) -> fmt::Result {
+        match self {
+            CarefulError::Unclear(place) => write!(
+                f,
+                "not understood from byte {place} on; expected counts and whole units, then `ago`, such as \"2 weeks ago\""
+            ),
+            CarefulError::Refused(error) => error.fmt(f),
+        }
+    }
+}
+
+impl std::error::Error for CarefulError {}
+
 #[cfg(test)]
 mod tests {
     use super::Error;
@@ -108,10 +139,10 @@ mod tests {
     #[test]
     fn each_status_is_its_error() {
         let statuses = statuses();
-        assert_eq!(statuses.len(), 17);
+        assert_eq!(statuses.len(), 18);
         for (name, number) in statuses {
-            // The types of this crate rule out the others.
-            if !["Ok", "NoSuchOption", "NoRoom"].contains(&name.as_str()) {
+            // The types of this crate rule out the others, and `CarefulError` has the last.
+            if !["Ok", "NoSuchOption", "NoRoom", "Unclear"].contains(&name.as_str()) {
                 assert_eq!(format!("{:?}", Error::of_status(number)), name);
             }
         }

@@ -10,6 +10,14 @@ pub struct CInstant {
 }
 
 #[repr(C)]
+#[derive(Clone, Copy)]
+pub struct CCarefulOptions {
+    pub raw_offsets: u32,
+    pub without_offset: u32,
+    pub relative: u32,
+}
+
+#[repr(C)]
 #[derive(Clone, Copy, Default)]
 pub struct CSpan {
     pub start: usize,
@@ -66,6 +74,42 @@ extern "C" {
         file: *const u8,
         file_len: usize,
         time: *mut Time,
+    ) -> u32;
+    pub fn gix_date_parse_carefully(
+        text: *const u8,
+        text_len: usize,
+        options: *const CCarefulOptions,
+        time: *mut Time,
+        place: *mut usize,
+    ) -> u32;
+    pub fn gix_date_parse_carefully_at_offset(
+        text: *const u8,
+        text_len: usize,
+        options: *const CCarefulOptions,
+        now: *const CInstant,
+        offset: i32,
+        time: *mut Time,
+        place: *mut usize,
+    ) -> u32;
+    pub fn gix_date_parse_carefully_in_posix_zone(
+        text: *const u8,
+        text_len: usize,
+        options: *const CCarefulOptions,
+        now: *const CInstant,
+        rule: *const u8,
+        rule_len: usize,
+        time: *mut Time,
+        place: *mut usize,
+    ) -> u32;
+    pub fn gix_date_parse_carefully_in_tzif_zone(
+        text: *const u8,
+        text_len: usize,
+        options: *const CCarefulOptions,
+        now: *const CInstant,
+        file: *const u8,
+        file_len: usize,
+        time: *mut Time,
+        place: *mut usize,
     ) -> u32;
     pub fn gix_date_format(
         time: *const Time,

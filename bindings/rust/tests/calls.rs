@@ -3,8 +3,9 @@
 use gix_date_proved::parse::TimeBuf;
 use gix_date_proved::time::{format, CustomFormat, Format};
 use gix_date_proved::{
-    bytes, check_library, is_canonical_header, library_version, parse, parse_header, parse_with,
-    ported_version, write_signature, Error, Moment, RawOffsets, Signature, Time, Version, Zone,
+    bytes, check_library, is_canonical_header, library_version, parse, parse_carefully,
+    parse_header, parse_with, ported_version, write_signature, CarefulError, CarefulOptions, Error,
+    Moment, RawOffsets, RelativeTexts, Signature, Time, Version, WithoutOffset, Zone,
 };
 use std::collections::HashSet;
 use std::io;
@@ -125,6 +126,73 @@ fn relative_dates_are_parsed_in_their_zone() {
         ..in_fold
     };
     assert_eq!(parse("now", Some(empty_file)), Err(Error::InvalidZone));
+}
+
+#[test]
+fn dates_are_parsed_carefully() {
+    let options = CarefulOptions::default();
+    let local = CarefulOptions {
+        without_offset: WithoutOffset::MomentsZone,
+        ..options
+    };
+    let lenient = CarefulOptions {
+        raw: RawOffsets::WholeMinutes,
+        relative: RelativeTexts::All,
+        ..options
+    };
+    let now = || Some(Moment::at_offset(1698400800, 7200));
+    let answers = [
+        ("2024-01-05 10:00", None, options, time(1704448800, 0)),
+        ("2024-01-05 10:00", now(), local, time(1704441600, 7200)),
+        ("2024-01-05 10:00", None, local, Err(Error::MissingNow)),
+        ("2 weeks ago", now(), options, time(1697191200, 7200)),
+        ("30 min ago", now(), lenient, time(1698400770, 7200)),
+        ("@5 +0007", None, lenient, time(5, 420)),
+        ("@5 +0007", None, options, Err(Error::UnknownFormat)),
+    ];
+    for (text, now, options, due) in answers {
+        let due = due.map_err(CarefulError::from);
+        assert_eq!(parse_carefully(text, now, options), due, "{text}");
+    }
+    for (text, place) in [("30 min ago", 3), ("in 2 weeks", 0), ("2 weeks", 7)] {
+        let unclear = Err(CarefulError::Unclear(place));
+        assert_eq!(parse_carefully(text, None, options), unclear, "{text}");
+        assert_eq!(parse_carefully(text, now(), local), unclear, "{text}");
+    }
+    let bytes = bytes::parse_carefully(b"@5\xff", None, options);
+    assert_eq!(bytes, Err(CarefulError::Refused(Error::NotText)));
+}
+
+#[test]
+fn dates_are_parsed_carefully_in_each_zone() {
+    let options = CarefulOptions {
+        without_offset: WithoutOffset::MomentsZone,
+        ..CarefulOptions::default()
+    };
+    let at = |zone| {
+        Some(Moment {
+            seconds: 1699165800,
+            nanoseconds: 0,
+            zone,
+        })
+    };
+    let new_york = || at(Zone::Posix("EST5EDT,M3.2.0,M11.1.0".into()));
+    // A clock time that is there twice, and one that is skipped.
+    for (text, seconds) in [
+        ("2023-11-05 01:30", 1699162200),
+        ("2024-03-10 02:30", 1710055800),
+    ] {
+        let due = time(seconds, -14400).map_err(CarefulError::from);
+        assert_eq!(parse_carefully(text, new_york(), options), due, "{text}");
+    }
+    let invalid = Err(CarefulError::Refused(Error::InvalidZone));
+    for zone in [
+        Zone::Offset(93600),
+        Zone::Posix("banana".into()),
+        Zone::Tzif([].into()),
+    ] {
+        assert_eq!(parse_carefully("now", at(zone), options), invalid);
+    }
 }
 
 #[test]
@@ -301,18 +369,36 @@ fn types_have_their_traits() {
     are_keys::<Format>();
     are_keys::<CustomFormat>();
     are_keys::<RawOffsets>();
+    are_keys::<CarefulOptions>();
+    are_keys::<CarefulError>();
     are_keys::<Signature<'_>>();
     are_shared::<Moment>();
     are_shared::<TimeBuf>();
     assert_eq!(Format::default(), format::DEFAULT.into());
     assert_eq!(CustomFormat::default(), format::DEFAULT);
     assert_eq!(RawOffsets::default(), RawOffsets::Quarter);
+    let CarefulOptions {
+        raw,
+        without_offset,
+        relative,
+    } = CarefulOptions::default();
+    assert_eq!(raw, RawOffsets::Quarter);
+    assert_eq!(without_offset, WithoutOffset::Utc);
+    assert_eq!(relative, RelativeTexts::Careful);
 }
 
 #[test]
 fn errors_are_errors() {
     let error: Box<dyn std::error::Error> = Box::new(parse("banana", None).unwrap_err());
     assert_eq!(error.to_string(), "no known date format");
+    let options = CarefulOptions::default();
+    let refused = parse_carefully("banana", None, options).unwrap_err();
+    assert_eq!(refused.to_string(), error.to_string());
+    let unclear = parse_carefully("2 weeks", None, options).unwrap_err();
+    let unclear: Box<dyn std::error::Error> = Box::new(unclear);
+    assert!(unclear
+        .to_string()
+        .starts_with("not understood from byte 7 on; expected counts"));
 }
 
 fn version([major, minor, patch]: [u32; 3]) -> Version {

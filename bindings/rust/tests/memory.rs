@@ -2,7 +2,10 @@
 
 use gix_date_proved::parse::TimeBuf;
 use gix_date_proved::time::format;
-use gix_date_proved::{parse, parse_header, write_signature, Error, Moment, Signature, Time};
+use gix_date_proved::{
+    parse, parse_carefully, parse_header, write_signature, CarefulOptions, Error, Moment,
+    Signature, Time,
+};
 use std::alloc::{GlobalAlloc, Layout, System};
 use std::cell::Cell;
 use std::ptr;
@@ -65,7 +68,9 @@ fn other_calls_take_no_memory() {
         assert_eq!(parse_header("1660797906 +0800"), Some(time));
         assert_eq!("1660797906 +0800".parse(), Ok(time));
         let now = Moment::at_offset(1660797906, 28800);
-        assert_eq!(parse("now", Some(now)), Ok(time));
+        assert_eq!(parse("now", Some(now.clone())), Ok(time));
+        let options = CarefulOptions::default();
+        assert_eq!(parse_carefully("now", Some(now), options), Ok(time));
         assert_eq!(time.to_str(&mut buf), Ok("1660797906 +0800"));
         assert!(time.write_to(&mut &mut out[..]).is_ok());
         assert!(Signature::from_line("A <a> 5 +0000").is_ok());

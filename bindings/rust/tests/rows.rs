@@ -3,8 +3,9 @@
 use gix_date_proved::parse::TimeBuf;
 use gix_date_proved::time::{format as formats, Format};
 use gix_date_proved::{
-    bytes, is_canonical_header, parse, parse_header, parse_with, write_signature, Error, Moment,
-    RawOffsets, Signature, Time, Zone,
+    bytes, is_canonical_header, parse, parse_carefully, parse_header, parse_with, write_signature,
+    CarefulError, CarefulOptions, Error, Moment, RawOffsets, RelativeTexts, Signature, Time,
+    WithoutOffset, Zone,
 };
 use std::fs;
 use std::path::PathBuf;
@@ -91,13 +92,16 @@ fn agreeing(answers: impl IntoIterator<Item = Option<Answer>>) -> Option<Answer>
     Some(first)
 }
 
-fn parsed(rules: &str, moments: &str, text: &str) -> Option<Answer> {
-    let rules: &[RawOffsets] = match rules {
+fn rules(name: &str) -> Option<&'static [RawOffsets]> {
+    Some(match name {
         "both" => &[RawOffsets::Quarter, RawOffsets::WholeMinutes],
         "quarters" => &[RawOffsets::Quarter],
         "minutes" => &[RawOffsets::WholeMinutes],
         _ => return None,
-    };
+    })
+}
+
+fn parsed(rules: &[RawOffsets], moments: &str, text: &str) -> Option<Answer> {
     let one = [moments];
     let moments: &[&str] = if moments == "any" { &ANY } else { &one };
     agreeing(moments.iter().flat_map(|at| {
@@ -108,17 +112,66 @@ fn parsed(rules: &str, moments: &str, text: &str) -> Option<Answer> {
     }))
 }
 
-/// A date parsed at a moment: `none`, or its seconds, its nanoseconds and its zone.
+/// A date parsed at a moment.
 fn parsed_at(rule: RawOffsets, at: &str, text: &str) -> Option<Answer> {
-    let now = match at {
-        "none" => None,
-        at => {
-            let (seconds, rest) = at.split_once(' ')?;
-            let (nanoseconds, zone) = rest.split_once(' ')?;
-            Some(moment(seconds, nanoseconds, zone)?)
-        }
-    };
-    parsed_by(rule, now, text)
+    parsed_by(rule, now(at)?, text)
+}
+
+/// A moment: `none`, or its seconds, its nanoseconds and its zone.
+fn now(text: &str) -> Option<Option<Moment>> {
+    if text == "none" {
+        return Some(None);
+    }
+    let (seconds, rest) = text.split_once(' ')?;
+    let (nanoseconds, zone) = rest.split_once(' ')?;
+    Some(Some(moment(seconds, nanoseconds, zone)?))
+}
+
+/// A date parsed carefully by each of these rules, by both calls.
+fn parsed_carefully(
+    rules: &[RawOffsets],
+    options: CarefulOptions,
+    at: &str,
+    text: &str,
+) -> Option<Answer> {
+    let now = now(at)?;
+    agreeing(rules.iter().flat_map(|raw| {
+        let options = CarefulOptions {
+            raw: *raw,
+            ..options
+        };
+        [
+            parse_carefully(text, now.clone(), options),
+            bytes::parse_carefully(text.as_bytes(), now.clone(), options),
+        ]
+        .map(|answer| Some(told_carefully(answer)))
+    }))
+}
+
+fn told_carefully(answer: Result<Time, CarefulError>) -> Answer {
+    match answer {
+        Ok(time) => told_time(Ok(time)),
+        Err(CarefulError::Unclear(place)) => Err(format!("Unclear {place}")),
+        Err(CarefulError::Refused(error)) => told_time(Err(error)),
+        Err(other) => Err(format!("{other:?}")),
+    }
+}
+
+/// The options beside the rule for raw offsets.
+fn careful_options(without_offset: &str, relative: &str) -> Option<CarefulOptions> {
+    Some(CarefulOptions {
+        without_offset: match without_offset {
+            "utc" => WithoutOffset::Utc,
+            "local" => WithoutOffset::MomentsZone,
+            _ => return None,
+        },
+        relative: match relative {
+            "careful" => RelativeTexts::Careful,
+            "all" => RelativeTexts::All,
+            _ => return None,
+        },
+        ..CarefulOptions::default()
+    })
 }
 
 fn moment(seconds: &str, nanoseconds: &str, zone: &str) -> Option<Moment> {
@@ -247,7 +300,12 @@ fn answer(mut fields: &[String]) -> Option<Answer> {
         "header_text" => header_text(time(row)?)?,
         "to_zoned" => told_time(time(row)?.to_zoned().and_then(|moment| moment.to_time())),
         "now_local" => told_time(moment(text(row)?, text(row)?, text(row)?)?.to_time()),
-        "parse" => parsed(text(row)?, text(row)?, text(row)?)?,
+        "parse" => parsed(rules(text(row)?)?, text(row)?, text(row)?)?,
+        "parse_carefully" => {
+            let rules = rules(text(row)?)?;
+            let options = careful_options(text(row)?, text(row)?)?;
+            parsed_carefully(rules, options, text(row)?, text(row)?)?
+        }
         "format" => {
             let format = format(text(row)?)?;
             let time = time(row)?;

@@ -5,5 +5,6 @@ pub mod Git
 pub mod Relative
 pub mod Families
 pub mod Printing
+pub mod Careful
 pub mod Fast
 pub mod Rows

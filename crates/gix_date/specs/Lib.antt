@@ -5,6 +5,7 @@ pub mod Git
 pub mod Relative
 pub mod Families
 pub mod Printing
+pub mod Careful
 pub mod Devices
 pub mod Private
 pub mod Values

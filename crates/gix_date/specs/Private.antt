@@ -13,3 +13,4 @@ pub mod CanonicalBytes
 pub mod Printing
 pub mod NamedTexts
 pub mod Types
+pub mod Careful

@@ -69,6 +69,18 @@ pub enum ParseError {
     Range,
 }
 
+/// Why [`parse_carefully`](crate::parse_carefully) refuses.
+#[derive(Clone, Copy, Debug, PartialEq, Eq, Error)]
+pub enum CarefulError {
+    /// A relative text is not careful: the place, in bytes, of the first word or character that was not understood, or the
+    /// text's length if it does not end in `ago`.
+    #[error("not understood from byte {0} on; expected counts and whole units, then `ago`, such as \"2 weeks ago\"")]
+    Unclear(usize),
+    /// The text is refused as by `parse_no_alloc`.
+    #[error("{0}")]
+    Refused(ParseError),
+}
+
 /// A copy of the text that a call refused.
 ///
 /// It shows as that text.

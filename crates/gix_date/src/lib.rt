@@ -24,8 +24,9 @@ pub mod laws;
 pub mod parsing;
 pub mod time;
 
-pub use error::{Error, InputBytes, ParseError};
+pub use error::{CarefulError, Error, InputBytes, ParseError};
 pub use jiff::Zoned;
+pub use parsing::careful::{CarefulOptions, RelativeTexts, WithoutOffset, parse_carefully};
 pub use parsing::dates::{parse, parse_no_alloc, parse_with};
 pub use parsing::headers::{is_canonical_header, parse_header};
 pub use parsing::raw::RawOffsets;

@@ -17,6 +17,7 @@ use std::str::FromStr;
 
 mod answer;
 mod canonical;
+pub mod careful;
 pub(crate) mod dates;
 mod fast;
 mod fields;

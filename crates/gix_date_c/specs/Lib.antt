@@ -1,4 +1,5 @@
 pub mod Buffers
+pub mod Careful
 pub mod Parsing
 pub mod Printing
 pub mod Signatures

@@ -67,6 +67,11 @@ IsMomentOf instant zone now =
     MatchResult now (IsInstantIn instant zone)
     (λ status. (status ≡ statuses.InvalidInstant) × (IsTimestampParts instant.seconds instant.nanoseconds → ⊥))
 
+-- the moment of this instant in a zone, or why there is no zone
+abbrev pub IsMomentIn : CInstant → Result TimeZone Status → Result Zoned Status → Type 0
+IsMomentIn instant (Ok zone) now = IsMomentOf instant zone now
+IsMomentIn instant (Err status) now = now ≡ Err status
+
 -- what parsing comes to at a moment, or where there is none for this reason
 abbrev pub IsParsedAt : ℕ → Result Zoned Status → List ℕ → Result Time Status → Type 0
 IsParsedAt raw_offsets (Ok now) text answer = IsParsed raw_offsets (Some now) text answer
@@ -74,9 +79,8 @@ IsParsedAt raw_offsets (Err status) text answer = answer ≡ Err status
 
 -- what parsing comes to at an instant in a zone, or where there is no zone for this reason
 abbrev pub IsParsedIn : ℕ → CInstant → Result TimeZone Status → List ℕ → Result Time Status → Type 0
-IsParsedIn raw_offsets instant (Ok zone) text answer =
-    (now : Result Zoned Status) × IsMomentOf instant zone now × IsParsedAt raw_offsets now text answer
-IsParsedIn raw_offsets instant (Err status) text answer = answer ≡ Err status
+IsParsedIn raw_offsets instant zone text answer =
+    (now : Result Zoned Status) × IsMomentIn instant zone now × IsParsedAt raw_offsets now text answer
 
 -- the zone that always has this offset
 abbrev pub IsOffsetZone : ℤ → Result TimeZone Status → Type 0
@@ -96,8 +100,17 @@ abbrev pub file_status : JiffError → Status
 file_status OutOfMemory = statuses.Memory
 file_status _ = statuses.InvalidZone
 
--- the zone of a TZif file, or why `jiff` refuses it; memory runs out only for one that can be read
-abbrev pub IsFileZone : List ℕ → Result TimeZone Status → Type 0
-IsFileZone file (Ok zone) = (table : Bor Tzif) × (read_tzif file ≡ Ok (tzif_view table.now)) × (zone ≡ Table table)
-IsFileZone file (Err status) =
+-- the table of a TZif file, or why `jiff` refuses it; memory runs out only for one that can be read
+abbrev pub IsTable : List ℕ → Result Tzif Status → Type 0
+IsTable file (Ok read) = read_tzif file ≡ Ok (tzif_view read)
+IsTable file (Err status) =
     (e : JiffError) × IsParseFailure e file × IsRefused {A = Tzif} (read_tzif file) (Err e) × (status ≡ file_status e)
+
+-- the zone by a table, where there is the table
+abbrev pub IsTableZone : Result Tzif Status → Result TimeZone Status → Type 0
+IsTableZone (Ok read) zone = (lent : Bor Tzif) × (lent.now ≡ read) × (zone ≡ Ok (Table lent))
+IsTableZone (Err status) zone = zone ≡ Err status
+
+-- the zone of a TZif file, or why there is none
+abbrev pub IsFileZone : List ℕ → Result TimeZone Status → Type 0
+IsFileZone file zone = (table : Result Tzif Status) × IsTable file table × IsTableZone table zone

@@ -23,6 +23,7 @@ number_of statuses.Pattern = 13
 number_of statuses.Memory = 14
 number_of statuses.NoSignature = 15
 number_of statuses.BadPart = 16
+number_of statuses.Unclear = 17
 
 -- what is answered of bytes that are text, and else that they are not
 abbrev pub if_text : {T : Type 0} → List ℕ → Result T Status → Result T Status

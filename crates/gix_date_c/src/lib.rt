@@ -6,6 +6,7 @@
 #![tactic(auto)]
 
 mod buffer;
+mod careful;
 mod header;
 mod parse;
 mod print;

@@ -3,7 +3,7 @@ ghost use Rattle.std.specs.Prelude.{◌≡◌, Result, Ok, None};
 ghost use Rattle.std.specs.Result.{result_map_both};
 ghost use Rattle.jiff.specs.Types.{TimeZone as PlainTimeZone};
 ghost use Rattle.jiff.specs.Words.{plain_zone};
-ghost use Rattle.gix_date_c.specs.Parsing.{IsFileZone, IsMomentOf, IsOffsetZone, IsParsed, IsParsedIn, IsRuleZone, file_status, raw_rule};
+ghost use Rattle.gix_date_c.specs.Parsing.{IsFileZone, IsMomentIn, IsMomentOf, IsOffsetZone, IsParsed, IsParsedIn, IsRuleZone, IsTable, IsTableZone, file_status, raw_rule, refusal_status};
 ghost use Rattle.gix_date_c.specs.Times.{StoresTime};
 
 use crate::status::Status;
@@ -77,12 +77,27 @@ pub extern "C" fn gix_date_parse_in_tzif_zone(
         × (answer : Result Time Status) × IsParsedIn raw_offsets now.now zone text.now answer
         × StoresTime answer time.old time.new result }
 {
+    let table = table_of(alloc, file);
+    store_time(parse_in(text, raw_offsets, now, table_zone(&table)), time)
+}
+
+/// The table of a TZif file.
+pub(crate) fn table_of(alloc: Global, file: &[u8]) -> Result<Tzif, Status>
+    ensures { IsTable file.now result }
+{
     match Tzif::parse(alloc, None, file) {
-        Ok(table) => {
-            let zone = Ok(TimeZone::tzif(&table));
-            store_time(parse_in(text, raw_offsets, now, zone), time)
-        }
-        Err(error) => store_time(Err(file_status(error)), time),
+        Ok(table) => Ok(table),
+        Err(error) => Err(file_status(error)),
+    }
+}
+
+/// The zone of a table, where there is the table.
+pub(crate) fn table_zone<'a>(table: &'a Result<Tzif, Status>) -> Result<TimeZone<'a>, Status>
+    ensures { IsTableZone table.now (result_map_both plain_zone (λ status. status) result) }
+{
+    match table {
+        Ok(table) => Ok(TimeZone::tzif(table)),
+        Err(status) => Err(*status),
     }
 }
 
@@ -104,10 +119,19 @@ fn parse_text(text: &[u8], raw_offsets: u32, now: Option<Zoned<'_>>) -> Result<T
     let rule = raw_rule(raw_offsets).ok_or(Status::NoSuchOption)?;
     match parse_no_alloc(text_of(text)?, now, rule) {
         Ok(time) => Ok(time),
-        Err(ParseError::UnknownFormat) => Err(Status::UnknownFormat),
-        Err(ParseError::DateConversion) => Err(Status::DateConversion),
-        Err(ParseError::MissingNow) => Err(Status::MissingNow),
-        Err(ParseError::Range) => Err(Status::Range),
+        Err(error) => Err(refusal_status(error)),
+    }
+}
+
+/// The status of a refusal of the library.
+pub(crate) fn refusal_status(error: ParseError) -> Status
+    ensures { result ≡ refusal_status error }
+{
+    match error {
+        ParseError::UnknownFormat => Status::UnknownFormat,
+        ParseError::DateConversion => Status::DateConversion,
+        ParseError::MissingNow => Status::MissingNow,
+        ParseError::Range => Status::Range,
     }
 }
 
@@ -121,8 +145,19 @@ fn parse_in(
     ensures { IsParsedIn raw_offsets instant.now
         (result_map_both plain_zone (λ status. status) zone.entry) text.now result }
 {
-    let now = moment(instant, zone?)?;
+    let now = moment_in(instant, zone)?;
     parse_text(text, raw_offsets, Some(now))
+}
+
+/// The moment of an instant in a zone, where there is the zone.
+#[inline(always)]
+pub(crate) fn moment_in<'z>(
+    instant: &CInstant,
+    zone: Result<TimeZone<'z>, Status>,
+) -> Result<Zoned<'z>, Status>
+    ensures { IsMomentIn instant.now (result_map_both plain_zone (λ status. status) zone.entry) result }
+{
+    moment(instant, zone?)
 }
 
 fn moment<'z>(instant: &CInstant, zone: TimeZone<'z>) -> Result<Zoned<'z>, Status>
@@ -134,7 +169,7 @@ fn moment<'z>(instant: &CInstant, zone: TimeZone<'z>) -> Result<Zoned<'z>, Statu
     }
 }
 
-fn offset_zone(offset: i32) -> Result<TimeZone<'static>, Status>
+pub(crate) fn offset_zone(offset: i32) -> Result<TimeZone<'static>, Status>
     ensures { IsOffsetZone offset (result_map_both plain_zone (λ status. status) result) }
 {
     match Offset::from_seconds(offset) {
@@ -143,7 +178,7 @@ fn offset_zone(offset: i32) -> Result<TimeZone<'static>, Status>
     }
 }
 
-fn rule_zone(rule: &[u8]) -> Result<TimeZone<'static>, Status>
+pub(crate) fn rule_zone(rule: &[u8]) -> Result<TimeZone<'static>, Status>
     ensures { IsRuleZone rule.now (result_map_both plain_zone (λ status. status) result) }
 {
     match TimeZone::posix(text_of(rule)?) {
@@ -152,7 +187,7 @@ fn rule_zone(rule: &[u8]) -> Result<TimeZone<'static>, Status>
     }
 }
 
-fn raw_rule(number: u32) -> Option<RawOffsets>
+pub(crate) fn raw_rule(number: u32) -> Option<RawOffsets>
     ensures { result ≡ raw_rule number }
 {
     match number {

@@ -9,7 +9,7 @@ pub(crate) enum Status {
     Done = 0,
     /// Bytes that have to be UTF-8 are not.
     NotText = 1,
-    /// A number stands for no format, or for no rule.
+    /// A number stands for no format, or for no option.
     NoSuchOption = 2,
     /// The buffer is too short for the text.
     NoRoom = 3,
@@ -39,6 +39,8 @@ pub(crate) enum Status {
     NoSignature = 15,
     /// The name or the email holds `<`, `>`, a newline or NUL.
     BadPart = 16,
+    /// The relative text is not careful. The call tells the place from which on it is not clear.
+    Unclear = 17,
 }
 
 impl Status {

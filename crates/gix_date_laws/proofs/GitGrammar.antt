@@ -109,16 +109,16 @@ rest-of text t h = rw (means_cut (trim h.rest) h.clock h.zone h.cut, is-clock h.
 abbrev IsForm : List ℕ → List ℕ → LocalDate → Type 0
 IsForm mark gap date = (day : List ℕ) → IsGitDate mark day date → IsGitFront day gap date
 
-by-form : (text mark between : List ℕ) (read : Gap) (date : LocalDate) (left rest : List ℕ) (t : Time) → Takes read mark → read_date read_two_digits read (trim text) ≡ Some (date, left)
+pub by-form : (text mark between : List ℕ) (read : Gap) (date : LocalDate) (left rest : List ℕ) (t : Time) → Takes read mark → read_date read_two_digits read (trim text) ≡ Some (date, left)
     → left ≡ between ++ rest → IsForm mark between date → time_with_rest date rest ≡ Some t → IsGitText text t
 by-form text mark between read date left rest t takes e s form k =
     let d = date-is read mark takes (trim text) date left e in
     text-of text d.text between rest date t (d.whole ∙ ap (λ (r : List ℕ). d.text ++ r) s) (form d.text d.is) k
 
-skips : (c : ℕ) → Takes (skip_char c) (c ∷ [])
+pub skips : (c : ℕ) → Takes (skip_char c) (c ∷ [])
 skips c x rest e = after-taken c x rest e
 
-keeps : Takes (λ (x : List ℕ). Some x) []
+pub keeps : Takes (λ (x : List ℕ). Some x) []
 keeps x rest e = same_some x rest e
 
 option-first : (a b : Option (List ℕ)) (r : List ℕ) → option_or a b ≡ Some r → (a ≡ Some r) ⊎ (b ≡ Some r)

@@ -11,3 +11,5 @@ mod Overlaps
 mod Agreement
 mod WiderRules
 mod ShortBack
+mod CarefulReading
+mod CarefulInUtc

@@ -4,12 +4,14 @@
 //! its definitions are here too (`proofs/Rows`).
 #![tactic(auto)]
 
+mod careful;
 mod families;
 mod formats;
 mod headers;
 mod relative;
 mod values;
 
+pub use careful::{careful_is_parsed, ignores_zone, same_in_utc, without_offset};
 pub use families::{
     agree, any_case, apart, comes_first, dispatched, dispatched_by_rows, ignores_moment,
     one_outcome, overlapping, ranges, spelled, spelled_git, spelled_numbers, trimmed, widened,

@@ -10,7 +10,7 @@ ghost use Rattle.gix_date.specs.Values.{ComparesParts, AgreesWith, IsEquality, F
 
 use gix_date::parsing::TimeBuf;
 use gix_date::time::format::{CustomFormat, Format};
-use gix_date::{ParseError, RawOffsets, Time};
+use gix_date::{CarefulError, CarefulOptions, ParseError, RawOffsets, Time};
 use std::hash::Hash;
 
 /// The seconds and offsets of the two constants and of the default, which is 0 with offset 0.
@@ -32,8 +32,8 @@ pub fn limits()
     ensures text_of_min { IfSome (header_text Time.MIN) (λ text. length text ≡ max_text_len) }
 {}
 
-/// A clone of a time, a rule for raw offsets, a `ParseError`, a format or a pattern is that value. A clone of a buffer
-/// holds the same text. No clone fails.
+/// A clone of a time, a rule for raw offsets, options, a `ParseError`, a `CarefulError`, a format or a pattern is that
+/// value. A clone of a buffer holds the same text. No clone fails.
 pub fn clones()
     ensures time { (a b : Time) → ⟦<Time as Clone>⟧.is_clone a b → b ≡ a }
     ensures time_succeeds { (a : Time) → ⟦<Time as Clone>⟧.is_infallible a }
@@ -43,6 +43,10 @@ pub fn clones()
     ensures rule_succeeds { (a : RawOffsets) → ⟦<RawOffsets as Clone>⟧.is_infallible a }
     ensures refusal { (a b : ParseError) → ⟦<ParseError as Clone>⟧.is_clone a b → b ≡ a }
     ensures refusal_succeeds { (a : ParseError) → ⟦<ParseError as Clone>⟧.is_infallible a }
+    ensures options { (a b : CarefulOptions) → ⟦<CarefulOptions as Clone>⟧.is_clone a b → b ≡ a }
+    ensures options_succeed { (a : CarefulOptions) → ⟦<CarefulOptions as Clone>⟧.is_infallible a }
+    ensures careful { (a b : CarefulError) → ⟦<CarefulError as Clone>⟧.is_clone a b → b ≡ a }
+    ensures careful_succeeds { (a : CarefulError) → ⟦<CarefulError as Clone>⟧.is_infallible a }
     ensures format { (a b : Format) → ⟦<Format as Clone>⟧.is_clone a b → b ≡ a }
     ensures format_succeeds { (a : Format) → ⟦<Format as Clone>⟧.is_infallible a }
     ensures pattern { (a b : CustomFormat) → ⟦<CustomFormat as Clone>⟧.is_clone a b → b ≡ a }
@@ -55,11 +59,14 @@ pub fn order()
     ensures agrees { AgreesWith ⟦<Time as Ord>⟧.cmp ⟦<Time as PartialEq>⟧.eq }
 {}
 
-/// Times are equal by `==` iff both numbers are the same. The same holds for rules for raw offsets and for `ParseError`s.
+/// Times are equal by `==` iff both numbers are the same. The same holds for rules for raw offsets, options, `ParseError`s
+/// and `CarefulError`s.
 pub fn equality()
     ensures time { IsEquality ⟦<Time as PartialEq>⟧.eq }
     ensures rule { IsEquality ⟦<RawOffsets as PartialEq>⟧.eq }
+    ensures options { IsEquality ⟦<CarefulOptions as PartialEq>⟧.eq }
     ensures refusal { IsEquality ⟦<ParseError as PartialEq>⟧.eq }
+    ensures careful { IsEquality ⟦<CarefulError as PartialEq>⟧.eq }
 {}
 
 /// A time feeds a hasher its seconds and then its offset. So equal times hash alike.

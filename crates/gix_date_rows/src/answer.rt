@@ -1,5 +1,5 @@
 //! What a call answers.
-use gix_date::{Error, ParseError, Time};
+use gix_date::{CarefulError, Error, ParseError, Time};
 use gix_signature::SignatureError;
 use std::alloc::AllocError;
 use std::fmt;
@@ -13,6 +13,8 @@ pub(crate) enum Answer {
     Text(String),
     /// A refusal, by its name.
     Refused(&'static str),
+    /// The refusal of a relative text that is not careful, with the place from which on it is not clear.
+    Unclear(usize),
 }
 
 impl Answer {
@@ -21,7 +23,7 @@ impl Answer {
 
     /// Whether it is a refusal.
     pub(crate) fn is_refusal(&self) -> bool {
-        matches!(self, Answer::Refused(_))
+        matches!(self, Answer::Refused(_) | Answer::Unclear(_))
     }
 
     /// A time, or a refusal of this name where there is none.
@@ -42,6 +44,7 @@ impl fmt::Display for Answer {
             }
             Answer::Text(text) => f.write_str(text.as_str()),
             Answer::Refused(name) => f.write_str(name),
+            Answer::Unclear(place) => write!(f, "Unclear {place}"),
         }
     }
 }
@@ -62,14 +65,32 @@ pub(crate) fn name_of(fault: &Error) -> &'static str {
     }
 }
 
+impl From<ParseError> for Answer {
+    fn from(refusal: ParseError) -> Answer {
+        Answer::Refused(match refusal {
+            ParseError::UnknownFormat => "UnknownFormat",
+            ParseError::DateConversion => "DateConversion",
+            ParseError::MissingNow => "MissingNow",
+            ParseError::Range => "Range",
+        })
+    }
+}
+
 impl From<Result<Time, ParseError>> for Answer {
     fn from(answer: Result<Time, ParseError>) -> Answer {
         match answer {
             Ok(time) => Answer::Time(time),
-            Err(ParseError::UnknownFormat) => Answer::Refused("UnknownFormat"),
-            Err(ParseError::DateConversion) => Answer::Refused("DateConversion"),
-            Err(ParseError::MissingNow) => Answer::Refused("MissingNow"),
-            Err(ParseError::Range) => Answer::Refused("Range"),
+            Err(refusal) => refusal.into(),
+        }
+    }
+}
+
+impl From<Result<Time, CarefulError>> for Answer {
+    fn from(answer: Result<Time, CarefulError>) -> Answer {
+        match answer {
+            Ok(time) => Answer::Time(time),
+            Err(CarefulError::Unclear(place)) => Answer::Unclear(place),
+            Err(CarefulError::Refused(refusal)) => refusal.into(),
         }
     }
 }

@@ -3,7 +3,7 @@ use gix_date::time::Format;
 use gix_date::time::format::{
     DEFAULT, GIT_RFC2822, GITOXIDE, ISO8601, ISO8601_STRICT, RFC2822, SHORT,
 };
-use gix_date::{RawOffsets, Time};
+use gix_date::{RawOffsets, RelativeTexts, Time, WithoutOffset};
 use jiff::Timestamp;
 
 /// Fields, and how many of them are taken.
@@ -50,6 +50,24 @@ impl<'a> Arguments<'a> {
             "both" => Some(&[RawOffsets::Quarter, RawOffsets::WholeMinutes]),
             "quarters" => Some(&[RawOffsets::Quarter]),
             "minutes" => Some(&[RawOffsets::WholeMinutes]),
+            _ => None,
+        }
+    }
+
+    /// What a date without an offset means.
+    pub(crate) fn without_offset(&mut self) -> Option<WithoutOffset> {
+        match self.text()? {
+            "utc" => Some(WithoutOffset::Utc),
+            "local" => Some(WithoutOffset::MomentsZone),
+            _ => None,
+        }
+    }
+
+    /// Which relative texts are read.
+    pub(crate) fn relative(&mut self) -> Option<RelativeTexts> {
+        match self.text()? {
+            "careful" => Some(RelativeTexts::Careful),
+            "all" => Some(RelativeTexts::All),
             _ => None,
         }
     }

@@ -1,11 +1,11 @@
 //! The calls of rows, each named as in the library.
 use crate::answer::{Answer, name_of};
 use crate::arguments::Arguments;
-use crate::moments::{parsed, zone_of};
+use crate::moments::{parsed, parsed_carefully, zone_of};
 use gix_date::device::Device;
 use gix_date::parsing::TimeBuf;
 use gix_date::time::Format;
-use gix_date::{Error, Time, parse_header};
+use gix_date::{CarefulOptions, Error, RawOffsets, Time, parse_header};
 use gix_signature::{SignatureError, SignatureRef, write_line};
 use jiff::Timestamp;
 use jiff::tz::TimeZoneDatabase;
@@ -25,6 +25,16 @@ pub(crate) fn answer_to(
             let rules = row.rules()?;
             let moments = row.text()?;
             parsed(alloc, zones, rules, moments, row.text()?)
+        }
+        "parse_carefully" => {
+            let rules = row.rules()?;
+            let options = CarefulOptions {
+                raw: RawOffsets::Quarter,
+                without_offset: row.without_offset()?,
+                relative: row.relative()?,
+            };
+            let moment = row.text()?;
+            parsed_carefully(zones, rules, options, moment, row.text()?)
         }
         "to_zoned" => Some(converted(row.time()?)),
         "now_local" => {

@@ -1,6 +1,9 @@
 //! Dates parsed at no moment, at one, or at any.
 use crate::answer::Answer;
-use gix_date::{Error, ParseError, RawOffsets, Time, Zoned, parse, parse_no_alloc, parse_with};
+use gix_date::{
+    CarefulOptions, Error, ParseError, RawOffsets, Time, Zoned, parse, parse_carefully,
+    parse_no_alloc, parse_with,
+};
 use jiff::Timestamp;
 use jiff::tz::{Offset, TimeZone, TimeZoneDatabase};
 use std::alloc::Global;
@@ -14,8 +17,8 @@ const MOMENTS: [(i64, i32); 5] = [
     (0, 93_599),
 ];
 
-/// What a text answers by each of these rules at the moments that a field says: `none`, `any` or one, as `moment_of` has it.
-/// `None` where it says none of these.
+/// What a text answers by each of these rules at the moments that a field says: `any`, or as `moment_of` has it. `None` where it
+/// says none of these.
 pub(crate) fn parsed(
     alloc: Global,
     zones: &TimeZoneDatabase,
@@ -23,22 +26,67 @@ pub(crate) fn parsed(
     moments: &str,
     text: &str,
 ) -> Option<Answer> {
-    match moments {
-        "none" => Some(by_each(alloc, rules, text, None)),
-        "any" => Some(at_any(alloc, rules, text)),
-        at => match moment_of(zones, at)? {
-            Ok(now) => Some(by_each(alloc, rules, text, Some(now))),
-            Err(refusal) => Some(Answer::Refused(refusal)),
-        },
+    if moments == "any" {
+        return Some(at_any(alloc, rules, text));
+    }
+    match moment_of(zones, moments)? {
+        Ok(now) => Some(by_each(alloc, rules, text, now)),
+        Err(refusal) => Some(Answer::Refused(refusal)),
     }
 }
 
-/// The moment that is written as its seconds, its nanoseconds and its zone with a space after each of the first two, or the name of
-/// what is wrong with it. `None` where it is written otherwise.
+/// What a text answers carefully by each of these rules and the other options, at the moment that a field says. `None` where it says
+/// none.
+pub(crate) fn parsed_carefully(
+    zones: &TimeZoneDatabase,
+    rules: &[RawOffsets],
+    options: CarefulOptions,
+    moment: &str,
+    text: &str,
+) -> Option<Answer> {
+    match moment_of(zones, moment)? {
+        Ok(now) => Some(carefully(rules, options, text, now)),
+        Err(refusal) => Some(Answer::Refused(refusal)),
+    }
+}
+
+/// The answer that is the same by each of these rules and the other options.
+fn carefully(
+    rules: &[RawOffsets],
+    options: CarefulOptions,
+    text: &str,
+    now: Option<Zoned<'_>>,
+) -> Answer {
+    let mut found = None;
+    for raw in rules {
+        let answer = parse_carefully(
+            text,
+            now,
+            CarefulOptions {
+                raw: *raw,
+                ..options
+            },
+        );
+        if found.unwrap_or(answer) != answer {
+            return Answer::APART;
+        }
+        found = Some(answer);
+    }
+    match found {
+        Some(answer) => answer.into(),
+        None => Answer::APART,
+    }
+}
+
+/// No moment where the text is `none`, or the one that is written as its seconds, its nanoseconds and its zone with a space after each
+/// of the first two, or the name of what is wrong with it. `None` where it is written otherwise.
 fn moment_of<'a>(
     zones: &'a TimeZoneDatabase,
     text: &str,
-) -> Option<Result<Zoned<'a>, &'static str>> {
+) -> Option<Result<Option<Zoned<'a>>, &'static str>> {
+    if text == "none" {
+        return Some(Ok(None));
+    }
     let (seconds, rest) = text.split_once(' ')?;
     let (nanoseconds, zone) = rest.split_once(' ')?;
     let seconds = seconds.parse().ok()?;
@@ -47,7 +95,7 @@ fn moment_of<'a>(
         return Some(Err("InvalidZone"));
     };
     match Timestamp::new(seconds, nanoseconds) {
-        Ok(instant) => Some(Ok(instant.to_zoned(zone))),
+        Ok(instant) => Some(Ok(Some(instant.to_zoned(zone)))),
         Err(_) => Some(Err("InvalidInstant")),
     }
 }

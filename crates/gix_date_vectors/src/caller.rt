@@ -1,5 +1,7 @@
 //! What a crate that reads and writes commits does with `gix_date`.
-ghost use Rattle.std.specs.Prelude.{◌≡◌, ◌≢◌, ◌↔◌, ◌<◌, ◌%◌, ◌-ℤ◌, pos, true, false, unsigned_abs, IsTrue, IsSome, Some, None, Err, Ok, IfSome, IfNone, IsOk, IsOkAnd, IsSomeAnd, IfOk, MatchResult, option_map, unwrap_or, replicate, string_bytes, ℤ, Option};
+ghost use Rattle.std.specs.Prelude.{◌≡◌, ◌≢◌, ◌↔◌, ◌<◌, ◌%◌, ◌-ℤ◌, pos, true, false, unsigned_abs, IsTrue, IsSome, Some, None, Err, Ok, IfSome, IfNone, IsOk, IsOkAnd, IsSomeAnd, IfErr, IfOk, MatchResult, drop, option_map, unwrap_or, replicate, string_bytes, ℕ, ℤ, Option};
+ghost use Rattle.gix_date.specs.Careful.Laws.{in_zone};
+ghost use Rattle.gix_date.specs.Careful.Outcome.{careful_reading, default_options, CarefulOutcome, Unclear};
 ghost use Rattle.gix_date.specs.Families.Answer.{Absolute, Relative};
 ghost use Rattle.gix_date.specs.Header.Canonical.{is_canonical_header};
 ghost use Rattle.gix_date.specs.Families.Epoch.{epoch_time};
@@ -28,8 +30,8 @@ use gix_date::parsing::TimeBuf;
 use gix_date::time::CustomFormat;
 use gix_date::time::format::{DEFAULT, GIT_RFC2822, GITOXIDE, ISO8601, ISO8601_STRICT, RFC2822};
 use gix_date::{
-    Error, ParseError, RawOffsets, Time, is_canonical_header, laws, parse, parse_header,
-    parse_no_alloc, parse_with,
+    CarefulError, CarefulOptions, Error, ParseError, RawOffsets, Time, WithoutOffset,
+    is_canonical_header, laws, parse, parse_carefully, parse_header, parse_no_alloc, parse_with,
 };
 use jiff::tz::{SystemTimeZone, TimeZone, TimeZoneDatabase};
 use jiff::{Timestamp, Zoned};
@@ -134,6 +136,25 @@ pub fn date_typed(alloc: Global, date: &str, now: Time) -> Result<Time, Error>
 {
     let moment = now.to_zoned()?;
     parse(alloc, date, Some(moment))
+}
+
+/// The time of a date that a person typed, whose clock and zone the moment has, or the part of the text that was not
+/// understood: `min ago` of `30 min ago`.
+pub fn date_meant<'a>(date: &'a str, now: Zoned<'_>) -> Result<Time, &'a str>
+    ensures time { (t : Read) → result ≡ Ok t
+        → CarefulOutcome (careful_reading (in_zone default_options) date.now) (Some now.entry) (Ok t) }
+    ensures rest { (place : ℕ) → careful_reading (in_zone default_options) date.now ≡ Unclear place
+        → IfErr result (λ rest. rest.now ≡ drop place date.now) }
+{
+    let options = CarefulOptions {
+        without_offset: WithoutOffset::MomentsZone,
+        ..CarefulOptions::default()
+    };
+    match parse_carefully(date, Some(now), options) {
+        Ok(time) => Ok(time),
+        Err(CarefulError::Unclear(place)) => Err(&date[place..]),
+        Err(CarefulError::Refused(_)) => Err(date),
+    }
 }
 
 /// The time of a revision's date, as of the words in `@{2 days ago}`, by the machine's clock and in its zone, or why

@@ -1,16 +1,16 @@
 //! Public names, each where it stands, and the traits that callers count on.
 use crate::caller::{
-    absolute_date, asks_for_a_moment, authored, authored_in_utc, commit_time, date_typed,
-    day_before, doubled, header_bytes, iso_date, kept_by_each, kept_in_date, kept_in_header,
-    log_date, read_canonical, resolved, rewrite, shown, stored_date,
+    absolute_date, asks_for_a_moment, authored, authored_in_utc, commit_time, date_meant,
+    date_typed, day_before, doubled, header_bytes, iso_date, kept_by_each, kept_in_date,
+    kept_in_header, log_date, read_canonical, resolved, rewrite, shown, stored_date,
 };
 use crate::machine::Machine;
 use gix_date::device::Device;
 use gix_date::parsing::TimeBuf;
 use gix_date::time::{CustomFormat, Format, format};
 use gix_date::{
-    Error, InputBytes, OffsetInSeconds, ParseError, RawOffsets, SecondsSinceUnixEpoch, Time, Zoned,
-    laws, parse,
+    CarefulError, CarefulOptions, Error, InputBytes, OffsetInSeconds, ParseError, RawOffsets,
+    RelativeTexts, SecondsSinceUnixEpoch, Time, WithoutOffset, Zoned, laws, parse, parse_carefully,
 };
 use gix_date_fakes::Dribble;
 use gix_date_tool::Mode;
@@ -177,6 +177,45 @@ fn callers_parse_dates(rt: HostRuntime) -> Result<(), Fail> {
 }
 
 #[test]
+fn callers_say_what_was_not_understood(rt: HostRuntime) -> Result<(), Fail> {
+    let zone = TimeZone::posix("EST5EDT,M3.2.0,M11.1.0")?;
+    let now = Timestamp::from_second(1_698_400_800)?.to_zoned(zone);
+    let meant = date_meant("2024-01-05 10:00", now);
+    assert!(rt; meant == Ok(Time::new(1_704_466_800, -18_000)));
+    assert!(rt; date_meant("2 hours ago", now) == Ok(Time::new(1_698_393_600, -14_400)));
+    assert!(rt; date_meant("30 min ago", now) == Err("min ago"));
+    assert!(rt; date_meant("2 weeks", now) == Err(""));
+    assert!(rt; date_meant("banana", now) == Err("banana"));
+    Ok(())
+}
+
+#[test]
+fn careful_options_and_refusals_are_as_told(rt: HostRuntime) -> Result<(), Fail> {
+    let options = CarefulOptions::default();
+    assert!(rt; options.raw == RawOffsets::Quarter);
+    assert!(rt; options.without_offset == WithoutOffset::Utc);
+    assert!(rt; options.relative == RelativeTexts::Careful);
+    let unclear = parse_carefully("30 min ago", None, options);
+    assert!(rt; unclear == Err(CarefulError::Unclear(3)));
+    let refused = parse_carefully("banana", None, options);
+    assert!(rt; refused == Err(CarefulError::Refused(ParseError::UnknownFormat)));
+    let text = format!(in rt.alloc(); "{}", CarefulError::Unclear(3))?;
+    assert_eq!(rt;
+        text.as_str(),
+        "not understood from byte 3 on; expected counts and whole units, then `ago`, such as \"2 weeks ago\""
+    );
+    let text = format!(in rt.alloc(); "{}", CarefulError::Refused(ParseError::MissingNow))?;
+    let same = format!(in rt.alloc(); "{}", ParseError::MissingNow)?;
+    assert!(rt; text == same);
+    let text = format!(in rt.alloc(); "{:?}", options)?;
+    assert_eq!(rt;
+        text.as_str(),
+        "CarefulOptions { raw: Quarter, without_offset: Utc, relative: Careful }"
+    );
+    Ok(())
+}
+
+#[test]
 fn callers_ask_the_machine(rt: HostRuntime) -> Result<(), Fail> {
     let clock = Timestamp::from_second(1_660_874_655)?;
     assert_eq!(rt; authored_in_utc(clock), Time::new(1_660_874_655, 0));
@@ -279,6 +318,10 @@ fn laws_are_called_for_nothing_but_what_they_state() {
     gix_date_laws::dispatched_by_rows("last week", RawOffsets::Quarter);
     gix_date_laws::widened("1 +0007");
     gix_date_laws::ignores_moment("yesterday", RawOffsets::Quarter);
+    let options = CarefulOptions::default();
+    gix_date_laws::without_offset("2024-01-05 10:00", RawOffsets::Quarter);
+    gix_date_laws::careful_is_parsed("2 days ago", options);
+    gix_date_laws::ignores_zone("2 days ago", options);
     gix_date_tool::limits();
     gix_date_tool::lines_are_unique();
     gix_date_tool::replies_are_unique();
@@ -307,6 +350,8 @@ fn laws_are_called_for_what_they_state_of_a_time(rt: HostRuntime) -> Result<(), 
     );
     gix_date_laws::seconds_before(&moment, &[(2, 3600)]);
     gix_date_laws::never_later("2 hours ago", &moment);
+    let utc = Time::new(1_660_874_655, 0).to_zoned()?;
+    gix_date_laws::same_in_utc("2024-01-05 10:00", CarefulOptions::default(), &utc);
     laws::months_add(&moment, &[(0, 1), (1, 12), (2, 1)]);
     let parsed = laws::headline(rt.alloc(), "5 -0130", Some(moment));
     assert!(rt; matches!(parsed, Ok(raw) if raw == Time::new(5, -5400)));

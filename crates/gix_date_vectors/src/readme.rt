@@ -5,7 +5,7 @@ use gix_date::{Error, parse, parse_header};
 use std::alloc::Global;
 
 fn example(alloc: Global) -> Result<String, Error> {
-    // A date, which needs no moment; a text that is not one comes back in the fault, by a copy.
+    // Parse a date. `None`: no moment, so relative dates are refused. A refusal carries a copy of the text.
     let time = parse(alloc, "@1660874655 +0800", None)?;
     // Its text in a commit header, in a buffer of its own: "1660874655 +0800". No memory is taken.
     let text = time.to_buf()?;

@@ -5,6 +5,7 @@ use crate::{Error, Time};
 use std::fmt;
 use std::str::FromStr;
 
+pub(crate) mod careful;
 pub(crate) mod function;
 
 /// A buffer for the header text of any time, by which [`Time::to_str()`] takes no memory. It is empty at first.

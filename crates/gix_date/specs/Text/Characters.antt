@@ -50,6 +50,10 @@ letter_t = 84
 abbrev pub letter_z : ℕ
 letter_z = 90
 
+-- `_`
+abbrev pub underscore : ℕ
+underscore = 95
+
 -- `s`
 abbrev pub small_s : ℕ
 small_s = 115

@@ -91,7 +91,20 @@ pub fn parse_no_alloc(
     ensures outcome { ParseNoAllocOutcome (first_family_by (allows raw) input.now) now.entry result }
     ensures offset_fits { IfOk result (λ t. IsOffsetSeconds t.offset) }
 {
-    match first_answer(input, raw) {
+    outcome(first_answer(input, raw), now)
+}
+
+/// What a call without an allocator results in, by the first answer.
+#[inline(always)]
+pub(crate) fn outcome(
+    answer: Option<Answer<'_>>,
+    now: Option<Zoned<'_>>,
+) -> Result<Time, ParseError>
+    requires { IfSome answer HasJiffOffset }
+    ensures outcome { ParseNoAllocOutcome (option_map answer_of answer.entry) now.entry result }
+    ensures offset_fits { IfOk result (λ t. IsOffsetSeconds t.offset) }
+{
+    match answer {
         Some(Answer::Absolute(time)) => Ok(time),
         Some(Answer::OffsetAboveDay) => Err(ParseError::UnknownFormat),
         Some(Answer::NoInstant) => Err(ParseError::DateConversion),
@@ -114,7 +127,7 @@ fn with_copy(alloc: Global, input: &str, refusal: ParseError) -> Error
 
 /// The answer of the first family that holds the text. Raw texts and numbers in their usual form come first, since no
 /// other family holds them.
-fn first_answer(input: &str, raw: RawOffsets) -> Option<Answer<'_>>
+pub(crate) fn first_answer(input: &str, raw: RawOffsets) -> Option<Answer<'_>>
     ensures first { option_map answer_of result ≡ first_family_by (allows raw) input.now }
     ensures offset_fits { IfSome result HasJiffOffset }
 {

@@ -2,6 +2,7 @@
 ghost use Rattle.std.specs.Prelude.{◌≡◌, ◌<◌, ◌≤◌, IfSome};
 ghost use Rattle.jiff.specs.Words.{IsOffsetSeconds};
 ghost use Rattle.std.specs.Str.{trim};
+ghost use Rattle.gix_date.specs.Careful.Dates.{unzoned_git_time, git_front, marked_front, compact_front};
 ghost use Rattle.gix_date.specs.Private.Civil.{ClockFits, DateFits};
 ghost use Rattle.gix_date.specs.Private.FastRests.{time_at};
 ghost use Rattle.gix_date.specs.Private.Views.{read_view};
@@ -34,6 +35,61 @@ pub(crate) fn parse_git_date_format(input: &str) -> Option<Time>
     ensures offset_fits { IfSome result (λ t. IsOffsetSeconds t.offset) }
 {
     parse_form(trimmed(input))
+}
+
+/// Reads a date in one of Git's own forms in which no offset is written: its time in UTC.
+#[tactic(auto, unfolding(crate::specs::Careful::Dates::unzoned_git_time))]
+pub(crate) fn parse_unzoned_git(input: &str) -> Option<Time>
+    ensures { result ≡ unzoned_git_time input.now }
+{
+    let (date, rest) = read_front(trimmed(input))?;
+    let (clock, offset) = clock_cut(trimmed(rest));
+    if !offset.is_empty() {
+        return None;
+    }
+    parse_cut(date, clock, offset)
+}
+
+/// The day of one of Git's own forms, and what stands after it and its gap.
+#[tactic(auto, unfolding(crate::specs::Careful::Dates::git_front))]
+fn read_front(text: &str) -> Option<(DateFields, &str)>
+    ensures value { read_view result ≡ git_front text.now }
+    ensures fits { IfSome result (λ found. DateFits found.0) }
+{
+    if let Some(front) = read_marked_front('.', ' ', text) {
+        return Some(front);
+    }
+    if let Some(front) = read_compact_front(text) {
+        return Some(front);
+    }
+    if let Some(front) = read_marked_front('-', 'T', text) {
+        return Some(front);
+    }
+    read_marked_front('-', ' ', text)
+}
+
+/// A day with this mark between its numbers, and this character after it.
+#[tactic(auto, unfolding(crate::specs::Careful::Dates::marked_front))]
+fn read_marked_front(mark: char, gap: char, text: &str) -> Option<(DateFields, &str)>
+    requires mark { mark < 128 }
+    requires gap { gap < 128 }
+    ensures value { read_view result ≡ marked_front mark gap text.now }
+    ensures fits { IfSome result (λ found. DateFits found.0) }
+{
+    let (date, rest) = read_marked_date(mark, text)?;
+    let rest = skip_char(gap, rest)?;
+    Some((date, rest))
+}
+
+/// A day with no mark, and `T` after it.
+#[tactic(auto, unfolding(crate::specs::Careful::Dates::compact_front))]
+fn read_compact_front(text: &str) -> Option<(DateFields, &str)>
+    ensures value { read_view result ≡ compact_front text.now }
+    ensures fits { IfSome result (λ found. DateFits found.0) }
+{
+    let (date, rest) = read_compact_date(text)?;
+    let rest = skip_char('T', rest)?;
+    Some((date, rest))
 }
 
 /// The first of the three forms that a trimmed text has.

@@ -1,5 +1,6 @@
 //! Formatted dates, as logs and other programs print them.
 ghost use Rattle.std.specs.Prelude.{◌≡◌, IfSome, [], ◌∷◌, option_map, option_copied};
+ghost use Rattle.gix_date.specs.Careful.Dates.{unzoned_day};
 ghost use Rattle.gix_date.specs.Fields.DateFields.{skip_day_name};
 ghost use Rattle.gix_date.specs.Families.Patterns.{real_day_answer, time_answer, date_answer, rfc2822_answer};
 ghost use Rattle.gix_date.specs.Fields.Layout.{Spaces, Year, Clock, MailClock, Offset, MailOffset, LetterT, ColonOffset};
@@ -36,6 +37,19 @@ pub(crate) fn parse_dashed(text: &str) -> Option<Answer<'static>>
         return Some(answer);
     }
     iso8601_strict_after(date, rest)
+}
+
+/// The midnight in UTC of a text that is a day alone.
+#[tactic(auto, unfolding(crate::specs::Careful::Dates::unzoned_day))]
+pub(crate) fn parse_unzoned_day(text: &str) -> Option<Time>
+    ensures { result ≡ unzoned_day text.now }
+{
+    let (date, rest) = read_plain_date(text)?;
+    if !rest.is_empty() {
+        return None;
+    }
+    let seconds = midnight_instant(date)?;
+    Some(Time::new(seconds, 0))
 }
 
 /// What a day alone answers. The calendar check runs only if there is no instant.

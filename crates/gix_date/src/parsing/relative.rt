@@ -18,10 +18,11 @@ use crate::time::{SECONDS_PER_DAY, Time};
 use jiff::tz::Offset;
 use jiff::{Timestamp, Zoned};
 
+pub(crate) mod careful;
 mod fixed;
 mod pairs;
 mod scan;
-mod steps;
+pub(crate) mod steps;
 mod words;
 
 /// What a relative text asks for.
@@ -151,7 +152,7 @@ fn subtract_pairs<'a>(start: Zoned<'a>, text: &str) -> Option<Zoned<'a>>
 }
 
 /// The time of a moment: whole seconds, towards 1970, and the offset of its zone there.
-fn time_of(moment: Zoned<'_>) -> Time
+pub(crate) fn time_of(moment: Zoned<'_>) -> Time
     ensures seconds { result.seconds ≡ whole_seconds (zoned_nanos moment.entry) }
     ensures offset { result.offset ≡ offset_at (zone_of moment.entry) (zoned_nanos moment.entry) }
     ensures offset_fits { IsOffsetSeconds result.offset }

@@ -55,7 +55,7 @@ fn gap_len(text: &str) -> usize
 }
 
 /// How many bytes the word has that stands first.
-fn word_len(text: &str) -> usize
+pub(crate) fn word_len(text: &str) -> usize
     ensures { result ≡ prefix_len is_ascii_alphanumeric text.now }
 {
     text.bytes()

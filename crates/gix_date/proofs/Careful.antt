@@ -1,0 +1,4 @@
+pub mod Failures
+pub mod Unzoned
+pub mod Zones
+pub mod Clear

@@ -1,0 +1,36 @@
+-- What is clear is ASCII.
+use Rattle.std.proofs.Common.{◌≡◌, ◌∙◌, ◌<◌, ◌+◌, ℕ, Bool, true, false, cond, List, length, refl, sym, ap, arith, suc, IfSome, Option, Some, None}
+use Rattle.std.proofs.lemmas.Bool.{and_parts as both}
+use Rattle.std.proofs.lemmas.Bool.Decides.{nat_tests}
+use Rattle.std.specs.Char.{is_ascii_alphanumeric}
+use Rattle.std.specs.Prelude.{◌&&◌, ◌||◌, not, slice_index, ◌==◌}
+use Rattle.gix_date.specs.Careful.Texts.{after_word, begins_word, in_word, is_clear_at, is_separator, may_stand_after, separates, word_at, word_before}
+use Rattle.gix_date.specs.Text.Characters.{minus}
+
+word_is_ascii : (b : ℕ) → is_ascii_alphanumeric b ≡ true → b < 128
+word_is_ascii b h = grind (arith, nat_tests, h)
+
+separator_is_ascii : (b : ℕ) → is_separator b ≡ true → b < 128
+separator_is_ascii b h = grind (arith, nat_tests, h)
+
+dash_is_ascii : (b : ℕ) (before : Bool) → (b == minus && before) ≡ true → b < 128
+dash_is_ascii b true h = grind (arith, nat_tests, h)
+dash_is_ascii b false h = grind (arith, nat_tests, h)
+
+either : (a b : Bool) (n : ℕ) → (a ≡ true → n < 128) → (b ≡ true → n < 128) → (a || b) ≡ true → n < 128
+either true b n f g h = f refl
+either false b n f g h = g h
+
+pub begin_is_ascii : (text : List ℕ) (place : ℕ) → begins_word text place ≡ true → slice_index text place < 128
+begin_is_ascii text place h = word_is_ascii (slice_index text place) (both (in_word text place) (not (after_word text place)) h).0
+
+chosen : (text : List ℕ) (place : ℕ) (begins fits : Bool) → begins_word text place ≡ begins → cond begins fits (in_word text place || separates text place) ≡ true → slice_index text place < 128
+chosen text place true fits e h = begin_is_ascii text place e
+chosen text place false fits e h =
+    let b = slice_index text place in
+    either (in_word text place) (separates text place) b (word_is_ascii b)
+    (either (is_separator b) (b == minus && after_word text place) b (separator_is_ascii b) (dash_is_ascii b (after_word text place))) h
+
+pub clear_is_ascii : (text : List ℕ) (place : ℕ) → is_clear_at text place ≡ true → slice_index text place < 128
+unfolding is_clear_at
+clear_is_ascii text place h = chosen text place (begins_word text place) (may_stand_after (word_before text place) (word_at text place)) refl h

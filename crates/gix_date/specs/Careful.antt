@@ -1,0 +1,5 @@
+-- Dates for callers that must not guess.
+pub mod Dates
+pub mod Texts
+pub mod Outcome
+pub mod Laws

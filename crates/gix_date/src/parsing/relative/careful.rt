@@ -1,0 +1,127 @@
+//! Which relative texts leave nothing to guess: each word fits the one before it, and the last is `ago`.
+ghost use Rattle.std.specs.Prelude.{◌≡◌, ◌<◌, length, IfSome, IsCharBoundary, option_map};
+ghost use Rattle.gix_date.specs.Careful.Texts.{after_word, begins_word, ends_in_ago, is_and, is_clear_at, is_plain_count, may_follow, may_stand_after, separates, unclear_place, word_at};
+ghost use Rattle.gix_date.specs.Git.ClockCut.{last_place};
+ghost use Rattle.gix_date.specs.Private.Careful.{IsWordPlace};
+
+use crate::parsing::relative::words::{has_unit, is_ago, is_count_word, word_len};
+
+/// Where a text stops being careful: the place of the first byte that does not fit, or the text's length if its last word
+/// is not `ago`. `None` if it is careful.
+pub(crate) fn unclear_place(text: &str) -> Option<usize>
+    ensures place { result ≡ unclear_place text.now }
+    ensures boundary { IfSome result (IsCharBoundary text.now) }
+{
+    let bytes = text.as_bytes();
+    let mut before = None;
+    let mut place = 0;
+    while place < bytes.len() {
+        if !is_clear_at(text, before, place) {
+            return Some(place);
+        }
+        if begins_word(bytes, place) {
+            before = Some(place);
+        }
+        place += 1;
+    }
+    if ends_in_ago(text, before) {
+        return None;
+    }
+    Some(place)
+}
+
+/// Whether nothing is to be guessed at this place, after the word that begins at `before`.
+#[tactic(auto, unfolding(crate::specs::Careful::Texts::is_clear_at))]
+fn is_clear_at(text: &str, before: Option<usize>, place: usize) -> bool
+    requires within { place < length text.now }
+    requires before { IfSome before (IsWordPlace text.now) }
+    requires last { before ≡ last_place (begins_word text.now) place }
+    ensures { result ≡ is_clear_at text.now place }
+{
+    let bytes = text.as_bytes();
+    if begins_word(bytes, place) {
+        may_stand_after(text, before, word_at(text, place))
+    } else {
+        bytes[place].is_ascii_alphanumeric() || separates(bytes, place)
+    }
+}
+
+/// Whether a word may stand after the one that begins at `before`, or first.
+fn may_stand_after(text: &str, before: Option<usize>, word: &str) -> bool
+    requires { IfSome before (IsWordPlace text.now) }
+    ensures { result ≡ may_stand_after (option_map (word_at text.now) before) word.now }
+{
+    match before {
+        Some(before) => may_follow(word_at(text, before), word),
+        None => is_plain_count(word),
+    }
+}
+
+/// Whether the second word may follow the first.
+fn may_follow(first: &str, second: &str) -> bool
+    ensures { result ≡ may_follow first.now second.now }
+{
+    is_plain_count(first) && has_unit(second)
+        || has_unit(first) && (is_plain_count(second) || is_and(second) || is_ago(second))
+        || is_and(first) && is_plain_count(second)
+}
+
+/// Whether a word is a count, but not `last`.
+fn is_plain_count(word: &str) -> bool
+    ensures { result ≡ is_plain_count word.now }
+{
+    is_count_word(word) && !word.eq_ignore_ascii_case("last")
+}
+
+fn is_and(word: &str) -> bool
+    ensures { result ≡ is_and word.now }
+{
+    word.eq_ignore_ascii_case("and")
+}
+
+/// Whether the word that begins at `before` is `ago`.
+fn ends_in_ago(text: &str, before: Option<usize>) -> bool
+    requires { IfSome before (IsWordPlace text.now) }
+    ensures { result ≡ ends_in_ago (option_map (word_at text.now) before) }
+{
+    match before {
+        Some(before) => is_ago(word_at(text, before)),
+        None => false,
+    }
+}
+
+/// The word that begins at this place.
+fn word_at(text: &str, place: usize) -> &str
+    requires { IsWordPlace text.now place }
+    ensures { result.now ≡ word_at text.now place }
+{
+    let from = &text[place..];
+    from.split_at(word_len(from)).0
+}
+
+/// Whether a word begins at this place.
+fn begins_word(bytes: &[u8], place: usize) -> bool
+    requires { place < length bytes.now }
+    ensures value { result ≡ begins_word bytes.now place }
+{
+    bytes[place].is_ascii_alphanumeric() && !is_after_word(bytes, place)
+}
+
+/// Whether a word ends directly before this place.
+fn is_after_word(bytes: &[u8], place: usize) -> bool
+    requires { place < length bytes.now }
+    ensures { result ≡ after_word bytes.now place }
+{
+    place > 0 && bytes[place - 1].is_ascii_alphanumeric()
+}
+
+/// Whether what stands at this place separates words: white space of ASCII, `,`, `.`, `_`, or `-` directly after a word.
+fn separates(bytes: &[u8], place: usize) -> bool
+    requires { place < length bytes.now }
+    ensures { result ≡ separates bytes.now place }
+{
+    match bytes[place] {
+        b'-' => is_after_word(bytes, place),
+        b => b.is_ascii_whitespace() || matches!(b, b',' | b'.' | b'_'),
+    }
+}

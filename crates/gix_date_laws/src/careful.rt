@@ -1,0 +1,27 @@
+//! Laws of dates for callers that must not guess.
+ghost use Rattle.gix_date.specs.Careful.Laws.{AnswersAlike, AnswersUnzoned, IgnoresZone, IsParsedToo, IsUtc};
+ghost use Rattle.gix_date.specs.Families.Raw.{allows};
+
+use gix_date::{CarefulOptions, RawOffsets};
+use jiff::Zoned;
+
+/// A date in which no offset is written is one that `parse_with` reads, by either rule: as the same date and clock in UTC.
+pub fn without_offset(text: &str, raw: RawOffsets)
+    ensures { AnswersUnzoned (allows raw) text.now }
+{}
+
+/// What `parse_carefully` reads, `parse_with` reads as the same time. The exception is a date of the moment's zone.
+pub fn careful_is_parsed(text: &str, options: CarefulOptions)
+    ensures { IsParsedToo options text.now }
+{}
+
+/// Where an offset is written, and in a relative text, the zone of dates without an offset has no effect.
+pub fn ignores_zone(text: &str, options: CarefulOptions)
+    ensures { IgnoresZone options text.now }
+{}
+
+/// At a moment in UTC, a date without an offset means the same by both options.
+pub fn same_in_utc(text: &str, options: CarefulOptions, moment: &Zoned<'_>)
+    requires { IsUtc moment.now }
+    ensures { AnswersAlike options text.now moment.now }
+{}
