@@ -103,9 +103,9 @@ static inline const char *gix_date_status_text(uint32_t status)
     case GIX_DATE_DATE_CONVERSION:
         return "the date is beyond the last instant that can be computed with";
     case GIX_DATE_MISSING_NOW:
-        return "a relative date needs a moment to count from, and none was given";
+        return "the date needs a moment, and none was given";
     case GIX_DATE_RANGE:
-        return "the relative date leads to an instant that cannot be computed with";
+        return "the date leads to an instant that cannot be computed with";
     case GIX_DATE_INVALID_INSTANT:
         return "the moment is no instant that can be computed with";
     case GIX_DATE_INVALID_ZONE:

@@ -22,7 +22,7 @@ pub enum Error {
     #[error("not a time: expected seconds since 1970, perhaps an offset such as +0100, and no colon")]
     InvalidTime,
     /// The text is relative, and no moment was given (`parse`).
-    #[error("a relative date needs a moment to count from, and none was given")]
+    #[error("the date needs a moment, and none was given")]
     MissingNow,
     /// The day's midnight in UTC is no instant of `jiff` (`parse`).
     #[error("the date is beyond the last instant that can be computed with: {:?}", .input.as_text())]
@@ -34,7 +34,7 @@ pub enum Error {
     #[error("the time is too far from 1970, or its offset from UTC is beyond 25:59:59")]
     Conversion,
     /// The relative text names no instant of `jiff` (`parse`).
-    #[error("the relative date leads to an instant that cannot be computed with")]
+    #[error("the date leads to an instant that cannot be computed with")]
     Range,
     /// The offset is 100 hours or more, which four digits cannot write (`write_to`, `to_str`, `to_buf`, `format`).
     #[error("an offset of 100 hours or more from UTC cannot be written")]
@@ -61,11 +61,11 @@ pub enum ParseError {
     /// The day's midnight in UTC is no instant of `jiff`.
     #[error("the date is beyond the last instant that can be computed with")]
     DateConversion,
-    /// The text is relative, and no moment was given.
-    #[error("a relative date needs a moment to count from, and none was given")]
+    /// The text is relative, or a date of the moment's zone, and no moment was given.
+    #[error("the date needs a moment, and none was given")]
     MissingNow,
-    /// The relative text names no instant of `jiff`.
-    #[error("the relative date leads to an instant that cannot be computed with")]
+    /// The relative text names no instant of `jiff`, or a date has none in the moment's zone.
+    #[error("the date leads to an instant that cannot be computed with")]
     Range,
 }
 

@@ -13,3 +13,4 @@ mod WiderRules
 mod ShortBack
 mod CarefulReading
 mod CarefulInUtc
+mod Parity

@@ -3,7 +3,7 @@ ghost use Rattle.std.specs.Prelude.{pos};
 ghost use Rattle.std.specs.List.{All};
 ghost use Rattle.gix_date.specs.Relative.FixedZones.{IsSecondsPair, less_seconds, total, NamesEarlier, NamesBefore, NamesNoneLater};
 ghost use Rattle.gix_date.specs.Relative.Dates.{MinusSeconds, AreNamedOnce, AreConvertible};
-ghost use Rattle.gix_date.specs.Relative.Pairs.{IsSpelledSo};
+ghost use Rattle.gix_date.specs.Relative.Pairs.{AreFreeByParity, IsSpelledSo};
 ghost use Rattle.gix_date.specs.Relative.Steps.{zone_of};
 ghost use Rattle.jiff.specs.Words.{IsFixed};
 
@@ -21,9 +21,11 @@ pub fn named_converts()
 {}
 
 /// Relative texts are the names `now`, `today` and `yesterday` and the texts whose words are pairs. In pairs some count has
-/// a period. Each period of a count is a unit, or some free word is `ago`.
+/// a period. Each period of a count is a unit, or some free word is `ago`. A word is free iff an even number of count words
+/// stands directly before it.
 pub fn spelled_relative(text: &str)
-    ensures { IsSpelledSo text.now }
+    ensures so { IsSpelledSo text.now }
+    ensures parity { AreFreeByParity }
 {}
 
 /// From a time, at its offset, `yesterday` and pairs of seconds name the time that many seconds earlier, if it has an

@@ -4,9 +4,9 @@ use gix_date::{Error, ParseError, RawOffsets};
 use std::test::Fail;
 use std::{io, str};
 
-const NO_MOMENT: &str = "a relative date needs a moment to count from, and none was given";
+const NO_MOMENT: &str = "the date needs a moment, and none was given";
 
-const NO_INSTANT: &str = "the relative date leads to an instant that cannot be computed with";
+const NO_INSTANT: &str = "the date leads to an instant that cannot be computed with";
 
 const UNKNOWN: &str =
     "no known date format; expected seconds since 1970, such as \"@0\" or \"1700000000\", seconds and an \

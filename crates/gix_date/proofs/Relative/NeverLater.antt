@@ -1,11 +1,11 @@
 -- At one offset a relative text names no instant after the moment: its counts and units are never negative.
-use Rattle.std.proofs.Common.{◌≡◌, ◌+◌, ℕ, ℤ, pos, negsuc, ◌-ℤ◌, ◌*ℤ◌, ◌≤ℤ◌, Bool, true, false, cond, List, [], ◌∷◌, ◌++◌, refl, subst, arith, Option, Some, None, option_map, flat_map}
+use Rattle.std.proofs.Common.{◌≡◌, ◌+◌, ℕ, ℤ, pos, negsuc, ◌-ℤ◌, ◌*ℤ◌, ◌≤ℤ◌, Bool, true, false, cond, List, [], ◌∷◌, ◌++◌, refl, subst, arith, Option, Some, None, option_map}
 use Rattle.std.proofs.lemmas.Bool.{and_parts as both}
 use Rattle.std.proofs.lemmas.Bool.Decides.{nat_tests}
 use Rattle.std.specs.Char.{is_ascii_digit}
-use Rattle.std.specs.List.{list_all, position}
+use Rattle.std.specs.List.{cons_option, list_all, position}
 use Rattle.std.specs.Option.{option_or}
-use Rattle.std.specs.Prelude.{◌==◌, codes, unwrap_or}
+use Rattle.std.specs.Prelude.{◌==◌, codes, filter_map, unwrap_or}
 use Rattle.std.specs.Str.{trim}
 use Rattle.jiff.specs.Types.{Offset, TimeZone}
 use Rattle.jiff.specs.Words.{fixed_zone, month_number}
@@ -13,7 +13,8 @@ use Rattle.jiff_core.proofs.DateTimeLemmas.{civil_nanos-parts}
 use Rattle.jiff_core.proofs.SignedLemmas.{signed_arith}
 use Rattle.jiff_tz.specs.Zone.{IsFixed}
 use Rattle.gix_date.specs.Relative.Dates.{RelativeDate, MinusSeconds, MinusPairs, Reaches, date_names, named_date, pairs_date, relative_date}
-use Rattle.gix_date.specs.Relative.Roles.{are_pairs, next_is_free, pair_here, pairs}
+use Rattle.gix_date.specs.Relative.Roles.{are_pairs, next_is_free, pair_with, pair_at, pairs}
+use Rattle.gix_date.specs.Fields.Front.{◌>>=◌}
 use Rattle.gix_date.specs.Relative.Steps.{PairStep, MonthsStep, Chain}
 use Rattle.gix_date.specs.Relative.Words.{relative_words, count_of, named_count, number_named, unit_names, named_unit, singular, unit_of, unit_or_seconds}
 use Rattle.gix_date.specs.Text.Characters.{minus}
@@ -99,19 +100,16 @@ unit-low period = by (named_in unit_names (singular period)) refl
     by (Some unit) e = said-of IsUnit unit_names (singular period) unit units-low e
     by None e = low 1
 
-here-back : (no_period : Bool) (word : List ℕ) (count : Option ℤ) (back : List (List ℕ)) → count_of word ≡ count → GoBack (pair_here no_period count back)
-here-back true word (Some n) (period ∷ back) e = (count-low word n e, unit-low period, tt)
-here-back true word (Some n) [] e = tt
-here-back true word None back e = tt
-here-back false word count back e = tt
+here-back : (free : Bool) (word : List ℕ) (count : Option ℤ) (back : List (List ℕ)) (more : List (ℤ × TimeUnit)) → count_of word ≡ count → GoBack more
+    → GoBack (cons_option (cond free (count >>= pair_with back) None) more)
+here-back true word (Some n) (period ∷ back) more e h = (count-low word n e, unit-low period, h)
+here-back true word (Some n) [] more e h = h
+here-back true word None back more e h = h
+here-back false word count back more e h = h
 
-back-append : (a b : List (ℤ × TimeUnit)) → GoBack a → GoBack b → GoBack (a ++ b)
-back-append [] b h k = k
-back-append ((count, unit) ∷ a) b h k = (h.0, h.1, back-append a b h.2 k)
-
-places-back : (ps : List Place) → GoBack (flat_map (λ p. pair_here (next_is_free p.front) (count_of p.word) p.back) ps)
+places-back : (ps : List Place) → GoBack (filter_map pair_at ps)
 places-back [] = tt
-places-back (p ∷ ps) = back-append (pair_here (next_is_free p.front) (count_of p.word) p.back) _ (here-back (next_is_free p.front) p.word (count_of p.word) p.back refl) (places-back ps)
+places-back (p ∷ ps) = here-back (next_is_free p.front) p.word (count_of p.word) p.back (filter_map pair_at ps) refl (places-back ps)
 
 pairs-back : (words : List (List ℕ)) → GoBack (pairs words)
 unfolding pairs

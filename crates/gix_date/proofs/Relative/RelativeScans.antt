@@ -4,10 +4,10 @@ use Rattle.std.specs.List.{fold}
 use Rattle.std.specs.Prelude.{not, ◌&&◌, ◌||◌}
 use Rattle.gix_date.specs.Relative.Words.{is_ago}
 use Rattle.gix_date.proofs.Text.Places.{any_place, all_places}
-use Rattle.gix_date.specs.Relative.Roles.{is_even, is_count_word, has_unit, count_run, has_next, next_is_unit, has_flag, has_pair, all_units, are_pairs}
+use Rattle.gix_date.specs.Relative.Roles.{is_count_word, has_unit, next_is_free, has_next, next_is_unit, has_flag, has_pair, all_units, are_pairs}
 use Rattle.gix_date.specs.Private.RelativeScan.{step, verdict}
 use Rattle.gix_date.specs.declared.parsing.relative.scan.Scan.{Scan}
-use Rattle.gix_date.proofs.Relative.CountRuns.{even_after}
+use Rattle.gix_date.proofs.Relative.CountRuns.{free_after}
 
 abbrev pub scan : Bool → Bool → Bool → Bool → Scan
 scan waiting any known ago = record { waiting = waiting; any = any; known = known; ago = ago }
@@ -19,9 +19,9 @@ flips false true even even' e f = sym (ap not (f ∙ sym e))
 flips false false even even' e f = sym (ap not f)
 
 -- how the waiting state goes on
-goes_on : (v a k g : Bool) (w : List ℕ) (front : List (List ℕ)) → v ≡ not (is_even (count_run front)) → (step (scan v a k g) w).waiting ≡ not (is_even (count_run (front ++ w ∷ [])))
-goes_on true a k g w front e = flips true (is_count_word w) (is_even (count_run front)) _ e (even_after front w)
-goes_on false a k g w front e = flips false (is_count_word w) (is_even (count_run front)) _ e (even_after front w)
+goes_on : (v a k g : Bool) (w : List ℕ) (front : List (List ℕ)) → v ≡ not (next_is_free front) → (step (scan v a k g) w).waiting ≡ not (next_is_free (front ++ w ∷ []))
+goes_on true a k g w front e = flips true (is_count_word w) (next_is_free front) _ e (free_after front w)
+goes_on false a k g w front e = flips false (is_count_word w) (next_is_free front) _ e (free_after front w)
 
 off : (even b : Bool) → true ≡ not even → (even && b) ≡ false
 off true b e = cc
@@ -57,38 +57,38 @@ none_known true true = refl
 none_known true false = refl
 none_known false v = refl
 
-ago_of : (ws front : List (List ℕ)) (v a k g : Bool) → v ≡ not (is_even (count_run front))
-    → (fold step (scan v a k g) ws).ago ≡ (g || any_place (λ f w back. is_even (count_run f) && is_ago w) front ws)
+ago_of : (ws front : List (List ℕ)) (v a k g : Bool) → v ≡ not (next_is_free front)
+    → (fold step (scan v a k g) ws).ago ≡ (g || any_place (λ f w back. next_is_free f && is_ago w) front ws)
 ago_of [] front v a k g e = or_false g
 ago_of (w ∷ ws) front true a k g e =
     ago_of ws (front ++ w ∷ []) false true (k && has_unit w) g (goes_on true a k g w front e)
-    ∙ ap (λ b. g || (b || any_place (λ f w back. is_even (count_run f) && is_ago w) (front ++ w ∷ []) ws)) (sym (off (is_even (count_run front)) (is_ago w) e))
+    ∙ ap (λ b. g || (b || any_place (λ f w back. next_is_free f && is_ago w) (front ++ w ∷ []) ws)) (sym (off (next_is_free front) (is_ago w) e))
 ago_of (w ∷ ws) front false a k g e =
     ago_of ws (front ++ w ∷ []) (is_count_word w) a k (g || is_ago w) (goes_on false a k g w front e)
     ∙ or_nested g (is_ago w) _
-    ∙ ap (λ b. g || (b || any_place (λ f w back. is_even (count_run f) && is_ago w) (front ++ w ∷ []) ws)) (sym (on (is_even (count_run front)) (is_ago w) e))
+    ∙ ap (λ b. g || (b || any_place (λ f w back. next_is_free f && is_ago w) (front ++ w ∷ []) ws)) (sym (on (next_is_free front) (is_ago w) e))
 
-any_of : (ws front : List (List ℕ)) (v a k g : Bool) → v ≡ not (is_even (count_run front))
-    → (fold step (scan v a k g) ws).any ≡ (a || ((v && has_next ws) || any_place (λ f w back. (is_even (count_run f) && is_count_word w) && has_next back) front ws))
+any_of : (ws front : List (List ℕ)) (v a k g : Bool) → v ≡ not (next_is_free front)
+    → (fold step (scan v a k g) ws).any ≡ (a || ((v && has_next ws) || any_place (λ f w back. (next_is_free f && is_count_word w) && has_next back) front ws))
 any_of [] front v a k g e = none_any a v
 any_of (w ∷ ws) front true a k g e = any_of ws (front ++ w ∷ []) false true (k && has_unit w) g (goes_on true a k g w front e) ∙ or_true a
 any_of (w ∷ ws) front false a k g e =
     any_of ws (front ++ w ∷ []) (is_count_word w) a k (g || is_ago w) (goes_on false a k g w front e)
-    ∙ ap (λ b. a || ((b && has_next ws) || any_place (λ f w back. (is_even (count_run f) && is_count_word w) && has_next back) (front ++ w ∷ []) ws)) (sym (on (is_even (count_run front)) (is_count_word w) e))
+    ∙ ap (λ b. a || ((b && has_next ws) || any_place (λ f w back. (next_is_free f && is_count_word w) && has_next back) (front ++ w ∷ []) ws)) (sym (on (next_is_free front) (is_count_word w) e))
 
-known_of : (ws front : List (List ℕ)) (v a k g : Bool) → v ≡ not (is_even (count_run front))
-    → (fold step (scan v a k g) ws).known ≡ (k && ((not v || next_is_unit ws) && all_places (λ f w back. not (is_even (count_run f) && is_count_word w) || next_is_unit back) front ws))
+known_of : (ws front : List (List ℕ)) (v a k g : Bool) → v ≡ not (next_is_free front)
+    → (fold step (scan v a k g) ws).known ≡ (k && ((not v || next_is_unit ws) && all_places (λ f w back. not (next_is_free f && is_count_word w) || next_is_unit back) front ws))
 known_of [] front v a k g e = none_known k v
 known_of (w ∷ ws) front true a k g e =
     known_of ws (front ++ w ∷ []) false true (k && has_unit w) g (goes_on true a k g w front e)
     ∙ and_nested k (has_unit w) _
-    ∙ ap (λ b. k && (has_unit w && ((not b || next_is_unit ws) && all_places (λ f w back. not (is_even (count_run f) && is_count_word w) || next_is_unit back) (front ++ w ∷ []) ws))) (sym (off (is_even (count_run front)) (is_count_word w) e))
+    ∙ ap (λ b. k && (has_unit w && ((not b || next_is_unit ws) && all_places (λ f w back. not (next_is_free f && is_count_word w) || next_is_unit back) (front ++ w ∷ []) ws))) (sym (off (next_is_free front) (is_count_word w) e))
 known_of (w ∷ ws) front false a k g e =
     known_of ws (front ++ w ∷ []) (is_count_word w) a k (g || is_ago w) (goes_on false a k g w front e)
-    ∙ ap (λ b. k && ((not b || next_is_unit ws) && all_places (λ f w back. not (is_even (count_run f) && is_count_word w) || next_is_unit back) (front ++ w ∷ []) ws)) (sym (on (is_even (count_run front)) (is_count_word w) e))
+    ∙ ap (λ b. k && ((not b || next_is_unit ws) && all_places (λ f w back. not (next_is_free f && is_count_word w) || next_is_unit back) (front ++ w ∷ []) ws)) (sym (on (next_is_free front) (is_count_word w) e))
 
-at_start : false ≡ not (is_even (count_run []))
-unfolding count_run
+at_start : false ≡ not (next_is_free [])
+unfolding next_is_free
 at_start = refl
 
 all_three : (a k g a' k' g' : Bool) → a ≡ a' → k ≡ k' → g ≡ g' → (a && (k || g)) ≡ (a' && (k' || g'))

@@ -4,7 +4,7 @@ use Rattle.std.proofs.lemmas.Bool.{and_parts as and_cases}
 use Rattle.std.specs.Prelude.{not, ◌&&◌, ◌||◌, ◌⊎◌, ◌↔◌, IsTrue}
 use Rattle.gix_date.proofs.Text.Places.{Words, any_place, all_places}
 use Rattle.gix_date.specs.Relative.Words.{is_ago}
-use Rattle.gix_date.specs.Relative.Roles.{is_even, is_count_word, has_unit, count_run, has_next, next_is_unit, has_flag, has_pair, all_units, are_pairs}
+use Rattle.gix_date.specs.Relative.Roles.{is_count_word, has_unit, next_is_free, has_next, next_is_unit, has_flag, has_pair, all_units, are_pairs}
 use Rattle.gix_date.specs.Relative.Pairs.{HasFlag, HasPair, AllUnits, ArePairs}
 use Rattle.gix_date.proofs.Fields.Instants.{join as and_both}
 
@@ -51,30 +51,30 @@ next_of (p ∷ b) h = (p, b, refl)
 pair_split : (ws : List (List ℕ)) → has_pair ws ≡ true → HasPair ws
 unfolding has_pair
 pair_split ws h =
-    let s = some_place (λ f w back. (is_even (count_run f) && is_count_word w) && has_next back) ws [] h in
-    let both = and_cases (is_even (count_run s.0) && is_count_word s.1) (has_next s.2) s.4 in
+    let s = some_place (λ f w back. (next_is_free f && is_count_word w) && has_next back) ws [] h in
+    let both = and_cases (next_is_free s.0 && is_count_word s.1) (has_next s.2) s.4 in
     let next = next_of s.2 both.1 in
-    (s.0, s.1, next.0, next.1, s.3 ∙ ap (λ b. s.0 ++ s.1 ∷ b) next.2, and_cases (is_even (count_run s.0)) (is_count_word s.1) both.0)
+    (s.0, s.1, next.0, next.1, s.3 ∙ ap (λ b. s.0 ++ s.1 ∷ b) next.2, and_cases (next_is_free s.0) (is_count_word s.1) both.0)
 
 pair_join : (ws : List (List ℕ)) → HasPair ws → has_pair ws ≡ true
 unfolding has_pair
 pair_join ws h =
-    let t : List (List ℕ) → List ℕ → List (List ℕ) → Bool = λ f w back. (is_even (count_run f) && is_count_word w) && has_next back in
+    let t : List (List ℕ) → List ℕ → List (List ℕ) → Bool = λ f w back. (next_is_free f && is_count_word w) && has_next back in
     subst (λ zs. any_place t [] zs ≡ true) (sym h.4)
-    (place_some t h.0 h.1 (h.2 ∷ h.3) [] (and_both (is_even (count_run h.0) && is_count_word h.1) true (and_both (is_even (count_run h.0)) (is_count_word h.1) h.5.0 h.5.1) refl))
+    (place_some t h.0 h.1 (h.2 ∷ h.3) [] (and_both (next_is_free h.0 && is_count_word h.1) true (and_both (next_is_free h.0) (is_count_word h.1) h.5.0 h.5.1) refl))
 
 flag_split : (ws : List (List ℕ)) → has_flag ws ≡ true → HasFlag ws
 unfolding has_flag
 flag_split ws h =
-    let s = some_place (λ f w back. is_even (count_run f) && is_ago w) ws [] h in
-    let both = and_cases (is_even (count_run s.0)) (is_ago s.1) s.4 in
+    let s = some_place (λ f w back. next_is_free f && is_ago w) ws [] h in
+    let both = and_cases (next_is_free s.0) (is_ago s.1) s.4 in
     (s.0, s.1, s.2, s.3, both.0, both.1)
 
 flag_join : (ws : List (List ℕ)) → HasFlag ws → has_flag ws ≡ true
 unfolding has_flag
 flag_join ws h =
-    let t : List (List ℕ) → List ℕ → List (List ℕ) → Bool = λ f w back. is_even (count_run f) && is_ago w in
-    subst (λ zs. any_place t [] zs ≡ true) (sym h.3) (place_some t h.0 h.1 h.2 [] (and_both (is_even (count_run h.0)) (is_ago h.1) h.4 h.5))
+    let t : List (List ℕ) → List ℕ → List (List ℕ) → Bool = λ f w back. next_is_free f && is_ago w in
+    subst (λ zs. any_place t [] zs ≡ true) (sym h.3) (place_some t h.0 h.1 h.2 [] (and_both (next_is_free h.0) (is_ago h.1) h.4 h.5))
 
 then_unit : (a b u : Bool) → (not (a && b) || u) ≡ true → a ≡ true → b ≡ true → u ≡ true
 then_unit true true u h p q = h
@@ -89,8 +89,8 @@ unit_then false b u h = refl
 units_split : (ws : List (List ℕ)) → all_units ws ≡ true → AllUnits ws
 unfolding all_units
 units_split ws h = λ front w p back e count.
-    let t : List (List ℕ) → List ℕ → List (List ℕ) → Bool = λ f w back. not (is_even (count_run f) && is_count_word w) || next_is_unit back in
-    then_unit (is_even (count_run front)) (is_count_word w) (has_unit p) (each_place t front w (p ∷ back) [] (subst (λ zs. all_places t [] zs ≡ true) e h)) count.0 count.1
+    let t : List (List ℕ) → List ℕ → List (List ℕ) → Bool = λ f w back. not (next_is_free f && is_count_word w) || next_is_unit back in
+    then_unit (next_is_free front) (is_count_word w) (has_unit p) (each_place t front w (p ∷ back) [] (subst (λ zs. all_places t [] zs ≡ true) e h)) count.0 count.1
 
 unit_next : (even b : Bool) (back : List (List ℕ)) → ((p : List ℕ) (rest : List (List ℕ)) → back ≡ p ∷ rest → even ≡ true → b ≡ true → has_unit p ≡ true) → (not (even && b) || next_is_unit back) ≡ true
 unit_next even b [] h = or_right (not (even && b)) true refl
@@ -99,8 +99,8 @@ unit_next even b (p ∷ rest) h = unit_then even b (has_unit p) (λ f g. h p res
 units_join : (ws : List (List ℕ)) → AllUnits ws → all_units ws ≡ true
 unfolding all_units
 units_join ws h =
-    let t : List (List ℕ) → List ℕ → List (List ℕ) → Bool = λ f w back. not (is_even (count_run f) && is_count_word w) || next_is_unit back in
-    place_each t ws [] (λ a w b e. unit_next (is_even (count_run a)) (is_count_word w) b (λ p rest is even count. h a w p rest (e ∙ ap (λ zs. a ++ w ∷ zs) is) (even, count)))
+    let t : List (List ℕ) → List ℕ → List (List ℕ) → Bool = λ f w back. not (next_is_free f && is_count_word w) || next_is_unit back in
+    place_each t ws [] (λ a w b e. unit_next (next_is_free a) (is_count_word w) b (λ p rest is even count. h a w p rest (e ∙ ap (λ zs. a ++ w ∷ zs) is) (even, count)))
 
 second : (ws : List (List ℕ)) → (all_units ws ≡ true) ⊎ (has_flag ws ≡ true) → AllUnits ws ⊎ HasFlag ws
 second ws (inl h) = inl (units_split ws h)

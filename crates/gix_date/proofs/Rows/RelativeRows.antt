@@ -11,12 +11,12 @@ use Rattle.gix_date.specs.Text.Numbers.{int_value}
 use Rattle.gix_date.specs.Families.Raw.{is_wide_offset}
 use Rattle.gix_date.specs.Relative.Dates.{MinusSeconds, MinusPairs, relative_date, named_date, pairs_date}
 use Rattle.gix_date.specs.Relative.Words.{relative_words, count_of, named_count, number_named, unit_of, singular, named_unit}
-use Rattle.gix_date.specs.Relative.Roles.{is_count_word, has_unit, count_run, has_flag, has_pair, all_units, are_pairs, pairs}
+use Rattle.gix_date.specs.Relative.Roles.{is_count_word, has_unit, next_is_free, has_flag, has_pair, all_units, are_pairs, pairs}
 use Rattle.gix_date.specs.declared.parsing.relative.words.TimeUnit.TheVariants.{Seconds, Months}
 
 -- all that a row of relative texts needs to see computed
 relating : Type 0
-unfolding relative_date named_date pairs_date relative_words count_of named_count number_named unit_of singular named_unit is_count_word has_unit count_run has_flag has_pair all_units are_pairs pairs int_value trim_start trim_end chars encode
+unfolding relative_date named_date pairs_date relative_words count_of named_count number_named unit_of singular named_unit is_count_word has_unit next_is_free has_flag has_pair all_units are_pairs pairs int_value trim_start trim_end chars encode
 relating = Unit {0}
 
 two-minutes : relative_date (codes "2 minutes ago") ≡ Some (MinusPairs ((pos 2, Seconds (pos 60)) ∷ []))

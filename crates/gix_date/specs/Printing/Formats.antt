@@ -1,5 +1,5 @@
 -- What a time is printed as.
-use Rattle.std.specs.Prelude.{◌≡◌, ◌⊎◌, ℕ, List, Some, None, Result, Ok, Err, MatchResult, false, string_bytes, String, IsSome}
+use Rattle.std.specs.Prelude.{◌≡◌, ◌⊎◌, ℕ, List, Some, None, Result, Ok, Err, false, string_bytes, String, IsSome}
 use Rattle.std.specs.Str.{IsUtf8}
 use Rattle.std.specs.Global.{Global}
 use Rattle.jiff.specs.Types.{PlainZoned}
@@ -49,22 +49,22 @@ AtMoment t Has = (z : Zoned) × IsMoment t z × Has (plain_zoned z)
 
 -- the result is the seconds of a time in decimal, or `Memory`
 abbrev pub PrintsSeconds : Time → Result (String Global) Error → Type 0
-PrintsSeconds t result =
-    MatchResult result (λ text. string_bytes text ≡ decimal_text t.seconds) (λ e. e ≡ errors.Memory)
+PrintsSeconds t (Ok text) = string_bytes text ≡ decimal_text t.seconds
+PrintsSeconds t (Err e) = e ≡ errors.Memory
 
 -- the result is the header text of the time, or `Memory` for it, or `OffsetTooWide` if there is none
 abbrev pub PrintsHeader : Time → Result (String Global) Error → Type 0
-PrintsHeader t result =
-    MatchResult result (λ text. header_text t ≡ Some (string_bytes text))
-    (λ e. ((e ≡ errors.OffsetTooWide) × (header_text t ≡ None)) ⊎ ((e ≡ errors.Memory) × IsSome (header_text t)))
+PrintsHeader t (Ok text) = header_text t ≡ Some (string_bytes text)
+PrintsHeader t (Err e) =
+    ((e ≡ errors.OffsetTooWide) × (header_text t ≡ None)) ⊎ ((e ≡ errors.Memory) × IsSome (header_text t))
 
 -- What printing by a pattern results in: `Conversion` if the time does not convert; else the text that `IsShown`,
 -- `Pattern` if `jiff` refuses the pattern or shows no UTF-8, or `Memory`.
 abbrev pub PrintsPattern : Time → List ℕ → Result (String Global) Error → Type 0
-PrintsPattern t pattern result =
-    MatchResult result (λ text. AtMoment t (λ z. IsShown pattern z (Ok (string_bytes text))))
-    (λ e. ((e ≡ errors.Conversion) × (IsConvertible t → ⊥)) ⊎ ((e ≡ errors.Memory) × IsConvertible t)
-    ⊎ ((e ≡ errors.Pattern) × AtMoment t (IsUnprinted pattern)))
+PrintsPattern t pattern (Ok text) = AtMoment t (λ z. IsShown pattern z (Ok (string_bytes text)))
+PrintsPattern t pattern (Err e) =
+    ((e ≡ errors.Conversion) × (IsConvertible t → ⊥)) ⊎ ((e ≡ errors.Memory) × IsConvertible t)
+    ⊎ ((e ≡ errors.Pattern) × AtMoment t (IsUnprinted pattern))
 
 -- what printing in a format results in: `PrintsSeconds`, `PrintsHeader`, or `PrintsPattern` its pattern
 abbrev pub Prints : Time → Format → Result (String Global) Error → Type 0
@@ -78,10 +78,9 @@ HasNoPatternText t pattern = (IsConvertible t → ⊥) ⊎ AtMoment t (IsUnprint
 
 -- what printing by a pattern results in, with the seconds in decimal for a time that has no text by it
 abbrev pub PrintsPatternOrSeconds : Time → List ℕ → Result (String Global) Error → Type 0
-PrintsPatternOrSeconds t pattern result =
-    MatchResult result
-    (λ text. PrintsPattern t pattern (Ok text) ⊎ (HasNoPatternText t pattern × (string_bytes text ≡ decimal_text t.seconds)))
-    (λ e. e ≡ errors.Memory)
+PrintsPatternOrSeconds t pattern (Ok text) =
+    PrintsPattern t pattern (Ok text) ⊎ (HasNoPatternText t pattern × PrintsSeconds t (Ok text))
+PrintsPatternOrSeconds t pattern (Err e) = e ≡ errors.Memory
 
 -- the time has no text in the format
 abbrev pub HasNoText : Time → Format → Type 0
@@ -91,7 +90,5 @@ HasNoText t (Custom format) = HasNoPatternText t format.pattern.now
 
 -- what printing in a format results in, with the seconds in decimal for a time that has no text in it
 abbrev pub PrintsOrSeconds : Time → Format → Result (String Global) Error → Type 0
-PrintsOrSeconds t format result =
-    MatchResult result
-    (λ text. Prints t format (Ok text) ⊎ (HasNoText t format × (string_bytes text ≡ decimal_text t.seconds)))
-    (λ e. e ≡ errors.Memory)
+PrintsOrSeconds t format (Ok text) = Prints t format (Ok text) ⊎ (HasNoText t format × PrintsSeconds t (Ok text))
+PrintsOrSeconds t format (Err e) = e ≡ errors.Memory

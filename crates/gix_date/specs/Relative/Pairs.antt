@@ -1,5 +1,6 @@
 -- Counts and pairs as facts, and the relative texts that are made of them.
-use Rattle.std.specs.Prelude.{◌≡◌, ◌↔◌, ◌⊎◌, ℕ, true, List, ◌∷◌, ◌++◌, Some}
+use Rattle.std.specs.Prelude.{◌≡◌, ◌↔◌, ◌⊎◌, ℕ, zero, suc, Bool, true, not, List, ◌∷◌, ◌++◌, reverse, Some}
+use Rattle.std.specs.List.{prefix_len}
 use Rattle.std.specs.Str.{trim}
 use Rattle.gix_date.specs.Relative.Dates.{RelativeDate, MinusPairs, date_names, relative_date}
 use Rattle.gix_date.specs.Relative.Words.{relative_words, is_ago}
@@ -41,3 +42,12 @@ IsRelativeText text date =
 -- `relative_date` gives the text a date iff `IsRelativeText` does
 abbrev pub IsSpelledSo : List ℕ → Type 0
 IsSpelledSo text = (date : RelativeDate) → (relative_date text ≡ Some date) ↔ IsRelativeText text date
+
+abbrev pub is_even : ℕ → Bool
+is_even zero = true
+is_even (suc n) = not (is_even n)
+
+-- the word after some words is no period iff an even number of count words stands directly before it
+abbrev pub AreFreeByParity : Type 0
+AreFreeByParity =
+    (front : List (List ℕ)) → next_is_free front ≡ is_even (prefix_len is_count_word (reverse front))

@@ -1,13 +1,10 @@
 -- Which words of a text are counts and periods, and which texts are pairs of these.
-use Rattle.std.specs.Prelude.{ℕ, Bool, true, false, not, ◌&&◌, ◌||◌, List, [], ◌∷◌, ℤ, Option, Some, None, is_some, reverse, flat_map, zero, suc}
-use Rattle.std.specs.List.{prefix_len, list_any, list_all}
+use Rattle.std.specs.Prelude.{ℕ, Bool, true, false, not, ◌&&◌, ◌||◌, List, [], ◌∷◌, ℤ, if◌then◌else◌, Option, Some, None, is_some, filter_map}
+use Rattle.std.specs.List.{fold, list_any, list_all}
+use Rattle.gix_date.specs.Fields.Front.{◌>>=◌}
 use Rattle.gix_date.specs.Text.Places.{Place, places}
 use Rattle.gix_date.specs.Relative.Words.{count_of, unit_of, unit_or_seconds, is_ago}
 use Rattle.gix_date.specs.declared.parsing.relative.words.TimeUnit.{TimeUnit}
-
-abbrev pub is_even : ℕ → Bool
-is_even zero = true
-is_even (suc n) = not (is_even n)
 
 unfoldable pub is_count_word : List ℕ → Bool
 is_count_word word = is_some (count_of word)
@@ -15,13 +12,10 @@ is_count_word word = is_some (count_of word)
 unfoldable pub has_unit : List ℕ → Bool
 has_unit period = is_some (unit_of period)
 
--- the number of count words in the unbroken run that ends these words
-unfoldable pub count_run : List (List ℕ) → ℕ
-count_run words = prefix_len is_count_word (reverse words)
-
--- the word after these is no period: an even number of count words stands directly before it
-abbrev pub next_is_free : List (List ℕ) → Bool
-next_is_free front = is_even (count_run front)
+-- The word after these is no period: it is one iff the last of these is a count. A count is a count word that is no
+-- period.
+unfoldable pub next_is_free : List (List ℕ) → Bool
+next_is_free words = fold (λ free word. not (free && is_count_word word)) true words
 
 -- a count stands here: a count word that is no period
 abbrev pub is_count : Place → Bool
@@ -51,13 +45,15 @@ all_units words = list_all (λ p. not (is_count p) || next_is_unit p.back) (plac
 unfoldable pub are_pairs : List (List ℕ) → Bool
 are_pairs words = has_pair words && (all_units words || has_flag words)
 
--- a count and the unit of its period, where a count stands here and has one: a period that is no unit counts seconds
-abbrev pub pair_here : Bool → Option ℤ → List (List ℕ) → List (ℤ × TimeUnit)
-pair_here true (Some count) (period ∷ back) = (count, unit_or_seconds period) ∷ []
-pair_here true (Some count) [] = []
-pair_here true None back = []
-pair_here false count back = []
+-- the pair of a count and the unit of the period that stands first in `back`: a period that is no unit counts seconds
+abbrev pub pair_with : List (List ℕ) → ℤ → Option (ℤ × TimeUnit)
+pair_with [] count = None
+pair_with (period ∷ back) count = Some (count, unit_or_seconds period)
+
+-- the pair of the count that stands here
+abbrev pub pair_at : Place → Option (ℤ × TimeUnit)
+pair_at p = if next_is_free p.front then count_of p.word >>= pair_with p.back else None
 
 -- the pairs of counts and units, in order
 unfoldable pub pairs : List (List ℕ) → List (ℤ × TimeUnit)
-pairs words = flat_map (λ p. pair_here (next_is_free p.front) (count_of p.word) p.back) (places words)
+pairs words = filter_map pair_at (places words)

@@ -47,13 +47,17 @@ month_start number =
 abbrev pub rolled_day : ℤ → Date → ℤ
 rolled_day number date = month_start number +ℤ (pos date.day -ℤ pos 1)
 
+-- the number of the month so many months before that of a date
+abbrev pub month_before : Date → ℤ → ℤ
+month_before date months = month_number date -ℤ months
+
 -- for the day and clock so many months before those at `instant` the zone chooses `after`
 pub record MonthsStep (tz : TimeZone) (months instant after : ℤ) : Type 0 where
   pub local : DateTime
   pub local_is : IsLocal tz instant local
-  pub fits : FitsSigned w64 (month_number local.date -ℤ months)
-  pub year_in : IsYear (int_div_euclid (month_number local.date -ℤ months) (pos 12))
-  pub picked : IsPicked tz (civil_of (rolled_day (month_number local.date -ℤ months) local.date) local.time) after
+  pub fits : FitsSigned w64 (month_before local.date months)
+  pub year_in : IsYear (int_div_euclid (month_before local.date months) (pos 12))
+  pub picked : IsPicked tz (civil_of (rolled_day (month_before local.date months) local.date) local.time) after
 
 -- one pair of count and unit leads from `instant` back to `after`
 abbrev pub PairStep : TimeZone → ℤ × TimeUnit → ℤ → ℤ → Type 0

@@ -127,6 +127,8 @@ fn with_copy(alloc: Global, input: &str, refusal: ParseError) -> Error
 
 /// The answer of the first family that holds the text. Raw texts and numbers in their usual form come first, since no
 /// other family holds them.
+// Inlined into both callers, so that neither hands the answer over in memory.
+#[inline(always)]
 pub(crate) fn first_answer(input: &str, raw: RawOffsets) -> Option<Answer<'_>>
     ensures first { option_map answer_of result ≡ first_family_by (allows raw) input.now }
     ensures offset_fits { IfSome result HasJiffOffset }

@@ -147,6 +147,7 @@ pub(crate) fn day_from(first: Date, day: i8) -> Option<Date>
 }
 
 /// The instant that a zone chooses for a date and a time of day.
+#[inline(always)]
 pub(crate) fn pick<'a>(date: Date, time: Time, zone: TimeZone<'a>) -> Option<Zoned<'a>>
     ensures instant { IsAt (IsPicked (plain_zone zone.entry) (civil_of (epoch_day date) time)) result }
     ensures zone { IfSome result (λ r. zone_of r ≡ plain_zone zone.entry) }
