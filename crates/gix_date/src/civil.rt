@@ -49,6 +49,7 @@ pub(crate) fn civil_instant(
 }
 
 /// The same for a day's midnight in UTC, where the constant clock leaves less to compute.
+#[inline(always)]
 pub(crate) fn midnight_instant(date: DateFields) -> Option<SecondsSinceUnixEpoch>
     requires { DateFits date }
     ensures { result ≡ civil_instant date midnight (pos 0) }

@@ -186,6 +186,7 @@ fn time_at(date: DateFields, clock: ClockFields, offset: OffsetInSeconds) -> Opt
 }
 
 /// A text without the white space round it. Nearly all texts have none.
+#[inline(always)]
 fn trimmed(text: &str) -> &str
     ensures { result.now ≡ trim text.now }
 {
@@ -197,6 +198,7 @@ fn trimmed(text: &str) -> &str
 
 /// A year of four digits, a month of two and a day of two, with no mark between them.
 #[tactic(auto, unfolding(crate::specs::Git::Forms::read_compact_date))]
+#[inline(always)]
 fn read_compact_date(text: &str) -> Option<(DateFields, &str)>
     ensures value { read_view result ≡ read_compact_date text.now }
     ensures fits { IfSome result (λ found. DateFits found.0) }
