@@ -1,4 +1,4 @@
-/* Makes one call of gix_date.h so many times: calls KIND TEXT COUNT. */
+/* Makes one call of gix_date.h so many times: calls KIND TEXT COUNT. The file of a zone is named by TZIF. */
 #include "gix_date.h"
 
 #include <stdio.h>
@@ -7,13 +7,18 @@
 
 static const gix_date_instant now = {1698400800, 0};
 static const gix_date_time day = {1660797906, 28800};
+static const char rule[] = "EST5EDT,M3.2.0,M11.1.0";
+static const gix_date_careful_options usual = {0, 0, 0};
+static const gix_date_careful_options local = {GIX_DATE_QUARTERS, GIX_DATE_MOMENTS_ZONE, 0};
+static char file[1 << 16];
+static size_t file_len;
 
 /* One call, by the letter of its kind. */
 static uint32_t call(char kind, uint32_t format, const char *text, size_t len)
 {
     gix_date_time time;
     char out[64];
-    size_t out_len;
+    size_t out_len, place;
     switch (kind) {
     case 'h':
         return gix_date_parse_header(text, len, &time);
@@ -25,6 +30,16 @@ static uint32_t call(char kind, uint32_t format, const char *text, size_t len)
         return gix_date_parse(text, len, GIX_DATE_QUARTERS, &time);
     case 'r':
         return gix_date_parse_at_offset(text, len, GIX_DATE_QUARTERS, &now, 0, &time);
+    case 'z':
+        return gix_date_parse_in_posix_zone(text, len, GIX_DATE_QUARTERS, &now, rule,
+                                            sizeof rule - 1, &time);
+    case 't':
+        return gix_date_parse_in_tzif_zone(text, len, GIX_DATE_QUARTERS, &now, file, file_len, &time);
+    case 'k':
+        return gix_date_parse_carefully_at_offset(text, len, &usual, &now, 0, &time, &place);
+    case 'l':
+        return gix_date_parse_carefully_in_posix_zone(text, len, &local, &now, rule,
+                                                      sizeof rule - 1, &time, &place);
     default:
         return gix_date_format(&day, format, out, sizeof out, &out_len);
     }
@@ -39,6 +54,12 @@ int main(int count, char **words)
     uint32_t format = kind == 'f' ? (uint32_t)strtoul(words[1] + 1, NULL, 10) : 0;
     size_t len = strlen(words[2]);
     uint32_t status = 0;
+    const char *name = getenv("TZIF");
+    FILE *zone = name ? fopen(name, "rb") : NULL;
+    if (zone) {
+        file_len = fread(file, 1, sizeof file, zone);
+        fclose(zone);
+    }
     for (long i = strtol(words[3], NULL, 10); i > 0; i--)
         status |= call(kind, format, words[2], len);
     printf("%u\n", (unsigned)status);
