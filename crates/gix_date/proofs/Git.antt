@@ -1,3 +1,4 @@
 -- Git's own forms.
 pub mod ClockCuts
 pub mod ClockParts
+pub mod Fronts

@@ -25,7 +25,7 @@ use Rattle.gix_date.specs.Fields.Front.{ReadFront, skip_char, ◌>>=◌}
 use Rattle.gix_date.specs.Fields.Offsets.{read_sign, offset_fields, offset_of, offset_by, last_pair}
 use Rattle.gix_date.specs.Git.Clock.{at_most, digits_at_most, clock_of_fields, clock_of_parts, clock_with_colons, clock_without_colons, trimmed_clock, git_clock}
 use Rattle.gix_date.specs.Git.ClockCut.{is_sign, last_space, clock_cut}
-use Rattle.gix_date.specs.Git.Forms.{without_colons, offset_of_digits, is_within_a_day, git_offset, git_time, git_form, dotted_time, compact_time, flexible_time, read_marked_date, read_compact_date, time_with_rest, time_of_cut}
+use Rattle.gix_date.specs.Git.Forms.{without_colons, offset_of_digits, is_within_a_day, git_offset, git_time, git_form, git_front, dotted_front, compact_front, flexible_front, read_marked_date, read_compact_date, time_with_rest, time_of_cut}
 use Rattle.gix_date.specs.Private.FastRests.{IsUsualOffset, is_clock_byte, skip_any}
 use Rattle.gix_date.specs.Text.Characters.{space, minus, colon, letter_t, is_space, is_dot, is_colon, has_colon}
 use Rattle.gix_date.specs.Text.Numbers.{read_two_digits, read_field, read_year}
@@ -40,6 +40,7 @@ use Rattle.gix_date.proofs.Git.ClockParts.{field_yes}
 use Rattle.gix_date.proofs.Families.Disjoint.{digit_visible}
 use Rattle.gix_date.proofs.Families.Exclusive.{answered, absolute, alone-first, git-first, relative-first, counting, differ, drop-visible, space_ascii, space-white, field-visible, digits-visible, visible-append}
 use Rattle.gix_date.proofs.Fields.FieldsRead.{Begins, BeginsNot, begins-append, field-begins, year-begins, year-read, date-read, gap-front}
+use Rattle.gix_date.proofs.Git.Fronts.{gap-taken}
 use Rattle.gix_date.proofs.Fields.FieldsTaken.{went, guard, after-taken, two-taken}
 use Rattle.gix_date.proofs.Text.FirstBytes.{plain-year}
 use Rattle.gix_date.proofs.Text.FirstWords.{AreVisible, is_visible, visible_stays, are-ascii}
@@ -442,12 +443,12 @@ marked-plain x date e =
     let day = went (read_two_digits mark.0) (λ day. Some (date_at year.0.0 month.0.0 day.0 day.1)) date mark.2 in
     rw (year.1, next.1, two-field next.0 month.0 month.1, mark.1, two-field mark.0 day.0 day.1) day.2
 
-no-dotted : (year rest : List ℕ) (n : ℕ) → IsYear year n → dotted_time (year ++ (minus ∷ rest)) ≡ None
-unfolding dotted_time read_marked_date skip_char
+no-dotted : (year rest : List ℕ) (n : ℕ) → IsYear year n → dotted_front (year ++ (minus ∷ rest)) ≡ None
+unfolding dotted_front read_marked_date skip_char
 no-dotted year rest n y = rw (year-read year (minus ∷ rest) n y) refl
 
-no-compact : (year rest : List ℕ) (n : ℕ) → IsYear year n → compact_time (year ++ (minus ∷ rest)) ≡ None
-unfolding compact_time read_compact_date
+no-compact : (year rest : List ℕ) (n : ℕ) → IsYear year n → compact_front (year ++ (minus ∷ rest)) ≡ None
+unfolding compact_front read_compact_date
 no-compact year rest n y = rw (year-read year (minus ∷ rest) n y, no_pair minus rest refl) refl
 
 -- what stands after such a date
@@ -457,16 +458,17 @@ record Flexible (date : LocalDate) (rest : List ℕ) (t : Time) : Type 0 where
   is : time_with_rest date after ≡ Some t
 
 flexible : (x : List ℕ) (date : LocalDate) (rest : List ℕ) (t : Time) → read_plain_date x ≡ Some (date, rest) → git_form x ≡ Some t → Flexible date rest t
-unfolding git_form flexible_time
+unfolding git_form git_front flexible_front
 flexible x date rest t d e =
     let p = plain-year x (date, rest) d in
-    let dotted : dotted_time x ≡ None = ap dotted_time p.whole ∙ no-dotted p.year p.rest p.number p.is_year in
-    let compact : compact_time x ≡ None = ap compact_time p.whole ∙ no-compact p.year p.rest p.number p.is_year in
-    let by : flexible_time x ≡ Some t = sym (ap (λ (r : Option Time). option_or r (option_or (compact_time x) (flexible_time x))) dotted ∙ ap (λ (r : Option Time). option_or r (flexible_time x)) compact) ∙ e in
-    let found = went (read_marked_date minus x) (λ date. option_or (skip_char letter_t date.1) (skip_char space date.1) >>= λ r. time_with_rest date.0 r) t by in
-    let same : found.0 ≡ (date, rest) = same_some found.0 (date, rest) (sym (marked-plain x found.0 found.1) ∙ d) in
-    let next = went (option_or (skip_char letter_t found.0.1) (skip_char space found.0.1)) (λ r. time_with_rest found.0.0 r) t found.2 in
-    subst (λ (p : LocalDate × List ℕ). Flexible p.0 p.1 t) same (record { after = next.0; gap = next.1; is = next.2 })
+    let next = λ (f : LocalDate × List ℕ). time_with_rest f.0 f.1 in
+    let dotted : dotted_front x ≡ None = ap dotted_front p.whole ∙ no-dotted p.year p.rest p.number p.is_year in
+    let compact : compact_front x ≡ None = ap compact_front p.whole ∙ no-compact p.year p.rest p.number p.is_year in
+    let by : (flexible_front x >>= next) ≡ Some t = sym (ap (λ (r : Option (LocalDate × List ℕ)). option_or r (option_or (compact_front x) (flexible_front x)) >>= next) dotted ∙ ap (λ (r : Option (LocalDate × List ℕ)). option_or r (flexible_front x) >>= next) compact) ∙ e in
+    let front = went (flexible_front x) next t by in
+    let f = gap-taken (read_marked_date minus) (λ left. option_or (skip_char letter_t left) (skip_char space left)) x front.0.0 front.0.1 front.1 in
+    let same : (front.0.0, f.0) ≡ (date, rest) = same_some (front.0.0, f.0) (date, rest) (sym (marked-plain x (front.0.0, f.0) f.1) ∙ d) in
+    subst (λ (p : LocalDate × List ℕ). Flexible p.0 p.1 t) same (record { after = front.0.1; gap = f.2; is = front.2 })
 
 -- The two say the same.
 abbrev time_at : ℤ → ℤ → Time

@@ -1,5 +1,5 @@
 -- At a moment in UTC a date in which no offset is written means the same by both options.
-use Rattle.std.proofs.Common.{◌≡◌, ◌∙◌, ◌↔◌, ◌+ℤ◌, ◌-ℤ◌, ℤ, pos, true, List, ℕ, refl, ap, ap₂, sym, subst, arith, Option, Some, None, Ok, Err, Result}
+use Rattle.std.proofs.Common.{◌≡◌, ◌∙◌, ◌↔◌, ℤ, pos, true, List, ℕ, refl, ap, ap₂, sym, subst, arith, Option, Some, None, Ok, Err, Result}
 use Rattle.std.specs.Prelude.{IfSome}
 use Rattle.std.specs.Result.{result_map_both}
 use Rattle.std.specs.Str.{IsUtf8}
@@ -9,16 +9,15 @@ use Rattle.jiff.specs.declared.zoned.Zoned.{Zoned}
 use Rattle.jiff_core.proofs.SignedLemmas.{signed_arith}
 use Rattle.gix_date.specs.Careful.Dates.{unzoned_time, IsLocalTime}
 use Rattle.gix_date.specs.Careful.Outcome.{First, Local, careful_reading, first_reading, local_or, CarefulOutcome}
-use Rattle.gix_date.specs.Careful.Laws.{AnswersAlike, in_utc, in_zone}
-use Rattle.gix_date.specs.Families.Answer.{FamilyAnswer, Absolute}
-use Rattle.gix_date.specs.Families.Order.{first_family_by, ParseNoAllocOutcome}
+use Rattle.gix_date.specs.Careful.Laws.{AnswersAlike}
+use Rattle.gix_date.specs.Families.Answer.{Absolute}
+use Rattle.gix_date.specs.Families.Order.{first_family_by}
 use Rattle.gix_date.specs.Families.Raw.{allows}
 use Rattle.gix_date.specs.Printing.Zoned.{is_instant, time_in}
 use Rattle.gix_date.specs.Private.Steps.{ChooseAlike}
 use Rattle.gix_date.specs.Relative.Steps.{zone_of, IsPicked}
 use Rattle.gix_date.specs.declared.error.CarefulError.{CarefulError}
 use Rattle.gix_date.specs.declared.error.CarefulError.TheVariants as errors
-use Rattle.gix_date.specs.declared.error.ParseError.{ParseError}
 use Rattle.gix_date.specs.declared.parsing.careful.CarefulOptions.{CarefulOptions}
 use Rattle.gix_date.specs.declared.parsing.careful.RelativeTexts.{RelativeTexts}
 use Rattle.gix_date.specs.declared.parsing.careful.RelativeTexts.TheVariants as relative

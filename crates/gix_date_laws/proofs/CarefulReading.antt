@@ -1,45 +1,39 @@
 -- Careful reading beside `parse_with`, and dates in which no offset is written.
-use Rattle.std.proofs.Common.{◌≡◌, ◌∙◌, ◌↔◌, ◌++◌, ◌+ℤ◌, ◌-ℤ◌, ℕ, ℤ, pos, Bool, true, false, cond, List, [], ◌∷◌, length, ◌==◌, refl, ap, sym, subst, arith, Option, Some, None, Ok, Err, Result, inl, inr, ◌⊎◌}
-use Rattle.std.specs.Option.{option_or, option_map}
-use Rattle.std.specs.Prelude.{IfSome, is_some}
+use Rattle.std.proofs.Common.{◌≡◌, ◌∙◌, ℕ, ℤ, pos, Bool, true, false, cond, List, [], ◌∷◌, refl, ap, sym, subst, Option, Some, None, Ok, Err, Result, inl, inr, ◌⊎◌}
+use Rattle.std.specs.Option.{option_map}
+use Rattle.std.specs.Prelude.{is_some}
 use Rattle.std.specs.Result.{result_map_both}
 use Rattle.jiff.specs.declared.zoned.Zoned.{Zoned}
 use Rattle.std.specs.Str.{trim, IsUtf8}
-use Rattle.gix_date.specs.Careful.Dates.{unzoned_day, marked_front, compact_front, git_front, unzoned_git_time, unzoned_time, IsLocalTime}
-use Rattle.gix_date.specs.Careful.Outcome.{Reading, First, Unclear, Local, careful_reading, first_reading, local_date, local_or, pairs_reading, CarefulOutcome}
+use Rattle.gix_date.specs.Careful.Dates.{unzoned_day, unzoned_git_time, unzoned_time}
+use Rattle.gix_date.specs.Careful.Outcome.{Reading, First, Unclear, careful_reading, first_reading, local_or, pairs_reading, CarefulOutcome}
 use Rattle.gix_date.specs.Careful.Laws.{AnswersUnzoned, IsParsedToo, IgnoresZone}
 use Rattle.gix_date.specs.Careful.Texts.{unclear_place}
 use Rattle.gix_date.specs.Families.Answer.{FamilyAnswer, Absolute, Relative, OffsetAboveDay, NoInstant}
 use Rattle.gix_date.specs.Families.Epoch.{utc_time}
-use Rattle.gix_date.specs.Families.Order.{first_family_by, ParseNoAllocOutcome, Short, GitForm}
+use Rattle.gix_date.specs.Families.Order.{first_family_by, ParseNoAllocOutcome, Short}
 use Rattle.gix_date.specs.Families.Patterns.{midnight, real_day_answer, short_answer}
 use Rattle.gix_date.specs.Private.AfterDay.{answer_after}
 use Rattle.gix_date.specs.Families.Raw.{OffsetRule, allows}
-use Rattle.gix_date.specs.Fields.Civil.{civil_instant, read_date}
+use Rattle.gix_date.specs.Fields.Civil.{civil_instant}
 use Rattle.gix_date.specs.Fields.DateFields.{read_plain_date}
-use Rattle.gix_date.specs.Fields.Front.{ReadFront, skip_char, ◌>>=◌}
+use Rattle.gix_date.specs.Fields.Front.{◌>>=◌}
 use Rattle.gix_date.specs.Fields.Layout.{LocalDate}
 use Rattle.gix_date.specs.Git.ClockCut.{clock_cut}
 use Rattle.gix_date.specs.Git.Clock.{git_clock}
-use Rattle.gix_date.specs.Git.Forms.{git_time, git_offset, read_marked_date, read_compact_date, time_with_rest, time_of_cut}
-use Rattle.gix_date.specs.Git.Grammar.{IsGitDate, IsGitFront, IsGitText}
-use Rattle.gix_date.specs.Relative.Dates.{RelativeDate, MinusSeconds, MinusPairs}
-use Rattle.gix_date.specs.Text.Characters.{space, dot, minus, letter_t}
-use Rattle.gix_date.specs.Text.Numbers.{read_two_digits}
+use Rattle.gix_date.specs.Git.Forms.{git_form, git_front, git_time, git_offset, time_of_cut}
+use Rattle.gix_date.specs.Relative.Dates.{MinusSeconds, MinusPairs}
 use Rattle.gix_date.specs.Text.SpaceWords.{is_nonempty}
-use Rattle.gix_date.specs.declared.error.CarefulError.{CarefulError}
 use Rattle.gix_date.specs.declared.error.CarefulError.TheVariants as errors
 use Rattle.gix_date.specs.declared.error.ParseError.{ParseError}
 use Rattle.gix_date.specs.declared.parsing.careful.CarefulOptions.{CarefulOptions}
 use Rattle.gix_date.specs.declared.parsing.careful.RelativeTexts.{RelativeTexts}
 use Rattle.gix_date.specs.declared.parsing.careful.RelativeTexts.TheVariants as relative
 use Rattle.gix_date.specs.declared.time.Time.{Time}
-use Rattle.gix_date.proofs.Families.Disjoint.{first-or}
 use Rattle.gix_date.proofs.Fast.FastHeaders.{same_some}
 use Rattle.gix_date.proofs.Fields.AfterDay.{day-with-instant}
-use Rattle.gix_date.proofs.Fields.FieldsTaken.{went, after-taken}
+use Rattle.gix_date.proofs.Fields.FieldsTaken.{went, first-or}
 use Rattle.gix_date_laws.proofs.Agreement.{comes-first}
-use Rattle.gix_date_laws.proofs.GitGrammar.{git-spelled, by-form, skips, keeps}
 
 -- What a reading is.
 
@@ -88,43 +82,6 @@ unless-some : (b : Bool) (a : Option Time) (t : Time) → cond b None a ≡ Some
 unless-some true a t e = absurd cc
 unless-some false a t e = (refl, e)
 
-abbrev Front : Type 0
-Front = LocalDate × List ℕ
-
-abbrev IsFrontOf : List ℕ → List ℕ → Type 0
-IsFrontOf mark gap = (date : LocalDate) (day : List ℕ) → IsGitDate mark day date → IsGitFront day gap date
-
-marked : (text : List ℕ) (mark gap : ℕ) (front : Front) (t : Time) → IsFrontOf (mark ∷ []) (gap ∷ []) → marked_front mark gap (trim text) ≡ Some front → time_with_rest front.0 front.1 ≡ Some t → IsGitText text t
-unfolding marked_front read_marked_date
-marked text mark gap front t form e k =
-    let d = went (read_marked_date mark (trim text)) (λ d. skip_char gap d.1 >>= λ r. Some (d.0, r)) front e in
-    let r = went (skip_char gap d.0.1) (λ r. Some (d.0.0, r)) front d.2 in
-    let same = same_some (d.0.0, r.0) front r.2 in
-    by-form text (mark ∷ []) (gap ∷ []) (skip_char mark) d.0.0 d.0.1 r.0 t (skips mark) d.1 (after-taken gap d.0.1 r.0 r.1) (form d.0.0) (ap (λ (f : Front). time_with_rest f.0 f.1) same ∙ k)
-
-compact : (text : List ℕ) (front : Front) (t : Time) → compact_front (trim text) ≡ Some front → time_with_rest front.0 front.1 ≡ Some t → IsGitText text t
-unfolding compact_front read_compact_date
-compact text front t e k =
-    let d = went (read_compact_date (trim text)) (λ d. skip_char letter_t d.1 >>= λ r. Some (d.0, r)) front e in
-    let r = went (skip_char letter_t d.0.1) (λ r. Some (d.0.0, r)) front d.2 in
-    let same = same_some (d.0.0, r.0) front r.2 in
-    by-form text [] (letter_t ∷ []) (λ (y : List ℕ). Some y) d.0.0 d.0.1 r.0 t keeps d.1 (after-taken letter_t d.0.1 r.0 r.1) (λ day g. inr (inl (g, refl))) (ap (λ (f : Front). time_with_rest f.0 f.1) same ∙ k)
-
-front-text : (text : List ℕ) (front : Front) (t : Time) → git_front (trim text) ≡ Some front → time_with_rest front.0 front.1 ≡ Some t → IsGitText text t
-unfolding git_front
-front-text text front t e k =
-    let x = trim text in
-    elim (first-or (marked_front dot space x) (option_or (compact_front x) (option_or (marked_front minus letter_t x) (marked_front minus space x))) front e) [
-      | inl h ↦ marked text dot space front t (λ date day g. inl (g, refl)) h k
-      | inr h ↦ elim (first-or (compact_front x) (option_or (marked_front minus letter_t x) (marked_front minus space x)) front h) [
-        | inl g ↦ compact text front t g k
-        | inr g ↦ elim (first-or (marked_front minus letter_t x) (marked_front minus space x) front g) [
-          | inl m ↦ marked text minus letter_t front t (λ date day d. inr (inr (d, inl refl))) m k
-          | inr m ↦ marked text minus space front t (λ date day d. inr (inr (d, inr refl))) m k
-        ]
-      ]
-    ]
-
 -- the offset that is not written is 0
 none-written : (date : LocalDate) (clock zone : List ℕ) (t : Time) → is_nonempty zone ≡ false → time_of_cut date (clock, zone) ≡ Some t → t.offset ≡ pos 0
 unfolding time_of_cut git_offset
@@ -135,12 +92,12 @@ none-written date clock [] t e k =
     ap (λ (u : Time). u.offset) (sym (same_some (utc_time s.0) t s.2))
 
 git-is : (text : List ℕ) (t : Time) → unzoned_git_time text ≡ Some t → (git_time text ≡ Some t) × (t.offset ≡ pos 0)
-unfolding unzoned_git_time
+unfolding unzoned_git_time git_time git_form
 git-is text t e =
     let front = went (git_front (trim text)) (λ f. cond (is_nonempty (clock_cut (trim f.1)).1) None (time_of_cut f.0 (clock_cut (trim f.1)))) t e in
     let cut = clock_cut (trim front.0.1) in
     let k = unless-some (is_nonempty cut.1) (time_of_cut front.0.0 cut) t front.2 in
-    ((git-spelled text t).1 (front-text text front.0 t front.1 k.1), none-written front.0.0 cut.0 cut.1 t k.0 k.1)
+    (rw front.1 k.1, none-written front.0.0 cut.0 cut.1 t k.0 k.1)
 
 short-of : (text : List ℕ) (date : LocalDate) → read_plain_date text ≡ Some (date, []) → short_answer text ≡ answer_after [] real_day_answer date []
 unfolding short_answer

@@ -19,8 +19,8 @@ use Rattle.gix_date.specs.Text.Numbers.{fits_i64, int_value, read_two_digits}
 use Rattle.gix_date.specs.Text.SpaceWords.{space_words, first_words}
 use Rattle.gix_date.specs.Private.Types.{SignedPairs, OffsetSign}
 use Rattle.gix_date.specs.declared.time.Time.{Time}
-use Rattle.gix_date.proofs.Families.Disjoint.{two-words-are, first-or, raw-words, none-unless}
-use Rattle.gix_date.proofs.Fields.FieldsTaken.{went, guard, after-taken, two-taken}
+use Rattle.gix_date.proofs.Families.Disjoint.{two-words-are, raw-words, none-unless}
+use Rattle.gix_date.proofs.Fields.FieldsTaken.{went, guard, after-taken, two-taken, first-or}
 use Rattle.gix_date.proofs.Fields.Instants.{z_test, z_holds}
 use Rattle.gix_date.proofs.Text.Ints.{own, each_of, fits_from, int_value_from}
 use Rattle.gix_date.proofs.Fast.FastHeaders.{int-taken, int-number, one-word, sign-taken, same_some}

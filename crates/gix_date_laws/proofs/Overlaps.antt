@@ -14,7 +14,7 @@ use Rattle.gix_date.specs.Git.ClockCut.{clock_cut, cut_at_z, cut_at_space, cut_a
 use Rattle.gix_date.specs.Families.Order.{Family, Iso8601, Iso8601Strict, GitForm, RelativeText}
 use Rattle.gix_date.specs.Families.Laws.{Overlap, AreOverlapping}
 use Rattle.gix_date.specs.Fields.Front.{skip_char}
-use Rattle.gix_date.specs.Git.Forms.{git_time, git_form, dotted_time, compact_time, flexible_time, read_marked_date, read_compact_date, time_of_cut, git_offset}
+use Rattle.gix_date.specs.Git.Forms.{git_time, git_form, git_front, dotted_front, compact_front, flexible_front, read_marked_date, read_compact_date, time_of_cut, git_offset}
 use Rattle.gix_date.specs.Git.Clock.{git_clock, trimmed_clock, clock_with_colons, clock_without_colons, read_pair_or_end, digits_at_most}
 use Rattle.gix_date.specs.Text.Numbers.{int_value, read_two_digits, read_digit, read_field, read_year}
 use Rattle.gix_date.specs.Fields.Offsets.{offset_fields, read_sign, last_pair}
@@ -33,7 +33,7 @@ ascii-text text h = IsUtf8-from_ascii text (ascii-by is_ascii is_low text h)
 
 -- all that a text needs to see computed
 computing : Type 0
-unfolding iso8601_answer iso8601_strict_answer skip_spaces read_plain_date read_minutes read_second read_clock compact_offset strict_offset last_colon_pair date_answer civil_instant days_from_civil day_count days_of_years days_of_months read_field read_digit offset_fields last_pair git_time git_form dotted_time compact_time flexible_time time_of_cut read_marked_date read_compact_date read_year clock_cut cut_at_z cut_at_space cut_at_sign last_space last_sign git_clock trimmed_clock clock_with_colons clock_without_colons read_pair_or_end digits_at_most git_offset read_sign read_two_digits skip_char trim_start trim_end chars encode relative_date named_date pairs_date relative_words count_of named_count number_named unit_of singular named_unit is_count_word has_unit next_is_free has_flag has_pair all_units are_pairs pairs int_value
+unfolding iso8601_answer iso8601_strict_answer skip_spaces read_plain_date read_minutes read_second read_clock compact_offset strict_offset last_colon_pair date_answer civil_instant days_from_civil day_count days_of_years days_of_months read_field read_digit offset_fields last_pair git_time git_form git_front dotted_front compact_front flexible_front time_of_cut read_marked_date read_compact_date read_year clock_cut cut_at_z cut_at_space cut_at_sign last_space last_sign git_clock trimmed_clock clock_with_colons clock_without_colons read_pair_or_end digits_at_most git_offset read_sign read_two_digits skip_char trim_start trim_end chars encode relative_date named_date pairs_date relative_words count_of named_count number_named unit_of singular named_unit is_count_word has_unit next_is_free has_flag has_pair all_units are_pairs pairs int_value
 computing = Unit {0}
 
 iso8601-and-git : Overlap Iso8601 GitForm

@@ -1,9 +1,9 @@
 -- A date in which no offset is written has an instant.
-use Rattle.std.proofs.Common.{◌≡◌, ℕ, ℤ, pos, Bool, true, false, cond, List, refl, sym, Option, Some, None}
+use Rattle.std.proofs.Common.{◌≡◌, ℕ, ℤ, pos, Bool, true, false, cond, List, refl, Option, Some, None}
 use Rattle.std.specs.Option.{option_or, option_map}
 use Rattle.std.specs.Prelude.{◌&&◌, IfSome}
 use Rattle.std.specs.Str.{trim}
-use Rattle.gix_date.specs.Careful.Dates.{unzoned_day, git_front, unzoned_git_time, unzoned_time}
+use Rattle.gix_date.specs.Careful.Dates.{unzoned_day, unzoned_git_time, unzoned_time}
 use Rattle.gix_date.specs.Families.Epoch.{utc_time}
 use Rattle.gix_date.specs.Families.Patterns.{midnight}
 use Rattle.gix_date.specs.Fields.Civil.{is_date, is_clock, civil_seconds, civil_instant}
@@ -11,7 +11,7 @@ use Rattle.gix_date.specs.Fields.DateFields.{read_plain_date}
 use Rattle.gix_date.specs.Fields.Front.{◌>>=◌}
 use Rattle.gix_date.specs.Git.Clock.{git_clock}
 use Rattle.gix_date.specs.Git.ClockCut.{Cut, clock_cut}
-use Rattle.gix_date.specs.Git.Forms.{git_offset, time_of_cut}
+use Rattle.gix_date.specs.Git.Forms.{git_front, git_offset, time_of_cut}
 use Rattle.gix_date.specs.Printing.Zoned.{is_instant}
 use Rattle.gix_date.specs.Text.SpaceWords.{is_nonempty}
 use Rattle.gix_date.specs.declared.civil.ClockFields.{ClockFields}

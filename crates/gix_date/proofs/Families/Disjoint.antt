@@ -1,19 +1,20 @@
 -- Raw texts, bare epochs and Git texts exclude one another, and the first two are not relative.
-use Rattle.std.proofs.Common.{◌≡◌, ◌∙◌, ℕ, ℤ, true, false, cond, List, [], ◌∷◌, ◌++◌, length, refl, ap, ap₂, sym, subst, arith, Some, None, Option, inl, inr, ◌⊎◌, IsUtf8}
+use Rattle.std.proofs.Common.{◌≡◌, ◌∙◌, ℕ, ℤ, true, false, cond, List, [], ◌∷◌, ◌++◌, length, refl, ap, ap₂, sym, subst, arith, Some, None, Option, inl, inr, IsUtf8}
 use Rattle.std.proofs.lemmas.Bool.{and_parts as both}
 use Rattle.std.proofs.lemmas.Bool.Decides.{nat_tests}
 use Rattle.std.specs.Char.{is_ascii_digit, is_ascii_alphabetic}
-use Rattle.std.specs.Option.{option_or}
 use Rattle.std.specs.Prelude.{◌==◌, nat_lt}
 use Rattle.std.specs.Str.{all_ascii_digits, trim}
 use Rattle.std.specs.Str.Parse.{without_leading_sign, signed_digits_value}
-use Rattle.gix_date.specs.Text.Characters.{plus, minus, dot, space, letter_t}
+use Rattle.gix_date.specs.Text.Characters.{plus, minus, dot, letter_t}
 use Rattle.gix_date.specs.Families.Epoch.{epoch_time}
 use Rattle.gix_date.specs.Fields.FieldTexts.{IsYear, IsDigit}
-use Rattle.gix_date.specs.Fields.Front.{skip_char, ◌>>=◌}
-use Rattle.gix_date.specs.Git.Forms.{read_marked_date, read_compact_date, dotted_time, compact_time, flexible_time, git_form, git_time, time_with_rest}
+use Rattle.gix_date.specs.Fields.Front.{◌>>=◌}
+use Rattle.gix_date.specs.Git.Forms.{git_front, git_form, git_time, time_with_rest}
+use Rattle.gix_date.specs.Git.Grammar.{IsGitDate, IsGitFront}
+use Rattle.gix_date.specs.Families.Grammars.{IsPair}
 use Rattle.gix_date.specs.Families.Laws.{AreDisjoint}
-use Rattle.gix_date.specs.Text.Numbers.{fits_i64, int_value, read_two_digits, read_year}
+use Rattle.gix_date.specs.Text.Numbers.{fits_i64, int_value}
 use Rattle.gix_date.specs.Fields.Offsets.{offset_fields, offset_of}
 use Rattle.gix_date.specs.Families.Raw.{OffsetRule, raw_time_by, raw_offset_by}
 use Rattle.gix_date.specs.Text.SpaceWords.{space_words, first_words}
@@ -21,7 +22,8 @@ use Rattle.gix_date.specs.declared.civil.DateFields.{DateFields}
 use Rattle.gix_date.specs.declared.parsing.offset.OffsetFields.{OffsetFields}
 use Rattle.gix_date.specs.declared.time.Time.{Time}
 use Rattle.gix_date.proofs.Families.Apart.{mixed}
-use Rattle.gix_date.proofs.Fields.FieldsTaken.{went, after-taken, year-taken, two-taken}
+use Rattle.gix_date.proofs.Fields.FieldsTaken.{went}
+use Rattle.gix_date.proofs.Git.Fronts.{front-taken, joined}
 use Rattle.gix_date.proofs.Text.FirstWords.{AreVisible, is_visible, first-begins, trimmed-words}
 use Rattle.gix_date.proofs.Text.Ints.{each_of}
 use Rattle.gix_date.proofs.Fast.FastHeaders.{int-taken, int-number, one-word, same_some}
@@ -78,68 +80,40 @@ compact-year (a ∷ b ∷ c ∷ e ∷ []) n m0 m1 d0 d1 mark rest h p q r s v d 
     }
 compact-year (a ∷ b ∷ c ∷ e ∷ f ∷ t) n m0 m1 d0 d1 mark rest h p q r s v d = absurd h
 
-abbrev date_at : ℕ → ℕ → ℕ → List ℕ → DateFields × List ℕ
-date_at year month day rest = (record { year = year; month = month; day = day }, rest)
+-- two digits and two, with `T` after them
+pairs-front : (year month day : List ℕ) (n m d : ℕ) (rest : List ℕ) → IsYear year n → IsPair month m → IsPair day d
+    → GitFront (year ++ (month ++ (day ++ (letter_t ∷ rest))))
+pairs-front year [] day n m d rest y p q = absurd p
+pairs-front year (a ∷ []) day n m d rest y p q = absurd p
+pairs-front year (a ∷ b ∷ []) [] n m d rest y p q = absurd q
+pairs-front year (a ∷ b ∷ []) (c ∷ []) n m d rest y p q = absurd q
+pairs-front year (a ∷ b ∷ []) (c ∷ e ∷ []) n m d rest y p q = compact-year year n a b c e letter_t rest y p.0 p.1 q.0 q.1 refl refl
+pairs-front year (a ∷ b ∷ []) (c ∷ e ∷ f ∷ t) n m d rest y p q = absurd q
+pairs-front year (a ∷ b ∷ c ∷ t) day n m d rest y p q = absurd p
 
-marked-front : (mark : ℕ) (x : List ℕ) (date : DateFields × List ℕ) → is_visible mark ≡ true
-    → is_ascii_digit mark ≡ false → read_marked_date mark x ≡ Some date → GitFront x
-unfolding read_marked_date
-marked-front mark x date v d e =
-    let year = went (read_year x) (λ year. skip_char mark year.1 >>= λ r. read_two_digits r >>= λ month. skip_char mark month.1 >>= λ s. read_two_digits s >>= λ day. Some (date_at year.0 month.0 day.0 day.1)) date e in
-    let next = went (skip_char mark year.0.1) (λ r. read_two_digits r >>= λ month. skip_char mark month.1 >>= λ s. read_two_digits s >>= λ day. Some (date_at year.0.0 month.0 day.0 day.1)) date year.2 in
-    let y = year-taken x year.0.0 year.0.1 year.1 in
-    let split : x ≡ y.text ++ (mark ∷ next.0) =
-    y.whole ∙ ap (λ (t : List ℕ). y.text ++ t) (after-taken mark year.0.1 next.0 next.1) in
-    subst GitFront (sym split) (year-front y.text year.0.0 mark next.0 y.is v d)
+date-front : (mark day rest : List ℕ) (date : DateFields) (h : IsGitDate mark day date)
+    → GitFront (h.year ++ (mark ++ (h.month ++ (mark ++ (h.day ++ rest))))) → GitFront (day ++ rest)
+date-front mark day rest date h f =
+    subst GitFront (sym (ap (λ (t : List ℕ). t ++ rest) h.whole ∙ joined h.year mark h.month h.day rest)) f
 
-compact-front : (x : List ℕ) (date : DateFields × List ℕ) (rest : List ℕ) → read_compact_date x ≡ Some date
-    → skip_char letter_t date.1 ≡ Some rest → GitFront x
-unfolding read_compact_date
-compact-front x date rest e t =
-    let year = went (read_year x) (λ year. read_two_digits year.1 >>= λ month. read_two_digits month.1 >>= λ day. Some (date_at year.0 month.0 day.0 day.1)) date e in
-    let month = went (read_two_digits year.0.1) (λ month. read_two_digits month.1 >>= λ day. Some (date_at year.0.0 month.0 day.0 day.1)) date year.2 in
-    let day = went (read_two_digits month.0.1) (λ day. Some (date_at year.0.0 month.0.0 day.0 day.1)) date month.2 in
-    let y = year-taken x year.0.0 year.0.1 year.1 in
-    let m = two-taken year.0.1 month.0.0 month.0.1 month.1 in
-    let d = two-taken month.0.1 day.0.0 day.0.1 day.1 in
-    let same : day.0.1 ≡ date.1 =
-    ap (λ (p : DateFields × List ℕ). p.1) (same_some (date_at year.0.0 month.0.0 day.0.0 day.0.1) date day.2) in
-    let after_day : day.0.1 ≡ letter_t ∷ rest = same ∙ after-taken letter_t date.1 rest t in
-    let split : x ≡ y.text ++ (m.tens ∷ m.ones ∷ d.tens ∷ d.ones ∷ letter_t ∷ rest) =
-    y.whole ∙ ap (λ (t : List ℕ). y.text ++ t) (m.whole ∙ ap (λ (t : List ℕ). m.tens ∷ m.ones ∷ t) (d.whole ∙ ap (λ (t : List ℕ). d.tens ∷ d.ones ∷ t) after_day)) in
-    subst GitFront (sym split) (compact-year y.text year.0.0 m.tens m.ones d.tens d.ones letter_t rest y.is m.is_tens m.is_ones d.is_tens d.is_ones refl refl)
+marked-front : (mark : ℕ) (day rest : List ℕ) (date : DateFields) → is_visible mark ≡ true → is_ascii_digit mark ≡ false
+    → IsGitDate (mark ∷ []) day date → GitFront (day ++ rest)
+marked-front mark day rest date v d h =
+    date-front (mark ∷ []) day rest date h (year-front h.year date.year mark (h.month ++ (mark ∷ (h.day ++ rest))) h.is_year v d)
 
-dotted-front : (x : List ℕ) (t : Time) → dotted_time x ≡ Some t → GitFront x
-unfolding dotted_time
-dotted-front x t e =
-    let date = went (read_marked_date dot x) (λ date. skip_char space date.1 >>= λ r. time_with_rest date.0 r) t e in
-    marked-front dot x date.0 refl refl date.1
-
-flexible-front : (x : List ℕ) (t : Time) → flexible_time x ≡ Some t → GitFront x
-unfolding flexible_time
-flexible-front x t e =
-    let date = went (read_marked_date minus x) (λ date. option_or (skip_char letter_t date.1) (skip_char space date.1) >>= λ r. time_with_rest date.0 r) t e in
-    marked-front minus x date.0 refl refl date.1
-
-compact-time-front : (x : List ℕ) (t : Time) → compact_time x ≡ Some t → GitFront x
-unfolding compact_time
-compact-time-front x t e =
-    let date = went (read_compact_date x) (λ date. skip_char letter_t date.1 >>= λ r. time_with_rest date.0 r) t e in
-    let mark = went (skip_char letter_t date.0.1) (λ r. time_with_rest date.0.0 r) t date.2 in
-    compact-front x date.0 mark.0 date.1 mark.1
-
-pub first-or : {A : Type 0} (a b : Option A) (t : A) → option_or a b ≡ Some t → (a ≡ Some t) ⊎ (b ≡ Some t)
-first-or (Some x) b t e = inl e
-first-or None b t e = inr e
-
-form-by : (x : List ℕ) (t : Time) → (dotted_time x ≡ Some t) ⊎ (option_or (compact_time x) (flexible_time x) ≡ Some t)
-    → GitFront x
-form-by x t (inl e) = dotted-front x t e
-form-by x t (inr e) = elim (first-or (compact_time x) (flexible_time x) t e) [ inl c ↦ compact-time-front x t c | inr f ↦ flexible-front x t f ]
+front-begins : (day gap rest : List ℕ) (date : DateFields) → IsGitFront day gap date → GitFront (day ++ (gap ++ rest))
+front-begins day gap rest date (inl h) = marked-front dot day (gap ++ rest) date refl refl h.0
+front-begins day gap rest date (inr (inl h)) =
+    subst (λ (g : List ℕ). GitFront (day ++ (g ++ rest))) (sym h.1)
+      (date-front [] day (letter_t ∷ rest) date h.0 (pairs-front h.0.year h.0.month h.0.day date.year date.month date.day rest h.0.is_year h.0.is_month h.0.is_day))
+front-begins day gap rest date (inr (inr h)) = marked-front minus day (gap ++ rest) date refl refl h.0
 
 pub git-front : (x : List ℕ) (t : Time) → git_form x ≡ Some t → GitFront x
 unfolding git_form
-git-front x t e = form-by x t (first-or (dotted_time x) (option_or (compact_time x) (flexible_time x)) t e)
+git-front x t e =
+    let found = went (git_front x) (λ (f : DateFields × List ℕ). time_with_rest f.0 f.1) t e in
+    let f = front-taken x found.0.0 found.0.1 found.1 in
+    subst GitFront (sym f.whole) (front-begins f.day f.gap found.0.1 found.0.0 f.is)
 
 -- A text whose first word is an int text.
 pub record FirstNumber (text : List ℕ) : Type 0 where

@@ -15,7 +15,7 @@ use Rattle.gix_date.specs.Families.Order.{Family, AtText, Short, Rfc2822, Iso860
 use Rattle.gix_date.specs.Families.Laws.{AreExclusive, IgnoresMoment, Holds, overlap}
 use Rattle.gix_date.specs.Fields.FieldTexts.{IsYear, IsField, IsMonthName, IsDayPrefix, AreSpaces}
 use Rattle.gix_date.specs.Fields.Front.{skip_char, ◌>>=◌}
-use Rattle.gix_date.specs.Git.Forms.{git_time, git_form, dotted_time, compact_time, flexible_time, read_marked_date, read_compact_date}
+use Rattle.gix_date.specs.Git.Forms.{git_time, git_form, git_front, dotted_front, compact_front, flexible_front, read_marked_date, read_compact_date}
 use Rattle.gix_date.specs.Text.Numbers.{int_value}
 use Rattle.gix_date.specs.Families.Patterns.{short_answer, rfc2822_answer, iso8601_answer, iso8601_strict_answer, gitoxide_answer, default_answer, rfc2822_layout, iso8601_layout, iso8601_strict_layout, gitoxide_layout, default_layout, time_answer, date_answer, day_answer, midnight, Accepts, IsMeaning}
 use Rattle.gix_date.specs.Fields.DateFields.{skip_weekday, read_plain_date}
@@ -174,7 +174,7 @@ day_text year month day = year ++ (minus ∷ (month ++ (minus ∷ day)))
 
 day-no-form : (year month day : List ℕ) (n m d : ℕ) → IsYear year n → IsField month m → IsField day d
     → git_form (day_text year month day) ≡ None
-unfolding git_form dotted_time compact_time flexible_time read_marked_date read_compact_date skip_char
+unfolding git_form git_front dotted_front compact_front flexible_front read_marked_date read_compact_date skip_char
 day-no-form year [] day n m d y h k = absurd h
 day-no-form year (a ∷ []) day n m d y h k =
     let rest = a ∷ minus ∷ day in

@@ -24,12 +24,12 @@ use Rattle.gix_date.specs.Fields.Layout.{Piece}
 use Rattle.gix_date.specs.Fields.Offsets.{read_sign, offset_fields, offset_of, offset_by, signed}
 use Rattle.gix_date.specs.Git.Clock.{git_clock}
 use Rattle.gix_date.specs.Git.ClockCut.{Cut, clock_cut}
-use Rattle.gix_date.specs.Git.Forms.{without_colons, fields_of, offset_of_digits, is_within_a_day, git_offset, git_time, git_form, dotted_time, compact_time, flexible_time, time_of_cut, form_time, time_with_rest, read_marked_date, read_compact_date}
+use Rattle.gix_date.specs.Git.Forms.{without_colons, fields_of, offset_of_digits, is_within_a_day, git_offset, git_time, git_form, git_front, time_of_cut, time_with_rest}
 use Rattle.gix_date.specs.Header.Text.{header_text}
 use Rattle.gix_date.specs.Printing.Zoned.{IsConvertible}
 use Rattle.gix_date.specs.Relative.Dates.{RelativeDate, MinusSeconds, MinusPairs, Reaches, IsNamed, relative_date}
 use Rattle.gix_date.specs.Relative.Steps.{PairStep, Chain, zone_of}
-use Rattle.gix_date.specs.Text.Characters.{at_sign, dot, minus, space, letter_t}
+use Rattle.gix_date.specs.Text.Characters.{at_sign}
 use Rattle.gix_date.specs.Text.Numbers.{int_value, two_digit_value}
 use Rattle.gix_date.specs.Text.SpaceWords.{space_words, first_words}
 use Rattle.gix_date.specs.declared.civil.ClockFields.{ClockFields}
@@ -42,8 +42,7 @@ use Rattle.gix_date.specs.declared.parsing.raw.RawOffsets.TheVariants.{Quarter, 
 use Rattle.gix_date.specs.declared.parsing.relative.words.TimeUnit.{TimeUnit}
 use Rattle.gix_date.specs.declared.parsing.relative.words.TimeUnit.TheVariants.{Seconds, Months}
 use Rattle.gix_date.specs.declared.time.Time.{Time}
-use Rattle.gix_date.proofs.Families.Disjoint.{first-or}
-use Rattle.gix_date.proofs.Fields.FieldsTaken.{went, guard}
+use Rattle.gix_date.proofs.Fields.FieldsTaken.{went, guard, first-or}
 use Rattle.gix_date.proofs.Header.HeaderTexts.{fitting_has_text}
 use Rattle.gix_date.proofs.Fields.Layouts.{dates_spelled}
 use Rattle.gix_date.proofs.Fast.FastHeaders.{same_some}
@@ -144,23 +143,11 @@ near-cut date cut t e =
     let seconds = went (civil_instant date clock.0 offset.0) (λ s. Some (time_at s offset.0)) t offset.2 in
     subst IsNear (ap (λ (u : Time). u.offset) (same_some (time_at seconds.0 offset.0) t seconds.2)) (near-git-offset cut.1 offset.0 offset.1)
 
-near-by : (read : List ℕ → Option (DateFields × List ℕ)) (gap : List ℕ → Option (List ℕ)) (text : List ℕ) (t : Time) → form_time read gap text ≡ Some t → IsNear t.offset
-near-by read gap text t e =
-    let date = went (read text) (λ d. gap d.1 >>= λ r. time_with_rest d.0 r) t e in
-    let rest = went (gap date.0.1) (λ r. time_with_rest date.0.0 r) t date.2 in
-    near-cut date.0.0 (clock_cut (trim rest.0)) t rest.2
-
 near-git : (text : List ℕ) (t : Time) → git_time text ≡ Some t → IsNear t.offset
-unfolding git_time git_form dotted_time compact_time flexible_time
+unfolding git_time git_form
 near-git text t e =
-    let x = trim text in
-    elim (first-or (dotted_time x) (option_or (compact_time x) (flexible_time x)) t e) [
-      | inl h ↦ near-by (read_marked_date dot) (skip_char space) x t h
-      | inr h ↦ elim (first-or (compact_time x) (flexible_time x) t h) [
-        | inl k ↦ near-by read_compact_date (skip_char letter_t) x t k
-        | inr k ↦ near-by (read_marked_date minus) (λ rest. option_or (skip_char letter_t rest) (skip_char space rest)) x t k
-      ]
-    ]
+    let found = went (git_front (trim text)) (λ (f : DateFields × List ℕ). time_with_rest f.0 f.1) t e in
+    near-cut found.0.0 (clock_cut (trim found.0.1)) t found.2
 
 -- What a family answers whatever the moment.
 abbrev AnswersNear : Option FamilyAnswer → Type 0

@@ -1,5 +1,5 @@
 -- Fields that are read are written so.
-use Rattle.std.proofs.Common.{◌≡◌, ◌∙◌, ℕ, ◌<◌, ◌+◌, ◌-◌, ◌*◌, Bool, true, false, cond, List, [], ◌∷◌, ◌++◌, length, drop, take, refl, ap, sym, subst, Option, Some, None, append_assoc, arith, inl, inr, option_map, take-append-drop, one-add}
+use Rattle.std.proofs.Common.{◌≡◌, ◌∙◌, ℕ, ◌<◌, ◌+◌, ◌-◌, ◌*◌, Bool, true, false, cond, List, [], ◌∷◌, ◌++◌, length, drop, take, refl, ap, sym, subst, Option, Some, None, append_assoc, arith, inl, inr, ◌⊎◌, option_map, take-append-drop, one-add}
 use Rattle.std.proofs.lemmas.Bool.{and_parts as both}
 use Rattle.std.proofs.lemmas.Bool.Decides.{nat_tests}
 use Rattle.std.proofs.lemmas.List.Folds.{length-prefix_len}
@@ -23,6 +23,10 @@ none_is (Some x) e = absurd cc
 pub went : {A B : Type 0} (r : Option A) (next : A → Option B) (y : B) → (r >>= next) ≡ Some y → (x : A) × (r ≡ Some x) × (next x ≡ Some y)
 went (Some x) next y e = (x, refl, e)
 went None next y e = absurd cc
+
+pub first-or : {A : Type 0} (a b : Option A) (t : A) → option_or a b ≡ Some t → (a ≡ Some t) ⊎ (b ≡ Some t)
+first-or (Some x) b t e = inl e
+first-or None b t e = inr e
 
 same : {A : Type 0} (x y : A) → (λ (z : A). Some z) x ≡ Some y → x ≡ y
 same x y e = cc

@@ -6,7 +6,7 @@ use Rattle.std.specs.Prelude.{codes, neg_ℤ, Some, None}
 use Rattle.gix_date.specs.Text.Characters.{dot, minus as dash}
 use Rattle.gix_date.specs.Git.ClockCut.{clock_cut, cut_at_z, cut_at_space, cut_at_sign, last_space, last_sign}
 use Rattle.gix_date.specs.Fields.Front.{skip_char}
-use Rattle.gix_date.specs.Git.Forms.{git_time, git_form, dotted_time, compact_time, flexible_time, read_marked_date, read_compact_date, time_of_cut, git_offset}
+use Rattle.gix_date.specs.Git.Forms.{git_time, git_form, git_front, dotted_front, compact_front, flexible_front, read_marked_date, read_compact_date, time_of_cut, git_offset}
 use Rattle.gix_date.specs.Git.Clock.{git_clock, trimmed_clock, clock_with_colons, clock_without_colons, read_pair_or_end, digits_at_most}
 use Rattle.gix_date.specs.Text.Numbers.{read_two_digits, read_year}
 use Rattle.gix_date.specs.Fields.Offsets.{read_sign}
@@ -15,7 +15,7 @@ use Rattle.gix_date.specs.declared.civil.DateFields.{DateFields}
 
 -- all that a row needs to see computed
 computing : Type 0
-unfolding git_time git_form dotted_time compact_time flexible_time time_of_cut read_marked_date read_compact_date read_year clock_cut cut_at_z cut_at_space cut_at_sign last_space last_sign git_clock trimmed_clock clock_with_colons clock_without_colons read_pair_or_end digits_at_most git_offset read_sign read_two_digits skip_char trim_start trim_end chars encode
+unfolding git_time git_form git_front dotted_front compact_front flexible_front time_of_cut read_marked_date read_compact_date read_year clock_cut cut_at_z cut_at_space cut_at_sign last_space last_sign git_clock trimmed_clock clock_with_colons clock_without_colons read_pair_or_end digits_at_most git_offset read_sign read_two_digits skip_char trim_start trim_end chars encode
 computing = Unit {0}
 
 abbrev date : ℕ → ℕ → ℕ → DateFields

@@ -1,5 +1,5 @@
 -- Dates that are written without an offset, and what they name in a zone.
-use Rattle.std.specs.Prelude.{◌≡◌, ℕ, ℤ, pos, List, if◌then◌else◌, Option, Some, None, option_map}
+use Rattle.std.specs.Prelude.{◌≡◌, ℕ, ℤ, pos, List, if◌then◌else◌, Option, None, option_map}
 use Rattle.std.specs.Option.{option_or}
 use Rattle.std.specs.Str.{trim}
 use Rattle.jiff.specs.Words.{nanos_of_seconds}
@@ -8,14 +8,12 @@ use Rattle.gix_date.specs.Families.Epoch.{utc_time}
 use Rattle.gix_date.specs.Families.Patterns.{midnight}
 use Rattle.gix_date.specs.Fields.Civil.{civil_instant}
 use Rattle.gix_date.specs.Fields.DateFields.{read_plain_date}
-use Rattle.gix_date.specs.Fields.Front.{ReadFront, skip_char, ◌>>=◌}
+use Rattle.gix_date.specs.Fields.Front.{◌>>=◌}
 use Rattle.gix_date.specs.Git.ClockCut.{clock_cut}
-use Rattle.gix_date.specs.Git.Forms.{read_marked_date, read_compact_date, time_of_cut}
+use Rattle.gix_date.specs.Git.Forms.{git_front, time_of_cut}
 use Rattle.gix_date.specs.Printing.Zoned.{time_in}
 use Rattle.gix_date.specs.Relative.Steps.{IsPicked}
-use Rattle.gix_date.specs.Text.Characters.{space, dot, minus, letter_t}
 use Rattle.gix_date.specs.Text.SpaceWords.{is_nonempty}
-use Rattle.gix_date.specs.declared.civil.DateFields.{DateFields}
 use Rattle.gix_date.specs.declared.time.Time.{Time}
 
 -- a day alone, `YYYY-M-D`: its midnight in UTC
@@ -23,26 +21,6 @@ unfoldable pub unzoned_day : List ℕ → Option Time
 unzoned_day text = do
   day ← read_plain_date text
   if is_nonempty day.1 then None else option_map utc_time (civil_instant day.0 midnight (pos 0))
-
--- a day with this mark between its numbers, and this character after it
-unfoldable pub marked_front : ℕ → ℕ → List ℕ → ReadFront DateFields
-marked_front mark gap text = do
-  day ← read_marked_date mark text
-  rest ← skip_char gap day.1
-  Some (day.0, rest)
-
--- a day with no mark, and `T` after it
-unfoldable pub compact_front : List ℕ → ReadFront DateFields
-compact_front text = do
-  day ← read_compact_date text
-  rest ← skip_char letter_t day.1
-  Some (day.0, rest)
-
--- the day of one of Git's own forms, and what stands after it and its gap
-unfoldable pub git_front : List ℕ → ReadFront DateFields
-git_front text =
-    option_or (marked_front dot space text) (option_or (compact_front text)
-    (option_or (marked_front minus letter_t text) (marked_front minus space text)))
 
 -- one of Git's own forms in which no offset is written: its time in UTC
 unfoldable pub unzoned_git_time : List ℕ → Option Time

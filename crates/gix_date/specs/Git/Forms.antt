@@ -62,29 +62,35 @@ time_of_cut date cut = do
 abbrev pub time_with_rest : DateFields → List ℕ → Option Time
 time_with_rest date rest = time_of_cut date (clock_cut (trim rest))
 
--- the time of a date, of what `gap` takes after it, and of the rest
-abbrev pub form_time : (List ℕ → ReadFront DateFields) → (List ℕ → Option (List ℕ)) → List ℕ → Option Time
-form_time read gap text = do
+-- the date that is read, and what stands after its gap
+abbrev pub read_then_gap : (List ℕ → ReadFront DateFields) → (List ℕ → Option (List ℕ)) → List ℕ → ReadFront DateFields
+read_then_gap read gap text = do
   date ← read text
   rest ← gap date.1
-  time_with_rest date.0 rest
+  Some (date.0, rest)
 
 -- `YYYY.MM.DD`, and one space
-unfoldable pub dotted_time : List ℕ → Option Time
-dotted_time text = form_time (read_marked_date dot) (skip_char space) text
+unfoldable pub dotted_front : List ℕ → ReadFront DateFields
+dotted_front text = read_then_gap (read_marked_date dot) (skip_char space) text
 
 -- `YYYYMMDD`, and `T`
-unfoldable pub compact_time : List ℕ → Option Time
-compact_time text = form_time read_compact_date (skip_char letter_t) text
+unfoldable pub compact_front : List ℕ → ReadFront DateFields
+compact_front text = read_then_gap read_compact_date (skip_char letter_t) text
 
 -- `YYYY-MM-DD`, and `T` or one space
-unfoldable pub flexible_time : List ℕ → Option Time
-flexible_time text =
-    form_time (read_marked_date minus) (λ rest. option_or (skip_char letter_t rest) (skip_char space rest)) text
+unfoldable pub flexible_front : List ℕ → ReadFront DateFields
+flexible_front text =
+    read_then_gap (read_marked_date minus) (λ rest. option_or (skip_char letter_t rest) (skip_char space rest)) text
+
+-- the date of one of the three forms, and what stands after its gap
+unfoldable pub git_front : List ℕ → ReadFront DateFields
+git_front text = option_or (dotted_front text) (option_or (compact_front text) (flexible_front text))
 
 -- the time of a text, already trimmed, in one of the three forms
 unfoldable pub git_form : List ℕ → Option Time
-git_form text = option_or (dotted_time text) (option_or (compact_time text) (flexible_time text))
+git_form text = do
+  front ← git_front text
+  time_with_rest front.0 front.1
 
 -- the time of a text in one of Git's own forms, white space round it aside
 unfoldable pub git_time : List ℕ → Option Time

@@ -2,11 +2,11 @@
 ghost use Rattle.std.specs.Prelude.{◌≡◌, ◌<◌, ◌≤◌, IfSome};
 ghost use Rattle.jiff.specs.Words.{IsOffsetSeconds};
 ghost use Rattle.std.specs.Str.{trim};
-ghost use Rattle.gix_date.specs.Careful.Dates.{unzoned_git_time, git_front, marked_front, compact_front};
+ghost use Rattle.gix_date.specs.Careful.Dates.{unzoned_git_time};
 ghost use Rattle.gix_date.specs.Private.Civil.{ClockFits, DateFits};
 ghost use Rattle.gix_date.specs.Private.FastRests.{time_at};
 ghost use Rattle.gix_date.specs.Private.Views.{read_view};
-ghost use Rattle.gix_date.specs.Git.Forms.{read_compact_date, time_with_rest, time_of_cut, dotted_time, compact_time, flexible_time, git_form, git_time};
+ghost use Rattle.gix_date.specs.Git.Forms.{read_compact_date, time_with_rest, time_of_cut, dotted_front, compact_front, flexible_front, git_front, git_time};
 
 use crate::civil::{ClockFields, DateFields, civil_instant};
 use crate::parsing::fields::{read_marked_date, skip_char};
@@ -29,12 +29,13 @@ mod offset;
 /// - flexible: `2008-02-14 20:30:45 Z`, `2008-02-14T20 +05`.
 ///
 /// `None` for any other text, for a date that does not exist, and without an instant of `jiff`.
-#[tactic(auto, unfolding(crate::specs::Git::Forms::git_time))]
+#[tactic(auto, unfolding(crate::specs::Git::Forms::git_time, crate::specs::Git::Forms::git_form))]
 pub(crate) fn parse_git_date_format(input: &str) -> Option<Time>
     ensures time { result ≡ git_time input.now }
     ensures offset_fits { IfSome result (λ t. IsOffsetSeconds t.offset) }
 {
-    parse_form(trimmed(input))
+    let (date, rest) = read_front(trimmed(input))?;
+    parse_rest(date, rest)
 }
 
 /// Reads a date in one of Git's own forms in which no offset is written: its time in UTC.
@@ -50,39 +51,34 @@ pub(crate) fn parse_unzoned_git(input: &str) -> Option<Time>
     parse_cut(date, clock, offset)
 }
 
-/// The day of one of Git's own forms, and what stands after it and its gap.
-#[tactic(auto, unfolding(crate::specs::Careful::Dates::git_front))]
+/// The date of one of the three forms, and what stands after its gap.
+#[tactic(auto, unfolding(crate::specs::Git::Forms::git_front))]
 fn read_front(text: &str) -> Option<(DateFields, &str)>
     ensures value { read_view result ≡ git_front text.now }
     ensures fits { IfSome result (λ found. DateFits found.0) }
 {
-    if let Some(front) = read_marked_front('.', ' ', text) {
+    if let Some(front) = read_dotted_front(text) {
         return Some(front);
     }
     if let Some(front) = read_compact_front(text) {
         return Some(front);
     }
-    if let Some(front) = read_marked_front('-', 'T', text) {
-        return Some(front);
-    }
-    read_marked_front('-', ' ', text)
+    read_flexible_front(text)
 }
 
-/// A day with this mark between its numbers, and this character after it.
-#[tactic(auto, unfolding(crate::specs::Careful::Dates::marked_front))]
-fn read_marked_front(mark: char, gap: char, text: &str) -> Option<(DateFields, &str)>
-    requires mark { mark < 128 }
-    requires gap { gap < 128 }
-    ensures value { read_view result ≡ marked_front mark gap text.now }
+/// `YYYY.MM.DD`, and one space.
+#[tactic(auto, unfolding(crate::specs::Git::Forms::dotted_front))]
+fn read_dotted_front(text: &str) -> Option<(DateFields, &str)>
+    ensures value { read_view result ≡ dotted_front text.now }
     ensures fits { IfSome result (λ found. DateFits found.0) }
 {
-    let (date, rest) = read_marked_date(mark, text)?;
-    let rest = skip_char(gap, rest)?;
+    let (date, rest) = read_marked_date('.', text)?;
+    let rest = skip_char(' ', rest)?;
     Some((date, rest))
 }
 
-/// A day with no mark, and `T` after it.
-#[tactic(auto, unfolding(crate::specs::Careful::Dates::compact_front))]
+/// `YYYYMMDD`, and `T`.
+#[tactic(auto, unfolding(crate::specs::Git::Forms::compact_front))]
 fn read_compact_front(text: &str) -> Option<(DateFields, &str)>
     ensures value { read_view result ≡ compact_front text.now }
     ensures fits { IfSome result (λ found. DateFits found.0) }
@@ -92,55 +88,18 @@ fn read_compact_front(text: &str) -> Option<(DateFields, &str)>
     Some((date, rest))
 }
 
-/// The first of the three forms that a trimmed text has.
-#[tactic(auto, unfolding(crate::specs::Git::Forms::git_form))]
-fn parse_form(text: &str) -> Option<Time>
-    ensures time { result ≡ git_form text.now }
-    ensures offset_fits { IfSome result (λ t. IsOffsetSeconds t.offset) }
-{
-    if let Some(time) = parse_dotted(text) {
-        return Some(time);
-    }
-    if let Some(time) = parse_compact(text) {
-        return Some(time);
-    }
-    parse_flexible(text)
-}
-
-/// `YYYY.MM.DD`, one space, a clock and perhaps an offset.
-#[tactic(auto, unfolding(crate::specs::Git::Forms::dotted_time))]
-fn parse_dotted(text: &str) -> Option<Time>
-    ensures time { result ≡ dotted_time text.now }
-    ensures offset_fits { IfSome result (λ t. IsOffsetSeconds t.offset) }
-{
-    let (date, rest) = read_marked_date('.', text)?;
-    let rest = skip_char(' ', rest)?;
-    parse_rest(date, rest)
-}
-
-/// `YYYYMMDD`, `T`, a clock and perhaps an offset.
-#[tactic(auto, unfolding(crate::specs::Git::Forms::compact_time))]
-fn parse_compact(text: &str) -> Option<Time>
-    ensures time { result ≡ compact_time text.now }
-    ensures offset_fits { IfSome result (λ t. IsOffsetSeconds t.offset) }
-{
-    let (date, rest) = read_compact_date(text)?;
-    let rest = skip_char('T', rest)?;
-    parse_rest(date, rest)
-}
-
-/// `YYYY-MM-DD`, `T` or one space, a clock and perhaps an offset.
-#[tactic(auto, unfolding(crate::specs::Git::Forms::flexible_time))]
-fn parse_flexible(text: &str) -> Option<Time>
-    ensures time { result ≡ flexible_time text.now }
-    ensures offset_fits { IfSome result (λ t. IsOffsetSeconds t.offset) }
+/// `YYYY-MM-DD`, and `T` or one space.
+#[tactic(auto, unfolding(crate::specs::Git::Forms::flexible_front))]
+fn read_flexible_front(text: &str) -> Option<(DateFields, &str)>
+    ensures value { read_view result ≡ flexible_front text.now }
+    ensures fits { IfSome result (λ found. DateFits found.0) }
 {
     let (date, rest) = read_marked_date('-', text)?;
     if let Some(rest) = skip_char('T', rest) {
-        return parse_rest(date, rest);
+        return Some((date, rest));
     }
     let rest = skip_char(' ', rest)?;
-    parse_rest(date, rest)
+    Some((date, rest))
 }
 
 /// The time of a date, and of a clock and an offset that stand after it.

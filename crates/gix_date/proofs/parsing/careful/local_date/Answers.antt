@@ -1,5 +1,4 @@
-use Rattle.std.proofs.Common.{Option, sym, subst}
-use Rattle.gix_date.specs.declared.time.Time.{Time}
+use Rattle.std.proofs.Common.{sym, subst}
 use Rattle.gix_date.proofs.Careful.Unzoned.{HasInstant, unzoned_has}
 use Rattle.gix_date.proofs.parsing.careful.local_date.Goals as goal
 

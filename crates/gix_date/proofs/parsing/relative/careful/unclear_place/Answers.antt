@@ -1,12 +1,11 @@
-use Rattle.std.proofs.Common.{◌≡◌, ◌∙◌, ◌<◌, ◌≤◌, ◌+◌, suc, length, refl, sym, ap, subst, arith, Bool, true, false, Option, Some, None}
+use Rattle.std.proofs.Common.{◌≡◌, ◌∙◌, ◌<◌, ◌+◌, suc, length, refl, sym, ap, subst, arith, true, false, Option}
 use Rattle.std.proofs.lemmas.Str.{IsCharBoundary-after_ascii, IsCharBoundary-start}
-use Rattle.std.specs.Option.{option_map, option_or}
-use Rattle.std.specs.Prelude.{IfSome, IsCharBoundary, List, ℕ}
-use Rattle.gix_date.specs.Careful.Texts.{begins_word, ends_in_ago, first_failure, is_clear_at, unclear_place, word_at, word_before}
+use Rattle.std.specs.Prelude.{IfSome, ℕ}
+use Rattle.gix_date.specs.Careful.Texts.{begins_word, first_failure, is_clear_at}
 use Rattle.gix_date.specs.Git.ClockCut.{last_place}
 use Rattle.gix_date.specs.Private.Careful.{IsWordPlace}
 use Rattle.gix_date.proofs.Careful.Clear.{begin_is_ascii, clear_is_ascii}
-use Rattle.gix_date.proofs.Careful.Failures.{goes_on, failed_first, stopped, ended}
+use Rattle.gix_date.proofs.Careful.Failures.{goes_on, stopped, ended}
 use Rattle.gix_date.proofs.Text.LastPlaces.{passes_here, passes_below}
 use Rattle.gix_date.proofs.parsing.relative.careful.unclear_place.Goals as goal
 use Rattle.gix_date.proofs.parsing.relative.careful.unclear_place.Goals.{then-begins_word, else-begins_word}
