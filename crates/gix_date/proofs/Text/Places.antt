@@ -1,7 +1,6 @@
 -- Tests of places, by what stands before a word, the word, and what stands after.
 use Rattle.std.proofs.Common.{ℕ, Bool, List}
 use Rattle.std.specs.List.{list_any, list_all}
-use Rattle.std.specs.Prelude.{flat_map}
 use Rattle.gix_date.specs.Text.Places.{places_after}
 
 abbrev pub Words : Type 0
@@ -12,6 +11,3 @@ any_place t front words = list_any (λ p. t p.front p.word p.back) (places_after
 
 abbrev pub all_places : (Words → List ℕ → Words → Bool) → Words → Words → Bool
 all_places t front words = list_all (λ p. t p.front p.word p.back) (places_after front words)
-
-abbrev pub flat_places : {Y : Type 0} → (Words → List ℕ → Words → List Y) → Words → Words → List Y
-flat_places f front words = flat_map (λ p. f p.front p.word p.back) (places_after front words)

@@ -70,11 +70,12 @@ impl Default for CarefulOptions {
 
 /// Reads a date as [`parse_with`](crate::parse_with) does, but does not guess where the options say so.
 ///
-/// [`CarefulError::Unclear`] for a relative text that is not careful: it has the place, in bytes, of the first word or
-/// character that was not understood, or the text's length if `ago` is missing at its end. The text may be cut there. Else the refusals are those of
-/// [`parse_no_alloc`](crate::parse_no_alloc), in [`CarefulError::Refused`]. [`ParseError::MissingNow`] also for a date that
-/// has to be in the moment's zone without a moment, and [`ParseError::Range`] if it has no instant there. Takes no
-/// memory.
+/// [`CarefulError::Unclear`] for a relative text that is not careful. It has the place, in bytes, of the first word or
+/// character that was not understood, or the text's length if `ago` is missing at its end. The text may be cut there.
+///
+/// [`CarefulError::Refused`] has the refusals of [`parse_no_alloc`](crate::parse_no_alloc). Of these,
+/// [`ParseError::MissingNow`] is also for a date that has to be in the moment's zone without a moment, and
+/// [`ParseError::Range`] if such a date has no instant there. Takes no memory.
 #[tactic(auto, unfolding(crate::specs::Careful::Outcome::careful_reading))]
 pub fn parse_carefully(
     input: &str,

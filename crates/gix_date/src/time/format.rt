@@ -16,7 +16,10 @@ ghost use Rattle.gix_date.specs.Private.Printing.{PrintsAt};
 ghost use Rattle.gix_date.specs.declared.error.Error.TheVariants as errors;
 
 use crate::error::Error;
-use crate::time::named::{copy_text, fast_text};
+use crate::time::named::{
+    DEFAULT_PATTERN, GIT_RFC2822_PATTERN, GITOXIDE_PATTERN, ISO8601_PATTERN, ISO8601_STRICT_PATTERN,
+    RFC2822_PATTERN, SHORT_PATTERN, copy_text, fast_text,
+};
 use crate::time::{Time, header_text};
 use jiff::fmt::strtime::{BrokenDownTime, Config, to_string};
 use jiff::tz::Offset;
@@ -64,28 +67,28 @@ impl From<CustomFormat> for Format {
 
 /// A day: `2018-12-24`.
 pub const SHORT: CustomFormat = CustomFormat {
-    pattern: "%Y-%m-%d",
+    pattern: SHORT_PATTERN,
 };
 
 /// An RFC 2822 date: `Mon, 08 Aug 2022 12:45:06 +0800`.
 pub const RFC2822: CustomFormat = CustomFormat {
-    pattern: "%a, %d %b %Y %H:%M:%S %z",
+    pattern: RFC2822_PATTERN,
 };
 
 /// An RFC 2822 date without a zero before the day, as Git prints it (`git log --pretty=%aD`): `Mon, 8 Aug 2022 12:45:06
 /// +0800`.
 pub const GIT_RFC2822: CustomFormat = CustomFormat {
-    pattern: "%a, %-d %b %Y %H:%M:%S %z",
+    pattern: GIT_RFC2822_PATTERN,
 };
 
 /// A date after ISO 8601, as Git prints it (`git log --pretty=%ai`): `2022-08-17 22:04:58 +0200`.
 pub const ISO8601: CustomFormat = CustomFormat {
-    pattern: "%Y-%m-%d %H:%M:%S %z",
+    pattern: ISO8601_PATTERN,
 };
 
 /// A date in the strict form of ISO 8601, as Git 2.39 prints it (`git log --pretty=%aI`): `2022-08-17T21:43:13+08:00`.
 pub const ISO8601_STRICT: CustomFormat = CustomFormat {
-    pattern: "%Y-%m-%dT%H:%M:%S%:z",
+    pattern: ISO8601_STRICT_PATTERN,
 };
 
 /// Seconds since 1970-01-01 00:00:00 UTC: `123456789`.
@@ -96,12 +99,12 @@ pub const RAW: Format = Format::Raw;
 
 /// A date as gitoxide prints it: `Sun Sep 04 2022 10:45:06 -0400`.
 pub const GITOXIDE: CustomFormat = CustomFormat {
-    pattern: "%a %b %d %Y %H:%M:%S %z",
+    pattern: GITOXIDE_PATTERN,
 };
 
 /// A date as Git prints it by default (`git log --pretty=%ad`): `Sun Sep 4 10:45:06 2022 -0400`.
 pub const DEFAULT: CustomFormat = CustomFormat {
-    pattern: "%a %b %-d %H:%M:%S %Y %z",
+    pattern: DEFAULT_PATTERN,
 };
 
 /// Maps a fault of `jiff`'s printer.

@@ -24,6 +24,15 @@ use arrayvec::ArrayString;
 use jiff_core::civil::Date;
 use std::alloc::Global;
 
+// The patterns of the named formats: those of `crate::time::format` have them, and the fast path matches them.
+pub(crate) const SHORT_PATTERN: &str = "%Y-%m-%d";
+pub(crate) const ISO8601_PATTERN: &str = "%Y-%m-%d %H:%M:%S %z";
+pub(crate) const ISO8601_STRICT_PATTERN: &str = "%Y-%m-%dT%H:%M:%S%:z";
+pub(crate) const RFC2822_PATTERN: &str = "%a, %d %b %Y %H:%M:%S %z";
+pub(crate) const GIT_RFC2822_PATTERN: &str = "%a, %-d %b %Y %H:%M:%S %z";
+pub(crate) const GITOXIDE_PATTERN: &str = "%a %b %d %Y %H:%M:%S %z";
+pub(crate) const DEFAULT_PATTERN: &str = "%a %b %-d %H:%M:%S %Y %z";
+
 /// The most seconds that the offset of a zone has, either way.
 const MAX_ZONE_OFFSET: u32 = 93_599;
 
@@ -400,13 +409,13 @@ fn push_named(text: &mut NamedText, pattern: &str, t: LocalMoment) -> Option<()>
     ensures { IfSome result (λ _. IsShownByAll pattern.now (local_of t) text.new.bytes) }
 {
     match pattern {
-        "%Y-%m-%d" => push_date(text, t.date),
-        "%Y-%m-%d %H:%M:%S %z" => push_iso8601(text, t),
-        "%Y-%m-%dT%H:%M:%S%:z" => push_iso8601_strict(text, t),
-        "%a, %d %b %Y %H:%M:%S %z" => push_mail(text, t),
-        "%a, %-d %b %Y %H:%M:%S %z" => push_git_mail(text, t),
-        "%a %b %d %Y %H:%M:%S %z" => push_gitoxide(text, t),
-        "%a %b %-d %H:%M:%S %Y %z" => push_git(text, t),
+        SHORT_PATTERN => push_date(text, t.date),
+        ISO8601_PATTERN => push_iso8601(text, t),
+        ISO8601_STRICT_PATTERN => push_iso8601_strict(text, t),
+        RFC2822_PATTERN => push_mail(text, t),
+        GIT_RFC2822_PATTERN => push_git_mail(text, t),
+        GITOXIDE_PATTERN => push_gitoxide(text, t),
+        DEFAULT_PATTERN => push_git(text, t),
         _ => return None,
     }
     Some(())
