@@ -13,17 +13,17 @@ use Rattle.gix_date.specs.Families.Grammars.{AreDigits, IsInt, IsPair, IsSign, A
 use Rattle.gix_date.specs.Families.Patterns.{Accepts}
 use Rattle.gix_date.specs.Families.Raw.{OffsetRule, raw_time_by, raw_offset_by}
 use Rattle.gix_date.specs.Fields.Front.{skip_char, ◌>>=◌}
-use Rattle.gix_date.specs.Fields.Offsets.{read_sign, last_pair, offset_fields, offset_of, offset_by}
+use Rattle.gix_date.specs.Fields.Offsets.{read_sign, last_pair, offset_fields}
 use Rattle.gix_date.specs.Text.Characters.{at_sign, plus, minus}
 use Rattle.gix_date.specs.Text.Numbers.{fits_i64, int_value, read_two_digits}
-use Rattle.gix_date.specs.Text.SpaceWords.{space_words, first_words}
 use Rattle.gix_date.specs.Private.Types.{SignedPairs, OffsetSign}
 use Rattle.gix_date.specs.declared.time.Time.{Time}
-use Rattle.gix_date.proofs.Families.Disjoint.{two-words-are, raw-words, none-unless}
+use Rattle.gix_date.proofs.Families.Disjoint.{raw-words}
+use Rattle.gix_date.proofs.Families.Shapes.{int-no-raw}
 use Rattle.gix_date.proofs.Fields.FieldsTaken.{went, guard, after-taken, two-taken, first-or}
 use Rattle.gix_date.proofs.Fields.Instants.{z_test, z_holds}
 use Rattle.gix_date.proofs.Text.Ints.{own, each_of, fits_from, int_value_from}
-use Rattle.gix_date.proofs.Fast.FastHeaders.{int-taken, int-number, one-word, sign-taken, same_some}
+use Rattle.gix_date.proofs.Fast.FastHeaders.{int-taken, sign-taken, same_some}
 
 -- Int texts.
 not-minus : (c : ℕ) → is_ascii_digit c ≡ true → (c == minus) ≡ false
@@ -159,23 +159,16 @@ abbrev time_at : ℤ → ℤ → Time
 time_at seconds offset = record { seconds = seconds; offset = offset }
 
 raw-is : (rule : OffsetRule) (text : List ℕ) (t : Time) → raw_time_by rule text ≡ Some t → IsRawText rule text t
-unfolding raw_time_by raw_offset_by
 raw-is rule text t e =
-    let words = went (first_words (space_words text)) (λ words. words.1 >>= λ second. int_value words.0 >>= λ s. raw_offset_by rule second >>= λ o. Some (time_at s o)) t e in
-    let second = went words.0.1 (λ second. int_value words.0.0 >>= λ s. raw_offset_by rule second >>= λ o. Some (time_at s o)) t words.2 in
-    let seconds = went (int_value words.0.0) (λ s. raw_offset_by rule second.0 >>= λ o. Some (time_at s o)) t second.2 in
-    let offset = went (raw_offset_by rule second.0) (λ o. Some (time_at seconds.0 o)) t seconds.2 in
-    let fields = went (offset_fields second.0) (λ f. offset_by rule f) offset.0 offset.1 in
-    let g = guard (rule fields.0) (offset_of fields.0) offset.0 fields.2 in
-    let time : time_at seconds.0 (offset_of fields.0) ≡ t = ap (time_at seconds.0) g.1 ∙ same_some (time_at seconds.0 offset.0) t offset.2 in
-    subst (IsRawText rule text) time (record {
-      first = words.0.0;
-      second = second.0;
-      fields = fields.0;
-      words = two-words-are (space_words text) words.0.0 second.0 words.0.1 words.1 second.1;
-      is_seconds = int-is words.0.0 seconds.0 seconds.1;
-      are_fields = fields-are second.0 fields.0 fields.1;
-      allowed = g.0;
+    let r = raw-words rule text t e in
+    subst (IsRawText rule text) r.time (record {
+      first = r.front;
+      second = r.zone;
+      fields = r.fields;
+      words = r.is;
+      is_seconds = int-is r.front r.value r.is_value;
+      are_fields = fields-are r.zone r.fields r.is_fields;
+      allowed = r.allowed;
       offset_is = refl;
     })
 
@@ -206,13 +199,6 @@ at-is rule text t e =
           inr (subst (λ (u : Time). IsInt rest.0 u.seconds × (u.offset ≡ pos 0)) same (int-is rest.0 n.0 n.1, refl))
     ] in
     record { rest = rest.0; whole = after-taken at_sign text rest.0 rest.1; is = is }
-
--- an int text is one word
-int-no-raw : (rule : OffsetRule) (text : List ℕ) (n : ℤ) → int_value text ≡ Some n → raw_time_by rule text ≡ None
-int-no-raw rule text n e = none-unless (raw_time_by rule text) (λ t h.
-    let r = raw-words rule text t h in
-    let clash : r.front ∷ r.zone ∷ [] ≡ text ∷ [] = sym r.is ∙ one-word text (int-number text n e) in
-    cc)
 
 is-at : (rule : OffsetRule) (text : List ℕ) (t : Time) → IsAtText rule text t → at_time rule text ≡ Some t
 unfolding at_time skip_char

@@ -1,5 +1,5 @@
 -- Raw texts, bare epochs and Git texts exclude one another, and the first two are not relative.
-use Rattle.std.proofs.Common.{◌≡◌, ◌∙◌, ℕ, ℤ, true, false, cond, List, [], ◌∷◌, ◌++◌, length, refl, ap, ap₂, sym, subst, arith, Some, None, Option, inl, inr, IsUtf8}
+use Rattle.std.proofs.Common.{◌≡◌, ◌∙◌, ℕ, ℤ, true, false, List, [], ◌∷◌, ◌++◌, length, refl, ap, ap₂, sym, subst, arith, Some, None, Option, inl, inr, IsUtf8}
 use Rattle.std.proofs.lemmas.Bool.{and_parts as both}
 use Rattle.std.proofs.lemmas.Bool.Decides.{nat_tests}
 use Rattle.std.specs.Char.{is_ascii_digit, is_ascii_alphabetic}
@@ -15,14 +15,14 @@ use Rattle.gix_date.specs.Git.Grammar.{IsGitDate, IsGitFront}
 use Rattle.gix_date.specs.Families.Grammars.{IsPair}
 use Rattle.gix_date.specs.Families.Laws.{AreDisjoint}
 use Rattle.gix_date.specs.Text.Numbers.{fits_i64, int_value}
-use Rattle.gix_date.specs.Fields.Offsets.{offset_fields, offset_of}
+use Rattle.gix_date.specs.Fields.Offsets.{offset_by, offset_fields, offset_of}
 use Rattle.gix_date.specs.Families.Raw.{OffsetRule, raw_time_by, raw_offset_by}
 use Rattle.gix_date.specs.Text.SpaceWords.{space_words, first_words}
 use Rattle.gix_date.specs.declared.civil.DateFields.{DateFields}
 use Rattle.gix_date.specs.declared.parsing.offset.OffsetFields.{OffsetFields}
 use Rattle.gix_date.specs.declared.time.Time.{Time}
 use Rattle.gix_date.proofs.Families.Apart.{mixed}
-use Rattle.gix_date.proofs.Fields.FieldsTaken.{went}
+use Rattle.gix_date.proofs.Fields.FieldsTaken.{went, guard}
 use Rattle.gix_date.proofs.Git.Fronts.{front-taken, joined}
 use Rattle.gix_date.proofs.Text.FirstWords.{AreVisible, is_visible, first-begins, trimmed-words}
 use Rattle.gix_date.proofs.Text.Ints.{each_of}
@@ -164,7 +164,7 @@ none-unless (Some x) h = absurd (h x refl)
 none-unless None h = refl
 
 -- The two words of a raw text, by whatever rule for its offset, and the one of a bare epoch.
-pub record RawWords (text : List ℕ) : Type 0 where
+pub record RawWords (rule : OffsetRule) (text : List ℕ) (t : Time) : Type 0 where
   pub front : List ℕ
   pub zone : List ℕ
   pub is : space_words text ≡ front ∷ zone ∷ []
@@ -172,6 +172,8 @@ pub record RawWords (text : List ℕ) : Type 0 where
   pub is_value : int_value front ≡ Some value
   pub fields : OffsetFields
   pub is_fields : offset_fields zone ≡ Some fields
+  pub allowed : rule fields ≡ true
+  pub time : record { seconds = value; offset = offset_of fields } ≡ t
 
 pub two-words-are : (ws : List (List ℕ)) (a b : List ℕ) (second : Option (List ℕ)) → first_words ws ≡ Some (a, second)
     → second ≡ Some b → ws ≡ a ∷ b ∷ []
@@ -191,20 +193,16 @@ two-words-are (x ∷ y ∷ z ∷ more) a b second e h =
 abbrev time_at : ℤ → ℤ → Time
 time_at seconds offset = record { seconds = seconds; offset = offset }
 
-raw-fields : (rule : OffsetRule) (o : List ℕ) (n : ℤ) → raw_offset_by rule o ≡ Some n
-    → (f : OffsetFields) × (offset_fields o ≡ Some f)
-unfolding raw_offset_by
-raw-fields rule o n e = let f = went (offset_fields o) (λ f. cond (rule f) (Some (offset_of f)) None) n e in (f.0, f.1)
-
-pub raw-words : (rule : OffsetRule) (text : List ℕ) (t : Time) → raw_time_by rule text ≡ Some t → RawWords text
-unfolding raw_time_by
+pub raw-words : (rule : OffsetRule) (text : List ℕ) (t : Time) → raw_time_by rule text ≡ Some t → RawWords rule text t
+unfolding raw_time_by raw_offset_by
 raw-words rule text t e =
     let words = went (first_words (space_words text)) (λ words. words.1 >>= λ second. int_value words.0 >>= λ s. raw_offset_by rule second >>= λ o. Some (time_at s o)) t e in
     let second = went words.0.1 (λ second. int_value words.0.0 >>= λ s. raw_offset_by rule second >>= λ o. Some (time_at s o)) t words.2 in
     let seconds =
     went (int_value words.0.0) (λ s. raw_offset_by rule second.0 >>= λ o. Some (time_at s o)) t second.2 in
     let offset = went (raw_offset_by rule second.0) (λ o. Some (time_at seconds.0 o)) t seconds.2 in
-    let fields = raw-fields rule second.0 offset.0 offset.1 in
+    let fields = went (offset_fields second.0) (λ f. offset_by rule f) offset.0 offset.1 in
+    let g = guard (rule fields.0) (offset_of fields.0) offset.0 fields.2 in
     record {
       front = words.0.0;
       zone = second.0;
@@ -213,14 +211,16 @@ raw-words rule text t e =
       is_value = seconds.1;
       fields = fields.0;
       is_fields = fields.1;
+      allowed = g.0;
+      time = ap (time_at seconds.0) g.1 ∙ same_some (time_at seconds.0 offset.0) t offset.2;
     }
 
 pub epoch-int : (text : List ℕ) (t : Time) → epoch_time text ≡ Some t → (n : ℤ) × (int_value text ≡ Some n)
 unfolding epoch_time
 epoch-int text t e = let n = went (int_value text) _ t e in (n.0, n.1)
 
-pub raw-first : (text : List ℕ) → RawWords text → FirstNumber text
-raw-first text r = record { word = r.front; words = r.zone ∷ []; is = r.is; value = r.value; is_value = r.is_value }
+pub raw-first : (rule : OffsetRule) (text : List ℕ) (t : Time) → RawWords rule text t → FirstNumber text
+raw-first rule text t r = record { word = r.front; words = r.zone ∷ []; is = r.is; value = r.value; is_value = r.is_value }
 
 pub int-first : (text : List ℕ) (n : ℤ) → int_value text ≡ Some n → FirstNumber text
 int-first text n e =
@@ -244,7 +244,7 @@ quiet-raw rule text t u e =
 pub are-disjoint : (rule : OffsetRule) (text : List ℕ) → IsUtf8 text → AreDisjoint rule text
 are-disjoint rule text u = record {
   raw_epoch = λ t e. none-unless (epoch_time text) (λ v h. raw-no-epoch rule text t v e h);
-  raw_git = λ t e. none-unless (git_time text) (λ v h. no-git text u (raw-first text (raw-words rule text t e)) v h);
+  raw_git = λ t e. none-unless (git_time text) (λ v h. no-git text u (raw-first rule text t (raw-words rule text t e)) v h);
   raw_relative = λ t e. no-relative text u (quiet-raw rule text t u e);
   epoch_git = λ t e. (let n = epoch-int text t e in none-unless (git_time text) (λ v h. no-git text u (int-first text n.0 n.1) v h));
   epoch_relative = λ t e. (let n = epoch-int text t e in no-relative text u (quiet-int text n.0 n.1));

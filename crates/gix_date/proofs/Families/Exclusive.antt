@@ -8,6 +8,7 @@ use Rattle.std.specs.List.{list_all}
 use Rattle.std.specs.Option.{option_or}
 use Rattle.std.specs.Prelude.{◌==◌, nat_lt}
 use Rattle.std.specs.Str.{trim, trim_start, trim_end, all_ascii_digits, chars, NonePass, skip_leading_whitespace, drop_trailing_whitespace}
+use Rattle.gix_date.specs.Families.Grammars.{IsSign}
 use Rattle.gix_date.specs.Families.Answer.{FamilyAnswer, Absolute, OffsetAboveDay, NoInstant, Relative}
 use Rattle.gix_date.specs.Text.Characters.{at_sign, comma, minus, space, is_space}
 use Rattle.gix_date.specs.Families.Epoch.{at_time, epoch_time, utc_time}
@@ -41,7 +42,7 @@ use Rattle.gix_date.proofs.Relative.QuietWords.{IsQuiet, no-relative}
 use Rattle.gix_date.proofs.Relative.QuietDates.{quiet-after, quiet-short, quiet-mail, quiet-iso8601, quiet-strict, quiet-gitoxide, quiet-default, quiet-int, field-digits, year-digits}
 use Rattle.gix_date.proofs.Printing.ReadBack.{first-at}
 use Rattle.gix_date.proofs.Text.FirstBytes.{no-git-byte, no-raw-front, no-raw-byte, plain-front, no-plain-by}
-use Rattle.gix_date.proofs.Fast.FastHeaders.{is_number_byte, offset-taken, IsMark}
+use Rattle.gix_date.proofs.Fast.FastHeaders.{is_number_byte, offset-taken}
 use Rattle.gix_date.proofs.Text.WordSteps.{runs_skip, run_first, stops}
 
 -- Texts that begin with a letter, or with visible bytes alone.
@@ -125,7 +126,7 @@ field-visible (a ∷ []) n h = (digit_visible a h.0, tt)
 field-visible (a ∷ b ∷ []) n h = (digit_visible a h.0, (digit_visible b h.1, tt))
 field-visible (a ∷ b ∷ c ∷ t) n h = absurd h
 
-mark-no-letter : (c : ℕ) (s : _) → IsMark c s → is_ascii_alphabetic c ≡ false
+mark-no-letter : (c : ℕ) (s : _) → IsSign c s → is_ascii_alphabetic c ≡ false
 mark-no-letter c s (inl p) = rw p.0 refl
 mark-no-letter c s (inr p) = rw p.0 refl
 

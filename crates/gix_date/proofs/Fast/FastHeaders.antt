@@ -1,5 +1,5 @@
 -- Headers of two numbers, with one space between them.
-use Rattle.std.proofs.Common.{◌≡◌, ◌∙◌, ◌+◌, ◌<◌, ℕ, ℤ, Bool, true, false, List, [], ◌∷◌, ◌++◌, map, length, refl, ap, sym, subst, Some, None, append-nil, arith, IsAscii, inl, inr, ◌⊎◌, Option, option_map, get_or, take, drop, take-append-drop, drop-cons, add-one}
+use Rattle.std.proofs.Common.{◌≡◌, ◌∙◌, ◌+◌, ◌<◌, ℕ, ℤ, Bool, true, false, List, [], ◌∷◌, ◌++◌, map, length, refl, ap, sym, subst, Some, None, append-nil, arith, IsAscii, inl, inr, Option, option_map, get_or, take, drop, take-append-drop, drop-cons, add-one}
 use Rattle.std.proofs.lemmas.Bool.{and_parts as both}
 use Rattle.std.proofs.lemmas.Bool.Decides.{nat_tests}
 use Rattle.std.proofs.lemmas.Str.{chars-IsAscii, encodes-IsAscii, IsAscii-append}
@@ -10,6 +10,7 @@ use Rattle.std.specs.Str.{chars, NonePass, all_ascii_digits}
 use Rattle.std.specs.Str.Parse.{without_leading_sign, signed_digits_value}
 use Rattle.std.specs.Option.{option_or}
 use Rattle.std.proofs.lemmas.List.Folds.{list_any-append}
+use Rattle.gix_date.specs.Families.Grammars.{IsSign}
 use Rattle.gix_date.specs.Text.Characters.{space, plus, minus, is_colon, has_colon}
 use Rattle.gix_date.specs.Fields.Front.{skip_char, ◌>>=◌}
 use Rattle.gix_date.specs.Fields.FieldTexts.{IsDigit}
@@ -106,13 +107,9 @@ int-number (c ∷ t) n e =
     let parts = each_of (nat_lt 0 (length (without_leading_sign (c ∷ t)))) (all_ascii_digits (without_leading_sign (c ∷ t))) (fits_i64 (signed_digits_value 10 (c ∷ t))) (int-taken (c ∷ t) n e).0 in
     record { first = c; rest = t; whole = refl; bytes = after_sign c t (c == minus) (c == plus) refl refl parts.1 }
 
--- the mark of a sign
-abbrev pub IsMark : ℕ → Sign → Type 0
-IsMark c s = ((c ≡ plus) × (s ≡ Plus)) ⊎ ((c ≡ minus) × (s ≡ Minus))
-
 pub record TookSign (x : List ℕ) (s : Sign) (rest : List ℕ) : Type 0 where
   pub mark : ℕ
-  pub is_mark : IsMark mark s
+  pub is_mark : IsSign mark s
   pub whole : x ≡ mark ∷ rest
 
 sign_from : (x : List ℕ) (a b : Option (List ℕ)) (s : Sign) (rest : List ℕ) → skip_char plus x ≡ a → skip_char minus x ≡ b
@@ -156,7 +153,7 @@ pub record IsOffsetText (x : List ℕ) (f : OffsetFields) : Type 0 where
   pub m1 : ℕ
   pub last : List ℕ
   pub whole : x ≡ mark ∷ h0 ∷ h1 ∷ m0 ∷ m1 ∷ last
-  pub is_mark : IsMark mark f.sign
+  pub is_mark : IsSign mark f.sign
   pub is_h0 : IsDigit h0
   pub is_h1 : IsDigit h1
   pub hours : f.hours ≡ 10 * (h0 - 48) + (h1 - 48)
@@ -198,7 +195,7 @@ offset-taken x f e =
       is_last = d;
     })
 
-mark_is : (c : ℕ) (s : Sign) → IsMark c s → is_number_byte c ≡ true
+mark_is : (c : ℕ) (s : Sign) → IsSign c s → is_number_byte c ≡ true
 mark_is c s (inl p) = rw p.0 refl
 mark_is c s (inr p) = rw p.0 refl
 

@@ -15,6 +15,7 @@ use Rattle.std.specs.Option.{option_or}
 use Rattle.std.specs.Prelude.{◌==◌, ◌&&◌, ◌||◌, nat_lt, nat_le, not, codes, slice_index, unwrap_or}
 use Rattle.std.specs.Str.{trim, bytes_eq}
 use Rattle.std.specs.Str.Parse.{digits_value}
+use Rattle.gix_date.specs.Families.Grammars.{IsSign}
 use Rattle.gix_date.specs.Fields.Civil.{is_clock}
 use Rattle.gix_date.specs.Fields.FieldTexts.{IsDigit}
 use Rattle.gix_date.specs.Fields.Front.{ReadFront, skip_char, ◌>>=◌}
@@ -35,7 +36,7 @@ use Rattle.gix_date.proofs.Git.ClockParts.{below, field_yes}
 use Rattle.gix_date.proofs.Fields.FieldsTaken.{TookTwo, went, two-taken, after-taken}
 use Rattle.gix_date.proofs.Fields.Instants.{join}
 use Rattle.gix_date.proofs.Text.LastPlaces.{last_is, last_none}
-use Rattle.gix_date.proofs.Fast.FastHeaders.{IsMark, sign-taken}
+use Rattle.gix_date.proofs.Fast.FastHeaders.{sign-taken}
 use Rattle.gix_date.proofs.Text.ShortDigits.{value-more}
 use Rattle.gix_date.proofs.Text.Trimmed.{trim-ends}
 
@@ -308,14 +309,14 @@ pub record IsOffsetText (text : List ℕ) : Type 0 where
   pub first : is_ascii_digit (get_or rest 0 0) ≡ true
   pub bytes : list_all is_clock_byte rest ≡ true
 
-pub mark-sign : (c : ℕ) (s : Sign) → IsMark c s → is_sign c ≡ true
+pub mark-sign : (c : ℕ) (s : Sign) → IsSign c s → is_sign c ≡ true
 mark-sign c s (inl h) = ap is_sign h.0
 mark-sign c s (inr h) = ap is_sign h.0
 
 some-long : (k : ℕ) (t : List ℕ) → (length (k ∷ t) == 0) ≡ false
 some-long k t = grind (arith, nat_tests)
 
-pub mark-no-z : (c : ℕ) (s : Sign) (t : List ℕ) → IsMark c s → (length (c ∷ t) == 0 || bytes_eq (c ∷ t) (codes "Z")) ≡ false
+pub mark-no-z : (c : ℕ) (s : Sign) (t : List ℕ) → IsSign c s → (length (c ∷ t) == 0 || bytes_eq (c ∷ t) (codes "Z")) ≡ false
 mark-no-z c s t (inl h) = ap (λ k. length (k ∷ t) == 0 || bytes_eq (k ∷ t) (codes "Z")) h.0 ∙ ap (λ b. b || bytes_eq (plus ∷ t) (codes "Z")) (some-long plus t)
 mark-no-z c s t (inr h) = ap (λ k. length (k ∷ t) == 0 || bytes_eq (k ∷ t) (codes "Z")) h.0 ∙ ap (λ b. b || bytes_eq (minus ∷ t) (codes "Z")) (some-long minus t)
 

@@ -18,6 +18,7 @@ use Rattle.std.specs.Option.{option_map_or, option_or}
 use Rattle.std.specs.Char.{is_ascii_digit}
 use Rattle.std.specs.Str.{all_ascii_digits, bytes_eq}
 use Rattle.std.specs.Str.Parse.{without_leading_sign, signed_digits_value, digits_value, IsNumeral}
+use Rattle.gix_date.specs.Families.Grammars.{IsSign}
 use Rattle.gix_date.specs.Header.Canonical.{is_canonical_header, is_canonical_offset, is_decimal_text, has_whole_minutes}
 use Rattle.gix_date.specs.Text.Characters.{space, plus, minus, is_space, has_colon}
 use Rattle.gix_date.specs.Header.Laws.{ComesBack}
@@ -35,7 +36,7 @@ use Rattle.gix_date.specs.declared.time.Time.{Time}
 use Rattle.gix_date.specs.declared.time.write.TheConstants.{HUNDRED_HOURS}
 use Rattle.gix_date.proofs.Text.Ints.{own, int_value_from, fits_from, each_of}
 use Rattle.gix_date.proofs.Fields.FieldsTaken.{guard, went, none_is}
-use Rattle.gix_date.proofs.Fast.FastHeaders.{is_number_byte, usual-header, int-taken, offset-taken, IsOffsetText, IsMark, AreNumberBytes, are_ascii, IsNumber, int-number, offset-number, same_some}
+use Rattle.gix_date.proofs.Fast.FastHeaders.{is_number_byte, usual-header, int-taken, offset-taken, IsOffsetText, AreNumberBytes, are_ascii, IsNumber, int-number, offset-number, same_some}
 
 -- A canonical header, taken apart.
 from_test : {A : Type 0} (r : Option A) (test : A → Bool) → option_map_or test r false ≡ true → (x : A) × (r ≡ Some x) × (test x ≡ true)
@@ -123,7 +124,7 @@ plus-sign n = let no : int_lt (pos n) (pos 0) ≡ false = grind (arith, ints) in
 minus-sign : (n : ℕ) → offset_sign (negsuc n) ≡ minus
 minus-sign n = refl
 
-zone-by : (n : ℕ) (mark : ℕ) (sign : Sign) → IsMark mark sign → (sign ≡ Minus → 0 < n) → compact_offset_text (signed sign n) ≡ mark ∷ hours_and_minutes n
+zone-by : (n : ℕ) (mark : ℕ) (sign : Sign) → IsSign mark sign → (sign ≡ Minus → 0 < n) → compact_offset_text (signed sign n) ≡ mark ∷ hours_and_minutes n
 zone-by n mark sign (inl p) some = rw (p.0, p.1, plus-sign n) refl
 zone-by zero mark sign (inr p) some = absurd (omega (arith, some p.1))
 zone-by (suc n) mark sign (inr p) some = rw (p.0, p.1, minus-sign n) refl
@@ -143,7 +144,7 @@ minus-zero x f o e s z =
     let m : o.mark ≡ minus = mark_of o.mark f.sign o.is_mark s in
     o.whole ∙ rw (m, a, b, c, d, o.is_last.none e) refl
   where
-    mark_of : (c : ℕ) (s : Sign) → IsMark c s → s ≡ Minus → c ≡ minus
+    mark_of : (c : ℕ) (s : Sign) → IsSign c s → s ≡ Minus → c ≡ minus
     mark_of c s (inl p) e = let clash : Plus ≡ Minus = sym p.1 ∙ e in absurd cc
     mark_of c s (inr p) e = p.0
 

@@ -9,6 +9,7 @@ use Rattle.std.specs.Option.{option_or}
 use Rattle.std.specs.Prelude.{◌==◌, ◌||◌, ◌&&◌, nat_lt}
 use Rattle.std.specs.Str.{all_ascii_digits}
 use Rattle.std.specs.Str.Parse.{without_leading_sign, signed_digits_value}
+use Rattle.gix_date.specs.Families.Grammars.{IsSign}
 use Rattle.gix_date.specs.Families.Answer.{FamilyAnswer}
 use Rattle.gix_date.specs.Text.Characters.{minus, plus, colon, comma, letter_t}
 use Rattle.gix_date.specs.Fields.Front.{skip_char, ◌>>=◌}
@@ -31,7 +32,7 @@ use Rattle.gix_date.specs.declared.parsing.offset.Sign.{Sign}
 use Rattle.gix_date.proofs.Fields.FieldsTaken.{went, guard, after-taken, two-taken}
 use Rattle.gix_date.proofs.Text.Ints.{each_of}
 use Rattle.gix_date.proofs.Fields.Layouts.{dates_spelled}
-use Rattle.gix_date.proofs.Fast.FastHeaders.{int-taken, offset-taken, sign-taken, IsMark}
+use Rattle.gix_date.proofs.Fast.FastHeaders.{int-taken, offset-taken, sign-taken}
 use Rattle.gix_date.proofs.Relative.QuietWords.{says_nothing, says-by, IsQuiet, like, like-any, names_of, named-any, any-run, one-run-word}
 use Rattle.gix_date.proofs.Text.WordsWithin.{words-within, one-gap, none-of-empty}
 
@@ -222,7 +223,7 @@ quiet-mail-clock x clock (inr h) =
     subst IsQuiet (sym h.whole) (quiet-gap h.hour colon h.minute refl (quiet-field h.hour clock.hour h.is_hour) (quiet-field h.minute clock.minute h.is_minute))
 
 -- Offsets.
-mark_gap : (c : ℕ) (s : Sign) → IsMark c s → is_gap c ≡ true
+mark_gap : (c : ℕ) (s : Sign) → IsSign c s → is_gap c ≡ true
 mark_gap c s (inl p) = rw p.0 refl
 mark_gap c s (inr p) = rw p.0 refl
 

@@ -21,7 +21,7 @@ use Rattle.gix_date.proofs.Fast.FastHeaders.{is_number_byte, int-number}
 -- no raw text begins with a digit and has another byte in its first word's front
 pub no-raw-front : (rule : OffsetRule) (text : List ℕ) → GitFront text → raw_time_by rule text ≡ None
 no-raw-front rule text g = none-unless (raw_time_by rule text) (λ t e.
-    let f = raw-first text (raw-words rule text t e) in
+    let f = raw-first rule text t (raw-words rule text t e) in
     let b = first-begins g.first g.more g.rest g.visible in
     let same : f.word ≡ g.first ∷ (g.more ++ b.rest) = same-first f.word (g.first ∷ (g.more ++ b.rest)) f.words b.words (sym f.is ∙ ap space_words g.whole ∙ b.is) in
     let digits = front-digits (g.first ∷ g.more) b.rest (int-digits g.first (g.more ++ b.rest) f.value g.digit (ap int_value (sym same) ∙ f.is_value)) in
@@ -38,7 +38,7 @@ int-no-byte c t n h e =
 -- no raw text begins with a visible byte that is no digit and no sign, and no Git text with one that is no digit
 pub no-raw-byte : (rule : OffsetRule) (c : ℕ) (t : List ℕ) → is_visible c ≡ true → is_number_byte c ≡ false → raw_time_by rule (c ∷ t) ≡ None
 no-raw-byte rule c t v h = none-unless (raw_time_by rule (c ∷ t)) (λ u e.
-    let f = raw-first (c ∷ t) (raw-words rule (c ∷ t) u e) in
+    let f = raw-first rule (c ∷ t) u (raw-words rule (c ∷ t) u e) in
     let b = first-begins c [] t (v, tt) in
     let same : f.word ≡ c ∷ b.rest = same-first f.word (c ∷ b.rest) f.words b.words (sym f.is ∙ b.is) in
     int-no-byte c b.rest f.value h (ap int_value (sym same) ∙ f.is_value))
