@@ -6,3 +6,4 @@ pub mod PatternRows
 pub mod PrintRows
 pub mod RelativeRows
 pub mod ShapeRows
+pub mod Tables

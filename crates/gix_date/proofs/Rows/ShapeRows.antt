@@ -1,6 +1,6 @@
 -- For each family of a shape, a text of that shape that no other family of the shape holds. So no family of a shape can
 -- be left out. After them texts on both sides of each test, and their shapes.
-use Rattle.std.proofs.Common.{◌≡◌, refl, true, Bool, List, ℕ, [], ◌∷◌, filter, map, None}
+use Rattle.std.proofs.Common.{◌≡◌, refl, true, Bool, List, ℕ, [], ◌∷◌, filter, None}
 use Rattle.std.specs.List.{list_any}
 use Rattle.std.specs.Prelude.{◌==◌, codes, not}
 use Rattle.gix_date.specs.Computing.{computing}
@@ -11,6 +11,7 @@ use Rattle.gix_date.specs.Families.Shapes.{begins_with_at, begins_with_letter, b
 use Rattle.gix_date.specs.declared.parsing.shape.Shape.{Shape}
 use Rattle.gix_date.specs.declared.parsing.shape.Shape.TheVariants.{AtSign, MailDay, NamedDay, Word, DashedDay, GitDay, Count, WholeNumber, Other}
 use Rattle.gix_date.proofs.Families.Exclusive.{place}
+use Rattle.gix_date.proofs.Rows.Tables.{AllGive}
 
 -- the definitions that a row computes
 pub shaping : Type 0
@@ -59,93 +60,75 @@ each-is-needed Other RawText h = record { text = codes "100 -0130"; has_shape = 
 each-is-needed shape family h = absurd cc
 
 -- Each test, on both sides.
-at-signs : map shape_of (codes "@" ∷ codes "@2018-12-24" ∷ []) ≡ AtSign ∷ AtSign ∷ []
+at-signs : AllGive shape_of AtSign ("@" ∷ "@2018-12-24" ∷ [])
 unfolding shaping
 at-signs = refl
 
-whole-numbers : map shape_of (codes "5" ∷ codes "+5" ∷ codes "-05" ∷ codes "9223372036854775807" ∷ codes "-9223372036854775808" ∷ [])
-    ≡ WholeNumber ∷ WholeNumber ∷ WholeNumber ∷ WholeNumber ∷ WholeNumber ∷ []
+whole-numbers :
+    AllGive shape_of WholeNumber
+    ("5" ∷ "+5" ∷ "-05" ∷ "9223372036854775807" ∷ "-9223372036854775808" ∷ "2018" ∷ [])
 unfolding shaping
 whole-numbers = refl
 
-no-whole-numbers : map shape_of (codes "9223372036854775808" ∷ codes "-9223372036854775809" ∷ codes "+" ∷ codes "+-5" ∷ codes "5-" ∷ codes " 5" ∷ codes "5 " ∷ [])
-    ≡ Other ∷ Other ∷ Other ∷ Other ∷ Other ∷ Other ∷ Other ∷ []
+no-whole-numbers : AllGive shape_of Other ("9223372036854775808" ∷ "-9223372036854775809" ∷ "+" ∷ "+-5" ∷ "5-" ∷ " 5" ∷ "5 " ∷ [])
 unfolding shaping
 no-whole-numbers = refl
 
-dashed-days : map shape_of (codes "2018-" ∷ codes "0999-99-9T" ∷ codes "9000-1-2" ∷ [])
-    ≡ DashedDay ∷ DashedDay ∷ DashedDay ∷ []
+dashed-days : AllGive shape_of DashedDay ("2018-" ∷ "0999-99-9T" ∷ "9000-1-2" ∷ [])
 unfolding shaping
 dashed-days = refl
 
 -- a digit or the mark missing at each place
-no-dashed-days : map shape_of (codes "2018" ∷ codes ":018-12-24" ∷ codes "2/18-12-24" ∷ codes "20:8-12-24" ∷ codes "201/-12-24" ∷ codes "2018 12-24" ∷ codes "2018,12-24" ∷ codes "2018/12/24" ∷ [])
-    ≡ WholeNumber ∷ Other ∷ Other ∷ Other ∷ Other ∷ Other ∷ Other ∷ Other ∷ []
+no-dashed-days :
+    AllGive shape_of Other
+    (":018-12-24" ∷ "2/18-12-24" ∷ "20:8-12-24" ∷ "201/-12-24" ∷ "2018 12-24" ∷ "2018,12-24" ∷ "2018/12/24" ∷ [])
 unfolding shaping
 no-dashed-days = refl
 
-dotted-days : map shape_of (codes "2018.12." ∷ codes "9000.00. " ∷ [])
-    ≡ GitDay ∷ GitDay ∷ []
+git-days : AllGive shape_of GitDay ("2018.12." ∷ "9000.00. " ∷ "20080214T" ∷ "09999999Tx" ∷ [])
 unfolding shaping
-dotted-days = refl
+git-days = refl
 
-no-dotted-days : map shape_of (codes "2018.12" ∷ codes ":018.12.24" ∷ codes "2/18.12.24" ∷ codes "20:8.12.24" ∷ codes "201/.12.24" ∷ codes "2018 12.24" ∷ codes "2018.:2.24" ∷ codes "2018.1/.24" ∷ codes "2018.12 24" ∷ codes "2018.12-24" ∷ [])
-    ≡ Other ∷ Other ∷ Other ∷ Other ∷ Other ∷ Other ∷ Other ∷ Other ∷ Other ∷ Other ∷ []
+no-git-days :
+    AllGive shape_of Other
+    ("2018.12" ∷ ":018.12.24" ∷ "2/18.12.24" ∷ "20:8.12.24" ∷ "201/.12.24" ∷ "2018 12.24" ∷ "2018.:2.24" ∷ "2018.1/.24"
+    ∷ "2018.12 24" ∷ "2018.12-24" ∷ ":0080214T" ∷ "2/080214T" ∷ "20:80214T" ∷ "200/0214T" ∷ "2008:214T" ∷ "20080/14T"
+    ∷ "200802:4T" ∷ "2008021/T" ∷ "20080214t" ∷ "20080214 T" ∷ "2008021T" ∷ [])
 unfolding shaping
-no-dotted-days = refl
+no-git-days = refl
 
-compact-days : map shape_of (codes "20080214T" ∷ codes "09999999Tx" ∷ []) ≡ GitDay ∷ GitDay ∷ []
-unfolding shaping
-compact-days = refl
-
-no-compact-days : map shape_of (codes ":0080214T" ∷ codes "2/080214T" ∷ codes "20:80214T" ∷ codes "200/0214T" ∷ codes "2008:214T" ∷ codes "20080/14T"
-    ∷ codes "200802:4T" ∷ codes "2008021/T" ∷ codes "20080214t" ∷ codes "20080214 T" ∷ codes "2008021T" ∷ [])
-    ≡ Other ∷ Other ∷ Other ∷ Other ∷ Other ∷ Other ∷ Other ∷ Other ∷ Other ∷ Other ∷ Other ∷ []
-unfolding shaping
-no-compact-days = refl
-
-counts : map shape_of (codes "2 w" ∷ codes "12 w" ∷ codes "0  " ∷ codes "12 " ∷ [])
-    ≡ Count ∷ Count ∷ Count ∷ Count ∷ []
+counts : AllGive shape_of Count ("2 w" ∷ "12 w" ∷ "0  " ∷ "12 " ∷ [])
 unfolding shaping
 counts = refl
 
-no-counts : map shape_of (codes "2 " ∷ codes "/ w" ∷ codes ": w" ∷ codes "1/ w" ∷ codes "1: w" ∷ codes "2w " ∷ codes "12/w" ∷ codes "12!w" ∷ codes "123 w" ∷ codes " 2 w" ∷ [])
-    ≡ Other ∷ Other ∷ Other ∷ Other ∷ Other ∷ Other ∷ Other ∷ Other ∷ Other ∷ Other ∷ []
+no-counts : AllGive shape_of Other ("2 " ∷ "/ w" ∷ ": w" ∷ "1/ w" ∷ "1: w" ∷ "2w " ∷ "12/w" ∷ "12!w" ∷ "123 w" ∷ " 2 w" ∷ [])
 unfolding shaping
 no-counts = refl
 
-words : map shape_of (codes "A" ∷ codes "Z" ∷ codes "a" ∷ codes "z2018-12-24" ∷ codes "Thu" ∷ codes "Thu+" ∷ codes "Thu-" ∷ codes "Thu!" ∷ [])
-    ≡ Word ∷ Word ∷ Word ∷ Word ∷ Word ∷ Word ∷ Word ∷ Word ∷ []
+words : AllGive shape_of Word ("A" ∷ "Z" ∷ "a" ∷ "z2018-12-24" ∷ "Thu" ∷ "Thu+" ∷ "Thu-" ∷ "Thu!" ∷ [])
 unfolding shaping
 words = refl
 
-mail-days : map shape_of (codes "Thu," ∷ codes "z12," ∷ [])
-    ≡ MailDay ∷ MailDay ∷ []
+no-words : AllGive shape_of Other ("" ∷ "[" ∷ "`" ∷ "{" ∷ " a" ∷ ",a" ∷ [])
 unfolding shaping
-mail-days = refl
+no-words = refl
 
-named-days : map shape_of (codes "Thu " ∷ codes "one week ago" ∷ [])
-    ≡ NamedDay ∷ NamedDay ∷ []
+day-names : AllGive shape_of MailDay ("Thu," ∷ "z12," ∷ []) × AllGive shape_of NamedDay ("Thu " ∷ "one week ago" ∷ [])
 unfolding shaping
-named-days = refl
+day-names = (refl, refl)
 
-no-letters : map shape_of (codes "" ∷ codes "[" ∷ codes "`" ∷ codes "{" ∷ codes " a" ∷ codes ",a" ∷ []) ≡ Other ∷ Other ∷ Other ∷ Other ∷ Other ∷ Other ∷ []
-unfolding shaping
-no-letters = refl
-
--- The seven rows: a text of each, and the families that it has.
-each-row : map row_families (codes "@5 days ago" ∷ codes "100000000" ∷ codes "2018-12-24" ∷ codes "2008.02.14 20:30:45 -0500" ∷ codes "20080214T20" ∷ codes "last week" ∷ codes "18 Aug 2022 12:45:06 +0800" ∷ [])
-    ≡ (AtText ∷ RelativeText ∷ []) ∷ (BareEpoch ∷ []) ∷ (Short ∷ Iso8601 ∷ Iso8601Strict ∷ GitForm ∷ RelativeText ∷ []) ∷ (GitForm ∷ RelativeText ∷ [])
-    ∷ (GitForm ∷ RelativeText ∷ []) ∷ (Rfc2822 ∷ Gitoxide ∷ GitDefault ∷ RelativeText ∷ [])
-    ∷ (Short ∷ Rfc2822 ∷ Iso8601 ∷ Iso8601Strict ∷ GitForm ∷ RelativeText ∷ RawText ∷ []) ∷ []
-unfolding shaping
-each-row = refl
-
--- texts of the last row, which nearly are of one before it
+-- the families of the last row
 last-row : List Family
 last-row = Short ∷ Rfc2822 ∷ Iso8601 ∷ Iso8601Strict ∷ GitForm ∷ RelativeText ∷ RawText ∷ []
 
-nearly-rows : map row_families ([] ∷ codes " @5" ∷ codes "5 " ∷ codes "2018-1-2" ∷ codes "2018.1.2" ∷ codes "2018-12" ∷ codes "20181224 " ∷ [])
-    ≡ last-row ∷ last-row ∷ last-row ∷ last-row ∷ last-row ∷ last-row ∷ last-row ∷ []
+-- The seven rows: a text of each, and the families that it has. Other texts of the last row nearly are of one before it.
+each-row :
+    AllGive row_families (AtText ∷ RelativeText ∷ []) ("@5 days ago" ∷ [])
+    × AllGive row_families (BareEpoch ∷ []) ("100000000" ∷ [])
+    × AllGive row_families (Short ∷ Iso8601 ∷ Iso8601Strict ∷ GitForm ∷ RelativeText ∷ []) ("2018-12-24" ∷ [])
+    × AllGive row_families (GitForm ∷ RelativeText ∷ []) ("2008.02.14 20:30:45 -0500" ∷ "20080214T20" ∷ [])
+    × AllGive row_families (Rfc2822 ∷ Gitoxide ∷ GitDefault ∷ RelativeText ∷ []) ("last week" ∷ [])
+    × AllGive row_families last-row
+    ("18 Aug 2022 12:45:06 +0800" ∷ "" ∷ " @5" ∷ "5 " ∷ "2018-1-2" ∷ "2018.1.2" ∷ "2018-12" ∷ "20181224 " ∷ [])
 unfolding shaping last-row
-nearly-rows = refl
+each-row = (refl, refl, refl, refl, refl, refl)
