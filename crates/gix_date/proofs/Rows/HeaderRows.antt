@@ -28,10 +28,14 @@ read :
     (("0 -0000", time (pos 0) (pos 0)) ∷ ("0 +9999", time (pos 0) (pos 362340))
     ∷ ("123abc +0100", time (pos 123) (pos 3600))  -- the digits at the front
     ∷ ("5 +00-1", time (pos 5) (pos 0)) ∷ ("1 +0100 x", time (pos 1) (pos 0))  -- a third word
-    ∷ ("7 +010203", time (pos 7) (pos 3723))
-    ∷ ("1Â\u{a0}+0100", time (pos 1) (pos 3600)) ∷ [])  -- the two bytes of a no-break space, U+00A0
+    ∷ ("7 +010203", time (pos 7) (pos 3723)) ∷ [])
 unfolding computing
 read = refl
+
+-- U+00A0 is two bytes
+no-break-space : header_time (49 ∷ 0xc2 ∷ 0xa0 ∷ codes "+0100") ≡ Some (time (pos 1) (pos 3600))
+unfolding computing
+no-break-space = refl
 
 not-read : Refuses header_time ("-1x" ∷ "9223372036854775808" ∷ "1:2 +0100" ∷ "" ∷ [])
 unfolding computing

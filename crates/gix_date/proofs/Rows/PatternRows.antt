@@ -23,88 +23,58 @@ clocked h m s = record nothing_read { clock = clock h m s }
 abbrev offset_by : ℤ → LocalTime
 offset_by offset = record nothing_read { offset = offset }
 
-day-name :
+names :
     Reads (alone DayName) (("tHu", nothing_read) ∷ ("SUN", nothing_read) ∷ [])
     × Refuses (alone DayName) ("" ∷ "Thx" ∷ "Thursday" ∷ " Thu" ∷ "Thu," ∷ [])
-unfolding computing
-day-name = (refl, refl)
-
-mail-day-name :
-    Reads (alone MailDayName) (("", nothing_read) ∷ ("mon,  ", nothing_read) ∷ [])
+    × Reads (alone MailDayName) (("", nothing_read) ∷ ("mon,  ", nothing_read) ∷ [])
     × Refuses (alone MailDayName) ("Thu" ∷ "Thu," ∷ "Thu " ∷ "Thx, " ∷ [])
-unfolding computing
-mail-day-name = (refl, refl)
-
-month-name :
-    Reads (alone MonthName) (("jAN", dated 0 1 0) ∷ ("Dec", dated 0 12 0) ∷ [])
+    × Reads (alone MonthName) (("jAN", dated 0 1 0) ∷ ("Dec", dated 0 12 0) ∷ [])
     × Refuses (alone MonthName) ("" ∷ "Aux" ∷ "August" ∷ "08" ∷ [])
 unfolding computing
-month-name = (refl, refl)
+names = (refl, refl, refl, refl, refl, refl)
 
-day :
+dates :
     Reads (alone Day) (("7", dated 0 0 7) ∷ ("07", dated 0 0 7) ∷ ("31", dated 0 0 31) ∷ [])
     × Refuses (alone Day) ("" ∷ "123" ∷ "+7" ∷ " 7" ∷ "7th" ∷ [])
-unfolding computing
-day = (refl, refl)
-
-year :
-    Reads (alone Year) (("2022", dated 2022 0 0) ∷ ("0022", dated 22 0 0) ∷ [])
+    × Reads (alone Year) (("2022", dated 2022 0 0) ∷ ("0022", dated 22 0 0) ∷ [])
     × Refuses (alone Year) ("22" ∷ "122" ∷ "12022" ∷ "+2022" ∷ "-001" ∷ [])
-unfolding computing
-year = (refl, refl)
-
-plain-date :
-    Reads (alone PlainDate) (("2018-1-02", dated 2018 1 2) ∷ [])
+    × Reads (alone PlainDate) (("2018-1-02", dated 2018 1 2) ∷ [])
     × Refuses (alone PlainDate)
     ("2018-12" ∷ "18-12-24" ∷ "2018/12/24" ∷ "20181224" ∷ "2018-12-024" ∷ "2018--12-24" ∷ [])
 unfolding computing
-plain-date = (refl, refl)
+dates = (refl, refl, refl, refl, refl, refl)
 
 -- a second of 60 is told as 59, and one of 61 as itself: no day has that clock
-clock-time :
+clocks :
     Reads (alone Clock) (("4:5:06", clocked 4 5 6) ∷ ("12:45:60", clocked 12 45 59) ∷ ("12:45:61", clocked 12 45 61) ∷ [])
     × Refuses (alone Clock)
     ("12:45" ∷ "12" ∷ "12:45:" ∷ "12:45:006" ∷ "12.45.06" ∷ "12:45:06.5" ∷ "12:45:06 PM" ∷ [])
-unfolding computing
-clock-time = (refl, refl)
-
-mail-clock :
-    Reads (alone MailClock) (("12:45", clocked 12 45 0) ∷ ("12:45:60", clocked 12 45 59) ∷ [])
+    × Reads (alone MailClock) (("12:45", clocked 12 45 0) ∷ ("12:45:60", clocked 12 45 59) ∷ [])
     × Refuses (alone MailClock) ("12" ∷ "12:45:" ∷ "12:45:006" ∷ "12.45" ∷ [])
 unfolding computing
-mail-clock = (refl, refl)
+clocks = (refl, refl, refl, refl)
 
-spaces :
+marks :
     Reads (alone Spaces) ((" ", nothing_read) ∷ ("   ", nothing_read) ∷ [])
     × Refuses (alone Spaces) ("" ∷ "_" ∷ "\t" ∷ " \t" ∷ "\n" ∷ "T" ∷ [])
+    × Reads (alone LetterT) (("T", nothing_read) ∷ [])
+    × Refuses (alone LetterT) ("" ∷ "t" ∷ " " ∷ "TT" ∷ [])
 unfolding computing
-spaces = (refl, refl)
+marks = (refl, refl, refl, refl)
 
-letter : Reads (alone LetterT) (("T", nothing_read) ∷ []) × Refuses (alone LetterT) ("" ∷ "t" ∷ " " ∷ "TT" ∷ [])
-unfolding computing
-letter = (refl, refl)
-
-offset :
+offsets :
     Reads (alone Offset) (("+2559", offset_by (pos 93540)) ∷ ("-010203", offset_by (minus 3723)) ∷ [])
     × Refuses (alone Offset)
     ("" ∷ "0800" ∷ "+08" ∷ "+08:00" ∷ "+0860" ∷ "+080060" ∷ "-2600" ∷ "+0800 " ∷ "GMT" ∷ "Z" ∷ [])
-unfolding computing
-offset = (refl, refl)
-
-colon-offset :
-    Reads (alone ColonOffset)
+    × Reads (alone ColonOffset)
     (("-00:30", offset_by (minus 1800)) ∷ ("+00:00:01", offset_by (pos 1)) ∷ ("+25:59:59", offset_by (pos 93599)) ∷ [])
     × Refuses (alone ColonOffset)
     ("" ∷ "+0800" ∷ "+08" ∷ "+08:00:0" ∷ "+08:00:" ∷ "+08:60" ∷ "+26:00" ∷ "Z" ∷ "+08:00 " ∷ [])
-unfolding computing
-colon-offset = (refl, refl)
-
-mail-offset :
-    Reads (alone MailOffset)
+    × Reads (alone MailOffset)
     (("+0800", offset_by (pos 28800)) ∷ ("pSt", offset_by (minus 28800)) ∷ ("-2559", offset_by (minus 93540)) ∷ [])
     × Refuses (alone MailOffset) ("" ∷ "+080000" ∷ "+08:00" ∷ "0800" ∷ "Z" ∷ "UTC" ∷ "GMT " ∷ [])
 unfolding computing
-mail-offset = (refl, refl)
+offsets = (refl, refl, refl, refl, refl, refl)
 
 -- each row is a zone's name and its hours behind UTC
 abbrev Behind : List (String × ℕ) → Type 0

@@ -60,62 +60,31 @@ each-is-needed Other RawText h = record { text = codes "100 -0130"; has_shape = 
 each-is-needed shape family h = absurd cc
 
 -- Each test, on both sides.
-at-signs : AllGive shape_of AtSign ("@" ∷ "@2018-12-24" ∷ [])
+shapes :
+    AllGive shape_of AtSign ("@" ∷ "@2018-12-24" ∷ [])
+    × AllGive shape_of WholeNumber ("5" ∷ "+5" ∷ "-05" ∷ "9223372036854775807" ∷ "-9223372036854775808" ∷ "2018" ∷ [])
+    × AllGive shape_of DashedDay ("2018-" ∷ "0999-99-9T" ∷ "9000-1-2" ∷ [])
+    × AllGive shape_of GitDay ("2018.12." ∷ "9000.00. " ∷ "20080214T" ∷ "09999999Tx" ∷ [])
+    × AllGive shape_of Count ("2 w" ∷ "12 w" ∷ "0  " ∷ "12 " ∷ [])
+    × AllGive shape_of Word ("A" ∷ "Z" ∷ "a" ∷ "z2018-12-24" ∷ "Thu" ∷ "Thu+" ∷ "Thu-" ∷ "Thu!" ∷ [])
+    × AllGive shape_of MailDay ("Thu," ∷ "z12," ∷ [])
+    × AllGive shape_of NamedDay ("Thu " ∷ "one week ago" ∷ [])
 unfolding shaping
-at-signs = refl
+shapes = (refl, refl, refl, refl, refl, refl, refl, refl)
 
-whole-numbers :
-    AllGive shape_of WholeNumber
-    ("5" ∷ "+5" ∷ "-05" ∷ "9223372036854775807" ∷ "-9223372036854775808" ∷ "2018" ∷ [])
-unfolding shaping
-whole-numbers = refl
-
-no-whole-numbers : AllGive shape_of Other ("9223372036854775808" ∷ "-9223372036854775809" ∷ "+" ∷ "+-5" ∷ "5-" ∷ " 5" ∷ "5 " ∷ [])
-unfolding shaping
-no-whole-numbers = refl
-
-dashed-days : AllGive shape_of DashedDay ("2018-" ∷ "0999-99-9T" ∷ "9000-1-2" ∷ [])
-unfolding shaping
-dashed-days = refl
-
--- a digit or the mark missing at each place
-no-dashed-days :
+-- nearly whole numbers, dashed days and Git's days with a digit or the mark missing at each place, counts, and words
+other-shapes :
     AllGive shape_of Other
-    (":018-12-24" ∷ "2/18-12-24" ∷ "20:8-12-24" ∷ "201/-12-24" ∷ "2018 12-24" ∷ "2018,12-24" ∷ "2018/12/24" ∷ [])
+    ("9223372036854775808" ∷ "-9223372036854775809" ∷ "+" ∷ "+-5" ∷ "5-" ∷ " 5" ∷ "5 "
+    ∷ ":018-12-24" ∷ "2/18-12-24" ∷ "20:8-12-24" ∷ "201/-12-24" ∷ "2018 12-24" ∷ "2018,12-24" ∷ "2018/12/24"
+    ∷ "2018.12" ∷ ":018.12.24" ∷ "2/18.12.24" ∷ "20:8.12.24" ∷ "201/.12.24" ∷ "2018 12.24" ∷ "2018.:2.24"
+    ∷ "2018.1/.24" ∷ "2018.12 24" ∷ "2018.12-24"
+    ∷ ":0080214T" ∷ "2/080214T" ∷ "20:80214T" ∷ "200/0214T" ∷ "2008:214T" ∷ "20080/14T" ∷ "200802:4T" ∷ "2008021/T"
+    ∷ "20080214t" ∷ "20080214 T" ∷ "2008021T"
+    ∷ "2 " ∷ "/ w" ∷ ": w" ∷ "1/ w" ∷ "1: w" ∷ "2w " ∷ "12/w" ∷ "12!w" ∷ "123 w" ∷ " 2 w"
+    ∷ "" ∷ "[" ∷ "`" ∷ "{" ∷ " a" ∷ ",a" ∷ [])
 unfolding shaping
-no-dashed-days = refl
-
-git-days : AllGive shape_of GitDay ("2018.12." ∷ "9000.00. " ∷ "20080214T" ∷ "09999999Tx" ∷ [])
-unfolding shaping
-git-days = refl
-
-no-git-days :
-    AllGive shape_of Other
-    ("2018.12" ∷ ":018.12.24" ∷ "2/18.12.24" ∷ "20:8.12.24" ∷ "201/.12.24" ∷ "2018 12.24" ∷ "2018.:2.24" ∷ "2018.1/.24"
-    ∷ "2018.12 24" ∷ "2018.12-24" ∷ ":0080214T" ∷ "2/080214T" ∷ "20:80214T" ∷ "200/0214T" ∷ "2008:214T" ∷ "20080/14T"
-    ∷ "200802:4T" ∷ "2008021/T" ∷ "20080214t" ∷ "20080214 T" ∷ "2008021T" ∷ [])
-unfolding shaping
-no-git-days = refl
-
-counts : AllGive shape_of Count ("2 w" ∷ "12 w" ∷ "0  " ∷ "12 " ∷ [])
-unfolding shaping
-counts = refl
-
-no-counts : AllGive shape_of Other ("2 " ∷ "/ w" ∷ ": w" ∷ "1/ w" ∷ "1: w" ∷ "2w " ∷ "12/w" ∷ "12!w" ∷ "123 w" ∷ " 2 w" ∷ [])
-unfolding shaping
-no-counts = refl
-
-words : AllGive shape_of Word ("A" ∷ "Z" ∷ "a" ∷ "z2018-12-24" ∷ "Thu" ∷ "Thu+" ∷ "Thu-" ∷ "Thu!" ∷ [])
-unfolding shaping
-words = refl
-
-no-words : AllGive shape_of Other ("" ∷ "[" ∷ "`" ∷ "{" ∷ " a" ∷ ",a" ∷ [])
-unfolding shaping
-no-words = refl
-
-day-names : AllGive shape_of MailDay ("Thu," ∷ "z12," ∷ []) × AllGive shape_of NamedDay ("Thu " ∷ "one week ago" ∷ [])
-unfolding shaping
-day-names = (refl, refl)
+other-shapes = refl
 
 -- the families of the last row
 last-row : List Family
