@@ -1,6 +1,7 @@
 -- Texts: characters, places, numbers and words.
 pub mod KnownBytes
 pub mod AsciiCuts
+pub mod AsciiBlocks
 pub mod WordSteps
 pub mod ShortDigits
 pub mod WordsWithin

@@ -17,6 +17,7 @@
 //! an allocator that it is given, or as a `Vec` that is written to grows.
 #![tactic(auto)]
 
+pub mod bytes;
 mod civil;
 pub mod device;
 mod error;

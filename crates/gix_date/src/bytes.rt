@@ -1,0 +1,62 @@
+//! Bytes that have to be text.
+ghost use Rattle.std.specs.Prelude.{◌≡◌, ◌<◌, ◌≤◌, ◌+◌, length, take, IsTrue, MatchOption};
+ghost use Rattle.std.specs.Str.{IsAscii, IsUtf8};
+
+use std::simd::prelude::*;
+use std::str;
+
+/// The text that the bytes are, `None` iff they are not UTF-8 as RFC 3629 defines it: `str::from_utf8` of the Rust
+/// standard library, without its error.
+///
+/// A call takes no memory: the text is the bytes, borrowed.
+pub fn text_of(bytes: &[u8]) -> Option<&str>
+    ensures { MatchOption result (¬ (IsUtf8 bytes.now)) (λ text. (text.now ≡ bytes.now) × IsUtf8 bytes.now) }
+{
+    if fast_ascii(bytes) {
+        return Some(unsafe { str::from_utf8_unchecked(bytes) });
+    }
+    match str::from_utf8(bytes) {
+        Ok(text) => Some(text),
+        Err(_) => None,
+    }
+}
+
+/// Whether the bytes are ASCII.
+#[inline(always)]
+fn fast_ascii(bytes: &[u8]) -> bool
+    ensures { IsTrue result → IsAscii bytes.now }
+{
+    let count = bytes.len();
+    if count < 4 {
+        false
+    } else if count <= 8 {
+        ends_are_ascii::<4>(bytes)
+    } else if count <= 16 {
+        ends_are_ascii::<8>(bytes)
+    } else if count <= 32 {
+        ends_are_ascii::<16>(bytes)
+    } else if count <= 64 {
+        ends_are_ascii::<32>(bytes)
+    } else {
+        false
+    }
+}
+
+/// Whether the first N bytes and the last N, which cover the bytes, are ASCII.
+#[inline(always)]
+fn ends_are_ascii<const N: usize>(bytes: &[u8]) -> bool
+    requires { (0 < N) × (N ≤ 64) × (N ≤ length bytes.now) × (length bytes.now ≤ N + N) }
+    ensures { IsTrue result → IsAscii bytes.now }
+{
+    is_ascii::<N>(bytes) & is_ascii::<N>(&bytes[bytes.len() - N..])
+}
+
+/// Whether the first N bytes are ASCII.
+#[inline(always)]
+fn is_ascii<const N: usize>(bytes: &[u8]) -> bool
+    requires { (0 < N) × (N ≤ 64) × (N ≤ length bytes.now) }
+    ensures { IsTrue result → IsAscii (take N bytes.now) }
+{
+    let block = Simd::<u8, N>::from_slice(bytes);
+    block.simd_ge(Simd::splat(0x80)).to_bitmask() == 0
+}
