@@ -3,6 +3,8 @@ ghost use Rattle.std.specs.Prelude.{◌≡◌, ◌++◌, ◌∷◌, MatchOption}
 ghost use Rattle.gix_date.specs.Text.Characters.{newline};
 ghost use Rattle.gix_date_tool.specs.Lines.{IsLine, SplitsAreUnique};
 
+use memchr::memchr;
+
 /// The most bytes that a line has, without its newline.
 pub(crate) const MAX_LINE_LEN: usize = 65536;
 
@@ -19,6 +21,6 @@ pub(crate) fn split_line(bytes: &[u8]) -> Option<(&[u8], &[u8])>
     ensures { MatchOption result (IsLine bytes.now)
         (λ cut. IsLine cut.0.now × (bytes.now ≡ cut.0.now ++ newline ∷ cut.1.now)) }
 {
-    let at = bytes.iter().position(|b| *b == b'\n')?;
+    let at = memchr(b'\n', bytes)?;
     Some((&bytes[..at], &bytes[at + 1..]))
 }

@@ -9,11 +9,12 @@ ghost use Rattle.gix_date_tool.specs.Replies.{RepliesAreUnique, CanonicalLines, 
 use crate::arguments::Mode;
 use crate::outbox::Outbox;
 use crate::signed::{SignedLine, sign};
+use gix_date::bytes::text_of;
 use gix_date::device::Sink;
 use gix_date::{
     ParseError, RawOffsets, Time, Zoned, is_canonical_header, parse_header, parse_no_alloc,
 };
-use std::{io, str};
+use std::io;
 
 /// What is asked of each line.
 #[derive(Clone, Copy)]
@@ -125,7 +126,7 @@ pub(crate) fn reply_to(query: Query, line: &[u8]) -> Reply<'_>
     ensures is { IsReply query line.now result }
     ensures writable { IsWritable result }
 {
-    let Ok(text) = str::from_utf8(line) else {
+    let Some(text) = text_of(line) else {
         return Reply::NotText;
     };
     match query.mode {

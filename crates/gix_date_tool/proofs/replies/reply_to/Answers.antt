@@ -23,16 +23,16 @@ unfolding IsReply
 not_text-is_reply query line h = subst (λ b. IsReplyTo b query line NotText) (sym (no_text line h)) refl
 
 pub returns-in_default-clause-is : goal.returns-in_default-clause-is
-returns-in_default-clause-is c = not_text-is_reply c.args.query c.args.line.now c.in_default.ensures.cases.0
+returns-in_default-clause-is c = not_text-is_reply c.args.query c.args.line.now c.in_default.ensures
 
 pub returns-in-Check-clause-is : goal.returns-in-Check-clause-is
 returns-in-Check-clause-is c =
-    text_reply-is_reply c.args.query _ c.in-Ok.text.now c.args.line.now c.check_reply.result c.in-Ok.ensures.cases.0 c.in-Check.is c.in-Ok.ensures.cases.1 c.check_reply.ensures.is
+    text_reply-is_reply c.args.query _ c.in-Some.text.now c.args.line.now c.check_reply.result c.in-Some.ensures.0 c.in-Check.is c.in-Some.ensures.1 c.check_reply.ensures.is
 
 pub returns-in-Parse-clause-is : goal.returns-in-Parse-clause-is
 returns-in-Parse-clause-is c =
-    text_reply-is_reply c.args.query _ c.in-Ok.text.now c.args.line.now c.parse_reply.result c.in-Ok.ensures.cases.0 c.in-Parse.is c.in-Ok.ensures.cases.1 c.parse_reply.ensures.is
+    text_reply-is_reply c.args.query _ c.in-Some.text.now c.args.line.now c.parse_reply.result c.in-Some.ensures.0 c.in-Parse.is c.in-Some.ensures.1 c.parse_reply.ensures.is
 
 pub returns-in-Sign-clause-is : goal.returns-in-Sign-clause-is
 returns-in-Sign-clause-is c =
-    text_reply-is_reply c.args.query _ c.in-Ok.text.now c.args.line.now c.sign_reply.result c.in-Ok.ensures.cases.0 c.in-Sign.is c.in-Ok.ensures.cases.1 c.sign_reply.ensures.is
+    text_reply-is_reply c.args.query _ c.in-Some.text.now c.args.line.now c.sign_reply.result c.in-Some.ensures.0 c.in-Sign.is c.in-Some.ensures.1 c.sign_reply.ensures.is
