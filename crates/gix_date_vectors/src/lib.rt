@@ -18,4 +18,6 @@ pub mod signature_caller;
 #[cfg(test)]
 mod signatures;
 #[cfg(test)]
+mod texts;
+#[cfg(test)]
 mod times;

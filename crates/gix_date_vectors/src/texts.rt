@@ -1,0 +1,104 @@
+//! Bytes that are read as text.
+use gix_date::bytes::text_of;
+
+/// The text of the bytes, as bytes.
+fn read(bytes: &[u8]) -> Option<&[u8]> {
+    match text_of(bytes) {
+        Some(text) => Some(text.as_bytes()),
+        None => None,
+    }
+}
+
+#[test]
+fn ascii_of_each_length_is_text(rt: HostRuntime) {
+    let mut bytes = [b'~'; 130];
+    bytes[0] = 0;
+    bytes[64] = 0x7f;
+    for count in 0..131 {
+        assert!(rt; read(&bytes[..count]) == Some(&bytes[..count]), "{count}");
+    }
+}
+
+#[test]
+fn ascii_with_one_other_byte_is_no_text(rt: HostRuntime) {
+    for other in [0x80, 0xc3, 0xff] {
+        let mut bytes = [b'a'; 70];
+        for at in 0..70 {
+            bytes[at] = other;
+            for count in at + 1..71 {
+                assert!(rt;
+                    text_of(&bytes[..count]).is_none(),
+                    "{other} at {at} of {count}"
+                );
+            }
+            bytes[at] = b'a';
+        }
+    }
+}
+
+#[test]
+fn long_ascii_with_one_other_byte_is_no_text(rt: HostRuntime) {
+    let mut bytes = [b'a'; 130];
+    for at in 0..130 {
+        bytes[at] = 0x80;
+        for count in [97, 127, 128, 129, 130] {
+            assert_eq!(rt;
+                text_of(&bytes[..count]).is_none(),
+                at < count,
+                "{at} of {count}"
+            );
+        }
+        bytes[at] = b'a';
+    }
+}
+
+// The examples of RFC 3629, section 7, and the characters at the ends of the rows of its section 3.
+#[test]
+fn characters_of_several_bytes_are_text(rt: HostRuntime) {
+    for (bytes, text) in [
+        (&b"\x41\xe2\x89\xa2\xce\x91\x2e"[..], "A\u{2262}\u{391}."),
+        (
+            &b"\xed\x95\x9c\xea\xb5\xad\xec\x96\xb4"[..],
+            "\u{d55c}\u{ad6d}\u{c5b4}",
+        ),
+        (
+            &b"\xe6\x97\xa5\xe6\x9c\xac\xe8\xaa\x9e"[..],
+            "\u{65e5}\u{672c}\u{8a9e}",
+        ),
+        (&b"\xef\xbb\xbf\xf0\xa3\x8e\xb4"[..], "\u{feff}\u{233b4}"),
+        (&b"\x7f\xc2\x80"[..], "\u{7f}\u{80}"),
+        (&b"\xdf\xbf\xe0\xa0\x80"[..], "\u{7ff}\u{800}"),
+        (&b"\xed\x9f\xbf\xee\x80\x80"[..], "\u{d7ff}\u{e000}"),
+        (&b"\xef\xbf\xbf\xf0\x90\x80\x80"[..], "\u{ffff}\u{10000}"),
+        (&b"\xf4\x8f\xbf\xbf"[..], "\u{10ffff}"),
+    ] {
+        assert_eq!(rt; text_of(bytes), Some(text), "{text}");
+    }
+}
+
+// Each alone, and with ASCII on both sides. By RFC 3629, section 3: cut short, longer than need be, a surrogate, past
+// U+10FFFF, or a byte that begins no character.
+#[test]
+fn other_bytes_are_no_text(rt: HostRuntime) {
+    for wrong in [
+        &b"\x80"[..],
+        &b"\xc3"[..],
+        &b"\xe2\x82"[..],
+        &b"\xf0\x9f\x98"[..],
+        &b"\xc0\x80"[..],
+        &b"\xc1\xbf"[..],
+        &b"\xe0\x80\x80"[..],
+        &b"\xf0\x80\x80\x80"[..],
+        &b"\xed\xa0\x80"[..],
+        &b"\xed\xbf\xbf"[..],
+        &b"\xf4\x90\x80\x80"[..],
+        &b"\xf5\x80\x80\x80"[..],
+        &b"\xfe"[..],
+        &b"\xff"[..],
+    ] {
+        assert!(rt; text_of(wrong).is_none(), "{wrong:?}");
+        let mut bytes = *b"1660874655 +0800 1660874655 +0800 1660874655 +0800";
+        bytes[20..20 + wrong.len()].copy_from_slice(wrong);
+        assert!(rt; text_of(&bytes).is_none(), "{wrong:?} within");
+    }
+}
