@@ -1,7 +1,7 @@
 //! Laws: each is the contract of a function. When they run, only [`headline`] and [`headline_with`] do something.
 ghost use Rattle.gix_date.specs.Families.Order.{first_family, first_family_by, ParseOutcome};
 ghost use Rattle.gix_date.specs.Families.Laws.{AreDisjoint, AreExclusive};
-ghost use Rattle.gix_date.specs.Header.Laws.{CanonicalComesBack};
+ghost use Rattle.gix_date.specs.Header.Laws.{CanonicalIffUnchanged};
 ghost use Rattle.gix_date.specs.Families.Raw.{allows, is_raw_offset};
 ghost use Rattle.gix_date.specs.Printing.ReadingBack.{TimesRoundTrip};
 
@@ -37,7 +37,7 @@ pub fn headline(alloc: Global, text: &str, now: Option<Zoned<'_>>) -> Result<Tim
     ensures first_family { ParseOutcome (first_family text.now) text.now now.entry result }
     ensures disjoint { AreDisjoint is_raw_offset text.now }
     ensures exclusive { AreExclusive is_raw_offset text.now }
-    ensures canonical { CanonicalComesBack text.now }
+    ensures canonical { CanonicalIffUnchanged text.now }
     ensures read_back { TimesRoundTrip is_raw_offset }
 {
     disjoint(text);
@@ -57,7 +57,7 @@ pub fn headline_with(
     ensures first_family { ParseOutcome (first_family_by (allows raw) text.now) text.now now.entry result }
     ensures disjoint { AreDisjoint (allows raw) text.now }
     ensures exclusive { AreExclusive (allows raw) text.now }
-    ensures canonical { CanonicalComesBack text.now }
+    ensures canonical { CanonicalIffUnchanged text.now }
     ensures read_back { TimesRoundTrip (allows raw) }
 {
     exclusive(text, raw);

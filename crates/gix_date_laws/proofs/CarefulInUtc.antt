@@ -25,7 +25,7 @@ use Rattle.gix_date.specs.declared.time.Time.{Time}
 use Rattle.gix_date.proofs.Careful.Unzoned.{unzoned_has}
 use Rattle.gix_date.proofs.Fields.Instants.{instant_holds, instant_range, whole_seconds}
 use Rattle.gix_date.proofs.Relative.FixedSteps.{one-offset, turned, fixed-offset}
-use Rattle.gix_date.proofs.Relative.FixedZones.{fixed-picked, fixed-settles-exists}
+use Rattle.gix_date.proofs.Relative.FixedZones.{fixed-picked, fixed-resolves-exists}
 use Rattle.gix_date_laws.proofs.CarefulReading.{answers}
 
 picked-alike : (a b : TimeZone) → ChooseAlike a b → (civil j : ℤ) → IsPicked a civil j → IsPicked b civil j
@@ -48,7 +48,7 @@ same-instant tz (o, none, alike, zero) i j h =
 
 is-chosen : (tz : TimeZone) → IsAtZero tz → (i : ℤ) → IsTimestampNanos i → IsPicked tz i i
 is-chosen tz (o, none, alike, zero) i range =
-    let s = fixed-settles-exists o i range in
+    let s = fixed-resolves-exists o i range in
     let offset : offset_at (fixed_zone o) i ≡ pos 0 = sym (alike.offset i) ∙ zero i in
     let shown : civil_nanos s.local ≡ i = omega (arith, signed_arith, s.local_is, offset) in
     picked-alike (fixed_zone o) tz (turned tz (fixed_zone o) alike) i i (subst (λ (n : ℤ). IsPicked (fixed_zone o) n i) shown s.picked)

@@ -30,16 +30,16 @@ why_unread (Some (Absolute t)) = RawOffset
 why_unread _ = UnknownFormat
 
 -- the time that an answer gives, where it converts, or why there is none; why a text is not read, is given
-abbrev pub moment_by : NoMoment → Option FamilyAnswer → Result Time NoMoment
-moment_by unread None = Err unread
-moment_by unread (Some (Absolute t)) = if is_convertible t then Ok t else Err Conversion
-moment_by unread (Some OffsetAboveDay) = Err unread
-moment_by unread (Some NoInstant) = Err DateConversion
-moment_by unread (Some (answers.Relative date)) = Err Relative
+abbrev pub moment_of_answer : NoMoment → Option FamilyAnswer → Result Time NoMoment
+moment_of_answer unread None = Err unread
+moment_of_answer unread (Some (Absolute t)) = if is_convertible t then Ok t else Err Conversion
+moment_of_answer unread (Some OffsetAboveDay) = Err unread
+moment_of_answer unread (Some NoInstant) = Err DateConversion
+moment_of_answer unread (Some (answers.Relative date)) = Err Relative
 
 -- the time that a text is a moment of, or why there is none
 abbrev pub moment_or_why : List ℕ → Result Time NoMoment
-moment_or_why now = moment_by (why_unread (first_family_by is_wide_offset now)) (first_family now)
+moment_or_why now = moment_of_answer (why_unread (first_family_by is_wide_offset now)) (first_family now)
 
 -- one word, which names a mode, or `parse` and a moment
 abbrev pub command_of : List (List ℕ) → Option (Mode × Option Time)

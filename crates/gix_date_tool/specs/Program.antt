@@ -41,13 +41,13 @@ EndsRun query reading writing _ = ⊥
 
 -- What the program comes to by what was asked of it: the usage line is due where that is nothing it has, and then
 -- nothing is read.
-abbrev pub EndsBy : Option (Mode × Option Time) → Option NoMoment → Change → Change → Outcome → Type 0
-EndsBy None why reading writing outcome = (reading.new ≡ reading.old) × EndsInUsage why writing outcome
-EndsBy (Some query) why reading writing outcome = EndsRun query reading writing outcome
+abbrev pub EndsCommand : Option (Mode × Option Time) → Option NoMoment → Change → Change → Outcome → Type 0
+EndsCommand None why reading writing outcome = (reading.new ≡ reading.old) × EndsInUsage why writing outcome
+EndsCommand (Some query) why reading writing outcome = EndsRun query reading writing outcome
 
 -- What the program comes to by the words of its command line.
 abbrev pub Ends : List (List ℕ) → Change → Change → Outcome → Type 0
-Ends words reading writing outcome = EndsBy (command_of words) (no_moment words) reading writing outcome
+Ends words reading writing outcome = EndsCommand (command_of words) (no_moment words) reading writing outcome
 
 -- What was said, and the status, are those of such an end.
 pub record Executes (words : List (List ℕ)) (reading writing telling : Change) (status : Status) : Type 0 where

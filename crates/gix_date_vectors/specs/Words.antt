@@ -3,7 +3,7 @@ pub use Rattle.gix_date.specs.Families.Answer.{FamilyAnswer, Absolute, Relative,
 pub use Rattle.gix_date.specs.Header.Canonical.{is_canonical_header}
 pub use Rattle.gix_date.specs.Careful.Dates.{unzoned_day, unzoned_git_time, unzoned_time, IsLocalTime}
 pub use Rattle.gix_date.specs.Careful.Laws.{AnswersUnzoned, IsParsedToo, in_utc, in_zone, IgnoresZone, IsUtc, AnswersAlike}
-pub use Rattle.gix_date.specs.Careful.Outcome.{Reading, local_date, first_reading, default_options, careful_reading, CarefulOutcome, IsCutBy}
+pub use Rattle.gix_date.specs.Careful.Outcome.{Reading, local_date, first_reading, default_options, careful_reading, CarefulOutcome, IsPlaceIn}
 pub use Rattle.gix_date.specs.Careful.Texts.{begins_word, word_at, word_before, is_plain_count, may_follow, may_stand_after, separates, is_clear_at, ends_in_ago, unclear_place}
 pub use Rattle.gix_date.specs.Computing.{computing}
 pub use Rattle.gix_date.specs.Devices.Device.{inner_of, fault_of}
@@ -16,7 +16,7 @@ pub use Rattle.gix_date.specs.Families.Grammars.{AreDigits, IsInt, IsPair, IsSig
 pub use Rattle.gix_date.specs.Git.Cuts.{IsCut}
 pub use Rattle.gix_date.specs.Git.Grammar.{IsGitDate, IsGitFront, IsGitClock, IsGitOffset, IsGitText}
 pub use Rattle.gix_date.specs.Git.Forms.{git_time}
-pub use Rattle.gix_date.specs.Header.Laws.{RawIsHeader, HeaderIsParsed, CanonicalComesBack, ComesBack, ComesBackFromHeader, AreWrittenAlike, AreAlike}
+pub use Rattle.gix_date.specs.Header.Laws.{RawIsHeader, HeaderIsParsed, CanonicalIffUnchanged, ComesBack, RoundTripsThroughHeader, AreWrittenAlike, AreAlike}
 pub use Rattle.gix_date.specs.Header.Reading.{header_time, ReadsHeader}
 pub use Rattle.gix_date.specs.Header.Text.{header_text, written_text, is_header_text_of, Writes, GivesText, text_left, max_text_len, hundred_hours}
 pub use Rattle.gix_date.specs.Devices.InputBytes.{shown_text}
@@ -31,9 +31,9 @@ pub use Rattle.gix_date.specs.Families.Patterns.{Accepts, IsMeaning, time_answer
 pub use Rattle.gix_date.specs.Printing.Formats.{Prints, PrintsSeconds, PrintsHeader, PrintsPattern, PrintsOrSeconds, HasNoText, HasNoPatternText, PrintsPatternOrSeconds, IsShown, AtMoment}
 pub use Rattle.gix_date.specs.Printing.PrintedTimes.{IsPrintedAs, PrintsText}
 pub use Rattle.gix_date.specs.Families.Raw.{raw_time, raw_time_by, max_raw_hours, OffsetRule, is_raw_offset, is_wide_offset, allows, max_wide_hours, max_wide_minutes}
-pub use Rattle.gix_date.specs.Printing.ReadingBack.{TimesRoundTrip, HeaderRoundTrips, SecondsRoundTrip, ShortIsReadBack, RoundTripsByEach, RoundTripsBy, RoundTrips, IsRawOffset, HasClock, RoundTripsAs, RoundTripsByPattern, IsWideOffset, IsRuleOffset, midnight_of, day_read_back}
+pub use Rattle.gix_date.specs.Printing.ReadingBack.{TimesRoundTrip, HeaderRoundTrips, SecondsRoundTrip, ShortReadsAsMidnight, RoundTripsByEach, RoundTripsBy, RoundTrips, IsRawOffset, HasClock, RoundTripsAs, RoundTripsByPattern, IsWideOffset, IsRuleOffset, midnight_of, day_read_back}
 pub use Rattle.gix_date.specs.Relative.Dates.{AreNamedOnce, AreConvertible, relative_date, RelativeDate, MinusSeconds, MinusPairs, RelativeOutcome, IsNamed, Reaches}
-pub use Rattle.gix_date.specs.Relative.Steps.{zone_of, Settles, Chain, SecondsStep, MonthsStep, IsPicked}
+pub use Rattle.gix_date.specs.Relative.Steps.{zone_of, Resolves, Chain, SecondsStep, MonthsStep, IsPicked}
 pub use Rattle.gix_date.specs.Families.Shapes.{shape_of, shape_families, IsDispatched, row_families, IsInItsRow}
 pub use Rattle.gix_date.specs.Text.SpaceWords.{StdWhiteSpaceIsUnicodes, white_space}
 pub use Rattle.gix_date.specs.Devices.TimeBuf.{text_in, HoldsText}

@@ -237,7 +237,7 @@ zone-fits (Posix z) n = (PosixRule.offset_at z n).in_range
 zone-fits (Tzif z) n = (Table.offset_at z.now n).in_range
 
 step-range : (tz : TimeZone) (pair : ℤ × TimeUnit) (i j : ℤ) → PairStep tz pair i j → IsTimestampNanos j
-step-range tz (n, Seconds size) i j h = h.1.settles.picked.in_range
+step-range tz (n, Seconds size) i j h = h.1.resolves.picked.in_range
 step-range tz (n, Months size) i j h = h.1.picked.in_range
 
 chain-range : (tz : TimeZone) (list : List (ℤ × TimeUnit)) (i j : ℤ) → IsTimestampNanos i → Chain tz list i j → IsTimestampNanos j
@@ -246,7 +246,7 @@ chain-range tz (pair ∷ more) i j range (k, step, rest) = chain-range tz more k
 
 reaches-range : (date : RelativeDate) (tz : TimeZone) (i j : ℤ) → Reaches date tz i j → IsTimestampNanos j
 reaches-range (MinusSeconds seconds) tz i j h = h.1
-reaches-range (MinusPairs list) tz i j (start, settles, chain) = chain-range tz list start j settles.picked.in_range chain
+reaches-range (MinusPairs list) tz i j (start, resolves, chain) = chain-range tz list start j resolves.picked.in_range chain
 
 pub named-converts : (date : RelativeDate) (moment : Zoned) (t : Time) → IsNamed date moment t → IsConvertible t
 named-converts date moment t h =

@@ -10,15 +10,15 @@ use Rattle.gix_date.specs.declared.error.ParseError.{ParseError}
 use Rattle.gix_date.specs.Relative.Dates.{RelativeDate, MinusSeconds, MinusPairs, Reaches, IsNamed, RelativeOutcome}
 use Rattle.gix_date.specs.declared.time.Time.{Time}
 use Rattle.gix_date.specs.Private.RelativePairs.{pairs_read}
-use Rattle.gix_date.specs.Relative.Steps.{PairStep, Settles, Chain}
+use Rattle.gix_date.specs.Relative.Steps.{PairStep, Resolves, Chain}
 use Rattle.gix_date.specs.Relative.Roles.{pairs}
 use Rattle.gix_date.specs.declared.parsing.relative.words.TimeUnit.{TimeUnit}
 use Rattle.gix_date.specs.declared.parsing.relative.words.TimeUnit.TheVariants.{Seconds, Months}
 use Rattle.gix_date.proofs.Relative.RelativeReading.{pairs_are_read}
-use Rattle.gix_date.proofs.Relative.Steps.{settles-once, months-once}
+use Rattle.gix_date.proofs.Relative.Steps.{resolves-once, months-once}
 
 pub pair-once : (tz : TimeZone) (pair : ℤ × TimeUnit) (i a b : ℤ) → PairStep tz pair i a → PairStep tz pair i b → a ≡ b
-pair-once tz (n, Seconds size) i a b h g = settles-once tz _ a b h.1.settles g.1.settles
+pair-once tz (n, Seconds size) i a b h g = resolves-once tz _ a b h.1.resolves g.1.resolves
 pair-once tz (n, Months size) i a b h g = months-once tz _ i a b h.1 g.1
 
 pub chain-once : (tz : TimeZone) (pairs : List (ℤ × TimeUnit)) (i a b : ℤ) → Chain tz pairs i a → Chain tz pairs i b → a ≡ b
@@ -38,18 +38,18 @@ left-next tz pair left more all here next start e step h =
     )
 
 -- what is read leads to what is asked for
-pub reaches-is : (tz : TimeZone) (words : List (List ℕ)) (i start j : ℤ) → Settles tz i start → Chain tz (pairs_read words) start j → Reaches (MinusPairs (pairs words)) tz i j
+pub reaches-is : (tz : TimeZone) (words : List (List ℕ)) (i start j : ℤ) → Resolves tz i start → Chain tz (pairs_read words) start j → Reaches (MinusPairs (pairs words)) tz i j
 reaches-is tz words i start j h g = (start, h, subst (λ ps. Chain tz ps start j) (sym (pairs_are_read words)) g)
 
-pub reaches-back : (tz : TimeZone) (words : List (List ℕ)) (i start j : ℤ) → Settles tz i start → Reaches (MinusPairs (pairs words)) tz i j → Chain tz (pairs_read words) start j
+pub reaches-back : (tz : TimeZone) (words : List (List ℕ)) (i start j : ℤ) → Resolves tz i start → Reaches (MinusPairs (pairs words)) tz i j → Chain tz (pairs_read words) start j
 reaches-back tz words i start j h g =
-    let from = subst (λ (k : ℤ). Chain tz (pairs words) k j) (settles-once tz i g.0 start g.1 h) g.2 in
+    let from = subst (λ (k : ℤ). Chain tz (pairs words) k j) (resolves-once tz i g.0 start g.1 h) g.2 in
     subst (λ ps. Chain tz ps start j) (pairs_are_read words) from
 
 reaches-once : (date : RelativeDate) (tz : TimeZone) (i a b : ℤ) → Reaches date tz i a → Reaches date tz i b → a ≡ b
 reaches-once (MinusSeconds seconds) tz i a b h g = h.0 ∙ sym g.0
 reaches-once (MinusPairs pairs) tz i a b h g =
-    chain-once tz pairs g.0 a b (subst (λ (k : ℤ). Chain tz pairs k a) (settles-once tz i h.0 g.0 h.1 g.1) h.2) g.2
+    chain-once tz pairs g.0 a b (subst (λ (k : ℤ). Chain tz pairs k a) (resolves-once tz i h.0 g.0 h.1 g.1) h.2) g.2
 
 -- two times with the same numbers are one
 pub same-time : (a b : Time) → a.seconds ≡ b.seconds → a.offset ≡ b.offset → a ≡ b

@@ -13,7 +13,7 @@ use Rattle.jiff_tz.specs.declared.timezone.TimeZone.TheVariants.{UTC, Unknown, F
 use Rattle.gix_date.specs.Relative.Dates.{RelativeDate, MinusSeconds, MinusPairs, Reaches, IsNamed}
 use Rattle.gix_date.specs.Relative.FixedZones.{total, less_seconds, less_months}
 use Rattle.gix_date.specs.Private.RelativePairs.{pairs_read}
-use Rattle.gix_date.specs.Relative.Steps.{IsLocal, IsPicked, Settles, SecondsStep, MonthsStep, PairStep, Chain, zone_of, civil_of, rolled_day}
+use Rattle.gix_date.specs.Relative.Steps.{IsLocal, IsPicked, Resolves, SecondsStep, MonthsStep, PairStep, Chain, zone_of, civil_of, rolled_day}
 use Rattle.gix_date.specs.Private.Steps.{ChooseAlike, IsAtInstant}
 use Rattle.gix_date.specs.Relative.Roles.{pairs}
 use Rattle.gix_date.specs.Printing.Zoned.{whole_seconds}
@@ -21,7 +21,7 @@ use Rattle.gix_date.specs.declared.parsing.relative.words.TimeUnit.{TimeUnit}
 use Rattle.gix_date.specs.declared.parsing.relative.words.TimeUnit.TheVariants.{Seconds, Months}
 use Rattle.gix_date.specs.declared.time.Time.{Time as OurTime}
 use Rattle.gix_date.proofs.Relative.Chains.{reaches-is, reaches-back}
-use Rattle.gix_date.proofs.Relative.FixedZones.{IsLoss, IsBefore, Alike, seconds-law, yesterday-law, months-law, fixed-picked, fixed-picks, fixed-settles-exists, fixed-seconds-exists}
+use Rattle.gix_date.proofs.Relative.FixedZones.{IsLoss, IsBefore, Alike, seconds-law, yesterday-law, months-law, fixed-picked, fixed-picks, fixed-resolves-exists, fixed-seconds-exists}
 use Rattle.gix_date.proofs.Relative.Steps.{MonthsFrom, first-is}
 use Rattle.jiff_zoned.proofs.SameLemmas.{same_datetime}
 
@@ -49,15 +49,15 @@ local-alike a b h i dt l = l ∙ ap (λ (s : ℤ). i +ℤ nanos_of_seconds s) (h
 picked-alike : (a b : TimeZone) → ChooseAlike a b → (civil j : ℤ) → IsPicked a civil j → IsPicked b civil j
 picked-alike a b h civil j p = record { shown = p.shown; civil_is = p.civil_is; is_choice = p.is_choice ∙ h.picks p.shown; in_range = p.in_range }
 
-settles-alike : (a b : TimeZone) → ChooseAlike a b → (i j : ℤ) → Settles a i j → Settles b i j
-settles-alike a b h i j s = record {
+resolves-alike : (a b : TimeZone) → ChooseAlike a b → (i j : ℤ) → Resolves a i j → Resolves b i j
+resolves-alike a b h i j s = record {
   local = s.local;
   local_is = local-alike a b h i s.local s.local_is;
   picked = picked-alike a b h (civil_nanos s.local) j s.picked;
 }
 
 step-alike : (a b : TimeZone) → ChooseAlike a b → (pair : ℤ × TimeUnit) (i j : ℤ) → PairStep a pair i j → PairStep b pair i j
-step-alike a b h (n, Seconds size) i j (fits, s) = (fits, record { in_range = s.in_range; settles = settles-alike a b h _ j s.settles })
+step-alike a b h (n, Seconds size) i j (fits, s) = (fits, record { in_range = s.in_range; resolves = resolves-alike a b h _ j s.resolves })
 step-alike a b h (n, Months size) i j (fits, s) = (
   fits,
   record {
@@ -75,7 +75,7 @@ chain-alike a b h (pair ∷ more) i j (between, step, rest) = (between, step-ali
 
 pub reaches-alike : (a b : TimeZone) → ChooseAlike a b → (date : RelativeDate) (i j : ℤ) → Reaches date a i j → Reaches date b i j
 reaches-alike a b h (MinusSeconds seconds) i j r = r
-reaches-alike a b h (MinusPairs list) i j (start, s, c) = (start, settles-alike a b h i start s, chain-alike a b h list start j c)
+reaches-alike a b h (MinusPairs list) i j (start, s, c) = (start, resolves-alike a b h i start s, chain-alike a b h list start j c)
 
 -- the offset of such a zone
 pub fixed-offset : (tz : TimeZone) → IsFixed tz → (o : Offset) × ((n : ℤ) → o.seconds ≡ offset_at tz n)
@@ -164,10 +164,10 @@ before-fixed o result i n some value =
 pub pairs-fixed : (o : Offset) (words : List (List ℕ)) (i : ℤ) (result : Option Timestamp) → IsTimestampNanos i
     → IsAtInstant (Chain (fixed_zone o) (pairs_read words) i) result → IsAtInstant (Reaches (MinusPairs (pairs words)) (fixed_zone o) i) result
 pairs-fixed o words i result range h =
-    let settles = fixed-settles-exists o i range in
+    let resolves = fixed-resolves-exists o i range in
     same-instants result (Chain (fixed_zone o) (pairs_read words) i) (Reaches (MinusPairs (pairs words)) (fixed_zone o) i)
-    (λ j c. reaches-is (fixed_zone o) words i i j settles c)
-    (λ j r. reaches-back (fixed_zone o) words i i j settles r) h
+    (λ j c. reaches-is (fixed_zone o) words i i j resolves c)
+    (λ j r. reaches-back (fixed_zone o) words i i j resolves r) h
 
 -- Months by what a clock at the offset shows.
 

@@ -18,7 +18,7 @@ use Rattle.jiff_zoned.proofs.SameLemmas.{same_datetime}
 use Rattle.gix_date.proofs.Fields.DateTimes.{datetime_exists}
 use Rattle.gix_date.specs.Relative.FixedZones.{product, total, ProductFits, IsSecondsPair, IsMonthsPair, less_seconds, less_months}
 use Rattle.gix_date.specs.Relative.Dates.{RelativeDate, MinusPairs, Reaches}
-use Rattle.gix_date.specs.Relative.Steps.{IsLocal, IsPicked, Settles, SecondsStep, MonthsStep, Chain, civil_of, month_start}
+use Rattle.gix_date.specs.Relative.Steps.{IsLocal, IsPicked, Resolves, SecondsStep, MonthsStep, Chain, civil_of, month_start}
 use Rattle.gix_date.proofs.Relative.Steps.{MonthsFrom, day_of, year_of}
 use Rattle.gix_date.specs.declared.parsing.relative.words.TimeUnit.{TimeUnit}
 use Rattle.gix_date.specs.declared.parsing.relative.words.TimeUnit.TheVariants.{Seconds, Months}
@@ -32,9 +32,9 @@ pub fixed-local : (o : Offset) (i : ℤ) (dt : DateTime) → IsLocal (fixed_zone
     → civil_nanos dt ≡ i +ℤ nanos_of_seconds o.seconds
 fixed-local o i dt h = h ∙ ap (λ (s : ℤ). i +ℤ nanos_of_seconds s) (offset_at-fixed_zone o i)
 
--- so what its clock shows settles at the instant itself
-pub fixed-settles : (o : Offset) (i j : ℤ) → Settles (fixed_zone o) i j → j ≡ i
-fixed-settles o i j h =
+-- so what its clock shows resolves at the instant itself
+pub fixed-resolves : (o : Offset) (i j : ℤ) → Resolves (fixed_zone o) i j → j ≡ i
+fixed-resolves o i j h =
     let shown = fixed-local o i h.local h.local_is in
     let picked = fixed-picked o (civil_nanos h.local) j h.picked in
     omega (arith, signed_arith, shown, picked)
@@ -43,8 +43,8 @@ pub fixed-picks : (o : Offset) (dt : DateTime) (j : ℤ) → j ≡ civil_nanos d
     → IsTimestampNanos j → IsPicked (fixed_zone o) (civil_nanos dt) j
 fixed-picks o dt j e range = record { shown = dt; civil_is = refl; is_choice = e ∙ sym (picked_instant-fixed_zone o dt); in_range = range }
 
-pub fixed-settles-exists : (o : Offset) (i : ℤ) → IsTimestampNanos i → Settles (fixed_zone o) i i
-fixed-settles-exists o i range =
+pub fixed-resolves-exists : (o : Offset) (i : ℤ) → IsTimestampNanos i → Resolves (fixed_zone o) i i
+fixed-resolves-exists o i range =
     let in_offset = o.in_range in
     let clock : IsCivilNanos (i +ℤ nanos_of_seconds o.seconds) =
     (omega (arith, signed_arith, range, in_offset), omega (arith, signed_arith, range, in_offset)) in
@@ -59,11 +59,11 @@ fixed-settles-exists o i range =
 -- a step of seconds is a plain difference, and exists wherever that is an instant
 pub fixed-seconds : (o : Offset) (n i j : ℤ) → SecondsStep (fixed_zone o) n i j
     → (j ≡ i -ℤ nanos_of_seconds n) × IsTimestampNanos j
-fixed-seconds o n i j h = (fixed-settles o (i -ℤ nanos_of_seconds n) j h.settles, h.settles.picked.in_range)
+fixed-seconds o n i j h = (fixed-resolves o (i -ℤ nanos_of_seconds n) j h.resolves, h.resolves.picked.in_range)
 
 pub fixed-seconds-exists : (o : Offset) (n i : ℤ) → IsTimestampNanos (i -ℤ nanos_of_seconds n)
     → SecondsStep (fixed_zone o) n i (i -ℤ nanos_of_seconds n)
-fixed-seconds-exists o n i range = record { in_range = range; settles = fixed-settles-exists o (i -ℤ nanos_of_seconds n) range }
+fixed-seconds-exists o n i range = record { in_range = range; resolves = fixed-resolves-exists o (i -ℤ nanos_of_seconds n) range }
 
 -- Lists of pairs.
 
@@ -134,14 +134,14 @@ Alike tz i date Such = (j : ℤ) → Reaches date tz i j ↔ Such j
 
 from-start : (o : Offset) (i j : ℤ) (date : List (ℤ × TimeUnit)) → Reaches (MinusPairs date) (fixed_zone o) i j
     → Chain (fixed_zone o) date i j
-from-start o i j date (start, settles, chain) =
-    subst (λ (k : ℤ). Chain (fixed_zone o) date k j) (fixed-settles o i start settles) chain
+from-start o i j date (start, resolves, chain) =
+    subst (λ (k : ℤ). Chain (fixed_zone o) date k j) (fixed-resolves o i start resolves) chain
 
 seconds-of : (o : Offset) (pairs : List (ℤ × ℤ)) (i : ℤ) → All IsLoss pairs → IsTimestampNanos i
     → Alike (fixed_zone o) i (less_seconds pairs) (IsBefore pairs i)
 seconds-of o pairs i loss range j = (
   λ h. seconds-chain o pairs i j range (from-start o i j (second_steps pairs) h),
-  λ h. (i, fixed-settles-exists o i range, seconds-chain-back o pairs i j loss range h),
+  λ h. (i, fixed-resolves-exists o i range, seconds-chain-back o pairs i j loss range h),
 )
 
 pub seconds-law : (tz : TimeZone) (o : Offset) → tz ≡ fixed_zone o → (pairs : List (ℤ × ℤ)) (i : ℤ) → All IsLoss pairs
@@ -341,7 +341,7 @@ months-of o day time pairs m small loss fits here j = (
   λ h. months-chain o day time pairs m j small loss here (from-start o (place o day time m) j (month_steps pairs) h),
   λ h. (
     place o day time m,
-    fixed-settles-exists o (place o day time m) here.in_range,
+    fixed-resolves-exists o (place o day time m) here.in_range,
     subst (λ (k : ℤ). Chain (fixed_zone o) (month_steps pairs) (place o day time m) k) (sym h.1) (months-chain-back o day time pairs m small loss fits here h.0),
   ),
 )

@@ -25,7 +25,7 @@ use Rattle.gix_date.specs.declared.parsing.relative.words.TimeUnit.{TimeUnit}
 use Rattle.gix_date.specs.declared.parsing.relative.words.TimeUnit.TheVariants.{Seconds, Months}
 use Rattle.gix_date.proofs.Fields.FieldsTaken.{went, guard}
 use Rattle.gix_date.proofs.Relative.FixedSteps.{fixed-offset, one-offset, reaches-alike}
-use Rattle.gix_date.proofs.Relative.FixedZones.{fixed-picked, fixed-local, fixed-settles, fixed-seconds, months-order}
+use Rattle.gix_date.proofs.Relative.FixedZones.{fixed-picked, fixed-local, fixed-resolves, fixed-seconds, months-order}
 use Rattle.gix_date.proofs.Fast.FastHeaders.{int-taken, same_some}
 use Rattle.gix_date.proofs.Relative.Steps.{day_of}
 
@@ -152,8 +152,8 @@ chain-back o ((n, unit) ∷ more) i j h (k, step, rest) =
 
 reached-back : (o : Offset) (date : RelativeDate) (i j : ℤ) → GoesBack date → Reaches date (fixed_zone o) i j → j ≤ℤ i
 reached-back o (MinusSeconds seconds) i j h r = omega (arith, signed_arith, h, r.0)
-reached-back o (MinusPairs list) i j h (start, settles, chain) =
-    let at = fixed-settles o i start settles in
+reached-back o (MinusPairs list) i j h (start, resolves, chain) =
+    let at = fixed-resolves o i start resolves in
     let less = chain-back o list start j h chain in
     omega (arith, signed_arith, at, less)
 

@@ -11,7 +11,7 @@ use Rattle.jiff_core.proofs.SignedLemmas.{signed_arith, one_part}
 use Rattle.jiff_core.specs.Calendar.{days_from_civil}
 use Rattle.jiff_zoned.proofs.SameLemmas.{same_datetime}
 use Rattle.gix_date.specs.Private.RelativeFields.{AreFieldsOf, IsInstantOf}
-use Rattle.gix_date.specs.Relative.Steps.{IsLocal, IsPicked, Settles, MonthsStep, civil_of, month_start, rolled_day}
+use Rattle.gix_date.specs.Relative.Steps.{IsLocal, IsPicked, Resolves, MonthsStep, civil_of, month_start, rolled_day}
 use Rattle.gix_date.specs.Private.Steps.{IsAt}
 use Rattle.gix_date.specs.declared.parsing.relative.steps.Fields.{Fields}
 
@@ -80,13 +80,13 @@ fields-day shown f h = rw (h.month_is, h.day_is) (day_of shown.date)
 pub shows-local : (z : PlainZoned) → IsLocal z.time_zone z.timestamp.nanosecond z.datetime
 shows-local z = z.shows ∙ ap (λ (s : ℤ). z.timestamp.nanosecond +ℤ nanos_of_seconds s) z.offset_is
 
-pub settles-is : (tz : TimeZone) (i j : ℤ) (shown : DateTime) (f : Fields) → IsLocal tz i shown → AreFieldsOf shown f → IsInstantOf tz f j → Settles tz i j
-settles-is tz i j shown f l h g =
+pub resolves-is : (tz : TimeZone) (i j : ℤ) (shown : DateTime) (f : Fields) → IsLocal tz i shown → AreFieldsOf shown f → IsInstantOf tz f j → Resolves tz i j
+resolves-is tz i j shown f l h g =
     let picked = rw (fields-day shown f h, h.time_is) at g.picked in
     record { local = shown; local_is = l; picked = rw (civil_nanos-parts shown) picked }
 
-pub settles-back : (tz : TimeZone) (i j : ℤ) (shown : DateTime) (f : Fields) → IsLocal tz i shown → AreFieldsOf shown f → Settles tz i j → IsInstantOf tz f j
-settles-back tz i j shown f l h g =
+pub resolves-back : (tz : TimeZone) (i j : ℤ) (shown : DateTime) (f : Fields) → IsLocal tz i shown → AreFieldsOf shown f → Resolves tz i j → IsInstantOf tz f j
+resolves-back tz i j shown f l h g =
     let same : g.local ≡ shown = same_datetime g.local shown (g.local_is ∙ sym l) in
     let picked : IsPicked tz (civil_nanos shown) j = subst (λ (d : DateTime). IsPicked tz (civil_nanos d) j) same g.picked in
     record {
@@ -126,8 +126,8 @@ at-same (Some moment) Such Same f g h = f (zoned_nanos moment) h
 picked-once : (tz : TimeZone) (civil a b : ℤ) → IsPicked tz civil a → IsPicked tz civil b → a ≡ b
 picked-once tz civil a b h g = picked-of tz g.shown a (rw g.civil_is h) ∙ sym g.is_choice
 
-pub settles-once : (tz : TimeZone) (i a b : ℤ) → Settles tz i a → Settles tz i b → a ≡ b
-settles-once tz i a b h g =
+pub resolves-once : (tz : TimeZone) (i a b : ℤ) → Resolves tz i a → Resolves tz i b → a ≡ b
+resolves-once tz i a b h g =
     let same : h.local ≡ g.local = same_datetime h.local g.local (h.local_is ∙ sym g.local_is) in
     picked-once tz (civil_nanos g.local) a b (subst (λ (d : DateTime). IsPicked tz (civil_nanos d) a) same h.picked) g.picked
 

@@ -73,6 +73,6 @@ CarefulOutcome (First answer) now result =
     (plain : Result Time ParseError) × ParseNoAllocOutcome answer now plain × (result ≡ result_map_both (λ t. t) errors.Refused plain)
 
 -- the place of a refusal is one at which the text may be cut
-abbrev pub IsCutBy : List ℕ → CarefulError → Type 0
-IsCutBy text (errors.Unclear place) = IsCharBoundary text place
-IsCutBy text (errors.Refused refusal) = Unit {0}
+abbrev pub IsPlaceIn : List ℕ → CarefulError → Type 0
+IsPlaceIn text (errors.Unclear place) = IsCharBoundary text place
+IsPlaceIn text (errors.Refused refusal) = Unit {0}

@@ -18,12 +18,12 @@ pub record ComesBack (text : List ℕ) : Type 0 where
   pub is_written : header_text time ≡ Some text
 
 -- the text comes back iff it is canonical
-abbrev pub CanonicalComesBack : List ℕ → Type 0
-CanonicalComesBack text = ComesBack text ↔ (is_canonical_header text ≡ true)
+abbrev pub CanonicalIffUnchanged : List ℕ → Type 0
+CanonicalIffUnchanged text = ComesBack text ↔ (is_canonical_header text ≡ true)
 
 -- the time has a header text, and is read from it
-abbrev pub ComesBackFromHeader : Time → Type 0
-ComesBackFromHeader t = IsSomeAnd (header_text t) (λ text. header_time text ≡ Some t)
+abbrev pub RoundTripsThroughHeader : Time → Type 0
+RoundTripsThroughHeader t = IsSomeAnd (header_text t) (λ text. header_time text ≡ Some t)
 
 -- the times have equal seconds, equal signs of their offsets, and equal whole minutes of these
 abbrev pub AreAlike : Time → Time → Type 0

@@ -99,5 +99,5 @@ SecondsRoundTrip raw seconds =
     → first_family_by (allows raw) (decimal_text seconds) ≡ Some (Absolute (utc_time seconds))
 
 -- the day that the time's own clock shows is parsed by `day_read_back`
-abbrev pub ShortIsReadBack : OffsetRule → Time → Type 0
-ShortIsReadBack rule t = first_family_by rule (short_text (clock_of t)) ≡ Some (day_read_back t)
+abbrev pub ShortReadsAsMidnight : OffsetRule → Time → Type 0
+ShortReadsAsMidnight rule t = first_family_by rule (short_text (clock_of t)) ≡ Some (day_read_back t)

@@ -6,7 +6,7 @@ use Rattle.jiff.specs.Words.{zoned_nanos, offset_at, nanos_of_seconds, IsTimesta
 use Rattle.jiff.specs.Types.{TimeZone}
 use Rattle.jiff.specs.declared.zoned.Zoned.{Zoned}
 use Rattle.gix_date.specs.Fields.ClockNumbers.{seconds_per_day}
-use Rattle.gix_date.specs.Relative.Steps.{zone_of, Settles, Chain}
+use Rattle.gix_date.specs.Relative.Steps.{zone_of, Resolves, Chain}
 use Rattle.gix_date.specs.Relative.Words.{relative_words}
 use Rattle.gix_date.specs.Text.Names.{named_in}
 use Rattle.gix_date.specs.Relative.Roles.{are_pairs, pairs}
@@ -44,7 +44,7 @@ relative_date text = option_or (named_date (trim text)) (pairs_date text)
 -- the date names this instant in the zone, counted from the instant `moment`, both in nanoseconds
 abbrev pub Reaches : RelativeDate → TimeZone → ℤ → ℤ → Type 0
 Reaches (MinusSeconds seconds) tz moment instant = (instant ≡ moment -ℤ nanos_of_seconds seconds) × IsTimestampNanos instant
-Reaches (MinusPairs list) tz moment instant = (start : ℤ) × Settles tz moment start × Chain tz list start instant
+Reaches (MinusPairs list) tz moment instant = (start : ℤ) × Resolves tz moment start × Chain tz list start instant
 
 -- the date names this time from the moment: whole seconds, and the offset of the moment's zone there
 pub record IsNamed (date : RelativeDate) (moment : Zoned) (t : Time) : Type 0 where

@@ -28,7 +28,7 @@ pub record IsPicked (tz : TimeZone) (civil instant : ℤ) : Type 0 where
   pub in_range : IsTimestampNanos instant
 
 -- the zone chooses the instant `after` for what its clock shows at `instant`
-pub record Settles (tz : TimeZone) (instant after : ℤ) : Type 0 where
+pub record Resolves (tz : TimeZone) (instant after : ℤ) : Type 0 where
   pub local : DateTime
   pub local_is : IsLocal tz instant local
   pub picked : IsPicked tz (civil_nanos local) after
@@ -36,7 +36,7 @@ pub record Settles (tz : TimeZone) (instant after : ℤ) : Type 0 where
 -- so many seconds before `instant` the zone chooses `after`
 pub record SecondsStep (tz : TimeZone) (seconds instant after : ℤ) : Type 0 where
   pub in_range : IsTimestampNanos (instant -ℤ nanos_of_seconds seconds)
-  pub settles : Settles tz (instant -ℤ nanos_of_seconds seconds) after
+  pub resolves : Resolves tz (instant -ℤ nanos_of_seconds seconds) after
 
 -- the day number of the first of a month, which counts from January of the year 0
 abbrev pub month_start : ℤ → ℤ

@@ -1,6 +1,6 @@
 //! Laws of commit headers: which come back, and which times are written alike.
 ghost use Rattle.std.specs.Prelude.{◌≡◌, ◌<◌, ◌%◌, unsigned_abs};
-ghost use Rattle.gix_date.specs.Header.Laws.{CanonicalComesBack, ComesBackFromHeader, AreWrittenAlike};
+ghost use Rattle.gix_date.specs.Header.Laws.{CanonicalIffUnchanged, RoundTripsThroughHeader, AreWrittenAlike};
 ghost use Rattle.gix_date.specs.Header.Text.{hundred_hours};
 
 use crate::time::Time;
@@ -9,14 +9,14 @@ use crate::time::Time;
 /// decimal text of an `i64`, one space, a sign, two digits of hours and two of minutes below 60. Its offset is not
 /// `-0000`.
 pub fn canonical(text: &str)
-    ensures { CanonicalComesBack text.now }
+    ensures { CanonicalIffUnchanged text.now }
 {}
 
 /// A time is read back from its header text, if its offset is whole minutes below 100 hours either way.
 pub fn written_is_read(time: Time)
     requires short { unsigned_abs time.offset < hundred_hours }
     requires whole { unsigned_abs time.offset % 60 ≡ 0 }
-    ensures { ComesBackFromHeader time }
+    ensures { RoundTripsThroughHeader time }
 {}
 
 /// Two times with offsets below 100 hours have the same header text iff their seconds are equal, and their offsets have

@@ -1,7 +1,7 @@
 //! Dates for callers that must not guess: what a relative text has to say, and which zone a date without an offset has.
 ghost use Rattle.std.specs.Prelude.{◌≡◌, true, IfErr, IfSome, IsCharBoundary, List, option_map, ℕ};
 ghost use Rattle.gix_date.specs.Careful.Dates.{unzoned_time};
-ghost use Rattle.gix_date.specs.Careful.Outcome.{careful_reading, first_reading, pairs_reading, local_date, CarefulOutcome, IsCutBy, Local};
+ghost use Rattle.gix_date.specs.Careful.Outcome.{careful_reading, first_reading, pairs_reading, local_date, CarefulOutcome, IsPlaceIn, Local};
 ghost use Rattle.gix_date.specs.Printing.Zoned.{is_instant};
 ghost use Rattle.gix_date.specs.Private.Careful.{IsLocalIfAny};
 ghost use Rattle.gix_date.specs.Private.Views.{answer_of};
@@ -14,7 +14,7 @@ use crate::parsing::git::parse_unzoned_git;
 use crate::parsing::patterns::parse_unzoned_day;
 use crate::parsing::raw::RawOffsets;
 use crate::parsing::relative::careful::unclear_place;
-use crate::parsing::relative::steps::pick;
+use crate::parsing::relative::steps::to_instant;
 use crate::parsing::relative::{Relative, time_of};
 use crate::time::Time;
 use jiff::tz::Offset;
@@ -83,7 +83,7 @@ pub fn parse_carefully(
     options: CarefulOptions,
 ) -> Result<Time, CarefulError>
     ensures outcome { CarefulOutcome (careful_reading options input.now) now.entry result }
-    ensures boundary { IfErr result (IsCutBy input.now) }
+    ensures boundary { IfErr result (IsPlaceIn input.now) }
 {
     if let Some(time) = local_date(input, options.without_offset) {
         return local_time(time, now);
@@ -138,7 +138,7 @@ fn unclear_answer(input: &str, answer: Option<Answer<'_>>, relative: RelativeTex
 fn local_time(time: Time, now: Option<Zoned<'_>>) -> Result<Time, CarefulError>
     requires { is_instant time.seconds ≡ true }
     ensures outcome { CarefulOutcome (Local time) now.entry result }
-    ensures boundary { (text : List ℕ) → IfErr result (IsCutBy text) }
+    ensures boundary { (text : List ℕ) → IfErr result (IsPlaceIn text) }
 {
     let Some(moment) = now else {
         return Err(CarefulError::Refused(ParseError::MissingNow));
@@ -158,7 +158,7 @@ fn time_in_zone(time: Time, moment: Zoned<'_>) -> Option<Time>
         return None;
     };
     let shown = Offset::UTC.to_datetime(instant);
-    match pick(shown.date(), shown.time(), moment.time_zone()) {
+    match to_instant(shown.date(), shown.time(), moment.time_zone()) {
         Some(local) => Some(time_of(local)),
         None => None,
     }

@@ -13,7 +13,7 @@ ghost use Rattle.gix_date.specs.Relative.Words.{relative_words};
 use crate::error::ParseError;
 use crate::parsing::relative::pairs::next_pair;
 use crate::parsing::relative::scan::are_pairs;
-use crate::parsing::relative::steps::{earlier, settle, subtract};
+use crate::parsing::relative::steps::{earlier, resolve, subtract};
 use crate::time::{SECONDS_PER_DAY, Time};
 use jiff::tz::Offset;
 use jiff::{Timestamp, Zoned};
@@ -131,7 +131,7 @@ impl<'a> Relative<'a> {
     {
         match self {
             Relative::MinusSeconds(seconds) => earlier(moment, seconds),
-            Relative::MinusPairs(text) => subtract_pairs(settle(moment)?, text),
+            Relative::MinusPairs(text) => subtract_pairs(resolve(moment)?, text),
         }
     }
 }

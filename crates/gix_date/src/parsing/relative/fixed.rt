@@ -56,11 +56,11 @@ fn subtract_months(instant: Timestamp, offset: Offset, months: i64) -> Option<Ti
     let number = month_number(shown.date()).checked_sub(months)?;
     let first = first_day_of(number)?;
     let date = day_from(first, shown.day())?;
-    pick(date, shown.time(), offset)
+    to_instant(date, shown.time(), offset)
 }
 
 /// The instant at which a clock at the offset shows a date and a time of day.
-fn pick(date: Date, time: Time, offset: Offset) -> Option<Timestamp>
+fn to_instant(date: Date, time: Time, offset: Offset) -> Option<Timestamp>
     ensures some { IsSome result
         ↔ IsTimestampNanos (civil_of (epoch_day date) time -ℤ nanos_of_seconds offset.seconds) }
     ensures value { IfSome result

@@ -4,7 +4,7 @@ ghost use Rattle.std.specs.Int.{int_div_euclid, int_rem_euclid};
 ghost use Rattle.jiff.specs.Words.{plain_zone, zoned_nanos, nanos_of_seconds, KeepsZone, IsTimestampNanos, IsYear, IsYmd, IsEpochDay, IsBetween, epoch_day, month_number};
 ghost use Rattle.gix_date.specs.Private.RelativeFields.{IsInstantOf, HasDay};
 ghost use Rattle.gix_date.specs.Private.RelativePairs.{pair_of};
-ghost use Rattle.gix_date.specs.Relative.Steps.{zone_of, Settles, SecondsStep, MonthsStep, PairStep, IsPicked, civil_of};
+ghost use Rattle.gix_date.specs.Relative.Steps.{zone_of, Resolves, SecondsStep, MonthsStep, PairStep, IsPicked, civil_of};
 ghost use Rattle.gix_date.specs.Private.Steps.{IsAt};
 
 use crate::parsing::relative::pairs::Pair;
@@ -50,13 +50,13 @@ impl Fields {
     {
         let first = first_day_of(self.month_number)?;
         let date = day_from(first, self.day)?;
-        pick(date, self.time, zone)
+        to_instant(date, self.time, zone)
     }
 }
 
 /// The moment that the zone chooses for what its clock shows.
-pub(crate) fn settle<'a>(moment: Zoned<'a>) -> Option<Zoned<'a>>
-    ensures step { IsAt (Settles (zone_of moment.entry) (zoned_nanos moment.entry)) result }
+pub(crate) fn resolve<'a>(moment: Zoned<'a>) -> Option<Zoned<'a>>
+    ensures step { IsAt (Resolves (zone_of moment.entry) (zoned_nanos moment.entry)) result }
     ensures zone { IfSome result (KeepsZone moment.entry) }
 {
     Fields::from(moment).normalize(moment.time_zone())
@@ -78,7 +78,7 @@ fn subtract_seconds<'a>(moment: Zoned<'a>, seconds: i64) -> Option<Zoned<'a>>
     ensures step { IsAt (SecondsStep (zone_of moment.entry) seconds (zoned_nanos moment.entry)) result }
     ensures zone { IfSome result (KeepsZone moment.entry) }
 {
-    settle(earlier(moment, seconds)?)
+    resolve(earlier(moment, seconds)?)
 }
 
 /// The instant so many seconds before a moment, in its zone.
@@ -148,7 +148,7 @@ pub(crate) fn day_from(first: Date, day: i8) -> Option<Date>
 
 /// The instant that a zone chooses for a date and a time of day.
 #[inline(always)]
-pub(crate) fn pick<'a>(date: Date, time: Time, zone: TimeZone<'a>) -> Option<Zoned<'a>>
+pub(crate) fn to_instant<'a>(date: Date, time: Time, zone: TimeZone<'a>) -> Option<Zoned<'a>>
     ensures instant { IsAt (IsPicked (plain_zone zone.entry) (civil_of (epoch_day date) time)) result }
     ensures zone { IfSome result (λ r. zone_of r ≡ plain_zone zone.entry) }
 {

@@ -85,6 +85,6 @@ returns c =
     let ymd = simp to_z-of_z at c.in_ok-first.ensures.value in
     let day = rolled-from c.in_ok-number.number shown.date c.in_ok-first.first c.day.result ymd c.day.ensures ∙ ap (λ (m : ℤ). rolled_day m shown.date) number in
     let date = (simp to_z-of_z at c.in_ok-date.ensures.value) ∙ day in
-    let some = rw c.time.ensures at c.pick.ensures.some in
-    let value = rw c.time.ensures at c.pick.ensures.value in
-    months-at c.args.offset c.args.months c.args.instant.nanosecond shown c.in_ok-date.date c.pick.result local fits year date some value
+    let some = rw c.time.ensures at c.to_instant.ensures.some in
+    let value = rw c.time.ensures at c.to_instant.ensures.value in
+    months-at c.args.offset c.args.months c.args.instant.nanosecond shown c.in_ok-date.date c.to_instant.result local fits year date some value

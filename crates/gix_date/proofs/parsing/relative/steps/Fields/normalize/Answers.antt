@@ -22,5 +22,5 @@ returns-clause-instant c =
     let ymd = simp to_z-of_z at c.in_ok-first.ensures.value in
     let first = first-is c.args.self.month_number c.in_ok-first.first ymd in
     let day = rw first at (simp to_z-of_z at c.in_ok-date.ensures.value) in
-    let picked = rw day at c.pick.ensures.instant in
-    at-same c.pick.result _ _ (λ j h. record { year_in = year; picked = h }) (λ j h. h.picked) picked
+    let picked = rw day at c.to_instant.ensures.instant in
+    at-same c.to_instant.result _ _ (λ j h. record { year_in = year; picked = h }) (λ j h. h.picked) picked

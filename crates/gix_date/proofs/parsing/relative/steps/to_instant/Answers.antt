@@ -1,7 +1,7 @@
 use Rattle.std.proofs.Common.{refl}
 use Rattle.jiff.specs.Words.{plain_zone, zoned_nanos}
 use Rattle.gix_date.proofs.Relative.Steps.{picked-is, picked-none}
-use Rattle.gix_date.proofs.parsing.relative.steps.pick.Goals as goal
+use Rattle.gix_date.proofs.parsing.relative.steps.to_instant.Goals as goal
 
 pub returns-in-Ok-clause-instant : goal.returns-in-Ok-clause-instant
 returns-in-Ok-clause-instant c =
