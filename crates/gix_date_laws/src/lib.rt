@@ -1,7 +1,6 @@
 //! More laws of `gix_date`, beside those of `gix_date::laws`: each is the contract of a function that does nothing.
 //!
-//! They stand in a crate of their own, so that a program that stands on `gix_date` does not prove them first. The rows of
-//! its definitions are here too (`proofs/Rows`).
+//! They stand in a crate of their own, so that a program that stands on `gix_date` does not prove them first.
 #![tactic(auto)]
 
 mod careful;

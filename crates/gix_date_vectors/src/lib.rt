@@ -8,12 +8,12 @@ mod faults;
 mod headers;
 #[cfg(test)]
 mod machine;
+pub mod more_callers;
 #[cfg(test)]
 mod names;
 #[cfg(test)]
 mod prints;
-#[cfg(test)]
-mod readme;
+pub mod readme;
 pub mod signature_caller;
 #[cfg(test)]
 mod signatures;

@@ -1,10 +1,10 @@
 //! Public names, each where it stands, and the traits that callers count on.
-use crate::caller::{
-    absolute_date, asks_for_a_moment, authored, authored_in_utc, commit_time, date_meant,
-    date_typed, day_before, doubled, header_bytes, iso_date, kept_by_each, kept_in_date,
-    kept_in_header, log_date, read_canonical, resolved, rewrite, shown, stored_date,
-};
+use crate::caller::{commit_time, date_meant, date_typed, iso_date, kept_in_header, rewrite};
 use crate::machine::Machine;
+use crate::more_callers::{
+    absolute_date, asks_for_a_moment, authored, authored_in_utc, day_before, doubled, header_bytes,
+    kept_by_each, kept_in_date, log_date, read_canonical, resolved, shown, stored_date,
+};
 use gix_date::device::Device;
 use gix_date::parsing::TimeBuf;
 use gix_date::time::{CustomFormat, Format, format};

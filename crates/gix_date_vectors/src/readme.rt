@@ -1,25 +1,46 @@
 //! The example of README.md, as it stands there.
-use gix_date::device::Device;
-use gix_date::time::format::ISO8601;
-use gix_date::{Error, parse, parse_header};
+ghost use Rattle.std.specs.Prelude.{◌≡◌, ◌↔◌, true, Some, Ok, IsOkAnd};
+ghost use Rattle.gix_date.specs.Devices.TimeBuf.{text_in};
+ghost use Rattle.gix_date.specs.Families.Raw.{raw_time};
+ghost use Rattle.gix_date.specs.Header.Canonical.{is_canonical_header};
+ghost use Rattle.gix_date.specs.declared.time.Time.{Time as Read};
+
+use gix_date::parsing::TimeBuf;
+use gix_date::{Error, RawOffsets, Time, laws, parse};
 use std::alloc::Global;
 
-fn example(alloc: Global) -> Result<String, Error> {
-    // Parse a date. `None`: no moment, so relative dates are refused. A refusal carries a copy of the text.
-    let time = parse(alloc, "@1660874655 +0800", None)?;
-    // Its text in a commit header, in a buffer of its own: "1660874655 +0800". No memory is taken.
-    let text = time.to_buf()?;
-    // The time of a commit header, read leniently. No memory is taken.
-    let same = parse_header(text.as_str()).ok_or(Error::InvalidTime)?;
-    // The same text again, into any `Write`.
-    let mut out = Device::new(Vec::new(alloc));
-    same.write_to(&mut out)?;
-    // The date as a log shows it: "2022-08-19 10:04:15 +0800".
-    same.format(alloc, ISO8601.into())
+/// A header's time, read and written again: the same text iff the header is canonical.
+pub fn written_again(header: &str) -> Result<TimeBuf, Error>
+    ensures { IsOkAnd result (λ buf. text_in buf ≡ header.now) ↔ (is_canonical_header header.now ≡ true) }
+{
+    laws::canonical(header);
+    let time: Time = header.parse()?;
+    time.to_buf()
+}
+
+/// A stored date such as `1660874655 +0800` needs no reference time.
+pub fn stored_time(alloc: Global, date: &str) -> Result<Time, Error>
+    ensures { (t : Read) → raw_time date.now ≡ Some t → result ≡ Ok t }
+{
+    gix_date_laws::comes_first(date, RawOffsets::Quarter);
+    parse(alloc, date, None)
 }
 
 #[test]
-fn the_example_prints_the_date(rt: HostRuntime) -> Result<(), Error> {
-    assert_eq!(rt; example(rt.alloc())?.as_str(), "2022-08-19 10:04:15 +0800");
+fn a_header_is_written_again(rt: HostRuntime) -> Result<(), Error> {
+    assert_eq!(rt;
+        written_again("1660874655 +0800")?.as_str(),
+        "1660874655 +0800"
+    );
+    assert_eq!(rt; written_again("12abc +0100")?.as_str(), "12 +0100");
+    assert!(rt; matches!(written_again("yesterday"), Err(Error::InvalidTime)));
+    Ok(())
+}
+
+#[test]
+fn a_stored_time_is_read(rt: HostRuntime) -> Result<(), Error> {
+    let time = stored_time(rt.alloc(), "1660874655 +0800")?;
+    assert_eq!(rt; time, Time::new(1_660_874_655, 28_800));
+    assert!(rt; matches!(stored_time(rt.alloc(), "yesterday"), Err(Error::MissingNow)));
     Ok(())
 }

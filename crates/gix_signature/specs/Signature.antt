@@ -23,7 +23,7 @@ nul = 0
 abbrev pub is_allowed : ℕ → Bool
 is_allowed c = not (c == opening || c == closing || c == newline || c == nul)
 
--- the text may be a name or an email, or a time if it is not empty
+-- the text may be a part: a name or an email, or a time if it is not empty
 abbrev pub is_part : List ℕ → Bool
 is_part text = list_all is_allowed text
 
@@ -45,7 +45,7 @@ line_of p = p.name ++ (codes " <" ++ (p.mail ++ (codes "> " ++ p.time)))
 abbrev pub are_parts : Parts → Bool
 are_parts p = is_part p.name && is_part p.mail && is_part p.time && not (length p.time == 0)
 
--- the line is the name, ` <`, the email, `> ` and the time, and these may be its parts
+-- the line is cut into these parts: it is the name, ` <`, the email, `> ` and the time, and these may be its parts
 pub record IsCut (line : List ℕ) (p : Parts) : Type 0 where
   pub whole : line ≡ line_of p
   pub allowed : are_parts p ≡ true

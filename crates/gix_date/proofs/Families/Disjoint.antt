@@ -105,7 +105,7 @@ front-begins : (day gap rest : List ℕ) (date : DateFields) → IsGitFront day 
 front-begins day gap rest date (inl h) = marked-front dot day (gap ++ rest) date refl refl h.0
 front-begins day gap rest date (inr (inl h)) =
     subst (λ (g : List ℕ). GitFront (day ++ (g ++ rest))) (sym h.1)
-      (date-front [] day (letter_t ∷ rest) date h.0 (pairs-front h.0.year h.0.month h.0.day date.year date.month date.day rest h.0.is_year h.0.is_month h.0.is_day))
+    (date-front [] day (letter_t ∷ rest) date h.0 (pairs-front h.0.year h.0.month h.0.day date.year date.month date.day rest h.0.is_year h.0.is_month h.0.is_day))
 front-begins day gap rest date (inr (inr h)) = marked-front minus day (gap ++ rest) date refl refl h.0
 
 pub git-front : (x : List ℕ) (t : Time) → git_form x ≡ Some t → GitFront x

@@ -22,17 +22,17 @@ unzoned_day text = do
   day ← read_plain_date text
   if is_nonempty day.1 then None else option_map utc_time (civil_instant day.0 midnight (pos 0))
 
--- one of Git's own forms in which no offset is written: its time in UTC
+-- a Git form without an offset: its time in UTC
 unfoldable pub unzoned_git_time : List ℕ → Option Time
 unzoned_git_time text = do
   front ← git_front (trim text)
   if is_nonempty (clock_cut (trim front.1)).1 then None else time_of_cut front.0 (clock_cut (trim front.1))
 
--- a date in which no offset is written: its time in UTC
+-- a date without an offset: its time in UTC
 unfoldable pub unzoned_time : List ℕ → Option Time
 unzoned_time text = option_or (unzoned_day text) (unzoned_git_time text)
 
--- the zone's clock shows at `r` what the clock of UTC shows at `t`: the zone chooses the instant, as in `jiff`
+-- the zone's clock at `r` is UTC's at `t`: the zone chooses the instant, as in `jiff`
 pub record IsLocalTime (tz : TimeZone) (t r : Time) : Type 0 where
   pub instant : ℤ
   pub picked : IsPicked tz (nanos_of_seconds t.seconds) instant

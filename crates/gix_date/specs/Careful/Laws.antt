@@ -13,34 +13,35 @@ use Rattle.gix_date.specs.declared.parsing.careful.CarefulOptions.{CarefulOption
 use Rattle.gix_date.specs.declared.parsing.careful.WithoutOffset.TheVariants.{Utc, MomentsZone}
 use Rattle.gix_date.specs.declared.time.Time.{Time}
 
--- the first family answers the time in UTC of a date in which no offset is written
+-- dates without an offset are read in UTC: the first family answers that time
 abbrev pub AnswersUnzoned : OffsetRule → List ℕ → Type 0
 AnswersUnzoned rule text = (t : Time) → unzoned_time text ≡ Some t → first_family_by rule text ≡ Some (Absolute t)
 
--- each time that is read is one that `parse_with` answers too, unless the text is a date of the moment's zone
+-- `parse_with` reads the same time: each time that is read is one that it answers too, unless the text is a date of the
+-- moment's zone
 abbrev pub IsParsedToo : CarefulOptions → List ℕ → Type 0
 IsParsedToo options text =
     local_date options.without_offset text ≡ None → (now : Option Zoned) (t : Time)
     → CarefulOutcome (careful_reading options text) now (Ok t)
     → ParseNoAllocOutcome (first_family_by (allows options.raw) text) now (Ok t)
 
--- the same options with dates in UTC
+-- the options with dates in UTC
 abbrev pub in_utc : CarefulOptions → CarefulOptions
 in_utc options = record options { without_offset = Utc }
 
--- the same options with dates in the moment's zone
+-- the options with dates in the moment's zone
 abbrev pub in_zone : CarefulOptions → CarefulOptions
 in_zone options = record options { without_offset = MomentsZone }
 
--- the zone of a date matters only to a date in which no offset is written
+-- the zone matters only to dates without an offset
 abbrev pub IgnoresZone : CarefulOptions → List ℕ → Type 0
 IgnoresZone options text = unzoned_time text ≡ None → careful_reading (in_zone options) text ≡ careful_reading (in_utc options) text
 
--- the zone has the offset 0 at all instants
+-- the zone has offset 0 at all instants
 abbrev pub IsUtc : Zoned → Type 0
 IsUtc moment = IsFixed (zone_of moment) × (offset_at (zone_of moment) (zoned_nanos moment) ≡ pos 0)
 
--- at this moment both zones of a date have the same results
+-- at this moment both zones give the same results
 abbrev pub AnswersAlike : CarefulOptions → List ℕ → Zoned → Type 0
 AnswersAlike options text moment =
     (result : Result Time CarefulError)

@@ -30,7 +30,7 @@ pub data Reading : Type 0 where
   -- what the first family answers
   First : Option FamilyAnswer → Reading
 
--- the date of the moment's zone that the text is
+-- the text as a date of the moment's zone
 abbrev pub local_date : WithoutOffset → List ℕ → Option Time
 local_date zone.Utc text = None
 local_date zone.MomentsZone text = unzoned_time text
@@ -40,7 +40,7 @@ abbrev pub pairs_reading : Option FamilyAnswer → Option ℕ → Reading
 pairs_reading answer None = First answer
 pairs_reading answer (Some place) = Unclear place
 
--- what the first answer comes to: pairs have to be careful, where that is asked for
+-- the reading by the first answer: pairs have to be careful, where the options say so
 abbrev pub first_reading : RelativeTexts → List ℕ → Option FamilyAnswer → Reading
 first_reading relative.Careful text (Some (Relative (MinusPairs pairs))) =
     pairs_reading (Some (Relative (MinusPairs pairs))) (unclear_place text)
@@ -51,7 +51,7 @@ abbrev pub local_or : Option Time → Reading → Reading
 local_or None reading = reading
 local_or (Some t) reading = Local t
 
--- raw offsets in quarters of an hour, dates without an offset in UTC, and careful relative texts
+-- the default options: raw offsets in quarters of an hour, dates without an offset in UTC, and careful relative texts
 abbrev pub default_options : CarefulOptions
 default_options = record { raw = Quarter; without_offset = zone.Utc; relative = relative.Careful }
 
@@ -61,8 +61,8 @@ careful_reading options text =
     local_or (local_date options.without_offset text)
     (first_reading options.relative text (first_family_by (allows options.raw) text))
 
--- What a call results in, by what the text says and the moment. A date of the moment's zone needs one, and is refused by
--- `Range` where the zone has no instant for it.
+-- The result of `parse_carefully`: what the text says and the moment determine it. A date of the moment's zone needs a
+-- moment, and is refused by `Range` where the zone has no instant for it.
 abbrev pub CarefulOutcome : Reading → Option Zoned → Result Time CarefulError → Type 0
 CarefulOutcome (Local t) None result = result ≡ Err (errors.Refused MissingNow)
 CarefulOutcome (Local t) (Some moment) (Ok r) = IsLocalTime (zone_of moment) t r
@@ -72,7 +72,7 @@ CarefulOutcome (Unclear place) now result = result ≡ Err (errors.Unclear place
 CarefulOutcome (First answer) now result =
     (plain : Result Time ParseError) × ParseNoAllocOutcome answer now plain × (result ≡ result_map_both (λ t. t) errors.Refused plain)
 
--- the place of a refusal is one at which the text may be cut
+-- the text may be cut there: at the place of a refusal
 abbrev pub IsPlaceIn : List ℕ → CarefulError → Type 0
 IsPlaceIn text (errors.Unclear place) = IsCharBoundary text place
 IsPlaceIn text (errors.Refused refusal) = Unit {0}

@@ -30,7 +30,7 @@ word_at text place = take (prefix_len is_ascii_alphanumeric (drop place text)) (
 abbrev pub word_before : List ℕ → ℕ → Option (List ℕ)
 word_before text place = option_map (word_at text) (last_place (begins_word text) place)
 
--- digits, or `one` to `ten`: a count, but not `last`
+-- a count, but not `last`: digits, or `one` to `ten`
 abbrev pub is_plain_count : List ℕ → Bool
 is_plain_count word = is_count_word word && not (is_name word (codes "last"))
 
@@ -45,7 +45,7 @@ may_follow first second =
     || ((has_unit first && (is_plain_count second || is_and second || is_ago second))
     || (is_and first && is_plain_count second))
 
--- the word may follow this one, or stand first where there is none: then it is a count
+-- the word may follow, or be the first: the first word is a count
 abbrev pub may_stand_after : Option (List ℕ) → List ℕ → Bool
 may_stand_after None word = is_plain_count word
 may_stand_after (Some before) word = may_follow before word
@@ -54,12 +54,12 @@ may_stand_after (Some before) word = may_follow before word
 abbrev pub is_separator : ℕ → Bool
 is_separator b = is_ascii_whitespace b || (b == comma || (b == dot || b == underscore))
 
--- a separator stands at this place, or a `-` directly after a word, where it is no sign of a number
+-- a separator stands at this place: or a `-` directly after a word, where it is no sign of a number
 abbrev pub separates : List ℕ → ℕ → Bool
 separates text place =
     is_separator (slice_index text place) || (slice_index text place == minus && after_word text place)
 
--- nothing is to be guessed at this place: a word fits the one before it, or it goes on, or words are separated
+-- nothing is ambiguous at this place: a word fits the one before it, or it goes on, or words are separated
 unfoldable pub is_clear_at : List ℕ → ℕ → Bool
 is_clear_at text place =
     if begins_word text place then may_stand_after (word_before text place) (word_at text place)

@@ -3,7 +3,7 @@ use Rattle.std.specs.Prelude.{ℕ, ◌<◌, List, take, length, Option, Result, 
 use Rattle.std.specs.Io.KnownBytes.{Appends, Keeps, Consumes, IsAtEnd}
 use Rattle.std.specs.declared.io.ErrorKind.{ErrorKind}
 
--- what is known of a sink or a source: the bytes that it has taken or has left, if it reports them, and its fault
+-- the state of a sink or source: the bytes that it has taken or has left, if it reports them, and its fault
 pub record StreamState : Type 0 where
   pub bytes : Option (List ℕ)
   pub fault : Option ErrorKind
@@ -12,7 +12,7 @@ pub record StreamState : Type 0 where
 abbrev pub Takes : StreamState → StreamState → List ℕ → Type 0
 Takes old new text = Appends old.bytes new.bytes text
 
--- the sink took a proper prefix of the text
+-- the sink took a proper prefix: of the text
 abbrev pub TakesProperPrefix : StreamState → StreamState → List ℕ → Type 0
 TakesProperPrefix old new text = (n : ℕ) × (n < length text) × Takes old new (take n text)
 
@@ -28,7 +28,7 @@ Gives old new bytes = Consumes old.bytes new.bytes bytes
 abbrev pub HasEnded : StreamState → Type 0
 HasEnded known = IsAtEnd known.bytes
 
--- the fault that a result is, or none
+-- the fault of a result, if any
 abbrev pub refusal : {T E : Type 0} → Result T E → Option E
 refusal (Ok x) = None
 refusal (Err e) = Some e

@@ -2,7 +2,7 @@
 use Rattle.gix_date.specs.Relative.Dates.{RelativeDate}
 use Rattle.gix_date.specs.declared.time.Time.{Time}
 
--- what a family answers for a text that it holds
+-- a family's answer for its text: for a text that it holds
 pub data FamilyAnswer : Type 0 where
   -- a time, whatever the moment
   Absolute : Time → FamilyAnswer

@@ -19,7 +19,7 @@ at_time rule text = do
   rest ← skip_char at_sign text
   option_or (raw_time_by rule rest) (option_map utc_time (int_value rest))
 
--- the least seconds of a bare epoch: 100000000
+-- the least bare epoch, 100000000
 abbrev pub min_bare_epoch : ℤ
 min_bare_epoch = MIN_EPOCH
 

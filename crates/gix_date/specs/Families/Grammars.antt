@@ -14,11 +14,11 @@ use Rattle.gix_date.specs.declared.parsing.offset.Sign.{Sign}
 use Rattle.gix_date.specs.declared.parsing.offset.Sign.TheVariants.{Plus, Minus}
 use Rattle.gix_date.specs.declared.time.Time.{Time}
 
--- the text is one or more digits, which write this number
+-- one or more digits, of this number
 abbrev pub AreDigits : List ℕ → ℕ → Type 0
 AreDigits text n = (0 < length text) × (all_ascii_digits text ≡ true) × (n ≡ digits_value 10 text)
 
--- the text is an int text of this value: digits, after a sign or none, whose number an `i64` holds
+-- an int text of this value: digits, after a sign or none, whose number an `i64` holds
 pub record IsInt (text : List ℕ) (n : ℤ) : Type 0 where
   pub digits : List ℕ
   pub number : ℕ
@@ -27,16 +27,16 @@ pub record IsInt (text : List ℕ) (n : ℤ) : Type 0 where
       ⊎ ((text ≡ minus ∷ digits) × (n ≡ neg_ℤ (pos number)))
   pub fits : FitsSigned w64 n
 
--- the text is two digits, which write this number
+-- two digits, of this number
 abbrev pub IsPair : List ℕ → ℕ → Type 0
 IsPair (tens ∷ ones ∷ []) n = IsDigit tens × IsDigit ones × (n ≡ 10 * digit_value tens + digit_value ones)
 IsPair text n = ⊥
 
--- the character is the mark of this sign
+-- the character is the sign's mark
 abbrev pub IsSign : ℕ → Sign → Type 0
 IsSign mark sign = ((mark ≡ plus) × (sign ≡ Plus)) ⊎ ((mark ≡ minus) × (sign ≡ Minus))
 
--- the text has these fields: a sign, two digits of hours, two of minutes, and perhaps two of seconds
+-- an offset text with these fields: a sign, two digits of hours, two of minutes, and perhaps two of seconds
 pub record AreOffsetFields (text : List ℕ) (f : OffsetFields) : Type 0 where
   pub mark : ℕ
   pub hours : List ℕ
@@ -48,7 +48,7 @@ pub record AreOffsetFields (text : List ℕ) (f : OffsetFields) : Type 0 where
   pub are_minutes : IsPair minutes f.minutes
   pub are_seconds : ((last ≡ []) × (f.seconds ≡ None)) ⊎ ((n : ℕ) × IsPair last n × (f.seconds ≡ Some n))
 
--- the text is a raw text of this time: exactly two words, an int text and an offset whose fields the rule allows
+-- a raw text of this time: exactly two words, an int text and an offset whose fields the rule allows
 pub record IsRawText (rule : OffsetRule) (text : List ℕ) (t : Time) : Type 0 where
   pub first : List ℕ
   pub second : List ℕ
@@ -59,11 +59,11 @@ pub record IsRawText (rule : OffsetRule) (text : List ℕ) (t : Time) : Type 0 w
   pub allowed : rule fields ≡ true
   pub offset_is : t.offset ≡ offset_of fields
 
--- the text is a bare epoch of this time: an int text of at least 100000000
+-- a bare epoch of this time: an int text of at least 100000000
 abbrev pub IsEpochText : List ℕ → Time → Type 0
 IsEpochText text t = IsInt text t.seconds × (min_bare_epoch ≤ℤ t.seconds) × (t.offset ≡ pos 0)
 
--- the text is an at text of this time: `@`, and then a raw text or an int text
+-- an at text of this time: `@`, and then a raw text or an int text
 pub record IsAtText (rule : OffsetRule) (text : List ℕ) (t : Time) : Type 0 where
   pub rest : List ℕ
   pub whole : text ≡ at_sign ∷ rest

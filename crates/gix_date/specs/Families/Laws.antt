@@ -14,7 +14,8 @@ use Rattle.gix_date.specs.declared.error.Error.{Error}
 use Rattle.gix_date.specs.declared.error.ParseError.{ParseError}
 use Rattle.gix_date.specs.declared.time.Time.{Time}
 
--- A raw text is neither a bare epoch nor a Git text nor relative. A bare epoch is neither a Git text nor relative.
+-- No raw text or epoch is Git's or relative: a raw text is neither a bare epoch nor a Git text nor relative, and a bare
+-- epoch is neither a Git text nor relative.
 pub record AreDisjoint (rule : OffsetRule) (text : List ℕ) : Type 0 where
   pub raw_epoch : (t : Time) → raw_time_by rule text ≡ Some t → epoch_time text ≡ None
   pub raw_git : (t : Time) → raw_time_by rule text ≡ Some t → git_time text ≡ None
@@ -26,7 +27,7 @@ pub record AreDisjoint (rule : OffsetRule) (text : List ℕ) : Type 0 where
 abbrev pub Holds : OffsetRule → Family → List ℕ → Type 0
 Holds rule family text = is_some (family_answer rule family text) ≡ true
 
--- no text is of two of the families before Git's own forms
+-- the families before Git's own forms are disjoint: no text is of two of them
 abbrev pub AreApart : Type 0
 AreApart = (rule : OffsetRule) (text : List ℕ) → length (filter is_some (answers_before_git rule text)) ≤ 1
 
@@ -40,7 +41,7 @@ overlap GitForm RelativeText = true
 overlap RelativeText GitForm = true
 overlap _ _ = false
 
--- a text of one family is of no other family, unless the two overlap
+-- a text has one family, or overlapping ones: a text of one family is of no other, unless the two overlap
 abbrev pub AreExclusive : OffsetRule → List ℕ → Type 0
 AreExclusive rule text =
     (a b : Family) → a ≢ b → overlap a b ≡ false → Holds rule a text → family_answer rule b text ≡ None
@@ -52,15 +53,15 @@ pub record Overlap (a b : Family) : Type 0 where
   pub first : Holds is_raw_offset a text
   pub second : Holds is_raw_offset b text
 
--- each pair of families that overlap has a text of both
+-- each overlapping pair of families shares a text
 abbrev pub AreOverlapping : Type 0
 AreOverlapping = (a b : Family) → overlap a b ≡ true → Overlap a b
 
--- the two families answer the same where both hold the text
+-- two families that hold the text answer alike
 abbrev pub Agree : OffsetRule → Family → Family → List ℕ → Type 0
 Agree rule a b text = Holds rule a text → Holds rule b text → family_answer rule a text ≡ family_answer rule b text
 
--- A family that holds the text gives the first answer. A relative text does so if it is of no Git form.
+-- A family that holds the text comes first: it gives the first answer. A relative text does so if it is of no Git form.
 pub record ComesFirst (rule : OffsetRule) (text : List ℕ) : Type 0 where
   pub alone : (family : Family) → family ≢ GitForm → family ≢ RelativeText → Holds rule family text
       → first_family_by rule text ≡ family_answer rule family text
@@ -71,14 +72,15 @@ pub record ComesFirst (rule : OffsetRule) (text : List ℕ) : Type 0 where
   pub counting : (date : RelativeDate) → first_family_by rule text ≡ Some (Relative date)
       → relative_date text ≡ Some date
 
--- each result that a call with this text may have at one moment, it may have at every other and at none
+-- the result does not depend on the moment: each result that a call with this text may have at one moment, it may have
+-- at every other and at none
 abbrev pub IgnoresMoment : OffsetRule → List ℕ → Type 0
 IgnoresMoment rule text = (now other : Option Zoned) (result : Result Time Error)
     → ParseOutcome (first_family_by rule text) text now result
     → ParseOutcome (first_family_by rule text) text other result
 
--- An answer by quarters of an hour is the answer by whole minutes too. Only raw and at texts have an answer by whole
--- minutes alone.
+-- Whole minutes keep the answers by quarters: an answer by quarters of an hour is the answer by whole minutes too. Only
+-- raw and at texts have an answer by whole minutes alone.
 pub record IsWidened (text : List ℕ) : Type 0 where
   pub alike : (answer : FamilyAnswer) → first_family_by is_raw_offset text ≡ Some answer
       → first_family_by is_wide_offset text ≡ Some answer
@@ -86,20 +88,20 @@ pub record IsWidened (text : List ℕ) : Type 0 where
       → first_family_by is_wide_offset text ≡ Some answer
       → Holds is_wide_offset AtText text ⊎ Holds is_wide_offset RawText text
 
--- if the first answer is a time, its offset is within 23:59
+-- an absolute answer's offset is within 23:59
 abbrev pub AnswersWithinDay : OffsetRule → List ℕ → Type 0
 AnswersWithinDay rule text =
     (t : Time) → first_family_by rule text ≡ Some (Absolute t) → unsigned_abs t.offset ≤ max_date_offset
 
--- the family answers the text and the trimmed text alike
+-- surrounding white space changes no answer: the family answers the text and the trimmed text alike
 abbrev pub IgnoresSpace : OffsetRule → Family → List ℕ → Type 0
 IgnoresSpace rule family text = family_answer rule family (trim text) ≡ family_answer rule family text
 
--- the family answers the text and the text in small ASCII letters alike
+-- letter case changes no answer: the family answers the text and the text in small ASCII letters alike
 abbrev pub IgnoresCase : OffsetRule → Family → List ℕ → Type 0
 IgnoresCase rule family text = family_answer rule family (str_to_ascii_lowercase text) ≡ family_answer rule family text
 
--- each time that a call with this text may answer has a header text
+-- each answered time has a header text: each that a call with this text may answer
 abbrev pub AnswersHaveText : OffsetRule → List ℕ → Type 0
 AnswersHaveText rule text =
     (now : Option Zoned) (t : Time) → ParseNoAllocOutcome (first_family_by rule text) now (Ok t)

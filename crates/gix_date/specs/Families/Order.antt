@@ -15,7 +15,7 @@ use Rattle.gix_date.specs.declared.error.ParseError.{ParseError}
 use Rattle.gix_date.specs.declared.error.ParseError.TheVariants.{UnknownFormat, DateConversion, MissingNow, Range}
 use Rattle.gix_date.specs.declared.time.Time.{Time}
 
--- the families, by their names
+-- the eleven families, by name
 pub data Family : Type 0 where
   AtText : Family
   -- a day alone
@@ -32,7 +32,7 @@ pub data Family : Type 0 where
   RelativeText : Family
   RawText : Family
 
--- what the family answers for the text, by a rule for raw offsets; `None` if it does not hold the text
+-- the family's answer for the text: by a rule for raw offsets; `None` if it does not hold the text
 abbrev pub family_answer : OffsetRule → Family → List ℕ → Option FamilyAnswer
 family_answer rule AtText text = option_map Absolute (at_time rule text)
 family_answer rule Short text = short_answer text
@@ -50,7 +50,7 @@ family_answer rule RawText text = option_map Absolute (raw_time_by rule text)
 abbrev pub families_before_git : List Family
 families_before_git = AtText ∷ Short ∷ Rfc2822 ∷ Iso8601 ∷ Iso8601Strict ∷ Gitoxide ∷ GitDefault ∷ BareEpoch ∷ []
 
--- all families, in the order in which they are tried
+-- all families, in the order tried
 abbrev pub families : List Family
 families = families_before_git ++ GitForm ∷ RelativeText ∷ RawText ∷ []
 
@@ -63,32 +63,33 @@ first_answer_of (answer ∷ answers) = option_or answer (first_answer_of answers
 abbrev pub family_answers : OffsetRule → List ℕ → List (Option FamilyAnswer)
 family_answers rule text = map (λ family. family_answer rule family text) families
 
--- the answer of the first family that holds the text, by a rule for raw offsets
+-- the first answer, by a rule for raw offsets: that of the first family that holds the text
 unfoldable pub first_family_by : OffsetRule → List ℕ → Option FamilyAnswer
 first_family_by rule text = first_answer_of (family_answers rule text)
 
--- what each family before Git's own forms answers, in their order
+-- each family's answer, before Git's own forms: in their order
 abbrev pub answers_before_git : OffsetRule → List ℕ → List (Option FamilyAnswer)
 answers_before_git rule text = map (λ family. family_answer rule family text) families_before_git
 
--- the answer of the first family that holds the text, with raw offsets in quarters of an hour
+-- the first matching family's answer: that of the first family that holds the text, with raw offsets in quarters of an
+-- hour
 abbrev pub first_family : List ℕ → Option FamilyAnswer
 first_family = first_family_by is_raw_offset
 
--- the fault is `UnknownFormat` with the text's bytes, or `Memory` for their copy
+-- `UnknownFormat` with the text, or `Memory`: with its bytes, or for their copy
 abbrev pub RefusesUnknown : List ℕ → Error → Type 0
 RefusesUnknown text (errors.UnknownFormat input) = input ≡ text
 RefusesUnknown text errors.Memory = Unit {0}
 RefusesUnknown text _ = ⊥
 
--- the fault is `DateConversion` with the text's bytes, or `Memory` for their copy
+-- `DateConversion` with the text, or `Memory`: with its bytes, or for their copy
 abbrev pub RefusesDate : List ℕ → Error → Type 0
 RefusesDate text (errors.DateConversion input) = input ≡ text
 RefusesDate text errors.Memory = Unit {0}
 RefusesDate text _ = ⊥
 
--- What a call without an allocator results in, by the first answer and the moment: the time; `RelativeOutcome`;
--- `DateConversion` for a day without an instant; else `UnknownFormat`.
+-- The result of `parse_no_alloc`: by the first answer and the moment the time, or `RelativeOutcome`; `DateConversion`
+-- for a day without an instant; else `UnknownFormat`.
 abbrev pub ParseNoAllocOutcome : Option FamilyAnswer → Option Zoned → Result Time ParseError → Type 0
 ParseNoAllocOutcome (Some (Absolute t)) now result = result ≡ Ok t
 ParseNoAllocOutcome (Some (Relative date)) now result = RelativeOutcome date now result
@@ -96,20 +97,20 @@ ParseNoAllocOutcome (Some OffsetAboveDay) now result = result ≡ Err UnknownFor
 ParseNoAllocOutcome (Some NoInstant) now result = result ≡ Err DateConversion
 ParseNoAllocOutcome None now result = result ≡ Err UnknownFormat
 
--- the fault of the same name, by `RefusesUnknown` or `RefusesDate` if it carries the text
+-- the same fault, with the text: by `RefusesUnknown` or `RefusesDate` if it carries the text
 abbrev pub RefusesWithCopy : List ℕ → ParseError → Error → Type 0
 RefusesWithCopy text UnknownFormat e = RefusesUnknown text e
 RefusesWithCopy text DateConversion e = RefusesDate text e
 RefusesWithCopy text MissingNow e = e ≡ errors.MissingNow
 RefusesWithCopy text Range e = e ≡ errors.Range
 
--- the result is the same time, or the same refusal by `RefusesWithCopy`
+-- the same result, with a refused text copied: the same time, or the same refusal by `RefusesWithCopy`
 abbrev pub WithCopy : List ℕ → Result Time ParseError → Result Time Error → Type 0
 WithCopy text (Ok t) result = result ≡ Ok t
 WithCopy text (Err refusal) result = IsErrAnd result (RefusesWithCopy text refusal)
 
--- What a call results in: `ParseNoAllocOutcome`, and then the copy of a refused text. So `Memory` never replaces a
--- time, `MissingNow` or `Range`.
+-- The result of `parse` or `parse_with`: `ParseNoAllocOutcome`, and then the copy of a refused text. So `Memory` never
+-- replaces a time, `MissingNow` or `Range`.
 abbrev pub ParseOutcome : Option FamilyAnswer → List ℕ → Option Zoned → Result Time Error → Type 0
 ParseOutcome answer text now result =
     (uncopied : Result Time ParseError) × ParseNoAllocOutcome answer now uncopied × WithCopy text uncopied result

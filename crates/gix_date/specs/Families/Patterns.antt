@@ -10,7 +10,7 @@ use Rattle.gix_date.specs.declared.time.TheConstants.{MAX_OFFSET_IN_SECONDS}
 use Rattle.gix_date.specs.declared.civil.ClockFields.{ClockFields}
 use Rattle.gix_date.specs.declared.civil.DateFields.{DateFields}
 
--- the widest offset of a formatted date: 86340 seconds, which is 23:59
+-- the widest formatted offset, 86340 seconds: 23:59
 abbrev pub max_date_offset : ℕ
 max_date_offset = MAX_OFFSET_IN_SECONDS
 
@@ -21,7 +21,7 @@ date_answer date clock offset = do
   if nat_lt max_date_offset (unsigned_abs offset) then Some OffsetAboveDay
       else Some (Absolute (record { seconds = seconds; offset = offset }))
 
--- what the time of a formatted date answers: its instant and offset, or `OffsetAboveDay`; `None` without an instant
+-- a formatted date's answer: its instant and offset, or `OffsetAboveDay`; `None` without an instant
 abbrev pub time_answer : LocalTime → Option FamilyAnswer
 time_answer t = date_answer t.date t.clock t.offset
 
@@ -34,41 +34,41 @@ abbrev pub day_answer : DateFields → FamilyAnswer
 day_answer date =
     unwrap_or (option_map (λ seconds. Absolute (utc_time seconds)) (civil_instant date midnight (pos 0))) NoInstant
 
--- what a day alone answers: its midnight in UTC, or `NoInstant`; `None` if the calendar has no such day
+-- a day's answer: its midnight in UTC, or `NoInstant`; `None` if the calendar has no such day
 abbrev pub real_day_answer : LocalTime → Option FamilyAnswer
 real_day_answer t = if is_date t.date then Some (day_answer t.date) else None
 
--- the pieces of a day alone: `YYYY-M-D`
+-- the pieces of a day: `YYYY-M-D`
 abbrev pub short_layout : List Piece
 short_layout = PlainDate ∷ []
 
--- what the family `Short` answers for the text
+-- what `Short` answers for the text
 unfoldable pub short_answer : List ℕ → Option FamilyAnswer
 short_answer text = layout_answer short_layout real_day_answer text
 
--- the pieces of an RFC 2822 date: `Www, D Mmm YYYY h:m:s Z`, where the day's name and the seconds may be left out, and
--- Z may be a name
+-- the pieces of RFC 2822: `Www, D Mmm YYYY h:m:s Z`, where the day's name and the seconds may be left out, and Z may be
+-- a name
 abbrev pub rfc2822_layout : List Piece
 rfc2822_layout =
     MailDayName ∷ Day ∷ Spaces ∷ MonthName ∷ Spaces ∷ Year ∷ Spaces ∷ MailClock ∷ Spaces ∷ MailOffset ∷ []
 
--- what the family `Rfc2822` answers for the text
+-- what `Rfc2822` answers for the text
 unfoldable pub rfc2822_answer : List ℕ → Option FamilyAnswer
 rfc2822_answer text = layout_answer rfc2822_layout time_answer text
 
--- the pieces of an ISO 8601 date: `YYYY-M-D h:m:s Z`
+-- the pieces of ISO 8601: `YYYY-M-D h:m:s Z`
 abbrev pub iso8601_layout : List Piece
 iso8601_layout = PlainDate ∷ Spaces ∷ Clock ∷ Spaces ∷ Offset ∷ []
 
--- what the family `Iso8601` answers for the text
+-- what `Iso8601` answers for the text
 unfoldable pub iso8601_answer : List ℕ → Option FamilyAnswer
 iso8601_answer text = layout_answer iso8601_layout time_answer text
 
--- the pieces of a strict ISO 8601 date: `YYYY-M-DTh:m:sZ`, with colons between the pairs of Z
+-- the pieces of strict ISO 8601: `YYYY-M-DTh:m:sZ`, with colons between the pairs of Z
 abbrev pub iso8601_strict_layout : List Piece
 iso8601_strict_layout = PlainDate ∷ LetterT ∷ Clock ∷ ColonOffset ∷ []
 
--- what the family `Iso8601Strict` answers for the text
+-- what `Iso8601Strict` answers for the text
 unfoldable pub iso8601_strict_answer : List ℕ → Option FamilyAnswer
 iso8601_strict_answer text = layout_answer iso8601_strict_layout time_answer text
 
@@ -77,7 +77,7 @@ abbrev pub gitoxide_layout : List Piece
 gitoxide_layout =
     DayName ∷ Spaces ∷ MonthName ∷ Spaces ∷ Day ∷ Spaces ∷ Year ∷ Spaces ∷ Clock ∷ Spaces ∷ Offset ∷ []
 
--- what the family `Gitoxide` answers for the text
+-- what `Gitoxide` answers for the text
 unfoldable pub gitoxide_answer : List ℕ → Option FamilyAnswer
 gitoxide_answer text = layout_answer gitoxide_layout time_answer text
 
@@ -86,17 +86,18 @@ abbrev pub default_layout : List Piece
 default_layout =
     DayName ∷ Spaces ∷ MonthName ∷ Spaces ∷ Day ∷ Spaces ∷ Clock ∷ Spaces ∷ Year ∷ Spaces ∷ Offset ∷ []
 
--- what the family `GitDefault` answers for the text
+-- what `GitDefault` answers for the text
 unfoldable pub default_answer : List ℕ → Option FamilyAnswer
 default_answer text = layout_answer default_layout time_answer text
 
--- the text is the pieces of some time by this layout, and the time has this answer by `of_time`
+-- a formatted text with this answer: the text is the pieces of some time by this layout, and the time has this answer
+-- by `of_time`
 pub record IsMeaning (layout : List Piece) (of_time : LocalTime → Option FamilyAnswer) (text : List ℕ)
     (answer : FamilyAnswer) : Type 0 where
   pub time : LocalTime
   pub are : ArePieces layout time text
   pub comes : of_time time ≡ Some answer
 
--- the family answers exactly what `Is` says of a text and an answer
+-- the family answers exactly what `Is` says: of a text and an answer
 abbrev pub Accepts : {A : Type 0} → (List ℕ → Option A) → (List ℕ → A → Type 0) → Type 0
 Accepts {A} family Is = (text : List ℕ) (answer : A) → (family text ≡ Some answer) ↔ Is text answer

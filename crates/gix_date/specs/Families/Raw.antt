@@ -10,29 +10,29 @@ use Rattle.gix_date.specs.declared.parsing.raw.RawOffsets.TheVariants.{Quarter, 
 use Rattle.gix_date.specs.declared.parsing.raw.TheConstants.{MAX_HOURS, MAX_WIDE_HOURS, MAX_MINUTES}
 use Rattle.gix_date.specs.declared.time.Time.{Time}
 
--- the most hours of a raw offset: 14
+-- the most hours of a raw offset, 14
 abbrev pub max_raw_hours : ℕ
 max_raw_hours = MAX_HOURS
 
--- the most hours of a raw offset by the wider rule: 23
+-- the same by the wider rule, 23
 abbrev pub max_wide_hours : ℕ
 max_wide_hours = MAX_WIDE_HOURS
 
--- the most minutes of a raw offset by the wider rule: 59
+-- the most minutes by the wider rule, 59
 abbrev pub max_wide_minutes : ℕ
 max_wide_minutes = MAX_MINUTES
 
--- a rule for the fields that the offset of a raw text may have
+-- a rule for the offsets of raw texts: for the fields of an offset
 abbrev pub OffsetRule : Type 0
 OffsetRule = OffsetFields → Bool
 
--- hours are at most 14, minutes 00, 15, 30 or 45, and seconds, if any, 00
+-- quarters of an hour, to 14:45: hours are at most 14, minutes 00, 15, 30 or 45, and seconds, if any, 00
 abbrev pub is_raw_offset : OffsetRule
 is_raw_offset f =
     nat_le f.hours max_raw_hours && (f.minutes == 0 || f.minutes == 15 || f.minutes == 30 || f.minutes == 45)
     && unwrap_or f.seconds 0 == 0
 
--- hours are at most 23, minutes at most 59, and seconds, if any, 00
+-- whole minutes, to 23:59: hours are at most 23, minutes at most 59, and seconds, if any, 00
 abbrev pub is_wide_offset : OffsetRule
 is_wide_offset f = nat_le f.hours max_wide_hours && nat_le f.minutes max_wide_minutes && unwrap_or f.seconds 0 == 0
 
@@ -45,7 +45,7 @@ allows WholeMinutes = is_wide_offset
 unfoldable pub raw_offset_by : OffsetRule → List ℕ → Option ℤ
 raw_offset_by rule word = offset_fields word >>= offset_by rule
 
--- the time of a raw text: exactly two words, an int text and an offset that the rule allows
+-- the time of a raw text, by a rule: exactly two words, an int text and an offset that the rule allows
 unfoldable pub raw_time_by : OffsetRule → List ℕ → Option Time
 raw_time_by rule text = do
   words ← first_words (space_words text)
@@ -54,6 +54,6 @@ raw_time_by rule text = do
   offset ← raw_offset_by rule second
   Some (record { seconds = seconds; offset = offset })
 
--- the time of a raw text whose offset is quarters of an hour, as gix-date has them
+-- the time of a raw text, by quarters: its offset is quarters of an hour, as gix-date has them
 abbrev pub raw_time : List ℕ → Option Time
 raw_time = raw_time_by is_raw_offset

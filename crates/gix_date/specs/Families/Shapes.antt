@@ -72,7 +72,7 @@ shape_of text =
     else if is_some (int_value text) then WholeNumber
     else Other
 
--- the families that can hold a text of this shape, in their order
+-- the families that a shape can have: those that can hold a text of this shape, in their order
 abbrev pub shape_families : Shape → List Family
 shape_families AtSign = AtText ∷ RelativeText ∷ []
 shape_families MailDay = Rfc2822 ∷ RelativeText ∷ []
@@ -88,11 +88,13 @@ shape_families Other = GitForm ∷ RelativeText ∷ RawText ∷ []
 abbrev pub first_among : OffsetRule → List Family → List ℕ → Option FamilyAnswer
 first_among rule list text = first_answer_of (map (λ family. family_answer rule family text) list)
 
--- the first family that holds the text is the first of its shape's families that does
+-- the table of shapes finds the first family: the first family that holds the text is the first of its shape's families
+-- that does
 abbrev pub IsDispatched : OffsetRule → List ℕ → Type 0
 IsDispatched rule text = first_family_by rule text ≡ first_among rule (shape_families (shape_of text)) text
 
--- the families of the first of seven rows that fits the text, in their order: a coarser table than that of shapes
+-- the families of a text's row: of the first of seven rows that fits the text, in their order, a coarser table than
+-- that of shapes
 unfoldable pub row_families : List ℕ → List Family
 row_families text =
     if begins_with_at text then AtText ∷ RelativeText ∷ []
@@ -103,6 +105,7 @@ row_families text =
     else if begins_with_letter text then Rfc2822 ∷ Gitoxide ∷ GitDefault ∷ RelativeText ∷ []
     else Short ∷ Rfc2822 ∷ Iso8601 ∷ Iso8601Strict ∷ GitForm ∷ RelativeText ∷ RawText ∷ []
 
--- the first family that holds the text is the first of its row's families that does
+-- the table of rows finds the first family: the first family that holds the text is the first of its row's families
+-- that does
 abbrev pub IsInItsRow : OffsetRule → List ℕ → Type 0
 IsInItsRow rule text = first_family_by rule text ≡ first_among rule (row_families text) text

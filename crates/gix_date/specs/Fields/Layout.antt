@@ -13,11 +13,11 @@ use Rattle.gix_date.specs.Text.SpaceWords.{is_nonempty}
 use Rattle.gix_date.specs.declared.civil.ClockFields.{ClockFields}
 use Rattle.gix_date.specs.declared.civil.DateFields.{DateFields}
 
--- the fields of a date, `year`, `month` and `day`, under a name that another crate can import
+-- the fields of a date: `year`, `month` and `day`, under a name that another crate can import
 abbrev pub LocalDate : Type 0
 LocalDate = DateFields
 
--- the fields of a clock, `hour`, `minute` and `second`, under a name that another crate can import
+-- the fields of a clock: `hour`, `minute` and `second`, under a name that another crate can import
 abbrev pub LocalClock : Type 0
 LocalClock = ClockFields
 
@@ -28,7 +28,7 @@ pub record LocalTime : Type 0 where
   pub clock : ClockFields
   pub offset : ℤ
 
--- the pieces that formatted dates are made of
+-- the pieces of formatted dates
 pub data Piece : Type 0 where
   -- `Www`
   DayName : Piece
@@ -118,7 +118,7 @@ pub record BeginsWith (piece : Piece) (t : LocalTime) (IsMore : List ℕ → Typ
   pub is : IsPiece piece t front
   pub more : IsMore rest
 
--- the text is these pieces of the time, one after the other
+-- the text is these pieces of the time: one after the other
 abbrev pub ArePieces : List Piece → LocalTime → List ℕ → Type 0
 ArePieces [] t text = text ≡ []
 ArePieces (piece ∷ pieces) t text = BeginsWith piece t (ArePieces pieces t) text
@@ -139,7 +139,7 @@ print_piece day Offset t = compact_offset_text t.offset
 print_piece day ColonOffset t = strict_offset_text t.offset
 print_piece day MailOffset t = compact_offset_text t.offset
 
--- the printed pieces of a time, one after the other, with the day of the month by `day`
+-- the printed pieces of a time: one after the other, with the day of the month by `day`
 abbrev pub print_pieces : (ℕ → List ℕ) → List Piece → LocalTime → List ℕ
 print_pieces day [] t = []
 print_pieces day (piece ∷ pieces) t = print_piece day piece t ++ print_pieces day pieces t

@@ -23,8 +23,8 @@ CutsAtSpace text k =
 abbrev pub CutsAtSign : List ℕ → ℕ → Type 0
 CutsAtSign text k = IsLastPlace (has_offset_at text) (length text) k
 
--- The text is cut into this clock and this offset: at a final `Z`; else at the last space, if it can begin an offset;
--- else at the last sign that can; else all is the clock.
+-- The text is cut into clock and offset: at a final `Z`; else at the last space, if it can begin an offset; else at the
+-- last sign that can; else all is the clock.
 pub data IsCut (text : List ℕ) : List ℕ → List ℕ → Type 0 where
   at_z : (clock : List ℕ) → text ≡ clock ++ letter_z ∷ [] → IsCut text clock (letter_z ∷ [])
   at_space : (k : ℕ) → ¬ (EndsInZ text) → CutsAtSpace text k → IsCut text (take k text) (trimmed_after text k)

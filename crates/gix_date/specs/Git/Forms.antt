@@ -92,6 +92,6 @@ git_form text = do
   front ← git_front text
   time_with_rest front.0 front.1
 
--- the time of a text in one of Git's own forms, white space round it aside
+-- the time of a Git text: in one of Git's own forms, with white space around it or none
 unfoldable pub git_time : List ℕ → Option Time
 git_time text = git_form (trim text)

@@ -16,7 +16,7 @@ use Rattle.gix_date.specs.declared.civil.DateFields.{DateFields}
 use Rattle.gix_date.specs.declared.parsing.offset.OffsetFields.{OffsetFields}
 use Rattle.gix_date.specs.declared.time.Time.{Time}
 
--- the text is four digits, two and two, with this mark between them, which write this date
+-- the date of a Git text: four digits, two and two, with this mark between them, which write this date
 pub record IsGitDate (mark text : List ℕ) (date : DateFields) : Type 0 where
   pub year : List ℕ
   pub month : List ℕ
@@ -26,8 +26,7 @@ pub record IsGitDate (mark text : List ℕ) (date : DateFields) : Type 0 where
   pub is_month : IsPair month date.month
   pub is_day : IsPair day date.day
 
--- the text is a date by `IsGitDate`, and this gap follows it: `YYYY.MM.DD` and a space, `YYYYMMDD` and `T`, or
--- `YYYY-MM-DD` and one of these
+-- a Git date and the gap after it: `YYYY.MM.DD` and a space, `YYYYMMDD` and `T`, or `YYYY-MM-DD` and one of these
 abbrev pub IsGitFront : List ℕ → List ℕ → DateFields → Type 0
 IsGitFront text gap date =
     (IsGitDate (dot ∷ []) text date × (gap ≡ space ∷ []))
@@ -55,8 +54,8 @@ AreClockPairs (a ∷ b ∷ d ∷ e ∷ f ∷ g ∷ []) c =
     IsPair (a ∷ b ∷ []) c.hour × IsPair (d ∷ e ∷ []) c.minute × IsPair (f ∷ g ∷ []) c.second
 AreClockPairs text c = ⊥
 
--- The text before its first dot, trimmed, is ASCII and writes this clock: as parts between colons, or as two, four or six
--- digits.
+-- The clock of a Git text: the text before its first dot, trimmed, is ASCII and writes this clock, as parts between
+-- colons or as two, four or six digits.
 pub record IsGitClock (text : List ℕ) (c : ClockFields) : Type 0 where
   pub shown : List ℕ
   pub is_shown : shown ≡ trim (before_first is_dot text)
@@ -86,7 +85,8 @@ abbrev pub IsGitOffset : List ℕ → ℤ → Type 0
 IsGitOffset text n =
     (((text ≡ []) ⊎ (text ≡ letter_z ∷ [])) × (n ≡ pos 0)) ⊎ IsSignedOffset text n
 
--- The trimmed text is a date, a gap and a rest, which is cut into a clock and an offset. These have an instant.
+-- A text in one of Git's own forms: the trimmed text is a date, a gap and a rest, which is cut into a clock and an
+-- offset. These have an instant.
 pub record IsGitText (text : List ℕ) (t : Time) : Type 0 where
   pub day : List ℕ
   pub gap : List ℕ

@@ -11,7 +11,7 @@ use Rattle.gix_date.specs.Printing.ReadingBack.{IsRuleOffset}
 use Rattle.gix_date.specs.declared.parsing.raw.RawOffsets.{RawOffsets}
 use Rattle.gix_date.specs.declared.time.Time.{Time}
 
--- reading the text and writing what was read gives the text back
+-- reading and then writing gives the same text
 pub record ComesBack (text : List ℕ) : Type 0 where
   pub time : Time
   pub is_read : header_time text ≡ Some time
@@ -21,18 +21,18 @@ pub record ComesBack (text : List ℕ) : Type 0 where
 abbrev pub CanonicalIffUnchanged : List ℕ → Type 0
 CanonicalIffUnchanged text = ComesBack text ↔ (is_canonical_header text ≡ true)
 
--- the time has a header text, and is read from it
+-- the time comes back from its header text: it has a header text, and is read from it
 abbrev pub RoundTripsThroughHeader : Time → Type 0
 RoundTripsThroughHeader t = IsSomeAnd (header_text t) (λ text. header_time text ≡ Some t)
 
--- the times have equal seconds, equal signs of their offsets, and equal whole minutes of these
+-- the times have equal seconds, signs and minutes: equal signs of their offsets, and equal whole minutes of these
 abbrev pub AreAlike : Time → Time → Type 0
 AreAlike a b =
     (a.seconds ≡ b.seconds)
     × (int_lt a.offset (pos 0) ≡ int_lt b.offset (pos 0))
     × (unsigned_abs a.offset / seconds_per_minute ≡ unsigned_abs b.offset / seconds_per_minute)
 
--- the times have the same header text iff they are alike
+-- header texts are equal iff times are alike
 abbrev pub AreWrittenAlike : Time → Time → Type 0
 AreWrittenAlike a b = (header_text a ≡ header_text b) ↔ AreAlike a b
 
@@ -40,7 +40,7 @@ AreWrittenAlike a b = (header_text a ≡ header_text b) ↔ AreAlike a b
 abbrev pub RawIsHeader : OffsetRule → List ℕ → Type 0
 RawIsHeader rule text = (t : Time) → raw_time_by rule text ≡ Some t → header_time text ≡ Some t
 
--- a canonical header whose offset the rule allows is parsed to the same time
+-- a canonical header is parsed to its time: if the rule allows its offset
 abbrev pub HeaderIsParsed : RawOffsets → List ℕ → Type 0
 HeaderIsParsed raw text =
     (t : Time) → is_canonical_header text ≡ true → header_time text ≡ Some t → IsRuleOffset raw t.offset

@@ -12,11 +12,11 @@ use Rattle.gix_date.specs.declared.error.Error.TheVariants.{OffsetTooWide, Write
 use Rattle.gix_date.specs.declared.time.Time.{Time}
 use Rattle.gix_date.specs.declared.time.write.TheConstants.{HUNDRED_HOURS, MAX_TEXT_LEN}
 
--- the least seconds of an offset without a header text: 360000
+-- the least offset without header text, 360000: in seconds
 abbrev pub hundred_hours : ℕ
 hundred_hours = HUNDRED_HOURS
 
--- the most bytes of a header text: 26
+-- the longest header text, 26 bytes
 abbrev pub max_text_len : ℕ
 max_text_len = MAX_TEXT_LEN
 
@@ -32,7 +32,7 @@ hours_and_minutes seconds = two_digits (hours_in seconds) ++ two_digits (minutes
 abbrev pub compact_offset_text : ℤ → List ℕ
 compact_offset_text offset = offset_sign offset ∷ hours_and_minutes (unsigned_abs offset)
 
--- the seconds in decimal, a space and the offset as `+hhmm`, whatever the offset
+-- the header text, whatever the offset: the seconds in decimal, a space and the offset as `+hhmm`
 abbrev pub written_text : Time → List ℕ
 written_text t = decimal_text t.seconds ++ space ∷ compact_offset_text t.offset
 
@@ -40,19 +40,19 @@ written_text t = decimal_text t.seconds ++ space ∷ compact_offset_text t.offse
 unfoldable pub header_text : Time → Option (List ℕ)
 header_text t = if nat_lt (unsigned_abs t.offset) hundred_hours then Some (written_text t) else None
 
--- whether this is the header text of the time
+-- whether this is the time's header text
 abbrev pub is_header_text_of : Time → List ℕ → Bool
 is_header_text_of t text = option_map_or (λ written. bytes_eq written text) (header_text t) false
 
--- What writing a time results in: the writer took all of the header text; or there is none, `OffsetTooWide`, and it
--- took no byte; or it took a proper prefix and has that fault.
+-- The result of writing a time: the writer took all of the header text; or there is none, `OffsetTooWide`, and it took
+-- no byte; or it took a proper prefix and has that fault.
 abbrev pub Writes : Time → StreamState → StreamState → Result Unit Error → Type 0
 Writes t old new (Ok _) = IsSomeAnd (header_text t) (Takes old new)
 Writes t old new (Err OffsetTooWide) = (header_text t ≡ None) × TakesNothing old new
 Writes t old new (Err (Write kind)) = IsSomeAnd (header_text t) (TakesProperPrefix old new) × (new.fault ≡ Some kind)
 Writes t old new (Err _) = ⊥
 
--- the result is the header text of the time, or `OffsetTooWide` if there is none
+-- the header text, or `OffsetTooWide`: if there is none
 abbrev pub GivesText : Time → Result (Bor (List ℕ)) Error → Type 0
 GivesText t (Ok text) = header_text t ≡ Some text.now
 GivesText t (Err OffsetTooWide) = header_text t ≡ None

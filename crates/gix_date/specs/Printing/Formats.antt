@@ -28,7 +28,7 @@ pub record ArePrinted (z : PlainZoned) (filled : Parts) : Type 0 where
   pub are_parts : IsZonedParts z parts
   pub is_filled : filled ≡ record parts { weekday = Some (weekday_of z.datetime.date) }
 
--- what `jiff`'s strict printer shows of a zoned value by a pattern
+-- what `jiff` prints by a pattern: what its strict printer shows of a zoned value
 pub record IsShown (pattern : List ℕ) (z : PlainZoned) (shown : Shown) : Type 0 where
   pub config : Config
   pub locale : config.locale ≡ Default
@@ -43,22 +43,22 @@ IsUnprinted pattern z =
     ((e : JiffError) × IsShown pattern z (Err e))
     ⊎ ((shown : List ℕ) × IsShown pattern z (Ok shown) × (IsUtf8 shown → ⊥))
 
--- the time has a zoned value of which `Has` holds
+-- `Has` holds for a moment of the time: for a zoned value that the time has
 abbrev pub AtMoment : Time → (PlainZoned → Type 0) → Type 0
 AtMoment t Has = (z : Zoned) × IsMoment t z × Has (plain_zoned z)
 
--- the result is the seconds of a time in decimal, or `Memory`
+-- the result is decimal seconds, or `Memory`
 abbrev pub PrintsSeconds : Time → Result (String Global) Error → Type 0
 PrintsSeconds t (Ok text) = string_bytes text ≡ decimal_text t.seconds
 PrintsSeconds t (Err e) = e ≡ errors.Memory
 
--- the result is the header text of the time, or `Memory` for it, or `OffsetTooWide` if there is none
+-- the header text, or a fault: `Memory` for the text, or `OffsetTooWide` if there is none
 abbrev pub PrintsHeader : Time → Result (String Global) Error → Type 0
 PrintsHeader t (Ok text) = header_text t ≡ Some (string_bytes text)
 PrintsHeader t (Err e) =
     ((e ≡ errors.OffsetTooWide) × (header_text t ≡ None)) ⊎ ((e ≡ errors.Memory) × IsSome (header_text t))
 
--- What printing by a pattern results in: `Conversion` if the time does not convert; else the text that `IsShown`,
+-- The result of printing by a pattern: `Conversion` if the time does not convert; else the text that `IsShown`,
 -- `Pattern` if `jiff` refuses the pattern or shows no UTF-8, or `Memory`.
 abbrev pub PrintsPattern : Time → List ℕ → Result (String Global) Error → Type 0
 PrintsPattern t pattern (Ok text) = AtMoment t (λ z. IsShown pattern z (Ok (string_bytes text)))
@@ -66,7 +66,7 @@ PrintsPattern t pattern (Err e) =
     ((e ≡ errors.Conversion) × (IsConvertible t → ⊥)) ⊎ ((e ≡ errors.Memory) × IsConvertible t)
     ⊎ ((e ≡ errors.Pattern) × AtMoment t (IsUnprinted pattern))
 
--- what printing in a format results in: `PrintsSeconds`, `PrintsHeader`, or `PrintsPattern` its pattern
+-- the result of printing in a format: `PrintsSeconds`, `PrintsHeader`, or `PrintsPattern` its pattern
 abbrev pub Prints : Time → Format → Result (String Global) Error → Type 0
 Prints t Unix result = PrintsSeconds t result
 Prints t Raw result = PrintsHeader t result
@@ -76,7 +76,7 @@ Prints t (Custom format) result = PrintsPattern t format.pattern.now result
 abbrev pub HasNoPatternText : Time → List ℕ → Type 0
 HasNoPatternText t pattern = (IsConvertible t → ⊥) ⊎ AtMoment t (IsUnprinted pattern)
 
--- what printing by a pattern results in, with the seconds in decimal for a time that has no text by it
+-- printing by a pattern, or else seconds: in decimal, for a time that has no text by it
 abbrev pub PrintsPatternOrSeconds : Time → List ℕ → Result (String Global) Error → Type 0
 PrintsPatternOrSeconds t pattern (Ok text) =
     PrintsPattern t pattern (Ok text) ⊎ (HasNoPatternText t pattern × PrintsSeconds t (Ok text))
@@ -88,7 +88,7 @@ HasNoText t Unix = ⊥
 HasNoText t Raw = header_text t ≡ None
 HasNoText t (Custom format) = HasNoPatternText t format.pattern.now
 
--- what printing in a format results in, with the seconds in decimal for a time that has no text in it
+-- printing in a format, or else seconds: in decimal, for a time that has no text in it
 abbrev pub PrintsOrSeconds : Time → Format → Result (String Global) Error → Type 0
 PrintsOrSeconds t format (Ok text) = Prints t format (Ok text) ⊎ (HasNoText t format × PrintsSeconds t (Ok text))
 PrintsOrSeconds t format (Err e) = e ≡ errors.Memory

@@ -10,7 +10,7 @@ use Rattle.gix_date.specs.Text.Numbers.{two_digits}
 use Rattle.gix_date.specs.Families.Patterns.{short_layout, rfc2822_layout, iso8601_layout, iso8601_strict_layout, gitoxide_layout, default_layout}
 use Rattle.gix_date.specs.Printing.Formats.{IsShown, IsUnprinted}
 
--- what the clock of a zoned value shows
+-- what a zoned value's clock shows
 abbrev pub local_time : PlainZoned → LocalTime
 local_time z = record {
   weekday = weekday_of z.datetime.date;
@@ -19,7 +19,7 @@ local_time z = record {
   offset = z.offset.seconds;
 }
 
--- the year of a zoned value has four digits, and its offset is whole minutes
+-- the same for a zoned value: its year has four digits, and its offset is whole minutes
 pub record ShowsFourDigitFields (z : PlainZoned) : Type 0 where
   pub year : ℕ
   pub year_is : z.datetime.date.year ≡ pos year
@@ -31,7 +31,7 @@ pub record ShowsFourDigitFields (z : PlainZoned) : Type 0 where
 abbrev pub short_pattern : List ℕ
 short_pattern = codes "%Y-%m-%d"
 
--- the text of a clock by `SHORT`, such as `2022-08-08`
+-- the clock's text by `SHORT`: `2022-08-08`
 abbrev pub short_text : LocalTime → List ℕ
 short_text t = print_pieces two_digits short_layout t
 
@@ -39,7 +39,7 @@ short_text t = print_pieces two_digits short_layout t
 abbrev pub rfc2822_pattern : List ℕ
 rfc2822_pattern = codes "%a, %d %b %Y %H:%M:%S %z"
 
--- the text of a clock by `RFC2822`, such as `Mon, 08 Aug 2022 12:45:06 +0800`
+-- the clock's text by `RFC2822`: `Mon, 08 Aug 2022 12:45:06 +0800`
 abbrev pub rfc2822_text : LocalTime → List ℕ
 rfc2822_text t = print_pieces two_digits rfc2822_layout t
 
@@ -47,7 +47,7 @@ rfc2822_text t = print_pieces two_digits rfc2822_layout t
 abbrev pub git_rfc2822_pattern : List ℕ
 git_rfc2822_pattern = codes "%a, %-d %b %Y %H:%M:%S %z"
 
--- the text of a clock by `GIT_RFC2822`, such as `Mon, 8 Aug 2022 12:45:06 +0800`
+-- the clock's text by `GIT_RFC2822`: `Mon, 8 Aug 2022 12:45:06 +0800`
 abbrev pub git_rfc2822_text : LocalTime → List ℕ
 git_rfc2822_text t = print_pieces decimal rfc2822_layout t
 
@@ -55,7 +55,7 @@ git_rfc2822_text t = print_pieces decimal rfc2822_layout t
 abbrev pub iso8601_pattern : List ℕ
 iso8601_pattern = codes "%Y-%m-%d %H:%M:%S %z"
 
--- the text of a clock by `ISO8601`, such as `2022-08-08 12:45:06 +0800`
+-- the clock's text by `ISO8601`: `2022-08-08 12:45:06 +0800`
 abbrev pub iso8601_text : LocalTime → List ℕ
 iso8601_text t = print_pieces two_digits iso8601_layout t
 
@@ -63,7 +63,7 @@ iso8601_text t = print_pieces two_digits iso8601_layout t
 abbrev pub iso8601_strict_pattern : List ℕ
 iso8601_strict_pattern = codes "%Y-%m-%dT%H:%M:%S%:z"
 
--- the text of a clock by `ISO8601_STRICT`, such as `2022-08-08T12:45:06+08:00`
+-- the clock's text by `ISO8601_STRICT`: `2022-08-08T12:45:06+08:00`
 abbrev pub iso8601_strict_text : LocalTime → List ℕ
 iso8601_strict_text t = print_pieces two_digits iso8601_strict_layout t
 
@@ -71,7 +71,7 @@ iso8601_strict_text t = print_pieces two_digits iso8601_strict_layout t
 abbrev pub gitoxide_pattern : List ℕ
 gitoxide_pattern = codes "%a %b %d %Y %H:%M:%S %z"
 
--- the text of a clock by `GITOXIDE`, such as `Mon Aug 08 2022 12:45:06 +0800`
+-- the clock's text by `GITOXIDE`: `Mon Aug 08 2022 12:45:06 +0800`
 abbrev pub gitoxide_text : LocalTime → List ℕ
 gitoxide_text t = print_pieces two_digits gitoxide_layout t
 
@@ -79,7 +79,7 @@ gitoxide_text t = print_pieces two_digits gitoxide_layout t
 abbrev pub default_pattern : List ℕ
 default_pattern = codes "%a %b %-d %H:%M:%S %Y %z"
 
--- the text of a clock by `DEFAULT`, such as `Mon Aug 8 12:45:06 2022 +0800`
+-- the clock's text by `DEFAULT`: `Mon Aug 8 12:45:06 2022 +0800`
 abbrev pub default_text : LocalTime → List ℕ
 default_text t = print_pieces decimal default_layout t
 

@@ -21,18 +21,20 @@ use Rattle.gix_date.specs.declared.parsing.raw.RawOffsets.{RawOffsets}
 use Rattle.gix_date.specs.declared.parsing.raw.RawOffsets.TheVariants.{Quarter, WholeMinutes}
 use Rattle.gix_date.specs.declared.time.Time.{Time}
 
--- the time converts, its own clock is ordinary, and its offset is within 23:59: its printed texts come back
+-- the time's printed texts are parsed back: it converts, its own clock shows four-digit fields, and its offset is
+-- within 23:59
 pub record RoundTrips (t : Time) : Type 0 where
   pub converts : IsConvertible t
   pub four_digits : HasFourDigitFields t
   pub within : unsigned_abs t.offset ≤ max_date_offset
 
--- the pattern prints this text of what the time's own clock shows, and the text is parsed back to the time by the rule
+-- the pattern's text is parsed back: the pattern prints this text of what the time's own clock shows, and the text is
+-- parsed back to the time by the rule
 pub record RoundTripsBy (rule : OffsetRule) (pattern : List ℕ) (text : LocalTime → List ℕ) (t : Time) : Type 0 where
   pub printed : IsPrintedAs pattern text t
   pub parsed : first_family_by rule (text (clock_of t)) ≡ Some (Absolute t)
 
--- the time is read back from each of the six named formats that have a clock
+-- the time is read back from each format: from each of the six named formats that have a clock
 pub record RoundTripsByEach (rule : OffsetRule) (t : Time) : Type 0 where
   pub iso8601 : RoundTripsBy rule iso8601_pattern iso8601_text t
   pub iso8601_strict : RoundTripsBy rule iso8601_strict_pattern iso8601_strict_text t
@@ -41,63 +43,63 @@ pub record RoundTripsByEach (rule : OffsetRule) (t : Time) : Type 0 where
   pub gitoxide : RoundTripsBy rule gitoxide_pattern gitoxide_text t
   pub by_default : RoundTripsBy rule default_pattern default_text t
 
--- each time that round-trips is read back from each of the six named formats that have a clock
+-- each time that `RoundTrips` is read back: from each of the six named formats that have a clock
 abbrev pub TimesRoundTrip : OffsetRule → Type 0
 TimesRoundTrip rule = (t : Time) → RoundTrips t → RoundTripsByEach rule t
 
--- the pattern of one of the six named formats that have a clock
+-- one of six named patterns with a clock
 abbrev pub HasClock : List ℕ → Type 0
 HasClock pattern =
     (pattern ≡ iso8601_pattern) ⊎ (pattern ≡ iso8601_strict_pattern) ⊎ (pattern ≡ rfc2822_pattern)
     ⊎ (pattern ≡ git_rfc2822_pattern) ⊎ (pattern ≡ gitoxide_pattern) ⊎ (pattern ≡ default_pattern)
 
--- the result is a text that is parsed back to the time, or `Memory` for it
+-- a text that is parsed back, or `Memory`: to the time, or for the text
 abbrev pub RoundTripsAs : OffsetRule → Time → Result (String Global) Error → Type 0
 RoundTripsAs rule t result =
     MatchResult result (λ text. first_family_by rule (string_bytes text) ≡ Some (Absolute t)) (λ e. e ≡ Memory)
 
--- by each pattern that `HasClock` the time `RoundTripsAs`
+-- each pattern with a clock round trips: by each pattern that `HasClock` the time `RoundTripsAs`
 abbrev pub RoundTripsByPattern : OffsetRule → Time → Type 0
 RoundTripsByPattern rule t =
     (pattern : List ℕ) (result : Result (String Global) Error) → HasClock pattern → PrintsPattern t pattern result
     → RoundTripsAs rule t result
 
--- the offset is quarters of an hour, less than 15 hours either way
+-- quarters of an hour, below 15 hours: the offset, either way
 pub record IsRawOffset (offset : ℤ) : Type 0 where
   pub quarters : unsigned_abs offset % 900 ≡ 0
   pub short : unsigned_abs offset < 54_000
 
--- the offset is whole minutes, less than a day either way
+-- whole minutes, below a day: the offset, either way
 pub record IsWideOffset (offset : ℤ) : Type 0 where
   pub minutes : unsigned_abs offset % seconds_per_minute ≡ 0
   pub short : unsigned_abs offset < seconds_per_day
 
--- the offset of a raw text by the rule of this name
+-- the rule of this name allows the offset: the offset of a raw text
 abbrev pub IsRuleOffset : RawOffsets → ℤ → Type 0
 IsRuleOffset Quarter = IsRawOffset
 IsRuleOffset WholeMinutes = IsWideOffset
 
--- the midnight in UTC of the day that the time's own clock shows
+-- the midnight of the shown day: in UTC, of the day that the time's own clock shows
 abbrev pub midnight_of : Time → ℤ
 midnight_of t = pos seconds_per_day *ℤ local_day t
 
--- the answer for the day that the time's own clock shows: its midnight in UTC, or `NoInstant` without an instant,
--- as for 9999-12-31
+-- the answer for the shown day: the midnight in UTC of the day that the time's own clock shows, or `NoInstant` without
+-- an instant, as for 9999-12-31
 abbrev pub day_read_back : Time → FamilyAnswer
 day_read_back t = if is_instant (midnight_of t) then Absolute (utc_time (midnight_of t)) else NoInstant
 
--- the header text is parsed back to the time, if the rule allows the offset
+-- the header text is parsed back: to the time, if the rule allows the offset
 abbrev pub HeaderRoundTrips : RawOffsets → Time → Type 0
 HeaderRoundTrips raw t =
     IsRuleOffset raw t.offset
     → IsSomeAnd (header_text t) (λ text. first_family_by (allows raw) text ≡ Some (Absolute t))
 
--- the decimal text of seconds from 100000000 on is parsed back to them
+-- decimal seconds are parsed back: seconds from 100000000 on
 abbrev pub SecondsRoundTrip : RawOffsets → ℤ → Type 0
 SecondsRoundTrip raw seconds =
     min_bare_epoch ≤ℤ seconds
     → first_family_by (allows raw) (decimal_text seconds) ≡ Some (Absolute (utc_time seconds))
 
--- the day that the time's own clock shows is parsed by `day_read_back`
+-- the shown day is parsed by `day_read_back`: the day that the time's own clock shows
 abbrev pub ShortReadsAsMidnight : OffsetRule → Time → Type 0
 ShortReadsAsMidnight rule t = first_family_by rule (short_text (clock_of t)) ≡ Some (day_read_back t)

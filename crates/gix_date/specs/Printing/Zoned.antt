@@ -23,7 +23,7 @@ abbrev pub IsConvertible : Time → Type 0
 IsConvertible t =
     IsBetween (neg_ℤ max_zone_offset) max_zone_offset t.offset × IsBetween first_second last_second t.seconds
 
--- the seconds are an instant's: from -377705023201 to 253402207200
+-- these seconds are an instant's: from -377705023201 to 253402207200
 abbrev pub is_instant : ℤ → Bool
 is_instant seconds = le_z first_second seconds && le_z seconds last_second
 
@@ -31,7 +31,7 @@ is_instant seconds = le_z first_second seconds && le_z seconds last_second
 abbrev pub is_convertible : Time → Bool
 is_convertible t = le_z (neg_ℤ max_zone_offset) t.offset && le_z t.offset max_zone_offset && is_instant t.seconds
 
--- the zoned value is the time's instant, in the zone that always has its offset
+-- the zoned value is the time's instant: in the zone that always has its offset
 pub record IsMoment (t : Time) (z : Zoned) : Type 0 where
   pub instant : zoned_nanos z ≡ nanos_of_seconds t.seconds
   pub offset_is : (plain_zoned z).offset.seconds ≡ t.offset
@@ -41,10 +41,11 @@ pub record IsMoment (t : Time) (z : Zoned) : Type 0 where
 abbrev pub whole_seconds : ℤ → ℤ
 whole_seconds instant = int_div instant (pos 1_000_000_000)
 
--- the whole seconds of an instant in nanoseconds, cut towards 1970, with offset 0
+-- an instant as a time in UTC: the whole seconds of an instant in nanoseconds, cut towards 1970, with offset 0
 abbrev pub time_in_utc : ℤ → Time
 time_in_utc instant = record { seconds = whole_seconds instant; offset = pos 0 }
 
--- the whole seconds of an instant in nanoseconds, cut towards 1970, with the zone's offset there
+-- an instant as a time in a zone: the whole seconds of an instant in nanoseconds, cut towards 1970, with the zone's
+-- offset there
 abbrev pub time_in : TimeZone → ℤ → Time
 time_in zone instant = record { seconds = whole_seconds instant; offset = offset_at zone instant }

@@ -20,7 +20,7 @@ use Rattle.gix_date.specs.declared.time.Time.{Time}
 pub data RelativeDate : Type 0 where
   -- so many seconds before the moment
   MinusSeconds : ℤ → RelativeDate
-  -- one pair of count and unit after the other subtracted from the moment
+  -- pairs of count and unit, subtracted in turn: from the moment
   MinusPairs : List (ℤ × TimeUnit) → RelativeDate
 
 -- the relative dates by their names
@@ -37,11 +37,11 @@ named_date name = named_in date_names name
 unfoldable pub pairs_date : List ℕ → Option RelativeDate
 pairs_date text = if are_pairs (relative_words text) then Some (MinusPairs (pairs (relative_words text))) else None
 
--- what the text asks for; `None` if it is not relative
+-- the relative date of a text: `None` if it is not relative
 unfoldable pub relative_date : List ℕ → Option RelativeDate
 relative_date text = option_or (named_date (trim text)) (pairs_date text)
 
--- the date names this instant in the zone, counted from the instant `moment`, both in nanoseconds
+-- the date names this instant in the zone: counted from the instant `moment`, both in nanoseconds
 abbrev pub Reaches : RelativeDate → TimeZone → ℤ → ℤ → Type 0
 Reaches (MinusSeconds seconds) tz moment instant = (instant ≡ moment -ℤ nanos_of_seconds seconds) × IsTimestampNanos instant
 Reaches (MinusPairs list) tz moment instant = (start : ℤ) × Resolves tz moment start × Chain tz list start instant
@@ -53,13 +53,13 @@ pub record IsNamed (date : RelativeDate) (moment : Zoned) (t : Time) : Type 0 wh
   pub seconds_is : t.seconds ≡ whole_seconds instant
   pub offset_is : t.offset ≡ offset_at (zone_of moment) instant
 
--- what a relative date results in: a time that `IsNamed`; `Range` if there is none; `MissingNow` without a moment
+-- the result for a relative date: a time that `IsNamed`; `Range` if there is none; `MissingNow` without a moment
 abbrev pub RelativeOutcome : RelativeDate → Option Zoned → Result Time ParseError → Type 0
 RelativeOutcome date None result = result ≡ Err MissingNow
 RelativeOutcome date (Some moment) (Ok t) = IsNamed date moment t
 RelativeOutcome date (Some moment) (Err e) = (e ≡ Range) × ((t : Time) → ¬ (IsNamed date moment t))
 
--- a relative date names at most one time from a moment
+-- a relative date names at most one time: from a moment
 abbrev pub AreNamedOnce : Type 0
 AreNamedOnce =
     (date : RelativeDate) (moment : Zoned) (a b : Time) → IsNamed date moment a → IsNamed date moment b → a ≡ b

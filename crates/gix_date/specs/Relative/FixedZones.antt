@@ -22,19 +22,19 @@ IsUnitOfSeconds unit =
 abbrev pub IsUnitOfMonths : ℤ → Type 0
 IsUnitOfMonths unit = (unit ≡ pos 1) ⊎ (unit ≡ pos 12)
 
--- a count, which is never negative, and the seconds of a second, minute, hour, day or week
+-- a count and a unit of seconds: the count is never negative, the unit a second, minute, hour, day or week
 abbrev pub IsSecondsPair : ℤ × ℤ → Type 0
 IsSecondsPair (count, unit) = (pos 0 ≤ℤ count) × IsUnitOfSeconds unit
 
--- a count, which is never negative, and the months of a month or a year
+-- a count and a unit of months: the count is never negative, the unit a month or a year
 abbrev pub IsMonthsPair : ℤ × ℤ → Type 0
 IsMonthsPair (count, unit) = (pos 0 ≤ℤ count) × IsUnitOfMonths unit
 
--- what a relative text of pairs of seconds asks for
+-- the relative date of pairs of seconds
 abbrev pub less_seconds : List (ℤ × ℤ) → RelativeDate
 less_seconds pairs = MinusPairs (map (λ p. (p.0, Seconds p.1)) pairs)
 
--- what a relative text of pairs of months asks for
+-- the relative date of pairs of months
 abbrev pub less_months : List (ℤ × ℤ) → RelativeDate
 less_months pairs = MinusPairs (map (λ p. (p.0, Months p.1)) pairs)
 
@@ -51,47 +51,49 @@ total (pair ∷ more) = product pair +ℤ total more
 abbrev pub ProductFits : ℤ × ℤ → Type 0
 ProductFits pair = FitsSigned w64 (product pair)
 
--- the date names this instant from the moment, in nanoseconds
+-- the date names this instant: from the moment, in nanoseconds
 abbrev pub Names : RelativeDate → Zoned → ℤ → Type 0
 Names date moment instant = Reaches date (zone_of moment) (zoned_nanos moment) instant
 
--- both dates name the same instant from the moment, or neither names one
+-- both dates name the same instant, or none: from the moment
 abbrev pub NamesAlike : Zoned → RelativeDate → RelativeDate → Type 0
 NamesAlike moment a b = (instant : ℤ) → Names a moment instant ↔ Names b moment instant
 
--- the instant is the moment less the sum of the pairs, and an `i64` holds each product
+-- the instant is the moment less the pairs: less their sum, and an `i64` holds each product
 abbrev pub IsSecondsBefore : List (ℤ × ℤ) → Zoned → ℤ → Type 0
 IsSecondsBefore pairs moment instant =
     (instant ≡ zoned_nanos moment -ℤ nanos_of_seconds (total pairs)) × All ProductFits pairs × IsTimestampNanos instant
 
--- the time so many seconds earlier, with the same offset
+-- the time so many seconds earlier: with the same offset
 abbrev pub earlier : Time → ℤ → Time
 earlier t seconds = record { seconds = t.seconds -ℤ seconds; offset = t.offset }
 
--- from each moment of the time the date names the time so many seconds earlier, if it has an instant, and nothing else
+-- the date names this many seconds earlier: from each moment of the time it names the time so many seconds earlier, if
+-- it has an instant, and nothing else
 abbrev pub NamesEarlier : RelativeDate → Time → ℤ → Type 0
 NamesEarlier date t seconds =
     (moment : Zoned) → IsMoment t moment
     → (r : Time) → IsNamed date moment r ↔ ((r ≡ earlier t seconds) × (is_instant r.seconds ≡ true))
 
--- the date names the time of the instant so many seconds before the moment, if it is one, and nothing else
+-- the date names this many seconds before: the time of the instant so many seconds before the moment, if it is one, and
+-- nothing else
 abbrev pub NamesBefore : RelativeDate → Zoned → ℤ → Type 0
 NamesBefore date moment seconds =
     let instant = zoned_nanos moment -ℤ nanos_of_seconds seconds in
     (t : Time) → IsNamed date moment t ↔ ((t ≡ time_in (zone_of moment) instant) × IsTimestampNanos instant)
 
--- the pairs of seconds name the moment less their sum, and nothing else
+-- pairs subtract their sum: the pairs of seconds name the moment less their sum, and nothing else
 abbrev pub NamesSum : List (ℤ × ℤ) → Zoned → Type 0
 NamesSum pairs moment =
     (instant : ℤ) → Names (less_seconds pairs) moment instant ↔ IsSecondsBefore pairs moment instant
 
--- the pairs of seconds name the same in any order
+-- pairs of seconds mean the same in any order
 abbrev pub IgnoresOrder : List (ℤ × ℤ) → Zoned → Type 0
 IgnoresOrder pairs moment =
     (other : List (ℤ × ℤ)) → IsPermutation pairs other
     → NamesAlike moment (less_seconds pairs) (less_seconds other)
 
--- the relative text names no instant after the moment
+-- the text names no instant after the moment
 abbrev pub NamesNoneLater : List ℕ → Zoned → Type 0
 NamesNoneLater text moment =
     (date : RelativeDate) (instant : ℤ) → relative_date text ≡ Some date → Names date moment instant

@@ -33,13 +33,14 @@ AllUnits words =
 abbrev pub ArePairs : List (List ℕ) → Type 0
 ArePairs words = HasPair words × (AllUnits words ⊎ HasFlag words)
 
--- the trimmed text is the name of this date, in any letter case; or its words are pairs, and the date subtracts these
+-- the text writes this relative date: trimmed it is the date's name, in any letter case; or its words are pairs, and
+-- the date subtracts these
 abbrev pub IsRelativeText : List ℕ → RelativeDate → Type 0
 IsRelativeText text date =
     (named_in date_names (trim text) ≡ Some date)
     ⊎ (ArePairs (relative_words text) × (date ≡ MinusPairs (pairs (relative_words text))))
 
--- `relative_date` gives the text a date iff `IsRelativeText` does
+-- both definitions of relative texts agree: `relative_date` gives the text a date iff `IsRelativeText` does
 abbrev pub IsSpelledSo : List ℕ → Type 0
 IsSpelledSo text = (date : RelativeDate) → (relative_date text ≡ Some date) ↔ IsRelativeText text date
 
@@ -47,7 +48,8 @@ abbrev pub is_even : ℕ → Bool
 is_even zero = true
 is_even (suc n) = not (is_even n)
 
--- the word after some words is no period iff an even number of count words stands directly before it
+-- a word's role by parity: the word after some words is no period iff an even number of count words stands directly
+-- before it
 abbrev pub AreFreeByParity : Type 0
 AreFreeByParity =
     (front : List (List ℕ)) → next_is_free front ≡ is_even (prefix_len is_count_word (reverse front))

@@ -20,20 +20,20 @@ IsLocal tz instant shown = civil_nanos shown ≡ instant +ℤ nanos_of_seconds (
 abbrev pub civil_of : ℤ → Time → ℤ
 civil_of day time = day *ℤ pos 86_400_000_000_000 +ℤ pos (time_nanos time)
 
--- the zone chooses this instant for the date and clock of these nanoseconds
+-- the zone chooses this instant for a clock: for the date and clock of these nanoseconds
 pub record IsPicked (tz : TimeZone) (civil instant : ℤ) : Type 0 where
   pub shown : DateTime
   pub civil_is : civil_nanos shown ≡ civil
   pub is_choice : instant ≡ picked_instant tz shown
   pub in_range : IsTimestampNanos instant
 
--- the zone chooses the instant `after` for what its clock shows at `instant`
+-- the zone chooses `after` for `instant`'s clock: for what its clock shows at `instant`
 pub record Resolves (tz : TimeZone) (instant after : ℤ) : Type 0 where
   pub local : DateTime
   pub local_is : IsLocal tz instant local
   pub picked : IsPicked tz (civil_nanos local) after
 
--- so many seconds before `instant` the zone chooses `after`
+-- so many seconds back lead to `after`: so many seconds before `instant` the zone chooses `after`
 pub record SecondsStep (tz : TimeZone) (seconds instant after : ℤ) : Type 0 where
   pub in_range : IsTimestampNanos (instant -ℤ nanos_of_seconds seconds)
   pub resolves : Resolves tz (instant -ℤ nanos_of_seconds seconds) after
@@ -51,7 +51,8 @@ rolled_day number date = month_start number +ℤ (pos date.day -ℤ pos 1)
 abbrev pub month_before : Date → ℤ → ℤ
 month_before date months = month_number date -ℤ months
 
--- for the day and clock so many months before those at `instant` the zone chooses `after`
+-- so many months back lead to `after`: for the day and clock so many months before those at `instant` the zone chooses
+-- `after`
 pub record MonthsStep (tz : TimeZone) (months instant after : ℤ) : Type 0 where
   pub local : DateTime
   pub local_is : IsLocal tz instant local
@@ -66,7 +67,7 @@ PairStep tz (count, Seconds size) instant after =
 PairStep tz (count, Months size) instant after =
     FitsSigned w64 (count *ℤ size) × MonthsStep tz (count *ℤ size) instant after
 
--- the pairs, one after the other, lead from `instant` back to `after`
+-- the pairs lead from `instant` back to `after`: one after the other
 abbrev pub Chain : TimeZone → List (ℤ × TimeUnit) → ℤ → ℤ → Type 0
 Chain tz [] instant after = after ≡ instant
 Chain tz (pair ∷ more) instant after = (between : ℤ) × PairStep tz pair instant between × Chain tz more between after

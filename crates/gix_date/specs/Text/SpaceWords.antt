@@ -10,7 +10,7 @@ white_space = 0x09 ∷ 0x0a ∷ 0x0b ∷ 0x0c ∷ 0x0d ∷ 0x20 ∷ 0x85 ∷ 0xa
     ∷ 0x2000 ∷ 0x2001 ∷ 0x2002 ∷ 0x2003 ∷ 0x2004 ∷ 0x2005 ∷ 0x2006 ∷ 0x2007 ∷ 0x2008 ∷ 0x2009 ∷ 0x200a
     ∷ 0x2028 ∷ 0x2029 ∷ 0x202f ∷ 0x205f ∷ 0x3000 ∷ []
 
--- the standard library's white space is `white_space`
+-- the standard library's white space is Unicode's: `white_space`
 abbrev pub StdWhiteSpaceIsUnicodes : Type 0
 StdWhiteSpaceIsUnicodes = (c : ℕ) → is_whitespace c ≡ char_set_contains white_space c
 

@@ -17,8 +17,8 @@ ghost use Rattle.gix_date.specs.declared.error.Error.TheVariants as errors;
 
 use crate::error::Error;
 use crate::time::named::{
-    DEFAULT_PATTERN, GIT_RFC2822_PATTERN, GITOXIDE_PATTERN, ISO8601_PATTERN, ISO8601_STRICT_PATTERN,
-    RFC2822_PATTERN, SHORT_PATTERN, copy_text, fast_text,
+    DEFAULT_PATTERN, GIT_RFC2822_PATTERN, GITOXIDE_PATTERN, ISO8601_PATTERN,
+    ISO8601_STRICT_PATTERN, RFC2822_PATTERN, SHORT_PATTERN, copy_text, fast_text,
 };
 use crate::time::{Time, header_text};
 use jiff::fmt::strtime::{BrokenDownTime, Config, to_string};

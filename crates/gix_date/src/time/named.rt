@@ -26,11 +26,17 @@ use std::alloc::Global;
 
 // The patterns of the named formats: those of `crate::time::format` have them, and the fast path matches them.
 pub(crate) const SHORT_PATTERN: &str = "%Y-%m-%d";
+
 pub(crate) const ISO8601_PATTERN: &str = "%Y-%m-%d %H:%M:%S %z";
+
 pub(crate) const ISO8601_STRICT_PATTERN: &str = "%Y-%m-%dT%H:%M:%S%:z";
+
 pub(crate) const RFC2822_PATTERN: &str = "%a, %d %b %Y %H:%M:%S %z";
+
 pub(crate) const GIT_RFC2822_PATTERN: &str = "%a, %-d %b %Y %H:%M:%S %z";
+
 pub(crate) const GITOXIDE_PATTERN: &str = "%a %b %d %Y %H:%M:%S %z";
+
 pub(crate) const DEFAULT_PATTERN: &str = "%a %b %-d %H:%M:%S %Y %z";
 
 /// The most seconds that the offset of a zone has, either way.
@@ -432,7 +438,7 @@ pub(crate) fn copy_text(alloc: Global, text: &str) -> Result<String, Error>
     }
 }
 
-/// What a named pattern prints of a time, where it is known. Saves some 2650 of 3280 instructions, which `jiff` needs to
+/// What a named pattern prints of a time, where it is known. Saves some 2650 instructions, which `jiff` needs to
 /// interpret the pattern.
 pub(crate) fn fast_text(alloc: Global, pattern: &str, time: Time) -> Option<Result<String, Error>>
     ensures { IfSome result (PrintsPattern time pattern.now) }

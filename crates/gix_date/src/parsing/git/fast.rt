@@ -12,7 +12,7 @@ use crate::time::{MAX_HOUR, MAX_MINUTE, MAX_SECOND};
 
 /// The clock of a trimmed text, and the fields of its offset, in the usual form: `HH:MM:SS` or `HHMMSS`, perhaps a dot
 /// and any digits, perhaps one space, and then `±HHMM` or `±HH:MM`. It is read in one pass, without a search for the cut.
-/// `None` means only that the text has another form, or a clock that no day has. Saves 667 of 1334 instructions.
+/// `None` means only that the text has another form, or a clock that no day has. Saves 667 instructions.
 pub(crate) fn fast_rest(text: &str) -> Option<(ClockFields, OffsetFields)>
     ensures rest { IfSome result (λ found. IsRest text.now found.0 found.1) }
     ensures fits { IfSome result (λ found. ClockFits found.0) }

@@ -1,4 +1,4 @@
-use Rattle.gix_date_vectors.proofs.caller.resolved.Goals as goal
+use Rattle.gix_date_vectors.proofs.more_callers.resolved.Goals as goal
 
 -- the moment is the one that was handed in
 pub returns : goal.returns

@@ -12,7 +12,7 @@ use Rattle.gix_date.specs.declared.error.Error.TheVariants.{Range}
 use Rattle.gix_date.specs.declared.error.ParseError.{ParseError}
 use Rattle.gix_date.specs.declared.time.Time.{Time}
 use Rattle.jiff.specs.declared.zoned.Zoned.{Zoned}
-use Rattle.gix_date_vectors.proofs.caller.day_before.Goals as goal
+use Rattle.gix_date_vectors.proofs.more_callers.day_before.Goals as goal
 
 -- which answer that text has: it computes
 yesterday-is : first_family (codes "yesterday") ≡ Some (Relative (MinusSeconds (pos 86_400)))

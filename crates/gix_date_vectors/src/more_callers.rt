@@ -1,0 +1,239 @@
+//! More callers of `gix_date`: docs/CALLING.md says what each is for.
+ghost use Rattle.std.specs.Prelude.{◌≡◌, ◌≢◌, ◌↔◌, ◌<◌, ◌-ℤ◌, pos, true, false, IsTrue, IsSome, Some, None, Err, Ok, IfSome, IfNone, IsOk, IsOkAnd, IsSomeAnd, IfOk, MatchResult, option_map, replicate, string_bytes, ℤ};
+ghost use Rattle.std.specs.Str.{IsUtf8};
+ghost use Rattle.gix_date.specs.Families.Answer.{Absolute, Relative};
+ghost use Rattle.gix_date.specs.Header.Canonical.{is_canonical_header};
+ghost use Rattle.gix_date.specs.Families.Epoch.{epoch_time};
+ghost use Rattle.gix_date.specs.Families.Order.{first_family, first_family_by, ParseOutcome};
+ghost use Rattle.gix_date.specs.Relative.FixedZones.{earlier};
+ghost use Rattle.gix_date.specs.Header.Reading.{header_time};
+ghost use Rattle.gix_date.specs.Header.Text.{header_text};
+ghost use Rattle.gix_date.specs.Printing.Formats.{PrintsOrSeconds, PrintsPatternOrSeconds};
+ghost use Rattle.gix_date.specs.Families.Raw.{is_wide_offset, raw_time, raw_time_by};
+ghost use Rattle.gix_date.specs.Printing.ReadingBack.{RoundTrips, IsWideOffset, HasClock};
+ghost use Rattle.gix_date.specs.Relative.Dates.{RelativeDate, relative_date};
+ghost use Rattle.gix_date.specs.Devices.TimeBuf.{text_in};
+ghost use Rattle.gix_date.specs.Printing.Zoned.{IsConvertible, is_instant, time_in, time_in_utc};
+ghost use Rattle.gix_date.specs.declared.error.Error.TheVariants.{Memory, OffsetTooWide, Range};
+ghost use Rattle.gix_date.specs.declared.time.Time.{Time as Read};
+ghost use Rattle.gix_date.specs.declared.time.format.Format.TheVariants.{Custom};
+ghost use Rattle.jiff.specs.Words.{plain_zone};
+ghost use Rattle.jiff.specs.declared.zoned.Zoned.{Zoned as Moment};
+
+use crate::caller::date_typed;
+use gix_date::bytes::text_of;
+use gix_date::device::Device;
+use gix_date::parsing::TimeBuf;
+use gix_date::time::CustomFormat;
+use gix_date::time::format::{DEFAULT, GIT_RFC2822, GITOXIDE, ISO8601, ISO8601_STRICT, RFC2822};
+use gix_date::{
+    Error, ParseError, RawOffsets, Time, is_canonical_header, laws, parse, parse_header,
+    parse_no_alloc, parse_with,
+};
+use jiff::tz::{SystemTimeZone, TimeZone, TimeZoneDatabase};
+use jiff::{Timestamp, Zoned};
+use std::alloc::{AllocError, AllocGlobal, Global};
+use std::rt::{Env, Files};
+use std::time::Clock;
+
+/// The text of a commit header in memory. It is refused where the time has none, and when out of memory, which is the
+/// fault of the `Vec` that is written to.
+pub fn header_bytes(alloc: Global, time: Time) -> Result<Vec<u8>, Error>
+    ensures text { IfOk result (λ bytes. header_text time ≡ Some bytes.items) }
+    ensures wide { header_text time ≡ None → result ≡ Err OffsetTooWide }
+{
+    let mut out = Device::new(Vec::new(alloc));
+    time.write_to(&mut out)?;
+    Ok(out.into_inner())
+}
+
+/// The time of a header in bytes, such as a line of a commit. None for bytes that are not UTF-8.
+pub fn header_in_bytes(header: &[u8]) -> Option<Time>
+    ensures text { IsUtf8 header.now → result ≡ header_time header.now }
+    ensures other { ¬ (IsUtf8 header.now) → result ≡ None }
+{
+    parse_header(text_of(header)?)
+}
+
+/// The time of a header that is written as Git writes it, and of no other.
+pub fn read_canonical(header: &str) -> Option<Time>
+    ensures some { IfSome result (λ t. (header_time header.now ≡ Some t) × (is_canonical_header header.now ≡ true)) }
+    ensures none { IfNone result (is_canonical_header header.now ≢ true) }
+{
+    laws::canonical(header);
+    if !is_canonical_header(header) {
+        return None;
+    }
+    parse_header(header)
+}
+
+/// A time whose offset is whole minutes short of a day, written as in a header and parsed as a date: the same. No
+/// memory is taken.
+pub fn kept_in_date(alloc: Global, time: Time) -> Result<Time, Error>
+    requires { IsWideOffset time.offset }
+    ensures { result ≡ Ok time }
+{
+    laws::raw_read_back_wide(time);
+    let buf = time.to_buf()?;
+    parse_with(alloc, buf.as_str(), None, RawOffsets::WholeMinutes)
+}
+
+/// The time of a date as programs store it, seconds and an offset, also where that is of odd minutes, as in some
+/// commits.
+pub fn stored_date(alloc: Global, date: &str) -> Result<Time, Error>
+    ensures raw { (t : Read) → raw_time_by is_wide_offset date.now ≡ Some t → result ≡ Ok t }
+    ensures outcome { ParseOutcome (first_family_by is_wide_offset date.now) date.now None result }
+{
+    gix_date_laws::comes_first(date, RawOffsets::WholeMinutes);
+    parse_with(alloc, date, None, RawOffsets::WholeMinutes)
+}
+
+/// Whether a date is read from the moment, so that it has to be handed in: never for what programs store, which are raw
+/// texts and bare epochs. No memory is taken, also where the text is no date.
+pub fn asks_for_a_moment(date: &str) -> bool
+    ensures raw { (t : Read) → raw_time date.now ≡ Some t → result ≡ false }
+    ensures epoch { (t : Read) → epoch_time date.now ≡ Some t → result ≡ false }
+    ensures relative { IsTrue result → IsSome (relative_date date.now) }
+    ensures asks { (counts : RelativeDate) → first_family date.now ≡ Some (Relative counts) → result ≡ true }
+    ensures absolute { (t : Read) → first_family date.now ≡ Some (Absolute t) → result ≡ false }
+{
+    laws::disjoint(date);
+    gix_date_laws::comes_first(date, RawOffsets::Quarter);
+    parse_no_alloc(date, None, RawOffsets::Quarter) == Err(ParseError::MissingNow)
+}
+
+/// The time of a date that means the same at any moment.
+pub fn absolute_date(alloc: Global, date: &str) -> Result<Time, Error>
+    ensures absolute { IfOk result (λ t. first_family date.now ≡ Some (Absolute t)) }
+    ensures outcome { ParseOutcome (first_family date.now) date.now None result }
+{
+    parse(alloc, date, None)
+}
+
+/// The time of a revision's date, as of the words in `@{2 days ago}`, by the machine's clock and in its zone, or why
+/// the date has none. The fault of `jiff` where clock or zone are not read.
+///
+/// A program hands in its own runtime, as `resolved(&rt, date)` in `main`.
+pub fn resolved<R: Clock + Env + Files + AllocGlobal + Clone + Drop>(
+    rt: &R,
+    date: &str,
+) -> Result<Result<Time, Error>, jiff::Error>
+    ensures { IfOk result (λ answer. (moment : Moment)
+        × ParseOutcome (first_family date.now) date.now (Some moment) answer) }
+{
+    let zones = TimeZoneDatabase::from_env(rt)?;
+    let named = SystemTimeZone::read(rt)?;
+    let now = Zoned::now(rt, named.time_zone(&zones)?)?;
+    Ok(parse(rt.alloc(), date, Some(now)))
+}
+
+/// The date of a line in a log, or the seconds of a time that has no text in that format. It fails only when out of
+/// memory.
+pub fn log_date(alloc: Global, time: Time, format: CustomFormat) -> Result<String, Error>
+    ensures { PrintsOrSeconds time (Custom format) result }
+{
+    time.format_or_unix(alloc, format.into())
+}
+
+/// The same by a pattern that a user wrote, as that of `git log --date=format:..`.
+pub fn log_date_by(alloc: Global, time: Time, pattern: &str) -> Result<String, Error>
+    ensures { PrintsPatternOrSeconds time pattern.now result }
+{
+    time.format_by_pattern_or_unix(alloc, pattern)
+}
+
+/// The text by which a program stores a time, in one of the six named formats with a clock; `None` for a time that need
+/// not be read back from it. It fails only when out of memory.
+pub fn store(alloc: Global, time: Time, format: CustomFormat) -> Result<Option<String>, Error>
+    requires { HasClock format.pattern.now }
+    ensures some { RoundTrips time → MatchResult result (λ stored. IsSomeAnd stored (λ text. first_family (string_bytes text) ≡ Some (Absolute time))) (λ e. e ≡ Memory) }
+    ensures none { ¬ (RoundTrips time) → result ≡ Ok None }
+{
+    if !time.round_trips() {
+        return Ok(None);
+    }
+    laws::read_back(time);
+    Ok(Some(time.format(alloc, format.into())?))
+}
+
+/// The time that was stored as this text, at any moment or none.
+pub fn load(alloc: Global, text: &str, now: Option<Zoned<'_>>) -> Result<Time, Error>
+    ensures { (t : Read) → first_family text.now ≡ Some (Absolute t) → result ≡ Ok t }
+{
+    parse(alloc, text, now)
+}
+
+/// A time that was stored by such a format and loaded again: the same time.
+pub fn kept(
+    alloc: Global,
+    time: Time,
+    format: CustomFormat,
+    now: Option<Zoned<'_>>,
+) -> Result<Option<Time>, Error>
+    requires { HasClock format.pattern.now }
+    ensures some { RoundTrips time → MatchResult result (λ back. back ≡ Some time) (λ e. e ≡ Memory) }
+    ensures none { ¬ (RoundTrips time) → result ≡ Ok None }
+{
+    match store(alloc, time, format)? {
+        Some(text) => Ok(Some(load(alloc, &text, now)?)),
+        None => Ok(None),
+    }
+}
+
+/// A time as each of the six keeps it: RFC 2822, the same as Git writes it, ISO 8601 and its strict form, gitoxide's and
+/// Git's default.
+pub fn kept_by_each(
+    alloc: Global,
+    time: Time,
+    now: Option<Zoned<'_>>,
+) -> Result<[Option<Time>; 6], Error>
+    ensures { RoundTrips time → MatchResult result (λ times. times ≡ replicate 6 (Some time)) (λ e. e ≡ Memory) }
+{
+    let mail = kept(alloc, time, RFC2822, now)?;
+    let git_mail = kept(alloc, time, GIT_RFC2822, now)?;
+    let iso = kept(alloc, time, ISO8601, now)?;
+    let strict = kept(alloc, time, ISO8601_STRICT, now)?;
+    let gitoxide = kept(alloc, time, GITOXIDE, now)?;
+    let default = kept(alloc, time, DEFAULT, now)?;
+    Ok([mail, git_mail, iso, strict, gitoxide, default])
+}
+
+/// The time a day before this one, at its offset: what `yesterday` names there, or `Range` where that has no instant.
+pub fn day_before(alloc: Global, time: Time) -> Result<Time, Error>
+    requires { IsConvertible time }
+    ensures time { MatchResult result (λ t. t ≡ earlier time (pos 86_400)) (λ e. e ≡ Range) }
+    ensures exists { IsOk result ↔ (is_instant (time.seconds -ℤ pos 86_400) ≡ true) }
+{
+    gix_date_laws::earlier(time, &[]);
+    date_typed(alloc, "yesterday", time)
+}
+
+/// The time of a commit that is made at this instant in its author's zone, and none where the zone is not known.
+pub fn authored(clock: Timestamp, zone: Option<TimeZone<'_>>) -> Option<Time>
+    ensures { result ≡ option_map (λ z. time_in (plain_zone z) clock.nanosecond) zone.entry }
+{
+    Time::now_local(clock, zone)
+}
+
+/// The time of a commit that a program makes at this instant, in UTC.
+pub fn authored_in_utc(clock: Timestamp) -> Time
+    ensures { result ≡ time_in_utc clock.nanosecond }
+{
+    Time::now_utc(clock)
+}
+
+/// A second buffer with the same text. It takes no memory, so it never fails.
+pub fn doubled(buf: &TimeBuf) -> Result<TimeBuf, AllocError>
+    ensures { IsOkAnd result (λ copy. text_in copy ≡ text_in buf.now) }
+{
+    gix_date_laws::clones();
+    buf.clone()
+}
+
+/// The text of a time, for a log. Where its offset has no text this fails as it does when out of memory; `to_str` tells
+/// the two apart.
+pub fn shown(alloc: Global, time: Time) -> Result<String, AllocError>
+    ensures { IfOk result (λ text. IfSome (header_text time) (λ due. string_bytes text ≡ due)) }
+{
+    format!(in alloc; "{time}")
+}
