@@ -37,7 +37,7 @@ in_zone options = record options { without_offset = MomentsZone }
 abbrev pub IgnoresZone : CarefulOptions → List ℕ → Type 0
 IgnoresZone options text = unzoned_time text ≡ None → careful_reading (in_zone options) text ≡ careful_reading (in_utc options) text
 
--- the zone has offset 0 at all instants
+-- a fixed zone of offset 0
 abbrev pub IsUtc : Zoned → Type 0
 IsUtc moment = IsFixed (zone_of moment) × (offset_at (zone_of moment) (zoned_nanos moment) ≡ pos 0)
 

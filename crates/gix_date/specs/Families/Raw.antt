@@ -14,7 +14,7 @@ use Rattle.gix_date.specs.declared.time.Time.{Time}
 abbrev pub max_raw_hours : ℕ
 max_raw_hours = MAX_HOURS
 
--- the same by the wider rule, 23
+-- the most hours by the wider rule, 23
 abbrev pub max_wide_hours : ℕ
 max_wide_hours = MAX_WIDE_HOURS
 

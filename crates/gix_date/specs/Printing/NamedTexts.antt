@@ -19,7 +19,7 @@ local_time z = record {
   offset = z.offset.seconds;
 }
 
--- the same for a zoned value: its year has four digits, and its offset is whole minutes
+-- a zoned value has a four-digit year and whole minutes: its offset has no seconds
 pub record ShowsFourDigitFields (z : PlainZoned) : Type 0 where
   pub year : ℕ
   pub year_is : z.datetime.date.year ≡ pos year

@@ -21,8 +21,7 @@ use Rattle.gix_date.specs.declared.parsing.raw.RawOffsets.{RawOffsets}
 use Rattle.gix_date.specs.declared.parsing.raw.RawOffsets.TheVariants.{Quarter, WholeMinutes}
 use Rattle.gix_date.specs.declared.time.Time.{Time}
 
--- the time's printed texts are parsed back: it converts, its own clock shows four-digit fields, and its offset is
--- within 23:59
+-- it converts, has four-digit fields and an offset within 23:59: then each named format with a clock is parsed back
 pub record RoundTrips (t : Time) : Type 0 where
   pub converts : IsConvertible t
   pub four_digits : HasFourDigitFields t
