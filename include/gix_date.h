@@ -41,7 +41,7 @@ extern "C" {
 #define GIX_DATE_MAX_HEADER 26
 
 /* How a call ended. Each call lists the statuses that it answers beside GIX_DATE_OK. After these
- * all outputs but *len are unchanged, and *place after GIX_DATE_UNCLEAR. */
+ * only *len changes, and after GIX_DATE_UNCLEAR *place. */
 enum gix_date_status {
     GIX_DATE_OK = 0,
     /* Bytes that have to be UTF-8 are not. */
