@@ -10,7 +10,7 @@ pub use format::{CustomFormat, Format};
 use serde::{Deserialize, Serialize};
 pub(crate) use write::{MAX_TEXT_LEN, header_text, push_hours, push_minutes, push_two_digits};
 
-/// Seconds since 1970-01-01 00:00:00 UTC, negative before.
+/// Seconds since 1970-01-01 00:00:00 UTC, negative before. Git itself reads only dates from 1970 on.
 pub type SecondsSinceUnixEpoch = i64;
 
 /// Seconds that a place's clock is ahead of UTC, negative where it is behind: positive is east.
