@@ -1,5 +1,5 @@
 -- Git's own forms are read where they are so written, and nowhere else.
-use Rattle.std.proofs.Common.{◌≡◌, ◌∙◌, ℕ, ℤ, true, false, List, [], ◌∷◌, ◌++◌, refl, ap, subst, arith, Some, None, Option, inl, inr}
+use Rattle.std.proofs.Common.{◌≡◌, ◌∙◌, ℕ, ℤ, true, false, List, [], ◌∷◌, ◌++◌, refl, ap, subst, arith, Some, None, inl, inr}
 use Rattle.std.proofs.lemmas.Bool.Decides.{nat_tests}
 use Rattle.std.specs.Option.{option_or}
 use Rattle.std.specs.Prelude.{◌==◌}
@@ -21,14 +21,11 @@ use Rattle.gix_date.proofs.Families.Apart.{no_pair}
 use Rattle.gix_date.proofs.Git.ClockCuts.{cut_means, means_cut}
 use Rattle.gix_date.proofs.Fields.FieldsRead.{year-read}
 use Rattle.gix_date.proofs.Fields.FieldsTaken.{went}
-use Rattle.gix_date.proofs.Git.Fronts.{front-taken, joined}
+use Rattle.gix_date.proofs.Git.Fronts.{Gap, front-taken, joined}
 use Rattle.gix_date_laws.proofs.Grammars.{pair-of}
 use Rattle.gix_date_laws.proofs.GitClocks.{clock-is, is-clock}
 use Rattle.gix_date_laws.proofs.GitOffsets.{offset-is, is-offset}
 use Rattle.gix_date.proofs.Fast.FastHeaders.{same_some}
-
-abbrev Gap : Type 0
-Gap = List ℕ → Option (List ℕ)
 
 abbrev IsTaken : Gap → List ℕ → Type 0
 IsTaken gap mark = (rest : List ℕ) → gap (mark ++ rest) ≡ Some rest

@@ -146,7 +146,9 @@ pub fn log_date_by(alloc: Global, time: Time, pattern: &str) -> Result<String, E
 /// not be read back from it. It fails only when out of memory.
 pub fn store(alloc: Global, time: Time, format: CustomFormat) -> Result<Option<String>, Error>
     requires { HasClock format.pattern.now }
-    ensures some { RoundTrips time → MatchResult result (λ stored. IsSomeAnd stored (λ text. first_family (string_bytes text) ≡ Some (Absolute time))) (λ e. e ≡ Memory) }
+    ensures some { RoundTrips time → MatchResult result
+        (λ stored. IsSomeAnd stored (λ text. first_family (string_bytes text) ≡ Some (Absolute time)))
+        (λ e. e ≡ Memory) }
     ensures none { ¬ (RoundTrips time) → result ≡ Ok None }
 {
     if !time.round_trips() {

@@ -11,7 +11,8 @@ use Rattle.gix_date.specs.declared.civil.DateFields.{DateFields}
 use Rattle.gix_date.proofs.Fields.FieldsTaken.{TookFront, went, first-or, year-taken, two-taken, after-taken}
 use Rattle.gix_date.proofs.Fast.FastHeaders.{same_some}
 
-abbrev Gap : Type 0
+-- what stands after a mark or a gap
+abbrev pub Gap : Type 0
 Gap = List ℕ → Option (List ℕ)
 
 -- what the gap takes is the mark

@@ -160,7 +160,7 @@ pub before-fixed : (o : Offset) (result : Option Timestamp) (i n : ℤ) → (IsS
 before-fixed o result i n some value =
     seconds-at (Reaches (MinusSeconds n) (fixed_zone o) i) result i n some value (λ range. (refl, range)) (λ j r. subst IsTimestampNanos r.0 r.1)
 
--- nothing is settled elsewhere, so the pairs lead from the instant itself
+-- nothing is resolved elsewhere, so the pairs lead from the instant itself
 pub pairs-fixed : (o : Offset) (words : List (List ℕ)) (i : ℤ) (result : Option Timestamp) → IsTimestampNanos i
     → IsAtInstant (Chain (fixed_zone o) (pairs_read words) i) result → IsAtInstant (Reaches (MinusPairs (pairs words)) (fixed_zone o) i) result
 pairs-fixed o words i result range h =
