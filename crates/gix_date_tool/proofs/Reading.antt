@@ -1,5 +1,5 @@
 -- What was read and replied to, piece by piece.
-use Rattle.std.proofs.Common.{◌≡◌, ◌≢◌, true, false, inl, inr, ℕ, ◌+◌, ◌<◌, ◌≤◌, List, [], ◌∷◌, ◌++◌, length, refl, sym, ap, ◌∙◌, subst, append_assoc, append-nil, length-append, arith, Option, None, Some, Result, Ok, Err}
+use Rattle.std.proofs.Common.{◌≡◌, ◌≢◌, true, false, inl, inr, ℕ, ◌+◌, ◌≤◌, List, [], ◌∷◌, ◌++◌, length, refl, sym, ap, ◌∙◌, subst, append_assoc, append-nil, length-append, arith, Option, None, Some, Result, Ok, Err}
 use Rattle.std.proofs.lemmas.List.Elements.{All-append, All-nil, All-cons}
 use Rattle.std.specs.Prelude.{All}
 use Rattle.std.specs.Io.KnownBytes.{Keeps, Consumes}
@@ -10,13 +10,13 @@ use Rattle.gix_date_tool.specs.declared.error.ToolError.{ToolError}
 use Rattle.gix_date_tool.specs.declared.error.ToolError.TheVariants as errors
 use Rattle.gix_date_tool.specs.declared.lines.TheConstants.{MAX_LINES}
 use Rattle.gix_date_tool.specs.declared.replies.Query.{Query}
-use Rattle.gix_date_tool.specs.Lines.{last_line, IsShort, IsWithinLimits}
+use Rattle.gix_date_tool.specs.Lines.{last_line, Part, with_last_line, IsShort, IsWithinLimits}
 use Rattle.gix_date_tool.specs.Replies.{Replied}
-use Rattle.gix_date_tool.specs.Outbox.{Output, all_sent, Puts, PutsProperPrefix}
-use Rattle.gix_date_tool.specs.Run.{Change, change, StopsAt, WereDue, Unwritten, Stopped, Ran, is_unwritten}
-use Rattle.gix_date_tool.specs.Progress.{Stage, first_stage, IsReady, SentAll, SendsAll, TookIn, RefusedWithin, StoppedWithin, TakesIn, EndsAt}
+use Rattle.gix_date_tool.specs.Outbox.{all_sent, Sends}
+use Rattle.gix_date_tool.specs.Run.{Change, change, StopsAt, EndsAt, writer_answer, Ran, IsWritten, is_unwritten}
+use Rattle.gix_date_tool.specs.Progress.{Stage, first_stage, IsReady, SendsAll, TakesIn, Ends}
 use Rattle.gix_date_tool.proofs.Sending.{Takes-all_sent, Puts-sent, PutsProperPrefix-sent}
-use Rattle.gix_date_tool.proofs.Taking.{Replied-map, Puts-replies, PutsProperPrefix-replies, TookIn-nil, TakesIn-then}
+use Rattle.gix_date_tool.proofs.Taking.{Sends-replies, Replied-map, TakesIn-nil, TakesIn-then, TakesIn-sent}
 
 Consumes-nil : (known : Option (List ℕ)) → Consumes known known []
 Consumes-nil None = tt
@@ -34,299 +34,213 @@ Consumes-kept (Some us) None new xs h k = absurd h
 Consumes-kept (Some us) (Some vs) None xs h k = absurd k
 Consumes-kept (Some us) (Some vs) (Some ws) xs h k = h ∙ ap (λ zs. xs ++ zs) (sym k)
 
--- some bytes were given and then more
-Gives-append : (old mid new : StreamState) (xs ys : List ℕ) → Gives old mid xs → Gives mid new ys → Gives old new (xs ++ ys)
-Gives-append old mid new xs ys h k = Consumes-append old.bytes mid.bytes new.bytes xs ys h k
-
--- the same bytes with none beyond
-without_beyond : (old new : StreamState) (xs : List ℕ) → Gives old new xs → Gives old new (xs ++ [])
-without_beyond old new xs h = subst (Gives old new) (sym (append-nil xs)) h
-
 -- Of a run that was asked this and writes to this sink: what was read so far was taken in.
 pub record HasRead (query : Query) (sink : StreamState) (s : Stage) (reading : Change) : Type 0 where
   pub input : List ℕ
   pub read : Gives reading.old reading.new input
-  pub took : TookIn (first_stage query sink) s input
-
-IsReady-first : (query : Query) (sink : StreamState) → IsReady (first_stage query sink)
-IsReady-first query sink = record {
-  is_line = All-nil (λ b. b ≢ newline);
-  is_short = omega arith;
-  few = omega arith;
-  none_after = λ _. refl;
-}
+  pub took : TakesIn (first_stage query sink) s input (Ok tt)
 
 -- nothing was read
 pub HasRead-first : (query : Query) (sink : StreamState) (s : Stage) (reader : StreamState) → s ≡ first_stage query sink → HasRead query sink s (change reader reader)
 HasRead-first query sink s reader fresh = record {
   input = [];
   read = Consumes-nil reader.bytes;
-  took = subst (λ x. TookIn (first_stage query sink) x []) (sym fresh) (TookIn-nil (IsReady-first query sink));
+  took = subst (λ x. TakesIn (first_stage query sink) x [] (Ok tt)) (sym fresh) (TakesIn-nil (record {
+    is_line = All-nil (λ b. b ≢ newline);
+    is_short = omega arith;
+    few = omega arith;
+    none_after = λ _. refl;
+  }));
 }
 
-pub IsReady-fresh : (query : Query) (sink : StreamState) (s : Stage) → s ≡ first_stage query sink → IsReady s
-IsReady-fresh query sink s fresh = subst IsReady (sym fresh) (IsReady-first query sink)
+-- the same bytes with none beyond
+with_none : {query : Query} {sink : StreamState} {s : Stage} (input : List ℕ) (r : Result (Unit {0}) ToolError) → TakesIn (first_stage query sink) s (input ++ []) r
+    → TakesIn (first_stage query sink) s input r
+with_none {query = query} {sink = sink} {s = s} input r h = subst (λ bytes. TakesIn (first_stage query sink) s bytes r) (append-nil input) h
 
 -- what was unsent was sent
-pub HasRead-sent : {query : Query} {sink : StreamState} {s s' : Stage} {reading : Change} → HasRead query sink s reading → SentAll s s'
+pub HasRead-sent : {query : Query} {sink : StreamState} {s s' : Stage} {reading : Change} → HasRead query sink s reading → SendsAll s s' (Ok tt)
     → HasRead query sink s' reading
-HasRead-sent {query = query} {sink = sink} {s = s} {s' = s'} h k =
-    let sent : TookIn (first_stage query sink) (record s { output = s'.output }) h.input = record {
-      lines = h.took.lines;
-      splits = h.took.splits;
-      short = h.took.short;
-      counted = h.took.counted;
-      same = h.took.same;
-      put = Replied-map (λ text put. Puts-sent put k.sent) h.took.put;
-    } in
-    record {
-      input = h.input;
-      read = h.read;
-      took = subst (λ x. TookIn (first_stage query sink) x h.input) (sym k.same) sent;
-    }
-
-pub IsReady-sent : {s s' : Stage} → IsReady s → SentAll s s' → IsReady s'
-IsReady-sent h k = subst IsReady (sym k.same) (record { is_line = h.is_line; is_short = h.is_short; few = h.few; none_after = h.none_after })
+HasRead-sent {s' = s'} h k = record {
+  input = h.input;
+  read = h.read;
+  took = with_none h.input (Ok tt) (TakesIn-then s' [] (Ok tt) h.took (TakesIn-sent (Ok tt) h.took.to.ready k));
+}
 
 -- a piece was read and taken in
 pub HasRead-taken : {query : Query} {sink : StreamState} {s s' : Stage} {old mid : StreamState} (new : StreamState) {bytes : List ℕ}
-    → HasRead query sink s (change old mid) → Gives mid new bytes → TookIn s s' bytes → HasRead query sink s' (change old new)
+    → HasRead query sink s (change old mid) → Gives mid new bytes → TakesIn s s' bytes (Ok tt) → HasRead query sink s' (change old new)
 HasRead-taken {s' = s'} {old = old} {mid = mid} new {bytes = bytes} h read k = record {
   input = h.input ++ bytes;
-  read = Gives-append old mid new h.input bytes h.read read;
+  read = Consumes-append old.bytes mid.bytes new.bytes h.input bytes h.read read;
   took = TakesIn-then s' bytes (Ok tt) h.took k;
 }
 
+-- a run that was replied to but for what is unsent
+abbrev pub RanBut : StreamState → Stage → Query → Change → Result ℕ ToolError → Type 0
+RanBut sink s query reading r = Ran (Sends (all_sent sink) s.output) query reading r
+
+-- the run ends within what was read
+pub ran_within : (query : Query) (sink : StreamState) (s : Stage) (reading : Change) (input : List ℕ) (e : ToolError) → Gives reading.old reading.new input
+    → TakesIn (first_stage query sink) s input (Err e) → RanBut sink s query reading (Err e)
+ran_within query sink s reading input (errors.Write kind) read h = record { input = input; part = h.part; lines = h.part.lines; read = read; ends = inl refl; wrote = h.put }
+ran_within query sink s reading input (errors.Read kind) read h = absurd h.to
+ran_within query sink s reading input errors.Memory read h =
+    record { input = input; part = h.part; lines = h.part.lines; read = read; ends = record { ended = refl; short = h.short; stops = subst (λ n. StopsAt errors.Memory n h.part.rest h.part.beyond) (omega arith) h.to }; wrote = h.put }
+ran_within query sink s reading input errors.LineTooLong read h =
+    record { input = input; part = h.part; lines = h.part.lines; read = read; ends = record { ended = refl; short = h.short; stops = subst (λ n. StopsAt errors.LineTooLong n h.part.rest h.part.beyond) (omega arith) h.to }; wrote = h.put }
+ran_within query sink s reading input errors.TooManyLines read h =
+    record { input = input; part = h.part; lines = h.part.lines; read = read; ends = record { ended = refl; short = h.short; stops = subst (λ n. StopsAt errors.TooManyLines n h.part.rest h.part.beyond) (omega arith) h.to }; wrote = h.put }
+
 -- the writer refused what was unsent
-refused : {query : Query} {sink : StreamState} {s : Stage} (s' : Stage) {reading : Change} {kind : ErrorKind}
-    → HasRead query sink s reading → PutsProperPrefix s.output s'.output [] kind → Unwritten query reading (change sink s'.output.sink) kind
-refused {s = s} s' {reading = reading} h k =
-    let cut = Replied-map (λ text put. PutsProperPrefix-sent put k) h.took.put in
-    record {
-      front = h.input;
-      beyond = [];
-      lines = h.took.lines;
-      read = without_beyond reading.old reading.new h.input h.read;
-      due = inl (s.open_line, h.took.splits);
-      wrote = Replied-map (λ text put. put.taken) cut;
-      fault = cut.text.fault;
-    }
+pub Ran-unsent : {query : Query} {sink : StreamState} {s : Stage} (s' : Stage) {reading : Change} (kind : ErrorKind)
+    → HasRead query sink s reading → SendsAll s s' (Err kind) → RanBut sink s' query reading (Err (errors.Write kind))
+Ran-unsent {query = query} {sink = sink} s' {reading = reading} kind h k =
+    let e = errors.Write kind in
+    ran_within query sink s' reading h.input e h.read (with_none h.input (Err e) (TakesIn-then s' [] (Err e) h.took (TakesIn-sent (Err kind) h.took.to.ready k)))
 
-pub Ran-unsent : {query : Query} {sink : StreamState} {s : Stage} (s' : Stage) {reading : Change} (e : ToolError)
-    → HasRead query sink s reading → SendsAll s s' (Err e) → Ran (Puts (all_sent sink) s'.output) query reading (change sink s'.output.sink) (Err e)
-Ran-unsent s' (errors.Write kind) h k = refused s' h k
-Ran-unsent s' (errors.Read kind) h k = absurd k
-Ran-unsent s' errors.Memory h k = absurd k
-Ran-unsent s' errors.LineTooLong h k = absurd k
-Ran-unsent s' errors.TooManyLines h k = absurd k
-
--- the writer refused within what was read
-RefusedWithin-ran : {query : Query} {sink : StreamState} {s : Stage} {reading : Change} {input : List ℕ} {kind : ErrorKind}
-    → Gives reading.old reading.new input → RefusedWithin (first_stage query sink) s input kind → Unwritten query reading (change sink s.output.sink) kind
-RefusedWithin-ran {reading = reading} read k = record {
-  front = k.front;
-  beyond = k.beyond;
-  lines = k.lines;
-  read = subst (Gives reading.old reading.new) k.cut read;
-  due = inl k.due;
-  wrote = Replied-map (λ text put. put.taken) k.put;
-  fault = k.put.text.fault;
-}
-
--- the run stops within what was read
-StoppedWithin-ran : {query : Query} {sink : StreamState} {s : Stage} {reading : Change} {input : List ℕ} {stop : ToolError}
-    → Gives reading.old reading.new input → StoppedWithin (first_stage query sink) s input stop → Stopped (Puts (all_sent sink) s.output) query reading stop
-StoppedWithin-ran {reading = reading} {stop = stop} read k = record {
-  front = k.front;
-  beyond = k.beyond;
-  lines = k.lines;
-  rest = k.rest;
-  read = subst (Gives reading.old reading.new) k.cut read;
-  splits = k.splits;
-  short = k.short;
-  stops = subst (λ n. StopsAt stop n k.rest k.beyond) (omega arith) k.stops;
-  wrote = k.put;
-}
-
-stopped : (query : Query) (sink : StreamState) (s : Stage) (reading : Change) (input : List ℕ) (stop : ToolError)
-    → Gives reading.old reading.new input → TakesIn (first_stage query sink) s input (Err stop)
-    → Ran (Puts (all_sent sink) s.output) query reading (change sink s.output.sink) (Err stop)
-stopped query sink s reading input (errors.Write kind) read k = RefusedWithin-ran read k
-stopped query sink s reading input (errors.Read kind) read k = absurd k.stops
-stopped query sink s reading input errors.Memory read k = StoppedWithin-ran read k
-stopped query sink s reading input errors.LineTooLong read k = StoppedWithin-ran read k
-stopped query sink s reading input errors.TooManyLines read k = StoppedWithin-ran read k
-
--- a piece was read, and the run stops within it
+-- a piece was read, and the run ends within it
 pub Ran-stopped : {query : Query} {sink : StreamState} {s : Stage} (s' : Stage) {old mid : StreamState} (new : StreamState) (bytes : List ℕ) (stop : ToolError)
-    → HasRead query sink s (change old mid) → Gives mid new bytes → TakesIn s s' bytes (Err stop)
-    → Ran (Puts (all_sent sink) s'.output) query (change old new) (change sink s'.output.sink) (Err stop)
+    → HasRead query sink s (change old mid) → Gives mid new bytes → TakesIn s s' bytes (Err stop) → RanBut sink s' query (change old new) (Err stop)
 Ran-stopped {query = query} {sink = sink} s' {old = old} {mid = mid} new bytes stop h read k =
-    stopped query sink s' (change old new) (h.input ++ bytes) stop (Gives-append old mid new h.input bytes h.read read) (TakesIn-then s' bytes (Err stop) h.took k)
+    ran_within query sink s' (change old new) (h.input ++ bytes) stop (Consumes-append old.bytes mid.bytes new.bytes h.input bytes h.read read) (TakesIn-then s' bytes (Err stop) h.took k)
 
 last_short : (rest : List ℕ) → IsShort rest → All IsShort (last_line rest)
 last_short [] h = All-nil IsShort
 last_short (b ∷ bs) h = All-cons IsShort (b ∷ bs) [] h (All-nil IsShort)
 
-not_empty : (b : ℕ) (bs : List ℕ) → b ∷ bs ≡ [] → ⊥
-not_empty b bs h = cc
-
-short_of : (n most : ℕ) → n ≤ most → (n ≡ most → ⊥) → n < most
-short_of n most few h = omega (arith, h)
-
 room_for_last : (n most : ℕ) (rest : List ℕ) → n ≤ most → (n ≡ most → rest ≡ []) → n + length (last_line rest) ≤ most
 room_for_last n most [] few none = omega arith
-room_for_last n most (b ∷ bs) few none = omega (arith, short_of n most few (λ e. not_empty b bs (none e)))
+room_for_last n most (b ∷ bs) few none = let not : n ≡ most → ⊥ = λ e. not_empty (none e) in omega (arith, few, not)
+  where
+    not_empty : b ∷ bs ≡ [] → ⊥
+    not_empty h = cc
 
 -- what was read is within the limits
-within : {query : Query} {sink : StreamState} {s : Stage} {input : List ℕ} (took : TookIn (first_stage query sink) s input) → IsReady s
-    → IsWithinLimits (took.lines ++ last_line s.open_line)
-within {s = s} took ready =
-    let last = last_line s.open_line in (
-      All-append IsShort took.lines last took.short (last_short s.open_line ready.is_short),
-      omega (arith, length-append took.lines last, took.counted, room_for_last s.ended MAX_LINES s.open_line ready.few ready.none_after),
+within : {query : Query} {sink : StreamState} {s : Stage} {input : List ℕ} (took : TakesIn (first_stage query sink) s input (Ok tt))
+    → IsWithinLimits (with_last_line took.part)
+within {s = s} took =
+    let ready = subst IsReady took.to.same took.to.ready in
+    let last = last_line took.part.rest in (
+      All-append IsShort took.part.lines last took.short (last_short took.part.rest ready.is_short),
+      omega (arith, length-append took.part.lines last, room_for_last (0 + length took.part.lines) MAX_LINES took.part.rest ready.few ready.none_after),
     )
 
 -- the reader refused
 pub Ran-unread : {query : Query} {sink : StreamState} {s : Stage} {old mid : StreamState} (new : StreamState) {kind : ErrorKind}
-    → HasRead query sink s (change old mid) → IsReady s → TakesNothing mid new → new.fault ≡ Some kind
-    → Ran (Puts (all_sent sink) s.output) query (change old new) (change sink s.output.sink) (Err (errors.Read kind))
-Ran-unread {s = s} {old = old} {mid = mid} new h ready kept fault = record {
+    → HasRead query sink s (change old mid) → TakesNothing mid new → new.fault ≡ Some kind → RanBut sink s query (change old new) (Err (errors.Read kind))
+Ran-unread {old = old} {mid = mid} new h kept fault = record {
   input = h.input;
-  lines = h.took.lines;
-  rest = s.open_line;
+  part = h.took.part;
+  lines = h.took.part.lines;
   read = Consumes-kept old.bytes mid.bytes new.bytes h.input h.read kept;
-  fault = fault;
-  splits = h.took.splits;
-  within = within h.took ready;
+  ends = record { fault = fault; none_beyond = h.took.to.none_beyond; ended = refl; within = within h.took };
   wrote = h.took.put;
 }
 
+-- the replies to what was read and those to the last line
+last_put : {query : Query} {sink : StreamState} {s s' : Stage} {reading : Change} (r : Result (Unit {0}) ErrorKind) (h : HasRead query sink s reading)
+    → Ends s s' r → Replied (λ text. Sends (all_sent sink) s'.output text r) query (with_last_line h.took.part)
+last_put {query = query} {s = s} {s' = s'} r h k =
+    let put = subst (λ x. Replied (λ text. Sends x.output s'.output text r) x.query (last_line x.open_line)) h.took.to.same k.put in
+    Sends-replies s'.output r query h.took.part.lines (last_line h.took.part.rest) h.took.put put
+
+-- nothing more was read
+read_none : {query : Query} {sink : StreamState} {s : Stage} {old mid : StreamState} (new : StreamState) (h : HasRead query sink s (change old mid)) → Gives mid new []
+    → Gives old new h.input
+read_none {old = old} {mid = mid} new h read = subst (Gives old new) (append-nil h.input) (Consumes-append old.bytes mid.bytes new.bytes h.input [] h.read read)
+
 -- the input is at its end, and the last line was replied to
-pub Ran-ended : {query : Query} {sink : StreamState} {s : Stage} (s' : Stage) {old mid : StreamState} (new : StreamState) (r : Result ℕ ToolError)
-    → HasRead query sink s (change old mid) → IsReady s → Gives mid new [] → HasEnded new → new.fault ≡ None → EndsAt s s' r
-    → Ran (Puts (all_sent sink) s'.output) query (change old new) (change sink s'.output.sink) r
-Ran-ended {query = query} {s = s} s' {old = old} {mid = mid} new (Ok count) h ready read end no_fault k =
-    let took = h.took in
-    let last = last_line s.open_line in
+pub Ran-ended : {query : Query} {sink : StreamState} {s : Stage} (s' : Stage) {old mid : StreamState} (new : StreamState) (count : ℕ)
+    → HasRead query sink s (change old mid) → Gives mid new [] → HasEnded new → new.fault ≡ None → Ends s s' (Ok tt) → count ≡ s'.ended
+    → RanBut sink s' query (change old new) (Ok count)
+Ran-ended {s = s} s' new count h read end no_fault k counted =
+    let part = h.took.part in
+    let last : s'.ended ≡ 0 + length part.lines + length (last_line part.rest) = subst (λ x. s'.ended ≡ x.ended + length (last_line x.open_line)) h.took.to.same k.counted in
     record {
       input = h.input;
-      lines = took.lines ++ last;
-      read = subst (Gives old new) (append-nil h.input) (Gives-append old mid new h.input [] h.read read);
-      at_end = end;
-      no_fault = no_fault;
-      all = record { ended = took.lines; rest = s.open_line; splits = took.splits; with_last = refl };
-      within = within took ready;
-      wrote = Puts-replies query took.lines last took.put (subst (λ a. Replied (Puts s.output s'.output) a last) took.same k.put);
-      count_is = omega (arith, length-append took.lines last, took.counted, k.counted);
+      part = part;
+      lines = with_last_line part;
+      read = read_none new h read;
+      ends = record {
+        whole = record { at_end = end; none_beyond = h.took.to.none_beyond };
+        no_fault = no_fault;
+        all = refl;
+        within = within h.took;
+        count_is = omega (arith, length-append part.lines (last_line part.rest), counted, last);
+      };
+      wrote = last_put (Ok tt) h k;
     }
-Ran-ended {query = query} {s = s} s' {old = old} {mid = mid} new (Err (errors.Write kind)) h ready read end no_fault k =
-    let took = h.took in
-    let last = last_line s.open_line in
-    let cut = PutsProperPrefix-replies query took.lines last took.put (subst (λ a. Replied (λ text. PutsProperPrefix s.output s'.output text kind) a last) took.same k) in
-    record {
-      front = h.input;
-      beyond = [];
-      lines = took.lines ++ last;
-      read = Gives-append old mid new h.input [] h.read read;
-      due = inr (record { at_end = end; none_beyond = refl; all = record { ended = took.lines; rest = s.open_line; splits = took.splits; with_last = refl } });
-      wrote = Replied-map (λ text put. put.taken) cut;
-      fault = cut.text.fault;
-    }
-Ran-ended s' new (Err errors.Memory) h ready read end no_fault k = absurd k
-Ran-ended s' new (Err (errors.Read kind)) h ready read end no_fault k = absurd k
-Ran-ended s' new (Err errors.LineTooLong) h ready read end no_fault k = absurd k
-Ran-ended s' new (Err errors.TooManyLines) h ready read end no_fault k = absurd k
 
--- a run that was replied to but for what is unsent
-abbrev pub RanBut : StreamState → Stage → Query → Change → Result ℕ ToolError → Type 0
-RanBut sink s query reading r = Ran (Puts (all_sent sink) s.output) query reading (change sink s.output.sink) r
+-- the input is at its end, and the writer refused the reply to the last line
+pub Ran-ended-unwritten : {query : Query} {sink : StreamState} {s : Stage} (s' : Stage) {old mid : StreamState} (new : StreamState) (kind : ErrorKind)
+    → HasRead query sink s (change old mid) → Gives mid new [] → HasEnded new → Ends s s' (Err kind) → RanBut sink s' query (change old new) (Err (errors.Write kind))
+Ran-ended-unwritten s' new kind h read end k = record {
+  input = h.input;
+  part = h.took.part;
+  lines = with_last_line h.took.part;
+  read = read_none new h read;
+  ends = inr (record { at_end = end; none_beyond = h.took.to.none_beyond }, refl);
+  wrote = last_put (Err kind) h k;
+}
 
 -- The writer refused in the run.
 pub Ran-unwritten : (sink : StreamState) (s : Stage) (query : Query) (reading : Change) (r : Result ℕ ToolError)
-    → is_unwritten r ≡ true → RanBut sink s query reading r → Ran (Takes sink s.output.sink) query reading (change sink s.output.sink) r
-Ran-unwritten sink s query reading (Err (errors.Write kind)) is h = h
+    → is_unwritten r ≡ true → RanBut sink s query reading r → Ran (IsWritten (change sink s.output.sink)) query reading r
+Ran-unwritten sink s query reading (Err (errors.Write kind)) is h =
+    record { input = h.input; part = h.part; lines = h.lines; read = h.read; ends = h.ends; wrote = Replied-map (λ text put. (put.taken, put.fault)) h.wrote }
 Ran-unwritten sink s query reading (Ok count) is h = cc
 Ran-unwritten sink s query reading (Err (errors.Read kind)) is h = cc
 Ran-unwritten sink s query reading (Err errors.Memory) is h = cc
 Ran-unwritten sink s query reading (Err errors.LineTooLong) is h = cc
 Ran-unwritten sink s query reading (Err errors.TooManyLines) is h = cc
 
--- What was put, and then sent.
-put_and_sent : {sink : StreamState} {s s' : Stage} {query : Query} {lines : List (List ℕ)} → Replied (Puts (all_sent sink) s.output) query lines → SentAll s s'
-    → Replied (Takes sink s'.output.sink) query lines
-put_and_sent h k = Replied-map (λ text put. Takes-all_sent (Puts-sent put k.sent) k.none_unsent) h
-
-Stopped-sent : {sink : StreamState} {s s' : Stage} {query : Query} {reading : Change} {stop : ToolError}
-    → Stopped (Puts (all_sent sink) s.output) query reading stop → SentAll s s' → Stopped (Takes sink s'.output.sink) query reading stop
-Stopped-sent h k = record {
-  front = h.front;
-  beyond = h.beyond;
-  lines = h.lines;
-  rest = h.rest;
-  read = h.read;
-  splits = h.splits;
-  short = h.short;
-  stops = h.stops;
-  wrote = put_and_sent h.wrote k;
-}
+-- the writer took all that was put, unless the run says otherwise
+took_all : (r : Result ℕ ToolError) → is_unwritten r ≡ false → writer_answer r ≡ Ok tt
+took_all (Ok count) not = refl
+took_all (Err (errors.Read kind)) not = refl
+took_all (Err (errors.Write kind)) not = cc
+took_all (Err errors.Memory) not = refl
+took_all (Err errors.LineTooLong) not = refl
+took_all (Err errors.TooManyLines) not = refl
 
 -- What a run comes to once what was unsent is sent.
 pub Ran-sent : (sink : StreamState) (s s' : Stage) (query : Query) (reading : Change) (r : Result ℕ ToolError)
-    → is_unwritten r ≡ false → RanBut sink s query reading r → SentAll s s' → Ran (Takes sink s'.output.sink) query reading (change sink s'.output.sink) r
-Ran-sent sink s s' query reading (Ok count) not h k = record {
-  input = h.input;
-  lines = h.lines;
-  read = h.read;
-  at_end = h.at_end;
-  no_fault = h.no_fault;
-  all = h.all;
-  within = h.within;
-  wrote = put_and_sent h.wrote k;
-  count_is = h.count_is;
-}
-Ran-sent sink s s' query reading (Err (errors.Read kind)) not h k = record {
-  input = h.input;
-  lines = h.lines;
-  rest = h.rest;
-  read = h.read;
-  fault = h.fault;
-  splits = h.splits;
-  within = h.within;
-  wrote = put_and_sent h.wrote k;
-}
-Ran-sent sink s s' query reading (Err (errors.Write kind)) not h k = cc
-Ran-sent sink s s' query reading (Err errors.Memory) not h k = Stopped-sent h k
-Ran-sent sink s s' query reading (Err errors.LineTooLong) not h k = Stopped-sent h k
-Ran-sent sink s s' query reading (Err errors.TooManyLines) not h k = Stopped-sent h k
+    → is_unwritten r ≡ false → RanBut sink s query reading r → SendsAll s s' (Ok tt) → Ran (IsWritten (change sink s'.output.sink)) query reading r
+Ran-sent sink s s' query reading r not h k =
+    let all = took_all r not in
+    let put = subst (λ answer. Replied (λ text. Sends (all_sent sink) s.output text answer) query h.lines) all h.wrote in
+    let sent : Replied (Takes sink s'.output.sink) query h.lines = Replied-map (λ text put. Takes-all_sent (Puts-sent put k.sent) k.none_unsent) put in
+    record {
+      input = h.input;
+      part = h.part;
+      lines = h.lines;
+      read = h.read;
+      ends = h.ends;
+      wrote = subst (λ answer. Replied (λ text. IsWritten (change sink s'.output.sink) text answer) query h.lines) (sym all) sent;
+    }
 
--- The writer refused the replies to lines that were due.
-cut_off : {sink : StreamState} {b c : Output} {kind : ErrorKind} {query : Query} {reading : Change} (front beyond : List ℕ) (lines : List (List ℕ))
-    → Gives reading.old reading.new (front ++ beyond)
-    → WereDue reading.new front beyond lines → Replied (Puts (all_sent sink) b) query lines → PutsProperPrefix b c [] kind
-    → Unwritten query reading (change sink c.sink) kind
-cut_off front beyond lines read due put k =
-    let cut = Replied-map (λ text sent. PutsProperPrefix-sent sent k) put in
-    record { front = front; beyond = beyond; lines = lines; read = read; due = due; wrote = Replied-map (λ text sent. sent.taken) cut; fault = cut.text.fault }
-
-cut_short : (sink : StreamState) (s s' : Stage) (query : Query) (reading : Change) (r : Result ℕ ToolError) (kind : ErrorKind)
-    → is_unwritten r ≡ false → RanBut sink s query reading r → PutsProperPrefix s.output s'.output [] kind
-    → Unwritten query reading (change sink s'.output.sink) kind
-cut_short sink s s' query reading (Ok count) kind not h k =
-    cut_off h.input [] h.lines (without_beyond reading.old reading.new h.input h.read) (inr (record { at_end = h.at_end; none_beyond = refl; all = h.all })) h.wrote k
-cut_short sink s s' query reading (Err (errors.Read first)) kind not h k =
-    cut_off h.input [] h.lines (without_beyond reading.old reading.new h.input h.read) (inl (h.rest, h.splits)) h.wrote k
-cut_short sink s s' query reading (Err (errors.Write first)) kind not h k = cc
-cut_short sink s s' query reading (Err errors.Memory) kind not h k = cut_off h.front h.beyond h.lines h.read (inl (h.rest, h.splits)) h.wrote k
-cut_short sink s s' query reading (Err errors.LineTooLong) kind not h k = cut_off h.front h.beyond h.lines h.read (inl (h.rest, h.splits)) h.wrote k
-cut_short sink s s' query reading (Err errors.TooManyLines) kind not h k = cut_off h.front h.beyond h.lines h.read (inl (h.rest, h.splits)) h.wrote k
+-- the replies that are due, where the writer refuses what was left of them
+due_unwritten : (reader : StreamState) {input : List ℕ} (part : Part input) (lines : List (List ℕ)) (r : Result ℕ ToolError) (kind : ErrorKind) → EndsAt r reader part lines
+    → EndsAt (Err (errors.Write kind)) reader part lines
+due_unwritten reader part lines (Ok count) kind h = inr (h.whole, h.all)
+due_unwritten reader part lines (Err (errors.Read first)) kind h = inl h.ended
+due_unwritten reader part lines (Err (errors.Write first)) kind h = h
+due_unwritten reader part lines (Err errors.Memory) kind h = inl h.ended
+due_unwritten reader part lines (Err errors.LineTooLong) kind h = inl h.ended
+due_unwritten reader part lines (Err errors.TooManyLines) kind h = inl h.ended
 
 -- What a run comes to where the writer refuses what was unsent.
-pub Ran-cut : (sink : StreamState) (s s' : Stage) (query : Query) (reading : Change) (r : Result ℕ ToolError) (e : ToolError)
-    → is_unwritten r ≡ false → RanBut sink s query reading r → SendsAll s s' (Err e)
-    → Ran (Takes sink s'.output.sink) query reading (change sink s'.output.sink) (Err e)
-Ran-cut sink s s' query reading r (errors.Write kind) not h k = cut_short sink s s' query reading r kind not h k
-Ran-cut sink s s' query reading r (errors.Read kind) not h k = absurd k
-Ran-cut sink s s' query reading r errors.Memory not h k = absurd k
-Ran-cut sink s s' query reading r errors.LineTooLong not h k = absurd k
-Ran-cut sink s s' query reading r errors.TooManyLines not h k = absurd k
+pub Ran-cut : (sink : StreamState) (s s' : Stage) (query : Query) (reading : Change) (r : Result ℕ ToolError) (kind : ErrorKind)
+    → is_unwritten r ≡ false → RanBut sink s query reading r → SendsAll s s' (Err kind)
+    → Ran (IsWritten (change sink s'.output.sink)) query reading (Err (errors.Write kind))
+Ran-cut sink s s' query reading r kind not h k =
+    let put = subst (λ answer. Replied (λ text. Sends (all_sent sink) s.output text answer) query h.lines) (took_all r not) h.wrote in
+    record {
+      input = h.input;
+      part = h.part;
+      lines = h.lines;
+      read = h.read;
+      ends = due_unwritten reading.new h.part h.lines r kind h.ends;
+      wrote = Replied-map (λ text sent. let cut = PutsProperPrefix-sent sent k.sent in (cut.taken, cut.fault)) put;
+    }

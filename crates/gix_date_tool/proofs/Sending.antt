@@ -62,6 +62,11 @@ PutsProperPrefix-then {a = a} {b = b} {c = c} {x = x} {y = y} h k = record {
 pub PutsProperPrefix-sent : {a b c : Output} {x : List ℕ} {kind : ErrorKind} → Puts a b x → PutsProperPrefix b c [] kind → PutsProperPrefix a c x kind
 PutsProperPrefix-sent {a = a} {c = c} {x = x} {kind = kind} h k = subst (λ text. PutsProperPrefix a c text kind) (append-nil x) (PutsProperPrefix-then h k)
 
+-- one text, and then what sending the next came to
+pub Sends-then : {a b : Output} {x : List ℕ} (c : Output) (y : List ℕ) (r : Result (Unit {0}) ErrorKind) → Puts a b x → Sends b c y r → Sends a c (x ++ y) r
+Sends-then c y (Ok u) h k = Puts-then h k
+Sends-then c y (Err kind) h k = PutsProperPrefix-then h k
+
 -- a refusal, whatever text was to follow
 pub PutsProperPrefix-more : {a b : Output} {x : List ℕ} {kind : ErrorKind} (y : List ℕ) → PutsProperPrefix a b x kind → PutsProperPrefix a b (x ++ y) kind
 PutsProperPrefix-more {a = a} {b = b} {x = x} y h = record {

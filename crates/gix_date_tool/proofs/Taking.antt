@@ -1,24 +1,24 @@
 -- What is taken in piece by piece.
-use Rattle.std.proofs.Common.{◌≡◌, ◌≢◌, ℕ, ◌+◌, ◌-◌, ◌<◌, ◌≤◌, List, [], ◌∷◌, ◌++◌, length, take, drop, refl, sym, ap, ◌∙◌, subst, append_assoc, append-nil, length-append, arith, Bool, false, Result, Ok, Err}
+use Rattle.std.proofs.Common.{◌≡◌, ◌≢◌, ℕ, ◌+◌, ◌-◌, ◌<◌, ◌≤◌, List, [], ◌∷◌, ◌++◌, length, take, drop, refl, sym, ap, ◌∙◌, subst, append_assoc, append-nil, length-append, arith, Bool, true, false, Result, Ok, Err}
 use Rattle.std.proofs.lemmas.Bool.Decides.{nat_tests}
 use Rattle.std.proofs.lemmas.List.{take-append-drop, length-take-le}
 use Rattle.std.proofs.lemmas.List.Concat.{flat_map-append}
 use Rattle.std.proofs.lemmas.List.Elements.{All-append, All-nil, All-cons, All-head, All-take}
-use Rattle.std.specs.Prelude.{◌==◌, OnOk}
+use Rattle.std.specs.List.{flat_map}
+use Rattle.std.specs.Prelude.{◌==◌}
 use Rattle.std.specs.declared.io.ErrorKind.{ErrorKind}
 use Rattle.gix_date.specs.Text.Characters.{newline}
 use Rattle.gix_date_tool.specs.declared.error.ToolError.{ToolError}
 use Rattle.gix_date_tool.specs.declared.error.ToolError.TheVariants as errors
 use Rattle.gix_date_tool.specs.declared.lines.TheConstants.{MAX_LINE_LEN, MAX_LINES}
 use Rattle.gix_date_tool.specs.declared.replies.Query.{Query}
-use Rattle.gix_date_tool.specs.Lines.{IsLine, LineGoesOn, with_newline, Splits, IsShort}
-use Rattle.gix_date_tool.specs.Replies.{Replied, AreReplies, IsReply, reply_line, reply_lines}
 use Rattle.gix_date_tool.specs.declared.replies.Reply.{Reply}
-use Rattle.gix_date_tool.specs.Outbox.{Output, Puts, PutsProperPrefix}
-use Rattle.gix_date_tool.specs.Run.{StopsAt}
-use Rattle.gix_date_tool.specs.Progress.{Stage, IsReady, Extended, Extends, Closed, Closes, TookIn, RefusedWithin, StoppedWithin, TakesIn}
-use Rattle.gix_date_tool.proofs.Splitting.{Splits-open, Splits-newline, Splits-join}
-use Rattle.gix_date_tool.proofs.Sending.{Puts-nil, Puts-then, PutsProperPrefix-then}
+use Rattle.gix_date_tool.specs.Lines.{IsLine, LineGoesOn, Part, with_newline, IsShort}
+use Rattle.gix_date_tool.specs.Replies.{Replied, AreReplies, IsReply, reply_line, reply_lines}
+use Rattle.gix_date_tool.specs.Outbox.{Output, Puts, Sends}
+use Rattle.gix_date_tool.specs.Run.{StopsAt, writer_answer}
+use Rattle.gix_date_tool.specs.Progress.{Stage, IsReady, TakesTo, TakesIn, SendsAll, Closes}
+use Rattle.gix_date_tool.proofs.Sending.{Puts-nil, Sends-then}
 
 AreReplies-append : (query : Query) (lines more : List (List ℕ)) (replies others : List Reply) → AreReplies query lines replies → AreReplies query more others
     → AreReplies query (lines ++ more) (replies ++ others)
@@ -27,21 +27,13 @@ AreReplies-append query [] more (reply ∷ replies) others h k = absurd h
 AreReplies-append query (line ∷ lines) more [] others h k = absurd h
 AreReplies-append query (line ∷ lines) more (reply ∷ replies) others h k = (h.0, AreReplies-append query lines more replies others h.1 k)
 
--- the replies to some lines and to more
-pub Puts-replies : {a b c : Output} (query : Query) (lines more : List (List ℕ)) → Replied (Puts a b) query lines → Replied (Puts b c) query more
-    → Replied (Puts a c) query (lines ++ more)
-Puts-replies {a = a} {c = c} query lines more h k = record {
+-- the replies to some lines, and what sending those to more came to
+pub Sends-replies : {a b : Output} (c : Output) (r : Result (Unit {0}) ErrorKind) (query : Query) (lines more : List (List ℕ)) → Replied (Puts a b) query lines
+    → Replied (λ text. Sends b c text r) query more → Replied (λ text. Sends a c text r) query (lines ++ more)
+Sends-replies {a = a} c r query lines more h k = record {
   replies = h.replies ++ k.replies;
   each = AreReplies-append query lines more h.replies k.replies h.each k.each;
-  text = subst (Puts a c) (sym (flat_map-append reply_line h.replies k.replies)) (Puts-then h.text k.text);
-}
-
-pub PutsProperPrefix-replies : {a b c : Output} (query : Query) (lines more : List (List ℕ)) {kind : ErrorKind}
-    → Replied (Puts a b) query lines → Replied (λ text. PutsProperPrefix b c text kind) query more → Replied (λ text. PutsProperPrefix a c text kind) query (lines ++ more)
-PutsProperPrefix-replies {a = a} {c = c} query lines more {kind = kind} h k = record {
-  replies = h.replies ++ k.replies;
-  each = AreReplies-append query lines more h.replies k.replies h.each k.each;
-  text = subst (λ text. PutsProperPrefix a c text kind) (sym (flat_map-append reply_line h.replies k.replies)) (PutsProperPrefix-then h.text k.text);
+  text = subst (λ text. Sends a c text r) (sym (flat_map-append reply_line h.replies k.replies)) (Sends-then c (reply_lines k.replies) r h.text k.text);
 }
 
 -- the same replies, of whose text something else holds
@@ -57,271 +49,249 @@ Replied-one {Is = Is} query line reply h k = record { replies = reply ∷ []; ea
 pub Replied-nil : {Is : List ℕ → Type 0} (query : Query) → Is [] → Replied Is query []
 Replied-nil query h = record { replies = []; each = tt; text = h }
 
--- bytes before those that were cut
-recut : (a b front beyond : List ℕ) → b ≡ front ++ beyond → a ++ b ≡ (a ++ front) ++ beyond
-recut a b front beyond e = ap (λ xs. a ++ xs) e ∙ sym (append_assoc a front beyond)
+-- what is ready does not depend on the output
+pub IsReady-anywhere : {s : Stage} {out : Output} → IsReady s → IsReady (record s { output = out })
+IsReady-anywhere ready = record { is_line = ready.is_line; is_short = ready.is_short; few = ready.few; none_after = ready.none_after }
 
--- the lines of an open line, bytes and more bytes
-Splits-more : (start a b : List ℕ) {mid rest : List ℕ} {lines more : List (List ℕ)} → Splits (start ++ a) lines mid → Splits (mid ++ b) more rest
-    → Splits (start ++ (a ++ b)) (lines ++ more) rest
-Splits-more start a b {mid = mid} {rest = rest} {lines = lines} {more = more} h k =
-    subst (λ xs. Splits xs (lines ++ more) rest) (append_assoc start a b) (Splits-join (start ++ a) b lines more mid rest h k)
+-- a part that nothing is beyond, and then a part of its rest and more
+Part-then : (start a b : List ℕ) (h : Part (start ++ a)) (k : Part (h.rest ++ b)) → h.beyond ≡ [] → Part (start ++ (a ++ b))
+Part-then start a b h k none =
+    let ended = flat_map with_newline h.lines in
+    let taken : start ++ a ≡ ended ++ h.rest = h.whole ∙ ap (λ xs. h.front ++ xs) none ∙ append-nil h.front ∙ h.splits.whole in
+    record {
+      front = ended ++ k.front;
+      beyond = k.beyond;
+      lines = h.lines ++ k.lines;
+      rest = k.rest;
+      whole = sym (append_assoc start a b) ∙ ap (λ xs. xs ++ b) taken ∙ append_assoc ended h.rest b ∙ ap (λ xs. ended ++ xs) k.whole
+          ∙ sym (append_assoc ended k.front k.beyond);
+      splits = record {
+        whole = ap (λ xs. ended ++ xs) k.splits.whole ∙ sym (append_assoc ended (flat_map with_newline k.lines) k.rest)
+            ∙ ap (λ xs. xs ++ k.rest) (sym (flat_map-append with_newline h.lines k.lines));
+        each = All-append IsLine h.lines k.lines h.splits.each k.splits.each;
+        rest_is_line = k.splits.rest_is_line;
+      };
+    }
 
--- bytes that were taken in, and then more bytes
-TookIn-then : {s0 s1 s2 : Stage} {a b : List ℕ} → TookIn s0 s1 a → TookIn s1 s2 b → TookIn s0 s2 (a ++ b)
-TookIn-then {s0 = s0} {s1 = s1} {s2 = s2} {a = a} {b = b} h k = record {
-  lines = h.lines ++ k.lines;
-  splits = Splits-more s0.open_line a b h.splits k.splits;
-  short = All-append IsShort h.lines k.lines h.short k.short;
-  counted = omega (arith, h.counted, k.counted, length-append h.lines k.lines);
-  same = k.same ∙ h.same;
-  put = Puts-replies s0.query h.lines k.lines h.put (subst (λ query. Replied (Puts s1.output s2.output) query k.lines) h.same k.put);
+-- the stage that taking in all of a part leads to
+abbrev after : Stage → Output → {bytes : List ℕ} → Part bytes → Stage
+after s out part = record s { open_line = part.rest; ended = s.ended + length part.lines; output = out }
+
+more_ended : (n : ℕ) (lines more : List (List ℕ)) → n + length lines + length more ≡ n + length (lines ++ more)
+more_ended n lines more = omega (arith, length-append lines more)
+
+TakesTo-then : (s s' : Stage) (out : Output) (a b : List ℕ) (r : Result (Unit {0}) ToolError) (h : Part (s.open_line ++ a)) (k : Part (h.rest ++ b)) (none : h.beyond ≡ [])
+    → TakesTo (after s out h) s' k r → TakesTo s s' (Part-then s.open_line a b h k none) r
+unfolding Part-then
+TakesTo-then s s' out a b (Ok u) h k none at = record {
+  none_beyond = at.none_beyond;
+  same = at.same ∙ ap (λ n. record s { open_line = k.rest; ended = n; output = s'.output }) (more_ended s.ended h.lines k.lines);
+  ready = at.ready;
 }
-
--- bytes that were taken in, and then bytes whose replies the writer refused
-RefusedWithin-then : {s0 s1 s2 : Stage} {a b : List ℕ} {kind : ErrorKind} → TookIn s0 s1 a → RefusedWithin s1 s2 b kind → RefusedWithin s0 s2 (a ++ b) kind
-RefusedWithin-then {s0 = s0} {s1 = s1} {s2 = s2} {a = a} {b = b} {kind = kind} h k = record {
-  front = a ++ k.front;
-  beyond = k.beyond;
-  lines = h.lines ++ k.lines;
-  cut = recut a b k.front k.beyond k.cut;
-  due = (k.due.0, Splits-more s0.open_line a k.front h.splits k.due.1);
-  put = PutsProperPrefix-replies s0.query h.lines k.lines h.put (subst (λ query. Replied (λ text. PutsProperPrefix s1.output s2.output text kind) query k.lines) h.same k.put);
-}
-
--- bytes that were taken in, and then bytes within which the run stops
-StoppedWithin-then : {s0 s1 s2 : Stage} {a b : List ℕ} {stop : ToolError} → TookIn s0 s1 a → StoppedWithin s1 s2 b stop → StoppedWithin s0 s2 (a ++ b) stop
-StoppedWithin-then {s0 = s0} {s1 = s1} {s2 = s2} {a = a} {b = b} {stop = stop} h k = record {
-  front = a ++ k.front;
-  beyond = k.beyond;
-  lines = h.lines ++ k.lines;
-  rest = k.rest;
-  cut = recut a b k.front k.beyond k.cut;
-  splits = Splits-more s0.open_line a k.front h.splits k.splits;
-  short = All-append IsShort h.lines k.lines h.short k.short;
-  stops = subst (λ n. StopsAt stop n k.rest k.beyond) (omega (arith, h.counted, length-append h.lines k.lines)) k.stops;
-  put = Puts-replies s0.query h.lines k.lines h.put (subst (λ query. Replied (Puts s1.output s2.output) query k.lines) h.same k.put);
-}
+TakesTo-then s s' out a b (Err (errors.Write kind)) h k none at = tt
+TakesTo-then s s' out a b (Err (errors.Read kind)) h k none at = absurd at
+TakesTo-then s s' out a b (Err errors.Memory) h k none at = subst (λ n. StopsAt errors.Memory n k.rest k.beyond) (more_ended s.ended h.lines k.lines) at
+TakesTo-then s s' out a b (Err errors.LineTooLong) h k none at = subst (λ n. StopsAt errors.LineTooLong n k.rest k.beyond) (more_ended s.ended h.lines k.lines) at
+TakesTo-then s s' out a b (Err errors.TooManyLines) h k none at = subst (λ n. StopsAt errors.TooManyLines n k.rest k.beyond) (more_ended s.ended h.lines k.lines) at
 
 -- bytes that were taken in, and then more bytes, whatever came of these
-pub TakesIn-then : {s0 s1 : Stage} {a : List ℕ} (s2 : Stage) (b : List ℕ) (r : Result (Unit {0}) ToolError) → TookIn s0 s1 a → TakesIn s1 s2 b r
+pub TakesIn-then : {s0 s1 : Stage} {a : List ℕ} (s2 : Stage) (b : List ℕ) (r : Result (Unit {0}) ToolError) → TakesIn s0 s1 a (Ok tt) → TakesIn s1 s2 b r
     → TakesIn s0 s2 (a ++ b) r
-TakesIn-then s2 b (Ok u) h k = TookIn-then h k
-TakesIn-then s2 b (Err (errors.Write kind)) h k = RefusedWithin-then h k
-TakesIn-then s2 b (Err (errors.Read kind)) h k = StoppedWithin-then h k
-TakesIn-then s2 b (Err errors.Memory) h k = StoppedWithin-then h k
-TakesIn-then s2 b (Err errors.LineTooLong) h k = StoppedWithin-then h k
-TakesIn-then s2 b (Err errors.TooManyLines) h k = StoppedWithin-then h k
+unfolding Part-then
+TakesIn-then {s0 = s0} {s1 = s1} {a = a} s2 b r h k' =
+    let k : TakesIn (after s0 s1.output h.part) s2 b r = subst (λ s. TakesIn s s2 b r) h.to.same k' in
+    record {
+      part = Part-then s0.open_line a b h.part k.part h.to.none_beyond;
+      short = All-append IsShort h.part.lines k.part.lines h.short k.short;
+      to = TakesTo-then s0 s2 s1.output a b r h.part k.part h.to.none_beyond k.to;
+      put = Sends-replies s2.output (writer_answer r) s0.query h.part.lines k.part.lines h.put k.put;
+    }
 
 -- the line goes on, whatever stands after that
 goes-on-more : (beyond more : List ℕ) → LineGoesOn beyond → LineGoesOn (beyond ++ more)
 goes-on-more [] more h = absurd h
 goes-on-more (byte ∷ bytes) more h = h
 
--- the line goes on by a part of it
-goes-on : (part more : List ℕ) → IsLine part → 0 < length part → LineGoesOn (part ++ more)
-goes-on [] more line long = absurd (omega (arith, long))
-goes-on (byte ∷ bytes) more line long = All-head (λ b. b ≢ newline) byte bytes line
-
--- bytes that are not empty by a test
-pub some_byte : (xs : List ℕ) (b : Bool) → b ≡ (length xs == 0) → b ≡ false → 0 < length xs
-some_byte xs b e h = grind (arith, nat_tests)
-
--- more bytes stand beyond the place where a run stops
-StopsAt-beyond : (stop : ToolError) (n : ℕ) (rest beyond more : List ℕ) → StopsAt stop n rest beyond → StopsAt stop n rest (beyond ++ more)
-StopsAt-beyond errors.LineTooLong n rest beyond more h = h
-StopsAt-beyond errors.TooManyLines n rest beyond more h = record { all = h.all; none_begun = h.none_begun; more = omega (arith, length-append beyond more, h.more) }
-StopsAt-beyond errors.Memory n rest beyond more h = (h.0, h.1, goes-on-more beyond more h.2)
-StopsAt-beyond (errors.Read kind) n rest beyond more h = h
-StopsAt-beyond (errors.Write kind) n rest beyond more h = h
-
-further : (a b front beyond : List ℕ) → a ≡ front ++ beyond → a ++ b ≡ front ++ (beyond ++ b)
-further a b front beyond e = ap (λ xs. xs ++ b) e ∙ append_assoc front beyond b
-
-StoppedWithin-beyond : {s s' : Stage} {a : List ℕ} {stop : ToolError} (b : List ℕ) → StoppedWithin s s' a stop → StoppedWithin s s' (a ++ b) stop
-StoppedWithin-beyond {s = s} {a = a} {stop = stop} b h = record {
+-- a part of some bytes is one of more
+Part-beyond : (start a b : List ℕ) → Part (start ++ a) → Part (start ++ (a ++ b))
+Part-beyond start a b h = record {
   front = h.front;
   beyond = h.beyond ++ b;
   lines = h.lines;
   rest = h.rest;
-  cut = further a b h.front h.beyond h.cut;
+  whole = sym (append_assoc start a b) ∙ ap (λ xs. xs ++ b) h.whole ∙ append_assoc h.front h.beyond b;
   splits = h.splits;
-  short = h.short;
-  stops = StopsAt-beyond stop (s.ended + length h.lines) h.rest h.beyond b h.stops;
-  put = h.put;
 }
 
-RefusedWithin-beyond : {s s' : Stage} {a : List ℕ} {kind : ErrorKind} (b : List ℕ) → RefusedWithin s s' a kind → RefusedWithin s s' (a ++ b) kind
-RefusedWithin-beyond {a = a} b h = record {
-  front = h.front;
-  beyond = h.beyond ++ b;
-  lines = h.lines;
-  cut = further a b h.front h.beyond h.cut;
-  due = h.due;
-  put = h.put;
-}
+TakesTo-beyond : (s s' : Stage) (a b : List ℕ) (e : ToolError) (h : Part (s.open_line ++ a)) → TakesTo s s' h (Err e) → TakesTo s s' (Part-beyond s.open_line a b h) (Err e)
+unfolding Part-beyond
+TakesTo-beyond s s' a b errors.LineTooLong h at = at
+TakesTo-beyond s s' a b errors.TooManyLines h at = record { all = at.all; none_begun = at.none_begun; more = omega (arith, length-append h.beyond b, at.more) }
+TakesTo-beyond s s' a b errors.Memory h at = (at.0, at.1, goes-on-more h.beyond b at.2)
+TakesTo-beyond s s' a b (errors.Read kind) h at = at
+TakesTo-beyond s s' a b (errors.Write kind) h at = tt
 
 -- a run that stopped within some bytes stopped within more
 pub TakesIn-beyond : (s s' : Stage) (a b : List ℕ) (e : ToolError) → TakesIn s s' a (Err e) → TakesIn s s' (a ++ b) (Err e)
-TakesIn-beyond s s' a b (errors.Write kind) h = RefusedWithin-beyond b h
-TakesIn-beyond s s' a b (errors.Read kind) h = StoppedWithin-beyond b h
-TakesIn-beyond s s' a b errors.Memory h = StoppedWithin-beyond b h
-TakesIn-beyond s s' a b errors.LineTooLong h = StoppedWithin-beyond b h
-TakesIn-beyond s s' a b errors.TooManyLines h = StoppedWithin-beyond b h
+unfolding Part-beyond
+TakesIn-beyond s s' a b e h = record { part = Part-beyond s.open_line a b h.part; short = h.short; to = TakesTo-beyond s s' a b e h.part h.to; put = h.put }
+
+-- bytes that end no line, of which some are beyond
+abbrev open_part : (start a b : List ℕ) → IsLine (start ++ a) → Part (start ++ (a ++ b))
+open_part start a b line = record {
+  front = start ++ a;
+  beyond = b;
+  lines = [];
+  rest = start ++ a;
+  whole = sym (append_assoc start a b);
+  splits = record { whole = refl; each = All-nil IsLine; rest_is_line = line };
+}
+
+-- the open line, and bytes that it has not taken
+abbrev untaken : (start a : List ℕ) → IsLine start → Part (start ++ a)
+untaken start a line = record {
+  front = start;
+  beyond = a;
+  lines = [];
+  rest = start;
+  whole = refl;
+  splits = record { whole = refl; each = All-nil IsLine; rest_is_line = line };
+}
 
 -- the open line and a part of it that is read now
-IsLine-more : {s : Stage} (part : List ℕ) → IsReady s → IsLine part → IsLine (s.open_line ++ part)
-IsLine-more {s = s} part ready line = All-append (λ b. b ≢ newline) s.open_line part ready.is_line line
-
--- bytes that the open line may not take stop the run
-stops_within : {s : Stage} (front beyond : List ℕ) (stop : ToolError) → IsLine (s.open_line ++ front)
-    → StopsAt stop (s.ended + 0) (s.open_line ++ front) beyond → StoppedWithin s s (front ++ beyond) stop
-stops_within {s = s} front beyond stop line at = record {
-  front = front;
-  beyond = beyond;
-  lines = [];
-  rest = s.open_line ++ front;
-  cut = refl;
-  splits = Splits-open (s.open_line ++ front) line;
-  short = All-nil IsShort;
-  stops = at;
-  put = Replied-nil s.query (Puts-nil s.output);
-}
-
--- the same where no byte was taken in
-stops_before : {s : Stage} (bytes : List ℕ) (stop : ToolError) → IsReady s → StopsAt stop (s.ended + 0) s.open_line bytes → StoppedWithin s s bytes stop
-stops_before {s = s} bytes stop ready at =
-    let same = sym (append-nil s.open_line) in
-    stops_within [] bytes stop (subst IsLine same ready.is_line) (subst (λ rest. StopsAt stop (s.ended + 0) rest bytes) same at)
-
--- a line that would be too long is so at its first byte beyond the limit
-too_long : {s : Stage} (part more : List ℕ) → IsReady s → IsLine part → s.ended < MAX_LINES → MAX_LINE_LEN < length (s.open_line ++ part)
-    → StoppedWithin s s (part ++ more) errors.LineTooLong
-too_long {s = s} part more ready line few long =
-    let n = MAX_LINE_LEN + 1 - length s.open_line in
-    let short : length s.open_line ≤ MAX_LINE_LEN = ready.is_short in
-    let room : n ≤ length part = omega (arith, length-append s.open_line part) in
-    let front = take n part in
-    let cut : part ++ more ≡ front ++ (drop n part ++ more) = ap (λ xs. xs ++ more) (sym (take-append-drop n part)) ∙ append_assoc front (drop n part) more in
-    let size : length (s.open_line ++ front) ≡ MAX_LINE_LEN + 1 = omega (arith, length-append s.open_line front, length-take-le n part room) in
-    let within = stops_within front (drop n part ++ more) errors.LineTooLong (IsLine-more front ready (All-take (λ b. b ≢ newline) n part line)) (omega arith, size) in
-    subst (λ bytes. StoppedWithin s s bytes errors.LineTooLong) (sym cut) within
-
-refused : {s : Stage} (s' : Stage) (part more : List ℕ) (e : ToolError) → IsReady s → IsLine part → 0 < length (part ++ more)
-    → Extends s s' part (Err e) → TakesIn s s (part ++ more) (Err e)
-refused s' part more (errors.Write kind) ready line long h = absurd h.1
-refused s' part more (errors.Read kind) ready line long h = absurd h.1
-refused {s = s} s' part more errors.Memory ready line long h =
-    stops_before (part ++ more) errors.Memory ready
-    (omega (arith, h.1.0), omega (arith, length-append s.open_line part, h.1.1, h.1.2), goes-on part more line h.1.2)
-refused s' part more errors.LineTooLong ready line long h = too_long part more ready line h.1.0 h.1.1
-refused s' part more errors.TooManyLines ready line long h = stops_before (part ++ more) errors.TooManyLines ready (record { all = omega (arith, h.1); none_begun = ready.none_after h.1; more = long })
-
--- bytes that were refused, and have changed nothing
-pub TakesIn-refused : {s : Stage} (s' : Stage) (part more : List ℕ) (e : ToolError) → IsReady s → IsLine part → 0 < length (part ++ more)
-    → Extends s s' part (Err e) → TakesIn s s' (part ++ more) (Err e)
-TakesIn-refused {s = s} s' part more e ready line long h = subst (λ x. TakesIn s x (part ++ more) (Err e)) (sym h.0) (refused s' part more e ready line long h)
-
--- a front of the bytes was taken in, and this is the rest
-pub record HasTaken (s s' : Stage) (bytes rest : List ℕ) : Type 0 where
-  pub front : List ℕ
-  pub cut : bytes ≡ front ++ rest
-  pub took : TookIn s s' front
+line_more : {s : Stage} (part : List ℕ) → IsReady s → IsLine part → IsLine (s.open_line ++ part)
+line_more {s = s} part ready line = All-append (λ b. b ≢ newline) s.open_line part ready.is_line line
 
 -- nothing was taken in
-pub TookIn-nil : {s : Stage} → IsReady s → TookIn s s []
-TookIn-nil {s = s} ready = record {
-  lines = [];
-  splits = subst (λ xs. Splits xs [] s.open_line) (sym (append-nil s.open_line)) (Splits-open s.open_line ready.is_line);
+pub TakesIn-nil : {s : Stage} → IsReady s → TakesIn s s [] (Ok tt)
+TakesIn-nil {s = s} ready = record {
+  part = untaken s.open_line [] ready.is_line;
   short = All-nil IsShort;
-  counted = omega arith;
-  same = refl;
+  to = record { none_beyond = refl; same = ap (λ n. record s { ended = n }) (omega arith); ready = ready };
   put = Replied-nil s.query (Puts-nil s.output);
 }
 
--- bytes were put after the open line
-TookIn-extended : {s s' : Stage} (part : List ℕ) → IsReady s → IsLine part → Extended s s' part → TookIn s s' part
-TookIn-extended {s = s} part ready line h = subst (λ x. TookIn s x part) (sym h.same) (record {
-  lines = [];
-  splits = Splits-open (s.open_line ++ part) (IsLine-more part ready line);
-  short = All-nil IsShort;
-  counted = omega arith;
-  same = refl;
-  put = Replied-nil s.query (Puts-nil s.output);
-})
-
--- the last bytes of a piece, which end no line
-pub TakesIn-last : {s : Stage} (s' : Stage) (part : List ℕ) (r : Result (Unit {0}) ToolError) → IsReady s → IsLine part → 0 < length part
-    → Extends s s' part r → TakesIn s s' part r
-TakesIn-last s' part (Ok u) ready line long h = TookIn-extended part ready line h
-TakesIn-last {s = s} s' part (Err e) ready line long h =
-    subst (λ bytes. TakesIn s s' bytes (Err e)) (append-nil part) (TakesIn-refused s' part [] e ready line (omega (arith, length-append part [], long)) h)
-
--- a line that stood open, the last bytes of it, and its newline
-Splits-ended : (start part : List ℕ) → IsLine (start ++ part) → Splits (start ++ with_newline part) ((start ++ part) ∷ []) []
-Splits-ended start part h =
-    subst (λ xs. Splits xs ((start ++ part) ∷ []) []) (append_assoc start part (newline ∷ [])) (Splits-newline (start ++ part) [] (start ++ part) (Splits-open (start ++ part) h))
-
--- the stage with a part of a line after the open line
-abbrev longer : Stage → List ℕ → Stage
-longer s part = record s { open_line = s.open_line ++ part }
-
--- a line ended, and the reply to it was put
-TookIn-closed : {s s' : Stage} (part : List ℕ) → IsReady s → IsLine part → IsShort (s.open_line ++ part) → Closed (longer s part) s'
-    → TookIn s s' (with_newline part)
-TookIn-closed {s = s} {s' = s'} part ready line short k =
-    let ended = s.open_line ++ part in
-    record {
-      lines = ended ∷ [];
-      splits = subst (Splits (s.open_line ++ with_newline part) (ended ∷ [])) (sym (ap (λ x. x.open_line) k.same)) (Splits-ended s.open_line part (IsLine-more part ready line));
-      short = All-cons IsShort ended [] short (All-nil IsShort);
-      counted = omega (arith, ap (λ x. x.ended) k.same);
-      same = ap (λ x. x.query) k.same;
-      put = k.put;
-    }
-
--- a line ended, and the writer refused the reply to it
-RefusedWithin-closed : {s s' : Stage} {kind : ErrorKind} (part : List ℕ) → IsReady s → IsLine part
-    → Replied (λ text. PutsProperPrefix s.output s'.output text kind) s.query ((s.open_line ++ part) ∷ []) → RefusedWithin s s' (with_newline part) kind
-RefusedWithin-closed {s = s} {s' = s'} {kind = kind} part ready line k = record {
-  front = with_newline part;
+-- a text that ends no line
+abbrev whole_part : {text : List ℕ} → IsLine text → Part text
+whole_part {text = text} line = record {
+  front = text;
   beyond = [];
-  lines = (s.open_line ++ part) ∷ [];
-  cut = sym (append-nil (with_newline part));
-  due = ([], Splits-ended s.open_line part (IsLine-more part ready line));
-  put = k;
+  lines = [];
+  rest = text;
+  whole = sym (append-nil text);
+  splits = record { whole = refl; each = All-nil IsLine; rest_is_line = line };
 }
 
-closes : {s : Stage} (s' : Stage) (part : List ℕ) (r : Result (Unit {0}) ToolError) → IsReady s → IsLine part → s.ended < MAX_LINES
-    → IsShort (s.open_line ++ part)
-    → Closes (longer s part) s' r → TakesIn s s' (with_newline part) r
-closes s' part (Ok u) ready line few short k = TookIn-closed part ready line short k
-closes s' part (Err (errors.Write kind)) ready line few short k = RefusedWithin-closed part ready line k
-closes s' part (Err errors.Memory) ready line few short k = absurd k
-closes s' part (Err (errors.Read kind)) ready line few short k = absurd k
-closes s' part (Err errors.LineTooLong) ready line few short k = absurd k
-closes s' part (Err errors.TooManyLines) ready line few short k = absurd k
-
--- the last bytes of a line were taken in, and then the line ended, whatever came of that
-pub TakesIn-closes : {s s' : Stage} (s'' : Stage) (part : List ℕ) (r : Result (Unit {0}) ToolError) → IsReady s → IsLine part → Extended s s' part
-    → Closes s' s'' r → TakesIn s s'' (with_newline part) r
-TakesIn-closes s'' part r ready line h k = closes s'' part r ready line h.few h.is_short (subst (λ x. Closes x s'' r) h.same k)
-
-pub IsReady-extended : {s : Stage} (s' : Stage) (part : List ℕ) (r : Result (Unit {0}) ToolError) → IsReady s → IsLine part → Extends s s' part r
-    → OnOk r (IsReady s')
-IsReady-extended s' part (Ok u) ready line h = subst IsReady (sym h.same) (record {
-  is_line = IsLine-more part ready line;
-  is_short = h.is_short;
-  few = omega (arith, h.few);
-  none_after = λ e. absurd (omega (arith, h.few, e));
+-- bytes that end no line were put after the open line
+pub TakesIn-extended : {s s' : Stage} (bytes : List ℕ) → IsReady s → IsLine bytes → IsShort (s.open_line ++ bytes) → s.ended < MAX_LINES
+    → s' ≡ record s { open_line = s.open_line ++ bytes } → TakesIn s s' bytes (Ok tt)
+TakesIn-extended {s = s} bytes ready line short few same = subst (λ x. TakesIn s x bytes (Ok tt)) (sym same) (record {
+  part = whole_part (line_more bytes ready line);
+  short = All-nil IsShort;
+  to = record {
+    none_beyond = refl;
+    same = ap (λ n. record s { open_line = s.open_line ++ bytes; ended = n }) (omega arith);
+    ready = record { is_line = line_more bytes ready line; is_short = short; few = omega (arith, few); none_after = λ e. absurd (omega (arith, few, e)) };
+  };
+  put = Replied-nil s.query (Puts-nil s.output);
 })
-IsReady-extended s' part (Err e) ready line h = tt
 
-pub IsReady-closed : (s s' : Stage) (r : Result (Unit {0}) ToolError) → s.ended < MAX_LINES → Closes s s' r → OnOk r (IsReady s')
-IsReady-closed s s' (Ok u) few h = subst IsReady (sym h.same) (record {
-  is_line = All-nil (λ b. b ≢ newline);
-  is_short = omega arith;
-  few = omega (arith, few);
-  none_after = λ _. refl;
-})
-IsReady-closed s s' (Err e) few h = tt
+-- a byte stands where no line may begin any more
+pub TakesIn-too_many : {s : Stage} (bytes : List ℕ) → IsReady s → s.ended ≡ MAX_LINES → 0 < length bytes → TakesIn s s bytes (Err errors.TooManyLines)
+TakesIn-too_many {s = s} bytes ready all more = record {
+  part = untaken s.open_line bytes ready.is_line;
+  short = All-nil IsShort;
+  to = record { all = omega (arith, all); none_begun = ready.none_after all; more = more };
+  put = Replied-nil s.query (Puts-nil s.output);
+}
+
+goes-on : (bytes : List ℕ) → IsLine bytes → 0 < length bytes → LineGoesOn bytes
+goes-on [] line long = absurd (omega (arith, long))
+goes-on (byte ∷ bytes) line long = All-head (λ b. b ≢ newline) byte bytes line
+
+-- memory was refused for bytes that the open line may have
+pub TakesIn-no_memory : {s : Stage} (bytes : List ℕ) → IsReady s → IsLine bytes → s.ended < MAX_LINES → 0 < length bytes → length (s.open_line ++ bytes) ≤ MAX_LINE_LEN
+    → TakesIn s s bytes (Err errors.Memory)
+TakesIn-no_memory {s = s} bytes ready line few long short = record {
+  part = untaken s.open_line bytes ready.is_line;
+  short = All-nil IsShort;
+  to = (omega (arith, few), omega (arith, length-append s.open_line bytes, long, short), goes-on bytes line long);
+  put = Replied-nil s.query (Puts-nil s.output);
+}
+
+-- a line that would be too long is so at its first byte beyond the limit
+pub TakesIn-too_long : {s : Stage} (bytes : List ℕ) → IsReady s → IsLine bytes → s.ended < MAX_LINES → MAX_LINE_LEN < length (s.open_line ++ bytes)
+    → TakesIn s s bytes (Err errors.LineTooLong)
+TakesIn-too_long {s = s} bytes ready line few long =
+    let n = MAX_LINE_LEN + 1 - length s.open_line in
+    let short : length s.open_line ≤ MAX_LINE_LEN = ready.is_short in
+    let room : n ≤ length bytes = omega (arith, length-append s.open_line bytes) in
+    let size : length (s.open_line ++ take n bytes) ≡ MAX_LINE_LEN + 1 = omega (arith, length-append s.open_line (take n bytes), length-take-le n bytes room) in
+    subst (λ xs. TakesIn s s xs (Err errors.LineTooLong)) (take-append-drop n bytes) (record {
+      part = open_part s.open_line (take n bytes) (drop n bytes) (line_more (take n bytes) ready (All-take (λ b. b ≢ newline) n bytes line));
+      short = All-nil IsShort;
+      to = (omega (arith, few), size);
+      put = Replied-nil s.query (Puts-nil s.output);
+    })
+
+-- what stands open, and the newline that ends it
+abbrev ended_part : (line : List ℕ) → IsLine line → Part (line ++ newline ∷ [])
+ended_part line h = record {
+  front = line ++ newline ∷ [];
+  beyond = [];
+  lines = line ∷ [];
+  rest = [];
+  whole = sym (append-nil (line ++ newline ∷ []));
+  splits = record {
+    whole = sym (append-nil (flat_map with_newline (line ∷ [])) ∙ append-nil (with_newline line));
+    each = All-cons IsLine line [] h (All-nil IsLine);
+    rest_is_line = All-nil (λ b. b ≢ newline);
+  };
+}
+
+-- a writer's fault as one of the tool
+abbrev pub as_tool : Result (Unit {0}) ErrorKind → Result (Unit {0}) ToolError
+as_tool (Ok u) = Ok tt
+as_tool (Err kind) = Err (errors.Write kind)
+
+-- a newline was taken in: the open line ended, whatever came of the reply to it
+pub TakesIn-newline : {s s' : Stage} (r : Result (Unit {0}) ErrorKind) → IsReady s → s.ended < MAX_LINES → Closes s s' r → TakesIn s s' (newline ∷ []) (as_tool r)
+TakesIn-newline {s = s} (Ok u) ready few h = record {
+  part = ended_part s.open_line ready.is_line;
+  short = All-cons IsShort s.open_line [] ready.is_short (All-nil IsShort);
+  to = record {
+    none_beyond = refl;
+    same = h.same;
+    ready = subst IsReady (sym h.same) (record { is_line = All-nil (λ b. b ≢ newline); is_short = omega arith; few = omega (arith, few); none_after = λ _. refl });
+  };
+  put = h.put;
+}
+TakesIn-newline {s = s} (Err kind) ready few h = record {
+  part = ended_part s.open_line ready.is_line;
+  short = All-cons IsShort s.open_line [] ready.is_short (All-nil IsShort);
+  to = tt;
+  put = h.put;
+}
+
+-- what waits was sent, or refused
+pub TakesIn-sent : {s s' : Stage} (r : Result (Unit {0}) ErrorKind) → IsReady s → SendsAll s s' r → TakesIn s s' [] (as_tool r)
+TakesIn-sent {s = s} {s' = s'} (Ok u) ready h =
+    record {
+      part = untaken s.open_line [] ready.is_line;
+      short = All-nil IsShort;
+      to = record {
+        none_beyond = refl;
+        same = h.same ∙ ap (λ n. record s { ended = n; output = s'.output }) (omega arith);
+        ready = subst IsReady (sym h.same) (IsReady-anywhere ready);
+      };
+      put = Replied-nil s.query h.sent;
+    }
+TakesIn-sent {s = s} (Err kind) ready h = record { part = untaken s.open_line [] ready.is_line; short = All-nil IsShort; to = tt; put = Replied-nil s.query h.sent }
+
+-- bytes that are not empty by a test, and those that are
+pub some_byte : (xs : List ℕ) (b : Bool) → b ≡ (length xs == 0) → b ≡ false → 0 < length xs
+some_byte xs b e h = grind (arith, nat_tests)
+
+pub no_byte : (xs : List ℕ) (b : Bool) → b ≡ (length xs == 0) → b ≡ true → xs ≡ []
+no_byte [] b e h = refl
+no_byte (x ∷ xs) b e h = absurd (grind (arith, nat_tests))

@@ -34,16 +34,18 @@ abbrev pub LineGoesOn : List ℕ → Type 0
 LineGoesOn [] = ⊥
 LineGoesOn (byte ∷ more) = byte ≢ newline
 
--- these are the lines that end in the input
-abbrev pub HasEndedLines : List ℕ → List (List ℕ) → Type 0
-HasEndedLines input lines = (rest : List ℕ) × Splits input lines rest
-
--- these are all the lines of the input
-pub record HasLines (input : List ℕ) (lines : List (List ℕ)) : Type 0 where
-  pub ended : List (List ℕ)
+-- a front of the input, split into lines and a rest, and the bytes beyond it
+pub record Part (input : List ℕ) : Type 0 where
+  pub front : List ℕ
+  pub beyond : List ℕ
+  pub lines : List (List ℕ)
   pub rest : List ℕ
-  pub splits : Splits input ended rest
-  pub with_last : lines ≡ ended ++ last_line rest
+  pub whole : input ≡ front ++ beyond
+  pub splits : Splits front lines rest
+
+-- the lines of a part, its rest among them if that is a last line
+abbrev pub with_last_line : {input : List ℕ} → Part input → List (List ℕ)
+with_last_line part = part.lines ++ last_line part.rest
 
 -- a line that is not too long
 abbrev pub IsShort : List ℕ → Type 0

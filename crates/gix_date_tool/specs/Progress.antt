@@ -1,16 +1,16 @@
 -- How far a run has come between two reads.
-use Rattle.std.specs.Prelude.{◌≡◌, ℕ, ◌+◌, ◌<◌, ◌≤◌, List, [], ◌∷◌, ◌++◌, length, All, Result, Ok, Err}
+use Rattle.std.specs.Prelude.{◌≡◌, ℕ, ◌+◌, ◌≤◌, List, [], ◌∷◌, ◌++◌, length, All, Result, Ok, Err, OnOk}
 use Rattle.std.specs.declared.io.ErrorKind.{ErrorKind}
 use Rattle.gix_date.specs.Devices.StreamState.{StreamState}
 use Rattle.gix_date_tool.specs.declared.error.ToolError.{ToolError}
 use Rattle.gix_date_tool.specs.declared.error.ToolError.TheVariants as errors
-use Rattle.gix_date_tool.specs.declared.lines.TheConstants.{MAX_LINE_LEN, MAX_LINES}
+use Rattle.gix_date_tool.specs.declared.lines.TheConstants.{MAX_LINES}
 use Rattle.gix_date_tool.specs.declared.progress.Progress.{Progress}
 use Rattle.gix_date_tool.specs.declared.replies.Query.{Query}
-use Rattle.gix_date_tool.specs.Lines.{IsLine, Splits, last_line, HasEndedLines, IsShort}
+use Rattle.gix_date_tool.specs.Lines.{IsLine, Part, IsShort, last_line}
 use Rattle.gix_date_tool.specs.Replies.{Replied}
-use Rattle.gix_date_tool.specs.Outbox.{Output, output, all_sent, Puts, PutsProperPrefix}
-use Rattle.gix_date_tool.specs.Run.{StopsAt}
+use Rattle.gix_date_tool.specs.Outbox.{Output, output, all_sent, Sends}
+use Rattle.gix_date_tool.specs.Run.{StopsAt, writer_answer}
 
 -- the line that stands open, how many lines have ended, and the output of the replies to them
 pub record Stage : Type 0 where
@@ -43,93 +43,37 @@ pub record IsReady (s : Stage) : Type 0 where
   pub few : s.ended ≤ MAX_LINES
   pub none_after : s.ended ≡ MAX_LINES → s.open_line ≡ []
 
--- all that was unsent was sent
-pub record SentAll (s s' : Stage) : Type 0 where
-  pub same : s' ≡ record s { output = s'.output }
-  pub sent : Puts s.output s'.output []
-  pub none_unsent : s'.output.unsent ≡ []
+-- all bytes were taken in: what they leave of a line stands open
+pub record TakesAll (s s' : Stage) {bytes : List ℕ} (part : Part bytes) : Type 0 where
+  pub none_beyond : part.beyond ≡ []
+  pub same : s' ≡ record s { open_line = part.rest; ended = s.ended + length part.lines; output = s'.output }
+  pub ready : IsReady s'
 
--- what sending comes to
-abbrev pub SendsAll : Stage → Stage → Result Unit ToolError → Type 0
-SendsAll s s' (Ok _) = SentAll s s'
-SendsAll s s' (Err (errors.Write kind)) = PutsProperPrefix s.output s'.output [] kind
-SendsAll s s' (Err _) = ⊥
+-- where taking in bytes ends
+abbrev pub TakesTo : Stage → Stage → {bytes : List ℕ} → Part bytes → Result (Unit {0}) ToolError → Type 0
+TakesTo s s' part (Ok _) = TakesAll s s' part
+TakesTo s s' part (Err (errors.Write kind)) = Unit {0}
+TakesTo s s' part (Err stop) = StopsAt stop (s.ended + length part.lines) part.rest part.beyond
 
--- the bytes were put after the open line
-pub record Extended (s s' : Stage) (bytes : List ℕ) : Type 0 where
-  pub same : s' ≡ record s { open_line = s.open_line ++ bytes }
-  pub is_short : IsShort (s.open_line ++ bytes)
-  pub few : s.ended < MAX_LINES
+-- What taking in bytes after the open line comes to: the lines that end in a part of them were replied to.
+pub record TakesIn (s s' : Stage) (bytes : List ℕ) (result : Result (Unit {0}) ToolError) : Type 0 where
+  pub part : Part (s.open_line ++ bytes)
+  pub short : All IsShort part.lines
+  pub to : TakesTo s s' part result
+  pub put : Replied (λ text. Sends s.output s'.output text (writer_answer result)) s.query part.lines
 
--- why bytes may not stand after the open line
-abbrev pub StopsExtending : ToolError → Stage → List ℕ → Type 0
-StopsExtending errors.LineTooLong s bytes = (s.ended < MAX_LINES) × (MAX_LINE_LEN < length (s.open_line ++ bytes))
-StopsExtending errors.TooManyLines s bytes = s.ended ≡ MAX_LINES
-StopsExtending errors.Memory s bytes =
-    (s.ended < MAX_LINES) × (length (s.open_line ++ bytes) ≤ MAX_LINE_LEN) × (0 < length bytes)
-StopsExtending _ s bytes = ⊥
+-- what sending all that waits comes to
+pub record SendsAll (s s' : Stage) (result : Result (Unit {0}) ErrorKind) : Type 0 where
+  pub sent : Sends s.output s'.output [] result
+  pub same : OnOk result (s' ≡ record s { output = s'.output })
+  pub none_unsent : OnOk result (s'.output.unsent ≡ [])
 
--- Bytes that end no line were put after the open line, or that was refused, and nothing has changed.
-abbrev pub Extends : Stage → Stage → List ℕ → Result Unit ToolError → Type 0
-Extends s s' bytes (Ok _) = Extended s s' bytes
-Extends s s' bytes (Err stop) = (s' ≡ s) × StopsExtending stop s bytes
+-- what replying to the open line comes to, which ends here
+pub record Closes (s s' : Stage) (result : Result (Unit {0}) ErrorKind) : Type 0 where
+  pub put : Replied (λ text. Sends s.output s'.output text result) s.query (s.open_line ∷ [])
+  pub same : OnOk result (s' ≡ record s { open_line = []; ended = s.ended + 1; output = s'.output })
 
--- the open line was replied to, and has ended
-pub record Closed (s s' : Stage) : Type 0 where
-  pub same : s' ≡ record s { open_line = []; ended = s.ended + 1; output = s'.output }
-  pub put : Replied (Puts s.output s'.output) s.query (s.open_line ∷ [])
-
--- what replying to the open line comes to
-abbrev pub Closes : Stage → Stage → Result Unit ToolError → Type 0
-Closes s s' (Ok _) = Closed s s'
-Closes s s' (Err (errors.Write kind)) =
-    Replied (λ text. PutsProperPrefix s.output s'.output text kind) s.query (s.open_line ∷ [])
-Closes s s' (Err _) = ⊥
-
--- the bytes were taken in, and the lines that they ended were replied to
-pub record TookIn (s s' : Stage) (bytes : List ℕ) : Type 0 where
-  pub lines : List (List ℕ)
-  pub splits : Splits (s.open_line ++ bytes) lines s'.open_line
-  pub short : All IsShort lines
-  pub counted : s'.ended ≡ s.ended + length lines
-  pub same : s'.query ≡ s.query
-  pub put : Replied (Puts s.output s'.output) s.query lines
-
--- the writer refused the replies to the lines that a front of the bytes ended
-pub record RefusedWithin (s s' : Stage) (bytes : List ℕ) (kind : ErrorKind) : Type 0 where
-  pub front : List ℕ
-  pub beyond : List ℕ
-  pub lines : List (List ℕ)
-  pub cut : bytes ≡ front ++ beyond
-  pub due : HasEndedLines (s.open_line ++ front) lines
-  pub put : Replied (λ text. PutsProperPrefix s.output s'.output text kind) s.query lines
-
--- the run stops within the bytes, and the lines that they ended before that were replied to
-pub record StoppedWithin (s s' : Stage) (bytes : List ℕ) (stop : ToolError) : Type 0 where
-  pub front : List ℕ
-  pub beyond : List ℕ
-  pub lines : List (List ℕ)
-  pub rest : List ℕ
-  pub cut : bytes ≡ front ++ beyond
-  pub splits : Splits (s.open_line ++ front) lines rest
-  pub short : All IsShort lines
-  pub stops : StopsAt stop (s.ended + length lines) rest beyond
-  pub put : Replied (Puts s.output s'.output) s.query lines
-
--- what taking in bytes comes to
-abbrev pub TakesIn : Stage → Stage → List ℕ → Result Unit ToolError → Type 0
-TakesIn s s' bytes (Ok _) = TookIn s s' bytes
-TakesIn s s' bytes (Err (errors.Write kind)) = RefusedWithin s s' bytes kind
-TakesIn s s' bytes (Err stop) = StoppedWithin s s' bytes stop
-
--- the line that stands open at the end of the input was replied to, and the lines were counted
-pub record EndedAll (s s' : Stage) (count : ℕ) : Type 0 where
-  pub put : Replied (Puts s.output s'.output) s.query (last_line s.open_line)
-  pub counted : count ≡ s.ended + length (last_line s.open_line)
-
--- what the end of the input comes to
-abbrev pub EndsAt : Stage → Stage → Result ℕ ToolError → Type 0
-EndsAt s s' (Ok count) = EndedAll s s' count
-EndsAt s s' (Err (errors.Write kind)) =
-    Replied (λ text. PutsProperPrefix s.output s'.output text kind) s.query (last_line s.open_line)
-EndsAt s s' (Err _) = ⊥
+-- what replying to the line that stands open at the end of the input comes to
+pub record Ends (s s' : Stage) (result : Result (Unit {0}) ErrorKind) : Type 0 where
+  pub put : Replied (λ text. Sends s.output s'.output text result) s.query (last_line s.open_line)
+  pub counted : OnOk result (s'.ended ≡ s.ended + length (last_line s.open_line))

@@ -1,8 +1,9 @@
 //! How far a run has come between two reads.
-ghost use Rattle.std.specs.Prelude.{◌≡◌, ◌<◌, ◌≤◌, [], length, IfOk, OnOk};
+ghost use Rattle.std.specs.Prelude.{◌≡◌, ◌<◌, ◌≤◌, [], length, IfErr, IfOk, OnOk};
 ghost use Rattle.std.specs.Io.KnownBytes.{ReadConsumes};
 ghost use Rattle.gix_date.specs.Devices.StreamState.{StreamState, refusal};
-ghost use Rattle.gix_date_tool.specs.Lines.{IsLine, IsShort, with_newline};
+ghost use Rattle.gix_date_tool.specs.declared.error.ToolError.TheVariants.{TooManyLines};
+ghost use Rattle.gix_date_tool.specs.Lines.{IsLine, with_newline};
 ghost use Rattle.gix_date_tool.specs.Run.{Ran, change};
 
 use crate::error::ToolError;
@@ -30,8 +31,8 @@ pub(crate) struct Progress {
 }
 
 impl Progress {
-    ghost use Rattle.gix_date_tool.specs.Outbox.{output, all_sent, Puts};
-    ghost use Rattle.gix_date_tool.specs.Progress.{stage, IsFresh, IsReady, SendsAll, Extends, Closes, TakesIn, EndsAt};
+    ghost use Rattle.gix_date_tool.specs.Outbox.{output, all_sent, Sends};
+    ghost use Rattle.gix_date_tool.specs.Progress.{stage, IsFresh, IsReady, SendsAll, Closes, TakesIn, Ends};
 
     /// The progress of a run that has read nothing.
     pub(crate) fn new(alloc: Global, query: Query) -> Progress
@@ -53,19 +54,23 @@ impl Progress {
         writer: &mut W,
     ) -> Result<u64, ToolError>
         requires { IsFresh self.old }
-        ensures { Ran (Puts (all_sent (W.known writer.old)) (output self.new.outbox (W.known writer.new)))
-            self.old.query (change (R.known reader.old) (R.known reader.new))
-            (change (W.known writer.old) (W.known writer.new)) result }
+        ensures { Ran (Sends (all_sent (W.known writer.old)) (output self.new.outbox (W.known writer.new)))
+            self.old.query (change (R.known reader.old) (R.known reader.new)) result }
     {
         let mut piece = [0; CHUNK];
         'pieces: loop {
-            self.send(writer)?;
+            if let Err(kind) = self.send(writer) {
+                return Err(ToolError::Write(kind));
+            }
             let count = match self.read(reader, &mut piece) {
                 Ok(count) => count,
                 Err(kind) => return Err(ToolError::Read(kind)),
             };
             if count == 0 {
-                return self.end_input(writer);
+                return match self.end_input(writer) {
+                    Ok(()) => Ok(self.ended),
+                    Err(kind) => Err(ToolError::Write(kind)),
+                };
             }
             self.feed(&piece[..count], writer)?;
         }
@@ -83,26 +88,22 @@ impl Progress {
     }
 
     /// Sends the replies that wait.
-    pub(crate) fn send<W: Sink>(&mut self, writer: &mut W) -> Result<(), ToolError>
+    pub(crate) fn send<W: Sink>(&mut self, writer: &mut W) -> Result<(), io::ErrorKind>
         ensures { SendsAll (stage self.old (W.known writer.old)) (stage self.new (W.known writer.new)) result }
     {
-        self.outbox.send(writer).map_err(ToolError::Write)
+        self.outbox.send(writer)
     }
 
     /// Takes in the next bytes, and replies to the lines that they end.
     fn feed<W: Sink>(&mut self, bytes: &[u8], writer: &mut W) -> Result<(), ToolError>
         requires { IsReady (stage self.old (W.known writer.old)) }
-        ensures takes { TakesIn (stage self.old (W.known writer.old)) (stage self.new (W.known writer.new))
+        ensures { TakesIn (stage self.old (W.known writer.old)) (stage self.new (W.known writer.new))
             bytes.now result }
-        ensures ready { OnOk result (IsReady (stage self.new (W.known writer.new))) }
     {
         let mut rest = bytes;
         while let Some((part, after)) = split_line(rest) {
             self.end_line(part, writer)?;
             rest = after;
-        }
-        if rest.is_empty() {
-            return Ok(());
         }
         self.extend(rest)
     }
@@ -111,26 +112,27 @@ impl Progress {
     fn end_line<W: Sink>(&mut self, part: &[u8], writer: &mut W) -> Result<(), ToolError>
         requires ready { IsReady (stage self.old (W.known writer.old)) }
         requires is_line { IsLine part.now }
-        ensures takes { TakesIn (stage self.old (W.known writer.old)) (stage self.new (W.known writer.new))
+        ensures { TakesIn (stage self.old (W.known writer.old)) (stage self.new (W.known writer.new))
             (with_newline part.now) result }
-        ensures ready { OnOk result (IsReady (stage self.new (W.known writer.new))) }
     {
         self.extend(part)?;
-        self.close_line(writer)
+        self.check_count()?;
+        match self.close_line(writer) {
+            Ok(()) => Ok(()),
+            Err(kind) => Err(ToolError::Write(kind)),
+        }
     }
 
     /// Appends bytes to the open line. An empty slice never allocates.
     fn extend(&mut self, part: &[u8]) -> Result<(), ToolError>
-        requires few { self.old.ended ≤ MAX_LINES }
-        requires short { IsShort self.old.line.items }
-        ensures { (sink : StreamState) → Extends (stage self.old sink) (stage self.new sink) part.now result }
+        requires ready { (sink : StreamState) → IsReady (stage self.old sink) }
+        requires is_line { IsLine part.now }
+        ensures { (sink : StreamState) → TakesIn (stage self.old sink) (stage self.new sink) part.now result }
     {
-        if self.ended == MAX_LINES {
-            return Err(ToolError::TooManyLines);
-        }
         if part.is_empty() {
             return Ok(());
         }
+        self.check_count()?;
         if part.len() > MAX_LINE_LEN - self.line.len() {
             return Err(ToolError::LineTooLong);
         }
@@ -140,27 +142,36 @@ impl Progress {
         Ok(())
     }
 
-    /// Replies to the line that stands open at the end of the input, and says how many lines there were.
-    fn end_input<W: Sink>(&mut self, writer: &mut W) -> Result<u64, ToolError>
+    /// [`ToolError::TooManyLines`] if no line may begin any more.
+    fn check_count(&self) -> Result<(), ToolError>
+        requires { self.now.ended ≤ MAX_LINES }
+        ensures room { OnOk result (self.now.ended < MAX_LINES) }
+        ensures none { IfErr result (λ e. (e ≡ TooManyLines) × (self.now.ended ≡ MAX_LINES)) }
+    {
+        if self.ended == MAX_LINES {
+            return Err(ToolError::TooManyLines);
+        }
+        Ok(())
+    }
+
+    /// Replies to the line that stands open at the end of the input.
+    fn end_input<W: Sink>(&mut self, writer: &mut W) -> Result<(), io::ErrorKind>
         requires { IsReady (stage self.old (W.known writer.old)) }
-        ensures { EndsAt (stage self.old (W.known writer.old)) (stage self.new (W.known writer.new)) result }
+        ensures { Ends (stage self.old (W.known writer.old)) (stage self.new (W.known writer.new)) result }
     {
         if self.line.is_empty() {
-            return Ok(self.ended);
+            return Ok(());
         }
-        self.close_line(writer)?;
-        Ok(self.ended)
+        self.close_line(writer)
     }
 
     /// Replies to the open line, which ends here. Where that is refused, the line stays open.
-    fn close_line<W: Sink>(&mut self, writer: &mut W) -> Result<(), ToolError>
+    fn close_line<W: Sink>(&mut self, writer: &mut W) -> Result<(), io::ErrorKind>
         requires { self.old.ended < MAX_LINES }
         ensures { Closes (stage self.old (W.known writer.old)) (stage self.new (W.known writer.new)) result }
     {
         let reply = reply_to(self.query, self.line.as_slice());
-        if let Err(kind) = reply.push_to(&mut self.outbox, writer) {
-            return Err(ToolError::Write(kind));
-        }
+        reply.push_to(&mut self.outbox, writer)?;
         self.line.clear();
         self.ended += 1;
         Ok(())

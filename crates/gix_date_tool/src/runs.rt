@@ -45,8 +45,10 @@ pub fn run<R: Source, W: Sink>(
     if is_unwritten(&outcome) {
         return outcome;
     }
-    progress.send(writer)?;
-    outcome
+    match progress.send(writer) {
+        Ok(()) => outcome,
+        Err(kind) => Err(ToolError::Write(kind)),
+    }
 }
 
 /// The moment of a time, in the zone that always has its offset.

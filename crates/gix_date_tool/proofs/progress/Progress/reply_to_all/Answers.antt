@@ -1,60 +1,76 @@
-use Rattle.std.proofs.Common.{rules, ◌<◌, length, take, subst}
+use Rattle.std.proofs.Common.{rules, ◌≡◌, ◌<◌, length, take, refl, sym, subst, Err}
 use Rattle.gix_date.specs.Devices.StreamState.{Gives}
 use Rattle.gix_date_tool.specs.Progress.{stage}
-use Rattle.gix_date_tool.proofs.Reading.{HasRead-first, HasRead-sent, HasRead-taken, IsReady-fresh, IsReady-sent, Ran-unsent, Ran-unread, Ran-ended, Ran-stopped}
+use Rattle.gix_date_tool.specs.Run.{change}
+use Rattle.gix_date_tool.proofs.Reading.{RanBut, HasRead-first, HasRead-sent, HasRead-taken, Ran-unsent, Ran-unread, Ran-ended, Ran-ended-unwritten, Ran-stopped}
 use Rattle.gix_date_tool.proofs.progress.Progress.reply_to_all.Goals as goal
 
 pub pieces-init : goal.pieces-init
 pieces-init g c =
     let sink = g.W.Sink.known c.args.writer.now in
-    let first = stage c.args.self.now sink in
-    record {
-      so_far = HasRead-first c.args.self.now.query sink first (g.R.Source.known c.args.reader.now) (c.requires sink);
-      ready = IsReady-fresh c.args.self.now.query sink first (c.requires sink);
-    }
-
-pub returns-in_err-send : goal.returns-in_err-send
-returns-in_err-send g c =
-    let last = stage c.send.new.self (g.W.Sink.known c.send.new.writer) in
-    let refused = Ran-unsent last c.in_err-send.field-0.0 c.pieces.invariant.so_far c.in_err-send.ensures in
-    search (rules, refused)
+    HasRead-first c.args.self.now.query sink (stage c.args.self.now sink) (g.R.Source.known c.args.reader.now) (c.requires sink)
 
 pub returns-in-Err : goal.returns-in-Err
-returns-in-Err g c =
-    let sent = stage c.send.new.self (g.W.Sink.known c.send.new.writer) in
-    let far = HasRead-sent {s' = sent} c.pieces.invariant.so_far c.in_ok-send.ensures in
-    let ready = IsReady-sent {s' = sent} c.pieces.invariant.ready c.in_ok-send.ensures in
-    Ran-unread (g.R.Source.known c.read.new.reader) far ready c.in-Err.ensures.bytes c.in-Err.ensures.fault
+returns-in-Err g c = Ran-unsent (stage c.send.new.self (g.W.Sink.known c.send.new.writer)) c.in-Err.kind c.pieces.invariant c.in-Err.ensures
 
-pub returns-then-count-eq0 : goal.returns-then-count-eq0
-returns-then-count-eq0 g c =
+pub returns-in-Err-read : goal.returns-in-Err-read
+returns-in-Err-read g c =
+    let sent = stage c.send.new.self (g.W.Sink.known c.send.new.writer) in
+    let far = HasRead-sent {s' = sent} c.pieces.invariant c.in_default.ensures in
+    Ran-unread (g.R.Source.known c.read.new.reader) far c.in-Err-read.ensures.bytes c.in-Err-read.ensures.fault
+
+pub returns-in-Ok-end_input : goal.returns-in-Ok-end_input
+returns-in-Ok-end_input g c =
     let before = g.R.Source.known c.pieces.reader in
     let after = g.R.Source.known c.read.new.reader in
-    let last = stage c.end_input.new.self (g.W.Sink.known c.end_input.new.writer) in
     let piece : 0 < length c.read.new.piece = search rules in
     let read = subst (λ n. Gives before after (take n c.read.new.piece)) c.if-count-eq0.true c.in-Ok.ensures.bytes.0 in
     let sent = stage c.send.new.self (g.W.Sink.known c.send.new.writer) in
-    let far = HasRead-sent {s' = sent} c.pieces.invariant.so_far c.in_ok-send.ensures in
-    let ready = IsReady-sent {s' = sent} c.pieces.invariant.ready c.in_ok-send.ensures in
-    Ran-ended last after c.end_input.result far ready read (c.in-Ok.ensures.bytes.1 c.if-count-eq0.true piece) c.in-Ok.ensures.fault c.end_input.ensures
+    let far = HasRead-sent {s' = sent} c.pieces.invariant c.in_default.ensures in
+    let last = stage c.end_input.new.self (g.W.Sink.known c.end_input.new.writer) in
+    Ran-ended last after c.end_input.new.self.ended far read (c.in-Ok.ensures.bytes.1 c.if-count-eq0.true piece) c.in-Ok.ensures.fault c.in-Ok-end_input.ensures refl
 
-pub returns-in_err-feed : goal.returns-in_err-feed
-returns-in_err-feed g c =
-    let last = stage c.feed.new.self (g.W.Sink.known c.feed.new.writer) in
+pub returns-in-Err-end_input : goal.returns-in-Err-end_input
+returns-in-Err-end_input g c =
+    let before = g.R.Source.known c.pieces.reader in
+    let after = g.R.Source.known c.read.new.reader in
+    let piece : 0 < length c.read.new.piece = search rules in
+    let read = subst (λ n. Gives before after (take n c.read.new.piece)) c.if-count-eq0.true c.in-Ok.ensures.bytes.0 in
     let sent = stage c.send.new.self (g.W.Sink.known c.send.new.writer) in
-    let far = HasRead-sent {s' = sent} c.pieces.invariant.so_far c.in_ok-send.ensures in
-    let stopped = Ran-stopped last (g.R.Source.known c.read.new.reader) (take c.in-Ok.count c.read.new.piece) c.in_err-feed.field-0.0 far c.in-Ok.ensures.bytes.0 c.in_err-feed.ensures.takes in
-    search (rules, stopped)
+    let far = HasRead-sent {s' = sent} c.pieces.invariant c.in_default.ensures in
+    let last = stage c.end_input.new.self (g.W.Sink.known c.end_input.new.writer) in
+    Ran-ended-unwritten last after c.in-Err-end_input.kind far read (c.in-Ok.ensures.bytes.1 c.if-count-eq0.true piece) c.in-Err-end_input.ensures
 
 pub pieces-preserved : goal.pieces-preserved
 pieces-preserved g c =
     let sent = stage c.send.new.self (g.W.Sink.known c.send.new.writer) in
-    let far = HasRead-sent {s' = sent} c.pieces.invariant.so_far c.in_ok-send.ensures in
+    let far = HasRead-sent {s' = sent} c.pieces.invariant c.in_default.ensures in
     let last = stage c.feed.new.self (g.W.Sink.known c.feed.new.writer) in
-    record {
-      so_far = HasRead-taken {s' = last} (g.R.Source.known c.read.new.reader) far c.in-Ok.ensures.bytes.0 c.in_ok-feed.ensures.takes;
-      ready = c.in_ok-feed.ensures.ready;
-    }
+    HasRead-taken {s' = last} (g.R.Source.known c.read.new.reader) far c.in-Ok.ensures.bytes.0 c.in_ok-feed.ensures
+
+pub returns-in_err-feed : goal.returns-in_err-feed
+returns-in_err-feed g c =
+    let sink = g.W.Sink.known c.args.writer.now in
+    let after = g.R.Source.known c.read.new.reader in
+    let fault = c.in_err-feed.field-0.0 in
+    let sent = stage c.send.new.self (g.W.Sink.known c.send.new.writer) in
+    let last = stage c.feed.new.self (g.W.Sink.known c.feed.new.writer) in
+    let far = HasRead-sent {s' = sent} c.pieces.invariant c.in_default.ensures in
+    let is : c.from_residual.result ≡ Err fault = search rules in
+    subst (RanBut sink last c.args.self.now.query (change (g.R.Source.known c.args.reader.now) after)) (sym is)
+    (Ran-stopped last after (take c.in-Ok.count c.read.new.piece) fault far c.in-Ok.ensures.bytes.0 c.in_err-feed.ensures)
 
 pub read-requires-clause-sent : goal.read-requires-clause-sent
-read-requires-clause-sent g c = c.in_ok-send.ensures.none_unsent
+read-requires-clause-sent g c = c.in_default.ensures.none_unsent
+
+pub end_input-requires : goal.end_input-requires
+end_input-requires g c =
+    let sent = stage c.send.new.self (g.W.Sink.known c.send.new.writer) in
+    let far = HasRead-sent {s' = sent} c.pieces.invariant c.in_default.ensures in
+    far.took.to.ready
+
+pub feed-requires : goal.feed-requires
+feed-requires g c =
+    let sent = stage c.send.new.self (g.W.Sink.known c.send.new.writer) in
+    let far = HasRead-sent {s' = sent} c.pieces.invariant c.in_default.ensures in
+    far.took.to.ready
