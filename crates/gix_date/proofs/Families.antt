@@ -4,4 +4,3 @@ pub mod Disjoint
 pub mod Exclusive
 pub mod Ranges
 pub mod Shapes
-pub mod RawLimits

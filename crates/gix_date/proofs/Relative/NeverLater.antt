@@ -61,6 +61,37 @@ said-of : {A : Type 0} (Is : A → Type 0) (rows : List (List ℕ × A)) (word :
 said-of Is [] word x h e = absurd cc
 said-of Is ((name, said) ∷ rows) word x h e = said-by Is said x (named_in rows word) (is_name word name) h.0 (said-of Is rows word x h.1) e
 
+-- all that stands in a table is so, by a test of it
+all-said : {A : Type 0} (Is : A → Type 0) (test : A → Bool) (rows : List (List ℕ × A)) → ((x : A) → test x ≡ true → Is x) → list_all (λ row. test row.1) rows ≡ true
+    → AllSaid Is rows
+all-said Is test [] by h = tt
+all-said Is test ((name, said) ∷ rows) by h =
+    let parts = both (test said) (list_all (λ row. test row.1) rows) h in (by said parts.0, all-said Is test rows by parts.1)
+
+abbrev is_low : ℤ → Bool
+is_low (pos n) = true
+is_low (negsuc n) = false
+
+low-by : (n : ℤ) → is_low n ≡ true → IsLow n
+low-by (pos n) e = low n
+low-by (negsuc n) e = absurd cc
+
+abbrev is_low_unit : TimeUnit → Bool
+is_low_unit (Seconds size) = is_low size
+is_low_unit (Months size) = is_low size
+
+low-unit : (unit : TimeUnit) → is_low_unit unit ≡ true → IsUnit unit
+low-unit (Seconds size) e = low-by size e
+low-unit (Months size) e = low-by size e
+
+abbrev is_low_date : RelativeDate → Bool
+is_low_date (MinusSeconds seconds) = is_low seconds
+is_low_date (MinusPairs list) = false
+
+low-date : (date : RelativeDate) → is_low_date date ≡ true → GoesBack date
+low-date (MinusSeconds seconds) e = low-by seconds e
+low-date (MinusPairs list) e = absurd cc
+
 -- a count word
 digit-no-minus : (c : ℕ) → is_ascii_digit c ≡ true → (c == minus) ≡ false
 digit-no-minus c h = grind (arith, nat_tests, h)
@@ -90,7 +121,7 @@ count-low word n e = by (list_all is_ascii_digit word) refl e
     by false d k = named-low word n k
 
 units-low : AllSaid IsUnit unit_names
-units-low = (low 1, (low 60, (low 3600, (low 86400, (low 604800, (low 1, (low 12, tt)))))))
+units-low = all-said IsUnit is_low_unit unit_names low-unit refl
 
 unit-low : (period : List ℕ) → IsUnit (unit_or_seconds period)
 unfolding unit_of named_unit
@@ -120,7 +151,7 @@ unfolding relative_date named_date pairs_date
 text-back text date e = by (named_in date_names (trim text)) refl e
   where
     by : (r : Option RelativeDate) → named_in date_names (trim text) ≡ r → option_or r (cond (are_pairs (relative_words text)) (Some (MinusPairs (pairs (relative_words text)))) None) ≡ Some date → GoesBack date
-    by (Some d) q k = subst GoesBack (same_some d date k) (said-of GoesBack date_names (trim text) d (low 0, (low 0, (low 86400, tt))) q)
+    by (Some d) q k = subst GoesBack (same_some d date k) (said-of GoesBack date_names (trim text) d (all-said GoesBack is_low_date date_names low-date refl) q)
     by None q k = subst GoesBack (guard (are_pairs (relative_words text)) (MinusPairs (pairs (relative_words text))) date k).1 (pairs-back (relative_words text))
 
 -- So it leads to no later instant.

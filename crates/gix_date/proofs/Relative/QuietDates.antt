@@ -6,7 +6,7 @@ use Rattle.std.proofs.lemmas.List.Quantifiers.{position-Some}
 use Rattle.std.specs.Char.{is_ascii_digit, is_ascii_alphabetic, is_ascii_alphanumeric, to_ascii_lowercase}
 use Rattle.std.specs.List.{list_all, position}
 use Rattle.std.specs.Option.{option_or}
-use Rattle.std.specs.Prelude.{◌==◌, ◌||◌, ◌&&◌, nat_lt}
+use Rattle.std.specs.Prelude.{◌==◌, ◌||◌, ◌&&◌, nat_le, nat_lt}
 use Rattle.std.specs.Str.{all_ascii_digits}
 use Rattle.std.specs.Str.Parse.{without_leading_sign, signed_digits_value}
 use Rattle.gix_date.specs.Families.Grammars.{IsSign}
@@ -15,14 +15,14 @@ use Rattle.gix_date.specs.Text.Characters.{minus, plus, colon, comma, letter_t}
 use Rattle.gix_date.specs.Fields.Front.{skip_char, ◌>>=◌}
 use Rattle.gix_date.specs.Fields.FieldTexts.{IsField, IsYear, AreSpaces, AreThreeLetters, IsDayName, IsMonthName, IsPlainDate, IsClock, IsMailClock, IsDayPrefix}
 use Rattle.gix_date.specs.Fields.Layout.{LocalTime, Piece, DayName, MailDayName, MonthName, Day, Year, PlainDate, Clock, MailClock, Spaces, LetterT, Offset, ColonOffset, MailOffset, IsPiece, ArePieces}
-use Rattle.gix_date.specs.Text.Names.{is_name, day_names, month_names}
+use Rattle.gix_date.specs.Text.Names.{is_name, named_in, day_names, month_names}
 use Rattle.gix_date.specs.Text.Numbers.{fits_i64, int_value, read_two_digits, two_digit_value}
 use Rattle.gix_date.specs.Fields.Offsets.{read_sign, offset_fields}
 use Rattle.gix_date.specs.Fields.DateFields.{is_weekday, month_named}
 use Rattle.gix_date.specs.Fields.DateOffsets.{compact_offset, strict_offset, mail_zone, mail_offset, named_zone, zone_names, jiff_offset, last_colon_pair}
 use Rattle.gix_date.specs.Families.Patterns.{short_layout, iso8601_layout, gitoxide_layout, default_layout, short_answer, rfc2822_answer, iso8601_answer, iso8601_strict_answer, gitoxide_answer, default_answer}
-use Rattle.gix_date.specs.Relative.Dates.{named_date}
-use Rattle.gix_date.specs.Relative.Words.{relative_words, is_gap, singular, named_unit, unit_of, is_ago}
+use Rattle.gix_date.specs.Relative.Dates.{date_names, named_date}
+use Rattle.gix_date.specs.Relative.Words.{relative_words, is_gap, singular, named_unit, unit_names, unit_of, is_ago}
 use Rattle.gix_date.specs.Relative.Roles.{has_unit}
 use Rattle.gix_date.specs.Text.SpaceWords.{space_words}
 use Rattle.gix_date.specs.declared.civil.ClockFields.{ClockFields}
@@ -43,17 +43,31 @@ no_lower c n h l m = grind (arith, nat_tests, h, l, m)
 no_s : (c : ℕ) → is_ascii_alphabetic c ≡ false → (c == 115 || c == 83) ≡ false
 no_s c h = grind (arith, nat_tests, h)
 
+-- a name that begins with a small letter
+abbrev begins_small : List ℕ → Bool
+begins_small [] = false
+begins_small (n ∷ name) = nat_le 97 n && nat_le n 122
+
+small-first : (c n : ℕ) (t name : List ℕ) → is_ascii_alphabetic c ≡ false → begins_small (n ∷ name) ≡ true → is_name (c ∷ t) (n ∷ name) ≡ false
+small-first c n t name h s =
+    let low : 97 ≤ n = grind (arith, nat_tests, s) in
+    let high : n ≤ 122 = grind (arith, nat_tests, s) in
+    rw (stays n low high, no_lower c n h low high) refl
+  where
+    stays : (n : ℕ) → 97 ≤ n → n ≤ 122 → to_ascii_lowercase n ≡ n
+    stays n low high = grind (arith, nat_tests, low, high)
+
+-- it is in no table whose names begin so
+no-named : {A : Type 0} (table : List (List ℕ × A)) (c : ℕ) (t : List ℕ) → is_ascii_alphabetic c ≡ false → list_all (λ row. begins_small row.0) table ≡ true → named_in table (c ∷ t) ≡ None
+no-named [] c t h all = refl
+no-named (([], said) ∷ rows) c t h all = absurd cc
+no-named ((n ∷ name, said) ∷ rows) c t h all =
+    let parts = both (begins_small (n ∷ name)) (list_all (λ row. begins_small row.0) rows) all in
+    rw (small-first c n t name h parts.0) (no-named rows c t h parts.1)
+
 no-name : (c : ℕ) (t : List ℕ) → is_ascii_alphabetic c ≡ false → named_unit (c ∷ t) ≡ None
 unfolding named_unit
-no-name c t h =
-    rw (
-      no_lower c 115 h (omega arith) (omega arith),
-      no_lower c 109 h (omega arith) (omega arith),
-      no_lower c 104 h (omega arith) (omega arith),
-      no_lower c 100 h (omega arith) (omega arith),
-      no_lower c 119 h (omega arith) (omega arith),
-      no_lower c 121 h (omega arith) (omega arith),
-    ) refl
+no-name c t h = no-named unit_names c t h refl
 
 cut-name : (b : Bool) (c d : ℕ) (t : List ℕ) → is_ascii_alphabetic c ≡ false → named_unit (cond b (take (length (c ∷ d ∷ t) - 1) (c ∷ d ∷ t)) (c ∷ d ∷ t)) ≡ None
 cut-name true c d t h =
@@ -68,7 +82,7 @@ no-unit c (d ∷ t) h = rw (cut-name _ c d t h) refl
 
 no-date : (c : ℕ) (t : List ℕ) → is_ascii_alphabetic c ≡ false → named_date (c ∷ t) ≡ None
 unfolding named_date
-no-date c t h = rw (no_lower c 110 h (omega arith) (omega arith), no_lower c 116 h (omega arith) (omega arith), no_lower c 121 h (omega arith) (omega arith)) refl
+no-date c t h = no-named date_names c t h refl
 
 no-ago : (c : ℕ) (t : List ℕ) → is_ascii_alphabetic c ≡ false → is_ago (c ∷ t) ≡ false
 no-ago c t h = rw (no_lower c 97 h (omega arith) (omega arith)) refl

@@ -14,7 +14,7 @@ use Rattle.std.specs.Str.{trim, bytes_eq, str_to_ascii_lowercase}
 use Rattle.gix_date.specs.Text.Names.{is_name, named_in}
 use Rattle.gix_date.proofs.Text.Places.{any_place, all_places}
 use Rattle.gix_date.specs.Relative.Dates.{relative_date, date_names, named_date, pairs_date, RelativeDate}
-use Rattle.gix_date.specs.Relative.Words.{relative_words, is_gap, singular, named_unit, unit_of, is_ago}
+use Rattle.gix_date.specs.Relative.Words.{relative_words, is_gap, singular, named_unit, unit_names, unit_of, is_ago}
 use Rattle.gix_date.specs.Relative.Roles.{are_pairs, has_pair, all_units, has_flag, has_unit, is_count_word, next_is_free, has_next, next_is_unit}
 use Rattle.gix_date.specs.Text.SpaceWords.{is_nonempty}
 use Rattle.gix_date.proofs.Text.AsciiCuts.{ascii-by}
@@ -125,22 +125,17 @@ like-ago word name e = ap (λ (t : List ℕ). bytes_eq t (str_to_ascii_lowercase
 pub like-name : (word name other : List ℕ) → str_to_ascii_lowercase word ≡ str_to_ascii_lowercase name → is_name word other ≡ is_name name other
 like-name word name other e = ap (λ (t : List ℕ). bytes_eq t (str_to_ascii_lowercase other)) e
 
+like-named : {A : Type 0} (table : List (List ℕ × A)) (word name : List ℕ) → str_to_ascii_lowercase word ≡ str_to_ascii_lowercase name → named_in table word ≡ named_in table name
+like-named [] word name e = refl
+like-named ((other, said) ∷ rows) word name e = rw (like-name word name other e, like-named rows word name e) refl
+
 like-date : (word name : List ℕ) → str_to_ascii_lowercase word ≡ str_to_ascii_lowercase name → named_date name ≡ None → named_date word ≡ None
 unfolding named_date
-like-date word name e h = rw (like-name word name (codes "now") e, like-name word name (codes "today") e, like-name word name (codes "yesterday") e) h
+like-date word name e h = like-named date_names word name e ∙ h
 
 pub like-unit : (word name : List ℕ) → str_to_ascii_lowercase word ≡ str_to_ascii_lowercase name → named_unit word ≡ named_unit name
 unfolding named_unit
-like-unit word name e =
-    rw (
-      like-name word name (codes "second") e,
-      like-name word name (codes "minute") e,
-      like-name word name (codes "hour") e,
-      like-name word name (codes "day") e,
-      like-name word name (codes "week") e,
-      like-name word name (codes "month") e,
-      like-name word name (codes "year") e,
-    ) refl
+like-unit word name e = like-named unit_names word name e
 
 -- the same without a final `s`, of a word in small letters
 abbrev pub without_s : List ℕ → List ℕ
