@@ -1,7 +1,8 @@
 /* Git's times for C and C++: commit headers, dates, signature lines and printed times.
  *
  * Each call is proved to do what docs/C.md says of it, for every input with valid pointers and
- * lengths. docs/C.md tells how to build and link the library, for Linux with glibc on x86-64.
+ * lengths. docs/C.md tells how to build and link the library, for Linux with glibc on x86-64. The
+ * pages are installed in share/doc/gix_date.
  *
  * A text is UTF-8, given by a pointer and a length, and needs no NUL. Other bytes are refused by
  * GIX_DATE_NOT_TEXT or false. With length 0 any pointer is valid; no other pointer is NULL. Outputs

@@ -24,6 +24,13 @@ needs() {
     done
 }
 
+# Removes what killed builds have left beside a file: names of it that end in a process which is no more.
+clear_killed() {
+    for left in "$1".[0-9]*; do
+        [ ! -e "$left" ] || [ -e "/proc/${left##*.}" ] || rm -rf "$left"
+    done
+}
+
 # All that a build may read, and files named besides, by the further words of find. What a crate has built is in its folder `out`.
 find_sources() (
     files=$1

@@ -53,13 +53,6 @@ end_build() {
     log=''
 }
 
-# Removes what killed builds have left beside a file: names of it that end in a process which is no more.
-clear_killed() {
-    for left in "$1".[0-9]*; do
-        [ ! -e "$left" ] || [ -e "/proc/${left##*.}" ] || rm -rf "$left"
-    done
-}
-
 # Adds a line to the log, or ends where that takes no more, as on a full disk.
 write_log() {
     { echo "$1" >>"$log.$$"; } 2>/dev/null || {
