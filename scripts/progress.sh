@@ -41,7 +41,7 @@ show_progress() {
 
 # Whatever ends the script ends `rt` too, which ends all that it has started; what `leftover` names goes.
 builder='' leftover='' log=''
-trap 'end_build; [ -z "$leftover" ] || rm -rf "$leftover"' EXIT
+trap 'end_build; [ -z "$leftover" ] || rm -rf "$leftover"; rmdir "$root/out" 2>/dev/null || :' EXIT
 trap 'exit 1' HUP INT TERM PIPE
 
 end_build() {

@@ -1,6 +1,7 @@
 # What the parts of test_all share: each reads this first, and goes on at the top of the repository.
 set -euo pipefail
-cd "$(dirname "${BASH_SOURCE[0]}")/.."
+unset CDPATH
+cd "$(dirname "$(readlink -f "${BASH_SOURCE[0]}")")/.."
 
 # What a part writes for itself goes here, and away at its end.
 room=$(mktemp -d)
