@@ -1,5 +1,6 @@
 -- Dates for callers that must not guess.
 pub mod Dates
 pub mod Texts
+pub mod Grammar
 pub mod Outcome
 pub mod Laws

@@ -95,7 +95,7 @@ pub git-around : (rule : OffsetRule) (text : List ℕ) → IsUtf8 text → Ignor
 unfolding git_time
 git-around rule text u = ap (λ (t : List ℕ). option_map Absolute (git_form t)) (trim-twice text u)
 
-words-around : (text : List ℕ) → IsUtf8 text → relative_words (trim text) ≡ relative_words text
+pub words-around : (text : List ℕ) → IsUtf8 text → relative_words (trim text) ≡ relative_words text
 words-around text u =
     words-within (trim text) (trim-utf8 text u) ∙ ap (flat_map relative_words) (trimmed-words text u) ∙ sym (words-within text u)
 

@@ -37,7 +37,7 @@ is-date gap mark taken text date rest h =
     ∙ rw (year-read h.year (mark ++ (h.month ++ (mark ++ (h.day ++ rest)))) date.year h.is_year, taken (h.month ++ (mark ++ (h.day ++ rest))), pair-of h.month date.month (mark ++ (h.day ++ rest)) h.is_month, taken (h.day ++ rest), pair-of h.day date.day rest h.is_day) refl
 
 -- The rest.
-abbrev time_at : ℤ → ℤ → Time
+abbrev pub time_at : ℤ → ℤ → Time
 time_at seconds offset = record { seconds = seconds; offset = offset }
 
 text-of : (text day gap rest : List ℕ) (date : LocalDate) (t : Time) → trim text ≡ day ++ (gap ++ rest) → IsGitFront day gap date → time_with_rest date rest ≡ Some t → IsGitText text t
@@ -63,11 +63,11 @@ text-of text day gap rest date t w f e =
       is_instant = seconds.1;
     })
 
-rest-of : (text : List ℕ) (t : Time) (h : IsGitText text t) → time_with_rest h.date h.rest ≡ Some t
+pub rest-of : (text : List ℕ) (t : Time) (h : IsGitText text t) → time_with_rest h.date h.rest ≡ Some t
 unfolding time_of_cut
 rest-of text t h = rw (means_cut (trim h.rest) h.clock h.zone h.cut, is-clock h.clock h.time h.is_clock, is-offset h.zone t.offset h.is_offset, h.is_instant) refl
 
-form-is : (text : List ℕ) (t : Time) → git_form (trim text) ≡ Some t → IsGitText text t
+pub form-is : (text : List ℕ) (t : Time) → git_form (trim text) ≡ Some t → IsGitText text t
 unfolding git_form
 form-is text t e =
     let found = went (git_front (trim text)) (λ (f : LocalDate × List ℕ). time_with_rest f.0 f.1) t e in

@@ -55,14 +55,14 @@ int-by c t n false false e f some digits value fits =
     let is = rw (e, f) at value in
     record { digits = c ∷ t; number = digits_value 10 (c ∷ t); are = (omega arith, are, refl); is = inl (refl, sym is); fits = fits }
 
-int-is : (text : List ℕ) (n : ℤ) → int_value text ≡ Some n → IsInt text n
+pub int-is : (text : List ℕ) (n : ℤ) → int_value text ≡ Some n → IsInt text n
 int-is [] n e = let t = (int-taken [] n e).0 in absurd cc
 int-is (c ∷ t) n e =
     let taken = int-taken (c ∷ t) n e in
     let parts = each_of (nat_lt 0 (length (without_leading_sign (c ∷ t)))) (all_ascii_digits (without_leading_sign (c ∷ t))) (fits_i64 (signed_digits_value 10 (c ∷ t))) taken.0 in
     int-by c t n (c == minus) (c == plus) refl refl parts.0 parts.1 taken.1 (subst (FitsSigned w64) taken.1 (fits_from (signed_digits_value 10 (c ∷ t)) parts.2))
 
-bare-int : (digits : List ℕ) (number : ℕ) (n : ℤ) → AreDigits digits number → n ≡ pos number → FitsSigned w64 n → int_value digits ≡ Some n
+pub bare-int : (digits : List ℕ) (number : ℕ) (n : ℤ) → AreDigits digits number → n ≡ pos number → FitsSigned w64 n → int_value digits ≡ Some n
 bare-int [] number n a v f = absurd (omega (arith, a.0))
 bare-int (c ∷ t) number n a v f =
     let first = (both (is_ascii_digit c) (all_ascii_digits t) a.1).0 in

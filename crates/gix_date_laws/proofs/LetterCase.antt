@@ -73,7 +73,7 @@ low-digit c = grind (arith, nat_tests)
 pub digit-stays : (c : ℕ) → is_ascii_digit c ≡ true → to_ascii_lowercase c ≡ c
 digit-stays c h = grind (arith, nat_tests, h)
 
-digits-low : (t : List ℕ) → list_all is_ascii_digit (low t) ≡ list_all is_ascii_digit t
+pub digits-low : (t : List ℕ) → list_all is_ascii_digit (low t) ≡ list_all is_ascii_digit t
 digits-low [] = refl
 digits-low (c ∷ t) = ap₂ (λ (a b : Bool). a && b) (low-digit c) (digits-low t)
 
@@ -108,7 +108,7 @@ count-by : (w : List ℕ) (b : Bool) → list_all is_ascii_digit w ≡ b → con
 count-by w true e = ap int_value (digits-stay w e)
 count-by w false e = named-low w
 
-count-low : (w : List ℕ) → count_of (low w) ≡ count_of w
+pub count-low : (w : List ℕ) → count_of (low w) ≡ count_of w
 unfolding count_of
 count-low w = ap (λ b. cond b (int_value (low w)) (named_count (low w))) (digits-low w) ∙ count-by w (list_all is_ascii_digit w) refl
 

@@ -14,3 +14,13 @@ mod ShortBack
 mod CarefulReading
 mod CarefulInUtc
 mod Parity
+mod CarefulScan
+mod CarefulPieces
+mod CarefulCounts
+mod CarefulUnits
+mod CarefulWords
+mod CarefulNoGit
+mod CarefulAnswers
+mod UnzonedGrammar
+mod CarefulGrammar
+pub mod CarefulRows

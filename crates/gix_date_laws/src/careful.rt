@@ -1,5 +1,5 @@
 //! Laws of dates for callers that must not guess.
-ghost use Rattle.gix_date.specs.Careful.Laws.{AnswersAlike, AnswersUnzoned, IgnoresZone, IsParsedToo, IsUtc};
+ghost use Rattle.gix_date.specs.Careful.Laws.{AnswersAlike, AnswersPairs, AnswersUnzoned, IgnoresZone, IsCarefulSo, IsParsedToo, IsUnzonedSo, IsUtc, ReadsPairs};
 ghost use Rattle.gix_date.specs.Families.Raw.{allows};
 
 use gix_date::{CarefulOptions, RawOffsets};
@@ -24,4 +24,22 @@ pub fn ignores_zone(text: &str, options: CarefulOptions)
 pub fn same_in_utc(text: &str, options: CarefulOptions, moment: &Zoned<'_>)
     requires { IsUtc moment.now }
     ensures { AnswersAlike options text.now moment.now }
+{}
+
+/// A text that is clear at each place is a careful text, `count unit (and? count unit)* ago`, and nothing else is. The
+/// first family answers its pairs, by either rule.
+pub fn spelled_careful(text: &str, raw: RawOffsets)
+    ensures so { IsCarefulSo text.now }
+    ensures answer { AnswersPairs (allows raw) text.now }
+{}
+
+/// Where relative texts have to be careful, `parse_carefully` reads careful texts as pairs, and no others: as the pairs
+/// that their words name.
+pub fn reads_pairs(text: &str, options: CarefulOptions)
+    ensures { ReadsPairs options text.now }
+{}
+
+/// A Git form has no offset if no text is written for it, and only then.
+pub fn spelled_unzoned(text: &str)
+    ensures { IsUnzonedSo text.now }
 {}

@@ -10,7 +10,10 @@ mod headers;
 mod relative;
 mod values;
 
-pub use careful::{careful_is_parsed, ignores_zone, same_in_utc, without_offset};
+pub use careful::{
+    careful_is_parsed, ignores_zone, reads_pairs, same_in_utc, spelled_careful, spelled_unzoned,
+    without_offset,
+};
 pub use families::{
     agree, any_case, apart, comes_first, dispatched, dispatched_by_rows, ignores_moment,
     one_outcome, overlapping, ranges, spelled, spelled_git, spelled_numbers, trimmed, widened,

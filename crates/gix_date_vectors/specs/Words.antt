@@ -2,7 +2,7 @@
 pub use Rattle.gix_date.specs.Families.Answer.{FamilyAnswer, Absolute, Relative, OffsetAboveDay, NoInstant}
 pub use Rattle.gix_date.specs.Header.Canonical.{is_canonical_header}
 pub use Rattle.gix_date.specs.Careful.Dates.{unzoned_day, unzoned_git_time, unzoned_time, IsLocalTime}
-pub use Rattle.gix_date.specs.Careful.Laws.{AnswersUnzoned, IsParsedToo, in_utc, in_zone, IgnoresZone, IsUtc, AnswersAlike}
+pub use Rattle.gix_date.specs.Careful.Laws.{AnswersUnzoned, IsParsedToo, in_utc, in_zone, IgnoresZone, IsUtc, AnswersAlike, IsCarefulSo, AnswersPairs, ReadsPairs, IsUnzonedSo}
 pub use Rattle.gix_date.specs.Careful.Outcome.{Reading, local_date, first_reading, default_options, careful_reading, CarefulOutcome, IsPlaceIn}
 pub use Rattle.gix_date.specs.Careful.Texts.{begins_word, word_at, word_before, is_plain_count, may_follow, may_stand_after, separates, is_clear_at, ends_in_ago, unclear_place}
 pub use Rattle.gix_date.specs.Computing.{computing}

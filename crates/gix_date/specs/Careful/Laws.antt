@@ -1,16 +1,22 @@
 -- What is promised of careful reading beside what it answers.
-use Rattle.std.specs.Prelude.{◌≡◌, ◌↔◌, ℕ, pos, List, Option, Some, None, Result, Ok}
+use Rattle.std.specs.Prelude.{◌≡◌, ◌↔◌, ℕ, ℤ, pos, List, [], Option, Some, None, Result, Ok}
 use Rattle.jiff.specs.Words.{IsFixed, offset_at, zoned_nanos}
 use Rattle.jiff.specs.declared.zoned.Zoned.{Zoned}
-use Rattle.gix_date.specs.Careful.Dates.{unzoned_time}
-use Rattle.gix_date.specs.Careful.Outcome.{careful_reading, local_date, CarefulOutcome}
-use Rattle.gix_date.specs.Families.Answer.{Absolute}
+use Rattle.gix_date.specs.Careful.Dates.{unzoned_git_time, unzoned_time}
+use Rattle.gix_date.specs.Careful.Grammar.{IsCarefulOf, IsCarefulText}
+use Rattle.gix_date.specs.Careful.Outcome.{First, careful_reading, local_date, CarefulOutcome}
+use Rattle.gix_date.specs.Careful.Texts.{unclear_place}
+use Rattle.gix_date.specs.Families.Answer.{Absolute, Relative}
 use Rattle.gix_date.specs.Families.Order.{first_family_by, ParseNoAllocOutcome}
 use Rattle.gix_date.specs.Families.Raw.{OffsetRule, allows}
+use Rattle.gix_date.specs.Git.Grammar.{IsGitText}
+use Rattle.gix_date.specs.Relative.Dates.{MinusPairs}
 use Rattle.gix_date.specs.Relative.Steps.{zone_of}
 use Rattle.gix_date.specs.declared.error.CarefulError.{CarefulError}
 use Rattle.gix_date.specs.declared.parsing.careful.CarefulOptions.{CarefulOptions}
+use Rattle.gix_date.specs.declared.parsing.careful.RelativeTexts.TheVariants.{Careful}
 use Rattle.gix_date.specs.declared.parsing.careful.WithoutOffset.TheVariants.{Utc, MomentsZone}
+use Rattle.gix_date.specs.declared.parsing.relative.words.TimeUnit.{TimeUnit}
 use Rattle.gix_date.specs.declared.time.Time.{Time}
 
 -- dates without an offset are read in UTC: the first family answers that time
@@ -47,3 +53,22 @@ AnswersAlike options text moment =
     (result : Result Time CarefulError)
     → CarefulOutcome (careful_reading (in_zone options) text) (Some moment) result
     ↔ CarefulOutcome (careful_reading (in_utc options) text) (Some moment) result
+
+-- careful texts are those that are clear at each place: and end in `ago`
+abbrev pub IsCarefulSo : List ℕ → Type 0
+IsCarefulSo text = (unclear_place text ≡ None) ↔ IsCarefulText text
+
+-- the first family answers a careful text's pairs
+abbrev pub AnswersPairs : OffsetRule → List ℕ → Type 0
+AnswersPairs rule text =
+    (pairs : List (ℤ × TimeUnit)) → IsCarefulOf text pairs → first_family_by rule text ≡ Some (Relative (MinusPairs pairs))
+
+-- only careful texts are read as pairs: where relative texts have to be careful; and each as its own pairs
+abbrev pub ReadsPairs : CarefulOptions → List ℕ → Type 0
+ReadsPairs options text =
+    options.relative ≡ Careful → (pairs : List (ℤ × TimeUnit))
+    → (careful_reading options text ≡ First (Some (Relative (MinusPairs pairs)))) ↔ IsCarefulOf text pairs
+
+-- a Git form without an offset writes none: `Z` and `+0000` are offsets
+abbrev pub IsUnzonedSo : List ℕ → Type 0
+IsUnzonedSo text = (t : Time) → (unzoned_git_time text ≡ Some t) ↔ ((git : IsGitText text t) × (git.zone ≡ []))

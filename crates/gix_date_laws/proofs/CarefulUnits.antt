@@ -1,0 +1,86 @@
+-- A word names a unit where it is a unit's name, alone or with one `s` after it.
+use Rattle.std.proofs.Common.{◌≡◌, ◌∙◌, ◌⊎◌, inl, inr, ℕ, ◌-◌, Bool, true, false, cond, List, [], ◌∷◌, ◌++◌, length, take, get_or, refl, ap, sym, arith, Some}
+use Rattle.std.proofs.lemmas.Bool.{or_cases}
+use Rattle.std.proofs.lemmas.Bool.Decides.{nat_tests}
+use Rattle.std.proofs.lemmas.List.{length-append}
+use Rattle.std.proofs.Math.Seq.{take-append_seam, get_or-append_seam}
+use Rattle.std.specs.List.{list_any}
+use Rattle.std.specs.Prelude.{◌==◌, ◌||◌}
+use Rattle.gix_date.specs.Private.Types.{PeriodUnit}
+use Rattle.gix_date.specs.Relative.Words.{singular, named_unit, unit_of, unit_names}
+use Rattle.gix_date.specs.Text.Characters.{small_s, letter_s}
+use Rattle.gix_date.specs.Text.Names.{is_name, named_in}
+use Rattle.gix_date.proofs.Relative.QuietWords.{like-unit, lower-same, lower-singular, named-any, names_of, without_s}
+use Rattle.gix_date.specs.Careful.Grammar.{IsUnitName}
+
+is-same : (b n : ℕ) → (b == n) ≡ true → b ≡ n
+is-same b n h = grind (arith, nat_tests, h)
+
+either-s : (b : ℕ) → (b == small_s || b == letter_s) ≡ true → (b ≡ small_s) ⊎ (b ≡ letter_s)
+either-s b h = by (or_cases (b == small_s) (b == letter_s) h)
+  where
+    by : ((b == small_s) ≡ true) ⊎ ((b == letter_s) ≡ true) → (b ≡ small_s) ⊎ (b ≡ letter_s)
+    by (inl e) = inl (is-same b small_s e)
+    by (inr e) = inr (is-same b letter_s e)
+
+last-split : (c : ℕ) (t : List ℕ) → c ∷ t ≡ take (length t) (c ∷ t) ++ (get_or (c ∷ t) (length t) 0 ∷ [])
+last-split c [] = refl
+last-split c (d ∷ t) = ap (λ (xs : List ℕ). c ∷ xs) (last-split d t)
+
+split-at-end : (word : List ℕ) (b : Bool) → (get_or word (length word - 1) 0 == small_s || get_or word (length word - 1) 0 == letter_s) ≡ true → word ≡ take (length word - 1) word ++ (get_or word (length word - 1) 0 ∷ [])
+split-at-end [] b h = absurd cc
+split-at-end (c ∷ t) b h =
+    let size : length t ≡ length (c ∷ t) - 1 = omega arith in
+    last-split c t ∙ ap (λ n. take n (c ∷ t) ++ (get_or (c ∷ t) n 0 ∷ [])) size
+
+pub unit-named : (word : List ℕ) (unit : PeriodUnit) → unit_of word ≡ Some unit → IsUnitName word unit
+unfolding unit_of named_unit singular
+unit-named word unit e =
+    let last = get_or word (length word - 1) 0 in
+    by (last == small_s || last == letter_s) refl e
+  where
+    by : (b : Bool) → (get_or word (length word - 1) 0 == small_s || get_or word (length word - 1) 0 == letter_s) ≡ b → named_in unit_names (cond b (take (length word - 1) word) word) ≡ Some unit → IsUnitName word unit
+    by true h k = inr (take (length word - 1) word, get_or word (length word - 1) 0, split-at-end word true h, either-s (get_or word (length word - 1) 0) h, k)
+    by false h k = inl k
+
+-- a name has no `s` at its end
+same-unit : (word name : List ℕ) → is_name word name ≡ true → unit_of name ≡ named_unit name → unit_of word ≡ named_unit word
+unfolding unit_of
+same-unit word name e same =
+    let low = lower-same word name e in
+    like-unit (singular word) (singular name) (lower-singular word ∙ ap without_s low ∙ sym (lower-singular name)) ∙ same ∙ sym (like-unit word name low)
+
+abbrev AllSame : List (List ℕ) → Type 0
+AllSame [] = Unit {0}
+AllSame (name ∷ names) = (unit_of name ≡ named_unit name) × AllSame names
+
+names-same : AllSame (names_of unit_names)
+unfolding unit_of singular named_unit
+names-same = (refl, (refl, (refl, (refl, (refl, (refl, (refl, tt)))))))
+
+any-same : (word : List ℕ) (names : List (List ℕ)) → AllSame names → list_any (is_name word) names ≡ true → unit_of word ≡ named_unit word
+any-same word [] h e = absurd cc
+any-same word (name ∷ names) h e = by-either (or_cases (is_name word name) (list_any (is_name word) names) e) (λ n. same-unit word name n h.0) (λ m. any-same word names h.1 m)
+  where
+    by-either : {A B C : Type 0} → A ⊎ B → (A → C) → (B → C) → C
+    by-either (inl a) f g = f a
+    by-either (inr b) f g = g b
+
+with-s : (name : List ℕ) (s : ℕ) → (s ≡ small_s) ⊎ (s ≡ letter_s) → singular (name ++ (s ∷ [])) ≡ name
+unfolding singular
+with-s name s h =
+    let size : length (name ++ (s ∷ [])) - 1 ≡ length name = omega (arith, length-append name (s ∷ [])) in
+    let is : (s == small_s || s == letter_s) ≡ true = marks s h in
+    ap (λ n. cond (get_or (name ++ (s ∷ [])) n 0 == small_s || get_or (name ++ (s ∷ [])) n 0 == letter_s) (take n (name ++ (s ∷ []))) (name ++ (s ∷ []))) size
+    ∙ ap (λ c. cond (c == small_s || c == letter_s) (take (length name) (name ++ (s ∷ []))) (name ++ (s ∷ []))) (get_or-append_seam name s [] 0)
+    ∙ ap (λ b. cond b (take (length name) (name ++ (s ∷ []))) (name ++ (s ∷ []))) is
+    ∙ take-append_seam name (s ∷ [])
+  where
+    marks : (s : ℕ) → (s ≡ small_s) ⊎ (s ≡ letter_s) → (s == small_s || s == letter_s) ≡ true
+    marks s (inl e) = ap (λ c. c == small_s || c == letter_s) e
+    marks s (inr e) = ap (λ c. c == small_s || c == letter_s) e
+
+pub named-unit : (word : List ℕ) (unit : PeriodUnit) → IsUnitName word unit → unit_of word ≡ Some unit
+unfolding unit_of named_unit
+named-unit word unit (inl e) = any-same word (names_of unit_names) names-same (named-any unit_names word unit e) ∙ e
+named-unit word unit (inr h) = ap unit_of h.2 ∙ ap (named_in unit_names) (with-s h.0 h.1 h.3) ∙ h.4
