@@ -1,4 +1,5 @@
 pub mod Failures
+pub mod Fronts
 pub mod Unzoned
 pub mod Zones
 pub mod Clear

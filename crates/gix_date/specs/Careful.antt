@@ -1,4 +1,5 @@
 -- Dates for callers that must not guess.
+pub mod Fronts
 pub mod Dates
 pub mod Texts
 pub mod Grammar

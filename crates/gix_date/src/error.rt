@@ -72,9 +72,9 @@ pub enum ParseError {
 /// Why [`parse_carefully`](crate::parse_carefully) refuses.
 #[derive(Clone, Copy, Debug, PartialEq, Eq, Error)]
 pub enum CarefulError {
-    /// A relative text is not careful: the place, in bytes, of the first word or character that was not understood, or the
-    /// text's length if it does not end in `ago`.
-    #[error("not understood from byte {0} on; expected counts and whole units, then `ago`, such as \"2 weeks ago\"")]
+    /// The text is not careful: the place, in bytes, of the first character that does not fit, or the text's length if its
+    /// end is missing.
+    #[error("not understood from byte {0} on; expected a date, or counts and whole units, then `ago`, such as \"2 weeks ago\"")]
     Unclear(usize),
     /// The text is refused as by `parse_no_alloc`.
     #[error("{0}")]

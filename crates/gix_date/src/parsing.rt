@@ -21,6 +21,7 @@ pub mod careful;
 pub(crate) mod dates;
 mod fast;
 mod fields;
+mod fronts;
 mod git;
 pub(crate) mod headers;
 mod numbers;

@@ -104,6 +104,10 @@ are-all [] words h = absurd h
 are-all (pair ∷ ps) words h =
     ap are_pairs h.3 ∙ sym (verdict_of (h.0 ∷ h.1 ∷ h.2)) ∙ ap verdict (two-steps false false h.0 h.1 pair h.2 h.4) ∙ scan-more (false || is_ago h.0) ps h.2 h.5
 
+pub careful-pairs : (text : List ℕ) (ps : List (ℤ × PeriodUnit)) → IsCarefulOf text ps → pairs (relative_words text) ≡ ps
+careful-pairs text ps h =
+    read-all ps (relative_words text) (subst (λ (ws : List (List ℕ)). ArePairsAgo ps ws) (sym (text-words text ps h)) h.words)
+
 pub careful-date : (text : List ℕ) → IsUtf8 text → (ps : List (ℤ × PeriodUnit)) → IsCarefulOf text ps → relative_date text ≡ Some (MinusPairs ps)
 careful-date text u ps h =
     let words = relative_words text in

@@ -1,5 +1,5 @@
 -- At a moment in UTC a date in which no offset is written means the same by both options.
-use Rattle.std.proofs.Common.{◌≡◌, ◌∙◌, ◌↔◌, ℤ, pos, true, List, ℕ, refl, ap, ap₂, sym, subst, arith, Option, Some, None, Ok, Err, Result}
+use Rattle.std.proofs.Common.{◌≡◌, ◌∙◌, ◌↔◌, ℤ, pos, Bool, true, false, List, ℕ, refl, ap, ap₂, sym, subst, arith, Option, Some, None, Ok, Err, Result}
 use Rattle.std.specs.Prelude.{IfSome}
 use Rattle.std.specs.Result.{result_map_both}
 use Rattle.std.specs.Str.{IsUtf8}
@@ -7,26 +7,30 @@ use Rattle.jiff.specs.Types.{Offset, TimeZone}
 use Rattle.jiff.specs.Words.{IsFixed, offset_at, fixed_zone, civil_nanos, nanos_of_seconds, zoned_nanos, IsTimestampNanos}
 use Rattle.jiff.specs.declared.zoned.Zoned.{Zoned}
 use Rattle.jiff_core.proofs.SignedLemmas.{signed_arith}
-use Rattle.gix_date.specs.Careful.Dates.{unzoned_time, IsLocalTime}
-use Rattle.gix_date.specs.Careful.Outcome.{First, Local, careful_reading, first_reading, local_or, CarefulOutcome}
-use Rattle.gix_date.specs.Careful.Laws.{AnswersAlike}
+use Rattle.gix_date.specs.Careful.Dates.{is_whole_git, unzoned_day, unzoned_git_time, unzoned_time, IsLocalTime}
+use Rattle.gix_date.specs.Careful.Fronts.{longest_front}
+use Rattle.gix_date.specs.Careful.Outcome.{Reading, First, Local, Unclear, careful_reading, clear_or, date_reading, git_or, local_or, pairs_or, reading_of_texts, unzoned_or, CarefulOutcome}
+use Rattle.gix_date.specs.Careful.Laws.{AnswersAlike, in_utc, in_zone}
+use Rattle.gix_date.specs.Careful.Texts.{unclear_place}
 use Rattle.gix_date.specs.Families.Answer.{Absolute}
 use Rattle.gix_date.specs.Families.Order.{first_family_by}
-use Rattle.gix_date.specs.Families.Raw.{allows}
+use Rattle.gix_date.specs.Families.Raw.{allows, is_raw_offset}
+use Rattle.gix_date.specs.Git.Forms.{git_time}
 use Rattle.gix_date.specs.Printing.Zoned.{is_instant, time_in}
 use Rattle.gix_date.specs.Private.Steps.{ChooseAlike}
 use Rattle.gix_date.specs.Relative.Steps.{zone_of, IsPicked}
 use Rattle.gix_date.specs.declared.error.CarefulError.{CarefulError}
 use Rattle.gix_date.specs.declared.error.CarefulError.TheVariants as errors
 use Rattle.gix_date.specs.declared.parsing.careful.CarefulOptions.{CarefulOptions}
-use Rattle.gix_date.specs.declared.parsing.careful.RelativeTexts.{RelativeTexts}
-use Rattle.gix_date.specs.declared.parsing.careful.RelativeTexts.TheVariants as relative
+use Rattle.gix_date.specs.declared.parsing.careful.Texts.{Texts}
+use Rattle.gix_date.specs.declared.parsing.careful.Texts.TheVariants as texts
+use Rattle.gix_date.specs.declared.parsing.careful.WithoutOffset.TheVariants as zone
 use Rattle.gix_date.specs.declared.time.Time.{Time}
 use Rattle.gix_date.proofs.Careful.Unzoned.{unzoned_has}
 use Rattle.gix_date.proofs.Fields.Instants.{instant_holds, instant_range, whole_seconds}
 use Rattle.gix_date.proofs.Relative.FixedSteps.{one-offset, turned, fixed-offset}
 use Rattle.gix_date.proofs.Relative.FixedZones.{fixed-picked, fixed-resolves-exists}
-use Rattle.gix_date_laws.proofs.CarefulReading.{answers}
+use Rattle.gix_date_laws.proofs.CarefulReading.{answers, unzoned-by-day, unzoned-by-git}
 
 picked-alike : (a b : TimeZone) → ChooseAlike a b → (civil j : ℤ) → IsPicked a civil j → IsPicked b civil j
 picked-alike a b alike civil j h = record { shown = h.shown; civil_is = h.civil_is; is_choice = h.is_choice ∙ alike.picks h.shown; in_range = h.in_range }
@@ -81,25 +85,52 @@ both moment t z none has (Err e) = (
   λ h. absurd (let k = h.2 ∙ ap (result_map_both (λ x. x) errors.Refused) h.1 in cc),
 )
 
-first-absolute : (rule : RelativeTexts) (text : List ℕ) (t : Time) → first_reading rule text (Some (Absolute t)) ≡ First (Some (Absolute t))
-first-absolute relative.All text t = refl
-first-absolute relative.Careful text t = refl
+-- the same results by both
+Alike : Zoned → Reading → Reading → Type 0
+Alike moment a b = (result : Result Time CarefulError) → CarefulOutcome a (Some moment) result ↔ CarefulOutcome b (Some moment) result
+
+same-readings : (moment : Zoned) (reading : Reading) → Alike moment reading reading
+unfolding Alike
+same-readings moment reading result = (λ h. h, λ h. h)
+
+local-alike : (moment : Zoned) (text : List ℕ) (t : Time) → IsUtf8 text → IsAtZero (zone_of moment) → unzoned_time text ≡ Some t → Alike moment (Local t) (First (Some (Absolute t)))
+unfolding Alike
+local-alike moment text t u zero e result =
+    let has = subst (λ (d : Option Time). IfSome d (λ k. is_instant k.seconds ≡ true)) e (unzoned_has text) in
+    both moment t zero (answers is_raw_offset text t u e).1 has result
+
+unzoned-alike : (moment : Zoned) (text : List ℕ) (reading : Reading) → IsUtf8 text → IsAtZero (zone_of moment) → (unzoned : Option Time) → ((t : Time) → unzoned ≡ Some t → unzoned_time text ≡ Some t)
+    → Alike moment (unzoned_or zone.MomentsZone unzoned reading) (unzoned_or zone.Utc unzoned reading)
+unzoned-alike moment text reading u zero None f = same-readings moment reading
+unzoned-alike moment text reading u zero (Some t) f = local-alike moment text t u zero (f t refl)
+
+clear-alike : (moment : Zoned) (clear : Bool) (a b : Reading) (place : ℕ) → Alike moment a b → Alike moment (clear_or clear a place) (clear_or clear b place)
+clear-alike moment true a b place h = h
+clear-alike moment false a b place h = same-readings moment (Unclear place)
+
+git-alike : (options : CarefulOptions) (text : List ℕ) (moment : Zoned) (place : ℕ) → IsUtf8 text → IsAtZero (zone_of moment) → (git : Option Time) → Alike moment (git_or (in_zone options) text place git) (git_or (in_utc options) text place git)
+git-alike options text moment place u zero (Some t) =
+    let first = First (Some (Absolute t)) in
+    clear-alike moment (is_whole_git text) (unzoned_or zone.MomentsZone (unzoned_git_time text) first) (unzoned_or zone.Utc (unzoned_git_time text) first) place
+    (unzoned-alike moment text first u zero (unzoned_git_time text) (λ t e. unzoned-by-git text t u e))
+git-alike options text moment place u zero None =
+    unzoned-alike moment text (date_reading (allows options.raw) text place (first_family_by (allows options.raw) text)) u zero (unzoned_day text) (λ t e. unzoned-by-day text t e)
+
+pairs-alike : (options : CarefulOptions) (text : List ℕ) (moment : Zoned) → IsUtf8 text → IsAtZero (zone_of moment) → (place : Option ℕ) → Alike moment (pairs_or (in_zone options) text place) (pairs_or (in_utc options) text place)
+pairs-alike options text moment u zero None = same-readings moment (pairs_or options text None)
+pairs-alike options text moment u zero (Some place) = git-alike options text moment (longest_front text place) u zero (git_time text)
+
+all-alike : (options : CarefulOptions) (text : List ℕ) (moment : Zoned) → IsUtf8 text → IsAtZero (zone_of moment) → (date : Option Time) → unzoned_time text ≡ date
+    → Alike moment (local_or date (First (first_family_by (allows options.raw) text))) (First (first_family_by (allows options.raw) text))
+all-alike options text moment u zero None e = same-readings moment (First (first_family_by (allows options.raw) text))
+all-alike options text moment u zero (Some t) e =
+    subst (Alike moment (Local t)) (ap First (sym (answers (allows options.raw) text t u e).0)) (local-alike moment text t u zero e)
+
+texts-alike : (options : CarefulOptions) (text : List ℕ) (moment : Zoned) → IsUtf8 text → IsAtZero (zone_of moment) → (which : Texts) → Alike moment (reading_of_texts which (in_zone options) text) (reading_of_texts which (in_utc options) text)
+texts-alike options text moment u zero texts.All = all-alike options text moment u zero (unzoned_time text) refl
+texts-alike options text moment u zero texts.Careful = pairs-alike options text moment u zero (unclear_place text)
 
 pub alike-in-utc : (options : CarefulOptions) (text : List ℕ) (moment : Zoned) → IsUtf8 text → IsFixed (zone_of moment) → offset_at (zone_of moment) (zoned_nanos moment) ≡ pos 0
     → AnswersAlike options text moment
-unfolding careful_reading
-alike-in-utc options text moment u fixed zero result = by (unzoned_time text) refl
-  where
-    Result-of : Option Time → Type 0
-    Result-of d = CarefulOutcome (local_or d (first_reading options.relative text (first_family_by (allows options.raw) text))) (Some moment) result
-
-    by : (d : Option Time) → unzoned_time text ≡ d → Result-of (unzoned_time text) ↔ Result-of None
-    by None e = (λ h. subst Result-of e h, λ h. subst Result-of (sym e) h)
-    by (Some t) e =
-        let a = answers (allows options.raw) text t u e in
-        let has = subst (λ (d : Option Time). IfSome d (λ k. is_instant k.seconds ≡ true)) e (unzoned_has text) in
-        let first = ap (first_reading options.relative text) a.0 ∙ first-absolute options.relative text t in
-        let same = both moment t (at-zero (zone_of moment) (zoned_nanos moment) fixed zero) a.1 has result in (
-          λ h. subst (λ r. CarefulOutcome r (Some moment) result) (sym first) (same.0 (subst Result-of e h)),
-          λ h. subst Result-of (sym e) (same.1 (subst (λ r. CarefulOutcome r (Some moment) result) first h)),
-        )
+unfolding careful_reading Alike
+alike-in-utc options text moment u fixed zero result = texts-alike options text moment u (at-zero (zone_of moment) (zoned_nanos moment) fixed zero) options.texts result

@@ -1,80 +1,43 @@
 -- Careful reading beside `parse_with`, and dates in which no offset is written.
 use Rattle.std.proofs.Common.{◌≡◌, ◌∙◌, ℕ, ℤ, pos, Bool, true, false, cond, List, [], ◌∷◌, refl, ap, sym, subst, Option, Some, None, Ok, Err, Result, inl, inr, ◌⊎◌}
-use Rattle.std.specs.Option.{option_map}
-use Rattle.std.specs.Prelude.{is_some}
+use Rattle.std.specs.Option.{option_map, option_or}
+use Rattle.std.specs.Prelude.{is_some, unwrap_or}
 use Rattle.std.specs.Result.{result_map_both}
 use Rattle.jiff.specs.declared.zoned.Zoned.{Zoned}
 use Rattle.std.specs.Str.{trim, IsUtf8}
 use Rattle.gix_date.specs.Careful.Dates.{unzoned_day, unzoned_git_time, unzoned_time}
-use Rattle.gix_date.specs.Careful.Outcome.{Reading, First, Unclear, careful_reading, first_reading, local_or, pairs_reading, CarefulOutcome}
-use Rattle.gix_date.specs.Careful.Laws.{AnswersUnzoned, IsParsedToo, IgnoresZone}
-use Rattle.gix_date.specs.Careful.Texts.{unclear_place}
-use Rattle.gix_date.specs.Families.Answer.{FamilyAnswer, Absolute, Relative, OffsetAboveDay, NoInstant}
+use Rattle.gix_date.specs.Careful.Outcome.{First, CarefulOutcome}
+use Rattle.gix_date.specs.Careful.Laws.{AnswersUnzoned, IsUnzoned, IsUnzonedSo}
+use Rattle.gix_date.specs.Families.Answer.{FamilyAnswer, Absolute, NoInstant}
 use Rattle.gix_date.specs.Families.Epoch.{utc_time}
 use Rattle.gix_date.specs.Families.Order.{first_family_by, ParseNoAllocOutcome, Short}
-use Rattle.gix_date.specs.Families.Patterns.{midnight, real_day_answer, short_answer}
+use Rattle.gix_date.specs.Families.Patterns.{midnight, day_answer, real_day_answer, short_answer}
 use Rattle.gix_date.specs.Private.AfterDay.{answer_after}
-use Rattle.gix_date.specs.Families.Raw.{OffsetRule, allows}
-use Rattle.gix_date.specs.Fields.Civil.{civil_instant}
+use Rattle.gix_date.specs.Families.Raw.{OffsetRule, is_raw_offset}
+use Rattle.gix_date.specs.Fields.Civil.{is_date, civil_instant}
 use Rattle.gix_date.specs.Fields.DateFields.{read_plain_date}
 use Rattle.gix_date.specs.Fields.Front.{◌>>=◌}
-use Rattle.gix_date.specs.Fields.Layout.{LocalDate}
+use Rattle.gix_date.specs.Fields.Layout.{LocalDate, LocalTime, nothing_read, read_pieces}
 use Rattle.gix_date.specs.Git.ClockCut.{clock_cut}
 use Rattle.gix_date.specs.Git.Clock.{git_clock}
 use Rattle.gix_date.specs.Git.Forms.{git_form, git_front, git_time, git_offset, time_of_cut}
-use Rattle.gix_date.specs.Relative.Dates.{MinusSeconds, MinusPairs}
 use Rattle.gix_date.specs.Text.SpaceWords.{is_nonempty}
 use Rattle.gix_date.specs.declared.error.CarefulError.TheVariants as errors
 use Rattle.gix_date.specs.declared.error.ParseError.{ParseError}
-use Rattle.gix_date.specs.declared.parsing.careful.CarefulOptions.{CarefulOptions}
-use Rattle.gix_date.specs.declared.parsing.careful.RelativeTexts.{RelativeTexts}
-use Rattle.gix_date.specs.declared.parsing.careful.RelativeTexts.TheVariants as relative
 use Rattle.gix_date.specs.declared.time.Time.{Time}
 use Rattle.gix_date.proofs.Fast.FastHeaders.{same_some}
 use Rattle.gix_date.proofs.Fields.AfterDay.{day-with-instant}
 use Rattle.gix_date.proofs.Fields.FieldsTaken.{went, first-or}
+use Rattle.gix_date.proofs.Fields.Layouts.{dates_spelled}
 use Rattle.gix_date_laws.proofs.Agreement.{comes-first}
+use Rattle.gix_date_laws.proofs.UnzonedGrammar.{unzoned-spelled}
 
--- What a reading is.
-
-is_first_or : (rule : RelativeTexts) (text : List ℕ) (answer : Option FamilyAnswer)
-    → (first_reading rule text answer ≡ First answer) ⊎ ((place : ℕ) × (first_reading rule text answer ≡ Unclear place))
-is_first_or relative.All text answer = inl refl
-is_first_or relative.Careful text None = inl refl
-is_first_or relative.Careful text (Some (Absolute t)) = inl refl
-is_first_or relative.Careful text (Some OffsetAboveDay) = inl refl
-is_first_or relative.Careful text (Some NoInstant) = inl refl
-is_first_or relative.Careful text (Some (Relative (MinusSeconds n))) = inl refl
-is_first_or relative.Careful text (Some (Relative (MinusPairs pairs))) = by (unclear_place text)
-  where
-    by : (place : Option ℕ) → (pairs_reading (Some (Relative (MinusPairs pairs))) place ≡ First (Some (Relative (MinusPairs pairs))))
-        ⊎ ((at : ℕ) × (pairs_reading (Some (Relative (MinusPairs pairs))) place ≡ Unclear at))
-    by None = inl refl
-    by (Some at) = inr (at, refl)
-
-plain-time : (answer : Option FamilyAnswer) (now : Option Zoned) (t : Time) → CarefulOutcome (First answer) now (Ok t) → ParseNoAllocOutcome answer now (Ok t)
+pub plain-time : (answer : Option FamilyAnswer) (now : Option Zoned) (t : Time) → CarefulOutcome (First answer) now (Ok t) → ParseNoAllocOutcome answer now (Ok t)
 plain-time answer now t (plain, outcome, e) = by plain outcome e
   where
     by : (plain : Result Time ParseError) → ParseNoAllocOutcome answer now plain → Ok t ≡ result_map_both (λ k. k) errors.Refused plain → ParseNoAllocOutcome answer now (Ok t)
     by (Ok k) outcome e = let same : k ≡ t = cc in subst (λ (x : Time). ParseNoAllocOutcome answer now (Ok x)) same outcome
     by (Err refusal) outcome e = absurd cc
-
-pub parsed-too : (options : CarefulOptions) (text : List ℕ) → IsParsedToo options text
-unfolding careful_reading
-parsed-too options text none now t h =
-    let answer = first_family_by (allows options.raw) text in
-    let read : CarefulOutcome (first_reading options.relative text answer) now (Ok t) = subst (λ (d : Option Time). CarefulOutcome (local_or d (first_reading options.relative text answer)) now (Ok t)) none h in
-    elim (is_first_or options.relative text answer) [
-      | inl first ↦ plain-time answer now t (subst (λ (r : Reading). CarefulOutcome r now (Ok t)) first read)
-      | inr unclear ↦ no-time unclear.0 (subst (λ (r : Reading). CarefulOutcome r now (Ok t)) unclear.1 read)
-    ]
-  where
-    no-time : (place : ℕ) → CarefulOutcome (Unclear place) now (Ok t) → ParseNoAllocOutcome (first_family_by (allows options.raw) text) now (Ok t)
-    no-time place e = absurd cc
-
-pub no-zone : (options : CarefulOptions) (text : List ℕ) → IgnoresZone options text
-unfolding careful_reading
-no-zone options text none = rw none refl
 
 -- Dates in which no offset is written.
 
@@ -91,7 +54,7 @@ none-written date clock [] t e k =
     let s = went (civil_instant date c.0 (pos 0)) (λ s. Some (utc_time s)) t c.2 in
     ap (λ (u : Time). u.offset) (sym (same_some (utc_time s.0) t s.2))
 
-git-is : (text : List ℕ) (t : Time) → unzoned_git_time text ≡ Some t → (git_time text ≡ Some t) × (t.offset ≡ pos 0)
+pub git-is : (text : List ℕ) (t : Time) → unzoned_git_time text ≡ Some t → (git_time text ≡ Some t) × (t.offset ≡ pos 0)
 unfolding unzoned_git_time git_time git_form
 git-is text t e =
     let front = went (git_front (trim text)) (λ f. cond (is_nonempty (clock_cut (trim f.1)).1) None (time_of_cut f.0 (clock_cut (trim f.1)))) t e in
@@ -114,7 +77,7 @@ day-of text date [] t e n k = by (civil_instant date midnight (pos 0)) refl k
         let same = same_some (utc_time s) t k in
         (short-of text date e ∙ sym (day-with-instant date s (sym i)) ∙ ap (λ (u : Time). Some (Absolute u)) same, ap (λ (u : Time). u.offset) (sym same))
 
-day-is : (text : List ℕ) (t : Time) → unzoned_day text ≡ Some t → (short_answer text ≡ Some (Absolute t)) × (t.offset ≡ pos 0)
+pub day-is : (text : List ℕ) (t : Time) → unzoned_day text ≡ Some t → (short_answer text ≡ Some (Absolute t)) × (t.offset ≡ pos 0)
 unfolding unzoned_day
 day-is text t e =
     let day = went (read_plain_date text) (λ d. cond (is_nonempty d.1) None (option_map utc_time (civil_instant d.0 midnight (pos 0)))) t e in
@@ -130,5 +93,65 @@ answers rule text t u e =
       | inr h ↦ (let g = git-is text t h in (first.git (ap (λ o. is_some (option_map Absolute o)) g.0) ∙ ap (option_map Absolute) g.0, g.1))
     ]
 
+-- A day alone that has an instant is read as one.
+by-instant : (s : Option ℤ) (t : Time) → unwrap_or (option_map (λ n. Absolute (utc_time n)) s) NoInstant ≡ Absolute t → option_map utc_time s ≡ Some t
+by-instant None t e = absurd cc
+by-instant (Some s) t e = cc
+
+by-date : (date : LocalDate) (b : Bool) (t : Time) → cond b (Some (day_answer date)) None ≡ Some (Absolute t) → option_map utc_time (civil_instant date midnight (pos 0)) ≡ Some t
+by-date date true t e = by-instant (civil_instant date midnight (pos 0)) t cc
+by-date date false t e = absurd cc
+
+abbrev day_of_piece : LocalDate × List ℕ → Option (LocalTime × List ℕ)
+day_of_piece day = Some (record nothing_read { date = day.0 }, day.1)
+
+abbrev all_read : LocalTime × List ℕ → Option LocalTime
+all_read read = read_pieces [] read.0 read.1
+
+abbrev day_alone : LocalDate × List ℕ → Option Time
+day_alone day = cond (is_nonempty day.1) None (option_map utc_time (civil_instant day.0 midnight (pos 0)))
+
+by-day : (found : Option (LocalDate × List ℕ)) (t : Time) → ((found >>= day_of_piece) >>= all_read) >>= real_day_answer ≡ Some (Absolute t) → (found >>= day_alone) ≡ Some t
+by-day None t e = absurd cc
+by-day (Some (date, [])) t e = by-date date (is_date date) t e
+by-day (Some (date, c ∷ rest)) t e = absurd cc
+
+short-day : (text : List ℕ) (t : Time) → short_answer text ≡ Some (Absolute t) → unzoned_day text ≡ Some t
+unfolding short_answer unzoned_day
+short-day text t e = by-day (read_plain_date text) t e
+
+pub unzoned-by-day : (text : List ℕ) (t : Time) → unzoned_day text ≡ Some t → unzoned_time text ≡ Some t
+unfolding unzoned_time
+unzoned-by-day text t e = rw e refl
+
+same-answer : (a b : Time) → (λ (z : Time). Some (Absolute z)) a ≡ Some (Absolute b) → a ≡ b
+same-answer a b e = cc
+
+pub unzoned-by-git : (text : List ℕ) (t : Time) → IsUtf8 text → unzoned_git_time text ≡ Some t → unzoned_time text ≡ Some t
+unfolding unzoned_time
+unzoned-by-git text t u e = by (unzoned_day text) refl
+  where
+    git : first_family_by is_raw_offset text ≡ Some (Absolute t)
+    git = let g = git-is text t e in (comes-first is_raw_offset text u).git (ap (λ o. is_some (option_map Absolute o)) g.0) ∙ ap (option_map Absolute) g.0
+
+    by : (d : Option Time) → unzoned_day text ≡ d → option_or d (unzoned_git_time text) ≡ Some t
+    by None f = e
+    by (Some k) f = ap (λ (z : Time). Some z) (same-answer k t (sym (answers is_raw_offset text k u (unzoned-by-day text k f)).0 ∙ git))
+
+unzoned-is : (text : List ℕ) (t : Time) → unzoned_time text ≡ Some t → IsUnzoned text t
+unfolding unzoned_time
+unzoned-is text t e =
+    elim (first-or (unzoned_day text) (unzoned_git_time text) t e) [
+      | inl h ↦ inl ((dates_spelled.short text (Absolute t)).0 (day-is text t h).0)
+      | inr h ↦ inr ((unzoned-spelled text t).0 h)
+    ]
+
+is-unzoned : (text : List ℕ) (t : Time) → IsUtf8 text → IsUnzoned text t → unzoned_time text ≡ Some t
+is-unzoned text t u (inl h) = unzoned-by-day text t (short-day text t ((dates_spelled.short text (Absolute t)).1 h))
+is-unzoned text t u (inr h) = unzoned-by-git text t u ((unzoned-spelled text t).1 h)
+
+pub unzoned-so : (text : List ℕ) → IsUtf8 text → IsUnzonedSo text
+unzoned-so text u t = (unzoned-is text t, is-unzoned text t u)
+
 pub answers-unzoned : (rule : OffsetRule) (text : List ℕ) → IsUtf8 text → AnswersUnzoned rule text
-answers-unzoned rule text u t e = (answers rule text t u e).0
+answers-unzoned rule text u t h = (answers rule text t u (is-unzoned text t u h)).0

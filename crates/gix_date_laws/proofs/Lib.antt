@@ -11,8 +11,6 @@ mod Overlaps
 mod Agreement
 mod WiderRules
 mod ShortBack
-mod CarefulReading
-mod CarefulInUtc
 mod Parity
 mod CarefulScan
 mod CarefulPieces
@@ -22,5 +20,8 @@ mod CarefulWords
 mod CarefulNoGit
 mod CarefulAnswers
 mod UnzonedGrammar
+mod CarefulReading
+mod CarefulInUtc
 mod CarefulGrammar
+mod CarefulCases
 pub mod CarefulRows

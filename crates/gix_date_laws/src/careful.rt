@@ -1,6 +1,8 @@
 //! Laws of dates for callers that must not guess.
-ghost use Rattle.gix_date.specs.Careful.Laws.{AnswersAlike, AnswersPairs, AnswersUnzoned, IgnoresZone, IsCarefulSo, IsParsedToo, IsUnzonedSo, IsUtc, ReadsPairs};
+ghost use Rattle.gix_date.specs.Careful.Laws.{AnswersAlike, AnswersPairs, AnswersUnzoned, CarefulNoneLater, HasOneCarefulOutcome, IgnoresZone, IsCarefulSo, IsParsedToo, IsUnzonedSo, IsUtc, ReadsPairs};
 ghost use Rattle.gix_date.specs.Families.Raw.{allows};
+ghost use Rattle.gix_date.specs.Relative.Steps.{zone_of};
+ghost use Rattle.jiff.specs.Words.{IsFixed};
 
 use gix_date::{CarefulOptions, RawOffsets};
 use jiff::Zoned;
@@ -15,7 +17,7 @@ pub fn careful_is_parsed(text: &str, options: CarefulOptions)
     ensures { IsParsedToo options text.now }
 {}
 
-/// Where an offset is written, and in a relative text, the zone of dates without an offset has no effect.
+/// Unless the text is a date in which no offset is written, the zone of such dates has no effect.
 pub fn ignores_zone(text: &str, options: CarefulOptions)
     ensures { IgnoresZone options text.now }
 {}
@@ -39,7 +41,19 @@ pub fn reads_pairs(text: &str, options: CarefulOptions)
     ensures { ReadsPairs options text.now }
 {}
 
-/// A Git form has no offset if no text is written for it, and only then.
+/// A date has no offset iff none is written: it is a day alone, or a Git form whose offset is empty. `Z` and `+0000` are
+/// offsets.
 pub fn spelled_unzoned(text: &str)
     ensures { IsUnzonedSo text.now }
+{}
+
+/// Options, text and moment allow one result.
+pub fn one_careful_outcome()
+    ensures { HasOneCarefulOutcome }
+{}
+
+/// In a zone of one offset a careful relative text names no instant after the moment.
+pub fn careful_never_later(text: &str, moment: &Zoned<'_>)
+    requires fixed { IsFixed (zone_of moment.now) }
+    ensures { CarefulNoneLater text.now moment.now }
 {}

@@ -11,7 +11,7 @@ mod relative;
 mod values;
 
 pub use careful::{
-    careful_is_parsed, ignores_zone, reads_pairs, same_in_utc, spelled_careful, spelled_unzoned,
+    careful_is_parsed, careful_never_later, ignores_zone, one_careful_outcome, reads_pairs, same_in_utc, spelled_careful, spelled_unzoned,
     without_offset,
 };
 pub use families::{

@@ -51,7 +51,7 @@ at_offset : (a : Option ℤ) (offset : ℤ) → IfSome a (λ s. is_instant s ≡
 at_offset None offset h = tt
 at_offset (Some s) offset h = h
 
-day_has : (text : List ℕ) → HasInstant (unzoned_day text)
+pub day_has : (text : List ℕ) → HasInstant (unzoned_day text)
 unfolding unzoned_day
 day_has text =
     after (read_plain_date text) (λ day. cond (is_nonempty day.1) None (option_map utc_time (civil_instant day.0 midnight (pos 0))))
@@ -64,7 +64,7 @@ cut_has date cut =
     after (git_offset cut.1) (λ offset. civil_instant date clock offset >>= λ s. Some (record { seconds = s; offset = offset })) (λ offset.
     at_offset (civil_instant date clock offset) offset (civil_has date clock offset)))
 
-git_has : (text : List ℕ) → HasInstant (unzoned_git_time text)
+pub git_has : (text : List ℕ) → HasInstant (unzoned_git_time text)
 unfolding unzoned_git_time
 git_has text =
     after (git_front (trim text)) (λ front. cond (is_nonempty (clock_cut (trim front.1)).1) None (time_of_cut front.0 (clock_cut (trim front.1))))

@@ -123,7 +123,7 @@ at-same (Some moment) Such Same f g h = f (zoned_nanos moment) h
 
 -- Each step leads to one instant.
 
-picked-once : (tz : TimeZone) (civil a b : ℤ) → IsPicked tz civil a → IsPicked tz civil b → a ≡ b
+pub picked-once : (tz : TimeZone) (civil a b : ℤ) → IsPicked tz civil a → IsPicked tz civil b → a ≡ b
 picked-once tz civil a b h g = picked-of tz g.shown a (rw g.civil_is h) ∙ sym g.is_choice
 
 pub resolves-once : (tz : TimeZone) (i a b : ℤ) → Resolves tz i a → Resolves tz i b → a ≡ b

@@ -1,20 +1,58 @@
--- Dates that are written without an offset, and what they name in a zone.
-use Rattle.std.specs.Prelude.{◌≡◌, ℕ, ℤ, pos, List, if◌then◌else◌, Option, None, option_map}
+-- What a date has to say to be read carefully; and dates without an offset, and what they name in a zone.
+use Rattle.std.specs.Prelude.{◌≡◌, ℕ, ℤ, pos, Bool, true, false, not, ◌&&◌, ◌||◌, ◌==◌, List, [], ◌∷◌, if◌then◌else◌, Option, Some, None, is_none, option_map, unwrap_or}
+use Rattle.std.specs.Int.Signed.{le_z}
+use Rattle.std.specs.List.{position}
 use Rattle.std.specs.Option.{option_or}
 use Rattle.std.specs.Str.{trim}
 use Rattle.jiff.specs.Words.{nanos_of_seconds}
 use Rattle.jiff.specs.Types.{TimeZone}
-use Rattle.gix_date.specs.Families.Epoch.{utc_time}
+use Rattle.jiff_core.specs.Calendar.{weekday_number}
+use Rattle.gix_date.specs.Careful.Fronts.{skip_git_clock}
+use Rattle.gix_date.specs.Families.Epoch.{min_bare_epoch, utc_time}
 use Rattle.gix_date.specs.Families.Patterns.{midnight}
+use Rattle.gix_date.specs.Families.Raw.{OffsetRule, raw_time_by}
 use Rattle.gix_date.specs.Fields.Civil.{civil_instant}
 use Rattle.gix_date.specs.Fields.DateFields.{read_plain_date}
 use Rattle.gix_date.specs.Fields.Front.{◌>>=◌}
 use Rattle.gix_date.specs.Git.ClockCut.{clock_cut}
 use Rattle.gix_date.specs.Git.Forms.{git_front, time_of_cut}
+use Rattle.gix_date.specs.Printing.LocalClocks.{local_day}
 use Rattle.gix_date.specs.Printing.Zoned.{time_in}
 use Rattle.gix_date.specs.Relative.Steps.{IsPicked}
+use Rattle.gix_date.specs.Text.Names.{is_name, day_names}
 use Rattle.gix_date.specs.Text.SpaceWords.{is_nonempty}
 use Rattle.gix_date.specs.declared.time.Time.{Time}
+
+-- nothing is left after a part
+abbrev pub takes_all : Option (List ℕ) → Bool
+takes_all None = false
+takes_all (Some rest) = not (is_nonempty rest)
+
+-- no character of a clock's slice is dropped: it is digits, `h:m`, `h:m:s`, `h:m:s.digits` or `HHMMSS.digits`
+unfoldable pub is_whole_clock : List ℕ → Bool
+is_whole_clock clock = takes_all (skip_git_clock (trim clock))
+
+-- a text in one of Git's own forms has such a clock
+unfoldable pub is_whole_git : List ℕ → Bool
+is_whole_git text =
+    unwrap_or (option_map (λ front. is_whole_clock (clock_cut (trim front.1)).0) (git_front (trim text))) false
+
+-- the day of the week of this name, in any letter case, from 0 for Monday
+unfoldable pub day_named : List ℕ → Option ℕ
+day_named name = position (is_name name) day_names
+
+-- the day of the week that the first three letters name
+unfoldable pub first_day : List ℕ → Option ℕ
+first_day (a ∷ b ∷ c ∷ rest) = day_named (a ∷ b ∷ c ∷ [])
+first_day _ = None
+
+-- the text begins with no day of the week, or with that of the time's own clock
+unfoldable pub names_its_day : List ℕ → Time → Bool
+names_its_day text t = unwrap_or (option_map (λ day. day == weekday_number (local_day t)) (first_day text)) true
+
+-- a raw text has seconds from 100000000, as a bare epoch does: fewer could be a date
+unfoldable pub is_large_if_raw : OffsetRule → List ℕ → Time → Bool
+is_large_if_raw rule text t = le_z min_bare_epoch t.seconds || is_none (raw_time_by rule text)
 
 -- a day alone, `YYYY-M-D`: its midnight in UTC
 unfoldable pub unzoned_day : List ℕ → Option Time

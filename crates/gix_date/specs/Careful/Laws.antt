@@ -1,33 +1,45 @@
 -- What is promised of careful reading beside what it answers.
-use Rattle.std.specs.Prelude.{◌≡◌, ◌↔◌, ℕ, ℤ, pos, List, [], Option, Some, None, Result, Ok}
+use Rattle.std.specs.Prelude.{◌≡◌, ◌↔◌, ◌⊎◌, ◌≤ℤ◌, ℕ, ℤ, pos, List, [], Option, Some, None, Result, Ok}
 use Rattle.jiff.specs.Words.{IsFixed, offset_at, zoned_nanos}
 use Rattle.jiff.specs.declared.zoned.Zoned.{Zoned}
-use Rattle.gix_date.specs.Careful.Dates.{unzoned_git_time, unzoned_time}
+use Rattle.gix_date.specs.Careful.Dates.{unzoned_time}
 use Rattle.gix_date.specs.Careful.Grammar.{IsCarefulOf, IsCarefulText}
-use Rattle.gix_date.specs.Careful.Outcome.{First, careful_reading, local_date, CarefulOutcome}
+use Rattle.gix_date.specs.Careful.Outcome.{First, careful_reading, CarefulOutcome}
 use Rattle.gix_date.specs.Careful.Texts.{unclear_place}
 use Rattle.gix_date.specs.Families.Answer.{Absolute, Relative}
 use Rattle.gix_date.specs.Families.Order.{first_family_by, ParseNoAllocOutcome}
+use Rattle.gix_date.specs.Families.Patterns.{short_layout, real_day_answer, IsMeaning}
 use Rattle.gix_date.specs.Families.Raw.{OffsetRule, allows}
 use Rattle.gix_date.specs.Git.Grammar.{IsGitText}
 use Rattle.gix_date.specs.Relative.Dates.{MinusPairs}
+use Rattle.gix_date.specs.Relative.FixedZones.{Names}
 use Rattle.gix_date.specs.Relative.Steps.{zone_of}
 use Rattle.gix_date.specs.declared.error.CarefulError.{CarefulError}
 use Rattle.gix_date.specs.declared.parsing.careful.CarefulOptions.{CarefulOptions}
-use Rattle.gix_date.specs.declared.parsing.careful.RelativeTexts.TheVariants.{Careful}
+use Rattle.gix_date.specs.declared.parsing.careful.Texts.TheVariants.{Careful}
 use Rattle.gix_date.specs.declared.parsing.careful.WithoutOffset.TheVariants.{Utc, MomentsZone}
 use Rattle.gix_date.specs.declared.parsing.relative.words.TimeUnit.{TimeUnit}
 use Rattle.gix_date.specs.declared.time.Time.{Time}
 
+-- A date in which no offset is written, of this time in UTC: a day alone, or a Git form whose offset is empty. `Z` and
+-- `+0000` are offsets.
+abbrev pub IsUnzoned : List ℕ → Time → Type 0
+IsUnzoned text t =
+    IsMeaning short_layout real_day_answer text (Absolute t) ⊎ ((git : IsGitText text t) × (git.zone ≡ []))
+
+-- an offset is written: or the text is no date
+abbrev pub HasNoLocalDate : List ℕ → Type 0
+HasNoLocalDate text = (t : Time) → ¬ (IsUnzoned text t)
+
 -- dates without an offset are read in UTC: the first family answers that time
 abbrev pub AnswersUnzoned : OffsetRule → List ℕ → Type 0
-AnswersUnzoned rule text = (t : Time) → unzoned_time text ≡ Some t → first_family_by rule text ≡ Some (Absolute t)
+AnswersUnzoned rule text = (t : Time) → IsUnzoned text t → first_family_by rule text ≡ Some (Absolute t)
 
 -- `parse_with` reads the same time: each time that is read is one that it answers too, unless the text is a date of the
 -- moment's zone
 abbrev pub IsParsedToo : CarefulOptions → List ℕ → Type 0
 IsParsedToo options text =
-    local_date options.without_offset text ≡ None → (now : Option Zoned) (t : Time)
+    (options.without_offset ≡ Utc) ⊎ HasNoLocalDate text → (now : Option Zoned) (t : Time)
     → CarefulOutcome (careful_reading options text) now (Ok t)
     → ParseNoAllocOutcome (first_family_by (allows options.raw) text) now (Ok t)
 
@@ -41,7 +53,7 @@ in_zone options = record options { without_offset = MomentsZone }
 
 -- the zone matters only to dates without an offset
 abbrev pub IgnoresZone : CarefulOptions → List ℕ → Type 0
-IgnoresZone options text = unzoned_time text ≡ None → careful_reading (in_zone options) text ≡ careful_reading (in_utc options) text
+IgnoresZone options text = HasNoLocalDate text → careful_reading (in_zone options) text ≡ careful_reading (in_utc options) text
 
 -- a fixed zone of offset 0
 abbrev pub IsUtc : Zoned → Type 0
@@ -63,12 +75,24 @@ abbrev pub AnswersPairs : OffsetRule → List ℕ → Type 0
 AnswersPairs rule text =
     (pairs : List (ℤ × TimeUnit)) → IsCarefulOf text pairs → first_family_by rule text ≡ Some (Relative (MinusPairs pairs))
 
--- only careful texts are read as pairs: where relative texts have to be careful; and each as its own pairs
+-- only careful texts are read as pairs: where texts have to be careful; and each as its own pairs
 abbrev pub ReadsPairs : CarefulOptions → List ℕ → Type 0
 ReadsPairs options text =
-    options.relative ≡ Careful → (pairs : List (ℤ × TimeUnit))
+    options.texts ≡ Careful → (pairs : List (ℤ × TimeUnit))
     → (careful_reading options text ≡ First (Some (Relative (MinusPairs pairs)))) ↔ IsCarefulOf text pairs
 
--- a Git form without an offset writes none: `Z` and `+0000` are offsets
+-- a date is without an offset iff none is written
 abbrev pub IsUnzonedSo : List ℕ → Type 0
-IsUnzonedSo text = (t : Time) → (unzoned_git_time text ≡ Some t) ↔ ((git : IsGitText text t) × (git.zone ≡ []))
+IsUnzonedSo text = (t : Time) → (unzoned_time text ≡ Some t) ↔ IsUnzoned text t
+
+-- options, text and moment allow one result
+abbrev pub HasOneCarefulOutcome : Type 0
+HasOneCarefulOutcome =
+    (options : CarefulOptions) (text : List ℕ) (now : Option Zoned) (a b : Result Time CarefulError)
+    → CarefulOutcome (careful_reading options text) now a → CarefulOutcome (careful_reading options text) now b → a ≡ b
+
+-- a careful relative text names no instant after the moment
+abbrev pub CarefulNoneLater : List ℕ → Zoned → Type 0
+CarefulNoneLater text moment =
+    (pairs : List (ℤ × TimeUnit)) (instant : ℤ) → IsCarefulOf text pairs → Names (MinusPairs pairs) moment instant
+    → instant ≤ℤ zoned_nanos moment

@@ -1,22 +1,26 @@
 -- What a text says to a caller that must not guess, by its options, and what a call results in.
-use Rattle.std.specs.Prelude.{◌≡◌, ℕ, IsCharBoundary, List, Option, Some, None, Result, Ok, Err}
+use Rattle.std.specs.Prelude.{◌≡◌, ◌&&◌, ◌||◌, ◌==◌, ℕ, Bool, true, false, IsCharBoundary, List, Option, Some, None, is_none, Result, Ok, Err}
 use Rattle.std.specs.Result.{result_map_both}
 use Rattle.jiff.specs.declared.zoned.Zoned.{Zoned}
-use Rattle.gix_date.specs.Careful.Dates.{unzoned_time, IsLocalTime}
+use Rattle.gix_date.specs.Careful.Dates.{is_large_if_raw, is_whole_git, names_its_day, unzoned_day, unzoned_git_time, unzoned_time, IsLocalTime}
+use Rattle.gix_date.specs.Careful.Fronts.{longest_front}
 use Rattle.gix_date.specs.Careful.Texts.{unclear_place}
-use Rattle.gix_date.specs.Families.Answer.{FamilyAnswer, Relative}
+use Rattle.gix_date.specs.Families.Answer.{FamilyAnswer, Absolute, NoInstant, OffsetAboveDay, Relative}
 use Rattle.gix_date.specs.Families.Order.{first_family_by, ParseNoAllocOutcome}
-use Rattle.gix_date.specs.Families.Raw.{allows}
-use Rattle.gix_date.specs.Relative.Dates.{MinusPairs}
+use Rattle.gix_date.specs.Families.Raw.{OffsetRule, allows}
+use Rattle.gix_date.specs.Git.Forms.{git_time}
+use Rattle.gix_date.specs.Relative.Dates.{MinusPairs, MinusSeconds}
+use Rattle.gix_date.specs.Relative.Roles.{pairs}
 use Rattle.gix_date.specs.Relative.Steps.{zone_of}
+use Rattle.gix_date.specs.Relative.Words.{relative_words}
 use Rattle.gix_date.specs.declared.error.CarefulError.{CarefulError}
 use Rattle.gix_date.specs.declared.error.CarefulError.TheVariants as errors
 use Rattle.gix_date.specs.declared.error.ParseError.{ParseError}
 use Rattle.gix_date.specs.declared.error.ParseError.TheVariants.{MissingNow, Range}
 use Rattle.gix_date.specs.declared.parsing.careful.CarefulOptions.{CarefulOptions}
 use Rattle.gix_date.specs.declared.parsing.raw.RawOffsets.TheVariants.{Quarter}
-use Rattle.gix_date.specs.declared.parsing.careful.RelativeTexts.{RelativeTexts}
-use Rattle.gix_date.specs.declared.parsing.careful.RelativeTexts.TheVariants as relative
+use Rattle.gix_date.specs.declared.parsing.careful.Texts.{Texts}
+use Rattle.gix_date.specs.declared.parsing.careful.Texts.TheVariants as texts
 use Rattle.gix_date.specs.declared.parsing.careful.WithoutOffset.{WithoutOffset}
 use Rattle.gix_date.specs.declared.parsing.careful.WithoutOffset.TheVariants as zone
 use Rattle.gix_date.specs.declared.time.Time.{Time}
@@ -25,7 +29,7 @@ use Rattle.gix_date.specs.declared.time.Time.{Time}
 pub data Reading : Type 0 where
   -- a date of the moment's zone: its clock shows there what the clock of UTC shows at this time
   Local : Time → Reading
-  -- a relative text that is not careful: it stops being clear at this place
+  -- a text that is not careful: it stops being so at this place
   Unclear : ℕ → Reading
   -- what the first family answers
   First : Option FamilyAnswer → Reading
@@ -35,31 +39,68 @@ abbrev pub local_date : WithoutOffset → List ℕ → Option Time
 local_date zone.Utc text = None
 local_date zone.MomentsZone text = unzoned_time text
 
--- pairs whose text stops being clear there, or is careful
-abbrev pub pairs_reading : Option FamilyAnswer → Option ℕ → Reading
-pairs_reading answer None = First answer
-pairs_reading answer (Some place) = Unclear place
+-- a date without an offset, by its time in UTC: in UTC, or in the moment's zone
+abbrev pub unzoned_reading : WithoutOffset → Time → Reading
+unzoned_reading zone.Utc t = First (Some (Absolute t))
+unzoned_reading zone.MomentsZone t = Local t
 
--- the reading by the first answer: pairs have to be careful, where the options say so
-abbrev pub first_reading : RelativeTexts → List ℕ → Option FamilyAnswer → Reading
-first_reading relative.Careful text (Some (Relative (MinusPairs pairs))) =
-    pairs_reading (Some (Relative (MinusPairs pairs))) (unclear_place text)
-first_reading rule text answer = First answer
+-- a date without an offset, where the text is one, or else this
+abbrev pub unzoned_or : WithoutOffset → Option Time → Reading → Reading
+unzoned_or zone None reading = reading
+unzoned_or zone (Some t) reading = unzoned_reading zone t
 
--- the date of the moment's zone, where the text is one, or else what the first answer comes to
+-- the date of the moment's zone, where the text is one, or else this
 abbrev pub local_or : Option Time → Reading → Reading
 local_or None reading = reading
 local_or (Some t) reading = Local t
 
--- the default options: raw offsets in quarters of an hour, dates without an offset in UTC, and careful relative texts
+-- a reading where the text is careful, and else the place where it stops being so
+abbrev pub clear_or : Bool → Reading → ℕ → Reading
+clear_or true reading place = reading
+clear_or false reading place = Unclear place
+
+-- An answer says all of its text: a date names its own day, and a raw text has many seconds. Pairs are careful nowhere here.
+abbrev pub is_clear_answer : OffsetRule → List ℕ → Option FamilyAnswer → Bool
+is_clear_answer rule text (Some (Absolute t)) = names_its_day text t && is_large_if_raw rule text t
+is_clear_answer rule text (Some (Relative (MinusPairs pairs))) = false
+is_clear_answer rule text (Some (Relative (MinusSeconds seconds))) = true
+is_clear_answer rule text (Some OffsetAboveDay) = true
+is_clear_answer rule text (Some NoInstant) = true
+is_clear_answer rule text None = false
+
+-- What the first answer says of a text that is neither careful pairs nor a Git form. A text of no family is unclear only
+-- if it begins as some form.
+abbrev pub date_reading : OffsetRule → List ℕ → ℕ → Option FamilyAnswer → Reading
+date_reading rule text place answer =
+    clear_or (is_clear_answer rule text answer || (is_none answer && place == 0)) (First answer) place
+
+-- what a text says that is no careful pairs, and is perhaps a Git form of this time: no character of its clock is dropped
+abbrev pub git_or : CarefulOptions → List ℕ → ℕ → Option Time → Reading
+git_or options text place (Some t) =
+    clear_or (is_whole_git text)
+    (unzoned_or options.without_offset (unzoned_git_time text) (First (Some (Absolute t)))) place
+git_or options text place None =
+    unzoned_or options.without_offset (unzoned_day text)
+    (date_reading (allows options.raw) text place (first_family_by (allows options.raw) text))
+
+-- what a text says that stops being careful pairs there, or is such pairs
+abbrev pub pairs_or : CarefulOptions → List ℕ → Option ℕ → Reading
+pairs_or options text None = First (Some (Relative (MinusPairs (pairs (relative_words text)))))
+pairs_or options text (Some place) = git_or options text (longest_front text place) (git_time text)
+
+-- what a text says by the options: careful texts alone, or all that `parse_with` reads
+abbrev pub reading_of_texts : Texts → CarefulOptions → List ℕ → Reading
+reading_of_texts texts.Careful options text = pairs_or options text (unclear_place text)
+reading_of_texts texts.All options text =
+    local_or (local_date options.without_offset text) (First (first_family_by (allows options.raw) text))
+
+-- the default options: raw offsets in quarters of an hour, dates without an offset in UTC, and careful texts
 abbrev pub default_options : CarefulOptions
-default_options = record { raw = Quarter; without_offset = zone.Utc; relative = relative.Careful }
+default_options = record { raw = Quarter; without_offset = zone.Utc; texts = texts.Careful }
 
 -- what a text says by the options
 unfoldable pub careful_reading : CarefulOptions → List ℕ → Reading
-careful_reading options text =
-    local_or (local_date options.without_offset text)
-    (first_reading options.relative text (first_family_by (allows options.raw) text))
+careful_reading options text = reading_of_texts options.texts options text
 
 -- The result of `parse_carefully`: what the text says and the moment determine it. A date of the moment's zone needs a
 -- moment, and is refused by `Range` where the zone has no instant for it.

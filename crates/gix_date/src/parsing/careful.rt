@@ -1,22 +1,30 @@
-//! Dates for callers that must not guess: what a relative text has to say, and which zone a date without an offset has.
-ghost use Rattle.std.specs.Prelude.{◌≡◌, true, IfErr, IfSome, IsCharBoundary, List, option_map, ℕ};
-ghost use Rattle.gix_date.specs.Careful.Dates.{unzoned_time};
-ghost use Rattle.gix_date.specs.Careful.Outcome.{careful_reading, first_reading, pairs_reading, local_date, CarefulOutcome, IsPlaceIn, Local};
+//! Dates for callers that must not guess: which texts are careful, and which zone a date without an offset has.
+ghost use Rattle.std.specs.Prelude.{◌≡◌, [], ◌∷◌, true, if◌then◌else◌, Some, None, IfErr, IfSome, IsCharBoundary, List, option_map, ℕ};
+ghost use Rattle.jiff.specs.Words.{IsOffsetSeconds};
+ghost use Rattle.jiff_core.specs.Calendar.{weekday_number};
+ghost use Rattle.gix_date.specs.Careful.Dates.{day_named, first_day, is_large_if_raw, is_whole_git, names_its_day, unzoned_day, unzoned_git_time, unzoned_time};
+ghost use Rattle.gix_date.specs.Careful.Fronts.{longest_front};
+ghost use Rattle.gix_date.specs.Careful.Outcome.{careful_reading, clear_or, date_reading, is_clear_answer, local_date, reading_of_texts, unzoned_or, unzoned_reading, CarefulOutcome, First, IsPlaceIn, Local};
+ghost use Rattle.gix_date.specs.Families.Answer.{Absolute};
+ghost use Rattle.gix_date.specs.Families.Raw.{allows};
+ghost use Rattle.gix_date.specs.Printing.LocalClocks.{local_day as day_by_clock};
 ghost use Rattle.gix_date.specs.Printing.Zoned.{is_instant};
-ghost use Rattle.gix_date.specs.Private.Careful.{IsLocalIfAny};
-ghost use Rattle.gix_date.specs.Private.Views.{answer_of};
+ghost use Rattle.gix_date.specs.Private.Careful.{reading_of, IsLocalIfAny, IsReadingOf};
+ghost use Rattle.gix_date.specs.Private.Views.{answer_of, HasJiffOffset};
 ghost use Rattle.gix_date.specs.Relative.Steps.{zone_of};
+ghost use Rattle.gix_date.specs.declared.parsing.careful.Texts.TheVariants.{Careful, All};
 
 use crate::error::{CarefulError, ParseError};
 use crate::parsing::answer::Answer;
-use crate::parsing::dates::{first_answer, outcome};
-use crate::parsing::git::parse_unzoned_git;
+use crate::parsing::dates::{MIN_EPOCH, first_answer, outcome};
+use crate::parsing::fronts::longest_front;
+use crate::parsing::git::{GitDate, parse_git_date, parse_unzoned_git};
 use crate::parsing::patterns::parse_unzoned_day;
-use crate::parsing::raw::RawOffsets;
+use crate::parsing::raw::{RawOffsets, parse_raw};
 use crate::parsing::relative::careful::unclear_place;
 use crate::parsing::relative::steps::to_instant;
 use crate::parsing::relative::{Relative, time_of};
-use crate::time::Time;
+use crate::time::{SECONDS_PER_DAY, Time};
 use jiff::tz::Offset;
 use jiff::{Timestamp, Zoned};
 
@@ -29,29 +37,33 @@ pub enum WithoutOffset {
     MomentsZone,
 }
 
-/// Which relative texts are read.
+/// Which texts are read.
 #[derive(Debug, Clone, Copy, PartialEq, Eq)]
-pub enum RelativeTexts {
-    /// `now`, `today`, `yesterday`, and counts with their units, then `ago`: `2 weeks and 3 days ago`, `1.day.ago`.
+pub enum Texts {
+    /// Those that say all that is read, and nothing else.
     ///
-    /// A count is digits, or `one` to `ten`. A unit is `second`, `minute`, `hour`, `day`, `week`, `month` or `year`, perhaps
-    /// with an `s`; no unit may be shortened. Between words may stand white space of ASCII, `,`, `.` and `_`, and `-`
-    /// directly after a word. `and` may stand before a count that is not the first. Letters have any case.
+    /// Relative texts are `now`, `today`, `yesterday`, and counts with their units, then `ago`: `2 weeks and 3 days ago`,
+    /// `1.day.ago`. A count is digits, or `one` to `ten`. A unit is `second`, `minute`, `hour`, `day`, `week`, `month` or
+    /// `year`, perhaps with an `s`; no unit may be shortened. Between words may stand white space of ASCII, `,`, `.` and
+    /// `_`, and `-` directly after a word. `and` may stand before a count that is not the first. Letters have any case.
+    ///
+    /// In one of Git's own forms only a fraction of the seconds and an offset may follow the clock. A day of the week has
+    /// to be that of the date. Seconds before an offset are 100000000 at least, unless `@` is before them.
     Careful,
-    /// All that [`parse`](crate::parse) reads: `30 min ago` is 30 seconds ago there, and `in 2 weeks` two weeks ago.
+    /// All that [`parse`](crate::parse) reads: `30 min ago` is 30 seconds ago there, and `2024-01-05 10.30` is ten.
     All,
 }
 
 /// How [`parse_carefully`] reads. By default: raw offsets in quarters of an hour, dates without an offset in UTC, and careful
-/// relative texts.
+/// texts.
 #[derive(Debug, Clone, Copy, PartialEq, Eq)]
 pub struct CarefulOptions {
     /// Which offsets raw texts may have.
     pub raw: RawOffsets,
     /// What a date means in which no offset is written.
     pub without_offset: WithoutOffset,
-    /// Which relative texts are read.
-    pub relative: RelativeTexts,
+    /// Which texts are read.
+    pub texts: Texts,
 }
 
 impl Default for CarefulOptions {
@@ -63,20 +75,33 @@ impl Default for CarefulOptions {
         CarefulOptions {
             raw: RawOffsets::Quarter,
             without_offset: WithoutOffset::Utc,
-            relative: RelativeTexts::Careful,
+            texts: Texts::Careful,
         }
     }
 }
 
-/// Reads a date as [`parse_with`](crate::parse_with) does, but does not guess where the options say so.
+/// What a text says by the options.
+#[derive(Clone, Copy)]
+pub(crate) enum Reading<'a> {
+    /// A date of the moment's zone, by its time in UTC.
+    Local(Time),
+    /// A text that is not careful from this place on.
+    Unclear(usize),
+    /// What the first family answers.
+    First(Option<Answer<'a>>),
+}
+
+/// Reads a date as [`parse_with`](crate::parse_with) does, but refuses it unless each of its characters says something
+/// that is used ([`Texts::Careful`]).
 ///
-/// [`CarefulError::Unclear`] for a relative text that is not careful. It has the place, in bytes, of the first word or
-/// character that was not understood, or the text's length if `ago` is missing at its end. The text may be cut there.
+/// [`CarefulError::Unclear`] for a text that begins as a date or as a relative text and stops being one, or that
+/// [`parse`](crate::parse) reads with a guess. It has the place, in bytes, of the first character that does not fit: the
+/// end of the longest front that some form has, or the text's length if its end is missing. The text may be cut there.
 ///
 /// [`CarefulError::Refused`] has the refusals of [`parse_no_alloc`](crate::parse_no_alloc). Of these,
-/// [`ParseError::MissingNow`] is also for a date that has to be in the moment's zone without a moment, and
-/// [`ParseError::Range`] if such a date has no instant there. Takes no memory.
-#[tactic(auto, unfolding(crate::specs::Careful::Outcome::careful_reading))]
+/// [`ParseError::UnknownFormat`] is for a text that begins as no form. [`ParseError::MissingNow`] is also for a date that
+/// has to be in the moment's zone without a moment, and [`ParseError::Range`] if such a date has no instant there. Takes no
+/// memory.
 pub fn parse_carefully(
     input: &str,
     now: Option<Zoned<'_>>,
@@ -85,17 +110,190 @@ pub fn parse_carefully(
     ensures outcome { CarefulOutcome (careful_reading options input.now) now.entry result }
     ensures boundary { IfErr result (IsPlaceIn input.now) }
 {
+    match read(input, options) {
+        Reading::Local(time) => local_time(time, now),
+        Reading::Unclear(place) => Err(CarefulError::Unclear(place)),
+        Reading::First(answer) => match outcome(answer, now) {
+            Ok(time) => Ok(time),
+            Err(refusal) => Err(CarefulError::Refused(refusal)),
+        },
+    }
+}
+
+/// What a text says by the options.
+#[tactic(auto, unfolding(crate::specs::Careful::Outcome::careful_reading))]
+#[inline(always)]
+fn read(input: &str, options: CarefulOptions) -> Reading<'_>
+    ensures reading { reading_of result ≡ careful_reading options input.now }
+    ensures fits { IsReadingOf input.now result }
+{
+    match options.texts {
+        Texts::Careful => read_clear(input, options),
+        Texts::All => read_all(input, options),
+    }
+}
+
+/// What any text says.
+fn read_all(input: &str, options: CarefulOptions) -> Reading<'_>
+    ensures reading { reading_of result ≡ reading_of_texts All options input.now }
+    ensures fits { IsReadingOf input.now result }
+{
     if let Some(time) = local_date(input, options.without_offset) {
-        return local_time(time, now);
+        return Reading::Local(time);
     }
-    let answer = first_answer(input, options.raw);
-    if let Some(place) = unclear_answer(input, answer, options.relative) {
-        return Err(CarefulError::Unclear(place));
+    Reading::First(first_answer(input, options.raw))
+}
+
+/// What a careful text says. Pairs and Git's own forms come first, so that each is read once; no other family has an
+/// earlier answer for them.
+fn read_clear(input: &str, options: CarefulOptions) -> Reading<'_>
+    ensures reading { reading_of result ≡ reading_of_texts Careful options input.now }
+    ensures fits { IsReadingOf input.now result }
+{
+    let Some(pairs_end) = unclear_place(input) else {
+        return Reading::First(Some(Answer::Relative(Relative::MinusPairs(input))));
+    };
+    if let Some(date) = parse_git_date(input) {
+        return read_git(input, date, options.without_offset, pairs_end);
     }
-    match outcome(answer, now) {
-        Ok(time) => Ok(time),
-        Err(refusal) => Err(CarefulError::Refused(refusal)),
+    if let Some(time) = parse_unzoned_day(input) {
+        return read_unzoned(time, options.without_offset);
     }
+    read_date(input, first_answer(input, options.raw), options.raw, pairs_end)
+}
+
+/// What a text in one of Git's own forms says.
+fn read_git(
+    input: &str,
+    date: GitDate,
+    without_offset: WithoutOffset,
+    pairs_end: usize,
+) -> Reading<'_>
+    requires unzoned { unzoned_git_time input.now ≡ (if date.has_offset then None else Some date.time) }
+    requires whole { date.is_whole ≡ is_whole_git input.now }
+    requires offset { IsOffsetSeconds date.time.offset }
+    requires boundary { IsCharBoundary input.now pairs_end }
+    ensures reading { reading_of result ≡ clear_or (is_whole_git input.now)
+        (unzoned_or without_offset (unzoned_git_time input.now) (First (Some (Absolute date.time)))) (longest_front input.now pairs_end) }
+    ensures fits { IsReadingOf input.now result }
+{
+    if !date.is_whole {
+        return Reading::Unclear(longest_front(input, pairs_end));
+    }
+    if date.has_offset {
+        return Reading::First(Some(Answer::Absolute(date.time)));
+    }
+    read_unzoned(date.time, without_offset)
+}
+
+/// What a date without an offset says, by its time in UTC.
+fn read_unzoned<'a>(time: Time, without_offset: WithoutOffset) -> Reading<'a>
+    requires instant { is_instant time.seconds ≡ true }
+    requires offset { IsOffsetSeconds time.offset }
+    ensures reading { reading_of result ≡ unzoned_reading without_offset time }
+    ensures fits { (text : List ℕ) → IsReadingOf text result }
+{
+    match without_offset {
+        WithoutOffset::Utc => Reading::First(Some(Answer::Absolute(time))),
+        WithoutOffset::MomentsZone => Reading::Local(time),
+    }
+}
+
+
+/// What the first answer says of a text that is neither pairs nor in one of Git's own forms.
+fn read_date<'a>(
+    input: &'a str,
+    answer: Option<Answer<'a>>,
+    raw: RawOffsets,
+    pairs_end: usize,
+) -> Reading<'a>
+    requires offset { IfSome answer HasJiffOffset }
+    requires boundary { IsCharBoundary input.now pairs_end }
+    ensures reading { reading_of result ≡ date_reading (allows raw) input.now (longest_front input.now pairs_end)
+        (option_map answer_of answer.entry) }
+    ensures fits { IsReadingOf input.now result }
+{
+    if is_clear_answer(input, answer, raw) {
+        return Reading::First(answer);
+    }
+    let place = longest_front(input, pairs_end);
+    if answer.is_none() && place == 0 {
+        return Reading::First(None);
+    }
+    Reading::Unclear(place)
+}
+
+/// Whether an answer says all of its text.
+fn is_clear_answer(input: &str, answer: Option<Answer<'_>>, raw: RawOffsets) -> bool
+    ensures { result ≡ is_clear_answer (allows raw) input.now (option_map answer_of answer.entry) }
+{
+    match answer {
+        Some(Answer::Absolute(time)) => {
+            names_its_day(input, time) && is_large_if_raw(input, time, raw)
+        }
+        Some(Answer::Relative(Relative::MinusPairs(_))) | None => false,
+        _ => true,
+    }
+}
+
+/// Whether a text begins with no day of the week, or with that of the time's own clock.
+#[tactic(auto, unfolding(crate::specs::Careful::Dates::names_its_day))]
+fn names_its_day(input: &str, time: Time) -> bool
+    ensures { result ≡ names_its_day input.now time }
+{
+    match first_day(input) {
+        Some(day) => day == weekday_of(time),
+        None => true,
+    }
+}
+
+/// The day of the week, from 0 for Monday, that the first three letters name, in any letter case.
+#[tactic(auto, unfolding(crate::specs::Careful::Dates::first_day, crate::specs::Careful::Dates::day_named))]
+fn first_day(input: &str) -> Option<u8>
+    ensures { result ≡ first_day input.now }
+{
+    match input.as_bytes() {
+        [a, b, c, ..] => day_named(*a, *b, *c),
+        _ => None,
+    }
+}
+
+/// The day of the week, from 0 for Monday, that three letters name, in any letter case.
+#[tactic(auto, unfolding(crate::specs::Careful::Dates::day_named))]
+fn day_named(a: u8, b: u8, c: u8) -> Option<u8>
+    ensures { result ≡ day_named (a ∷ b ∷ c ∷ []) }
+{
+    match (
+        a.to_ascii_lowercase(),
+        b.to_ascii_lowercase(),
+        c.to_ascii_lowercase(),
+    ) {
+        (b'm', b'o', b'n') => Some(0),
+        (b't', b'u', b'e') => Some(1),
+        (b'w', b'e', b'd') => Some(2),
+        (b't', b'h', b'u') => Some(3),
+        (b'f', b'r', b'i') => Some(4),
+        (b's', b'a', b't') => Some(5),
+        (b's', b'u', b'n') => Some(6),
+        _ => None,
+    }
+}
+
+/// The day of the week by the time's own clock, from 0 for Monday.
+fn weekday_of(time: Time) -> u8
+    ensures { result ≡ weekday_number (day_by_clock time) }
+{
+    let local = i128::from(time.seconds) + i128::from(time.offset);
+    let day = local.div_euclid(i128::from(SECONDS_PER_DAY));
+    (day + 3).rem_euclid(7) as u8
+}
+
+/// Whether a raw text has as many seconds as a bare epoch needs.
+#[tactic(auto, unfolding(crate::specs::Careful::Dates::is_large_if_raw))]
+fn is_large_if_raw(input: &str, time: Time, raw: RawOffsets) -> bool
+    ensures { result ≡ is_large_if_raw (allows raw) input.now time }
+{
+    time.seconds >= MIN_EPOCH || parse_raw(input, raw).is_none()
 }
 
 /// The time in UTC of a date that is one of the moment's zone.
@@ -118,20 +316,6 @@ fn parse_unzoned(input: &str) -> Option<Time>
         return Some(time);
     }
     parse_unzoned_git(input)
-}
-
-/// The place where pairs of a relative text stop being careful, if they have to be so.
-fn unclear_answer(input: &str, answer: Option<Answer<'_>>, relative: RelativeTexts) -> Option<usize>
-    ensures reading { pairs_reading (option_map answer_of answer.entry) result
-        ≡ first_reading relative input.now (option_map answer_of answer.entry) }
-    ensures boundary { IfSome result (IsCharBoundary input.now) }
-{
-    match (relative, answer) {
-        (RelativeTexts::Careful, Some(Answer::Relative(Relative::MinusPairs(_)))) => {
-            unclear_place(input)
-        }
-        _ => None,
-    }
 }
 
 /// What a date of the moment's zone results in, by its time in UTC.

@@ -27,7 +27,7 @@ use jiff::Zoned;
 use std::alloc::Global;
 
 /// The least seconds of a bare epoch: less could be a compact date, as in Git.
-const MIN_EPOCH: i64 = 100_000_000;
+pub(crate) const MIN_EPOCH: i64 = 100_000_000;
 
 /// Reads a date, by the first of these families, in order, that holds the whole text:
 ///

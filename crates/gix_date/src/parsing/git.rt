@@ -1,8 +1,8 @@
 //! Git's own forms of a date.
-ghost use Rattle.std.specs.Prelude.{◌≡◌, ◌<◌, ◌≤◌, IfSome};
+ghost use Rattle.std.specs.Prelude.{◌≡◌, ◌<◌, ◌≤◌, if◌then◌else◌, IfSome, Some, None, option_map};
 ghost use Rattle.jiff.specs.Words.{IsOffsetSeconds};
 ghost use Rattle.std.specs.Str.{trim};
-ghost use Rattle.gix_date.specs.Careful.Dates.{unzoned_git_time};
+ghost use Rattle.gix_date.specs.Careful.Dates.{is_whole_clock, is_whole_git, unzoned_git_time};
 ghost use Rattle.gix_date.specs.Private.Civil.{ClockFits, DateFits};
 ghost use Rattle.gix_date.specs.Private.FastRests.{time_at};
 ghost use Rattle.gix_date.specs.Private.Views.{read_view};
@@ -10,6 +10,7 @@ ghost use Rattle.gix_date.specs.Git.Forms.{read_compact_date, time_with_rest, ti
 
 use crate::civil::{ClockFields, DateFields, civil_instant};
 use crate::parsing::fields::{read_marked_date, skip_char};
+use crate::parsing::fronts::skip_git_clock;
 use crate::parsing::git::clock::parse_clock;
 use crate::parsing::git::cut::clock_cut;
 use crate::parsing::git::fast::fast_rest;
@@ -19,8 +20,8 @@ use crate::time::{OffsetInSeconds, Time};
 
 mod clock;
 mod cut;
-mod fast;
-mod offset;
+pub(crate) mod fast;
+pub(crate) mod offset;
 
 /// Reads a date in one of Git's own forms, with white space round it or none:
 ///
@@ -38,6 +39,45 @@ pub(crate) fn parse_git_date_format(input: &str) -> Option<Time>
     parse_rest(date, rest)
 }
 
+/// A date in one of Git's own forms, and how much of it is written.
+#[derive(Clone, Copy)]
+pub(crate) struct GitDate {
+    pub(crate) time: Time,
+    /// Whether an offset is written.
+    pub(crate) has_offset: bool,
+    /// Whether no character of the clock is dropped.
+    pub(crate) is_whole: bool,
+}
+
+/// Reads a date in one of Git's own forms once, and how much of it is written.
+#[tactic(auto, unfolding(crate::specs::Git::Forms::git_time, crate::specs::Git::Forms::git_form, crate::specs::Careful::Dates::unzoned_git_time, crate::specs::Careful::Dates::is_whole_git))]
+pub(crate) fn parse_git_date(input: &str) -> Option<GitDate>
+    ensures time { option_map (λ found. found.time) result ≡ git_time input.now }
+    ensures unzoned { IfSome result (λ found. unzoned_git_time input.now ≡ (if found.has_offset then None else Some found.time)) }
+    ensures whole { IfSome result (λ found. found.is_whole ≡ is_whole_git input.now) }
+    ensures offset_fits { IfSome result (λ found. IsOffsetSeconds found.time.offset) }
+{
+    let (date, rest) = read_front(trimmed(input))?;
+    let (clock, offset) = clock_cut(trimmed(rest));
+    let time = parse_cut(date, clock, offset)?;
+    Some(GitDate {
+        time,
+        has_offset: !offset.is_empty(),
+        is_whole: is_whole_clock(clock),
+    })
+}
+
+/// Whether no character of a clock's slice is dropped.
+#[tactic(auto, unfolding(crate::specs::Careful::Dates::is_whole_clock))]
+fn is_whole_clock(clock: &str) -> bool
+    ensures { result ≡ is_whole_clock clock.now }
+{
+    match skip_git_clock(trimmed(clock)) {
+        Some(rest) => rest.is_empty(),
+        None => false,
+    }
+}
+
 /// Reads a date in one of Git's own forms in which no offset is written: its time in UTC.
 #[tactic(auto, unfolding(crate::specs::Careful::Dates::unzoned_git_time))]
 pub(crate) fn parse_unzoned_git(input: &str) -> Option<Time>
@@ -53,7 +93,7 @@ pub(crate) fn parse_unzoned_git(input: &str) -> Option<Time>
 
 /// The date of one of the three forms, and what stands after its gap.
 #[tactic(auto, unfolding(crate::specs::Git::Forms::git_front))]
-fn read_front(text: &str) -> Option<(DateFields, &str)>
+pub(crate) fn read_front(text: &str) -> Option<(DateFields, &str)>
     ensures value { read_view result ≡ git_front text.now }
     ensures fits { IfSome result (λ found. DateFits found.0) }
 {

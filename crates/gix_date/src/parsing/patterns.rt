@@ -19,8 +19,8 @@ use crate::parsing::patterns::fields::{
 use crate::parsing::patterns::offset::{parse_date_offset, parse_mail_zone};
 use crate::time::{MAX_OFFSET_IN_SECONDS, OffsetInSeconds, Time};
 
-mod fields;
-mod offset;
+pub(crate) mod fields;
+pub(crate) mod offset;
 
 /// Reads a date that begins with a day: the day alone, `2018-12-24`, which is its midnight in UTC; ISO 8601 as Git
 /// prints it, `2022-08-18 12:45:06 +0800`; or its strict form, `2022-08-18T12:45:06+08:00`. The day is read once for
@@ -42,7 +42,8 @@ pub(crate) fn parse_dashed(text: &str) -> Option<Answer<'static>>
 /// The midnight in UTC of a text that is a day alone.
 #[tactic(auto, unfolding(crate::specs::Careful::Dates::unzoned_day))]
 pub(crate) fn parse_unzoned_day(text: &str) -> Option<Time>
-    ensures { result ≡ unzoned_day text.now }
+    ensures day { result ≡ unzoned_day text.now }
+    ensures offset_fits { IfSome result (λ t. IsOffsetSeconds t.offset) }
 {
     let (date, rest) = read_plain_date(text)?;
     if !rest.is_empty() {
@@ -98,7 +99,7 @@ fn mail_after(date: DateFields, rest: &str) -> Option<Answer<'static>>
 /// What stands after a day's name, a comma and spaces.
 #[tactic(auto, unfolding(crate::specs::Fields::DateFields::skip_day_name))]
 #[inline(always)]
-fn skip_day_name(text: &str) -> Option<&str>
+pub(crate) fn skip_day_name(text: &str) -> Option<&str>
     ensures { option_copied result ≡ skip_day_name text.now }
 {
     skip_spaces(skip_char(',', skip_weekday(text)?)?)

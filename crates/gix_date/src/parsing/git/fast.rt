@@ -62,7 +62,7 @@ fn skip_fraction(text: &str) -> &str
     }
 }
 
-fn skip_digits(text: &str) -> &str
+pub(crate) fn skip_digits(text: &str) -> &str
     ensures { result.now ≡ skip_digits text.now }
 {
     &text[leading_digits(text).len()..]

@@ -2,4 +2,4 @@ use Rattle.gix_date_laws.proofs.CarefulGrammar.{reads}
 use Rattle.gix_date_laws.proofs.careful.reads_pairs.Goals as goal
 
 pub returns : goal.returns
-returns c = reads c.args.options c.args.text.now c.utf8.text
+returns c = reads c.args.options c.args.text.now

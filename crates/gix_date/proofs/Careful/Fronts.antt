@@ -1,0 +1,192 @@
+-- What is left of a text where a form stops is its end, so that the text may be cut there.
+use Rattle.std.proofs.Common.{◌≡◌, ◌∙◌, ℕ, ℤ, Bool, true, false, cond, List, [], ◌∷◌, ◌++◌, refl, ap, sym, subst, append-nil, append_assoc, Option, Some, None, option_map, inl, inr, ◌⊎◌}
+use Rattle.std.specs.Char.{is_ascii_digit}
+use Rattle.std.specs.List.{prefix_len}
+use Rattle.std.specs.Option.{option_or}
+use Rattle.std.specs.Prelude.{drop, take, is_some, unwrap_or}
+use Rattle.std.proofs.Common.{take-append-drop}
+use Rattle.gix_date.specs.Careful.Fronts.{Part, left_by, perhaps, taken_by, skip_number, skip_marked, skip_day, skip_clock, skip_named_day, skip_offset, skip_git_day, skip_bare_fraction, skip_git_clock, git_parts, iso8601_parts, strict_parts, rfc2822_parts, gitoxide_parts, default_parts}
+use Rattle.gix_date.specs.Fields.Civil.{is_date, is_clock}
+use Rattle.gix_date.specs.Fields.DateFields.{skip_spaces, skip_weekday, skip_day_name, read_month, read_plain_date, read_clock, read_mail_clock}
+use Rattle.gix_date.specs.Fields.Front.{ReadFront, skip_char, ◌>>=◌}
+use Rattle.gix_date.specs.Fields.Layout.{LocalDate, LocalClock}
+use Rattle.gix_date.specs.Git.Forms.{git_front}
+use Rattle.gix_date.specs.Private.Careful.{IsRestOf}
+use Rattle.gix_date.specs.Text.Characters.{colon, dot}
+use Rattle.gix_date.specs.Text.Numbers.{read_two_digits, read_field, read_year}
+use Rattle.gix_date.proofs.Fields.FieldsTaken.{went, first-or, guard, after-taken, field-taken, two-taken, year-taken, spaces-taken, month-taken, weekday-taken, prefix-taken, date-taken, clock-taken, mail-clock-taken}
+use Rattle.gix_date.proofs.Git.Fronts.{front-taken}
+
+abbrev IsPart : Part → Type 0
+IsPart part = (text rest : List ℕ) → part text ≡ Some rest → IsRestOf text rest
+
+abbrev AreParts : List Part → Type 0
+AreParts [] = Unit {0}
+AreParts (part ∷ parts) = IsPart part × AreParts parts
+
+through : (a b c : List ℕ) → IsRestOf a b → IsRestOf b c → IsRestOf a c
+through a b c f g = (f.0 ++ g.0, f.1 ∙ ap (λ (t : List ℕ). f.0 ++ t) g.1 ∙ sym (append_assoc f.0 g.0 c))
+
+turned : (a b c : List ℕ) → b ≡ c → IsRestOf a b → IsRestOf a c
+turned a b c e h = subst (IsRestOf a) e h
+
+some-is : (a b : List ℕ) → (λ (z : List ℕ). Some z) a ≡ Some b → a ≡ b
+some-is a b e = cc
+
+left-is : (parts : List Part) (whole rest : List ℕ) → AreParts parts → IsRestOf whole rest → IsRestOf whole (left_by parts whole rest)
+left-is [] whole [] h r = ([], refl)
+left-is [] whole (c ∷ rest) h r = r
+left-is (part ∷ parts) whole rest h r = by (λ next k. left-is parts whole next h.1 k) (part rest) refl
+  where
+    by : ((next : List ℕ) → IsRestOf whole next → IsRestOf whole (left_by parts whole next)) → (o : Option (List ℕ)) → part rest ≡ o → IsRestOf whole (unwrap_or (option_map (left_by parts whole) o) rest)
+    by more None e = r
+    by more (Some next) e = more next (through whole rest next r (h.0 rest next e))
+
+-- the same of parts that begin anywhere, and may take all
+left-all : (parts : List Part) (text : List ℕ) → AreParts parts → IsRestOf text (left_by parts [] text)
+left-all [] [] h = ([], refl)
+left-all [] (c ∷ text) h = ([], refl)
+left-all (part ∷ parts) text h = by (λ next. left-all parts next h.1) (part text) refl
+  where
+    by : ((next : List ℕ) → IsRestOf next (left_by parts [] next)) → (o : Option (List ℕ)) → part text ≡ o → IsRestOf text (unwrap_or (option_map (left_by parts []) o) text)
+    by more None e = ([], refl)
+    by more (Some next) e = through text next (left_by parts [] next) (h.0 text next e) (more next)
+
+perhaps-is : (part : Part) → IsPart part → IsPart (perhaps part)
+perhaps-is part h text rest e = by (part text) refl e
+  where
+    by : (o : Option (List ℕ)) → part text ≡ o → Some (unwrap_or o text) ≡ Some rest → IsRestOf text rest
+    by None f e = turned text text rest (some-is text rest e) ([], refl)
+    by (Some next) f e = turned text next rest (some-is next rest e) (h text next f)
+
+taken-is : {A : Type 0} (read : List ℕ → ReadFront A) → ((text : List ℕ) (value : A) (rest : List ℕ) → read text ≡ Some (value, rest) → IsRestOf text rest) → IsPart (taken_by read)
+taken-is {A} read h text rest e = by (read text) refl e
+  where
+    by : (o : Option (A × List ℕ)) → read text ≡ o → option_map (λ (f : A × List ℕ). f.1) o ≡ Some rest → IsRestOf text rest
+    by None f e = absurd cc
+    by (Some (value, next)) f e = turned text next rest (some-is next rest e) (h text value next f)
+
+offset-is : (offset : List ℕ → Option ℤ) → IsPart (skip_offset offset)
+offset-is offset text rest e = by (is_some (offset text)) e
+  where
+    by : (b : Bool) → cond b (Some []) None ≡ Some rest → IsRestOf text rest
+    by true e = turned text [] rest (some-is [] rest e) (text, sym (append-nil text))
+    by false e = absurd cc
+
+spaces-is : IsPart skip_spaces
+spaces-is text rest e = let h = spaces-taken text rest e in (h.text, h.whole)
+
+char-is : (mark : ℕ) → IsPart (skip_char mark)
+char-is mark text rest e = (mark ∷ [], after-taken mark text rest e)
+
+month-is : IsPart (taken_by read_month)
+month-is = taken-is read_month (λ text value rest e. let h = month-taken text value rest e in (h.text, h.whole))
+
+year-is : IsPart (taken_by read_year)
+year-is = taken-is read_year (λ text value rest e. let h = year-taken text value rest e in (h.text, h.whole))
+
+field-is : IsPart (taken_by read_field)
+field-is = taken-is read_field (λ text value rest e. let h = field-taken text value rest e in (h.text, h.whole))
+
+mail-clock-is : IsPart (taken_by read_mail_clock)
+mail-clock-is = taken-is read_mail_clock (λ text value rest e. let h = mail-clock-taken text value rest e in (h.text, h.whole))
+
+prefix-is : IsPart skip_day_name
+prefix-is text rest e = let h = prefix-taken text rest e in (h.text, h.whole)
+
+day-is : IsPart skip_day
+unfolding skip_day
+day-is text rest e =
+    let d = went (read_plain_date text) (λ (d : LocalDate × List ℕ). cond (is_date d.0) (Some d.1) None) rest e in
+    let h = date-taken text d.0.0 d.0.1 d.1 in
+    turned text d.0.1 rest (guard (is_date d.0.0) d.0.1 rest d.2).1 (h.text, h.whole)
+
+clock-is : IsPart skip_clock
+unfolding skip_clock
+clock-is text rest e =
+    let d = went (read_clock text) (λ (d : LocalClock × List ℕ). cond (is_clock d.0) (Some d.1) None) rest e in
+    let h = clock-taken text d.0.0 d.0.1 d.1 in
+    turned text d.0.1 rest (guard (is_clock d.0.0) d.0.1 rest d.2).1 (h.text, h.whole)
+
+git-day-is : IsPart skip_git_day
+unfolding skip_git_day
+git-day-is text rest e =
+    let d = went (git_front text) (λ (d : LocalDate × List ℕ). cond (is_date d.0) (Some d.1) None) rest e in
+    let h = front-taken text d.0.0 d.0.1 d.1 in
+    turned text d.0.1 rest (guard (is_date d.0.0) d.0.1 rest d.2).1 (h.day ++ h.gap, h.whole ∙ sym (append_assoc h.day h.gap d.0.1))
+
+named-day-is : IsPart skip_named_day
+unfolding skip_named_day
+named-day-is text rest e =
+    let d = went (skip_weekday text) skip_spaces rest e in
+    let h = weekday-taken text d.0 d.1 in
+    through text d.0 rest (h.name, h.whole) (spaces-is d.0 rest d.2)
+
+number-is : IsPart skip_number
+unfolding skip_number
+number-is [] rest e = absurd cc
+number-is (c ∷ text) rest e =
+    let n = prefix_len is_ascii_digit text in
+    let g = guard (is_ascii_digit c) (drop n text) rest e in
+    turned (c ∷ text) (drop n text) rest g.1 (c ∷ take n text, ap (λ (t : List ℕ). c ∷ t) (sym (take-append-drop n text)))
+
+marked-is : (mark : ℕ) → IsPart (skip_marked mark)
+unfolding skip_marked
+marked-is mark text rest e =
+    let d = went (skip_char mark text) skip_number rest e in
+    through text d.0 rest (char-is mark text d.0 d.1) (number-is d.0 rest d.2)
+
+bare-is : IsPart skip_bare_fraction
+unfolding skip_bare_fraction
+bare-is text rest e =
+    let h = went (read_two_digits text) (λ (h : ℕ × List ℕ). read_two_digits h.1 >>= λ m. read_two_digits m.1 >>= λ s. skip_marked dot s.1) rest e in
+    let m = went (read_two_digits h.0.1) (λ (m : ℕ × List ℕ). read_two_digits m.1 >>= λ s. skip_marked dot s.1) rest h.2 in
+    let s = went (read_two_digits m.0.1) (λ (s : ℕ × List ℕ). skip_marked dot s.1) rest m.2 in
+    let a = two-taken text h.0.0 h.0.1 h.1 in
+    let b = two-taken h.0.1 m.0.0 m.0.1 m.1 in
+    let c = two-taken m.0.1 s.0.0 s.0.1 s.1 in
+    through text h.0.1 rest (a.tens ∷ a.ones ∷ [], a.whole)
+    (through h.0.1 m.0.1 rest (b.tens ∷ b.ones ∷ [], b.whole)
+    (through m.0.1 s.0.1 rest (c.tens ∷ c.ones ∷ [], c.whole) (marked-is dot s.0.1 rest s.2)))
+
+clock-parts : List Part
+clock-parts = skip_marked colon ∷ skip_marked colon ∷ skip_marked dot ∷ []
+
+git-clock-is : IsPart skip_git_clock
+unfolding skip_git_clock clock-parts
+git-clock-is text rest e =
+    elim (first-or (skip_bare_fraction text) (option_map (left_by clock-parts []) (skip_number text)) rest e) [
+      | inl h ↦ bare-is text rest h
+      | inr h ↦ by (skip_number text) refl h
+    ]
+  where
+    by : (o : Option (List ℕ)) → skip_number text ≡ o → option_map (left_by clock-parts []) o ≡ Some rest → IsRestOf text rest
+    by None f e = absurd cc
+    by (Some next) f e =
+        turned text (left_by clock-parts [] next) rest (some-is (left_by clock-parts [] next) rest e)
+        (through text next (left_by clock-parts [] next) (number-is text next f) (left-all clock-parts next (marked-is colon, (marked-is colon, (marked-is dot, tt)))))
+
+whole-is : (text : List ℕ) → IsRestOf text text
+whole-is text = ([], refl)
+
+pub git-left : (text : List ℕ) → IsRestOf text (left_by git_parts text text)
+git-left text = left-is git_parts text text (perhaps-is skip_spaces spaces-is, (git-day-is, (perhaps-is skip_spaces spaces-is, (git-clock-is, (perhaps-is skip_spaces spaces-is, (offset-is _, tt)))))) (whole-is text)
+
+pub iso8601-left : (text : List ℕ) → IsRestOf text (left_by iso8601_parts text text)
+iso8601-left text = left-is iso8601_parts text text (day-is, (spaces-is, (clock-is, (spaces-is, (offset-is _, tt))))) (whole-is text)
+
+pub strict-left : (text : List ℕ) → IsRestOf text (left_by strict_parts text text)
+strict-left text = left-is strict_parts text text (day-is, (char-is _, (clock-is, (offset-is _, tt)))) (whole-is text)
+
+pub rfc2822-left : (text : List ℕ) → IsRestOf text (left_by rfc2822_parts text text)
+rfc2822-left text =
+    left-is rfc2822_parts text text
+    (perhaps-is skip_day_name prefix-is, (field-is, (spaces-is, (month-is, (spaces-is, (year-is, (spaces-is, (mail-clock-is, (spaces-is, (offset-is _, tt)))))))))) (whole-is text)
+
+pub gitoxide-left : (text : List ℕ) → IsRestOf text (left_by gitoxide_parts text text)
+gitoxide-left text =
+    left-is gitoxide_parts text text (named-day-is, (month-is, (spaces-is, (field-is, (spaces-is, (year-is, (spaces-is, (clock-is, (spaces-is, (offset-is _, tt)))))))))) (whole-is text)
+
+pub default-left : (text : List ℕ) → IsRestOf text (left_by default_parts text text)
+default-left text =
+    left-is default_parts text text (named-day-is, (month-is, (spaces-is, (field-is, (spaces-is, (clock-is, (spaces-is, (year-is, (spaces-is, (offset-is _, tt)))))))))) (whole-is text)

@@ -1,0 +1,5 @@
+use Rattle.gix_date_laws.proofs.CarefulCases.{one-careful-outcome}
+use Rattle.gix_date_laws.proofs.careful.one_careful_outcome.Goals as goal
+
+pub returns : goal.returns
+returns c = one-careful-outcome
