@@ -80,8 +80,8 @@ enum gix_date_status {
     GIX_DATE_NO_SIGNATURE = 15,
     /* The name or the mail holds '<', '>', a newline or NUL. */
     GIX_DATE_BAD_PART = 16,
-    /* The relative text is not careful. *place is the byte from which on it is not understood, or
-     * the text's length if "ago" is missing at its end. */
+    /* The text is not careful. *place is the first byte that does not fit, or the text's length if
+     * its end is missing. */
     GIX_DATE_UNCLEAR = 17
 };
 
@@ -124,7 +124,7 @@ static inline const char *gix_date_status_text(uint32_t status)
     case GIX_DATE_BAD_PART:
         return "a name or a mail holds <, >, a newline or NUL";
     case GIX_DATE_UNCLEAR:
-        return "the relative date is not clear: expected counts and whole units, then ago";
+        return "the date is not clear: expected a date, or counts and whole units, then ago";
     default:
         return "unknown status";
     }
@@ -143,10 +143,10 @@ enum gix_date_without_offset {
     GIX_DATE_MOMENTS_ZONE = 1 /* a time in the moment's zone */
 };
 
-/* Which relative texts are read. */
-enum gix_date_relative_texts {
-    GIX_DATE_CAREFUL = 0,     /* "2 weeks and 3 days ago": counts and whole units, then "ago" */
-    GIX_DATE_ALL_RELATIVE = 1 /* all that gix_date_parse reads */
+/* Which texts are read. */
+enum gix_date_texts {
+    GIX_DATE_CAREFUL = 0,  /* those of which each character says something that is used */
+    GIX_DATE_ALL_TEXTS = 1 /* all that gix_date_parse reads */
 };
 
 /* What a time is printed as. */
@@ -176,11 +176,11 @@ typedef struct gix_date_instant {
 } gix_date_instant;
 
 /* How a date is parsed carefully. All zero is the usual: quarters of an hour, UTC, and careful
- * relative texts. */
+ * texts. */
 typedef struct gix_date_careful_options {
     uint32_t raw_offsets;    /* of enum gix_date_raw_offsets */
     uint32_t without_offset; /* of enum gix_date_without_offset */
-    uint32_t relative;       /* of enum gix_date_relative_texts */
+    uint32_t texts;          /* of enum gix_date_texts */
 } gix_date_careful_options;
 
 /* A part of a text: the bytes text[start] to text[start + len - 1]. */
@@ -247,9 +247,9 @@ uint32_t gix_date_parse_in_tzif_zone(const char *text, size_t text_len, uint32_t
                                      const gix_date_instant *now, const void *file,
                                      size_t file_len, gix_date_time *time);
 
-/* Parses a date as gix_date_parse does, but does not guess where the options say so. With
- * GIX_DATE_UNCLEAR *place says where the text stops being clear; no other status changes it. The
- * statuses are those of gix_date_parse, and GIX_DATE_UNCLEAR. */
+/* Parses a date as gix_date_parse does, but refuses it unless each character says something that is
+ * used. With GIX_DATE_UNCLEAR *place says where the text stops being careful; no other status
+ * changes it. The statuses are those of gix_date_parse, and GIX_DATE_UNCLEAR. */
 uint32_t gix_date_parse_carefully(const char *text, size_t text_len,
                                   const gix_date_careful_options *options, gix_date_time *time,
                                   size_t *place);

@@ -314,7 +314,7 @@ static bool take_option(arguments *row, const char *first, const char *second, u
 static bool take_options(arguments *row, gix_date_careful_options *options)
 {
     bool are_all = take_option(row, "utc", "local", &options->without_offset);
-    return are_all & take_option(row, "careful", "all", &options->relative);
+    return are_all & take_option(row, "careful", "all", &options->texts);
 }
 
 /* A date by each rule that the row names, at each moment that it means. */

@@ -238,12 +238,12 @@ static void relative_dates(void)
     EXPECT(is_time(time, untouched.seconds, untouched.offset), "a refusal stores nothing");
 }
 
-/* Options of careful calls: the usual, dates in the moment's zone, and all relative texts. */
+/* Options of careful calls: the usual, dates in the moment's zone, and all texts. */
 static const gix_date_careful_options usual = {0, 0, 0},
                                       local = {GIX_DATE_QUARTERS, GIX_DATE_MOMENTS_ZONE,
                                                GIX_DATE_CAREFUL},
                                       lenient = {GIX_DATE_WHOLE_MINUTES, GIX_DATE_UTC,
-                                                 GIX_DATE_ALL_RELATIVE};
+                                                 GIX_DATE_ALL_TEXTS};
 
 /* The place that no call stores. */
 enum { NO_PLACE = 99 };
@@ -732,7 +732,7 @@ static void status_texts(void)
         "out of memory",
         "not a signature line: expected a name, <, a mail, > and a time",
         "a name or a mail holds <, >, a newline or NUL",
-        "the relative date is not clear: expected counts and whole units, then ago",
+        "the date is not clear: expected a date, or counts and whole units, then ago",
         "unknown status",
     };
     const uint32_t unknown = sizeof texts / sizeof *texts - 1;

@@ -120,7 +120,7 @@ pub(crate) fn parse_carefully(
     let options = CCarefulOptions {
         raw_offsets: options.raw as u32,
         without_offset: options.without_offset as u32,
-        relative: options.relative as u32,
+        texts: options.texts as u32,
     };
     let (mut time, mut place) = (Time::default(), 0);
     let status = match now {

@@ -104,7 +104,7 @@ impl fmt::Display for CarefulError {
         match self {
             CarefulError::Unclear(place) => write!(
                 f,
-                "not understood from byte {place} on; expected counts and whole units, then `ago`, such as \"2 weeks ago\""
+                "not understood from byte {place} on; expected a date, or counts and whole units, then `ago`, such as \"2 weeks ago\""
             ),
             CarefulError::Refused(error) => error.fmt(f),
         }

@@ -14,7 +14,7 @@ pub struct CInstant {
 pub struct CCarefulOptions {
     pub raw_offsets: u32,
     pub without_offset: u32,
-    pub relative: u32,
+    pub texts: u32,
 }
 
 #[repr(C)]

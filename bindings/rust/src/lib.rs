@@ -37,7 +37,7 @@ mod version;
 
 pub use error::{CarefulError, Error};
 pub use moment::{Moment, Zone, Zoned};
-pub use parse::careful::{parse_carefully, CarefulOptions, RelativeTexts, WithoutOffset};
+pub use parse::careful::{parse_carefully, CarefulOptions, Texts, WithoutOffset};
 pub use parse::function::{is_canonical_header, parse, parse_header, parse_with, RawOffsets};
 pub use signature::{write_signature, Signature};
 pub use time::Format;

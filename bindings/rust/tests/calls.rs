@@ -5,7 +5,7 @@ use gix_date_proved::time::{format, CustomFormat, Format};
 use gix_date_proved::{
     bytes, check_library, is_canonical_header, library_version, parse, parse_carefully,
     parse_header, parse_with, ported_version, write_signature, CarefulError, CarefulOptions, Error,
-    Moment, RawOffsets, RelativeTexts, Signature, Time, Version, WithoutOffset, Zone,
+    Moment, RawOffsets, Texts, Signature, Time, Version, WithoutOffset, Zone,
 };
 use std::collections::HashSet;
 use std::io;
@@ -137,7 +137,7 @@ fn dates_are_parsed_carefully() {
     };
     let lenient = CarefulOptions {
         raw: RawOffsets::WholeMinutes,
-        relative: RelativeTexts::All,
+        texts: Texts::All,
         ..options
     };
     let now = || Some(Moment::at_offset(1698400800, 7200));
@@ -380,11 +380,11 @@ fn types_have_their_traits() {
     let CarefulOptions {
         raw,
         without_offset,
-        relative,
+        texts,
     } = CarefulOptions::default();
     assert_eq!(raw, RawOffsets::Quarter);
     assert_eq!(without_offset, WithoutOffset::Utc);
-    assert_eq!(relative, RelativeTexts::Careful);
+    assert_eq!(texts, Texts::Careful);
 }
 
 #[test]
@@ -398,7 +398,7 @@ fn errors_are_errors() {
     let unclear: Box<dyn std::error::Error> = Box::new(unclear);
     assert!(unclear
         .to_string()
-        .starts_with("not understood from byte 7 on; expected counts"));
+        .starts_with("not understood from byte 7 on; expected a date, or counts"));
 }
 
 fn version([major, minor, patch]: [u32; 3]) -> Version {

@@ -4,7 +4,7 @@ use gix_date_proved::parse::TimeBuf;
 use gix_date_proved::time::{format as formats, Format};
 use gix_date_proved::{
     bytes, is_canonical_header, parse, parse_carefully, parse_header, parse_with, write_signature,
-    CarefulError, CarefulOptions, Error, Moment, RawOffsets, RelativeTexts, Signature, Time,
+    CarefulError, CarefulOptions, Error, Moment, RawOffsets, Texts, Signature, Time,
     WithoutOffset, Zone,
 };
 use std::fs;
@@ -158,16 +158,16 @@ fn told_carefully(answer: Result<Time, CarefulError>) -> Answer {
 }
 
 /// The options beside the rule for raw offsets.
-fn careful_options(without_offset: &str, relative: &str) -> Option<CarefulOptions> {
+fn careful_options(without_offset: &str, texts: &str) -> Option<CarefulOptions> {
     Some(CarefulOptions {
         without_offset: match without_offset {
             "utc" => WithoutOffset::Utc,
             "local" => WithoutOffset::MomentsZone,
             _ => return None,
         },
-        relative: match relative {
-            "careful" => RelativeTexts::Careful,
-            "all" => RelativeTexts::All,
+        texts: match texts {
+            "careful" => Texts::Careful,
+            "all" => Texts::All,
             _ => return None,
         },
         ..CarefulOptions::default()

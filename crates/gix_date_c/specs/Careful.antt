@@ -9,8 +9,8 @@ use Rattle.gix_date.specs.Fields.Front.{◌>>=◌}
 use Rattle.gix_date.specs.declared.error.CarefulError.{CarefulError}
 use Rattle.gix_date.specs.declared.error.CarefulError.TheVariants as errors
 use Rattle.gix_date.specs.declared.parsing.careful.CarefulOptions.{CarefulOptions}
-use Rattle.gix_date.specs.declared.parsing.careful.RelativeTexts.{RelativeTexts}
-use Rattle.gix_date.specs.declared.parsing.careful.RelativeTexts.TheVariants as relatives
+use Rattle.gix_date.specs.declared.parsing.careful.Texts.{Texts}
+use Rattle.gix_date.specs.declared.parsing.careful.Texts.TheVariants as texts
 use Rattle.gix_date.specs.declared.parsing.careful.WithoutOffset.{WithoutOffset}
 use Rattle.gix_date.specs.declared.parsing.careful.WithoutOffset.TheVariants as meanings
 use Rattle.gix_date.specs.declared.time.Time.{Time}
@@ -26,17 +26,17 @@ use Rattle.gix_date_c.specs.declared.status.Status.TheVariants as statuses
 abbrev pub without_offset_of : ℕ → Option WithoutOffset
 without_offset_of n = if n == 0 then Some meanings.Utc else if n == 1 then Some meanings.MomentsZone else None
 
--- which relative texts are read, by this number
-abbrev pub relative_of : ℕ → Option RelativeTexts
-relative_of n = if n == 0 then Some relatives.Careful else if n == 1 then Some relatives.All else None
+-- which texts are read, by this number
+abbrev pub texts_of : ℕ → Option Texts
+texts_of n = if n == 0 then Some texts.Careful else if n == 1 then Some texts.All else None
 
 -- the options of these numbers
 abbrev pub options_of : CCarefulOptions → Option CarefulOptions
 options_of numbers = do
   raw ← raw_rule numbers.raw_offsets
   meaning ← without_offset_of numbers.without_offset
-  texts ← relative_of numbers.relative
-  Some (record { raw = raw; without_offset = meaning; relative = texts })
+  which ← texts_of numbers.texts
+  Some (record { raw = raw; without_offset = meaning; texts = which })
 
 -- the refusal that C is told for one of the library
 abbrev pub refusal_of : CarefulError → Refusal

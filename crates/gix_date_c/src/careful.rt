@@ -3,7 +3,7 @@ ghost use Rattle.std.specs.Prelude.{◌≡◌, Result, Ok, None};
 ghost use Rattle.std.specs.Result.{result_map_both};
 ghost use Rattle.jiff.specs.Types.{TimeZone as PlainTimeZone};
 ghost use Rattle.jiff.specs.Words.{plain_zone};
-ghost use Rattle.gix_date_c.specs.Careful.{IsParsedCarefully, IsParsedCarefullyIn, options_of, place_after, refusal_of, relative_of, with_status, without_offset_of};
+ghost use Rattle.gix_date_c.specs.Careful.{IsParsedCarefully, IsParsedCarefullyIn, options_of, place_after, refusal_of, texts_of, with_status, without_offset_of};
 ghost use Rattle.gix_date_c.specs.Parsing.{IsFileZone, IsOffsetZone, IsRuleZone};
 ghost use Rattle.gix_date_c.specs.Times.{StoresTime};
 
@@ -14,7 +14,7 @@ use crate::status::Status;
 use crate::text::text_of;
 use crate::time::{CTime, store_time};
 use gix_date::{
-    CarefulError, CarefulOptions, RelativeTexts, Time, WithoutOffset, Zoned, parse_carefully,
+    CarefulError, CarefulOptions, Texts, Time, WithoutOffset, Zoned, parse_carefully,
 };
 use jiff::tz::TimeZone;
 use std::alloc::Global;
@@ -25,13 +25,13 @@ use std::alloc::Global;
 pub struct CCarefulOptions {
     pub raw_offsets: u32,
     pub without_offset: u32,
-    pub relative: u32,
+    pub texts: u32,
 }
 
 /// Why a date is not parsed carefully.
 #[derive(Clone, Copy)]
 pub(crate) enum Refusal {
-    /// A relative text is not clear from this place on.
+    /// The text is not careful from this place on.
     Unclear(usize),
     /// Any other refusal, by its status.
     Other(Status),
@@ -181,7 +181,7 @@ fn options_of(numbers: &CCarefulOptions) -> Option<CarefulOptions>
     Some(CarefulOptions {
         raw: raw_rule(numbers.raw_offsets)?,
         without_offset: without_offset_of(numbers.without_offset)?,
-        relative: relative_of(numbers.relative)?,
+        texts: texts_of(numbers.texts)?,
     })
 }
 
@@ -195,12 +195,12 @@ fn without_offset_of(number: u32) -> Option<WithoutOffset>
     }
 }
 
-fn relative_of(number: u32) -> Option<RelativeTexts>
-    ensures { result ≡ relative_of number }
+fn texts_of(number: u32) -> Option<Texts>
+    ensures { result ≡ texts_of number }
 {
     match number {
-        0 => Some(RelativeTexts::Careful),
-        1 => Some(RelativeTexts::All),
+        0 => Some(Texts::Careful),
+        1 => Some(Texts::All),
         _ => None,
     }
 }

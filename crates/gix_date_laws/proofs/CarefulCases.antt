@@ -10,7 +10,7 @@ use Rattle.jiff.specs.declared.zoned.Zoned.{Zoned}
 use Rattle.gix_date.specs.Careful.Dates.{is_whole_git, unzoned_day, unzoned_git_time, unzoned_time, IsLocalTime}
 use Rattle.gix_date.specs.Careful.Fronts.{longest_front}
 use Rattle.gix_date.specs.Careful.Laws.{IsParsedToo, IgnoresZone, HasNoLocalDate, HasOneCarefulOutcome, in_utc, in_zone}
-use Rattle.gix_date.specs.Careful.Outcome.{Reading, Local, First, Unclear, careful_reading, clear_or, date_reading, git_or, is_clear_answer, local_date, local_or, pairs_or, reading_of_texts, unzoned_or, unzoned_reading, CarefulOutcome}
+use Rattle.gix_date.specs.Careful.Outcome.{Reading, Local, First, Unclear, careful_reading, clear_or, date_reading, git_or, is_clear_answer, local_date, local_or, names_no_other_day, pairs_or, reading_of_texts, unzoned_or, unzoned_reading, CarefulOutcome}
 use Rattle.gix_date.specs.Careful.Texts.{unclear_place}
 use Rattle.gix_date.specs.Families.Answer.{FamilyAnswer, Absolute}
 use Rattle.gix_date.specs.Families.Order.{first_family_by, ParseNoAllocOutcome}
@@ -65,7 +65,9 @@ git-first options text t u e = (comes-first (allows options.raw) text u).git (ap
 day-says : (options : CarefulOptions) (text : List ℕ) (place : ℕ) → IsUtf8 text → (day : Option Time) → unzoned_day text ≡ day → Says options text (unzoned_or options.without_offset day (date_reading (allows options.raw) text place (first_family_by (allows options.raw) text)))
 day-says options text place u None e =
     let answer = first_family_by (allows options.raw) text in
-    clear-says options text (is_clear_answer (allows options.raw) text answer || (is_none answer && place == 0)) (FirstOf options text) place (first refl)
+    let clear = is_clear_answer (allows options.raw) text answer || (is_none answer && place == 0) in
+    clear-says options text (names_no_other_day text answer) (clear_or clear (FirstOf options text) place) 0
+    (clear-says options text clear (FirstOf options text) place (first refl))
 day-says options text place u (Some t) e = unzoned-says options text u t (unzoned-by-day text t e) options.without_offset refl
 
 git-says : (options : CarefulOptions) (text : List ℕ) (place : ℕ) → IsUtf8 text → (git : Option Time) → git_time text ≡ git → Says options text (git_or options text place git)

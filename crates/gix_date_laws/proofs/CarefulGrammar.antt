@@ -1,7 +1,7 @@
 -- The texts that are clear at each place, and those that careful reading reads as pairs, are the careful ones.
 use Rattle.std.proofs.Common.{◌≡◌, ◌∙◌, ◌↔◌, ℕ, ℤ, Bool, true, false, List, refl, ap, sym, subst, Option, Some, None}
 use Rattle.std.specs.Prelude.{◌||◌, ◌==◌}
-use Rattle.gix_date.specs.Careful.Dates.{is_whole_git, unzoned_day, unzoned_git_time}
+use Rattle.gix_date.specs.Careful.Dates.{is_whole_git, names_its_day, unzoned_day, unzoned_git_time}
 use Rattle.gix_date.specs.Careful.Fronts.{longest_front}
 use Rattle.gix_date.specs.Careful.Grammar.{IsCarefulOf, IsCarefulText, words_of}
 use Rattle.gix_date.specs.Careful.Outcome.{First, careful_reading, clear_or, date_reading, git_or, is_clear_answer, pairs_or, reading_of_texts, unzoned_or}
@@ -60,10 +60,14 @@ no-pairs-if : (clear : Bool) (answer : Option FamilyAnswer) (place : ℕ) (pairs
 no-pairs-if false answer place pairs n e = cc
 no-pairs-if true answer place pairs n e = n cc
 
+no-first-pairs-if : (named clear : Bool) (answer : Option FamilyAnswer) (place : ℕ) (pairs : List (ℤ × PeriodUnit)) → ¬ (answer ≡ PairsAnswer pairs) → clear_or named (clear_or clear (First answer) place) 0 ≡ First (PairsAnswer pairs) → ⊥
+no-first-pairs-if true clear answer place pairs n e = no-pairs-if clear answer place pairs n e
+no-first-pairs-if false clear answer place pairs n e = cc
+
 no-first-pairs : (rule : OffsetRule) (text : List ℕ) (place : ℕ) (answer : Option FamilyAnswer) (pairs : List (ℤ × PeriodUnit)) → date_reading rule text place answer ≡ First (PairsAnswer pairs) → ⊥
 no-first-pairs rule text place (Some (Relative (MinusPairs found))) pairs e = cc
 no-first-pairs rule text place (Some (Relative (MinusSeconds n))) pairs e = no-pairs-if true (Some (Relative (MinusSeconds n))) place pairs (λ k. cc) e
-no-first-pairs rule text place (Some (Absolute t)) pairs e = no-pairs-if (is_clear_answer rule text (Some (Absolute t)) || false) (Some (Absolute t)) place pairs (λ k. cc) e
+no-first-pairs rule text place (Some (Absolute t)) pairs e = no-first-pairs-if (names_its_day text t) (is_clear_answer rule text (Some (Absolute t)) || false) (Some (Absolute t)) place pairs (λ k. cc) e
 no-first-pairs rule text place (Some OffsetAboveDay) pairs e = no-pairs-if true (Some OffsetAboveDay) place pairs (λ k. cc) e
 no-first-pairs rule text place (Some NoInstant) pairs e = no-pairs-if true (Some NoInstant) place pairs (λ k. cc) e
 no-first-pairs rule text place None pairs e = no-pairs-if (place == 0) None place pairs (λ k. cc) e

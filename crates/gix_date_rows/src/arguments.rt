@@ -3,7 +3,7 @@ use gix_date::time::Format;
 use gix_date::time::format::{
     DEFAULT, GIT_RFC2822, GITOXIDE, ISO8601, ISO8601_STRICT, RFC2822, SHORT,
 };
-use gix_date::{RawOffsets, RelativeTexts, Time, WithoutOffset};
+use gix_date::{RawOffsets, Texts, Time, WithoutOffset};
 use jiff::Timestamp;
 
 /// Fields, and how many of them are taken.
@@ -63,11 +63,11 @@ impl<'a> Arguments<'a> {
         }
     }
 
-    /// Which relative texts are read.
-    pub(crate) fn relative(&mut self) -> Option<RelativeTexts> {
+    /// Which texts are read.
+    pub(crate) fn texts(&mut self) -> Option<Texts> {
         match self.text()? {
-            "careful" => Some(RelativeTexts::Careful),
-            "all" => Some(RelativeTexts::All),
+            "careful" => Some(Texts::Careful),
+            "all" => Some(Texts::All),
             _ => None,
         }
     }

@@ -31,7 +31,7 @@ pub(crate) fn answer_to(
             let options = CarefulOptions {
                 raw: RawOffsets::Quarter,
                 without_offset: row.without_offset()?,
-                relative: row.relative()?,
+                texts: row.texts()?,
             };
             let moment = row.text()?;
             parsed_carefully(zones, rules, options, moment, row.text()?)

@@ -10,7 +10,7 @@ use gix_date::parsing::TimeBuf;
 use gix_date::time::{CustomFormat, Format, format};
 use gix_date::{
     CarefulError, CarefulOptions, Error, InputBytes, OffsetInSeconds, ParseError, RawOffsets,
-    RelativeTexts, SecondsSinceUnixEpoch, Time, WithoutOffset, Zoned, laws, parse, parse_carefully,
+    Texts, SecondsSinceUnixEpoch, Time, WithoutOffset, Zoned, laws, parse, parse_carefully,
 };
 use gix_date_fakes::Dribble;
 use gix_date_tool::Mode;
@@ -194,7 +194,7 @@ fn careful_options_and_refusals_are_as_told(rt: HostRuntime) -> Result<(), Fail>
     let options = CarefulOptions::default();
     assert!(rt; options.raw == RawOffsets::Quarter);
     assert!(rt; options.without_offset == WithoutOffset::Utc);
-    assert!(rt; options.relative == RelativeTexts::Careful);
+    assert!(rt; options.texts == Texts::Careful);
     let unclear = parse_carefully("30 min ago", None, options);
     assert!(rt; unclear == Err(CarefulError::Unclear(3)));
     let refused = parse_carefully("banana", None, options);
@@ -202,7 +202,7 @@ fn careful_options_and_refusals_are_as_told(rt: HostRuntime) -> Result<(), Fail>
     let text = format!(in rt.alloc(); "{}", CarefulError::Unclear(3))?;
     assert_eq!(rt;
         text.as_str(),
-        "not understood from byte 3 on; expected counts and whole units, then `ago`, such as \"2 weeks ago\""
+        "not understood from byte 3 on; expected a date, or counts and whole units, then `ago`, such as \"2 weeks ago\""
     );
     let text = format!(in rt.alloc(); "{}", CarefulError::Refused(ParseError::MissingNow))?;
     let same = format!(in rt.alloc(); "{}", ParseError::MissingNow)?;
@@ -210,7 +210,7 @@ fn careful_options_and_refusals_are_as_told(rt: HostRuntime) -> Result<(), Fail>
     let text = format!(in rt.alloc(); "{:?}", options)?;
     assert_eq!(rt;
         text.as_str(),
-        "CarefulOptions { raw: Quarter, without_offset: Utc, relative: Careful }"
+        "CarefulOptions { raw: Quarter, without_offset: Utc, texts: Careful }"
     );
     Ok(())
 }

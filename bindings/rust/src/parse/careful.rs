@@ -14,34 +14,39 @@ pub enum WithoutOffset {
     MomentsZone = 1,
 }
 
-/// Which relative texts are read.
+/// Which texts are read.
 #[derive(Clone, Copy, Debug, Default, PartialEq, Eq, Hash)]
 #[non_exhaustive]
-pub enum RelativeTexts {
-    /// `now`, `today`, `yesterday`, and counts with their units, then `ago`: `2 weeks and 3 days ago`, `1.day.ago`.
+pub enum Texts {
+    /// Those that say all that is read, and nothing else.
     ///
+    /// Relative texts are `now`, `today`, `yesterday`, and counts with their units, then `ago`: `2 weeks and 3 days ago`, `1.day.ago`.
     /// A count is digits, or `one` to `ten`. A unit is `second`, `minute`, `hour`, `day`, `week`, `month` or `year`, perhaps with
     /// an `s`; no unit may be shortened. Between words may stand white space of ASCII, `,`, `.` and `_`, and `-` directly after a
     /// word. `and` may stand before a count that is not the first. Letters have any case.
+    ///
+    /// In one of Git's own forms only a fraction of the seconds and an offset may follow the clock. A day of the week has to be that
+    /// of the date. Seconds before an offset are 100000000 at least, unless `@` is before them.
     #[default]
     Careful = 0,
-    /// All that [`parse()`](crate::parse()) reads: `30 min ago` is 30 seconds ago there, and `in 2 weeks` two weeks ago.
+    /// All that [`parse()`](crate::parse()) reads: `30 min ago` is 30 seconds ago there, and `2024-01-05 10.30` is ten.
     All = 1,
 }
 
-/// How [`parse_carefully()`] reads. By default raw offsets are quarters of an hour, dates without an offset are in UTC, and relative
-/// texts have to be careful.
+/// How [`parse_carefully()`] reads. By default raw offsets are quarters of an hour, dates without an offset are in UTC, and texts
+/// have to be careful.
 #[derive(Clone, Copy, Debug, Default, PartialEq, Eq, Hash)]
 pub struct CarefulOptions {
     /// Which offsets raw texts may have.
     pub raw: RawOffsets,
     /// What a date means in which no offset is written.
     pub without_offset: WithoutOffset,
-    /// Which relative texts are read.
-    pub relative: RelativeTexts,
+    /// Which texts are read.
+    pub texts: Texts,
 }
 
-/// Parses a date as [`parse_with()`](crate::parse_with) does, but does not guess where the options say so.
+/// Parses a date as [`parse_with()`](crate::parse_with) does, but refuses it unless each of its characters says something that is
+/// used ([`Texts::Careful`]).
 ///
 /// ```
 /// use gix_date_proved::{parse_carefully, CarefulError, CarefulOptions, Moment, WithoutOffset};
@@ -52,6 +57,9 @@ pub struct CarefulOptions {
 /// // `min` is no unit.
 /// let unclear = parse_carefully("30 min ago", Some(now.clone()), options);
 /// assert_eq!(unclear, Err(CarefulError::Unclear(3)));
+/// // Behind the hour alone stands no fraction.
+/// let dropped = parse_carefully("2024-01-05 10.30", None, options);
+/// assert_eq!(dropped, Err(CarefulError::Unclear(13)));
 ///
 /// let local = CarefulOptions {
 ///     without_offset: WithoutOffset::MomentsZone,
@@ -61,8 +69,9 @@ pub struct CarefulOptions {
 /// # Ok::<(), CarefulError>(())
 /// ```
 ///
-/// [`CarefulError::Unclear`] for a relative text that is not careful. Else the refusals are those of
-/// [`parse()`](crate::parse()), in [`CarefulError::Refused`]. [`Error::MissingNow`](crate::Error::MissingNow) also for a date that
+/// [`CarefulError::Unclear`] for a text that begins as a date or as a relative text and stops being one, or that
+/// [`parse()`](crate::parse()) reads with a guess. Else the refusals are those of [`parse()`](crate::parse()), in
+/// [`CarefulError::Refused`]. [`Error::MissingNow`](crate::Error::MissingNow) also for a date that
 /// has to be in the moment's zone without a moment, and [`Error::Range`](crate::Error::Range) if it has no instant there.
 pub fn parse_carefully(
     input: &str,

@@ -59,20 +59,26 @@ abbrev pub clear_or : Bool → Reading → ℕ → Reading
 clear_or true reading place = reading
 clear_or false reading place = Unclear place
 
--- An answer says all of its text: a date names its own day, and a raw text has many seconds. Pairs are careful nowhere here.
+-- a date that names a day of the week names its own
+abbrev pub names_no_other_day : List ℕ → Option FamilyAnswer → Bool
+names_no_other_day text (Some (Absolute t)) = names_its_day text t
+names_no_other_day text _ = true
+
+-- An answer says all of its text but for a day of the week: a raw text has many seconds. Careful pairs come before.
 abbrev pub is_clear_answer : OffsetRule → List ℕ → Option FamilyAnswer → Bool
-is_clear_answer rule text (Some (Absolute t)) = names_its_day text t && is_large_if_raw rule text t
+is_clear_answer rule text (Some (Absolute t)) = is_large_if_raw rule text t
 is_clear_answer rule text (Some (Relative (MinusPairs pairs))) = false
 is_clear_answer rule text (Some (Relative (MinusSeconds seconds))) = true
 is_clear_answer rule text (Some OffsetAboveDay) = true
 is_clear_answer rule text (Some NoInstant) = true
 is_clear_answer rule text None = false
 
--- What the first answer says of a text that is neither careful pairs nor a Git form. A text of no family is unclear only
--- if it begins as some form.
+-- What the first answer says of a text that is neither careful pairs nor a Git form. A wrong day of the week is unclear
+-- where it stands, at the front. A text of no family is unclear only if it begins as some form.
 abbrev pub date_reading : OffsetRule → List ℕ → ℕ → Option FamilyAnswer → Reading
 date_reading rule text place answer =
-    clear_or (is_clear_answer rule text answer || (is_none answer && place == 0)) (First answer) place
+    clear_or (names_no_other_day text answer)
+    (clear_or (is_clear_answer rule text answer || (is_none answer && place == 0)) (First answer) place) 0
 
 -- what a text says that is no careful pairs, and is perhaps a Git form of this time: no character of its clock is dropped
 abbrev pub git_or : CarefulOptions → List ℕ → ℕ → Option Time → Reading

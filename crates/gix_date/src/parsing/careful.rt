@@ -4,7 +4,7 @@ ghost use Rattle.jiff.specs.Words.{IsOffsetSeconds};
 ghost use Rattle.jiff_core.specs.Calendar.{weekday_number};
 ghost use Rattle.gix_date.specs.Careful.Dates.{day_named, first_day, is_large_if_raw, is_whole_git, names_its_day, unzoned_day, unzoned_git_time, unzoned_time};
 ghost use Rattle.gix_date.specs.Careful.Fronts.{longest_front};
-ghost use Rattle.gix_date.specs.Careful.Outcome.{careful_reading, clear_or, date_reading, is_clear_answer, local_date, reading_of_texts, unzoned_or, unzoned_reading, CarefulOutcome, First, IsPlaceIn, Local};
+ghost use Rattle.gix_date.specs.Careful.Outcome.{careful_reading, clear_or, date_reading, is_clear_answer, local_date, names_no_other_day, reading_of_texts, unzoned_or, unzoned_reading, CarefulOutcome, First, IsPlaceIn, Local};
 ghost use Rattle.gix_date.specs.Families.Answer.{Absolute};
 ghost use Rattle.gix_date.specs.Families.Raw.{allows};
 ghost use Rattle.gix_date.specs.Printing.LocalClocks.{local_day as day_by_clock};
@@ -213,6 +213,9 @@ fn read_date<'a>(
         (option_map answer_of answer.entry) }
     ensures fits { IsReadingOf input.now result }
 {
+    if !names_no_other_day(input, answer) {
+        return Reading::Unclear(0);
+    }
     if is_clear_answer(input, answer, raw) {
         return Reading::First(answer);
     }
@@ -223,14 +226,22 @@ fn read_date<'a>(
     Reading::Unclear(place)
 }
 
-/// Whether an answer says all of its text.
+/// Whether a date that names a day of the week names its own.
+fn names_no_other_day(input: &str, answer: Option<Answer<'_>>) -> bool
+    ensures { result ≡ names_no_other_day input.now (option_map answer_of answer.entry) }
+{
+    match answer {
+        Some(Answer::Absolute(time)) => names_its_day(input, time),
+        _ => true,
+    }
+}
+
+/// Whether an answer says all of its text but for a day of the week.
 fn is_clear_answer(input: &str, answer: Option<Answer<'_>>, raw: RawOffsets) -> bool
     ensures { result ≡ is_clear_answer (allows raw) input.now (option_map answer_of answer.entry) }
 {
     match answer {
-        Some(Answer::Absolute(time)) => {
-            names_its_day(input, time) && is_large_if_raw(input, time, raw)
-        }
+        Some(Answer::Absolute(time)) => is_large_if_raw(input, time, raw),
         Some(Answer::Relative(Relative::MinusPairs(_))) | None => false,
         _ => true,
     }
