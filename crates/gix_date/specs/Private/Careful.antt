@@ -1,18 +1,11 @@
--- The time of a date in a zone, as an `Option`; readings as code has them; places of words, and rests of texts.
+-- Readings as code has them; places of words, and rests of texts.
 use Rattle.std.specs.Prelude.{◌≡◌, ◌<◌, ℕ, true, List, ◌++◌, length, slice_index, IsCharBoundary, Option, Some, None, IfSome, option_map}
-use Rattle.jiff.specs.Types.{TimeZone}
-use Rattle.gix_date.specs.Careful.Dates.{IsLocalTime}
 use Rattle.gix_date.specs.Careful.Outcome.{Reading, Local, Unclear, First}
 use Rattle.gix_date.specs.Printing.Zoned.{is_instant}
 use Rattle.gix_date.specs.Private.Views.{answer_of, HasJiffOffset}
 use Rattle.gix_date.specs.declared.parsing.careful.Reading.{Reading as TextReading}
 use Rattle.gix_date.specs.declared.parsing.careful.Reading.TheVariants as reading
 use Rattle.gix_date.specs.declared.time.Time.{Time}
-
--- the time in the zone, or `None` where the zone has no instant for it
-abbrev pub IsLocalIfAny : TimeZone → Time → Option Time → Type 0
-IsLocalIfAny tz t None = (r : Time) → ¬ (IsLocalTime tz t r)
-IsLocalIfAny tz t (Some r) = IsLocalTime tz t r
 
 -- a character of ASCII stands at this place
 abbrev pub IsWordPlace : List ℕ → ℕ → Type 0
