@@ -1,7 +1,7 @@
 -- What careful reading says: what the first family answers, a date of the moment's zone, or a refusal.
 use Rattle.std.proofs.Common.{◌≡◌, ◌∙◌, ℕ, ℤ, Bool, true, false, List, refl, ap, sym, subst, Option, Some, None, Ok, Err, Result, inl, inr, ◌⊎◌}
 use Rattle.std.specs.Option.{option_map, option_or}
-use Rattle.std.specs.Prelude.{is_some, is_none, ◌||◌, ◌&&◌, ◌==◌}
+use Rattle.std.specs.Prelude.{is_some, is_none, ◌||◌, ◌&&◌, not}
 use Rattle.std.specs.Result.{result_map_both}
 use Rattle.std.specs.Str.{IsUtf8}
 use Rattle.jiff.specs.Words.{nanos_of_seconds}
@@ -10,7 +10,7 @@ use Rattle.jiff.specs.declared.zoned.Zoned.{Zoned}
 use Rattle.gix_date.specs.Careful.Dates.{is_whole_git, unzoned_day, unzoned_git_time, unzoned_time, IsLocalTime}
 use Rattle.gix_date.specs.Careful.Fronts.{longest_front}
 use Rattle.gix_date.specs.Careful.Laws.{IsParsedToo, IgnoresZone, HasNoLocalDate, HasOneCarefulOutcome, in_utc, in_zone}
-use Rattle.gix_date.specs.Careful.Outcome.{Reading, Local, First, Unclear, careful_reading, clear_or, date_reading, git_or, is_clear_answer, local_date, local_or, names_no_other_day, pairs_or, reading_of_texts, unzoned_or, unzoned_reading, CarefulOutcome}
+use Rattle.gix_date.specs.Careful.Outcome.{Reading, Local, First, Unclear, careful_reading, clear_or, date_reading, git_or, has_word_before, is_clear_answer, local_date, local_or, names_no_other_day, pairs_or, reading_of_texts, unzoned_or, unzoned_reading, CarefulOutcome}
 use Rattle.gix_date.specs.Careful.Texts.{unclear_place}
 use Rattle.gix_date.specs.Families.Answer.{FamilyAnswer, Absolute}
 use Rattle.gix_date.specs.Families.Order.{first_family_by, ParseNoAllocOutcome}
@@ -65,7 +65,7 @@ git-first options text t u e = (comes-first (allows options.raw) text u).git (ap
 day-says : (options : CarefulOptions) (text : List ℕ) (place : ℕ) → IsUtf8 text → (day : Option Time) → unzoned_day text ≡ day → Says options text (unzoned_or options.without_offset day (date_reading (allows options.raw) text place (first_family_by (allows options.raw) text)))
 day-says options text place u None e =
     let answer = first_family_by (allows options.raw) text in
-    let clear = is_clear_answer (allows options.raw) text answer || (is_none answer && place == 0) in
+    let clear = is_clear_answer (allows options.raw) text answer || (is_none answer && not (has_word_before text place)) in
     clear-says options text (names_no_other_day text answer) (clear_or clear (FirstOf options text) place) 0
     (clear-says options text clear (FirstOf options text) place (first refl))
 day-says options text place u (Some t) e = unzoned-says options text u t (unzoned-by-day text t e) options.without_offset refl

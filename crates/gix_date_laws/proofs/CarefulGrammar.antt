@@ -1,10 +1,10 @@
 -- The texts that are clear at each place, and those that careful reading reads as pairs, are the careful ones.
 use Rattle.std.proofs.Common.{◌≡◌, ◌∙◌, ◌↔◌, ℕ, ℤ, Bool, true, false, List, refl, ap, sym, subst, Option, Some, None}
-use Rattle.std.specs.Prelude.{◌||◌, ◌==◌}
+use Rattle.std.specs.Prelude.{◌||◌, not}
 use Rattle.gix_date.specs.Careful.Dates.{is_whole_git, names_its_day, unzoned_day, unzoned_git_time}
 use Rattle.gix_date.specs.Careful.Fronts.{longest_front}
 use Rattle.gix_date.specs.Careful.Grammar.{IsCarefulOf, IsCarefulText, words_of}
-use Rattle.gix_date.specs.Careful.Outcome.{First, careful_reading, clear_or, date_reading, git_or, is_clear_answer, pairs_or, reading_of_texts, unzoned_or}
+use Rattle.gix_date.specs.Careful.Outcome.{First, careful_reading, clear_or, date_reading, git_or, has_word_before, is_clear_answer, pairs_or, reading_of_texts, unzoned_or}
 use Rattle.gix_date.specs.Careful.Texts.{unclear_place}
 use Rattle.gix_date.specs.Families.Answer.{FamilyAnswer, Absolute, OffsetAboveDay, NoInstant, Relative}
 use Rattle.gix_date.specs.Families.Order.{first_family_by}
@@ -70,7 +70,7 @@ no-first-pairs rule text place (Some (Relative (MinusSeconds n))) pairs e = no-p
 no-first-pairs rule text place (Some (Absolute t)) pairs e = no-first-pairs-if (names_its_day text t) (is_clear_answer rule text (Some (Absolute t)) || false) (Some (Absolute t)) place pairs (λ k. cc) e
 no-first-pairs rule text place (Some OffsetAboveDay) pairs e = no-pairs-if true (Some OffsetAboveDay) place pairs (λ k. cc) e
 no-first-pairs rule text place (Some NoInstant) pairs e = no-pairs-if true (Some NoInstant) place pairs (λ k. cc) e
-no-first-pairs rule text place None pairs e = no-pairs-if (place == 0) None place pairs (λ k. cc) e
+no-first-pairs rule text place None pairs e = no-pairs-if (not (has_word_before text place)) None place pairs (λ k. cc) e
 
 no-day-pairs : (without : WithoutOffset) (rule : OffsetRule) (text : List ℕ) (place : ℕ) (unzoned : Option Time) (answer : Option FamilyAnswer) (pairs : List (ℤ × PeriodUnit))
     → unzoned_or without unzoned (date_reading rule text place answer) ≡ First (PairsAnswer pairs) → ⊥

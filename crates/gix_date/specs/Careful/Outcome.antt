@@ -1,5 +1,7 @@
 -- What a text says to a caller that must not guess, by its options, and what a call results in.
-use Rattle.std.specs.Prelude.{◌≡◌, ◌&&◌, ◌||◌, ◌==◌, ℕ, Bool, true, false, IsCharBoundary, List, Option, Some, None, is_none, Result, Ok, Err}
+use Rattle.std.specs.Prelude.{◌≡◌, ◌&&◌, ◌||◌, ℕ, Bool, true, false, IsCharBoundary, List, Option, Some, None, is_none, Result, Ok, Err, not, take}
+use Rattle.std.specs.Char.{is_ascii_alphanumeric}
+use Rattle.std.specs.List.{list_any}
 use Rattle.std.specs.Result.{result_map_both}
 use Rattle.jiff.specs.declared.zoned.Zoned.{Zoned}
 use Rattle.gix_date.specs.Careful.Dates.{is_large_if_raw, is_whole_git, names_its_day, unzoned_day, unzoned_git_time, unzoned_time, IsLocalTime}
@@ -73,12 +75,16 @@ is_clear_answer rule text (Some OffsetAboveDay) = true
 is_clear_answer rule text (Some NoInstant) = true
 is_clear_answer rule text None = false
 
+-- a letter or digit of ASCII stands before the place
+unfoldable pub has_word_before : List ℕ → ℕ → Bool
+has_word_before text place = list_any is_ascii_alphanumeric (take place text)
+
 -- What the first answer says of a text that is neither careful pairs nor a Git form. A wrong day of the week is unclear
 -- where it stands, at the front. A text of no family is unclear only if it begins as some form.
 abbrev pub date_reading : OffsetRule → List ℕ → ℕ → Option FamilyAnswer → Reading
 date_reading rule text place answer =
     clear_or (names_no_other_day text answer)
-    (clear_or (is_clear_answer rule text answer || (is_none answer && place == 0)) (First answer) place) 0
+    (clear_or (is_clear_answer rule text answer || (is_none answer && not (has_word_before text place))) (First answer) place) 0
 
 -- what a text says that is no careful pairs, and is perhaps a Git form of this time: no character of its clock is dropped
 abbrev pub git_or : CarefulOptions → List ℕ → ℕ → Option Time → Reading

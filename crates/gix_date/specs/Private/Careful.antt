@@ -1,11 +1,10 @@
 -- Readings as code has them; places of words, and rests of texts.
-use Rattle.std.specs.Prelude.{◌≡◌, ◌<◌, ℕ, true, List, ◌++◌, length, slice_index, IsCharBoundary, Option, Some, None, IfSome, option_map}
+use Rattle.std.specs.Prelude.{◌≡◌, ◌<◌, ℕ, true, List, ◌++◌, length, slice_index, IsCharBoundary, IfSome, option_map}
 use Rattle.gix_date.specs.Careful.Outcome.{Reading, Local, Unclear, First}
 use Rattle.gix_date.specs.Printing.Zoned.{is_instant}
 use Rattle.gix_date.specs.Private.Views.{answer_of, HasJiffOffset}
 use Rattle.gix_date.specs.declared.parsing.careful.Reading.{Reading as TextReading}
 use Rattle.gix_date.specs.declared.parsing.careful.Reading.TheVariants as reading
-use Rattle.gix_date.specs.declared.time.Time.{Time}
 
 -- a character of ASCII stands at this place
 abbrev pub IsWordPlace : List ℕ → ℕ → Type 0

@@ -4,7 +4,7 @@ ghost use Rattle.jiff.specs.Words.{IsOffsetSeconds};
 ghost use Rattle.jiff_core.specs.Calendar.{weekday_number};
 ghost use Rattle.gix_date.specs.Careful.Dates.{day_named, first_day, is_large_if_raw, is_whole_git, names_its_day, unzoned_day, unzoned_git_time, unzoned_time, IsLocalIfAny};
 ghost use Rattle.gix_date.specs.Careful.Fronts.{longest_front};
-ghost use Rattle.gix_date.specs.Careful.Outcome.{careful_reading, clear_or, date_reading, is_clear_answer, local_date, names_no_other_day, reading_of_texts, unzoned_or, unzoned_reading, CarefulOutcome, First, IsPlaceIn, Local};
+ghost use Rattle.gix_date.specs.Careful.Outcome.{careful_reading, clear_or, date_reading, has_word_before, is_clear_answer, local_date, names_no_other_day, reading_of_texts, unzoned_or, unzoned_reading, CarefulOutcome, First, IsPlaceIn, Local};
 ghost use Rattle.gix_date.specs.Families.Answer.{Absolute};
 ghost use Rattle.gix_date.specs.Families.Raw.{allows};
 ghost use Rattle.gix_date.specs.Printing.LocalClocks.{local_day as day_by_clock};
@@ -159,7 +159,12 @@ fn read_clear(input: &str, options: CarefulOptions) -> Reading<'_>
     if let Some(time) = parse_unzoned_day(input) {
         return read_unzoned(time, options.without_offset);
     }
-    read_date(input, first_answer(input, options.raw), options.raw, pairs_end)
+    read_date(
+        input,
+        first_answer(input, options.raw),
+        options.raw,
+        pairs_end,
+    )
 }
 
 /// What a text in one of Git's own forms says.
@@ -199,7 +204,6 @@ fn read_unzoned<'a>(time: Time, without_offset: WithoutOffset) -> Reading<'a>
     }
 }
 
-
 /// What the first answer says of a text that is neither pairs nor in one of Git's own forms.
 fn read_date<'a>(
     input: &'a str,
@@ -220,10 +224,19 @@ fn read_date<'a>(
         return Reading::First(answer);
     }
     let place = longest_front(input, pairs_end);
-    if answer.is_none() && place == 0 {
+    if answer.is_none() && !has_word_before(input, place) {
         return Reading::First(None);
     }
     Reading::Unclear(place)
+}
+
+/// Whether a letter or digit of ASCII stands before this place.
+#[tactic(auto, unfolding(crate::specs::Careful::Outcome::has_word_before))]
+fn has_word_before(input: &str, place: usize) -> bool
+    requires { IsCharBoundary input.now place }
+    ensures { result ≡ has_word_before input.now place }
+{
+    input[..place].bytes().any(|b| b.is_ascii_alphanumeric())
 }
 
 /// Whether a date that names a day of the week names its own.

@@ -1,6 +1,5 @@
-use Rattle.std.proofs.Common.{◌≡◌, ◌∙◌, ap, subst, Bool, cond, Option, Some, None}
+use Rattle.std.proofs.Common.{◌≡◌, ◌∙◌, ap, subst, Bool, cond, Some, None}
 use Rattle.gix_date.specs.Careful.Dates.{unzoned_git_time}
-use Rattle.gix_date.specs.declared.time.Time.{Time}
 use Rattle.gix_date.proofs.Careful.Unzoned.{HasInstant, git_has}
 use Rattle.gix_date.proofs.parsing.careful.read_git.Goals as goal
 
