@@ -1,0 +1,9 @@
+pub mod TokenRuns
+pub mod ZoneRows
+pub mod Months
+pub mod TokenLaws
+pub mod Saturated
+pub mod UtcClocks
+pub mod Zones
+pub mod Whites
+pub mod Folds

@@ -1,0 +1,42 @@
+-- How far a zone's clock is from UTC.
+use Rattle.std.proofs.Common.{◌≡◌, ◌∙◌, ℕ, ℤ, Bool, true, cond, Option, Result, Ok, Err, sym, pos, neg_ℤ, ◌-ℤ◌, ◌*ℤ◌, arith, ap, int_div}
+use Rattle.jiff.specs.Types.{TimeZone, DateTime}
+use Rattle.jiff.specs.Words.{nanos_of_seconds, ambiguous_at, compatible_offset, civil_nanos}
+use Rattle.jiff_core.proofs.SignedLemmas.{signed_arith, one_part}
+use Rattle.jiff_core.specs.Calendar.{IsBetween}
+use Rattle.gix_date.specs.Careful.Dates.{IsLocalTime}
+use Rattle.gix_date.specs.Families.Epoch.{utc_time}
+use Rattle.gix_date.specs.declared.time.Time.{Time}
+use Rattle.git_date.specs.Outcome.{IsMinutes, minutes_to, instant_seconds, date_at}
+use Rattle.git_date.specs.declared.reader.Said.{Said}
+use Rattle.git_date.specs.declared.date.ReadDate.{ReadDate}
+use Rattle.git_date.specs.declared.error.DateError.{DateError}
+use Rattle.git_date.specs.declared.error.DateError.TheVariants.{Range}
+use Rattle.std.specs.Int.Signed.{le_z}
+
+-- an instant at an offset of a zone is less than two days from the clock
+near : (s o n : ℤ) → n ≡ nanos_of_seconds s -ℤ nanos_of_seconds o → IsBetween (neg_ℤ (pos 93_599)) (pos 93_599) o
+    → IsBetween (neg_ℤ (pos 100_000)) (pos 100_000) (s -ℤ int_div n (pos 1_000_000_000))
+near s o n e h = (omega (arith, signed_arith, one_part n, e), omega (arith, signed_arith, one_part n, e))
+
+pub local-near : (tz : TimeZone) (s : ℤ) (r : Time) → IsLocalTime tz (utc_time s) r → IsBetween (neg_ℤ (pos 100_000)) (pos 100_000) (s -ℤ r.seconds)
+local-near tz s r local =
+    let picked = local.picked in
+    let offset = compatible_offset (ambiguous_at tz picked.shown) in
+    let at : local.instant ≡ nanos_of_seconds s -ℤ nanos_of_seconds offset.seconds =
+    picked.is_choice ∙ ap (λ (n : ℤ). n -ℤ nanos_of_seconds offset.seconds) picked.civil_is in
+    rw local.is (near s offset.seconds local.instant at offset.in_range)
+
+pub minutes-in : (s : ℤ) (r : Time) → IsBetween (neg_ℤ (pos 100_000)) (pos 100_000) (s -ℤ r.seconds) → IsMinutes (minutes_to r s)
+minutes-in s r h = (omega (arith, signed_arith, one_part (s -ℤ r.seconds)), omega (arith, signed_arith, one_part (s -ℤ r.seconds)))
+
+abbrev date_of : Time → Option ℕ → Result ReadDate DateError
+date_of t ignored = Ok (record { time = t; ignored = ignored })
+
+-- a date that is not before 1970
+pub a-date : (said : Said) (m : ℤ) (t : Time) → le_z (pos 0) (instant_seconds said m) ≡ true
+    → t ≡ record { seconds = instant_seconds said m; offset = pos 60 *ℤ m } → Ok (record { time = t; ignored = said.ignored }) ≡ date_at said m
+unfolding date_at
+a-date said m t h e =
+    ap (λ (t : Time). date_of t said.ignored) e
+    ∙ ap (λ (b : Bool). cond b (date_of (record { seconds = instant_seconds said m; offset = pos 60 *ℤ m }) said.ignored) (Err Range)) (sym h)

@@ -1,0 +1,12 @@
+pub mod Tokens
+pub mod Numbers
+pub mod Names
+pub mod Fields
+pub mod Words
+pub mod Dates
+pub mod Groups
+pub mod Digits
+pub mod Offsets
+pub mod Reading
+pub mod Outcome
+pub mod Views

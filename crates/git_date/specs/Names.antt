@@ -1,0 +1,63 @@
+-- The names of months, days of the week and zones, by their beginnings.
+use Rattle.std.specs.Prelude.{ℕ, ◌+◌, ◌*◌, Bool, ◌&&◌, ◌||◌, List, [], ◌∷◌, length, take, ℤ, pos, neg_ℤ, ◌==◌, nat_le, codes, Option, option_map, is_some}
+use Rattle.std.specs.List.{position, find}
+use Rattle.gix_date.specs.Text.Names.{is_name}
+
+-- a word is the front of a name, in any letter case
+abbrev pub begins : List ℕ → List ℕ → Bool
+begins word name = nat_le (length word) (length name) && is_name word (take (length word) name)
+
+-- the least count of letters that tells a name
+abbrev pub least : ℕ
+least = 3
+
+abbrev pub is_short : List ℕ → List ℕ → Bool
+is_short word name = nat_le least (length word) && begins word name
+
+abbrev pub month_names : List (List ℕ)
+month_names =
+    codes "January" ∷ codes "February" ∷ codes "March" ∷ codes "April" ∷ codes "May" ∷ codes "June" ∷ codes "July"
+    ∷ codes "August" ∷ codes "September" ∷ codes "October" ∷ codes "November" ∷ codes "December" ∷ []
+
+abbrev pub weekday_names : List (List ℕ)
+weekday_names =
+    codes "Sundays" ∷ codes "Mondays" ∷ codes "Tuesdays" ∷ codes "Wednesdays" ∷ codes "Thursdays" ∷ codes "Fridays"
+    ∷ codes "Saturdays" ∷ []
+
+-- the month that a word names, from 1
+unfoldable pub month_named : List ℕ → Option ℕ
+month_named word = option_map (λ place. place + 1) (position (is_short word) month_names)
+
+-- a word names a day of the week
+unfoldable pub is_weekday : List ℕ → Bool
+is_weekday word = is_some (position (is_short word) weekday_names)
+
+-- a zone's name: the whole, or at least three letters of it
+abbrev pub is_zone_name : List ℕ → List ℕ → Bool
+is_zone_name word name = is_name word name || is_short word name
+
+-- hours ahead of UTC
+abbrev pub ahead : ℕ → ℤ
+ahead hours = pos (60 * hours)
+
+abbrev pub behind : ℕ → ℤ
+behind hours = neg_ℤ (pos (60 * hours))
+
+-- the offsets of zones in minutes, the first that fits
+abbrev pub zone_rows : List (List ℕ × ℤ)
+zone_rows =
+    (codes "IDLW", behind 12) ∷ (codes "NT", behind 11) ∷ (codes "CAT", behind 10) ∷ (codes "HST", behind 10)
+    ∷ (codes "HDT", behind 9) ∷ (codes "YST", behind 9) ∷ (codes "YDT", behind 8) ∷ (codes "PST", behind 8)
+    ∷ (codes "PDT", behind 7) ∷ (codes "MST", behind 7) ∷ (codes "MDT", behind 6) ∷ (codes "CST", behind 6)
+    ∷ (codes "CDT", behind 5) ∷ (codes "EST", behind 5) ∷ (codes "EDT", behind 4) ∷ (codes "AST", behind 3)
+    ∷ (codes "ADT", behind 2) ∷ (codes "WAT", behind 1) ∷ (codes "GMT", pos 0) ∷ (codes "UTC", pos 0)
+    ∷ (codes "Z", pos 0) ∷ (codes "WET", pos 0) ∷ (codes "BST", ahead 1) ∷ (codes "CET", ahead 1)
+    ∷ (codes "MET", ahead 1) ∷ (codes "MEWT", ahead 1) ∷ (codes "MEST", ahead 2) ∷ (codes "CEST", ahead 2)
+    ∷ (codes "MESZ", ahead 2) ∷ (codes "FWT", ahead 1) ∷ (codes "FST", ahead 2) ∷ (codes "EET", ahead 2)
+    ∷ (codes "EEST", ahead 3) ∷ (codes "WAST", ahead 7) ∷ (codes "WADT", ahead 8) ∷ (codes "CCT", ahead 8)
+    ∷ (codes "JST", ahead 9) ∷ (codes "EAST", ahead 10) ∷ (codes "EADT", ahead 11) ∷ (codes "GST", ahead 10)
+    ∷ (codes "NZT", ahead 12) ∷ (codes "NZST", ahead 12) ∷ (codes "NZDT", ahead 13) ∷ (codes "IDLE", ahead 12) ∷ []
+
+-- the offset of the first zone that a word tells
+unfoldable pub zone_named : List ℕ → Option ℤ
+zone_named word = option_map (λ row. row.1) (find (λ row. is_zone_name word row.0) zone_rows)

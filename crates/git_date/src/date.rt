@@ -1,0 +1,84 @@
+//! The public call.
+ghost use Rattle.std.specs.Prelude.{◌≡◌, true};
+ghost use Rattle.gix_date.specs.Printing.Zoned.{is_instant};
+ghost use Rattle.gix_date.specs.Relative.Steps.{zone_of};
+ghost use Rattle.git_date.specs.Dates.{now_of};
+ghost use Rattle.git_date.specs.Outcome.{instant_seconds, date_at, DateOutcome, InZone, SaidIsInstant, IsMinutes};
+ghost use Rattle.git_date.specs.Reading.{said_by};
+
+use crate::dates::Now;
+use crate::error::DateError;
+use crate::reader::{Said, said_by};
+use gix_date::{Time, Zoned, time_in_zone};
+
+/// What [`parse_date`] reads.
+#[derive(Clone, Copy, Debug, PartialEq, Eq)]
+pub struct ReadDate {
+    /// The time: seconds since 1970-01-01 00:00:00 UTC, and the offset in seconds east of UTC, of whole minutes.
+    pub time: Time,
+    /// The place, in bytes, of the first word or number that no rule used, so that a program can say so.
+    ///
+    /// Not counted are marks, `ago`, `at`, `on`, `of`, `the`, `and`, the ending of a number as in `7th`, and one `T` between
+    /// digits. A day of the week is used, though it is not compared.
+    pub ignored: Option<usize>,
+}
+
+/// Reads a date as Git's exact reader does. A text without an offset has that of the moment's zone.
+///
+/// In a fold the zone chooses the earlier instant, and in a gap the offset before it, as `jiff` does. The moment itself
+/// matters only to a date such as `7/4/2009` after a clock, which is refused if it is more than ten days ahead.
+///
+/// [`DateError`] says when a text is refused. Takes no memory.
+pub fn parse_date(text: &str, now: Zoned<'_>) -> Result<ReadDate, DateError>
+    ensures { DateOutcome (zone_of now.entry) (said_by (now_of now.entry) text.now) result }
+{
+    match said_by(Now::of(now), text.as_bytes()) {
+        Ok(said) => match said.offset {
+            Some(minutes) => date_at(said, i64::from(minutes)),
+            None => date_in_zone(said, now),
+        },
+        Err(error) => Err(error),
+    }
+}
+
+/// The seconds since 1970, at an offset in minutes.
+fn instant_seconds(said: Said, minutes: i64) -> i64
+    requires said { SaidIsInstant said }
+    requires minutes { IsMinutes minutes }
+    ensures { result ≡ instant_seconds said minutes }
+{
+    if said.epoch {
+        said.seconds
+    } else {
+        said.seconds - 60 * minutes
+    }
+}
+
+/// The date at an offset in minutes, if that is not before 1970.
+#[tactic(auto, unfolding(crate::specs::Outcome::date_at))]
+fn date_at(said: Said, minutes: i64) -> Result<ReadDate, DateError>
+    requires said { SaidIsInstant said }
+    requires minutes { IsMinutes minutes }
+    ensures { result ≡ date_at said minutes }
+{
+    let seconds = instant_seconds(said, minutes);
+    if 0 <= seconds {
+        Ok(ReadDate {
+            time: Time::new(seconds, (60 * minutes) as i32),
+            ignored: said.ignored,
+        })
+    } else {
+        Err(DateError::Range)
+    }
+}
+
+/// The date at the offset that the moment's zone has when its clock shows these seconds.
+fn date_in_zone(said: Said, now: Zoned<'_>) -> Result<ReadDate, DateError>
+    requires { SaidIsInstant said }
+    ensures { InZone (zone_of now.entry) said result }
+{
+    match time_in_zone(Time::new(said.seconds, 0), now) {
+        Some(local) => date_at(said, (said.seconds - local.seconds) / 60),
+        None => Err(DateError::Range),
+    }
+}

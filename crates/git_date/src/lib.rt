@@ -1,0 +1,33 @@
+//! Dates as Git itself reads them.
+//!
+//! [`parse_date`] reads what Git's own exact reader reads: the dates of `GIT_COMMITTER_DATE` and of mails, and nearly all
+//! that `git commit --date` is given. Every answer is Git's, or a refusal by name ([`DateError`]).
+//!
+//! ```
+//! let now = Time::new(1251660000, 0).to_zoned()?;
+//! parse_date("Thu, 07 Apr 2005 22:13:13 +0200", now); // Ok, with the time 1112904793 +0200
+//! parse_date("2008-02-14 20:30:45 EST", now);         // Ok, with the time 1203039045 -0500
+//! parse_date("2008-02-14 20:30:45 IST", now);         // Ok, with 1203021045 +0000 and Some(20): `IST` was ignored
+//! parse_date("2008-02-14", now);                      // Err(DateError::Unreadable): no clock
+//! ```
+//!
+//! The moment and its zone are handed in, as for [`gix_date::parse`]. No call here takes memory.
+#![tactic(auto)]
+
+mod clocks;
+mod date;
+mod dates;
+mod digits;
+mod error;
+mod fault;
+mod fields;
+mod groups;
+mod names;
+mod numbers;
+mod offsets;
+mod reader;
+mod tokens;
+mod words;
+
+pub use date::{ReadDate, parse_date};
+pub use error::DateError;

@@ -1,0 +1,203 @@
+//! The reader: one token after the other, and what the whole text says.
+ghost use Rattle.std.specs.Prelude.{◌≡◌, ◌≤◌, length, IfOk, Option, List, ℕ};
+ghost use Rattle.gix_date.specs.Printing.Zoned.{is_instant};
+ghost use Rattle.git_date.specs.Tokens.{tokens, token_of};
+ghost use Rattle.git_date.specs.Reading.{sign_rule, mark_rule, rule, reading_of, read_on, place_in, error_of, at_said, fields_said, said_by, ended};
+ghost use Rattle.git_date.specs.Outcome.{SaidIsInstant};
+ghost use Rattle.git_date.specs.Views.{step_view};
+
+use crate::dates::{Now, exact_seconds};
+use crate::digits::{Stepped, digits_rule};
+use crate::error::DateError;
+use crate::fault::Fault;
+use crate::fields::Fields;
+use crate::offsets::{at_text, offset_rule};
+use crate::tokens::{Token, is_end, next_token};
+use crate::words::{letters_rule, without_ending};
+
+/// The first and the last second of `jiff`'s instants.
+const FIRST_SECOND: i64 = -377_705_023_201;
+
+const LAST_SECOND: i64 = 253_402_207_200;
+
+/// Whether the seconds are those of an instant.
+fn is_instant(seconds: i64) -> bool
+    ensures { result ≡ is_instant seconds }
+{
+    FIRST_SECOND <= seconds && seconds <= LAST_SECOND
+}
+
+/// What was read so far.
+#[derive(Clone, Copy)]
+pub(crate) struct Reading {
+    fields: Fields,
+    /// How many bytes are left from the first token on that no rule used.
+    ignored: Option<usize>,
+}
+
+/// What a text says, before a zone is asked.
+#[derive(Clone, Copy)]
+pub(crate) struct Said {
+    /// The seconds that a clock has counted since 1970-01-01 00:00:00, or those of the instant.
+    pub(crate) seconds: i64,
+    /// The minutes of the offset.
+    pub(crate) offset: Option<i16>,
+    /// Whether the seconds are those of the instant.
+    pub(crate) epoch: bool,
+    /// The place of the first word or number that no rule used.
+    pub(crate) ignored: Option<usize>,
+}
+
+impl Reading {
+    const NOTHING: Reading = Reading {
+        fields: Fields::UNKNOWN,
+        ignored: None,
+    };
+
+    /// What is read after a step, before which so many bytes were left.
+    fn read_on(self, left: usize, next: Option<Fields>) -> Reading
+        ensures { result ≡ read_on self left next }
+    {
+        match next {
+            Some(fields) => Reading { fields, ..self },
+            None => Reading {
+                ignored: self.ignored.or(Some(left)),
+                ..self
+            },
+        }
+    }
+}
+
+/// The same step, with the ending of a number left out of the rest.
+fn ended<'a>(step: Stepped<'a>) -> Stepped<'a>
+    ensures value { step_view result ≡ ended (step_view step.entry) }
+    ensures shorter { (n : ℕ) → IfOk step.entry (λ found. length found.1.now ≤ n) → IfOk result (λ found. length found.1.now ≤ n) }
+{
+    match step {
+        Ok((fields, rest)) => Ok((fields, without_ending(rest))),
+        Err(fault) => Err(fault),
+    }
+}
+
+/// What a sign says, directly before digits or not.
+#[tactic(auto, unfolding(crate::specs::Reading::sign_rule))]
+fn sign_rule<'a>(fields: Fields, behind: bool, text: &'a [u8]) -> Stepped<'a>
+    ensures value { step_view result ≡ sign_rule fields behind (tokens text.now) }
+    ensures shorter { IfOk result (λ found. length found.1.now ≤ length text.now) }
+{
+    match next_token(text) {
+        Some((Token::Digits(run), rest)) => ended(offset_rule(fields, behind, run, rest)),
+        _ => Ok((Some(fields), text)),
+    }
+}
+
+/// What a token says, with what its rule takes of the text after it.
+fn rule<'a>(now: Now, fields: Fields, token: Token<'_>, text: &'a [u8]) -> Stepped<'a>
+    ensures value { step_view result ≡ rule now fields (token_of token.entry) (tokens text.now) }
+    ensures shorter { IfOk result (λ found. length found.1.now ≤ length text.now) }
+{
+    match token {
+        Token::Letters(run) => Ok((letters_rule(fields, run, text), text)),
+        Token::Digits(run) => ended(digits_rule(now, fields, run, text)),
+        Token::Mark(b'+') => sign_rule(fields, false, text),
+        Token::Mark(b'-') => sign_rule(fields, true, text),
+        Token::Mark(_) => Ok((Some(fields), text)),
+    }
+}
+
+/// What the tokens of a text say, one after the other.
+fn reading_of(now: Now, text: &[u8]) -> Result<Reading, Fault>
+    ensures { result ≡ reading_of now text.now }
+{
+    let mut reading = Reading::NOTHING;
+    let mut rest = text;
+    'tokens: while let Some((token, after)) = next_token(rest) {
+        if is_end(token) {
+            return Ok(reading);
+        }
+        let (next, later) = match rule(now, reading.fields, token, after) {
+            Ok(step) => step,
+            Err(fault) => return Err(fault),
+        };
+        reading = reading.read_on(rest.len(), next);
+        rest = later;
+    }
+    Ok(reading)
+}
+
+/// The place in a text from which on so many bytes are left.
+fn place_in(text: &[u8], left: usize) -> usize
+    ensures { result ≡ place_in text.now left }
+{
+    text.len().saturating_sub(left)
+}
+
+fn error_of(text: &[u8], fault: Fault) -> DateError
+    ensures { result ≡ error_of text.now fault }
+{
+    match fault {
+        Fault::NumberTooLarge(left) => DateError::NumberTooLarge(place_in(text, left)),
+        Fault::YearRefused(left) => DateError::YearRefused(place_in(text, left)),
+        Fault::Range => DateError::Range,
+    }
+}
+
+/// What `@` and its seconds say.
+#[tactic(auto, unfolding(crate::specs::Reading::at_said))]
+fn at_said(seconds: u64, minutes: i16) -> Result<Said, DateError>
+    ensures value { result ≡ at_said (seconds, minutes) }
+    ensures instant { IfOk result SaidIsInstant }
+{
+    let Ok(seconds) = i64::try_from(seconds) else {
+        return Err(DateError::Range);
+    };
+    if !is_instant(seconds) {
+        return Err(DateError::Range);
+    }
+    Ok(Said {
+        seconds,
+        offset: Some(minutes),
+        epoch: true,
+        ignored: None,
+    })
+}
+
+/// What the fields say that were read.
+#[tactic(auto, unfolding(crate::specs::Reading::fields_said))]
+fn fields_said(text: &[u8], read: Result<Reading, Fault>) -> Result<Said, DateError>
+    ensures value { result ≡ fields_said text.now read }
+    ensures instant { IfOk result SaidIsInstant }
+{
+    let reading = match read {
+        Ok(reading) => reading,
+        Err(fault) => return Err(error_of(text, fault)),
+    };
+    let Some(seconds) = exact_seconds(reading.fields) else {
+        return Err(DateError::Unreadable);
+    };
+    if !is_instant(seconds) {
+        return Err(DateError::Range);
+    }
+    let ignored = match reading.ignored {
+        Some(left) => Some(place_in(text, left)),
+        None => None,
+    };
+    Ok(Said {
+        seconds,
+        offset: reading.fields.offset,
+        epoch: reading.fields.epoch,
+        ignored,
+    })
+}
+
+/// What a text says.
+#[tactic(auto, unfolding(crate::specs::Reading::said_by))]
+pub(crate) fn said_by(now: Now, text: &[u8]) -> Result<Said, DateError>
+    ensures value { result ≡ said_by now text.now }
+    ensures instant { IfOk result SaidIsInstant }
+{
+    match at_text(text) {
+        Some((seconds, minutes)) => at_said(seconds, minutes),
+        None => fields_said(text, reading_of(now, text)),
+    }
+}
