@@ -1,4 +1,5 @@
 //! What a call answers.
+use git_date::DateError;
 use gix_date::{CarefulError, Error, ParseError, Time};
 use gix_signature::SignatureError;
 use std::alloc::AllocError;
@@ -15,6 +16,10 @@ pub(crate) enum Answer {
     Refused(&'static str),
     /// The refusal of a relative text that is not careful, with the place from which on it is not clear.
     Unclear(usize),
+    /// A refusal, by its name, with its place.
+    RefusedAt(&'static str, usize),
+    /// The place of what was ignored, or `none`.
+    Ignored(Option<usize>),
 }
 
 impl Answer {
@@ -23,7 +28,10 @@ impl Answer {
 
     /// Whether it is a refusal.
     pub(crate) fn is_refusal(&self) -> bool {
-        matches!(self, Answer::Refused(_) | Answer::Unclear(_))
+        matches!(
+            self,
+            Answer::Refused(_) | Answer::Unclear(_) | Answer::RefusedAt(_, _)
+        )
     }
 
     /// A time, or a refusal of this name where there is none.
@@ -45,6 +53,9 @@ impl fmt::Display for Answer {
             Answer::Text(text) => f.write_str(text.as_str()),
             Answer::Refused(name) => f.write_str(name),
             Answer::Unclear(place) => write!(f, "Unclear {place}"),
+            Answer::RefusedAt(name, place) => write!(f, "{name} {place}"),
+            Answer::Ignored(Some(place)) => write!(f, "{place}"),
+            Answer::Ignored(None) => f.write_str("none"),
         }
     }
 }
@@ -91,6 +102,18 @@ impl From<Result<Time, CarefulError>> for Answer {
             Ok(time) => Answer::Time(time),
             Err(CarefulError::Unclear(place)) => Answer::Unclear(place),
             Err(CarefulError::Refused(refusal)) => refusal.into(),
+        }
+    }
+}
+
+impl From<DateError> for Answer {
+    fn from(refusal: DateError) -> Answer {
+        match refusal {
+            DateError::Unreadable => Answer::Refused("Unreadable"),
+            DateError::NumberTooLarge(place) => Answer::RefusedAt("NumberTooLarge", place),
+            DateError::BackTooFar(place) => Answer::RefusedAt("BackTooFar", place),
+            DateError::YearRefused(place) => Answer::RefusedAt("YearRefused", place),
+            DateError::Range => Answer::Refused("Range"),
         }
     }
 }

@@ -1,7 +1,7 @@
 //! The calls of rows, each named as in the library.
 use crate::answer::{Answer, name_of};
 use crate::arguments::Arguments;
-use crate::moments::{parsed, parsed_carefully, zone_of};
+use crate::moments::{ignored_place, parsed, parsed_carefully, read_date, zone_of};
 use gix_date::device::Device;
 use gix_date::parsing::TimeBuf;
 use gix_date::time::Format;
@@ -35,6 +35,14 @@ pub(crate) fn answer_to(
             };
             let moment = row.text()?;
             parsed_carefully(zones, rules, options, moment, row.text()?)
+        }
+        "parse_date" => {
+            let moment = row.text()?;
+            read_date(zones, moment, row.text()?)
+        }
+        "ignored" => {
+            let moment = row.text()?;
+            ignored_place(zones, moment, row.text()?)
         }
         "to_zoned" => Some(converted(row.time()?)),
         "now_local" => {

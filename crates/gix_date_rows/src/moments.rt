@@ -1,5 +1,6 @@
 //! Dates parsed at no moment, at one, or at any.
 use crate::answer::Answer;
+use git_date::{ReadDate, parse_date};
 use gix_date::{
     CarefulOptions, Error, ParseError, RawOffsets, Time, Zoned, parse, parse_carefully,
     parse_no_alloc, parse_with,
@@ -47,6 +48,29 @@ pub(crate) fn parsed_carefully(
     match moment_of(zones, moment)? {
         Ok(now) => Some(carefully(rules, options, text, now)),
         Err(refusal) => Some(Answer::Refused(refusal)),
+    }
+}
+
+/// The time of a date as Git reads it, at the moment that a field says. `None` where it says none.
+pub(crate) fn read_date(zones: &TimeZoneDatabase, moment: &str, text: &str) -> Option<Answer> {
+    Some(match dated(zones, moment, text)? {
+        Ok(date) => Answer::Time(date.time),
+        Err(refusal) => refusal,
+    })
+}
+
+/// The place of what such a date ignores.
+pub(crate) fn ignored_place(zones: &TimeZoneDatabase, moment: &str, text: &str) -> Option<Answer> {
+    Some(match dated(zones, moment, text)? {
+        Ok(date) => Answer::Ignored(date.ignored),
+        Err(refusal) => refusal,
+    })
+}
+
+fn dated(zones: &TimeZoneDatabase, moment: &str, text: &str) -> Option<Result<ReadDate, Answer>> {
+    match moment_of(zones, moment)? {
+        Ok(now) => Some(parse_date(text, now?).map_err(Answer::from)),
+        Err(refusal) => Some(Err(Answer::Refused(refusal))),
     }
 }
 
