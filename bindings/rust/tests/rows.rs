@@ -397,7 +397,8 @@ fn rows_agree() {
     let mut names: Vec<_> = fs::read_dir(folder())
         .unwrap()
         .map(|entry| entry.unwrap().file_name().into_string().unwrap())
-        .filter(|name| name.ends_with(".rows") && name != "wrong.rows")
+        // `git_date`, of which some rows are, is called from Rattle alone.
+        .filter(|name| name.ends_with(".rows") && name != "wrong.rows" && !name.starts_with("git_date"))
         .collect();
     names.sort();
     assert!(names.len() >= 8, "{names:?}");
