@@ -7,3 +7,4 @@ pub mod UtcClocks
 pub mod Zones
 pub mod Whites
 pub mod Folds
+mod ReadRows

@@ -10,3 +10,4 @@ pub mod Offsets
 pub mod Reading
 pub mod Outcome
 pub mod Views
+pub mod Computing

@@ -1,0 +1,84 @@
+-- The definition of what is read, on worked texts: each row computes. The moment is 2009-08-30 19:20:00 in UTC.
+use Rattle.std.proofs.Common.{◌≡◌, refl, List, [], ◌∷◌, ℕ, ℤ, pos, neg_ℤ, map, Option, Some, None, Result, Ok, Err}
+use Prim.Native.String.{String}
+use Rattle.std.specs.Prelude.{codes, unwrap_or}
+use Rattle.gix_date.specs.declared.time.Time.{Time}
+use Rattle.git_date.specs.Computing.{computing}
+use Rattle.git_date.specs.Outcome.{date_at}
+use Rattle.git_date.specs.Reading.{said_by}
+use Rattle.git_date.specs.declared.date.ReadDate.{ReadDate}
+use Rattle.git_date.specs.declared.dates.Now.{Now}
+use Rattle.git_date.specs.declared.error.DateError.{DateError}
+use Rattle.git_date.specs.declared.error.DateError.TheVariants.{Unreadable, NumberTooLarge, YearRefused, Range}
+use Rattle.git_date.specs.declared.reader.Said.{Said}
+
+abbrev row_now : Now
+row_now = record { seconds = pos 1_251_660_000; year = 2009 }
+
+abbrev time_of : Result ReadDate DateError → Result Time DateError
+time_of (Ok date) = Ok date.time
+time_of (Err e) = Err e
+
+-- the time of a date in UTC, where it says no offset
+abbrev in_utc : Result Said DateError → Result Time DateError
+in_utc (Ok said) = time_of (date_at said (unwrap_or said.offset (pos 0)))
+in_utc (Err e) = Err e
+
+abbrev at : ℕ → ℤ → Time
+at seconds offset = record { seconds = pos seconds; offset = offset }
+
+-- each row is a text and its time, or its refusal
+abbrev Reads : List (String × Result Time DateError) → Type 0
+Reads rows = map (λ row. in_utc (said_by row_now (codes row.0))) rows ≡ map (λ row. row.1) rows
+
+groups :
+    Reads
+    (("2008.02.14 20:30:45 -0500", Ok (at 1203039045 (neg_ℤ (pos 18000))))
+    ∷ ("2020-25-12 10:00 Z", Ok (at 1608890400 (pos 0)))
+    ∷ ("05/06/2009 10:00 +0000", Ok (at 1241604000 (pos 0)))
+    ∷ ("05.06.2009 10:00 +0000", Ok (at 1244196000 (pos 0)))
+    ∷ ("12/25/08 10:00 +0000", Ok (at 1230199200 (pos 0)))
+    ∷ ("25/12/08 10:00 +0000", Ok (at 1230199200 (pos 0)))
+    ∷ ("12/31/2040 10:00 +0000", Ok (at 2240560800 (pos 0)))
+    ∷ ("10:00 12/31/2040 +0000", Err Unreadable)
+    ∷ ("1900-02-03 10:00 2009 +0000", Err (YearRefused 0))
+    ∷ ("10:00 4294967301-01-02 +0000", Err (NumberTooLarge 6))
+    ∷ ("Thu, 07 Apr 2005 22:13:13 +0200", Ok (at 1112904793 (pos 7200)))
+    ∷ ("2005-04-07T22:13:13.019", Ok (at 1112911993 (pos 0)))
+    ∷ ("20080214T203045.019-04:00", Ok (at 1203035445 (neg_ℤ (pos 14400))))
+    ∷ ("2008-02-14", Err Unreadable) ∷ [])
+unfolding computing
+groups = refl
+
+words_and_numbers :
+    Reads
+    (("1234567890 +0530", Ok (at 1234567890 (pos 19800)))
+    ∷ ("99999999 +0000", Err Unreadable)
+    ∷ ("@99999999 +0000", Ok (at 99999999 (pos 0)))
+    ∷ ("@5", Err Unreadable)
+    ∷ ("2008-02-14 20:30:45 EST PST", Ok (at 1203039045 (neg_ℤ (pos 18000))))
+    ∷ ("2008-02-14 20:30:45 CST +0800", Ok (at 1202992245 (pos 28800)))
+    ∷ ("2009-01-01 12:30 AM +0000", Ok (at 1230769800 (pos 0)))
+    ∷ ("2009-01-01 PM 10:00 +0000", Ok (at 1230804000 (pos 0)))
+    ∷ ("1 Apr 05 10:00 +0000", Ok (at 1112349600 (pos 0)))
+    ∷ ("1 Apr 15 10:00 +0000", Err Unreadable)
+    ∷ ("2009-01-01 10:00 1030", Ok (at 1230766200 (pos 37800)))
+    ∷ ("2009-01-01 10:00 +05: 3", Ok (at 1230785820 (pos 18180)))
+    ∷ ("2009-01-01 10:00 +05:-3", Ok (at 1230786180 (pos 17820)))
+    ∷ ("2009-01-01 10:00 +2400", Ok (at 1230804000 (pos 0))) ∷ [])
+unfolding computing
+words_and_numbers = refl
+
+others :
+    Reads
+    (("April 2005 10:00 +0000", Ok (at 1112176800 (pos 0)))
+    ∷ ("2005-02-31 10:00 +0000", Ok (at 1109844000 (pos 0)))
+    ∷ ("2099-12-31 24:59:60 +0000", Ok (at 4102448400 (pos 0)))
+    ∷ ("2100-01-01 10:00 +0000", Err (YearRefused 0))
+    ∷ ("1970-01-01 00:00 +0100", Err Range)
+    ∷ ("2008-02-14 20:30:45 -0001", Ok (at 1203021045 (pos 0)))
+    ∷ ("20:30:45.5 Feb 14 2008 +0000", Ok (at 1202243445 (pos 0)))
+    ∷ ("20:30:45.500 Feb 14 2008 +0000", Ok (at 1203021045 (pos 0)))
+    ∷ ("2008-02-14 20:30:45 IST", Ok (at 1203021045 (pos 0))) ∷ [])
+unfolding computing
+others = refl
