@@ -28,11 +28,11 @@ abbrev pub takes_all : Option (List ℕ) → Bool
 takes_all None = false
 takes_all (Some rest) = not (is_nonempty rest)
 
--- no character of a clock's slice is dropped: it is digits, `h:m`, `h:m:s`, `h:m:s.digits` or `HHMMSS.digits`
+-- a clock drops no character: it is digits, `h:m`, `h:m:s`, `h:m:s.digits` or `HHMMSS.digits`
 unfoldable pub is_whole_clock : List ℕ → Bool
 is_whole_clock clock = takes_all (skip_git_clock (trim clock))
 
--- a text in one of Git's own forms has such a clock
+-- a Git form drops no character: its clock is such
 unfoldable pub is_whole_git : List ℕ → Bool
 is_whole_git text =
     unwrap_or (option_map (λ front. is_whole_clock (clock_cut (trim front.1)).0) (git_front (trim text))) false
@@ -41,16 +41,16 @@ is_whole_git text =
 unfoldable pub day_named : List ℕ → Option ℕ
 day_named name = position (is_name name) day_names
 
--- the day of the week that the first three letters name
+-- the day of the week first named: by the first three letters
 unfoldable pub first_day : List ℕ → Option ℕ
 first_day (a ∷ b ∷ c ∷ rest) = day_named (a ∷ b ∷ c ∷ [])
 first_day _ = None
 
--- the text begins with no day of the week, or with that of the time's own clock
+-- the text names no other day of the week: it begins with none, or with that of the time's own clock
 unfoldable pub names_its_day : List ℕ → Time → Bool
 names_its_day text t = unwrap_or (option_map (λ day. day == weekday_number (local_day t)) (first_day text)) true
 
--- a raw text has seconds from 100000000, as a bare epoch does: fewer could be a date
+-- a raw text has many seconds: 100000000 at least, as a bare epoch does, since fewer could be a date
 unfoldable pub is_large_if_raw : OffsetRule → List ℕ → Time → Bool
 is_large_if_raw rule text t = le_z min_bare_epoch t.seconds || is_none (raw_time_by rule text)
 

@@ -12,11 +12,11 @@ use Rattle.gix_date.specs.Text.Characters.{colon, dot, letter_t}
 use Rattle.gix_date.specs.Text.Numbers.{read_two_digits, read_field, read_year}
 use Rattle.gix_date.specs.Text.SpaceWords.{is_nonempty}
 
--- what stands after a part of a form, where the text begins with it
+-- a part of a form: what stands after it, where the text begins with it
 abbrev pub Part : Type 0
 Part = List ℕ → Option (List ℕ)
 
--- What is left of a text where the parts stop, from `rest` on. If they take all of it, `whole` is left.
+-- What is left where the parts stop: from `rest` on, and `whole` if they take all of it.
 abbrev pub left_by : List Part → List ℕ → List ℕ → List ℕ
 left_by [] whole rest = if is_nonempty rest then rest else whole
 left_by (part ∷ parts) whole rest = unwrap_or (option_map (left_by parts whole) (part rest)) rest
@@ -110,7 +110,7 @@ default_parts =
     skip_named_day ∷ taken_by read_month ∷ skip_spaces ∷ taken_by read_field ∷ skip_spaces ∷ skip_clock ∷ skip_spaces
     ∷ taken_by read_year ∷ skip_spaces ∷ skip_offset compact_offset ∷ []
 
--- The later of a place and of where a form stops. What is a form as a whole, and yet no date, has no front by it.
+-- The later place: this one, or where a form stops. What is a form as a whole, and yet no date, has no front by it.
 abbrev pub or_later : List ℕ → List Part → ℕ → ℕ
 or_later text parts place =
     let front = length text - length (left_by parts text text) in

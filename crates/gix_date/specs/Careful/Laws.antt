@@ -21,7 +21,7 @@ use Rattle.gix_date.specs.declared.parsing.careful.WithoutOffset.TheVariants.{Ut
 use Rattle.gix_date.specs.declared.parsing.relative.words.TimeUnit.{TimeUnit}
 use Rattle.gix_date.specs.declared.time.Time.{Time}
 
--- A date in which no offset is written, of this time in UTC: a day alone, or a Git form whose offset is empty. `Z` and
+-- A date in which no offset is written: by its time in UTC. It is a day alone, or a Git form whose offset is empty. `Z` and
 -- `+0000` are offsets.
 abbrev pub IsUnzoned : List ℕ → Time → Type 0
 IsUnzoned text t =

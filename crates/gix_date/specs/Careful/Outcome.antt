@@ -46,7 +46,7 @@ abbrev pub unzoned_reading : WithoutOffset → Time → Reading
 unzoned_reading zone.Utc t = First (Some (Absolute t))
 unzoned_reading zone.MomentsZone t = Local t
 
--- a date without an offset, where the text is one, or else this
+-- a date without an offset, or else this
 abbrev pub unzoned_or : WithoutOffset → Option Time → Reading → Reading
 unzoned_or zone None reading = reading
 unzoned_or zone (Some t) reading = unzoned_reading zone t
@@ -66,7 +66,7 @@ abbrev pub names_no_other_day : List ℕ → Option FamilyAnswer → Bool
 names_no_other_day text (Some (Absolute t)) = names_its_day text t
 names_no_other_day text _ = true
 
--- An answer says all of its text but for a day of the week: a raw text has many seconds. Careful pairs come before.
+-- an answer says all of its text: a raw text has many seconds, and careful pairs come before
 abbrev pub is_clear_answer : OffsetRule → List ℕ → Option FamilyAnswer → Bool
 is_clear_answer rule text (Some (Absolute t)) = is_large_if_raw rule text t
 is_clear_answer rule text (Some (Relative (MinusPairs pairs))) = false
@@ -79,14 +79,14 @@ is_clear_answer rule text None = false
 unfoldable pub has_word_before : List ℕ → ℕ → Bool
 has_word_before text place = list_any is_ascii_alphanumeric (take place text)
 
--- What the first answer says of a text that is neither careful pairs nor a Git form. A wrong day of the week is unclear
+-- What the first answer says: of a text that is neither careful pairs nor a Git form. A wrong day of the week is unclear
 -- where it stands, at the front. A text of no family is unclear only if it begins as some form.
 abbrev pub date_reading : OffsetRule → List ℕ → ℕ → Option FamilyAnswer → Reading
 date_reading rule text place answer =
     clear_or (names_no_other_day text answer)
     (clear_or (is_clear_answer rule text answer || (is_none answer && not (has_word_before text place))) (First answer) place) 0
 
--- what a text says that is no careful pairs, and is perhaps a Git form of this time: no character of its clock is dropped
+-- what a text says that is no careful pairs: a Git form of this time drops no character
 abbrev pub git_or : CarefulOptions → List ℕ → ℕ → Option Time → Reading
 git_or options text place (Some t) =
     clear_or (is_whole_git text)
@@ -95,12 +95,12 @@ git_or options text place None =
     unzoned_or options.without_offset (unzoned_day text)
     (date_reading (allows options.raw) text place (first_family_by (allows options.raw) text))
 
--- what a text says that stops being careful pairs there, or is such pairs
+-- what a text says: it stops being careful pairs there, or is such pairs
 abbrev pub pairs_or : CarefulOptions → List ℕ → Option ℕ → Reading
 pairs_or options text None = First (Some (Relative (MinusPairs (pairs (relative_words text)))))
 pairs_or options text (Some place) = git_or options text (longest_front text place) (git_time text)
 
--- what a text says by the options: careful texts alone, or all that `parse_with` reads
+-- what a text says by these texts: careful ones alone, or all that `parse_with` reads
 abbrev pub reading_of_texts : Texts → CarefulOptions → List ℕ → Reading
 reading_of_texts texts.Careful options text = pairs_or options text (unclear_place text)
 reading_of_texts texts.All options text =
