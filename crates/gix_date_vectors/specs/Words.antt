@@ -1,11 +1,11 @@
 -- Each word of the contracts and laws of `gix_date`, imported as another crate does.
 pub use Rattle.gix_date.specs.Families.Answer.{FamilyAnswer, Absolute, Relative, OffsetAboveDay, NoInstant}
 pub use Rattle.gix_date.specs.Header.Canonical.{is_canonical_header}
-pub use Rattle.gix_date.specs.Careful.Dates.{is_whole_clock, is_whole_git, first_day, names_its_day, is_large_if_raw, unzoned_day, unzoned_git_time, unzoned_time, IsLocalTime}
-pub use Rattle.gix_date.specs.Careful.Fronts.{Part, left_by, git_parts, iso8601_parts, strict_parts, rfc2822_parts, gitoxide_parts, default_parts, or_later, longest_front}
+pub use Rattle.gix_date.specs.Careful.Dates.{is_whole_git, names_its_day, is_large_if_raw, unzoned_day, unzoned_git_time, unzoned_time, IsLocalTime}
+pub use Rattle.gix_date.specs.Careful.Fronts.{longest_front}
 pub use Rattle.gix_date.specs.Careful.Grammar.{IsCarefulOf, IsCarefulText}
 pub use Rattle.gix_date.specs.Careful.Laws.{IsUnzoned, HasNoLocalDate, AnswersUnzoned, IsParsedToo, in_utc, in_zone, IgnoresZone, IsUtc, AnswersAlike, IsCarefulSo, AnswersPairs, ReadsPairs, IsUnzonedSo, HasOneCarefulOutcome, CarefulNoneLater}
-pub use Rattle.gix_date.specs.Careful.Outcome.{Reading, local_date, unzoned_or, names_no_other_day, is_clear_answer, has_word_before, date_reading, git_or, pairs_or, reading_of_texts, default_options, careful_reading, CarefulOutcome, IsPlaceIn}
+pub use Rattle.gix_date.specs.Careful.Outcome.{Reading, default_options, careful_reading, CarefulOutcome, IsPlaceIn}
 pub use Rattle.gix_date.specs.Careful.Texts.{begins_word, word_at, word_before, is_plain_count, may_follow, may_stand_after, separates, is_clear_at, ends_in_ago, unclear_place}
 pub use Rattle.gix_date.specs.Computing.{computing}
 pub use Rattle.gix_date.specs.Devices.Device.{inner_of, fault_of}
