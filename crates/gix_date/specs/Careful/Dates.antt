@@ -76,7 +76,7 @@ pub record IsLocalTime (tz : TimeZone) (t r : Time) : Type 0 where
   pub picked : IsPicked tz (nanos_of_seconds t.seconds) instant
   pub is : r ≡ time_in tz instant
 
--- the time in the zone, or `None` where the zone has no instant for it
+-- the time in the zone: or `None` where the zone has no instant for it
 abbrev pub IsLocalIfAny : TimeZone → Time → Option Time → Type 0
 IsLocalIfAny tz t None = (r : Time) → ¬ (IsLocalTime tz t r)
 IsLocalIfAny tz t (Some r) = IsLocalTime tz t r
