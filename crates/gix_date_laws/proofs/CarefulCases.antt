@@ -3,18 +3,19 @@ use Rattle.std.proofs.Common.{◌≡◌, ◌∙◌, ℕ, ℤ, Bool, true, false,
 use Rattle.std.specs.Option.{option_map, option_or}
 use Rattle.std.specs.Prelude.{is_some, is_none, ◌||◌, ◌&&◌, not}
 use Rattle.std.specs.Result.{result_map_both}
-use Rattle.std.specs.Str.{IsUtf8}
+use Rattle.std.specs.Str.{trim, IsUtf8}
 use Rattle.jiff.specs.Words.{nanos_of_seconds}
 use Rattle.gix_date.specs.Printing.Zoned.{time_in}
 use Rattle.jiff.specs.declared.zoned.Zoned.{Zoned}
-use Rattle.gix_date.specs.Careful.Dates.{is_whole_git, unzoned_day, unzoned_git_time, unzoned_time, IsLocalTime}
+use Rattle.gix_date.specs.Careful.Dates.{is_whole_clock, is_whole_git, unzoned_day, unzoned_git_time, unzoned_time, IsLocalTime}
 use Rattle.gix_date.specs.Careful.Fronts.{longest_front}
-use Rattle.gix_date.specs.Careful.Laws.{IsParsedToo, IgnoresZone, HasNoLocalDate, HasOneCarefulOutcome, in_utc, in_zone}
+use Rattle.gix_date.specs.Careful.Laws.{IsParsedToo, IgnoresZone, HasNoLocalDate, HasOneCarefulOutcome, ReadsGit, SaysTime, in_utc, in_zone}
 use Rattle.gix_date.specs.Careful.Outcome.{Reading, Local, First, Unclear, careful_reading, clear_or, date_reading, git_or, has_word_before, is_clear_answer, local_date, local_or, names_no_other_day, pairs_or, reading_of_texts, unzoned_or, unzoned_reading, CarefulOutcome}
 use Rattle.gix_date.specs.Careful.Texts.{unclear_place}
 use Rattle.gix_date.specs.Families.Answer.{FamilyAnswer, Absolute}
 use Rattle.gix_date.specs.Families.Order.{first_family_by, ParseNoAllocOutcome}
-use Rattle.gix_date.specs.Families.Raw.{allows}
+use Rattle.gix_date.specs.Families.Raw.{allows, is_raw_offset}
+use Rattle.gix_date.specs.Git.Grammar.{IsGitText}
 use Rattle.gix_date.specs.Git.Forms.{git_time}
 use Rattle.gix_date.specs.Relative.Steps.{zone_of}
 use Rattle.gix_date.specs.declared.error.CarefulError.{CarefulError}
@@ -27,11 +28,14 @@ use Rattle.gix_date.specs.declared.parsing.careful.WithoutOffset.{WithoutOffset}
 use Rattle.gix_date.specs.declared.parsing.careful.WithoutOffset.TheVariants as zone
 use Rattle.gix_date.specs.declared.time.Time.{Time}
 use Rattle.gix_date.proofs.Families.Disjoint.{none-unless}
+use Rattle.gix_date.proofs.Fast.FastHeaders.{same_some}
+use Rattle.gix_date.proofs.Git.ClockCuts.{means_cut}
 use Rattle.gix_date.proofs.Relative.Chains.{one-outcome}
 use Rattle.gix_date.proofs.Relative.Steps.{picked-once}
 use Rattle.gix_date_laws.proofs.Agreement.{comes-first}
 use Rattle.gix_date_laws.proofs.CarefulAnswers.{careful-pairs, answers-pairs}
 use Rattle.gix_date_laws.proofs.CarefulGrammar.{PairsAnswer, careful-text}
+use Rattle.gix_date_laws.proofs.GitGrammar.{front-of, git-spelled}
 use Rattle.gix_date_laws.proofs.CarefulReading.{plain-time, git-is, answers, unzoned-by-day, unzoned-by-git, unzoned-so}
 
 abbrev FirstOf : CarefulOptions → List ℕ → Reading
@@ -151,3 +155,49 @@ reading-once (First answer) now a b (p, h, e) (q, g, f) =
 
 pub one-careful-outcome : HasOneCarefulOutcome
 one-careful-outcome options text now a b h g = reading-once (careful_reading options text) now a b h g
+
+-- A Git form is read iff its clock drops nothing.
+whole-of : (text : List ℕ) (t : Time) (h : IsGitText text t) → is_whole_git text ≡ is_whole_clock h.clock
+unfolding is_whole_git
+whole-of text t h = rw (front-of (trim text) h.day h.gap h.rest h.date h.whole h.front, means_cut (trim h.rest) h.clock h.zone h.cut) refl
+
+git-place : (text : List ℕ) (t : Time) → IsUtf8 text → git_time text ≡ Some t → (p : Option ℕ) → unclear_place text ≡ p → (place : ℕ) × (p ≡ Some place)
+git-place text t u g None e =
+    let found = careful-text text e in
+    let git = (comes-first is_raw_offset text u).git (ap (λ o. is_some (option_map Absolute o)) g) ∙ ap (option_map Absolute) g in
+    let bad : PairsAnswer found.0 ≡ Some (Absolute t) = sym (answers-pairs is_raw_offset text u found.0 found.1) ∙ git in
+    absurd cc
+git-place text t u g (Some place) e = (place, refl)
+
+git-reading : (options : CarefulOptions) (text : List ℕ) (t : Time) (place : ℕ) → options.texts ≡ texts.Careful → unclear_place text ≡ Some place → git_time text ≡ Some t
+    → careful_reading options text ≡ git_or options text (longest_front text place) (Some t)
+unfolding careful_reading
+git-reading options text t place c p g =
+    ap (λ (x : Texts). reading_of_texts x options text) c ∙ ap (pairs_or options text) p ∙ ap (git_or options text (longest_front text place)) g
+
+time-said : (without : WithoutOffset) (t : Time) (unzoned : Option Time) → ((k : Time) → unzoned ≡ Some k → k ≡ t) → SaysTime (unzoned_or without unzoned (First (Some (Absolute t)))) t
+time-said without t None f = inl refl
+time-said zone.Utc t (Some k) f = inl (ap (λ (x : Time). First (Some (Absolute x))) (f k refl))
+time-said zone.MomentsZone t (Some k) f = inr (ap Local (f k refl))
+
+clear-said : (whole : Bool) (reading : Reading) (place : ℕ) (t : Time) → SaysTime reading t → whole ≡ true → SaysTime (clear_or whole reading place) t
+clear-said true reading place t h w = h
+clear-said false reading place t h w = absurd cc
+
+said-clear : (whole : Bool) (reading : Reading) (place : ℕ) (t : Time) → SaysTime (clear_or whole reading place) t → whole ≡ true
+said-clear true reading place t h = refl
+said-clear false reading place t (inl e) = absurd cc
+said-clear false reading place t (inr e) = absurd cc
+
+pub reads-git : (options : CarefulOptions) (text : List ℕ) → IsUtf8 text → ReadsGit options text
+reads-git options text u c t git =
+    let g = (git-spelled text t).1 git in
+    let p = git-place text t u g (unclear_place text) refl in
+    let is = git-reading options text t p.0 c p.1 g in
+    let whole = whole-of text t git in
+    let reading = unzoned_or options.without_offset (unzoned_git_time text) (First (Some (Absolute t))) in
+    let same : (k : Time) → unzoned_git_time text ≡ Some k → k ≡ t = λ k e. same_some k t (sym (git-is text k e).0 ∙ g) in
+    (
+      λ h. sym whole ∙ said-clear (is_whole_git text) reading (longest_front text p.0) t (subst (λ (r : Reading). SaysTime r t) is h),
+      λ w. subst (λ (r : Reading). SaysTime r t) (sym is) (clear-said (is_whole_git text) reading (longest_front text p.0) t (time-said options.without_offset t (unzoned_git_time text) same) (whole ∙ w)),
+    )

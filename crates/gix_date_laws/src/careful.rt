@@ -1,5 +1,5 @@
 //! Laws of dates for callers that must not guess.
-ghost use Rattle.gix_date.specs.Careful.Laws.{AnswersAlike, AnswersPairs, AnswersUnzoned, CarefulNoneLater, HasOneCarefulOutcome, IgnoresZone, IsCarefulSo, IsParsedToo, IsUnzonedSo, IsUtc, ReadsPairs};
+ghost use Rattle.gix_date.specs.Careful.Laws.{AnswersAlike, AnswersPairs, AnswersUnzoned, CarefulNoneLater, HasOneCarefulOutcome, IgnoresZone, IsCarefulSo, IsParsedToo, IsUnzonedSo, IsUtc, ReadsGit, ReadsPairs};
 ghost use Rattle.gix_date.specs.Families.Raw.{allows};
 ghost use Rattle.gix_date.specs.Relative.Steps.{zone_of};
 ghost use Rattle.jiff.specs.Words.{IsFixed};
@@ -39,6 +39,12 @@ pub fn spelled_careful(text: &str, raw: RawOffsets)
 /// that their words name.
 pub fn reads_pairs(text: &str, options: CarefulOptions)
     ensures { ReadsPairs options text.now }
+{}
+
+/// Where texts have to be careful, `parse_carefully` reads a text in one of Git's own forms iff no character of its clock's
+/// slice is dropped, and then as the time of that text.
+pub fn reads_git(text: &str, options: CarefulOptions)
+    ensures { ReadsGit options text.now }
 {}
 
 /// A date has no offset iff none is written: it is a day alone, or a Git form whose offset is empty. `Z` and `+0000` are

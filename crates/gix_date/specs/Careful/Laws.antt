@@ -1,10 +1,10 @@
 -- What is promised of careful reading beside what it answers.
-use Rattle.std.specs.Prelude.{◌≡◌, ◌↔◌, ◌⊎◌, ◌≤ℤ◌, ℕ, ℤ, pos, List, [], Option, Some, None, Result, Ok}
+use Rattle.std.specs.Prelude.{◌≡◌, true, ◌↔◌, ◌⊎◌, ◌≤ℤ◌, ℕ, ℤ, pos, List, [], Option, Some, None, Result, Ok}
 use Rattle.jiff.specs.Words.{IsFixed, offset_at, zoned_nanos}
 use Rattle.jiff.specs.declared.zoned.Zoned.{Zoned}
-use Rattle.gix_date.specs.Careful.Dates.{unzoned_time}
+use Rattle.gix_date.specs.Careful.Dates.{is_whole_clock, unzoned_time}
 use Rattle.gix_date.specs.Careful.Grammar.{IsCarefulOf, IsCarefulText}
-use Rattle.gix_date.specs.Careful.Outcome.{First, careful_reading, CarefulOutcome}
+use Rattle.gix_date.specs.Careful.Outcome.{Reading, First, Local, careful_reading, CarefulOutcome}
 use Rattle.gix_date.specs.Careful.Texts.{unclear_place}
 use Rattle.gix_date.specs.Families.Answer.{Absolute, Relative}
 use Rattle.gix_date.specs.Families.Order.{first_family_by, ParseNoAllocOutcome}
@@ -80,6 +80,16 @@ abbrev pub ReadsPairs : CarefulOptions → List ℕ → Type 0
 ReadsPairs options text =
     options.texts ≡ Careful → (pairs : List (ℤ × TimeUnit))
     → (careful_reading options text ≡ First (Some (Relative (MinusPairs pairs)))) ↔ IsCarefulOf text pairs
+
+-- a reading says this time: or that of the moment's zone which UTC shows so
+abbrev pub SaysTime : Reading → Time → Type 0
+SaysTime reading t = (reading ≡ First (Some (Absolute t))) ⊎ (reading ≡ Local t)
+
+-- a Git form is read iff its clock drops nothing: where texts have to be careful
+abbrev pub ReadsGit : CarefulOptions → List ℕ → Type 0
+ReadsGit options text =
+    options.texts ≡ Careful → (t : Time) (git : IsGitText text t)
+    → SaysTime (careful_reading options text) t ↔ (is_whole_clock git.clock ≡ true)
 
 -- a date is without an offset iff none is written
 abbrev pub IsUnzonedSo : List ℕ → Type 0
