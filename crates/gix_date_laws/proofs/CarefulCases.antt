@@ -196,8 +196,7 @@ reads-git options text u c t git =
     let is = git-reading options text t p.0 c p.1 g in
     let whole = whole-of text t git in
     let reading = unzoned_or options.without_offset (unzoned_git_time text) (First (Some (Absolute t))) in
-    let same : (k : Time) → unzoned_git_time text ≡ Some k → k ≡ t = λ k e. same_some k t (sym (git-is text k e).0 ∙ g) in
-    (
+    let same : (k : Time) → unzoned_git_time text ≡ Some k → k ≡ t = λ k e. same_some k t (sym (git-is text k e).0 ∙ g) in (
       λ h. sym whole ∙ said-clear (is_whole_git text) reading (longest_front text p.0) t (subst (λ (r : Reading). SaysTime r t) is h),
       λ w. subst (λ (r : Reading). SaysTime r t) (sym is) (clear-said (is_whole_git text) reading (longest_front text p.0) t (time-said options.without_offset t (unzoned_git_time text) same) (whole ∙ w)),
     )

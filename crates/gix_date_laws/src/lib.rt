@@ -11,8 +11,8 @@ mod relative;
 mod values;
 
 pub use careful::{
-    careful_is_parsed, careful_never_later, ignores_zone, one_careful_outcome, reads_git, reads_pairs, same_in_utc, spelled_careful, spelled_unzoned,
-    without_offset,
+    careful_is_parsed, careful_never_later, ignores_zone, one_careful_outcome, reads_git,
+    reads_pairs, same_in_utc, spelled_careful, spelled_unzoned, without_offset,
 };
 pub use families::{
     agree, any_case, apart, comes_first, dispatched, dispatched_by_rows, ignores_moment,
