@@ -1,5 +1,5 @@
 -- How far a zone's clock is from UTC.
-use Rattle.std.proofs.Common.{◌≡◌, ◌∙◌, ℕ, ℤ, Bool, true, cond, Option, Result, Ok, Err, sym, pos, neg_ℤ, ◌-ℤ◌, ◌*ℤ◌, arith, ap, int_div}
+use Rattle.std.proofs.Common.{◌≡◌, ◌∙◌, ℕ, ℤ, Bool, true, cond, Option, Some, Result, Ok, Err, sym, subst, pos, neg_ℤ, ◌-ℤ◌, ◌*ℤ◌, arith, ap, int_div}
 use Rattle.jiff.specs.Types.{TimeZone, DateTime}
 use Rattle.jiff.specs.Words.{nanos_of_seconds, ambiguous_at, compatible_offset, civil_nanos}
 use Rattle.jiff_core.proofs.SignedLemmas.{signed_arith, one_part}
@@ -7,7 +7,7 @@ use Rattle.jiff_core.specs.Calendar.{IsBetween}
 use Rattle.gix_date.specs.Careful.Dates.{IsLocalTime}
 use Rattle.gix_date.specs.Families.Epoch.{utc_time}
 use Rattle.gix_date.specs.declared.time.Time.{Time}
-use Rattle.git_date.specs.Outcome.{IsMinutes, minutes_to, instant_seconds, date_at}
+use Rattle.git_date.specs.Outcome.{IsMinutes, minutes_to, instant_seconds, date_at, said_offset, AtOffset, DateOutcome}
 use Rattle.git_date.specs.declared.reader.Said.{Said}
 use Rattle.git_date.specs.declared.date.ReadDate.{ReadDate}
 use Rattle.git_date.specs.declared.error.DateError.{DateError}
@@ -40,3 +40,11 @@ unfolding date_at
 a-date said m t h e =
     ap (λ (t : Time). date_of t said.ignored) e
     ∙ ap (λ (b : Bool). cond b (date_of (record { seconds = instant_seconds said m; offset = pos 60 *ℤ m }) said.ignored) (Err Range)) (sym h)
+
+-- an offset that is said leaves nothing to the zone
+pub moved : (tz other : TimeZone) (read : Result Said DateError) (minutes : ℤ) (result : Result ReadDate DateError) → said_offset read ≡ Some minutes
+    → DateOutcome tz read result → DateOutcome other read result
+moved tz other (Err e) minutes result f h = h
+moved tz other (Ok said) minutes result f h =
+    let there : AtOffset other said (Some minutes) result = subst (λ (offset : Option ℤ). AtOffset tz said offset result) f h in
+    subst (λ (offset : Option ℤ). AtOffset other said offset result) (sym f) there

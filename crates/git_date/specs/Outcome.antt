@@ -58,3 +58,8 @@ AtOffset tz said None result = InZone tz said result
 abbrev pub DateOutcome : TimeZone → Result Said DateError → Result ReadDate DateError → Type 0
 DateOutcome tz (Ok said) result = AtOffset tz said said.offset result
 DateOutcome tz (Err e) result = result ≡ Err e
+
+-- the minutes of the offset that a text says, if it says one
+abbrev pub said_offset : Result Said DateError → Option ℤ
+said_offset (Ok said) = said.offset
+said_offset (Err e) = None

@@ -1,0 +1,28 @@
+-- Laws of dates as Git reads them.
+use Rattle.std.specs.Prelude.{◌≡◌, ◌↔◌, ℕ, ℤ, List, [], ◌∷◌, Option, Some, Result}
+use Rattle.jiff.specs.Types.{TimeZone}
+use Rattle.jiff.specs.declared.zoned.Zoned.{Zoned}
+use Rattle.git_date.specs.Dates.{now_of}
+use Rattle.git_date.specs.Tokens.{Token, Letters, Digits}
+use Rattle.git_date.specs.Reading.{said_by}
+use Rattle.git_date.specs.Outcome.{DateOutcome, said_offset}
+use Rattle.git_date.specs.declared.date.ReadDate.{ReadDate}
+use Rattle.git_date.specs.declared.error.DateError.{DateError}
+
+-- a token before others: they do not begin with another run of the same kind
+abbrev pub IsApart : Token → List Token → Type 0
+IsApart (Letters run) (Letters other ∷ more) = ⊥
+IsApart (Digits run) (Digits other ∷ more) = ⊥
+IsApart t more = Unit {0}
+
+-- no two neighbours are both letters or both digits
+abbrev pub AreApart : List Token → Type 0
+AreApart [] = Unit {0}
+AreApart (t ∷ more) = IsApart t more × AreApart more
+
+-- a text that says its offset has the same answer in every zone
+abbrev pub IgnoresZone : Zoned → List ℕ → Type 0
+IgnoresZone moment text =
+    (tz other : TimeZone) (minutes : ℤ) (result : Result ReadDate DateError)
+    → said_offset (said_by (now_of moment) text) ≡ Some minutes
+    → DateOutcome tz (said_by (now_of moment) text) result ↔ DateOutcome other (said_by (now_of moment) text) result
