@@ -1,26 +1,25 @@
 -- What careful reading says: what the first family answers, a date of the moment's zone, or a refusal.
 use Rattle.std.proofs.Common.{◌≡◌, ◌∙◌, ℕ, ℤ, Bool, true, false, List, refl, ap, sym, subst, Option, Some, None, Ok, Err, Result, inl, inr, ◌⊎◌}
-use Rattle.std.specs.Option.{option_map, option_or}
+use Rattle.std.specs.Option.{option_map}
 use Rattle.std.specs.Prelude.{is_some, is_none, ◌||◌, ◌&&◌, not}
 use Rattle.std.specs.Result.{result_map_both}
 use Rattle.std.specs.Str.{trim, IsUtf8}
 use Rattle.jiff.specs.Words.{nanos_of_seconds}
 use Rattle.gix_date.specs.Printing.Zoned.{time_in}
 use Rattle.jiff.specs.declared.zoned.Zoned.{Zoned}
-use Rattle.gix_date.specs.Careful.Dates.{is_whole_clock, is_whole_git, unzoned_day, unzoned_git_time, unzoned_time, IsLocalTime}
+use Rattle.gix_date.specs.Careful.Dates.{is_whole_clock, is_whole_git, unzoned_day, unzoned_git_time, unzoned_time}
 use Rattle.gix_date.specs.Careful.Fronts.{longest_front}
 use Rattle.gix_date.specs.Careful.Laws.{IsParsedToo, IgnoresZone, HasNoLocalDate, HasOneCarefulOutcome, ReadsGit, SaysTime, in_utc, in_zone}
 use Rattle.gix_date.specs.Careful.Outcome.{Reading, Local, First, Unclear, careful_reading, clear_or, date_reading, git_or, has_word_before, is_clear_answer, local_date, local_or, names_no_other_day, pairs_or, reading_of_texts, unzoned_or, unzoned_reading, CarefulOutcome}
 use Rattle.gix_date.specs.Careful.Texts.{unclear_place}
-use Rattle.gix_date.specs.Families.Answer.{FamilyAnswer, Absolute}
-use Rattle.gix_date.specs.Families.Order.{first_family_by, ParseNoAllocOutcome}
+use Rattle.gix_date.specs.Families.Answer.{Absolute}
+use Rattle.gix_date.specs.Families.Order.{first_family_by}
 use Rattle.gix_date.specs.Families.Raw.{allows, is_raw_offset}
 use Rattle.gix_date.specs.Git.Grammar.{IsGitText}
 use Rattle.gix_date.specs.Git.Forms.{git_time}
 use Rattle.gix_date.specs.Relative.Steps.{zone_of}
 use Rattle.gix_date.specs.declared.error.CarefulError.{CarefulError}
 use Rattle.gix_date.specs.declared.error.CarefulError.TheVariants as errors
-use Rattle.gix_date.specs.declared.error.ParseError.{ParseError}
 use Rattle.gix_date.specs.declared.parsing.careful.CarefulOptions.{CarefulOptions}
 use Rattle.gix_date.specs.declared.parsing.careful.Texts.{Texts}
 use Rattle.gix_date.specs.declared.parsing.careful.Texts.TheVariants as texts
@@ -37,6 +36,7 @@ use Rattle.gix_date_laws.proofs.CarefulAnswers.{careful-pairs, answers-pairs}
 use Rattle.gix_date_laws.proofs.CarefulGrammar.{PairsAnswer, careful-text}
 use Rattle.gix_date_laws.proofs.GitGrammar.{front-of, git-spelled}
 use Rattle.gix_date_laws.proofs.CarefulReading.{plain-time, git-is, answers, unzoned-by-day, unzoned-by-git, unzoned-so}
+use Rattle.gix_date_laws.proofs.WholeClocks.{whole-so}
 
 abbrev FirstOf : CarefulOptions → List ℕ → Reading
 FirstOf options text = First (first_family_by (allows options.raw) text)
@@ -197,6 +197,6 @@ reads-git options text u c t git =
     let whole = whole-of text t git in
     let reading = unzoned_or options.without_offset (unzoned_git_time text) (First (Some (Absolute t))) in
     let same : (k : Time) → unzoned_git_time text ≡ Some k → k ≡ t = λ k e. same_some k t (sym (git-is text k e).0 ∙ g) in (
-      λ h. sym whole ∙ said-clear (is_whole_git text) reading (longest_front text p.0) t (subst (λ (r : Reading). SaysTime r t) is h),
-      λ w. subst (λ (r : Reading). SaysTime r t) (sym is) (clear-said (is_whole_git text) reading (longest_front text p.0) t (time-said options.without_offset t (unzoned_git_time text) same) (whole ∙ w)),
+      λ h. (whole-so git.clock).0 (sym whole ∙ said-clear (is_whole_git text) reading (longest_front text p.0) t (subst (λ (r : Reading). SaysTime r t) is h)),
+      λ w. subst (λ (r : Reading). SaysTime r t) (sym is) (clear-said (is_whole_git text) reading (longest_front text p.0) t (time-said options.without_offset t (unzoned_git_time text) same) (whole ∙ (whole-so git.clock).1 w)),
     )

@@ -23,5 +23,6 @@ mod UnzonedGrammar
 mod CarefulReading
 mod CarefulInUtc
 mod CarefulGrammar
+mod WholeClocks
 mod CarefulCases
 pub mod CarefulRows

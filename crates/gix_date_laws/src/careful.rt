@@ -1,5 +1,5 @@
 //! Laws of dates for callers that must not guess.
-ghost use Rattle.gix_date.specs.Careful.Laws.{AnswersAlike, AnswersPairs, AnswersUnzoned, CarefulNoneLater, HasOneCarefulOutcome, IgnoresZone, IsCarefulSo, IsParsedToo, IsUnzonedSo, IsUtc, ReadsGit, ReadsPairs};
+ghost use Rattle.gix_date.specs.Careful.Laws.{AnswersAlike, AnswersPairs, AnswersUnzoned, CarefulNoneLater, HasOneCarefulOutcome, IgnoresZone, IsCarefulSo, IsParsedToo, IsUnzonedSo, IsUtc, ReadsGit, IsWholeSo, ReadsPairs};
 ghost use Rattle.gix_date.specs.Families.Raw.{allows};
 ghost use Rattle.gix_date.specs.Relative.Steps.{zone_of};
 ghost use Rattle.jiff.specs.Words.{IsFixed};
@@ -45,6 +45,12 @@ pub fn reads_pairs(text: &str, options: CarefulOptions)
 /// slice is dropped, and then as the time of that text.
 pub fn reads_git(text: &str, options: CarefulOptions)
     ensures { ReadsGit options text.now }
+{}
+
+/// A clock's slice drops no character iff it is, white space aside, `h`, `h:m`, `h:m:s` or `h:m:s.digits` of runs of digits,
+/// or `HHMMSS.digits`.
+pub fn spelled_clock(clock: &str)
+    ensures { IsWholeSo clock.now }
 {}
 
 /// A date has no offset iff none is written: it is a day alone, or a Git form whose offset is empty. `Z` and `+0000` are

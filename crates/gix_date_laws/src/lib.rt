@@ -12,7 +12,7 @@ mod values;
 
 pub use careful::{
     careful_is_parsed, careful_never_later, ignores_zone, one_careful_outcome, reads_git,
-    reads_pairs, same_in_utc, spelled_careful, spelled_unzoned, without_offset,
+    reads_pairs, same_in_utc, spelled_careful, spelled_clock, spelled_unzoned, without_offset,
 };
 pub use families::{
     agree, any_case, apart, comes_first, dispatched, dispatched_by_rows, ignores_moment,

@@ -1,9 +1,10 @@
 -- What is promised of careful reading beside what it answers.
 use Rattle.std.specs.Prelude.{◌≡◌, true, ◌↔◌, ◌⊎◌, ◌≤ℤ◌, ℕ, ℤ, pos, List, [], Option, Some, None, Result, Ok}
+use Rattle.std.specs.Str.{trim}
 use Rattle.jiff.specs.Words.{IsFixed, offset_at, zoned_nanos}
 use Rattle.jiff.specs.declared.zoned.Zoned.{Zoned}
 use Rattle.gix_date.specs.Careful.Dates.{is_whole_clock, unzoned_time}
-use Rattle.gix_date.specs.Careful.Grammar.{IsCarefulOf, IsCarefulText}
+use Rattle.gix_date.specs.Careful.Grammar.{IsCarefulOf, IsCarefulText, IsWholeClock}
 use Rattle.gix_date.specs.Careful.Outcome.{Reading, First, Local, careful_reading, CarefulOutcome}
 use Rattle.gix_date.specs.Careful.Texts.{unclear_place}
 use Rattle.gix_date.specs.Families.Answer.{Absolute, Relative}
@@ -85,11 +86,15 @@ ReadsPairs options text =
 abbrev pub SaysTime : Reading → Time → Type 0
 SaysTime reading t = (reading ≡ First (Some (Absolute t))) ⊎ (reading ≡ Local t)
 
--- a Git form is read iff its clock drops nothing: where texts have to be careful
+-- a clock drops no character iff it is whole
+abbrev pub IsWholeSo : List ℕ → Type 0
+IsWholeSo clock = (is_whole_clock clock ≡ true) ↔ IsWholeClock (trim clock)
+
+-- a Git form is read iff its clock is whole: where texts have to be careful
 abbrev pub ReadsGit : CarefulOptions → List ℕ → Type 0
 ReadsGit options text =
     options.texts ≡ Careful → (t : Time) (git : IsGitText text t)
-    → SaysTime (careful_reading options text) t ↔ (is_whole_clock git.clock ≡ true)
+    → SaysTime (careful_reading options text) t ↔ IsWholeClock (trim git.clock)
 
 -- a date is without an offset iff none is written
 abbrev pub IsUnzonedSo : List ℕ → Type 0

@@ -1,0 +1,5 @@
+use Rattle.gix_date_laws.proofs.WholeClocks.{whole-so}
+use Rattle.gix_date_laws.proofs.careful.spelled_clock.Goals as goal
+
+pub returns : goal.returns
+returns c = whole-so c.args.clock.now
