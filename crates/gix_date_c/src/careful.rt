@@ -13,9 +13,7 @@ use crate::parse::{
 use crate::status::Status;
 use crate::text::text_of;
 use crate::time::{CTime, store_time};
-use gix_date::{
-    CarefulError, CarefulOptions, Texts, Time, WithoutOffset, Zoned, parse_carefully,
-};
+use gix_date::{CarefulError, CarefulOptions, Texts, Time, WithoutOffset, Zoned, parse_carefully};
 use jiff::tz::TimeZone;
 use std::alloc::Global;
 

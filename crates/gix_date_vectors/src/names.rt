@@ -10,7 +10,7 @@ use gix_date::parsing::TimeBuf;
 use gix_date::time::{CustomFormat, Format, format};
 use gix_date::{
     CarefulError, CarefulOptions, Error, InputBytes, OffsetInSeconds, ParseError, RawOffsets,
-    Texts, SecondsSinceUnixEpoch, Time, WithoutOffset, Zoned, laws, parse, parse_carefully,
+    SecondsSinceUnixEpoch, Texts, Time, WithoutOffset, Zoned, laws, parse, parse_carefully,
 };
 use gix_date_fakes::Dribble;
 use gix_date_tool::Mode;
