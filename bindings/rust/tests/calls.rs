@@ -5,7 +5,7 @@ use gix_date_proved::time::{format, CustomFormat, Format};
 use gix_date_proved::{
     bytes, check_library, is_canonical_header, library_version, parse, parse_carefully,
     parse_header, parse_with, ported_version, write_signature, CarefulError, CarefulOptions, Error,
-    Moment, RawOffsets, Texts, Signature, Time, Version, WithoutOffset, Zone,
+    Moment, RawOffsets, Signature, Texts, Time, Version, WithoutOffset, Zone,
 };
 use std::collections::HashSet;
 use std::io;

@@ -4,8 +4,8 @@ use gix_date_proved::parse::TimeBuf;
 use gix_date_proved::time::{format as formats, Format};
 use gix_date_proved::{
     bytes, is_canonical_header, parse, parse_carefully, parse_header, parse_with, write_signature,
-    CarefulError, CarefulOptions, Error, Moment, RawOffsets, Texts, Signature, Time,
-    WithoutOffset, Zone,
+    CarefulError, CarefulOptions, Error, Moment, RawOffsets, Signature, Texts, Time, WithoutOffset,
+    Zone,
 };
 use std::fs;
 use std::path::PathBuf;
@@ -398,7 +398,9 @@ fn rows_agree() {
         .unwrap()
         .map(|entry| entry.unwrap().file_name().into_string().unwrap())
         // `git_date`, of which some rows are, is called from Rattle alone.
-        .filter(|name| name.ends_with(".rows") && name != "wrong.rows" && !name.starts_with("git_date"))
+        .filter(|name| {
+            name.ends_with(".rows") && name != "wrong.rows" && !name.starts_with("git_date")
+        })
         .collect();
     names.sort();
     assert!(names.len() >= 8, "{names:?}");

@@ -38,14 +38,29 @@ impl Zone {
     ///
     /// [`Error::InvalidZone`] where this names no zone that can be read, [`Error::OutOfMemory`].
     pub fn local() -> Result<Zone, Error> {
-        let folder = env::var_os("TZDIR").unwrap_or_else(|| "/usr/share/zoneinfo".into());
         let variable = env::var_os("TZ");
         Settings {
             variable: variable.as_deref(),
-            folder: folder.into(),
+            folder: folder(),
             default_file: Path::new("/etc/localtime"),
         }
         .zone()
+    }
+
+    /// The zone of this name, such as `America/New_York`: the TZif file below `TZDIR` or `/usr/share/zoneinfo`.
+    ///
+    /// A name has ASCII letters, digits, `/`, `_`, `+` and `-`, and does not begin with `/`. [`Error::InvalidZone`] for other
+    /// names, and where there is no such zone; [`Error::OutOfMemory`].
+    pub fn named(name: &str) -> Result<Zone, Error> {
+        Zone::named_below(&folder(), name)
+    }
+
+    fn named_below(folder: &Path, name: &str) -> Result<Zone, Error> {
+        let is_name = |b: u8| b.is_ascii_alphanumeric() || b"/_+-".contains(&b);
+        if name.starts_with('/') || !name.bytes().all(is_name) {
+            return Err(Error::InvalidZone);
+        }
+        Zone::of_file(&folder.join(name)).unwrap_or(Err(Error::InvalidZone))
     }
 
     /// This zone, where the library can read it.
@@ -66,6 +81,12 @@ impl Zone {
         let bytes = is_file.then(|| fs::read(path))?.ok()?;
         Some(Zone::Tzif(bytes.into()).if_valid())
     }
+}
+
+/// Where the files of zones lie.
+fn folder() -> PathBuf {
+    let variable = env::var_os("TZDIR");
+    variable.map_or_else(|| "/usr/share/zoneinfo".into(), PathBuf::from)
 }
 
 /// What says which zone a machine has.
@@ -99,20 +120,51 @@ mod tests {
     const NEW_YORK: &str = "new_york_2023.tzif";
     const RULE: &str = "EST5EDT,M3.2.0,M11.1.0";
 
-    fn folder() -> PathBuf {
+    fn data() -> PathBuf {
         Path::new(env!("CARGO_MANIFEST_DIR")).join("../../crates/gix_date_rows/data")
     }
 
     fn new_york() -> Zone {
-        Zone::Tzif(fs::read(folder().join(NEW_YORK)).unwrap().into())
+        Zone::Tzif(fs::read(data().join(NEW_YORK)).unwrap().into())
+    }
+
+    #[test]
+    fn a_name_is_that_of_a_file() {
+        let below = env::temp_dir().join(format!("gix_date_zones_{}", std::process::id()));
+        fs::create_dir_all(below.join("America")).unwrap();
+        fs::copy(data().join(NEW_YORK), below.join("America/New_York")).unwrap();
+        fs::write(below.join("notes"), "no zone").unwrap();
+        assert_eq!(
+            Zone::named_below(&below, "America/New_York"),
+            Ok(new_york())
+        );
+        let absolute = below.join("America/New_York");
+        let others = [
+            "",
+            "America",
+            "notes",
+            "Mars",
+            "../x",
+            "America/../America/New_York",
+            "a\0b",
+            absolute.to_str().unwrap(),
+        ];
+        for other in others {
+            assert_eq!(
+                Zone::named_below(&below, other),
+                Err(Error::InvalidZone),
+                "{other}"
+            );
+        }
+        fs::remove_dir_all(&below).unwrap();
     }
 
     /// The zone of a machine with this variable, whose file of the zone is this one of the folder.
     fn zone(variable: Option<&str>, default_file: &str) -> Result<Zone, Error> {
         Settings {
             variable: variable.map(OsStr::new),
-            folder: folder(),
-            default_file: &folder().join(default_file),
+            folder: data(),
+            default_file: &data().join(default_file),
         }
         .zone()
     }
@@ -127,7 +179,7 @@ mod tests {
 
     #[test]
     fn a_variable_names_a_file_or_tells_a_rule() {
-        let absolute = folder().join(NEW_YORK);
+        let absolute = data().join(NEW_YORK);
         let absolute = absolute.to_str().unwrap();
         for name in [NEW_YORK, absolute, &format!(":{NEW_YORK}")] {
             assert_eq!(zone(Some(name), "none"), Ok(new_york()), "{name}");
@@ -150,8 +202,8 @@ mod tests {
         use std::os::unix::ffi::OsStrExt;
         let settings = Settings {
             variable: Some(OsStr::from_bytes(b"\xff")),
-            folder: folder(),
-            default_file: &folder().join(NEW_YORK),
+            folder: data(),
+            default_file: &data().join(NEW_YORK),
         };
         assert_eq!(settings.zone(), Err(Error::InvalidZone));
     }
