@@ -1,4 +1,3 @@
 -- Fast paths.
 pub mod FastHeaders
 pub mod CanonicalBytes
-pub mod FastRests

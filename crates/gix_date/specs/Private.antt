@@ -4,7 +4,6 @@ pub mod Views
 pub mod RelativeScan
 pub mod RelativePairs
 pub mod RelativeFields
-pub mod FastRests
 pub mod Civil
 pub mod Steps
 pub mod Names

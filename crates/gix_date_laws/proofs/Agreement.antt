@@ -26,7 +26,6 @@ use Rattle.gix_date.specs.Fields.Offsets.{read_sign, offset_fields, offset_of, o
 use Rattle.gix_date.specs.Git.Clock.{at_most, digits_at_most, clock_of_fields, clock_of_parts, clock_with_colons, clock_without_colons, trimmed_clock, git_clock}
 use Rattle.gix_date.specs.Git.ClockCut.{is_sign, last_space, clock_cut}
 use Rattle.gix_date.specs.Git.Forms.{without_colons, offset_of_digits, is_within_a_day, git_offset, git_time, git_form, git_front, dotted_front, compact_front, flexible_front, read_marked_date, read_compact_date, time_with_rest, time_of_cut}
-use Rattle.gix_date.specs.Private.FastRests.{IsUsualOffset, is_clock_byte, skip_any}
 use Rattle.gix_date.specs.Text.Characters.{space, minus, colon, letter_t, is_space, is_dot, is_colon, has_colon}
 use Rattle.gix_date.specs.Text.Numbers.{read_two_digits, read_field, read_year}
 use Rattle.gix_date.specs.Fields.Layout.{LocalClock}
@@ -47,7 +46,7 @@ use Rattle.gix_date.proofs.Text.FirstWords.{AreVisible, is_visible, visible_stay
 use Rattle.gix_date.proofs.Fields.Instants.{join}
 use Rattle.gix_date.proofs.Fields.Layouts.{dates_spelled}
 use Rattle.gix_date.proofs.Fast.FastHeaders.{sign-taken, same_some}
-use Rattle.gix_date.proofs.Fast.FastRests.{digit-byte, digit-no-colon, all-imply, pair-then, pair-last, clock-ascii, mark-sign, mark-no-z, IsOffsetText, offset-taken, gap-at, cut-after-space, cut-by-sign, cut-at-a-sign, is_no_space, byte-is-no-space, all-append}
+use Rattle.gix_date_laws.proofs.GitCuts.{IsUsualOffset, is_clock_byte, skip_any, digit-byte, digit-no-colon, all-imply, pair-then, pair-last, clock-ascii, mark-sign, mark-no-z, IsOffsetText, offset-taken, gap-at, cut-after-space, cut-by-sign, cut-at-a-sign, is_no_space, byte-is-no-space, all-append}
 use Rattle.gix_date.proofs.Relative.QuietDates.{year-digits}
 use Rattle.gix_date.proofs.Families.Ranges.{near}
 use Rattle.gix_date.proofs.Text.ShortDigits.{value-more}

@@ -2,6 +2,7 @@ mod AroundTexts
 mod RawHeaders
 mod GitClocks
 mod GitOffsets
+mod GitCuts
 mod GitGrammar
 mod RelativeGrammar
 mod LetterCase

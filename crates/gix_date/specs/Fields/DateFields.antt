@@ -7,7 +7,7 @@ use Rattle.gix_date.specs.Fields.ClockNumbers.{max_second}
 use Rattle.gix_date.specs.Text.Characters.{is_space, comma, minus, colon}
 use Rattle.gix_date.specs.Fields.Civil.{read_date}
 use Rattle.gix_date.specs.Fields.Front.{ReadFront, skip_char, ◌>>=◌}
-use Rattle.gix_date.specs.Text.Numbers.{read_field}
+use Rattle.gix_date.specs.Text.Numbers.{read_two_digits, read_field}
 use Rattle.gix_date.specs.Text.Names.{is_name, day_names, month_names}
 use Rattle.gix_date.specs.declared.civil.ClockFields.{ClockFields}
 use Rattle.gix_date.specs.declared.civil.DateFields.{DateFields}
@@ -55,6 +55,16 @@ skip_day_name text = do
 -- `YYYY-M-D`
 unfoldable pub read_plain_date : List ℕ → ReadFront DateFields
 read_plain_date text = read_date read_field (skip_char minus) text
+
+-- `HH:MM:SS`, two digits each
+unfoldable pub read_colon_clock : List ℕ → ReadFront ClockFields
+read_colon_clock text = do
+  hour ← read_two_digits text
+  rest ← skip_char colon hour.1
+  minute ← read_two_digits rest
+  rest ← skip_char colon minute.1
+  second ← read_two_digits rest
+  Some (record { hour = hour.0; minute = minute.0; second = second.0 }, second.1)
 
 -- a second of 60 is read as 59
 abbrev pub without_leap_second : ℕ → ℕ

@@ -10,6 +10,7 @@ use Rattle.gix_date.specs.Fields.Front.{ReadFront, skip_char, ◌>>=◌}
 use Rattle.gix_date.specs.Git.Clock.{git_clock}
 use Rattle.gix_date.specs.Text.Numbers.{two_digit_value, read_two_digits}
 use Rattle.gix_date.specs.Fields.Offsets.{read_sign, offset_by}
+use Rattle.gix_date.specs.declared.civil.ClockFields.{ClockFields}
 use Rattle.gix_date.specs.declared.civil.DateFields.{DateFields}
 use Rattle.gix_date.specs.declared.parsing.offset.OffsetFields.{OffsetFields}
 use Rattle.gix_date.specs.declared.parsing.offset.Sign.{Sign}
@@ -50,13 +51,18 @@ read_marked_date mark text = read_date read_two_digits (skip_char mark) text
 unfoldable pub read_compact_date : List ℕ → ReadFront DateFields
 read_compact_date text = read_date read_two_digits Some text
 
+-- the time of a date and a clock at an offset
+abbrev pub time_at : DateFields → ClockFields → ℤ → Option Time
+time_at date clock offset = do
+  seconds ← civil_instant date clock offset
+  Some (record { seconds = seconds; offset = offset })
+
 -- the time of a date and of what its clock and its offset are cut into
 unfoldable pub time_of_cut : DateFields → Cut → Option Time
 time_of_cut date cut = do
   clock ← git_clock cut.0
   offset ← git_offset cut.1
-  seconds ← civil_instant date clock offset
-  Some (record { seconds = seconds; offset = offset })
+  time_at date clock offset
 
 -- the time of a date and of the text after it
 abbrev pub time_with_rest : DateFields → List ℕ → Option Time

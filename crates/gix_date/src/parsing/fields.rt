@@ -1,10 +1,10 @@
 //! Helpers shared by the readers of fields, which read a field off the front of a `&str`.
 ghost use Rattle.std.specs.Prelude.{◌≡◌, ◌<◌, IfSome, option_copied};
 ghost use Rattle.gix_date.specs.Text.Characters.{has_colon};
+ghost use Rattle.gix_date.specs.Fields.DateFields.{read_colon_clock};
 ghost use Rattle.gix_date.specs.Fields.Front.{skip_char};
 ghost use Rattle.gix_date.specs.Git.Forms.{read_marked_date};
 ghost use Rattle.gix_date.specs.Private.Civil.{ClockFits, DateFits};
-ghost use Rattle.gix_date.specs.Private.FastRests.{read_colon_clock};
 ghost use Rattle.gix_date.specs.Private.Views.{read_view};
 
 use crate::civil::{ClockFields, DateFields};
@@ -53,7 +53,7 @@ pub(crate) fn read_marked_date(mark: char, text: &str) -> Option<(DateFields, &s
 }
 
 /// `HH:MM:SS` at the front, matched at once.
-#[tactic(auto, unfolding(crate::specs::Computing::computing, crate::specs::Private::FastRests::read_colon_clock))]
+#[tactic(auto, unfolding(crate::specs::Computing::computing, crate::specs::Fields::DateFields::read_colon_clock))]
 #[inline(always)]
 pub(crate) fn read_colon_clock(text: &str) -> Option<(ClockFields, &str)>
     ensures value { read_view result ≡ read_colon_clock text.now }

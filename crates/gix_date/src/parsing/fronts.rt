@@ -5,10 +5,9 @@ ghost use Rattle.gix_date.specs.Private.Careful.{IsRestOf};
 
 use crate::civil::is_date;
 use crate::parsing::fields::skip_char;
-use crate::parsing::git::fast::skip_digits;
 use crate::parsing::git::offset::parse_git_offset;
 use crate::parsing::git::read_front;
-use crate::parsing::numbers::{read_field, read_two_digits, read_year};
+use crate::parsing::numbers::{read_field, read_two_digits, read_year, skip_digits};
 use crate::parsing::patterns::fields::{
     read_clock, read_month, read_plain_date, skip_spaces, skip_weekday,
 };

@@ -4,23 +4,20 @@ ghost use Rattle.jiff.specs.Words.{IsOffsetSeconds};
 ghost use Rattle.std.specs.Str.{trim};
 ghost use Rattle.gix_date.specs.Careful.Dates.{is_whole_clock, is_whole_git, unzoned_git_time};
 ghost use Rattle.gix_date.specs.Private.Civil.{ClockFits, DateFits};
-ghost use Rattle.gix_date.specs.Private.FastRests.{time_at};
 ghost use Rattle.gix_date.specs.Private.Views.{read_view};
-ghost use Rattle.gix_date.specs.Git.Forms.{read_compact_date, time_with_rest, time_of_cut, dotted_front, compact_front, flexible_front, git_front, git_time};
+ghost use Rattle.gix_date.specs.Git.Forms.{read_compact_date, time_at, time_of_cut, dotted_front, compact_front, flexible_front, git_front, git_time};
 
 use crate::civil::{ClockFields, DateFields, civil_instant};
 use crate::parsing::fields::{read_marked_date, skip_char};
 use crate::parsing::fronts::skip_git_clock;
 use crate::parsing::git::clock::parse_clock;
 use crate::parsing::git::cut::clock_cut;
-use crate::parsing::git::fast::fast_rest;
-use crate::parsing::git::offset::{parse_git_offset, seconds_within_a_day};
+use crate::parsing::git::offset::parse_git_offset;
 use crate::parsing::numbers::{read_two_digits, read_year};
 use crate::time::{OffsetInSeconds, Time};
 
 mod clock;
 mod cut;
-pub(crate) mod fast;
 pub(crate) mod offset;
 
 /// Reads a date in one of Git's own forms, with white space round it or none:
@@ -36,7 +33,8 @@ pub(crate) fn parse_git_date_format(input: &str) -> Option<Time>
     ensures offset_fits { IfSome result (λ t. IsOffsetSeconds t.offset) }
 {
     let (date, rest) = read_front(trimmed(input))?;
-    parse_rest(date, rest)
+    let (clock, offset) = clock_cut(trimmed(rest));
+    parse_cut(date, clock, offset)
 }
 
 /// A date in one of Git's own forms, and how much of it is written.
@@ -142,25 +140,8 @@ fn read_flexible_front(text: &str) -> Option<(DateFields, &str)>
     Some((date, rest))
 }
 
-/// The time of a date, and of a clock and an offset that stand after it.
-fn parse_rest(date: DateFields, rest: &str) -> Option<Time>
-    requires { DateFits date }
-    ensures time { result ≡ time_with_rest date rest.now }
-    ensures offset_fits { IfSome result (λ t. IsOffsetSeconds t.offset) }
-{
-    let rest = trimmed(rest);
-    if let Some((clock, fields)) = fast_rest(rest) {
-        let Some(offset) = seconds_within_a_day(fields) else {
-            return None;
-        };
-        return time_at(date, clock, offset);
-    }
-    let (clock, offset) = clock_cut(rest);
-    parse_cut(date, clock, offset)
-}
-
 /// The time of a date, a clock and an offset.
-#[tactic(auto, unfolding(crate::specs::Git::Forms::time_of_cut, crate::specs::Private::FastRests::time_at))]
+#[tactic(auto, unfolding(crate::specs::Git::Forms::time_of_cut))]
 fn parse_cut(date: DateFields, clock: &str, offset: &str) -> Option<Time>
     requires { DateFits date }
     ensures time { result ≡ time_of_cut date (clock.now, offset.now) }
@@ -172,7 +153,6 @@ fn parse_cut(date: DateFields, clock: &str, offset: &str) -> Option<Time>
 }
 
 /// The time of a date and a clock at an offset.
-#[tactic(auto, unfolding(crate::specs::Private::FastRests::time_at))]
 fn time_at(date: DateFields, clock: ClockFields, offset: OffsetInSeconds) -> Option<Time>
     requires date { DateFits date }
     requires clock { ClockFits clock }

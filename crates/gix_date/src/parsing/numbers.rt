@@ -2,7 +2,7 @@
 //!
 //! A `read_` function takes the front of a text, and gives the value and the rest; a `parse_` function takes a whole
 //! text, or the bytes of one field.
-ghost use Rattle.std.specs.Prelude.{◌≡◌, ◌<◌, ◌≤◌, ◌^◌, [], ◌∷◌, IfSome, Some, length, take_while, true};
+ghost use Rattle.std.specs.Prelude.{◌≡◌, ◌<◌, ◌≤◌, ◌^◌, [], ◌∷◌, IfSome, Some, drop, length, take_while, true};
 ghost use Rattle.std.specs.List.{prefix_len, list_all};
 ghost use Rattle.std.specs.Char.{is_ascii_digit};
 ghost use Rattle.std.specs.Str.{all_ascii_digits};
@@ -112,6 +112,13 @@ pub(crate) fn leading_digits(word: &str) -> &str
     ensures { result.now ≡ take_while is_ascii_digit word.now }
 {
     &word[..leading_digits_len(word)]
+}
+
+/// What stands after the digits that a text begins with.
+pub(crate) fn skip_digits(text: &str) -> &str
+    ensures { result.now ≡ drop (prefix_len is_ascii_digit text.now) text.now }
+{
+    &text[leading_digits_len(text)..]
 }
 
 fn leading_digits_len(word: &str) -> usize

@@ -26,7 +26,7 @@ pub(crate) fn parse_git_offset(text: &str) -> Option<OffsetInSeconds>
 
 /// The offset in seconds, where it is of less than a day.
 #[inline(always)]
-pub(crate) fn seconds_within_a_day(fields: OffsetFields) -> Option<OffsetInSeconds>
+fn seconds_within_a_day(fields: OffsetFields) -> Option<OffsetInSeconds>
     requires { fields.seconds ≡ None }
     ensures value { result ≡ offset_by is_within_a_day fields }
     ensures offset_fits { IfSome result IsOffsetSeconds }

@@ -172,7 +172,7 @@ fn without_leap_second(second: u8) -> u8
 }
 
 /// An hour, a minute and a second, nearly always of two digits each. In RFC 2822 the second may be left out.
-#[tactic(auto, unfolding(crate::specs::Computing::computing, crate::specs::Private::FastRests::read_colon_clock))]
+#[tactic(auto, unfolding(crate::specs::Computing::computing, crate::specs::Fields::DateFields::read_colon_clock))]
 #[inline(always)]
 pub(crate) fn read_clock(is_mail: bool, text: &str) -> Option<(ClockFields, &str)>
     ensures value { read_view result ≡ (if is_mail then read_mail_clock text.now else read_clock text.now) }
