@@ -8,7 +8,7 @@ use Rattle.jiff_core.specs.declared.civil.date.Date.{Date}
 use Rattle.gix_date.specs.Families.Epoch.{utc_time}
 use Rattle.gix_date.specs.Printing.LocalClocks.{clock_of, date_of_day, local_day, second_of_day}
 use Rattle.gix_date.proofs.Printing.LocalClocks.{date-of-day}
-use Rattle.gix_date.specs.Printing.Zoned.{is_instant, first_second, last_second}
+use Rattle.gix_date.specs.Fields.Zoned.{is_instant, first_second, last_second}
 use Rattle.gix_date.proofs.Fields.Instants.{instant_holds, join, z_holds}
 use Rattle.git_date.specs.Dates.{utc_clock, shown_clock}
 use Rattle.git_date.specs.declared.clocks.UtcClock.{UtcClock}

@@ -9,9 +9,9 @@ use Rattle.gix_date.specs.Fields.Layout.{LocalDate, LocalTime}
 use Rattle.gix_date.specs.Families.Epoch.{utc_time}
 use Rattle.gix_date.specs.Families.Patterns.{midnight}
 use Rattle.gix_date.specs.Fields.ClockNumbers.{seconds_per_minute, seconds_per_hour, seconds_per_day}
-use Rattle.gix_date.specs.Fields.Front.{◌>>=◌}
+use Rattle.gix_date.specs.Text.Front.{◌>>=◌}
 use Rattle.gix_date.specs.Printing.LocalClocks.{clock_of}
-use Rattle.gix_date.specs.Printing.Zoned.{is_instant, whole_seconds}
+use Rattle.gix_date.specs.Fields.Zoned.{is_instant, whole_seconds}
 use Rattle.git_date.specs.Fields.{with_date}
 use Rattle.git_date.specs.Numbers.{numbers_of_32_bits}
 use Rattle.git_date.specs.declared.fields.Fields.{Fields}

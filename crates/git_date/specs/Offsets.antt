@@ -2,7 +2,7 @@
 use Rattle.std.specs.Prelude.{ℕ, ◌+◌, ◌*◌, ◌/◌, ◌%◌, Bool, true, false, not, ◌&&◌, ◌||◌, List, [], ◌∷◌, length, ℤ, pos, neg_ℤ, ◌+ℤ◌, negsuc, ◌==◌, nat_le, nat_lt, if◌then◌else◌, Option, Some, None, Result, Ok, Err, is_some, option_map}
 use Rattle.std.specs.Int.Signed.{le_z}
 use Rattle.gix_date.specs.Text.Characters.{space, plus, minus, colon, at_sign}
-use Rattle.gix_date.specs.Fields.Front.{◌>>=◌}
+use Rattle.gix_date.specs.Text.Front.{◌>>=◌}
 use Rattle.git_date.specs.Tokens.{Token, Digits, Mark, bytes_left, is_end}
 use Rattle.git_date.specs.Numbers.{number, is_too_large}
 use Rattle.git_date.specs.Groups.{ReadTokens}

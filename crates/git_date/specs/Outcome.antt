@@ -5,7 +5,7 @@ use Rattle.jiff.specs.Types.{TimeZone}
 use Rattle.jiff_core.specs.Calendar.{IsBetween}
 use Rattle.gix_date.specs.Careful.Dates.{IsLocalIfAny}
 use Rattle.gix_date.specs.Families.Epoch.{utc_time}
-use Rattle.gix_date.specs.Printing.Zoned.{is_instant, first_second, last_second}
+use Rattle.gix_date.specs.Fields.Zoned.{is_instant, first_second, last_second}
 use Rattle.gix_date.specs.declared.time.Time.{Time}
 use Rattle.git_date.specs.declared.reader.Said.{Said}
 use Rattle.git_date.specs.declared.date.ReadDate.{ReadDate}

@@ -2,7 +2,7 @@
 use Rattle.std.specs.Prelude.{ℕ, ◌-◌, zero, suc, Bool, true, false, List, [], ◌∷◌, length, ℤ, pos, ◌==◌, if◌then◌else◌, Option, Some, None, Result, Ok, Err, option_map}
 use Rattle.std.specs.Option.{option_or}
 use Rattle.gix_date.specs.Text.Characters.{plus, minus}
-use Rattle.gix_date.specs.Printing.Zoned.{is_instant}
+use Rattle.gix_date.specs.Fields.Zoned.{is_instant}
 use Rattle.git_date.specs.Tokens.{Token, Letters, Digits, Mark, tokens, bytes_left, is_end}
 use Rattle.git_date.specs.Fields.{unknown}
 use Rattle.git_date.specs.Words.{letters_rule, without_ending}

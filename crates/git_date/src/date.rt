@@ -1,6 +1,6 @@
 //! The public call.
 ghost use Rattle.std.specs.Prelude.{◌≡◌, true};
-ghost use Rattle.gix_date.specs.Printing.Zoned.{is_instant};
+ghost use Rattle.gix_date.specs.Fields.Zoned.{is_instant};
 ghost use Rattle.gix_date.specs.Relative.Steps.{zone_of};
 ghost use Rattle.git_date.specs.Dates.{now_of};
 ghost use Rattle.git_date.specs.Outcome.{instant_seconds, date_at, DateOutcome, InZone, SaidIsInstant, IsMinutes};

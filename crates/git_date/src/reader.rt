@@ -1,6 +1,6 @@
 //! The reader: one token after the other, and what the whole text says.
 ghost use Rattle.std.specs.Prelude.{◌≡◌, ◌≤◌, length, IfOk, Option, List, ℕ};
-ghost use Rattle.gix_date.specs.Printing.Zoned.{is_instant};
+ghost use Rattle.gix_date.specs.Fields.Zoned.{is_instant};
 ghost use Rattle.git_date.specs.Tokens.{tokens, token_of};
 ghost use Rattle.git_date.specs.Reading.{sign_rule, mark_rule, rule, reading_of, read_on, place_in, error_of, at_said, fields_said, said_by, ended};
 ghost use Rattle.git_date.specs.Outcome.{SaidIsInstant};

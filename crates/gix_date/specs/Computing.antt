@@ -7,7 +7,7 @@ use Rattle.gix_date.specs.Fields.Civil.{civil_instant}
 use Rattle.gix_date.specs.Git.ClockCut.{clock_cut, cut_at_z, cut_at_space, cut_at_sign, last_space, last_sign}
 use Rattle.gix_date.specs.Families.Epoch.{at_time, epoch_time}
 use Rattle.gix_date.specs.Families.Order.{first_family_by}
-use Rattle.gix_date.specs.Fields.Front.{skip_char}
+use Rattle.gix_date.specs.Text.Front.{skip_char}
 use Rattle.gix_date.specs.Git.Forms.{git_time, git_form, git_offset, git_front, dotted_front, compact_front, flexible_front, time_of_cut, read_marked_date, read_compact_date}
 use Rattle.gix_date.specs.Git.Clock.{git_clock, trimmed_clock, clock_with_colons, clock_without_colons, read_pair_or_end, digits_at_most}
 use Rattle.gix_date.specs.Header.Reading.{header_time, time_of_words, header_seconds, header_offset}

@@ -2,5 +2,4 @@
 pub mod StreamState
 pub mod Device
 pub mod Lending
-pub mod TimeBuf
 pub mod InputBytes

@@ -7,3 +7,4 @@ pub mod Order
 pub mod Shapes
 pub mod Laws
 pub mod Grammars
+pub mod AfterDay

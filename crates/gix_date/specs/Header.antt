@@ -3,3 +3,5 @@ pub mod Text
 pub mod Reading
 pub mod Canonical
 pub mod Laws
+pub mod TimeBuf
+pub mod CanonicalBytes

@@ -7,6 +7,5 @@ pub mod Families
 pub mod Printing
 pub mod Careful
 pub mod Devices
-pub mod Private
 pub mod Values
 pub mod Computing

@@ -1,5 +1,4 @@
--- Times as values of `jiff`, and as texts.
-pub mod Zoned
+-- Times as texts: what each format prints, and what is parsed back.
 pub mod LocalClocks
 pub mod Formats
 pub mod NamedTexts

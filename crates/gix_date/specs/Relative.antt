@@ -5,3 +5,6 @@ pub mod Steps
 pub mod Dates
 pub mod FixedZones
 pub mod Pairs
+pub mod LocalFields
+pub mod PairsRead
+pub mod Scan

@@ -4,3 +4,4 @@ pub mod Names
 pub mod Numbers
 pub mod SpaceWords
 pub mod Places
+pub mod Front

@@ -1,9 +1,8 @@
 //! Dates and clocks as texts say them, and the instants that they are.
 ghost use Rattle.std.specs.Prelude.{◌≡◌, pos};
 ghost use Rattle.jiff.specs.Words.{IsOffsetSeconds};
-ghost use Rattle.gix_date.specs.Fields.Civil.{is_date, civil_instant};
+ghost use Rattle.gix_date.specs.Fields.Civil.{is_date, civil_instant, DateFits, ClockFits};
 ghost use Rattle.gix_date.specs.Families.Patterns.{midnight};
-ghost use Rattle.gix_date.specs.Private.Civil.{DateFits, ClockFits};
 
 use crate::time::{OffsetInSeconds, SecondsSinceUnixEpoch};
 use jiff::Timestamp;

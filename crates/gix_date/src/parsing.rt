@@ -6,7 +6,7 @@ ghost use Rattle.std.specs.Borrow.{sem};
 ghost use Rattle.gix_date.specs.declared.error.Error.TheVariants.{OffsetTooWide};
 ghost use Rattle.gix_date.specs.Header.Text.{GivesText, text_left};
 ghost use Rattle.gix_date.specs.Devices.Lending.{LeavesText};
-ghost use Rattle.gix_date.specs.Devices.TimeBuf.{text_in, HoldsText};
+ghost use Rattle.gix_date.specs.Header.TimeBuf.{text_in, HoldsText};
 
 use crate::error::Error;
 pub use crate::parsing::dates::parse_no_alloc;

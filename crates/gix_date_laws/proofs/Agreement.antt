@@ -21,16 +21,14 @@ use Rattle.gix_date.specs.Fields.Civil.{civil_instant}
 use Rattle.gix_date.specs.Fields.DateFields.{read_plain_date, without_leap_second}
 use Rattle.gix_date.specs.Fields.DateOffsets.{is_jiff_offset, jiff_offset, compact_offset, strict_offset, last_colon_pair}
 use Rattle.gix_date.specs.Fields.FieldTexts.{IsDigit, IsField, IsYear, AreSpaces, IsPlainDate, IsClock}
-use Rattle.gix_date.specs.Fields.Front.{ReadFront, skip_char, ◌>>=◌}
-use Rattle.gix_date.specs.Fields.Offsets.{read_sign, offset_fields, offset_of, offset_by, last_pair}
+use Rattle.gix_date.specs.Text.Front.{ReadFront, skip_char, ◌>>=◌}
+use Rattle.gix_date.specs.Fields.Offsets.{read_sign, offset_fields, offset_of, offset_by, last_pair, SignedPairs, OffsetSign}
 use Rattle.gix_date.specs.Git.Clock.{at_most, digits_at_most, clock_of_fields, clock_of_parts, clock_with_colons, clock_without_colons, trimmed_clock, git_clock}
 use Rattle.gix_date.specs.Git.ClockCut.{is_sign, last_space, clock_cut}
 use Rattle.gix_date.specs.Git.Forms.{without_colons, offset_of_digits, is_within_a_day, git_offset, git_time, git_form, git_front, dotted_front, compact_front, flexible_front, read_marked_date, read_compact_date, time_with_rest, time_of_cut}
 use Rattle.gix_date.specs.Text.Characters.{space, minus, colon, letter_t, is_space, is_dot, is_colon, has_colon}
 use Rattle.gix_date.specs.Text.Numbers.{read_two_digits, read_field, read_year}
-use Rattle.gix_date.specs.Fields.Layout.{LocalClock}
-use Rattle.gix_date.specs.Fields.Layout.{LocalDate}
-use Rattle.gix_date.specs.Private.Types.{SignedPairs, OffsetSign}
+use Rattle.gix_date.specs.Fields.Layout.{LocalClock, LocalDate}
 use Rattle.gix_date.specs.declared.time.Time.{Time}
 use Rattle.gix_date.proofs.Families.Apart.{no_pair}
 use Rattle.gix_date.proofs.Text.AsciiCuts.{ascii-by}

@@ -9,12 +9,11 @@ use Rattle.gix_date.specs.Families.Answer.{Absolute, Relative}
 use Rattle.gix_date.specs.Families.Order.{first_family_by}
 use Rattle.gix_date.specs.Families.Raw.{OffsetRule}
 use Rattle.gix_date.specs.Git.Forms.{git_time}
-use Rattle.gix_date.specs.Private.RelativePairs.{pairs_from}
-use Rattle.gix_date.specs.Private.RelativeScan.{step, verdict}
-use Rattle.gix_date.specs.Private.Types.{PeriodUnit}
+use Rattle.gix_date.specs.Relative.PairsRead.{pairs_from}
+use Rattle.gix_date.specs.Relative.Scan.{step, verdict}
+use Rattle.gix_date.specs.Relative.Words.{PeriodUnit, relative_words, is_gap, is_ago, unit_or_seconds, count_of}
 use Rattle.gix_date.specs.Relative.Dates.{RelativeDate, MinusPairs, relative_date}
 use Rattle.gix_date.specs.Relative.Roles.{are_pairs, pairs}
-use Rattle.gix_date.specs.Relative.Words.{relative_words, is_gap, is_ago, unit_or_seconds, count_of}
 use Rattle.gix_date.specs.declared.time.Time.{Time}
 use Rattle.gix_date.proofs.Families.Disjoint.{none-unless}
 use Rattle.gix_date.proofs.Relative.QuietWords.{one-run-word}

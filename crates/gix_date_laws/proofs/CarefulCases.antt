@@ -5,7 +5,7 @@ use Rattle.std.specs.Prelude.{is_some, is_none, ◌||◌, ◌&&◌, not}
 use Rattle.std.specs.Result.{result_map_both}
 use Rattle.std.specs.Str.{trim, IsUtf8}
 use Rattle.jiff.specs.Words.{nanos_of_seconds}
-use Rattle.gix_date.specs.Printing.Zoned.{time_in}
+use Rattle.gix_date.specs.Fields.Zoned.{time_in}
 use Rattle.jiff.specs.declared.zoned.Zoned.{Zoned}
 use Rattle.gix_date.specs.Careful.Dates.{is_whole_clock, is_whole_git, unzoned_day, unzoned_git_time, unzoned_time}
 use Rattle.gix_date.specs.Careful.Fronts.{longest_front}

@@ -7,7 +7,8 @@ use Rattle.std.specs.Option.{is_some, option_map}
 use Rattle.std.specs.Prelude.{◌&&◌, not, is_none, codes}
 use Rattle.std.specs.Str.{all_ascii_digits}
 use Rattle.gix_date.specs.Careful.Texts.{is_and, is_plain_count}
-use Rattle.gix_date.specs.Families.Grammars.{AreDigits, IsInt}
+use Rattle.gix_date.specs.Fields.FieldTexts.{AreDigits}
+use Rattle.gix_date.specs.Families.Grammars.{IsInt}
 use Rattle.gix_date.specs.Relative.Dates.{named_date}
 use Rattle.gix_date.specs.Relative.Roles.{has_unit, is_count_word}
 use Rattle.gix_date.specs.Relative.Words.{count_of, is_ago, named_count, number_named, unit_of, singular, named_unit}

@@ -10,10 +10,9 @@ use Rattle.gix_date.specs.Families.Answer.{FamilyAnswer, Absolute, OffsetAboveDa
 use Rattle.gix_date.specs.Families.Order.{first_family_by}
 use Rattle.gix_date.specs.Families.Raw.{OffsetRule, allows}
 use Rattle.gix_date.specs.Git.Forms.{git_time}
-use Rattle.gix_date.specs.Private.Types.{PeriodUnit}
+use Rattle.gix_date.specs.Relative.Words.{PeriodUnit, relative_words}
 use Rattle.gix_date.specs.Relative.Dates.{MinusSeconds, MinusPairs}
 use Rattle.gix_date.specs.Relative.Roles.{pairs}
-use Rattle.gix_date.specs.Relative.Words.{relative_words}
 use Rattle.gix_date.specs.declared.parsing.careful.CarefulOptions.{CarefulOptions}
 use Rattle.gix_date.specs.declared.parsing.careful.Texts.{Texts}
 use Rattle.gix_date.specs.declared.parsing.careful.Texts.TheVariants.{Careful}

@@ -16,9 +16,8 @@ use Rattle.gix_date.specs.Families.Answer.{Absolute}
 use Rattle.gix_date.specs.Families.Order.{first_family_by}
 use Rattle.gix_date.specs.Families.Raw.{allows, is_raw_offset}
 use Rattle.gix_date.specs.Git.Forms.{git_time}
-use Rattle.gix_date.specs.Printing.Zoned.{is_instant, time_in}
-use Rattle.gix_date.specs.Private.Steps.{ChooseAlike}
-use Rattle.gix_date.specs.Relative.Steps.{zone_of, IsPicked}
+use Rattle.gix_date.specs.Fields.Zoned.{is_instant, time_in}
+use Rattle.gix_date.specs.Relative.Steps.{ChooseAlike, zone_of, IsPicked}
 use Rattle.gix_date.specs.declared.error.CarefulError.{CarefulError}
 use Rattle.gix_date.specs.declared.error.CarefulError.TheVariants as errors
 use Rattle.gix_date.specs.declared.parsing.careful.CarefulOptions.{CarefulOptions}

@@ -8,14 +8,12 @@ use Rattle.std.specs.Char.{is_ascii_alphanumeric, is_ascii_digit, to_ascii_lower
 use Rattle.std.specs.List.{list_all, slice_split, onto_first}
 use Rattle.std.specs.Prelude.{◌&&◌, ◌==◌}
 use Rattle.std.specs.Str.{trim, all_ascii_digits}
-use Rattle.gix_date.specs.Families.Grammars.{IsPair as AreTwoDigits}
-use Rattle.gix_date.specs.Fields.FieldTexts.{IsYear}
+use Rattle.gix_date.specs.Fields.FieldTexts.{IsPair as AreTwoDigits, IsYear}
 use Rattle.gix_date.specs.Fields.Layout.{LocalDate}
 use Rattle.gix_date.specs.Git.Forms.{git_time}
 use Rattle.gix_date.specs.Git.Grammar.{IsGitDate, IsGitFront}
-use Rattle.gix_date.specs.Private.Types.{PeriodUnit}
+use Rattle.gix_date.specs.Relative.Words.{PeriodUnit, relative_words, is_gap}
 use Rattle.gix_date.specs.Relative.Roles.{has_unit}
-use Rattle.gix_date.specs.Relative.Words.{relative_words, is_gap}
 use Rattle.gix_date.specs.Text.Characters.{dot, minus, letter_t}
 use Rattle.gix_date.specs.Text.Names.{named_in}
 use Rattle.gix_date.specs.Text.SpaceWords.{is_nonempty}

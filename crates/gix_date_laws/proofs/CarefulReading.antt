@@ -12,11 +12,11 @@ use Rattle.gix_date.specs.Families.Answer.{FamilyAnswer, Absolute, NoInstant}
 use Rattle.gix_date.specs.Families.Epoch.{utc_time}
 use Rattle.gix_date.specs.Families.Order.{first_family_by, ParseNoAllocOutcome, Short}
 use Rattle.gix_date.specs.Families.Patterns.{midnight, day_answer, real_day_answer, short_answer}
-use Rattle.gix_date.specs.Private.AfterDay.{answer_after}
+use Rattle.gix_date.specs.Families.AfterDay.{answer_after}
 use Rattle.gix_date.specs.Families.Raw.{OffsetRule, is_raw_offset}
 use Rattle.gix_date.specs.Fields.Civil.{is_date, civil_instant}
 use Rattle.gix_date.specs.Fields.DateFields.{read_plain_date}
-use Rattle.gix_date.specs.Fields.Front.{◌>>=◌}
+use Rattle.gix_date.specs.Text.Front.{◌>>=◌}
 use Rattle.gix_date.specs.Fields.Layout.{LocalDate, LocalTime, nothing_read, read_pieces}
 use Rattle.gix_date.specs.Git.ClockCut.{clock_cut}
 use Rattle.gix_date.specs.Git.Clock.{git_clock}

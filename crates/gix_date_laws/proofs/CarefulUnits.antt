@@ -6,8 +6,7 @@ use Rattle.std.proofs.lemmas.List.{length-append}
 use Rattle.std.proofs.Math.Seq.{take-append_seam, get_or-append_seam}
 use Rattle.std.specs.List.{list_any}
 use Rattle.std.specs.Prelude.{◌==◌, ◌||◌}
-use Rattle.gix_date.specs.Private.Types.{PeriodUnit}
-use Rattle.gix_date.specs.Relative.Words.{singular, named_unit, unit_of, unit_names}
+use Rattle.gix_date.specs.Relative.Words.{PeriodUnit, singular, named_unit, unit_of, unit_names}
 use Rattle.gix_date.specs.Text.Characters.{small_s, letter_s}
 use Rattle.gix_date.specs.Text.Names.{is_name, named_in}
 use Rattle.gix_date.proofs.Relative.QuietWords.{like-unit, lower-same, lower-singular, named-any, names_of, without_s}

@@ -4,9 +4,8 @@ use Rattle.std.proofs.lemmas.Bool.{and_parts as both, or_cases}
 use Rattle.std.specs.Option.{is_some}
 use Rattle.std.specs.Prelude.{◌&&◌, ◌||◌}
 use Rattle.gix_date.specs.Careful.Texts.{is_and, is_plain_count, may_follow}
-use Rattle.gix_date.specs.Private.Types.{PeriodUnit}
+use Rattle.gix_date.specs.Relative.Words.{PeriodUnit, is_ago, unit_of}
 use Rattle.gix_date.specs.Relative.Roles.{has_unit}
-use Rattle.gix_date.specs.Relative.Words.{is_ago, unit_of}
 use Rattle.gix_date.specs.Careful.Grammar.{IsUnitName, IsCountAndUnit, GoesOn, ArePairsAgo}
 use Rattle.gix_date_laws.proofs.CarefulPieces.{chain}
 use Rattle.gix_date_laws.proofs.CarefulCounts.{some-of, count-plain, plain-count, count-no-unit, count-no-and, count-no-ago, and-no-count, and-no-unit, and-no-ago, ago-no-count, ago-no-unit, ago-no-and, unit-no-count, unit-no-and, unit-no-ago}

@@ -13,12 +13,11 @@ use Rattle.gix_date.specs.Families.Patterns.{short_answer, rfc2822_answer, iso86
 use Rattle.gix_date.specs.Families.Raw.{OffsetRule}
 use Rattle.gix_date.specs.Fields.DateFields.{skip_spaces, read_name, month_named, is_weekday, read_month, skip_weekday, skip_day_name, read_plain_date, read_minutes, read_second, read_clock, read_mail_clock}
 use Rattle.gix_date.specs.Fields.DateOffsets.{compact_offset, last_colon_pair, strict_offset, jiff_offset, named_zone, mail_offset, mail_zone}
-use Rattle.gix_date.specs.Fields.Front.{ReadFront, skip_char, ◌>>=◌}
+use Rattle.gix_date.specs.Text.Front.{ReadFront, skip_char, ◌>>=◌}
 use Rattle.gix_date.specs.Fields.Layout.{LocalClock, LocalTime, Piece, DayName, MailDayName, MonthName, Day, Year, PlainDate, Clock, MailClock, Spaces, LetterT, Offset, ColonOffset, MailOffset, read_piece, read_pieces, nothing_read, layout_answer}
-use Rattle.gix_date.specs.Fields.Offsets.{read_sign, last_pair, offset_fields}
+use Rattle.gix_date.specs.Fields.Offsets.{read_sign, last_pair, offset_fields, SignedPairs, OffsetSign}
 use Rattle.gix_date.specs.Text.Characters.{is_space, comma, minus, colon, plus}
 use Rattle.gix_date.specs.Text.Numbers.{two_digit_value, read_two_digits, read_digit, read_field, read_year}
-use Rattle.gix_date.specs.Private.Types.{SignedPairs, OffsetSign}
 use Rattle.gix_date.proofs.Relative.QuietWords.{like-name}
 use Rattle.gix_date_laws.proofs.LetterCase.{low, low-twice, low-digit, digit-stays}
 

@@ -6,8 +6,8 @@ use Rattle.std.specs.List.{list_all, slice_split, before_first}
 use Rattle.std.specs.Prelude.{◌&&◌, nat_lt}
 use Rattle.std.specs.Str.{trim, all_ascii_digits}
 use Rattle.std.specs.Str.Parse.{digits_value}
-use Rattle.gix_date.specs.Families.Grammars.{IsPair}
-use Rattle.gix_date.specs.Fields.Front.{◌>>=◌}
+use Rattle.gix_date.specs.Fields.FieldTexts.{IsPair}
+use Rattle.gix_date.specs.Text.Front.{◌>>=◌}
 use Rattle.gix_date.specs.Fields.Layout.{LocalClock}
 use Rattle.gix_date.specs.Git.Clock.{at_most, digits_at_most, clock_of_fields, clock_of_parts, clock_with_colons, clock_without_colons, read_pair_or_end, trimmed_clock, git_clock}
 use Rattle.gix_date.specs.Git.Grammar.{IsUpTo, AreClockParts, AreClockPairs, IsGitClock}

@@ -12,15 +12,13 @@ use Rattle.std.specs.List.{list_all, slice_split, onto_first}
 use Rattle.std.specs.Option.{option_or}
 use Rattle.std.specs.Prelude.{◌==◌, ◌&&◌, ◌||◌, nat_lt, not, codes, slice_index, unwrap_or}
 use Rattle.std.specs.Str.{trim, bytes_eq}
-use Rattle.gix_date.specs.Families.Grammars.{IsSign}
-use Rattle.gix_date.specs.Fields.FieldTexts.{IsDigit}
-use Rattle.gix_date.specs.Fields.Front.{ReadFront, skip_char, ◌>>=◌}
+use Rattle.gix_date.specs.Fields.FieldTexts.{IsSign, IsDigit}
+use Rattle.gix_date.specs.Text.Front.{ReadFront, skip_char, ◌>>=◌}
 use Rattle.gix_date.specs.Git.ClockCut.{is_sign, has_offset_at, trimmed_after, last_space, last_sign, cut_at_z, cut_at_space, cut_at_sign, clock_cut}
-use Rattle.gix_date.specs.Fields.Offsets.{read_sign, offset_by}
+use Rattle.gix_date.specs.Fields.Offsets.{read_sign, offset_by, SignedPairs as OffsetFields, OffsetSign as Sign}
 use Rattle.gix_date.specs.Git.Forms.{without_colons, fields_of, offset_of_digits, is_within_a_day, git_offset}
 use Rattle.gix_date.specs.Text.Characters.{space, plus, minus, colon, letter_z, is_colon}
 use Rattle.gix_date.specs.Text.Numbers.{two_digit_value, read_two_digits}
-use Rattle.gix_date.specs.Private.Types.{SignedPairs as OffsetFields, OffsetSign as Sign}
 use Rattle.gix_date.proofs.Text.AsciiCuts.{ascii-by}
 use Rattle.gix_date.proofs.Git.ClockCuts.{z_none, space_none, space_found, sign_found}
 use Rattle.gix_date.proofs.Fields.FieldsTaken.{two-taken, after-taken}

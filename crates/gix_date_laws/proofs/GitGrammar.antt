@@ -4,11 +4,10 @@ use Rattle.std.proofs.lemmas.Bool.Decides.{nat_tests}
 use Rattle.std.specs.Option.{option_or}
 use Rattle.std.specs.Prelude.{◌==◌}
 use Rattle.std.specs.Str.{trim}
-use Rattle.gix_date.specs.Families.Grammars.{IsPair}
+use Rattle.gix_date.specs.Fields.FieldTexts.{IsPair, IsYear}
 use Rattle.gix_date.specs.Families.Patterns.{Accepts}
 use Rattle.gix_date.specs.Fields.Civil.{civil_instant, read_date}
-use Rattle.gix_date.specs.Fields.FieldTexts.{IsYear}
-use Rattle.gix_date.specs.Fields.Front.{skip_char, ◌>>=◌}
+use Rattle.gix_date.specs.Text.Front.{skip_char, ◌>>=◌}
 use Rattle.gix_date.specs.Git.Clock.{git_clock}
 use Rattle.gix_date.specs.Git.ClockCut.{clock_cut}
 use Rattle.gix_date.specs.Git.Forms.{git_offset, git_time, git_form, git_front, dotted_front, compact_front, flexible_front, read_marked_date, read_compact_date, time_with_rest, time_of_cut}

@@ -6,12 +6,11 @@ use Rattle.std.proofs.lemmas.Slice.Eq.{bytes_eq-Decides}
 use Rattle.std.specs.Char.{is_ascii_digit}
 use Rattle.std.specs.Prelude.{◌==◌, ◌||◌, ◌&&◌, nat_le, codes}
 use Rattle.std.specs.Str.{bytes_eq}
-use Rattle.gix_date.specs.Families.Grammars.{IsPair, IsSign}
-use Rattle.gix_date.specs.Fields.Front.{◌>>=◌}
-use Rattle.gix_date.specs.Fields.Offsets.{read_sign, offset_of, offset_by}
+use Rattle.gix_date.specs.Fields.FieldTexts.{IsPair, IsSign}
+use Rattle.gix_date.specs.Text.Front.{◌>>=◌}
+use Rattle.gix_date.specs.Fields.Offsets.{read_sign, offset_of, offset_by, SignedPairs, OffsetSign}
 use Rattle.gix_date.specs.Git.Forms.{git_offset, offset_of_digits, fields_of, without_colons, is_within_a_day}
 use Rattle.gix_date.specs.Git.Grammar.{IsGitOffset, IsSignedOffset}
-use Rattle.gix_date.specs.Private.Types.{SignedPairs, OffsetSign}
 use Rattle.gix_date.specs.Text.Characters.{letter_z}
 use Rattle.gix_date.specs.Text.Numbers.{two_digit_value}
 use Rattle.gix_date.proofs.Fast.FastHeaders.{same_some, sign-taken}

@@ -9,14 +9,14 @@ use Rattle.std.specs.Prelude.{◌==◌, ◌&&◌, nat_lt}
 use Rattle.std.specs.Str.{all_ascii_digits}
 use Rattle.std.specs.Str.Parse.{digits_value, signed_digits_value, without_leading_sign}
 use Rattle.gix_date.specs.Families.Epoch.{at_time, epoch_time, utc_time, min_bare_epoch}
-use Rattle.gix_date.specs.Families.Grammars.{AreDigits, IsInt, IsPair, IsSign, AreOffsetFields, IsRawText, IsEpochText, IsAtText}
+use Rattle.gix_date.specs.Fields.FieldTexts.{AreDigits, IsPair, IsSign}
+use Rattle.gix_date.specs.Families.Grammars.{IsInt, AreOffsetFields, IsRawText, IsEpochText, IsAtText}
 use Rattle.gix_date.specs.Families.Patterns.{Accepts}
 use Rattle.gix_date.specs.Families.Raw.{OffsetRule, raw_time_by, raw_offset_by}
-use Rattle.gix_date.specs.Fields.Front.{skip_char, ◌>>=◌}
-use Rattle.gix_date.specs.Fields.Offsets.{read_sign, last_pair, offset_fields}
+use Rattle.gix_date.specs.Text.Front.{skip_char, ◌>>=◌}
+use Rattle.gix_date.specs.Fields.Offsets.{read_sign, last_pair, offset_fields, SignedPairs, OffsetSign}
 use Rattle.gix_date.specs.Text.Characters.{at_sign, plus, minus}
 use Rattle.gix_date.specs.Text.Numbers.{fits_i64, int_value, read_two_digits}
-use Rattle.gix_date.specs.Private.Types.{SignedPairs, OffsetSign}
 use Rattle.gix_date.specs.declared.time.Time.{Time}
 use Rattle.gix_date.proofs.Families.Disjoint.{raw-words}
 use Rattle.gix_date.proofs.Families.Shapes.{int-no-raw}

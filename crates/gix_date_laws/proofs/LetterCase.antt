@@ -16,14 +16,13 @@ use Rattle.gix_date.specs.Families.Answer.{Relative}
 use Rattle.gix_date.specs.Families.Laws.{IgnoresCase}
 use Rattle.gix_date.specs.Families.Order.{RelativeText}
 use Rattle.gix_date.specs.Families.Raw.{OffsetRule}
-use Rattle.gix_date.specs.Private.RelativePairs.{pairs_from}
-use Rattle.gix_date.specs.Private.RelativeScan.{step, verdict}
+use Rattle.gix_date.specs.Relative.PairsRead.{pairs_from}
+use Rattle.gix_date.specs.Relative.Scan.{step, verdict, WordScan}
 use Rattle.gix_date.specs.Relative.Dates.{RelativeDate, MinusPairs, named_date, pairs_date, relative_date}
 use Rattle.gix_date.specs.Relative.Roles.{are_pairs, pairs, is_count_word}
-use Rattle.gix_date.specs.Relative.Words.{relative_words, is_gap, singular, unit_of, named_unit, unit_or_seconds, count_of, named_count, number_named}
+use Rattle.gix_date.specs.Relative.Words.{relative_words, is_gap, singular, unit_of, named_unit, unit_or_seconds, count_of, named_count, number_named, PeriodUnit}
 use Rattle.gix_date.specs.Text.Numbers.{int_value}
 use Rattle.gix_date.specs.Text.SpaceWords.{is_nonempty}
-use Rattle.gix_date.specs.Private.Types.{WordScan, PeriodUnit}
 use Rattle.gix_date.proofs.Text.FirstWords.{skip-scalars}
 use Rattle.gix_date.proofs.Fields.Instants.{join}
 use Rattle.gix_date.proofs.Relative.QuietWords.{same_class, like-ago, like-name, like-unit, like-singular, lower-singular, without_s}

@@ -13,7 +13,7 @@ use Rattle.gix_date.specs.Fields.Civil.{civil_instant}
 use Rattle.gix_date.specs.Git.ClockCut.{clock_cut, cut_at_z, cut_at_space, cut_at_sign, last_space, last_sign}
 use Rattle.gix_date.specs.Families.Order.{Family, Iso8601, Iso8601Strict, GitForm, RelativeText}
 use Rattle.gix_date.specs.Families.Laws.{Overlap, AreOverlapping}
-use Rattle.gix_date.specs.Fields.Front.{skip_char}
+use Rattle.gix_date.specs.Text.Front.{skip_char}
 use Rattle.gix_date.specs.Git.Forms.{git_time, git_form, git_front, dotted_front, compact_front, flexible_front, read_marked_date, read_compact_date, time_of_cut, git_offset}
 use Rattle.gix_date.specs.Git.Clock.{git_clock, trimmed_clock, clock_with_colons, clock_without_colons, read_pair_or_end, digits_at_most}
 use Rattle.gix_date.specs.Text.Numbers.{int_value, read_two_digits, read_digit, read_field, read_year}

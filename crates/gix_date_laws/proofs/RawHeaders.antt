@@ -13,7 +13,7 @@ use Rattle.std.specs.Str.{chars}
 use Rattle.gix_date.specs.Families.Answer.{Absolute}
 use Rattle.gix_date.specs.Families.Order.{first_family_by}
 use Rattle.gix_date.specs.Families.Raw.{OffsetRule, allows, raw_time_by, raw_offset_by}
-use Rattle.gix_date.specs.Fields.Front.{◌>>=◌}
+use Rattle.gix_date.specs.Text.Front.{◌>>=◌}
 use Rattle.gix_date.specs.Fields.Offsets.{offset_fields, offset_of, offset_by}
 use Rattle.gix_date.specs.Header.Canonical.{is_canonical_header}
 use Rattle.gix_date.specs.Header.Reading.{header_time}

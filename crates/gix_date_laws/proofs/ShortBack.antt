@@ -12,12 +12,11 @@ use Rattle.gix_date.specs.Families.Patterns.{real_day_answer, day_answer, midnig
 use Rattle.gix_date.specs.Families.Raw.{OffsetRule}
 use Rattle.gix_date.specs.Fields.Civil.{is_date, is_clock, civil_seconds, civil_instant}
 use Rattle.gix_date.specs.Fields.FieldTexts.{date_text}
-use Rattle.gix_date.specs.Fields.Layout.{LocalTime}
+use Rattle.gix_date.specs.Fields.Layout.{LocalTime, LocalDate}
 use Rattle.gix_date.specs.Printing.LocalClocks.{clock_of, local_day, HasFourDigitFields}
 use Rattle.gix_date.specs.Printing.NamedTexts.{local_time, short_text, ShowsFourDigitFields}
 use Rattle.gix_date.specs.Printing.ReadingBack.{midnight_of, day_read_back}
-use Rattle.gix_date.specs.Printing.Zoned.{IsConvertible, is_instant}
-use Rattle.gix_date.specs.Fields.Layout.{LocalDate}
+use Rattle.gix_date.specs.Fields.Zoned.{IsConvertible, is_instant}
 use Rattle.gix_date.specs.declared.time.Time.{Time}
 use Rattle.gix_date.proofs.Fields.Instants.{date_from}
 use Rattle.gix_date.proofs.Fields.Layouts.{dates_spelled}

@@ -3,7 +3,7 @@ use Rattle.std.proofs.Common.{◌≡◌, ◌∙◌, ◌↔◌, ℕ, cond, List, 
 use Rattle.std.specs.Str.{trim}
 use Rattle.gix_date.specs.Careful.Dates.{unzoned_git_time}
 use Rattle.gix_date.specs.Fields.Civil.{civil_instant}
-use Rattle.gix_date.specs.Fields.Front.{◌>>=◌}
+use Rattle.gix_date.specs.Text.Front.{◌>>=◌}
 use Rattle.gix_date.specs.Fields.Layout.{LocalDate}
 use Rattle.gix_date.specs.Git.Clock.{git_clock}
 use Rattle.gix_date.specs.Git.ClockCut.{Cut, clock_cut}

@@ -12,7 +12,7 @@ use Rattle.gix_date.specs.Careful.Dates.{takes_all, is_whole_clock}
 use Rattle.gix_date.specs.Careful.Fronts.{left_by, skip_number, skip_marked, skip_bare_fraction, skip_git_clock}
 use Rattle.gix_date.specs.Careful.Grammar.{AreSomeDigits, MayGoOn, IsWholeClock}
 use Rattle.gix_date.specs.Careful.Laws.{IsWholeSo}
-use Rattle.gix_date.specs.Fields.Front.{skip_char, ◌>>=◌}
+use Rattle.gix_date.specs.Text.Front.{skip_char, ◌>>=◌}
 use Rattle.gix_date.specs.Text.Characters.{colon, dot}
 use Rattle.gix_date.specs.Text.Numbers.{read_two_digits}
 use Rattle.gix_date.proofs.Fields.FieldsTaken.{went, guard, after-taken, two-taken}

@@ -9,12 +9,11 @@ use Rattle.gix_date.specs.Text.Characters.{at_sign}
 use Rattle.gix_date.specs.Families.Epoch.{at_time, utc_time}
 use Rattle.gix_date.specs.Families.Order.{Family, AtText, Short, Rfc2822, Iso8601, Iso8601Strict, Gitoxide, GitDefault, BareEpoch, GitForm, RelativeText, RawText, family_answer, family_answers, first_answer_of, first_family_by}
 use Rattle.gix_date.specs.Families.Laws.{Holds, IsWidened, overlap}
-use Rattle.gix_date.specs.Fields.Front.{skip_char, ◌>>=◌}
+use Rattle.gix_date.specs.Text.Front.{skip_char, ◌>>=◌}
 use Rattle.gix_date.specs.Text.Numbers.{int_value}
-use Rattle.gix_date.specs.Fields.Offsets.{offset_fields, offset_of}
+use Rattle.gix_date.specs.Fields.Offsets.{offset_fields, offset_of, SignedPairs}
 use Rattle.gix_date.specs.Families.Raw.{OffsetRule, is_raw_offset, is_wide_offset, raw_time_by, raw_offset_by}
 use Rattle.gix_date.specs.Text.SpaceWords.{space_words, first_words}
-use Rattle.gix_date.specs.Private.Types.{SignedPairs}
 use Rattle.gix_date.specs.declared.time.Time.{Time}
 use Rattle.gix_date.proofs.Families.Disjoint.{none-unless, raw-words}
 use Rattle.gix_date.proofs.Families.Exclusive.{are-exclusive, place, differ}

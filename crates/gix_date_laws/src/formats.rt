@@ -6,7 +6,7 @@ ghost use Rattle.jiff.specs.Words.{plain_zoned};
 ghost use Rattle.jiff.specs.declared.zoned.Zoned.{Zoned as Moment};
 ghost use Rattle.gix_date.specs.Printing.LocalClocks.{clock_of, HasFourDigitFields};
 ghost use Rattle.gix_date.specs.Printing.ReadingBack.{ShortReadsAsMidnight};
-ghost use Rattle.gix_date.specs.Printing.Zoned.{IsMoment, IsConvertible};
+ghost use Rattle.gix_date.specs.Fields.Zoned.{IsMoment, IsConvertible};
 ghost use Rattle.gix_date.specs.Printing.PrintedTimes.{IsPrintedAs};
 ghost use Rattle.gix_date.specs.Printing.NamedTexts.{local_time, ShowsFourDigitFields, short_pattern, short_text, rfc2822_pattern, rfc2822_text, git_rfc2822_pattern, git_rfc2822_text, iso8601_pattern, iso8601_text, iso8601_strict_pattern, iso8601_strict_text, gitoxide_pattern, gitoxide_text, default_pattern, default_text};
 

@@ -1,5 +1,6 @@
 //! Laws of commit headers: which come back, and which times are written alike.
-ghost use Rattle.gix_date.specs.Header.Laws.{RawIsHeader, HeaderIsParsed};
+ghost use Rattle.gix_date.specs.Families.Laws.{RawIsHeader};
+ghost use Rattle.gix_date.specs.Printing.ReadingBack.{HeaderIsParsed};
 ghost use Rattle.gix_date.specs.Families.Raw.{allows};
 
 use gix_date::RawOffsets;

@@ -4,7 +4,7 @@ ghost use Rattle.gix_date.specs.Families.Epoch.{min_bare_epoch};
 ghost use Rattle.gix_date.specs.Header.Text.{header_text, hundred_hours, max_text_len};
 ghost use Rattle.gix_date.specs.Families.Raw.{max_raw_hours, max_wide_hours, max_wide_minutes};
 ghost use Rattle.gix_date.specs.Text.SpaceWords.{StdWhiteSpaceIsUnicodes};
-ghost use Rattle.gix_date.specs.Devices.TimeBuf.{text_in};
+ghost use Rattle.gix_date.specs.Header.TimeBuf.{text_in};
 ghost use Rattle.gix_date.specs.Families.Patterns.{max_date_offset};
 ghost use Rattle.gix_date.specs.Values.{ComparesParts, AgreesWith, IsEquality, FeedsParts, FeedsAlike};
 

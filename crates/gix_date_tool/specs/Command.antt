@@ -7,7 +7,7 @@ use Rattle.gix_date.specs.Families.Answer.{FamilyAnswer, Absolute, OffsetAboveDa
 use Rattle.gix_date.specs.Families.Answer as answers
 use Rattle.gix_date.specs.Families.Order.{first_family, first_family_by}
 use Rattle.gix_date.specs.Families.Raw.{is_wide_offset}
-use Rattle.gix_date.specs.Printing.Zoned.{is_convertible, IsConvertible}
+use Rattle.gix_date.specs.Fields.Zoned.{is_convertible, IsConvertible}
 use Rattle.gix_date.specs.declared.time.Time.{Time}
 use Rattle.gix_date_tool.specs.declared.arguments.Mode.{Mode}
 use Rattle.gix_date_tool.specs.declared.arguments.NoMoment.{NoMoment}

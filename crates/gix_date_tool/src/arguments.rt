@@ -3,7 +3,7 @@ ghost use Rattle.std.specs.Prelude.{◌≡◌, IfOk, IfSome, Ok, map, string_byt
 ghost use Rattle.std.specs.Option.{ForSome};
 ghost use Rattle.gix_date.specs.Families.Order.{first_family_by};
 ghost use Rattle.gix_date.specs.Families.Raw.{is_wide_offset};
-ghost use Rattle.gix_date.specs.Printing.Zoned.{IsConvertible};
+ghost use Rattle.gix_date.specs.Fields.Zoned.{IsConvertible};
 ghost use Rattle.gix_date_tool.specs.Messages.{no_moment_words};
 ghost use Rattle.gix_date_tool.specs.Command.{command_of, moment_or_why, why_unread, IsRequest, IsRunnable};
 

@@ -1,7 +1,7 @@
 //! A run over the lines of a stream, each replied to in turn.
 ghost use Rattle.std.specs.Prelude.{◌≡◌};
 ghost use Rattle.std.specs.Option.{ForSome};
-ghost use Rattle.gix_date.specs.Printing.Zoned.{IsConvertible};
+ghost use Rattle.gix_date.specs.Fields.Zoned.{IsConvertible};
 ghost use Rattle.gix_date_tool.specs.Run.{Runs, change, IsMomentOf, is_unwritten};
 
 use crate::arguments::Mode;

@@ -21,7 +21,7 @@ pub(crate) struct SignedLine<'a> {
 
 impl<'a> Model for SignedLine<'a> {
     ghost use Rattle.std.specs.Prelude.{ℕ, List};
-    ghost use Rattle.gix_date.specs.Devices.TimeBuf.{text_in};
+    ghost use Rattle.gix_date.specs.Header.TimeBuf.{text_in};
     ghost use Rattle.gix_signature.specs.Signature.{line_of};
 
     ghost Value = { List ℕ };

@@ -11,14 +11,16 @@ pub use Rattle.gix_date.specs.Computing.{computing}
 pub use Rattle.gix_date.specs.Devices.Device.{inner_of, fault_of}
 pub use Rattle.gix_date.specs.Families.Epoch.{at_time, epoch_time, utc_time, min_bare_epoch}
 pub use Rattle.gix_date.specs.Families.Order.{first_family, ParseNoAllocOutcome, ParseOutcome, WithCopy, RefusesWithCopy, Family, families, family_answer, RefusesDate, answers_before_git, RefusesUnknown, first_family_by}
-pub use Rattle.gix_date.specs.Families.Laws.{Agree, AnswersHaveText, AnswersWithinDay, AreApart, HasOneOutcome, IgnoresCase, IgnoresSpace, Holds, overlap, AreExclusive, AreOverlapping, Overlap, AreDisjoint, ComesFirst, IgnoresMoment, IsWidened}
+pub use Rattle.gix_date.specs.Families.Laws.{Agree, AnswersHaveText, AnswersWithinDay, AreApart, HasOneOutcome, IgnoresCase, IgnoresSpace, Holds, overlap, AreExclusive, AreOverlapping, Overlap, AreDisjoint, ComesFirst, IgnoresMoment, IsWidened, RawIsHeader}
 pub use Rattle.gix_date.specs.Relative.FixedZones.{NamesSum, IgnoresOrder, NamesNoneLater, IsSecondsPair, IsMonthsPair, less_seconds, less_months, total, Names, NamesAlike, IsSecondsBefore, NamesBefore, earlier, NamesEarlier}
 pub use Rattle.gix_date.specs.Relative.Pairs.{AreFreeByParity, ArePairs, IsRelativeText, IsSpelledSo}
-pub use Rattle.gix_date.specs.Families.Grammars.{AreDigits, IsInt, IsPair, IsSign, AreOffsetFields, IsRawText, IsEpochText, IsAtText}
+pub use Rattle.gix_date.specs.Fields.FieldTexts.{AreDigits, IsPair, IsSign}
+pub use Rattle.gix_date.specs.Families.Grammars.{IsInt, AreOffsetFields, IsRawText, IsEpochText, IsAtText}
 pub use Rattle.gix_date.specs.Git.Cuts.{IsCut}
 pub use Rattle.gix_date.specs.Git.Grammar.{IsGitDate, IsGitFront, IsGitClock, IsGitOffset, IsGitText}
 pub use Rattle.gix_date.specs.Git.Forms.{git_time}
-pub use Rattle.gix_date.specs.Header.Laws.{RawIsHeader, HeaderIsParsed, CanonicalIffUnchanged, ComesBack, RoundTripsThroughHeader, AreWrittenAlike, AreAlike}
+pub use Rattle.gix_date.specs.Printing.ReadingBack.{HeaderIsParsed, TimesRoundTrip, HeaderRoundTrips, SecondsRoundTrip, ShortReadsAsMidnight, RoundTripsByEach, RoundTripsBy, RoundTrips, IsRawOffset, HasClock, RoundTripsAs, RoundTripsByPattern, IsWideOffset, IsRuleOffset, midnight_of, day_read_back}
+pub use Rattle.gix_date.specs.Header.Laws.{CanonicalIffUnchanged, ComesBack, RoundTripsThroughHeader, AreWrittenAlike, AreAlike}
 pub use Rattle.gix_date.specs.Header.Reading.{header_time, ReadsHeader}
 pub use Rattle.gix_date.specs.Header.Text.{header_text, written_text, is_header_text_of, Writes, GivesText, text_left, max_text_len, hundred_hours}
 pub use Rattle.gix_date.specs.Devices.InputBytes.{shown_text}
@@ -33,11 +35,10 @@ pub use Rattle.gix_date.specs.Families.Patterns.{Accepts, IsMeaning, time_answer
 pub use Rattle.gix_date.specs.Printing.Formats.{Prints, PrintsSeconds, PrintsHeader, PrintsPattern, PrintsOrSeconds, HasNoText, HasNoPatternText, PrintsPatternOrSeconds, IsShown, AtMoment}
 pub use Rattle.gix_date.specs.Printing.PrintedTimes.{IsPrintedAs, PrintsText}
 pub use Rattle.gix_date.specs.Families.Raw.{raw_time, raw_time_by, max_raw_hours, OffsetRule, is_raw_offset, is_wide_offset, allows, max_wide_hours, max_wide_minutes}
-pub use Rattle.gix_date.specs.Printing.ReadingBack.{TimesRoundTrip, HeaderRoundTrips, SecondsRoundTrip, ShortReadsAsMidnight, RoundTripsByEach, RoundTripsBy, RoundTrips, IsRawOffset, HasClock, RoundTripsAs, RoundTripsByPattern, IsWideOffset, IsRuleOffset, midnight_of, day_read_back}
 pub use Rattle.gix_date.specs.Relative.Dates.{AreNamedOnce, AreConvertible, relative_date, RelativeDate, MinusSeconds, MinusPairs, RelativeOutcome, IsNamed, Reaches}
 pub use Rattle.gix_date.specs.Relative.Steps.{zone_of, Resolves, Chain, SecondsStep, MonthsStep, IsPicked}
 pub use Rattle.gix_date.specs.Families.Shapes.{shape_of, shape_families, IsDispatched, row_families, IsInItsRow}
 pub use Rattle.gix_date.specs.Text.SpaceWords.{StdWhiteSpaceIsUnicodes, white_space}
-pub use Rattle.gix_date.specs.Devices.TimeBuf.{text_in, HoldsText}
-pub use Rattle.gix_date.specs.Printing.Zoned.{time_in, time_in_utc, is_instant, IsConvertible, IsMoment}
+pub use Rattle.gix_date.specs.Header.TimeBuf.{text_in, HoldsText}
+pub use Rattle.gix_date.specs.Fields.Zoned.{time_in, time_in_utc, is_instant, IsConvertible, IsMoment}
 pub use Rattle.jiff.specs.Words.{plain_zone, plain_zoned, IsOffsetSeconds, IsFixed}

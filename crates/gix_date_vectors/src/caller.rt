@@ -8,7 +8,7 @@ ghost use Rattle.gix_date.specs.Header.Text.{Writes, hundred_hours};
 ghost use Rattle.gix_date.specs.Printing.LocalClocks.{HasFourDigitFields};
 ghost use Rattle.gix_date.specs.Printing.NamedTexts.{iso8601_text};
 ghost use Rattle.gix_date.specs.Printing.PrintedTimes.{PrintsText};
-ghost use Rattle.gix_date.specs.Printing.Zoned.{IsConvertible, IsMoment, time_in, time_in_utc};
+ghost use Rattle.gix_date.specs.Fields.Zoned.{IsConvertible, IsMoment, time_in, time_in_utc};
 ghost use Rattle.gix_date.specs.declared.error.Error.TheVariants.{Conversion, InvalidTime};
 ghost use Rattle.gix_date.specs.declared.time.Time.{Time as Read};
 ghost use Rattle.jiff.specs.Words.{plain_zone};

@@ -12,8 +12,8 @@ ghost use Rattle.gix_date.specs.Printing.Formats.{PrintsOrSeconds, PrintsPattern
 ghost use Rattle.gix_date.specs.Families.Raw.{is_wide_offset, raw_time, raw_time_by};
 ghost use Rattle.gix_date.specs.Printing.ReadingBack.{RoundTrips, IsWideOffset, HasClock};
 ghost use Rattle.gix_date.specs.Relative.Dates.{RelativeDate, relative_date};
-ghost use Rattle.gix_date.specs.Devices.TimeBuf.{text_in};
-ghost use Rattle.gix_date.specs.Printing.Zoned.{IsConvertible, is_instant, time_in, time_in_utc};
+ghost use Rattle.gix_date.specs.Header.TimeBuf.{text_in};
+ghost use Rattle.gix_date.specs.Fields.Zoned.{IsConvertible, is_instant, time_in, time_in_utc};
 ghost use Rattle.gix_date.specs.declared.error.Error.TheVariants.{Memory, OffsetTooWide, Range};
 ghost use Rattle.gix_date.specs.declared.time.Time.{Time as Read};
 ghost use Rattle.gix_date.specs.declared.time.format.Format.TheVariants.{Custom};

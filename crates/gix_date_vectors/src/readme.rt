@@ -1,6 +1,6 @@
 //! The example of README.md, as it stands there.
 ghost use Rattle.std.specs.Prelude.{◌≡◌, ◌↔◌, true, Some, Ok, IsOkAnd};
-ghost use Rattle.gix_date.specs.Devices.TimeBuf.{text_in};
+ghost use Rattle.gix_date.specs.Header.TimeBuf.{text_in};
 ghost use Rattle.gix_date.specs.Families.Raw.{raw_time};
 ghost use Rattle.gix_date.specs.Header.Canonical.{is_canonical_header};
 ghost use Rattle.gix_date.specs.declared.time.Time.{Time as Read};

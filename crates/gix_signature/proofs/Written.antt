@@ -6,7 +6,8 @@ use Rattle.std.specs.Fmt.{decimal}
 use Rattle.std.specs.Prelude.{if◌then◌else◌, nat_lt, int_lt}
 use Rattle.gix_date.specs.Text.Characters.{space, plus, minus}
 use Rattle.gix_date.specs.Header.Reading.{header_time}
-use Rattle.gix_date.specs.Header.Text.{header_text, compact_offset_text}
+use Rattle.gix_date.specs.Header.Text.{header_text}
+use Rattle.gix_date.specs.Fields.Offsets.{compact_offset_text}
 use Rattle.gix_date.specs.Devices.StreamState.{StreamState, Takes}
 use Rattle.gix_date.specs.Text.Numbers.{decimal_text, two_digits}
 use Rattle.gix_date.specs.declared.time.Time.{Time}

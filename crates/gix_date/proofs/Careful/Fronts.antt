@@ -1,16 +1,14 @@
 -- What is left of a text where a form stops is its end, so that the text may be cut there.
-use Rattle.std.proofs.Common.{◌≡◌, ◌∙◌, ℕ, ℤ, Bool, true, false, cond, List, [], ◌∷◌, ◌++◌, refl, ap, sym, subst, append-nil, append_assoc, Option, Some, None, option_map, inl, inr}
+use Rattle.std.proofs.Common.{◌≡◌, ◌∙◌, ℕ, ℤ, Bool, true, false, cond, List, [], ◌∷◌, ◌++◌, refl, ap, sym, subst, append-nil, append_assoc, Option, Some, None, option_map, inl, inr, take-append-drop}
 use Rattle.std.specs.Char.{is_ascii_digit}
 use Rattle.std.specs.List.{prefix_len}
 use Rattle.std.specs.Prelude.{drop, take, is_some, unwrap_or}
-use Rattle.std.proofs.Common.{take-append-drop}
-use Rattle.gix_date.specs.Careful.Fronts.{Part, left_by, perhaps, taken_by, skip_number, skip_marked, skip_day, skip_clock, skip_named_day, skip_offset, skip_git_day, skip_bare_fraction, skip_git_clock, git_parts, iso8601_parts, strict_parts, rfc2822_parts, gitoxide_parts, default_parts}
+use Rattle.gix_date.specs.Careful.Fronts.{Part, left_by, perhaps, taken_by, skip_number, skip_marked, skip_day, skip_clock, skip_named_day, skip_offset, skip_git_day, skip_bare_fraction, skip_git_clock, git_parts, iso8601_parts, strict_parts, rfc2822_parts, gitoxide_parts, default_parts, IsRestOf}
 use Rattle.gix_date.specs.Fields.Civil.{is_date, is_clock}
 use Rattle.gix_date.specs.Fields.DateFields.{skip_spaces, skip_weekday, skip_day_name, read_month, read_plain_date, read_clock, read_mail_clock}
-use Rattle.gix_date.specs.Fields.Front.{ReadFront, skip_char, ◌>>=◌}
+use Rattle.gix_date.specs.Text.Front.{ReadFront, skip_char, ◌>>=◌}
 use Rattle.gix_date.specs.Fields.Layout.{LocalDate, LocalClock}
 use Rattle.gix_date.specs.Git.Forms.{git_front}
-use Rattle.gix_date.specs.Private.Careful.{IsRestOf}
 use Rattle.gix_date.specs.Text.Characters.{colon, dot}
 use Rattle.gix_date.specs.Text.Numbers.{read_two_digits, read_field, read_year}
 use Rattle.gix_date.proofs.Fields.FieldsTaken.{went, first-or, guard, after-taken, field-taken, two-taken, year-taken, spaces-taken, month-taken, weekday-taken, prefix-taken, date-taken, clock-taken, mail-clock-taken}

@@ -3,7 +3,7 @@ use Rattle.std.proofs.Common.{◌≡◌, ◌∙◌, ℤ, ap₂, sym, subst}
 use Rattle.jiff.specs.Words.{civil_nanos, epoch_day, nanos_of_seconds, offset_at}
 use Rattle.jiff.specs.Types.{TimeZone, DateTime, Date, Time as Clock}
 use Rattle.gix_date.specs.Careful.Dates.{IsLocalTime}
-use Rattle.gix_date.specs.Printing.Zoned.{whole_seconds}
+use Rattle.gix_date.specs.Fields.Zoned.{whole_seconds}
 use Rattle.gix_date.specs.Relative.Steps.{IsPicked, civil_of}
 use Rattle.gix_date.specs.declared.time.Time.{Time}
 use Rattle.gix_date.proofs.Relative.FixedSteps.{civil-shown}

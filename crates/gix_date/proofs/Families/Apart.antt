@@ -9,7 +9,7 @@ use Rattle.gix_date.specs.Families.Answer.{FamilyAnswer, Absolute}
 use Rattle.gix_date.specs.Text.Characters.{at_sign, plus, minus, comma, colon, letter_t, is_space}
 use Rattle.gix_date.specs.Families.Epoch.{at_time, epoch_time}
 use Rattle.gix_date.specs.Fields.FieldTexts.{IsField, IsYear, AreSpaces, IsDayName, IsPlainDate, IsDayPrefix}
-use Rattle.gix_date.specs.Fields.Front.{skip_char, ◌>>=◌}
+use Rattle.gix_date.specs.Text.Front.{skip_char, ◌>>=◌}
 use Rattle.gix_date.specs.Text.Numbers.{fits_i64, int_value, read_two_digits, read_digit, read_field, read_year}
 use Rattle.gix_date.specs.Fields.DateFields.{skip_day_name, skip_spaces, read_name, skip_weekday, read_plain_date, read_clock, read_minutes}
 use Rattle.gix_date.specs.Families.Patterns.{gitoxide_layout, iso8601_layout, time_answer, short_answer, rfc2822_answer, iso8601_answer, iso8601_strict_answer, gitoxide_answer, default_answer}

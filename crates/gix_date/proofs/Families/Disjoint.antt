@@ -8,11 +8,10 @@ use Rattle.std.specs.Str.{all_ascii_digits, trim}
 use Rattle.std.specs.Str.Parse.{without_leading_sign, signed_digits_value}
 use Rattle.gix_date.specs.Text.Characters.{plus, minus, dot, letter_t}
 use Rattle.gix_date.specs.Families.Epoch.{epoch_time}
-use Rattle.gix_date.specs.Fields.FieldTexts.{IsYear, IsDigit}
-use Rattle.gix_date.specs.Fields.Front.{◌>>=◌}
+use Rattle.gix_date.specs.Fields.FieldTexts.{IsYear, IsDigit, IsPair}
+use Rattle.gix_date.specs.Text.Front.{◌>>=◌}
 use Rattle.gix_date.specs.Git.Forms.{git_front, git_form, git_time, time_with_rest}
 use Rattle.gix_date.specs.Git.Grammar.{IsGitDate, IsGitFront}
-use Rattle.gix_date.specs.Families.Grammars.{IsPair}
 use Rattle.gix_date.specs.Families.Laws.{AreDisjoint}
 use Rattle.gix_date.specs.Text.Numbers.{fits_i64, int_value}
 use Rattle.gix_date.specs.Fields.Offsets.{offset_by, offset_fields, offset_of}

@@ -19,14 +19,14 @@ use Rattle.gix_date.specs.Families.Order.{family_answers, first_answer_of, first
 use Rattle.gix_date.specs.Families.Patterns.{short_answer, rfc2822_answer, iso8601_answer, iso8601_strict_answer, gitoxide_answer, default_answer, date_answer, day_answer, midnight, time_answer, max_date_offset, Accepts, IsMeaning}
 use Rattle.gix_date.specs.Families.Raw.{allows, raw_time_by, raw_offset_by}
 use Rattle.gix_date.specs.Fields.Civil.{civil_instant, is_date}
-use Rattle.gix_date.specs.Fields.Front.{skip_char, ◌>>=◌}
+use Rattle.gix_date.specs.Text.Front.{skip_char, ◌>>=◌}
 use Rattle.gix_date.specs.Fields.Layout.{Piece}
 use Rattle.gix_date.specs.Fields.Offsets.{read_sign, offset_fields, offset_of, offset_by, signed}
 use Rattle.gix_date.specs.Git.Clock.{git_clock}
 use Rattle.gix_date.specs.Git.ClockCut.{Cut, clock_cut}
 use Rattle.gix_date.specs.Git.Forms.{without_colons, fields_of, offset_of_digits, is_within_a_day, git_offset, git_time, git_form, git_front, time_of_cut, time_with_rest}
 use Rattle.gix_date.specs.Header.Text.{header_text}
-use Rattle.gix_date.specs.Printing.Zoned.{IsConvertible}
+use Rattle.gix_date.specs.Fields.Zoned.{IsConvertible}
 use Rattle.gix_date.specs.Relative.Dates.{RelativeDate, MinusSeconds, MinusPairs, Reaches, IsNamed, relative_date}
 use Rattle.gix_date.specs.Relative.Steps.{PairStep, Chain, zone_of}
 use Rattle.gix_date.specs.Text.Characters.{at_sign}

@@ -11,7 +11,7 @@ use Rattle.gix_date.specs.Text.Characters.{at_sign, comma, minus, dot, space, is
 use Rattle.gix_date.specs.Families.Order.{AtText, Short, Rfc2822, Iso8601, Iso8601Strict, Gitoxide, GitDefault, BareEpoch, GitForm, RelativeText, RawText, first_family_by}
 use Rattle.gix_date.specs.Fields.DateFields.{is_weekday, read_name, read_plain_date, skip_day_name, skip_weekday}
 use Rattle.gix_date.specs.Fields.FieldTexts.{IsField, IsYear, AreSpaces, IsMonthName, IsDayPrefix}
-use Rattle.gix_date.specs.Fields.Front.{skip_char}
+use Rattle.gix_date.specs.Text.Front.{skip_char}
 use Rattle.gix_date.specs.Text.Numbers.{int_value, read_field}
 use Rattle.gix_date.specs.Families.Patterns.{rfc2822_answer, gitoxide_answer, default_answer}
 use Rattle.gix_date.specs.Families.Epoch.{at_time, epoch_time, min_bare_epoch, utc_time}

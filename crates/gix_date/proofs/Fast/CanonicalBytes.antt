@@ -11,7 +11,7 @@ use Rattle.std.specs.List.{list_all}
 use Rattle.std.specs.Prelude.{◌==◌, ◌&&◌, ◌||◌, not, nat_lt, codes}
 use Rattle.std.specs.Str.{all_ascii_digits, bytes_eq}
 use Rattle.std.specs.Str.Parse.{digits_value}
-use Rattle.gix_date.specs.Fields.Front.{skip_char}
+use Rattle.gix_date.specs.Text.Front.{skip_char}
 use Rattle.gix_date.specs.Fields.Offsets.{offset_fields, read_sign, last_pair}
 use Rattle.gix_date.specs.Header.Canonical.{is_canonical_header, is_canonical_offset, is_decimal_text}
 use Rattle.gix_date.specs.Text.Characters.{space, plus, minus, digit_zero}
@@ -20,7 +20,7 @@ use Rattle.gix_date.proofs.Header.HeaderLaws.{canonical-parts, decimal-test, fal
 use Rattle.gix_date.proofs.Text.Ints.{own}
 use Rattle.gix_date.proofs.Fast.FastHeaders.{int-number}
 use Rattle.gix_date.proofs.Text.ShortDigits.{bare-int}
-use Rattle.gix_date.specs.Private.CanonicalBytes.{are_usual_seconds, are_hours_and_minutes, is_usual_offset}
+use Rattle.gix_date.specs.Header.CanonicalBytes.{are_usual_seconds, are_hours_and_minutes, is_usual_offset}
 
 same-digits : (ds : List ℕ) → list_all is_ascii_digit ds ≡ all_ascii_digits ds
 same-digits [] = refl

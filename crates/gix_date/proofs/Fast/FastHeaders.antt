@@ -10,14 +10,12 @@ use Rattle.std.specs.Str.{chars, NonePass, all_ascii_digits}
 use Rattle.std.specs.Str.Parse.{without_leading_sign, signed_digits_value}
 use Rattle.std.specs.Option.{option_or}
 use Rattle.std.proofs.lemmas.List.Folds.{list_any-append}
-use Rattle.gix_date.specs.Families.Grammars.{IsSign}
+use Rattle.gix_date.specs.Fields.FieldTexts.{IsSign, IsDigit}
 use Rattle.gix_date.specs.Text.Characters.{space, plus, minus, is_colon, has_colon}
-use Rattle.gix_date.specs.Fields.Front.{skip_char, ◌>>=◌}
-use Rattle.gix_date.specs.Fields.FieldTexts.{IsDigit}
+use Rattle.gix_date.specs.Text.Front.{skip_char, ◌>>=◌}
 use Rattle.gix_date.specs.Text.Numbers.{fits_i64, is_int_text, int_value, read_two_digits}
 use Rattle.gix_date.specs.Fields.Offsets.{read_sign, last_pair, offset_fields, offset_of}
-use Rattle.gix_date.specs.Header.Reading.{header_seconds, header_offset, time_of_words, header_time}
-use Rattle.gix_date.specs.Private.Headers.{IsUsualHeader}
+use Rattle.gix_date.specs.Header.Reading.{header_seconds, header_offset, time_of_words, header_time, IsUsualHeader}
 use Rattle.gix_date.specs.declared.parsing.offset.Sign.{Sign}
 use Rattle.gix_date.specs.declared.parsing.offset.Sign.TheVariants.{Plus, Minus}
 use Rattle.gix_date.specs.declared.parsing.offset.OffsetFields.{OffsetFields}

@@ -7,9 +7,9 @@ use Rattle.gix_date.specs.Families.Epoch.{utc_time}
 use Rattle.gix_date.specs.Families.Patterns.{short_answer, iso8601_answer, iso8601_strict_answer, gitoxide_answer, default_answer, real_day_answer, time_answer, midnight}
 use Rattle.gix_date.specs.Fields.Civil.{civil_instant}
 use Rattle.gix_date.specs.Fields.DateFields.{read_plain_date, read_month, skip_spaces, skip_weekday}
-use Rattle.gix_date.specs.Fields.Front.{skip_char, ◌>>=◌}
+use Rattle.gix_date.specs.Text.Front.{skip_char, ◌>>=◌}
 use Rattle.gix_date.specs.Fields.Layout.{Piece, DayName, MonthName, Day, Year, Spaces, Clock, Offset, LetterT, ColonOffset, layout_answer}
-use Rattle.gix_date.specs.Private.AfterDay.{dashed_answer, answer_after, named_day_answer, read_named_day}
+use Rattle.gix_date.specs.Families.AfterDay.{dashed_answer, answer_after, named_day_answer, read_named_day}
 use Rattle.gix_date.specs.Text.Numbers.{read_field}
 use Rattle.gix_date.specs.declared.civil.DateFields.{DateFields}
 use Rattle.gix_date.proofs.Fields.Instants.{is-dated}

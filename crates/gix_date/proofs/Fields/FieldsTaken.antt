@@ -9,7 +9,7 @@ use Rattle.std.specs.List.{prefix_len, list_all}
 use Rattle.std.specs.Option.{option_or}
 use Rattle.gix_date.specs.Text.Characters.{minus, comma, colon, is_space}
 use Rattle.gix_date.specs.Fields.FieldTexts.{IsDigit, IsField, IsYear, AreSpaces, AreThreeLetters, IsDayName, IsMonthName, IsPlainDate, AreMinutes, IsClock, IsMailClock, IsDayPrefix}
-use Rattle.gix_date.specs.Fields.Front.{ReadFront, skip_char, ◌>>=◌}
+use Rattle.gix_date.specs.Text.Front.{ReadFront, skip_char, ◌>>=◌}
 use Rattle.gix_date.specs.Text.Numbers.{read_two_digits, read_digit, read_field, read_year}
 use Rattle.gix_date.specs.Fields.DateFields.{skip_day_name, skip_spaces, read_name, read_month, month_named, is_weekday, skip_weekday, read_plain_date, read_minutes, read_second, read_clock, read_mail_clock, without_leap_second}
 use Rattle.gix_date.specs.declared.civil.ClockFields.{ClockFields}

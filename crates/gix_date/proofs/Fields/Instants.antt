@@ -15,8 +15,7 @@ use Rattle.jiff_core.specs.Timestamp.{IsTimestampNanos, nanos_of_seconds}
 use Rattle.jiff_core.specs.declared.civil.date.Date.{Date}
 use Rattle.jiff_core.specs.declared.civil.datetime.DateTime.{DateTime}
 use Rattle.gix_date.specs.Fields.Civil.{is_date, is_clock, civil_seconds, civil_instant}
-use Rattle.gix_date.specs.Printing.Zoned.{is_instant}
-use Rattle.gix_date.specs.Printing.Zoned.{first_second, last_second}
+use Rattle.gix_date.specs.Fields.Zoned.{is_instant, first_second, last_second}
 use Rattle.gix_date.specs.declared.civil.DateFields.{DateFields}
 use Rattle.gix_date.specs.declared.civil.ClockFields.{ClockFields}
 

@@ -9,7 +9,7 @@ use Rattle.std.specs.Prelude.{◌==◌, ◌&&◌, nat_lt, slice_index, option_ma
 use Rattle.gix_date.specs.Text.Characters.{space, letter_z}
 use Rattle.gix_date.specs.Git.ClockCut.{Cut, last_place, is_sign, has_offset_at, trimmed_after, last_space, last_sign, cut_at_z, cut_at_space, cut_at_space_place, cut_at_sign, clock_cut}
 use Rattle.gix_date.specs.Git.Cuts.{EndsInZ, CutsAtSpace, CutsAtSign, IsCut, at_z, at_space, at_sign, whole}
-use Rattle.gix_date.specs.Fields.Front.{◌>>=◌}
+use Rattle.gix_date.specs.Text.Front.{◌>>=◌}
 use Rattle.gix_date.proofs.Text.LastPlaces.{is_last, last_is}
 
 pub space_none : (u : List ℕ) → None ≡ last_space u → cut_at_space u ≡ None

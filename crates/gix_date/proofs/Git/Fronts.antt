@@ -2,7 +2,7 @@
 use Rattle.std.proofs.Common.{◌≡◌, ◌∙◌, ℕ, List, [], ◌∷◌, ◌++◌, refl, ap, sym, subst, Some, Option, inl, inr, append_assoc}
 use Rattle.std.specs.Option.{option_or}
 use Rattle.gix_date.specs.Fields.Civil.{read_date}
-use Rattle.gix_date.specs.Fields.Front.{ReadFront, skip_char, ◌>>=◌}
+use Rattle.gix_date.specs.Text.Front.{ReadFront, skip_char, ◌>>=◌}
 use Rattle.gix_date.specs.Git.Forms.{read_marked_date, read_compact_date, read_then_gap, dotted_front, compact_front, flexible_front, git_front}
 use Rattle.gix_date.specs.Git.Grammar.{IsGitDate, IsGitFront}
 use Rattle.gix_date.specs.Text.Characters.{space, dot, minus, letter_t}

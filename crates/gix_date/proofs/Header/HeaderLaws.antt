@@ -18,17 +18,16 @@ use Rattle.std.specs.Option.{option_map_or, option_or}
 use Rattle.std.specs.Char.{is_ascii_digit}
 use Rattle.std.specs.Str.{all_ascii_digits, bytes_eq}
 use Rattle.std.specs.Str.Parse.{without_leading_sign, signed_digits_value, digits_value, IsNumeral}
-use Rattle.gix_date.specs.Families.Grammars.{IsSign}
+use Rattle.gix_date.specs.Fields.FieldTexts.{IsSign, IsDigit}
 use Rattle.gix_date.specs.Header.Canonical.{is_canonical_header, is_canonical_offset, is_decimal_text, has_whole_minutes}
 use Rattle.gix_date.specs.Text.Characters.{space, plus, minus, is_space, has_colon}
 use Rattle.gix_date.specs.Header.Laws.{ComesBack}
 use Rattle.gix_date.specs.Header.Reading.{header_time, time_of_words, header_seconds, header_offset}
 use Rattle.gix_date.specs.Text.SpaceWords.{space_words, first_words}
-use Rattle.gix_date.specs.Header.Text.{header_text, is_header_text_of, compact_offset_text, offset_sign, hours_and_minutes}
+use Rattle.gix_date.specs.Header.Text.{header_text, is_header_text_of}
+use Rattle.gix_date.specs.Fields.Offsets.{compact_offset_text, offset_sign, hours_and_minutes, offset_fields, offset_of, signed, read_sign, last_pair}
 use Rattle.gix_date.specs.Text.Numbers.{int_value, fits_i64, decimal_text, two_digits, read_two_digits}
-use Rattle.gix_date.specs.Fields.Offsets.{offset_fields, offset_of, signed, read_sign, last_pair}
-use Rattle.gix_date.specs.Fields.Front.{skip_char, ◌>>=◌}
-use Rattle.gix_date.specs.Fields.FieldTexts.{IsDigit}
+use Rattle.gix_date.specs.Text.Front.{skip_char, ◌>>=◌}
 use Rattle.gix_date.specs.declared.parsing.offset.OffsetFields.{OffsetFields}
 use Rattle.gix_date.specs.declared.parsing.offset.Sign.{Sign}
 use Rattle.gix_date.specs.declared.parsing.offset.Sign.TheVariants.{Plus, Minus}

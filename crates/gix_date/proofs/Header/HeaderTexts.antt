@@ -5,9 +5,10 @@ use Rattle.std.proofs.lemmas.Int.{ints}
 use Rattle.std.specs.Prelude.{IfSome, IsSome, unsigned_abs, nat_lt}
 use Rattle.jiff.specs.Words.{IsOffsetSeconds}
 use Rattle.gix_date.specs.Text.Characters.{space}
-use Rattle.gix_date.specs.Header.Text.{header_text, compact_offset_text}
+use Rattle.gix_date.specs.Header.Text.{header_text}
+use Rattle.gix_date.specs.Fields.Offsets.{compact_offset_text}
 use Rattle.gix_date.specs.Text.Numbers.{decimal_text}
-use Rattle.gix_date.specs.Devices.TimeBuf.{HoldsText}
+use Rattle.gix_date.specs.Header.TimeBuf.{HoldsText}
 use Rattle.gix_date.specs.declared.error.Error.{Error}
 use Rattle.gix_date.specs.declared.error.Error.TheVariants.{OffsetTooWide}
 use Rattle.gix_date.specs.declared.time.Time.{Time}

@@ -20,7 +20,7 @@ use Rattle.gix_date.specs.Fields.Layout.{LocalTime}
 use Rattle.gix_date.specs.declared.civil.ClockFields.{ClockFields}
 use Rattle.gix_date.specs.Printing.LocalClocks.{march_year, march_month, march_day, january_date, date_of_day, local_seconds, local_day, second_of_day, clock_of, HasFourDigitFields}
 use Rattle.gix_date.specs.Printing.NamedTexts.{local_time, ShowsFourDigitFields}
-use Rattle.gix_date.specs.Printing.Zoned.{IsMoment, IsConvertible}
+use Rattle.gix_date.specs.Fields.Zoned.{IsMoment, IsConvertible}
 use Rattle.gix_date.specs.declared.time.Time.{Time}
 use Rattle.jiff.specs.declared.zoned.Zoned.{Zoned}
 

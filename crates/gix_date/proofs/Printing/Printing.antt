@@ -15,9 +15,8 @@ use Rattle.jiff_strtime.specs.declared.tm.BrokenDownTime.{BrokenDownTime}
 use Rattle.jiff_tz.specs.Abbreviation.{abbreviation_text}
 use Rattle.jiff_tz.specs.Zone.{zone_name, IsInfoAt}
 use Rattle.jiff_tz.specs.declared.info.OffsetInfo.{OffsetInfo}
-use Rattle.gix_date.specs.Printing.Formats.{ArePrinted, IsShown, IsUnprinted, PrintsPattern}
-use Rattle.gix_date.specs.Private.Printing.{PrintsAt}
-use Rattle.gix_date.specs.Printing.Zoned.{IsConvertible, IsMoment}
+use Rattle.gix_date.specs.Printing.Formats.{ArePrinted, IsShown, IsUnprinted, PrintsPattern, PrintsAt}
+use Rattle.gix_date.specs.Fields.Zoned.{IsConvertible, IsMoment}
 use Rattle.gix_date.specs.declared.error.Error.{Error}
 use Rattle.gix_date.specs.declared.error.Error.TheVariants as errors
 use Rattle.gix_date.specs.declared.time.Time.{Time}

@@ -8,9 +8,9 @@ use Rattle.gix_date.specs.Families.Answer.{Absolute}
 use Rattle.gix_date.specs.Text.Characters.{space}
 use Rattle.gix_date.specs.Families.Epoch.{epoch_time, utc_time}
 use Rattle.gix_date.specs.Families.Order.{first_family_by}
-use Rattle.gix_date.specs.Header.Text.{header_text, compact_offset_text}
+use Rattle.gix_date.specs.Header.Text.{header_text}
+use Rattle.gix_date.specs.Fields.Offsets.{compact_offset_text, offset_fields, offset_of}
 use Rattle.gix_date.specs.Text.Numbers.{int_value, decimal_text}
-use Rattle.gix_date.specs.Fields.Offsets.{offset_fields, offset_of}
 use Rattle.gix_date.specs.Printing.ReadingBack.{IsRawOffset, IsWideOffset}
 use Rattle.gix_date.specs.Families.Raw.{OffsetRule, raw_time_by, raw_offset_by, is_raw_offset, is_wide_offset}
 use Rattle.gix_date.specs.Text.SpaceWords.{space_words}

@@ -9,7 +9,7 @@ use Rattle.std.specs.Prelude.{◌==◌, nat_lt, nat_le, int_lt}
 use Rattle.jiff.specs.Types.{PlainZoned}
 use Rattle.jiff_core.proofs.DateTimeLemmas.{civil_nanos-parts}
 use Rattle.jiff_core.proofs.SignedLemmas.{signed_arith, one_part}
-use Rattle.std.specs.Int.{IsInRange}
+use Rattle.std.specs.Int.{IsInRange, int_rem_euclid}
 use Rattle.jiff_core.specs.Calendar.{IsDate, days_in_month, weekday_number}
 use Rattle.jiff_core.specs.Date.{IsYmd, weekday_of, epoch_day}
 use Rattle.jiff_core.specs.Time.{IsTime, IsHms}
@@ -23,12 +23,11 @@ use Rattle.gix_date.specs.Fields.Layout.{LocalTime, Piece, DayName, MailDayName,
 use Rattle.gix_date.specs.Text.Names.{day_name, month_name}
 use Rattle.gix_date.specs.Fields.DateOffsets.{strict_offset_text, compact_offset, strict_offset, mail_zone, mail_offset, is_jiff_offset, jiff_offset, last_colon_pair}
 use Rattle.gix_date.specs.Printing.NamedTexts.{local_time, ShowsFourDigitFields}
-use Rattle.gix_date.specs.Header.Text.{compact_offset_text}
+use Rattle.gix_date.specs.Fields.Offsets.{compact_offset_text}
 use Rattle.gix_date.specs.Text.Numbers.{two_digits}
 use Rattle.gix_date.specs.Fields.DateFields.{without_leap_second, is_weekday, month_named}
-use Rattle.gix_date.specs.Fields.Front.{skip_char}
+use Rattle.gix_date.specs.Text.Front.{skip_char}
 use Rattle.gix_date.specs.Families.Raw.{OffsetRule}
-use Rattle.std.specs.Int.{int_rem_euclid}
 use Rattle.jiff_core.specs.declared.civil.date.Date.{Date}
 use Rattle.gix_date.specs.declared.civil.ClockFields.{ClockFields}
 use Rattle.gix_date.specs.declared.civil.DateFields.{DateFields}

@@ -23,7 +23,7 @@ use Rattle.jiff_strtime.specs.declared.directive.Config.{Config}
 use Rattle.jiff_strtime.specs.declared.directive.Locale.TheVariants.{Default}
 use Rattle.jiff_tz.specs.Abbreviation.{abbreviation_text}
 use Rattle.jiff_tz.specs.Zone.{zone_name}
-use Rattle.gix_date.specs.Header.Text.{hours_and_minutes, compact_offset_text}
+use Rattle.gix_date.specs.Fields.Offsets.{hours_and_minutes, compact_offset_text}
 use Rattle.gix_date.specs.Fields.Layout.{LocalTime}
 use Rattle.gix_date.specs.Fields.FieldTexts.{four_digits}
 use Rattle.gix_date.specs.Fields.DateOffsets.{strict_offset_text}

@@ -27,11 +27,10 @@ use Rattle.jiff_core.specs.declared.civil.weekday.Weekday.TheVariants.{Monday, T
 use Rattle.jiff_strtime.specs.declared.tm.BrokenDownTime.{BrokenDownTime}
 use Rattle.jiff.specs.Words.{plain_zoned}
 use Rattle.gix_date.specs.Fields.Layout.{LocalTime}
-use Rattle.gix_date.specs.Printing.NamedTexts.{local_time}
+use Rattle.gix_date.specs.Printing.NamedTexts.{local_time, IsShownByAll}
 use Rattle.gix_date.specs.Printing.LocalClocks.{clock_of, HasFourDigitFields}
-use Rattle.gix_date.specs.Printing.Formats.{IsShown, AtMoment, PrintsPattern}
-use Rattle.gix_date.specs.Printing.Zoned.{IsConvertible}
-use Rattle.gix_date.specs.Private.NamedTexts.{HasParts, IsShownByAll}
+use Rattle.gix_date.specs.Printing.Formats.{IsShown, AtMoment, PrintsPattern, HasParts}
+use Rattle.gix_date.specs.Fields.Zoned.{IsConvertible}
 use Rattle.gix_date.specs.Text.Numbers.{two_digits}
 use Rattle.gix_date.specs.declared.error.Error.{Error}
 use Rattle.gix_date.specs.declared.error.Error.TheVariants as errors

@@ -9,7 +9,7 @@ use Rattle.gix_date.specs.Families.Order.{ParseNoAllocOutcome}
 use Rattle.gix_date.specs.declared.error.ParseError.{ParseError}
 use Rattle.gix_date.specs.Relative.Dates.{RelativeDate, MinusSeconds, MinusPairs, Reaches, IsNamed, RelativeOutcome}
 use Rattle.gix_date.specs.declared.time.Time.{Time}
-use Rattle.gix_date.specs.Private.RelativePairs.{pairs_read}
+use Rattle.gix_date.specs.Relative.PairsRead.{pairs_read}
 use Rattle.gix_date.specs.Relative.Steps.{PairStep, Resolves, Chain}
 use Rattle.gix_date.specs.Relative.Roles.{pairs}
 use Rattle.gix_date.specs.declared.parsing.relative.words.TimeUnit.{TimeUnit}

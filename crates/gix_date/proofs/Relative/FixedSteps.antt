@@ -12,11 +12,10 @@ use Rattle.jiff_tz.specs.Zone.{IsFixed, utc_offset, ambiguous_at}
 use Rattle.jiff_tz.specs.declared.timezone.TimeZone.TheVariants.{UTC, Unknown, Fixed, Posix, Tzif}
 use Rattle.gix_date.specs.Relative.Dates.{RelativeDate, MinusSeconds, MinusPairs, Reaches, IsNamed}
 use Rattle.gix_date.specs.Relative.FixedZones.{total, less_seconds, less_months}
-use Rattle.gix_date.specs.Private.RelativePairs.{pairs_read}
-use Rattle.gix_date.specs.Relative.Steps.{IsLocal, IsPicked, Resolves, SecondsStep, MonthsStep, PairStep, Chain, zone_of, civil_of, rolled_day}
-use Rattle.gix_date.specs.Private.Steps.{ChooseAlike, IsAtInstant}
+use Rattle.gix_date.specs.Relative.PairsRead.{pairs_read}
+use Rattle.gix_date.specs.Relative.Steps.{IsLocal, IsPicked, Resolves, SecondsStep, MonthsStep, PairStep, Chain, zone_of, civil_of, rolled_day, ChooseAlike, IsAtInstant}
 use Rattle.gix_date.specs.Relative.Roles.{pairs}
-use Rattle.gix_date.specs.Printing.Zoned.{whole_seconds}
+use Rattle.gix_date.specs.Fields.Zoned.{whole_seconds}
 use Rattle.gix_date.specs.declared.parsing.relative.words.TimeUnit.{TimeUnit}
 use Rattle.gix_date.specs.declared.parsing.relative.words.TimeUnit.TheVariants.{Seconds, Months}
 use Rattle.gix_date.specs.declared.time.Time.{Time as OurTime}

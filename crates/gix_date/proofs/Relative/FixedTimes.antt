@@ -10,7 +10,7 @@ use Rattle.jiff_tz.specs.Zone.{IsFixed}
 use Rattle.gix_date.specs.Relative.FixedZones.{total, less_seconds, earlier, NamesEarlier, NamesBefore}
 use Rattle.gix_date.specs.Relative.Dates.{RelativeDate, MinusSeconds, Reaches}
 use Rattle.gix_date.specs.Relative.Steps.{zone_of}
-use Rattle.gix_date.specs.Printing.Zoned.{IsMoment, is_instant, time_in, whole_seconds as seconds_of}
+use Rattle.gix_date.specs.Fields.Zoned.{IsMoment, is_instant, time_in, whole_seconds as seconds_of}
 use Rattle.gix_date.specs.declared.time.Time.{Time}
 use Rattle.gix_date.proofs.Relative.Chains.{same-time}
 use Rattle.gix_date.proofs.Relative.FixedSteps.{seconds-in, fixed-zone}

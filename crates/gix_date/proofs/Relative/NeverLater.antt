@@ -14,7 +14,7 @@ use Rattle.jiff_core.proofs.SignedLemmas.{signed_arith}
 use Rattle.jiff_tz.specs.Zone.{IsFixed}
 use Rattle.gix_date.specs.Relative.Dates.{RelativeDate, MinusSeconds, MinusPairs, Reaches, date_names, named_date, pairs_date, relative_date}
 use Rattle.gix_date.specs.Relative.Roles.{are_pairs, next_is_free, pair_with, pair_at, pairs}
-use Rattle.gix_date.specs.Fields.Front.{◌>>=◌}
+use Rattle.gix_date.specs.Text.Front.{◌>>=◌}
 use Rattle.gix_date.specs.Relative.Steps.{PairStep, MonthsStep, Chain}
 use Rattle.gix_date.specs.Relative.Words.{relative_words, count_of, named_count, number_named, unit_names, named_unit, singular, unit_of, unit_or_seconds}
 use Rattle.gix_date.specs.Text.Characters.{minus}

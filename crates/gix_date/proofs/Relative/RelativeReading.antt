@@ -2,10 +2,10 @@
 use Rattle.std.proofs.Common.{◌≡◌, ℕ, Bool, true, false, cond, List, [], ◌∷◌, ◌++◌, refl, sym, ap, ◌∙◌, ℤ, Option, Some, None}
 use Rattle.std.specs.List.{cons_option}
 use Rattle.std.specs.Prelude.{not, is_some, filter_map}
-use Rattle.gix_date.specs.Fields.Front.{◌>>=◌}
+use Rattle.gix_date.specs.Text.Front.{◌>>=◌}
 use Rattle.gix_date.proofs.Relative.CountRuns.{free_after}
 use Rattle.gix_date.specs.Text.Places.{places_after}
-use Rattle.gix_date.specs.Private.RelativePairs.{pairs_from, pairs_read}
+use Rattle.gix_date.specs.Relative.PairsRead.{pairs_from, pairs_read}
 use Rattle.gix_date.specs.Relative.Words.{count_of, unit_or_seconds}
 use Rattle.gix_date.specs.Relative.Roles.{is_count_word, next_is_free, pair_with, pair_at, pairs}
 use Rattle.gix_date.specs.declared.parsing.relative.words.TimeUnit.{TimeUnit}

@@ -10,9 +10,8 @@ use Rattle.jiff_core.proofs.DateTimeLemmas.{civil_nanos-parts, time_nanos_bound}
 use Rattle.jiff_core.proofs.SignedLemmas.{signed_arith, one_part}
 use Rattle.jiff_core.specs.Calendar.{days_from_civil}
 use Rattle.jiff_zoned.proofs.SameLemmas.{same_datetime}
-use Rattle.gix_date.specs.Private.RelativeFields.{AreFieldsOf, IsInstantOf}
-use Rattle.gix_date.specs.Relative.Steps.{IsLocal, IsPicked, Resolves, MonthsStep, civil_of, month_start, rolled_day}
-use Rattle.gix_date.specs.Private.Steps.{IsAt}
+use Rattle.gix_date.specs.Relative.LocalFields.{AreFieldsOf, IsInstantOf}
+use Rattle.gix_date.specs.Relative.Steps.{IsLocal, IsPicked, Resolves, MonthsStep, civil_of, month_start, rolled_day, IsAt}
 use Rattle.gix_date.specs.declared.parsing.relative.steps.Fields.{Fields}
 
 -- What a zone chooses.

@@ -5,7 +5,7 @@ use Rattle.std.specs.Str.{trim}
 use Rattle.gix_date.specs.Text.Characters.{minus}
 use Rattle.gix_date.specs.declared.civil.DateFields.{DateFields}
 use Rattle.gix_date.proofs.Fields.FieldsTaken.{went, year-taken, after-taken}
-use Rattle.gix_date.specs.Fields.Front.{skip_char, ◌>>=◌}
+use Rattle.gix_date.specs.Text.Front.{skip_char, ◌>>=◌}
 use Rattle.gix_date.specs.Fields.FieldTexts.{IsYear}
 use Rattle.gix_date.specs.Git.Forms.{git_time}
 use Rattle.gix_date.specs.Text.Numbers.{int_value, read_year, read_field}

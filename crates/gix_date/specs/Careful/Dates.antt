@@ -13,11 +13,11 @@ use Rattle.gix_date.specs.Families.Patterns.{midnight}
 use Rattle.gix_date.specs.Families.Raw.{OffsetRule, raw_time_by}
 use Rattle.gix_date.specs.Fields.Civil.{civil_instant}
 use Rattle.gix_date.specs.Fields.DateFields.{read_plain_date}
-use Rattle.gix_date.specs.Fields.Front.{◌>>=◌}
+use Rattle.gix_date.specs.Text.Front.{◌>>=◌}
 use Rattle.gix_date.specs.Git.ClockCut.{clock_cut}
 use Rattle.gix_date.specs.Git.Forms.{git_front, time_of_cut}
 use Rattle.gix_date.specs.Printing.LocalClocks.{local_day}
-use Rattle.gix_date.specs.Printing.Zoned.{time_in}
+use Rattle.gix_date.specs.Fields.Zoned.{time_in}
 use Rattle.gix_date.specs.Relative.Steps.{IsPicked}
 use Rattle.gix_date.specs.Text.Names.{is_name, day_names}
 use Rattle.gix_date.specs.Text.SpaceWords.{is_nonempty}

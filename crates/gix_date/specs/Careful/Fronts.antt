@@ -1,12 +1,12 @@
 -- Where a text that is not careful stops being so: at the end of the longest front that some form has.
-use Rattle.std.specs.Prelude.{ℕ, ◌-◌, List, [], ◌∷◌, length, drop, ℤ, nat_lt, if◌then◌else◌, Option, Some, None, is_some, option_map, unwrap_or}
+use Rattle.std.specs.Prelude.{ℕ, ◌-◌, List, [], ◌∷◌, length, drop, ℤ, nat_lt, if◌then◌else◌, Option, Some, None, is_some, option_map, unwrap_or, ◌≡◌, ◌++◌}
 use Rattle.std.specs.Char.{is_ascii_digit}
 use Rattle.std.specs.List.{prefix_len}
 use Rattle.std.specs.Option.{option_or}
 use Rattle.gix_date.specs.Fields.Civil.{is_date, is_clock}
 use Rattle.gix_date.specs.Fields.DateFields.{skip_spaces, skip_weekday, skip_day_name, read_month, read_plain_date, read_clock, read_mail_clock}
 use Rattle.gix_date.specs.Fields.DateOffsets.{compact_offset, strict_offset, mail_zone}
-use Rattle.gix_date.specs.Fields.Front.{ReadFront, skip_char, ◌>>=◌}
+use Rattle.gix_date.specs.Text.Front.{ReadFront, skip_char, ◌>>=◌}
 use Rattle.gix_date.specs.Git.Forms.{git_front, git_offset}
 use Rattle.gix_date.specs.Text.Characters.{colon, dot, letter_t}
 use Rattle.gix_date.specs.Text.Numbers.{read_two_digits, read_field, read_year}
@@ -15,6 +15,10 @@ use Rattle.gix_date.specs.Text.SpaceWords.{is_nonempty}
 -- a part of a form: what stands after it, where the text begins with it
 abbrev pub Part : Type 0
 Part = List ℕ → Option (List ℕ)
+
+-- a text ends in this rest
+abbrev pub IsRestOf : List ℕ → List ℕ → Type 0
+IsRestOf text rest = (front : List ℕ) × (text ≡ front ++ rest)
 
 -- What is left where the parts stop: from `rest` on, and `whole` if they take all of it.
 abbrev pub left_by : List Part → List ℕ → List ℕ → List ℕ

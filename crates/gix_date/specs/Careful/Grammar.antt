@@ -3,7 +3,7 @@ use Rattle.std.specs.Prelude.{◌≡◌, ◌⊎◌, ℕ, ℤ, pos, true, List, [
 use Rattle.std.specs.Char.{is_ascii_alphanumeric, is_ascii_digit}
 use Rattle.std.specs.Int.{w64}
 use Rattle.std.specs.List.{list_all}
-use Rattle.gix_date.specs.Families.Grammars.{AreDigits}
+use Rattle.gix_date.specs.Fields.FieldTexts.{AreDigits}
 use Rattle.gix_date.specs.Relative.Words.{unit_names}
 use Rattle.gix_date.specs.Text.Characters.{comma, colon, dot, minus, underscore, space, small_s, letter_s}
 use Rattle.gix_date.specs.Text.Names.{is_name, named_in}

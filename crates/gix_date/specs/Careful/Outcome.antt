@@ -1,5 +1,5 @@
 -- What a text says to a caller that must not guess, by its options, and what a call results in.
-use Rattle.std.specs.Prelude.{◌≡◌, ◌&&◌, ◌||◌, ℕ, Bool, true, false, IsCharBoundary, List, Option, Some, None, is_none, Result, Ok, Err, not, take}
+use Rattle.std.specs.Prelude.{◌≡◌, ◌&&◌, ◌||◌, ℕ, Bool, true, false, IsCharBoundary, List, Option, Some, None, is_none, Result, Ok, Err, not, take, IfSome, option_map}
 use Rattle.std.specs.Char.{is_ascii_alphanumeric}
 use Rattle.std.specs.List.{list_any}
 use Rattle.std.specs.Result.{result_map_both}
@@ -7,7 +7,7 @@ use Rattle.jiff.specs.declared.zoned.Zoned.{Zoned}
 use Rattle.gix_date.specs.Careful.Dates.{is_large_if_raw, is_whole_git, names_its_day, unzoned_day, unzoned_git_time, unzoned_time, IsLocalTime}
 use Rattle.gix_date.specs.Careful.Fronts.{longest_front}
 use Rattle.gix_date.specs.Careful.Texts.{unclear_place}
-use Rattle.gix_date.specs.Families.Answer.{FamilyAnswer, Absolute, NoInstant, OffsetAboveDay, Relative}
+use Rattle.gix_date.specs.Families.Answer.{FamilyAnswer, Absolute, NoInstant, OffsetAboveDay, Relative, answer_of, HasJiffOffset}
 use Rattle.gix_date.specs.Families.Order.{first_family_by, ParseNoAllocOutcome}
 use Rattle.gix_date.specs.Families.Raw.{OffsetRule, allows}
 use Rattle.gix_date.specs.Git.Forms.{git_time}
@@ -26,6 +26,9 @@ use Rattle.gix_date.specs.declared.parsing.careful.Texts.TheVariants as texts
 use Rattle.gix_date.specs.declared.parsing.careful.WithoutOffset.{WithoutOffset}
 use Rattle.gix_date.specs.declared.parsing.careful.WithoutOffset.TheVariants as zone
 use Rattle.gix_date.specs.declared.time.Time.{Time}
+use Rattle.gix_date.specs.Fields.Zoned.{is_instant}
+use Rattle.gix_date.specs.declared.parsing.careful.Reading.{Reading as TextReading}
+use Rattle.gix_date.specs.declared.parsing.careful.Reading.TheVariants as reading
 
 -- what a text says by the options
 pub data Reading : Type 0 where
@@ -35,6 +38,18 @@ pub data Reading : Type 0 where
   Unclear : ℕ → Reading
   -- what the first family answers
   First : Option FamilyAnswer → Reading
+
+-- what a text says
+abbrev pub reading_of : TextReading → Reading
+reading_of (reading.Local t) = Local t
+reading_of (reading.Unclear place) = Unclear place
+reading_of (reading.First answer) = First (option_map answer_of answer)
+
+-- a date of the moment's zone is an instant, a text may be cut where it is unclear, and offsets are those of zones
+abbrev pub IsReadingOf : List ℕ → TextReading → Type 0
+IsReadingOf text (reading.Local t) = is_instant t.seconds ≡ true
+IsReadingOf text (reading.Unclear place) = IsCharBoundary text place
+IsReadingOf text (reading.First answer) = IfSome answer HasJiffOffset
 
 -- the text as a date of the moment's zone
 abbrev pub local_date : WithoutOffset → List ℕ → Option Time

@@ -1,5 +1,5 @@
 -- Which relative texts leave nothing to guess.
-use Rattle.std.specs.Prelude.{ℕ, Bool, false, not, ◌&&◌, ◌||◌, List, length, take, drop, slice_index, ◌==◌, codes, if◌then◌else◌, Option, Some, None, option_map, zero, suc}
+use Rattle.std.specs.Prelude.{ℕ, Bool, false, not, ◌&&◌, ◌||◌, List, length, take, drop, slice_index, ◌==◌, codes, if◌then◌else◌, Option, Some, None, option_map, zero, suc, ◌<◌}
 use Rattle.std.specs.Char.{is_ascii_alphanumeric, is_ascii_whitespace}
 use Rattle.std.specs.List.{prefix_len}
 use Rattle.std.specs.Option.{option_or}
@@ -25,6 +25,10 @@ begins_word text place = in_word text place && not (after_word text place)
 -- the word that begins at this place
 abbrev pub word_at : List ℕ → ℕ → List ℕ
 word_at text place = take (prefix_len is_ascii_alphanumeric (drop place text)) (drop place text)
+
+-- a character of ASCII stands at this place
+abbrev pub IsWordPlace : List ℕ → ℕ → Type 0
+IsWordPlace text place = (place < length text) × (slice_index text place < 128)
 
 -- the last word that begins before this place
 abbrev pub word_before : List ℕ → ℕ → Option (List ℕ)

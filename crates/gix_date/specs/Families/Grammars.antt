@@ -1,22 +1,14 @@
 -- What the texts of the families that have no layout are made of, as facts.
-use Rattle.std.specs.Prelude.{◌≡◌, ◌⊎◌, ◌<◌, ◌≤ℤ◌, ◌+◌, ◌*◌, ℕ, ℤ, pos, neg_ℤ, true, List, [], ◌∷◌, ◌++◌, length, Some, None, FitsSigned}
+use Rattle.std.specs.Prelude.{◌≡◌, ◌⊎◌, ◌≤ℤ◌, ℕ, ℤ, pos, neg_ℤ, true, List, [], ◌∷◌, ◌++◌, Some, None, FitsSigned}
 use Rattle.std.specs.Int.{w64}
-use Rattle.std.specs.Str.{all_ascii_digits}
-use Rattle.std.specs.Str.Parse.{digits_value}
+use Rattle.gix_date.specs.Fields.FieldTexts.{AreDigits, IsPair, IsSign}
 use Rattle.gix_date.specs.Families.Epoch.{min_bare_epoch}
 use Rattle.gix_date.specs.Families.Raw.{OffsetRule}
-use Rattle.gix_date.specs.Fields.FieldTexts.{IsDigit, digit_value}
 use Rattle.gix_date.specs.Fields.Offsets.{offset_of}
 use Rattle.gix_date.specs.Text.Characters.{at_sign, plus, minus}
 use Rattle.gix_date.specs.Text.SpaceWords.{space_words}
 use Rattle.gix_date.specs.declared.parsing.offset.OffsetFields.{OffsetFields}
-use Rattle.gix_date.specs.declared.parsing.offset.Sign.{Sign}
-use Rattle.gix_date.specs.declared.parsing.offset.Sign.TheVariants.{Plus, Minus}
 use Rattle.gix_date.specs.declared.time.Time.{Time}
-
--- one or more digits, of this number
-abbrev pub AreDigits : List ℕ → ℕ → Type 0
-AreDigits text n = (0 < length text) × (all_ascii_digits text ≡ true) × (n ≡ digits_value 10 text)
 
 -- an int text of this value: digits, after a sign or none, whose number an `i64` holds
 pub record IsInt (text : List ℕ) (n : ℤ) : Type 0 where
@@ -26,15 +18,6 @@ pub record IsInt (text : List ℕ) (n : ℤ) : Type 0 where
   pub is : ((text ≡ digits) × (n ≡ pos number)) ⊎ ((text ≡ plus ∷ digits) × (n ≡ pos number))
       ⊎ ((text ≡ minus ∷ digits) × (n ≡ neg_ℤ (pos number)))
   pub fits : FitsSigned w64 n
-
--- two digits, of this number
-abbrev pub IsPair : List ℕ → ℕ → Type 0
-IsPair (tens ∷ ones ∷ []) n = IsDigit tens × IsDigit ones × (n ≡ 10 * digit_value tens + digit_value ones)
-IsPair text n = ⊥
-
--- the character is the sign's mark
-abbrev pub IsSign : ℕ → Sign → Type 0
-IsSign mark sign = ((mark ≡ plus) × (sign ≡ Plus)) ⊎ ((mark ≡ minus) × (sign ≡ Minus))
 
 -- an offset text with these fields: a sign, two digits of hours, two of minutes, and perhaps two of seconds
 pub record AreOffsetFields (text : List ℕ) (f : OffsetFields) : Type 0 where

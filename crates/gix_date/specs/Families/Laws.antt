@@ -13,6 +13,7 @@ use Rattle.gix_date.specs.Relative.Dates.{RelativeDate, relative_date}
 use Rattle.gix_date.specs.declared.error.Error.{Error}
 use Rattle.gix_date.specs.declared.error.ParseError.{ParseError}
 use Rattle.gix_date.specs.declared.time.Time.{Time}
+use Rattle.gix_date.specs.Header.Reading.{header_time}
 
 -- No raw text or epoch is Git's or relative: a raw text is neither a bare epoch nor a Git text nor relative, and a bare
 -- epoch is neither a Git text nor relative.
@@ -112,3 +113,7 @@ abbrev pub HasOneOutcome : Type 0
 HasOneOutcome =
     (answer : Option FamilyAnswer) (now : Option Zoned) (a b : Result Time ParseError)
     → ParseNoAllocOutcome answer now a → ParseNoAllocOutcome answer now b → a ≡ b
+
+-- a raw text is a header of the same time
+abbrev pub RawIsHeader : OffsetRule → List ℕ → Type 0
+RawIsHeader rule text = (t : Time) → raw_time_by rule text ≡ Some t → header_time text ≡ Some t

@@ -4,7 +4,7 @@ use Rattle.std.specs.Prelude.{◌≡◌, ℕ, List, [], ◌∷◌, pos, nat_lt, 
 use Rattle.gix_date.specs.Families.Answer.{FamilyAnswer, Absolute, NoInstant, OffsetAboveDay}
 use Rattle.gix_date.specs.Fields.Civil.{is_date, civil_instant}
 use Rattle.gix_date.specs.Families.Epoch.{utc_time}
-use Rattle.gix_date.specs.Fields.Front.{◌>>=◌}
+use Rattle.gix_date.specs.Text.Front.{◌>>=◌}
 use Rattle.gix_date.specs.Fields.Layout.{LocalTime, Piece, DayName, MailDayName, MonthName, Day, Year, PlainDate, Clock, MailClock, Spaces, LetterT, Offset, ColonOffset, MailOffset, layout_answer, ArePieces}
 use Rattle.gix_date.specs.declared.time.TheConstants.{MAX_OFFSET_IN_SECONDS}
 use Rattle.gix_date.specs.declared.civil.ClockFields.{ClockFields}

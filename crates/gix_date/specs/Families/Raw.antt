@@ -1,6 +1,6 @@
 -- Raw texts: seconds and an offset, by a rule for the offset's fields.
 use Rattle.std.specs.Prelude.{ℕ, Bool, ◌&&◌, ◌||◌, List, ℤ, ◌==◌, nat_le, Option, Some, unwrap_or}
-use Rattle.gix_date.specs.Fields.Front.{◌>>=◌}
+use Rattle.gix_date.specs.Text.Front.{◌>>=◌}
 use Rattle.gix_date.specs.Text.Numbers.{int_value}
 use Rattle.gix_date.specs.Fields.Offsets.{offset_fields, offset_by}
 use Rattle.gix_date.specs.Text.SpaceWords.{space_words, first_words}

@@ -1,10 +1,10 @@
 -- Dates of the calendar and times of the clock, and the instants that they are at an offset.
-use Rattle.std.specs.Prelude.{ℕ, ◌+◌, ◌*◌, Bool, ◌&&◌, List, ℤ, pos, ◌+ℤ◌, ◌-ℤ◌, ◌*ℤ◌, nat_le, if◌then◌else◌, Option, Some, None}
+use Rattle.std.specs.Prelude.{ℕ, ◌+◌, ◌*◌, Bool, ◌&&◌, List, ℤ, pos, ◌+ℤ◌, ◌-ℤ◌, ◌*ℤ◌, nat_le, if◌then◌else◌, Option, Some, None, ◌≤◌}
 use Rattle.jiff_core.specs.Calendar.{days_from_civil, days_in_month}
 use Rattle.gix_date.specs.Fields.ClockNumbers.{max_hour, max_minute, max_second, seconds_per_minute, seconds_per_hour, seconds_per_day}
-use Rattle.gix_date.specs.Fields.Front.{ReadFront, ◌>>=◌}
+use Rattle.gix_date.specs.Text.Front.{ReadFront, ◌>>=◌}
 use Rattle.gix_date.specs.Text.Numbers.{read_year}
-use Rattle.gix_date.specs.Printing.Zoned.{is_instant}
+use Rattle.gix_date.specs.Fields.Zoned.{is_instant}
 use Rattle.gix_date.specs.declared.civil.DateFields.{DateFields}
 use Rattle.gix_date.specs.declared.civil.ClockFields.{ClockFields}
 
@@ -40,3 +40,15 @@ civil_seconds d c offset =
 unfoldable pub civil_instant : DateFields → ClockFields → ℤ → Option ℤ
 civil_instant d c offset =
     if is_date d && is_clock c && is_instant (civil_seconds d c offset) then Some (civil_seconds d c offset) else None
+
+-- the fields have at most four, two and two digits
+pub record DateFits (d : DateFields) : Type 0 where
+  pub year : d.year ≤ 9999
+  pub month : d.month ≤ 99
+  pub day : d.day ≤ 99
+
+-- the fields have at most two digits each
+pub record ClockFits (c : ClockFields) : Type 0 where
+  pub hour : c.hour ≤ 99
+  pub minute : c.minute ≤ 99
+  pub second : c.second ≤ 99

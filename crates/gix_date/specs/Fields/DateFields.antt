@@ -6,7 +6,7 @@ use Rattle.std.specs.Option.{option_map}
 use Rattle.gix_date.specs.Fields.ClockNumbers.{max_second}
 use Rattle.gix_date.specs.Text.Characters.{is_space, comma, minus, colon}
 use Rattle.gix_date.specs.Fields.Civil.{read_date}
-use Rattle.gix_date.specs.Fields.Front.{ReadFront, skip_char, ◌>>=◌}
+use Rattle.gix_date.specs.Text.Front.{ReadFront, skip_char, ◌>>=◌}
 use Rattle.gix_date.specs.Text.Numbers.{read_two_digits, read_field}
 use Rattle.gix_date.specs.Text.Names.{is_name, day_names, month_names}
 use Rattle.gix_date.specs.declared.civil.ClockFields.{ClockFields}

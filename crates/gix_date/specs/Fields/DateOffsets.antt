@@ -3,11 +3,10 @@ use Rattle.std.specs.Prelude.{ℕ, Bool, ◌&&◌, List, [], ◌∷◌, ◌++◌
 use Rattle.std.specs.Option.{option_or}
 use Rattle.gix_date.specs.Fields.ClockNumbers.{max_minute, max_second, hours_in, minutes_in}
 use Rattle.gix_date.specs.Text.Characters.{colon}
-use Rattle.gix_date.specs.Fields.Front.{skip_char, ◌>>=◌}
-use Rattle.gix_date.specs.Header.Text.{offset_sign}
+use Rattle.gix_date.specs.Text.Front.{skip_char, ◌>>=◌}
+use Rattle.gix_date.specs.Fields.Offsets.{offset_sign, read_sign, offset_fields, offset_by}
 use Rattle.gix_date.specs.Text.Names.{named_in}
 use Rattle.gix_date.specs.Text.Numbers.{two_digits, two_digit_value, read_two_digits}
-use Rattle.gix_date.specs.Fields.Offsets.{read_sign, offset_fields, offset_by}
 use Rattle.gix_date.specs.declared.parsing.offset.OffsetFields.{OffsetFields}
 
 -- hours of at most 25, and minutes and seconds of at most 59

@@ -1,12 +1,16 @@
 -- How the fields of formatted dates are written: which texts are written so, and of what value; and what is printed.
-use Rattle.std.specs.Prelude.{◌≡◌, ℕ, ◌+◌, ◌-◌, ◌*◌, ◌/◌, ◌%◌, true, ◌&&◌, List, [], ◌∷◌, ◌++◌, ◌⊎◌, Some}
+use Rattle.std.specs.Prelude.{◌≡◌, ℕ, ◌+◌, ◌-◌, ◌*◌, ◌/◌, ◌%◌, true, ◌&&◌, List, [], ◌∷◌, ◌++◌, ◌⊎◌, Some, ◌<◌, length}
 use Rattle.std.specs.Char.{is_ascii_digit, is_ascii_alphabetic}
 use Rattle.std.specs.List.{list_all}
-use Rattle.gix_date.specs.Text.Characters.{minus, comma, colon, digit_zero, is_space}
+use Rattle.std.specs.Str.{all_ascii_digits}
+use Rattle.std.specs.Str.Parse.{digits_value}
+use Rattle.gix_date.specs.Text.Characters.{minus, comma, colon, digit_zero, is_space, plus}
 use Rattle.gix_date.specs.Text.Numbers.{two_digits}
 use Rattle.gix_date.specs.Fields.DateFields.{is_weekday, month_named, without_leap_second}
 use Rattle.gix_date.specs.declared.civil.ClockFields.{ClockFields}
 use Rattle.gix_date.specs.declared.civil.DateFields.{DateFields}
+use Rattle.gix_date.specs.declared.parsing.offset.Sign.{Sign}
+use Rattle.gix_date.specs.declared.parsing.offset.Sign.TheVariants.{Plus, Minus}
 
 abbrev pub IsDigit : ℕ → Type 0
 IsDigit c = is_ascii_digit c ≡ true
@@ -26,6 +30,19 @@ IsYear (a ∷ b ∷ c ∷ d ∷ []) n =
     IsDigit a × IsDigit b × IsDigit c × IsDigit d
     × (n ≡ 100 * (10 * digit_value a + digit_value b) + (10 * digit_value c + digit_value d))
 IsYear text n = ⊥
+
+-- one or more digits, of this number
+abbrev pub AreDigits : List ℕ → ℕ → Type 0
+AreDigits text n = (0 < length text) × (all_ascii_digits text ≡ true) × (n ≡ digits_value 10 text)
+
+-- two digits, of this number
+abbrev pub IsPair : List ℕ → ℕ → Type 0
+IsPair (tens ∷ ones ∷ []) n = IsDigit tens × IsDigit ones × (n ≡ 10 * digit_value tens + digit_value ones)
+IsPair text n = ⊥
+
+-- the character is the sign's mark
+abbrev pub IsSign : ℕ → Sign → Type 0
+IsSign mark sign = ((mark ≡ plus) × (sign ≡ Plus)) ⊎ ((mark ≡ minus) × (sign ≡ Minus))
 
 -- one space or more
 abbrev pub AreSpaces : List ℕ → Type 0

@@ -1,10 +1,10 @@
 -- The fields of an offset from UTC: a sign, and pairs of digits.
-use Rattle.std.specs.Prelude.{ℕ, ◌+◌, ◌*◌, Bool, List, [], ◌∷◌, ℤ, pos, neg_ℤ, if◌then◌else◌, Option, Some, None, option_map, unwrap_or}
+use Rattle.std.specs.Prelude.{ℕ, ◌+◌, ◌*◌, Bool, List, [], ◌∷◌, ℤ, pos, neg_ℤ, if◌then◌else◌, Option, Some, None, option_map, unwrap_or, ◌++◌, int_lt, unsigned_abs}
 use Rattle.std.specs.Option.{option_or}
-use Rattle.gix_date.specs.Fields.ClockNumbers.{seconds_per_minute, seconds_per_hour}
+use Rattle.gix_date.specs.Fields.ClockNumbers.{seconds_per_minute, seconds_per_hour, hours_in, minutes_in}
 use Rattle.gix_date.specs.Text.Characters.{plus, minus}
-use Rattle.gix_date.specs.Fields.Front.{ReadFront, skip_char, ◌>>=◌}
-use Rattle.gix_date.specs.Text.Numbers.{two_digit_value, read_two_digits}
+use Rattle.gix_date.specs.Text.Front.{ReadFront, skip_char, ◌>>=◌}
+use Rattle.gix_date.specs.Text.Numbers.{two_digit_value, read_two_digits, two_digits}
 use Rattle.gix_date.specs.declared.parsing.offset.Sign.{Sign}
 use Rattle.gix_date.specs.declared.parsing.offset.Sign.TheVariants.{Plus, Minus}
 use Rattle.gix_date.specs.declared.parsing.offset.OffsetFields.{OffsetFields}
@@ -43,3 +43,23 @@ offset_of f =
 -- the same of fields that a rule allows
 abbrev pub offset_by : (OffsetFields → Bool) → OffsetFields → Option ℤ
 offset_by rule f = if rule f then Some (offset_of f) else None
+
+-- `-` where the offset is below 0, else `+`
+abbrev pub offset_sign : ℤ → ℕ
+offset_sign offset = if int_lt offset (pos 0) then minus else plus
+
+-- two digits of whole hours, and two of the whole minutes that remain
+abbrev pub hours_and_minutes : ℕ → List ℕ
+hours_and_minutes seconds = two_digits (hours_in seconds) ++ two_digits (minutes_in seconds)
+
+-- an offset as `+hhmm`
+abbrev pub compact_offset_text : ℤ → List ℕ
+compact_offset_text offset = offset_sign offset ∷ hours_and_minutes (unsigned_abs offset)
+
+-- the sign and the two numbers of an offset
+abbrev pub SignedPairs : Type 0
+SignedPairs = OffsetFields
+
+-- the sign of an offset
+abbrev pub OffsetSign : Type 0
+OffsetSign = Sign

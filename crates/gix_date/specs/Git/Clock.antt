@@ -6,7 +6,7 @@ use Rattle.std.specs.Str.{trim}
 use Rattle.std.specs.Str.Parse.{digits_value}
 use Rattle.gix_date.specs.Fields.ClockNumbers.{max_hour, max_minute, max_second}
 use Rattle.gix_date.specs.Text.Characters.{is_colon, is_dot, has_colon}
-use Rattle.gix_date.specs.Fields.Front.{ReadFront, ◌>>=◌}
+use Rattle.gix_date.specs.Text.Front.{ReadFront, ◌>>=◌}
 use Rattle.gix_date.specs.Text.Numbers.{read_two_digits}
 use Rattle.gix_date.specs.Text.SpaceWords.{is_nonempty}
 use Rattle.gix_date.specs.declared.civil.ClockFields.{ClockFields}

@@ -4,7 +4,7 @@ use Rattle.std.specs.Char.{is_ascii_digit}
 use Rattle.std.specs.Option.{option_or}
 use Rattle.std.specs.Str.{trim}
 use Rattle.gix_date.specs.Text.Characters.{space, plus, minus, letter_z}
-use Rattle.gix_date.specs.Fields.Front.{◌>>=◌}
+use Rattle.gix_date.specs.Text.Front.{◌>>=◌}
 
 -- the last place below n that passes a test
 abbrev pub last_place : (ℕ → Bool) → ℕ → Option ℕ

@@ -6,7 +6,7 @@ use Rattle.gix_date.specs.Fields.ClockNumbers.{max_hour, max_minute}
 use Rattle.gix_date.specs.Text.Characters.{space, dot, minus, colon, letter_t}
 use Rattle.gix_date.specs.Fields.Civil.{civil_instant, read_date}
 use Rattle.gix_date.specs.Git.ClockCut.{Cut, clock_cut}
-use Rattle.gix_date.specs.Fields.Front.{ReadFront, skip_char, ◌>>=◌}
+use Rattle.gix_date.specs.Text.Front.{ReadFront, skip_char, ◌>>=◌}
 use Rattle.gix_date.specs.Git.Clock.{git_clock}
 use Rattle.gix_date.specs.Text.Numbers.{two_digit_value, read_two_digits}
 use Rattle.gix_date.specs.Fields.Offsets.{read_sign, offset_by}

@@ -3,10 +3,9 @@ use Rattle.std.specs.Prelude.{◌≡◌, ◌≤◌, ◌⊎◌, ℕ, ℤ, pos, tr
 use Rattle.std.specs.Char.{is_ascii}
 use Rattle.std.specs.List.{list_all, slice_split, before_first}
 use Rattle.std.specs.Str.{trim}
-use Rattle.gix_date.specs.Families.Grammars.{AreDigits, IsPair, IsSign}
+use Rattle.gix_date.specs.Fields.FieldTexts.{AreDigits, IsPair, IsSign, IsYear}
 use Rattle.gix_date.specs.Fields.Civil.{civil_instant}
 use Rattle.gix_date.specs.Fields.ClockNumbers.{max_hour, max_minute, max_second}
-use Rattle.gix_date.specs.Fields.FieldTexts.{IsYear}
 use Rattle.gix_date.specs.Fields.Offsets.{offset_of}
 use Rattle.gix_date.specs.Git.Cuts.{IsCut}
 use Rattle.gix_date.specs.Git.Forms.{without_colons}

@@ -1,14 +1,9 @@
 -- What the laws of headers say.
 use Rattle.std.specs.Prelude.{◌≡◌, ◌↔◌, ◌/◌, ℕ, List, true, Some, IsSomeAnd, unsigned_abs, int_lt, pos}
-use Rattle.gix_date.specs.Families.Answer.{Absolute}
-use Rattle.gix_date.specs.Families.Order.{first_family_by}
-use Rattle.gix_date.specs.Families.Raw.{OffsetRule, allows, raw_time_by}
 use Rattle.gix_date.specs.Fields.ClockNumbers.{seconds_per_minute}
 use Rattle.gix_date.specs.Header.Canonical.{is_canonical_header}
 use Rattle.gix_date.specs.Header.Reading.{header_time}
 use Rattle.gix_date.specs.Header.Text.{header_text}
-use Rattle.gix_date.specs.Printing.ReadingBack.{IsRuleOffset}
-use Rattle.gix_date.specs.declared.parsing.raw.RawOffsets.{RawOffsets}
 use Rattle.gix_date.specs.declared.time.Time.{Time}
 
 -- reading and then writing gives the same text
@@ -35,13 +30,3 @@ AreAlike a b =
 -- header texts are equal iff times are alike
 abbrev pub AreWrittenAlike : Time → Time → Type 0
 AreWrittenAlike a b = (header_text a ≡ header_text b) ↔ AreAlike a b
-
--- a raw text is a header of the same time
-abbrev pub RawIsHeader : OffsetRule → List ℕ → Type 0
-RawIsHeader rule text = (t : Time) → raw_time_by rule text ≡ Some t → header_time text ≡ Some t
-
--- a canonical header is parsed to its time: if the rule allows its offset
-abbrev pub HeaderIsParsed : RawOffsets → List ℕ → Type 0
-HeaderIsParsed raw text =
-    (t : Time) → is_canonical_header text ≡ true → header_time text ≡ Some t → IsRuleOffset raw t.offset
-    → first_family_by (allows raw) text ≡ Some (Absolute t)

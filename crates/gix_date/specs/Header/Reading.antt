@@ -1,15 +1,16 @@
 -- How the time of a commit header is read.
-use Rattle.std.specs.Prelude.{◌≡◌, ℕ, List, ℤ, pos, if◌then◌else◌, Option, Some, None, Result, ok_or, take_while}
+use Rattle.std.specs.Prelude.{◌≡◌, ℕ, List, ℤ, pos, if◌then◌else◌, Option, Some, None, Result, ok_or, take_while, ◌∷◌, ◌++◌}
 use Rattle.std.specs.Option.{option_or, option_map_or}
 use Rattle.std.specs.Char.{is_ascii_digit}
-use Rattle.gix_date.specs.Text.Characters.{has_colon}
-use Rattle.gix_date.specs.Fields.Front.{◌>>=◌}
+use Rattle.gix_date.specs.Text.Characters.{has_colon, space}
+use Rattle.gix_date.specs.Text.Front.{◌>>=◌}
 use Rattle.gix_date.specs.Text.Numbers.{int_value}
 use Rattle.gix_date.specs.Fields.Offsets.{offset_fields, offset_of}
 use Rattle.gix_date.specs.Text.SpaceWords.{space_words, first_words}
 use Rattle.gix_date.specs.declared.error.Error.{Error}
 use Rattle.gix_date.specs.declared.error.Error.TheVariants.{InvalidTime}
 use Rattle.gix_date.specs.declared.time.Time.{Time}
+use Rattle.gix_date.specs.declared.parsing.offset.OffsetFields.{OffsetFields}
 
 -- what the first word says: its value as an int text, else that of the digits it begins with
 unfoldable pub header_seconds : List ℕ → Option ℤ
@@ -33,3 +34,11 @@ header_time text = if has_colon text then None else time_of_words (space_words t
 -- the header's time, or `InvalidTime`: if it says none
 abbrev pub ReadsHeader : List ℕ → Result Time Error → Type 0
 ReadsHeader text result = result ≡ ok_or (header_time text) InvalidTime
+
+-- a number, one space and the fields of an offset, as nearly all headers are
+pub record IsUsualHeader (text : List ℕ) (seconds : ℤ) (fields : OffsetFields) : Type 0 where
+  pub front : List ℕ
+  pub zone : List ℕ
+  pub whole : text ≡ front ++ space ∷ zone
+  pub is_seconds : int_value front ≡ Some seconds
+  pub are_fields : offset_fields zone ≡ Some fields

@@ -1,12 +1,12 @@
 -- The text of a time in a commit header.
-use Rattle.std.specs.Prelude.{◌≡◌, ℕ, List, [], ◌∷◌, ◌++◌, Bool, false, ℤ, pos, int_lt, nat_lt, unsigned_abs, if◌then◌else◌, Option, Some, None, IsSomeAnd, Result, Ok, Err}
+use Rattle.std.specs.Prelude.{◌≡◌, ℕ, List, [], ◌∷◌, ◌++◌, Bool, false, nat_lt, unsigned_abs, if◌then◌else◌, Option, Some, None, IsSomeAnd, Result, Ok, Err}
 use Rattle.std.specs.Borrow.{Bor}
 use Rattle.std.specs.Option.{option_map_or}
 use Rattle.std.specs.Str.{bytes_eq}
-use Rattle.gix_date.specs.Fields.ClockNumbers.{hours_in, minutes_in}
-use Rattle.gix_date.specs.Text.Characters.{space, plus, minus}
+use Rattle.gix_date.specs.Fields.Offsets.{compact_offset_text}
+use Rattle.gix_date.specs.Text.Characters.{space}
 use Rattle.gix_date.specs.Devices.StreamState.{StreamState, Takes, TakesProperPrefix, TakesNothing}
-use Rattle.gix_date.specs.Text.Numbers.{decimal_text, two_digits}
+use Rattle.gix_date.specs.Text.Numbers.{decimal_text}
 use Rattle.gix_date.specs.declared.error.Error.{Error}
 use Rattle.gix_date.specs.declared.error.Error.TheVariants.{OffsetTooWide, Write}
 use Rattle.gix_date.specs.declared.time.Time.{Time}
@@ -19,18 +19,6 @@ hundred_hours = HUNDRED_HOURS
 -- the longest header text, 26 bytes
 abbrev pub max_text_len : ℕ
 max_text_len = MAX_TEXT_LEN
-
--- `-` where the offset is below 0, else `+`
-abbrev pub offset_sign : ℤ → ℕ
-offset_sign offset = if int_lt offset (pos 0) then minus else plus
-
--- two digits of whole hours, and two of the whole minutes that remain
-abbrev pub hours_and_minutes : ℕ → List ℕ
-hours_and_minutes seconds = two_digits (hours_in seconds) ++ two_digits (minutes_in seconds)
-
--- an offset as `+hhmm`
-abbrev pub compact_offset_text : ℤ → List ℕ
-compact_offset_text offset = offset_sign offset ∷ hours_and_minutes (unsigned_abs offset)
 
 -- the header text, whatever the offset: the seconds in decimal, a space and the offset as `+hhmm`
 abbrev pub written_text : Time → List ℕ

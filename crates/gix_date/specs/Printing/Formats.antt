@@ -1,5 +1,5 @@
 -- What a time is printed as.
-use Rattle.std.specs.Prelude.{◌≡◌, ◌⊎◌, ℕ, List, Some, None, Result, Ok, Err, false, string_bytes, String, IsSome}
+use Rattle.std.specs.Prelude.{◌≡◌, ◌⊎◌, ℕ, List, Some, None, Result, Ok, Err, false, string_bytes, String, IsSome, MatchResult}
 use Rattle.std.specs.Str.{IsUtf8}
 use Rattle.std.specs.Global.{Global}
 use Rattle.jiff.specs.Types.{PlainZoned}
@@ -15,7 +15,7 @@ use Rattle.jiff_strtime.specs.declared.directive.Locale.TheVariants.{Default}
 use Rattle.jiff_strtime.specs.declared.tm.BrokenDownTime.{BrokenDownTime}
 use Rattle.gix_date.specs.Header.Text.{header_text}
 use Rattle.gix_date.specs.Text.Numbers.{decimal_text}
-use Rattle.gix_date.specs.Printing.Zoned.{IsConvertible, IsMoment}
+use Rattle.gix_date.specs.Fields.Zoned.{IsConvertible, IsMoment}
 use Rattle.gix_date.specs.declared.error.Error.{Error}
 use Rattle.gix_date.specs.declared.error.Error.TheVariants as errors
 use Rattle.gix_date.specs.declared.time.Time.{Time}
@@ -27,6 +27,10 @@ pub record ArePrinted (z : PlainZoned) (filled : Parts) : Type 0 where
   pub parts : Parts
   pub are_parts : IsZonedParts z parts
   pub is_filled : filled ≡ record parts { weekday = Some (weekday_of z.datetime.date) }
+
+-- there are parts of a zoned value that are printed
+abbrev pub HasParts : PlainZoned → Type 0
+HasParts z = (filled : BrokenDownTime) × ArePrinted z (parts_of filled)
 
 -- what `jiff` prints by a pattern: what its strict printer shows of a zoned value
 pub record IsShown (pattern : List ℕ) (z : PlainZoned) (shown : Shown) : Type 0 where
@@ -92,3 +96,9 @@ HasNoText t (Custom format) = HasNoPatternText t format.pattern.now
 abbrev pub PrintsOrSeconds : Time → Format → Result (String Global) Error → Type 0
 PrintsOrSeconds t format (Ok text) = Prints t format (Ok text) ⊎ (HasNoText t format × PrintsSeconds t (Ok text))
 PrintsOrSeconds t format (Err e) = e ≡ errors.Memory
+
+-- what printing a zoned value by a pattern comes to
+abbrev pub PrintsAt : List ℕ → PlainZoned → Result (String Global) Error → Type 0
+PrintsAt pattern z result =
+    MatchResult result (λ text. IsShown pattern z (Ok (string_bytes text)))
+    (λ e. (e ≡ errors.Memory) ⊎ ((e ≡ errors.Pattern) × IsUnprinted pattern z))

@@ -4,7 +4,7 @@ use Rattle.std.specs.Global.{Global}
 use Rattle.gix_date.specs.Fields.Layout.{LocalTime}
 use Rattle.gix_date.specs.Printing.LocalClocks.{clock_of, HasFourDigitFields}
 use Rattle.gix_date.specs.Printing.Formats.{PrintsPattern}
-use Rattle.gix_date.specs.Printing.Zoned.{IsConvertible}
+use Rattle.gix_date.specs.Fields.Zoned.{IsConvertible}
 use Rattle.gix_date.specs.declared.error.Error.{Error}
 use Rattle.gix_date.specs.declared.error.Error.TheVariants as errors
 use Rattle.gix_date.specs.declared.time.Time.{Time}

@@ -10,11 +10,13 @@ use Rattle.gix_date.specs.Relative.Steps.{zone_of, Resolves, Chain}
 use Rattle.gix_date.specs.Relative.Words.{relative_words}
 use Rattle.gix_date.specs.Text.Names.{named_in}
 use Rattle.gix_date.specs.Relative.Roles.{are_pairs, pairs}
-use Rattle.gix_date.specs.Printing.Zoned.{whole_seconds, IsConvertible}
+use Rattle.gix_date.specs.Fields.Zoned.{whole_seconds, IsConvertible}
 use Rattle.gix_date.specs.declared.error.ParseError.{ParseError}
 use Rattle.gix_date.specs.declared.error.ParseError.TheVariants.{MissingNow, Range}
 use Rattle.gix_date.specs.declared.parsing.relative.words.TimeUnit.{TimeUnit}
 use Rattle.gix_date.specs.declared.time.Time.{Time}
+use Rattle.gix_date.specs.declared.parsing.relative.Relative.{Relative as RelativeText}
+use Rattle.gix_date.specs.declared.parsing.relative.Relative.TheVariants as text
 
 -- what a relative text asks for
 pub data RelativeDate : Type 0 where
@@ -22,6 +24,11 @@ pub data RelativeDate : Type 0 where
   MinusSeconds : ℤ → RelativeDate
   -- pairs of count and unit, subtracted in turn: from the moment
   MinusPairs : List (ℤ × TimeUnit) → RelativeDate
+
+-- what a relative text asks for: the pairs are those of its words
+abbrev pub relative_date_of : RelativeText → RelativeDate
+relative_date_of (text.MinusSeconds seconds) = MinusSeconds seconds
+relative_date_of (text.MinusPairs found) = MinusPairs (pairs (relative_words found.now))
 
 -- the relative dates by their names
 abbrev pub date_names : List (List ℕ × RelativeDate)
@@ -52,6 +59,11 @@ pub record IsNamed (date : RelativeDate) (moment : Zoned) (t : Time) : Type 0 wh
   pub reaches : Reaches date (zone_of moment) (zoned_nanos moment) instant
   pub seconds_is : t.seconds ≡ whole_seconds instant
   pub offset_is : t.offset ≡ offset_at (zone_of moment) instant
+
+-- the time that the date names from the moment, or `None` where it names no time
+abbrev pub IsNamedIfAny : RelativeDate → Zoned → Option Time → Type 0
+IsNamedIfAny date moment None = (t : Time) → ¬ (IsNamed date moment t)
+IsNamedIfAny date moment (Some t) = IsNamed date moment t
 
 -- the result for a relative date: a time that `IsNamed`; `Range` if there is none; `MissingNow` without a moment
 abbrev pub RelativeOutcome : RelativeDate → Option Zoned → Result Time ParseError → Type 0

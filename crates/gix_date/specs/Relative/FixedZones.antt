@@ -8,7 +8,7 @@ use Rattle.jiff.specs.declared.zoned.Zoned.{Zoned}
 use Rattle.gix_date.specs.Fields.ClockNumbers.{seconds_per_minute, seconds_per_hour, seconds_per_day}
 use Rattle.gix_date.specs.Relative.Dates.{RelativeDate, MinusPairs, Reaches, IsNamed, relative_date}
 use Rattle.gix_date.specs.Relative.Steps.{zone_of}
-use Rattle.gix_date.specs.Printing.Zoned.{IsMoment, is_instant, time_in}
+use Rattle.gix_date.specs.Fields.Zoned.{IsMoment, is_instant, time_in}
 use Rattle.gix_date.specs.declared.parsing.relative.words.TimeUnit.TheVariants.{Seconds, Months}
 use Rattle.gix_date.specs.declared.time.Time.{Time}
 

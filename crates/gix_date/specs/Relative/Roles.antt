@@ -1,7 +1,7 @@
 -- Which words of a text are counts and periods, and which texts are pairs of these.
 use Rattle.std.specs.Prelude.{ℕ, Bool, true, false, not, ◌&&◌, ◌||◌, List, [], ◌∷◌, ℤ, if◌then◌else◌, Option, Some, None, is_some, filter_map}
 use Rattle.std.specs.List.{fold, list_any, list_all}
-use Rattle.gix_date.specs.Fields.Front.{◌>>=◌}
+use Rattle.gix_date.specs.Text.Front.{◌>>=◌}
 use Rattle.gix_date.specs.Text.Places.{Place, places}
 use Rattle.gix_date.specs.Relative.Words.{count_of, unit_of, unit_or_seconds, is_ago}
 use Rattle.gix_date.specs.declared.parsing.relative.words.TimeUnit.{TimeUnit}

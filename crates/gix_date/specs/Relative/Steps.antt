@@ -1,8 +1,8 @@
 -- What takes an instant back in a zone, in jiff's words.
-use Rattle.std.specs.Prelude.{◌≡◌, ◌+◌, ℤ, pos, ◌+ℤ◌, ◌-ℤ◌, ◌*ℤ◌, unsigned_abs, FitsSigned, List, [], ◌∷◌}
+use Rattle.std.specs.Prelude.{◌≡◌, ◌+◌, ℤ, pos, ◌+ℤ◌, ◌-ℤ◌, ◌*ℤ◌, unsigned_abs, FitsSigned, List, [], ◌∷◌, Option, Some, None}
 use Rattle.std.specs.Int.{w64, int_div_euclid, int_rem_euclid}
-use Rattle.jiff.specs.Words.{plain_zoned, offset_at, picked_instant, civil_nanos, nanos_of_seconds, time_nanos, month_number, IsTimestampNanos, IsYear}
-use Rattle.jiff.specs.Types.{TimeZone, DateTime, Date, Time}
+use Rattle.jiff.specs.Words.{plain_zoned, offset_at, picked_instant, civil_nanos, nanos_of_seconds, time_nanos, month_number, IsTimestampNanos, IsYear, zoned_nanos}
+use Rattle.jiff.specs.Types.{TimeZone, DateTime, Date, Time, Timestamp}
 use Rattle.jiff.specs.declared.zoned.Zoned.{Zoned}
 use Rattle.jiff_core.specs.Calendar.{days_from_civil}
 use Rattle.gix_date.specs.declared.parsing.relative.words.TimeUnit.{TimeUnit}
@@ -71,3 +71,18 @@ PairStep tz (count, Months size) instant after =
 abbrev pub Chain : TimeZone → List (ℤ × TimeUnit) → ℤ → ℤ → Type 0
 Chain tz [] instant after = after ≡ instant
 Chain tz (pair ∷ more) instant after = (between : ℤ) × PairStep tz pair instant between × Chain tz more between after
+
+-- the moment is at such an instant, or there is no such instant
+abbrev pub IsAt : (ℤ → Type 0) → Option Zoned → Type 0
+IsAt Such None = (instant : ℤ) → ¬ (Such instant)
+IsAt Such (Some moment) = Such (zoned_nanos moment)
+
+-- `IsAt` of an instant in no zone
+abbrev pub IsAtInstant : (ℤ → Type 0) → Option Timestamp → Type 0
+IsAtInstant Such None = (instant : ℤ) → ¬ (Such instant)
+IsAtInstant Such (Some instant) = Such instant.nanosecond
+
+-- two zones show the same, and choose the same
+pub record ChooseAlike (a b : TimeZone) : Type 0 where
+  pub offset : (instant : ℤ) → offset_at a instant ≡ offset_at b instant
+  pub picks : (shown : DateTime) → picked_instant a shown ≡ picked_instant b shown

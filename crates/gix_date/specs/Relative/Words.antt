@@ -60,3 +60,7 @@ unit_or_seconds period = unwrap_or (unit_of period) (Seconds (pos 1))
 -- the word that makes any period count as seconds
 abbrev pub is_ago : List ℕ → Bool
 is_ago word = is_name word (codes "ago")
+
+-- the unit of a period: a number of seconds or of months
+abbrev pub PeriodUnit : Type 0
+PeriodUnit = TimeUnit

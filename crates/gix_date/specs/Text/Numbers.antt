@@ -6,7 +6,7 @@ use Rattle.std.specs.Option.{option_or}
 use Rattle.std.specs.Str.{all_ascii_digits}
 use Rattle.std.specs.Str.Parse.{without_leading_sign, signed_digits_value}
 use Rattle.gix_date.specs.Text.Characters.{digit_zero}
-use Rattle.gix_date.specs.Fields.Front.{ReadFront, ◌>>=◌}
+use Rattle.gix_date.specs.Text.Front.{ReadFront, ◌>>=◌}
 
 -- the decimal text of a number: no plus, no leading zero, no `-0`
 abbrev pub decimal_text : ℤ → List ℕ

@@ -1,8 +1,9 @@
 -- White space, and the words that stand between it.
-use Rattle.std.specs.Prelude.{◌≡◌, ℕ, Bool, List, [], ◌∷◌, true, false, filter, map, encode_utf8_all, Option, Some, None}
+use Rattle.std.specs.Prelude.{◌≡◌, ℕ, Bool, List, [], ◌∷◌, true, false, filter, map, encode_utf8_all, Option, Some, None, option_map, option_copied}
 use Rattle.std.specs.Char.{is_whitespace, char_set_contains}
 use Rattle.std.specs.List.{slice_split}
 use Rattle.std.specs.Str.{chars}
+use Rattle.std.specs.Borrow.{Bor}
 
 -- the characters that Unicode calls White_Space
 abbrev pub white_space : List ℕ
@@ -33,3 +34,7 @@ first_words [] = None
 first_words (first ∷ []) = Some (first, None)
 first_words (first ∷ second ∷ []) = Some (first, Some second)
 first_words (first ∷ second ∷ third ∷ more) = Some (first, None)
+
+-- what a reader of these words gave, with the words as texts
+abbrev pub words_view : Option (Bor (List ℕ) × Option (Bor (List ℕ))) → Option (List ℕ × Option (List ℕ))
+words_view result = option_map (λ found. (found.0.now, option_copied found.1)) result

@@ -1,7 +1,7 @@
 //! Fast path for canonical headers: the usual ones are recognised by their bytes.
 ghost use Rattle.std.specs.Prelude.{◌≡◌, true, IsTrue};
 ghost use Rattle.gix_date.specs.Header.Canonical.{is_canonical_header};
-ghost use Rattle.gix_date.specs.Private.CanonicalBytes.{are_hours_and_minutes, are_usual_seconds, is_usual_offset};
+ghost use Rattle.gix_date.specs.Header.CanonicalBytes.{are_hours_and_minutes, are_usual_seconds, is_usual_offset};
 
 use crate::parsing::fast::ZONE_BYTES;
 use crate::parsing::numbers::{MAX_DIGITS, are_digits};
@@ -20,7 +20,7 @@ pub(crate) fn fast_canonical(text: &str) -> bool
 }
 
 /// Whether bytes are digits, the first no zero, and few enough for an `i64`.
-#[tactic(auto, unfolding(crate::specs::Private::CanonicalBytes::are_usual_seconds))]
+#[tactic(auto, unfolding(crate::specs::Header::CanonicalBytes::are_usual_seconds))]
 fn are_usual_seconds(bytes: &[u8]) -> bool
     ensures { result ≡ are_usual_seconds bytes.now }
 {
@@ -33,7 +33,7 @@ fn are_usual_seconds(bytes: &[u8]) -> bool
 }
 
 /// Whether bytes are a space and an offset of whole minutes, with hours where it is behind UTC.
-#[tactic(auto, unfolding(crate::specs::Private::CanonicalBytes::is_usual_offset))]
+#[tactic(auto, unfolding(crate::specs::Header::CanonicalBytes::is_usual_offset))]
 fn is_usual_offset(bytes: &[u8]) -> bool
     ensures { result ≡ is_usual_offset bytes.now }
 {

@@ -4,13 +4,11 @@ ghost use Rattle.jiff.specs.Words.{IsOffsetSeconds};
 ghost use Rattle.jiff_core.specs.Calendar.{weekday_number};
 ghost use Rattle.gix_date.specs.Careful.Dates.{day_named, first_day, is_large_if_raw, is_whole_git, names_its_day, unzoned_day, unzoned_git_time, unzoned_time, IsLocalIfAny};
 ghost use Rattle.gix_date.specs.Careful.Fronts.{longest_front};
-ghost use Rattle.gix_date.specs.Careful.Outcome.{careful_reading, clear_or, date_reading, has_word_before, is_clear_answer, local_date, names_no_other_day, reading_of_texts, unzoned_or, unzoned_reading, CarefulOutcome, First, IsPlaceIn, Local};
-ghost use Rattle.gix_date.specs.Families.Answer.{Absolute};
+ghost use Rattle.gix_date.specs.Careful.Outcome.{careful_reading, clear_or, date_reading, has_word_before, is_clear_answer, local_date, names_no_other_day, reading_of_texts, unzoned_or, unzoned_reading, CarefulOutcome, First, IsPlaceIn, Local, reading_of, IsReadingOf};
+ghost use Rattle.gix_date.specs.Families.Answer.{Absolute, answer_of, HasJiffOffset};
 ghost use Rattle.gix_date.specs.Families.Raw.{allows};
 ghost use Rattle.gix_date.specs.Printing.LocalClocks.{local_day as day_by_clock};
-ghost use Rattle.gix_date.specs.Printing.Zoned.{is_instant};
-ghost use Rattle.gix_date.specs.Private.Careful.{reading_of, IsReadingOf};
-ghost use Rattle.gix_date.specs.Private.Views.{answer_of, HasJiffOffset};
+ghost use Rattle.gix_date.specs.Fields.Zoned.{is_instant};
 ghost use Rattle.gix_date.specs.Relative.Steps.{zone_of};
 ghost use Rattle.gix_date.specs.declared.parsing.careful.Texts.TheVariants.{Careful, All};
 

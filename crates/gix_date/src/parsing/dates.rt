@@ -3,14 +3,13 @@ ghost use Rattle.std.specs.Prelude.{◌≡◌, if◌then◌else◌, IfOk, IfSome
 ghost use Rattle.std.specs.Int.Signed.{le_z};
 ghost use Rattle.std.specs.Option.{option_or};
 ghost use Rattle.jiff.specs.Words.{IsOffsetSeconds};
-ghost use Rattle.gix_date.specs.Families.Answer.{Absolute, Relative};
+ghost use Rattle.gix_date.specs.Families.Answer.{Absolute, Relative, answer_of, HasJiffOffset};
 ghost use Rattle.gix_date.specs.Families.Epoch.{at_time, min_bare_epoch, utc_time};
 ghost use Rattle.gix_date.specs.Families.Order.{AtText, RawText, family_answer, first_family, first_family_by, ParseOutcome, ParseNoAllocOutcome, RefusesWithCopy, RefusesUnknown, RefusesDate};
 ghost use Rattle.gix_date.specs.Families.Raw.{allows};
 ghost use Rattle.gix_date.specs.Families.Shapes.{first_among, shape_families};
 ghost use Rattle.gix_date.specs.Git.Forms.{git_time};
 ghost use Rattle.gix_date.specs.Relative.Dates.{relative_date};
-ghost use Rattle.gix_date.specs.Private.Views.{answer_of, HasJiffOffset};
 
 use crate::error::{Error, InputBytes, ParseError};
 use crate::parsing::answer::Answer;

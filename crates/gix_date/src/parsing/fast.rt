@@ -1,7 +1,6 @@
 //! Fast paths for usual headers and numbers. `None` means only that the text has another form.
 ghost use Rattle.std.specs.Prelude.{◌≡◌, IfSome, Some};
-ghost use Rattle.gix_date.specs.Header.Reading.{header_time};
-ghost use Rattle.gix_date.specs.Private.Headers.{IsUsualHeader};
+ghost use Rattle.gix_date.specs.Header.Reading.{header_time, IsUsualHeader};
 ghost use Rattle.gix_date.specs.Text.Numbers.{int_value};
 
 use crate::parsing::numbers::{MAX_DIGITS, fast_int};

@@ -2,16 +2,15 @@
 ghost use Rattle.std.specs.Prelude.{◌≡◌, ◌<◌, IfSome, option_copied};
 ghost use Rattle.gix_date.specs.Text.Characters.{has_colon};
 ghost use Rattle.gix_date.specs.Fields.DateFields.{read_colon_clock};
-ghost use Rattle.gix_date.specs.Fields.Front.{skip_char};
+ghost use Rattle.gix_date.specs.Text.Front.{skip_char, read_view};
 ghost use Rattle.gix_date.specs.Git.Forms.{read_marked_date};
-ghost use Rattle.gix_date.specs.Private.Civil.{ClockFits, DateFits};
-ghost use Rattle.gix_date.specs.Private.Views.{read_view};
+ghost use Rattle.gix_date.specs.Fields.Civil.{ClockFits, DateFits};
 
 use crate::civil::{ClockFields, DateFields};
 use crate::parsing::numbers::parse_two_digits;
 
 /// The text after this character, if it is the first.
-#[tactic(auto, unfolding(crate::specs::Fields::Front::skip_char))]
+#[tactic(auto, unfolding(crate::specs::Text::Front::skip_char))]
 #[inline(always)]
 pub(crate) fn skip_char(mark: char, text: &str) -> Option<&str>
     requires { mark < 128 }

@@ -1,7 +1,6 @@
 //! Where a text that is not careful stops being so: at the end of the longest front that some form of a date has.
 ghost use Rattle.std.specs.Prelude.{◌≡◌, ◌<◌, ◌-◌, length, option_copied, if◌then◌else◌, nat_lt, IsCharBoundary};
-ghost use Rattle.gix_date.specs.Careful.Fronts.{left_by, skip_number, skip_marked, skip_day, skip_clock, skip_named_day, skip_git_day, skip_bare_fraction, skip_git_clock, git_parts, iso8601_parts, strict_parts, rfc2822_parts, gitoxide_parts, default_parts, longest_front};
-ghost use Rattle.gix_date.specs.Private.Careful.{IsRestOf};
+ghost use Rattle.gix_date.specs.Careful.Fronts.{left_by, skip_number, skip_marked, skip_day, skip_clock, skip_named_day, skip_git_day, skip_bare_fraction, skip_git_clock, git_parts, iso8601_parts, strict_parts, rfc2822_parts, gitoxide_parts, default_parts, longest_front, IsRestOf};
 
 use crate::civil::is_date;
 use crate::parsing::fields::skip_char;

@@ -3,8 +3,8 @@ ghost use Rattle.std.specs.Prelude.{◌≡◌, ◌<◌, ◌≤◌, if◌then◌e
 ghost use Rattle.jiff.specs.Words.{IsOffsetSeconds};
 ghost use Rattle.std.specs.Str.{trim};
 ghost use Rattle.gix_date.specs.Careful.Dates.{is_whole_clock, is_whole_git, unzoned_git_time};
-ghost use Rattle.gix_date.specs.Private.Civil.{ClockFits, DateFits};
-ghost use Rattle.gix_date.specs.Private.Views.{read_view};
+ghost use Rattle.gix_date.specs.Fields.Civil.{ClockFits, DateFits};
+ghost use Rattle.gix_date.specs.Text.Front.{read_view};
 ghost use Rattle.gix_date.specs.Git.Forms.{read_compact_date, time_at, time_of_cut, dotted_front, compact_front, flexible_front, git_front, git_time};
 
 use crate::civil::{ClockFields, DateFields, civil_instant};

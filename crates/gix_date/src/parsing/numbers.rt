@@ -7,7 +7,7 @@ ghost use Rattle.std.specs.List.{prefix_len, list_all};
 ghost use Rattle.std.specs.Char.{is_ascii_digit};
 ghost use Rattle.std.specs.Str.{all_ascii_digits};
 ghost use Rattle.std.specs.Str.Parse.{digits_value};
-ghost use Rattle.gix_date.specs.Private.Views.{read_view};
+ghost use Rattle.gix_date.specs.Text.Front.{read_view};
 ghost use Rattle.gix_date.specs.Text.Numbers.{int_value, two_digit_value, read_two_digits, read_field, read_year};
 
 /// The most digits that are read at once: an `i64` holds any so many.

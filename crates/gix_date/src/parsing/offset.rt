@@ -1,9 +1,8 @@
 //! The fields of an offset from UTC, as header lines and dates write it. Each reader has limits of its own on them.
 ghost use Rattle.std.specs.Prelude.{◌≡◌, ◌<◌, IfSome, true, false, if◌then◌else◌, option_and_then};
 ghost use Rattle.gix_date.specs.Fields.DateOffsets.{jiff_offset, last_colon_pair, strict_offset};
-ghost use Rattle.gix_date.specs.Fields.Front.{skip_char};
+ghost use Rattle.gix_date.specs.Text.Front.{skip_char, read_view};
 ghost use Rattle.gix_date.specs.Fields.Offsets.{read_sign, last_pair, offset_fields};
-ghost use Rattle.gix_date.specs.Private.Views.{read_view};
 ghost use Rattle.gix_date.specs.Text.Characters.{colon};
 ghost use Rattle.gix_date.specs.Text.Numbers.{read_two_digits};
 

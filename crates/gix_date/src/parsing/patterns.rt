@@ -4,10 +4,11 @@ ghost use Rattle.gix_date.specs.Careful.Dates.{unzoned_day};
 ghost use Rattle.gix_date.specs.Fields.DateFields.{skip_day_name};
 ghost use Rattle.gix_date.specs.Families.Patterns.{real_day_answer, time_answer, date_answer, rfc2822_answer};
 ghost use Rattle.gix_date.specs.Fields.Layout.{Spaces, Year, Clock, MailClock, Offset, MailOffset, LetterT, ColonOffset};
-ghost use Rattle.gix_date.specs.Private.AfterDay.{answer_after, dashed_answer, read_named_day, named_day_answer};
-ghost use Rattle.gix_date.specs.Private.Civil.{DateFits, ClockFits};
+ghost use Rattle.gix_date.specs.Families.AfterDay.{answer_after, dashed_answer, read_named_day, named_day_answer};
+ghost use Rattle.gix_date.specs.Fields.Civil.{DateFits, ClockFits};
 ghost use Rattle.jiff.specs.Words.{IsOffsetSeconds};
-ghost use Rattle.gix_date.specs.Private.Views.{answer_of, read_view, HasJiffOffset};
+ghost use Rattle.gix_date.specs.Families.Answer.{answer_of, HasJiffOffset};
+ghost use Rattle.gix_date.specs.Text.Front.{read_view};
 
 use crate::civil::{ClockFields, DateFields, civil_instant, is_date, midnight_instant};
 use crate::parsing::answer::Answer;
@@ -145,7 +146,7 @@ pub(crate) fn parse_named_day(text: &str) -> Option<Answer<'static>>
 }
 
 /// A day of the week, a month by its name, a day, and the spaces after each, with the year left at 0.
-#[tactic(auto, unfolding(crate::specs::Private::AfterDay::read_named_day))]
+#[tactic(auto, unfolding(crate::specs::Families::AfterDay::read_named_day))]
 #[inline(always)]
 fn read_named_day(text: &str) -> Option<(DateFields, &str)>
     ensures value { read_view result ≡ read_named_day text.now }

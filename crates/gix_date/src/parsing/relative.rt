@@ -1,13 +1,10 @@
 //! Relative texts: `yesterday`, `2 weeks ago`, `1 month 2 days ago`.
 ghost use Rattle.std.specs.Prelude.{◌≡◌, pos, IfOk, IfSome, option_map};
-ghost use Rattle.gix_date.specs.Printing.Zoned.{whole_seconds};
+ghost use Rattle.gix_date.specs.Fields.Zoned.{whole_seconds};
 ghost use Rattle.jiff.specs.Words.{zoned_nanos, fixed_zone, offset_at, KeepsZone, IsOffsetSeconds};
-ghost use Rattle.gix_date.specs.Relative.Dates.{named_date, relative_date, RelativeOutcome, Reaches};
-ghost use Rattle.gix_date.specs.Private.Names.{IsNamedIfAny};
-ghost use Rattle.gix_date.specs.Private.Views.{relative_date_of};
-ghost use Rattle.gix_date.specs.Private.RelativePairs.{pairs_read};
-ghost use Rattle.gix_date.specs.Relative.Steps.{zone_of, Chain};
-ghost use Rattle.gix_date.specs.Private.Steps.{ChooseAlike, IsAt, IsAtInstant};
+ghost use Rattle.gix_date.specs.Relative.Dates.{named_date, relative_date, RelativeOutcome, Reaches, IsNamedIfAny, relative_date_of};
+ghost use Rattle.gix_date.specs.Relative.PairsRead.{pairs_read};
+ghost use Rattle.gix_date.specs.Relative.Steps.{zone_of, Chain, ChooseAlike, IsAt, IsAtInstant};
 ghost use Rattle.gix_date.specs.Relative.Words.{relative_words};
 
 use crate::error::ParseError;

@@ -1,7 +1,6 @@
 //! The words of a text, between white space.
 ghost use Rattle.std.specs.Prelude.{◌≡◌};
-ghost use Rattle.gix_date.specs.Text.SpaceWords.{space_words, first_words};
-ghost use Rattle.gix_date.specs.Private.Views.{words_view};
+ghost use Rattle.gix_date.specs.Text.SpaceWords.{space_words, first_words, words_view};
 
 /// The first word of a text, and the second if there are exactly two. `None` without a word.
 ///

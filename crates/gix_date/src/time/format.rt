@@ -11,8 +11,7 @@ ghost use Rattle.jiff.specs.ZonedText.{zoned_parts};
 ghost use Rattle.jiff_core.specs.Date.{weekday_of};
 ghost use Rattle.jiff_strtime.specs.Text.{parts_of};
 ghost use Rattle.jiff_core.specs.declared.error.Error.TheVariants as jiff_errors;
-ghost use Rattle.gix_date.specs.Printing.Formats.{Prints, PrintsOrSeconds, PrintsPattern, PrintsPatternOrSeconds, PrintsHeader, PrintsSeconds};
-ghost use Rattle.gix_date.specs.Private.Printing.{PrintsAt};
+ghost use Rattle.gix_date.specs.Printing.Formats.{Prints, PrintsOrSeconds, PrintsPattern, PrintsPatternOrSeconds, PrintsHeader, PrintsSeconds, PrintsAt};
 ghost use Rattle.gix_date.specs.declared.error.Error.TheVariants as errors;
 
 use crate::error::Error;
@@ -162,8 +161,7 @@ fn is_memory(error: &Error) -> bool
 }
 
 impl Time {
-    ghost use Rattle.std.specs.Prelude.{◌≡◌};
-    ghost use Rattle.gix_date.specs.Printing.Zoned.{IsConvertible, IsMoment};
+    ghost use Rattle.gix_date.specs.Fields.Zoned.{IsConvertible, IsMoment};
     ghost use Rattle.gix_date.specs.declared.error.Error.TheVariants.{Conversion};
 
     /// The text of this time in a format: the seconds in decimal, the text of a commit header, or what `jiff`'s strict

@@ -1,7 +1,7 @@
 //! Times made of their parts, and of a clock and a zone.
 ghost use Rattle.std.specs.Prelude.{◌≡◌, option_map, unwrap_or};
 ghost use Rattle.jiff.specs.Words.{plain_zone};
-ghost use Rattle.gix_date.specs.Printing.Zoned.{time_in, time_in_utc};
+ghost use Rattle.gix_date.specs.Fields.Zoned.{time_in, time_in_utc};
 
 use crate::time::{OffsetInSeconds, SecondsSinceUnixEpoch, Time};
 use jiff::Timestamp;

@@ -6,12 +6,11 @@ ghost use Rattle.gix_date.specs.Text.Characters.{comma, space};
 ghost use Rattle.gix_date.specs.Text.Names.{day_name, month_name};
 ghost use Rattle.gix_date.specs.Fields.ClockNumbers.{hours_in, minutes_in, seconds_per_minute};
 ghost use Rattle.gix_date.specs.Fields.FieldTexts.{four_digits, date_text, clock_text};
-ghost use Rattle.gix_date.specs.Header.Text.{compact_offset_text};
+ghost use Rattle.gix_date.specs.Fields.Offsets.{compact_offset_text};
 ghost use Rattle.gix_date.specs.Printing.Formats.{PrintsPattern};
 ghost use Rattle.gix_date.specs.Printing.LocalClocks.{local_seconds, clock_of, HasFourDigitFields};
-ghost use Rattle.gix_date.specs.Printing.NamedTexts.{rfc2822_text, git_rfc2822_text, iso8601_text, iso8601_strict_text, gitoxide_text, default_text};
-ghost use Rattle.gix_date.specs.Printing.Zoned.{IsConvertible};
-ghost use Rattle.gix_date.specs.Private.NamedTexts.{local_of, HasFields, IsShownByAll};
+ghost use Rattle.gix_date.specs.Printing.NamedTexts.{rfc2822_text, git_rfc2822_text, iso8601_text, iso8601_strict_text, gitoxide_text, default_text, local_of, HasFields, IsShownByAll};
+ghost use Rattle.gix_date.specs.Fields.Zoned.{IsConvertible};
 ghost use Rattle.gix_date.specs.declared.error.Error.TheVariants as errors;
 
 use crate::civil::{ClockFields, DateFields};

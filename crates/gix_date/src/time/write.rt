@@ -4,7 +4,8 @@ ghost use Rattle.std.specs.Fmt.{decimal, fmt_error, DisplaysOnOk, DisplaysStyled
 ghost use Rattle.arrayvec.specs.ArrayString.{array_string_len};
 ghost use Rattle.gix_date.specs.Text.Numbers.{decimal_text, two_digits};
 ghost use Rattle.gix_date.specs.Fields.ClockNumbers.{hours_in, minutes_in};
-ghost use Rattle.gix_date.specs.Header.Text.{header_text, max_text_len, offset_sign, Writes};
+ghost use Rattle.gix_date.specs.Header.Text.{header_text, max_text_len, Writes};
+ghost use Rattle.gix_date.specs.Fields.Offsets.{offset_sign};
 
 use crate::device::{Sink, put_all};
 use crate::error::Error;

@@ -2,8 +2,8 @@
 ghost use Rattle.std.specs.Prelude.{◌≡◌, ◌<◌, ◌≤◌, ◌==◌, IfSome};
 ghost use Rattle.std.specs.Char.{is_ascii};
 ghost use Rattle.std.specs.List.{list_all, before_first};
-ghost use Rattle.gix_date.specs.Private.Civil.{ClockFits};
-ghost use Rattle.gix_date.specs.Private.Views.{read_view};
+ghost use Rattle.gix_date.specs.Fields.Civil.{ClockFits};
+ghost use Rattle.gix_date.specs.Text.Front.{read_view};
 ghost use Rattle.gix_date.specs.Git.Clock.{digits_at_most, clock_of_fields, clock_with_colons, read_pair_or_end, clock_without_colons, trimmed_clock, git_clock};
 
 use crate::civil::ClockFields;

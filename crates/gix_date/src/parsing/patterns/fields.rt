@@ -3,8 +3,8 @@ ghost use Rattle.std.specs.Prelude.{◌≡◌, ◌<◌, IfSome, [], ◌∷◌, t
 ghost use Rattle.std.specs.List.{prefix_len};
 ghost use Rattle.gix_date.specs.Text.Characters.{is_space};
 ghost use Rattle.gix_date.specs.Fields.FieldTexts.{AreThreeLetters};
-ghost use Rattle.gix_date.specs.Private.Civil.{DateFits, ClockFits};
-ghost use Rattle.gix_date.specs.Private.Views.{read_view};
+ghost use Rattle.gix_date.specs.Fields.Civil.{DateFits, ClockFits};
+ghost use Rattle.gix_date.specs.Text.Front.{read_view};
 ghost use Rattle.gix_date.specs.Fields.DateFields.{skip_spaces, month_named, is_weekday, read_month, skip_weekday, read_plain_date, read_second, read_clock, read_mail_clock, without_leap_second};
 
 use crate::civil::{ClockFields, DateFields};

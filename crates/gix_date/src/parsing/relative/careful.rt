@@ -1,8 +1,7 @@
 //! Which relative texts leave nothing to guess: each word fits the one before it, and the last is `ago`.
 ghost use Rattle.std.specs.Prelude.{◌≡◌, ◌<◌, length, IfSome, IsCharBoundary, option_map};
-ghost use Rattle.gix_date.specs.Careful.Texts.{after_word, begins_word, ends_in_ago, is_and, is_clear_at, is_plain_count, may_follow, may_stand_after, separates, unclear_place, word_at};
+ghost use Rattle.gix_date.specs.Careful.Texts.{after_word, begins_word, ends_in_ago, is_and, is_clear_at, is_plain_count, may_follow, may_stand_after, separates, unclear_place, word_at, IsWordPlace};
 ghost use Rattle.gix_date.specs.Git.ClockCut.{last_place};
-ghost use Rattle.gix_date.specs.Private.Careful.{IsWordPlace};
 
 use crate::parsing::relative::words::{has_unit, is_ago, is_count_word, word_len};
 

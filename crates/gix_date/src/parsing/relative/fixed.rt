@@ -2,9 +2,8 @@
 //! directly, and no zoned value is passed from pair to pair.
 ghost use Rattle.std.specs.Prelude.{◌≡◌, ◌↔◌, ◌-ℤ◌, IfSome, IsSome};
 ghost use Rattle.jiff.specs.Words.{fixed_zone, epoch_day, nanos_of_seconds, IsTimestampNanos};
-ghost use Rattle.gix_date.specs.Private.RelativePairs.{pair_of, pairs_read};
-ghost use Rattle.gix_date.specs.Relative.Steps.{MonthsStep, PairStep, Chain, civil_of};
-ghost use Rattle.gix_date.specs.Private.Steps.{IsAtInstant};
+ghost use Rattle.gix_date.specs.Relative.PairsRead.{pair_of, pairs_read};
+ghost use Rattle.gix_date.specs.Relative.Steps.{MonthsStep, PairStep, Chain, civil_of, IsAtInstant};
 ghost use Rattle.gix_date.specs.Relative.Words.{relative_words};
 
 use crate::parsing::relative::pairs::{Pair, next_pair};

@@ -1,6 +1,6 @@
 //! Pairs of counts and periods, off the front of a text.
 ghost use Rattle.std.specs.Prelude.{◌≡◌, ◌∷◌, [], ◌<◌, length, IfSome, MatchOption};
-ghost use Rattle.gix_date.specs.Private.RelativePairs.{pairs_read, pair_of};
+ghost use Rattle.gix_date.specs.Relative.PairsRead.{pairs_read, pair_of};
 ghost use Rattle.gix_date.specs.Relative.Words.{relative_words, unit_or_seconds};
 
 use crate::parsing::relative::words::{TimeUnit, count_of, next_word, unit_of};

@@ -1,7 +1,7 @@
 //! The first pass over a relative text: whether its words are pairs. The definition gives each word its role by its
 //! place; the lemma `verdict_of` shows that one pass decides the same.
 ghost use Rattle.std.specs.Prelude.{◌≡◌, ◌↔◌, IsTrue};
-ghost use Rattle.gix_date.specs.Private.RelativeScan.{step, verdict};
+ghost use Rattle.gix_date.specs.Relative.Scan.{step, verdict};
 ghost use Rattle.gix_date.specs.Relative.Words.{relative_words};
 ghost use Rattle.gix_date.specs.Relative.Roles.{are_pairs};
 ghost use Rattle.gix_date.specs.Relative.Pairs.{ArePairs};

@@ -2,10 +2,9 @@
 ghost use Rattle.std.specs.Prelude.{◌≡◌, ◌↔◌, ◌+ℤ◌, ◌-ℤ◌, pos, IfSome, IsSome};
 ghost use Rattle.std.specs.Int.{int_div_euclid, int_rem_euclid};
 ghost use Rattle.jiff.specs.Words.{plain_zone, zoned_nanos, nanos_of_seconds, KeepsZone, IsTimestampNanos, IsYear, IsYmd, IsEpochDay, IsBetween, epoch_day, month_number};
-ghost use Rattle.gix_date.specs.Private.RelativeFields.{IsInstantOf, HasDay};
-ghost use Rattle.gix_date.specs.Private.RelativePairs.{pair_of};
-ghost use Rattle.gix_date.specs.Relative.Steps.{zone_of, Resolves, SecondsStep, MonthsStep, PairStep, IsPicked, civil_of};
-ghost use Rattle.gix_date.specs.Private.Steps.{IsAt};
+ghost use Rattle.gix_date.specs.Relative.LocalFields.{IsInstantOf, HasDay};
+ghost use Rattle.gix_date.specs.Relative.PairsRead.{pair_of};
+ghost use Rattle.gix_date.specs.Relative.Steps.{zone_of, Resolves, SecondsStep, MonthsStep, PairStep, IsPicked, civil_of, IsAt};
 
 use crate::parsing::relative::pairs::Pair;
 use crate::parsing::relative::words::{MONTHS_PER_YEAR, TimeUnit};
@@ -26,7 +25,7 @@ pub(crate) struct Fields {
 
 impl<'a> From<Zoned<'a>> for Fields {
     ghost use Rattle.jiff.specs.Words.{plain_zoned};
-    ghost use Rattle.gix_date.specs.Private.RelativeFields.{AreFieldsOf};
+    ghost use Rattle.gix_date.specs.Relative.LocalFields.{AreFieldsOf};
 
     ghost from_gives = { λ moment fields. AreFieldsOf (plain_zoned moment).datetime fields };
 

@@ -6,7 +6,7 @@ use Rattle.gix_date.specs.Computing.{computing}
 use Rattle.gix_date.specs.Families.Order.{first_family, ParseNoAllocOutcome, WithCopy}
 use Rattle.gix_date.specs.Relative.FixedZones.{earlier, NamesEarlier}
 use Rattle.gix_date.specs.Relative.Dates.{MinusSeconds, RelativeOutcome}
-use Rattle.gix_date.specs.Printing.Zoned.{IsMoment, is_instant}
+use Rattle.gix_date.specs.Fields.Zoned.{IsMoment, is_instant}
 use Rattle.gix_date.specs.declared.error.Error.{Error}
 use Rattle.gix_date.specs.declared.error.Error.TheVariants.{Range}
 use Rattle.gix_date.specs.declared.error.ParseError.{ParseError}

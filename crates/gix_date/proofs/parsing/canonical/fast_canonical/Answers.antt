@@ -1,6 +1,6 @@
 use Rattle.std.proofs.Common.{rules, ◌≡◌, ◌-◌, length, true}
 use Rattle.gix_date.proofs.Fast.CanonicalBytes.{usual-canonical}
-use Rattle.gix_date.specs.Private.CanonicalBytes.{are_usual_seconds, is_usual_offset}
+use Rattle.gix_date.specs.Header.CanonicalBytes.{are_usual_seconds, is_usual_offset}
 use Rattle.gix_date.proofs.parsing.canonical.fast_canonical.Goals as goal
 
 pub returns-then-are_usual_seconds : goal.returns-then-are_usual_seconds

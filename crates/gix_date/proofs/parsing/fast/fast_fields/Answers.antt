@@ -2,7 +2,7 @@ use Rattle.std.proofs.Common.{rules, arith, ◌≡◌, ◌∙◌, ◌+◌, ◌-�
 use Rattle.std.proofs.lemmas.Int.{to_z-of_z}
 use Rattle.std.proofs.lemmas.Str.{IsCharBoundary-after_ascii}
 use Rattle.gix_date.specs.Text.Characters.{space}
-use Rattle.gix_date.specs.Private.Headers.{IsUsualHeader}
+use Rattle.gix_date.specs.Header.Reading.{IsUsualHeader}
 use Rattle.gix_date.specs.Text.Numbers.{int_value}
 use Rattle.gix_date.specs.Fields.Offsets.{offset_fields}
 use Rattle.gix_date.proofs.Fast.FastHeaders.{plain-places}

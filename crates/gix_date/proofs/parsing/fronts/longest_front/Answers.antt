@@ -1,5 +1,5 @@
 use Rattle.std.proofs.Common.{sym, subst}
-use Rattle.gix_date.specs.Private.Careful.{IsRestOf}
+use Rattle.gix_date.specs.Careful.Fronts.{IsRestOf}
 use Rattle.gix_date.proofs.Careful.Fronts.{git-left, iso8601-left, strict-left, rfc2822-left, gitoxide-left, default-left}
 use Rattle.gix_date.proofs.parsing.fronts.longest_front.Goals as goal
 

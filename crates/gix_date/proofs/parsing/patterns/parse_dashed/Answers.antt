@@ -1,6 +1,6 @@
 use Rattle.std.proofs.Common.{◌∙◌, ap, sym}
 use Rattle.std.specs.Option.{option_map}
-use Rattle.gix_date.specs.Private.Views.{answer_of}
+use Rattle.gix_date.specs.Families.Answer.{answer_of}
 use Rattle.gix_date.proofs.Fields.AfterDay.{no-day, day-alone, day-then-clock, day-then-t}
 use Rattle.gix_date.proofs.parsing.patterns.parse_dashed.Goals as goal
 

@@ -1,6 +1,6 @@
 use Rattle.std.proofs.Common.{◌∙◌, ap, sym}
 use Rattle.std.specs.Option.{option_map}
-use Rattle.gix_date.specs.Private.Views.{answer_of}
+use Rattle.gix_date.specs.Families.Answer.{answer_of}
 use Rattle.gix_date.proofs.Fields.AfterDay.{no-named-day, day-then-year, day-then-hour}
 use Rattle.gix_date.proofs.parsing.patterns.parse_named_day.Goals as goal
 

@@ -1,7 +1,7 @@
 use Rattle.std.proofs.Common.{rules, ◌∙◌, subst}
 use Rattle.jiff.specs.Words.{plain_zoned, zoned_nanos}
 use Rattle.jiff.specs.Types.{TimeZone}
-use Rattle.gix_date.specs.Private.RelativePairs.{pair_of, pairs_read}
+use Rattle.gix_date.specs.Relative.PairsRead.{pair_of, pairs_read}
 use Rattle.gix_date.specs.Relative.Steps.{PairStep}
 use Rattle.gix_date.specs.Relative.Words.{relative_words}
 use Rattle.gix_date.proofs.Relative.Chains.{left-next}

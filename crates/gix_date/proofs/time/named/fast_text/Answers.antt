@@ -1,5 +1,5 @@
 use Rattle.std.proofs.Common.{List, ℕ, subst, sym}
-use Rattle.gix_date.specs.Private.NamedTexts.{local_of, IsShownByAll}
+use Rattle.gix_date.specs.Printing.NamedTexts.{local_of, IsShownByAll}
 use Rattle.gix_date.proofs.Printing.ShownTexts.{copy-prints}
 use Rattle.gix_date.proofs.time.named.fast_text.Goals as goal
 

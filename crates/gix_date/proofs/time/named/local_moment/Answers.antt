@@ -6,7 +6,7 @@ use Rattle.jiff_core.proofs.CalendarLemmas.{days_in_month_bounds}
 use Rattle.jiff_core.proofs.SignedLemmas.{signed_arith, one_part}
 use Rattle.gix_date.specs.Printing.LocalClocks.{local_day, second_of_day}
 use Rattle.gix_date.proofs.Printing.LocalClocks.{clock-by, unsigned-is}
-use Rattle.gix_date.specs.Private.NamedTexts.{HasFields}
+use Rattle.gix_date.specs.Printing.NamedTexts.{HasFields}
 use Rattle.gix_date.proofs.time.named.local_moment.Goals as goal
 
 pub returns-clause-shown : goal.returns-clause-shown

@@ -2,7 +2,7 @@ use Rattle.std.proofs.Common.{◌≡◌, ◌∙◌, ◌++◌, [], ◌∷◌, Lis
 use Rattle.gix_date.specs.Text.Characters.{space}
 use Rattle.gix_date.specs.Text.Names.{day_name, month_name}
 use Rattle.gix_date.specs.Fields.FieldTexts.{four_digits, clock_text}
-use Rattle.gix_date.specs.Header.Text.{compact_offset_text}
+use Rattle.gix_date.specs.Fields.Offsets.{compact_offset_text}
 use Rattle.gix_date.proofs.Printing.ShownTexts.{three-joined}
 use Rattle.gix_date.proofs.time.named.push_git.Goals as goal
 

@@ -1,7 +1,6 @@
 use Rattle.std.proofs.Common.{◌∙◌, ◌++◌, List, ℕ, ap}
 use Rattle.gix_date.specs.Fields.FieldTexts.{date_text}
-use Rattle.gix_date.specs.Private.NamedTexts.{local_of}
-use Rattle.gix_date.specs.Printing.NamedTexts.{short_pattern, short_text, rfc2822_pattern, rfc2822_text, git_rfc2822_pattern, git_rfc2822_text, iso8601_pattern, iso8601_text, iso8601_strict_pattern, iso8601_strict_text, gitoxide_pattern, gitoxide_text, default_pattern, default_text}
+use Rattle.gix_date.specs.Printing.NamedTexts.{local_of, short_pattern, short_text, rfc2822_pattern, rfc2822_text, git_rfc2822_pattern, git_rfc2822_text, iso8601_pattern, iso8601_text, iso8601_strict_pattern, iso8601_strict_text, gitoxide_pattern, gitoxide_text, default_pattern, default_text}
 use Rattle.gix_date.proofs.Printing.NamedTexts.{formats_printed}
 use Rattle.gix_date.proofs.Printing.ShownTexts.{named-shown}
 use Rattle.gix_date.proofs.time.named.push_named.Goals as goal

@@ -1,5 +1,5 @@
 use Rattle.std.proofs.Common.{◌≡◌, ◌∙◌, ℕ, List, subst}
-use Rattle.gix_date.specs.Devices.TimeBuf.{text_in}
+use Rattle.gix_date.specs.Header.TimeBuf.{text_in}
 use Rattle.gix_date.specs.Header.Text.{written_text}
 use Rattle.gix_date_tool.specs.Lines.{with_newline}
 use Rattle.gix_date_tool.specs.Outbox.{Sends, output}

@@ -1,5 +1,5 @@
 use Rattle.std.proofs.Common.{ℕ, List, ◌∙◌, ap, sym, Some, arith}
-use Rattle.gix_date.specs.Private.Views.{read_view}
+use Rattle.gix_date.specs.Text.Front.{read_view}
 use Rattle.gix_date.proofs.Fields.NamesRead.{month-of, no-month-of, short-no-month, cut-three}
 use Rattle.gix_date.proofs.parsing.patterns.fields.read_month.Goals as goal
 

@@ -1,6 +1,6 @@
 use Rattle.std.proofs.Common.{rules, ap, ◌∙◌, FitsSigned, w32, w64}
 use Rattle.std.proofs.lemmas.Int.{to_z-of_z}
-use Rattle.gix_date.specs.Private.Views.{relative_date_of}
+use Rattle.gix_date.specs.Relative.Dates.{relative_date_of}
 use Rattle.gix_date.specs.declared.time.Time.{Time}
 use Rattle.gix_date.proofs.Relative.FixedSteps.{named-at, none-named}
 use Rattle.gix_date.proofs.parsing.relative.Relative.fast_time.Goals as goal

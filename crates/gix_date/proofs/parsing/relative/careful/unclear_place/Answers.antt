@@ -1,9 +1,8 @@
 use Rattle.std.proofs.Common.{◌≡◌, ◌∙◌, ◌<◌, ◌+◌, suc, length, refl, sym, ap, subst, arith, true, false, Option}
 use Rattle.std.proofs.lemmas.Str.{IsCharBoundary-after_ascii, IsCharBoundary-start}
 use Rattle.std.specs.Prelude.{IfSome, ℕ}
-use Rattle.gix_date.specs.Careful.Texts.{begins_word, first_failure, is_clear_at}
+use Rattle.gix_date.specs.Careful.Texts.{begins_word, first_failure, is_clear_at, IsWordPlace}
 use Rattle.gix_date.specs.Git.ClockCut.{last_place}
-use Rattle.gix_date.specs.Private.Careful.{IsWordPlace}
 use Rattle.gix_date.proofs.Careful.Clear.{begin_is_ascii, clear_is_ascii}
 use Rattle.gix_date.proofs.Careful.Failures.{goes_on, stopped, ended}
 use Rattle.gix_date.proofs.Text.LastPlaces.{passes_here, passes_below}

@@ -1,8 +1,7 @@
 use Rattle.std.proofs.Common.{◌≡◌, ◌≤◌, ◌-◌, length, None}
 use Rattle.std.specs.Prelude.{IfSome, IsCharBoundary}
-use Rattle.gix_date.specs.Careful.Texts.{begins_word, first_failure, is_clear_at}
+use Rattle.gix_date.specs.Careful.Texts.{begins_word, first_failure, is_clear_at, IsWordPlace}
 use Rattle.gix_date.specs.Git.ClockCut.{last_place}
-use Rattle.gix_date.specs.Private.Careful.{IsWordPlace}
 use Rattle.gix_date.proofs.parsing.relative.careful.unclear_place.Given as goal
 
 -- each place before this one is clear, and `before` is the last at which a word begins

@@ -1,6 +1,6 @@
 use Rattle.std.proofs.Common.{rules}
 use Rattle.jiff.specs.Words.{fixed_zone}
-use Rattle.gix_date.specs.Private.RelativePairs.{pair_of, pairs_read}
+use Rattle.gix_date.specs.Relative.PairsRead.{pair_of, pairs_read}
 use Rattle.gix_date.specs.Relative.Words.{relative_words}
 use Rattle.gix_date.proofs.Relative.Chains.{left-next}
 use Rattle.gix_date.proofs.parsing.relative.fixed.subtract_pairs.Goals as goal

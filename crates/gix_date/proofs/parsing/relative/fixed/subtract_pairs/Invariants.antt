@@ -2,7 +2,7 @@ use Rattle.std.proofs.Common.{length}
 use denote.Text.{Utf8}
 use denote.Shadow.{shadow}
 use Rattle.jiff.specs.Words.{fixed_zone}
-use Rattle.gix_date.specs.Private.RelativePairs.{pairs_read}
+use Rattle.gix_date.specs.Relative.PairsRead.{pairs_read}
 use Rattle.gix_date.specs.Relative.Words.{relative_words}
 use Rattle.gix_date.proofs.Relative.Chains.{Left}
 use Rattle.gix_date.proofs.parsing.relative.fixed.subtract_pairs.Given as goal

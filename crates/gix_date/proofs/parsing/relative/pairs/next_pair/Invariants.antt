@@ -1,7 +1,7 @@
 use Rattle.std.proofs.Common.{◌≡◌, ◌≤◌, length}
 use denote.Text.{Utf8}
 use denote.Shadow.{shadow}
-use Rattle.gix_date.specs.Private.RelativePairs.{pairs_read}
+use Rattle.gix_date.specs.Relative.PairsRead.{pairs_read}
 use Rattle.gix_date.specs.Relative.Words.{relative_words}
 use Rattle.gix_date.proofs.parsing.relative.pairs.next_pair.Given as goal
 

@@ -3,7 +3,7 @@ use denote.Text.{Utf8}
 use denote.Shadow.{shadow}
 use Rattle.std.specs.List.{fold}
 use Rattle.gix_date.specs.Relative.Words.{relative_words}
-use Rattle.gix_date.specs.Private.RelativeScan.{step}
+use Rattle.gix_date.specs.Relative.Scan.{step}
 use Rattle.gix_date.proofs.Relative.RelativeScans.{scan}
 use Rattle.gix_date.proofs.parsing.relative.scan.are_pairs.Given as goal
 

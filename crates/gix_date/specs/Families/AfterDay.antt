@@ -5,7 +5,7 @@ use Rattle.std.specs.Option.{option_or}
 use Rattle.gix_date.specs.Families.Answer.{FamilyAnswer}
 use Rattle.gix_date.specs.Families.Patterns.{short_answer, iso8601_answer, iso8601_strict_answer, gitoxide_answer, default_answer}
 use Rattle.gix_date.specs.Fields.DateFields.{skip_spaces, skip_weekday, read_month}
-use Rattle.gix_date.specs.Fields.Front.{ReadFront, ◌>>=◌}
+use Rattle.gix_date.specs.Text.Front.{ReadFront, ◌>>=◌}
 use Rattle.gix_date.specs.Fields.Layout.{LocalTime, Piece, nothing_read, read_pieces}
 use Rattle.gix_date.specs.Text.Numbers.{read_field}
 use Rattle.gix_date.specs.declared.civil.DateFields.{DateFields}
