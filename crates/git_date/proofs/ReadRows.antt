@@ -15,13 +15,13 @@ use Rattle.git_date.specs.declared.reader.Said.{Said}
 abbrev row_now : Now
 row_now = record { seconds = pos 1_251_660_000; year = 2009 }
 
-abbrev time_of : Result ReadDate DateError → Result Time DateError
-time_of (Ok date) = Ok date.time
-time_of (Err e) = Err e
+abbrev time_read : Result ReadDate DateError → Result Time DateError
+time_read (Ok date) = Ok date.time
+time_read (Err e) = Err e
 
 -- the time of a date in UTC, where it says no offset
 abbrev in_utc : Result Said DateError → Result Time DateError
-in_utc (Ok said) = time_of (date_at said (unwrap_or said.offset (pos 0)))
+in_utc (Ok said) = time_read (date_at said (unwrap_or said.offset (pos 0)))
 in_utc (Err e) = Err e
 
 abbrev at : ℕ → ℤ → Time

@@ -2,7 +2,7 @@
 ghost use Rattle.gix_date.specs.Families.Order.{first_family, first_family_by, ParseOutcome};
 ghost use Rattle.gix_date.specs.Families.Laws.{AreDisjoint, AreExclusive};
 ghost use Rattle.gix_date.specs.Header.Laws.{CanonicalIffUnchanged};
-ghost use Rattle.gix_date.specs.Families.Raw.{allows, is_raw_offset};
+ghost use Rattle.gix_date.specs.Families.Raw.{allows, is_quarter_offset};
 ghost use Rattle.gix_date.specs.Printing.ReadingBack.{TimesRoundTrip};
 
 use crate::error::Error;
@@ -35,10 +35,10 @@ mod relative;
 /// [`disjoint`], [`exclusive`], [`canonical`] and [`read_back`].
 pub fn headline(alloc: Global, text: &str, now: Option<Zoned<'_>>) -> Result<Time, Error>
     ensures first_family { ParseOutcome (first_family text.now) text.now now.entry result }
-    ensures disjoint { AreDisjoint is_raw_offset text.now }
-    ensures exclusive { AreExclusive is_raw_offset text.now }
+    ensures disjoint { AreDisjoint is_quarter_offset text.now }
+    ensures exclusive { AreExclusive is_quarter_offset text.now }
     ensures canonical { CanonicalIffUnchanged text.now }
-    ensures read_back { TimesRoundTrip is_raw_offset }
+    ensures read_back { TimesRoundTrip is_quarter_offset }
 {
     disjoint(text);
     exclusive(text, RawOffsets::Quarter);

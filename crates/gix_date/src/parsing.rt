@@ -50,7 +50,7 @@ impl TimeBuf {
     // Apart from `to_str`: the prover shows what a buffer holds after a loan only where the result owns no memory, as an
     // `Error` may.
     #[inline(always)]
-    fn text_of(&mut self, time: &Time) -> Option<&str>
+    fn write_text(&mut self, time: &Time) -> Option<&str>
         ensures text { GivesText time.now (ok_or result OffsetTooWide) }
         ensures* after { sem 𝓛 (LeavesText self.entry (text_left (ok_or result OffsetTooWide))) }
     {
@@ -100,7 +100,7 @@ impl Time {
         ensures text { GivesText self.now result }
         ensures* after { sem 𝓛 (LeavesText buf.entry (text_left result)) }
     {
-        or_too_wide(buf.text_of(self))
+        or_too_wide(buf.write_text(self))
     }
 }
 

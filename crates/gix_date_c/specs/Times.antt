@@ -8,12 +8,12 @@ use Rattle.gix_date_c.specs.declared.status.Status.TheVariants.{Done, InvalidTim
 use Rattle.gix_date_c.specs.declared.time.CTime.{CTime}
 
 -- the same time
-abbrev pub time_of : CTime → Time
-time_of t = record { seconds = t.seconds; offset = t.offset }
+abbrev pub load_time : CTime → Time
+load_time t = record { seconds = t.seconds; offset = t.offset }
 
 -- What a call did that gives a time: it is there; or the time is as it was, and the status says why.
 abbrev pub StoresTime : Result Time Status → CTime → CTime → ℕ → Type 0
-StoresTime (Ok t) old new status = (time_of new ≡ t) × (status ≡ number_of Done)
+StoresTime (Ok t) old new status = (load_time new ≡ t) × (status ≡ number_of Done)
 StoresTime (Err refusal) old new status = (new ≡ old) × (status ≡ number_of refusal)
 
 -- the time that a header says

@@ -11,7 +11,7 @@ use crate::parse::{
     CInstant, moment_in, offset_zone, raw_rule, refusal_status, rule_zone, table_of, table_zone,
 };
 use crate::status::Status;
-use crate::text::text_of;
+use crate::text::utf8_text;
 use crate::time::{CTime, store_time};
 use gix_date::{CarefulError, CarefulOptions, Texts, Time, WithoutOffset, Zoned, parse_carefully};
 use jiff::tz::TimeZone;
@@ -139,7 +139,7 @@ fn parse_text(
     let Some(options) = options_of(numbers) else {
         return Err(Refusal::Other(Status::NoSuchOption));
     };
-    match text_of(text) {
+    match utf8_text(text) {
         Ok(text) => with_refusal(parse_carefully(text, now, options)),
         Err(status) => Err(Refusal::Other(status)),
     }

@@ -2,12 +2,12 @@
 ghost use Rattle.std.specs.Prelude.{◌≡◌};
 ghost use Rattle.gix_date.specs.Header.Canonical.{is_canonical_header};
 ghost use Rattle.gix_date_c.specs.Buffers.{Outcome, outcome_of, header_text_answer};
-ghost use Rattle.gix_date_c.specs.Times.{StoresTime, header_answer, time_of};
+ghost use Rattle.gix_date_c.specs.Times.{StoresTime, header_answer, load_time};
 
 use crate::buffer::store_text;
 use crate::status::Status;
-use crate::text::text_of;
-use crate::time::{CTime, store_time, time_of};
+use crate::text::utf8_text;
+use crate::time::{CTime, load_time, store_time};
 use gix_date::{Time, is_canonical_header, parse_header};
 
 /// The time of a commit header, read leniently.
@@ -21,16 +21,16 @@ pub extern "C" fn gix_date_parse_header(text: &[u8], time: &mut CTime) -> u32
 fn header_time(text: &[u8]) -> Result<Time, Status>
     ensures { result ≡ header_answer text.now }
 {
-    parse_header(text_of(text)?).ok_or(Status::InvalidTime)
+    parse_header(utf8_text(text)?).ok_or(Status::InvalidTime)
 }
 
 /// The text of a time in a commit header.
 #[unsafe(no_mangle)]
 pub extern "C" fn gix_date_write_header(time: &CTime, out: &mut [u8], len: &mut usize) -> u32
     ensures { record { bytes = out.new; len = len.new; status = result }
-        ≡ outcome_of (header_text_answer (time_of time.now)) out.old }
+        ≡ outcome_of (header_text_answer (load_time time.now)) out.old }
 {
-    let Ok(buf) = time_of(time).to_buf() else {
+    let Ok(buf) = load_time(time).to_buf() else {
         return store_text(Err(Status::OffsetTooWide), out, len);
     };
     store_text(Ok(buf.as_str()), out, len)
@@ -41,7 +41,7 @@ pub extern "C" fn gix_date_write_header(time: &CTime, out: &mut [u8], len: &mut 
 pub extern "C" fn gix_date_is_canonical_header(text: &[u8]) -> bool
     ensures { result ≡ is_canonical_header text.now }
 {
-    match text_of(text) {
+    match utf8_text(text) {
         Ok(text) => is_canonical_header(text),
         Err(_) => false,
     }

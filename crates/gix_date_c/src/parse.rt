@@ -7,7 +7,7 @@ ghost use Rattle.gix_date_c.specs.Parsing.{IsFileZone, IsMomentIn, IsMomentOf, I
 ghost use Rattle.gix_date_c.specs.Times.{StoresTime};
 
 use crate::status::Status;
-use crate::text::text_of;
+use crate::text::utf8_text;
 use crate::time::{CTime, store_time};
 use gix_date::{ParseError, RawOffsets, Time, Zoned, parse_no_alloc};
 use jiff::Timestamp;
@@ -117,7 +117,7 @@ fn parse_text(text: &[u8], raw_offsets: u32, now: Option<Zoned<'_>>) -> Result<T
     ensures { IsParsed raw_offsets now.entry text.now result }
 {
     let rule = raw_rule(raw_offsets).ok_or(Status::NoSuchOption)?;
-    match parse_no_alloc(text_of(text)?, now, rule) {
+    match parse_no_alloc(utf8_text(text)?, now, rule) {
         Ok(time) => Ok(time),
         Err(error) => Err(refusal_status(error)),
     }
@@ -181,7 +181,7 @@ pub(crate) fn offset_zone(offset: i32) -> Result<TimeZone<'static>, Status>
 pub(crate) fn rule_zone(rule: &[u8]) -> Result<TimeZone<'static>, Status>
     ensures { IsRuleZone rule.now (result_map_both plain_zone (λ status. status) result) }
 {
-    match TimeZone::posix(text_of(rule)?) {
+    match TimeZone::posix(utf8_text(rule)?) {
         Ok(zone) => Ok(zone),
         Err(_) => Err(Status::InvalidZone),
     }

@@ -4,12 +4,12 @@ ghost use Rattle.std.specs.Str.{is_utf8};
 ghost use Rattle.gix_date.specs.Printing.Formats.{Prints, PrintsPattern, PrintsPatternOrSeconds, PrintsOrSeconds};
 ghost use Rattle.gix_date_c.specs.Buffers.{Outcome, outcome_of};
 ghost use Rattle.gix_date_c.specs.Printing.{IsFormat, IsFormatted, IsPatternPrinted, print_status, printed_text};
-ghost use Rattle.gix_date_c.specs.Times.{time_of};
+ghost use Rattle.gix_date_c.specs.Times.{load_time};
 
 use crate::buffer::store_text;
 use crate::status::Status;
-use crate::text::text_of;
-use crate::time::{CTime, time_of};
+use crate::text::utf8_text;
+use crate::time::{CTime, load_time};
 use gix_date::time::format::{
     DEFAULT, Format, GIT_RFC2822, GITOXIDE, ISO8601, ISO8601_STRICT, RAW, RFC2822, SHORT, UNIX,
 };
@@ -25,13 +25,13 @@ pub extern "C" fn gix_date_format(
     out: &mut [u8],
     len: &mut usize,
 ) -> u32
-    ensures { (answer : Result (List ℕ) Status) × IsFormatted (Prints (time_of time.now)) format answer
+    ensures { (answer : Result (List ℕ) Status) × IsFormatted (Prints (load_time time.now)) format answer
         × (record { bytes = out.new; len = len.new; status = result } ≡ outcome_of answer out.old) }
 {
     let Some(format) = format_of(format) else {
         return store_text(Err(Status::NoSuchOption), out, len);
     };
-    store_printed(time_of(time).format(alloc, format), out, len)
+    store_printed(load_time(time).format(alloc, format), out, len)
 }
 
 /// The same, with the seconds for a time that has no text in that format.
@@ -43,13 +43,13 @@ pub extern "C" fn gix_date_format_or_unix(
     out: &mut [u8],
     len: &mut usize,
 ) -> u32
-    ensures { (answer : Result (List ℕ) Status) × IsFormatted (PrintsOrSeconds (time_of time.now)) format answer
+    ensures { (answer : Result (List ℕ) Status) × IsFormatted (PrintsOrSeconds (load_time time.now)) format answer
         × (record { bytes = out.new; len = len.new; status = result } ≡ outcome_of answer out.old) }
 {
     let Some(format) = format_of(format) else {
         return store_text(Err(Status::NoSuchOption), out, len);
     };
-    store_printed(time_of(time).format_or_unix(alloc, format), out, len)
+    store_printed(load_time(time).format_or_unix(alloc, format), out, len)
 }
 
 /// Puts the text of a time by a pattern into a buffer.
@@ -62,11 +62,11 @@ pub extern "C" fn gix_date_format_by_pattern(
     len: &mut usize,
 ) -> u32
     ensures { (answer : Result (List ℕ) Status)
-        × IsPatternPrinted (PrintsPattern (time_of time.now) pattern.now) (is_utf8 pattern.now) answer
+        × IsPatternPrinted (PrintsPattern (load_time time.now) pattern.now) (is_utf8 pattern.now) answer
         × (record { bytes = out.new; len = len.new; status = result } ≡ outcome_of answer out.old) }
 {
-    match text_of(pattern) {
-        Ok(pattern) => store_printed(time_of(time).format_by_pattern(alloc, pattern), out, len),
+    match utf8_text(pattern) {
+        Ok(pattern) => store_printed(load_time(time).format_by_pattern(alloc, pattern), out, len),
         Err(status) => store_text(Err(status), out, len),
     }
 }
@@ -81,12 +81,12 @@ pub extern "C" fn gix_date_format_by_pattern_or_unix(
     len: &mut usize,
 ) -> u32
     ensures { (answer : Result (List ℕ) Status)
-        × IsPatternPrinted (PrintsPatternOrSeconds (time_of time.now) pattern.now) (is_utf8 pattern.now) answer
+        × IsPatternPrinted (PrintsPatternOrSeconds (load_time time.now) pattern.now) (is_utf8 pattern.now) answer
         × (record { bytes = out.new; len = len.new; status = result } ≡ outcome_of answer out.old) }
 {
-    match text_of(pattern) {
+    match utf8_text(pattern) {
         Ok(pattern) => {
-            let printed = time_of(time).format_by_pattern_or_unix(alloc, pattern);
+            let printed = load_time(time).format_by_pattern_or_unix(alloc, pattern);
             store_printed(printed, out, len)
         }
         Err(status) => store_text(Err(status), out, len),

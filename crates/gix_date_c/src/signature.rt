@@ -5,14 +5,14 @@ ghost use Rattle.gix_date.specs.Header.Text.{header_text};
 ghost use Rattle.gix_date_c.specs.Buffers.{Outcome, as_usize, outcome_of, text_outcome, with_text};
 ghost use Rattle.gix_date_c.specs.Signatures.{IsCutAnswer, StoresParts, line_answer, line_status, spans_of};
 ghost use Rattle.gix_date_c.specs.Statuses.{number_of};
-ghost use Rattle.gix_date_c.specs.Times.{time_of};
+ghost use Rattle.gix_date_c.specs.Times.{load_time};
 ghost use Rattle.gix_signature.specs.Signature.{Parts, line_of, parts_of};
 ghost use Rattle.gix_signature.specs.Writing.{line_due, parts_due};
 
 use crate::buffer::{put_at, store_text};
 use crate::status::Status;
-use crate::text::text_of;
-use crate::time::{CTime, time_of};
+use crate::text::utf8_text;
+use crate::time::{CTime, load_time};
 use gix_date::Time;
 use gix_date::device::Sink;
 use gix_date::parsing::TimeBuf;
@@ -55,7 +55,7 @@ pub extern "C" fn gix_date_cut_signature(line: &[u8], parts: &mut CSignature) ->
 fn signature_of(line: &[u8]) -> Result<SignatureRef<'_>, Status>
     ensures { IsCutAnswer line.now (result_map_both parts_of (λ status. status) result) }
 {
-    SignatureRef::from_line(text_of(line)?).ok_or(Status::NoSignature)
+    SignatureRef::from_line(utf8_text(line)?).ok_or(Status::NoSignature)
 }
 
 /// Where the parts of a line stand in it.
@@ -91,9 +91,9 @@ pub extern "C" fn gix_date_write_signature(
     len: &mut usize,
 ) -> u32
     ensures { record { bytes = out.new; len = len.new; status = result }
-        ≡ outcome_of (line_answer name.now mail.now (time_of time.now)) out.old }
+        ≡ outcome_of (line_answer name.now mail.now (load_time time.now)) out.old }
 {
-    match line_of(name, mail, time_of(time), &mut TimeBuf::default()) {
+    match line_of(name, mail, load_time(time), &mut TimeBuf::default()) {
         Ok(line) => {
             *len = line_len(line);
             store_line(line, out).number()
@@ -127,8 +127,8 @@ fn line_of<'a>(
     ensures { result_map_both (λ s. line_of (parts_of s)) (λ status. status) result
         ≡ line_answer name.now mail.now time }
 {
-    let name = text_of(name)?;
-    let mail = text_of(mail)?;
+    let name = utf8_text(name)?;
+    let mail = utf8_text(mail)?;
     may_write(name, mail, time)?;
     let Ok(text) = time.to_buf() else {
         return Err(Status::OffsetTooWide);

@@ -7,7 +7,7 @@ use crate::status::Status;
 use gix_date::bytes;
 
 /// Bytes as text, where they are UTF-8.
-pub(crate) fn text_of(bytes: &[u8]) -> Result<&str, Status>
+pub(crate) fn utf8_text(bytes: &[u8]) -> Result<&str, Status>
     ensures { MatchResult result (λ text. (text.now ≡ bytes.now) × (is_utf8 bytes.now ≡ true))
         (λ status. (status ≡ NotText) × (is_utf8 bytes.now ≡ false)) }
 {

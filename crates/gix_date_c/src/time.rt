@@ -1,6 +1,6 @@
 //! A time as C has it.
 ghost use Rattle.std.specs.Prelude.{◌≡◌};
-ghost use Rattle.gix_date_c.specs.Times.{time_of, StoresTime};
+ghost use Rattle.gix_date_c.specs.Times.{load_time, StoresTime};
 
 use crate::status::Status;
 use gix_date::Time;
@@ -14,8 +14,8 @@ pub struct CTime {
 }
 
 /// The same time.
-pub(crate) fn time_of(time: &CTime) -> Time
-    ensures { result ≡ time_of time.now }
+pub(crate) fn load_time(time: &CTime) -> Time
+    ensures { result ≡ load_time time.now }
 {
     Time::new(time.seconds, time.offset)
 }

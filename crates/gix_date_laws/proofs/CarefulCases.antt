@@ -14,7 +14,7 @@ use Rattle.gix_date.specs.Careful.Outcome.{Reading, Local, First, Unclear, caref
 use Rattle.gix_date.specs.Careful.Texts.{unclear_place}
 use Rattle.gix_date.specs.Families.Answer.{Absolute}
 use Rattle.gix_date.specs.Families.Order.{first_family_by}
-use Rattle.gix_date.specs.Families.Raw.{allows, is_raw_offset}
+use Rattle.gix_date.specs.Families.Raw.{allows, is_quarter_offset}
 use Rattle.gix_date.specs.Git.Grammar.{IsGitText}
 use Rattle.gix_date.specs.Git.Forms.{git_time}
 use Rattle.gix_date.specs.Relative.Steps.{zone_of}
@@ -164,8 +164,8 @@ whole-of text t h = rw (front-of (trim text) h.day h.gap h.rest h.date h.whole h
 git-place : (text : List ℕ) (t : Time) → IsUtf8 text → git_time text ≡ Some t → (p : Option ℕ) → unclear_place text ≡ p → (place : ℕ) × (p ≡ Some place)
 git-place text t u g None e =
     let found = careful-text text e in
-    let git = (comes-first is_raw_offset text u).git (ap (λ o. is_some (option_map Absolute o)) g) ∙ ap (option_map Absolute) g in
-    let bad : PairsAnswer found.0 ≡ Some (Absolute t) = sym (answers-pairs is_raw_offset text u found.0 found.1) ∙ git in
+    let git = (comes-first is_quarter_offset text u).git (ap (λ o. is_some (option_map Absolute o)) g) ∙ ap (option_map Absolute) g in
+    let bad : PairsAnswer found.0 ≡ Some (Absolute t) = sym (answers-pairs is_quarter_offset text u found.0 found.1) ∙ git in
     absurd cc
 git-place text t u g (Some place) e = (place, refl)
 

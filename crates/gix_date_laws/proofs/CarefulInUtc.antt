@@ -14,7 +14,7 @@ use Rattle.gix_date.specs.Careful.Laws.{AnswersAlike, in_utc, in_zone}
 use Rattle.gix_date.specs.Careful.Texts.{unclear_place}
 use Rattle.gix_date.specs.Families.Answer.{Absolute}
 use Rattle.gix_date.specs.Families.Order.{first_family_by}
-use Rattle.gix_date.specs.Families.Raw.{allows, is_raw_offset}
+use Rattle.gix_date.specs.Families.Raw.{allows, is_quarter_offset}
 use Rattle.gix_date.specs.Git.Forms.{git_time}
 use Rattle.gix_date.specs.Fields.Zoned.{is_instant, time_in}
 use Rattle.gix_date.specs.Relative.Steps.{ChooseAlike, zone_of, IsPicked}
@@ -96,7 +96,7 @@ local-alike : (moment : Zoned) (text : List ℕ) (t : Time) → IsUtf8 text → 
 unfolding Alike
 local-alike moment text t u zero e result =
     let has = subst (λ (d : Option Time). IfSome d (λ k. is_instant k.seconds ≡ true)) e (unzoned_has text) in
-    both moment t zero (answers is_raw_offset text t u e).1 has result
+    both moment t zero (answers is_quarter_offset text t u e).1 has result
 
 unzoned-alike : (moment : Zoned) (text : List ℕ) (reading : Reading) → IsUtf8 text → IsAtZero (zone_of moment) → (unzoned : Option Time) → ((t : Time) → unzoned ≡ Some t → unzoned_time text ≡ Some t)
     → Alike moment (unzoned_or zone.MomentsZone unzoned reading) (unzoned_or zone.Utc unzoned reading)

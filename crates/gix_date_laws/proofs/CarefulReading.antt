@@ -13,7 +13,7 @@ use Rattle.gix_date.specs.Families.Epoch.{utc_time}
 use Rattle.gix_date.specs.Families.Order.{first_family_by, ParseNoAllocOutcome, Short}
 use Rattle.gix_date.specs.Families.Patterns.{midnight, day_answer, real_day_answer, short_answer}
 use Rattle.gix_date.specs.Families.AfterDay.{answer_after}
-use Rattle.gix_date.specs.Families.Raw.{OffsetRule, is_raw_offset}
+use Rattle.gix_date.specs.Families.Raw.{OffsetRule, is_quarter_offset}
 use Rattle.gix_date.specs.Fields.Civil.{is_date, civil_instant}
 use Rattle.gix_date.specs.Fields.DateFields.{read_plain_date}
 use Rattle.gix_date.specs.Text.Front.{◌>>=◌}
@@ -131,12 +131,12 @@ pub unzoned-by-git : (text : List ℕ) (t : Time) → IsUtf8 text → unzoned_gi
 unfolding unzoned_time
 unzoned-by-git text t u e = by (unzoned_day text) refl
   where
-    git : first_family_by is_raw_offset text ≡ Some (Absolute t)
-    git = let g = git-is text t e in (comes-first is_raw_offset text u).git (ap (λ o. is_some (option_map Absolute o)) g.0) ∙ ap (option_map Absolute) g.0
+    git : first_family_by is_quarter_offset text ≡ Some (Absolute t)
+    git = let g = git-is text t e in (comes-first is_quarter_offset text u).git (ap (λ o. is_some (option_map Absolute o)) g.0) ∙ ap (option_map Absolute) g.0
 
     by : (d : Option Time) → unzoned_day text ≡ d → option_or d (unzoned_git_time text) ≡ Some t
     by None f = e
-    by (Some k) f = ap (λ (z : Time). Some z) (same-answer k t (sym (answers is_raw_offset text k u (unzoned-by-day text k f)).0 ∙ git))
+    by (Some k) f = ap (λ (z : Time). Some z) (same-answer k t (sym (answers is_quarter_offset text k u (unzoned-by-day text k f)).0 ∙ git))
 
 unzoned-is : (text : List ℕ) (t : Time) → unzoned_time text ≡ Some t → IsUnzoned text t
 unfolding unzoned_time

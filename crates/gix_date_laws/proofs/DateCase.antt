@@ -8,13 +8,13 @@ use Rattle.std.specs.Option.{option_or}
 use Rattle.std.specs.Prelude.{◌==◌, ◌&&◌, nat_lt, codes, drop, is_some, unwrap_or}
 use Rattle.gix_date.specs.Families.Answer.{FamilyAnswer}
 use Rattle.gix_date.specs.Families.Laws.{IgnoresCase}
-use Rattle.gix_date.specs.Families.Order.{Short, Rfc2822, Iso8601, Gitoxide, GitDefault}
+use Rattle.gix_date.specs.Families.Order.{Short, Rfc2822, Iso8601, Gitoxide, Default}
 use Rattle.gix_date.specs.Families.Patterns.{short_answer, rfc2822_answer, iso8601_answer, gitoxide_answer, default_answer, short_layout, rfc2822_layout, iso8601_layout, gitoxide_layout, default_layout, real_day_answer, time_answer}
 use Rattle.gix_date.specs.Families.Raw.{OffsetRule}
-use Rattle.gix_date.specs.Fields.DateFields.{skip_spaces, read_name, month_named, is_weekday, read_month, skip_weekday, skip_day_name, read_plain_date, read_minutes, read_second, read_clock, read_mail_clock}
-use Rattle.gix_date.specs.Fields.DateOffsets.{compact_offset, last_colon_pair, strict_offset, jiff_offset, named_zone, mail_offset, mail_zone}
+use Rattle.gix_date.specs.Fields.DateFields.{skip_spaces, read_name, month_named, is_weekday, read_month, skip_weekday, skip_day_name, read_plain_date, read_minutes, read_second, read_clock, read_rfc2822_clock}
+use Rattle.gix_date.specs.Fields.DateOffsets.{compact_offset, last_colon_pair, strict_offset, jiff_offset, named_zone, rfc2822_offset, rfc2822_zone}
 use Rattle.gix_date.specs.Text.Front.{ReadFront, skip_char, ◌>>=◌}
-use Rattle.gix_date.specs.Fields.Layout.{LocalClock, LocalTime, Piece, DayName, MailDayName, MonthName, Day, Year, PlainDate, Clock, MailClock, Spaces, LetterT, Offset, ColonOffset, MailOffset, read_piece, read_pieces, nothing_read, layout_answer}
+use Rattle.gix_date.specs.Fields.Layout.{LocalClock, LocalTime, Piece, DayName, Rfc2822DayName, MonthName, Day, Year, PlainDate, Clock, Rfc2822Clock, Spaces, LetterT, Offset, ColonOffset, Rfc2822Offset, read_piece, read_pieces, nothing_read, layout_answer}
 use Rattle.gix_date.specs.Fields.Offsets.{read_sign, last_pair, offset_fields, SignedPairs, OffsetSign}
 use Rattle.gix_date.specs.Text.Characters.{is_space, comma, minus, colon, plus}
 use Rattle.gix_date.specs.Text.Numbers.{two_digit_value, read_two_digits, read_digit, read_field, read_year}
@@ -183,9 +183,9 @@ or-clock : (r : ReadFront LocalClock) (c : LocalClock × List ℕ) → unwrap_or
 or-clock (Some p) c = refl
 or-clock None c = refl
 
-mail-clock-low : (x : List ℕ) → read_mail_clock (low x) ≡ lowered (read_mail_clock x)
-unfolding read_mail_clock
-mail-clock-low x =
+rfc2822-clock-low : (x : List ℕ) → read_rfc2822_clock (low x) ≡ lowered (read_rfc2822_clock x)
+unfolding read_rfc2822_clock
+rfc2822-clock-low x =
     keep-then _ _ (read_minutes x) (read_minutes (low x)) (minutes-low x) (λ c t.
     ap (λ (r : ReadFront LocalClock). Some (unwrap_or r (c, low t))) (second-low c t) ∙ ap (λ (p : LocalClock × List ℕ). Some p) (or-clock (read_second c t) (c, t)))
 
@@ -290,9 +290,9 @@ strict-low x =
     keep-end _ _ (read_two_digits v) (read_two_digits (low v)) (two-low v) (λ minutes w.
     ap (λ (r : Option (Option ℕ)). r >>= λ seconds. jiff_offset (fields_at sign hours minutes seconds)) (last-colon-low w)))))
 
-mail-low : (x : List ℕ) → mail_zone (low x) ≡ mail_zone x
-unfolding mail_zone mail_offset
-mail-low x = ap₂ (λ (r s : Option ℤ). option_or r s) (ap (λ (r : Option SignedPairs). r >>= λ f. cond (is_some f.seconds) None (jiff_offset f)) (fields-low x)) (zone-low x)
+rfc2822-low : (x : List ℕ) → rfc2822_zone (low x) ≡ rfc2822_zone x
+unfolding rfc2822_zone rfc2822_offset
+rfc2822-low x = ap₂ (λ (r s : Option ℤ). option_or r s) (ap (λ (r : Option SignedPairs). r >>= λ f. cond (is_some f.seconds) None (jiff_offset f)) (fields-low x)) (zone-low x)
 
 -- Pieces.
 abbrev is_caseless : Piece → Bool
@@ -313,18 +313,18 @@ offset-low None s t e = ap (λ (q : Option ℤ). q >>= λ o. Some (record t { of
 
 piece-low : (p : Piece) (t : LocalTime) (x : List ℕ) → is_caseless p ≡ true → read_piece p t (low x) ≡ lowered (read_piece p t x)
 piece-low DayName t x h = skip-then _ _ (skip_weekday x) (skip_weekday (low x)) (skip-weekday-low x) (λ u. refl)
-piece-low MailDayName t x h = ap (λ (r : Option (List ℕ)). Some (t, unwrap_or r (low x))) (day-name-low x) ∙ ap (λ (u : List ℕ). Some (t, u)) (rest-or (skip_day_name x) x)
+piece-low Rfc2822DayName t x h = ap (λ (r : Option (List ℕ)). Some (t, unwrap_or r (low x))) (day-name-low x) ∙ ap (λ (u : List ℕ). Some (t, u)) (rest-or (skip_day_name x) x)
 piece-low MonthName t x h = keep-then _ _ (read_month x) (read_month (low x)) (month-front-low x) (λ m u. refl)
 piece-low Day t x h = keep-then _ _ (read_field x) (read_field (low x)) (field-low x) (λ m u. refl)
 piece-low Year t x h = keep-then _ _ (read_year x) (read_year (low x)) (year-low x) (λ m u. refl)
 piece-low PlainDate t x h = keep-then _ _ (read_plain_date x) (read_plain_date (low x)) (date-low x) (λ m u. refl)
 piece-low Clock t x h = keep-then _ _ (read_clock x) (read_clock (low x)) (clock-low x) (λ m u. refl)
-piece-low MailClock t x h = keep-then _ _ (read_mail_clock x) (read_mail_clock (low x)) (mail-clock-low x) (λ m u. refl)
+piece-low Rfc2822Clock t x h = keep-then _ _ (read_rfc2822_clock x) (read_rfc2822_clock (low x)) (rfc2822-clock-low x) (λ m u. refl)
 piece-low Spaces t x h = skip-then _ _ (skip_spaces x) (skip_spaces (low x)) (spaces-low x) (λ u. refl)
 piece-low LetterT t x h = absurd cc
 piece-low Offset t x h = offset-low (compact_offset x) (compact_offset (low x)) t (compact-low x)
 piece-low ColonOffset t x h = offset-low (strict_offset x) (strict_offset (low x)) t (strict-low x)
-piece-low MailOffset t x h = offset-low (mail_zone x) (mail_zone (low x)) t (mail-low x)
+piece-low Rfc2822Offset t x h = offset-low (rfc2822_zone x) (rfc2822_zone (low x)) t (rfc2822-low x)
 
 pieces-low : (ps : List Piece) (t : LocalTime) (x : List ℕ) → are_caseless ps ≡ true → read_pieces ps t (low x) ≡ read_pieces ps t x
 pieces-low [] t [] h = refl
@@ -340,9 +340,9 @@ pub day-case : (rule : OffsetRule) (text : List ℕ) → IgnoresCase rule Short 
 unfolding short_answer
 day-case rule text = layout-low short_layout real_day_answer text refl
 
-pub mail-case : (rule : OffsetRule) (text : List ℕ) → IgnoresCase rule Rfc2822 text
+pub rfc2822-case : (rule : OffsetRule) (text : List ℕ) → IgnoresCase rule Rfc2822 text
 unfolding rfc2822_answer
-mail-case rule text = layout-low rfc2822_layout time_answer text refl
+rfc2822-case rule text = layout-low rfc2822_layout time_answer text refl
 
 pub iso8601-case : (rule : OffsetRule) (text : List ℕ) → IgnoresCase rule Iso8601 text
 unfolding iso8601_answer
@@ -352,6 +352,6 @@ pub gitoxide-case : (rule : OffsetRule) (text : List ℕ) → IgnoresCase rule G
 unfolding gitoxide_answer
 gitoxide-case rule text = layout-low gitoxide_layout time_answer text refl
 
-pub default-case : (rule : OffsetRule) (text : List ℕ) → IgnoresCase rule GitDefault text
+pub default-case : (rule : OffsetRule) (text : List ℕ) → IgnoresCase rule Default text
 unfolding default_answer
 default-case rule text = layout-low default_layout time_answer text refl

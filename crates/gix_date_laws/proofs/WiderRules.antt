@@ -7,12 +7,12 @@ use Rattle.std.specs.Prelude.{◌==◌}
 use Rattle.gix_date.specs.Families.Answer.{FamilyAnswer, Absolute}
 use Rattle.gix_date.specs.Text.Characters.{at_sign}
 use Rattle.gix_date.specs.Families.Epoch.{at_time, utc_time}
-use Rattle.gix_date.specs.Families.Order.{Family, AtText, Short, Rfc2822, Iso8601, Iso8601Strict, Gitoxide, GitDefault, BareEpoch, GitForm, RelativeText, RawText, family_answer, family_answers, first_answer_of, first_family_by}
+use Rattle.gix_date.specs.Families.Order.{Family, AtText, Short, Rfc2822, Iso8601, Iso8601Strict, Gitoxide, Default, BareEpoch, GitForm, RelativeText, RawText, family_answer, family_answers, first_answer_of, first_family_by}
 use Rattle.gix_date.specs.Families.Laws.{Holds, IsWidened, overlap}
 use Rattle.gix_date.specs.Text.Front.{skip_char, ◌>>=◌}
 use Rattle.gix_date.specs.Text.Numbers.{int_value}
 use Rattle.gix_date.specs.Fields.Offsets.{offset_fields, offset_of, SignedPairs}
-use Rattle.gix_date.specs.Families.Raw.{OffsetRule, is_raw_offset, is_wide_offset, raw_time_by, raw_offset_by}
+use Rattle.gix_date.specs.Families.Raw.{OffsetRule, is_quarter_offset, is_minute_offset, raw_time_by, raw_offset_by}
 use Rattle.gix_date.specs.Text.SpaceWords.{space_words, first_words}
 use Rattle.gix_date.specs.declared.time.Time.{Time}
 use Rattle.gix_date.proofs.Families.Disjoint.{none-unless, raw-words}
@@ -24,7 +24,7 @@ use Rattle.gix_date.proofs.Fast.FastHeaders.{int-number, one-word}
 abbrev Within : OffsetRule → OffsetRule → Type 0
 Within narrow wide = (f : SignedPairs) → narrow f ≡ true → wide f ≡ true
 
-quarters-within : Within is_raw_offset is_wide_offset
+quarters-within : Within is_quarter_offset is_minute_offset
 quarters-within f h = grind (arith, nat_tests, h)
 
 abbrev time_at : ℤ → ℤ → Time
@@ -85,7 +85,7 @@ last-answers (None ∷ front) p q x e f = last-answers front p q x e f
 
 -- the families between the at text and the raw one, which no rule changes
 abbrev between : List ℕ → List (Option FamilyAnswer)
-between text = take 9 (drop 1 (family_answers is_raw_offset text))
+between text = take 9 (drop 1 (family_answers is_quarter_offset text))
 
 after-none : (text : List ℕ) (p : Option FamilyAnswer) → between text ≡ None ∷ None ∷ None ∷ None ∷ None ∷ None ∷ None ∷ None ∷ None ∷ [] → p ≡ None → first_answer_of (between text ++ (p ∷ [])) ≡ None
 after-none text p e n = ap (λ (front : List (Option FamilyAnswer)). first_answer_of (front ++ (p ∷ []))) e ∙ ap (λ (q : Option FamilyAnswer). option_or q None) n
@@ -94,7 +94,7 @@ after-none text p e n = ap (λ (front : List (Option FamilyAnswer)). first_answe
 at-alone : (w : OffsetRule) (text : List ℕ) → IsUtf8 text → Holds w AtText text → (between text ≡ None ∷ None ∷ None ∷ None ∷ None ∷ None ∷ None ∷ None ∷ None ∷ []) × (raw_time_by w text ≡ None)
 at-alone w text u h =
     let none : (b : Family) → (place AtText == place b) ≡ false → overlap AtText b ≡ false → family_answer w b text ≡ None = λ b d o. are-exclusive w text u AtText b (differ AtText b d) o h in (
-      rw (none Short refl refl, none Rfc2822 refl refl, none Iso8601 refl refl, none Iso8601Strict refl refl, none Gitoxide refl refl, none GitDefault refl refl, none BareEpoch refl refl, none GitForm refl refl, none RelativeText refl refl) refl,
+      rw (none Short refl refl, none Rfc2822 refl refl, none Iso8601 refl refl, none Iso8601Strict refl refl, none Gitoxide refl refl, none Default refl refl, none BareEpoch refl refl, none GitForm refl refl, none RelativeText refl refl) refl,
       no-time (raw_time_by w text) (none RawText refl refl),
     )
   where
@@ -102,37 +102,37 @@ at-alone w text u h =
     no-time (Some t) e = absurd cc
     no-time None e = refl
 
-raw-answer : (text : List ℕ) (x : FamilyAnswer) (found : Option Time) → raw_time_by is_raw_offset text ≡ found → option_map Absolute found ≡ Some x → option_map Absolute (raw_time_by is_wide_offset text) ≡ Some x
-raw-answer text x (Some t) e h = ap (λ (r : Option Time). option_map Absolute r) (raw-wider is_raw_offset is_wide_offset quarters-within text t e) ∙ h
+raw-answer : (text : List ℕ) (x : FamilyAnswer) (found : Option Time) → raw_time_by is_quarter_offset text ≡ found → option_map Absolute found ≡ Some x → option_map Absolute (raw_time_by is_minute_offset text) ≡ Some x
+raw-answer text x (Some t) e h = ap (λ (r : Option Time). option_map Absolute r) (raw-wider is_quarter_offset is_minute_offset quarters-within text t e) ∙ h
 raw-answer text x None e h = absurd cc
 
 -- what is answered by a rule, from what it has of at texts
 abbrev answer_by : OffsetRule → Option Time → List ℕ → Option FamilyAnswer
 answer_by rule at text = option_or (option_map Absolute at) (first_answer_of (between text ++ (option_map Absolute (raw_time_by rule text) ∷ [])))
 
-alike-by : (text : List ℕ) → IsUtf8 text → (x : FamilyAnswer) (a b : Option Time) → at_time is_raw_offset text ≡ a → at_time is_wide_offset text ≡ b → answer_by is_raw_offset a text ≡ Some x → answer_by is_wide_offset b text ≡ Some x
+alike-by : (text : List ℕ) → IsUtf8 text → (x : FamilyAnswer) (a b : Option Time) → at_time is_quarter_offset text ≡ a → at_time is_minute_offset text ≡ b → answer_by is_quarter_offset a text ≡ Some x → answer_by is_minute_offset b text ≡ Some x
 alike-by text u x (Some t) b ea eb e =
-    ap (λ (b : Option Time). answer_by is_wide_offset b text) (sym eb ∙ at-wider is_raw_offset is_wide_offset quarters-within text t ea) ∙ e
+    ap (λ (b : Option Time). answer_by is_minute_offset b text) (sym eb ∙ at-wider is_quarter_offset is_minute_offset quarters-within text t ea) ∙ e
 alike-by text u x None (Some v) ea eb e =
-    let alone = at-alone is_wide_offset text u (ap (λ (r : Option Time). is_some (option_map Absolute r)) eb) in
-    let no_raw : raw_time_by is_raw_offset text ≡ None =
-    none-unless (raw_time_by is_raw_offset text) (λ t h. (let clash : None ≡ Some t = sym alone.1 ∙ raw-wider is_raw_offset is_wide_offset quarters-within text t h in cc)) in
-    let none = after-none text (option_map Absolute (raw_time_by is_raw_offset text)) alone.0 (ap (λ (r : Option Time). option_map Absolute r) no_raw) in
+    let alone = at-alone is_minute_offset text u (ap (λ (r : Option Time). is_some (option_map Absolute r)) eb) in
+    let no_raw : raw_time_by is_quarter_offset text ≡ None =
+    none-unless (raw_time_by is_quarter_offset text) (λ t h. (let clash : None ≡ Some t = sym alone.1 ∙ raw-wider is_quarter_offset is_minute_offset quarters-within text t h in cc)) in
+    let none = after-none text (option_map Absolute (raw_time_by is_quarter_offset text)) alone.0 (ap (λ (r : Option Time). option_map Absolute r) no_raw) in
     let clash : None ≡ Some x = sym none ∙ e in
     absurd cc
 alike-by text u x None None ea eb e =
-    last-wider (between text) (option_map Absolute (raw_time_by is_raw_offset text)) (option_map Absolute (raw_time_by is_wide_offset text)) x (raw-answer text x (raw_time_by is_raw_offset text) refl) e
+    last-wider (between text) (option_map Absolute (raw_time_by is_quarter_offset text)) (option_map Absolute (raw_time_by is_minute_offset text)) x (raw-answer text x (raw_time_by is_quarter_offset text) refl) e
 
-more-by : (text : List ℕ) (x : FamilyAnswer) (a b : Option Time) → at_time is_wide_offset text ≡ b → answer_by is_raw_offset a text ≡ None → answer_by is_wide_offset b text ≡ Some x
-    → Holds is_wide_offset AtText text ⊎ Holds is_wide_offset RawText text
+more-by : (text : List ℕ) (x : FamilyAnswer) (a b : Option Time) → at_time is_minute_offset text ≡ b → answer_by is_quarter_offset a text ≡ None → answer_by is_minute_offset b text ≡ Some x
+    → Holds is_minute_offset AtText text ⊎ Holds is_minute_offset RawText text
 more-by text x a (Some v) eb e f = inl (ap (λ (r : Option Time). is_some (option_map Absolute r)) eb)
 more-by text x (Some t) None eb e f = absurd cc
 more-by text x None None eb e f =
-    inr (ap is_some (last-answers (between text) (option_map Absolute (raw_time_by is_raw_offset text)) (option_map Absolute (raw_time_by is_wide_offset text)) x e f))
+    inr (ap is_some (last-answers (between text) (option_map Absolute (raw_time_by is_quarter_offset text)) (option_map Absolute (raw_time_by is_minute_offset text)) x e f))
 
 pub is-widened : (text : List ℕ) → IsUtf8 text → IsWidened text
 unfolding first_family_by
 is-widened text u = record {
-  alike = λ x e. alike-by text u x (at_time is_raw_offset text) (at_time is_wide_offset text) refl refl e;
-  more = λ x e f. more-by text x (at_time is_raw_offset text) (at_time is_wide_offset text) refl e f;
+  alike = λ x e. alike-by text u x (at_time is_quarter_offset text) (at_time is_minute_offset text) refl refl e;
+  more = λ x e f. more-by text x (at_time is_quarter_offset text) (at_time is_minute_offset text) refl e f;
 }

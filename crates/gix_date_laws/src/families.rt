@@ -2,7 +2,7 @@
 ghost use Rattle.std.specs.Prelude.{◌≡◌, None};
 ghost use Rattle.std.specs.Str.{trim};
 ghost use Rattle.gix_date.specs.Header.Reading.{header_time};
-ghost use Rattle.gix_date.specs.Families.Order.{RawText, BareEpoch, Short, Rfc2822, Iso8601, Iso8601Strict, Gitoxide, GitDefault, GitForm, RelativeText};
+ghost use Rattle.gix_date.specs.Families.Order.{RawText, BareEpoch, Short, Rfc2822, Iso8601, Iso8601Strict, Gitoxide, Default, GitForm, RelativeText};
 ghost use Rattle.gix_date.specs.Families.Laws.{Agree, AnswersWithinDay, AreApart, AreOverlapping, ComesFirst, IsWidened, IgnoresMoment, HasOneOutcome, IgnoresCase, IgnoresSpace, Holds, AnswersHaveText};
 ghost use Rattle.gix_date.specs.Families.Raw.{allows, raw_time_by};
 ghost use Rattle.gix_date.specs.Families.Epoch.{at_time, epoch_time};
@@ -20,11 +20,11 @@ use gix_date::RawOffsets;
 #[tactic(auto, using(gix_date::proofs::Fields::Layouts::dates_spelled))]
 pub fn spelled()
     ensures day { Accepts short_answer (IsMeaning short_layout real_day_answer) }
-    ensures mail { Accepts rfc2822_answer (IsMeaning rfc2822_layout time_answer) }
+    ensures rfc2822 { Accepts rfc2822_answer (IsMeaning rfc2822_layout time_answer) }
     ensures iso8601 { Accepts iso8601_answer (IsMeaning iso8601_layout time_answer) }
     ensures strict { Accepts iso8601_strict_answer (IsMeaning iso8601_strict_layout time_answer) }
     ensures gitoxide { Accepts gitoxide_answer (IsMeaning gitoxide_layout time_answer) }
-    ensures by_default { Accepts default_answer (IsMeaning default_layout time_answer) }
+    ensures default { Accepts default_answer (IsMeaning default_layout time_answer) }
 {}
 
 /// At texts, bare epochs and raw texts, by either rule. Each family answers what the digits say, and holds each text that
@@ -118,8 +118,8 @@ pub fn trimmed(text: &str, raw: RawOffsets)
 pub fn any_case(text: &str, raw: RawOffsets)
     ensures relative { IgnoresCase (allows raw) RelativeText text.now }
     ensures day { IgnoresCase (allows raw) Short text.now }
-    ensures mail { IgnoresCase (allows raw) Rfc2822 text.now }
+    ensures rfc2822 { IgnoresCase (allows raw) Rfc2822 text.now }
     ensures iso8601 { IgnoresCase (allows raw) Iso8601 text.now }
     ensures gitoxide { IgnoresCase (allows raw) Gitoxide text.now }
-    ensures by_default { IgnoresCase (allows raw) GitDefault text.now }
+    ensures default { IgnoresCase (allows raw) Default text.now }
 {}

@@ -58,7 +58,7 @@ pub fn printed(time: Time)
     ensures iso8601 { IsPrintedAs iso8601_pattern iso8601_text time }
     ensures iso8601_strict { IsPrintedAs iso8601_strict_pattern iso8601_strict_text time }
     ensures gitoxide { IsPrintedAs gitoxide_pattern gitoxide_text time }
-    ensures by_default { IsPrintedAs default_pattern default_text time }
+    ensures default { IsPrintedAs default_pattern default_text time }
 {}
 
 /// What [`SHORT`] prints of a time is parsed as midnight in UTC of the day that the time's own clock shows. For

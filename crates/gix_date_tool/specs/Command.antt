@@ -6,7 +6,7 @@ use Rattle.std.specs.Str.{bytes_eq}
 use Rattle.gix_date.specs.Families.Answer.{FamilyAnswer, Absolute, OffsetAboveDay, NoInstant}
 use Rattle.gix_date.specs.Families.Answer as answers
 use Rattle.gix_date.specs.Families.Order.{first_family, first_family_by}
-use Rattle.gix_date.specs.Families.Raw.{is_wide_offset}
+use Rattle.gix_date.specs.Families.Raw.{is_minute_offset}
 use Rattle.gix_date.specs.Fields.Zoned.{is_convertible, IsConvertible}
 use Rattle.gix_date.specs.declared.time.Time.{Time}
 use Rattle.gix_date_tool.specs.declared.arguments.Mode.{Mode}
@@ -39,7 +39,7 @@ moment_of_answer unread (Some (answers.Relative date)) = Err Relative
 
 -- the time that a text is a moment of, or why there is none
 abbrev pub moment_or_why : List ℕ → Result Time NoMoment
-moment_or_why now = moment_of_answer (why_unread (first_family_by is_wide_offset now)) (first_family now)
+moment_or_why now = moment_of_answer (why_unread (first_family_by is_minute_offset now)) (first_family now)
 
 -- one word, which names a mode, or `parse` and a moment
 abbrev pub command_of : List (List ℕ) → Option (Mode × Option Time)

@@ -2,7 +2,7 @@
 ghost use Rattle.std.specs.Prelude.{◌≡◌, IfOk, IfSome, Ok, map, string_bytes};
 ghost use Rattle.std.specs.Option.{ForSome};
 ghost use Rattle.gix_date.specs.Families.Order.{first_family_by};
-ghost use Rattle.gix_date.specs.Families.Raw.{is_wide_offset};
+ghost use Rattle.gix_date.specs.Families.Raw.{is_minute_offset};
 ghost use Rattle.gix_date.specs.Fields.Zoned.{IsConvertible};
 ghost use Rattle.gix_date_tool.specs.Messages.{no_moment_words};
 ghost use Rattle.gix_date_tool.specs.Command.{command_of, moment_or_why, why_unread, IsRequest, IsRunnable};
@@ -118,7 +118,7 @@ fn moment(text: &str) -> Result<Time, NoMoment>
 
 /// Why a text that is not read is no moment.
 fn why_unread(text: &str) -> NoMoment
-    ensures { result ≡ why_unread (first_family_by is_wide_offset text.now) }
+    ensures { result ≡ why_unread (first_family_by is_minute_offset text.now) }
 {
     match parse_no_alloc(text, None, RawOffsets::WholeMinutes) {
         Ok(_) => NoMoment::RawOffset,

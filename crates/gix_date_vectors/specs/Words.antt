@@ -19,7 +19,7 @@ pub use Rattle.gix_date.specs.Families.Grammars.{IsInt, AreOffsetFields, IsRawTe
 pub use Rattle.gix_date.specs.Git.Cuts.{IsCut}
 pub use Rattle.gix_date.specs.Git.Grammar.{IsGitDate, IsGitFront, IsGitClock, IsGitOffset, IsGitText}
 pub use Rattle.gix_date.specs.Git.Forms.{git_time}
-pub use Rattle.gix_date.specs.Printing.ReadingBack.{HeaderIsParsed, TimesRoundTrip, HeaderRoundTrips, SecondsRoundTrip, ShortReadsAsMidnight, RoundTripsByEach, RoundTripsBy, RoundTrips, IsRawOffset, HasClock, RoundTripsAs, RoundTripsByPattern, IsWideOffset, IsRuleOffset, midnight_of, day_read_back}
+pub use Rattle.gix_date.specs.Printing.ReadingBack.{HeaderIsParsed, TimesRoundTrip, HeaderRoundTrips, SecondsRoundTrip, ShortReadsAsMidnight, RoundTripsByEach, RoundTripsBy, RoundTrips, IsQuarterOffset, HasClock, RoundTripsAs, RoundTripsByPattern, IsMinuteOffset, IsRuleOffset, midnight_of, day_read_back}
 pub use Rattle.gix_date.specs.Header.Laws.{CanonicalIffUnchanged, ComesBack, RoundTripsThroughHeader, AreWrittenAlike, AreAlike}
 pub use Rattle.gix_date.specs.Header.Reading.{header_time, ReadsHeader}
 pub use Rattle.gix_date.specs.Header.Text.{header_text, written_text, is_header_text_of, Writes, GivesText, text_left, max_text_len, hundred_hours}
@@ -34,7 +34,7 @@ pub use Rattle.gix_date.specs.Values.{ComparesParts, AgreesWith, IsEquality, Fee
 pub use Rattle.gix_date.specs.Families.Patterns.{Accepts, IsMeaning, time_answer, real_day_answer, short_layout, rfc2822_layout, iso8601_layout, iso8601_strict_layout, gitoxide_layout, default_layout, short_answer, rfc2822_answer, iso8601_answer, iso8601_strict_answer, gitoxide_answer, default_answer, max_date_offset}
 pub use Rattle.gix_date.specs.Printing.Formats.{Prints, PrintsSeconds, PrintsHeader, PrintsPattern, PrintsOrSeconds, HasNoText, HasNoPatternText, PrintsPatternOrSeconds, IsShown, AtMoment}
 pub use Rattle.gix_date.specs.Printing.PrintedTimes.{IsPrintedAs, PrintsText}
-pub use Rattle.gix_date.specs.Families.Raw.{raw_time, raw_time_by, max_raw_hours, OffsetRule, is_raw_offset, is_wide_offset, allows, max_wide_hours, max_wide_minutes}
+pub use Rattle.gix_date.specs.Families.Raw.{raw_time, raw_time_by, max_raw_hours, OffsetRule, is_quarter_offset, is_minute_offset, allows, max_wide_hours, max_wide_minutes}
 pub use Rattle.gix_date.specs.Relative.Dates.{AreNamedOnce, AreConvertible, relative_date, RelativeDate, MinusSeconds, MinusPairs, RelativeOutcome, IsNamed, Reaches}
 pub use Rattle.gix_date.specs.Relative.Steps.{zone_of, Resolves, Chain, SecondsStep, MonthsStep, IsPicked}
 pub use Rattle.gix_date.specs.Families.Shapes.{shape_of, shape_families, IsDispatched, row_families, IsInItsRow}

@@ -9,8 +9,8 @@ ghost use Rattle.gix_date.specs.Relative.FixedZones.{earlier};
 ghost use Rattle.gix_date.specs.Header.Reading.{header_time};
 ghost use Rattle.gix_date.specs.Header.Text.{header_text};
 ghost use Rattle.gix_date.specs.Printing.Formats.{PrintsOrSeconds, PrintsPatternOrSeconds};
-ghost use Rattle.gix_date.specs.Families.Raw.{is_wide_offset, raw_time, raw_time_by};
-ghost use Rattle.gix_date.specs.Printing.ReadingBack.{RoundTrips, IsWideOffset, HasClock};
+ghost use Rattle.gix_date.specs.Families.Raw.{is_minute_offset, raw_time, raw_time_by};
+ghost use Rattle.gix_date.specs.Printing.ReadingBack.{RoundTrips, IsMinuteOffset, HasClock};
 ghost use Rattle.gix_date.specs.Relative.Dates.{RelativeDate, relative_date};
 ghost use Rattle.gix_date.specs.Header.TimeBuf.{text_in};
 ghost use Rattle.gix_date.specs.Fields.Zoned.{IsConvertible, is_instant, time_in, time_in_utc};
@@ -70,7 +70,7 @@ pub fn read_canonical(header: &str) -> Option<Time>
 /// A time whose offset is whole minutes short of a day, written as in a header and parsed as a date: the same. No
 /// memory is taken.
 pub fn kept_in_date(alloc: Global, time: Time) -> Result<Time, Error>
-    requires { IsWideOffset time.offset }
+    requires { IsMinuteOffset time.offset }
     ensures { result ≡ Ok time }
 {
     laws::raw_read_back_wide(time);
@@ -81,8 +81,8 @@ pub fn kept_in_date(alloc: Global, time: Time) -> Result<Time, Error>
 /// The time of a date as programs store it, seconds and an offset, also where that is of odd minutes, as in some
 /// commits.
 pub fn stored_date(alloc: Global, date: &str) -> Result<Time, Error>
-    ensures raw { (t : Read) → raw_time_by is_wide_offset date.now ≡ Some t → result ≡ Ok t }
-    ensures outcome { ParseOutcome (first_family_by is_wide_offset date.now) date.now None result }
+    ensures raw { (t : Read) → raw_time_by is_minute_offset date.now ≡ Some t → result ≡ Ok t }
+    ensures outcome { ParseOutcome (first_family_by is_minute_offset date.now) date.now None result }
 {
     gix_date_laws::comes_first(date, RawOffsets::WholeMinutes);
     parse_with(alloc, date, None, RawOffsets::WholeMinutes)

@@ -5,13 +5,13 @@ use Rattle.std.specs.List.{prefix_len}
 use Rattle.std.specs.Prelude.{drop, take, is_some, unwrap_or}
 use Rattle.gix_date.specs.Careful.Fronts.{Part, left_by, perhaps, taken_by, skip_number, skip_marked, skip_day, skip_clock, skip_named_day, skip_offset, skip_git_day, skip_bare_fraction, skip_git_clock, git_parts, iso8601_parts, strict_parts, rfc2822_parts, gitoxide_parts, default_parts, IsRestOf}
 use Rattle.gix_date.specs.Fields.Civil.{is_date, is_clock}
-use Rattle.gix_date.specs.Fields.DateFields.{skip_spaces, skip_weekday, skip_day_name, read_month, read_plain_date, read_clock, read_mail_clock}
+use Rattle.gix_date.specs.Fields.DateFields.{skip_spaces, skip_weekday, skip_day_name, read_month, read_plain_date, read_clock, read_rfc2822_clock}
 use Rattle.gix_date.specs.Text.Front.{ReadFront, skip_char, ◌>>=◌}
 use Rattle.gix_date.specs.Fields.Layout.{LocalDate, LocalClock}
 use Rattle.gix_date.specs.Git.Forms.{git_front}
 use Rattle.gix_date.specs.Text.Characters.{colon, dot}
 use Rattle.gix_date.specs.Text.Numbers.{read_two_digits, read_field, read_year}
-use Rattle.gix_date.proofs.Fields.FieldsTaken.{went, first-or, guard, after-taken, field-taken, two-taken, year-taken, spaces-taken, month-taken, weekday-taken, prefix-taken, date-taken, clock-taken, mail-clock-taken}
+use Rattle.gix_date.proofs.Fields.FieldsTaken.{went, first-or, guard, after-taken, field-taken, two-taken, year-taken, spaces-taken, month-taken, weekday-taken, prefix-taken, date-taken, clock-taken, rfc2822-clock-taken}
 use Rattle.gix_date.proofs.Git.Fronts.{front-taken}
 
 abbrev IsPart : Part → Type 0
@@ -85,8 +85,8 @@ year-is = taken-is read_year (λ text value rest e. let h = year-taken text valu
 field-is : IsPart (taken_by read_field)
 field-is = taken-is read_field (λ text value rest e. let h = field-taken text value rest e in (h.text, h.whole))
 
-mail-clock-is : IsPart (taken_by read_mail_clock)
-mail-clock-is = taken-is read_mail_clock (λ text value rest e. let h = mail-clock-taken text value rest e in (h.text, h.whole))
+rfc2822-clock-is : IsPart (taken_by read_rfc2822_clock)
+rfc2822-clock-is = taken-is read_rfc2822_clock (λ text value rest e. let h = rfc2822-clock-taken text value rest e in (h.text, h.whole))
 
 prefix-is : IsPart skip_day_name
 prefix-is text rest e = let h = prefix-taken text rest e in (h.text, h.whole)
@@ -178,7 +178,7 @@ strict-left text = left-is strict_parts text text (day-is, (char-is _, (clock-is
 pub rfc2822-left : (text : List ℕ) → IsRestOf text (left_by rfc2822_parts text text)
 rfc2822-left text =
     left-is rfc2822_parts text text
-    (perhaps-is skip_day_name prefix-is, (field-is, (spaces-is, (month-is, (spaces-is, (year-is, (spaces-is, (mail-clock-is, (spaces-is, (offset-is _, tt)))))))))) (whole-is text)
+    (perhaps-is skip_day_name prefix-is, (field-is, (spaces-is, (month-is, (spaces-is, (year-is, (spaces-is, (rfc2822-clock-is, (spaces-is, (offset-is _, tt)))))))))) (whole-is text)
 
 pub gitoxide-left : (text : List ℕ) → IsRestOf text (left_by gitoxide_parts text text)
 gitoxide-left text =

@@ -15,9 +15,9 @@ use Rattle.gix_date.specs.Fields.DateFields.{skip_day_name, skip_spaces, read_na
 use Rattle.gix_date.specs.Families.Patterns.{gitoxide_layout, iso8601_layout, time_answer, short_answer, rfc2822_answer, iso8601_answer, iso8601_strict_answer, gitoxide_answer, default_answer}
 use Rattle.gix_date.proofs.Fields.FieldsRead.{Begins, BeginsNot, Excludes, begins-append, begins_not, digit-no-letter, letter-no-digit, space-no-digit, digit-no-space, field-begins, year-begins, name-begins, weekday-read, date-read}
 use Rattle.gix_date.proofs.Fields.FieldsTaken.{went, after-taken}
-use Rattle.gix_date.proofs.Fields.Layouts.{piece-taken, apart-after, mail-front, dates_spelled}
+use Rattle.gix_date.proofs.Fields.Layouts.{piece-taken, apart-after, rfc2822-front, dates_spelled}
 use Rattle.gix_date.specs.Families.Order.{answers_before_git}
-use Rattle.gix_date.specs.Families.Raw.{OffsetRule, is_raw_offset}
+use Rattle.gix_date.specs.Families.Raw.{OffsetRule, is_quarter_offset}
 use Rattle.gix_date.specs.Fields.Layout.{LocalTime, Piece, DayName, MonthName, Day, Year, PlainDate, Clock, Spaces, LetterT, Offset, ColonOffset, read_piece, read_pieces, nothing_read, ArePieces}
 use Rattle.gix_date.specs.declared.civil.DateFields.{DateFields}
 use Rattle.gix_date.specs.declared.time.Time.{Time}
@@ -67,11 +67,11 @@ no-plain text h = record { short = rw h refl; iso8601 = rw h refl; strict = rw h
 -- without the name of a day at the front
 pub record NoDayFirst (text : List ℕ) : Type 0 where
   pub gitoxide : gitoxide_answer text ≡ None
-  pub by_default : default_answer text ≡ None
+  pub default : default_answer text ≡ None
 
 pub no-day : (text : List ℕ) → skip_weekday text ≡ None → NoDayFirst text
 unfolding gitoxide_answer default_answer
-no-day text h = record { gitoxide = rw h refl; by_default = rw h refl }
+no-day text h = record { gitoxide = rw h refl; default = rw h refl }
 
 -- no number alone
 refused : (a b : Bool) (v : ℤ) → cond (a && false && b) (Some v) None ≡ None
@@ -118,33 +118,33 @@ no-epoch-letter [] h = absurd h
 no-epoch-letter (c ∷ t) h = no-epoch c t (letter-no-plus c h) (letter-no-minus c h) (mixed [] c t (letter-no-digit c h))
 
 -- no mail date begins with neither a letter nor a digit, nor with a year
-pub no-mail-first : (t : List ℕ) → BeginsNot is_ascii_alphabetic t → BeginsNot is_ascii_digit t → rfc2822_answer t ≡ None
+pub no-rfc2822-first : (t : List ℕ) → BeginsNot is_ascii_alphabetic t → BeginsNot is_ascii_digit t → rfc2822_answer t ≡ None
 unfolding rfc2822_answer skip_day_name
-no-mail-first t l d = rw (no-weekday t l, no-field t d) refl
+no-rfc2822-first t l d = rw (no-weekday t l, no-field t d) refl
 
 pub pair_first : (a b c : ℕ) (rest : List ℕ) → is_ascii_digit a ≡ true → is_ascii_digit b ≡ true → is_ascii_digit c ≡ true → read_field (a ∷ b ∷ c ∷ rest) ≡ Some (10 * (a - 48) + (b - 48), c ∷ rest)
 unfolding read_field read_two_digits
 pair_first a b c rest ha hb hc = rw (ha, hb) refl
 
-pub no-mail-year : (year rest : List ℕ) (n : ℕ) → IsYear year n → rfc2822_answer (year ++ rest) ≡ None
+pub no-rfc2822-year : (year rest : List ℕ) (n : ℕ) → IsYear year n → rfc2822_answer (year ++ rest) ≡ None
 unfolding rfc2822_answer skip_day_name
-no-mail-year [] rest n h = absurd h
-no-mail-year (a ∷ []) rest n h = absurd h
-no-mail-year (a ∷ b ∷ []) rest n h = absurd h
-no-mail-year (a ∷ b ∷ c ∷ []) rest n h = absurd h
-no-mail-year (a ∷ b ∷ c ∷ d ∷ []) rest n h =
+no-rfc2822-year [] rest n h = absurd h
+no-rfc2822-year (a ∷ []) rest n h = absurd h
+no-rfc2822-year (a ∷ b ∷ []) rest n h = absurd h
+no-rfc2822-year (a ∷ b ∷ c ∷ []) rest n h = absurd h
+no-rfc2822-year (a ∷ b ∷ c ∷ d ∷ []) rest n h =
     let text = a ∷ b ∷ c ∷ d ∷ rest in
     let weekday : skip_weekday text ≡ None = no-weekday text (digit-no-letter a h.0) in
     let field : read_field text ≡ Some (10 * (a - 48) + (b - 48), c ∷ d ∷ rest) = pair_first a b c (d ∷ rest) h.0 h.1 h.2 in
     let gap : skip_spaces (c ∷ d ∷ rest) ≡ None = no-spaces (c ∷ d ∷ rest) (digit-no-space c h.2) in
     rw (weekday, field, gap) refl
-no-mail-year (a ∷ b ∷ c ∷ d ∷ e ∷ t) rest n h = absurd h
+no-rfc2822-year (a ∷ b ∷ c ∷ d ∷ e ∷ t) rest n h = absurd h
 
 -- what a text is not that begins with a plain date
 record AfterPlainDate (text : List ℕ) : Type 0 where
-  pub mail : rfc2822_answer text ≡ None
+  pub rfc2822 : rfc2822_answer text ≡ None
   pub gitoxide : gitoxide_answer text ≡ None
-  pub by_default : default_answer text ≡ None
+  pub default : default_answer text ≡ None
   pub epoch : epoch_time text ≡ None
 
 after-plain : (day rest : List ℕ) (date : DateFields) → IsPlainDate day date → AfterPlainDate (day ++ rest)
@@ -154,15 +154,15 @@ after-plain day rest date h =
     let front = begins-append is_ascii_digit h.year more (year-begins h.year date.year h.is_year) in
     let none = no-day (h.year ++ more) (no-weekday (h.year ++ more) (begins_not is_ascii_digit is_ascii_alphabetic (h.year ++ more) digit-no-letter front)) in
     subst AfterPlainDate (sym split) (record {
-      mail = no-mail-year h.year more date.year h.is_year;
+      rfc2822 = no-rfc2822-year h.year more date.year h.is_year;
       gitoxide = none.gitoxide;
-      by_default = none.by_default;
+      default = none.default;
       epoch = no-epoch-digits h.year minus (h.month ++ (minus ∷ (h.day ++ rest))) (year-begins h.year date.year h.is_year) refl;
     })
 
 -- none of the families from this one on answers; after the at text a rule for raw offsets is no matter
 abbrev NoneFrom : ℕ → List ℕ → Type 0
-NoneFrom n text = filter is_some (drop n (answers_before_git is_raw_offset text)) ≡ []
+NoneFrom n text = filter is_some (drop n (answers_before_git is_quarter_offset text)) ≡ []
 
 -- where each that answers has none after it, at most one does
 at-most-one : (answers : List (Option FamilyAnswer)) → ((n : ℕ) (answer : FamilyAnswer) → get_or answers n None ≡ Some answer → filter is_some (drop (suc n) answers) ≡ []) → length (filter is_some answers) ≤ 1
@@ -176,7 +176,7 @@ named-no-epoch name rest text h split = ap epoch_time split ∙ no-epoch-letter 
 
 default-alone : (text : List ℕ) (answer : FamilyAnswer) → default_answer text ≡ Some answer → NoneFrom 7 text
 default-alone text answer e =
-    let h = ((dates_spelled.by_default text answer).0 e).are in
+    let h = ((dates_spelled.default text answer).0 e).are in
     rw (named-no-epoch h.front h.rest text h.is h.whole) refl
 
 -- no clock begins with a year
@@ -213,7 +213,7 @@ gitoxide-alone text answer e =
     rw (none, named-no-epoch h.front h.rest text h.is h.whole) refl
 
 plain-alone : (text : List ℕ) → AfterPlainDate text → NoneFrom 5 text
-plain-alone text h = rw (h.gitoxide, h.by_default, h.epoch) refl
+plain-alone text h = rw (h.gitoxide, h.default, h.epoch) refl
 
 -- a text that begins with a plain date
 plain-first : (more : List Piece) (time : LocalTime) (text : List ℕ) → ArePieces (PlainDate ∷ more) time text → AfterPlainDate text
@@ -250,7 +250,7 @@ iso8601-alone text answer e =
     let plain = plain-first (Spaces ∷ one) a.time text a.are in
     let read = went (read_pieces iso8601_layout nothing_read text) time_answer answer e in
     let strict : iso8601_strict_answer text ≡ None = ap (λ (found : Option LocalTime). found >>= time_answer) (apart-after (PlainDate ∷ []) (Spaces ∷ one) (LetterT ∷ other) nothing_read text read.0 (λ g rest. spaces-no-t g one other rest read.0) read.1) in
-    rw (strict, plain.gitoxide, plain.by_default, plain.epoch) refl
+    rw (strict, plain.gitoxide, plain.default, plain.epoch) refl
 
 not_both : (b : Bool) (v : ℕ) (rest : List ℕ) → option_map {U = ℕ × List ℕ} (λ n. (n, rest)) (cond (b && false) (Some v) None) ≡ None
 not_both true v rest = refl
@@ -280,7 +280,7 @@ unfolding gitoxide_answer default_answer
 no-day-comma name rest h =
     let read = weekday-read name (comma ∷ rest) h in
     let none = no-spaces (comma ∷ rest) refl in
-    record { gitoxide = rw (read, none) refl; by_default = rw (read, none) refl }
+    record { gitoxide = rw (read, none) refl; default = rw (read, none) refl }
 
 -- what no mail date is
 record NoOther (text : List ℕ) : Type 0 where
@@ -288,9 +288,9 @@ record NoOther (text : List ℕ) : Type 0 where
   pub day : NoDayFirst text
   pub epoch : epoch_time text ≡ None
 
-mail-no-other : (prefix day gap rest : List ℕ) (n : ℕ) → (prefix ≡ []) ⊎ IsDayPrefix prefix → IsField day n → AreSpaces gap → NoOther (prefix ++ (day ++ (gap ++ rest)))
-mail-no-other prefix day [] rest n p h s = absurd s
-mail-no-other prefix day (c ∷ gap) rest n (inl none) h s =
+rfc2822-no-other : (prefix day gap rest : List ℕ) (n : ℕ) → (prefix ≡ []) ⊎ IsDayPrefix prefix → IsField day n → AreSpaces gap → NoOther (prefix ++ (day ++ (gap ++ rest)))
+rfc2822-no-other prefix day [] rest n p h s = absurd s
+rfc2822-no-other prefix day (c ∷ gap) rest n (inl none) h s =
     let text = day ++ (c ∷ (gap ++ rest)) in
     let front = begins-append is_ascii_digit day (c ∷ (gap ++ rest)) (field-begins day n h) in
     subst (λ p. NoOther (p ++ text)) (sym none) (record {
@@ -298,7 +298,7 @@ mail-no-other prefix day (c ∷ gap) rest n (inl none) h s =
       day = no-day text (no-weekday text (begins_not is_ascii_digit is_ascii_alphabetic text digit-no-letter front));
       epoch = no-epoch-digits day c (gap ++ rest) (field-begins day n h) (space-no-digit c s.0);
     })
-mail-no-other prefix day (c ∷ gap) rest n (inr named) h s =
+rfc2822-no-other prefix day (c ∷ gap) rest n (inr named) h s =
     let text = day ++ (c ∷ (gap ++ rest)) in
     let split : prefix ++ text ≡ named.name ++ (comma ∷ (named.gap ++ text)) = rw named.whole (simp append_assoc) in
     let front = begins-append is_ascii_alphabetic named.name (comma ∷ (named.gap ++ text)) (name-begins named.name named.is_name.0) in
@@ -309,12 +309,12 @@ mail-no-other prefix day (c ∷ gap) rest n (inr named) h s =
       epoch = no-epoch-letter whole front;
     })
 
-mail-alone : (text : List ℕ) (answer : FamilyAnswer) → rfc2822_answer text ≡ Some answer → NoneFrom 3 text
-mail-alone text answer e =
-    let h = mail-front text answer e in
-    let none = subst NoOther (sym h.whole) (mail-no-other h.prefix h.day h.gap (h.month ++ h.rest) h.number h.is_prefix h.is_day h.is_gap) in
+rfc2822-alone : (text : List ℕ) (answer : FamilyAnswer) → rfc2822_answer text ≡ Some answer → NoneFrom 3 text
+rfc2822-alone text answer e =
+    let h = rfc2822-front text answer e in
+    let none = subst NoOther (sym h.whole) (rfc2822-no-other h.prefix h.day h.gap (h.month ++ h.rest) h.number h.is_prefix h.is_day h.is_gap) in
     let plain = no-plain text none.year in
-    rw (plain.iso8601, plain.strict, none.day.gitoxide, none.day.by_default, none.epoch) refl
+    rw (plain.iso8601, plain.strict, none.day.gitoxide, none.day.default, none.epoch) refl
 
 short-alone : (text : List ℕ) (answer : FamilyAnswer) → short_answer text ≡ Some answer → NoneFrom 2 text
 unfolding iso8601_answer iso8601_strict_answer skip_spaces skip_char
@@ -324,7 +324,7 @@ short-alone text answer e =
     let read : read_plain_date text ≡ Some (a.time.date, []) = ap read_plain_date (a.are.whole ∙ ap (λ (t : List ℕ). a.are.front ++ t) a.are.more) ∙ date-read a.are.front [] a.time.date a.are.is tt in
     let iso8601 : iso8601_answer text ≡ None = rw read refl in
     let strict : iso8601_strict_answer text ≡ None = rw read refl in
-    rw (plain.mail, iso8601, strict, plain.gitoxide, plain.by_default, plain.epoch) refl
+    rw (plain.rfc2822, iso8601, strict, plain.gitoxide, plain.default, plain.epoch) refl
 
 pub at-first : (rule : OffsetRule) (text : List ℕ) (time : Time) → at_time rule text ≡ Some time → (rest : List ℕ) × (text ≡ at_sign ∷ rest)
 unfolding at_time
@@ -337,7 +337,7 @@ at-none rest =
     let text = at_sign ∷ rest in
     let plain = no-plain text (no-year text refl) in
     let day = no-day text (no-weekday text refl) in
-    rw (plain.short, no-mail-first text refl refl, plain.iso8601, plain.strict, day.gitoxide, day.by_default, no-epoch at_sign rest refl refl (mixed [] at_sign rest refl)) refl
+    rw (plain.short, no-rfc2822-first text refl refl, plain.iso8601, plain.strict, day.gitoxide, day.default, no-epoch at_sign rest refl refl (mixed [] at_sign rest refl)) refl
 
 at-alone : (rule : OffsetRule) (text : List ℕ) (answer : FamilyAnswer) (found : Option Time) → at_time rule text ≡ found → option_map Absolute found ≡ Some answer → NoneFrom 1 text
 at-alone rule text answer None h e = absurd cc
@@ -351,7 +351,7 @@ before-git-apart rule text = at-most-one (answers_before_git rule text) alone
     alone : (n : ℕ) (answer : FamilyAnswer) → get_or (answers_before_git rule text) n None ≡ Some answer → filter is_some (drop (suc n) (answers_before_git rule text)) ≡ []
     alone zero answer e = at-alone rule text answer (at_time rule text) refl e
     alone (suc zero) answer e = short-alone text answer e
-    alone (suc (suc zero)) answer e = mail-alone text answer e
+    alone (suc (suc zero)) answer e = rfc2822-alone text answer e
     alone (suc (suc (suc zero))) answer e = iso8601-alone text answer e
     alone (suc (suc (suc (suc zero)))) answer e = strict-alone text answer e
     alone (suc (suc (suc (suc (suc zero))))) answer e = gitoxide-alone text answer e

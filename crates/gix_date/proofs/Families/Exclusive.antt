@@ -12,7 +12,7 @@ use Rattle.gix_date.specs.Fields.FieldTexts.{IsSign, IsYear, IsField, IsMonthNam
 use Rattle.gix_date.specs.Families.Answer.{FamilyAnswer, Absolute, OffsetAboveDay, NoInstant, Relative}
 use Rattle.gix_date.specs.Text.Characters.{at_sign, comma, minus, space, is_space}
 use Rattle.gix_date.specs.Families.Epoch.{at_time, epoch_time, utc_time}
-use Rattle.gix_date.specs.Families.Order.{Family, AtText, Short, Rfc2822, Iso8601, Iso8601Strict, Gitoxide, GitDefault, BareEpoch, GitForm, RelativeText, RawText, families, family_answer, answers_before_git, family_answers, first_answer_of, first_family_by, ParseNoAllocOutcome}
+use Rattle.gix_date.specs.Families.Order.{Family, AtText, Short, Rfc2822, Iso8601, Iso8601Strict, Gitoxide, Default, BareEpoch, GitForm, RelativeText, RawText, families, family_answer, answers_before_git, family_answers, first_answer_of, first_family_by, ParseNoAllocOutcome}
 use Rattle.gix_date.specs.Families.Laws.{AreExclusive, IgnoresMoment, Holds, overlap}
 use Rattle.gix_date.specs.Text.Front.{skip_char, ◌>>=◌}
 use Rattle.gix_date.specs.Git.Forms.{git_time, git_form, git_front, dotted_front, compact_front, flexible_front, read_marked_date, read_compact_date}
@@ -36,9 +36,9 @@ use Rattle.gix_date.proofs.Families.Disjoint.{none-unless, are-disjoint, raw-wor
 use Rattle.gix_date.proofs.Fields.FieldsRead.{Begins, name-begins, letter-no-digit, year-read}
 use Rattle.gix_date.proofs.Fields.FieldsTaken.{went, after-taken, weekday-taken}
 use Rattle.gix_date.proofs.Text.FirstWords.{AreVisible, visible_stays, are-ascii, first-begins, trimmed-words}
-use Rattle.gix_date.proofs.Fields.Layouts.{mail-front, dates_spelled}
+use Rattle.gix_date.proofs.Fields.Layouts.{rfc2822-front, dates_spelled}
 use Rattle.gix_date.proofs.Relative.QuietWords.{IsQuiet, no-relative}
-use Rattle.gix_date.proofs.Relative.QuietDates.{quiet-after, quiet-short, quiet-mail, quiet-iso8601, quiet-strict, quiet-gitoxide, quiet-default, quiet-int, field-digits, year-digits}
+use Rattle.gix_date.proofs.Relative.QuietDates.{quiet-after, quiet-short, quiet-rfc2822, quiet-iso8601, quiet-strict, quiet-gitoxide, quiet-default, quiet-int, field-digits, year-digits}
 use Rattle.gix_date.proofs.Printing.ReadBack.{first-at}
 use Rattle.gix_date.proofs.Text.FirstBytes.{no-git-byte, no-raw-front, no-raw-byte, plain-front, no-plain-by}
 use Rattle.gix_date.proofs.Fast.FastHeaders.{is_number_byte, offset-taken}
@@ -152,10 +152,10 @@ raw-no-day rule (c ∷ day) (g ∷ gap) (l ∷ month) rest n m t h s k e =
     sym letter ∙ ap is_ascii_alphabetic first ∙ mark-no-letter o.mark r.fields.sign o.is_mark in
     cc
 
-raw-no-mail : (rule : OffsetRule) (text : List ℕ) (t : Time) → raw_time_by rule text ≡ Some t
+raw-no-rfc2822 : (rule : OffsetRule) (text : List ℕ) (t : Time) → raw_time_by rule text ≡ Some t
     → rfc2822_answer text ≡ None
-raw-no-mail rule text t e = none-unless (rfc2822_answer text) (λ answer a.
-    let h = mail-front text answer a in
+raw-no-rfc2822 rule text t e = none-unless (rfc2822_answer text) (λ answer a.
+    let h = rfc2822-front text answer a in
     by-prefix h.prefix h.day h.gap h.month h.rest h.number h.month_number h.is_prefix h.is_day h.is_gap h.is_month (ap (raw_time_by rule) (sym h.whole) ∙ e))
   where
     by-prefix : (prefix day gap month rest : List ℕ) (n m : ℕ) → (prefix ≡ []) ⊎ IsDayPrefix prefix → IsField day n
@@ -226,10 +226,10 @@ git-no-day (c ∷ day) (g ∷ gap) rest n t u h s e =
     let clash : true ≡ false = sym digits ∙ f.mixed in
     cc
 
-pub mail-no-git : (text : List ℕ) (answer : FamilyAnswer) → IsUtf8 text → rfc2822_answer text ≡ Some answer
+pub rfc2822-no-git : (text : List ℕ) (answer : FamilyAnswer) → IsUtf8 text → rfc2822_answer text ≡ Some answer
     → git_time text ≡ None
-mail-no-git text answer u a =
-    let h = mail-front text answer a in
+rfc2822-no-git text answer u a =
+    let h = rfc2822-front text answer a in
     none-unless (git_time text) (λ t e. by-prefix h.prefix h.day h.gap (h.month ++ h.rest) h.number t (subst IsUtf8 h.whole u) h.is_prefix h.is_day h.is_gap (ap git_time (sym h.whole) ∙ e))
   where
     by-prefix : (prefix day gap rest : List ℕ) (n : ℕ) (t : Time) → IsUtf8 (prefix ++ (day ++ (gap ++ rest)))
@@ -302,11 +302,11 @@ is-quiet : (rule : OffsetRule) (family : Family) (text : List ℕ) → IsUtf8 te
     → overlap family RelativeText ≡ false → Holds rule family text → IsQuiet text
 is-quiet rule AtText text u n o h = let t = absolute (at_time rule text) h in quiet-at rule text t.0 u t.1
 is-quiet rule Short text u n o h = let a = answered rule Short text h in quiet-short text a.0 a.1
-is-quiet rule Rfc2822 text u n o h = let a = answered rule Rfc2822 text h in quiet-mail text a.0 a.1
+is-quiet rule Rfc2822 text u n o h = let a = answered rule Rfc2822 text h in quiet-rfc2822 text a.0 a.1
 is-quiet rule Iso8601 text u n o h = let a = answered rule Iso8601 text h in quiet-iso8601 text a.0 a.1
 is-quiet rule Iso8601Strict text u n o h = let a = answered rule Iso8601Strict text h in quiet-strict text a.0 a.1
 is-quiet rule Gitoxide text u n o h = let a = answered rule Gitoxide text h in quiet-gitoxide text a.0 a.1
-is-quiet rule GitDefault text u n o h = let a = answered rule GitDefault text h in quiet-default text a.0 a.1
+is-quiet rule Default text u n o h = let a = answered rule Default text h in quiet-default text a.0 a.1
 is-quiet rule BareEpoch text u n o h = let t = absolute (epoch_time text) h in let i = epoch-int text t.0 t.1 in quiet-int text i.0 i.1
 is-quiet rule GitForm text u n o h = absurd cc
 is-quiet rule RelativeText text u n o h = absurd (n refl)
@@ -324,11 +324,11 @@ git-clash rule AtText text u n o h =
     let f = at-first rule text t.0 t.1 in
     ap git_time f.1 ∙ no-git-byte at_sign f.0 (subst IsUtf8 f.1 u) refl refl
 git-clash rule Short text u n o h = let a = answered rule Short text h in short-no-git text a.0 a.1
-git-clash rule Rfc2822 text u n o h = let a = answered rule Rfc2822 text h in mail-no-git text a.0 u a.1
+git-clash rule Rfc2822 text u n o h = let a = answered rule Rfc2822 text h in rfc2822-no-git text a.0 u a.1
 git-clash rule Iso8601 text u n o h = absurd cc
 git-clash rule Iso8601Strict text u n o h = absurd cc
 git-clash rule Gitoxide text u n o h = let a = answered rule Gitoxide text h in let d = (dates_spelled.gitoxide text a.0).0 a.1 in named-no-git d.time text u d.are
-git-clash rule GitDefault text u n o h = let a = answered rule GitDefault text h in let d = (dates_spelled.by_default text a.0).0 a.1 in named-no-git d.time text u d.are
+git-clash rule Default text u n o h = let a = answered rule Default text h in let d = (dates_spelled.default text a.0).0 a.1 in named-no-git d.time text u d.are
 git-clash rule BareEpoch text u n o h = let t = absolute (epoch_time text) h in (are-disjoint rule text u).epoch_git t.0 t.1
 git-clash rule GitForm text u n o h = absurd (n refl)
 git-clash rule RelativeText text u n o h = absurd cc
@@ -352,12 +352,12 @@ raw-alone : (rule : OffsetRule) (family : Family) (text : List ℕ) (t : Time) �
     → raw_time_by rule text ≡ Some t → Holds rule family text → ⊥
 raw-alone rule AtText text t u n e h = let v = absolute (at_time rule text) h in raw-no-at rule text t v.0 e v.1
 raw-alone rule Short text t u n e h = none-held (short_answer text) h (raw-no-plain rule text t e).short
-raw-alone rule Rfc2822 text t u n e h = none-held (rfc2822_answer text) h (raw-no-mail rule text t e)
+raw-alone rule Rfc2822 text t u n e h = none-held (rfc2822_answer text) h (raw-no-rfc2822 rule text t e)
 raw-alone rule Iso8601 text t u n e h = none-held (iso8601_answer text) h (raw-no-plain rule text t e).iso8601
 raw-alone rule Iso8601Strict text t u n e h =
     none-held (iso8601_strict_answer text) h (raw-no-plain rule text t e).strict
 raw-alone rule Gitoxide text t u n e h = none-held (gitoxide_answer text) h (raw-no-named rule text t e).gitoxide
-raw-alone rule GitDefault text t u n e h = none-held (default_answer text) h (raw-no-named rule text t e).by_default
+raw-alone rule Default text t u n e h = none-held (default_answer text) h (raw-no-named rule text t e).default
 raw-alone rule BareEpoch text t u n e h = no-absolute (epoch_time text) h ((are-disjoint rule text u).raw_epoch t e)
 raw-alone rule GitForm text t u n e h = no-absolute (git_time text) h ((are-disjoint rule text u).raw_git t e)
 raw-alone rule RelativeText text t u n e h = quiet-clash rule text u (quiet-raw rule text t u e) h
@@ -371,7 +371,7 @@ place Rfc2822 = 2
 place Iso8601 = 3
 place Iso8601Strict = 4
 place Gitoxide = 5
-place GitDefault = 6
+place Default = 6
 place BareEpoch = 7
 place GitForm = 8
 place RelativeText = 9
@@ -387,7 +387,7 @@ place-back Rfc2822 = refl
 place-back Iso8601 = refl
 place-back Iso8601Strict = refl
 place-back Gitoxide = refl
-place-back GitDefault = refl
+place-back Default = refl
 place-back BareEpoch = refl
 place-back GitForm = refl
 place-back RelativeText = refl
@@ -472,7 +472,7 @@ unfolding first_family_by
 raw-first rule text u h =
     let none : (b : Family) → (place RawText == place b) ≡ false → overlap RawText b ≡ false → family_answer rule b text ≡ None = λ b d o. are-exclusive rule text u RawText b (differ RawText b d) o h in
     let a = answered rule RawText text h in
-    rw (none AtText refl refl, none Short refl refl, none Rfc2822 refl refl, none Iso8601 refl refl, none Iso8601Strict refl refl, none Gitoxide refl refl, none GitDefault refl refl, none BareEpoch refl refl, none GitForm refl refl, none RelativeText refl refl, a.1) refl
+    rw (none AtText refl refl, none Short refl refl, none Rfc2822 refl refl, none Iso8601 refl refl, none Iso8601Strict refl refl, none Gitoxide refl refl, none Default refl refl, none BareEpoch refl refl, none GitForm refl refl, none RelativeText refl refl, a.1) refl
 
 pub alone-first : (rule : OffsetRule) (family : Family) (text : List ℕ) → IsUtf8 text → family ≢ GitForm
     → family ≢ RelativeText → Holds rule family text → first_family_by rule text ≡ family_answer rule family text
@@ -488,7 +488,7 @@ unfolding first_family_by
 git-first rule text u p q h =
     let none : (b : Family) → (place GitForm == place b) ≡ false → overlap GitForm b ≡ false → family_answer rule b text ≡ None = λ b d o. are-exclusive rule text u GitForm b (differ GitForm b d) o h in
     let a = answered rule GitForm text h in
-    rw (none AtText refl refl, none Short refl refl, none Rfc2822 refl refl, p, q, none Gitoxide refl refl, none GitDefault refl refl, none BareEpoch refl refl, a.1) refl
+    rw (none AtText refl refl, none Short refl refl, none Rfc2822 refl refl, p, q, none Gitoxide refl refl, none Default refl refl, none BareEpoch refl refl, a.1) refl
 
 pub relative-first : (rule : OffsetRule) (text : List ℕ) → IsUtf8 text → family_answer rule GitForm text ≡ None
     → Holds rule RelativeText text → first_family_by rule text ≡ family_answer rule RelativeText text
@@ -496,7 +496,7 @@ unfolding first_family_by
 relative-first rule text u g h =
     let none : (b : Family) → (place RelativeText == place b) ≡ false → overlap RelativeText b ≡ false → family_answer rule b text ≡ None = λ b d o. are-exclusive rule text u RelativeText b (differ RelativeText b d) o h in
     let a = answered rule RelativeText text h in
-    rw (none AtText refl refl, none Short refl refl, none Rfc2822 refl refl, none Iso8601 refl refl, none Iso8601Strict refl refl, none Gitoxide refl refl, none GitDefault refl refl, none BareEpoch refl refl, g, a.1) refl
+    rw (none AtText refl refl, none Short refl refl, none Rfc2822 refl refl, none Iso8601 refl refl, none Iso8601Strict refl refl, none Gitoxide refl refl, none Default refl refl, none BareEpoch refl refl, g, a.1) refl
 
 pub raw-first-family : (rule : OffsetRule) (text : List ℕ) (t : Time) → IsUtf8 text → raw_time_by rule text ≡ Some t
     → first_family_by rule text ≡ Some (Absolute t)
@@ -621,7 +621,7 @@ counting rule text date e =
               (
                 date-not rule gitoxide_layout Gitoxide text dates_spelled.gitoxide,
                 (
-                  date-not rule default_layout GitDefault text dates_spelled.by_default,
+                  date-not rule default_layout Default text dates_spelled.default,
                   (not-relative (epoch_time text), (not-relative (git_time text), tt)),
                 ),
               ),

@@ -214,7 +214,7 @@ absolute-near raw text = first-near (family_answers (allows raw) text) (
           (
             near-dated _ gitoxide_answer text dates_spelled.gitoxide,
             (
-              near-dated _ default_answer text dates_spelled.by_default,
+              near-dated _ default_answer text dates_spelled.default,
               (
                 by-time (epoch_time text) (near-epoch text),
                 (by-time (git_time text) (near-git text), (not-absolute (relative_date text), (by-time (raw_time_by (allows raw) text) (near-raw raw text), tt))),

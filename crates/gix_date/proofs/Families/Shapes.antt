@@ -8,7 +8,7 @@ use Rattle.std.specs.Int.Signed.{le_z}
 use Rattle.std.specs.Option.{option_or}
 use Rattle.gix_date.specs.Families.Answer.{Absolute}
 use Rattle.gix_date.specs.Text.Characters.{at_sign, comma, minus, dot, space, is_space, letter_t}
-use Rattle.gix_date.specs.Families.Order.{AtText, Short, Rfc2822, Iso8601, Iso8601Strict, Gitoxide, GitDefault, BareEpoch, GitForm, RelativeText, RawText, first_family_by}
+use Rattle.gix_date.specs.Families.Order.{AtText, Short, Rfc2822, Iso8601, Iso8601Strict, Gitoxide, Default, BareEpoch, GitForm, RelativeText, RawText, first_family_by}
 use Rattle.gix_date.specs.Fields.DateFields.{is_weekday, read_name, read_plain_date, skip_day_name, skip_weekday}
 use Rattle.gix_date.specs.Fields.FieldTexts.{IsField, IsYear, AreSpaces, IsMonthName, IsDayPrefix}
 use Rattle.gix_date.specs.Text.Front.{skip_char}
@@ -18,14 +18,14 @@ use Rattle.gix_date.specs.Families.Epoch.{at_time, epoch_time, min_bare_epoch, u
 use Rattle.gix_date.specs.Git.Forms.{git_time}
 use Rattle.gix_date.specs.Families.Raw.{OffsetRule, raw_time_by}
 use Rattle.gix_date.specs.Families.Shapes.{are_two_digits, are_four_digits, begins_with_at, begins_with_letter, begins_with_year, begins_with_dashed_day, begins_with_dotted_day, begins_with_compact_day, begins_with_count, letter_shape, shape_of, shape_families, first_among, IsDispatched, row_families, IsInItsRow}
-use Rattle.gix_date.specs.declared.parsing.shape.Shape.TheVariants.{AtSign, MailDay, NamedDay, Word, DashedDay, GitDay, Count, WholeNumber, Other}
-use Rattle.gix_date.proofs.Families.Apart.{NoPlainDate, NoDayFirst, no-day, no-field, no-mail-first, no-mail-year, no-plain, no-spaces, no-weekday, no-year}
+use Rattle.gix_date.specs.declared.parsing.shape.Shape.TheVariants.{AtSign, Rfc2822Day, NamedDay, Word, DashedDay, GitDay, Count, WholeNumber, Other}
+use Rattle.gix_date.proofs.Families.Apart.{NoPlainDate, NoDayFirst, no-day, no-field, no-rfc2822-first, no-rfc2822-year, no-plain, no-spaces, no-weekday, no-year}
 use Rattle.gix_date.proofs.Families.Disjoint.{GitFront, year-front, compact-year, raw-words, none-unless, int-digits, int-first, no-git, front-digits, letter_visible}
 use Rattle.gix_date.proofs.Families.Exclusive.{git-no-day}
 use Rattle.gix_date.proofs.Fields.FieldsRead.{Begins, BeginsNot, begins-append, letter-no-digit, name-begins}
 use Rattle.gix_date.proofs.Text.FirstWords.{is_visible}
 use Rattle.gix_date.proofs.Text.FirstBytes.{int-no-byte, no-raw-front, no-raw-byte, no-git-byte, no-plain-by, plain-front, plain-year}
-use Rattle.gix_date.proofs.Fields.Layouts.{mail-front}
+use Rattle.gix_date.proofs.Fields.Layouts.{rfc2822-front}
 use Rattle.gix_date.proofs.Fast.FastHeaders.{AreNumberBytes, is_number_byte, int-number, one-word}
 use Rattle.gix_date.proofs.Relative.QuietDates.{quiet-int}
 use Rattle.gix_date.proofs.Relative.QuietWords.{no-relative}
@@ -96,7 +96,7 @@ at-dispatched rule (c ∷ rest) u h =
         let plain = no-plain text (no-year text refl) in
         let names = no-day text (no-weekday text refl) in
         let number = no-number rule at_sign rest u refl refl refl in
-        rw (plain.short, plain.iso8601, plain.strict, no-mail-first text refl refl, names.gitoxide, names.by_default, number.epoch, number.git, number.raw) refl
+        rw (plain.short, plain.iso8601, plain.strict, no-rfc2822-first text refl refl, names.gitoxide, names.default, number.epoch, number.git, number.raw) refl
 
 -- A text that begins with a letter: its fourth byte decides which dates it can be.
 weekday-or : (text : List ℕ) → (skip_weekday text ≡ None) ⊎ (skip_weekday text ≡ Some (drop 3 text))
@@ -123,7 +123,7 @@ no-space : (text : List ℕ) → BeginsNot is_space (drop 3 text) → NoDayFirst
 unfolding gitoxide_answer default_answer
 no-space text h =
     let none = no-spaces (drop 3 text) h in
-    elim (weekday-or text) [ inl w ↦ no-day text w | inr w ↦ record { gitoxide = rw (w, none) refl; by_default = rw (w, none) refl } ]
+    elim (weekday-or text) [ inl w ↦ no-day text w | inr w ↦ record { gitoxide = rw (w, none) refl; default = rw (w, none) refl } ]
 
 letter-no-number : (c : ℕ) → is_ascii_alphabetic c ≡ true → is_number_byte c ≡ false
 letter-no-number c h = grind (arith, nat_tests, h)
@@ -149,12 +149,12 @@ lettered rule (c ∷ rest) u n h =
       number = no-number rule c rest u (letter_visible c h) (letter-no-number c h) digit;
     }
 
-mail-dispatched : (rule : OffsetRule) (text : List ℕ) → Lettered rule text → BeginsNot is_space (drop 3 text)
-    → first_family_by rule text ≡ first_among rule (shape_families MailDay) text
+rfc2822-dispatched : (rule : OffsetRule) (text : List ℕ) → Lettered rule text → BeginsNot is_space (drop 3 text)
+    → first_family_by rule text ≡ first_among rule (shape_families Rfc2822Day) text
 unfolding first_family_by
-mail-dispatched rule text l h =
+rfc2822-dispatched rule text l h =
     let names = no-space text h in
-    rw (l.at, l.dates.short, l.dates.iso8601, l.dates.strict, names.gitoxide, names.by_default, l.number.epoch, l.number.git, l.number.raw) refl
+    rw (l.at, l.dates.short, l.dates.iso8601, l.dates.strict, names.gitoxide, names.default, l.number.epoch, l.number.git, l.number.raw) refl
 
 named-dispatched : (rule : OffsetRule) (text : List ℕ) → Lettered rule text → skip_char comma (drop 3 text) ≡ None
     → first_family_by rule text ≡ first_among rule (shape_families NamedDay) text
@@ -167,7 +167,7 @@ word-dispatched : (rule : OffsetRule) (text : List ℕ) → Lettered rule text �
 unfolding first_family_by
 word-dispatched rule text l h k =
     let names = no-space text k in
-    rw (l.at, l.dates.short, no-comma text l.field h, l.dates.iso8601, l.dates.strict, names.gitoxide, names.by_default, l.number.epoch, l.number.git, l.number.raw) refl
+    rw (l.at, l.dates.short, no-comma text l.field h, l.dates.iso8601, l.dates.strict, names.gitoxide, names.default, l.number.epoch, l.number.git, l.number.raw) refl
 
 letter-dispatched : (rule : OffsetRule) (text : List ℕ) → Lettered rule text
     → first_family_by rule text ≡ first_among rule (shape_families (letter_shape text)) text
@@ -181,14 +181,14 @@ letter-dispatched rule (a ∷ b ∷ c ∷ d ∷ rest) l = by (d == comma) (d == 
     text : List ℕ
     text = a ∷ b ∷ c ∷ d ∷ rest
 
-    by : (m s : Bool) → (d == comma) ≡ m → (d == space) ≡ s → first_family_by rule text ≡ first_among rule (shape_families (cond m MailDay (cond s NamedDay Word))) text
-    by true s e f = mail-dispatched rule text l (comma-no-space d e)
+    by : (m s : Bool) → (d == comma) ≡ m → (d == space) ≡ s → first_family_by rule text ≡ first_among rule (shape_families (cond m Rfc2822Day (cond s NamedDay Word))) text
+    by true s e f = rfc2822-dispatched rule text l (comma-no-space d e)
     by false true e f = named-dispatched rule text l (rw e refl)
     by false false e f = word-dispatched rule text l (rw e refl) f
 
 -- A text that begins with a year is no mail date, number or raw text if a visible byte ends its first digits.
 record AfterYear (rule : OffsetRule) (text : List ℕ) : Type 0 where
-  pub mail : rfc2822_answer text ≡ None
+  pub rfc2822 : rfc2822_answer text ≡ None
   pub epoch : epoch_time text ≡ None
   pub raw : raw_time_by rule text ≡ None
 
@@ -200,7 +200,7 @@ int-no-front text n e g =
 
 after-year : (rule : OffsetRule) (year rest : List ℕ) (n : ℕ) → IsYear year n → GitFront (year ++ rest) → AfterYear rule (year ++ rest)
 after-year rule year rest n y g = record {
-  mail = no-mail-year year rest n y;
+  rfc2822 = no-rfc2822-year year rest n y;
   epoch = no-epoch (year ++ rest) (none-unless (int_value (year ++ rest)) (λ k e. int-no-front (year ++ rest) k e g));
   raw = no-raw-front rule (year ++ rest) g;
 }
@@ -324,9 +324,9 @@ count-so (a ∷ b ∷ []) (g ∷ gap) (l ∷ month) rest n m f s k = second (b =
     second false = rw (f.0, f.1, s.0) refl
 count-so (a ∷ b ∷ c ∷ day) gap month rest n m f s k = absurd f
 
-no-mail : (text : List ℕ) → begins_with_letter text ≡ false → begins_with_count text ≡ false → rfc2822_answer text ≡ None
-no-mail text l c = none-unless (rfc2822_answer text) (λ answer a. (
-    let m = mail-front text answer a in
+no-rfc2822 : (text : List ℕ) → begins_with_letter text ≡ false → begins_with_count text ≡ false → rfc2822_answer text ≡ None
+no-rfc2822 text l c = none-unless (rfc2822_answer text) (λ answer a. (
+    let m = rfc2822-front text answer a in
     by m.prefix (m.day ++ (m.gap ++ (m.month ++ m.rest))) m.whole m.is_prefix (count-so m.day m.gap m.month m.rest m.number m.month_number m.is_day m.is_gap m.is_month)
     ))
   where
@@ -360,10 +360,10 @@ int-dispatched rule text n u e =
     let bytes = subst AreNumberBytes (sym k.whole) k.bytes in
     let letter = number-no-letter text bytes in
     let names = no-names text letter in
-    let mail = no-mail text letter (no-count text n u e (begins_with_count text) refl) in
+    let rfc2822 = no-rfc2822 text letter (no-count text n u e (begins_with_count text) refl) in
     let dates = no-plain-by text (none-unless (read_plain_date text) (λ found h. int-no-front text n e (plain-front text found h))) in
     let git : git_time text ≡ None = none-unless (git_time text) (λ t h. no-git text u (int-first text n e) t h) in
-    rw (no-at rule text (number-no-at text bytes), dates.short, mail, dates.iso8601, dates.strict, names.gitoxide, names.by_default, git, no-relative text u (quiet-int text n e), int-no-raw rule text n e) refl
+    rw (no-at rule text (number-no-at text bytes), dates.short, rfc2822, dates.iso8601, dates.strict, names.gitoxide, names.default, git, no-relative text u (quiet-int text n e), int-no-raw rule text n e) refl
 
 -- Each shape, by the tests of `shape_of` in their order.
 pub is-dispatched : (rule : OffsetRule) (text : List ℕ) → IsUtf8 text → IsDispatched rule text
@@ -380,22 +380,22 @@ is-dispatched rule text u =
     by false false true d c i ea el ey ed ec ei =
         let names = no-names text el in
         let after = dashed-after rule text ey in
-        rw (no-at rule text ea, after.mail, names.gitoxide, names.by_default, after.epoch, after.raw) refl
+        rw (no-at rule text ea, after.rfc2822, names.gitoxide, names.default, after.epoch, after.raw) refl
     by false false false true c i ea el ey ed ec ei =
         let names = no-names text el in
         let dates = no-dates text ey in
         let after = git-day-after rule text ed in
-        rw (no-at rule text ea, dates.short, after.mail, dates.iso8601, dates.strict, names.gitoxide, names.by_default, after.epoch, after.raw) refl
+        rw (no-at rule text ea, dates.short, after.rfc2822, dates.iso8601, dates.strict, names.gitoxide, names.default, after.epoch, after.raw) refl
     by false false false false true i ea el ey ed ec ei =
         let names = no-names text el in
         let dates = no-dates text ey in
         let count = count-first text u ec in
-        rw (no-at rule text ea, dates.short, dates.iso8601, dates.strict, names.gitoxide, names.by_default, no-epoch text count.int, count.git) refl
+        rw (no-at rule text ea, dates.short, dates.iso8601, dates.strict, names.gitoxide, names.default, no-epoch text count.int, count.git) refl
     by false false false false false (Some n) ea el ey ed ec ei = int-dispatched rule text n u ei
     by false false false false false None ea el ey ed ec ei =
         let names = no-names text el in
         let dates = no-dates text ey in
-        rw (no-at rule text ea, dates.short, no-mail text el ec, dates.iso8601, dates.strict, names.gitoxide, names.by_default, no-epoch text ei) refl
+        rw (no-at rule text ea, dates.short, no-rfc2822 text el ec, dates.iso8601, dates.strict, names.gitoxide, names.default, no-epoch text ei) refl
 
 -- The seven rows, by their tests. A day in one of them begins with a digit, and with `-` after the year or with another byte.
 record DayFirst (year : Bool) (text : List ℕ) : Type 0 where
@@ -449,7 +449,7 @@ unfolding first_family_by
 git-day-row rule text ea day after =
     let names = no-names text day.letter in
     let dates = no-dates text day.marked in
-    rw (no-at rule text ea, dates.short, after.mail, dates.iso8601, dates.strict, names.gitoxide, names.by_default, after.epoch, after.raw) refl
+    rw (no-at rule text ea, dates.short, after.rfc2822, dates.iso8601, dates.strict, names.gitoxide, names.default, after.epoch, after.raw) refl
 
 pub is-in-its-row : (rule : OffsetRule) (text : List ℕ) → IsUtf8 text → IsInItsRow rule text
 unfolding row_families first_family_by
@@ -461,7 +461,7 @@ is-in-its-row rule text u =
         → first_family_by rule text
         ≡ first_among rule (cond a (AtText ∷ RelativeText ∷ []) (cond (is_some i) (BareEpoch ∷ [])
         (cond s (Short ∷ Iso8601 ∷ Iso8601Strict ∷ GitForm ∷ RelativeText ∷ []) (cond d (GitForm ∷ RelativeText ∷ [])
-        (cond k (GitForm ∷ RelativeText ∷ []) (cond l (Rfc2822 ∷ Gitoxide ∷ GitDefault ∷ RelativeText ∷ [])
+        (cond k (GitForm ∷ RelativeText ∷ []) (cond l (Rfc2822 ∷ Gitoxide ∷ Default ∷ RelativeText ∷ [])
         (Short ∷ Rfc2822 ∷ Iso8601 ∷ Iso8601Strict ∷ GitForm ∷ RelativeText ∷ RawText ∷ []))))))) text
     by true i s d k l ea ei es ed ek el = at-dispatched rule text u ea
     by false (Some n) s d k l ea ei es ed ek el = int-dispatched rule text n u ei
@@ -469,7 +469,7 @@ is-in-its-row rule text u =
         let day = dashed-first text es in
         let names = no-names text day.letter in
         let after = dashed-after rule text day.marked in
-        rw (no-at rule text ea, after.mail, names.gitoxide, names.by_default, after.epoch, after.raw) refl
+        rw (no-at rule text ea, after.rfc2822, names.gitoxide, names.default, after.epoch, after.raw) refl
     by false None false true k l ea ei es ed ek el = git-day-row rule text ea (dotted-first text ed) (dotted-after rule text ed)
     by false None false false true l ea ei es ed ek el = git-day-row rule text ea (compact-first text ek) (compact-after rule text ek)
     by false None false false false true ea ei es ed ek el =
@@ -477,7 +477,7 @@ is-in-its-row rule text u =
         rw (l.at, l.dates.short, l.dates.iso8601, l.dates.strict, l.number.epoch, l.number.git, l.number.raw) refl
     by false None false false false false ea ei es ed ek el =
         let names = no-names text el in
-        rw (no-at rule text ea, names.gitoxide, names.by_default, no-epoch text ei) refl
+        rw (no-at rule text ea, names.gitoxide, names.default, no-epoch text ei) refl
 
 pub number-first : (rule : OffsetRule) (text : List ℕ) (n : ℤ) → IsUtf8 text → int_value text ≡ Some n
     → first_family_by rule text ≡ (if le_z min_bare_epoch n then Some (Absolute (utc_time n)) else None)

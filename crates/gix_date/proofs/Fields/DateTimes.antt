@@ -3,7 +3,7 @@ use Rattle.std.proofs.Common.{◌≡◌, ◌∙◌, ℕ, zero, suc, ◌+◌, ◌
 use Rattle.std.proofs.lemmas.Bool.{cases_order}
 use Rattle.std.proofs.lemmas.Int.{by_lt_z}
 use Rattle.std.specs.Int.{int_div_euclid, int_rem_euclid}
-use Rattle.jiff.specs.Types.{DateTime, Date, Time}
+use Rattle.jiff.specs.Types.{DateTime, Date, Time as TimeOfDay}
 use Rattle.jiff.specs.Words.{epoch_day, civil_nanos, time_nanos, IsEpochDay, IsCivilNanos, days_in_month}
 use Rattle.jiff_core.specs.Calendar.{days_from_civil, IsCivilDate}
 use Rattle.jiff_core.proofs.CalendarLemmas.{days_in_month_bounds}
@@ -74,7 +74,7 @@ day_exists n h =
     subst IsDayOf e (day_from k (omega (arith, signed_arith, one_part (n +ℤ pos 4_371_587))))
 
 abbrev IsClockOf : ℕ → Type 0
-IsClockOf n = (t : Time) × (time_nanos t ≡ n)
+IsClockOf n = (t : TimeOfDay) × (time_nanos t ≡ n)
 
 clock_exists : (n : ℕ) → n < 86_400_000_000_000 → IsClockOf n
 clock_exists n h = (

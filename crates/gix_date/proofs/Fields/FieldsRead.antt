@@ -7,12 +7,12 @@ use Rattle.std.specs.Prelude.{◌==◌, ◌&&◌, nat_lt}
 use Rattle.std.specs.Char.{is_ascii_digit, is_ascii_alphabetic}
 use Rattle.std.specs.List.{prefix_len, list_all}
 use Rattle.gix_date.specs.Text.Characters.{plus, minus, comma, colon, space, is_space}
-use Rattle.gix_date.specs.Fields.FieldTexts.{IsField, IsYear, AreSpaces, AreThreeLetters, IsDayName, IsMonthName, IsPlainDate, IsClock, IsMailClock, IsDayPrefix}
+use Rattle.gix_date.specs.Fields.FieldTexts.{IsField, IsYear, AreSpaces, AreThreeLetters, IsDayName, IsMonthName, IsPlainDate, IsClock, IsRfc2822Clock, IsDayPrefix}
 use Rattle.gix_date.specs.Text.Front.{skip_char}
 use Rattle.gix_date.specs.Text.Numbers.{read_two_digits, read_digit, read_field, read_year}
 use Rattle.gix_date.specs.Fields.Offsets.{offset_fields, read_sign}
-use Rattle.gix_date.specs.Fields.DateFields.{skip_day_name, skip_spaces, read_name, read_month, skip_weekday, read_plain_date, read_minutes, read_second, read_clock, read_mail_clock}
-use Rattle.gix_date.specs.Fields.DateOffsets.{compact_offset, strict_offset, mail_zone, mail_offset, named_zone}
+use Rattle.gix_date.specs.Fields.DateFields.{skip_day_name, skip_spaces, read_name, read_month, skip_weekday, read_plain_date, read_minutes, read_second, read_clock, read_rfc2822_clock}
+use Rattle.gix_date.specs.Fields.DateOffsets.{compact_offset, strict_offset, rfc2822_zone, rfc2822_offset, named_zone}
 use Rattle.gix_date.specs.declared.civil.ClockFields.{ClockFields}
 use Rattle.gix_date.specs.declared.civil.DateFields.{DateFields}
 
@@ -174,15 +174,15 @@ second-read : {t : List ℕ} {clock : ClockFields} (h : IsClock t clock) (rest :
 unfolding read_second skip_char with_second
 second-read {clock = clock} h rest s = rw (field-read h.second rest h.seconds h.is_second s) (ap (with_second clock.hour clock.minute rest) (sym h.without_leap))
 
-pub mail-clock-read : (t rest : List ℕ) (clock : ClockFields) → IsMailClock t clock → BeginsNot is_ascii_digit rest → NoColon rest → read_mail_clock (t ++ rest) ≡ Some (clock, rest)
-unfolding read_mail_clock read_minutes skip_char with_second
-mail-clock-read t rest clock (inl h) s e =
+pub rfc2822-clock-read : (t rest : List ℕ) (clock : ClockFields) → IsRfc2822Clock t clock → BeginsNot is_ascii_digit rest → NoColon rest → read_rfc2822_clock (t ++ rest) ≡ Some (clock, rest)
+unfolding read_rfc2822_clock read_minutes skip_char with_second
+rfc2822-clock-read t rest clock (inl h) s e =
     let split : t ++ rest ≡ h.hour ++ (colon ∷ (h.minute ++ (colon ∷ (h.second ++ rest)))) = rw h.whole (simp append_assoc) in
     let second : read_second (minutes clock.hour clock.minute) (colon ∷ (h.second ++ rest)) ≡ Some (clock, rest) = second-read h rest s in
-    ap read_mail_clock split ∙ rw (field-read h.hour (colon ∷ (h.minute ++ (colon ∷ (h.second ++ rest)))) clock.hour h.is_hour refl, field-read h.minute (colon ∷ (h.second ++ rest)) clock.minute h.is_minute refl, second) refl
-mail-clock-read t rest clock (inr h) s e =
+    ap read_rfc2822_clock split ∙ rw (field-read h.hour (colon ∷ (h.minute ++ (colon ∷ (h.second ++ rest)))) clock.hour h.is_hour refl, field-read h.minute (colon ∷ (h.second ++ rest)) clock.minute h.is_minute refl, second) refl
+rfc2822-clock-read t rest clock (inr h) s e =
     let split : t ++ rest ≡ h.hour ++ (colon ∷ (h.minute ++ rest)) = rw h.whole (simp append_assoc) in
-    ap read_mail_clock split ∙ rw (field-read h.hour (colon ∷ (h.minute ++ rest)) clock.hour h.is_hour refl, field-read h.minute rest clock.minute h.is_minute s, no-second (minutes clock.hour clock.minute) rest e)
+    ap read_rfc2822_clock split ∙ rw (field-read h.hour (colon ∷ (h.minute ++ rest)) clock.hour h.is_hour refl, field-read h.minute rest clock.minute h.is_minute s, no-second (minutes clock.hour clock.minute) rest e)
     (ap (with_second clock.hour clock.minute rest) (sym h.at_its_start))
 
 is-space : (c : ℕ) → is_space c ≡ true → c ≡ space
@@ -193,9 +193,9 @@ space_no_compact : (t : List ℕ) → compact_offset (space ∷ t) ≡ None
 unfolding compact_offset offset_fields read_sign skip_char
 space_no_compact t = refl
 
-space_no_mail : (t : List ℕ) → mail_zone (space ∷ t) ≡ None
-unfolding mail_zone mail_offset named_zone offset_fields read_sign skip_char
-space_no_mail t = refl
+space_no_rfc2822 : (t : List ℕ) → rfc2822_zone (space ∷ t) ≡ None
+unfolding rfc2822_zone rfc2822_offset named_zone offset_fields read_sign skip_char
+space_no_rfc2822 t = refl
 
 never : (zone : List ℕ → Option ℤ) (c : ℕ) (t : List ℕ) (offset : ℤ) (b : Bool) → ((t : List ℕ) → zone (space ∷ t) ≡ None) → is_space c ≡ b → zone (c ∷ t) ≡ Some offset → b ≡ false
 never zone c t offset false refused e h = refl
@@ -210,8 +210,8 @@ zone-no-space zone refused (c ∷ t) offset h = never zone c t offset (is_space 
 pub compact-no-space : (t : List ℕ) (offset : ℤ) → compact_offset t ≡ Some offset → BeginsNot is_space t
 compact-no-space = zone-no-space compact_offset space_no_compact
 
-pub mail-no-space : (t : List ℕ) (offset : ℤ) → mail_zone t ≡ Some offset → BeginsNot is_space t
-mail-no-space = zone-no-space mail_zone space_no_mail
+pub rfc2822-no-space : (t : List ℕ) (offset : ℤ) → rfc2822_zone t ≡ Some offset → BeginsNot is_space t
+rfc2822-no-space = zone-no-space rfc2822_zone space_no_rfc2822
 
 -- nor with a digit
 digit_no_strict : (c : ℕ) (t : List ℕ) → is_ascii_digit c ≡ true → strict_offset (c ∷ t) ≡ None
@@ -236,9 +236,9 @@ clock-begins t rest clock h =
     let split : t ++ rest ≡ h.hour ++ (colon ∷ (h.minute ++ (colon ∷ (h.second ++ rest)))) = rw h.whole (simp append_assoc) in
     subst (Begins is_ascii_digit) (sym split) (begins-append is_ascii_digit h.hour (colon ∷ (h.minute ++ (colon ∷ (h.second ++ rest)))) (field-begins h.hour clock.hour h.is_hour))
 
-pub mail-clock-begins : (t rest : List ℕ) (clock : ClockFields) → IsMailClock t clock → Begins is_ascii_digit (t ++ rest)
-mail-clock-begins t rest clock (inl h) = clock-begins t rest clock h
-mail-clock-begins t rest clock (inr h) =
+pub rfc2822-clock-begins : (t rest : List ℕ) (clock : ClockFields) → IsRfc2822Clock t clock → Begins is_ascii_digit (t ++ rest)
+rfc2822-clock-begins t rest clock (inl h) = clock-begins t rest clock h
+rfc2822-clock-begins t rest clock (inr h) =
     let split : t ++ rest ≡ h.hour ++ (colon ∷ (h.minute ++ rest)) = rw h.whole (simp append_assoc) in
     subst (Begins is_ascii_digit) (sym split) (begins-append is_ascii_digit h.hour (colon ∷ (h.minute ++ rest)) (field-begins h.hour clock.hour h.is_hour))
 

@@ -8,10 +8,10 @@ use Rattle.std.specs.Char.{is_ascii_digit, is_ascii_alphabetic}
 use Rattle.std.specs.List.{prefix_len, list_all}
 use Rattle.std.specs.Option.{option_or}
 use Rattle.gix_date.specs.Text.Characters.{minus, comma, colon, is_space}
-use Rattle.gix_date.specs.Fields.FieldTexts.{IsDigit, IsField, IsYear, AreSpaces, AreThreeLetters, IsDayName, IsMonthName, IsPlainDate, AreMinutes, IsClock, IsMailClock, IsDayPrefix}
+use Rattle.gix_date.specs.Fields.FieldTexts.{IsDigit, IsField, IsYear, AreSpaces, AreThreeLetters, IsDayName, IsMonthName, IsPlainDate, AreMinutes, IsClock, IsRfc2822Clock, IsDayPrefix}
 use Rattle.gix_date.specs.Text.Front.{ReadFront, skip_char, ◌>>=◌}
 use Rattle.gix_date.specs.Text.Numbers.{read_two_digits, read_digit, read_field, read_year}
-use Rattle.gix_date.specs.Fields.DateFields.{skip_day_name, skip_spaces, read_name, read_month, month_named, is_weekday, skip_weekday, read_plain_date, read_minutes, read_second, read_clock, read_mail_clock, without_leap_second}
+use Rattle.gix_date.specs.Fields.DateFields.{skip_day_name, skip_spaces, read_name, read_month, month_named, is_weekday, skip_weekday, read_plain_date, read_minutes, read_second, read_clock, read_rfc2822_clock, without_leap_second}
 use Rattle.gix_date.specs.declared.civil.ClockFields.{ClockFields}
 use Rattle.gix_date.specs.declared.civil.DateFields.{DateFields}
 
@@ -262,20 +262,20 @@ clock-taken x clock rest e =
     let start = went (read_minutes x) (λ start. read_second start.0 start.1) (clock, rest) e in
     second-taken x start.0.0 start.0.1 clock rest (minutes-taken x start.0.0 start.0.1 start.1) start.2
 
-as_mail : {x : List ℕ} {clock : ClockFields} {rest : List ℕ} → Took IsClock x clock rest → Took IsMailClock x clock rest
-as_mail t = record { text = t.text; is = inl t.is; whole = t.whole }
+as_rfc2822 : {x : List ℕ} {clock : ClockFields} {rest : List ℕ} → Took IsClock x clock rest → Took IsRfc2822Clock x clock rest
+as_rfc2822 t = record { text = t.text; is = inl t.is; whole = t.whole }
 
 with_or_without : (x : List ℕ) (start : ClockFields) (middle : List ℕ) (clock : ClockFields) (rest : List ℕ) (second : ReadFront ClockFields) → read_second start middle ≡ second → Took AreMinutes x start middle
-    → Some (unwrap_or second (start, middle)) ≡ Some (clock, rest) → Took IsMailClock x clock rest
+    → Some (unwrap_or second (start, middle)) ≡ Some (clock, rest) → Took IsRfc2822Clock x clock rest
 with_or_without x start middle clock rest (Some found) s front e =
     let is : found ≡ (clock, rest) = same found (clock, rest) e in
-    as_mail (second-taken x start middle clock rest front (s ∙ ap (λ (p : ClockFields × List ℕ). Some p) is))
+    as_rfc2822 (second-taken x start middle clock rest front (s ∙ ap (λ (p : ClockFields × List ℕ). Some p) is))
 with_or_without x start middle clock rest None s front e =
     let is : (start, middle) ≡ (clock, rest) = same (start, middle) (clock, rest) e in
-    subst (λ (p : ClockFields × List ℕ). Took IsMailClock x p.0 p.1) is (record { text = front.text; is = inr front.is; whole = front.whole })
+    subst (λ (p : ClockFields × List ℕ). Took IsRfc2822Clock x p.0 p.1) is (record { text = front.text; is = inr front.is; whole = front.whole })
 
-pub mail-clock-taken : (x : List ℕ) (clock : ClockFields) (rest : List ℕ) → read_mail_clock x ≡ Some (clock, rest) → Took IsMailClock x clock rest
-unfolding read_mail_clock
-mail-clock-taken x clock rest e =
+pub rfc2822-clock-taken : (x : List ℕ) (clock : ClockFields) (rest : List ℕ) → read_rfc2822_clock x ≡ Some (clock, rest) → Took IsRfc2822Clock x clock rest
+unfolding read_rfc2822_clock
+rfc2822-clock-taken x clock rest e =
     let start = went (read_minutes x) (λ start. Some (unwrap_or (read_second start.0 start.1) start)) (clock, rest) e in
     with_or_without x start.0.0 start.0.1 clock rest (read_second start.0.0 start.0.1) refl (minutes-taken x start.0.0 start.0.1 start.1) start.2

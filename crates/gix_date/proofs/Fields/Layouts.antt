@@ -6,14 +6,14 @@ use Rattle.gix_date.specs.Families.Answer.{FamilyAnswer}
 use Rattle.gix_date.specs.Text.Characters.{letter_t, is_space}
 use Rattle.gix_date.specs.Fields.FieldTexts.{IsField, AreSpaces, IsDayName, IsMonthName, IsDayPrefix}
 use Rattle.gix_date.specs.Text.Front.{skip_char, ◌>>=◌}
-use Rattle.gix_date.specs.Fields.Layout.{LocalTime, Piece, DayName, MailDayName, MonthName, Day, Year, PlainDate, Clock, MailClock, Spaces, LetterT, Offset, ColonOffset, MailOffset, read_piece, read_pieces, nothing_read, layout_answer, IsPiece, ArePieces}
+use Rattle.gix_date.specs.Fields.Layout.{LocalTime, Piece, DayName, Rfc2822DayName, MonthName, Day, Year, PlainDate, Clock, Rfc2822Clock, Spaces, LetterT, Offset, ColonOffset, Rfc2822Offset, read_piece, read_pieces, nothing_read, layout_answer, IsPiece, ArePieces}
 use Rattle.gix_date.specs.Text.Numbers.{read_field, read_year}
-use Rattle.gix_date.specs.Fields.DateFields.{skip_day_name, skip_spaces, skip_weekday, read_month, read_plain_date, read_clock, read_mail_clock}
-use Rattle.gix_date.specs.Fields.DateOffsets.{compact_offset, strict_offset, mail_zone, mail_offset, named_zone}
+use Rattle.gix_date.specs.Fields.DateFields.{skip_day_name, skip_spaces, skip_weekday, read_month, read_plain_date, read_clock, read_rfc2822_clock}
+use Rattle.gix_date.specs.Fields.DateOffsets.{compact_offset, strict_offset, rfc2822_zone, rfc2822_offset, named_zone}
 use Rattle.gix_date.specs.Fields.Offsets.{offset_fields, read_sign}
 use Rattle.gix_date.specs.Families.Patterns.{short_layout, rfc2822_layout, iso8601_layout, iso8601_strict_layout, gitoxide_layout, default_layout, time_answer, real_day_answer, short_answer, rfc2822_answer, iso8601_answer, iso8601_strict_answer, gitoxide_answer, default_answer, IsMeaning, Accepts}
-use Rattle.gix_date.proofs.Fields.FieldsRead.{Begins, BeginsNot, NoColon, begins-append, begins_not, digit-no-space, field-begins, field-read, year-begins, year-read, spaces-read, month-read, weekday-read, date-read, prefix-read, no-prefix, clock-read, mail-clock-read, compact-no-space, mail-no-space, strict-no-digit, clock-begins, mail-clock-begins, digit-front, name-front, gap-front, gap-no-colon}
-use Rattle.gix_date.proofs.Fields.FieldsTaken.{went, TookFront, after-taken, field-taken, year-taken, spaces-taken, month-taken, weekday-taken, prefix-taken, date-taken, clock-taken, mail-clock-taken}
+use Rattle.gix_date.proofs.Fields.FieldsRead.{Begins, BeginsNot, NoColon, begins-append, begins_not, digit-no-space, field-begins, field-read, year-begins, year-read, spaces-read, month-read, weekday-read, date-read, prefix-read, no-prefix, clock-read, rfc2822-clock-read, compact-no-space, rfc2822-no-space, strict-no-digit, clock-begins, rfc2822-clock-begins, digit-front, name-front, gap-front, gap-no-colon}
+use Rattle.gix_date.proofs.Fields.FieldsTaken.{went, TookFront, after-taken, field-taken, year-taken, spaces-taken, month-taken, weekday-taken, prefix-taken, date-taken, clock-taken, rfc2822-clock-taken}
 
 -- the second time, with what a piece tells of the first
 abbrev pub set_piece : Piece → LocalTime → LocalTime → LocalTime
@@ -22,10 +22,10 @@ set_piece Day t f = record f { date = record f.date { day = t.date.day } }
 set_piece Year t f = record f { date = record f.date { year = t.date.year } }
 set_piece PlainDate t f = record f { date = t.date }
 set_piece Clock t f = record f { clock = t.clock }
-set_piece MailClock t f = record f { clock = t.clock }
+set_piece Rfc2822Clock t f = record f { clock = t.clock }
 set_piece Offset t f = record f { offset = t.offset }
 set_piece ColonOffset t f = record f { offset = t.offset }
-set_piece MailOffset t f = record f { offset = t.offset }
+set_piece Rfc2822Offset t f = record f { offset = t.offset }
 set_piece _ t f = f
 
 abbrev pub set_pieces : List Piece → LocalTime → LocalTime → LocalTime
@@ -48,18 +48,18 @@ pub record PieceTaken (p : Piece) (f : LocalTime) (x : List ℕ) (read : LocalTi
 -- what is read of one time is read of each that tells the same
 piece-told : (p : Piece) (t f : LocalTime) (text : List ℕ) → IsPiece p (set_piece p t f) text → IsPiece p t text
 piece-told DayName t f text h = h
-piece-told MailDayName t f text h = h
+piece-told Rfc2822DayName t f text h = h
 piece-told MonthName t f text h = h
 piece-told Day t f text h = h
 piece-told Year t f text h = h
 piece-told PlainDate t f text h = h
 piece-told Clock t f text h = h
-piece-told MailClock t f text h = h
+piece-told Rfc2822Clock t f text h = h
 piece-told Spaces t f text h = h
 piece-told LetterT t f text h = h
 piece-told Offset t f text h = h
 piece-told ColonOffset t f text h = h
-piece-told MailOffset t f text h = h
+piece-told Rfc2822Offset t f text h = h
 
 -- a piece that a reader reads, where the front of what it took is such a piece of the time with what was found
 taken : {C : Type 0} {p : Piece} {f : LocalTime} (read : List ℕ → Option C) (put : C → LocalTime) (rest : C → List ℕ)
@@ -79,7 +79,7 @@ taken {p = p} {f = f} read put rest kept reads takes x y e =
     })
 
 prefix : (f : LocalTime) (x : List ℕ) (found : Option (List ℕ))
-    → skip_day_name x ≡ found → PieceTaken MailDayName f x (f, unwrap_or found x)
+    → skip_day_name x ≡ found → PieceTaken Rfc2822DayName f x (f, unwrap_or found x)
 prefix f x (Some rest) h =
     let t = prefix-taken x rest h in
     record { text = t.text; whole = t.whole; kept = refl; is = λ u k. inr t.is }
@@ -97,18 +97,18 @@ offset zone x v h = record { text = x; is = h; whole = sym (append-nil x) }
 
 pub piece-taken : (p : Piece) (f : LocalTime) (x : List ℕ) (y : LocalTime × List ℕ) → read_piece p f x ≡ Some y → PieceTaken p f x y
 piece-taken DayName f = taken skip_weekday (λ v. f) (λ v. v) (λ v. refl) (λ x. refl) name
-piece-taken MailDayName f = λ x y e. subst (PieceTaken MailDayName f x) (some_same (f, unwrap_or (skip_day_name x) x) y e) (prefix f x (skip_day_name x) refl)
+piece-taken Rfc2822DayName f = λ x y e. subst (PieceTaken Rfc2822DayName f x) (some_same (f, unwrap_or (skip_day_name x) x) y e) (prefix f x (skip_day_name x) refl)
 piece-taken MonthName f = taken read_month (λ v. record f { date = record f.date { month = v.0 } }) (λ v. v.1) (λ v. refl) (λ x. refl) (λ x v. month-taken x v.0 v.1)
 piece-taken Day f = taken read_field (λ v. record f { date = record f.date { day = v.0 } }) (λ v. v.1) (λ v. refl) (λ x. refl) (λ x v. field-taken x v.0 v.1)
 piece-taken Year f = taken read_year (λ v. record f { date = record f.date { year = v.0 } }) (λ v. v.1) (λ v. refl) (λ x. refl) (λ x v. year-taken x v.0 v.1)
 piece-taken PlainDate f = taken read_plain_date (λ v. record f { date = v.0 }) (λ v. v.1) (λ v. refl) (λ x. refl) (λ x v. date-taken x v.0 v.1)
 piece-taken Clock f = taken read_clock (λ v. record f { clock = v.0 }) (λ v. v.1) (λ v. refl) (λ x. refl) (λ x v. clock-taken x v.0 v.1)
-piece-taken MailClock f = taken read_mail_clock (λ v. record f { clock = v.0 }) (λ v. v.1) (λ v. refl) (λ x. refl) (λ x v. mail-clock-taken x v.0 v.1)
+piece-taken Rfc2822Clock f = taken read_rfc2822_clock (λ v. record f { clock = v.0 }) (λ v. v.1) (λ v. refl) (λ x. refl) (λ x v. rfc2822-clock-taken x v.0 v.1)
 piece-taken Spaces f = taken skip_spaces (λ v. f) (λ v. v) (λ v. refl) (λ x. refl) spaces-taken
 piece-taken LetterT f = taken (skip_char letter_t) (λ v. f) (λ v. v) (λ v. refl) (λ x. refl) letter
 piece-taken Offset f = taken compact_offset (λ v. record f { offset = v }) (λ v. []) (λ v. refl) (λ x. refl) (offset compact_offset)
 piece-taken ColonOffset f = taken strict_offset (λ v. record f { offset = v }) (λ v. []) (λ v. refl) (λ x. refl) (offset strict_offset)
-piece-taken MailOffset f = taken mail_zone (λ v. record f { offset = v }) (λ v. []) (λ v. refl) (λ x. refl) (offset mail_zone)
+piece-taken Rfc2822Offset f = taken rfc2822_zone (λ v. record f { offset = v }) (λ v. []) (λ v. refl) (λ x. refl) (offset rfc2822_zone)
 
 -- no piece changes what a piece before it told
 abbrev pub told_first : List Piece → LocalTime → LocalTime → LocalTime → List LocalTime
@@ -158,15 +158,15 @@ apart-after (p ∷ ps) one other f x y clash e =
 
 -- what the reader of a piece wants of the text after it
 abbrev pub Needs : Piece → List ℕ → Type 0
-Needs MailDayName rest = Begins is_ascii_digit rest
+Needs Rfc2822DayName rest = Begins is_ascii_digit rest
 Needs Day rest = BeginsNot is_ascii_digit rest
 Needs PlainDate rest = BeginsNot is_ascii_digit rest
 Needs Clock rest = BeginsNot is_ascii_digit rest
-Needs MailClock rest = BeginsNot is_ascii_digit rest × NoColon rest
+Needs Rfc2822Clock rest = BeginsNot is_ascii_digit rest × NoColon rest
 Needs Spaces rest = BeginsNot is_space rest
 Needs Offset rest = rest ≡ []
 Needs ColonOffset rest = rest ≡ []
-Needs MailOffset rest = rest ≡ []
+Needs Rfc2822Offset rest = rest ≡ []
 Needs _ rest = Unit {0}
 
 -- a piece may stand before another
@@ -187,9 +187,9 @@ pub no-strict : strict_offset [] ≡ None
 unfolding strict_offset read_sign skip_char
 no-strict = refl
 
-pub no-mail : mail_zone [] ≡ None
-unfolding mail_zone mail_offset named_zone offset_fields read_sign skip_char
-no-mail = refl
+pub no-rfc2822 : rfc2822_zone [] ≡ None
+unfolding rfc2822_zone rfc2822_offset named_zone offset_fields read_sign skip_char
+no-rfc2822 = refl
 
 pub number-front : (front rest : List ℕ) → Begins is_ascii_digit (front ++ rest) → BeginsNot is_space (front ++ rest)
 number-front front rest h = begins_not is_ascii_digit is_space (front ++ rest) digit-no-space h
@@ -200,33 +200,33 @@ before DayName q = Some (λ t front rest h. tt)
 before MonthName q = Some (λ t front rest h. tt)
 before Year q = Some (λ t front rest h. tt)
 before LetterT q = Some (λ t front rest h. tt)
-before MailDayName Day = Some (λ t front rest h. begins-append is_ascii_digit front rest (field-begins front t.date.day h))
+before Rfc2822DayName Day = Some (λ t front rest h. begins-append is_ascii_digit front rest (field-begins front t.date.day h))
 before Day Spaces = Some (λ t front rest h. gap-front front rest h)
 before PlainDate Spaces = Some (λ t front rest h. gap-front front rest h)
 before PlainDate LetterT = Some (λ t front rest h. subst (λ k. BeginsNot is_ascii_digit (k ++ rest)) (sym h) refl)
 before Clock Spaces = Some (λ t front rest h. gap-front front rest h)
 before Clock ColonOffset = Some (λ t front rest h. zone-front is_ascii_digit strict_offset no-strict strict-no-digit front rest t.offset h)
-before MailClock Spaces = Some (λ t front rest h. (gap-front front rest h, gap-no-colon front rest h))
+before Rfc2822Clock Spaces = Some (λ t front rest h. (gap-front front rest h, gap-no-colon front rest h))
 before Spaces MonthName = Some (λ t front rest h. name-front front rest h.0)
 before Spaces Day = Some (λ t front rest h. digit-front front rest (field-begins front t.date.day h))
 before Spaces Year = Some (λ t front rest h. digit-front front rest (year-begins front t.date.year h))
 before Spaces Clock = Some (λ t front rest h. number-front front rest (clock-begins front rest t.clock h))
-before Spaces MailClock = Some (λ t front rest h. number-front front rest (mail-clock-begins front rest t.clock h))
+before Spaces Rfc2822Clock = Some (λ t front rest h. number-front front rest (rfc2822-clock-begins front rest t.clock h))
 before Spaces Offset = Some (λ t front rest h. zone-front is_space compact_offset no-compact compact-no-space front rest t.offset h)
-before Spaces MailOffset = Some (λ t front rest h. zone-front is_space mail_zone no-mail mail-no-space front rest t.offset h)
+before Spaces Rfc2822Offset = Some (λ t front rest h. zone-front is_space rfc2822_zone no-rfc2822 rfc2822-no-space front rest t.offset h)
 before _ _ = None
 
 -- and which may be last
 abbrev pub ends : (p : Piece) → Option (Needs p [])
-ends MailDayName = None
+ends Rfc2822DayName = None
 ends Day = Some tt
 ends PlainDate = Some tt
 ends Clock = Some tt
-ends MailClock = Some (tt, tt)
+ends Rfc2822Clock = Some (tt, tt)
 ends Spaces = Some tt
 ends Offset = Some refl
 ends ColonOffset = Some refl
-ends MailOffset = Some refl
+ends Rfc2822Offset = Some refl
 ends _ = Some tt
 
 abbrev pub Readable : List Piece → Type 0
@@ -247,19 +247,19 @@ letter-read f rest = refl
 piece-read : (p : Piece) (t f : LocalTime) (front rest : List ℕ) → IsPiece p t front → Needs p rest
     → read_piece p f (front ++ rest) ≡ Some (set_piece p t f, rest)
 piece-read DayName t f front rest h n = rw (weekday-read front rest h) refl
-piece-read MailDayName t f front rest (inl none) n = subst (λ k. read_piece MailDayName f (k ++ rest) ≡ Some (f, rest)) (sym none) (rw (no-prefix rest n) refl)
-piece-read MailDayName t f front rest (inr named) n = rw (prefix-read front rest named (begins_not is_ascii_digit is_space rest digit-no-space n)) refl
+piece-read Rfc2822DayName t f front rest (inl none) n = subst (λ k. read_piece Rfc2822DayName f (k ++ rest) ≡ Some (f, rest)) (sym none) (rw (no-prefix rest n) refl)
+piece-read Rfc2822DayName t f front rest (inr named) n = rw (prefix-read front rest named (begins_not is_ascii_digit is_space rest digit-no-space n)) refl
 piece-read MonthName t f front rest h n = rw (month-read front rest t.date.month h) refl
 piece-read Day t f front rest h n = rw (field-read front rest t.date.day h n) refl
 piece-read Year t f front rest h n = rw (year-read front rest t.date.year h) refl
 piece-read PlainDate t f front rest h n = rw (date-read front rest t.date h n) refl
 piece-read Clock t f front rest h n = rw (clock-read front rest t.clock h n) refl
-piece-read MailClock t f front rest h n = rw (mail-clock-read front rest t.clock h n.0 n.1) refl
+piece-read Rfc2822Clock t f front rest h n = rw (rfc2822-clock-read front rest t.clock h n.0 n.1) refl
 piece-read Spaces t f front rest h n = rw (spaces-read front rest h n) refl
 piece-read LetterT t f front rest h n = subst (λ k. read_piece LetterT f (k ++ rest) ≡ Some (f, rest)) (sym h) (letter-read f rest)
 piece-read Offset t f front rest h n = rw (n, append-nil front, h) refl
 piece-read ColonOffset t f front rest h n = rw (n, append-nil front, h) refl
-piece-read MailOffset t f front rest h n = rw (n, append-nil front, h) refl
+piece-read Rfc2822Offset t f front rest h n = rw (n, append-nil front, h) refl
 
 after-piece : (p : Piece) (ps : List Piece) (t : LocalTime) (rest : List ℕ) → Readable (p ∷ ps) → ArePieces ps t rest
     → Needs p rest × Readable ps
@@ -306,7 +306,7 @@ pub record AreSpelled : Type 0 where
   pub iso8601 : Accepts iso8601_answer (IsMeaning iso8601_layout time_answer)
   pub iso8601_strict : Accepts iso8601_strict_answer (IsMeaning iso8601_strict_layout time_answer)
   pub gitoxide : Accepts gitoxide_answer (IsMeaning gitoxide_layout time_answer)
-  pub by_default : Accepts default_answer (IsMeaning default_layout time_answer)
+  pub default : Accepts default_answer (IsMeaning default_layout time_answer)
 
 pub dates_spelled : AreSpelled
 unfolding short_answer rfc2822_answer iso8601_answer iso8601_strict_answer gitoxide_answer default_answer
@@ -316,11 +316,11 @@ dates_spelled = record {
   iso8601 = spelled iso8601_layout time_answer (record { once = λ t f g. refl; is_readable = refl; all = λ t. refl });
   iso8601_strict = spelled iso8601_strict_layout time_answer (record { once = λ t f g. refl; is_readable = refl; all = λ t. refl });
   gitoxide = spelled gitoxide_layout time_answer (record { once = λ t f g. refl; is_readable = refl; all = λ t. refl });
-  by_default = spelled default_layout time_answer (record { once = λ t f g. refl; is_readable = refl; all = λ t. refl });
+  default = spelled default_layout time_answer (record { once = λ t f g. refl; is_readable = refl; all = λ t. refl });
 }
 
 -- what a mail date begins with
-pub record MailFront (text : List ℕ) : Type 0 where
+pub record Rfc2822Front (text : List ℕ) : Type 0 where
   pub prefix : List ℕ
   pub day : List ℕ
   pub gap : List ℕ
@@ -334,8 +334,8 @@ pub record MailFront (text : List ℕ) : Type 0 where
   pub is_gap : AreSpaces gap
   pub is_month : IsMonthName month month_number
 
-pub mail-front : (text : List ℕ) (answer : FamilyAnswer) → rfc2822_answer text ≡ Some answer → MailFront text
-mail-front text answer e =
+pub rfc2822-front : (text : List ℕ) (answer : FamilyAnswer) → rfc2822_answer text ≡ Some answer → Rfc2822Front text
+rfc2822-front text answer e =
     let a = (dates_spelled.rfc2822 text answer).0 e in
     let h = a.are in
     let day = h.more in

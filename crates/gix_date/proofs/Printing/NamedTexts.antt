@@ -16,7 +16,7 @@ use Rattle.jiff_strtime.specs.Number.{fold_digits}
 use Rattle.jiff_strtime.specs.Show.{Shown, show_format, show_steps, directive_text, text_of, offset_text, weekday_name, short}
 use Rattle.jiff_strtime.specs.Text.{month_names as full_names}
 use Rattle.gix_date.specs.Text.Characters.{space, comma, colon, minus, letter_t}
-use Rattle.gix_date.specs.Fields.Layout.{LocalTime, Piece, DayName, MailDayName, MonthName, Day, Year, PlainDate, Clock, MailClock, Spaces, LetterT, Offset, ColonOffset, MailOffset, print_piece, print_pieces}
+use Rattle.gix_date.specs.Fields.Layout.{LocalTime, Piece, DayName, Rfc2822DayName, MonthName, Day, Year, PlainDate, Clock, Rfc2822Clock, Spaces, LetterT, Offset, ColonOffset, Rfc2822Offset, print_piece, print_pieces}
 use Rattle.gix_date.specs.Text.Names.{day_name}
 use Rattle.gix_date.specs.Text.Numbers.{two_digits}
 use Rattle.gix_date.specs.Printing.NamedTexts.{local_time, ShowsFourDigitFields, ShowsText, short_pattern, short_text, rfc2822_pattern, rfc2822_text, git_rfc2822_pattern, git_rfc2822_text, iso8601_pattern, iso8601_text, iso8601_strict_pattern, iso8601_strict_text, gitoxide_pattern, gitoxide_text, default_pattern, default_text}
@@ -27,18 +27,18 @@ use Rattle.gix_date.proofs.Printing.ShownPieces.{AlwaysShows, AlwaysShowsText, I
 -- what `jiff` shows for a piece: the year apart, since it has a sign there
 abbrev pub jiff_piece : (ℕ → List ℕ) → Piece → ℤ → LocalTime → List (List ℕ)
 jiff_piece day DayName y t = short (weekday_name t.weekday) ∷ []
-jiff_piece day MailDayName y t = short (weekday_name t.weekday) ∷ codes "," ∷ codes " " ∷ []
+jiff_piece day Rfc2822DayName y t = short (weekday_name t.weekday) ∷ codes "," ∷ codes " " ∷ []
 jiff_piece day MonthName y t = short (get_or full_names (t.date.month - 1) []) ∷ []
 jiff_piece day Day y t = day t.date.day ∷ []
 jiff_piece day Year y t = number 4 y ∷ []
 jiff_piece day PlainDate y t = number 4 y ∷ codes "-" ∷ number 2 (pos t.date.month) ∷ codes "-" ∷ number 2 (pos t.date.day) ∷ []
 jiff_piece day Clock y t = number 2 (pos t.clock.hour) ∷ codes ":" ∷ number 2 (pos t.clock.minute) ∷ codes ":" ∷ number 2 (pos t.clock.second) ∷ []
-jiff_piece day MailClock y t = number 2 (pos t.clock.hour) ∷ codes ":" ∷ number 2 (pos t.clock.minute) ∷ codes ":" ∷ number 2 (pos t.clock.second) ∷ []
+jiff_piece day Rfc2822Clock y t = number 2 (pos t.clock.hour) ∷ codes ":" ∷ number 2 (pos t.clock.minute) ∷ codes ":" ∷ number 2 (pos t.clock.second) ∷ []
 jiff_piece day Spaces y t = codes " " ∷ []
 jiff_piece day LetterT y t = codes "T" ∷ []
 jiff_piece day Offset y t = offset_text t.offset false true false ∷ []
 jiff_piece day ColonOffset y t = offset_text t.offset true true false ∷ []
-jiff_piece day MailOffset y t = offset_text t.offset false true false ∷ []
+jiff_piece day Rfc2822Offset y t = offset_text t.offset false true false ∷ []
 
 -- and for pieces: after them as many empty ones as are given
 abbrev pub jiff_pieces : (ℕ → List ℕ) → List Piece → ℤ → LocalTime → ℕ → List (List ℕ)
@@ -72,18 +72,18 @@ alone x y e = append-nil x ∙ e
 piece-shown : {jiff_day day : ℕ → List ℕ} → ShowsDay jiff_day day → (p : Piece) (t : LocalTime) → InRange t
     → concat (jiff_piece jiff_day p (pos t.date.year) t) ≡ print_piece day p t
 piece-shown {jiff_day} {day} d DayName t r = alone _ _ (weekday-short t.weekday)
-piece-shown {jiff_day} {day} d MailDayName t r = rw (weekday-short t.weekday) refl
+piece-shown {jiff_day} {day} d Rfc2822DayName t r = rw (weekday-short t.weekday) refl
 piece-shown {jiff_day} {day} d MonthName t r = alone _ _ (month-short (t.date.month - 1))
 piece-shown {jiff_day} {day} d Day t r = alone _ _ (d.same t.date.day r.day)
 piece-shown {jiff_day} {day} d Year t r = alone _ _ (number-four t.date.year r.low r.high)
 piece-shown {jiff_day} {day} d PlainDate t r = rw (number-four t.date.year r.low r.high, number-two t.date.month r.month, number-two t.date.day r.day) refl
 piece-shown {jiff_day} {day} d Clock t r = rw (number-two t.clock.hour r.hour, number-two t.clock.minute r.minute, number-two t.clock.second r.second) refl
-piece-shown {jiff_day} {day} d MailClock t r = rw (number-two t.clock.hour r.hour, number-two t.clock.minute r.minute, number-two t.clock.second r.second) refl
+piece-shown {jiff_day} {day} d Rfc2822Clock t r = rw (number-two t.clock.hour r.hour, number-two t.clock.minute r.minute, number-two t.clock.second r.second) refl
 piece-shown {jiff_day} {day} d Spaces t r = refl
 piece-shown {jiff_day} {day} d LetterT t r = refl
 piece-shown {jiff_day} {day} d Offset t r = alone _ _ (zone-is t.offset r.whole r.hours)
 piece-shown {jiff_day} {day} d ColonOffset t r = alone _ _ (strict-zone-is t.offset r.whole r.hours)
-piece-shown {jiff_day} {day} d MailOffset t r = alone _ _ (zone-is t.offset r.whole r.hours)
+piece-shown {jiff_day} {day} d Rfc2822Offset t r = alone _ _ (zone-is t.offset r.whole r.hours)
 
 pieces-shown : {jiff_day day : ℕ → List ℕ} → ShowsDay jiff_day day → (ps : List Piece) (t : LocalTime) (blanks : ℕ)
     → InRange t → concat (jiff_pieces jiff_day ps (pos t.date.year) t blanks) ≡ print_pieces day ps t
@@ -104,18 +104,18 @@ clock-ascii t r = search (IsAscii-append, ascii-two t.clock.hour r.hour, ascii-t
 piece-ascii : {jiff_day day : ℕ → List ℕ} → ShowsDay jiff_day day → (p : Piece) (t : LocalTime) → InRange t
     → IsAscii (print_piece day p t)
 piece-ascii {jiff_day} {day} d DayName t r = ascii-weekday t.weekday
-piece-ascii {jiff_day} {day} d MailDayName t r = IsAscii-append (day_name t.weekday) (comma ∷ space ∷ []) (ascii-weekday t.weekday) (mark comma (lit< tt) (space ∷ []) (mark space (lit< tt) [] IsAscii-nil))
+piece-ascii {jiff_day} {day} d Rfc2822DayName t r = IsAscii-append (day_name t.weekday) (comma ∷ space ∷ []) (ascii-weekday t.weekday) (mark comma (lit< tt) (space ∷ []) (mark space (lit< tt) [] IsAscii-nil))
 piece-ascii {jiff_day} {day} d MonthName t r = ascii-month (t.date.month - 1)
 piece-ascii {jiff_day} {day} d Day t r = d.ascii t.date.day r.day
 piece-ascii {jiff_day} {day} d Year t r = ascii-four t.date.year r.high
 piece-ascii {jiff_day} {day} d PlainDate t r = search (IsAscii-append, ascii-four t.date.year r.high, ascii-two t.date.month r.month, ascii-two t.date.day r.day, mark minus (lit< tt)) depth 24
 piece-ascii {jiff_day} {day} d Clock t r = clock-ascii t r
-piece-ascii {jiff_day} {day} d MailClock t r = clock-ascii t r
+piece-ascii {jiff_day} {day} d Rfc2822Clock t r = clock-ascii t r
 piece-ascii {jiff_day} {day} d Spaces t r = mark space (lit< tt) [] IsAscii-nil
 piece-ascii {jiff_day} {day} d LetterT t r = mark letter_t (lit< tt) [] IsAscii-nil
 piece-ascii {jiff_day} {day} d Offset t r = ascii-zone t.offset r.hours
 piece-ascii {jiff_day} {day} d ColonOffset t r = ascii-strict-zone t.offset r.hours
-piece-ascii {jiff_day} {day} d MailOffset t r = ascii-zone t.offset r.hours
+piece-ascii {jiff_day} {day} d Rfc2822Offset t r = ascii-zone t.offset r.hours
 
 pieces-ascii : {jiff_day day : ℕ → List ℕ} → ShowsDay jiff_day day → (ps : List Piece) (t : LocalTime) → InRange t
     → IsAscii (print_pieces day ps t)
@@ -164,7 +164,7 @@ pub record AreTexts : Type 0 where
   pub iso8601 : IsTextOf iso8601_pattern iso8601_text
   pub iso8601_strict : IsTextOf iso8601_strict_pattern iso8601_strict_text
   pub gitoxide : IsTextOf gitoxide_pattern gitoxide_text
-  pub by_default : IsTextOf default_pattern default_text
+  pub default : IsTextOf default_pattern default_text
 
 pub formats_printed : AreTexts
 unfolding show_steps directive_text text_of read_flag colon_rest fold_digits
@@ -175,5 +175,5 @@ formats_printed = record {
   iso8601 = by-pieces iso8601_pattern two-shown iso8601_layout 7 (λ z abbreviation name date iso second low high. refl);
   iso8601_strict = by-pieces iso8601_strict_pattern two-shown iso8601_strict_layout 8 (λ z abbreviation name date iso second low high. refl);
   gitoxide = by-pieces gitoxide_pattern two-shown gitoxide_layout 8 (λ z abbreviation name date iso second low high. rw (low, high) refl);
-  by_default = by-pieces default_pattern bare-shown default_layout 9 (λ z abbreviation name date iso second low high. rw (low, high) refl);
+  default = by-pieces default_pattern bare-shown default_layout 9 (λ z abbreviation name date iso second low high. rw (low, high) refl);
 }

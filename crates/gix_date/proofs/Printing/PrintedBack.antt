@@ -61,7 +61,7 @@ round-trips-by-each rule t h = record {
   rfc2822 = read-back rule rfc2822_pattern 2 rfc2822_answer rfc2822_layout two_digits formats_printed.rfc2822.only (λ rule text x e. e) dates_spelled.rfc2822 two-is t h;
   git_rfc2822 = read-back rule git_rfc2822_pattern 2 rfc2822_answer rfc2822_layout decimal formats_printed.git_rfc2822.only (λ rule text x e. e) dates_spelled.rfc2822 bare-is t h;
   gitoxide = read-back rule gitoxide_pattern 5 gitoxide_answer gitoxide_layout two_digits formats_printed.gitoxide.only (λ rule text x e. e) dates_spelled.gitoxide two-is t h;
-  by_default = read-back rule default_pattern 6 default_answer default_layout decimal formats_printed.by_default.only (λ rule text x e. e) dates_spelled.by_default bare-is t h;
+  default = read-back rule default_pattern 6 default_answer default_layout decimal formats_printed.default.only (λ rule text x e. e) dates_spelled.default bare-is t h;
 }
 
 text-back : (rule : OffsetRule) (pattern : List ℕ) (text : LocalTime → List ℕ) (t : Time) (r : Result (String Global) Error) → RoundTrips t
@@ -85,5 +85,5 @@ round-trips-by-pattern rule t plain own r clock h =
       | inr (inr (inl e)) ↦ by-pattern rule rfc2822_pattern own rfc2822_text t r plain all.rfc2822 e h
       | inr (inr (inr (inl e))) ↦ by-pattern rule git_rfc2822_pattern own git_rfc2822_text t r plain all.git_rfc2822 e h
       | inr (inr (inr (inr (inl e)))) ↦ by-pattern rule gitoxide_pattern own gitoxide_text t r plain all.gitoxide e h
-      | inr (inr (inr (inr (inr e)))) ↦ by-pattern rule default_pattern own default_text t r plain all.by_default e h
+      | inr (inr (inr (inr (inr e)))) ↦ by-pattern rule default_pattern own default_text t r plain all.default e h
     ]

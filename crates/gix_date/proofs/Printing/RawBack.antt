@@ -11,8 +11,8 @@ use Rattle.gix_date.specs.Families.Order.{first_family_by}
 use Rattle.gix_date.specs.Header.Text.{header_text}
 use Rattle.gix_date.specs.Fields.Offsets.{compact_offset_text, offset_fields, offset_of}
 use Rattle.gix_date.specs.Text.Numbers.{int_value, decimal_text}
-use Rattle.gix_date.specs.Printing.ReadingBack.{IsRawOffset, IsWideOffset}
-use Rattle.gix_date.specs.Families.Raw.{OffsetRule, raw_time_by, raw_offset_by, is_raw_offset, is_wide_offset}
+use Rattle.gix_date.specs.Printing.ReadingBack.{IsQuarterOffset, IsMinuteOffset}
+use Rattle.gix_date.specs.Families.Raw.{OffsetRule, raw_time_by, raw_offset_by, is_quarter_offset, is_minute_offset}
 use Rattle.gix_date.specs.Text.SpaceWords.{space_words}
 use Rattle.gix_date.specs.declared.parsing.dates.TheConstants.{MIN_EPOCH}
 use Rattle.gix_date.specs.declared.parsing.offset.OffsetFields.{OffsetFields}
@@ -35,7 +35,7 @@ quarters n h = omega arith
 few-hours : (n : ℕ) → n < 54000 → nat_le (n / 3600) 14 ≡ true
 few-hours n h = let few : n / 3600 ≤ 14 = omega arith in grind (arith, nat_tests)
 
-is-quarter-of : (o : ℤ) → unsigned_abs o % 900 ≡ 0 → unsigned_abs o < 54000 → is_raw_offset (written_fields o) ≡ true
+is-quarter-of : (o : ℤ) → unsigned_abs o % 900 ≡ 0 → unsigned_abs o < 54000 → is_quarter_offset (written_fields o) ≡ true
 is-quarter-of o m h =
     let n = unsigned_abs o in
     rw (few-hours n h, quarter-minutes (n % 3600 / 60) (n % 3600 / 900) (quarters n m) (omega arith)) refl
@@ -46,7 +46,7 @@ hours-of-day n h = let few : n / 3600 ≤ 23 = omega arith in grind (arith, nat_
 minutes-of-hour : (n : ℕ) → nat_le (n % 3600 / 60) 59 ≡ true
 minutes-of-hour n = let few : n % 3600 / 60 ≤ 59 = omega arith in grind (arith, nat_tests)
 
-are-whole-minutes-of : (o : ℤ) → unsigned_abs o < 86400 → is_wide_offset (written_fields o) ≡ true
+are-whole-minutes-of : (o : ℤ) → unsigned_abs o < 86400 → is_minute_offset (written_fields o) ≡ true
 are-whole-minutes-of o h = rw (hours-of-day (unsigned_abs o) h, minutes-of-hour (unsigned_abs o)) refl
 
 -- A header text is a raw text by each rule that allows its offset.
@@ -76,18 +76,18 @@ back-by rule t f short minutes allowed =
     subst (λ (r : Option (List ℕ)). IsSomeAnd r (λ text. first_family_by rule text ≡ Some (Absolute t))) (sym (written-by t short))
     (raw-first-family rule text t (two-utf8 front zone (number-bytes front a) (number-bytes zone b)) same)
 
-pub raw-back : (t : Time) → FitsSigned w64 t.seconds → IsRawOffset t.offset
-    → IsSomeAnd (header_text t) (λ text. first_family_by is_raw_offset text ≡ Some (Absolute t))
+pub raw-back : (t : Time) → FitsSigned w64 t.seconds → IsQuarterOffset t.offset
+    → IsSomeAnd (header_text t) (λ text. first_family_by is_quarter_offset text ≡ Some (Absolute t))
 raw-back t f raw =
     let short = raw.short in
     let quarters = raw.quarters in
-    back-by is_raw_offset t f (omega arith) (omega arith) (is-quarter-of t.offset quarters short)
+    back-by is_quarter_offset t f (omega arith) (omega arith) (is-quarter-of t.offset quarters short)
 
-pub wide-back : (t : Time) → FitsSigned w64 t.seconds → IsWideOffset t.offset
-    → IsSomeAnd (header_text t) (λ text. first_family_by is_wide_offset text ≡ Some (Absolute t))
+pub wide-back : (t : Time) → FitsSigned w64 t.seconds → IsMinuteOffset t.offset
+    → IsSomeAnd (header_text t) (λ text. first_family_by is_minute_offset text ≡ Some (Absolute t))
 wide-back t f wide =
     let short = wide.short in
-    back-by is_wide_offset t f (omega arith) wide.minutes (are-whole-minutes-of t.offset short)
+    back-by is_minute_offset t f (omega arith) wide.minutes (are-whole-minutes-of t.offset short)
 
 -- bare seconds
 pub seconds-back : (rule : OffsetRule) (n : ℤ) → FitsSigned w64 n → MIN_EPOCH ≤ℤ n → first_family_by rule (decimal_text n) ≡ Some (Absolute (utc_time n))

@@ -19,9 +19,9 @@ use Rattle.gix_date.specs.Text.Characters.{space, colon}
 use Rattle.gix_date.specs.Fields.Civil.{civil_instant, civil_seconds}
 use Rattle.gix_date.specs.Families.Order.{first_answer_of, family_answers, answers_before_git, first_family_by}
 use Rattle.gix_date.specs.Fields.FieldTexts.{IsField, IsYear, AreSpaces, IsDayName, IsMonthName, IsPlainDate, IsClock, four_digits, date_text, clock_text}
-use Rattle.gix_date.specs.Fields.Layout.{LocalTime, Piece, DayName, MailDayName, MonthName, Day, Year, PlainDate, Clock, MailClock, Spaces, LetterT, Offset, ColonOffset, MailOffset, IsPiece, ArePieces, print_piece, print_pieces}
+use Rattle.gix_date.specs.Fields.Layout.{LocalTime, Piece, DayName, Rfc2822DayName, MonthName, Day, Year, PlainDate, Clock, Rfc2822Clock, Spaces, LetterT, Offset, ColonOffset, Rfc2822Offset, IsPiece, ArePieces, print_piece, print_pieces}
 use Rattle.gix_date.specs.Text.Names.{day_name, month_name}
-use Rattle.gix_date.specs.Fields.DateOffsets.{strict_offset_text, compact_offset, strict_offset, mail_zone, mail_offset, is_jiff_offset, jiff_offset, last_colon_pair}
+use Rattle.gix_date.specs.Fields.DateOffsets.{strict_offset_text, compact_offset, strict_offset, rfc2822_zone, rfc2822_offset, is_jiff_offset, jiff_offset, last_colon_pair}
 use Rattle.gix_date.specs.Printing.NamedTexts.{local_time, ShowsFourDigitFields}
 use Rattle.gix_date.specs.Fields.Offsets.{compact_offset_text}
 use Rattle.gix_date.specs.Text.Numbers.{two_digits}
@@ -134,9 +134,9 @@ pub compact-is : (o : ℤ) → unsigned_abs o ≤ 86340 → unsigned_abs o % 60 
 unfolding compact_offset
 compact-is o h m = rw (zone-read o (omega arith)) (zone-is-offset o h m)
 
-pub mail-zone-is : (o : ℤ) → unsigned_abs o ≤ 86340 → unsigned_abs o % 60 ≡ 0 → mail_zone (compact_offset_text o) ≡ Some o
-unfolding mail_zone mail_offset
-mail-zone-is o h m = rw (zone-read o (omega arith), zone-is-offset o h m) refl
+pub rfc2822-zone-is : (o : ℤ) → unsigned_abs o ≤ 86340 → unsigned_abs o % 60 ≡ 0 → rfc2822_zone (compact_offset_text o) ≡ Some o
+unfolding rfc2822_zone rfc2822_offset
+rfc2822-zone-is o h m = rw (zone-read o (omega arith), zone-is-offset o h m) refl
 
 -- the answer
 pub answer-is : (t : Time) (date : DateFields) (clock : ClockFields)
@@ -227,19 +227,19 @@ pub record IsPrintable (t : LocalTime) : Type 0 where
 piece-is : (day : ℕ → List ℕ) → ((n : ℕ) → n < 100 → IsField (day n) n) → (p : Piece) (t : LocalTime) → IsPrintable t
     → IsPiece p t (print_piece day p t)
 piece-is day field DayName t h = day-is t.weekday h.weekday
-piece-is day field MailDayName t h =
+piece-is day field Rfc2822DayName t h =
     inr (record { name = day_name t.weekday; gap = space ∷ []; whole = refl; is_name = day-is t.weekday h.weekday; are_spaces = one-space })
 piece-is day field MonthName t h = month-is t.date.month h.first_month h.last_month
 piece-is day field Day t h = field t.date.day h.range.day
 piece-is day field Year t h = year-is-four t.date.year h.range.high
 piece-is day field PlainDate t h = date-is t.date h.range.high h.range.month h.range.day
 piece-is day field Clock t h = clock-is t.clock h.range.hour h.range.minute h.second
-piece-is day field MailClock t h = inl (clock-is t.clock h.range.hour h.range.minute h.second)
+piece-is day field Rfc2822Clock t h = inl (clock-is t.clock h.range.hour h.range.minute h.second)
 piece-is day field Spaces t h = one-space
 piece-is day field LetterT t h = refl
 piece-is day field Offset t h = compact-is t.offset h.within h.range.whole
 piece-is day field ColonOffset t h = strict-is t.offset h.within h.range.whole
-piece-is day field MailOffset t h = mail-zone-is t.offset h.within h.range.whole
+piece-is day field Rfc2822Offset t h = rfc2822-zone-is t.offset h.within h.range.whole
 
 pub pieces-are : (day : ℕ → List ℕ) → ((n : ℕ) → n < 100 → IsField (day n) n) → (ps : List Piece) (t : LocalTime)
     → IsPrintable t → ArePieces ps t (print_pieces day ps t)

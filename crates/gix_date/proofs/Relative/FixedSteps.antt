@@ -4,7 +4,7 @@ use Rattle.std.specs.Int.{int_div_euclid, int_rem_euclid}
 use Rattle.std.specs.List.{All}
 use Rattle.std.specs.Prelude.{IsSome, IfSome}
 use Rattle.jiff.proofs.ZoneFacts.{offset_at-fixed_zone, picked_instant-fixed_zone}
-use Rattle.jiff.specs.Types.{TimeZone, DateTime, Date, Time, Offset, Timestamp}
+use Rattle.jiff.specs.Types.{TimeZone, DateTime, Date, Time as TimeOfDay, Offset, Timestamp}
 use Rattle.jiff.specs.Words.{fixed_zone, offset_at, picked_instant, civil_nanos, epoch_day, month_number, nanos_of_seconds, zoned_nanos, IsTimestampNanos, IsYear, IsYmd}
 use Rattle.jiff.specs.declared.zoned.Zoned.{Zoned}
 use Rattle.jiff_core.proofs.DateTimeLemmas.{civil_nanos-parts}
@@ -18,7 +18,7 @@ use Rattle.gix_date.specs.Relative.Roles.{pairs}
 use Rattle.gix_date.specs.Fields.Zoned.{whole_seconds}
 use Rattle.gix_date.specs.declared.parsing.relative.words.TimeUnit.{TimeUnit}
 use Rattle.gix_date.specs.declared.parsing.relative.words.TimeUnit.TheVariants.{Seconds, Months}
-use Rattle.gix_date.specs.declared.time.Time.{Time as OurTime}
+use Rattle.gix_date.specs.declared.time.Time.{Time}
 use Rattle.gix_date.proofs.Relative.Chains.{reaches-is, reaches-back}
 use Rattle.gix_date.proofs.Relative.FixedZones.{IsLoss, IsBefore, Alike, seconds-law, yesterday-law, months-law, fixed-picked, fixed-picks, fixed-resolves-exists, fixed-seconds-exists}
 use Rattle.gix_date.proofs.Relative.Steps.{MonthsFrom, first-is}
@@ -122,7 +122,7 @@ months-in tz f i dt pairs local day range loss fits = at-one-offset tz f i (less
 
 -- The time that is named, by the instant that is reached at the one offset.
 
-pub named-at : (date : RelativeDate) (moment : Zoned) (o : Offset) (j : ℤ) (t : OurTime) → ChooseAlike (zone_of moment) (fixed_zone o)
+pub named-at : (date : RelativeDate) (moment : Zoned) (o : Offset) (j : ℤ) (t : Time) → ChooseAlike (zone_of moment) (fixed_zone o)
     → Reaches date (fixed_zone o) (zoned_nanos moment) j → t.seconds ≡ whole_seconds j → t.offset ≡ o.seconds → IsNamed date moment t
 named-at date moment o j t alike r s e = record {
   instant = j;
@@ -132,7 +132,7 @@ named-at date moment o j t alike r s e = record {
 }
 
 pub none-named : (date : RelativeDate) (moment : Zoned) (o : Offset) → ChooseAlike (zone_of moment) (fixed_zone o)
-    → ((j : ℤ) → ¬ (Reaches date (fixed_zone o) (zoned_nanos moment) j)) → (t : OurTime) → ¬ (IsNamed date moment t)
+    → ((j : ℤ) → ¬ (Reaches date (fixed_zone o) (zoned_nanos moment) j)) → (t : Time) → ¬ (IsNamed date moment t)
 none-named date moment o alike none t n = none n.instant (reaches-alike (zone_of moment) (fixed_zone o) alike date (zoned_nanos moment) n.instant n.reaches)
 
 -- The same instants, said otherwise.
@@ -173,7 +173,7 @@ pairs-fixed o words i result range h =
 pub fixed-shows : (o : Offset) (i : ℤ) (dt : DateTime) → civil_nanos dt ≡ i +ℤ nanos_of_seconds o.seconds → IsLocal (fixed_zone o) i dt
 fixed-shows o i dt e = e ∙ ap (λ (s : ℤ). i +ℤ nanos_of_seconds s) (sym (offset_at-fixed_zone o i))
 
-pub civil-shown : (dt : DateTime) (date : Date) (time : Time) → dt.date ≡ date → dt.time ≡ time → civil_nanos dt ≡ civil_of (epoch_day date) time
+pub civil-shown : (dt : DateTime) (date : Date) (time : TimeOfDay) → dt.date ≡ date → dt.time ≡ time → civil_nanos dt ≡ civil_of (epoch_day date) time
 civil-shown dt date time d t = civil_nanos-parts dt ∙ rw (d, t) refl
 
 pub months-from : (tz : TimeZone) (n i j : ℤ) (shown : DateTime) → IsLocal tz i shown → MonthsStep tz n i j → MonthsFrom tz n j shown

@@ -6,7 +6,7 @@ use Rattle.std.proofs.lemmas.List.Elements.{All-nil, All-head, All-tail, All-con
 use Rattle.std.proofs.lemmas.List.Sums.{sum_by-cons}
 use Rattle.std.proofs.lemmas.Int.{by_lt_z}
 use Rattle.jiff.proofs.ZoneFacts.{offset_at-fixed_zone, picked_instant-fixed_zone}
-use Rattle.jiff.specs.Types.{DateTime, Time, Offset, TimeZone}
+use Rattle.jiff.specs.Types.{DateTime, Time as TimeOfDay, Offset, TimeZone}
 use Rattle.jiff.specs.Words.{IsYear, month_number, fixed_zone, civil_nanos, nanos_of_seconds, IsTimestampNanos, IsCivilNanos}
 use Rattle.jiff_core.proofs.CalendarLemmas.{days_in_month_bounds}
 use Rattle.jiff_core.proofs.DateLemmas.{days_from_civil-day}
@@ -194,11 +194,11 @@ abbrev pub IsSmall : ℕ → Type 0
 IsSmall day = (1 ≤ day) × (day ≤ 28)
 
 -- the instant of that day and time in a month by its number
-abbrev pub place : Offset → ℕ → Time → ℤ → ℤ
+abbrev pub place : Offset → ℕ → TimeOfDay → ℤ → ℤ
 place o day time m = civil_of (month_start m +ℤ (pos day -ℤ pos 1)) time -ℤ nanos_of_seconds o.seconds
 
 -- the library has it
-pub record IsPlaced (o : Offset) (day : ℕ) (time : Time) (m : ℤ) : Type 0 where
+pub record IsPlaced (o : Offset) (day : ℕ) (time : TimeOfDay) (m : ℤ) : Type 0 where
   pub fits : FitsSigned w64 m
   pub year_in : IsYear (int_div_euclid m (pos 12))
   pub in_range : IsTimestampNanos (place o day time m)
@@ -213,7 +213,7 @@ long-enough m day small =
     let long = days_in_month_bounds (int_div_euclid m (pos 12)) (unsigned_abs (int_rem_euclid m (pos 12)) + 1) in
     (small.0, omega (arith, long, small.1))
 
-abbrev shown-there : (m : ℤ) (day : ℕ) (time : Time) → IsSmall day → IsYear (int_div_euclid m (pos 12)) → DateTime
+abbrev shown-there : (m : ℤ) (day : ℕ) (time : TimeOfDay) → IsSmall day → IsYear (int_div_euclid m (pos 12)) → DateTime
 shown-there m day time small year = record {
   date = record {
     year = int_div_euclid m (pos 12);
@@ -229,20 +229,20 @@ shown-there m day time small year = record {
 number-there : (m : ℤ) → int_div_euclid m (pos 12) *ℤ pos 12 +ℤ pos (unsigned_abs (int_rem_euclid m (pos 12)) + 1 - 1) ≡ m
 number-there m = omega (arith, signed_arith)
 
-civil-there : (m : ℤ) (day : ℕ) (time : Time) (small : IsSmall day) (year : IsYear (int_div_euclid m (pos 12)))
+civil-there : (m : ℤ) (day : ℕ) (time : TimeOfDay) (small : IsSmall day) (year : IsYear (int_div_euclid m (pos 12)))
     → civil_nanos (shown-there m day time small year) ≡ civil_of (month_start m +ℤ (pos day -ℤ pos 1)) time
 civil-there m day time small year =
     let dt = shown-there m day time small year in
     omega (arith, signed_arith, civil_nanos-parts dt, days_from_civil-day (int_div_euclid m (pos 12)) (unsigned_abs (int_rem_euclid m (pos 12)) + 1) 1 day (omega arith) small.0)
 
-local-there : (o : Offset) (m : ℤ) (day : ℕ) (time : Time) (small : IsSmall day) (year : IsYear (int_div_euclid m (pos 12)))
+local-there : (o : Offset) (m : ℤ) (day : ℕ) (time : TimeOfDay) (small : IsSmall day) (year : IsYear (int_div_euclid m (pos 12)))
     → IsLocal (fixed_zone o) (place o day time m) (shown-there m day time small year)
 local-there o m day time small year =
     let clock : civil_nanos (shown-there m day time small year) ≡ place o day time m +ℤ nanos_of_seconds o.seconds =
     omega (arith, signed_arith, civil-there m day time small year) in
     clock ∙ ap (λ (s : ℤ). place o day time m +ℤ nanos_of_seconds s) (sym (offset_at-fixed_zone o (place o day time m)))
 
-picked-there : (o : Offset) (m : ℤ) (day : ℕ) (time : Time) → IsSmall day → IsPlaced o day time m
+picked-there : (o : Offset) (m : ℤ) (day : ℕ) (time : TimeOfDay) → IsSmall day → IsPlaced o day time m
     → IsPicked (fixed_zone o) (civil_of (month_start m +ℤ (pos day -ℤ pos 1)) time) (place o day time m)
 picked-there o m day time small h =
     let dt = shown-there m day time small h.year_in in
@@ -250,12 +250,12 @@ picked-there o m day time small h =
     subst (λ (n : ℤ). IsPicked (fixed_zone o) n (place o day time m)) civil (fixed-picks o dt (place o day time m) (ap (λ (n : ℤ). n -ℤ nanos_of_seconds o.seconds) (sym civil)) h.in_range)
 
 -- a step of months off that day of the month of this number
-abbrev Goes : Offset → ℕ → Time → ℤ → ℤ → ℤ → Type 0
+abbrev Goes : Offset → ℕ → TimeOfDay → ℤ → ℤ → ℤ → Type 0
 Goes o day time n j number =
     FitsSigned w64 (number -ℤ n) × IsYear (int_div_euclid (number -ℤ n) (pos 12)) × IsPicked (fixed_zone o) (civil_of (month_start (number -ℤ n) +ℤ (pos day -ℤ pos 1)) time) j
 
 -- leads to the same day of an earlier month
-pub months-to : (o : Offset) (day : ℕ) (time : Time) (m n j : ℤ) → IsSmall day → IsPlaced o day time m
+pub months-to : (o : Offset) (day : ℕ) (time : TimeOfDay) (m n j : ℤ) → IsSmall day → IsPlaced o day time m
     → MonthsStep (fixed_zone o) n (place o day time m) j → IsPlaced o day time (m -ℤ n) × (j ≡ place o day time (m -ℤ n))
 months-to o day time m n j small here h =
     let dt = shown-there m day time small here.year_in in
@@ -266,7 +266,7 @@ months-to o day time m n j small here h =
     let is = fixed-picked o (civil_of (month_start (m -ℤ n) +ℤ (pos day -ℤ pos 1)) time) j goes.2 in
     (record { fits = goes.0; year_in = goes.1; in_range = subst IsTimestampNanos is goes.2.in_range }, is)
 
-pub months-from : (o : Offset) (day : ℕ) (time : Time) (m n : ℤ) → IsSmall day → IsPlaced o day time m
+pub months-from : (o : Offset) (day : ℕ) (time : TimeOfDay) (m n : ℤ) → IsSmall day → IsPlaced o day time m
     → IsPlaced o day time (m -ℤ n) → MonthsStep (fixed_zone o) n (place o day time m) (place o day time (m -ℤ n))
 months-from o day time m n small here there =
     let dt = shown-there m day time small here.year_in in
@@ -285,7 +285,7 @@ months-order a b year le =
     omega (arith, signed_arith, before))
     (λ ge. let e : a ≡ b = omega (arith, signed_arith) in rw e (omega (arith, signed_arith)))
 
-between-placed : (o : Offset) (day : ℕ) (time : Time) (a b c : ℤ) → IsPlaced o day time a → IsPlaced o day time c → a ≤ℤ b
+between-placed : (o : Offset) (day : ℕ) (time : TimeOfDay) (a b c : ℤ) → IsPlaced o day time a → IsPlaced o day time c → a ≤ℤ b
     → b ≤ℤ c → IsPlaced o day time b
 between-placed o day time a b c low high le ge =
     let fits : FitsSigned w64 b = omega (arith, signed_arith, low.fits, high.fits, le, ge) in
@@ -298,7 +298,7 @@ between-placed o day time a b c low high le ge =
 abbrev month_steps : List (ℤ × ℤ) → List (ℤ × TimeUnit)
 month_steps pairs = map (λ p. (p.0, Months p.1)) pairs
 
-pub months-chain : (o : Offset) (day : ℕ) (time : Time) (pairs : List (ℤ × ℤ)) (m j : ℤ) → IsSmall day → All IsLoss pairs
+pub months-chain : (o : Offset) (day : ℕ) (time : TimeOfDay) (pairs : List (ℤ × ℤ)) (m j : ℤ) → IsSmall day → All IsLoss pairs
     → IsPlaced o day time m
     → Chain (fixed_zone o) (month_steps pairs) (place o day time m) j → IsPlaced o day time (m -ℤ total pairs) × (j ≡ place o day time (m -ℤ total pairs))
 months-chain o day time [] m j small loss here h =
@@ -312,7 +312,7 @@ months-chain o day time (p ∷ more) m j small loss here (between, step, rest) =
     let same : ((m -ℤ product p) -ℤ total more) ≡ (m -ℤ total (p ∷ more)) = omega (arith, signed_arith) in
     (subst (IsPlaced o day time) same later.0, later.1 ∙ ap (place o day time) same)
 
-pub months-chain-back : (o : Offset) (day : ℕ) (time : Time) (pairs : List (ℤ × ℤ)) (m : ℤ) → IsSmall day → All IsLoss pairs
+pub months-chain-back : (o : Offset) (day : ℕ) (time : TimeOfDay) (pairs : List (ℤ × ℤ)) (m : ℤ) → IsSmall day → All IsLoss pairs
     → FitsSigned w64 (total pairs) → IsPlaced o day time m
     → IsPlaced o day time (m -ℤ total pairs) → Chain (fixed_zone o) (month_steps pairs) (place o day time m) (place o day time (m -ℤ total pairs))
 months-chain-back o day time [] m small loss fits here there =
@@ -331,10 +331,10 @@ months-chain-back o day time (p ∷ more) m small loss fits here there =
     (place o day time (m -ℤ product p), (one, months-from o day time m (product p) small here next), subst (λ (k : ℤ). Chain (fixed_zone o) (month_steps more) (place o day time (m -ℤ product p)) (place o day time k)) same last)
 
 -- what a list of such pairs leads to: the same day, so many months before
-abbrev MonthsBefore : Offset → ℕ → Time → ℤ → ℤ → Type 0
+abbrev MonthsBefore : Offset → ℕ → TimeOfDay → ℤ → ℤ → Type 0
 MonthsBefore o day time m j = IsPlaced o day time m × (j ≡ place o day time m)
 
-months-of : (o : Offset) (day : ℕ) (time : Time) (pairs : List (ℤ × ℤ)) (m : ℤ) → IsSmall day → All IsLoss pairs
+months-of : (o : Offset) (day : ℕ) (time : TimeOfDay) (pairs : List (ℤ × ℤ)) (m : ℤ) → IsSmall day → All IsLoss pairs
     → FitsSigned w64 (total pairs) → IsPlaced o day time m
     → Alike (fixed_zone o) (place o day time m) (less_months pairs) (MonthsBefore o day time (m -ℤ total pairs))
 months-of o day time pairs m small loss fits here j = (
@@ -349,7 +349,7 @@ months-of o day time pairs m small loss fits here j = (
 abbrev SameMonths : List (ℤ × ℤ) → TimeZone → ℤ → Type 0
 SameMonths pairs tz i = (j : ℤ) → Reaches (less_months pairs) tz i j ↔ Reaches (less_months ((total pairs, pos 1) ∷ [])) tz i j
 
-months-same : (o : Offset) (day : ℕ) (time : Time) (pairs : List (ℤ × ℤ)) (m : ℤ) → IsSmall day → All IsLoss pairs
+months-same : (o : Offset) (day : ℕ) (time : TimeOfDay) (pairs : List (ℤ × ℤ)) (m : ℤ) → IsSmall day → All IsLoss pairs
     → FitsSigned w64 (total pairs) → IsPlaced o day time m → SameMonths pairs (fixed_zone o) (place o day time m)
 months-same o day time pairs m small loss fits here j =
     let one : ℤ × ℤ = (total pairs, pos 1) in

@@ -9,16 +9,16 @@ use Rattle.std.specs.Option.{option_or}
 use Rattle.std.specs.Prelude.{◌==◌, ◌||◌, ◌&&◌, nat_le, nat_lt}
 use Rattle.std.specs.Str.{all_ascii_digits}
 use Rattle.std.specs.Str.Parse.{without_leading_sign, signed_digits_value}
-use Rattle.gix_date.specs.Fields.FieldTexts.{IsSign, IsField, IsYear, AreSpaces, AreThreeLetters, IsDayName, IsMonthName, IsPlainDate, IsClock, IsMailClock, IsDayPrefix}
+use Rattle.gix_date.specs.Fields.FieldTexts.{IsSign, IsField, IsYear, AreSpaces, AreThreeLetters, IsDayName, IsMonthName, IsPlainDate, IsClock, IsRfc2822Clock, IsDayPrefix}
 use Rattle.gix_date.specs.Families.Answer.{FamilyAnswer}
 use Rattle.gix_date.specs.Text.Characters.{minus, plus, colon, comma, letter_t}
 use Rattle.gix_date.specs.Text.Front.{skip_char, ◌>>=◌}
-use Rattle.gix_date.specs.Fields.Layout.{LocalTime, Piece, DayName, MailDayName, MonthName, Day, Year, PlainDate, Clock, MailClock, Spaces, LetterT, Offset, ColonOffset, MailOffset, IsPiece, ArePieces}
+use Rattle.gix_date.specs.Fields.Layout.{LocalTime, Piece, DayName, Rfc2822DayName, MonthName, Day, Year, PlainDate, Clock, Rfc2822Clock, Spaces, LetterT, Offset, ColonOffset, Rfc2822Offset, IsPiece, ArePieces}
 use Rattle.gix_date.specs.Text.Names.{is_name, named_in, day_names, month_names}
 use Rattle.gix_date.specs.Text.Numbers.{fits_i64, int_value, read_two_digits, two_digit_value}
 use Rattle.gix_date.specs.Fields.Offsets.{read_sign, offset_fields}
 use Rattle.gix_date.specs.Fields.DateFields.{is_weekday, month_named}
-use Rattle.gix_date.specs.Fields.DateOffsets.{compact_offset, strict_offset, mail_zone, mail_offset, named_zone, zone_names, jiff_offset, last_colon_pair}
+use Rattle.gix_date.specs.Fields.DateOffsets.{compact_offset, strict_offset, rfc2822_zone, rfc2822_offset, named_zone, zone_names, jiff_offset, last_colon_pair}
 use Rattle.gix_date.specs.Families.Patterns.{short_layout, iso8601_layout, gitoxide_layout, default_layout, short_answer, rfc2822_answer, iso8601_answer, iso8601_strict_answer, gitoxide_answer, default_answer}
 use Rattle.gix_date.specs.Relative.Dates.{date_names, named_date}
 use Rattle.gix_date.specs.Relative.Words.{relative_words, is_gap, singular, named_unit, unit_names, unit_of, is_ago}
@@ -230,9 +230,9 @@ quiet-clock x clock h =
     (quiet-gap h.hour colon h.minute refl (quiet-field h.hour clock.hour h.is_hour) (quiet-field h.minute clock.minute h.is_minute))
     (quiet-field h.second h.seconds h.is_second))
 
-quiet-mail-clock : (x : List ℕ) (clock : ClockFields) → IsMailClock x clock → IsQuiet x
-quiet-mail-clock x clock (inl h) = quiet-clock x clock h
-quiet-mail-clock x clock (inr h) =
+quiet-rfc2822-clock : (x : List ℕ) (clock : ClockFields) → IsRfc2822Clock x clock → IsQuiet x
+quiet-rfc2822-clock x clock (inl h) = quiet-clock x clock h
+quiet-rfc2822-clock x clock (inr h) =
     subst IsQuiet (sym h.whole) (quiet-gap h.hour colon h.minute refl (quiet-field h.hour clock.hour h.is_hour) (quiet-field h.minute clock.minute h.is_minute))
 
 -- Offsets.
@@ -317,11 +317,11 @@ zones-quiet : list_all says_nothing (names_of zone_names) ≡ true
 unfolding has_unit unit_of singular named_unit named_date
 zones-quiet = refl
 
-quiet-mail-zone : (x : List ℕ) (o : ℤ) → mail_zone x ≡ Some o → IsQuiet x
-unfolding mail_zone mail_offset named_zone
-quiet-mail-zone x o e = by_offset (mail_offset x) refl e
+quiet-rfc2822-zone : (x : List ℕ) (o : ℤ) → rfc2822_zone x ≡ Some o → IsQuiet x
+unfolding rfc2822_zone rfc2822_offset named_zone
+quiet-rfc2822-zone x o e = by_offset (rfc2822_offset x) refl e
   where
-    by_offset : (found : Option ℤ) → mail_offset x ≡ found → option_or found (named_zone x) ≡ Some o → IsQuiet x
+    by_offset : (found : Option ℤ) → rfc2822_offset x ≡ found → option_or found (named_zone x) ≡ Some o → IsQuiet x
     by_offset (Some n) h e = let f = went (offset_fields x) _ n h in quiet-offset x f.0 f.1
     by_offset None h e =
         let any = named-any zone_names x o e in
@@ -334,8 +334,8 @@ quiet-t = quiet-word letter_t [] refl refl
 
 quiet-piece : (p : Piece) (t : LocalTime) (x : List ℕ) → IsPiece p t x → IsQuiet x
 quiet-piece DayName t x h = quiet-day-name x h
-quiet-piece MailDayName t x (inl none) = subst IsQuiet (sym none) quiet-none
-quiet-piece MailDayName t x (inr h) =
+quiet-piece Rfc2822DayName t x (inl none) = subst IsQuiet (sym none) quiet-none
+quiet-piece Rfc2822DayName t x (inr h) =
     subst IsQuiet (sym h.whole) (quiet-gap h.name comma h.gap refl (quiet-day-name h.name h.is_name) (quiet-blank h.gap h.are_spaces))
   where
     quiet-blank : (gap : List ℕ) → AreSpaces gap → IsQuiet gap
@@ -345,12 +345,12 @@ quiet-piece Day t x h = quiet-field x t.date.day h
 quiet-piece Year t x h = quiet-digits x (year-digits x t.date.year h)
 quiet-piece PlainDate t x h = quiet-date x t.date h
 quiet-piece Clock t x h = quiet-clock x t.clock h
-quiet-piece MailClock t x h = quiet-mail-clock x t.clock h
+quiet-piece Rfc2822Clock t x h = quiet-rfc2822-clock x t.clock h
 quiet-piece Spaces t x h = subst IsQuiet (append-nil x) (quiet-spaces [] x [] h quiet-none quiet-none)
 quiet-piece LetterT t x h = subst IsQuiet (sym h) quiet-t
 quiet-piece Offset t x h = quiet-compact x t.offset h
 quiet-piece ColonOffset t x h = quiet-colon-zone x t.offset h
-quiet-piece MailOffset t x h = quiet-mail-zone x t.offset h
+quiet-piece Rfc2822Offset t x h = quiet-rfc2822-zone x t.offset h
 
 -- every second piece is spaces
 abbrev AreSpaced : List Piece → Type 0
@@ -377,17 +377,17 @@ pub quiet-gitoxide : (text : List ℕ) (answer : FamilyAnswer) → gitoxide_answ
 quiet-gitoxide text answer e = let a = (dates_spelled.gitoxide text answer).0 e in quiet-pieces gitoxide_layout tt a.time text a.are
 
 pub quiet-default : (text : List ℕ) (answer : FamilyAnswer) → default_answer text ≡ Some answer → IsQuiet text
-quiet-default text answer e = let a = (dates_spelled.by_default text answer).0 e in quiet-pieces default_layout tt a.time text a.are
+quiet-default text answer e = let a = (dates_spelled.default text answer).0 e in quiet-pieces default_layout tt a.time text a.are
 
-after_mail_day : List Piece
-after_mail_day = Day ∷ Spaces ∷ MonthName ∷ Spaces ∷ Year ∷ Spaces ∷ MailClock ∷ Spaces ∷ MailOffset ∷ []
+after_rfc2822_day : List Piece
+after_rfc2822_day = Day ∷ Spaces ∷ MonthName ∷ Spaces ∷ Year ∷ Spaces ∷ Rfc2822Clock ∷ Spaces ∷ Rfc2822Offset ∷ []
 
-pub quiet-mail : (text : List ℕ) (answer : FamilyAnswer) → rfc2822_answer text ≡ Some answer → IsQuiet text
-unfolding after_mail_day
-quiet-mail text answer e =
+pub quiet-rfc2822 : (text : List ℕ) (answer : FamilyAnswer) → rfc2822_answer text ≡ Some answer → IsQuiet text
+unfolding after_rfc2822_day
+quiet-rfc2822 text answer e =
     let a = (dates_spelled.rfc2822 text answer).0 e in
     let h = a.are in
-    subst IsQuiet (sym h.whole) (after-name h.front h.rest h.is (quiet-pieces after_mail_day tt a.time h.rest h.more))
+    subst IsQuiet (sym h.whole) (after-name h.front h.rest h.is (quiet-pieces after_rfc2822_day tt a.time h.rest h.more))
   where
     after-name : (prefix rest : List ℕ) → (prefix ≡ []) ⊎ IsDayPrefix prefix → IsQuiet rest → IsQuiet (prefix ++ rest)
     after-name prefix rest (inl none) q = subst (λ (p : List ℕ). IsQuiet (p ++ rest)) (sym none) q

@@ -2,7 +2,7 @@
 use Rattle.std.proofs.Common.{◌≡◌, ◌∙◌, ◌+◌, ℤ, pos, ◌+ℤ◌, ◌-ℤ◌, unsigned_abs, FitsSigned, w64, refl, sym, ap, subst, arith, Option, None, Some}
 use Rattle.std.specs.Int.{int_div_euclid, int_rem_euclid}
 use Rattle.jiff.specs.Words.{picked_instant, civil_nanos, nanos_of_seconds, epoch_day, month_number, zoned_nanos, IsTimestampNanos, IsEpochDay, IsYear, IsBetween, IsDate, IsYmd}
-use Rattle.jiff.specs.Types.{TimeZone, DateTime, Date, Time, PlainZoned}
+use Rattle.jiff.specs.Types.{TimeZone, DateTime, Date, Time as TimeOfDay, PlainZoned}
 use Rattle.jiff.specs.declared.zoned.Zoned.{Zoned}
 use Rattle.jiff_core.proofs.CalendarLemmas.{days_in_month_bounds}
 use Rattle.jiff_core.proofs.DateLemmas.{days_from_civil-day, epoch_day_range}
@@ -16,23 +16,23 @@ use Rattle.gix_date.specs.declared.parsing.relative.steps.Fields.{Fields}
 
 -- What a zone chooses.
 
-civil-of : (dt : DateTime) (date : Date) (time : Time) → dt.date ≡ date → dt.time ≡ time → civil_nanos dt ≡ civil_of (epoch_day date) time
+civil-of : (dt : DateTime) (date : Date) (time : TimeOfDay) → dt.date ≡ date → dt.time ≡ time → civil_nanos dt ≡ civil_of (epoch_day date) time
 civil-of dt date time d t = civil_nanos-parts dt ∙ rw (d, t) refl
 
-pub picked-is : (tz : TimeZone) (date : Date) (time : Time) (dt : DateTime) (j : ℤ) → dt.date ≡ date → dt.time ≡ time → j ≡ picked_instant tz dt → IsTimestampNanos j → IsPicked tz (civil_of (epoch_day date) time) j
+pub picked-is : (tz : TimeZone) (date : Date) (time : TimeOfDay) (dt : DateTime) (j : ℤ) → dt.date ≡ date → dt.time ≡ time → j ≡ picked_instant tz dt → IsTimestampNanos j → IsPicked tz (civil_of (epoch_day date) time) j
 picked-is tz date time dt j d t is range = record { shown = dt; civil_is = civil-of dt date time d t; is_choice = is; in_range = range }
 
 -- two datetimes with the same nanoseconds are one, so the choice is one
 picked-of : (tz : TimeZone) (dt : DateTime) (j : ℤ) → IsPicked tz (civil_nanos dt) j → j ≡ picked_instant tz dt
 picked-of tz dt j h = h.is_choice ∙ ap (λ (x : DateTime). picked_instant tz x) (same_datetime h.shown dt h.civil_is)
 
-pub picked-none : (tz : TimeZone) (date : Date) (time : Time) (dt : DateTime) (j : ℤ) → dt.date ≡ date → dt.time ≡ time → ¬ (IsTimestampNanos (picked_instant tz dt)) → IsPicked tz (civil_of (epoch_day date) time) j → ⊥
+pub picked-none : (tz : TimeZone) (date : Date) (time : TimeOfDay) (dt : DateTime) (j : ℤ) → dt.date ≡ date → dt.time ≡ time → ¬ (IsTimestampNanos (picked_instant tz dt)) → IsPicked tz (civil_of (epoch_day date) time) j → ⊥
 picked-none tz date time dt j d t beyond h =
     let here : IsPicked tz (civil_nanos dt) j = rw (civil-of dt date time d t) h in
     beyond (subst IsTimestampNanos (picked-of tz dt j here) h.in_range)
 
 -- the day of what is picked exists
-pub picked-day : (tz : TimeZone) (day : ℤ) (time : Time) (j : ℤ) → IsPicked tz (civil_of day time) j → IsEpochDay day
+pub picked-day : (tz : TimeZone) (day : ℤ) (time : TimeOfDay) (j : ℤ) → IsPicked tz (civil_of day time) j → IsEpochDay day
 picked-day tz day time j h =
     omega (arith, signed_arith, h.civil_is, civil_nanos-parts h.shown, time_nanos_bound h.shown.time, time_nanos_bound time, epoch_day_range h.shown.date)
 

@@ -4,7 +4,7 @@ use Rattle.gix_date.proofs.Rows.Tables.{Texts, minus, time}
 use Rattle.gix_date.specs.Computing.{computing}
 use Rattle.gix_date.specs.Printing.LocalClocks.{clock_of, first_of_year_1000, last_of_year_9999}
 use Rattle.gix_date.specs.Printing.NamedTexts.{rfc2822_text, iso8601_text, iso8601_strict_text, gitoxide_text, default_text}
-use Rattle.gix_date.specs.Printing.ReadingBack.{IsRawOffset}
+use Rattle.gix_date.specs.Printing.ReadingBack.{IsQuarterOffset}
 
 -- the last three are the ends of the years of four digits
 printed :
@@ -26,5 +26,5 @@ unfolding computing
 first-of-10000 = refl
 
 -- The farthest offsets of raw texts: 14:45 either way.
-farthest : IsRawOffset (pos 53_100) × IsRawOffset (minus 53_100)
+farthest : IsQuarterOffset (pos 53_100) × IsQuarterOffset (minus 53_100)
 farthest = (record { quarters = refl; short = omega arith }, record { quarters = refl; short = omega arith })

@@ -7,7 +7,7 @@ use Rattle.gix_date.specs.declared.time.Time.{Time}
 use Rattle.gix_date.specs.Computing.{computing}
 use Rattle.gix_date.specs.Header.Text.{header_text}
 use Rattle.gix_date.specs.Header.Reading.{header_time}
-use Rattle.gix_date.specs.Families.Raw.{is_wide_offset, raw_time, raw_time_by}
+use Rattle.gix_date.specs.Families.Raw.{is_minute_offset, raw_time, raw_time_by}
 use Rattle.gix_date.specs.Header.Canonical.{is_canonical_header}
 
 -- each row is a time and its header text
@@ -59,10 +59,10 @@ unfolding computing
 raw = (refl, refl)
 
 wide :
-    Reads (raw_time_by is_wide_offset)
+    Reads (raw_time_by is_minute_offset)
     (("1660797906 +2359", time (pos 1660797906) (pos 86340)) ∷ ("1660797906 +0007", time (pos 1660797906) (pos 420))
     ∷ ("1660797906 -235900", time (pos 1660797906) (minus 86340))
     ∷ ("-9223372036854775808 +1459", time (minus 9223372036854775808) (pos 53940)) ∷ [])
-    × Refuses (raw_time_by is_wide_offset) ("1660797906 +2400" ∷ "5 +2360" ∷ "5 +235901" ∷ "5 +-007" ∷ [])
+    × Refuses (raw_time_by is_minute_offset) ("1660797906 +2400" ∷ "5 +2360" ∷ "5 +235901" ∷ "5 +-007" ∷ [])
 unfolding computing
 wide = (refl, refl)

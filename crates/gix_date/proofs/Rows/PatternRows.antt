@@ -5,9 +5,9 @@ use Rattle.std.specs.Prelude.{codes}
 use Rattle.gix_date.proofs.Rows.Tables.{Reads, Refuses, time, date, clock, minus}
 use Rattle.gix_date.specs.Computing.{computing}
 use Rattle.gix_date.specs.Families.Answer.{FamilyAnswer, Absolute, OffsetAboveDay, NoInstant}
-use Rattle.gix_date.specs.Fields.Layout.{LocalTime, Piece, DayName, MailDayName, MonthName, Day, Year, PlainDate, Clock, MailClock, Spaces, LetterT, Offset, ColonOffset, MailOffset, nothing_read, layout_answer}
-use Rattle.gix_date.specs.Fields.DateFields.{skip_spaces, read_month, read_plain_date, read_mail_clock}
-use Rattle.gix_date.specs.Fields.DateOffsets.{mail_zone}
+use Rattle.gix_date.specs.Fields.Layout.{LocalTime, Piece, DayName, Rfc2822DayName, MonthName, Day, Year, PlainDate, Clock, Rfc2822Clock, Spaces, LetterT, Offset, ColonOffset, Rfc2822Offset, nothing_read, layout_answer}
+use Rattle.gix_date.specs.Fields.DateFields.{skip_spaces, read_month, read_plain_date, read_rfc2822_clock}
+use Rattle.gix_date.specs.Fields.DateOffsets.{rfc2822_zone}
 use Rattle.gix_date.specs.Families.Patterns.{short_answer, rfc2822_answer, iso8601_answer, iso8601_strict_answer, gitoxide_answer, default_answer}
 
 -- Each piece, where it is the whole text: what a text tells, and texts that are no such piece.
@@ -26,8 +26,8 @@ offset_by offset = record nothing_read { offset = offset }
 names :
     Reads (alone DayName) (("tHu", nothing_read) ∷ ("SUN", nothing_read) ∷ [])
     × Refuses (alone DayName) ("" ∷ "Thx" ∷ "Thursday" ∷ " Thu" ∷ "Thu," ∷ [])
-    × Reads (alone MailDayName) (("", nothing_read) ∷ ("mon,  ", nothing_read) ∷ [])
-    × Refuses (alone MailDayName) ("Thu" ∷ "Thu," ∷ "Thu " ∷ "Thx, " ∷ [])
+    × Reads (alone Rfc2822DayName) (("", nothing_read) ∷ ("mon,  ", nothing_read) ∷ [])
+    × Refuses (alone Rfc2822DayName) ("Thu" ∷ "Thu," ∷ "Thu " ∷ "Thx, " ∷ [])
     × Reads (alone MonthName) (("jAN", dated 0 1 0) ∷ ("Dec", dated 0 12 0) ∷ [])
     × Refuses (alone MonthName) ("" ∷ "Aux" ∷ "August" ∷ "08" ∷ [])
 unfolding computing
@@ -49,8 +49,8 @@ clocks :
     Reads (alone Clock) (("4:5:06", clocked 4 5 6) ∷ ("12:45:60", clocked 12 45 59) ∷ ("12:45:61", clocked 12 45 61) ∷ [])
     × Refuses (alone Clock)
     ("12:45" ∷ "12" ∷ "12:45:" ∷ "12:45:006" ∷ "12.45.06" ∷ "12:45:06.5" ∷ "12:45:06 PM" ∷ [])
-    × Reads (alone MailClock) (("12:45", clocked 12 45 0) ∷ ("12:45:60", clocked 12 45 59) ∷ [])
-    × Refuses (alone MailClock) ("12" ∷ "12:45:" ∷ "12:45:006" ∷ "12.45" ∷ [])
+    × Reads (alone Rfc2822Clock) (("12:45", clocked 12 45 0) ∷ ("12:45:60", clocked 12 45 59) ∷ [])
+    × Refuses (alone Rfc2822Clock) ("12" ∷ "12:45:" ∷ "12:45:006" ∷ "12.45" ∷ [])
 unfolding computing
 clocks = (refl, refl, refl, refl)
 
@@ -70,15 +70,15 @@ offsets :
     (("-00:30", offset_by (minus 1800)) ∷ ("+00:00:01", offset_by (pos 1)) ∷ ("+25:59:59", offset_by (pos 93599)) ∷ [])
     × Refuses (alone ColonOffset)
     ("" ∷ "+0800" ∷ "+08" ∷ "+08:00:0" ∷ "+08:00:" ∷ "+08:60" ∷ "+26:00" ∷ "Z" ∷ "+08:00 " ∷ [])
-    × Reads (alone MailOffset)
+    × Reads (alone Rfc2822Offset)
     (("+0800", offset_by (pos 28800)) ∷ ("pSt", offset_by (minus 28800)) ∷ ("-2559", offset_by (minus 93540)) ∷ [])
-    × Refuses (alone MailOffset) ("" ∷ "+080000" ∷ "+08:00" ∷ "0800" ∷ "Z" ∷ "UTC" ∷ "GMT " ∷ [])
+    × Refuses (alone Rfc2822Offset) ("" ∷ "+080000" ∷ "+08:00" ∷ "0800" ∷ "Z" ∷ "UTC" ∷ "GMT " ∷ [])
 unfolding computing
 offsets = (refl, refl, refl, refl, refl, refl)
 
 -- each row is a zone's name and its hours behind UTC
 abbrev Behind : List (String × ℕ) → Type 0
-Behind rows = map (λ row. mail_zone (codes row.0)) rows ≡ map (λ row. Some (minus (3600 * row.1))) rows
+Behind rows = map (λ row. rfc2822_zone (codes row.0)) rows ≡ map (λ row. Some (minus (3600 * row.1))) rows
 
 zone-names :
     Behind
@@ -92,7 +92,7 @@ fronts :
     Reads read_plain_date (("2018-1-02x", (date 2018 1 2, codes "x")) ∷ ("2018-12-024", (date 2018 12 2, codes "4")) ∷ [])
     × Reads read_month (("August", (8, codes "ust")) ∷ [])
     × Reads skip_spaces (("  x ", codes "x ") ∷ [])
-    × Reads read_mail_clock (("12:45: +0000", (clock 12 45 0, codes ": +0000")) ∷ [])
+    × Reads read_rfc2822_clock (("12:45: +0000", (clock 12 45 0, codes ": +0000")) ∷ [])
 unfolding computing
 fronts = (refl, refl, refl, refl)
 
@@ -107,7 +107,7 @@ short :
 unfolding computing
 short = (refl, refl)
 
-mail :
+rfc2822 :
     Reads rfc2822_answer
     (("Thu, 8 Aug 2022 12:45:06 +0800", at (pos 1659933906) (pos 28800))
     ∷ ("Thu, 18 Aug 2022 12:45 GMT", at (pos 1660826700) (pos 0)) ∷ [])
@@ -116,7 +116,7 @@ mail :
     ∷ "Thu, 18 Aug 2022 12:45GMT" ∷ "Thu, 18 Aug 2022 12:45" ∷ "Thu, 18 2022 Aug 12:45 GMT"
     ∷ "Thu, 18 Aug 12:45 2022 GMT" ∷ "Thu, 18-Aug-2022 12:45 GMT" ∷ [])
 unfolding computing
-mail = (refl, refl)
+rfc2822 = (refl, refl)
 
 iso8601 :
     Reads iso8601_answer (("2022-08-17 22:04:58 +0200", at (pos 1660766698) (pos 7200)) ∷ [])

@@ -6,7 +6,7 @@ use Rattle.gix_date.proofs.Rows.Tables.{Reads, Refuses, time, minus}
 use Rattle.gix_date.specs.Families.Answer.{FamilyAnswer, Absolute, Relative}
 use Rattle.gix_date.specs.Computing.{computing}
 use Rattle.gix_date.specs.Families.Order.{first_family, first_family_by}
-use Rattle.gix_date.specs.Families.Raw.{is_wide_offset}
+use Rattle.gix_date.specs.Families.Raw.{is_minute_offset}
 use Rattle.gix_date.specs.Relative.Dates.{MinusSeconds, MinusPairs, relative_date}
 use Rattle.gix_date.specs.declared.parsing.relative.words.TimeUnit.TheVariants.{Seconds, Months}
 
@@ -62,7 +62,7 @@ first :
 unfolding computing
 first = (refl, refl)
 
-first-wide : Reads (first_family_by is_wide_offset) (("@5 +0007", at 5 (pos 420)) ∷ ("5 -2359", at 5 (minus 86340)) ∷ [])
+first-wide : Reads (first_family_by is_minute_offset) (("@5 +0007", at 5 (pos 420)) ∷ ("5 -2359", at 5 (minus 86340)) ∷ [])
 unfolding computing
 first-wide = refl
 

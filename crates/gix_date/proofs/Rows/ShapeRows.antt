@@ -4,12 +4,12 @@ use Rattle.std.proofs.Common.{◌≡◌, refl, true, Bool, List, ℕ, [], ◌∷
 use Rattle.std.specs.List.{list_any}
 use Rattle.std.specs.Prelude.{◌==◌, codes, not}
 use Rattle.gix_date.specs.Computing.{computing}
-use Rattle.gix_date.specs.Families.Order.{Family, AtText, Short, Rfc2822, Iso8601, Iso8601Strict, Gitoxide, GitDefault, BareEpoch, GitForm, RelativeText, RawText}
+use Rattle.gix_date.specs.Families.Order.{Family, AtText, Short, Rfc2822, Iso8601, Iso8601Strict, Gitoxide, Default, BareEpoch, GitForm, RelativeText, RawText}
 use Rattle.gix_date.specs.Families.Laws.{Holds}
-use Rattle.gix_date.specs.Families.Raw.{is_raw_offset}
+use Rattle.gix_date.specs.Families.Raw.{is_quarter_offset}
 use Rattle.gix_date.specs.Families.Shapes.{begins_with_at, begins_with_letter, begins_with_year, begins_with_dashed_day, begins_with_dotted_day, begins_with_compact_day, begins_with_count, letter_shape, shape_of, shape_families, first_among, row_families}
 use Rattle.gix_date.specs.declared.parsing.shape.Shape.{Shape}
-use Rattle.gix_date.specs.declared.parsing.shape.Shape.TheVariants.{AtSign, MailDay, NamedDay, Word, DashedDay, GitDay, Count, WholeNumber, Other}
+use Rattle.gix_date.specs.declared.parsing.shape.Shape.TheVariants.{AtSign, Rfc2822Day, NamedDay, Word, DashedDay, GitDay, Count, WholeNumber, Other}
 use Rattle.gix_date.proofs.Families.Exclusive.{place}
 use Rattle.gix_date.proofs.Rows.Tables.{AllGive}
 
@@ -30,17 +30,17 @@ others shape family = filter (λ other. not (place other == place family)) (shap
 pub record Witness (shape : Shape) (family : Family) : Type 0 where
   pub text : List ℕ
   pub has_shape : shape_of text ≡ shape
-  pub is_held : Holds is_raw_offset family text
-  pub is_needed : first_among is_raw_offset (others shape family) text ≡ None
+  pub is_held : Holds is_quarter_offset family text
+  pub is_needed : first_among is_quarter_offset (others shape family) text ≡ None
 
 pub each-is-needed : (shape : Shape) (family : Family) → is_tried shape family ≡ true → Witness shape family
 unfolding shaping
 each-is-needed AtSign AtText h = record { text = codes "@5"; has_shape = refl; is_held = refl; is_needed = refl }
 each-is-needed AtSign RelativeText h = record { text = codes "@5 days ago"; has_shape = refl; is_held = refl; is_needed = refl }
-each-is-needed MailDay Rfc2822 h = record { text = codes "Thu, 18 Aug 2022 12:45:06 +0800"; has_shape = refl; is_held = refl; is_needed = refl }
-each-is-needed MailDay RelativeText h = record { text = codes "two, days ago"; has_shape = refl; is_held = refl; is_needed = refl }
+each-is-needed Rfc2822Day Rfc2822 h = record { text = codes "Thu, 18 Aug 2022 12:45:06 +0800"; has_shape = refl; is_held = refl; is_needed = refl }
+each-is-needed Rfc2822Day RelativeText h = record { text = codes "two, days ago"; has_shape = refl; is_held = refl; is_needed = refl }
 each-is-needed NamedDay Gitoxide h = record { text = codes "Thu Aug 18 2022 12:45:06 +0800"; has_shape = refl; is_held = refl; is_needed = refl }
-each-is-needed NamedDay GitDefault h = record { text = codes "Thu Aug 18 12:45:06 2022 +0800"; has_shape = refl; is_held = refl; is_needed = refl }
+each-is-needed NamedDay Default h = record { text = codes "Thu Aug 18 12:45:06 2022 +0800"; has_shape = refl; is_held = refl; is_needed = refl }
 each-is-needed NamedDay RelativeText h = record { text = codes "two days ago"; has_shape = refl; is_held = refl; is_needed = refl }
 each-is-needed Word RelativeText h = record { text = codes "last week"; has_shape = refl; is_held = refl; is_needed = refl }
 each-is-needed DashedDay Short h = record { text = codes "2018-1-2"; has_shape = refl; is_held = refl; is_needed = refl }
@@ -67,7 +67,7 @@ shapes :
     × AllGive shape_of GitDay ("2018.12." ∷ "9000.00. " ∷ "20080214T" ∷ "09999999Tx" ∷ [])
     × AllGive shape_of Count ("2 w" ∷ "12 w" ∷ "0  " ∷ "12 " ∷ [])
     × AllGive shape_of Word ("A" ∷ "Z" ∷ "a" ∷ "z2018-12-24" ∷ "Thu" ∷ "Thu+" ∷ "Thu-" ∷ "Thu!" ∷ [])
-    × AllGive shape_of MailDay ("Thu," ∷ "z12," ∷ [])
+    × AllGive shape_of Rfc2822Day ("Thu," ∷ "z12," ∷ [])
     × AllGive shape_of NamedDay ("Thu " ∷ "one week ago" ∷ [])
 unfolding shaping
 shapes = (refl, refl, refl, refl, refl, refl, refl, refl)
@@ -96,7 +96,7 @@ each-row :
     × AllGive row_families (BareEpoch ∷ []) ("100000000" ∷ [])
     × AllGive row_families (Short ∷ Iso8601 ∷ Iso8601Strict ∷ GitForm ∷ RelativeText ∷ []) ("2018-12-24" ∷ [])
     × AllGive row_families (GitForm ∷ RelativeText ∷ []) ("2008.02.14 20:30:45 -0500" ∷ "20080214T20" ∷ [])
-    × AllGive row_families (Rfc2822 ∷ Gitoxide ∷ GitDefault ∷ RelativeText ∷ []) ("last week" ∷ [])
+    × AllGive row_families (Rfc2822 ∷ Gitoxide ∷ Default ∷ RelativeText ∷ []) ("last week" ∷ [])
     × AllGive row_families last-row
     ("18 Aug 2022 12:45:06 +0800" ∷ "" ∷ " @5" ∷ "5 " ∷ "2018-1-2" ∷ "2018.1.2" ∷ "2018-12" ∷ "20181224 " ∷ [])
 unfolding shaping last-row

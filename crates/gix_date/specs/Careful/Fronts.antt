@@ -4,8 +4,8 @@ use Rattle.std.specs.Char.{is_ascii_digit}
 use Rattle.std.specs.List.{prefix_len}
 use Rattle.std.specs.Option.{option_or}
 use Rattle.gix_date.specs.Fields.Civil.{is_date, is_clock}
-use Rattle.gix_date.specs.Fields.DateFields.{skip_spaces, skip_weekday, skip_day_name, read_month, read_plain_date, read_clock, read_mail_clock}
-use Rattle.gix_date.specs.Fields.DateOffsets.{compact_offset, strict_offset, mail_zone}
+use Rattle.gix_date.specs.Fields.DateFields.{skip_spaces, skip_weekday, skip_day_name, read_month, read_plain_date, read_clock, read_rfc2822_clock}
+use Rattle.gix_date.specs.Fields.DateOffsets.{compact_offset, strict_offset, rfc2822_zone}
 use Rattle.gix_date.specs.Text.Front.{ReadFront, skip_char, ◌>>=◌}
 use Rattle.gix_date.specs.Git.Forms.{git_front, git_offset}
 use Rattle.gix_date.specs.Text.Characters.{colon, dot, letter_t}
@@ -100,7 +100,7 @@ strict_parts = skip_day ∷ skip_char letter_t ∷ skip_clock ∷ skip_offset st
 abbrev pub rfc2822_parts : List Part
 rfc2822_parts =
     perhaps skip_day_name ∷ taken_by read_field ∷ skip_spaces ∷ taken_by read_month ∷ skip_spaces ∷ taken_by read_year
-    ∷ skip_spaces ∷ taken_by read_mail_clock ∷ skip_spaces ∷ skip_offset mail_zone ∷ []
+    ∷ skip_spaces ∷ taken_by read_rfc2822_clock ∷ skip_spaces ∷ skip_offset rfc2822_zone ∷ []
 
 -- gitoxide's date: `Www Mmm D YYYY h:m:s Z`
 abbrev pub gitoxide_parts : List Part

@@ -8,7 +8,7 @@ use Rattle.gix_date.specs.Families.Order.{Family, AtText, RawText, Iso8601, Iso8
 use Rattle.gix_date.specs.Git.Forms.{git_time}
 use Rattle.gix_date.specs.Families.Patterns.{max_date_offset}
 use Rattle.gix_date.specs.Header.Text.{header_text}
-use Rattle.gix_date.specs.Families.Raw.{OffsetRule, is_raw_offset, is_wide_offset, raw_time_by}
+use Rattle.gix_date.specs.Families.Raw.{OffsetRule, is_quarter_offset, is_minute_offset, raw_time_by}
 use Rattle.gix_date.specs.Relative.Dates.{RelativeDate, relative_date}
 use Rattle.gix_date.specs.declared.error.Error.{Error}
 use Rattle.gix_date.specs.declared.error.ParseError.{ParseError}
@@ -51,8 +51,8 @@ AreExclusive rule text =
 pub record Overlap (a b : Family) : Type 0 where
   pub text : List ℕ
   pub is_text : IsUtf8 text
-  pub first : Holds is_raw_offset a text
-  pub second : Holds is_raw_offset b text
+  pub first : Holds is_quarter_offset a text
+  pub second : Holds is_quarter_offset b text
 
 -- each overlapping pair of families shares a text
 abbrev pub AreOverlapping : Type 0
@@ -83,11 +83,11 @@ IgnoresMoment rule text = (now other : Option Zoned) (result : Result Time Error
 -- Whole minutes keep the answers by quarters: an answer by quarters of an hour is the answer by whole minutes too. Only
 -- raw and at texts have an answer by whole minutes alone.
 pub record IsWidened (text : List ℕ) : Type 0 where
-  pub alike : (answer : FamilyAnswer) → first_family_by is_raw_offset text ≡ Some answer
-      → first_family_by is_wide_offset text ≡ Some answer
-  pub more : (answer : FamilyAnswer) → first_family_by is_raw_offset text ≡ None
-      → first_family_by is_wide_offset text ≡ Some answer
-      → Holds is_wide_offset AtText text ⊎ Holds is_wide_offset RawText text
+  pub alike : (answer : FamilyAnswer) → first_family_by is_quarter_offset text ≡ Some answer
+      → first_family_by is_minute_offset text ≡ Some answer
+  pub more : (answer : FamilyAnswer) → first_family_by is_quarter_offset text ≡ None
+      → first_family_by is_minute_offset text ≡ Some answer
+      → Holds is_minute_offset AtText text ⊎ Holds is_minute_offset RawText text
 
 -- an absolute answer's offset is within 23:59
 abbrev pub AnswersWithinDay : OffsetRule → List ℕ → Type 0

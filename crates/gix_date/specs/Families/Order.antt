@@ -5,7 +5,7 @@ use Rattle.std.specs.Result.{IsErrAnd}
 use Rattle.jiff.specs.declared.zoned.Zoned.{Zoned}
 use Rattle.gix_date.specs.Families.Answer.{FamilyAnswer, Absolute, OffsetAboveDay, NoInstant, Relative}
 use Rattle.gix_date.specs.Families.Patterns.{short_answer, rfc2822_answer, iso8601_answer, iso8601_strict_answer, gitoxide_answer, default_answer}
-use Rattle.gix_date.specs.Families.Raw.{OffsetRule, is_raw_offset, raw_time_by}
+use Rattle.gix_date.specs.Families.Raw.{OffsetRule, is_quarter_offset, raw_time_by}
 use Rattle.gix_date.specs.Families.Epoch.{at_time, epoch_time}
 use Rattle.gix_date.specs.Git.Forms.{git_time}
 use Rattle.gix_date.specs.Relative.Dates.{relative_date, RelativeOutcome}
@@ -25,7 +25,7 @@ pub data Family : Type 0 where
   Iso8601Strict : Family
   Gitoxide : Family
   -- Git's default format
-  GitDefault : Family
+  Default : Family
   BareEpoch : Family
   -- Git's own forms
   GitForm : Family
@@ -40,7 +40,7 @@ family_answer rule Rfc2822 text = rfc2822_answer text
 family_answer rule Iso8601 text = iso8601_answer text
 family_answer rule Iso8601Strict text = iso8601_strict_answer text
 family_answer rule Gitoxide text = gitoxide_answer text
-family_answer rule GitDefault text = default_answer text
+family_answer rule Default text = default_answer text
 family_answer rule BareEpoch text = option_map Absolute (epoch_time text)
 family_answer rule GitForm text = option_map Absolute (git_time text)
 family_answer rule RelativeText text = option_map Relative (relative_date text)
@@ -48,7 +48,7 @@ family_answer rule RawText text = option_map Absolute (raw_time_by rule text)
 
 -- the families before Git's own forms, in their order
 abbrev pub families_before_git : List Family
-families_before_git = AtText ∷ Short ∷ Rfc2822 ∷ Iso8601 ∷ Iso8601Strict ∷ Gitoxide ∷ GitDefault ∷ BareEpoch ∷ []
+families_before_git = AtText ∷ Short ∷ Rfc2822 ∷ Iso8601 ∷ Iso8601Strict ∷ Gitoxide ∷ Default ∷ BareEpoch ∷ []
 
 -- all families, in the order tried
 abbrev pub families : List Family
@@ -74,7 +74,7 @@ answers_before_git rule text = map (λ family. family_answer rule family text) f
 -- the first matching family's answer: that of the first family that holds the text, with raw offsets in quarters of an
 -- hour
 abbrev pub first_family : List ℕ → Option FamilyAnswer
-first_family = first_family_by is_raw_offset
+first_family = first_family_by is_quarter_offset
 
 -- `UnknownFormat` with the text, or `Memory`: with its bytes, or for their copy
 abbrev pub RefusesUnknown : List ℕ → Error → Type 0

@@ -5,7 +5,7 @@ use Rattle.gix_date.specs.Families.Answer.{FamilyAnswer, Absolute, NoInstant, Of
 use Rattle.gix_date.specs.Fields.Civil.{is_date, civil_instant}
 use Rattle.gix_date.specs.Families.Epoch.{utc_time}
 use Rattle.gix_date.specs.Text.Front.{◌>>=◌}
-use Rattle.gix_date.specs.Fields.Layout.{LocalTime, Piece, DayName, MailDayName, MonthName, Day, Year, PlainDate, Clock, MailClock, Spaces, LetterT, Offset, ColonOffset, MailOffset, layout_answer, ArePieces}
+use Rattle.gix_date.specs.Fields.Layout.{LocalTime, Piece, DayName, Rfc2822DayName, MonthName, Day, Year, PlainDate, Clock, Rfc2822Clock, Spaces, LetterT, Offset, ColonOffset, Rfc2822Offset, layout_answer, ArePieces}
 use Rattle.gix_date.specs.declared.time.TheConstants.{MAX_OFFSET_IN_SECONDS}
 use Rattle.gix_date.specs.declared.civil.ClockFields.{ClockFields}
 use Rattle.gix_date.specs.declared.civil.DateFields.{DateFields}
@@ -50,7 +50,7 @@ short_answer text = layout_answer short_layout real_day_answer text
 -- a name
 abbrev pub rfc2822_layout : List Piece
 rfc2822_layout =
-    MailDayName ∷ Day ∷ Spaces ∷ MonthName ∷ Spaces ∷ Year ∷ Spaces ∷ MailClock ∷ Spaces ∷ MailOffset ∷ []
+    Rfc2822DayName ∷ Day ∷ Spaces ∷ MonthName ∷ Spaces ∷ Year ∷ Spaces ∷ Rfc2822Clock ∷ Spaces ∷ Rfc2822Offset ∷ []
 
 -- what `Rfc2822` answers for the text
 unfoldable pub rfc2822_answer : List ℕ → Option FamilyAnswer
@@ -86,7 +86,7 @@ abbrev pub default_layout : List Piece
 default_layout =
     DayName ∷ Spaces ∷ MonthName ∷ Spaces ∷ Day ∷ Spaces ∷ Clock ∷ Spaces ∷ Year ∷ Spaces ∷ Offset ∷ []
 
--- what `GitDefault` answers for the text
+-- what `Default` answers for the text
 unfoldable pub default_answer : List ℕ → Option FamilyAnswer
 default_answer text = layout_answer default_layout time_answer text
 

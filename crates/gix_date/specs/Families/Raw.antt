@@ -27,19 +27,19 @@ abbrev pub OffsetRule : Type 0
 OffsetRule = OffsetFields → Bool
 
 -- quarters of an hour, to 14:45: hours are at most 14, minutes 00, 15, 30 or 45, and seconds, if any, 00
-abbrev pub is_raw_offset : OffsetRule
-is_raw_offset f =
+abbrev pub is_quarter_offset : OffsetRule
+is_quarter_offset f =
     nat_le f.hours max_raw_hours && (f.minutes == 0 || f.minutes == 15 || f.minutes == 30 || f.minutes == 45)
     && unwrap_or f.seconds 0 == 0
 
 -- whole minutes, to 23:59: hours are at most 23, minutes at most 59, and seconds, if any, 00
-abbrev pub is_wide_offset : OffsetRule
-is_wide_offset f = nat_le f.hours max_wide_hours && nat_le f.minutes max_wide_minutes && unwrap_or f.seconds 0 == 0
+abbrev pub is_minute_offset : OffsetRule
+is_minute_offset f = nat_le f.hours max_wide_hours && nat_le f.minutes max_wide_minutes && unwrap_or f.seconds 0 == 0
 
 -- the rule of this name
 abbrev pub allows : RawOffsets → OffsetRule
-allows Quarter = is_raw_offset
-allows WholeMinutes = is_wide_offset
+allows Quarter = is_quarter_offset
+allows WholeMinutes = is_minute_offset
 
 -- the offset that a word writes, if the rule allows its fields
 unfoldable pub raw_offset_by : OffsetRule → List ℕ → Option ℤ
@@ -56,4 +56,4 @@ raw_time_by rule text = do
 
 -- the time of a raw text, by quarters: its offset is quarters of an hour, as gix-date has them
 abbrev pub raw_time : List ℕ → Option Time
-raw_time = raw_time_by is_raw_offset
+raw_time = raw_time_by is_quarter_offset

@@ -3,11 +3,11 @@ use Rattle.std.specs.Prelude.{◌≡◌, ℕ, Bool, false, ◌&&◌, ◌||◌, L
 use Rattle.std.specs.Char.{is_ascii_digit, is_ascii_alphabetic}
 use Rattle.gix_date.specs.Families.Answer.{FamilyAnswer}
 use Rattle.gix_date.specs.Text.Characters.{at_sign, comma, minus, dot, space, letter_t}
-use Rattle.gix_date.specs.Families.Order.{Family, AtText, Short, Rfc2822, Iso8601, Iso8601Strict, Gitoxide, GitDefault, BareEpoch, GitForm, RelativeText, RawText, family_answer, first_answer_of, first_family_by}
+use Rattle.gix_date.specs.Families.Order.{Family, AtText, Short, Rfc2822, Iso8601, Iso8601Strict, Gitoxide, Default, BareEpoch, GitForm, RelativeText, RawText, family_answer, first_answer_of, first_family_by}
 use Rattle.gix_date.specs.Text.Numbers.{int_value}
 use Rattle.gix_date.specs.Families.Raw.{OffsetRule}
 use Rattle.gix_date.specs.declared.parsing.shape.Shape.{Shape}
-use Rattle.gix_date.specs.declared.parsing.shape.Shape.TheVariants.{AtSign, MailDay, NamedDay, Word, DashedDay, GitDay, Count, WholeNumber, Other}
+use Rattle.gix_date.specs.declared.parsing.shape.Shape.TheVariants.{AtSign, Rfc2822Day, NamedDay, Word, DashedDay, GitDay, Count, WholeNumber, Other}
 
 -- the text begins with `@`
 unfoldable pub begins_with_at : List ℕ → Bool
@@ -58,7 +58,7 @@ begins_with_count _ = false
 -- the shape of a text that begins with a letter, by its fourth byte
 unfoldable pub letter_shape : List ℕ → Shape
 letter_shape (_ ∷ _ ∷ _ ∷ fourth ∷ rest) =
-    if fourth == comma then MailDay else if fourth == space then NamedDay else Word
+    if fourth == comma then Rfc2822Day else if fourth == space then NamedDay else Word
 letter_shape _ = Word
 
 -- the shape of a text: the first that fits
@@ -75,8 +75,8 @@ shape_of text =
 -- the families that a shape can have: those that can hold a text of this shape, in their order
 abbrev pub shape_families : Shape → List Family
 shape_families AtSign = AtText ∷ RelativeText ∷ []
-shape_families MailDay = Rfc2822 ∷ RelativeText ∷ []
-shape_families NamedDay = Gitoxide ∷ GitDefault ∷ RelativeText ∷ []
+shape_families Rfc2822Day = Rfc2822 ∷ RelativeText ∷ []
+shape_families NamedDay = Gitoxide ∷ Default ∷ RelativeText ∷ []
 shape_families Word = RelativeText ∷ []
 shape_families DashedDay = Short ∷ Iso8601 ∷ Iso8601Strict ∷ GitForm ∷ RelativeText ∷ []
 shape_families GitDay = GitForm ∷ RelativeText ∷ []
@@ -102,7 +102,7 @@ row_families text =
     else if begins_with_dashed_day text then Short ∷ Iso8601 ∷ Iso8601Strict ∷ GitForm ∷ RelativeText ∷ []
     else if begins_with_dotted_day text then GitForm ∷ RelativeText ∷ []
     else if begins_with_compact_day text then GitForm ∷ RelativeText ∷ []
-    else if begins_with_letter text then Rfc2822 ∷ Gitoxide ∷ GitDefault ∷ RelativeText ∷ []
+    else if begins_with_letter text then Rfc2822 ∷ Gitoxide ∷ Default ∷ RelativeText ∷ []
     else Short ∷ Rfc2822 ∷ Iso8601 ∷ Iso8601Strict ∷ GitForm ∷ RelativeText ∷ RawText ∷ []
 
 -- the table of rows finds the first family: the first family that holds the text is the first of its row's families

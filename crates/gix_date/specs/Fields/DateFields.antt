@@ -92,7 +92,7 @@ read_clock text = do
   read_second clock.0 clock.1
 
 -- `h:m:s`, or else `h:m`
-unfoldable pub read_mail_clock : List ℕ → ReadFront ClockFields
-read_mail_clock text = do
+unfoldable pub read_rfc2822_clock : List ℕ → ReadFront ClockFields
+read_rfc2822_clock text = do
   clock ← read_minutes text
   Some (unwrap_or (read_second clock.0 clock.1) clock)

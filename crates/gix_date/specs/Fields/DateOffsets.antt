@@ -54,14 +54,14 @@ unfoldable pub named_zone : List ℕ → Option ℤ
 named_zone name = named_in zone_names name
 
 -- the whole text is a sign, two digits of hours and two of minutes
-unfoldable pub mail_offset : List ℕ → Option ℤ
-mail_offset text = do
+unfoldable pub rfc2822_offset : List ℕ → Option ℤ
+rfc2822_offset text = do
   fields ← offset_fields text
   if is_some fields.seconds then None else jiff_offset fields
 
 -- the same, or such a name
-unfoldable pub mail_zone : List ℕ → Option ℤ
-mail_zone text = option_or (mail_offset text) (named_zone text)
+unfoldable pub rfc2822_zone : List ℕ → Option ℤ
+rfc2822_zone text = option_or (rfc2822_offset text) (named_zone text)
 
 -- an offset as `+hh:mm`
 abbrev pub strict_offset_text : ℤ → List ℕ

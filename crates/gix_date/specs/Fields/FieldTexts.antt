@@ -94,8 +94,8 @@ pub record IsClock (text : List ℕ) (clock : ClockFields) : Type 0 where
   pub without_leap : clock.second ≡ without_leap_second seconds
 
 -- `h:m:s`, or `h:m`
-abbrev pub IsMailClock : List ℕ → ClockFields → Type 0
-IsMailClock text clock = IsClock text clock ⊎ AreMinutes text clock
+abbrev pub IsRfc2822Clock : List ℕ → ClockFields → Type 0
+IsRfc2822Clock text clock = IsClock text clock ⊎ AreMinutes text clock
 
 -- `Www, `
 pub record IsDayPrefix (text : List ℕ) : Type 0 where

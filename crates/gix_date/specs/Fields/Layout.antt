@@ -3,12 +3,12 @@
 use Rattle.std.specs.Prelude.{◌≡◌, ℕ, ℤ, pos, List, [], ◌∷◌, ◌++◌, ◌⊎◌, if◌then◌else◌, Option, Some, None, unwrap_or}
 use Rattle.gix_date.specs.Text.Characters.{space, comma, letter_t}
 use Rattle.gix_date.specs.Text.Front.{ReadFront, skip_char, ◌>>=◌}
-use Rattle.gix_date.specs.Fields.FieldTexts.{IsField, IsYear, AreSpaces, IsDayName, IsMonthName, IsPlainDate, IsClock, IsMailClock, IsDayPrefix, four_digits, date_text, clock_text}
+use Rattle.gix_date.specs.Fields.FieldTexts.{IsField, IsYear, AreSpaces, IsDayName, IsMonthName, IsPlainDate, IsClock, IsRfc2822Clock, IsDayPrefix, four_digits, date_text, clock_text}
 use Rattle.gix_date.specs.Fields.Offsets.{compact_offset_text}
 use Rattle.gix_date.specs.Text.Names.{day_name, month_name}
 use Rattle.gix_date.specs.Text.Numbers.{read_field, read_year}
-use Rattle.gix_date.specs.Fields.DateFields.{skip_day_name, skip_spaces, skip_weekday, read_month, read_plain_date, read_clock, read_mail_clock}
-use Rattle.gix_date.specs.Fields.DateOffsets.{compact_offset, strict_offset, mail_zone, strict_offset_text}
+use Rattle.gix_date.specs.Fields.DateFields.{skip_day_name, skip_spaces, skip_weekday, read_month, read_plain_date, read_clock, read_rfc2822_clock}
+use Rattle.gix_date.specs.Fields.DateOffsets.{compact_offset, strict_offset, rfc2822_zone, strict_offset_text}
 use Rattle.gix_date.specs.Text.SpaceWords.{is_nonempty}
 use Rattle.gix_date.specs.declared.civil.ClockFields.{ClockFields}
 use Rattle.gix_date.specs.declared.civil.DateFields.{DateFields}
@@ -33,7 +33,7 @@ pub data Piece : Type 0 where
   -- `Www`
   DayName : Piece
   -- `Www, `, which may be left out
-  MailDayName : Piece
+  Rfc2822DayName : Piece
   -- `Mmm`
   MonthName : Piece
   -- the day of the month, one digit or two
@@ -45,7 +45,7 @@ pub data Piece : Type 0 where
   -- `h:m:s`
   Clock : Piece
   -- `h:m:s` or `h:m`
-  MailClock : Piece
+  Rfc2822Clock : Piece
   -- one space or more
   Spaces : Piece
   -- `T`
@@ -55,26 +55,26 @@ pub data Piece : Type 0 where
   -- `+hh:mm`, or with seconds
   ColonOffset : Piece
   -- `+hhmm`, or a zone's name
-  MailOffset : Piece
+  Rfc2822Offset : Piece
 
 -- How a piece is read off the front of a text: `t` is what was read before it, and the answer is `t` with what the
 -- piece tells, and the rest of the text. A day's name may be any and is not kept; an offset is all that is left of the
 -- text.
 abbrev pub read_piece : Piece → LocalTime → List ℕ → ReadFront LocalTime
 read_piece DayName t text = skip_weekday text >>= λ rest. Some (t, rest)
-read_piece MailDayName t text = Some (t, unwrap_or (skip_day_name text) text)
+read_piece Rfc2822DayName t text = Some (t, unwrap_or (skip_day_name text) text)
 read_piece MonthName t text =
     read_month text >>= λ month. Some (record t { date = record t.date { month = month.0 } }, month.1)
 read_piece Day t text = read_field text >>= λ day. Some (record t { date = record t.date { day = day.0 } }, day.1)
 read_piece Year t text = read_year text >>= λ year. Some (record t { date = record t.date { year = year.0 } }, year.1)
 read_piece PlainDate t text = read_plain_date text >>= λ date. Some (record t { date = date.0 }, date.1)
 read_piece Clock t text = read_clock text >>= λ clock. Some (record t { clock = clock.0 }, clock.1)
-read_piece MailClock t text = read_mail_clock text >>= λ clock. Some (record t { clock = clock.0 }, clock.1)
+read_piece Rfc2822Clock t text = read_rfc2822_clock text >>= λ clock. Some (record t { clock = clock.0 }, clock.1)
 read_piece Spaces t text = skip_spaces text >>= λ rest. Some (t, rest)
 read_piece LetterT t text = skip_char letter_t text >>= λ rest. Some (t, rest)
 read_piece Offset t text = compact_offset text >>= λ offset. Some (record t { offset = offset }, [])
 read_piece ColonOffset t text = strict_offset text >>= λ offset. Some (record t { offset = offset }, [])
-read_piece MailOffset t text = mail_zone text >>= λ offset. Some (record t { offset = offset }, [])
+read_piece Rfc2822Offset t text = rfc2822_zone text >>= λ offset. Some (record t { offset = offset }, [])
 
 -- pieces, one after the other, and nothing after the last
 abbrev pub read_pieces : List Piece → LocalTime → List ℕ → Option LocalTime
@@ -97,18 +97,18 @@ layout_answer layout answer text = read_pieces layout nothing_read text >>= answ
 -- the text is this piece of the time
 abbrev pub IsPiece : Piece → LocalTime → List ℕ → Type 0
 IsPiece DayName t text = IsDayName text
-IsPiece MailDayName t text = (text ≡ []) ⊎ IsDayPrefix text
+IsPiece Rfc2822DayName t text = (text ≡ []) ⊎ IsDayPrefix text
 IsPiece MonthName t text = IsMonthName text t.date.month
 IsPiece Day t text = IsField text t.date.day
 IsPiece Year t text = IsYear text t.date.year
 IsPiece PlainDate t text = IsPlainDate text t.date
 IsPiece Clock t text = IsClock text t.clock
-IsPiece MailClock t text = IsMailClock text t.clock
+IsPiece Rfc2822Clock t text = IsRfc2822Clock text t.clock
 IsPiece Spaces t text = AreSpaces text
 IsPiece LetterT t text = text ≡ letter_t ∷ []
 IsPiece Offset t text = compact_offset text ≡ Some t.offset
 IsPiece ColonOffset t text = strict_offset text ≡ Some t.offset
-IsPiece MailOffset t text = mail_zone text ≡ Some t.offset
+IsPiece Rfc2822Offset t text = rfc2822_zone text ≡ Some t.offset
 
 -- the text begins with this piece of such a time, and the rest is more
 pub record BeginsWith (piece : Piece) (t : LocalTime) (IsMore : List ℕ → Type 0) (text : List ℕ) : Type 0 where
@@ -126,18 +126,18 @@ ArePieces (piece ∷ pieces) t text = BeginsWith piece t (ArePieces pieces t) te
 -- how this piece of such a time is printed, with the day of the month by `day`
 abbrev pub print_piece : (ℕ → List ℕ) → Piece → LocalTime → List ℕ
 print_piece day DayName t = day_name t.weekday
-print_piece day MailDayName t = day_name t.weekday ++ comma ∷ space ∷ []
+print_piece day Rfc2822DayName t = day_name t.weekday ++ comma ∷ space ∷ []
 print_piece day MonthName t = month_name t.date.month
 print_piece day Day t = day t.date.day
 print_piece day Year t = four_digits t.date.year
 print_piece day PlainDate t = date_text t.date
 print_piece day Clock t = clock_text t.clock
-print_piece day MailClock t = clock_text t.clock
+print_piece day Rfc2822Clock t = clock_text t.clock
 print_piece day Spaces t = space ∷ []
 print_piece day LetterT t = letter_t ∷ []
 print_piece day Offset t = compact_offset_text t.offset
 print_piece day ColonOffset t = strict_offset_text t.offset
-print_piece day MailOffset t = compact_offset_text t.offset
+print_piece day Rfc2822Offset t = compact_offset_text t.offset
 
 -- the printed pieces of a time: one after the other, with the day of the month by `day`
 abbrev pub print_pieces : (ℕ → List ℕ) → List Piece → LocalTime → List ℕ

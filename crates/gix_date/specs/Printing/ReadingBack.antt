@@ -42,7 +42,7 @@ pub record RoundTripsByEach (rule : OffsetRule) (t : Time) : Type 0 where
   pub rfc2822 : RoundTripsBy rule rfc2822_pattern rfc2822_text t
   pub git_rfc2822 : RoundTripsBy rule git_rfc2822_pattern git_rfc2822_text t
   pub gitoxide : RoundTripsBy rule gitoxide_pattern gitoxide_text t
-  pub by_default : RoundTripsBy rule default_pattern default_text t
+  pub default : RoundTripsBy rule default_pattern default_text t
 
 -- each time that `RoundTrips` is read back: from each of the six named formats that have a clock
 abbrev pub TimesRoundTrip : OffsetRule → Type 0
@@ -66,19 +66,19 @@ RoundTripsByPattern rule t =
     → RoundTripsAs rule t result
 
 -- quarters of an hour, below 15 hours: the offset, either way
-pub record IsRawOffset (offset : ℤ) : Type 0 where
+pub record IsQuarterOffset (offset : ℤ) : Type 0 where
   pub quarters : unsigned_abs offset % 900 ≡ 0
   pub short : unsigned_abs offset < 54_000
 
 -- whole minutes, below a day: the offset, either way
-pub record IsWideOffset (offset : ℤ) : Type 0 where
+pub record IsMinuteOffset (offset : ℤ) : Type 0 where
   pub minutes : unsigned_abs offset % seconds_per_minute ≡ 0
   pub short : unsigned_abs offset < seconds_per_day
 
 -- the rule of this name allows the offset: the offset of a raw text
 abbrev pub IsRuleOffset : RawOffsets → ℤ → Type 0
-IsRuleOffset Quarter = IsRawOffset
-IsRuleOffset WholeMinutes = IsWideOffset
+IsRuleOffset Quarter = IsQuarterOffset
+IsRuleOffset WholeMinutes = IsMinuteOffset
 
 -- the midnight of the shown day: in UTC, of the day that the time's own clock shows
 abbrev pub midnight_of : Time → ℤ

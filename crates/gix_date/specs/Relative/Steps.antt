@@ -2,7 +2,7 @@
 use Rattle.std.specs.Prelude.{◌≡◌, ◌+◌, ℤ, pos, ◌+ℤ◌, ◌-ℤ◌, ◌*ℤ◌, unsigned_abs, FitsSigned, List, [], ◌∷◌, Option, Some, None}
 use Rattle.std.specs.Int.{w64, int_div_euclid, int_rem_euclid}
 use Rattle.jiff.specs.Words.{plain_zoned, offset_at, picked_instant, civil_nanos, nanos_of_seconds, time_nanos, month_number, IsTimestampNanos, IsYear, zoned_nanos}
-use Rattle.jiff.specs.Types.{TimeZone, DateTime, Date, Time, Timestamp}
+use Rattle.jiff.specs.Types.{TimeZone, DateTime, Date, Time as TimeOfDay, Timestamp}
 use Rattle.jiff.specs.declared.zoned.Zoned.{Zoned}
 use Rattle.jiff_core.specs.Calendar.{days_from_civil}
 use Rattle.gix_date.specs.declared.parsing.relative.words.TimeUnit.{TimeUnit}
@@ -17,7 +17,7 @@ abbrev pub IsLocal : TimeZone → ℤ → DateTime → Type 0
 IsLocal tz instant shown = civil_nanos shown ≡ instant +ℤ nanos_of_seconds (offset_at tz instant)
 
 -- nanoseconds of a day and a time of day
-abbrev pub civil_of : ℤ → Time → ℤ
+abbrev pub civil_of : ℤ → TimeOfDay → ℤ
 civil_of day time = day *ℤ pos 86_400_000_000_000 +ℤ pos (time_nanos time)
 
 -- the zone chooses this instant for a clock: for the date and clock of these nanoseconds

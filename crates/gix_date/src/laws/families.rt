@@ -1,18 +1,18 @@
 //! Laws of families: how formatted dates are written, which families share texts, and whose answer comes first.
 ghost use Rattle.gix_date.specs.Families.Laws.{AreDisjoint, AreExclusive};
-ghost use Rattle.gix_date.specs.Families.Raw.{allows, is_raw_offset, is_wide_offset};
+ghost use Rattle.gix_date.specs.Families.Raw.{allows, is_quarter_offset, is_minute_offset};
 
 use crate::parsing::raw::RawOffsets;
 
 /// No text is of two of these families: raw texts, bare epochs and Git's own forms. No raw text or bare epoch is
 /// relative.
 pub fn disjoint(text: &str)
-    ensures { AreDisjoint is_raw_offset text.now }
+    ensures { AreDisjoint is_quarter_offset text.now }
 {}
 
 /// The same where raw texts have offsets of whole minutes up to 23:59.
 pub fn disjoint_wide(text: &str)
-    ensures { AreDisjoint is_wide_offset text.now }
+    ensures { AreDisjoint is_minute_offset text.now }
 {}
 
 /// A text of one family is of no other family, unless the two overlap, by either rule for raw offsets. Git's own forms

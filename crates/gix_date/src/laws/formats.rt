@@ -1,5 +1,5 @@
 //! Laws of what is printed: the named formats, their texts, and what is parsed back.
-ghost use Rattle.gix_date.specs.Families.Raw.{is_raw_offset, is_wide_offset};
+ghost use Rattle.gix_date.specs.Families.Raw.{is_quarter_offset, is_minute_offset};
 ghost use Rattle.gix_date.specs.Printing.ReadingBack.{RoundTrips, RoundTripsByEach, RoundTripsByPattern, HeaderRoundTrips, SecondsRoundTrip};
 ghost use Rattle.gix_date.specs.declared.parsing.raw.RawOffsets.TheVariants.{Quarter, WholeMinutes};
 
@@ -10,15 +10,15 @@ use crate::time::Time;
 /// whole minutes within 23:59.
 pub fn read_back(time: Time)
     requires { RoundTrips time }
-    ensures formats { RoundTripsByEach is_raw_offset time }
-    ensures texts { RoundTripsByPattern is_raw_offset time }
+    ensures formats { RoundTripsByEach is_quarter_offset time }
+    ensures texts { RoundTripsByPattern is_quarter_offset time }
 {}
 
 /// The same of `parse_with`, where raw texts have offsets of whole minutes up to 23:59.
 pub fn read_back_wide(time: Time)
     requires { RoundTrips time }
-    ensures formats { RoundTripsByEach is_wide_offset time }
-    ensures texts { RoundTripsByPattern is_wide_offset time }
+    ensures formats { RoundTripsByEach is_minute_offset time }
+    ensures texts { RoundTripsByPattern is_minute_offset time }
 {}
 
 /// The header text of a time whose offset is quarters of an hour up to 14:45 is parsed back to it. The decimal text of

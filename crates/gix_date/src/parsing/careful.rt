@@ -21,7 +21,7 @@ use crate::parsing::patterns::parse_unzoned_day;
 use crate::parsing::raw::{RawOffsets, parse_raw};
 use crate::parsing::relative::careful::unclear_place;
 use crate::parsing::relative::steps::to_instant;
-use crate::parsing::relative::{Relative, time_of};
+use crate::parsing::relative::{Relative, time_of_moment};
 use crate::time::{SECONDS_PER_DAY, Time};
 use jiff::tz::Offset;
 use jiff::{Timestamp, Zoned};
@@ -368,7 +368,7 @@ pub fn time_in_zone(time: Time, moment: Zoned<'_>) -> Option<Time>
     };
     let shown = Offset::UTC.to_datetime(instant);
     match to_instant(shown.date(), shown.time(), moment.time_zone()) {
-        Some(local) => Some(time_of(local)),
+        Some(local) => Some(time_of_moment(local)),
         None => None,
     }
 }

@@ -164,7 +164,7 @@ fn answer_by_shape<'a>(shape: Shape, input: &'a str, raw: RawOffsets) -> Option<
 {
     match shape {
         Shape::AtSign => first_of!(at_answer(input, raw), relative_answer(input)),
-        Shape::MailDay => first_of!(parse_rfc2822(input), relative_answer(input)),
+        Shape::Rfc2822Day => first_of!(parse_rfc2822(input), relative_answer(input)),
         Shape::NamedDay => first_of!(parse_named_day(input), relative_answer(input)),
         Shape::Word => relative_answer(input),
         Shape::DashedDay => {

@@ -10,7 +10,7 @@ use crate::parsing::numbers::{read_field, read_two_digits, read_year, skip_digit
 use crate::parsing::patterns::fields::{
     read_clock, read_month, read_plain_date, skip_spaces, skip_weekday,
 };
-use crate::parsing::patterns::offset::{parse_date_offset, parse_mail_zone};
+use crate::parsing::patterns::offset::{parse_date_offset, parse_rfc2822_zone};
 use crate::parsing::patterns::skip_day_name;
 use crate::time::{MAX_HOUR, MAX_MINUTE, MAX_SECOND};
 
@@ -132,7 +132,7 @@ fn rfc2822_left(text: &str) -> &str
     let Some(rest) = skip_spaces(rest) else {
         return rest;
     };
-    if parse_mail_zone(rest).is_some() {
+    if parse_rfc2822_zone(rest).is_some() {
         text
     } else {
         rest

@@ -3,7 +3,7 @@ ghost use Rattle.std.specs.Prelude.{◌≡◌, IfSome, [], ◌∷◌, option_map
 ghost use Rattle.gix_date.specs.Careful.Dates.{unzoned_day};
 ghost use Rattle.gix_date.specs.Fields.DateFields.{skip_day_name};
 ghost use Rattle.gix_date.specs.Families.Patterns.{real_day_answer, time_answer, date_answer, rfc2822_answer};
-ghost use Rattle.gix_date.specs.Fields.Layout.{Spaces, Year, Clock, MailClock, Offset, MailOffset, LetterT, ColonOffset};
+ghost use Rattle.gix_date.specs.Fields.Layout.{Spaces, Year, Clock, Rfc2822Clock, Offset, Rfc2822Offset, LetterT, ColonOffset};
 ghost use Rattle.gix_date.specs.Families.AfterDay.{answer_after, dashed_answer, read_named_day, named_day_answer};
 ghost use Rattle.gix_date.specs.Fields.Civil.{DateFits, ClockFits};
 ghost use Rattle.jiff.specs.Words.{IsOffsetSeconds};
@@ -17,7 +17,7 @@ use crate::parsing::numbers::{read_field, read_year};
 use crate::parsing::patterns::fields::{
     read_clock, read_month, read_plain_date, skip_spaces, skip_weekday,
 };
-use crate::parsing::patterns::offset::{parse_date_offset, parse_mail_zone};
+use crate::parsing::patterns::offset::{parse_date_offset, parse_rfc2822_zone};
 use crate::time::{MAX_OFFSET_IN_SECONDS, OffsetInSeconds, Time};
 
 pub(crate) mod fields;
@@ -81,19 +81,19 @@ pub(crate) fn parse_rfc2822(text: &str) -> Option<Answer<'static>>
     let (day, rest) = read_field(date)?;
     let (month, rest) = read_month(skip_spaces(rest)?)?;
     let (year, rest) = read_year(skip_spaces(rest)?)?;
-    mail_after(DateFields { year, month, day }, skip_spaces(rest)?)
+    rfc2822_after(DateFields { year, month, day }, skip_spaces(rest)?)
 }
 
 /// What an RFC 2822 date answers, after its year.
 #[inline(always)]
-fn mail_after(date: DateFields, rest: &str) -> Option<Answer<'static>>
+fn rfc2822_after(date: DateFields, rest: &str) -> Option<Answer<'static>>
     requires { DateFits date }
     ensures answer { option_map answer_of result
-        ≡ answer_after (MailClock ∷ Spaces ∷ MailOffset ∷ []) time_answer date rest.now }
+        ≡ answer_after (Rfc2822Clock ∷ Spaces ∷ Rfc2822Offset ∷ []) time_answer date rest.now }
     ensures offset_fits { IfSome result HasJiffOffset }
 {
     let (clock, rest) = read_clock(true, rest)?;
-    let offset = parse_mail_zone(skip_spaces(rest)?)?;
+    let offset = parse_rfc2822_zone(skip_spaces(rest)?)?;
     date_answer(date, clock, offset)
 }
 

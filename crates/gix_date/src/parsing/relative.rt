@@ -96,7 +96,7 @@ impl<'a> Relative<'a> {
         ensures offset_fits { IfSome result (λ t. IsOffsetSeconds t.offset) }
     {
         let instant = self.instant(moment)?;
-        Some(time_of(instant))
+        Some(time_of_moment(instant))
     }
 
     /// The time that is asked for from a moment whose zone has this offset alone, without a zoned value for each step.
@@ -149,7 +149,7 @@ fn subtract_pairs<'a>(start: Zoned<'a>, text: &str) -> Option<Zoned<'a>>
 }
 
 /// The time of a moment: whole seconds, towards 1970, and the offset of its zone there.
-pub(crate) fn time_of(moment: Zoned<'_>) -> Time
+pub(crate) fn time_of_moment(moment: Zoned<'_>) -> Time
     ensures seconds { result.seconds ≡ whole_seconds (zoned_nanos moment.entry) }
     ensures offset { result.offset ≡ offset_at (zone_of moment.entry) (zoned_nanos moment.entry) }
     ensures offset_fits { IsOffsetSeconds result.offset }

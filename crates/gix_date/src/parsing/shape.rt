@@ -10,7 +10,7 @@ pub(crate) enum Shape {
     /// Begins with `@`.
     AtSign,
     /// Begins with an ASCII letter, and its fourth byte is a comma: `Thu,`.
-    MailDay,
+    Rfc2822Day,
     /// Begins with an ASCII letter, and its fourth byte is a space: `Thu Aug`.
     NamedDay,
     /// Begins with an ASCII letter, and has neither there.
@@ -37,7 +37,7 @@ impl Shape {
         let bytes = text.as_bytes();
         match bytes {
             [b'@', ..] => return Shape::AtSign,
-            [a, _, _, b',', ..] if a.is_ascii_alphabetic() => return Shape::MailDay,
+            [a, _, _, b',', ..] if a.is_ascii_alphabetic() => return Shape::Rfc2822Day,
             [a, _, _, b' ', ..] if a.is_ascii_alphabetic() => return Shape::NamedDay,
             [a, ..] if a.is_ascii_alphabetic() => return Shape::Word,
             _ => {}

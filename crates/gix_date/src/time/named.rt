@@ -317,7 +317,7 @@ fn push_from_month(text: &mut NamedText, t: LocalMoment)
 
 /// `Www, `.
 #[inline(always)]
-fn push_mail_name(text: &mut NamedText, weekday: u8)
+fn push_rfc2822_name(text: &mut NamedText, weekday: u8)
     requires empty { text.old.bytes ≡ [] }
     requires weekday { weekday < 7 }
     ensures bytes { text.new.bytes ≡ day_name weekday ++ comma ∷ space ∷ [] }
@@ -329,24 +329,24 @@ fn push_mail_name(text: &mut NamedText, weekday: u8)
 
 /// `Www, DD Mmm YYYY hh:mm:ss +hhmm`.
 #[inline(always)]
-fn push_mail(text: &mut NamedText, t: LocalMoment)
+fn push_rfc2822(text: &mut NamedText, t: LocalMoment)
     requires empty { text.old.bytes ≡ [] }
     requires fields { HasFields t }
     ensures { text.new.bytes ≡ rfc2822_text (local_of t) }
 {
-    push_mail_name(text, t.weekday);
+    push_rfc2822_name(text, t.weekday);
     push_two_digits(text, t.date.day);
     push_from_month(text, t);
 }
 
 /// The same with no zero before the day.
 #[inline(always)]
-fn push_git_mail(text: &mut NamedText, t: LocalMoment)
+fn push_git_rfc2822(text: &mut NamedText, t: LocalMoment)
     requires empty { text.old.bytes ≡ [] }
     requires fields { HasFields t }
     ensures { text.new.bytes ≡ git_rfc2822_text (local_of t) }
 {
-    push_mail_name(text, t.weekday);
+    push_rfc2822_name(text, t.weekday);
     push_day(text, t.date.day);
     push_from_month(text, t);
 }
@@ -396,7 +396,7 @@ fn push_from_clock(text: &mut NamedText, t: LocalMoment)
 
 /// `Www Mmm D hh:mm:ss YYYY +hhmm`.
 #[inline(always)]
-fn push_git(text: &mut NamedText, t: LocalMoment)
+fn push_default(text: &mut NamedText, t: LocalMoment)
     requires empty { text.old.bytes ≡ [] }
     requires fields { HasFields t }
     ensures { text.new.bytes ≡ default_text (local_of t) }
@@ -417,10 +417,10 @@ fn push_named(text: &mut NamedText, pattern: &str, t: LocalMoment) -> Option<()>
         SHORT_PATTERN => push_date(text, t.date),
         ISO8601_PATTERN => push_iso8601(text, t),
         ISO8601_STRICT_PATTERN => push_iso8601_strict(text, t),
-        RFC2822_PATTERN => push_mail(text, t),
-        GIT_RFC2822_PATTERN => push_git_mail(text, t),
+        RFC2822_PATTERN => push_rfc2822(text, t),
+        GIT_RFC2822_PATTERN => push_git_rfc2822(text, t),
         GITOXIDE_PATTERN => push_gitoxide(text, t),
-        DEFAULT_PATTERN => push_git(text, t),
+        DEFAULT_PATTERN => push_default(text, t),
         _ => return None,
     }
     Some(())

@@ -5,7 +5,7 @@ ghost use Rattle.gix_date.specs.Text.Characters.{is_space};
 ghost use Rattle.gix_date.specs.Fields.FieldTexts.{AreThreeLetters};
 ghost use Rattle.gix_date.specs.Fields.Civil.{DateFits, ClockFits};
 ghost use Rattle.gix_date.specs.Text.Front.{read_view};
-ghost use Rattle.gix_date.specs.Fields.DateFields.{skip_spaces, month_named, is_weekday, read_month, skip_weekday, read_plain_date, read_second, read_clock, read_mail_clock, without_leap_second};
+ghost use Rattle.gix_date.specs.Fields.DateFields.{skip_spaces, month_named, is_weekday, read_month, skip_weekday, read_plain_date, read_second, read_clock, read_rfc2822_clock, without_leap_second};
 
 use crate::civil::{ClockFields, DateFields};
 use crate::parsing::fields::{read_colon_clock, read_marked_date, skip_char};
@@ -174,8 +174,8 @@ fn without_leap_second(second: u8) -> u8
 /// An hour, a minute and a second, nearly always of two digits each. In RFC 2822 the second may be left out.
 #[tactic(auto, unfolding(crate::specs::Computing::computing, crate::specs::Fields::DateFields::read_colon_clock))]
 #[inline(always)]
-pub(crate) fn read_clock(is_mail: bool, text: &str) -> Option<(ClockFields, &str)>
-    ensures value { read_view result ≡ (if is_mail then read_mail_clock text.now else read_clock text.now) }
+pub(crate) fn read_clock(is_rfc2822: bool, text: &str) -> Option<(ClockFields, &str)>
+    ensures value { read_view result ≡ (if is_rfc2822 then read_rfc2822_clock text.now else read_clock text.now) }
     ensures fits { IfSome result (λ found. ClockFits found.0) }
 {
     if let Some((clock, rest)) = read_colon_clock(text) {
@@ -191,7 +191,7 @@ pub(crate) fn read_clock(is_mail: bool, text: &str) -> Option<(ClockFields, &str
         second,
     };
     match read_second(clock, rest) {
-        None if is_mail => Some((clock, rest)),
+        None if is_rfc2822 => Some((clock, rest)),
         found => found,
     }
 }

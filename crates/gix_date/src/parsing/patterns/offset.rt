@@ -1,7 +1,7 @@
 //! The offsets of formatted dates. Each reader takes a whole text.
 ghost use Rattle.std.specs.Prelude.{◌≡◌, IfSome, if◌then◌else◌};
 ghost use Rattle.jiff.specs.Words.{IsOffsetSeconds};
-ghost use Rattle.gix_date.specs.Fields.DateOffsets.{compact_offset, strict_offset, mail_zone, mail_offset, named_zone, jiff_offset};
+ghost use Rattle.gix_date.specs.Fields.DateOffsets.{compact_offset, strict_offset, rfc2822_zone, rfc2822_offset, named_zone, jiff_offset};
 
 use crate::parsing::offset::{OffsetFields, parse_offset_fields};
 use crate::time::{MAX_MINUTE, MAX_SECOND, OffsetInSeconds, SECONDS_PER_HOUR};
@@ -33,23 +33,23 @@ pub(crate) fn parse_date_offset(colons: bool, text: &str) -> Option<OffsetInSeco
 }
 
 /// A sign, two digits of hours and two of minutes, or else the name of a zone.
-#[tactic(auto, unfolding(crate::specs::Fields::DateOffsets::mail_zone))]
+#[tactic(auto, unfolding(crate::specs::Fields::DateOffsets::rfc2822_zone))]
 #[inline(always)]
-pub(crate) fn parse_mail_zone(text: &str) -> Option<OffsetInSeconds>
-    ensures value { result ≡ mail_zone text.now }
+pub(crate) fn parse_rfc2822_zone(text: &str) -> Option<OffsetInSeconds>
+    ensures value { result ≡ rfc2822_zone text.now }
     ensures offset_fits { IfSome result (λ offset. IsOffsetSeconds offset) }
 {
-    if let Some(offset) = parse_mail_offset(text) {
+    if let Some(offset) = parse_rfc2822_offset(text) {
         return Some(offset);
     }
     named_zone(text)
 }
 
 /// A sign, two digits of hours and two of minutes.
-#[tactic(auto, unfolding(crate::specs::Fields::DateOffsets::mail_offset))]
+#[tactic(auto, unfolding(crate::specs::Fields::DateOffsets::rfc2822_offset))]
 #[inline(always)]
-fn parse_mail_offset(text: &str) -> Option<OffsetInSeconds>
-    ensures value { result ≡ mail_offset text.now }
+fn parse_rfc2822_offset(text: &str) -> Option<OffsetInSeconds>
+    ensures value { result ≡ rfc2822_offset text.now }
     ensures offset_fits { IfSome result (λ offset. IsOffsetSeconds offset) }
 {
     let fields = parse_offset_fields(false, text)?;

@@ -9,7 +9,7 @@ ghost use Rattle.gix_date.specs.Relative.Words.{relative_words};
 use crate::parsing::relative::pairs::{Pair, next_pair};
 use crate::parsing::relative::steps::{day_from, first_day_of, month_number};
 use crate::parsing::relative::words::TimeUnit;
-use jiff::civil::{Date, Time};
+use jiff::civil::{Date, Time as TimeOfDay};
 use jiff::tz::Offset;
 use jiff::{SignedDuration, Timestamp};
 
@@ -59,7 +59,7 @@ fn subtract_months(instant: Timestamp, offset: Offset, months: i64) -> Option<Ti
 }
 
 /// The instant at which a clock at the offset shows a date and a time of day.
-fn to_instant(date: Date, time: Time, offset: Offset) -> Option<Timestamp>
+fn to_instant(date: Date, time: TimeOfDay, offset: Offset) -> Option<Timestamp>
     ensures some { IsSome result
         ↔ IsTimestampNanos (civil_of (epoch_day date) time -ℤ nanos_of_seconds offset.seconds) }
     ensures value { IfSome result

@@ -9,7 +9,7 @@ ghost use Rattle.gix_date.specs.Relative.Steps.{zone_of, Resolves, SecondsStep, 
 use crate::parsing::relative::pairs::Pair;
 use crate::parsing::relative::words::{MONTHS_PER_YEAR, TimeUnit};
 use crate::time::SECONDS_PER_DAY;
-use jiff::civil::{Date, Time};
+use jiff::civil::{Date, Time as TimeOfDay};
 use jiff::tz::TimeZone;
 use jiff::{SignedDuration, Zoned};
 
@@ -20,7 +20,7 @@ pub(crate) struct Fields {
     month_number: i64,
     /// From 1 to 31.
     day: i8,
-    time: Time,
+    time: TimeOfDay,
 }
 
 impl<'a> From<Zoned<'a>> for Fields {
@@ -147,7 +147,7 @@ pub(crate) fn day_from(first: Date, day: i8) -> Option<Date>
 
 /// The instant that a zone chooses for a date and a time of day.
 #[inline(always)]
-pub(crate) fn to_instant<'a>(date: Date, time: Time, zone: TimeZone<'a>) -> Option<Zoned<'a>>
+pub(crate) fn to_instant<'a>(date: Date, time: TimeOfDay, zone: TimeZone<'a>) -> Option<Zoned<'a>>
     ensures instant { IsAt (IsPicked (plain_zone zone.entry) (civil_of (epoch_day date) time)) result }
     ensures zone { IfSome result (λ r. zone_of r ≡ plain_zone zone.entry) }
 {

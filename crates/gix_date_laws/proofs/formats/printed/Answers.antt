@@ -21,5 +21,5 @@ returns-clause-iso8601_strict c = printed-as iso8601_strict_pattern iso8601_stri
 pub returns-clause-gitoxide : goal.returns-clause-gitoxide
 returns-clause-gitoxide c = printed-as gitoxide_pattern gitoxide_text formats_printed.gitoxide.only c.args.time
 
-pub returns-clause-by_default : goal.returns-clause-by_default
-returns-clause-by_default c = printed-as default_pattern default_text formats_printed.by_default.only c.args.time
+pub returns-clause-default : goal.returns-clause-default
+returns-clause-default c = printed-as default_pattern default_text formats_printed.default.only c.args.time

@@ -1,5 +1,5 @@
 use Rattle.std.proofs.Common.{rules, FitsSigned, w64}
-use Rattle.gix_date.specs.Families.Raw.{is_wide_offset}
+use Rattle.gix_date.specs.Families.Raw.{is_minute_offset}
 use Rattle.gix_date.proofs.Printing.RawBack.{wide-back, seconds-back}
 use Rattle.gix_date.proofs.laws.formats.raw_read_back_wide.Goals as goal
 
@@ -7,4 +7,4 @@ pub returns-clause-header : goal.returns-clause-header
 returns-clause-header c raw = (let f : FitsSigned w64 c.args.time.seconds = search rules in wide-back c.args.time f raw)
 
 pub returns-clause-seconds : goal.returns-clause-seconds
-returns-clause-seconds c h = (let f : FitsSigned w64 c.args.time.seconds = search rules in seconds-back is_wide_offset c.args.time.seconds f h)
+returns-clause-seconds c h = (let f : FitsSigned w64 c.args.time.seconds = search rules in seconds-back is_minute_offset c.args.time.seconds f h)

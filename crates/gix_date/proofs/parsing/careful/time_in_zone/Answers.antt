@@ -24,9 +24,9 @@ returns-in-Some c =
     let shown : civil_nanos c.to_datetime-shown.result ≡ nanos_of_seconds seconds = omega (arith, signed_arith, dt, at) in
     let zone : plain_zone c.time_zone.result ≡ zone_of c.args.moment = c.time_zone.ensures in
     let picked = subst (λ (tz : TimeZone). IsPicked tz (civil_of (epoch_day c.date.result) c.time.result) (zoned_nanos c.in-Some.local)) zone c.in-Some.ensures.instant in
-    let offset = c.time_of.ensures.offset ∙ ap (λ (tz : TimeZone). offset_at tz (zoned_nanos c.in-Some.local)) (c.in-Some.ensures.zone ∙ zone) in
-    local-is (zone_of c.args.moment) c.args.time c.time_of.result c.to_datetime-shown.result c.date.result c.time.result (zoned_nanos c.in-Some.local) shown (sym c.date.ensures) (sym c.time.ensures)
-    picked c.time_of.ensures.seconds offset
+    let offset = c.time_of_moment.ensures.offset ∙ ap (λ (tz : TimeZone). offset_at tz (zoned_nanos c.in-Some.local)) (c.in-Some.ensures.zone ∙ zone) in
+    local-is (zone_of c.args.moment) c.args.time c.time_of_moment.result c.to_datetime-shown.result c.date.result c.time.result (zoned_nanos c.in-Some.local) shown (sym c.date.ensures) (sym c.time.ensures)
+    picked c.time_of_moment.ensures.seconds offset
 
 pub returns-in-None : goal.returns-in-None
 returns-in-None c =

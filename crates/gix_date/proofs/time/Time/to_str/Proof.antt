@@ -1,4 +1,4 @@
--- `to_str` passes its buffer and its time on to `TimeBuf::text_of`, and its result to `or_too_wide`. What `text_of`
+-- `to_str` passes its buffer and its time on to `TimeBuf::write_text`, and its result to `or_too_wide`. What `write_text`
 -- promises of `ok_or result OffsetTooWide` is what `to_str` promises of its result.
 use Rattle.std.proofs.Common.{[], ◌∷◌, refl, sym}
 use Rattle.std.proofs.raw_atomic.Walks.{proved, leaves}
@@ -37,8 +37,8 @@ use Rattle.gix_date.specs.contracts.parsing.TimeBuf as TimeBuf
 use Rattle.gix_date.specs.contracts.time.Time.to_str as f
 use Rattle.gix_date.proofs.time.Time.to_str.Statement.{statement}
 use Rattle.gix_date.proofs.time.Time.to_str.Code as code
-use Rattle.gix_date.specs.contracts.parsing.TimeBuf.text_of as g
-use Rattle.gix_date.proofs.parsing.TimeBuf.text_of.Met.{met}
+use Rattle.gix_date.specs.contracts.parsing.TimeBuf.write_text as g
+use Rattle.gix_date.proofs.parsing.TimeBuf.write_text.Met.{met}
 use Rattle.gix_date.specs.contracts.parsing.or_too_wide as h
 use Rattle.gix_date.proofs.parsing.or_too_wide.Met.{met as met-h}
 
@@ -70,7 +70,7 @@ to_str_spec 𝓤 𝓛 𝓜 𝓡 wired =
     -- [the arguments; the token of the time's lifetime; the token of the buffer's]
     nothing ! $ move ! (2 ∷ 0 ∷ []) $ join ! $ move ! (2 ∷ 0 ∷ []) $ join ! $ join ! $
     nothing ! $ move ! (1 ∷ 0 ∷ []) $ use2 𝓛 (raw (G.pre z)) (id⊢ 𝓤 _) $
-    calls_at ! (framed 𝓤 𝓛.H 𝓜 (tables 𝓤 𝓛.H 𝓜 𝓡 𝓡.env)) G (met 𝓤 𝓛 𝓜 𝓡 (code.calls-gix_date::parsing::TimeBuf::text_of 𝓡.env wired)) z
+    calls_at ! (framed 𝓤 𝓛.H 𝓜 (tables 𝓤 𝓛.H 𝓜 𝓡 𝓡.env)) G (met 𝓤 𝓛 𝓜 𝓡 (code.calls-gix_date::parsing::TimeBuf::write_text 𝓡.env wired)) z
     (and_then ! (get ! refl) (and_then ! (get ! refl) (no_more !))) (λ u.
     use1 𝓛 (later (some (λ (o : Res g.signature z.0.0). ((‵ (flft κs.1.0 qs.1.0) ⊛ ‵ (flft κs.0 qs.0) ⊛ ‵ ftrue) ⊛ ‵ (O.own_val o (u ∷ []))) ⊛
     some (λ (ws : Lasts g.ended z.0.0 z.0.3). ‵ (lasts g.ended z.0.0 z.0.3 ws) ⊛ raw (promises (ok_or o OffsetTooWide)))))) (id⊢ 𝓤 _) $

@@ -1,7 +1,7 @@
 use Rattle.std.proofs.Common.{refl}
 use Rattle.std.proofs.lemmas.Str.{is_utf8-from_IsUtf8}
 use Rattle.gix_date.proofs.Text.Texts.{no_text}
-use Rattle.gix_date_c.proofs.text.text_of.Goals as goal
+use Rattle.gix_date_c.proofs.text.utf8_text.Goals as goal
 
 pub returns-in-Some : goal.returns-in-Some
 returns-in-Some c = (c.in-Some.ensures.0, is_utf8-from_IsUtf8 c.args.bytes.now c.in-Some.ensures.1)

@@ -4,7 +4,7 @@ use Rattle.gix_date.specs.Text.Names.{day_name, month_name}
 use Rattle.gix_date.specs.Fields.FieldTexts.{four_digits, clock_text}
 use Rattle.gix_date.specs.Fields.Offsets.{compact_offset_text}
 use Rattle.gix_date.proofs.Printing.ShownTexts.{three-joined}
-use Rattle.gix_date.proofs.time.named.push_git.Goals as goal
+use Rattle.gix_date.proofs.time.named.push_default.Goals as goal
 
 two-names : (day month rest : List ℕ) → (day ++ (space ∷ (month ++ (space ∷ [])))) ++ rest ≡ day ++ (space ∷ (month ++ (space ∷ rest)))
 two-names day month rest = simp append_assoc refl
