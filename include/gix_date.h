@@ -153,7 +153,7 @@ enum gix_date_texts {
 enum gix_date_named_format {
     GIX_DATE_SHORT = 0,          /* 2022-08-18 */
     GIX_DATE_RFC2822 = 1,        /* Thu, 18 Aug 2022 12:45:06 +0800, two digits of the day */
-    GIX_DATE_GIT_RFC2822 = 2,    /* the same, as few digits of the day as it has */
+    GIX_DATE_GIT_RFC2822 = 2,    /* with as few digits of the day as it has */
     GIX_DATE_ISO8601 = 3,        /* 2022-08-18 12:45:06 +0800 */
     GIX_DATE_ISO8601_STRICT = 4, /* 2022-08-18T12:45:06+08:00 */
     GIX_DATE_GITOXIDE = 5,       /* Thu Aug 18 2022 12:45:06 +0800 */
@@ -229,20 +229,20 @@ uint32_t gix_date_write_header(const gix_date_time *time, char *out, size_t out_
 uint32_t gix_date_parse(const char *text, size_t text_len, uint32_t raw_offsets,
                         gix_date_time *time);
 
-/* The same for a text that may be relative to the moment now, in the zone that always has this
- * offset. GIX_DATE_INVALID_ZONE, GIX_DATE_INVALID_INSTANT; GIX_DATE_NO_SUCH_OPTION,
+/* Parses as gix_date_parse does a text that may be relative to the moment now, in the zone that
+ * always has this offset. GIX_DATE_INVALID_ZONE, GIX_DATE_INVALID_INSTANT; GIX_DATE_NO_SUCH_OPTION,
  * GIX_DATE_NOT_TEXT, GIX_DATE_UNKNOWN_FORMAT, GIX_DATE_DATE_CONVERSION, GIX_DATE_RANGE. */
 uint32_t gix_date_parse_at_offset(const char *text, size_t text_len, uint32_t raw_offsets,
                                   const gix_date_instant *now, int32_t offset, gix_date_time *time);
 
-/* The same in the zone of a POSIX rule, "EST5EDT,M3.2.0,M11.1.0". The statuses are those of
- * gix_date_parse_at_offset. */
+/* gix_date_parse_at_offset in the zone of a POSIX rule, "EST5EDT,M3.2.0,M11.1.0", with its
+ * statuses. */
 uint32_t gix_date_parse_in_posix_zone(const char *text, size_t text_len, uint32_t raw_offsets,
                                       const gix_date_instant *now, const char *rule,
                                       size_t rule_len, gix_date_time *time);
 
-/* The same in the zone of a TZif file, as those in /usr/share/zoneinfo, by its bytes. Takes memory
- * for the zone. The statuses are those of gix_date_parse_at_offset, and GIX_DATE_OUT_OF_MEMORY. */
+/* gix_date_parse_at_offset in the zone of a TZif file, as those in /usr/share/zoneinfo, by its
+ * bytes. Takes memory for the zone. Also GIX_DATE_OUT_OF_MEMORY. */
 uint32_t gix_date_parse_in_tzif_zone(const char *text, size_t text_len, uint32_t raw_offsets,
                                      const gix_date_instant *now, const void *file,
                                      size_t file_len, gix_date_time *time);
@@ -254,23 +254,22 @@ uint32_t gix_date_parse_carefully(const char *text, size_t text_len,
                                   const gix_date_careful_options *options, gix_date_time *time,
                                   size_t *place);
 
-/* The same at the moment now, in the zone that always has this offset. The statuses are those of
- * gix_date_parse_at_offset, and GIX_DATE_UNCLEAR. */
+/* gix_date_parse_carefully at the moment now, in the zone that always has this offset. The statuses
+ * are those of gix_date_parse_at_offset, and GIX_DATE_UNCLEAR. */
 uint32_t gix_date_parse_carefully_at_offset(const char *text, size_t text_len,
                                             const gix_date_careful_options *options,
                                             const gix_date_instant *now, int32_t offset,
                                             gix_date_time *time, size_t *place);
 
-/* The same in the zone of a POSIX rule. The statuses are those of
- * gix_date_parse_carefully_at_offset. */
+/* gix_date_parse_carefully_at_offset in the zone of a POSIX rule, with its statuses. */
 uint32_t gix_date_parse_carefully_in_posix_zone(const char *text, size_t text_len,
                                                 const gix_date_careful_options *options,
                                                 const gix_date_instant *now, const char *rule,
                                                 size_t rule_len, gix_date_time *time,
                                                 size_t *place);
 
-/* The same in the zone of a TZif file, by its bytes. Takes memory for the zone. The statuses are
- * those of gix_date_parse_carefully_at_offset, and GIX_DATE_OUT_OF_MEMORY. */
+/* gix_date_parse_carefully_at_offset in the zone of a TZif file, by its bytes. Takes memory for the
+ * zone. Also GIX_DATE_OUT_OF_MEMORY. */
 uint32_t gix_date_parse_carefully_in_tzif_zone(const char *text, size_t text_len,
                                                const gix_date_careful_options *options,
                                                const gix_date_instant *now, const void *file,
@@ -283,7 +282,7 @@ uint32_t gix_date_parse_carefully_in_tzif_zone(const char *text, size_t text_len
 uint32_t gix_date_format(const gix_date_time *time, uint32_t format, char *out, size_t out_len,
                          size_t *len);
 
-/* The same, with the seconds in decimal for a time that has no text in that format.
+/* gix_date_format, with the seconds in decimal for a time that has no text in that format.
  * GIX_DATE_NO_ROOM, GIX_DATE_NO_SUCH_OPTION, GIX_DATE_OUT_OF_MEMORY. */
 uint32_t gix_date_format_or_unix(const gix_date_time *time, uint32_t format, char *out,
                                  size_t out_len, size_t *len);
@@ -294,7 +293,7 @@ uint32_t gix_date_format_or_unix(const gix_date_time *time, uint32_t format, cha
 uint32_t gix_date_format_by_pattern(const gix_date_time *time, const char *pattern,
                                     size_t pattern_len, char *out, size_t out_len, size_t *len);
 
-/* The same, with the seconds in decimal for a time that has no text by that pattern.
+/* gix_date_format_by_pattern, with the seconds in decimal for a time that has no text by it.
  * GIX_DATE_NO_ROOM, GIX_DATE_NOT_TEXT, GIX_DATE_OUT_OF_MEMORY. */
 uint32_t gix_date_format_by_pattern_or_unix(const gix_date_time *time, const char *pattern,
                                             size_t pattern_len, char *out, size_t out_len,

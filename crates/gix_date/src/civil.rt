@@ -47,7 +47,7 @@ pub(crate) fn civil_instant(
     instant_at(date, clock, offset)
 }
 
-/// The same for a day's midnight in UTC, where the constant clock leaves less to compute.
+/// The instant of a day's midnight in UTC: the constant clock leaves less to compute.
 #[inline(always)]
 pub(crate) fn midnight_instant(date: DateFields) -> Option<SecondsSinceUnixEpoch>
     requires { DateFits date }

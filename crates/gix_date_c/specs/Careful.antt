@@ -49,12 +49,12 @@ IsTextParsedCarefully options now text answer =
     (outcome : Result Time CarefulError) × CarefulOutcome (careful_reading options text) now outcome
     × (answer ≡ result_map_both (λ t. t) refusal_of outcome)
 
--- the same of bytes, which may be no text
+-- `IsTextParsedCarefully` of bytes that need not be UTF-8
 abbrev pub IsParsedCarefullyIf : Bool → CarefulOptions → Option Zoned → List ℕ → Result Time Refusal → Type 0
 IsParsedCarefullyIf true options now text answer = IsTextParsedCarefully options now text answer
 IsParsedCarefullyIf false options now text answer = answer ≡ Err (refusals.Other statuses.NotText)
 
--- the same by the options of numbers, which may be none
+-- `IsParsedCarefullyIf` by the numbers of options, which may be of none
 abbrev pub IsParsedByOptions : Option CarefulOptions → Option Zoned → List ℕ → Result Time Refusal → Type 0
 IsParsedByOptions None now text answer = answer ≡ Err (refusals.Other statuses.NoSuchOption)
 IsParsedByOptions (Some options) now text answer = IsParsedCarefullyIf (is_utf8 text) options now text answer

@@ -42,12 +42,12 @@ IsTextParsed rule now text answer =
     (outcome : Result Time ParseError) × ParseNoAllocOutcome (first_family_by (allows rule) text) now outcome
     × (answer ≡ result_map_both (λ t. t) refusal_status outcome)
 
--- the same of bytes, which may be no text
+-- `IsTextParsed` of bytes that need not be UTF-8
 abbrev pub IsParsedIf : Bool → RawOffsets → Option Zoned → List ℕ → Result Time Status → Type 0
 IsParsedIf true rule now text answer = IsTextParsed rule now text answer
 IsParsedIf false rule now text answer = answer ≡ Err statuses.NotText
 
--- the same by the number of a rule, which may be none
+-- `IsParsedIf` by the number of a rule, which may be of none
 abbrev pub IsParsedWithRule : Option RawOffsets → Option Zoned → List ℕ → Result Time Status → Type 0
 IsParsedWithRule None now text answer = answer ≡ Err statuses.NoSuchOption
 IsParsedWithRule (Some rule) now text answer = IsParsedIf (is_utf8 text) rule now text answer

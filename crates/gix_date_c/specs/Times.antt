@@ -7,7 +7,7 @@ use Rattle.gix_date_c.specs.declared.status.Status.{Status}
 use Rattle.gix_date_c.specs.declared.status.Status.TheVariants.{Done, InvalidTime}
 use Rattle.gix_date_c.specs.declared.time.CTime.{CTime}
 
--- the same time
+-- a time of C as one of the library
 abbrev pub load_time : CTime → Time
 load_time t = record { seconds = t.seconds; offset = t.offset }
 

@@ -34,7 +34,7 @@ pub extern "C" fn gix_date_format(
     store_printed(load_time(time).format(alloc, format), out, len)
 }
 
-/// The same, with the seconds for a time that has no text in that format.
+/// Prints as [`gix_date_format`] does, but the seconds for a time that has no text in that format.
 #[unsafe(no_mangle)]
 pub extern "C" fn gix_date_format_or_unix(
     alloc: Global,
@@ -71,7 +71,7 @@ pub extern "C" fn gix_date_format_by_pattern(
     }
 }
 
-/// The same, with the seconds for a time that has no text by that pattern.
+/// Prints as [`gix_date_format_by_pattern`] does, but the seconds for a time that has no text by that pattern.
 #[unsafe(no_mangle)]
 pub extern "C" fn gix_date_format_by_pattern_or_unix(
     alloc: Global,

@@ -13,7 +13,7 @@ pub struct CTime {
     pub offset: i32,
 }
 
-/// The same time.
+/// A time of C as one of the library.
 pub(crate) fn load_time(time: &CTime) -> Time
     ensures { result ≡ load_time time.now }
 {

@@ -77,7 +77,7 @@ pub fn dispatched(text: &str, raw: RawOffsets)
     ensures { IsDispatched (allows raw) text.now }
 {}
 
-/// The same by a coarser table of seven rows (`row_families`), by either rule: `@` at the front, a number, a day with
+/// [`dispatched`] by a coarser table of seven rows (`row_families`), by either rule: `@` at the front, a number, a day with
 /// `-`, with `.` or with neither, a letter at the front, and all other texts.
 pub fn dispatched_by_rows(text: &str, raw: RawOffsets)
     ensures { IsInItsRow (allows raw) text.now }

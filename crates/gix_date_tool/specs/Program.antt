@@ -56,7 +56,7 @@ pub record Executes (words : List (List ℕ)) (reading writing telling : Change)
   pub reports : Reports telling (message_of outcome)
   pub status_is : status ≡ status_of outcome
 
--- The same where the usage line is due.
+-- What was said, and the status, are those of an end that owes the usage line.
 pub record ShowsUsage (writing telling : Change) (status : Status) : Type 0 where
   pub outcome : Outcome
   pub ends : EndsInUsage None writing outcome

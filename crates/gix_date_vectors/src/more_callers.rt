@@ -135,7 +135,7 @@ pub fn log_date(alloc: Global, time: Time, format: CustomFormat) -> Result<Strin
     time.format_or_unix(alloc, format.into())
 }
 
-/// The same by a pattern that a user wrote, as that of `git log --date=format:..`.
+/// The log's date by a pattern that a user wrote, as that of `git log --date=format:..`.
 pub fn log_date_by(alloc: Global, time: Time, pattern: &str) -> Result<String, Error>
     ensures { PrintsPatternOrSeconds time pattern.now result }
 {

@@ -76,13 +76,13 @@ answers_before_git rule text = map (λ family. family_answer rule family text) f
 abbrev pub first_family : List ℕ → Option FamilyAnswer
 first_family = first_family_by is_quarter_offset
 
--- `UnknownFormat` with the text, or `Memory`: with its bytes, or for their copy
+-- `UnknownFormat` carrying the bytes, or `Memory` if copying failed
 abbrev pub RefusesUnknown : List ℕ → Error → Type 0
 RefusesUnknown text (errors.UnknownFormat input) = input ≡ text
 RefusesUnknown text errors.Memory = Unit {0}
 RefusesUnknown text _ = ⊥
 
--- `DateConversion` with the text, or `Memory`: with its bytes, or for their copy
+-- `DateConversion` carrying the bytes, or `Memory` if copying failed
 abbrev pub RefusesDate : List ℕ → Error → Type 0
 RefusesDate text (errors.DateConversion input) = input ≡ text
 RefusesDate text errors.Memory = Unit {0}
@@ -97,14 +97,14 @@ ParseNoAllocOutcome (Some OffsetAboveDay) now result = result ≡ Err UnknownFor
 ParseNoAllocOutcome (Some NoInstant) now result = result ≡ Err DateConversion
 ParseNoAllocOutcome None now result = result ≡ Err UnknownFormat
 
--- the same fault, with the text: by `RefusesUnknown` or `RefusesDate` if it carries the text
+-- the `Error` of a `ParseError`: `UnknownFormat` and `DateConversion` carry the text
 abbrev pub RefusesWithCopy : List ℕ → ParseError → Error → Type 0
 RefusesWithCopy text UnknownFormat e = RefusesUnknown text e
 RefusesWithCopy text DateConversion e = RefusesDate text e
 RefusesWithCopy text MissingNow e = e ≡ errors.MissingNow
 RefusesWithCopy text Range e = e ≡ errors.Range
 
--- the same result, with a refused text copied: the same time, or the same refusal by `RefusesWithCopy`
+-- the time, or the refusal by `RefusesWithCopy`
 abbrev pub WithCopy : List ℕ → Result Time ParseError → Result Time Error → Type 0
 WithCopy text (Ok t) result = result ≡ Ok t
 WithCopy text (Err refusal) result = IsErrAnd result (RefusesWithCopy text refusal)

@@ -1,4 +1,4 @@
--- The offsets of formatted dates: what a whole text says by its digits, or in mail by the name of a zone.
+-- The offsets of formatted dates: what a whole text says by its digits, or in RFC 2822 by the name of a zone.
 use Rattle.std.specs.Prelude.{ℕ, Bool, ◌&&◌, List, [], ◌∷◌, ◌++◌, ℤ, pos, neg_ℤ, unsigned_abs, ◌==◌, nat_le, codes, if◌then◌else◌, Option, Some, None, is_some, option_map, unwrap_or}
 use Rattle.std.specs.Option.{option_or}
 use Rattle.gix_date.specs.Fields.ClockNumbers.{max_minute, max_second, hours_in, minutes_in}
@@ -28,7 +28,7 @@ last_colon_pair (c ∷ tens ∷ ones ∷ []) =
     if c == colon then option_map Some (two_digit_value tens ones) else None
 last_colon_pair _ = None
 
--- the same with a colon between the pairs
+-- the whole text is such an offset, with a colon between the pairs
 unfoldable pub strict_offset : List ℕ → Option ℤ
 strict_offset text = do
   sign ← read_sign text
@@ -42,14 +42,14 @@ strict_offset text = do
 abbrev pub west : ℕ → ℤ
 west seconds = neg_ℤ (pos seconds)
 
--- the offsets of zones by their names in mail
+-- the offsets of zones by their names in RFC 2822
 abbrev pub zone_names : List (List ℕ × ℤ)
 zone_names =
     (codes "ut", pos 0) ∷ (codes "gmt", pos 0) ∷ (codes "edt", west 14_400) ∷ (codes "est", west 18_000)
     ∷ (codes "cdt", west 18_000) ∷ (codes "cst", west 21_600) ∷ (codes "mdt", west 21_600)
     ∷ (codes "mst", west 25_200) ∷ (codes "pdt", west 25_200) ∷ (codes "pst", west 28_800) ∷ []
 
--- the offset of a zone's name in mail, in any letter case
+-- the offset of a zone's name in RFC 2822, in any letter case
 unfoldable pub named_zone : List ℕ → Option ℤ
 named_zone name = named_in zone_names name
 
@@ -59,7 +59,7 @@ rfc2822_offset text = do
   fields ← offset_fields text
   if is_some fields.seconds then None else jiff_offset fields
 
--- the same, or such a name
+-- such an offset, or a zone's name
 unfoldable pub rfc2822_zone : List ℕ → Option ℤ
 rfc2822_zone text = option_or (rfc2822_offset text) (named_zone text)
 

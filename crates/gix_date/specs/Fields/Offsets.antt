@@ -40,7 +40,7 @@ abbrev pub offset_of : OffsetFields → ℤ
 offset_of f =
     signed f.sign (seconds_per_hour * f.hours + seconds_per_minute * f.minutes + unwrap_or f.seconds 0)
 
--- the same of fields that a rule allows
+-- the offset that fields say, if a rule allows them
 abbrev pub offset_by : (OffsetFields → Bool) → OffsetFields → Option ℤ
 offset_by rule f = if rule f then Some (offset_of f) else None
 

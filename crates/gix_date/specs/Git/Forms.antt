@@ -47,7 +47,7 @@ git_offset text =
 unfoldable pub read_marked_date : ℕ → List ℕ → ReadFront DateFields
 read_marked_date mark text = read_date read_two_digits (skip_char mark) text
 
--- the same with no mark
+-- a date with no mark
 unfoldable pub read_compact_date : List ℕ → ReadFront DateFields
 read_compact_date text = read_date read_two_digits Some text
 

@@ -31,7 +31,7 @@ time_of_words words = do
 unfoldable pub header_time : List ℕ → Option Time
 header_time text = if has_colon text then None else time_of_words (space_words text)
 
--- the header's time, or `InvalidTime`: if it says none
+-- the header's time, or `InvalidTime` if there is none
 abbrev pub ReadsHeader : List ℕ → Result Time Error → Type 0
 ReadsHeader text result = result ≡ ok_or (header_time text) InvalidTime
 

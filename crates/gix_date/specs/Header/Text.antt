@@ -40,7 +40,7 @@ Writes t old new (Err OffsetTooWide) = (header_text t ≡ None) × TakesNothing 
 Writes t old new (Err (Write kind)) = IsSomeAnd (header_text t) (TakesProperPrefix old new) × (new.fault ≡ Some kind)
 Writes t old new (Err _) = ⊥
 
--- the header text, or `OffsetTooWide`: if there is none
+-- the header text, or `OffsetTooWide` if there is none
 abbrev pub GivesText : Time → Result (Bor (List ℕ)) Error → Type 0
 GivesText t (Ok text) = header_text t ≡ Some text.now
 GivesText t (Err OffsetTooWide) = header_text t ≡ None

@@ -10,7 +10,7 @@ use Rattle.gix_date.specs.declared.time.Time.{Time}
 abbrev pub text_in : TimeBuf → List ℕ
 text_in buf = buf.text.bytes
 
--- a buffer with the header text, or `OffsetTooWide`: if the time has no header text
+-- a buffer with the header text, or `OffsetTooWide` without one
 abbrev pub HoldsText : Time → Result TimeBuf Error → Type 0
 HoldsText t (Ok buf) = header_text t ≡ Some (text_in buf)
 HoldsText t (Err OffsetTooWide) = header_text t ≡ None

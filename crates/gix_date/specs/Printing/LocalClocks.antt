@@ -69,7 +69,7 @@ first_of_year_1000 = neg_ℤ (pos 30_610_224_000)
 abbrev pub last_of_year_9999 : ℤ
 last_of_year_9999 = pos 253_402_300_799
 
--- a four-digit year, and whole minutes: by the time's own clock, and of its offset
+-- local year 1000 to 9999, and offset in whole minutes
 pub record HasFourDigitFields (t : Time) : Type 0 where
   pub in_years : IsBetween first_of_year_1000 last_of_year_9999 (local_seconds t)
   pub minutes : unsigned_abs t.offset % seconds_per_minute ≡ 0

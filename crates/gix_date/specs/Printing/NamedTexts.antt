@@ -91,7 +91,7 @@ ShowsText pattern text =
     (z : PlainZoned) → ShowsFourDigitFields z
     → ((shown : Shown) → IsShown pattern z shown → shown ≡ Ok (text (local_time z))) × (IsUnprinted pattern z → ⊥)
 
--- the same in the fields of a formatted date
+-- a local moment as the fields of a formatted date
 abbrev pub local_of : LocalMoment → LocalTime
 local_of t = record { weekday = t.weekday; date = t.date; clock = t.clock; offset = t.offset }
 

@@ -65,12 +65,12 @@ RoundTripsByPattern rule t =
     (pattern : List ℕ) (result : Result (String Global) Error) → HasClock pattern → PrintsPattern t pattern result
     → RoundTripsAs rule t result
 
--- quarters of an hour, below 15 hours: the offset, either way
+-- a multiple of 15 minutes under 15 hours: either way
 pub record IsQuarterOffset (offset : ℤ) : Type 0 where
   pub quarters : unsigned_abs offset % 900 ≡ 0
   pub short : unsigned_abs offset < 54_000
 
--- whole minutes, below a day: the offset, either way
+-- whole minutes, under a day: either way
 pub record IsMinuteOffset (offset : ℤ) : Type 0 where
   pub minutes : unsigned_abs offset % seconds_per_minute ≡ 0
   pub short : unsigned_abs offset < seconds_per_day

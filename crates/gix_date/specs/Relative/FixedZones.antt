@@ -68,15 +68,13 @@ IsSecondsBefore pairs moment instant =
 abbrev pub earlier : Time → ℤ → Time
 earlier t seconds = record { seconds = t.seconds -ℤ seconds; offset = t.offset }
 
--- the date names this many seconds earlier: from each moment of the time it names the time so many seconds earlier, if
--- it has an instant, and nothing else
+-- the date names the time `seconds` earlier: from each moment of `t`, if that is an instant, and nothing else
 abbrev pub NamesEarlier : RelativeDate → Time → ℤ → Type 0
 NamesEarlier date t seconds =
     (moment : Zoned) → IsMoment t moment
     → (r : Time) → IsNamed date moment r ↔ ((r ≡ earlier t seconds) × (is_instant r.seconds ≡ true))
 
--- the date names this many seconds before: the time of the instant so many seconds before the moment, if it is one, and
--- nothing else
+-- the date names the instant `seconds` before the moment: if `jiff` has it, and nothing else
 abbrev pub NamesBefore : RelativeDate → Zoned → ℤ → Type 0
 NamesBefore date moment seconds =
     let instant = zoned_nanos moment -ℤ nanos_of_seconds seconds in

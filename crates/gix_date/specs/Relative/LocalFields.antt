@@ -16,7 +16,7 @@ pub record AreFieldsOf (shown : DateTime) (f : Fields) : Type 0 where
 abbrev pub HasDay : Fields → Type 0
 HasDay f = IsBetween (pos 1) (pos 31) f.day
 
--- the instant that a zone chooses for the fields
+-- the instant to which a zone resolves the fields
 pub record IsInstantOf (tz : TimeZone) (f : Fields) (instant : ℤ) : Type 0 where
   pub year_in : IsYear (int_div_euclid f.month_number (pos 12))
   pub picked : IsPicked tz (civil_of (month_start f.month_number +ℤ (f.day -ℤ pos 1)) f.time) instant

@@ -29,7 +29,7 @@ AllUnits words =
     (front : List (List ℕ)) (word period : List ℕ) (back : List (List ℕ)) → words ≡ front ++ word ∷ period ∷ back
     → IsCount front word → has_unit period ≡ true
 
--- the words are pairs: a count has a period, and each period is a unit or the flag is set
+-- the words are pairs: a count has a period, and each period is a unit or some `ago` is no period
 abbrev pub ArePairs : List (List ℕ) → Type 0
 ArePairs words = HasPair words × (AllUnits words ⊎ HasFlag words)
 

@@ -29,7 +29,7 @@ abbrev pub next_is_unit : List (List ℕ) → Bool
 next_is_unit [] = true
 next_is_unit (period ∷ back) = has_unit period
 
--- the flag: some `ago` is no period
+-- some `ago` is no period
 unfoldable pub has_flag : List (List ℕ) → Bool
 has_flag words = list_any (λ p. next_is_free p.front && is_ago p.word) (places words)
 
@@ -41,7 +41,7 @@ has_pair words = list_any (λ p. is_count p && has_next p.back) (places words)
 unfoldable pub all_units : List (List ℕ) → Bool
 all_units words = list_all (λ p. not (is_count p) || next_is_unit p.back) (places words)
 
--- some count has a period, and each period of a count is a unit, or the flag is set
+-- some count has a period; each period of a count is a unit, or some `ago` is no period
 unfoldable pub are_pairs : List (List ℕ) → Bool
 are_pairs words = has_pair words && (all_units words || has_flag words)
 

@@ -20,20 +20,20 @@ IsLocal tz instant shown = civil_nanos shown ≡ instant +ℤ nanos_of_seconds (
 abbrev pub civil_of : ℤ → TimeOfDay → ℤ
 civil_of day time = day *ℤ pos 86_400_000_000_000 +ℤ pos (time_nanos time)
 
--- the zone chooses this instant for a clock: for the date and clock of these nanoseconds
+-- the zone resolves a local time to `instant`: the date and clock that these nanoseconds count
 pub record IsPicked (tz : TimeZone) (civil instant : ℤ) : Type 0 where
   pub shown : DateTime
   pub civil_is : civil_nanos shown ≡ civil
   pub is_choice : instant ≡ picked_instant tz shown
   pub in_range : IsTimestampNanos instant
 
--- the zone chooses `after` for `instant`'s clock: for what its clock shows at `instant`
+-- the zone resolves `instant`'s local time to `after`
 pub record Resolves (tz : TimeZone) (instant after : ℤ) : Type 0 where
   pub local : DateTime
   pub local_is : IsLocal tz instant local
   pub picked : IsPicked tz (civil_nanos local) after
 
--- so many seconds back lead to `after`: so many seconds before `instant` the zone chooses `after`
+-- `after` is `seconds` before `instant`, resolved by the zone
 pub record SecondsStep (tz : TimeZone) (seconds instant after : ℤ) : Type 0 where
   pub in_range : IsTimestampNanos (instant -ℤ nanos_of_seconds seconds)
   pub resolves : Resolves tz (instant -ℤ nanos_of_seconds seconds) after
@@ -51,8 +51,7 @@ rolled_day number date = month_start number +ℤ (pos date.day -ℤ pos 1)
 abbrev pub month_before : Date → ℤ → ℤ
 month_before date months = month_number date -ℤ months
 
--- so many months back lead to `after`: for the day and clock so many months before those at `instant` the zone chooses
--- `after`
+-- `after` is `months` before `instant`, resolved by the zone: at the day and clock that the zone shows at `instant`
 pub record MonthsStep (tz : TimeZone) (months instant after : ℤ) : Type 0 where
   pub local : DateTime
   pub local_is : IsLocal tz instant local
@@ -82,7 +81,7 @@ abbrev pub IsAtInstant : (ℤ → Type 0) → Option Timestamp → Type 0
 IsAtInstant Such None = (instant : ℤ) → ¬ (Such instant)
 IsAtInstant Such (Some instant) = Such instant.nanosecond
 
--- two zones show the same, and choose the same
+-- two zones have equal offsets, and resolve local times alike
 pub record ChooseAlike (a b : TimeZone) : Type 0 where
   pub offset : (instant : ℤ) → offset_at a instant ≡ offset_at b instant
   pub picks : (shown : DateTime) → picked_instant a shown ≡ picked_instant b shown

@@ -10,7 +10,7 @@ pub fn disjoint(text: &str)
     ensures { AreDisjoint is_quarter_offset text.now }
 {}
 
-/// The same where raw texts have offsets of whole minutes up to 23:59.
+/// [`disjoint`], where raw texts have offsets of whole minutes up to 23:59.
 pub fn disjoint_wide(text: &str)
     ensures { AreDisjoint is_minute_offset text.now }
 {}

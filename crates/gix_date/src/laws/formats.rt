@@ -14,7 +14,7 @@ pub fn read_back(time: Time)
     ensures texts { RoundTripsByPattern is_quarter_offset time }
 {}
 
-/// The same of `parse_with`, where raw texts have offsets of whole minutes up to 23:59.
+/// [`read_back`] for `parse_with`, where raw texts have offsets of whole minutes up to 23:59.
 pub fn read_back_wide(time: Time)
     requires { RoundTrips time }
     ensures formats { RoundTripsByEach is_minute_offset time }
@@ -28,7 +28,7 @@ pub fn raw_read_back(time: Time)
     ensures seconds { SecondsRoundTrip Quarter time.seconds }
 {}
 
-/// The same of `parse_with`, for header texts whose offset is whole minutes up to 23:59.
+/// [`raw_read_back`] for `parse_with`, and header texts whose offset is whole minutes up to 23:59.
 pub fn raw_read_back_wide(time: Time)
     ensures header { HeaderRoundTrips WholeMinutes time }
     ensures seconds { SecondsRoundTrip WholeMinutes time.seconds }

@@ -14,7 +14,7 @@ pub(crate) const ZONE_BYTES: usize = 6;
 const EPOCH_BYTES: usize = 9;
 
 /// The time of a usual header: up to 18 bytes of digits, perhaps after a minus, one space, and an offset of four digits.
-/// It is read in one pass, without a search for words. Saves 327 instructions.
+/// It is read in one pass, without a search for words.
 pub(crate) fn fast_header(input: &str) -> Option<Time>
     ensures { IfSome result (λ t. header_time input.now ≡ Some t) }
 {
@@ -44,7 +44,7 @@ pub(crate) fn fast_fields(input: &str) -> Option<(SecondsSinceUnixEpoch, OffsetF
 }
 
 /// The value of a usual epoch: digits, perhaps after a minus, of 9 to 18 bytes in all. Two bytes reject nearly all dates:
-/// the first of the last six, and the ninth. Saves 69 instructions.
+/// the first of the last six, and the ninth.
 #[inline(always)]
 pub(crate) fn fast_number(input: &str) -> Option<SecondsSinceUnixEpoch>
     ensures { IfSome result (λ n. int_value input.now ≡ Some n) }

@@ -67,7 +67,7 @@ pub(crate) fn parse_raw(input: &str, raw: RawOffsets) -> Option<Time>
 }
 
 /// The time of a raw text that is a usual header ([`fast_fields`]). `None` means only that the text has another form, or
-/// an offset that the rule does not allow. Saves 1373 instructions, since no shape and no other family is tried.
+/// an offset that the rule does not allow. No shape and no other family is tried.
 #[inline(always)]
 pub(crate) fn fast_raw(input: &str, raw: RawOffsets) -> Option<Time>
     ensures time { IfSome result (λ t. raw_time_by (allows raw) input.now ≡ Some t) }

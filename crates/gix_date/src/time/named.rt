@@ -1,4 +1,4 @@
-//! Fast path for printing: writes the text of a named format without interpreting its pattern.
+//! Fast path for printing: writes the text of a named format without `jiff`.
 ghost use Rattle.std.specs.Prelude.{◌≡◌, ◌+◌, ◌≤◌, ◌<◌, ◌++◌, ◌%◌, [], ◌∷◌, length, decimal, IfSome, IfNone, IfOk, IfErr, string_bytes};
 ghost use Rattle.std.specs.Int.{IsInRange};
 ghost use Rattle.arrayvec.specs.ArrayString.{array_string_len};
@@ -339,7 +339,7 @@ fn push_rfc2822(text: &mut NamedText, t: LocalMoment)
     push_from_month(text, t);
 }
 
-/// The same with no zero before the day.
+/// `Www, D Mmm YYYY hh:mm:ss +hhmm`.
 #[inline(always)]
 fn push_git_rfc2822(text: &mut NamedText, t: LocalMoment)
     requires empty { text.old.bytes ≡ [] }
@@ -437,8 +437,7 @@ pub(crate) fn copy_text(alloc: Global, text: &str) -> Result<String, Error>
     }
 }
 
-/// What a named pattern prints of a time, where it is known. Saves some 2650 instructions, which `jiff` needs to
-/// interpret the pattern.
+/// What a named pattern prints of a time, where it is known, without `jiff`.
 pub(crate) fn fast_text(alloc: Global, pattern: &str, time: Time) -> Option<Result<String, Error>>
     ensures { IfSome result (PrintsPattern time pattern.now) }
 {

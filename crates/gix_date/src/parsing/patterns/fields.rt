@@ -24,7 +24,7 @@ pub(crate) fn skip_spaces(text: &str) -> Option<&str>
     }
 }
 
-/// The same of any text.
+/// [`skip_spaces`] for any number of spaces.
 #[tactic(auto, unfolding(crate::specs::Fields::DateFields::skip_spaces))]
 fn skip_any_spaces(text: &str) -> Option<&str>
     ensures { option_copied result ≡ skip_spaces text.now }

@@ -17,12 +17,12 @@ struct Scan {
     any: bool,
     /// Each period is a unit.
     known: bool,
-    /// The flag is set.
+    /// Some `ago` is no period.
     ago: bool,
 }
 
-/// Whether the words of a text are pairs of counts and periods: there is one, and each period is a unit, or the flag is
-/// set by an `ago` that is no period itself.
+/// Whether the words of a text are pairs of counts and periods: there is one, and each period is a unit, or some `ago`
+/// is no period.
 pub(crate) fn are_pairs(text: &str) -> bool
     ensures value { result ≡ are_pairs (relative_words text.now) }
     ensures meaning { IsTrue result ↔ ArePairs (relative_words text.now) }

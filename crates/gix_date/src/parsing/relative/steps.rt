@@ -39,7 +39,7 @@ impl<'a> From<Zoned<'a>> for Fields {
 }
 
 impl Fields {
-    /// The instant that a zone chooses for the fields: the first of the month, and the day beyond it, at that time.
+    /// The instant to which a zone resolves the fields: the first of the month, and the day beyond it, at that time.
     ///
     /// In a fold it is the earlier, and in a gap it is moved later, as in `jiff`. `None` without such a date or instant.
     fn normalize<'a>(self, zone: TimeZone<'a>) -> Option<Zoned<'a>>
@@ -53,7 +53,7 @@ impl Fields {
     }
 }
 
-/// The moment that the zone chooses for what its clock shows.
+/// The moment to which its zone resolves its local time.
 pub(crate) fn resolve<'a>(moment: Zoned<'a>) -> Option<Zoned<'a>>
     ensures step { IsAt (Resolves (zone_of moment.entry) (zoned_nanos moment.entry)) result }
     ensures zone { IfSome result (KeepsZone moment.entry) }
@@ -145,7 +145,7 @@ pub(crate) fn day_from(first: Date, day: i8) -> Option<Date>
     }
 }
 
-/// The instant that a zone chooses for a date and a time of day.
+/// The instant to which a zone resolves a date and a time of day.
 #[inline(always)]
 pub(crate) fn to_instant<'a>(date: Date, time: TimeOfDay, zone: TimeZone<'a>) -> Option<Zoned<'a>>
     ensures instant { IsAt (IsPicked (plain_zone zone.entry) (civil_of (epoch_day date) time)) result }
