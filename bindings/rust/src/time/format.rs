@@ -86,7 +86,7 @@ impl Time {
         }
     }
 
-    /// Prints as [`Time::format`] does, but the seconds for a time without a text in that format, and if memory runs out.
+    /// Prints as [`Time::format`] does, but the seconds for a time without such a text, and if memory runs out.
     ///
     /// ```
     /// use gix_date_proved::{time::format, Time};
@@ -108,7 +108,7 @@ impl Time {
         calls::format_by_pattern(self, pattern)
     }
 
-    /// Prints as [`Time::format_by_pattern`] does, but the seconds for a time without a text by it. [`Error::OutOfMemory`].
+    /// Prints as [`Time::format_by_pattern`] does, but the seconds for a time without such a text. [`Error::OutOfMemory`].
     pub fn format_by_pattern_or_unix(&self, pattern: &str) -> Result<String, Error> {
         calls::format_by_pattern_or_unix(self, pattern)
     }
