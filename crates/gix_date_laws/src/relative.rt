@@ -1,7 +1,7 @@
 //! Laws of relative dates: how their texts are written, that each names one time, and how pairs add up at one offset.
 ghost use Rattle.std.specs.Prelude.{pos};
 ghost use Rattle.std.specs.List.{All};
-ghost use Rattle.gix_date.specs.Relative.FixedZones.{IsSecondsPair, less_seconds, total, NamesEarlier, NamesBefore, NamesNoneLater};
+ghost use Rattle.gix_date.specs.Relative.FixedZones.{IsNonnegativePair, less_seconds, total, NamesEarlier, NamesBefore, NamesNoneLater};
 ghost use Rattle.gix_date.specs.Relative.Dates.{MinusSeconds, AreNamedOnce, AreConvertible};
 ghost use Rattle.gix_date.specs.Relative.Pairs.{AreFreeByParity, IsSpelledSo};
 ghost use Rattle.gix_date.specs.Relative.Steps.{zone_of};
@@ -31,7 +31,7 @@ pub fn spelled_relative(text: &str)
 /// From a time, at its offset, `yesterday` and pairs of seconds name the time that many seconds earlier, if it has an
 /// instant, and nothing else.
 pub fn earlier(time: Time, pairs: &[(i64, i64)])
-    requires { All IsSecondsPair pairs.now }
+    requires { All IsNonnegativePair pairs.now }
     ensures yesterday { NamesEarlier (MinusSeconds (pos 86_400)) time (pos 86_400) }
     ensures pairs { NamesEarlier (less_seconds pairs.now) time (total pairs.now) }
 {}
@@ -40,7 +40,7 @@ pub fn earlier(time: Time, pairs: &[(i64, i64)])
 /// name nothing else. The moment may have a fraction of a second.
 pub fn seconds_before(moment: &Zoned<'_>, pairs: &[(i64, i64)])
     requires fixed { IsFixed (zone_of moment.now) }
-    requires pairs { All IsSecondsPair pairs.now }
+    requires pairs { All IsNonnegativePair pairs.now }
     ensures yesterday { NamesBefore (MinusSeconds (pos 86_400)) moment.now (pos 86_400) }
     ensures pairs { NamesBefore (less_seconds pairs.now) moment.now (total pairs.now) }
 {}

@@ -12,7 +12,7 @@ pub use Rattle.gix_date.specs.Devices.Device.{inner_of, fault_of}
 pub use Rattle.gix_date.specs.Families.Epoch.{at_time, epoch_time, utc_time, min_bare_epoch}
 pub use Rattle.gix_date.specs.Families.Order.{first_family, ParseNoAllocOutcome, ParseOutcome, WithCopy, RefusesWithCopy, Family, families, family_answer, RefusesDate, answers_before_git, RefusesUnknown, first_family_by}
 pub use Rattle.gix_date.specs.Families.Laws.{Agree, AnswersHaveText, AnswersWithinDay, AreApart, HasOneOutcome, IgnoresCase, IgnoresSpace, Holds, overlap, AreExclusive, AreOverlapping, Overlap, AreDisjoint, ComesFirst, IgnoresMoment, IsWidened, RawIsHeader}
-pub use Rattle.gix_date.specs.Relative.FixedZones.{NamesSum, IgnoresOrder, NamesNoneLater, IsSecondsPair, IsMonthsPair, less_seconds, less_months, total, Names, NamesAlike, IsSecondsBefore, NamesBefore, earlier, NamesEarlier}
+pub use Rattle.gix_date.specs.Relative.FixedZones.{NamesSum, IgnoresOrder, NamesNoneLater, IsNonnegativePair, less_seconds, less_months, total, Names, NamesAlike, IsSecondsBefore, NamesBefore, earlier, NamesEarlier}
 pub use Rattle.gix_date.specs.Relative.Pairs.{AreFreeByParity, ArePairs, IsRelativeText, IsSpelledSo}
 pub use Rattle.gix_date.specs.Fields.FieldTexts.{AreDigits, IsPair, IsSign}
 pub use Rattle.gix_date.specs.Families.Grammars.{IsInt, AreOffsetFields, IsRawText, IsEpochText, IsAtText}

@@ -1,5 +1,5 @@
 -- Steps in a zone that always has one offset.
-use Rattle.std.proofs.Common.{◌≡◌, ◌∙◌, ◌↔◌, ◌≤◌, ◌+◌, ◌-◌, ℕ, ℤ, pos, ◌+ℤ◌, ◌-ℤ◌, ◌*ℤ◌, ◌≤ℤ◌, inl, inr, unsigned_abs, FitsSigned, w64, refl, sym, ap, subst, arith, List, [], ◌∷◌, map, slice_index_or}
+use Rattle.std.proofs.Common.{◌≡◌, ◌∙◌, ◌↔◌, ◌≤◌, ◌+◌, ◌-◌, ℕ, ℤ, pos, negsuc, ◌+ℤ◌, ◌-ℤ◌, ◌*ℤ◌, ◌≤ℤ◌, inl, inr, unsigned_abs, FitsSigned, w64, refl, sym, ap, subst, arith, List, [], ◌∷◌, map, slice_index_or}
 use Rattle.std.specs.Int.{int_div_euclid, int_rem_euclid}
 use Rattle.std.specs.List.{All, sum_by}
 use Rattle.std.proofs.lemmas.List.Elements.{All-nil, All-head, All-tail, All-cons}
@@ -16,7 +16,7 @@ use Rattle.jiff_core.proofs.DateTimeLemmas.{civil_nanos-parts}
 use Rattle.jiff_core.proofs.SignedLemmas.{signed_arith, one_part}
 use Rattle.jiff_zoned.proofs.SameLemmas.{same_datetime}
 use Rattle.gix_date.proofs.Fields.DateTimes.{datetime_exists}
-use Rattle.gix_date.specs.Relative.FixedZones.{product, total, ProductFits, IsSecondsPair, IsMonthsPair, less_seconds, less_months}
+use Rattle.gix_date.specs.Relative.FixedZones.{product, total, ProductFits, IsNonnegativePair, less_seconds, less_months}
 use Rattle.gix_date.specs.Relative.Dates.{RelativeDate, MinusPairs, Reaches}
 use Rattle.gix_date.specs.Relative.Steps.{IsLocal, IsPicked, Resolves, SecondsStep, MonthsStep, Chain, civil_of, month_start}
 use Rattle.gix_date.proofs.Relative.Steps.{MonthsFrom, day_of, year_of}
@@ -159,22 +159,16 @@ same-seconds tz pairs other i same fit one two j = (
   λ h. let r = (two j).0 h in (one j).1 (r.0 ∙ ap (λ (n : ℤ). i -ℤ nanos_of_seconds n) same, fit.1 r.1, r.2),
 )
 
-seconds-loss : (p : ℤ × ℤ) → IsSecondsPair p → IsLoss p
-seconds-loss (count, unit) (low, inl e) = rw e (omega (arith, signed_arith, low))
-seconds-loss (count, unit) (low, inr (inl e)) = rw e (omega (arith, signed_arith, low))
-seconds-loss (count, unit) (low, inr (inr (inl e))) = rw e (omega (arith, signed_arith, low))
-seconds-loss (count, unit) (low, inr (inr (inr (inl e)))) = rw e (omega (arith, signed_arith, low))
-seconds-loss (count, unit) (low, inr (inr (inr (inr e)))) = rw e (omega (arith, signed_arith, low))
+pub product-low : (a b : ℤ) → pos 0 ≤ℤ a → pos 0 ≤ℤ b → pos 0 ≤ℤ (a *ℤ b)
+product-low (pos a) (pos b) h k = omega (arith, signed_arith)
+product-low (pos a) (negsuc b) h k = absurd (omega (arith, signed_arith))
+product-low (negsuc a) b h k = absurd (omega (arith, signed_arith))
 
-pub all-seconds-loss : (pairs : List (ℤ × ℤ)) → All IsSecondsPair pairs → All IsLoss pairs
-all-seconds-loss pairs h k d lt = seconds-loss (slice_index_or pairs k d) (h k d lt)
+pair-loss : (p : ℤ × ℤ) → IsNonnegativePair p → IsLoss p
+pair-loss (count, unit) (h, k) = product-low count unit h k
 
-months-loss : (p : ℤ × ℤ) → IsMonthsPair p → IsLoss p
-months-loss (count, unit) (low, inl e) = rw e (omega (arith, signed_arith, low))
-months-loss (count, unit) (low, inr e) = rw e (omega (arith, signed_arith, low))
-
-pub all-months-loss : (pairs : List (ℤ × ℤ)) → All IsMonthsPair pairs → All IsLoss pairs
-all-months-loss pairs h k d lt = months-loss (slice_index_or pairs k d) (h k d lt)
+pub all-loss : (pairs : List (ℤ × ℤ)) → All IsNonnegativePair pairs → All IsLoss pairs
+all-loss pairs h k d lt = pair-loss (slice_index_or pairs k d) (h k d lt)
 
 pub one-loss : (p : ℤ × ℤ) → IsLoss p → All IsLoss (p ∷ [])
 one-loss p h = All-cons IsLoss p [] h (All-nil IsLoss)

@@ -25,7 +25,7 @@ use Rattle.gix_date.specs.declared.parsing.relative.words.TimeUnit.{TimeUnit}
 use Rattle.gix_date.specs.declared.parsing.relative.words.TimeUnit.TheVariants.{Seconds, Months}
 use Rattle.gix_date.proofs.Fields.FieldsTaken.{went, guard}
 use Rattle.gix_date.proofs.Relative.FixedSteps.{fixed-offset, one-offset, reaches-alike}
-use Rattle.gix_date.proofs.Relative.FixedZones.{fixed-picked, fixed-local, fixed-resolves, fixed-seconds, months-order}
+use Rattle.gix_date.proofs.Relative.FixedZones.{fixed-picked, fixed-local, fixed-resolves, fixed-seconds, months-order, product-low}
 use Rattle.gix_date.proofs.Fast.FastHeaders.{int-taken, same_some}
 use Rattle.gix_date.proofs.Relative.Steps.{day_of}
 
@@ -155,11 +155,6 @@ text-back text date e = by (named_in date_names (trim text)) refl e
     by None q k = subst GoesBack (guard (are_pairs (relative_words text)) (MinusPairs (pairs (relative_words text))) date k).1 (pairs-back (relative_words text))
 
 -- So it leads to no later instant.
-product-low : (a b : ℤ) → IsLow a → IsLow b → IsLow (a *ℤ b)
-product-low (pos a) (pos b) h k = omega (arith, signed_arith)
-product-low (pos a) (negsuc b) h k = absurd (omega (arith, signed_arith))
-product-low (negsuc a) b h k = absurd (omega (arith, signed_arith))
-
 months-back : (o : Offset) (n i j : ℤ) → IsLow n → MonthsStep (fixed_zone o) n i j → j ≤ℤ i
 months-back o n i j h s =
     let m = month_number s.local.date in

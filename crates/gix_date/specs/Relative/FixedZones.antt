@@ -5,30 +5,15 @@ use Rattle.std.specs.List.{All}
 use Rattle.std.specs.List.Sorted.{IsPermutation}
 use Rattle.jiff.specs.Words.{nanos_of_seconds, zoned_nanos, IsTimestampNanos}
 use Rattle.jiff.specs.declared.zoned.Zoned.{Zoned}
-use Rattle.gix_date.specs.Fields.ClockNumbers.{seconds_per_minute, seconds_per_hour, seconds_per_day}
 use Rattle.gix_date.specs.Relative.Dates.{RelativeDate, MinusPairs, Reaches, IsNamed, relative_date}
 use Rattle.gix_date.specs.Relative.Steps.{zone_of}
 use Rattle.gix_date.specs.Fields.Zoned.{IsMoment, is_instant, time_in}
 use Rattle.gix_date.specs.declared.parsing.relative.words.TimeUnit.TheVariants.{Seconds, Months}
 use Rattle.gix_date.specs.declared.time.Time.{Time}
 
--- the seconds of a second, a minute, an hour, a day or a week
-abbrev pub IsUnitOfSeconds : ℤ → Type 0
-IsUnitOfSeconds unit =
-    (unit ≡ pos 1) ⊎ (unit ≡ pos seconds_per_minute) ⊎ (unit ≡ pos seconds_per_hour) ⊎ (unit ≡ pos seconds_per_day)
-    ⊎ (unit ≡ pos (7 * seconds_per_day))
-
--- the months of a month or a year
-abbrev pub IsUnitOfMonths : ℤ → Type 0
-IsUnitOfMonths unit = (unit ≡ pos 1) ⊎ (unit ≡ pos 12)
-
--- a count and a unit of seconds: the count is never negative, the unit a second, minute, hour, day or week
-abbrev pub IsSecondsPair : ℤ × ℤ → Type 0
-IsSecondsPair (count, unit) = (pos 0 ≤ℤ count) × IsUnitOfSeconds unit
-
--- a count and a unit of months: the count is never negative, the unit a month or a year
-abbrev pub IsMonthsPair : ℤ × ℤ → Type 0
-IsMonthsPair (count, unit) = (pos 0 ≤ℤ count) × IsUnitOfMonths unit
+-- a pair of count and unit, neither negative
+abbrev pub IsNonnegativePair : ℤ × ℤ → Type 0
+IsNonnegativePair (count, unit) = (pos 0 ≤ℤ count) × (pos 0 ≤ℤ unit)
 
 -- the relative date of pairs of seconds
 abbrev pub less_seconds : List (ℤ × ℤ) → RelativeDate

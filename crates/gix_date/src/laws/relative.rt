@@ -2,7 +2,7 @@
 ghost use Rattle.std.specs.Prelude.{◌≤◌, [], ◌∷◌, pos, FitsSigned};
 ghost use Rattle.std.specs.Int.{w64};
 ghost use Rattle.std.specs.List.{All};
-ghost use Rattle.gix_date.specs.Relative.FixedZones.{IsSecondsPair, IsMonthsPair, less_seconds, less_months, total, NamesAlike, NamesSum, IgnoresOrder};
+ghost use Rattle.gix_date.specs.Relative.FixedZones.{IsNonnegativePair, less_seconds, less_months, total, NamesAlike, NamesSum, IgnoresOrder};
 ghost use Rattle.gix_date.specs.Relative.Dates.{MinusSeconds};
 ghost use Rattle.gix_date.specs.Relative.Steps.{zone_of};
 ghost use Rattle.jiff.specs.Words.{plain_zoned, IsFixed};
@@ -21,7 +21,7 @@ pub fn yesterday(moment: &Zoned<'_>)
 /// pair may do more than subtract seconds.
 pub fn seconds_permute(moment: &Zoned<'_>, pairs: &[(i64, i64)])
     requires fixed { IsFixed (zone_of moment.now) }
-    requires pairs { All IsSecondsPair pairs.now }
+    requires pairs { All IsNonnegativePair pairs.now }
     ensures sum { NamesSum pairs.now moment.now }
     ensures order { IgnoresOrder pairs.now moment.now }
 {}
@@ -30,7 +30,7 @@ pub fn seconds_permute(moment: &Zoned<'_>, pairs: &[(i64, i64)])
 /// needs a day of the month up to the 28th: for a later one a month between may be too short.
 pub fn months_add(moment: &Zoned<'_>, pairs: &[(i64, i64)])
     requires fixed { IsFixed (zone_of moment.now) }
-    requires pairs { All IsMonthsPair pairs.now }
+    requires pairs { All IsNonnegativePair pairs.now }
     requires sum { FitsSigned w64 (total pairs.now) }
     requires day { (plain_zoned moment.now).datetime.date.day ≤ 28 }
     ensures { NamesAlike moment.now (less_months pairs.now) (less_months ((total pairs.now, pos 1) ∷ [])) }

@@ -4,21 +4,21 @@ use Rattle.jiff.specs.Words.{plain_zoned, zoned_nanos}
 use Rattle.gix_date.specs.Relative.FixedZones.{ProductFits, product, total}
 use Rattle.gix_date.specs.Relative.Steps.{zone_of}
 use Rattle.gix_date.proofs.Relative.FixedSteps.{seconds-in}
-use Rattle.gix_date.proofs.Relative.FixedZones.{IsLoss, total-sum_by, same-seconds, all-seconds-loss}
+use Rattle.gix_date.proofs.Relative.FixedZones.{IsLoss, total-sum_by, same-seconds, all-loss}
 use Rattle.gix_date.proofs.laws.relative.seconds_permute.Goals as goal
 
 pub returns-clause-sum : goal.returns-clause-sum
 returns-clause-sum c =
     let z = c.args.moment.now in
     let pairs = c.args.pairs.now in
-    seconds-in (zone_of z) c.requires.fixed pairs (zoned_nanos z) (all-seconds-loss pairs c.requires.pairs)
+    seconds-in (zone_of z) c.requires.fixed pairs (zoned_nanos z) (all-loss pairs c.requires.pairs)
     (plain_zoned z).timestamp.in_range
 
 pub returns-clause-order : goal.returns-clause-order
 returns-clause-order c other h =
     let z = c.args.moment.now in
     let pairs = c.args.pairs.now in
-    let loss = all-seconds-loss pairs c.requires.pairs in
+    let loss = all-loss pairs c.requires.pairs in
     let other_loss = All-permutation IsLoss pairs other h loss in
     let sums = ap pos (sum_by-IsPermutation (λ p. unsigned_abs (product p)) pairs other h) in
     let same : total other ≡ total pairs = total-sum_by other other_loss ∙ sums ∙ sym (total-sum_by pairs loss) in
