@@ -1,6 +1,6 @@
 -- What the clock of UTC shows.
 use Rattle.std.proofs.Common.{◌≡◌, ◌∙◌, ◌<◌, ◌≤◌, ◌/◌, ◌%◌, ℕ, ℤ, pos, ◌+ℤ◌, Bool, true, false, cond, Some, None, Option, ap, sym, refl, arith, unsigned_abs}
-use Rattle.std.proofs.lemmas.Bool.{false_from_ne_true, true_from_ne_false}
+use Rattle.std.proofs.lemmas.Bool.{and_from as join, false_from_ne_true, true_from_ne_false}
 use Rattle.std.specs.Int.{int_div_euclid, int_rem_euclid}
 use Rattle.jiff_core.proofs.SignedLemmas.{signed_arith}
 use Rattle.jiff_core.specs.Date.{epoch_day}
@@ -9,7 +9,7 @@ use Rattle.gix_date.specs.Families.Epoch.{utc_time}
 use Rattle.gix_date.specs.Printing.LocalClocks.{clock_of, date_of_day, local_day, second_of_day}
 use Rattle.gix_date.proofs.Printing.LocalClocks.{date-of-day}
 use Rattle.gix_date.specs.Fields.Zoned.{is_instant, first_second, last_second}
-use Rattle.gix_date.proofs.Fields.Instants.{instant_holds, join, z_holds}
+use Rattle.gix_date.proofs.Fields.Instants.{instant_holds, z_holds}
 use Rattle.git_date.specs.Dates.{utc_clock, shown_clock}
 use Rattle.git_date.specs.declared.clocks.UtcClock.{UtcClock}
 

@@ -1,6 +1,7 @@
 -- Fields of dates, clocks and offsets, and layouts.
 pub mod FieldsRead
 pub mod FieldsTaken
+pub mod ColonOffsets
 pub mod Layouts
 pub mod AfterDay
 pub mod NamesRead

@@ -1,31 +1,35 @@
 -- ISO 8601, or its strict form, and one of Git's own forms say the same of a text that both hold.
 use Rattle.std.proofs.Common.{◌≡◌, ◌∙◌, ◌<◌, ◌≤◌, ℕ, ℤ, pos, Bool, true, false, cond, List, [], ◌∷◌, ◌++◌, length, refl, ap, sym, subst, arith, append-nil, append_assoc, length-append, Some, None, Option, option_map, is_some, unsigned_abs, IsAscii, IsUtf8, inl, inr, ◌⊎◌, encode_utf8_all, get_or, zero, suc}
-use Rattle.std.proofs.lemmas.Bool.{and_parts as both}
+use Rattle.std.proofs.lemmas.Option.{cond_some as guard, same_Some as same_some}
+use Rattle.std.proofs.lemmas.Bool.{or_right, and_parts as both, and_from as join, not-true as not_is}
 use Rattle.std.proofs.lemmas.Bool.Decides.{nat_tests}
-use Rattle.std.proofs.lemmas.List.Splits.{slice_split-cons_yes, slice_split-cons_no}
+use Rattle.std.proofs.lemmas.List.Elements.{All-cons, All-nil}
+use Rattle.std.proofs.lemmas.List.Folds.{list_any-append}
+use Rattle.std.proofs.lemmas.List.Splits.{slice_split_at, slice_split_none}
 use Rattle.std.proofs.lemmas.List.Sums.{position_or_len_is}
 use Rattle.std.proofs.lemmas.Str.{chars-IsAscii, encodes-IsAscii, IsAscii-append}
 use Rattle.std.proofs.Math.Seq.{take-length}
 use Rattle.std.specs.Char.{is_ascii_digit, is_whitespace}
-use Rattle.std.specs.List.{list_all, slice_split, onto_first, before_first, position_or_len}
+use Rattle.std.specs.List.{All, list_all, slice_split, before_first}
 use Rattle.std.specs.Option.{option_or}
 use Rattle.std.specs.Prelude.{◌==◌, ◌&&◌, ◌||◌, nat_lt, nat_le, not, codes, take, unwrap_or}
-use Rattle.std.specs.Str.{chars, trim, trim_start, trim_end, bytes_eq, skip_leading_whitespace, drop_trailing_whitespace}
+use Rattle.std.specs.Str.{all_ascii_digits, chars, trim, trim_start, trim_end, skip_leading_whitespace, drop_trailing_whitespace}
 use Rattle.std.specs.Str.Parse.{digits_value}
 use Rattle.gix_date.specs.Families.Answer.{FamilyAnswer, Absolute, OffsetAboveDay}
 use Rattle.gix_date.specs.Families.Laws.{Agree, ComesFirst, Holds}
 use Rattle.gix_date.specs.Families.Order.{Iso8601, Iso8601Strict, GitForm, RelativeText, family_answer, first_family_by}
 use Rattle.gix_date.specs.Families.Patterns.{date_answer, iso8601_answer, iso8601_strict_answer, max_date_offset}
 use Rattle.gix_date.specs.Families.Raw.{OffsetRule}
+use Rattle.gix_date.specs.Fields.FieldTexts.{AreDigits, IsPair, IsSign, IsDigit, IsField, IsYear, AreSpaces, IsPlainDate, IsClock}
 use Rattle.gix_date.specs.Fields.Civil.{civil_instant}
 use Rattle.gix_date.specs.Fields.DateFields.{read_plain_date, without_leap_second}
-use Rattle.gix_date.specs.Fields.DateOffsets.{is_jiff_offset, jiff_offset, compact_offset, strict_offset, last_colon_pair}
-use Rattle.gix_date.specs.Fields.FieldTexts.{IsDigit, IsField, IsYear, AreSpaces, IsPlainDate, IsClock}
+use Rattle.gix_date.specs.Fields.DateOffsets.{is_jiff_offset, jiff_offset, compact_offset, strict_offset}
 use Rattle.gix_date.specs.Text.Front.{ReadFront, skip_char, ◌>>=◌}
-use Rattle.gix_date.specs.Fields.Offsets.{read_sign, offset_fields, offset_of, offset_by, last_pair, SignedPairs, OffsetSign}
+use Rattle.gix_date.specs.Fields.Offsets.{read_sign, offset_fields, offset_of, SignedPairs, OffsetSign}
 use Rattle.gix_date.specs.Git.Clock.{at_most, digits_at_most, clock_of_fields, clock_of_parts, clock_with_colons, clock_without_colons, trimmed_clock, git_clock}
 use Rattle.gix_date.specs.Git.ClockCut.{is_sign, last_space, clock_cut}
-use Rattle.gix_date.specs.Git.Forms.{without_colons, offset_of_digits, is_within_a_day, git_offset, git_time, git_form, git_front, dotted_front, compact_front, flexible_front, read_marked_date, read_compact_date, time_with_rest, time_of_cut}
+use Rattle.gix_date.specs.Git.Grammar.{AreClockPairs, AreClockParts, IsGitOffset}
+use Rattle.gix_date.specs.Git.Forms.{without_colons, git_offset, git_time, git_form, git_front, dotted_front, compact_front, flexible_front, read_marked_date, read_compact_date, time_with_rest, time_of_cut}
 use Rattle.gix_date.specs.Text.Characters.{space, minus, colon, letter_t, is_space, is_dot, is_colon, has_colon}
 use Rattle.gix_date.specs.Text.Numbers.{read_two_digits, read_field, read_year}
 use Rattle.gix_date.specs.Fields.Layout.{LocalClock, LocalDate}
@@ -33,19 +37,23 @@ use Rattle.gix_date.specs.declared.time.Time.{Time}
 use Rattle.gix_date.proofs.Families.Apart.{no_pair}
 use Rattle.gix_date.proofs.Text.AsciiCuts.{ascii-by}
 use Rattle.gix_date.proofs.Git.ClockCuts.{space_low}
-use Rattle.gix_date.proofs.Git.ClockParts.{field_yes}
+use Rattle.gix_date.proofs.Git.ClockParts.{before_none, field_yes}
 use Rattle.gix_date.proofs.Families.Disjoint.{digit_visible}
-use Rattle.gix_date.proofs.Families.Exclusive.{answered, absolute, alone-first, git-first, relative-first, counting, differ, drop-visible, space_ascii, space-white, field-visible, digits-visible, visible-append}
+use Rattle.gix_date.proofs.Families.Exclusive.{answered, absolute, alone-first, differ, drop-visible, space_ascii, space-white, field-visible, digits-visible, visible-append}
 use Rattle.gix_date.proofs.Fields.FieldsRead.{Begins, BeginsNot, begins-append, field-begins, year-begins, year-read, date-read, gap-front}
 use Rattle.gix_date.proofs.Git.Fronts.{gap-taken}
-use Rattle.gix_date.proofs.Fields.FieldsTaken.{went, guard, after-taken, two-taken}
+use Rattle.gix_date.proofs.Fields.FieldsTaken.{went}
 use Rattle.gix_date.proofs.Text.FirstBytes.{plain-year}
 use Rattle.gix_date.proofs.Text.FirstWords.{AreVisible, is_visible, visible_stays, are-ascii}
-use Rattle.gix_date.proofs.Fields.Instants.{join}
 use Rattle.gix_date.proofs.Fields.Layouts.{dates_spelled}
-use Rattle.gix_date.proofs.Fast.FastHeaders.{sign-taken, same_some}
-use Rattle.gix_date_laws.proofs.GitCuts.{IsUsualOffset, is_clock_byte, skip_any, digit-byte, digit-no-colon, all-imply, pair-then, pair-last, clock-ascii, mark-sign, mark-no-z, IsOffsetText, offset-taken, gap-at, cut-after-space, cut-by-sign, cut-at-a-sign, is_no_space, byte-is-no-space, all-append}
-use Rattle.gix_date.proofs.Relative.QuietDates.{year-digits}
+use Rattle.gix_date.proofs.Fast.FastHeaders.{offset-taken}
+use Rattle.gix_date.proofs.Fields.ColonOffsets.{AreLastSeconds, strict-taken}
+use Rattle.gix_date_laws.proofs.FirstFamily.{counting, git-first, relative-first}
+use Rattle.gix_date_laws.proofs.Grammars.{pair-of, sign-of}
+use Rattle.gix_date_laws.proofs.GitClocks.{clock-is}
+use Rattle.gix_date_laws.proofs.GitOffsets.{offset-is, sign-no-z}
+use Rattle.gix_date_laws.proofs.GitCuts.{is_clock_byte, digit-byte, digit-no-colon, all-get, all-imply, mark-sign, IsOffsetText, gap-at, cut-after-space, cut-by-sign, cut-at-a-sign, is_no_space, byte-is-no-space, all-append}
+use Rattle.gix_date.proofs.Relative.QuietDates.{field-digits, year-digits}
 use Rattle.gix_date.proofs.Families.Ranges.{near}
 use Rattle.gix_date.proofs.Text.ShortDigits.{value-more}
 use Rattle.gix_date.proofs.Text.Trimmed.{kept}
@@ -109,122 +117,83 @@ trimmed-to x y z a b c s d =
     ∙ ap (λ (cs : List ℕ). encode_utf8_all (drop_trailing_whitespace cs)) (chars-IsAscii y b)
     ∙ ap encode_utf8_all d ∙ encodes-IsAscii z c
 
--- A clock `h:m:s` as Git's forms read it.
-field-bytes : (t : List ℕ) (n : ℕ) → IsField t n → list_all is_clock_byte t ≡ true
-field-bytes [] n h = absurd h
-field-bytes (a ∷ []) n h = join _ _ (digit-byte a h.0) refl
-field-bytes (a ∷ b ∷ []) n h = join _ _ (digit-byte a h.0) (join _ _ (digit-byte b h.1) refl)
-field-bytes (a ∷ b ∷ c ∷ t) n h = absurd h
+-- Digits among colons.
+struck-digits : (t : List ℕ) → all_ascii_digits t ≡ true → (without_colons t ≡ t) × (list_all is_clock_byte t ≡ true)
+struck-digits [] h = (refl, refl)
+struck-digits (c ∷ t) h =
+    let p = both (is_ascii_digit c) (all_ascii_digits t) h in
+    let more = struck-digits t p.1 in
+    (rw (digit-no-colon c p.0) (ap (λ (x : List ℕ). c ∷ x) more.0), join _ _ (digit-byte c p.0) more.1)
+
+no-colons : (t : List ℕ) → all_ascii_digits t ≡ true → All (λ c. is_colon c ≡ false) t
+no-colons [] h = All-nil (λ c. is_colon c ≡ false)
+no-colons (c ∷ t) h =
+    let p = both (is_ascii_digit c) (all_ascii_digits t) h in
+    All-cons (λ c. is_colon c ≡ false) c t (digit-no-colon c p.0) (no-colons t p.1)
 
 field-some : (t : List ℕ) (n : ℕ) → IsField t n → 0 < length t
 field-some [] n h = absurd h
 field-some (a ∷ t) n h = omega arith
 
-field-then : (t rest : List ℕ) (n : ℕ) → IsField t n → slice_split is_colon (t ++ (colon ∷ rest)) ≡ t ∷ slice_split is_colon rest
-field-then [] rest n h = absurd h
-field-then (a ∷ []) rest n h = slice_split-cons_no is_colon a (colon ∷ rest) (digit-no-colon a h.0) ∙ ap (onto_first a) (slice_split-cons_yes is_colon colon rest refl)
-field-then (a ∷ b ∷ []) rest n h = pair-then a b rest h.0 h.1
-field-then (a ∷ b ∷ c ∷ t) rest n h = absurd h
+field-value : (t : List ℕ) (n v : ℕ) → IsField t n → AreDigits t v → v ≡ n
+field-value (a ∷ []) n v h d =
+    let one = value-more (a ∷ []) 0 (omega arith) h.0 in
+    omega (arith, one, h.1, d.2)
+field-value (a ∷ b ∷ []) n v h d =
+    let one = value-more (a ∷ b ∷ []) 0 (omega arith) h.0 in
+    let two = value-more (a ∷ b ∷ []) 1 (omega arith) h.1 in
+    omega (arith, one, two, h.2, d.2)
+field-value t n v h d = absurd h
 
-field-last : (t : List ℕ) (n : ℕ) → IsField t n → slice_split is_colon t ≡ t ∷ []
-field-last [] n h = absurd h
-field-last (a ∷ []) n h = slice_split-cons_no is_colon a [] (digit-no-colon a h.0)
-field-last (a ∷ b ∷ []) n h = pair-last a b h.0 h.1
-field-last (a ∷ b ∷ c ∷ t) n h = absurd h
+same-clock : (k c : LocalClock) → k.hour ≡ c.hour → k.minute ≡ c.minute → k.second ≡ c.second → k ≡ c
+same-clock k c hour minute second = λ i. record { hour = hour i; minute = minute i; second = second i }
 
-field-colon : (t rest : List ℕ) (n : ℕ) → IsField t n → has_colon (t ++ (colon ∷ rest)) ≡ true
-field-colon [] rest n h = absurd h
-field-colon (a ∷ []) rest n h = rw (digit-no-colon a h.0) refl
-field-colon (a ∷ b ∷ []) rest n h = rw (digit-no-colon a h.0, digit-no-colon b h.1) refl
-field-colon (a ∷ b ∷ c ∷ t) rest n h = absurd h
-
-field-most : (most : ℕ) (t : List ℕ) (n : ℕ) → IsField t n → digits_at_most most t ≡ at_most most n
-field-most most [] n h = absurd h
-field-most most (a ∷ []) n h =
-    let ds = a ∷ [] in
-    let one = value-more ds 0 (omega arith) h.0 in
-    let value : digits_value 10 ds ≡ n = omega (arith, one, h.1) in
-    sym (field_yes most ds (join _ _ h.0 refl) (omega arith)) ∙ ap (at_most most) value
-field-most most (a ∷ b ∷ []) n h =
-    let ds = a ∷ b ∷ [] in
-    let one = value-more ds 0 (omega arith) h.0 in
-    let two = value-more ds 1 (omega arith) h.1 in
-    let value : digits_value 10 ds ≡ n = omega (arith, one, two, h.2) in
-    sym (field_yes most ds (join _ _ h.0 (join _ _ h.1 refl)) (omega arith)) ∙ ap (at_most most) value
-field-most most (a ∷ b ∷ c ∷ t) n h = absurd h
-
--- its bytes, and what they say
-record ClockText (t : List ℕ) (hour minute second : ℕ) : Type 0 where
+-- A clock `h:m:s`: its bytes, and what Git's forms read of its parts.
+record ClockText (t : List ℕ) (clock : LocalClock) : Type 0 where
   bytes : list_all is_clock_byte t ≡ true
   long : 4 < length t
   begins : Begins is_ascii_digit t
-  says : trimmed_clock t ≡ clock_of_fields (at_most 23 hour) (at_most 59 minute) (at_most 59 second)
+  colons : has_colon t ≡ true
+  says : (k : LocalClock) → AreClockParts (slice_split is_colon t) k → k ≡ clock
 
-clock-text : (t : List ℕ) (clock : LocalClock) (h : IsClock t clock) → ClockText t clock.hour clock.minute h.seconds
-unfolding trimmed_clock clock_with_colons
+clock-text : (t : List ℕ) (clock : LocalClock) → IsClock t clock → ClockText t clock
 clock-text t clock h =
-    let x = h.hour ++ (colon ∷ (h.minute ++ (colon ∷ h.second))) in
+    let rest = h.minute ++ (colon ∷ h.second) in
+    let x = h.hour ++ (colon ∷ rest) in
     let split : t ≡ x = rw h.whole (simp append_assoc) in
-    let bytes : list_all is_clock_byte x ≡ true =
-    all-append is_clock_byte h.hour (colon ∷ (h.minute ++ (colon ∷ h.second))) (field-bytes h.hour clock.hour h.is_hour)
-    (all-append is_clock_byte h.minute (colon ∷ h.second) (field-bytes h.minute clock.minute h.is_minute) (field-bytes h.second h.seconds h.is_second)) in
+    let hours = field-digits h.hour clock.hour h.is_hour in
+    let minutes = field-digits h.minute clock.minute h.is_minute in
+    let seconds = field-digits h.second h.seconds h.is_second in
     let parts : slice_split is_colon x ≡ h.hour ∷ h.minute ∷ h.second ∷ [] =
-    field-then h.hour (h.minute ++ (colon ∷ h.second)) clock.hour h.is_hour
-    ∙ ap (λ (ps : List (List ℕ)). h.hour ∷ ps) (field-then h.minute h.second clock.minute h.is_minute
-    ∙ ap (λ (ps : List (List ℕ)). h.minute ∷ ps) (field-last h.second h.seconds h.is_second)) in
-    let sizes = length-append h.hour (colon ∷ (h.minute ++ (colon ∷ h.second))) in
+    slice_split_at is_colon h.hour colon rest (no-colons h.hour hours) refl
+    ∙ ap (λ (ps : List (List ℕ)). h.hour ∷ ps) (slice_split_at is_colon h.minute colon h.second (no-colons h.minute minutes) refl
+    ∙ ap (λ (ps : List (List ℕ)). h.minute ∷ ps) (slice_split_none is_colon h.second (no-colons h.second seconds))) in
+    let sizes = length-append h.hour (colon ∷ rest) in
     let more = length-append h.minute (colon ∷ h.second) in
-    subst (λ (k : List ℕ). ClockText k clock.hour clock.minute h.seconds) (sym split) (record {
-      bytes = bytes;
+    subst (λ (k : List ℕ). ClockText k clock) (sym split) (record {
+      bytes = all-append is_clock_byte h.hour (colon ∷ rest) (struck-digits h.hour hours).1
+          (all-append is_clock_byte h.minute (colon ∷ h.second) (struck-digits h.minute minutes).1 (struck-digits h.second seconds).1);
       long = omega (arith, sizes, more, field-some h.hour clock.hour h.is_hour, field-some h.minute clock.minute h.is_minute, field-some h.second h.seconds h.is_second);
-      begins = begins-append is_ascii_digit h.hour (colon ∷ (h.minute ++ (colon ∷ h.second))) (field-begins h.hour clock.hour h.is_hour);
-      says = ap (λ q. cond q (cond (has_colon x) (clock_of_parts (slice_split is_colon x)) (clock_without_colons x)) None) (clock-ascii x bytes)
-          ∙ ap (λ q. cond q (clock_of_parts (slice_split is_colon x)) (clock_without_colons x)) (field-colon h.hour (h.minute ++ (colon ∷ h.second)) clock.hour h.is_hour)
-          ∙ ap clock_of_parts parts
-          ∙ ap (λ k. clock_of_fields k (digits_at_most 59 h.minute) (digits_at_most 59 h.second)) (field-most 23 h.hour clock.hour h.is_hour)
-          ∙ ap (λ k. clock_of_fields (at_most 23 clock.hour) k (digits_at_most 59 h.second)) (field-most 59 h.minute clock.minute h.is_minute)
-          ∙ ap (λ k. clock_of_fields (at_most 23 clock.hour) (at_most 59 clock.minute) k) (field-most 59 h.second h.seconds h.is_second);
+      begins = begins-append is_ascii_digit h.hour (colon ∷ rest) (field-begins h.hour clock.hour h.is_hour);
+      colons = list_any-append is_colon h.hour (colon ∷ rest) ∙ or_right (has_colon h.hour) true refl;
+      says = λ k p.
+          let q = subst (λ (ps : List (List ℕ)). AreClockParts ps k) parts p in
+          let second : k.second ≡ h.seconds = field-value h.second h.seconds k.second h.is_second q.2.0 in
+          let no_leap : (h.seconds == 60) ≡ false = grind (arith, nat_tests, second, q.2.1) in
+          same-clock k clock (field-value h.hour clock.hour k.hour h.is_hour q.0.0) (field-value h.minute clock.minute k.minute h.is_minute q.1.0)
+          (second ∙ sym (h.without_leap ∙ ap (λ b. cond b 59 h.seconds) no_leap));
     })
-
-abbrev clock_at : ℕ → ℕ → ℕ → LocalClock
-clock_at h m s = record { hour = h; minute = m; second = s }
-
--- where the fields are a clock's, the second is none of 60
-clock-found : (h m s : ℕ) (k : LocalClock) → clock_of_fields (at_most 23 h) (at_most 59 m) (at_most 59 s) ≡ Some k → k ≡ clock_at h m (without_leap_second s)
-clock-found h m s k e = by (nat_lt 23 h) (nat_lt 59 m) (nat_lt 59 s) refl e
-  where
-    by : (a b c : Bool) → nat_lt 59 s ≡ c → clock_of_fields (cond a None (Some h)) (cond b None (Some m)) (cond c None (Some s)) ≡ Some k → k ≡ clock_at h m (without_leap_second s)
-    by true b c q e = absurd cc
-    by false true c q e = absurd cc
-    by false false true q e = absurd cc
-    by false false false q e =
-        let no : (s == 60) ≡ false = grind (arith, nat_tests, q) in
-        sym (same_some (clock_at h m s) k e) ∙ ap (λ b. clock_at h m (cond b 59 s)) (sym no)
 
 -- a clock ends where no dot is
 no-dot-in : (t : List ℕ) → list_all (λ c. not (is_dot c)) t ≡ true → before_first is_dot t ≡ t
 no-dot-in t h =
-    let place : position_or_len is_dot t ≡ length t = position_or_len_is is_dot t (length t) 0 (omega arith) (λ k l. fails (get_or t k 0) (all-at t h k l)) (λ l. absurd (omega arith)) in
-    ap (λ n. take n t) place ∙ take-length t
-  where
-    fails : (c : ℕ) → not (is_dot c) ≡ true → is_dot c ≡ false
-    fails c h = by (is_dot c) h
-      where
-        by : (b : Bool) → not b ≡ true → b ≡ false
-        by true h = sym h
-        by false h = refl
-
-    all-at : (xs : List ℕ) → list_all (λ c. not (is_dot c)) xs ≡ true → (i : ℕ) → i < length xs → not (is_dot (get_or xs i 0)) ≡ true
-    all-at [] h i l = absurd (omega arith)
-    all-at (x ∷ xs) h zero l = (both (not (is_dot x)) (list_all (λ c. not (is_dot c)) xs) h).0
-    all-at (x ∷ xs) h (suc i) l = all-at xs (both (not (is_dot x)) (list_all (λ c. not (is_dot c)) xs) h).1 i (omega arith)
+    before_none is_dot t (position_or_len_is is_dot t (length t) 0 (omega arith) (λ k l. not_is (is_dot (get_or t k 0)) (all-get (λ c. not (is_dot c)) t h k l)) (λ l. absurd (omega arith)))
 
 gap-ascii : (gap : List ℕ) → list_all is_space gap ≡ true → IsAscii gap
 gap-ascii gap h = ascii-by is_space space_ascii gap h
 
 -- the clock of such a text and spaces
-clock-said : (t gap : List ℕ) (clock : LocalClock) (h : IsClock t clock) → list_all is_space gap ≡ true → (k : LocalClock) → git_clock (t ++ gap) ≡ Some k → k ≡ clock
-unfolding git_clock
+clock-said : (t gap : List ℕ) (clock : LocalClock) → IsClock t clock → list_all is_space gap ≡ true → (k : LocalClock) → git_clock (t ++ gap) ≡ Some k → k ≡ clock
 clock-said t gap clock h s k e =
     let c = clock-text t clock h in
     let v = bytes-visible t c.bytes in
@@ -234,113 +203,83 @@ clock-said t gap clock h s k e =
     let quiet : list_all (λ c. not (is_dot c)) u ≡ true =
     all-append (λ c. not (is_dot c)) t gap (all-imply is_clock_byte (λ c. not (is_dot c)) t (λ c q. ap not (byte-no-dot c q)) c.bytes) (all-imply is_space (λ c. not (is_dot c)) gap (λ c q. ap not (space-no-dot c q)) s) in
     let trimmed : trim u ≡ t = trimmed-to u u t ua ua a (skip-none u (begins-append is_ascii_digit t gap c.begins)) (drop-after t gap v s) in
-    let whole : trimmed_clock (trim (before_first is_dot u)) ≡ trimmed_clock t = ap (λ (x : List ℕ). trimmed_clock (trim x)) (no-dot-in u quiet) ∙ ap trimmed_clock trimmed in
-    clock-found clock.hour clock.minute h.seconds k (sym c.says ∙ sym whole ∙ e) ∙ ap (λ n. clock_at clock.hour clock.minute n) (sym h.without_leap)
+    let g = clock-is u k e in
+    c.says k (by c.colons g.shown (g.is_shown ∙ ap trim (no-dot-in u quiet) ∙ trimmed) g.is)
+  where
+    by : has_colon t ≡ true → (x : List ℕ) → x ≡ t → ((has_colon x ≡ true) × AreClockParts (slice_split is_colon x) k) ⊎ ((has_colon x ≡ false) × AreClockPairs x k)
+        → AreClockParts (slice_split is_colon t) k
+    by colons x same (inl p) = subst (λ (y : List ℕ). AreClockParts (slice_split is_colon y) k) same p.1
+    by colons x same (inr p) = let clash : true ≡ false = sym colons ∙ ap has_colon (sym same) ∙ p.0 in absurd cc
 
 -- An offset as a formatted date reads it, and what Git's forms read of it.
 pub record Zone (z : List ℕ) (f : SignedPairs) : Type 0 where
   pub is : IsOffsetText z
   pub says : (o : ℤ) → git_offset z ≡ Some o → (o ≡ offset_of f) × (nat_lt max_date_offset (unsigned_abs (offset_of f)) ≡ false)
 
+-- behind its sign, colons aside, pairs of hours and minutes, and perhaps of seconds
+record HasPairs (z : List ℕ) (f : SignedPairs) : Type 0 where
+  mark : ℕ
+  rest : List ℕ
+  hours : List ℕ
+  minutes : List ℕ
+  last : List ℕ
+  whole : z ≡ mark ∷ rest
+  is_mark : IsSign mark f.sign
+  struck : without_colons rest ≡ hours ++ (minutes ++ last)
+  are_hours : IsPair hours f.hours
+  are_minutes : IsPair minutes f.minutes
+  is_last : last ≡ [] → f.seconds ≡ None
+  some : 0 < length rest
+  first : is_ascii_digit (get_or rest 0 0) ≡ true
+  bytes : list_all is_clock_byte rest ≡ true
+
+no-more : (p : ℕ × List ℕ) → Some p ≡ read_two_digits [] → ⊥
+unfolding read_two_digits
+no-more p h = cc
+
+-- the same digits in pairs have the same numbers, and only two pairs are Git's
+pairs-same : (hours minutes last other more : List ℕ) (n m k l : ℕ) → hours ++ (minutes ++ last) ≡ other ++ more → IsPair hours n → IsPair minutes m → IsPair other k
+    → (IsPair more l × (l ≤ 59)) ⊎ ((more ≡ []) × (l ≡ 0)) → (last ≡ []) × (n ≡ k) × (m ≡ l) × (m ≤ 59)
+pairs-same hours minutes last other more n m k l e i j p q =
+    let one : (n, minutes ++ last) ≡ (k, more) = same_some (n, minutes ++ last) (k, more) (sym (pair-of hours n (minutes ++ last) i) ∙ ap read_two_digits e ∙ pair-of other k more p) in
+    by (ap (λ (x : ℕ × List ℕ). x.0) one) (ap (λ (x : ℕ × List ℕ). x.1) one) q
+  where
+    by : n ≡ k → minutes ++ last ≡ more → (IsPair more l × (l ≤ 59)) ⊎ ((more ≡ []) × (l ≡ 0)) → (last ≡ []) × (n ≡ k) × (m ≡ l) × (m ≤ 59)
+    by same rest (inl q) =
+        let two : (m, last) ≡ (l, []) = same_some (m, last) (l, []) (sym (pair-of minutes m last j) ∙ ap read_two_digits (rest ∙ sym (append-nil more)) ∙ pair-of more l [] q.0) in
+        let number : m ≡ l = ap (λ (x : ℕ × List ℕ). x.0) two in
+        (ap (λ (x : ℕ × List ℕ). x.1) two, same, number, omega (arith, number, q.1))
+    by same rest (inr q) = absurd (no-more (m, last) (sym (pair-of minutes m last j) ∙ ap read_two_digits (rest ∙ q.0)))
+
+same-offset : (f g : SignedPairs) → f.sign ≡ g.sign → f.hours ≡ g.hours → f.minutes ≡ g.minutes → f.seconds ≡ g.seconds → offset_of f ≡ offset_of g
+same-offset f g a b c d = cc
+
 short : (f : SignedPairs) → f.seconds ≡ None → f.hours ≤ 23 → f.minutes ≤ 59 → nat_lt max_date_offset (unsigned_abs (offset_of f)) ≡ false
 short f none h m =
     let small = near f h m (ap (λ (s : Option ℕ). unwrap_or s 0) none) in
     grind (arith, nat_tests, small)
 
--- sign, hours and minutes that have been read, perhaps after a colon, and nothing more
-short-zone : (z : List ℕ) (f : SignedPairs) → IsUsualOffset z f → Zone z f
-short-zone z f h =
-    let t = offset-taken z f h in
-    record {
-      is = t.is;
-      says = λ o e. (let g = guard (is_within_a_day f) (offset_of f) o (sym t.says ∙ e) in
-          let p = both (nat_le f.hours 23) (nat_le f.minutes 59) g.0 in
-          (sym g.1, short f h.seconds (grind (arith, nat_tests, p.0)) (grind (arith, nat_tests, p.1))));
-    }
+zone-says : (z : List ℕ) (f : SignedPairs) → HasPairs z f → (o : ℤ) → git_offset z ≡ Some o → (o ≡ offset_of f) × (nat_lt max_date_offset (unsigned_abs (offset_of f)) ≡ false)
+zone-says z f h o e = by (offset-is z o e)
+  where
+    by : IsGitOffset z o → (o ≡ offset_of f) × (nat_lt max_date_offset (unsigned_abs (offset_of f)) ≡ false)
+    by (inl (inl none, v)) = let clash : [] ≡ h.mark ∷ h.rest = sym none ∙ h.whole in absurd cc
+    by (inl (inr is_z, v)) = absurd (sign-no-z h.mark f.sign h.is_mark (ap (λ (t : List ℕ). get_or t 0 0) (sym h.whole ∙ is_z)))
+    by (inr s) =
+        let same : (f.sign, h.rest) ≡ (s.fields.sign, s.body) =
+        same_some (f.sign, h.rest) (s.fields.sign, s.body) (sym (sign-of h.mark f.sign h.rest h.is_mark) ∙ ap read_sign (sym h.whole ∙ s.whole) ∙ sign-of s.mark s.fields.sign s.body s.is_mark) in
+        let digits : h.hours ++ (h.minutes ++ h.last) ≡ s.hours ++ s.minutes = sym h.struck ∙ ap (λ (x : OffsetSign × List ℕ). without_colons x.1) same ∙ s.digits in
+        let p = pairs-same h.hours h.minutes h.last s.hours s.minutes f.hours f.minutes s.fields.hours s.fields.minutes digits h.are_hours h.are_minutes s.are_hours.0 s.are_minutes in
+        let none = h.is_last p.0 in
+        let low : f.hours ≤ 23 = omega (arith, p.1, s.are_hours.1) in
+        let is : offset_of f ≡ offset_of s.fields = same-offset f s.fields (ap (λ (x : OffsetSign × List ℕ). x.0) same) p.1 p.2 (none ∙ sym s.no_seconds) in
+        (s.value ∙ sym is, short f none low p.3)
 
--- six digits are none of Git's offsets
-six : (z : List ℕ) (sign : OffsetSign) (rest : List ℕ) (a b c d x : ℕ) (more : List ℕ) → read_sign z ≡ Some (sign, rest) → without_colons rest ≡ a ∷ b ∷ c ∷ d ∷ x ∷ more → git_offset z ≡ None
-unfolding git_offset
-six z sign rest a b c d x more e h =
-    let s = sign-taken z sign rest e in
-    let no_z : (length z == 0 || bytes_eq z (codes "Z")) ≡ false = ap (λ (t : List ℕ). length t == 0 || bytes_eq t (codes "Z")) s.whole ∙ mark-no-z s.mark sign rest s.is_mark in
-    ap (λ q. cond q (Some (pos 0)) (read_sign z >>= λ g. offset_of_digits g.0 (without_colons g.1) >>= offset_by is_within_a_day)) no_z
-    ∙ ap (λ (r : ReadFront OffsetSign). r >>= λ g. offset_of_digits g.0 (without_colons g.1) >>= offset_by is_within_a_day) e
-    ∙ ap (λ (t : List ℕ). offset_of_digits sign t >>= offset_by is_within_a_day) h
-
-no-git-zone : (z : List ℕ) (f : SignedPairs) → git_offset z ≡ None → (o : ℤ) → git_offset z ≡ Some o → (o ≡ offset_of f) × (nat_lt max_date_offset (unsigned_abs (offset_of f)) ≡ false)
-no-git-zone z f n o e = let clash : None ≡ Some o = sym n ∙ e in absurd cc
-
-long-zone : (z : List ℕ) (f : SignedPairs) (sign : OffsetSign) (rest : List ℕ) (a b c d x : ℕ) (more : List ℕ) → read_sign z ≡ Some (sign, rest) → 0 < length rest
-    → is_ascii_digit (get_or rest 0 0) ≡ true → list_all is_clock_byte rest ≡ true → without_colons rest ≡ a ∷ b ∷ c ∷ d ∷ x ∷ more → Zone z f
-long-zone z f sign rest a b c d x more e some first bytes struck =
-    let s = sign-taken z sign rest e in
-    record {
-      is = record { sign = s.mark; rest = rest; whole = s.whole; is_sign = mark-sign s.mark sign s.is_mark; some = some; first = first; bytes = bytes };
-      says = no-git-zone z f (six z sign rest a b c d x more e struck);
-    }
-
--- `+hhmm`, or with seconds
-abbrev fields_at : OffsetSign → ℕ → ℕ → Option ℕ → SignedPairs
-fields_at sign h m s = record { sign = sign; hours = h; minutes = m; seconds = s }
-
-colon-after-digit : (d : ℕ) (t : List ℕ) → IsDigit d → skip_any colon (d ∷ t) ≡ d ∷ t
-unfolding skip_char
-colon-after-digit d t h = rw (digit-no-colon d h) refl
-
-last-two : (a b v : ℕ) (p q : Bool) (seconds : Option ℕ) → is_ascii_digit a ≡ p → is_ascii_digit b ≡ q → option_map {U = Option ℕ} (λ n. Some n) (cond (p && q) (Some v) None) ≡ Some seconds → IsDigit a × IsDigit b
-last-two a b v true true seconds e f h = (e, f)
-last-two a b v true false seconds e f h = absurd cc
-last-two a b v false q seconds e f h = absurd cc
-
-compact-after : (z : List ℕ) (sign : OffsetSign) (h m : ℕ) (seconds : Option ℕ) (r1 r2 r3 : List ℕ) → read_sign z ≡ Some (sign, r1) → read_two_digits r1 ≡ Some (h, r2) → read_two_digits r2 ≡ Some (m, r3) → last_pair r3 ≡ Some seconds
-    → Zone z (fields_at sign h m seconds)
-unfolding last_pair
-compact-after z sign h m seconds r1 r2 [] e f g k =
-    let none : None ≡ seconds = same_some None seconds k in
-    let c = two-taken r2 m [] g in
-    let after : skip_any colon r2 ≡ r2 = ap (skip_any colon) c.whole ∙ colon-after-digit c.tens (c.ones ∷ []) c.is_tens ∙ sym c.whole in
-    short-zone z (fields_at sign h m seconds) (record { after_sign = r1; after_hours = r2; sign = e; hours = f; minutes = ap read_two_digits after ∙ g; seconds = sym none })
-compact-after z sign h m seconds r1 r2 (x ∷ []) e f g k = absurd cc
-compact-after z sign h m seconds r1 r2 (x ∷ y ∷ []) e f g k =
-    let b = two-taken r1 h r2 f in
-    let c = two-taken r2 m (x ∷ y ∷ []) g in
-    let last = last-two x y _ (is_ascii_digit x) (is_ascii_digit y) seconds refl refl k in
-    let rest = b.tens ∷ b.ones ∷ c.tens ∷ c.ones ∷ x ∷ y ∷ [] in
-    let whole : r1 ≡ rest = b.whole ∙ ap (λ (t : List ℕ). b.tens ∷ b.ones ∷ t) c.whole in
-    let bytes : list_all is_clock_byte rest ≡ true =
-    join _ _ (digit-byte b.tens b.is_tens) (join _ _ (digit-byte b.ones b.is_ones) (join _ _ (digit-byte c.tens c.is_tens) (join _ _ (digit-byte c.ones c.is_ones) (join _ _ (digit-byte x last.0) (join _ _ (digit-byte y last.1) refl))))) in
-    let struck : without_colons rest ≡ rest =
-    rw (digit-no-colon b.tens b.is_tens, digit-no-colon b.ones b.is_ones, digit-no-colon c.tens c.is_tens, digit-no-colon c.ones c.is_ones, digit-no-colon x last.0, digit-no-colon y last.1) refl in
-    long-zone z (fields_at sign h m seconds) sign rest b.tens b.ones c.tens c.ones x (y ∷ []) (e ∙ ap (λ (t : List ℕ). Some (sign, t)) whole) (omega arith) b.is_tens bytes struck
-compact-after z sign h m seconds r1 r2 (x ∷ y ∷ w ∷ t) e f g k = absurd cc
-
-with-colon : (w : ℕ) (b : Bool) (found : Option (Option ℕ)) (seconds : Option ℕ) → (w == colon) ≡ b → cond b found None ≡ Some seconds → (w ≡ colon) × (found ≡ Some seconds)
-with-colon w true found seconds p h = (grind (arith, nat_tests, p), h)
-with-colon w false found seconds p h = absurd cc
-
--- `+hh:mm`, or with seconds
-strict-after : (z : List ℕ) (sign : OffsetSign) (h m : ℕ) (seconds : Option ℕ) (r1 r2 r r3 : List ℕ) → read_sign z ≡ Some (sign, r1) → read_two_digits r1 ≡ Some (h, r2) → skip_char colon r2 ≡ Some r → read_two_digits r ≡ Some (m, r3)
-    → last_colon_pair r3 ≡ Some seconds → Zone z (fields_at sign h m seconds)
-unfolding last_colon_pair
-strict-after z sign h m seconds r1 r2 r [] e f q g k =
-    let none : None ≡ seconds = same_some None seconds k in
-    short-zone z (fields_at sign h m seconds) (record { after_sign = r1; after_hours = r2; sign = e; hours = f; minutes = rw q g; seconds = sym none })
-strict-after z sign h m seconds r1 r2 r (w ∷ []) e f q g k = absurd cc
-strict-after z sign h m seconds r1 r2 r (w ∷ x ∷ []) e f q g k = absurd cc
-strict-after z sign h m seconds r1 r2 r (w ∷ x ∷ y ∷ []) e f q g k =
-    let b = two-taken r1 h r2 f in
-    let c = two-taken r m (w ∷ x ∷ y ∷ []) g in
-    let mark = with-colon w (w == colon) _ seconds refl k in
-    let last = last-two x y _ (is_ascii_digit x) (is_ascii_digit y) seconds refl refl mark.1 in
-    let rest = b.tens ∷ b.ones ∷ colon ∷ c.tens ∷ c.ones ∷ colon ∷ x ∷ y ∷ [] in
-    let whole : r1 ≡ rest = b.whole ∙ ap (λ (t : List ℕ). b.tens ∷ b.ones ∷ t) (after-taken colon r2 r q ∙ ap (λ (t : List ℕ). colon ∷ t) (c.whole ∙ ap (λ i. c.tens ∷ c.ones ∷ i ∷ x ∷ y ∷ []) mark.0)) in
-    let bytes : list_all is_clock_byte rest ≡ true =
-    join _ _ (digit-byte b.tens b.is_tens) (join _ _ (digit-byte b.ones b.is_ones) (join _ _ (digit-byte c.tens c.is_tens) (join _ _ (digit-byte c.ones c.is_ones) (join _ _ (digit-byte x last.0) (join _ _ (digit-byte y last.1) refl))))) in
-    let struck : without_colons rest ≡ b.tens ∷ b.ones ∷ c.tens ∷ c.ones ∷ x ∷ y ∷ [] =
-    rw (digit-no-colon b.tens b.is_tens, digit-no-colon b.ones b.is_ones, digit-no-colon c.tens c.is_tens, digit-no-colon c.ones c.is_ones, digit-no-colon x last.0, digit-no-colon y last.1) refl in
-    long-zone z (fields_at sign h m seconds) sign rest b.tens b.ones c.tens c.ones x (y ∷ []) (e ∙ ap (λ (t : List ℕ). Some (sign, t)) whole) (omega arith) b.is_tens bytes struck
-strict-after z sign h m seconds r1 r2 r (w ∷ x ∷ y ∷ v ∷ t) e f q g k = absurd cc
+zone-of : (z : List ℕ) (f : SignedPairs) → HasPairs z f → Zone z f
+zone-of z f h = record {
+  is = record { sign = h.mark; rest = h.rest; whole = h.whole; is_sign = mark-sign h.mark f.sign h.is_mark; some = h.some; first = h.first; bytes = h.bytes };
+  says = zone-says z f h;
+}
 
 -- the fields of an offset, what they say, and Git's forms
 record Dated (z : List ℕ) (offset : ℤ) : Type 0 where
@@ -348,34 +287,72 @@ record Dated (z : List ℕ) (offset : ℤ) : Type 0 where
   is : offset ≡ offset_of fields
   zone : Zone z fields
 
+-- `+hhmm`, or with seconds
+ended : (x : List ℕ) (seconds : Option ℕ) → ((x ≡ []) × (seconds ≡ None)) ⊎ ((n : ℕ) × IsPair x n × (seconds ≡ Some n)) → x ≡ [] → seconds ≡ None
+ended x seconds (inl p) e = p.1
+ended [] seconds (inr p) e = absurd p.1
+ended (c ∷ x) seconds (inr p) e = absurd cc
+
 compact-zone : (z : List ℕ) (offset : ℤ) → compact_offset z ≡ Some offset → Dated z offset
-unfolding compact_offset offset_fields
+unfolding compact_offset
 compact-zone z offset e =
     let f = went (offset_fields z) (λ f. jiff_offset f) offset e in
-    let sign = went (read_sign z) (λ sign. read_two_digits sign.1 >>= λ h. read_two_digits h.1 >>= λ m. last_pair m.1 >>= λ s. Some (fields_at sign.0 h.0 m.0 s)) f.0 f.1 in
-    let hours = went (read_two_digits sign.0.1) (λ h. read_two_digits h.1 >>= λ m. last_pair m.1 >>= λ s. Some (fields_at sign.0.0 h.0 m.0 s)) f.0 sign.2 in
-    let minutes = went (read_two_digits hours.0.1) (λ m. last_pair m.1 >>= λ s. Some (fields_at sign.0.0 hours.0.0 m.0 s)) f.0 hours.2 in
-    let seconds = went (last_pair minutes.0.1) (λ s. Some (fields_at sign.0.0 hours.0.0 minutes.0.0 s)) f.0 minutes.2 in
-    let found : fields_at sign.0.0 hours.0.0 minutes.0.0 seconds.0 ≡ f.0 = same_some _ f.0 seconds.2 in
+    let k = offset-taken z f.0 f.1 in
+    let rest = k.h0 ∷ k.h1 ∷ k.m0 ∷ k.m1 ∷ k.last in
+    let digits = struck-digits rest (rw (k.is_h0, k.is_h1, k.is_m0, k.is_m1) k.is_last.digits) in
     record {
       fields = f.0;
       is = sym (guard (is_jiff_offset f.0) (offset_of f.0) offset f.2).1;
-      zone = subst (Zone z) found (compact-after z sign.0.0 hours.0.0 minutes.0.0 seconds.0 sign.0.1 hours.0.1 minutes.0.1 sign.1 hours.1 minutes.1 seconds.1);
+      zone = zone-of z f.0 (record {
+        mark = k.mark;
+        rest = rest;
+        hours = k.h0 ∷ k.h1 ∷ [];
+        minutes = k.m0 ∷ k.m1 ∷ [];
+        last = k.last;
+        whole = k.whole;
+        is_mark = k.is_mark;
+        struck = digits.0;
+        are_hours = (k.is_h0, k.is_h1, k.hours);
+        are_minutes = (k.is_m0, k.is_m1, k.minutes);
+        is_last = ended k.last f.0.seconds k.is_last.is;
+        some = omega arith;
+        first = k.is_h0;
+        bytes = digits.1;
+      });
     }
 
+-- `+hh:mm`, or with seconds
+last-struck : (x : List ℕ) (seconds : Option ℕ) → AreLastSeconds x seconds → (list_all is_clock_byte x ≡ true) × (without_colons x ≡ [] → seconds ≡ None)
+last-struck x seconds (inl p) = (ap (list_all is_clock_byte) p.0, λ e. p.1)
+last-struck x seconds (inr p) =
+    let left : without_colons x ≡ p.0 ∷ p.1 ∷ [] = ap without_colons p.2 ∙ rw (digit-no-colon p.0 p.3, digit-no-colon p.1 p.4) refl in
+    let bytes : list_all is_clock_byte (p.0 ∷ p.1 ∷ []) ≡ true = join _ _ (digit-byte p.0 p.3) (join _ _ (digit-byte p.1 p.4) refl) in
+    (ap (list_all is_clock_byte) p.2 ∙ bytes, λ e. let clash : p.0 ∷ p.1 ∷ [] ≡ [] = sym left ∙ e in absurd cc)
+
 strict-zone : (z : List ℕ) (offset : ℤ) → strict_offset z ≡ Some offset → Dated z offset
-unfolding strict_offset
 strict-zone z offset e =
-    let sign = went (read_sign z) (λ sign. read_two_digits sign.1 >>= λ h. skip_char colon h.1 >>= λ r. read_two_digits r >>= λ m. last_colon_pair m.1 >>= λ s. jiff_offset (fields_at sign.0 h.0 m.0 s)) offset e in
-    let hours = went (read_two_digits sign.0.1) (λ h. skip_char colon h.1 >>= λ r. read_two_digits r >>= λ m. last_colon_pair m.1 >>= λ s. jiff_offset (fields_at sign.0.0 h.0 m.0 s)) offset sign.2 in
-    let next = went (skip_char colon hours.0.1) (λ r. read_two_digits r >>= λ m. last_colon_pair m.1 >>= λ s. jiff_offset (fields_at sign.0.0 hours.0.0 m.0 s)) offset hours.2 in
-    let minutes = went (read_two_digits next.0) (λ m. last_colon_pair m.1 >>= λ s. jiff_offset (fields_at sign.0.0 hours.0.0 m.0 s)) offset next.2 in
-    let seconds = went (last_colon_pair minutes.0.1) (λ s. jiff_offset (fields_at sign.0.0 hours.0.0 minutes.0.0 s)) offset minutes.2 in
-    let f = fields_at sign.0.0 hours.0.0 minutes.0.0 seconds.0 in
+    let t = strict-taken z offset e in
+    let k = t.1 in
+    let last = last-struck k.last t.0.seconds k.is_last in
     record {
-      fields = f;
-      is = sym (guard (is_jiff_offset f) (offset_of f) offset seconds.2).1;
-      zone = strict-after z sign.0.0 hours.0.0 minutes.0.0 seconds.0 sign.0.1 hours.0.1 next.0 minutes.0.1 sign.1 hours.1 next.1 minutes.1 seconds.1;
+      fields = t.0;
+      is = t.2;
+      zone = zone-of z t.0 (record {
+        mark = k.mark;
+        rest = k.h0 ∷ k.h1 ∷ colon ∷ k.m0 ∷ k.m1 ∷ k.last;
+        hours = k.h0 ∷ k.h1 ∷ [];
+        minutes = k.m0 ∷ k.m1 ∷ [];
+        last = without_colons k.last;
+        whole = k.whole;
+        is_mark = k.is_mark;
+        struck = rw (digit-no-colon k.h0 k.is_h0, digit-no-colon k.h1 k.is_h1, digit-no-colon k.m0 k.is_m0, digit-no-colon k.m1 k.is_m1) refl;
+        are_hours = (k.is_h0, k.is_h1, k.hours);
+        are_minutes = (k.is_m0, k.is_m1, k.minutes);
+        is_last = last.1;
+        some = omega arith;
+        first = k.is_h0;
+        bytes = join _ _ (digit-byte k.h0 k.is_h0) (join _ _ (digit-byte k.h1 k.is_h1) (join _ _ (digit-byte k.m0 k.is_m0) (join _ _ (digit-byte k.m1 k.is_m1) last.0)));
+      });
     }
 
 -- Where the rest of such a text is cut: the clock may keep spaces.

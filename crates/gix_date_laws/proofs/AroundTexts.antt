@@ -17,11 +17,9 @@ use Rattle.gix_date.specs.Text.Characters.{has_colon}
 use Rattle.gix_date.proofs.Text.FirstWords.{trimmed-words, skip-scalars, drop-scalars}
 use Rattle.gix_date_laws.proofs.RawHeaders.{colon-within}
 use Rattle.gix_date.proofs.Text.WordsWithin.{words-within}
+use Rattle.gix_date.proofs.Text.Trimmed.{skips-none as skip-keep}
 
 -- a character that stays
-skip-keep : (c : ℕ) (t : List ℕ) → is_whitespace c ≡ false → skip_leading_whitespace (c ∷ t) ≡ c ∷ t
-skip-keep c t e = rw e refl
-
 drop-keep : (c : ℕ) (t : List ℕ) → is_whitespace c ≡ false → drop_trailing_whitespace (c ∷ t) ≡ c ∷ drop_trailing_whitespace t
 drop-keep c t e = rw e refl
 

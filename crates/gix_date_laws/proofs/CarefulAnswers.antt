@@ -15,7 +15,6 @@ use Rattle.gix_date.specs.Relative.Words.{PeriodUnit, relative_words, is_gap, is
 use Rattle.gix_date.specs.Relative.Dates.{RelativeDate, MinusPairs, relative_date}
 use Rattle.gix_date.specs.Relative.Roles.{are_pairs, pairs}
 use Rattle.gix_date.specs.declared.time.Time.{Time}
-use Rattle.gix_date.proofs.Families.Disjoint.{none-unless}
 use Rattle.gix_date.proofs.Relative.QuietWords.{one-run-word}
 use Rattle.gix_date.proofs.Relative.RelativeReading.{pairs_are_read}
 use Rattle.gix_date.proofs.Relative.RelativeScans.{scan, verdict_of}
@@ -29,6 +28,7 @@ use Rattle.gix_date_laws.proofs.CarefulPieces.{no-letter, no-letter-gap}
 use Rattle.gix_date_laws.proofs.CarefulUnits.{named-unit}
 use Rattle.gix_date_laws.proofs.CarefulWords.{is-unit}
 use Rattle.gix_date_laws.proofs.RelativeGrammar.{relative-spelled}
+use Rattle.gix_date.proofs.Fields.FieldsTaken.{none-unless}
 
 -- The words of the text are those of its pieces.
 is-gap : (b : ℕ) → is_ascii_alphanumeric b ≡ false → is_gap b ≡ true

@@ -1,5 +1,6 @@
 -- What careful reading says: what the first family answers, a date of the moment's zone, or a refusal.
 use Rattle.std.proofs.Common.{◌≡◌, ◌∙◌, ℕ, ℤ, Bool, true, false, List, refl, ap, sym, subst, Option, Some, None, Ok, Err, Result, inl, inr, ◌⊎◌}
+use Rattle.std.proofs.lemmas.Option.{same_Some as same_some}
 use Rattle.std.specs.Option.{option_map}
 use Rattle.std.specs.Prelude.{is_some, is_none, ◌||◌, ◌&&◌, not}
 use Rattle.std.specs.Result.{result_map_both}
@@ -26,8 +27,6 @@ use Rattle.gix_date.specs.declared.parsing.careful.Texts.TheVariants as texts
 use Rattle.gix_date.specs.declared.parsing.careful.WithoutOffset.{WithoutOffset}
 use Rattle.gix_date.specs.declared.parsing.careful.WithoutOffset.TheVariants as zone
 use Rattle.gix_date.specs.declared.time.Time.{Time}
-use Rattle.gix_date.proofs.Families.Disjoint.{none-unless}
-use Rattle.gix_date.proofs.Fast.FastHeaders.{same_some}
 use Rattle.gix_date.proofs.Git.ClockCuts.{means_cut}
 use Rattle.gix_date.proofs.Relative.Chains.{one-outcome}
 use Rattle.gix_date.proofs.Relative.Steps.{picked-once}
@@ -37,6 +36,7 @@ use Rattle.gix_date_laws.proofs.CarefulGrammar.{PairsAnswer, careful-text}
 use Rattle.gix_date_laws.proofs.GitGrammar.{front-of, git-spelled}
 use Rattle.gix_date_laws.proofs.CarefulReading.{plain-time, git-is, answers, unzoned-by-day, unzoned-by-git, unzoned-so}
 use Rattle.gix_date_laws.proofs.WholeClocks.{whole-so}
+use Rattle.gix_date.proofs.Fields.FieldsTaken.{none-unless}
 
 abbrev FirstOf : CarefulOptions → List ℕ → Reading
 FirstOf options text = First (first_family_by (allows options.raw) text)

@@ -1,6 +1,6 @@
 -- Counts of careful texts, as a test and as a fact, and that no word is two of a count, a unit, `and` and `ago`.
 use Rattle.std.proofs.Common.{◌≡◌, ◌∙◌, ◌⊎◌, inl, inr, ℕ, ℤ, pos, neg_ℤ, ◌+◌, ◌<◌, length, arith, Bool, true, false, cond, List, [], ◌∷◌, refl, ap, sym, subst, Option, Some, None}
-use Rattle.std.proofs.lemmas.Bool.{and_parts as both}
+use Rattle.std.proofs.lemmas.Bool.{and_parts as both, false_from_ne_true as not-true, not-true as not-is, not-true as not_is}
 use Rattle.std.specs.Char.{is_ascii_digit, is_ascii_alphanumeric}
 use Rattle.std.specs.List.{list_all, position}
 use Rattle.std.specs.Option.{is_some, option_map}
@@ -15,15 +15,11 @@ use Rattle.gix_date.specs.Relative.Words.{count_of, is_ago, named_count, number_
 use Rattle.gix_date.specs.Text.Characters.{plus, minus}
 use Rattle.gix_date.specs.Text.Names.{is_name, named_in, number_names}
 use Rattle.gix_date.specs.Text.Numbers.{int_value}
-use Rattle.gix_date.proofs.Relative.QuietWords.{says_nothing, like-any, like-ago, like-name, like-singular, lower-same, named-any, names_of, one-run-word}
-use Rattle.gix_date.proofs.Relative.QuietDates.{quiet-digits}
+use Rattle.gix_date.proofs.Relative.QuietWords.{says_nothing, like-any, like-ago, like-name, like-named, like-singular, lower-same, named-any, names_of, one-run-word}
+use Rattle.gix_date.proofs.Relative.QuietDates.{quiet-digits, digit_run as digit-letter, digits-run as digit-letters}
 use Rattle.gix_date.specs.Careful.Grammar.{IsPlainCount, number_words}
 use Rattle.gix_date_laws.proofs.Grammars.{bare-int, int-is}
 use Rattle.gix_date_laws.proofs.LetterCase.{count-low, digits-low}
-
-pub not-true : (b : Bool) → (b ≡ true → ⊥) → b ≡ false
-not-true true h = absurd (h refl)
-not-true false h = refl
 
 pub some-of : {A : Type 0} (o : Option A) → is_some o ≡ true → (x : A) × (o ≡ Some x)
 some-of (Some x) e = (x, refl)
@@ -58,13 +54,17 @@ digits-no-name w name d n = not-true (is_name w name) (λ e.
     let bad : true ≡ false = sym d ∙ same ∙ n in
     cc)
 
+digits-no-named : {A : Type 0} (table : List (List ℕ × A)) (w : List ℕ) → list_all is_ascii_digit w ≡ true → list_all (λ row. not (list_all is_ascii_digit row.0)) table ≡ true → named_in table w ≡ None
+digits-no-named {A} [] w d h = refl
+digits-no-named {A} ((name, said) ∷ rows) w d h =
+    let p = both (not (list_all is_ascii_digit name)) (list_all (λ row. not (list_all is_ascii_digit row.0)) rows) h in
+    rw (digits-no-name w name d (not_is (list_all is_ascii_digit name) p.0), digits-no-named rows w d p.1) refl
+
 digits-no-number : (w : List ℕ) → list_all is_ascii_digit w ≡ true → named_in number_words w ≡ None
-digits-no-number w d = rw (digits-no-name w (codes "one") d refl, digits-no-name w (codes "two") d refl, digits-no-name w (codes "three") d refl, digits-no-name w (codes "four") d refl, digits-no-name w (codes "five") d refl, digits-no-name w (codes "six") d refl, digits-no-name w (codes "seven") d refl, digits-no-name w (codes "eight") d refl, digits-no-name w (codes "nine") d refl, digits-no-name w (codes "ten") d refl) refl
+digits-no-number w d = digits-no-named number_words w d refl
 
 last-no-number : (w : List ℕ) → is_name w (codes "last") ≡ true → named_in number_words w ≡ None
-last-no-number w e =
-    let same = lower-same w (codes "last") e in
-    rw (like-name w (codes "last") (codes "one") same, like-name w (codes "last") (codes "two") same, like-name w (codes "last") (codes "three") same, like-name w (codes "last") (codes "four") same, like-name w (codes "last") (codes "five") same, like-name w (codes "last") (codes "six") same, like-name w (codes "last") (codes "seven") same, like-name w (codes "last") (codes "eight") same, like-name w (codes "last") (codes "nine") same, like-name w (codes "last") (codes "ten") same) refl
+last-no-number w e = like-named number_words w (codes "last") (lower-same w (codes "last") e)
 
 -- counts
 pub record Counts (w : List ℕ) (n : ℤ) : Type 0 where
@@ -112,13 +112,6 @@ names-quiet : list_all says_nothing (names_of number_words) ≡ true
 unfolding has_unit unit_of singular named_unit named_date
 names-quiet = refl
 
-digit-letter : (c : ℕ) → is_ascii_digit c ≡ true → is_ascii_alphanumeric c ≡ true
-digit-letter c h = rw h refl
-
-pub digit-letters : (t : List ℕ) → all_ascii_digits t ≡ true → list_all is_ascii_alphanumeric t ≡ true
-digit-letters [] h = refl
-digit-letters (c ∷ t) h = let parts = both (is_ascii_digit c) (all_ascii_digits t) h in rw (digit-letter c parts.0) (digit-letters t parts.1)
-
 pub digits-quiet : (w : List ℕ) → all_ascii_digits w ≡ true → 0 < length w → says_nothing w ≡ true
 digits-quiet [] h l = absurd (omega (arith, l))
 digits-quiet (c ∷ t) h l =
@@ -133,10 +126,6 @@ count-quiet w n (inr e) = like-any w (names_of number_words) names-quiet (named-
 pub record Quiet (w : List ℕ) : Type 0 where
   pub unit : has_unit w ≡ false
   pub ago : is_ago w ≡ false
-
-not-is : (b : Bool) → not b ≡ true → b ≡ false
-not-is false e = refl
-not-is true e = absurd cc
 
 pub quiet-of : (w : List ℕ) → says_nothing w ≡ true → Quiet w
 quiet-of w h =
@@ -189,7 +178,7 @@ pub ago-no-unit : (w : List ℕ) → is_ago w ≡ true → has_unit w ≡ false
 ago-no-unit w e = like-singular w (codes "ago") (lower-same w (codes "ago") e) ∙ ago-none-unit
 
 pub ago-no-and : (w : List ℕ) → is_ago w ≡ true → is_and w ≡ false
-ago-no-and w e = like-name w (codes "ago") (codes "and") (lower-same w (codes "ago") e)
+ago-no-and w e = ap (λ (is : List ℕ → Bool). is (codes "and")) (like-name w (codes "ago") (lower-same w (codes "ago") e))
 
 pub unit-no-count : (w : List ℕ) → has_unit w ≡ true → is_plain_count w ≡ false
 unit-no-count w u = not-true (is_plain_count w) (λ e. let bad : true ≡ false = sym u ∙ count-no-unit w e in cc)

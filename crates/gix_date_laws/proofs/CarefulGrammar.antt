@@ -65,11 +65,9 @@ no-first-pairs-if false clear answer place pairs n e = cc
 
 no-first-pairs : (rule : OffsetRule) (text : List ℕ) (place : ℕ) (answer : Option FamilyAnswer) (pairs : List (ℤ × PeriodUnit)) → date_reading rule text place answer ≡ First (PairsAnswer pairs) → ⊥
 no-first-pairs rule text place (Some (Relative (MinusPairs found))) pairs e = cc
-no-first-pairs rule text place (Some (Relative (MinusSeconds n))) pairs e = no-pairs-if true (Some (Relative (MinusSeconds n))) place pairs (λ k. cc) e
 no-first-pairs rule text place (Some (Absolute t)) pairs e = no-first-pairs-if (names_its_day text t) (is_clear_answer rule text (Some (Absolute t)) || false) (Some (Absolute t)) place pairs (λ k. cc) e
-no-first-pairs rule text place (Some OffsetAboveDay) pairs e = no-pairs-if true (Some OffsetAboveDay) place pairs (λ k. cc) e
-no-first-pairs rule text place (Some NoInstant) pairs e = no-pairs-if true (Some NoInstant) place pairs (λ k. cc) e
 no-first-pairs rule text place None pairs e = no-pairs-if (not (has_word_before text place)) None place pairs (λ k. cc) e
+no-first-pairs rule text place answer pairs e = no-pairs-if true answer place pairs (λ k. cc) e
 
 no-day-pairs : (without : WithoutOffset) (rule : OffsetRule) (text : List ℕ) (place : ℕ) (unzoned : Option Time) (answer : Option FamilyAnswer) (pairs : List (ℤ × PeriodUnit))
     → unzoned_or without unzoned (date_reading rule text place answer) ≡ First (PairsAnswer pairs) → ⊥

@@ -27,12 +27,9 @@ use Rattle.gix_date.specs.declared.parsing.careful.WithoutOffset.TheVariants as 
 use Rattle.gix_date.specs.declared.time.Time.{Time}
 use Rattle.gix_date.proofs.Careful.Unzoned.{unzoned_has}
 use Rattle.gix_date.proofs.Fields.Instants.{instant_holds, instant_range, whole_seconds}
-use Rattle.gix_date.proofs.Relative.FixedSteps.{one-offset, turned, fixed-offset}
+use Rattle.gix_date.proofs.Relative.FixedSteps.{one-offset, turned, fixed-offset, picked-alike}
 use Rattle.gix_date.proofs.Relative.FixedZones.{fixed-picked, fixed-resolves-exists}
 use Rattle.gix_date_laws.proofs.CarefulReading.{answers, unzoned-by-day, unzoned-by-git}
-
-picked-alike : (a b : TimeZone) → ChooseAlike a b → (civil j : ℤ) → IsPicked a civil j → IsPicked b civil j
-picked-alike a b alike civil j h = record { shown = h.shown; civil_is = h.civil_is; is_choice = h.is_choice ∙ alike.picks h.shown; in_range = h.in_range }
 
 abbrev IsAtZero : TimeZone → Type 0
 IsAtZero tz = (o : Offset) × (o.seconds ≡ pos 0) × ChooseAlike tz (fixed_zone o) × ((n : ℤ) → offset_at tz n ≡ pos 0)

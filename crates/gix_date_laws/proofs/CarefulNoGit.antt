@@ -19,12 +19,12 @@ use Rattle.gix_date.specs.Text.Names.{named_in}
 use Rattle.gix_date.specs.Text.SpaceWords.{is_nonempty}
 use Rattle.gix_date.specs.declared.time.Time.{Time}
 use Rattle.gix_date.proofs.Git.Fronts.{joined}
-use Rattle.gix_date.proofs.Relative.QuietWords.{one-run-word}
-use Rattle.gix_date.proofs.Relative.QuietDates.{year-digits}
+use Rattle.gix_date.proofs.Relative.QuietWords.{one-run-word, no_gap as no-gap}
+use Rattle.gix_date.proofs.Relative.QuietDates.{year-digits, digits-run as digit-letters}
 use Rattle.gix_date.proofs.Text.WordsWithin.{one-gap, parts-of}
 use Rattle.gix_date.specs.Careful.Grammar.{IsPlainCount, number_words, ArePairsAgo}
 use Rattle.gix_date_laws.proofs.AroundTexts.{words-around}
-use Rattle.gix_date_laws.proofs.CarefulCounts.{digit-letters, digits-quiet, quiet-of}
+use Rattle.gix_date_laws.proofs.CarefulCounts.{digits-quiet, quiet-of}
 use Rattle.gix_date_laws.proofs.CarefulWords.{is-unit}
 use Rattle.gix_date_laws.proofs.GitGrammar.{form-is}
 
@@ -32,9 +32,6 @@ use Rattle.gix_date_laws.proofs.GitGrammar.{form-is}
 digits-word : (t : List ℕ) → all_ascii_digits t ≡ true → 0 < length t → relative_words t ≡ t ∷ []
 digits-word [] h l = absurd (omega (arith, l))
 digits-word (c ∷ t) h l = one-run-word c t (digit-letters (c ∷ t) h)
-
-no-gap : (c : ℕ) → is_ascii_alphanumeric c ≡ true → is_gap c ≡ false
-no-gap c h = rw h refl
 
 record RunParts (run rest : List ℕ) : Type 0 where
   tail : List ℕ
@@ -64,10 +61,8 @@ pair-long [] n h = absurd h
 pair-long (c ∷ t) n h = omega arith
 
 pair-digits : (t : List ℕ) (n : ℕ) → AreTwoDigits t n → all_ascii_digits t ≡ true
-pair-digits [] n h = absurd h
-pair-digits (a ∷ []) n h = absurd h
 pair-digits (a ∷ b ∷ []) n h = rw (h.0, h.1) refl
-pair-digits (a ∷ b ∷ c ∷ t) n h = absurd h
+pair-digits t n h = absurd h
 
 marked-words : (mark : ℕ) (day rest : List ℕ) (date : LocalDate) → is_gap mark ≡ true → (d : IsGitDate (mark ∷ []) day date) → (more : List (List ℕ)) × (relative_words (day ++ rest) ≡ d.year ∷ d.month ∷ more)
 marked-words mark day rest date g d =

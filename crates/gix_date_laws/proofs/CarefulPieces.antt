@@ -1,6 +1,6 @@
 -- A text that a scan passes is separators, words and gaps; and what a scan finds in such a text.
 use Rattle.std.proofs.Common.{◌≡◌, ◌∙◌, ◌⊎◌, inl, inr, ℕ, suc, ◌+◌, Bool, true, false, cond, List, [], ◌∷◌, ◌++◌, take, refl, ap, sym, subst, arith, Option, Some, None}
-use Rattle.std.proofs.lemmas.Bool.{and_parts as both, or_cases}
+use Rattle.std.proofs.lemmas.Bool.{and_parts as both, or_cases, eqb-true as is-same}
 use Rattle.std.proofs.lemmas.Bool.Decides.{nat_tests}
 use Rattle.std.specs.Char.{is_ascii_alphanumeric, is_ascii_whitespace}
 use Rattle.std.specs.List.{prefix_len, list_all}
@@ -11,9 +11,6 @@ use Rattle.gix_date.specs.Careful.Grammar.{IsSeparator, AreSeparators, IsWordGap
 use Rattle.gix_date_laws.proofs.CarefulScan.{first_word, fits, next, scan}
 
 -- separators, as a test and as a fact
-is-same : (b n : ℕ) → (b == n) ≡ true → b ≡ n
-is-same b n h = grind (arith, nat_tests, h)
-
 white-is : (b : ℕ) → is_ascii_whitespace b ≡ true → (b ≡ space) ⊎ ((b ≡ 9) ⊎ ((b ≡ 10) ⊎ ((b ≡ 12) ⊎ (b ≡ 13))))
 white-is b h = by (b == 32) (b == 9) (b == 10) (b == 12) refl refl refl refl
   where

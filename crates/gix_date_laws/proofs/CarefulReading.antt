@@ -1,5 +1,6 @@
 -- Careful reading beside `parse_with`, and dates in which no offset is written.
 use Rattle.std.proofs.Common.{◌≡◌, ◌∙◌, ℕ, ℤ, pos, Bool, true, false, cond, List, [], ◌∷◌, refl, ap, sym, subst, Option, Some, None, Ok, Err, Result, inl, inr}
+use Rattle.std.proofs.lemmas.Option.{same_Some as same_some}
 use Rattle.std.specs.Option.{option_map, option_or}
 use Rattle.std.specs.Prelude.{is_some, unwrap_or}
 use Rattle.std.specs.Result.{result_map_both}
@@ -25,7 +26,6 @@ use Rattle.gix_date.specs.Text.SpaceWords.{is_nonempty}
 use Rattle.gix_date.specs.declared.error.CarefulError.TheVariants as errors
 use Rattle.gix_date.specs.declared.error.ParseError.{ParseError}
 use Rattle.gix_date.specs.declared.time.Time.{Time}
-use Rattle.gix_date.proofs.Fast.FastHeaders.{same_some}
 use Rattle.gix_date.proofs.Fields.AfterDay.{day-with-instant}
 use Rattle.gix_date.proofs.Fields.FieldsTaken.{went, first-or}
 use Rattle.gix_date.proofs.Fields.Layouts.{dates_spelled}
@@ -112,9 +112,8 @@ abbrev day_alone : LocalDate × List ℕ → Option Time
 day_alone day = cond (is_nonempty day.1) None (option_map utc_time (civil_instant day.0 midnight (pos 0)))
 
 by-day : (found : Option (LocalDate × List ℕ)) (t : Time) → ((found >>= day_of_piece) >>= all_read) >>= real_day_answer ≡ Some (Absolute t) → (found >>= day_alone) ≡ Some t
-by-day None t e = absurd cc
 by-day (Some (date, [])) t e = by-date date (is_date date) t e
-by-day (Some (date, c ∷ rest)) t e = absurd cc
+by-day found t e = absurd cc
 
 short-day : (text : List ℕ) (t : Time) → short_answer text ≡ Some (Absolute t) → unzoned_day text ≡ Some t
 unfolding short_answer unzoned_day

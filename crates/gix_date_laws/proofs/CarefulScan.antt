@@ -80,9 +80,8 @@ below : (t : ℕ → Bool) (n : ℕ) → first_failure t (suc n) ≡ None → (f
 below t n e = by-first (first_failure t n) (t n) e
   where
     by-first : (o : Option ℕ) (b : Bool) → option_or o (cond b None (Some n)) ≡ None → (o ≡ None) × (b ≡ true)
-    by-first (Some k) b e = absurd cc
     by-first None true e = (refl, refl)
-    by-first None false e = absurd cc
+    by-first o b e = absurd cc
 
 each-by : (t : ℕ → Bool) (n k : ℕ) → first_failure t (suc n) ≡ None → k < suc n → (k < n → t k ≡ true) → (k < n) ⊎ (n ≤ k) → t k ≡ true
 each-by t n k e l more (inl less) = more less
@@ -117,9 +116,8 @@ from-scan text k (c ∷ rest) d l none h =
     from-scan text (suc k) rest (drop-next text k c rest d) (omega (arith, within)) (goes_on (is_clear_at text) k none parts.0) parts.1
 
 or-none : (o : Option ℕ) (b : Bool) (n : ℕ) → option_or o (cond b None (Some n)) ≡ None → (o ≡ None) × (b ≡ true)
-or-none (Some k) b n e = absurd cc
 or-none None true n e = (refl, refl)
-or-none None false n e = absurd cc
+or-none o b n e = absurd cc
 
 none-or : (o : Option ℕ) (b : Bool) (n : ℕ) → o ≡ None → b ≡ true → option_or o (cond b None (Some n)) ≡ None
 none-or o b n e f = rw (e, f) refl

@@ -1,6 +1,6 @@
 -- A word names a unit where it is a unit's name, alone or with one `s` after it.
 use Rattle.std.proofs.Common.{◌≡◌, ◌∙◌, ◌⊎◌, inl, inr, ℕ, ◌-◌, Bool, true, false, cond, List, [], ◌∷◌, ◌++◌, length, take, get_or, refl, ap, sym, arith, Some}
-use Rattle.std.proofs.lemmas.Bool.{or_cases}
+use Rattle.std.proofs.lemmas.Bool.{or_cases, eqb-true as is-same}
 use Rattle.std.proofs.lemmas.Bool.Decides.{nat_tests}
 use Rattle.std.proofs.lemmas.List.{length-append}
 use Rattle.std.proofs.Math.Seq.{take-append_seam, get_or-append_seam}
@@ -11,9 +11,6 @@ use Rattle.gix_date.specs.Text.Characters.{small_s, letter_s}
 use Rattle.gix_date.specs.Text.Names.{is_name, named_in}
 use Rattle.gix_date.proofs.Relative.QuietWords.{like-unit, lower-same, lower-singular, named-any, names_of, without_s}
 use Rattle.gix_date.specs.Careful.Grammar.{IsUnitName}
-
-is-same : (b n : ℕ) → (b == n) ≡ true → b ≡ n
-is-same b n h = grind (arith, nat_tests, h)
 
 either-s : (b : ℕ) → (b == small_s || b == letter_s) ≡ true → (b ≡ small_s) ⊎ (b ≡ letter_s)
 either-s b h = by (or_cases (b == small_s) (b == letter_s) h)

@@ -1,6 +1,6 @@
 -- Words that may stand so one after the other are `count unit (and? count unit)* ago`.
 use Rattle.std.proofs.Common.{◌≡◌, ◌∙◌, ◌⊎◌, inl, inr, ℕ, ℤ, Bool, true, false, List, [], ◌∷◌, refl, ap, sym, Some, None}
-use Rattle.std.proofs.lemmas.Bool.{and_parts as both, or_cases}
+use Rattle.std.proofs.lemmas.Bool.{and_parts as both, or_cases, and_from as joined-true}
 use Rattle.std.specs.Option.{is_some}
 use Rattle.std.specs.Prelude.{◌&&◌, ◌||◌}
 use Rattle.gix_date.specs.Careful.Texts.{is_and, is_plain_count, may_follow}
@@ -34,10 +34,6 @@ unit-only uw false false false = refl
 after-unit : (u w : List ℕ) → has_unit u ≡ true → may_follow u w ≡ (is_plain_count w || is_and w || is_ago w)
 after-unit u w h = rw (unit-no-count u h, h, unit-no-and u h) (unit-only (has_unit w) (is_plain_count w) (is_and w) (is_ago w))
 
-joined-true : (a b : Bool) → a ≡ true → b ≡ true → (a && b) ≡ true
-joined-true true b e f = f
-joined-true false b e f = absurd cc
-
 -- a unit, as a test and as a fact
 unit-is : (w : List ℕ) → has_unit w ≡ true → (u : PeriodUnit) × IsUnitName w u
 unfolding has_unit
@@ -52,19 +48,6 @@ abbrev Ends : List (List ℕ) → Type 0
 Ends words = (pairs : List (ℤ × PeriodUnit)) × GoesOn pairs words
 
 -- the words after a count are a unit and the rest
-record AfterCount (words : List (List ℕ)) : Type 0 where
-  unit : List ℕ
-  rest : List (List ℕ)
-  is : words ≡ unit ∷ rest
-  has : has_unit unit ≡ true
-  more : chain (Some unit) rest ≡ true
-
-from-count : (c : List ℕ) (words : List (List ℕ)) → is_plain_count c ≡ true → chain (Some c) words ≡ true → AfterCount words
-from-count c [] h e = let bad : true ≡ false = sym e ∙ count-no-ago c h in absurd cc
-from-count c (unit ∷ rest) h e =
-    let parts = both (may_follow c unit) (chain (Some unit) rest) e in
-    record { unit = unit; rest = rest; is = refl; has = sym (after-count c unit h) ∙ parts.0; more = parts.1 }
-
 pair-of : (c unit : List ℕ) → is_plain_count c ≡ true → has_unit unit ≡ true → (pair : ℤ × PeriodUnit) × IsCountAndUnit c unit pair
 pair-of c unit h u =
     let n = plain-count c h in

@@ -3,39 +3,39 @@ use Rattle.std.proofs.Common.{◌≡◌, ◌∙◌, ◌<◌, ◌+◌, ◌-◌, �
 use Rattle.std.proofs.lemmas.Bool.{and_parts as both}
 use Rattle.std.proofs.lemmas.Bool.Decides.{nat_tests}
 use Rattle.std.specs.Char.{is_ascii_digit, is_ascii_alphabetic, to_ascii_lowercase}
-use Rattle.std.specs.List.{prefix_len}
+use Rattle.std.specs.List.{list_any, position, prefix_len}
 use Rattle.std.specs.Option.{option_or}
-use Rattle.std.specs.Prelude.{◌==◌, ◌&&◌, nat_lt, codes, drop, is_some, unwrap_or}
+use Rattle.std.specs.Prelude.{◌==◌, ◌&&◌, nat_lt, drop, is_some, unwrap_or}
 use Rattle.gix_date.specs.Families.Answer.{FamilyAnswer}
 use Rattle.gix_date.specs.Families.Laws.{IgnoresCase}
 use Rattle.gix_date.specs.Families.Order.{Short, Rfc2822, Iso8601, Gitoxide, Default}
 use Rattle.gix_date.specs.Families.Patterns.{short_answer, rfc2822_answer, iso8601_answer, gitoxide_answer, default_answer, short_layout, rfc2822_layout, iso8601_layout, gitoxide_layout, default_layout, real_day_answer, time_answer}
 use Rattle.gix_date.specs.Families.Raw.{OffsetRule}
 use Rattle.gix_date.specs.Fields.DateFields.{skip_spaces, read_name, month_named, is_weekday, read_month, skip_weekday, skip_day_name, read_plain_date, read_minutes, read_second, read_clock, read_rfc2822_clock}
-use Rattle.gix_date.specs.Fields.DateOffsets.{compact_offset, last_colon_pair, strict_offset, jiff_offset, named_zone, rfc2822_offset, rfc2822_zone}
+use Rattle.gix_date.specs.Fields.DateOffsets.{compact_offset, last_colon_pair, strict_offset, jiff_offset, named_zone, zone_names, rfc2822_offset, rfc2822_zone}
 use Rattle.gix_date.specs.Text.Front.{ReadFront, skip_char, ◌>>=◌}
 use Rattle.gix_date.specs.Fields.Layout.{LocalClock, LocalTime, Piece, DayName, Rfc2822DayName, MonthName, Day, Year, PlainDate, Clock, Rfc2822Clock, Spaces, LetterT, Offset, ColonOffset, Rfc2822Offset, read_piece, read_pieces, nothing_read, layout_answer}
 use Rattle.gix_date.specs.Fields.Offsets.{read_sign, last_pair, offset_fields, SignedPairs, OffsetSign}
 use Rattle.gix_date.specs.Text.Characters.{is_space, comma, minus, colon, plus}
+use Rattle.gix_date.specs.Text.Names.{day_names, month_names}
 use Rattle.gix_date.specs.Text.Numbers.{two_digit_value, read_two_digits, read_digit, read_field, read_year}
-use Rattle.gix_date.proofs.Relative.QuietWords.{like-name}
+use Rattle.gix_date.proofs.Relative.QuietWords.{like-name, like-named}
 use Rattle.gix_date_laws.proofs.LetterCase.{low, low-twice, low-digit, digit-stays}
 
 -- What was found, with the rest of the text in small letters.
 abbrev lowered : {A : Type 0} → ReadFront A → ReadFront A
 lowered r = option_map (λ p. (p.0, low p.1)) r
 
-then-low : {A B : Type 0} (r : ReadFront A) (f g : A × List ℕ → Option B) → ((a : A) (x : List ℕ) → f (a, low x) ≡ g (a, x)) → (lowered r >>= f) ≡ (r >>= g)
-then-low (Some p) f g h = h p.0 p.1
-then-low None f g h = refl
+-- To go on with what was found.
+then-map : {A B C D : Type 0} (m : A → C) (n : B → D) (f : C → Option D) (g : A → Option B) (r : Option A) (s : Option C)
+    → s ≡ option_map m r → ((a : A) → f (m a) ≡ option_map n (g a)) → (s >>= f) ≡ option_map n (r >>= g)
+then-map m n f g (Some a) s e h = ap (λ (q : Option _). q >>= f) e ∙ h a
+then-map m n f g None s e h = ap (λ (q : Option _). q >>= f) e
 
-rest-low : {B : Type 0} (r : Option (List ℕ)) (f g : List ℕ → Option B) → ((x : List ℕ) → f (low x) ≡ g x) → (option_map low r >>= f) ≡ (r >>= g)
-rest-low (Some x) f g h = h x
-rest-low None f g h = refl
-
-lowered-then : {A B : Type 0} (r : Option A) (g : A → ReadFront B) → lowered (r >>= g) ≡ (r >>= λ a. lowered (g a))
-lowered-then (Some a) g = refl
-lowered-then None g = refl
+then-same : {A B C : Type 0} (m : A → C) (f : C → Option B) (g : A → Option B) (r : Option A) (s : Option C)
+    → s ≡ option_map m r → ((a : A) → f (m a) ≡ g a) → (s >>= f) ≡ (r >>= g)
+then-same m f g (Some a) s e h = ap (λ (q : Option _). q >>= f) e ∙ h a
+then-same m f g None s e h = ap (λ (q : Option _). q >>= f) e
 
 lowered-or : {A : Type 0} (r s : ReadFront A) → lowered (option_or r s) ≡ option_or (lowered r) (lowered s)
 lowered-or (Some p) s = refl
@@ -55,9 +55,8 @@ skip-low mark h (c ∷ x) = ap (λ (b : Bool). cond b (Some (low x)) None) (mark
     by false = refl
 
 drop-low : (n : ℕ) (x : List ℕ) → drop n (low x) ≡ low (drop n x)
-drop-low zero x = refl
-drop-low (suc n) [] = refl
 drop-low (suc n) (c ∷ x) = drop-low n x
+drop-low n x = refl
 
 spaces-long : (x : List ℕ) → prefix_len is_space (low x) ≡ prefix_len is_space x
 spaces-long [] = refl
@@ -77,18 +76,16 @@ value-low a b = ap₂ (λ (p q : Bool). cond (p && q) (Some (10 * (to_ascii_lowe
     by : (p q : Bool) → is_ascii_digit a ≡ p → is_ascii_digit b ≡ q
         → cond (p && q) (Some (10 * (to_ascii_lowercase a - 48) + (to_ascii_lowercase b - 48))) None ≡ cond (p && q) (Some (10 * (a - 48) + (b - 48))) None
     by true true e f = ap₂ (λ (x y : ℕ). Some (10 * (x - 48) + (y - 48))) (digit-stays a e) (digit-stays b f)
-    by true false e f = refl
-    by false q e f = refl
+    by p q e f = refl
 
 two-low : (x : List ℕ) → read_two_digits (low x) ≡ lowered (read_two_digits x)
 unfolding read_two_digits
-two-low [] = refl
-two-low (a ∷ []) = refl
 two-low (a ∷ b ∷ x) = ap (option_map (λ (n : ℕ). (n, low x))) (value-low a b) ∙ by (two_digit_value a b)
   where
     by : (r : Option ℕ) → option_map (λ (n : ℕ). (n, low x)) r ≡ lowered (option_map (λ (n : ℕ). (n, x)) r)
     by (Some n) = refl
     by None = refl
+two-low x = refl
 
 one-low : (x : List ℕ) → read_digit (low x) ≡ lowered (read_digit x)
 unfolding read_digit
@@ -106,12 +103,8 @@ field-low x = ap₂ (λ (r s : ReadFront ℕ). option_or r s) (two-low x) (one-l
 year-low : (x : List ℕ) → read_year (low x) ≡ lowered (read_year x)
 unfolding read_year
 year-low x =
-    ap (λ (r : ReadFront ℕ). r >>= λ c. read_two_digits c.1 >>= λ y. Some (100 * c.0 + y.0, y.1)) (two-low x)
-    ∙ then-low (read_two_digits x) (λ c. read_two_digits c.1 >>= λ y. Some (100 * c.0 + y.0, y.1)) (λ c. lowered (read_two_digits c.1 >>= λ y. Some (100 * c.0 + y.0, y.1))) (λ n t.
-    ap (λ (r : ReadFront ℕ). r >>= λ y. Some (100 * n + y.0, y.1)) (two-low t)
-    ∙ then-low (read_two_digits t) (λ y. Some (100 * n + y.0, y.1)) (λ y. lowered (Some (100 * n + y.0, y.1))) (λ m u. refl)
-    ∙ sym (lowered-then (read_two_digits t) (λ y. Some (100 * n + y.0, y.1))))
-    ∙ sym (lowered-then (read_two_digits x) (λ c. read_two_digits c.1 >>= λ y. Some (100 * c.0 + y.0, y.1)))
+    then-map _ _ _ _ (read_two_digits x) (read_two_digits (low x)) (two-low x) (λ century.
+    then-map _ _ _ _ (read_two_digits century.1) (read_two_digits (low century.1)) (two-low century.1) (λ year. refl))
 
 -- Names.
 letter-low : (c : ℕ) → is_ascii_alphabetic (to_ascii_lowercase c) ≡ is_ascii_alphabetic c
@@ -119,65 +112,42 @@ letter-low c = grind (arith, nat_tests)
 
 month-low : (w : List ℕ) → month_named (low w) ≡ month_named w
 unfolding month_named
-month-low w =
-    let same = λ (name : List ℕ). like-name (low w) w name (low-twice w) in
-    rw (same (codes "Jan"), same (codes "Feb"), same (codes "Mar"), same (codes "Apr"), same (codes "May"), same (codes "Jun"), same (codes "Jul"), same (codes "Aug"), same (codes "Sep"), same (codes "Oct"), same (codes "Nov"), same (codes "Dec")) refl
+month-low w = ap (λ (is : List ℕ → Bool). option_map {U = ℕ} (λ place. place + 1) (position is month_names)) (like-name (low w) w (low-twice w))
 
 weekday-low : (w : List ℕ) → is_weekday (low w) ≡ is_weekday w
 unfolding is_weekday
-weekday-low w =
-    let same = λ (name : List ℕ). like-name (low w) w name (low-twice w) in
-    rw (same (codes "Mon"), same (codes "Tue"), same (codes "Wed"), same (codes "Thu"), same (codes "Fri"), same (codes "Sat"), same (codes "Sun")) refl
+weekday-low w = ap (λ (is : List ℕ → Bool). list_any is day_names) (like-name (low w) w (low-twice w))
 
 zone-low : (w : List ℕ) → named_zone (low w) ≡ named_zone w
 unfolding named_zone
-zone-low w =
-    let same = λ (name : List ℕ). like-name (low w) w name (low-twice w) in
-    rw (same (codes "ut"), same (codes "gmt"), same (codes "edt"), same (codes "est"), same (codes "cdt"), same (codes "cst"), same (codes "mdt"), same (codes "mst"), same (codes "pdt"), same (codes "pst")) refl
-
--- To go on with what was found.
-keep-then : {A B : Type 0} (f g : A × List ℕ → ReadFront B) (r s : ReadFront A) → s ≡ lowered r → ((a : A) (x : List ℕ) → f (a, low x) ≡ lowered (g (a, x))) → (s >>= f) ≡ lowered (r >>= g)
-keep-then f g (Some p) s e h = ap (λ (q : ReadFront _). q >>= f) e ∙ h p.0 p.1
-keep-then f g None s e h = ap (λ (q : ReadFront _). q >>= f) e
-
-skip-then : {B : Type 0} (f g : List ℕ → ReadFront B) (r s : Option (List ℕ)) → s ≡ option_map low r → ((x : List ℕ) → f (low x) ≡ lowered (g x)) → (s >>= f) ≡ lowered (r >>= g)
-skip-then f g (Some x) s e h = ap (λ (q : Option (List ℕ)). q >>= f) e ∙ h x
-skip-then f g None s e h = ap (λ (q : Option (List ℕ)). q >>= f) e
-
-keep-end : {A B : Type 0} (f g : A × List ℕ → Option B) (r s : ReadFront A) → s ≡ lowered r → ((a : A) (x : List ℕ) → f (a, low x) ≡ g (a, x)) → (s >>= f) ≡ (r >>= g)
-keep-end f g (Some p) s e h = ap (λ (q : ReadFront _). q >>= f) e ∙ h p.0 p.1
-keep-end f g None s e h = ap (λ (q : ReadFront _). q >>= f) e
-
-skip-end : {B : Type 0} (f g : List ℕ → Option B) (r s : Option (List ℕ)) → s ≡ option_map low r → ((x : List ℕ) → f (low x) ≡ g x) → (s >>= f) ≡ (r >>= g)
-skip-end f g (Some x) s e h = ap (λ (q : Option (List ℕ)). q >>= f) e ∙ h x
-skip-end f g None s e h = ap (λ (q : Option (List ℕ)). q >>= f) e
+zone-low w = like-named zone_names (low w) w (low-twice w)
 
 -- Dates and clocks.
 date-low : (x : List ℕ) → read_plain_date (low x) ≡ lowered (read_plain_date x)
 unfolding read_plain_date
 date-low x =
-    keep-then _ _ (read_year x) (read_year (low x)) (year-low x) (λ year t.
-    skip-then _ _ (skip_char minus t) (skip_char minus (low t)) (skip-low minus (omega arith) t) (λ u.
-    keep-then _ _ (read_field u) (read_field (low u)) (field-low u) (λ month v.
-    skip-then _ _ (skip_char minus v) (skip_char minus (low v)) (skip-low minus (omega arith) v) (λ w.
-    keep-then _ _ (read_field w) (read_field (low w)) (field-low w) (λ day z. refl)))))
+    then-map _ _ _ _ (read_year x) (read_year (low x)) (year-low x) (λ year.
+    then-map _ _ _ _ (skip_char minus year.1) (skip_char minus (low year.1)) (skip-low minus (omega arith) year.1) (λ u.
+    then-map _ _ _ _ (read_field u) (read_field (low u)) (field-low u) (λ month.
+    then-map _ _ _ _ (skip_char minus month.1) (skip_char minus (low month.1)) (skip-low minus (omega arith) month.1) (λ w.
+    then-map _ _ _ _ (read_field w) (read_field (low w)) (field-low w) (λ day. refl)))))
 
 minutes-low : (x : List ℕ) → read_minutes (low x) ≡ lowered (read_minutes x)
 unfolding read_minutes
 minutes-low x =
-    keep-then _ _ (read_field x) (read_field (low x)) (field-low x) (λ hour t.
-    skip-then _ _ (skip_char colon t) (skip_char colon (low t)) (skip-low colon (omega arith) t) (λ u.
-    keep-then _ _ (read_field u) (read_field (low u)) (field-low u) (λ minute v. refl)))
+    then-map _ _ _ _ (read_field x) (read_field (low x)) (field-low x) (λ hour.
+    then-map _ _ _ _ (skip_char colon hour.1) (skip_char colon (low hour.1)) (skip-low colon (omega arith) hour.1) (λ u.
+    then-map _ _ _ _ (read_field u) (read_field (low u)) (field-low u) (λ minute. refl)))
 
 second-low : (c : LocalClock) (x : List ℕ) → read_second c (low x) ≡ lowered (read_second c x)
 unfolding read_second
 second-low c x =
-    skip-then _ _ (skip_char colon x) (skip_char colon (low x)) (skip-low colon (omega arith) x) (λ u.
-    keep-then _ _ (read_field u) (read_field (low u)) (field-low u) (λ second v. refl))
+    then-map _ _ _ _ (skip_char colon x) (skip_char colon (low x)) (skip-low colon (omega arith) x) (λ u.
+    then-map _ _ _ _ (read_field u) (read_field (low u)) (field-low u) (λ second. refl))
 
 clock-low : (x : List ℕ) → read_clock (low x) ≡ lowered (read_clock x)
 unfolding read_clock
-clock-low x = keep-then _ _ (read_minutes x) (read_minutes (low x)) (minutes-low x) (λ c t. second-low c t)
+clock-low x = then-map _ _ _ _ (read_minutes x) (read_minutes (low x)) (minutes-low x) (λ c. second-low c.0 c.1)
 
 or-clock : (r : ReadFront LocalClock) (c : LocalClock × List ℕ) → unwrap_or (lowered r) (c.0, low c.1) ≡ ((unwrap_or r c).0, low (unwrap_or r c).1)
 or-clock (Some p) c = refl
@@ -186,8 +156,8 @@ or-clock None c = refl
 rfc2822-clock-low : (x : List ℕ) → read_rfc2822_clock (low x) ≡ lowered (read_rfc2822_clock x)
 unfolding read_rfc2822_clock
 rfc2822-clock-low x =
-    keep-then _ _ (read_minutes x) (read_minutes (low x)) (minutes-low x) (λ c t.
-    ap (λ (r : ReadFront LocalClock). Some (unwrap_or r (c, low t))) (second-low c t) ∙ ap (λ (p : LocalClock × List ℕ). Some p) (or-clock (read_second c t) (c, t)))
+    then-map _ _ _ _ (read_minutes x) (read_minutes (low x)) (minutes-low x) (λ c.
+    ap (λ (r : ReadFront LocalClock). Some (unwrap_or r (c.0, low c.1))) (second-low c.0 c.1) ∙ ap (λ (p : LocalClock × List ℕ). Some p) (or-clock (read_second c.0 c.1) (c.0, c.1)))
 
 -- Names at the front.
 abbrev both_low : ReadFront (List ℕ) → ReadFront (List ℕ)
@@ -195,49 +165,35 @@ both_low r = option_map (λ p. (low p.0, low p.1)) r
 
 name-low : (x : List ℕ) → read_name (low x) ≡ both_low (read_name x)
 unfolding read_name
-name-low [] = refl
-name-low (a ∷ []) = refl
-name-low (a ∷ b ∷ []) = refl
 name-low (a ∷ b ∷ c ∷ x) =
     rw (letter-low a, letter-low b, letter-low c) (by (is_ascii_alphabetic a && is_ascii_alphabetic b && is_ascii_alphabetic c))
   where
     by : (p : Bool) → cond p (Some (low (a ∷ b ∷ c ∷ []), low x)) None ≡ both_low (cond p (Some (a ∷ b ∷ c ∷ [], x)) None)
     by true = refl
     by false = refl
-
-name-then : {B : Type 0} (f g : List ℕ × List ℕ → ReadFront B) (r s : ReadFront (List ℕ)) → s ≡ both_low r → ((n x : List ℕ) → f (low n, low x) ≡ lowered (g (n, x))) → (s >>= f) ≡ lowered (r >>= g)
-name-then f g (Some p) s e h = ap (λ (q : ReadFront (List ℕ)). q >>= f) e ∙ h p.0 p.1
-name-then f g None s e h = ap (λ (q : ReadFront (List ℕ)). q >>= f) e
+name-low x = refl
 
 month-front-low : (x : List ℕ) → read_month (low x) ≡ lowered (read_month x)
 unfolding read_month
-month-front-low x = name-then _ _ (read_name x) (read_name (low x)) (name-low x) (λ n t. ap (λ (r : Option ℕ). r >>= λ m. Some (m, low t)) (month-low n) ∙ by t (month_named n))
+month-front-low x = then-map _ _ _ _ (read_name x) (read_name (low x)) (name-low x) (λ n. ap (λ (r : Option ℕ). r >>= λ m. Some (m, low n.1)) (month-low n.0) ∙ by n.1 (month_named n.0))
   where
     by : (t : List ℕ) (r : Option ℕ) → (r >>= λ m. Some (m, low t)) ≡ lowered (r >>= λ m. Some (m, t))
     by t (Some m) = refl
     by t None = refl
 
-skip-name-then : (f g : List ℕ × List ℕ → Option (List ℕ)) (r s : ReadFront (List ℕ)) → s ≡ both_low r → ((n x : List ℕ) → f (low n, low x) ≡ option_map low (g (n, x))) → (s >>= f) ≡ option_map low (r >>= g)
-skip-name-then f g (Some p) s e h = ap (λ (q : ReadFront (List ℕ)). q >>= f) e ∙ h p.0 p.1
-skip-name-then f g None s e h = ap (λ (q : ReadFront (List ℕ)). q >>= f) e
-
 skip-weekday-low : (x : List ℕ) → skip_weekday (low x) ≡ option_map low (skip_weekday x)
 unfolding skip_weekday
-skip-weekday-low x = skip-name-then _ _ (read_name x) (read_name (low x)) (name-low x) (λ n t. ap (λ (b : Bool). cond b (Some (low t)) None) (weekday-low n) ∙ by t (is_weekday n))
+skip-weekday-low x = then-map _ _ _ _ (read_name x) (read_name (low x)) (name-low x) (λ n. ap (λ (b : Bool). cond b (Some (low n.1)) None) (weekday-low n.0) ∙ by n.1 (is_weekday n.0))
   where
     by : (t : List ℕ) (b : Bool) → cond b (Some (low t)) None ≡ option_map low (cond b (Some t) None)
     by t true = refl
     by t false = refl
 
-skip-skip : (f g : List ℕ → Option (List ℕ)) (r s : Option (List ℕ)) → s ≡ option_map low r → ((x : List ℕ) → f (low x) ≡ option_map low (g x)) → (s >>= f) ≡ option_map low (r >>= g)
-skip-skip f g (Some x) s e h = ap (λ (q : Option (List ℕ)). q >>= f) e ∙ h x
-skip-skip f g None s e h = ap (λ (q : Option (List ℕ)). q >>= f) e
-
 day-name-low : (x : List ℕ) → skip_day_name (low x) ≡ option_map low (skip_day_name x)
 unfolding skip_day_name
 day-name-low x =
-    skip-skip _ _ (skip_weekday x) (skip_weekday (low x)) (skip-weekday-low x) (λ t.
-    skip-skip _ _ (skip_char comma t) (skip_char comma (low t)) (skip-low comma (omega arith) t) (λ u. spaces-low u))
+    then-map _ _ _ _ (skip_weekday x) (skip_weekday (low x)) (skip-weekday-low x) (λ t.
+    then-map _ _ _ _ (skip_char comma t) (skip_char comma (low t)) (skip-low comma (omega arith) t) (λ u. spaces-low u))
 
 -- Offsets.
 abbrev fields_at : OffsetSign → ℕ → ℕ → Option ℕ → SignedPairs
@@ -256,18 +212,16 @@ sign-low x =
 
 last-low : (x : List ℕ) → last_pair (low x) ≡ last_pair x
 unfolding last_pair
-last-low [] = refl
-last-low (a ∷ []) = refl
 last-low (a ∷ b ∷ []) = ap (option_map {U = Option ℕ} (λ n. Some n)) (value-low a b)
-last-low (a ∷ b ∷ c ∷ x) = refl
+last-low x = refl
 
 fields-low : (x : List ℕ) → offset_fields (low x) ≡ offset_fields x
 unfolding offset_fields
 fields-low x =
-    keep-end _ _ (read_sign x) (read_sign (low x)) (sign-low x) (λ sign t.
-    keep-end _ _ (read_two_digits t) (read_two_digits (low t)) (two-low t) (λ hours u.
-    keep-end _ _ (read_two_digits u) (read_two_digits (low u)) (two-low u) (λ minutes v.
-    ap (λ (r : Option (Option ℕ)). r >>= λ seconds. Some (fields_at sign hours minutes seconds)) (last-low v))))
+    then-same _ _ _ (read_sign x) (read_sign (low x)) (sign-low x) (λ sign.
+    then-same _ _ _ (read_two_digits sign.1) (read_two_digits (low sign.1)) (two-low sign.1) (λ hours.
+    then-same _ _ _ (read_two_digits hours.1) (read_two_digits (low hours.1)) (two-low hours.1) (λ minutes.
+    ap (λ (r : Option (Option ℕ)). r >>= λ seconds. Some (fields_at sign.0 hours.0 minutes.0 seconds)) (last-low minutes.1))))
 
 compact-low : (x : List ℕ) → compact_offset (low x) ≡ compact_offset x
 unfolding compact_offset
@@ -275,20 +229,17 @@ compact-low x = ap (λ (r : Option SignedPairs). r >>= λ f. jiff_offset f) (fie
 
 last-colon-low : (x : List ℕ) → last_colon_pair (low x) ≡ last_colon_pair x
 unfolding last_colon_pair
-last-colon-low [] = refl
-last-colon-low (c ∷ []) = refl
-last-colon-low (c ∷ a ∷ []) = refl
 last-colon-low (c ∷ a ∷ b ∷ []) = ap₂ (λ (p : Bool) (r : Option ℕ). cond p (option_map {U = Option ℕ} (λ n. Some n) r) None) (mark-low c colon (omega arith)) (value-low a b)
-last-colon-low (c ∷ a ∷ b ∷ d ∷ x) = refl
+last-colon-low x = refl
 
 strict-low : (x : List ℕ) → strict_offset (low x) ≡ strict_offset x
 unfolding strict_offset
 strict-low x =
-    keep-end _ _ (read_sign x) (read_sign (low x)) (sign-low x) (λ sign t.
-    keep-end _ _ (read_two_digits t) (read_two_digits (low t)) (two-low t) (λ hours u.
-    skip-end _ _ (skip_char colon u) (skip_char colon (low u)) (skip-low colon (omega arith) u) (λ v.
-    keep-end _ _ (read_two_digits v) (read_two_digits (low v)) (two-low v) (λ minutes w.
-    ap (λ (r : Option (Option ℕ)). r >>= λ seconds. jiff_offset (fields_at sign hours minutes seconds)) (last-colon-low w)))))
+    then-same _ _ _ (read_sign x) (read_sign (low x)) (sign-low x) (λ sign.
+    then-same _ _ _ (read_two_digits sign.1) (read_two_digits (low sign.1)) (two-low sign.1) (λ hours.
+    then-same _ _ _ (skip_char colon hours.1) (skip_char colon (low hours.1)) (skip-low colon (omega arith) hours.1) (λ v.
+    then-same _ _ _ (read_two_digits v) (read_two_digits (low v)) (two-low v) (λ minutes.
+    ap (λ (r : Option (Option ℕ)). r >>= λ seconds. jiff_offset (fields_at sign.0 hours.0 minutes.0 seconds)) (last-colon-low minutes.1)))))
 
 rfc2822-low : (x : List ℕ) → rfc2822_zone (low x) ≡ rfc2822_zone x
 unfolding rfc2822_zone rfc2822_offset
@@ -312,15 +263,15 @@ offset-low (Some o) s t e = ap (λ (q : Option ℤ). q >>= λ o. Some (record t 
 offset-low None s t e = ap (λ (q : Option ℤ). q >>= λ o. Some (record t { offset = o }, [])) e
 
 piece-low : (p : Piece) (t : LocalTime) (x : List ℕ) → is_caseless p ≡ true → read_piece p t (low x) ≡ lowered (read_piece p t x)
-piece-low DayName t x h = skip-then _ _ (skip_weekday x) (skip_weekday (low x)) (skip-weekday-low x) (λ u. refl)
+piece-low DayName t x h = then-map _ _ _ _ (skip_weekday x) (skip_weekday (low x)) (skip-weekday-low x) (λ u. refl)
 piece-low Rfc2822DayName t x h = ap (λ (r : Option (List ℕ)). Some (t, unwrap_or r (low x))) (day-name-low x) ∙ ap (λ (u : List ℕ). Some (t, u)) (rest-or (skip_day_name x) x)
-piece-low MonthName t x h = keep-then _ _ (read_month x) (read_month (low x)) (month-front-low x) (λ m u. refl)
-piece-low Day t x h = keep-then _ _ (read_field x) (read_field (low x)) (field-low x) (λ m u. refl)
-piece-low Year t x h = keep-then _ _ (read_year x) (read_year (low x)) (year-low x) (λ m u. refl)
-piece-low PlainDate t x h = keep-then _ _ (read_plain_date x) (read_plain_date (low x)) (date-low x) (λ m u. refl)
-piece-low Clock t x h = keep-then _ _ (read_clock x) (read_clock (low x)) (clock-low x) (λ m u. refl)
-piece-low Rfc2822Clock t x h = keep-then _ _ (read_rfc2822_clock x) (read_rfc2822_clock (low x)) (rfc2822-clock-low x) (λ m u. refl)
-piece-low Spaces t x h = skip-then _ _ (skip_spaces x) (skip_spaces (low x)) (spaces-low x) (λ u. refl)
+piece-low MonthName t x h = then-map _ _ _ _ (read_month x) (read_month (low x)) (month-front-low x) (λ m. refl)
+piece-low Day t x h = then-map _ _ _ _ (read_field x) (read_field (low x)) (field-low x) (λ m. refl)
+piece-low Year t x h = then-map _ _ _ _ (read_year x) (read_year (low x)) (year-low x) (λ m. refl)
+piece-low PlainDate t x h = then-map _ _ _ _ (read_plain_date x) (read_plain_date (low x)) (date-low x) (λ m. refl)
+piece-low Clock t x h = then-map _ _ _ _ (read_clock x) (read_clock (low x)) (clock-low x) (λ m. refl)
+piece-low Rfc2822Clock t x h = then-map _ _ _ _ (read_rfc2822_clock x) (read_rfc2822_clock (low x)) (rfc2822-clock-low x) (λ m. refl)
+piece-low Spaces t x h = then-map _ _ _ _ (skip_spaces x) (skip_spaces (low x)) (spaces-low x) (λ u. refl)
 piece-low LetterT t x h = absurd cc
 piece-low Offset t x h = offset-low (compact_offset x) (compact_offset (low x)) t (compact-low x)
 piece-low ColonOffset t x h = offset-low (strict_offset x) (strict_offset (low x)) t (strict-low x)
@@ -331,7 +282,7 @@ pieces-low [] t [] h = refl
 pieces-low [] t (c ∷ x) h = refl
 pieces-low (p ∷ ps) t x h =
     let b = both (is_caseless p) (are_caseless ps) h in
-    keep-end _ _ (read_piece p t x) (read_piece p t (low x)) (piece-low p t x b.0) (λ u y. pieces-low ps u y b.1)
+    then-same _ _ _ (read_piece p t x) (read_piece p t (low x)) (piece-low p t x b.0) (λ u. pieces-low ps u.0 u.1 b.1)
 
 layout-low : (ps : List Piece) (answer : LocalTime → Option FamilyAnswer) (x : List ℕ) → are_caseless ps ≡ true → layout_answer ps answer (low x) ≡ layout_answer ps answer x
 layout-low ps answer x h = ap (λ (r : Option LocalTime). r >>= answer) (pieces-low ps nothing_read x h)

@@ -1,12 +1,13 @@
 -- Clocks of Git's own forms are read where they are so written, and nowhere else.
 use Rattle.std.proofs.Common.{◌≡◌, ◌∙◌, ◌≤◌, ◌+◌, ◌-◌, ◌*◌, ℕ, Bool, true, false, cond, List, [], ◌∷◌, refl, ap, ap₂, sym, subst, arith, Some, None, Option, inl, inr, ◌⊎◌}
+use Rattle.std.proofs.lemmas.Option.{same_Some as same_some}
 use Rattle.std.proofs.lemmas.Bool.Decides.{nat_tests}
 use Rattle.std.specs.Char.{is_ascii, is_ascii_digit}
 use Rattle.std.specs.List.{list_all, slice_split, before_first}
 use Rattle.std.specs.Prelude.{◌&&◌, nat_lt}
 use Rattle.std.specs.Str.{trim, all_ascii_digits}
 use Rattle.std.specs.Str.Parse.{digits_value}
-use Rattle.gix_date.specs.Fields.FieldTexts.{IsPair}
+use Rattle.gix_date.specs.Fields.FieldTexts.{IsPair, IsDigit}
 use Rattle.gix_date.specs.Text.Front.{◌>>=◌}
 use Rattle.gix_date.specs.Fields.Layout.{LocalClock}
 use Rattle.gix_date.specs.Git.Clock.{at_most, digits_at_most, clock_of_fields, clock_of_parts, clock_with_colons, clock_without_colons, read_pair_or_end, trimmed_clock, git_clock}
@@ -14,18 +15,14 @@ use Rattle.gix_date.specs.Git.Grammar.{IsUpTo, AreClockParts, AreClockPairs, IsG
 use Rattle.gix_date.specs.Text.Characters.{is_colon, is_dot, has_colon}
 use Rattle.gix_date.specs.Text.Numbers.{read_two_digits}
 use Rattle.gix_date.specs.Text.SpaceWords.{is_nonempty}
-use Rattle.gix_date.proofs.Fast.FastHeaders.{same_some}
-use Rattle.gix_date.proofs.Fields.FieldsTaken.{went}
+use Rattle.gix_date.proofs.Fields.FieldsTaken.{went, two-taken}
 use Rattle.gix_date_laws.proofs.Grammars.{pair-of}
+use Rattle.gix_date.proofs.Git.ClockParts.{all_digits as all-digits}
 
 abbrev clock_at : ℕ → ℕ → ℕ → LocalClock
 clock_at h m s = record { hour = h; minute = m; second = s }
 
 -- Parts between colons.
-all-digits : (w : List ℕ) → list_all is_ascii_digit w ≡ all_ascii_digits w
-all-digits [] = refl
-all-digits (c ∷ cs) = ap (λ (b : Bool). is_ascii_digit c && b) (all-digits cs)
-
 within : (most v n : ℕ) (b : Bool) → nat_lt most v ≡ b → cond b None (Some v) ≡ Some n → (n ≡ v) × (n ≤ most)
 within most v n true e h = absurd cc
 within most v n false e h =
@@ -58,9 +55,7 @@ fields-are : (h m s : Option ℕ) (c : LocalClock) → clock_of_fields h m s ≡
 fields-are (Some h) (Some m) (Some s) c e =
     let same = same_some (clock_at h m s) c e in
     (ap (λ (k : LocalClock). Some k.hour) same, ap (λ (k : LocalClock). Some k.minute) same, ap (λ (k : LocalClock). Some k.second) same)
-fields-are (Some h) (Some m) None c e = absurd cc
-fields-are (Some h) None s c e = absurd cc
-fields-are None m s c e = absurd cc
+fields-are h m s c e = absurd cc
 
 parts-are : (parts : List (List ℕ)) (c : LocalClock) → clock_of_parts parts ≡ Some c → AreClockParts parts c
 parts-are [] c e = absurd cc
@@ -84,25 +79,19 @@ are-parts (h ∷ m ∷ s ∷ more) c p =
     rw (is-up-to 23 h c.hour p.0, is-up-to 59 m c.minute p.1, is-up-to 59 s c.second p.2) refl
 
 -- Pairs of digits.
-two-by : (a b : ℕ) (t : List ℕ) (p : ℕ × List ℕ) (q r : Bool) → is_ascii_digit a ≡ q → is_ascii_digit b ≡ r → read_two_digits (a ∷ b ∷ t) ≡ Some p
-    → IsPair (a ∷ b ∷ []) p.0 × (p.1 ≡ t)
-unfolding read_two_digits
-two-by a b t p true true e f h =
-    let same = same_some (10 * (a - 48) + (b - 48), t) p (rw (e, f) at h) in
-    ((e, f, sym (ap (λ (k : ℕ × List ℕ). k.0) same)), sym (ap (λ (k : ℕ × List ℕ). k.1) same))
-two-by a b t p true false e f h = let clash = rw (e, f) at h in absurd cc
-two-by a b t p false r e f h = let clash = rw e at h in absurd cc
-
 two : (a b : ℕ) (t : List ℕ) (p : ℕ × List ℕ) → read_two_digits (a ∷ b ∷ t) ≡ Some p → IsPair (a ∷ b ∷ []) p.0 × (p.1 ≡ t)
-two a b t p h = two-by a b t p (is_ascii_digit a) (is_ascii_digit b) refl refl h
+two a b t p h =
+    let k = two-taken (a ∷ b ∷ t) p.0 p.1 h in
+    let same : k.tens ∷ k.ones ∷ p.1 ≡ a ∷ b ∷ t = sym k.whole in
+    let tens : k.tens ≡ a = cc in
+    let ones : k.ones ≡ b = cc in
+    ((subst IsDigit tens k.is_tens, subst IsDigit ones k.is_ones, k.value ∙ ap₂ (λ (x y : ℕ). 10 * (x - 48) + (y - 48)) tens ones), cc)
 
 two-of-none : (p : ℕ × List ℕ) → read_two_digits [] ≡ Some p → ⊥
-unfolding read_two_digits
-two-of-none p h = absurd cc
+two-of-none p h = let k = two-taken [] p.0 p.1 h in let clash : [] ≡ k.tens ∷ k.ones ∷ p.1 = k.whole in cc
 
 two-of-one : (c : ℕ) (p : ℕ × List ℕ) → read_two_digits (c ∷ []) ≡ Some p → ⊥
-unfolding read_two_digits
-two-of-one c p h = absurd cc
+two-of-one c p h = let k = two-taken (c ∷ []) p.0 p.1 h in let clash : c ∷ [] ≡ k.tens ∷ k.ones ∷ p.1 = k.whole in cc
 
 abbrev ended : ℕ → ℕ → ℕ × List ℕ → Option LocalClock
 ended h m s = cond (is_nonempty s.1) None (Some (clock_at h m s.0))
@@ -143,17 +132,13 @@ pairs-are (a ∷ b ∷ t) c k =
 
 are-pairs : (x : List ℕ) (c : LocalClock) → AreClockPairs x c → clock_without_colons x ≡ Some c
 unfolding clock_without_colons read_pair_or_end
-are-pairs [] c p = absurd p
-are-pairs (a ∷ []) c p = absurd p
 are-pairs (a ∷ b ∷ []) c p =
     rw (pair-of (a ∷ b ∷ []) c.hour [] p.0) (ap₂ (λ (m s : ℕ). Some (clock_at c.hour m s)) (sym p.1) (sym p.2))
-are-pairs (a ∷ b ∷ d ∷ []) c p = absurd p
 are-pairs (a ∷ b ∷ d ∷ e ∷ []) c p =
     rw (pair-of (a ∷ b ∷ []) c.hour (d ∷ e ∷ []) p.0, pair-of (d ∷ e ∷ []) c.minute [] p.1) (ap (λ (s : ℕ). Some (clock_at c.hour c.minute s)) (sym p.2))
-are-pairs (a ∷ b ∷ d ∷ e ∷ f ∷ []) c p = absurd p
 are-pairs (a ∷ b ∷ d ∷ e ∷ f ∷ g ∷ []) c p =
     rw (pair-of (a ∷ b ∷ []) c.hour (d ∷ e ∷ f ∷ g ∷ []) p.0, pair-of (d ∷ e ∷ []) c.minute (f ∷ g ∷ []) p.1, pair-of (f ∷ g ∷ []) c.second [] p.2) refl
-are-pairs (a ∷ b ∷ d ∷ e ∷ f ∷ g ∷ x ∷ t) c p = absurd p
+are-pairs x c p = absurd p
 
 -- The clock.
 trimmed-is : (x : List ℕ) (c : LocalClock) → trimmed_clock x ≡ Some c

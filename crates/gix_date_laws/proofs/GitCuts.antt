@@ -1,7 +1,7 @@
 -- Where the rest of a Git text is cut that ends in a usual offset: a sign, two digits of hours and two of minutes, perhaps with a colon between.
 use Rattle.std.proofs.Common.{◌≡◌, ◌∙◌, ℕ, pos, suc, zero, ◌+◌, ◌-◌, ◌*◌, ◌<◌, Bool, true, false, cond, List, [], ◌∷◌, ◌++◌, ◌⊎◌, inl, inr, length, get_or, refl, ap, sym, subst, Option, Some, None, arith, append_assoc, length-append}
 use Rattle.std.proofs.Math.Seq.{get_or-append_seam, take-append_seam, drop-append-add, drop-append_seam}
-use Rattle.std.proofs.lemmas.Bool.{and_parts as both}
+use Rattle.std.proofs.lemmas.Bool.{and_parts as both, and_from as join, not-true as not_is}
 use Rattle.std.proofs.lemmas.Bool.Decides.{nat_tests}
 use Rattle.std.proofs.lemmas.List.{get_or-append-add}
 use Rattle.std.proofs.lemmas.List.Folds.{list_all-append}
@@ -21,40 +21,18 @@ use Rattle.gix_date.specs.Text.Characters.{space, plus, minus, colon, letter_z, 
 use Rattle.gix_date.specs.Text.Numbers.{two_digit_value, read_two_digits}
 use Rattle.gix_date.proofs.Text.AsciiCuts.{ascii-by}
 use Rattle.gix_date.proofs.Git.ClockCuts.{z_none, space_none, space_found, sign_found}
-use Rattle.gix_date.proofs.Fields.FieldsTaken.{two-taken, after-taken}
-use Rattle.gix_date.proofs.Fields.Instants.{join}
 use Rattle.gix_date.proofs.Text.LastPlaces.{last_is, last_none}
-use Rattle.gix_date.proofs.Fast.FastHeaders.{sign-taken}
-use Rattle.gix_date.proofs.Text.Trimmed.{trim-ends}
+use Rattle.gix_date.proofs.Text.Trimmed.{trim-ends, graphic-ascii}
 
 abbrev pub is_clock_byte : ℕ → Bool
 is_clock_byte c = is_ascii_digit c || c == colon
 
--- what stands after this mark, where it is first
-abbrev pub skip_any : ℕ → List ℕ → List ℕ
-skip_any mark text = unwrap_or (skip_char mark text) text
-
--- the text is a sign, two digits of hours and two of minutes, perhaps with a colon between them
-pub record IsUsualOffset (text : List ℕ) (fields : OffsetFields) : Type 0 where
-  pub after_sign : List ℕ
-  pub after_hours : List ℕ
-  pub sign : read_sign text ≡ Some (fields.sign, after_sign)
-  pub hours : read_two_digits after_sign ≡ Some (fields.hours, after_hours)
-  pub minutes : read_two_digits (skip_any colon after_hours) ≡ Some (fields.minutes, [])
-  pub seconds : fields.seconds ≡ None
-
 -- one byte
-graphic-ascii : (c : ℕ) → is_ascii_graphic c ≡ true → c < 128
-graphic-ascii c h = grind (arith, nat_tests, h)
-
 pub digit-byte : (c : ℕ) → IsDigit c → is_clock_byte c ≡ true
 digit-byte c h = grind (arith, nat_tests, h)
 
 pub digit-no-colon : (c : ℕ) → IsDigit c → is_colon c ≡ false
 digit-no-colon c h = grind (arith, nat_tests, h)
-
-pub byte-ascii : (c : ℕ) → is_clock_byte c ≡ true → is_ascii c ≡ true
-byte-ascii c h = grind (arith, nat_tests, h)
 
 byte-graphic : (c : ℕ) → is_clock_byte c ≡ true → is_ascii_graphic c ≡ true
 byte-graphic c h = grind (arith, nat_tests, h)
@@ -84,28 +62,6 @@ pub all-imply : (p q : ℕ → Bool) (xs : List ℕ) → ((c : ℕ) → p c ≡ 
 all-imply p q [] f h = refl
 all-imply p q (x ∷ xs) f h = let parts = both (p x) (list_all p xs) h in join _ _ (f x parts.0) (all-imply p q xs f parts.1)
 
-pub pair-then : (a b : ℕ) (t : List ℕ) → IsDigit a → IsDigit b → slice_split is_colon (a ∷ b ∷ colon ∷ t) ≡ (a ∷ b ∷ []) ∷ slice_split is_colon t
-pair-then a b t ha hb =
-    slice_split-cons_no is_colon a (b ∷ colon ∷ t) (digit-no-colon a ha)
-    ∙ ap (onto_first a) (slice_split-cons_no is_colon b (colon ∷ t) (digit-no-colon b hb) ∙ ap (onto_first b) (slice_split-cons_yes is_colon colon t refl))
-
-pub pair-last : (a b : ℕ) → IsDigit a → IsDigit b → slice_split is_colon (a ∷ b ∷ []) ≡ (a ∷ b ∷ []) ∷ []
-pair-last a b ha hb =
-    slice_split-cons_no is_colon a (b ∷ []) (digit-no-colon a ha)
-    ∙ ap (onto_first a) (slice_split-cons_no is_colon b [] (digit-no-colon b hb))
-
--- a clock is ASCII
-pub clock-ascii : (t : List ℕ) → list_all is_clock_byte t ≡ true → list_all is_ascii t ≡ true
-clock-ascii t h = all-imply is_clock_byte is_ascii t byte-ascii h
-
--- one mark or none
-gap-by : (mark : ℕ) (text : List ℕ) (r : Option (List ℕ)) → skip_char mark text ≡ r → (text ≡ unwrap_or r text) ⊎ (text ≡ mark ∷ unwrap_or r text)
-gap-by mark text None e = inl refl
-gap-by mark text (Some t) e = inr (after-taken mark text t e)
-
-gap-taken : (mark : ℕ) (text : List ℕ) → (text ≡ skip_any mark text) ⊎ (text ≡ mark ∷ skip_any mark text)
-gap-taken mark text = gap-by mark text (skip_char mark text) refl
-
 -- a sign, a digit, and digits and colons
 pub record IsOffsetText (text : List ℕ) : Type 0 where
   pub sign : ℕ
@@ -119,68 +75,6 @@ pub record IsOffsetText (text : List ℕ) : Type 0 where
 pub mark-sign : (c : ℕ) (s : Sign) → IsSign c s → is_sign c ≡ true
 mark-sign c s (inl h) = ap is_sign h.0
 mark-sign c s (inr h) = ap is_sign h.0
-
-some-long : (k : ℕ) (t : List ℕ) → (length (k ∷ t) == 0) ≡ false
-some-long k t = grind (arith, nat_tests)
-
-pub mark-no-z : (c : ℕ) (s : Sign) (t : List ℕ) → IsSign c s → (length (c ∷ t) == 0 || bytes_eq (c ∷ t) (codes "Z")) ≡ false
-mark-no-z c s t (inl h) = ap (λ k. length (k ∷ t) == 0 || bytes_eq (k ∷ t) (codes "Z")) h.0 ∙ ap (λ b. b || bytes_eq (plus ∷ t) (codes "Z")) (some-long plus t)
-mark-no-z c s t (inr h) = ap (λ k. length (k ∷ t) == 0 || bytes_eq (k ∷ t) (codes "Z")) h.0 ∙ ap (λ b. b || bytes_eq (minus ∷ t) (codes "Z")) (some-long minus t)
-
--- digits with a colon between them or none
-record HasFour (text : List ℕ) (a b c d : ℕ) : Type 0 where
-  bytes : list_all is_clock_byte text ≡ true
-  struck : without_colons text ≡ a ∷ b ∷ c ∷ d ∷ []
-  some : 0 < length text
-  first : is_ascii_digit (get_or text 0 0) ≡ true
-
-four : (a b c d : ℕ) (more : List ℕ) → IsDigit a → IsDigit b → IsDigit c → IsDigit d → (more ≡ c ∷ d ∷ []) ⊎ (more ≡ colon ∷ c ∷ d ∷ []) → HasFour (a ∷ b ∷ more) a b c d
-four a b c d more ha hb hc hd (inl e) = subst (λ (t : List ℕ). HasFour (a ∷ b ∷ t) a b c d) (sym e) (record {
-  bytes = join _ _ (digit-byte a ha) (join _ _ (digit-byte b hb) (join _ _ (digit-byte c hc) (join _ _ (digit-byte d hd) refl)));
-  struck = rw (digit-no-colon a ha, digit-no-colon b hb, digit-no-colon c hc, digit-no-colon d hd) refl;
-  some = omega arith;
-  first = ha;
-})
-four a b c d more ha hb hc hd (inr e) = subst (λ (t : List ℕ). HasFour (a ∷ b ∷ t) a b c d) (sym e) (record {
-  bytes = join _ _ (digit-byte a ha) (join _ _ (digit-byte b hb) (join _ _ (digit-byte c hc) (join _ _ (digit-byte d hd) refl)));
-  struck = rw (digit-no-colon a ha, digit-no-colon b hb, digit-no-colon c hc, digit-no-colon d hd) refl;
-  some = omega arith;
-  first = ha;
-})
-
-pub two-value : (a b n : ℕ) → IsDigit a → IsDigit b → n ≡ 10 * (a - 48) + (b - 48) → two_digit_value a b ≡ Some n
-two-value a b n ha hb e = rw (ha, hb) (ap (λ (k : ℕ). Some k) (sym e))
-
-pub record TookOffset (text : List ℕ) (f : OffsetFields) : Type 0 where
-  pub is : IsOffsetText text
-  pub says : git_offset text ≡ offset_by is_within_a_day f
-
-pub offset-taken : (text : List ℕ) (f : OffsetFields) → IsUsualOffset text f → TookOffset text f
-unfolding git_offset
-offset-taken text f h =
-    let s = sign-taken text f.sign h.after_sign h.sign in
-    let b = two-taken h.after_sign f.hours h.after_hours h.hours in
-    let d = two-taken (skip_any colon h.after_hours) f.minutes [] h.minutes in
-    let more : (h.after_hours ≡ d.tens ∷ d.ones ∷ []) ⊎ (h.after_hours ≡ colon ∷ d.tens ∷ d.ones ∷ []) =
-    subst (λ (t : List ℕ). (h.after_hours ≡ t) ⊎ (h.after_hours ≡ colon ∷ t)) d.whole (gap-taken colon h.after_hours) in
-    let all : HasFour h.after_sign b.tens b.ones d.tens d.ones =
-    subst (λ (t : List ℕ). HasFour t b.tens b.ones d.tens d.ones) (sym b.whole) (four b.tens b.ones d.tens d.ones h.after_hours b.is_tens b.is_ones d.is_tens d.is_ones more) in
-    let no_z : (length text == 0 || bytes_eq text (codes "Z")) ≡ false = ap (λ (t : List ℕ). length t == 0 || bytes_eq t (codes "Z")) s.whole ∙ mark-no-z s.mark f.sign h.after_sign s.is_mark in
-    let digits : offset_of_digits f.sign (without_colons h.after_sign) ≡ Some f =
-    ap (offset_of_digits f.sign) all.struck
-    ∙ ap (λ (o : Option ℕ). fields_of f.sign o (two_digit_value d.tens d.ones)) (two-value b.tens b.ones f.hours b.is_tens b.is_ones b.value)
-    ∙ ap (λ (o : Option ℕ). fields_of f.sign (Some f.hours) o) (two-value d.tens d.ones f.minutes d.is_tens d.is_ones d.value)
-    ∙ ap (λ (o : Option ℕ). let g : OffsetFields = record f { seconds = o } in Some g) (sym h.seconds) in
-    record {
-      is = record { sign = s.mark; rest = h.after_sign; whole = s.whole; is_sign = mark-sign s.mark f.sign s.is_mark; some = all.some; first = all.first; bytes = all.bytes };
-      says = ap (λ q. cond q (Some (pos 0)) (read_sign text >>= λ g. offset_of_digits g.0 (without_colons g.1) >>= offset_by is_within_a_day)) no_z
-          ∙ ap (λ (r : ReadFront Sign). r >>= λ g. offset_of_digits g.0 (without_colons g.1) >>= offset_by is_within_a_day) h.sign
-          ∙ ap (λ (r : Option OffsetFields). r >>= offset_by is_within_a_day) digits;
-    }
-
-not-so : (b : Bool) → not b ≡ true → b ≡ false
-not-so true h = sym h
-not-so false h = refl
 
 -- what stands behind a front
 behind : (front more : List ℕ) (i k : ℕ) → i ≡ length front + k → get_or (front ++ more) i 0 ≡ get_or more k 0
@@ -211,7 +105,7 @@ after-gap front s rest h bytes i a b =
     let k = i - length front - 1 in
     let here : get_or (front ++ space ∷ zone) i 0 ≡ get_or zone k 0 = behind front (space ∷ zone) i (suc k) (omega arith) in
     let quiet : list_all (λ c. not (c == space)) zone ≡ true = join _ _ (ap not (sign-no-space s h)) (all-imply is_clock_byte (λ c. not (c == space)) rest (λ c e. ap not (byte-no-space c e)) bytes) in
-    ap (λ c. c == space) here ∙ not-so (get_or zone k 0 == space) (all-get (λ c. not (c == space)) zone quiet k (omega arith))
+    ap (λ c. c == space) here ∙ not_is (get_or zone k 0 == space) (all-get (λ c. not (c == space)) zone quiet k (omega arith))
 
 -- the last space, and what stands before the offset there
 pub gap-at : (front : List ℕ) (s : ℕ) (rest : List ℕ) → is_sign s ≡ true → list_all is_clock_byte rest ≡ true → last_space (front ++ space ∷ s ∷ rest) ≡ Some (length front)
@@ -287,5 +181,5 @@ unfolding last_space
 cut-at-a-sign front s rest long quiet h some first bytes =
     let u = front ++ s ∷ rest in
     let none : list_all is_no_space u ≡ true = all-append is_no_space front (s ∷ rest) quiet (join _ _ (ap not (sign-no-space s h)) (all-imply is_clock_byte is_no_space rest byte-is-no-space bytes)) in
-    let no_space : cut_at_space u ≡ None = space_none u (sym (last_none (λ i. slice_index u i == space) (length u) (λ i l. not-so (get_or u i 0 == space) (all-get is_no_space u none i l)))) in
+    let no_space : cut_at_space u ≡ None = space_none u (sym (last_none (λ i. slice_index u i == space) (length u) (λ i l. not_is (get_or u i 0 == space) (all-get is_no_space u none i l)))) in
     cut-by-sign front s rest long no_space h some first bytes

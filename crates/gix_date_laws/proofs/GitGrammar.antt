@@ -1,5 +1,6 @@
 -- Git's own forms are read where they are so written, and nowhere else.
 use Rattle.std.proofs.Common.{◌≡◌, ◌∙◌, ℕ, ℤ, true, false, List, [], ◌∷◌, ◌++◌, refl, ap, subst, arith, Some, None, inl, inr}
+use Rattle.std.proofs.lemmas.Option.{same_Some as same_some}
 use Rattle.std.proofs.lemmas.Bool.Decides.{nat_tests}
 use Rattle.std.specs.Option.{option_or}
 use Rattle.std.specs.Prelude.{◌==◌}
@@ -24,7 +25,6 @@ use Rattle.gix_date.proofs.Git.Fronts.{Gap, front-taken, joined}
 use Rattle.gix_date_laws.proofs.Grammars.{pair-of}
 use Rattle.gix_date_laws.proofs.GitClocks.{clock-is, is-clock}
 use Rattle.gix_date_laws.proofs.GitOffsets.{offset-is, is-offset}
-use Rattle.gix_date.proofs.Fast.FastHeaders.{same_some}
 
 abbrev IsTaken : Gap → List ℕ → Type 0
 IsTaken gap mark = (rest : List ℕ) → gap (mark ++ rest) ≡ Some rest
@@ -39,28 +39,35 @@ is-date gap mark taken text date rest h =
 abbrev pub time_at : ℤ → ℤ → Time
 time_at seconds offset = record { seconds = seconds; offset = offset }
 
-text-of : (text day gap rest : List ℕ) (date : LocalDate) (t : Time) → trim text ≡ day ++ (gap ++ rest) → IsGitFront day gap date → time_with_rest date rest ≡ Some t → IsGitText text t
+-- such a text, and where its offset stands
+abbrev pub IsTextWith : List ℕ → List ℕ → Time → Type 0
+IsTextWith zone text t = (h : IsGitText text t) × (h.zone ≡ zone)
+
+pub text-of : (text day gap rest : List ℕ) (date : LocalDate) (t : Time) → trim text ≡ day ++ (gap ++ rest) → IsGitFront day gap date → time_with_rest date rest ≡ Some t → IsTextWith (clock_cut (trim rest)).1 text t
 unfolding time_of_cut
 text-of text day gap rest date t w f e =
     let cut = clock_cut (trim rest) in
     let clock = went (git_clock cut.0) (λ k. git_offset cut.1 >>= λ o. civil_instant date k o >>= λ s. Some (time_at s o)) t e in
     let offset = went (git_offset cut.1) (λ o. civil_instant date clock.0 o >>= λ s. Some (time_at s o)) t clock.2 in
     let seconds = went (civil_instant date clock.0 offset.0) (λ s. Some (time_at s offset.0)) t offset.2 in
-    subst (IsGitText text) (same_some (time_at seconds.0 offset.0) t seconds.2) (record {
-      day = day;
-      gap = gap;
-      rest = rest;
-      clock = cut.0;
-      zone = cut.1;
-      date = date;
-      time = clock.0;
-      whole = w;
-      front = f;
-      cut = cut_means (trim rest) cut.0 cut.1 refl;
-      is_clock = clock-is cut.0 clock.0 clock.1;
-      is_offset = offset-is cut.1 offset.0 offset.1;
-      is_instant = seconds.1;
-    })
+    subst (IsTextWith cut.1 text) (same_some (time_at seconds.0 offset.0) t seconds.2) (
+      record {
+        day = day;
+        gap = gap;
+        rest = rest;
+        clock = cut.0;
+        zone = cut.1;
+        date = date;
+        time = clock.0;
+        whole = w;
+        front = f;
+        cut = cut_means (trim rest) cut.0 cut.1 refl;
+        is_clock = clock-is cut.0 clock.0 clock.1;
+        is_offset = offset-is cut.1 offset.0 offset.1;
+        is_instant = seconds.1;
+      },
+      refl,
+    )
 
 pub rest-of : (text : List ℕ) (t : Time) (h : IsGitText text t) → time_with_rest h.date h.rest ≡ Some t
 unfolding time_of_cut
@@ -71,7 +78,7 @@ unfolding git_form
 form-is text t e =
     let found = went (git_front (trim text)) (λ (f : LocalDate × List ℕ). time_with_rest f.0 f.1) t e in
     let f = front-taken (trim text) found.0.0 found.0.1 found.1 in
-    text-of text f.day f.gap found.0.1 found.0.0 t f.whole f.is found.2
+    (text-of text f.day f.gap found.0.1 found.0.0 t f.whole f.is found.2).0
 
 -- The other way round.
 skipped : (c : ℕ) → IsTaken (skip_char c) (c ∷ [])
@@ -83,10 +90,8 @@ kept rest = refl
 
 pair-digit : (x t : List ℕ) (n : ℕ) → IsPair x n → skip_char dot (x ++ t) ≡ None
 unfolding skip_char
-pair-digit [] t n h = absurd h
-pair-digit (a ∷ []) t n h = absurd h
 pair-digit (a ∷ b ∷ []) t n h = let no : (a == dot) ≡ false = grind (arith, nat_tests, h.0) in rw no refl
-pair-digit (a ∷ b ∷ c ∷ x) t n h = absurd h
+pair-digit x t n h = absurd h
 
 by-dotted : (x day rest : List ℕ) (date : LocalDate) → x ≡ day ++ (space ∷ rest) → IsGitDate (dot ∷ []) day date → git_front x ≡ Some (date, rest)
 unfolding git_front dotted_front read_marked_date

@@ -1,5 +1,6 @@
 -- Offsets of Git's own forms are read where they are so written, and nowhere else.
 use Rattle.std.proofs.Common.{◌≡◌, ◌∙◌, ◌≤◌, ◌+◌, ◌-◌, ◌*◌, ℕ, ℤ, pos, Bool, true, false, cond, List, [], ◌∷◌, ◌++◌, length, refl, ap, sym, subst, arith, Some, None, Option, inl, inr, ◌⊎◌}
+use Rattle.std.proofs.lemmas.Option.{cond_some as guard, same_Some as same_some}
 use Rattle.std.proofs.lemmas.Bool.{and_parts as both}
 use Rattle.std.proofs.lemmas.Bool.Decides.{nat_tests}
 use Rattle.std.proofs.lemmas.Slice.Eq.{bytes_eq-Decides}
@@ -13,21 +14,19 @@ use Rattle.gix_date.specs.Git.Forms.{git_offset, offset_of_digits, fields_of, wi
 use Rattle.gix_date.specs.Git.Grammar.{IsGitOffset, IsSignedOffset}
 use Rattle.gix_date.specs.Text.Characters.{letter_z}
 use Rattle.gix_date.specs.Text.Numbers.{two_digit_value}
-use Rattle.gix_date.proofs.Fast.FastHeaders.{same_some, sign-taken}
-use Rattle.gix_date.proofs.Fields.FieldsTaken.{went, guard}
+use Rattle.gix_date.proofs.Fast.FastHeaders.{sign-taken}
+use Rattle.gix_date.proofs.Fields.FieldsTaken.{went}
 use Rattle.gix_date_laws.proofs.Grammars.{sign-of}
 
 abbrev fields_at : OffsetSign → ℕ → ℕ → SignedPairs
 fields_at sign h m = record { sign = sign; hours = h; minutes = m; seconds = None }
 
 -- Two digits.
-value-by : (a b n : ℕ) (p q : Bool) → is_ascii_digit a ≡ p → is_ascii_digit b ≡ q → cond (p && q) (Some (10 * (a - 48) + (b - 48))) None ≡ Some n → IsPair (a ∷ b ∷ []) n
-value-by a b n true true e f h = (e, f, sym (same_some (10 * (a - 48) + (b - 48)) n h))
-value-by a b n true false e f h = absurd cc
-value-by a b n false q e f h = absurd cc
-
 pair-is : (a b n : ℕ) → two_digit_value a b ≡ Some n → IsPair (a ∷ b ∷ []) n
-pair-is a b n h = value-by a b n (is_ascii_digit a) (is_ascii_digit b) refl refl h
+pair-is a b n h =
+    let g = guard (is_ascii_digit a && is_ascii_digit b) (10 * (a - 48) + (b - 48)) n h in
+    let p = both (is_ascii_digit a) (is_ascii_digit b) g.0 in
+    (p.0, p.1, sym g.1)
 
 is-pair : (a b n : ℕ) → IsPair (a ∷ b ∷ []) n → two_digit_value a b ≡ Some n
 is-pair a b n h = rw (h.0, h.1) (ap (λ (k : ℕ). Some k) (sym h.2))
@@ -49,31 +48,25 @@ fields-by : (sign : OffsetSign) (h m : Option ℕ) (f : SignedPairs) → fields_
 fields-by sign (Some h) (Some m) f e =
     let same = same_some (fields_at sign h m) f e in
     (ap (λ (k : SignedPairs). Some k.hours) same, ap (λ (k : SignedPairs). Some k.minutes) same, sym (ap (λ (k : SignedPairs). k.seconds) same), ap (λ (k : SignedPairs). k.sign) same)
-fields-by sign (Some h) None f e = absurd cc
-fields-by sign None m f e = absurd cc
+fields-by sign h m f e = absurd cc
 
 digits-are : (sign : OffsetSign) (digits : List ℕ) (f : SignedPairs) → offset_of_digits sign digits ≡ Some f → AreDigitsOf sign digits f
-digits-are sign [] f e = absurd cc
-digits-are sign (a ∷ []) f e = absurd cc
 digits-are sign (a ∷ b ∷ []) f e =
     let k = fields-by sign (two_digit_value a b) (Some 0) f e in
     record { hours = a ∷ b ∷ []; minutes = []; whole = refl; are_hours = pair-is a b f.hours k.0; are_minutes = inr (refl, sym (same_some 0 f.minutes k.1)); none = k.2; same = k.3 }
-digits-are sign (a ∷ b ∷ c ∷ []) f e = absurd cc
 digits-are sign (a ∷ b ∷ c ∷ d ∷ []) f e =
     let k = fields-by sign (two_digit_value a b) (two_digit_value c d) f e in
     record { hours = a ∷ b ∷ []; minutes = c ∷ d ∷ []; whole = refl; are_hours = pair-is a b f.hours k.0; are_minutes = inl (pair-is c d f.minutes k.1); none = k.2; same = k.3 }
-digits-are sign (a ∷ b ∷ c ∷ d ∷ x ∷ t) f e = absurd cc
+digits-are sign digits f e = absurd cc
 
 are-digits : (hours minutes : List ℕ) (f : SignedPairs) → IsPair hours f.hours → AreMinutes minutes f.minutes → f.seconds ≡ None → offset_of_digits f.sign (hours ++ minutes) ≡ Some f
-are-digits [] minutes f h m n = absurd h
-are-digits (a ∷ []) minutes f h m n = absurd h
-are-digits (a ∷ b ∷ c ∷ t) minutes f h m n = absurd h
 are-digits (a ∷ b ∷ []) [] f h (inl m) n = absurd m
 are-digits (a ∷ b ∷ []) [] f h (inr m) n = rw (is-pair a b f.hours h) (rw (sym m.1, sym n) refl)
 are-digits (a ∷ b ∷ []) (c ∷ []) f h (inl m) n = absurd m
 are-digits (a ∷ b ∷ []) (c ∷ d ∷ []) f h (inl m) n = rw (is-pair a b f.hours h, is-pair c d f.minutes m) (rw (sym n) refl)
 are-digits (a ∷ b ∷ []) (c ∷ d ∷ x ∷ t) f h (inl m) n = absurd m
 are-digits (a ∷ b ∷ []) (c ∷ t) f h (inr m) n = absurd cc
+are-digits hours minutes f h m n = absurd h
 
 -- The limits.
 within-is : (f : SignedPairs) → is_within_a_day f ≡ true → (f.hours ≤ 23) × (f.minutes ≤ 59)
@@ -126,16 +119,16 @@ abbrev first : List ℕ → ℕ
 first [] = 0
 first (c ∷ x) = c
 
+pub sign-no-z : (mark : ℕ) (sign : OffsetSign) → IsSign mark sign → mark ≡ letter_z → ⊥
+sign-no-z mark sign (inl p) z = let is : mark ≡ 43 = p.0 in omega (arith, z, is)
+sign-no-z mark sign (inr p) z = let is : mark ≡ 45 = p.0 in omega (arith, z, is)
+
 no-z : (mark : ℕ) (body : List ℕ) (sign : OffsetSign) → IsSign mark sign → bytes_eq (mark ∷ body) (codes "Z") ≡ false
 no-z mark body sign m = by (bytes_eq (mark ∷ body) (codes "Z")) refl
   where
-    apart : IsSign mark sign → mark ∷ body ≡ letter_z ∷ [] → ⊥
-    apart (inl p) e = let z : mark ≡ 90 = ap first e in let is : mark ≡ 43 = p.0 in omega (arith, z, is)
-    apart (inr p) e = let z : mark ≡ 90 = ap first e in let is : mark ≡ 45 = p.0 in omega (arith, z, is)
-
     by : (b : Bool) → bytes_eq (mark ∷ body) (codes "Z") ≡ b → b ≡ false
     by false e = refl
-    by true e = absurd (apart m ((bytes_eq-Decides (mark ∷ body) (codes "Z")).0 e))
+    by true e = absurd (sign-no-z mark sign m (ap first ((bytes_eq-Decides (mark ∷ body) (codes "Z")).0 e)))
 
 is-signed : (text : List ℕ) (n : ℤ) → IsSignedOffset text n → git_offset text ≡ Some n
 unfolding git_offset

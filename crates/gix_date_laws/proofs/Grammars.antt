@@ -1,6 +1,7 @@
 -- Texts of the families that have no layout are read where they are so written, and nowhere else.
 use Rattle.std.proofs.Common.{◌≡◌, ◌∙◌, ◌<◌, ◌+◌, ◌-◌, ◌*◌, ℕ, ℤ, pos, neg_ℤ, Bool, true, false, cond, List, [], ◌∷◌, ◌++◌, length, refl, ap, sym, subst, arith, Some, None, Option, option_map, inl, inr, ◌⊎◌, FitsSigned, w64}
-use Rattle.std.proofs.lemmas.Bool.{and_parts as both}
+use Rattle.std.proofs.lemmas.Option.{cond_some as guard, same_Some as same_some}
+use Rattle.std.proofs.lemmas.Bool.{and_parts as both, eqb-true as is-mark}
 use Rattle.std.proofs.lemmas.Bool.Decides.{nat_tests}
 use Rattle.std.specs.Char.{is_ascii_digit}
 use Rattle.std.specs.Int.Signed.{le_z}
@@ -20,21 +21,13 @@ use Rattle.gix_date.specs.Text.Numbers.{fits_i64, int_value, read_two_digits}
 use Rattle.gix_date.specs.declared.time.Time.{Time}
 use Rattle.gix_date.proofs.Families.Disjoint.{raw-words}
 use Rattle.gix_date.proofs.Families.Shapes.{int-no-raw}
-use Rattle.gix_date.proofs.Fields.FieldsTaken.{went, guard, after-taken, two-taken, first-or}
+use Rattle.gix_date.proofs.Fields.FieldsTaken.{went, after-taken, two-taken, first-or}
 use Rattle.gix_date.proofs.Fields.Instants.{z_test, z_holds}
 use Rattle.gix_date.proofs.Text.Ints.{own, each_of, fits_from, int_value_from}
-use Rattle.gix_date.proofs.Fast.FastHeaders.{int-taken, sign-taken, same_some}
+use Rattle.gix_date.proofs.Fast.FastHeaders.{int-taken, offset-taken}
+use Rattle.gix_date.proofs.Families.Apart.{digit-no-minus as not-minus, digit-no-plus as not-plus}
 
 -- Int texts.
-not-minus : (c : ℕ) → is_ascii_digit c ≡ true → (c == minus) ≡ false
-not-minus c h = grind (arith, nat_tests, h)
-
-not-plus : (c : ℕ) → is_ascii_digit c ≡ true → (c == plus) ≡ false
-not-plus c h = grind (arith, nat_tests, h)
-
-is-mark : (c m : ℕ) → (c == m) ≡ true → c ≡ m
-is-mark c m h = grind (arith, nat_tests, h)
-
 some-digits : (t : List ℕ) → nat_lt 0 (length t) ≡ true → 0 < length t
 some-digits t h = grind (arith, nat_tests, h)
 
@@ -79,47 +72,20 @@ is-int text n h = by h.is
     by (inr (inr p)) = ap int_value p.0 ∙ int_value_from (minus ∷ h.digits) n (h.are.0, own.to h.digits h.are.1) (ap (λ (k : ℕ). neg_ℤ (pos k)) (sym h.are.2) ∙ sym p.1) h.fits
 
 -- The fields of an offset.
-abbrev fields_at : OffsetSign → ℕ → ℕ → Option ℕ → SignedPairs
-fields_at sign h m s = record { sign = sign; hours = h; minutes = m; seconds = s }
-
-record LastPair (x : List ℕ) (seconds : Option ℕ) : Type 0 where
-  is : ((x ≡ []) × (seconds ≡ None)) ⊎ ((n : ℕ) × IsPair x n × (seconds ≡ Some n))
-
-last-by : (a b : ℕ) (p q : Bool) (seconds : Option ℕ) → is_ascii_digit a ≡ p → is_ascii_digit b ≡ q → option_map {U = Option ℕ} (λ n. Some n) (cond (p && q) (Some (10 * (a - 48) + (b - 48))) None) ≡ Some seconds → LastPair (a ∷ b ∷ []) seconds
-last-by a b true true seconds e f h = record { is = inr (10 * (a - 48) + (b - 48), (e, f, refl), sym (same_some (Some (10 * (a - 48) + (b - 48))) seconds h)) }
-last-by a b true false seconds e f h = absurd cc
-last-by a b false q seconds e f h = absurd cc
-
-last-is : (x : List ℕ) (seconds : Option ℕ) → last_pair x ≡ Some seconds → LastPair x seconds
-unfolding last_pair
-last-is [] seconds e = record { is = inl (refl, sym (same_some None seconds e)) }
-last-is (a ∷ []) seconds e = absurd cc
-last-is (a ∷ b ∷ []) seconds e = last-by a b (is_ascii_digit a) (is_ascii_digit b) seconds refl refl e
-last-is (a ∷ b ∷ c ∷ t) seconds e = absurd cc
-
 fields-are : (text : List ℕ) (f : SignedPairs) → offset_fields text ≡ Some f → AreOffsetFields text f
-unfolding offset_fields
 fields-are x f e =
-    let sign = went (read_sign x) (λ sign. read_two_digits sign.1 >>= λ h. read_two_digits h.1 >>= λ m. last_pair m.1 >>= λ s. Some (fields_at sign.0 h.0 m.0 s)) f e in
-    let hours = went (read_two_digits sign.0.1) (λ h. read_two_digits h.1 >>= λ m. last_pair m.1 >>= λ s. Some (fields_at sign.0.0 h.0 m.0 s)) f sign.2 in
-    let minutes = went (read_two_digits hours.0.1) (λ m. last_pair m.1 >>= λ s. Some (fields_at sign.0.0 hours.0.0 m.0 s)) f hours.2 in
-    let seconds = went (last_pair minutes.0.1) (λ s. Some (fields_at sign.0.0 hours.0.0 minutes.0.0 s)) f minutes.2 in
-    let found : fields_at sign.0.0 hours.0.0 minutes.0.0 seconds.0 ≡ f = same_some _ f seconds.2 in
-    let a = sign-taken x sign.0.0 sign.0.1 sign.1 in
-    let b = two-taken sign.0.1 hours.0.0 hours.0.1 hours.1 in
-    let c = two-taken hours.0.1 minutes.0.0 minutes.0.1 minutes.1 in
-    let d = last-is minutes.0.1 seconds.0 seconds.1 in
-    subst (AreOffsetFields x) found (record {
-      mark = a.mark;
-      hours = b.tens ∷ b.ones ∷ [];
-      minutes = c.tens ∷ c.ones ∷ [];
-      last = minutes.0.1;
-      whole = a.whole ∙ ap (λ (t : List ℕ). a.mark ∷ t) b.whole ∙ ap (λ (t : List ℕ). a.mark ∷ b.tens ∷ b.ones ∷ t) c.whole;
-      is_mark = a.is_mark;
-      are_hours = (b.is_tens, b.is_ones, b.value);
-      are_minutes = (c.is_tens, c.is_ones, c.value);
-      are_seconds = d.is;
-    })
+    let k = offset-taken x f e in
+    record {
+      mark = k.mark;
+      hours = k.h0 ∷ k.h1 ∷ [];
+      minutes = k.m0 ∷ k.m1 ∷ [];
+      last = k.last;
+      whole = k.whole;
+      is_mark = k.is_mark;
+      are_hours = (k.is_h0, k.is_h1, k.hours);
+      are_minutes = (k.is_m0, k.is_m1, k.minutes);
+      are_seconds = k.is_last.is;
+    }
 
 pub sign-of : (mark : ℕ) (sign : OffsetSign) (t : List ℕ) → IsSign mark sign → read_sign (mark ∷ t) ≡ Some (sign, t)
 unfolding read_sign skip_char
@@ -128,17 +94,13 @@ sign-of mark sign t (inr p) = rw (p.0, p.1) refl
 
 pub pair-of : (x : List ℕ) (n : ℕ) (t : List ℕ) → IsPair x n → read_two_digits (x ++ t) ≡ Some (n, t)
 unfolding read_two_digits
-pair-of [] n t h = absurd h
-pair-of (a ∷ []) n t h = absurd h
 pair-of (a ∷ b ∷ []) n t h = rw (h.0, h.1) (ap (λ (k : ℕ). Some (k, t)) (sym h.2))
-pair-of (a ∷ b ∷ c ∷ x) n t h = absurd h
+pair-of x n t h = absurd h
 
 last-pair-of : (x : List ℕ) (n : ℕ) → IsPair x n → last_pair x ≡ Some (Some n)
 unfolding last_pair
-last-pair-of [] n h = absurd h
-last-pair-of (a ∷ []) n h = absurd h
 last-pair-of (a ∷ b ∷ []) n h = rw (h.0, h.1) (ap (λ (k : ℕ). Some (Some k)) (sym h.2))
-last-pair-of (a ∷ b ∷ c ∷ x) n h = absurd h
+last-pair-of x n h = absurd h
 
 last-none : last_pair [] ≡ Some None
 unfolding last_pair

@@ -1,14 +1,14 @@
 -- The case of ASCII letters changes no answer of a relative text.
-use Rattle.std.proofs.Common.{◌≡◌, ◌∙◌, ◌<◌, ◌≤◌, ◌⊎◌, inl, inr, ℕ, ℤ, Bool, true, false, cond, List, [], ◌∷◌, ◌++◌, filter, length, map, get_or, refl, ap, ap₂, sym, arith, suc, append-nil, Some, None, Option, option_map, IsUtf8, encode_utf8, encode_utf8_all}
+use Rattle.std.proofs.Common.{◌≡◌, ◌∙◌, ◌+◌, ◌<◌, ◌≤◌, ◌⊎◌, inl, inr, ℕ, ℤ, pos, Bool, true, false, cond, List, [], ◌∷◌, ◌++◌, filter, length, map, get_or, refl, ap, ap₂, sym, arith, suc, append-nil, Some, None, Option, option_map, IsUtf8, encode_utf8, encode_utf8_all}
 use Rattle.std.proofs.Math.Utf8.{scalar, low_scalar}
-use Rattle.std.proofs.lemmas.Bool.{cases_lt, and_parts as both}
+use Rattle.std.proofs.lemmas.Bool.{cases_lt, and_parts as both, and_from as join}
 use Rattle.std.proofs.lemmas.Bool.Decides.{nat_tests}
 use Rattle.std.proofs.lemmas.List.{length-map, map-append}
 use Rattle.std.proofs.lemmas.List.Splits.{slice_split-cons_yes, slice_split-cons_no}
 use Rattle.std.proofs.lemmas.Str.{chars-encodes, encodes-chars, scalars-chars, encode_ascii, inside_one}
 use Rattle.std.proofs.lemmas.Str.Ascii.{lowercase_ascii, lowercase-lowercase}
 use Rattle.std.specs.Char.{is_ascii_digit, is_whitespace, to_ascii_lowercase}
-use Rattle.std.specs.List.{slice_split, onto_first, list_all, fold}
+use Rattle.std.specs.List.{slice_split, onto_first, list_all, fold, position}
 use Rattle.std.specs.Option.{option_or}
 use Rattle.std.specs.Prelude.{◌==◌, ◌&&◌, not, codes}
 use Rattle.std.specs.Str.{chars, all_scalars, trim, trim_start, trim_end, skip_leading_whitespace, drop_trailing_whitespace, str_to_ascii_lowercase}
@@ -18,17 +18,17 @@ use Rattle.gix_date.specs.Families.Order.{RelativeText}
 use Rattle.gix_date.specs.Families.Raw.{OffsetRule}
 use Rattle.gix_date.specs.Relative.PairsRead.{pairs_from}
 use Rattle.gix_date.specs.Relative.Scan.{step, verdict, WordScan}
-use Rattle.gix_date.specs.Relative.Dates.{RelativeDate, MinusPairs, named_date, pairs_date, relative_date}
+use Rattle.gix_date.specs.Relative.Dates.{RelativeDate, MinusPairs, date_names, named_date, pairs_date, relative_date}
 use Rattle.gix_date.specs.Relative.Roles.{are_pairs, pairs, is_count_word}
 use Rattle.gix_date.specs.Relative.Words.{relative_words, is_gap, singular, unit_of, named_unit, unit_or_seconds, count_of, named_count, number_named, PeriodUnit}
+use Rattle.gix_date.specs.Text.Names.{number_names}
 use Rattle.gix_date.specs.Text.Numbers.{int_value}
 use Rattle.gix_date.specs.Text.SpaceWords.{is_nonempty}
 use Rattle.gix_date.proofs.Text.FirstWords.{skip-scalars}
-use Rattle.gix_date.proofs.Fields.Instants.{join}
-use Rattle.gix_date.proofs.Relative.QuietWords.{same_class, like-ago, like-name, like-unit, like-singular, lower-singular, without_s}
+use Rattle.gix_date.proofs.Relative.QuietWords.{same_class, like-ago, like-name, like-named, like-unit, like-singular, lower-singular, without_s}
 use Rattle.gix_date.proofs.Relative.RelativeReading.{pairs_are_read}
 use Rattle.gix_date.proofs.Relative.RelativeScans.{scan, verdict_of}
-use Rattle.gix_date.proofs.Text.WordsWithin.{parts-of}
+use Rattle.gix_date.proofs.Text.WordsWithin.{parts-of, wide-byte}
 
 abbrev pub low : List ℕ → List ℕ
 low = str_to_ascii_lowercase
@@ -84,24 +84,11 @@ digits-stay (c ∷ t) h =
 
 number-low : (w : List ℕ) → number_named (low w) ≡ number_named w
 unfolding number_named
-number-low w =
-    let same = λ (name : List ℕ). like-name (low w) w name (low-twice w) in
-    rw (
-      same (codes "one"),
-      same (codes "two"),
-      same (codes "three"),
-      same (codes "four"),
-      same (codes "five"),
-      same (codes "six"),
-      same (codes "seven"),
-      same (codes "eight"),
-      same (codes "nine"),
-      same (codes "ten"),
-    ) refl
+number-low w = ap (λ (is : List ℕ → Bool). option_map {U = ℤ} (λ place. pos (place + 1)) (position is number_names)) (like-name (low w) w (low-twice w))
 
 named-low : (w : List ℕ) → named_count (low w) ≡ named_count w
 unfolding named_count
-named-low w = rw (like-name (low w) w (codes "last") (low-twice w), number-low w) refl
+named-low w = ap₂ (λ (is : List ℕ → Bool) (found : Option ℤ). cond (is (codes "last")) (Some (pos 1)) found) (like-name (low w) w (low-twice w)) (number-low w)
 
 count-by : (w : List ℕ) (b : Bool) → list_all is_ascii_digit w ≡ b → cond b (int_value (low w)) (named_count (low w)) ≡ cond b (int_value w) (named_count w)
 count-by w true e = ap int_value (digits-stay w e)
@@ -141,12 +128,6 @@ pairs-low ws = pairs_are_read (map low ws) ∙ read-low ws None ∙ sym (pairs_a
 stay : (c : ℕ) → 128 ≤ c → to_ascii_lowercase c ≡ c
 stay c h = grind (arith, nat_tests, h)
 
-byte-stays : (c k : ℕ) → 128 ≤ c → k < length (encode_utf8 c) → (get_or (encode_utf8 c) k 0 < 128) ⊎ (128 ≤ get_or (encode_utf8 c) k 0) → to_ascii_lowercase (get_or (encode_utf8 c) k 0) ≡ get_or (encode_utf8 c) k 0
-byte-stays c k w l (inl small) =
-    let same : c ≡ get_or (encode_utf8 c) k 0 = inside_one c [] (encode_utf8 c) k (sym (append-nil (encode_utf8 c))) l small in
-    absurd (omega (arith, same, small, w))
-byte-stays c k w l (inr large) = stay _ large
-
 all-stay : (xs : List ℕ) → ((k : ℕ) → k < length xs → to_ascii_lowercase (get_or xs k 0) ≡ get_or xs k 0) → low xs ≡ xs
 all-stay [] h = refl
 all-stay (x ∷ xs) h = ap₂ (λ (a : ℕ) (b : List ℕ). a ∷ b) (h 0 (omega arith)) (all-stay xs (λ k l. h (suc k) (omega (arith, l))))
@@ -154,7 +135,7 @@ all-stay (x ∷ xs) h = ap₂ (λ (a : ℕ) (b : List ℕ). a ∷ b) (h 0 (omega
 char-low : (c : ℕ) → (c < 128) ⊎ (128 ≤ c) → low (encode_utf8 c) ≡ encode_utf8 (to_ascii_lowercase c)
 char-low c (inl small) = ap low (encode_ascii c small) ∙ sym (encode_ascii (to_ascii_lowercase c) (lowercase_ascii c small))
 char-low c (inr large) =
-    all-stay (encode_utf8 c) (λ k l. byte-stays c k large l (cases_lt (get_or (encode_utf8 c) k 0) 128)) ∙ ap encode_utf8 (sym (stay c large))
+    all-stay (encode_utf8 c) (λ k l. stay (get_or (encode_utf8 c) k 0) (wide-byte c k large l)) ∙ ap encode_utf8 (sym (stay c large))
 
 encode-low : (cs : List ℕ) → low (encode_utf8_all cs) ≡ encode_utf8_all (low cs)
 encode-low [] = refl
@@ -215,13 +196,7 @@ trim-low text u =
 
 name-low : (text : List ℕ) → IsUtf8 text → named_date (trim (low text)) ≡ named_date (trim text)
 unfolding named_date
-name-low text u =
-    let same : low (trim (low text)) ≡ low (trim text) = ap low (trim-low text u) ∙ low-twice (trim text) in
-    rw (
-      like-name (trim (low text)) (trim text) (codes "now") same,
-      like-name (trim (low text)) (trim text) (codes "today") same,
-      like-name (trim (low text)) (trim text) (codes "yesterday") same,
-    ) refl
+name-low text u = like-named date_names (trim (low text)) (trim text) (ap low (trim-low text u) ∙ low-twice (trim text))
 
 pair-low : (text : List ℕ) → pairs_date (low text) ≡ pairs_date text
 unfolding pairs_date

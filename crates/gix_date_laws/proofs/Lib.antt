@@ -9,6 +9,7 @@ mod LetterCase
 mod DateCase
 mod Grammars
 mod Overlaps
+mod FirstFamily
 mod Agreement
 mod WiderRules
 mod ShortBack

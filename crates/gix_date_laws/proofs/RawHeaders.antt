@@ -1,5 +1,6 @@
 -- A raw text is read as a header with the same time.
 use Rattle.std.proofs.Common.{◌≡◌, ◌∙◌, ◌<◌, ◌≤◌, ℕ, ℤ, Bool, true, false, List, [], ◌∷◌, map, filter, length, get_or, refl, ap, ap₂, sym, subst, arith, append-nil, Some, Option, encode_utf8, encode_utf8_all, IsUtf8, inl, inr, ◌⊎◌}
+use Rattle.std.proofs.lemmas.Option.{cond_some as guard, same_Some as same_some}
 use Rattle.std.proofs.lemmas.Bool.{cases_lt}
 use Rattle.std.proofs.lemmas.Bool.Decides.{nat_tests}
 use Rattle.std.proofs.lemmas.List.Elements.{All-from_get_or}
@@ -25,22 +26,16 @@ use Rattle.gix_date.specs.Text.SpaceWords.{is_nonempty, space_words, first_words
 use Rattle.gix_date.specs.declared.parsing.raw.RawOffsets.{RawOffsets}
 use Rattle.gix_date.specs.declared.parsing.raw.RawOffsets.TheVariants.{Quarter, WholeMinutes}
 use Rattle.gix_date.specs.declared.time.Time.{Time}
-use Rattle.gix_date.proofs.Families.Disjoint.{two-words-are}
-use Rattle.gix_date.proofs.Fields.FieldsTaken.{went, guard}
+use Rattle.gix_date.proofs.Families.Disjoint.{raw-words}
+use Rattle.gix_date.proofs.Fields.FieldsTaken.{went}
 use Rattle.gix_date.proofs.Header.HeaderLaws.{canonical-taken, canonical-back, header-fits}
-use Rattle.gix_date.proofs.Fast.FastHeaders.{same_some, by_words, said, no_colon, int-number, offset-number, IsNumber}
+use Rattle.gix_date.proofs.Fast.FastHeaders.{by_words, said, no_colon, int-number, offset-number, IsNumber}
 use Rattle.gix_date.proofs.Printing.RawBack.{raw-back, wide-back}
-use Rattle.gix_date.proofs.Text.WordsWithin.{parts-of}
+use Rattle.gix_date.proofs.Text.WordsWithin.{parts-of, wide-byte}
 
 -- A text has a colon where one of its words has one: none is in white space, nor in a character of more bytes.
 wide-no-colon : (b : ℕ) → 128 ≤ b → is_colon b ≡ false
 wide-no-colon b h = grind (arith, nat_tests, h)
-
-byte-no-colon : (c k : ℕ) → 128 ≤ c → k < length (encode_utf8 c) → (get_or (encode_utf8 c) k 0 < 128) ⊎ (128 ≤ get_or (encode_utf8 c) k 0) → is_colon (get_or (encode_utf8 c) k 0) ≡ false
-byte-no-colon c k w l (inl small) =
-    let same : c ≡ get_or (encode_utf8 c) k 0 = inside_one c [] (encode_utf8 c) k (sym (append-nil (encode_utf8 c))) l small in
-    absurd (omega (arith, same, small, w))
-byte-no-colon c k w l (inr large) = wide-no-colon _ large
 
 or-false : (b : Bool) → (b || false) ≡ b
 or-false true = refl
@@ -49,7 +44,7 @@ or-false false = refl
 char-colon : (c : ℕ) → (c < 128) ⊎ (128 ≤ c) → has_colon (encode_utf8 c) ≡ is_colon c
 char-colon c (inl small) = ap has_colon (encode_ascii c small) ∙ or-false (is_colon c)
 char-colon c (inr large) =
-    list_any_none is_colon (encode_utf8 c) (All-from_get_or (λ b. is_colon b ≡ false) (encode_utf8 c) 0 (λ k l. byte-no-colon c k large l (cases_lt (get_or (encode_utf8 c) k 0) 128)))
+    list_any_none is_colon (encode_utf8 c) (All-from_get_or (λ b. is_colon b ≡ false) (encode_utf8 c) 0 (λ k l. wide-no-colon (get_or (encode_utf8 c) k 0) (wide-byte c k large l)))
     ∙ sym (wide-no-colon c large)
 
 chars-colon : (cs : List ℕ) → has_colon (encode_utf8_all cs) ≡ list_any is_colon cs
@@ -94,24 +89,13 @@ colon-within text u =
 number-no-colon : (w : List ℕ) → IsNumber w → has_colon w ≡ false
 number-no-colon w n = ap has_colon n.whole ∙ no_colon (n.first ∷ n.rest) n.bytes
 
-abbrev time_at : ℤ → ℤ → Time
-time_at seconds offset = record { seconds = seconds; offset = offset }
-
 pub raw-header : (rule : OffsetRule) (text : List ℕ) (t : Time) → IsUtf8 text → raw_time_by rule text ≡ Some t → header_time text ≡ Some t
-unfolding raw_time_by raw_offset_by
 raw-header rule text t u e =
-    let words = went (first_words (space_words text)) (λ words. words.1 >>= λ second. int_value words.0 >>= λ s. raw_offset_by rule second >>= λ o. Some (time_at s o)) t e in
-    let second = went words.0.1 (λ second. int_value words.0.0 >>= λ s. raw_offset_by rule second >>= λ o. Some (time_at s o)) t words.2 in
-    let seconds = went (int_value words.0.0) (λ s. raw_offset_by rule second.0 >>= λ o. Some (time_at s o)) t second.2 in
-    let offset = went (raw_offset_by rule second.0) (λ o. Some (time_at seconds.0 o)) t seconds.2 in
-    let fields = went (offset_fields second.0) (λ f. offset_by rule f) offset.0 offset.1 in
-    let g = guard (rule fields.0) (offset_of fields.0) offset.0 fields.2 in
-    let are = two-words-are (space_words text) words.0.0 second.0 words.0.1 words.1 second.1 in
-    let first = number-no-colon words.0.0 (int-number words.0.0 seconds.0 seconds.1) in
-    let last = number-no-colon second.0 (offset-number second.0 fields.0 fields.1) in
-    let none : has_colon text ≡ false = colon-within text u ∙ ap (list_any has_colon) are ∙ rw (first, last) refl in
-    let time : time_at seconds.0 (offset_of fields.0) ≡ t = ap (time_at seconds.0) g.1 ∙ same_some (time_at seconds.0 offset.0) t offset.2 in
-    by_words text words.0.0 second.0 t none are (said words.0.0 second.0 seconds.0 fields.0 seconds.1 fields.1 ∙ ap (λ (k : Time). Some k) time)
+    let r = raw-words rule text t e in
+    let first = number-no-colon r.front (int-number r.front r.value r.is_value) in
+    let last = number-no-colon r.zone (offset-number r.zone r.fields r.is_fields) in
+    let none : has_colon text ≡ false = colon-within text u ∙ ap (list_any has_colon) r.is ∙ rw (first, last) refl in
+    by_words text r.front r.zone t none r.is (said r.front r.zone r.value r.fields r.is_value r.is_fields ∙ ap (λ (k : Time). Some k) r.time)
 
 -- A canonical header with an offset that the rule allows is a raw text.
 is-said : (rule : OffsetRule) (text : List ℕ) (t : Time) → header_text t ≡ Some text → IsSomeAnd (header_text t) (λ x. first_family_by rule x ≡ Some (Absolute t)) → first_family_by rule text ≡ Some (Absolute t)

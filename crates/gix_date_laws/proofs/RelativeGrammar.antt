@@ -1,5 +1,6 @@
 -- A text is relative where it is a name or pairs, and nowhere else.
 use Rattle.std.proofs.Common.{◌≡◌, ◌∙◌, ◌↔◌, ℕ, cond, List, [], ◌∷◌, ◌++◌, length, ap, sym, arith, length-append, Option, Some, None, inl, inr, ◌⊎◌, IsUtf8}
+use Rattle.std.proofs.lemmas.Option.{cond_some as guard}
 use Rattle.std.specs.Option.{option_or}
 use Rattle.std.specs.Str.{trim}
 use Rattle.gix_date.specs.Relative.Dates.{RelativeDate, MinusPairs, date_names, named_date, pairs_date, relative_date}
@@ -7,10 +8,9 @@ use Rattle.gix_date.specs.Relative.Pairs.{HasPair, IsRelativeText}
 use Rattle.gix_date.specs.Relative.Roles.{are_pairs, pairs}
 use Rattle.gix_date.specs.Relative.Words.{relative_words}
 use Rattle.gix_date.specs.Text.Names.{named_in}
-use Rattle.gix_date.proofs.Families.Disjoint.{none-unless}
-use Rattle.gix_date.proofs.Fields.FieldsTaken.{guard}
 use Rattle.gix_date.proofs.Relative.QuietWords.{named-alone}
 use Rattle.gix_date.proofs.Relative.RolePlaces.{meant}
+use Rattle.gix_date.proofs.Fields.FieldsTaken.{none-unless}
 
 -- one word has no pair
 one-no-pair : (ws : List (List ℕ)) (w : List ℕ) → ws ≡ w ∷ [] → HasPair ws → ⊥

@@ -1,5 +1,6 @@
 -- A Git form without an offset is one in which none is written.
 use Rattle.std.proofs.Common.{◌≡◌, ◌∙◌, ◌↔◌, ℕ, cond, List, [], ◌∷◌, ◌++◌, refl, ap, subst, Option, Some, None}
+use Rattle.std.proofs.lemmas.Option.{same_Some as same_some}
 use Rattle.std.specs.Str.{trim}
 use Rattle.gix_date.specs.Careful.Dates.{unzoned_git_time}
 use Rattle.gix_date.specs.Fields.Civil.{civil_instant}
@@ -11,16 +12,15 @@ use Rattle.gix_date.specs.Git.Forms.{git_offset, git_front, time_of_cut}
 use Rattle.gix_date.specs.Git.Grammar.{IsGitFront, IsGitText}
 use Rattle.gix_date.specs.Text.SpaceWords.{is_nonempty}
 use Rattle.gix_date.specs.declared.time.Time.{Time}
-use Rattle.gix_date.proofs.Fast.FastHeaders.{same_some}
 use Rattle.gix_date.proofs.Fields.FieldsTaken.{went}
 use Rattle.gix_date.proofs.Git.ClockCuts.{cut_means, means_cut}
 use Rattle.gix_date.proofs.Git.Fronts.{front-taken}
 use Rattle.gix_date_laws.proofs.GitClocks.{clock-is}
-use Rattle.gix_date_laws.proofs.GitGrammar.{front-of, rest-of, time_at}
+use Rattle.gix_date_laws.proofs.GitGrammar.{IsTextWith, front-of, rest-of, text-of}
 use Rattle.gix_date_laws.proofs.GitOffsets.{offset-is}
 
 abbrev IsUnzoned : List ℕ → Time → Type 0
-IsUnzoned text t = (h : IsGitText text t) × (h.zone ≡ [])
+IsUnzoned = IsTextWith []
 
 -- what is read of a date and the rest, where no offset is written
 abbrev unzoned_rest : LocalDate → Cut → Option Time
@@ -30,39 +30,14 @@ none-written : (zone : List ℕ) (a : Option Time) (t : Time) → cond (is_nonem
 none-written [] a t e = (refl, e)
 none-written (c ∷ zone) a t e = absurd cc
 
-text-of : (text day gap rest : List ℕ) (date : LocalDate) (t : Time) → trim text ≡ day ++ (gap ++ rest) → IsGitFront day gap date → (clock_cut (trim rest)).1 ≡ [] → time_of_cut date (clock_cut (trim rest)) ≡ Some t → IsUnzoned text t
-unfolding time_of_cut
-text-of text day gap rest date t w f z e =
-    let cut = clock_cut (trim rest) in
-    let clock = went (git_clock cut.0) (λ k. git_offset cut.1 >>= λ o. civil_instant date k o >>= λ s. Some (time_at s o)) t e in
-    let offset = went (git_offset cut.1) (λ o. civil_instant date clock.0 o >>= λ s. Some (time_at s o)) t clock.2 in
-    let seconds = went (civil_instant date clock.0 offset.0) (λ s. Some (time_at s offset.0)) t offset.2 in
-    subst (IsUnzoned text) (same_some (time_at seconds.0 offset.0) t seconds.2) (
-      record {
-        day = day;
-        gap = gap;
-        rest = rest;
-        clock = cut.0;
-        zone = cut.1;
-        date = date;
-        time = clock.0;
-        whole = w;
-        front = f;
-        cut = cut_means (trim rest) cut.0 cut.1 refl;
-        is_clock = clock-is cut.0 clock.0 clock.1;
-        is_offset = offset-is cut.1 offset.0 offset.1;
-        is_instant = seconds.1;
-      },
-      z,
-    )
-
 unzoned-is : (text : List ℕ) (t : Time) → unzoned_git_time text ≡ Some t → IsUnzoned text t
 unfolding unzoned_git_time
 unzoned-is text t e =
     let found = went (git_front (trim text)) (λ (f : LocalDate × List ℕ). unzoned_rest f.0 (clock_cut (trim f.1))) t e in
     let f = front-taken (trim text) found.0.0 found.0.1 found.1 in
     let parts = none-written (clock_cut (trim found.0.1)).1 (time_of_cut found.0.0 (clock_cut (trim found.0.1))) t found.2 in
-    text-of text f.day f.gap found.0.1 found.0.0 t f.whole f.is parts.0 parts.1
+    let is = text-of text f.day f.gap found.0.1 found.0.0 t f.whole f.is parts.1 in
+    (is.0, is.1 ∙ parts.0)
 
 empty-kept : (date : LocalDate) (cut : Cut) (t : Time) → cut.1 ≡ [] → time_of_cut date cut ≡ Some t → unzoned_rest date cut ≡ Some t
 empty-kept date cut t z e = ap (λ (zone : List ℕ). cond (is_nonempty zone) None (time_of_cut date cut)) z ∙ e

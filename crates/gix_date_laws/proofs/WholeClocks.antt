@@ -1,7 +1,8 @@
 -- A clock drops no character iff it is whole: runs of digits with colons between them, and perhaps a fraction.
 use Rattle.std.proofs.Common.{◌≡◌, ◌∙◌, ◌+◌, suc, ℕ, Bool, true, false, cond, List, [], ◌∷◌, ◌++◌, length, take, drop, map, refl, ap, sym, subst, arith, Option, Some, None, option_map, inl, inr, append-nil, take-append-drop}
+use Rattle.std.proofs.lemmas.Option.{same_Some as some-same}
 use Rattle.std.proofs.Math.Seq.{drop-append_seam}
-use Rattle.std.proofs.lemmas.Bool.{and_parts as both}
+use Rattle.std.proofs.lemmas.Bool.{and_parts as both, not-true as not_is}
 use Rattle.std.proofs.lemmas.Bool.Decides.{nat_tests}
 use Rattle.std.specs.Char.{is_ascii_digit}
 use Rattle.std.specs.List.{list_all, prefix_len}
@@ -15,23 +16,12 @@ use Rattle.gix_date.specs.Careful.Laws.{IsWholeSo}
 use Rattle.gix_date.specs.Text.Front.{skip_char, ◌>>=◌}
 use Rattle.gix_date.specs.Text.Characters.{colon, dot}
 use Rattle.gix_date.specs.Text.Numbers.{read_two_digits}
-use Rattle.gix_date.proofs.Fields.FieldsTaken.{went, guard, after-taken, two-taken}
+use Rattle.gix_date.proofs.Careful.Fronts.{number-taken, marked-taken, bare-taken}
 
 -- Runs of digits.
 abbrev BeginsNoDigit : List ℕ → Type 0
 BeginsNoDigit [] = Unit {0}
 BeginsNoDigit (c ∷ rest) = is_ascii_digit c ≡ false
-
-one-add : (n : ℕ) → 1 + n ≡ suc n
-one-add n = omega arith
-
-front-more : (c n : ℕ) (t : List ℕ) (b : Bool) → is_ascii_digit c ≡ b → list_all is_ascii_digit (take n t) ≡ true → list_all is_ascii_digit (take (cond b (1 + n) 0) (c ∷ t)) ≡ true
-front-more c n t true h more = rw (one-add n) (rw h more)
-front-more c n t false h more = refl
-
-all-front : (t : List ℕ) → list_all is_ascii_digit (take (prefix_len is_ascii_digit t) t) ≡ true
-all-front [] = refl
-all-front (c ∷ t) = front-more c (prefix_len is_ascii_digit t) t (is_ascii_digit c) refl (all-front t)
 
 run-len : (run rest : List ℕ) → list_all is_ascii_digit run ≡ true → BeginsNoDigit rest → prefix_len is_ascii_digit (run ++ rest) ≡ length run
 run-len [] [] h s = refl
@@ -40,29 +30,12 @@ run-len (c ∷ run) rest h s =
     let parts = both (is_ascii_digit c) (list_all is_ascii_digit run) h in
     rw parts.0 (omega (arith, run-len run rest parts.1 s))
 
--- a number at the front is a run of digits
-number-taken : (text rest : List ℕ) → skip_number text ≡ Some rest → (run : List ℕ) × (text ≡ run ++ rest) × AreSomeDigits run
-unfolding skip_number
-number-taken [] rest e = absurd cc
-number-taken (c ∷ t) rest e =
-    let n = prefix_len is_ascii_digit t in
-    let g = guard (is_ascii_digit c) (drop n t) rest e in
-    (c ∷ take n t, ap (λ xs. c ∷ xs) (sym (take-append-drop n t) ∙ ap (λ xs. take n t ++ xs) g.1), rw (g.0, all-front t) refl)
-
 number-read : (run rest : List ℕ) → AreSomeDigits run → BeginsNoDigit rest → skip_number (run ++ rest) ≡ Some rest
 unfolding skip_number
 number-read [] rest h s = absurd h
 number-read (c ∷ run) rest h s =
     let parts = both (is_ascii_digit c) (list_all is_ascii_digit run) h in
     rw (parts.0, run-len run rest parts.1 s) (ap (λ xs. Some xs) (drop-append_seam run rest))
-
--- the same after a mark
-marked-taken : (mark : ℕ) (text rest : List ℕ) → skip_marked mark text ≡ Some rest → (run : List ℕ) × (text ≡ mark ∷ (run ++ rest)) × AreSomeDigits run
-unfolding skip_marked
-marked-taken mark text rest e =
-    let after = went (skip_char mark text) skip_number rest e in
-    let n = number-taken after.0 rest after.2 in
-    (n.0, after-taken mark text after.0 after.1 ∙ ap (λ xs. mark ∷ xs) n.1, n.2)
 
 same : (n : ℕ) → (n == n) ≡ true
 same n = grind (arith, nat_tests)
@@ -75,18 +48,11 @@ marked-read mark run rest h s = rw (same mark) (number-read run rest h s)
 abbrev are_marks : List ℕ → Bool
 are_marks marks = list_all (λ mark. not (is_ascii_digit mark)) marks
 
-no-digit : (c : ℕ) → not (is_ascii_digit c) ≡ true → is_ascii_digit c ≡ false
-no-digit c e = by (is_ascii_digit c) e
-  where
-    by : (b : Bool) → not b ≡ true → b ≡ false
-    by true k = cc
-    by false k = refl
-
 goes-no-digit : (marks text : List ℕ) → are_marks marks ≡ true → MayGoOn marks text → BeginsNoDigit text
 goes-no-digit [] text n h = subst BeginsNoDigit (sym h) tt
 goes-no-digit (mark ∷ marks) text n (inl e) = subst BeginsNoDigit (sym e) tt
 goes-no-digit (mark ∷ marks) text n (inr (run, rest, e, digits, h)) =
-    subst BeginsNoDigit (sym e) (no-digit mark (both (not (is_ascii_digit mark)) (are_marks marks) n).0)
+    subst BeginsNoDigit (sym e) (not_is (is_ascii_digit mark) (both (not (is_ascii_digit mark)) (are_marks marks) n).0)
 
 -- what stands after a run is taken by parts, one for each mark, iff it goes on so
 left-goes : (marks text : List ℕ) → left_by (map skip_marked marks) [] text ≡ [] → MayGoOn marks text
@@ -111,28 +77,6 @@ goes-left (mark ∷ marks) text n (inr (run, rest, e, digits, h)) =
     subst (λ t. left_by (map skip_marked (mark ∷ marks)) [] t ≡ []) (sym e) (rw next (goes-left marks rest parts.1 h))
 
 -- Six digits and a fraction.
-abbrev IsBare : List ℕ → List ℕ → Type 0
-IsBare text rest =
-    (six : List ℕ) × (fraction : List ℕ) × (text ≡ six ++ dot ∷ (fraction ++ rest)) × (length six ≡ 6) × AreSomeDigits six × AreSomeDigits fraction
-
-bare-taken : (text rest : List ℕ) → skip_bare_fraction text ≡ Some rest → IsBare text rest
-unfolding skip_bare_fraction
-bare-taken text rest e =
-    let h = went (read_two_digits text) (λ (h : ℕ × List ℕ). read_two_digits h.1 >>= λ m. read_two_digits m.1 >>= λ s. skip_marked dot s.1) rest e in
-    let m = went (read_two_digits h.0.1) (λ (m : ℕ × List ℕ). read_two_digits m.1 >>= λ s. skip_marked dot s.1) rest h.2 in
-    let s = went (read_two_digits m.0.1) (λ (s : ℕ × List ℕ). skip_marked dot s.1) rest m.2 in
-    let a = two-taken text h.0.0 h.0.1 h.1 in
-    let b = two-taken h.0.1 m.0.0 m.0.1 m.1 in
-    let c = two-taken m.0.1 s.0.0 s.0.1 s.1 in
-    let f = marked-taken dot s.0.1 rest s.2 in (
-      a.tens ∷ a.ones ∷ b.tens ∷ b.ones ∷ c.tens ∷ c.ones ∷ [],
-      f.0,
-      a.whole ∙ ap (λ t. a.tens ∷ a.ones ∷ t) (b.whole ∙ ap (λ t. b.tens ∷ b.ones ∷ t) (c.whole ∙ ap (λ t. c.tens ∷ c.ones ∷ t) f.1)),
-      refl,
-      rw (a.is_tens, a.is_ones, b.is_tens, b.is_ones, c.is_tens, c.is_ones) refl,
-      f.2,
-    )
-
 digits-all : (t : List ℕ) → AreSomeDigits t → list_all is_ascii_digit t ≡ true
 digits-all [] h = absurd h
 digits-all (c ∷ t) h = h
@@ -149,28 +93,16 @@ bare-read (a ∷ b ∷ c ∷ d ∷ e ∷ f ∷ []) fraction len h k =
     let last = subst (λ t. skip_marked dot (dot ∷ t) ≡ Some []) (append-nil fraction) (marked-read dot fraction [] k tt) in
     rw (pa.0, pb.0, pc.0, pd.0, pe.0, pf.0) last
 bare-read [] fraction len h k = absurd h
-bare-read (a ∷ []) fraction len h k = absurd (omega (arith, len))
-bare-read (a ∷ b ∷ []) fraction len h k = absurd (omega (arith, len))
-bare-read (a ∷ b ∷ c ∷ []) fraction len h k = absurd (omega (arith, len))
-bare-read (a ∷ b ∷ c ∷ d ∷ []) fraction len h k = absurd (omega (arith, len))
-bare-read (a ∷ b ∷ c ∷ d ∷ e ∷ []) fraction len h k = absurd (omega (arith, len))
-bare-read (a ∷ b ∷ c ∷ d ∷ e ∷ f ∷ g ∷ t) fraction len h k = absurd (omega (arith, len))
+bare-read six fraction len h k = absurd (omega (arith, len))
 
 -- the first character that is no digit
+after-run : (run rest : List ℕ) → list_all is_ascii_digit run ≡ true → BeginsNoDigit rest → drop (prefix_len is_ascii_digit (run ++ rest)) (run ++ rest) ≡ rest
+after-run run rest h s = ap (λ n. drop n (run ++ rest)) (run-len run rest h s) ∙ drop-append_seam run rest
+
 first-mark : (a b xs ys : List ℕ) (mark : ℕ) → list_all is_ascii_digit a ≡ true → list_all is_ascii_digit b ≡ true → is_ascii_digit mark ≡ false → BeginsNoDigit ys
     → a ++ mark ∷ xs ≡ b ++ ys → mark ∷ xs ≡ ys
-first-mark [] [] xs ys mark ha hb n s e = e
-first-mark [] (d ∷ b) xs ys mark ha hb n s e = absurd (let t = (both (is_ascii_digit d) (list_all is_ascii_digit b) hb).0 in clash d t cc)
-  where
-    clash : (d : ℕ) → is_ascii_digit d ≡ true → mark ≡ d → ⊥
-    clash d t k = let f = subst (λ x. is_ascii_digit x ≡ false) k n in cc
-first-mark (c ∷ a) [] xs (d ∷ ys) mark ha hb n s e = absurd (let t = (both (is_ascii_digit c) (list_all is_ascii_digit a) ha).0 in clash t cc)
-  where
-    clash : is_ascii_digit c ≡ true → c ≡ d → ⊥
-    clash t k = let f = subst (λ x. is_ascii_digit x ≡ true) k t in cc
-first-mark (c ∷ a) [] xs [] mark ha hb n s e = absurd cc
-first-mark (c ∷ a) (d ∷ b) xs ys mark ha hb n s e =
-    first-mark a b xs ys mark (both (is_ascii_digit c) (list_all is_ascii_digit a) ha).1 (both (is_ascii_digit d) (list_all is_ascii_digit b) hb).1 n s cc
+first-mark a b xs ys mark ha hb n s e =
+    sym (after-run a (mark ∷ xs) ha n) ∙ ap (λ (t : List ℕ). drop (prefix_len is_ascii_digit t) t) e ∙ after-run b ys hb s
 
 head-same : (a b : ℕ) (xs ys : List ℕ) → a ∷ xs ≡ b ∷ ys → a ≡ b
 head-same a b xs ys e = cc
@@ -193,15 +125,11 @@ no-bare six run xs rest marks h k n g e =
     no-dot marks xs rest g (first-mark six run xs rest dot (digits-all six h) (digits-all run k) refl (goes-no-digit (colon ∷ marks) rest n g) e)
 
 takes-all-some : (o : Option (List ℕ)) → takes_all o ≡ true → o ≡ Some []
-takes-all-some None e = absurd cc
 takes-all-some (Some []) e = refl
-takes-all-some (Some (c ∷ rest)) e = absurd cc
+takes-all-some o e = absurd cc
 
 abbrev clock_marks : List ℕ
 clock_marks = colon ∷ colon ∷ dot ∷ []
-
-some-same : (a b : List ℕ) → (λ (z : List ℕ). Some z) a ≡ Some b → a ≡ b
-some-same a b e = cc
 
 clock-whole : (text : List ℕ) → skip_git_clock text ≡ Some [] → IsWholeClock text
 unfolding skip_git_clock

@@ -1,6 +1,7 @@
 -- What is read by a rule for raw offsets is read alike by a wider one, and what that reads besides is a raw text or an
 -- at text.
 use Rattle.std.proofs.Common.{◌≡◌, ◌∙◌, ℕ, ℤ, Bool, true, false, cond, List, [], ◌∷◌, ◌++◌, refl, ap, sym, arith, Some, None, Option, is_some, option_map, IsUtf8, inl, inr, ◌⊎◌, take, drop}
+use Rattle.std.proofs.lemmas.Option.{cond_some as guard}
 use Rattle.std.proofs.lemmas.Bool.Decides.{nat_tests}
 use Rattle.std.specs.Option.{option_or}
 use Rattle.std.specs.Prelude.{◌==◌}
@@ -15,10 +16,11 @@ use Rattle.gix_date.specs.Fields.Offsets.{offset_fields, offset_of, SignedPairs}
 use Rattle.gix_date.specs.Families.Raw.{OffsetRule, is_quarter_offset, is_minute_offset, raw_time_by, raw_offset_by}
 use Rattle.gix_date.specs.Text.SpaceWords.{space_words, first_words}
 use Rattle.gix_date.specs.declared.time.Time.{Time}
-use Rattle.gix_date.proofs.Families.Disjoint.{none-unless, raw-words}
+use Rattle.gix_date.proofs.Families.Disjoint.{raw-words}
 use Rattle.gix_date.proofs.Families.Exclusive.{are-exclusive, place, differ}
-use Rattle.gix_date.proofs.Fields.FieldsTaken.{went, guard}
+use Rattle.gix_date.proofs.Fields.FieldsTaken.{went, none-unless}
 use Rattle.gix_date.proofs.Fast.FastHeaders.{int-number, one-word}
+use Rattle.gix_date.proofs.Families.Shapes.{int-no-raw}
 
 -- each offset of the one rule is of the other
 abbrev Within : OffsetRule → OffsetRule → Type 0
@@ -27,36 +29,13 @@ Within narrow wide = (f : SignedPairs) → narrow f ≡ true → wide f ≡ true
 quarters-within : Within is_quarter_offset is_minute_offset
 quarters-within f h = grind (arith, nat_tests, h)
 
-abbrev time_at : ℤ → ℤ → Time
-time_at seconds offset = record { seconds = seconds; offset = offset }
-
-offset-wider : (r w : OffsetRule) → Within r w → (word : List ℕ) (o : ℤ) → raw_offset_by r word ≡ Some o → raw_offset_by w word ≡ Some o
-unfolding raw_offset_by
-offset-wider r w h word o e =
-    let f = went (offset_fields word) (λ f. cond (r f) (Some (offset_of f)) None) o e in
-    let g = guard (r f.0) (offset_of f.0) o f.2 in
-    ap (λ (q : Option SignedPairs). q >>= (λ f. cond (w f) (Some (offset_of f)) None)) f.1 ∙ ap (λ (b : Bool). cond b (Some (offset_of f.0)) None) (h f.0 g.0) ∙ ap (λ (o : ℤ). Some o) g.1
-
 raw-wider : (r w : OffsetRule) → Within r w → (text : List ℕ) (t : Time) → raw_time_by r text ≡ Some t → raw_time_by w text ≡ Some t
-unfolding raw_time_by
+unfolding raw_time_by raw_offset_by
 raw-wider r w h text t e =
-    let words = went (first_words (space_words text)) (λ words. words.1 >>= λ second. int_value words.0 >>= λ s. raw_offset_by r second >>= λ o. Some (time_at s o)) t e in
-    let second = went words.0.1 (λ second. int_value words.0.0 >>= λ s. raw_offset_by r second >>= λ o. Some (time_at s o)) t words.2 in
-    let seconds = went (int_value words.0.0) (λ s. raw_offset_by r second.0 >>= λ o. Some (time_at s o)) t second.2 in
-    let offset = went (raw_offset_by r second.0) (λ o. Some (time_at seconds.0 o)) t seconds.2 in
-    ap (λ (q : Option (List ℕ × Option (List ℕ))). q >>= λ words. words.1 >>= λ second. int_value words.0 >>= λ s. raw_offset_by w second >>= λ o. Some (time_at s o)) words.1
-    ∙ ap (λ (q : Option (List ℕ)). q >>= λ second. int_value words.0.0 >>= λ s. raw_offset_by w second >>= λ o. Some (time_at s o)) second.1
-    ∙ ap (λ (q : Option ℤ). q >>= λ s. raw_offset_by w second.0 >>= λ o. Some (time_at s o)) seconds.1
-    ∙ ap (λ (q : Option ℤ). q >>= λ o. Some (time_at seconds.0 o)) (offset-wider r w h second.0 offset.0 offset.1)
-    ∙ offset.2
+    let k = raw-words r text t e in
+    rw (k.is, k.is_value, k.is_fields, h k.fields k.allowed) (ap (λ (u : Time). Some u) k.time)
 
 -- an int text is one word, and so no raw text
-int-no-raw : (w : OffsetRule) (text : List ℕ) (n : ℤ) → int_value text ≡ Some n → raw_time_by w text ≡ None
-int-no-raw w text n e = none-unless (raw_time_by w text) (λ t h.
-    let r = raw-words w text t h in
-    let clash : r.front ∷ r.zone ∷ [] ≡ text ∷ [] = sym r.is ∙ one-word text (int-number text n e) in
-    cc)
-
 at-wider : (r w : OffsetRule) → Within r w → (text : List ℕ) (t : Time) → at_time r text ≡ Some t → at_time w text ≡ Some t
 unfolding at_time
 at-wider r w h text t e =
@@ -79,9 +58,8 @@ last-wider (None ∷ front) p q x h e = last-wider front p q x h e
 
 last-answers : (front : List (Option FamilyAnswer)) (p q : Option FamilyAnswer) (x : FamilyAnswer) → first_answer_of (front ++ (p ∷ [])) ≡ None → first_answer_of (front ++ (q ∷ [])) ≡ Some x → q ≡ Some x
 last-answers [] p (Some y) x e f = f
-last-answers [] p None x e f = absurd cc
-last-answers (Some y ∷ front) p q x e f = absurd cc
 last-answers (None ∷ front) p q x e f = last-answers front p q x e f
+last-answers front p q x e f = absurd cc
 
 -- the families between the at text and the raw one, which no rule changes
 abbrev between : List ℕ → List (Option FamilyAnswer)

@@ -6,9 +6,7 @@ use Rattle.std.specs.Char.{is_ascii_alphanumeric}
 use Rattle.std.specs.Prelude.{◌&&◌, ◌||◌, not, slice_index, ◌==◌}
 use Rattle.gix_date.specs.Careful.Texts.{after_word, begins_word, in_word, is_clear_at, is_separator, may_stand_after, separates, word_at, word_before}
 use Rattle.gix_date.specs.Text.Characters.{minus}
-
-word_is_ascii : (b : ℕ) → is_ascii_alphanumeric b ≡ true → b < 128
-word_is_ascii b h = grind (arith, nat_tests, h)
+use Rattle.gix_date.proofs.Relative.QuietWords.{run_ascii as word_is_ascii}
 
 separator_is_ascii : (b : ℕ) → is_separator b ≡ true → b < 128
 separator_is_ascii b h = grind (arith, nat_tests, h)

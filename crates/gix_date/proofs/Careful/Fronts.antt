@@ -1,9 +1,11 @@
 -- What is left of a text where a form stops is its end, so that the text may be cut there.
-use Rattle.std.proofs.Common.{◌≡◌, ◌∙◌, ℕ, ℤ, Bool, true, false, cond, List, [], ◌∷◌, ◌++◌, refl, ap, sym, subst, append-nil, append_assoc, Option, Some, None, option_map, inl, inr, take-append-drop}
+use Rattle.std.proofs.Common.{◌≡◌, ◌∙◌, ℕ, ℤ, Bool, true, false, cond, List, [], ◌∷◌, ◌++◌, length, refl, ap, sym, subst, append-nil, append_assoc, Option, Some, None, option_map, inl, inr, take-append-drop}
+use Rattle.std.proofs.lemmas.Option.{same_Some as some-is, cond_some as guard}
 use Rattle.std.specs.Char.{is_ascii_digit}
 use Rattle.std.specs.List.{prefix_len}
 use Rattle.std.specs.Prelude.{drop, take, is_some, unwrap_or}
 use Rattle.gix_date.specs.Careful.Fronts.{Part, left_by, perhaps, taken_by, skip_number, skip_marked, skip_day, skip_clock, skip_named_day, skip_offset, skip_git_day, skip_bare_fraction, skip_git_clock, git_parts, iso8601_parts, strict_parts, rfc2822_parts, gitoxide_parts, default_parts, IsRestOf}
+use Rattle.gix_date.specs.Careful.Grammar.{AreSomeDigits}
 use Rattle.gix_date.specs.Fields.Civil.{is_date, is_clock}
 use Rattle.gix_date.specs.Fields.DateFields.{skip_spaces, skip_weekday, skip_day_name, read_month, read_plain_date, read_clock, read_rfc2822_clock}
 use Rattle.gix_date.specs.Text.Front.{ReadFront, skip_char, ◌>>=◌}
@@ -11,7 +13,7 @@ use Rattle.gix_date.specs.Fields.Layout.{LocalDate, LocalClock}
 use Rattle.gix_date.specs.Git.Forms.{git_front}
 use Rattle.gix_date.specs.Text.Characters.{colon, dot}
 use Rattle.gix_date.specs.Text.Numbers.{read_two_digits, read_field, read_year}
-use Rattle.gix_date.proofs.Fields.FieldsTaken.{went, first-or, guard, after-taken, field-taken, two-taken, year-taken, spaces-taken, month-taken, weekday-taken, prefix-taken, date-taken, clock-taken, rfc2822-clock-taken}
+use Rattle.gix_date.proofs.Fields.FieldsTaken.{went, first-or, front-passes, after-taken, field-taken, two-taken, year-taken, spaces-taken, month-taken, weekday-taken, prefix-taken, date-taken, clock-taken, rfc2822-clock-taken}
 use Rattle.gix_date.proofs.Git.Fronts.{front-taken}
 
 abbrev IsPart : Part → Type 0
@@ -26,9 +28,6 @@ through a b c f g = (f.0 ++ g.0, f.1 ∙ ap (λ (t : List ℕ). f.0 ++ t) g.1 �
 
 turned : (a b c : List ℕ) → b ≡ c → IsRestOf a b → IsRestOf a c
 turned a b c e h = subst (IsRestOf a) e h
-
-some-is : (a b : List ℕ) → (λ (z : List ℕ). Some z) a ≡ Some b → a ≡ b
-some-is a b e = cc
 
 left-is : (parts : List Part) (whole rest : List ℕ) → AreParts parts → IsRestOf whole rest → IsRestOf whole (left_by parts whole rest)
 left-is [] whole [] h r = ([], refl)
@@ -119,32 +118,54 @@ named-day-is text rest e =
     let h = weekday-taken text d.0 d.1 in
     through text d.0 rest (h.name, h.whole) (spaces-is d.0 rest d.2)
 
-number-is : IsPart skip_number
+-- a number at the front is a run of digits
+pub number-taken : (text rest : List ℕ) → skip_number text ≡ Some rest → (run : List ℕ) × (text ≡ run ++ rest) × AreSomeDigits run
 unfolding skip_number
-number-is [] rest e = absurd cc
-number-is (c ∷ text) rest e =
-    let n = prefix_len is_ascii_digit text in
-    let g = guard (is_ascii_digit c) (drop n text) rest e in
-    turned (c ∷ text) (drop n text) rest g.1 (c ∷ take n text, ap (λ (t : List ℕ). c ∷ t) (sym (take-append-drop n text)))
+number-taken [] rest e = absurd cc
+number-taken (c ∷ t) rest e =
+    let n = prefix_len is_ascii_digit t in
+    let g = guard (is_ascii_digit c) (drop n t) rest e in
+    (c ∷ take n t, ap (λ xs. c ∷ xs) (sym (take-append-drop n t) ∙ ap (λ xs. take n t ++ xs) g.1), rw (g.0, front-passes is_ascii_digit t) refl)
 
-marked-is : (mark : ℕ) → IsPart (skip_marked mark)
+-- the same after a mark
+pub marked-taken : (mark : ℕ) (text rest : List ℕ) → skip_marked mark text ≡ Some rest → (run : List ℕ) × (text ≡ mark ∷ (run ++ rest)) × AreSomeDigits run
 unfolding skip_marked
-marked-is mark text rest e =
-    let d = went (skip_char mark text) skip_number rest e in
-    through text d.0 rest (char-is mark text d.0 d.1) (number-is d.0 rest d.2)
+marked-taken mark text rest e =
+    let after = went (skip_char mark text) skip_number rest e in
+    let n = number-taken after.0 rest after.2 in
+    (n.0, after-taken mark text after.0 after.1 ∙ ap (λ xs. mark ∷ xs) n.1, n.2)
 
-bare-is : IsPart skip_bare_fraction
+-- six digits and a fraction
+abbrev pub IsBare : List ℕ → List ℕ → Type 0
+IsBare text rest =
+    (six : List ℕ) × (fraction : List ℕ) × (text ≡ six ++ dot ∷ (fraction ++ rest)) × (length six ≡ 6) × AreSomeDigits six × AreSomeDigits fraction
+
+pub bare-taken : (text rest : List ℕ) → skip_bare_fraction text ≡ Some rest → IsBare text rest
 unfolding skip_bare_fraction
-bare-is text rest e =
+bare-taken text rest e =
     let h = went (read_two_digits text) (λ (h : ℕ × List ℕ). read_two_digits h.1 >>= λ m. read_two_digits m.1 >>= λ s. skip_marked dot s.1) rest e in
     let m = went (read_two_digits h.0.1) (λ (m : ℕ × List ℕ). read_two_digits m.1 >>= λ s. skip_marked dot s.1) rest h.2 in
     let s = went (read_two_digits m.0.1) (λ (s : ℕ × List ℕ). skip_marked dot s.1) rest m.2 in
     let a = two-taken text h.0.0 h.0.1 h.1 in
     let b = two-taken h.0.1 m.0.0 m.0.1 m.1 in
     let c = two-taken m.0.1 s.0.0 s.0.1 s.1 in
-    through text h.0.1 rest (a.tens ∷ a.ones ∷ [], a.whole)
-    (through h.0.1 m.0.1 rest (b.tens ∷ b.ones ∷ [], b.whole)
-    (through m.0.1 s.0.1 rest (c.tens ∷ c.ones ∷ [], c.whole) (marked-is dot s.0.1 rest s.2)))
+    let f = marked-taken dot s.0.1 rest s.2 in (
+      a.tens ∷ a.ones ∷ b.tens ∷ b.ones ∷ c.tens ∷ c.ones ∷ [],
+      f.0,
+      a.whole ∙ ap (λ t. a.tens ∷ a.ones ∷ t) (b.whole ∙ ap (λ t. b.tens ∷ b.ones ∷ t) (c.whole ∙ ap (λ t. c.tens ∷ c.ones ∷ t) f.1)),
+      refl,
+      rw (a.is_tens, a.is_ones, b.is_tens, b.is_ones, c.is_tens, c.is_ones) refl,
+      f.2,
+    )
+
+number-is : IsPart skip_number
+number-is text rest e = let h = number-taken text rest e in (h.0, h.1)
+
+marked-is : (mark : ℕ) → IsPart (skip_marked mark)
+marked-is mark text rest e = let h = marked-taken mark text rest e in (mark ∷ h.0, h.1)
+
+bare-is : IsPart skip_bare_fraction
+bare-is text rest e = let h = bare-taken text rest e in (h.0 ++ dot ∷ h.1, h.2 ∙ sym (append_assoc h.0 (dot ∷ h.1) rest))
 
 clock-parts : List Part
 clock-parts = skip_marked colon ∷ skip_marked colon ∷ skip_marked dot ∷ []

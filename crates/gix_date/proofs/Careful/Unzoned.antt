@@ -35,9 +35,7 @@ unless false a h = h
 
 chosen : (a b c : Bool) (s : ℤ) → is_instant s ≡ c → IfSome (cond (a && b && c) (Some s) None) (λ s. is_instant s ≡ true)
 chosen true true true s e = e
-chosen true true false s e = tt
-chosen true false c s e = tt
-chosen false b c s e = tt
+chosen a b c s e = tt
 
 civil_has : (d : DateFields) (c : ClockFields) (offset : ℤ) → IfSome (civil_instant d c offset) (λ s. is_instant s ≡ true)
 unfolding civil_instant

@@ -6,7 +6,7 @@ use Rattle.gix_date.specs.Careful.Dates.{IsLocalTime}
 use Rattle.gix_date.specs.Fields.Zoned.{whole_seconds}
 use Rattle.gix_date.specs.Relative.Steps.{IsPicked, civil_of}
 use Rattle.gix_date.specs.declared.time.Time.{Time}
-use Rattle.gix_date.proofs.Relative.FixedSteps.{civil-shown}
+use Rattle.gix_date.proofs.Relative.Steps.{civil-of as civil-shown}
 
 civil-is : (t : Time) (dt : DateTime) (date : Date) (clock : Clock) → civil_nanos dt ≡ nanos_of_seconds t.seconds → dt.date ≡ date → dt.time ≡ clock → civil_of (epoch_day date) clock ≡ nanos_of_seconds t.seconds
 civil-is t dt date clock shown d k = sym (civil-shown dt date clock d k) ∙ shown

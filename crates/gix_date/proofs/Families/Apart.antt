@@ -14,13 +14,15 @@ use Rattle.gix_date.specs.Text.Numbers.{fits_i64, int_value, read_two_digits, re
 use Rattle.gix_date.specs.Fields.DateFields.{skip_day_name, skip_spaces, read_name, skip_weekday, read_plain_date, read_clock, read_minutes}
 use Rattle.gix_date.specs.Families.Patterns.{gitoxide_layout, iso8601_layout, time_answer, short_answer, rfc2822_answer, iso8601_answer, iso8601_strict_answer, gitoxide_answer, default_answer}
 use Rattle.gix_date.proofs.Fields.FieldsRead.{Begins, BeginsNot, Excludes, begins-append, begins_not, digit-no-letter, letter-no-digit, space-no-digit, digit-no-space, field-begins, year-begins, name-begins, weekday-read, date-read}
-use Rattle.gix_date.proofs.Fields.FieldsTaken.{went, after-taken}
+use Rattle.gix_date.proofs.Fields.FieldsTaken.{went, after-taken, none-unless}
 use Rattle.gix_date.proofs.Fields.Layouts.{piece-taken, apart-after, rfc2822-front, dates_spelled}
 use Rattle.gix_date.specs.Families.Order.{answers_before_git}
 use Rattle.gix_date.specs.Families.Raw.{OffsetRule, is_quarter_offset}
 use Rattle.gix_date.specs.Fields.Layout.{LocalTime, Piece, DayName, MonthName, Day, Year, PlainDate, Clock, Spaces, LetterT, Offset, ColonOffset, read_piece, read_pieces, nothing_read, ArePieces}
 use Rattle.gix_date.specs.declared.civil.DateFields.{DateFields}
 use Rattle.gix_date.specs.declared.time.Time.{Time}
+use Rattle.gix_date.proofs.Fast.FastHeaders.{is_number_byte, int-no-byte, letter-no-number, int-taken}
+use Rattle.gix_date.proofs.Text.Ints.{each_of}
 
 -- families by what a text begins with
 pub no_pair : (c : ℕ) (t : List ℕ) → is_ascii_digit c ≡ false → read_two_digits (c ∷ t) ≡ None
@@ -44,10 +46,8 @@ no-field (c ∷ t) h = rw (no_pair c t h, h) refl
 
 pub no-weekday : (t : List ℕ) → BeginsNot is_ascii_alphabetic t → skip_weekday t ≡ None
 unfolding skip_weekday read_name
-no-weekday [] h = refl
-no-weekday (a ∷ []) h = refl
-no-weekday (a ∷ b ∷ []) h = refl
 no-weekday (a ∷ b ∷ c ∷ t) h = rw h refl
+no-weekday t h = refl
 
 pub no-spaces : (t : List ℕ) → BeginsNot is_space t → skip_spaces t ≡ None
 unfolding skip_spaces
@@ -74,21 +74,6 @@ unfolding gitoxide_answer default_answer
 no-day text h = record { gitoxide = rw h refl; default = rw h refl }
 
 -- no number alone
-refused : (a b : Bool) (v : ℤ) → cond (a && false && b) (Some v) None ≡ None
-refused true b v = refl
-refused false b v = refl
-
-no_int_by : (digits : List ℕ) (fits : Bool) (v : ℤ) → all_ascii_digits digits ≡ false → cond (nat_lt 0 (length digits) && all_ascii_digits digits && fits) (Some v) None ≡ None
-no_int_by digits fits v h = rw h (refused (nat_lt 0 (length digits)) fits v)
-
-pub no-epoch : (c : ℕ) (t : List ℕ) → (c == plus) ≡ false → (c == minus) ≡ false → all_ascii_digits (c ∷ t) ≡ false → epoch_time (c ∷ t) ≡ None
-unfolding epoch_time int_value
-no-epoch c t p m h =
-    let bare : without_leading_sign (c ∷ t) ≡ c ∷ t = rw (m, p) refl in
-    let digits : all_ascii_digits (without_leading_sign (c ∷ t)) ≡ false = rw bare h in
-    let none : int_value (c ∷ t) ≡ None = no_int_by (without_leading_sign (c ∷ t)) (fits_i64 (signed_digits_value 10 (c ∷ t))) (signed_digits_value 10 (c ∷ t)) digits in
-    rw none refl
-
 pub mixed : (front : List ℕ) (c : ℕ) (rest : List ℕ) → is_ascii_digit c ≡ false → all_ascii_digits (front ++ (c ∷ rest)) ≡ false
 mixed [] c rest h = rw h refl
 mixed (d ∷ front) c rest h = both_ways (is_ascii_digit d) (mixed front c rest h)
@@ -97,25 +82,37 @@ mixed (d ∷ front) c rest h = both_ways (is_ascii_digit d) (mixed front c rest 
     both_ways true e = e
     both_ways false e = refl
 
-digit-no-plus : Excludes is_ascii_digit (λ c. c == plus)
+pub digit-no-plus : Excludes is_ascii_digit (λ c. c == plus)
 digit-no-plus c h = grind (arith, nat_tests, h)
 
-digit-no-minus : Excludes is_ascii_digit (λ c. c == minus)
+pub digit-no-minus : Excludes is_ascii_digit (λ c. c == minus)
 digit-no-minus c h = grind (arith, nat_tests, h)
+
+-- an int text that begins with a digit is digits
+pub int-digits : (c : ℕ) (t : List ℕ) (n : ℤ) → is_ascii_digit c ≡ true → int_value (c ∷ t) ≡ Some n
+    → all_ascii_digits (c ∷ t) ≡ true
+int-digits c t n d e =
+    let parts = each_of (nat_lt 0 (length (without_leading_sign (c ∷ t)))) (all_ascii_digits (without_leading_sign (c ∷ t))) (fits_i64 (signed_digits_value 10 (c ∷ t))) (int-taken (c ∷ t) n e).0 in
+    let bare : without_leading_sign (c ∷ t) ≡ c ∷ t = rw (digit-no-minus c d, digit-no-plus c d) refl in
+    ap all_ascii_digits (sym bare) ∙ parts.1
+
+pub no-epoch : (text : List ℕ) → int_value text ≡ None → epoch_time text ≡ None
+unfolding epoch_time
+no-epoch text h = rw h refl
+
+pub no-epoch-byte : (c : ℕ) (t : List ℕ) → is_number_byte c ≡ false → epoch_time (c ∷ t) ≡ None
+no-epoch-byte c t h = no-epoch (c ∷ t) (none-unless (int_value (c ∷ t)) (λ n e. int-no-byte c t n h e))
 
 pub no-epoch-digits : (front : List ℕ) (c : ℕ) (rest : List ℕ) → Begins is_ascii_digit front → is_ascii_digit c ≡ false → epoch_time (front ++ (c ∷ rest)) ≡ None
 no-epoch-digits [] c rest b h = absurd b
-no-epoch-digits (d ∷ front) c rest b h = no-epoch d (front ++ (c ∷ rest)) (digit-no-plus d b) (digit-no-minus d b) (mixed (d ∷ front) c rest h)
-
-letter-no-plus : Excludes is_ascii_alphabetic (λ c. c == plus)
-letter-no-plus c h = grind (arith, nat_tests, h)
-
-letter-no-minus : Excludes is_ascii_alphabetic (λ c. c == minus)
-letter-no-minus c h = grind (arith, nat_tests, h)
+no-epoch-digits (d ∷ front) c rest b h =
+    no-epoch (d ∷ (front ++ (c ∷ rest))) (none-unless (int_value (d ∷ (front ++ (c ∷ rest)))) (λ n e.
+    let clash : true ≡ false = sym (int-digits d (front ++ (c ∷ rest)) n b e) ∙ mixed (d ∷ front) c rest h in
+    cc))
 
 pub no-epoch-letter : (t : List ℕ) → Begins is_ascii_alphabetic t → epoch_time t ≡ None
 no-epoch-letter [] h = absurd h
-no-epoch-letter (c ∷ t) h = no-epoch c t (letter-no-plus c h) (letter-no-minus c h) (mixed [] c t (letter-no-digit c h))
+no-epoch-letter (c ∷ t) h = no-epoch-byte c t (letter-no-number c h)
 
 -- no mail date begins with neither a letter nor a digit, nor with a year
 pub no-rfc2822-first : (t : List ℕ) → BeginsNot is_ascii_alphabetic t → BeginsNot is_ascii_digit t → rfc2822_answer t ≡ None
@@ -128,17 +125,13 @@ pair_first a b c rest ha hb hc = rw (ha, hb) refl
 
 pub no-rfc2822-year : (year rest : List ℕ) (n : ℕ) → IsYear year n → rfc2822_answer (year ++ rest) ≡ None
 unfolding rfc2822_answer skip_day_name
-no-rfc2822-year [] rest n h = absurd h
-no-rfc2822-year (a ∷ []) rest n h = absurd h
-no-rfc2822-year (a ∷ b ∷ []) rest n h = absurd h
-no-rfc2822-year (a ∷ b ∷ c ∷ []) rest n h = absurd h
 no-rfc2822-year (a ∷ b ∷ c ∷ d ∷ []) rest n h =
     let text = a ∷ b ∷ c ∷ d ∷ rest in
     let weekday : skip_weekday text ≡ None = no-weekday text (digit-no-letter a h.0) in
     let field : read_field text ≡ Some (10 * (a - 48) + (b - 48), c ∷ d ∷ rest) = pair_first a b c (d ∷ rest) h.0 h.1 h.2 in
     let gap : skip_spaces (c ∷ d ∷ rest) ≡ None = no-spaces (c ∷ d ∷ rest) (digit-no-space c h.2) in
     rw (weekday, field, gap) refl
-no-rfc2822-year (a ∷ b ∷ c ∷ d ∷ e ∷ t) rest n h = absurd h
+no-rfc2822-year year rest n h = absurd h
 
 -- what a text is not that begins with a plain date
 record AfterPlainDate (text : List ℕ) : Type 0 where
@@ -182,17 +175,13 @@ default-alone text answer e =
 -- no clock begins with a year
 no-clock-year : (year rest : List ℕ) (n : ℕ) → IsYear year n → read_clock (year ++ rest) ≡ None
 unfolding read_clock read_minutes skip_char
-no-clock-year [] rest n h = absurd h
-no-clock-year (a ∷ []) rest n h = absurd h
-no-clock-year (a ∷ b ∷ []) rest n h = absurd h
-no-clock-year (a ∷ b ∷ c ∷ []) rest n h = absurd h
 no-clock-year (a ∷ b ∷ c ∷ d ∷ []) rest n h =
     let no_colon : (c == colon) ≡ false = digit-no-colon c h.2 in
     rw (pair_first a b c (d ∷ rest) h.0 h.1 h.2, no_colon) refl
   where
     digit-no-colon : Excludes is_ascii_digit (λ c. c == colon)
     digit-no-colon c h = grind (arith, nat_tests, h)
-no-clock-year (a ∷ b ∷ c ∷ d ∷ e ∷ t) rest n h = absurd h
+no-clock-year year rest n h = absurd h
 
 year-no-clock : (g : LocalTime) (more other : List Piece) (x : List ℕ) (y : LocalTime) → read_pieces (Year ∷ more) g x ≡ Some y → read_pieces (Clock ∷ other) g x ≡ None
 year-no-clock g more other x y e =
@@ -267,12 +256,11 @@ pair_read a b rest ha hb = rw (ha, hb) refl
 -- no year is a field and a space
 no-year-field : (day gap rest : List ℕ) (n : ℕ) → IsField day n → AreSpaces gap → read_year (day ++ (gap ++ rest)) ≡ None
 unfolding read_year
-no-year-field [] gap rest n h s = absurd h
 no-year-field (a ∷ []) [] rest n h s = absurd s
 no-year-field (a ∷ []) (c ∷ gap) rest n h s = rw (no_pair_of a c (gap ++ rest) (space-no-digit c s.0)) refl
 no-year-field (a ∷ b ∷ []) [] rest n h s = absurd s
 no-year-field (a ∷ b ∷ []) (c ∷ gap) rest n h s = rw (pair_read a b (c ∷ (gap ++ rest)) h.0 h.1, no_pair c (gap ++ rest) (space-no-digit c s.0)) refl
-no-year-field (a ∷ b ∷ c ∷ t) gap rest n h s = absurd h
+no-year-field day gap rest n h s = absurd h
 
 -- the name of a day and a comma
 no-day-comma : (name rest : List ℕ) → IsDayName name → NoDayFirst (name ++ (comma ∷ rest))
@@ -337,7 +325,7 @@ at-none rest =
     let text = at_sign ∷ rest in
     let plain = no-plain text (no-year text refl) in
     let day = no-day text (no-weekday text refl) in
-    rw (plain.short, no-rfc2822-first text refl refl, plain.iso8601, plain.strict, day.gitoxide, day.default, no-epoch at_sign rest refl refl (mixed [] at_sign rest refl)) refl
+    rw (plain.short, no-rfc2822-first text refl refl, plain.iso8601, plain.strict, day.gitoxide, day.default, no-epoch-byte at_sign rest refl) refl
 
 at-alone : (rule : OffsetRule) (text : List ℕ) (answer : FamilyAnswer) (found : Option Time) → at_time rule text ≡ found → option_map Absolute found ≡ Some answer → NoneFrom 1 text
 at-alone rule text answer None h e = absurd cc

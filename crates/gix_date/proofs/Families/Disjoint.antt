@@ -1,5 +1,6 @@
 -- Raw texts, bare epochs and Git texts exclude one another, and the first two are not relative.
-use Rattle.std.proofs.Common.{◌≡◌, ◌∙◌, ℕ, ℤ, true, false, List, [], ◌∷◌, ◌++◌, length, refl, ap, ap₂, sym, subst, arith, Some, None, Option, inl, inr, IsUtf8}
+use Rattle.std.proofs.Common.{◌≡◌, ◌∙◌, ℕ, ℤ, true, false, List, [], ◌∷◌, ◌++◌, length, refl, ap, ap₂, sym, subst, arith, Some, None, Option, inl, inr, IsUtf8, option_map}
+use Rattle.std.proofs.lemmas.Option.{cond_some as guard, same_Some as same_some}
 use Rattle.std.proofs.lemmas.Bool.{and_parts as both}
 use Rattle.std.proofs.lemmas.Bool.Decides.{nat_tests}
 use Rattle.std.specs.Char.{is_ascii_digit, is_ascii_alphabetic}
@@ -20,12 +21,12 @@ use Rattle.gix_date.specs.Text.SpaceWords.{space_words, first_words}
 use Rattle.gix_date.specs.declared.civil.DateFields.{DateFields}
 use Rattle.gix_date.specs.declared.parsing.offset.OffsetFields.{OffsetFields}
 use Rattle.gix_date.specs.declared.time.Time.{Time}
-use Rattle.gix_date.proofs.Families.Apart.{mixed}
-use Rattle.gix_date.proofs.Fields.FieldsTaken.{went, guard}
+use Rattle.gix_date.proofs.Families.Apart.{mixed, digit-no-minus as no-minus, digit-no-plus as no-plus, int-digits}
+use Rattle.gix_date.proofs.Fields.FieldsTaken.{went, none-unless, same-first}
 use Rattle.gix_date.proofs.Git.Fronts.{front-taken, joined}
 use Rattle.gix_date.proofs.Text.FirstWords.{AreVisible, is_visible, first-begins, trimmed-words}
 use Rattle.gix_date.proofs.Text.Ints.{each_of}
-use Rattle.gix_date.proofs.Fast.FastHeaders.{int-taken, int-number, one-word, same_some}
+use Rattle.gix_date.proofs.Fast.FastHeaders.{int-taken, int-number, one-word}
 use Rattle.gix_date.proofs.Relative.QuietWords.{IsQuiet, no-relative}
 use Rattle.gix_date.proofs.Relative.QuietDates.{quiet-int, quiet-offset, quiet-two-words}
 
@@ -44,10 +45,6 @@ digit_visible c h = grind (arith, nat_tests, h)
 
 pub year-front : (year : List ℕ) (n : ℕ) (mark : ℕ) (rest : List ℕ) → IsYear year n → is_visible mark ≡ true
     → is_ascii_digit mark ≡ false → GitFront (year ++ (mark ∷ rest))
-year-front [] n mark rest h v d = absurd h
-year-front (a ∷ []) n mark rest h v d = absurd h
-year-front (a ∷ b ∷ []) n mark rest h v d = absurd h
-year-front (a ∷ b ∷ c ∷ []) n mark rest h v d = absurd h
 year-front (a ∷ b ∷ c ∷ e ∷ []) n mark rest h v d =
     record {
       first = a;
@@ -58,15 +55,11 @@ year-front (a ∷ b ∷ c ∷ e ∷ []) n mark rest h v d =
       digit = h.0;
       mixed = mixed (a ∷ b ∷ c ∷ e ∷ []) mark [] d;
     }
-year-front (a ∷ b ∷ c ∷ e ∷ f ∷ t) n mark rest h v d = absurd h
+year-front year n mark rest h v d = absurd h
 
 pub compact-year : (year : List ℕ) (n : ℕ) (m0 m1 d0 d1 mark : ℕ) (rest : List ℕ) → IsYear year n → IsDigit m0
     → IsDigit m1 → IsDigit d0 → IsDigit d1 → is_visible mark ≡ true → is_ascii_digit mark ≡ false
     → GitFront (year ++ (m0 ∷ m1 ∷ d0 ∷ d1 ∷ mark ∷ rest))
-compact-year [] n m0 m1 d0 d1 mark rest h p q r s v d = absurd h
-compact-year (a ∷ []) n m0 m1 d0 d1 mark rest h p q r s v d = absurd h
-compact-year (a ∷ b ∷ []) n m0 m1 d0 d1 mark rest h p q r s v d = absurd h
-compact-year (a ∷ b ∷ c ∷ []) n m0 m1 d0 d1 mark rest h p q r s v d = absurd h
 compact-year (a ∷ b ∷ c ∷ e ∷ []) n m0 m1 d0 d1 mark rest h p q r s v d =
     record {
       first = a;
@@ -77,18 +70,16 @@ compact-year (a ∷ b ∷ c ∷ e ∷ []) n m0 m1 d0 d1 mark rest h p q r s v d 
       digit = h.0;
       mixed = mixed (a ∷ b ∷ c ∷ e ∷ m0 ∷ m1 ∷ d0 ∷ d1 ∷ []) mark [] d;
     }
-compact-year (a ∷ b ∷ c ∷ e ∷ f ∷ t) n m0 m1 d0 d1 mark rest h p q r s v d = absurd h
+compact-year year n m0 m1 d0 d1 mark rest h p q r s v d = absurd h
 
 -- two digits and two, with `T` after them
 pairs-front : (year month day : List ℕ) (n m d : ℕ) (rest : List ℕ) → IsYear year n → IsPair month m → IsPair day d
     → GitFront (year ++ (month ++ (day ++ (letter_t ∷ rest))))
-pairs-front year [] day n m d rest y p q = absurd p
-pairs-front year (a ∷ []) day n m d rest y p q = absurd p
 pairs-front year (a ∷ b ∷ []) [] n m d rest y p q = absurd q
 pairs-front year (a ∷ b ∷ []) (c ∷ []) n m d rest y p q = absurd q
 pairs-front year (a ∷ b ∷ []) (c ∷ e ∷ []) n m d rest y p q = compact-year year n a b c e letter_t rest y p.0 p.1 q.0 q.1 refl refl
 pairs-front year (a ∷ b ∷ []) (c ∷ e ∷ f ∷ t) n m d rest y p q = absurd q
-pairs-front year (a ∷ b ∷ c ∷ t) day n m d rest y p q = absurd p
+pairs-front year month day n m d rest y p q = absurd p
 
 date-front : (mark day rest : List ℕ) (date : DateFields) (h : IsGitDate mark day date)
     → GitFront (h.year ++ (mark ++ (h.month ++ (mark ++ (h.day ++ rest))))) → GitFront (day ++ rest)
@@ -128,39 +119,21 @@ front-digits (c ∷ a) b h =
     let parts = both (is_ascii_digit c) (all_ascii_digits (a ++ b)) h in
     rw parts.0 (front-digits a b parts.1)
 
-no-minus : (c : ℕ) → is_ascii_digit c ≡ true → (c == minus) ≡ false
-no-minus c h = grind (arith, nat_tests, h)
-
-no-plus : (c : ℕ) → is_ascii_digit c ≡ true → (c == plus) ≡ false
-no-plus c h = grind (arith, nat_tests, h)
-
--- an int text that begins with a digit is digits
-pub int-digits : (c : ℕ) (t : List ℕ) (n : ℤ) → is_ascii_digit c ≡ true → int_value (c ∷ t) ≡ Some n
-    → all_ascii_digits (c ∷ t) ≡ true
-int-digits c t n d e =
-    let parts = each_of (nat_lt 0 (length (without_leading_sign (c ∷ t)))) (all_ascii_digits (without_leading_sign (c ∷ t))) (fits_i64 (signed_digits_value 10 (c ∷ t))) (int-taken (c ∷ t) n e).0 in
-    let bare : without_leading_sign (c ∷ t) ≡ c ∷ t = rw (no-minus c d, no-plus c d) refl in
-    ap all_ascii_digits (sym bare) ∙ parts.1
-
-pub same-first : {A : Type 0} (a b : A) (xs ys : List A) → a ∷ xs ≡ b ∷ ys → a ≡ b
-same-first a b xs ys e = cc
-
-pub no-git : (text : List ℕ) → IsUtf8 text → FirstNumber text → (t : Time) → git_time text ≡ Some t → ⊥
-unfolding git_time
-no-git text u f t e =
-    let g = git-front (trim text) t e in
+-- no text with such a first word begins as a Git text does
+pub number-no-front : (text other : List ℕ) → FirstNumber text → GitFront other → space_words text ≡ space_words other → ⊥
+number-no-front text other f g w =
     let b = first-begins g.first g.more g.rest g.visible in
-    let same : f.word ≡ g.first ∷ (g.more ++ b.rest) = same-first f.word (g.first ∷ (g.more ++ b.rest)) f.words b.words (sym f.is ∙ sym (trimmed-words text u) ∙ ap space_words g.whole ∙ b.is) in
+    let same : f.word ≡ g.first ∷ (g.more ++ b.rest) = same-first f.word (g.first ∷ (g.more ++ b.rest)) f.words b.words (sym f.is ∙ w ∙ ap space_words g.whole ∙ b.is) in
     let digits = front-digits (g.first ∷ g.more) b.rest (int-digits g.first (g.more ++ b.rest) f.value g.digit (ap int_value (sym same) ∙ f.is_value)) in
     let clash : true ≡ false = sym digits ∙ g.mixed in
     cc
 
+pub no-git : (text : List ℕ) → IsUtf8 text → FirstNumber text → (t : Time) → git_time text ≡ Some t → ⊥
+unfolding git_time
+no-git text u f t e = number-no-front text (trim text) f (git-front (trim text) t e) (sym (trimmed-words text u))
+
 pub letter_visible : (c : ℕ) → is_ascii_alphabetic c ≡ true → is_visible c ≡ true
 letter_visible c h = grind (arith, nat_tests, h)
-
-pub none-unless : {A : Type 0} (r : Option A) → ((x : A) → r ≡ Some x → ⊥) → r ≡ None
-none-unless (Some x) h = absurd (h x refl)
-none-unless None h = refl
 
 -- The two words of a raw text, by whatever rule for its offset, and the one of a bare epoch.
 pub record RawWords (rule : OffsetRule) (text : List ℕ) (t : Time) : Type 0 where
@@ -176,18 +149,13 @@ pub record RawWords (rule : OffsetRule) (text : List ℕ) (t : Time) : Type 0 wh
 
 pub two-words-are : (ws : List (List ℕ)) (a b : List ℕ) (second : Option (List ℕ)) → first_words ws ≡ Some (a, second)
     → second ≡ Some b → ws ≡ a ∷ b ∷ []
-two-words-are [] a b second e h = absurd cc
-two-words-are (x ∷ []) a b second e h =
-    let pair : ◌≡◌ {A = List ℕ × Option (List ℕ)} (x, None) (a, second) = same_some {A = List ℕ × Option (List ℕ)} (x, None) (a, second) e in
-    let clash : ◌≡◌ {A = Option (List ℕ)} None (Some b) = ap (λ (p : List ℕ × Option (List ℕ)). p.1) pair ∙ h in absurd cc
-two-words-are (x ∷ y ∷ []) a b second e h =
-    let pair : (x, Some y) ≡ (a, second) = same_some {A = List ℕ × Option (List ℕ)} (x, Some y) (a, second) e in
-    let first : x ≡ a = ap (λ (p : List ℕ × Option (List ℕ)). p.0) pair in
-    let next : y ≡ b = same_some y b (ap (λ (p : List ℕ × Option (List ℕ)). p.1) pair ∙ h) in
-    ap₂ (λ (s t : List ℕ). s ∷ t ∷ []) first next
-two-words-are (x ∷ y ∷ z ∷ more) a b second e h =
-    let pair : ◌≡◌ {A = List ℕ × Option (List ℕ)} (x, None) (a, second) = same_some {A = List ℕ × Option (List ℕ)} (x, None) (a, second) e in
-    let clash : ◌≡◌ {A = Option (List ℕ)} None (Some b) = ap (λ (p : List ℕ × Option (List ℕ)). p.1) pair ∙ h in absurd cc
+two-words-are ws a b second e h =
+    by ws (ap (option_map (λ (p : List ℕ × Option (List ℕ)). p.0)) e) (ap (λ (r : Option (List ℕ × Option (List ℕ))). r >>= λ p. p.1) e ∙ h)
+  where
+    by : (ws : List (List ℕ)) → option_map (λ (p : List ℕ × Option (List ℕ)). p.0) (first_words ws) ≡ Some a → (first_words ws >>= λ p. p.1) ≡ Some b
+        → ws ≡ a ∷ b ∷ []
+    by (x ∷ y ∷ []) first last = ap₂ (λ (s t : List ℕ). s ∷ t ∷ []) (same_some x a first) (same_some y b last)
+    by ws first last = absurd cc
 
 abbrev time_at : ℤ → ℤ → Time
 time_at seconds offset = record { seconds = seconds; offset = offset }

@@ -1,29 +1,29 @@
 -- Which families hold texts of one another.
 use Rattle.std.proofs.Common.{pos, ◌≡◌, ◌≢◌, ◌∙◌, ◌<◌, ◌≤◌, ℕ, ℤ, Bool, true, false, List, [], ◌∷◌, ◌++◌, length, filter, get_or, refl, ap, sym, subst, arith, append-nil, append_assoc, map, encode_utf8_all, Some, None, Option, is_some, option_map, cond, unwrap_or, take, unsigned_abs, Result, inl, inr, ◌⊎◌, IsUtf8, zero, suc}
-use Rattle.std.proofs.lemmas.Bool.{cases_order, and_parts as both}
+use Rattle.std.proofs.lemmas.Bool.{cases_order, and_parts as both, not-true as not_is}
 use Rattle.std.proofs.lemmas.Bool.Decides.{nat_tests}
 use Rattle.std.proofs.lemmas.Str.{IsUtf8-drop, IsCharBoundary-after_ascii, IsUtf8-from_ascii, chars-append, chars-IsAscii, encodes-IsAscii}
 use Rattle.std.specs.Char.{is_ascii_digit, is_ascii_alphabetic, is_whitespace, is_not_whitespace}
 use Rattle.std.specs.List.{list_all}
 use Rattle.std.specs.Option.{option_or}
-use Rattle.std.specs.Prelude.{◌==◌, nat_lt}
+use Rattle.std.specs.Prelude.{◌==◌, nat_lt, not}
 use Rattle.std.specs.Str.{trim, trim_start, trim_end, all_ascii_digits, chars, NonePass, skip_leading_whitespace, drop_trailing_whitespace}
 use Rattle.gix_date.specs.Fields.FieldTexts.{IsSign, IsYear, IsField, IsMonthName, IsDayPrefix, AreSpaces}
 use Rattle.gix_date.specs.Families.Answer.{FamilyAnswer, Absolute, OffsetAboveDay, NoInstant, Relative}
 use Rattle.gix_date.specs.Text.Characters.{at_sign, comma, minus, space, is_space}
 use Rattle.gix_date.specs.Families.Epoch.{at_time, epoch_time, utc_time}
-use Rattle.gix_date.specs.Families.Order.{Family, AtText, Short, Rfc2822, Iso8601, Iso8601Strict, Gitoxide, Default, BareEpoch, GitForm, RelativeText, RawText, families, family_answer, answers_before_git, family_answers, first_answer_of, first_family_by, ParseNoAllocOutcome}
+use Rattle.gix_date.specs.Families.Order.{Family, AtText, Short, Rfc2822, Iso8601, Iso8601Strict, Gitoxide, Default, BareEpoch, GitForm, RelativeText, RawText, families, families_before_git, family_answer, answers_before_git, family_answers, first_answer_of, first_family_by, ParseNoAllocOutcome}
 use Rattle.gix_date.specs.Families.Laws.{AreExclusive, IgnoresMoment, Holds, overlap}
 use Rattle.gix_date.specs.Text.Front.{skip_char, ◌>>=◌}
 use Rattle.gix_date.specs.Git.Forms.{git_time, git_form, git_front, dotted_front, compact_front, flexible_front, read_marked_date, read_compact_date}
 use Rattle.gix_date.specs.Text.Numbers.{int_value}
-use Rattle.gix_date.specs.Families.Patterns.{short_answer, rfc2822_answer, iso8601_answer, iso8601_strict_answer, gitoxide_answer, default_answer, rfc2822_layout, iso8601_layout, iso8601_strict_layout, gitoxide_layout, default_layout, time_answer, date_answer, day_answer, midnight, Accepts, IsMeaning}
+use Rattle.gix_date.specs.Families.Patterns.{short_answer, rfc2822_answer, iso8601_answer, iso8601_strict_answer, gitoxide_answer, default_answer, short_layout, rfc2822_layout, iso8601_layout, iso8601_strict_layout, gitoxide_layout, default_layout, time_answer, real_day_answer, date_answer, midnight}
 use Rattle.gix_date.specs.Fields.DateFields.{skip_weekday, read_plain_date}
 use Rattle.gix_date.specs.Families.Raw.{OffsetRule, raw_time_by}
 use Rattle.gix_date.specs.Relative.Dates.{relative_date, RelativeDate}
 use Rattle.gix_date.specs.Text.SpaceWords.{space_words, runs}
 use Rattle.gix_date.specs.Fields.Civil.{civil_instant, is_date}
-use Rattle.gix_date.specs.Fields.Layout.{LocalTime, Piece, DayName, BeginsWith}
+use Rattle.gix_date.specs.Fields.Layout.{LocalTime, Piece, DayName, BeginsWith, read_pieces, nothing_read, layout_answer}
 use Rattle.gix_date.specs.declared.error.ParseError.{ParseError}
 use Rattle.gix_date.specs.declared.civil.ClockFields.{ClockFields}
 use Rattle.gix_date.specs.declared.civil.DateFields.{DateFields}
@@ -32,16 +32,16 @@ use Rattle.jiff.specs.declared.zoned.Zoned.{Zoned}
 use Rattle.gix_date.specs.declared.time.Time.{Time}
 use Rattle.gix_date.proofs.Families.Apart.{at-first, before-git-apart, NoPlainDate, NoDayFirst, no-day, no_pair, no_pair_of, pair_read, one-no-pair}
 use Rattle.gix_date.proofs.Text.AsciiCuts.{ascii-by}
-use Rattle.gix_date.proofs.Families.Disjoint.{none-unless, are-disjoint, raw-words, quiet-raw, epoch-int, git-front, same-first, front-digits, letter_visible, digit_visible}
+use Rattle.gix_date.proofs.Families.Disjoint.{are-disjoint, raw-words, quiet-raw, epoch-int, git-front, front-digits, letter_visible, digit_visible}
 use Rattle.gix_date.proofs.Fields.FieldsRead.{Begins, name-begins, letter-no-digit, year-read}
-use Rattle.gix_date.proofs.Fields.FieldsTaken.{went, after-taken, weekday-taken}
+use Rattle.gix_date.proofs.Fields.FieldsTaken.{went, after-taken, weekday-taken, none-unless, same-first}
 use Rattle.gix_date.proofs.Text.FirstWords.{AreVisible, visible_stays, are-ascii, first-begins, trimmed-words}
-use Rattle.gix_date.proofs.Fields.Layouts.{rfc2822-front, dates_spelled}
+use Rattle.gix_date.proofs.Fields.Layouts.{Rfc2822Front, rfc2822-front, dates_spelled}
 use Rattle.gix_date.proofs.Relative.QuietWords.{IsQuiet, no-relative}
-use Rattle.gix_date.proofs.Relative.QuietDates.{quiet-after, quiet-short, quiet-rfc2822, quiet-iso8601, quiet-strict, quiet-gitoxide, quiet-default, quiet-int, field-digits, year-digits}
-use Rattle.gix_date.proofs.Printing.ReadBack.{first-at}
+use Rattle.gix_date.proofs.Relative.QuietDates.{quiet-after, quiet-dated, quiet-rfc2822, quiet-strict, quiet-int, field-digits, year-digits}
+use Rattle.gix_date.proofs.Printing.ReadBack.{first-at, some-counts}
 use Rattle.gix_date.proofs.Text.FirstBytes.{no-git-byte, no-raw-front, no-raw-byte, plain-front, no-plain-by}
-use Rattle.gix_date.proofs.Fast.FastHeaders.{is_number_byte, offset-taken}
+use Rattle.gix_date.proofs.Fast.FastHeaders.{is_number_byte, offset-taken, letter-no-number}
 use Rattle.gix_date.proofs.Text.WordSteps.{runs_skip, run_first, stops}
 
 -- Texts that begin with a letter, or with visible bytes alone.
@@ -110,9 +110,6 @@ raw-clash : (rule : OffsetRule) (text : List ℕ) (t : Time) → raw_time_by rul
     → raw_time_by rule text ≡ None → ⊥
 raw-clash rule text t e h = let clash : None ≡ Some t = sym h ∙ e in cc
 
-letter-no-number : (c : ℕ) → is_ascii_alphabetic c ≡ true → is_number_byte c ≡ false
-letter-no-number c h = grind (arith, nat_tests, h)
-
 raw-no-letter : (rule : OffsetRule) (name rest : List ℕ) (t : Time) → Begins is_ascii_alphabetic name
     → raw_time_by rule (name ++ rest) ≡ Some t → ⊥
 raw-no-letter rule [] rest t h e = absurd h
@@ -152,21 +149,29 @@ raw-no-day rule (c ∷ day) (g ∷ gap) (l ∷ month) rest n m t h s k e =
     sym letter ∙ ap is_ascii_alphabetic first ∙ mark-no-letter o.mark r.fields.sign o.is_mark in
     cc
 
+-- a mail date begins with a letter, or with a day and a month
+abbrev pub BeginsMail : List ℕ → Type 0
+BeginsMail text =
+    ((name : List ℕ) × (rest : List ℕ) × (text ≡ name ++ rest) × Begins is_ascii_alphabetic name)
+    ⊎ ((h : Rfc2822Front text) × (text ≡ h.day ++ (h.gap ++ (h.month ++ h.rest))))
+
+pub rfc2822-begins : (text : List ℕ) (answer : FamilyAnswer) → rfc2822_answer text ≡ Some answer → BeginsMail text
+rfc2822-begins text answer a = let h = rfc2822-front text answer a in by h h.is_prefix
+  where
+    by : (h : Rfc2822Front text) → (h.prefix ≡ []) ⊎ IsDayPrefix h.prefix → BeginsMail text
+    by h (inl none) = inr (h, h.whole ∙ ap (λ (p : List ℕ). p ++ (h.day ++ (h.gap ++ (h.month ++ h.rest)))) none)
+    by h (inr named) =
+        let more = h.day ++ (h.gap ++ (h.month ++ h.rest)) in
+        inl (named.name, comma ∷ (named.gap ++ more), h.whole ∙ ap (λ (p : List ℕ). p ++ more) named.whole ∙ append_assoc named.name (comma ∷ named.gap) more, name-begins named.name named.is_name.0)
+
 raw-no-rfc2822 : (rule : OffsetRule) (text : List ℕ) (t : Time) → raw_time_by rule text ≡ Some t
     → rfc2822_answer text ≡ None
-raw-no-rfc2822 rule text t e = none-unless (rfc2822_answer text) (λ answer a.
-    let h = rfc2822-front text answer a in
-    by-prefix h.prefix h.day h.gap h.month h.rest h.number h.month_number h.is_prefix h.is_day h.is_gap h.is_month (ap (raw_time_by rule) (sym h.whole) ∙ e))
+raw-no-rfc2822 rule text t e = none-unless (rfc2822_answer text) (λ answer a. by (rfc2822-begins text answer a))
   where
-    by-prefix : (prefix day gap month rest : List ℕ) (n m : ℕ) → (prefix ≡ []) ⊎ IsDayPrefix prefix → IsField day n
-        → AreSpaces gap → IsMonthName month m → raw_time_by rule (prefix ++ (day ++ (gap ++ (month ++ rest)))) ≡ Some t
-        → ⊥
-    by-prefix prefix day gap month rest n m (inl none) h s k e =
-        raw-no-day rule day gap month rest n m t h s k (ap (λ (p : List ℕ). raw_time_by rule (p ++ (day ++ (gap ++ (month ++ rest))))) (sym none) ∙ e)
-    by-prefix prefix day gap month rest n m (inr named) h s k e =
-        let text = day ++ (gap ++ (month ++ rest)) in
-        let split : prefix ++ text ≡ named.name ++ (comma ∷ (named.gap ++ text)) = rw named.whole (simp append_assoc) in
-        raw-no-letter rule named.name (comma ∷ (named.gap ++ text)) t (name-begins named.name named.is_name.0) (ap (raw_time_by rule) (sym split) ∙ e)
+    by : BeginsMail text → ⊥
+    by (inl (name, rest, w, letter)) = raw-no-letter rule name rest t letter (ap (raw_time_by rule) (sym w) ∙ e)
+    by (inr (h, w)) =
+        raw-no-day rule h.day h.gap h.month h.rest h.number h.month_number t h.is_day h.is_gap h.is_month (ap (raw_time_by rule) (sym w) ∙ e)
 
 -- A day alone is no Git text: nothing stands after its day.
 abbrev day_text : List ℕ → List ℕ → List ℕ → List ℕ
@@ -175,7 +180,6 @@ day_text year month day = year ++ (minus ∷ (month ++ (minus ∷ day)))
 day-no-form : (year month day : List ℕ) (n m d : ℕ) → IsYear year n → IsField month m → IsField day d
     → git_form (day_text year month day) ≡ None
 unfolding git_form git_front dotted_front compact_front flexible_front read_marked_date read_compact_date skip_char
-day-no-form year [] day n m d y h k = absurd h
 day-no-form year (a ∷ []) day n m d y h k =
     let rest = a ∷ minus ∷ day in
     rw (year-read year (minus ∷ rest) n y, no_pair minus rest refl, no_pair_of a minus day refl) refl
@@ -187,7 +191,7 @@ day-no-form year (a ∷ b ∷ []) (c ∷ e ∷ []) n m d y h k =
     let rest = a ∷ b ∷ minus ∷ c ∷ e ∷ [] in
     rw (year-read year (minus ∷ rest) n y, no_pair minus rest refl, pair_read a b (minus ∷ c ∷ e ∷ []) h.0 h.1, pair_read c e [] k.0 k.1) refl
 day-no-form year (a ∷ b ∷ []) (c ∷ e ∷ f ∷ t) n m d y h k = absurd k
-day-no-form year (a ∷ b ∷ c ∷ t) day n m d y h k = absurd h
+day-no-form year month day n m d y h k = absurd h
 
 pub digits-visible : (t : List ℕ) → all_ascii_digits t ≡ true → AreVisible t
 digits-visible [] h = tt
@@ -228,22 +232,11 @@ git-no-day (c ∷ day) (g ∷ gap) rest n t u h s e =
 
 pub rfc2822-no-git : (text : List ℕ) (answer : FamilyAnswer) → IsUtf8 text → rfc2822_answer text ≡ Some answer
     → git_time text ≡ None
-rfc2822-no-git text answer u a =
-    let h = rfc2822-front text answer a in
-    none-unless (git_time text) (λ t e. by-prefix h.prefix h.day h.gap (h.month ++ h.rest) h.number t (subst IsUtf8 h.whole u) h.is_prefix h.is_day h.is_gap (ap git_time (sym h.whole) ∙ e))
+rfc2822-no-git text answer u a = by (rfc2822-begins text answer a)
   where
-    by-prefix : (prefix day gap rest : List ℕ) (n : ℕ) (t : Time) → IsUtf8 (prefix ++ (day ++ (gap ++ rest)))
-        → (prefix ≡ []) ⊎ IsDayPrefix prefix → IsField day n → AreSpaces gap
-        → git_time (prefix ++ (day ++ (gap ++ rest))) ≡ Some t → ⊥
-    by-prefix prefix day gap rest n t u (inl none) h s e =
-        git-no-day day gap rest n t (subst (λ (p : List ℕ). IsUtf8 (p ++ (day ++ (gap ++ rest)))) none u) h s (ap (λ (p : List ℕ). git_time (p ++ (day ++ (gap ++ rest)))) (sym none) ∙ e)
-    by-prefix prefix day gap rest n t u (inr named) h s e =
-        let text = day ++ (gap ++ rest) in
-        let split : prefix ++ text ≡ named.name ++ (comma ∷ (named.gap ++ text)) =
-        rw named.whole (append_assoc named.name (comma ∷ named.gap) text) in
-        let none = git-no-letter named.name (comma ∷ (named.gap ++ text)) (subst IsUtf8 split u) (name-begins named.name named.is_name.0) in
-        let clash : None ≡ Some t = sym none ∙ ap git_time (sym split) ∙ e in
-        cc
+    by : BeginsMail text → git_time text ≡ None
+    by (inl (name, rest, w, letter)) = ap git_time w ∙ git-no-letter name rest (subst IsUtf8 w u) letter
+    by (inr (h, w)) = none-unless (git_time text) (λ t e. git-no-day h.day h.gap (h.month ++ h.rest) h.number t (subst IsUtf8 w u) h.is_day h.is_gap (ap git_time (sym w) ∙ e))
 
 -- A relative text is of no other family but Git's own forms: the texts of the others are quiet.
 quiet-rest : (rule : OffsetRule) (rest : List ℕ) (t : Time) (raw : Option Time) (int : Option ℤ) → IsUtf8 rest
@@ -301,12 +294,12 @@ quiet-clash rule text u q h = relative (relative_date text) h (no-relative text 
 is-quiet : (rule : OffsetRule) (family : Family) (text : List ℕ) → IsUtf8 text → family ≢ RelativeText
     → overlap family RelativeText ≡ false → Holds rule family text → IsQuiet text
 is-quiet rule AtText text u n o h = let t = absolute (at_time rule text) h in quiet-at rule text t.0 u t.1
-is-quiet rule Short text u n o h = let a = answered rule Short text h in quiet-short text a.0 a.1
+is-quiet rule Short text u n o h = let a = answered rule Short text h in quiet-dated _ _ short_layout tt dates_spelled.short text a.0 a.1
 is-quiet rule Rfc2822 text u n o h = let a = answered rule Rfc2822 text h in quiet-rfc2822 text a.0 a.1
-is-quiet rule Iso8601 text u n o h = let a = answered rule Iso8601 text h in quiet-iso8601 text a.0 a.1
+is-quiet rule Iso8601 text u n o h = let a = answered rule Iso8601 text h in quiet-dated _ _ iso8601_layout tt dates_spelled.iso8601 text a.0 a.1
 is-quiet rule Iso8601Strict text u n o h = let a = answered rule Iso8601Strict text h in quiet-strict text a.0 a.1
-is-quiet rule Gitoxide text u n o h = let a = answered rule Gitoxide text h in quiet-gitoxide text a.0 a.1
-is-quiet rule Default text u n o h = let a = answered rule Default text h in quiet-default text a.0 a.1
+is-quiet rule Gitoxide text u n o h = let a = answered rule Gitoxide text h in quiet-dated _ _ gitoxide_layout tt dates_spelled.gitoxide text a.0 a.1
+is-quiet rule Default text u n o h = let a = answered rule Default text h in quiet-dated _ _ default_layout tt dates_spelled.default text a.0 a.1
 is-quiet rule BareEpoch text u n o h = let t = absolute (epoch_time text) h in let i = epoch-int text t.0 t.1 in quiet-int text i.0 i.1
 is-quiet rule GitForm text u n o h = absurd cc
 is-quiet rule RelativeText text u n o h = absurd (n refl)
@@ -325,14 +318,12 @@ git-clash rule AtText text u n o h =
     ap git_time f.1 ∙ no-git-byte at_sign f.0 (subst IsUtf8 f.1 u) refl refl
 git-clash rule Short text u n o h = let a = answered rule Short text h in short-no-git text a.0 a.1
 git-clash rule Rfc2822 text u n o h = let a = answered rule Rfc2822 text h in rfc2822-no-git text a.0 u a.1
-git-clash rule Iso8601 text u n o h = absurd cc
-git-clash rule Iso8601Strict text u n o h = absurd cc
 git-clash rule Gitoxide text u n o h = let a = answered rule Gitoxide text h in let d = (dates_spelled.gitoxide text a.0).0 a.1 in named-no-git d.time text u d.are
 git-clash rule Default text u n o h = let a = answered rule Default text h in let d = (dates_spelled.default text a.0).0 a.1 in named-no-git d.time text u d.are
 git-clash rule BareEpoch text u n o h = let t = absolute (epoch_time text) h in (are-disjoint rule text u).epoch_git t.0 t.1
 git-clash rule GitForm text u n o h = absurd (n refl)
-git-clash rule RelativeText text u n o h = absurd cc
 git-clash rule RawText text u n o h = let t = absolute (raw_time_by rule text) h in (are-disjoint rule text u).raw_git t.0 t.1
+git-clash rule family text u n o h = absurd cc
 
 -- raw texts
 raw-no-at : (rule : OffsetRule) (text : List ℕ) (t v : Time) → raw_time_by rule text ≡ Some t
@@ -382,32 +373,15 @@ family_at n = get_or families n RawText
 
 place-back : (family : Family) → family_at (place family) ≡ family
 place-back AtText = refl
-place-back Short = refl
-place-back Rfc2822 = refl
-place-back Iso8601 = refl
-place-back Iso8601Strict = refl
-place-back Gitoxide = refl
-place-back Default = refl
-place-back BareEpoch = refl
-place-back GitForm = refl
-place-back RelativeText = refl
-place-back RawText = refl
+place-back family = refl
 
-some-of : (answers : List (Option FamilyAnswer)) (i : ℕ) → is_some (get_or answers i None) ≡ true
-    → 1 ≤ length (filter is_some answers)
-some-of [] i h = absurd cc
-some-of (None ∷ answers) zero h = absurd cc
-some-of (None ∷ answers) (suc i) h = some-of answers i h
-some-of (Some a ∷ answers) i h = omega arith
-
-two-of : (answers : List (Option FamilyAnswer)) (i j : ℕ) → i < j → is_some (get_or answers i None) ≡ true
-    → is_some (get_or answers j None) ≡ true → length (filter is_some answers) ≤ 1 → ⊥
-two-of [] i j l h k m = absurd cc
-two-of (a ∷ answers) i zero l h k m = omega (arith, l)
-two-of (None ∷ answers) zero (suc j) l h k m = absurd cc
-two-of (Some a ∷ answers) zero (suc j) l h k m = let more = some-of answers j k in omega (arith, more, m)
-two-of (None ∷ answers) (suc i) (suc j) l h k m = two-of answers i j (omega (arith, l)) h k m
-two-of (Some a ∷ answers) (suc i) (suc j) l h k m = let more = some-of answers j k in omega (arith, more, m)
+two-of : (answers : List (Option FamilyAnswer)) (i j : ℕ) (x y : FamilyAnswer) → i < j → get_or answers i None ≡ Some x
+    → get_or answers j None ≡ Some y → length (filter is_some answers) ≤ 1 → ⊥
+two-of (a ∷ answers) i zero x y l h k m = omega (arith, l)
+two-of (Some a ∷ answers) zero (suc j) x y l h k m = let more = some-counts j answers y k in omega (arith, more, m)
+two-of (None ∷ answers) (suc i) (suc j) x y l h k m = two-of answers i j x y (omega (arith, l)) h k m
+two-of (Some a ∷ answers) (suc i) (suc j) x y l h k m = let more = some-counts j answers y k in omega (arith, more, m)
+two-of answers i j x y l h k m = absurd cc
 
 holds-at : (rule : OffsetRule) (family : Family) (text : List ℕ) → nat_lt (place family) 8 ≡ true
     → get_or (answers_before_git rule text) (place family) None ≡ family_answer rule family text
@@ -419,22 +393,16 @@ holds-at rule family text e = refl
 early-clash : (rule : OffsetRule) (a b : Family) (text : List ℕ) → nat_lt (place a) 8 ≡ true → nat_lt (place b) 8 ≡ true
     → a ≢ b → Holds rule a text → Holds rule b text → ⊥
 early-clash rule a b text e f n h k =
-    let first : is_some (get_or (answers_before_git rule text) (place a) None) ≡ true =
-    ap is_some (holds-at rule a text e) ∙ h in
-    let second : is_some (get_or (answers_before_git rule text) (place b) None) ≡ true =
-    ap is_some (holds-at rule b text f) ∙ k in
-    let one = before-git-apart rule text in
-    by-order (cases_order (place a) (place b)) first second one
+    let x = answered rule a text h in
+    let y = answered rule b text k in
+    by-order (cases_order (place a) (place b)) (holds-at rule a text e ∙ x.1) (holds-at rule b text f ∙ y.1) (before-git-apart rule text)
   where
-    by-order : (place a ≡ place b) ⊎ ((place a < place b) ⊎ (place b < place a))
-        → is_some (get_or (answers_before_git rule text) (place a) None) ≡ true
-        → is_some (get_or (answers_before_git rule text) (place b) None) ≡ true
+    by-order : {x y : FamilyAnswer} → (place a ≡ place b) ⊎ ((place a < place b) ⊎ (place b < place a))
+        → get_or (answers_before_git rule text) (place a) None ≡ Some x → get_or (answers_before_git rule text) (place b) None ≡ Some y
         → length (filter is_some (answers_before_git rule text)) ≤ 1 → ⊥
     by-order (inl same) first second one = n (sym (place-back a) ∙ ap family_at same ∙ place-back b)
-    by-order (inr (inl less)) first second one =
-        two-of (answers_before_git rule text) (place a) (place b) less first second one
-    by-order (inr (inr more)) first second one =
-        two-of (answers_before_git rule text) (place b) (place a) more second first one
+    by-order (inr (inl less)) first second one = two-of (answers_before_git rule text) (place a) (place b) _ _ less first second one
+    by-order (inr (inr more)) first second one = two-of (answers_before_git rule text) (place b) (place a) _ _ more second first one
 
 -- `overlap` is the same both ways
 flip-git : (family : Family) → overlap GitForm family ≡ overlap family GitForm
@@ -481,23 +449,6 @@ alone-first rule RelativeText text u n m h = absurd (m refl)
 alone-first rule RawText text u n m h = raw-first rule text u h
 alone-first rule family text u n m h = let a = answered rule family text h in first-at rule (place family) text a.0 a.1 ∙ sym a.1
 
-pub git-first : (rule : OffsetRule) (text : List ℕ) → IsUtf8 text → family_answer rule Iso8601 text ≡ None
-    → family_answer rule Iso8601Strict text ≡ None → Holds rule GitForm text
-    → first_family_by rule text ≡ family_answer rule GitForm text
-unfolding first_family_by
-git-first rule text u p q h =
-    let none : (b : Family) → (place GitForm == place b) ≡ false → overlap GitForm b ≡ false → family_answer rule b text ≡ None = λ b d o. are-exclusive rule text u GitForm b (differ GitForm b d) o h in
-    let a = answered rule GitForm text h in
-    rw (none AtText refl refl, none Short refl refl, none Rfc2822 refl refl, p, q, none Gitoxide refl refl, none Default refl refl, none BareEpoch refl refl, a.1) refl
-
-pub relative-first : (rule : OffsetRule) (text : List ℕ) → IsUtf8 text → family_answer rule GitForm text ≡ None
-    → Holds rule RelativeText text → first_family_by rule text ≡ family_answer rule RelativeText text
-unfolding first_family_by
-relative-first rule text u g h =
-    let none : (b : Family) → (place RelativeText == place b) ≡ false → overlap RelativeText b ≡ false → family_answer rule b text ≡ None = λ b d o. are-exclusive rule text u RelativeText b (differ RelativeText b d) o h in
-    let a = answered rule RelativeText text h in
-    rw (none AtText refl refl, none Short refl refl, none Rfc2822 refl refl, none Iso8601 refl refl, none Iso8601Strict refl refl, none Gitoxide refl refl, none Default refl refl, none BareEpoch refl refl, g, a.1) refl
-
 pub raw-first-family : (rule : OffsetRule) (text : List ℕ) (t : Time) → IsUtf8 text → raw_time_by rule text ≡ Some t
     → first_family_by rule text ≡ Some (Absolute t)
 raw-first-family rule text t u e =
@@ -508,159 +459,3 @@ pub epoch-first-family : (rule : OffsetRule) (text : List ℕ) (t : Time) → Is
 epoch-first-family rule text t u e =
     alone-first rule BareEpoch text u (differ BareEpoch GitForm refl) (differ BareEpoch RelativeText refl) (ap (λ (r : Option Time). is_some (option_map Absolute r)) e)
     ∙ ap (option_map Absolute) e
-
--- No moment is asked where the first family is not the relative one.
-abbrev IsNotRelative : Option FamilyAnswer → Type 0
-IsNotRelative (Some (Relative date)) = ⊥
-IsNotRelative _ = Unit {0}
-
-same-for : (found : Option FamilyAnswer) → IsNotRelative found
-    → (now other : Option Zoned) (result : Result Time ParseError) → ParseNoAllocOutcome found now result
-    → ParseNoAllocOutcome found other result
-same-for (Some (Absolute t)) n now other result h = h
-same-for (Some (Relative date)) n now other result h = absurd n
-same-for (Some OffsetAboveDay) n now other result h = h
-same-for (Some NoInstant) n now other result h = h
-same-for None n now other result h = h
-
-ignores-by : (rule : OffsetRule) (found : Option FamilyAnswer) (text : List ℕ) → first_family_by rule text ≡ found
-    → IsNotRelative found → IgnoresMoment rule text
-ignores-by rule found text e n now other result h =
-    let at-now = subst (λ (r : Option FamilyAnswer). ParseNoAllocOutcome r now h.0) e h.1 in
-    let same = same-for found n now other h.0 at-now in
-    (h.0, subst (λ (r : Option FamilyAnswer). ParseNoAllocOutcome r other h.0) (sym e) same, h.2)
-
-not-relative : (r : Option Time) → IsNotRelative (option_map Absolute r)
-not-relative (Some t) = tt
-not-relative None = tt
-
-raw-ignores : (rule : OffsetRule) (text : List ℕ) → IsUtf8 text → Holds rule RawText text
-    → IgnoresMoment rule text
-raw-ignores rule text u h =
-    ignores-by rule (family_answer rule RawText text) text (raw-first rule text u h) (not-relative (raw_time_by rule text))
-
-epoch-ignores : (rule : OffsetRule) (text : List ℕ) → IsUtf8 text → Holds rule BareEpoch text
-    → IgnoresMoment rule text
-epoch-ignores rule text u h =
-    ignores-by rule (family_answer rule BareEpoch text) text (alone-first rule BareEpoch text u (differ BareEpoch GitForm refl) (differ BareEpoch RelativeText refl) h) (not-relative (epoch_time text))
-
-date-not-relative : (date : DateFields) (clock : ClockFields) (offset : ℤ)
-    → IsNotRelative (date_answer date clock offset)
-unfolding date_answer
-date-not-relative date clock offset =
-    by_instant (civil_instant date clock offset) (nat_lt MAX_OFFSET_IN_SECONDS (unsigned_abs offset))
-  where
-    by_instant : (found : Option ℤ) (far : Bool)
-        → IsNotRelative (found >>= (λ seconds. cond far (Some OffsetAboveDay) (Some (Absolute (record { seconds = seconds; offset = offset })))))
-    by_instant None far = tt
-    by_instant (Some s) true = tt
-    by_instant (Some s) false = tt
-
--- a date of such pieces
-dated : (rule : OffsetRule) (layout : List Piece) (family : Family) (text : List ℕ)
-    → Accepts (family_answer rule family) (IsMeaning layout time_answer) → Holds rule family text
-    → IsNotRelative (family_answer rule family text)
-dated rule layout family text law h =
-    let a = answered rule family text h in
-    let k = (law text a.0).0 a.1 in
-    subst IsNotRelative (k.comes ∙ sym a.1) (date-not-relative k.time.date k.time.clock k.time.offset)
-
-short-not-relative : (text : List ℕ) → IsNotRelative (short_answer text)
-short-not-relative text = by_answer (short_answer text) refl
-  where
-    by_day : (found : Option ℤ)
-        → IsNotRelative (Some (unwrap_or (found >>= (λ seconds. Some (Absolute (record { seconds = seconds; offset = pos 0 })))) NoInstant))
-    by_day (Some s) = tt
-    by_day None = tt
-
-    by_real : (real : Bool) (date : DateFields) → IsNotRelative (cond real (Some (day_answer date)) None)
-    by_real true date = by_day (civil_instant date midnight (pos 0))
-    by_real false date = tt
-
-    by_answer : (found : Option FamilyAnswer) → short_answer text ≡ found → IsNotRelative found
-    by_answer (Some x) e = let k = (dates_spelled.short text x).0 e in subst IsNotRelative k.comes (by_real (is_date k.time.date) k.time.date)
-    by_answer None e = tt
-
-date-not : (rule : OffsetRule) (layout : List Piece) (family : Family) (text : List ℕ)
-    → Accepts (family_answer rule family) (IsMeaning layout time_answer)
-    → IsNotRelative (family_answer rule family text)
-date-not rule layout family text law = by_answer (family_answer rule family text) refl
-  where
-    by_answer : (found : Option FamilyAnswer) → family_answer rule family text ≡ found → IsNotRelative found
-    by_answer (Some x) e = subst IsNotRelative e (dated rule layout family text law (ap is_some e))
-    by_answer None e = tt
-
-abbrev AreNotRelative : List (Option FamilyAnswer) → Type 0
-AreNotRelative [] = Unit {0}
-AreNotRelative (answer ∷ answers) = IsNotRelative answer × AreNotRelative answers
-
-counting-by : (front : List (Option FamilyAnswer)) (counts : Option RelativeDate) (raw : Option Time) (date : RelativeDate)
-    → AreNotRelative front
-    → first_answer_of (front ++ (option_map Relative counts ∷ option_map Absolute raw ∷ [])) ≡ Some (Relative date)
-    → counts ≡ Some date
-counting-by [] (Some d) raw date h e = cc
-counting-by [] None (Some t) date h e = absurd cc
-counting-by [] None None date h e = absurd cc
-counting-by (None ∷ front) counts raw date h e = counting-by front counts raw date h.1 e
-counting-by (Some x ∷ front) counts raw date h e = absurd (subst IsNotRelative e h.0)
-
-pub counting : (rule : OffsetRule) (text : List ℕ) (date : RelativeDate) → first_family_by rule text ≡ Some (Relative date)
-    → relative_date text ≡ Some date
-unfolding first_family_by
-counting rule text date e =
-    counting-by (take 9 (family_answers rule text)) (relative_date text) (raw_time_by rule text) date (
-      not-relative (at_time rule text),
-      (
-        short-not-relative text,
-        (
-          date-not rule rfc2822_layout Rfc2822 text dates_spelled.rfc2822,
-          (
-            date-not rule iso8601_layout Iso8601 text dates_spelled.iso8601,
-            (
-              date-not rule iso8601_strict_layout Iso8601Strict text dates_spelled.iso8601_strict,
-              (
-                date-not rule gitoxide_layout Gitoxide text dates_spelled.gitoxide,
-                (
-                  date-not rule default_layout Default text dates_spelled.default,
-                  (not-relative (epoch_time text), (not-relative (git_time text), tt)),
-                ),
-              ),
-            ),
-          ),
-        ),
-      ),
-    ) e
-
--- a text that is not relative
-plain-ignores : (rule : OffsetRule) (text : List ℕ) → relative_date text ≡ None → IgnoresMoment rule text
-plain-ignores rule text n = by_answer (first_family_by rule text) refl
-  where
-    by_answer : (found : Option FamilyAnswer) → first_family_by rule text ≡ found → IgnoresMoment rule text
-    by_answer (Some (Relative date)) e = let clash : None ≡ Some date = sym n ∙ counting rule text date e in absurd cc
-    by_answer (Some (Absolute t)) e = ignores-by rule (Some (Absolute t)) text e tt
-    by_answer (Some OffsetAboveDay) e = ignores-by rule (Some OffsetAboveDay) text e tt
-    by_answer (Some NoInstant) e = ignores-by rule (Some NoInstant) text e tt
-    by_answer None e = ignores-by rule None text e tt
-
-git-ignores-by : (rule : OffsetRule) (text : List ℕ) (iso strict : Option FamilyAnswer) → IsUtf8 text
-    → family_answer rule Iso8601 text ≡ iso → family_answer rule Iso8601Strict text ≡ strict
-    → Holds rule GitForm text → IgnoresMoment rule text
-git-ignores-by rule text (Some x) strict u p q h =
-    let k = ap is_some p in
-    ignores-by rule (family_answer rule Iso8601 text) text (alone-first rule Iso8601 text u (differ Iso8601 GitForm refl) (differ Iso8601 RelativeText refl) k) (dated rule iso8601_layout Iso8601 text dates_spelled.iso8601 k)
-git-ignores-by rule text None (Some x) u p q h =
-    let k = ap is_some q in
-    ignores-by rule (family_answer rule Iso8601Strict text) text (alone-first rule Iso8601Strict text u (differ Iso8601Strict GitForm refl) (differ Iso8601Strict RelativeText refl) k) (dated rule iso8601_strict_layout Iso8601Strict text dates_spelled.iso8601_strict k)
-git-ignores-by rule text None None u p q h =
-    ignores-by rule (family_answer rule GitForm text) text (git-first rule text u p q h) (not-relative (git_time text))
-
-git-ignores : (rule : OffsetRule) (text : List ℕ) → IsUtf8 text → Holds rule GitForm text
-    → IgnoresMoment rule text
-git-ignores rule text u h =
-    git-ignores-by rule text (family_answer rule Iso8601 text) (family_answer rule Iso8601Strict text) u refl refl h
-
--- all of these
-pub ignores : (rule : OffsetRule) (text : List ℕ) → IsUtf8 text
-    → (relative_date text ≡ None → IgnoresMoment rule text) × (Holds rule RawText text → IgnoresMoment rule text)
-    × (Holds rule BareEpoch text → IgnoresMoment rule text) × (Holds rule GitForm text → IgnoresMoment rule text)
-ignores rule text u = (plain-ignores rule text, raw-ignores rule text u, epoch-ignores rule text u, git-ignores rule text u)

@@ -1,5 +1,6 @@
 -- How far the offsets of times are from UTC that are answered, and that such a time has a header text.
-use Rattle.std.proofs.Common.{◌≡◌, ◌∙◌, ◌≤◌, ◌+◌, ◌*◌, ℕ, ℤ, pos, Bool, true, false, cond, List, [], ◌∷◌, refl, ap, sym, subst, arith, Some, None, Option, option_map, unsigned_abs, Ok, zero, suc, inl, inr, length}
+use Rattle.std.proofs.Common.{◌≡◌, ◌∙◌, ◌≤◌, ◌+◌, ◌*◌, map, ℕ, ℤ, pos, Bool, true, false, cond, List, [], ◌∷◌, refl, ap, sym, subst, arith, Some, None, Option, option_map, unsigned_abs, Ok, zero, suc, inl, inr, length}
+use Rattle.std.proofs.lemmas.Option.{cond_some as guard, same_Some as same_some}
 use Rattle.std.proofs.lemmas.Bool.{and_parts as both}
 use Rattle.std.proofs.lemmas.Bool.Decides.{nat_tests}
 use Rattle.std.specs.Option.{option_or}
@@ -15,12 +16,12 @@ use Rattle.jiff_tz.specs.Zone.{zero_in_range}
 use Rattle.jiff_tz.specs.declared.timezone.TimeZone.TheVariants.{UTC, Unknown, Fixed, Posix, Tzif}
 use Rattle.gix_date.specs.Families.Answer.{FamilyAnswer, Absolute, OffsetAboveDay, NoInstant, Relative}
 use Rattle.gix_date.specs.Families.Epoch.{at_time, epoch_time, utc_time}
-use Rattle.gix_date.specs.Families.Order.{family_answers, first_answer_of, first_family_by, ParseNoAllocOutcome}
-use Rattle.gix_date.specs.Families.Patterns.{short_answer, rfc2822_answer, iso8601_answer, iso8601_strict_answer, gitoxide_answer, default_answer, date_answer, day_answer, midnight, time_answer, max_date_offset, Accepts, IsMeaning}
-use Rattle.gix_date.specs.Families.Raw.{allows, raw_time_by, raw_offset_by}
+use Rattle.gix_date.specs.Families.Order.{Family, AtText, Short, Rfc2822, Iso8601, Iso8601Strict, Gitoxide, Default, BareEpoch, GitForm, RelativeText, RawText, families, family_answer, first_answer_of, first_family_by, ParseNoAllocOutcome}
+use Rattle.gix_date.specs.Families.Patterns.{short_answer, rfc2822_answer, iso8601_answer, iso8601_strict_answer, gitoxide_answer, default_answer, short_layout, rfc2822_layout, iso8601_layout, iso8601_strict_layout, gitoxide_layout, default_layout, date_answer, day_answer, real_day_answer, midnight, time_answer, max_date_offset}
+use Rattle.gix_date.specs.Families.Raw.{allows, raw_time_by}
 use Rattle.gix_date.specs.Fields.Civil.{civil_instant, is_date}
 use Rattle.gix_date.specs.Text.Front.{skip_char, ◌>>=◌}
-use Rattle.gix_date.specs.Fields.Layout.{Piece}
+use Rattle.gix_date.specs.Fields.Layout.{LocalTime, Piece, read_pieces, nothing_read, layout_answer}
 use Rattle.gix_date.specs.Fields.Offsets.{read_sign, offset_fields, offset_of, offset_by, signed}
 use Rattle.gix_date.specs.Git.Clock.{git_clock}
 use Rattle.gix_date.specs.Git.ClockCut.{Cut, clock_cut}
@@ -31,7 +32,6 @@ use Rattle.gix_date.specs.Relative.Dates.{RelativeDate, MinusSeconds, MinusPairs
 use Rattle.gix_date.specs.Relative.Steps.{PairStep, Chain, zone_of}
 use Rattle.gix_date.specs.Text.Characters.{at_sign}
 use Rattle.gix_date.specs.Text.Numbers.{int_value, two_digit_value}
-use Rattle.gix_date.specs.Text.SpaceWords.{space_words, first_words}
 use Rattle.gix_date.specs.declared.civil.ClockFields.{ClockFields}
 use Rattle.gix_date.specs.declared.civil.DateFields.{DateFields}
 use Rattle.gix_date.specs.declared.parsing.offset.OffsetFields.{OffsetFields}
@@ -42,19 +42,14 @@ use Rattle.gix_date.specs.declared.parsing.raw.RawOffsets.TheVariants.{Quarter, 
 use Rattle.gix_date.specs.declared.parsing.relative.words.TimeUnit.{TimeUnit}
 use Rattle.gix_date.specs.declared.parsing.relative.words.TimeUnit.TheVariants.{Seconds, Months}
 use Rattle.gix_date.specs.declared.time.Time.{Time}
-use Rattle.gix_date.proofs.Fields.FieldsTaken.{went, guard, first-or}
+use Rattle.gix_date.proofs.Fields.FieldsTaken.{went, first-or}
 use Rattle.gix_date.proofs.Header.HeaderTexts.{fitting_has_text}
-use Rattle.gix_date.proofs.Fields.Layouts.{dates_spelled}
-use Rattle.gix_date.proofs.Fast.FastHeaders.{same_some}
+use Rattle.gix_date.proofs.Families.Disjoint.{raw-words}
+use Rattle.gix_date.proofs.Header.HeaderLaws.{abs-signed as size-of}
 
 -- An offset within 23:59.
 abbrev IsNear : ℤ → Type 0
 IsNear offset = unsigned_abs offset ≤ max_date_offset
-
-size-of : (s : Sign) (n : ℕ) → unsigned_abs (signed s n) ≡ n
-size-of Plus n = refl
-size-of Minus zero = refl
-size-of Minus (suc n) = refl
 
 pub near : (f : OffsetFields) → f.hours ≤ 23 → f.minutes ≤ 59 → unwrap_or f.seconds 0 ≡ 0 → unsigned_abs (offset_of f) ≤ max_date_offset
 near f h m s =
@@ -79,15 +74,9 @@ abbrev time_at : ℤ → ℤ → Time
 time_at seconds offset = record { seconds = seconds; offset = offset }
 
 near-raw : (raw : RawOffsets) (text : List ℕ) (t : Time) → raw_time_by (allows raw) text ≡ Some t → IsNear t.offset
-unfolding raw_time_by raw_offset_by
 near-raw raw text t e =
-    let words = went (first_words (space_words text)) (λ words. words.1 >>= λ second. int_value words.0 >>= λ s. raw_offset_by (allows raw) second >>= λ o. Some (time_at s o)) t e in
-    let second = went words.0.1 (λ second. int_value words.0.0 >>= λ s. raw_offset_by (allows raw) second >>= λ o. Some (time_at s o)) t words.2 in
-    let seconds = went (int_value words.0.0) (λ s. raw_offset_by (allows raw) second.0 >>= λ o. Some (time_at s o)) t second.2 in
-    let offset = went (raw_offset_by (allows raw) second.0) (λ o. Some (time_at seconds.0 o)) t seconds.2 in
-    let fields = went (offset_fields second.0) (λ f. offset_by (allows raw) f) offset.0 offset.1 in
-    let g = guard (allows raw fields.0) (offset_of fields.0) offset.0 fields.2 in
-    subst IsNear (g.1 ∙ ap (λ (u : Time). u.offset) (same_some (time_at seconds.0 offset.0) t offset.2)) (allowed raw fields.0 g.0)
+    let r = raw-words (allows raw) text t e in
+    subst (λ (u : Time). IsNear u.offset) r.time (allowed raw r.fields r.allowed)
 
 near-utc : (n : ℤ) (t : Time) → utc_time n ≡ t → IsNear t.offset
 near-utc n t e = subst (λ (u : Time). IsNear u.offset) e (omega arith)
@@ -110,16 +99,12 @@ near-epoch text t e =
 -- Git's own forms
 digits-none : (sign : Sign) (h m : Option ℕ) (f : OffsetFields) → fields_of sign h m ≡ Some f → f.seconds ≡ None
 digits-none sign (Some h) (Some m) f e = ap (λ (g : OffsetFields). g.seconds) (sym (same_some (record { sign = sign; hours = h; minutes = m; seconds = None }) f e))
-digits-none sign (Some h) None f e = absurd cc
-digits-none sign None m f e = absurd cc
+digits-none sign h m f e = absurd cc
 
 no-seconds : (sign : Sign) (t : List ℕ) (f : OffsetFields) → offset_of_digits sign t ≡ Some f → f.seconds ≡ None
-no-seconds sign [] f e = absurd cc
-no-seconds sign (a ∷ []) f e = absurd cc
 no-seconds sign (a ∷ b ∷ []) f e = digits-none sign (two_digit_value a b) (Some 0) f e
-no-seconds sign (a ∷ b ∷ c ∷ []) f e = absurd cc
 no-seconds sign (a ∷ b ∷ c ∷ d ∷ []) f e = digits-none sign (two_digit_value a b) (two_digit_value c d) f e
-no-seconds sign (a ∷ b ∷ c ∷ d ∷ x ∷ t) f e = absurd cc
+no-seconds sign t f e = absurd cc
 
 near-git-offset : (text : List ℕ) (o : ℤ) → git_offset text ≡ Some o → IsNear o
 unfolding git_offset
@@ -170,16 +155,16 @@ near-date date clock offset t e =
         let small : IsNear offset = grind (arith, nat_tests, q) in
         subst (λ (v : Time). IsNear v.offset) same small
 
-near-dated : (layout : List Piece) (family : List ℕ → Option FamilyAnswer) (text : List ℕ) → Accepts family (IsMeaning layout time_answer) → AnswersNear (family text)
-near-dated layout family text law t e =
-    let a = (law text (Absolute t)).0 e in
-    near-date a.time.date a.time.clock a.time.offset t a.comes
+near-dated : (layout : List Piece) (text : List ℕ) → AnswersNear (layout_answer layout time_answer text)
+near-dated layout text t e =
+    let r = went (read_pieces layout nothing_read text) time_answer (Absolute t) e in
+    near-date r.0.date r.0.clock r.0.offset t r.2
 
-near-short : (text : List ℕ) → AnswersNear (short_answer text)
+near-short : (text : List ℕ) → AnswersNear (layout_answer short_layout real_day_answer text)
 near-short text t e =
-    let a = (dates_spelled.short text (Absolute t)).0 e in
-    let g = guard (is_date a.time.date) (day_answer a.time.date) (Absolute t) a.comes in
-    by (civil_instant a.time.date midnight (pos 0)) g.1
+    let r = went (read_pieces short_layout nothing_read text) real_day_answer (Absolute t) e in
+    let g = guard (is_date r.0.date) (day_answer r.0.date) (Absolute t) r.2 in
+    by (civil_instant r.0.date midnight (pos 0)) g.1
   where
     by : (s : Option ℤ) → unwrap_or (option_map (λ n. Absolute (utc_time n)) s) NoInstant ≡ Absolute t → IsNear t.offset
     by (Some n) h = near-utc n t cc
@@ -189,52 +174,40 @@ not-absolute : (r : Option RelativeDate) → AnswersNear (option_map Relative r)
 not-absolute (Some d) t e = absurd cc
 not-absolute None t e = absurd cc
 
--- the first of such answers
-abbrev AllNear : List (Option FamilyAnswer) → Type 0
-AllNear [] = Unit {0}
-AllNear (answer ∷ answers) = AnswersNear answer × AllNear answers
+near-family : (raw : RawOffsets) (family : Family) (text : List ℕ) → AnswersNear (family_answer (allows raw) family text)
+unfolding short_answer rfc2822_answer iso8601_answer iso8601_strict_answer gitoxide_answer default_answer
+near-family raw AtText text = by-time (at_time (allows raw) text) (near-at raw text)
+near-family raw Short text = near-short text
+near-family raw Rfc2822 text = near-dated rfc2822_layout text
+near-family raw Iso8601 text = near-dated iso8601_layout text
+near-family raw Iso8601Strict text = near-dated iso8601_strict_layout text
+near-family raw Gitoxide text = near-dated gitoxide_layout text
+near-family raw Default text = near-dated default_layout text
+near-family raw BareEpoch text = by-time (epoch_time text) (near-epoch text)
+near-family raw GitForm text = by-time (git_time text) (near-git text)
+near-family raw RelativeText text = not-absolute (relative_date text)
+near-family raw RawText text = by-time (raw_time_by (allows raw) text) (near-raw raw text)
 
-first-near : (answers : List (Option FamilyAnswer)) → AllNear answers → AnswersNear (first_answer_of answers)
-first-near [] h t e = absurd cc
-first-near (Some a ∷ answers) h t e = h.0 t e
-first-near (None ∷ answers) h t e = first-near answers h.1 t e
+-- the first of such answers
+first-near : (raw : RawOffsets) (text : List ℕ) (tried : List Family) → AnswersNear (first_answer_of (map (λ family. family_answer (allows raw) family text) tried))
+first-near raw text [] t e = absurd cc
+first-near raw text (family ∷ tried) t e = by (family_answer (allows raw) family text) (near-family raw family text) (first-near raw text tried) t e
+  where
+    by : (found : Option FamilyAnswer) {more : Option FamilyAnswer} → AnswersNear found → AnswersNear more → AnswersNear (option_or found more)
+    by (Some answer) here later = here
+    by None here later = later
 
 pub absolute-near : (raw : RawOffsets) (text : List ℕ) (t : Time) → first_family_by (allows raw) text ≡ Some (Absolute t) → unsigned_abs t.offset ≤ max_date_offset
 unfolding first_family_by
-absolute-near raw text = first-near (family_answers (allows raw) text) (
-  by-time (at_time (allows raw) text) (near-at raw text),
-  (
-    near-short text,
-    (
-      near-dated _ rfc2822_answer text dates_spelled.rfc2822,
-      (
-        near-dated _ iso8601_answer text dates_spelled.iso8601,
-        (
-          near-dated _ iso8601_strict_answer text dates_spelled.iso8601_strict,
-          (
-            near-dated _ gitoxide_answer text dates_spelled.gitoxide,
-            (
-              near-dated _ default_answer text dates_spelled.default,
-              (
-                by-time (epoch_time text) (near-epoch text),
-                (by-time (git_time text) (near-git text), (not-absolute (relative_date text), (by-time (raw_time_by (allows raw) text) (near-raw raw text), tt))),
-              ),
-            ),
-          ),
-        ),
-      ),
-    ),
-  ),
-)
+absolute-near raw text = first-near raw text families
 
 -- What a relative date names.
 zone-fits : (tz : TimeZone) (n : ℤ) → IsOffsetSeconds (offset_at tz n)
 unfolding offset_at
-zone-fits UTC n = zero_in_range
-zone-fits Unknown n = zero_in_range
 zone-fits (Fixed o) n = o.in_range
 zone-fits (Posix z) n = (PosixRule.offset_at z n).in_range
 zone-fits (Tzif z) n = (Table.offset_at z.now n).in_range
+zone-fits tz n = zero_in_range
 
 step-range : (tz : TimeZone) (pair : ℤ × TimeUnit) (i j : ℤ) → PairStep tz pair i j → IsTimestampNanos j
 step-range tz (n, Seconds size) i j h = h.1.resolves.picked.in_range
@@ -263,8 +236,5 @@ outcome-written raw text now t h = by (first_family_by (allows raw) text) refl n
     by (Some (Absolute u)) e now h =
         let same : t ≡ u = cc in
         fitting_has_text t (fits t.offset (absolute-near raw text t (e ∙ ap (λ (v : Time). Some (Absolute v)) (sym same))))
-    by (Some (Relative date)) e None h = absurd cc
     by (Some (Relative date)) e (Some moment) h = fitting_has_text t (named-converts date moment t h).0
-    by (Some OffsetAboveDay) e now h = absurd cc
-    by (Some NoInstant) e now h = absurd cc
-    by None e now h = absurd cc
+    by found e now h = absurd cc

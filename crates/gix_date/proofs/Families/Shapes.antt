@@ -19,16 +19,17 @@ use Rattle.gix_date.specs.Git.Forms.{git_time}
 use Rattle.gix_date.specs.Families.Raw.{OffsetRule, raw_time_by}
 use Rattle.gix_date.specs.Families.Shapes.{are_two_digits, are_four_digits, begins_with_at, begins_with_letter, begins_with_year, begins_with_dashed_day, begins_with_dotted_day, begins_with_compact_day, begins_with_count, letter_shape, shape_of, shape_families, first_among, IsDispatched, row_families, IsInItsRow}
 use Rattle.gix_date.specs.declared.parsing.shape.Shape.TheVariants.{AtSign, Rfc2822Day, NamedDay, Word, DashedDay, GitDay, Count, WholeNumber, Other}
-use Rattle.gix_date.proofs.Families.Apart.{NoPlainDate, NoDayFirst, no-day, no-field, no-rfc2822-first, no-rfc2822-year, no-plain, no-spaces, no-weekday, no-year}
-use Rattle.gix_date.proofs.Families.Disjoint.{GitFront, year-front, compact-year, raw-words, none-unless, int-digits, int-first, no-git, front-digits, letter_visible}
-use Rattle.gix_date.proofs.Families.Exclusive.{git-no-day}
+use Rattle.gix_date.proofs.Families.Apart.{NoPlainDate, NoDayFirst, no-day, no-field, no-rfc2822-first, no-rfc2822-year, no-plain, no-spaces, no-weekday, no-year, digit-no-minus, int-digits, no-epoch}
+use Rattle.gix_date.proofs.Families.Disjoint.{GitFront, year-front, compact-year, raw-words, int-first, no-git, front-digits, letter_visible, number-no-front}
+use Rattle.gix_date.proofs.Families.Exclusive.{BeginsMail, rfc2822-begins, git-no-day}
 use Rattle.gix_date.proofs.Fields.FieldsRead.{Begins, BeginsNot, begins-append, letter-no-digit, name-begins}
 use Rattle.gix_date.proofs.Text.FirstWords.{is_visible}
-use Rattle.gix_date.proofs.Text.FirstBytes.{int-no-byte, no-raw-front, no-raw-byte, no-git-byte, no-plain-by, plain-front, plain-year}
+use Rattle.gix_date.proofs.Text.FirstBytes.{no-raw-front, no-raw-byte, no-git-byte, no-plain-by, plain-front, plain-year}
 use Rattle.gix_date.proofs.Fields.Layouts.{rfc2822-front}
-use Rattle.gix_date.proofs.Fast.FastHeaders.{AreNumberBytes, is_number_byte, int-number, one-word}
+use Rattle.gix_date.proofs.Fast.FastHeaders.{AreNumberBytes, is_number_byte, int-number, one-word, int-no-byte, letter-no-number}
 use Rattle.gix_date.proofs.Relative.QuietDates.{quiet-int}
 use Rattle.gix_date.proofs.Relative.QuietWords.{no-relative}
+use Rattle.gix_date.proofs.Fields.FieldsTaken.{none-unless}
 
 -- Which families do not hold a text, by each test of its front that it fails.
 no-at : (rule : OffsetRule) (text : List ℕ) → begins_with_at text ≡ false → at_time rule text ≡ None
@@ -48,12 +49,8 @@ letter-so (c ∷ rest) h = h
 
 year-so : (year rest : List ℕ) (n : ℕ) → IsYear year n → begins_with_year (year ++ (minus ∷ rest)) ≡ true
 unfolding begins_with_year
-year-so [] rest n y = absurd y
-year-so (a ∷ []) rest n y = absurd y
-year-so (a ∷ b ∷ []) rest n y = absurd y
-year-so (a ∷ b ∷ c ∷ []) rest n y = absurd y
 year-so (a ∷ b ∷ c ∷ d ∷ []) rest n y = rw (y.0, y.1, y.2, y.3) refl
-year-so (a ∷ b ∷ c ∷ d ∷ e ∷ year) rest n y = absurd y
+year-so year rest n y = absurd y
 
 no-dates : (text : List ℕ) → begins_with_year text ≡ false → NoPlainDate text
 no-dates text h = no-plain-by text (none-unless (read_plain_date text) (λ found e. (
@@ -61,10 +58,6 @@ no-dates text h = no-plain-by text (none-unless (read_plain_date text) (λ found
     let no : true ≡ false = sym (ap begins_with_year p.whole ∙ year-so p.year p.rest p.number p.is_year) ∙ h in
     cc
     )))
-
-no-epoch : (text : List ℕ) → int_value text ≡ None → epoch_time text ≡ None
-unfolding epoch_time
-no-epoch text h = rw h refl
 
 -- A text is no number, no Git text and no raw text if its first byte is visible, and neither a digit nor a sign.
 record NoNumber (rule : OffsetRule) (text : List ℕ) : Type 0 where
@@ -101,9 +94,6 @@ at-dispatched rule (c ∷ rest) u h =
 -- A text that begins with a letter: its fourth byte decides which dates it can be.
 weekday-or : (text : List ℕ) → (skip_weekday text ≡ None) ⊎ (skip_weekday text ≡ Some (drop 3 text))
 unfolding skip_weekday read_name
-weekday-or [] = inl refl
-weekday-or (a ∷ []) = inl refl
-weekday-or (a ∷ b ∷ []) = inl refl
 weekday-or (a ∷ b ∷ c ∷ rest) = by (is_ascii_alphabetic a && is_ascii_alphabetic b && is_ascii_alphabetic c) (is_weekday (a ∷ b ∷ c ∷ [])) refl refl
   where
     text : List ℕ
@@ -114,6 +104,7 @@ weekday-or (a ∷ b ∷ c ∷ rest) = by (is_ascii_alphabetic a && is_ascii_alph
     by true true g h = inr (rw (g, h) refl)
     by true false g h = inl (rw (g, h) refl)
     by false q g h = inl (rw g refl)
+weekday-or text = inl refl
 
 no-comma : (text : List ℕ) → read_field text ≡ None → skip_char comma (drop 3 text) ≡ None → rfc2822_answer text ≡ None
 unfolding rfc2822_answer skip_day_name
@@ -124,9 +115,6 @@ unfolding gitoxide_answer default_answer
 no-space text h =
     let none = no-spaces (drop 3 text) h in
     elim (weekday-or text) [ inl w ↦ no-day text w | inr w ↦ record { gitoxide = rw (w, none) refl; default = rw (w, none) refl } ]
-
-letter-no-number : (c : ℕ) → is_ascii_alphabetic c ≡ true → is_number_byte c ≡ false
-letter-no-number c h = grind (arith, nat_tests, h)
 
 comma-no-space : (c : ℕ) → (c == comma) ≡ true → is_space c ≡ false
 comma-no-space c h = grind (arith, nat_tests, h)
@@ -172,10 +160,6 @@ word-dispatched rule text l h k =
 letter-dispatched : (rule : OffsetRule) (text : List ℕ) → Lettered rule text
     → first_family_by rule text ≡ first_among rule (shape_families (letter_shape text)) text
 unfolding letter_shape skip_char
-letter-dispatched rule [] l = word-dispatched rule [] l refl tt
-letter-dispatched rule (a ∷ []) l = word-dispatched rule (a ∷ []) l refl tt
-letter-dispatched rule (a ∷ b ∷ []) l = word-dispatched rule (a ∷ b ∷ []) l refl tt
-letter-dispatched rule (a ∷ b ∷ c ∷ []) l = word-dispatched rule (a ∷ b ∷ c ∷ []) l refl tt
 letter-dispatched rule (a ∷ b ∷ c ∷ d ∷ rest) l = by (d == comma) (d == space) refl refl
   where
     text : List ℕ
@@ -185,6 +169,7 @@ letter-dispatched rule (a ∷ b ∷ c ∷ d ∷ rest) l = by (d == comma) (d == 
     by true s e f = rfc2822-dispatched rule text l (comma-no-space d e)
     by false true e f = named-dispatched rule text l (rw e refl)
     by false false e f = word-dispatched rule text l (rw e refl) f
+letter-dispatched rule text l = word-dispatched rule text l refl tt
 
 -- A text that begins with a year is no mail date, number or raw text if a visible byte ends its first digits.
 record AfterYear (rule : OffsetRule) (text : List ℕ) : Type 0 where
@@ -193,10 +178,7 @@ record AfterYear (rule : OffsetRule) (text : List ℕ) : Type 0 where
   pub raw : raw_time_by rule text ≡ None
 
 int-no-front : (text : List ℕ) (n : ℤ) → int_value text ≡ Some n → GitFront text → ⊥
-int-no-front text n e g =
-    let digits = front-digits (g.first ∷ g.more) g.rest (int-digits g.first (g.more ++ g.rest) n g.digit (ap int_value (sym g.whole) ∙ e)) in
-    let clash : true ≡ false = sym digits ∙ g.mixed in
-    cc
+int-no-front text n e g = number-no-front text text (int-first text n e) g refl
 
 after-year : (rule : OffsetRule) (year rest : List ℕ) (n : ℕ) → IsYear year n → GitFront (year ++ rest) → AfterYear rule (year ++ rest)
 after-year rule year rest n y g = record {
@@ -234,34 +216,61 @@ dashed-after rule (a ∷ b ∷ c ∷ d ∷ mark ∷ rest) h =
     after-mark rule a b c d mark rest front.0 (is-visible mark minus front.1 refl) (is-no-digit mark minus front.1 refl)
 dashed-after rule text h = absurd cc
 
-dotted-after : (rule : OffsetRule) (text : List ℕ) → begins_with_dotted_day text ≡ true → AfterYear rule text
+-- A day that begins a text, by its first byte and by whether `-` stands after the year.
+record DayFirst (year : Bool) (text : List ℕ) : Type 0 where
+  pub letter : begins_with_letter text ≡ false
+  pub marked : begins_with_year text ≡ year
+
+digit-no-letter : (c : ℕ) → is_ascii_digit c ≡ true → is_ascii_alphabetic c ≡ false
+digit-no-letter c h = grind (arith, nat_tests, h)
+
+day-first : (a b c d mark : ℕ) (rest : List ℕ) (year : Bool) → are_four_digits a b c d ≡ true → (mark == minus) ≡ year
+    → DayFirst year (a ∷ b ∷ c ∷ d ∷ mark ∷ rest)
+unfolding begins_with_letter begins_with_year
+day-first a b c d mark rest year h m = record { letter = digit-no-letter a (four-are a b c d h).0; marked = rw (h, m) refl }
+
+dot-no-minus : (c : ℕ) → (c == dot) ≡ true → (c == minus) ≡ false
+dot-no-minus c h = grind (arith, nat_tests, h)
+
+-- a day in one of Git's own forms, but for the flexible one
+record DayOfGit (rule : OffsetRule) (text : List ℕ) : Type 0 where
+  pub after : AfterYear rule text
+  pub first : DayFirst false text
+
+dotted-day : (rule : OffsetRule) (text : List ℕ) → begins_with_dotted_day text ≡ true → DayOfGit rule text
 unfolding begins_with_dotted_day
-dotted-after rule (a ∷ b ∷ c ∷ d ∷ mark ∷ e ∷ f ∷ second ∷ rest) h =
+dotted-day rule (a ∷ b ∷ c ∷ d ∷ mark ∷ e ∷ f ∷ second ∷ rest) h =
     let all = both (are_four_digits a b c d && mark == dot && are_two_digits e f) (second == dot) h in
     let some = both (are_four_digits a b c d && mark == dot) (are_two_digits e f) all.0 in
     let front = both (are_four_digits a b c d) (mark == dot) some.0 in
-    after-mark rule a b c d mark (e ∷ f ∷ second ∷ rest) front.0 (is-visible mark dot front.1 refl) (is-no-digit mark dot front.1 refl)
-dotted-after rule text h = absurd cc
+    record {
+      after = after-mark rule a b c d mark (e ∷ f ∷ second ∷ rest) front.0 (is-visible mark dot front.1 refl) (is-no-digit mark dot front.1 refl);
+      first = day-first a b c d mark (e ∷ f ∷ second ∷ rest) false front.0 (dot-no-minus mark front.1);
+    }
+dotted-day rule text h = absurd cc
 
-compact-after : (rule : OffsetRule) (text : List ℕ) → begins_with_compact_day text ≡ true → AfterYear rule text
+compact-day : (rule : OffsetRule) (text : List ℕ) → begins_with_compact_day text ≡ true → DayOfGit rule text
 unfolding begins_with_compact_day
-compact-after rule (a ∷ b ∷ c ∷ d ∷ m0 ∷ m1 ∷ d0 ∷ d1 ∷ mark ∷ rest) h =
+compact-day rule (a ∷ b ∷ c ∷ d ∷ m0 ∷ m1 ∷ d0 ∷ d1 ∷ mark ∷ rest) h =
     let all = both (are_four_digits a b c d && are_four_digits m0 m1 d0 d1) (mark == letter_t) h in
     let front = both (are_four_digits a b c d) (are_four_digits m0 m1 d0 d1) all.0 in
     let k = four-are a b c d front.0 in
     let more = four-are m0 m1 d0 d1 front.1 in
     let year = a ∷ b ∷ c ∷ d ∷ [] in
     let y : IsYear year _ = (k.0, k.1, k.2, k.3, refl) in
-    after-year rule year (m0 ∷ m1 ∷ d0 ∷ d1 ∷ mark ∷ rest) _ y
-    (compact-year year _ m0 m1 d0 d1 mark rest y more.0 more.1 more.2 more.3 (is-visible mark letter_t all.1 refl) (is-no-digit mark letter_t all.1 refl))
-compact-after rule text h = absurd cc
+    record {
+      after = after-year rule year (m0 ∷ m1 ∷ d0 ∷ d1 ∷ mark ∷ rest) _ y
+          (compact-year year _ m0 m1 d0 d1 mark rest y more.0 more.1 more.2 more.3 (is-visible mark letter_t all.1 refl) (is-no-digit mark letter_t all.1 refl));
+      first = day-first a b c d m0 (m1 ∷ d0 ∷ d1 ∷ mark ∷ rest) false front.0 (digit-no-minus m0 more.0);
+    }
+compact-day rule text h = absurd cc
 
-git-day-after : (rule : OffsetRule) (text : List ℕ) → (begins_with_dotted_day text || begins_with_compact_day text) ≡ true → AfterYear rule text
-git-day-after rule text h = by (begins_with_dotted_day text) refl h
+git-day : (rule : OffsetRule) (text : List ℕ) → (begins_with_dotted_day text || begins_with_compact_day text) ≡ true → DayOfGit rule text
+git-day rule text h = by (begins_with_dotted_day text) refl h
   where
-    by : (b : Bool) → begins_with_dotted_day text ≡ b → (b || begins_with_compact_day text) ≡ true → AfterYear rule text
-    by true e h = dotted-after rule text e
-    by false e h = compact-after rule text h
+    by : (b : Bool) → begins_with_dotted_day text ≡ b → (b || begins_with_compact_day text) ≡ true → DayOfGit rule text
+    by true e h = dotted-day rule text e
+    by false e h = compact-day rule text h
 
 -- A text with a space in it is no number.
 gap-in : (front rest : List ℕ) (c : ℕ) → AreNumberBytes (front ++ (c ∷ rest)) → is_number_byte c ≡ true
@@ -325,16 +334,14 @@ count-so (a ∷ b ∷ []) (g ∷ gap) (l ∷ month) rest n m f s k = second (b =
 count-so (a ∷ b ∷ c ∷ day) gap month rest n m f s k = absurd f
 
 no-rfc2822 : (text : List ℕ) → begins_with_letter text ≡ false → begins_with_count text ≡ false → rfc2822_answer text ≡ None
-no-rfc2822 text l c = none-unless (rfc2822_answer text) (λ answer a. (
-    let m = rfc2822-front text answer a in
-    by m.prefix (m.day ++ (m.gap ++ (m.month ++ m.rest))) m.whole m.is_prefix (count-so m.day m.gap m.month m.rest m.number m.month_number m.is_day m.is_gap m.is_month)
-    ))
+no-rfc2822 text l c = none-unless (rfc2822_answer text) (λ answer a. by (rfc2822-begins text answer a))
   where
-    by : (prefix more : List ℕ) → text ≡ prefix ++ more → (prefix ≡ []) ⊎ IsDayPrefix prefix → begins_with_count more ≡ true → ⊥
-    by prefix more w (inl none) h = let no : true ≡ false = sym h ∙ ap begins_with_count (sym (w ∙ ap (λ (p : List ℕ). p ++ more) none)) ∙ c in cc
-    by prefix more w (inr named) h =
-        let split : text ≡ named.name ++ (comma ∷ (named.gap ++ more)) = w ∙ rw named.whole (simp append_assoc) in
-        let no : true ≡ false = sym (letter-so text (subst (Begins is_ascii_alphabetic) (sym split) (begins-append is_ascii_alphabetic named.name (comma ∷ (named.gap ++ more)) (name-begins named.name named.is_name.0)))) ∙ l in
+    by : BeginsMail text → ⊥
+    by (inl (name, rest, w, letter)) =
+        let no : true ≡ false = sym (letter-so text (subst (Begins is_ascii_alphabetic) (sym w) (begins-append is_ascii_alphabetic name rest letter))) ∙ l in
+        cc
+    by (inr (h, w)) =
+        let no : true ≡ false = sym (ap begins_with_count w ∙ count-so h.day h.gap h.month h.rest h.number h.month_number h.is_day h.is_gap h.is_month) ∙ c in
         cc
 
 -- A number alone is a bare epoch, or no family holds it.
@@ -384,7 +391,7 @@ is-dispatched rule text u =
     by false false false true c i ea el ey ed ec ei =
         let names = no-names text el in
         let dates = no-dates text ey in
-        let after = git-day-after rule text ed in
+        let after = (git-day rule text ed).after in
         rw (no-at rule text ea, dates.short, after.rfc2822, dates.iso8601, dates.strict, names.gitoxide, names.default, after.epoch, after.raw) refl
     by false false false false true i ea el ey ed ec ei =
         let names = no-names text el in
@@ -397,25 +404,7 @@ is-dispatched rule text u =
         let dates = no-dates text ey in
         rw (no-at rule text ea, dates.short, no-rfc2822 text el ec, dates.iso8601, dates.strict, names.gitoxide, names.default, no-epoch text ei) refl
 
--- The seven rows, by their tests. A day in one of them begins with a digit, and with `-` after the year or with another byte.
-record DayFirst (year : Bool) (text : List ℕ) : Type 0 where
-  pub letter : begins_with_letter text ≡ false
-  pub marked : begins_with_year text ≡ year
-
-digit-no-letter : (c : ℕ) → is_ascii_digit c ≡ true → is_ascii_alphabetic c ≡ false
-digit-no-letter c h = grind (arith, nat_tests, h)
-
-day-first : (a b c d mark : ℕ) (rest : List ℕ) (year : Bool) → are_four_digits a b c d ≡ true → (mark == minus) ≡ year
-    → DayFirst year (a ∷ b ∷ c ∷ d ∷ mark ∷ rest)
-unfolding begins_with_letter begins_with_year
-day-first a b c d mark rest year h m = record { letter = digit-no-letter a (four-are a b c d h).0; marked = rw (h, m) refl }
-
-dot-no-minus : (c : ℕ) → (c == dot) ≡ true → (c == minus) ≡ false
-dot-no-minus c h = grind (arith, nat_tests, h)
-
-digit-no-minus : (c : ℕ) → is_ascii_digit c ≡ true → (c == minus) ≡ false
-digit-no-minus c h = grind (arith, nat_tests, h)
-
+-- The seven rows, by their tests.
 dashed-first : (text : List ℕ) → begins_with_dashed_day text ≡ true → DayFirst true text
 unfolding begins_with_dashed_day
 dashed-first (a ∷ b ∷ c ∷ d ∷ mark ∷ e ∷ f ∷ second ∷ rest) h =
@@ -425,30 +414,14 @@ dashed-first (a ∷ b ∷ c ∷ d ∷ mark ∷ e ∷ f ∷ second ∷ rest) h =
     day-first a b c d mark (e ∷ f ∷ second ∷ rest) true front.0 front.1
 dashed-first text h = absurd cc
 
-dotted-first : (text : List ℕ) → begins_with_dotted_day text ≡ true → DayFirst false text
-unfolding begins_with_dotted_day
-dotted-first (a ∷ b ∷ c ∷ d ∷ mark ∷ e ∷ f ∷ second ∷ rest) h =
-    let all = both (are_four_digits a b c d && mark == dot && are_two_digits e f) (second == dot) h in
-    let some = both (are_four_digits a b c d && mark == dot) (are_two_digits e f) all.0 in
-    let front = both (are_four_digits a b c d) (mark == dot) some.0 in
-    day-first a b c d mark (e ∷ f ∷ second ∷ rest) false front.0 (dot-no-minus mark front.1)
-dotted-first text h = absurd cc
-
-compact-first : (text : List ℕ) → begins_with_compact_day text ≡ true → DayFirst false text
-unfolding begins_with_compact_day
-compact-first (a ∷ b ∷ c ∷ d ∷ m0 ∷ m1 ∷ d0 ∷ d1 ∷ mark ∷ rest) h =
-    let all = both (are_four_digits a b c d && are_four_digits m0 m1 d0 d1) (mark == letter_t) h in
-    let front = both (are_four_digits a b c d) (are_four_digits m0 m1 d0 d1) all.0 in
-    day-first a b c d m0 (m1 ∷ d0 ∷ d1 ∷ mark ∷ rest) false front.0 (digit-no-minus m0 (four-are m0 m1 d0 d1 front.1).0)
-compact-first text h = absurd cc
-
 -- which families do not hold a text of Git's days
-git-day-row : (rule : OffsetRule) (text : List ℕ) → begins_with_at text ≡ false → DayFirst false text → AfterYear rule text
+git-day-row : (rule : OffsetRule) (text : List ℕ) → begins_with_at text ≡ false → DayOfGit rule text
     → first_family_by rule text ≡ first_among rule (GitForm ∷ RelativeText ∷ []) text
 unfolding first_family_by
-git-day-row rule text ea day after =
-    let names = no-names text day.letter in
-    let dates = no-dates text day.marked in
+git-day-row rule text ea day =
+    let names = no-names text day.first.letter in
+    let dates = no-dates text day.first.marked in
+    let after = day.after in
     rw (no-at rule text ea, dates.short, after.rfc2822, dates.iso8601, dates.strict, names.gitoxide, names.default, after.epoch, after.raw) refl
 
 pub is-in-its-row : (rule : OffsetRule) (text : List ℕ) → IsUtf8 text → IsInItsRow rule text
@@ -470,8 +443,8 @@ is-in-its-row rule text u =
         let names = no-names text day.letter in
         let after = dashed-after rule text day.marked in
         rw (no-at rule text ea, after.rfc2822, names.gitoxide, names.default, after.epoch, after.raw) refl
-    by false None false true k l ea ei es ed ek el = git-day-row rule text ea (dotted-first text ed) (dotted-after rule text ed)
-    by false None false false true l ea ei es ed ek el = git-day-row rule text ea (compact-first text ek) (compact-after rule text ek)
+    by false None false true k l ea ei es ed ek el = git-day-row rule text ea (dotted-day rule text ed)
+    by false None false false true l ea ei es ed ek el = git-day-row rule text ea (compact-day rule text ek)
     by false None false false false true ea ei es ed ek el =
         let l = lettered rule text u ea el in
         rw (l.at, l.dates.short, l.dates.iso8601, l.dates.strict, l.number.epoch, l.number.git, l.number.raw) refl

@@ -1,6 +1,6 @@
 -- Canonical headers as nearly all are, by their bytes.
 use Rattle.std.proofs.Common.{◌≡◌, ◌∙◌, ◌+◌, ◌-◌, ◌*◌, ◌<◌, ◌^◌, ℕ, Bool, true, false, List, [], ◌∷◌, ◌++◌, length, take, drop, get_or, refl, ap, ap₂, sym, Some, arith, pos}
-use Rattle.std.proofs.lemmas.Bool.{and_parts as both}
+use Rattle.std.proofs.lemmas.Bool.{and_parts as both, false_from_ne_true as false-unless}
 use Rattle.std.proofs.lemmas.Bool.Decides.{nat_tests}
 use Rattle.std.proofs.lemmas.Fmt.{decimal-digits_value}
 use Rattle.std.proofs.lemmas.List.{take-append-drop}
@@ -16,15 +16,12 @@ use Rattle.gix_date.specs.Fields.Offsets.{offset_fields, read_sign, last_pair}
 use Rattle.gix_date.specs.Header.Canonical.{is_canonical_header, is_canonical_offset, is_decimal_text}
 use Rattle.gix_date.specs.Text.Characters.{space, plus, minus, digit_zero}
 use Rattle.gix_date.specs.Text.Numbers.{int_value, read_two_digits}
-use Rattle.gix_date.proofs.Header.HeaderLaws.{canonical-parts, decimal-test, false-unless, front-of, after-of, number-bytes}
+use Rattle.gix_date.proofs.Header.HeaderLaws.{canonical-parts, decimal-test, front-of, after-of, number-bytes}
 use Rattle.gix_date.proofs.Text.Ints.{own}
 use Rattle.gix_date.proofs.Fast.FastHeaders.{int-number}
 use Rattle.gix_date.proofs.Text.ShortDigits.{bare-int}
 use Rattle.gix_date.specs.Header.CanonicalBytes.{are_usual_seconds, are_hours_and_minutes, is_usual_offset}
-
-same-digits : (ds : List ℕ) → list_all is_ascii_digit ds ≡ all_ascii_digits ds
-same-digits [] = refl
-same-digits (c ∷ ds) = ap (λ (b : Bool). is_ascii_digit c && b) (same-digits ds)
+use Rattle.gix_date.proofs.Git.ClockParts.{all_digits as same-digits}
 
 -- plain seconds are a number, and its decimal text
 pub record AreSeconds (ds : List ℕ) : Type 0 where
@@ -33,10 +30,7 @@ pub record AreSeconds (ds : List ℕ) : Type 0 where
 
 four : (a b c d : Bool) → (a && b && c && d) ≡ true → (a ≡ true) × (b ≡ true) × (c ≡ true) × (d ≡ true)
 four true true true true h = (refl, refl, refl, refl)
-four false b c d h = absurd cc
-four true false c d h = absurd cc
-four true true false d h = absurd cc
-four true true true false h = absurd cc
+four a b c d h = absurd cc
 
 no-zero : (c : ℕ) → not (c == digit_zero) ≡ true → c ≡ 48 → ⊥
 no-zero c h e = grind (arith, nat_tests, h, e)
@@ -55,11 +49,7 @@ usual-seconds (c ∷ ds) h =
 
 five : (a b c d e : Bool) → (a && b && c && d && e) ≡ true → (a ≡ true) × (b ≡ true) × (c ≡ true) × (d ≡ true) × (e ≡ true)
 five true true true true true h = (refl, refl, refl, refl, refl)
-five false b c d e h = absurd cc
-five true false c d e h = absurd cc
-five true true false d e h = absurd cc
-five true true true false e h = absurd cc
-five true true true true false h = absurd cc
+five a b c d e h = absurd cc
 
 minutes-below : (c d : ℕ) → is_ascii_digit c ≡ true → nat_lt c (digit_zero + 6) ≡ true → is_ascii_digit d ≡ true → nat_lt (10 * (c - 48) + (d - 48)) 60 ≡ true
 minutes-below c d p q r =
@@ -110,19 +100,13 @@ by-sign sign a b c d h k = by-tests (sign == plus) (sign == minus) refl refl
 
 usual-offset : (text : List ℕ) → is_usual_offset text ≡ true → IsOffsetBehindSpace text
 unfolding is_usual_offset
-usual-offset [] h = absurd cc
-usual-offset (x ∷ []) h = absurd cc
-usual-offset (x ∷ s ∷ []) h = absurd cc
-usual-offset (x ∷ s ∷ a ∷ []) h = absurd cc
-usual-offset (x ∷ s ∷ a ∷ b ∷ []) h = absurd cc
-usual-offset (x ∷ s ∷ a ∷ b ∷ c ∷ []) h = absurd cc
 usual-offset (x ∷ s ∷ a ∷ b ∷ c ∷ d ∷ []) h =
     let sign : Bool = (s == plus) || (s == minus) && not ((a == digit_zero) && (b == digit_zero)) in
     let parts = both ((x == space) && are_hours_and_minutes a b c d) sign h in
     let marked = both (x == space) (are_hours_and_minutes a b c d) parts.0 in
     let is : x ≡ space = grind (arith, nat_tests, marked.0) in
     record { zone = s ∷ a ∷ b ∷ c ∷ d ∷ []; whole = rw is refl; canonical = by-sign s a b c d marked.1 parts.1 }
-usual-offset (x ∷ s ∷ a ∷ b ∷ c ∷ d ∷ e ∷ rest) h = absurd cc
+usual-offset text h = absurd cc
 
 -- such seconds and such an offset are a canonical header
 pub usual-canonical : (text front back : List ℕ) (n : ℕ) → front ≡ take n text → back ≡ drop n text → are_usual_seconds front ≡ true → is_usual_offset back ≡ true

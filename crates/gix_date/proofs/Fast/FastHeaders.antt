@@ -1,16 +1,17 @@
 -- Headers of two numbers, with one space between them.
-use Rattle.std.proofs.Common.{◌≡◌, ◌∙◌, ◌+◌, ◌<◌, ℕ, ℤ, Bool, true, false, List, [], ◌∷◌, ◌++◌, map, length, refl, ap, sym, subst, Some, None, append-nil, arith, IsAscii, inl, inr, Option, option_map, get_or, take, drop, take-append-drop, drop-cons, add-one}
-use Rattle.std.proofs.lemmas.Bool.{and_parts as both}
+use Rattle.std.proofs.Common.{◌≡◌, ◌∙◌, ◌+◌, ◌<◌, ℕ, ℤ, Bool, true, false, List, [], ◌∷◌, ◌++◌, map, length, refl, ap, sym, subst, Some, None, append-nil, arith, IsAscii, inl, inr, ◌⊎◌, Option, option_map, get_or, take, drop, take-append-drop, drop-cons, add-one}
+use Rattle.std.proofs.lemmas.Option.{same_Some as same_some, cond_some as guard}
+use Rattle.std.proofs.lemmas.Bool.{and_parts as both, or_from as neither}
 use Rattle.std.proofs.lemmas.Bool.Decides.{nat_tests}
 use Rattle.std.proofs.lemmas.Str.{chars-IsAscii, encodes-IsAscii, IsAscii-append}
 use Rattle.std.proofs.lemmas.Str.Ascii.{IsAscii-nil, IsAscii-cons}
-use Rattle.std.specs.Char.{is_whitespace, is_ascii_digit}
+use Rattle.std.specs.Char.{is_whitespace, is_ascii_alphabetic, is_ascii_digit}
 use Rattle.std.specs.Prelude.{◌==◌, ◌||◌, ◌&&◌, nat_lt, cond, ◌-◌, ◌*◌, encode_utf8_all}
 use Rattle.std.specs.Str.{chars, NonePass, all_ascii_digits}
 use Rattle.std.specs.Str.Parse.{without_leading_sign, signed_digits_value}
 use Rattle.std.specs.Option.{option_or}
 use Rattle.std.proofs.lemmas.List.Folds.{list_any-append}
-use Rattle.gix_date.specs.Fields.FieldTexts.{IsSign, IsDigit}
+use Rattle.gix_date.specs.Fields.FieldTexts.{IsPair, IsSign, IsDigit}
 use Rattle.gix_date.specs.Text.Characters.{space, plus, minus, is_colon, has_colon}
 use Rattle.gix_date.specs.Text.Front.{skip_char, ◌>>=◌}
 use Rattle.gix_date.specs.Text.Numbers.{fits_i64, is_int_text, int_value, read_two_digits}
@@ -20,7 +21,7 @@ use Rattle.gix_date.specs.declared.parsing.offset.Sign.{Sign}
 use Rattle.gix_date.specs.declared.parsing.offset.Sign.TheVariants.{Plus, Minus}
 use Rattle.gix_date.specs.declared.parsing.offset.OffsetFields.{OffsetFields}
 use Rattle.gix_date.specs.declared.time.Time.{Time}
-use Rattle.gix_date.proofs.Fields.FieldsTaken.{went, guard, after-taken, two-taken}
+use Rattle.gix_date.proofs.Fields.FieldsTaken.{went, after-taken, two-taken, same-first}
 use Rattle.gix_date.proofs.Text.Ints.{each_of}
 use Rattle.gix_date.specs.Families.Raw.{OffsetRule, raw_time_by, raw_offset_by}
 use Rattle.gix_date.specs.Text.SpaceWords.{space_words, runs}
@@ -64,9 +65,6 @@ two-words x y xs ys h k =
     ∙ ap (map encode_utf8_all) (two_runs x y xs ys (no_white_space (x ∷ xs) h) (no_white_space (y ∷ ys) k))
     ∙ rw (encodes-IsAscii (x ∷ xs) a, encodes-IsAscii (y ∷ ys) b) refl
 
-pub same_some : {A : Type 0} (x y : A) → Some x ≡ Some y → x ≡ y
-same_some x y e = cc
-
 digit_is : (c : ℕ) → is_ascii_digit c ≡ true → is_number_byte c ≡ true
 digit_is c h = grind (arith, nat_tests, h)
 
@@ -105,6 +103,16 @@ int-number (c ∷ t) n e =
     let parts = each_of (nat_lt 0 (length (without_leading_sign (c ∷ t)))) (all_ascii_digits (without_leading_sign (c ∷ t))) (fits_i64 (signed_digits_value 10 (c ∷ t))) (int-taken (c ∷ t) n e).0 in
     record { first = c; rest = t; whole = refl; bytes = after_sign c t (c == minus) (c == plus) refl refl parts.1 }
 
+pub letter-no-number : (c : ℕ) → is_ascii_alphabetic c ≡ true → is_number_byte c ≡ false
+letter-no-number c h = grind (arith, nat_tests, h)
+
+pub int-no-byte : (c : ℕ) (t : List ℕ) (n : ℤ) → is_number_byte c ≡ false → int_value (c ∷ t) ≡ Some n → ⊥
+int-no-byte c t n h e =
+    let k = int-number (c ∷ t) n e in
+    let same : c ≡ k.first = same-first c k.first t k.rest k.whole in
+    let clash : true ≡ false = sym k.bytes.0 ∙ ap is_number_byte (sym same) ∙ h in
+    cc
+
 pub record TookSign (x : List ℕ) (s : Sign) (rest : List ℕ) : Type 0 where
   pub mark : ℕ
   pub is_mark : IsSign mark s
@@ -128,19 +136,18 @@ pub record TookLast (x : List ℕ) (seconds : Option ℕ) : Type 0 where
   pub bytes : AreNumberBytes x
   pub none : seconds ≡ None → x ≡ []
   pub digits : all_ascii_digits x ≡ true
+  pub is : ((x ≡ []) × (seconds ≡ None)) ⊎ ((n : ℕ) × IsPair x n × (seconds ≡ Some n))
 
-last_from : (a b : ℕ) (v : ℕ) (p q : Bool) (seconds : Option ℕ) → is_ascii_digit a ≡ p → is_ascii_digit b ≡ q → option_map {U = Option ℕ} (λ n. Some n) (cond (p && q) (Some v) None) ≡ Some seconds → TookLast (a ∷ b ∷ []) seconds
-last_from a b v true true seconds e f h =
-    record { bytes = (digit_is a e, (digit_is b f, tt)); none = λ n. absurd cc; digits = rw (e, f) refl }
-last_from a b v true false seconds e f h = absurd cc
-last_from a b v false q seconds e f h = absurd cc
+last_from : (a b : ℕ) (p q : Bool) (seconds : Option ℕ) → is_ascii_digit a ≡ p → is_ascii_digit b ≡ q → option_map {U = Option ℕ} (λ n. Some n) (cond (p && q) (Some (10 * (a - 48) + (b - 48))) None) ≡ Some seconds → TookLast (a ∷ b ∷ []) seconds
+last_from a b true true seconds e f h =
+    record { bytes = (digit_is a e, (digit_is b f, tt)); none = λ n. absurd cc; digits = rw (e, f) refl; is = inr (10 * (a - 48) + (b - 48), (e, f, refl), sym (same_some _ seconds h)) }
+last_from a b p q seconds e f h = absurd cc
 
 pub last-taken : (x : List ℕ) (seconds : Option ℕ) → last_pair x ≡ Some seconds → TookLast x seconds
 unfolding last_pair
-last-taken [] seconds e = record { bytes = tt; none = λ n. refl; digits = refl }
-last-taken (a ∷ []) seconds e = absurd cc
-last-taken (a ∷ b ∷ []) seconds e = last_from a b _ (is_ascii_digit a) (is_ascii_digit b) seconds refl refl e
-last-taken (a ∷ b ∷ c ∷ t) seconds e = absurd cc
+last-taken [] seconds e = record { bytes = tt; none = λ n. refl; digits = refl; is = inl (refl, sym (same_some None seconds e)) }
+last-taken (a ∷ b ∷ []) seconds e = last_from a b (is_ascii_digit a) (is_ascii_digit b) seconds refl refl e
+last-taken x seconds e = absurd cc
 
 -- the bytes of an offset's fields
 pub record IsOffsetText (x : List ℕ) (f : OffsetFields) : Type 0 where
@@ -160,7 +167,7 @@ pub record IsOffsetText (x : List ℕ) (f : OffsetFields) : Type 0 where
   pub minutes : f.minutes ≡ 10 * (m0 - 48) + (m1 - 48)
   pub is_last : TookLast last f.seconds
 
-abbrev fields_at : Sign → ℕ → ℕ → Option ℕ → OffsetFields
+abbrev pub fields_at : Sign → ℕ → ℕ → Option ℕ → OffsetFields
 fields_at sign h m s = record { sign = sign; hours = h; minutes = m; seconds = s }
 
 pub offset-taken : (x : List ℕ) (f : OffsetFields) → offset_fields x ≡ Some f → IsOffsetText x f
@@ -204,10 +211,6 @@ offset-number x f e =
 
 byte_no_colon : (c : ℕ) → is_number_byte c ≡ true → is_colon c ≡ false
 byte_no_colon c h = grind (arith, nat_tests, h)
-
-neither : (a b : Bool) → a ≡ false → b ≡ false → (a || b) ≡ false
-neither false b p q = q
-neither true b p q = p
 
 pub no_colon : (t : List ℕ) → AreNumberBytes t → has_colon t ≡ false
 no_colon [] h = refl

@@ -53,25 +53,17 @@ pub digit-no-letter : Excludes is_ascii_digit is_ascii_alphabetic
 digit-no-letter c h = grind (arith, nat_tests, h)
 
 pub field-begins : (t : List ℕ) (n : ℕ) → IsField t n → Begins is_ascii_digit t
-field-begins [] n h = absurd h
 field-begins (a ∷ []) n h = h.0
 field-begins (a ∷ b ∷ []) n h = h.0
-field-begins (a ∷ b ∷ c ∷ t) n h = absurd h
+field-begins t n h = absurd h
 
 pub year-begins : (t : List ℕ) (n : ℕ) → IsYear t n → Begins is_ascii_digit t
-year-begins [] n h = absurd h
-year-begins (a ∷ []) n h = absurd h
-year-begins (a ∷ b ∷ []) n h = absurd h
-year-begins (a ∷ b ∷ c ∷ []) n h = absurd h
 year-begins (a ∷ b ∷ c ∷ d ∷ []) n h = h.0
-year-begins (a ∷ b ∷ c ∷ d ∷ e ∷ t) n h = absurd h
+year-begins t n h = absurd h
 
 pub name-begins : (t : List ℕ) → AreThreeLetters t → Begins is_ascii_alphabetic t
-name-begins [] h = absurd h
-name-begins (a ∷ []) h = absurd h
-name-begins (a ∷ b ∷ []) h = absurd h
 name-begins (a ∷ b ∷ c ∷ []) h = (both (is_ascii_alphabetic a) (is_ascii_alphabetic b) ((both (is_ascii_alphabetic a && is_ascii_alphabetic b) (is_ascii_alphabetic c) h).0)).0
-name-begins (a ∷ b ∷ c ∷ d ∷ t) h = absurd h
+name-begins t h = absurd h
 
 pub spaces-begin : (t : List ℕ) → AreSpaces t → Begins is_space t
 spaces-begin [] h = absurd h
@@ -82,20 +74,15 @@ found n rest = Some (n, rest)
 
 pub field-read : (t rest : List ℕ) (n : ℕ) → IsField t n → BeginsNot is_ascii_digit rest → read_field (t ++ rest) ≡ Some (n, rest)
 unfolding read_field read_two_digits read_digit found
-field-read [] rest n h s = absurd h
 field-read (a ∷ []) [] n h s = rw h.0 (ap (λ k. found k []) (sym h.1))
 field-read (a ∷ []) (c ∷ rs) n h s = rw (h.0, s) (ap (λ k. found k (c ∷ rs)) (sym h.1))
 field-read (a ∷ b ∷ []) rest n h s = rw (h.0, h.1) (ap (λ k. found k rest) (sym h.2))
-field-read (a ∷ b ∷ c ∷ t) rest n h s = absurd h
+field-read t rest n h s = absurd h
 
 pub year-read : (t rest : List ℕ) (n : ℕ) → IsYear t n → read_year (t ++ rest) ≡ Some (n, rest)
 unfolding read_year read_two_digits found
 year-read (a ∷ b ∷ c ∷ d ∷ []) rest n h = rw (h.0, h.1, h.2, h.3) (ap (λ k. found k rest) (sym h.4))
-year-read [] rest n h = absurd h
-year-read (a ∷ []) rest n h = absurd h
-year-read (a ∷ b ∷ []) rest n h = absurd h
-year-read (a ∷ b ∷ c ∷ []) rest n h = absurd h
-year-read (a ∷ b ∷ c ∷ d ∷ e ∷ t) rest n h = absurd h
+year-read t rest n h = absurd h
 
 spaces_len : (gap rest : List ℕ) → list_all is_space gap ≡ true → BeginsNot is_space rest → prefix_len is_space (gap ++ rest) ≡ length gap
 spaces_len [] [] h s = refl
@@ -114,11 +101,8 @@ spaces-read (c ∷ gap) rest h s =
 
 pub name-read : (t rest : List ℕ) → AreThreeLetters t → read_name (t ++ rest) ≡ Some (t, rest)
 unfolding read_name
-name-read [] rest h = absurd h
-name-read (a ∷ []) rest h = absurd h
-name-read (a ∷ b ∷ []) rest h = absurd h
 name-read (a ∷ b ∷ c ∷ []) rest h = rw h refl
-name-read (a ∷ b ∷ c ∷ d ∷ t) rest h = absurd h
+name-read t rest h = absurd h
 
 pub month-read : (t rest : List ℕ) (month : ℕ) → IsMonthName t month → read_month (t ++ rest) ≡ Some (month, rest)
 unfolding read_month
@@ -144,9 +128,8 @@ prefix-read t rest h s =
 pub no-prefix : (t : List ℕ) → Begins is_ascii_digit t → skip_day_name t ≡ None
 unfolding skip_day_name skip_weekday read_name
 no-prefix [] h = absurd h
-no-prefix (a ∷ []) h = refl
-no-prefix (a ∷ b ∷ []) h = refl
 no-prefix (a ∷ b ∷ c ∷ t) h = rw (digit-no-letter a h) refl
+no-prefix t h = refl
 
 abbrev minutes : ℕ → ℕ → ClockFields
 minutes hour minute = record { hour = hour; minute = minute; second = 0 }

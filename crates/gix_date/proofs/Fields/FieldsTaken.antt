@@ -1,5 +1,6 @@
 -- Fields that are read are written so.
 use Rattle.std.proofs.Common.{◌≡◌, ◌∙◌, ℕ, ◌<◌, ◌+◌, ◌-◌, ◌*◌, Bool, true, false, cond, List, [], ◌∷◌, ◌++◌, length, drop, take, refl, ap, sym, subst, Option, Some, None, append_assoc, arith, inl, inr, ◌⊎◌, option_map, take-append-drop, one-add}
+use Rattle.std.proofs.lemmas.Option.{same_Some as same, cond_some as guard}
 use Rattle.std.proofs.lemmas.Bool.{and_parts as both}
 use Rattle.std.proofs.lemmas.Bool.Decides.{nat_tests}
 use Rattle.std.proofs.lemmas.List.Folds.{length-prefix_len}
@@ -20,6 +21,13 @@ pub none_is : {A : Type 0} (r : Option A) → is_none r ≡ true → r ≡ None
 none_is None e = refl
 none_is (Some x) e = absurd cc
 
+pub same-first : {A : Type 0} (a b : A) (xs ys : List A) → a ∷ xs ≡ b ∷ ys → a ≡ b
+same-first a b xs ys e = cc
+
+pub none-unless : {A : Type 0} (r : Option A) → ((x : A) → r ≡ Some x → ⊥) → r ≡ None
+none-unless (Some x) h = absurd (h x refl)
+none-unless None h = refl
+
 pub went : {A B : Type 0} (r : Option A) (next : A → Option B) (y : B) → (r >>= next) ≡ Some y → (x : A) × (r ≡ Some x) × (next x ≡ Some y)
 went (Some x) next y e = (x, refl, e)
 went None next y e = absurd cc
@@ -27,13 +35,6 @@ went None next y e = absurd cc
 pub first-or : {A : Type 0} (a b : Option A) (t : A) → option_or a b ≡ Some t → (a ≡ Some t) ⊎ (b ≡ Some t)
 first-or (Some x) b t e = inl e
 first-or None b t e = inr e
-
-same : {A : Type 0} (x y : A) → (λ (z : A). Some z) x ≡ Some y → x ≡ y
-same x y e = cc
-
-pub guard : {A : Type 0} (b : Bool) (x y : A) → cond b (Some x) None ≡ Some y → (b ≡ true) × (x ≡ y)
-guard true x y e = (refl, cc)
-guard false x y e = absurd cc
 
 -- a text at the front that is so, and the rest
 pub record TookFront (Is : List ℕ → Type 0) (x rest : List ℕ) : Type 0 where
@@ -95,9 +96,8 @@ two a b n t rest true h e =
 
 pub two-taken : (x : List ℕ) (n : ℕ) (rest : List ℕ) → read_two_digits x ≡ Some (n, rest) → TookTwo x n rest
 unfolding read_two_digits
-two-taken [] n rest e = absurd cc
-two-taken (a ∷ []) n rest e = absurd cc
 two-taken (a ∷ b ∷ t) n rest e = two a b n t rest (is_ascii_digit a && is_ascii_digit b) refl e
+two-taken x n rest e = absurd cc
 
 pub year-taken : (x : List ℕ) (n : ℕ) (rest : List ℕ) → read_year x ≡ Some (n, rest) → Took IsYear x n rest
 unfolding read_year
@@ -111,18 +111,19 @@ year-taken x n rest e =
     took IsYear x (first.tens ∷ first.ones ∷ second.tens ∷ second.ones ∷ []) (100 * c.0.0 + y.0.0) n y.0.1 rest found
     (first.is_tens, first.is_ones, second.is_tens, second.is_ones, value) (first.whole ∙ ap (λ t. first.tens ∷ first.ones ∷ t) second.whole)
 
-one_more : (c : ℕ) (x : List ℕ) (n : ℕ) (b : Bool) → is_space c ≡ b → list_all is_space (take n x) ≡ true → list_all is_space (take (cond b (1 + n) 0) (c ∷ x)) ≡ true
-one_more c x n true h more = rw (one-add n) (rw h more)
-one_more c x n false h more = refl
+one_more : (p : ℕ → Bool) (c : ℕ) (x : List ℕ) (n : ℕ) (b : Bool) → p c ≡ b → list_all p (take n x) ≡ true → list_all p (take (cond b (1 + n) 0) (c ∷ x)) ≡ true
+one_more p c x n true h more = rw (one-add n) (rw h more)
+one_more p c x n false h more = refl
 
-spaces_front : (x : List ℕ) → list_all is_space (take (prefix_len is_space x) x) ≡ true
-spaces_front [] = refl
-spaces_front (c ∷ x) = one_more c x (prefix_len is_space x) (is_space c) refl (spaces_front x)
+-- the front that passes a test
+pub front-passes : (p : ℕ → Bool) (x : List ℕ) → list_all p (take (prefix_len p x) x) ≡ true
+front-passes p [] = refl
+front-passes p (c ∷ x) = one_more p c x (prefix_len p x) (p c) refl (front-passes p x)
 
 are_spaces : (x gap : List ℕ) → gap ≡ take (prefix_len is_space x) x → 0 < prefix_len is_space x → AreSpaces gap
 are_spaces x [] e h = absurd (omega (arith, ap length e, length-prefix_len is_space x, h))
 are_spaces x (c ∷ gap) e h =
-    let all : list_all is_space (c ∷ gap) ≡ true = ap (list_all is_space) e ∙ spaces_front x in
+    let all : list_all is_space (c ∷ gap) ≡ true = ap (list_all is_space) e ∙ front-passes is_space x in
     both (is_space c) (list_all is_space gap) all
 
 pub spaces-taken : (x rest : List ℕ) → skip_spaces x ≡ Some rest → TookFront AreSpaces x rest
@@ -138,12 +139,10 @@ spaces-taken x rest e =
 
 pub name-taken : (x name rest : List ℕ) → read_name x ≡ Some (name, rest) → AreThreeLetters name × (x ≡ name ++ rest)
 unfolding read_name
-name-taken [] name rest e = absurd cc
-name-taken (a ∷ []) name rest e = absurd cc
-name-taken (a ∷ b ∷ []) name rest e = absurd cc
 name-taken (a ∷ b ∷ c ∷ t) name rest e =
     let g = guard (is_ascii_alphabetic a && is_ascii_alphabetic b && is_ascii_alphabetic c) (a ∷ b ∷ c ∷ [], t) (name, rest) e in
     (subst AreThreeLetters (ap (λ (p : List ℕ × List ℕ). p.0) g.1) g.0, ap (λ (p : List ℕ × List ℕ). p.0 ++ p.1) g.1)
+name-taken x name rest e = absurd cc
 
 pub month-taken : (x : List ℕ) (n : ℕ) (rest : List ℕ) → read_month x ≡ Some (n, rest) → Took IsMonthName x n rest
 unfolding read_month
@@ -182,7 +181,7 @@ prefix-taken x rest e =
       whole = split ∙ sym (append_assoc day.name (comma ∷ gap.text) rest);
     }
 
-abbrev date_at : ℕ → ℕ → ℕ → List ℕ → DateFields × List ℕ
+abbrev pub date_at : ℕ → ℕ → ℕ → List ℕ → DateFields × List ℕ
 date_at year month day rest = (record { year = year; month = month; day = day }, rest)
 
 after_day : ℕ → ℕ → List ℕ → ReadFront DateFields

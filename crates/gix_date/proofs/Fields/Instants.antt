@@ -1,7 +1,7 @@
 -- The instant of fields, from what `jiff` says of dates, clocks and instants.
 use Rattle.std.proofs.Common.{◌≡◌, ◌∙◌, ◌↔◌, ◌≤◌, ℕ, ℤ, pos, ◌-ℤ◌, ◌*ℤ◌, Bool, true, false, cond, arith, refl, ap, Some, None, unsigned_abs, int_div}
 use Rattle.std.proofs.lemmas.Bool.Decides.{nat_tests}
-use Rattle.std.proofs.lemmas.Bool.{true_from_ne_false, and_parts as both}
+use Rattle.std.proofs.lemmas.Bool.{true_from_ne_false, and_parts as both, and_from as join, leb-true as n_test, le-leb as n_holds}
 use Rattle.std.proofs.lemmas.Float.{T_from_true}
 use Rattle.std.specs.Prelude.{◌&&◌, nat_le}
 use Rattle.std.specs.Int.Signed.{le_z, le_z_yes, ◌≤ℤ◌}
@@ -24,22 +24,11 @@ abbrev pub IsInstantSeconds : ℤ → Type 0
 IsInstantSeconds seconds = IsBetween first_second last_second seconds
 
 -- both of two tests
-pub join : (a b : Bool) → a ≡ true → b ≡ true → (a && b) ≡ true
-join true true p q = refl
-join true false p q = q
-join false b p q = p
-
 pub z_test : (a b : ℤ) → le_z a b ≡ true → a ≤ℤ b
 z_test a b h = le_z_yes (T_from_true (le_z a b) h)
 
 pub z_holds : (a b : ℤ) → a ≤ℤ b → le_z a b ≡ true
 z_holds a b h = true_from_ne_false (le_z a b) (λ n. absurd (rw n at h.le))
-
-n_test : (a b : ℕ) → nat_le a b ≡ true → a ≤ b
-n_test a b h = grind (arith, nat_tests, h)
-
-n_holds : (a b : ℕ) → a ≤ b → nat_le a b ≡ true
-n_holds a b h = grind (arith, nat_tests, h)
 
 -- the tests say what `jiff`'s words say
 
@@ -117,9 +106,7 @@ whole_seconds n s e = omega (arith, signed_arith)
 
 refused : (a b c : Bool) (s : ℤ) → ((a && b && c) ≡ true → ⊥) → None ≡ cond (a && b && c) (Some s) None
 refused true true true s h = absurd (h refl)
-refused true true false s h = refl
-refused true false c s h = refl
-refused false b c s h = refl
+refused a b c s h = refl
 
 pub no_date_or_clock : (d : DateFields) (c : ClockFields) (offset : ℤ) → d.year ≤ 9999
     → (IsDate (pos d.year) (pos d.month) (pos d.day) × IsTime (pos c.hour) (pos c.minute) (pos c.second) (pos 0) → ⊥) → None ≡ civil_instant d c offset

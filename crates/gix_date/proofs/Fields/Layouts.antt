@@ -1,5 +1,6 @@
 -- A text that is a layout's pieces is read, and what is read is a layout's pieces.
 use Rattle.std.proofs.Common.{◌≡◌, ◌∙◌, ℕ, ℤ, Bool, List, [], ◌∷◌, ◌++◌, refl, ap, sym, subst, Option, Some, None, inl, inr, ◌⊎◌, append-nil}
+use Rattle.std.proofs.lemmas.Option.{same_Some as some_same}
 use Rattle.std.specs.Prelude.{true, is_some, unwrap_or}
 use Rattle.std.specs.Char.{is_ascii_digit}
 use Rattle.gix_date.specs.Families.Answer.{FamilyAnswer}
@@ -35,9 +36,6 @@ set_pieces (p ∷ ps) t f = set_pieces ps t (set_piece p t f)
 goes_on : {A B : Type 0} (r : Option A) (x : A) (next : A → Option B) → r ≡ Some x → (r >>= next) ≡ next x
 goes_on {A} {B} r x next e = ap (λ (q : Option A). q >>= next) e
 
-some_same : {A : Type 0} (x y : A) → Some x ≡ Some y → x ≡ y
-some_same x y e = cc
-
 -- a piece that was read is written so, whatever else the time is
 pub record PieceTaken (p : Piece) (f : LocalTime) (x : List ℕ) (read : LocalTime × List ℕ) : Type 0 where
   pub text : List ℕ
@@ -48,18 +46,7 @@ pub record PieceTaken (p : Piece) (f : LocalTime) (x : List ℕ) (read : LocalTi
 -- what is read of one time is read of each that tells the same
 piece-told : (p : Piece) (t f : LocalTime) (text : List ℕ) → IsPiece p (set_piece p t f) text → IsPiece p t text
 piece-told DayName t f text h = h
-piece-told Rfc2822DayName t f text h = h
-piece-told MonthName t f text h = h
-piece-told Day t f text h = h
-piece-told Year t f text h = h
-piece-told PlainDate t f text h = h
-piece-told Clock t f text h = h
-piece-told Rfc2822Clock t f text h = h
-piece-told Spaces t f text h = h
-piece-told LetterT t f text h = h
-piece-told Offset t f text h = h
-piece-told ColonOffset t f text h = h
-piece-told Rfc2822Offset t f text h = h
+piece-told p t f text h = h
 
 -- a piece that a reader reads, where the front of what it took is such a piece of the time with what was found
 taken : {C : Type 0} {p : Piece} {f : LocalTime} (read : List ℕ → Option C) (put : C → LocalTime) (rest : C → List ℕ)
@@ -257,9 +244,7 @@ piece-read Clock t f front rest h n = rw (clock-read front rest t.clock h n) ref
 piece-read Rfc2822Clock t f front rest h n = rw (rfc2822-clock-read front rest t.clock h n.0 n.1) refl
 piece-read Spaces t f front rest h n = rw (spaces-read front rest h n) refl
 piece-read LetterT t f front rest h n = subst (λ k. read_piece LetterT f (k ++ rest) ≡ Some (f, rest)) (sym h) (letter-read f rest)
-piece-read Offset t f front rest h n = rw (n, append-nil front, h) refl
-piece-read ColonOffset t f front rest h n = rw (n, append-nil front, h) refl
-piece-read Rfc2822Offset t f front rest h n = rw (n, append-nil front, h) refl
+piece-read p t f front rest h n = rw (n, append-nil front, h) refl
 
 after-piece : (p : Piece) (ps : List Piece) (t : LocalTime) (rest : List ℕ) → Readable (p ∷ ps) → ArePieces ps t rest
     → Needs p rest × Readable ps

@@ -17,47 +17,37 @@ month-at : (text : List ℕ) (m : ℕ) → 3 ≤ length text → AreThreeLetters
     → read_month text ≡ Some (m, drop 3 text)
 unfolding read_month read_name
 month-at (a ∷ b ∷ c ∷ rest) m n letters e = rw (letters, e) refl
-month-at [] m n letters e = absurd (omega arith)
-month-at (a ∷ []) m n letters e = absurd (omega arith)
-month-at (a ∷ b ∷ []) m n letters e = absurd (omega arith)
+month-at text m n letters e = absurd (omega arith)
 
 no-month-at : (text : List ℕ) → month_named (three text) ≡ None → read_month text ≡ None
 unfolding read_month read_name
-no-month-at [] e = refl
-no-month-at (a ∷ []) e = refl
-no-month-at (a ∷ b ∷ []) e = refl
 no-month-at (a ∷ b ∷ c ∷ rest) e = by (is_ascii_alphabetic a && is_ascii_alphabetic b && is_ascii_alphabetic c) refl
   where
     by : (q : Bool) → (is_ascii_alphabetic a && is_ascii_alphabetic b && is_ascii_alphabetic c) ≡ q → read_month (a ∷ b ∷ c ∷ rest) ≡ None
     by true q = rw (q, e) refl
     by false q = rw q refl
+no-month-at text e = refl
 
 day-at : (text : List ℕ) → 3 ≤ length text → AreThreeLetters (three text) → is_weekday (three text) ≡ true
     → skip_weekday text ≡ Some (drop 3 text)
 unfolding skip_weekday read_name
 day-at (a ∷ b ∷ c ∷ rest) n letters e = rw (letters, e) refl
-day-at [] n letters e = absurd (omega arith)
-day-at (a ∷ []) n letters e = absurd (omega arith)
-day-at (a ∷ b ∷ []) n letters e = absurd (omega arith)
+day-at text n letters e = absurd (omega arith)
 
 no-day-at : (text : List ℕ) → is_weekday (three text) ≡ false → skip_weekday text ≡ None
 unfolding skip_weekday read_name
-no-day-at [] e = refl
-no-day-at (a ∷ []) e = refl
-no-day-at (a ∷ b ∷ []) e = refl
 no-day-at (a ∷ b ∷ c ∷ rest) e = by (is_ascii_alphabetic a && is_ascii_alphabetic b && is_ascii_alphabetic c) refl
   where
     by : (q : Bool) → (is_ascii_alphabetic a && is_ascii_alphabetic b && is_ascii_alphabetic c) ≡ q → skip_weekday (a ∷ b ∷ c ∷ rest) ≡ None
     by true q = rw (q, e) refl
     by false q = rw q refl
+no-day-at text e = refl
 
 -- shorter texts begin with neither
 pub short-no-month : (text : List ℕ) → length text < 3 → read_month text ≡ None
 unfolding read_month read_name
-short-no-month [] n = refl
-short-no-month (a ∷ []) n = refl
-short-no-month (a ∷ b ∷ []) n = refl
 short-no-month (a ∷ b ∷ c ∷ rest) n = absurd (omega arith)
+short-no-month text n = refl
 
 -- the same of the bytes of a text
 
@@ -77,10 +67,8 @@ no-day-of bytes text e is = subst (λ t. skip_weekday t ≡ None) e (no-day-at b
 
 pub short-no-day : (text : List ℕ) → length text < 3 → skip_weekday text ≡ None
 unfolding skip_weekday read_name
-short-no-day [] n = refl
-short-no-day (a ∷ []) n = refl
-short-no-day (a ∷ b ∷ []) n = refl
 short-no-day (a ∷ b ∷ c ∷ rest) n = absurd (omega arith)
+short-no-day text n = refl
 
 -- a text may be cut after three letters
 pub cut-three : (bytes text : List ℕ) → bytes ≡ text → IsUtf8 text → 3 ≤ length bytes → AreThreeLetters (three bytes) → IsCharBoundary text 3

@@ -1,5 +1,6 @@
 -- What each cut of a clock gives, and that the first of them is the cut by places.
 use Rattle.std.proofs.Common.{◌≡◌, ℕ, ◌+◌, ◌-◌, ◌<◌, ◌≤◌, Bool, true, false, cond, List, [], ◌∷◌, ◌++◌, length, get_or, take, drop, refl, sym, ap, ◌∙◌, subst, Option, Some, None, arith, add-zero}
+use Rattle.std.proofs.lemmas.Bool.{eqb-true as eq_from}
 use Rattle.std.proofs.Math.Seq.{get_or-append_seam, take-append_seam}
 use Rattle.std.proofs.lemmas.Bool.Decides.{nat_tests}
 use Rattle.std.proofs.lemmas.List.{length-append}
@@ -55,9 +56,6 @@ pub z_none : (u : List ℕ) (r : Bool) → r ≡ false → r ≡ (slice_index u 
 unfolding cut_at_z
 z_none u r h e = ap (λ b. cond b (Some (take (length u - 1) u, letter_z ∷ [])) None) (sym e ∙ h)
 
-eq_from : (x y : ℕ) → (x == y) ≡ true → x ≡ y
-eq_from x y h = grind (arith, nat_tests, h)
-
 read_nonempty : (u : List ℕ) (i : ℕ) → get_or u i 0 ≡ letter_z → 0 < length u
 read_nonempty [] i h = absurd (omega (arith, h))
 read_nonempty (x ∷ xs) i h = omega arith
@@ -104,8 +102,7 @@ by_sign u (Some k) e z s = at_sign k z s (is_last (has_offset_at u) (length u) k
 space_means : (u : List ℕ) (k : ℕ) (a b : Bool) → nat_lt 5 k ≡ a → is_sign (slice_index (trimmed_after u k) 0) ≡ b → last_space u ≡ Some k → (y : List ℕ × List ℕ) → cond (a && b) (Some (take k u, trimmed_after u k)) None ≡ Some y → CutsAtSpace u k × (y ≡ (take k u, trimmed_after u k))
 unfolding last_space
 space_means u k true true e f at y h = ((is_last (λ i. slice_index u i == space) (length u) k at, grind (arith, nat_tests, e), f), cc)
-space_means u k true false e f at y h = cc
-space_means u k false b e f at y h = cc
+space_means u k a b e f at y h = cc
 
 space_at : (u : List ℕ) (r : Option ℕ) → last_space u ≡ r → (y : List ℕ × List ℕ) → (r >>= cut_at_space_place u) ≡ Some y → (k : ℕ) × CutsAtSpace u k × (y ≡ (take k u, trimmed_after u k))
 space_at u None e y h = cc

@@ -1,5 +1,6 @@
 -- The parts of a clock.
 use Rattle.std.proofs.Common.{◌≡◌, ℕ, ◌<◌, ◌≤◌, ◌^◌, Bool, true, false, cond, List, [], ◌∷◌, length, get_or, take, refl, sym, ap, ◌∙◌, Some, None, Result, Ok, Err, arith}
+use Rattle.std.proofs.lemmas.Bool.{not-true as unpassed}
 use Rattle.std.proofs.Math.Seq.{take-length}
 use Rattle.std.proofs.lemmas.Bool.Decides.{nat_tests}
 use Rattle.std.proofs.lemmas.List.Elements.{All-from_get_or}
@@ -16,7 +17,7 @@ use Rattle.gix_date.specs.Text.Characters.{is_colon}
 use Rattle.gix_date.specs.Git.Clock.{at_most, digits_at_most, clock_of_fields, clock_of_parts, clock_with_colons}
 use Rattle.gix_date.proofs.Text.Ints.{own}
 
-all_digits : (w : List ℕ) → list_all is_ascii_digit w ≡ all_ascii_digits w
+pub all_digits : (w : List ℕ) → list_all is_ascii_digit w ≡ all_ascii_digits w
 all_digits [] = refl
 all_digits (c ∷ cs) = ap (λ b. is_ascii_digit c && b) (all_digits cs)
 
@@ -68,10 +69,6 @@ field_is most n t r d h e up =
 -- where no element passes, all stand before the first
 pub before_none : (p : ℕ → Bool) (t : List ℕ) → position_or_len p t ≡ length t → before_first p t ≡ t
 before_none p t e = ap (λ n. take n t) e ∙ take-length t
-
-unpassed : (b : Bool) → not b ≡ true → b ≡ false
-unpassed true h = sym h
-unpassed false h = refl
 
 pub one_part : (p : ℕ → Bool) (t : List ℕ) → position_or_len p t ≡ length t → slice_split p t ≡ t ∷ []
 one_part p t e = slice_split_none p t (All-from_get_or (λ x. p x ≡ false) t 0 (λ i l. unpassed (p (get_or t i 0)) (prefix_len_passes (λ x. not (p x)) t i 0 (omega arith))))

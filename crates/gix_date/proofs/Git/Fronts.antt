@@ -1,5 +1,6 @@
 -- What the front of a Git text takes: a date, and the gap after it.
 use Rattle.std.proofs.Common.{◌≡◌, ◌∙◌, ℕ, List, [], ◌∷◌, ◌++◌, refl, ap, sym, subst, Some, Option, inl, inr, append_assoc}
+use Rattle.std.proofs.lemmas.Option.{same_Some as same_some}
 use Rattle.std.specs.Option.{option_or}
 use Rattle.gix_date.specs.Fields.Civil.{read_date}
 use Rattle.gix_date.specs.Text.Front.{ReadFront, skip_char, ◌>>=◌}
@@ -8,8 +9,7 @@ use Rattle.gix_date.specs.Git.Grammar.{IsGitDate, IsGitFront}
 use Rattle.gix_date.specs.Text.Characters.{space, dot, minus, letter_t}
 use Rattle.gix_date.specs.Text.Numbers.{read_two_digits, read_year}
 use Rattle.gix_date.specs.declared.civil.DateFields.{DateFields}
-use Rattle.gix_date.proofs.Fields.FieldsTaken.{TookFront, went, first-or, year-taken, two-taken, after-taken}
-use Rattle.gix_date.proofs.Fast.FastHeaders.{same_some}
+use Rattle.gix_date.proofs.Fields.FieldsTaken.{TookFront, went, first-or, year-taken, two-taken, after-taken, date_at}
 
 -- what stands after a mark or a gap
 abbrev pub Gap : Type 0
@@ -18,9 +18,6 @@ Gap = List ℕ → Option (List ℕ)
 -- what the gap takes is the mark
 abbrev Takes : Gap → List ℕ → Type 0
 Takes gap mark = (x rest : List ℕ) → gap x ≡ Some rest → x ≡ mark ++ rest
-
-abbrev date_at : ℕ → ℕ → ℕ → List ℕ → DateFields × List ℕ
-date_at year month day rest = (record { year = year; month = month; day = day }, rest)
 
 pub joined : (a b c d e : List ℕ) → (a ++ (b ++ (c ++ (b ++ d)))) ++ e ≡ a ++ (b ++ (c ++ (b ++ (d ++ e))))
 joined a b c d e = simp append_assoc

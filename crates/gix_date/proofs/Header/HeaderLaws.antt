@@ -1,7 +1,8 @@
 -- The laws of header texts.
 use Rattle.std.proofs.Common.{◌≡◌, ◌∙◌, ◌+◌, ◌-◌, ◌*◌, ◌/◌, ◌%◌, ◌<◌, ◌≤◌, ◌^◌, ℕ, ℤ, pos, negsuc, Bool, true, false, cond, List, [], ◌∷◌, ◌++◌, length, take, drop, get_or, refl, ap, ap₂, sym, subst, Some, None, arith, inl, inr, Option, unsigned_abs, FitsSigned, w64, neg_ℤ, zero, suc, ◌≢◌, add-one, IsSomeAnd, IsUtf8}
+use Rattle.std.proofs.lemmas.Option.{cond_some as guard, same_Some as same_some}
 use Rattle.std.proofs.Math.Seq.{take-append_seam}
-use Rattle.std.proofs.lemmas.Bool.{and_parts as both}
+use Rattle.std.proofs.lemmas.Bool.{and_parts as both, not-true as not_false, ne_eqb as other, false_from_ne_true as false-unless}
 use Rattle.std.proofs.lemmas.Bool.Decides.{nat_tests}
 use Rattle.std.proofs.lemmas.Fmt.{decimal_is_IsNumeral, decimal_nonempty}
 use Rattle.std.proofs.lemmas.Str.Parse.{not_in_digits}
@@ -34,17 +35,13 @@ use Rattle.gix_date.specs.declared.parsing.offset.Sign.TheVariants.{Plus, Minus}
 use Rattle.gix_date.specs.declared.time.Time.{Time}
 use Rattle.gix_date.specs.declared.time.write.TheConstants.{HUNDRED_HOURS}
 use Rattle.gix_date.proofs.Text.Ints.{own, int_value_from, fits_from, each_of}
-use Rattle.gix_date.proofs.Fields.FieldsTaken.{guard, went, none_is}
-use Rattle.gix_date.proofs.Fast.FastHeaders.{is_number_byte, usual-header, int-taken, offset-taken, IsOffsetText, AreNumberBytes, are_ascii, IsNumber, int-number, offset-number, same_some}
+use Rattle.gix_date.proofs.Fields.FieldsTaken.{went, none_is}
+use Rattle.gix_date.proofs.Fast.FastHeaders.{is_number_byte, usual-header, int-taken, offset-taken, IsOffsetText, AreNumberBytes, are_ascii, IsNumber, int-number, offset-number}
 
 -- A canonical header, taken apart.
 from_test : {A : Type 0} (r : Option A) (test : A → Bool) → option_map_or test r false ≡ true → (x : A) × (r ≡ Some x) × (test x ≡ true)
 from_test (Some x) test e = (x, refl, e)
 from_test None test e = absurd cc
-
-not_false : (b : Bool) → not b ≡ true → b ≡ false
-not_false true e = sym e
-not_false false e = refl
 
 pub record IsCanonical (text : List ℕ) : Type 0 where
   pub front : List ℕ
@@ -158,7 +155,7 @@ zone-back x f o small e other =
     ∙ ap₂ (λ (h m : List ℕ). o.mark ∷ (h ++ m)) (pair-back o.h0 o.h1 f.hours o.is_h0 o.is_h1 o.hours) (pair-back o.m0 o.m1 f.minutes o.is_m0 o.is_m1 o.minutes)
     ∙ sym (o.whole ∙ rw (o.is_last.none e) refl)
 
-abs-signed : (s : Sign) (n : ℕ) → unsigned_abs (signed s n) ≡ n
+pub abs-signed : (s : Sign) (n : ℕ) → unsigned_abs (signed s n) ≡ n
 abs-signed Plus n = refl
 abs-signed Minus zero = refl
 abs-signed Minus (suc n) = refl
@@ -186,9 +183,6 @@ canonical-back text k =
 -- A decimal text is read.
 front-digit : (n : ℕ) → n < 2 ^ 64 → (c : ℕ) → (c < 48) → get_or (decimal n) 0 0 ≢ c
 front-digit n h c low = not_in_digits own (decimal n) c (own.from (decimal n) (decimal_is_IsNumeral n h).0.1) (λ r. omega (arith, r)) 0 (decimal_nonempty n h)
-
-other : (a b : ℕ) → a ≢ b → (a == b) ≡ false
-other a b h = grind (arith, nat_tests, h)
 
 bare-text : (n : ℕ) → n < 2 ^ 64 → without_leading_sign (decimal n) ≡ decimal n
 bare-text n h =
@@ -300,10 +294,6 @@ canonical-utf8 text e =
 pub small-minutes : (n : ℕ) → nat_lt (n % 3600 / 60) 60 ≡ true
 small-minutes n = let h : n % 3600 / 60 < 60 = omega arith in grind (arith, nat_tests)
 
-pub false-unless : (b : Bool) → (b ≡ true → ⊥) → b ≡ false
-false-unless true h = absurd (h refl)
-false-unless false h = refl
-
 abbrev minus_zero_fields : OffsetFields
 minus_zero_fields = record { sign = Minus; hours = 0; minutes = 0; seconds = None }
 
@@ -364,10 +354,9 @@ zone-of-minutes a b s m =
     rw (s, hours, minutes) refl
 
 sign-back : (a b : Bool) → sign_for a ≡ sign_for b → a ≡ b
-sign-back true true e = refl
-sign-back false false e = refl
 sign-back true false e = cc
 sign-back false true e = cc
+sign-back a b e = refl
 
 minutes-of-fields : (a b : ℤ) → written_fields a ≡ written_fields b → (int_lt a (pos 0) ≡ int_lt b (pos 0)) × (whole_minutes a ≡ whole_minutes b)
 minutes-of-fields a b e =

@@ -23,11 +23,8 @@ use Rattle.gix_date.proofs.Families.Exclusive.{raw-first-family, epoch-first-fam
 
 -- Which written offsets the rules allow.
 quarter-minutes : (m k : ℕ) → m ≡ 15 * k → k < 4 → (m == 0 || m == 15 || m == 30 || m == 45) ≡ true
-quarter-minutes m zero e h = rw e refl
-quarter-minutes m (suc zero) e h = rw e refl
-quarter-minutes m (suc (suc zero)) e h = rw e refl
-quarter-minutes m (suc (suc (suc zero))) e h = rw e refl
 quarter-minutes m (suc (suc (suc (suc k)))) e h = absurd (omega arith)
+quarter-minutes m k e h = rw e refl
 
 quarters : (n : ℕ) → n % 900 ≡ 0 → n % 3600 / 60 ≡ 15 * (n % 3600 / 900)
 quarters n h = omega arith

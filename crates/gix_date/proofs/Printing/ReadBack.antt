@@ -148,21 +148,19 @@ answer-is t date clock e h =
     rw (e, within) refl
 
 -- Of families that are apart, one that answers is the first.
-some-counts : (i : ℕ) (answers : List (Option FamilyAnswer)) (x : FamilyAnswer) → get_or answers i None ≡ Some x
+pub some-counts : (i : ℕ) (answers : List (Option FamilyAnswer)) (x : FamilyAnswer) → get_or answers i None ≡ Some x
     → 1 ≤ length (filter is_some answers)
-some-counts i [] x e = absurd cc
-some-counts zero (None ∷ rest) x e = absurd cc
 some-counts zero (Some y ∷ rest) x e = omega arith
 some-counts (suc i) (None ∷ rest) x e = some-counts i rest x e
 some-counts (suc i) (Some y ∷ rest) x e = omega arith
+some-counts i answers x e = absurd cc
 
 alone-is-first : (i : ℕ) (answers more : List (Option FamilyAnswer)) (x : FamilyAnswer) → get_or answers i None ≡ Some x
     → length (filter is_some answers) ≤ 1 → first_answer_of (answers ++ more) ≡ Some x
-alone-is-first i [] more x e h = absurd cc
-alone-is-first zero (None ∷ rest) more x e h = absurd cc
 alone-is-first zero (Some y ∷ rest) more x e h = e
 alone-is-first (suc i) (None ∷ rest) more x e h = alone-is-first i rest more x e h
 alone-is-first (suc i) (Some y ∷ rest) more x e h = absurd (omega (arith, h, some-counts i rest x e))
+alone-is-first i answers more x e h = absurd cc
 
 pub first-at : (rule : OffsetRule) (i : ℕ) (text : List ℕ) (x : FamilyAnswer)
     → get_or (answers_before_git rule text) i None ≡ Some x → first_family_by rule text ≡ Some x
@@ -188,31 +186,14 @@ weekday-small d = omega (arith, signed_arith, one_part (int_rem_euclid (epoch_da
 
 pub day-is : (n : ℕ) → n < 7 → IsDayName (day_name n)
 unfolding is_weekday
-day-is zero h = (refl, refl)
-day-is (suc zero) h = (refl, refl)
-day-is (suc (suc zero)) h = (refl, refl)
-day-is (suc (suc (suc zero))) h = (refl, refl)
-day-is (suc (suc (suc (suc zero)))) h = (refl, refl)
-day-is (suc (suc (suc (suc (suc zero))))) h = (refl, refl)
-day-is (suc (suc (suc (suc (suc (suc zero)))))) h = (refl, refl)
 day-is (suc (suc (suc (suc (suc (suc (suc n))))))) h = absurd (omega arith)
+day-is n h = (refl, refl)
 
 pub month-is : (n : ℕ) → 1 ≤ n → n ≤ 12 → IsMonthName (month_name n) n
 unfolding month_named
 month-is zero l h = absurd (omega arith)
-month-is (suc zero) l h = (refl, refl)
-month-is (suc (suc zero)) l h = (refl, refl)
-month-is (suc (suc (suc zero))) l h = (refl, refl)
-month-is (suc (suc (suc (suc zero)))) l h = (refl, refl)
-month-is (suc (suc (suc (suc (suc zero))))) l h = (refl, refl)
-month-is (suc (suc (suc (suc (suc (suc zero)))))) l h = (refl, refl)
-month-is (suc (suc (suc (suc (suc (suc (suc zero))))))) l h = (refl, refl)
-month-is (suc (suc (suc (suc (suc (suc (suc (suc zero)))))))) l h = (refl, refl)
-month-is (suc (suc (suc (suc (suc (suc (suc (suc (suc zero))))))))) l h = (refl, refl)
-month-is (suc (suc (suc (suc (suc (suc (suc (suc (suc (suc zero)))))))))) l h = (refl, refl)
-month-is (suc (suc (suc (suc (suc (suc (suc (suc (suc (suc (suc zero))))))))))) l h = (refl, refl)
-month-is (suc (suc (suc (suc (suc (suc (suc (suc (suc (suc (suc (suc zero)))))))))))) l h = (refl, refl)
 month-is (suc (suc (suc (suc (suc (suc (suc (suc (suc (suc (suc (suc (suc n))))))))))))) l h = absurd (omega arith)
+month-is n l h = (refl, refl)
 
 -- A time that can be printed so that it is read back.
 pub record IsPrintable (t : LocalTime) : Type 0 where

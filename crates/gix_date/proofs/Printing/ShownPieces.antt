@@ -132,21 +132,14 @@ padded-two n h =
 
 decimal-four : (n : ℕ) → 1000 ≤ n → n ≤ 9999 → decimal n ≡ four_digits n
 decimal-four n low high =
-    let big : n < 2 ^ 64 = omega arith in
-    let low_1 : 10 ≤ n = omega arith in
-    let low_2 : 10 ≤ n / 10 = omega arith in
-    let low_3 : 10 ≤ n / 10 / 10 = omega arith in
-    let big_2 : n / 10 < 2 ^ 64 = omega arith in
-    let big_3 : n / 10 / 10 < 2 ^ 64 = omega arith in
-    let last : n / 10 / 10 / 10 < 10 = omega arith in
     let thousands : n / 10 / 10 / 10 ≡ n / 100 / 10 = omega arith in
     let hundreds : n / 10 / 10 % 10 ≡ n / 100 % 10 = omega arith in
     let tens : n / 10 % 10 ≡ n % 100 / 10 = omega arith in
     let ones : n % 10 ≡ n % 100 % 10 = omega arith in
-    decimal_step n low_1 big
-    ∙ ap (λ (t : List ℕ). t ++ ((48 + n % 10) ∷ [])) (decimal_step (n / 10) low_2 big_2
-    ∙ ap (λ (t : List ℕ). t ++ ((48 + n / 10 % 10) ∷ [])) (decimal_step (n / 10 / 10) low_3 big_3
-    ∙ ap (λ (t : List ℕ). t ++ ((48 + n / 10 / 10 % 10) ∷ [])) (decimal_digit (n / 10 / 10 / 10) last)))
+    decimal_step n (omega arith) (omega arith)
+    ∙ ap (λ (t : List ℕ). t ++ ((48 + n % 10) ∷ [])) (decimal_step (n / 10) (omega arith) (omega arith)
+    ∙ ap (λ (t : List ℕ). t ++ ((48 + n / 10 % 10) ∷ [])) (decimal_step (n / 10 / 10) (omega arith) (omega arith)
+    ∙ ap (λ (t : List ℕ). t ++ ((48 + n / 10 / 10 % 10) ∷ [])) (decimal_digit (n / 10 / 10 / 10) (omega arith))))
     ∙ rw (thousands, hundreds, tens, ones) refl
 
 pub number-two : (n : ℕ) → n < 100 → number 2 (pos n) ≡ two_digits n
@@ -167,9 +160,8 @@ number-bare n =
 
 -- a name in a table of names that are cut to three letters
 short_of : (names : List (List ℕ)) (n : ℕ) → short (get_or names n []) ≡ get_or (map short names) n []
-short_of [] n = refl
-short_of (name ∷ names) zero = refl
 short_of (name ∷ names) (suc n) = short_of names n
+short_of names n = refl
 
 pub weekday-short : (n : ℕ) → short (weekday_name n) ≡ day_name n
 weekday-short n = short_of weekday_names n

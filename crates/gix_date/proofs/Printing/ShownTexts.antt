@@ -1,5 +1,5 @@
 -- What the strict printer shows by a named pattern is its text: not only nothing else, but that.
-use Rattle.std.proofs.Common.{◌≡◌, ◌∙◌, ◌+◌, ◌/◌, ◌%◌, ◌++◌, ℤ, pos, int_lt, unsigned_abs, Bool, true, length, Bor, option_map, arith, lit<, if◌then◌else◌, ◌<◌, ◌≤◌, ℕ, List, [], ◌∷◌, decimal, Option, Some, None, Result, Ok, Err, IfOk, IfErr, String, Global, refl, sym, ap, append_assoc, subst, inl, inr, false, string_bytes, suc, zero}
+use Rattle.std.proofs.Common.{◌≡◌, ◌∙◌, ◌+◌, ◌/◌, ◌%◌, ◌++◌, ℤ, pos, int_lt, unsigned_abs, Bool, true, length, Bor, option_map, arith, get_or, lit<, if◌then◌else◌, ◌<◌, ◌≤◌, ℕ, List, [], ◌∷◌, decimal, Option, Some, None, Result, Ok, Err, IfOk, IfErr, String, Global, refl, sym, ap, append_assoc, subst, inl, inr, false, string_bytes, suc, zero}
 use Rattle.std.proofs.lemmas.Fmt.{decimal_digit}
 use Rattle.jiff.specs.Types.{PlainZoned}
 use Rattle.jiff_core.specs.declared.error.Error.TheVariants.{Missing}
@@ -77,8 +77,6 @@ utc-ascii = IsAscii-cons 85 (84 ∷ 67 ∷ []) (lit< tt) (IsAscii-cons 84 (67 �
 
 -- something holds at each instant in each zone
 some-info : (tz : TimeZone) (n : ℤ) → (info : OffsetInfo) × IsInfoAt tz n info
-some-info UTC n = (record { offset = utc_offset; abbreviation = named_so (85 ∷ 84 ∷ 67 ∷ []) (lit< tt) utc-ascii; dst = No }, (refl, named-so (85 ∷ 84 ∷ 67 ∷ []) (lit< tt) utc-ascii, refl))
-some-info Unknown n = (record { offset = utc_offset; abbreviation = named_so (85 ∷ 84 ∷ 67 ∷ []) (lit< tt) utc-ascii; dst = No }, (refl, named-so (85 ∷ 84 ∷ 67 ∷ []) (lit< tt) utc-ascii, refl))
 some-info (Fixed o) n =
     let hours : unsigned_abs o.seconds / 3600 < 100 = omega (arith, signed_arith, one_part o.seconds, o.in_range) in
     let short = offset-short o.seconds in
@@ -86,6 +84,7 @@ some-info (Fixed o) n =
     (record { offset = o; abbreviation = named_so (offset_text o.seconds) short ascii; dst = No }, (refl, named-so (offset_text o.seconds) short ascii, refl))
 some-info (Posix tz) n = (PosixRule.info_at tz n, refl)
 some-info (Tzif z) n = (Table.info_at z.now n, refl)
+some-info tz n = (record { offset = utc_offset; abbreviation = named_so (85 ∷ 84 ∷ 67 ∷ []) (lit< tt) utc-ascii; dst = No }, (refl, named-so (85 ∷ 84 ∷ 67 ∷ []) (lit< tt) utc-ascii, refl))
 
 lent : List ℕ → Bor (List ℕ)
 lent text = record { ref_ptr = (0, 0); now = text }
@@ -96,15 +95,12 @@ lent-back None = refl
 lent-back (Some text) = refl
 
 -- each day has a day of the week
+abbrev week : List Weekday
+week = Monday ∷ Tuesday ∷ Wednesday ∷ Thursday ∷ Friday ∷ Saturday ∷ Sunday ∷ []
+
 some-weekday : (n : ℕ) → n < 7 → (w : Weekday) × (monday_zero w ≡ n)
-some-weekday zero h = (Monday, refl)
-some-weekday (suc zero) h = (Tuesday, refl)
-some-weekday (suc (suc zero)) h = (Wednesday, refl)
-some-weekday (suc (suc (suc zero))) h = (Thursday, refl)
-some-weekday (suc (suc (suc (suc zero)))) h = (Friday, refl)
-some-weekday (suc (suc (suc (suc (suc zero))))) h = (Saturday, refl)
-some-weekday (suc (suc (suc (suc (suc (suc zero)))))) h = (Sunday, refl)
 some-weekday (suc (suc (suc (suc (suc (suc (suc n))))))) h = absurd (omega arith)
+some-weekday n h = (get_or week n Sunday, refl)
 
 in-week : (day : ℤ) → weekday_number day < 7
 unfolding weekday_number

@@ -75,8 +75,5 @@ outcome-once date (Some moment) (Err e) (Err f) h g = ap Err (h.0 ∙ sym g.0)
 -- and so does each call
 pub one-outcome : (answer : Option FamilyAnswer) (now : Option Zoned) (a b : Result Time ParseError)
     → ParseNoAllocOutcome answer now a → ParseNoAllocOutcome answer now b → a ≡ b
-one-outcome None now a b h g = h ∙ sym g
-one-outcome (Some (Absolute t)) now a b h g = h ∙ sym g
-one-outcome (Some OffsetAboveDay) now a b h g = h ∙ sym g
-one-outcome (Some NoInstant) now a b h g = h ∙ sym g
 one-outcome (Some (Relative date)) now a b h g = outcome-once date now a b h g
+one-outcome answer now a b h g = h ∙ sym g

@@ -26,11 +26,9 @@ use Rattle.jiff_zoned.proofs.SameLemmas.{same_datetime}
 
 picks : (tz : TimeZone) (o : Offset) → IsFixed tz → ((n : ℤ) → o.seconds ≡ offset_at tz n) → (dt : DateTime) → picked_instant tz dt ≡ civil_nanos dt -ℤ nanos_of_seconds o.seconds
 unfolding offset_at ambiguous_at
-picks UTC o f h dt = ap (λ (s : ℤ). civil_nanos dt -ℤ nanos_of_seconds s) (sym (h (pos 0)))
-picks Unknown o f h dt = ap (λ (s : ℤ). civil_nanos dt -ℤ nanos_of_seconds s) (sym (h (pos 0)))
-picks (Fixed p) o f h dt = ap (λ (s : ℤ). civil_nanos dt -ℤ nanos_of_seconds s) (sym (h (pos 0)))
 picks (Posix r) o f h dt = absurd f
 picks (Tzif z) o f h dt = absurd f
+picks tz o f h dt = ap (λ (s : ℤ). civil_nanos dt -ℤ nanos_of_seconds s) (sym (h (pos 0)))
 
 -- a zone of a kind that has one offset is like the one that is made of it
 pub one-offset : (tz : TimeZone) (o : Offset) → IsFixed tz → ((n : ℤ) → o.seconds ≡ offset_at tz n) → ChooseAlike tz (fixed_zone o)
@@ -45,7 +43,7 @@ turned a b h = record { offset = λ n. sym (h.offset n); picks = λ dt. sym (h.p
 local-alike : (a b : TimeZone) → ChooseAlike a b → (i : ℤ) (dt : DateTime) → IsLocal a i dt → IsLocal b i dt
 local-alike a b h i dt l = l ∙ ap (λ (s : ℤ). i +ℤ nanos_of_seconds s) (h.offset i)
 
-picked-alike : (a b : TimeZone) → ChooseAlike a b → (civil j : ℤ) → IsPicked a civil j → IsPicked b civil j
+pub picked-alike : (a b : TimeZone) → ChooseAlike a b → (civil j : ℤ) → IsPicked a civil j → IsPicked b civil j
 picked-alike a b h civil j p = record { shown = p.shown; civil_is = p.civil_is; is_choice = p.is_choice ∙ h.picks p.shown; in_range = p.in_range }
 
 resolves-alike : (a b : TimeZone) → ChooseAlike a b → (i j : ℤ) → Resolves a i j → Resolves b i j
@@ -79,11 +77,10 @@ reaches-alike a b h (MinusPairs list) i j (start, s, c) = (start, resolves-alike
 -- the offset of such a zone
 pub fixed-offset : (tz : TimeZone) → IsFixed tz → (o : Offset) × ((n : ℤ) → o.seconds ≡ offset_at tz n)
 unfolding offset_at
-fixed-offset UTC f = (utc_offset, λ n. refl)
-fixed-offset Unknown f = (utc_offset, λ n. refl)
 fixed-offset (Fixed o) f = (o, λ n. refl)
 fixed-offset (Posix r) f = absurd f
 fixed-offset (Tzif z) f = absurd f
+fixed-offset tz f = (utc_offset, λ n. refl)
 
 -- a zone that is made of an offset is one
 pub fixed-zone : (o : Offset) → IsFixed (fixed_zone o)
@@ -172,9 +169,6 @@ pairs-fixed o words i result range h =
 
 pub fixed-shows : (o : Offset) (i : ℤ) (dt : DateTime) → civil_nanos dt ≡ i +ℤ nanos_of_seconds o.seconds → IsLocal (fixed_zone o) i dt
 fixed-shows o i dt e = e ∙ ap (λ (s : ℤ). i +ℤ nanos_of_seconds s) (sym (offset_at-fixed_zone o i))
-
-pub civil-shown : (dt : DateTime) (date : Date) (time : TimeOfDay) → dt.date ≡ date → dt.time ≡ time → civil_nanos dt ≡ civil_of (epoch_day date) time
-civil-shown dt date time d t = civil_nanos-parts dt ∙ rw (d, t) refl
 
 pub months-from : (tz : TimeZone) (n i j : ℤ) (shown : DateTime) → IsLocal tz i shown → MonthsStep tz n i j → MonthsFrom tz n j shown
 months-from tz n i j shown l g =

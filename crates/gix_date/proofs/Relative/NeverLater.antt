@@ -1,5 +1,6 @@
 -- At one offset a relative text names no instant after the moment: its counts and units are never negative.
 use Rattle.std.proofs.Common.{◌≡◌, ◌+◌, ℕ, ℤ, pos, negsuc, ◌-ℤ◌, ◌*ℤ◌, ◌≤ℤ◌, Bool, true, false, cond, List, [], ◌∷◌, refl, subst, arith, Option, Some, None, option_map}
+use Rattle.std.proofs.lemmas.Option.{cond_some as guard, same_Some as same_some}
 use Rattle.std.proofs.lemmas.Bool.{and_parts as both}
 use Rattle.std.proofs.lemmas.Bool.Decides.{nat_tests}
 use Rattle.std.specs.Char.{is_ascii_digit}
@@ -23,11 +24,12 @@ use Rattle.gix_date.specs.Text.Numbers.{int_value}
 use Rattle.gix_date.specs.Text.Places.{Place, places}
 use Rattle.gix_date.specs.declared.parsing.relative.words.TimeUnit.{TimeUnit}
 use Rattle.gix_date.specs.declared.parsing.relative.words.TimeUnit.TheVariants.{Seconds, Months}
-use Rattle.gix_date.proofs.Fields.FieldsTaken.{went, guard}
+use Rattle.gix_date.proofs.Fields.FieldsTaken.{went}
 use Rattle.gix_date.proofs.Relative.FixedSteps.{fixed-offset, one-offset, reaches-alike}
 use Rattle.gix_date.proofs.Relative.FixedZones.{fixed-picked, fixed-local, fixed-resolves, fixed-seconds, months-order, product-low}
-use Rattle.gix_date.proofs.Fast.FastHeaders.{int-taken, same_some}
+use Rattle.gix_date.proofs.Fast.FastHeaders.{int-taken}
 use Rattle.gix_date.proofs.Relative.Steps.{day_of}
+use Rattle.gix_date.proofs.Families.Apart.{digit-no-minus}
 
 -- What a text asks for goes back.
 abbrev IsLow : ℤ → Type 0
@@ -93,9 +95,6 @@ low-date (MinusSeconds seconds) e = low-by seconds e
 low-date (MinusPairs list) e = absurd cc
 
 -- a count word
-digit-no-minus : (c : ℕ) → is_ascii_digit c ≡ true → (c == minus) ≡ false
-digit-no-minus c h = grind (arith, nat_tests, h)
-
 digits-low : (word : List ℕ) (n : ℤ) → list_all is_ascii_digit word ≡ true → int_value word ≡ Some n → IsLow n
 digits-low [] n h e = let t = (int-taken [] n e).0 in absurd cc
 digits-low (c ∷ t) n h e =
@@ -134,9 +133,7 @@ unit-low period = by (named_in unit_names (singular period)) refl
 here-back : (free : Bool) (word : List ℕ) (count : Option ℤ) (back : List (List ℕ)) (more : List (ℤ × TimeUnit)) → count_of word ≡ count → GoBack more
     → GoBack (cons_option (cond free (count >>= pair_with back) None) more)
 here-back true word (Some n) (period ∷ back) more e h = (count-low word n e, unit-low period, h)
-here-back true word (Some n) [] more e h = h
-here-back true word None back more e h = h
-here-back false word count back more e h = h
+here-back free word count back more e h = h
 
 places-back : (ps : List Place) → GoBack (filter_map pair_at ps)
 places-back [] = tt

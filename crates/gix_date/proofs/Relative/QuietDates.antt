@@ -19,7 +19,7 @@ use Rattle.gix_date.specs.Text.Numbers.{fits_i64, int_value, read_two_digits, tw
 use Rattle.gix_date.specs.Fields.Offsets.{read_sign, offset_fields}
 use Rattle.gix_date.specs.Fields.DateFields.{is_weekday, month_named}
 use Rattle.gix_date.specs.Fields.DateOffsets.{compact_offset, strict_offset, rfc2822_zone, rfc2822_offset, named_zone, zone_names, jiff_offset, last_colon_pair}
-use Rattle.gix_date.specs.Families.Patterns.{short_layout, iso8601_layout, gitoxide_layout, default_layout, short_answer, rfc2822_answer, iso8601_answer, iso8601_strict_answer, gitoxide_answer, default_answer}
+use Rattle.gix_date.specs.Families.Patterns.{rfc2822_answer, iso8601_strict_answer, Accepts, IsMeaning}
 use Rattle.gix_date.specs.Relative.Dates.{date_names, named_date}
 use Rattle.gix_date.specs.Relative.Words.{relative_words, is_gap, singular, named_unit, unit_names, unit_of, is_ago}
 use Rattle.gix_date.specs.Relative.Roles.{has_unit}
@@ -28,10 +28,11 @@ use Rattle.gix_date.specs.declared.civil.ClockFields.{ClockFields}
 use Rattle.gix_date.specs.declared.civil.DateFields.{DateFields}
 use Rattle.gix_date.specs.declared.parsing.offset.OffsetFields.{OffsetFields}
 use Rattle.gix_date.specs.declared.parsing.offset.Sign.{Sign}
-use Rattle.gix_date.proofs.Fields.FieldsTaken.{went, guard, after-taken, two-taken}
-use Rattle.gix_date.proofs.Text.Ints.{each_of}
+use Rattle.gix_date.proofs.Fields.ColonOffsets.{AreLastSeconds, strict-taken}
+use Rattle.gix_date.proofs.Fields.FieldsTaken.{went}
+use Rattle.gix_date.proofs.Text.Ints.{each_of, each_of as three}
 use Rattle.gix_date.proofs.Fields.Layouts.{dates_spelled}
-use Rattle.gix_date.proofs.Fast.FastHeaders.{int-taken, offset-taken, sign-taken}
+use Rattle.gix_date.proofs.Fast.FastHeaders.{int-taken, offset-taken}
 use Rattle.gix_date.proofs.Relative.QuietWords.{says_nothing, says-by, IsQuiet, like, like-any, names_of, named-any, any-run, one-run-word}
 use Rattle.gix_date.proofs.Text.WordsWithin.{words-within, one-gap, none-of-empty}
 
@@ -125,13 +126,13 @@ quiet-spaces x (c ∷ gap) y s p q = quiet-gap x c (gap ++ y) (space_gap c s.0) 
 quiet-word : (c : ℕ) (t : List ℕ) → list_all is_ascii_alphanumeric (c ∷ t) ≡ true → says_nothing (c ∷ t) ≡ true → IsQuiet (c ∷ t)
 quiet-word c t h s = ap (list_all says_nothing) (one-run-word c t h) ∙ rw s refl
 
-digit_run : (c : ℕ) → is_ascii_digit c ≡ true → is_ascii_alphanumeric c ≡ true
+pub digit_run : (c : ℕ) → is_ascii_digit c ≡ true → is_ascii_alphanumeric c ≡ true
 digit_run c h = rw h refl
 
 letter_run : (c : ℕ) → is_ascii_alphabetic c ≡ true → is_ascii_alphanumeric c ≡ true
 letter_run c h = grind (arith, nat_tests, h)
 
-digits-run : (t : List ℕ) → all_ascii_digits t ≡ true → list_all is_ascii_alphanumeric t ≡ true
+pub digits-run : (t : List ℕ) → all_ascii_digits t ≡ true → list_all is_ascii_alphanumeric t ≡ true
 digits-run [] h = refl
 digits-run (c ∷ t) h = let parts = both (is_ascii_digit c) (all_ascii_digits t) h in rw (digit_run c parts.0) (digits-run t parts.1)
 
@@ -144,18 +145,13 @@ quiet-digits [] h = quiet-none
 quiet-digits (c ∷ t) h = let parts = both (is_ascii_digit c) (all_ascii_digits t) h in quiet-run c t parts.0 (digits-run t parts.1)
 
 pub field-digits : (t : List ℕ) (n : ℕ) → IsField t n → all_ascii_digits t ≡ true
-field-digits [] n h = absurd h
 field-digits (a ∷ []) n h = rw h.0 refl
 field-digits (a ∷ b ∷ []) n h = rw (h.0, h.1) refl
-field-digits (a ∷ b ∷ c ∷ t) n h = absurd h
+field-digits t n h = absurd h
 
 pub year-digits : (t : List ℕ) (n : ℕ) → IsYear t n → all_ascii_digits t ≡ true
-year-digits [] n h = absurd h
-year-digits (a ∷ []) n h = absurd h
-year-digits (a ∷ b ∷ []) n h = absurd h
-year-digits (a ∷ b ∷ c ∷ []) n h = absurd h
 year-digits (a ∷ b ∷ c ∷ d ∷ []) n h = rw (h.0, h.1, h.2, h.3) refl
-year-digits (a ∷ b ∷ c ∷ d ∷ e ∷ t) n h = absurd h
+year-digits t n h = absurd h
 
 quiet-field : (t : List ℕ) (n : ℕ) → IsField t n → IsQuiet t
 quiet-field t n h = quiet-digits t (field-digits t n h)
@@ -177,20 +173,11 @@ names-quiet : list_all says_nothing day_names ≡ true × list_all says_nothing 
 unfolding has_unit unit_of singular named_unit named_date
 names-quiet = (refl, refl)
 
-three : (a b c : Bool) → (a && b && c) ≡ true → (a ≡ true) × (b ≡ true) × (c ≡ true)
-three true true true h = (refl, refl, refl)
-three true true false h = absurd cc
-three true false c h = absurd cc
-three false b c h = absurd cc
-
 letters-run : (t : List ℕ) → AreThreeLetters t → list_all is_ascii_alphanumeric t ≡ true
-letters-run [] h = absurd h
-letters-run (a ∷ []) h = absurd h
-letters-run (a ∷ b ∷ []) h = absurd h
 letters-run (a ∷ b ∷ c ∷ []) h =
     let parts = three (is_ascii_alphabetic a) (is_ascii_alphabetic b) (is_ascii_alphabetic c) h in
     rw (letter_run a parts.0, letter_run b parts.1, letter_run c parts.2) refl
-letters-run (a ∷ b ∷ c ∷ d ∷ t) h = absurd h
+letters-run t h = absurd h
 
 quiet-name : (t : List ℕ) → list_all is_ascii_alphanumeric t ≡ true → says_nothing t ≡ true → IsQuiet t
 quiet-name [] h s = quiet-none
@@ -259,55 +246,25 @@ record Signed (x : List ℕ) : Type 0 where
   pub gap : is_gap mark ≡ true
   pub quiet : IsQuiet rest
 
-colon_gap : (c : ℕ) → (c == colon) ≡ true → is_gap c ≡ true
-colon_gap c h = grind (arith, nat_tests, h)
-
-pair-digits : (a b v : ℕ) (n : ℕ) → cond (is_ascii_digit a && is_ascii_digit b) (Some v) None ≡ Some n → all_ascii_digits (a ∷ b ∷ []) ≡ true
-pair-digits a b v n e =
-    let g = guard (is_ascii_digit a && is_ascii_digit b) v n e in
-    let parts = both (is_ascii_digit a) (is_ascii_digit b) g.0 in
-    rw (parts.0, parts.1) refl
-
-quiet-last : (front last : List ℕ) (s : Option ℕ) → last_colon_pair last ≡ Some s → IsQuiet front → IsQuiet (front ++ last)
-unfolding last_colon_pair
-quiet-last front [] s e q = subst IsQuiet (sym (append-nil front)) q
-quiet-last front (c ∷ []) s e q = absurd cc
-quiet-last front (c ∷ a ∷ []) s e q = absurd cc
-quiet-last front (c ∷ a ∷ b ∷ []) s e q = by_colon (c == colon) refl e
-  where
-    by_colon : (mark : Bool) → (c == colon) ≡ mark → cond mark (two_digit_value a b >>= (λ n. Some (Some n))) None ≡ Some s → IsQuiet (front ++ (c ∷ a ∷ b ∷ []))
-    by_colon true m e =
-        let n = went (two_digit_value a b) (λ n. Some (Some n)) s e in
-        quiet-gap front c (a ∷ b ∷ []) (colon_gap c m) q (quiet-digits (a ∷ b ∷ []) (pair-digits a b _ n.0 n.1))
-    by_colon false m e = absurd cc
-quiet-last front (c ∷ a ∷ b ∷ d ∷ t) s e q = absurd cc
-
-abbrev fields_at : Sign → ℕ → ℕ → Option ℕ → OffsetFields
-fields_at sign h m s = record { sign = sign; hours = h; minutes = m; seconds = s }
+quiet-last : (front last : List ℕ) (s : Option ℕ) → AreLastSeconds last s → IsQuiet front → IsQuiet (front ++ last)
+quiet-last front last s (inl none) q = subst (λ (t : List ℕ). IsQuiet (front ++ t)) (sym none.0) (subst IsQuiet (sym (append-nil front)) q)
+quiet-last front last s (inr two) q =
+    subst (λ (t : List ℕ). IsQuiet (front ++ t)) (sym two.2) (quiet-gap front colon (two.0 ∷ two.1 ∷ []) refl q (quiet-digits (two.0 ∷ two.1 ∷ []) (rw (two.3, two.4) refl)))
 
 strict-signed : (x : List ℕ) (o : ℤ) → strict_offset x ≡ Some o → Signed x
-unfolding strict_offset
 strict-signed x o e =
-    let sign = went (read_sign x) (λ sign. read_two_digits sign.1 >>= λ h. skip_char colon h.1 >>= λ r. read_two_digits r >>= λ m. last_colon_pair m.1 >>= λ s. jiff_offset (fields_at sign.0 h.0 m.0 s)) o e in
-    let hours = went (read_two_digits sign.0.1) (λ h. skip_char colon h.1 >>= λ r. read_two_digits r >>= λ m. last_colon_pair m.1 >>= λ s. jiff_offset (fields_at sign.0.0 h.0 m.0 s)) o sign.2 in
-    let next = went (skip_char colon hours.0.1) (λ r. read_two_digits r >>= λ m. last_colon_pair m.1 >>= λ s. jiff_offset (fields_at sign.0.0 hours.0.0 m.0 s)) o hours.2 in
-    let minutes = went (read_two_digits next.0) (λ m. last_colon_pair m.1 >>= λ s. jiff_offset (fields_at sign.0.0 hours.0.0 m.0 s)) o next.2 in
-    let seconds = went (last_colon_pair minutes.0.1) (λ s. jiff_offset (fields_at sign.0.0 hours.0.0 minutes.0.0 s)) o minutes.2 in
-    let a = sign-taken x sign.0.0 sign.0.1 sign.1 in
-    let b = two-taken sign.0.1 hours.0.0 hours.0.1 hours.1 in
-    let c = two-taken next.0 minutes.0.0 minutes.0.1 minutes.1 in
-    let hour = b.tens ∷ b.ones ∷ [] in
-    let minute = c.tens ∷ c.ones ∷ [] in
-    let hour_digits : all_ascii_digits hour ≡ true = rw (b.is_tens, b.is_ones) refl in
-    let minute_digits : all_ascii_digits minute ≡ true = rw (c.is_tens, c.is_ones) refl in
-    let split : x ≡ a.mark ∷ (hour ++ (colon ∷ (minute ++ minutes.0.1))) =
-    a.whole ∙ ap (λ (t : List ℕ). a.mark ∷ t) (b.whole ∙ ap (λ (t : List ℕ). hour ++ t) (after-taken colon hours.0.1 next.0 next.1 ∙ ap (λ (t : List ℕ). colon ∷ t) c.whole)) in
+    let t = strict-taken x o e in
+    let k = t.1 in
+    let hour = k.h0 ∷ k.h1 ∷ [] in
+    let minute = k.m0 ∷ k.m1 ∷ [] in
+    let hour_digits : all_ascii_digits hour ≡ true = rw (k.is_h0, k.is_h1) refl in
+    let minute_digits : all_ascii_digits minute ≡ true = rw (k.is_m0, k.is_m1) refl in
     record {
-      mark = a.mark;
-      rest = hour ++ (colon ∷ (minute ++ minutes.0.1));
-      whole = split;
-      gap = mark_gap a.mark sign.0.0 a.is_mark;
-      quiet = quiet-gap hour colon (minute ++ minutes.0.1) refl (quiet-digits hour hour_digits) (quiet-last minute minutes.0.1 seconds.0 seconds.1 (quiet-digits minute minute_digits));
+      mark = k.mark;
+      rest = hour ++ (colon ∷ (minute ++ k.last));
+      whole = k.whole;
+      gap = mark_gap k.mark t.0.sign k.is_mark;
+      quiet = quiet-gap hour colon (minute ++ k.last) refl (quiet-digits hour hour_digits) (quiet-last minute k.last t.0.seconds k.is_last (quiet-digits minute minute_digits));
     }
 
 quiet-colon-zone : (x : List ℕ) (o : ℤ) → strict_offset x ≡ Some o → IsQuiet x
@@ -332,14 +289,17 @@ quiet-t : IsQuiet (letter_t ∷ [])
 unfolding has_unit unit_of singular named_unit named_date
 quiet-t = quiet-word letter_t [] refl refl
 
+-- the name of a day and a comma, or nothing, and what stands after it
+quiet-prefixed : (prefix rest : List ℕ) → (prefix ≡ []) ⊎ IsDayPrefix prefix → IsQuiet rest → IsQuiet (prefix ++ rest)
+quiet-prefixed prefix rest (inl none) q = subst (λ (p : List ℕ). IsQuiet (p ++ rest)) (sym none) q
+quiet-prefixed prefix rest (inr named) q =
+    let split : prefix ++ rest ≡ named.name ++ (comma ∷ (named.gap ++ rest)) = rw named.whole (append_assoc named.name (comma ∷ named.gap) rest) in
+    subst IsQuiet (sym split)
+    (quiet-gap named.name comma (named.gap ++ rest) refl (quiet-day-name named.name named.is_name) (quiet-spaces [] named.gap rest named.are_spaces quiet-none q))
+
 quiet-piece : (p : Piece) (t : LocalTime) (x : List ℕ) → IsPiece p t x → IsQuiet x
 quiet-piece DayName t x h = quiet-day-name x h
-quiet-piece Rfc2822DayName t x (inl none) = subst IsQuiet (sym none) quiet-none
-quiet-piece Rfc2822DayName t x (inr h) =
-    subst IsQuiet (sym h.whole) (quiet-gap h.name comma h.gap refl (quiet-day-name h.name h.is_name) (quiet-blank h.gap h.are_spaces))
-  where
-    quiet-blank : (gap : List ℕ) → AreSpaces gap → IsQuiet gap
-    quiet-blank gap s = subst IsQuiet (append-nil gap) (quiet-spaces [] gap [] s quiet-none quiet-none)
+quiet-piece Rfc2822DayName t x h = subst IsQuiet (append-nil x) (quiet-prefixed x [] h quiet-none)
 quiet-piece MonthName t x h = quiet-month-name x t.date.month h
 quiet-piece Day t x h = quiet-field x t.date.day h
 quiet-piece Year t x h = quiet-digits x (year-digits x t.date.year h)
@@ -353,7 +313,7 @@ quiet-piece ColonOffset t x h = quiet-colon-zone x t.offset h
 quiet-piece Rfc2822Offset t x h = quiet-rfc2822-zone x t.offset h
 
 -- every second piece is spaces
-abbrev AreSpaced : List Piece → Type 0
+abbrev pub AreSpaced : List Piece → Type 0
 AreSpaced (p ∷ []) = Unit {0}
 AreSpaced (p ∷ Spaces ∷ pieces) = AreSpaced pieces
 AreSpaced _ = ⊥
@@ -367,17 +327,10 @@ quiet-pieces (p ∷ Spaces ∷ ps) s t x h =
     (quiet-spaces h.front gap.front gap.rest gap.is (quiet-piece p t h.front h.is) (quiet-pieces ps s t gap.rest gap.more))
 quiet-pieces (p ∷ q ∷ ps) s t x h = absurd s
 
-pub quiet-short : (text : List ℕ) (answer : FamilyAnswer) → short_answer text ≡ Some answer → IsQuiet text
-quiet-short text answer e = let a = (dates_spelled.short text answer).0 e in quiet-pieces short_layout tt a.time text a.are
-
-pub quiet-iso8601 : (text : List ℕ) (answer : FamilyAnswer) → iso8601_answer text ≡ Some answer → IsQuiet text
-quiet-iso8601 text answer e = let a = (dates_spelled.iso8601 text answer).0 e in quiet-pieces iso8601_layout tt a.time text a.are
-
-pub quiet-gitoxide : (text : List ℕ) (answer : FamilyAnswer) → gitoxide_answer text ≡ Some answer → IsQuiet text
-quiet-gitoxide text answer e = let a = (dates_spelled.gitoxide text answer).0 e in quiet-pieces gitoxide_layout tt a.time text a.are
-
-pub quiet-default : (text : List ℕ) (answer : FamilyAnswer) → default_answer text ≡ Some answer → IsQuiet text
-quiet-default text answer e = let a = (dates_spelled.default text answer).0 e in quiet-pieces default_layout tt a.time text a.are
+-- a date whose pieces have spaces between them
+pub quiet-dated : (family : List ℕ → Option FamilyAnswer) (of_time : LocalTime → Option FamilyAnswer) (layout : List Piece) → AreSpaced layout → Accepts family (IsMeaning layout of_time)
+    → (text : List ℕ) (answer : FamilyAnswer) → family text ≡ Some answer → IsQuiet text
+quiet-dated family of_time layout spaced law text answer e = let a = (law text answer).0 e in quiet-pieces layout spaced a.time text a.are
 
 after_rfc2822_day : List Piece
 after_rfc2822_day = Day ∷ Spaces ∷ MonthName ∷ Spaces ∷ Year ∷ Spaces ∷ Rfc2822Clock ∷ Spaces ∷ Rfc2822Offset ∷ []
@@ -387,14 +340,7 @@ unfolding after_rfc2822_day
 quiet-rfc2822 text answer e =
     let a = (dates_spelled.rfc2822 text answer).0 e in
     let h = a.are in
-    subst IsQuiet (sym h.whole) (after-name h.front h.rest h.is (quiet-pieces after_rfc2822_day tt a.time h.rest h.more))
-  where
-    after-name : (prefix rest : List ℕ) → (prefix ≡ []) ⊎ IsDayPrefix prefix → IsQuiet rest → IsQuiet (prefix ++ rest)
-    after-name prefix rest (inl none) q = subst (λ (p : List ℕ). IsQuiet (p ++ rest)) (sym none) q
-    after-name prefix rest (inr named) q =
-        let split : prefix ++ rest ≡ named.name ++ (comma ∷ (named.gap ++ rest)) = rw named.whole (append_assoc named.name (comma ∷ named.gap) rest) in
-        subst IsQuiet (sym split)
-        (quiet-gap named.name comma (named.gap ++ rest) refl (quiet-day-name named.name named.is_name) (quiet-spaces [] named.gap rest named.are_spaces quiet-none q))
+    subst IsQuiet (sym h.whole) (quiet-prefixed h.front h.rest h.is (quiet-pieces after_rfc2822_day tt a.time h.rest h.more))
 
 quiet-strict-parts : (x d : List ℕ) (date : DateFields) (clock : ClockFields) (time zone : List ℕ) (o : ℤ) → IsPlainDate d date → IsClock time clock → strict_offset zone ≡ Some o
     → x ≡ d ++ (letter_t ∷ (time ++ zone)) → IsQuiet x

@@ -1,7 +1,7 @@
 -- Texts whose words say nothing of a moment: no unit, no `ago`, no name of a day. No such text is relative.
 use Rattle.std.proofs.Common.{◌≡◌, ◌∙◌, ◌-◌, ◌<◌, ℕ, Bool, true, false, cond, List, [], ◌∷◌, ◌++◌, filter, length, map, take, get_or, refl, ap, ap₂, sym, arith, Some, None, Option, IsUtf8, flat_map}
 use Rattle.std.proofs.Math.ListN.{get_or-map}
-use Rattle.std.proofs.lemmas.Bool.{and_parts as both}
+use Rattle.std.proofs.lemmas.Bool.{and_parts as both, not-true as not_is}
 use Rattle.std.proofs.lemmas.Bool.Decides.{nat_tests}
 use Rattle.std.proofs.lemmas.List.{take-map, length-map}
 use Rattle.std.proofs.lemmas.List.Splits.{slice_split-cons_no}
@@ -34,10 +34,6 @@ record SaysNothing (word : List ℕ) : Type 0 where
   pub unit : has_unit word ≡ false
   pub ago : is_ago word ≡ false
   pub name : named_date word ≡ None
-
-not_is : (b : Bool) → not b ≡ true → b ≡ false
-not_is false e = refl
-not_is true e = sym e
 
 says-parts : (word : List ℕ) → says_nothing word ≡ true → SaysNothing word
 says-parts word h =
@@ -92,7 +88,7 @@ pub no-pairs : (words : List (List ℕ)) → list_all says_nothing words ≡ tru
 no-pairs words h = no-pairs-by words (has_pair words) refl h
 
 -- A word of letters and digits is the only one of its text.
-no_gap : (c : ℕ) → is_ascii_alphanumeric c ≡ true → is_gap c ≡ false
+pub no_gap : (c : ℕ) → is_ascii_alphanumeric c ≡ true → is_gap c ≡ false
 no_gap c h = rw h refl
 
 one-run : (t : List ℕ) → list_all is_ascii_alphanumeric t ≡ true → slice_split is_gap t ≡ t ∷ []
@@ -105,7 +101,7 @@ pub one-run-word : (c : ℕ) (t : List ℕ) → list_all is_ascii_alphanumeric (
 unfolding relative_words
 one-run-word c t h = ap (filter is_nonempty) (one-run (c ∷ t) h)
 
-run_ascii : (c : ℕ) → is_ascii_alphanumeric c ≡ true → c < 128
+pub run_ascii : (c : ℕ) → is_ascii_alphanumeric c ≡ true → c < 128
 run_ascii c h = grind (arith, nat_tests, h)
 
 -- Words that differ in case alone say the same.
@@ -122,12 +118,15 @@ lower-same word name h = (bytes_eq-Decides (str_to_ascii_lowercase word) (str_to
 pub like-ago : (word name : List ℕ) → str_to_ascii_lowercase word ≡ str_to_ascii_lowercase name → is_ago word ≡ is_ago name
 like-ago word name e = ap (λ (t : List ℕ). bytes_eq t (str_to_ascii_lowercase (codes "ago"))) e
 
-pub like-name : (word name other : List ℕ) → str_to_ascii_lowercase word ≡ str_to_ascii_lowercase name → is_name word other ≡ is_name name other
-like-name word name other e = ap (λ (t : List ℕ). bytes_eq t (str_to_ascii_lowercase other)) e
+pub like-name : (word name : List ℕ) → str_to_ascii_lowercase word ≡ str_to_ascii_lowercase name → is_name word ≡ is_name name
+like-name word name e =
+    let names : List ℕ → List ℕ → Bool = λ t other. bytes_eq t (str_to_ascii_lowercase other) in
+    ap names e
 
-like-named : {A : Type 0} (table : List (List ℕ × A)) (word name : List ℕ) → str_to_ascii_lowercase word ≡ str_to_ascii_lowercase name → named_in table word ≡ named_in table name
-like-named [] word name e = refl
-like-named ((other, said) ∷ rows) word name e = rw (like-name word name other e, like-named rows word name e) refl
+pub like-named : {A : Type 0} (table : List (List ℕ × A)) (word name : List ℕ) → str_to_ascii_lowercase word ≡ str_to_ascii_lowercase name → named_in table word ≡ named_in table name
+like-named {A} [] word name e = refl
+like-named {A} ((other, said) ∷ rows) word name e =
+    ap₂ (λ (b : Bool) (found : Option A). cond b (Some said) found) (ap (λ (is : List ℕ → Bool). is other) (like-name word name e)) (like-named rows word name e)
 
 like-date : (word name : List ℕ) → str_to_ascii_lowercase word ≡ str_to_ascii_lowercase name → named_date name ≡ None → named_date word ≡ None
 unfolding named_date

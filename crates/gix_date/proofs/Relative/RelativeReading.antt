@@ -48,11 +48,3 @@ both (w ∷ ws) front =
 pub pairs_are_read : (ws : List (List ℕ)) → pairs ws ≡ pairs_read ws
 unfolding pairs next_is_free Both
 pairs_are_read ws = (both ws []).0 refl
-
--- a word that is no count
-pub skipped : (all : List (ℤ × TimeUnit)) (ws after : List (List ℕ)) (w : List ℕ) → ws ≡ w ∷ after → None ≡ count_of w → pairs_read ws ≡ all → pairs_read after ≡ all
-skipped all ws after w e none h = ap (λ r. pairs_from r after) none ∙ ap pairs_read (sym e) ∙ h
-
--- no word is left
-pub at_end : (ws : List (List ℕ)) → ws ≡ [] → pairs_read ws ≡ []
-at_end ws e = ap pairs_read e

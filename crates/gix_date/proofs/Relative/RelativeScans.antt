@@ -13,10 +13,9 @@ abbrev pub scan : Bool → Bool → Bool → Bool → Scan
 scan waiting any known ago = record { waiting = waiting; any = any; known = known; ago = ago }
 
 flips : (v b even even' : Bool) → v ≡ not even → even' ≡ cond b (not even) true → cond v false b ≡ not even'
-flips true true even even' e f = sym (ap not (f ∙ sym e))
 flips true false even even' e f = sym (ap not f)
-flips false true even even' e f = sym (ap not (f ∙ sym e))
 flips false false even even' e f = sym (ap not f)
+flips x y even even' e f = sym (ap not (f ∙ sym e))
 
 -- how the waiting state goes on
 goes_on : (v a k g : Bool) (w : List ℕ) (front : List (List ℕ)) → v ≡ not (next_is_free front) → (step (scan v a k g) w).waiting ≡ not (next_is_free (front ++ w ∷ []))

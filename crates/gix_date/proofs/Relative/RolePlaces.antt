@@ -1,23 +1,11 @@
 -- The tests of places, as facts of lists that the words are cut into.
 use Rattle.std.proofs.Common.{◌≡◌, ℕ, Bool, true, false, List, [], ◌∷◌, ◌++◌, refl, sym, ap, ◌∙◌, subst, inl, inr, append_assoc, append-nil}
-use Rattle.std.proofs.lemmas.Bool.{and_parts as and_cases}
+use Rattle.std.proofs.lemmas.Bool.{and_parts as and_cases, or_cases, or_left, or_right, and_from as and_both}
 use Rattle.std.specs.Prelude.{not, ◌&&◌, ◌||◌, ◌⊎◌, ◌↔◌, IsTrue}
 use Rattle.gix_date.proofs.Text.Places.{Words, any_place, all_places}
 use Rattle.gix_date.specs.Relative.Words.{is_ago}
 use Rattle.gix_date.specs.Relative.Roles.{is_count_word, has_unit, next_is_free, has_next, next_is_unit, has_flag, has_pair, all_units, are_pairs}
 use Rattle.gix_date.specs.Relative.Pairs.{HasFlag, HasPair, AllUnits, ArePairs}
-use Rattle.gix_date.proofs.Fields.Instants.{join as and_both}
-
-or_cases : (a b : Bool) → (a || b) ≡ true → (a ≡ true) ⊎ (b ≡ true)
-or_cases true b h = inl refl
-or_cases false b h = inr h
-
-or_left : (a b : Bool) → a ≡ true → (a || b) ≡ true
-or_left a b h = ap (λ x. x || b) h
-
-or_right : (a b : Bool) → b ≡ true → (a || b) ≡ true
-or_right true b h = refl
-or_right false b h = h
 
 some_place : (t : Words → List ℕ → Words → Bool) (xs front : Words) → any_place t front xs ≡ true
     → (a : Words) × (x : List ℕ) × (b : Words) × (xs ≡ a ++ x ∷ b) × (t (front ++ a) x b ≡ true)
@@ -78,13 +66,11 @@ flag_join ws h =
 
 then_unit : (a b u : Bool) → (not (a && b) || u) ≡ true → a ≡ true → b ≡ true → u ≡ true
 then_unit true true u h p q = h
-then_unit true false u h p q = cc
-then_unit false b u h p q = cc
+then_unit a b u h p q = cc
 
 unit_then : (a b u : Bool) → (a ≡ true → b ≡ true → u ≡ true) → (not (a && b) || u) ≡ true
 unit_then true true u h = h refl refl
-unit_then true false u h = refl
-unit_then false b u h = refl
+unit_then a b u h = refl
 
 units_split : (ws : List (List ℕ)) → all_units ws ≡ true → AllUnits ws
 unfolding all_units

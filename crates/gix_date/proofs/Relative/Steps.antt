@@ -16,7 +16,7 @@ use Rattle.gix_date.specs.declared.parsing.relative.steps.Fields.{Fields}
 
 -- What a zone chooses.
 
-civil-of : (dt : DateTime) (date : Date) (time : TimeOfDay) → dt.date ≡ date → dt.time ≡ time → civil_nanos dt ≡ civil_of (epoch_day date) time
+pub civil-of : (dt : DateTime) (date : Date) (time : TimeOfDay) → dt.date ≡ date → dt.time ≡ time → civil_nanos dt ≡ civil_of (epoch_day date) time
 civil-of dt date time d t = civil_nanos-parts dt ∙ rw (d, t) refl
 
 pub picked-is : (tz : TimeZone) (date : Date) (time : TimeOfDay) (dt : DateTime) (j : ℤ) → dt.date ≡ date → dt.time ≡ time → j ≡ picked_instant tz dt → IsTimestampNanos j → IsPicked tz (civil_of (epoch_day date) time) j

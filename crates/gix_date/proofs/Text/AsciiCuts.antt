@@ -29,8 +29,7 @@ ascii-by p ascii (c ∷ t) h = let parts = both (p c) (list_all p t) h in IsAsci
 
 second_holds : (p q : Bool) (n m : ℕ) → Some m ≡ cond (p && q) (Some n) None → q ≡ true
 second_holds true true n m h = refl
-second_holds true false n m h = cc
-second_holds false q n m h = cc
+second_holds p q n m h = cc
 
 ones_ascii : (tens ones m : ℕ) → Some m ≡ two_digit_value tens ones → ones < 128
 ones_ascii tens ones m h = digit_is_ascii ones (second_holds (is_ascii_digit tens) (is_ascii_digit ones) _ m h)

@@ -4,7 +4,7 @@ use Rattle.std.specs.Char.{is_ascii_digit}
 use Rattle.std.specs.Str.{trim}
 use Rattle.gix_date.specs.Text.Characters.{minus}
 use Rattle.gix_date.specs.declared.civil.DateFields.{DateFields}
-use Rattle.gix_date.proofs.Fields.FieldsTaken.{went, year-taken, after-taken}
+use Rattle.gix_date.proofs.Fields.FieldsTaken.{went, year-taken, after-taken, date_at, none-unless, same-first}
 use Rattle.gix_date.specs.Text.Front.{skip_char, ◌>>=◌}
 use Rattle.gix_date.specs.Fields.FieldTexts.{IsYear}
 use Rattle.gix_date.specs.Git.Forms.{git_time}
@@ -13,27 +13,14 @@ use Rattle.gix_date.specs.Fields.DateFields.{read_plain_date}
 use Rattle.gix_date.specs.Families.Patterns.{short_answer, iso8601_answer, iso8601_strict_answer}
 use Rattle.gix_date.specs.Families.Raw.{OffsetRule, raw_time_by}
 use Rattle.gix_date.specs.Text.SpaceWords.{space_words}
-use Rattle.gix_date.proofs.Families.Apart.{NoPlainDate}
-use Rattle.gix_date.proofs.Families.Disjoint.{GitFront, year-front, git-front, raw-words, raw-first, none-unless, same-first, int-digits, front-digits}
+use Rattle.gix_date.proofs.Families.Apart.{NoPlainDate, int-digits}
+use Rattle.gix_date.proofs.Families.Disjoint.{GitFront, year-front, git-front, raw-words, raw-first, front-digits, number-no-front}
 use Rattle.gix_date.proofs.Text.FirstWords.{is_visible, first-begins, trimmed-words}
-use Rattle.gix_date.proofs.Fast.FastHeaders.{is_number_byte, int-number}
+use Rattle.gix_date.proofs.Fast.FastHeaders.{is_number_byte, int-number, int-no-byte}
 
 -- no raw text begins with a digit and has another byte in its first word's front
 pub no-raw-front : (rule : OffsetRule) (text : List ℕ) → GitFront text → raw_time_by rule text ≡ None
-no-raw-front rule text g = none-unless (raw_time_by rule text) (λ t e.
-    let f = raw-first rule text t (raw-words rule text t e) in
-    let b = first-begins g.first g.more g.rest g.visible in
-    let same : f.word ≡ g.first ∷ (g.more ++ b.rest) = same-first f.word (g.first ∷ (g.more ++ b.rest)) f.words b.words (sym f.is ∙ ap space_words g.whole ∙ b.is) in
-    let digits = front-digits (g.first ∷ g.more) b.rest (int-digits g.first (g.more ++ b.rest) f.value g.digit (ap int_value (sym same) ∙ f.is_value)) in
-    let clash : true ≡ false = sym digits ∙ g.mixed in
-    cc)
-
-pub int-no-byte : (c : ℕ) (t : List ℕ) (n : ℤ) → is_number_byte c ≡ false → int_value (c ∷ t) ≡ Some n → ⊥
-int-no-byte c t n h e =
-    let k = int-number (c ∷ t) n e in
-    let same : c ≡ k.first = same-first c k.first t k.rest k.whole in
-    let clash : true ≡ false = sym k.bytes.0 ∙ ap is_number_byte (sym same) ∙ h in
-    cc
+no-raw-front rule text g = none-unless (raw_time_by rule text) (λ t e. number-no-front text text (raw-first rule text t (raw-words rule text t e)) g refl)
 
 -- no raw text begins with a visible byte that is no digit and no sign, and no Git text with one that is no digit
 pub no-raw-byte : (rule : OffsetRule) (c : ℕ) (t : List ℕ) → is_visible c ≡ true → is_number_byte c ≡ false → raw_time_by rule (c ∷ t) ≡ None
@@ -59,9 +46,6 @@ unfolding short_answer iso8601_answer iso8601_strict_answer
 no-plain-by text h = record { short = rw h refl; iso8601 = rw h refl; strict = rw h refl }
 
 -- a day at the front
-abbrev date_at : ℕ → ℕ → ℕ → List ℕ → DateFields × List ℕ
-date_at year month day rest = (record { year = year; month = month; day = day }, rest)
-
 -- what a text begins with that has a day at its front: a year and `-`
 pub record PlainYear (text : List ℕ) : Type 0 where
   pub year : List ℕ

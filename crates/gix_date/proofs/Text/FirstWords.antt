@@ -1,6 +1,6 @@
 -- The words of a text and of the text without white space at its ends; what the first word begins with.
 use Rattle.std.proofs.Common.{◌≡◌, ◌∙◌, ◌<◌, ℕ, Bool, true, false, cond, List, [], ◌∷◌, ◌++◌, map, filter, length, refl, ap, sym, arith, append-nil, IsAscii, encode_utf8_all, IsUtf8}
-use Rattle.std.proofs.lemmas.Bool.{and_parts as both}
+use Rattle.std.proofs.lemmas.Bool.{and_parts as both, and_from as join}
 use Rattle.std.proofs.lemmas.Bool.Decides.{nat_tests}
 use Rattle.std.proofs.lemmas.List.Elements.{filter-append}
 use Rattle.std.proofs.lemmas.List.Splits.{slice_split-cons_yes, slice_split-cons_no}
@@ -11,7 +11,6 @@ use Rattle.std.specs.List.{slice_split, onto_first}
 use Rattle.std.specs.Prelude.{◌==◌, ◌&&◌, nat_lt}
 use Rattle.std.specs.Str.{chars, all_scalars, trim, trim_start, trim_end, skip_leading_whitespace, drop_trailing_whitespace}
 use Rattle.gix_date.specs.Text.SpaceWords.{is_nonempty, runs, space_words}
-use Rattle.gix_date.proofs.Fields.Instants.{join}
 use Rattle.gix_date.proofs.Text.WordsWithin.{parts-of, onto-append}
 
 -- what stands after white space

@@ -27,9 +27,7 @@ all_of true true false p q r = r
 
 pub each_of : (a b d : Bool) → (a && b && d) ≡ true → (a ≡ true) × (b ≡ true) × (d ≡ true)
 each_of true true true h = (refl, refl, refl)
-each_of false b d h = cc
-each_of true false d h = cc
-each_of true true false h = cc
+each_of a b d h = cc
 
 ReadsInt : List ℕ → Type 0
 ReadsInt w = IsNumeral 10 (without_leading_sign w) × FitsSigned w64 (signed_digits_value 10 w)

@@ -1,5 +1,6 @@
 -- Last places, as a search from the end finds them and as a fact.
 use Rattle.std.proofs.Common.{◌≡◌, ◌≢◌, ℕ, ◌<◌, ◌≤◌, Bool, true, false, cond, List, length, get_or, refl, sym, ap, ◌∙◌, subst, Option, Some, None, arith, zero, suc}
+use Rattle.std.proofs.lemmas.Bool.{false_from_ne_true as not_true, ne_eqb as differs, eq-eqb as equals}
 use Rattle.std.proofs.lemmas.Bool.Decides.{nat_tests}
 use Rattle.std.proofs.lemmas.Str.Pattern.{rfind_char}
 use Rattle.std.specs.Prelude.{MatchOption, IfSome, ◌==◌}
@@ -34,10 +35,6 @@ pub last_is : (t : ℕ → Bool) (n k : ℕ) → IsLastPlace t n k → last_plac
 last_is t zero k h = absurd (omega (arith, h.within))
 last_is t (suc n) k h = at_or_below t n k (t n) refl h.within h.passes h.last (λ l. last_is t n k (record { within = l; passes = h.passes; last = λ i a b. h.last i a (omega arith) }))
 
-not_true : (b : Bool) → (b ≡ true → ⊥) → b ≡ false
-not_true true h = absurd (h refl)
-not_true false h = refl
-
 choice : (t : ℕ → Bool) (n k : ℕ) (b : Bool) → t n ≡ b → cond b (Some n) (last_place t n) ≡ Some k → (last_place t n ≡ Some k → IsLastPlace t n k) → IsLastPlace t (suc n) k
 choice t n k true e h below = let same : n ≡ k = cc in subst (λ j. IsLastPlace t (suc n) j) same (record { within = omega arith; passes = e; last = λ i a b. absurd (omega arith) })
 choice t n k false e h below = let r = below h in record { within = omega (arith, r.within); passes = r.passes; last = λ i a b. not_true (t i) (λ here. let none : i < n → ⊥ = λ l. (let bad : true ≡ false = sym here ∙ r.last i a l in cc) in let same : i ≡ n = omega (arith, none) in let bad : true ≡ false = sym here ∙ ap t same ∙ e in cc) }
@@ -46,12 +43,6 @@ choice t n k false e h below = let r = below h in record { within = omega (arith
 pub is_last : (t : ℕ → Bool) (n k : ℕ) → last_place t n ≡ Some k → IsLastPlace t n k
 is_last t zero k h = cc
 is_last t (suc n) k h = choice t n k (t n) refl h (is_last t n k)
-
-differs : (x y : ℕ) → x ≢ y → (x == y) ≡ false
-differs x y h = grind (arith, nat_tests, h)
-
-equals : (x y : ℕ) → x ≡ y → (x == y) ≡ true
-equals x y h = grind (arith, nat_tests, h)
 
 pub by_rfind : (bs : List ℕ) (r : Option ℕ) → MatchOption r (RFindsChar space bs None) (λ i. (j : ℕ) × RFindsChar space bs (Some (i, j)) × (i ≤ j) × IsCharBoundary bs i × IsCharBoundary bs j)
     → (r ≡ last_space bs) × IfSome r (λ k. (k < length bs) × (get_or bs k 0 ≡ space))

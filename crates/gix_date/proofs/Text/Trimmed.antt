@@ -8,13 +8,13 @@ use Rattle.std.specs.Char.{is_ascii_graphic, is_whitespace}
 use Rattle.std.specs.Prelude.{◌==◌, ◌&&◌}
 use Rattle.std.specs.Str.{chars, trim, trim_start, trim_end, skip_leading_whitespace, drop_trailing_whitespace}
 
-graphic-ascii : (c : ℕ) → is_ascii_graphic c ≡ true → c < 128
+pub graphic-ascii : (c : ℕ) → is_ascii_graphic c ≡ true → c < 128
 graphic-ascii c h = grind (arith, nat_tests, h)
 
 graphic-stays : (c : ℕ) → is_ascii_graphic c ≡ true → is_whitespace c ≡ false
 graphic-stays c h = grind (arith, nat_tests, h)
 
-skips-none : (c : ℕ) (cs : List ℕ) → is_whitespace c ≡ false → skip_leading_whitespace (c ∷ cs) ≡ c ∷ cs
+pub skips-none : (c : ℕ) (cs : List ℕ) → is_whitespace c ≡ false → skip_leading_whitespace (c ∷ cs) ≡ c ∷ cs
 skips-none c cs h = ap (λ b. cond b (skip_leading_whitespace cs) (c ∷ cs)) h
 
 some-left : (xs : List ℕ) (c : ℕ) → (length (xs ++ c ∷ []) == 0) ≡ false

@@ -1,5 +1,6 @@
 -- What a step of `split_whitespace` says of the words of a text.
 use Rattle.std.proofs.Common.{◌≡◌, ℕ, ◌<◌, Bool, true, false, List, [], ◌∷◌, ◌++◌, length, map, refl, sym, ap, ◌∙◌, subst, append_assoc, append-nil, arith, rules, length-append}
+use Rattle.std.proofs.lemmas.Bool.{not-false as from_not}
 use Rattle.std.proofs.lemmas.List.Splits.{slice_split-cons_yes, slice_split-cons_no}
 use Rattle.std.proofs.lemmas.Str.{chars-encodes, cons_from_encodes, encodes_same, len_utf8_bounds, length-encode}
 use Rattle.std.specs.Char.{is_whitespace, is_not_whitespace}
@@ -11,10 +12,6 @@ use Rattle.std.specs.Str.Iter.{split_whitespace_rest, split_whitespace_steps}
 use Rattle.std.specs.declared.str.SplitWhitespace.{SplitWhitespace}
 use Rattle.std.specs.Str.{chars, all_scalars, NonePass, NoCharPasses, EmptyOrStartsWithPassing, IsUtf8}
 use Rattle.gix_date.specs.Text.SpaceWords.{is_nonempty, runs, space_words}
-
-pub from_not : (b : Bool) → not b ≡ false → b ≡ true
-from_not true h = refl
-from_not false h = sym h
 
 -- white space in front makes no run
 pub runs_skip : (gs cs : List ℕ) → NonePass is_not_whitespace gs → runs (gs ++ cs) ≡ runs cs

@@ -40,179 +40,105 @@ fn later(text: &str, rest: &str, place: usize) -> usize
     if place < front { front } else { place }
 }
 
+/// What is left of a text where its parts stop, one after the other: from there on, or all of it if they take all. The
+/// last part is an offset.
+macro_rules! left_by {
+    ($text:ident, $rest:ident: $($part:pat = $read:expr),+ => $offset:expr) => {{
+        let $rest = $text;
+        $(
+            let $part = $read else {
+                return $rest;
+            };
+        )+
+        if $offset.is_some() { $text } else { $rest }
+    }};
+}
+
 /// What is left where one of Git's own forms stops.
 fn git_left(text: &str) -> &str
     ensures { result.now ≡ left_by git_parts text.now text.now }
 {
-    let rest = skip_spaces(text).unwrap_or(text);
-    let Some(rest) = skip_git_day(rest) else {
-        return rest;
-    };
-    let rest = skip_spaces(rest).unwrap_or(rest);
-    let Some(rest) = skip_git_clock(rest) else {
-        return rest;
-    };
-    let rest = skip_spaces(rest).unwrap_or(rest);
-    if parse_git_offset(rest).is_some() {
-        text
-    } else {
-        rest
-    }
+    left_by!(text, rest:
+        Some(rest) = Some(skip_spaces(rest).unwrap_or(rest)),
+        Some(rest) = skip_git_day(rest),
+        Some(rest) = Some(skip_spaces(rest).unwrap_or(rest)),
+        Some(rest) = skip_git_clock(rest),
+        Some(rest) = Some(skip_spaces(rest).unwrap_or(rest))
+        => parse_git_offset(rest))
 }
 
 /// What is left where ISO 8601 stops.
 fn iso8601_left(text: &str) -> &str
     ensures { result.now ≡ left_by iso8601_parts text.now text.now }
 {
-    let Some(rest) = skip_day(text) else {
-        return text;
-    };
-    let Some(rest) = skip_spaces(rest) else {
-        return rest;
-    };
-    let Some(rest) = skip_clock(rest) else {
-        return rest;
-    };
-    let Some(rest) = skip_spaces(rest) else {
-        return rest;
-    };
-    if parse_date_offset(false, rest).is_some() {
-        text
-    } else {
-        rest
-    }
+    left_by!(text, rest:
+        Some(rest) = skip_day(rest),
+        Some(rest) = skip_spaces(rest),
+        Some(rest) = skip_clock(rest),
+        Some(rest) = skip_spaces(rest)
+        => parse_date_offset(false, rest))
 }
 
 /// What is left where the strict form of ISO 8601 stops.
 fn strict_left(text: &str) -> &str
     ensures { result.now ≡ left_by strict_parts text.now text.now }
 {
-    let Some(rest) = skip_day(text) else {
-        return text;
-    };
-    let Some(rest) = skip_char('T', rest) else {
-        return rest;
-    };
-    let Some(rest) = skip_clock(rest) else {
-        return rest;
-    };
-    if parse_date_offset(true, rest).is_some() {
-        text
-    } else {
-        rest
-    }
+    left_by!(text, rest:
+        Some(rest) = skip_day(rest),
+        Some(rest) = skip_char('T', rest),
+        Some(rest) = skip_clock(rest)
+        => parse_date_offset(true, rest))
 }
 
 /// What is left where RFC 2822 stops.
 fn rfc2822_left(text: &str) -> &str
     ensures { result.now ≡ left_by rfc2822_parts text.now text.now }
 {
-    let rest = skip_day_name(text).unwrap_or(text);
-    let Some((_, rest)) = read_field(rest) else {
-        return rest;
-    };
-    let Some(rest) = skip_spaces(rest) else {
-        return rest;
-    };
-    let Some((_, rest)) = read_month(rest) else {
-        return rest;
-    };
-    let Some(rest) = skip_spaces(rest) else {
-        return rest;
-    };
-    let Some((_, rest)) = read_year(rest) else {
-        return rest;
-    };
-    let Some(rest) = skip_spaces(rest) else {
-        return rest;
-    };
-    let Some((_, rest)) = read_clock(true, rest) else {
-        return rest;
-    };
-    let Some(rest) = skip_spaces(rest) else {
-        return rest;
-    };
-    if parse_rfc2822_zone(rest).is_some() {
-        text
-    } else {
-        rest
-    }
+    left_by!(text, rest:
+        Some(rest) = Some(skip_day_name(rest).unwrap_or(rest)),
+        Some((_, rest)) = read_field(rest),
+        Some(rest) = skip_spaces(rest),
+        Some((_, rest)) = read_month(rest),
+        Some(rest) = skip_spaces(rest),
+        Some((_, rest)) = read_year(rest),
+        Some(rest) = skip_spaces(rest),
+        Some((_, rest)) = read_clock(true, rest),
+        Some(rest) = skip_spaces(rest)
+        => parse_rfc2822_zone(rest))
 }
 
 /// What is left where gitoxide's form stops.
 fn gitoxide_left(text: &str) -> &str
     ensures { result.now ≡ left_by gitoxide_parts text.now text.now }
 {
-    let Some(rest) = skip_named_day(text) else {
-        return text;
-    };
-    let Some((_, rest)) = read_month(rest) else {
-        return rest;
-    };
-    let Some(rest) = skip_spaces(rest) else {
-        return rest;
-    };
-    let Some((_, rest)) = read_field(rest) else {
-        return rest;
-    };
-    let Some(rest) = skip_spaces(rest) else {
-        return rest;
-    };
-    let Some((_, rest)) = read_year(rest) else {
-        return rest;
-    };
-    let Some(rest) = skip_spaces(rest) else {
-        return rest;
-    };
-    let Some(rest) = skip_clock(rest) else {
-        return rest;
-    };
-    let Some(rest) = skip_spaces(rest) else {
-        return rest;
-    };
-    if parse_date_offset(false, rest).is_some() {
-        text
-    } else {
-        rest
-    }
+    left_by!(text, rest:
+        Some(rest) = skip_named_day(rest),
+        Some((_, rest)) = read_month(rest),
+        Some(rest) = skip_spaces(rest),
+        Some((_, rest)) = read_field(rest),
+        Some(rest) = skip_spaces(rest),
+        Some((_, rest)) = read_year(rest),
+        Some(rest) = skip_spaces(rest),
+        Some(rest) = skip_clock(rest),
+        Some(rest) = skip_spaces(rest)
+        => parse_date_offset(false, rest))
 }
 
 /// What is left where Git's default form stops.
 fn default_left(text: &str) -> &str
     ensures { result.now ≡ left_by default_parts text.now text.now }
 {
-    let Some(rest) = skip_named_day(text) else {
-        return text;
-    };
-    let Some((_, rest)) = read_month(rest) else {
-        return rest;
-    };
-    let Some(rest) = skip_spaces(rest) else {
-        return rest;
-    };
-    let Some((_, rest)) = read_field(rest) else {
-        return rest;
-    };
-    let Some(rest) = skip_spaces(rest) else {
-        return rest;
-    };
-    let Some(rest) = skip_clock(rest) else {
-        return rest;
-    };
-    let Some(rest) = skip_spaces(rest) else {
-        return rest;
-    };
-    let Some((_, rest)) = read_year(rest) else {
-        return rest;
-    };
-    let Some(rest) = skip_spaces(rest) else {
-        return rest;
-    };
-    if parse_date_offset(false, rest).is_some() {
-        text
-    } else {
-        rest
-    }
+    left_by!(text, rest:
+        Some(rest) = skip_named_day(rest),
+        Some((_, rest)) = read_month(rest),
+        Some(rest) = skip_spaces(rest),
+        Some((_, rest)) = read_field(rest),
+        Some(rest) = skip_spaces(rest),
+        Some(rest) = skip_clock(rest),
+        Some(rest) = skip_spaces(rest),
+        Some((_, rest)) = read_year(rest),
+        Some(rest) = skip_spaces(rest)
+        => parse_date_offset(false, rest))
 }
 
 /// A day of the calendar, `YYYY-M-D`.

@@ -1,6 +1,6 @@
 use Rattle.std.proofs.Common.{refl, sym, ap, ◌∙◌, subst, ℤ, ◌-ℤ◌}
 use Rattle.jiff.specs.Words.{nanos_of_seconds, IsTimestampNanos}
-use Rattle.gix_date.proofs.Relative.FixedSteps.{civil-shown}
+use Rattle.gix_date.proofs.Relative.Steps.{civil-of as civil-shown}
 use Rattle.gix_date.proofs.parsing.relative.fixed.to_instant.Goals as goal
 
 pub returns-in-Ok-clause-some : goal.returns-in-Ok-clause-some

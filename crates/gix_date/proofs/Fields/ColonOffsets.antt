@@ -1,0 +1,81 @@
+-- An offset with colons that is read is written so.
+use Rattle.std.proofs.Common.{◌≡◌, ◌∙◌, ◌+◌, ◌-◌, ◌*◌, ℕ, ℤ, Bool, true, false, cond, List, [], ◌∷◌, ◌⊎◌, inl, inr, Option, Some, None, option_map, refl, ap, sym, arith}
+use Rattle.std.proofs.lemmas.Option.{cond_some as guard, same_Some as same_some}
+use Rattle.std.proofs.lemmas.Bool.Decides.{nat_tests}
+use Rattle.std.specs.Char.{is_ascii_digit}
+use Rattle.std.specs.Prelude.{◌==◌, ◌&&◌}
+use Rattle.gix_date.specs.Fields.FieldTexts.{IsSign, IsDigit}
+use Rattle.gix_date.specs.Fields.DateOffsets.{is_jiff_offset, jiff_offset, last_colon_pair, strict_offset}
+use Rattle.gix_date.specs.Text.Front.{skip_char, ◌>>=◌}
+use Rattle.gix_date.specs.Fields.Offsets.{read_sign, offset_of}
+use Rattle.gix_date.specs.Text.Characters.{colon}
+use Rattle.gix_date.specs.Text.Numbers.{read_two_digits}
+use Rattle.gix_date.specs.declared.parsing.offset.OffsetFields.{OffsetFields}
+use Rattle.gix_date.specs.declared.parsing.offset.Sign.{Sign}
+use Rattle.gix_date.proofs.Fast.FastHeaders.{sign-taken, fields_at}
+use Rattle.gix_date.proofs.Fields.FieldsTaken.{went, after-taken, two-taken}
+
+-- nothing, or a colon and two digits
+abbrev pub AreLastSeconds : List ℕ → Option ℕ → Type 0
+AreLastSeconds x seconds =
+    ((x ≡ []) × (seconds ≡ None)) ⊎ ((tens : ℕ) × (ones : ℕ) × (x ≡ colon ∷ tens ∷ ones ∷ []) × IsDigit tens × IsDigit ones)
+
+last-by : (c a b n : ℕ) (m p q : Bool) (seconds : Option ℕ) → (c == colon) ≡ m → is_ascii_digit a ≡ p → is_ascii_digit b ≡ q
+    → cond m (option_map {U = Option ℕ} (λ n. Some n) (cond (p && q) (Some n) None)) None ≡ Some seconds → AreLastSeconds (c ∷ a ∷ b ∷ []) seconds
+last-by c a b n true true true seconds m e f h = let mark : c ≡ colon = grind (arith, nat_tests, m) in inr (a, b, ap (λ (k : ℕ). k ∷ a ∷ b ∷ []) mark, e, f)
+last-by c a b n x p q seconds m e f h = absurd cc
+
+last-taken : (x : List ℕ) (seconds : Option ℕ) → last_colon_pair x ≡ Some seconds → AreLastSeconds x seconds
+unfolding last_colon_pair
+last-taken [] seconds e = inl (refl, sym (same_some None seconds e))
+last-taken (c ∷ a ∷ b ∷ []) seconds e = last-by c a b _ (c == colon) (is_ascii_digit a) (is_ascii_digit b) seconds refl refl refl e
+last-taken x seconds e = absurd cc
+
+-- a sign, two digits, a colon, two digits, and perhaps a colon and two more
+pub record IsColonOffset (x : List ℕ) (f : OffsetFields) : Type 0 where
+  pub mark : ℕ
+  pub h0 : ℕ
+  pub h1 : ℕ
+  pub m0 : ℕ
+  pub m1 : ℕ
+  pub last : List ℕ
+  pub whole : x ≡ mark ∷ h0 ∷ h1 ∷ colon ∷ m0 ∷ m1 ∷ last
+  pub is_mark : IsSign mark f.sign
+  pub is_h0 : IsDigit h0
+  pub is_h1 : IsDigit h1
+  pub hours : f.hours ≡ 10 * (h0 - 48) + (h1 - 48)
+  pub is_m0 : IsDigit m0
+  pub is_m1 : IsDigit m1
+  pub minutes : f.minutes ≡ 10 * (m0 - 48) + (m1 - 48)
+  pub is_last : AreLastSeconds last f.seconds
+
+pub strict-taken : (x : List ℕ) (o : ℤ) → strict_offset x ≡ Some o → (f : OffsetFields) × IsColonOffset x f × (o ≡ offset_of f)
+unfolding strict_offset
+strict-taken x o e =
+    let sign = went (read_sign x) (λ sign. read_two_digits sign.1 >>= λ h. skip_char colon h.1 >>= λ r. read_two_digits r >>= λ m. last_colon_pair m.1 >>= λ s. jiff_offset (fields_at sign.0 h.0 m.0 s)) o e in
+    let hours = went (read_two_digits sign.0.1) (λ h. skip_char colon h.1 >>= λ r. read_two_digits r >>= λ m. last_colon_pair m.1 >>= λ s. jiff_offset (fields_at sign.0.0 h.0 m.0 s)) o sign.2 in
+    let next = went (skip_char colon hours.0.1) (λ r. read_two_digits r >>= λ m. last_colon_pair m.1 >>= λ s. jiff_offset (fields_at sign.0.0 hours.0.0 m.0 s)) o hours.2 in
+    let minutes = went (read_two_digits next.0) (λ m. last_colon_pair m.1 >>= λ s. jiff_offset (fields_at sign.0.0 hours.0.0 m.0 s)) o next.2 in
+    let seconds = went (last_colon_pair minutes.0.1) (λ s. jiff_offset (fields_at sign.0.0 hours.0.0 minutes.0.0 s)) o minutes.2 in
+    let f = fields_at sign.0.0 hours.0.0 minutes.0.0 seconds.0 in
+    let a = sign-taken x sign.0.0 sign.0.1 sign.1 in
+    let b = two-taken sign.0.1 hours.0.0 hours.0.1 hours.1 in
+    let c = two-taken next.0 minutes.0.0 minutes.0.1 minutes.1 in
+    let is : IsColonOffset x f = record {
+      mark = a.mark;
+      h0 = b.tens;
+      h1 = b.ones;
+      m0 = c.tens;
+      m1 = c.ones;
+      last = minutes.0.1;
+      whole = a.whole ∙ ap (λ (t : List ℕ). a.mark ∷ t) (b.whole ∙ ap (λ (t : List ℕ). b.tens ∷ b.ones ∷ t) (after-taken colon hours.0.1 next.0 next.1 ∙ ap (λ (t : List ℕ). colon ∷ t) c.whole));
+      is_mark = a.is_mark;
+      is_h0 = b.is_tens;
+      is_h1 = b.is_ones;
+      hours = b.value;
+      is_m0 = c.is_tens;
+      is_m1 = c.is_ones;
+      minutes = c.value;
+      is_last = last-taken minutes.0.1 seconds.0 seconds.1;
+    } in
+    (f, is, sym (guard (is_jiff_offset f) (offset_of f) o seconds.2).1)
