@@ -7,4 +7,6 @@ pub mod UtcClocks
 pub mod Zones
 pub mod Whites
 pub mod Folds
+pub mod Kept
+pub mod Places
 mod ReadRows

@@ -1,5 +1,5 @@
 -- What a text comes to in a zone.
-use Rattle.std.specs.Prelude.{◌≡◌, ℤ, pos, neg_ℤ, ◌-ℤ◌, ◌*ℤ◌, Bool, true, if◌then◌else◌, Option, Some, None, Result, Ok, Err, int_div}
+use Rattle.std.specs.Prelude.{◌≡◌, ◌<◌, ℕ, ℤ, List, length, IsCharBoundary, pos, neg_ℤ, ◌-ℤ◌, ◌*ℤ◌, Bool, true, if◌then◌else◌, Option, Some, None, IfSome, Result, Ok, Err, int_div}
 use Rattle.std.specs.Int.Signed.{le_z}
 use Rattle.jiff.specs.Types.{TimeZone}
 use Rattle.jiff_core.specs.Calendar.{IsBetween}
@@ -10,7 +10,7 @@ use Rattle.gix_date.specs.declared.time.Time.{Time}
 use Rattle.git_date.specs.declared.reader.Said.{Said}
 use Rattle.git_date.specs.declared.date.ReadDate.{ReadDate}
 use Rattle.git_date.specs.declared.error.DateError.{DateError}
-use Rattle.git_date.specs.declared.error.DateError.TheVariants.{Range}
+use Rattle.git_date.specs.declared.error.DateError.TheVariants.{Unreadable, NumberTooLarge, BackTooFar, YearRefused, Range}
 
 -- the seconds are those of an instant
 abbrev pub IsInstantSeconds : ℤ → Type 0
@@ -63,3 +63,20 @@ DateOutcome tz (Err e) result = result ≡ Err e
 abbrev pub said_offset : Result Said DateError → Option ℤ
 said_offset (Ok said) = said.offset
 said_offset (Err e) = None
+
+-- a character of the text begins at this place
+abbrev pub IsPlaceIn : List ℕ → ℕ → Type 0
+IsPlaceIn text place = IsCharBoundary text place × (place < length text)
+
+-- the place of a refusal is one in the text
+abbrev pub IsErrorIn : List ℕ → DateError → Type 0
+IsErrorIn text (NumberTooLarge place) = IsPlaceIn text place
+IsErrorIn text (BackTooFar place) = IsPlaceIn text place
+IsErrorIn text (YearRefused place) = IsPlaceIn text place
+IsErrorIn text Unreadable = Unit {0}
+IsErrorIn text Range = Unit {0}
+
+-- the place of what was ignored, or that of a refusal, is one in the text
+abbrev pub HasPlacesIn : List ℕ → Result ReadDate DateError → Type 0
+HasPlacesIn text (Ok date) = IfSome date.ignored (IsPlaceIn text)
+HasPlacesIn text (Err e) = IsErrorIn text e

@@ -1,9 +1,9 @@
 //! The public call.
-ghost use Rattle.std.specs.Prelude.{◌≡◌, true};
+ghost use Rattle.std.specs.Prelude.{◌≡◌, true, IfOk};
 ghost use Rattle.gix_date.specs.Fields.Zoned.{is_instant};
 ghost use Rattle.gix_date.specs.Relative.Steps.{zone_of};
 ghost use Rattle.git_date.specs.Dates.{now_of};
-ghost use Rattle.git_date.specs.Outcome.{instant_seconds, date_at, DateOutcome, InZone, SaidIsInstant, IsMinutes};
+ghost use Rattle.git_date.specs.Outcome.{instant_seconds, date_at, DateOutcome, HasPlacesIn, InZone, SaidIsInstant, IsMinutes};
 ghost use Rattle.git_date.specs.Reading.{said_by};
 
 use crate::dates::Now;
@@ -28,11 +28,21 @@ pub struct ReadDate {
 /// In a fold the zone chooses the earlier instant, and in a gap the offset before it, as `jiff` does. The moment itself
 /// matters only to a date such as `7/4/2009` after a clock, which is refused if it is more than ten days ahead.
 ///
-/// [`DateError`] says when a text is refused. Takes no memory.
+/// [`DateError`] says when a text is refused. A place that the answer has is one where a character of the text begins. Takes
+/// no memory.
 pub fn parse_date(text: &str, now: Zoned<'_>) -> Result<ReadDate, DateError>
-    ensures { DateOutcome (zone_of now.entry) (said_by (now_of now.entry) text.now) result }
+    ensures date { DateOutcome (zone_of now.entry) (said_by (now_of now.entry) text.now) result }
+    ensures places { HasPlacesIn text.now result }
 {
-    match said_by(Now::of(now), text.as_bytes()) {
+    date_said(said_by(Now::of(now), text.as_bytes()), now)
+}
+
+/// The date that a text says, in the moment's zone if it says no offset.
+fn date_said(said: Result<Said, DateError>, now: Zoned<'_>) -> Result<ReadDate, DateError>
+    requires { IfOk said SaidIsInstant }
+    ensures { DateOutcome (zone_of now.entry) said result }
+{
+    match said {
         Ok(said) => match said.offset {
             Some(minutes) => date_at(said, i64::from(minutes)),
             None => date_in_zone(said, now),

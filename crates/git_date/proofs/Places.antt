@@ -1,0 +1,176 @@
+-- Where the places of answers and refusals are: at characters of the text.
+use Rattle.std.proofs.Common.{◌≡◌, ◌∙◌, ◌<◌, ◌-◌, ◌+◌, pos, option_map, ℕ, zero, suc, ℤ, Bool, true, false, cond, List, [], ◌∷◌, ◌++◌, length, get_or, refl, ap, sym, subst, arith, append_assoc, length-append, Option, Some, None, IfSome, Result, Ok, Err}
+use Rattle.std.proofs.lemmas.Str.{IsCharBoundary-before_ascii}
+use Rattle.std.proofs.Math.Seq.{get_or-append_seam}
+use Rattle.std.specs.Char.{is_ascii_alphabetic, is_ascii_digit}
+use Rattle.std.specs.Int.Signed.{le_z}
+use Rattle.std.specs.Option.{option_or}
+use Rattle.jiff.specs.Types.{TimeZone}
+use Rattle.gix_date.proofs.Text.AsciiCuts.{digit_is_ascii, letter_is_ascii}
+use Rattle.gix_date.specs.Fields.Zoned.{is_instant}
+use Rattle.gix_date.specs.declared.time.Time.{Time}
+use Rattle.git_date.specs.Tokens.{Token, Letters, Digits, Mark, token_text, letter_before, digit_before, tokens, texts, bytes_left, is_end}
+use Rattle.git_date.specs.Dates.{exact_seconds}
+use Rattle.git_date.specs.Digits.{Stepped}
+use Rattle.git_date.specs.Offsets.{at_text}
+use Rattle.git_date.specs.Reading.{nothing_read, read_on, and_then, rule, steps, reading_of, place_in, error_of, at_said, by_seconds, fields_said, at_or_fields, said_by}
+use Rattle.git_date.specs.Outcome.{date_at, date_in, instant_seconds, AtOffset, DateOutcome, IsPlaceIn, IsErrorIn, HasPlacesIn}
+use Rattle.git_date.specs.declared.date.ReadDate.{ReadDate}
+use Rattle.git_date.specs.declared.dates.Now.{Now}
+use Rattle.git_date.specs.declared.error.DateError.{DateError}
+use Rattle.git_date.specs.declared.error.DateError.TheVariants as error
+use Rattle.git_date.specs.declared.fault.Fault.{Fault}
+use Rattle.git_date.specs.declared.fault.Fault.TheVariants as fault
+use Rattle.git_date.specs.declared.fields.Fields.{Fields}
+use Rattle.git_date.specs.declared.reader.Reading.{Reading}
+use Rattle.git_date.specs.declared.reader.Said.{Said}
+use Rattle.git_date.proofs.Kept.{IsKept, Leaves, IsFaultAt, IsAt, first-at, rule-left, unused-at, either}
+use Rattle.git_date.proofs.TokenRuns.{texts-are}
+
+-- a run has a byte, which is no part of a longer character
+abbrev BeginsAscii : List ℕ → Type 0
+BeginsAscii [] = ⊥
+BeginsAscii (c ∷ run) = c < 128
+
+abbrev IsRun : Token → Type 0
+IsRun (Letters run) = BeginsAscii run
+IsRun (Digits run) = BeginsAscii run
+IsRun (Mark byte) = Unit {0}
+
+abbrev AreRuns : List Token → Type 0
+AreRuns [] = Unit {0}
+AreRuns (t ∷ more) = IsRun t × AreRuns more
+
+letter-runs : (c : ℕ) (ts : List Token) → c < 128 → AreRuns ts → AreRuns (letter_before c ts)
+letter-runs c [] h runs = (h, tt)
+letter-runs c (Letters run ∷ more) h runs = (h, runs.1)
+letter-runs c (Digits run ∷ more) h runs = (h, runs)
+letter-runs c (Mark byte ∷ more) h runs = (h, runs)
+
+digit-runs : (c : ℕ) (ts : List Token) → c < 128 → AreRuns ts → AreRuns (digit_before c ts)
+digit-runs c [] h runs = (h, tt)
+digit-runs c (Letters run ∷ more) h runs = (h, runs)
+digit-runs c (Digits run ∷ more) h runs = (h, runs.1)
+digit-runs c (Mark byte ∷ more) h runs = (h, runs)
+
+byte-runs : (letter digit : Bool) (c : ℕ) (ts : List Token) → is_ascii_alphabetic c ≡ letter → is_ascii_digit c ≡ digit → AreRuns ts
+    → AreRuns (cond letter (letter_before c ts) (cond digit (digit_before c ts) (Mark c ∷ ts)))
+byte-runs true digit c ts e f runs = letter-runs c ts (letter_is_ascii c e) runs
+byte-runs false true c ts e f runs = digit-runs c ts (digit_is_ascii c f) runs
+byte-runs false false c ts e f runs = (tt, runs)
+
+runs-of : (text : List ℕ) → AreRuns (tokens text)
+unfolding tokens
+runs-of [] = tt
+runs-of (c ∷ text) = byte-runs (is_ascii_alphabetic c) (is_ascii_digit c) c (tokens text) refl refl (runs-of text)
+
+-- these tokens end the text
+abbrev Ends : List ℕ → List Token → Type 0
+Ends text ts = (front : List ℕ) × (text ≡ front ++ texts ts) × AreRuns ts
+
+abbrev IsPlaceOf : List ℕ → ℕ → Type 0
+IsPlaceOf text left = IsPlaceIn text (place_in text left)
+
+place-at : (text front : List ℕ) (c : ℕ) (rest : List ℕ) → text ≡ front ++ c ∷ rest → c < 128 → IsPlaceOf text (length (c ∷ rest))
+place-at text front c rest e h =
+    let long : length text ≡ length front + length (c ∷ rest) = ap length e ∙ length-append front (c ∷ rest) in
+    let place : length text - length (c ∷ rest) ≡ length front = omega arith in
+    let byte : get_or text (length front) 0 ≡ c = ap (λ (bytes : List ℕ). get_or bytes (length front) 0) e ∙ get_or-append_seam front c rest 0 in
+    let within : length front < length text = omega arith in
+    subst (IsPlaceIn text) (sym place) (IsCharBoundary-before_ascii text (length front) within (omega (arith, byte)), within)
+
+run-at : (text front run rest : List ℕ) → text ≡ front ++ (run ++ rest) → BeginsAscii run → IsPlaceOf text (length (run ++ rest))
+run-at text front [] rest e h = absurd h
+run-at text front (c ∷ run) rest e h = place-at text front c (run ++ rest) e h
+
+kept : (text : List ℕ) → IsKept (Ends text) (Ends text) (IsPlaceOf text)
+kept text = record {
+  next = λ t more q. (q.0 ++ token_text t, q.1 ∙ sym (append_assoc q.0 (token_text t) (texts more)), q.2.1);
+  also = λ ts q. q;
+  at_letters = λ run more q. run-at text q.0 run (texts more) q.1 q.2.0;
+  at_digits = λ run more q. run-at text q.0 run (texts more) q.1 q.2.0;
+  at_mark = λ byte more h q. place-at text q.0 byte (texts more) q.1 h;
+}
+
+-- the places of what was read
+abbrev IsReadIn : List ℕ → Result Reading Fault → Type 0
+IsReadIn text (Ok r) = IsAt (IsPlaceOf text) r.ignored
+IsReadIn text (Err e) = IsFaultAt (IsPlaceOf text) e
+
+after-step : (text : List ℕ) (now : Now) (n : ℕ) (r : Reading) (t : Token) (more : List Token) (step : Stepped)
+    → ((other : Reading) (rest : List Token) → Ends text rest → IsAt (IsPlaceOf text) other.ignored → IsReadIn text (steps now n other rest))
+    → Ends text (t ∷ more) → IsAt (IsPlaceOf text) r.ignored → rule now r.fields t more ≡ step → Leaves (Ends text) (IsPlaceOf text) step
+    → IsReadIn text (and_then step (λ next. steps now n (read_on r (bytes_left (t ∷ more)) next.0) next.1))
+after-step text now n r t more (Err e) then q h is left = left
+after-step text now n r t more (Ok (Some f, rest)) then q h is left = then (record r { fields = f }) rest left h
+after-step text now n r t more (Ok (None, rest)) then q h is left =
+    then (record r { ignored = option_or r.ignored (Some (bytes_left (t ∷ more))) }) rest left
+    (first-at (IsPlaceOf text) r.ignored (Some (bytes_left (t ∷ more))) h (unused-at (Ends text) (Ends text) (IsPlaceOf text) (kept text) now r.fields t more rest q is))
+
+steps-at : (text : List ℕ) (now : Now) (n : ℕ) (r : Reading) (ts : List Token) → Ends text ts → IsAt (IsPlaceOf text) r.ignored → IsReadIn text (steps now n r ts)
+unfolding steps
+steps-at text now zero r [] q h = h
+steps-at text now (suc n) r [] q h = h
+steps-at text now zero r (t ∷ more) q h = h
+steps-at text now (suc n) r (t ∷ more) q h =
+    either (IsReadIn text) (is_end t) (Ok r) _ h
+    (after-step text now n r t more (rule now r.fields t more) (λ other rest. steps-at text now n other rest) q h refl
+    (rule-left (Ends text) (Ends text) (IsPlaceOf text) (kept text) now r.fields t more q))
+
+reading-at : (now : Now) (text : List ℕ) → IsReadIn text (reading_of now text)
+unfolding reading_of
+reading-at now text = steps-at text now (length text) nothing_read (tokens text) ([], sym (texts-are text), runs-of text) tt
+
+-- the places of what a text says
+abbrev IsSaidIn : List ℕ → Result Said DateError → Type 0
+IsSaidIn text (Ok said) = IfSome said.ignored (IsPlaceIn text)
+IsSaidIn text (Err e) = IsErrorIn text e
+
+ignored-in : (text : List ℕ) (ignored : Option ℕ) → IsAt (IsPlaceOf text) ignored → IfSome (option_map (place_in text) ignored) (IsPlaceIn text)
+ignored-in text None h = tt
+ignored-in text (Some left) h = h
+
+seconds-in : (text : List ℕ) (r : Reading) (seconds : Option ℤ) → IsAt (IsPlaceOf text) r.ignored → IsSaidIn text (by_seconds text r seconds)
+seconds-in text r None h = tt
+seconds-in text r (Some seconds) h = either (IsSaidIn text) (is_instant seconds) _ _ (ignored-in text r.ignored h) tt
+
+fields-in : (text : List ℕ) (read : Result Reading Fault) → IsReadIn text read → IsSaidIn text (fields_said text read)
+unfolding fields_said
+fields-in text (Ok r) h = seconds-in text r (exact_seconds r.fields) h
+fields-in text (Err (fault.NumberTooLarge left)) h = h
+fields-in text (Err (fault.YearRefused left)) h = h
+fields-in text (Err fault.Range) h = tt
+
+at-in : (text : List ℕ) (found : ℕ × ℤ) → IsSaidIn text (at_said found)
+unfolding at_said
+at-in text (n, minutes) = either (IsSaidIn text) (is_instant (pos n)) _ _ tt tt
+
+at-or-in : (now : Now) (text : List ℕ) (found : Option (ℕ × ℤ)) → IsSaidIn text (at_or_fields now text found)
+at-or-in now text (Some found) = at-in text found
+at-or-in now text None = fields-in text (reading_of now text) (reading-at now text)
+
+said-in : (now : Now) (text : List ℕ) → IsSaidIn text (said_by now text)
+unfolding said_by
+said-in now text = at-or-in now text (at_text (tokens text))
+
+-- the places of an answer
+date-at-in : (text : List ℕ) (said : Said) (minutes : ℤ) → IfSome said.ignored (IsPlaceIn text) → HasPlacesIn text (date_at said minutes)
+unfolding date_at
+date-at-in text said minutes h = either (HasPlacesIn text) (le_z (pos 0) (instant_seconds said minutes)) _ _ h tt
+
+local-in : (text : List ℕ) (said : Said) (local : Option Time) → IfSome said.ignored (IsPlaceIn text) → HasPlacesIn text (date_in said local)
+local-in text said None h = tt
+local-in text said (Some local) h = date-at-in text said _ h
+
+offset-in : (tz : TimeZone) (text : List ℕ) (said : Said) (offset : Option ℤ) (result : Result ReadDate DateError) → IfSome said.ignored (IsPlaceIn text)
+    → AtOffset tz said offset result → HasPlacesIn text result
+offset-in tz text said (Some minutes) result h is = subst (HasPlacesIn text) (sym is) (date-at-in text said minutes h)
+offset-in tz text said None result h is = subst (HasPlacesIn text) (sym is.is) (local-in text said is.local h)
+
+outcome-in : (tz : TimeZone) (text : List ℕ) (said : Result Said DateError) (result : Result ReadDate DateError) → IsSaidIn text said
+    → DateOutcome tz said result → HasPlacesIn text result
+outcome-in tz text (Ok said) result h is = offset-in tz text said said.offset result h is
+outcome-in tz text (Err e) result h is = subst (HasPlacesIn text) (sym is) h
+
+pub places : (tz : TimeZone) (now : Now) (text : List ℕ) (result : Result ReadDate DateError) → DateOutcome tz (said_by now text) result → HasPlacesIn text result
+places tz now text result is = outcome-in tz text (said_by now text) result (said-in now text) is
