@@ -9,4 +9,7 @@ pub mod Whites
 pub mod Folds
 pub mod Kept
 pub mod Places
+pub mod Changed
+pub mod Alike
+pub mod Recent
 mod ReadRows

@@ -11,3 +11,5 @@ pub mod Reading
 pub mod Outcome
 pub mod Views
 pub mod Computing
+pub mod Lines
+pub mod Moments

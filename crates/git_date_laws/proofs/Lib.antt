@@ -1,2 +1,4 @@
 pub mod Apart
+pub mod Moments
+pub mod Texts
 pub mod Zones

@@ -1,9 +1,13 @@
 -- Laws of dates as Git reads them.
-use Rattle.std.specs.Prelude.{◌≡◌, ◌↔◌, ℕ, ℤ, List, [], ◌∷◌, Option, Some, Result}
+use Rattle.std.specs.Prelude.{◌≡◌, ◌↔◌, ℕ, ℤ, true, List, [], ◌∷◌, ◌++◌, Option, Some, Result}
 use Rattle.jiff.specs.Types.{TimeZone}
 use Rattle.jiff.specs.declared.zoned.Zoned.{Zoned}
+use Rattle.gix_date.specs.Text.Characters.{newline}
+use Rattle.gix_date.specs.Text.Names.{is_name}
 use Rattle.git_date.specs.Dates.{now_of}
-use Rattle.git_date.specs.Tokens.{Token, Letters, Digits}
+use Rattle.git_date.specs.Lines.{AreComplete}
+use Rattle.git_date.specs.Moments.{HasNoDayMonth}
+use Rattle.git_date.specs.Tokens.{Token, Letters, Digits, tokens}
 use Rattle.git_date.specs.Reading.{said_by}
 use Rattle.git_date.specs.Outcome.{DateOutcome, said_offset}
 use Rattle.git_date.specs.declared.date.ReadDate.{ReadDate}
@@ -26,3 +30,19 @@ IgnoresZone moment text =
     (tz other : TimeZone) (minutes : ℤ) (result : Result ReadDate DateError)
     → said_offset (said_by (now_of moment) text) ≡ Some minutes
     → DateOutcome tz (said_by (now_of moment) text) result ↔ DateOutcome other (said_by (now_of moment) text) result
+
+-- a text says the same in any letter case
+abbrev pub IgnoresCase : Zoned → List ℕ → Type 0
+IgnoresCase moment text =
+    (other : List ℕ) → is_name text other ≡ true → said_by (now_of moment) text ≡ said_by (now_of moment) other
+
+-- neither a line feed nor what follows it changes what a text says, where no offset takes the line feed
+abbrev pub IgnoresLines : Zoned → List ℕ → Type 0
+IgnoresLines moment text =
+    (lines : List ℕ) → AreComplete (tokens text)
+    → said_by (now_of moment) (text ++ newline ∷ lines) ≡ said_by (now_of moment) text
+
+-- a text in which the reader comes to no such date says the same at every moment
+abbrev pub IgnoresInstant : Zoned → List ℕ → Type 0
+IgnoresInstant moment text =
+    (other : Zoned) → HasNoDayMonth (now_of moment) text → said_by (now_of moment) text ≡ said_by (now_of other) text

@@ -3,7 +3,7 @@
 
 ghost use Rattle.std.specs.Prelude.{◌≡◌};
 ghost use Rattle.git_date.specs.Tokens.{tokens as tokens_of, texts};
-ghost use Rattle.git_date_laws.specs.Laws.{AreApart, IgnoresZone};
+ghost use Rattle.git_date_laws.specs.Laws.{AreApart, IgnoresZone, IgnoresCase, IgnoresLines, IgnoresInstant};
 
 use gix_date::Zoned;
 
@@ -18,4 +18,24 @@ pub fn tokens(text: &str)
 #[tactic(auto, using(crate::proofs::Zones::zones))]
 pub fn written_offset(text: &str, now: &Zoned<'_>)
     ensures { IgnoresZone now.now text.now }
+{}
+
+/// A text has the same answer in any letter case.
+#[tactic(auto, using(crate::proofs::Texts::any_case))]
+pub fn letter_case(text: &str, now: &Zoned<'_>)
+    ensures { IgnoresCase now.now text.now }
+{}
+
+/// What follows a line feed changes no answer, unless an offset goes on there: after `@`, seconds, a space and a sign, or after
+/// a sign, two digits and a colon.
+#[tactic(auto, using(crate::proofs::Texts::any_lines))]
+pub fn later_lines(text: &str, now: &Zoned<'_>)
+    ensures { IgnoresLines now.now text.now }
+{}
+
+/// A text in which the reader comes to no date with dots, slashes or dashes but those that begin with their year has the same
+/// answer at every instant.
+#[tactic(auto, using(crate::proofs::Moments::any_instant))]
+pub fn instants(text: &str, now: &Zoned<'_>)
+    ensures { IgnoresInstant now.now text.now }
 {}

@@ -1,0 +1,9 @@
+-- The moment's instant.
+use Rattle.std.proofs.Common.{ℕ, List}
+use Rattle.jiff.specs.declared.zoned.Zoned.{Zoned}
+use Rattle.git_date.specs.Dates.{now_of}
+use Rattle.git_date.proofs.Recent.{same-instants}
+use Rattle.git_date_laws.specs.Laws.{IgnoresInstant}
+
+pub any_instant : (moment : Zoned) (text : List ℕ) → IgnoresInstant moment text
+any_instant moment text other h = same-instants (now_of moment) (now_of other) text h
