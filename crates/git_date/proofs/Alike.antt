@@ -1,6 +1,5 @@
 -- Letter case and later lines.
-use Rattle.std.proofs.Common.{◌≡◌, ◌∙◌, ◌<◌, ◌≤◌, ◌+◌, ◌-◌, ℕ, zero, suc, ℤ, Bool, true, false, cond, List, [], ◌∷◌, ◌++◌, map, length, refl, ap, ap₂, sym, arith, length-append, Option, Some, None, option_map, Result, Ok, Err}
-use Rattle.std.specs.Prelude.{◌||◌, nat_le, nat_lt}
+use Rattle.std.proofs.Common.{◌≡◌, ◌∙◌, ◌≤◌, ◌+◌, ◌-◌, ℕ, zero, suc, ℤ, Bool, true, false, cond, List, [], ◌∷◌, ◌++◌, length, refl, ap, ap₂, sym, arith, length-append, Option, Some, None, option_map, Result, Ok, Err}
 use Rattle.std.proofs.lemmas.List.{length-map}
 use Rattle.std.specs.Char.{is_ascii_alphabetic, is_ascii_digit, to_ascii_lowercase}
 use Rattle.std.specs.Str.{bytes_eq, str_to_ascii_lowercase}
@@ -10,22 +9,20 @@ use Rattle.std.proofs.lemmas.Bool.Decides.{nat_tests}
 use Rattle.gix_date.specs.Text.Characters.{newline}
 use Rattle.gix_date.specs.Text.Names.{is_name}
 use Rattle.gix_date.specs.Fields.Zoned.{is_instant}
-use Rattle.git_date.specs.Tokens.{Token, Letters, Digits, Mark, token_text, letter_before, digit_before, tokens, texts, bytes_left, is_end}
+use Rattle.git_date.specs.Tokens.{Token, Letters, Digits, Mark, letter_before, digit_before, tokens, bytes_left, is_end}
 use Rattle.git_date.specs.Dates.{exact_seconds}
 use Rattle.git_date.specs.Digits.{Stepped}
 use Rattle.git_date.specs.Offsets.{at_text}
-use Rattle.git_date.specs.Reading.{nothing_read, read_on, and_then, rule, steps, reading_of, place_in, error_of, by_seconds, fields_said, at_or_fields, said_by}
+use Rattle.git_date.specs.Reading.{nothing_read, read_on, and_then, rule, steps, reading_of, place_in, by_seconds, fields_said, at_or_fields, said_by}
 use Rattle.git_date.specs.declared.dates.Now.{Now}
 use Rattle.git_date.specs.declared.fault.Fault.{Fault}
 use Rattle.git_date.specs.declared.fault.Fault.TheVariants.{NumberTooLarge, YearRefused, Range}
-use Rattle.git_date.specs.declared.error.DateError.{DateError}
 use Rattle.git_date.specs.declared.error.DateError.TheVariants as error
 use Rattle.git_date.specs.declared.reader.Reading.{Reading}
-use Rattle.git_date.specs.declared.reader.Said.{Said}
 use Rattle.git_date.proofs.Kept.{IsKept, Leaves, rule-left}
 use Rattle.git_date.proofs.TokenRuns.{texts-are}
 use Rattle.git_date.specs.Lines.{AreComplete}
-use Rattle.git_date.proofs.Changed.{IsSpelling, after, changed, farther, farther_fault, read_farther, IsClosed, IsClosedAt, steps-is, at-is}
+use Rattle.git_date.proofs.Changed.{IsSpelling, after, changed, farther, read_farther, IsClosed, IsClosedAt, steps-is, at-is}
 
 -- steps enough are as good as more
 short-kept : (n : ℕ) → IsKept (λ ts. length ts ≤ suc n) (λ ts. length ts ≤ n) (λ left. Unit {0})
@@ -44,7 +41,7 @@ enough-then : (now : Now) (n m : ℕ) (r : Reading) (left : ℕ) (step : Stepped
 enough-then now n m r left (Err e) h g same = refl
 enough-then now n m r left (Ok found) h g same = same (read_on r left found.0) found.1 h g
 
-enough : (now : Now) (n m : ℕ) (r : Reading) (ts : List Token) → length ts ≤ n → length ts ≤ m → steps now n r ts ≡ steps now m r ts
+pub enough : (now : Now) (n m : ℕ) (r : Reading) (ts : List Token) → length ts ≤ n → length ts ≤ m → steps now n r ts ≡ steps now m r ts
 unfolding steps
 enough now zero zero r [] h g = refl
 enough now zero (suc m) r [] h g = refl
@@ -78,7 +75,7 @@ fewer-byte true digit c ts n h = omega (arith, fewer-letters c ts)
 fewer-byte false true c ts n h = omega (arith, fewer-digits c ts)
 fewer-byte false false c ts n h = omega arith
 
-fewer : (text : List ℕ) → length (tokens text) ≤ length text
+pub fewer : (text : List ℕ) → length (tokens text) ≤ length text
 unfolding tokens
 fewer [] = omega arith
 fewer (c ∷ text) = omega (arith, fewer-byte (is_ascii_alphabetic c) (is_ascii_digit c) c (tokens text) (length text) (fewer text))

@@ -1,22 +1,22 @@
 -- Texts that say the same: their words may be spelled otherwise, and a line feed and more may follow.
-use Rattle.std.proofs.Common.{◌≡◌, ◌∙◌, ◌<◌, ◌+◌, ◌-◌, ◌/◌, ◌%◌, ℕ, zero, suc, ℤ, Bool, true, false, cond, List, [], ◌∷◌, ◌++◌, length, refl, ap, ap₂, is_some, sym, subst, arith, length-append, Option, Some, None, option_map, Result, Ok, Err}
-use Rattle.std.specs.Prelude.{◌==◌, ◌&&◌, ◌||◌, codes, nat_le, nat_lt, take}
+use Rattle.std.proofs.Common.{◌≡◌, ◌∙◌, ◌+◌, ◌/◌, ◌%◌, ℕ, zero, suc, ℤ, Bool, true, false, cond, List, [], ◌∷◌, length, refl, ap, ap₂, is_some, sym, arith, length-append, Option, Some, None, option_map, Result, Ok, Err}
+use Rattle.std.specs.Prelude.{◌==◌, ◌&&◌, ◌||◌, codes, take}
 use Rattle.std.specs.List.{position, find, list_any}
 use Rattle.std.specs.Option.{option_or}
 use Rattle.std.proofs.lemmas.Bool.Decides.{nat_tests}
 use Rattle.gix_date.specs.Text.Characters.{newline, space, plus, minus, colon, dot, at_sign}
 use Rattle.gix_date.specs.Text.Names.{is_name}
 use Rattle.gix_date.specs.Text.Front.{◌>>=◌}
-use Rattle.git_date.specs.Tokens.{Token, Letters, Digits, Mark, token_text, texts, bytes_left, is_end}
-use Rattle.git_date.specs.Numbers.{number, is_too_large, narrow}
-use Rattle.git_date.specs.Names.{is_short, is_zone_name, month_names, weekday_names, zone_rows, month_named, is_weekday, zone_named, least}
+use Rattle.git_date.specs.Tokens.{Token, Letters, Digits, Mark, texts, bytes_left, is_end}
+use Rattle.git_date.specs.Numbers.{number, is_too_large}
+use Rattle.git_date.specs.Names.{is_short, is_zone_name, month_names, weekday_names, zone_rows, month_named, is_weekday, zone_named}
 use Rattle.git_date.specs.Fields.{with_clock, knows_date}
 use Rattle.git_date.specs.Words.{filler_words, ending_words, is_filler, half_or_filler, zone_or_half, month_or_other, with_word, letters_rule, without_ending, is_ending}
-use Rattle.git_date.specs.Dates.{year_date, utc_clock, recent_date}
-use Rattle.git_date.specs.Groups.{ReadTokens, number_at, marked_number, is_group_mark, third_or_none, group_after, group_of, clock_group, year_first_group, day_month_group, group_rule, large_number, large_third, large_in, without_fraction, after_group}
-use Rattle.git_date.specs.Digits.{Stepped, is_epoch, by_clock, epoch_rule, by_date, eight_digits, clock_taken, six_digits, four_digits, few_digits, bare_digits, by_rule, unless_large, grouped, group_or_bare, number_rule, digits_rule}
+use Rattle.git_date.specs.Dates.{year_date, utc_clock}
+use Rattle.git_date.specs.Groups.{ReadTokens, number_at, marked_number, is_group_mark, third_or_none, group_of, clock_group, year_first_group, day_month_group, group_rule, large_number, large_third, large_in, without_fraction}
+use Rattle.git_date.specs.Digits.{Stepped, is_epoch, by_clock, epoch_rule, by_date, eight_digits, clock_taken, six_digits, bare_digits, by_rule, unless_large, group_or_bare, number_rule, digits_rule}
 use Rattle.git_date.specs.Offsets.{is_white, without_white, white, padded_by, padded_after, padded_number, by_minutes, colon_minutes, two_digit_offset, offset_minutes, offset_said, SaidOffset, by_offset, offset_rule, ends, wide_minutes, by_sign, at_text}
-use Rattle.git_date.specs.Reading.{nothing_read, read_on, and_then, ended, sign_rule, mark_rule, rule, steps}
+use Rattle.git_date.specs.Reading.{read_on, and_then, ended, sign_rule, mark_rule, rule, steps}
 use Rattle.git_date.specs.declared.fields.Fields.{Fields}
 use Rattle.git_date.specs.declared.dates.Now.{Now}
 use Rattle.git_date.specs.declared.dates.Dated.{Dated}

@@ -1,5 +1,5 @@
 -- What is left to read of a text.
-use Rattle.std.proofs.Common.{◌≡◌, ◌∙◌, ◌<◌, ◌≤◌, ℕ, zero, suc, Bool, true, false, cond, List, [], ◌∷◌, length, refl, ap, sym, arith, Option, Some, None, Result, Ok, Err}
+use Rattle.std.proofs.Common.{◌≡◌, ◌∙◌, ◌<◌, ◌≤◌, ℕ, zero, suc, Bool, true, false, cond, List, [], ◌∷◌, length, refl, ap, sym, arith, Option, Result, Ok, Err}
 use Rattle.git_date.specs.Tokens.{Token, tokens, bytes_left, texts, is_end}
 use Rattle.git_date.specs.Digits.{Stepped}
 use Rattle.git_date.specs.Reading.{nothing_read, read_on, and_then, rule, steps, reading_of}

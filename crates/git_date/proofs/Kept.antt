@@ -1,17 +1,17 @@
 -- What the rules leave of the tokens. What holds of tokens and, with them, of all that follows, holds of what is left; and so
 -- do places of faults stand at letters, digits or signs.
-use Rattle.std.proofs.Common.{arith, ◌≡◌, ◌∙◌, ◌<◌, ℕ, zero, suc, Bool, true, false, cond, List, [], ◌∷◌, length, refl, ap, sym, subst, Option, Some, None, Result, Ok, Err, ℤ}
+use Rattle.std.proofs.Common.{arith, ◌≡◌, ◌∙◌, ◌<◌, ℕ, Bool, true, false, cond, List, [], ◌∷◌, length, refl, ap, sym, Option, Some, None, Result, Ok, Err}
 use Rattle.std.specs.Prelude.{◌==◌, ◌&&◌, ◌||◌, ◌/◌, ◌%◌, codes}
 use Rattle.std.specs.Option.{option_or}
 use Rattle.std.proofs.lemmas.Bool.Decides.{nat_tests}
 use Rattle.gix_date.specs.Text.Characters.{plus, minus, colon, dot}
-use Rattle.git_date.specs.Tokens.{Token, Letters, Digits, Mark, bytes_left, is_end}
+use Rattle.git_date.specs.Tokens.{Token, Letters, Digits, Mark, bytes_left}
 use Rattle.git_date.specs.Numbers.{number, is_too_large}
 use Rattle.git_date.specs.Fields.{knows_date, with_clock}
-use Rattle.git_date.specs.Words.{letters_rule, without_ending, is_ending}
+use Rattle.git_date.specs.Words.{without_ending, is_ending}
 use Rattle.git_date.specs.Dates.{year_date, utc_clock}
-use Rattle.git_date.specs.Groups.{ReadTokens, number_at, marked_number, is_group_mark, third_or_none, group_after, group_of, group_rule, large_number, large_third, large_in, without_fraction, after_group}
-use Rattle.git_date.specs.Digits.{Stepped, is_epoch, by_clock, epoch_rule, by_date, eight_digits, clock_taken, six_digits, four_digits, few_digits, bare_digits, by_rule, unless_large, grouped, group_or_bare, number_rule, digits_rule}
+use Rattle.git_date.specs.Groups.{ReadTokens, marked_number, is_group_mark, third_or_none, group_after, group_of, group_rule, large_number, large_third, large_in, without_fraction}
+use Rattle.git_date.specs.Digits.{Stepped, is_epoch, by_clock, epoch_rule, by_date, eight_digits, clock_taken, six_digits, bare_digits, by_rule, unless_large, group_or_bare, number_rule, digits_rule}
 use Rattle.git_date.specs.Offsets.{is_white, without_white, white, padded_after, padded_number, by_minutes, colon_minutes, two_digit_offset, offset_said, SaidOffset, by_offset, offset_rule}
 use Rattle.git_date.specs.Reading.{ended, sign_rule, mark_rule, rule}
 use Rattle.git_date.specs.declared.fields.Fields.{Fields}

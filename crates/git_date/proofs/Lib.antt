@@ -12,4 +12,6 @@ pub mod Places
 pub mod Changed
 pub mod Alike
 pub mod Recent
+pub mod Printed
+pub mod PrintedBack
 mod ReadRows

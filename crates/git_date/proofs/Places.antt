@@ -13,15 +13,13 @@ use Rattle.git_date.specs.Tokens.{Token, Letters, Digits, Mark, token_text, lett
 use Rattle.git_date.specs.Dates.{exact_seconds}
 use Rattle.git_date.specs.Digits.{Stepped}
 use Rattle.git_date.specs.Offsets.{at_text}
-use Rattle.git_date.specs.Reading.{nothing_read, read_on, and_then, rule, steps, reading_of, place_in, error_of, at_said, by_seconds, fields_said, at_or_fields, said_by}
+use Rattle.git_date.specs.Reading.{nothing_read, read_on, and_then, rule, steps, reading_of, place_in, at_said, by_seconds, fields_said, at_or_fields, said_by}
 use Rattle.git_date.specs.Outcome.{date_at, date_in, instant_seconds, AtOffset, DateOutcome, IsPlaceIn, IsErrorIn, HasPlacesIn}
 use Rattle.git_date.specs.declared.date.ReadDate.{ReadDate}
 use Rattle.git_date.specs.declared.dates.Now.{Now}
 use Rattle.git_date.specs.declared.error.DateError.{DateError}
-use Rattle.git_date.specs.declared.error.DateError.TheVariants as error
 use Rattle.git_date.specs.declared.fault.Fault.{Fault}
 use Rattle.git_date.specs.declared.fault.Fault.TheVariants as fault
-use Rattle.git_date.specs.declared.fields.Fields.{Fields}
 use Rattle.git_date.specs.declared.reader.Reading.{Reading}
 use Rattle.git_date.specs.declared.reader.Said.{Said}
 use Rattle.git_date.proofs.Kept.{IsKept, Leaves, IsFaultAt, IsAt, first-at, rule-left, unused-at, either}

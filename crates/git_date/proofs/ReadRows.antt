@@ -1,5 +1,5 @@
 -- The definition of what is read, on worked texts: each row computes. The moment is 2009-08-30 19:20:00 in UTC.
-use Rattle.std.proofs.Common.{◌≡◌, refl, List, [], ◌∷◌, ℕ, ℤ, pos, neg_ℤ, map, Option, Some, None, Result, Ok, Err}
+use Rattle.std.proofs.Common.{◌≡◌, refl, List, [], ◌∷◌, ℕ, ℤ, pos, neg_ℤ, map, Result, Ok, Err}
 use Prim.Native.String.{String}
 use Rattle.std.specs.Prelude.{codes, unwrap_or}
 use Rattle.gix_date.specs.declared.time.Time.{Time}

@@ -1,13 +1,13 @@
 -- Texts that the moment's instant does not matter to.
-use Rattle.std.proofs.Common.{◌≡◌, ◌∙◌, ◌<◌, ◌≤◌, ◌+◌, ℕ, zero, suc, ℤ, Bool, true, false, cond, not, List, [], ◌∷◌, length, refl, ap, ap₂, sym, arith, Option, Some, None, Result, Ok, Err}
-use Rattle.std.specs.Prelude.{◌==◌, ◌&&◌, ◌||◌, nat_le, nat_lt}
+use Rattle.std.proofs.Common.{◌≡◌, ◌∙◌, ◌<◌, ℕ, zero, suc, ℤ, Bool, true, false, cond, not, List, [], ◌∷◌, length, refl, ap, arith, Option, Some, None, Result, Ok, Err}
+use Rattle.std.specs.Prelude.{◌==◌, ◌&&◌, ◌||◌, nat_le}
 use Rattle.std.specs.Option.{option_or}
 use Rattle.std.proofs.lemmas.Bool.Decides.{nat_tests}
 use Rattle.gix_date.specs.Text.Characters.{colon, dot}
 use Rattle.git_date.specs.Tokens.{Token, Letters, Digits, Mark, tokens, bytes_left, is_end}
 use Rattle.git_date.specs.Numbers.{number, is_too_large}
 use Rattle.git_date.specs.Dates.{is_day_of_month, recent_date}
-use Rattle.git_date.specs.Groups.{ReadTokens, group_of, clock_group, year_first_group, day_month_group, group_rule, second_of, third_of, or_else, taken_or_refused, large_in}
+use Rattle.git_date.specs.Groups.{ReadTokens, group_of, day_month_group, group_rule, second_of, third_of, taken_or_refused, large_in}
 use Rattle.git_date.specs.Digits.{Stepped, is_epoch, epoch_rule, bare_digits, by_rule, unless_large, group_or_bare, number_rule, digits_rule}
 use Rattle.git_date.specs.Offsets.{at_text}
 use Rattle.git_date.specs.Reading.{nothing_read, read_on, and_then, ended, rule, steps, reading_of, fields_said, at_or_fields, said_by}

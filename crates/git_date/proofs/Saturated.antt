@@ -1,5 +1,5 @@
 -- Numbers that stop at the greatest.
-use Rattle.std.proofs.Common.{◌≡◌, ◌∙◌, ◌+◌, ◌-◌, ◌*◌, ◌<◌, ◌≤◌, ℕ, List, [], ◌∷◌, min, refl, ap, sym, arith}
+use Rattle.std.proofs.Common.{◌≡◌, ℕ, List, [], ◌∷◌, min, refl, arith}
 use Rattle.std.specs.List.{fold}
 use Rattle.git_date.specs.Numbers.{number, digit_more, max_number}
 use Rattle.git_date.specs.Views.{saturated, digit_at_most}

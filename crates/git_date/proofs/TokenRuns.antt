@@ -1,10 +1,10 @@
 -- What stands first among the tokens of a text.
-use Rattle.std.proofs.Common.{◌≡◌, ◌<◌, ◌≤◌, ℕ, ◌+◌, Bool, true, false, cond, List, [], ◌∷◌, ◌++◌, length, take, drop, get_or, refl, ap, sym, ◌∙◌, append_assoc, arith}
+use Rattle.std.proofs.Common.{◌≡◌, ◌<◌, ◌≤◌, ℕ, ◌+◌, Bool, true, false, cond, List, [], ◌∷◌, length, take, drop, get_or, refl, ap, sym, ◌∙◌, arith}
 use Rattle.std.proofs.Math.Numerals.{one-add}
 use Rattle.std.proofs.lemmas.Bool.Decides.{nat_tests}
 use Rattle.std.specs.List.{prefix_len}
 use Rattle.std.specs.Char.{is_ascii_alphabetic, is_ascii_digit}
-use Rattle.git_date.specs.Tokens.{Token, Letters, Digits, Mark, token_text, letter_before, digit_before, byte_before, tokens, texts}
+use Rattle.git_date.specs.Tokens.{Token, Letters, Digits, Mark, letter_before, digit_before, tokens, texts}
 
 -- the texts of the tokens are the text
 letter-text : (c : ℕ) (ts : List Token) → texts (letter_before c ts) ≡ c ∷ texts ts
@@ -48,7 +48,7 @@ digit-alone c d true (Mark byte ∷ more) = refl
 digit-alone c d false ts = refl
 
 -- a letter, a digit, a mark first
-letter-first : (c : ℕ) (text : List ℕ) → is_ascii_alphabetic c ≡ true → tokens (c ∷ text) ≡ letter_before c (tokens text)
+pub letter-first : (c : ℕ) (text : List ℕ) → is_ascii_alphabetic c ≡ true → tokens (c ∷ text) ≡ letter_before c (tokens text)
 unfolding tokens
 letter-first c text e = ap (λ b. cond b (letter_before c (tokens text)) (cond (is_ascii_digit c) (digit_before c (tokens text)) (Mark c ∷ tokens text))) e
 
@@ -56,7 +56,7 @@ other-first : (c : ℕ) (text : List ℕ) → is_ascii_alphabetic c ≡ false �
 unfolding tokens
 other-first c text e = ap (λ b. cond b (letter_before c (tokens text)) (cond (is_ascii_digit c) (digit_before c (tokens text)) (Mark c ∷ tokens text))) e
 
-digit-first : (c : ℕ) (text : List ℕ) → is_ascii_digit c ≡ true → tokens (c ∷ text) ≡ digit_before c (tokens text)
+pub digit-first : (c : ℕ) (text : List ℕ) → is_ascii_digit c ≡ true → tokens (c ∷ text) ≡ digit_before c (tokens text)
 digit-first c text e =
     let no : is_ascii_alphabetic c ≡ false = grind (arith, nat_tests, e) in
     other-first c text no ∙ ap (λ b. cond b (digit_before c (tokens text)) (Mark c ∷ tokens text)) e

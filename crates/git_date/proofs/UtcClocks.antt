@@ -1,7 +1,6 @@
 -- What the clock of UTC shows.
-use Rattle.std.proofs.Common.{◌≡◌, ◌∙◌, ◌<◌, ◌≤◌, ◌/◌, ◌%◌, ℕ, ℤ, pos, ◌+ℤ◌, Bool, true, false, cond, Some, None, Option, ap, sym, refl, arith, unsigned_abs}
-use Rattle.std.proofs.lemmas.Bool.{and_from as join, false_from_ne_true, true_from_ne_false}
-use Rattle.std.specs.Int.{int_div_euclid, int_rem_euclid}
+use Rattle.std.proofs.Common.{◌≡◌, ◌∙◌, ◌<◌, ◌≤◌, ◌/◌, ◌%◌, ℕ, ℤ, pos, Bool, true, false, cond, Some, None, ap, sym, arith, unsigned_abs}
+use Rattle.std.proofs.lemmas.Bool.{and_from as join, false_from_ne_true}
 use Rattle.jiff_core.proofs.SignedLemmas.{signed_arith}
 use Rattle.jiff_core.specs.Date.{epoch_day}
 use Rattle.jiff_core.specs.declared.civil.date.Date.{Date}

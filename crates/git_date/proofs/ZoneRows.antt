@@ -1,5 +1,5 @@
 -- What a table of zones says, behind references or not.
-use Rattle.std.proofs.Common.{◌≡◌, ℕ, Bool, true, false, cond, List, [], ◌∷◌, map, refl, ap, Option, Some, None, Bor, ℤ, option_map}
+use Rattle.std.proofs.Common.{◌≡◌, ℕ, Bool, true, false, cond, List, [], ◌∷◌, map, refl, Option, Some, Bor, ℤ, option_map}
 use Rattle.std.specs.List.{find}
 use Rattle.git_date.specs.Names.{is_zone_name}
 

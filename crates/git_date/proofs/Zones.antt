@@ -1,7 +1,7 @@
 -- How far a zone's clock is from UTC.
 use Rattle.std.proofs.Common.{◌≡◌, ◌∙◌, ℕ, ℤ, Bool, true, cond, Option, Some, Result, Ok, Err, sym, subst, pos, neg_ℤ, ◌-ℤ◌, ◌*ℤ◌, arith, ap, int_div}
-use Rattle.jiff.specs.Types.{TimeZone, DateTime}
-use Rattle.jiff.specs.Words.{nanos_of_seconds, ambiguous_at, compatible_offset, civil_nanos}
+use Rattle.jiff.specs.Types.{TimeZone}
+use Rattle.jiff.specs.Words.{nanos_of_seconds, ambiguous_at, compatible_offset}
 use Rattle.jiff_core.proofs.SignedLemmas.{signed_arith, one_part}
 use Rattle.jiff_core.specs.Calendar.{IsBetween}
 use Rattle.gix_date.specs.Careful.Dates.{IsLocalTime}

@@ -1,5 +1,5 @@
 -- What was read of a date so far.
-use Rattle.std.specs.Prelude.{ℕ, Bool, false, ◌&&◌, ℤ, nat_le, if◌then◌else◌, Option, Some, None, is_some, is_none}
+use Rattle.std.specs.Prelude.{ℕ, Bool, false, ◌&&◌, nat_le, if◌then◌else◌, Option, Some, None, is_some, is_none}
 use Rattle.git_date.specs.declared.fields.Fields.{Fields}
 
 -- nothing is known

@@ -1,15 +1,15 @@
 -- Groups: two numbers or three, with the same mark between them.
-use Rattle.std.specs.Prelude.{ℕ, Bool, false, ◌||◌, ◌&&◌, List, [], ◌∷◌, ◌==◌, nat_lt, if◌then◌else◌, Option, Some, None, Result, Ok, Err, option_map}
+use Rattle.std.specs.Prelude.{ℕ, Bool, ◌||◌, ◌&&◌, List, ◌∷◌, ◌==◌, nat_lt, if◌then◌else◌, Option, Some, None, option_map}
 use Rattle.std.specs.Option.{option_or}
 use Rattle.gix_date.specs.Text.Characters.{minus, dot, colon}
-use Rattle.git_date.specs.Tokens.{Token, Letters, Digits, Mark, bytes_left}
+use Rattle.git_date.specs.Tokens.{Token, Digits, Mark, bytes_left}
 use Rattle.git_date.specs.Numbers.{number, is_too_large, narrow}
 use Rattle.git_date.specs.Fields.{with_clock, knows_date}
 use Rattle.git_date.specs.Dates.{recent_date, year_date}
 use Rattle.git_date.specs.declared.fields.Fields.{Fields}
 use Rattle.git_date.specs.declared.dates.Now.{Now}
 use Rattle.git_date.specs.declared.dates.Dated.{Dated}
-use Rattle.git_date.specs.declared.dates.Dated.TheVariants.{Taken, Refused, YearRefused}
+use Rattle.git_date.specs.declared.dates.Dated.TheVariants.{Taken, Refused}
 use Rattle.git_date.specs.declared.groups.Number.{Number}
 use Rattle.git_date.specs.declared.groups.Group.{Group}
 

@@ -13,3 +13,4 @@ pub mod Views
 pub mod Computing
 pub mod Lines
 pub mod Moments
+pub mod Printed

@@ -1,5 +1,5 @@
 -- Which texts the moment's instant matters to.
-use Rattle.std.specs.Prelude.{◌≡◌, ℕ, zero, suc, Bool, true, false, not, ◌&&◌, ◌||◌, List, [], ◌∷◌, length, ◌==◌, nat_le, if◌then◌else◌, Option, Some, None, Result, Ok, Err}
+use Rattle.std.specs.Prelude.{◌≡◌, ℕ, zero, suc, Bool, false, not, ◌&&◌, ◌||◌, List, [], ◌∷◌, length, ◌==◌, nat_le, if◌then◌else◌, Option, Some, None, Ok, Err}
 use Rattle.gix_date.specs.Text.Characters.{colon}
 use Rattle.git_date.specs.Digits.{Stepped}
 use Rattle.git_date.specs.Groups.{ReadTokens, group_of}

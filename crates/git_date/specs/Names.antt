@@ -1,5 +1,5 @@
 -- The names of months, days of the week and zones, by their beginnings.
-use Rattle.std.specs.Prelude.{ℕ, ◌+◌, ◌*◌, Bool, ◌&&◌, ◌||◌, List, [], ◌∷◌, length, take, ℤ, pos, neg_ℤ, ◌==◌, nat_le, codes, Option, option_map, is_some}
+use Rattle.std.specs.Prelude.{ℕ, ◌+◌, ◌*◌, Bool, ◌&&◌, ◌||◌, List, [], ◌∷◌, length, take, ℤ, pos, neg_ℤ, nat_le, codes, Option, option_map, is_some}
 use Rattle.std.specs.List.{position, find}
 use Rattle.gix_date.specs.Text.Names.{is_name}
 

@@ -1,5 +1,5 @@
 -- Numbers, as Git keeps them.
-use Rattle.std.specs.Prelude.{ℕ, ◌+◌, ◌-◌, ◌*◌, ◌%◌, ◌^◌, Bool, List, min, nat_lt}
+use Rattle.std.specs.Prelude.{ℕ, ◌+◌, ◌-◌, ◌*◌, ◌%◌, Bool, List, min, nat_lt}
 use Rattle.std.specs.List.{fold}
 use Rattle.gix_date.specs.Text.Characters.{digit_zero}
 

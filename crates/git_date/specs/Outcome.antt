@@ -1,5 +1,5 @@
 -- What a text comes to in a zone.
-use Rattle.std.specs.Prelude.{◌≡◌, ◌<◌, ℕ, ℤ, List, length, IsCharBoundary, pos, neg_ℤ, ◌-ℤ◌, ◌*ℤ◌, Bool, true, if◌then◌else◌, Option, Some, None, IfSome, Result, Ok, Err, int_div}
+use Rattle.std.specs.Prelude.{◌≡◌, ◌<◌, ℕ, ℤ, List, length, IsCharBoundary, pos, neg_ℤ, ◌-ℤ◌, ◌*ℤ◌, true, if◌then◌else◌, Option, Some, None, IfSome, Result, Ok, Err, int_div}
 use Rattle.std.specs.Int.Signed.{le_z}
 use Rattle.jiff.specs.Types.{TimeZone}
 use Rattle.jiff_core.specs.Calendar.{IsBetween}

@@ -1,8 +1,8 @@
-use Rattle.std.proofs.Common.{rules, ◌≡◌, ◌∙◌, ◌≤◌, ◌<◌, ◌^◌, ◌/◌, ◌%◌, sym, ap, refl, arith, ℤ, pos, ◌+ℤ◌, unsigned_abs, FitsSigned, w64, w16, w32}
+use Rattle.std.proofs.Common.{rules, ◌≡◌, ◌∙◌, ◌≤◌, ◌<◌, ◌^◌, ap, arith, ℤ, pos, ◌+ℤ◌, unsigned_abs, FitsSigned, w64, w16}
 use Rattle.std.proofs.lemmas.Int.{to_z-of_z, to_z_pos}
 use mir.Val.{hbits}
 use Rattle.std.specs.Int.{int_div_euclid, int_rem_euclid}
-use Rattle.jiff_core.proofs.SignedLemmas.{signed_arith, one_part}
+use Rattle.jiff_core.proofs.SignedLemmas.{signed_arith}
 use Rattle.gix_date.specs.Families.Epoch.{utc_time}
 use Rattle.gix_date.specs.Printing.LocalClocks.{local_day, second_of_day}
 use Rattle.git_date.proofs.UtcClocks.{no-clock, a-clock, shown-by}

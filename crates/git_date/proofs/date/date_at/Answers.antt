@@ -1,8 +1,7 @@
-use Rattle.std.proofs.Common.{◌≡◌, ◌∙◌, pos, ◌*ℤ◌, true, FitsSigned, w64, w32, sym, ap, rules, arith, refl}
+use Rattle.std.proofs.Common.{◌≡◌, pos, ◌*ℤ◌, true, FitsSigned, w64, w32, rules, arith}
 use Rattle.std.proofs.lemmas.Int.{to_z-of_z}
 use Rattle.std.specs.Int.Signed.{le_z}
 use Rattle.jiff_core.proofs.SignedLemmas.{signed_arith}
-use Rattle.gix_date.specs.declared.time.Time.{Time}
 use Rattle.git_date.specs.Outcome.{instant_seconds}
 use Rattle.git_date.proofs.Zones.{a-date}
 use Rattle.git_date.proofs.date.date_at.Goals as goal

@@ -1,12 +1,10 @@
-use Rattle.std.proofs.Common.{◌≡◌, ◌∙◌, ◌-ℤ◌, pos, int_div, FitsSigned, w64, sym, ap, subst, rules, arith, refl, Some, None}
+use Rattle.std.proofs.Common.{◌≡◌, ◌-ℤ◌, pos, int_div, FitsSigned, w64, sym, subst, rules, arith, refl, Some, None}
 use Rattle.std.proofs.lemmas.Int.{to_z-of_z}
 use Rattle.jiff_core.proofs.SignedLemmas.{signed_arith}
-use Rattle.gix_date.proofs.Fields.Instants.{instant_holds}
 use Rattle.gix_date.specs.Relative.Steps.{zone_of}
 use Rattle.gix_date.specs.Families.Epoch.{utc_time}
-use Rattle.gix_date.specs.Careful.Dates.{IsLocalTime, IsLocalIfAny}
+use Rattle.gix_date.specs.Careful.Dates.{IsLocalTime}
 use Rattle.gix_date.specs.declared.time.Time.{Time}
-use Rattle.git_date.specs.Outcome.{InZone, minutes_to, date_in}
 use Rattle.git_date.proofs.Zones.{local-near, minutes-in}
 use Rattle.git_date.proofs.date.date_in_zone.Goals as goal
 

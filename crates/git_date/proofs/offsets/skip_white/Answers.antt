@@ -1,6 +1,6 @@
-use Rattle.std.proofs.Common.{◌≡◌, ◌∙◌, sym, rules, arith}
+use Rattle.std.proofs.Common.{◌∙◌, sym}
 use Rattle.git_date.specs.Tokens.{token_of}
-use Rattle.git_date.proofs.Whites.{skipped-none, skipped-one, count-at, rest-at, count-none, rest-none}
+use Rattle.git_date.proofs.Whites.{skipped-one, count-at, rest-at, count-none, rest-none}
 use Rattle.git_date.proofs.offsets.skip_white.Goals as goal
 
 pub white-preserved : goal.white-preserved

@@ -1,5 +1,5 @@
-use Rattle.std.proofs.Common.{◌≡◌, ◌∙◌, sym, subst, rules}
-use Rattle.git_date.specs.Tokens.{tokens, token_of}
+use Rattle.std.proofs.Common.{◌∙◌, sym, subst}
+use Rattle.git_date.specs.Tokens.{token_of}
 use Rattle.git_date.specs.declared.reader.Reading.{Reading}
 use Rattle.git_date.proofs.Folds.{Left, left-all, left-none, left-end, left-next, left-refused}
 use Rattle.git_date.proofs.reader.reading_of.Goals as goal

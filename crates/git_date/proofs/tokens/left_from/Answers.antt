@@ -1,4 +1,4 @@
-use Rattle.std.proofs.Common.{◌≡◌, ◌∙◌, ◌+◌, ◌++◌, length, List, ℕ, ap, sym}
+use Rattle.std.proofs.Common.{◌∙◌, ◌+◌, length, List, ℕ, ap, sym}
 use Rattle.std.proofs.Math.ListN.{length-append}
 use Rattle.git_date.specs.Tokens.{tokens, texts}
 use Rattle.git_date.proofs.TokenRuns.{texts-are}
