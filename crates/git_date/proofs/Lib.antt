@@ -5,6 +5,7 @@ pub mod TokenLaws
 pub mod Saturated
 pub mod UtcClocks
 pub mod Zones
+pub mod ModeRows
 pub mod Whites
 pub mod Folds
 pub mod Kept

@@ -14,3 +14,4 @@ pub mod Computing
 pub mod Lines
 pub mod Moments
 pub mod Printed
+pub mod Modes

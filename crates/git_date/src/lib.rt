@@ -22,6 +22,7 @@ mod error;
 mod fault;
 mod fields;
 mod groups;
+mod mode;
 mod names;
 mod numbers;
 mod offsets;
@@ -31,3 +32,4 @@ mod words;
 
 pub use date::{ReadDate, parse_date};
 pub use error::DateError;
+pub use mode::{DateKind, DateMode, UnknownMode};
