@@ -6,6 +6,8 @@ pub mod Saturated
 pub mod UtcClocks
 pub mod Zones
 pub mod ModeRows
+pub mod ShownClocks
+pub mod ShownTexts
 pub mod Whites
 pub mod Folds
 pub mod Kept
@@ -16,3 +18,4 @@ pub mod Recent
 pub mod Printed
 pub mod PrintedBack
 mod ReadRows
+mod ShowRows

@@ -15,3 +15,9 @@ pub mod Lines
 pub mod Moments
 pub mod Printed
 pub mod Modes
+pub mod ShowClocks
+pub mod ShowAges
+pub mod ShowTexts
+pub mod ShowViews
+pub mod ShowHuman
+pub mod Show

@@ -27,9 +27,11 @@ mod names;
 mod numbers;
 mod offsets;
 mod reader;
+mod show;
 mod tokens;
 mod words;
 
 pub use date::{ReadDate, parse_date};
 pub use error::DateError;
 pub use mode::{DateKind, DateMode, UnknownMode};
+pub use show::{DateText, show_date};

@@ -1,0 +1,54 @@
+use Rattle.std.proofs.Common.{rules, ◌≡◌, ◌∙◌, sym, ap, arith, ℤ, pos, unsigned_abs, FitsSigned, w64, w16, w32}
+use Rattle.std.proofs.lemmas.Int.{to_z-of_z}
+use Rattle.std.specs.Int.{int_div_euclid, int_rem_euclid}
+use Rattle.jiff_core.proofs.DateLemmas.{epoch_day_range}
+use Rattle.jiff_core.proofs.CalendarLemmas.{days_in_month_bounds, weekday_number_bound}
+use Rattle.jiff_core.proofs.SignedLemmas.{signed_arith, one_part}
+use Rattle.gix_date.specs.Printing.LocalClocks.{local_day, second_of_day}
+use Rattle.git_date.specs.ShowViews.{HasFields}
+use Rattle.git_date.proofs.ShownClocks.{shown-by}
+use Rattle.git_date.proofs.show.clocks.clock_of.Goals as goal
+
+pub weekday_of-requires : goal.weekday_of-requires
+weekday_of-requires c =
+    let day_fits : FitsSigned w64 c.div_euclid-day.result = search rules in
+    let at = simp to_z-of_z at c.in-Ok.ensures.value in
+    simp to_z-of_z (omega (arith, signed_arith, epoch_day_range c.in-Ok.date, at), omega (arith, signed_arith, epoch_day_range c.in-Ok.date, at))
+
+pub returns-clause-shown : goal.returns-clause-shown
+returns-clause-shown c =
+    let t = c.args.time in
+    let local_fits : FitsSigned w64 c.local_seconds-local.result = search rules in
+    let offset_fits : FitsSigned w32 t.offset = search rules in
+    let a = c.local_seconds-local.ensures in
+    let day_fits : FitsSigned w64 c.div_euclid-day.result = search rules in
+    let year_fits : FitsSigned w16 c.in-Ok.date.year = search rules in
+    let second_fits : FitsSigned w64 c.rem_euclid-second.result = search rules in
+    let div = simp to_z-of_z at c.div_euclid-day.ensures in
+    let day : c.div_euclid-day.result ≡ local_day t = div ∙ ap (λ (n : ℤ). int_div_euclid n (pos 86_400)) a in
+    let at = simp to_z-of_z at c.in-Ok.ensures.value in
+    let r = simp to_z-of_z at c.rem_euclid-second.ensures.value in
+    let second : unsigned_abs c.rem_euclid-second.result ≡ second_of_day t = ap unsigned_abs r ∙ ap (λ (n : ℤ). unsigned_abs (int_rem_euclid n (pos 86_400))) a in
+    let weekday = simp to_z-of_z at c.weekday_of.ensures in
+    let year = simp to_z-of_z at c.unsigned_abs.ensures.value in
+    rw year (simp to_z-of_z (shown-by t c.div_euclid-day.result c.in-Ok.date (unsigned_abs c.rem_euclid-second.result) c.weekday_of.result day at second weekday))
+
+pub returns-clause-fields : goal.returns-clause-fields
+returns-clause-fields c =
+    let t = c.args.time in
+    let date = c.in-Ok.date in
+    let offset_fits : FitsSigned w32 t.offset = search rules in
+    let day_fits : FitsSigned w64 c.div_euclid-day.result = search rules in
+    let year_fits : FitsSigned w16 date.year = search rules in
+    let second_fits : FitsSigned w64 c.rem_euclid-second.result = search rules in
+    let weekday = simp to_z-of_z at c.weekday_of.ensures in
+    let year = simp to_z-of_z at c.unsigned_abs.ensures.value in
+    let year_in = date.year_in in
+    let day_in = date.day_in in
+    simp to_z-of_z (record {
+      weekday = omega (arith, weekday, weekday_number_bound c.div_euclid-day.result);
+      year = omega (arith, signed_arith, one_part date.year, year, year_in);
+      month = date.month_in;
+      day = omega (arith, day_in, days_in_month_bounds date.year date.month);
+      offset = c.requires.offset;
+    })

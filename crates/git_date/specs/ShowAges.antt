@@ -1,0 +1,79 @@
+-- Ages: how long ago a time was, in one unit.
+use Rattle.std.specs.Prelude.{ℕ, ◌+◌, ◌*◌, ◌/◌, ◌%◌, ◌≤◌, ◌==◌, nat_lt, List, [], ◌∷◌, ◌++◌, codes, decimal, ℤ, ◌-ℤ◌, unsigned_abs, if◌then◌else◌}
+use Rattle.std.specs.Int.Signed.{lt_z}
+use Rattle.gix_date.specs.Text.Characters.{space}
+use Rattle.git_date.specs.declared.show.ages.Age.{Age}
+use Rattle.git_date.specs.declared.show.ages.Age.TheVariants.{Seconds, Minutes, Hours, Days, Weeks, Months, Years}
+
+-- a count of a smaller unit in a larger one, rounded half up
+abbrev pub rounded : ℕ → ℕ → ℕ
+rounded n length = (n + length / 2) / length
+
+abbrev pub minutes_of : ℕ → ℕ
+minutes_of seconds = rounded seconds 60
+
+abbrev pub hours_of : ℕ → ℕ
+hours_of seconds = rounded (minutes_of seconds) 60
+
+abbrev pub days_of : ℕ → ℕ
+days_of seconds = rounded (hours_of seconds) 24
+
+-- a year has twelve months of 730 hours
+abbrev pub whole_months : ℕ → ℕ
+whole_months days = rounded (24 * days) 730
+
+-- years and the months beyond them
+abbrev pub in_years_and_months : ℕ → Age
+in_years_and_months months = Years (months / 12) (months % 12)
+
+-- from days on: days below two weeks, weeks below ten, months below a year, years and months below five years, years
+unfoldable pub age_of_days : ℕ → Age
+age_of_days days =
+    if nat_lt days 14 then Days days
+    else (if nat_lt days 70 then Weeks (rounded days 7)
+    else (if nat_lt days 365 then Months (rounded days 30)
+    else (if nat_lt days 1825 then in_years_and_months (whole_months days)
+    else Years ((days + 183) / 365) 0)))
+
+-- seconds below 90, minutes below 90, hours below 36, and then by days
+unfoldable pub age_of : ℕ → Age
+age_of seconds =
+    if nat_lt seconds 90 then Seconds seconds
+    else (if nat_lt (minutes_of seconds) 90 then Minutes (minutes_of seconds)
+    else (if nat_lt (hours_of seconds) 36 then Hours (hours_of seconds)
+    else age_of_days (days_of seconds)))
+
+abbrev pub plural : ℕ → List ℕ
+plural n = if n == 1 then [] else codes "s"
+
+-- a count and its unit: `1 day`, `2 days`
+abbrev pub counted : ℕ → List ℕ → List ℕ
+counted n unit = decimal n ++ space ∷ unit ++ plural n
+
+abbrev pub and_months : ℕ → List ℕ
+and_months months = if months == 0 then [] else codes ", " ++ counted months (codes "month")
+
+abbrev pub age_text : Age → List ℕ
+age_text (Seconds n) = counted n (codes "second")
+age_text (Minutes n) = counted n (codes "minute")
+age_text (Hours n) = counted n (codes "hour")
+age_text (Days n) = counted n (codes "day")
+age_text (Weeks n) = counted n (codes "week")
+age_text (Months n) = counted n (codes "month")
+age_text (Years years months) = counted years (codes "year") ++ and_months months
+
+-- the time `seconds`, as it is shown at `now`
+unfoldable pub relative_text : ℤ → ℤ → List ℕ
+relative_text now seconds =
+    if lt_z now seconds then codes "in the future"
+    else age_text (age_of (unsigned_abs (now -ℤ seconds))) ++ codes " ago"
+
+-- an age of minutes to months is two at least, and one of years one
+abbrev pub IsNoSingle : Age → Type 0
+IsNoSingle (Seconds n) = Unit {0}
+IsNoSingle (Minutes n) = 2 ≤ n
+IsNoSingle (Hours n) = 2 ≤ n
+IsNoSingle (Days n) = 2 ≤ n
+IsNoSingle (Weeks n) = 2 ≤ n
+IsNoSingle (Months n) = 2 ≤ n
+IsNoSingle (Years years months) = 1 ≤ years

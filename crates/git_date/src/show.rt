@@ -1,0 +1,122 @@
+//! Dates as Git shows them.
+ghost use Rattle.std.specs.Prelude.{◌≡◌, ◌<◌, pos, MatchResult, IfSome, option_map, unsigned_abs, false};
+ghost use Rattle.std.specs.Int.Signed.{lt_z};
+ghost use Rattle.git_date.specs.Show.{shown, shown_by, shown_clock, shown_offset, human_shown};
+ghost use Rattle.git_date.specs.ShowClocks.{moment_of};
+ghost use Rattle.git_date.specs.ShowViews.{local_of, HasFields};
+ghost use Rattle.git_date.specs.declared.error.DateError.TheVariants.{Range};
+
+mod ages;
+mod clocks;
+mod dates;
+mod human;
+mod pieces;
+
+use crate::error::DateError;
+use crate::mode::{DateKind, DateMode};
+use ages::relative_text;
+use arrayvec::ArrayString;
+use clocks::{ShownClock, is_written_offset, own_clock, zone_clock};
+use dates::{
+    default_text, iso8601_strict_text, iso8601_text, raw_text, rfc2822_text, short_text, unix_text,
+};
+use gix_date::{Time, Zoned};
+use human::human_text;
+
+/// The most bytes of a shown date: those of [`DateKind::Rfc2822`].
+const MAX_DATE_LEN: usize = 31;
+
+/// A shown date, in a buffer of its own. It is ASCII.
+pub type DateText = ArrayString<MAX_DATE_LEN>;
+
+/// A date as `git log --date=MODE` shows it at this moment.
+///
+/// A mode that is local shows the clock of the moment's zone. Git says the offset of that clock in whole minutes, and as 0
+/// in years outside 1970 to 2099. Other modes show the time's own clock. [`DateKind::Default`] shows no offset of a local
+/// clock, nor of an unknown one (`-0001`).
+///
+/// [`DateError::Range`] for what Git cannot show: a time before 1970; a clock before 1970, if it is the time's own; an own
+/// offset of 100 hours or more, or with seconds. Beyond what Git refuses it is given for a clock after the year 9999, a
+/// local clock at no instant of `jiff`, and a human date at a moment before 1970. [`DateKind::Relative`] and
+/// [`DateKind::Unix`] show every time from 1970 on. Takes no memory.
+pub fn show_date(time: Time, mode: DateMode, now: Zoned<'_>) -> Result<DateText, DateError>
+    ensures { MatchResult result
+        (λ text. shown (moment_of now.entry) mode time ≡ Some text.bytes)
+        (λ e. (e ≡ Range) × (shown (moment_of now.entry) mode time ≡ None)) }
+{
+    match shown(time, mode, now) {
+        Some(text) => Ok(text),
+        None => Err(DateError::Range),
+    }
+}
+
+#[tactic(auto, unfolding(crate::specs::Show::shown))]
+fn shown(time: Time, mode: DateMode, now: Zoned<'_>) -> Option<DateText>
+    ensures { option_map (λ text. text.bytes) result ≡ shown (moment_of now.entry) mode time }
+{
+    if time.seconds < 0 {
+        return None;
+    }
+    shown_by(time, mode, now)
+}
+
+/// The clock by which a time is shown.
+fn shown_clock(time: Time, local: bool, now: Zoned<'_>) -> Option<ShownClock>
+    ensures shown { option_map local_of result ≡ shown_clock (moment_of now.entry) local time }
+    ensures fields { IfSome result HasFields }
+{
+    if local {
+        zone_clock(time.seconds, now)
+    } else {
+        own_clock(time)
+    }
+}
+
+/// The offset that is shown without a clock.
+#[tactic(auto, unfolding(crate::specs::Show::shown_offset))]
+fn shown_offset(time: Time, local: bool, now: Zoned<'_>) -> Option<i32>
+    ensures value { result ≡ shown_offset (moment_of now.entry) local time }
+    ensures short { IfSome result (λ offset. unsigned_abs offset < 360000) }
+{
+    if local {
+        let shown = zone_clock(time.seconds, now)?;
+        return Some(shown.offset);
+    }
+    if is_written_offset(time.offset) {
+        Some(time.offset)
+    } else {
+        None
+    }
+}
+
+/// A human date, by the clock of the time and that of the moment.
+fn human_shown(time: Time, local: bool, now: Zoned<'_>) -> Option<DateText>
+    requires { lt_z time.seconds (pos 0) ≡ false }
+    ensures { option_map (λ text. text.bytes) result ≡ human_shown (moment_of now.entry) local time }
+{
+    let second = now.timestamp().as_second();
+    let shown = shown_clock(time, local, now)?;
+    let today = zone_clock(second, now)?;
+    let age = relative_text(second, time.seconds);
+    Some(human_text(local, shown, today, age))
+}
+
+/// What each kind shows of a time from 1970 on.
+fn shown_by(time: Time, mode: DateMode, now: Zoned<'_>) -> Option<DateText>
+    requires { lt_z time.seconds (pos 0) ≡ false }
+    ensures { option_map (λ text. text.bytes) result
+        ≡ shown_by mode.kind (moment_of now.entry) mode.local time }
+{
+    let text = match mode.kind {
+        DateKind::Relative => relative_text(now.timestamp().as_second(), time.seconds),
+        DateKind::Unix => unix_text(time.seconds),
+        DateKind::Raw => raw_text(time.seconds, shown_offset(time, mode.local, now)?),
+        DateKind::Human => human_shown(time, mode.local, now)?,
+        DateKind::Default => default_text(mode.local, shown_clock(time, mode.local, now)?),
+        DateKind::Short => short_text(shown_clock(time, mode.local, now)?),
+        DateKind::Iso8601 => iso8601_text(shown_clock(time, mode.local, now)?),
+        DateKind::Iso8601Strict => iso8601_strict_text(shown_clock(time, mode.local, now)?),
+        DateKind::Rfc2822 => rfc2822_text(shown_clock(time, mode.local, now)?),
+    };
+    Some(text)
+}

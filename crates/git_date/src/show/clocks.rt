@@ -1,0 +1,151 @@
+//! What clocks show: a time's own, or that of a zone.
+ghost use Rattle.std.specs.Prelude.{◌≡◌, ◌<◌, IfSome, option_map, unsigned_abs};
+ghost use Rattle.jiff_core.specs.Calendar.{weekday_number};
+ghost use Rattle.gix_date.specs.Printing.LocalClocks.{clock_of, local_seconds};
+ghost use Rattle.gix_date.specs.Relative.Steps.{zone_of};
+ghost use Rattle.git_date.specs.Dates.{IsSmall};
+ghost use Rattle.git_date.specs.ShowClocks.{has_own_clock, has_zone_clock, is_written_offset, is_dated, known_offset, own_clock, zone_clock};
+ghost use Rattle.git_date.specs.ShowViews.{local_of, HasFields, IsNearDated};
+
+use gix_date::{Time, Zoned};
+use jiff::Timestamp;
+use jiff_core::civil::Date;
+
+const SECONDS_PER_MINUTE: i32 = 60;
+
+const SECONDS_PER_DAY: i64 = 86_400;
+
+/// The least offset, in seconds, whose hours have three digits.
+const HUNDRED_HOURS: u32 = 360_000;
+
+/// The last second of `jiff`'s instants.
+const LAST_SECOND: i64 = 253_402_207_200;
+
+/// The last second of the year 9999.
+const LAST_OF_YEAR_9999: i64 = 253_402_300_799;
+
+/// What a clock shows, with the day of the week from 0 for Monday, and its offset in seconds.
+#[derive(Clone, Copy)]
+pub(crate) struct ShownClock {
+    pub(crate) weekday: u8,
+    pub(crate) year: u16,
+    pub(crate) month: u8,
+    pub(crate) day: u8,
+    pub(crate) hour: u8,
+    pub(crate) minute: u8,
+    pub(crate) second: u8,
+    pub(crate) offset: i32,
+}
+
+/// Whether Git can write an offset: whole minutes, and below 100 hours.
+pub(crate) fn is_written_offset(offset: i32) -> bool
+    ensures { result ≡ is_written_offset offset }
+{
+    let distance = offset.unsigned_abs();
+    distance < HUNDRED_HOURS && distance % SECONDS_PER_MINUTE as u32 == 0
+}
+
+/// Whether seconds are from 1970 on and of a year of four digits.
+fn is_dated(seconds: i64) -> bool
+    ensures { result ≡ is_dated seconds }
+{
+    0 <= seconds && seconds <= LAST_OF_YEAR_9999
+}
+
+/// The seconds that a time's own clock has counted since 1970.
+fn local_seconds(time: Time) -> i64
+    requires { IsSmall time.seconds }
+    ensures { result ≡ local_seconds time }
+{
+    time.seconds + i64::from(time.offset)
+}
+
+fn has_own_clock(time: Time) -> bool
+    ensures { result ≡ has_own_clock time }
+{
+    is_written_offset(time.offset) && is_dated(time.seconds) && is_dated(local_seconds(time))
+}
+
+/// Whether seconds are from 1970 on and those of an instant.
+fn has_zone_clock(seconds: i64) -> bool
+    ensures { result ≡ has_zone_clock seconds }
+{
+    0 <= seconds && seconds <= LAST_SECOND
+}
+
+/// The day of the week of a day number, from 0 for Monday.
+#[tactic(auto, unfolding(jiff_core::specs::Calendar::weekday_number))]
+fn weekday_of(day: i64) -> u8
+    requires { IsSmall day }
+    ensures { result ≡ weekday_number day }
+{
+    (day + 3).rem_euclid(7) as u8
+}
+
+/// What the clock of such a time shows.
+fn clock_of(time: Time) -> ShownClock
+    requires { IsNearDated time }
+    ensures shown { local_of result ≡ clock_of time }
+    ensures fields { HasFields result }
+{
+    let local = local_seconds(time);
+    let day = local.div_euclid(SECONDS_PER_DAY);
+    let Ok(date) = Date::from_unix_epoch_day(day) else {
+        unreachable!()
+    };
+    let second = local.rem_euclid(SECONDS_PER_DAY) as u32;
+    ShownClock {
+        weekday: weekday_of(day),
+        year: date.year.unsigned_abs(),
+        month: date.month,
+        day: date.day,
+        hour: (second / 3600) as u8,
+        minute: (second % 3600 / 60) as u8,
+        second: (second % 60) as u8,
+        offset: time.offset,
+    }
+}
+
+/// What the time's own clock shows. `None` before 1970, beyond the year 9999, and for an offset that Git cannot write.
+pub(crate) fn own_clock(time: Time) -> Option<ShownClock>
+    ensures shown { option_map local_of result ≡ own_clock time }
+    ensures fields { IfSome result HasFields }
+{
+    if has_own_clock(time) {
+        Some(clock_of(time))
+    } else {
+        None
+    }
+}
+
+/// The offset that Git says of a zone's clock: whole minutes, in the years that Git knows, and else 0.
+fn known_offset(shown: ShownClock) -> i32
+    requires { HasFields shown }
+    ensures value { result ≡ known_offset (local_of shown) }
+    ensures short { unsigned_abs result < 360000 }
+{
+    if 1970 <= shown.year && shown.year <= 2099 {
+        SECONDS_PER_MINUTE * (shown.offset / SECONDS_PER_MINUTE)
+    } else {
+        0
+    }
+}
+
+/// What the clock of the moment's zone shows at an instant. `None` before 1970 and beyond `jiff`'s instants.
+pub(crate) fn zone_clock(seconds: i64, now: Zoned<'_>) -> Option<ShownClock>
+    ensures shown { option_map local_of result ≡ zone_clock (zone_of now.entry) seconds }
+    ensures fields { IfSome result HasFields }
+{
+    if !has_zone_clock(seconds) {
+        return None;
+    }
+    let Ok(instant) = Timestamp::from_second(seconds) else {
+        unreachable!()
+    };
+    let offset = now.time_zone().to_offset(instant);
+    let shown = clock_of(Time::new(seconds, offset.seconds()));
+    Some(ShownClock {
+        offset: known_offset(shown),
+        ..shown
+    })
+}
