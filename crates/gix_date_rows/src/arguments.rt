@@ -1,4 +1,5 @@
 //! The fields of a row, taken one after the other.
+use git_date::DateMode;
 use gix_date::time::Format;
 use gix_date::time::format::{
     DEFAULT, GIT_RFC2822, GITOXIDE, ISO8601, ISO8601_STRICT, RFC2822, SHORT,
@@ -70,6 +71,11 @@ impl<'a> Arguments<'a> {
             "all" => Some(Texts::All),
             _ => None,
         }
+    }
+
+    /// A way in which Git shows dates, by its name.
+    pub(crate) fn mode(&mut self) -> Option<DateMode> {
+        self.text()?.parse().ok()
     }
 
     /// A format, by its name.

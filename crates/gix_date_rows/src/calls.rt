@@ -1,7 +1,7 @@
 //! The calls of rows, each named as in the library.
 use crate::answer::{Answer, name_of};
 use crate::arguments::Arguments;
-use crate::moments::{ignored_place, parsed, parsed_carefully, read_date, zone_of};
+use crate::moments::{ignored_place, parsed, parsed_carefully, read_date, shown_date, zone_of};
 use gix_date::device::Device;
 use gix_date::parsing::TimeBuf;
 use gix_date::time::Format;
@@ -49,13 +49,23 @@ pub(crate) fn answer_to(
             let clock = row.instant()?;
             now_local(zones, clock, row.text()?)
         }
-        call => printed(alloc, call, row).or_else(|| signature(alloc, call, row)),
+        call => printed(alloc, zones, call, row).or_else(|| signature(alloc, call, row)),
     }
 }
 
 /// What a call that prints a time answers.
-fn printed(alloc: Global, call: &str, row: &mut Arguments<'_>) -> Option<Answer> {
+fn printed(
+    alloc: Global,
+    zones: &TimeZoneDatabase,
+    call: &str,
+    row: &mut Arguments<'_>,
+) -> Option<Answer> {
     match call {
+        "show_date" => {
+            let mode = row.mode()?;
+            let moment = row.text()?;
+            shown_date(alloc, zones, mode, moment, row.time()?)
+        }
         "format" => {
             let format = row.format()?;
             Some(format_text(alloc, format, row.time()?))

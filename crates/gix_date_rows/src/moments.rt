@@ -1,6 +1,6 @@
 //! Dates parsed at no moment, at one, or at any.
 use crate::answer::Answer;
-use git_date::{ReadDate, parse_date};
+use git_date::{DateMode, ReadDate, parse_date, show_date};
 use gix_date::{
     CarefulOptions, Error, ParseError, RawOffsets, Time, Zoned, parse, parse_carefully,
     parse_no_alloc, parse_with,
@@ -72,6 +72,24 @@ fn dated(zones: &TimeZoneDatabase, moment: &str, text: &str) -> Option<Result<Re
         Ok(now) => Some(parse_date(text, now?).map_err(Answer::from)),
         Err(refusal) => Some(Err(Answer::Refused(refusal))),
     }
+}
+
+/// What Git shows of a time, at the moment that a field says. `None` where it says none.
+pub(crate) fn shown_date(
+    alloc: Global,
+    zones: &TimeZoneDatabase,
+    mode: DateMode,
+    moment: &str,
+    time: Time,
+) -> Option<Answer> {
+    let shown = match moment_of(zones, moment)? {
+        Ok(now) => show_date(time, mode, now?),
+        Err(refusal) => return Some(Answer::Refused(refusal)),
+    };
+    Some(match shown {
+        Ok(text) => String::from_str(alloc, text.as_str()).into(),
+        Err(refusal) => refusal.into(),
+    })
 }
 
 /// The answer that is the same by each of these rules and the other options.
