@@ -5,7 +5,10 @@ ghost use Rattle.std.specs.Prelude.{◌≡◌};
 ghost use Rattle.git_date.specs.Tokens.{tokens as tokens_of, texts};
 ghost use Rattle.git_date_laws.specs.Laws.{AreApart, IgnoresZone, IgnoresCase, IgnoresLines, IgnoresInstant};
 
+mod shown;
+
 use gix_date::Zoned;
+pub use shown::{mode_named_back, no_single_unit, shown_as_printed};
 
 /// The texts of the tokens are the text, and no two neighbours are both letters or both digits.
 #[tactic(auto, using(git_date::proofs::TokenLaws::text_laws, crate::proofs::Apart::apart))]

@@ -1,0 +1,36 @@
+//! Laws of dates as Git shows them.
+ghost use Rattle.std.specs.Prelude.{◌≡◌, ◌≢◌, Some};
+ghost use Rattle.gix_date.specs.Printing.Formats.{PrintsPattern, PrintsHeader, PrintsSeconds};
+ghost use Rattle.gix_date.specs.Printing.NamedTexts.{short_pattern, iso8601_pattern, iso8601_strict_pattern, git_rfc2822_pattern, default_pattern};
+ghost use Rattle.git_date.specs.Modes.{mode_named, mode_name};
+ghost use Rattle.git_date.specs.ShowAges.{age_of, IsNoSingle};
+ghost use Rattle.git_date.specs.ShowTexts.{unknown_offset};
+ghost use Rattle.git_date.specs.declared.mode.DateKind.TheVariants.{Short, Iso8601, Iso8601Strict, Rfc2822, Default, Raw, Unix};
+ghost use Rattle.git_date_laws.specs.Shown.{IsShownAs};
+
+use git_date::DateMode;
+use gix_date::Time;
+
+/// What seven kinds show of a time by its own clock is what `Time::format` prints, wherever both are defined. Of the default
+/// an unknown offset (`-0001`) is left out.
+pub fn shown_as_printed(time: Time)
+    ensures short { IsShownAs Short (PrintsPattern time short_pattern) time }
+    ensures iso8601 { IsShownAs Iso8601 (PrintsPattern time iso8601_pattern) time }
+    ensures iso8601_strict { IsShownAs Iso8601Strict (PrintsPattern time iso8601_strict_pattern) time }
+    ensures rfc2822 { IsShownAs Rfc2822 (PrintsPattern time git_rfc2822_pattern) time }
+    ensures default { time.offset ≢ unknown_offset → IsShownAs Default (PrintsPattern time default_pattern) time }
+    ensures raw { IsShownAs Raw (PrintsHeader time) time }
+    ensures unix { IsShownAs Unix (PrintsSeconds time) time }
+{}
+
+/// No age is one minute, hour, day, week or month, and none is 0 of these.
+#[tactic(auto, using(crate::proofs::ShownLaws::no_single))]
+pub fn no_single_unit(seconds: u64)
+    ensures { IsNoSingle (age_of seconds) }
+{}
+
+/// Each mode is named by the name that it shows.
+#[tactic(auto, using(crate::proofs::ShownLaws::named_back))]
+pub fn mode_named_back(mode: DateMode)
+    ensures { mode_named (mode_name mode) ≡ Some mode }
+{}
