@@ -7,7 +7,7 @@ use gix_date::{
 };
 use jiff::Timestamp;
 use jiff::tz::{Offset, TimeZone, TimeZoneDatabase};
-use std::alloc::Global;
+use std::alloc::{AllocError, Global};
 
 /// Moments by their seconds and offset, at which a text that is not relative means the same as at none.
 const MOMENTS: [(i64, i32); 5] = [
@@ -87,7 +87,10 @@ pub(crate) fn shown_date(
         Err(refusal) => return Some(Answer::Refused(refusal)),
     };
     Some(match shown {
-        Ok(text) => String::from_str(alloc, text.as_str()).into(),
+        Ok(text) => {
+            let copy: Result<String, AllocError> = String::from_str(alloc, text.as_str());
+            copy.into()
+        }
         Err(refusal) => refusal.into(),
     })
 }
