@@ -66,6 +66,12 @@ name_program() {
     program=$root/$made built=$root/${made%/*}/built_of
 }
 
+# The program that runs rows of outside values.
+name_rows() {
+    made=crates/gix_date_rows/out/gix_date_rows used=''
+    built=$root/${made%/*}/built_of
+}
+
 # Whether all that was built is there, and is of these sources.
 is_current() {
     needs cat find readlink sha256sum sort

@@ -55,6 +55,19 @@ build_program() {
     ./gix_date_tool check </dev/null
 }
 
+# Builds the program of rows, where it is missing or not of these sources.
+build_rows() {
+    (
+        root=$PWD speaker=gix_date_rows
+        . scripts/built.sh
+        name_rows
+        is_current && exit
+        . scripts/progress.sh
+        say "proving and building the program of rows; at most $how_long"
+        build build_crate gix_date_rows run
+    )
+}
+
 # The program's modes, as its help names them.
 modes() {
     ./gix_date_tool --help | sed -nE 's/^([a-z]+) {3,}.*/\1/p'

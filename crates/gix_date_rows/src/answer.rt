@@ -118,6 +118,15 @@ impl From<DateError> for Answer {
     }
 }
 
+impl From<Result<Time, Error>> for Answer {
+    fn from(answer: Result<Time, Error>) -> Answer {
+        match answer {
+            Ok(time) => Answer::Time(time),
+            Err(fault) => Answer::Refused(name_of(&fault)),
+        }
+    }
+}
+
 impl From<Result<String, Error>> for Answer {
     fn from(answer: Result<String, Error>) -> Answer {
         match answer {

@@ -80,17 +80,22 @@ impl<'a> Arguments<'a> {
 
     /// A format, by its name.
     pub(crate) fn format(&mut self) -> Option<Format> {
-        Some(match self.text()? {
-            "SHORT" => SHORT.into(),
-            "RFC2822" => RFC2822.into(),
-            "GIT_RFC2822" => GIT_RFC2822.into(),
-            "ISO8601" => ISO8601.into(),
-            "ISO8601_STRICT" => ISO8601_STRICT.into(),
-            "GITOXIDE" => GITOXIDE.into(),
-            "DEFAULT" => DEFAULT.into(),
-            "UNIX" => Format::Unix,
-            "RAW" => Format::Raw,
-            _ => return None,
-        })
+        format_of(self.text()?)
     }
+}
+
+/// The format of this name.
+pub(crate) fn format_of(name: &str) -> Option<Format> {
+    Some(match name {
+        "SHORT" => SHORT.into(),
+        "RFC2822" => RFC2822.into(),
+        "GIT_RFC2822" => GIT_RFC2822.into(),
+        "ISO8601" => ISO8601.into(),
+        "ISO8601_STRICT" => ISO8601_STRICT.into(),
+        "GITOXIDE" => GITOXIDE.into(),
+        "DEFAULT" => DEFAULT.into(),
+        "UNIX" => Format::Unix,
+        "RAW" => Format::Raw,
+        _ => return None,
+    })
 }

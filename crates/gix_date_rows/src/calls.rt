@@ -144,7 +144,7 @@ fn header_text(alloc: Global, time: Time) -> Answer {
 }
 
 /// The time of the zoned value of a time.
-fn converted(time: Time) -> Answer {
+pub(crate) fn converted(time: Time) -> Answer {
     match time.to_zoned() {
         Ok(zoned) => Answer::Time(Time::new(
             zoned.timestamp().as_second(),

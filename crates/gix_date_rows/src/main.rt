@@ -3,7 +3,7 @@
 //! Its words are names of files. A file `NAME.tzif` is a zone, which the rows of later files name so. Each other file holds rows,
 //! one a line: a call, its arguments and the answer that is due, cut by tabs. `calls` has the calls, and `escapes` says how a byte
 //! is written that cannot stand in a field. A refusal is due where the last field is `!` and its name. A line that is empty or
-//! begins with `#` is no row.
+//! begins with `#` is no row. Without words it makes one call that standard input asks for (`single`).
 #![tactic(auto)]
 
 mod answer;
@@ -12,14 +12,26 @@ mod calls;
 mod escapes;
 mod moments;
 mod rows;
+mod single;
 
 use jiff::tz::TimeZoneDatabase;
 use rows::{Outcome, outcome_of};
+use single::make_call;
+use std::env::FillError;
 use std::process::ExitCode;
-use std::rt::Files;
+use std::rt::{Env, Files};
 use std::{env, fs, io};
 
 fn main(rt: HostRuntime) -> io::Result<ExitCode> {
+    // A list of the words takes memory, which is for a single call alone.
+    if matches!(rt.arg(1, &mut [0]), Err(FillError::NotPresent)) {
+        return Ok(make_call(rt));
+    }
+    run_files(rt)
+}
+
+/// Runs the rows of the files that the words name.
+fn run_files(rt: HostRuntime) -> io::Result<ExitCode> {
     let mut zones = TimeZoneDatabase::new(rt.alloc());
     let mut do_agree = true;
     for name in env::args(&rt)?.skip(1) {

@@ -1,8 +1,8 @@
 //! Command lines, and how the program ends over readers and writers that fail.
+use crate::fakes::{KINDS, Slow, Supply};
 use crate::harness::{executed, words_of};
 use gix_date::Time;
 use gix_date::device::Device;
-use gix_date_fakes::{KINDS, Slow, Supply};
 use gix_date_tool::{Mode, Status, ToolError, command, show_usage};
 use std::alloc::AllocError;
 use std::io::ErrorKind;

@@ -1,7 +1,7 @@
 //! Devices over writers and readers that fail, and what is written to them.
+use crate::fakes::{Dribble, KINDS, Slow, Supply};
 use gix_date::device::{Device, Sink, Source, put_all};
 use gix_date::{Error, Time};
-use gix_date_fakes::{Dribble, KINDS, Slow, Supply};
 use std::io::ErrorKind;
 use std::test::Fail;
 

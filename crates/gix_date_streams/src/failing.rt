@@ -1,7 +1,7 @@
 //! Each write and each read failing in its turn, writes of every length, and a line without end.
+use crate::fakes::{Halting, Slow, Supply};
 use gix_date::device::Device;
 use gix_date::{Error, Time};
-use gix_date_fakes::{Halting, Slow, Supply};
 use gix_date_tool::{Mode, ToolError, run};
 use std::io::ErrorKind;
 

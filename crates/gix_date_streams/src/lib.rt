@@ -7,6 +7,7 @@ mod commands;
 mod devices;
 #[cfg(test)]
 mod failing;
+pub mod fakes;
 pub mod harness;
 #[cfg(test)]
 mod memory;

@@ -1,8 +1,8 @@
 //! Runs and calls where each request for memory is refused. What the calls of single texts ask for, `tests/memory` counts.
+use crate::fakes::{Hoarder, Small, Supply, take_all};
 use crate::harness::{executed, words_of};
 use gix_date::device::Device;
 use gix_date::{Error, Time, parse};
-use gix_date_fakes::{Hoarder, Small, Supply, take_all};
 use gix_date_tool::{Mode, Status, ToolError, command, run};
 use std::str;
 use std::test::Fail;
