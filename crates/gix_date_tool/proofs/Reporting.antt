@@ -1,14 +1,14 @@
 -- What the program says, as one line.
-use Rattle.std.proofs.Common.{◌≡◌, ◌∙◌, refl, ℕ, List, [], ◌∷◌, ◌++◌, sym, ap, subst, append_assoc, append-nil, inl, inr, Option, Some, Result, Ok, Err}
+use Rattle.std.proofs.Common.{◌≡◌, ◌∙◌, refl, ℕ, List, [], ◌∷◌, ◌++◌, sym, ap, subst, append_assoc, append-nil, inl, inr, Result, Ok, Err}
 use Rattle.std.specs.Prelude.{OnOk, IsSome, codes}
 use Rattle.std.specs.declared.io.ErrorKind.{ErrorKind}
 use Rattle.gix_date.specs.Text.Characters.{newline}
 use Rattle.gix_date.specs.Devices.StreamState.{Takes, TakesProperPrefix}
-use Rattle.gix_date_tool.specs.declared.arguments.NoMoment.{NoMoment}
+use Rattle.gix_date_tool.specs.declared.arguments.WrongWords.{WrongWords}
 use Rattle.gix_date_tool.specs.declared.error.ToolError.{ToolError}
 use Rattle.gix_date_tool.specs.declared.outcome.Outcome.{Outcome}
-use Rattle.gix_date_tool.specs.declared.outcome.Outcome.TheVariants.{Fault}
-use Rattle.gix_date_tool.specs.Messages.{fault_words, cause_words, no_moment_words, message, message_of, message_why, WritesMessage, Reports}
+use Rattle.gix_date_tool.specs.declared.outcome.Outcome.TheVariants.{Fault, Shown}
+use Rattle.gix_date_tool.specs.Messages.{fault_words, cause_words, wrong_words, message, message_of, WritesMessage, Reports}
 use Rattle.gix_date_tool.specs.Outbox.{Output, Puts, PutsProperPrefix, Sends}
 use Rattle.gix_date_tool.specs.Run.{Change, change}
 use Rattle.gix_date_tool.proofs.Sending.{Puts-sent, PutsProperPrefix-sent}
@@ -37,9 +37,9 @@ fault-reported telling outcome fault words cause is w k said =
     ∙ ap (λ xs. codes "gix_date_tool: " ++ xs) (sym (append_assoc (fault_words fault) (cause_words fault) (newline ∷ []))) in
     subst (λ e. Reports telling (message_of e)) (sym is) (subst (WritesMessage telling) whole said)
 
--- those of a text that is not a moment
-pub moment-reported : (telling : Change) (given : Option NoMoment) (why : NoMoment) (words : List ℕ)
-    → given ≡ Some why → words ≡ no_moment_words why
-    → WritesMessage telling (codes "gix_date_tool: " ++ (words ++ newline ∷ [])) → Reports telling (message_why given)
-moment-reported telling given why words is w said =
-    subst (λ o. Reports telling (message_why o)) (sym is) (subst (λ xs. WritesMessage telling (message xs)) w said)
+-- those of what is wrong with the words
+pub usage-reported : (telling : Change) (outcome : Outcome) (why : WrongWords) (words : List ℕ)
+    → outcome ≡ Shown why → words ≡ wrong_words why
+    → WritesMessage telling (codes "gix_date_tool: " ++ (words ++ newline ∷ [])) → Reports telling (message_of outcome)
+usage-reported telling outcome why words is w said =
+    subst (λ e. Reports telling (message_of e)) (sym is) (subst (λ xs. WritesMessage telling (message xs)) w said)

@@ -1,7 +1,7 @@
 -- What the words of a command line ask for.
 use Rattle.std.specs.Prelude.{◌≡◌, ℕ, List, [], ◌∷◌, Option, Some, None, Result, Ok, Err, if◌then◌else◌, codes}
-use Rattle.std.specs.Option.{option_map, ForSome}
-use Rattle.std.specs.Result.{result_ok, result_err}
+use Rattle.std.specs.Option.{ForSome}
+use Rattle.std.specs.Result.{result_ok}
 use Rattle.std.specs.Str.{bytes_eq}
 use Rattle.gix_date.specs.Families.Answer.{FamilyAnswer, Absolute, OffsetAboveDay, NoInstant}
 use Rattle.gix_date.specs.Families.Answer as answers
@@ -12,6 +12,8 @@ use Rattle.gix_date.specs.declared.time.Time.{Time}
 use Rattle.gix_date_tool.specs.declared.arguments.Mode.{Mode}
 use Rattle.gix_date_tool.specs.declared.arguments.NoMoment.{NoMoment}
 use Rattle.gix_date_tool.specs.declared.arguments.NoMoment.TheVariants.{UnknownFormat, RawOffset, DateConversion, Relative, Conversion}
+use Rattle.gix_date_tool.specs.declared.arguments.WrongWords.{WrongWords}
+use Rattle.gix_date_tool.specs.declared.arguments.WrongWords.TheVariants.{NoMode, UnknownMode, NowWithoutParse, AfterNow, NoMoment as NoMomentIn}
 use Rattle.gix_date_tool.specs.declared.arguments.Request.{Request}
 use Rattle.gix_date_tool.specs.declared.arguments.Request.TheVariants.{Run, Usage}
 use Rattle.gix_date_tool.specs.declared.arguments.Mode.TheVariants.{Check, Parse, Sign}
@@ -41,25 +43,38 @@ moment_of_answer unread (Some (answers.Relative date)) = Err Relative
 abbrev pub moment_or_why : List ℕ → Result Time NoMoment
 moment_or_why now = moment_of_answer (why_unread (first_family_by is_minute_offset now)) (first_family now)
 
--- one word, which names a mode, or `parse` and a moment
+-- what `parse` asks for at a moment, or why there is none
+abbrev pub at_moment : Result Time NoMoment → Result (Mode × Option Time) WrongWords
+at_moment (Ok t) = Ok (Parse, Some t)
+at_moment (Err why) = Err (NoMomentIn why)
+
+-- what a mode with these words after it asks for: `parse` alone takes one more
+abbrev pub asked_of : Mode → List (List ℕ) → Result (Mode × Option Time) WrongWords
+asked_of mode [] = Ok (mode, None)
+asked_of Parse (now ∷ []) = at_moment (moment_or_why now)
+asked_of Parse (now ∷ next ∷ more) = Err AfterNow
+asked_of Check (now ∷ more) = Err NowWithoutParse
+asked_of Sign (now ∷ more) = Err NowWithoutParse
+
+abbrev pub asked_by : Option Mode → List (List ℕ) → Result (Mode × Option Time) WrongWords
+asked_by None more = Err UnknownMode
+asked_by (Some mode) more = asked_of mode more
+
+-- what the words of a command line ask for, or what is wrong with them
+abbrev pub asked : List (List ℕ) → Result (Mode × Option Time) WrongWords
+asked [] = Err NoMode
+asked (word ∷ more) = asked_by (mode_of word) more
+
 abbrev pub command_of : List (List ℕ) → Option (Mode × Option Time)
-command_of [] = None
-command_of (word ∷ []) = option_map (λ mode. (mode, None)) (mode_of word)
-command_of (word ∷ now ∷ []) =
-    if bytes_eq word (codes "parse")
-    then option_map (λ t. (Parse, Some t)) (result_ok (moment_or_why now)) else None
-command_of (word ∷ now ∷ next ∷ more) = None
+command_of words = result_ok (asked words)
 
--- why the second of two words is no moment, where the first is `parse`
-abbrev pub no_moment : List (List ℕ) → Option NoMoment
-no_moment (word ∷ now ∷ []) =
-    if bytes_eq word (codes "parse") then result_err (moment_or_why now) else None
-no_moment _ = None
+-- the request asks for the same, or says what is wrong
+abbrev pub IsAnswer : Result (Mode × Option Time) WrongWords → Request → Type 0
+IsAnswer wanted (Run mode now) = wanted ≡ Ok (mode, now)
+IsAnswer wanted (Usage why) = wanted ≡ Err why
 
--- The request asks for the same, and says why NOW is no moment where the usage line is due.
 abbrev pub IsRequest : List (List ℕ) → Request → Type 0
-IsRequest words (Run mode now) = command_of words ≡ Some (mode, now)
-IsRequest words (Usage why) = (command_of words ≡ None) × (why ≡ no_moment words)
+IsRequest words request = IsAnswer (asked words) request
 
 -- a run that is asked for may be made
 abbrev pub IsRunnable : Request → Type 0

@@ -1,10 +1,11 @@
 -- What the program says on standard error.
 use Rattle.std.specs.Prelude.{◌≡◌, ◌⊎◌, ℕ, List, [], ◌∷◌, ◌++◌, Option, None, Some, IsSome, codes}
-use Rattle.std.specs.Option.{option_map}
 use Rattle.gix_date.specs.Text.Characters.{newline}
 use Rattle.gix_date.specs.Devices.StreamState.{Takes, TakesProperPrefix}
 use Rattle.gix_date_tool.specs.declared.arguments.NoMoment.{NoMoment}
 use Rattle.gix_date_tool.specs.declared.arguments.NoMoment.TheVariants.{UnknownFormat, RawOffset, DateConversion, Relative, Conversion}
+use Rattle.gix_date_tool.specs.declared.arguments.WrongWords.{WrongWords}
+use Rattle.gix_date_tool.specs.declared.arguments.WrongWords.TheVariants as wrong
 use Rattle.gix_date_tool.specs.declared.error.ToolError.{ToolError}
 use Rattle.gix_date_tool.specs.declared.error.ToolError.TheVariants as errors
 use Rattle.gix_date_tool.specs.declared.outcome.Outcome.{Outcome}
@@ -34,18 +35,23 @@ no_moment_words DateConversion = codes "NOW is beyond the last instant that can 
 no_moment_words Relative = codes "NOW is a relative date, and has no moment to count from"
 no_moment_words Conversion = codes "NOW is too far from 1970"
 
+-- what is wrong with the words of a command line
+abbrev pub wrong_words : WrongWords → List ℕ
+wrong_words wrong.NoMode = codes "MODE is missing; expected check, parse or sign"
+wrong_words wrong.UnknownMode = codes "MODE is none of check, parse and sign"
+wrong_words wrong.NowWithoutParse = codes "only parse takes a word after it, NOW"
+wrong_words wrong.AfterNow = codes "a word stands after NOW; quote a date of several words"
+wrong_words wrong.NotText = codes "a word is not UTF-8"
+wrong_words (wrong.NoMoment why) = no_moment_words why
+
 -- one line, after the program's name
 abbrev pub message : List ℕ → List ℕ
 message words = codes "gix_date_tool: " ++ words ++ newline ∷ []
 
--- what is said of a text that is not a moment
-abbrev pub message_why : Option NoMoment → Option (List ℕ)
-message_why why = option_map (λ w. message (no_moment_words w)) why
-
--- what is said of an end, where anything is: the fault, or why NOW is no moment
+-- what is said of an end, where anything is: the fault, or what is wrong with the words
 abbrev pub message_of : Outcome → Option (List ℕ)
 message_of (Fault fault) = Some (message (fault_words fault ++ cause_words fault))
-message_of (Shown why) = message_why why
+message_of (Shown why) = Some (message (wrong_words why))
 message_of _ = None
 
 -- The text was taken, or the sink has a fault and a proper prefix of it was.

@@ -1,16 +1,17 @@
 -- What the program does with a command line.
-use Rattle.std.specs.Prelude.{◌≡◌, ℕ, List, Option, Some, None, Ok, Err}
+use Rattle.std.specs.Prelude.{◌≡◌, ℕ, List, Option, Some, Result, Ok, Err}
 use Rattle.gix_date.specs.Devices.StreamState.{Takes, TakesProperPrefix}
 use Rattle.gix_date.specs.declared.time.Time.{Time}
 use Rattle.gix_date_tool.specs.declared.arguments.Mode.{Mode}
-use Rattle.gix_date_tool.specs.declared.arguments.NoMoment.{NoMoment}
+use Rattle.gix_date_tool.specs.declared.arguments.WrongWords.{WrongWords}
+use Rattle.gix_date_tool.specs.declared.arguments.WrongWords.TheVariants.{NotText}
 use Rattle.gix_date_tool.specs.declared.error.ToolError.TheVariants as errors
 use Rattle.gix_date_tool.specs.declared.outcome.Outcome.{Outcome}
 use Rattle.gix_date_tool.specs.declared.outcome.Outcome.TheVariants.{Replied, Fault, Shown}
 use Rattle.gix_date_tool.specs.declared.program.Status.{Status}
 use Rattle.gix_date_tool.specs.declared.program.Status.TheVariants.{Success, Failure, Usage}
 use Rattle.gix_date_tool.specs.declared.program.TheConstants.{USAGE}
-use Rattle.gix_date_tool.specs.Command.{command_of, no_moment}
+use Rattle.gix_date_tool.specs.Command.{asked}
 use Rattle.gix_date_tool.specs.Messages.{message_of, Reports}
 use Rattle.gix_date_tool.specs.Run.{Change, Runs}
 
@@ -27,7 +28,7 @@ status_of (Fault fault) = Failure
 status_of (Shown why) = Usage
 
 -- The usage line was written, or the writer has a fault and a proper prefix of it was.
-abbrev pub EndsInUsage : Option NoMoment → Change → Outcome → Type 0
+abbrev pub EndsInUsage : WrongWords → Change → Outcome → Type 0
 EndsInUsage why writing (Shown told) = Takes writing.old writing.new USAGE.now × (told ≡ why)
 EndsInUsage why writing (Fault (errors.Write kind)) =
     TakesProperPrefix writing.old writing.new USAGE.now × (writing.new.fault ≡ Some kind)
@@ -39,15 +40,14 @@ EndsRun query reading writing Replied = (count : ℕ) × Runs query.0 query.1 re
 EndsRun query reading writing (Fault fault) = Runs query.0 query.1 reading writing (Err fault)
 EndsRun query reading writing _ = ⊥
 
--- What the program comes to by what was asked of it: the usage line is due where that is nothing it has, and then
--- nothing is read.
-abbrev pub EndsCommand : Option (Mode × Option Time) → Option NoMoment → Change → Change → Outcome → Type 0
-EndsCommand None why reading writing outcome = (reading.new ≡ reading.old) × EndsInUsage why writing outcome
-EndsCommand (Some query) why reading writing outcome = EndsRun query reading writing outcome
+-- What the program comes to by what was asked of it: the usage line is due where words are wrong, and then nothing is read.
+abbrev pub EndsCommand : Result (Mode × Option Time) WrongWords → Change → Change → Outcome → Type 0
+EndsCommand (Err why) reading writing outcome = (reading.new ≡ reading.old) × EndsInUsage why writing outcome
+EndsCommand (Ok query) reading writing outcome = EndsRun query reading writing outcome
 
 -- What the program comes to by the words of its command line.
 abbrev pub Ends : List (List ℕ) → Change → Change → Outcome → Type 0
-Ends words reading writing outcome = EndsCommand (command_of words) (no_moment words) reading writing outcome
+Ends words reading writing outcome = EndsCommand (asked words) reading writing outcome
 
 -- What was said, and the status, are those of such an end.
 pub record Executes (words : List (List ℕ)) (reading writing telling : Change) (status : Status) : Type 0 where
@@ -56,9 +56,9 @@ pub record Executes (words : List (List ℕ)) (reading writing telling : Change)
   pub reports : Reports telling (message_of outcome)
   pub status_is : status ≡ status_of outcome
 
--- What was said, and the status, are those of an end that owes the usage line.
+-- What was said, and the status, are those of an end that owes the usage line since a word is not UTF-8.
 pub record ShowsUsage (writing telling : Change) (status : Status) : Type 0 where
   pub outcome : Outcome
-  pub ends : EndsInUsage None writing outcome
+  pub ends : EndsInUsage NotText writing outcome
   pub reports : Reports telling (message_of outcome)
   pub status_is : status ≡ status_of outcome

@@ -4,8 +4,8 @@ ghost use Rattle.std.specs.Option.{ForSome};
 ghost use Rattle.gix_date.specs.Families.Order.{first_family_by};
 ghost use Rattle.gix_date.specs.Families.Raw.{is_minute_offset};
 ghost use Rattle.gix_date.specs.Fields.Zoned.{IsConvertible};
-ghost use Rattle.gix_date_tool.specs.Messages.{no_moment_words};
-ghost use Rattle.gix_date_tool.specs.Command.{command_of, moment_or_why, why_unread, IsRequest, IsRunnable};
+ghost use Rattle.gix_date_tool.specs.Messages.{no_moment_words, wrong_words};
+ghost use Rattle.gix_date_tool.specs.Command.{command_of, mode_of, asked_of, moment_or_why, why_unread, IsAnswer, IsRequest, IsRunnable};
 
 use crate::error::ToolError;
 use gix_date::{ParseError, RawOffsets, Time, parse_no_alloc};
@@ -27,8 +27,41 @@ pub enum Mode {
 pub(crate) enum Request {
     /// A run in this mode, at this moment where there is one.
     Run(Mode, Option<Time>),
-    /// The usage line, and why NOW is no moment where that is all that is wrong.
-    Usage(Option<NoMoment>),
+    /// The usage line, for this reason.
+    Usage(WrongWords),
+}
+
+/// What is wrong with the words of a command line.
+#[derive(Clone, Copy)]
+pub(crate) enum WrongWords {
+    /// There is no word.
+    NoMode,
+    /// The first word is no mode.
+    UnknownMode,
+    /// A word stands after a mode that takes no NOW.
+    NowWithoutParse,
+    /// A word stands after NOW.
+    AfterNow,
+    /// A word is not UTF-8.
+    NotText,
+    /// NOW is no moment.
+    NoMoment(NoMoment),
+}
+
+impl WrongWords {
+    /// What is said of it.
+    pub(crate) fn text(self) -> &'static str
+        ensures { result.now ≡ wrong_words self }
+    {
+        match self {
+            WrongWords::NoMode => "MODE is missing; expected check, parse or sign",
+            WrongWords::UnknownMode => "MODE is none of check, parse and sign",
+            WrongWords::NowWithoutParse => "only parse takes a word after it, NOW",
+            WrongWords::AfterNow => "a word stands after NOW; quote a date of several words",
+            WrongWords::NotText => "a word is not UTF-8",
+            WrongWords::NoMoment(why) => why.text(),
+        }
+    }
 }
 
 /// Why NOW is no moment.
@@ -88,15 +121,42 @@ pub(crate) fn read_words(words: &[String]) -> Request
     ensures is { IsRequest (map string_bytes words.now) result }
     ensures runnable { IsRunnable result }
 {
-    match words {
-        [mode] if mode.as_str() == "check" => Request::Run(Mode::Check, None),
-        [mode] if mode.as_str() == "parse" => Request::Run(Mode::Parse, None),
-        [mode] if mode.as_str() == "sign" => Request::Run(Mode::Sign, None),
-        [mode, now] if mode.as_str() == "parse" => match moment(now.as_str()) {
+    let [word, more @ ..] = words else {
+        return Request::Usage(WrongWords::NoMode);
+    };
+    match mode_named(word.as_str()) {
+        Some(mode) => request_of(mode, more),
+        None => Request::Usage(WrongWords::UnknownMode),
+    }
+}
+
+fn mode_named(word: &str) -> Option<Mode>
+    ensures { result ≡ mode_of word.now }
+{
+    if word == "check" {
+        Some(Mode::Check)
+    } else if word == "parse" {
+        Some(Mode::Parse)
+    } else if word == "sign" {
+        Some(Mode::Sign)
+    } else {
+        None
+    }
+}
+
+/// What a mode with these words after it asks for.
+fn request_of(mode: Mode, more: &[String]) -> Request
+    ensures is { IsAnswer (asked_of mode (map string_bytes more.now)) result }
+    ensures runnable { IsRunnable result }
+{
+    match (mode, more) {
+        (_, []) => Request::Run(mode, None),
+        (Mode::Parse, [now]) => match moment(now.as_str()) {
             Ok(now) => Request::Run(Mode::Parse, Some(now)),
-            Err(why) => Request::Usage(Some(why)),
+            Err(why) => Request::Usage(WrongWords::NoMoment(why)),
         },
-        _ => Request::Usage(None),
+        (Mode::Parse, _) => Request::Usage(WrongWords::AfterNow),
+        _ => Request::Usage(WrongWords::NowWithoutParse),
     }
 }
 

@@ -1,10 +1,9 @@
 //! What the program says of its end.
 ghost use Rattle.std.specs.Prelude.{◌≡◌};
-ghost use Rattle.gix_date_tool.specs.Messages.{message_of, message_why, WritesMessage, Reports};
+ghost use Rattle.gix_date_tool.specs.Messages.{message_of, WritesMessage, Reports};
 ghost use Rattle.gix_date_tool.specs.Outbox.{pieces_text};
 ghost use Rattle.gix_date_tool.specs.Run.{change};
 
-use crate::arguments::NoMoment;
 use crate::outbox::Outbox;
 use crate::outcome::Outcome;
 use gix_date::device::Sink;
@@ -21,18 +20,8 @@ pub(crate) fn report<M: Sink>(outcome: &Outcome, messages: &mut M)
             &[PREFIX, fault.text(), fault.cause(), "\n"],
             messages,
         ),
-        Outcome::Shown(why) => report_why(*why, messages),
+        Outcome::Shown(why) => write_message(&[PREFIX, why.text(), "\n"], messages),
         Outcome::Replied => {}
-    }
-}
-
-/// Says in one line why NOW is no moment, where that was wrong.
-fn report_why<M: Sink>(why: Option<NoMoment>, messages: &mut M)
-    ensures { Reports (change (M.known messages.old) (M.known messages.new)) (message_why why) }
-{
-    match why {
-        Some(why) => write_message(&[PREFIX, why.text(), "\n"], messages),
-        None => {}
     }
 }
 

@@ -1,5 +1,5 @@
 //! How the program ends.
-use crate::arguments::NoMoment;
+use crate::arguments::WrongWords;
 use crate::error::ToolError;
 
 /// How the program ends, before its status and message.
@@ -9,6 +9,6 @@ pub(crate) enum Outcome {
     Replied,
     /// The run has this fault, or the writer refused the usage line.
     Fault(ToolError),
-    /// The usage line was written, and this is why NOW is no moment, where that was all that was wrong.
-    Shown(Option<NoMoment>),
+    /// The usage line was written, for this reason.
+    Shown(WrongWords),
 }

@@ -3,7 +3,7 @@ ghost use Rattle.std.specs.Prelude.{◌≡◌, map, string_bytes};
 ghost use Rattle.gix_date_tool.specs.Run.{change};
 ghost use Rattle.gix_date_tool.specs.Program.{code_of, status_of, EndsInUsage, Ends, ShowsUsage, Executes};
 
-use crate::arguments::{NoMoment, Request, read_words};
+use crate::arguments::{Request, WrongWords, read_words};
 use crate::error::ToolError;
 use crate::messages::report;
 use crate::outcome::Outcome;
@@ -44,7 +44,7 @@ impl Status {
 /// [`Status::Failure`] if the run has a fault, or the usage line is not written. Takes memory as [`run`] does.
 ///
 /// One line is put into the messages: after the program's name the text of the run's fault, or of the writer's that
-/// refused the usage line, or why NOW is no moment. Else they are not called, and what they refuse changes nothing.
+/// refused the usage line, or what is wrong with the words. Else they are not called, and what they refuse changes nothing.
 pub fn execute<R: Source, W: Sink, M: Sink>(
     alloc: Global,
     words: &[String],
@@ -61,12 +61,13 @@ pub fn execute<R: Source, W: Sink, M: Sink>(
     status_of(&outcome)
 }
 
-/// Writes the usage line. [`Status::Failure`] if the writer refuses; its fault then goes into the messages.
+/// Writes the usage line for a command line with a word that is not UTF-8, and puts that into the messages.
+/// [`Status::Failure`] if the writer refuses; its fault then goes into the messages.
 pub fn show_usage<W: Sink, M: Sink>(writer: &mut W, messages: &mut M) -> Status
     ensures { ShowsUsage (change (W.known writer.old) (W.known writer.new))
         (change (M.known messages.old) (M.known messages.new)) result }
 {
-    let outcome = usage_outcome(writer, None);
+    let outcome = usage_outcome(writer, WrongWords::NotText);
     report(&outcome, messages);
     status_of(&outcome)
 }
@@ -91,7 +92,7 @@ fn dispatch<R: Source, W: Sink>(
 }
 
 /// Writes the usage line.
-fn usage_outcome<W: Sink>(writer: &mut W, why: Option<NoMoment>) -> Outcome
+fn usage_outcome<W: Sink>(writer: &mut W, why: WrongWords) -> Outcome
     ensures { EndsInUsage why (change (W.known writer.old) (W.known writer.new)) result }
 {
     match put_all(writer, USAGE) {
