@@ -1,5 +1,5 @@
 -- ISO 8601, or its strict form, and one of Git's own forms say the same of a text that both hold.
-use Rattle.std.proofs.Common.{◌≡◌, ◌∙◌, ◌<◌, ◌≤◌, ℕ, ℤ, pos, Bool, true, false, cond, List, [], ◌∷◌, ◌++◌, length, refl, ap, sym, subst, arith, append-nil, append_assoc, length-append, Some, None, Option, option_map, is_some, unsigned_abs, IsAscii, IsUtf8, inl, inr, ◌⊎◌, encode_utf8_all, get_or, zero, suc}
+use Rattle.std.proofs.Common.{◌≡◌, ◌∙◌, ◌<◌, ◌≤◌, ℕ, ℤ, Bool, true, false, cond, List, [], ◌∷◌, ◌++◌, length, refl, ap, sym, subst, arith, append-nil, append_assoc, length-append, Some, None, Option, option_map, is_some, unsigned_abs, IsAscii, IsUtf8, inl, inr, ◌⊎◌, encode_utf8_all, get_or}
 use Rattle.std.proofs.lemmas.Option.{cond_some as guard, same_Some as same_some}
 use Rattle.std.proofs.lemmas.Bool.{or_right, and_parts as both, and_from as join, not-true as not_is}
 use Rattle.std.proofs.lemmas.Bool.Decides.{nat_tests}
@@ -8,25 +8,23 @@ use Rattle.std.proofs.lemmas.List.Folds.{list_any-append}
 use Rattle.std.proofs.lemmas.List.Splits.{slice_split_at, slice_split_none}
 use Rattle.std.proofs.lemmas.List.Sums.{position_or_len_is}
 use Rattle.std.proofs.lemmas.Str.{chars-IsAscii, encodes-IsAscii, IsAscii-append}
-use Rattle.std.proofs.Math.Seq.{take-length}
 use Rattle.std.specs.Char.{is_ascii_digit, is_whitespace}
 use Rattle.std.specs.List.{All, list_all, slice_split, before_first}
 use Rattle.std.specs.Option.{option_or}
-use Rattle.std.specs.Prelude.{◌==◌, ◌&&◌, ◌||◌, nat_lt, nat_le, not, codes, take, unwrap_or}
+use Rattle.std.specs.Prelude.{◌==◌, ◌&&◌, nat_lt, not, unwrap_or}
 use Rattle.std.specs.Str.{all_ascii_digits, chars, trim, trim_start, trim_end, skip_leading_whitespace, drop_trailing_whitespace}
-use Rattle.std.specs.Str.Parse.{digits_value}
 use Rattle.gix_date.specs.Families.Answer.{FamilyAnswer, Absolute, OffsetAboveDay}
 use Rattle.gix_date.specs.Families.Laws.{Agree, ComesFirst, Holds}
 use Rattle.gix_date.specs.Families.Order.{Iso8601, Iso8601Strict, GitForm, RelativeText, family_answer, first_family_by}
 use Rattle.gix_date.specs.Families.Patterns.{date_answer, iso8601_answer, iso8601_strict_answer, max_date_offset}
 use Rattle.gix_date.specs.Families.Raw.{OffsetRule}
-use Rattle.gix_date.specs.Fields.FieldTexts.{AreDigits, IsPair, IsSign, IsDigit, IsField, IsYear, AreSpaces, IsPlainDate, IsClock}
+use Rattle.gix_date.specs.Fields.FieldTexts.{AreDigits, IsPair, IsSign, IsField, IsYear, AreSpaces, IsPlainDate, IsClock}
 use Rattle.gix_date.specs.Fields.Civil.{civil_instant}
-use Rattle.gix_date.specs.Fields.DateFields.{read_plain_date, without_leap_second}
+use Rattle.gix_date.specs.Fields.DateFields.{read_plain_date}
 use Rattle.gix_date.specs.Fields.DateOffsets.{is_jiff_offset, jiff_offset, compact_offset, strict_offset}
-use Rattle.gix_date.specs.Text.Front.{ReadFront, skip_char, ◌>>=◌}
+use Rattle.gix_date.specs.Text.Front.{skip_char, ◌>>=◌}
 use Rattle.gix_date.specs.Fields.Offsets.{read_sign, offset_fields, offset_of, SignedPairs, OffsetSign}
-use Rattle.gix_date.specs.Git.Clock.{at_most, digits_at_most, clock_of_fields, clock_of_parts, clock_with_colons, clock_without_colons, trimmed_clock, git_clock}
+use Rattle.gix_date.specs.Git.Clock.{git_clock}
 use Rattle.gix_date.specs.Git.ClockCut.{is_sign, last_space, clock_cut}
 use Rattle.gix_date.specs.Git.Grammar.{AreClockPairs, AreClockParts, IsGitOffset}
 use Rattle.gix_date.specs.Git.Forms.{without_colons, git_offset, git_time, git_form, git_front, dotted_front, compact_front, flexible_front, read_marked_date, read_compact_date, time_with_rest, time_of_cut}
@@ -37,7 +35,7 @@ use Rattle.gix_date.specs.declared.time.Time.{Time}
 use Rattle.gix_date.proofs.Families.Apart.{no_pair}
 use Rattle.gix_date.proofs.Text.AsciiCuts.{ascii-by}
 use Rattle.gix_date.proofs.Git.ClockCuts.{space_low}
-use Rattle.gix_date.proofs.Git.ClockParts.{before_none, field_yes}
+use Rattle.gix_date.proofs.Git.ClockParts.{before_none}
 use Rattle.gix_date.proofs.Families.Disjoint.{digit_visible}
 use Rattle.gix_date.proofs.Families.Exclusive.{answered, absolute, alone-first, differ, drop-visible, space_ascii, space-white, field-visible, digits-visible, visible-append}
 use Rattle.gix_date.proofs.Fields.FieldsRead.{Begins, BeginsNot, begins-append, field-begins, year-begins, year-read, date-read, gap-front}

@@ -1,7 +1,7 @@
 -- Counts of careful texts, as a test and as a fact, and that no word is two of a count, a unit, `and` and `ago`.
 use Rattle.std.proofs.Common.{◌≡◌, ◌∙◌, ◌⊎◌, inl, inr, ℕ, ℤ, pos, neg_ℤ, ◌+◌, ◌<◌, length, arith, Bool, true, false, cond, List, [], ◌∷◌, refl, ap, sym, subst, Option, Some, None}
 use Rattle.std.proofs.lemmas.Bool.{and_parts as both, false_from_ne_true as not-true, not-true as not-is, not-true as not_is}
-use Rattle.std.specs.Char.{is_ascii_digit, is_ascii_alphanumeric}
+use Rattle.std.specs.Char.{is_ascii_digit}
 use Rattle.std.specs.List.{list_all, position}
 use Rattle.std.specs.Option.{is_some, option_map}
 use Rattle.std.specs.Prelude.{◌&&◌, not, is_none, codes}
@@ -16,7 +16,7 @@ use Rattle.gix_date.specs.Text.Characters.{plus, minus}
 use Rattle.gix_date.specs.Text.Names.{is_name, named_in, number_names}
 use Rattle.gix_date.specs.Text.Numbers.{int_value}
 use Rattle.gix_date.proofs.Relative.QuietWords.{says_nothing, like-any, like-ago, like-name, like-named, like-singular, lower-same, named-any, names_of, one-run-word}
-use Rattle.gix_date.proofs.Relative.QuietDates.{quiet-digits, digit_run as digit-letter, digits-run as digit-letters}
+use Rattle.gix_date.proofs.Relative.QuietDates.{quiet-digits, digits-run as digit-letters}
 use Rattle.gix_date.specs.Careful.Grammar.{IsPlainCount, number_words}
 use Rattle.gix_date_laws.proofs.Grammars.{bare-int, int-is}
 use Rattle.gix_date_laws.proofs.LetterCase.{count-low, digits-low}

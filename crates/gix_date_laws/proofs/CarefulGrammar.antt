@@ -6,12 +6,12 @@ use Rattle.gix_date.specs.Careful.Fronts.{longest_front}
 use Rattle.gix_date.specs.Careful.Grammar.{IsCarefulOf, IsCarefulText, words_of}
 use Rattle.gix_date.specs.Careful.Outcome.{First, careful_reading, clear_or, date_reading, git_or, has_word_before, is_clear_answer, pairs_or, reading_of_texts, unzoned_or}
 use Rattle.gix_date.specs.Careful.Texts.{unclear_place}
-use Rattle.gix_date.specs.Families.Answer.{FamilyAnswer, Absolute, OffsetAboveDay, NoInstant, Relative}
+use Rattle.gix_date.specs.Families.Answer.{FamilyAnswer, Absolute, Relative}
 use Rattle.gix_date.specs.Families.Order.{first_family_by}
 use Rattle.gix_date.specs.Families.Raw.{OffsetRule, allows}
 use Rattle.gix_date.specs.Git.Forms.{git_time}
 use Rattle.gix_date.specs.Relative.Words.{PeriodUnit, relative_words}
-use Rattle.gix_date.specs.Relative.Dates.{MinusSeconds, MinusPairs}
+use Rattle.gix_date.specs.Relative.Dates.{MinusPairs}
 use Rattle.gix_date.specs.Relative.Roles.{pairs}
 use Rattle.gix_date.specs.declared.parsing.careful.CarefulOptions.{CarefulOptions}
 use Rattle.gix_date.specs.declared.parsing.careful.Texts.{Texts}

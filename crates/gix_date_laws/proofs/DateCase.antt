@@ -1,5 +1,5 @@
 -- The case of ASCII letters changes no answer of a formatted date without a `T`.
-use Rattle.std.proofs.Common.{◌≡◌, ◌∙◌, ◌<◌, ◌+◌, ◌-◌, ◌*◌, ℕ, ℤ, Bool, true, false, cond, List, [], ◌∷◌, refl, ap, ap₂, sym, arith, zero, suc, Some, None, Option, option_map}
+use Rattle.std.proofs.Common.{◌≡◌, ◌∙◌, ◌<◌, ◌+◌, ◌-◌, ◌*◌, ℕ, ℤ, Bool, true, false, cond, List, [], ◌∷◌, refl, ap, ap₂, sym, arith, suc, Some, None, Option, option_map}
 use Rattle.std.proofs.lemmas.Bool.{and_parts as both}
 use Rattle.std.proofs.lemmas.Bool.Decides.{nat_tests}
 use Rattle.std.specs.Char.{is_ascii_digit, is_ascii_alphabetic, to_ascii_lowercase}

@@ -6,7 +6,7 @@ use Rattle.std.specs.Option.{option_or}
 use Rattle.std.specs.Prelude.{◌==◌, nat_lt, not}
 use Rattle.gix_date.specs.Families.Answer.{FamilyAnswer, Absolute, OffsetAboveDay, NoInstant, Relative}
 use Rattle.gix_date.specs.Families.Epoch.{at_time, epoch_time, utc_time}
-use Rattle.gix_date.specs.Families.Order.{Family, AtText, Short, Rfc2822, Iso8601, Iso8601Strict, Gitoxide, Default, BareEpoch, GitForm, RelativeText, RawText, families, families_before_git, family_answer, first_answer_of, first_family_by, ParseNoAllocOutcome}
+use Rattle.gix_date.specs.Families.Order.{Family, AtText, Short, Rfc2822, Iso8601, Iso8601Strict, Gitoxide, Default, BareEpoch, GitForm, RelativeText, RawText, families_before_git, family_answer, first_answer_of, first_family_by, ParseNoAllocOutcome}
 use Rattle.gix_date.specs.Families.Laws.{IgnoresMoment, Holds, overlap}
 use Rattle.gix_date.specs.Text.Front.{◌>>=◌}
 use Rattle.gix_date.specs.Git.Forms.{git_time}

@@ -4,8 +4,8 @@ use Rattle.std.proofs.lemmas.Option.{same_Some as same_some}
 use Rattle.std.proofs.lemmas.Bool.Decides.{nat_tests}
 use Rattle.std.specs.Char.{is_ascii, is_ascii_digit}
 use Rattle.std.specs.List.{list_all, slice_split, before_first}
-use Rattle.std.specs.Prelude.{◌&&◌, nat_lt}
-use Rattle.std.specs.Str.{trim, all_ascii_digits}
+use Rattle.std.specs.Prelude.{nat_lt}
+use Rattle.std.specs.Str.{trim}
 use Rattle.std.specs.Str.Parse.{digits_value}
 use Rattle.gix_date.specs.Fields.FieldTexts.{IsPair, IsDigit}
 use Rattle.gix_date.specs.Text.Front.{◌>>=◌}

@@ -1,24 +1,20 @@
 -- Where the rest of a Git text is cut that ends in a usual offset: a sign, two digits of hours and two of minutes, perhaps with a colon between.
-use Rattle.std.proofs.Common.{◌≡◌, ◌∙◌, ℕ, pos, suc, zero, ◌+◌, ◌-◌, ◌*◌, ◌<◌, Bool, true, false, cond, List, [], ◌∷◌, ◌++◌, ◌⊎◌, inl, inr, length, get_or, refl, ap, sym, subst, Option, Some, None, arith, append_assoc, length-append}
+use Rattle.std.proofs.Common.{◌≡◌, ◌∙◌, ℕ, suc, zero, ◌+◌, ◌-◌, ◌<◌, Bool, true, false, List, [], ◌∷◌, ◌++◌, inl, inr, length, get_or, refl, ap, sym, Option, Some, None, arith, append_assoc, length-append}
 use Rattle.std.proofs.Math.Seq.{get_or-append_seam, take-append_seam, drop-append-add, drop-append_seam}
 use Rattle.std.proofs.lemmas.Bool.{and_parts as both, and_from as join, not-true as not_is}
 use Rattle.std.proofs.lemmas.Bool.Decides.{nat_tests}
 use Rattle.std.proofs.lemmas.List.{get_or-append-add}
 use Rattle.std.proofs.lemmas.List.Folds.{list_all-append}
-use Rattle.std.proofs.lemmas.List.Splits.{slice_split-cons_yes, slice_split-cons_no}
 use Rattle.std.proofs.lemmas.Str.{IsUtf8-from_ascii}
-use Rattle.std.specs.Char.{is_ascii, is_ascii_digit, is_ascii_graphic}
-use Rattle.std.specs.List.{list_all, slice_split, onto_first}
+use Rattle.std.specs.Char.{is_ascii_digit, is_ascii_graphic}
+use Rattle.std.specs.List.{list_all}
 use Rattle.std.specs.Option.{option_or}
-use Rattle.std.specs.Prelude.{◌==◌, ◌&&◌, ◌||◌, nat_lt, not, codes, slice_index, unwrap_or}
-use Rattle.std.specs.Str.{trim, bytes_eq}
+use Rattle.std.specs.Prelude.{◌==◌, ◌&&◌, ◌||◌, nat_lt, not, slice_index, unwrap_or}
+use Rattle.std.specs.Str.{trim}
 use Rattle.gix_date.specs.Fields.FieldTexts.{IsSign, IsDigit}
-use Rattle.gix_date.specs.Text.Front.{ReadFront, skip_char, ◌>>=◌}
 use Rattle.gix_date.specs.Git.ClockCut.{is_sign, has_offset_at, trimmed_after, last_space, last_sign, cut_at_z, cut_at_space, cut_at_sign, clock_cut}
-use Rattle.gix_date.specs.Fields.Offsets.{read_sign, offset_by, SignedPairs as OffsetFields, OffsetSign as Sign}
-use Rattle.gix_date.specs.Git.Forms.{without_colons, fields_of, offset_of_digits, is_within_a_day, git_offset}
-use Rattle.gix_date.specs.Text.Characters.{space, plus, minus, colon, letter_z, is_colon}
-use Rattle.gix_date.specs.Text.Numbers.{two_digit_value, read_two_digits}
+use Rattle.gix_date.specs.Text.Characters.{space, colon, letter_z, is_colon}
+use Rattle.gix_date.specs.Fields.Offsets.{OffsetSign as Sign}
 use Rattle.gix_date.proofs.Text.AsciiCuts.{ascii-by}
 use Rattle.gix_date.proofs.Git.ClockCuts.{z_none, space_none, space_found, sign_found}
 use Rattle.gix_date.proofs.Text.LastPlaces.{last_is, last_none}

@@ -1,12 +1,12 @@
 -- Texts of the families that have no layout are read where they are so written, and nowhere else.
-use Rattle.std.proofs.Common.{◌≡◌, ◌∙◌, ◌<◌, ◌+◌, ◌-◌, ◌*◌, ℕ, ℤ, pos, neg_ℤ, Bool, true, false, cond, List, [], ◌∷◌, ◌++◌, length, refl, ap, sym, subst, arith, Some, None, Option, option_map, inl, inr, ◌⊎◌, FitsSigned, w64}
+use Rattle.std.proofs.Common.{◌≡◌, ◌∙◌, ◌<◌, ℕ, ℤ, pos, neg_ℤ, Bool, true, false, cond, List, [], ◌∷◌, ◌++◌, length, refl, ap, sym, subst, arith, Some, None, Option, option_map, inl, inr, ◌⊎◌, FitsSigned, w64}
 use Rattle.std.proofs.lemmas.Option.{cond_some as guard, same_Some as same_some}
 use Rattle.std.proofs.lemmas.Bool.{and_parts as both, eqb-true as is-mark}
 use Rattle.std.proofs.lemmas.Bool.Decides.{nat_tests}
 use Rattle.std.specs.Char.{is_ascii_digit}
 use Rattle.std.specs.Int.Signed.{le_z}
 use Rattle.std.specs.Option.{option_or}
-use Rattle.std.specs.Prelude.{◌==◌, ◌&&◌, nat_lt}
+use Rattle.std.specs.Prelude.{◌==◌, nat_lt}
 use Rattle.std.specs.Str.{all_ascii_digits}
 use Rattle.std.specs.Str.Parse.{digits_value, signed_digits_value, without_leading_sign}
 use Rattle.gix_date.specs.Families.Epoch.{at_time, epoch_time, utc_time, min_bare_epoch}
@@ -14,14 +14,14 @@ use Rattle.gix_date.specs.Fields.FieldTexts.{AreDigits, IsPair, IsSign}
 use Rattle.gix_date.specs.Families.Grammars.{IsInt, AreOffsetFields, IsRawText, IsEpochText, IsAtText}
 use Rattle.gix_date.specs.Families.Patterns.{Accepts}
 use Rattle.gix_date.specs.Families.Raw.{OffsetRule, raw_time_by, raw_offset_by}
-use Rattle.gix_date.specs.Text.Front.{skip_char, ◌>>=◌}
+use Rattle.gix_date.specs.Text.Front.{skip_char}
 use Rattle.gix_date.specs.Fields.Offsets.{read_sign, last_pair, offset_fields, SignedPairs, OffsetSign}
 use Rattle.gix_date.specs.Text.Characters.{at_sign, plus, minus}
 use Rattle.gix_date.specs.Text.Numbers.{fits_i64, int_value, read_two_digits}
 use Rattle.gix_date.specs.declared.time.Time.{Time}
 use Rattle.gix_date.proofs.Families.Disjoint.{raw-words}
 use Rattle.gix_date.proofs.Families.Shapes.{int-no-raw}
-use Rattle.gix_date.proofs.Fields.FieldsTaken.{went, after-taken, two-taken, first-or}
+use Rattle.gix_date.proofs.Fields.FieldsTaken.{went, after-taken, first-or}
 use Rattle.gix_date.proofs.Fields.Instants.{z_test, z_holds}
 use Rattle.gix_date.proofs.Text.Ints.{own, each_of, fits_from, int_value_from}
 use Rattle.gix_date.proofs.Fast.FastHeaders.{int-taken, offset-taken}

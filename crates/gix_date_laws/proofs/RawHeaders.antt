@@ -1,33 +1,29 @@
 -- A raw text is read as a header with the same time.
-use Rattle.std.proofs.Common.{◌≡◌, ◌∙◌, ◌<◌, ◌≤◌, ℕ, ℤ, Bool, true, false, List, [], ◌∷◌, map, filter, length, get_or, refl, ap, ap₂, sym, subst, arith, append-nil, Some, Option, encode_utf8, encode_utf8_all, IsUtf8, inl, inr, ◌⊎◌}
-use Rattle.std.proofs.lemmas.Option.{cond_some as guard, same_Some as same_some}
+use Rattle.std.proofs.Common.{◌≡◌, ◌∙◌, ◌<◌, ◌≤◌, ℕ, Bool, true, false, List, [], ◌∷◌, map, filter, get_or, refl, ap, ap₂, sym, subst, arith, Some, Option, encode_utf8, encode_utf8_all, IsUtf8, inl, inr, ◌⊎◌}
+use Rattle.std.proofs.lemmas.Option.{same_Some as same_some}
 use Rattle.std.proofs.lemmas.Bool.{cases_lt}
 use Rattle.std.proofs.lemmas.Bool.Decides.{nat_tests}
 use Rattle.std.proofs.lemmas.List.Elements.{All-from_get_or}
 use Rattle.std.proofs.lemmas.List.Folds.{list_any-append, list_any_none}
 use Rattle.std.proofs.lemmas.List.Splits.{slice_split-cons_yes, slice_split-cons_no}
-use Rattle.std.proofs.lemmas.Str.{encodes-chars, encode_ascii, inside_one}
+use Rattle.std.proofs.lemmas.Str.{encodes-chars, encode_ascii}
 use Rattle.std.specs.Char.{is_whitespace}
 use Rattle.std.specs.List.{slice_split, onto_first, list_any}
 use Rattle.std.specs.Prelude.{◌||◌, IsSomeAnd}
 use Rattle.std.specs.Str.{chars}
 use Rattle.gix_date.specs.Families.Answer.{Absolute}
 use Rattle.gix_date.specs.Families.Order.{first_family_by}
-use Rattle.gix_date.specs.Families.Raw.{OffsetRule, allows, raw_time_by, raw_offset_by}
-use Rattle.gix_date.specs.Text.Front.{◌>>=◌}
-use Rattle.gix_date.specs.Fields.Offsets.{offset_fields, offset_of, offset_by}
+use Rattle.gix_date.specs.Families.Raw.{OffsetRule, allows, raw_time_by}
 use Rattle.gix_date.specs.Header.Canonical.{is_canonical_header}
 use Rattle.gix_date.specs.Header.Reading.{header_time}
 use Rattle.gix_date.specs.Header.Text.{header_text}
 use Rattle.gix_date.specs.Printing.ReadingBack.{IsRuleOffset}
 use Rattle.gix_date.specs.Text.Characters.{colon, is_colon, has_colon}
-use Rattle.gix_date.specs.Text.Numbers.{int_value}
-use Rattle.gix_date.specs.Text.SpaceWords.{is_nonempty, space_words, first_words}
+use Rattle.gix_date.specs.Text.SpaceWords.{is_nonempty, space_words}
 use Rattle.gix_date.specs.declared.parsing.raw.RawOffsets.{RawOffsets}
 use Rattle.gix_date.specs.declared.parsing.raw.RawOffsets.TheVariants.{Quarter, WholeMinutes}
 use Rattle.gix_date.specs.declared.time.Time.{Time}
 use Rattle.gix_date.proofs.Families.Disjoint.{raw-words}
-use Rattle.gix_date.proofs.Fields.FieldsTaken.{went}
 use Rattle.gix_date.proofs.Header.HeaderLaws.{canonical-taken, canonical-back, header-fits}
 use Rattle.gix_date.proofs.Fast.FastHeaders.{by_words, said, no_colon, int-number, offset-number, IsNumber}
 use Rattle.gix_date.proofs.Printing.RawBack.{raw-back, wide-back}

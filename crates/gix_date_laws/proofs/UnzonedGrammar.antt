@@ -1,23 +1,16 @@
 -- A Git form without an offset is one in which none is written.
-use Rattle.std.proofs.Common.{◌≡◌, ◌∙◌, ◌↔◌, ℕ, cond, List, [], ◌∷◌, ◌++◌, refl, ap, subst, Option, Some, None}
-use Rattle.std.proofs.lemmas.Option.{same_Some as same_some}
+use Rattle.std.proofs.Common.{◌≡◌, ◌∙◌, ◌↔◌, ℕ, cond, List, [], ◌∷◌, refl, ap, Option, Some, None}
 use Rattle.std.specs.Str.{trim}
 use Rattle.gix_date.specs.Careful.Dates.{unzoned_git_time}
-use Rattle.gix_date.specs.Fields.Civil.{civil_instant}
-use Rattle.gix_date.specs.Text.Front.{◌>>=◌}
 use Rattle.gix_date.specs.Fields.Layout.{LocalDate}
-use Rattle.gix_date.specs.Git.Clock.{git_clock}
 use Rattle.gix_date.specs.Git.ClockCut.{Cut, clock_cut}
-use Rattle.gix_date.specs.Git.Forms.{git_offset, git_front, time_of_cut}
-use Rattle.gix_date.specs.Git.Grammar.{IsGitFront, IsGitText}
+use Rattle.gix_date.specs.Git.Forms.{git_front, time_of_cut}
 use Rattle.gix_date.specs.Text.SpaceWords.{is_nonempty}
 use Rattle.gix_date.specs.declared.time.Time.{Time}
 use Rattle.gix_date.proofs.Fields.FieldsTaken.{went}
-use Rattle.gix_date.proofs.Git.ClockCuts.{cut_means, means_cut}
+use Rattle.gix_date.proofs.Git.ClockCuts.{means_cut}
 use Rattle.gix_date.proofs.Git.Fronts.{front-taken}
-use Rattle.gix_date_laws.proofs.GitClocks.{clock-is}
 use Rattle.gix_date_laws.proofs.GitGrammar.{IsTextWith, front-of, rest-of, text-of}
-use Rattle.gix_date_laws.proofs.GitOffsets.{offset-is}
 
 abbrev IsUnzoned : List ℕ → Time → Type 0
 IsUnzoned = IsTextWith []

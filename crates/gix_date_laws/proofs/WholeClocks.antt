@@ -1,5 +1,5 @@
 -- A clock drops no character iff it is whole: runs of digits with colons between them, and perhaps a fraction.
-use Rattle.std.proofs.Common.{◌≡◌, ◌∙◌, ◌+◌, suc, ℕ, Bool, true, false, cond, List, [], ◌∷◌, ◌++◌, length, take, drop, map, refl, ap, sym, subst, arith, Option, Some, None, option_map, inl, inr, append-nil, take-append-drop}
+use Rattle.std.proofs.Common.{◌≡◌, ◌∙◌, ℕ, Bool, true, false, List, [], ◌∷◌, ◌++◌, length, drop, map, refl, ap, sym, subst, arith, Option, Some, None, option_map, inl, inr, append-nil}
 use Rattle.std.proofs.lemmas.Option.{same_Some as some-same}
 use Rattle.std.proofs.Math.Seq.{drop-append_seam}
 use Rattle.std.proofs.lemmas.Bool.{and_parts as both, not-true as not_is}
@@ -13,7 +13,7 @@ use Rattle.gix_date.specs.Careful.Dates.{takes_all, is_whole_clock}
 use Rattle.gix_date.specs.Careful.Fronts.{left_by, skip_number, skip_marked, skip_bare_fraction, skip_git_clock}
 use Rattle.gix_date.specs.Careful.Grammar.{AreSomeDigits, MayGoOn, IsWholeClock}
 use Rattle.gix_date.specs.Careful.Laws.{IsWholeSo}
-use Rattle.gix_date.specs.Text.Front.{skip_char, ◌>>=◌}
+use Rattle.gix_date.specs.Text.Front.{skip_char}
 use Rattle.gix_date.specs.Text.Characters.{colon, dot}
 use Rattle.gix_date.specs.Text.Numbers.{read_two_digits}
 use Rattle.gix_date.proofs.Careful.Fronts.{number-taken, marked-taken, bare-taken}

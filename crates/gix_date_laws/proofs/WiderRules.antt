@@ -1,7 +1,6 @@
 -- What is read by a rule for raw offsets is read alike by a wider one, and what that reads besides is a raw text or an
 -- at text.
-use Rattle.std.proofs.Common.{◌≡◌, ◌∙◌, ℕ, ℤ, Bool, true, false, cond, List, [], ◌∷◌, ◌++◌, refl, ap, sym, arith, Some, None, Option, is_some, option_map, IsUtf8, inl, inr, ◌⊎◌, take, drop}
-use Rattle.std.proofs.lemmas.Option.{cond_some as guard}
+use Rattle.std.proofs.Common.{◌≡◌, ◌∙◌, ℕ, ℤ, true, false, List, [], ◌∷◌, ◌++◌, refl, ap, sym, arith, Some, None, Option, is_some, option_map, IsUtf8, inl, inr, ◌⊎◌, take, drop}
 use Rattle.std.proofs.lemmas.Bool.Decides.{nat_tests}
 use Rattle.std.specs.Option.{option_or}
 use Rattle.std.specs.Prelude.{◌==◌}
@@ -12,14 +11,12 @@ use Rattle.gix_date.specs.Families.Order.{Family, AtText, Short, Rfc2822, Iso860
 use Rattle.gix_date.specs.Families.Laws.{Holds, IsWidened, overlap}
 use Rattle.gix_date.specs.Text.Front.{skip_char, ◌>>=◌}
 use Rattle.gix_date.specs.Text.Numbers.{int_value}
-use Rattle.gix_date.specs.Fields.Offsets.{offset_fields, offset_of, SignedPairs}
 use Rattle.gix_date.specs.Families.Raw.{OffsetRule, is_quarter_offset, is_minute_offset, raw_time_by, raw_offset_by}
-use Rattle.gix_date.specs.Text.SpaceWords.{space_words, first_words}
+use Rattle.gix_date.specs.Fields.Offsets.{SignedPairs}
 use Rattle.gix_date.specs.declared.time.Time.{Time}
 use Rattle.gix_date.proofs.Families.Disjoint.{raw-words}
 use Rattle.gix_date.proofs.Families.Exclusive.{are-exclusive, place, differ}
 use Rattle.gix_date.proofs.Fields.FieldsTaken.{went, none-unless}
-use Rattle.gix_date.proofs.Fast.FastHeaders.{int-number, one-word}
 use Rattle.gix_date.proofs.Families.Shapes.{int-no-raw}
 
 -- each offset of the one rule is of the other

@@ -2,7 +2,6 @@
 use Rattle.std.proofs.Common.{◌≡◌, ◌<◌, ℕ, Bool, true, false, cond, List, refl, arith}
 use Rattle.std.proofs.lemmas.Bool.{and_parts as both}
 use Rattle.std.proofs.lemmas.Bool.Decides.{nat_tests}
-use Rattle.std.specs.Char.{is_ascii_alphanumeric}
 use Rattle.std.specs.Prelude.{◌&&◌, ◌||◌, not, slice_index, ◌==◌}
 use Rattle.gix_date.specs.Careful.Texts.{after_word, begins_word, in_word, is_clear_at, is_separator, may_stand_after, separates, word_at, word_before}
 use Rattle.gix_date.specs.Text.Characters.{minus}

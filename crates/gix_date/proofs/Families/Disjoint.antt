@@ -1,32 +1,29 @@
 -- Raw texts, bare epochs and Git texts exclude one another, and the first two are not relative.
-use Rattle.std.proofs.Common.{◌≡◌, ◌∙◌, ℕ, ℤ, true, false, List, [], ◌∷◌, ◌++◌, length, refl, ap, ap₂, sym, subst, arith, Some, None, Option, inl, inr, IsUtf8, option_map}
+use Rattle.std.proofs.Common.{◌≡◌, ◌∙◌, ℕ, ℤ, true, false, List, [], ◌∷◌, ◌++◌, refl, ap, ap₂, sym, subst, arith, Some, Option, inl, inr, IsUtf8, option_map}
 use Rattle.std.proofs.lemmas.Option.{cond_some as guard, same_Some as same_some}
 use Rattle.std.proofs.lemmas.Bool.{and_parts as both}
 use Rattle.std.proofs.lemmas.Bool.Decides.{nat_tests}
 use Rattle.std.specs.Char.{is_ascii_digit, is_ascii_alphabetic}
-use Rattle.std.specs.Prelude.{◌==◌, nat_lt}
 use Rattle.std.specs.Str.{all_ascii_digits, trim}
-use Rattle.std.specs.Str.Parse.{without_leading_sign, signed_digits_value}
-use Rattle.gix_date.specs.Text.Characters.{plus, minus, dot, letter_t}
+use Rattle.gix_date.specs.Text.Characters.{minus, dot, letter_t}
 use Rattle.gix_date.specs.Families.Epoch.{epoch_time}
 use Rattle.gix_date.specs.Fields.FieldTexts.{IsYear, IsDigit, IsPair}
 use Rattle.gix_date.specs.Text.Front.{◌>>=◌}
 use Rattle.gix_date.specs.Git.Forms.{git_front, git_form, git_time, time_with_rest}
 use Rattle.gix_date.specs.Git.Grammar.{IsGitDate, IsGitFront}
 use Rattle.gix_date.specs.Families.Laws.{AreDisjoint}
-use Rattle.gix_date.specs.Text.Numbers.{fits_i64, int_value}
+use Rattle.gix_date.specs.Text.Numbers.{int_value}
 use Rattle.gix_date.specs.Fields.Offsets.{offset_by, offset_fields, offset_of}
 use Rattle.gix_date.specs.Families.Raw.{OffsetRule, raw_time_by, raw_offset_by}
 use Rattle.gix_date.specs.Text.SpaceWords.{space_words, first_words}
 use Rattle.gix_date.specs.declared.civil.DateFields.{DateFields}
 use Rattle.gix_date.specs.declared.parsing.offset.OffsetFields.{OffsetFields}
 use Rattle.gix_date.specs.declared.time.Time.{Time}
-use Rattle.gix_date.proofs.Families.Apart.{mixed, digit-no-minus as no-minus, digit-no-plus as no-plus, int-digits}
+use Rattle.gix_date.proofs.Families.Apart.{mixed, int-digits}
 use Rattle.gix_date.proofs.Fields.FieldsTaken.{went, none-unless, same-first}
 use Rattle.gix_date.proofs.Git.Fronts.{front-taken, joined}
 use Rattle.gix_date.proofs.Text.FirstWords.{AreVisible, is_visible, first-begins, trimmed-words}
-use Rattle.gix_date.proofs.Text.Ints.{each_of}
-use Rattle.gix_date.proofs.Fast.FastHeaders.{int-taken, int-number, one-word}
+use Rattle.gix_date.proofs.Fast.FastHeaders.{int-number, one-word}
 use Rattle.gix_date.proofs.Relative.QuietWords.{IsQuiet, no-relative}
 use Rattle.gix_date.proofs.Relative.QuietDates.{quiet-int, quiet-offset, quiet-two-words}
 

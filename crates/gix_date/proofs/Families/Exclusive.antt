@@ -1,34 +1,28 @@
 -- Which families hold texts of one another.
-use Rattle.std.proofs.Common.{pos, ◌≡◌, ◌≢◌, ◌∙◌, ◌<◌, ◌≤◌, ℕ, ℤ, Bool, true, false, List, [], ◌∷◌, ◌++◌, length, filter, get_or, refl, ap, sym, subst, arith, append-nil, append_assoc, map, encode_utf8_all, Some, None, Option, is_some, option_map, cond, unwrap_or, take, unsigned_abs, Result, inl, inr, ◌⊎◌, IsUtf8, zero, suc}
-use Rattle.std.proofs.lemmas.Bool.{cases_order, and_parts as both, not-true as not_is}
+use Rattle.std.proofs.Common.{◌≡◌, ◌≢◌, ◌∙◌, ◌<◌, ◌≤◌, ℕ, ℤ, true, false, List, [], ◌∷◌, ◌++◌, length, filter, get_or, refl, ap, sym, subst, arith, append-nil, append_assoc, map, encode_utf8_all, Some, None, Option, is_some, option_map, inl, inr, ◌⊎◌, IsUtf8, zero, suc}
+use Rattle.std.proofs.lemmas.Bool.{cases_order, and_parts as both}
 use Rattle.std.proofs.lemmas.Bool.Decides.{nat_tests}
 use Rattle.std.proofs.lemmas.Str.{IsUtf8-drop, IsCharBoundary-after_ascii, IsUtf8-from_ascii, chars-append, chars-IsAscii, encodes-IsAscii}
 use Rattle.std.specs.Char.{is_ascii_digit, is_ascii_alphabetic, is_whitespace, is_not_whitespace}
 use Rattle.std.specs.List.{list_all}
 use Rattle.std.specs.Option.{option_or}
-use Rattle.std.specs.Prelude.{◌==◌, nat_lt, not}
+use Rattle.std.specs.Prelude.{◌==◌, nat_lt}
 use Rattle.std.specs.Str.{trim, trim_start, trim_end, all_ascii_digits, chars, NonePass, skip_leading_whitespace, drop_trailing_whitespace}
 use Rattle.gix_date.specs.Fields.FieldTexts.{IsSign, IsYear, IsField, IsMonthName, IsDayPrefix, AreSpaces}
-use Rattle.gix_date.specs.Families.Answer.{FamilyAnswer, Absolute, OffsetAboveDay, NoInstant, Relative}
+use Rattle.gix_date.specs.Families.Answer.{FamilyAnswer, Absolute, Relative}
 use Rattle.gix_date.specs.Text.Characters.{at_sign, comma, minus, space, is_space}
 use Rattle.gix_date.specs.Families.Epoch.{at_time, epoch_time, utc_time}
-use Rattle.gix_date.specs.Families.Order.{Family, AtText, Short, Rfc2822, Iso8601, Iso8601Strict, Gitoxide, Default, BareEpoch, GitForm, RelativeText, RawText, families, families_before_git, family_answer, answers_before_git, family_answers, first_answer_of, first_family_by, ParseNoAllocOutcome}
-use Rattle.gix_date.specs.Families.Laws.{AreExclusive, IgnoresMoment, Holds, overlap}
-use Rattle.gix_date.specs.Text.Front.{skip_char, ◌>>=◌}
+use Rattle.gix_date.specs.Families.Order.{Family, AtText, Short, Rfc2822, Iso8601, Iso8601Strict, Gitoxide, Default, BareEpoch, GitForm, RelativeText, RawText, families, family_answer, answers_before_git, first_family_by}
+use Rattle.gix_date.specs.Families.Laws.{AreExclusive, Holds, overlap}
+use Rattle.gix_date.specs.Text.Front.{skip_char}
 use Rattle.gix_date.specs.Git.Forms.{git_time, git_form, git_front, dotted_front, compact_front, flexible_front, read_marked_date, read_compact_date}
 use Rattle.gix_date.specs.Text.Numbers.{int_value}
-use Rattle.gix_date.specs.Families.Patterns.{short_answer, rfc2822_answer, iso8601_answer, iso8601_strict_answer, gitoxide_answer, default_answer, short_layout, rfc2822_layout, iso8601_layout, iso8601_strict_layout, gitoxide_layout, default_layout, time_answer, real_day_answer, date_answer, midnight}
+use Rattle.gix_date.specs.Families.Patterns.{short_answer, rfc2822_answer, iso8601_answer, iso8601_strict_answer, gitoxide_answer, default_answer, short_layout, iso8601_layout, gitoxide_layout, default_layout}
 use Rattle.gix_date.specs.Fields.DateFields.{skip_weekday, read_plain_date}
 use Rattle.gix_date.specs.Families.Raw.{OffsetRule, raw_time_by}
 use Rattle.gix_date.specs.Relative.Dates.{relative_date, RelativeDate}
 use Rattle.gix_date.specs.Text.SpaceWords.{space_words, runs}
-use Rattle.gix_date.specs.Fields.Civil.{civil_instant, is_date}
-use Rattle.gix_date.specs.Fields.Layout.{LocalTime, Piece, DayName, BeginsWith, read_pieces, nothing_read, layout_answer}
-use Rattle.gix_date.specs.declared.error.ParseError.{ParseError}
-use Rattle.gix_date.specs.declared.civil.ClockFields.{ClockFields}
-use Rattle.gix_date.specs.declared.civil.DateFields.{DateFields}
-use Rattle.gix_date.specs.declared.time.TheConstants.{MAX_OFFSET_IN_SECONDS}
-use Rattle.jiff.specs.declared.zoned.Zoned.{Zoned}
+use Rattle.gix_date.specs.Fields.Layout.{LocalTime, DayName, BeginsWith}
 use Rattle.gix_date.specs.declared.time.Time.{Time}
 use Rattle.gix_date.proofs.Families.Apart.{at-first, before-git-apart, NoPlainDate, NoDayFirst, no-day, no_pair, no_pair_of, pair_read, one-no-pair}
 use Rattle.gix_date.proofs.Text.AsciiCuts.{ascii-by}
@@ -41,7 +35,7 @@ use Rattle.gix_date.proofs.Relative.QuietWords.{IsQuiet, no-relative}
 use Rattle.gix_date.proofs.Relative.QuietDates.{quiet-after, quiet-dated, quiet-rfc2822, quiet-strict, quiet-int, field-digits, year-digits}
 use Rattle.gix_date.proofs.Printing.ReadBack.{first-at, some-counts}
 use Rattle.gix_date.proofs.Text.FirstBytes.{no-git-byte, no-raw-front, no-raw-byte, plain-front, no-plain-by}
-use Rattle.gix_date.proofs.Fast.FastHeaders.{is_number_byte, offset-taken, letter-no-number}
+use Rattle.gix_date.proofs.Fast.FastHeaders.{offset-taken, letter-no-number}
 use Rattle.gix_date.proofs.Text.WordSteps.{runs_skip, run_first, stops}
 
 -- Texts that begin with a letter, or with visible bytes alone.

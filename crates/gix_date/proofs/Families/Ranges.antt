@@ -1,5 +1,5 @@
 -- How far the offsets of times are from UTC that are answered, and that such a time has a header text.
-use Rattle.std.proofs.Common.{◌≡◌, ◌∙◌, ◌≤◌, ◌+◌, ◌*◌, map, ℕ, ℤ, pos, Bool, true, false, cond, List, [], ◌∷◌, refl, ap, sym, subst, arith, Some, None, Option, option_map, unsigned_abs, Ok, zero, suc, inl, inr, length}
+use Rattle.std.proofs.Common.{◌≡◌, ◌∙◌, ◌≤◌, ◌+◌, ◌*◌, map, ℕ, ℤ, pos, Bool, true, false, cond, List, [], ◌∷◌, refl, ap, sym, subst, arith, Some, None, Option, option_map, unsigned_abs, Ok, inl, inr, length}
 use Rattle.std.proofs.lemmas.Option.{cond_some as guard, same_Some as same_some}
 use Rattle.std.proofs.lemmas.Bool.{and_parts as both}
 use Rattle.std.proofs.lemmas.Bool.Decides.{nat_tests}
@@ -13,7 +13,7 @@ use Rattle.jiff_core.proofs.SignedLemmas.{signed_arith, one_part}
 use Rattle.jiff_tz.specs.PosixRule as PosixRule
 use Rattle.jiff_tz.specs.Tzif as Table
 use Rattle.jiff_tz.specs.Zone.{zero_in_range}
-use Rattle.jiff_tz.specs.declared.timezone.TimeZone.TheVariants.{UTC, Unknown, Fixed, Posix, Tzif}
+use Rattle.jiff_tz.specs.declared.timezone.TimeZone.TheVariants.{Fixed, Posix, Tzif}
 use Rattle.gix_date.specs.Families.Answer.{FamilyAnswer, Absolute, OffsetAboveDay, NoInstant, Relative}
 use Rattle.gix_date.specs.Families.Epoch.{at_time, epoch_time, utc_time}
 use Rattle.gix_date.specs.Families.Order.{Family, AtText, Short, Rfc2822, Iso8601, Iso8601Strict, Gitoxide, Default, BareEpoch, GitForm, RelativeText, RawText, families, family_answer, first_answer_of, first_family_by, ParseNoAllocOutcome}
@@ -21,8 +21,8 @@ use Rattle.gix_date.specs.Families.Patterns.{short_answer, rfc2822_answer, iso86
 use Rattle.gix_date.specs.Families.Raw.{allows, raw_time_by}
 use Rattle.gix_date.specs.Fields.Civil.{civil_instant, is_date}
 use Rattle.gix_date.specs.Text.Front.{skip_char, ◌>>=◌}
-use Rattle.gix_date.specs.Fields.Layout.{LocalTime, Piece, read_pieces, nothing_read, layout_answer}
-use Rattle.gix_date.specs.Fields.Offsets.{read_sign, offset_fields, offset_of, offset_by, signed}
+use Rattle.gix_date.specs.Fields.Layout.{Piece, read_pieces, nothing_read, layout_answer}
+use Rattle.gix_date.specs.Fields.Offsets.{read_sign, offset_of, offset_by}
 use Rattle.gix_date.specs.Git.Clock.{git_clock}
 use Rattle.gix_date.specs.Git.ClockCut.{Cut, clock_cut}
 use Rattle.gix_date.specs.Git.Forms.{without_colons, fields_of, offset_of_digits, is_within_a_day, git_offset, git_time, git_form, git_front, time_of_cut, time_with_rest}
@@ -36,7 +36,6 @@ use Rattle.gix_date.specs.declared.civil.ClockFields.{ClockFields}
 use Rattle.gix_date.specs.declared.civil.DateFields.{DateFields}
 use Rattle.gix_date.specs.declared.parsing.offset.OffsetFields.{OffsetFields}
 use Rattle.gix_date.specs.declared.parsing.offset.Sign.{Sign}
-use Rattle.gix_date.specs.declared.parsing.offset.Sign.TheVariants.{Plus, Minus}
 use Rattle.gix_date.specs.declared.parsing.raw.RawOffsets.{RawOffsets}
 use Rattle.gix_date.specs.declared.parsing.raw.RawOffsets.TheVariants.{Quarter, WholeMinutes}
 use Rattle.gix_date.specs.declared.parsing.relative.words.TimeUnit.{TimeUnit}

@@ -1,5 +1,5 @@
 -- The first family that holds a text is one of its shape's: no other family holds a text of that shape.
-use Rattle.std.proofs.Common.{◌≡◌, ◌∙◌, ℕ, ℤ, Bool, true, false, cond, List, [], ◌∷◌, ◌++◌, drop, refl, ap, sym, subst, arith, append_assoc, Option, Some, None, is_some, option_map, inl, inr, ◌⊎◌, IsUtf8}
+use Rattle.std.proofs.Common.{◌≡◌, ◌∙◌, ℕ, ℤ, Bool, true, false, cond, List, [], ◌∷◌, ◌++◌, drop, refl, ap, sym, subst, arith, Option, Some, None, is_some, option_map, inl, inr, ◌⊎◌, IsUtf8}
 use Rattle.std.proofs.lemmas.Bool.{and_parts as both}
 use Rattle.std.proofs.lemmas.Bool.Decides.{nat_tests}
 use Rattle.std.specs.Char.{is_ascii_digit, is_ascii_alphabetic}
@@ -10,7 +10,7 @@ use Rattle.gix_date.specs.Families.Answer.{Absolute}
 use Rattle.gix_date.specs.Text.Characters.{at_sign, comma, minus, dot, space, is_space, letter_t}
 use Rattle.gix_date.specs.Families.Order.{AtText, Short, Rfc2822, Iso8601, Iso8601Strict, Gitoxide, Default, BareEpoch, GitForm, RelativeText, RawText, first_family_by}
 use Rattle.gix_date.specs.Fields.DateFields.{is_weekday, read_name, read_plain_date, skip_day_name, skip_weekday}
-use Rattle.gix_date.specs.Fields.FieldTexts.{IsField, IsYear, AreSpaces, IsMonthName, IsDayPrefix}
+use Rattle.gix_date.specs.Fields.FieldTexts.{IsField, IsYear, AreSpaces, IsMonthName}
 use Rattle.gix_date.specs.Text.Front.{skip_char}
 use Rattle.gix_date.specs.Text.Numbers.{int_value, read_field}
 use Rattle.gix_date.specs.Families.Patterns.{rfc2822_answer, gitoxide_answer, default_answer}
@@ -19,13 +19,12 @@ use Rattle.gix_date.specs.Git.Forms.{git_time}
 use Rattle.gix_date.specs.Families.Raw.{OffsetRule, raw_time_by}
 use Rattle.gix_date.specs.Families.Shapes.{are_two_digits, are_four_digits, begins_with_at, begins_with_letter, begins_with_year, begins_with_dashed_day, begins_with_dotted_day, begins_with_compact_day, begins_with_count, letter_shape, shape_of, shape_families, first_among, IsDispatched, row_families, IsInItsRow}
 use Rattle.gix_date.specs.declared.parsing.shape.Shape.TheVariants.{AtSign, Rfc2822Day, NamedDay, Word, DashedDay, GitDay, Count, WholeNumber, Other}
-use Rattle.gix_date.proofs.Families.Apart.{NoPlainDate, NoDayFirst, no-day, no-field, no-rfc2822-first, no-rfc2822-year, no-plain, no-spaces, no-weekday, no-year, digit-no-minus, int-digits, no-epoch}
-use Rattle.gix_date.proofs.Families.Disjoint.{GitFront, year-front, compact-year, raw-words, int-first, no-git, front-digits, letter_visible, number-no-front}
+use Rattle.gix_date.proofs.Families.Apart.{NoPlainDate, NoDayFirst, no-day, no-field, no-rfc2822-first, no-rfc2822-year, no-plain, no-spaces, no-weekday, no-year, digit-no-minus, no-epoch}
+use Rattle.gix_date.proofs.Families.Disjoint.{GitFront, year-front, compact-year, raw-words, int-first, no-git, letter_visible, number-no-front}
 use Rattle.gix_date.proofs.Families.Exclusive.{BeginsMail, rfc2822-begins, git-no-day}
-use Rattle.gix_date.proofs.Fields.FieldsRead.{Begins, BeginsNot, begins-append, letter-no-digit, name-begins}
+use Rattle.gix_date.proofs.Fields.FieldsRead.{Begins, BeginsNot, begins-append, letter-no-digit}
 use Rattle.gix_date.proofs.Text.FirstWords.{is_visible}
 use Rattle.gix_date.proofs.Text.FirstBytes.{no-raw-front, no-raw-byte, no-git-byte, no-plain-by, plain-front, plain-year}
-use Rattle.gix_date.proofs.Fields.Layouts.{rfc2822-front}
 use Rattle.gix_date.proofs.Fast.FastHeaders.{AreNumberBytes, is_number_byte, int-number, one-word, int-no-byte, letter-no-number}
 use Rattle.gix_date.proofs.Relative.QuietDates.{quiet-int}
 use Rattle.gix_date.proofs.Relative.QuietWords.{no-relative}

@@ -1,5 +1,5 @@
 -- An offset with colons that is read is written so.
-use Rattle.std.proofs.Common.{◌≡◌, ◌∙◌, ◌+◌, ◌-◌, ◌*◌, ℕ, ℤ, Bool, true, false, cond, List, [], ◌∷◌, ◌⊎◌, inl, inr, Option, Some, None, option_map, refl, ap, sym, arith}
+use Rattle.std.proofs.Common.{◌≡◌, ◌∙◌, ◌+◌, ◌-◌, ◌*◌, ℕ, ℤ, Bool, true, cond, List, [], ◌∷◌, ◌⊎◌, inl, inr, Option, Some, None, option_map, refl, ap, sym, arith}
 use Rattle.std.proofs.lemmas.Option.{cond_some as guard, same_Some as same_some}
 use Rattle.std.proofs.lemmas.Bool.Decides.{nat_tests}
 use Rattle.std.specs.Char.{is_ascii_digit}
@@ -11,7 +11,6 @@ use Rattle.gix_date.specs.Fields.Offsets.{read_sign, offset_of}
 use Rattle.gix_date.specs.Text.Characters.{colon}
 use Rattle.gix_date.specs.Text.Numbers.{read_two_digits}
 use Rattle.gix_date.specs.declared.parsing.offset.OffsetFields.{OffsetFields}
-use Rattle.gix_date.specs.declared.parsing.offset.Sign.{Sign}
 use Rattle.gix_date.proofs.Fast.FastHeaders.{sign-taken, fields_at}
 use Rattle.gix_date.proofs.Fields.FieldsTaken.{went, after-taken, two-taken}
 

@@ -1,5 +1,5 @@
 -- Header texts with raw offsets, and bare seconds, are parsed back.
-use Rattle.std.proofs.Common.{◌≡◌, ◌∙◌, ◌*◌, ◌/◌, ◌%◌, ◌<◌, ◌≤◌, ◌≤ℤ◌, ℕ, ℤ, true, List, [], ◌∷◌, ◌++◌, refl, ap, sym, subst, arith, Some, Option, IsUtf8, unsigned_abs, FitsSigned, w64, zero, suc, IsSomeAnd, rules}
+use Rattle.std.proofs.Common.{◌≡◌, ◌∙◌, ◌*◌, ◌/◌, ◌%◌, ◌<◌, ◌≤◌, ◌≤ℤ◌, ℕ, ℤ, true, List, [], ◌∷◌, ◌++◌, refl, ap, sym, subst, arith, Some, Option, IsUtf8, unsigned_abs, FitsSigned, w64, suc, IsSomeAnd, rules}
 use Rattle.std.proofs.lemmas.Bool.Decides.{nat_tests}
 use Rattle.std.proofs.lemmas.Str.{IsUtf8-from_ascii}
 use Rattle.std.specs.Int.Signed.{le_z}

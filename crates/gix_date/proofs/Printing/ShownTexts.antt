@@ -1,5 +1,5 @@
 -- What the strict printer shows by a named pattern is its text: not only nothing else, but that.
-use Rattle.std.proofs.Common.{◌≡◌, ◌∙◌, ◌+◌, ◌/◌, ◌%◌, ◌++◌, ℤ, pos, int_lt, unsigned_abs, Bool, true, length, Bor, option_map, arith, get_or, lit<, if◌then◌else◌, ◌<◌, ◌≤◌, ℕ, List, [], ◌∷◌, decimal, Option, Some, None, Result, Ok, Err, IfOk, IfErr, String, Global, refl, sym, ap, append_assoc, subst, inl, inr, false, string_bytes, suc, zero}
+use Rattle.std.proofs.Common.{◌≡◌, ◌∙◌, ◌+◌, ◌/◌, ◌%◌, ◌++◌, ℤ, pos, int_lt, unsigned_abs, Bool, true, length, Bor, option_map, arith, get_or, lit<, if◌then◌else◌, ◌<◌, ◌≤◌, ℕ, List, [], ◌∷◌, decimal, Option, Some, None, Result, Ok, Err, IfOk, IfErr, String, Global, refl, sym, ap, append_assoc, subst, inl, inr, false, string_bytes, suc}
 use Rattle.std.proofs.lemmas.Fmt.{decimal_digit}
 use Rattle.jiff.specs.Types.{PlainZoned}
 use Rattle.jiff_core.specs.declared.error.Error.TheVariants.{Missing}
@@ -13,7 +13,7 @@ use Rattle.jiff_tz.specs.declared.abbreviation.Abbreviation.{Abbreviation}
 use Rattle.jiff_tz.specs.declared.info.Dst.TheVariants.{No}
 use Rattle.jiff_tz.specs.declared.info.OffsetInfo.{OffsetInfo}
 use Rattle.jiff_tz.specs.declared.timezone.TimeZone.{TimeZone}
-use Rattle.jiff_tz.specs.declared.timezone.TimeZone.TheVariants.{UTC, Unknown, Fixed, Posix, Tzif}
+use Rattle.jiff_tz.specs.declared.timezone.TimeZone.TheVariants.{Fixed, Posix, Tzif}
 use Rattle.std.proofs.Math.Seq.{take-length}
 use Rattle.std.proofs.lemmas.Str.{IsAscii-append, IsUtf8-from_ascii}
 use Rattle.std.proofs.lemmas.Str.Ascii.{IsAscii-nil, IsAscii-cons}

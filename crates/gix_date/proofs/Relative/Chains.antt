@@ -4,7 +4,7 @@ use Rattle.std.specs.Prelude.{int_div}
 use Rattle.jiff.specs.Types.{TimeZone}
 use Rattle.jiff.specs.Words.{plain_zoned, zoned_nanos, offset_at}
 use Rattle.jiff.specs.declared.zoned.Zoned.{Zoned}
-use Rattle.gix_date.specs.Families.Answer.{FamilyAnswer, Absolute, OffsetAboveDay, NoInstant, Relative}
+use Rattle.gix_date.specs.Families.Answer.{FamilyAnswer, Relative}
 use Rattle.gix_date.specs.Families.Order.{ParseNoAllocOutcome}
 use Rattle.gix_date.specs.declared.error.ParseError.{ParseError}
 use Rattle.gix_date.specs.Relative.Dates.{RelativeDate, MinusSeconds, MinusPairs, Reaches, IsNamed, RelativeOutcome}

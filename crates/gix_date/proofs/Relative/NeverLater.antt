@@ -2,11 +2,10 @@
 use Rattle.std.proofs.Common.{◌≡◌, ◌+◌, ℕ, ℤ, pos, negsuc, ◌-ℤ◌, ◌*ℤ◌, ◌≤ℤ◌, Bool, true, false, cond, List, [], ◌∷◌, refl, subst, arith, Option, Some, None, option_map}
 use Rattle.std.proofs.lemmas.Option.{cond_some as guard, same_Some as same_some}
 use Rattle.std.proofs.lemmas.Bool.{and_parts as both}
-use Rattle.std.proofs.lemmas.Bool.Decides.{nat_tests}
 use Rattle.std.specs.Char.{is_ascii_digit}
 use Rattle.std.specs.List.{cons_option, list_all, position}
 use Rattle.std.specs.Option.{option_or}
-use Rattle.std.specs.Prelude.{◌==◌, codes, filter_map, unwrap_or}
+use Rattle.std.specs.Prelude.{codes, filter_map, unwrap_or}
 use Rattle.std.specs.Str.{trim}
 use Rattle.jiff.specs.Types.{Offset, TimeZone}
 use Rattle.jiff.specs.Words.{fixed_zone, month_number}
@@ -18,7 +17,6 @@ use Rattle.gix_date.specs.Relative.Roles.{are_pairs, next_is_free, pair_with, pa
 use Rattle.gix_date.specs.Text.Front.{◌>>=◌}
 use Rattle.gix_date.specs.Relative.Steps.{PairStep, MonthsStep, Chain}
 use Rattle.gix_date.specs.Relative.Words.{relative_words, count_of, named_count, number_named, unit_names, named_unit, singular, unit_of, unit_or_seconds}
-use Rattle.gix_date.specs.Text.Characters.{minus}
 use Rattle.gix_date.specs.Text.Names.{is_name, named_in, number_names}
 use Rattle.gix_date.specs.Text.Numbers.{int_value}
 use Rattle.gix_date.specs.Text.Places.{Place, places}

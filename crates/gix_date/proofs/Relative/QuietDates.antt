@@ -12,13 +12,12 @@ use Rattle.std.specs.Str.Parse.{without_leading_sign, signed_digits_value}
 use Rattle.gix_date.specs.Fields.FieldTexts.{IsSign, IsField, IsYear, AreSpaces, AreThreeLetters, IsDayName, IsMonthName, IsPlainDate, IsClock, IsRfc2822Clock, IsDayPrefix}
 use Rattle.gix_date.specs.Families.Answer.{FamilyAnswer}
 use Rattle.gix_date.specs.Text.Characters.{minus, plus, colon, comma, letter_t}
-use Rattle.gix_date.specs.Text.Front.{skip_char, ◌>>=◌}
 use Rattle.gix_date.specs.Fields.Layout.{LocalTime, Piece, DayName, Rfc2822DayName, MonthName, Day, Year, PlainDate, Clock, Rfc2822Clock, Spaces, LetterT, Offset, ColonOffset, Rfc2822Offset, IsPiece, ArePieces}
 use Rattle.gix_date.specs.Text.Names.{is_name, named_in, day_names, month_names}
-use Rattle.gix_date.specs.Text.Numbers.{fits_i64, int_value, read_two_digits, two_digit_value}
-use Rattle.gix_date.specs.Fields.Offsets.{read_sign, offset_fields}
+use Rattle.gix_date.specs.Text.Numbers.{fits_i64, int_value}
+use Rattle.gix_date.specs.Fields.Offsets.{offset_fields}
 use Rattle.gix_date.specs.Fields.DateFields.{is_weekday, month_named}
-use Rattle.gix_date.specs.Fields.DateOffsets.{compact_offset, strict_offset, rfc2822_zone, rfc2822_offset, named_zone, zone_names, jiff_offset, last_colon_pair}
+use Rattle.gix_date.specs.Fields.DateOffsets.{compact_offset, strict_offset, rfc2822_zone, rfc2822_offset, named_zone, zone_names, jiff_offset}
 use Rattle.gix_date.specs.Families.Patterns.{rfc2822_answer, iso8601_strict_answer, Accepts, IsMeaning}
 use Rattle.gix_date.specs.Relative.Dates.{date_names, named_date}
 use Rattle.gix_date.specs.Relative.Words.{relative_words, is_gap, singular, named_unit, unit_names, unit_of, is_ago}

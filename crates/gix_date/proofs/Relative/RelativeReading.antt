@@ -1,5 +1,5 @@
 -- The pairs that are read from the left are those of the places.
-use Rattle.std.proofs.Common.{◌≡◌, ℕ, Bool, true, false, cond, List, [], ◌∷◌, ◌++◌, refl, sym, ap, ◌∙◌, ℤ, Option, Some, None}
+use Rattle.std.proofs.Common.{◌≡◌, ℕ, Bool, true, false, cond, List, [], ◌∷◌, ◌++◌, refl, ap, ◌∙◌, ℤ, Option, Some, None}
 use Rattle.std.specs.List.{cons_option}
 use Rattle.std.specs.Prelude.{not, is_some, filter_map}
 use Rattle.gix_date.specs.Text.Front.{◌>>=◌}

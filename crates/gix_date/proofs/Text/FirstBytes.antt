@@ -1,5 +1,5 @@
 -- Which texts are not raw, not of a Git form and no plain date, by their first bytes.
-use Rattle.std.proofs.Common.{◌≡◌, ◌∙◌, ℕ, ℤ, true, false, List, [], ◌∷◌, ◌++◌, refl, ap, sym, subst, Some, None, IsUtf8}
+use Rattle.std.proofs.Common.{◌≡◌, ◌∙◌, ℕ, true, false, List, [], ◌∷◌, ◌++◌, refl, ap, sym, subst, Some, None, IsUtf8}
 use Rattle.std.specs.Char.{is_ascii_digit}
 use Rattle.std.specs.Str.{trim}
 use Rattle.gix_date.specs.Text.Characters.{minus}
@@ -13,10 +13,10 @@ use Rattle.gix_date.specs.Fields.DateFields.{read_plain_date}
 use Rattle.gix_date.specs.Families.Patterns.{short_answer, iso8601_answer, iso8601_strict_answer}
 use Rattle.gix_date.specs.Families.Raw.{OffsetRule, raw_time_by}
 use Rattle.gix_date.specs.Text.SpaceWords.{space_words}
-use Rattle.gix_date.proofs.Families.Apart.{NoPlainDate, int-digits}
-use Rattle.gix_date.proofs.Families.Disjoint.{GitFront, year-front, git-front, raw-words, raw-first, front-digits, number-no-front}
+use Rattle.gix_date.proofs.Families.Apart.{NoPlainDate}
+use Rattle.gix_date.proofs.Families.Disjoint.{GitFront, year-front, git-front, raw-words, raw-first, number-no-front}
 use Rattle.gix_date.proofs.Text.FirstWords.{is_visible, first-begins, trimmed-words}
-use Rattle.gix_date.proofs.Fast.FastHeaders.{is_number_byte, int-number, int-no-byte}
+use Rattle.gix_date.proofs.Fast.FastHeaders.{is_number_byte, int-no-byte}
 
 -- no raw text begins with a digit and has another byte in its first word's front
 pub no-raw-front : (rule : OffsetRule) (text : List ℕ) → GitFront text → raw_time_by rule text ≡ None

@@ -1,7 +1,6 @@
 -- Last places, as a search from the end finds them and as a fact.
-use Rattle.std.proofs.Common.{◌≡◌, ◌≢◌, ℕ, ◌<◌, ◌≤◌, Bool, true, false, cond, List, length, get_or, refl, sym, ap, ◌∙◌, subst, Option, Some, None, arith, zero, suc}
+use Rattle.std.proofs.Common.{◌≡◌, ℕ, ◌<◌, ◌≤◌, Bool, true, false, cond, List, length, get_or, refl, sym, ap, ◌∙◌, subst, Option, Some, None, arith, zero, suc}
 use Rattle.std.proofs.lemmas.Bool.{false_from_ne_true as not_true, ne_eqb as differs, eq-eqb as equals}
-use Rattle.std.proofs.lemmas.Bool.Decides.{nat_tests}
 use Rattle.std.proofs.lemmas.Str.Pattern.{rfind_char}
 use Rattle.std.specs.Prelude.{MatchOption, IfSome, ◌==◌}
 use Rattle.std.specs.Str.{IsCharBoundary}

@@ -1,5 +1,5 @@
 -- Bytes that may be no text.
-use Rattle.std.proofs.Common.{◌≡◌, ℕ, List, Bool, true, false, cond, refl, ap}
+use Rattle.std.proofs.Common.{◌≡◌, ℕ, List, false, cond, ap}
 use Rattle.std.proofs.lemmas.Bool.{false_from_ne_true as false_unless}
 use Rattle.std.proofs.lemmas.Str.{is_utf8-from_IsUtf8, IsUtf8-from_is_utf8}
 use Rattle.std.specs.Str.{is_utf8, IsUtf8}

@@ -1,11 +1,11 @@
 -- What a step of `split_whitespace` says of the words of a text.
-use Rattle.std.proofs.Common.{◌≡◌, ℕ, ◌<◌, Bool, true, false, List, [], ◌∷◌, ◌++◌, length, map, refl, sym, ap, ◌∙◌, subst, append_assoc, append-nil, arith, rules, length-append}
+use Rattle.std.proofs.Common.{◌≡◌, ℕ, ◌<◌, true, List, [], ◌∷◌, ◌++◌, length, map, refl, sym, ap, ◌∙◌, subst, append_assoc, append-nil, arith, rules, length-append}
 use Rattle.std.proofs.lemmas.Bool.{not-false as from_not}
 use Rattle.std.proofs.lemmas.List.Splits.{slice_split-cons_yes, slice_split-cons_no}
 use Rattle.std.proofs.lemmas.Str.{chars-encodes, cons_from_encodes, encodes_same, len_utf8_bounds, length-encode}
 use Rattle.std.specs.Char.{is_whitespace, is_not_whitespace}
 use Rattle.std.specs.List.{slice_split, onto_first}
-use Rattle.std.specs.Prelude.{filter, not, encode_utf8, encode_utf8_all}
+use Rattle.std.specs.Prelude.{filter, encode_utf8, encode_utf8_all}
 use Rattle.std.specs.Borrow.{Bor}
 use Rattle.std.specs.Prelude.{Option, Some, None, MatchOption}
 use Rattle.std.specs.Str.Iter.{split_whitespace_rest, split_whitespace_steps}
