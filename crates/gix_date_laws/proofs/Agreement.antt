@@ -40,12 +40,13 @@ use Rattle.gix_date.proofs.Families.Disjoint.{digit_visible}
 use Rattle.gix_date.proofs.Families.Exclusive.{answered, absolute, alone-first, differ, drop-visible, space_ascii, space-white, field-visible, digits-visible, visible-append}
 use Rattle.gix_date.proofs.Fields.FieldsRead.{Begins, BeginsNot, begins-append, field-begins, year-begins, year-read, date-read, gap-front}
 use Rattle.gix_date.proofs.Git.Fronts.{gap-taken}
-use Rattle.gix_date.proofs.Fields.FieldsTaken.{went}
+use Rattle.gix_date.proofs.Fields.FieldsTaken.{time_at, went}
 use Rattle.gix_date.proofs.Text.FirstBytes.{plain-year}
 use Rattle.gix_date.proofs.Text.FirstWords.{AreVisible, is_visible, visible_stays, are-ascii}
 use Rattle.gix_date.proofs.Fields.Layouts.{dates_spelled}
 use Rattle.gix_date.proofs.Fast.FastHeaders.{offset-taken}
 use Rattle.gix_date.proofs.Fields.ColonOffsets.{AreLastSeconds, strict-taken}
+use Rattle.gix_date_laws.proofs.GitGrammar.{no-dotted-by, no-compact-by, dash-no-dot}
 use Rattle.gix_date_laws.proofs.FirstFamily.{counting, git-first, relative-first}
 use Rattle.gix_date_laws.proofs.Grammars.{pair-of, sign-of}
 use Rattle.gix_date_laws.proofs.GitClocks.{clock-is}
@@ -415,14 +416,6 @@ marked-plain x date e =
     let day = went (read_two_digits mark.0) (λ day. Some (date_at year.0.0 month.0.0 day.0 day.1)) date mark.2 in
     rw (year.1, next.1, two-field next.0 month.0 month.1, mark.1, two-field mark.0 day.0 day.1) day.2
 
-no-dotted : (year rest : List ℕ) (n : ℕ) → IsYear year n → dotted_front (year ++ (minus ∷ rest)) ≡ None
-unfolding dotted_front read_marked_date skip_char
-no-dotted year rest n y = rw (year-read year (minus ∷ rest) n y) refl
-
-no-compact : (year rest : List ℕ) (n : ℕ) → IsYear year n → compact_front (year ++ (minus ∷ rest)) ≡ None
-unfolding compact_front read_compact_date
-no-compact year rest n y = rw (year-read year (minus ∷ rest) n y, no_pair minus rest refl) refl
-
 -- what stands after such a date
 record Flexible (date : LocalDate) (rest : List ℕ) (t : Time) : Type 0 where
   after : List ℕ
@@ -434,8 +427,8 @@ unfolding git_form git_front flexible_front
 flexible x date rest t d e =
     let p = plain-year x (date, rest) d in
     let next = λ (f : LocalDate × List ℕ). time_with_rest f.0 f.1 in
-    let dotted : dotted_front x ≡ None = ap dotted_front p.whole ∙ no-dotted p.year p.rest p.number p.is_year in
-    let compact : compact_front x ≡ None = ap compact_front p.whole ∙ no-compact p.year p.rest p.number p.is_year in
+    let dotted = no-dotted-by x p.year (minus ∷ p.rest) p.number p.whole p.is_year (dash-no-dot p.rest) in
+    let compact = no-compact-by x p.year p.rest p.number p.whole p.is_year in
     let by : (flexible_front x >>= next) ≡ Some t = sym (ap (λ (r : Option (LocalDate × List ℕ)). option_or r (option_or (compact_front x) (flexible_front x)) >>= next) dotted ∙ ap (λ (r : Option (LocalDate × List ℕ)). option_or r (flexible_front x) >>= next) compact) ∙ e in
     let front = went (flexible_front x) next t by in
     let f = gap-taken (read_marked_date minus) (λ left. option_or (skip_char letter_t left) (skip_char space left)) x front.0.0 front.0.1 front.1 in
@@ -443,9 +436,6 @@ flexible x date rest t d e =
     subst (λ (p : LocalDate × List ℕ). Flexible p.0 p.1 t) same (record { after = front.0.1; gap = f.2; is = front.2 })
 
 -- The two say the same.
-abbrev time_at : ℤ → ℤ → Time
-time_at seconds offset = record { seconds = seconds; offset = offset }
-
 time-of : (d : LocalDate) (c k : LocalClock) (f : SignedPairs) (z : List ℕ) (t : Time) (answer : FamilyAnswer) → Zone z f → k ≡ c
     → (git_offset z >>= λ o. civil_instant d k o >>= λ s. Some (time_at s o)) ≡ Some t → date_answer d c (offset_of f) ≡ Some answer → answer ≡ Absolute t
 unfolding date_answer

@@ -19,7 +19,7 @@ use Rattle.gix_date.proofs.Relative.QuietWords.{one-run-word}
 use Rattle.gix_date.proofs.Relative.RelativeReading.{pairs_are_read}
 use Rattle.gix_date.proofs.Relative.RelativeScans.{scan, verdict_of}
 use Rattle.gix_date.proofs.Relative.RolePlaces.{meant}
-use Rattle.gix_date.proofs.Text.WordsWithin.{AreGaps, skip-gaps, one-gap}
+use Rattle.gix_date.proofs.Text.WordsWithin.{AreGaps, none-of-empty as no-words, skip-gaps, one-gap}
 use Rattle.gix_date.specs.Careful.Grammar.{AreSeparators, IsWordGap, Piece, AreSeparated, joined_pieces, words_of, IsCountAndUnit, GoesOn, ArePairsAgo, IsCarefulOf}
 use Rattle.gix_date_laws.proofs.Agreement.{comes-first}
 use Rattle.gix_date_laws.proofs.CarefulCounts.{count-plain, count-word, and-counts, and-no-word}
@@ -37,10 +37,6 @@ is-gap b h = rw h refl
 separators-gaps : (gap : List ℕ) → AreSeparators gap → AreGaps gap
 separators-gaps [] h = tt
 separators-gaps (b ∷ gap) h = (is-gap b (no-letter b h.0), separators-gaps gap h.1)
-
-no-words : relative_words [] ≡ []
-unfolding relative_words
-no-words = refl
 
 after-gap : (x gap : List ℕ) (pieces : List Piece) → IsWordGap gap → ((gap ≡ []) → pieces ≡ []) → relative_words (joined_pieces pieces) ≡ words_of pieces → relative_words (x ++ (gap ++ joined_pieces pieces)) ≡ relative_words x ++ words_of pieces
 after-gap x [] pieces h last more =

@@ -1,5 +1,6 @@
 -- No careful text is in one of Git's own forms: it begins with a count and a unit, and those with a date.
 use Rattle.std.proofs.Common.{◌≡◌, ◌∙◌, inl, inr, ℕ, ℤ, Bool, true, false, List, [], ◌∷◌, ◌++◌, filter, append_assoc, refl, ap, ap₂, sym, subst, arith, length, ◌<◌, ◌≤◌, Some, None, IsUtf8}
+use Rattle.std.proofs.Math.Bool.{and-false}
 use Rattle.std.proofs.lemmas.Bool.{and_parts as both}
 use Rattle.std.proofs.lemmas.Bool.Decides.{nat_tests}
 use Rattle.std.proofs.lemmas.List.{length-append}
@@ -110,10 +111,6 @@ digit-no-number c t h =
 not-all : (xs ys : List ℕ) (y : ℕ) → is_ascii_digit y ≡ false → all_ascii_digits (xs ++ (y ∷ ys)) ≡ false
 not-all [] ys y h = rw h refl
 not-all (x ∷ xs) ys y h = rw (not-all xs ys y h) (and-false (is_ascii_digit x))
-  where
-    and-false : (b : Bool) → (b && false) ≡ false
-    and-false true = refl
-    and-false false = refl
 
 no-count : (c : ℕ) (t : List ℕ) (n : ℤ) → is_ascii_digit c ≡ true → all_ascii_digits (c ∷ t) ≡ false → IsPlainCount (c ∷ t) n → ⊥
 no-count c t n d h (inl k) = let bad : true ≡ false = sym k.1.1 ∙ h in cc

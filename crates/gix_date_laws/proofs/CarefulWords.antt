@@ -1,5 +1,6 @@
 -- Words that may stand so one after the other are `count unit (and? count unit)* ago`.
 use Rattle.std.proofs.Common.{◌≡◌, ◌∙◌, ◌⊎◌, inl, inr, ℕ, ℤ, Bool, true, false, List, [], ◌∷◌, refl, ap, sym, Some, None}
+use Rattle.std.proofs.Math.Bool.{or-false}
 use Rattle.std.proofs.lemmas.Bool.{and_parts as both, or_cases, and_from as joined-true}
 use Rattle.std.specs.Option.{is_some}
 use Rattle.std.specs.Prelude.{◌&&◌, ◌||◌}
@@ -13,11 +14,7 @@ use Rattle.gix_date_laws.proofs.CarefulUnits.{unit-named, named-unit}
 
 -- what may follow a count, a unit, `and` and `ago`
 after-count : (c w : List ℕ) → is_plain_count c ≡ true → may_follow c w ≡ has_unit w
-after-count c w h = rw (h, count-no-unit c h, count-no-and c h) (or-nothing (has_unit w))
-  where
-    or-nothing : (b : Bool) → (b || false) ≡ b
-    or-nothing true = refl
-    or-nothing false = refl
+after-count c w h = rw (h, count-no-unit c h, count-no-and c h) (or-false (has_unit w))
 
 after-and : (a w : List ℕ) → is_and a ≡ true → may_follow a w ≡ is_plain_count w
 after-and a w h = rw (and-no-count a h, and-no-unit a h, h) refl

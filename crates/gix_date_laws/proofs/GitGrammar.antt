@@ -20,7 +20,7 @@ use Rattle.gix_date.specs.declared.time.Time.{Time}
 use Rattle.gix_date.proofs.Families.Apart.{no_pair}
 use Rattle.gix_date.proofs.Git.ClockCuts.{cut_means, means_cut}
 use Rattle.gix_date.proofs.Fields.FieldsRead.{year-read}
-use Rattle.gix_date.proofs.Fields.FieldsTaken.{went}
+use Rattle.gix_date.proofs.Fields.FieldsTaken.{time_at, went}
 use Rattle.gix_date.proofs.Git.Fronts.{Gap, front-taken, joined}
 use Rattle.gix_date_laws.proofs.Grammars.{pair-of}
 use Rattle.gix_date_laws.proofs.GitClocks.{clock-is, is-clock}
@@ -36,9 +36,6 @@ is-date gap mark taken text date rest h =
     ∙ rw (year-read h.year (mark ++ (h.month ++ (mark ++ (h.day ++ rest)))) date.year h.is_year, taken (h.month ++ (mark ++ (h.day ++ rest))), pair-of h.month date.month (mark ++ (h.day ++ rest)) h.is_month, taken (h.day ++ rest), pair-of h.day date.day rest h.is_day) refl
 
 -- The rest.
-abbrev pub time_at : ℤ → ℤ → Time
-time_at seconds offset = record { seconds = seconds; offset = offset }
-
 -- such a text, and where its offset stands
 abbrev pub IsTextWith : List ℕ → List ℕ → Time → Type 0
 IsTextWith zone text t = (h : IsGitText text t) × (h.zone ≡ zone)
@@ -99,7 +96,7 @@ by-dotted x day rest date w d =
     let read : read_date read_two_digits (skip_char dot) x ≡ Some (date, space ∷ rest) = ap (read_date read_two_digits (skip_char dot)) w ∙ is-date (skip_char dot) (dot ∷ []) (skipped dot) day date (space ∷ rest) d in
     rw (read, skipped space rest) refl
 
-no-dotted-by : (x year more : List ℕ) (n : ℕ) → x ≡ year ++ more → IsYear year n → skip_char dot more ≡ None → dotted_front x ≡ None
+pub no-dotted-by : (x year more : List ℕ) (n : ℕ) → x ≡ year ++ more → IsYear year n → skip_char dot more ≡ None → dotted_front x ≡ None
 unfolding dotted_front read_marked_date
 no-dotted-by x year more n w y e = ap dotted_front w ∙ rw (year-read year more n y, e) refl
 
@@ -112,11 +109,11 @@ by-compact x day rest date w d =
     let read : read_date read_two_digits (λ (y : List ℕ). Some y) x ≡ Some (date, letter_t ∷ rest) = ap (read_date read_two_digits (λ (y : List ℕ). Some y)) w ∙ is-date (λ (y : List ℕ). Some y) [] kept day date (letter_t ∷ rest) d in
     rw (dotted, read, skipped letter_t rest) refl
 
-no-compact-by : (x year more : List ℕ) (n : ℕ) → x ≡ year ++ (minus ∷ more) → IsYear year n → compact_front x ≡ None
+pub no-compact-by : (x year more : List ℕ) (n : ℕ) → x ≡ year ++ (minus ∷ more) → IsYear year n → compact_front x ≡ None
 unfolding compact_front read_compact_date
 no-compact-by x year more n w y = ap compact_front w ∙ rw (year-read year (minus ∷ more) n y, no_pair minus more refl) refl
 
-dash-no-dot : (more : List ℕ) → skip_char dot (minus ∷ more) ≡ None
+pub dash-no-dot : (more : List ℕ) → skip_char dot (minus ∷ more) ≡ None
 unfolding skip_char
 dash-no-dot more = refl
 

@@ -21,7 +21,7 @@ use Rattle.gix_date.specs.Text.Numbers.{fits_i64, int_value, read_two_digits}
 use Rattle.gix_date.specs.declared.time.Time.{Time}
 use Rattle.gix_date.proofs.Families.Disjoint.{raw-words}
 use Rattle.gix_date.proofs.Families.Shapes.{int-no-raw}
-use Rattle.gix_date.proofs.Fields.FieldsTaken.{went, after-taken, first-or}
+use Rattle.gix_date.proofs.Fields.FieldsTaken.{time_at, went, after-taken, first-or}
 use Rattle.gix_date.proofs.Fields.Instants.{z_test, z_holds}
 use Rattle.gix_date.proofs.Text.Ints.{own, each_of, fits_from, int_value_from}
 use Rattle.gix_date.proofs.Fast.FastHeaders.{int-taken, offset-taken}
@@ -117,9 +117,6 @@ are-fields text f h =
     ∙ rw (sign-of h.mark f.sign (h.hours ++ (h.minutes ++ h.last)) h.is_mark, pair-of h.hours f.hours (h.minutes ++ h.last) h.are_hours, pair-of h.minutes f.minutes h.last h.are_minutes, last-of h.last f.seconds h.are_seconds) refl
 
 -- Raw texts, bare epochs and at texts.
-abbrev time_at : ℤ → ℤ → Time
-time_at seconds offset = record { seconds = seconds; offset = offset }
-
 raw-is : (rule : OffsetRule) (text : List ℕ) (t : Time) → raw_time_by rule text ≡ Some t → IsRawText rule text t
 raw-is rule text t e =
     let r = raw-words rule text t e in

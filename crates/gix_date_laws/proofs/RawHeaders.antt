@@ -1,5 +1,6 @@
 -- A raw text is read as a header with the same time.
 use Rattle.std.proofs.Common.{◌≡◌, ◌∙◌, ◌<◌, ◌≤◌, ℕ, Bool, true, false, List, [], ◌∷◌, map, filter, get_or, refl, ap, ap₂, sym, subst, arith, Some, Option, encode_utf8, encode_utf8_all, IsUtf8, inl, inr, ◌⊎◌}
+use Rattle.std.proofs.Math.Bool.{or_assoc, or-false}
 use Rattle.std.proofs.lemmas.Option.{same_Some as same_some}
 use Rattle.std.proofs.lemmas.Bool.{cases_lt}
 use Rattle.std.proofs.lemmas.Bool.Decides.{nat_tests}
@@ -33,10 +34,6 @@ use Rattle.gix_date.proofs.Text.WordsWithin.{parts-of, wide-byte}
 wide-no-colon : (b : ℕ) → 128 ≤ b → is_colon b ≡ false
 wide-no-colon b h = grind (arith, nat_tests, h)
 
-or-false : (b : Bool) → (b || false) ≡ b
-or-false true = refl
-or-false false = refl
-
 char-colon : (c : ℕ) → (c < 128) ⊎ (128 ≤ c) → has_colon (encode_utf8 c) ≡ is_colon c
 char-colon c (inl small) = ap has_colon (encode_ascii c small) ∙ or-false (is_colon c)
 char-colon c (inr large) =
@@ -53,10 +50,6 @@ white-no-colon c true e h =
     let is : c ≡ colon = grind (arith, nat_tests, e) in
     sym (ap is_whitespace (sym is) ∙ h)
 
-or-or : (a b c : Bool) → (a || (b || c)) ≡ ((a || b) || c)
-or-or true b c = refl
-or-or false b c = refl
-
 abbrev any_colon : List (List ℕ) → Bool
 any_colon ps = list_any (list_any is_colon) ps
 
@@ -65,7 +58,7 @@ parts-by c cs true e more =
     ap (λ b. b || list_any is_colon cs) (white-no-colon c (is_colon c) refl e) ∙ more ∙ sym (ap any_colon (slice_split-cons_yes is_whitespace c cs e))
 parts-by c cs false e more =
     let ps = parts-of is_whitespace cs in
-    ap (λ b. is_colon c || b) (more ∙ ap any_colon ps.is) ∙ or-or (is_colon c) (list_any is_colon ps.part) (any_colon ps.parts)
+    ap (λ b. is_colon c || b) (more ∙ ap any_colon ps.is) ∙ sym (or_assoc (is_colon c) (list_any is_colon ps.part) (any_colon ps.parts))
     ∙ sym (ap any_colon (slice_split-cons_no is_whitespace c cs e ∙ ap (onto_first c) ps.is))
 
 parts-colon : (cs : List ℕ) → list_any is_colon cs ≡ any_colon (slice_split is_whitespace cs)

@@ -5,7 +5,7 @@ use Rattle.std.proofs.lemmas.Bool.Decides.{nat_tests}
 use Rattle.std.specs.Prelude.{◌&&◌, ◌||◌, not, slice_index, ◌==◌}
 use Rattle.gix_date.specs.Careful.Texts.{after_word, begins_word, in_word, is_clear_at, is_separator, may_stand_after, separates, word_at, word_before}
 use Rattle.gix_date.specs.Text.Characters.{minus}
-use Rattle.gix_date.proofs.Relative.QuietWords.{run_ascii as word_is_ascii}
+use Rattle.gix_date.proofs.Relative.RelativeWordSteps.{run_ascii as word_is_ascii}
 
 separator_is_ascii : (b : ℕ) → is_separator b ≡ true → b < 128
 separator_is_ascii b h = grind (arith, nat_tests, h)

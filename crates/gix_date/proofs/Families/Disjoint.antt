@@ -20,7 +20,7 @@ use Rattle.gix_date.specs.declared.civil.DateFields.{DateFields}
 use Rattle.gix_date.specs.declared.parsing.offset.OffsetFields.{OffsetFields}
 use Rattle.gix_date.specs.declared.time.Time.{Time}
 use Rattle.gix_date.proofs.Families.Apart.{mixed, int-digits}
-use Rattle.gix_date.proofs.Fields.FieldsTaken.{went, none-unless, same-first}
+use Rattle.gix_date.proofs.Fields.FieldsTaken.{time_at, went, none-unless, same-first}
 use Rattle.gix_date.proofs.Git.Fronts.{front-taken, joined}
 use Rattle.gix_date.proofs.Text.FirstWords.{AreVisible, is_visible, first-begins, trimmed-words}
 use Rattle.gix_date.proofs.Fast.FastHeaders.{int-number, one-word}
@@ -153,9 +153,6 @@ two-words-are ws a b second e h =
         → ws ≡ a ∷ b ∷ []
     by (x ∷ y ∷ []) first last = ap₂ (λ (s t : List ℕ). s ∷ t ∷ []) (same_some x a first) (same_some y b last)
     by ws first last = absurd cc
-
-abbrev time_at : ℤ → ℤ → Time
-time_at seconds offset = record { seconds = seconds; offset = offset }
 
 pub raw-words : (rule : OffsetRule) (text : List ℕ) (t : Time) → raw_time_by rule text ≡ Some t → RawWords rule text t
 unfolding raw_time_by raw_offset_by

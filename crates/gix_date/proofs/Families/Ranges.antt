@@ -41,7 +41,7 @@ use Rattle.gix_date.specs.declared.parsing.raw.RawOffsets.TheVariants.{Quarter, 
 use Rattle.gix_date.specs.declared.parsing.relative.words.TimeUnit.{TimeUnit}
 use Rattle.gix_date.specs.declared.parsing.relative.words.TimeUnit.TheVariants.{Seconds, Months}
 use Rattle.gix_date.specs.declared.time.Time.{Time}
-use Rattle.gix_date.proofs.Fields.FieldsTaken.{went, first-or}
+use Rattle.gix_date.proofs.Fields.FieldsTaken.{time_at, went, first-or}
 use Rattle.gix_date.proofs.Header.HeaderTexts.{fitting_has_text}
 use Rattle.gix_date.proofs.Families.Disjoint.{raw-words}
 use Rattle.gix_date.proofs.Header.HeaderLaws.{abs-signed as size-of}
@@ -68,9 +68,6 @@ allowed WholeMinutes f h =
     let p = both (nat_le f.hours 23 && nat_le f.minutes 59) (unwrap_or f.seconds 0 == 0) h in
     let q = both (nat_le f.hours 23) (nat_le f.minutes 59) p.0 in
     near f (grind (arith, nat_tests, q.0)) (grind (arith, nat_tests, q.1)) (grind (arith, nat_tests, p.1))
-
-abbrev time_at : ℤ → ℤ → Time
-time_at seconds offset = record { seconds = seconds; offset = offset }
 
 near-raw : (raw : RawOffsets) (text : List ℕ) (t : Time) → raw_time_by (allows raw) text ≡ Some t → IsNear t.offset
 near-raw raw text t e =

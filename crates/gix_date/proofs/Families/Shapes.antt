@@ -22,7 +22,7 @@ use Rattle.gix_date.specs.declared.parsing.shape.Shape.TheVariants.{AtSign, Rfc2
 use Rattle.gix_date.proofs.Families.Apart.{NoPlainDate, NoDayFirst, no-day, no-field, no-rfc2822-first, no-rfc2822-year, no-plain, no-spaces, no-weekday, no-year, digit-no-minus, no-epoch}
 use Rattle.gix_date.proofs.Families.Disjoint.{GitFront, year-front, compact-year, raw-words, int-first, no-git, letter_visible, number-no-front}
 use Rattle.gix_date.proofs.Families.Exclusive.{BeginsMail, rfc2822-begins, git-no-day}
-use Rattle.gix_date.proofs.Fields.FieldsRead.{Begins, BeginsNot, begins-append, letter-no-digit}
+use Rattle.gix_date.proofs.Fields.FieldsRead.{Begins, BeginsNot, begins-append, digit-no-letter, letter-no-digit}
 use Rattle.gix_date.proofs.Text.FirstWords.{is_visible}
 use Rattle.gix_date.proofs.Text.FirstBytes.{no-raw-front, no-raw-byte, no-git-byte, no-plain-by, plain-front, plain-year}
 use Rattle.gix_date.proofs.Fast.FastHeaders.{AreNumberBytes, is_number_byte, int-number, one-word, int-no-byte, letter-no-number}
@@ -219,9 +219,6 @@ dashed-after rule text h = absurd cc
 record DayFirst (year : Bool) (text : List ℕ) : Type 0 where
   pub letter : begins_with_letter text ≡ false
   pub marked : begins_with_year text ≡ year
-
-digit-no-letter : (c : ℕ) → is_ascii_digit c ≡ true → is_ascii_alphabetic c ≡ false
-digit-no-letter c h = grind (arith, nat_tests, h)
 
 day-first : (a b c d mark : ℕ) (rest : List ℕ) (year : Bool) → are_four_digits a b c d ≡ true → (mark == minus) ≡ year
     → DayFirst year (a ∷ b ∷ c ∷ d ∷ mark ∷ rest)

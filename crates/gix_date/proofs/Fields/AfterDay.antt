@@ -69,42 +69,19 @@ day-then-t text date (c ∷ cs) x e more none is =
 
 -- The dates with names: the day of the week, the month and the day are read once for both.
 
+-- a step of both readings, where they go on alike after it
+step : {A P T B D : Type 0} (o : Option A) (f : A → Option P) (read : P → Option T) (answer : T → Option B) (g : A → Option D) (k : D → Option B)
+    → ((a : A) → (f a >>= read >>= answer) ≡ (g a >>= k)) → (o >>= f >>= read >>= answer) ≡ (o >>= g >>= k)
+step None f read answer g k same = refl
+step (Some a) f read answer g k same = same a
+
 -- a form that begins with these is what stands after them
 named-day : (pieces : List Piece) (text : List ℕ) → layout_answer (DayName ∷ Spaces ∷ MonthName ∷ Spaces ∷ Day ∷ Spaces ∷ pieces) time_answer text
     ≡ (read_named_day text >>= λ found. answer_after pieces time_answer found.0 found.1)
 unfolding read_named_day
-named-day pieces text = by-name (skip_weekday text) refl
-  where
-    Same : Type 0
-    Same = layout_answer (DayName ∷ Spaces ∷ MonthName ∷ Spaces ∷ Day ∷ Spaces ∷ pieces) time_answer text
-        ≡ (read_named_day text >>= λ found. answer_after pieces time_answer found.0 found.1)
-
-    by-end : (r1 r2 : List ℕ) (m : ℕ × List ℕ) (r4 : List ℕ) (d : ℕ × List ℕ) (r : Option (List ℕ)) → skip_weekday text ≡ Some r1 → skip_spaces r1 ≡ Some r2
-        → read_month r2 ≡ Some m → skip_spaces m.1 ≡ Some r4 → read_field r4 ≡ Some d → skip_spaces d.1 ≡ r → Same
-    by-end r1 r2 m r4 d None e1 e2 e3 e4 e5 e6 = rw (e1, e2, e3, e4, e5, e6) refl
-    by-end r1 r2 m r4 d (Some r6) e1 e2 e3 e4 e5 e6 = rw (e1, e2, e3, e4, e5, e6) refl
-
-    by-day : (r1 r2 : List ℕ) (m : ℕ × List ℕ) (r4 : List ℕ) (d : Option (ℕ × List ℕ)) → skip_weekday text ≡ Some r1 → skip_spaces r1 ≡ Some r2
-        → read_month r2 ≡ Some m → skip_spaces m.1 ≡ Some r4 → read_field r4 ≡ d → Same
-    by-day r1 r2 m r4 None e1 e2 e3 e4 e5 = rw (e1, e2, e3, e4, e5) refl
-    by-day r1 r2 m r4 (Some d) e1 e2 e3 e4 e5 = by-end r1 r2 m r4 d (skip_spaces d.1) e1 e2 e3 e4 e5 refl
-
-    by-gap : (r1 r2 : List ℕ) (m : ℕ × List ℕ) (r : Option (List ℕ)) → skip_weekday text ≡ Some r1 → skip_spaces r1 ≡ Some r2
-        → read_month r2 ≡ Some m → skip_spaces m.1 ≡ r → Same
-    by-gap r1 r2 m None e1 e2 e3 e4 = rw (e1, e2, e3, e4) refl
-    by-gap r1 r2 m (Some r4) e1 e2 e3 e4 = by-day r1 r2 m r4 (read_field r4) e1 e2 e3 e4 refl
-
-    by-month : (r1 r2 : List ℕ) (m : Option (ℕ × List ℕ)) → skip_weekday text ≡ Some r1 → skip_spaces r1 ≡ Some r2 → read_month r2 ≡ m → Same
-    by-month r1 r2 None e1 e2 e3 = rw (e1, e2, e3) refl
-    by-month r1 r2 (Some m) e1 e2 e3 = by-gap r1 r2 m (skip_spaces m.1) e1 e2 e3 refl
-
-    by-space : (r1 : List ℕ) (r : Option (List ℕ)) → skip_weekday text ≡ Some r1 → skip_spaces r1 ≡ r → Same
-    by-space r1 None e1 e2 = rw (e1, e2) refl
-    by-space r1 (Some r2) e1 e2 = by-month r1 r2 (read_month r2) e1 e2 refl
-
-    by-name : (r : Option (List ℕ)) → skip_weekday text ≡ r → Same
-    by-name None e1 = rw e1 refl
-    by-name (Some r1) e1 = by-space r1 (skip_spaces r1) e1 refl
+named-day pieces text =
+    step (skip_weekday text) _ _ _ _ _ (λ r1. step (skip_spaces r1) _ _ _ _ _ (λ r2. step (read_month r2) _ _ _ _ _ (λ m.
+    step (skip_spaces m.1) _ _ _ _ _ (λ r4. step (read_field r4) _ _ _ _ _ (λ d. step (skip_spaces d.1) _ _ _ _ _ (λ r6. refl))))))
 
 -- the answers after them
 abbrev pub year-first : DateFields → List ℕ → Option FamilyAnswer

@@ -168,7 +168,7 @@ rfc2822-clock-read t rest clock (inr h) s e =
     ap read_rfc2822_clock split ∙ rw (field-read h.hour (colon ∷ (h.minute ++ rest)) clock.hour h.is_hour refl, field-read h.minute rest clock.minute h.is_minute s, no-second (minutes clock.hour clock.minute) rest e)
     (ap (with_second clock.hour clock.minute rest) (sym h.at_its_start))
 
-is-space : (c : ℕ) → is_space c ≡ true → c ≡ space
+pub is-space : (c : ℕ) → is_space c ≡ true → c ≡ space
 is-space c h = grind (arith, nat_tests, h)
 
 -- no offset begins with a space

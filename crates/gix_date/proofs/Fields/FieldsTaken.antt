@@ -1,5 +1,5 @@
 -- Fields that are read are written so.
-use Rattle.std.proofs.Common.{◌≡◌, ◌∙◌, ℕ, ◌<◌, ◌+◌, ◌-◌, ◌*◌, Bool, true, false, cond, List, [], ◌∷◌, ◌++◌, length, drop, take, refl, ap, sym, subst, Option, Some, None, append_assoc, arith, inl, inr, ◌⊎◌, option_map, take-append-drop, one-add}
+use Rattle.std.proofs.Common.{◌≡◌, ◌∙◌, ℕ, ℤ, ◌<◌, ◌+◌, ◌-◌, ◌*◌, Bool, true, false, cond, List, [], ◌∷◌, ◌++◌, length, drop, take, refl, ap, sym, subst, Option, Some, None, append_assoc, arith, inl, inr, ◌⊎◌, option_map, take-append-drop, one-add}
 use Rattle.std.proofs.lemmas.Option.{same_Some as same, cond_some as guard}
 use Rattle.std.proofs.lemmas.Bool.{and_parts as both}
 use Rattle.std.proofs.lemmas.Bool.Decides.{nat_tests}
@@ -15,6 +15,11 @@ use Rattle.gix_date.specs.Text.Numbers.{read_two_digits, read_digit, read_field,
 use Rattle.gix_date.specs.Fields.DateFields.{skip_day_name, skip_spaces, read_name, read_month, month_named, is_weekday, skip_weekday, read_plain_date, read_minutes, read_second, read_clock, read_rfc2822_clock, without_leap_second}
 use Rattle.gix_date.specs.declared.civil.ClockFields.{ClockFields}
 use Rattle.gix_date.specs.declared.civil.DateFields.{DateFields}
+use Rattle.gix_date.specs.declared.time.Time.{Time}
+
+-- the time of these seconds at this offset
+abbrev pub time_at : ℤ → ℤ → Time
+time_at seconds offset = record { seconds = seconds; offset = offset }
 
 -- an answer that is said to be none
 pub none_is : {A : Type 0} (r : Option A) → is_none r ≡ true → r ≡ None

@@ -34,8 +34,9 @@ use Rattle.gix_date.specs.declared.parsing.offset.Sign.{Sign}
 use Rattle.gix_date.specs.declared.parsing.offset.Sign.TheVariants.{Plus, Minus}
 use Rattle.gix_date.specs.declared.time.Time.{Time}
 use Rattle.gix_date.specs.declared.time.write.TheConstants.{HUNDRED_HOURS}
+use Rattle.gix_date.proofs.Fields.FieldsRead.{is-space}
 use Rattle.gix_date.proofs.Text.Ints.{own, int_value_from, fits_from, each_of}
-use Rattle.gix_date.proofs.Fields.FieldsTaken.{went, none_is}
+use Rattle.gix_date.proofs.Fields.FieldsTaken.{time_at, went, none_is}
 use Rattle.gix_date.proofs.Fast.FastHeaders.{is_number_byte, usual-header, int-taken, offset-taken, IsOffsetText, AreNumberBytes, are_ascii, IsNumber, int-number, offset-number}
 
 -- A canonical header, taken apart.
@@ -77,7 +78,7 @@ canonical-taken text e =
     let zone = from_test (offset_fields after) has_whole_minutes zone_parts.0 in
     let fits = both (nat_lt zone.0.minutes 60) (is_none zone.0.seconds) zone.2 in
     let within = fields-within text zone.0 zone.1 in
-    let mark : get_or text (position_or_len is_space text) 0 ≡ space = is_space_byte _ (passes_at_first is_space text 0 within) in
+    let mark : get_or text (position_or_len is_space text) 0 ≡ space = is-space _ (passes_at_first is_space text 0 within) in
     record {
       front = before;
       zone = after;
@@ -91,9 +92,6 @@ canonical-taken text e =
       none = none_is zone.0.seconds fits.1;
       not_minus_zero = not_false _ zone_parts.1;
     }
-  where
-    is_space_byte : (c : ℕ) → is_space c ≡ true → c ≡ space
-    is_space_byte c h = grind (arith, nat_tests, h)
 
 -- Two digits that were read are written back.
 digit_low : (c : ℕ) → IsDigit c → 48 ≤ c
@@ -213,9 +211,6 @@ int-fits w z e =
 said-fits : (w v : List ℕ) (a b : Option ℤ) (z : ℤ) → int_value w ≡ a → int_value v ≡ b → option_or a b ≡ Some z → FitsSigned w64 z
 said-fits w v (Some y) b z e f h = int-fits w z (e ∙ h)
 said-fits w v None b z e f h = int-fits v z (f ∙ h)
-
-abbrev time_at : ℤ → ℤ → Time
-time_at seconds offset = record { seconds = seconds; offset = offset }
 
 words-fit : (words : List (List ℕ)) (t : Time) → time_of_words words ≡ Some t → FitsSigned w64 t.seconds
 unfolding time_of_words header_seconds

@@ -17,6 +17,7 @@ use Rattle.gix_date.specs.Text.SpaceWords.{space_words}
 use Rattle.gix_date.specs.declared.parsing.dates.TheConstants.{MIN_EPOCH}
 use Rattle.gix_date.specs.declared.parsing.offset.OffsetFields.{OffsetFields}
 use Rattle.gix_date.specs.declared.time.Time.{Time}
+use Rattle.gix_date.proofs.Fields.FieldsTaken.{time_at}
 use Rattle.gix_date.proofs.Header.HeaderLaws.{written-by, decimal-int, zone-read, back-to, written_fields, number-bytes, two-utf8}
 use Rattle.gix_date.proofs.Fast.FastHeaders.{int-number, offset-number, two-words, IsNumber, are_ascii}
 use Rattle.gix_date.proofs.Families.Exclusive.{raw-first-family, epoch-first-family}
@@ -53,9 +54,6 @@ by-raw-words rule text a b n f w e h q = rw (w, e, h, q) refl
 
 words-of-two : (front zone : List ℕ) → IsNumber front → IsNumber zone → space_words (front ++ (space ∷ zone)) ≡ front ∷ zone ∷ []
 words-of-two front zone a b = rw (a.whole, b.whole) (two-words a.first b.first a.rest b.rest a.bytes b.bytes)
-
-abbrev time_at : ℤ → ℤ → Time
-time_at seconds offset = record { seconds = seconds; offset = offset }
 
 back-by : (rule : OffsetRule) (t : Time) → FitsSigned w64 t.seconds → unsigned_abs t.offset < 360000 → unsigned_abs t.offset % 60 ≡ 0 → rule (written_fields t.offset) ≡ true
     → IsSomeAnd (header_text t) (λ text. first_family_by rule text ≡ Some (Absolute t))

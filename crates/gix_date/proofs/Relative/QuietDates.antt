@@ -27,6 +27,7 @@ use Rattle.gix_date.specs.declared.civil.ClockFields.{ClockFields}
 use Rattle.gix_date.specs.declared.civil.DateFields.{DateFields}
 use Rattle.gix_date.specs.declared.parsing.offset.OffsetFields.{OffsetFields}
 use Rattle.gix_date.specs.declared.parsing.offset.Sign.{Sign}
+use Rattle.gix_date.proofs.Fields.FieldsRead.{digit-no-letter}
 use Rattle.gix_date.proofs.Fields.ColonOffsets.{AreLastSeconds, strict-taken}
 use Rattle.gix_date.proofs.Fields.FieldsTaken.{went}
 use Rattle.gix_date.proofs.Text.Ints.{each_of, each_of as three}
@@ -88,11 +89,8 @@ no-ago c t h = rw (no_lower c 97 h (omega arith) (omega arith)) refl
 
 digit-says-nothing : (c : ℕ) (t : List ℕ) → is_ascii_digit c ≡ true → says_nothing (c ∷ t) ≡ true
 digit-says-nothing c t h =
-    let no : is_ascii_alphabetic c ≡ false = no_letter c h in
+    let no : is_ascii_alphabetic c ≡ false = digit-no-letter c h in
     says-by (c ∷ t) (no-unit c t no) (no-ago c t no) (no-date c t no)
-  where
-    no_letter : (c : ℕ) → is_ascii_digit c ≡ true → is_ascii_alphabetic c ≡ false
-    no_letter c h = grind (arith, nat_tests, h)
 
 -- Texts one after the other, with a byte of no word between them, are quiet where each is.
 all-append : (p : List ℕ → Bool) (xs ys : List (List ℕ)) → list_all p xs ≡ true → list_all p ys ≡ true → list_all p (xs ++ ys) ≡ true

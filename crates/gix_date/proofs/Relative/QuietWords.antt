@@ -1,6 +1,7 @@
 -- Texts whose words say nothing of a moment: no unit, no `ago`, no name of a day. No such text is relative.
 use Rattle.std.proofs.Common.{◌≡◌, ◌∙◌, ◌-◌, ◌<◌, ℕ, Bool, true, false, cond, List, [], ◌∷◌, ◌++◌, filter, length, map, take, get_or, refl, ap, ap₂, sym, arith, Some, None, Option, IsUtf8, flat_map}
 use Rattle.std.proofs.Math.ListN.{get_or-map}
+use Rattle.std.proofs.Math.Bool.{and-false}
 use Rattle.std.proofs.lemmas.Bool.{and_parts as both, not-true as not_is}
 use Rattle.std.proofs.lemmas.Bool.Decides.{nat_tests}
 use Rattle.std.proofs.lemmas.List.{take-map, length-map}
@@ -12,6 +13,7 @@ use Rattle.std.specs.List.{slice_split, onto_first, list_all, list_any}
 use Rattle.std.specs.Prelude.{◌==◌, ◌||◌, ◌&&◌, not, is_none, is_some, codes}
 use Rattle.std.specs.Str.{trim, bytes_eq, str_to_ascii_lowercase}
 use Rattle.gix_date.specs.Text.Names.{is_name, named_in}
+use Rattle.gix_date.proofs.Relative.RelativeWordSteps.{run_ascii}
 use Rattle.gix_date.proofs.Text.Places.{any_place, all_places}
 use Rattle.gix_date.specs.Relative.Dates.{relative_date, date_names, named_date, pairs_date, RelativeDate}
 use Rattle.gix_date.specs.Relative.Words.{relative_words, is_gap, singular, named_unit, unit_names, unit_of, is_ago}
@@ -57,19 +59,15 @@ starts_pair front word back = is_count front word && has_next back
 abbrev counts_unit : List (List ℕ) → List ℕ → List (List ℕ) → Bool
 counts_unit front word back = not (is_count front word) || next_is_unit back
 
-and_false : (a : Bool) → (a && false) ≡ false
-and_false true = refl
-and_false false = refl
-
 no-flag : (front words : List (List ℕ)) → list_all says_nothing words ≡ true → any_place is_flag front words ≡ false
 no-flag front [] h = refl
 no-flag front (word ∷ words) h =
     let parts = both (says_nothing word) (list_all says_nothing words) h in
-    rw ((says-parts word parts.0).ago, and_false (next_is_free front), no-flag (front ++ word ∷ []) words parts.1) refl
+    rw ((says-parts word parts.0).ago, and-false (next_is_free front), no-flag (front ++ word ∷ []) words parts.1) refl
 
 no-unit : (front words : List (List ℕ)) → list_all says_nothing words ≡ true → any_place starts_pair front words ≡ true → all_places counts_unit front words ≡ false
 no-unit front [] h e = absurd cc
-no-unit front (word ∷ []) h e = let no = and_false (is_count front word) in absurd cc
+no-unit front (word ∷ []) h e = let no = and-false (is_count front word) in absurd cc
 no-unit front (word ∷ period ∷ words) h e =
     let parts = both (says_nothing word) (list_all says_nothing (period ∷ words)) h in
     let next = both (says_nothing period) (list_all says_nothing words) parts.1 in
@@ -100,9 +98,6 @@ one-run (c ∷ t) h =
 pub one-run-word : (c : ℕ) (t : List ℕ) → list_all is_ascii_alphanumeric (c ∷ t) ≡ true → relative_words (c ∷ t) ≡ (c ∷ t) ∷ []
 unfolding relative_words
 one-run-word c t h = ap (filter is_nonempty) (one-run (c ∷ t) h)
-
-pub run_ascii : (c : ℕ) → is_ascii_alphanumeric c ≡ true → c < 128
-run_ascii c h = grind (arith, nat_tests, h)
 
 -- Words that differ in case alone say the same.
 pub same_class : (c : ℕ) → is_ascii_alphanumeric (to_ascii_lowercase c) ≡ is_ascii_alphanumeric c

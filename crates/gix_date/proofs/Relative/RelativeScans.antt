@@ -1,5 +1,6 @@
 -- What a scan of all words says.
 use Rattle.std.proofs.Common.{◌≡◌, ℕ, Bool, true, false, cond, List, [], ◌∷◌, ◌++◌, refl, sym, ap, ◌∙◌}
+use Rattle.std.proofs.Math.Bool.{and_assoc, or_assoc, or-false, or-true}
 use Rattle.std.specs.List.{fold}
 use Rattle.std.specs.Prelude.{not, ◌&&◌, ◌||◌}
 use Rattle.gix_date.specs.Relative.Words.{is_ago}
@@ -30,22 +31,6 @@ on : (even b : Bool) → false ≡ not even → (even && b) ≡ b
 on true b e = refl
 on false b e = cc
 
-or_false : (a : Bool) → a ≡ (a || false)
-or_false true = refl
-or_false false = refl
-
-or_true : (a : Bool) → true ≡ (a || true)
-or_true true = refl
-or_true false = refl
-
-or_nested : (a b d : Bool) → ((a || b) || d) ≡ (a || (b || d))
-or_nested true b d = refl
-or_nested false b d = refl
-
-and_nested : (a b d : Bool) → ((a && b) && d) ≡ (a && (b && d))
-and_nested true b d = refl
-and_nested false b d = refl
-
 none_any : (a v : Bool) → a ≡ (a || ((v && false) || false))
 none_any true v = refl
 none_any false true = refl
@@ -58,19 +43,19 @@ none_known false v = refl
 
 ago_of : (ws front : List (List ℕ)) (v a k g : Bool) → v ≡ not (next_is_free front)
     → (fold step (scan v a k g) ws).ago ≡ (g || any_place (λ f w back. next_is_free f && is_ago w) front ws)
-ago_of [] front v a k g e = or_false g
+ago_of [] front v a k g e = sym (or-false g)
 ago_of (w ∷ ws) front true a k g e =
     ago_of ws (front ++ w ∷ []) false true (k && has_unit w) g (goes_on true a k g w front e)
     ∙ ap (λ b. g || (b || any_place (λ f w back. next_is_free f && is_ago w) (front ++ w ∷ []) ws)) (sym (off (next_is_free front) (is_ago w) e))
 ago_of (w ∷ ws) front false a k g e =
     ago_of ws (front ++ w ∷ []) (is_count_word w) a k (g || is_ago w) (goes_on false a k g w front e)
-    ∙ or_nested g (is_ago w) _
+    ∙ or_assoc g (is_ago w) _
     ∙ ap (λ b. g || (b || any_place (λ f w back. next_is_free f && is_ago w) (front ++ w ∷ []) ws)) (sym (on (next_is_free front) (is_ago w) e))
 
 any_of : (ws front : List (List ℕ)) (v a k g : Bool) → v ≡ not (next_is_free front)
     → (fold step (scan v a k g) ws).any ≡ (a || ((v && has_next ws) || any_place (λ f w back. (next_is_free f && is_count_word w) && has_next back) front ws))
 any_of [] front v a k g e = none_any a v
-any_of (w ∷ ws) front true a k g e = any_of ws (front ++ w ∷ []) false true (k && has_unit w) g (goes_on true a k g w front e) ∙ or_true a
+any_of (w ∷ ws) front true a k g e = any_of ws (front ++ w ∷ []) false true (k && has_unit w) g (goes_on true a k g w front e) ∙ sym (or-true a)
 any_of (w ∷ ws) front false a k g e =
     any_of ws (front ++ w ∷ []) (is_count_word w) a k (g || is_ago w) (goes_on false a k g w front e)
     ∙ ap (λ b. a || ((b && has_next ws) || any_place (λ f w back. (next_is_free f && is_count_word w) && has_next back) (front ++ w ∷ []) ws)) (sym (on (next_is_free front) (is_count_word w) e))
@@ -80,7 +65,7 @@ known_of : (ws front : List (List ℕ)) (v a k g : Bool) → v ≡ not (next_is_
 known_of [] front v a k g e = none_known k v
 known_of (w ∷ ws) front true a k g e =
     known_of ws (front ++ w ∷ []) false true (k && has_unit w) g (goes_on true a k g w front e)
-    ∙ and_nested k (has_unit w) _
+    ∙ and_assoc k (has_unit w) _
     ∙ ap (λ b. k && (has_unit w && ((not b || next_is_unit ws) && all_places (λ f w back. not (next_is_free f && is_count_word w) || next_is_unit back) (front ++ w ∷ []) ws))) (sym (off (next_is_free front) (is_count_word w) e))
 known_of (w ∷ ws) front false a k g e =
     known_of ws (front ++ w ∷ []) (is_count_word w) a k (g || is_ago w) (goes_on false a k g w front e)

@@ -83,8 +83,8 @@ word_front es n e long =
 pub word_comes : (bs es : List ℕ) (n : ℕ) → es ≡ drop (prefix_len is_gap bs) bs → n ≡ prefix_len is_ascii_alphanumeric es → 0 < n → relative_words bs ≡ take n es ∷ relative_words (drop n es)
 word_comes bs es n f e long = from_skip bs ∙ ap relative_words (sym f) ∙ word_front es n e long
 
-ascii : (c : ℕ) → is_ascii_alphanumeric c ≡ true → c < 128
-ascii c h = grind (arith, nat_tests, h)
+pub run_ascii : (c : ℕ) → is_ascii_alphanumeric c ≡ true → c < 128
+run_ascii c h = grind (arith, nat_tests, h)
 
 word_byte : (c : ℕ) → is_gap c ≡ false → c < 128
 word_byte c h = grind (arith, nat_tests, h)
@@ -95,4 +95,4 @@ cut_before bs n e = (omega (arith, prefix_len-le-length is_gap bs), λ short big
 
 -- and where it ends
 pub cut_after : (bs : List ℕ) (n : ℕ) → IsUtf8 bs → n ≡ prefix_len is_ascii_alphanumeric bs → IsCharBoundary bs n
-cut_after bs n u e = cut_rest is_ascii_alphanumeric ascii bs n u (omega arith)
+cut_after bs n u e = cut_rest is_ascii_alphanumeric run_ascii bs n u (omega arith)

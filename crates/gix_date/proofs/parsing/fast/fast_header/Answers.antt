@@ -1,11 +1,9 @@
 use Rattle.std.proofs.Common.{rules, ◌∙◌, ap, sym, ℤ, Some, FitsSigned, w64, w32}
 use Rattle.std.proofs.lemmas.Int.{to_z-of_z}
 use Rattle.gix_date.specs.declared.time.Time.{Time}
+use Rattle.gix_date.proofs.Fields.FieldsTaken.{time_at}
 use Rattle.gix_date.proofs.Fast.FastHeaders.{plain-time}
 use Rattle.gix_date.proofs.parsing.fast.fast_header.Goals as goal
-
-abbrev time_at : ℤ → ℤ → Time
-time_at seconds offset = record { seconds = seconds; offset = offset }
 
 pub returns : goal.returns
 returns c =

@@ -2,11 +2,9 @@ use Rattle.std.proofs.Common.{rules, ◌∙◌, ap, sym, ℤ, Some, FitsSigned, 
 use Rattle.std.proofs.lemmas.Int.{to_z-of_z}
 use Rattle.gix_date.specs.Families.Raw.{allows}
 use Rattle.gix_date.specs.declared.time.Time.{Time}
+use Rattle.gix_date.proofs.Fields.FieldsTaken.{time_at}
 use Rattle.gix_date.proofs.Fast.FastHeaders.{plain-raw}
 use Rattle.gix_date.proofs.parsing.raw.fast_raw.Goals as goal
-
-abbrev time_at : ℤ → ℤ → Time
-time_at seconds offset = record { seconds = seconds; offset = offset }
 
 pub returns-then-allows-clause-time : goal.returns-then-allows-clause-time
 returns-then-allows-clause-time c =
