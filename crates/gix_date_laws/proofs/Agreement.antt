@@ -18,7 +18,7 @@ use Rattle.gix_date.specs.Families.Laws.{Agree, ComesFirst, Holds}
 use Rattle.gix_date.specs.Families.Order.{Iso8601, Iso8601Strict, GitForm, RelativeText, family_answer, first_family_by}
 use Rattle.gix_date.specs.Families.Patterns.{date_answer, iso8601_answer, iso8601_strict_answer, max_date_offset}
 use Rattle.gix_date.specs.Families.Raw.{OffsetRule}
-use Rattle.gix_date.specs.Fields.FieldTexts.{AreDigits, IsPair, IsSign, IsField, IsYear, AreSpaces, IsPlainDate, IsClock}
+use Rattle.gix_date.specs.Fields.FieldTexts.{AreDigits, IsPair, IsSign, IsField, AreSpaces, IsPlainDate, IsClock}
 use Rattle.gix_date.specs.Fields.Civil.{civil_instant}
 use Rattle.gix_date.specs.Fields.DateFields.{read_plain_date}
 use Rattle.gix_date.specs.Fields.DateOffsets.{is_jiff_offset, jiff_offset, compact_offset, strict_offset}
@@ -27,18 +27,17 @@ use Rattle.gix_date.specs.Fields.Offsets.{read_sign, offset_fields, offset_of, S
 use Rattle.gix_date.specs.Git.Clock.{git_clock}
 use Rattle.gix_date.specs.Git.ClockCut.{is_sign, last_space, clock_cut}
 use Rattle.gix_date.specs.Git.Grammar.{AreClockPairs, AreClockParts, IsGitOffset}
-use Rattle.gix_date.specs.Git.Forms.{without_colons, git_offset, git_time, git_form, git_front, dotted_front, compact_front, flexible_front, read_marked_date, read_compact_date, time_with_rest, time_of_cut}
+use Rattle.gix_date.specs.Git.Forms.{without_colons, git_offset, git_time, git_form, git_front, compact_front, flexible_front, read_marked_date, time_with_rest, time_of_cut}
 use Rattle.gix_date.specs.Text.Characters.{space, minus, colon, letter_t, is_space, is_dot, is_colon, has_colon}
 use Rattle.gix_date.specs.Text.Numbers.{read_two_digits, read_field, read_year}
 use Rattle.gix_date.specs.Fields.Layout.{LocalClock, LocalDate}
 use Rattle.gix_date.specs.declared.time.Time.{Time}
-use Rattle.gix_date.proofs.Families.Apart.{no_pair}
 use Rattle.gix_date.proofs.Text.AsciiCuts.{ascii-by}
 use Rattle.gix_date.proofs.Git.ClockCuts.{space_low}
 use Rattle.gix_date.proofs.Git.ClockParts.{before_none}
 use Rattle.gix_date.proofs.Families.Disjoint.{digit_visible}
 use Rattle.gix_date.proofs.Families.Exclusive.{answered, absolute, alone-first, differ, drop-visible, space_ascii, space-white, field-visible, digits-visible, visible-append}
-use Rattle.gix_date.proofs.Fields.FieldsRead.{Begins, BeginsNot, begins-append, field-begins, year-begins, year-read, date-read, gap-front}
+use Rattle.gix_date.proofs.Fields.FieldsRead.{Begins, BeginsNot, begins-append, field-begins, year-begins, date-read, gap-front}
 use Rattle.gix_date.proofs.Git.Fronts.{gap-taken}
 use Rattle.gix_date.proofs.Fields.FieldsTaken.{time_at, went}
 use Rattle.gix_date.proofs.Text.FirstBytes.{plain-year}

@@ -1,5 +1,5 @@
 -- No careful text is in one of Git's own forms: it begins with a count and a unit, and those with a date.
-use Rattle.std.proofs.Common.{◌≡◌, ◌∙◌, inl, inr, ℕ, ℤ, Bool, true, false, List, [], ◌∷◌, ◌++◌, filter, append_assoc, refl, ap, ap₂, sym, subst, arith, length, ◌<◌, ◌≤◌, Some, None, IsUtf8}
+use Rattle.std.proofs.Common.{◌≡◌, ◌∙◌, inl, inr, ℕ, ℤ, true, false, List, [], ◌∷◌, ◌++◌, filter, append_assoc, refl, ap, ap₂, sym, subst, arith, length, ◌<◌, ◌≤◌, Some, None, IsUtf8}
 use Rattle.std.proofs.Math.Bool.{and-false}
 use Rattle.std.proofs.lemmas.Bool.{and_parts as both}
 use Rattle.std.proofs.lemmas.Bool.Decides.{nat_tests}
@@ -7,7 +7,7 @@ use Rattle.std.proofs.lemmas.List.{length-append}
 use Rattle.std.proofs.lemmas.List.Splits.{slice_split-cons_no}
 use Rattle.std.specs.Char.{is_ascii_alphanumeric, is_ascii_digit, to_ascii_lowercase}
 use Rattle.std.specs.List.{list_all, slice_split, onto_first}
-use Rattle.std.specs.Prelude.{◌&&◌, ◌==◌}
+use Rattle.std.specs.Prelude.{◌==◌}
 use Rattle.std.specs.Str.{trim, all_ascii_digits}
 use Rattle.gix_date.specs.Fields.FieldTexts.{IsPair as AreTwoDigits, IsYear}
 use Rattle.gix_date.specs.Fields.Layout.{LocalDate}

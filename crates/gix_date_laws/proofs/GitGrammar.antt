@@ -1,5 +1,5 @@
 -- Git's own forms are read where they are so written, and nowhere else.
-use Rattle.std.proofs.Common.{◌≡◌, ◌∙◌, ℕ, ℤ, true, false, List, [], ◌∷◌, ◌++◌, refl, ap, subst, arith, Some, None, inl, inr}
+use Rattle.std.proofs.Common.{◌≡◌, ◌∙◌, ℕ, true, false, List, [], ◌∷◌, ◌++◌, refl, ap, subst, arith, Some, None, inl, inr}
 use Rattle.std.proofs.lemmas.Option.{same_Some as same_some}
 use Rattle.std.proofs.lemmas.Bool.Decides.{nat_tests}
 use Rattle.std.specs.Option.{option_or}

@@ -1,5 +1,5 @@
 -- Texts whose words say nothing of a moment: no unit, no `ago`, no name of a day. No such text is relative.
-use Rattle.std.proofs.Common.{◌≡◌, ◌∙◌, ◌-◌, ◌<◌, ℕ, Bool, true, false, cond, List, [], ◌∷◌, ◌++◌, filter, length, map, take, get_or, refl, ap, ap₂, sym, arith, Some, None, Option, IsUtf8, flat_map}
+use Rattle.std.proofs.Common.{◌≡◌, ◌∙◌, ◌-◌, ℕ, Bool, true, false, cond, List, [], ◌∷◌, ◌++◌, filter, length, map, take, get_or, refl, ap, ap₂, sym, arith, Some, None, Option, IsUtf8, flat_map}
 use Rattle.std.proofs.Math.ListN.{get_or-map}
 use Rattle.std.proofs.Math.Bool.{and-false}
 use Rattle.std.proofs.lemmas.Bool.{and_parts as both, not-true as not_is}
