@@ -68,7 +68,7 @@ said_offset (Err e) = None
 abbrev pub IsPlaceIn : List ℕ → ℕ → Type 0
 IsPlaceIn text place = IsCharBoundary text place × (place < length text)
 
--- the place of a refusal is one in the text
+-- the place of a refusal is in the text
 abbrev pub IsErrorIn : List ℕ → DateError → Type 0
 IsErrorIn text (NumberTooLarge place) = IsPlaceIn text place
 IsErrorIn text (BackTooFar place) = IsPlaceIn text place
@@ -76,7 +76,7 @@ IsErrorIn text (YearRefused place) = IsPlaceIn text place
 IsErrorIn text Unreadable = Unit {0}
 IsErrorIn text Range = Unit {0}
 
--- the place of what was ignored, or that of a refusal, is one in the text
+-- places are in the text: that of what was ignored, or that of a refusal
 abbrev pub HasPlacesIn : List ℕ → Result ReadDate DateError → Type 0
 HasPlacesIn text (Ok date) = IfSome date.ignored (IsPlaceIn text)
 HasPlacesIn text (Err e) = IsErrorIn text e

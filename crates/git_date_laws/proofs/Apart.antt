@@ -1,5 +1,5 @@
 -- Neighbours among tokens.
-use Rattle.std.proofs.Common.{◌≡◌, ℕ, Bool, true, false, cond, List, [], ◌∷◌, refl}
+use Rattle.std.proofs.Common.{ℕ, Bool, true, false, cond, List, [], ◌∷◌}
 use Rattle.std.specs.Char.{is_ascii_alphabetic, is_ascii_digit}
 use Rattle.git_date.specs.Tokens.{Token, Letters, Digits, Mark, tokens, letter_before, digit_before}
 use Rattle.git_date_laws.specs.Laws.{IsApart, AreApart}

@@ -1,5 +1,6 @@
 pub mod Apart
 pub mod Moments
+pub mod Printed
 pub mod Texts
 pub mod Zones
 pub mod ShownLaws

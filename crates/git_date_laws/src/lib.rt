@@ -3,11 +3,11 @@
 
 ghost use Rattle.std.specs.Prelude.{◌≡◌};
 ghost use Rattle.git_date.specs.Tokens.{tokens as tokens_of, texts};
-ghost use Rattle.git_date_laws.specs.Laws.{AreApart, IgnoresZone, IgnoresCase, IgnoresLines, IgnoresInstant};
+ghost use Rattle.git_date_laws.specs.Laws.{AreApart, IgnoresZone, IgnoresCase, IgnoresLines, IgnoresInstant, ReadsBack};
 
 mod shown;
 
-use gix_date::Zoned;
+use gix_date::{Time, Zoned};
 pub use shown::{mode_named_back, no_single_unit, shown_as_printed};
 
 /// The texts of the tokens are the text, and no two neighbours are both letters or both digits.
@@ -41,4 +41,10 @@ pub fn later_lines(text: &str, now: &Zoned<'_>)
 #[tactic(auto, using(crate::proofs::Moments::any_instant))]
 pub fn instants(text: &str, now: &Zoned<'_>)
     ensures { IgnoresInstant now.now text.now }
+{}
+
+/// What the six named formats of `gix_date` that have a clock print of a time is read as that time, and nothing of it is
+/// ignored: for times from 1970 on of the years to 2099, at whole minutes within 23:59, but for one minute behind UTC.
+pub fn read_back(time: Time, now: &Zoned<'_>)
+    ensures { ReadsBack now.now time }
 {}
