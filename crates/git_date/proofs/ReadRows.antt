@@ -82,3 +82,21 @@ others :
     ∷ ("2008-02-14 20:30:45 IST", Ok (at 1203021045 (pos 0))) ∷ [])
 unfolding computing
 others = refl
+
+-- at the bounds of the rules, on either side
+bounds :
+    Reads
+    (("7 Apr 2005 10:00 +0000", Ok (at 1112868000 (pos 0)))
+    ∷ ("7 Ap 2005 10:00 +0000", Err Unreadable)
+    ∷ ("2009-01-01 10:00 1400", Ok (at 1230753600 (pos 50400)))
+    ∷ ("2009-01-01 10:00 1401", Ok (at 1230804000 (pos 0)))
+    ∷ ("1/2/37 10:00 +0000", Ok (at 2114503200 (pos 0)))
+    ∷ ("1/2/38 10:00 +0000", Err Unreadable)
+    ∷ ("71-1-2 10:00 +0000", Ok (at 31658400 (pos 0)))
+    ∷ ("70-1-2 10:00 +0000", Err Unreadable)
+    ∷ ("10:00 9/9/2009 +0000", Ok (at 1252490400 (pos 0)))
+    ∷ ("20:00 9/9/2009 +0000", Err Unreadable)
+    ∷ ("2009-01-01 10:00 +2359", Ok (at 1230717660 (pos 86340)))
+    ∷ ("2009-01-01 10:00 +05:60", Ok (at 1230804000 (pos 0))) ∷ [])
+unfolding computing
+bounds = refl
