@@ -17,5 +17,6 @@ pub mod Alike
 pub mod Recent
 pub mod Printed
 pub mod PrintedBack
+mod LawRows
 mod ReadRows
 mod ShowRows

@@ -94,9 +94,13 @@ bounds :
     ∷ ("1/2/38 10:00 +0000", Err Unreadable)
     ∷ ("71-1-2 10:00 +0000", Ok (at 31658400 (pos 0)))
     ∷ ("70-1-2 10:00 +0000", Err Unreadable)
-    ∷ ("10:00 9/9/2009 +0000", Ok (at 1252490400 (pos 0)))
-    ∷ ("20:00 9/9/2009 +0000", Err Unreadable)
     ∷ ("2009-01-01 10:00 +2359", Ok (at 1230717660 (pos 86340)))
     ∷ ("2009-01-01 10:00 +05:60", Ok (at 1230804000 (pos 0))) ∷ [])
 unfolding computing
 bounds = refl
+
+-- ten days after another moment, to the second
+ten_days_after : map (λ text. in_utc (said_by (record { seconds = pos 1250191200; year = 2009 }) (codes text))) ("19:20:00 8/23/2009 +0000" ∷ "19:20:01 8/23/2009 +0000" ∷ [])
+    ≡ Ok (at 1251055200 (pos 0)) ∷ Err Unreadable ∷ []
+unfolding computing
+ten_days_after = refl
