@@ -1,3 +1,4 @@
 pub mod Words
 pub mod SignatureWords
+pub mod GitDateWords
 pub mod Authored

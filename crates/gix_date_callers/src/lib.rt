@@ -1,9 +1,12 @@
-//! Callers of `gix_date` and `gix_signature` that are proved, and tests of what the rows of `gix_date_rows` cannot say.
+//! Callers of `gix_date`, `gix_signature` and `git_date` that are proved, and tests of what the rows of `gix_date_rows` cannot say.
 #![tactic(auto)]
 
 pub mod caller;
 #[cfg(test)]
 mod faults;
+pub mod git_date_caller;
+#[cfg(test)]
+mod git_dates;
 #[cfg(test)]
 mod headers;
 #[cfg(test)]

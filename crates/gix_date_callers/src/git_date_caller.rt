@@ -1,0 +1,46 @@
+//! Callers of `git_date`, as docs/GIT_DATES.md shows them.
+ghost use Rattle.std.specs.Prelude.{◌≡◌, ◌++◌, ℕ, List, Option, Ok, Err, IfOk, IfErr, IfSome, IfNone, codes, drop, option_map};
+ghost use Rattle.gix_date.specs.Relative.Steps.{zone_of};
+ghost use Rattle.git_date.specs.Dates.{now_of};
+ghost use Rattle.git_date.specs.Outcome.{DateOutcome};
+ghost use Rattle.git_date.specs.Reading.{said_by};
+ghost use Rattle.git_date.specs.declared.date.ReadDate.{ReadDate as Read};
+ghost use Rattle.git_date.specs.declared.error.DateError.{DateError as Refusal};
+
+use git_date::{DateError, ReadDate, parse_date};
+use gix_date::{Time, Zoned};
+
+/// A date as Git reads it, and the text from the first word on that Git ignores, so that a program can warn of it.
+pub fn date_and_ignored<'a>(
+    text: &'a str,
+    now: Zoned<'_>,
+) -> Result<(ReadDate, Option<&'a str>), DateError>
+    ensures date { IfOk result (λ found. DateOutcome (zone_of now.entry) (said_by (now_of now.entry) text.now) (Ok found.0)) }
+    ensures rest { IfOk result (λ found. option_map (λ rest. rest.now) found.1
+        ≡ option_map (λ place. drop place text.now) found.0.ignored) }
+    ensures refuses { IfErr result (λ e. DateOutcome (zone_of now.entry) (said_by (now_of now.entry) text.now) (Err e)) }
+{
+    let date = match parse_date(text, now) {
+        Ok(date) => date,
+        Err(error) => return Err(error),
+    };
+    let ignored = match date.ignored {
+        Some(place) => Some(text.split_at(place).1),
+        None => None,
+    };
+    Ok((date, ignored))
+}
+
+/// When a mail was sent, by its line `Date: Thu, 07 Apr 2005 22:13:13 +0200`.
+pub fn mail_time(line: &str, now: Zoned<'_>) -> Option<Time>
+    ensures some { IfSome result (λ t. (text : List ℕ) × (date : Read) × (line.now ≡ codes "Date: " ++ text) × (date.time ≡ t)
+        × DateOutcome (zone_of now.entry) (said_by (now_of now.entry) text) (Ok date)) }
+    ensures none { IfNone result ((text : List ℕ) → line.now ≡ codes "Date: " ++ text
+        → (e : Refusal) × DateOutcome (zone_of now.entry) (said_by (now_of now.entry) text) (Err e)) }
+{
+    let text = line.strip_prefix("Date: ")?;
+    match parse_date(text, now) {
+        Ok(date) => Some(date.time),
+        Err(_) => None,
+    }
+}

@@ -1,0 +1,110 @@
+//! Dates as Git reads them: what the rows cannot say.
+use crate::git_date_caller::{date_and_ignored, mail_time};
+use git_date::{DateError, ReadDate, parse_date};
+use gix_date::Time;
+use std::test::Fail;
+
+/// Whether two values are the same, by a full equality.
+fn same<T: Eq>(one: &T, other: &T) -> bool {
+    one == other
+}
+
+#[test]
+fn each_refusal_says_what_is_wrong(rt: HostRuntime) -> Result<(), Fail> {
+    for (refusal, text, debug) in [
+        (
+            DateError::Unreadable,
+            "not a date with a time of day; expected one such as \"2005-04-07 22:13:13 +0200\"",
+            "Unreadable",
+        ),
+        (
+            DateError::NumberTooLarge(17),
+            "the number at byte 17 is too large",
+            "NumberTooLarge(17)",
+        ),
+        (
+            DateError::BackTooFar(0),
+            "the date at byte 0 leads back too far",
+            "BackTooFar(0)",
+        ),
+        (
+            DateError::YearRefused(4),
+            "the year at byte 4 is refused; expected 1970 to 2099",
+            "YearRefused(4)",
+        ),
+        (
+            DateError::Range,
+            "the date is before 1970 or leads to an instant that cannot be computed with",
+            "Range",
+        ),
+    ] {
+        assert_eq!(rt; format!(in rt.alloc(); "{refusal}")?.as_str(), text);
+        assert_eq!(rt; format!(in rt.alloc(); "{refusal:?}")?.as_str(), debug);
+    }
+    Ok(())
+}
+
+#[test]
+fn dates_and_refusals_have_the_traits_that_callers_count_on(rt: HostRuntime) -> Result<(), Fail> {
+    let date = ReadDate {
+        time: Time::new(1_112_904_793, 7200),
+        ignored: None,
+    };
+    let copied = date;
+    assert!(rt; same(&date, &copied));
+    assert!(rt;
+        !same(
+            &date,
+            &ReadDate {
+                ignored: Some(0),
+                ..date
+            }
+        )
+    );
+    assert_eq!(rt;
+        format!(in rt.alloc(); "{date:?}")?.as_str(),
+        "ReadDate { time: Time { seconds: 1112904793, offset: 7200 }, ignored: None }"
+    );
+    let refusal = DateError::YearRefused(4);
+    let kept = refusal;
+    assert!(rt; same(&refusal, &kept));
+    assert!(rt; !same(&refusal, &DateError::YearRefused(5)));
+    Ok(())
+}
+
+#[test]
+fn a_date_says_what_was_ignored(rt: HostRuntime) -> Result<(), Fail> {
+    let now = Time::new(1_251_660_000, 0).to_zoned()?;
+    let (date, ignored) = date_and_ignored("2008-02-14 20:30:45 IST", now)?;
+    assert_eq!(rt; date.time, Time::new(1_203_021_045, 0));
+    assert_eq!(rt; ignored, Some("IST"));
+    let (date, ignored) = date_and_ignored("2008-02-14 20:30:45 EST", now)?;
+    assert_eq!(rt; date.time, Time::new(1_203_039_045, -18_000));
+    assert_eq!(rt; ignored, None);
+    assert_eq!(rt;
+        date_and_ignored("2008-02-14", now),
+        Err(DateError::Unreadable)
+    );
+    Ok(())
+}
+
+#[test]
+fn a_mail_says_when_it_was_sent(rt: HostRuntime) -> Result<(), Fail> {
+    let now = Time::new(1_251_660_000, 0).to_zoned()?;
+    let sent = mail_time("Date: Thu, 07 Apr 2005 22:13:13 +0200", now);
+    assert_eq!(rt; sent, Some(Time::new(1_112_904_793, 7200)));
+    assert_eq!(rt;
+        mail_time("From: Thu, 07 Apr 2005 22:13:13 +0200", now),
+        None
+    );
+    assert_eq!(rt; mail_time("Date: soon", now), None);
+    Ok(())
+}
+
+#[test]
+fn a_text_without_an_offset_is_of_the_moments_zone(rt: HostRuntime) -> Result<(), Fail> {
+    let now = Time::new(1_251_660_000, -16_200).to_zoned()?;
+    let date = parse_date("2005-04-07 22:13:13", now)?;
+    assert_eq!(rt; date.time, Time::new(1_112_928_193, -16_200));
+    Ok(())
+}
