@@ -1,6 +1,6 @@
 -- Each word of the contracts and laws of `gix_date`, imported as another crate does.
 pub use Rattle.gix_date.specs.Families.Answer.{FamilyAnswer, Absolute, Relative, OffsetAboveDay, NoInstant}
-pub use Rattle.gix_date.specs.Header.Canonical.{is_canonical_header}
+pub use Rattle.gix_date.specs.Header.Canonical.{header_kind, is_canonical_header}
 pub use Rattle.gix_date.specs.Careful.Dates.{is_whole_git, names_its_day, is_large_if_raw, unzoned_day, unzoned_git_time, unzoned_time, IsLocalTime, IsLocalIfAny}
 pub use Rattle.gix_date.specs.Careful.Fronts.{longest_front}
 pub use Rattle.gix_date.specs.Careful.Grammar.{IsCarefulOf, IsCarefulText, IsWholeClock}

@@ -1,7 +1,7 @@
 //! Header texts, written to buffers and writers.
 use gix_date::device::Device;
 use gix_date::parsing::TimeBuf;
-use gix_date::{Error, Time};
+use gix_date::{Error, HeaderKind, Time, header_kind};
 use gix_date_streams::fakes::Pieces;
 use std::fmt::Write;
 use std::test::Fail;
@@ -42,6 +42,18 @@ fn a_time_is_shown_in_one_piece_whatever_the_style(rt: HostRuntime) -> Result<()
         "5 -0130|5 -0130|5 -0130|5 -0130|5 -0130|5 -0130"
     );
     Ok(())
+}
+
+#[test]
+fn a_header_is_canonical_or_lenient(rt: HostRuntime) {
+    for (text, kind) in [
+        ("1660874655 +0800", HeaderKind::Canonical),
+        ("0 -0000", HeaderKind::Lenient(Time::new(0, 0))),
+        ("12abc +0100", HeaderKind::Lenient(Time::new(12, 3600))),
+        ("yesterday", HeaderKind::NoHeader),
+    ] {
+        assert_eq!(rt; header_kind(text), kind, "{text}");
+    }
 }
 
 #[test]

@@ -11,9 +11,7 @@ use crate::outbox::Outbox;
 use crate::signed::{SignedLine, sign};
 use gix_date::bytes::text_of;
 use gix_date::device::Sink;
-use gix_date::{
-    ParseError, RawOffsets, Time, Zoned, is_canonical_header, parse_header, parse_no_alloc,
-};
+use gix_date::{HeaderKind, ParseError, RawOffsets, Time, Zoned, header_kind, parse_no_alloc};
 use std::io;
 
 /// What is asked of each line.
@@ -141,12 +139,10 @@ fn check_reply(text: &str) -> Reply<'static>
     ensures is { result ≡ check_reply text.now }
     ensures writable { IsWritable result }
 {
-    if is_canonical_header(text) {
-        return Reply::Canonical;
-    }
-    match parse_header(text) {
-        Some(time) => Reply::Read(time),
-        None => Reply::NoTime,
+    match header_kind(text) {
+        HeaderKind::Canonical => Reply::Canonical,
+        HeaderKind::Lenient(time) => Reply::Read(time),
+        HeaderKind::NoHeader => Reply::NoTime,
     }
 }
 

@@ -1,6 +1,6 @@
 //! Commit headers: a whole text by its words.
 ghost use Rattle.std.specs.Prelude.{◌≡◌};
-ghost use Rattle.gix_date.specs.Header.Canonical.{is_canonical_header};
+ghost use Rattle.gix_date.specs.Header.Canonical.{header_kind, is_canonical_header};
 ghost use Rattle.gix_date.specs.Header.Reading.{header_time, header_seconds};
 ghost use Rattle.gix_date.specs.Header.Text.{is_header_text_of};
 
@@ -28,6 +28,37 @@ pub fn parse_header(input: &str) -> Option<Time>
     parse_any_header(input)
 }
 
+/// What a text is as a commit header.
+#[derive(Debug, Clone, Copy, PartialEq, Eq)]
+pub enum HeaderKind {
+    /// A canonical header: the text as which its time is written.
+    Canonical,
+    /// Another header, by the time that [`parse_header`] gives.
+    Lenient(Time),
+    /// A text that is no header.
+    NoHeader,
+}
+
+/// What a text is as a commit header: canonical, or else what [`parse_header`] reads it as. It reads the text once, and
+/// takes no memory. The original has no such call.
+pub fn header_kind(input: &str) -> HeaderKind
+    ensures { result ≡ header_kind input.now }
+{
+    if fast_canonical(input) {
+        return HeaderKind::Canonical;
+    }
+    match parse_header(input) {
+        Some(time) => {
+            if is_header_text_of(time, input) {
+                HeaderKind::Canonical
+            } else {
+                HeaderKind::Lenient(time)
+            }
+        }
+        None => HeaderKind::NoHeader,
+    }
+}
+
 /// Whether a text is a canonical header: [`parse_header`] reads it, and the time that it gives is written as this text.
 ///
 /// A canonical header is the decimal text of an `i64`, one space, a sign, two digits of hours, and two of minutes below
@@ -35,12 +66,10 @@ pub fn parse_header(input: &str) -> Option<Time>
 pub fn is_canonical_header(input: &str) -> bool
     ensures { result ≡ is_canonical_header input.now }
 {
-    if fast_canonical(input) {
-        return true;
-    }
-    match parse_header(input) {
-        Some(time) => is_header_text_of(time, input),
-        None => false,
+    match header_kind(input) {
+        HeaderKind::Canonical => true,
+        HeaderKind::Lenient(_) => false,
+        HeaderKind::NoHeader => false,
     }
 }
 
