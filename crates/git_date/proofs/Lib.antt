@@ -18,5 +18,8 @@ pub mod Recent
 pub mod Printed
 pub mod PrintedBack
 mod LawRows
+pub mod ApproximateClocks
+pub mod ZoneChoices
+pub mod ApproximateFolds
 mod ReadRows
 mod ShowRows

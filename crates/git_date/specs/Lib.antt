@@ -9,6 +9,12 @@ pub mod Digits
 pub mod Offsets
 pub mod Reading
 pub mod Outcome
+pub mod ApproximateWords
+pub mod ApproximateClocks
+pub mod ApproximateDrafts
+pub mod ApproximateZones
+pub mod ApproximateRules
+pub mod Approximate
 pub mod Views
 pub mod Computing
 pub mod Lines

@@ -16,7 +16,7 @@ use Rattle.git_date.specs.declared.reader.Said.{Said}
 use Rattle.git_date.specs.declared.fault.Fault.{Fault}
 use Rattle.git_date.specs.declared.fault.Fault.TheVariants as fault
 use Rattle.git_date.specs.declared.error.DateError.{DateError}
-use Rattle.git_date.specs.declared.error.DateError.TheVariants.{Unreadable, NumberTooLarge, YearRefused, Range}
+use Rattle.git_date.specs.declared.error.DateError.TheVariants.{Unreadable, NumberTooLarge, YearRefused, BackTooFar, Range}
 
 -- what follows a number is read without its ending
 abbrev pub ended : Stepped → Stepped
@@ -72,6 +72,7 @@ place_in text left = length text - left
 abbrev pub error_of : List ℕ → Fault → DateError
 error_of text (fault.NumberTooLarge left) = NumberTooLarge (place_in text left)
 error_of text (fault.YearRefused left) = YearRefused (place_in text left)
+error_of text (fault.BackTooFar left) = BackTooFar (place_in text left)
 error_of text fault.Range = Range
 
 -- `@`: its seconds are those of the instant, and nothing is ignored

@@ -9,13 +9,13 @@ use crate::numbers::NUMBERS_OF_32_BITS;
 use gix_date::Zoned;
 use jiff::civil::DateTime;
 
-const SECONDS_PER_DAY: i64 = 86_400;
+pub(crate) const SECONDS_PER_DAY: i64 = 86_400;
 
 /// What the rules use of a moment.
 #[derive(Clone, Copy)]
 pub(crate) struct Now {
     /// Seconds since 1970-01-01 00:00:00 UTC.
-    seconds: i64,
+    pub(crate) seconds: i64,
     /// The year in UTC, or 0 before 1970.
     year: u16,
 }
@@ -107,7 +107,7 @@ fn clock_seconds(hour: u8, minute: u8, second: u8) -> u32
     3600 * u32::from(hour) + 60 * u32::from(minute) + u32::from(second)
 }
 
-fn seconds_after(start: i64, day: Option<u8>, hour: u8, minute: u8, second: u8) -> i64
+pub(crate) fn seconds_after(start: i64, day: Option<u8>, hour: u8, minute: u8, second: u8) -> i64
     requires { IsSmall start }
     ensures value { result ≡ seconds_after start day hour minute second }
     ensures small { IsBetween (neg_ℤ (pos (10 ^ 16))) (pos (10 ^ 16)) result }

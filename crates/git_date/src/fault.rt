@@ -7,6 +7,8 @@ pub(crate) enum Fault {
     NumberTooLarge(usize),
     /// The date there has a year that is refused.
     YearRefused(usize),
+    /// The word or number there leads back beyond what Git can say.
+    BackTooFar(usize),
     /// An epoch is no instant.
     Range,
 }

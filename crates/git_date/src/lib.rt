@@ -14,6 +14,7 @@
 //! The moment and its zone are handed in, as for [`gix_date::parse`]. No call here takes memory.
 #![tactic(auto)]
 
+mod approximate;
 mod clocks;
 mod date;
 mod dates;
@@ -31,6 +32,7 @@ mod show;
 mod tokens;
 mod words;
 
+pub use approximate::{Approximate, approxidate};
 pub use date::{ReadDate, parse_date};
 pub use error::DateError;
 pub use mode::{DateKind, DateMode, UnknownMode};

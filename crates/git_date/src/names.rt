@@ -20,7 +20,7 @@ const MONTHS: [&[u8]; 12] = [
     b"December",
 ];
 
-const WEEKDAYS: [&[u8]; 7] = [
+pub(crate) const WEEKDAYS: [&[u8]; 7] = [
     b"Sundays",
     b"Mondays",
     b"Tuesdays",
@@ -88,7 +88,7 @@ fn is_short(word: &[u8], name: &[u8]) -> bool
 }
 
 /// The place of the first of these names that a word is short for.
-fn place_in(word: &[u8], names: &[&[u8]]) -> Option<usize>
+pub(crate) fn place_in(word: &[u8], names: &[&[u8]]) -> Option<usize>
     ensures { result ≡ position (λ name. is_short word.now name.now) names.now }
 {
     names.iter().position(|name| is_short(word, name))

@@ -21,7 +21,7 @@ const FIRST_SECOND: i64 = -377_705_023_201;
 const LAST_SECOND: i64 = 253_402_207_200;
 
 /// Whether the seconds are those of an instant.
-fn is_instant(seconds: i64) -> bool
+pub(crate) fn is_instant(seconds: i64) -> bool
     ensures { result ≡ is_instant seconds }
 {
     FIRST_SECOND <= seconds && seconds <= LAST_SECOND
@@ -126,18 +126,19 @@ fn reading_of(now: Now, text: &[u8]) -> Result<Reading, Fault>
 }
 
 /// The place in a text from which on so many bytes are left.
-fn place_in(text: &[u8], left: usize) -> usize
+pub(crate) fn place_in(text: &[u8], left: usize) -> usize
     ensures { result ≡ place_in text.now left }
 {
     text.len().saturating_sub(left)
 }
 
-fn error_of(text: &[u8], fault: Fault) -> DateError
+pub(crate) fn error_of(text: &[u8], fault: Fault) -> DateError
     ensures { result ≡ error_of text.now fault }
 {
     match fault {
         Fault::NumberTooLarge(left) => DateError::NumberTooLarge(place_in(text, left)),
         Fault::YearRefused(left) => DateError::YearRefused(place_in(text, left)),
+        Fault::BackTooFar(left) => DateError::BackTooFar(place_in(text, left)),
         Fault::Range => DateError::Range,
     }
 }

@@ -98,7 +98,7 @@ const ENDINGS: [&[u8]; 4] = [b"st", b"nd", b"rd", b"th"];
 
 /// Whether a word says nothing, and people write it.
 #[tactic(auto, unfolding(crate::specs::Words::is_filler))]
-fn is_filler(word: &[u8]) -> bool
+pub(crate) fn is_filler(word: &[u8]) -> bool
     ensures { result ≡ is_filler word.now }
 {
     is_any_of(&FILLERS, word)

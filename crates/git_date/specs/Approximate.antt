@@ -1,0 +1,84 @@
+-- The approximate reader: one token after the other, and what the whole text comes to.
+use Rattle.std.specs.Prelude.{◌≡◌, ℕ, zero, suc, Bool, true, false, List, [], ◌∷◌, length, pos, if◌then◌else◌, Option, Some, None, Result, Ok, Err, option_map}
+use Rattle.std.specs.Int.Signed.{le_z}
+use Rattle.jiff.specs.declared.zoned.Zoned.{Zoned}
+use Rattle.gix_date.specs.Relative.Steps.{zone_of}
+use Rattle.gix_date.specs.declared.time.Time.{Time}
+use Rattle.git_date.specs.ApproximateDrafts.{first_draft, settle}
+use Rattle.git_date.specs.ApproximateRules.{letters_rule, digits_rule}
+use Rattle.git_date.specs.ApproximateZones.{Choices, AreChoices, shown_in, filled_time}
+use Rattle.git_date.specs.Dates.{now_of}
+use Rattle.git_date.specs.Outcome.{DateOutcome}
+use Rattle.git_date.specs.Reading.{and_then, place_in, error_of, said_by}
+use Rattle.git_date.specs.Tokens.{Token, Letters, Digits, Mark, tokens}
+use Rattle.git_date.specs.declared.approximate.answer.Approximate.{Approximate}
+use Rattle.git_date.specs.declared.approximate.answer.Today.{Today}
+use Rattle.git_date.specs.declared.approximate.drafts.Draft.{Draft}
+use Rattle.git_date.specs.declared.approximate.shown.Shown.{Shown}
+use Rattle.git_date.specs.declared.date.ReadDate.{ReadDate}
+use Rattle.git_date.specs.declared.dates.Now.{Now}
+use Rattle.git_date.specs.declared.error.DateError.{DateError}
+use Rattle.git_date.specs.declared.error.DateError.TheVariants.{Unreadable, Range}
+use Rattle.git_date.specs.declared.fault.Fault.{Fault}
+
+-- a draft, and the tokens that are left to read
+abbrev pub Read : Type 0
+Read = Result (Draft × List Token) Fault
+
+abbrev pub with_rest : List Token → Result Draft Fault → Read
+with_rest more (Ok d) = Ok (d, more)
+with_rest more (Err e) = Err e
+
+-- the rule of a token: marks say nothing
+abbrev pub rule : Choices → Today → Draft → Token → List Token → Read
+rule zone today d (Letters run) more = with_rest more (letters_rule zone today.shown d run more)
+rule zone today d (Digits run) more = digits_rule today.now d run more
+rule zone today d (Mark byte) more = Ok (d, more)
+
+-- so many steps, or as many as there are
+unfoldable pub steps : Choices → Today → ℕ → Draft → List Token → Result Draft Fault
+steps zone today n d [] = Ok d
+steps zone today zero d (t ∷ more) = Ok d
+steps zone today (suc n) d (t ∷ more) = and_then (rule zone today d t more) (λ next. steps zone today n next.0 next.1)
+
+-- what the tokens of a text say, one after the other: it has no more of them than bytes
+unfoldable pub draft_of : Choices → Today → List ℕ → Result Draft Fault
+draft_of zone today text = steps zone today (length text) (first_draft today.shown) (tokens text)
+
+-- the answer is the time at which the zone's clock shows the draft; Git has none before 1970
+abbrev pub answer : List ℕ → Draft → Option Time → Result Approximate DateError
+answer text d (Some time) =
+    if le_z (pos 0) time.seconds
+    then Ok (record { time = time; understood = d.understood; ignored = option_map (place_in text) d.ignored })
+    else Err Range
+answer text d None = Err Range
+
+abbrev pub answer_of : Choices → Today → List ℕ → Result Draft Fault → Result Approximate DateError
+answer_of zone today text (Ok d) = answer text (settle d) (filled_time zone today.shown (settle d).fields)
+answer_of zone today text (Err e) = Err (error_of text e)
+
+abbrev pub guess_by : Choices → Now → List ℕ → Option Shown → Result Approximate DateError
+guess_by zone now text (Some shown) =
+    let today : Today = record { now = now; shown = shown } in answer_of zone today text (draft_of zone today text)
+guess_by zone now text None = Err Range
+
+-- what the approximate reader makes of a text
+unfoldable pub guess : Choices → Now → List ℕ → Result Approximate DateError
+guess zone now text = guess_by zone now text (shown_in zone now.seconds)
+
+abbrev pub is_unreadable : DateError → Bool
+is_unreadable Unreadable = true
+is_unreadable _ = false
+
+-- the answer of the exact reader, where it reads or refuses the text by another name
+abbrev pub exact_or_guess : Result ReadDate DateError → Result Approximate DateError → Result Approximate DateError
+exact_or_guess (Ok date) guessed = Ok (record { time = date.time; understood = true; ignored = date.ignored })
+exact_or_guess (Err e) guessed = if is_unreadable e then guessed else Err e
+
+-- The result of `approxidate`, in what the moment's zone chooses: what the exact reader says, or else the guess.
+pub record ApproximateOutcome (moment : Zoned) (text : List ℕ) (result : Result Approximate DateError) : Type 0 where
+  pub zone : Choices
+  pub are_choices : AreChoices (zone_of moment) zone
+  pub exact : Result ReadDate DateError
+  pub reads : DateOutcome (zone_of moment) (said_by (now_of moment) text) exact
+  pub is : result ≡ exact_or_guess exact (guess zone (now_of moment) text)

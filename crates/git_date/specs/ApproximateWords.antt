@@ -1,0 +1,68 @@
+-- What words say to the approximate reader.
+use Rattle.std.specs.Prelude.{ℕ, ◌+◌, ◌*◌, ◌%◌, Bool, ◌&&◌, ◌||◌, List, [], ◌∷◌, length, ◌==◌, codes, if◌then◌else◌, Option, Some, None, option_map}
+use Rattle.std.specs.List.{position}
+use Rattle.gix_date.specs.Fields.ClockNumbers.{seconds_per_minute, seconds_per_hour, seconds_per_day}
+use Rattle.gix_date.specs.Text.Names.{is_name, named_in, number_names}
+use Rattle.git_date.specs.Names.{begins, is_short, month_named, weekday_names}
+use Rattle.git_date.specs.declared.approximate.meanings.Meaning.{Meaning}
+use Rattle.git_date.specs.declared.approximate.meanings.Meaning.TheVariants.{Month, Back, Never, Hour, Morning, Afternoon, Count}
+use Rattle.git_date.specs.declared.approximate.meanings.Meaning.TheVariants as meaning
+use Rattle.git_date.specs.declared.approximate.meanings.Unit.{Unit}
+use Rattle.git_date.specs.declared.approximate.meanings.Unit.TheVariants.{Seconds, Weekday, Months}
+
+-- the words of moments: so many seconds back, the first instant of 1970, a whole hour, and the halves of a day
+abbrev pub moment_names : List (List ℕ × Meaning)
+moment_names =
+    (codes "now", Back 0) ∷ (codes "yesterday", Back seconds_per_day) ∷ (codes "never", Never) ∷ (codes "midnight", Hour 0)
+    ∷ (codes "noon", Hour 12) ∷ (codes "tea", Hour 17) ∷ (codes "AM", Morning) ∷ (codes "PM", Afternoon) ∷ []
+
+unfoldable pub moment_named : List ℕ → Option Meaning
+moment_named word = named_in moment_names word
+
+-- `one` to `ten`, and `last`, which is one
+unfoldable pub count_named : List ℕ → Option ℕ
+count_named word =
+    if is_name word (codes "last") then Some 1 else option_map (λ place. place + 1) (position (is_name word) number_names)
+
+-- a unit's name, or that without its last letter
+abbrev pub is_unit : List ℕ → List ℕ → Bool
+is_unit word name = is_name word name || (length word + 1 == length name && begins word name)
+
+-- what stands in a table beside the first unit that a word names
+abbrev pub unit_in : List (List ℕ × Unit) → List ℕ → Option Unit
+unit_in [] word = None
+unit_in ((name, said) ∷ rows) word = if is_unit word name then Some said else unit_in rows word
+
+abbrev pub unit_names : List (List ℕ × Unit)
+unit_names =
+    (codes "seconds", Seconds 1) ∷ (codes "minutes", Seconds seconds_per_minute) ∷ (codes "hours", Seconds seconds_per_hour)
+    ∷ (codes "days", Seconds seconds_per_day) ∷ (codes "weeks", Seconds (7 * seconds_per_day)) ∷ (codes "months", Months 1)
+    ∷ (codes "years", Months 12) ∷ []
+
+unfoldable pub unit_named : List ℕ → Option Unit
+unit_named word = unit_in unit_names word
+
+-- the day of the week that a word names, from 0 for Monday
+unfoldable pub weekday_named : List ℕ → Option ℕ
+weekday_named word = option_map (λ place. (place + 6) % 7) (position (is_short word) weekday_names)
+
+abbrev pub count_or : Option ℕ → Option Meaning → Option Meaning
+count_or (Some n) other = Some (Count n)
+count_or None other = other
+
+abbrev pub weekday_or : Option ℕ → Option Meaning → Option Meaning
+weekday_or (Some day) other = Some (meaning.Unit (Weekday day))
+weekday_or None other = other
+
+abbrev pub month_or : Option ℕ → Option Meaning → Option Meaning
+month_or (Some month) other = Some (Month month)
+month_or None other = other
+
+abbrev pub meaning_or : Option Meaning → Option Meaning → Option Meaning
+meaning_or (Some meaning) other = Some meaning
+meaning_or None other = other
+
+-- what a word says, if it is known; no word is in two of these tables
+unfoldable pub meaning_of : List ℕ → Option Meaning
+meaning_of word =
+    month_or (month_named word) (meaning_or (moment_named word) (count_or (count_named word) (weekday_or (weekday_named word) (option_map meaning.Unit (unit_named word)))))

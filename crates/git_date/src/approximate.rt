@@ -1,0 +1,38 @@
+//! The approximate reader of dates.
+ghost use Rattle.git_date.specs.Approximate.{ApproximateOutcome};
+
+mod answer;
+mod drafts;
+mod meanings;
+mod rules;
+mod shown;
+mod zone;
+
+use crate::date::parse_date;
+use crate::error::DateError;
+pub use answer::Approximate;
+use answer::or_guess;
+use gix_date::Zoned;
+
+/// Reads a date as people write it: `yesterday noon`, `last friday`, `2 weeks ago`, `July 5th`. So Git reads `--since`,
+/// `--until` and `REF@{..}`.
+///
+/// A text that [`parse_date`](crate::parse_date) reads has its answer. In any other the words and numbers change the moment's
+/// clock and date one after the other, as `docs/GIT_DATES.md` says, and the time has the zone's offset. Git passes over
+/// each word that it does not know, so `5 mins ago` is the fifth of the month: [`Approximate::ignored`] tells of that.
+///
+/// Every answer is Git's, or a refusal by name: [`DateError::BackTooFar`] where Git would wrap or go before 1900, and the
+/// refusals of [`parse_date`](crate::parse_date) but for [`DateError::Unreadable`]. In a fold the zone chooses the earlier
+/// instant, and in a gap the offset before it, as `jiff` does. Takes no memory.
+pub fn approxidate(text: &str, now: Zoned<'_>) -> Result<Approximate, DateError>
+    ensures { ApproximateOutcome now.entry text.now result }
+{
+    match parse_date(text, now) {
+        Ok(date) => Ok(Approximate {
+            time: date.time,
+            understood: true,
+            ignored: date.ignored,
+        }),
+        Err(error) => or_guess(now, text.as_bytes(), error),
+    }
+}

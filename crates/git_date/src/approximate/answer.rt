@@ -1,0 +1,157 @@
+//! The approximate reader: one token after the other, and what the whole text comes to.
+ghost use Rattle.std.specs.Prelude.{◌≡◌, ◌≤◌, length, IfOk, Err};
+ghost use Rattle.gix_date.specs.Relative.Steps.{zone_of};
+ghost use Rattle.git_date.specs.Tokens.{tokens, token_of};
+ghost use Rattle.git_date.specs.Dates.{now_of};
+ghost use Rattle.git_date.specs.Approximate.{rule, draft_of, answer, answer_of, guess, is_unreadable, exact_or_guess};
+ghost use Rattle.git_date.specs.ApproximateZones.{Choices, AreChoices};
+ghost use Rattle.git_date.specs.Views.{step_view};
+
+use crate::approximate::drafts::Draft;
+use crate::approximate::rules::{digits_rule, letters_rule};
+use crate::approximate::shown::Shown;
+use crate::approximate::zone::{filled_time, shown_in};
+use crate::dates::Now;
+use crate::error::DateError;
+use crate::fault::Fault;
+use crate::reader::{error_of, place_in};
+use crate::tokens::{Token, next_token};
+use gix_date::{Time, Zoned};
+
+/// What [`approxidate`](crate::approxidate) makes of a text.
+#[derive(Clone, Copy, Debug, PartialEq, Eq)]
+pub struct Approximate {
+    /// The time: seconds since 1970-01-01 00:00:00 UTC, and the offset in seconds east of UTC.
+    pub time: Time,
+    /// Whether anything was understood, by Git's own count. If not, the time is the moment, or near it.
+    pub understood: bool,
+    /// The place, in bytes, of the first word or number that no rule used, so that a program can say so.
+    ///
+    /// Not counted are marks, `ago`, `at`, `on`, `of`, `the`, `and`, the ending of a number as in `7th`, and one `T` between
+    /// digits.
+    pub ignored: Option<usize>,
+}
+
+/// What the rules use of the moment.
+#[derive(Clone, Copy)]
+pub(crate) struct Today {
+    now: Now,
+    /// What the clock of its zone shows.
+    shown: Shown,
+}
+
+/// What a token makes of a draft, and what is left to read. Marks say nothing.
+fn rule<'a>(
+    moment: Zoned<'_>,
+    today: Today,
+    draft: Draft,
+    token: Token<'_>,
+    text: &'a [u8],
+) -> Result<(Draft, &'a [u8]), Fault>
+    ghost zone: { Choices }
+    requires { AreChoices (zone_of moment) zone }
+    ensures value { step_view result ≡ rule zone today draft (token_of token.entry) (tokens text.now) }
+    ensures shorter { IfOk result (λ found. length found.1.now ≤ length text.now) }
+{
+    match token {
+        Token::Letters(run) => match letters_rule(moment, today.shown, draft, run, text) {
+            Ok(next) => Ok((next, text)),
+            Err(fault) => Err(fault),
+        },
+        Token::Digits(run) => digits_rule(today.now, draft, run, text),
+        Token::Mark(_) => Ok((draft, text)),
+    }
+}
+
+/// What the tokens of a text say, one after the other.
+fn draft_of(moment: Zoned<'_>, today: Today, text: &[u8]) -> Result<Draft, Fault>
+    ghost zone: { Choices }
+    requires { AreChoices (zone_of moment) zone }
+    ensures { result ≡ draft_of zone today text.now }
+{
+    let mut draft = Draft::first(today.shown);
+    let mut rest = text;
+    'tokens: while let Some((token, after)) = next_token(rest) {
+        let (next, later) = match rule(moment, today, draft, token, after) {
+            Ok(step) => step,
+            Err(fault) => return Err(fault),
+        };
+        draft = next;
+        rest = later;
+    }
+    Ok(draft)
+}
+
+/// The answer of a draft, by the time at which the zone's clock shows it.
+fn answer(text: &[u8], draft: Draft, time: Option<Time>) -> Result<Approximate, DateError>
+    ensures { result ≡ answer text.now draft time }
+{
+    let Some(time) = time else {
+        return Err(DateError::Range);
+    };
+    let ignored = match draft.ignored {
+        Some(left) => Some(place_in(text, left)),
+        None => None,
+    };
+    if 0 <= time.seconds {
+        Ok(Approximate {
+            time,
+            understood: draft.understood,
+            ignored,
+        })
+    } else {
+        Err(DateError::Range)
+    }
+}
+
+/// The answer of what the tokens say, with the number settled that still waits.
+fn answer_of(moment: Zoned<'_>, today: Today, text: &[u8]) -> Result<Approximate, DateError>
+    ghost zone: { Choices }
+    requires { AreChoices (zone_of moment) zone }
+    ensures { result ≡ answer_of zone today text.now (draft_of zone today text.now) }
+{
+    match draft_of(moment, today, text) {
+        Ok(draft) => {
+            let last = draft.settle();
+            answer(text, last, filled_time(moment, today.shown, last.fields))
+        }
+        Err(fault) => Err(error_of(text, fault)),
+    }
+}
+
+/// What the approximate reader makes of a text.
+#[tactic(auto, unfolding(crate::specs::Approximate::guess))]
+fn guess(moment: Zoned<'_>, text: &[u8]) -> Result<Approximate, DateError>
+    ghost zone: { Choices }
+    requires { AreChoices (zone_of moment) zone }
+    ensures { result ≡ guess zone (now_of moment.entry) text.now }
+{
+    let now = Now::of(moment);
+    match shown_in(moment, now.seconds) {
+        Some(shown) => answer_of(moment, Today { now, shown }, text),
+        None => Err(DateError::Range),
+    }
+}
+
+fn is_unreadable(error: DateError) -> bool
+    ensures { result ≡ is_unreadable error }
+{
+    matches!(error, DateError::Unreadable)
+}
+
+/// What the approximate reader makes of a text that the exact one does not read, or that one's refusal by another name.
+pub(crate) fn or_guess(
+    moment: Zoned<'_>,
+    text: &[u8],
+    error: DateError,
+) -> Result<Approximate, DateError>
+    ghost zone: { Choices }
+    requires { AreChoices (zone_of moment) zone }
+    ensures { result ≡ exact_or_guess (Err error) (guess zone (now_of moment.entry) text.now) }
+{
+    if is_unreadable(error) {
+        guess(moment, text)
+    } else {
+        Err(error)
+    }
+}

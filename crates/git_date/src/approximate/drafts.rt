@@ -1,0 +1,273 @@
+//! What an approximate text says so far.
+ghost use Rattle.std.specs.Prelude.{◌≡◌, ◌≤◌, None};
+ghost use Rattle.git_date.specs.ApproximateDrafts.{clock_fields, all_fields, first_draft, with_shown, ignore, lone_year, with_number, settle, dropped, with_hour, is_before, half, half_by, units, days_back, weekday_seconds, at_month, less_months};
+
+use crate::approximate::shown::Shown;
+use crate::fields::Fields;
+use crate::groups::Number;
+
+/// What an approximate text says so far.
+#[derive(Clone, Copy)]
+pub(crate) struct Draft {
+    pub(crate) fields: Fields,
+    /// The day of the week, from 0 for Monday, that the zone's clock showed last.
+    pub(crate) weekday: u8,
+    /// A number of which no word has said yet what it counts.
+    pub(crate) waiting: Option<Number>,
+    /// Whether anything was understood.
+    pub(crate) understood: bool,
+    /// How many bytes are left from the first word or number on that no rule used.
+    pub(crate) ignored: Option<usize>,
+}
+
+/// The fields of a clock without its date.
+fn clock_fields(shown: Shown) -> Fields
+    ensures { result ≡ clock_fields shown }
+{
+    Fields {
+        hour: Some(shown.hour),
+        minute: Some(shown.minute),
+        second: Some(shown.second),
+        ..Fields::UNKNOWN
+    }
+}
+
+/// The fields of a clock and its date.
+fn all_fields(shown: Shown) -> Fields
+    ensures { result ≡ all_fields shown }
+{
+    Fields {
+        year: Some(shown.year),
+        month: Some(shown.month),
+        day: Some(shown.day),
+        ..clock_fields(shown)
+    }
+}
+
+impl Fields {
+    /// With what a number says alone: the day, the month or the year.
+    #[tactic(auto, unfolding(crate::specs::ApproximateDrafts::with_number))]
+    fn with_number(self, n: u64) -> Option<Fields>
+        ensures { result ≡ with_number self n }
+    {
+        if n < 32 && self.day.is_none() {
+            return Some(Fields {
+                day: Some(n as u8),
+                ..self
+            });
+        }
+        if n < 13 && self.month.is_none() {
+            return Some(Fields {
+                month: Some(n as u8),
+                ..self
+            });
+        }
+        if self.year.is_some() {
+            return None;
+        }
+        match lone_year(n) {
+            Some(year) => Some(Fields {
+                year: Some(year),
+                ..self
+            }),
+            None => None,
+        }
+    }
+
+    /// With a month by how many months come before it from the year 0 on.
+    #[tactic(auto, unfolding(crate::specs::ApproximateDrafts::at_month))]
+    fn at_month(self, months: u64) -> Option<Fields>
+        ensures { result ≡ at_month self months }
+    {
+        if 1900 <= months / 12 && months / 12 <= 9999 {
+            Some(Fields {
+                year: Some((months / 12) as u16),
+                month: Some((months % 12 + 1) as u8),
+                ..self
+            })
+        } else {
+            None
+        }
+    }
+
+    /// With the month so many months earlier. `None` before 1900.
+    #[tactic(auto, unfolding(crate::specs::ApproximateDrafts::less_months))]
+    pub(crate) fn less_months(self, months: u64) -> Option<Fields>
+        ensures { result ≡ less_months self months }
+    {
+        let year = self.year?;
+        let month = self.month?;
+        let before = 12 * u64::from(year) + u64::from(month.saturating_sub(1));
+        self.at_month(before.saturating_sub(months))
+    }
+}
+
+/// The year that a number says alone.
+#[tactic(auto, unfolding(crate::specs::ApproximateDrafts::lone_year))]
+fn lone_year(n: u64) -> Option<u16>
+    ensures { result ≡ lone_year n }
+{
+    if 1970 <= n && n <= 2099 {
+        Some(n as u16)
+    } else if 70 <= n && n <= 99 {
+        Some(1900 + n as u16)
+    } else if n < 38 {
+        Some(2000 + n as u16)
+    } else {
+        None
+    }
+}
+
+impl Draft {
+    /// Before the first token: today's clock, and no date.
+    pub(crate) fn first(today: Shown) -> Draft
+        ensures { result ≡ first_draft today }
+    {
+        Draft {
+            fields: clock_fields(today),
+            weekday: today.weekday,
+            waiting: None,
+            understood: false,
+            ignored: None,
+        }
+    }
+
+    /// With all that a clock shows.
+    pub(crate) fn with_shown(self, shown: Shown) -> Draft
+        ensures { result ≡ with_shown self shown }
+    {
+        Draft {
+            fields: all_fields(shown),
+            weekday: shown.weekday,
+            ..self
+        }
+    }
+
+    /// With what is ignored from the place on from which so many bytes are left.
+    pub(crate) fn ignore(self, left: usize) -> Draft
+        ensures { result ≡ ignore self left }
+    {
+        let first = match self.ignored {
+            Some(other) => left.max(other),
+            None => left,
+        };
+        Draft {
+            ignored: Some(first),
+            ..self
+        }
+    }
+
+    /// With the field that the waiting number says, or with that number ignored.
+    #[tactic(auto, unfolding(crate::specs::ApproximateDrafts::settle))]
+    pub(crate) fn settle(self) -> Draft
+        ensures { result ≡ settle self }
+    {
+        let Some(n) = self.waiting else {
+            return self;
+        };
+        let rest = Draft {
+            waiting: None,
+            ..self
+        };
+        match self.fields.with_number(n.value) {
+            Some(fields) => Draft { fields, ..rest },
+            None => rest.ignore(n.left),
+        }
+    }
+
+    /// With the waiting number ignored.
+    #[tactic(auto, unfolding(crate::specs::ApproximateDrafts::dropped))]
+    pub(crate) fn dropped(self) -> Draft
+        ensures { result ≡ dropped self }
+    {
+        match self.waiting {
+            Some(n) => Draft {
+                waiting: None,
+                ..self
+            }
+            .ignore(n.left),
+            None => self,
+        }
+    }
+
+    /// With a whole hour.
+    pub(crate) fn with_hour(self, hour: u8) -> Draft
+        ensures { result ≡ with_hour self hour }
+    {
+        Draft {
+            fields: Fields {
+                hour: Some(hour),
+                minute: Some(0),
+                second: Some(0),
+                ..self.fields
+            },
+            ..self
+        }
+    }
+
+    /// Whether the clock is before a whole hour.
+    pub(crate) fn is_before(self, hour: u8) -> bool
+        ensures { result ≡ is_before self.fields.hour hour }
+    {
+        match self.fields.hour {
+            Some(shown) => shown < hour,
+            None => false,
+        }
+    }
+
+    /// With an hour of the half of a day that begins with this one: the waiting number, or else the clock's hour.
+    #[tactic(auto, unfolding(crate::specs::ApproximateDrafts::half))]
+    pub(crate) fn half(self, first: u8) -> Draft
+        requires { first ≤ 12 }
+        ensures { result ≡ half self first }
+    {
+        match self.waiting {
+            Some(n) => Draft {
+                waiting: None,
+                ..self
+            }
+            .with_hour((n.value % 12) as u8 + first),
+            None => self.with_half(first),
+        }
+    }
+
+    /// With the clock's hour in that half of a day.
+    fn with_half(self, first: u8) -> Draft
+        requires { first ≤ 12 }
+        ensures { result ≡ half_by self first None }
+    {
+        match self.fields.hour {
+            Some(hour) => Draft {
+                fields: Fields {
+                    hour: Some(hour % 12 + first),
+                    ..self.fields
+                },
+                ..self
+            },
+            None => self,
+        }
+    }
+}
+
+/// So many units of so much.
+pub(crate) fn units(n: u64, size: u32) -> u64
+    ensures { result ≡ units n size }
+{
+    n.saturating_mul(u64::from(size))
+}
+
+/// The days from 1 to 7 back to the day of the week that is named.
+fn days_back(weekday: u8, named: u8) -> u32
+    ensures value { result ≡ days_back weekday named }
+    ensures small { result ≤ 7 }
+{
+    (u32::from(weekday) + 6).saturating_sub(u32::from(named)) % 7 + 1
+}
+
+/// The seconds back to the day of the week that is named, at the count of such days.
+pub(crate) fn weekday_seconds(weekday: u8, named: u8, n: u64) -> u64
+    ensures { result ≡ weekday_seconds weekday named n }
+{
+    let weeks = units(n.saturating_sub(1), 604_800);
+    weeks.saturating_add(u64::from(86_400 * days_back(weekday, named)))
+}

@@ -1,0 +1,154 @@
+//! What words say to the approximate reader.
+ghost use Rattle.std.specs.Prelude.{◌≡◌};
+ghost use Rattle.std.specs.List.{position};
+ghost use Rattle.gix_date.specs.Text.Names.{is_name};
+ghost use Rattle.git_date.specs.ApproximateWords.{moment_named, count_named, is_unit, unit_named, weekday_named, meaning_of};
+
+use crate::names::{WEEKDAYS, month_named, place_in};
+
+/// What a word says.
+#[derive(Clone, Copy)]
+pub(crate) enum Meaning {
+    /// A month, from 1.
+    Month(u8),
+    /// So many seconds back: `now` and `yesterday`.
+    Back(u32),
+    /// The first instant of 1970: `never`.
+    Never,
+    /// A whole hour: `midnight`, `noon` and `tea`.
+    Hour(u8),
+    /// `AM`.
+    Morning,
+    /// `PM`.
+    Afternoon,
+    /// A number: `one` to `ten`, and `last`, which is one.
+    Count(u8),
+    /// What a number counts.
+    Unit(Unit),
+}
+
+/// What a number counts.
+#[derive(Clone, Copy)]
+pub(crate) enum Unit {
+    /// So many seconds.
+    Seconds(u32),
+    /// A day of the week, from 0 for Monday.
+    Weekday(u8),
+    /// So many months.
+    Months(u32),
+}
+
+const NUMBERS: [&[u8]; 10] = [
+    b"one", b"two", b"three", b"four", b"five", b"six", b"seven", b"eight", b"nine", b"ten",
+];
+
+/// What a word of a moment says.
+#[tactic(auto, unfolding(crate::specs::ApproximateWords::moment_named))]
+fn moment_named(word: &[u8]) -> Option<Meaning>
+    ensures { result ≡ moment_named word.now }
+{
+    if word.eq_ignore_ascii_case(b"now") {
+        Some(Meaning::Back(0))
+    } else if word.eq_ignore_ascii_case(b"yesterday") {
+        Some(Meaning::Back(86_400))
+    } else if word.eq_ignore_ascii_case(b"never") {
+        Some(Meaning::Never)
+    } else if word.eq_ignore_ascii_case(b"midnight") {
+        Some(Meaning::Hour(0))
+    } else if word.eq_ignore_ascii_case(b"noon") {
+        Some(Meaning::Hour(12))
+    } else if word.eq_ignore_ascii_case(b"tea") {
+        Some(Meaning::Hour(17))
+    } else if word.eq_ignore_ascii_case(b"AM") {
+        Some(Meaning::Morning)
+    } else if word.eq_ignore_ascii_case(b"PM") {
+        Some(Meaning::Afternoon)
+    } else {
+        None
+    }
+}
+
+/// The place of the name that a word is.
+fn place_of(word: &[u8], names: &[&[u8]]) -> Option<usize>
+    ensures { result ≡ position (λ name. is_name word.now name.now) names.now }
+{
+    names
+        .iter()
+        .position(|name| word.eq_ignore_ascii_case(name))
+}
+
+/// What `one` to `ten` and `last` count.
+#[tactic(auto, unfolding(crate::specs::ApproximateWords::count_named))]
+fn count_named(word: &[u8]) -> Option<u8>
+    ensures { result ≡ count_named word.now }
+{
+    if word.eq_ignore_ascii_case(b"last") {
+        return Some(1);
+    }
+    let place = place_of(word, &NUMBERS)?;
+    Some(place as u8 + 1)
+}
+
+/// Whether a word is a unit's name, or that without its last letter.
+fn is_unit(word: &[u8], name: &[u8]) -> bool
+    ensures { result ≡ is_unit word.now name.now }
+{
+    word.eq_ignore_ascii_case(name)
+        || (word.len() + 1 == name.len() && word.eq_ignore_ascii_case(&name[..word.len()]))
+}
+
+/// The unit that a word names.
+#[tactic(auto, unfolding(crate::specs::ApproximateWords::unit_named))]
+fn unit_named(word: &[u8]) -> Option<Unit>
+    ensures { result ≡ unit_named word.now }
+{
+    if is_unit(word, b"seconds") {
+        Some(Unit::Seconds(1))
+    } else if is_unit(word, b"minutes") {
+        Some(Unit::Seconds(60))
+    } else if is_unit(word, b"hours") {
+        Some(Unit::Seconds(3600))
+    } else if is_unit(word, b"days") {
+        Some(Unit::Seconds(86_400))
+    } else if is_unit(word, b"weeks") {
+        Some(Unit::Seconds(604_800))
+    } else if is_unit(word, b"months") {
+        Some(Unit::Months(1))
+    } else if is_unit(word, b"years") {
+        Some(Unit::Months(12))
+    } else {
+        None
+    }
+}
+
+/// The day of the week that a word names, from 0 for Monday.
+#[tactic(auto, unfolding(crate::specs::ApproximateWords::weekday_named))]
+fn weekday_named(word: &[u8]) -> Option<u8>
+    ensures { result ≡ weekday_named word.now }
+{
+    let place = place_in(word, &WEEKDAYS)?;
+    Some(((place as u32 + 6) % 7) as u8)
+}
+
+/// What a word says, if it is known. No word that has a digit is.
+#[tactic(auto, unfolding(crate::specs::ApproximateWords::meaning_of))]
+pub(crate) fn meaning_of(word: &[u8]) -> Option<Meaning>
+    ensures { result ≡ meaning_of word.now }
+{
+    if let Some(month) = month_named(word) {
+        return Some(Meaning::Month(month));
+    }
+    if let Some(meaning) = moment_named(word) {
+        return Some(meaning);
+    }
+    if let Some(n) = count_named(word) {
+        return Some(Meaning::Count(n));
+    }
+    if let Some(day) = weekday_named(word) {
+        return Some(Meaning::Unit(Unit::Weekday(day)));
+    }
+    match unit_named(word) {
+        Some(unit) => Some(Meaning::Unit(unit)),
+        None => None,
+    }
+}

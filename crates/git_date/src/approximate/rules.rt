@@ -1,0 +1,331 @@
+//! The rules of the approximate reader: what digits and words make of a draft.
+ghost use Rattle.std.specs.Prelude.{◌≡◌, ◌≤◌, ◌∷◌, length, IfOk};
+ghost use Rattle.gix_date.specs.Relative.Steps.{zone_of};
+ghost use Rattle.git_date.specs.Tokens.{tokens, Letters, bytes_left};
+ghost use Rattle.git_date.specs.ApproximateWords.{meaning_of};
+ghost use Rattle.git_date.specs.ApproximateZones.{Choices, AreChoices};
+ghost use Rattle.git_date.specs.ApproximateRules.{used, hour_rule, back_rule, months_rule, unit_rule, counted_by, count_waits, with_month, meaning_rule, word_by, read_word, are_digits_next, letters_rule, is_padded, number_waits, group_said, digits_rule};
+ghost use Rattle.git_date.specs.Views.{step_view};
+
+use crate::approximate::drafts::{Draft, units, weekday_seconds};
+use crate::approximate::meanings::{Meaning, Unit, meaning_of};
+use crate::approximate::shown::Shown;
+use crate::approximate::zone::{fill, moved_to};
+use crate::dates::{Dated, Now};
+use crate::digits::Stepped;
+use crate::fault::Fault;
+use crate::fields::Fields;
+use crate::groups::{Number, group_of};
+use crate::numbers::{MAX_SMALL, is_too_large, number};
+use crate::tokens::{Token, left_from, next_token};
+use crate::words::{is_filler, without_ending};
+use gix_date::Zoned;
+
+/// What a rule makes of a draft: `None` if it did nothing.
+type Ruled = Result<Option<Draft>, Fault>;
+
+fn used(draft: Result<Draft, Fault>) -> Ruled
+    ensures { result ≡ used draft }
+{
+    match draft {
+        Ok(draft) => Ok(Some(draft)),
+        Err(fault) => Err(fault),
+    }
+}
+
+/// `midnight`, `noon` and `tea`: where the clock is before that hour, the day before.
+#[tactic(auto, unfolding(crate::specs::ApproximateRules::hour_rule))]
+fn hour_rule(
+    moment: Zoned<'_>,
+    today: Shown,
+    draft: Draft,
+    hour: u8,
+    left: usize,
+) -> Result<Draft, Fault>
+    ghost zone: { Choices }
+    requires { AreChoices (zone_of moment) zone }
+    ensures { result ≡ hour_rule zone today draft hour left }
+{
+    let settled = draft.settle();
+    if !settled.is_before(hour) {
+        return Ok(settled.with_hour(hour));
+    }
+    match fill(moment, today, settled, 86_400, left) {
+        Ok(filled) => Ok(filled.with_hour(hour)),
+        Err(fault) => Err(fault),
+    }
+}
+
+/// A number of seconds back.
+#[tactic(auto, unfolding(crate::specs::ApproximateRules::back_rule))]
+fn back_rule(
+    moment: Zoned<'_>,
+    today: Shown,
+    draft: Draft,
+    back: u64,
+    n: Number,
+) -> Result<Draft, Fault>
+    ghost zone: { Choices }
+    requires { AreChoices (zone_of moment) zone }
+    ensures { result ≡ back_rule zone today draft back n }
+{
+    if MAX_SMALL < back {
+        return Err(Fault::BackTooFar(n.left));
+    }
+    fill(moment, today, draft, back as u32, n.left)
+}
+
+/// A number of months back.
+#[tactic(auto, unfolding(crate::specs::ApproximateRules::months_rule))]
+fn months_rule(
+    moment: Zoned<'_>,
+    today: Shown,
+    draft: Draft,
+    months: u64,
+    n: Number,
+) -> Result<Draft, Fault>
+    ghost zone: { Choices }
+    requires { AreChoices (zone_of moment) zone }
+    ensures { result ≡ months_rule zone today draft months n }
+{
+    let filled = match fill(moment, today, draft, 0, n.left) {
+        Ok(filled) => filled,
+        Err(fault) => return Err(fault),
+    };
+    match filled.fields.less_months(months) {
+        Some(fields) => Ok(Draft { fields, ..filled }),
+        None => Err(Fault::BackTooFar(n.left)),
+    }
+}
+
+/// What a number counts.
+fn unit_rule(
+    moment: Zoned<'_>,
+    today: Shown,
+    draft: Draft,
+    unit: Unit,
+    n: Number,
+) -> Result<Draft, Fault>
+    ghost zone: { Choices }
+    requires { AreChoices (zone_of moment) zone }
+    ensures { result ≡ unit_rule zone today draft unit n }
+{
+    let rest = Draft {
+        waiting: None,
+        ..draft
+    };
+    match unit {
+        Unit::Seconds(size) => back_rule(moment, today, rest, units(n.value, size), n),
+        Unit::Weekday(day) => {
+            let back = weekday_seconds(draft.weekday, day, n.value);
+            back_rule(moment, today, rest, back, n)
+        }
+        Unit::Months(size) => months_rule(moment, today, rest, units(n.value, size), n),
+    }
+}
+
+/// What the waiting number counts.
+fn counted(moment: Zoned<'_>, today: Shown, draft: Draft, unit: Unit) -> Ruled
+    ghost zone: { Choices }
+    requires { AreChoices (zone_of moment) zone }
+    ensures { result ≡ counted_by zone today draft unit draft.waiting }
+{
+    match draft.waiting {
+        Some(n) => used(unit_rule(moment, today, draft, unit, n)),
+        None => Ok(None),
+    }
+}
+
+/// A number waits, where none waits yet.
+fn count_waits(draft: Draft, n: u8, left: usize) -> Option<Draft>
+    ensures { result ≡ count_waits draft n left draft.waiting }
+{
+    match draft.waiting {
+        Some(_) => None,
+        None => Some(Draft {
+            waiting: Some(Number {
+                value: u64::from(n),
+                left,
+            }),
+            ..draft
+        }),
+    }
+}
+
+/// With a month.
+fn with_month(draft: Draft, month: u8) -> Draft
+    ensures { result ≡ with_month draft month }
+{
+    Draft {
+        fields: Fields {
+            month: Some(month),
+            ..draft.fields
+        },
+        ..draft
+    }
+}
+
+/// What a word makes of a draft by what it says.
+#[tactic(auto, unfolding(crate::specs::ApproximateRules::meaning_rule))]
+fn meaning_rule(
+    moment: Zoned<'_>,
+    today: Shown,
+    draft: Draft,
+    left: usize,
+    meaning: Meaning,
+) -> Ruled
+    ghost zone: { Choices }
+    requires { AreChoices (zone_of moment) zone }
+    ensures { result ≡ meaning_rule zone today draft left meaning }
+{
+    match meaning {
+        Meaning::Month(month) => Ok(Some(with_month(draft, month))),
+        Meaning::Back(seconds) => used(fill(moment, today, draft.dropped(), seconds, left)),
+        Meaning::Never => used(moved_to(moment, draft.dropped(), left, 0)),
+        Meaning::Hour(hour) => used(hour_rule(moment, today, draft, hour, left)),
+        Meaning::Morning => Ok(Some(draft.half(0))),
+        Meaning::Afternoon => Ok(Some(draft.half(12))),
+        Meaning::Count(n) => Ok(count_waits(draft, n, left)),
+        Meaning::Unit(unit) => counted(moment, today, draft, unit),
+    }
+}
+
+/// What a word makes of a draft.
+fn word_rule(moment: Zoned<'_>, today: Shown, draft: Draft, left: usize, word: &[u8]) -> Ruled
+    ghost zone: { Choices }
+    requires { AreChoices (zone_of moment) zone }
+    ensures { result ≡ word_by zone today draft left (meaning_of word.now) }
+{
+    match meaning_of(word) {
+        Some(meaning) => meaning_rule(moment, today, draft, left, meaning),
+        None => Ok(None),
+    }
+}
+
+/// The draft after a word: one that did nothing is ignored, unless it is a filler.
+fn read_word(draft: Draft, word: &[u8], left: usize, ruled: Ruled) -> Result<Draft, Fault>
+    ensures { result ≡ read_word draft word.now left ruled }
+{
+    match ruled {
+        Ok(Some(next)) => Ok(Draft {
+            understood: true,
+            ..next
+        }),
+        Ok(None) => {
+            if is_filler(word) {
+                Ok(draft)
+            } else {
+                Ok(draft.ignore(left))
+            }
+        }
+        Err(fault) => Err(fault),
+    }
+}
+
+/// Whether the token that stands first is digits.
+fn begins_with_digits(text: &[u8]) -> bool
+    ensures { result ≡ are_digits_next (tokens text.now) }
+{
+    matches!(next_token(text), Some((Token::Digits(_), _)))
+}
+
+/// What letters make of a draft, by the text after them. No word that has a digit is known.
+#[tactic(auto, unfolding(crate::specs::ApproximateRules::letters_rule))]
+pub(crate) fn letters_rule(
+    moment: Zoned<'_>,
+    today: Shown,
+    draft: Draft,
+    run: &[u8],
+    text: &[u8],
+) -> Result<Draft, Fault>
+    ghost zone: { Choices }
+    requires { AreChoices (zone_of moment) zone }
+    ensures { result ≡ letters_rule zone today draft run.now (tokens text.now) }
+{
+    let left = letters_left(run, text);
+    if begins_with_digits(text) {
+        return Ok(draft.ignore(left));
+    }
+    read_word(draft, run, left, word_rule(moment, today, draft, left, run))
+}
+
+/// How many bytes are left from these letters on, by the text after them.
+fn letters_left(run: &[u8], text: &[u8]) -> usize
+    ensures { result ≡ bytes_left (Letters run.now ∷ tokens text.now) }
+{
+    left_from(run, text)
+}
+
+/// Whether three digits or more begin with 0.
+#[tactic(auto, unfolding(crate::specs::ApproximateRules::is_padded))]
+fn is_padded(run: &[u8]) -> bool
+    ensures { result ≡ is_padded run.now }
+{
+    match run {
+        [first, _, _, ..] => *first == b'0',
+        _ => false,
+    }
+}
+
+/// A number waits, unless it is 0 or padded.
+#[tactic(auto, unfolding(crate::specs::ApproximateRules::number_waits))]
+fn number_waits(draft: Draft, run: &[u8], left: usize) -> Draft
+    ensures { result ≡ number_waits draft run.now left }
+{
+    let value = number(run);
+    if value == 0 || is_padded(run) {
+        return draft.ignore(left);
+    }
+    Draft {
+        waiting: Some(Number { value, left }),
+        ..draft
+    }
+}
+
+/// What the group says that begins with these digits, if it is taken.
+#[tactic(auto, unfolding(crate::specs::ApproximateRules::group_said))]
+fn group_said<'a>(now: Now, fields: Fields, run: &[u8], text: &'a [u8]) -> Stepped<'a>
+    ensures value { step_view result ≡ group_said now fields run.now (tokens text.now) }
+    ensures shorter { IfOk result (λ found. length found.1.now ≤ length text.now) }
+{
+    let Some((group, rest)) = group_of(number(run), text) else {
+        return Ok((None, text));
+    };
+    match group.rule(now, fields) {
+        Dated::Refused => Ok((None, text)),
+        Dated::Taken(next) => match group.large_in() {
+            Some(left) => Err(Fault::NumberTooLarge(left)),
+            None => Ok((Some(next), group.after_group(next, rest))),
+        },
+        Dated::YearRefused => match group.large_in() {
+            Some(left) => Err(Fault::NumberTooLarge(left)),
+            None => Err(Fault::YearRefused(left_from(run, text))),
+        },
+    }
+}
+
+/// What digits make of a draft, and what is left to read.
+#[tactic(auto, unfolding(crate::specs::ApproximateRules::digits_rule))]
+pub(crate) fn digits_rule<'a>(
+    now: Now,
+    draft: Draft,
+    run: &[u8],
+    text: &'a [u8],
+) -> Result<(Draft, &'a [u8]), Fault>
+    ensures value { step_view result ≡ digits_rule now draft run.now (tokens text.now) }
+    ensures shorter { IfOk result (λ found. length found.1.now ≤ length text.now) }
+{
+    let left = left_from(run, text);
+    if is_too_large(number(run)) {
+        return Err(Fault::NumberTooLarge(left));
+    }
+    let ready = Draft {
+        understood: true,
+        ..draft.settle()
+    };
+    match group_said(now, ready.fields, run, text) {
+        Ok((Some(fields), rest)) => Ok((Draft { fields, ..ready }, without_ending(rest))),
+        Ok((None, rest)) => Ok((number_waits(ready, run, left), without_ending(rest))),
+        Err(fault) => Err(fault),
+    }
+}
