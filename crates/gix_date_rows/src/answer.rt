@@ -10,6 +10,8 @@ use std::fmt;
 pub(crate) enum Answer {
     /// A time, shown as its seconds, a space and its offset in seconds.
     Time(Time),
+    /// A time of a text that says nothing that is understood, shown so with ` ?` after it.
+    Doubtful(Time),
     /// A text.
     Text(String),
     /// A refusal, by its name.
@@ -49,6 +51,10 @@ impl fmt::Display for Answer {
             Answer::Time(time) => {
                 let (seconds, offset) = (time.seconds, time.offset);
                 write!(f, "{seconds} {offset}")
+            }
+            Answer::Doubtful(time) => {
+                let (seconds, offset) = (time.seconds, time.offset);
+                write!(f, "{seconds} {offset} ?")
             }
             Answer::Text(text) => f.write_str(text.as_str()),
             Answer::Refused(name) => f.write_str(name),

@@ -1,5 +1,6 @@
 //! The calls of rows, each named as in the library.
 use crate::answer::{Answer, name_of};
+use crate::approximate::{guessed, passed_over};
 use crate::arguments::Arguments;
 use crate::moments::{ignored_place, parsed, parsed_carefully, read_date, shown_date, zone_of};
 use gix_date::device::Device;
@@ -43,6 +44,14 @@ pub(crate) fn answer_to(
         "ignored" => {
             let moment = row.text()?;
             ignored_place(zones, moment, row.text()?)
+        }
+        "approxidate" => {
+            let moment = row.text()?;
+            guessed(zones, moment, row.text()?)
+        }
+        "approximate_ignored" => {
+            let moment = row.text()?;
+            passed_over(zones, moment, row.text()?)
         }
         "to_zoned" => Some(converted(row.time()?)),
         "now_local" => {

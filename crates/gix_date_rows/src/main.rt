@@ -7,6 +7,7 @@
 #![tactic(auto)]
 
 mod answer;
+mod approximate;
 mod arguments;
 mod calls;
 mod escapes;

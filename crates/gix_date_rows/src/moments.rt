@@ -125,7 +125,7 @@ fn carefully(
 
 /// No moment where the text is `none`, or the one that is written as its seconds, its nanoseconds and its zone with a space after each
 /// of the first two, or the name of what is wrong with it. `None` where it is written otherwise.
-fn moment_of<'a>(
+pub(crate) fn moment_of<'a>(
     zones: &'a TimeZoneDatabase,
     text: &str,
 ) -> Option<Result<Option<Zoned<'a>>, &'static str>> {
