@@ -21,5 +21,7 @@ mod LawRows
 pub mod ApproximateClocks
 pub mod ZoneChoices
 pub mod ApproximateFolds
+pub mod FixedChoices
+mod ApproximateRows
 mod ReadRows
 mod ShowRows

@@ -15,6 +15,8 @@ pub mod ApproximateDrafts
 pub mod ApproximateZones
 pub mod ApproximateRules
 pub mod Approximate
+pub mod ApproximateExpiry
+pub mod ApproximateComputing
 pub mod Views
 pub mod Computing
 pub mod Lines

@@ -3,6 +3,7 @@ ghost use Rattle.git_date.specs.Approximate.{ApproximateOutcome};
 
 mod answer;
 mod drafts;
+mod expiry;
 mod meanings;
 mod rules;
 mod shown;
@@ -12,6 +13,7 @@ use crate::date::parse_date;
 use crate::error::DateError;
 pub use answer::Approximate;
 use answer::or_guess;
+pub use expiry::{Expiry, expiry_date};
 use gix_date::Zoned;
 
 /// Reads a date as people write it: `yesterday noon`, `last friday`, `2 weeks ago`, `July 5th`. So Git reads `--since`,

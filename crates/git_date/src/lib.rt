@@ -11,6 +11,14 @@
 //! parse_date("2008-02-14", now);                      // Err(DateError::Unreadable): no clock
 //! ```
 //!
+//! [`approxidate`] reads what people write, as Git reads `--since` and `REF@{..}`: `yesterday noon`, `2 weeks ago`. It says which
+//! word Git passes over ([`Approximate::ignored`]).
+//!
+//! ```
+//! approxidate("last friday at noon", now); // Ok, with the time 1251460800 +0000
+//! approxidate("5 mins ago", now);          // Ok, with 1249500000 +0000 and Some(2): Git knows no `mins`, so this is the 5th
+//! ```
+//!
 //! The moment and its zone are handed in, as for [`gix_date::parse`]. No call here takes memory.
 #![tactic(auto)]
 
@@ -32,7 +40,7 @@ mod show;
 mod tokens;
 mod words;
 
-pub use approximate::{Approximate, approxidate};
+pub use approximate::{Approximate, Expiry, approxidate, expiry_date};
 pub use date::{ReadDate, parse_date};
 pub use error::DateError;
 pub use mode::{DateKind, DateMode, UnknownMode};

@@ -1,0 +1,34 @@
+-- What expires: all, nothing, or what is older than a date.
+use Rattle.std.specs.Prelude.{◌≡◌, ℕ, Bool, ◌||◌, List, bytes_eq, codes, if◌then◌else◌, Option, Some, None, Result, Ok, Err}
+use Rattle.jiff.specs.declared.zoned.Zoned.{Zoned}
+use Rattle.git_date.specs.Approximate.{ApproximateOutcome}
+use Rattle.git_date.specs.declared.approximate.answer.Approximate.{Approximate}
+use Rattle.git_date.specs.declared.approximate.expiry.Expiry.{Expiry}
+use Rattle.git_date.specs.declared.approximate.expiry.Expiry.TheVariants.{Never, All, Before}
+use Rattle.git_date.specs.declared.error.DateError.{DateError}
+use Rattle.git_date.specs.declared.error.DateError.TheVariants.{Unreadable}
+
+-- the words that are no dates here, in small letters alone
+unfoldable pub fixed_expiry : List ℕ → Option Expiry
+fixed_expiry text =
+    if bytes_eq text (codes "never") || bytes_eq text (codes "false") then Some Never
+    else (if bytes_eq text (codes "all") || bytes_eq text (codes "now") then Some All else None)
+
+-- a date of which something was understood
+abbrev pub expiry_of : Result Approximate DateError → Result Expiry DateError
+expiry_of (Ok date) = if date.understood then Ok (Before date) else Err Unreadable
+expiry_of (Err e) = Err e
+
+-- the result is that of the date that `approxidate` reads
+pub record IsDated (moment : Zoned) (text : List ℕ) (result : Result Expiry DateError) : Type 0 where
+  pub date : Result Approximate DateError
+  pub reads : ApproximateOutcome moment text date
+  pub is : result ≡ expiry_of date
+
+abbrev pub ExpiryBy : Zoned → List ℕ → Option Expiry → Result Expiry DateError → Type 0
+ExpiryBy moment text (Some expiry) result = result ≡ Ok expiry
+ExpiryBy moment text None result = IsDated moment text result
+
+-- the result of `expiry_date`: what one of the words says, or else a date
+abbrev pub ExpiryOutcome : Zoned → List ℕ → Result Expiry DateError → Type 0
+ExpiryOutcome moment text result = ExpiryBy moment text (fixed_expiry text) result

@@ -1,0 +1,63 @@
+//! What expires, as in `gc.pruneExpire`.
+ghost use Rattle.std.specs.Prelude.{◌≡◌};
+ghost use Rattle.git_date.specs.ApproximateExpiry.{fixed_expiry, expiry_of, ExpiryOutcome};
+
+use crate::approximate::answer::Approximate;
+use crate::approximate::approxidate;
+use crate::error::DateError;
+use gix_date::Zoned;
+
+/// What expires by a text such as `gc.pruneExpire` has.
+#[derive(Clone, Copy, Debug, PartialEq, Eq)]
+pub enum Expiry {
+    /// Nothing.
+    Never,
+    /// All, however new it is.
+    All,
+    /// What is older than this date.
+    Before(Approximate),
+}
+
+/// What the words say that are no dates here.
+#[tactic(auto, unfolding(crate::specs::ApproximateExpiry::fixed_expiry))]
+fn fixed_expiry(text: &str) -> Option<Expiry>
+    ensures { result ≡ fixed_expiry text.now }
+{
+    if text == "never" || text == "false" {
+        Some(Expiry::Never)
+    } else if text == "all" || text == "now" {
+        Some(Expiry::All)
+    } else {
+        None
+    }
+}
+
+/// What a date says of which something was understood.
+fn expiry_of(date: Result<Approximate, DateError>) -> Result<Expiry, DateError>
+    ensures { result ≡ expiry_of date }
+{
+    match date {
+        Ok(date) => {
+            if date.understood {
+                Ok(Expiry::Before(date))
+            } else {
+                Err(DateError::Unreadable)
+            }
+        }
+        Err(error) => Err(error),
+    }
+}
+
+/// Reads what expires, as Git reads `gc.pruneExpire` and `reflog expire --expire=`.
+///
+/// `never` and `false` are [`Expiry::Never`], `all` and `now` are [`Expiry::All`]: these words alone, in small letters. Any other
+/// text is a date, read as by [`approxidate`](crate::approxidate), with its refusals; [`DateError::Unreadable`] if nothing of it
+/// was understood. Takes no memory.
+pub fn expiry_date(text: &str, now: Zoned<'_>) -> Result<Expiry, DateError>
+    ensures { ExpiryOutcome now.entry text.now result }
+{
+    match fixed_expiry(text) {
+        Some(expiry) => Ok(expiry),
+        None => expiry_of(approxidate(text, now)),
+    }
+}
