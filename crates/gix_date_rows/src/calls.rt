@@ -3,6 +3,7 @@ use crate::answer::{Answer, name_of};
 use crate::approximate::{guessed, passed_over};
 use crate::arguments::Arguments;
 use crate::moments::{ignored_place, parsed, parsed_carefully, read_date, shown_date, zone_of};
+use git_date::DateMode;
 use gix_date::device::Device;
 use gix_date::parsing::TimeBuf;
 use gix_date::time::Format;
@@ -70,6 +71,7 @@ fn printed(
     row: &mut Arguments<'_>,
 ) -> Option<Answer> {
     match call {
+        "date_mode" => Some(mode_name(alloc, row.text()?)),
         "show_date" => {
             let mode = row.mode()?;
             let moment = row.text()?;
@@ -177,6 +179,17 @@ fn now_local(zones: &TimeZoneDatabase, clock: Timestamp, zone: &str) -> Option<A
     } else {
         Answer::APART
     })
+}
+
+/// The name that a mode of shown dates shows.
+fn mode_name(alloc: Global, name: &str) -> Answer {
+    match name.parse::<DateMode>() {
+        Ok(mode) => {
+            let shown: Result<String, AllocError> = format!(in alloc; "{mode}");
+            shown.into()
+        }
+        Err(_fault) => Answer::Refused("UnknownMode"),
+    }
 }
 
 /// The text of a time in a format. `format_or_unix` has to answer the same, or the seconds where there is none.
