@@ -1,5 +1,5 @@
 -- What the laws say of texts, on worked texts: each row computes. The moment is 2009-08-30 19:20:00 in UTC.
-use Rattle.std.proofs.Common.{◌≡◌, refl, List, [], ◌∷◌, length, map, pos, Bool, true, false}
+use Rattle.std.proofs.Common.{◌≡◌, refl, [], ◌∷◌, length, map, pos, Bool, true, false}
 use Prim.Native.String.{String}
 use Rattle.std.specs.Prelude.{codes}
 use Rattle.git_date.specs.Computing.{computing}
