@@ -1,8 +1,8 @@
 -- What a zone of one offset chooses.
-use Rattle.std.proofs.Common.{◌≡◌, ◌∙◌, ◌-ℤ◌, ℤ, pos, Bool, true, false, cond, Option, Some, None, refl, sym, ap, ap₂, subst, arith}
+use Rattle.std.proofs.Common.{◌≡◌, ◌∙◌, ◌-ℤ◌, ℤ, Bool, true, false, cond, Option, Some, None, refl, sym, ap, ap₂, subst, arith}
 use Rattle.jiff.proofs.ZoneFacts.{offset_at-fixed_zone}
 use Rattle.jiff.specs.Types.{TimeZone, Offset}
-use Rattle.jiff.specs.Words.{fixed_zone, nanos_of_seconds, offset_at, civil_nanos, IsTimestampNanos, IsCivilNanos}
+use Rattle.jiff.specs.Words.{fixed_zone, nanos_of_seconds, IsTimestampNanos, IsCivilNanos}
 use Rattle.jiff_core.proofs.SignedLemmas.{signed_arith}
 use Rattle.gix_date.specs.Careful.Dates.{IsLocalTime, IsLocalIfAny}
 use Rattle.gix_date.specs.Families.Epoch.{utc_time}
@@ -10,7 +10,7 @@ use Rattle.gix_date.specs.Fields.Zoned.{is_instant, time_in}
 use Rattle.gix_date.specs.Relative.Steps.{IsPicked}
 use Rattle.gix_date.specs.declared.time.Time.{Time}
 use Rattle.gix_date.proofs.Fields.DateTimes.{datetime_exists}
-use Rattle.gix_date.proofs.Fields.Instants.{instant_holds, instant_from, instant_range, whole_seconds}
+use Rattle.gix_date.proofs.Fields.Instants.{instant_holds, instant_from, whole_seconds}
 use Rattle.gix_date.proofs.Relative.FixedZones.{fixed-picked, fixed-picks}
 use Rattle.git_date.specs.ApproximateZones.{Choices, AreChoices, IsChoice, one_offset}
 use Rattle.git_date.proofs.ZoneChoices.{if-any-once}

@@ -22,6 +22,7 @@ pub mod ApproximateClocks
 pub mod ZoneChoices
 pub mod ApproximateFolds
 pub mod FixedChoices
+pub mod ExactOnce
 mod ApproximateRows
 mod ReadRows
 mod ShowRows

@@ -4,3 +4,4 @@ pub mod Printed
 pub mod Texts
 pub mod Zones
 pub mod ShownLaws
+pub mod Guesses

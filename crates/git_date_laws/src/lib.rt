@@ -5,8 +5,10 @@ ghost use Rattle.std.specs.Prelude.{◌≡◌};
 ghost use Rattle.git_date.specs.Tokens.{tokens as tokens_of, texts};
 ghost use Rattle.git_date_laws.specs.Laws.{AreApart, IgnoresZone, IgnoresCase, IgnoresLines, IgnoresInstant, ReadsBack};
 
+mod approximate;
 mod shown;
 
+pub use approximate::{exact_answer, one_answer};
 use gix_date::{Time, Zoned};
 pub use shown::{mode_named_back, no_single_unit, shown_as_printed};
 

@@ -1,4 +1,4 @@
-use Rattle.std.proofs.Common.{◌≡◌, sym, subst, Some, None, Option}
+use Rattle.std.proofs.Common.{subst, Option}
 use Rattle.git_date.specs.ApproximateExpiry.{ExpiryBy}
 use Rattle.git_date.specs.declared.approximate.expiry.Expiry.{Expiry}
 use Rattle.git_date.proofs.approximate.expiry.expiry_date.Goals as goal

@@ -1,0 +1,29 @@
+-- What the approximate reader answers.
+use Rattle.std.proofs.Common.{◌≡◌, ◌∙◌, ℕ, List, Result, Ok, ap, subst}
+use Rattle.jiff.specs.Types.{TimeZone}
+use Rattle.jiff.specs.Words.{fixed_zone}
+use Rattle.jiff.specs.declared.zoned.Zoned.{Zoned}
+use Rattle.gix_date.specs.Relative.Steps.{zone_of}
+use Rattle.git_date.specs.Approximate.{exact_or_guess, guess}
+use Rattle.git_date.specs.ApproximateZones.{Choices, AreChoices, one_offset}
+use Rattle.git_date.specs.Dates.{now_of}
+use Rattle.git_date.specs.Reading.{said_by}
+use Rattle.git_date.specs.declared.approximate.answer.Approximate.{Approximate}
+use Rattle.git_date.specs.declared.date.ReadDate.{ReadDate}
+use Rattle.git_date.specs.declared.error.DateError.{DateError}
+use Rattle.git_date.proofs.FixedChoices.{fixed-choices, choices-once}
+use Rattle.git_date.proofs.ExactOnce.{date-once}
+use Rattle.git_date_laws.specs.ApproximateLaws.{HasExactAnswer, HasOneAnswer}
+
+abbrev exact_of : Zoned → List ℕ → Choices → Result ReadDate DateError → Result Approximate DateError
+exact_of moment text zone exact = exact_or_guess exact (guess zone (now_of moment) text)
+
+pub exact_answers : (moment : Zoned) (text : List ℕ) → HasExactAnswer moment text
+exact_answers moment text date result reads h =
+    h.is ∙ ap (exact_of moment text h.zone) (date-once (zone_of moment) (said_by (now_of moment) text) h.exact (Ok date) h.reads reads)
+
+pub one_answers : (moment : Zoned) (text : List ℕ) → HasOneAnswer moment text
+one_answers moment text o exact result fixed reads h =
+    let here : AreChoices (fixed_zone o) h.zone = subst (λ (tz : TimeZone). AreChoices tz h.zone) fixed h.are_choices in
+    h.is ∙ ap (exact_of moment text h.zone) (date-once (zone_of moment) (said_by (now_of moment) text) h.exact exact h.reads reads)
+    ∙ ap (λ (zone : Choices). exact_of moment text zone exact) (choices-once (fixed_zone o) h.zone (one_offset o.seconds) here (fixed-choices o))

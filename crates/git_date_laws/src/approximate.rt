@@ -1,0 +1,14 @@
+//! Laws of dates as people write them.
+ghost use Rattle.git_date_laws.specs.ApproximateLaws.{HasExactAnswer, HasOneAnswer};
+
+use gix_date::Zoned;
+
+/// Where [`git_date::parse_date`] reads a text, [`git_date::approxidate`] has its answer, and understands.
+pub fn exact_answer(text: &str, now: &Zoned<'_>)
+    ensures { HasExactAnswer now.now text.now }
+{}
+
+/// In a zone of one offset [`git_date::approxidate`] has one answer: the guess of a definition that asks no zone.
+pub fn one_answer(text: &str, now: &Zoned<'_>)
+    ensures { HasOneAnswer now.now text.now }
+{}
