@@ -8,6 +8,7 @@ pub mod Zones
 pub mod ModeRows
 pub mod ShownClocks
 pub mod ShownTexts
+pub mod AgeOrder
 pub mod Whites
 pub mod Folds
 pub mod Kept

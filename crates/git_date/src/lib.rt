@@ -19,6 +19,8 @@
 //! approxidate("5 mins ago", now);          // Ok, with 1249500000 +0000 and Some(2): Git knows no `mins`, so this is the 5th
 //! ```
 //!
+//! [`show_date`] shows a date as `git log --date=MODE` does.
+//!
 //! The moment and its zone are handed in, as for [`gix_date::parse`]. No call here takes memory.
 #![tactic(auto)]
 

@@ -1,11 +1,10 @@
-use Rattle.std.proofs.Common.{rules, ◌≡◌, ◌∙◌, sym, ap, arith, ℤ, pos, unsigned_abs, FitsSigned, w64, w16, w32}
+use Rattle.std.proofs.Common.{rules, ◌≡◌, ◌∙◌, ap, arith, ℤ, pos, unsigned_abs, FitsSigned, w64, w16, w32}
 use Rattle.std.proofs.lemmas.Int.{to_z-of_z}
 use Rattle.std.specs.Int.{int_div_euclid, int_rem_euclid}
 use Rattle.jiff_core.proofs.DateLemmas.{epoch_day_range}
 use Rattle.jiff_core.proofs.CalendarLemmas.{days_in_month_bounds, weekday_number_bound}
 use Rattle.jiff_core.proofs.SignedLemmas.{signed_arith, one_part}
 use Rattle.gix_date.specs.Printing.LocalClocks.{local_day, second_of_day}
-use Rattle.git_date.specs.ShowViews.{HasFields}
 use Rattle.git_date.proofs.ShownClocks.{shown-by}
 use Rattle.git_date.proofs.show.clocks.clock_of.Goals as goal
 

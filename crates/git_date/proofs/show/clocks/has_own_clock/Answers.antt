@@ -1,4 +1,4 @@
-use Rattle.std.proofs.Common.{rules, ◌≡◌, ◌∙◌, sym, ap, true, FitsSigned, w64, w32}
+use Rattle.std.proofs.Common.{rules, ◌∙◌, sym, ap, FitsSigned, w64, w32}
 use Rattle.std.proofs.lemmas.Int.{to_z-of_z}
 use Rattle.gix_date.specs.Printing.LocalClocks.{local_seconds}
 use Rattle.git_date.specs.ShowClocks.{is_dated, is_written_offset}

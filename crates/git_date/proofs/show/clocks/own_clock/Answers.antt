@@ -1,4 +1,4 @@
-use Rattle.std.proofs.Common.{◌≡◌, ◌∙◌, sym, true}
+use Rattle.std.proofs.Common.{◌∙◌, sym}
 use Rattle.git_date.proofs.ShownClocks.{an-own-clock, no-own-clock}
 use Rattle.git_date.specs.ShowViews.{local_of}
 use Rattle.git_date.proofs.show.clocks.own_clock.Goals as goal

@@ -1,12 +1,11 @@
-use Rattle.std.proofs.Common.{rules, ◌≡◌, ◌∙◌, ◌*ℤ◌, ℤ, pos, sym, ap, subst, true, FitsSigned, w64, w32}
+use Rattle.std.proofs.Common.{rules, ◌≡◌, ◌∙◌, ℤ, sym, ap, subst, FitsSigned, w64, w32}
 use Rattle.std.proofs.lemmas.Int.{to_z-of_z}
 use Rattle.jiff.specs.Types.{TimeZone}
 use Rattle.jiff.specs.Words.{offset_at, nanos_of_seconds}
 use Rattle.gix_date.specs.Printing.LocalClocks.{clock_of}
 use Rattle.gix_date.specs.Relative.Steps.{zone_of}
 use Rattle.gix_date.specs.declared.time.Time.{Time}
-use Rattle.git_date.specs.ShowClocks.{time_at}
-use Rattle.git_date.specs.ShowViews.{local_of, IsNearDated}
+use Rattle.git_date.specs.ShowViews.{IsNearDated}
 use Rattle.git_date.proofs.ShownClocks.{a-zone-clock, known, near-zone, no-zone-clock, timed-at, zone-dated}
 use Rattle.git_date.proofs.show.clocks.zone_clock.Goals as goal
 
