@@ -10,7 +10,7 @@ mod shown;
 
 pub use approximate::{exact_answer, one_answer};
 use gix_date::{Time, Zoned};
-pub use shown::{mode_named_back, no_single_unit, shown_as_printed};
+pub use shown::{ages_grow, mode_named_back, no_single_unit, shown_as_printed};
 
 /// The texts of the tokens are the text, and no two neighbours are both letters or both digits.
 #[tactic(auto, using(git_date::proofs::TokenLaws::text_laws, crate::proofs::Apart::apart))]

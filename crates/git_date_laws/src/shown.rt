@@ -1,9 +1,9 @@
 //! Laws of dates as Git shows them.
-ghost use Rattle.std.specs.Prelude.{◌≡◌, ◌≢◌, Some};
+ghost use Rattle.std.specs.Prelude.{◌≡◌, ◌≢◌, ◌≤◌, Some};
 ghost use Rattle.gix_date.specs.Printing.Formats.{PrintsPattern, PrintsHeader, PrintsSeconds};
 ghost use Rattle.gix_date.specs.Printing.NamedTexts.{short_pattern, iso8601_pattern, iso8601_strict_pattern, git_rfc2822_pattern, default_pattern};
 ghost use Rattle.git_date.specs.Modes.{mode_named, mode_name};
-ghost use Rattle.git_date.specs.ShowAges.{age_of, IsNoSingle};
+ghost use Rattle.git_date.specs.ShowAges.{age_of, IsNoLess, IsNoSingle};
 ghost use Rattle.git_date.specs.ShowTexts.{unknown_offset};
 ghost use Rattle.git_date.specs.declared.mode.DateKind.TheVariants.{Short, Iso8601, Iso8601Strict, Rfc2822, Default, Raw, Unix};
 ghost use Rattle.git_date_laws.specs.Shown.{IsShownAs};
@@ -27,6 +27,13 @@ pub fn shown_as_printed(time: Time)
 #[tactic(auto, using(crate::proofs::ShownLaws::no_single))]
 pub fn no_single_unit(seconds: u64)
     ensures { IsNoSingle (age_of seconds) }
+{}
+
+/// As time passes, the unit of an age gets no smaller, and its count no lower in the same unit. (In length an age can lose: after
+/// 10 weeks Git says 2 months.)
+pub fn ages_grow(seconds: u64, later: u64)
+    requires { seconds ≤ later }
+    ensures { IsNoLess (age_of seconds) (age_of later) }
 {}
 
 /// Each mode is named by the name that it shows.

@@ -4,7 +4,8 @@ ghost use Rattle.jiff_core.specs.Calendar.{weekday_number};
 ghost use Rattle.gix_date.specs.Printing.LocalClocks.{clock_of, local_seconds};
 ghost use Rattle.gix_date.specs.Relative.Steps.{zone_of};
 ghost use Rattle.git_date.specs.Dates.{IsSmall};
-ghost use Rattle.git_date.specs.ShowClocks.{has_own_clock, has_zone_clock, is_written_offset, is_dated, known_offset, own_clock, zone_clock};
+ghost use Rattle.git_date.specs.ShowClocks.{has_own_clock, has_zone_clock, is_dated, is_written_offset};
+ghost use Rattle.git_date.specs.ShowClocks.{known_offset, own_clock, zone_clock};
 ghost use Rattle.git_date.specs.ShowViews.{local_of, HasFields, IsNearDated};
 
 use gix_date::{Time, Zoned};
