@@ -16,7 +16,7 @@ use Rattle.git_date.specs.Offsets.{at_text}
 use Rattle.git_date.specs.Reading.{nothing_read, read_on, and_then, rule, steps, reading_of, place_in, by_seconds, fields_said, at_or_fields, said_by}
 use Rattle.git_date.specs.declared.dates.Now.{Now}
 use Rattle.git_date.specs.declared.fault.Fault.{Fault}
-use Rattle.git_date.specs.declared.fault.Fault.TheVariants.{NumberTooLarge, YearRefused, Range}
+use Rattle.git_date.specs.declared.fault.Fault.TheVariants.{NumberTooLarge, BackTooFar, YearRefused, Range}
 use Rattle.git_date.specs.declared.error.DateError.TheVariants as error
 use Rattle.git_date.specs.declared.reader.Reading.{Reading}
 use Rattle.git_date.proofs.Kept.{IsKept, Leaves, rule-left}
@@ -98,6 +98,7 @@ same-fields : (text other : List ℕ) (k : ℕ) (read : Result Reading Fault) �
 unfolding fields_said
 same-fields text other k (Ok r) e = same-seconds text other k r (exact_seconds r.fields) e
 same-fields text other k (Err (NumberTooLarge left)) e = let place : length other - (left + k) ≡ length text - left = omega arith in ap (λ (n : ℕ). Err (error.NumberTooLarge n)) place
+same-fields text other k (Err (BackTooFar left)) e = let place : length other - (left + k) ≡ length text - left = omega arith in ap (λ (n : ℕ). Err (error.BackTooFar n)) place
 same-fields text other k (Err (YearRefused left)) e = let place : length other - (left + k) ≡ length text - left = omega arith in ap (λ (n : ℕ). Err (error.YearRefused n)) place
 same-fields text other k (Err Range) e = refl
 

@@ -23,7 +23,7 @@ use Rattle.git_date.specs.declared.dates.Dated.{Dated}
 use Rattle.git_date.specs.declared.dates.Dated.TheVariants as dated
 use Rattle.git_date.specs.declared.clocks.UtcClock.{UtcClock}
 use Rattle.git_date.specs.declared.fault.Fault.{Fault}
-use Rattle.git_date.specs.declared.fault.Fault.TheVariants.{NumberTooLarge, YearRefused, Range}
+use Rattle.git_date.specs.declared.fault.Fault.TheVariants.{NumberTooLarge, BackTooFar, YearRefused, Range}
 use Rattle.git_date.specs.declared.groups.Number.{Number}
 use Rattle.git_date.specs.declared.groups.Group.{Group}
 use Rattle.git_date.specs.declared.offsets.Padded.{Padded}
@@ -56,6 +56,7 @@ spelled spell (Mark byte) = Mark byte
 -- what is read then: places, by the bytes left, are so many bytes farther from the end
 abbrev pub farther_fault : ℕ → Fault → Fault
 farther_fault k (NumberTooLarge left) = NumberTooLarge (left + k)
+farther_fault k (BackTooFar left) = BackTooFar (left + k)
 farther_fault k (YearRefused left) = YearRefused (left + k)
 farther_fault k Range = Range
 

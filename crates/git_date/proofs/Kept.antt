@@ -20,7 +20,7 @@ use Rattle.git_date.specs.declared.dates.Dated.{Dated}
 use Rattle.git_date.specs.declared.dates.Dated.TheVariants as dated
 use Rattle.git_date.specs.declared.clocks.UtcClock.{UtcClock}
 use Rattle.git_date.specs.declared.fault.Fault.{Fault}
-use Rattle.git_date.specs.declared.fault.Fault.TheVariants.{NumberTooLarge, YearRefused, Range}
+use Rattle.git_date.specs.declared.fault.Fault.TheVariants.{NumberTooLarge, BackTooFar, YearRefused, Range}
 use Rattle.git_date.specs.declared.groups.Number.{Number}
 use Rattle.git_date.specs.declared.groups.Group.{Group}
 use Rattle.git_date.specs.declared.offsets.Padded.{Padded}
@@ -37,6 +37,7 @@ pub record IsKept (Q R : List Token → Type 0) (P : ℕ → Type 0) : Type 0 wh
 
 abbrev pub IsFaultAt : (ℕ → Type 0) → Fault → Type 0
 IsFaultAt P (NumberTooLarge left) = P left
+IsFaultAt P (BackTooFar left) = P left
 IsFaultAt P (YearRefused left) = P left
 IsFaultAt P Range = Unit {0}
 

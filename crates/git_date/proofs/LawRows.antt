@@ -4,7 +4,7 @@ use Prim.Native.String.{String}
 use Rattle.std.specs.Prelude.{codes}
 use Rattle.git_date.specs.Computing.{computing}
 use Rattle.git_date.specs.Lines.{are_white, awaits_offset, end_before_minutes}
-use Rattle.git_date.specs.Moments.{meets_day_month}
+use Rattle.git_date.specs.Moments.{has_day_month, meets_day_month}
 use Rattle.git_date.specs.Reading.{nothing_read}
 use Rattle.git_date.specs.Tokens.{tokens}
 use Rattle.git_date.specs.declared.dates.Now.{Now}
@@ -36,3 +36,10 @@ days_first : map meets
     ≡ true ∷ true ∷ false ∷ false ∷ true ∷ false ∷ true ∷ []
 unfolding computing meets_day_month meets
 days_first = refl
+
+-- such a date begins somewhere, also where the reader comes to none
+begins_somewhere : map (λ text. has_day_month (tokens (codes text)))
+    ("7/4/2009 10:00" ∷ "2005-04-07T22:13:13" ∷ "Thu, 07 Apr 2005 22:13:13 +0200" ∷ "1234567890 +0530" ∷ "10:00:05.5" ∷ [])
+    ≡ true ∷ true ∷ false ∷ false ∷ true ∷ []
+unfolding computing has_day_month
+begins_somewhere = refl

@@ -136,6 +136,7 @@ fields-in : (text : List ℕ) (read : Result Reading Fault) → IsReadIn text re
 unfolding fields_said
 fields-in text (Ok r) h = seconds-in text r (exact_seconds r.fields) h
 fields-in text (Err (fault.NumberTooLarge left)) h = h
+fields-in text (Err (fault.BackTooFar left)) h = h
 fields-in text (Err (fault.YearRefused left)) h = h
 fields-in text (Err fault.Range) h = tt
 

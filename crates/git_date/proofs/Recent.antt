@@ -19,8 +19,9 @@ use Rattle.git_date.specs.declared.fault.Fault.TheVariants.{NumberTooLarge}
 use Rattle.git_date.specs.declared.fields.Fields.{Fields}
 use Rattle.git_date.specs.declared.groups.Group.{Group}
 use Rattle.git_date.specs.declared.reader.Reading.{Reading}
-use Rattle.git_date.specs.Moments.{is_day_month, is_any_day_month, begins_day_month, goes_on, meets_day_month, HasNoDayMonth}
+use Rattle.git_date.specs.Moments.{is_day_month, is_any_day_month, begins_day_month, has_day_month, goes_on, meets_day_month, HasNoDayMonth}
 use Rattle.git_date.proofs.Changed.{or-first, or-second}
+use Rattle.git_date.proofs.Kept.{IsKept, Leaves, rule-left}
 
 no-recent : (now : Now) (f : Fields) (month day : ℕ) (third : Option ℕ) → is_day_of_month month day ≡ false → recent_date now f month day third ≡ None
 unfolding recent_date
@@ -112,3 +113,49 @@ at-or-same now other text None h = ap (fields_said text) (steps-same now other (
 pub same-instants : (now other : Now) (text : List ℕ) → HasNoDayMonth now text → said_by now text ≡ said_by other text
 unfolding said_by
 same-instants now other text h = at-or-same now other text (at_text (tokens text)) h
+
+-- where no such date begins, the reader comes to none
+abbrev HasNone : List Token → Type 0
+HasNone ts = has_day_month ts ≡ false
+
+none-next : (t : Token) (more : List Token) → HasNone (t ∷ more) → HasNone more
+unfolding has_day_month
+none-next t more h = or-second (begins_day_month t more) (has_day_month more) h
+
+none-first : (t : Token) (more : List Token) → HasNone (t ∷ more) → begins_day_month t more ≡ false
+unfolding has_day_month
+none-first t more h = or-first (begins_day_month t more) (has_day_month more) h
+
+none-kept : IsKept HasNone HasNone (λ left. Unit {0})
+none-kept = record {
+  next = λ t more h. none-next t more h;
+  also = λ ts h. h;
+  at_letters = λ run more h. tt;
+  at_digits = λ run more h. tt;
+  at_mark = λ byte more below h. tt;
+}
+
+none-then : (now : Now) (n : ℕ) (r : Reading) (left : ℕ) (step : Stepped) → Leaves HasNone (λ place. Unit {0}) step
+    → ((other : Reading) (rest : List Token) → HasNone rest → meets_day_month now n other rest ≡ false)
+    → goes_on step (λ next. meets_day_month now n (read_on r left next.0) next.1) ≡ false
+none-then now n r left (Err e) h none = refl
+none-then now n r left (Ok found) h none = none (read_on r left found.0) found.1 h
+
+none-step : (ends first later : Bool) → first ≡ false → later ≡ false → cond ends false (first || later) ≡ false
+none-step true first later e h = refl
+none-step false true later e h = absurd cc
+none-step false false later e h = h
+
+none-met : (now : Now) (n : ℕ) (r : Reading) (ts : List Token) → HasNone ts → meets_day_month now n r ts ≡ false
+unfolding meets_day_month
+none-met now zero r [] h = refl
+none-met now (suc n) r [] h = refl
+none-met now zero r (t ∷ more) h = refl
+none-met now (suc n) r (t ∷ more) h =
+    none-step (is_end t) (begins_day_month t more)
+    (goes_on (rule now r.fields t more) (λ next. meets_day_month now n (read_on r (bytes_left (t ∷ more)) next.0) next.1)) (none-first t more h)
+    (none-then now n r (bytes_left (t ∷ more)) (rule now r.fields t more) (rule-left HasNone HasNone (λ place. Unit {0}) none-kept now r.fields t more h)
+    (λ other rest. none-met now n other rest))
+
+pub meets-none : (now : Now) (text : List ℕ) → has_day_month (tokens text) ≡ false → HasNoDayMonth now text
+meets-none now text h = none-met now (length text) nothing_read (tokens text) h

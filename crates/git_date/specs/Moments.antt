@@ -23,6 +23,11 @@ abbrev pub begins_day_month : Token → List Token → Bool
 begins_day_month (Digits run) more = is_any_day_month (group_of (number run) more)
 begins_day_month t more = false
 
+-- such a date begins somewhere in the tokens
+unfoldable pub has_day_month : List Token → Bool
+has_day_month [] = false
+has_day_month (t ∷ more) = begins_day_month t more || has_day_month more
+
 abbrev pub goes_on : Stepped → (Option Fields × List Token → Bool) → Bool
 goes_on (Ok found) later = later found
 goes_on (Err e) later = false

@@ -2,8 +2,11 @@
 use Rattle.std.proofs.Common.{ℕ, List}
 use Rattle.jiff.specs.declared.zoned.Zoned.{Zoned}
 use Rattle.git_date.specs.Dates.{now_of}
-use Rattle.git_date.proofs.Recent.{same-instants}
-use Rattle.git_date_laws.specs.Laws.{IgnoresInstant}
+use Rattle.git_date.proofs.Recent.{same-instants, meets-none}
+use Rattle.git_date_laws.specs.Laws.{IgnoresInstant, IsWithoutDayMonth}
 
 pub any_instant : (moment : Zoned) (text : List ℕ) → IgnoresInstant moment text
 any_instant moment text other h = same-instants (now_of moment) (now_of other) text h
+
+pub without_days : (moment : Zoned) (text : List ℕ) → IsWithoutDayMonth moment text
+without_days moment text h = meets-none (now_of moment) text h

@@ -1,5 +1,5 @@
 -- Laws of dates as Git reads them.
-use Rattle.std.specs.Prelude.{◌≡◌, ◌↔◌, ℕ, ℤ, true, List, [], ◌∷◌, ◌++◌, Some, Result}
+use Rattle.std.specs.Prelude.{◌≡◌, ◌↔◌, ℕ, ℤ, true, false, List, [], ◌∷◌, ◌++◌, Some, Result}
 use Rattle.jiff.specs.Types.{TimeZone}
 use Rattle.jiff.specs.declared.zoned.Zoned.{Zoned}
 use Rattle.gix_date.specs.Text.Characters.{newline}
@@ -7,7 +7,7 @@ use Rattle.gix_date.specs.Text.Names.{is_name}
 use Rattle.gix_date.specs.declared.time.Time.{Time}
 use Rattle.git_date.specs.Dates.{now_of}
 use Rattle.git_date.specs.Lines.{AreComplete}
-use Rattle.git_date.specs.Moments.{HasNoDayMonth}
+use Rattle.git_date.specs.Moments.{has_day_month, HasNoDayMonth}
 use Rattle.git_date.specs.Printed.{IsGitTime, AreReadBack}
 use Rattle.git_date.specs.Tokens.{Token, Letters, Digits, tokens}
 use Rattle.git_date.specs.Reading.{said_by}
@@ -48,6 +48,10 @@ IgnoresLines moment text =
 abbrev pub IgnoresInstant : Zoned → List ℕ → Type 0
 IgnoresInstant moment text =
     (other : Zoned) → HasNoDayMonth (now_of moment) text → said_by (now_of moment) text ≡ said_by (now_of other) text
+
+-- a text in which no such date begins anywhere is such a text at every moment
+abbrev pub IsWithoutDayMonth : Zoned → List ℕ → Type 0
+IsWithoutDayMonth moment text = has_day_month (tokens text) ≡ false → HasNoDayMonth (now_of moment) text
 
 -- what the six named formats that have a clock print of such a time is read back
 abbrev pub ReadsBack : Zoned → Time → Type 0

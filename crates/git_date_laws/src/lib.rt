@@ -3,7 +3,7 @@
 
 ghost use Rattle.std.specs.Prelude.{◌≡◌};
 ghost use Rattle.git_date.specs.Tokens.{tokens as tokens_of, texts};
-ghost use Rattle.git_date_laws.specs.Laws.{AreApart, IgnoresZone, IgnoresCase, IgnoresLines, IgnoresInstant, ReadsBack};
+ghost use Rattle.git_date_laws.specs.Laws.{AreApart, IgnoresZone, IgnoresCase, IgnoresLines, IgnoresInstant, IsWithoutDayMonth, ReadsBack};
 
 mod approximate;
 mod shown;
@@ -39,10 +39,11 @@ pub fn later_lines(text: &str, now: &Zoned<'_>)
 {}
 
 /// A text in which the reader comes to no date with dots, slashes or dashes but those that begin with their year has the same
-/// answer at every instant.
-#[tactic(auto, using(crate::proofs::Moments::any_instant))]
+/// answer at every instant. So has one in which no number up to 70 stands directly before a dot, a slash or a dash and digits.
+#[tactic(auto, using(crate::proofs::Moments::any_instant, crate::proofs::Moments::without_days))]
 pub fn instants(text: &str, now: &Zoned<'_>)
-    ensures { IgnoresInstant now.now text.now }
+    ensures met { IgnoresInstant now.now text.now }
+    ensures begun { IsWithoutDayMonth now.now text.now }
 {}
 
 /// What the six named formats of `gix_date` that have a clock print of a time is read as that time, and nothing of it is

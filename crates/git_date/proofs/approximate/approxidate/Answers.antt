@@ -13,7 +13,7 @@ returns-in-Ok c = record {
   zone = choices-of (zone_of c.args.now);
   are_choices = are-choices (zone_of c.args.now);
   exact = Ok c.in-Ok.date;
-  reads = c.in-Ok.ensures;
+  reads = c.in-Ok.ensures.date;
   is = refl;
 }
 
@@ -22,7 +22,7 @@ returns-in-Err c = record {
   zone = choices-of (zone_of c.args.now);
   are_choices = are-choices (zone_of c.args.now);
   exact = Err c.in-Err.error;
-  reads = c.in-Err.ensures;
+  reads = c.in-Err.ensures.date;
   is = c.or_guess.ensures
       ∙ ap (λ (text : List ℕ). exact_or_guess (Err c.in-Err.error) (guess (choices-of (zone_of c.args.now)) (now_of c.args.now) text)) c.as_bytes.ensures.value;
 }
