@@ -1,6 +1,7 @@
 //! Callers of `gix_date`, `gix_signature` and `git_date` that are proved, and tests of what the rows of `gix_date_rows` cannot say.
 #![tactic(auto)]
 
+pub mod approximate_caller;
 pub mod caller;
 #[cfg(test)]
 mod faults;
