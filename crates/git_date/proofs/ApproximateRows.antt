@@ -4,9 +4,11 @@ use Prim.Native.String.{String}
 use Rattle.std.specs.Prelude.{codes}
 use Rattle.git_date.specs.Approximate.{guess}
 use Rattle.git_date.specs.ApproximateComputing.{approximating}
+use Rattle.git_date.specs.ApproximateExpiry.{fixed_expiry}
 use Rattle.git_date.specs.ApproximateZones.{one_offset}
 use Rattle.git_date.specs.Computing.{computing}
 use Rattle.git_date.specs.declared.approximate.answer.Approximate.{Approximate}
+use Rattle.git_date.specs.declared.approximate.expiry.Expiry.TheVariants.{Never, All}
 use Rattle.git_date.specs.declared.dates.Now.{Now}
 use Rattle.git_date.specs.declared.error.DateError.{DateError}
 use Rattle.git_date.specs.declared.error.DateError.TheVariants.{BackTooFar}
@@ -123,3 +125,11 @@ ignored_rows :
     ∷ ("002 jan", Some 0) ∷ [])
 unfolding computing approximating
 ignored_rows = refl
+
+-- what expires: the words that are no dates
+
+expiry_rows :
+    map (λ text. fixed_expiry (codes text)) ("never" ∷ "false" ∷ "all" ∷ "now" ∷ "Never" ∷ "NOW" ∷ " now" ∷ "yesterday" ∷ "" ∷ [])
+    ≡ Some Never ∷ Some Never ∷ Some All ∷ Some All ∷ None ∷ None ∷ None ∷ None ∷ None ∷ []
+unfolding computing approximating
+expiry_rows = refl
