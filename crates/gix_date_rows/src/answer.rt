@@ -12,6 +12,8 @@ pub(crate) enum Answer {
     Time(Time),
     /// A time of a text that says nothing that is understood, shown so with ` ?` after it.
     Doubtful(Time),
+    /// A word.
+    Word(&'static str),
     /// A text.
     Text(String),
     /// A refusal, by its name.
@@ -56,6 +58,7 @@ impl fmt::Display for Answer {
                 let (seconds, offset) = (time.seconds, time.offset);
                 write!(f, "{seconds} {offset} ?")
             }
+            Answer::Word(word) => f.write_str(word),
             Answer::Text(text) => f.write_str(text.as_str()),
             Answer::Refused(name) => f.write_str(name),
             Answer::Unclear(place) => write!(f, "Unclear {place}"),

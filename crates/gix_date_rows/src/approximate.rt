@@ -1,7 +1,7 @@
 //! Dates as people write them, at a moment.
 use crate::answer::Answer;
 use crate::moments::moment_of;
-use git_date::{Approximate, approxidate};
+use git_date::{Approximate, Expiry, approxidate, expiry_date};
 use jiff::tz::TimeZoneDatabase;
 
 /// The time of a date as Git reads it approximately, at the moment that a field says. `None` where it says none.
@@ -19,6 +19,19 @@ pub(crate) fn passed_over(zones: &TimeZoneDatabase, moment: &str, text: &str) ->
         Ok(date) => Answer::Ignored(date.ignored),
         Err(refusal) => refusal,
     })
+}
+
+/// What expires by a text, at the moment that a field says. `None` where it says none.
+pub(crate) fn expires(zones: &TimeZoneDatabase, moment: &str, text: &str) -> Option<Answer> {
+    match moment_of(zones, moment)? {
+        Ok(now) => Some(match expiry_date(text, now?) {
+            Ok(Expiry::Never) => Answer::Word("never"),
+            Ok(Expiry::All) => Answer::Word("all"),
+            Ok(Expiry::Before(date)) => Answer::Time(date.time),
+            Err(error) => error.into(),
+        }),
+        Err(refusal) => Some(Answer::Refused(refusal)),
+    }
 }
 
 fn approximate(

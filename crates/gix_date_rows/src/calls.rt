@@ -1,6 +1,6 @@
 //! The calls of rows, each named as in the library.
 use crate::answer::{Answer, name_of};
-use crate::approximate::{guessed, passed_over};
+use crate::approximate::{expires, guessed, passed_over};
 use crate::arguments::Arguments;
 use crate::moments::{ignored_place, parsed, parsed_carefully, read_date, shown_date, zone_of};
 use git_date::DateMode;
@@ -53,6 +53,10 @@ pub(crate) fn answer_to(
         "approximate_ignored" => {
             let moment = row.text()?;
             passed_over(zones, moment, row.text()?)
+        }
+        "expiry_date" => {
+            let moment = row.text()?;
+            expires(zones, moment, row.text()?)
         }
         "to_zoned" => Some(converted(row.time()?)),
         "now_local" => {
