@@ -65,4 +65,5 @@ meaning_or None other = other
 -- what a word says, if it is known; no word is in two of these tables
 unfoldable pub meaning_of : List ℕ → Option Meaning
 meaning_of word =
-    month_or (month_named word) (meaning_or (moment_named word) (count_or (count_named word) (weekday_or (weekday_named word) (option_map meaning.Unit (unit_named word)))))
+    let counted = count_or (count_named word) (weekday_or (weekday_named word) (option_map meaning.Unit (unit_named word))) in
+    month_or (month_named word) (meaning_or (moment_named word) counted)

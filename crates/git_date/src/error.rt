@@ -1,7 +1,7 @@
 //! Why a date is refused.
 use thiserror::Error;
 
-/// Why [`parse_date`](crate::parse_date) refuses. A place counts bytes from the text's start.
+/// Why [`parse_date`](crate::parse_date) or [`approxidate`](crate::approxidate) refuses. A place counts bytes from the text's start.
 #[derive(Clone, Copy, Debug, PartialEq, Eq, Error)]
 pub enum DateError {
     /// Git reads no date either: the text says no year, month or time of day, or none that Git knows.
