@@ -12,7 +12,8 @@ use Rattle.git_date.specs.Numbers.{number, is_too_large}
 use Rattle.git_date.specs.Names.{is_short, is_zone_name, month_names, weekday_names, zone_rows, month_named, is_weekday, zone_named}
 use Rattle.git_date.specs.Fields.{with_clock, knows_date}
 use Rattle.git_date.specs.Words.{filler_words, ending_words, is_filler, half_or_filler, zone_or_half, month_or_other, with_word, letters_rule, without_ending, is_ending}
-use Rattle.git_date.specs.Dates.{year_date, utc_clock}
+use Rattle.git_date.specs.Clocks.{utc_clock}
+use Rattle.git_date.specs.Dates.{year_date}
 use Rattle.git_date.specs.Groups.{ReadTokens, number_at, marked_number, is_group_mark, third_or_none, group_of, clock_group, year_first_group, day_month_group, group_rule, large_number, large_third, large_in, without_fraction}
 use Rattle.git_date.specs.Digits.{Stepped, is_epoch, by_clock, epoch_rule, by_date, eight_digits, clock_taken, six_digits, bare_digits, by_rule, unless_large, group_or_bare, number_rule, digits_rule}
 use Rattle.git_date.specs.Offsets.{is_white, without_white, white, padded_by, padded_after, padded_number, by_minutes, colon_minutes, two_digit_offset, offset_minutes, offset_said, SaidOffset, by_offset, offset_rule, ends, wide_minutes, by_sign, at_text}
@@ -21,7 +22,7 @@ use Rattle.git_date.specs.declared.fields.Fields.{Fields}
 use Rattle.git_date.specs.declared.dates.Now.{Now}
 use Rattle.git_date.specs.declared.dates.Dated.{Dated}
 use Rattle.git_date.specs.declared.dates.Dated.TheVariants as dated
-use Rattle.git_date.specs.declared.clocks.UtcClock.{UtcClock}
+use Rattle.git_date.specs.declared.clocks.ShownClock.{ShownClock}
 use Rattle.git_date.specs.declared.fault.Fault.{Fault}
 use Rattle.git_date.specs.declared.fault.Fault.TheVariants.{NumberTooLarge, BackTooFar, YearRefused, Range}
 use Rattle.git_date.specs.declared.groups.Number.{Number}
@@ -610,7 +611,7 @@ module _ (spell : List ℕ → List ℕ) (same : IsSpelling spell) where
         ∙ ap₂ (group_or_bare now f (bytes_left (Digits run ∷ more) + k)) (group-is (number run) more) (bare-is f run more)
         ∙ grouped-is now f (bytes_left (Digits run ∷ more)) (group_of (number run) more) (bare_digits f run more)
 
-    epoch-is : (f : Fields) (more : List Token) (shown : Option UtcClock) → by_clock f (φ more) shown ≡ moved (by_clock f more shown)
+    epoch-is : (f : Fields) (more : List Token) (shown : Option ShownClock) → by_clock f (φ more) shown ≡ moved (by_clock f more shown)
     epoch-is f more None = refl
     epoch-is f more (Some shown) = refl
 

@@ -9,7 +9,8 @@ use Rattle.git_date.specs.Tokens.{Token, Letters, Digits, Mark, bytes_left}
 use Rattle.git_date.specs.Numbers.{number, is_too_large}
 use Rattle.git_date.specs.Fields.{knows_date, with_clock}
 use Rattle.git_date.specs.Words.{without_ending, is_ending}
-use Rattle.git_date.specs.Dates.{year_date, utc_clock}
+use Rattle.git_date.specs.Clocks.{utc_clock}
+use Rattle.git_date.specs.Dates.{year_date}
 use Rattle.git_date.specs.Groups.{ReadTokens, marked_number, is_group_mark, third_or_none, group_after, group_of, group_rule, large_number, large_third, large_in, without_fraction}
 use Rattle.git_date.specs.Digits.{Stepped, is_epoch, by_clock, epoch_rule, by_date, eight_digits, clock_taken, six_digits, bare_digits, by_rule, unless_large, group_or_bare, number_rule, digits_rule}
 use Rattle.git_date.specs.Offsets.{is_white, without_white, white, padded_after, padded_number, by_minutes, colon_minutes, two_digit_offset, offset_said, SaidOffset, by_offset, offset_rule}
@@ -18,7 +19,7 @@ use Rattle.git_date.specs.declared.fields.Fields.{Fields}
 use Rattle.git_date.specs.declared.dates.Now.{Now}
 use Rattle.git_date.specs.declared.dates.Dated.{Dated}
 use Rattle.git_date.specs.declared.dates.Dated.TheVariants as dated
-use Rattle.git_date.specs.declared.clocks.UtcClock.{UtcClock}
+use Rattle.git_date.specs.declared.clocks.ShownClock.{ShownClock}
 use Rattle.git_date.specs.declared.fault.Fault.{Fault}
 use Rattle.git_date.specs.declared.fault.Fault.TheVariants.{NumberTooLarge, BackTooFar, YearRefused, Range}
 use Rattle.git_date.specs.declared.groups.Number.{Number}
@@ -257,7 +258,7 @@ module _ (Q R : List Token → Type 0) (P : ℕ → Type 0) (k : IsKept Q R P) w
       grouped-left now f (bytes_left (Digits run ∷ more)) (group_of (number run) more) (bare_digits f run more) (k.at_digits run more q)
       (group-left (number run) more (k.next (Digits run) more q)) (bare-left f run more q)
 
-  epoch-left : (f : Fields) (more : List Token) (shown : Option UtcClock) → R more → Leaves R P (by_clock f more shown)
+  epoch-left : (f : Fields) (more : List Token) (shown : Option ShownClock) → R more → Leaves R P (by_clock f more shown)
   epoch-left f more None q = tt
   epoch-left f more (Some shown) q = q
 

@@ -3,7 +3,7 @@ pub mod ZoneRows
 pub mod Months
 pub mod TokenLaws
 pub mod Saturated
-pub mod UtcClocks
+pub mod HeldClocks
 pub mod Zones
 pub mod ModeRows
 pub mod ShownClocks

@@ -1,5 +1,5 @@
 -- What the clock of a time shows, and when.
-use Rattle.std.proofs.Common.{◌≡◌, ◌∙◌, ◌<◌, ◌≤◌, ◌/◌, ◌%◌, ℕ, ℤ, pos, neg_ℤ, ◌+ℤ◌, Bool, true, false, cond, Some, None, Option, nat_lt, ap, sym, refl, arith, unsigned_abs}
+use Rattle.std.proofs.Common.{◌≡◌, ◌∙◌, ◌<◌, ◌≤◌, ◌%◌, ℕ, ℤ, pos, neg_ℤ, ◌+ℤ◌, Bool, true, false, cond, Some, None, Option, nat_lt, ap, sym, refl, arith, unsigned_abs}
 use Rattle.std.proofs.lemmas.Bool.{and_parts}
 use Rattle.std.proofs.lemmas.Bool.Decides.{nat_tests}
 use Rattle.std.specs.Prelude.{◌&&◌, ◌==◌}
@@ -7,18 +7,15 @@ use Rattle.std.specs.Int.Signed.{le_z}
 use Rattle.jiff.specs.Types.{TimeZone}
 use Rattle.jiff.specs.Words.{offset_at, nanos_of_seconds}
 use Rattle.jiff_core.proofs.SignedLemmas.{signed_arith, one_part}
-use Rattle.jiff_core.specs.Calendar.{IsBetween, weekday_number}
-use Rattle.jiff_core.specs.Date.{epoch_day}
-use Rattle.jiff_core.specs.declared.civil.date.Date.{Date}
+use Rattle.jiff_core.specs.Calendar.{IsBetween}
 use Rattle.gix_date.proofs.Fields.Instants.{z_test}
-use Rattle.gix_date.proofs.Printing.LocalClocks.{date-of-day}
 use Rattle.gix_date.specs.Fields.Layout.{LocalTime}
-use Rattle.gix_date.specs.Printing.LocalClocks.{clock_of, date_of_day, local_day, local_seconds, second_of_day, last_of_year_9999}
+use Rattle.gix_date.specs.Printing.LocalClocks.{clock_of, local_seconds, last_of_year_9999}
 use Rattle.gix_date.specs.Fields.Zoned.{last_second}
 use Rattle.gix_date.specs.declared.time.Time.{Time}
 use Rattle.git_date.specs.ShowClocks.{has_own_clock, has_zone_clock, is_dated, is_written_offset, known_offset, own_clock, zone_clock, time_at, with_known_offset}
-use Rattle.git_date.specs.ShowViews.{local_of, IsNearDated}
-use Rattle.git_date.specs.declared.show.clocks.ShownClock.{ShownClock}
+use Rattle.git_date.specs.Clocks.{local_of, IsShowable}
+use Rattle.git_date.specs.declared.clocks.ShownClock.{ShownClock}
 
 pub dated : (s : ℤ) → is_dated s ≡ true → IsBetween (pos 0) last_of_year_9999 s
 dated s h =
@@ -36,7 +33,7 @@ below a b h = grind (arith, nat_tests, h)
 pub written : (o : ℤ) → is_written_offset o ≡ true → unsigned_abs o < 360_000
 written o h = below _ _ (and_parts (nat_lt (unsigned_abs o) 360_000) (unsigned_abs o % 60 == 0) h).0
 
-pub near-dated : (t : Time) → has_own_clock t ≡ true → IsNearDated t
+pub near-dated : (t : Time) → has_own_clock t ≡ true → IsShowable t
 near-dated t h =
     let last = and_parts (is_written_offset t.offset && is_dated t.seconds) (is_dated (local_seconds t)) h in
     let first = and_parts (is_written_offset t.offset) (is_dated t.seconds) last.0 in
@@ -44,7 +41,7 @@ near-dated t h =
     record { local = (omega (arith, signed_arith, local), local.1); offset = written t.offset first.0 }
 
 pub near-zone : (s o : ℤ) → IsBetween (pos 0) last_second s → IsBetween (neg_ℤ (pos 93_599)) (pos 93_599) o
-    → IsNearDated (record { seconds = s; offset = o })
+    → IsShowable (record { seconds = s; offset = o })
 near-zone s o dated offset =
     record { local = (omega (arith, signed_arith), omega (arith, signed_arith)); offset = omega (arith, signed_arith, one_part o) }
 
@@ -69,24 +66,6 @@ a-zone-clock zone s l h e = ap Some e ∙ ap (λ (b : Bool). cond b (Some (with_
 pub no-zone-clock : (zone : TimeZone) (s : ℤ) → has_zone_clock s ≡ false → None ≡ zone_clock zone s
 unfolding zone_clock
 no-zone-clock zone s h = ap (λ (b : Bool). cond b (Some (with_known_offset (clock_of (time_at zone s)))) None) (sym h)
-
--- the fields of a day number and of the seconds of a day
-pub shown-by : (t : Time) (day : ℤ) (date : Date) (second weekday : ℕ) → day ≡ local_day t → epoch_day date ≡ day
-    → second ≡ second_of_day t → weekday ≡ weekday_number day
-    → ◌≡◌ {A = LocalTime} (record { weekday = weekday; date = record { year = unsigned_abs date.year; month = date.month; day = date.day }; clock = record { hour = second / 3600; minute = second % 3600 / 60; second = second % 60 }; offset = t.offset }) (clock_of t)
-unfolding clock_of
-shown-by t day date second weekday is_day at is_second is_weekday =
-    let same : (date.year, date.month, date.day) ≡ date_of_day (local_day t) = sym (date-of-day date) ∙ ap (λ (d : ℤ). date_of_day d) (at ∙ is_day) in
-    let w : weekday ≡ weekday_number (local_day t) = is_weekday ∙ ap (λ (n : ℤ). weekday_number n) is_day in
-    let hour = ap (λ (s : ℕ). s / 3600) is_second in
-    let minute = ap (λ (s : ℕ). s % 3600 / 60) is_second in
-    let last = ap (λ (s : ℕ). s % 60) is_second in
-    λ i. record {
-      weekday = w i;
-      date = record { year = unsigned_abs (same i).0; month = (same i).1; day = (same i).2 };
-      clock = record { hour = hour i; minute = minute i; second = last i };
-      offset = t.offset;
-    }
 
 -- a clock with the offset that Git knows
 pub known : (u : ShownClock) (o : ℤ) (l : LocalTime) → local_of u ≡ l → o ≡ known_offset (local_of u)

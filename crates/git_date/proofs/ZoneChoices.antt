@@ -18,7 +18,7 @@ use Rattle.git_date.proofs.Zones.{local-near}
 use Rattle.git_date.specs.ApproximateClocks.{shown_at}
 use Rattle.git_date.specs.ApproximateZones.{Choices, AreChoices, IsChoice, shown_in, filled_time, moved_to, fill_by, fill}
 use Rattle.git_date.specs.declared.approximate.drafts.Draft.{Draft}
-use Rattle.git_date.specs.declared.approximate.shown.Shown.{Shown}
+use Rattle.git_date.specs.declared.clocks.ShownClock.{ShownClock}
 use Rattle.git_date.specs.declared.fault.Fault.{Fault}
 
 -- a zone has one time for a clock
@@ -61,7 +61,7 @@ a-shown-in zone s o h e =
     ap (λ (z : ℤ). shown_at (s +ℤ z)) e ∙ ap (λ (b : Bool). cond b (shown_at (s +ℤ zone.offset s)) None) (sym h)
 
 -- a date that is filled in
-pub filled-by : (zone : Choices) (today : Shown) (d : Draft) (back left : ℕ) (time : Time) (r : Result Draft Fault) → Some time ≡ filled_time zone today d.fields
+pub filled-by : (zone : Choices) (today : ShownClock) (d : Draft) (back left : ℕ) (time : Time) (r : Result Draft Fault) → Some time ≡ filled_time zone today d.fields
     → r ≡ moved_to zone d left (time.seconds -ℤ pos back) → r ≡ fill zone today d back left
 unfolding fill
 filled-by zone today d back left time r e is = is ∙ ap (λ (o : Option Time). fill_by zone d back left o) e

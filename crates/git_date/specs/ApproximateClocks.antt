@@ -1,41 +1,23 @@
 -- What a clock shows from 1900 on, and the seconds that fields come to whose date is not all said.
-use Rattle.std.specs.Prelude.{ℕ, ◌-◌, Bool, ◌&&◌, ℤ, pos, neg_ℤ, nat_le, nat_lt, if◌then◌else◌, Option, Some, None, unwrap_or}
+use Rattle.std.specs.Prelude.{ℕ, ◌-◌, Bool, ◌&&◌, ℤ, pos, nat_le, nat_lt, if◌then◌else◌, Option, Some, None, unwrap_or}
 use Rattle.std.specs.Int.Signed.{le_z}
 use Rattle.gix_date.specs.Families.Epoch.{utc_time}
 use Rattle.gix_date.specs.Families.Patterns.{midnight}
 use Rattle.gix_date.specs.Fields.Civil.{civil_seconds}
 use Rattle.gix_date.specs.Text.Front.{◌>>=◌}
-use Rattle.gix_date.specs.Fields.Layout.{LocalTime}
-use Rattle.gix_date.specs.Printing.LocalClocks.{clock_of}
+use Rattle.gix_date.specs.Printing.LocalClocks.{clock_of, last_of_year_9999}
+use Rattle.git_date.specs.Clocks.{first_of_year_1900, held_clock}
 use Rattle.git_date.specs.Dates.{first_of, seconds_after}
-use Rattle.git_date.specs.declared.approximate.shown.Shown.{Shown}
+use Rattle.git_date.specs.declared.clocks.ShownClock.{ShownClock}
 use Rattle.git_date.specs.declared.fields.Fields.{Fields}
 
--- the first second of 1900 and the last of 9999 by a clock
-abbrev pub first_shown : ℤ
-first_shown = neg_ℤ (pos 2_208_988_800)
-
-abbrev pub last_shown : ℤ
-last_shown = pos 253_402_300_799
-
-abbrev pub shown_by : LocalTime → Shown
-shown_by local = record {
-  year = local.date.year;
-  month = local.date.month;
-  day = local.date.day;
-  hour = local.clock.hour;
-  minute = local.clock.minute;
-  second = local.clock.second;
-  weekday = local.weekday;
-}
-
--- seconds of these years
+-- seconds of the years from 1900 to 9999 by a clock
 abbrev pub is_shown : ℤ → Bool
-is_shown seconds = le_z first_shown seconds && le_z seconds last_shown
+is_shown seconds = le_z first_of_year_1900 seconds && le_z seconds last_of_year_9999
 
 -- what a clock shows that has counted so many seconds since 1970-01-01 00:00:00
-unfoldable pub shown_at : ℤ → Option Shown
-shown_at seconds = if is_shown seconds then Some (shown_by (clock_of (utc_time seconds))) else None
+unfoldable pub shown_at : ℤ → Option ShownClock
+shown_at seconds = if is_shown seconds then Some (held_clock (clock_of (utc_time seconds))) else None
 
 -- a month of the years from 1900 to 9999
 abbrev pub is_shown_month : ℕ → ℕ → Bool
@@ -47,18 +29,18 @@ first_second year month =
     if is_shown_month year month then Some (civil_seconds (first_of year month) midnight (pos 0)) else None
 
 -- the year where none is said: a month later than today's is one of last year
-abbrev pub year_of_month : Shown → ℕ → ℕ
+abbrev pub year_of_month : ShownClock → ℕ → ℕ
 year_of_month today month = if nat_lt today.month month then today.year - 1 else today.year
 
-abbrev pub filled_month : Shown → Fields → ℕ
+abbrev pub filled_month : ShownClock → Fields → ℕ
 filled_month today f = unwrap_or f.month today.month
 
-abbrev pub filled_year : Shown → Fields → ℕ
+abbrev pub filled_year : ShownClock → Fields → ℕ
 filled_year today f = unwrap_or f.year (year_of_month today (filled_month today f))
 
 -- The seconds that a clock has counted when it shows these fields, where the date is today's as far as it is not said. Days
 -- past the month's end go on into the next.
-unfoldable pub filled_seconds : Shown → Fields → Option ℤ
+unfoldable pub filled_seconds : ShownClock → Fields → Option ℤ
 filled_seconds today f = do
   hour ← f.hour
   minute ← f.minute

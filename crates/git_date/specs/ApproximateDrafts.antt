@@ -6,15 +6,15 @@ use Rattle.git_date.specs.Dates.{first_year, last_year}
 use Rattle.git_date.specs.Fields.{unknown}
 use Rattle.git_date.specs.Numbers.{max_number}
 use Rattle.git_date.specs.declared.approximate.drafts.Draft.{Draft}
-use Rattle.git_date.specs.declared.approximate.shown.Shown.{Shown}
+use Rattle.git_date.specs.declared.clocks.ShownClock.{ShownClock}
 use Rattle.git_date.specs.declared.fields.Fields.{Fields}
 use Rattle.git_date.specs.declared.groups.Number.{Number}
 
 -- the fields of a clock that is shown, without its date and with it
-abbrev pub clock_fields : Shown → Fields
+abbrev pub clock_fields : ShownClock → Fields
 clock_fields s = record unknown { hour = Some s.hour; minute = Some s.minute; second = Some s.second }
 
-abbrev pub all_fields : Shown → Fields
+abbrev pub all_fields : ShownClock → Fields
 all_fields s = record unknown {
   year = Some s.year;
   month = Some s.month;
@@ -25,7 +25,7 @@ all_fields s = record unknown {
 }
 
 -- before the first token: today's clock, and no date
-abbrev pub first_draft : Shown → Draft
+abbrev pub first_draft : ShownClock → Draft
 first_draft today = record {
   fields = clock_fields today;
   weekday = today.weekday;
@@ -35,7 +35,7 @@ first_draft today = record {
 }
 
 -- all that a clock shows
-abbrev pub with_shown : Draft → Shown → Draft
+abbrev pub with_shown : Draft → ShownClock → Draft
 with_shown d s = record d { fields = all_fields s; weekday = s.weekday }
 
 -- what is ignored first: places are told by how many bytes are left from there on

@@ -10,7 +10,7 @@ use Rattle.gix_date.specs.declared.time.Time.{Time}
 use Rattle.git_date.specs.ApproximateClocks.{shown_at, filled_seconds}
 use Rattle.git_date.specs.ApproximateDrafts.{with_shown}
 use Rattle.git_date.specs.declared.approximate.drafts.Draft.{Draft}
-use Rattle.git_date.specs.declared.approximate.shown.Shown.{Shown}
+use Rattle.git_date.specs.declared.clocks.ShownClock.{ShownClock}
 use Rattle.git_date.specs.declared.fault.Fault.{Fault}
 use Rattle.git_date.specs.declared.fault.Fault.TheVariants.{BackTooFar, Range}
 use Rattle.git_date.specs.declared.fields.Fields.{Fields}
@@ -43,14 +43,14 @@ one_offset offset = record {
 }
 
 -- what the zone's clock shows at an instant
-unfoldable pub shown_in : Choices → ℤ → Option Shown
+unfoldable pub shown_in : Choices → ℤ → Option ShownClock
 shown_in zone instant = if is_instant instant then shown_at (instant +ℤ zone.offset instant) else None
 
 -- the time at which the zone's clock shows these fields
-unfoldable pub filled_time : Choices → Shown → Fields → Option Time
+unfoldable pub filled_time : Choices → ShownClock → Fields → Option Time
 filled_time zone today f = filled_seconds today f >>= zone.picks
 
-abbrev pub moved_by : Draft → ℕ → Option Shown → Result Draft Fault
+abbrev pub moved_by : Draft → ℕ → Option ShownClock → Result Draft Fault
 moved_by d left (Some shown) = Ok (with_shown d shown)
 moved_by d left None = Err (BackTooFar left)
 
@@ -63,5 +63,5 @@ fill_by zone d back left (Some time) = moved_to zone d left (time.seconds -ℤ p
 fill_by zone d back left None = Err Range
 
 -- Filled in, and so many seconds back: the fields become the zone's clock so many seconds before it shows them.
-unfoldable pub fill : Choices → Shown → Draft → ℕ → ℕ → Result Draft Fault
+unfoldable pub fill : Choices → ShownClock → Draft → ℕ → ℕ → Result Draft Fault
 fill zone today d back left = fill_by zone d back left (filled_time zone today d.fields)

@@ -6,7 +6,8 @@ use Rattle.git_date.specs.Numbers.{number, narrow}
 use Rattle.git_date.specs.Names.{month_named, is_weekday, zone_named}
 use Rattle.git_date.specs.Fields.{with_clock}
 use Rattle.git_date.specs.Words.{afternoon, morning, with_zone, is_filler, with_word, letters_rule, is_ending, without_ending}
-use Rattle.git_date.specs.Dates.{year_said, month_start, exact_seconds, utc_clock, utc_year, is_ahead, recent_date, year_date}
+use Rattle.git_date.specs.Clocks.{utc_clock, utc_year}
+use Rattle.git_date.specs.Dates.{year_said, month_start, exact_seconds, is_ahead, recent_date, year_date}
 use Rattle.git_date.specs.Groups.{marked_number, group_of, clock_group, year_first_group, day_month_group, group_rule, large_in, without_fraction}
 use Rattle.git_date.specs.Digits.{epoch_rule, eight_digits, six_digits, four_digits, two_digit_year, or_month, few_digits, bare_digits, number_rule, digits_rule}
 use Rattle.git_date.specs.Offsets.{white, without_white, padded_number, offset_minutes, colon_minutes, two_digit_offset, offset_said, with_offset, offset_rule, at_text}

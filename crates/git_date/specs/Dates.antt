@@ -5,17 +5,15 @@ use Rattle.jiff.specs.Words.{zoned_nanos}
 use Rattle.jiff.specs.declared.zoned.Zoned.{Zoned}
 use Rattle.jiff_core.specs.Calendar.{IsBetween}
 use Rattle.gix_date.specs.Fields.Civil.{civil_seconds}
-use Rattle.gix_date.specs.Fields.Layout.{LocalDate, LocalTime}
-use Rattle.gix_date.specs.Families.Epoch.{utc_time}
+use Rattle.gix_date.specs.Fields.Layout.{LocalDate}
 use Rattle.gix_date.specs.Families.Patterns.{midnight}
 use Rattle.gix_date.specs.Fields.ClockNumbers.{seconds_per_minute, seconds_per_hour, seconds_per_day}
 use Rattle.gix_date.specs.Text.Front.{◌>>=◌}
-use Rattle.gix_date.specs.Printing.LocalClocks.{clock_of}
-use Rattle.gix_date.specs.Fields.Zoned.{is_instant, whole_seconds}
+use Rattle.gix_date.specs.Fields.Zoned.{whole_seconds}
+use Rattle.git_date.specs.Clocks.{utc_year}
 use Rattle.git_date.specs.Fields.{with_date}
 use Rattle.git_date.specs.Numbers.{numbers_of_32_bits}
 use Rattle.git_date.specs.declared.fields.Fields.{Fields}
-use Rattle.git_date.specs.declared.clocks.UtcClock.{UtcClock}
 use Rattle.git_date.specs.declared.dates.Now.{Now}
 use Rattle.git_date.specs.declared.dates.Dated.{Dated}
 use Rattle.git_date.specs.declared.dates.Dated.TheVariants.{Taken, Refused, YearRefused}
@@ -79,29 +77,6 @@ exact_seconds f = do
   second ← f.second
   start ← month_start year month
   Some (seconds_after start f.day hour minute second)
-
-abbrev pub shown_clock : LocalTime → UtcClock
-shown_clock shown = record {
-  year = shown.date.year;
-  month = shown.date.month;
-  day = shown.date.day;
-  hour = shown.clock.hour;
-  minute = shown.clock.minute;
-  second = shown.clock.second;
-}
-
--- what the clock of UTC shows so many seconds after 1970, if there is an instant
-unfoldable pub utc_clock : ℕ → Option UtcClock
-utc_clock n = if is_instant (pos n) then Some (shown_clock (clock_of (utc_time (pos n)))) else None
-
-abbrev pub year_of : Option UtcClock → ℕ
-year_of (Some shown) = shown.year
-year_of None = 0
-
--- the year of some seconds by the clock of UTC, or 0 before 1970
-unfoldable pub utc_year : ℤ → ℕ
-utc_year (pos n) = year_of (utc_clock n)
-utc_year (negsuc n) = 0
 
 -- what the rules use of a moment
 abbrev pub now_of : Zoned → Now

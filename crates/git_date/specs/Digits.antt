@@ -3,11 +3,12 @@ use Rattle.std.specs.Prelude.{ℕ, ◌+◌, ◌*◌, ◌/◌, ◌%◌, Bool, ◌
 use Rattle.git_date.specs.Tokens.{Token, Digits, bytes_left}
 use Rattle.git_date.specs.Numbers.{number, is_too_large}
 use Rattle.git_date.specs.Fields.{knows_nothing, with_clock}
-use Rattle.git_date.specs.Dates.{year_date, utc_clock, last_year}
+use Rattle.git_date.specs.Clocks.{utc_clock}
+use Rattle.git_date.specs.Dates.{year_date, last_year}
 use Rattle.git_date.specs.Groups.{ReadTokens, group_of, group_rule, large_in, without_fraction, after_group}
 use Rattle.git_date.specs.declared.fields.Fields.{Fields}
 use Rattle.git_date.specs.declared.dates.Now.{Now}
-use Rattle.git_date.specs.declared.clocks.UtcClock.{UtcClock}
+use Rattle.git_date.specs.declared.clocks.ShownClock.{ShownClock}
 use Rattle.git_date.specs.declared.dates.Dated.{Dated}
 use Rattle.git_date.specs.declared.dates.Dated.TheVariants.{Taken, Refused}
 use Rattle.git_date.specs.declared.dates.Dated.TheVariants as dated
@@ -29,7 +30,7 @@ abbrev pub is_epoch : Fields → ℕ → Bool
 is_epoch f n = nat_le min_epoch n && knows_nothing f
 
 -- the fields of a clock of UTC, which are those of an epoch
-abbrev pub with_epoch : Fields → UtcClock → Fields
+abbrev pub with_epoch : Fields → ShownClock → Fields
 with_epoch f shown = record f {
   year = Some shown.year;
   month = Some shown.month;
@@ -40,7 +41,7 @@ with_epoch f shown = record f {
   epoch = true;
 }
 
-abbrev pub by_clock : Fields → List Token → Option UtcClock → Stepped
+abbrev pub by_clock : Fields → List Token → Option ShownClock → Stepped
 by_clock f more (Some shown) = Ok (Some (with_epoch f shown), more)
 by_clock f more None = Err Range
 

@@ -3,6 +3,7 @@ pub mod Numbers
 pub mod Names
 pub mod Fields
 pub mod Words
+pub mod Clocks
 pub mod Dates
 pub mod Groups
 pub mod Digits
@@ -26,6 +27,5 @@ pub mod Modes
 pub mod ShowClocks
 pub mod ShowAges
 pub mod ShowTexts
-pub mod ShowViews
 pub mod ShowHuman
 pub mod Show

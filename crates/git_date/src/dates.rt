@@ -3,13 +3,11 @@ ghost use Rattle.std.specs.Prelude.{◌≡◌, ◌<◌, ◌^◌, ◌*ℤ◌, pos
 ghost use Rattle.jiff_core.specs.Calendar.{IsBetween};
 ghost use Rattle.git_date.specs.Dates.{year_said, is_day_of_month, is_month, month_start, days_after_first, seconds_of_day, seconds_after, IsSmall, exact_seconds, now_of, is_ahead, recent_date, year_date};
 
-use crate::clocks::utc_year;
+use crate::clocks::{SECONDS_PER_DAY, utc_year};
 use crate::fields::Fields;
 use crate::numbers::NUMBERS_OF_32_BITS;
 use gix_date::Zoned;
 use jiff::civil::DateTime;
-
-pub(crate) const SECONDS_PER_DAY: i64 = 86_400;
 
 /// What the rules use of a moment.
 #[derive(Clone, Copy)]

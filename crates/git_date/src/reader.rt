@@ -1,11 +1,11 @@
 //! The reader: one token after the other, and what the whole text says.
 ghost use Rattle.std.specs.Prelude.{◌≡◌, ◌≤◌, length, IfOk, Option, List, ℕ};
-ghost use Rattle.gix_date.specs.Fields.Zoned.{is_instant};
 ghost use Rattle.git_date.specs.Tokens.{tokens, token_of};
 ghost use Rattle.git_date.specs.Reading.{sign_rule, mark_rule, rule, reading_of, read_on, place_in, error_of, at_said, fields_said, said_by, ended};
 ghost use Rattle.git_date.specs.Outcome.{SaidIsInstant};
 ghost use Rattle.git_date.specs.Views.{step_view};
 
+use crate::clocks::is_instant;
 use crate::dates::{Now, exact_seconds};
 use crate::digits::{Stepped, digits_rule};
 use crate::error::DateError;
@@ -14,18 +14,6 @@ use crate::fields::Fields;
 use crate::offsets::{at_text, offset_rule};
 use crate::tokens::{Token, is_end, next_token};
 use crate::words::{letters_rule, without_ending};
-
-/// The first and the last second of `jiff`'s instants.
-const FIRST_SECOND: i64 = -377_705_023_201;
-
-const LAST_SECOND: i64 = 253_402_207_200;
-
-/// Whether the seconds are those of an instant.
-pub(crate) fn is_instant(seconds: i64) -> bool
-    ensures { result ≡ is_instant seconds }
-{
-    FIRST_SECOND <= seconds && seconds <= LAST_SECOND
-}
 
 /// What was read so far.
 #[derive(Clone, Copy)]

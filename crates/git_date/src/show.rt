@@ -3,7 +3,7 @@ ghost use Rattle.std.specs.Prelude.{◌≡◌, ◌<◌, pos, MatchResult, IfSome
 ghost use Rattle.std.specs.Int.Signed.{lt_z};
 ghost use Rattle.git_date.specs.Show.{shown, shown_by, shown_clock, shown_offset, human_shown};
 ghost use Rattle.git_date.specs.ShowClocks.{moment_of};
-ghost use Rattle.git_date.specs.ShowViews.{local_of, HasFields};
+ghost use Rattle.git_date.specs.Clocks.{local_of, HasFields};
 ghost use Rattle.git_date.specs.declared.error.DateError.TheVariants.{Range};
 
 mod ages;
@@ -12,11 +12,12 @@ mod dates;
 mod human;
 mod pieces;
 
+use crate::clocks::ShownClock;
 use crate::error::DateError;
 use crate::mode::{DateKind, DateMode};
 use ages::relative_text;
 use arrayvec::ArrayString;
-use clocks::{ShownClock, is_written_offset, own_clock, zone_clock};
+use clocks::{is_written_offset, own_clock, zone_clock};
 use dates::{
     default_text, iso8601_strict_text, iso8601_text, raw_text, rfc2822_text, short_text, unix_text,
 };

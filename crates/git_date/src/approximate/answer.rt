@@ -9,8 +9,8 @@ ghost use Rattle.git_date.specs.Views.{step_view};
 
 use crate::approximate::drafts::Draft;
 use crate::approximate::rules::{digits_rule, letters_rule};
-use crate::approximate::shown::Shown;
 use crate::approximate::zone::{filled_time, shown_in};
+use crate::clocks::ShownClock;
 use crate::dates::Now;
 use crate::error::DateError;
 use crate::fault::Fault;
@@ -37,7 +37,7 @@ pub struct Approximate {
 pub(crate) struct Today {
     now: Now,
     /// What the clock of its zone shows.
-    shown: Shown,
+    shown: ShownClock,
 }
 
 /// What a token makes of a draft, and what is left to read. Marks say nothing.

@@ -2,7 +2,7 @@
 ghost use Rattle.std.specs.Prelude.{◌≡◌, ◌≤◌, None};
 ghost use Rattle.git_date.specs.ApproximateDrafts.{clock_fields, all_fields, first_draft, with_shown, ignore, lone_year, with_number, settle, dropped, with_hour, is_before, half, half_by, units, days_back, weekday_seconds, at_month, less_months};
 
-use crate::approximate::shown::Shown;
+use crate::clocks::ShownClock;
 use crate::fields::Fields;
 use crate::groups::Number;
 
@@ -21,7 +21,7 @@ pub(crate) struct Draft {
 }
 
 /// The fields of a clock without its date.
-fn clock_fields(shown: Shown) -> Fields
+fn clock_fields(shown: ShownClock) -> Fields
     ensures { result ≡ clock_fields shown }
 {
     Fields {
@@ -33,7 +33,7 @@ fn clock_fields(shown: Shown) -> Fields
 }
 
 /// The fields of a clock and its date.
-fn all_fields(shown: Shown) -> Fields
+fn all_fields(shown: ShownClock) -> Fields
     ensures { result ≡ all_fields shown }
 {
     Fields {
@@ -120,7 +120,7 @@ fn lone_year(n: u64) -> Option<u16>
 
 impl Draft {
     /// Before the first token: today's clock, and no date.
-    pub(crate) fn first(today: Shown) -> Draft
+    pub(crate) fn first(today: ShownClock) -> Draft
         ensures { result ≡ first_draft today }
     {
         Draft {
@@ -133,7 +133,7 @@ impl Draft {
     }
 
     /// With all that a clock shows.
-    pub(crate) fn with_shown(self, shown: Shown) -> Draft
+    pub(crate) fn with_shown(self, shown: ShownClock) -> Draft
         ensures { result ≡ with_shown self shown }
     {
         Draft {

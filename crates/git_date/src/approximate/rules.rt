@@ -9,8 +9,8 @@ ghost use Rattle.git_date.specs.Views.{step_view};
 
 use crate::approximate::drafts::{Draft, units, weekday_seconds};
 use crate::approximate::meanings::{Meaning, Unit, meaning_of};
-use crate::approximate::shown::Shown;
 use crate::approximate::zone::{fill, moved_to};
+use crate::clocks::ShownClock;
 use crate::dates::{Dated, Now};
 use crate::digits::Stepped;
 use crate::fault::Fault;
@@ -37,7 +37,7 @@ fn used(draft: Result<Draft, Fault>) -> Ruled
 #[tactic(auto, unfolding(crate::specs::ApproximateRules::hour_rule))]
 fn hour_rule(
     moment: Zoned<'_>,
-    today: Shown,
+    today: ShownClock,
     draft: Draft,
     hour: u8,
     left: usize,
@@ -60,7 +60,7 @@ fn hour_rule(
 #[tactic(auto, unfolding(crate::specs::ApproximateRules::back_rule))]
 fn back_rule(
     moment: Zoned<'_>,
-    today: Shown,
+    today: ShownClock,
     draft: Draft,
     back: u64,
     n: Number,
@@ -79,7 +79,7 @@ fn back_rule(
 #[tactic(auto, unfolding(crate::specs::ApproximateRules::months_rule))]
 fn months_rule(
     moment: Zoned<'_>,
-    today: Shown,
+    today: ShownClock,
     draft: Draft,
     months: u64,
     n: Number,
@@ -101,7 +101,7 @@ fn months_rule(
 /// What a number counts.
 fn unit_rule(
     moment: Zoned<'_>,
-    today: Shown,
+    today: ShownClock,
     draft: Draft,
     unit: Unit,
     n: Number,
@@ -125,7 +125,7 @@ fn unit_rule(
 }
 
 /// What the waiting number counts.
-fn counted(moment: Zoned<'_>, today: Shown, draft: Draft, unit: Unit) -> Ruled
+fn counted(moment: Zoned<'_>, today: ShownClock, draft: Draft, unit: Unit) -> Ruled
     ghost zone: { Choices }
     requires { AreChoices (zone_of moment) zone }
     ensures { result ≡ counted_by zone today draft unit draft.waiting }
@@ -169,7 +169,7 @@ fn with_month(draft: Draft, month: u8) -> Draft
 #[tactic(auto, unfolding(crate::specs::ApproximateRules::meaning_rule))]
 fn meaning_rule(
     moment: Zoned<'_>,
-    today: Shown,
+    today: ShownClock,
     draft: Draft,
     left: usize,
     meaning: Meaning,
@@ -191,7 +191,7 @@ fn meaning_rule(
 }
 
 /// What a word makes of a draft.
-fn word_rule(moment: Zoned<'_>, today: Shown, draft: Draft, left: usize, word: &[u8]) -> Ruled
+fn word_rule(moment: Zoned<'_>, today: ShownClock, draft: Draft, left: usize, word: &[u8]) -> Ruled
     ghost zone: { Choices }
     requires { AreChoices (zone_of moment) zone }
     ensures { result ≡ word_by zone today draft left (meaning_of word.now) }
@@ -233,7 +233,7 @@ fn begins_with_digits(text: &[u8]) -> bool
 #[tactic(auto, unfolding(crate::specs::ApproximateRules::letters_rule))]
 pub(crate) fn letters_rule(
     moment: Zoned<'_>,
-    today: Shown,
+    today: ShownClock,
     draft: Draft,
     run: &[u8],
     text: &[u8],

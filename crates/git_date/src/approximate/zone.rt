@@ -5,10 +5,10 @@ ghost use Rattle.gix_date.specs.Relative.Steps.{zone_of};
 ghost use Rattle.git_date.specs.ApproximateZones.{Choices, AreChoices, shown_in, filled_time, moved_to, fill};
 
 use crate::approximate::drafts::Draft;
-use crate::approximate::shown::{Shown, filled_seconds, shown_at};
+use crate::approximate::shown::{filled_seconds, shown_at};
+use crate::clocks::{ShownClock, is_instant};
 use crate::fault::Fault;
 use crate::fields::Fields;
-use crate::reader::is_instant;
 use gix_date::{Time, Zoned, time_in_zone};
 use jiff::Timestamp;
 
@@ -26,7 +26,7 @@ fn picked(moment: Zoned<'_>, seconds: i64) -> Option<Time>
 }
 
 /// What the clock of the moment's zone shows at an instant. `None` before 1900.
-pub(crate) fn shown_in(moment: Zoned<'_>, instant: i64) -> Option<Shown>
+pub(crate) fn shown_in(moment: Zoned<'_>, instant: i64) -> Option<ShownClock>
     ghost zone: { Choices }
     requires { AreChoices (zone_of moment) zone }
     ensures { result ≡ shown_in zone instant }
@@ -43,7 +43,7 @@ pub(crate) fn shown_in(moment: Zoned<'_>, instant: i64) -> Option<Shown>
 
 /// The time at which the clock of the moment's zone shows these fields.
 #[tactic(auto, unfolding(crate::specs::ApproximateZones::filled_time))]
-pub(crate) fn filled_time(moment: Zoned<'_>, today: Shown, fields: Fields) -> Option<Time>
+pub(crate) fn filled_time(moment: Zoned<'_>, today: ShownClock, fields: Fields) -> Option<Time>
     ghost zone: { Choices }
     requires { AreChoices (zone_of moment) zone }
     ensures value { result ≡ filled_time zone today fields }
@@ -77,7 +77,7 @@ pub(crate) fn moved_to(
 #[tactic(auto, unfolding(crate::specs::ApproximateZones::fill))]
 pub(crate) fn fill(
     moment: Zoned<'_>,
-    today: Shown,
+    today: ShownClock,
     draft: Draft,
     back: u32,
     left: usize,

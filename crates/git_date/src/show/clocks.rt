@@ -1,42 +1,18 @@
 //! What clocks show: a time's own, or that of a zone.
 ghost use Rattle.std.specs.Prelude.{◌≡◌, ◌<◌, IfSome, option_map, unsigned_abs};
-ghost use Rattle.jiff_core.specs.Calendar.{weekday_number};
-ghost use Rattle.gix_date.specs.Printing.LocalClocks.{clock_of, local_seconds};
 ghost use Rattle.gix_date.specs.Relative.Steps.{zone_of};
-ghost use Rattle.git_date.specs.Dates.{IsSmall};
+ghost use Rattle.git_date.specs.Clocks.{local_of, HasFields};
 ghost use Rattle.git_date.specs.ShowClocks.{has_own_clock, has_zone_clock, is_dated, is_written_offset};
 ghost use Rattle.git_date.specs.ShowClocks.{known_offset, own_clock, zone_clock};
-ghost use Rattle.git_date.specs.ShowViews.{local_of, HasFields, IsNearDated};
 
+use crate::clocks::{LAST_OF_YEAR_9999, LAST_SECOND, ShownClock, clock_of, local_seconds};
 use gix_date::{Time, Zoned};
 use jiff::Timestamp;
-use jiff_core::civil::Date;
 
 const SECONDS_PER_MINUTE: i32 = 60;
 
-const SECONDS_PER_DAY: i64 = 86_400;
-
 /// The least offset, in seconds, whose hours have three digits.
 const HUNDRED_HOURS: u32 = 360_000;
-
-/// The last second of `jiff`'s instants.
-const LAST_SECOND: i64 = 253_402_207_200;
-
-/// The last second of the year 9999.
-const LAST_OF_YEAR_9999: i64 = 253_402_300_799;
-
-/// What a clock shows, with the day of the week from 0 for Monday, and its offset in seconds.
-#[derive(Clone, Copy)]
-pub(crate) struct ShownClock {
-    pub(crate) weekday: u8,
-    pub(crate) year: u16,
-    pub(crate) month: u8,
-    pub(crate) day: u8,
-    pub(crate) hour: u8,
-    pub(crate) minute: u8,
-    pub(crate) second: u8,
-    pub(crate) offset: i32,
-}
 
 /// Whether Git can write an offset: whole minutes, and below 100 hours.
 pub(crate) fn is_written_offset(offset: i32) -> bool
@@ -53,14 +29,6 @@ fn is_dated(seconds: i64) -> bool
     0 <= seconds && seconds <= LAST_OF_YEAR_9999
 }
 
-/// The seconds that a time's own clock has counted since 1970.
-fn local_seconds(time: Time) -> i64
-    requires { IsSmall time.seconds }
-    ensures { result ≡ local_seconds time }
-{
-    time.seconds + i64::from(time.offset)
-}
-
 fn has_own_clock(time: Time) -> bool
     ensures { result ≡ has_own_clock time }
 {
@@ -72,39 +40,6 @@ fn has_zone_clock(seconds: i64) -> bool
     ensures { result ≡ has_zone_clock seconds }
 {
     0 <= seconds && seconds <= LAST_SECOND
-}
-
-/// The day of the week of a day number, from 0 for Monday.
-#[tactic(auto, unfolding(jiff_core::specs::Calendar::weekday_number))]
-fn weekday_of(day: i64) -> u8
-    requires { IsSmall day }
-    ensures { result ≡ weekday_number day }
-{
-    (day + 3).rem_euclid(7) as u8
-}
-
-/// What the clock of such a time shows.
-fn clock_of(time: Time) -> ShownClock
-    requires { IsNearDated time }
-    ensures shown { local_of result ≡ clock_of time }
-    ensures fields { HasFields result }
-{
-    let local = local_seconds(time);
-    let day = local.div_euclid(SECONDS_PER_DAY);
-    let Ok(date) = Date::from_unix_epoch_day(day) else {
-        unreachable!()
-    };
-    let second = local.rem_euclid(SECONDS_PER_DAY) as u32;
-    ShownClock {
-        weekday: weekday_of(day),
-        year: date.year.unsigned_abs(),
-        month: date.month,
-        day: date.day,
-        hour: (second / 3600) as u8,
-        minute: (second % 3600 / 60) as u8,
-        second: (second % 60) as u8,
-        offset: time.offset,
-    }
 }
 
 /// What the time's own clock shows. `None` before 1970, beyond the year 9999, and for an offset that Git cannot write.

@@ -6,10 +6,10 @@ ghost use Rattle.gix_date.specs.Printing.NamedTexts.{short_text, iso8601_text, i
 ghost use Rattle.gix_date.specs.Text.Numbers.{decimal_text};
 ghost use Rattle.git_date.specs.Show.{raw_text};
 ghost use Rattle.git_date.specs.ShowTexts.{bare_default_text, git_default_text};
-ghost use Rattle.git_date.specs.ShowViews.{local_of, HasFields};
+ghost use Rattle.git_date.specs.Clocks.{local_of, HasFields};
 
+use crate::clocks::ShownClock;
 use crate::show::DateText;
-use crate::show::clocks::ShownClock;
 use crate::show::pieces::{
     push_clock, push_date, push_day, push_hours, push_mail_weekday, push_minutes, push_month,
     push_month_and_day, push_offset, push_weekday, push_year,

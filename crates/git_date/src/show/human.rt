@@ -2,10 +2,10 @@
 ghost use Rattle.std.specs.Prelude.{◌≡◌};
 ghost use Rattle.git_date.specs.ShowHuman.{distance_of, is_few_days_before, is_same_day, few_days_text, human_text};
 ghost use Rattle.git_date.specs.ShowTexts.{year_text, day_and_clock_text};
-ghost use Rattle.git_date.specs.ShowViews.{local_of, HasFields};
+ghost use Rattle.git_date.specs.Clocks.{local_of, HasFields};
 
+use crate::clocks::ShownClock;
 use crate::show::DateText;
-use crate::show::clocks::ShownClock;
 use crate::show::pieces::{
     push_month_and_day, push_offset, push_short_clock, push_weekday, push_year,
 };

@@ -5,7 +5,7 @@ use Rattle.jiff.specs.Words.{offset_at, nanos_of_seconds}
 use Rattle.gix_date.specs.Printing.LocalClocks.{clock_of}
 use Rattle.gix_date.specs.Relative.Steps.{zone_of}
 use Rattle.gix_date.specs.declared.time.Time.{Time}
-use Rattle.git_date.specs.ShowViews.{IsNearDated}
+use Rattle.git_date.specs.Clocks.{IsShowable}
 use Rattle.git_date.proofs.ShownClocks.{a-zone-clock, known, near-zone, no-zone-clock, timed-at, zone-dated}
 use Rattle.git_date.proofs.show.clocks.zone_clock.Goals as goal
 
@@ -23,7 +23,7 @@ clock_of-shown-requires c =
     let dated = zone-dated c.args.seconds (sym test ∙ c.if-not-has_zone_clock.false) in
     let made = simp to_z-of_z at c.new.ensures in
     let near = near-zone c.args.seconds c.seconds.result dated (rw c.seconds.ensures c.to_offset-offset.result.in_range) in
-    subst (λ (t : Time). IsNearDated t) (sym made) near
+    subst (λ (t : Time). IsShowable t) (sym made) near
 
 pub returns-clause-shown : goal.returns-clause-shown
 returns-clause-shown c =
