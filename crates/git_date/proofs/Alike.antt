@@ -20,7 +20,7 @@ use Rattle.git_date.specs.declared.fault.Fault.TheVariants.{NumberTooLarge, Back
 use Rattle.git_date.specs.declared.error.DateError.TheVariants as error
 use Rattle.git_date.specs.declared.reader.Reading.{Reading}
 use Rattle.git_date.proofs.Kept.{IsKept, Leaves, rule-left}
-use Rattle.git_date.proofs.TokenRuns.{texts-are}
+use Rattle.git_date.proofs.TokenRuns.{texts_are}
 use Rattle.git_date.specs.Lines.{AreComplete}
 use Rattle.git_date.proofs.Changed.{IsSpelling, after, changed, farther, read_farther, IsClosed, IsClosedAt, steps-is, at-is}
 
@@ -222,6 +222,6 @@ tokens-lines lines (c ∷ text) =
 
 pub same-lines : (now : Now) (text lines : List ℕ) → AreComplete (tokens text) → said_by now (text ++ newline ∷ lines) ≡ said_by now text
 same-lines now text lines complete =
-    let left : bytes_left (Mark newline ∷ tokens lines) ≡ length (newline ∷ lines) = ap (λ (bytes : List ℕ). length (newline ∷ bytes)) (texts-are lines) in
+    let left : bytes_left (Mark newline ∷ tokens lines) ≡ length (newline ∷ lines) = ap (λ (bytes : List ℕ). length (newline ∷ bytes)) (texts_are lines) in
     let long : length (text ++ newline ∷ lines) ≡ length text + bytes_left (Mark newline ∷ tokens lines) = omega (arith, length-append text (newline ∷ lines)) in
     said-same as_written written (Some (tokens lines)) now text (text ++ newline ∷ lines) (tokens-lines lines text) long complete.0 complete.1

@@ -1,21 +1,19 @@
 -- What a clock shows from 1900 on, and the first second of a month.
 use Rattle.std.proofs.Common.{◌≡◌, ◌∙◌, ◌≤◌, ℕ, ℤ, pos, Bool, true, false, cond, Some, None, ap, sym, arith}
-use Rattle.std.proofs.lemmas.Bool.{and_parts as both}
 use Rattle.std.proofs.lemmas.Bool.Decides.{nat_tests}
-use Rattle.std.specs.Int.Signed.{le_z}
 use Rattle.jiff_core.specs.Calendar.{IsBetween}
 use Rattle.gix_date.specs.Families.Epoch.{utc_time}
 use Rattle.gix_date.specs.Families.Patterns.{midnight}
 use Rattle.gix_date.specs.Fields.Civil.{civil_seconds}
 use Rattle.gix_date.specs.Printing.LocalClocks.{clock_of, last_of_year_9999}
-use Rattle.gix_date.proofs.Fields.Instants.{z_test}
+use Rattle.git_date.proofs.HeldClocks.{within}
 use Rattle.git_date.specs.ApproximateClocks.{is_shown, is_shown_month, shown_at, first_second}
 use Rattle.git_date.specs.Clocks.{first_of_year_1900, held_clock}
 use Rattle.git_date.specs.Dates.{first_of}
 use Rattle.git_date.specs.declared.clocks.ShownClock.{ShownClock}
 
 pub shown-within : (s : ℤ) → is_shown s ≡ true → IsBetween first_of_year_1900 last_of_year_9999 s
-shown-within s h = let p = both (le_z first_of_year_1900 s) (le_z s last_of_year_9999) h in (z_test _ _ p.0, z_test _ _ p.1)
+shown-within s h = within first_of_year_1900 last_of_year_9999 s h
 
 pub none-shown : (s : ℤ) → is_shown s ≡ false → None ≡ shown_at s
 unfolding shown_at

@@ -9,12 +9,9 @@ use Rattle.git_date.specs.ApproximateZones.{one_offset}
 use Rattle.git_date.specs.Computing.{computing}
 use Rattle.git_date.specs.declared.approximate.answer.Approximate.{Approximate}
 use Rattle.git_date.specs.declared.approximate.expiry.Expiry.TheVariants.{Never, All}
-use Rattle.git_date.specs.declared.dates.Now.{Now}
+use Rattle.git_date.proofs.RowMoment.{row_now}
 use Rattle.git_date.specs.declared.error.DateError.{DateError}
 use Rattle.git_date.specs.declared.error.DateError.TheVariants.{BackTooFar}
-
-abbrev row_now : Now
-row_now = record { seconds = pos 1_251_660_000; year = 2009 }
 
 -- the guess in UTC
 abbrev guessed : String → Result Approximate DateError

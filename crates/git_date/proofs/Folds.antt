@@ -7,7 +7,7 @@ use Rattle.git_date.specs.declared.dates.Now.{Now}
 use Rattle.git_date.specs.declared.fault.Fault.{Fault}
 use Rattle.git_date.specs.declared.fields.Fields.{Fields}
 use Rattle.git_date.specs.declared.reader.Reading.{Reading}
-use Rattle.git_date.proofs.TokenRuns.{texts-are}
+use Rattle.git_date.proofs.TokenRuns.{texts_are}
 
 -- what stands in `rest`, read after this, gives what the text says; there are steps enough
 pub record Left (now : Now) (text rest : List ℕ) (r : Reading) : Type 0 where
@@ -28,7 +28,7 @@ pub left-none : (now : Now) (text rest : List ℕ) (r : Reading) → Left now te
 left-none now text rest r left e = sym (nothing-left now left.count r) ∙ ap (steps now left.count r) (sym e) ∙ left.same
 
 -- what goes on after a step
-abbrev later : Now → ℕ → Reading → ℕ → Stepped → Result Reading Fault
+abbrev pub later : Now → ℕ → Reading → ℕ → Stepped → Result Reading Fault
 later now n r left step = and_then step (λ next. steps now n (read_on r left next.0) next.1)
 
 -- the next of so many steps
@@ -41,7 +41,7 @@ stepped now n r t more b s e is =
 
 -- so many bytes are left from a token on
 bytes-at : (rest after : List ℕ) (t : Token) → tokens rest ≡ t ∷ tokens after → bytes_left (t ∷ tokens after) ≡ length rest
-bytes-at rest after t e = ap (λ (ts : List Token). length (texts ts)) (sym e) ∙ ap (λ (bytes : List ℕ). length bytes) (texts-are rest)
+bytes-at rest after t e = ap (λ (ts : List Token). length (texts ts)) (sym e) ∙ ap (λ (bytes : List ℕ). length bytes) (texts_are rest)
 
 first-by : (now : Now) (n : ℕ) (text rest after : List ℕ) (r : Reading) (t : Token) (b : Bool) (s : Stepped) → length rest ≤ n
     → steps now n r (tokens rest) ≡ reading_of now text → tokens rest ≡ t ∷ tokens after → length after < length rest → is_end t ≡ b → rule now r.fields t (tokens after) ≡ s

@@ -1,6 +1,8 @@
 -- What the clock of a time shows, and that of UTC.
 use Rattle.std.proofs.Common.{◌≡◌, ◌∙◌, ◌<◌, ◌≤◌, ◌/◌, ◌%◌, ℕ, ℤ, pos, Bool, true, false, cond, Some, None, ap, sym, lit<, arith, unsigned_abs}
-use Rattle.std.proofs.lemmas.Bool.{and_from as join, false_from_ne_true}
+use Rattle.std.proofs.lemmas.Bool.{and_from as join, and_parts, false_from_ne_true}
+use Rattle.std.specs.Prelude.{◌&&◌}
+use Rattle.std.specs.Int.Signed.{le_z}
 use Rattle.jiff_core.proofs.SignedLemmas.{signed_arith}
 use Rattle.jiff_core.specs.Calendar.{IsBetween, weekday_number}
 use Rattle.jiff_core.specs.Date.{epoch_day}
@@ -10,7 +12,7 @@ use Rattle.gix_date.specs.Fields.Layout.{LocalTime}
 use Rattle.gix_date.specs.Fields.Zoned.{is_instant, first_second, last_second}
 use Rattle.gix_date.specs.Printing.LocalClocks.{clock_of, date_of_day, local_day, second_of_day, last_of_year_9999}
 use Rattle.gix_date.specs.declared.time.Time.{Time}
-use Rattle.gix_date.proofs.Fields.Instants.{instant_holds, z_holds}
+use Rattle.gix_date.proofs.Fields.Instants.{instant_holds, z_holds, z_test}
 use Rattle.gix_date.proofs.Printing.LocalClocks.{date-of-day}
 use Rattle.git_date.specs.Clocks.{utc_clock, held_clock, first_of_year_1900, IsShowable}
 use Rattle.git_date.specs.declared.clocks.ShownClock.{ShownClock}
@@ -32,6 +34,10 @@ shown-by t day date second weekday is_day at is_second is_weekday =
       clock = record { hour = hour i; minute = minute i; second = last i };
       offset = t.offset;
     }
+
+-- seconds within both bounds
+pub within : (first last s : ℤ) → (le_z first s && le_z s last) ≡ true → IsBetween first last s
+within first last s h = let parts = and_parts (le_z first s) (le_z s last) h in (z_test _ _ parts.0, z_test _ _ parts.1)
 
 pub utc-showable : (s : ℤ) → IsBetween first_of_year_1900 last_of_year_9999 s → IsShowable (utc_time s)
 utc-showable s within = record { local = (omega (arith, signed_arith, within), omega (arith, signed_arith, within)); offset = lit< tt }

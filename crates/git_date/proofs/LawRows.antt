@@ -1,5 +1,5 @@
 -- What the laws say of texts, on worked texts: each row computes. The moment is 2009-08-30 19:20:00 in UTC.
-use Rattle.std.proofs.Common.{◌≡◌, refl, [], ◌∷◌, length, map, pos, Bool, true, false}
+use Rattle.std.proofs.Common.{◌≡◌, refl, [], ◌∷◌, length, map, Bool, true, false}
 use Prim.Native.String.{String}
 use Rattle.std.specs.Prelude.{codes}
 use Rattle.git_date.specs.Computing.{computing}
@@ -7,7 +7,7 @@ use Rattle.git_date.specs.Lines.{are_white, awaits_offset, end_before_minutes}
 use Rattle.git_date.specs.Moments.{has_day_month, meets_day_month}
 use Rattle.git_date.specs.Reading.{nothing_read}
 use Rattle.git_date.specs.Tokens.{tokens}
-use Rattle.git_date.specs.declared.dates.Now.{Now}
+use Rattle.git_date.proofs.RowMoment.{row_now}
 
 -- minutes may follow in the next line
 minutes_follow : map (λ text. end_before_minutes (tokens (codes text)))
@@ -21,9 +21,6 @@ minutes_follow = refl
 offset_follows : map (λ text. awaits_offset (tokens (codes text))) ("@5 +" ∷ "@5 -  " ∷ "@5 " ∷ "5 +" ∷ "@5 +0" ∷ []) ≡ true ∷ true ∷ false ∷ false ∷ false ∷ []
 unfolding computing are_white
 offset_follows = refl
-
-abbrev row_now : Now
-row_now = record { seconds = pos 1_251_660_000; year = 2009 }
 
 -- the reader comes to a date that does not begin with its year
 meets : String → Bool

@@ -1,7 +1,6 @@
 pub mod TokenRuns
 pub mod ZoneRows
 pub mod Months
-pub mod TokenLaws
 pub mod Saturated
 pub mod HeldClocks
 pub mod Zones
@@ -18,6 +17,7 @@ pub mod Alike
 pub mod Recent
 pub mod Printed
 pub mod PrintedBack
+mod RowMoment
 mod LawRows
 pub mod ApproximateClocks
 pub mod ZoneChoices

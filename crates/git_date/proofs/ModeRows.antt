@@ -1,5 +1,5 @@
 -- What a table of modes says, behind references or not; and that each mode is named by its name.
-use Rattle.std.proofs.Common.{◌≡◌, ℕ, Bool, true, false, cond, List, [], ◌∷◌, map, refl, Option, Some, None, Bor, option_map}
+use Rattle.std.proofs.Common.{◌≡◌, ℕ, Bool, true, false, cond, List, [], ◌∷◌, map, refl, Option, Some, Bor, option_map}
 use Rattle.std.specs.List.{find}
 use Rattle.std.specs.Str.{bytes_eq}
 use Rattle.git_date.specs.Modes.{row_mode, mode_row}

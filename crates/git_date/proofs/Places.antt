@@ -23,7 +23,7 @@ use Rattle.git_date.specs.declared.fault.Fault.TheVariants as fault
 use Rattle.git_date.specs.declared.reader.Reading.{Reading}
 use Rattle.git_date.specs.declared.reader.Said.{Said}
 use Rattle.git_date.proofs.Kept.{IsKept, Leaves, IsFaultAt, IsAt, first-at, rule-left, unused-at, either}
-use Rattle.git_date.proofs.TokenRuns.{texts-are}
+use Rattle.git_date.proofs.TokenRuns.{texts_are}
 
 -- a run has a byte, which is no part of a longer character
 abbrev BeginsAscii : List ℕ → Type 0
@@ -117,7 +117,7 @@ steps-at text now (suc n) r (t ∷ more) q h =
 
 reading-at : (now : Now) (text : List ℕ) → IsReadIn text (reading_of now text)
 unfolding reading_of
-reading-at now text = steps-at text now (length text) nothing_read (tokens text) ([], sym (texts-are text), runs-of text) tt
+reading-at now text = steps-at text now (length text) nothing_read (tokens text) ([], sym (texts_are text), runs-of text) tt
 
 -- the places of what a text says
 abbrev IsSaidIn : List ℕ → Result Said DateError → Type 0

@@ -7,13 +7,10 @@ use Rattle.git_date.specs.Computing.{computing}
 use Rattle.git_date.specs.Outcome.{date_at}
 use Rattle.git_date.specs.Reading.{said_by}
 use Rattle.git_date.specs.declared.date.ReadDate.{ReadDate}
-use Rattle.git_date.specs.declared.dates.Now.{Now}
+use Rattle.git_date.proofs.RowMoment.{row_now}
 use Rattle.git_date.specs.declared.error.DateError.{DateError}
 use Rattle.git_date.specs.declared.error.DateError.TheVariants.{Unreadable, NumberTooLarge, YearRefused, Range}
 use Rattle.git_date.specs.declared.reader.Said.{Said}
-
-abbrev row_now : Now
-row_now = record { seconds = pos 1_251_660_000; year = 2009 }
 
 abbrev time_read : Result ReadDate DateError → Result Time DateError
 time_read (Ok date) = Ok date.time

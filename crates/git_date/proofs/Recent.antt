@@ -1,5 +1,5 @@
 -- Texts that the moment's instant does not matter to.
-use Rattle.std.proofs.Common.{◌≡◌, ◌∙◌, ◌<◌, ℕ, zero, suc, ℤ, Bool, true, false, cond, not, List, [], ◌∷◌, length, refl, ap, arith, Option, Some, None, Result, Ok, Err}
+use Rattle.std.proofs.Common.{◌≡◌, ◌∙◌, ◌<◌, ℕ, zero, suc, ℤ, Bool, true, false, cond, not, List, [], ◌∷◌, length, refl, ap, arith, Option, Some, None, Ok, Err}
 use Rattle.std.specs.Prelude.{◌==◌, ◌&&◌, ◌||◌, nat_le}
 use Rattle.std.specs.Option.{option_or}
 use Rattle.std.proofs.lemmas.Bool.Decides.{nat_tests}
@@ -14,7 +14,6 @@ use Rattle.git_date.specs.Reading.{nothing_read, read_on, and_then, ended, rule,
 use Rattle.git_date.specs.declared.dates.Now.{Now}
 use Rattle.git_date.specs.declared.dates.Dated.{Dated}
 use Rattle.git_date.specs.declared.dates.Dated.TheVariants as dated
-use Rattle.git_date.specs.declared.fault.Fault.{Fault}
 use Rattle.git_date.specs.declared.fault.Fault.TheVariants.{NumberTooLarge}
 use Rattle.git_date.specs.declared.fields.Fields.{Fields}
 use Rattle.git_date.specs.declared.groups.Group.{Group}
@@ -22,6 +21,7 @@ use Rattle.git_date.specs.declared.reader.Reading.{Reading}
 use Rattle.git_date.specs.Moments.{is_day_month, is_any_day_month, begins_day_month, has_day_month, goes_on, meets_day_month, HasNoDayMonth}
 use Rattle.git_date.proofs.Changed.{or-first, or-second}
 use Rattle.git_date.proofs.Kept.{IsKept, Leaves, rule-left}
+use Rattle.git_date.proofs.Folds.{later}
 
 no-recent : (now : Now) (f : Fields) (month day : ℕ) (third : Option ℕ) → is_day_of_month month day ≡ false → recent_date now f month day third ≡ None
 unfolding recent_date
@@ -83,9 +83,6 @@ then-same : (now other : Now) (n : ℕ) (r : Reading) (left : ℕ) (step : Stepp
     → and_then step (λ next. steps now n (read_on r left next.0) next.1) ≡ and_then step (λ next. steps other n (read_on r left next.0) next.1)
 then-same now other n r left (Err e) h same = refl
 then-same now other n r left (Ok found) h same = same (read_on r left found.0) found.1 h
-
-abbrev later : Now → ℕ → Reading → ℕ → Stepped → Result Reading Fault
-later now n r left step = and_then step (λ next. steps now n (read_on r left next.0) next.1)
 
 step-same : (now other : Now) (n : ℕ) (r : Reading) (t : Token) (more : List Token) (ends : Bool)
     → cond ends false (begins_day_month t more || goes_on (rule now r.fields t more) (λ next. meets_day_month now n (read_on r (bytes_left (t ∷ more)) next.0) next.1)) ≡ false

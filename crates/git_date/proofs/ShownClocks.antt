@@ -1,37 +1,29 @@
 -- What the clock of a time shows, and when.
-use Rattle.std.proofs.Common.{◌≡◌, ◌∙◌, ◌<◌, ◌≤◌, ◌%◌, ℕ, ℤ, pos, neg_ℤ, ◌+ℤ◌, Bool, true, false, cond, Some, None, Option, nat_lt, ap, sym, refl, arith, unsigned_abs}
+use Rattle.std.proofs.Common.{◌≡◌, ◌∙◌, ◌<◌, ◌%◌, ℤ, pos, neg_ℤ, Bool, true, false, cond, Some, None, nat_lt, ap, sym, arith, unsigned_abs}
 use Rattle.std.proofs.lemmas.Bool.{and_parts}
-use Rattle.std.proofs.lemmas.Bool.Decides.{nat_tests}
+use Rattle.std.proofs.lemmas.Bool.Decides.{Decides-ltb}
 use Rattle.std.specs.Prelude.{◌&&◌, ◌==◌}
-use Rattle.std.specs.Int.Signed.{le_z}
 use Rattle.jiff.specs.Types.{TimeZone}
 use Rattle.jiff.specs.Words.{offset_at, nanos_of_seconds}
 use Rattle.jiff_core.proofs.SignedLemmas.{signed_arith, one_part}
 use Rattle.jiff_core.specs.Calendar.{IsBetween}
-use Rattle.gix_date.proofs.Fields.Instants.{z_test}
 use Rattle.gix_date.specs.Fields.Layout.{LocalTime}
 use Rattle.gix_date.specs.Printing.LocalClocks.{clock_of, local_seconds, last_of_year_9999}
 use Rattle.gix_date.specs.Fields.Zoned.{last_second}
 use Rattle.gix_date.specs.declared.time.Time.{Time}
 use Rattle.git_date.specs.ShowClocks.{has_own_clock, has_zone_clock, is_dated, is_written_offset, known_offset, own_clock, zone_clock, time_at, with_known_offset}
 use Rattle.git_date.specs.Clocks.{local_of, IsShowable}
+use Rattle.git_date.proofs.HeldClocks.{within}
 use Rattle.git_date.specs.declared.clocks.ShownClock.{ShownClock}
 
 pub dated : (s : ℤ) → is_dated s ≡ true → IsBetween (pos 0) last_of_year_9999 s
-dated s h =
-    let parts = and_parts (le_z (pos 0) s) (le_z s last_of_year_9999) h in
-    (z_test _ _ parts.0, z_test _ _ parts.1)
+dated s h = within (pos 0) last_of_year_9999 s h
 
 pub zone-dated : (s : ℤ) → has_zone_clock s ≡ true → IsBetween (pos 0) last_second s
-zone-dated s h =
-    let parts = and_parts (le_z (pos 0) s) (le_z s last_second) h in
-    (z_test _ _ parts.0, z_test _ _ parts.1)
-
-below : (a b : ℕ) → nat_lt a b ≡ true → a < b
-below a b h = grind (arith, nat_tests, h)
+zone-dated s h = within (pos 0) last_second s h
 
 pub written : (o : ℤ) → is_written_offset o ≡ true → unsigned_abs o < 360_000
-written o h = below _ _ (and_parts (nat_lt (unsigned_abs o) 360_000) (unsigned_abs o % 60 == 0) h).0
+written o h = (Decides-ltb _ _).0 (and_parts (nat_lt (unsigned_abs o) 360_000) (unsigned_abs o % 60 == 0) h).0
 
 pub near-dated : (t : Time) → has_own_clock t ≡ true → IsShowable t
 near-dated t h =

@@ -25,10 +25,10 @@ byte-text true digit c ts = letter-text c ts
 byte-text false true c ts = digit-text c ts
 byte-text false false c ts = refl
 
-pub texts-are : (text : List ℕ) → texts (tokens text) ≡ text
+pub texts_are : (text : List ℕ) → texts (tokens text) ≡ text
 unfolding tokens
-texts-are [] = refl
-texts-are (c ∷ text) = byte-text (is_ascii_alphabetic c) (is_ascii_digit c) c (tokens text) ∙ ap (λ rest. c ∷ rest) (texts-are text)
+texts_are [] = refl
+texts_are (c ∷ text) = byte-text (is_ascii_alphabetic c) (is_ascii_digit c) c (tokens text) ∙ ap (λ rest. c ∷ rest) (texts_are text)
 
 -- no letters stand first where no letter does
 letter-alone : (c d : ℕ) (digit : Bool) (ts : List Token)

@@ -1,5 +1,5 @@
 -- The clocks by which times are shown: the time's own, or that of a zone.
-use Rattle.std.specs.Prelude.{ℕ, ◌%◌, ◌==◌, Bool, ◌&&◌, nat_lt, nat_le, ℤ, pos, ◌*ℤ◌, int_div, unsigned_abs, if◌then◌else◌, Option, Some, None}
+use Rattle.std.specs.Prelude.{◌%◌, ◌==◌, Bool, ◌&&◌, nat_lt, nat_le, ℤ, pos, ◌*ℤ◌, int_div, unsigned_abs, if◌then◌else◌, Option, Some, None}
 use Rattle.std.specs.Int.Signed.{le_z}
 use Rattle.jiff.specs.Types.{TimeZone}
 use Rattle.jiff.specs.Words.{offset_at, nanos_of_seconds, zoned_nanos}

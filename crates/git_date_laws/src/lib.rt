@@ -13,7 +13,7 @@ use gix_date::{Time, Zoned};
 pub use shown::{ages_grow, mode_named_back, no_single_unit, shown_as_printed};
 
 /// The texts of the tokens are the text, and no two neighbours are both letters or both digits.
-#[tactic(auto, using(git_date::proofs::TokenLaws::text_laws, crate::proofs::Apart::apart))]
+#[tactic(auto, using(git_date::proofs::TokenRuns::texts_are, crate::proofs::Apart::apart))]
 pub fn tokens(text: &str)
     ensures texts { texts (tokens_of text.now) ≡ text.now }
     ensures apart { AreApart (tokens_of text.now) }
