@@ -1,5 +1,5 @@
 -- What the clock of a time shows, and that of UTC.
-use Rattle.std.proofs.Common.{◌≡◌, ◌∙◌, ◌<◌, ◌≤◌, ◌/◌, ◌%◌, ℕ, ℤ, pos, Bool, true, false, cond, Some, None, ap, sym, lit<, arith, unsigned_abs}
+use Rattle.std.proofs.Common.{◌≡◌, ◌∙◌, ◌<◌, ◌≤◌, ◌/◌, ◌%◌, ℕ, ℤ, pos, true, false, Some, None, ap, sym, lit<, arith, unsigned_abs}
 use Rattle.std.proofs.lemmas.Bool.{and_from as join, and_parts, false_from_ne_true}
 use Rattle.std.specs.Prelude.{◌&&◌}
 use Rattle.std.specs.Int.Signed.{le_z}
@@ -14,6 +14,7 @@ use Rattle.gix_date.specs.Printing.LocalClocks.{clock_of, date_of_day, local_day
 use Rattle.gix_date.specs.declared.time.Time.{Time}
 use Rattle.gix_date.proofs.Fields.Instants.{instant_holds, z_holds, z_test}
 use Rattle.gix_date.proofs.Printing.LocalClocks.{date-of-day}
+use Rattle.git_date.proofs.Conditions.{none-where, some-where}
 use Rattle.git_date.specs.Clocks.{utc_clock, held_clock, first_of_year_1900, IsShowable}
 use Rattle.git_date.specs.declared.clocks.ShownClock.{ShownClock}
 
@@ -50,8 +51,8 @@ no-instant n h = false_from_ne_true (is_instant (pos n)) (λ e. absurd (let in_r
 
 pub no-clock : (n : ℕ) → 253_402_207_200 < n → None ≡ utc_clock n
 unfolding utc_clock
-no-clock n h = ap (λ (b : Bool). cond b (Some (held_clock (clock_of (utc_time (pos n))))) None) (sym (no-instant n h))
+no-clock n h = none-where (is_instant (pos n)) _ (no-instant n h)
 
 pub a-clock : (n : ℕ) (c : ShownClock) → n ≤ 253_402_207_200 → c ≡ held_clock (clock_of (utc_time (pos n))) → Some c ≡ utc_clock n
 unfolding utc_clock
-a-clock n c h e = ap Some e ∙ ap (λ (b : Bool). cond b (Some (held_clock (clock_of (utc_time (pos n))))) None) (sym (is-instant n h))
+a-clock n c h e = some-where (is_instant (pos n)) c _ (is-instant n h) e

@@ -2,6 +2,7 @@ pub mod TokenRuns
 pub mod ZoneRows
 pub mod Months
 pub mod Saturated
+mod Conditions
 pub mod HeldClocks
 pub mod Zones
 pub mod ModeRows

@@ -1,5 +1,5 @@
 -- What the clock of a time shows, and when.
-use Rattle.std.proofs.Common.{◌≡◌, ◌∙◌, ◌<◌, ◌%◌, ℤ, pos, neg_ℤ, Bool, true, false, cond, Some, None, nat_lt, ap, sym, arith, unsigned_abs}
+use Rattle.std.proofs.Common.{◌≡◌, ◌∙◌, ◌<◌, ◌%◌, ℤ, pos, neg_ℤ, Bool, true, false, Some, None, nat_lt, ap, arith, unsigned_abs}
 use Rattle.std.proofs.lemmas.Bool.{and_parts}
 use Rattle.std.proofs.lemmas.Bool.Decides.{Decides-ltb}
 use Rattle.std.specs.Prelude.{◌&&◌, ◌==◌}
@@ -13,6 +13,7 @@ use Rattle.gix_date.specs.Fields.Zoned.{last_second}
 use Rattle.gix_date.specs.declared.time.Time.{Time}
 use Rattle.git_date.specs.ShowClocks.{has_own_clock, has_zone_clock, is_dated, is_written_offset, known_offset, own_clock, zone_clock, time_at, with_known_offset}
 use Rattle.git_date.specs.Clocks.{local_of, IsShowable}
+use Rattle.git_date.proofs.Conditions.{none-where, some-where}
 use Rattle.git_date.proofs.HeldClocks.{within}
 use Rattle.git_date.specs.declared.clocks.ShownClock.{ShownClock}
 
@@ -45,19 +46,19 @@ and-last false b c r p q e = cc
 -- a clock is that of its definition
 pub an-own-clock : (t : Time) (l : LocalTime) → has_own_clock t ≡ true → l ≡ clock_of t → Some l ≡ own_clock t
 unfolding own_clock
-an-own-clock t l h e = ap Some e ∙ ap (λ (b : Bool). cond b (Some (clock_of t)) None) (sym h)
+an-own-clock t l h e = some-where (has_own_clock t) l _ h e
 
 pub no-own-clock : (t : Time) → has_own_clock t ≡ false → None ≡ own_clock t
 unfolding own_clock
-no-own-clock t h = ap (λ (b : Bool). cond b (Some (clock_of t)) None) (sym h)
+no-own-clock t h = none-where (has_own_clock t) _ h
 
 pub a-zone-clock : (zone : TimeZone) (s : ℤ) (l : LocalTime) → has_zone_clock s ≡ true → l ≡ with_known_offset (clock_of (time_at zone s)) → Some l ≡ zone_clock zone s
 unfolding zone_clock
-a-zone-clock zone s l h e = ap Some e ∙ ap (λ (b : Bool). cond b (Some (with_known_offset (clock_of (time_at zone s)))) None) (sym h)
+a-zone-clock zone s l h e = some-where (has_zone_clock s) l _ h e
 
 pub no-zone-clock : (zone : TimeZone) (s : ℤ) → has_zone_clock s ≡ false → None ≡ zone_clock zone s
 unfolding zone_clock
-no-zone-clock zone s h = ap (λ (b : Bool). cond b (Some (with_known_offset (clock_of (time_at zone s)))) None) (sym h)
+no-zone-clock zone s h = none-where (has_zone_clock s) _ h
 
 -- a clock with the offset that Git knows
 pub known : (u : ShownClock) (o : ℤ) (l : LocalTime) → local_of u ≡ l → o ≡ known_offset (local_of u)
