@@ -1,5 +1,5 @@
 -- What the approximate reader answers.
-use Rattle.std.proofs.Common.{◌≡◌, ◌∙◌, ℕ, List, Result, Ok, ap, subst}
+use Rattle.std.proofs.Common.{◌∙◌, ℕ, List, Result, Ok, ap, subst}
 use Rattle.jiff.specs.Types.{TimeZone}
 use Rattle.jiff.specs.Words.{fixed_zone}
 use Rattle.jiff.specs.declared.zoned.Zoned.{Zoned}

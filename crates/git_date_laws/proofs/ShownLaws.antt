@@ -1,5 +1,5 @@
 -- Laws of dates as Git shows them.
-use Rattle.std.proofs.Common.{◌≡◌, ◌≢◌, ◌∙◌, ◌≤◌, ◌<◌, ◌+◌, ◌*◌, ◌/◌, ◌%◌, ℕ, ℤ, pos, Bool, true, false, cond, List, nat_lt, Option, Some, None, option_map, Result, Ok, Err, String, Global, string_bytes, refl, sym, ap, arith, unsigned_abs}
+use Rattle.std.proofs.Common.{◌≡◌, ◌≢◌, ◌∙◌, ◌≤◌, ◌+◌, ◌/◌, ◌%◌, ℕ, pos, Bool, true, false, cond, List, nat_lt, Option, Some, None, option_map, Result, Ok, Err, String, Global, string_bytes, refl, sym, ap, arith, unsigned_abs}
 use Rattle.std.proofs.lemmas.Bool.{and_parts, false_from_ne_true}
 use Rattle.std.proofs.lemmas.Bool.Decides.{nat_tests, Decides-int_eq}
 use Rattle.std.specs.Int.Signed.{lt_z}
@@ -20,7 +20,7 @@ use Rattle.git_date.proofs.ShownClocks.{dated}
 use Rattle.git_date.specs.Modes.{mode_named, mode_name}
 use Rattle.git_date.specs.Show.{raw_text, shown, shown_offset}
 use Rattle.git_date.specs.ShowAges.{age_of, age_of_days, days_of, IsNoSingle}
-use Rattle.git_date.specs.ShowClocks.{Moment, has_own_clock, is_dated, is_written_offset, own_clock}
+use Rattle.git_date.specs.ShowClocks.{has_own_clock, is_dated, is_written_offset, own_clock}
 use Rattle.git_date.specs.ShowTexts.{bare_default_text, git_default_text, unknown_offset}
 use Rattle.git_date.specs.declared.mode.DateKind.{DateKind}
 use Rattle.git_date.specs.declared.mode.DateKind.TheVariants.{Relative, Iso8601Strict, Iso8601, Rfc2822, Short, Default, Human, Raw, Unix}
