@@ -1,5 +1,5 @@
 -- A word names a unit where it is a unit's name, alone or with one `s` after it.
-use Rattle.std.proofs.Common.{◌≡◌, ◌∙◌, ◌⊎◌, inl, inr, ℕ, ◌-◌, Bool, true, false, cond, List, [], ◌∷◌, ◌++◌, length, take, get_or, refl, ap, sym, arith, Some}
+use Rattle.std.proofs.Common.{◌≡◌, ◌∙◌, ◌⊎◌, inl, inr, ℕ, ◌-◌, Bool, true, false, cond, List, [], ◌∷◌, ◌++◌, length, map, take, get_or, refl, ap, sym, arith, Some}
 use Rattle.std.proofs.lemmas.Bool.{or_cases, eqb-true as is-same}
 use Rattle.std.proofs.lemmas.List.{length-append}
 use Rattle.std.proofs.Math.Seq.{take-append_seam, get_or-append_seam}
@@ -45,17 +45,16 @@ same-unit word name e same =
     let low = lower-same word name e in
     like-unit (singular word) (singular name) (lower-singular word ∙ ap without_s low ∙ sym (lower-singular name)) ∙ same ∙ sym (like-unit word name low)
 
-abbrev AllSame : List (List ℕ) → Type 0
-AllSame [] = Unit {0}
-AllSame (name ∷ names) = (unit_of name ≡ named_unit name) × AllSame names
-
-names-same : AllSame (names_of unit_names)
+names-same : map unit_of (names_of unit_names) ≡ map named_unit (names_of unit_names)
 unfolding unit_of singular named_unit
-names-same = (refl, (refl, (refl, (refl, (refl, (refl, (refl, tt)))))))
+names-same = refl
 
-any-same : (word : List ℕ) (names : List (List ℕ)) → AllSame names → list_any (is_name word) names ≡ true → unit_of word ≡ named_unit word
+any-same : (word : List ℕ) (names : List (List ℕ)) → map unit_of names ≡ map named_unit names → list_any (is_name word) names ≡ true → unit_of word ≡ named_unit word
 any-same word [] h e = absurd cc
-any-same word (name ∷ names) h e = by-either (or_cases (is_name word name) (list_any (is_name word) names) e) (λ n. same-unit word name n h.0) (λ m. any-same word names h.1 m)
+any-same word (name ∷ names) h e =
+    let first : unit_of name ≡ named_unit name = cc in
+    let others : map unit_of names ≡ map named_unit names = cc in
+    by-either (or_cases (is_name word name) (list_any (is_name word) names) e) (λ n. same-unit word name n first) (λ m. any-same word names others m)
   where
     by-either : {A B C : Type 0} → A ⊎ B → (A → C) → (B → C) → C
     by-either (inl a) f g = f a
