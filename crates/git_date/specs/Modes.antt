@@ -56,6 +56,7 @@ kind_name Human = codes "human"
 kind_name Raw = codes "raw"
 kind_name Unix = codes "unix"
 
+-- the name that a mode shows
 abbrev pub mode_name : DateMode → List ℕ
 mode_name mode = kind_name mode.kind ++ (if mode.local then codes "-local" else [])
 

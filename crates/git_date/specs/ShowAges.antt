@@ -35,7 +35,7 @@ age_of_days days =
     else (if nat_lt days 1825 then in_years_and_months (whole_months days)
     else Years ((days + 183) / 365) 0)))
 
--- seconds below 90, minutes below 90, hours below 36, and then by days
+-- the age of so many seconds: seconds below 90, minutes below 90, hours below 36, and then by days
 unfoldable pub age_of : ℕ → Age
 age_of seconds =
     if nat_lt seconds 90 then Seconds seconds
@@ -68,7 +68,7 @@ relative_text now seconds =
     if lt_z now seconds then codes "in the future"
     else age_text (age_of (unsigned_abs (now -ℤ seconds))) ++ codes " ago"
 
--- an age of minutes to months is two at least, and one of years one
+-- the age is of no single unit: of minutes to months it is two at least, and of years one
 abbrev pub IsNoSingle : Age → Type 0
 IsNoSingle (Seconds n) = Unit {0}
 IsNoSingle (Minutes n) = 2 ≤ n
@@ -97,6 +97,6 @@ count_of (Weeks n) = n
 count_of (Months n) = n
 count_of (Years years months) = 12 * years + months
 
--- an age and a later one: its unit is no smaller, and of the same unit there are no fewer
+-- the second age is no less: its unit is no smaller, and of the same unit there are no fewer
 abbrev pub IsNoLess : Age → Age → Type 0
 IsNoLess age later = (unit_of age ≤ unit_of later) × (unit_of age ≡ unit_of later → count_of age ≤ count_of later)

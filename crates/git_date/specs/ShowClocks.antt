@@ -18,6 +18,7 @@ pub record Moment : Type 0 where
   pub zone : TimeZone
   pub seconds : ℤ
 
+-- what shown dates use of a moment
 abbrev pub moment_of : Zoned → Moment
 moment_of moment = record { zone = zone_of moment; seconds = whole_seconds (zoned_nanos moment) }
 
