@@ -150,7 +150,7 @@ module _ (Q R : List Token → Type 0) (P : ℕ → Type 0) (k : IsKept Q R P) w
   unfolding offset_rule
   offset-left f behind run more q = by-offset-left f behind (offset_said run more) (said-left run more q)
 
-  ending-left : (ts : List Token) → R ts → R (without_ending ts)
+  pub ending-left : (ts : List Token) → R ts → R (without_ending ts)
   unfolding without_ending
   ending-left [] q = q
   ending-left (Digits run ∷ more) q = q
@@ -201,7 +201,7 @@ module _ (Q R : List Token → Type 0) (P : ℕ → Type 0) (k : IsKept Q R P) w
   after-left first (Some found) h =
       either (IsGroupLeft R P) (is_group_mark found.0.0) _ _ (third-left found.0.0 first found.0.1 found.1 (marked_number found.1) h.0 h.1 (marked-left found.1 h.1)) tt
 
-  group-left : (first : ℕ) (ts : List Token) → R ts → IsGroupLeft R P (group_of first ts)
+  pub group-left : (first : ℕ) (ts : List Token) → R ts → IsGroupLeft R P (group_of first ts)
   unfolding group_of
   group-left first ts q = after-left first (marked_number ts) (marked-left ts q)
 
@@ -245,7 +245,7 @@ module _ (Q R : List Token → Type 0) (P : ℕ → Type 0) (k : IsKept Q R P) w
   unless-left (Some left) dated.Refused taken p h = h
   unless-left (Some left) dated.YearRefused taken p h = p
 
-  grouped-left : (now : Now) (f : Fields) (left : ℕ) (found : ReadTokens Group) (bare : Stepped) → P left → IsGroupLeft R P found → Leaves R P bare
+  pub grouped-left : (now : Now) (f : Fields) (left : ℕ) (found : ReadTokens Group) (bare : Stepped) → P left → IsGroupLeft R P found → Leaves R P bare
       → Leaves R P (group_or_bare now f left found bare)
   grouped-left now f left None bare p g h = h
   grouped-left now f left (Some found) bare p g h =

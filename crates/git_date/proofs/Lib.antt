@@ -23,6 +23,7 @@ mod LawRows
 pub mod ApproximateClocks
 pub mod ZoneChoices
 pub mod ApproximateFolds
+pub mod ApproximatePlaces
 pub mod FixedChoices
 pub mod ExactOnce
 mod ApproximateRows

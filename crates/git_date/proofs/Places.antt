@@ -35,7 +35,7 @@ IsRun (Letters run) = BeginsAscii run
 IsRun (Digits run) = BeginsAscii run
 IsRun (Mark byte) = Unit {0}
 
-abbrev AreRuns : List Token → Type 0
+abbrev pub AreRuns : List Token → Type 0
 AreRuns [] = Unit {0}
 AreRuns (t ∷ more) = IsRun t × AreRuns more
 
@@ -57,16 +57,16 @@ byte-runs true digit c ts e f runs = letter-runs c ts (letter_is_ascii c e) runs
 byte-runs false true c ts e f runs = digit-runs c ts (digit_is_ascii c f) runs
 byte-runs false false c ts e f runs = (tt, runs)
 
-runs-of : (text : List ℕ) → AreRuns (tokens text)
+pub runs-of : (text : List ℕ) → AreRuns (tokens text)
 unfolding tokens
 runs-of [] = tt
 runs-of (c ∷ text) = byte-runs (is_ascii_alphabetic c) (is_ascii_digit c) c (tokens text) refl refl (runs-of text)
 
 -- these tokens end the text
-abbrev Ends : List ℕ → List Token → Type 0
+abbrev pub Ends : List ℕ → List Token → Type 0
 Ends text ts = (front : List ℕ) × (text ≡ front ++ texts ts) × AreRuns ts
 
-abbrev IsPlaceOf : List ℕ → ℕ → Type 0
+abbrev pub IsPlaceOf : List ℕ → ℕ → Type 0
 IsPlaceOf text left = IsPlaceIn text (place_in text left)
 
 place-at : (text front : List ℕ) (c : ℕ) (rest : List ℕ) → text ≡ front ++ c ∷ rest → c < 128 → IsPlaceOf text (length (c ∷ rest))
@@ -77,11 +77,11 @@ place-at text front c rest e h =
     let within : length front < length text = omega arith in
     subst (IsPlaceIn text) (sym place) (IsCharBoundary-before_ascii text (length front) within (omega (arith, byte)), within)
 
-run-at : (text front run rest : List ℕ) → text ≡ front ++ (run ++ rest) → BeginsAscii run → IsPlaceOf text (length (run ++ rest))
+pub run-at : (text front run rest : List ℕ) → text ≡ front ++ (run ++ rest) → BeginsAscii run → IsPlaceOf text (length (run ++ rest))
 run-at text front [] rest e h = absurd h
 run-at text front (c ∷ run) rest e h = place-at text front c (run ++ rest) e h
 
-kept : (text : List ℕ) → IsKept (Ends text) (Ends text) (IsPlaceOf text)
+pub kept : (text : List ℕ) → IsKept (Ends text) (Ends text) (IsPlaceOf text)
 kept text = record {
   next = λ t more q. (q.0 ++ token_text t, q.1 ∙ sym (append_assoc q.0 (token_text t) (texts more)), q.2.1);
   also = λ ts q. q;
@@ -124,7 +124,7 @@ abbrev IsSaidIn : List ℕ → Result Said DateError → Type 0
 IsSaidIn text (Ok said) = IfSome said.ignored (IsPlaceIn text)
 IsSaidIn text (Err e) = IsErrorIn text e
 
-ignored-in : (text : List ℕ) (ignored : Option ℕ) → IsAt (IsPlaceOf text) ignored → IfSome (option_map (place_in text) ignored) (IsPlaceIn text)
+pub ignored-in : (text : List ℕ) (ignored : Option ℕ) → IsAt (IsPlaceOf text) ignored → IfSome (option_map (place_in text) ignored) (IsPlaceIn text)
 ignored-in text None h = tt
 ignored-in text (Some left) h = h
 

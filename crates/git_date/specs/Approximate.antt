@@ -1,5 +1,5 @@
 -- The approximate reader: one token after the other, and what the whole text comes to.
-use Rattle.std.specs.Prelude.{◌≡◌, ℕ, zero, suc, Bool, true, false, List, [], ◌∷◌, length, pos, if◌then◌else◌, Option, Some, None, Result, Ok, Err, option_map}
+use Rattle.std.specs.Prelude.{◌≡◌, ℕ, zero, suc, Bool, true, false, List, [], ◌∷◌, length, pos, if◌then◌else◌, Option, Some, None, IfSome, Result, Ok, Err, option_map}
 use Rattle.std.specs.Int.Signed.{le_z}
 use Rattle.jiff.specs.declared.zoned.Zoned.{Zoned}
 use Rattle.gix_date.specs.Relative.Steps.{zone_of}
@@ -8,7 +8,7 @@ use Rattle.git_date.specs.ApproximateDrafts.{first_draft, settle}
 use Rattle.git_date.specs.ApproximateRules.{letters_rule, digits_rule}
 use Rattle.git_date.specs.ApproximateZones.{Choices, AreChoices, shown_in, filled_time}
 use Rattle.git_date.specs.Dates.{now_of}
-use Rattle.git_date.specs.Outcome.{DateOutcome}
+use Rattle.git_date.specs.Outcome.{DateOutcome, IsPlaceIn, IsErrorIn}
 use Rattle.git_date.specs.Reading.{and_then, place_in, error_of, said_by}
 use Rattle.git_date.specs.Tokens.{Token, Letters, Digits, Mark, tokens}
 use Rattle.git_date.specs.declared.approximate.answer.Approximate.{Approximate}
@@ -82,3 +82,8 @@ pub record ApproximateOutcome (moment : Zoned) (text : List ℕ) (result : Resul
   pub exact : Result ReadDate DateError
   pub reads : DateOutcome (zone_of moment) (said_by (now_of moment) text) exact
   pub is : result ≡ exact_or_guess exact (guess zone (now_of moment) text)
+
+-- places are in the text: that of what was ignored, or that of a refusal
+abbrev pub HasApproximatePlacesIn : List ℕ → Result Approximate DateError → Type 0
+HasApproximatePlacesIn text (Ok date) = IfSome date.ignored (IsPlaceIn text)
+HasApproximatePlacesIn text (Err e) = IsErrorIn text e

@@ -1,7 +1,8 @@
 -- What expires: all, nothing, or what is older than a date.
 use Rattle.std.specs.Prelude.{◌≡◌, ℕ, ◌||◌, List, bytes_eq, codes, if◌then◌else◌, Option, Some, None, Result, Ok, Err}
 use Rattle.jiff.specs.declared.zoned.Zoned.{Zoned}
-use Rattle.git_date.specs.Approximate.{ApproximateOutcome}
+use Rattle.git_date.specs.Approximate.{ApproximateOutcome, HasApproximatePlacesIn}
+use Rattle.git_date.specs.Outcome.{IsErrorIn}
 use Rattle.git_date.specs.declared.approximate.answer.Approximate.{Approximate}
 use Rattle.git_date.specs.declared.approximate.expiry.Expiry.{Expiry}
 use Rattle.git_date.specs.declared.approximate.expiry.Expiry.TheVariants.{Never, All, Before}
@@ -32,3 +33,10 @@ ExpiryBy moment text None result = IsDated moment text result
 -- the result of `expiry_date`: what one of the words says, or else a date
 abbrev pub ExpiryOutcome : Zoned → List ℕ → Result Expiry DateError → Type 0
 ExpiryOutcome moment text result = ExpiryBy moment text (fixed_expiry text) result
+
+-- places are in the text: those of a date, or that of a refusal
+abbrev pub HasExpiryPlacesIn : List ℕ → Result Expiry DateError → Type 0
+HasExpiryPlacesIn text (Ok (Before date)) = HasApproximatePlacesIn text (Ok date)
+HasExpiryPlacesIn text (Ok Never) = Unit {0}
+HasExpiryPlacesIn text (Ok All) = Unit {0}
+HasExpiryPlacesIn text (Err e) = IsErrorIn text e

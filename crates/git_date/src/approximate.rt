@@ -1,5 +1,5 @@
 //! The approximate reader of dates.
-ghost use Rattle.git_date.specs.Approximate.{ApproximateOutcome};
+ghost use Rattle.git_date.specs.Approximate.{ApproximateOutcome, HasApproximatePlacesIn};
 
 mod answer;
 mod drafts;
@@ -25,9 +25,11 @@ use gix_date::Zoned;
 ///
 /// Every answer is Git's, or a refusal by name: [`DateError::BackTooFar`] where Git would wrap or go before 1900, and the
 /// refusals of [`parse_date`](crate::parse_date) but for [`DateError::Unreadable`]. In a fold the zone chooses the earlier
-/// instant, and in a gap the offset before it, as `jiff` does. Takes no memory.
+/// instant, and in a gap the offset before it, as `jiff` does. A place that the answer has is one where a character of the text
+/// begins. Takes no memory.
 pub fn approxidate(text: &str, now: Zoned<'_>) -> Result<Approximate, DateError>
-    ensures { ApproximateOutcome now.entry text.now result }
+    ensures answer { ApproximateOutcome now.entry text.now result }
+    ensures places { HasApproximatePlacesIn text.now result }
 {
     match parse_date(text, now) {
         Ok(date) => Ok(Approximate {

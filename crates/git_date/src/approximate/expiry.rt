@@ -1,6 +1,6 @@
 //! What expires, as in `gc.pruneExpire`.
 ghost use Rattle.std.specs.Prelude.{◌≡◌};
-ghost use Rattle.git_date.specs.ApproximateExpiry.{fixed_expiry, expiry_of, ExpiryOutcome};
+ghost use Rattle.git_date.specs.ApproximateExpiry.{fixed_expiry, expiry_of, ExpiryOutcome, HasExpiryPlacesIn};
 
 use crate::approximate::answer::Approximate;
 use crate::approximate::approxidate;
@@ -52,9 +52,10 @@ fn expiry_of(date: Result<Approximate, DateError>) -> Result<Expiry, DateError>
 ///
 /// `never` and `false` are [`Expiry::Never`], `all` and `now` are [`Expiry::All`]: these words alone, in small letters. Any other
 /// text is a date, read as by [`approxidate`](crate::approxidate), with its refusals; [`DateError::Unreadable`] if nothing of it
-/// was understood. Takes no memory.
+/// was understood. A place that the answer has is one where a character of the text begins. Takes no memory.
 pub fn expiry_date(text: &str, now: Zoned<'_>) -> Result<Expiry, DateError>
-    ensures { ExpiryOutcome now.entry text.now result }
+    ensures answer { ExpiryOutcome now.entry text.now result }
+    ensures places { HasExpiryPlacesIn text.now result }
 {
     match fixed_expiry(text) {
         Some(expiry) => Ok(expiry),
