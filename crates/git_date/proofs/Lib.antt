@@ -26,6 +26,10 @@ pub mod ApproximateFolds
 pub mod ApproximatePlaces
 pub mod FixedChoices
 pub mod ExactOnce
+pub mod ClocksBack
+pub mod ExactNothing
+pub mod ExactBack
 mod ApproximateRows
+mod BackRows
 mod ReadRows
 mod ShowRows

@@ -17,6 +17,7 @@ pub mod ApproximateZones
 pub mod ApproximateRules
 pub mod Approximate
 pub mod ApproximateExpiry
+pub mod ApproximateBack
 pub mod ApproximateComputing
 pub mod Views
 pub mod Computing

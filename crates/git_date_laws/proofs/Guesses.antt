@@ -1,19 +1,25 @@
 -- What the approximate reader answers.
-use Rattle.std.proofs.Common.{◌∙◌, ℕ, List, Result, Ok, ap, subst}
+use Rattle.std.proofs.Common.{◌≡◌, ◌∙◌, ℕ, ℤ, true, List, Result, Ok, Err, refl, ap, subst, arith}
 use Rattle.jiff.specs.Types.{TimeZone}
-use Rattle.jiff.specs.Words.{fixed_zone}
+use Rattle.jiff.specs.Words.{fixed_zone, plain_zoned, zoned_nanos, IsTimestampNanos}
 use Rattle.jiff.specs.declared.zoned.Zoned.{Zoned}
+use Rattle.jiff_core.proofs.SignedLemmas.{signed_arith, one_part}
+use Rattle.gix_date.proofs.Fields.Instants.{instant_from}
+use Rattle.gix_date.specs.Fields.Zoned.{is_instant, whole_seconds}
 use Rattle.gix_date.specs.Relative.Steps.{zone_of}
 use Rattle.git_date.specs.Approximate.{exact_or_guess, guess}
 use Rattle.git_date.specs.ApproximateZones.{Choices, AreChoices, one_offset}
 use Rattle.git_date.specs.Dates.{now_of}
+use Rattle.git_date.specs.Outcome.{DateOutcome}
 use Rattle.git_date.specs.Reading.{said_by}
 use Rattle.git_date.specs.declared.approximate.answer.Approximate.{Approximate}
 use Rattle.git_date.specs.declared.date.ReadDate.{ReadDate}
 use Rattle.git_date.specs.declared.error.DateError.{DateError}
+use Rattle.git_date.specs.declared.error.DateError.TheVariants.{Unreadable}
 use Rattle.git_date.proofs.FixedChoices.{fixed-choices, choices-once}
+use Rattle.git_date.proofs.ExactBack.{counted-back}
 use Rattle.git_date.proofs.ExactOnce.{date-once}
-use Rattle.git_date_laws.specs.ApproximateLaws.{HasExactAnswer, HasOneAnswer}
+use Rattle.git_date_laws.specs.ApproximateLaws.{HasExactAnswer, HasOneAnswer, IsExactlyBack}
 
 abbrev exact_of : Zoned → List ℕ → Choices → Result ReadDate DateError → Result Approximate DateError
 exact_of moment text zone exact = exact_or_guess exact (guess zone (now_of moment) text)
@@ -27,3 +33,17 @@ one_answers moment text o exact result fixed reads h =
     let here : AreChoices (fixed_zone o) h.zone = subst (λ (tz : TimeZone). AreChoices tz h.zone) fixed h.are_choices in
     h.is ∙ ap (exact_of moment text h.zone) (date-once (zone_of moment) (said_by (now_of moment) text) h.exact exact h.reads reads)
     ∙ ap (λ (zone : Choices). exact_of moment text zone exact) (choices-once (fixed_zone o) h.zone (one_offset o.seconds) here (fixed-choices o))
+
+whole-instant : (n : ℤ) → IsTimestampNanos n → is_instant (whole_seconds n) ≡ true
+whole-instant n range =
+    let part = one_part n in
+    instant_from (whole_seconds n) (omega (arith, signed_arith, range, part), omega (arith, signed_arith, range, part))
+
+moment-instant : (moment : Zoned) → is_instant (whole_seconds (zoned_nanos moment)) ≡ true
+moment-instant moment = whole-instant (zoned_nanos moment) (plain_zoned moment).timestamp.in_range
+
+pub exactly_backs : (moment : Zoned) (text : List ℕ) → IsExactlyBack moment text
+exactly_backs moment text o count size result fixed says reached answers =
+    let both = counted-back (now_of moment) text o count size (moment-instant moment) says reached in
+    let reads : DateOutcome (zone_of moment) (said_by (now_of moment) text) (Err Unreadable) = rw (both.0) refl in
+    one_answers moment text o (Err Unreadable) result fixed reads answers ∙ both.1

@@ -1,10 +1,11 @@
 -- Laws of dates as people write them.
-use Rattle.std.specs.Prelude.{◌≡◌, ℕ, true, List, Result, Ok}
+use Rattle.std.specs.Prelude.{◌≡◌, ℕ, ◌*◌, true, List, Result, Ok}
 use Rattle.jiff.specs.Types.{Offset}
 use Rattle.jiff.specs.Words.{fixed_zone}
 use Rattle.jiff.specs.declared.zoned.Zoned.{Zoned}
 use Rattle.gix_date.specs.Relative.Steps.{zone_of}
 use Rattle.git_date.specs.Approximate.{ApproximateOutcome, exact_or_guess, guess}
+use Rattle.git_date.specs.ApproximateBack.{CountsBack, IsReached, exactly_back}
 use Rattle.git_date.specs.ApproximateZones.{one_offset}
 use Rattle.git_date.specs.Dates.{now_of}
 use Rattle.git_date.specs.Outcome.{DateOutcome}
@@ -29,3 +30,10 @@ HasOneAnswer moment text =
     (o : Offset) (exact : Result ReadDate DateError) (result : Result Approximate DateError) → zone_of moment ≡ fixed_zone o
     → Reads moment text exact → ApproximateOutcome moment text result
     → result ≡ exact_or_guess exact (guess (one_offset o.seconds) (now_of moment) text)
+
+-- in a zone of one offset `n UNIT ago` is exactly that many seconds before now, and nothing is ignored
+abbrev pub IsExactlyBack : Zoned → List ℕ → Type 0
+IsExactlyBack moment text =
+    (o : Offset) (count size : ℕ) (result : Result Approximate DateError) → zone_of moment ≡ fixed_zone o → CountsBack text count size
+    → IsReached (now_of moment).seconds o.seconds (count * size) → ApproximateOutcome moment text result
+    → result ≡ Ok (exactly_back (now_of moment).seconds o.seconds (count * size))

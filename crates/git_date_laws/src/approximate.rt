@@ -1,5 +1,5 @@
 //! Laws of dates as people write them.
-ghost use Rattle.git_date_laws.specs.ApproximateLaws.{HasExactAnswer, HasOneAnswer};
+ghost use Rattle.git_date_laws.specs.ApproximateLaws.{HasExactAnswer, HasOneAnswer, IsExactlyBack};
 
 use gix_date::Zoned;
 
@@ -11,4 +11,9 @@ pub fn exact_answer(text: &str, now: &Zoned<'_>)
 /// In a zone of one offset [`git_date::approxidate`] has one answer: the guess of a definition that asks no zone.
 pub fn one_answer(text: &str, now: &Zoned<'_>)
     ensures { HasOneAnswer now.now text.now }
+{}
+
+/// In a zone of one offset `n UNIT ago`, of seconds to weeks, is exactly that many seconds before now, and nothing is ignored.
+pub fn exactly_back(text: &str, now: &Zoned<'_>)
+    ensures { IsExactlyBack now.now text.now }
 {}

@@ -1,0 +1,40 @@
+-- `n UNIT ago` of seconds to weeks, and how far back it reaches.
+use Rattle.std.specs.Prelude.{◌≡◌, ◌≤◌, ◌<◌, ℕ, ◌==◌, true, false, List, [], ◌∷◌, length, codes, ℤ, pos, ◌+ℤ◌, ◌-ℤ◌, Some, None}
+use Rattle.std.specs.Int.Signed.{◌≤ℤ◌}
+use Rattle.gix_date.specs.Fields.Zoned.{is_instant}
+use Rattle.git_date.specs.ApproximateRules.{is_padded}
+use Rattle.git_date.specs.ApproximateWords.{meaning_of}
+use Rattle.git_date.specs.Digits.{min_epoch}
+use Rattle.git_date.specs.Numbers.{number, max_small}
+use Rattle.git_date.specs.Tokens.{Letters, Digits, Mark, tokens}
+use Rattle.git_date.specs.declared.approximate.answer.Approximate.{Approximate}
+use Rattle.git_date.specs.declared.approximate.meanings.Meaning.TheVariants as meaning
+use Rattle.git_date.specs.declared.approximate.meanings.Unit.TheVariants.{Seconds}
+
+-- `n UNIT ago`: a count in digits, a mark, the word of a unit of so many seconds, a mark, and `ago`. The digits are neither
+-- an epoch nor a date of eight digits, which the exact reader would take.
+pub record CountsBack (text : List ℕ) (count size : ℕ) : Type 0 where
+  pub digits : List ℕ
+  pub gap : ℕ
+  pub unit : List ℕ
+  pub last : ℕ
+  pub is : tokens text ≡ Digits digits ∷ Mark gap ∷ Letters unit ∷ Mark last ∷ Letters (codes "ago") ∷ []
+  pub counts : number digits ≡ count
+  pub not_zero : 1 ≤ count
+  pub no_epoch : count < min_epoch
+  pub no_date : (length digits == 8) ≡ false
+  pub not_padded : is_padded digits ≡ false
+  pub means : meaning_of unit ≡ Some (meaning.Unit (Seconds size))
+
+-- so many seconds before now are 32 bits' and lead to no time before 1970, and now is not in the last days of 9999
+pub record IsReached (now offset : ℤ) (back : ℕ) : Type 0 where
+  pub fits : back ≤ max_small
+  pub since_1970 : pos back ≤ℤ now
+  pub clock : is_instant (now +ℤ offset) ≡ true
+
+abbrev pub exactly_back : ℤ → ℤ → ℕ → Approximate
+exactly_back now offset back = record {
+  time = record { seconds = now -ℤ pos back; offset = offset };
+  understood = true;
+  ignored = None;
+}

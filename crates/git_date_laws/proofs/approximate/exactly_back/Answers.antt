@@ -1,0 +1,5 @@
+use Rattle.git_date_laws.proofs.Guesses.{exactly_backs}
+use Rattle.git_date_laws.proofs.approximate.exactly_back.Goals as goal
+
+pub returns : goal.returns
+returns c = exactly_backs c.args.now.now c.args.text.now
