@@ -30,7 +30,7 @@ use Rattle.git_date.specs.declared.approximate.meanings.Meaning.TheVariants.{Mon
 use Rattle.git_date.specs.declared.approximate.meanings.Meaning.TheVariants as meaning
 use Rattle.git_date.specs.declared.approximate.meanings.Unit.{Unit as Counted}
 use Rattle.git_date.specs.declared.approximate.meanings.Unit.TheVariants.{Seconds, Weekday, Months}
-use Rattle.git_date.specs.declared.approximate.shown.Shown.{Shown}
+use Rattle.git_date.specs.declared.clocks.ShownClock.{ShownClock}
 use Rattle.git_date.specs.declared.date.ReadDate.{ReadDate}
 use Rattle.git_date.specs.declared.dates.Now.{Now}
 use Rattle.git_date.specs.declared.error.DateError.{DateError}
@@ -40,7 +40,7 @@ use Rattle.git_date.specs.declared.fields.Fields.{Fields}
 use Rattle.git_date.specs.declared.groups.Number.{Number}
 use Rattle.git_date.proofs.Kept.{Leaves, IsFaultAt, IsAt, either, ending-left, group-left, grouped-left}
 use Rattle.git_date.proofs.Places.{Ends, IsPlaceOf, kept, runs-of, ignored-in, places}
-use Rattle.git_date.proofs.TokenRuns.{texts-are}
+use Rattle.git_date.proofs.TokenRuns.{texts_are}
 
 max-by : (P : ℕ → Type 0) (a b : ℕ) (less : Bool) → nat_le a b ≡ less → P a → P b → P (max a b)
 max-by P a b true e p q = let is : max a b ≡ b = grind (arith, nat_tests, e) in subst P (sym is) q
@@ -101,7 +101,7 @@ module _ (P : ℕ → Type 0) where
   half-at d first h = half-by-at d first d.waiting h
 
   -- what a zone makes of them
-  moved-by-at : (d : Draft) (left : ℕ) (shown : Option Shown) → P left → IsDraftAt d → IsGivenAt (moved_by d left shown)
+  moved-by-at : (d : Draft) (left : ℕ) (shown : Option ShownClock) → P left → IsDraftAt d → IsGivenAt (moved_by d left shown)
   moved-by-at d left (Some shown) p h = h
   moved-by-at d left None p h = p
 
@@ -113,7 +113,7 @@ module _ (P : ℕ → Type 0) where
   fill-by-at zone d back left (Some time) p h = moved-at zone d left _ p h
   fill-by-at zone d back left None p h = tt
 
-  fill-at : (zone : Choices) (today : Shown) (d : Draft) (back left : ℕ) → P left → IsDraftAt d → IsGivenAt (fill zone today d back left)
+  fill-at : (zone : Choices) (today : ShownClock) (d : Draft) (back left : ℕ) → P left → IsDraftAt d → IsGivenAt (fill zone today d back left)
   unfolding fill
   fill-at zone today d back left p h = fill-by-at zone d back left (filled_time zone today d.fields) p h
 
@@ -122,14 +122,14 @@ module _ (P : ℕ → Type 0) where
   at-hour-at hour (Ok d) h = h
   at-hour-at hour (Err e) h = h
 
-  hour-at : (zone : Choices) (today : Shown) (d : Draft) (hour left : ℕ) → P left → IsDraftAt d → IsGivenAt (hour_rule zone today d hour left)
+  hour-at : (zone : Choices) (today : ShownClock) (d : Draft) (hour left : ℕ) → P left → IsDraftAt d → IsGivenAt (hour_rule zone today d hour left)
   unfolding hour_rule
   hour-at zone today d hour left p h =
       let settled = settle-at d h in
       either IsGivenAt (is_before (settle d).fields.hour hour) _ _
       (at-hour-at hour (fill zone today (settle d) seconds_per_day left) (fill-at zone today (settle d) seconds_per_day left p settled)) settled
 
-  back-at : (zone : Choices) (today : Shown) (d : Draft) (back : ℕ) (n : Number) → P n.left → IsDraftAt d → IsGivenAt (back_rule zone today d back n)
+  back-at : (zone : Choices) (today : ShownClock) (d : Draft) (back : ℕ) (n : Number) → P n.left → IsDraftAt d → IsGivenAt (back_rule zone today d back n)
   unfolding back_rule
   back-at zone today d back n p h = either IsGivenAt (is_too_large back) _ _ p (fill-at zone today d back n.left p h)
 
@@ -141,11 +141,11 @@ module _ (P : ℕ → Type 0) where
   less-by-at months left (Ok d) p h = month-taken-at d left (less_months d.fields months) p h
   less-by-at months left (Err e) p h = h
 
-  months-at : (zone : Choices) (today : Shown) (d : Draft) (months : ℕ) (n : Number) → P n.left → IsDraftAt d → IsGivenAt (months_rule zone today d months n)
+  months-at : (zone : Choices) (today : ShownClock) (d : Draft) (months : ℕ) (n : Number) → P n.left → IsDraftAt d → IsGivenAt (months_rule zone today d months n)
   unfolding months_rule
   months-at zone today d months n p h = less-by-at months n.left (fill zone today d 0 n.left) p (fill-at zone today d 0 n.left p h)
 
-  unit-at : (zone : Choices) (today : Shown) (d : Draft) (unit : Counted) (n : Number) → P n.left → IsDraftAt d → IsGivenAt (unit_rule zone today d unit n)
+  unit-at : (zone : Choices) (today : ShownClock) (d : Draft) (unit : Counted) (n : Number) → P n.left → IsDraftAt d → IsGivenAt (unit_rule zone today d unit n)
   unit-at zone today d (Seconds size) n p h = back-at zone today (without_number d) (units n.value size) n p (h.0, tt)
   unit-at zone today d (Weekday day) n p h = back-at zone today (without_number d) (weekday_seconds d.weekday day n.value) n p (h.0, tt)
   unit-at zone today d (Months size) n p h = months-at zone today (without_number d) (units n.value size) n p (h.0, tt)
@@ -154,7 +154,7 @@ module _ (P : ℕ → Type 0) where
   used-at (Ok d) h = h
   used-at (Err e) h = h
 
-  counted-at : (zone : Choices) (today : Shown) (d : Draft) (unit : Counted) (n : Option Number) → IsNumberAt n → IsDraftAt d
+  counted-at : (zone : Choices) (today : ShownClock) (d : Draft) (unit : Counted) (n : Option Number) → IsNumberAt n → IsDraftAt d
       → IsRuledAt (counted_by zone today d unit n)
   counted-at zone today d unit None p h = tt
   counted-at zone today d unit (Some n) p h = used-at (unit_rule zone today d unit n) (unit-at zone today d unit n p h)
@@ -163,7 +163,7 @@ module _ (P : ℕ → Type 0) where
   waits-at d n left None p h = (h.0, p)
   waits-at d n left (Some other) p h = tt
 
-  meaning-at : (zone : Choices) (today : Shown) (d : Draft) (left : ℕ) (said : Meaning) → P left → IsDraftAt d → IsRuledAt (meaning_rule zone today d left said)
+  meaning-at : (zone : Choices) (today : ShownClock) (d : Draft) (left : ℕ) (said : Meaning) → P left → IsDraftAt d → IsRuledAt (meaning_rule zone today d left said)
   unfolding meaning_rule
   meaning-at zone today d left (Month month) p h = h
   meaning-at zone today d left (Back seconds) p h = used-at (fill zone today (dropped d) seconds left) (fill-at zone today (dropped d) seconds left p (dropped-at d h))
@@ -174,7 +174,7 @@ module _ (P : ℕ → Type 0) where
   meaning-at zone today d left (Count n) p h = waits-at d n left d.waiting p h
   meaning-at zone today d left (meaning.Unit unit) p h = counted-at zone today d unit d.waiting h.1 h
 
-  word-at : (zone : Choices) (today : Shown) (d : Draft) (left : ℕ) (said : Option Meaning) → P left → IsDraftAt d → IsRuledAt (word_by zone today d left said)
+  word-at : (zone : Choices) (today : ShownClock) (d : Draft) (left : ℕ) (said : Option Meaning) → P left → IsDraftAt d → IsRuledAt (word_by zone today d left said)
   word-at zone today d left None p h = tt
   word-at zone today d left (Some said) p h = meaning-at zone today d left said p h
 
@@ -183,7 +183,7 @@ module _ (P : ℕ → Type 0) where
   read-word-at d word left (Ok None) p h r = either IsDraftAt (is_filler word) d (ignore d left) h (ignore-at d left p h)
   read-word-at d word left (Err e) p h r = r
 
-  letters-at : (zone : Choices) (today : Shown) (d : Draft) (run : List ℕ) (more : List Token) → P (bytes_left (Letters run ∷ more)) → IsDraftAt d
+  letters-at : (zone : Choices) (today : ShownClock) (d : Draft) (run : List ℕ) (more : List Token) → P (bytes_left (Letters run ∷ more)) → IsDraftAt d
       → IsGivenAt (letters_rule zone today d run more)
   unfolding letters_rule
   letters-at zone today d run more p h =
@@ -258,7 +258,7 @@ steps-at text zone today (suc n) d (t ∷ more) q h =
 draft-at : (zone : Choices) (today : Today) (text : List ℕ) → IsGivenAt (IsPlaceOf text) (draft_of zone today text)
 unfolding draft_of
 draft-at zone today text =
-    steps-at text zone today (length text) (first_draft today.shown) (tokens text) ([], sym (texts-are text), runs-of text) (tt, tt)
+    steps-at text zone today (length text) (first_draft today.shown) (tokens text) ([], sym (texts_are text), runs-of text) (tt, tt)
 
 -- the places of an answer
 answer-in : (text : List ℕ) (d : Draft) (time : Option Time) → IsDraftAt (IsPlaceOf text) d → HasApproximatePlacesIn text (answer text d time)
@@ -273,7 +273,7 @@ answer-of-in zone today text (Err (fault.BackTooFar left)) h = h
 answer-of-in zone today text (Err (fault.YearRefused left)) h = h
 answer-of-in zone today text (Err fault.Range) h = tt
 
-guess-by-in : (zone : Choices) (now : Now) (text : List ℕ) (shown : Option Shown) → HasApproximatePlacesIn text (guess_by zone now text shown)
+guess-by-in : (zone : Choices) (now : Now) (text : List ℕ) (shown : Option ShownClock) → HasApproximatePlacesIn text (guess_by zone now text shown)
 guess-by-in zone now text None = tt
 guess-by-in zone now text (Some shown) =
     let today : Today = record { now = now; shown = shown } in

@@ -18,19 +18,20 @@ use Rattle.gix_date.specs.Families.Patterns.{midnight}
 use Rattle.gix_date.specs.Fields.Civil.{civil_seconds, civil_instant, is_date, is_clock}
 use Rattle.gix_date.specs.Fields.Layout.{LocalTime, LocalDate, LocalClock}
 use Rattle.gix_date.specs.Fields.Zoned.{is_instant, last_second}
-use Rattle.gix_date.specs.Printing.LocalClocks.{clock_of}
+use Rattle.gix_date.specs.Printing.LocalClocks.{clock_of, last_of_year_9999}
 use Rattle.gix_date.specs.Printing.NamedTexts.{local_time}
-use Rattle.git_date.specs.ApproximateClocks.{first_shown, last_shown, is_shown, is_shown_month, shown_by, shown_at, first_second, filled_seconds}
+use Rattle.git_date.specs.ApproximateClocks.{is_shown, is_shown_month, shown_at, first_second, filled_seconds}
+use Rattle.git_date.specs.Clocks.{first_of_year_1900, held_clock}
 use Rattle.git_date.specs.ApproximateDrafts.{clock_fields, all_fields}
 use Rattle.git_date.specs.Dates.{first_of, seconds_after}
-use Rattle.git_date.specs.declared.approximate.shown.Shown.{Shown}
+use Rattle.git_date.specs.declared.clocks.ShownClock.{ShownClock}
 
 -- seconds from 1900 to the last of an instant
 abbrev pub IsClockBack : ℤ → Type 0
-IsClockBack x = IsBetween first_shown last_second x
+IsClockBack x = IsBetween first_of_year_1900 last_second x
 
-abbrev pub shown_of : ℤ → Shown
-shown_of x = shown_by (clock_of (utc_time x))
+abbrev pub shown_of : ℤ → ShownClock
+shown_of x = held_clock (clock_of (utc_time x))
 
 nineteen : day_count (pos 1900) 1 1 ≡ 4_346_386
 unfolding day_count days_of_years days_of_months
@@ -90,15 +91,15 @@ module _ (x : ℤ) (h : IsClockBack x) (z : PlainZoned) (shows : Shows z (utc_ti
       let later = later-day (pos (unsigned_abs z.datetime.date.year)) z.datetime.date.month z.datetime.date.day day_in.0 in
       omega (arith, signed_arith, later, is)
 
-  filled : (today : Shown) → filled_seconds today (all_fields (shown_by (local_time z))) ≡ Some x
+  filled : (today : ShownClock) → filled_seconds today (all_fields (held_clock (local_time z))) ≡ Some x
   unfolding filled_seconds first_second
   filled today = rw shown-month (ap (λ (s : ℤ). Some s) whole)
 
-  filled-of : (today : Shown) → filled_seconds today (all_fields (shown_of x)) ≡ Some x
-  filled-of today = subst (λ (l : LocalTime). filled_seconds today (all_fields (shown_by l)) ≡ Some x) (clock-shown z (utc_time x) shows) (filled today)
+  filled-of : (today : ShownClock) → filled_seconds today (all_fields (shown_of x)) ≡ Some x
+  filled-of today = subst (λ (l : LocalTime). filled_seconds today (all_fields (held_clock l)) ≡ Some x) (clock-shown z (utc_time x) shows) (filled today)
 
 -- all that a clock shows comes to its seconds, whatever today is
-pub filled-back : (x : ℤ) (today : Shown) → IsClockBack x → filled_seconds today (all_fields (shown_of x)) ≡ Some x
+pub filled-back : (x : ℤ) (today : ShownClock) → IsClockBack x → filled_seconds today (all_fields (shown_of x)) ≡ Some x
 filled-back x today h =
     let found = shown-by (utc_time x) ((omega (arith, signed_arith), omega (arith, signed_arith)), (omega (arith, signed_arith, h.0), h.1)) in
     filled-of x h found.0 found.1 today
@@ -106,7 +107,7 @@ filled-back x today h =
 not-before : (m : ℕ) → nat_lt m m ≡ false
 not-before m = grind (arith, nat_tests)
 
-same-fields : (c : Shown) → filled_seconds c (clock_fields c) ≡ filled_seconds c (all_fields c)
+same-fields : (c : ShownClock) → filled_seconds c (clock_fields c) ≡ filled_seconds c (all_fields c)
 unfolding filled_seconds
 same-fields c = rw (not-before c.month) refl
 
@@ -117,5 +118,5 @@ filled-today x h = same-fields (shown_of x) ∙ filled-back x (shown_of x) h
 pub shown-back : (x : ℤ) → IsClockBack x → shown_at x ≡ Some (shown_of x)
 unfolding shown_at
 shown-back x h =
-    let is : is_shown x ≡ true = join _ _ (z_holds first_shown x h.0) (z_holds x last_shown (omega (arith, signed_arith, h.1))) in
+    let is : is_shown x ≡ true = join _ _ (z_holds first_of_year_1900 x h.0) (z_holds x last_of_year_9999 (omega (arith, signed_arith, h.1))) in
     ap (λ (b : Bool). cond b (Some (shown_of x)) None) is

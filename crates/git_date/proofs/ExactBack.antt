@@ -28,13 +28,13 @@ use Rattle.git_date.specs.declared.approximate.drafts.Draft.{Draft}
 use Rattle.git_date.specs.declared.approximate.meanings.Meaning.{Meaning}
 use Rattle.git_date.specs.declared.approximate.meanings.Meaning.TheVariants as meaning
 use Rattle.git_date.specs.declared.approximate.meanings.Unit.TheVariants.{Seconds}
-use Rattle.git_date.specs.declared.approximate.shown.Shown.{Shown}
+use Rattle.git_date.specs.declared.clocks.ShownClock.{ShownClock}
 use Rattle.git_date.specs.declared.dates.Now.{Now}
 use Rattle.git_date.specs.declared.error.DateError.{DateError}
 use Rattle.git_date.specs.declared.error.DateError.TheVariants.{Unreadable, Range}
 use Rattle.git_date.specs.declared.fault.Fault.{Fault}
 use Rattle.git_date.specs.declared.groups.Number.{Number}
-use Rattle.git_date.proofs.TokenRuns.{texts-are}
+use Rattle.git_date.proofs.TokenRuns.{texts_are}
 use Rattle.git_date.proofs.ClocksBack.{IsClockBack, shown_of, filled-back, filled-today, shown-back}
 use Rattle.git_date.proofs.ExactNothing.{nothing-said}
 use Rattle.git_date.specs.ApproximateBack.{CountsBack, IsReached, exactly_back}
@@ -49,7 +49,7 @@ abbrev followed : ℕ → List ℕ → ℕ → List Token
 followed gap unit last = Mark gap ∷ Letters unit ∷ Mark last ∷ Letters (codes "ago") ∷ []
 
 -- the draft after the digits: they wait
-abbrev waiting_draft : Shown → ℕ → ℕ → Draft
+abbrev waiting_draft : ShownClock → ℕ → ℕ → Draft
 waiting_draft c n left = record {
   fields = clock_fields c;
   weekday = c.weekday;
@@ -59,7 +59,7 @@ waiting_draft c n left = record {
 }
 
 -- the draft after the unit
-abbrev moved_draft : Shown → Draft
+abbrev moved_draft : ShownClock → Draft
 moved_draft c = record { fields = all_fields c; weekday = c.weekday; waiting = None; understood = true; ignored = None }
 
 not-zero : (n : ℕ) → 1 ≤ n → (n == 0) ≡ false
@@ -76,7 +76,7 @@ digits-wait zone today run gap unit last small some padded =
     rw (not-large (number run) small, not-zero (number run) some, padded) refl
 
 -- the unit moves the draft, where its filling does
-unit-moves : (zone : Choices) (c next : Shown) (unit : List ℕ) (last n size left : ℕ) → meaning_of unit ≡ Some (meaning.Unit (Seconds size)) → n * size ≤ max_small
+unit-moves : (zone : Choices) (c next : ShownClock) (unit : List ℕ) (last n size left : ℕ) → meaning_of unit ≡ Some (meaning.Unit (Seconds size)) → n * size ≤ max_small
     → fill zone c (record (waiting_draft c n left) { waiting = None }) (n * size) left ≡ Ok (moved_draft next)
     → letters_rule zone c (waiting_draft c n left) unit (Mark last ∷ Letters (codes "ago") ∷ []) ≡ Ok (moved_draft next)
 unfolding letters_rule meaning_rule back_rule
@@ -84,7 +84,7 @@ unit-moves zone c next unit last n size left means small moves =
     let same : units n size ≡ n * size = omega (arith, small) in
     rw (means, same, not-large (n * size) small, moves) refl
 
-ago-nothing : (zone : Choices) (c : Shown) (d : Draft) → letters_rule zone c d (codes "ago") [] ≡ Ok d
+ago-nothing : (zone : Choices) (c : ShownClock) (d : Draft) → letters_rule zone c d (codes "ago") [] ≡ Ok d
 unfolding letters_rule meaning_of month_named moment_named count_named weekday_named unit_named is_filler
 ago-nothing zone c d = refl
 
@@ -126,10 +126,10 @@ are-clocks o now back instant h =
     }
 
 module _ (o now : ℤ) (back : ℕ) (are : AreClocks o now back) where
-  abbrev today_shown : Shown
+  abbrev today_shown : ShownClock
   today_shown = shown_of (now +ℤ o)
 
-  abbrev told_shown : Shown
+  abbrev told_shown : ShownClock
   told_shown = shown_of (now -ℤ pos back +ℤ o)
 
   filled-now : filled_time (one_offset o) today_shown (clock_fields today_shown) ≡ Some (record { seconds = now; offset = o })
@@ -154,7 +154,7 @@ module _ (o now : ℤ) (back : ℕ) (are : AreClocks o now back) where
   filled-moves n left =
       let d : Draft = record (waiting_draft today_shown n left) { waiting = None } in
       ap (λ (t : Option Time). fill_by (one_offset o) d back left t) filled-now
-      ∙ ap (λ (s : Option Shown). moved_by d left s) (shown-is o (now -ℤ pos back) are.told_instant are.told_shown)
+      ∙ ap (λ (s : Option ShownClock). moved_by d left s) (shown-is o (now -ℤ pos back) are.told_instant are.told_shown)
 
   answered : (text : List ℕ) → answer text (settle (moved_draft told_shown)) (filled_time (one_offset o) today_shown (settle (moved_draft told_shown)).fields)
       ≡ Ok (exactly_back now o back)
@@ -206,7 +206,7 @@ module _ (o now : ℤ) (this : Now) (digits : List ℕ) (gap : ℕ) (unit : List
       let shown : shown_in (one_offset o) this.seconds ≡ Some (shown_of (now +ℤ o)) =
       ap (λ (n : ℤ). shown_in (one_offset o) n) same ∙ shown-is o now are.now_instant are.now_shown in
       let drafts : draft_of (one_offset o) here text ≡ Ok there = rw (is, long) (drafted k) in
-      ap (λ (s : Option Shown). guess_by (one_offset o) this text s) shown
+      ap (λ (s : Option ShownClock). guess_by (one_offset o) this text s) shown
       ∙ ap (λ (d : Result Draft Fault). answer_of (one_offset o) here text d) drafts
       ∙ answered o now (number digits * size) are text
 
@@ -214,7 +214,7 @@ module _ (o now : ℤ) (this : Now) (digits : List ℕ) (gap : ℕ) (unit : List
 long-enough : (text digits : List ℕ) (gap : ℕ) (unit : List ℕ) (last : ℕ) → tokens text ≡ Digits digits ∷ followed gap unit last → 5 ≤ length text
 long-enough text digits gap unit last is =
     let ago : List ℕ = last ∷ codes "ago" in
-    let e : text ≡ digits ++ (gap ∷ (unit ++ ago)) = sym (texts-are text) ∙ ap texts is in
+    let e : text ≡ digits ++ (gap ∷ (unit ++ ago)) = sym (texts_are text) ∙ ap texts is in
     omega (arith, ap length e, length-append digits (gap ∷ (unit ++ ago)), length-append unit ago)
 
 few : (n : ℕ) → n < 100_000_000 → n ≤ max_small
@@ -232,8 +232,7 @@ by-digits this text o count size instant says reached some few_digits =
     let least = long-enough text says.digits says.gap says.unit says.last says.is in
     let k = length text - 5 in
     let long : length text ≡ suc (suc (suc (suc (suc k)))) = omega (arith, least) in
-    let are = are-clocks o this.seconds (number says.digits * size) instant reached in
-    (
+    let are = are-clocks o this.seconds (number says.digits * size) instant reached in (
       nothing-said this says.digits says.gap says.unit says.last (Seconds size) says.no_date few_digits says.means text k says.is long,
       guessed o.seconds this.seconds this says.digits says.gap says.unit says.last size are reached.fits (few (number says.digits) few_digits) some says.not_padded says.means text k refl says.is long,
     )
