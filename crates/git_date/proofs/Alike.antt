@@ -126,7 +126,7 @@ twice : (word : List ℕ) → str_to_ascii_lowercase (str_to_ascii_lowercase wor
 twice [] = refl
 twice (c ∷ word) = ap₂ ◌∷◌ (lowercase-lowercase c) (twice word)
 
-in_lower_case : IsSpelling str_to_ascii_lowercase
+pub in_lower_case : IsSpelling str_to_ascii_lowercase
 in_lower_case = record {
   named = λ word name. ap (λ (bytes : List ℕ). bytes_eq bytes (str_to_ascii_lowercase name)) (twice word);
   sized = λ word. length-map word to_ascii_lowercase;
@@ -166,7 +166,7 @@ lower-byte : (letter : Bool) (c : ℕ) (ts : List Token) → is_ascii_alphabetic
 lower-byte true c ts e = rw (lower-letter c e, e) (lower-letters c ts)
 lower-byte false c ts e = rw (lower-other c e, e) (lower-plain (is_ascii_digit c) c ts)
 
-tokens-lower : (text : List ℕ) → tokens (str_to_ascii_lowercase text) ≡ lowered (tokens text)
+pub tokens-lower : (text : List ℕ) → tokens (str_to_ascii_lowercase text) ≡ lowered (tokens text)
 unfolding tokens
 tokens-lower [] = refl
 tokens-lower (c ∷ text) =
@@ -178,7 +178,7 @@ said-lower now text =
     let long : length (str_to_ascii_lowercase text) ≡ length text + 0 = omega (arith, length-map text to_ascii_lowercase) in
     said-same str_to_ascii_lowercase in_lower_case None now text (str_to_ascii_lowercase text) (tokens-lower text) long tt tt
 
-equal-bytes : (a b : List ℕ) → bytes_eq a b ≡ true → a ≡ b
+pub equal-bytes : (a b : List ℕ) → bytes_eq a b ≡ true → a ≡ b
 equal-bytes a b h = (bytes_eq-Decides a b).0 h
 
 pub same-case : (now : Now) (text other : List ℕ) → is_name text other ≡ true → said_by now text ≡ said_by now other

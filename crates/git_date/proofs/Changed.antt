@@ -68,14 +68,14 @@ abbrev pub read_farther : ℕ → Result Reading Fault → Result Reading Fault
 read_farther k (Ok r) = Ok (farther k r)
 read_farther k (Err e) = Err (farther_fault k e)
 
-abbrev farther_number : ℕ → Number → Number
+abbrev pub farther_number : ℕ → Number → Number
 farther_number k n = record n { left = n.left + k }
 
-abbrev farther_third : ℕ → Option Number → Option Number
+abbrev pub farther_third : ℕ → Option Number → Option Number
 farther_third k (Some n) = Some (farther_number k n)
 farther_third k None = None
 
-abbrev farther_group : ℕ → Group → Group
+abbrev pub farther_group : ℕ → Group → Group
 farther_group k g = record { mark = g.mark; first = g.first; second = farther_number k g.second; third = farther_third k g.third }
 
 abbrev farther_place : ℕ → Option ℕ → Option ℕ
@@ -100,7 +100,7 @@ IsClosedAt None ts = Unit {0}
 IsClosedAt (Some lines) ts = awaits_offset ts ≡ false
 
 -- tests
-by : {A B : Type 0} (m : A → B) (b : Bool) (x y : A) (p q : B) → p ≡ m x → q ≡ m y → cond b p q ≡ m (cond b x y)
+pub by : {A B : Type 0} (m : A → B) (b : Bool) (x y : A) (p q : B) → p ≡ m x → q ≡ m y → cond b p q ≡ m (cond b x y)
 by m true x y p q e f = e
 by m false x y p q e f = f
 
@@ -338,13 +338,13 @@ unfolding large_in
 large-in-agree k g = ap₂ option_or (large-agree k g.second) (thirds-agree k g.third) ∙ first-place k (large_number g.second) (large_third g.third)
 
 module _ (spell : List ℕ → List ℕ) (same : IsSpelling spell) where
-  short-agrees : (word name : List ℕ) → is_short (spell word) name ≡ is_short word name
+  pub short-agrees : (word name : List ℕ) → is_short (spell word) name ≡ is_short word name
   short-agrees word name = rw (same.sized word, same.named word (take (length word) name))
 
   zone-agrees : (word name : List ℕ) → is_zone_name (spell word) name ≡ is_zone_name word name
   zone-agrees word name = ap₂ ◌||◌ (same.named word name) (short-agrees word name)
 
-  month-agrees : (word : List ℕ) → month_named (spell word) ≡ month_named word
+  pub month-agrees : (word : List ℕ) → month_named (spell word) ≡ month_named word
   unfolding month_named
   month-agrees word = λ i. option_map (λ place. place + 1) (position (λ name. short-agrees word name i) month_names)
 
@@ -356,7 +356,7 @@ module _ (spell : List ℕ → List ℕ) (same : IsSpelling spell) where
   unfolding zone_named
   zone-named-agrees word = λ i. option_map (λ (row : List ℕ × ℤ). row.1) (find (λ (row : List ℕ × ℤ). zone-agrees word row.0 i) zone_rows)
 
-  filler-agrees : (word : List ℕ) → is_filler (spell word) ≡ is_filler word
+  pub filler-agrees : (word : List ℕ) → is_filler (spell word) ≡ is_filler word
   unfolding is_filler
   filler-agrees word = λ i. list_any (λ name. same.named word name i) filler_words
 
@@ -387,11 +387,11 @@ module _ (spell : List ℕ → List ℕ) (same : IsSpelling spell) where
     abbrev k : ℕ
     k = bytes_left (after stop)
 
-    abbrev moved : {A : Type 0} → Result (A × List Token) Fault → Result (A × List Token) Fault
+    abbrev pub moved : {A : Type 0} → Result (A × List Token) Fault → Result (A × List Token) Fault
     moved (Ok found) = Ok (found.0, φ found.1)
     moved (Err e) = Err (farther_fault k e)
 
-    left-is : (ts : List Token) → bytes_left (φ ts) ≡ bytes_left ts + k
+    pub left-is : (ts : List Token) → bytes_left (φ ts) ≡ bytes_left ts + k
     left-is [] = omega arith
     left-is (Letters run ∷ more) = omega (arith, length-append (spell run) (texts (φ more)), length-append run (texts more), same.sized run, left-is more)
     left-is (Digits run ∷ more) = omega (arith, length-append run (texts (φ more)), length-append run (texts more), left-is more)
@@ -482,7 +482,7 @@ module _ (spell : List ℕ → List ℕ) (same : IsSpelling spell) where
     ending-by : (run other : List ℕ) (more : List Token) → cond (is_ending (spell run)) (φ more) (Letters (spell run) ∷ φ more) ≡ φ (cond (is_ending run) more (Letters run ∷ more))
     ending-by run other more = rw (ending-agrees run) (by φ (is_ending run) more (Letters run ∷ more) _ _ refl refl)
 
-    ending-is : (ts : List Token) → without_ending (φ ts) ≡ φ (without_ending ts)
+    pub ending-is : (ts : List Token) → without_ending (φ ts) ≡ φ (without_ending ts)
     unfolding without_ending
     ending-is [] = ending-end stop
     ending-is (Digits run ∷ more) = refl
@@ -513,7 +513,7 @@ module _ (spell : List ℕ → List ℕ) (same : IsSpelling spell) where
         (by-true moved (byte == minus) _ _ _ _ (λ e. sign-is f true byte more h (or-right (byte == plus) (byte == minus) e)) refl)
 
     -- groups
-    abbrev group_moved : ReadTokens Group → ReadTokens Group
+    abbrev pub group_moved : ReadTokens Group → ReadTokens Group
     group_moved None = None
     group_moved (Some found) = Some (farther_group k found.0, φ found.1)
 
@@ -537,7 +537,7 @@ module _ (spell : List ℕ → List ℕ) (same : IsSpelling spell) where
         (record { mark = mark; first = first; second = farther_number k second; third = None }, Mark byte ∷ Digits run ∷ φ more)
         (ap (λ (n : Number). (record { mark = mark; first = first; second = farther_number k second; third = Some n }, φ more)) (number-is run more)) refl
 
-    group-is : (first : ℕ) (ts : List Token) → group_of first (φ ts) ≡ group_moved (group_of first ts)
+    pub group-is : (first : ℕ) (ts : List Token) → group_of first (φ ts) ≡ group_moved (group_of first ts)
     unfolding group_of marked_number
     group-is first [] = group-end first stop
     group-is first (Letters run ∷ more) = refl
@@ -593,7 +593,7 @@ module _ (spell : List ℕ → List ℕ) (same : IsSpelling spell) where
     unless-is (Some left) dated.Refused taken = refl
     unless-is (Some left) dated.YearRefused taken = refl
 
-    grouped-is : (now : Now) (f : Fields) (left : ℕ) (found : ReadTokens Group) (bare : Stepped)
+    pub grouped-is : (now : Now) (f : Fields) (left : ℕ) (found : ReadTokens Group) (bare : Stepped)
         → group_or_bare now f (left + k) (group_moved found) (moved bare) ≡ moved (group_or_bare now f left found bare)
     grouped-is now f left None bare = refl
     grouped-is now f left (Some found) bare =
@@ -644,7 +644,7 @@ module _ (spell : List ℕ → List ℕ) (same : IsSpelling spell) where
       at_mark = λ byte more below h. tt;
     }
 
-    first-is : (t : Token) (more : List Token) → φ (t ∷ more) ≡ spelled spell t ∷ φ more
+    pub first-is : (t : Token) (more : List Token) → φ (t ∷ more) ≡ spelled spell t ∷ φ more
     first-is (Letters run) more = refl
     first-is (Digits run) more = refl
     first-is (Mark byte) more = refl

@@ -24,6 +24,7 @@ pub mod ApproximateClocks
 pub mod ZoneChoices
 pub mod ApproximateFolds
 pub mod ApproximatePlaces
+pub mod ApproximateAlike
 pub mod FixedChoices
 pub mod ExactOnce
 pub mod ClocksBack

@@ -1,5 +1,5 @@
 -- What the approximate reader answers.
-use Rattle.std.proofs.Common.{◌≡◌, ◌∙◌, ℕ, ℤ, true, List, Result, Ok, Err, refl, ap, subst, arith}
+use Rattle.std.proofs.Common.{◌≡◌, ◌∙◌, ℕ, ℤ, true, List, Result, Ok, Err, refl, ap, subst, arith, sym}
 use Rattle.jiff.specs.Types.{TimeZone}
 use Rattle.jiff.specs.Words.{fixed_zone, plain_zoned, zoned_nanos, IsTimestampNanos}
 use Rattle.jiff.specs.declared.zoned.Zoned.{Zoned}
@@ -16,10 +16,12 @@ use Rattle.git_date.specs.declared.approximate.answer.Approximate.{Approximate}
 use Rattle.git_date.specs.declared.date.ReadDate.{ReadDate}
 use Rattle.git_date.specs.declared.error.DateError.{DateError}
 use Rattle.git_date.specs.declared.error.DateError.TheVariants.{Unreadable}
+use Rattle.git_date.proofs.Alike.{same-case}
+use Rattle.git_date.proofs.ApproximateAlike.{guess-in-any-case}
 use Rattle.git_date.proofs.FixedChoices.{fixed-choices, choices-once}
 use Rattle.git_date.proofs.ExactBack.{counted-back}
 use Rattle.git_date.proofs.ExactOnce.{date-once}
-use Rattle.git_date_laws.specs.ApproximateLaws.{HasExactAnswer, HasOneAnswer, IsExactlyBack}
+use Rattle.git_date_laws.specs.ApproximateLaws.{HasExactAnswer, HasOneAnswer, IsExactlyBack, HasAnswerInAnyCase}
 
 abbrev exact_of : Zoned → List ℕ → Choices → Result ReadDate DateError → Result Approximate DateError
 exact_of moment text zone exact = exact_or_guess exact (guess zone (now_of moment) text)
@@ -47,3 +49,13 @@ exactly_backs moment text o count size result fixed says reached answers =
     let both = counted-back (now_of moment) text o count size (moment-instant moment) says reached in
     let reads : DateOutcome (zone_of moment) (said_by (now_of moment) text) (Err Unreadable) = rw (both.0) refl in
     one_answers moment text o (Err Unreadable) result fixed reads answers ∙ both.1
+
+pub same_in_any_case : (moment : Zoned) (text : List ℕ) → HasAnswerInAnyCase moment text
+same_in_any_case moment text other result again same h g =
+    let tz = zone_of moment in
+    let said = same-case (now_of moment) text other same in
+    let here : DateOutcome tz (said_by (now_of moment) other) h.exact =
+    subst (λ said. DateOutcome tz said h.exact) said h.reads in
+    h.is ∙ ap (exact_of moment text h.zone) (date-once tz (said_by (now_of moment) other) h.exact g.exact here g.reads)
+    ∙ ap (λ (zone : Choices). exact_of moment text zone g.exact) (choices-once tz h.zone g.zone h.are_choices g.are_choices)
+    ∙ ap (exact_or_guess g.exact) (guess-in-any-case g.zone (now_of moment) text other same) ∙ sym g.is

@@ -4,6 +4,7 @@ use Rattle.jiff.specs.Types.{Offset}
 use Rattle.jiff.specs.Words.{fixed_zone}
 use Rattle.jiff.specs.declared.zoned.Zoned.{Zoned}
 use Rattle.gix_date.specs.Relative.Steps.{zone_of}
+use Rattle.gix_date.specs.Text.Names.{is_name}
 use Rattle.git_date.specs.Approximate.{ApproximateOutcome, exact_or_guess, guess}
 use Rattle.git_date.specs.ApproximateBack.{CountsBack, IsReached, exactly_back}
 use Rattle.git_date.specs.ApproximateZones.{one_offset}
@@ -37,3 +38,9 @@ IsExactlyBack moment text =
     (o : Offset) (count size : ℕ) (result : Result Approximate DateError) → zone_of moment ≡ fixed_zone o → CountsBack text count size
     → IsReached (now_of moment).seconds o.seconds (count * size) → ApproximateOutcome moment text result
     → result ≡ Ok (exactly_back (now_of moment).seconds o.seconds (count * size))
+
+-- texts that differ in letter case alone have the same answer
+abbrev pub HasAnswerInAnyCase : Zoned → List ℕ → Type 0
+HasAnswerInAnyCase moment text =
+    (other : List ℕ) (result again : Result Approximate DateError) → is_name text other ≡ true → ApproximateOutcome moment text result
+    → ApproximateOutcome moment other again → result ≡ again

@@ -1,5 +1,5 @@
 //! Laws of dates as people write them.
-ghost use Rattle.git_date_laws.specs.ApproximateLaws.{HasExactAnswer, HasOneAnswer, IsExactlyBack};
+ghost use Rattle.git_date_laws.specs.ApproximateLaws.{HasExactAnswer, HasOneAnswer, IsExactlyBack, HasAnswerInAnyCase};
 
 use gix_date::Zoned;
 
@@ -16,4 +16,9 @@ pub fn one_answer(text: &str, now: &Zoned<'_>)
 /// In a zone of one offset `n UNIT ago`, of seconds to weeks, is exactly that many seconds before now, and nothing is ignored.
 pub fn exactly_back(text: &str, now: &Zoned<'_>)
     ensures { IsExactlyBack now.now text.now }
+{}
+
+/// Letter case changes no answer of [`git_date::approxidate`].
+pub fn approximate_letter_case(text: &str, now: &Zoned<'_>)
+    ensures { HasAnswerInAnyCase now.now text.now }
 {}

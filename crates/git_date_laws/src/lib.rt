@@ -8,7 +8,7 @@ ghost use Rattle.git_date_laws.specs.Laws.{AreApart, IgnoresZone, IgnoresCase, I
 mod approximate;
 mod shown;
 
-pub use approximate::{exact_answer, one_answer};
+pub use approximate::{approximate_letter_case, exact_answer, one_answer};
 use gix_date::{Time, Zoned};
 pub use shown::{ages_grow, mode_named_back, no_single_unit, shown_as_printed};
 
