@@ -1,6 +1,6 @@
 -- Each word of the contracts of `git_date` and of its laws, imported as another crate does.
-pub use Rattle.git_date.specs.Approximate.{ApproximateOutcome}
-pub use Rattle.git_date.specs.ApproximateExpiry.{ExpiryOutcome}
+pub use Rattle.git_date.specs.Approximate.{ApproximateOutcome, HasApproximatePlacesIn}
+pub use Rattle.git_date.specs.ApproximateExpiry.{ExpiryOutcome, HasExpiryPlacesIn}
 pub use Rattle.git_date.specs.Dates.{now_of}
 pub use Rattle.git_date.specs.Modes.{NamesMode, mode_name, mode_named}
 pub use Rattle.git_date.specs.Outcome.{DateOutcome, IsPlaceIn, HasPlacesIn}
