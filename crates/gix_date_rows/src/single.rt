@@ -81,15 +81,17 @@ fn header(text: &str) -> Time {
     parse_header(text).unwrap_or_default()
 }
 
-/// Writes an answer, in memory that it has. No call here answers a place.
+/// Writes an answer, in memory that it has. No call here has an answer of another kind.
 fn tell<W: Sink>(answer: &Answer, out: &mut W) -> Result<(), ErrorKind> {
     match answer {
         Answer::Time(time) => tell_time(*time, out),
         Answer::Text(text) => put_all(out, text.as_bytes()),
         Answer::Refused(name) => put_all(out, name.as_bytes()),
-        Answer::Unclear(_) | Answer::RefusedAt(_, _) | Answer::Ignored(_) => {
-            put_all(out, b"a place")
-        }
+        Answer::Doubtful(_)
+        | Answer::Word(_)
+        | Answer::Unclear(_)
+        | Answer::RefusedAt(_, _)
+        | Answer::Ignored(_) => put_all(out, b"another answer"),
     }
 }
 
