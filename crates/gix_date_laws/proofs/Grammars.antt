@@ -72,7 +72,7 @@ is-int text n h = by h.is
     by (inr (inr p)) = ap int_value p.0 ∙ int_value_from (minus ∷ h.digits) n (h.are.0, own.to h.digits h.are.1) (ap (λ (k : ℕ). neg_ℤ (pos k)) (sym h.are.2) ∙ sym p.1) h.fits
 
 -- The fields of an offset.
-fields-are : (text : List ℕ) (f : SignedPairs) → offset_fields text ≡ Some f → AreOffsetFields text f
+pub fields-are : (text : List ℕ) (f : SignedPairs) → offset_fields text ≡ Some f → AreOffsetFields text f
 fields-are x f e =
     let k = offset-taken x f e in
     record {
@@ -110,7 +110,7 @@ last-of : (x : List ℕ) (seconds : Option ℕ) → ((x ≡ []) × (seconds ≡ 
 last-of x seconds (inl p) = ap last_pair p.0 ∙ last-none ∙ ap (λ (s : Option ℕ). Some s) (sym p.1)
 last-of x seconds (inr p) = last-pair-of x p.0 p.1 ∙ ap (λ (s : Option ℕ). Some s) (sym p.2)
 
-are-fields : (text : List ℕ) (f : SignedPairs) → AreOffsetFields text f → offset_fields text ≡ Some f
+pub are-fields : (text : List ℕ) (f : SignedPairs) → AreOffsetFields text f → offset_fields text ≡ Some f
 unfolding offset_fields
 are-fields text f h =
     ap offset_fields h.whole

@@ -28,3 +28,12 @@ mod CarefulGrammar
 mod WholeClocks
 mod CarefulCases
 pub mod CarefulRows
+mod NamedInstants
+mod SecondSteps
+mod KeptInstants
+mod NoneNegative
+mod LaterInstants
+mod ClockDays
+mod OffsetTexts
+mod PrintedTexts
+mod SortedTexts

@@ -7,6 +7,8 @@ ghost use Rattle.gix_date.specs.Families.Laws.{Agree, AnswersWithinDay, AreApart
 ghost use Rattle.gix_date.specs.Families.Raw.{allows, raw_time_by};
 ghost use Rattle.gix_date.specs.Families.Epoch.{at_time, epoch_time};
 ghost use Rattle.gix_date.specs.Families.Grammars.{IsAtText, IsEpochText, IsRawText};
+ghost use Rattle.gix_date.specs.Fields.Layout.{Offset, ColonOffset, Rfc2822Offset};
+ghost use Rattle.gix_date_laws.specs.OffsetTexts.{WritesOffset, IsCompactOffset, IsColonOffset, IsMailOffset};
 ghost use Rattle.gix_date.specs.Git.Forms.{git_time};
 ghost use Rattle.gix_date.specs.Git.Grammar.{IsGitText};
 ghost use Rattle.gix_date.specs.Relative.Dates.{relative_date};
@@ -25,6 +27,14 @@ pub fn spelled()
     ensures strict { Accepts iso8601_strict_answer (IsMeaning iso8601_strict_layout time_answer) }
     ensures gitoxide { Accepts gitoxide_answer (IsMeaning gitoxide_layout time_answer) }
     ensures default { Accepts default_answer (IsMeaning default_layout time_answer) }
+{}
+
+/// The offsets of formatted dates are written in digits, with or without colons; those of mail in digits, or as one of ten
+/// zones (`mail_zones`).
+pub fn spelled_offsets()
+    ensures digits { WritesOffset Offset IsCompactOffset }
+    ensures colons { WritesOffset ColonOffset IsColonOffset }
+    ensures mail { WritesOffset Rfc2822Offset IsMailOffset }
 {}
 
 /// At texts, bare epochs and raw texts, by either rule. Each family answers what the digits say, and holds each text that

@@ -5,7 +5,8 @@ ghost use Rattle.gix_date.specs.declared.time.format.Format.TheVariants.{Unix, R
 ghost use Rattle.jiff.specs.Words.{plain_zoned};
 ghost use Rattle.jiff.specs.declared.zoned.Zoned.{Zoned as Moment};
 ghost use Rattle.gix_date.specs.Printing.LocalClocks.{clock_of, HasFourDigitFields};
-ghost use Rattle.gix_date.specs.Printing.ReadingBack.{ShortReadsAsMidnight};
+ghost use Rattle.gix_date.specs.Printing.ReadingBack.{RoundTrips, ShortReadsAsMidnight};
+ghost use Rattle.gix_date_laws.specs.PrintedTexts.{HaveUnlikeTexts, SortBefore};
 ghost use Rattle.gix_date.specs.Fields.Zoned.{IsMoment, IsConvertible};
 ghost use Rattle.gix_date.specs.Printing.PrintedTimes.{IsPrintedAs};
 ghost use Rattle.gix_date.specs.Printing.NamedTexts.{local_time, ShowsFourDigitFields, short_pattern, short_text, rfc2822_pattern, rfc2822_text, git_rfc2822_pattern, git_rfc2822_text, iso8601_pattern, iso8601_text, iso8601_strict_pattern, iso8601_strict_text, gitoxide_pattern, gitoxide_text, default_pattern, default_text};
@@ -68,4 +69,19 @@ pub fn short_read_back(time: Time, raw: RawOffsets)
     requires converts { IsConvertible time }
     requires four_digits { HasFourDigitFields time }
     ensures { ShortReadsAsMidnight (allows raw) time }
+{}
+
+/// Two times that round-trip and of which a named format with a clock prints the same text are equal.
+pub fn unlike_texts(a: Time, b: Time)
+    requires first { RoundTrips a }
+    requires second { RoundTrips b }
+    ensures { HaveUnlikeTexts a b }
+{}
+
+/// Of two times that round-trip, at one offset, the text of ISO 8601 of the earlier one comes first, by its bytes.
+pub fn texts_sort(a: Time, b: Time)
+    requires first { RoundTrips a }
+    requires second { RoundTrips b }
+    requires one_offset { a.offset ≡ b.offset }
+    ensures { SortBefore a b }
 {}

@@ -1,0 +1,9 @@
+use Rattle.jiff.specs.Words.{zoned_nanos}
+use Rattle.gix_date.specs.Relative.Steps.{zone_of}
+use Rattle.gix_date_laws.proofs.LaterInstants.{none-later}
+use Rattle.gix_date_laws.proofs.any_zone.none_later.Goals as goal
+
+pub returns : goal.returns
+returns c date instant e h =
+    let z = c.args.moment.now in
+    none-later (zone_of z) c.args.text.now date (zoned_nanos z) instant c.requires e h
