@@ -75,7 +75,7 @@ module _ (spell : List ℕ → List ℕ) (same : IsSpelling spell) where
   unfolding weekday_named
   weekday-agrees word = λ i. option_map (λ place. (place + 6) % 7) (position (λ name. short-agrees spell same word name i) weekday_names)
 
-  meaning-agrees : (word : List ℕ) → meaning_of (spell word) ≡ meaning_of word
+  pub meaning-agrees : (word : List ℕ) → meaning_of (spell word) ≡ meaning_of word
   unfolding meaning_of
   meaning-agrees word =
       λ i. month_or (month-agrees spell same word i)

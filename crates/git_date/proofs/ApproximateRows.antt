@@ -101,7 +101,8 @@ fifth_rows :
     ∷ ("25000 days ago", Err (BackTooFar 0))
     ∷ ("200 years ago", Err (BackTooFar 0))
     ∷ ("mayor", doubtful 1251660000)
-    ∷ ("10 thursday", is 1245957600) ∷ [])
+    ∷ ("10 thursday", is 1245957600)
+    ∷ ("3 fortnights ago", is 1249327200) ∷ [])
 unfolding computing approximating
 fifth_rows = refl
 

@@ -2,7 +2,7 @@
 use Rattle.std.proofs.Common.{◌≡◌, refl, arith, ℕ, List, [], ◌∷◌, map, Option, Some}
 use Prim.Native.String.{String}
 use Rattle.std.specs.Prelude.{codes}
-use Rattle.git_date.specs.ApproximateBack.{CountsBack}
+use Rattle.git_date.specs.ApproximateBack.{CountsBack, CountsMonths}
 use Rattle.git_date.specs.ApproximateComputing.{approximating}
 use Rattle.git_date.specs.ApproximateWords.{meaning_of}
 use Rattle.git_date.specs.Computing.{computing}
@@ -46,6 +46,22 @@ spaced = record {
   gap = 32;
   unit = codes "Second";
   last = 32;
+  is = refl;
+  counts = refl;
+  not_zero = omega arith;
+  no_epoch = omega arith;
+  no_date = refl;
+  not_padded = refl;
+  means = refl;
+}
+
+monthly : CountsMonths (codes "3 Months_ago") 3 1
+unfolding computing approximating
+monthly = record {
+  digits = codes "3";
+  gap = 32;
+  unit = codes "Months";
+  last = 95;
   is = refl;
   counts = refl;
   not_zero = omega arith;

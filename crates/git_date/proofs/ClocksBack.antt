@@ -1,5 +1,5 @@
 -- The fields that a clock shows come to the seconds at which it shows them.
-use Rattle.std.proofs.Common.{◌≡◌, ◌∙◌, ◌≤◌, ◌<◌, ℕ, nat_lt, nat_le, Bool, true, false, cond, ℤ, pos, neg_ℤ, ◌+ℤ◌, ◌-ℤ◌, ◌≤ℤ◌, ◌<ℤ◌, unsigned_abs, Some, None, refl, sym, ap, subst, arith}
+use Rattle.std.proofs.Common.{◌≡◌, ◌∙◌, ◌≤◌, ℕ, nat_lt, Bool, true, false, cond, ℤ, pos, neg_ℤ, ◌+ℤ◌, ◌-ℤ◌, ◌≤ℤ◌, ◌<ℤ◌, unsigned_abs, Some, None, refl, ap, subst, arith}
 use Rattle.std.specs.Prelude.{◌&&◌}
 use Rattle.std.proofs.lemmas.Bool.{and_from as join}
 use Rattle.std.proofs.lemmas.Bool.Decides.{nat_tests}
@@ -33,11 +33,11 @@ IsClockBack x = IsBetween first_of_year_1900 last_second x
 abbrev pub shown_of : ℤ → ShownClock
 shown_of x = held_clock (clock_of (utc_time x))
 
-nineteen : day_count (pos 1900) 1 1 ≡ 4_346_386
+pub nineteen : day_count (pos 1900) 1 1 ≡ 4_346_386
 unfolding day_count days_of_years days_of_months
 nineteen = refl
 
-before-1900 : (date : Date) → date.year <ℤ pos 1900 → epoch_day date <ℤ neg_ℤ (pos 25_567)
+pub before-1900 : (date : Date) → date.year <ℤ pos 1900 → epoch_day date <ℤ neg_ℤ (pos 25_567)
 before-1900 date lt =
     let day_in = date.day_in in
     let year_in = date.year_in in
@@ -97,6 +97,17 @@ module _ (x : ℤ) (h : IsClockBack x) (z : PlainZoned) (shows : Shows z (utc_ti
 
   filled-of : (today : ShownClock) → filled_seconds today (all_fields (shown_of x)) ≡ Some x
   filled-of today = subst (λ (l : LocalTime). filled_seconds today (all_fields (held_clock l)) ≡ Some x) (clock-shown z (utc_time x) shows) (filled today)
+
+-- what a clock shows at these seconds: a month from 1900 on, and a date and a clock that come to them
+pub record IsClockOf (x : ℤ) (c : ShownClock) : Type 0 where
+  pub month : is_shown_month c.year c.month ≡ true
+  pub seconds : seconds_after (civil_seconds (first_of c.year c.month) midnight (pos 0)) (Some c.day) c.hour c.minute c.second ≡ x
+
+pub clock-is : (x : ℤ) → IsClockBack x → IsClockOf x (shown_of x)
+clock-is x h =
+    let found = shown-by (utc_time x) ((omega (arith, signed_arith), omega (arith, signed_arith)), (omega (arith, signed_arith, h.0), h.1)) in
+    subst (λ (l : LocalTime). IsClockOf x (held_clock l)) (clock-shown found.0 (utc_time x) found.1)
+    (record { month = shown-month x h found.0 found.1; seconds = whole x h found.0 found.1 })
 
 -- all that a clock shows comes to its seconds, whatever today is
 pub filled-back : (x : ℤ) (today : ShownClock) → IsClockBack x → filled_seconds today (all_fields (shown_of x)) ≡ Some x

@@ -1,55 +1,49 @@
 -- `n UNIT ago` is that many seconds before now.
-use Rattle.std.proofs.Common.{◌≡◌, ◌∙◌, ◌≤◌, ◌<◌, ℕ, suc, ◌+◌, ◌-◌, ◌*◌, min, nat_lt, Bool, true, false, cond, ℤ, pos, neg_ℤ, ◌+ℤ◌, ◌-ℤ◌, ◌≤ℤ◌, List, [], ◌∷◌, ◌++◌, length, length-append, Option, Some, None, Result, Ok, Err, refl, sym, ap, subst, arith}
-use Rattle.std.specs.Prelude.{codes, ◌==◌, ◌||◌}
-use Rattle.std.specs.Int.Signed.{le_z}
+use Rattle.std.proofs.Common.{◌≡◌, ◌∙◌, ◌≤◌, ◌<◌, ℕ, suc, ◌-◌, ◌*◌, Bool, true, false, cond, ℤ, pos, ◌+ℤ◌, ◌-ℤ◌, ◌≤ℤ◌, List, [], ◌∷◌, ◌++◌, length, length-append, Option, Some, None, Result, Ok, Err, refl, sym, ap, subst, arith}
+use Rattle.std.specs.Prelude.{codes, ◌==◌}
 use Rattle.std.proofs.lemmas.Bool.Decides.{nat_tests}
 use Rattle.jiff.specs.Types.{Offset}
 use Rattle.jiff_core.proofs.SignedLemmas.{signed_arith}
-use Rattle.jiff_core.specs.Calendar.{IsBetween}
 use Rattle.gix_date.proofs.Fields.Instants.{instant_holds, instant_from, z_holds}
 use Rattle.gix_date.specs.Fields.Zoned.{is_instant}
 use Rattle.gix_date.specs.Text.Front.{◌>>=◌}
 use Rattle.gix_date.specs.declared.time.Time.{Time}
-use Rattle.git_date.specs.Approximate.{Read, rule, steps, draft_of, answer, answer_of, guess_by, guess}
-use Rattle.git_date.specs.ApproximateClocks.{filled_seconds}
+use Rattle.git_date.specs.Approximate.{rule, steps, draft_of, answer, answer_of, guess_by, guess}
 use Rattle.git_date.specs.ApproximateDrafts.{first_draft, clock_fields, all_fields, settle, units}
-use Rattle.git_date.specs.ApproximateRules.{understood, letters_rule, digits_rule, back_rule, meaning_rule, number_waits, group_said, is_padded, read_word, word_by, used}
+use Rattle.git_date.specs.ApproximateRules.{letters_rule, digits_rule, back_rule, meaning_rule, number_waits, group_said, is_padded}
 use Rattle.git_date.specs.ApproximateWords.{moment_named, count_named, unit_named, weekday_named, meaning_of}
 use Rattle.git_date.specs.ApproximateZones.{Choices, one_offset, shown_in, filled_time, moved_by, moved_to, fill_by, fill}
 use Rattle.git_date.specs.Groups.{group_of, marked_number}
 use Rattle.git_date.specs.Names.{month_named}
-use Rattle.git_date.specs.Numbers.{number, is_too_large, max_small, max_number}
+use Rattle.git_date.specs.Numbers.{number, is_too_large, max_small}
 use Rattle.git_date.specs.Reading.{said_by}
 use Rattle.git_date.specs.Tokens.{Token, Letters, Digits, Mark, tokens, texts, bytes_left}
 use Rattle.git_date.specs.Words.{is_filler, without_ending}
 use Rattle.git_date.specs.declared.approximate.answer.Approximate.{Approximate}
 use Rattle.git_date.specs.declared.approximate.answer.Today.{Today}
 use Rattle.git_date.specs.declared.approximate.drafts.Draft.{Draft}
-use Rattle.git_date.specs.declared.approximate.meanings.Meaning.{Meaning}
 use Rattle.git_date.specs.declared.approximate.meanings.Meaning.TheVariants as meaning
 use Rattle.git_date.specs.declared.approximate.meanings.Unit.TheVariants.{Seconds}
 use Rattle.git_date.specs.declared.clocks.ShownClock.{ShownClock}
 use Rattle.git_date.specs.declared.dates.Now.{Now}
-use Rattle.git_date.specs.declared.error.DateError.{DateError}
 use Rattle.git_date.specs.declared.error.DateError.TheVariants.{Unreadable, Range}
 use Rattle.git_date.specs.declared.fault.Fault.{Fault}
-use Rattle.git_date.specs.declared.groups.Number.{Number}
 use Rattle.git_date.proofs.TokenRuns.{texts_are}
 use Rattle.git_date.proofs.ClocksBack.{IsClockBack, shown_of, filled-back, filled-today, shown-back}
 use Rattle.git_date.proofs.ExactNothing.{nothing-said}
 use Rattle.git_date.specs.ApproximateBack.{CountsBack, IsReached, exactly_back}
 
 -- one step after the other
-go-on : (zone : Choices) (today : Today) (n : ℕ) (d next : Draft) (t : Token) (more : List Token) (r : Result Draft Fault)
+pub go-on : (zone : Choices) (today : Today) (n : ℕ) (d next : Draft) (t : Token) (more : List Token) (r : Result Draft Fault)
     → rule zone today d t more ≡ Ok (next, more) → steps zone today n next more ≡ r → steps zone today (suc n) d (t ∷ more) ≡ r
 unfolding steps
 go-on zone today n d next t more r is e = rw is e
 
-abbrev followed : ℕ → List ℕ → ℕ → List Token
+abbrev pub followed : ℕ → List ℕ → ℕ → List Token
 followed gap unit last = Mark gap ∷ Letters unit ∷ Mark last ∷ Letters (codes "ago") ∷ []
 
 -- the draft after the digits: they wait
-abbrev waiting_draft : ShownClock → ℕ → ℕ → Draft
+abbrev pub waiting_draft : ShownClock → ℕ → ℕ → Draft
 waiting_draft c n left = record {
   fields = clock_fields c;
   weekday = c.weekday;
@@ -59,16 +53,16 @@ waiting_draft c n left = record {
 }
 
 -- the draft after the unit
-abbrev moved_draft : ShownClock → Draft
+abbrev pub moved_draft : ShownClock → Draft
 moved_draft c = record { fields = all_fields c; weekday = c.weekday; waiting = None; understood = true; ignored = None }
 
-not-zero : (n : ℕ) → 1 ≤ n → (n == 0) ≡ false
+pub not-zero : (n : ℕ) → 1 ≤ n → (n == 0) ≡ false
 not-zero n h = grind (arith, nat_tests)
 
-not-large : (n : ℕ) → n ≤ max_small → is_too_large n ≡ false
+pub not-large : (n : ℕ) → n ≤ max_small → is_too_large n ≡ false
 not-large n h = grind (arith, nat_tests)
 
-digits-wait : (zone : Choices) (today : Today) (run : List ℕ) (gap : ℕ) (unit : List ℕ) (last : ℕ) → number run ≤ max_small → 1 ≤ number run → is_padded run ≡ false
+pub digits-wait : (zone : Choices) (today : Today) (run : List ℕ) (gap : ℕ) (unit : List ℕ) (last : ℕ) → number run ≤ max_small → 1 ≤ number run → is_padded run ≡ false
     → rule zone today (first_draft today.shown) (Digits run) (followed gap unit last)
     ≡ Ok (waiting_draft today.shown (number run) (bytes_left (Digits run ∷ followed gap unit last)), followed gap unit last)
 unfolding digits_rule group_said group_of marked_number number_waits without_ending settle
@@ -84,7 +78,7 @@ unit-moves zone c next unit last n size left means small moves =
     let same : units n size ≡ n * size = omega (arith, small) in
     rw (means, same, not-large (n * size) small, moves) refl
 
-ago-nothing : (zone : Choices) (c : ShownClock) (d : Draft) → letters_rule zone c d (codes "ago") [] ≡ Ok d
+pub ago-nothing : (zone : Choices) (c : ShownClock) (d : Draft) → letters_rule zone c d (codes "ago") [] ≡ Ok d
 unfolding letters_rule meaning_of month_named moment_named count_named weekday_named unit_named is_filler
 ago-nothing zone c d = refl
 
@@ -95,7 +89,7 @@ picked s o = record { seconds = s -ℤ o; offset = o }
 picks-is : (o s : ℤ) → is_instant s ≡ true → is_instant (s -ℤ o) ≡ true → (one_offset o).picks s ≡ Some (picked s o)
 picks-is o s a b = rw (a, b) refl
 
-shown-is : (o n : ℤ) → is_instant n ≡ true → IsClockBack (n +ℤ o) → shown_in (one_offset o) n ≡ Some (shown_of (n +ℤ o))
+pub shown-is : (o n : ℤ) → is_instant n ≡ true → IsClockBack (n +ℤ o) → shown_in (one_offset o) n ≡ Some (shown_of (n +ℤ o))
 unfolding shown_in
 shown-is o n a h = rw a (shown-back (n +ℤ o) h)
 
@@ -109,7 +103,7 @@ pub record AreClocks (o now : ℤ) (back : ℕ) : Type 0 where
   pub told_shown : IsClockBack (now -ℤ pos back +ℤ o)
   pub since_1970 : pos 0 ≤ℤ (now -ℤ pos back)
 
-are-clocks : (o : Offset) (now : ℤ) (back : ℕ) → is_instant now ≡ true → IsReached now o.seconds back → AreClocks o.seconds now back
+pub are-clocks : (o : Offset) (now : ℤ) (back : ℕ) → is_instant now ≡ true → IsReached now o.seconds back → AreClocks o.seconds now back
 are-clocks o now back instant h =
     let range = o.in_range in
     let within = instant_holds now instant in
@@ -126,13 +120,13 @@ are-clocks o now back instant h =
     }
 
 module _ (o now : ℤ) (back : ℕ) (are : AreClocks o now back) where
-  abbrev today_shown : ShownClock
+  abbrev pub today_shown : ShownClock
   today_shown = shown_of (now +ℤ o)
 
   abbrev told_shown : ShownClock
   told_shown = shown_of (now -ℤ pos back +ℤ o)
 
-  filled-now : filled_time (one_offset o) today_shown (clock_fields today_shown) ≡ Some (record { seconds = now; offset = o })
+  pub filled-now : filled_time (one_offset o) today_shown (clock_fields today_shown) ≡ Some (record { seconds = now; offset = o })
   unfolding filled_time
   filled-now =
       let same : now +ℤ o -ℤ o ≡ now = omega (arith, signed_arith) in
@@ -148,7 +142,7 @@ module _ (o now : ℤ) (back : ℕ) (are : AreClocks o now back) where
       ∙ picks-is o (now -ℤ pos back +ℤ o) are.told_clock (subst (λ (s : ℤ). is_instant s ≡ true) (sym same) are.told_instant)
       ∙ ap (λ (s : ℤ). let t : Time = record { seconds = s; offset = o } in Some t) same
 
-  filled-moves : (n left : ℕ)
+  pub filled-moves : (n left : ℕ)
       → fill (one_offset o) today_shown (record (waiting_draft today_shown n left) { waiting = None }) back left ≡ Ok (moved_draft told_shown)
   unfolding fill moved_to
   filled-moves n left =
@@ -163,7 +157,7 @@ module _ (o now : ℤ) (back : ℕ) (are : AreClocks o now back) where
       ap (λ (t : Option Time). answer text (moved_draft told_shown) t) filled-told
       ∙ ap (λ (b : Bool). cond b (Ok (exactly_back now o back)) (Err Range)) (z_holds (pos 0) (now -ℤ pos back) are.since_1970)
 
-ends-so : (zone : Choices) (today : Today) (k : ℕ) (d : Draft) → steps zone today k d [] ≡ Ok d
+pub ends-so : (zone : Choices) (today : Today) (k : ℕ) (d : Draft) → steps zone today k d [] ≡ Ok d
 unfolding steps
 ends-so zone today k d = refl
 
@@ -211,18 +205,21 @@ module _ (o now : ℤ) (this : Now) (digits : List ℕ) (gap : ℕ) (unit : List
       ∙ answered o now (number digits * size) are text
 
 -- the text has as many bytes as tokens, or more
-long-enough : (text digits : List ℕ) (gap : ℕ) (unit : List ℕ) (last : ℕ) → tokens text ≡ Digits digits ∷ followed gap unit last → 5 ≤ length text
+pub long-enough : (text digits : List ℕ) (gap : ℕ) (unit : List ℕ) (last : ℕ) → tokens text ≡ Digits digits ∷ followed gap unit last → 5 ≤ length text
 long-enough text digits gap unit last is =
     let ago : List ℕ = last ∷ codes "ago" in
     let e : text ≡ digits ++ (gap ∷ (unit ++ ago)) = sym (texts_are text) ∙ ap texts is in
     omega (arith, ap length e, length-append digits (gap ∷ (unit ++ ago)), length-append unit ago)
 
-few : (n : ℕ) → n < 100_000_000 → n ≤ max_small
+pub few : (n : ℕ) → n < 100_000_000 → n ≤ max_small
 few n h = omega (arith, h)
 
--- what both readers make of such a text
+-- what both readers make of a text that only the approximate one reads
+abbrev pub Says : ℤ → Now → List ℕ → Approximate → Type 0
+Says o this text date = (said_by this text ≡ Err Unreadable) × (guess (one_offset o) this text ≡ Ok date)
+
 abbrev pub SaysBack : ℤ → Now → List ℕ → ℕ → Type 0
-SaysBack o this text back = (said_by this text ≡ Err Unreadable) × (guess (one_offset o) this text ≡ Ok (exactly_back this.seconds o back))
+SaysBack o this text back = Says o this text (exactly_back this.seconds o back)
 
 -- by the digits' own number
 by-digits : (this : Now) (text : List ℕ) (o : Offset) (count size : ℕ) → is_instant this.seconds ≡ true → (says : CountsBack text count size)

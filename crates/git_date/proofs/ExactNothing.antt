@@ -1,7 +1,6 @@
 -- The exact reader reads nothing in `n UNIT ago`: it knows no clock with a year.
-use Rattle.std.proofs.Common.{◌≡◌, ◌∙◌, ◌≤◌, ◌<◌, ℕ, suc, ◌+◌, ◌*◌, ◌/◌, ◌%◌, nat_lt, nat_le, Bool, true, false, cond, ℤ, pos, List, [], ◌∷◌, length, Option, Some, None, Result, Ok, Err, option_map, is_some, is_none, refl, sym, ap, ap₂, arith}
+use Rattle.std.proofs.Common.{◌≡◌, ◌∙◌, ◌<◌, ℕ, suc, ◌/◌, ◌%◌, nat_le, Bool, true, false, cond, ℤ, List, [], ◌∷◌, length, Option, Some, None, Result, Ok, Err, option_map, is_none, refl, ap, ap₂, arith}
 use Rattle.std.specs.Prelude.{codes, ◌==◌, ◌&&◌, ◌||◌}
-use Rattle.std.specs.Option.{option_or}
 use Rattle.std.proofs.lemmas.Bool.Decides.{nat_tests}
 use Rattle.gix_date.specs.Text.Characters.{plus, minus, newline}
 use Rattle.gix_date.specs.Text.Front.{◌>>=◌}
@@ -14,9 +13,9 @@ use Rattle.git_date.specs.Groups.{group_of, marked_number, without_fraction}
 use Rattle.git_date.specs.Names.{month_named, is_weekday, zone_named}
 use Rattle.git_date.specs.Numbers.{number, is_too_large}
 use Rattle.git_date.specs.Offsets.{at_text}
-use Rattle.git_date.specs.Reading.{ended, mark_rule, sign_rule, rule, nothing_read, read_on, and_then, steps, reading_of, fields_said, by_seconds, at_or_fields, said_by}
-use Rattle.git_date.specs.Tokens.{Token, Letters, Digits, Mark, tokens, is_end, bytes_left}
-use Rattle.git_date.specs.Words.{with_zone, morning, afternoon, is_filler, with_word, letters_rule, half_or_filler, zone_or_half, month_or_other, without_ending}
+use Rattle.git_date.specs.Reading.{ended, sign_rule, nothing_read, read_on, and_then, steps, reading_of, fields_said, by_seconds, at_or_fields, said_by}
+use Rattle.git_date.specs.Tokens.{Token, Letters, Digits, Mark, tokens}
+use Rattle.git_date.specs.Words.{with_zone, morning, is_filler, with_word, letters_rule, half_or_filler, zone_or_half, without_ending}
 use Rattle.git_date.specs.declared.approximate.meanings.Meaning.{Meaning}
 use Rattle.git_date.specs.declared.approximate.meanings.Meaning.TheVariants.{Month, Back, Never, Hour, Morning, Afternoon, Count}
 use Rattle.git_date.specs.declared.approximate.meanings.Meaning.TheVariants as meaning

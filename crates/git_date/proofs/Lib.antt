@@ -30,7 +30,26 @@ pub mod ExactOnce
 pub mod ClocksBack
 pub mod ExactNothing
 pub mod ExactBack
+pub mod RawBack
+pub mod RelativeAges
+pub mod RelativeTexts
+pub mod MonthsBack
+pub mod LessMonths
+pub mod MonthsTold
+pub mod MonthsRead
+pub mod PairsNothing
+pub mod PairsRead
+pub mod RelativeMonths
+pub mod RelativeBack
+pub mod HumanTexts
+pub mod MonthsAgo
+pub mod Bare
+pub mod Spoken
+pub mod HeardTexts
+pub mod Usual
 mod ApproximateRows
 mod BackRows
+mod RelativeRows
 mod ReadRows
 mod ShowRows
+mod HeardRows

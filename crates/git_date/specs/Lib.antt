@@ -18,6 +18,7 @@ pub mod ApproximateRules
 pub mod Approximate
 pub mod ApproximateExpiry
 pub mod ApproximateBack
+pub mod Heard
 pub mod ApproximateComputing
 pub mod Views
 pub mod Computing
@@ -30,3 +31,5 @@ pub mod ShowAges
 pub mod ShowTexts
 pub mod ShowHuman
 pub mod Show
+pub mod RelativeBack
+pub mod HumanTexts

@@ -10,6 +10,7 @@ use Rattle.gix_date.specs.Relative.Steps.{zone_of}
 use Rattle.git_date.specs.Approximate.{exact_or_guess, guess}
 use Rattle.git_date.specs.ApproximateZones.{Choices, AreChoices, one_offset}
 use Rattle.git_date.specs.Dates.{now_of}
+use Rattle.git_date.specs.Heard.{told}
 use Rattle.git_date.specs.Outcome.{DateOutcome}
 use Rattle.git_date.specs.Reading.{said_by}
 use Rattle.git_date.specs.declared.approximate.answer.Approximate.{Approximate}
@@ -21,7 +22,9 @@ use Rattle.git_date.proofs.ApproximateAlike.{guess-in-any-case}
 use Rattle.git_date.proofs.FixedChoices.{fixed-choices, choices-once}
 use Rattle.git_date.proofs.ExactBack.{counted-back}
 use Rattle.git_date.proofs.ExactOnce.{date-once}
-use Rattle.git_date_laws.specs.ApproximateLaws.{HasExactAnswer, HasOneAnswer, IsExactlyBack, HasAnswerInAnyCase}
+use Rattle.git_date.proofs.HeardTexts.{guesses-alike}
+use Rattle.git_date.proofs.Usual.{guess-usual}
+use Rattle.git_date_laws.specs.ApproximateLaws.{HasExactAnswer, HasOneAnswer, IsExactlyBack, HasAnswerInAnyCase, IgnoresMarks, IgnoresNoWord}
 
 abbrev exact_of : Zoned → List ℕ → Choices → Result ReadDate DateError → Result Approximate DateError
 exact_of moment text zone exact = exact_or_guess exact (guess zone (now_of moment) text)
@@ -41,7 +44,7 @@ whole-instant n range =
     let part = one_part n in
     instant_from (whole_seconds n) (omega (arith, signed_arith, range, part), omega (arith, signed_arith, range, part))
 
-moment-instant : (moment : Zoned) → is_instant (whole_seconds (zoned_nanos moment)) ≡ true
+pub moment-instant : (moment : Zoned) → is_instant (whole_seconds (zoned_nanos moment)) ≡ true
 moment-instant moment = whole-instant (zoned_nanos moment) (plain_zoned moment).timestamp.in_range
 
 pub exactly_backs : (moment : Zoned) (text : List ℕ) → IsExactlyBack moment text
@@ -59,3 +62,23 @@ same_in_any_case moment text other result again same h g =
     h.is ∙ ap (exact_of moment text h.zone) (date-once tz (said_by (now_of moment) other) h.exact g.exact here g.reads)
     ∙ ap (λ (zone : Choices). exact_of moment text zone g.exact) (choices-once tz h.zone g.zone h.are_choices g.are_choices)
     ∙ ap (exact_or_guess g.exact) (guess-in-any-case g.zone (now_of moment) text other same) ∙ sym g.is
+
+-- an unreadable text has its guess
+guessed : (moment : Zoned) (text : List ℕ) (zone : Choices) (exact : Result ReadDate DateError) → DateOutcome (zone_of moment) (said_by (now_of moment) text) exact
+    → DateOutcome (zone_of moment) (said_by (now_of moment) text) (Err Unreadable)
+    → exact_or_guess exact (guess zone (now_of moment) text) ≡ guess zone (now_of moment) text
+guessed moment text zone exact reads unreadable =
+    ap (λ (x : Result ReadDate DateError). exact_or_guess x (guess zone (now_of moment) text))
+    (date-once (zone_of moment) (said_by (now_of moment) text) exact (Err Unreadable) reads unreadable)
+
+pub ignores-marks : (moment : Zoned) (text : List ℕ) → IgnoresMarks moment text
+ignores-marks moment text other result again same none nothing h g =
+    let now = now_of moment in
+    ap told (h.is ∙ guessed moment text h.zone h.exact h.reads none)
+    ∙ ap (λ (zone : Choices). told (guess zone now text)) (choices-once (zone_of moment) h.zone g.zone h.are_choices g.are_choices)
+    ∙ guesses-alike g.zone now text other same
+    ∙ ap told (sym (g.is ∙ guessed moment other g.zone g.exact g.reads nothing))
+
+pub ignores-no-word : (moment : Zoned) (text : List ℕ) → IgnoresNoWord moment text
+ignores-no-word moment text date unreadable h none =
+    guess-usual h.zone (now_of moment) text date (sym (h.is ∙ guessed moment text h.zone h.exact h.reads unreadable)) none

@@ -1,19 +1,27 @@
 -- Laws of dates as people write them.
-use Rattle.std.specs.Prelude.{◌≡◌, ℕ, ◌*◌, true, List, Result, Ok}
+use Rattle.std.specs.Prelude.{◌≡◌, ℕ, ◌*◌, true, List, [], ◌∷◌, pos, ◌≤ℤ◌, Some, None, Result, Ok, Err}
 use Rattle.jiff.specs.Types.{Offset}
-use Rattle.jiff.specs.Words.{fixed_zone}
+use Rattle.jiff.specs.Words.{fixed_zone, zoned_nanos}
 use Rattle.jiff.specs.declared.zoned.Zoned.{Zoned}
+use Rattle.gix_date.specs.Careful.Outcome.{First, careful_reading, CarefulOutcome}
+use Rattle.gix_date.specs.Families.Answer.{Relative}
+use Rattle.gix_date.specs.Relative.FixedZones.{less_seconds, less_months}
 use Rattle.gix_date.specs.Relative.Steps.{zone_of}
 use Rattle.gix_date.specs.Text.Names.{is_name}
+use Rattle.gix_date.specs.declared.error.CarefulError.{CarefulError}
+use Rattle.gix_date.specs.declared.parsing.careful.CarefulOptions.{CarefulOptions}
+use Rattle.gix_date.specs.declared.time.Time.{Time}
 use Rattle.git_date.specs.Approximate.{ApproximateOutcome, exact_or_guess, guess}
-use Rattle.git_date.specs.ApproximateBack.{CountsBack, IsReached, exactly_back}
+use Rattle.git_date.specs.ApproximateBack.{CountsBack, CountsMonths, IsReached, exactly_back}
 use Rattle.git_date.specs.ApproximateZones.{one_offset}
 use Rattle.git_date.specs.Dates.{now_of}
+use Rattle.git_date.specs.Heard.{heard, told, are_usual}
 use Rattle.git_date.specs.Outcome.{DateOutcome}
 use Rattle.git_date.specs.Reading.{said_by}
 use Rattle.git_date.specs.declared.approximate.answer.Approximate.{Approximate}
 use Rattle.git_date.specs.declared.date.ReadDate.{ReadDate}
 use Rattle.git_date.specs.declared.error.DateError.{DateError}
+use Rattle.git_date.specs.declared.error.DateError.TheVariants.{Unreadable}
 
 -- this is a result of `parse_date`, of `approxidate`
 abbrev pub Reads : Zoned → List ℕ → Result ReadDate DateError → Type 0
@@ -44,3 +52,36 @@ abbrev pub HasAnswerInAnyCase : Zoned → List ℕ → Type 0
 HasAnswerInAnyCase moment text =
     (other : List ℕ) (result again : Result Approximate DateError) → is_name text other ≡ true → ApproximateOutcome moment text result
     → ApproximateOutcome moment other again → result ≡ again
+
+-- texts that `parse_date` does not read, and of which the same is heard, have the same result, but for places
+abbrev pub IgnoresMarks : Zoned → List ℕ → Type 0
+IgnoresMarks moment text =
+    (other : List ℕ) (result again : Result Approximate DateError) → heard text ≡ heard other → Reads moment text (Err Unreadable)
+    → Reads moment other (Err Unreadable) → ApproximateOutcome moment text result → ApproximateOutcome moment other again
+    → told result ≡ told again
+
+-- where nothing is ignored of a text that `parse_date` does not read, all its letters are usual
+abbrev pub IgnoresNoWord : Zoned → List ℕ → Type 0
+IgnoresNoWord moment text =
+    (date : Approximate) → Reads moment text (Err Unreadable) → ApproximateOutcome moment text (Ok date) → date.ignored ≡ None
+    → are_usual text ≡ true
+
+-- In a zone of one offset `parse_carefully` and `approxidate` answer the same time to `n UNIT ago`, where both take the word
+-- for the same seconds, and nothing is ignored.
+abbrev pub AgreesWithCareful : CarefulOptions → Zoned → List ℕ → Type 0
+AgreesWithCareful options moment text =
+    (o : Offset) (count size : ℕ) (careful : Result Time CarefulError) (result : Result Approximate DateError)
+    → zone_of moment ≡ fixed_zone o → CountsBack text count size → IsReached (now_of moment).seconds o.seconds (count * size)
+    → careful_reading options text ≡ First (Some (Relative (less_seconds ((pos count, pos size) ∷ []))))
+    → CarefulOutcome (careful_reading options text) (Some moment) careful → ApproximateOutcome moment text result
+    → (time : Time) × (careful ≡ Ok time) × (result ≡ Ok (record { time = time; understood = true; ignored = None }))
+
+-- In a zone of one offset, at a moment since 1970, both answer the same time to `n months ago` and `n years ago`, where both
+-- answer, and nothing is ignored: the day of the month stays, and days past its end go on into the next.
+abbrev pub AgreesOnMonths : CarefulOptions → Zoned → List ℕ → Type 0
+AgreesOnMonths options moment text =
+    (o : Offset) (count size : ℕ) (time : Time) (date : Approximate) → zone_of moment ≡ fixed_zone o → CountsMonths text count size
+    → pos 0 ≤ℤ zoned_nanos moment → IsReached (now_of moment).seconds o.seconds 0
+    → careful_reading options text ≡ First (Some (Relative (less_months ((pos count, pos size) ∷ []))))
+    → CarefulOutcome (careful_reading options text) (Some moment) (Ok time) → ApproximateOutcome moment text (Ok date)
+    → date ≡ record { time = time; understood = true; ignored = None }

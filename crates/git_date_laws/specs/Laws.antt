@@ -1,19 +1,25 @@
 -- Laws of dates as Git reads them.
-use Rattle.std.specs.Prelude.{◌≡◌, ◌↔◌, ℕ, ℤ, true, false, List, [], ◌∷◌, ◌++◌, Some, Result}
+use Rattle.std.specs.Prelude.{◌≡◌, ◌↔◌, ℕ, ℤ, true, false, List, [], ◌∷◌, ◌++◌, Some, None, Result, Ok}
 use Rattle.jiff.specs.Types.{TimeZone}
 use Rattle.jiff.specs.declared.zoned.Zoned.{Zoned}
-use Rattle.gix_date.specs.Text.Characters.{newline}
+use Rattle.gix_date.specs.Fields.Zoned.{is_instant}
+use Rattle.gix_date.specs.Text.Characters.{newline, at_sign}
 use Rattle.gix_date.specs.Text.Names.{is_name}
+use Rattle.gix_date.specs.Relative.Steps.{zone_of}
 use Rattle.gix_date.specs.declared.time.Time.{Time}
 use Rattle.git_date.specs.Dates.{now_of}
 use Rattle.git_date.specs.Lines.{AreComplete}
+use Rattle.git_date.specs.Modes.{own}
 use Rattle.git_date.specs.Moments.{has_day_month, HasNoDayMonth}
 use Rattle.git_date.specs.Printed.{IsGitTime, AreReadBack}
+use Rattle.git_date.specs.Show.{shown}
+use Rattle.git_date.specs.ShowClocks.{Moment}
 use Rattle.git_date.specs.Tokens.{Token, Letters, Digits, tokens}
 use Rattle.git_date.specs.Reading.{said_by}
 use Rattle.git_date.specs.Outcome.{DateOutcome, said_offset}
 use Rattle.git_date.specs.declared.date.ReadDate.{ReadDate}
 use Rattle.git_date.specs.declared.error.DateError.{DateError}
+use Rattle.git_date.specs.declared.mode.DateKind.TheVariants.{Raw}
 
 -- a token before others: they do not begin with another run of the same kind
 abbrev pub IsApart : Token → List Token → Type 0
@@ -56,3 +62,9 @@ IsWithoutDayMonth moment text = has_day_month (tokens text) ≡ false → HasNoD
 -- what the six named formats that have a clock print of such a time is read back
 abbrev pub ReadsBack : Zoned → Time → Type 0
 ReadsBack moment t = IsGitTime t → AreReadBack (now_of moment) t
+
+-- what `raw` shows of an instant is read after `@` as that time, and nothing of it is ignored
+abbrev pub ReadsRawBack : Zoned → Time → Type 0
+ReadsRawBack moment t =
+    (now : Moment) (text : List ℕ) (result : Result ReadDate DateError) → is_instant t.seconds ≡ true → shown now (own Raw) t ≡ Some text
+    → DateOutcome (zone_of moment) (said_by (now_of moment) (at_sign ∷ text)) result → result ≡ Ok (record { time = t; ignored = None })

@@ -1,7 +1,8 @@
 //! Laws of dates as people write them.
-ghost use Rattle.git_date_laws.specs.ApproximateLaws.{HasExactAnswer, HasOneAnswer, IsExactlyBack, HasAnswerInAnyCase};
+ghost use Rattle.git_date_laws.specs.ApproximateLaws.{HasExactAnswer, HasOneAnswer, IsExactlyBack, HasAnswerInAnyCase, AgreesWithCareful, AgreesOnMonths, IgnoresMarks, IgnoresNoWord};
+ghost use Rattle.git_date_laws.specs.RelativeLaws.{IsReadNear, IsReadAsNow};
 
-use gix_date::Zoned;
+use gix_date::{CarefulOptions, Time, Zoned};
 
 /// Where [`git_date::parse_date`] reads a text, [`git_date::approxidate`] has its answer, and understands.
 pub fn exact_answer(text: &str, now: &Zoned<'_>)
@@ -14,6 +15,8 @@ pub fn one_answer(text: &str, now: &Zoned<'_>)
 {}
 
 /// In a zone of one offset `n UNIT ago`, of seconds to weeks, is exactly that many seconds before now, and nothing is ignored.
+/// The count is 1 or more, below 100000000 and not of eight digits: [`git_date::parse_date`] takes larger numbers for seconds
+/// since 1970, and eight digits for a date. It has no leading 0 in three digits or more, which Git ignores.
 pub fn exactly_back(text: &str, now: &Zoned<'_>)
     ensures { IsExactlyBack now.now text.now }
 {}
@@ -21,4 +24,38 @@ pub fn exactly_back(text: &str, now: &Zoned<'_>)
 /// Letter case changes no answer of [`git_date::approxidate`].
 pub fn approximate_letter_case(text: &str, now: &Zoned<'_>)
     ensures { HasAnswerInAnyCase now.now text.now }
+{}
+
+/// What `relative` shows of a time is read near it, at the same moment in a zone of one offset. Seconds are exact. Minutes are
+/// within 30 s, hours within 30:30 minutes, days within 12:30:30 hours. Weeks are within 3 days more, months within 22, years
+/// below five within 18, with months or without, and n more years within 183 + (n + 3) / 4. The time has to be so far from
+/// 1970. What is ahead, `in the future`, is read as now, and not understood.
+pub fn relative_read_near(time: Time, now: &Zoned<'_>)
+    ensures near { IsReadNear now.now time }
+    ensures ahead { IsReadAsNow now.now time }
+{}
+
+/// Of a text that [`git_date::parse_date`] does not read, [`git_date::approxidate`] hears the letters and digits alone, and the
+/// marks `:`, `.`, `/` and `-` directly between digits. Others change neither the time, nor whether anything was understood, nor
+/// the refusal; but letters directly before digits are no word. (What is ignored can differ: `7 th` ignores what `7th` does not.)
+pub fn marks(text: &str, now: &Zoned<'_>)
+    ensures { IgnoresMarks now.now text.now }
+{}
+
+/// Where nothing is ignored of a text that [`git_date::parse_date`] does not read, each word is one that
+/// [`git_date::approxidate`] knows, a filler, the ending of a number, or a `T` between digits.
+pub fn no_word_ignored(text: &str, now: &Zoned<'_>)
+    ensures { IgnoresNoWord now.now text.now }
+{}
+
+/// In a zone of one offset [`gix_date::parse_carefully`] and [`git_date::approxidate`] answer the same time to `n UNIT ago` of
+/// seconds to weeks, where both read that pair, and nothing is ignored.
+pub fn careful_agrees(text: &str, options: CarefulOptions, now: &Zoned<'_>)
+    ensures { AgreesWithCareful options now.now text.now }
+{}
+
+/// So they do to `n months ago` and `n years ago`, where both read that pair and answer, at a moment since 1970: both keep the
+/// day of the month, and go on into the next month past its end.
+pub fn months_agree(text: &str, options: CarefulOptions, now: &Zoned<'_>)
+    ensures { AgreesOnMonths options now.now text.now }
 {}

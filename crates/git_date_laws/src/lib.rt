@@ -3,14 +3,17 @@
 
 ghost use Rattle.std.specs.Prelude.{◌≡◌};
 ghost use Rattle.git_date.specs.Tokens.{tokens as tokens_of, texts};
-ghost use Rattle.git_date_laws.specs.Laws.{AreApart, IgnoresZone, IgnoresCase, IgnoresLines, IgnoresInstant, IsWithoutDayMonth, ReadsBack};
+ghost use Rattle.git_date_laws.specs.Laws.{AreApart, IgnoresZone, IgnoresCase, IgnoresLines, IgnoresInstant, IsWithoutDayMonth, ReadsBack, ReadsRawBack};
 
 mod approximate;
 mod shown;
 
-pub use approximate::{approximate_letter_case, exact_answer, one_answer};
+pub use approximate::{
+    approximate_letter_case, careful_agrees, exact_answer, exactly_back, marks, months_agree,
+    no_word_ignored, one_answer, relative_read_near,
+};
 use gix_date::{Time, Zoned};
-pub use shown::{ages_grow, mode_named_back, no_single_unit, shown_as_printed};
+pub use shown::{ages_grow, human_by_distance, mode_named_back, no_single_unit, shown_as_printed};
 
 /// The texts of the tokens are the text, and no two neighbours are both letters or both digits.
 #[tactic(auto, using(git_date::proofs::TokenRuns::texts_are, crate::proofs::Apart::apart))]
@@ -50,4 +53,9 @@ pub fn instants(text: &str, now: &Zoned<'_>)
 /// ignored: for times from 1970 on of the years to 2099, at whole minutes within 23:59, but for one minute behind UTC.
 pub fn read_back(time: Time, now: &Zoned<'_>)
     ensures { ReadsBack now.now time }
+{}
+
+/// What [`git_date::show_date`] shows of a time by `raw` is read after `@` as that time, whatever its offset.
+pub fn raw_read_back(time: Time, now: &Zoned<'_>)
+    ensures { ReadsRawBack now.now time }
 {}

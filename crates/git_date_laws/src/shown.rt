@@ -6,10 +6,10 @@ ghost use Rattle.git_date.specs.Modes.{mode_named, mode_name};
 ghost use Rattle.git_date.specs.ShowAges.{age_of, IsNoLess, IsNoSingle};
 ghost use Rattle.git_date.specs.ShowTexts.{unknown_offset};
 ghost use Rattle.git_date.specs.declared.mode.DateKind.TheVariants.{Short, Iso8601, Iso8601Strict, Rfc2822, Default, Raw, Unix};
-ghost use Rattle.git_date_laws.specs.Shown.{IsShownAs};
+ghost use Rattle.git_date_laws.specs.Shown.{IsShownAs, IsShownHuman};
 
 use git_date::DateMode;
-use gix_date::Time;
+use gix_date::{Time, Zoned};
 
 /// What seven kinds show of a time by its own clock is what `Time::format` prints, wherever both are defined. Of the default
 /// an unknown offset (`-0001`) is left out.
@@ -34,6 +34,12 @@ pub fn no_single_unit(seconds: u64)
 pub fn ages_grow(seconds: u64, later: u64)
     requires { seconds ≤ later }
     ensures { IsNoLess (age_of seconds) (age_of later) }
+{}
+
+/// `human` shows a clock only of a time of this year, and not of today: the time by its own clock, or the zone's if the mode is
+/// local, and today by the zone's. Of another year it shows exactly the month, the day and the year; of today the age.
+pub fn human_by_distance(time: Time, now: &Zoned<'_>)
+    ensures { IsShownHuman now.now time }
 {}
 
 /// Each mode is named by the name that it shows.

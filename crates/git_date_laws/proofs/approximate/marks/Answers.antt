@@ -1,0 +1,5 @@
+use Rattle.git_date_laws.proofs.Guesses.{ignores-marks}
+use Rattle.git_date_laws.proofs.approximate.marks.Goals as goal
+
+pub returns : goal.returns
+returns c = ignores-marks c.args.now.now c.args.text.now
