@@ -8,3 +8,4 @@ pub mod ParsedLines
 pub mod UnchangedLines
 pub mod Reading
 pub mod Reporting
+pub mod RunsOnce

@@ -18,17 +18,17 @@ use Rattle.gix_date_tool.specs.Progress.{Stage, first_stage, IsReady, SendsAll, 
 use Rattle.gix_date_tool.proofs.Sending.{Takes-all_sent, Puts-sent, PutsProperPrefix-sent}
 use Rattle.gix_date_tool.proofs.Taking.{Sends-replies, Replied-map, TakesIn-nil, TakesIn-then, TakesIn-sent}
 
-Consumes-nil : (known : Option (List ℕ)) → Consumes known known []
+pub Consumes-nil : (known : Option (List ℕ)) → Consumes known known []
 Consumes-nil None = tt
 Consumes-nil (Some xs) = refl
 
-Consumes-append : (old mid new : Option (List ℕ)) (xs ys : List ℕ) → Consumes old mid xs → Consumes mid new ys → Consumes old new (xs ++ ys)
+pub Consumes-append : (old mid new : Option (List ℕ)) (xs ys : List ℕ) → Consumes old mid xs → Consumes mid new ys → Consumes old new (xs ++ ys)
 Consumes-append None mid new xs ys h k = tt
 Consumes-append (Some us) None new xs ys h k = absurd h
 Consumes-append (Some us) (Some vs) None xs ys h k = absurd k
 Consumes-append (Some us) (Some vs) (Some ws) xs ys h k = h ∙ ap (λ zs. xs ++ zs) k ∙ sym (append_assoc xs ys ws)
 
-Consumes-kept : (old mid new : Option (List ℕ)) (xs : List ℕ) → Consumes old mid xs → Keeps mid new → Consumes old new xs
+pub Consumes-kept : (old mid new : Option (List ℕ)) (xs : List ℕ) → Consumes old mid xs → Keeps mid new → Consumes old new xs
 Consumes-kept None mid new xs h k = tt
 Consumes-kept (Some us) None new xs h k = absurd h
 Consumes-kept (Some us) (Some vs) None xs h k = absurd k

@@ -10,7 +10,7 @@ use Rattle.gix_date_tool.specs.declared.outcome.Outcome.{Outcome}
 use Rattle.gix_date_tool.specs.declared.outcome.Outcome.TheVariants.{Fault, Shown}
 use Rattle.gix_date_tool.specs.Messages.{fault_words, cause_words, wrong_words, message, message_of, WritesMessage, Reports}
 use Rattle.gix_date_tool.specs.Outbox.{Output, Puts, PutsProperPrefix, Sends}
-use Rattle.gix_date_tool.specs.Run.{Change, change}
+use Rattle.gix_date_tool.specs.Run.{Change, change, IsWritten}
 use Rattle.gix_date_tool.proofs.Sending.{Puts-sent, PutsProperPrefix-sent}
 
 -- a refusal, where nothing waited before
@@ -25,6 +25,17 @@ sent-is-written a b c {text = text} (Ok u) none put sent all =
     let whole : text ≡ h.sent = ap (λ xs. xs ++ text) (sym none) ∙ h.cut ∙ ap (λ xs. h.sent ++ xs) all ∙ append-nil h.sent in
     inl (subst (Takes a.sink c.sink) (sym whole) h.taken)
 sent-is-written a b c (Err kind) none put sent all = refused-is-written none (PutsProperPrefix-sent put sent)
+
+-- those two, by the answer of the sink
+pub refused-is_written : {a b : Output} {text : List ℕ} {kind : ErrorKind} → a.unsent ≡ [] → PutsProperPrefix a b text kind → IsWritten (change a.sink b.sink) text (Err kind)
+refused-is_written {a = a} {b = b} {text = text} none h = (subst (TakesProperPrefix a.sink b.sink) (ap (λ xs. xs ++ text) none) h.taken, h.fault)
+
+pub sent-at_once : (a b c : Output) {text : List ℕ} (r : Result (Unit {0}) ErrorKind) → a.unsent ≡ [] → Puts a b text → Sends b c [] r → OnOk r (c.unsent ≡ []) → IsWritten (change a.sink c.sink) text r
+sent-at_once a b c {text = text} (Ok u) none put sent all =
+    let h = Puts-sent put sent in
+    let whole : text ≡ h.sent = ap (λ xs. xs ++ text) (sym none) ∙ h.cut ∙ ap (λ xs. h.sent ++ xs) all ∙ append-nil h.sent in
+    subst (Takes a.sink c.sink) (sym whole) h.taken
+sent-at_once a b c (Err kind) none put sent all = refused-is_written none (PutsProperPrefix-sent put sent)
 
 -- the pieces of a fault's line
 pub fault-reported : (telling : Change) (outcome : Outcome) (fault : ToolError) (words cause : List ℕ)

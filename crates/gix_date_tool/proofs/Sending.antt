@@ -11,7 +11,7 @@ use Rattle.gix_date.proofs.Text.KnownBytes.{Appends-append}
 use Rattle.gix_date_tool.specs.Outbox.{Output, pieces_text, all_sent, Puts, PutsProperPrefix, Sends}
 
 -- nothing was appended
-Appends-nil : (known : Option (List ℕ)) → Appends known known []
+pub Appends-nil : (known : Option (List ℕ)) → Appends known known []
 Appends-nil None = tt
 Appends-nil (Some xs) = sym (append-nil xs)
 

@@ -8,3 +8,4 @@ pub mod Kinds
 pub mod Messages
 pub mod Program
 pub mod Signed
+pub mod Laws

@@ -66,7 +66,7 @@ impl WrongWords {
 
 /// Why NOW is no moment.
 #[derive(Clone, Copy)]
-pub(crate) enum NoMoment {
+pub enum NoMoment {
     /// No form that a date may have holds it, or its offset is above what a formatted date may have.
     UnknownFormat,
     /// It is raw, or an at text, but for an offset that is no quarter of an hour or above 14:45.
@@ -81,7 +81,7 @@ pub(crate) enum NoMoment {
 
 impl NoMoment {
     /// What is said of it.
-    pub(crate) fn text(self) -> &'static str
+    pub fn text(self) -> &'static str
         ensures { result.now ≡ no_moment_words self }
     {
         match self {
@@ -160,8 +160,9 @@ fn request_of(mode: Mode, more: &[String]) -> Request
     }
 }
 
-/// The time that a text is a moment of, or why it is none.
-fn moment(text: &str) -> Result<Time, NoMoment>
+/// The time that a text is a moment of, or why it is none. A moment is a date that [`gix_date::parse`] reads without a moment, and
+/// [`Time::to_zoned`] converts. Takes no memory.
+pub fn moment(text: &str) -> Result<Time, NoMoment>
     ensures answer { result ≡ moment_or_why text.now }
     ensures converts { IfOk result IsConvertible }
 {

@@ -24,7 +24,7 @@ pub enum ToolError {
 
 impl ToolError {
     /// What has failed, and after too many lines how to go on.
-    pub(crate) fn text(&self) -> &'static str
+    pub fn text(&self) -> &'static str
         ensures { result.now ≡ fault_words self.now }
     {
         match self {
@@ -39,7 +39,7 @@ impl ToolError {
     }
 
     /// What the fault of a reader or writer is called, and nothing of another.
-    pub(crate) fn cause(&self) -> &'static str
+    pub fn cause(&self) -> &'static str
         ensures { result.now ≡ cause_words self.now }
     {
         match self {

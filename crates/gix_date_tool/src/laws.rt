@@ -1,6 +1,7 @@
 //! Laws, each the contract of a function that does nothing.
 ghost use Rattle.std.specs.Prelude.{◌≡◌, ◌↔◌, ◌++◌, ◌∷◌, [], IsTrue, codes};
 ghost use Rattle.gix_date.specs.Text.Characters.{newline};
+ghost use Rattle.gix_date_tool.specs.Laws.{RunsAreUnique, StatusesAreUnique};
 ghost use Rattle.gix_date_tool.specs.declared.lines.TheConstants.{MAX_LINE_LEN, MAX_LINES};
 ghost use Rattle.gix_date_tool.specs.declared.program.TheConstants.{USAGE};
 
@@ -26,4 +27,14 @@ pub fn clones()
 pub fn equality()
     ensures mode { (a b : Mode) → IsTrue (⟦<Mode as PartialEq>⟧.eq a b) ↔ (a ≡ b) }
     ensures status { (a b : Status) → IsTrue (⟦<Status as PartialEq>⟧.eq a b) ↔ (a ≡ b) }
+{}
+
+/// Mode, moment, the input and what the writer had taken determine the count and the output of a run that ends well.
+pub fn runs_are_unique()
+    ensures { RunsAreUnique }
+{}
+
+/// Its words determine the status of a command that does not fail.
+pub fn statuses_are_unique()
+    ensures { StatusesAreUnique }
 {}

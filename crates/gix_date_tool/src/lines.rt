@@ -6,10 +6,10 @@ ghost use Rattle.gix_date_tool.specs.Lines.{IsLine, SplitsAreUnique};
 use memchr::memchr;
 
 /// The most bytes that a line has, without its newline.
-pub(crate) const MAX_LINE_LEN: usize = 65536;
+pub const MAX_LINE_LEN: usize = 65536;
 
 /// The most lines that an input has.
-pub(crate) const MAX_LINES: u64 = 1_000_000;
+pub const MAX_LINES: u64 = 1_000_000;
 
 /// An input has one way to be split into lines.
 pub fn lines_are_unique()
@@ -17,7 +17,7 @@ pub fn lines_are_unique()
 {}
 
 /// The bytes before the first newline, and those after it, where there is one.
-pub(crate) fn split_line(bytes: &[u8]) -> Option<(&[u8], &[u8])>
+pub fn split_line(bytes: &[u8]) -> Option<(&[u8], &[u8])>
     ensures { MatchOption result (IsLine bytes.now)
         (λ cut. IsLine cut.0.now × (bytes.now ≡ cut.0.now ++ newline ∷ cut.1.now)) }
 {

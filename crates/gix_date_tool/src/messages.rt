@@ -27,7 +27,7 @@ pub(crate) fn report<M: Sink>(outcome: &Outcome, messages: &mut M)
 
 /// Says a text, given in pieces, by one call where the sink takes so many bytes, so that lines of programs side by side
 /// do not mix. What the sink refuses is not said.
-fn write_message<M: Sink>(pieces: &[&str], messages: &mut M)
+pub fn write_message<M: Sink>(pieces: &[&str], messages: &mut M)
     ensures { WritesMessage (change (M.known messages.old) (M.known messages.new)) (pieces_text pieces.now) }
 {
     let mut text = Outbox::new();
