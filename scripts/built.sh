@@ -60,9 +60,9 @@ is_toolchain() {
     { [ -f "$kit" ] && [ "$(cat "$kit")" = "$1" ]; } || [ "$(rt --version)" = "$1" ]
 }
 
-# The program, as it is built.
+# A program, as its crate builds it.
 name_program() {
-    made=crates/gix_date_tool_main/out/gix_date_tool_main used=''
+    made=crates/$1/out/$1 used=''
     program=$root/$made built=$root/${made%/*}/built_of
 }
 

@@ -135,3 +135,17 @@ build() {
     done
     stop 'the sources change while they are built'
 }
+
+# Builds a program, of which the toolchain runs with words what it has built.
+build_program() {
+    crate_of_program=$1
+    shift
+    needs rt
+    # shellcheck disable=SC2154
+    if [ -e "$program" ]; then
+        say "proving and building the program anew, $(why_anew); at most $how_long"
+    else
+        say "proving and building the program, once; $how_long"
+    fi
+    build build_crate "$crate_of_program" run -- "$@"
+}

@@ -1,0 +1,76 @@
+-- Texts answered one after the other.
+use Rattle.std.proofs.Common.{◌≡◌, true, false, Bool, ℕ, List, [], ◌∷◌, ◌++◌, ◌&&◌, refl, sym, ap, ◌∙◌, subst, append-nil, append_assoc, ◌+◌, ◌<◌, length, take, drop, get_or, map, string_bytes, Ok}
+use Rattle.std.proofs.lemmas.List.Concat.{flat_map-append}
+use Rattle.std.proofs.lemmas.List.Folds.{list_all-append}
+use Rattle.std.proofs.lemmas.List.{take_more, take-append-drop}
+use mathlib.Core.List.{map-append}
+use Rattle.std.specs.Global.{Global}
+use Rattle.std.specs.Prelude.{String}
+use Rattle.gix_date.specs.Devices.StreamState.{StreamState, Takes}
+use Rattle.gix_date.proofs.Text.KnownBytes.{Appends-append}
+use Rattle.gix_date_tool.specs.Lines.{with_newline}
+use Rattle.gix_date_tool.specs.Messages.{Reports}
+use Rattle.gix_date_tool.specs.Run.{change}
+use Rattle.gix_date_tool.proofs.Sending.{Appends-nil}
+use Rattle.git_date_tool.specs.Answers.{Reply, IsReply}
+use Rattle.git_date_tool.specs.Runs.{AreReplies, reply_lines, Warns, all_dates, Answered, Serves}
+use Rattle.git_date_tool.specs.declared.answers.Query.{Query}
+
+and_true : (b : Bool) → (b && true) ≡ b
+and_true true = refl
+and_true false = refl
+
+-- one more reply
+AreReplies-more : (query : Query) (texts : List (List ℕ)) (replies : List Reply) (text : List ℕ) (reply : Reply)
+    → AreReplies query texts replies → IsReply query text reply → AreReplies query (texts ++ text ∷ []) (replies ++ reply ∷ [])
+AreReplies-more query [] [] text reply h k = (k, tt)
+AreReplies-more query [] (r ∷ rs) text reply h k = absurd h
+AreReplies-more query (t ∷ ts) [] text reply h k = absurd h
+AreReplies-more query (t ∷ ts) (r ∷ rs) text reply h k = (h.0, AreReplies-more query ts rs text reply h.1 k)
+
+lines-more : (replies : List Reply) (reply : Reply) → reply_lines (replies ++ reply ∷ []) ≡ reply_lines replies ++ with_newline reply.text
+lines-more replies reply =
+    flat_map-append (λ (r : Reply). with_newline r.text) replies (reply ∷ []) ∙ ap (λ xs. reply_lines replies ++ xs) (append-nil (with_newline reply.text))
+
+Warns-more : (a b c : StreamState) (replies : List Reply) (reply : Reply) → Warns a b replies → Reports (change b c) reply.warning → Warns a c (replies ++ reply ∷ [])
+Warns-more a b c [] reply h k = (c, subst (λ s. Reports (change s c) reply.warning) h k, refl)
+Warns-more a b c (r ∷ rs) reply h k = (h.0, h.1, Warns-more h.0 b c rs reply h.2 k)
+
+dates-more : (replies : List Reply) (reply : Reply) → all_dates (replies ++ reply ∷ []) ≡ (all_dates replies && reply.is_date)
+dates-more replies reply =
+    list_all-append (λ (r : Reply). r.is_date) replies (reply ∷ []) ∙ ap (λ b. all_dates replies && b) (and_true reply.is_date)
+
+-- no text was answered yet
+pub Answered-none : (query : Query) (sink messages : StreamState) → Answered query [] (change sink sink) (change messages messages) true
+Answered-none query sink messages =
+    record { replies = []; each = tt; wrote = Appends-nil sink.bytes; warned = refl; all_read_is = refl }
+
+-- some texts, and the next
+pub Answered-more : (query : Query) (texts : List (List ℕ)) (text : List ℕ) (a b c d e f : StreamState) (all_read is_date : Bool)
+    → Answered query texts (change a b) (change d e) all_read → Serves query text (change b c) (change e f) (Ok is_date)
+    → Answered query (texts ++ text ∷ []) (change a c) (change d f) (all_read && is_date)
+Answered-more query texts text a b c d e f all_read is_date h k =
+    let reply = k.0 in
+    record {
+      replies = h.replies ++ reply ∷ [];
+      each = AreReplies-more query texts h.replies text reply h.each k.1;
+      wrote = subst (Takes a c) (sym (lines-more h.replies reply)) (Appends-append a.bytes b.bytes c.bytes (reply_lines h.replies) (with_newline reply.text) h.wrote k.2);
+      warned = Warns-more d e f h.replies reply h.warned k.3;
+      all_read_is = ap (λ x. x && is_date) h.all_read_is ∙ ap (λ x. all_dates h.replies && x) k.4 ∙ sym (dates-more h.replies reply);
+    }
+
+-- the texts up to one, and that one
+pub texts-more : (texts : List (String Global)) (i : ℕ) (d : String Global) (text : List ℕ) → i < length texts → text ≡ string_bytes (get_or texts i d)
+    → map string_bytes (take (i + 1) texts) ≡ map string_bytes (take i texts) ++ text ∷ []
+texts-more texts i d text within is =
+    ap (λ ts. map string_bytes ts) (take_more texts i d within) ∙ map-append string_bytes (take i texts) (get_or texts i d ∷ [])
+    ∙ ap (λ t. map string_bytes (take i texts) ++ t ∷ []) (sym is)
+
+-- the texts around one
+pub texts-around : (texts : List (String Global)) (i : ℕ) (d : String Global) (text : List ℕ) → i < length texts → text ≡ string_bytes (get_or texts i d)
+    → map string_bytes texts ≡ map string_bytes (take i texts) ++ text ∷ map string_bytes (drop (i + 1) texts)
+texts-around texts i d text within is =
+    let after = drop (i + 1) texts in
+    ap (λ ts. map string_bytes ts) (sym (take-append-drop (i + 1) texts)) ∙ map-append string_bytes (take (i + 1) texts) after
+    ∙ ap (λ ts. ts ++ map string_bytes after) (texts-more texts i d text within is)
+    ∙ append_assoc (map string_bytes (take i texts)) (text ∷ []) (map string_bytes after)

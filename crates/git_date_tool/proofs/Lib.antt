@@ -1,0 +1,6 @@
+pub mod Answering
+pub mod Cutting
+pub mod Following
+pub mod Words
+pub mod Reported
+pub mod Starting

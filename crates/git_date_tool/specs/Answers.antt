@@ -1,0 +1,66 @@
+-- What a text is answered by.
+use Rattle.std.specs.Prelude.{◌≡◌, ℕ, Bool, true, false, List, [], ◌∷◌, ◌++◌, Option, Some, None, Result, Ok, Err}
+use Rattle.std.specs.Fmt.{decimal}
+use Rattle.std.specs.Str.{is_utf8}
+use Rattle.gix_date.specs.Text.Characters.{space}
+use Rattle.git_date.specs.declared.approximate.answer.Approximate.{Approximate}
+use Rattle.git_date_tool.specs.Readers.{IsRead}
+use Rattle.git_date_tool.specs.Refusals.{refusal_name, refusal_place}
+use Rattle.git_date_tool.specs.Shown.{IsShown, line_text}
+use Rattle.git_date_tool.specs.Warnings.{Told, warning_of, warning_view, warning_line}
+use Rattle.git_date_tool.specs.declared.answers.Answer.{Answer}
+use Rattle.git_date_tool.specs.declared.answers.Answer.TheVariants.{Date, Refused}
+use Rattle.git_date_tool.specs.declared.answers.Query.{Query}
+use Rattle.git_date_tool.specs.declared.refusals.Refusal.{Refusal}
+use Rattle.git_date_tool.specs.declared.refusals.Refusal.TheVariants.{NotText}
+use Rattle.git_date_tool.specs.declared.shown.DateLine.{DateLine}
+
+-- the line that answers a text, the line of a warning beside it, and whether the text was read
+pub record Reply : Type 0 where
+  pub text : List ℕ
+  pub warning : Option (List ℕ)
+  pub is_date : Bool
+
+abbrev pub place_text : Option ℕ → List ℕ
+place_text None = []
+place_text (Some place) = space ∷ decimal place
+
+-- what a refusal is called, and its place
+abbrev pub refusal_text : Refusal → List ℕ
+refusal_text e = refusal_name e ++ place_text (refusal_place e)
+
+abbrev pub refused : Refusal → Reply
+refused e = record { text = refusal_text e; warning = None; is_date = false }
+
+abbrev pub dated : DateLine → Told → Reply
+dated line told = record { text = line_text line; warning = warning_line told; is_date = true }
+
+abbrev pub line_reply : Result DateLine Refusal → Told → Reply
+line_reply (Ok line) told = dated line told
+line_reply (Err e) told = refused e
+
+-- the reply to a text in which this was found
+abbrev pub IsFoundReply : Query → List ℕ → Result Approximate Refusal → Reply → Type 0
+IsFoundReply query text (Ok found) reply =
+    (line : Result DateLine Refusal) × IsShown query.shown query.now found.time (Ok line)
+    × (reply ≡ line_reply line (warning_of text found))
+IsFoundReply query text (Err e) reply = reply ≡ refused e
+
+-- the reply to a text
+abbrev pub IsTextReply : Query → List ℕ → Reply → Type 0
+IsTextReply query text reply =
+    (found : Result Approximate Refusal) × IsRead query.reader query.strict query.now text found
+    × IsFoundReply query text found reply
+
+abbrev pub IsReplyTo : Bool → Query → List ℕ → Reply → Type 0
+IsReplyTo true query line reply = IsTextReply query line reply
+IsReplyTo false query line reply = reply ≡ refused NotText
+
+-- the reply to a line, which is text or not
+unfoldable pub IsReply : Query → List ℕ → Reply → Type 0
+IsReply query line reply = IsReplyTo (is_utf8 line) query line reply
+
+-- what an answer of the code replies
+abbrev pub answer_reply : Answer → Reply
+answer_reply (Date line warning) = dated line (warning_view warning)
+answer_reply (Refused e) = refused e

@@ -1,0 +1,11 @@
+pub mod Refusals
+pub mod Readers
+pub mod Shown
+pub mod Warnings
+pub mod Answers
+pub mod Line
+pub mod Reading
+pub mod Runs
+pub mod Wrong
+pub mod Command
+pub mod Program

@@ -1,0 +1,86 @@
+-- What the readers make of a text.
+use Rattle.std.specs.Prelude.{◌≡◌, ℕ, Bool, true, List, if◌then◌else◌, Option, Some, None, Result, Ok, Err, IfSome}
+use Rattle.std.specs.Result.{result_map_both}
+use Rattle.jiff.specs.declared.zoned.Zoned.{Zoned}
+use Rattle.gix_date.specs.Careful.Outcome.{careful_reading, CarefulOutcome}
+use Rattle.gix_date.specs.Families.Order.{first_family, ParseNoAllocOutcome}
+use Rattle.gix_date.specs.Relative.Steps.{zone_of}
+use Rattle.gix_date.specs.declared.error.CarefulError.{CarefulError}
+use Rattle.gix_date.specs.declared.error.ParseError.{ParseError}
+use Rattle.gix_date.specs.declared.parsing.careful.CarefulOptions.{CarefulOptions}
+use Rattle.gix_date.specs.declared.parsing.careful.Texts.TheVariants.{Careful as CarefulTexts}
+use Rattle.gix_date.specs.declared.parsing.careful.WithoutOffset.TheVariants.{MomentsZone}
+use Rattle.gix_date.specs.declared.parsing.raw.RawOffsets.TheVariants.{Quarter}
+use Rattle.gix_date.specs.declared.time.Time.{Time}
+use Rattle.git_date.specs.Approximate.{ApproximateOutcome}
+use Rattle.git_date.specs.Dates.{now_of}
+use Rattle.git_date.specs.Outcome.{DateOutcome, IsPlaceIn}
+use Rattle.git_date.specs.Reading.{said_by}
+use Rattle.git_date.specs.declared.approximate.answer.Approximate.{Approximate}
+use Rattle.git_date.specs.declared.date.ReadDate.{ReadDate}
+use Rattle.git_date.specs.declared.error.DateError.{DateError}
+use Rattle.git_date_tool.specs.Refusals.{of_git, of_careful, of_gix}
+use Rattle.git_date_tool.specs.declared.readers.Reader.{Reader}
+use Rattle.git_date_tool.specs.declared.readers.Reader.TheVariants.{Exact, Approxidate, Careful, Gix}
+use Rattle.git_date_tool.specs.declared.refusals.Refusal.{Refusal}
+use Rattle.git_date_tool.specs.declared.refusals.Refusal.TheVariants.{NotUnderstood, Ignored}
+
+-- an exact date is understood
+abbrev pub of_exact : ReadDate → Approximate
+of_exact date = record { time = date.time; understood = true; ignored = date.ignored }
+
+-- a time of which nothing was ignored
+abbrev pub whole : Time → Approximate
+whole t = record { time = t; understood = true; ignored = None }
+
+-- how the careful reader reads: a date without an offset is in the moment's zone
+abbrev pub careful_options : CarefulOptions
+careful_options = record { raw = Quarter; without_offset = MomentsZone; texts = CarefulTexts }
+
+abbrev pub IsExactly : Zoned → List ℕ → Result Approximate Refusal → Type 0
+IsExactly now text found =
+    (result : Result ReadDate DateError) × DateOutcome (zone_of now) (said_by (now_of now) text) result
+    × (found ≡ result_map_both of_exact of_git result)
+
+abbrev pub IsApproximately : Zoned → List ℕ → Result Approximate Refusal → Type 0
+IsApproximately now text found =
+    (result : Result Approximate DateError) × ApproximateOutcome now text result × (found ≡ result_map_both (λ a. a) of_git result)
+
+abbrev pub IsCarefully : Zoned → List ℕ → Result Approximate Refusal → Type 0
+IsCarefully now text found =
+    (result : Result Time CarefulError) × CarefulOutcome (careful_reading careful_options text) (Some now) result
+    × (found ≡ result_map_both whole of_careful result)
+
+abbrev pub IsByGix : Zoned → List ℕ → Result Approximate Refusal → Type 0
+IsByGix now text found =
+    (result : Result Time ParseError) × ParseNoAllocOutcome (first_family text) (Some now) result
+    × (found ≡ result_map_both whole of_gix result)
+
+-- what a reader finds in a text at a moment, as its own library says it
+abbrev pub IsReadBy : Reader → Zoned → List ℕ → Result Approximate Refusal → Type 0
+IsReadBy Exact now text found = IsExactly now text found
+IsReadBy Approxidate now text found = IsApproximately now text found
+IsReadBy Careful now text found = IsCarefully now text found
+IsReadBy Gix now text found = IsByGix now text found
+
+abbrev pub unless_ignored : Approximate → Option ℕ → Result Approximate Refusal
+unless_ignored found None = Ok found
+unless_ignored found (Some place) = Err (Ignored place)
+
+-- what was found, unless something was not understood and has to be
+abbrev pub judged : Bool → Approximate → Result Approximate Refusal
+judged strict found =
+    if strict then (if found.understood then unless_ignored found found.ignored else Err NotUnderstood) else Ok found
+
+abbrev pub judged_if_found : Bool → Result Approximate Refusal → Result Approximate Refusal
+judged_if_found strict (Ok found) = judged strict found
+judged_if_found strict (Err e) = Err e
+
+-- what a text says at a moment
+abbrev pub IsRead : Reader → Bool → Zoned → List ℕ → Result Approximate Refusal → Type 0
+IsRead reader strict now text result =
+    (found : Result Approximate Refusal) × IsReadBy reader now text found × (result ≡ judged_if_found strict found)
+
+-- what was ignored stands in the text
+abbrev pub HasPlace : List ℕ → Approximate → Type 0
+HasPlace text found = IfSome found.ignored (IsPlaceIn text)

@@ -1,0 +1,38 @@
+-- The lines of a source, one after the other.
+use Rattle.std.specs.Prelude.{◌≡◌, ◌<◌, ℕ, ◌-◌, Bool, true, false, List, ◌++◌, take, drop, length, Some, None, Result, Ok, Err}
+use Rattle.gix_date.specs.Devices.StreamState.{StreamState, Gives, HasEnded}
+use Rattle.gix_date_tool.specs.Lines.{IsLine, with_newline}
+use Rattle.gix_date_tool.specs.declared.error.ToolError.{ToolError}
+use Rattle.gix_date_tool.specs.declared.error.ToolError.TheVariants as errors
+use Rattle.gix_date_tool.specs.declared.lines.TheConstants.{MAX_LINE_LEN}
+use Rattle.git_date_tool.specs.declared.reading.Lines.{Lines}
+
+-- what was read, and is in no line yet
+abbrev pub unread : Lines → List ℕ
+unread lines = take (lines.to - lines.from) (drop lines.from lines.bytes)
+
+-- what was read of a source and is in no line yet, and the source
+pub record Cursor : Type 0 where
+  pub unread : List ℕ
+  pub source : StreamState
+
+abbrev pub cursor : Lines → StreamState → Cursor
+cursor lines source = record { unread = unread lines; source = source }
+
+-- What is left of an input whose first line this is: it ends at a newline, or at the end of the input, or the source refused
+-- there. A line may be too long, or memory for it be refused: then it has a front of the line, and more is left of it.
+abbrev pub LineEnds : List ℕ → List ℕ → Cursor → Result Bool ToolError → Type 0
+LineEnds input line new (Ok true) = input ≡ with_newline line ++ new.unread
+LineEnds input line new (Ok false) = (input ≡ line) × HasEnded new.source × (new.source.fault ≡ None)
+LineEnds input line new (Err (errors.Read kind)) = (input ≡ line) × (new.source.fault ≡ Some kind)
+LineEnds input line new (Err errors.LineTooLong) =
+    (part : List ℕ) × (rest : List ℕ) × IsLine part × (input ≡ (line ++ part) ++ rest) × (MAX_LINE_LEN < length (line ++ part))
+LineEnds input line new (Err errors.Memory) = (rest : List ℕ) × (input ≡ line ++ rest)
+LineEnds input line new (Err _) = ⊥
+
+-- what reading the next line comes to
+pub record Reads (old new : Cursor) (line : List ℕ) (result : Result Bool ToolError) : Type 0 where
+  pub input : List ℕ
+  pub given : Gives old.source new.source input
+  pub is_line : IsLine line
+  pub ends : LineEnds (old.unread ++ input) line new result

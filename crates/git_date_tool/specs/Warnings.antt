@@ -1,0 +1,49 @@
+-- What is said beside a date.
+use Rattle.std.specs.Prelude.{ℕ, Bool, true, false, List, ◌++◌, take, drop, Option, Some, None, option_map, codes}
+use Rattle.std.specs.Borrow.{Bor}
+use Rattle.std.specs.Char.{is_ascii_alphanumeric}
+use Rattle.std.specs.Fmt.{decimal}
+use Rattle.std.specs.List.{prefix_len}
+use Rattle.gix_date_tool.specs.Lines.{with_newline}
+use Rattle.git_date.specs.declared.approximate.answer.Approximate.{Approximate}
+use Rattle.git_date_tool.specs.declared.warnings.Warning.{Warning}
+
+-- whether anything was understood, and what was ignored: its place and its word
+pub record Told : Type 0 where
+  pub understood : Bool
+  pub ignored : Option (ℕ × List ℕ)
+
+-- the letters and digits in front
+abbrev pub word_of : List ℕ → List ℕ
+word_of rest = take (prefix_len is_ascii_alphanumeric rest) rest
+
+-- those from a place on
+abbrev pub word_at : List ℕ → ℕ → List ℕ
+word_at text place = word_of (drop place text)
+
+-- what is said of what was found in a text
+abbrev pub warning_of : List ℕ → Approximate → Told
+warning_of text found =
+    record { understood = found.understood; ignored = option_map (λ place. (place, word_at text place)) found.ignored }
+
+abbrev pub ignored_view : ℕ × Bor (List ℕ) → ℕ × List ℕ
+ignored_view both = (both.0, both.1.now)
+
+-- a warning of the code
+abbrev pub warning_view : Warning → Told
+warning_view w = record { understood = w.understood; ignored = option_map ignored_view w.ignored }
+
+-- how its line begins
+abbrev pub ignored_front : Bool → List ℕ
+ignored_front true = codes "git_date: ignored from byte "
+ignored_front false = codes "git_date: nothing understood; ignored from byte "
+
+abbrev pub line_by : Bool → Option (ℕ × List ℕ) → Option (List ℕ)
+line_by understood (Some both) =
+    Some (with_newline (ignored_front understood ++ decimal both.0 ++ codes ": " ++ both.1))
+line_by true None = None
+line_by false None = Some (with_newline (codes "git_date: nothing understood"))
+
+-- the line of a warning, if there is something to say
+abbrev pub warning_line : Told → Option (List ℕ)
+warning_line told = line_by told.understood told.ignored

@@ -1,0 +1,115 @@
+//! What a text is answered by.
+ghost use Rattle.std.specs.Prelude.{◌≡◌, IfOk};
+ghost use Rattle.gix_date_tool.specs.Run.{change, IsWritten};
+ghost use Rattle.gix_date_tool.specs.Lines.{with_newline};
+ghost use Rattle.gix_date_tool.specs.Messages.{Reports};
+ghost use Rattle.git_date_tool.specs.Answers.{IsReply, IsTextReply, answer_reply, refusal_text};
+
+use crate::readers::{Reader, read};
+use crate::refusals::Refusal;
+use crate::shown::{DateLine, Shown, show};
+use crate::warnings::{Warning, warning_of};
+use gix_date::Zoned;
+use gix_date::bytes::text_of;
+use gix_date::device::Sink;
+use gix_date_tool::put_pieces;
+use std::alloc::{AllocError, Global};
+use std::io;
+
+/// What is asked of each text.
+#[derive(Clone, Copy)]
+pub struct Query<'z> {
+    /// What reads the texts.
+    pub reader: Reader,
+    /// What is shown of each date.
+    pub shown: Shown,
+    /// The moment that dates are relative to, in the zone of dates without an offset.
+    pub now: Zoned<'z>,
+    /// Whether a text is refused of which something is ignored, or nothing is understood.
+    pub strict: bool,
+}
+
+/// What a text is answered by.
+#[derive(Debug, Drop)]
+pub enum Answer<'a> {
+    /// The text of its date, and what is said beside it.
+    Date(DateLine, Warning<'a>),
+    /// Why there is none.
+    Refused(Refusal),
+}
+
+impl Answer<'_> {
+    /// Whether the text was read, and its date can be shown.
+    pub fn is_date(&self) -> bool
+        ensures { result ≡ (answer_reply self.now).is_date }
+    {
+        matches!(self, Answer::Date(_, _))
+    }
+
+    /// Writes its line.
+    pub(crate) fn put<W: Sink>(&self, out: &mut W) -> Result<(), io::ErrorKind>
+        ensures { IsWritten (change (W.known out.old) (W.known out.new))
+            (with_newline (answer_reply self.now).text) result }
+    {
+        match self {
+            Answer::Date(line, _) => put_pieces(&[line.as_str(), "\n"], out),
+            Answer::Refused(refusal) => put_refusal(*refusal, out),
+        }
+    }
+
+    /// Says what is to be said beside it. What the messages refuse is not said.
+    pub(crate) fn warn<M: Sink>(&self, messages: &mut M)
+        ensures { Reports (change (M.known messages.old) (M.known messages.new)) (answer_reply self.now).warning }
+    {
+        match self {
+            Answer::Date(_, warning) => warning.tell(messages),
+            Answer::Refused(_) => {}
+        }
+    }
+}
+
+/// Writes the line of a refusal.
+fn put_refusal<W: Sink>(refusal: Refusal, out: &mut W) -> Result<(), io::ErrorKind>
+    ensures { IsWritten (change (W.known out.old) (W.known out.new)) (with_newline (refusal_text refusal)) result }
+{
+    match refusal.place() {
+        Some(place) => {
+            let mut digits = itoa::Buffer::new();
+            put_pieces(&[refusal.name(), " ", digits.format(place), "\n"], out)
+        }
+        None => put_pieces(&[refusal.name(), "\n"], out),
+    }
+}
+
+/// The answer to a line. Memory is taken to print by a format of gix-date, and for nothing else; `Err` if it is refused.
+pub fn answer_line<'a>(
+    alloc: Global,
+    query: &Query<'_>,
+    line: &'a [u8],
+) -> Result<Answer<'a>, AllocError>
+    ensures { IfOk result (λ answer. IsReply query.entry.now line.now (answer_reply answer)) }
+{
+    match text_of(line) {
+        Some(text) => answer_text(alloc, query, text),
+        None => Ok(Answer::Refused(Refusal::NotText)),
+    }
+}
+
+/// The answer to a text.
+fn answer_text<'a>(
+    alloc: Global,
+    query: &Query<'_>,
+    text: &'a str,
+) -> Result<Answer<'a>, AllocError>
+    ensures { IfOk result (λ answer. IsTextReply query.entry.now text.now (answer_reply answer)) }
+{
+    let found = match read(query.reader, query.strict, text, query.now) {
+        Ok(found) => found,
+        Err(refusal) => return Ok(Answer::Refused(refusal)),
+    };
+    match show(alloc, query.shown, found.time, query.now) {
+        Ok(Ok(line)) => Ok(Answer::Date(line, warning_of(text, &found))),
+        Ok(Err(refusal)) => Ok(Answer::Refused(refusal)),
+        Err(AllocError) => Err(AllocError),
+    }
+}
