@@ -1,7 +1,7 @@
-/* Prints what each call of gix_date.h takes of stack and memory: bytes of a thread's stack beyond what
- * a thread that does nothing takes, requests for memory, and the most bytes that one of these asks
- * for. It is linked with --wrap=malloc,--wrap=realloc. */
-#include "gix_date.h"
+/* Prints what each call of gix_date.h and git_date.h takes of stack and memory: bytes of a thread's
+ * stack beyond what a thread that does nothing takes, requests for memory, and the most bytes that
+ * one of these asks for. It is linked with --wrap=malloc,--wrap=realloc. */
+#include "git_date.h"
 
 #include <limits.h>
 #include <pthread.h>
@@ -38,9 +38,9 @@ void *__wrap_realloc(void *block, size_t size)
 
 #define TEXT(text) (text), sizeof(text) - 1
 #define CALL(name, ...)                                                                            \
-    static void *name(void *status)                                                                \
+    static void *call_##name(void *status)                                                         \
     {                                                                                              \
-        *(uint32_t *)status = gix_date_##name(__VA_ARGS__);                                        \
+        *(uint32_t *)status = name(__VA_ARGS__);                                                   \
         return NULL;                                                                               \
     }
 
@@ -49,31 +49,59 @@ static const gix_date_time at = {1660797906, 28800};
 static const gix_date_careful_options usual = {0, 0, 0};
 static gix_date_time parsed;
 static gix_date_signature parts;
+static const git_date_mode shown = {GIT_DATE_HUMAN, true};
+static git_date_exact exact;
+static git_date_approximate guess;
+static git_date_expiry expiry;
+static git_date_mode named;
+static char long_text[60000];
 static char out[256];
 static size_t len, place;
 
-CALL(parse_header, TEXT("1660797906 +0800"), &parsed)
-CALL(write_header, &at, out, sizeof out, &len)
-CALL(parse, TEXT("Thu, 18 Aug 2022 12:45:06 +0800"), GIX_DATE_QUARTERS, &parsed)
-CALL(parse_at_offset, TEXT("1 month 2 days ago"), GIX_DATE_QUARTERS, &now, 0, &parsed)
-CALL(parse_in_posix_zone, TEXT("1 month 2 days ago"), GIX_DATE_QUARTERS, &now,
+CALL(gix_date_parse_header, TEXT("1660797906 +0800"), &parsed)
+CALL(gix_date_write_header, &at, out, sizeof out, &len)
+CALL(gix_date_parse, TEXT("Thu, 18 Aug 2022 12:45:06 +0800"), GIX_DATE_QUARTERS, &parsed)
+CALL(gix_date_parse_at_offset, TEXT("1 month 2 days ago"), GIX_DATE_QUARTERS, &now, 0, &parsed)
+CALL(gix_date_parse_in_posix_zone, TEXT("1 month 2 days ago"), GIX_DATE_QUARTERS, &now,
      TEXT("EST5EDT,M3.2.0,M11.1.0"), &parsed)
-CALL(parse_in_tzif_zone, TEXT("1 month 2 days ago"), GIX_DATE_QUARTERS, &now, zone_file, zone_len,
-     &parsed)
-CALL(parse_carefully, TEXT("Thu, 18 Aug 2022 12:45:06 +0800"), &usual, &parsed, &place)
-CALL(parse_carefully_at_offset, TEXT("1 month 2 days ago"), &usual, &now, 0, &parsed, &place)
-CALL(parse_carefully_in_posix_zone, TEXT("1 month 2 days ago"), &usual, &now,
+CALL(gix_date_parse_in_tzif_zone, TEXT("1 month 2 days ago"), GIX_DATE_QUARTERS, &now, zone_file,
+     zone_len, &parsed)
+CALL(gix_date_parse_carefully, TEXT("Thu, 18 Aug 2022 12:45:06 +0800"), &usual, &parsed, &place)
+CALL(gix_date_parse_carefully_at_offset, TEXT("1 month 2 days ago"), &usual, &now, 0, &parsed,
+     &place)
+CALL(gix_date_parse_carefully_in_posix_zone, TEXT("1 month 2 days ago"), &usual, &now,
      TEXT("EST5EDT,M3.2.0,M11.1.0"), &parsed, &place)
-CALL(parse_carefully_in_tzif_zone, TEXT("1 month 2 days ago"), &usual, &now, zone_file, zone_len,
-     &parsed, &place)
-CALL(format, &at, GIX_DATE_ISO8601, out, sizeof out, &len)
-CALL(format_or_unix, &at, GIX_DATE_DEFAULT, out, sizeof out, &len)
-CALL(format_by_pattern, &at, TEXT("%A %-d %B %Y, %H:%M"), out, sizeof out, &len)
-CALL(format_by_pattern_or_unix, &at, TEXT("%A %-d %B %Y, %H:%M"), out, sizeof out, &len)
-CALL(cut_signature, TEXT("A U Thor <author@example.com> 1660797906 +0800"), &parts)
-CALL(write_signature, TEXT("A U Thor"), TEXT("author@example.com"), &at, out, sizeof out, &len)
+CALL(gix_date_parse_carefully_in_tzif_zone, TEXT("1 month 2 days ago"), &usual, &now, zone_file,
+     zone_len, &parsed, &place)
+CALL(gix_date_format, &at, GIX_DATE_ISO8601, out, sizeof out, &len)
+CALL(gix_date_format_or_unix, &at, GIX_DATE_DEFAULT, out, sizeof out, &len)
+CALL(gix_date_format_by_pattern, &at, TEXT("%A %-d %B %Y, %H:%M"), out, sizeof out, &len)
+CALL(gix_date_format_by_pattern_or_unix, &at, TEXT("%A %-d %B %Y, %H:%M"), out, sizeof out, &len)
+CALL(gix_date_cut_signature, TEXT("A U Thor <author@example.com> 1660797906 +0800"), &parts)
+CALL(gix_date_write_signature, TEXT("A U Thor"), TEXT("author@example.com"), &at, out, sizeof out,
+     &len)
+CALL(git_date_parse_at_offset, long_text, sizeof long_text, &now, 0, &exact, &place)
+CALL(git_date_parse_in_posix_zone, long_text, sizeof long_text, &now,
+     TEXT("EST5EDT,M3.2.0,M11.1.0"), &exact, &place)
+CALL(git_date_parse_in_tzif_zone, long_text, sizeof long_text, &now, zone_file, zone_len, &exact,
+     &place)
+CALL(git_date_approxidate_at_offset, long_text, sizeof long_text, &now, 0, &guess, &place)
+CALL(git_date_approxidate_in_posix_zone, long_text, sizeof long_text, &now,
+     TEXT("EST5EDT,M3.2.0,M11.1.0"), &guess, &place)
+CALL(git_date_approxidate_in_tzif_zone, long_text, sizeof long_text, &now, zone_file, zone_len,
+     &guess, &place)
+CALL(git_date_expiry_at_offset, long_text, sizeof long_text, &now, 0, &expiry, &place)
+CALL(git_date_expiry_in_posix_zone, long_text, sizeof long_text, &now,
+     TEXT("EST5EDT,M3.2.0,M11.1.0"), &expiry, &place)
+CALL(git_date_expiry_in_tzif_zone, long_text, sizeof long_text, &now, zone_file, zone_len, &expiry,
+     &place)
+CALL(git_date_mode_named, TEXT("iso8601-strict-local"), &named)
+CALL(git_date_show_at_offset, &at, &shown, &now, 0, out, sizeof out, &len)
+CALL(git_date_show_in_posix_zone, &at, &shown, &now, TEXT("EST5EDT,M3.2.0,M11.1.0"), out,
+     sizeof out, &len)
+CALL(git_date_show_in_tzif_zone, &at, &shown, &now, zone_file, zone_len, out, sizeof out, &len)
 
-static void *is_canonical_header(void *status)
+static void *call_gix_date_is_canonical_header(void *status)
 {
     *(uint32_t *)status = gix_date_is_canonical_header(TEXT("1660797906 +0800")) ? 0 : 1;
     return NULL;
@@ -111,14 +139,51 @@ static const struct {
     const char *name;
     void *(*call)(void *);
 } calls[] = {
-#define ROW(name) {"gix_date_" #name, name}
-    ROW(parse_header), ROW(is_canonical_header), ROW(write_header), ROW(parse), ROW(parse_at_offset),
-    ROW(parse_in_posix_zone), ROW(parse_in_tzif_zone), ROW(parse_carefully),
-    ROW(parse_carefully_at_offset), ROW(parse_carefully_in_posix_zone),
-    ROW(parse_carefully_in_tzif_zone), ROW(format), ROW(format_or_unix), ROW(format_by_pattern),
-    ROW(format_by_pattern_or_unix), ROW(cut_signature), ROW(write_signature)};
+#define ROW(name) {#name, call_##name}
+    ROW(gix_date_parse_header),
+    ROW(gix_date_is_canonical_header),
+    ROW(gix_date_write_header),
+    ROW(gix_date_parse),
+    ROW(gix_date_parse_at_offset),
+    ROW(gix_date_parse_in_posix_zone),
+    ROW(gix_date_parse_in_tzif_zone),
+    ROW(gix_date_parse_carefully),
+    ROW(gix_date_parse_carefully_at_offset),
+    ROW(gix_date_parse_carefully_in_posix_zone),
+    ROW(gix_date_parse_carefully_in_tzif_zone),
+    ROW(gix_date_format),
+    ROW(gix_date_format_or_unix),
+    ROW(gix_date_format_by_pattern),
+    ROW(gix_date_format_by_pattern_or_unix),
+    ROW(gix_date_cut_signature),
+    ROW(gix_date_write_signature),
+    ROW(git_date_parse_at_offset),
+    ROW(git_date_parse_in_posix_zone),
+    ROW(git_date_parse_in_tzif_zone),
+    ROW(git_date_approxidate_at_offset),
+    ROW(git_date_approxidate_in_posix_zone),
+    ROW(git_date_approxidate_in_tzif_zone),
+    ROW(git_date_expiry_at_offset),
+    ROW(git_date_expiry_in_posix_zone),
+    ROW(git_date_expiry_in_tzif_zone),
+    ROW(git_date_mode_named),
+    ROW(git_date_show_at_offset),
+    ROW(git_date_show_in_posix_zone),
+    ROW(git_date_show_in_tzif_zone),
+};
 
-/* With a file of a zone: the table. With a second word each call is made on a stack of so many bytes. */
+/* A text of 60000 bytes: words that Git passes over, and a date at its end. */
+static void fill_long_text(const char *date)
+{
+    static const char piece[] = "xyz1 ";
+    const size_t end = sizeof long_text - strlen(date);
+    for (size_t i = 0; i < end; i++)
+        long_text[i] = piece[i % (sizeof piece - 1)];
+    memcpy(long_text + end, date, strlen(date));
+}
+
+/* With a file of a zone: the table. With a second word each call is made on a stack of so many
+ * bytes. */
 int main(int count, char **words)
 {
     FILE *file = count > 1 ? fopen(words[1], "rb") : NULL;
@@ -133,6 +198,8 @@ int main(int count, char **words)
     for (size_t i = 0; i < sizeof calls / sizeof *calls; i++) {
         if (room < STACK && strstr(calls[i].name, "_in_tzif_zone"))
             continue;
+        fill_long_text(strstr(calls[i].name, "git_date_parse") ? " 2005-04-07 10:00"
+                                                               : " last friday at noon");
         changed(calls[i].call, STACK, &status);
         requests = largest = 0;
         size_t used = changed(calls[i].call, room, &status) - idle;

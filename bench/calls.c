@@ -1,5 +1,6 @@
-/* Makes one call of gix_date.h so many times: calls KIND TEXT COUNT. The file of a zone is named by TZIF. */
-#include "gix_date.h"
+/* Makes one call of gix_date.h or git_date.h so many times: calls KIND TEXT COUNT. The file of a zone is
+ * named by TZIF. */
+#include "git_date.h"
 
 #include <stdio.h>
 #include <stdlib.h>
@@ -13,10 +14,12 @@ static const gix_date_careful_options local = {GIX_DATE_QUARTERS, GIX_DATE_MOMEN
 static char file[1 << 16];
 static size_t file_len;
 
-/* One call, by the letter of its kind. */
+/* One call, by the letter of its kind, and the number of a format or a kind of shown dates. */
 static uint32_t call(char kind, uint32_t format, const char *text, size_t len)
 {
     gix_date_time time;
+    git_date_exact exact;
+    git_date_approximate guess;
     char out[64];
     size_t out_len, place;
     switch (kind) {
@@ -40,6 +43,16 @@ static uint32_t call(char kind, uint32_t format, const char *text, size_t len)
     case 'l':
         return gix_date_parse_carefully_in_posix_zone(text, len, &local, &now, rule,
                                                       sizeof rule - 1, &time, &place);
+    case 'd':
+        return git_date_parse_at_offset(text, len, &now, 0, &exact, &place);
+    case 'a':
+        return git_date_approxidate_at_offset(text, len, &now, 0, &guess, &place);
+    case 's':
+        return git_date_show_at_offset(&day, &(git_date_mode){format, false}, &now, 0, out,
+                                       sizeof out, &out_len);
+    case 'S':
+        return git_date_show_in_posix_zone(&day, &(git_date_mode){format, true}, &now, rule,
+                                           sizeof rule - 1, out, sizeof out, &out_len);
     default:
         return gix_date_format(&day, format, out, sizeof out, &out_len);
     }
@@ -49,9 +62,9 @@ int main(int count, char **words)
 {
     if (count != 4)
         return 2;
-    /* The kind of a format has its number after the letter. */
+    /* A number may follow the letter. */
     char kind = words[1][0];
-    uint32_t format = kind == 'f' ? (uint32_t)strtoul(words[1] + 1, NULL, 10) : 0;
+    uint32_t format = (uint32_t)strtoul(words[1] + 1, NULL, 10);
     size_t len = strlen(words[2]);
     uint32_t status = 0;
     const char *name = getenv("TZIF");

@@ -2,7 +2,7 @@
  *
  * Each call is proved to do what docs/C.md says of it, for every input with valid pointers and
  * lengths. docs/C.md tells how to build and link the library, for Linux with glibc on x86-64. The
- * pages are installed in share/doc/gix_date.
+ * pages are installed in share/doc/gix_date, with an example that finds the machine's zone, now.c.
  *
  * A text is UTF-8, given by a pointer and a length, and needs no NUL. Other bytes are refused by
  * GIX_DATE_NOT_TEXT or false. With length 0 any pointer is valid; no other pointer is NULL. Outputs
@@ -81,7 +81,7 @@ enum gix_date_status {
     /* The name or the mail holds '<', '>', a newline or NUL. */
     GIX_DATE_BAD_PART = 16,
     /* The text is not careful. *place is the first byte that does not fit, or the text's length if
-     * its end is missing. */
+     * its end is missing. No other status here has a place. */
     GIX_DATE_UNCLEAR = 17
 };
 

@@ -2,37 +2,14 @@
  * folder that it runs in. A line that is empty or begins with '#' is no row. A row is a call, its
  * arguments and the answer that is due, cut by tabs; a refusal is due where the last field is '!'
  * and its name. Says which rows differ, and of each file how many there are, and which calls this
- * library lacks. */
-#include "gix_date.h"
+ * library lacks. git_rows.c makes the calls of git_date.h. */
+#include "rows.h"
 
 #include <inttypes.h>
+#include <stdarg.h>
 #include <stdio.h>
 #include <stdlib.h>
 #include <string.h>
-
-enum { MAX_FIELDS = 8, MAX_ANSWER = 8192 };
-
-/* The bytes of a field, with a NUL after them. */
-typedef struct field {
-    char *bytes;
-    size_t len;
-} field;
-
-/* Fields, and how many of them are taken. */
-typedef struct arguments {
-    field fields[MAX_FIELDS];
-    size_t count, taken;
-} arguments;
-
-typedef struct answer {
-    bool refused;
-    char bytes[MAX_ANSWER];
-    size_t len;
-} answer;
-
-/* What became of a call: its answer is there, the row has not its arguments, or there is no such
- * call here. */
-enum outcome { ANSWERED, MALFORMED, LACKING };
 
 static const struct {
     const char *name;
@@ -69,14 +46,8 @@ static const struct {
       {"Unclear", GIX_DATE_UNCLEAR},
 };
 
-#define LENGTH(array) (sizeof(array) / sizeof *(array))
-#define TEXT(field) (field).bytes, (field).len
-
 /* Calls that other callers of the rows have, and this library has not. */
 static const char *const lacking[] = {"to_zoned", "now_local"};
-
-/* The name where calls differ that have to agree. No row has it. */
-static const char APART[] = "CallsDiffer";
 
 static void fail(const char *what, const char *which)
 {
@@ -84,8 +55,7 @@ static void fail(const char *what, const char *which)
     exit(2);
 }
 
-/* The whole of a file, with a NUL after it. */
-static field read_file(const char *name)
+field read_file(const char *name)
 {
     FILE *file = fopen(name, "rb");
     field whole = {malloc(1), 0};
@@ -167,21 +137,20 @@ static bool unescape(field *text)
     return true;
 }
 
-/* The next field; one of no bytes where there is none, and then more are taken than there are. */
-static field take(arguments *row)
+field take(arguments *row)
 {
     static char none[1];
     return row->taken++ < row->count ? row->fields[row->taken - 1] : (field){none, 0};
 }
 
-static bool to_number(const char *text, int64_t *number)
+bool to_number(const char *text, int64_t *number)
 {
     char *end;
     *number = strtoll(text, &end, 10);
     return end != text && *end == 0;
 }
 
-static bool take_time(arguments *row, gix_date_time *time)
+bool take_time(arguments *row, gix_date_time *time)
 {
     int64_t offset;
     bool is_one = to_number(take(row).bytes, &time->seconds);
@@ -190,31 +159,41 @@ static bool take_time(arguments *row, gix_date_time *time)
     return is_one && time->offset == offset;
 }
 
-/* Answers a status, where it is a refusal. */
-static bool is_refused(uint32_t status, answer *told)
+void tell(answer *told, const char *format, ...)
+{
+    va_list parts;
+    va_start(parts, format);
+    told->len = (size_t)vsnprintf(told->bytes, MAX_ANSWER, format, parts);
+    va_end(parts);
+}
+
+void tell_apart(answer *told)
+{
+    told->refused = true;
+    tell(told, "%s", APART);
+}
+
+bool is_refused(uint32_t status, answer *told)
 {
     told->refused = status != GIX_DATE_OK;
     for (size_t i = 0; i < LENGTH(refusals); i++)
         if (refusals[i].number == status)
-            told->len = (size_t)snprintf(told->bytes, MAX_ANSWER, "%s", refusals[i].name);
+            tell(told, "%s", refusals[i].name);
     return told->refused;
 }
 
 static void tell_time(uint32_t status, gix_date_time time, answer *told)
 {
     if (!is_refused(status, told))
-        told->len = (size_t)snprintf(told->bytes, MAX_ANSWER, "%" PRId64 " %" PRId32, time.seconds,
-                                     time.offset);
+        tell(told, "%" PRId64 " %" PRId32, time.seconds, time.offset);
 }
 
-/* Keeps the answer where another one is the same. */
-static void agree(answer *told, const answer *other)
+void agree(answer *told, const answer *other)
 {
     if (told->refused == other->refused && told->len == other->len &&
         !memcmp(told->bytes, other->bytes, told->len))
         return;
-    told->refused = true;
-    told->len = (size_t)snprintf(told->bytes, MAX_ANSWER, "%s", APART);
+    tell_apart(told);
 }
 
 /* How a date is to be parsed: carefully by the options, or else by their rule for raw offsets. */
@@ -232,10 +211,9 @@ static void tell_date(uint32_t status, gix_date_time time, size_t place, answer 
 {
     tell_time(status, time, told);
     if (status == GIX_DATE_UNCLEAR) {
-        told->len = (size_t)snprintf(told->bytes, MAX_ANSWER, "Unclear %zu", place);
+        tell(told, "Unclear %zu", place);
     } else if (place != no_place) {
-        told->refused = true;
-        told->len = (size_t)snprintf(told->bytes, MAX_ANSWER, "%s", APART);
+        tell_apart(told);
     }
 }
 
@@ -250,6 +228,22 @@ static void parse_alone(const manner *how, field text, answer *told)
     tell_date(status, time, place, told);
 }
 
+bool is_file_name(field zone)
+{
+    return zone.len > 5 && !strcmp(zone.bytes + zone.len - 5, ".tzif");
+}
+
+bool to_moment(field moment, gix_date_instant *now, field *zone)
+{
+    char *rest;
+    now->seconds = strtoll(moment.bytes, &rest, 10);
+    now->nanoseconds = (int32_t)strtol(rest, &rest, 10);
+    if (*rest != ' ')
+        return false;
+    *zone = (field){rest + 1, strlen(rest + 1)};
+    return true;
+}
+
 /* A date parsed at an instant in a zone: an offset, the name of a TZif file, or a rule. */
 static void parse_in(const manner *how, field text, const gix_date_instant *now, field zone,
                      answer *told)
@@ -259,7 +253,7 @@ static void parse_in(const manner *how, field text, const gix_date_instant *now,
     size_t place = no_place;
     int64_t offset;
     uint32_t status, rule = options->raw_offsets;
-    if (zone.len > 5 && !strcmp(zone.bytes + zone.len - 5, ".tzif")) {
+    if (is_file_name(zone)) {
         field file = read_file(zone.bytes);
         status = how->carefully
                      ? gix_date_parse_carefully_in_tzif_zone(TEXT(text), options, now, TEXT(file),
@@ -284,16 +278,14 @@ static void parse_in(const manner *how, field text, const gix_date_instant *now,
 static bool parse_at(field moment, const manner *how, field text, answer *told)
 {
     gix_date_instant now;
-    char *rest;
+    field zone;
     if (!strcmp(moment.bytes, "none")) {
         parse_alone(how, text, told);
         return true;
     }
-    now.seconds = strtoll(moment.bytes, &rest, 10);
-    now.nanoseconds = (int32_t)strtol(rest, &rest, 10);
-    if (*rest != ' ')
+    if (!to_moment(moment, &now, &zone))
         return false;
-    parse_in(how, text, &now, (field){rest + 1, strlen(rest + 1)}, told);
+    parse_in(how, text, &now, zone, told);
     return true;
 }
 
@@ -377,10 +369,10 @@ static bool print(arguments *row, bool by_pattern, answer *told)
     if (!is_known)
         return false;
     if (is_refused(status, told)) {
-        seconds.len = (size_t)snprintf(seconds.bytes, MAX_ANSWER, "%" PRId64, time.seconds);
+        tell(&seconds, "%" PRId64, time.seconds);
         agree(&always, &seconds);
         if (also != GIX_DATE_OK || always.refused)
-            told->len = (size_t)snprintf(told->bytes, MAX_ANSWER, "%s", APART);
+            tell_apart(told);
     } else {
         always.refused = also != GIX_DATE_OK;
         agree(told, &always);
@@ -444,8 +436,7 @@ static void parse_header(field text, answer *told)
 static void is_canonical_header(field text, answer *told)
 {
     told->refused = false;
-    told->len = (size_t)snprintf(told->bytes, MAX_ANSWER, "%s",
-                                 gix_date_is_canonical_header(TEXT(text)) ? "yes" : "no");
+    tell(told, "%s", gix_date_is_canonical_header(TEXT(text)) ? "yes" : "no");
 }
 
 /* Makes the call that a row names. */
@@ -473,7 +464,7 @@ static enum outcome call(arguments *row, answer *told)
     else if (!strcmp(name, "write_signature"))
         is_right = write_signature(row, told);
     else
-        return MALFORMED;
+        return git_call(name, row, told);
     return is_right && row->taken == row->count ? ANSWERED : MALFORMED;
 }
 

@@ -1,5 +1,5 @@
 -- Texts that calls put into a buffer of the caller.
-use Rattle.std.specs.Prelude.{ℕ, List, ◌++◌, ◌^◌, ◌-◌, min, drop, length, nat_le, if◌then◌else◌, Result, Ok, Err, ok_or}
+use Rattle.std.specs.Prelude.{◌≡◌, ℕ, List, ◌++◌, ◌^◌, ◌-◌, min, drop, length, nat_le, if◌then◌else◌, Result, Ok, Err, ok_or}
 use Rattle.gix_date.specs.Header.Text.{header_text}
 use Rattle.gix_date.specs.declared.time.Time.{Time}
 use Rattle.gix_date_c.specs.Statuses.{number_of}
@@ -32,6 +32,10 @@ text_outcome text bytes =
 abbrev pub outcome_of : Result (List ℕ) Status → List ℕ → Outcome
 outcome_of (Ok text) bytes = text_outcome text bytes
 outcome_of (Err refusal) bytes = record { bytes = bytes; len = 0; status = number_of refusal }
+
+-- a call puts an answer of which this is known into a buffer
+abbrev pub Puts : (Result (List ℕ) Status → Type 0) → List ℕ → Outcome → Type 0
+Puts Answers old outcome = (answer : Result (List ℕ) Status) × Answers answer × (outcome ≡ outcome_of answer old)
 
 -- the header text of a time
 abbrev pub header_text_answer : Time → Result (List ℕ) Status

@@ -1,7 +1,13 @@
 pub mod Buffers
 pub mod Careful
+pub mod GitDates
+pub mod GitModes
+pub mod Moments
 pub mod Parsing
 pub mod Printing
+pub mod Reading
+pub mod Refusals
 pub mod Signatures
 pub mod Statuses
+pub mod Stores
 pub mod Times

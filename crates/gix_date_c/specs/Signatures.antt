@@ -7,10 +7,10 @@ use Rattle.gix_signature.specs.Signature.{Parts, IsCut, HasNoCut}
 use Rattle.gix_signature.specs.Writing.{line_due}
 use Rattle.gix_signature.specs.declared.error.SignatureError.{SignatureError}
 use Rattle.gix_signature.specs.declared.error.SignatureError.TheVariants as refusals
-use Rattle.gix_date_c.specs.Statuses.{number_of}
+use Rattle.gix_date_c.specs.Stores.{Stores}
 use Rattle.gix_date_c.specs.declared.signature.CSignature.{CSignature}
 use Rattle.gix_date_c.specs.declared.status.Status.{Status}
-use Rattle.gix_date_c.specs.declared.status.Status.TheVariants.{Done, NotText, NoSignature, OffsetTooWide, BadPart, NoRoom}
+use Rattle.gix_date_c.specs.declared.status.Status.TheVariants.{NotText, NoSignature, OffsetTooWide, BadPart, NoRoom}
 
 -- what cutting bytes into the parts of a signature line comes to
 abbrev pub IsCutAnswer : List ℕ → Result Parts Status → Type 0
@@ -28,10 +28,9 @@ spans_of p =
       time = record { start = length p.name + 2 + length p.mail + 2; len = length p.time };
     }
 
--- What a call did that gives parts: where they stand is there; or what was there is as it was, and the status says why.
+-- `Stores` of where the parts of a line stand
 abbrev pub StoresParts : Result Parts Status → CSignature → CSignature → ℕ → Type 0
-StoresParts (Ok p) old new status = (new ≡ spans_of p) × (status ≡ number_of Done)
-StoresParts (Err refusal) old new status = (new ≡ old) × (status ≡ number_of refusal)
+StoresParts answer = Stores (result_map_both spans_of (λ status. status) answer)
 
 -- the status of a refusal to write a line; a buffer that is written to has no fault but its end
 abbrev pub line_status : SignatureError → Status

@@ -4,7 +4,7 @@ use Rattle.std.specs.Str.{is_utf8}
 use Rattle.gix_date_c.specs.declared.status.Status.{Status}
 use Rattle.gix_date_c.specs.declared.status.Status.TheVariants as statuses
 
--- the number of a status, which `include/gix_date.h` has under the same name
+-- the number of a status, which a header has under the same name
 abbrev pub number_of : Status → ℕ
 number_of statuses.Done = 0
 number_of statuses.NotText = 1
@@ -24,6 +24,11 @@ number_of statuses.Memory = 14
 number_of statuses.NoSignature = 15
 number_of statuses.BadPart = 16
 number_of statuses.Unclear = 17
+number_of statuses.Unreadable = 18
+number_of statuses.NumberTooLarge = 19
+number_of statuses.BackTooFar = 20
+number_of statuses.YearRefused = 21
+number_of statuses.GitRange = 22
 
 -- what is answered of bytes that are text, and else that they are not
 abbrev pub if_text : {T : Type 0} → List ℕ → Result T Status → Result T Status

@@ -1,20 +1,20 @@
 //! Dates parsed without guessing.
-ghost use Rattle.std.specs.Prelude.{◌≡◌, Result, Ok, None};
+ghost use Rattle.std.specs.Prelude.{◌≡◌, Some, None};
 ghost use Rattle.std.specs.Result.{result_map_both};
-ghost use Rattle.jiff.specs.Types.{TimeZone as PlainTimeZone};
-ghost use Rattle.jiff.specs.Words.{plain_zone};
-ghost use Rattle.gix_date_c.specs.Careful.{IsParsedCarefully, IsParsedCarefullyIn, options_of, place_after, refusal_of, texts_of, with_status, without_offset_of};
-ghost use Rattle.gix_date_c.specs.Parsing.{IsFileZone, IsOffsetZone, IsRuleZone};
-ghost use Rattle.gix_date_c.specs.Times.{StoresTime};
+ghost use Rattle.gix_date_c.specs.Careful.{IsParsedCarefully, options_of, refusal_of, texts_of, without_offset_of};
+ghost use Rattle.gix_date_c.specs.Moments.{IsFileZone, IsOffsetZone, IsRuleZone};
+ghost use Rattle.gix_date_c.specs.Reading.{IsReadAt, IsReadIn};
+ghost use Rattle.gix_date_c.specs.Stores.{StoresRead};
+ghost use Rattle.gix_date_c.specs.Times.{time_for_c};
 
-use crate::parse::{
-    CInstant, moment_in, offset_zone, raw_rule, refusal_status, rule_zone, table_of, table_zone,
-};
+use crate::moment::{CInstant, moment_at_offset, moment_by_rule, moment_by_table, table_of};
+use crate::parse::{raw_rule, refusal_status};
+use crate::refusal::Refusal;
 use crate::status::Status;
+use crate::store::store_read;
 use crate::text::utf8_text;
-use crate::time::{CTime, store_time};
+use crate::time::{CTime, time_for_c};
 use gix_date::{CarefulError, CarefulOptions, Texts, Time, WithoutOffset, Zoned, parse_carefully};
-use jiff::tz::TimeZone;
 use std::alloc::Global;
 
 /// How a date is parsed carefully, each option by its number: `struct gix_date_careful_options`.
@@ -26,15 +26,6 @@ pub struct CCarefulOptions {
     pub texts: u32,
 }
 
-/// Why a date is not parsed carefully.
-#[derive(Clone, Copy)]
-pub(crate) enum Refusal {
-    /// The text is not careful from this place on.
-    Unclear(usize),
-    /// Any other refusal, by its status.
-    Other(Status),
-}
-
 /// Parses a date carefully that is relative to no moment.
 #[unsafe(no_mangle)]
 pub extern "C" fn gix_date_parse_carefully(
@@ -43,11 +34,10 @@ pub extern "C" fn gix_date_parse_carefully(
     time: &mut CTime,
     place: &mut usize,
 ) -> u32
-    ensures { (answer : Result Time Refusal) × IsParsedCarefully options.now None text.now answer
-        × StoresTime (with_status answer) time.old time.new result
-        × (place.new ≡ place_after answer place.old) }
+    ensures { StoresRead (IsParsedCarefully options.now None text.now)
+        (time.old, place.old) (time.new, place.new) result }
 {
-    store_careful(parse_text(text, options, None), time, place)
+    store_read(parse_text(text, options, None), time, place)
 }
 
 /// Parses a date carefully, with a moment in the zone that always has an offset.
@@ -60,13 +50,11 @@ pub extern "C" fn gix_date_parse_carefully_at_offset(
     time: &mut CTime,
     place: &mut usize,
 ) -> u32
-    ensures { (zone : Result PlainTimeZone Status) × IsOffsetZone offset zone
-        × (answer : Result Time Refusal) × IsParsedCarefullyIn options.now now.now zone text.now answer
-        × StoresTime (with_status answer) time.old time.new result
-        × (place.new ≡ place_after answer place.old) }
+    ensures { StoresRead (IsReadIn (λ now. IsParsedCarefully options.now (Some now)) (IsOffsetZone offset) now.now text.now)
+        (time.old, place.old) (time.new, place.new) result }
 {
-    store_careful(
-        parse_in(text, options, now, offset_zone(offset)),
+    store_read(
+        parse_at(text, options, moment_at_offset(now, offset)),
         time,
         place,
     )
@@ -82,12 +70,14 @@ pub extern "C" fn gix_date_parse_carefully_in_posix_zone(
     time: &mut CTime,
     place: &mut usize,
 ) -> u32
-    ensures { (zone : Result PlainTimeZone Status) × IsRuleZone rule.now zone
-        × (answer : Result Time Refusal) × IsParsedCarefullyIn options.now now.now zone text.now answer
-        × StoresTime (with_status answer) time.old time.new result
-        × (place.new ≡ place_after answer place.old) }
+    ensures { StoresRead (IsReadIn (λ now. IsParsedCarefully options.now (Some now)) (IsRuleZone rule.now) now.now text.now)
+        (time.old, place.old) (time.new, place.new) result }
 {
-    store_careful(parse_in(text, options, now, rule_zone(rule)), time, place)
+    store_read(
+        parse_at(text, options, moment_by_rule(now, rule)),
+        time,
+        place,
+    )
 }
 
 /// Parses a date carefully, with a moment in the zone of a TZif file.
@@ -101,30 +91,12 @@ pub extern "C" fn gix_date_parse_carefully_in_tzif_zone(
     time: &mut CTime,
     place: &mut usize,
 ) -> u32
-    ensures { (zone : Result PlainTimeZone Status) × IsFileZone file.now zone
-        × (answer : Result Time Refusal) × IsParsedCarefullyIn options.now now.now zone text.now answer
-        × StoresTime (with_status answer) time.old time.new result
-        × (place.new ≡ place_after answer place.old) }
+    ensures { StoresRead (IsReadIn (λ now. IsParsedCarefully options.now (Some now)) (IsFileZone file.now) now.now text.now)
+        (time.old, place.old) (time.new, place.new) result }
 {
     let table = table_of(alloc, file);
-    let answer = parse_in(text, options, now, table_zone(&table));
-    store_careful(answer, time, place)
-}
-
-/// Stores the time of an answer, or the place from which on its text is not clear, and tells how the call ended. What is
-/// not stored stays as it is.
-fn store_careful(answer: Result<Time, Refusal>, time: &mut CTime, place: &mut usize) -> u32
-    ensures time { StoresTime (with_status answer) time.old time.new result }
-    ensures place { place.new ≡ place_after answer place.old }
-{
-    match answer {
-        Ok(found) => store_time(Ok(found), time),
-        Err(Refusal::Unclear(from)) => {
-            *place = from;
-            store_time(Err(Status::Unclear), time)
-        }
-        Err(Refusal::Other(status)) => store_time(Err(status), time),
-    }
+    let answer = parse_at(text, options, moment_by_table(now, &table));
+    store_read(answer, time, place)
 }
 
 /// What a text says by the options of these numbers.
@@ -133,43 +105,42 @@ fn parse_text(
     text: &[u8],
     numbers: &CCarefulOptions,
     now: Option<Zoned<'_>>,
-) -> Result<Time, Refusal>
+) -> Result<CTime, Refusal>
     ensures { IsParsedCarefully numbers.now now.entry text.now result }
 {
     let Some(options) = options_of(numbers) else {
-        return Err(Refusal::Other(Status::NoSuchOption));
+        return Err(Refusal::of(Status::NoSuchOption));
     };
     match utf8_text(text) {
-        Ok(text) => with_refusal(parse_carefully(text, now, options)),
-        Err(status) => Err(Refusal::Other(status)),
+        Ok(text) => for_c(parse_carefully(text, now, options)),
+        Err(status) => Err(Refusal::of(status)),
     }
 }
 
-/// What a text says at an instant in a zone, where there is the zone.
-fn parse_in(
+/// What a text says at a moment, where there is one.
+#[inline(always)]
+fn parse_at(
     text: &[u8],
     numbers: &CCarefulOptions,
-    instant: &CInstant,
-    zone: Result<TimeZone<'_>, Status>,
-) -> Result<Time, Refusal>
-    ensures { IsParsedCarefullyIn numbers.now instant.now
-        (result_map_both plain_zone (λ status. status) zone.entry) text.now result }
+    now: Result<Zoned<'_>, Status>,
+) -> Result<CTime, Refusal>
+    ensures { IsReadAt (λ now. IsParsedCarefully numbers.now (Some now)) now.entry text.now result }
 {
-    match moment_in(instant, zone) {
+    match now {
         Ok(now) => parse_text(text, numbers, Some(now)),
-        Err(status) => Err(Refusal::Other(status)),
+        Err(status) => Err(Refusal::of(status)),
     }
 }
 
-/// The library's answer, with the refusal that C is told.
+/// The library's answer, as C is told it.
 #[inline(always)]
-fn with_refusal(answer: Result<Time, CarefulError>) -> Result<Time, Refusal>
-    ensures { result ≡ result_map_both (λ t. t) refusal_of answer }
+fn for_c(answer: Result<Time, CarefulError>) -> Result<CTime, Refusal>
+    ensures { result ≡ result_map_both time_for_c refusal_of answer }
 {
     match answer {
-        Ok(time) => Ok(time),
-        Err(CarefulError::Unclear(place)) => Err(Refusal::Unclear(place)),
-        Err(CarefulError::Refused(error)) => Err(Refusal::Other(refusal_status(error))),
+        Ok(time) => Ok(time_for_c(time)),
+        Err(CarefulError::Unclear(place)) => Err(Refusal::at(Status::Unclear, place)),
+        Err(CarefulError::Refused(error)) => Err(Refusal::of(refusal_status(error))),
     }
 }
 

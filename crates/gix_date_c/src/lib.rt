@@ -1,4 +1,5 @@
-//! The calls of `gix_date` and `gix_signature` for C, as `include/gix_date.h` declares them.
+//! The calls of `gix_date`, `gix_signature` and `git_date` for C, as `include/gix_date.h` and `include/git_date.h` declare
+//! them.
 //!
 //! A text is bytes, given by a pointer and a length, which need not be UTF-8: `Status::NotText` where they are not. A
 //! call answers the number of a [`Status`]. No call has a condition that C would have to meet but for its pointers and
@@ -7,11 +8,15 @@
 
 mod buffer;
 mod careful;
+mod git;
 mod header;
+mod moment;
 mod parse;
 mod print;
+mod refusal;
 mod signature;
 mod status;
+mod store;
 mod text;
 mod time;
 mod version;

@@ -1,8 +1,8 @@
 //! Times printed.
-ghost use Rattle.std.specs.Prelude.{◌≡◌, ℕ, List, Result, IfSome, IfNone, ◌<◌};
+ghost use Rattle.std.specs.Prelude.{◌≡◌, Result, IfSome, IfNone, ◌<◌};
 ghost use Rattle.std.specs.Str.{is_utf8};
 ghost use Rattle.gix_date.specs.Printing.Formats.{Prints, PrintsPattern, PrintsPatternOrSeconds, PrintsOrSeconds};
-ghost use Rattle.gix_date_c.specs.Buffers.{Outcome, outcome_of};
+ghost use Rattle.gix_date_c.specs.Buffers.{Outcome, Puts, outcome_of};
 ghost use Rattle.gix_date_c.specs.Printing.{IsFormat, IsFormatted, IsPatternPrinted, print_status, printed_text};
 ghost use Rattle.gix_date_c.specs.Times.{load_time};
 
@@ -25,8 +25,8 @@ pub extern "C" fn gix_date_format(
     out: &mut [u8],
     len: &mut usize,
 ) -> u32
-    ensures { (answer : Result (List ℕ) Status) × IsFormatted (Prints (load_time time.now)) format answer
-        × (record { bytes = out.new; len = len.new; status = result } ≡ outcome_of answer out.old) }
+    ensures { Puts (IsFormatted (Prints (load_time time.now)) format)
+        out.old (record { bytes = out.new; len = len.new; status = result }) }
 {
     let Some(format) = format_of(format) else {
         return store_text(Err(Status::NoSuchOption), out, len);
@@ -43,8 +43,8 @@ pub extern "C" fn gix_date_format_or_unix(
     out: &mut [u8],
     len: &mut usize,
 ) -> u32
-    ensures { (answer : Result (List ℕ) Status) × IsFormatted (PrintsOrSeconds (load_time time.now)) format answer
-        × (record { bytes = out.new; len = len.new; status = result } ≡ outcome_of answer out.old) }
+    ensures { Puts (IsFormatted (PrintsOrSeconds (load_time time.now)) format)
+        out.old (record { bytes = out.new; len = len.new; status = result }) }
 {
     let Some(format) = format_of(format) else {
         return store_text(Err(Status::NoSuchOption), out, len);
@@ -61,9 +61,8 @@ pub extern "C" fn gix_date_format_by_pattern(
     out: &mut [u8],
     len: &mut usize,
 ) -> u32
-    ensures { (answer : Result (List ℕ) Status)
-        × IsPatternPrinted (PrintsPattern (load_time time.now) pattern.now) (is_utf8 pattern.now) answer
-        × (record { bytes = out.new; len = len.new; status = result } ≡ outcome_of answer out.old) }
+    ensures { Puts (IsPatternPrinted (PrintsPattern (load_time time.now) pattern.now) (is_utf8 pattern.now))
+        out.old (record { bytes = out.new; len = len.new; status = result }) }
 {
     match utf8_text(pattern) {
         Ok(pattern) => store_printed(load_time(time).format_by_pattern(alloc, pattern), out, len),
@@ -80,9 +79,8 @@ pub extern "C" fn gix_date_format_by_pattern_or_unix(
     out: &mut [u8],
     len: &mut usize,
 ) -> u32
-    ensures { (answer : Result (List ℕ) Status)
-        × IsPatternPrinted (PrintsPatternOrSeconds (load_time time.now) pattern.now) (is_utf8 pattern.now) answer
-        × (record { bytes = out.new; len = len.new; status = result } ≡ outcome_of answer out.old) }
+    ensures { Puts (IsPatternPrinted (PrintsPatternOrSeconds (load_time time.now) pattern.now) (is_utf8 pattern.now))
+        out.old (record { bytes = out.new; len = len.new; status = result }) }
 {
     match utf8_text(pattern) {
         Ok(pattern) => {

@@ -11,6 +11,7 @@ ghost use Rattle.gix_signature.specs.Writing.{line_due, parts_due};
 
 use crate::buffer::{put_at, store_text};
 use crate::status::Status;
+use crate::store::store;
 use crate::text::utf8_text;
 use crate::time::{CTime, load_time};
 use gix_date::Time;
@@ -42,13 +43,11 @@ pub extern "C" fn gix_date_cut_signature(line: &[u8], parts: &mut CSignature) ->
     ensures { (answer : Result Parts Status) × IsCutAnswer line.now answer
         × StoresParts answer parts.old parts.new result }
 {
-    match signature_of(line) {
-        Ok(signature) => {
-            *parts = spans_of(signature);
-            Status::Done.number()
-        }
-        Err(status) => status.number(),
-    }
+    let answer = match signature_of(line) {
+        Ok(signature) => Ok(spans_of(signature)),
+        Err(status) => Err(status),
+    };
+    store(answer, parts)
 }
 
 /// The parts of a line.

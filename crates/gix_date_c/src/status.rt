@@ -2,7 +2,7 @@
 ghost use Rattle.std.specs.Prelude.{◌≡◌};
 ghost use Rattle.gix_date_c.specs.Statuses.{number_of};
 
-/// How a call ended. C gets the number, and `include/gix_date.h` has the same names and numbers.
+/// How a call ended. C gets the number, and `include/gix_date.h` or `include/git_date.h` has it.
 #[derive(Clone, Copy)]
 pub(crate) enum Status {
     /// The call did what it is for.
@@ -41,6 +41,16 @@ pub(crate) enum Status {
     BadPart = 16,
     /// The relative text is not careful. The call tells the place from which on it is not clear.
     Unclear = 17,
+    /// Git reads no date either.
+    Unreadable = 18,
+    /// A number of a date is too large. The call tells its place.
+    NumberTooLarge = 19,
+    /// A date leads back beyond what Git can say. The call tells the place.
+    BackTooFar = 20,
+    /// A date begins with a year that Git refuses. The call tells the place.
+    YearRefused = 21,
+    /// The date is before 1970 or no instant that can be computed with, or Git cannot show it.
+    GitRange = 22,
 }
 
 impl Status {

@@ -1,0 +1,306 @@
+/* Makes the calls of git_date.h that rows name, for rows.c. A date in the zone of an offset is read
+ * and shown by a rule that says this offset too. */
+#include "rows.h"
+
+#include "git_date.h"
+
+#include <inttypes.h>
+#include <stdio.h>
+#include <stdlib.h>
+#include <string.h>
+
+static const struct {
+    const char *name;
+    uint32_t status;
+    bool has_place;
+} refusals[] = {
+    {"Unreadable", GIT_DATE_UNREADABLE, false},
+    {"NumberTooLarge", GIT_DATE_NUMBER_TOO_LARGE, true},
+    {"BackTooFar", GIT_DATE_BACK_TOO_FAR, true},
+    {"YearRefused", GIT_DATE_YEAR_REFUSED, true},
+    {"Range", GIT_DATE_RANGE, false},
+};
+
+static const char *const kinds[] = {"relative", "iso8601-strict", "iso8601", "rfc2822", "short",
+                                    "default",  "human",          "raw",     "unix"};
+
+/* The calls that read a text. */
+enum reader { EXACT, APPROXIMATE, EXPIRY };
+
+/* What a call that reads a text leaves. */
+typedef struct reading {
+    uint32_t status;
+    size_t place;
+    git_date_exact exact;
+    git_date_approximate approximate;
+    git_date_expiry expiry;
+} reading;
+
+/* What such a call has to leave where it stores nothing. */
+static const reading untouched = {
+    GIX_DATE_OK,          (size_t)-2, {{-77, -7}, 9}, {{-77, -7}, 9, true},
+    {99, {{-77, -7}, 9, true}}};
+
+/* A zone of a row: an offset, the bytes of a TZif file, or a rule. */
+typedef struct zone {
+    enum { OFFSET, FILE_BYTES, RULE } kind;
+    int32_t offset;
+    field bytes;
+} zone;
+
+static bool is_same_date(const git_date_approximate *one, const git_date_approximate *other)
+{
+    return one->time.seconds == other->time.seconds && one->time.offset == other->time.offset &&
+           one->ignored == other->ignored && one->understood == other->understood;
+}
+
+/* Whether a call changed nothing but its status and perhaps the place. */
+static bool stored_nothing(const reading *seen)
+{
+    return seen->exact.time.seconds == untouched.exact.time.seconds &&
+           seen->exact.time.offset == untouched.exact.time.offset &&
+           seen->exact.ignored == untouched.exact.ignored &&
+           is_same_date(&seen->approximate, &untouched.approximate) &&
+           seen->expiry.kind == untouched.expiry.kind &&
+           is_same_date(&seen->expiry.before, &untouched.expiry.before);
+}
+
+static uint32_t read_exactly(field text, const gix_date_instant *now, const zone *in, reading *seen)
+{
+    switch (in->kind) {
+    case OFFSET:
+        return git_date_parse_at_offset(TEXT(text), now, in->offset, &seen->exact, &seen->place);
+    case RULE:
+        return git_date_parse_in_posix_zone(TEXT(text), now, TEXT(in->bytes), &seen->exact,
+                                            &seen->place);
+    default:
+        return git_date_parse_in_tzif_zone(TEXT(text), now, TEXT(in->bytes), &seen->exact,
+                                           &seen->place);
+    }
+}
+
+static uint32_t read_approximately(field text, const gix_date_instant *now, const zone *in,
+                                   reading *seen)
+{
+    switch (in->kind) {
+    case OFFSET:
+        return git_date_approxidate_at_offset(TEXT(text), now, in->offset, &seen->approximate,
+                                              &seen->place);
+    case RULE:
+        return git_date_approxidate_in_posix_zone(TEXT(text), now, TEXT(in->bytes),
+                                                  &seen->approximate, &seen->place);
+    default:
+        return git_date_approxidate_in_tzif_zone(TEXT(text), now, TEXT(in->bytes),
+                                                 &seen->approximate, &seen->place);
+    }
+}
+
+static uint32_t read_expiry(field text, const gix_date_instant *now, const zone *in, reading *seen)
+{
+    switch (in->kind) {
+    case OFFSET:
+        return git_date_expiry_at_offset(TEXT(text), now, in->offset, &seen->expiry, &seen->place);
+    case RULE:
+        return git_date_expiry_in_posix_zone(TEXT(text), now, TEXT(in->bytes), &seen->expiry,
+                                             &seen->place);
+    default:
+        return git_date_expiry_in_tzif_zone(TEXT(text), now, TEXT(in->bytes), &seen->expiry,
+                                            &seen->place);
+    }
+}
+
+static uint32_t show(gix_date_time time, git_date_mode mode, const gix_date_instant *now,
+                     const zone *in, answer *told)
+{
+    char *out = told->bytes;
+    switch (in->kind) {
+    case OFFSET:
+        return git_date_show_at_offset(&time, &mode, now, in->offset, out, MAX_ANSWER, &told->len);
+    case RULE:
+        return git_date_show_in_posix_zone(&time, &mode, now, TEXT(in->bytes), out, MAX_ANSWER,
+                                           &told->len);
+    default:
+        return git_date_show_in_tzif_zone(&time, &mode, now, TEXT(in->bytes), out, MAX_ANSWER,
+                                          &told->len);
+    }
+}
+
+/* Answers a status where it is a refusal, with its place where it has one. */
+static bool is_refused_at(uint32_t status, size_t place, answer *told)
+{
+    bool has_place = false;
+    told->refused = status != GIX_DATE_OK;
+    if (status == GIX_DATE_NOT_TEXT || status == GIX_DATE_INVALID_ZONE ||
+        status == GIX_DATE_INVALID_INSTANT)
+        is_refused(status, told);
+    else if (status != GIX_DATE_OK)
+        tell(told, "status %u", (unsigned)status);
+    for (size_t i = 0; i < LENGTH(refusals); i++) {
+        if (refusals[i].status != status)
+            continue;
+        has_place = refusals[i].has_place;
+        tell(told, has_place ? "%s %zu" : "%s", refusals[i].name, place);
+    }
+    if (!has_place && place != untouched.place)
+        tell_apart(told);
+    return told->refused;
+}
+
+static void tell_time(gix_date_time time, bool is_certain, answer *told)
+{
+    tell(told, "%" PRId64 " %" PRId32 "%s", time.seconds, time.offset, is_certain ? "" : " ?");
+}
+
+static void tell_expiry(const git_date_expiry *expiry, answer *told)
+{
+    if (expiry->kind == GIT_DATE_BEFORE)
+        tell_time(expiry->before.time, expiry->before.understood, told);
+    else if (is_same_date(&expiry->before, &untouched.expiry.before))
+        tell(told, "%s", expiry->kind == GIT_DATE_NEVER ? "never" : "all");
+    else
+        tell_apart(told);
+}
+
+static void tell_ignored(size_t place, answer *told)
+{
+    if (place == GIT_DATE_NOTHING)
+        tell(told, "none");
+    else
+        tell(told, "%zu", place);
+}
+
+/* Reads a text in a zone, and tells what of it the row asks for. */
+static void read_in(enum reader reader, bool of_ignored, field text, const gix_date_instant *now,
+                    const zone *in, answer *told)
+{
+    reading seen = untouched;
+    seen.status = reader == EXACT         ? read_exactly(text, now, in, &seen)
+                  : reader == APPROXIMATE ? read_approximately(text, now, in, &seen)
+                                          : read_expiry(text, now, in, &seen);
+    if (is_refused_at(seen.status, seen.place, told)) {
+        if (!stored_nothing(&seen))
+            tell_apart(told);
+    } else if (reader == EXPIRY) {
+        tell_expiry(&seen.expiry, told);
+    } else if (of_ignored) {
+        tell_ignored(reader == EXACT ? seen.exact.ignored : seen.approximate.ignored, told);
+    } else if (reader == EXACT) {
+        tell_time(seen.exact.time, true, told);
+    } else {
+        tell_time(seen.approximate.time, seen.approximate.understood, told);
+    }
+}
+
+static void show_in(gix_date_time time, git_date_mode mode, const gix_date_instant *now,
+                    const zone *in, answer *told)
+{
+    is_refused_at(show(time, mode, now, in, told), untouched.place, told);
+}
+
+/* A zone of a name, where it is a file with its bytes. */
+static zone zone_of(field name)
+{
+    int64_t offset;
+    if (is_file_name(name))
+        return (zone){FILE_BYTES, 0, read_file(name.bytes)};
+    if (to_number(name.bytes, &offset))
+        return (zone){OFFSET, (int32_t)offset, name};
+    return (zone){RULE, 0, name};
+}
+
+/* The rule that always has this offset, within a day. */
+static bool to_rule(int32_t offset, char *room, size_t size, zone *rule)
+{
+    int32_t size_of_it = offset < 0 ? -offset : offset;
+    if (size_of_it >= 86400)
+        return false;
+    int len = snprintf(room, size, "<ROW>%s%d:%02d:%02d", offset < 0 ? "" : "-", size_of_it / 3600,
+                       size_of_it / 60 % 60, size_of_it % 60);
+    *rule = (zone){RULE, 0, {room, (size_t)len}};
+    return true;
+}
+
+/* Reads the text of a row, at the moment before it. */
+static bool read_row(enum reader reader, bool of_ignored, arguments *row, answer *told)
+{
+    gix_date_instant now;
+    field moment = take(row), text = take(row), name;
+    char room[32];
+    zone rule;
+    if (!to_moment(moment, &now, &name))
+        return false;
+    zone in = zone_of(name);
+    read_in(reader, of_ignored, text, &now, &in, told);
+    if (in.kind == OFFSET && to_rule(in.offset, room, sizeof room, &rule)) {
+        answer other;
+        read_in(reader, of_ignored, text, &now, &rule, &other);
+        agree(told, &other);
+    }
+    if (in.kind == FILE_BYTES)
+        free(in.bytes.bytes);
+    return true;
+}
+
+/* Shows the time of a row, at the moment before it. */
+static bool show_row(arguments *row, answer *told)
+{
+    gix_date_instant now;
+    gix_date_time time;
+    git_date_mode mode;
+    field name = take(row), moment = take(row), zone_name;
+    char room[32];
+    zone rule;
+    if (git_date_mode_named(TEXT(name), &mode) != GIX_DATE_OK ||
+        !to_moment(moment, &now, &zone_name) || !take_time(row, &time))
+        return false;
+    zone in = zone_of(zone_name);
+    show_in(time, mode, &now, &in, told);
+    if (in.kind == OFFSET && to_rule(in.offset, room, sizeof room, &rule)) {
+        answer other;
+        show_in(time, mode, &now, &rule, &other);
+        agree(told, &other);
+    }
+    if (in.kind == FILE_BYTES)
+        free(in.bytes.bytes);
+    return true;
+}
+
+/* The long name of the mode that a row names. */
+static void mode_row(field name, answer *told)
+{
+    git_date_mode mode = {99, true};
+    uint32_t status = git_date_mode_named(TEXT(name), &mode);
+    told->refused = status != GIX_DATE_OK;
+    if (status == GIX_DATE_NO_SUCH_OPTION && mode.kind == 99)
+        tell(told, "UnknownMode");
+    else if (is_refused(status, told) ? mode.kind != 99 : mode.kind >= LENGTH(kinds))
+        tell_apart(told);
+    else if (!told->refused)
+        tell(told, "%s%s", kinds[mode.kind], mode.local ? "-local" : "");
+}
+
+enum outcome git_call(const char *name, arguments *row, answer *told)
+{
+    static const struct {
+        const char *name;
+        enum reader reader;
+        bool of_ignored;
+    } readers[] = {
+        {"parse_date", EXACT, false},
+        {"ignored", EXACT, true},
+        {"approxidate", APPROXIMATE, false},
+        {"approximate_ignored", APPROXIMATE, true},
+        {"expiry_date", EXPIRY, false},
+    };
+    bool is_right = false;
+    for (size_t i = 0; i < LENGTH(readers); i++)
+        if (!strcmp(readers[i].name, name))
+            is_right = read_row(readers[i].reader, readers[i].of_ignored, row, told);
+    if (!strcmp(name, "show_date"))
+        is_right = show_row(row, told);
+    if (!strcmp(name, "date_mode")) {
+        mode_row(take(row), told);
+        is_right = true;
+    }
+    return is_right && row->taken == row->count ? ANSWERED : MALFORMED;
+}

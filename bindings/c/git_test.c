@@ -1,0 +1,524 @@
+/* Calls each function of git_date.h on rows with Git's answers, on bad input and long texts, and by
+ * sixteen threads at once. Counts what the library asks malloc and realloc for: link with
+ * -Wl,--wrap=malloc,--wrap=realloc. */
+#include "git_date.h"
+#include "test.h"
+
+static const char new_york[] = "EST5EDT,M3.2.0,M11.1.0";
+
+/* A Sunday in UTC, and an hour of New York that its clock shows twice. */
+static const gix_date_instant sunday = {1251660000, 0}, in_fold = {1699165800, 0};
+
+/* The place that no call stores. */
+enum { NO_PLACE = 99 };
+
+static const git_date_exact no_date = {{-77, -7}, 9};
+static const git_date_approximate no_guess = {{-77, -7}, 9, true};
+static const git_date_expiry no_expiry = {99, {{-77, -7}, 9, true}};
+
+static bool is_exact(git_date_exact date, int64_t seconds, int32_t offset, size_t ignored)
+{
+    return is_time(date.time, seconds, offset) && date.ignored == ignored;
+}
+
+static bool is_approximate(git_date_approximate date, int64_t seconds, int32_t offset,
+                           size_t ignored, bool understood)
+{
+    return is_time(date.time, seconds, offset) && date.ignored == ignored &&
+           date.understood == understood;
+}
+
+static bool is_no_guess(git_date_approximate date)
+{
+    return is_approximate(date, -77, -7, 9, true);
+}
+
+/* A text that is refused with this status, and where. */
+typedef struct refused_text {
+    const char *text;
+    uint32_t status;
+    size_t place;
+} refused_text;
+
+static void exact_dates(void)
+{
+    static const refused_text rows[] = {
+        {"2008-02-14", GIT_DATE_UNREADABLE, NO_PLACE},
+        {"10:00 4294967301-01-02 +0000", GIT_DATE_NUMBER_TOO_LARGE, 6},
+        {"1900-02-03 10:00 2009 +0000", GIT_DATE_YEAR_REFUSED, 0},
+        {"12-sunny/-1900_2101/01/12 10:25Ttea +0415/", GIT_DATE_YEAR_REFUSED, 15},
+        {"1970-01-01 00:00 +0100", GIT_DATE_RANGE, NO_PLACE},
+        {"2008\xc3", GIX_DATE_NOT_TEXT, NO_PLACE},
+    };
+    for (size_t i = 0; i < sizeof rows / sizeof *rows; i++) {
+        git_date_exact date = no_date;
+        size_t place = NO_PLACE;
+        uint32_t status = git_date_parse_at_offset(TEXT(rows[i].text), &sunday, 0, &date, &place);
+        EXPECT(status == rows[i].status && place == rows[i].place, "%s: %u, %zu", rows[i].text,
+               status, place);
+        EXPECT(is_exact(date, -77, -7, 9), "%s", rows[i].text);
+    }
+    git_date_exact date = no_date;
+    size_t place = NO_PLACE;
+    EXPECT(git_date_parse_at_offset(TEXT("2008-02-14 20:30:45 IST"), &sunday, 0, &date, &place) ==
+                   GIX_DATE_OK &&
+               is_exact(date, 1203021045, 0, 20),
+           "%lld %zu", (long long)date.time.seconds, date.ignored);
+    EXPECT(git_date_parse_at_offset(TEXT("2008-02-14 20:30:45 EST"), &sunday, 0, &date, &place) ==
+                   GIX_DATE_OK &&
+               is_exact(date, 1203039045, -18000, GIT_DATE_NOTHING),
+           "%lld %zu", (long long)date.time.seconds, date.ignored);
+    EXPECT(git_date_parse_at_offset(TEXT("2005-04-07 22:13:13"), &sunday, -16200, &date, &place) ==
+                   GIX_DATE_OK &&
+               is_exact(date, 1112928193, -16200, GIT_DATE_NOTHING),
+           "%lld", (long long)date.time.seconds);
+    EXPECT(git_date_parse_in_posix_zone(TEXT("2023-07-01 12:00"), &sunday, TEXT(new_york), &date,
+                                        &place) == GIX_DATE_OK &&
+               is_exact(date, 1688227200, -14400, GIT_DATE_NOTHING),
+           "%lld", (long long)date.time.seconds);
+    EXPECT(place == NO_PLACE, "%zu", place);
+}
+
+static void approximate_dates(void)
+{
+    static const refused_text rows[] = {
+        {"10045thur 0sun 23.wednesday", GIT_DATE_BACK_TOO_FAR, 0},
+        {"10600130-0-2004", GIT_DATE_YEAR_REFUSED, 0},
+        {"12345678934567890", GIT_DATE_RANGE, NO_PLACE},
+        {"\xff", GIX_DATE_NOT_TEXT, NO_PLACE},
+    };
+    for (size_t i = 0; i < sizeof rows / sizeof *rows; i++) {
+        git_date_approximate date = no_guess;
+        size_t place = NO_PLACE;
+        uint32_t status =
+            git_date_approxidate_at_offset(TEXT(rows[i].text), &sunday, 0, &date, &place);
+        EXPECT(status == rows[i].status && place == rows[i].place, "%s: %u, %zu", rows[i].text,
+               status, place);
+        EXPECT(is_no_guess(date), "%s", rows[i].text);
+    }
+    git_date_approximate date = no_guess;
+    size_t place = NO_PLACE;
+    EXPECT(git_date_approxidate_at_offset(TEXT("5 mins ago"), &sunday, 0, &date, &place) ==
+                   GIX_DATE_OK &&
+               is_approximate(date, 1249500000, 0, 2, true),
+           "%lld %zu", (long long)date.time.seconds, date.ignored);
+    EXPECT(git_date_approxidate_at_offset(TEXT("last friday at noon"), &sunday, 0, &date, &place) ==
+                   GIX_DATE_OK &&
+               is_approximate(date, 1251460800, 0, GIT_DATE_NOTHING, true),
+           "%lld %zu", (long long)date.time.seconds, date.ignored);
+    EXPECT(git_date_approxidate_at_offset(TEXT("lst day, llast day"), &sunday, 0, &date, &place) ==
+                   GIX_DATE_OK &&
+               is_time(date.time, 1251660000, 0) && !date.understood,
+           "%lld", (long long)date.time.seconds);
+    EXPECT(git_date_approxidate_in_posix_zone(TEXT("noon july 1"),
+                                              &(gix_date_instant){1700000000, 0}, TEXT(new_york),
+                                              &date, &place) == GIX_DATE_OK &&
+               is_time(date.time, 1688227200, -14400),
+           "%lld", (long long)date.time.seconds);
+    EXPECT(place == NO_PLACE, "%zu", place);
+}
+
+static void expect_expiry(const char *text, uint32_t status, uint32_t kind, int64_t seconds)
+{
+    git_date_expiry expiry = no_expiry;
+    size_t place = NO_PLACE;
+    EXPECT(git_date_expiry_at_offset(TEXT(text), &sunday, 0, &expiry, &place) == status, "%s",
+           text);
+    EXPECT(expiry.kind == kind && place == NO_PLACE, "%s: %u", text, expiry.kind);
+    if (kind == GIT_DATE_BEFORE)
+        EXPECT(is_approximate(expiry.before, seconds, 0, GIT_DATE_NOTHING, true), "%s", text);
+    else
+        EXPECT(is_no_guess(expiry.before), "%s", text);
+}
+
+static void expiries(void)
+{
+    expect_expiry("never", GIX_DATE_OK, GIT_DATE_NEVER, 0);
+    expect_expiry("false", GIX_DATE_OK, GIT_DATE_NEVER, 0);
+    expect_expiry("all", GIX_DATE_OK, GIT_DATE_ALL, 0);
+    expect_expiry("now", GIX_DATE_OK, GIT_DATE_ALL, 0);
+    expect_expiry("Never", GIX_DATE_OK, GIT_DATE_BEFORE, 0);
+    expect_expiry("NOW", GIX_DATE_OK, GIT_DATE_BEFORE, 1251660000);
+    expect_expiry("ALL", GIT_DATE_UNREADABLE, 99, 0);
+    expect_expiry("2008\xc3", GIX_DATE_NOT_TEXT, 99, 0);
+    git_date_expiry expiry = no_expiry;
+    size_t place = NO_PLACE;
+    EXPECT(git_date_expiry_at_offset(TEXT("10600130-0-2004"), &sunday, 0, &expiry, &place) ==
+                   GIT_DATE_YEAR_REFUSED &&
+               place == 0 && expiry.kind == 99,
+           "%zu", place);
+    EXPECT(git_date_expiry_in_posix_zone(TEXT("never"), &sunday, TEXT(new_york), &expiry, &place) ==
+                   GIX_DATE_OK &&
+               expiry.kind == GIT_DATE_NEVER,
+           "%u", expiry.kind);
+}
+
+/* A moment and a zone that are none are told before anything of the text. */
+static void moments(void)
+{
+    static const gix_date_instant odd = {0, 1000000000};
+    static const gix_date_time day = {1251660000, 0};
+    static const git_date_mode mode = {99, false};
+    git_date_exact date = no_date;
+    git_date_approximate guess = no_guess;
+    git_date_expiry expiry = no_expiry;
+    char out[4];
+    size_t place = NO_PLACE, len = 99;
+    const uint32_t bad_zone = GIX_DATE_INVALID_ZONE, bad_instant = GIX_DATE_INVALID_INSTANT;
+    EXPECT(git_date_parse_at_offset(BYTES("\xff"), &odd, 93600, &date, &place) == bad_zone, "zone");
+    EXPECT(git_date_parse_at_offset(BYTES("\xff"), &odd, 0, &date, &place) == bad_instant,
+           "moment");
+    EXPECT(git_date_parse_in_posix_zone(BYTES("\xff"), &odd, TEXT("banana"), &date, &place) ==
+               bad_zone,
+           "zone");
+    EXPECT(git_date_parse_in_posix_zone(TEXT("now"), &sunday, BYTES("\xff"), &date, &place) ==
+               GIX_DATE_NOT_TEXT,
+           "zone");
+    EXPECT(git_date_approxidate_at_offset(TEXT("now"), &odd, -93600, &guess, &place) == bad_zone,
+           "zone");
+    EXPECT(git_date_approxidate_at_offset(TEXT("now"), &odd, 0, &guess, &place) == bad_instant,
+           "moment");
+    EXPECT(git_date_expiry_at_offset(TEXT("never"), &odd, 93600, &expiry, &place) == bad_zone,
+           "zone");
+    EXPECT(git_date_expiry_at_offset(TEXT("never"), &odd, 0, &expiry, &place) == bad_instant,
+           "moment");
+    EXPECT(git_date_show_at_offset(&day, &mode, &odd, 93600, out, sizeof out, &len) == bad_zone &&
+               len == 0,
+           "zone");
+    EXPECT(git_date_show_at_offset(&day, &mode, &odd, 0, out, sizeof out, &len) == bad_instant,
+           "moment");
+    EXPECT(is_exact(date, -77, -7, 9) && is_no_guess(guess) && is_no_guess(expiry.before) &&
+               expiry.kind == 99 && place == NO_PLACE,
+           "a refusal stores nothing");
+}
+
+/* Texts and buffers of no bytes, at NULL. */
+static void null_pointers(void)
+{
+    static const gix_date_time day = {1251660000, 0};
+    static const git_date_mode mode = {GIT_DATE_ISO8601, false};
+    git_date_exact date = no_date;
+    git_date_approximate guess = no_guess;
+    git_date_expiry expiry = no_expiry;
+    git_date_mode named = mode;
+    size_t place = NO_PLACE, len = 99;
+    EXPECT(git_date_parse_at_offset(NULL, 0, &sunday, 0, &date, &place) == GIT_DATE_UNREADABLE,
+           "a date");
+    EXPECT(git_date_parse_in_posix_zone(TEXT("now"), &sunday, NULL, 0, &date, &place) ==
+               GIX_DATE_INVALID_ZONE,
+           "a rule");
+    EXPECT(git_date_parse_in_tzif_zone(TEXT("now"), &sunday, NULL, 0, &date, &place) ==
+               GIX_DATE_INVALID_ZONE,
+           "a file");
+    EXPECT(git_date_approxidate_at_offset(NULL, 0, &sunday, 0, &guess, &place) == GIX_DATE_OK &&
+               is_approximate(guess, 1251660000, 0, GIT_DATE_NOTHING, false),
+           "a date");
+    EXPECT(git_date_expiry_at_offset(NULL, 0, &sunday, 0, &expiry, &place) == GIT_DATE_UNREADABLE,
+           "a date");
+    EXPECT(git_date_mode_named(NULL, 0, &named) == GIX_DATE_NO_SUCH_OPTION, "a mode");
+    EXPECT(git_date_show_at_offset(&day, &mode, &sunday, 0, NULL, 0, &len) == GIX_DATE_NO_ROOM &&
+               len == 25,
+           "%zu", len);
+    EXPECT(place == NO_PLACE && is_exact(date, -77, -7, 9), "a refusal stores nothing");
+}
+
+static void modes(void)
+{
+    static const struct {
+        const char *name;
+        git_date_mode mode;
+    } rows[] = {
+        {"relative", {GIT_DATE_RELATIVE, false}},
+        {"iso-strict", {GIT_DATE_ISO8601_STRICT, false}},
+        {"iso8601-local", {GIT_DATE_ISO8601, true}},
+        {"rfc", {GIT_DATE_RFC2822, false}},
+        {"short", {GIT_DATE_SHORT, false}},
+        {"local", {GIT_DATE_DEFAULT, true}},
+        {"human-local", {GIT_DATE_HUMAN, true}},
+        {"raw", {GIT_DATE_RAW, false}},
+        {"unix", {GIT_DATE_UNIX, false}},
+    };
+    for (size_t i = 0; i < sizeof rows / sizeof *rows; i++) {
+        git_date_mode mode = {99, !rows[i].mode.local};
+        EXPECT(git_date_mode_named(TEXT(rows[i].name), &mode) == GIX_DATE_OK &&
+                   mode.kind == rows[i].mode.kind && mode.local == rows[i].mode.local,
+               "%s: %u %d", rows[i].name, mode.kind, mode.local);
+    }
+    git_date_mode mode = {99, true};
+    EXPECT(git_date_mode_named(TEXT("ISO"), &mode) == GIX_DATE_NO_SUCH_OPTION, "letter case");
+    EXPECT(git_date_mode_named(BYTES("\xff"), &mode) == GIX_DATE_NOT_TEXT, "no text");
+    EXPECT(mode.kind == 99 && mode.local, "a refusal stores nothing");
+}
+
+/* The noon of July 1, 2023 in New York, which is shown by the zone's file or its rule. */
+static uint32_t show_in_new_york(bool by_file, git_date_mode mode, char *out, size_t room,
+                                 size_t *len)
+{
+    static const gix_date_time time = {1688227200, 0};
+    return by_file ? git_date_show_in_tzif_zone(&time, &mode, &in_fold, BYTES(zone_file), out, room,
+                                                len)
+                   : git_date_show_in_posix_zone(&time, &mode, &in_fold, TEXT(new_york), out, room,
+                                                 len);
+}
+
+/* What Git shows of 1251660000 +0000 two hours later. */
+static const char *const shown[] = {
+    "2 hours ago",
+    "2009-08-30T19:20:00+00:00",
+    "2009-08-30 19:20:00 +0000",
+    "Sun, 30 Aug 2009 19:20:00 +0000",
+    "2009-08-30",
+    "Sun Aug 30 19:20:00 2009 +0000",
+    "2 hours ago",
+    "1251660000 +0000",
+    "1251660000",
+};
+
+/* What Git shows of 1688227200 +0000 by New York's clock, in November of that year. */
+static const char *const shown_locally[] = {
+    "4 months ago",
+    "2023-07-01T12:00:00-04:00",
+    "2023-07-01 12:00:00 -0400",
+    "Sat, 1 Jul 2023 12:00:00 -0400",
+    "2023-07-01",
+    "Sat Jul 1 12:00:00 2023",
+    "Sat Jul 1 12:00",
+    "1688227200 -0400",
+    "1688227200",
+};
+
+/* A buffer of each length, too short or not, for the text that is due. */
+static void expect_shown(const char *due, uint32_t kind, const char *zone)
+{
+    static const gix_date_time time = {1251660000, 0};
+    static const gix_date_instant later = {1251667200, 0};
+    const git_date_mode mode = {kind, *zone != 0};
+    for (size_t room = 0; room <= strlen(due) + 1; room++) {
+        char *buffer = malloc(room + 1);
+        memset(buffer, '#', room + 1);
+        size_t len = 99;
+        bool fits = room >= strlen(due), by_file = !strcmp(zone, "file");
+        demand before = so_far();
+        uint32_t status =
+            *zone ? show_in_new_york(by_file, mode, buffer, room, &len)
+                  : git_date_show_at_offset(&time, &mode, &later, 0, buffer, room, &len);
+        expect_demand(before, by_file ? (demand){1, 40} : none, due);
+        EXPECT(status == (fits ? GIX_DATE_OK : GIX_DATE_NO_ROOM) && len == strlen(due),
+               "%s: %u, %zu", due, status, len);
+        EXPECT(fits ? holds(buffer, room + 1, due, len) : is_untouched(buffer, room + 1), "%s",
+               due);
+        free(buffer);
+    }
+}
+
+static void shown_dates(void)
+{
+    for (uint32_t kind = 0; kind < sizeof shown / sizeof *shown; kind++) {
+        expect_shown(shown[kind], kind, "");
+        expect_shown(shown_locally[kind], kind, "rule");
+        expect_shown(shown_locally[kind], kind, "file");
+        EXPECT(strlen(shown[kind]) <= GIT_DATE_MAX_SHOWN, "%s", shown[kind]);
+    }
+}
+
+static void refused_to_show(void)
+{
+    static const gix_date_time day = {1251660000, 0}, early = {-1, 0}, odd = {1251660000, 30};
+    const git_date_mode iso = {GIT_DATE_ISO8601, false}, none_such = {9, false};
+    git_date_mode neither = iso;
+    char buffer[32];
+    char *out = buffer;
+    size_t len = 99;
+    memset(buffer, '#', sizeof buffer);
+    memset(&neither.local, 2, 1);
+    EXPECT(git_date_show_at_offset(&early, &iso, &sunday, 0, out, sizeof buffer, &len) ==
+                   GIT_DATE_RANGE &&
+               len == 0,
+           "before 1970");
+    EXPECT(git_date_show_at_offset(&odd, &iso, &sunday, 0, out, sizeof buffer, &len) ==
+               GIT_DATE_RANGE,
+           "an offset with seconds");
+    EXPECT(git_date_show_at_offset(&day, &none_such, &sunday, 0, out, sizeof buffer, &len) ==
+               GIX_DATE_NO_SUCH_OPTION,
+           "kind 9");
+    EXPECT(git_date_show_at_offset(&day, &neither, &sunday, 0, out, sizeof buffer, &len) ==
+               GIX_DATE_NO_SUCH_OPTION,
+           "neither true nor false");
+    EXPECT(git_date_show_in_posix_zone(&day, &iso, &sunday, BYTES("\xff"), out, sizeof buffer,
+                                       &len) == GIX_DATE_NOT_TEXT,
+           "a rule that is no text");
+    EXPECT(len == 0 && is_untouched(buffer, sizeof buffer), "a refusal stores nothing");
+}
+
+/* What a call with a file of a zone answers. It is made with each start of the file and the whole
+ * of it, and is refused memory once. At night noon is that of the day before, so the 1 is ignored.
+ */
+typedef uint32_t with_file(const void *file, size_t len);
+
+static uint32_t parse_with(const void *file, size_t len)
+{
+    git_date_exact date = no_date;
+    size_t place = NO_PLACE;
+    uint32_t status =
+        git_date_parse_in_tzif_zone(TEXT("2023-11-05 01:30"), &in_fold, file, len, &date, &place);
+    EXPECT(status == GIX_DATE_OK ? is_exact(date, 1699162200, -14400, GIT_DATE_NOTHING)
+                                 : is_exact(date, -77, -7, 9),
+           "%lld", (long long)date.time.seconds);
+    EXPECT(place == NO_PLACE, "%zu", place);
+    return status;
+}
+
+static uint32_t approxidate_with(const void *file, size_t len)
+{
+    git_date_approximate date = no_guess;
+    size_t place = NO_PLACE;
+    uint32_t status =
+        git_date_approxidate_in_tzif_zone(TEXT("noon july 1"), &in_fold, file, len, &date, &place);
+    EXPECT(status == GIX_DATE_OK ? is_approximate(date, 1688486400, -14400, 10, true)
+                                 : is_no_guess(date),
+           "%lld", (long long)date.time.seconds);
+    EXPECT(place == NO_PLACE, "%zu", place);
+    return status;
+}
+
+static uint32_t expiry_with(const void *file, size_t len)
+{
+    git_date_expiry expiry = no_expiry;
+    size_t place = NO_PLACE;
+    uint32_t status =
+        git_date_expiry_in_tzif_zone(TEXT("noon july 1"), &in_fold, file, len, &expiry, &place);
+    EXPECT(status == GIX_DATE_OK
+               ? expiry.kind == GIT_DATE_BEFORE && is_time(expiry.before.time, 1688486400, -14400)
+               : expiry.kind == 99 && is_no_guess(expiry.before),
+           "%lld", (long long)expiry.before.time.seconds);
+    EXPECT(place == NO_PLACE, "%zu", place);
+    return status;
+}
+
+static uint32_t show_with(const void *file, size_t len)
+{
+    static const gix_date_time time = {1688227200, 0};
+    const git_date_mode mode = {GIT_DATE_ISO8601, true};
+    char out[64];
+    size_t out_len = 99;
+    memset(out, '#', sizeof out);
+    uint32_t status =
+        git_date_show_in_tzif_zone(&time, &mode, &in_fold, file, len, out, sizeof out, &out_len);
+    EXPECT(status == GIX_DATE_OK ? holds(out, sizeof out, "2023-07-01 12:00:00 -0400", out_len)
+                                 : out_len == 0 && is_untouched(out, sizeof out),
+           "%zu", out_len);
+    return status;
+}
+
+static void zone_files(with_file *call, const char *name)
+{
+    const size_t whole = sizeof zone_file - 1;
+    demand before = so_far();
+    EXPECT(call(zone_file, whole) == GIX_DATE_OK, "%s", name);
+    expect_demand(before, (demand){1, 40}, name);
+    for (size_t len = 0; len < whole; len++)
+        EXPECT(call(zone_file, len) == GIX_DATE_INVALID_ZONE, "%s: a file of %zu bytes", name, len);
+    before = so_far();
+    refuses = true;
+    EXPECT(call(zone_file, whole) == GIX_DATE_OUT_OF_MEMORY, "%s", name);
+    refuses = false;
+    expect_demand(before, (demand){1, 40}, name);
+}
+
+enum { LONG = 60000 };
+
+/* Pieces that fill 60000 bytes before a date, which Git reads all the same, exactly but for one. */
+static void long_texts(void)
+{
+    static const char *const pieces[] = {
+        "0", "x", "-", ".", ":", "+05:", "10:00 ", "Jan ", "xyz1 ", "2005-04-07 ", "1."};
+    static const char date[] = "2005-04-07 10:00 +0100";
+    static char text[LONG + sizeof date];
+    for (size_t i = 0; i < sizeof pieces / sizeof *pieces; i++) {
+        size_t size = strlen(pieces[i]), len = 0;
+        for (; len + size <= LONG; len += size)
+            memcpy(text + len, pieces[i], size);
+        memcpy(text + len, date, sizeof date - 1);
+        len += sizeof date - 1;
+        git_date_exact exact = no_date;
+        git_date_approximate guess = no_guess;
+        git_date_expiry expiry = no_expiry;
+        git_date_mode mode;
+        size_t place = NO_PLACE;
+        bool is_sign = *pieces[i] == '-';
+        uint32_t status = git_date_parse_at_offset(text, len, &sunday, 0, &exact, &place);
+        EXPECT(is_sign ? status == GIT_DATE_UNREADABLE
+                       : status == GIX_DATE_OK && is_time(exact.time, 1112864400, 3600),
+               "%s: %u", pieces[i], status);
+        status = git_date_approxidate_at_offset(text, len, &sunday, 0, &guess, &place);
+        EXPECT(status == GIX_DATE_OK && guess.time.seconds == (is_sign ? 1112868000 : 1112864400),
+               "%s: %u, %lld", pieces[i], status, (long long)guess.time.seconds);
+        status = git_date_expiry_at_offset(text, len, &sunday, 0, &expiry, &place);
+        EXPECT(status == GIX_DATE_OK && expiry.before.time.seconds == guess.time.seconds, "%s: %u",
+               pieces[i], status);
+        EXPECT(git_date_mode_named(text, len, &mode) == GIX_DATE_NO_SUCH_OPTION, "%s", pieces[i]);
+        EXPECT(place == NO_PLACE, "%s: %zu", pieces[i], place);
+    }
+}
+
+/* The statuses of this header have words of their own, and the others those of gix_date.h. */
+static void status_texts(void)
+{
+    static const char *const texts[] = {
+        "not a date that Git reads",
+        "a number of the date is too large",
+        "the date leads back too far",
+        "the year of the date is refused: expected 1970 to 2099",
+        "the date is before 1970 or leads to an instant that cannot be computed with",
+    };
+    const uint32_t first = GIX_DATE_UNCLEAR + 1;
+    for (uint32_t status = 0; status < first; status++)
+        EXPECT(git_date_status_text(status) == gix_date_status_text(status) ||
+                   !strcmp(git_date_status_text(status), gix_date_status_text(status)),
+               "%u", status);
+    for (uint32_t i = 0; i < sizeof texts / sizeof *texts; i++)
+        EXPECT(!strcmp(git_date_status_text(first + i), texts[i]), "%u", first + i);
+    EXPECT(!strcmp(git_date_status_text(first + sizeof texts / sizeof *texts), "unknown status"),
+           "the number after the last");
+}
+
+static void *reads_and_shows(void *unused)
+{
+    (void)unused;
+    for (int i = 0; i < 200; i++) {
+        exact_dates();
+        approximate_dates();
+        expiries();
+        modes();
+        char out[GIT_DATE_MAX_SHOWN];
+        size_t len;
+        EXPECT(show_in_new_york(true, (git_date_mode){GIT_DATE_DEFAULT, true}, out, sizeof out,
+                                &len) == GIX_DATE_OK &&
+                   len == 23 && !memcmp(out, "Sat Jul 1 12:00:00 2023", 23),
+               "a thread");
+    }
+    return NULL;
+}
+
+int main(void)
+{
+    status_texts();
+    without_memory(exact_dates, "exact dates");
+    without_memory(approximate_dates, "approximate dates");
+    without_memory(expiries, "expiries");
+    without_memory(moments, "moments");
+    without_memory(null_pointers, "texts at NULL");
+    without_memory(modes, "modes");
+    without_memory(refused_to_show, "dates that are not shown");
+    without_memory(long_texts, "long texts");
+    shown_dates();
+    zone_files(parse_with, "git_date_parse_in_tzif_zone");
+    zone_files(approxidate_with, "git_date_approxidate_in_tzif_zone");
+    zone_files(expiry_with, "git_date_expiry_in_tzif_zone");
+    zone_files(show_with, "git_date_show_in_tzif_zone");
+    in_threads(reads_and_shows);
+    if (failures > 0)
+        return 1;
+    puts("each call of git_date.h answers as its rows say");
+    return 0;
+}

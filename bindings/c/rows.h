@@ -1,0 +1,70 @@
+/* What rows.c and git_rows.c share: the fields of a row, taken one after the other, and an answer.
+ */
+#ifndef ROWS_H
+#define ROWS_H
+
+#include "gix_date.h"
+
+enum { MAX_FIELDS = 8, MAX_ANSWER = 8192 };
+
+/* The bytes of a field, with a NUL after them. */
+typedef struct field {
+    char *bytes;
+    size_t len;
+} field;
+
+/* Fields, and how many of them are taken. */
+typedef struct arguments {
+    field fields[MAX_FIELDS];
+    size_t count, taken;
+} arguments;
+
+typedef struct answer {
+    bool refused;
+    char bytes[MAX_ANSWER];
+    size_t len;
+} answer;
+
+/* What became of a call: its answer is there, the row has not its arguments, or there is no such
+ * call here. */
+enum outcome { ANSWERED, MALFORMED, LACKING };
+
+#define LENGTH(array) (sizeof(array) / sizeof *(array))
+#define TEXT(field) (field).bytes, (field).len
+
+/* The name where calls differ that have to agree. No row has it. */
+#define APART "CallsDiffer"
+
+/* The whole of a file, with a NUL after it. */
+field read_file(const char *name);
+
+/* The next field; one of no bytes where there is none, and then more are taken than there are. */
+field take(arguments *row);
+
+bool to_number(const char *text, int64_t *number);
+
+/* A time of two fields: its seconds and its offset. */
+bool take_time(arguments *row, gix_date_time *time);
+
+/* Answers a status, where it is a refusal. */
+bool is_refused(uint32_t status, answer *told);
+
+/* Answers a text, by a format of printf. */
+void tell(answer *told, const char *format, ...);
+
+/* Answers that calls differ, or that one changes what it must not. */
+void tell_apart(answer *told);
+
+/* Keeps the answer where another one is the same. */
+void agree(answer *told, const answer *other);
+
+/* The instant of a field, and the zone after it. */
+bool to_moment(field moment, gix_date_instant *now, field *zone);
+
+/* Whether a zone is the name of a TZif file. */
+bool is_file_name(field zone);
+
+/* Makes the call of git_date.h that a row names. */
+enum outcome git_call(const char *name, arguments *row, answer *told);
+
+#endif

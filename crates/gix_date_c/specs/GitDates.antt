@@ -1,0 +1,76 @@
+-- Git's dates, as they are read for C.
+use Rattle.std.specs.Prelude.{◌≡◌, ℕ, ◌^◌, ◌-◌, if◌then◌else◌, Bool, List, Option, unwrap_or, Result}
+use Rattle.std.specs.Result.{result_map_both}
+use Rattle.std.specs.Str.{is_utf8}
+use Rattle.jiff.specs.declared.zoned.Zoned.{Zoned}
+use Rattle.gix_date.specs.Relative.Steps.{zone_of}
+use Rattle.git_date.specs.Approximate.{ApproximateOutcome, HasApproximatePlacesIn}
+use Rattle.git_date.specs.ApproximateExpiry.{ExpiryOutcome, HasExpiryPlacesIn}
+use Rattle.git_date.specs.Dates.{now_of}
+use Rattle.git_date.specs.Outcome.{DateOutcome, HasPlacesIn}
+use Rattle.git_date.specs.Reading.{said_by}
+use Rattle.git_date.specs.declared.approximate.answer.Approximate.{Approximate}
+use Rattle.git_date.specs.declared.approximate.expiry.Expiry.{Expiry}
+use Rattle.git_date.specs.declared.approximate.expiry.Expiry.TheVariants.{Never, All, Before}
+use Rattle.git_date.specs.declared.date.ReadDate.{ReadDate}
+use Rattle.git_date.specs.declared.error.DateError.{DateError}
+use Rattle.git_date.specs.declared.error.DateError.TheVariants as errors
+use Rattle.gix_date_c.specs.Reading.{IfText}
+use Rattle.gix_date_c.specs.Refusals.{refused, refused_at}
+use Rattle.gix_date_c.specs.Times.{time_for_c}
+use Rattle.gix_date_c.specs.declared.git.approximate.CApproximate.{CApproximate}
+use Rattle.gix_date_c.specs.declared.git.exact.CExact.{CExact}
+use Rattle.gix_date_c.specs.declared.git.expiry.CExpiry.{CExpiry}
+use Rattle.gix_date_c.specs.declared.refusal.Refusal.{Refusal}
+use Rattle.gix_date_c.specs.declared.status.Status.TheVariants as statuses
+
+-- the refusal that C is told for one of the library
+abbrev pub date_refusal : DateError → Refusal
+date_refusal errors.Unreadable = refused statuses.Unreadable
+date_refusal (errors.NumberTooLarge place) = refused_at statuses.NumberTooLarge place
+date_refusal (errors.BackTooFar place) = refused_at statuses.BackTooFar place
+date_refusal (errors.YearRefused place) = refused_at statuses.YearRefused place
+date_refusal errors.Range = refused statuses.GitRange
+
+-- the place of what was ignored, or the greatest `usize` if nothing was: no text has that place
+abbrev pub ignored_place : Option ℕ → ℕ
+ignored_place ignored = unwrap_or ignored (2 ^ 64 - 1)
+
+-- a `bool` of C
+abbrev pub bool_for_c : Bool → ℕ
+bool_for_c b = if b then 1 else 0
+
+abbrev pub exact_of : ReadDate → CExact
+exact_of date = record { time = time_for_c date.time; ignored = ignored_place date.ignored }
+
+abbrev pub approximate_of : Approximate → CApproximate
+approximate_of date =
+    record {
+      time = time_for_c date.time;
+      ignored = ignored_place date.ignored;
+      understood = bool_for_c date.understood;
+    }
+
+-- what expires, where the date that was there before stays if none is read
+abbrev pub expiry_of : CExpiry → Expiry → CExpiry
+expiry_of old Never = record { kind = 0; before = old.before }
+expiry_of old All = record { kind = 1; before = old.before }
+expiry_of old (Before date) = record { kind = 2; before = approximate_of date }
+
+-- what the exact reader comes to at a moment, as C has it: the library's outcome, of which each place is in the text
+abbrev pub IsExact : Zoned → List ℕ → Result CExact Refusal → Type 0
+IsExact now text answer =
+    IfText (is_utf8 text) (λ told. (date : Result ReadDate DateError) × DateOutcome (zone_of now) (said_by (now_of now) text) date
+    × HasPlacesIn text date × (told ≡ result_map_both exact_of date_refusal date)) answer
+
+-- the same of the approximate reader
+abbrev pub IsApproximate : Zoned → List ℕ → Result CApproximate Refusal → Type 0
+IsApproximate now text answer =
+    IfText (is_utf8 text) (λ told. (date : Result Approximate DateError) × ApproximateOutcome now text date
+    × HasApproximatePlacesIn text date × (told ≡ result_map_both approximate_of date_refusal date)) answer
+
+-- the same of what expires
+abbrev pub IsExpiry : CExpiry → Zoned → List ℕ → Result CExpiry Refusal → Type 0
+IsExpiry old now text answer =
+    IfText (is_utf8 text) (λ told. (expiry : Result Expiry DateError) × ExpiryOutcome now text expiry
+    × HasExpiryPlacesIn text expiry × (told ≡ result_map_both (expiry_of old) date_refusal expiry)) answer

@@ -1,0 +1,106 @@
+//! What expires, as Git reads it.
+ghost use Rattle.std.specs.Prelude.{◌≡◌};
+ghost use Rattle.gix_date_c.specs.GitDates.{IsExpiry, expiry_of};
+ghost use Rattle.gix_date_c.specs.Reading.{IsReadAt, IsReadIn};
+ghost use Rattle.gix_date_c.specs.Moments.{IsFileZone, IsOffsetZone, IsRuleZone};
+ghost use Rattle.gix_date_c.specs.Stores.{StoresRead};
+
+use crate::git::approximate::{CApproximate, approximate_of};
+use crate::git::date_refusal;
+use crate::moment::{CInstant, moment_at_offset, moment_by_rule, moment_by_table, table_of};
+use crate::refusal::Refusal;
+use crate::status::Status;
+use crate::store::store_read;
+use crate::text::utf8_text;
+use git_date::{Expiry, expiry_date};
+use gix_date::Zoned;
+use std::alloc::Global;
+
+/// What expires: `struct git_date_expiry`. The date is one only of the last kind.
+#[repr(C)]
+#[derive(Clone, Copy)]
+pub struct CExpiry {
+    pub kind: u32,
+    pub before: CApproximate,
+}
+
+/// Reads what expires, at a moment in the zone that always has an offset.
+#[unsafe(no_mangle)]
+pub extern "C" fn git_date_expiry_at_offset(
+    text: &[u8],
+    now: &CInstant,
+    offset: i32,
+    expiry: &mut CExpiry,
+    place: &mut usize,
+) -> u32
+    ensures { StoresRead (IsReadIn (IsExpiry expiry.old) (IsOffsetZone offset) now.now text.now)
+        (expiry.old, place.old) (expiry.new, place.new) result }
+{
+    store_read(
+        read(text, moment_at_offset(now, offset), *expiry),
+        expiry,
+        place,
+    )
+}
+
+/// Reads what expires, at a moment in the zone of a POSIX rule.
+#[unsafe(no_mangle)]
+pub extern "C" fn git_date_expiry_in_posix_zone(
+    text: &[u8],
+    now: &CInstant,
+    rule: &[u8],
+    expiry: &mut CExpiry,
+    place: &mut usize,
+) -> u32
+    ensures { StoresRead (IsReadIn (IsExpiry expiry.old) (IsRuleZone rule.now) now.now text.now)
+        (expiry.old, place.old) (expiry.new, place.new) result }
+{
+    store_read(
+        read(text, moment_by_rule(now, rule), *expiry),
+        expiry,
+        place,
+    )
+}
+
+/// Reads what expires, at a moment in the zone of a TZif file.
+#[unsafe(no_mangle)]
+pub extern "C" fn git_date_expiry_in_tzif_zone(
+    alloc: Global,
+    text: &[u8],
+    now: &CInstant,
+    file: &[u8],
+    expiry: &mut CExpiry,
+    place: &mut usize,
+) -> u32
+    ensures { StoresRead (IsReadIn (IsExpiry expiry.old) (IsFileZone file.now) now.now text.now)
+        (expiry.old, place.old) (expiry.new, place.new) result }
+{
+    let table = table_of(alloc, file);
+    let answer = read(text, moment_by_table(now, &table), *expiry);
+    store_read(answer, expiry, place)
+}
+
+/// What expires by a text at a moment, where there is one. What is no date leaves the date that was there before.
+fn read(text: &[u8], now: Result<Zoned<'_>, Status>, old: CExpiry) -> Result<CExpiry, Refusal>
+    ensures { IsReadAt (IsExpiry old) now.entry text.now result }
+{
+    let now = now.map_err(Refusal::of)?;
+    match expiry_date(utf8_text(text).map_err(Refusal::of)?, now) {
+        Ok(expiry) => Ok(expiry_of(old, expiry)),
+        Err(error) => Err(date_refusal(error)),
+    }
+}
+
+/// What expires, as C has it.
+fn expiry_of(old: CExpiry, expiry: Expiry) -> CExpiry
+    ensures { result ≡ expiry_of old expiry }
+{
+    match expiry {
+        Expiry::Never => CExpiry { kind: 0, ..old },
+        Expiry::All => CExpiry { kind: 1, ..old },
+        Expiry::Before(date) => CExpiry {
+            kind: 2,
+            before: approximate_of(date),
+        },
+    }
+}

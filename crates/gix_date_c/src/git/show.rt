@@ -1,0 +1,198 @@
+//! Dates as Git shows them.
+ghost use Rattle.std.specs.Prelude.{◌≡◌};
+ghost use Rattle.std.specs.Result.{result_map_both};
+ghost use Rattle.gix_date_c.specs.Buffers.{Outcome, Puts, outcome_of};
+ghost use Rattle.gix_date_c.specs.GitModes.{IsShownIn, kind_number, kind_of, local_of, mode_answer, mode_for_c, mode_of, shown_at};
+ghost use Rattle.gix_date_c.specs.Moments.{IsFileZone, IsOffsetZone, IsRuleZone};
+ghost use Rattle.gix_date_c.specs.Stores.{Stores};
+ghost use Rattle.gix_date_c.specs.Times.{load_time};
+
+use crate::buffer::store_text;
+use crate::moment::{CInstant, moment_at_offset, moment_by_rule, moment_by_table, table_of};
+use crate::status::Status;
+use crate::store::store;
+use crate::text::utf8_text;
+use crate::time::{CTime, load_time};
+use git_date::{DateKind, DateMode, DateText, show_date};
+use gix_date::{Time, Zoned};
+use std::alloc::Global;
+
+/// How a date is shown: `struct git_date_mode`. Its last field is a `bool` of C.
+#[repr(C)]
+#[derive(Clone, Copy)]
+pub struct CMode {
+    pub kind: u32,
+    pub local: u8,
+}
+
+/// The mode of one of Git's names.
+#[unsafe(no_mangle)]
+pub extern "C" fn git_date_mode_named(name: &[u8], mode: &mut CMode) -> u32
+    ensures { Stores (mode_answer name.now) mode.old mode.new result }
+{
+    store(mode_named(name), mode)
+}
+
+/// Puts a date into a buffer as Git shows it, at a moment in the zone that always has an offset.
+#[unsafe(no_mangle)]
+pub extern "C" fn git_date_show_at_offset(
+    time: &CTime,
+    mode: &CMode,
+    now: &CInstant,
+    offset: i32,
+    out: &mut [u8],
+    len: &mut usize,
+) -> u32
+    ensures { Puts (IsShownIn (load_time time.now) mode.now (IsOffsetZone offset) now.now)
+        out.old (record { bytes = out.new; len = len.new; status = result }) }
+{
+    store_shown(
+        load_time(time),
+        mode,
+        moment_at_offset(now, offset),
+        out,
+        len,
+    )
+}
+
+/// Puts a date into a buffer as Git shows it, at a moment in the zone of a POSIX rule.
+#[unsafe(no_mangle)]
+pub extern "C" fn git_date_show_in_posix_zone(
+    time: &CTime,
+    mode: &CMode,
+    now: &CInstant,
+    rule: &[u8],
+    out: &mut [u8],
+    len: &mut usize,
+) -> u32
+    ensures { Puts (IsShownIn (load_time time.now) mode.now (IsRuleZone rule.now) now.now)
+        out.old (record { bytes = out.new; len = len.new; status = result }) }
+{
+    store_shown(load_time(time), mode, moment_by_rule(now, rule), out, len)
+}
+
+/// Puts a date into a buffer as Git shows it, at a moment in the zone of a TZif file.
+#[unsafe(no_mangle)]
+pub extern "C" fn git_date_show_in_tzif_zone(
+    alloc: Global,
+    time: &CTime,
+    mode: &CMode,
+    now: &CInstant,
+    file: &[u8],
+    out: &mut [u8],
+    len: &mut usize,
+) -> u32
+    ensures { Puts (IsShownIn (load_time time.now) mode.now (IsFileZone file.now) now.now)
+        out.old (record { bytes = out.new; len = len.new; status = result }) }
+{
+    let table = table_of(alloc, file);
+    store_shown(
+        load_time(time),
+        mode,
+        moment_by_table(now, &table),
+        out,
+        len,
+    )
+}
+
+/// Puts a date into a buffer as Git shows it at a moment, where there is one.
+fn store_shown(
+    time: Time,
+    mode: &CMode,
+    now: Result<Zoned<'_>, Status>,
+    out: &mut [u8],
+    len: &mut usize,
+) -> u32
+    ensures { record { bytes = out.new; len = len.new; status = result }
+        ≡ outcome_of (shown_at time mode.now now.entry) out.old }
+{
+    match shown_at(time, mode, now) {
+        Ok(text) => store_text(Ok(text.as_str()), out, len),
+        Err(status) => store_text(Err(status), out, len),
+    }
+}
+
+/// What Git shows of a time at a moment, where there is one.
+fn shown_at(time: Time, mode: &CMode, now: Result<Zoned<'_>, Status>) -> Result<DateText, Status>
+    ensures { result_map_both (λ text. text.bytes) (λ status. status) result ≡ shown_at time mode.now now.entry }
+{
+    let now = now?;
+    let mode = mode_of(mode).ok_or(Status::NoSuchOption)?;
+    match show_date(time, mode, now) {
+        Ok(text) => Ok(text),
+        Err(_) => Err(Status::GitRange),
+    }
+}
+
+/// The mode that a name of Git's says, as C has it.
+fn mode_named(name: &[u8]) -> Result<CMode, Status>
+    ensures { result ≡ mode_answer name.now }
+{
+    match utf8_text(name)?.parse::<DateMode>() {
+        Ok(mode) => Ok(mode_for_c(mode)),
+        Err(_) => Err(Status::NoSuchOption),
+    }
+}
+
+fn mode_for_c(mode: DateMode) -> CMode
+    ensures { result ≡ mode_for_c mode }
+{
+    CMode {
+        kind: kind_number(mode.kind),
+        local: u8::from(mode.local),
+    }
+}
+
+fn kind_number(kind: DateKind) -> u32
+    ensures { result ≡ kind_number kind }
+{
+    match kind {
+        DateKind::Relative => 0,
+        DateKind::Iso8601Strict => 1,
+        DateKind::Iso8601 => 2,
+        DateKind::Rfc2822 => 3,
+        DateKind::Short => 4,
+        DateKind::Default => 5,
+        DateKind::Human => 6,
+        DateKind::Raw => 7,
+        DateKind::Unix => 8,
+    }
+}
+
+/// The mode of these numbers.
+fn mode_of(mode: &CMode) -> Option<DateMode>
+    ensures { result ≡ mode_of mode.now }
+{
+    Some(DateMode {
+        kind: kind_of(mode.kind)?,
+        local: local_of(mode.local)?,
+    })
+}
+
+fn kind_of(number: u32) -> Option<DateKind>
+    ensures { result ≡ kind_of number }
+{
+    match number {
+        0 => Some(DateKind::Relative),
+        1 => Some(DateKind::Iso8601Strict),
+        2 => Some(DateKind::Iso8601),
+        3 => Some(DateKind::Rfc2822),
+        4 => Some(DateKind::Short),
+        5 => Some(DateKind::Default),
+        6 => Some(DateKind::Human),
+        7 => Some(DateKind::Raw),
+        8 => Some(DateKind::Unix),
+        _ => None,
+    }
+}
+
+/// Whether the clock is the zone's, by a `bool` of C.
+fn local_of(number: u8) -> Option<bool>
+    ensures { result ≡ local_of number }
+{
+    match number {
+        0 => Some(false),
+        1 => Some(true),
+        _ => None,
+    }
+}

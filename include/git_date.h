@@ -1,0 +1,188 @@
+/* Dates as Git itself reads and shows them, for C and C++: in the library of gix_date.h.
+ *
+ * Each call is proved to do what docs/C.md says of it, for every input with valid pointers and
+ * lengths. What Git reads, and each refusal, is in docs/GIT_DATES.md. All that gix_date.h says of
+ * texts, buffers, threads and memory holds here too.
+ *
+ * A call has a moment: the instant now, in a zone. The zone is an offset in seconds east of UTC
+ * (.._at_offset), a POSIX rule (.._in_posix_zone) or the bytes of a TZif file (.._in_tzif_zone). A
+ * text without an offset has that of the zone.
+ *
+ * A place counts bytes from the text's start. It is one where a character of the text begins. */
+#ifndef GIT_DATE_H
+#define GIT_DATE_H
+
+#include "gix_date.h"
+
+#ifdef __cplusplus
+extern "C" {
+#endif
+
+/* The place in a text of which nothing was ignored. */
+#define GIT_DATE_NOTHING SIZE_MAX
+
+/* The most bytes of a shown date. */
+#define GIT_DATE_MAX_SHOWN 31
+
+/* How a call ended: a status of gix_date.h, or one of these. After any but GIX_DATE_OK only *len
+ * changes, and *place after the three that say so. */
+enum git_date_status {
+    /* Git reads no date either: the text says no year, month or time of day, or none that Git
+     * knows. */
+    GIT_DATE_UNREADABLE = 18,
+    /* The digits at *place say more than 2147483647, and are neither an epoch nor a fraction. */
+    GIT_DATE_NUMBER_TOO_LARGE = 19,
+    /* The date leads back beyond what Git can say, by the word or number at *place. */
+    GIT_DATE_BACK_TOO_FAR = 20,
+    /* The date at *place begins with a year that Git refuses. */
+    GIT_DATE_YEAR_REFUSED = 21,
+    /* The date is before 1970, or leads to an instant that cannot be computed with. When shown: Git
+     * cannot show it. */
+    GIT_DATE_RANGE = 22
+};
+
+/* What a status of either header means, in English; "unknown status" for another number. */
+static inline const char *git_date_status_text(uint32_t status)
+{
+    switch (status) {
+    case GIT_DATE_UNREADABLE:
+        return "not a date that Git reads";
+    case GIT_DATE_NUMBER_TOO_LARGE:
+        return "a number of the date is too large";
+    case GIT_DATE_BACK_TOO_FAR:
+        return "the date leads back too far";
+    case GIT_DATE_YEAR_REFUSED:
+        return "the year of the date is refused: expected 1970 to 2099";
+    case GIT_DATE_RANGE:
+        return "the date is before 1970 or leads to an instant that cannot be computed with";
+    default:
+        return gix_date_status_text(status);
+    }
+}
+
+/* A date that is read exactly. */
+typedef struct git_date_exact {
+    gix_date_time time;
+    size_t ignored; /* the place of the first unused word or number, or GIT_DATE_NOTHING */
+} git_date_exact;
+
+/* A date that is read as people write it. */
+typedef struct git_date_approximate {
+    gix_date_time time;
+    size_t ignored;  /* as in git_date_exact */
+    bool understood; /* else the time is the moment, or near it */
+} git_date_approximate;
+
+/* What expires. */
+enum git_date_expiry_kind {
+    GIT_DATE_NEVER = 0, /* nothing */
+    GIT_DATE_ALL = 1,   /* all, however new it is */
+    GIT_DATE_BEFORE = 2 /* what is older than a date */
+};
+
+typedef struct git_date_expiry {
+    uint32_t kind;               /* of enum git_date_expiry_kind */
+    git_date_approximate before; /* changes only with GIT_DATE_BEFORE */
+} git_date_expiry;
+
+/* What of a date is shown. The examples show 1251660000 +0000. */
+enum git_date_kind {
+    GIT_DATE_RELATIVE = 0,       /* 2 hours ago */
+    GIT_DATE_ISO8601_STRICT = 1, /* 2009-08-30T19:20:00+00:00 */
+    GIT_DATE_ISO8601 = 2,        /* 2009-08-30 19:20:00 +0000 */
+    GIT_DATE_RFC2822 = 3,        /* Sun, 30 Aug 2009 19:20:00 +0000 */
+    GIT_DATE_SHORT = 4,          /* 2009-08-30 */
+    GIT_DATE_DEFAULT = 5,        /* Sun Aug 30 19:20:00 2009 +0000 */
+    GIT_DATE_HUMAN = 6,          /* as much as tells the date from now: Tue Aug 25 19:20 */
+    GIT_DATE_RAW = 7,            /* 1251660000 +0000 */
+    GIT_DATE_UNIX = 8            /* 1251660000 */
+};
+
+/* How a date is shown, as Git's option --date says it. */
+typedef struct git_date_mode {
+    uint32_t kind; /* of enum git_date_kind */
+    bool local;    /* whether the clock is that of the moment's zone; else it is the time's own */
+} git_date_mode;
+
+/* Reads a date as Git's exact reader does: GIT_COMMITTER_DATE, the date of a mail.
+ * GIX_DATE_INVALID_ZONE, GIX_DATE_INVALID_INSTANT; GIX_DATE_NOT_TEXT, GIT_DATE_UNREADABLE,
+ * GIT_DATE_NUMBER_TOO_LARGE, GIT_DATE_YEAR_REFUSED, GIT_DATE_RANGE. */
+uint32_t git_date_parse_at_offset(const char *text, size_t text_len, const gix_date_instant *now,
+                                  int32_t offset, git_date_exact *date, size_t *place);
+
+/* git_date_parse_at_offset in the zone of a POSIX rule, with its statuses. */
+uint32_t git_date_parse_in_posix_zone(const char *text, size_t text_len,
+                                      const gix_date_instant *now, const char *rule,
+                                      size_t rule_len, git_date_exact *date, size_t *place);
+
+/* git_date_parse_at_offset in the zone of a TZif file. Takes memory for the zone. Also
+ * GIX_DATE_OUT_OF_MEMORY. */
+uint32_t git_date_parse_in_tzif_zone(const char *text, size_t text_len, const gix_date_instant *now,
+                                     const void *file, size_t file_len, git_date_exact *date,
+                                     size_t *place);
+
+/* Reads a date as people write it, as Git reads --since and REF@{..}: "yesterday noon". A word that
+ * Git does not know is ignored: "5 mins ago" is the fifth. GIX_DATE_INVALID_ZONE,
+ * GIX_DATE_INVALID_INSTANT; GIX_DATE_NOT_TEXT, GIT_DATE_NUMBER_TOO_LARGE, GIT_DATE_BACK_TOO_FAR,
+ * GIT_DATE_YEAR_REFUSED, GIT_DATE_RANGE. */
+uint32_t git_date_approxidate_at_offset(const char *text, size_t text_len,
+                                        const gix_date_instant *now, int32_t offset,
+                                        git_date_approximate *date, size_t *place);
+
+/* git_date_approxidate_at_offset in the zone of a POSIX rule, with its statuses. */
+uint32_t git_date_approxidate_in_posix_zone(const char *text, size_t text_len,
+                                            const gix_date_instant *now, const char *rule,
+                                            size_t rule_len, git_date_approximate *date,
+                                            size_t *place);
+
+/* git_date_approxidate_at_offset in the zone of a TZif file. Takes memory for the zone. Also
+ * GIX_DATE_OUT_OF_MEMORY. */
+uint32_t git_date_approxidate_in_tzif_zone(const char *text, size_t text_len,
+                                           const gix_date_instant *now, const void *file,
+                                           size_t file_len, git_date_approximate *date,
+                                           size_t *place);
+
+/* Reads what expires, as Git reads gc.pruneExpire: "never" and "false" are GIT_DATE_NEVER, "all"
+ * and "now" GIT_DATE_ALL, and any other text is a date of git_date_approxidate_at_offset. Its
+ * statuses, and GIT_DATE_UNREADABLE if nothing of the date was understood. */
+uint32_t git_date_expiry_at_offset(const char *text, size_t text_len, const gix_date_instant *now,
+                                   int32_t offset, git_date_expiry *expiry, size_t *place);
+
+/* git_date_expiry_at_offset in the zone of a POSIX rule, with its statuses. */
+uint32_t git_date_expiry_in_posix_zone(const char *text, size_t text_len,
+                                       const gix_date_instant *now, const char *rule,
+                                       size_t rule_len, git_date_expiry *expiry, size_t *place);
+
+/* git_date_expiry_at_offset in the zone of a TZif file. Takes memory for the zone. Also
+ * GIX_DATE_OUT_OF_MEMORY. */
+uint32_t git_date_expiry_in_tzif_zone(const char *text, size_t text_len,
+                                      const gix_date_instant *now, const void *file,
+                                      size_t file_len, git_date_expiry *expiry, size_t *place);
+
+/* The mode of one of Git's names, in its letter case: "iso8601-strict-local", "local". Git's modes
+ * "auto:" and "format:" have none. GIX_DATE_NOT_TEXT, GIX_DATE_NO_SUCH_OPTION. */
+uint32_t git_date_mode_named(const char *name, size_t name_len, git_date_mode *mode);
+
+/* Writes a time as git log --date=MODE shows it at the moment now, of at most GIT_DATE_MAX_SHOWN
+ * bytes. GIX_DATE_INVALID_ZONE, GIX_DATE_INVALID_INSTANT; GIX_DATE_NO_SUCH_OPTION, GIT_DATE_RANGE,
+ * GIX_DATE_NO_ROOM. */
+uint32_t git_date_show_at_offset(const gix_date_time *time, const git_date_mode *mode,
+                                 const gix_date_instant *now, int32_t offset, char *out,
+                                 size_t out_len, size_t *len);
+
+/* git_date_show_at_offset in the zone of a POSIX rule. Also GIX_DATE_NOT_TEXT. */
+uint32_t git_date_show_in_posix_zone(const gix_date_time *time, const git_date_mode *mode,
+                                     const gix_date_instant *now, const char *rule, size_t rule_len,
+                                     char *out, size_t out_len, size_t *len);
+
+/* git_date_show_at_offset in the zone of a TZif file. Takes memory for the zone. Also
+ * GIX_DATE_OUT_OF_MEMORY. */
+uint32_t git_date_show_in_tzif_zone(const gix_date_time *time, const git_date_mode *mode,
+                                    const gix_date_instant *now, const void *file, size_t file_len,
+                                    char *out, size_t out_len, size_t *len);
+
+#ifdef __cplusplus
+}
+#endif
+
+#endif
