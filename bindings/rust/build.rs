@@ -25,25 +25,34 @@ fn version_of(header: &Path) -> Option<Version> {
     Version::of_text(rest.trim_matches('"'))
 }
 
-/// Ends the build if the library's header names a version that does not serve this crate. Where that header is, depends on
-/// whether the library is installed.
-fn compare_versions(folder: &Path) {
-    let header = [
-        folder.join("gix_date.h"),
-        folder.join("../include/gix_date.h"),
-    ]
-    .into_iter()
-    .find(|header| header.exists());
-    let Some(header) = header else {
-        return;
-    };
-    println!("cargo:rerun-if-changed={}", header.display());
-    let Some(found) = version_of(&header) else {
-        return;
-    };
+/// Why a library with its headers in this folder does not serve this crate.
+fn misfit(headers: &Path) -> Option<String> {
+    let found = version_of(&headers.join("gix_date.h"))?;
     if let Err(error) = found.serves(Version::of_crate()) {
+        return Some(error.to_string());
+    }
+    // Before its release a version may lack calls.
+    let is_older = !headers.join("git_date.h").exists();
+    is_older.then(|| {
+        "the library gix_date has no git_date.h, and this crate needs its calls".to_string()
+    })
+}
+
+/// Ends the build if the library's headers say that it does not serve this crate. Where these are, depends on whether the
+/// library is installed.
+fn compare_headers(folder: &Path) {
+    let headers = [folder.to_path_buf(), folder.join("../include")]
+        .into_iter()
+        .find(|headers| headers.join("gix_date.h").exists());
+    let Some(headers) = headers else {
+        return;
+    };
+    for name in ["gix_date.h", "git_date.h"] {
+        println!("cargo:rerun-if-changed={}", headers.join(name).display());
+    }
+    if let Some(why) = misfit(&headers) {
         eprintln!(
-            "{error}: {}. Run ./build_c_library, or set GIX_DATE_LIB_DIR to the folder of such a library.",
+            "{why}: {}. Run ./build_c_library, or set GIX_DATE_LIB_DIR to the folder of such a library.",
             folder.display()
         );
         process::exit(1);
@@ -54,7 +63,7 @@ fn main() {
     let folder = library_folder();
     let library = folder.join("libgix_date.a");
     if library.exists() {
-        compare_versions(&folder);
+        compare_headers(&folder);
     } else {
         println!(
             "cargo:warning={} is not there, so no program can be linked: run ./build_c_library, or set GIX_DATE_LIB_DIR to its folder",

@@ -1,5 +1,6 @@
 //! The calls that read texts, for bytes that may not be UTF-8. Such bytes are refused by [`Error::NotText`].
 
+use crate::git::{Approximate, DateError, Expiry, ReadDate};
 use crate::{calls, CarefulError, CarefulOptions, Error, Moment, RawOffsets, Time};
 
 /// Reads the time of a commit header as [`parse_header()`](crate::parse_header) does. [`Error::NotText`],
@@ -31,4 +32,22 @@ pub fn parse_carefully(
     options: CarefulOptions,
 ) -> Result<Time, CarefulError> {
     calls::parse_carefully(input, now.as_ref(), options)
+}
+
+/// Reads a date as [`git::parse_date()`](crate::git::parse_date) does. The same refusals, and [`Error::NotText`] in
+/// [`DateError::Refused`].
+pub fn parse_date(input: &[u8], now: &Moment) -> Result<ReadDate, DateError> {
+    calls::git::parse_date(input, now)
+}
+
+/// Reads a date as [`git::approxidate()`](crate::git::approxidate) does. The same refusals, and [`Error::NotText`] in
+/// [`DateError::Refused`].
+pub fn approxidate(input: &[u8], now: &Moment) -> Result<Approximate, DateError> {
+    calls::git::approxidate(input, now)
+}
+
+/// Reads what expires as [`git::expiry_date()`](crate::git::expiry_date) does. The same refusals, and [`Error::NotText`] in
+/// [`DateError::Refused`].
+pub fn expiry_date(input: &[u8], now: &Moment) -> Result<Expiry, DateError> {
+    calls::git::expiry_date(input, now)
 }

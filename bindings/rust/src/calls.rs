@@ -1,9 +1,12 @@
 //! The calls of the library, each behind a safe function. No other module has an `unsafe` block.
 
+pub(crate) mod git;
+
 use crate::ffi::{self, CCarefulOptions, CInstant, CSignature};
 use crate::{CarefulError, CarefulOptions, Error, Moment, RawOffsets, Time, Zone};
 
 const OK: u32 = 0;
+const NO_SUCH_OPTION: u32 = 2;
 const NO_ROOM: u32 = 3;
 const UNCLEAR: u32 = 17;
 

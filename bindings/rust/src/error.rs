@@ -116,29 +116,11 @@ impl std::error::Error for CarefulError {}
 #[cfg(test)]
 mod tests {
     use super::Error;
-
-    /// The statuses of the header and their numbers, in camel case.
-    fn statuses() -> Vec<(String, u32)> {
-        let header = include_str!("../../../include/gix_date.h");
-        let (_, rest) = header.split_once("enum gix_date_status {").unwrap();
-        let (body, _) = rest.split_once("};").unwrap();
-        let lines = body
-            .lines()
-            .filter_map(|line| line.trim().strip_prefix("GIX_DATE_"));
-        lines
-            .map(|line| {
-                let (name, number) = line.trim_end_matches(',').split_once(" = ").unwrap();
-                let words = name
-                    .split('_')
-                    .map(|word| word[..1].to_string() + &word[1..].to_lowercase());
-                (words.collect(), number.parse().unwrap())
-            })
-            .collect()
-    }
+    use crate::header::{numbers, GIX_DATE};
 
     #[test]
     fn each_status_is_its_error() {
-        let statuses = statuses();
+        let statuses = numbers(GIX_DATE, "gix_date_status", "GIX_DATE_");
         assert_eq!(statuses.len(), 18);
         for (name, number) in statuses {
             // The types of this crate rule out the others, and `CarefulError` has the last.

@@ -1,16 +1,18 @@
 //! The calls of `include/gix_date.h`. [`Time`] is laid out as its `gix_date_time`.
 
+pub mod git;
+
 use crate::Time;
 
 #[repr(C)]
-#[derive(Clone, Copy)]
+#[derive(Clone, Copy, Default)]
 pub struct CInstant {
     pub seconds: i64,
     pub nanoseconds: i32,
 }
 
 #[repr(C)]
-#[derive(Clone, Copy)]
+#[derive(Clone, Copy, Default)]
 pub struct CCarefulOptions {
     pub raw_offsets: u32,
     pub without_offset: u32,
@@ -152,4 +154,97 @@ extern "C" {
         out_len: usize,
         len: *mut usize,
     ) -> u32;
+}
+
+#[cfg(test)]
+mod tests {
+    use super::git::{CApproximate, CExact, CExpiry, CMode};
+    use super::*;
+    use crate::header::{calls, layouts, Layout, GIT_DATE, GIX_DATE};
+    use std::mem::{align_of, size_of, size_of_val};
+    use std::ptr::addr_of;
+
+    /// The calls that a source declares, without white space.
+    fn declared(source: &str) -> Vec<String> {
+        let (_, rest) = source.split_once("\nextern \"C\" {").unwrap();
+        let (body, _) = rest.split_once("\n}").unwrap();
+        let body: String = body.split_whitespace().collect();
+        let calls = body.replace(",)", ")");
+        calls
+            .split_terminator(';')
+            .map(|call| call.strip_prefix("pub").unwrap().to_string())
+            .collect()
+    }
+
+    #[test]
+    fn calls_are_declared_as_in_the_headers() {
+        for (source, header) in [
+            (include_str!("ffi.rs"), GIX_DATE),
+            (include_str!("ffi/git.rs"), GIT_DATE),
+        ] {
+            let due = calls(header);
+            assert!(due.len() > 12);
+            assert_eq!(declared(source), due);
+        }
+    }
+
+    /// How this crate lays out a record with these fields.
+    macro_rules! layout {
+        ($record:ident { $($field:ident),+ }) => {{
+            let record = $record::default();
+            let start = addr_of!(record) as usize;
+            let layout = Layout {
+                fields: vec![$((
+                    stringify!($field).to_string(),
+                    addr_of!(record.$field) as usize - start,
+                    size_of_val(&record.$field),
+                )),+],
+                size: size_of::<$record>(),
+                align: align_of::<$record>(),
+            };
+            layout
+        }};
+    }
+
+    #[test]
+    fn records_are_laid_out_as_in_c() {
+        let due = [
+            ("gix_date_time", layout!(Time { seconds, offset })),
+            (
+                "gix_date_instant",
+                layout!(CInstant {
+                    seconds,
+                    nanoseconds
+                }),
+            ),
+            (
+                "gix_date_careful_options",
+                layout!(CCarefulOptions {
+                    raw_offsets,
+                    without_offset,
+                    texts
+                }),
+            ),
+            ("gix_date_span", layout!(CSpan { start, len })),
+            (
+                "gix_date_signature",
+                layout!(CSignature { name, mail, time }),
+            ),
+            ("git_date_exact", layout!(CExact { time, ignored })),
+            (
+                "git_date_approximate",
+                layout!(CApproximate {
+                    time,
+                    ignored,
+                    understood
+                }),
+            ),
+            ("git_date_expiry", layout!(CExpiry { kind, before })),
+            ("git_date_mode", layout!(CMode { kind, local })),
+        ];
+        assert_eq!(
+            layouts(),
+            due.map(|(name, layout)| (name.to_string(), layout))
+        );
+    }
 }

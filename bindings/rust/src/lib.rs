@@ -1,7 +1,8 @@
 //! Git's times, read and written by the proved library `gix_date`, which this crate calls through its C interface.
 //!
 //! Names and modules are those of the crate gix-date 0.18.1. Where that takes a `jiff::Zoned`, this crate takes a [`Moment`] of
-//! its own, and each refusal has a name ([`Error`]). `docs/RUST.md` lists what differs.
+//! its own, and each refusal has a name ([`Error`]). `docs/RUST.md` lists what differs. The module [`git`] reads and shows dates
+//! as Git itself does.
 //!
 //! Seconds count from 1970-01-01 00:00:00 UTC, and an offset is seconds east of UTC. The library has no state, so many threads may
 //! call at once. It takes memory only for what is printed by a format or a pattern, and for [`Zone::Tzif`]. This crate takes
@@ -27,6 +28,9 @@ pub mod bytes;
 mod calls;
 mod error;
 mod ffi;
+pub mod git;
+#[cfg(test)]
+mod header;
 mod moment;
 pub mod parse;
 #[cfg(feature = "serde")]
@@ -70,7 +74,7 @@ pub fn ported_version() -> Version {
     Version::of_number(calls::ported_version())
 }
 
-/// Whether this crate can use the linked library. The build compares the library's header alone.
+/// Whether this crate can use the linked library. The build compares the library's headers alone.
 pub fn check_library() -> Result<(), VersionError> {
     library_version().serves(Version::of_crate())
 }

@@ -1,5 +1,6 @@
 //! Memory that is refused to this crate is a refusal. The library asks another allocator.
 
+use gix_date_proved::git::{approxidate, expiry_date, parse_date, show_date, DateMode, Expiry};
 use gix_date_proved::parse::TimeBuf;
 use gix_date_proved::time::format;
 use gix_date_proved::{
@@ -74,6 +75,12 @@ fn other_calls_take_no_memory() {
         assert_eq!(time.to_str(&mut buf), Ok("1660797906 +0800"));
         assert!(time.write_to(&mut &mut out[..]).is_ok());
         assert!(Signature::from_line("A <a> 5 +0000").is_ok());
+        let now = Moment::at_offset(1251660000, 0);
+        assert!(parse_date("2008-02-14 20:30:45", &now).is_ok());
+        assert!(approxidate("yesterday", &now).is_ok());
+        assert_eq!(expiry_date("never", &now), Ok(Expiry::Never));
+        let mode: DateMode = "rfc2822".parse().unwrap();
+        assert!(show_date(time, mode, &now).is_ok_and(|text| text.len() == 31));
     });
     assert!(out.starts_with(b"1660797906 +0800\0"));
 }

@@ -117,45 +117,29 @@ impl Time {
 #[cfg(test)]
 mod tests {
     use super::*;
-
-    /// The formats of the header for C and their numbers.
-    fn numbers() -> Vec<(&'static str, u32)> {
-        let header = include_str!("../../../../include/gix_date.h");
-        let (_, rest) = header.split_once("enum gix_date_named_format {").unwrap();
-        let (body, _) = rest.split_once("};").unwrap();
-        let names = body
-            .lines()
-            .filter_map(|line| line.trim().strip_prefix("GIX_DATE_"));
-        names
-            .map(|line| {
-                let (name, rest) = line.split_once(" = ").unwrap();
-                let digits = rest.find(|c: char| !c.is_ascii_digit()).unwrap();
-                (name, rest[..digits].parse().unwrap())
-            })
-            .collect()
-    }
+    use crate::header::{numbers, GIX_DATE};
 
     fn format_of(name: &str) -> Format {
         match name {
-            "SHORT" => SHORT.into(),
-            "RFC2822" => RFC2822.into(),
-            "GIT_RFC2822" => GIT_RFC2822.into(),
-            "ISO8601" => ISO8601.into(),
-            "ISO8601_STRICT" => ISO8601_STRICT.into(),
-            "GITOXIDE" => GITOXIDE.into(),
-            "DEFAULT" => DEFAULT.into(),
-            "UNIX" => UNIX,
-            "RAW" => RAW,
+            "Short" => SHORT.into(),
+            "Rfc2822" => RFC2822.into(),
+            "GitRfc2822" => GIT_RFC2822.into(),
+            "Iso8601" => ISO8601.into(),
+            "Iso8601Strict" => ISO8601_STRICT.into(),
+            "Gitoxide" => GITOXIDE.into(),
+            "Default" => DEFAULT.into(),
+            "Unix" => UNIX,
+            "Raw" => RAW,
             _ => panic!("the header has a format {name}"),
         }
     }
 
     #[test]
     fn each_format_has_the_number_of_the_header() {
-        let numbers = numbers();
+        let numbers = numbers(GIX_DATE, "gix_date_named_format", "GIX_DATE_");
         assert_eq!(numbers.len(), 9);
         for (name, number) in numbers {
-            assert_eq!(Request::from(format_of(name)), Request::Number(number));
+            assert_eq!(Request::from(format_of(&name)), Request::Number(number));
         }
     }
 

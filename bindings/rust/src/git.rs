@@ -1,0 +1,174 @@
+//! Dates as Git 2.39.5 itself reads and shows them, which the crate gix-date does not have.
+//!
+//! - [`parse_date()`]: exact dates, as in `GIT_COMMITTER_DATE`, in mails, and nearly all of `git commit --date`
+//! - [`approxidate()`]: dates as people write them, as Git reads `--since` and `REF@{..}`
+//! - [`expiry_date()`]: what expires, as in `gc.pruneExpire`
+//! - [`show_date()`]: a date as `git log --date=MODE` shows it
+//!
+//! Every answer is Git's, or a refusal by name ([`DateError`]); `docs/GIT_DATES.md` has the rules. Seconds count from 1970-01-01
+//! 00:00:00 UTC, an offset is seconds east of UTC, and a place counts bytes from the text's start. Memory is taken only in a
+//! [`Zone::Tzif`](crate::Zone::Tzif). The module [`bytes`] has the calls that read for `&[u8]`.
+//!
+//! ```
+//! use gix_date_proved::git::{approxidate, parse_date, show_date};
+//! use gix_date_proved::Moment;
+//!
+//! // 2009-08-30 19:20:00 UTC, a Sunday
+//! let now = Moment::at_offset(1251660000, 0);
+//! let time = parse_date("Thu, 07 Apr 2005 22:13:13 +0200", &now)?.time;
+//! assert_eq!(time.to_string(), "1112904793 +0200");
+//! assert_eq!(show_date(time, "human".parse()?, &now)?, "Apr 7 2005");
+//!
+//! // Git knows no `mins`, so this is the fifth of the month.
+//! let text = "5 mins ago";
+//! let date = approxidate(text, &now)?;
+//! assert_eq!(date.time.seconds, 1249500000);
+//! assert_eq!(date.ignored.map(|place| &text[place..]), Some("mins ago"));
+//! # Ok::<(), Box<dyn std::error::Error>>(())
+//! ```
+
+mod error;
+mod mode;
+mod text;
+
+pub use error::DateError;
+pub use mode::{DateKind, DateMode, UnknownMode};
+pub use text::DateText;
+pub(crate) use text::MAX_SHOWN;
+
+use crate::{bytes, Moment, Time};
+
+/// What [`parse_date()`] reads.
+#[derive(Clone, Copy, Debug, PartialEq, Eq, Hash)]
+pub struct ReadDate {
+    /// The time. Its offset has whole minutes.
+    pub time: Time,
+    /// The place of the first word or number that no rule used, so that a program can say so.
+    ///
+    /// Not counted are marks, `ago`, `at`, `on`, `of`, `the`, `and`, the ending of a number as in `7th`, and one `T` between
+    /// digits. A day of the week is used, though it is not compared.
+    pub ignored: Option<usize>,
+}
+
+/// What [`approxidate()`] makes of a text.
+#[derive(Clone, Copy, Debug, PartialEq, Eq, Hash)]
+pub struct Approximate {
+    /// The time. Its offset is the zone's, or the one that an exact date says.
+    pub time: Time,
+    /// Whether anything was understood, by Git's own count. If not, the time is the moment, or near it.
+    pub understood: bool,
+    /// The place of the first word or number that no rule used, as in [`ReadDate::ignored`].
+    pub ignored: Option<usize>,
+}
+
+/// What expires by a text such as `gc.pruneExpire` has.
+#[derive(Clone, Copy, Debug, PartialEq, Eq, Hash)]
+pub enum Expiry {
+    /// Nothing.
+    Never,
+    /// All, however new it is.
+    All,
+    /// What is older than this date.
+    Before(Approximate),
+}
+
+/// Reads a date as Git's exact reader does. A text without an offset has that of the moment's zone: in a fold the earlier
+/// instant, in a gap the offset before it.
+///
+/// The instant matters only to a date such as `7/4/2009` after a clock, which is refused if it is more than ten days ahead.
+///
+/// ```
+/// use gix_date_proved::git::{parse_date, DateError};
+/// use gix_date_proved::{Moment, Time};
+///
+/// let now = Moment::at_offset(1251660000, 0);
+/// let date = parse_date("2008-02-14 20:30:45 EST", &now)?;
+/// assert_eq!((date.time, date.ignored), (Time::new(1203039045, -18000), None));
+/// // `IST` is no zone that Git knows.
+/// let date = parse_date("2008-02-14 20:30:45 IST", &now)?;
+/// assert_eq!((date.time, date.ignored), (Time::new(1203021045, 0), Some(20)));
+/// // There is no clock.
+/// assert_eq!(parse_date("2008-02-14", &now), Err(DateError::Unreadable));
+/// # Ok::<(), DateError>(())
+/// ```
+///
+/// [`DateError::Unreadable`], [`DateError::NumberTooLarge`], [`DateError::YearRefused`], [`DateError::Range`], and
+/// [`DateError::Refused`] of the moment.
+pub fn parse_date(input: &str, now: &Moment) -> Result<ReadDate, DateError> {
+    bytes::parse_date(input.as_bytes(), now)
+}
+
+/// Reads a date as people write it, as Git reads `--since`, `--until` and `REF@{..}`.
+///
+/// A text that [`parse_date()`] reads has its answer. In any other the words and numbers change the moment's clock and date one
+/// after the other, in its zone. Git passes over each word that it does not know; [`Approximate::ignored`] tells of that.
+///
+/// ```
+/// use gix_date_proved::git::{approxidate, DateError};
+/// use gix_date_proved::Moment;
+///
+/// let now = Moment::at_offset(1251660000, 0);
+/// let friday = approxidate("last friday at noon", &now)?;
+/// assert_eq!((friday.time.seconds, friday.ignored), (1251460800, None));
+/// // Without a number Git knows no day of the week.
+/// let friday = approxidate("friday", &now)?;
+/// assert_eq!((friday.time.seconds, friday.ignored), (now.seconds, Some(0)));
+/// assert!(!friday.understood);
+/// # Ok::<(), DateError>(())
+/// ```
+///
+/// [`DateError::BackTooFar`], and the refusals of [`parse_date()`] but for [`DateError::Unreadable`]. [`DateError::Range`] also
+/// at a moment before 1900.
+pub fn approxidate(input: &str, now: &Moment) -> Result<Approximate, DateError> {
+    bytes::approxidate(input.as_bytes(), now)
+}
+
+/// Reads what expires, as Git reads `gc.pruneExpire` and `reflog expire --expire=`.
+///
+/// `never` and `false` are [`Expiry::Never`], `all` and `now` are [`Expiry::All`]: these words alone, in small letters. Any other
+/// text is a date of [`approxidate()`].
+///
+/// ```
+/// use gix_date_proved::git::{expiry_date, DateError, Expiry};
+/// use gix_date_proved::Moment;
+///
+/// let now = Moment::at_offset(1251660000, 0);
+/// assert_eq!(expiry_date("never", &now)?, Expiry::Never);
+/// match expiry_date("2.weeks.ago", &now)? {
+///     Expiry::Before(date) => assert_eq!(date.time.seconds, 1250450400),
+///     other => panic!("{other:?}"),
+/// }
+/// assert_eq!(expiry_date("friday", &now), Err(DateError::Unreadable));
+/// # Ok::<(), DateError>(())
+/// ```
+///
+/// The refusals of [`approxidate()`], and [`DateError::Unreadable`] if nothing was understood.
+pub fn expiry_date(input: &str, now: &Moment) -> Result<Expiry, DateError> {
+    bytes::expiry_date(input.as_bytes(), now)
+}
+
+/// A date as `git log --date=MODE` shows it at this moment.
+///
+/// A mode that is local shows the clock of the moment's zone. Git says the offset of that clock in whole minutes, and as 0 in
+/// years outside 1970 to 2099. Other modes show the time's own clock. [`DateKind::Default`] shows no offset of a local clock, nor
+/// of an unknown one (`-0001`).
+///
+/// ```
+/// use gix_date_proved::git::{show_date, DateError, DateKind, DateMode};
+/// use gix_date_proved::{Moment, Time};
+///
+/// let now = Moment::at_offset(1251660000, 0);
+/// let mode = DateMode { kind: DateKind::Iso8601, local: false };
+/// assert_eq!(show_date(Time::new(1251300000, 7200), mode, &now)?, "2009-08-26 17:20:00 +0200");
+/// let local = DateMode { local: true, ..mode };
+/// assert_eq!(show_date(Time::new(1251300000, 7200), local, &now)?, "2009-08-26 15:20:00 +0000");
+/// assert_eq!(show_date(Time::new(-1, 0), mode, &now), Err(DateError::Range));
+/// # Ok::<(), DateError>(())
+/// ```
+///
+/// [`DateError::Range`] for what Git cannot show: a time before 1970; a clock before 1970, if it is the time's own; an own
+/// offset of 100 hours or more, or with seconds. Beyond what Git refuses it is given for a clock after the year 9999, a local
+/// clock that cannot be computed, and a human date at a moment before 1970. [`DateError::Refused`] of the moment.
+pub fn show_date(time: Time, mode: DateMode, now: &Moment) -> Result<DateText, DateError> {
+    DateText::shown(time, mode, now)
+}

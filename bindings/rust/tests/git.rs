@@ -1,0 +1,305 @@
+//! The calls of the module `git`, their refusals, and sixteen threads at once. The answers are Git's, or rules of
+//! `docs/GIT_DATES.md`; `rows.rs` runs the rows of outside values.
+
+use gix_date_proved::git::{
+    approxidate, expiry_date, parse_date, show_date, Approximate, DateError, DateKind, DateMode,
+    DateText, Expiry, ReadDate, UnknownMode,
+};
+use gix_date_proved::{bytes, Error, Moment, Time, Zone};
+use std::collections::HashSet;
+use std::error::Error as StdError;
+use std::path::Path;
+use std::{fs, thread};
+
+/// 2009-08-30 19:20:00 UTC, a Sunday.
+fn now() -> Moment {
+    Moment::at_offset(1251660000, 0)
+}
+
+fn exact(seconds: i64, offset: i32, ignored: Option<usize>) -> Result<ReadDate, DateError> {
+    let time = Time { seconds, offset };
+    Ok(ReadDate { time, ignored })
+}
+
+fn approximate(seconds: i64, offset: i32, ignored: Option<usize>) -> Approximate {
+    Approximate {
+        time: Time { seconds, offset },
+        understood: true,
+        ignored,
+    }
+}
+
+#[test]
+fn exact_dates_are_read() {
+    let answers = [
+        (
+            "Thu, 07 Apr 2005 22:13:13 +0200",
+            exact(1112904793, 7200, None),
+        ),
+        ("2008-02-14 20:30:45 IST", exact(1203021045, 0, Some(20))),
+        ("2005-02-31 10:00 +0000", exact(1109844000, 0, None)),
+        ("1234567890 +0530", exact(1234567890, 19800, None)),
+        ("2008-02-14", Err(DateError::Unreadable)),
+        ("", Err(DateError::Unreadable)),
+        (
+            "10:00 4294967301-01-02 +0000",
+            Err(DateError::NumberTooLarge(6)),
+        ),
+        ("2100-01-01 10:00 +0000", Err(DateError::YearRefused(0))),
+        ("1970-01-01 00:00 +0100", Err(DateError::Range)),
+    ];
+    for (text, due) in answers {
+        assert_eq!(parse_date(text, &now()), due, "{text}");
+    }
+}
+
+#[test]
+fn dates_of_people_are_read() {
+    let answers = [
+        ("noon yesterday", Ok(approximate(1251547200, 0, None))),
+        ("last friday at noon", Ok(approximate(1251460800, 0, None))),
+        ("5 mins ago", Ok(approximate(1249500000, 0, Some(2)))),
+        (
+            "friday",
+            Ok(Approximate {
+                understood: false,
+                ..approximate(1251660000, 0, Some(0))
+            }),
+        ),
+        ("25000 days ago", Err(DateError::BackTooFar(0))),
+        ("60 years ago", Err(DateError::Range)),
+    ];
+    for (text, due) in answers {
+        assert_eq!(approxidate(text, &now()), due, "{text}");
+    }
+}
+
+#[test]
+fn what_expires_is_read() {
+    let answers = [
+        ("never", Ok(Expiry::Never)),
+        ("false", Ok(Expiry::Never)),
+        ("all", Ok(Expiry::All)),
+        ("now", Ok(Expiry::All)),
+        ("NOW", Ok(Expiry::Before(approximate(1251660000, 0, None)))),
+        (
+            "all 5",
+            Ok(Expiry::Before(approximate(1249500000, 0, Some(0)))),
+        ),
+        ("ALL", Err(DateError::Unreadable)),
+        ("200 years ago", Err(DateError::BackTooFar(0))),
+    ];
+    for (text, due) in answers {
+        assert_eq!(expiry_date(text, &now()), due, "{text}");
+    }
+}
+
+#[test]
+fn bytes_that_are_no_text_are_refused() {
+    let no_text = DateError::Refused(Error::NotText);
+    let text = b"2008-02-14 20:30:45\xff";
+    assert_eq!(bytes::parse_date(text, &now()), Err(no_text));
+    assert_eq!(bytes::approxidate(text, &now()), Err(no_text));
+    assert_eq!(bytes::expiry_date(text, &now()), Err(no_text));
+    let date = parse_date("2008-02-14 20:30:45", &now());
+    assert_eq!(bytes::parse_date(&text[..19], &now()), date);
+}
+
+/// A moment in each kind of zone that New York's can be, and the file of it for 2023.
+fn in_new_york(seconds: i64) -> [Moment; 2] {
+    let folder = Path::new(env!("CARGO_MANIFEST_DIR")).join("../../crates/gix_date_rows/data");
+    let file = fs::read(folder.join("new_york_2023.tzif")).unwrap();
+    let zones = [
+        Zone::Posix("EST5EDT,M3.2.0,M11.1.0".into()),
+        Zone::Tzif(file.into()),
+    ];
+    zones.map(|zone| Moment {
+        seconds,
+        nanoseconds: 0,
+        zone,
+    })
+}
+
+#[test]
+fn each_kind_of_zone_is_that_of_the_clock() {
+    for now in in_new_york(1700000000) {
+        let skipped = parse_date("2023-03-12 02:30", &now);
+        assert_eq!(skipped, exact(1678606200, -18000, None));
+        let twice = parse_date("2023-11-05 01:30", &now);
+        assert_eq!(twice, exact(1699162200, -14400, None));
+        let july = approximate(1688227200, -14400, None);
+        assert_eq!(approxidate("noon july 1", &now), Ok(july));
+        let months = approximate(1692047600, -14400, None);
+        assert_eq!(
+            expiry_date("3 months ago", &now),
+            Ok(Expiry::Before(months))
+        );
+    }
+    let local = DateMode {
+        kind: DateKind::Iso8601,
+        local: true,
+    };
+    for now in in_new_york(1699189200) {
+        let winter = show_date(Time::new(1699189106, 0), local, &now);
+        assert_eq!(winter.unwrap(), "2023-11-05 07:58:26 -0500");
+        let summer = show_date(Time::new(1698679832, -43200), local, &now);
+        assert_eq!(summer.unwrap(), "2023-10-30 11:30:32 -0400");
+    }
+}
+
+/// What each call answers at a moment.
+fn refusals(now: &Moment) -> [Option<DateError>; 4] {
+    let time = Time::new(1251300000, 7200);
+    [
+        parse_date("2008-02-14 20:30:45", now).err(),
+        approxidate("yesterday", now).err(),
+        expiry_date("never", now).err(),
+        show_date(time, DateMode::default(), now).err(),
+    ]
+}
+
+#[test]
+fn moments_that_are_none_are_refused() {
+    let at = |zone| Moment { zone, ..now() };
+    let zones = [
+        Zone::Offset(93600),
+        Zone::Posix("banana".into()),
+        Zone::Tzif([].into()),
+    ];
+    for zone in zones {
+        let due = Some(DateError::Refused(Error::InvalidZone));
+        assert_eq!(refusals(&at(zone.clone())), [due; 4], "{zone:?}");
+    }
+    for seconds in [253402207201, i64::MIN] {
+        let due = Some(DateError::Refused(Error::InvalidInstant));
+        let [rule, file] = in_new_york(seconds);
+        for now in [Moment::at_offset(seconds, 0), rule, file] {
+            assert_eq!(refusals(&now), [due; 4], "{now:?}");
+        }
+    }
+    assert_eq!(refusals(&now()), [None; 4]);
+}
+
+#[test]
+fn dates_are_shown_in_each_mode() {
+    let time = Time::new(1251300000, 7200);
+    let texts = [
+        ("relative", "4 days ago"),
+        ("iso8601-strict", "2009-08-26T17:20:00+02:00"),
+        ("iso8601", "2009-08-26 17:20:00 +0200"),
+        ("rfc2822", "Wed, 26 Aug 2009 17:20:00 +0200"),
+        ("short", "2009-08-26"),
+        ("default", "Wed Aug 26 17:20:00 2009 +0200"),
+        ("human", "Wed 17:20 +0200"),
+        ("raw", "1251300000 +0200"),
+        ("unix", "1251300000"),
+    ];
+    for (name, due) in texts {
+        let mode: DateMode = name.parse().unwrap();
+        assert_eq!(mode.to_string(), name);
+        assert_eq!(show_date(time, mode, &now()).unwrap(), due);
+        let local: DateMode = format!("{name}-local").parse().unwrap();
+        assert_eq!(
+            local,
+            DateMode {
+                local: true,
+                ..mode
+            }
+        );
+        assert_eq!(local.to_string(), format!("{name}-local"));
+    }
+    for time in [Time::new(-1, 0), Time::new(0, 30), Time::new(0, 360000)] {
+        let raw = "raw".parse().unwrap();
+        let shown = show_date(time, raw, &now());
+        assert_eq!(shown, Err(DateError::Range), "{time:?}");
+    }
+}
+
+#[test]
+fn modes_have_the_names_of_git() {
+    assert_eq!(DateMode::default().to_string(), "default");
+    assert_eq!(
+        "local".parse::<DateMode>().unwrap().to_string(),
+        "default-local"
+    );
+    for unknown in [
+        "",
+        "ISO",
+        "iso ",
+        "local-local",
+        "format:%Y",
+        "auto:iso",
+        "iso\0",
+    ] {
+        assert_eq!(unknown.parse::<DateMode>(), Err(UnknownMode), "{unknown}");
+    }
+}
+
+#[test]
+fn a_shown_date_is_a_text() -> Result<(), Box<dyn StdError>> {
+    let text: DateText = show_date(Time::new(1251300000, 7200), "short".parse()?, &now())?;
+    let copy = text;
+    assert_eq!(text, copy);
+    assert_eq!(text, *"2009-08-26");
+    assert_ne!(text, *"2009-08-2");
+    assert_ne!(text, "2009-08-2");
+    assert_eq!(text.len(), 10);
+    assert_eq!(text.split('-').next(), Some("2009"));
+    assert_eq!(
+        format!("[{text}] [{text:>12}]"),
+        "[2009-08-26] [  2009-08-26]"
+    );
+    assert_eq!(format!("{text:?}"), "DateText(\"2009-08-26\")");
+    assert_eq!(AsRef::<str>::as_ref(&text), text.as_str());
+    let other = show_date(Time::new(0, 0), "short".parse()?, &now())?;
+    assert_ne!(text, other);
+    assert_eq!(HashSet::from([text, copy, other]).len(), 2);
+    Ok(())
+}
+
+#[test]
+fn errors_are_errors() {
+    let error: Box<dyn StdError> = Box::new(parse_date("", &now()).unwrap_err());
+    assert!(error
+        .to_string()
+        .starts_with("not a date with a time of day"));
+    let error = parse_date("now", &Moment::at_offset(0, 93600)).unwrap_err();
+    assert_eq!(error.to_string(), Error::InvalidZone.to_string());
+    let error: Box<dyn StdError> = Box::new("ISO".parse::<DateMode>().unwrap_err());
+    assert!(error.to_string().starts_with("not a way to show a date"));
+}
+
+/// Derives that callers count on, each a bound.
+#[test]
+fn types_have_their_traits() {
+    fn are_keys<T: Copy + std::fmt::Debug + Eq + std::hash::Hash + Send + Sync + 'static>() {}
+    are_keys::<ReadDate>();
+    are_keys::<Approximate>();
+    are_keys::<Expiry>();
+    are_keys::<DateError>();
+    are_keys::<DateKind>();
+    are_keys::<DateMode>();
+    are_keys::<UnknownMode>();
+    are_keys::<DateText>();
+    assert_eq!(DateKind::default(), DateKind::Default);
+}
+
+#[test]
+fn threads_share_nothing() {
+    let mode = DateMode {
+        kind: DateKind::Human,
+        local: false,
+    };
+    let is_same = move || {
+        parse_date("2008-02-14 20:30:45 IST", &now()) == exact(1203021045, 0, Some(20))
+            && approxidate("5 mins ago", &now()) == Ok(approximate(1249500000, 0, Some(2)))
+            && expiry_date("never", &now()) == Ok(Expiry::Never)
+            && "human".parse() == Ok(mode)
+            && show_date(Time::new(1251300000, 7200), mode, &now())
+                .is_ok_and(|text| text == "Wed 17:20 +0200")
+    };
+    let threads: Vec<_> = (0..16)
+        .map(|_| thread::spawn(move || (0..200).all(|_| is_same())))
+        .collect();
+    assert!(threads.into_iter().all(|thread| thread.join().unwrap()));
+}

@@ -1,0 +1,127 @@
+//! The calls of rows for Git's dates.
+
+use super::{now, text, time, Answer};
+use gix_date_proved::git::{
+    approxidate, expiry_date, parse_date, show_date, Approximate, DateError, DateMode, DateText,
+    Expiry, ReadDate,
+};
+use gix_date_proved::{bytes, Moment, Time};
+
+/// What the call of this name answers. `None` where there is none, or the fields are not its arguments.
+pub fn answer(call: &str, row: &mut &[String]) -> Option<Answer> {
+    match call {
+        "parse_date" => told(exact(row)?, |date| shown(date.time)),
+        "ignored" => told(exact(row)?, |date| place(date.ignored)),
+        "approxidate" => told(guessed(row)?, |date| {
+            shown(date.time) + if date.understood { "" } else { " ?" }
+        }),
+        "approximate_ignored" => told(guessed(row)?, |date| place(date.ignored)),
+        "expiry_date" => told(expires(row)?, |expiry| match expiry {
+            Expiry::Never => "never".to_string(),
+            Expiry::All => "all".to_string(),
+            Expiry::Before(date) => shown(date.time),
+        }),
+        "date_mode" => mode_name(text(row)?),
+        "show_date" => {
+            let mode = text(row)?.parse().ok()?;
+            let moment = moment(text(row)?)?;
+            told([show_date(time(row)?, mode, &moment)], text_of)
+        }
+        _ => None,
+    }
+}
+
+/// What the call of this name answers to bytes that are no text.
+pub fn answer_of_bytes(call: &[u8], at: &[u8], text: &[u8]) -> Option<Answer> {
+    let moment = moment(std::str::from_utf8(at).ok()?)?;
+    match call {
+        b"parse_date" => told([bytes::parse_date(text, &moment)], |date| shown(date.time)),
+        b"approxidate" => told([bytes::approxidate(text, &moment)], |date| shown(date.time)),
+        b"expiry_date" => told([bytes::expiry_date(text, &moment)], |expiry| {
+            format!("{expiry:?}")
+        }),
+        _ => None,
+    }
+}
+
+/// A moment, which these calls need.
+fn moment(text: &str) -> Option<Moment> {
+    now(text)?
+}
+
+/// What the calls for texts and for bytes answer.
+type Both<T> = [Result<T, DateError>; 2];
+
+fn exact(row: &mut &[String]) -> Option<Both<ReadDate>> {
+    let (moment, text) = (moment(text(row)?)?, text(row)?);
+    Some([
+        parse_date(text, &moment),
+        bytes::parse_date(text.as_bytes(), &moment),
+    ])
+}
+
+fn guessed(row: &mut &[String]) -> Option<Both<Approximate>> {
+    let (moment, text) = (moment(text(row)?)?, text(row)?);
+    Some([
+        approxidate(text, &moment),
+        bytes::approxidate(text.as_bytes(), &moment),
+    ])
+}
+
+fn expires(row: &mut &[String]) -> Option<Both<Expiry>> {
+    let (moment, text) = (moment(text(row)?)?, text(row)?);
+    Some([
+        expiry_date(text, &moment),
+        bytes::expiry_date(text.as_bytes(), &moment),
+    ])
+}
+
+/// The one answer of all calls.
+fn told<T: Copy + PartialEq, const N: usize>(
+    answers: [Result<T, DateError>; N],
+    text: impl Fn(T) -> String,
+) -> Option<Answer> {
+    let first = answers[0];
+    if answers.iter().any(|other| *other != first) {
+        return Some(Err("CallsDiffer".to_string()));
+    }
+    Some(first.map(text).map_err(name_of))
+}
+
+/// The name of a refusal, and its place.
+fn name_of(error: DateError) -> String {
+    match error {
+        DateError::NumberTooLarge(place) => format!("NumberTooLarge {place}"),
+        DateError::BackTooFar(place) => format!("BackTooFar {place}"),
+        DateError::YearRefused(place) => format!("YearRefused {place}"),
+        DateError::Refused(error) => format!("{error:?}"),
+        other => format!("{other:?}"),
+    }
+}
+
+fn shown(time: Time) -> String {
+    format!("{} {}", time.seconds, time.offset)
+}
+
+fn place(ignored: Option<usize>) -> String {
+    ignored.map_or("none".to_string(), |place| place.to_string())
+}
+
+/// A shown date, which says the same in each way to take it.
+fn text_of(text: DateText) -> String {
+    let shown = text.to_string();
+    assert!(text == *shown && text == shown.as_str() && text.as_ref() == shown);
+    shown
+}
+
+/// The name that a mode shows, by which the mode is found again.
+fn mode_name(name: &str) -> Option<Answer> {
+    let mode: Result<DateMode, _> = name.parse();
+    if mode.is_ok_and(|mode| mode.to_string().parse() != Ok(mode)) {
+        return Some(Err("CallsDiffer".to_string()));
+    }
+    Some(
+        mode.map(|mode| mode.to_string())
+            .map_err(|error| format!("{error:?}")),
+    )
+}
