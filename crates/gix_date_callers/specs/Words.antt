@@ -42,3 +42,6 @@ pub use Rattle.gix_date.specs.Text.SpaceWords.{StdWhiteSpaceIsUnicodes, white_sp
 pub use Rattle.gix_date.specs.Header.TimeBuf.{text_in, HoldsText}
 pub use Rattle.gix_date.specs.Fields.Zoned.{time_in, time_in_utc, is_instant, IsConvertible, IsMoment}
 pub use Rattle.jiff.specs.Words.{plain_zone, plain_zoned, IsOffsetSeconds, IsFixed}
+pub use Rattle.gix_date_laws.specs.AnyZone.{IsWord, NamesInstant, Keeps, KeepsWay, SubtractAlike, TextsNameAlike, KeepClock, AreWholeDays, ResolvesNoneLater, long_seconds, EachTakes, DateNamesNoneLater}
+pub use Rattle.gix_date_laws.specs.OffsetTexts.{WritesOffset, IsCompactOffset, IsColonOffset, IsMailOffset, mail_zones}
+pub use Rattle.gix_date_laws.specs.PrintedTexts.{HaveUnlikeTexts, SortBefore}

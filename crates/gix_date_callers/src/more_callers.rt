@@ -17,7 +17,8 @@ ghost use Rattle.gix_date.specs.Fields.Zoned.{IsConvertible, is_instant, time_in
 ghost use Rattle.gix_date.specs.declared.error.Error.TheVariants.{Memory, OffsetTooWide, Range};
 ghost use Rattle.gix_date.specs.declared.time.Time.{Time as Read};
 ghost use Rattle.gix_date.specs.declared.time.format.Format.TheVariants.{Custom};
-ghost use Rattle.jiff.specs.Words.{plain_zone};
+ghost use Rattle.gix_date.specs.Relative.Steps.{zone_of};
+ghost use Rattle.jiff.specs.Words.{plain_zone, zoned_nanos, nanos_of_seconds};
 ghost use Rattle.jiff.specs.declared.zoned.Zoned.{Zoned as Moment};
 
 use crate::caller::date_typed;
@@ -208,6 +209,15 @@ pub fn day_before(alloc: Global, time: Time) -> Result<Time, Error>
 {
     gix_date_laws::earlier(time, &[]);
     date_typed(alloc, "yesterday", time)
+}
+
+/// What `yesterday` names at a moment in any zone: the time 86400 seconds before, or `Range` where `jiff` has no such instant.
+pub fn day_before_in_zone(alloc: Global, moment: Zoned<'_>) -> Result<Time, Error>
+    ensures { MatchResult result
+        (λ t. t ≡ time_in (zone_of moment.entry) (zoned_nanos moment.entry -ℤ nanos_of_seconds (pos 86_400))) (λ e. e ≡ Range) }
+{
+    gix_date_laws::named_instants("yesterday", &moment);
+    parse(alloc, "yesterday", Some(moment))
 }
 
 /// The time of a commit that is made at this instant in its author's zone, and none where the zone is not known.

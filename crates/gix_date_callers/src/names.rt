@@ -2,8 +2,9 @@
 use crate::caller::{commit_time, date_meant, date_typed, iso_date, kept_in_header, rewrite};
 use crate::machine::Machine;
 use crate::more_callers::{
-    absolute_date, asks_for_a_moment, authored, authored_in_utc, day_before, doubled, header_bytes,
-    kept_by_each, kept_in_date, log_date, read_canonical, resolved, shown, stored_date,
+    absolute_date, asks_for_a_moment, authored, authored_in_utc, day_before, day_before_in_zone,
+    doubled, header_bytes, kept_by_each, kept_in_date, log_date, read_canonical, resolved, shown,
+    stored_date,
 };
 use gix_date::device::Device;
 use gix_date::parsing::TimeBuf;
@@ -283,6 +284,30 @@ fn a_day_before_has_the_same_offset(rt: HostRuntime) {
 }
 
 #[test]
+fn a_day_before_in_a_zone_is_so_many_seconds_before(rt: HostRuntime) -> Result<(), Fail> {
+    // The clock went ahead by an hour between.
+    let zone = TimeZone::posix("EST5EDT,M3.2.0,M11.1.0")?;
+    let moment = Timestamp::from_second(1_678_651_200)?.to_zoned(zone);
+    let before = Time::new(1_678_564_800, -18_000);
+    assert!(rt; matches!(day_before_in_zone(rt.alloc(), moment), Ok(day) if day == before));
+    Ok(())
+}
+
+#[test]
+fn laws_are_called_for_what_they_state_in_a_zone() -> Result<(), Fail> {
+    let moment = Time::new(1_660_874_655, 28_800).to_zoned()?;
+    gix_date_laws::named_instants("yesterday", &moment);
+    gix_date_laws::units_agree(&moment, &[(1, 86_400)], &[(24, 3600)]);
+    gix_date_laws::long_none_later(&moment, &[(1, 604_800)]);
+    gix_date_laws::one_offset(&moment);
+    gix_date_laws::none_later("2 hours ago", &moment);
+    gix_date_laws::yesterday_kept(&moment);
+    gix_date_laws::seconds_kept(&moment, &[(1, 86_400)]);
+    gix_date_laws::days_keep_clock(&moment, &[(2, 604_800)], 14);
+    Ok(())
+}
+
+#[test]
 fn laws_are_called_for_nothing_but_what_they_state() {
     gix_date_laws::constants();
     gix_date_laws::limits();
@@ -295,6 +320,7 @@ fn laws_are_called_for_nothing_but_what_they_state() {
     gix_date_laws::named_converts();
     gix_date_laws::one_outcome();
     gix_date_laws::spelled();
+    gix_date_laws::spelled_offsets();
     gix_date_laws::spelled_numbers(RawOffsets::WholeMinutes);
     gix_date_laws::spelled_git();
     gix_date_laws::spelled_relative("2 days ago");
@@ -337,6 +363,8 @@ fn laws_are_called_for_what_they_state_of_a_time(rt: HostRuntime) -> Result<(), 
     gix_date_laws::local_clock(time);
     laws::read_back(time);
     laws::read_back_wide(time);
+    gix_date_laws::unlike_texts(time, time);
+    gix_date_laws::texts_sort(time, time);
     laws::raw_read_back(time);
     laws::raw_read_back_wide(time);
     gix_date_laws::short_read_back(time, RawOffsets::Quarter);
