@@ -60,7 +60,7 @@ static size_t len, place;
 
 CALL(gix_date_parse_header, TEXT("1660797906 +0800"), &parsed)
 CALL(gix_date_write_header, &at, out, sizeof out, &len)
-CALL(gix_date_parse, TEXT("Thu, 18 Aug 2022 12:45:06 +0800"), GIX_DATE_QUARTERS, &parsed)
+CALL(gix_date_parse, TEXT("2024-01-05 10:00"), GIX_DATE_QUARTERS, &parsed)
 CALL(gix_date_parse_at_offset, TEXT("1 month 2 days ago"), GIX_DATE_QUARTERS, &now, 0, &parsed)
 CALL(gix_date_parse_in_posix_zone, TEXT("1 month 2 days ago"), GIX_DATE_QUARTERS, &now,
      TEXT("EST5EDT,M3.2.0,M11.1.0"), &parsed)
@@ -172,7 +172,7 @@ static const struct {
     ROW(git_date_show_in_tzif_zone),
 };
 
-/* A text of 60000 bytes: words that Git passes over, and a date at its end. */
+/* A text of 60000 bytes: words that Git passes over, and this date at its end. */
 static void fill_long_text(const char *date)
 {
     static const char piece[] = "xyz1 ";
@@ -180,6 +180,21 @@ static void fill_long_text(const char *date)
     for (size_t i = 0; i < end; i++)
         long_text[i] = piece[i % (sizeof piece - 1)];
     memcpy(long_text + end, date, strlen(date));
+}
+
+/* The bytes of a stack of this size that a call changes when it is not the first; it has to end
+ * well. Counts its requests for memory. */
+static size_t taken(const char *name, void *(*call)(void *), size_t size)
+{
+    uint32_t status = 0;
+    changed(call, STACK, &status);
+    requests = largest = 0;
+    size_t used = changed(call, size, &status);
+    if (status != GIX_DATE_OK) {
+        fprintf(stderr, "%s: %s\n", name, git_date_status_text(status));
+        exit(1);
+    }
+    return used;
 }
 
 /* With a file of a zone: the table. With a second word each call is made on a stack of so many
@@ -198,15 +213,12 @@ int main(int count, char **words)
     for (size_t i = 0; i < sizeof calls / sizeof *calls; i++) {
         if (room < STACK && strstr(calls[i].name, "_in_tzif_zone"))
             continue;
-        fill_long_text(strstr(calls[i].name, "git_date_parse") ? " 2005-04-07 10:00"
+        fill_long_text(strstr(calls[i].name, "git_date_parse") ? " 10:00 7.4.2005"
                                                                : " last friday at noon");
-        changed(calls[i].call, STACK, &status);
-        requests = largest = 0;
-        size_t used = changed(calls[i].call, room, &status) - idle;
-        if (status != GIX_DATE_OK) {
-            fprintf(stderr, "%s: %s\n", calls[i].name, gix_date_status_text(status));
-            return 1;
-        }
+        size_t used = taken(calls[i].name, calls[i].call, room);
+        fill_long_text(" 2005-04-07 10:00");
+        size_t used_too = taken(calls[i].name, calls[i].call, room);
+        used = (used_too > used ? used_too : used) - idle;
         printf("%-36s %6zu %3zu %6zu\n", calls[i].name, used, requests, largest);
     }
     return 0;
