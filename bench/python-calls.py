@@ -1,0 +1,88 @@
+"""Prints two tables: the least nanoseconds of a call, in rounds in which ours and the peers take turns, and seconds for a million lines."""
+
+from __future__ import annotations
+
+import random
+import subprocess
+import sys
+import tempfile
+import time
+import timeit
+from array import array
+from datetime import datetime, timedelta, timezone
+from email.utils import parsedate_to_datetime
+from zoneinfo import ZoneInfo
+
+from dateutil.parser import isoparse
+from gix_date import ISO8601_STRICT, Moment, Time, git, parse, parse_header, parse_lines, parse_lines_into
+
+ROUNDS, CALLS = 25, 4000
+HEADER, STRICT, MAIL = "1660797906 +0800", "2022-08-18T12:45:06+08:00", "Thu, 18 Aug 2022 12:45:06 +0800"
+AT = datetime(2023, 10, 27, 12, tzinfo=timezone(timedelta(hours=2)))
+IN_NEW_YORK = AT.astimezone(ZoneInfo("America/New_York"))
+MOMENT, TIME = Moment.from_datetime(AT), Time(1660797906, 28800)
+TABLE = [
+    ("`parse_header`", HEADER, lambda: parse_header(HEADER)),
+    ("`parse`", HEADER, lambda: parse(HEADER)),
+    ("`parse`", STRICT, lambda: parse(STRICT)),
+    ("`datetime.fromisoformat`", STRICT, lambda: datetime.fromisoformat(STRICT)),
+    ("`dateutil.parser.isoparse`", STRICT, lambda: isoparse(STRICT)),
+    ("`parse`", MAIL, lambda: parse(MAIL)),
+    ("`email.utils.parsedate_to_datetime`", MAIL, lambda: parsedate_to_datetime(MAIL)),
+    ("`parse` at a `Moment`", "2 weeks ago", lambda: parse("2 weeks ago", MOMENT)),
+    ("at a `datetime` with an offset", "2 weeks ago", lambda: parse("2 weeks ago", AT)),
+    ("at a `datetime` in New York", "2 weeks ago", lambda: parse("2 weeks ago", IN_NEW_YORK)),
+    ("`git.approxidate`", "last friday at noon", lambda: git.approxidate("last friday at noon", MOMENT)),
+    ("`Time.format(ISO8601_STRICT)`", "", lambda: TIME.format(ISO8601_STRICT)),
+    ("`Time.to_datetime`", "", TIME.to_datetime),
+    ("`Time.from_datetime`", "", lambda: Time.from_datetime(AT)),
+]
+
+
+def nanoseconds() -> list[float]:
+    """The least of the rounds, for each row of the table."""
+    least = [float("inf")] * len(TABLE)
+    for _ in range(ROUNDS):
+        for at, (_, _, call) in enumerate(TABLE):
+            least[at] = min(least[at], timeit.timeit(call, number=CALLS) / CALLS * 1e9)
+    return least
+
+
+def seconds(work) -> float:
+    """The least of five runs."""
+    runs = []
+    for _ in range(5):
+        begun = time.perf_counter()
+        work()
+        runs.append(time.perf_counter() - begun)
+    return min(runs)
+
+
+def main() -> None:
+    print("| Call | Text | Nanoseconds |\n|---|---|---|")
+    for (call, text, _), least in zip(TABLE, nanoseconds()):
+        print(f"| {call} | {f'`{text}`' if text else ''} | {least:.0f} |")
+    source = random.Random(7)
+    with tempfile.NamedTemporaryFile() as file:
+        file.write(b"".join(b"%d +0800\n" % source.randrange(1700000000) for _ in range(1000000)))
+        file.flush()
+
+        def program() -> None:
+            with open(file.name, "rb") as lines:
+                subprocess.run([sys.argv[1], "parse"], stdin=lines, stdout=subprocess.DEVNULL, check=True)
+
+        def into() -> None:
+            with open(file.name, "rb") as lines:
+                assert not parse_lines_into((array("q"), array("i")), lines)
+
+        def each() -> None:
+            with open(file.name, "rb") as lines:
+                assert sum(1 for _ in parse_lines(lines)) == 1000000
+
+        print("\n| A million lines | Seconds |\n|---|---|")
+        for name, work in (("the program", program), ("`parse_lines_into`", into), ("`parse_lines`", each)):
+            print(f"| {name} | {seconds(work):.2f} |")
+
+
+if __name__ == "__main__":
+    main()

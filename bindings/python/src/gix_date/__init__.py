@@ -1,0 +1,61 @@
+"""Git's times, read and written by the proved library gix_date.
+
+Names are those of the library for C. Seconds count from 1970-01-01 00:00:00 UTC, and an offset is seconds east of UTC. A text is a str
+or bytes. A moment is an aware datetime, or a `Moment`. A refusal is a class below `GixDateError`, such as
+`gix_date.UnknownFormat`; help(gix_date.errors) lists them. Refused memory is MemoryError. Nothing prints, and only `now` reads the clock
+and the machine's zone. Many threads may call at once.
+
+The module `gix_date.git` reads and shows dates as Git itself does.
+
+>>> from gix_date import ISO8601, parse, parse_header
+>>> time = parse_header("1660797906 +0800")
+>>> time.format(ISO8601)
+'2022-08-18 12:45:06 +0800'
+>>> parse("2022-08-18 12:45:06 +0800") == time
+True
+"""
+
+from __future__ import annotations
+
+from . import _library, git
+from .errors import BadPart as BadPart
+from .errors import BeyondDatetime as BeyondDatetime
+from .errors import Conversion as Conversion
+from .errors import DateConversion as DateConversion
+from .errors import GixDateError as GixDateError
+from .errors import InvalidInstant as InvalidInstant
+from .errors import InvalidTime as InvalidTime
+from .errors import InvalidZone as InvalidZone
+from .errors import MissingNow as MissingNow
+from .errors import NaiveDatetime as NaiveDatetime
+from .errors import NoSignature as NoSignature
+from .errors import NotText as NotText
+from .errors import OffsetTooWide as OffsetTooWide
+from .errors import Pattern as Pattern
+from .errors import Range as Range
+from .errors import Unclear as Unclear
+from .errors import UnknownFormat as UnknownFormat
+from .lines import parse_lines, parse_lines_into
+from .moments import Moment, now
+from .options import Format, RawOffsets, Texts, WithoutOffset
+from .reading import is_canonical_header, parse, parse_carefully, parse_header
+from .signatures import Signature, write_signature
+from .times import Time
+
+SHORT, RFC2822, GIT_RFC2822, ISO8601, ISO8601_STRICT, GITOXIDE, DEFAULT, UNIX, RAW = (
+    Format.SHORT, Format.RFC2822, Format.GIT_RFC2822, Format.ISO8601, Format.ISO8601_STRICT, Format.GITOXIDE, Format.DEFAULT,
+    Format.UNIX, Format.RAW,
+)  # fmt: skip
+
+
+def _version(number: int) -> str:
+    return f"{number // 10000}.{number // 100 % 100}.{number % 100}"
+
+
+__version__, PORTED_VERSION = (_version(number) for number in _library.versions())
+
+__all__ = [
+    "DEFAULT", "Format", "GITOXIDE", "GIT_RFC2822", "GixDateError", "ISO8601", "ISO8601_STRICT", "Moment", "PORTED_VERSION", "RAW",
+    "RFC2822", "RawOffsets", "SHORT", "Signature", "Texts", "Time", "UNIX", "WithoutOffset", "git", "is_canonical_header", "now",
+    "parse", "parse_carefully", "parse_header", "parse_lines", "parse_lines_into", "write_signature",
+]  # fmt: skip

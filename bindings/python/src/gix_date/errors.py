@@ -1,0 +1,172 @@
+"""Why a call refuses: a class for each refusal, below `GixDateError`."""
+
+from __future__ import annotations
+
+from typing import ClassVar, Dict, Optional, Tuple, Type, Union
+
+from . import _library
+
+Text = Union[str, bytes]
+
+
+class GixDateError(ValueError):
+    """Why a call refuses.
+
+    `text` is the refused text, or None if there is none. `place` is the index into it from which on it is refused, or None.
+    The message is the library's.
+    """
+
+    status: ClassVar[int]
+    text: Optional[Text]
+    place: Optional[int]
+
+    def __init__(self, text: Optional[Text] = None, place: Optional[int] = None) -> None:
+        super().__init__(text, place)
+        self.text = text
+        self.place = place
+
+    @classmethod
+    def message(cls) -> str:
+        """What the refusal means, in English."""
+        return _library.status_text(cls.status)
+
+    def __str__(self) -> str:
+        return self.message() if self.place is None else f"{self.message()}, at index {self.place}"
+
+
+class NotText(GixDateError):
+    """The bytes are not UTF-8, or the str has half of a surrogate pair."""
+
+    status = 1
+
+
+class InvalidTime(GixDateError):
+    """The text is no time of a header."""
+
+    status = 4
+
+
+class UnknownFormat(GixDateError):
+    """The text has no known form of a date, or its offset is above 23:59."""
+
+    status = 5
+
+
+class DateConversion(GixDateError):
+    """The day's midnight in UTC is after the last instant, 253402207200."""
+
+    status = 6
+
+
+class MissingNow(GixDateError):
+    """The text is relative to a moment or a date in its zone, and none was given."""
+
+    status = 7
+
+
+class Range(GixDateError):
+    """The date leads to an instant that cannot be computed with."""
+
+    status = 8
+
+
+class InvalidInstant(GixDateError):
+    """The seconds of the moment are outside -377705023201 to 253402207200."""
+
+    status = 9
+
+
+class InvalidZone(GixDateError):
+    """The zone of the moment cannot be read, or its offset is beyond 25:59:59 or has parts of a second."""
+
+    status = 10
+
+
+class Conversion(GixDateError):
+    """The seconds are outside -377705023201 to 253402207200, or the offset is beyond 25:59:59."""
+
+    status = 11
+
+
+class OffsetTooWide(GixDateError):
+    """The offset is 100 hours or more."""
+
+    status = 12
+
+
+class Pattern(GixDateError):
+    """The pattern cannot be printed."""
+
+    status = 13
+
+
+class NoSignature(GixDateError):
+    """The line is no signature line."""
+
+    status = 15
+
+
+class BadPart(GixDateError):
+    """The name or the mail holds `<`, `>`, a newline or NUL."""
+
+    status = 16
+
+
+class Unclear(GixDateError):
+    """The text is not careful. `place` is the first character that does not fit, or the length if the end is missing."""
+
+    status = 17
+
+
+class OwnRefusal(GixDateError):
+    """A refusal of this package alone, with its own message."""
+
+    own_message: ClassVar[str]
+
+    @classmethod
+    def message(cls) -> str:
+        return cls.own_message
+
+
+class NaiveDatetime(OwnRefusal):
+    """The datetime has no zone."""
+
+    own_message = "the datetime is naive: a moment needs a zone, such as timezone.utc"
+
+
+class BeyondDatetime(OwnRefusal):
+    """A datetime cannot hold the time: its year is outside 1 to 9999, or its offset is a day or more."""
+
+    own_message = "a datetime holds years from 1 to 9999 and offsets below a day"
+
+
+def named(*classes: Type[GixDateError]) -> Dict[int, Type[GixDateError]]:
+    """These classes by their statuses."""
+    return {error.status: error for error in classes}
+
+
+REFUSALS = named(
+    NotText, InvalidTime, UnknownFormat, DateConversion, MissingNow, Range, InvalidInstant, InvalidZone, Conversion,
+    OffsetTooWide, Pattern, NoSignature, BadPart, Unclear,
+)  # fmt: skip
+
+
+def index_of(text: Text, place: int) -> Optional[int]:
+    """The index into a text of a place that counts bytes; None if it is below 0."""
+    if place < 0 or isinstance(text, bytes):
+        return None if place < 0 else place
+    return len(text.encode()[:place].decode())
+
+
+def refusal(
+    status: int, text: Optional[Text] = None, place: int = -1, refusals: Dict[int, Type[GixDateError]] = REFUSALS
+) -> GixDateError:
+    """The refusal of a status. A place counts bytes, and is below 0 if there is none."""
+    return refusals[status](text, None if text is None else index_of(text, place))
+
+
+__all__ = [
+    "GixDateError", "NotText", "InvalidTime", "UnknownFormat", "DateConversion", "MissingNow", "Range",
+    "InvalidInstant", "InvalidZone", "Conversion", "OffsetTooWide", "Pattern", "NoSignature", "BadPart", "Unclear", "NaiveDatetime",
+    "BeyondDatetime",
+]  # fmt: skip

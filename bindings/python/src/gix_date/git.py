@@ -1,0 +1,206 @@
+"""Dates as Git 2.39.5 itself reads and shows them.
+
+- `parse_date`: exact dates, as in `GIT_COMMITTER_DATE`, in mails, and nearly all of `git commit --date`
+- `approxidate`: dates as people write them, as Git reads `--since` and `REF@{..}`
+- `expiry_date`: what expires, as in `gc.pruneExpire`
+- `show_date`: a date as `git log --date=MODE` shows it
+
+Each call has a moment, an aware datetime or a `Moment`, in whose zone a text without an offset is read. docs/GIT_DATES.md has the rules.
+All refuse the moment by `NaiveDatetime`, `InvalidInstant` and `InvalidZone`, and bytes that are not UTF-8 by `NotText`.
+"""
+
+from __future__ import annotations
+
+from dataclasses import dataclass
+from enum import Enum
+from typing import Optional, Union
+
+from . import _library
+from .errors import REFUSALS, GixDateError, OwnRefusal, Text, index_of, named, refusal
+from .moments import Now, moment_of
+from .times import Time, time_of
+
+
+class Unreadable(GixDateError):
+    """Git reads no date either: the text says no year, month or time of day, or none that Git knows."""
+
+    status = 18
+
+
+class NumberTooLarge(GixDateError):
+    """The digits at `place` say more than 2147483647, and are neither an epoch nor a fraction."""
+
+    status = 19
+
+
+class BackTooFar(GixDateError):
+    """The date leads back beyond what Git can say, by the word or number at `place`."""
+
+    status = 20
+
+
+class YearRefused(GixDateError):
+    """The date at `place` begins with a year that Git refuses."""
+
+    status = 21
+
+
+class Range(GixDateError):
+    """The date is before 1970, or leads to an instant that cannot be computed with.
+
+    When shown: Git cannot show it, or it is beyond what is shown here: an offset of 100 hours, or after 9999.
+    """
+
+    status = 22
+
+
+class UnknownMode(OwnRefusal):
+    """No mode has this name. Git's modes `auto:` and `format:` are not offered."""
+
+    own_message = 'not a way to show a date; expected one such as "iso8601-strict" or "human-local"'
+
+
+_GIT_REFUSALS = {**REFUSALS, **named(Unreadable, NumberTooLarge, BackTooFar, YearRefused, Range)}
+
+
+@dataclass(frozen=True)
+class ReadDate:
+    """What `parse_date` reads.
+
+    - time: its offset has whole minutes
+    - ignored: the index into the text of the first word or number that no rule used, or None
+    """
+
+    time: Time
+    ignored: Optional[int]
+
+
+@dataclass(frozen=True)
+class Approximate:
+    """What `approxidate` makes of a text.
+
+    - time: its offset is the zone's, or the one that an exact date says
+    - understood: whether anything was understood. If not, the time is the moment, or near it.
+    - ignored: as in `ReadDate`
+    """
+
+    time: Time
+    understood: bool
+    ignored: Optional[int]
+
+
+class Expires(Enum):
+    """What expires without a date.
+
+    - NEVER: nothing
+    - ALL: all, however new it is
+    """
+
+    NEVER = 0
+    ALL = 1
+
+
+class DateKind(Enum):
+    """What of a date is shown. The examples show 1251660000 +0000.
+
+    - RELATIVE: `2 hours ago`
+    - ISO8601_STRICT: `2009-08-30T19:20:00+00:00`
+    - ISO8601: `2009-08-30 19:20:00 +0000`
+    - RFC2822: `Sun, 30 Aug 2009 19:20:00 +0000`
+    - SHORT: `2009-08-30`
+    - DEFAULT: `Sun Aug 30 19:20:00 2009 +0000`
+    - HUMAN: as much as tells the date from now, `Tue Aug 25 19:20`
+    - RAW: `1251660000 +0000`
+    - UNIX: `1251660000`
+    """
+
+    RELATIVE = 0
+    ISO8601_STRICT = 1
+    ISO8601 = 2
+    RFC2822 = 3
+    SHORT = 4
+    DEFAULT = 5
+    HUMAN = 6
+    RAW = 7
+    UNIX = 8
+
+
+@dataclass(frozen=True)
+class DateMode:
+    """How a date is shown, as Git's option `--date` says it. `str` of it is Git's name.
+
+    - kind: what is shown
+    - local: whether the clock is that of the moment's zone. Else it is the time's own.
+    """
+
+    kind: DateKind = DateKind.DEFAULT
+    local: bool = False
+
+    @classmethod
+    def of_name(cls, name: Text) -> DateMode:
+        """The mode of one of Git's names, in its letter case: `iso8601-strict-local`. Refuses by `UnknownMode` and `NotText`."""
+        status, kind, local = _library.mode_named(name)
+        if status == 2:
+            raise UnknownMode(name)
+        if status:
+            raise refusal(status, name)
+        return cls(DateKind(kind), bool(local))
+
+    def __str__(self) -> str:
+        return self.kind.name.lower().replace("_", "-") + ("-local" if self.local else "")
+
+
+def parse_date(text: Text, now: Now) -> ReadDate:
+    """Reads a date as Git's exact reader does.
+
+    Refuses by `Unreadable`, `NumberTooLarge`, `YearRefused` and `Range`.
+    """
+    status, seconds, offset, ignored, place = _library.parse_date(text, moment_of(now))
+    if status:
+        raise refusal(status, text, place, _GIT_REFUSALS)
+    return ReadDate(time_of(seconds, offset), index_of(text, ignored))
+
+
+def approxidate(text: Text, now: Now) -> Approximate:
+    """Reads a date as people write it. A word that Git does not know is ignored: `5 mins ago` is the fifth.
+
+    Refuses by `NumberTooLarge`, `BackTooFar`, `YearRefused` and `Range`.
+    """
+    status, seconds, offset, ignored, understood, place = _library.approxidate(text, moment_of(now))
+    if status:
+        raise refusal(status, text, place, _GIT_REFUSALS)
+    return Approximate(time_of(seconds, offset), bool(understood), index_of(text, ignored))
+
+
+def expiry_date(text: Text, now: Now) -> Union[Approximate, Expires]:
+    """Reads what expires: what is older than a date, or `never`, `false`, `all` and `now`.
+
+    Refuses as `approxidate` does, and by `Unreadable` if nothing was understood.
+    """
+    status, kind, seconds, offset, ignored, understood, place = _library.expiry_date(text, moment_of(now))
+    if status:
+        raise refusal(status, text, place, _GIT_REFUSALS)
+    if kind < 2:
+        return Expires(kind)
+    return Approximate(time_of(seconds, offset), bool(understood), index_of(text, ignored))
+
+
+def show_date(time: Time, mode: Union[DateMode, DateKind, str], now: Now) -> str:
+    """A date as `git log --date=MODE` shows it at a moment. The mode may be a kind, or Git's name.
+
+    Refuses by `Range` what Git cannot show, and by `UnknownMode` a name.
+    """
+    if isinstance(mode, str):
+        mode = DateMode.of_name(mode)
+    elif isinstance(mode, DateKind):
+        mode = DateMode(mode)
+    status, text = _library.show_date((time.seconds, time.offset), mode.kind.value, mode.local, moment_of(now))
+    if text is None:
+        raise refusal(status, refusals=_GIT_REFUSALS)
+    return text
+
+
+__all__ = [
+    "Approximate", "BackTooFar", "DateKind", "DateMode", "Expires", "NumberTooLarge", "Range", "ReadDate", "UnknownMode", "Unreadable",
+    "YearRefused", "approxidate", "expiry_date", "parse_date", "show_date",
+]  # fmt: skip

@@ -1,0 +1,106 @@
+"""Compares the answers of this package with those of a C program, through_c.c, for random texts.
+
+The arguments are the built program and how many texts there are.
+"""
+
+from __future__ import annotations
+
+import random
+import subprocess
+import sys
+from typing import Callable, List
+
+import gix_date
+from gix_date import GixDateError, Moment, RawOffsets, Signature, Time, WithoutOffset, git
+
+import rows
+
+NOW = Moment(1698400800, 0, 7200)
+
+
+def pieces() -> List[bytes]:
+    """Words of the rows."""
+    found = set()
+    for name in rows.names():
+        for line in (rows.FOLDER / name).read_bytes().split(b"\n"):
+            found.update(line.replace(b"\t", b" ").split(b" "))
+    return sorted(found)
+
+
+def texts(count: int) -> List[bytes]:
+    """Random words with random marks between them, of which some bytes are changed."""
+    source, words = random.Random(7), pieces()
+    made = []
+    for _ in range(count):
+        marks = source.choices([b" ", b"-", b":", b".", b"", b" <", b"> "], [8, 2, 2, 1, 1, 1, 1], k=6)
+        some = [source.choice(words) + mark for mark in marks[: source.randint(1, 6)]]
+        text = bytearray(b"".join(some))
+        if text and source.random() < 0.3:
+            text[source.randrange(len(text))] = source.choice(b"0123456789 -+:<>.azAZ\x00\x80\xc3\xff")
+        made.append(bytes(text).replace(b"\n", b" "))
+    return made
+
+
+def told(call: Callable[[bytes], str], text: bytes) -> str:
+    try:
+        return call(text)
+    except GixDateError as error:
+        return f"{error.status}|" + ("" if call in WITHOUT_PLACE else f"{-1 if error.place is None else error.place}|")
+
+
+def of_time(time: Time) -> str:
+    return f"0 {time.seconds} {time.offset}|"
+
+
+def header(text: bytes) -> str:
+    return of_time(gix_date.parse_header(text))
+
+
+def date(text: bytes) -> str:
+    return of_time(gix_date.parse(text, NOW))
+
+
+def careful(text: bytes) -> str:
+    rule, meaning = RawOffsets.WHOLE_MINUTES, WithoutOffset.MOMENTS_ZONE
+    return of_time(gix_date.parse_carefully(text, NOW, raw_offsets=rule, without_offset=meaning)) + "-1|"
+
+
+def exact(text: bytes) -> str:
+    read = git.parse_date(text, NOW)
+    return of_time(read.time) + f"{-1 if read.ignored is None else read.ignored}|"
+
+
+def approximate(text: bytes) -> str:
+    read = git.approxidate(text, NOW)
+    return of_time(read.time) + f"{-1 if read.ignored is None else read.ignored}|"
+
+
+def signature(text: bytes) -> str:
+    try:
+        cut = Signature.from_line(text)
+    except GixDateError as error:
+        return f"{error.status} 0"
+    return f"0 {sum(len(part.encode()) for part in (cut.name, cut.mail, cut.time))}"
+
+
+WITHOUT_PLACE = (header, date)
+CALLS = (header, date, careful, exact, approximate, signature)
+
+
+def main() -> None:
+    program, count = sys.argv[1], int(sys.argv[2])
+    given = texts(count)
+    run = subprocess.run([program], input=b"\n".join(given) + b"\n", stdout=subprocess.PIPE, check=True)
+    due = run.stdout.decode().splitlines()
+    assert len(due) == count, f"{len(due)} answers to {count} texts"
+    for text, line in zip(given, due):
+        answer = "".join(told(call, text) for call in CALLS)
+        if answer != line:
+            sys.exit(f"{text!r}: C answers {line}, and Python {answer}")
+    read = sum("|0 " in line for line in due)
+    assert count // 10 < read < count, f"{read} of {count} texts are dates"
+    print(f"{count} random texts have the answers of the library through C; {read} of them are dates")
+
+
+if __name__ == "__main__":
+    main()

@@ -1,0 +1,329 @@
+"""Runs rows of outside values (crates/gix_date_rows/data) by the calls of this package, and tells those that differ."""
+
+from __future__ import annotations
+
+import re
+import sys
+from pathlib import Path
+from typing import Callable, Dict, Iterable, Iterator, List, Mapping, Optional, Tuple, TypeVar, Union
+
+import gix_date
+from gix_date import Format, GixDateError, Moment, RawOffsets, Signature, Texts, Time, WithoutOffset, git
+
+FOLDER = Path(__file__).parents[3] / "crates/gix_date_rows/data"
+ANY = ("none", "1698400800 0 0", "1698400800 0 3600", "1698400800 0 7200", "-1 0 -34200", "0 0 93599")
+RULES = {
+    "both": (RawOffsets.QUARTERS, RawOffsets.WHOLE_MINUTES),
+    "quarters": (RawOffsets.QUARTERS,),
+    "minutes": (RawOffsets.WHOLE_MINUTES,),
+}
+WITHOUT_OFFSET = {"utc": WithoutOffset.UTC, "local": WithoutOffset.MOMENTS_ZONE}
+TEXTS = {"careful": Texts.CAREFUL, "all": Texts.ALL}
+LEFT_OUT = {"to_zoned", "now_local"}  # calls that the library for C lacks
+
+Text = Union[str, bytes]
+Named = TypeVar("Named")
+
+
+class NoRow(Exception):
+    """The line is no row."""
+
+
+ESCAPE = re.compile(rb"\\(?:([tnr\\])|x([0-9a-fA-F]{2})|u\{([0-9a-fA-F]+)\}|)")
+PLAIN = {b"t": b"\t", b"n": b"\n", b"r": b"\r", b"\\": b"\\"}
+
+
+def unescaped(field: bytes) -> bytes:
+    """The bytes of a field without its escapes."""
+
+    def meant(found: "re.Match[bytes]") -> bytes:
+        letter, byte, character = found.groups()
+        if letter:
+            return PLAIN[letter]
+        if byte:
+            return bytes([int(byte, 16)])
+        if character:
+            return chr(int(character, 16)).encode()
+        raise NoRow
+
+    return ESCAPE.sub(meant, field)
+
+
+def both(text: bytes) -> List[Text]:
+    """A text as bytes, and as a str if it is one."""
+    try:
+        return [text, text.decode()]
+    except UnicodeDecodeError:
+        return [text]
+
+
+def told(call: Callable[[], object], text: Text = b"") -> str:
+    """What a call answers, or the name of its refusal after `!`, with its place in bytes."""
+    try:
+        return str(call())
+    except GixDateError as error:
+        name = f"!{type(error).__name__}"
+        return name if error.place is None else f"{name} {in_bytes(text, error.place)}"
+
+
+def in_bytes(text: Text, index: int) -> int:
+    """A place in bytes, of an index into a text."""
+    return index if isinstance(text, bytes) else len(text[:index].encode())
+
+
+def agreeing(answers: Iterable[str]) -> str:
+    """The one answer of all."""
+    found = set(answers)
+    return found.pop() if len(found) == 1 else "!CallsDiffer"
+
+
+def of_time(time: Time) -> str:
+    return f"{time.seconds} {time.offset}"
+
+
+def number(field: bytes) -> int:
+    try:
+        return int(field)
+    except ValueError:
+        raise NoRow from None
+
+
+def time_of(seconds: bytes, offset: bytes) -> Time:
+    return Time(number(seconds), number(offset))
+
+
+def named(names: Mapping[str, Named], field: bytes) -> Named:
+    if field.decode() not in names:
+        raise NoRow
+    return names[field.decode()]
+
+
+def moment(field: bytes) -> Optional[Moment]:
+    """A moment: `none`, or its seconds, its nanoseconds and its zone."""
+    if field == b"none":
+        return None
+    parts = field.split(b" ", 2)
+    if len(parts) < 3:
+        raise NoRow
+    seconds, nanoseconds, zone = parts
+    return Moment(number(seconds), number(nanoseconds), zone_of(zone.decode()))
+
+
+def zone_of(zone: str) -> Union[int, str, bytes]:
+    """A zone: an offset, the name of a TZif file, or a rule."""
+    if re.fullmatch("[-+]?[0-9]+", zone):
+        return int(zone)
+    return (FOLDER / zone).read_bytes() if zone.endswith(".tzif") else zone
+
+
+def needed(field: bytes) -> Moment:
+    """A moment that a call needs."""
+    found = moment(field)
+    if found is None:
+        raise NoRow
+    return found
+
+
+def parse(rules: bytes, at: bytes, text: bytes) -> str:
+    moments = [moment(one.encode()) for one in ANY] if at == b"any" else [moment(at)]
+    return agreeing(parsed(rule, now, text) for rule in named(RULES, rules) for now in moments)
+
+
+def parsed(rule: RawOffsets, now: Optional[Moment], text: bytes) -> str:
+    """The same by a call for one text and by those for many, which raise what they refuse of the moment."""
+
+    def line() -> str:
+        (answer,) = gix_date.parse_lines(text, now, raw_offsets=rule)
+        if isinstance(answer, GixDateError):
+            raise answer
+        return of_time(answer)
+
+    answers = [told(lambda: of_time(gix_date.parse(given, now, raw_offsets=rule))) for given in both(text)]
+    if text and b"\n" not in text:
+        answers.append(told(line))
+    return agreeing(answers)
+
+
+def parse_carefully(rules: bytes, without_offset: bytes, texts: bytes, at: bytes, text: bytes) -> str:
+    without, which, now = named(WITHOUT_OFFSET, without_offset), named(TEXTS, texts), moment(at)
+    return agreeing(
+        told(lambda: of_time(gix_date.parse_carefully(given, now, raw_offsets=rule, without_offset=without, texts=which)), given)
+        for rule in named(RULES, rules)
+        for given in both(text)
+    )
+
+
+def parse_header(text: bytes) -> str:
+    return agreeing(told(lambda: of_time(gix_date.parse_header(given))) for given in both(text))
+
+
+def is_canonical_header(text: bytes) -> str:
+    return agreeing("yes" if gix_date.is_canonical_header(given) else "no" for given in both(text))
+
+
+def header_text(seconds: bytes, offset: bytes) -> str:
+    time = time_of(seconds, offset)
+    text = told(time.to_header)
+    shown = str(time.seconds) if text.startswith("!") else text
+    return text if str(time) == shown else "!DisplayDiffers"
+
+
+def format(name: bytes, seconds: bytes, offset: bytes) -> str:
+    time, form = time_of(seconds, offset), named(Format.__members__, name)
+    return printed(time, told(lambda: time.format(form)), told(lambda: time.format_or_unix(form)))
+
+
+def format_by_pattern(pattern: bytes, seconds: bytes, offset: bytes) -> str:
+    time, form = time_of(seconds, offset), pattern.decode()
+    return printed(time, told(lambda: time.format(form)), told(lambda: time.format_or_unix(form)))
+
+
+def printed(time: Time, text: str, always: str) -> str:
+    """A text, if the call agrees that gives the seconds where there is none."""
+    return text if always == (str(time.seconds) if text.startswith("!") else text) else "!CallsDiffer"
+
+
+def cut_signature(line: bytes) -> str:
+    def parts(given: Text) -> str:
+        cut = Signature.from_line(given)
+        if str(cut).encode() != line:
+            return "!DisplayDiffers"
+        return f"{cut.name}<{cut.mail}>{cut.time}"
+
+    return agreeing(told(lambda: parts(given)) for given in both(line))
+
+
+def signature_time(line: bytes) -> str:
+    return agreeing(told(lambda: of_time(Signature.from_line(given).read_time())) for given in both(line))
+
+
+def write_signature(name: bytes, mail: bytes, seconds: bytes, offset: bytes) -> str:
+    time = time_of(seconds, offset)
+    return agreeing(told(lambda: gix_date.write_signature(a, b, time)) for a in both(name) for b in both(mail))
+
+
+def place(text: Text, ignored: Optional[int]) -> str:
+    return "none" if ignored is None else str(in_bytes(text, ignored))
+
+
+def parse_date(at: bytes, text: bytes) -> str:
+    now = needed(at)
+    return agreeing(told(lambda: of_time(git.parse_date(given, now).time), given) for given in both(text))
+
+
+def ignored(at: bytes, text: bytes) -> str:
+    now = needed(at)
+    return agreeing(told(lambda: place(given, git.parse_date(given, now).ignored), given) for given in both(text))
+
+
+def of_approximate(date: git.Approximate) -> str:
+    return of_time(date.time) + ("" if date.understood else " ?")
+
+
+def approxidate(at: bytes, text: bytes) -> str:
+    now = needed(at)
+    return agreeing(told(lambda: of_approximate(git.approxidate(given, now)), given) for given in both(text))
+
+
+def approximate_ignored(at: bytes, text: bytes) -> str:
+    now = needed(at)
+    return agreeing(told(lambda: place(given, git.approxidate(given, now).ignored), given) for given in both(text))
+
+
+def of_expiry(expiry: Union[git.Approximate, git.Expires]) -> str:
+    return expiry.name.lower() if isinstance(expiry, git.Expires) else of_time(expiry.time)
+
+
+def expiry_date(at: bytes, text: bytes) -> str:
+    now = needed(at)
+    return agreeing(told(lambda: of_expiry(git.expiry_date(given, now)), given) for given in both(text))
+
+
+def date_mode(name: bytes) -> str:
+    def mode(given: Text) -> str:
+        found = git.DateMode.of_name(given)
+        return str(found) if git.DateMode.of_name(str(found)) == found else "!CallsDiffer"
+
+    return agreeing(told(lambda: mode(given)) for given in both(name))
+
+
+def show_date(mode: bytes, at: bytes, seconds: bytes, offset: bytes) -> str:
+    time, now = time_of(seconds, offset), needed(at)
+    try:
+        git.DateMode.of_name(mode)
+    except git.UnknownMode:
+        raise NoRow from None
+    return told(lambda: git.show_date(time, mode.decode(), now))
+
+
+CALLS: Dict[str, Callable[..., str]] = {
+    "parse": parse,
+    "parse_carefully": parse_carefully,
+    "parse_header": parse_header,
+    "is_canonical_header": is_canonical_header,
+    "header_text": header_text,
+    "format": format,
+    "format_by_pattern": format_by_pattern,
+    "cut_signature": cut_signature,
+    "signature_time": signature_time,
+    "write_signature": write_signature,
+    "parse_date": parse_date,
+    "ignored": ignored,
+    "approxidate": approxidate,
+    "approximate_ignored": approximate_ignored,
+    "expiry_date": expiry_date,
+    "date_mode": date_mode,
+    "show_date": show_date,
+}
+
+
+def answer_to(row: bytes) -> Tuple[str, str]:
+    """What a row's call answers, and what is due."""
+    call, *fields, due = row.split(b"\t") if b"\t" in row else (b"", row)
+    if call.decode() not in CALLS:
+        raise NoRow
+    arguments = [unescaped(field) for field in fields]
+    wanted = due.decode() if due.startswith(b"!") else unescaped(due).decode()
+    try:
+        return CALLS[call.decode()](*arguments), wanted
+    except TypeError as error:
+        if "positional argument" in str(error):
+            raise NoRow from None
+        raise
+
+
+def differing(name: str) -> Iterator[Optional[str]]:
+    """For each row of a file what differs, or None."""
+    for at, row in enumerate((FOLDER / name).read_bytes().split(b"\n"), 1):
+        if not row or row.startswith(b"#") or row.split(b"\t")[0].decode() in LEFT_OUT:
+            continue
+        try:
+            answer, due = answer_to(row)
+        except NoRow:
+            yield f"{name}:{at}: no row: {row!r}"
+            continue
+        yield None if answer == due else f"{name}:{at}: it answers {answer!r}: {row!r}"
+
+
+def run(name: str) -> Tuple[int, List[str]]:
+    """How many rows a file has, and what differs."""
+    outcomes = list(differing(name))
+    return len(outcomes), [outcome for outcome in outcomes if outcome is not None]
+
+
+def names() -> List[str]:
+    """The files of right rows."""
+    return sorted(path.name for path in FOLDER.glob("*.rows") if path.name != "wrong.rows")
+
+
+def main() -> None:
+    all_differ = 0
+    for name in names():
+        rows, differ = run(name)
+        all_differ += len(differ)
+        print(*differ, f"{name}: {rows} rows, {len(differ)} differ", sep="\n")
+    sys.exit(1 if all_differ else 0)
+
+
+if __name__ == "__main__":
+    main()

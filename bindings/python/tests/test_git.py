@@ -1,0 +1,74 @@
+"""Git's dates."""
+
+from __future__ import annotations
+
+from datetime import datetime, timezone
+from zoneinfo import ZoneInfo
+
+import pytest
+
+from gix_date import InvalidInstant, InvalidZone, Moment, NotText, Time, git
+from gix_date.git import Approximate, DateKind, DateMode, Expires, ReadDate, UnknownMode
+
+NOW = datetime(2009, 8, 30, 19, 20, tzinfo=timezone.utc)
+
+
+def test_exact_dates() -> None:
+    assert git.parse_date("2008-02-14 20:30:45 EST", NOW) == ReadDate(Time(1203039045, -18000), None)
+    assert git.parse_date("2008-02-14 20:30:45 IST", NOW) == ReadDate(Time(1203021045, 0), 20)
+    with pytest.raises(git.Unreadable):
+        git.parse_date("2008-02-14", NOW)
+    with pytest.raises(git.YearRefused) as caught:
+        git.parse_date("1900-02-03 10:00 2009 +0000", NOW)
+    assert caught.value.place == 0
+    berlin = NOW.astimezone(ZoneInfo("Europe/Berlin"))
+    assert git.parse_date("2009-01-30 19:20", berlin).time == Time(1233339600, 3600)
+
+
+def test_approximate_dates() -> None:
+    text = "5 mins ago"
+    date = git.approxidate(text, NOW)
+    assert date == Approximate(Time(1249500000, 0), True, 2)
+    assert text[date.ignored or 0 :] == "mins ago"
+    assert git.approxidate("é 5 mins ago", NOW).ignored == 4
+    assert git.approxidate("é 5 mins ago".encode(), NOW).ignored == 5
+    assert not git.approxidate("friday", NOW).understood
+    with pytest.raises(git.BackTooFar):
+        git.approxidate("200 years ago", NOW)
+
+
+def test_expiry() -> None:
+    assert git.expiry_date("never", NOW) is Expires.NEVER
+    assert git.expiry_date(b"all", NOW) is Expires.ALL
+    assert git.expiry_date("2.weeks.ago", NOW) == Approximate(Time(1250450400, 0), True, None)
+    with pytest.raises(git.Unreadable):
+        git.expiry_date("friday", NOW)
+
+
+def test_shown_dates() -> None:
+    time = Time(1251300000, 7200)
+    assert git.show_date(time, DateKind.ISO8601, NOW) == "2009-08-26 17:20:00 +0200"
+    assert git.show_date(time, DateMode(DateKind.ISO8601, True), NOW) == "2009-08-26 15:20:00 +0000"
+    assert git.show_date(time, "relative", NOW) == "4 days ago"
+    with pytest.raises(git.Range):
+        git.show_date(Time(-1, 0), DateKind.ISO8601, NOW)
+    with pytest.raises(UnknownMode, match="human-local"):
+        git.show_date(time, "format:%Y", NOW)
+
+
+def test_modes() -> None:
+    assert str(DateMode.of_name("iso-strict-local")) == "iso8601-strict-local"
+    assert str(DateMode.of_name(b"local")) == "default-local"
+    assert [str(DateMode.of_name(str(DateMode(kind)))) for kind in DateKind] == [str(DateMode(kind)) for kind in DateKind]
+    with pytest.raises(NotText):
+        DateMode.of_name(b"\xff")
+
+
+def test_moments_are_refused() -> None:
+    for call in (git.parse_date, git.approxidate, git.expiry_date):
+        with pytest.raises(InvalidInstant):
+            call("yesterday", Moment(2**62))
+        with pytest.raises(InvalidZone):
+            call("yesterday", Moment(0, 0, b""))
+        with pytest.raises(TypeError):
+            call("yesterday", None)  # type: ignore[arg-type]

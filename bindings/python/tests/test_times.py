@@ -1,0 +1,120 @@
+"""Times, their datetimes and their texts."""
+
+from __future__ import annotations
+
+import pickle
+from datetime import datetime, timedelta, timezone
+from zoneinfo import ZoneInfo
+
+import pytest
+
+from gix_date import (
+    ISO8601,
+    RFC2822,
+    SHORT,
+    BeyondDatetime,
+    Conversion,
+    Format,
+    GixDateError,
+    InvalidZone,
+    NaiveDatetime,
+    OffsetTooWide,
+    Pattern,
+    Time,
+    parse,
+)
+
+TIME = Time(1660797906, 28800)
+
+
+def test_a_time_is_a_value() -> None:
+    assert TIME == Time(1660797906, 28800) != Time(1660797906, 28801)
+    assert len({TIME, Time(1660797906, 28800)}) == 1
+    assert sorted([Time(5, 0), Time(4, 60), Time(4, -60)]) == [Time(4, -60), Time(4, 60), Time(5, 0)]
+    assert repr(TIME) == "Time(seconds=1660797906, offset=28800)"
+    assert TIME.__eq__((1660797906, 28800)) is NotImplemented
+
+
+def test_a_time_does_not_change() -> None:
+    with pytest.raises(AttributeError):
+        TIME.seconds = 5  # type: ignore[misc]
+    with pytest.raises((AttributeError, TypeError)):
+        TIME.zone = "UTC"  # type: ignore[attr-defined]
+    assert not hasattr(TIME, "__dict__")
+
+
+@pytest.mark.parametrize("protocol", range(pickle.HIGHEST_PROTOCOL + 1))
+def test_times_pickle(protocol: int) -> None:
+    assert pickle.loads(pickle.dumps(TIME, protocol)) == TIME
+
+
+def test_any_two_numbers_of_64_and_32_bits_are_a_time() -> None:
+    assert str(Time(-(2**63), -359999)) == "-9223372036854775808 -9959"
+    assert Time(2**63 - 1, 2**31 - 1).offset == 2147483647
+    for seconds, offset in [(2**63, 0), (-(2**63) - 1, 0), (0, 2**31), (0, -(2**31) - 1)]:
+        with pytest.raises(OverflowError):
+            Time(seconds, offset)
+    with pytest.raises(TypeError):
+        Time(1.5, 0)  # type: ignore[arg-type]
+
+
+def test_its_text_is_that_of_the_header() -> None:
+    assert str(TIME) == TIME.to_header() == "1660797906 +0800"
+    assert str(Time(5, 360000)) == "5"
+    with pytest.raises(OffsetTooWide):
+        Time(5, 360000).to_header()
+
+
+def test_formats_and_patterns() -> None:
+    assert TIME.format(SHORT) == "2022-08-18"
+    assert TIME.format("%H:%M") == TIME.format(b"%H:%M") == "12:45"
+    assert TIME.format("%H" * 1000) == "12" * 1000
+    assert TIME.format("é\0") == "é\0"
+    assert TIME.format(RFC2822) == "Thu, 18 Aug 2022 12:45:06 +0800"
+    with pytest.raises(Pattern) as caught:
+        TIME.format("%")
+    assert caught.value.text == "%"
+    with pytest.raises(Conversion):
+        Time(2**63 - 1, 0).format(ISO8601)
+    assert Time(2**63 - 1, 0).format_or_unix(ISO8601) == "9223372036854775807"
+    with pytest.raises(AttributeError):
+        TIME.format(9)  # type: ignore[arg-type]
+
+
+def test_of_datetimes() -> None:
+    assert Time.from_datetime(datetime(2022, 8, 18, 12, 45, 6, 999999, timezone(timedelta(hours=8)))) == TIME
+    assert Time.from_datetime(datetime(1969, 12, 31, 23, 59, 59, 500000, timezone.utc)) == Time(-1, 0)
+    assert Time.from_datetime(datetime(1, 1, 1, tzinfo=timezone.utc)).seconds == -62135596800
+    folded = datetime(2023, 11, 5, 1, 30, tzinfo=ZoneInfo("America/New_York"))
+    assert Time.from_datetime(folded) == Time(1699162200, -14400)
+    assert Time.from_datetime(folded.replace(fold=1)) == Time(1699165800, -18000)
+    with pytest.raises(NaiveDatetime, match="naive"):
+        Time.from_datetime(datetime(2022, 8, 18))
+    with pytest.raises(InvalidZone):
+        Time.from_datetime(datetime(2022, 8, 18, tzinfo=timezone(timedelta(microseconds=1))))
+
+
+def test_to_datetimes() -> None:
+    at = TIME.to_datetime()
+    assert at == datetime(2022, 8, 18, 12, 45, 6, tzinfo=timezone(timedelta(hours=8)))
+    assert at.utcoffset() == timedelta(hours=8)
+    first, last = Time(-62135596800 - 3600, 3600), Time(253402300799 + 3600, -3600)
+    assert first.to_datetime().replace(tzinfo=None) == datetime(1, 1, 1)
+    assert last.to_datetime().replace(tzinfo=None) == datetime(9999, 12, 31, 23, 59, 59)
+    assert Time(0, 86399).to_datetime().utcoffset() == timedelta(seconds=86399)
+    beyond = [Time(first.seconds - 1, 3600), Time(last.seconds + 1, -3600), Time(2**63 - 1, 0), Time(0, 86400), Time(0, -86400)]
+    for time in beyond:
+        with pytest.raises(BeyondDatetime) as caught:
+            time.to_datetime()
+        assert isinstance(caught.value, GixDateError)
+
+
+def test_times_that_round_trip_are_read_back() -> None:
+    forms = [Format.RFC2822, Format.GIT_RFC2822, Format.ISO8601, Format.ISO8601_STRICT, Format.GITOXIDE, Format.DEFAULT]
+    edges = [-30610224000, 253402207200, 0, -1, 1660797906]
+    for time in [Time(seconds, offset) for seconds in edges for offset in (0, 86340, -86340, 60)]:
+        if time.round_trips():
+            assert [parse(time.format(form)) for form in forms] == [time] * len(forms)
+    assert Time(0, 0).round_trips()
+    for time in [Time(-30610224001, 0), Time(253402207201, 0), Time(0, 1), Time(0, 86400), Time(-377705023202, 0)]:
+        assert not time.round_trips()
