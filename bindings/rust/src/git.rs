@@ -73,7 +73,7 @@ pub enum Expiry {
 }
 
 /// Reads a date as Git's exact reader does. A text without an offset has that of the moment's zone: in a fold the earlier
-/// instant, in a gap the offset before it.
+/// instant (east of UTC Git's is the later), in a gap the offset before it.
 ///
 /// The instant matters only to a date such as `7/4/2009` after a clock, which is refused if it is more than ten days ahead.
 ///
@@ -166,9 +166,10 @@ pub fn expiry_date(input: &str, now: &Moment) -> Result<Expiry, DateError> {
 /// # Ok::<(), DateError>(())
 /// ```
 ///
-/// [`DateError::Range`] for what Git cannot show: a time before 1970; a clock before 1970, if it is the time's own; an own
-/// offset of 100 hours or more, or with seconds. Beyond what Git refuses it is given for a clock after the year 9999, a local
-/// clock that cannot be computed, and a human date at a moment before 1970. [`DateError::Refused`] of the moment.
+/// [`DateError::Range`] for what Git cannot show: a time before 1970; and in modes that show it, a clock before 1970, if it is
+/// the time's own, or an own offset with seconds. Beyond what Git refuses it is given for an own offset of 100 hours or more, a
+/// clock after the year 9999, a local clock that cannot be computed, and a human date at a moment before 1970. At such a moment
+/// a relative date is `in the future`, where Git's age wraps. [`DateError::Refused`] of the moment.
 pub fn show_date(time: Time, mode: DateMode, now: &Moment) -> Result<DateText, DateError> {
     DateText::shown(time, mode, now)
 }

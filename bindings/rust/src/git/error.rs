@@ -17,7 +17,7 @@ pub enum DateError {
     /// The date at this place begins with a year that Git refuses, of which it would keep month and day: `1900-02-03`.
     YearRefused(usize),
     /// The date is before 1970-01-01 00:00:00 UTC, or leads to an instant that cannot be computed with. Of
-    /// [`show_date()`](super::show_date): Git cannot show the time.
+    /// [`show_date()`](super::show_date): Git cannot show the time, or it is beyond what is shown here.
     Range,
     /// The moment is refused ([`Error::InvalidInstant`], [`Error::InvalidZone`]), memory for its zone
     /// ([`Error::OutOfMemory`]), or bytes that are not UTF-8 ([`Error::NotText`]).
