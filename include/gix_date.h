@@ -276,18 +276,21 @@ uint32_t gix_date_parse_carefully_in_tzif_zone(const char *text, size_t text_len
                                                size_t file_len, gix_date_time *time,
                                                size_t *place);
 
-/* Writes a time in a format of enum gix_date_named_format. Takes memory for the text.
+/* Writes a time in a format of enum gix_date_named_format. Takes memory for the text only in years
+ * before 1000 or at offsets with seconds.
  * GIX_DATE_NO_ROOM, GIX_DATE_NO_SUCH_OPTION, GIX_DATE_CONVERSION, GIX_DATE_OFFSET_TOO_WIDE,
  * GIX_DATE_OUT_OF_MEMORY. */
 uint32_t gix_date_format(const gix_date_time *time, uint32_t format, char *out, size_t out_len,
                          size_t *len);
 
-/* gix_date_format, with the seconds in decimal for a time that has no text in that format.
+/* gix_date_format, with the seconds in decimal for a time that has no text in that format. Takes
+ * memory for these too.
  * GIX_DATE_NO_ROOM, GIX_DATE_NO_SUCH_OPTION, GIX_DATE_OUT_OF_MEMORY. */
 uint32_t gix_date_format_or_unix(const gix_date_time *time, uint32_t format, char *out,
                                  size_t out_len, size_t *len);
 
-/* Writes a time by a pattern of strftime, with the directives of jiff. Takes memory for the text.
+/* Writes a time by a pattern of strftime, with the directives of jiff. Takes memory for the text,
+ * but for the patterns of named formats where gix_date_format takes none.
  * GIX_DATE_NO_ROOM, GIX_DATE_NOT_TEXT, GIX_DATE_CONVERSION, GIX_DATE_PATTERN,
  * GIX_DATE_OUT_OF_MEMORY. */
 uint32_t gix_date_format_by_pattern(const gix_date_time *time, const char *pattern,

@@ -356,7 +356,7 @@ static void formats(formatter *format)
         "1660797906",
         "1660797906 +0800",
     };
-    static const gix_date_time time = {1660797906, 28800};
+    static const gix_date_time time = {1660797906, 28800}, early = {-62198755200, 0};
     for (uint32_t i = 0; i < sizeof texts / sizeof *texts; i++) {
         for (size_t room = 0; room <= strlen(texts[i]) + 1; room++) {
             char *buffer = malloc(room + 1);
@@ -364,7 +364,7 @@ static void formats(formatter *format)
             size_t len = 99;
             demand before = so_far();
             uint32_t status = format(&time, i, buffer, room, &len);
-            expect_demand(before, (demand){1, strlen(texts[i])}, texts[i]);
+            expect_demand(before, none, texts[i]);
             bool fits = room >= strlen(texts[i]);
             EXPECT(status == (fits ? GIX_DATE_OK : GIX_DATE_NO_ROOM) && len == strlen(texts[i]),
                    "%s: %u", texts[i], status);
@@ -382,10 +382,10 @@ static void formats(formatter *format)
            "format 9");
     expect_demand(before, none, "format 9");
     refuses = true;
-    EXPECT(format(&time, GIX_DATE_ISO8601, buffer, sizeof buffer, &len) ==
+    EXPECT(format(&early, GIX_DATE_ISO8601, buffer, sizeof buffer, &len) ==
                GIX_DATE_OUT_OF_MEMORY,
            "no memory");
-    expect_demand(before, (demand){1, 25}, "a format that is refused memory");
+    expect_demand(before, (demand){1, 40}, "a format that is refused memory");
     refuses = false;
     EXPECT(len == 0 && is_untouched(buffer, sizeof buffer), "a refusal stores nothing");
 }
@@ -464,7 +464,7 @@ static void memory_of_prints(void)
         {&early, GIX_DATE_ISO8601, "", {1, 40}, {1, 40}},
         {&far, GIX_DATE_ISO8601, "", {0, 0}, {1, 19}},
         {&wide, GIX_DATE_RAW, "", {0, 0}, {1, 1}},
-        {&day, BY_PATTERN, "%Y-%m-%d %H:%M:%S %z", {1, 25}, {1, 25}},
+        {&day, BY_PATTERN, "%Y-%m-%d %H:%M:%S %z", {0, 0}, {0, 0}},
         {&day, BY_PATTERN, "%H:%M", {1, 10}, {1, 10}},
         {&day, BY_PATTERN, "%A, %B, %A, %B", {2, 28 + 56}, {2, 28 + 56}},
         {&day, BY_PATTERN, "", {0, 0}, {0, 0}},

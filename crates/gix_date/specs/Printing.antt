@@ -4,3 +4,4 @@ pub mod Formats
 pub mod NamedTexts
 pub mod PrintedTimes
 pub mod ReadingBack
+pub mod FormatBuf

@@ -5,6 +5,5 @@ pub mod Steps
 pub mod Dates
 pub mod FixedZones
 pub mod Pairs
-pub mod LocalFields
 pub mod PairsRead
 pub mod Scan

@@ -6,7 +6,7 @@ mod init;
 mod named;
 mod write;
 
-pub use format::{CustomFormat, Format};
+pub use format::{CustomFormat, Format, FormatBuf};
 use serde::{Deserialize, Serialize};
 pub(crate) use write::{MAX_TEXT_LEN, header_text, push_hours, push_minutes, push_two_digits};
 

@@ -1,13 +1,53 @@
--- What is printed by a pattern, or is not.
-use Rattle.std.proofs.Common.{◌≡◌, Bool, false, Result, Err, sym, ap, subst}
+-- What is printed by a pattern, or is not, and what is printed without an owned text.
+use Rattle.std.proofs.Common.{◌≡◌, ◌∙◌, ◌≤◌, ◌<◌, ◌^◌, ℕ, List, length, Bool, true, false, Result, Ok, Err, IsUtf8, refl, sym, ap, subst, arith, string_bytes}
 use Rattle.std.specs.Prelude.{String}
 use Rattle.std.specs.Global.{Global}
+use Rattle.gix_date.specs.Printing.Formats.{IsTextOf, Prints}
 use Rattle.gix_date.specs.declared.error.Error.{Error}
-use Rattle.gix_date_c.specs.Printing.{IsPatternPrinted}
+use Rattle.gix_date.specs.declared.time.Time.{Time}
+use Rattle.gix_date.specs.declared.time.format.Format.{Format}
+use Rattle.gix_date.specs.declared.time.format.Format.TheVariants.{Custom, Unix, Raw}
+use Rattle.gix_date_c.specs.Printing.{IsPatternPrinted, IsPrinted}
 use Rattle.gix_date_c.specs.declared.status.Status.{Status}
 use Rattle.gix_date_c.specs.declared.status.Status.TheVariants.{NotText}
+use denote.RawPtr.{null_ptr}
 
 -- a pattern that is no text is refused as such
 pub not_text-refused : (Prints : Result (String Global) Error → Type 0) (is_text : Bool) (status : Status)
     → (status ≡ NotText) × (is_text ≡ false) → IsPatternPrinted Prints is_text (Err status)
 not_text-refused Prints is_text status (is, not_text) = subst (λ b. IsPatternPrinted Prints b (Err status)) (sym not_text) (ap Err is)
+
+-- A short text as the value of an owned one. No block of memory stands behind it: contracts speak of its bytes alone.
+owned : Global → (text : List ℕ) → length text < 2 ^ 63 → IsUtf8 text → String Global
+owned alloc text short is_text = record {
+  bytes = record {
+    ptr = null_ptr;
+    len = length text;
+    cap = length text;
+    alloc = alloc;
+    items = text;
+    ok = (refl, omega arith);
+    small = short;
+  };
+  ok = ∣ is_text ∣₁;
+}
+
+-- so a text is printed if each owned text with its bytes is
+pub text-printed : (IsResult : Result (String Global) Error → Type 0) (alloc : Global) (text : List ℕ) → length text ≤ 31
+    → IsUtf8 text → ((s : String Global) → string_bytes s ≡ text → IsResult (Ok s)) → IsPrinted IsResult (Ok text)
+unfolding owned
+text-printed IsResult alloc text short is_text prints =
+    let s = owned alloc text (omega (arith, short)) is_text in
+    (Ok s, prints s refl, refl)
+
+-- by a pattern that is text
+pub text-by_pattern : (IsResult : Result (String Global) Error → Type 0) (is_text : Bool) (answer : Result (List ℕ) Status)
+    → is_text ≡ true → IsPrinted IsResult answer → IsPatternPrinted IsResult is_text answer
+text-by_pattern IsResult is_text answer is printed = subst (λ b. IsPatternPrinted IsResult b answer) (sym is) printed
+
+-- the text of a time in a format is what printing gives
+pub text-prints : (t : Time) (format : Format) (text : List ℕ) (s : String Global) → IsTextOf t format text → string_bytes s ≡ text
+    → Prints t format (Ok s)
+text-prints t Unix text s is bytes = bytes ∙ is
+text-prints t Raw text s is bytes = subst (IsTextOf t Raw) (sym bytes) is
+text-prints t (Custom format) text s is bytes = subst (IsTextOf t (Custom format)) (sym bytes) is

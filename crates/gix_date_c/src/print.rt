@@ -31,7 +31,11 @@ pub extern "C" fn gix_date_format(
     let Some(format) = format_of(format) else {
         return store_text(Err(Status::NoSuchOption), out, len);
     };
-    store_printed(load_time(time).format(alloc, format), out, len)
+    let time = load_time(time);
+    match time.format_to_buf(format) {
+        Some(text) => store_text(Ok(text.as_str()), out, len),
+        None => store_printed(time.format(alloc, format), out, len),
+    }
 }
 
 /// Prints as [`gix_date_format`] does, but the seconds for a time that has no text in that format.
@@ -49,7 +53,11 @@ pub extern "C" fn gix_date_format_or_unix(
     let Some(format) = format_of(format) else {
         return store_text(Err(Status::NoSuchOption), out, len);
     };
-    store_printed(load_time(time).format_or_unix(alloc, format), out, len)
+    let time = load_time(time);
+    match time.format_to_buf(format) {
+        Some(text) => store_text(Ok(text.as_str()), out, len),
+        None => store_printed(time.format_or_unix(alloc, format), out, len),
+    }
 }
 
 /// Puts the text of a time by a pattern into a buffer.
@@ -64,9 +72,14 @@ pub extern "C" fn gix_date_format_by_pattern(
     ensures { Puts (IsPatternPrinted (PrintsPattern (load_time time.now) pattern.now) (is_utf8 pattern.now))
         out.old (record { bytes = out.new; len = len.new; status = result }) }
 {
-    match utf8_text(pattern) {
-        Ok(pattern) => store_printed(load_time(time).format_by_pattern(alloc, pattern), out, len),
-        Err(status) => store_text(Err(status), out, len),
+    let pattern = match utf8_text(pattern) {
+        Ok(pattern) => pattern,
+        Err(status) => return store_text(Err(status), out, len),
+    };
+    let time = load_time(time);
+    match time.format_by_pattern_to_buf(pattern) {
+        Some(text) => store_text(Ok(text.as_str()), out, len),
+        None => store_printed(time.format_by_pattern(alloc, pattern), out, len),
     }
 }
 
@@ -82,12 +95,14 @@ pub extern "C" fn gix_date_format_by_pattern_or_unix(
     ensures { Puts (IsPatternPrinted (PrintsPatternOrSeconds (load_time time.now) pattern.now) (is_utf8 pattern.now))
         out.old (record { bytes = out.new; len = len.new; status = result }) }
 {
-    match utf8_text(pattern) {
-        Ok(pattern) => {
-            let printed = load_time(time).format_by_pattern_or_unix(alloc, pattern);
-            store_printed(printed, out, len)
-        }
-        Err(status) => store_text(Err(status), out, len),
+    let pattern = match utf8_text(pattern) {
+        Ok(pattern) => pattern,
+        Err(status) => return store_text(Err(status), out, len),
+    };
+    let time = load_time(time);
+    match time.format_by_pattern_to_buf(pattern) {
+        Some(text) => store_text(Ok(text.as_str()), out, len),
+        None => store_printed(time.format_by_pattern_or_unix(alloc, pattern), out, len),
     }
 }
 

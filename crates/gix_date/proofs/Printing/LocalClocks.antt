@@ -7,7 +7,7 @@ use Rattle.jiff.specs.Types.{Date, Offset, PlainZoned}
 use Rattle.jiff.proofs.ZoneFacts.{offset_at-fixed_zone}
 use Rattle.jiff.specs.Words.{plain_zoned, nanos_of_seconds, fixed_zone, IsTimestampNanos, IsCivilNanos}
 use Rattle.gix_date.proofs.Fields.DateTimes.{datetime_exists}
-use Rattle.jiff_core.specs.Calendar.{IsYear, IsCivilDate, day_count, weekday_number}
+use Rattle.jiff_core.specs.Calendar.{IsYear, IsCivilDate, IsEpochDay, day_count, weekday_number}
 use Rattle.jiff_core.specs.Date.{epoch_day}
 use Rattle.jiff_core.specs.March.{march_days}
 use Rattle.jiff_core.proofs.CalendarLemmas.{days_from_civil-day_count, day_count-later_year, day_count-day_of_year, day_of_year_bound}
@@ -179,6 +179,22 @@ four-digits-from z t h o =
       high = omega (arith, signed_arith, low, some, year_in);
       minutes = subst (λ (s : ℤ). unsigned_abs s % 60 ≡ 0) (sym h.offset_is) o.minutes;
     }
+
+-- so the calendar has the day of such a time
+pub day-within : (t : Time) → HasFourDigitFields t → IsEpochDay (local_day t)
+day-within t h = (omega (arith, signed_arith, h.in_years), omega (arith, signed_arith, h.in_years))
+
+-- and its year is a `u16`
+year-fits : (year : ℤ) → pos 1000 ≤ℤ year → year ≤ℤ pos 9999 → FitsUnsignedBits 16 year
+year-fits (pos n) low high = omega (arith, signed_arith, high)
+year-fits (negsuc n) low high = absurd (omega (arith, signed_arith, low))
+
+pub local-year-fits : (t : Time) (date : Date) → HasFourDigitFields t → epoch_day date ≡ local_day t → FitsUnsignedBits 16 date.year
+local-year-fits t date h at =
+    let year_in = date.year_in in
+    by_lt_z date.year (pos 1000)
+    (λ lt. absurd (omega (arith, signed_arith, year-before date lt, at, h.in_years)))
+    (λ ge. year-fits date.year ge year_in.1)
 
 pub moment-shows : (t : Time) (z : Zoned) → IsMoment t z → Shows (plain_zoned z) t
 moment-shows t z h = record { instant = h.instant; offset_is = h.offset_is }

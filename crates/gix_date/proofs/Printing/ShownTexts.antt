@@ -29,7 +29,7 @@ use Rattle.jiff.specs.Words.{plain_zoned}
 use Rattle.gix_date.specs.Fields.Layout.{LocalTime}
 use Rattle.gix_date.specs.Printing.NamedTexts.{local_time, IsShownByAll}
 use Rattle.gix_date.specs.Printing.LocalClocks.{clock_of, HasFourDigitFields}
-use Rattle.gix_date.specs.Printing.Formats.{IsShown, AtMoment, PrintsPattern, HasParts}
+use Rattle.gix_date.specs.Printing.Formats.{IsShown, IsPatternText, PrintsPattern, HasParts}
 use Rattle.gix_date.specs.Fields.Zoned.{IsConvertible}
 use Rattle.gix_date.specs.Text.Numbers.{two_digits}
 use Rattle.gix_date.specs.declared.error.Error.{Error}
@@ -169,20 +169,20 @@ named-shown pattern named text local bytes always p b z four_digits shows =
     subst (λ (q : List ℕ). IsShown q z (Ok bytes)) (sym p) (subst (λ (s : List ℕ). IsShown named z (Ok s)) whole shown)
 
 -- what a copy of this text comes to is what the pattern prints
-prints-either : (pattern : List ℕ) (t : Time) (text : List ℕ) (r : Result (String Global) Error) → IsConvertible t
-    → AtMoment t (λ z. IsShown pattern z (Ok text)) → IfOk r (λ copy. string_bytes copy ≡ text) → IfErr r (λ e. e ≡ errors.Memory)
+pub copy-prints : (pattern : List ℕ) (t : Time) (text : List ℕ) (r : Result (String Global) Error) → IsConvertible t
+    → IsPatternText t pattern text → IfOk r (λ copy. string_bytes copy ≡ text) → IfErr r (λ e. e ≡ errors.Memory)
     → PrintsPattern t pattern r
-prints-either pattern t text (Ok copy) converts (z, m, shown) ok err = (z, m, subst (λ (s : List ℕ). IsShown pattern (plain_zoned z) (Ok s)) (sym ok) shown)
-prints-either pattern t text (Err e) converts h ok err = inr (inl (err, converts))
+copy-prints pattern t text (Ok copy) converts (z, m, shown) ok err = (z, m, subst (λ (s : List ℕ). IsShown pattern (plain_zoned z) (Ok s)) (sym ok) shown)
+copy-prints pattern t text (Err e) converts h ok err = inr (inl (err, converts))
 
-pub copy-prints : (pattern : List ℕ) (t : Time) (local : LocalTime) (bytes : List ℕ) (r : Result (String Global) Error)
-    → IsShownByAll pattern local bytes → local ≡ clock_of t → IsConvertible t → HasFourDigitFields t
-    → IfOk r (λ copy. string_bytes copy ≡ bytes) → IfErr r (λ e. e ≡ errors.Memory) → PrintsPattern t pattern r
-copy-prints pattern t local bytes r shown clock converts four_digits ok err =
+-- what shows by such a clock is the text of its time
+pub named-text : (pattern : List ℕ) (t : Time) (local : LocalTime) (bytes : List ℕ) → IsShownByAll pattern local bytes
+    → local ≡ clock_of t → IsConvertible t → HasFourDigitFields t → IsPatternText t pattern bytes
+named-text pattern t local bytes shown clock converts four_digits =
     let m = moment-of t converts in
     let shows = moment-shows t m.0 m.1 in
     let z = plain_zoned m.0 in
-    prints-either pattern t bytes r converts (m.0, m.1, shown z (four-digits-from z t shows four_digits) (clock-shown z t shows ∙ sym clock)) ok err
+    (m.0, m.1, shown z (four-digits-from z t shows four_digits) (clock-shown z t shows ∙ sym clock))
 
 -- a text, and two more after it
 pub three-joined : (first second whole a b c : List ℕ) → first ≡ a → second ≡ first ++ b → whole ≡ second ++ c → whole ≡ a ++ (b ++ c)

@@ -1,28 +1,24 @@
 -- Steps at one offset, and in a zone that has no other.
 use Rattle.std.proofs.Common.{◌≡◌, ◌∙◌, ◌↔◌, ◌≤◌, Bool, true, false, cond, int_eq, ℕ, ℤ, pos, ◌+ℤ◌, ◌-ℤ◌, refl, sym, ap, subst, List, [], ◌∷◌, Option, None, Some, FitsSigned, w64}
-use Rattle.std.specs.Int.{int_div_euclid, int_rem_euclid}
 use Rattle.std.specs.List.{All}
 use Rattle.std.specs.Prelude.{IsSome, IfSome}
 use Rattle.jiff.proofs.ZoneFacts.{offset_at-fixed_zone, picked_instant-fixed_zone}
-use Rattle.jiff.specs.Types.{TimeZone, DateTime, Date, Offset, Timestamp}
-use Rattle.jiff.specs.Words.{fixed_zone, offset_at, picked_instant, civil_nanos, epoch_day, month_number, nanos_of_seconds, zoned_nanos, IsTimestampNanos, IsYear, IsYmd}
+use Rattle.jiff.specs.Types.{TimeZone, DateTime, Offset, Timestamp}
+use Rattle.jiff.specs.Words.{fixed_zone, offset_at, picked_instant, civil_nanos, nanos_of_seconds, zoned_nanos, IsTimestampNanos}
 use Rattle.jiff.specs.declared.zoned.Zoned.{Zoned}
-use Rattle.jiff_core.proofs.DateTimeLemmas.{civil_nanos-parts}
 use Rattle.jiff_tz.specs.Zone.{IsFixed, utc_offset, ambiguous_at}
 use Rattle.jiff_tz.specs.declared.timezone.TimeZone.TheVariants.{UTC, Fixed, Posix, Tzif}
 use Rattle.gix_date.specs.Relative.Dates.{RelativeDate, MinusSeconds, MinusPairs, Reaches, IsNamed}
 use Rattle.gix_date.specs.Relative.FixedZones.{total, less_seconds, less_months}
 use Rattle.gix_date.specs.Relative.PairsRead.{pairs_read}
-use Rattle.gix_date.specs.Relative.Steps.{IsLocal, IsPicked, Resolves, SecondsStep, MonthsStep, PairStep, Chain, zone_of, civil_of, rolled_day, ChooseAlike, IsAtInstant}
+use Rattle.gix_date.specs.Relative.Steps.{IsLocal, IsPicked, Resolves, SecondsStep, PairStep, Chain, zone_of, ChooseAlike, IsAtInstant}
 use Rattle.gix_date.specs.Relative.Roles.{pairs}
 use Rattle.gix_date.specs.Fields.Zoned.{whole_seconds}
 use Rattle.gix_date.specs.declared.parsing.relative.words.TimeUnit.{TimeUnit}
 use Rattle.gix_date.specs.declared.parsing.relative.words.TimeUnit.TheVariants.{Seconds, Months}
 use Rattle.gix_date.specs.declared.time.Time.{Time}
 use Rattle.gix_date.proofs.Relative.Chains.{reaches-is, reaches-back}
-use Rattle.gix_date.proofs.Relative.FixedZones.{IsLoss, IsBefore, Alike, seconds-law, yesterday-law, months-law, fixed-picked, fixed-picks, fixed-resolves-exists, fixed-seconds-exists}
-use Rattle.gix_date.proofs.Relative.Steps.{MonthsFrom, first-is}
-use Rattle.jiff_zoned.proofs.SameLemmas.{same_datetime}
+use Rattle.gix_date.proofs.Relative.FixedZones.{IsLoss, IsBefore, Alike, seconds-law, yesterday-law, months-law, fixed-resolves-exists, fixed-seconds-exists}
 
 picks : (tz : TimeZone) (o : Offset) → IsFixed tz → ((n : ℤ) → o.seconds ≡ offset_at tz n) → (dt : DateTime) → picked_instant tz dt ≡ civil_nanos dt -ℤ nanos_of_seconds o.seconds
 unfolding offset_at ambiguous_at
@@ -169,49 +165,3 @@ pairs-fixed o words i result range h =
 
 pub fixed-shows : (o : Offset) (i : ℤ) (dt : DateTime) → civil_nanos dt ≡ i +ℤ nanos_of_seconds o.seconds → IsLocal (fixed_zone o) i dt
 fixed-shows o i dt e = e ∙ ap (λ (s : ℤ). i +ℤ nanos_of_seconds s) (sym (offset_at-fixed_zone o i))
-
-pub months-from : (tz : TimeZone) (n i j : ℤ) (shown : DateTime) → IsLocal tz i shown → MonthsStep tz n i j → MonthsFrom tz n j shown
-months-from tz n i j shown l g =
-    let same : g.local ≡ shown = same_datetime g.local shown (g.local_is ∙ sym l) in
-    subst (MonthsFrom tz n j) same (g.fits, g.year_in, g.picked)
-
-pub months-found : (o : Offset) (n i j : ℤ) (shown : DateTime) → IsLocal (fixed_zone o) i shown
-    → FitsSigned w64 (month_number shown.date -ℤ n) → IsYear (int_div_euclid (month_number shown.date -ℤ n) (pos 12))
-    → (date : Date) → epoch_day date ≡ rolled_day (month_number shown.date -ℤ n) shown.date
-    → j ≡ civil_of (epoch_day date) shown.time -ℤ nanos_of_seconds o.seconds → IsTimestampNanos j → MonthsStep (fixed_zone o) n i j
-months-found o n i j shown l fits year date day e range =
-    let dt : DateTime = record { date = date; time = shown.time } in
-    let civil : civil_nanos dt ≡ civil_of (rolled_day (month_number shown.date -ℤ n) shown.date) shown.time = civil_nanos-parts dt ∙ ap (λ (d : ℤ). civil_of d shown.time) day in
-    record {
-      local = shown;
-      local_is = l;
-      fits = fits;
-      year_in = year;
-      picked = subst (λ (c : ℤ). IsPicked (fixed_zone o) c j) civil (fixed-picks o dt j (e ∙ ap (λ (c : ℤ). c -ℤ nanos_of_seconds o.seconds) (sym (civil_nanos-parts dt))) range);
-    }
-
-pub months-picked : (o : Offset) (n i j : ℤ) (shown : DateTime) (date : Date) → IsLocal (fixed_zone o) i shown
-    → epoch_day date ≡ rolled_day (month_number shown.date -ℤ n) shown.date → MonthsStep (fixed_zone o) n i j
-    → (j ≡ civil_of (epoch_day date) shown.time -ℤ nanos_of_seconds o.seconds) × IsTimestampNanos j
-months-picked o n i j shown date l day h =
-    let from = months-from (fixed_zone o) n i j shown l h in
-    (fixed-picked o _ j from.2 ∙ ap (λ (d : ℤ). civil_of d shown.time -ℤ nanos_of_seconds o.seconds) (sym day), from.2.in_range)
-
-pub months-at : (o : Offset) (n i : ℤ) (shown : DateTime) (date : Date) (result : Option Timestamp) → IsLocal (fixed_zone o) i shown
-    → FitsSigned w64 (month_number shown.date -ℤ n) → IsYear (int_div_euclid (month_number shown.date -ℤ n) (pos 12))
-    → epoch_day date ≡ rolled_day (month_number shown.date -ℤ n) shown.date
-    → (IsSome result ↔ IsTimestampNanos (civil_of (epoch_day date) shown.time -ℤ nanos_of_seconds o.seconds))
-    → IfSome result (λ r. r.nanosecond ≡ civil_of (epoch_day date) shown.time -ℤ nanos_of_seconds o.seconds)
-    → IsAtInstant (MonthsStep (fixed_zone o) n i) result
-months-at o n i shown date None l fits year day some value = λ j h.
-    let p = months-picked o n i j shown date l day h in
-    let r = some.1 (subst IsTimestampNanos p.0 p.1) in
-    absurd cc
-months-at o n i shown date (Some r) l fits year day some value =
-    months-found o n i r.nanosecond shown l fits year date day value (subst IsTimestampNanos (sym value) (some.0 refl))
-
--- the day of the month that is shown, in another month
-pub rolled-from : (number : ℤ) (shown : Date) (first : Date) (day : ℤ)
-    → IsYmd (int_div_euclid number (pos 12)) (int_rem_euclid number (pos 12) +ℤ pos 1) (pos 1) first → day ≡ pos shown.day
-    → (epoch_day first +ℤ (day -ℤ pos 1)) ≡ rolled_day number shown
-rolled-from number shown first day ymd e = rw (first-is number first ymd, e) refl

@@ -1,6 +1,7 @@
 -- Steps that take a moment back, from what jiff's calls say.
-use Rattle.std.proofs.Common.{◌≡◌, ◌∙◌, ◌+◌, ℤ, pos, ◌+ℤ◌, ◌-ℤ◌, unsigned_abs, FitsSigned, w64, refl, sym, ap, subst, arith, Option, None, Some}
+use Rattle.std.proofs.Common.{◌≡◌, ◌∙◌, ◌↔◌, ◌+◌, ℤ, pos, ◌+ℤ◌, ◌-ℤ◌, unsigned_abs, FitsSigned, w64, refl, sym, ap, subst, arith, Option, None, Some}
 use Rattle.std.specs.Int.{int_div_euclid, int_rem_euclid}
+use Rattle.std.specs.Prelude.{IsSome, IfSome}
 use Rattle.jiff.specs.Words.{picked_instant, civil_nanos, nanos_of_seconds, epoch_day, month_number, zoned_nanos, IsTimestampNanos, IsEpochDay, IsYear, IsBetween, IsDate, IsYmd}
 use Rattle.jiff.specs.Types.{TimeZone, DateTime, Date, Time as TimeOfDay, PlainZoned}
 use Rattle.jiff.specs.declared.zoned.Zoned.{Zoned}
@@ -10,9 +11,7 @@ use Rattle.jiff_core.proofs.DateTimeLemmas.{civil_nanos-parts, time_nanos_bound}
 use Rattle.jiff_core.proofs.SignedLemmas.{signed_arith, one_part}
 use Rattle.jiff_core.specs.Calendar.{days_from_civil}
 use Rattle.jiff_zoned.proofs.SameLemmas.{same_datetime}
-use Rattle.gix_date.specs.Relative.LocalFields.{AreFieldsOf, IsInstantOf}
-use Rattle.gix_date.specs.Relative.Steps.{IsLocal, IsPicked, Resolves, MonthsStep, civil_of, month_start, rolled_day, IsAt}
-use Rattle.gix_date.specs.declared.parsing.relative.steps.Fields.{Fields}
+use Rattle.gix_date.specs.Relative.Steps.{IsLocal, IsPicked, Resolves, MonthsStep, IsMonthsBefore, IsMonthsBeforeIfAny, civil_of, month_before, month_start, rolled_day, IsAt}
 
 -- What a zone chooses.
 
@@ -31,12 +30,12 @@ picked-none tz date time dt j d t beyond h =
     let here : IsPicked tz (civil_nanos dt) j = rw (civil-of dt date time d t) h in
     beyond (subst IsTimestampNanos (picked-of tz dt j here) h.in_range)
 
--- the day of what is picked exists
-pub picked-day : (tz : TimeZone) (day : ℤ) (time : TimeOfDay) (j : ℤ) → IsPicked tz (civil_of day time) j → IsEpochDay day
+-- the day of what is picked is that of a date
+picked-day : (tz : TimeZone) (day : ℤ) (time : TimeOfDay) (j : ℤ) → (h : IsPicked tz (civil_of day time) j) → epoch_day h.shown.date ≡ day
 picked-day tz day time j h =
-    omega (arith, signed_arith, h.civil_is, civil_nanos-parts h.shown, time_nanos_bound h.shown.time, time_nanos_bound time, epoch_day_range h.shown.date)
+    omega (arith, signed_arith, h.civil_is, civil_nanos-parts h.shown, time_nanos_bound h.shown.time, time_nanos_bound time)
 
--- Fields and days.
+-- Months and days.
 
 pub month_pos : (z : ℤ) → int_rem_euclid z (pos 12) +ℤ pos 1 ≡ pos (unsigned_abs (int_rem_euclid z (pos 12)) + 1)
 month_pos z = omega (arith, signed_arith)
@@ -70,8 +69,17 @@ day_of d =
     let start : month_start (month_number d) ≡ days_from_civil d.year d.month 1 = rw (year_of d, month_of d) refl in
     omega (arith, signed_arith, start, days_from_civil-day d.year d.month 1 d.day (omega arith) day_in.0)
 
-fields-day : (shown : DateTime) (f : Fields) → AreFieldsOf shown f → month_start f.month_number +ℤ (f.day -ℤ pos 1) ≡ epoch_day shown.date
-fields-day shown f h = rw (h.month_is, h.day_is) (day_of shown.date)
+-- the day of a month, counted from the first of that month
+pub before-from : (date : Date) (months : ℤ) (first : Date) (before : Option Date) → FitsSigned w64 (month_before date months)
+    → IsYear (int_div_euclid (month_before date months) (pos 12)) → epoch_day first ≡ month_start (month_before date months)
+    → (IsSome before ↔ IsEpochDay (epoch_day first +ℤ (pos date.day -ℤ pos 1))) → IfSome before (λ d. epoch_day d ≡ epoch_day first +ℤ (pos date.day -ℤ pos 1))
+    → IsMonthsBeforeIfAny date months before
+before-from date months first None fits year start some day = λ before h.
+    let is : epoch_day before ≡ epoch_day first +ℤ (pos date.day -ℤ pos 1) = h.day_is ∙ ap (λ (s : ℤ). s +ℤ (pos date.day -ℤ pos 1)) (sym start) in
+    let none = some.1 (subst IsEpochDay is (epoch_day_range before)) in
+    absurd cc
+before-from date months first (Some before) fits year start some day =
+    record { fits = fits; year_in = year; day_is = day ∙ ap (λ (s : ℤ). s +ℤ (pos date.day -ℤ pos 1)) start }
 
 -- Steps.
 
@@ -79,41 +87,43 @@ fields-day shown f h = rw (h.month_is, h.day_is) (day_of shown.date)
 pub shows-local : (z : PlainZoned) → IsLocal z.time_zone z.timestamp.nanosecond z.datetime
 shows-local z = z.shows ∙ ap (λ (s : ℤ). z.timestamp.nanosecond +ℤ nanos_of_seconds s) z.offset_is
 
-pub resolves-is : (tz : TimeZone) (i j : ℤ) (shown : DateTime) (f : Fields) → IsLocal tz i shown → AreFieldsOf shown f → IsInstantOf tz f j → Resolves tz i j
-resolves-is tz i j shown f l h g =
-    let picked = rw (fields-day shown f h, h.time_is) at g.picked in
-    record { local = shown; local_is = l; picked = rw (civil_nanos-parts shown) picked }
+pub resolves-is : (tz : TimeZone) (i j : ℤ) (shown : DateTime) → IsLocal tz i shown → j ≡ picked_instant tz shown → IsTimestampNanos j → Resolves tz i j
+resolves-is tz i j shown l is range =
+    record { local = shown; local_is = l; picked = record { shown = shown; civil_is = refl; is_choice = is; in_range = range } }
 
-pub resolves-back : (tz : TimeZone) (i j : ℤ) (shown : DateTime) (f : Fields) → IsLocal tz i shown → AreFieldsOf shown f → Resolves tz i j → IsInstantOf tz f j
-resolves-back tz i j shown f l h g =
-    let same : g.local ≡ shown = same_datetime g.local shown (g.local_is ∙ sym l) in
-    let picked : IsPicked tz (civil_nanos shown) j = subst (λ (d : DateTime). IsPicked tz (civil_nanos d) j) same g.picked in
-    record {
-      year_in = rw (h.month_is, year_of shown.date) shown.date.year_in;
-      picked = rw (fields-day shown f h, h.time_is, ← civil_nanos-parts shown) picked;
-    }
+pub resolves-none : (tz : TimeZone) (i j : ℤ) (shown : DateTime) → IsLocal tz i shown → ¬ (IsTimestampNanos (picked_instant tz shown)) → Resolves tz i j → ⊥
+resolves-none tz i j shown l beyond h =
+    let same : h.local ≡ shown = same_datetime h.local shown (h.local_is ∙ sym l) in
+    let picked : IsPicked tz (civil_nanos shown) j = subst (λ (d : DateTime). IsPicked tz (civil_nanos d) j) same h.picked in
+    beyond (subst IsTimestampNanos (picked-of tz shown j picked) picked.in_range)
 
 abbrev pub MonthsFrom : TimeZone → ℤ → ℤ → DateTime → Type 0
 MonthsFrom tz n j local =
     FitsSigned w64 (month_number local.date -ℤ n) × IsYear (int_div_euclid (month_number local.date -ℤ n) (pos 12)) × IsPicked tz (civil_of (rolled_day (month_number local.date -ℤ n) local.date) local.time) j
 
--- the same by the fields
-abbrev pub MonthsOff : TimeZone → Fields → ℤ → ℤ → Type 0
-MonthsOff tz f n j =
-    FitsSigned w64 (f.month_number -ℤ n) × IsYear (int_div_euclid (f.month_number -ℤ n) (pos 12)) × IsPicked tz (civil_of (month_start (f.month_number -ℤ n) +ℤ (f.day -ℤ pos 1)) f.time) j
-
-pub months-step : (tz : TimeZone) (i n j : ℤ) (shown : DateTime) (f : Fields) → IsLocal tz i shown → AreFieldsOf shown f → MonthsOff tz f n j → MonthsStep tz n i j
-months-step tz i n j shown f l h g =
-    let fits = rw h.month_is at g.0 in
-    let year = rw h.month_is at g.1 in
-    let picked = rw (h.month_is, h.day_is, h.time_is) at g.2 in
-    record { local = shown; local_is = l; fits = fits; year_in = year; picked = picked }
-
-pub months-back : (tz : TimeZone) (i n j : ℤ) (shown : DateTime) (f : Fields) → IsLocal tz i shown → AreFieldsOf shown f → MonthsStep tz n i j → MonthsOff tz f n j
-months-back tz i n j shown f l h g =
+-- a zone shows one datetime at an instant
+pub months-from : (tz : TimeZone) (n i j : ℤ) (shown : DateTime) → IsLocal tz i shown → MonthsStep tz n i j → MonthsFrom tz n j shown
+months-from tz n i j shown l g =
     let same : g.local ≡ shown = same_datetime g.local shown (g.local_is ∙ sym l) in
-    let from : MonthsFrom tz n j shown = subst (MonthsFrom tz n j) same (g.fits, g.year_in, g.picked) in
-    (rw h.month_is from.0, rw h.month_is from.1, rw (h.month_is, h.day_is, h.time_is) from.2)
+    subst (MonthsFrom tz n j) same (g.fits, g.year_in, g.picked)
+
+pub months-step : (tz : TimeZone) (n i j : ℤ) (shown : DateTime) (date : Date) → IsLocal tz i shown → IsMonthsBefore shown.date n date → IsPicked tz (civil_of (epoch_day date) shown.time) j → MonthsStep tz n i j
+months-step tz n i j shown date l h p = record {
+  local = shown;
+  local_is = l;
+  fits = h.fits;
+  year_in = h.year_in;
+  picked = subst (λ (d : ℤ). IsPicked tz (civil_of d shown.time) j) h.day_is p;
+}
+
+pub months-back : (tz : TimeZone) (n i j : ℤ) (shown : DateTime) (date : Date) → IsLocal tz i shown → IsMonthsBefore shown.date n date → MonthsStep tz n i j → IsPicked tz (civil_of (epoch_day date) shown.time) j
+months-back tz n i j shown date l h g =
+    subst (λ (d : ℤ). IsPicked tz (civil_of d shown.time) j) (sym h.day_is) (months-from tz n i j shown l g).2
+
+pub months-none : (tz : TimeZone) (n i j : ℤ) (shown : DateTime) → IsLocal tz i shown → IsMonthsBeforeIfAny shown.date n None → MonthsStep tz n i j → ⊥
+months-none tz n i j shown l none g =
+    let from = months-from tz n i j shown l g in
+    none from.2.shown.date (record { fits = from.0; year_in = from.1; day_is = picked-day tz _ shown.time j from.2 })
 
 -- the same instants, said otherwise
 pub at-same : (moment : Option Zoned) (Such Same : ℤ → Type 0) → ((j : ℤ) → Such j → Same j) → ((j : ℤ) → Same j → Such j) → IsAt Such moment → IsAt Same moment

@@ -32,7 +32,7 @@ takes_all (Some rest) = not (is_nonempty rest)
 unfoldable pub is_whole_clock : List ℕ → Bool
 is_whole_clock clock = takes_all (skip_git_clock (trim clock))
 
--- a Git form drops no character: its clock is such
+-- the text has the front of a Git form, and its clock drops no character
 unfoldable pub is_whole_git : List ℕ → Bool
 is_whole_git text =
     unwrap_or (option_map (λ front. is_whole_clock (clock_cut (trim front.1)).0) (git_front (trim text))) false
@@ -46,37 +46,37 @@ unfoldable pub first_day : List ℕ → Option ℕ
 first_day (a ∷ b ∷ c ∷ rest) = day_named (a ∷ b ∷ c ∷ [])
 first_day _ = None
 
--- the text names no other day of the week: it begins with none, or with that of the time's own clock
+-- the text begins with no day of the week, or with that of the time's own clock
 unfoldable pub names_its_day : List ℕ → Time → Bool
 names_its_day text t = unwrap_or (option_map (λ day. day == weekday_number (local_day t)) (first_day text)) true
 
--- a raw text has many seconds: 100000000 at least, as a bare epoch does, since fewer could be a date
+-- The time has 100000000 seconds at least, or the text is not raw. Fewer seconds could be a date, as in a bare epoch.
 unfoldable pub is_large_if_raw : OffsetRule → List ℕ → Time → Bool
 is_large_if_raw rule text t = le_z min_bare_epoch t.seconds || is_none (raw_time_by rule text)
 
--- a day alone, `YYYY-M-D`: its midnight in UTC
+-- the midnight in UTC of a day alone, `YYYY-M-D`
 unfoldable pub unzoned_day : List ℕ → Option Time
 unzoned_day text = do
   day ← read_plain_date text
   if is_nonempty day.1 then None else option_map utc_time (civil_instant day.0 midnight (pos 0))
 
--- a Git form without an offset: its time in UTC
+-- the time in UTC of a Git form without an offset
 unfoldable pub unzoned_git_time : List ℕ → Option Time
 unzoned_git_time text = do
   front ← git_front (trim text)
   if is_nonempty (clock_cut (trim front.1)).1 then None else time_of_cut front.0 (clock_cut (trim front.1))
 
--- a date without an offset: its time in UTC
+-- the time in UTC of a date without an offset
 unfoldable pub unzoned_time : List ℕ → Option Time
 unzoned_time text = option_or (unzoned_day text) (unzoned_git_time text)
 
--- the zone's clock at `r` is UTC's at `t`: the zone chooses the instant, as in `jiff`
+-- `r` is the time that the zone chooses for what UTC's clock shows at `t`, as in `jiff`
 pub record IsLocalTime (tz : TimeZone) (t r : Time) : Type 0 where
   pub instant : ℤ
   pub picked : IsPicked tz (nanos_of_seconds t.seconds) instant
   pub is : r ≡ time_in tz instant
 
--- the time in the zone: or `None` where the zone has no instant for it
+-- the time in the zone, or `None` where the zone has no instant for it
 abbrev pub IsLocalIfAny : TimeZone → Time → Option Time → Type 0
 IsLocalIfAny tz t None = (r : Time) → ¬ (IsLocalTime tz t r)
 IsLocalIfAny tz t (Some r) = IsLocalTime tz t r

@@ -120,7 +120,7 @@ or_later text parts place =
     let front = length text - length (left_by parts text text) in
     if nat_lt place front then front else place
 
--- the end of the longest front: from where pairs stop on
+-- the end of the longest front that some form has, or where pairs end, if that is later
 unfoldable pub longest_front : List ℕ → ℕ → ℕ
 longest_front text pairs_end =
     or_later text git_parts (or_later text iso8601_parts (or_later text strict_parts

@@ -22,13 +22,13 @@ use Rattle.gix_date.specs.declared.parsing.careful.WithoutOffset.TheVariants.{Ut
 use Rattle.gix_date.specs.declared.parsing.relative.words.TimeUnit.{TimeUnit}
 use Rattle.gix_date.specs.declared.time.Time.{Time}
 
--- A date in which no offset is written: by its time in UTC. It is a day alone, or a Git form whose offset is empty. `Z` and
--- `+0000` are offsets.
+-- A date in which no offset is written, by its time in UTC. It is a day alone, or a Git form whose offset is empty. `Z`
+-- and `+0000` are offsets.
 abbrev pub IsUnzoned : List ℕ → Time → Type 0
 IsUnzoned text t =
     IsMeaning short_layout real_day_answer text (Absolute t) ⊎ ((git : IsGitText text t) × (git.zone ≡ []))
 
--- an offset is written: or the text is no date
+-- the text gives no time as a date without an offset
 abbrev pub HasNoLocalDate : List ℕ → Type 0
 HasNoLocalDate text = (t : Time) → ¬ (IsUnzoned text t)
 
@@ -36,8 +36,7 @@ HasNoLocalDate text = (t : Time) → ¬ (IsUnzoned text t)
 abbrev pub AnswersUnzoned : OffsetRule → List ℕ → Type 0
 AnswersUnzoned rule text = (t : Time) → IsUnzoned text t → first_family_by rule text ≡ Some (Absolute t)
 
--- `parse_with` reads the same time: each time that is read is one that it answers too, unless the text is a date of the
--- moment's zone
+-- each time that is read is one that `parse_with` answers too, unless the text is a date of the moment's zone
 abbrev pub IsParsedToo : CarefulOptions → List ℕ → Type 0
 IsParsedToo options text =
     (options.without_offset ≡ Utc) ⊎ HasNoLocalDate text → (now : Option Zoned) (t : Time)
@@ -67,7 +66,7 @@ AnswersAlike options text moment =
     → CarefulOutcome (careful_reading (in_zone options) text) (Some moment) result
     ↔ CarefulOutcome (careful_reading (in_utc options) text) (Some moment) result
 
--- careful texts are those that are clear at each place: and end in `ago`
+-- careful texts are those that are clear at each place and end in `ago`
 abbrev pub IsCarefulSo : List ℕ → Type 0
 IsCarefulSo text = (unclear_place text ≡ None) ↔ IsCarefulText text
 
@@ -76,13 +75,13 @@ abbrev pub AnswersPairs : OffsetRule → List ℕ → Type 0
 AnswersPairs rule text =
     (pairs : List (ℤ × TimeUnit)) → IsCarefulOf text pairs → first_family_by rule text ≡ Some (Relative (MinusPairs pairs))
 
--- only careful texts are read as pairs: where texts have to be careful; and each as its own pairs
+-- where texts have to be careful, only careful texts are read as pairs, each as its own
 abbrev pub ReadsPairs : CarefulOptions → List ℕ → Type 0
 ReadsPairs options text =
     options.texts ≡ Careful → (pairs : List (ℤ × TimeUnit))
     → (careful_reading options text ≡ First (Some (Relative (MinusPairs pairs)))) ↔ IsCarefulOf text pairs
 
--- a reading says this time: or that of the moment's zone which UTC shows so
+-- the reading is this time, or what UTC's clock shows at it, in the moment's zone
 abbrev pub SaysTime : Reading → Time → Type 0
 SaysTime reading t = (reading ≡ First (Some (Absolute t))) ⊎ (reading ≡ Local t)
 
@@ -90,7 +89,7 @@ SaysTime reading t = (reading ≡ First (Some (Absolute t))) ⊎ (reading ≡ Lo
 abbrev pub IsWholeSo : List ℕ → Type 0
 IsWholeSo clock = (is_whole_clock clock ≡ true) ↔ IsWholeClock (trim clock)
 
--- a Git form is read iff its clock is whole: where texts have to be careful
+-- where texts have to be careful, a Git form is read iff its clock is whole
 abbrev pub ReadsGit : CarefulOptions → List ℕ → Type 0
 ReadsGit options text =
     options.texts ≡ Careful → (t : Time) (git : IsGitText text t)

@@ -121,7 +121,8 @@ reading_of_texts texts.Careful options text = pairs_or options text (unclear_pla
 reading_of_texts texts.All options text =
     local_or (local_date options.without_offset text) (First (first_family_by (allows options.raw) text))
 
--- the default options: raw offsets in quarters of an hour, dates without an offset in UTC, and careful texts
+-- The default options: raw offsets by quarters, dates without an offset in UTC, careful texts. `CarefulOptions` has
+-- them by `Default`.
 abbrev pub default_options : CarefulOptions
 default_options = record { raw = Quarter; without_offset = zone.Utc; texts = texts.Careful }
 
@@ -140,7 +141,7 @@ CarefulOutcome (Unclear place) now result = result ≡ Err (errors.Unclear place
 CarefulOutcome (First answer) now result =
     (plain : Result Time ParseError) × ParseNoAllocOutcome answer now plain × (result ≡ result_map_both (λ t. t) errors.Refused plain)
 
--- the text may be cut there: at the place of a refusal
+-- the text may be cut at the place of a refusal
 abbrev pub IsPlaceIn : List ℕ → CarefulError → Type 0
 IsPlaceIn text (errors.Unclear place) = IsCharBoundary text place
 IsPlaceIn text (errors.Refused refusal) = Unit {0}

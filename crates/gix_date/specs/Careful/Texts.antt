@@ -49,7 +49,7 @@ may_follow first second =
     || ((has_unit first && (is_plain_count second || is_and second || is_ago second))
     || (is_and first && is_plain_count second))
 
--- the word may follow, or be the first: the first word is a count
+-- the word may follow the one before it; the first word is a count
 abbrev pub may_stand_after : Option (List ℕ) → List ℕ → Bool
 may_stand_after None word = is_plain_count word
 may_stand_after (Some before) word = may_follow before word
@@ -58,7 +58,7 @@ may_stand_after (Some before) word = may_follow before word
 abbrev pub is_separator : ℕ → Bool
 is_separator b = is_ascii_whitespace b || (b == comma || (b == dot || b == underscore))
 
--- a separator stands at this place: or a `-` directly after a word, where it is no sign of a number
+-- a separator stands at this place, or a `-` directly after a word, where it is no sign of a number
 abbrev pub separates : List ℕ → ℕ → Bool
 separates text place =
     is_separator (slice_index text place) || (slice_index text place == minus && after_word text place)

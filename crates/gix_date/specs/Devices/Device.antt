@@ -7,6 +7,6 @@ use Rattle.gix_date.specs.declared.device.Device.{Device}
 abbrev pub inner_of : {T : Type 0} → Device T → T
 inner_of device = device.inner
 
--- the fault of a device, if any: the device stays at it
+-- the fault of a device, if any, which each later call repeats
 abbrev pub fault_of : {T : Type 0} → Device T → Option ErrorKind
 fault_of device = device.fault

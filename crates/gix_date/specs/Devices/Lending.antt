@@ -5,6 +5,6 @@ use Rattle.std.specs.Io.BufRead.{Rests}
 use Rattle.gix_date.specs.declared.parsing.TimeBuf.{TimeBuf}
 use Rattle.gix_date.specs.contracts.parsing.TimeBuf.{the_row}
 
--- the buffer's text after the loan: the buffer holds this text when the loan has ended
+-- the buffer holds this text when the loan has ended
 abbrev pub LeavesText : MutBor TimeBuf → List ℕ → Fml
 LeavesText buf text = Rests the_row buf (λ left. left.text.bytes ≡ text)

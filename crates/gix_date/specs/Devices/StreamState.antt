@@ -8,23 +8,23 @@ pub record StreamState : Type 0 where
   pub bytes : Option (List ℕ)
   pub fault : Option ErrorKind
 
--- the sink took exactly this text; nothing is stated of a sink that does not report its bytes
+-- The sink took exactly this text, if it reports its bytes. Nothing is stated of a sink that does not.
 abbrev pub Takes : StreamState → StreamState → List ℕ → Type 0
 Takes old new text = Appends old.bytes new.bytes text
 
--- the sink took a proper prefix: of the text
+-- the sink took a proper prefix of the text, if it reports its bytes
 abbrev pub TakesProperPrefix : StreamState → StreamState → List ℕ → Type 0
 TakesProperPrefix old new text = (n : ℕ) × (n < length text) × Takes old new (take n text)
 
--- the sink took no byte
+-- the sink took no byte, if it reports its bytes
 abbrev pub TakesNothing : StreamState → StreamState → Type 0
 TakesNothing old new = Keeps old.bytes new.bytes
 
--- the source gave exactly these bytes
+-- the source gave exactly these bytes, if it reports what is left
 abbrev pub Gives : StreamState → StreamState → List ℕ → Type 0
 Gives old new bytes = Consumes old.bytes new.bytes bytes
 
--- the source has no byte left
+-- the source has no byte left, if it reports what is left
 abbrev pub HasEnded : StreamState → Type 0
 HasEnded known = IsAtEnd known.bytes
 

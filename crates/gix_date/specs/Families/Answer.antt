@@ -5,7 +5,7 @@ use Rattle.gix_date.specs.declared.time.Time.{Time}
 use Rattle.gix_date.specs.declared.parsing.answer.Answer.{Answer}
 use Rattle.gix_date.specs.declared.parsing.answer.Answer.TheVariants as answer
 
--- a family's answer for its text: for a text that it holds
+-- a family's answer for a text that it holds
 pub data FamilyAnswer : Type 0 where
   -- a time, whatever the moment
   Absolute : Time → FamilyAnswer

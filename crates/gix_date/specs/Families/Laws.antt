@@ -15,8 +15,7 @@ use Rattle.gix_date.specs.declared.error.ParseError.{ParseError}
 use Rattle.gix_date.specs.declared.time.Time.{Time}
 use Rattle.gix_date.specs.Header.Reading.{header_time}
 
--- No raw text or epoch is Git's or relative: a raw text is neither a bare epoch nor a Git text nor relative, and a bare
--- epoch is neither a Git text nor relative.
+-- a raw text is no bare epoch, and neither of the two is Git's or relative
 pub record AreDisjoint (rule : OffsetRule) (text : List ℕ) : Type 0 where
   pub raw_epoch : (t : Time) → raw_time_by rule text ≡ Some t → epoch_time text ≡ None
   pub raw_git : (t : Time) → raw_time_by rule text ≡ Some t → git_time text ≡ None
@@ -28,7 +27,7 @@ pub record AreDisjoint (rule : OffsetRule) (text : List ℕ) : Type 0 where
 abbrev pub Holds : OffsetRule → Family → List ℕ → Type 0
 Holds rule family text = is_some (family_answer rule family text) ≡ true
 
--- the families before Git's own forms are disjoint: no text is of two of them
+-- no text is of two families before Git's own forms
 abbrev pub AreApart : Type 0
 AreApart = (rule : OffsetRule) (text : List ℕ) → length (filter is_some (answers_before_git rule text)) ≤ 1
 
@@ -42,7 +41,7 @@ overlap GitForm RelativeText = true
 overlap RelativeText GitForm = true
 overlap _ _ = false
 
--- a text has one family, or overlapping ones: a text of one family is of no other, unless the two overlap
+-- a text of one family is of no other, unless the two overlap
 abbrev pub AreExclusive : OffsetRule → List ℕ → Type 0
 AreExclusive rule text =
     (a b : Family) → a ≢ b → overlap a b ≡ false → Holds rule a text → family_answer rule b text ≡ None
@@ -62,7 +61,7 @@ AreOverlapping = (a b : Family) → overlap a b ≡ true → Overlap a b
 abbrev pub Agree : OffsetRule → Family → Family → List ℕ → Type 0
 Agree rule a b text = Holds rule a text → Holds rule b text → family_answer rule a text ≡ family_answer rule b text
 
--- A family that holds the text comes first: it gives the first answer. A relative text does so if it is of no Git form.
+-- each family that holds the text gives the first answer, but `RelativeText` only if `GitForm` does not hold it
 pub record ComesFirst (rule : OffsetRule) (text : List ℕ) : Type 0 where
   pub alone : (family : Family) → family ≢ GitForm → family ≢ RelativeText → Holds rule family text
       → first_family_by rule text ≡ family_answer rule family text
@@ -102,7 +101,7 @@ IgnoresSpace rule family text = family_answer rule family (trim text) ≡ family
 abbrev pub IgnoresCase : OffsetRule → Family → List ℕ → Type 0
 IgnoresCase rule family text = family_answer rule family (str_to_ascii_lowercase text) ≡ family_answer rule family text
 
--- each answered time has a header text: each that a call with this text may answer
+-- each time that a call with this text may answer has a header text
 abbrev pub AnswersHaveText : OffsetRule → List ℕ → Type 0
 AnswersHaveText rule text =
     (now : Option Zoned) (t : Time) → ParseNoAllocOutcome (first_family_by rule text) now (Ok t)

@@ -32,7 +32,7 @@ pub data Family : Type 0 where
   RelativeText : Family
   RawText : Family
 
--- the family's answer for the text: by a rule for raw offsets; `None` if it does not hold the text
+-- the family's answer for the text, by a rule for raw offsets; `None` if it does not hold the text
 abbrev pub family_answer : OffsetRule → Family → List ℕ → Option FamilyAnswer
 family_answer rule AtText text = option_map Absolute (at_time rule text)
 family_answer rule Short text = short_answer text
@@ -67,7 +67,7 @@ family_answers rule text = map (λ family. family_answer rule family text) famil
 unfoldable pub first_family_by : OffsetRule → List ℕ → Option FamilyAnswer
 first_family_by rule text = first_answer_of (family_answers rule text)
 
--- each family's answer, before Git's own forms: in their order
+-- the answers of the families before Git's own forms, in their order
 abbrev pub answers_before_git : OffsetRule → List ℕ → List (Option FamilyAnswer)
 answers_before_git rule text = map (λ family. family_answer rule family text) families_before_git
 

@@ -10,7 +10,7 @@ use Rattle.gix_date.specs.declared.time.TheConstants.{MAX_OFFSET_IN_SECONDS}
 use Rattle.gix_date.specs.declared.civil.ClockFields.{ClockFields}
 use Rattle.gix_date.specs.declared.civil.DateFields.{DateFields}
 
--- the widest formatted offset, 86340 seconds: 23:59
+-- the widest offset of a formatted date's time, 86340 seconds: 23:59
 abbrev pub max_date_offset : ℕ
 max_date_offset = MAX_OFFSET_IN_SECONDS
 
@@ -98,6 +98,6 @@ pub record IsMeaning (layout : List Piece) (of_time : LocalTime → Option Famil
   pub are : ArePieces layout time text
   pub comes : of_time time ≡ Some answer
 
--- the family answers exactly what `Is` says: of a text and an answer
+-- the family gives an answer to a text iff `Is` holds of both
 abbrev pub Accepts : {A : Type 0} → (List ℕ → Option A) → (List ℕ → A → Type 0) → Type 0
 Accepts {A} family Is = (text : List ℕ) (answer : A) → (family text ≡ Some answer) ↔ Is text answer

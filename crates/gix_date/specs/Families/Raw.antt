@@ -22,7 +22,7 @@ max_wide_hours = MAX_WIDE_HOURS
 abbrev pub max_wide_minutes : ℕ
 max_wide_minutes = MAX_MINUTES
 
--- a rule for the offsets of raw texts: for the fields of an offset
+-- a rule for the fields of a raw text's offset
 abbrev pub OffsetRule : Type 0
 OffsetRule = OffsetFields → Bool
 

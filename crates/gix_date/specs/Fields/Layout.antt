@@ -118,7 +118,7 @@ pub record BeginsWith (piece : Piece) (t : LocalTime) (IsMore : List ℕ → Typ
   pub is : IsPiece piece t front
   pub more : IsMore rest
 
--- the text is these pieces of the time: one after the other
+-- the text is these pieces of the time, one after the other
 abbrev pub ArePieces : List Piece → LocalTime → List ℕ → Type 0
 ArePieces [] t text = text ≡ []
 ArePieces (piece ∷ pieces) t text = BeginsWith piece t (ArePieces pieces t) text

@@ -31,7 +31,7 @@ is_instant seconds = le_z first_second seconds && le_z seconds last_second
 abbrev pub is_convertible : Time → Bool
 is_convertible t = le_z (neg_ℤ max_zone_offset) t.offset && le_z t.offset max_zone_offset && is_instant t.seconds
 
--- the zoned value is the time's instant: in the zone that always has its offset
+-- the zoned value is the time's instant, in the zone that always has its offset
 pub record IsMoment (t : Time) (z : Zoned) : Type 0 where
   pub instant : zoned_nanos z ≡ nanos_of_seconds t.seconds
   pub offset_is : (plain_zoned z).offset.seconds ≡ t.offset

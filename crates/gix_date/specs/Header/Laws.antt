@@ -16,11 +16,11 @@ pub record ComesBack (text : List ℕ) : Type 0 where
 abbrev pub CanonicalIffUnchanged : List ℕ → Type 0
 CanonicalIffUnchanged text = ComesBack text ↔ (is_canonical_header text ≡ true)
 
--- the time comes back from its header text: it has a header text, and is read from it
+-- the time has a header text, and is read from it
 abbrev pub RoundTripsThroughHeader : Time → Type 0
 RoundTripsThroughHeader t = IsSomeAnd (header_text t) (λ text. header_time text ≡ Some t)
 
--- the times have equal seconds, signs and minutes: equal signs of their offsets, and equal whole minutes of these
+-- the times have equal seconds, equal signs of their offsets, and equal whole minutes of these
 abbrev pub AreAlike : Time → Time → Type 0
 AreAlike a b =
     (a.seconds ≡ b.seconds)

@@ -12,7 +12,7 @@ use Rattle.gix_date.specs.declared.error.Error.TheVariants.{OffsetTooWide, Write
 use Rattle.gix_date.specs.declared.time.Time.{Time}
 use Rattle.gix_date.specs.declared.time.write.TheConstants.{HUNDRED_HOURS, MAX_TEXT_LEN}
 
--- the least offset without header text, 360000: in seconds
+-- the least offset without header text, 360000 seconds
 abbrev pub hundred_hours : ℕ
 hundred_hours = HUNDRED_HOURS
 
@@ -20,7 +20,8 @@ hundred_hours = HUNDRED_HOURS
 abbrev pub max_text_len : ℕ
 max_text_len = MAX_TEXT_LEN
 
--- the header text, whatever the offset: the seconds in decimal, a space and the offset as `+hhmm`
+-- A time's seconds in decimal, a space, and an offset below 100 hours as `+hhmm`. Of a wider offset it is no header
+-- text.
 abbrev pub written_text : Time → List ℕ
 written_text t = decimal_text t.seconds ++ space ∷ compact_offset_text t.offset
 

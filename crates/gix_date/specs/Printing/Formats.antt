@@ -47,9 +47,19 @@ IsUnprinted pattern z =
     ((e : JiffError) × IsShown pattern z (Err e))
     ⊎ ((shown : List ℕ) × IsShown pattern z (Ok shown) × (IsUtf8 shown → ⊥))
 
--- `Has` holds for a moment of the time: for a zoned value that the time has
+-- the time has a zoned value of which `Has` holds
 abbrev pub AtMoment : Time → (PlainZoned → Type 0) → Type 0
 AtMoment t Has = (z : Zoned) × IsMoment t z × Has (plain_zoned z)
+
+-- the text of a time by a pattern: what is shown of a moment of the time
+abbrev pub IsPatternText : Time → List ℕ → List ℕ → Type 0
+IsPatternText t pattern text = AtMoment t (λ z. IsShown pattern z (Ok text))
+
+-- the text of a time in a format: decimal seconds, the header text, or the text by the pattern
+abbrev pub IsTextOf : Time → Format → List ℕ → Type 0
+IsTextOf t Unix text = text ≡ decimal_text t.seconds
+IsTextOf t Raw text = header_text t ≡ Some text
+IsTextOf t (Custom format) text = IsPatternText t format.pattern.now text
 
 -- the result is decimal seconds, or `Memory`
 abbrev pub PrintsSeconds : Time → Result (String Global) Error → Type 0

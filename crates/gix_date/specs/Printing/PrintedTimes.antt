@@ -15,7 +15,7 @@ abbrev pub PrintsText : (LocalTime → List ℕ) → Time → Result (String Glo
 PrintsText text t (Ok s) = string_bytes s ≡ text (clock_of t)
 PrintsText text t (Err e) = (e ≡ errors.Memory) ⊎ ((e ≡ errors.Conversion) × (IsConvertible t → ⊥))
 
--- the pattern prints the time as this text: by `PrintsText`, if the time `HasFourDigitFields`
+-- if the time `HasFourDigitFields`, the pattern prints it as this text, by `PrintsText`
 abbrev pub IsPrintedAs : List ℕ → (LocalTime → List ℕ) → Time → Type 0
 IsPrintedAs pattern text t =
     HasFourDigitFields t → (result : Result (String Global) Error) → PrintsPattern t pattern result → PrintsText text t result

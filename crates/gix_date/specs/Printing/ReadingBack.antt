@@ -23,7 +23,8 @@ use Rattle.gix_date.specs.declared.time.Time.{Time}
 use Rattle.gix_date.specs.Header.Canonical.{is_canonical_header}
 use Rattle.gix_date.specs.Header.Reading.{header_time}
 
--- it converts, has four-digit fields and an offset within 23:59: then each named format with a clock is parsed back
+-- The time converts, has four-digit fields and an offset within 23:59. Then each named format with a clock is parsed
+-- back.
 pub record RoundTrips (t : Time) : Type 0 where
   pub converts : IsConvertible t
   pub four_digits : HasFourDigitFields t
@@ -35,7 +36,7 @@ pub record RoundTripsBy (rule : OffsetRule) (pattern : List ℕ) (text : LocalTi
   pub printed : IsPrintedAs pattern text t
   pub parsed : first_family_by rule (text (clock_of t)) ≡ Some (Absolute t)
 
--- the time is read back from each format: from each of the six named formats that have a clock
+-- the time is read back from each of the six named formats that have a clock
 pub record RoundTripsByEach (rule : OffsetRule) (t : Time) : Type 0 where
   pub iso8601 : RoundTripsBy rule iso8601_pattern iso8601_text t
   pub iso8601_strict : RoundTripsBy rule iso8601_strict_pattern iso8601_strict_text t
@@ -44,7 +45,7 @@ pub record RoundTripsByEach (rule : OffsetRule) (t : Time) : Type 0 where
   pub gitoxide : RoundTripsBy rule gitoxide_pattern gitoxide_text t
   pub default : RoundTripsBy rule default_pattern default_text t
 
--- each time that `RoundTrips` is read back: from each of the six named formats that have a clock
+-- each time of which `RoundTrips` holds is read back from each of the six named formats that have a clock
 abbrev pub TimesRoundTrip : OffsetRule → Type 0
 TimesRoundTrip rule = (t : Time) → RoundTrips t → RoundTripsByEach rule t
 
@@ -54,33 +55,33 @@ HasClock pattern =
     (pattern ≡ iso8601_pattern) ⊎ (pattern ≡ iso8601_strict_pattern) ⊎ (pattern ≡ rfc2822_pattern)
     ⊎ (pattern ≡ git_rfc2822_pattern) ⊎ (pattern ≡ gitoxide_pattern) ⊎ (pattern ≡ default_pattern)
 
--- a text that is parsed back, or `Memory`: to the time, or for the text
+-- the result is a text that is parsed back to the time, or `Memory`
 abbrev pub RoundTripsAs : OffsetRule → Time → Result (String Global) Error → Type 0
 RoundTripsAs rule t result =
     MatchResult result (λ text. first_family_by rule (string_bytes text) ≡ Some (Absolute t)) (λ e. e ≡ Memory)
 
--- each pattern with a clock round trips: by each pattern that `HasClock` the time `RoundTripsAs`
+-- by each pattern that `HasClock` the time `RoundTripsAs`
 abbrev pub RoundTripsByPattern : OffsetRule → Time → Type 0
 RoundTripsByPattern rule t =
     (pattern : List ℕ) (result : Result (String Global) Error) → HasClock pattern → PrintsPattern t pattern result
     → RoundTripsAs rule t result
 
--- a multiple of 15 minutes under 15 hours: either way
+-- an offset of whole quarters of an hour, under 15 hours either way
 pub record IsQuarterOffset (offset : ℤ) : Type 0 where
   pub quarters : unsigned_abs offset % 900 ≡ 0
   pub short : unsigned_abs offset < 54_000
 
--- whole minutes, under a day: either way
+-- an offset of whole minutes, under 24 hours either way
 pub record IsMinuteOffset (offset : ℤ) : Type 0 where
   pub minutes : unsigned_abs offset % seconds_per_minute ≡ 0
   pub short : unsigned_abs offset < seconds_per_day
 
--- the rule of this name allows the offset: the offset of a raw text
+-- the rule of this name allows a raw text this offset
 abbrev pub IsRuleOffset : RawOffsets → ℤ → Type 0
 IsRuleOffset Quarter = IsQuarterOffset
 IsRuleOffset WholeMinutes = IsMinuteOffset
 
--- the midnight of the shown day: in UTC, of the day that the time's own clock shows
+-- the midnight in UTC of the day that the time's own clock shows
 abbrev pub midnight_of : Time → ℤ
 midnight_of t = pos seconds_per_day *ℤ local_day t
 
@@ -89,24 +90,24 @@ midnight_of t = pos seconds_per_day *ℤ local_day t
 abbrev pub day_read_back : Time → FamilyAnswer
 day_read_back t = if is_instant (midnight_of t) then Absolute (utc_time (midnight_of t)) else NoInstant
 
--- the header text is parsed back: to the time, if the rule allows the offset
+-- if the rule allows the offset, the header text is parsed back to the time
 abbrev pub HeaderRoundTrips : RawOffsets → Time → Type 0
 HeaderRoundTrips raw t =
     IsRuleOffset raw t.offset
     → IsSomeAnd (header_text t) (λ text. first_family_by (allows raw) text ≡ Some (Absolute t))
 
--- a canonical header is parsed to its time: if the rule allows its offset
+-- if the rule allows its offset, a canonical header is parsed to its time
 abbrev pub HeaderIsParsed : RawOffsets → List ℕ → Type 0
 HeaderIsParsed raw text =
     (t : Time) → is_canonical_header text ≡ true → header_time text ≡ Some t → IsRuleOffset raw t.offset
     → first_family_by (allows raw) text ≡ Some (Absolute t)
 
--- decimal seconds are parsed back: seconds from 100000000 on
+-- seconds from 100000000 on are parsed back from their decimal text
 abbrev pub SecondsRoundTrip : RawOffsets → ℤ → Type 0
 SecondsRoundTrip raw seconds =
     min_bare_epoch ≤ℤ seconds
     → first_family_by (allows raw) (decimal_text seconds) ≡ Some (Absolute (utc_time seconds))
 
--- the shown day is parsed by `day_read_back`: the day that the time's own clock shows
+-- the text by `SHORT` of the time's own clock is answered by `day_read_back`
 abbrev pub ShortReadsAsMidnight : OffsetRule → Time → Type 0
 ShortReadsAsMidnight rule t = first_family_by rule (short_text (clock_of t)) ≡ Some (day_read_back t)

@@ -22,7 +22,7 @@ use Rattle.gix_date.specs.declared.parsing.relative.Relative.TheVariants as text
 pub data RelativeDate : Type 0 where
   -- so many seconds before the moment
   MinusSeconds : ℤ → RelativeDate
-  -- pairs of count and unit, subtracted in turn: from the moment
+  -- pairs of count and unit, subtracted from the moment in turn
   MinusPairs : List (ℤ × TimeUnit) → RelativeDate
 
 -- what a relative text asks for: the pairs are those of its words
@@ -48,7 +48,7 @@ pairs_date text = if are_pairs (relative_words text) then Some (MinusPairs (pair
 unfoldable pub relative_date : List ℕ → Option RelativeDate
 relative_date text = option_or (named_date (trim text)) (pairs_date text)
 
--- the date names this instant in the zone: counted from the instant `moment`, both in nanoseconds
+-- the date names this instant in the zone, counted from the instant `moment`, both in nanoseconds
 abbrev pub Reaches : RelativeDate → TimeZone → ℤ → ℤ → Type 0
 Reaches (MinusSeconds seconds) tz moment instant = (instant ≡ moment -ℤ nanos_of_seconds seconds) × IsTimestampNanos instant
 Reaches (MinusPairs list) tz moment instant = (start : ℤ) × Resolves tz moment start × Chain tz list start instant
@@ -71,7 +71,7 @@ RelativeOutcome date None result = result ≡ Err MissingNow
 RelativeOutcome date (Some moment) (Ok t) = IsNamed date moment t
 RelativeOutcome date (Some moment) (Err e) = (e ≡ Range) × ((t : Time) → ¬ (IsNamed date moment t))
 
--- a relative date names at most one time: from a moment
+-- a relative date names at most one time from a moment
 abbrev pub AreNamedOnce : Type 0
 AreNamedOnce =
     (date : RelativeDate) (moment : Zoned) (a b : Time) → IsNamed date moment a → IsNamed date moment b → a ≡ b

@@ -1,5 +1,5 @@
 -- What pairs of counts and units come to in a zone that keeps one offset.
-use Rattle.std.specs.Prelude.{◌≡◌, ◌⊎◌, ◌↔◌, ◌*◌, ℕ, ℤ, pos, ◌+ℤ◌, ◌-ℤ◌, ◌*ℤ◌, ◌≤ℤ◌, FitsSigned, List, [], ◌∷◌, map, Some, true}
+use Rattle.std.specs.Prelude.{◌≡◌, ◌↔◌, ℕ, ℤ, pos, ◌+ℤ◌, ◌-ℤ◌, ◌*ℤ◌, ◌≤ℤ◌, FitsSigned, List, [], ◌∷◌, map, Some, true}
 use Rattle.std.specs.Int.{w64}
 use Rattle.std.specs.List.{All}
 use Rattle.std.specs.List.Sorted.{IsPermutation}
@@ -36,11 +36,11 @@ total (pair ∷ more) = product pair +ℤ total more
 abbrev pub ProductFits : ℤ × ℤ → Type 0
 ProductFits pair = FitsSigned w64 (product pair)
 
--- the date names this instant: from the moment, in nanoseconds
+-- the date names this instant from the moment, in nanoseconds
 abbrev pub Names : RelativeDate → Zoned → ℤ → Type 0
 Names date moment instant = Reaches date (zone_of moment) (zoned_nanos moment) instant
 
--- both dates name the same instant, or none: from the moment
+-- both dates name the same instant from the moment, or none
 abbrev pub NamesAlike : Zoned → RelativeDate → RelativeDate → Type 0
 NamesAlike moment a b = (instant : ℤ) → Names a moment instant ↔ Names b moment instant
 
@@ -49,7 +49,7 @@ abbrev pub IsSecondsBefore : List (ℤ × ℤ) → Zoned → ℤ → Type 0
 IsSecondsBefore pairs moment instant =
     (instant ≡ zoned_nanos moment -ℤ nanos_of_seconds (total pairs)) × All ProductFits pairs × IsTimestampNanos instant
 
--- the time so many seconds earlier: with the same offset
+-- the time so many seconds earlier, with the same offset
 abbrev pub earlier : Time → ℤ → Time
 earlier t seconds = record { seconds = t.seconds -ℤ seconds; offset = t.offset }
 
@@ -59,13 +59,13 @@ NamesEarlier date t seconds =
     (moment : Zoned) → IsMoment t moment
     → (r : Time) → IsNamed date moment r ↔ ((r ≡ earlier t seconds) × (is_instant r.seconds ≡ true))
 
--- the date names the instant `seconds` before the moment: if `jiff` has it, and nothing else
+-- the date names the instant `seconds` before the moment, if `jiff` has it, and nothing else
 abbrev pub NamesBefore : RelativeDate → Zoned → ℤ → Type 0
 NamesBefore date moment seconds =
     let instant = zoned_nanos moment -ℤ nanos_of_seconds seconds in
     (t : Time) → IsNamed date moment t ↔ ((t ≡ time_in (zone_of moment) instant) × IsTimestampNanos instant)
 
--- pairs subtract their sum: the pairs of seconds name the moment less their sum, and nothing else
+-- the pairs of seconds name the moment less their sum, and nothing else
 abbrev pub NamesSum : List (ℤ × ℤ) → Zoned → Type 0
 NamesSum pairs moment =
     (instant : ℤ) → Names (less_seconds pairs) moment instant ↔ IsSecondsBefore pairs moment instant

@@ -48,8 +48,7 @@ abbrev pub is_even : ℕ → Bool
 is_even zero = true
 is_even (suc n) = not (is_even n)
 
--- a word's role by parity: the word after some words is no period iff an even number of count words stands directly
--- before it
+-- a word is no period iff an even number of count words stands directly before it
 abbrev pub AreFreeByParity : Type 0
 AreFreeByParity =
     (front : List (List ℕ)) → next_is_free front ≡ is_even (prefix_len is_count_word (reverse front))

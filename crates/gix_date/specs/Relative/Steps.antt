@@ -1,7 +1,7 @@
 -- What takes an instant back in a zone, in jiff's words.
 use Rattle.std.specs.Prelude.{◌≡◌, ◌+◌, ℤ, pos, ◌+ℤ◌, ◌-ℤ◌, ◌*ℤ◌, unsigned_abs, FitsSigned, List, [], ◌∷◌, Option, Some, None}
 use Rattle.std.specs.Int.{w64, int_div_euclid, int_rem_euclid}
-use Rattle.jiff.specs.Words.{plain_zoned, offset_at, picked_instant, civil_nanos, nanos_of_seconds, time_nanos, month_number, IsTimestampNanos, IsYear, zoned_nanos}
+use Rattle.jiff.specs.Words.{plain_zoned, offset_at, picked_instant, civil_nanos, nanos_of_seconds, time_nanos, epoch_day, month_number, IsTimestampNanos, IsYear, zoned_nanos}
 use Rattle.jiff.specs.Types.{TimeZone, DateTime, Date, Time as TimeOfDay, Timestamp}
 use Rattle.jiff.specs.declared.zoned.Zoned.{Zoned}
 use Rattle.jiff_core.specs.Calendar.{days_from_civil}
@@ -20,7 +20,7 @@ IsLocal tz instant shown = civil_nanos shown ≡ instant +ℤ nanos_of_seconds (
 abbrev pub civil_of : ℤ → TimeOfDay → ℤ
 civil_of day time = day *ℤ pos 86_400_000_000_000 +ℤ pos (time_nanos time)
 
--- the zone resolves a local time to `instant`: the date and clock that these nanoseconds count
+-- the zone resolves the date and clock that `civil` counts in nanoseconds to `instant`
 pub record IsPicked (tz : TimeZone) (civil instant : ℤ) : Type 0 where
   pub shown : DateTime
   pub civil_is : civil_nanos shown ≡ civil
@@ -51,6 +51,17 @@ rolled_day number date = month_start number +ℤ (pos date.day -ℤ pos 1)
 abbrev pub month_before : Date → ℤ → ℤ
 month_before date months = month_number date -ℤ months
 
+-- `before` is the date so many months before a date: its day of that month, which may lie past its end
+pub record IsMonthsBefore (date : Date) (months : ℤ) (before : Date) : Type 0 where
+  pub fits : FitsSigned w64 (month_before date months)
+  pub year_in : IsYear (int_div_euclid (month_before date months) (pos 12))
+  pub day_is : epoch_day before ≡ rolled_day (month_before date months) date
+
+-- such a date, or `None` if there is none
+abbrev pub IsMonthsBeforeIfAny : Date → ℤ → Option Date → Type 0
+IsMonthsBeforeIfAny date months None = (before : Date) → ¬ (IsMonthsBefore date months before)
+IsMonthsBeforeIfAny date months (Some before) = IsMonthsBefore date months before
+
 -- `after` is `months` before `instant`, resolved by the zone: at the day and clock that the zone shows at `instant`
 pub record MonthsStep (tz : TimeZone) (months instant after : ℤ) : Type 0 where
   pub local : DateTime
@@ -66,7 +77,7 @@ PairStep tz (count, Seconds size) instant after =
 PairStep tz (count, Months size) instant after =
     FitsSigned w64 (count *ℤ size) × MonthsStep tz (count *ℤ size) instant after
 
--- the pairs lead from `instant` back to `after`: one after the other
+-- the pairs lead from `instant` back to `after`, one after the other
 abbrev pub Chain : TimeZone → List (ℤ × TimeUnit) → ℤ → ℤ → Type 0
 Chain tz [] instant after = after ≡ instant
 Chain tz (pair ∷ more) instant after = (between : ℤ) × PairStep tz pair instant between × Chain tz more between after

@@ -1,5 +1,5 @@
 //! Dates for callers that must not guess: which texts are careful, and which zone a date without an offset has.
-ghost use Rattle.std.specs.Prelude.{◌≡◌, [], ◌∷◌, true, if◌then◌else◌, Some, None, IfErr, IfSome, IsCharBoundary, List, option_map, ℕ};
+ghost use Rattle.std.specs.Prelude.{◌≡◌, [], ◌∷◌, true, if◌then◌else◌, Some, None, IfOk, IfErr, IfSome, IsCharBoundary, List, option_map, ℕ};
 ghost use Rattle.jiff.specs.Words.{IsOffsetSeconds};
 ghost use Rattle.jiff_core.specs.Calendar.{weekday_number};
 ghost use Rattle.gix_date.specs.Careful.Dates.{day_named, first_day, is_large_if_raw, is_whole_git, names_its_day, unzoned_day, unzoned_git_time, unzoned_time, IsLocalIfAny};
@@ -107,6 +107,7 @@ pub fn parse_carefully(
 ) -> Result<Time, CarefulError>
     ensures outcome { CarefulOutcome (careful_reading options input.now) now.entry result }
     ensures boundary { IfErr result (IsPlaceIn input.now) }
+    ensures offset_fits { IfOk result (λ t. IsOffsetSeconds t.offset) }
 {
     match read(input, options) {
         Reading::Local(time) => local_time(time, now),
@@ -345,6 +346,7 @@ fn local_time(time: Time, now: Option<Zoned<'_>>) -> Result<Time, CarefulError>
     requires { is_instant time.seconds ≡ true }
     ensures outcome { CarefulOutcome (Local time) now.entry result }
     ensures boundary { (text : List ℕ) → IfErr result (IsPlaceIn text) }
+    ensures offset_fits { IfOk result (λ t. IsOffsetSeconds t.offset) }
 {
     let Some(moment) = now else {
         return Err(CarefulError::Refused(ParseError::MissingNow));
@@ -361,7 +363,8 @@ fn local_time(time: Time, now: Option<Zoned<'_>>) -> Result<Time, CarefulError>
 /// The zone chooses as for [`WithoutOffset::MomentsZone`]. `None` if it has no instant for that clock. Takes no memory.
 pub fn time_in_zone(time: Time, moment: Zoned<'_>) -> Option<Time>
     requires { is_instant time.seconds ≡ true }
-    ensures { IsLocalIfAny (zone_of moment.entry) time result }
+    ensures local { IsLocalIfAny (zone_of moment.entry) time result }
+    ensures offset_fits { IfSome result (λ t. IsOffsetSeconds t.offset) }
 {
     let Ok(instant) = Timestamp::from_second(time.seconds) else {
         return None;

@@ -5,19 +5,23 @@
 //! an hour up to 14:45; [`parse_with`](crate::parse_with) reads those of whole minutes up to 23:59. The day
 //! `9999-12-31`, which [`SHORT`] prints of 253402207200 at +0200, is refused by `DateConversion`: its midnight in UTC
 //! is no instant.
-ghost use Rattle.std.specs.Prelude.{◌≡◌, ◌↔◌, ◌⊎◌, Some, Err, option_map, IsTrue, IsOk, IfOk, IfErr};
+ghost use Rattle.std.specs.Prelude.{◌≡◌, ◌↔◌, ◌⊎◌, Some, Err, option_map, IsTrue, IsOk, IsSome, IfOk, IfErr, IfSome};
 ghost use Rattle.jiff.specs.Words.{plain_zoned};
 ghost use Rattle.jiff.specs.ZonedText.{zoned_parts};
 ghost use Rattle.jiff_core.specs.Date.{weekday_of};
 ghost use Rattle.jiff_strtime.specs.Text.{parts_of};
 ghost use Rattle.jiff_core.specs.declared.error.Error.TheVariants as jiff_errors;
-ghost use Rattle.gix_date.specs.Printing.Formats.{Prints, PrintsOrSeconds, PrintsPattern, PrintsPatternOrSeconds, PrintsHeader, PrintsSeconds, PrintsAt};
+ghost use Rattle.gix_date.specs.Header.Text.{header_text};
+ghost use Rattle.gix_date.specs.Text.Numbers.{decimal_text};
+ghost use Rattle.gix_date.specs.Printing.Formats.{IsTextOf, IsPatternText, Prints, PrintsOrSeconds, PrintsPattern, PrintsPatternOrSeconds, PrintsHeader, PrintsSeconds, PrintsAt};
+ghost use Rattle.gix_date.specs.Printing.FormatBuf.{HasBufText, HasNamedText};
 ghost use Rattle.gix_date.specs.declared.error.Error.TheVariants as errors;
 
 use crate::error::Error;
+pub use crate::time::named::FormatBuf;
 use crate::time::named::{
     DEFAULT_PATTERN, GIT_RFC2822_PATTERN, GITOXIDE_PATTERN, ISO8601_PATTERN,
-    ISO8601_STRICT_PATTERN, RFC2822_PATTERN, SHORT_PATTERN, copy_text, fast_text,
+    ISO8601_STRICT_PATTERN, RFC2822_PATTERN, SHORT_PATTERN, copy_text, named_text, short_buf,
 };
 use crate::time::{Time, header_text};
 use jiff::fmt::strtime::{BrokenDownTime, Config, to_string};
@@ -200,8 +204,8 @@ impl Time {
     pub fn format_by_pattern(&self, alloc: Global, pattern: &str) -> Result<String, Error>
         ensures { PrintsPattern self.now pattern.now result }
     {
-        if let Some(printed) = fast_text(alloc, pattern, *self) {
-            return printed;
+        if let Some(text) = self.format_by_pattern_to_buf(pattern) {
+            return copy_text(alloc, text.as_str());
         }
         pattern_text(alloc, pattern, &self.to_zoned()?)
     }
@@ -220,10 +224,51 @@ impl Time {
         }
     }
 
+    /// The text of [`Time::format`] by value, without an allocator: [`FormatBuf`] lends it by `as_str`.
+    ///
+    /// [`UNIX`] always has one; [`RAW`] has one iff the time has a header text, an offset below 100 hours. A pattern has
+    /// one iff it is that of a named format, [`Time::to_zoned`] accepts the time, its own clock shows a year from 1000
+    /// to 9999, and its offset is whole minutes. Otherwise the answer is `None`, and [`Time::format`] may still have a
+    /// text. Takes no memory.
+    #[inline(always)]
+    pub fn format_to_buf(self, format: Format) -> Option<FormatBuf>
+        ensures text { IfSome result (λ text. IsTextOf self format text.bytes) }
+        ensures succeeds { IsSome result ↔ HasBufText self format }
+    {
+        match format {
+            Format::Custom(custom) => self.format_by_pattern_to_buf(custom.pattern),
+            Format::Unix => Some(self.unix_text()),
+            Format::Raw => self.raw_text(),
+        }
+    }
+
+    /// The text of [`Time::format_by_pattern`] by value, without an allocator, where [`Time::format_to_buf`] has one by
+    /// this pattern. Takes no memory.
+    #[inline(always)]
+    pub fn format_by_pattern_to_buf(self, pattern: &str) -> Option<FormatBuf>
+        ensures text { IfSome result (λ text. IsPatternText self pattern.now text.bytes) }
+        ensures succeeds { IsSome result ↔ HasNamedText self pattern.now }
+    {
+        named_text(pattern, self)
+    }
+
+    fn unix_text(self) -> FormatBuf
+        ensures { result.bytes ≡ decimal_text self.seconds }
+    {
+        short_buf(itoa::Buffer::new().format(self.seconds))
+    }
+
+    fn raw_text(self) -> Option<FormatBuf>
+        ensures { option_map (λ text. text.bytes) result ≡ header_text self }
+    {
+        let text = header_text(self)?;
+        Some(short_buf(text.as_str()))
+    }
+
     fn unix_seconds(self, alloc: Global) -> Result<String, Error>
         ensures { PrintsSeconds self result }
     {
-        copy_text(alloc, itoa::Buffer::new().format(self.seconds))
+        copy_text(alloc, self.unix_text().as_str())
     }
 
     fn header(self, alloc: Global) -> Result<String, Error>

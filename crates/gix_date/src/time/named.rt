@@ -1,5 +1,5 @@
 //! Fast path for printing: writes the text of a named format without `jiff`.
-ghost use Rattle.std.specs.Prelude.{◌≡◌, ◌+◌, ◌≤◌, ◌<◌, ◌++◌, ◌%◌, [], ◌∷◌, length, decimal, IfSome, IfNone, IfOk, IfErr, string_bytes};
+ghost use Rattle.std.specs.Prelude.{◌≡◌, ◌+◌, ◌≤◌, ◌<◌, ◌++◌, ◌%◌, ◌↔◌, [], ◌∷◌, length, decimal, IsSome, IfSome, IfNone, IfOk, IfErr, string_bytes};
 ghost use Rattle.std.specs.Int.{IsInRange};
 ghost use Rattle.arrayvec.specs.ArrayString.{array_string_len};
 ghost use Rattle.gix_date.specs.Text.Characters.{comma, space};
@@ -7,7 +7,8 @@ ghost use Rattle.gix_date.specs.Text.Names.{day_name, month_name};
 ghost use Rattle.gix_date.specs.Fields.ClockNumbers.{hours_in, minutes_in, seconds_per_minute};
 ghost use Rattle.gix_date.specs.Fields.FieldTexts.{four_digits, date_text, clock_text};
 ghost use Rattle.gix_date.specs.Fields.Offsets.{compact_offset_text};
-ghost use Rattle.gix_date.specs.Printing.Formats.{PrintsPattern};
+ghost use Rattle.gix_date.specs.Printing.Formats.{IsPatternText};
+ghost use Rattle.gix_date.specs.Printing.FormatBuf.{IsNamedPattern, HasNamedText};
 ghost use Rattle.gix_date.specs.Printing.LocalClocks.{local_seconds, clock_of, HasFourDigitFields};
 ghost use Rattle.gix_date.specs.Printing.NamedTexts.{rfc2822_text, git_rfc2822_text, iso8601_text, iso8601_strict_text, gitoxide_text, default_text, local_of, HasFields, IsShownByAll};
 ghost use Rattle.gix_date.specs.Fields.Zoned.{IsConvertible};
@@ -54,10 +55,10 @@ const FIRST_OF_YEAR_1000: SecondsSinceUnixEpoch = -30_610_224_000;
 const LAST_OF_YEAR_9999: SecondsSinceUnixEpoch = 253_402_300_799;
 
 /// The most bytes of such a text: those of an RFC 2822 date.
-const MAX_NAMED_LEN: usize = 31;
+pub const MAX_NAMED_LEN: usize = 31;
 
-/// A place for such a text, which takes no memory.
-type NamedText = ArrayString<MAX_NAMED_LEN>;
+/// The text of a time in a format, by value: at most 31 bytes, without an allocation. `as_str` lends it.
+pub type FormatBuf = ArrayString<MAX_NAMED_LEN>;
 
 /// What a time's own clock shows, with the day of the week from 0 for Monday.
 #[derive(Clone, Copy)]
@@ -126,14 +127,15 @@ fn local_moment(time: Time) -> Option<LocalMoment>
     ensures converts { IfSome result (λ _. IsConvertible time) }
     ensures four_digits { IfSome result (λ _. HasFourDigitFields time) }
     ensures fields { IfSome result HasFields }
+    ensures none { IfNone result (¬ (IsConvertible time × HasFourDigitFields time)) }
 {
     let local = local_seconds(time)?;
     let day = local.div_euclid(SECONDS_PER_DAY);
     let Ok(date) = Date::from_unix_epoch_day(day) else {
-        return None;
+        unreachable!();
     };
     let Ok(year) = u16::try_from(date.year) else {
-        return None;
+        unreachable!();
     };
     Some(LocalMoment {
         weekday: (day + 3).rem_euclid(7) as u8,
@@ -192,7 +194,7 @@ fn month_name(month: u8) -> &'static str
 
 /// Appends the four digits of a year.
 #[inline(always)]
-fn push_year(text: &mut NamedText, year: u16)
+fn push_year(text: &mut FormatBuf, year: u16)
     requires year { year ≤ 9999 }
     requires room { array_string_len text.old + 4 ≤ MAX_NAMED_LEN }
     ensures bytes { text.new.bytes ≡ text.old.bytes ++ four_digits year }
@@ -204,7 +206,7 @@ fn push_year(text: &mut NamedText, year: u16)
 
 /// Appends the day of the month, with no zero before it.
 #[inline(always)]
-fn push_day(text: &mut NamedText, day: u8)
+fn push_day(text: &mut FormatBuf, day: u8)
     requires day { day < 100 }
     requires room { array_string_len text.old + 2 ≤ MAX_NAMED_LEN }
     ensures bytes { text.new.bytes ≡ text.old.bytes ++ decimal day }
@@ -219,7 +221,7 @@ fn push_day(text: &mut NamedText, day: u8)
 
 /// Appends `YYYY-MM-DD`.
 #[inline(always)]
-fn push_date(text: &mut NamedText, date: DateFields)
+fn push_date(text: &mut FormatBuf, date: DateFields)
     requires year { date.year ≤ 9999 }
     requires room { array_string_len text.old + 10 ≤ MAX_NAMED_LEN }
     ensures bytes { text.new.bytes ≡ text.old.bytes ++ date_text date }
@@ -234,7 +236,7 @@ fn push_date(text: &mut NamedText, date: DateFields)
 
 /// Appends `hh:mm:ss`.
 #[inline(always)]
-fn push_clock(text: &mut NamedText, clock: ClockFields)
+fn push_clock(text: &mut FormatBuf, clock: ClockFields)
     requires { array_string_len text.old + 8 ≤ MAX_NAMED_LEN }
     ensures bytes { text.new.bytes ≡ text.old.bytes ++ clock_text clock }
     ensures len { array_string_len text.new ≡ array_string_len text.old + 8 }
@@ -248,7 +250,7 @@ fn push_clock(text: &mut NamedText, clock: ClockFields)
 
 /// Appends ` hh:mm:ss +hhmm`.
 #[inline(always)]
-fn push_clock_and_offset(text: &mut NamedText, t: LocalMoment)
+fn push_clock_and_offset(text: &mut FormatBuf, t: LocalMoment)
     requires fields { HasFields t }
     requires room { array_string_len text.old + 15 ≤ MAX_NAMED_LEN }
     ensures bytes { text.new.bytes
@@ -264,7 +266,7 @@ fn push_clock_and_offset(text: &mut NamedText, t: LocalMoment)
 
 /// `YYYY-MM-DD hh:mm:ss +hhmm`.
 #[inline(always)]
-fn push_iso8601(text: &mut NamedText, t: LocalMoment)
+fn push_iso8601(text: &mut FormatBuf, t: LocalMoment)
     requires empty { text.old.bytes ≡ [] }
     requires fields { HasFields t }
     ensures { text.new.bytes ≡ iso8601_text (local_of t) }
@@ -275,7 +277,7 @@ fn push_iso8601(text: &mut NamedText, t: LocalMoment)
 
 /// `YYYY-MM-DDThh:mm:ss+hh:mm`.
 #[inline(always)]
-fn push_iso8601_strict(text: &mut NamedText, t: LocalMoment)
+fn push_iso8601_strict(text: &mut FormatBuf, t: LocalMoment)
     requires empty { text.old.bytes ≡ [] }
     requires fields { HasFields t }
     ensures { text.new.bytes ≡ iso8601_strict_text (local_of t) }
@@ -290,7 +292,7 @@ fn push_iso8601_strict(text: &mut NamedText, t: LocalMoment)
 
 /// Appends ` YYYY hh:mm:ss +hhmm`.
 #[inline(always)]
-fn push_from_year(text: &mut NamedText, t: LocalMoment)
+fn push_from_year(text: &mut FormatBuf, t: LocalMoment)
     requires fields { HasFields t }
     requires room { array_string_len text.old + 20 ≤ MAX_NAMED_LEN }
     ensures bytes { text.new.bytes ≡ text.old.bytes ++ space ∷ four_digits t.date.year ++ space ∷ clock_text t.clock
@@ -304,7 +306,7 @@ fn push_from_year(text: &mut NamedText, t: LocalMoment)
 
 /// Appends ` Mmm YYYY hh:mm:ss +hhmm`.
 #[inline(always)]
-fn push_from_month(text: &mut NamedText, t: LocalMoment)
+fn push_from_month(text: &mut FormatBuf, t: LocalMoment)
     requires fields { HasFields t }
     requires room { array_string_len text.old + 24 ≤ MAX_NAMED_LEN }
     ensures { text.new.bytes ≡ text.old.bytes ++ space ∷ month_name t.date.month ++ space ∷ four_digits t.date.year
@@ -317,7 +319,7 @@ fn push_from_month(text: &mut NamedText, t: LocalMoment)
 
 /// `Www, `.
 #[inline(always)]
-fn push_rfc2822_name(text: &mut NamedText, weekday: u8)
+fn push_rfc2822_name(text: &mut FormatBuf, weekday: u8)
     requires empty { text.old.bytes ≡ [] }
     requires weekday { weekday < 7 }
     ensures bytes { text.new.bytes ≡ day_name weekday ++ comma ∷ space ∷ [] }
@@ -329,7 +331,7 @@ fn push_rfc2822_name(text: &mut NamedText, weekday: u8)
 
 /// `Www, DD Mmm YYYY hh:mm:ss +hhmm`.
 #[inline(always)]
-fn push_rfc2822(text: &mut NamedText, t: LocalMoment)
+fn push_rfc2822(text: &mut FormatBuf, t: LocalMoment)
     requires empty { text.old.bytes ≡ [] }
     requires fields { HasFields t }
     ensures { text.new.bytes ≡ rfc2822_text (local_of t) }
@@ -341,7 +343,7 @@ fn push_rfc2822(text: &mut NamedText, t: LocalMoment)
 
 /// `Www, D Mmm YYYY hh:mm:ss +hhmm`.
 #[inline(always)]
-fn push_git_rfc2822(text: &mut NamedText, t: LocalMoment)
+fn push_git_rfc2822(text: &mut FormatBuf, t: LocalMoment)
     requires empty { text.old.bytes ≡ [] }
     requires fields { HasFields t }
     ensures { text.new.bytes ≡ git_rfc2822_text (local_of t) }
@@ -353,7 +355,7 @@ fn push_git_rfc2822(text: &mut NamedText, t: LocalMoment)
 
 /// `Www Mmm `.
 #[inline(always)]
-fn push_names(text: &mut NamedText, t: LocalMoment)
+fn push_names(text: &mut FormatBuf, t: LocalMoment)
     requires empty { text.old.bytes ≡ [] }
     requires fields { HasFields t }
     ensures bytes { text.new.bytes ≡ day_name t.weekday ++ (space ∷ (month_name t.date.month ++ (space ∷ []))) }
@@ -367,7 +369,7 @@ fn push_names(text: &mut NamedText, t: LocalMoment)
 
 /// `Www Mmm DD YYYY hh:mm:ss +hhmm`.
 #[inline(always)]
-fn push_gitoxide(text: &mut NamedText, t: LocalMoment)
+fn push_gitoxide(text: &mut FormatBuf, t: LocalMoment)
     requires empty { text.old.bytes ≡ [] }
     requires fields { HasFields t }
     ensures { text.new.bytes ≡ gitoxide_text (local_of t) }
@@ -379,7 +381,7 @@ fn push_gitoxide(text: &mut NamedText, t: LocalMoment)
 
 /// Appends ` hh:mm:ss YYYY +hhmm`.
 #[inline(always)]
-fn push_from_clock(text: &mut NamedText, t: LocalMoment)
+fn push_from_clock(text: &mut FormatBuf, t: LocalMoment)
     requires fields { HasFields t }
     requires room { array_string_len text.old + 20 ≤ MAX_NAMED_LEN }
     ensures { text.new.bytes ≡ text.old.bytes ++ space ∷ clock_text t.clock ++ space ∷ four_digits t.date.year
@@ -396,7 +398,7 @@ fn push_from_clock(text: &mut NamedText, t: LocalMoment)
 
 /// `Www Mmm D hh:mm:ss YYYY +hhmm`.
 #[inline(always)]
-fn push_default(text: &mut NamedText, t: LocalMoment)
+fn push_default(text: &mut FormatBuf, t: LocalMoment)
     requires empty { text.old.bytes ≡ [] }
     requires fields { HasFields t }
     ensures { text.new.bytes ≡ default_text (local_of t) }
@@ -408,10 +410,11 @@ fn push_default(text: &mut NamedText, t: LocalMoment)
 
 /// Appends what a named pattern shows by such a clock.
 #[inline(always)]
-fn push_named(text: &mut NamedText, pattern: &str, t: LocalMoment) -> Option<()>
+fn push_named(text: &mut FormatBuf, pattern: &str, t: LocalMoment) -> Option<()>
     requires empty { text.old.bytes ≡ [] }
     requires fields { HasFields t }
-    ensures { IfSome result (λ _. IsShownByAll pattern.now (local_of t) text.new.bytes) }
+    ensures shown { IfSome result (λ _. IsShownByAll pattern.now (local_of t) text.new.bytes) }
+    ensures succeeds { IsSome result ↔ IsNamedPattern pattern.now }
 {
     match pattern {
         SHORT_PATTERN => push_date(text, t.date),
@@ -437,12 +440,26 @@ pub(crate) fn copy_text(alloc: Global, text: &str) -> Result<String, Error>
     }
 }
 
-/// What a named pattern prints of a time, where it is known, without `jiff`.
-pub(crate) fn fast_text(alloc: Global, pattern: &str, time: Time) -> Option<Result<String, Error>>
-    ensures { IfSome result (PrintsPattern time pattern.now) }
+/// What a named pattern prints of a time, where it is known, without `jiff`. Saves some 2650 instructions, which `jiff`
+/// needs to interpret the pattern. Not inlined: where the text is copied within one function, it is copied by bytes.
+#[inline(never)]
+pub(crate) fn named_text(pattern: &str, time: Time) -> Option<FormatBuf>
+    ensures text { IfSome result (λ text. IsPatternText time pattern.now text.bytes) }
+    ensures succeeds { IsSome result ↔ HasNamedText time pattern.now }
 {
     let t = local_moment(time)?;
     let mut text = ArrayString::new();
     push_named(&mut text, pattern, t)?;
-    Some(copy_text(alloc, text.as_str()))
+    Some(text)
+}
+
+/// A short text by value.
+#[inline(always)]
+pub(crate) fn short_buf(text: &str) -> FormatBuf
+    requires { length text.now ≤ MAX_NAMED_LEN }
+    ensures { result.bytes ≡ text.now }
+{
+    let mut buf = ArrayString::new();
+    buf.push_str(text);
+    buf
 }

@@ -13,7 +13,7 @@ overflow_sub-said c =
     let fa : FitsSigned w64 c.args.said.seconds = search rules in
     let fb : FitsSigned w64 c.in-Some.local.seconds = search rules in
     let made : c.new.result ≡ utc_time c.args.said.seconds = simp to_z-of_z at c.new.ensures in
-    let near = local-near (zone_of c.args.now) c.args.said.seconds c.in-Some.local (subst (λ (t : Time). IsLocalTime (zone_of c.args.now) t c.in-Some.local) made c.in-Some.ensures) in
+    let near = local-near (zone_of c.args.now) c.args.said.seconds c.in-Some.local (subst (λ (t : Time). IsLocalTime (zone_of c.args.now) t c.in-Some.local) made c.in-Some.ensures.local) in
     simp to_z-of_z (omega (arith, signed_arith, near))
 
 pub date_at-requires-clause-minutes : goal.date_at-requires-clause-minutes
@@ -21,7 +21,7 @@ date_at-requires-clause-minutes c =
     let fa : FitsSigned w64 c.args.said.seconds = search rules in
     let fb : FitsSigned w64 c.in-Some.local.seconds = search rules in
     let made : c.new.result ≡ utc_time c.args.said.seconds = simp to_z-of_z at c.new.ensures in
-    let near = local-near (zone_of c.args.now) c.args.said.seconds c.in-Some.local (subst (λ (t : Time). IsLocalTime (zone_of c.args.now) t c.in-Some.local) made c.in-Some.ensures) in
+    let near = local-near (zone_of c.args.now) c.args.said.seconds c.in-Some.local (subst (λ (t : Time). IsLocalTime (zone_of c.args.now) t c.in-Some.local) made c.in-Some.ensures.local) in
     let within = minutes-in c.args.said.seconds c.in-Some.local near in
     let fd : FitsSigned w64 (c.args.said.seconds -ℤ c.in-Some.local.seconds) = omega (arith, signed_arith, near) in
     let fm : FitsSigned w64 (int_div (c.args.said.seconds -ℤ c.in-Some.local.seconds) (pos 60)) = omega (arith, signed_arith, within) in
@@ -32,7 +32,7 @@ returns-in-Some c =
     let fa : FitsSigned w64 c.args.said.seconds = search rules in
     let fb : FitsSigned w64 c.in-Some.local.seconds = search rules in
     let made : c.new.result ≡ utc_time c.args.said.seconds = simp to_z-of_z at c.new.ensures in
-    let is_local = subst (λ (t : Time). IsLocalTime (zone_of c.args.now) t c.in-Some.local) made c.in-Some.ensures in
+    let is_local = subst (λ (t : Time). IsLocalTime (zone_of c.args.now) t c.in-Some.local) made c.in-Some.ensures.local in
     let near = local-near (zone_of c.args.now) c.args.said.seconds c.in-Some.local is_local in
     let within = minutes-in c.args.said.seconds c.in-Some.local near in
     let fd : FitsSigned w64 (c.args.said.seconds -ℤ c.in-Some.local.seconds) = omega (arith, signed_arith, near) in
@@ -45,6 +45,6 @@ returns-in-None c =
     let made : c.new.result ≡ utc_time c.args.said.seconds = simp to_z-of_z at c.new.ensures in
     record {
       local = None;
-      is_local = λ t h. c.in-None.ensures t (subst (λ (u : Time). IsLocalTime (zone_of c.args.now) u t) (sym made) h);
+      is_local = λ t h. c.in-None.ensures.local t (subst (λ (u : Time). IsLocalTime (zone_of c.args.now) u t) (sym made) h);
       is = refl;
     }

@@ -56,12 +56,12 @@ fn may_stand_after(text: &str, before: Option<usize>, word: &str) -> bool
     }
 }
 
-/// Whether the second word may follow the first.
+/// Whether the second word may follow the first. What is known soonest is asked first.
 fn may_follow(first: &str, second: &str) -> bool
     ensures { result ≡ may_follow first.now second.now }
 {
-    is_plain_count(first) && has_unit(second)
-        || has_unit(first) && (is_plain_count(second) || is_and(second) || is_ago(second))
+    has_unit(second) && is_plain_count(first)
+        || has_unit(first) && (is_ago(second) || is_and(second) || is_plain_count(second))
         || is_and(first) && is_plain_count(second)
 }
 

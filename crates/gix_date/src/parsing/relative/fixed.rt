@@ -3,11 +3,11 @@
 ghost use Rattle.std.specs.Prelude.{◌≡◌, ◌↔◌, ◌-ℤ◌, IfSome, IsSome};
 ghost use Rattle.jiff.specs.Words.{fixed_zone, epoch_day, nanos_of_seconds, IsTimestampNanos};
 ghost use Rattle.gix_date.specs.Relative.PairsRead.{pair_of, pairs_read};
-ghost use Rattle.gix_date.specs.Relative.Steps.{MonthsStep, PairStep, Chain, civil_of, IsAtInstant};
+ghost use Rattle.gix_date.specs.Relative.Steps.{MonthsStep, PairStep, Chain, IsPicked, civil_of, IsAtInstant};
 ghost use Rattle.gix_date.specs.Relative.Words.{relative_words};
 
 use crate::parsing::relative::pairs::{Pair, next_pair};
-use crate::parsing::relative::steps::{day_from, first_day_of, month_number};
+use crate::parsing::relative::steps::months_before;
 use crate::parsing::relative::words::TimeUnit;
 use jiff::civil::{Date, Time as TimeOfDay};
 use jiff::tz::Offset;
@@ -52,18 +52,13 @@ fn subtract_months(instant: Timestamp, offset: Offset, months: i64) -> Option<Ti
     ensures { IsAtInstant (MonthsStep (fixed_zone offset) months instant.nanosecond) result }
 {
     let shown = offset.to_datetime(instant);
-    let number = month_number(shown.date()).checked_sub(months)?;
-    let first = first_day_of(number)?;
-    let date = day_from(first, shown.day())?;
+    let date = months_before(shown.date(), months)?;
     to_instant(date, shown.time(), offset)
 }
 
 /// The instant at which a clock at the offset shows a date and a time of day.
 fn to_instant(date: Date, time: TimeOfDay, offset: Offset) -> Option<Timestamp>
-    ensures some { IsSome result
-        ↔ IsTimestampNanos (civil_of (epoch_day date) time -ℤ nanos_of_seconds offset.seconds) }
-    ensures value { IfSome result
-        (λ r. r.nanosecond ≡ civil_of (epoch_day date) time -ℤ nanos_of_seconds offset.seconds) }
+    ensures { IsAtInstant (IsPicked (fixed_zone offset) (civil_of (epoch_day date) time)) result }
 {
     match offset.to_timestamp(date.to_datetime(time)) {
         Ok(instant) => Some(instant),

@@ -2,9 +2,8 @@
 ghost use Rattle.std.specs.Prelude.{◌≡◌, ◌↔◌, ◌+ℤ◌, ◌-ℤ◌, pos, IfSome, IsSome};
 ghost use Rattle.std.specs.Int.{int_div_euclid, int_rem_euclid};
 ghost use Rattle.jiff.specs.Words.{plain_zone, zoned_nanos, nanos_of_seconds, KeepsZone, IsTimestampNanos, IsYear, IsYmd, IsEpochDay, IsBetween, epoch_day, month_number};
-ghost use Rattle.gix_date.specs.Relative.LocalFields.{IsInstantOf, HasDay};
 ghost use Rattle.gix_date.specs.Relative.PairsRead.{pair_of};
-ghost use Rattle.gix_date.specs.Relative.Steps.{zone_of, Resolves, SecondsStep, MonthsStep, PairStep, IsPicked, civil_of, IsAt};
+ghost use Rattle.gix_date.specs.Relative.Steps.{zone_of, Resolves, SecondsStep, MonthsStep, PairStep, IsPicked, IsMonthsBeforeIfAny, civil_of, IsAt};
 
 use crate::parsing::relative::pairs::Pair;
 use crate::parsing::relative::words::{MONTHS_PER_YEAR, TimeUnit};
@@ -13,52 +12,20 @@ use jiff::civil::{Date, Time as TimeOfDay};
 use jiff::tz::TimeZone;
 use jiff::{SignedDuration, Zoned};
 
-/// What a zone's clock shows, as fields that may name a day past the end of its month.
-#[derive(Clone, Copy)]
-pub(crate) struct Fields {
-    /// Months since January of the year 0.
-    month_number: i64,
-    /// From 1 to 31.
-    day: i8,
-    time: TimeOfDay,
-}
-
-impl<'a> From<Zoned<'a>> for Fields {
-    ghost use Rattle.jiff.specs.Words.{plain_zoned};
-    ghost use Rattle.gix_date.specs.Relative.LocalFields.{AreFieldsOf};
-
-    ghost from_gives = { λ moment fields. AreFieldsOf (plain_zoned moment).datetime fields };
-
-    fn from(moment: Zoned<'a>) -> Fields {
-        Fields {
-            month_number: month_number(moment.date()),
-            day: moment.day(),
-            time: moment.time(),
-        }
-    }
-}
-
-impl Fields {
-    /// The instant to which a zone resolves the fields: the first of the month, and the day beyond it, at that time.
-    ///
-    /// In a fold it is the earlier, and in a gap it is moved later, as in `jiff`. `None` without such a date or instant.
-    fn normalize<'a>(self, zone: TimeZone<'a>) -> Option<Zoned<'a>>
-        requires { HasDay self }
-        ensures instant { IsAt (IsInstantOf (plain_zone zone.entry) self) result }
-        ensures zone { IfSome result (λ r. zone_of r ≡ plain_zone zone.entry) }
-    {
-        let first = first_day_of(self.month_number)?;
-        let date = day_from(first, self.day)?;
-        to_instant(date, self.time, zone)
-    }
-}
-
-/// The moment to which its zone resolves its local time.
+/// The moment to which its zone resolves its local time: an earlier one where the clock shows that time again.
 pub(crate) fn resolve<'a>(moment: Zoned<'a>) -> Option<Zoned<'a>>
     ensures step { IsAt (Resolves (zone_of moment.entry) (zoned_nanos moment.entry)) result }
     ensures zone { IfSome result (KeepsZone moment.entry) }
 {
-    Fields::from(moment).normalize(moment.time_zone())
+    let zone = moment.time_zone();
+    let Ok(instant) = zone.to_timestamp(moment.datetime()) else {
+        return None;
+    };
+    // Mostly it is the moment itself: a new zoned value would look its offset up again.
+    if instant == moment.timestamp() {
+        return Some(moment);
+    }
+    Some(instant.to_zoned(zone))
 }
 
 /// Subtracts a pair from a moment.
@@ -95,29 +62,33 @@ pub(crate) fn earlier<'a>(moment: Zoned<'a>, seconds: i64) -> Option<Zoned<'a>>
     }
 }
 
-/// Subtracts months from a moment. Day and time stay, so a day past the end of its month falls into the next.
+/// Subtracts months from a moment. The time of day stays.
 fn subtract_months<'a>(moment: Zoned<'a>, months: i64) -> Option<Zoned<'a>>
     ensures step { IsAt (MonthsStep (zone_of moment.entry) months (zoned_nanos moment.entry)) result }
     ensures zone { IfSome result (KeepsZone moment.entry) }
 {
-    let fields = Fields::from(moment);
-    let month_number = fields.month_number.checked_sub(months)?;
-    Fields {
-        month_number,
-        ..fields
-    }
-    .normalize(moment.time_zone())
+    let date = months_before(moment.date(), months)?;
+    to_instant(date, moment.time(), moment.time_zone())
+}
+
+/// The date so many months before a date. The day stays, so a day past the end of its month falls into the next.
+pub(crate) fn months_before(date: Date, months: i64) -> Option<Date>
+    ensures { IsMonthsBeforeIfAny date months result }
+{
+    let number = month_number(date).checked_sub(months)?;
+    let first = first_day_of(number)?;
+    day_from(first, date.day())
 }
 
 /// The months from January of the year 0 to a date's.
-pub(crate) fn month_number(date: Date) -> i64
+fn month_number(date: Date) -> i64
     ensures { result ≡ month_number date }
 {
     date.year() as i64 * MONTHS_PER_YEAR + date.month() as i64 - 1
 }
 
 /// The first day of a month.
-pub(crate) fn first_day_of(month_number: i64) -> Option<Date>
+fn first_day_of(month_number: i64) -> Option<Date>
     ensures some { IsSome result ↔ IsYear (int_div_euclid month_number (pos 12)) }
     ensures value { IfSome result (IsYmd (int_div_euclid month_number (pos 12))
         (int_rem_euclid month_number (pos 12) +ℤ pos 1) (pos 1)) }
@@ -133,7 +104,7 @@ pub(crate) fn first_day_of(month_number: i64) -> Option<Date>
 }
 
 /// The date so many days after the first of a month, which may fall into the next month.
-pub(crate) fn day_from(first: Date, day: i8) -> Option<Date>
+fn day_from(first: Date, day: i8) -> Option<Date>
     requires { IsBetween (pos 1) (pos 31) day }
     ensures some { IsSome result ↔ IsEpochDay (epoch_day first +ℤ (day -ℤ pos 1)) }
     ensures value { IfSome result (λ d. epoch_day d ≡ epoch_day first +ℤ (day -ℤ pos 1)) }
@@ -145,7 +116,8 @@ pub(crate) fn day_from(first: Date, day: i8) -> Option<Date>
     }
 }
 
-/// The instant to which a zone resolves a date and a time of day.
+/// The instant to which a zone resolves a date and a time of day. In a fold it is the earlier, and in a gap it is moved
+/// later, as in `jiff`.
 #[inline(always)]
 pub(crate) fn to_instant<'a>(date: Date, time: TimeOfDay, zone: TimeZone<'a>) -> Option<Zoned<'a>>
     ensures instant { IsAt (IsPicked (plain_zone zone.entry) (civil_of (epoch_day date) time)) result }

@@ -1,6 +1,21 @@
-use Rattle.std.proofs.Common.{Err}
-use Rattle.gix_date_c.proofs.Printed.{not_text-refused}
+use Rattle.std.proofs.Common.{rules, ℕ, List, IsUtf8, Ok, Err, inl, sym, subst}
+use Rattle.gix_date.specs.Printing.Formats.{IsPatternText, PrintsPatternOrSeconds}
+use Rattle.gix_date.specs.declared.time.Time.{Time}
+use Rattle.gix_date_c.specs.Times.{load_time}
+use Rattle.gix_date_c.proofs.Printed.{not_text-refused, text-printed, text-by_pattern}
 use Rattle.gix_date_c.proofs.print.gix_date_format_by_pattern_or_unix.Goals as goal
 
 pub returns-in-Err : goal.returns-in-Err
 returns-in-Err c = (Err c.in-Err.status, not_text-refused _ _ c.in-Err.status c.in-Err.ensures, c.store_text.ensures)
+
+pub returns-in-Some : goal.returns-in-Some
+returns-in-Some c =
+    let t = load_time c.args.time.now in
+    let pattern = c.args.pattern.now in
+    let text = c.as_str.result.now in
+    let is_text : IsUtf8 text = search rules in
+    let of_time = subst (λ (t : Time). IsPatternText t c.in-Ok.pattern.now c.in-Some.text.bytes) c.load_time-time.ensures c.in-Some.ensures.text in
+    let of_pattern = subst (λ (p : List ℕ). IsPatternText t p c.in-Some.text.bytes) c.in-Ok.ensures.0 of_time in
+    let is = subst (λ (text : List ℕ). IsPatternText t pattern text) (sym c.as_str.ensures.value) of_pattern in
+    let printed = text-printed (PrintsPatternOrSeconds t pattern) c.args.alloc text c.as_str.ensures.fits is_text (λ s bytes. inl (subst (λ (text : List ℕ). IsPatternText t pattern text) (sym bytes) is)) in
+    (Ok text, text-by_pattern (PrintsPatternOrSeconds t pattern) _ (Ok text) c.in-Ok.ensures.1 printed, c.store_text-in-Some.ensures)

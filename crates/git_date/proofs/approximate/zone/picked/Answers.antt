@@ -21,7 +21,7 @@ returns-clause-value g c =
     let is = simp to_z-of_z at c.is_instant.ensures in
     let yes : is_instant s ≡ true = sym is ∙ c.if-not-is_instant.false in
     let made : c.new.result ≡ utc_time s = simp to_z-of_z at c.new.ensures in
-    let local = subst (λ (t : Time). IsLocalIfAny (zone_of c.args.moment) t c.time_in_zone.result) made c.time_in_zone.ensures in
+    let local = subst (λ (t : Time). IsLocalIfAny (zone_of c.args.moment) t c.time_in_zone.result) made c.time_in_zone.ensures.local in
     choice-true (zone_of c.args.moment) s (is_instant s) (g.zone.picks s) c.time_in_zone.result (c.requires.picks s) yes local
 
 pub returns-clause-small : goal.returns-clause-small
@@ -31,5 +31,5 @@ returns-clause-small g c =
     let is = simp to_z-of_z at c.is_instant.ensures in
     let yes : is_instant s ≡ true = sym is ∙ c.if-not-is_instant.false in
     let made : c.new.result ≡ utc_time s = simp to_z-of_z at c.new.ensures in
-    let local = subst (λ (t : Time). IsLocalIfAny (zone_of c.args.moment) t c.time_in_zone.result) made c.time_in_zone.ensures in
+    let local = subst (λ (t : Time). IsLocalIfAny (zone_of c.args.moment) t c.time_in_zone.result) made c.time_in_zone.ensures.local in
     small-if-any (zone_of c.args.moment) s c.time_in_zone.result yes local

@@ -8,15 +8,15 @@ use Rattle.gix_date.proofs.Careful.Zones.{local-is, none-local}
 use Rattle.gix_date.proofs.Fields.Instants.{instant_holds, instant_range}
 use Rattle.gix_date.proofs.parsing.careful.time_in_zone.Goals as goal
 
-pub returns-in_default : goal.returns-in_default
-returns-in_default c =
+pub returns-in_default-clause-local : goal.returns-in_default-clause-local
+returns-in_default-clause-local c =
     let seconds = c.args.time.seconds in
     let fits : FitsSigned w64 seconds = search rules in
     let placed = simp to_z-of_z at c.in_default.ensures.succeeds in
     λ r h. absurd (let e = placed.1 ((instant_range (seconds *ℤ pos 1_000_000_000) seconds refl).1 (instant_holds seconds c.requires)) in cc)
 
-pub returns-in-Some : goal.returns-in-Some
-returns-in-Some c =
+pub returns-in-Some-clause-local : goal.returns-in-Some-clause-local
+returns-in-Some-clause-local c =
     let seconds = c.args.time.seconds in
     let fits : FitsSigned w64 seconds = search rules in
     let at = simp to_z-of_z at c.in-Ok.ensures.value in
@@ -28,8 +28,8 @@ returns-in-Some c =
     local-is (zone_of c.args.moment) c.args.time c.time_of_moment.result c.to_datetime-shown.result c.date.result c.time.result (zoned_nanos c.in-Some.local) shown (sym c.date.ensures) (sym c.time.ensures)
     picked c.time_of_moment.ensures.seconds offset
 
-pub returns-in-None : goal.returns-in-None
-returns-in-None c =
+pub returns-in-None-clause-local : goal.returns-in-None-clause-local
+returns-in-None-clause-local c =
     let seconds = c.args.time.seconds in
     let fits : FitsSigned w64 seconds = search rules in
     let at = simp to_z-of_z at c.in-Ok.ensures.value in

@@ -1,13 +1,42 @@
-use Rattle.std.proofs.Common.{rules, ◌≡◌, ◌∙◌, sym, ap, arith, ℤ, pos, ◌+ℤ◌, unsigned_abs, FitsSigned, w64, w16, w32}
+use Rattle.std.proofs.Common.{rules, true, false, subst, ◌≡◌, ◌∙◌, sym, ap, arith, ℤ, pos, ◌+ℤ◌, unsigned_abs, FitsSigned, w64, w16, w32}
 use Rattle.std.proofs.lemmas.Int.{to_z-of_z}
 use Rattle.std.specs.Int.{int_div_euclid, int_rem_euclid}
+use Rattle.jiff_core.specs.Calendar.{IsEpochDay}
 use Rattle.jiff_core.proofs.DateLemmas.{epoch_day_range}
 use Rattle.jiff_core.proofs.CalendarLemmas.{days_in_month_bounds}
 use Rattle.jiff_core.proofs.SignedLemmas.{signed_arith, one_part}
 use Rattle.gix_date.specs.Printing.LocalClocks.{local_day, second_of_day}
-use Rattle.gix_date.proofs.Printing.LocalClocks.{clock-by, unsigned-is}
+use Rattle.gix_date.proofs.Printing.LocalClocks.{clock-by, day-within, local-year-fits, unsigned-is}
 use Rattle.gix_date.specs.Printing.NamedTexts.{HasFields}
 use Rattle.gix_date.proofs.time.named.local_moment.Goals as goal
+
+pub unreachable-requires : goal.unreachable-requires
+unreachable-requires c =
+    let t = c.args.time in
+    let a = c.in_ok-local.ensures.value in
+    let offset_fits : FitsSigned w32 t.offset = search rules in
+    let local_fits : FitsSigned w64 c.in_ok-local.local = search rules in
+    let div = simp to_z-of_z at c.div_euclid-day.ensures in
+    let day : c.div_euclid-day.result ≡ local_day t = div ∙ ap (λ (n : ℤ). int_div_euclid n (pos 86_400)) a in
+    let day_fits : FitsSigned w64 c.div_euclid-day.result = search rules in
+    let none = simp to_z-of_z at c.in_default.ensures.succeeds in
+    let clash : false ≡ true = none.1 (subst IsEpochDay (sym day) (day-within t c.in_ok-local.ensures.four_digits)) in
+    absurd cc
+
+pub unreachable-requires-in_default-try_from : goal.unreachable-requires-in_default-try_from
+unreachable-requires-in_default-try_from c =
+    let t = c.args.time in
+    let date = c.in-Ok.date in
+    let a = c.in_ok-local.ensures.value in
+    let offset_fits : FitsSigned w32 t.offset = search rules in
+    let local_fits : FitsSigned w64 c.in_ok-local.local = search rules in
+    let year_fits : FitsSigned w16 date.year = search rules in
+    let div = simp to_z-of_z at c.div_euclid-day.ensures in
+    let day : c.div_euclid-day.result ≡ local_day t = div ∙ ap (λ (n : ℤ). int_div_euclid n (pos 86_400)) a in
+    let day_fits : FitsSigned w64 c.div_euclid-day.result = search rules in
+    let at = simp to_z-of_z at c.in-Ok.ensures.value in
+    let none = simp to_z-of_z at c.in_default-try_from.ensures in
+    none (local-year-fits t date c.in_ok-local.ensures.four_digits (at ∙ day))
 
 pub returns-clause-shown : goal.returns-clause-shown
 returns-clause-shown c =
