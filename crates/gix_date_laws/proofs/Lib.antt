@@ -37,3 +37,7 @@ mod ClockDays
 mod OffsetTexts
 mod PrintedTexts
 mod SortedTexts
+mod RuleClocks
+mod TableClocks
+mod UsualZones
+mod KnownRules

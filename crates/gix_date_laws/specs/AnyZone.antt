@@ -12,30 +12,31 @@ use Rattle.gix_date.specs.Relative.Steps.{zone_of, IsLocal, Resolves}
 use Rattle.gix_date.specs.Text.Names.{is_name}
 use Rattle.gix_date.specs.declared.time.Time.{Time}
 
--- the text is this word: with white space around it, and in any letter case
+-- the trimmed text is this word, in any letter case
 abbrev pub IsWord : List ℕ → List ℕ → Type 0
 IsWord word text = is_name (trim text) word ≡ true
 
--- the text names this instant: from the moment, as a time of its zone, if `jiff` has the instant, and nothing else
+-- The text names this instant from the moment, if `jiff` has it, and nothing else. The time has the zone's offset
+-- there.
 abbrev pub NamesInstant : List ℕ → Zoned → ℤ → Type 0
 NamesInstant text moment instant =
     (date : RelativeDate) × (relative_date text ≡ Some date)
     × ((t : Time) → IsNamed date moment t ↔ ((t ≡ time_in (zone_of moment) instant) × IsTimestampNanos instant))
 
--- the zone keeps the instant: it resolves what its clock shows there to that instant, if `jiff` has it
+-- the zone resolves the instant's local time to the instant, if `jiff` has it
 abbrev pub Keeps : TimeZone → ℤ → Type 0
 Keeps tz instant = IsTimestampNanos instant → Resolves tz instant instant
 
--- the zone keeps each instant on the way: this one, and what is left after each pair of seconds
+-- the zone keeps the instant, and what is left after each pair of seconds
 abbrev pub KeepsWay : TimeZone → List (ℤ × ℤ) → ℤ → Type 0
 KeepsWay tz [] instant = Keeps tz instant
 KeepsWay tz (pair ∷ more) instant = Keeps tz instant × KeepsWay tz more (instant -ℤ nanos_of_seconds (product pair))
 
--- the pairs subtract the same seconds: each as many as its counterpart
+-- each pair subtracts as many seconds as its counterpart
 abbrev pub SubtractAlike : List (ℤ × ℤ) → List (ℤ × ℤ) → Type 0
 SubtractAlike a b = map product a ≡ map product b
 
--- both texts name the same instant, or none: both are relative, and count from the moment
+-- both texts are relative, and name the same instant from the moment, or none
 abbrev pub TextsNameAlike : List ℕ → List ℕ → Zoned → Type 0
 TextsNameAlike a b moment =
     (first : RelativeDate) × (second : RelativeDate) × (relative_date a ≡ Some first) × (relative_date b ≡ Some second)
@@ -47,8 +48,8 @@ ShowsDaysBefore tz days instant after =
     (here there : DateTime) → IsLocal tz instant here → IsLocal tz after there
     → (there.time ≡ here.time) × (epoch_day there.date ≡ epoch_day here.date -ℤ days)
 
--- days keep the clock iff the offset stays: what the pairs name shows the moment's time of day, so many days before, iff
--- the zone's offset there is the moment's
+-- What the pairs name keeps the moment's clock iff the zone's offset there is the moment's. To keep it is to show the
+-- moment's time of day, so many days before.
 abbrev pub KeepClock : List (ℤ × ℤ) → Zoned → ℤ → Type 0
 KeepClock pairs moment days =
     let zone = zone_of moment in
@@ -68,7 +69,7 @@ ResolvesNoneLater tz = (instant after : ℤ) → Resolves tz instant after → a
 abbrev pub long_seconds : ℤ
 long_seconds = pos 374_400
 
--- each pair takes at least so much: of one pair or more
+-- there are pairs, and each subtracts at least so much
 abbrev pub EachTakes : ℤ → List (ℤ × ℤ) → Type 0
 EachTakes least [] = ⊥
 EachTakes least (pair ∷ []) = least ≤ℤ product pair

@@ -1,3 +1,4 @@
 pub mod AnyZone
 pub mod OffsetTexts
 pub mod PrintedTexts
+pub mod Zones

@@ -12,7 +12,8 @@ use Rattle.gix_date.specs.Text.Names.{is_name}
 abbrev pub AreJiffFields : SignedPairs → Type 0
 AreJiffFields f = (f.hours ≤ 25) × (f.minutes ≤ max_minute) × (unwrap_or f.seconds 0 ≤ max_second)
 
--- an offset without colons: a sign, two digits of hours and two of minutes, and perhaps two of seconds
+-- An offset without colons, as `+0530` or `+053015`. It is a sign, two digits of hours, two of minutes, and perhaps two
+-- of seconds.
 pub record IsCompactOffset (text : List ℕ) (offset : ℤ) : Type 0 where
   pub fields : SignedPairs
   pub are : AreOffsetFields text fields
@@ -33,7 +34,7 @@ pub record AreColonFields (text : List ℕ) (f : SignedPairs) : Type 0 where
   pub are_seconds : ((last ≡ []) × (f.seconds ≡ None))
       ⊎ ((seconds : List ℕ) × (n : ℕ) × (last ≡ colon ∷ seconds) × IsPair seconds n × (f.seconds ≡ Some n))
 
--- an offset with colons
+-- an offset with colons, as `+05:30` or `+05:30:15`
 pub record IsColonOffset (text : List ℕ) (offset : ℤ) : Type 0 where
   pub fields : SignedPairs
   pub are : AreColonFields text fields
@@ -44,7 +45,7 @@ pub record IsColonOffset (text : List ℕ) (offset : ℤ) : Type 0 where
 abbrev pub behind : ℕ → ℤ
 behind hours = neg_ℤ (pos (hours * seconds_per_hour))
 
--- the ten zones of mail: by RFC 2822, each name with its offset
+-- the ten zones of mail by RFC 2822, each name with its offset
 abbrev pub mail_zones : List (List ℕ × ℤ)
 mail_zones =
     (codes "UT", pos 0) ∷ (codes "GMT", pos 0) ∷ (codes "EDT", behind 4) ∷ (codes "EST", behind 5)
@@ -62,11 +63,11 @@ pub record IsMailZone (text : List ℕ) (offset : ℤ) : Type 0 where
   pub stands : StandsIn mail_zones (name, offset)
   pub is : is_name text name ≡ true
 
--- an offset of mail: digits without seconds, or a zone
+-- an offset of mail: digits without colons or seconds, or one of the ten zones
 abbrev pub IsMailOffset : List ℕ → ℤ → Type 0
 IsMailOffset text offset =
     ((digits : IsCompactOffset text offset) × (digits.fields.seconds ≡ None)) ⊎ IsMailZone text offset
 
--- the piece is an offset that is written so: of the time that the date says
+-- a text is this piece of a time iff it writes the time's offset by `Is`
 abbrev pub WritesOffset : Piece → (List ℕ → ℤ → Type 0) → Type 0
 WritesOffset piece Is = (t : LocalTime) (text : List ℕ) → IsPiece piece t text ↔ Is text t.offset

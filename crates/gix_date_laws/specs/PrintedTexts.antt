@@ -10,13 +10,13 @@ use Rattle.gix_date.specs.Printing.NamedTexts.{iso8601_text}
 use Rattle.gix_date.specs.Printing.ReadingBack.{HasClock}
 use Rattle.gix_date.specs.declared.time.Time.{Time}
 
--- unlike times have unlike texts: if a pattern with a clock prints the same text of both, they are equal
+-- if a pattern with a clock prints the same text of both times, they are equal
 abbrev pub HaveUnlikeTexts : Time → Time → Type 0
 HaveUnlikeTexts a b =
     (pattern : List ℕ) (text other : String Global) → HasClock pattern → PrintsPattern a pattern (Ok text)
     → PrintsPattern b pattern (Ok other) → string_bytes text ≡ string_bytes other → a ≡ b
 
--- texts of ISO 8601 sort as times: if the first time is earlier, its text comes first by its bytes
+-- if the first time is earlier, its text of ISO 8601 sorts first by its bytes
 abbrev pub SortBefore : Time → Time → Type 0
 SortBefore a b =
     a.seconds <ℤ b.seconds → slice_cmp nat_cmp (iso8601_text (clock_of a)) (iso8601_text (clock_of b)) ≡ Less
