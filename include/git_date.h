@@ -37,7 +37,8 @@ enum git_date_status {
     /* The date at *place begins with a year that Git refuses. */
     GIT_DATE_YEAR_REFUSED = 21,
     /* The date is before 1970, or leads to an instant that cannot be computed with. When shown: Git
-     * cannot show it, or it is beyond what is shown here: an offset of 100 hours, or after 9999. */
+     * cannot show it, as an age at a moment before 1970, or it is beyond what is shown here: an
+     * offset of 100 hours, or after 9999. */
     GIT_DATE_RANGE = 22
 };
 
@@ -85,7 +86,7 @@ typedef struct git_date_expiry {
     git_date_approximate before; /* changes only with GIT_DATE_BEFORE */
 } git_date_expiry;
 
-/* What of a date is shown. The examples show 1251660000 +0000. */
+/* What of a date is shown. Examples of fixed forms show 1251660000 +0000. */
 enum git_date_kind {
     GIT_DATE_RELATIVE = 0,       /* 2 hours ago */
     GIT_DATE_ISO8601_STRICT = 1, /* 2009-08-30T19:20:00+00:00 */

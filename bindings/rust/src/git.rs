@@ -166,10 +166,16 @@ pub fn expiry_date(input: &str, now: &Moment) -> Result<Expiry, DateError> {
 /// # Ok::<(), DateError>(())
 /// ```
 ///
-/// [`DateError::Range`] for what Git cannot show: a time before 1970; and in modes that show it, a clock before 1970, if it is
-/// the time's own, or an own offset with seconds. Beyond what Git refuses it is given for an own offset of 100 hours or more, a
-/// clock after the year 9999, a local clock that cannot be computed, and a human date at a moment before 1970. At such a moment
-/// a relative date is `in the future`, where Git's age wraps. [`DateError::Refused`] of the moment.
+/// [`DateError::Range`] for these:
+/// - in every mode, a time before 1970
+/// - [`DateKind::Relative`] and [`DateKind::Human`], local or not: a moment whose whole seconds are before 1970, where Git's ages
+///   wrap
+/// - [`DateKind::Raw`] and all kinds with a clock, unless local: an offset with seconds, or of 100 hours or more
+/// - kinds with a clock, unless local: a clock before 1970; a time or a clock after the year 9999
+/// - the same kinds and [`DateKind::Raw`], if local: a time after 9999-12-30 22:00:00 UTC
+///
+/// Git itself shows offsets of 100 hours and years above 9999. All kinds but [`DateKind::Relative`], [`DateKind::Unix`] and
+/// [`DateKind::Raw`] have a clock. [`DateError::Refused`] of the moment.
 pub fn show_date(time: Time, mode: DateMode, now: &Moment) -> Result<DateText, DateError> {
     DateText::shown(time, mode, now)
 }

@@ -25,7 +25,7 @@ use Rattle.git_date.specs.ApproximateZones.{Choices, one_offset, filled_time}
 use Rattle.git_date.specs.Computing.{computing}
 use Rattle.git_date.specs.Reading.{said_by}
 use Rattle.git_date.specs.RelativeBack.{slack, days_slack, IsToldBack, IsAhead, not_understood}
-use Rattle.git_date.specs.Show.{shown}
+use Rattle.git_date.specs.Show.{shown, relative_shown}
 use Rattle.git_date.specs.ShowAges.{age_of, age_text, counted, relative_text}
 use Rattle.git_date.specs.ShowClocks.{Moment}
 use Rattle.git_date.specs.declared.approximate.answer.Approximate.{Approximate}
@@ -48,6 +48,10 @@ when-shown : (b : Bool) (x y : List ℕ) → cond b None (Some x) ≡ Some y →
 when-shown true x y e = absurd cc
 when-shown false x y e = cc
 
+unless-none : (b : Bool) (x : Option (List ℕ)) (y : List ℕ) → cond b None x ≡ Some y → x ≡ Some y
+unless-none true x y e = absurd cc
+unless-none false x y e = e
+
 text-by : (now t : ℤ) (seconds : ℕ) → lt_z now t ≡ false → unsigned_abs (now -ℤ t) ≡ seconds → relative_text now t ≡ age_text (age_of seconds) ++ codes " ago"
 unfolding relative_text
 text-by now t seconds past age = rw (past, age) refl
@@ -58,8 +62,9 @@ ago-text now t seconds e =
 
 pub relative-shown : (now : Moment) (t : Time) (local : Bool) (text : List ℕ) → shown now (record { kind = Relative; local = local }) t ≡ Some text
     → relative_text now.seconds t.seconds ≡ text
-unfolding shown
-relative-shown now t local text is = when-shown (lt_z t.seconds (pos 0)) _ text is
+unfolding shown relative_shown
+relative-shown now t local text is =
+    when-shown (lt_z now.seconds (pos 0)) _ text (unless-none (lt_z t.seconds (pos 0)) (relative_shown now.seconds t.seconds) text is)
 
 -- a text that says nothing is read as now
 module _ (this : Now) (o : Offset) (instant : is_instant this.seconds ≡ true) (since : pos 0 ≤ℤ this.seconds) (clock : is_instant (this.seconds +ℤ o.seconds) ≡ true) where

@@ -9,10 +9,11 @@ use Rattle.jiff_core.specs.Calendar.{weekday_number}
 use Rattle.gix_date.specs.Text.Front.{◌>>=◌}
 use Rattle.gix_date.specs.Printing.LocalClocks.{clock_of, date_of_day}
 use Rattle.gix_date.specs.declared.time.Time.{Time}
-use Rattle.git_date.specs.Modes.{mode_named}
-use Rattle.git_date.specs.Show.{shown, shown_offset}
+use Rattle.git_date.specs.Modes.{mode_named, own}
+use Rattle.git_date.specs.Show.{shown, shown_offset, relative_shown}
 use Rattle.git_date.specs.ShowAges.{age_of, age_of_days, relative_text}
 use Rattle.git_date.specs.ShowClocks.{Moment, own_clock, zone_clock}
+use Rattle.git_date.specs.declared.mode.DateKind.TheVariants.{Relative}
 
 abbrev row_moment : TimeZone → Moment
 row_moment zone = record { zone = zone; seconds = pos 1_251_660_000 }
@@ -46,8 +47,16 @@ relative :
     ∷ row 1_251_654_630 (pos 0) "relative" "2 hours ago" ∷ row 1_251_530_431 (pos 0) "relative" "2 days ago"
     ∷ row 1_214_160_000 (pos 0) "relative" "1 year, 2 months ago" ∷ row 1_188_674_400 (pos 0) "relative-local" "2 years ago"
     ∷ row 1_251_660_001 (pos 0) "relative" "in the future" ∷ refused (neg_ℤ (pos 1)) (pos 0) "relative" ∷ [])
-unfolding digits mode_named shown relative_text age_of age_of_days
+unfolding digits mode_named shown relative_shown relative_text age_of age_of_days
 relative = refl
+
+-- the age of one second after 1970 at moments around it
+abbrev age_at : ℤ → Option (List ℕ)
+age_at now = shown (record { zone = UTC; seconds = now }) (own Relative) (record { seconds = pos 1; offset = pos 0 })
+
+moments : map age_at (neg_ℤ (pos 1) ∷ pos 0 ∷ pos 2 ∷ []) ≡ None ∷ Some (codes "in the future") ∷ Some (codes "1 second ago") ∷ []
+unfolding digits shown relative_shown relative_text age_of
+moments = refl
 
 human :
     Shows UTC

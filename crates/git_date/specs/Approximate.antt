@@ -75,7 +75,8 @@ abbrev pub exact_or_guess : Result ReadDate DateError → Result Approximate Dat
 exact_or_guess (Ok date) guessed = Ok (record { time = date.time; understood = true; ignored = date.ignored })
 exact_or_guess (Err e) guessed = if is_unreadable e then guessed else Err e
 
--- The result of `approxidate`, in what the moment's zone chooses: what the exact reader says, or else the guess.
+-- The result of `approxidate`: what the exact reader says, or else the guess. The guess is in what the moment's zone
+-- chooses.
 pub record ApproximateOutcome (moment : Zoned) (text : List ℕ) (result : Result Approximate DateError) : Type 0 where
   pub zone : Choices
   pub are_choices : AreChoices (zone_of moment) zone

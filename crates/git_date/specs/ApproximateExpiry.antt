@@ -30,7 +30,7 @@ abbrev pub ExpiryBy : Zoned → List ℕ → Option Expiry → Result Expiry Dat
 ExpiryBy moment text (Some expiry) result = result ≡ Ok expiry
 ExpiryBy moment text None result = IsDated moment text result
 
--- the result of `expiry_date`: what one of the words says, or else a date
+-- the result of `expiry_date`: that of one of four words, or else of a date
 abbrev pub ExpiryOutcome : Zoned → List ℕ → Result Expiry DateError → Type 0
 ExpiryOutcome moment text result = ExpiryBy moment text (fixed_expiry text) result
 

@@ -78,7 +78,7 @@ exact_seconds f = do
   start ← month_start year month
   Some (seconds_after start f.day hour minute second)
 
--- what the rules use of a moment
+-- the seconds and the year in UTC of a moment, which the rules use
 abbrev pub now_of : Zoned → Now
 now_of moment = record { seconds = whole_seconds (zoned_nanos moment); year = utc_year (whole_seconds (zoned_nanos moment)) }
 

@@ -33,7 +33,7 @@ zone_row row = (row.0 ++ codes "-local", in_zone row.1)
 abbrev pub mode_rows : List (List ℕ × DateMode)
 mode_rows = map own_row kind_rows ++ map zone_row kind_rows ++ (codes "local", in_zone Default) ∷ []
 
--- the mode that a text names: letter case matters
+-- the mode that a text names, in small letters alone
 unfoldable pub mode_named : List ℕ → Option DateMode
 mode_named text = option_map (λ row. row.1) (find (λ row. bytes_eq text row.0) mode_rows)
 
@@ -60,7 +60,7 @@ kind_name Unix = codes "unix"
 abbrev pub mode_name : DateMode → List ℕ
 mode_name mode = kind_name mode.kind ++ (if mode.local then codes "-local" else [])
 
--- the result of reading a name
+-- the result of reading a mode's name: the mode, or `UnknownMode`
 abbrev pub NamesMode : List ℕ → Result DateMode UnknownMode → Type 0
 NamesMode text (Ok mode) = mode_named text ≡ Some mode
 NamesMode text (Err e) = mode_named text ≡ None

@@ -102,6 +102,6 @@ abbrev pub at_or_fields : Now → List ℕ → Option (ℕ × ℤ) → Result Sa
 at_or_fields now text (Some found) = at_said found
 at_or_fields now text None = fields_said text (reading_of now text)
 
--- what a text says, before a zone is asked: the seconds that a clock has counted, or those of the instant
+-- What a text says, before a zone is asked. It has the seconds that a clock has counted, or those of the instant.
 unfoldable pub said_by : Now → List ℕ → Result Said DateError
 said_by now text = at_or_fields now text (at_text (tokens text))

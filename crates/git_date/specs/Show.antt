@@ -28,7 +28,11 @@ shown_offset now local t =
 abbrev pub raw_text : ℤ → ℤ → List ℕ
 raw_text seconds offset = written_text (record { seconds = seconds; offset = offset })
 
--- a human date needs the clock of now as well
+-- the age of a time; Git's moments have no sign, so that before 1970 it has none
+unfoldable pub relative_shown : ℤ → ℤ → Option (List ℕ)
+relative_shown now seconds = if lt_z now (pos 0) then None else Some (relative_text now seconds)
+
+-- a human date needs the clock of now as well, which is from 1970 on
 abbrev pub human_shown : Moment → Bool → Time → Option (List ℕ)
 human_shown now local t =
     shown_clock now local t >>= λ clock. zone_clock now.zone now.seconds >>= λ today.
@@ -36,7 +40,7 @@ human_shown now local t =
 
 -- what each kind shows of a time from 1970 on
 abbrev pub shown_by : DateKind → Moment → Bool → Time → Option (List ℕ)
-shown_by Relative now local t = Some (relative_text now.seconds t.seconds)
+shown_by Relative now local t = relative_shown now.seconds t.seconds
 shown_by Iso8601Strict now local t = option_map iso8601_strict_text (shown_clock now local t)
 shown_by Iso8601 now local t = option_map iso8601_text (shown_clock now local t)
 shown_by Rfc2822 now local t = option_map git_rfc2822_text (shown_clock now local t)
@@ -46,6 +50,7 @@ shown_by Human now local t = human_shown now local t
 shown_by Raw now local t = option_map (raw_text t.seconds) (shown_offset now local t)
 shown_by Unix now local t = Some (decimal_text t.seconds)
 
--- what Git shows of a time, if it can
+-- What Git shows of a time. None in every mode before 1970; of an age at a moment before 1970; of the time's own offset with seconds or
+-- from 100 hours on; of its own clock before 1970 or after 9999; of the zone's after the last second of `jiff`.
 unfoldable pub shown : Moment → DateMode → Time → Option (List ℕ)
 shown now mode t = if lt_z t.seconds (pos 0) then None else shown_by mode.kind now mode.local t

@@ -18,11 +18,11 @@ pub record Moment : Type 0 where
   pub zone : TimeZone
   pub seconds : ℤ
 
--- what shown dates use of a moment
+-- the zone and the seconds of a moment, which shown dates use
 abbrev pub moment_of : Zoned → Moment
 moment_of moment = record { zone = zone_of moment; seconds = whole_seconds (zoned_nanos moment) }
 
--- an offset that Git can write: whole minutes, and below 100 hours
+-- An offset that is shown: whole minutes, as Git's are, and below 100 hours. (Git shows more hours.)
 abbrev pub is_written_offset : ℤ → Bool
 is_written_offset offset = nat_lt (unsigned_abs offset) hundred_hours && (unsigned_abs offset % seconds_per_minute == 0)
 
@@ -33,7 +33,8 @@ is_dated seconds = le_z (pos 0) seconds && le_z seconds last_of_year_9999
 abbrev pub has_own_clock : Time → Bool
 has_own_clock t = is_written_offset t.offset && is_dated t.seconds && is_dated (local_seconds t)
 
--- what the time's own clock shows, if Git can write its offset, and both the time and what its clock shows are dated
+-- What the time's own clock shows, if its offset can be shown, and both the time and what its clock shows are dated. Git refuses a
+-- clock before 1970, and shows years above 9999.
 unfoldable pub own_clock : Time → Option LocalTime
 own_clock t = if has_own_clock t then Some (clock_of t) else None
 
@@ -53,11 +54,11 @@ known_offset t =
 abbrev pub with_known_offset : LocalTime → LocalTime
 with_known_offset t = record t { offset = known_offset t }
 
--- an instant from 1970 on
+-- an instant of `jiff` from 1970 on
 abbrev pub has_zone_clock : ℤ → Bool
 has_zone_clock seconds = le_z (pos 0) seconds && le_z seconds last_second
 
--- what a zone's clock shows at an instant
+-- What a zone's clock shows at an instant: also a clock before 1970, as Git does.
 unfoldable pub zone_clock : TimeZone → ℤ → Option LocalTime
 zone_clock zone seconds =
     if has_zone_clock seconds then Some (with_known_offset (clock_of (time_at zone seconds))) else None

@@ -8,7 +8,7 @@ use std::fmt;
 use std::str::FromStr;
 use thiserror::Error;
 
-/// What of a date is shown. The examples show 1251660000 +0000.
+/// What of a date is shown. Examples of fixed forms show 1251660000 +0000.
 #[derive(Clone, Copy, Debug, PartialEq, Eq)]
 pub enum DateKind {
     /// How long ago it was: `2 hours ago`, `1 year, 2 months ago`, or `in the future`.

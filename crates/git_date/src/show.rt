@@ -1,7 +1,7 @@
 //! Dates as Git shows them.
-ghost use Rattle.std.specs.Prelude.{◌≡◌, ◌<◌, pos, MatchResult, IfSome, option_map, unsigned_abs, false};
+ghost use Rattle.std.specs.Prelude.{◌≡◌, ◌<◌, ◌≤ℤ◌, pos, MatchResult, IfSome, option_map, unsigned_abs, false};
 ghost use Rattle.std.specs.Int.Signed.{lt_z};
-ghost use Rattle.git_date.specs.Show.{shown, shown_by, shown_clock, shown_offset, human_shown};
+ghost use Rattle.git_date.specs.Show.{shown, shown_by, shown_clock, shown_offset, relative_shown, human_shown};
 ghost use Rattle.git_date.specs.ShowClocks.{moment_of};
 ghost use Rattle.git_date.specs.Clocks.{local_of, HasFields};
 ghost use Rattle.git_date.specs.declared.error.DateError.TheVariants.{Range};
@@ -36,10 +36,16 @@ pub type DateText = ArrayString<MAX_DATE_LEN>;
 /// in years outside 1970 to 2099. Other modes show the time's own clock. [`DateKind::Default`] shows no offset of a local
 /// clock, nor of an unknown one (`-0001`).
 ///
-/// [`DateError::Range`] for what Git cannot show: a time before 1970; a clock before 1970, if it is the time's own; an own
-/// offset of 100 hours or more, or with seconds. Beyond what Git refuses it is given for a clock after the year 9999, a
-/// local clock at no instant of `jiff`, and a human date at a moment before 1970. [`DateKind::Relative`] and
-/// [`DateKind::Unix`] show every time from 1970 on. Takes no memory.
+/// [`DateError::Range`] is the only refusal, for these:
+/// - in every mode, a time before 1970
+/// - [`DateKind::Relative`] and [`DateKind::Human`], local or not: a moment whose whole seconds are before 1970, where Git's
+///   ages wrap
+/// - [`DateKind::Raw`] and all kinds with a clock, unless local: an offset with seconds, or of 100 hours or more
+/// - kinds with a clock, unless local: a clock before 1970; a time or a clock after the year 9999
+/// - the same kinds and [`DateKind::Raw`], if local: a time after 9999-12-30 22:00:00 UTC, the last second of `jiff`
+///
+/// Git itself shows offsets of 100 hours and years above 9999. All kinds but [`DateKind::Relative`], [`DateKind::Unix`] and
+/// [`DateKind::Raw`] have a clock. Takes no memory.
 pub fn show_date(time: Time, mode: DateMode, now: Zoned<'_>) -> Result<DateText, DateError>
     ensures { MatchResult result
         (λ text. shown (moment_of now.entry) mode time ≡ Some text.bytes)
@@ -90,6 +96,19 @@ fn shown_offset(time: Time, local: bool, now: Zoned<'_>) -> Option<i32>
     }
 }
 
+/// How long ago a time was. `None` at a moment before 1970, where Git's ages wrap.
+#[tactic(auto, unfolding(crate::specs::Show::relative_shown))]
+fn relative_shown(now: i64, seconds: i64) -> Option<DateText>
+    requires now { now ≤ℤ pos 253_402_207_200 }
+    requires seconds { lt_z seconds (pos 0) ≡ false }
+    ensures { option_map (λ text. text.bytes) result ≡ relative_shown now seconds }
+{
+    if now < 0 {
+        return None;
+    }
+    Some(relative_text(now, seconds))
+}
+
 /// A human date, by the clock of the time and that of the moment.
 fn human_shown(time: Time, local: bool, now: Zoned<'_>) -> Option<DateText>
     requires { lt_z time.seconds (pos 0) ≡ false }
@@ -109,7 +128,7 @@ fn shown_by(time: Time, mode: DateMode, now: Zoned<'_>) -> Option<DateText>
         ≡ shown_by mode.kind (moment_of now.entry) mode.local time }
 {
     let text = match mode.kind {
-        DateKind::Relative => relative_text(now.timestamp().as_second(), time.seconds),
+        DateKind::Relative => relative_shown(now.timestamp().as_second(), time.seconds)?,
         DateKind::Unix => unix_text(time.seconds),
         DateKind::Raw => raw_text(time.seconds, shown_offset(time, mode.local, now)?),
         DateKind::Human => human_shown(time, mode.local, now)?,

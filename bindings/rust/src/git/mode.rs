@@ -4,7 +4,7 @@ use crate::calls;
 use std::fmt;
 use std::str::FromStr;
 
-/// What of a date is shown. The examples show 1251660000 +0000.
+/// What of a date is shown. Examples of fixed forms show 1251660000 +0000.
 #[derive(Clone, Copy, Debug, Default, PartialEq, Eq, Hash)]
 #[non_exhaustive]
 pub enum DateKind {

@@ -14,7 +14,7 @@ const SECONDS_PER_MINUTE: i32 = 60;
 /// The least offset, in seconds, whose hours have three digits.
 const HUNDRED_HOURS: u32 = 360_000;
 
-/// Whether Git can write an offset: whole minutes, and below 100 hours.
+/// Whether an offset is shown: whole minutes, as Git's are, and below 100 hours.
 pub(crate) fn is_written_offset(offset: i32) -> bool
     ensures { result ≡ is_written_offset offset }
 {
@@ -42,7 +42,8 @@ fn has_zone_clock(seconds: i64) -> bool
     0 <= seconds && seconds <= LAST_SECOND
 }
 
-/// What the time's own clock shows. `None` before 1970, beyond the year 9999, and for an offset that Git cannot write.
+/// What the time's own clock shows. `None` if the time or what the clock shows is before 1970 or after the year 9999, and
+/// for an offset with seconds or of 100 hours or more.
 pub(crate) fn own_clock(time: Time) -> Option<ShownClock>
     ensures shown { option_map local_of result ≡ own_clock time }
     ensures fields { IfSome result HasFields }
@@ -67,7 +68,8 @@ fn known_offset(shown: ShownClock) -> i32
     }
 }
 
-/// What the clock of the moment's zone shows at an instant. `None` before 1970 and beyond `jiff`'s instants.
+/// What the clock of the moment's zone shows at an instant, which may be before 1970 there. `None` for an instant before 1970
+/// UTC, and after 9999-12-30 22:00:00 UTC, the last second of `jiff`.
 pub(crate) fn zone_clock(seconds: i64, now: Zoned<'_>) -> Option<ShownClock>
     ensures shown { option_map local_of result ≡ zone_clock (zone_of now.entry) seconds }
     ensures fields { IfSome result HasFields }
