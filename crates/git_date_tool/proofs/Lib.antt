@@ -4,3 +4,4 @@ pub mod Following
 pub mod Words
 pub mod Reported
 pub mod Starting
+pub mod Zoning

@@ -7,5 +7,6 @@ pub mod Line
 pub mod Reading
 pub mod Runs
 pub mod Wrong
+pub mod Zones
 pub mod Command
 pub mod Program

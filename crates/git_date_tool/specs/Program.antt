@@ -1,8 +1,10 @@
 -- What the program does with a command line.
 use Rattle.std.specs.Prelude.{◌≡◌, ◌⊎◌, ℕ, Bool, true, false, List, [], ◌∷◌, ◌++◌, pos, ◌*ℤ◌, Option, Some, None, IfSome, IsSome, Result, Ok, Err, codes}
 use Rattle.gix_date.specs.Devices.StreamState.{StreamState, Takes, TakesProperPrefix}
+use Rattle.jiff.specs.Types.{TimeZone}
 use Rattle.jiff.specs.Words.{zoned_nanos}
 use Rattle.jiff.specs.declared.zoned.Zoned.{Zoned}
+use Rattle.gix_date.specs.Relative.Steps.{zone_of}
 use Rattle.gix_date.specs.declared.time.Time.{Time}
 use Rattle.gix_date_tool.specs.Messages.{Reports, fault_words, cause_words}
 use Rattle.gix_date_tool.specs.Lines.{with_newline}
@@ -15,6 +17,7 @@ use Rattle.gix_date_tool.specs.declared.program.Status.TheVariants.{Success, Fai
 use Rattle.git_date_tool.specs.Command.{Asked, asked}
 use Rattle.git_date_tool.specs.Runs.{RunsOver, RunsThrough}
 use Rattle.git_date_tool.specs.Wrong.{wrong_words}
+use Rattle.git_date_tool.specs.Zones.{AsksForName, IsAskedZone, NeedsSystem}
 use Rattle.git_date_tool.specs.declared.answers.Query.{Query}
 use Rattle.git_date_tool.specs.declared.outcome.NoNow.{NoNow}
 use Rattle.git_date_tool.specs.declared.outcome.NoNow.TheVariants.{Clock, NoInstant}
@@ -59,6 +62,10 @@ EndsWithoutZone why writing outcome = EndsInUsage why writing outcome
 abbrev pub IsInstantOf : Option Time → Zoned → Type 0
 IsInstantOf now z = IfSome now (λ t. zoned_nanos z ≡ t.seconds *ℤ pos 1_000_000_000)
 
+-- such an instant in this zone
+abbrev pub IsMomentIn : Option Time → TimeZone → Zoned → Type 0
+IsMomentIn now zone z = IsInstantOf now z × (zone_of z ≡ zone)
+
 -- there is no moment: of NOW, or of the clock
 abbrev pub IsNoMoment : Option Time → NoNow → Type 0
 IsNoMoment now Clock = now ≡ None
@@ -73,6 +80,7 @@ pub record IsQuery (a : Asked) (query : Query) : Type 0 where
   pub shown : query.shown ≡ a.shown
   pub strict : query.strict ≡ a.strict
   pub now : IsInstantOf a.now query.now
+  pub zone : IsAskedZone a.zone (zone_of query.now)
 
 -- a run over the texts, or over the lines of the reader if there is none
 abbrev pub RunsAs : List (List ℕ) → Query → Change → Change → Change → Result Bool ToolError → Type 0
@@ -86,9 +94,14 @@ EndsRun a query reading writing telling (Answered all_read) = RunsAs a.texts que
 EndsRun a query reading writing telling (Fault fault) = RunsAs a.texts query reading writing telling (Err fault)
 EndsRun a query reading writing telling _ = ⊥
 
--- why the usage line is due though the words are right: there is no zone, or no instant of NOW
+-- what is wrong where there is no zone
+abbrev pub no_zone_words : Option (List ℕ) → WrongWords
+no_zone_words (Some text) = NoZone
+no_zone_words None = NoSystemZone
+
+-- why the usage line is due though the words are right: there is no zone of a name, a file or the system, or no instant of NOW
 abbrev pub IsNoStart : Asked → WrongWords → Type 0
-IsNoStart a NoZone = IsSome a.zone
+IsNoStart a NoZone = AsksForName a.zone
 IsNoStart a NoSystemZone = a.zone ≡ None
 IsNoStart a (NoMoment Conversion) = IsSome a.now
 IsNoStart a _ = ⊥
@@ -96,7 +109,7 @@ IsNoStart a _ = ⊥
 -- no text was read or answered: the usage line is due, or there was no memory for a zone, or no clock
 abbrev pub StartsNot : Asked → Change → Outcome → Type 0
 StartsNot a writing (Shown why) = IsNoStart a why × EndsInUsage why writing (Shown why)
-StartsNot a writing (Fault errors.Memory) = writing.new ≡ writing.old
+StartsNot a writing (Fault errors.Memory) = NeedsSystem a.zone × (writing.new ≡ writing.old)
 StartsNot a writing (Fault fault) = (why : WrongWords) × IsNoStart a why × EndsInUsage why writing (Fault fault)
 StartsNot a writing NoClock = (a.now ≡ None) × (writing.new ≡ writing.old)
 StartsNot a writing (Answered all_read) = ⊥

@@ -1,27 +1,78 @@
 //! Offsets from UTC, as an option has them.
+ghost use Rattle.std.specs.Prelude.{◌≡◌, ◌<◌, IfSome, option_map, pos, neg_ℤ};
+ghost use Rattle.jiff.specs.ZoneView.{plain_zone};
+ghost use Rattle.jiff_core.specs.Calendar.{IsBetween};
+ghost use Rattle.gix_date.specs.Text.Numbers.{two_digit_value};
+ghost use Rattle.git_date_tool.specs.Zones.{IsFixedAt, IsOffsetZone, offset_in, signed, signed_clock, signed_hours};
+
 use jiff::tz::{Offset, TimeZone};
 
-/// The zone that always has the offset of a text: a sign, two digits of hours, and perhaps two of minutes, with a colon before
-/// them or without. `None` for any other text, and for an offset that no zone of `jiff` has.
-pub(crate) fn offset_zone(text: &str) -> Option<TimeZone<'static>> {
-    match Offset::from_seconds(offset_in(text)?) {
-        Ok(offset) => Some(TimeZone::fixed(offset)),
-        Err(_) => None,
+/// The zone that always has the offset of a text: a sign, two digits of hours to 25, and perhaps two of minutes, with a colon
+/// before them or without. `None` for any other text.
+pub(crate) fn offset_zone(text: &str) -> Option<TimeZone<'static>>
+    ensures { IsOffsetZone (offset_in text.now) (option_map plain_zone result) }
+{
+    match offset_in(text) {
+        Some(seconds) => Some(fixed_zone(seconds)),
+        None => None,
     }
 }
 
+/// The zone that is always so many seconds east of UTC.
+fn fixed_zone(seconds: i32) -> TimeZone<'static>
+    requires { IsBetween (neg_ℤ (pos 93_540)) (pos 93_540) seconds }
+    ensures { IsFixedAt seconds (plain_zone result) }
+{
+    let Ok(offset) = Offset::from_seconds(seconds) else {
+        unreachable!()
+    };
+    TimeZone::fixed(offset)
+}
+
 /// The seconds east of UTC.
-fn offset_in(text: &str) -> Option<i32> {
+#[tactic(auto, unfolding(crate::specs::Zones::offset_in))]
+fn offset_in(text: &str) -> Option<i32>
+    ensures value { result ≡ offset_in text.now }
+    ensures near { IfSome result (IsBetween (neg_ℤ (pos 93_540)) (pos 93_540)) }
+{
     match text.as_bytes() {
-        [sign, a, b] => signed(*sign, two_digits(*a, *b)?, 0),
-        [sign, a, b, c, d] => signed(*sign, two_digits(*a, *b)?, two_digits(*c, *d)?),
-        [sign, a, b, b':', c, d] => signed(*sign, two_digits(*a, *b)?, two_digits(*c, *d)?),
+        [sign, a, b] => signed_hours(*sign, *a, *b),
+        [sign, a, b, c, d] => signed_clock(*sign, *a, *b, *c, *d),
+        [sign, a, b, mark, c, d] => {
+            if *mark == b':' {
+                signed_clock(*sign, *a, *b, *c, *d)
+            } else {
+                None
+            }
+        }
         _ => None,
     }
 }
 
+/// The seconds of hours alone.
+fn signed_hours(sign: u8, tens: u8, ones: u8) -> Option<i32>
+    ensures value { result ≡ signed_hours sign tens ones }
+    ensures near { IfSome result (IsBetween (neg_ℤ (pos 93_540)) (pos 93_540)) }
+{
+    let hours = two_digits(tens, ones)?;
+    signed(sign, hours, 0)
+}
+
+/// The seconds of hours and minutes.
+fn signed_clock(sign: u8, a: u8, b: u8, c: u8, d: u8) -> Option<i32>
+    ensures value { result ≡ signed_clock sign a b c d }
+    ensures near { IfSome result (IsBetween (neg_ℤ (pos 93_540)) (pos 93_540)) }
+{
+    let hours = two_digits(a, b)?;
+    let minutes = two_digits(c, d)?;
+    signed(sign, hours, minutes)
+}
+
 /// The number of two digits.
-fn two_digits(tens: u8, ones: u8) -> Option<u8> {
+fn two_digits(tens: u8, ones: u8) -> Option<u8>
+    ensures value { result ≡ two_digit_value tens ones }
+    ensures small { IfSome result (λ n. n < 100) }
+{
     if tens.is_ascii_digit() && ones.is_ascii_digit() {
         Some(10 * (tens - b'0') + (ones - b'0'))
     } else {
@@ -30,10 +81,15 @@ fn two_digits(tens: u8, ones: u8) -> Option<u8> {
 }
 
 /// The seconds of hours and minutes east or west of UTC.
-fn signed(sign: u8, hours: u8, minutes: u8) -> Option<i32> {
+fn signed(sign: u8, hours: u8, minutes: u8) -> Option<i32>
+    ensures value { result ≡ signed sign hours minutes }
+    ensures near { IfSome result (IsBetween (neg_ℤ (pos 93_540)) (pos 93_540)) }
+{
+    if hours > 25 || minutes > 59 {
+        return None;
+    }
     let distance = 3600 * i32::from(hours) + 60 * i32::from(minutes);
     match sign {
-        _ if minutes > 59 => None,
         b'+' => Some(distance),
         b'-' => Some(-distance),
         _ => None,

@@ -1,16 +1,18 @@
 //! What the program does with a command line.
-ghost use Rattle.std.specs.Prelude.{◌≡◌, MatchResult, map, string_bytes};
+ghost use Rattle.std.specs.Prelude.{◌≡◌, MatchResult, map, option_map, string_bytes};
+ghost use Rattle.jiff.specs.ZoneView.{plain_zone};
 ghost use Rattle.gix_date_tool.specs.Messages.{Reports};
 ghost use Rattle.gix_date_tool.specs.Run.{change};
 ghost use Rattle.git_date_tool.specs.Command.{asked, asked_view};
-ghost use Rattle.git_date_tool.specs.Program.{EndsCommand, EndsInUsage, EndsRequest, EndsRun, EndsWithoutZone, Executes, IsInstantOf, IsNoMoment, IsNoQuery, IsNoStart, IsQuery, ShowsUsage, message_of, status_of};
+ghost use Rattle.git_date_tool.specs.Program.{EndsCommand, EndsInUsage, EndsRequest, EndsRun, EndsWithoutZone, Executes, IsMomentIn, IsNoMoment, IsNoQuery, IsQuery, ShowsUsage, message_of, no_zone_words, status_of};
+ghost use Rattle.git_date_tool.specs.Zones.{IsAskedZone};
 
 use crate::answers::Query;
 use crate::arguments::{Request, read_words};
 use crate::outcome::{NoNow, Outcome};
 use crate::runs::{run_over, run_through};
 use crate::wrong::WrongWords;
-use crate::zones::{ZoneSource, source_of, system_source};
+use crate::zones::source_asked;
 use gix_date::device::{Sink, Source, put_all};
 use gix_date::{Time, Zoned};
 use gix_date_tool::{NoMoment, Status, ToolError, write_message};
@@ -27,7 +29,9 @@ pub(crate) const USAGE: &[u8] =
 /// Does what the words of a command line, without the program's name, ask for: answers each text, or each line of the reader
 /// if there is no text, or writes the usage line if the words are invalid.
 ///
-/// The clock, the zones and `TZ` are those of the system. [`Status::Success`] if each text was read, [`Status::Failure`] if
+/// ZONE is an offset to 25:59, or else a POSIX rule, or else a name in the time zone database, or else the path of a TZif file.
+/// Without it the zone is the system's: that of `TZ`, or else of `/etc/localtime`, or else UTC. That the clock, `TZ`, the
+/// database and the files are the machine's is trusted: no contract can say what they hold. [`Status::Success`] if each text was read, [`Status::Failure`] if
 /// one was not or the run has a fault. Takes memory for a line, for zones and for the formats of gix-date.
 ///
 /// A line is put into the messages for what was ignored of a text, and one for a fault or what is wrong with the words. What
@@ -88,56 +92,13 @@ fn execute_request<
         (change (W.known writer.old) (W.known writer.new))
         (change (M.known messages.old) (M.known messages.new)) result }
 {
-    match request.zone {
-        Some(text) => {
-            let found = source_of(system, text);
-            execute_in(
-                system,
-                request,
-                found,
-                WrongWords::NoZone,
-                reader,
-                writer,
-                messages,
-            )
-        }
-        None => {
-            let found = system_source(system);
-            execute_in(
-                system,
-                request,
-                found,
-                WrongWords::NoSystemZone,
-                reader,
-                writer,
-                messages,
-            )
-        }
-    }
-}
-
-/// Does that in a zone. Without one the usage line is due, for this reason.
-fn execute_in<S: Clock + AllocGlobal, R: Source, W: Sink, M: Sink>(
-    system: &S,
-    request: Request<'_>,
-    found: Result<ZoneSource<'_>, Error>,
-    why: WrongWords,
-    reader: &mut R,
-    writer: &mut W,
-    messages: &mut M,
-) -> Outcome
-    requires { IsNoStart (asked_view request) why }
-    ensures { EndsRequest (asked_view request.entry) (change (R.known reader.old) (R.known reader.new))
-        (change (W.known writer.old) (W.known writer.new))
-        (change (M.known messages.old) (M.known messages.new)) result }
-{
-    let source = match found {
+    let source = match source_asked(system, request.zone) {
         Ok(source) => source,
-        Err(error) => return no_zone(error, why, writer),
+        Err(error) => return no_zone(error, request.zone, writer),
     };
     let zone = match source.zone() {
         Ok(zone) => zone,
-        Err(error) => return no_zone(error, why, writer),
+        Err(error) => return no_zone(error, request.zone, writer),
     };
     match query_of(system, request, zone) {
         Ok(query) => run(system.alloc(), request, &query, reader, writer, messages),
@@ -178,6 +139,7 @@ fn query_of<'z, S: Clock>(
     request: Request<'_>,
     zone: TimeZone<'z>,
 ) -> Result<Query<'z>, NoNow>
+    requires { IsAskedZone (asked_view request).zone (plain_zone zone) }
     ensures { MatchResult result (IsQuery (asked_view request.entry)) (IsNoQuery (asked_view request.entry)) }
 {
     match moment(system, request.now, zone) {
@@ -191,13 +153,24 @@ fn query_of<'z, S: Clock>(
     }
 }
 
-/// Without a zone: memory was refused, or the usage line is due.
-fn no_zone<W: Sink>(error: Error, why: WrongWords, writer: &mut W) -> Outcome
-    ensures { EndsWithoutZone why (change (W.known writer.old) (W.known writer.new)) result }
+/// Without the zone that is asked for: memory was refused, or the usage line is due.
+fn no_zone<W: Sink>(error: Error, asked: Option<&str>, writer: &mut W) -> Outcome
+    ensures { EndsWithoutZone (no_zone_words (option_map (λ text. text.now) asked.entry))
+        (change (W.known writer.old) (W.known writer.new)) result }
 {
     match error {
         Error::OutOfMemory => Outcome::Fault(ToolError::Memory),
-        _ => usage_outcome(writer, why),
+        _ => usage_outcome(writer, no_zone_words(asked)),
+    }
+}
+
+/// What is wrong where there is no zone.
+fn no_zone_words(asked: Option<&str>) -> WrongWords
+    ensures { result ≡ no_zone_words (option_map (λ text. text.now) asked.entry) }
+{
+    match asked {
+        Some(_) => WrongWords::NoZone,
+        None => WrongWords::NoSystemZone,
     }
 }
 
@@ -207,7 +180,7 @@ fn moment<'z, S: Clock>(
     now: Option<Time>,
     zone: TimeZone<'z>,
 ) -> Result<Zoned<'z>, NoNow>
-    ensures { MatchResult result (IsInstantOf now) (IsNoMoment now) }
+    ensures { MatchResult result (IsMomentIn now (plain_zone zone.entry)) (IsNoMoment now) }
 {
     match now {
         Some(time) => match Timestamp::from_second(time.seconds) {
