@@ -32,7 +32,8 @@ pub use Rattle.gix_date.specs.Printing.NamedTexts.{short_text, rfc2822_text, git
 pub use Rattle.gix_date.specs.Text.Numbers.{decimal_text}
 pub use Rattle.gix_date.specs.Values.{ComparesParts, AgreesWith, IsEquality, FeedsParts, FeedsAlike}
 pub use Rattle.gix_date.specs.Families.Patterns.{Accepts, IsMeaning, time_answer, real_day_answer, short_layout, rfc2822_layout, iso8601_layout, iso8601_strict_layout, gitoxide_layout, default_layout, short_answer, rfc2822_answer, iso8601_answer, iso8601_strict_answer, gitoxide_answer, default_answer, max_date_offset}
-pub use Rattle.gix_date.specs.Printing.Formats.{Prints, PrintsSeconds, PrintsHeader, PrintsPattern, PrintsOrSeconds, HasNoText, HasNoPatternText, PrintsPatternOrSeconds, IsShown, AtMoment}
+pub use Rattle.gix_date.specs.Printing.Formats.{IsTextOf, IsPatternText, Prints, PrintsSeconds, PrintsHeader, PrintsPattern, PrintsOrSeconds, HasNoText, HasNoPatternText, PrintsPatternOrSeconds, IsShown, AtMoment}
+pub use Rattle.gix_date.specs.Printing.FormatBuf.{IsNamedPattern, HasNamedText, HasBufText}
 pub use Rattle.gix_date.specs.Printing.PrintedTimes.{IsPrintedAs, PrintsText}
 pub use Rattle.gix_date.specs.Families.Raw.{raw_time, raw_time_by, max_raw_hours, OffsetRule, is_quarter_offset, is_minute_offset, allows, max_wide_hours, max_wide_minutes}
 pub use Rattle.gix_date.specs.Relative.Dates.{AreNamedOnce, AreConvertible, relative_date, RelativeDate, MinusSeconds, MinusPairs, RelativeOutcome, IsNamed, Reaches}
@@ -45,3 +46,4 @@ pub use Rattle.jiff.specs.Words.{plain_zone, plain_zoned, IsOffsetSeconds, IsFix
 pub use Rattle.gix_date_laws.specs.AnyZone.{IsWord, NamesInstant, Keeps, KeepsWay, SubtractAlike, TextsNameAlike, KeepClock, AreWholeDays, ResolvesNoneLater, long_seconds, EachTakes, DateNamesNoneLater}
 pub use Rattle.gix_date_laws.specs.OffsetTexts.{WritesOffset, IsCompactOffset, IsColonOffset, IsMailOffset, mail_zones}
 pub use Rattle.gix_date_laws.specs.PrintedTexts.{HaveUnlikeTexts, SortBefore}
+pub use Rattle.gix_date_laws.specs.Zones.{IsUsualZone, KnownAreUsual, LeastGoesOn, TablesAreUsual}

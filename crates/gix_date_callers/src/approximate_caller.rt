@@ -1,9 +1,13 @@
-//! Callers of `git_date::approxidate`: docs/GIT_DATES.md says what each is for.
-ghost use Rattle.std.specs.Prelude.{◌≡◌, true, Ok, IfSome, IfOk};
+//! Callers of `git_date::approxidate` and `git_date::show_date`: docs/GIT_DATES.md says what each is for.
+ghost use Rattle.std.specs.Prelude.{◌≡◌, true, false, Some, None, Ok, IfSome, IfOk, MatchResult};
 ghost use Rattle.git_date.specs.Approximate.{ApproximateOutcome};
+ghost use Rattle.git_date.specs.Show.{shown};
+ghost use Rattle.git_date.specs.ShowClocks.{moment_of};
 ghost use Rattle.git_date.specs.declared.approximate.answer.Approximate.{Approximate as Guess};
+ghost use Rattle.git_date.specs.declared.error.DateError.TheVariants.{Range};
+ghost use Rattle.git_date.specs.declared.mode.DateKind.TheVariants.{Human};
 
-use git_date::{DateError, approxidate};
+use git_date::{DateError, DateKind, DateMode, DateText, approxidate, show_date};
 use gix_date::{Time, Zoned};
 
 /// The time of `REF@{TEXT}`. `None` where Git finds no such reference, since nothing of the text was understood, or where the
@@ -38,4 +42,17 @@ pub fn since<'a>(text: &'a str, now: Zoned<'_>) -> Result<(Time, Option<&'a str>
 /// The text from a place on.
 fn rest_from(text: &str, place: Option<usize>) -> Option<&str> {
     text.get(place?..)
+}
+
+/// A time as `git log --date=human` shows it at a moment.
+pub fn human(time: Time, now: Zoned<'_>) -> Result<DateText, DateError>
+    ensures { MatchResult result
+        (λ text. shown (moment_of now.entry) (record { kind = Human; local = false }) time ≡ Some text.bytes)
+        (λ e. (e ≡ Range) × (shown (moment_of now.entry) (record { kind = Human; local = false }) time ≡ None)) }
+{
+    let mode = DateMode {
+        kind: DateKind::Human,
+        local: false,
+    };
+    show_date(time, mode, now)
 }

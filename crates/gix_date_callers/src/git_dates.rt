@@ -1,4 +1,5 @@
 //! Dates as Git reads them: what the rows cannot say.
+use crate::approximate_caller::{human, reference_time, since};
 use crate::git_date_caller::{date_and_ignored, mail_time};
 use git_date::{DateError, ReadDate, parse_date};
 use gix_date::Time;
@@ -106,5 +107,20 @@ fn a_text_without_an_offset_is_of_the_moments_zone(rt: HostRuntime) -> Result<()
     let now = Time::new(1_251_660_000, -16_200).to_zoned()?;
     let date = parse_date("2005-04-07 22:13:13", now)?;
     assert_eq!(rt; date.time, Time::new(1_112_928_193, -16_200));
+    Ok(())
+}
+
+#[test]
+fn dates_of_people_are_read_and_shown_as_git_does(rt: HostRuntime) -> Result<(), Fail> {
+    let now = Time::new(1_251_660_000, 0).to_zoned()?;
+    let noon = Time::new(1_251_460_800, 0);
+    assert_eq!(rt; reference_time("last friday at noon", now), Some(noon));
+    assert_eq!(rt; reference_time("banana", now), None);
+    let (time, ignored) = since("5 mins ago", now)?;
+    assert_eq!(rt; time, Time::new(1_249_500_000, 0));
+    assert_eq!(rt; ignored, Some("mins ago"));
+    let shown = human(Time::new(1_251_300_000, 7200), now)?;
+    assert_eq!(rt; shown.as_str(), "Wed 17:20 +0200");
+    assert_eq!(rt; human(Time::new(-1, 0), now).err(), Some(DateError::Range));
     Ok(())
 }

@@ -1,5 +1,5 @@
 //! More callers of `gix_date`: docs/CALLING.md says what each is for.
-ghost use Rattle.std.specs.Prelude.{◌≡◌, ◌≢◌, ◌↔◌, ◌<◌, ◌-ℤ◌, pos, true, false, IsTrue, IsSome, Some, None, Err, Ok, IfSome, IfNone, IsOk, IsOkAnd, IsSomeAnd, IfOk, MatchResult, option_map, replicate, string_bytes, ℤ};
+ghost use Rattle.std.specs.Prelude.{◌≡◌, ◌≢◌, ◌↔◌, ◌⊎◌, ◌<◌, ◌-ℤ◌, pos, true, false, IsTrue, IsSome, Some, None, Err, Ok, IfSome, IfNone, IsOk, IsOkAnd, IsSomeAnd, IfOk, MatchResult, option_map, replicate, string_bytes, ℤ};
 ghost use Rattle.std.specs.Str.{IsUtf8};
 ghost use Rattle.gix_date.specs.Families.Answer.{Absolute, Relative};
 ghost use Rattle.gix_date.specs.Header.Canonical.{is_canonical_header};
@@ -8,7 +8,8 @@ ghost use Rattle.gix_date.specs.Families.Order.{first_family, first_family_by, P
 ghost use Rattle.gix_date.specs.Relative.FixedZones.{earlier};
 ghost use Rattle.gix_date.specs.Header.Reading.{header_time};
 ghost use Rattle.gix_date.specs.Header.Text.{header_text};
-ghost use Rattle.gix_date.specs.Printing.Formats.{PrintsOrSeconds, PrintsPatternOrSeconds};
+ghost use Rattle.gix_date.specs.Printing.Formats.{IsTextOf, PrintsOrSeconds, PrintsPatternOrSeconds};
+ghost use Rattle.gix_date.specs.Printing.FormatBuf.{HasNamedText};
 ghost use Rattle.gix_date.specs.Families.Raw.{is_minute_offset, raw_time, raw_time_by};
 ghost use Rattle.gix_date.specs.Printing.ReadingBack.{RoundTrips, IsMinuteOffset, HasClock};
 ghost use Rattle.gix_date.specs.Relative.Dates.{RelativeDate, relative_date};
@@ -16,7 +17,7 @@ ghost use Rattle.gix_date.specs.Header.TimeBuf.{text_in};
 ghost use Rattle.gix_date.specs.Fields.Zoned.{IsConvertible, is_instant, time_in, time_in_utc};
 ghost use Rattle.gix_date.specs.declared.error.Error.TheVariants.{Memory, OffsetTooWide, Range};
 ghost use Rattle.gix_date.specs.declared.time.Time.{Time as Read};
-ghost use Rattle.gix_date.specs.declared.time.format.Format.TheVariants.{Custom};
+ghost use Rattle.gix_date.specs.declared.time.format.Format.TheVariants.{Custom, Unix};
 ghost use Rattle.gix_date.specs.Relative.Steps.{zone_of};
 ghost use Rattle.jiff.specs.Words.{plain_zone, zoned_nanos, nanos_of_seconds};
 ghost use Rattle.jiff.specs.declared.zoned.Zoned.{Zoned as Moment};
@@ -25,8 +26,10 @@ use crate::caller::date_typed;
 use gix_date::bytes::text_of;
 use gix_date::device::Device;
 use gix_date::parsing::TimeBuf;
-use gix_date::time::CustomFormat;
-use gix_date::time::format::{DEFAULT, GIT_RFC2822, GITOXIDE, ISO8601, ISO8601_STRICT, RFC2822};
+use gix_date::time::format::{
+    DEFAULT, GIT_RFC2822, GITOXIDE, ISO8601, ISO8601_STRICT, RFC2822, UNIX,
+};
+use gix_date::time::{CustomFormat, FormatBuf};
 use gix_date::{
     Error, ParseError, RawOffsets, Time, is_canonical_header, laws, parse, parse_header,
     parse_no_alloc, parse_with,
@@ -141,6 +144,20 @@ pub fn log_date_by(alloc: Global, time: Time, pattern: &str) -> Result<String, E
     ensures { PrintsPatternOrSeconds time pattern.now result }
 {
     time.format_by_pattern_or_unix(alloc, pattern)
+}
+
+/// The date of a line in a log without memory: the seconds of a time that has no such text.
+pub fn log_text(time: Time, format: CustomFormat) -> FormatBuf
+    ensures { IsTextOf time (Custom format) result.bytes
+        ⊎ ((¬ (HasNamedText time format.pattern.now)) × IsTextOf time Unix result.bytes) }
+{
+    if let Some(text) = time.format_to_buf(format.into()) {
+        return text;
+    }
+    let Some(seconds) = time.format_to_buf(UNIX) else {
+        unreachable!();
+    };
+    seconds
 }
 
 /// The text by which a program stores a time, in one of the six named formats with a clock; `None` for a time that need

@@ -3,8 +3,8 @@ use crate::caller::{commit_time, date_meant, date_typed, iso_date, kept_in_heade
 use crate::machine::Machine;
 use crate::more_callers::{
     absolute_date, asks_for_a_moment, authored, authored_in_utc, day_before, day_before_in_zone,
-    doubled, header_bytes, kept_by_each, kept_in_date, log_date, read_canonical, resolved, shown,
-    stored_date,
+    doubled, header_bytes, kept_by_each, kept_in_date, log_date, log_text, read_canonical,
+    resolved, shown, stored_date,
 };
 use gix_date::device::Device;
 use gix_date::parsing::TimeBuf;
@@ -145,6 +145,10 @@ fn callers_print_dates(rt: HostRuntime) -> Result<(), Fail> {
     )?;
     assert_eq!(rt; logged.as_str(), "Mon Aug 8 12:45:06 2022 +0800");
     let beyond = log_date(rt.alloc(), Time::new(5, 93_600), format::DEFAULT)?;
+    assert_eq!(rt; beyond.as_str(), "5");
+    let logged = log_text(Time::new(1_659_933_906, 28_800), format::DEFAULT);
+    assert_eq!(rt; logged.as_str(), "Mon Aug 8 12:45:06 2022 +0800");
+    let beyond = log_text(Time::new(5, 93_600), format::DEFAULT);
     assert_eq!(rt; beyond.as_str(), "5");
     let iso = iso_date(rt.alloc(), Time::new(1_660_874_655, 28_800))?;
     assert_eq!(rt; iso.as_str(), "2022-08-19 10:04:15 +0800");
@@ -300,6 +304,7 @@ fn laws_are_called_for_what_they_state_in_a_zone() -> Result<(), Fail> {
     gix_date_laws::units_agree(&moment, &[(1, 86_400)], &[(24, 3600)]);
     gix_date_laws::long_none_later(&moment, &[(1, 604_800)]);
     gix_date_laws::one_offset(&moment);
+    gix_date_laws::usual_zones(&moment);
     gix_date_laws::none_later("2 hours ago", &moment);
     gix_date_laws::yesterday_kept(&moment);
     gix_date_laws::seconds_kept(&moment, &[(1, 86_400)]);

@@ -31,6 +31,37 @@ fn a_format_may_have_any_pattern(rt: HostRuntime) -> Result<(), Fail> {
     Ok(())
 }
 
+// What Git 2.39.5 prints of the first time. The bounds of four-digit years are Python's.
+#[test]
+fn named_formats_have_texts_by_value(rt: HostRuntime) {
+    let time = Time::new(1_660_874_655, 28_800);
+    let first = Time::new(-30_610_224_000, 0);
+    for (time, format, text) in [
+        (time, ISO, "2022-08-19 10:04:15 +0800"),
+        (time, RAW, "1660874655 +0800"),
+        (time, UNIX, "1660874655"),
+        (Time::MAX, UNIX, "9223372036854775807"),
+        (first, ISO, "1000-01-01 00:00:00 +0000"),
+    ] {
+        assert!(rt;
+            matches!(time.format_to_buf(format), Some(buf) if buf.as_str() == text),
+            "{text}"
+        );
+    }
+    let year = Format::Custom(CustomFormat::new("%Y"));
+    for (time, format) in [
+        (time, year),
+        (Time::new(0, 360_000), RAW),
+        (Time::new(0, 93_600), ISO),
+        (Time::new(253_402_207_201, 0), ISO),
+        (Time::new(-30_610_224_001, 0), ISO),
+        (Time::new(0, 61), ISO),
+    ] {
+        assert!(rt; time.format_to_buf(format).is_none(), "{time:?}");
+    }
+    assert!(rt; time.format_by_pattern_to_buf("%Y").is_none(), "year");
+}
+
 #[test]
 fn a_text_that_is_refused_memory_is_refused(rt: HostRuntime) -> Result<(), Fail> {
     let time = Time::new(1_660_874_655, 28_800);

@@ -6,7 +6,7 @@ use crate::moments::{ignored_place, parsed, parsed_carefully, read_date, shown_d
 use git_date::DateMode;
 use gix_date::device::Device;
 use gix_date::parsing::TimeBuf;
-use gix_date::time::Format;
+use gix_date::time::{Format, FormatBuf};
 use gix_date::{CarefulOptions, Error, RawOffsets, Time, parse_header};
 use gix_signature::{SignatureError, SignatureRef, write_line};
 use jiff::Timestamp;
@@ -87,7 +87,7 @@ fn printed(
         }
         "format_by_pattern" => {
             let pattern = row.text()?;
-            Some(row.time()?.format_by_pattern(alloc, pattern).into())
+            Some(pattern_text(alloc, pattern, row.time()?))
         }
         _ => None,
     }
@@ -196,7 +196,8 @@ fn mode_name(alloc: Global, name: &str) -> Answer {
     }
 }
 
-/// The text of a time in a format. `format_or_unix` has to answer the same, or the seconds where there is none.
+/// The text of a time in a format. `format_or_unix` has to answer the same, or the seconds where there is none, and
+/// `format_to_buf` the same, or no text where it owes none.
 fn format_text(alloc: Global, format: Format, time: Time) -> Answer {
     let (text, always) = (
         time.format(alloc, format),
@@ -208,7 +209,44 @@ fn format_text(alloc: Global, format: Format, time: Time) -> Answer {
         (Err(_), Ok(always), Ok(seconds)) => always.as_str() == seconds.as_str(),
         _ => false,
     };
-    if is_same { text.into() } else { Answer::APART }
+    let is_owed = match format {
+        Format::Custom(_) => has_four_digit_fields(time),
+        Format::Unix | Format::Raw => true,
+    };
+    if is_same && agrees(&text, time.format_to_buf(format), is_owed) {
+        text.into()
+    } else {
+        Answer::APART
+    }
+}
+
+/// The text of a time by a pattern, where the call that takes no memory gives the same or none.
+fn pattern_text(alloc: Global, pattern: &str, time: Time) -> Answer {
+    let text = time.format_by_pattern(alloc, pattern);
+    if agrees(&text, time.format_by_pattern_to_buf(pattern), false) {
+        text.into()
+    } else {
+        Answer::APART
+    }
+}
+
+/// Whether a text by value is the text of `format`. It may be missing where there is none, or where none is owed.
+fn agrees(text: &Result<String, Error>, buf: Option<FormatBuf>, is_owed: bool) -> bool {
+    match (text, buf) {
+        (Ok(text), Some(buf)) => text.as_str() == buf.as_str(),
+        (Ok(_), None) => !is_owed,
+        (Err(_), buf) => buf.is_none(),
+    }
+}
+
+/// Whether the clock of a time shows a year from 1000 to 9999 and its offset is whole minutes.
+fn has_four_digit_fields(time: Time) -> bool {
+    match time.to_zoned() {
+        Ok(zoned) => {
+            (1000..=9999).contains(&zoned.to_plain().datetime.date.year) && time.offset % 60 == 0
+        }
+        Err(_fault) => false,
+    }
 }
 
 /// The name, the email and the time of a line, with the brackets between them.
