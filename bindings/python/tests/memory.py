@@ -1,4 +1,4 @@
-"""Refuses each request for memory of each call in its turn: it has to answer MemoryError, and the next time as ever.
+"""Refuses each request for memory of each call in its turn: it has to answer MemoryError, keep no memory, and answer as ever then.
 
 It runs with refuse.c loaded before others, and with PYTHONMALLOC=malloc, so that all requests go there.
 """
@@ -16,6 +16,8 @@ PROCESS = ctypes.CDLL(None)
 PROCESS.refuse.restype = None
 PROCESS.refuse.argtypes = [ctypes.c_long]
 PROCESS.none_refused.restype = ctypes.c_int
+PROCESS.count_from_now.restype = None
+PROCESS.more_held.restype = ctypes.c_long
 
 TIME, FILE = (1660797906, 28800), (FOLDER / "new_york_2023.tzif").read_bytes()
 NOWS = [(1698400800, 0, 7200), (1698400800, 0, "EST5EDT,M3.2.0,M11.1.0"), (1698400800, 0, FILE)]
@@ -55,16 +57,27 @@ def refused(call: Callable[..., object], arguments: Tuple[object, ...], number: 
     return False
 
 
+def keeps(call: Callable[..., object], arguments: Tuple[object, ...], number: int) -> bool:
+    """Whether each of some refused calls keeps memory. The first may, since Python keeps some blocks for later."""
+    more: List[int] = []
+    for _ in range(5):
+        PROCESS.count_from_now()
+        refused(call, arguments, number)
+        more.append(PROCESS.more_held())
+    return min(more) > 0
+
+
 def main() -> None:
     requests: Dict[str, int] = {}
     for name, call, arguments in CALLS:
         due, number = call(*arguments), 1
         while refused(call, arguments, number):
             assert call(*arguments) == due
+            assert not keeps(call, arguments, number), f"{call} keeps memory if request {number} is refused"
             number += 1
         requests[name] = requests.get(name, 0) + number - 1
     assert len(requests) == 15 and all(requests[name] > 0 for name in requests if name != "is_canonical_header"), requests
-    print(f"each of {sum(requests.values())} requests for memory is refused: MemoryError")
+    print(f"each of {sum(requests.values())} requests for memory is refused: MemoryError, and none is kept")
 
 
 if __name__ == "__main__":

@@ -8,12 +8,13 @@ from __future__ import annotations
 import random
 import subprocess
 import sys
-from typing import Callable, List
+from typing import Callable, List, Optional
 
 import gix_date
 from gix_date import GixDateError, Moment, RawOffsets, Signature, Time, WithoutOffset, git
 
 import rows
+from rows import Text
 
 NOW = Moment(1698400800, 0, 7200)
 
@@ -37,45 +38,52 @@ def texts(count: int) -> List[bytes]:
         text = bytearray(b"".join(some))
         if text and source.random() < 0.3:
             text[source.randrange(len(text))] = source.choice(b"0123456789 -+:<>.azAZ\x00\x80\xc3\xff")
+        if source.random() < 0.1:
+            at = source.randrange(len(text) + 1)
+            text[at:at] = source.choice("é\u2003\U0001f600").encode()
         made.append(bytes(text).replace(b"\n", b" "))
     return made
 
 
-def told(call: Callable[[bytes], str], text: bytes) -> str:
+def told(call: Callable[[Text], str], text: Text) -> str:
     try:
         return call(text)
     except GixDateError as error:
-        return f"{error.status}|" + ("" if call in WITHOUT_PLACE else f"{-1 if error.place is None else error.place}|")
+        return f"{error.status}|" + ("" if call in WITHOUT_PLACE else of_place(text, error.place))
 
 
 def of_time(time: Time) -> str:
     return f"0 {time.seconds} {time.offset}|"
 
 
-def header(text: bytes) -> str:
+def of_place(text: Text, place: Optional[int]) -> str:
+    return f"{-1 if place is None else rows.in_bytes(text, place)}|"
+
+
+def header(text: Text) -> str:
     return of_time(gix_date.parse_header(text))
 
 
-def date(text: bytes) -> str:
+def date(text: Text) -> str:
     return of_time(gix_date.parse(text, NOW))
 
 
-def careful(text: bytes) -> str:
+def careful(text: Text) -> str:
     rule, meaning = RawOffsets.WHOLE_MINUTES, WithoutOffset.MOMENTS_ZONE
     return of_time(gix_date.parse_carefully(text, NOW, raw_offsets=rule, without_offset=meaning)) + "-1|"
 
 
-def exact(text: bytes) -> str:
+def exact(text: Text) -> str:
     read = git.parse_date(text, NOW)
-    return of_time(read.time) + f"{-1 if read.ignored is None else read.ignored}|"
+    return of_time(read.time) + of_place(text, read.ignored)
 
 
-def approximate(text: bytes) -> str:
+def approximate(text: Text) -> str:
     read = git.approxidate(text, NOW)
-    return of_time(read.time) + f"{-1 if read.ignored is None else read.ignored}|"
+    return of_time(read.time) + of_place(text, read.ignored)
 
 
-def signature(text: bytes) -> str:
+def signature(text: Text) -> str:
     try:
         cut = Signature.from_line(text)
     except GixDateError as error:
@@ -94,9 +102,10 @@ def main() -> None:
     due = run.stdout.decode().splitlines()
     assert len(due) == count, f"{len(due)} answers to {count} texts"
     for text, line in zip(given, due):
-        answer = "".join(told(call, text) for call in CALLS)
-        if answer != line:
-            sys.exit(f"{text!r}: C answers {line}, and Python {answer}")
+        for one in rows.both(text):
+            answer = "".join(told(call, one) for call in CALLS)
+            if answer != line:
+                sys.exit(f"{one!r}: C answers {line}, and Python {answer}")
     read = sum("|0 " in line for line in due)
     assert count // 10 < read < count, f"{read} of {count} texts are dates"
     print(f"{count} random texts have the answers of the library through C; {read} of them are dates")

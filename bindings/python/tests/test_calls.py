@@ -2,14 +2,18 @@
 
 from __future__ import annotations
 
+import copy
+import dataclasses
 import io
+import mmap
 import pickle
 import sys
+import time
 import zoneinfo
 from array import array
 from datetime import datetime, timedelta, timezone, tzinfo
 from pathlib import Path
-from typing import Callable, List, Optional, Union
+from typing import Callable, Iterator, List, Optional, Tuple, Type, Union
 from zoneinfo import ZoneInfo
 
 import pytest
@@ -18,6 +22,8 @@ import gix_date
 from gix_date import (
     _library,
     BadPart,
+    BeyondDatetime,
+    Format,
     GixDateError,
     InvalidInstant,
     InvalidTime,
@@ -27,6 +33,7 @@ from gix_date import (
     NaiveDatetime,
     NoSignature,
     NotText,
+    Pattern,
     RawOffsets,
     Signature,
     Texts,
@@ -44,6 +51,7 @@ from gix_date import (
 from gix_date.moments import tzif_of
 
 Text = Union[str, bytes]
+BROKEN: List[Text] = [b"\xff", "\ud800", "@5\udcff"]
 NEW_YORK = ZoneInfo("America/New_York")
 AFTER_SUMMER = datetime(2023, 11, 20, 12, tzinfo=NEW_YORK)
 
@@ -53,8 +61,7 @@ def test_texts_are_str_or_bytes() -> None:
     for other in (bytearray(b"@5"), 5, None):
         with pytest.raises(TypeError):
             parse(other)  # type: ignore[arg-type]
-    broken_texts: List[Text] = [b"\xff", "\ud800", "@5\udcff"]
-    for broken in broken_texts:
+    for broken in BROKEN:
         with pytest.raises(NotText):
             parse(broken)
 
@@ -88,16 +95,65 @@ def test_a_place_is_an_index_into_the_text() -> None:
     assert in_bytes.value.text[: in_bytes.value.place].decode() == in_str.value.text[: in_str.value.place]
 
 
+def test_a_refusal_has_the_refused_text() -> None:
+    git, now = gix_date.git, Moment(1698400800)
+    calls: List[Tuple[Callable[[Text], object], str, Type[GixDateError], Optional[int]]] = [
+        (parse, "banana", UnknownFormat, None),
+        (parse_header, "1:2", InvalidTime, None),
+        (Signature.from_line, "A", NoSignature, None),
+        (lambda text: parse_carefully(text, now), "30 min ago", Unclear, 3),
+        (lambda text: git.parse_date(text, now), "1900-02-03 10:00 2009 +0000", git.YearRefused, 0),
+        (lambda text: git.parse_date(text, now), "2008-02-14", git.Unreadable, None),
+        (lambda text: git.approxidate(text, now), "200 years ago", git.BackTooFar, 0),
+        (lambda text: git.expiry_date(text, now), "friday", git.Unreadable, None),
+        (git.DateMode.of_name, "format:%Y", git.UnknownMode, None),
+        (lambda text: git.show_date(Time(0, 0), text, now), "banana", git.UnknownMode, None),
+        (Time(0, 0).format, "%", Pattern, None),
+    ]
+    for call, text, kind, place in calls:
+        both: List[Text] = [text, text.encode()]
+        for given in both:
+            with pytest.raises(GixDateError) as caught:
+                call(given)
+            error = caught.value
+            assert (type(error), error.text, error.place) == (kind, given, place)
+            assert type(error.text) is type(given)
+        for broken in BROKEN:
+            with pytest.raises(NotText) as not_text:
+                call(broken)
+            assert (not_text.value.text, not_text.value.place) == (broken, None)
+
+
 def test_refusals_pickle() -> None:
-    error = pickle.loads(pickle.dumps(Unclear("text", 3)))
-    assert (type(error), error.text, error.place) == (Unclear, "text", 3)
+    for error in (Unclear("text", 3), NaiveDatetime(), gix_date.git.UnknownMode("x"), gix_date.git.Range()):
+        for again in (pickle.loads(pickle.dumps(error)), copy.copy(error)):
+            assert type(again) is type(error)
+            assert (again.text, again.place, str(again), repr(again)) == (error.text, error.place, str(error), repr(error))
+    assert repr(Unclear("text", 3)) == "Unclear('text', 3)"
+
+
+def all_refusals(below: Type[GixDateError]) -> Iterator[Type[GixDateError]]:
+    for error in below.__subclasses__():
+        yield error
+        yield from all_refusals(error)
 
 
 def test_each_refusal_has_its_own_status_and_message() -> None:
-    statuses = {error.status: error.message() for error in GixDateError.__subclasses__() if hasattr(error, "status")}
-    assert sorted(statuses) == [1, *range(4, 14), *range(15, 23)]
-    assert len(set(statuses.values())) == len(statuses)
-    assert "unknown status" not in statuses.values()
+    errors = [error for error in all_refusals(GixDateError) if error.__module__ in ("gix_date.errors", "gix_date.git")]
+    assert sorted(error.status for error in errors if error.status is not None) == [1, *range(4, 14), *range(15, 23)]
+    assert {error for error in errors if error.status is None} == {NaiveDatetime, BeyondDatetime, gix_date.git.UnknownMode}
+    messages = {str(error()) for error in errors}
+    assert len(messages) == len(errors)
+    assert not messages & {"unknown status", str(GixDateError())}
+
+
+class OwnError(GixDateError):
+    """A refusal of a caller."""
+
+
+def test_callers_may_have_refusals_of_their_own() -> None:
+    assert str(OwnError("text", 3)) == f"{GixDateError.message()}, at index 3"
+    assert isinstance(OwnError(), ValueError)
 
 
 def test_a_naive_moment_is_refused() -> None:
@@ -106,8 +162,35 @@ def test_a_naive_moment_is_refused() -> None:
     for call in calls:
         with pytest.raises(NaiveDatetime):
             call(b"2 days ago", datetime(2023, 10, 27))
-    with pytest.raises(TypeError):
-        parse("2 days ago", 1698400800)  # type: ignore[arg-type]
+    for other in (1698400800, (1698400800, 0, 0), datetime(2023, 10, 27).date()):
+        with pytest.raises(TypeError, match="^a moment has to be an aware datetime or a Moment, not "):
+            parse("2 days ago", other)  # type: ignore[arg-type]
+
+
+class Odd(tzinfo):
+    """A zone of no known kind, with what it answers."""
+
+    def __init__(self, answer: Callable[[datetime], Optional[timedelta]]) -> None:
+        self.answer = answer
+
+    def utcoffset(self, at: Optional[datetime]) -> Optional[timedelta]:
+        return None if at is None else self.answer(at)
+
+    def dst(self, at: Optional[datetime]) -> timedelta:
+        return timedelta(0)
+
+    def tzname(self, at: Optional[datetime]) -> str:
+        return "odd"
+
+
+def test_zones_may_refuse() -> None:
+    for call in (Moment.from_datetime, Time.from_datetime):
+        with pytest.raises(NaiveDatetime):
+            call(AFTER_SUMMER.replace(tzinfo=Odd(lambda at: None)))
+        with pytest.raises(ZeroDivisionError):
+            call(AFTER_SUMMER.replace(tzinfo=Odd(lambda at: timedelta(1 // 0))))
+        with pytest.raises(InvalidZone):
+            call(AFTER_SUMMER.replace(tzinfo=Odd(lambda at: timedelta(microseconds=-1))))
 
 
 def test_a_zone_is_used_by_its_own_data() -> None:
@@ -123,21 +206,9 @@ def test_a_zone_is_used_by_its_own_data() -> None:
     assert local == Time.from_datetime(datetime(2023, 7, 1, 10, tzinfo=NEW_YORK))
 
 
-class Odd(tzinfo):
-    """A zone of no known kind."""
-
-    def utcoffset(self, at: Optional[datetime]) -> timedelta:
-        return timedelta(hours=-4 if at is not None and at.month < 11 else -5)
-
-    def dst(self, at: Optional[datetime]) -> timedelta:
-        return timedelta(0)
-
-    def tzname(self, at: Optional[datetime]) -> str:
-        return "odd"
-
-
 def test_other_zones_have_the_offset_at_the_moment() -> None:
-    assert parse("1 month ago", AFTER_SUMMER.replace(tzinfo=Odd())) == Time(1697821200, -18000)
+    odd = Odd(lambda at: timedelta(hours=-4 if at.month < 11 else -5))
+    assert parse("1 month ago", AFTER_SUMMER.replace(tzinfo=odd)) == Time(1697821200, -18000)
     with (Path(zoneinfo.TZPATH[0]) / "America/New_York").open("rb") as file:
         keyless = ZoneInfo.from_file(file)
         file.seek(0)
@@ -156,19 +227,45 @@ def test_a_file_may_be_in_the_package_tzdata(tmp_path: Path, monkeypatch: pytest
     assert tzif_of("Nowhere/City", ("/nowhere",)) == b"bytes"
     assert tzif_of("Nowhere/Else", ("/nowhere",)) is None
     assert tzif_of("Nothing/City", ("/nowhere",)) is None
-    for outside in ("../City", "/etc/hostname", "", ".", "Nowhere/../City"):
+    for outside in ("../City", "/etc/hostname", "", ".", "Nowhere/../City", "Ci\0ty", "Nowhere/Ci\0ty"):
         assert tzif_of(outside, (str(folder),)) is None
 
 
+def test_files_are_looked_for_as_zoneinfo_does(tmp_path: Path) -> None:
+    for name in ("first", "second"):
+        (tmp_path / name).mkdir()
+        (tmp_path / name / "Both").write_bytes(name.encode())
+    (tmp_path / "second/One").write_bytes((Path(zoneinfo.TZPATH[0]) / "Asia/Tokyo").read_bytes())
+    (tmp_path / "first/One").mkdir()
+    folders = (str(tmp_path / "first"), str(tmp_path / "second"))
+    assert tzif_of("Both", folders) == b"first"
+    zoneinfo.reset_tzpath(folders)
+    try:
+        assert parse("1 hour ago", datetime(2024, 1, 5, tzinfo=ZoneInfo("One"))) == Time(1704376800, 32400)
+        assert Moment.from_datetime(datetime(2024, 1, 5, tzinfo=ZoneInfo("One"))).zone == (tmp_path / "second/One").read_bytes()
+    finally:
+        zoneinfo.reset_tzpath()
+
+
+class East(int):
+    """An offset of a caller."""
+
+
 def test_moments_beyond_datetimes() -> None:
+    assert parse("1 hour ago", Moment(0, 0, East(3600))) == Time(-3600, 3600)
     assert parse("1 hour ago", Moment(0, 0, "JST-9")) == Time(-3600, 32400)
     assert parse("yesterday", Moment(1698400800, 0, 93599)).offset == 93599
     with pytest.raises(InvalidZone):
         parse("yesterday", Moment(0, 0, 93600))
     with pytest.raises(InvalidZone):
         parse("yesterday", Moment(0, 0, b"no file"))
-    with pytest.raises(InvalidInstant):
-        parse("yesterday", Moment(253402207201))
+    first, last = -377705023201, 253402207200
+    for instant in (Moment(first), Moment(first, 999999999), Moment(last, -999999999), Moment(last, 999999999)):
+        assert parse("@5", instant) == Time(5, 0)
+    beyond = [(first - 1, 0), (last + 1, 0), (last + 1, -1), (first, -1), (0, 10**9), (0, -(10**9))]
+    for seconds, nanoseconds in beyond:
+        with pytest.raises(InvalidInstant):
+            parse("@5", Moment(seconds, nanoseconds))
     with pytest.raises(OverflowError):
         parse("yesterday", Moment(2**63))
     with pytest.raises(OverflowError):
@@ -181,24 +278,64 @@ def test_options_are_those_of_the_library() -> None:
     assert parse("1 +0007", raw_offsets=RawOffsets.WHOLE_MINUTES) == Time(1, 420)
     with pytest.raises(UnknownFormat):
         parse("1 +0007")
+    lines = b"1 +0007"
+    assert [type(answer) for answer in parse_lines(lines)] == [UnknownFormat] == [
+        type(answer) for answer in parse_lines_into((array("q"), array("i")), lines).values()
+    ]
+    with pytest.raises(GixDateError):
+        parse_carefully("1660797906 +0007")
+    assert parse_carefully("1660797906 +0007", raw_offsets=RawOffsets.WHOLE_MINUTES) == Time(1660797906, 420)
+    assert parse_carefully("2024-01-05 10:00", Moment(0, 0, 3600)) == Time(1704448800, 0)
     for raw in (2, -1):
         assert _library.parse("1", raw, None)[0] == _library.parse_carefully("1", raw, 0, 0, None)[0] == 2
     with pytest.raises(OverflowError):
         _library.parse("1", 2**32, None)
 
 
-def test_now_is_the_clock_in_the_zone_of_tz(monkeypatch: pytest.MonkeyPatch) -> None:
-    zones = [("JST-9", "JST-9"), ("", 0), (":/nowhere", 0)]
+def test_options_of_other_kinds_are_refused() -> None:
+    git, arrays = gix_date.git, (array("q"), array("i"))
+    calls: List[Callable[[], object]] = [
+        lambda: parse("1 +0007", raw_offsets=Texts.ALL),  # type: ignore[arg-type]
+        lambda: parse("1 +0007", raw_offsets=1),  # type: ignore[arg-type]
+        lambda: parse_carefully("1 +0007", raw_offsets=Format.RFC2822),  # type: ignore[arg-type]
+        lambda: parse_carefully("@5", without_offset=RawOffsets.QUARTERS),  # type: ignore[arg-type]
+        lambda: parse_carefully("@5", texts=True),  # type: ignore[arg-type]
+        lambda: parse_lines(b"@5", raw_offsets=Texts.ALL),  # type: ignore[arg-type]
+        lambda: parse_lines_into(arrays, b"@5", raw_offsets=Texts.ALL),  # type: ignore[arg-type]
+        lambda: Time(5, 0).format(git.DateKind.ISO8601),  # type: ignore[arg-type]
+        lambda: Time(5, 0).format_or_unix(3),  # type: ignore[arg-type]
+        lambda: git.DateMode(Format.ISO8601),  # type: ignore[arg-type]
+        lambda: git.show_date(Time(5, 0), Format.ISO8601, Moment(0)),  # type: ignore[arg-type]
+    ]
+    for call in calls:
+        with pytest.raises(TypeError, match="has to be a (RawOffsets|WithoutOffset|Texts|Format|DateKind), not "):
+            call()
+
+
+def test_now_is_the_clock_of_the_machine(monkeypatch: pytest.MonkeyPatch) -> None:
+    monkeypatch.setattr(time, "time_ns", lambda: 1698400800_987654321)
+    assert gix_date.now()[:2] == (1698400800, 987654321)
+    monkeypatch.setattr(time, "time_ns", lambda: -1)
+    assert gix_date.now()[:2] == (-1, 999999999)
+
+
+def test_now_is_in_the_zone_of_tz(monkeypatch: pytest.MonkeyPatch) -> None:
+    zones = [("JST-9", "JST-9"), ("", 0), (":", 0), (":/nowhere", "/nowhere")]
     for name, zone in zones:
         monkeypatch.setenv("TZ", name)
         now = gix_date.now()
         assert now.zone == zone
         assert abs(Time.from_datetime(datetime.now(timezone.utc)).seconds - now.seconds) < 60
-    for name in ("Asia/Tokyo", ":Asia/Tokyo"):
+    for name in ("Asia/Tokyo", ":Asia/Tokyo", f"{zoneinfo.TZPATH[0]}/Asia/Tokyo"):
         monkeypatch.setenv("TZ", name)
         assert parse("1 second ago", gix_date.now()).offset == 32400
+    for name in ("Mars", "/nowhere", zoneinfo.TZPATH[0], "EST5EDT,M3", "\udcff"):
+        monkeypatch.setenv("TZ", name)
+        with pytest.raises(InvalidZone):
+            parse("1 second ago", gix_date.now())
     monkeypatch.delenv("TZ")
-    assert isinstance(gix_date.now().zone, (bytes, int))
+    local = Path("/etc/localtime")
+    assert gix_date.now().zone == (local.read_bytes() if local.is_file() else 0)
 
 
 def test_headers() -> None:
@@ -215,6 +352,8 @@ def test_signatures() -> None:
     assert (parts.name, parts.mail, parts.time) == ("A U Thor", "author@example.com", "1660797906 +0800")
     assert Signature.from_line(line.encode()) == parts
     assert str(parts) == write_signature(parts.name, parts.mail, parts.read_time()) == line
+    with pytest.raises(InvalidTime):
+        Signature("A", "a", "\x1c5 +0000").read_time()  # which Rust holds for no white space, and Python does
     with pytest.raises(NoSignature):
         Signature.from_line("A U Thor")
     with pytest.raises(NotText):
@@ -223,6 +362,17 @@ def test_signatures() -> None:
         write_signature("A\n", "a", Time(0, 0))
     long = "é" * 1000
     assert write_signature(long, "a", Time(0, 0)) == f"{long} <a> 0 +0000"
+
+
+def test_answers_are_values() -> None:
+    git, time = gix_date.git, Time(5, 0)
+    values = [Signature("A", "a", "5"), git.ReadDate(time, None), git.Approximate(time, True, 3), git.DateMode()]
+    for value in values:
+        (first, *_) = dataclasses.fields(value)
+        with pytest.raises(dataclasses.FrozenInstanceError):
+            setattr(value, first.name, None)
+        for again in (copy.deepcopy(value), pickle.loads(pickle.dumps(value))):
+            assert again == value and hash(again) == hash(value) and repr(again) == repr(value)
 
 
 LINES = b"@5\nbanana\n1 +0100\n\n2 hours ago"
@@ -236,6 +386,8 @@ def test_lines_are_times_or_refusals() -> None:
     assert isinstance(answers[3], GixDateError) and answers[3].text == b""
     refused = list(parse_lines(LINES))[4]
     assert isinstance(refused, MissingNow)
+    texts = [b"a\rb", b"c\x0cd\x1ce\xe2\x80\xa8", b"f\r", b"\0"]
+    assert [getattr(answer, "text") for answer in parse_lines(b"\n".join(texts))] == texts
     assert list(parse_lines(b"")) == []
     with pytest.raises(InvalidInstant):
         parse_lines(b"@5", Moment(2**62))
@@ -247,21 +399,106 @@ def test_lines_fill_arrays() -> None:
     assert list(seconds) == [7, 5, 0, 1, 0, 0]
     assert list(offsets) == [7, 0, 0, 3600, 0, 0]
     assert {at: type(error).__name__ for at, error in refused.items()} == {2: "UnknownFormat", 4: "UnknownFormat", 5: "MissingNow"}
-    with pytest.raises(TypeError):
-        parse_lines_into((array("q"), array("q")), LINES)
+    for file in (io.BytesIO(LINES), Dripping(LINES)):
+        some = array("q", [7]), array("i", [7])
+        again = parse_lines_into(some, file)  # type: ignore[arg-type]
+        assert some == (seconds, offsets)
+        assert {at: (type(error), error.text) for at, error in again.items()} == {
+            at: (type(error), error.text) for at, error in refused.items()
+        }
+    for wrong in [(array("q"), array("q")), (array("i"), array("i")), (array("l"), array("i"))]:
+        with pytest.raises(TypeError):
+            parse_lines_into(wrong, LINES)
     with pytest.raises(ValueError):
         parse_lines_into((array("q", [1]), array("i")), LINES)
 
 
+def test_arrays_in_use_stay_of_one_length() -> None:
+    for used in (0, 1):
+        filled = array("q", [7]), array("i", [7])
+        with memoryview(filled[used]), pytest.raises(BufferError):
+            parse_lines_into(filled, LINES)
+        assert filled == (array("q", [7]), array("i", [7]))
+
+
+def test_the_moment_and_the_rule_are_those_of_all_lines() -> None:
+    filled = array("q"), array("i")
+    lines, minutes = b"1 +0007\n2 hours ago\n", RawOffsets.WHOLE_MINUTES
+    now = datetime(2023, 10, 27, 11, tzinfo=timezone(timedelta(hours=1)))
+    assert parse_lines_into(filled, lines, now, raw_offsets=minutes) == {}
+    assert list(zip(*filled)) == [(1, 420), (1698393600, 3600)]
+    assert list(parse_lines(lines, now, raw_offsets=minutes)) == [Time(1, 420), Time(1698393600, 3600)]
+    refusals = [(NaiveDatetime, datetime(2023, 10, 27)), (InvalidInstant, Moment(2**62)), (InvalidZone, Moment(0, 0, "Mars"))]
+    for refusal, wrong in refusals:
+        for source in (b"@5", b"", io.BytesIO(b"@5")):
+            with pytest.raises(refusal):
+                parse_lines(source, wrong)  # type: ignore[arg-type]
+            with pytest.raises(refusal):
+                parse_lines_into(filled, source, wrong)  # type: ignore[arg-type]
+    assert len(filled[0]) == len(filled[1]) == 2
+
+
+class Slow(io.RawIOBase):
+    """A file that has no bytes yet."""
+
+    def read(self, size: int = -1) -> None:
+        return None
+
+
+def test_a_source_is_bytes_or_gives_bytes(tmp_path: Path) -> None:
+    path = tmp_path / "lines"
+    path.write_bytes(LINES)
+    with path.open() as text:
+        for wrong in ("@5", bytearray(b"@5"), memoryview(b"@5"), [b"@5"], path, None, 5, text, io.StringIO("@5")):
+            with pytest.raises(TypeError, match="^the source has to be bytes"):
+                parse_lines(wrong)  # type: ignore[arg-type]
+            with pytest.raises(TypeError, match="^the source has to be bytes"):
+                parse_lines_into((array("q"), array("i")), wrong)  # type: ignore[arg-type]
+    with pytest.raises(TypeError, match="^the source has to be bytes"):
+        list(parse_lines(Slow()))  # type: ignore[arg-type]
+    with path.open("rb") as file, mmap.mmap(file.fileno(), 0, access=mmap.ACCESS_READ) as mapped:
+        assert len(list(parse_lines(file))) == len(list(parse_lines(mapped))) == 5  # type: ignore[arg-type]
+        assert not file.closed
+
+
 class Dripping(io.RawIOBase):
-    """A file that gives a few bytes at a time."""
+    """A file that gives a few bytes at a time, and has to be asked for a megabyte."""
 
     def __init__(self, data: bytes) -> None:
         self.rest = data
 
     def read(self, size: int = -1) -> bytes:
+        assert size == 1 << 20
         piece, self.rest = self.rest[:3], self.rest[3:]
         return piece
+
+
+class Breaking(io.RawIOBase):
+    """A file that breaks after two lines."""
+
+    def __init__(self) -> None:
+        self.left = [b"@1\n@2\n@"]
+
+    def read(self, size: int = -1) -> bytes:
+        if not self.left:
+            raise OSError("broken")
+        return self.left.pop()
+
+
+def test_a_file_may_break_and_lines_be_left() -> None:
+    lines = parse_lines(Breaking())  # type: ignore[arg-type]
+    assert [next(lines), next(lines)] == [Time(1, 0), Time(2, 0)]
+    with pytest.raises(OSError, match="broken"):
+        next(lines)
+    filled = array("q"), array("i")
+    with pytest.raises(OSError, match="broken"):
+        parse_lines_into(filled, Breaking())  # type: ignore[arg-type]
+    assert filled == (array("q", [1, 2]), array("i", [0, 0]))
+    file = io.BytesIO(LINES)
+    left = parse_lines(file)
+    assert next(left) == Time(5, 0)
+    left.close()  # type: ignore[attr-defined]
+    assert not file.closed and list(left) == []
 
 
 @pytest.mark.parametrize("data", [LINES, LINES + b"\n", b"", b"\n", b"@1\n@2", b"@1" * 9])

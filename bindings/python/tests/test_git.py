@@ -3,6 +3,7 @@
 from __future__ import annotations
 
 from datetime import datetime, timezone
+from typing import List, Union
 from zoneinfo import ZoneInfo
 
 import pytest
@@ -41,6 +42,8 @@ def test_expiry() -> None:
     assert git.expiry_date("never", NOW) is Expires.NEVER
     assert git.expiry_date(b"all", NOW) is Expires.ALL
     assert git.expiry_date("2.weeks.ago", NOW) == Approximate(Time(1250450400, 0), True, None)
+    texts: List[Union[str, bytes]] = ["é 5 mins ago", "é 5 mins ago".encode()]
+    assert [git.expiry_date(text, NOW) for text in texts] == [git.approxidate(text, NOW) for text in texts]
     with pytest.raises(git.Unreadable):
         git.expiry_date("friday", NOW)
 
@@ -49,7 +52,7 @@ def test_shown_dates() -> None:
     time = Time(1251300000, 7200)
     assert git.show_date(time, DateKind.ISO8601, NOW) == "2009-08-26 17:20:00 +0200"
     assert git.show_date(time, DateMode(DateKind.ISO8601, True), NOW) == "2009-08-26 15:20:00 +0000"
-    assert git.show_date(time, "relative", NOW) == "4 days ago"
+    assert git.show_date(time, "relative", NOW) == git.show_date(time, b"relative", NOW) == "4 days ago"
     with pytest.raises(git.Range):
         git.show_date(Time(-1, 0), DateKind.ISO8601, NOW)
     with pytest.raises(UnknownMode, match="human-local"):

@@ -2,8 +2,12 @@
 
 from __future__ import annotations
 
+import copy
+import dataclasses
 import pickle
+import random
 from datetime import datetime, timedelta, timezone
+from typing import List, Union
 from zoneinfo import ZoneInfo
 
 import pytest
@@ -18,6 +22,7 @@ from gix_date import (
     GixDateError,
     InvalidZone,
     NaiveDatetime,
+    NotText,
     OffsetTooWide,
     Pattern,
     Time,
@@ -54,8 +59,9 @@ def test_any_two_numbers_of_64_and_32_bits_are_a_time() -> None:
     for seconds, offset in [(2**63, 0), (-(2**63) - 1, 0), (0, 2**31), (0, -(2**31) - 1)]:
         with pytest.raises(OverflowError):
             Time(seconds, offset)
-    with pytest.raises(TypeError):
-        Time(1.5, 0)  # type: ignore[arg-type]
+    for wrong in [(1.5, 0), (0, 1.5), ("1", 0), (0, None)]:
+        with pytest.raises(TypeError):
+            Time(*wrong)  # type: ignore[arg-type]
 
 
 def test_its_text_is_that_of_the_header() -> None:
@@ -77,8 +83,46 @@ def test_formats_and_patterns() -> None:
     with pytest.raises(Conversion):
         Time(2**63 - 1, 0).format(ISO8601)
     assert Time(2**63 - 1, 0).format_or_unix(ISO8601) == "9223372036854775807"
-    with pytest.raises(AttributeError):
-        TIME.format(9)  # type: ignore[arg-type]
+    broken_patterns: List[Union[str, bytes]] = [b"\xff", "\ud800"]
+    for broken in broken_patterns:
+        for call in (TIME.format, TIME.format_or_unix):
+            with pytest.raises(NotText):
+                call(broken)
+
+
+def test_format_strings_print_by_patterns() -> None:
+    assert f"{TIME:%Y-%m-%d %H:%M}" == "2022-08-18 12:45" == format(TIME, "%Y-%m-%d %H:%M")
+    assert f"{TIME}" == format(TIME, "") == str(TIME)
+    with pytest.raises(Pattern):
+        format(TIME, "%")
+
+
+class Shifted(datetime):
+    """A datetime that subtracts and replaces by rules of its own."""
+
+    def __sub__(self, other: object) -> timedelta:  # type: ignore[override]
+        return timedelta(5)
+
+    def replace(self, *fields: object, **named: object) -> datetime:  # type: ignore[override]
+        return datetime(1, 1, 1)
+
+
+def test_classes_below_datetime_count_as_they_show() -> None:
+    at = Shifted(1969, 12, 31, 23, 59, 59, 500000, timezone(timedelta(hours=1)))
+    assert Time.from_datetime(at) == Time(-3601, 3600)
+
+
+class Named(Time):
+    """A time of a caller."""
+
+    __slots__ = ()
+
+
+def test_classes_below_time_stay() -> None:
+    time = Named(5, 60)
+    for again in (copy.copy(time), copy.deepcopy(time), pickle.loads(pickle.dumps(time)), Named.from_datetime(time.to_datetime())):
+        assert type(again) is Named and again == time
+    assert dataclasses.replace(TIME, offset=0) == Time(1660797906, 0)
 
 
 def test_of_datetimes() -> None:
@@ -109,12 +153,28 @@ def test_to_datetimes() -> None:
         assert isinstance(caught.value, GixDateError)
 
 
+FORMS = [Format.RFC2822, Format.GIT_RFC2822, Format.ISO8601, Format.ISO8601_STRICT, Format.GITOXIDE, Format.DEFAULT]
+LAST_SECOND = 253402207200
+
+
+def should_round_trip(time: Time) -> bool:
+    """The same by datetime: a year of four digits, an offset of whole minutes, and no instant after the library's last."""
+    try:
+        return time.to_datetime().year >= 1000 and time.offset % 60 == 0 and time.seconds <= LAST_SECOND
+    except BeyondDatetime:
+        return False
+
+
 def test_times_that_round_trip_are_read_back() -> None:
-    forms = [Format.RFC2822, Format.GIT_RFC2822, Format.ISO8601, Format.ISO8601_STRICT, Format.GITOXIDE, Format.DEFAULT]
-    edges = [-30610224000, 253402207200, 0, -1, 1660797906]
-    for time in [Time(seconds, offset) for seconds in edges for offset in (0, 86340, -86340, 60)]:
-        if time.round_trips():
-            assert [parse(time.format(form)) for form in forms] == [time] * len(forms)
-    assert Time(0, 0).round_trips()
-    for time in [Time(-30610224001, 0), Time(253402207201, 0), Time(0, 1), Time(0, 86400), Time(-377705023202, 0)]:
-        assert not time.round_trips()
+    source = random.Random(7)
+    offsets = [0, 60, -60, 86340, -86340, 86341, 86399, 86400, -86400, 1, -59, 30, 93540]
+    edges = [-377705023201, LAST_SECOND, 0, 2**63 - 1, -(2**63)]
+    edges += [edge - offset for edge in (-30610224000, 253402300800) for offset in offsets]
+    near = {min(max(edge + step, -(2**63)), 2**63 - 1) for edge in edges for step in (-1, 0, 1)}
+    times = [Time(second, offset) for second in near for offset in offsets]
+    times += [Time(source.randrange(-31 * 10**9, 254 * 10**9), 60 * source.randrange(-1500, 1500)) for _ in range(2000)]
+    assert [time.round_trips() for time in times] == [should_round_trip(time) for time in times]
+    kept = [time for time in times if time.round_trips()]
+    assert len(kept) > 1000
+    for time in kept:
+        assert [parse(time.format(form)) for form in FORMS] == [time] * len(FORMS)

@@ -10,16 +10,21 @@ from typing import Callable, List, Tuple
 import pytest
 
 from gix_date import ISO8601, GixDateError, Moment, Signature, Time, git, now
-from gix_date import parse, parse_carefully, parse_header, parse_lines, write_signature
+from gix_date import is_canonical_header, parse, parse_carefully, parse_header, parse_lines, write_signature
 
 from rows import FOLDER
 
 TIME, NOW = Time(1660797906, 28800), Moment(1698400800, 0, 7200)
 IN_RULE = Moment(1698400800, 0, "EST5EDT,M3.2.0,M11.1.0")
 IN_FILE = Moment(1698400800, 0, (FOLDER / "new_york_2023.tzif").read_bytes())
+TEXT, BYTES = "5 +0100", b"5 +0100"
+SHARED = [None, True, False, IN_FILE.zone, IN_RULE.zone, TEXT, BYTES]
 CALLS: List[Callable[[], object]] = [
-    lambda: parse_header(b"5 +0100"),
+    lambda: parse_header(BYTES),
+    lambda: parse_header(TEXT),
     lambda: parse_header("1:2"),
+    lambda: is_canonical_header(BYTES),
+    lambda: is_canonical_header("\ud800"),
     lambda: parse("@5"),
     lambda: parse("\ud800"),
     lambda: parse("2 days ago", NOW),
@@ -43,6 +48,8 @@ CALLS: List[Callable[[], object]] = [
     lambda: git.expiry_date("friday", IN_RULE),
     lambda: git.show_date(TIME, "iso-local", IN_FILE),
     lambda: git.show_date(Time(-1, 0), "iso", NOW),
+    lambda: git.DateMode.of_name("iso-local"),
+    lambda: git.DateMode.of_name("format:%Y"),
     lambda: parse("@5", (1, 2)),  # type: ignore[arg-type]
     lambda: parse(5, NOW),  # type: ignore[arg-type]
     lambda: parse("2 days ago", Moment(2**63)),
@@ -68,10 +75,10 @@ def test_many_calls_keep_no_memory(call: Callable[[], object]) -> None:
 
     for _ in range(100):
         outcome(call)
-    before = (sys.getallocatedblocks(), sys.getrefcount(None), sys.getrefcount(IN_FILE.zone), sys.getrefcount(IN_RULE.zone))
+    blocks, references = sys.getallocatedblocks(), [sys.getrefcount(each) for each in SHARED]
     repeat()
-    after = (sys.getallocatedblocks(), sys.getrefcount(None), sys.getrefcount(IN_FILE.zone), sys.getrefcount(IN_RULE.zone))
-    assert all(last - first < 1000 for first, last in zip(before, after))
+    assert sys.getallocatedblocks() - blocks < 1000
+    assert all(abs(sys.getrefcount(each) - before) < 1000 for each, before in zip(SHARED, references))
 
 
 def test_sixteen_threads_have_the_same_answers() -> None:

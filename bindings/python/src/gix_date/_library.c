@@ -31,27 +31,32 @@ static void drop_text(struct text *text)
     Py_CLEAR(text->owner);
 }
 
-/* A converter. Halves of surrogate pairs become bytes that are no UTF-8, which the library refuses. */
-static int read_text(PyObject *object, void *out)
+/* Of what a converter is given, with what halves of surrogate pairs become in a str. */
+static int take_text(PyObject *object, const char *halves, const char *wanted, struct text *text)
 {
-    struct text *text = out;
-    if (object == NULL) {
-        drop_text(text);
-        return 1;
-    }
     if (PyBytes_Check(object)) {
         Py_INCREF(object);
         text->owner = object;
     } else if (PyUnicode_Check(object)) {
-        text->owner = PyUnicode_AsEncodedString(object, "utf-8", "surrogatepass");
+        text->owner = PyUnicode_AsEncodedString(object, "utf-8", halves);
     } else {
-        PyErr_SetString(PyExc_TypeError, "a text has to be a str or bytes");
+        PyErr_SetString(PyExc_TypeError, wanted);
     }
     if (text->owner == NULL)
         return 0;
     text->at = PyBytes_AsString(text->owner);
     text->len = (size_t)PyBytes_Size(text->owner);
     return Py_CLEANUP_SUPPORTED;
+}
+
+/* A converter. Halves of surrogate pairs become bytes that are no UTF-8, which the library refuses. */
+static int read_text(PyObject *object, void *out)
+{
+    if (object == NULL) {
+        drop_text(out);
+        return 1;
+    }
+    return take_text(object, "surrogatepass", "a text has to be a str or bytes", out);
 }
 
 /* A converter for a moment that a call needs. */
@@ -74,8 +79,9 @@ static int read_moment(PyObject *object, void *out)
     moment->now.seconds = seconds;
     moment->now.nanoseconds = nanoseconds;
     if (!PyLong_Check(zone)) {
+        /* With question marks instead of halves a zone is refused as a rule that is none, and the text is not said to be no UTF-8. */
         moment->form = PyUnicode_Check(zone) ? RULE : FILE_BYTES;
-        return read_text(zone, &moment->zone);
+        return take_text(zone, "replace", "a zone has to be an int, a str or bytes", &moment->zone);
     }
     if (!PyArg_Parse(zone, "i", &offset))
         return 0;

@@ -13,10 +13,11 @@ class GixDateError(ValueError):
     """Why a call refuses.
 
     `text` is the refused text, or None if there is none. `place` is the index into it from which on it is refused, or None.
-    The message is the library's.
+    `status` is the number of the refusal in the library for C, whose message it has, or None if the package alone refuses.
     """
 
-    status: ClassVar[int]
+    status: ClassVar[Optional[int]] = None
+    own_message: ClassVar[str] = "the call refuses"
     text: Optional[Text]
     place: Optional[int]
 
@@ -28,7 +29,7 @@ class GixDateError(ValueError):
     @classmethod
     def message(cls) -> str:
         """What the refusal means, in English."""
-        return _library.status_text(cls.status)
+        return cls.own_message if cls.status is None else _library.status_text(cls.status)
 
     def __str__(self) -> str:
         return self.message() if self.place is None else f"{self.message()}, at index {self.place}"
@@ -71,7 +72,7 @@ class Range(GixDateError):
 
 
 class InvalidInstant(GixDateError):
-    """The seconds of the moment are outside -377705023201 to 253402207200."""
+    """The moment is before -377705023201 or after 253402207200, or its nanoseconds are outside -999999999 to 999999999."""
 
     status = 9
 
@@ -118,23 +119,13 @@ class Unclear(GixDateError):
     status = 17
 
 
-class OwnRefusal(GixDateError):
-    """A refusal of this package alone, with its own message."""
-
-    own_message: ClassVar[str]
-
-    @classmethod
-    def message(cls) -> str:
-        return cls.own_message
-
-
-class NaiveDatetime(OwnRefusal):
+class NaiveDatetime(GixDateError):
     """The datetime has no zone."""
 
     own_message = "the datetime is naive: a moment needs a zone, such as timezone.utc"
 
 
-class BeyondDatetime(OwnRefusal):
+class BeyondDatetime(GixDateError):
     """A datetime cannot hold the time: its year is outside 1 to 9999, or its offset is a day or more."""
 
     own_message = "a datetime holds years from 1 to 9999 and offsets below a day"
@@ -142,7 +133,7 @@ class BeyondDatetime(OwnRefusal):
 
 def named(*classes: Type[GixDateError]) -> Dict[int, Type[GixDateError]]:
     """These classes by their statuses."""
-    return {error.status: error for error in classes}
+    return {error.status: error for error in classes if error.status is not None}
 
 
 REFUSALS = named(

@@ -16,8 +16,9 @@ from enum import Enum
 from typing import Optional, Union
 
 from . import _library
-from .errors import REFUSALS, GixDateError, OwnRefusal, Text, index_of, named, refusal
+from .errors import REFUSALS, GixDateError, Text, index_of, named, refusal
 from .moments import Now, moment_of
+from .options import number_of
 from .times import Time, time_of
 
 
@@ -48,13 +49,14 @@ class YearRefused(GixDateError):
 class Range(GixDateError):
     """The date is before 1970, or leads to an instant that cannot be computed with.
 
-    When shown: Git cannot show it, or it is beyond what is shown here: an offset of 100 hours, or after 9999.
+    When shown: Git cannot show it, as an age at a moment before 1970, or it is beyond what is shown here: an offset of 100
+    hours, or after 9999.
     """
 
     status = 22
 
 
-class UnknownMode(OwnRefusal):
+class UnknownMode(GixDateError):
     """No mode has this name. Git's modes `auto:` and `format:` are not offered."""
 
     own_message = 'not a way to show a date; expected one such as "iso8601-strict" or "human-local"'
@@ -101,7 +103,7 @@ class Expires(Enum):
 
 
 class DateKind(Enum):
-    """What of a date is shown. The examples show 1251660000 +0000.
+    """What of a date is shown. The examples show 1251660000 +0000 two hours later.
 
     - RELATIVE: `2 hours ago`
     - ISO8601_STRICT: `2009-08-30T19:20:00+00:00`
@@ -109,7 +111,7 @@ class DateKind(Enum):
     - RFC2822: `Sun, 30 Aug 2009 19:20:00 +0000`
     - SHORT: `2009-08-30`
     - DEFAULT: `Sun Aug 30 19:20:00 2009 +0000`
-    - HUMAN: as much as tells the date from now, `Tue Aug 25 19:20`
+    - HUMAN: as much as tells the date from now: `2 hours ago`, or days later `Sun Aug 30 19:20`
     - RAW: `1251660000 +0000`
     - UNIX: `1251660000`
     """
@@ -135,6 +137,9 @@ class DateMode:
 
     kind: DateKind = DateKind.DEFAULT
     local: bool = False
+
+    def __post_init__(self) -> None:
+        number_of(self.kind, DateKind)
 
     @classmethod
     def of_name(cls, name: Text) -> DateMode:
@@ -185,14 +190,14 @@ def expiry_date(text: Text, now: Now) -> Union[Approximate, Expires]:
     return Approximate(time_of(seconds, offset), bool(understood), index_of(text, ignored))
 
 
-def show_date(time: Time, mode: Union[DateMode, DateKind, str], now: Now) -> str:
+def show_date(time: Time, mode: Union[DateMode, DateKind, Text], now: Now) -> str:
     """A date as `git log --date=MODE` shows it at a moment. The mode may be a kind, or Git's name.
 
     Refuses by `Range` what Git cannot show, and by `UnknownMode` a name.
     """
-    if isinstance(mode, str):
+    if isinstance(mode, (str, bytes)):
         mode = DateMode.of_name(mode)
-    elif isinstance(mode, DateKind):
+    elif not isinstance(mode, DateMode):
         mode = DateMode(mode)
     status, text = _library.show_date((time.seconds, time.offset), mode.kind.value, mode.local, moment_of(now))
     if text is None:

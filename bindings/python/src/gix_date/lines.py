@@ -3,19 +3,21 @@
 from __future__ import annotations
 
 from array import array
-from typing import IO, TYPE_CHECKING, Dict, Iterator, Optional, Tuple, Union
+from io import TextIOBase
+from typing import IO, Dict, Iterator, Optional, Tuple, Union
 
 from . import _library
 from .errors import GixDateError, refusal
 from .moments import Moment, Now, any_moment_of
-from .options import RawOffsets
+from .options import RawOffsets, number_of
 from .times import Time, time_of
-
-if TYPE_CHECKING:
-    Numbers = array[int]
 
 _CHUNK = 1 << 20
 _Source = Union[bytes, IO[bytes]]
+
+
+def _wrong_source() -> TypeError:
+    return TypeError("the source has to be bytes, or a file opened for bytes that waits for them")
 
 
 def _chunks(source: _Source) -> Iterator[bytes]:
@@ -26,6 +28,9 @@ def _chunks(source: _Source) -> Iterator[bytes]:
     rest = b""
     while True:
         more = source.read(_CHUNK)
+        if not isinstance(more, bytes):
+            # None of a file that does not wait is no end
+            raise _wrong_source()
         if not more:
             break
         whole, newline, after = more.rpartition(b"\n")
@@ -46,13 +51,15 @@ def _faults(chunk: bytes, statuses: bytes) -> Dict[int, GixDateError]:
     return {i: refusal(status, lines[i]) for i, status in enumerate(statuses) if status}
 
 
-def _check(now: Optional[Now], raw_offsets: RawOffsets) -> Optional[Moment]:
-    """The moment. Refuses one that no line could be read at."""
-    moment = any_moment_of(now)
-    status, *_ = _library.parse("@0", raw_offsets.value, moment)
+def _check(source: _Source, now: Optional[Now], raw_offsets: RawOffsets) -> Tuple[int, Optional[Moment]]:
+    """The number of the option, and the moment. Refuses what no line could be read of or at."""
+    if not isinstance(source, bytes) and (isinstance(source, TextIOBase) or not hasattr(source, "read")):
+        raise _wrong_source()
+    rule, moment = number_of(raw_offsets, RawOffsets), any_moment_of(now)
+    status, *_ = _library.parse("@0", rule, moment)
     if status:
         raise refusal(status)
-    return moment
+    return rule, moment
 
 
 def parse_lines(
@@ -63,12 +70,12 @@ def parse_lines(
     The source is bytes, or a file opened for bytes, which is read in pieces of a megabyte. A line ends at a newline, which the last
     may lack. A moment is refused by `NaiveDatetime`, `InvalidInstant` and `InvalidZone`.
     """
-    return _times(source, _check(now, raw_offsets), raw_offsets)
+    return _times(source, *_check(source, now, raw_offsets))
 
 
-def _times(source: _Source, moment: Optional[Moment], raw_offsets: RawOffsets) -> Iterator[Union[Time, GixDateError]]:
+def _times(source: _Source, rule: int, moment: Optional[Moment]) -> Iterator[Union[Time, GixDateError]]:
     for chunk in _chunks(source):
-        seconds, offsets, statuses = _library.parse_lines(chunk, raw_offsets.value, moment)
+        seconds, offsets, statuses = _library.parse_lines(chunk, rule, moment)
         faults = _faults(chunk, statuses)
         times = map(time_of, memoryview(seconds).cast("q"), memoryview(offsets).cast("i"))
         if not faults:
@@ -79,7 +86,7 @@ def _times(source: _Source, moment: Optional[Moment], raw_offsets: RawOffsets) -
 
 
 def parse_lines_into(
-    arrays: Tuple[Numbers, Numbers],
+    arrays: Tuple[array[int], array[int]],
     source: _Source,
     now: Optional[Now] = None,
     *,
@@ -94,12 +101,16 @@ def parse_lines_into(
         raise TypeError("the arrays have to be array('q') and array('i')")
     if len(to_seconds) != len(to_offsets):
         raise ValueError("the arrays have to be of one length")
-    moment = _check(now, raw_offsets)
+    rule, moment = _check(source, now, raw_offsets)
     refused: Dict[int, GixDateError] = {}
     for chunk in _chunks(source):
-        seconds, offsets, statuses = _library.parse_lines(chunk, raw_offsets.value, moment)
+        seconds, offsets, statuses = _library.parse_lines(chunk, rule, moment)
         begin = len(to_seconds)
         refused.update((begin + i, fault) for i, fault in _faults(chunk, statuses).items())
         to_seconds.frombytes(seconds)
-        to_offsets.frombytes(offsets)
+        try:
+            to_offsets.frombytes(offsets)
+        except (BufferError, MemoryError):
+            del to_seconds[begin:]  # so that the arrays stay of one length
+            raise
     return refused

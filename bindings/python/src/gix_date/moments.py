@@ -55,7 +55,7 @@ def file_of(zone: Optional[tzinfo]) -> Optional[bytes]:
 
 def is_inside(key: str) -> bool:
     """Whether a zone's key is a path that stays below the folder of zones."""
-    return bool(key) and not os.path.isabs(key) and os.path.normpath(key) == key and not key.startswith("..")
+    return bool(key) and "\0" not in key and not os.path.isabs(key) and os.path.normpath(key) == key and not key.startswith("..")
 
 
 @lru_cache(maxsize=64)
@@ -87,19 +87,25 @@ def any_moment_of(now: Optional[Now]) -> Optional[Moment]:
     return None if now is None else moment_of(now)
 
 
+def file_at(path: Path) -> Optional[bytes]:
+    """The bytes of a file; None if there is none."""
+    return path.read_bytes() if path.is_file() else None
+
+
 def local_zone() -> Zone:
-    """The machine's zone: that of `TZ`, or of `/etc/localtime` if it is not set; UTC if neither names one."""
+    """The machine's zone: that of `TZ`, or of `/etc/localtime` if it is not set. What names no file has to be a rule."""
     name = os.environ.get("TZ")
-    name = "/etc/localtime" if name is None else name[1:] if name.startswith(":") else name
-    if os.path.isabs(name):
-        path = Path(name)
-        return path.read_bytes() if path.is_file() else 0
-    return tzif_of(name, zoneinfo.TZPATH) or name or 0
+    if name is None:
+        return file_at(Path("/etc/localtime")) or 0
+    name = name[1:] if name.startswith(":") else name
+    file = file_at(Path(name)) if os.path.isabs(name) else tzif_of(name, zoneinfo.TZPATH)
+    return file or name or 0
 
 
 def now() -> Moment:
-    """The moment now in the machine's zone: that of `TZ`, or of `/etc/localtime`; else UTC.
+    """The moment now in the machine's zone: that of `TZ`, or of `/etc/localtime` if it is not set.
 
+    It is UTC if `TZ` is empty, or neither is there. Calls refuse by `InvalidZone` a `TZ` that names no zone.
     Only this call reads the clock, the environment and the machine's zone.
     """
     seconds, nanoseconds = divmod(time.time_ns(), 1_000_000_000)

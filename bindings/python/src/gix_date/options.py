@@ -1,6 +1,17 @@
 """The options of the calls. Each has the number of the library's headers."""
 
+from __future__ import annotations
+
 from enum import Enum
+from typing import Type
+
+
+def number_of(option: Enum, kind: Type[Enum]) -> int:
+    """The number of an option of this kind. The same number of another kind means something else."""
+    if type(option) is not kind:
+        raise TypeError(f"the option has to be a {kind.__name__}, not {option!r}")
+    number: int = option._value_  # faster than `value`
+    return number
 
 
 class RawOffsets(Enum):
@@ -37,11 +48,11 @@ class Texts(Enum):
 
 
 class Format(Enum):
-    """What a time is printed as.
+    """What a time is printed as. The examples print 1660797906 +0800.
 
     - SHORT: `2022-08-18`
     - RFC2822: `Thu, 18 Aug 2022 12:45:06 +0800`, with two digits of the day
-    - GIT_RFC2822: the same with as few digits of the day as it has
+    - GIT_RFC2822: `Thu, 18 Aug 2022 12:45:06 +0800`, with as few digits of the day as it has
     - ISO8601: `2022-08-18 12:45:06 +0800`
     - ISO8601_STRICT: `2022-08-18T12:45:06+08:00`
     - GITOXIDE: `Thu Aug 18 2022 12:45:06 +0800`

@@ -8,9 +8,10 @@ from typing import Optional, Tuple, Type, Union
 
 from . import _library
 from .errors import BeyondDatetime, InvalidZone, NaiveDatetime, Text, refusal
-from .options import Format
+from .options import Format, number_of
 
 _EPOCH = datetime(1970, 1, 1)
+_DAY_OF_EPOCH = _EPOCH.toordinal()
 
 
 def parts_of(at: datetime) -> Tuple[int, int, int]:
@@ -24,8 +25,9 @@ def parts_of(at: datetime) -> Tuple[int, int, int]:
     if offset.microseconds:
         raise InvalidZone
     east = offset.days * 86400 + offset.seconds
-    clock = at.replace(tzinfo=None) - _EPOCH
-    return clock.days * 86400 + clock.seconds - east, clock.microseconds, east
+    # by fields, since classes below datetime may subtract by rules of their own
+    clock = (at.hour * 60 + at.minute) * 60 + at.second
+    return (at.toordinal() - _DAY_OF_EPOCH) * 86400 + clock - east, at.microsecond, east
 
 
 @dataclass(frozen=True, order=True)
@@ -50,12 +52,16 @@ class Time:
             raise OverflowError("the seconds of a time have 64 bits, and its offset has 32")
 
     def __reduce__(self) -> Tuple[Type[Time], Tuple[int, int]]:
-        return Time, (self.seconds, self.offset)
+        return type(self), (self.seconds, self.offset)
 
     def __str__(self) -> str:
         """The text in a commit header; from 100 hours of offset on the seconds alone."""
         status, text = _library.write_header((self.seconds, self.offset))
         return text if text is not None else str(self.seconds)
+
+    def __format__(self, pattern: str) -> str:
+        """What `format` prints by a pattern, as in `f"{time:%H:%M}"`; `str` without one."""
+        return self.format(pattern) if pattern else str(self)
 
     @classmethod
     def from_datetime(cls, at: datetime) -> Time:
@@ -84,23 +90,23 @@ class Time:
     def format(self, format: Union[Format, Text]) -> str:
         """The text of this time in a format, or by a pattern of `strftime` with the directives of jiff.
 
-        Refuses by `Conversion`, `OffsetTooWide` and `Pattern`.
+        Refuses by `Conversion`, `OffsetTooWide`, `Pattern` and `NotText`.
         """
         return self._print(format, False)
 
     def format_or_unix(self, format: Union[Format, Text]) -> str:
-        """Prints as `format` does, but the seconds for a time that has no such text."""
+        """Prints as `format` does, but the seconds for a time that has no such text. Refuses by `NotText`."""
         return self._print(format, True)
 
     def round_trips(self) -> bool:
-        """Whether `parse` reads this time back from each named format with a clock.
+        """Whether the time can be computed with, its own clock shows a year from 1000 to 9999, and its offset is whole minutes
+        within 23:59.
 
-        So it is if the library can compute with the time, its own clock shows a year from 1000 to 9999, and its offset is whole
-        minutes within 23:59.
+        If so, `parse` reads this time back from each named format with a clock and an offset.
         """
         return (
-            -377705023201 <= self.seconds <= 253402207200
-            and -30610224000 <= self.seconds + self.offset <= 253402300799
+            self.seconds <= 253402207200
+            and -30610224000 <= self.seconds + self.offset
             and self.offset % 60 == 0
             and abs(self.offset) <= 86340
         )
@@ -109,7 +115,7 @@ class Time:
         time = (self.seconds, self.offset)
         if isinstance(format, (str, bytes)):
             return self._printed(_library.format_by_pattern(time, format, or_unix), format)
-        return self._printed(_library.format(time, format.value, or_unix))
+        return self._printed(_library.format(time, number_of(format, Format), or_unix))
 
     @staticmethod
     def _printed(answer: Tuple[int, Optional[str]], pattern: Optional[Text] = None) -> str:
