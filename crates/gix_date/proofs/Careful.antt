@@ -3,3 +3,4 @@ pub mod Fronts
 pub mod Unzoned
 pub mod Zones
 pub mod Clear
+pub mod WholeWords

@@ -1,8 +1,7 @@
 -- The first place that fails a test.
 use Rattle.std.proofs.Common.{◌≡◌, ◌∙◌, ◌+◌, ◌-◌, ◌<◌, ℕ, zero, suc, Bool, true, false, List, length, cond, refl, sym, ap, arith, Option, Some, None}
-use Rattle.std.specs.Option.{option_map, option_or}
-use Rattle.gix_date.specs.Git.ClockCut.{last_place}
-use Rattle.gix_date.specs.Careful.Texts.{begins_word, ends_in_ago, first_failure, is_clear_at, unclear_place, word_at, word_before}
+use Rattle.std.specs.Option.{option_or}
+use Rattle.gix_date.specs.Careful.Texts.{ends_in_ago, first_failure, is_clear_at, unclear_place, word_before}
 
 pub goes_on : (t : ℕ → Bool) (k : ℕ) → first_failure t k ≡ None → t k ≡ true → first_failure t (suc k) ≡ None
 goes_on t k none here = rw (none, here) refl
@@ -30,7 +29,7 @@ stopped text place none here less =
     sym (ap (λ (p : Option ℕ). option_or p (cond (ends_in_ago (word_before text (length text))) None (Some (length text)))) (failed_first (is_clear_at text) place (length text) none here less))
 
 -- a text that is clear at each place
-pub ended : (text : List ℕ) (place : ℕ) (before : Option ℕ) (ago : Bool) → first_failure (is_clear_at text) place ≡ None → before ≡ last_place (begins_word text) place → place ≡ length text
-    → ago ≡ ends_in_ago (option_map (word_at text) before) → unclear_place text ≡ cond ago None (Some place)
+pub ended : (text : List ℕ) (place : ℕ) (before : Option (List ℕ)) (ago : Bool) → first_failure (is_clear_at text) place ≡ None → before ≡ word_before text place → place ≡ length text
+    → ago ≡ ends_in_ago before → unclear_place text ≡ cond ago None (Some place)
 unfolding unclear_place
 ended text place before ago none last end is = rw (sym end, none, sym last, sym is) refl

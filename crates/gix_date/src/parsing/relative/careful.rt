@@ -1,7 +1,6 @@
 //! Which relative texts leave nothing to guess: each word fits the one before it, and the last is `ago`.
-ghost use Rattle.std.specs.Prelude.{◌≡◌, ◌<◌, length, IfSome, IsCharBoundary, option_map};
-ghost use Rattle.gix_date.specs.Careful.Texts.{after_word, begins_word, ends_in_ago, is_and, is_clear_at, is_plain_count, may_follow, may_stand_after, separates, unclear_place, word_at, IsWordPlace};
-ghost use Rattle.gix_date.specs.Git.ClockCut.{last_place};
+ghost use Rattle.std.specs.Prelude.{◌≡◌, ◌<◌, length, IfSome, IsCharBoundary, option_copied};
+ghost use Rattle.gix_date.specs.Careful.Texts.{after_word, ends_in_ago, is_and, is_plain_count, may_follow, may_stand_after, separates, unclear_place, word_at, IsWordPlace};
 
 use crate::parsing::relative::words::{has_unit, is_ago, is_count_word, word_len};
 
@@ -14,54 +13,45 @@ pub(crate) fn unclear_place(text: &str) -> Option<usize>
     let bytes = text.as_bytes();
     let mut before = None;
     let mut place = 0;
+    // Words are passed whole, so that a letter or digit at `place` begins one.
     while place < bytes.len() {
-        if !is_clear_at(text, before, place) {
-            return Some(place);
+        if bytes[place].is_ascii_alphanumeric() {
+            let word = word_at(text, place);
+            if !may_stand_after(before, word) {
+                return Some(place);
+            }
+            before = Some(word);
+            place += word.len();
+        } else {
+            if !separates(bytes, place) {
+                return Some(place);
+            }
+            place += 1;
         }
-        if begins_word(bytes, place) {
-            before = Some(place);
-        }
-        place += 1;
     }
-    if ends_in_ago(text, before) {
+    if ends_in_ago(before) {
         return None;
     }
     Some(place)
 }
 
-/// Whether nothing is to be guessed at this place, after the word that begins at `before`.
-#[tactic(auto, unfolding(crate::specs::Careful::Texts::is_clear_at))]
-fn is_clear_at(text: &str, before: Option<usize>, place: usize) -> bool
-    requires within { place < length text.now }
-    requires before { IfSome before (IsWordPlace text.now) }
-    requires last { before ≡ last_place (begins_word text.now) place }
-    ensures { result ≡ is_clear_at text.now place }
-{
-    let bytes = text.as_bytes();
-    if begins_word(bytes, place) {
-        may_stand_after(text, before, word_at(text, place))
-    } else {
-        bytes[place].is_ascii_alphanumeric() || separates(bytes, place)
-    }
-}
-
-/// Whether a word may stand after the one that begins at `before`, or first.
-fn may_stand_after(text: &str, before: Option<usize>, word: &str) -> bool
-    requires { IfSome before (IsWordPlace text.now) }
-    ensures { result ≡ may_stand_after (option_map (word_at text.now) before) word.now }
+/// Whether a word may stand after the one before it, or first.
+fn may_stand_after(before: Option<&str>, word: &str) -> bool
+    ensures { result ≡ may_stand_after (option_copied before.entry) word.now }
 {
     match before {
-        Some(before) => may_follow(word_at(text, before), word),
+        Some(before) => may_follow(before, word),
         None => is_plain_count(word),
     }
 }
 
-/// Whether the second word may follow the first. What is known soonest is asked first.
+/// Whether the second word may follow the first. What costs least is asked first.
 fn may_follow(first: &str, second: &str) -> bool
     ensures { result ≡ may_follow first.now second.now }
 {
-    has_unit(second) && is_plain_count(first)
-        || has_unit(first) && (is_ago(second) || is_and(second) || is_plain_count(second))
+    is_ago(second) && has_unit(first)
+        || has_unit(second) && is_plain_count(first)
+        || has_unit(first) && (is_and(second) || is_plain_count(second))
         || is_and(first) && is_plain_count(second)
 }
 
@@ -78,13 +68,12 @@ fn is_and(word: &str) -> bool
     word.eq_ignore_ascii_case("and")
 }
 
-/// Whether the word that begins at `before` is `ago`.
-fn ends_in_ago(text: &str, before: Option<usize>) -> bool
-    requires { IfSome before (IsWordPlace text.now) }
-    ensures { result ≡ ends_in_ago (option_map (word_at text.now) before) }
+/// Whether the last word is `ago`.
+fn ends_in_ago(last: Option<&str>) -> bool
+    ensures { result ≡ ends_in_ago (option_copied last.entry) }
 {
-    match before {
-        Some(before) => is_ago(word_at(text, before)),
+    match last {
+        Some(word) => is_ago(word),
         None => false,
     }
 }
@@ -96,14 +85,6 @@ fn word_at(text: &str, place: usize) -> &str
 {
     let from = &text[place..];
     from.split_at(word_len(from)).0
-}
-
-/// Whether a word begins at this place.
-fn begins_word(bytes: &[u8], place: usize) -> bool
-    requires { place < length bytes.now }
-    ensures value { result ≡ begins_word bytes.now place }
-{
-    bytes[place].is_ascii_alphanumeric() && !is_after_word(bytes, place)
 }
 
 /// Whether a word ends directly before this place.

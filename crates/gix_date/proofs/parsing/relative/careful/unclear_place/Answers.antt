@@ -1,64 +1,75 @@
-use Rattle.std.proofs.Common.{◌≡◌, ◌∙◌, ◌<◌, ◌+◌, suc, length, refl, sym, ap, subst, arith, true, false, Option}
-use Rattle.std.proofs.lemmas.Str.{IsCharBoundary-after_ascii, IsCharBoundary-start}
-use Rattle.std.specs.Prelude.{IfSome, ℕ}
-use Rattle.gix_date.specs.Careful.Texts.{begins_word, first_failure, is_clear_at, IsWordPlace}
-use Rattle.gix_date.specs.Git.ClockCut.{last_place}
-use Rattle.gix_date.proofs.Careful.Clear.{begin_is_ascii, clear_is_ascii}
-use Rattle.gix_date.proofs.Careful.Failures.{goes_on, stopped, ended}
-use Rattle.gix_date.proofs.Text.LastPlaces.{passes_here, passes_below}
+use Rattle.std.proofs.Common.{◌≡◌, ◌∙◌, ◌<◌, length, sym, ap, arith, true, false, refl}
+use Rattle.gix_date.specs.Careful.Texts.{in_word, is_clear_at, may_stand_after, separates}
+use Rattle.gix_date.proofs.Careful.Failures.{stopped, ended}
+use Rattle.gix_date.proofs.Careful.WholeWords.{walked-none, walked-gap, walked-word, word-clear, gap-clear}
 use Rattle.gix_date.proofs.parsing.relative.careful.unclear_place.Goals as goal
-use Rattle.gix_date.proofs.parsing.relative.careful.unclear_place.Goals.{then-begins_word, else-begins_word}
 
 pub loop-place-init : goal.loop-place-init
-loop-place-init c = record {
-  bytes = c.as_bytes-bytes.ensures.value;
-  within = omega arith;
-  clear = refl;
-  last = refl;
-  word = tt;
-  boundary = IsCharBoundary-start c.args.text.now c.utf8.text;
-}
+loop-place-init c = record { bytes = c.as_bytes-bytes.ensures.value; walked = walked-none c.args.text.now c.utf8.text }
+
+pub returns-then-not-may_stand_after-clause-place : goal.returns-then-not-may_stand_after-clause-place
+returns-then-not-may_stand_after-clause-place c =
+    let text = c.args.text.now in
+    let place = c.loop-place.place in
+    let w = c.loop-place.invariant.walked in
+    let within : place < length text = omega (arith, c.loop-place-test.true, ap length c.as_bytes-bytes.ensures.value) in
+    let word : in_word text place ≡ true = ap (λ bs. in_word bs place) (sym c.as_bytes-bytes.ensures.value) ∙ sym c.is_ascii_alphanumeric.ensures.value ∙ c.if-is_ascii_alphanumeric.true in
+    let fits = c.may_stand_after.ensures ∙ ap (may_stand_after _) c.word_at-word.ensures in
+    stopped text place w.clear (word-clear text place _ _ w word fits ∙ c.if-not-may_stand_after.true) within
+
+pub loop-place-preserved-then-is_ascii_alphanumeric : goal.loop-place-preserved-then-is_ascii_alphanumeric
+loop-place-preserved-then-is_ascii_alphanumeric c =
+    let text = c.args.text.now in
+    let place = c.loop-place.place in
+    let w = c.loop-place.invariant.walked in
+    let within : place < length text = omega (arith, c.loop-place-test.true, ap length c.as_bytes-bytes.ensures.value) in
+    let word : in_word text place ≡ true = ap (λ bs. in_word bs place) (sym c.as_bytes-bytes.ensures.value) ∙ sym c.is_ascii_alphanumeric.ensures.value ∙ c.if-is_ascii_alphanumeric.true in
+    let fits = c.may_stand_after.ensures ∙ ap (may_stand_after _) c.word_at-word.ensures in
+    let clear : is_clear_at text place ≡ true = word-clear text place _ _ w word fits ∙ c.if-not-may_stand_after.false in
+    record {
+      bytes = c.as_bytes-bytes.ensures.value;
+      walked = walked-word text place _ c.word_at-word.result.now c.utf8.text w within word clear c.word_at-word.ensures;
+    }
+
+pub returns-then-not-separates-clause-place : goal.returns-then-not-separates-clause-place
+returns-then-not-separates-clause-place c =
+    let text = c.args.text.now in
+    let place = c.loop-place.place in
+    let w = c.loop-place.invariant.walked in
+    let within : place < length text = omega (arith, c.loop-place-test.true, ap length c.as_bytes-bytes.ensures.value) in
+    let gap : in_word text place ≡ false = ap (λ bs. in_word bs place) (sym c.as_bytes-bytes.ensures.value) ∙ sym c.is_ascii_alphanumeric.ensures.value ∙ c.if-is_ascii_alphanumeric.false in
+    let fits : c.separates.result ≡ separates text place = c.separates.ensures ∙ ap (λ bs. separates bs place) c.as_bytes-bytes.ensures.value in
+    stopped text place w.clear (gap-clear text place _ w gap ∙ sym fits ∙ c.if-not-separates.true) within
+
+pub returns-then-not-separates-clause-boundary : goal.returns-then-not-separates-clause-boundary
+returns-then-not-separates-clause-boundary c = c.loop-place.invariant.walked.boundary
 
 pub loop-place-preserved : goal.loop-place-preserved
 loop-place-preserved c =
     let text = c.args.text.now in
     let place = c.loop-place.place in
-    let i = c.loop-place.invariant in
+    let w = c.loop-place.invariant.walked in
     let within : place < length text = omega (arith, c.loop-place-test.true, ap length c.as_bytes-bytes.ensures.value) in
-    let clear : is_clear_at text place ≡ true = sym c.is_clear_at.ensures ∙ c.if-not-is_clear_at.false in
-    let begins : c.begins_word.result ≡ begins_word text place = c.begins_word.ensures.value ∙ ap (λ bs. begins_word bs place) c.as_bytes-bytes.ensures.value in
-    let next : place + 1 ≡ suc place = omega arith in
+    let gap : in_word text place ≡ false = ap (λ bs. in_word bs place) (sym c.as_bytes-bytes.ensures.value) ∙ sym c.is_ascii_alphanumeric.ensures.value ∙ c.if-is_ascii_alphanumeric.false in
+    let fits : c.separates.result ≡ separates text place = c.separates.ensures ∙ ap (λ bs. separates bs place) c.as_bytes-bytes.ensures.value in
     record {
       bytes = c.as_bytes-bytes.ensures.value;
-      within = omega (arith, within);
-      clear = ap (first_failure (is_clear_at text)) next ∙ goes_on (is_clear_at text) place i.clear clear;
-      last = elim c.if-begins_word.branch [
-        | then-begins_word w ↦ w.before-is ∙ sym (passes_here (begins_word text) place (sym begins ∙ w.if-begins_word.true)) ∙ sym (ap (last_place (begins_word text)) next)
-        | else-begins_word w ↦ w.before-is ∙ i.last ∙ sym (passes_below (begins_word text) place (sym begins ∙ w.if-begins_word.false)) ∙ sym (ap (last_place (begins_word text)) next)
-      ];
-      word = elim c.if-begins_word.branch [
-        | then-begins_word w ↦ subst (λ (o : Option ℕ). IfSome o (IsWordPlace text)) (sym w.before-is) (within, begin_is_ascii text place (sym begins ∙ w.if-begins_word.true))
-        | else-begins_word w ↦ subst (λ (o : Option ℕ). IfSome o (IsWordPlace text)) (sym w.before-is) i.word
-      ];
-      boundary = IsCharBoundary-after_ascii text place c.utf8.text within (clear_is_ascii text place clear);
+      walked = walked-gap text place _ _ c.utf8.text w within gap (gap-clear text place _ w gap ∙ sym fits ∙ c.if-not-separates.false) refl;
     }
-
-pub returns-then-not-is_clear_at-clause-place : goal.returns-then-not-is_clear_at-clause-place
-returns-then-not-is_clear_at-clause-place c =
-    let text = c.args.text.now in
-    let within : c.loop-place.place < length text = omega (arith, c.loop-place-test.true, ap length c.as_bytes-bytes.ensures.value) in
-    stopped text c.loop-place.place c.loop-place.invariant.clear (sym c.is_clear_at.ensures ∙ c.if-not-is_clear_at.true) within
 
 pub returns-then-ends_in_ago-clause-place : goal.returns-then-ends_in_ago-clause-place
 returns-then-ends_in_ago-clause-place c =
     let text = c.args.text.now in
-    let i = c.loop-place.invariant in
-    let end : c.loop-place.place ≡ length text = omega (arith, c.loop-place-test.false, i.within, ap length c.as_bytes-bytes.ensures.value) in
-    sym (ended text c.loop-place.place c.loop-place.before true i.clear i.last end (sym c.if-ends_in_ago.true ∙ c.ends_in_ago.ensures))
+    let w = c.loop-place.invariant.walked in
+    let end : c.loop-place.place ≡ length text = omega (arith, c.loop-place-test.false, w.within, ap length c.as_bytes-bytes.ensures.value) in
+    sym (ended text c.loop-place.place _ true w.clear w.last end (sym c.if-ends_in_ago.true ∙ c.ends_in_ago.ensures))
 
 pub returns-clause-place : goal.returns-clause-place
 returns-clause-place c =
     let text = c.args.text.now in
-    let i = c.loop-place.invariant in
-    let end : c.loop-place.place ≡ length text = omega (arith, c.loop-place-test.false, i.within, ap length c.as_bytes-bytes.ensures.value) in
-    sym (ended text c.loop-place.place c.loop-place.before false i.clear i.last end (sym c.if-ends_in_ago.false ∙ c.ends_in_ago.ensures))
+    let w = c.loop-place.invariant.walked in
+    let end : c.loop-place.place ≡ length text = omega (arith, c.loop-place-test.false, w.within, ap length c.as_bytes-bytes.ensures.value) in
+    sym (ended text c.loop-place.place _ false w.clear w.last end (sym c.if-ends_in_ago.false ∙ c.ends_in_ago.ensures))
+
+pub returns-clause-boundary : goal.returns-clause-boundary
+returns-clause-boundary c = c.loop-place.invariant.walked.boundary
