@@ -420,10 +420,10 @@ fn push_named(text: &mut FormatBuf, pattern: &str, t: LocalMoment) -> Option<()>
         SHORT_PATTERN => push_date(text, t.date),
         ISO8601_PATTERN => push_iso8601(text, t),
         ISO8601_STRICT_PATTERN => push_iso8601_strict(text, t),
+        DEFAULT_PATTERN => push_default(text, t),
         RFC2822_PATTERN => push_rfc2822(text, t),
         GIT_RFC2822_PATTERN => push_git_rfc2822(text, t),
         GITOXIDE_PATTERN => push_gitoxide(text, t),
-        DEFAULT_PATTERN => push_default(text, t),
         _ => return None,
     }
     Some(())

@@ -15,13 +15,13 @@ pub returns-in-text-3-clause-shown : goal.returns-in-text-3-clause-shown
 returns-in-text-3-clause-shown c = named-shown c.args.pattern.now iso8601_strict_pattern iso8601_strict_text (local_of c.args.t) c.push_iso8601_strict.new.text.bytes formats_printed.iso8601_strict.always c.in-text-3.is c.push_iso8601_strict.ensures
 
 pub returns-in-text-4-clause-shown : goal.returns-in-text-4-clause-shown
-returns-in-text-4-clause-shown c = named-shown c.args.pattern.now rfc2822_pattern rfc2822_text (local_of c.args.t) c.push_rfc2822.new.text.bytes formats_printed.rfc2822.always c.in-text-4.is c.push_rfc2822.ensures
+returns-in-text-4-clause-shown c = named-shown c.args.pattern.now default_pattern default_text (local_of c.args.t) c.push_default.new.text.bytes formats_printed.default.always c.in-text-4.is c.push_default.ensures
 
 pub returns-in-text-5-clause-shown : goal.returns-in-text-5-clause-shown
-returns-in-text-5-clause-shown c = named-shown c.args.pattern.now git_rfc2822_pattern git_rfc2822_text (local_of c.args.t) c.push_git_rfc2822.new.text.bytes formats_printed.git_rfc2822.always c.in-text-5.is c.push_git_rfc2822.ensures
+returns-in-text-5-clause-shown c = named-shown c.args.pattern.now rfc2822_pattern rfc2822_text (local_of c.args.t) c.push_rfc2822.new.text.bytes formats_printed.rfc2822.always c.in-text-5.is c.push_rfc2822.ensures
 
 pub returns-in-text-6-clause-shown : goal.returns-in-text-6-clause-shown
-returns-in-text-6-clause-shown c = named-shown c.args.pattern.now gitoxide_pattern gitoxide_text (local_of c.args.t) c.push_gitoxide.new.text.bytes formats_printed.gitoxide.always c.in-text-6.is c.push_gitoxide.ensures
+returns-in-text-6-clause-shown c = named-shown c.args.pattern.now git_rfc2822_pattern git_rfc2822_text (local_of c.args.t) c.push_git_rfc2822.new.text.bytes formats_printed.git_rfc2822.always c.in-text-6.is c.push_git_rfc2822.ensures
 
 pub returns-in-text-7-clause-shown : goal.returns-in-text-7-clause-shown
-returns-in-text-7-clause-shown c = named-shown c.args.pattern.now default_pattern default_text (local_of c.args.t) c.push_default.new.text.bytes formats_printed.default.always c.in-text-7.is c.push_default.ensures
+returns-in-text-7-clause-shown c = named-shown c.args.pattern.now gitoxide_pattern gitoxide_text (local_of c.args.t) c.push_gitoxide.new.text.bytes formats_printed.gitoxide.always c.in-text-7.is c.push_gitoxide.ensures
