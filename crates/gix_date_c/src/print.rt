@@ -32,7 +32,8 @@ pub extern "C" fn gix_date_format(
         return store_text(Err(Status::NoSuchOption), out, len);
     };
     let time = load_time(time);
-    match time.format_to_buf(format) {
+    let printed = time.format_to_buf(format);
+    match &printed {
         Some(text) => store_text(Ok(text.as_str()), out, len),
         None => store_printed(time.format(alloc, format), out, len),
     }
@@ -54,7 +55,8 @@ pub extern "C" fn gix_date_format_or_unix(
         return store_text(Err(Status::NoSuchOption), out, len);
     };
     let time = load_time(time);
-    match time.format_to_buf(format) {
+    let printed = time.format_to_buf(format);
+    match &printed {
         Some(text) => store_text(Ok(text.as_str()), out, len),
         None => store_printed(time.format_or_unix(alloc, format), out, len),
     }
@@ -77,7 +79,8 @@ pub extern "C" fn gix_date_format_by_pattern(
         Err(status) => return store_text(Err(status), out, len),
     };
     let time = load_time(time);
-    match time.format_by_pattern_to_buf(pattern) {
+    let printed = time.format_by_pattern_to_buf(pattern);
+    match &printed {
         Some(text) => store_text(Ok(text.as_str()), out, len),
         None => store_printed(time.format_by_pattern(alloc, pattern), out, len),
     }
@@ -100,7 +103,8 @@ pub extern "C" fn gix_date_format_by_pattern_or_unix(
         Err(status) => return store_text(Err(status), out, len),
     };
     let time = load_time(time);
-    match time.format_by_pattern_to_buf(pattern) {
+    let printed = time.format_by_pattern_to_buf(pattern);
+    match &printed {
         Some(text) => store_text(Ok(text.as_str()), out, len),
         None => store_printed(time.format_by_pattern_or_unix(alloc, pattern), out, len),
     }

@@ -1,4 +1,4 @@
-use Rattle.std.proofs.Common.{rules, ℕ, List, IsUtf8, Ok, Err, inl, sym, subst}
+use Rattle.std.proofs.Common.{◌≡◌, rules, ℕ, List, IsUtf8, Ok, Err, Some, IfSome, inl, sym, subst}
 use Rattle.gix_date.specs.Printing.Formats.{IsPatternText, PrintsPatternOrSeconds}
 use Rattle.gix_date.specs.declared.time.Time.{Time}
 use Rattle.gix_date_c.specs.Times.{load_time}
@@ -14,7 +14,9 @@ returns-in-Some c =
     let pattern = c.args.pattern.now in
     let text = c.as_str.result.now in
     let is_text : IsUtf8 text = search rules in
-    let of_time = subst (λ (t : Time). IsPatternText t c.in-Ok.pattern.now c.in-Some.text.bytes) c.load_time-time.ensures c.in-Some.ensures.text in
+    let is_some : c.format_by_pattern_to_buf-printed.result ≡ Some c.in-Some.text = c.in-Some.is in
+    let of_printed = subst (λ o. IfSome o (λ text. IsPatternText c.load_time-time.result c.in-Ok.pattern.now text.bytes)) is_some c.format_by_pattern_to_buf-printed.ensures.text in
+    let of_time = subst (λ (t : Time). IsPatternText t c.in-Ok.pattern.now c.in-Some.text.bytes) c.load_time-time.ensures of_printed in
     let of_pattern = subst (λ (p : List ℕ). IsPatternText t p c.in-Some.text.bytes) c.in-Ok.ensures.0 of_time in
     let is = subst (λ (text : List ℕ). IsPatternText t pattern text) (sym c.as_str.ensures.value) of_pattern in
     let printed = text-printed (PrintsPatternOrSeconds t pattern) c.args.alloc text c.as_str.ensures.fits is_text (λ s bytes. inl (subst (λ (text : List ℕ). IsPatternText t pattern text) (sym bytes) is)) in

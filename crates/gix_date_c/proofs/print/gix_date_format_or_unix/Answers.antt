@@ -1,4 +1,4 @@
-use Rattle.std.proofs.Common.{rules, ℕ, List, IsUtf8, Ok, Err, inl, inr, refl, sym, subst}
+use Rattle.std.proofs.Common.{◌≡◌, rules, ℕ, List, IsUtf8, Ok, Err, Some, IfSome, inl, inr, refl, sym, subst}
 use Rattle.gix_date.specs.Printing.Formats.{IsTextOf, PrintsOrSeconds}
 use Rattle.gix_date.specs.declared.time.Time.{Time}
 use Rattle.gix_date_c.specs.Times.{load_time}
@@ -9,13 +9,15 @@ use Rattle.gix_date_c.proofs.print.gix_date_format_or_unix.Goals as goal
 pub returns-in_default : goal.returns-in_default
 returns-in_default c = (Err NoSuchOption, inr (c.in_default.ensures.none, refl), c.store_text.ensures)
 
-pub returns-in-Some-format_to_buf : goal.returns-in-Some-format_to_buf
-returns-in-Some-format_to_buf c =
+pub returns-in-Some-printed : goal.returns-in-Some-printed
+returns-in-Some-printed c =
     let t = load_time c.args.time.now in
     let format = c.in-Some.format in
     let text = c.as_str.result.now in
     let is_text : IsUtf8 text = search rules in
-    let of_time = subst (λ (t : Time). IsTextOf t format c.in-Some-format_to_buf.text.bytes) c.load_time-time.ensures c.in-Some-format_to_buf.ensures.text in
+    let is_some : c.format_to_buf-printed.result ≡ Some c.in-Some-printed.text = c.in-Some-printed.is in
+    let of_printed = subst (λ o. IfSome o (λ text. IsTextOf c.load_time-time.result format text.bytes)) is_some c.format_to_buf-printed.ensures.text in
+    let of_time = subst (λ (t : Time). IsTextOf t format c.in-Some-printed.text.bytes) c.load_time-time.ensures of_printed in
     let is = subst (λ (text : List ℕ). IsTextOf t format text) (sym c.as_str.ensures.value) of_time in
     let printed = text-printed (PrintsOrSeconds t format) c.args.alloc text c.as_str.ensures.fits is_text (λ s bytes. inl (text-prints t format text s is bytes)) in
-    (Ok text, inl (format, c.in-Some.ensures.format, printed), c.store_text-in-Some-format_to_buf.ensures)
+    (Ok text, inl (format, c.in-Some.ensures.format, printed), c.store_text-in-Some-printed.ensures)
