@@ -13,10 +13,10 @@ use Rattle.gix_date_tool.specs.Messages.{Reports}
 use Rattle.gix_date_tool.specs.Run.{change}
 use Rattle.gix_date_tool.proofs.Sending.{Appends-nil}
 use Rattle.git_date_tool.specs.Answers.{Reply, IsReply}
-use Rattle.git_date_tool.specs.Runs.{AreReplies, reply_lines, Warns, all_dates, Answered, Serves}
+use Rattle.git_date_tool.specs.Runs.{output, AreReplies, reply_lines, Warns, all_dates, Answered, Serves}
 use Rattle.git_date_tool.specs.declared.answers.Query.{Query}
 
-and_true : (b : Bool) → (b && true) ≡ b
+pub and_true : (b : Bool) → (b && true) ≡ b
 and_true true = refl
 and_true false = refl
 
@@ -41,14 +41,14 @@ dates-more replies reply =
     list_all-append (λ (r : Reply). r.is_date) replies (reply ∷ []) ∙ ap (λ b. all_dates replies && b) (and_true reply.is_date)
 
 -- no text was answered yet
-pub Answered-none : (query : Query) (sink messages : StreamState) → Answered query [] (change sink sink) (change messages messages) true
+pub Answered-none : (query : Query) (sink messages : StreamState) → Answered query [] (output (change sink sink) (change messages messages)) true
 Answered-none query sink messages =
     record { replies = []; each = tt; wrote = Appends-nil sink.bytes; warned = refl; all_read_is = refl }
 
 -- some texts, and the next
 pub Answered-more : (query : Query) (texts : List (List ℕ)) (text : List ℕ) (a b c d e f : StreamState) (all_read is_date : Bool)
-    → Answered query texts (change a b) (change d e) all_read → Serves query text (change b c) (change e f) (Ok is_date)
-    → Answered query (texts ++ text ∷ []) (change a c) (change d f) (all_read && is_date)
+    → Answered query texts (output (change a b) (change d e)) all_read → Serves query text (output (change b c) (change e f)) (Ok is_date)
+    → Answered query (texts ++ text ∷ []) (output (change a c) (change d f)) (all_read && is_date)
 Answered-more query texts text a b c d e f all_read is_date h k =
     let reply = k.0 in
     record {

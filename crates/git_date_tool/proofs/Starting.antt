@@ -5,6 +5,7 @@ use Rattle.gix_date_tool.specs.Run.{Change, change}
 use Rattle.gix_date_tool.specs.declared.error.ToolError.TheVariants as errors
 use Rattle.git_date_tool.specs.Command.{Asked}
 use Rattle.git_date_tool.specs.Program.{EndsInUsage, EndsRequest, EndsWithoutZone, IsNoStart, StartsNot, no_zone_words}
+use Rattle.git_date_tool.specs.Runs.{output}
 use Rattle.git_date_tool.specs.Zones.{AsksForName, NeedsSystem}
 use Rattle.git_date_tool.specs.declared.outcome.Outcome.{Outcome}
 use Rattle.git_date_tool.specs.declared.outcome.Outcome.TheVariants.{Answered, Fault, NoClock, Shown}
@@ -22,7 +23,7 @@ starts-not a why w (Answered read) start h = absurd h
 
 -- the usage line is due
 pub usage-due : (a : Asked) (why : WrongWords) (r t : StreamState) (w : Change) (outcome : Outcome) → IsNoStart a why → EndsInUsage why w outcome
-    → EndsRequest a (change r r) w (change t t) outcome
+    → EndsRequest a (change r r) (output w (change t t)) outcome
 usage-due a why r t w outcome start h = inr (refl, refl, starts-not a why w outcome start h)
 
 no-start : (a : Asked) (zone : Option (List ℕ)) → a.zone ≡ zone → NeedsSystem zone → IsNoStart a (no_zone_words zone)
@@ -41,5 +42,5 @@ without-zone a w (Answered read) needs h = absurd h
 
 -- there is no zone
 pub zone-missing : (a : Asked) (r t : StreamState) (w : Change) (outcome : Outcome) → NeedsSystem a.zone → EndsWithoutZone (no_zone_words a.zone) w outcome
-    → EndsRequest a (change r r) w (change t t) outcome
+    → EndsRequest a (change r r) (output w (change t t)) outcome
 zone-missing a r t w outcome needs h = inr (refl, refl, without-zone a w outcome needs h)

@@ -1,5 +1,5 @@
 -- What the zone that is asked for is taken from, and that zone.
-use Rattle.std.proofs.Common.{◌≡◌, refl, sym, subst, inl, inr, ℕ, List, Option, Some, None, Result, Ok, Err}
+use Rattle.std.proofs.Common.{◌≡◌, subst, inl, inr, ℕ, List, Option, Some, None, Ok, Err}
 use Rattle.jiff.specs.Placed.{IsLookedUp}
 use Rattle.jiff.specs.Types.{TimeZone, TimeZoneDatabase}
 use Rattle.jiff.specs.ZoneView.{plain_zone, plain_database, plain_system}

@@ -21,6 +21,7 @@ pub record Reply : Type 0 where
   pub warning : Option (List ℕ)
   pub is_date : Bool
 
+-- how a place is written behind the name of a refusal
 abbrev pub place_text : Option ℕ → List ℕ
 place_text None = []
 place_text (Some place) = space ∷ decimal place
@@ -29,12 +30,15 @@ place_text (Some place) = space ∷ decimal place
 abbrev pub refusal_text : Refusal → List ℕ
 refusal_text e = refusal_name e ++ place_text (refusal_place e)
 
+-- the reply to a text that is refused
 abbrev pub refused : Refusal → Reply
 refused e = record { text = refusal_text e; warning = None; is_date = false }
 
+-- the reply to a text that is a date
 abbrev pub dated : DateLine → Told → Reply
 dated line told = record { text = line_text line; warning = warning_line told; is_date = true }
 
+-- the reply to a text that was read, by the line that shows its date
 abbrev pub line_reply : Result DateLine Refusal → Told → Reply
 line_reply (Ok line) told = dated line told
 line_reply (Err e) told = refused e
@@ -52,6 +56,7 @@ IsTextReply query text reply =
     (found : Result Approximate Refusal) × IsRead query.reader query.strict query.now text found
     × IsFoundReply query text found reply
 
+-- the reply to a line, by whether it is text
 abbrev pub IsReplyTo : Bool → Query → List ℕ → Reply → Type 0
 IsReplyTo true query line reply = IsTextReply query line reply
 IsReplyTo false query line reply = reply ≡ refused NotText

@@ -3,6 +3,7 @@ use Rattle.std.specs.Prelude.{ℕ, Bool, true, false, ◌==◌, ◌-◌, ◌&&�
 use Rattle.std.specs.List.{list_any}
 use Rattle.std.specs.Option.{is_none}
 use Rattle.std.specs.Str.{bytes_eq}
+use Rattle.gix_date.specs.Text.Characters.{minus}
 use Rattle.gix_date.specs.declared.time.Time.{Time}
 use Rattle.gix_date_tool.specs.Command.{moment_or_why}
 use Rattle.gix_date_tool.specs.declared.arguments.NoMoment.{NoMoment as WhyNoMoment}
@@ -13,6 +14,7 @@ use Rattle.git_date_tool.specs.declared.arguments.Given.TheVariants.{Now, Zone, 
 use Rattle.git_date_tool.specs.declared.arguments.Request.{Request}
 use Rattle.git_date_tool.specs.declared.arguments.Step.{Step}
 use Rattle.git_date_tool.specs.declared.arguments.Step.TheVariants as steps
+use Rattle.git_date_tool.specs.declared.arguments.TheConstants.{MAX_OPTIONS}
 use Rattle.git_date_tool.specs.declared.readers.Reader.{Reader}
 use Rattle.git_date_tool.specs.declared.readers.Reader.TheVariants.{Exact, Approxidate, Careful, Gix}
 use Rattle.git_date_tool.specs.declared.shown.Shown.{Shown}
@@ -42,6 +44,7 @@ asked_view r = record {
   texts = map string_bytes r.texts.now;
 }
 
+-- a request of the code, and the option that waits for its value
 abbrev pub taken_view : Request × Option Given → Asked × Option Given
 taken_view both = (asked_view both.0, both.1)
 
@@ -59,7 +62,7 @@ first_asked = record {
 -- a word is an option, or none that the program has
 abbrev pub is_option : List ℕ → Bool
 is_option [] = false
-is_option (b ∷ bs) = b == 45
+is_option (b ∷ bs) = b == minus
 
 -- the option of a name
 abbrev pub option_named : List ℕ → Option Given
@@ -79,14 +82,17 @@ reader_named word =
     else if bytes_eq word (codes "gix") then Some Gix
     else None
 
+-- with this moment, or why there is none
 abbrev pub with_moment : Asked → Result Time WhyNoMoment → Result Asked WrongWords
 with_moment a (Ok t) = Ok (record a { now = Some t })
 with_moment a (Err why) = Err (NoMoment why)
 
+-- with this reader, if there is one
 abbrev pub with_reader : Asked → Option Reader → Result Asked WrongWords
 with_reader a (Some reader) = Ok (record a { reader = reader })
 with_reader a None = Err UnknownReader
 
+-- with this way to show dates, if there is one
 abbrev pub with_shown : Asked → Option Shown → Result Asked WrongWords
 with_shown a (Some shown) = Ok (record a { shown = shown })
 with_shown a None = Err UnknownMode
@@ -102,10 +108,12 @@ with_value a Show value = with_shown a (shown_named value)
 abbrev pub with_texts : Asked → List (List ℕ) → Result Asked WrongWords
 with_texts a texts = if list_any is_option texts then Err LateOption else Ok (record a { texts = texts })
 
+-- after the value of an option none waits
 abbrev pub with_none_waiting : Result Asked WrongWords → Result (Asked × Option Given) WrongWords
 with_none_waiting (Ok a) = Ok (a, None)
 with_none_waiting (Err why) = Err why
 
+-- after an option, if the word is one, its value is awaited
 abbrev pub with_waiting : Asked → Option Given → Result (Asked × Option Given) WrongWords
 with_waiting a (Some given) = Ok (a, Some given)
 with_waiting a None = Err UnknownOption
@@ -135,6 +143,7 @@ step_view steps.Here = Here
 step_view steps.After = After
 step_view (steps.Wrong why) = Wrong why
 
+-- the step of a word that is an option or a value
 abbrev pub step_on : Result (Asked × Option Given) WrongWords → Stepped
 step_on (Ok next) = On next.0 next.1
 step_on (Err why) = Wrong why
@@ -166,4 +175,4 @@ asked_from left a waits (word ∷ more) =
 
 -- what the words of a command line ask for, or what is wrong with them
 abbrev pub asked : List (List ℕ) → Result Asked WrongWords
-asked words = asked_from 100 first_asked None words
+asked words = asked_from MAX_OPTIONS first_asked None words

@@ -15,7 +15,7 @@ use Rattle.gix_date_tool.specs.declared.error.ToolError.TheVariants as errors
 use Rattle.gix_date_tool.specs.declared.program.Status.{Status}
 use Rattle.gix_date_tool.specs.declared.program.Status.TheVariants.{Success, Failure, Usage}
 use Rattle.git_date_tool.specs.Command.{Asked, asked}
-use Rattle.git_date_tool.specs.Runs.{RunsOver, RunsThrough}
+use Rattle.git_date_tool.specs.Runs.{IsUntouched, Output, output, RunsOver, RunsThrough}
 use Rattle.git_date_tool.specs.Wrong.{wrong_words}
 use Rattle.git_date_tool.specs.Zones.{AsksForName, IsAskedZone, NeedsSystem}
 use Rattle.git_date_tool.specs.declared.answers.Query.{Query}
@@ -55,7 +55,7 @@ EndsInUsage why writing _ = ⊥
 
 -- memory was refused for a zone, or the usage line is due
 abbrev pub EndsWithoutZone : WrongWords → Change → Outcome → Type 0
-EndsWithoutZone why writing (Fault errors.Memory) = writing.new ≡ writing.old
+EndsWithoutZone why writing (Fault errors.Memory) = IsUntouched writing
 EndsWithoutZone why writing outcome = EndsInUsage why writing outcome
 
 -- the instant is that of NOW, or some other
@@ -71,6 +71,7 @@ abbrev pub IsNoMoment : Option Time → NoNow → Type 0
 IsNoMoment now Clock = now ≡ None
 IsNoMoment now NoInstant = IsSome now
 
+-- there is no query, since there is no moment
 abbrev pub IsNoQuery : Asked → NoNow → Type 0
 IsNoQuery a why = IsNoMoment a.now why
 
@@ -83,23 +84,22 @@ pub record IsQuery (a : Asked) (query : Query) : Type 0 where
   pub zone : IsAskedZone a.zone (zone_of query.now)
 
 -- a run over the texts, or over the lines of the reader if there is none
-abbrev pub RunsAs : List (List ℕ) → Query → Change → Change → Change → Result Bool ToolError → Type 0
-RunsAs [] query reading writing telling result = RunsThrough query reading writing telling result
-RunsAs (text ∷ texts) query reading writing telling result =
-    (reading.new ≡ reading.old) × RunsOver query (text ∷ texts) writing telling result
+abbrev pub RunsAs : List (List ℕ) → Query → Change → Output → Result Bool ToolError → Type 0
+RunsAs [] query reading out result = RunsThrough query reading out result
+RunsAs (text ∷ texts) query reading out result = IsUntouched reading × RunsOver query (text ∷ texts) out result
 
 -- such a run came to its end, or to a fault
-abbrev pub EndsRun : Asked → Query → Change → Change → Change → Outcome → Type 0
-EndsRun a query reading writing telling (Answered all_read) = RunsAs a.texts query reading writing telling (Ok all_read)
-EndsRun a query reading writing telling (Fault fault) = RunsAs a.texts query reading writing telling (Err fault)
-EndsRun a query reading writing telling _ = ⊥
+abbrev pub EndsRun : Asked → Query → Change → Output → Outcome → Type 0
+EndsRun a query reading out (Answered all_read) = RunsAs a.texts query reading out (Ok all_read)
+EndsRun a query reading out (Fault fault) = RunsAs a.texts query reading out (Err fault)
+EndsRun a query reading out _ = ⊥
 
 -- what is wrong where there is no zone
 abbrev pub no_zone_words : Option (List ℕ) → WrongWords
 no_zone_words (Some text) = NoZone
 no_zone_words None = NoSystemZone
 
--- why the usage line is due though the words are right: there is no zone of a name, a file or the system, or no instant of NOW
+-- Why the usage line is due though the words are right: there is no zone, or NOW is no instant.
 abbrev pub IsNoStart : Asked → WrongWords → Type 0
 IsNoStart a NoZone = AsksForName a.zone
 IsNoStart a NoSystemZone = a.zone ≡ None
@@ -109,30 +109,27 @@ IsNoStart a _ = ⊥
 -- no text was read or answered: the usage line is due, or there was no memory for a zone, or no clock
 abbrev pub StartsNot : Asked → Change → Outcome → Type 0
 StartsNot a writing (Shown why) = IsNoStart a why × EndsInUsage why writing (Shown why)
-StartsNot a writing (Fault errors.Memory) = NeedsSystem a.zone × (writing.new ≡ writing.old)
+StartsNot a writing (Fault errors.Memory) = NeedsSystem a.zone × IsUntouched writing
 StartsNot a writing (Fault fault) = (why : WrongWords) × IsNoStart a why × EndsInUsage why writing (Fault fault)
-StartsNot a writing NoClock = (a.now ≡ None) × (writing.new ≡ writing.old)
+StartsNot a writing NoClock = (a.now ≡ None) × IsUntouched writing
 StartsNot a writing (Answered all_read) = ⊥
 
-abbrev pub IsUntouched : Change → Type 0
-IsUntouched stream = stream.new ≡ stream.old
-
 -- what the program comes to that is asked for this
-abbrev pub EndsRequest : Asked → Change → Change → Change → Outcome → Type 0
-EndsRequest a reading writing telling outcome =
-    ((query : Query) × IsQuery a query × EndsRun a query reading writing telling outcome)
-    ⊎ (IsUntouched reading × IsUntouched telling × StartsNot a writing outcome)
+abbrev pub EndsRequest : Asked → Change → Output → Outcome → Type 0
+EndsRequest a reading out outcome =
+    ((query : Query) × IsQuery a query × EndsRun a query reading out outcome)
+    ⊎ (IsUntouched reading × IsUntouched out.telling × StartsNot a out.writing outcome)
 
 -- what it comes to by the words of its command line
-abbrev pub EndsCommand : Result Asked WrongWords → Change → Change → Change → Outcome → Type 0
-EndsCommand (Ok a) reading writing telling outcome = EndsRequest a reading writing telling outcome
-EndsCommand (Err why) reading writing telling outcome = IsUntouched reading × IsUntouched telling × EndsInUsage why writing outcome
+abbrev pub EndsCommand : Result Asked WrongWords → Change → Output → Outcome → Type 0
+EndsCommand (Ok a) reading out outcome = EndsRequest a reading out outcome
+EndsCommand (Err why) reading out outcome = IsUntouched reading × IsUntouched out.telling × EndsInUsage why out.writing outcome
 
 -- Warnings, the message of the end, and the status are those of such an end.
 pub record Executes (words : List (List ℕ)) (reading writing telling : Change) (status : Status) : Type 0 where
   pub outcome : Outcome
   pub warned : StreamState
-  pub ends : EndsCommand (asked words) reading writing (change telling.old warned) outcome
+  pub ends : EndsCommand (asked words) reading (output writing (change telling.old warned)) outcome
   pub reports : Reports (change warned telling.new) (message_of outcome)
   pub status_is : status ≡ status_of outcome
 

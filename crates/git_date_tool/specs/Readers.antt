@@ -37,20 +37,24 @@ whole t = record { time = t; understood = true; ignored = None }
 abbrev pub careful_options : CarefulOptions
 careful_options = record { raw = Quarter; without_offset = MomentsZone; texts = CarefulTexts }
 
+-- the exact reader of Git finds this
 abbrev pub IsExactly : Zoned → List ℕ → Result Approximate Refusal → Type 0
 IsExactly now text found =
     (result : Result ReadDate DateError) × DateOutcome (zone_of now) (said_by (now_of now) text) result
     × (found ≡ result_map_both of_exact of_git result)
 
+-- the approximate reader of Git finds this
 abbrev pub IsApproximately : Zoned → List ℕ → Result Approximate Refusal → Type 0
 IsApproximately now text found =
     (result : Result Approximate DateError) × ApproximateOutcome now text result × (found ≡ result_map_both (λ a. a) of_git result)
 
+-- the careful reader finds this
 abbrev pub IsCarefully : Zoned → List ℕ → Result Approximate Refusal → Type 0
 IsCarefully now text found =
     (result : Result Time CarefulError) × CarefulOutcome (careful_reading careful_options text) (Some now) result
     × (found ≡ result_map_both whole of_careful result)
 
+-- the reader of gix-date finds this
 abbrev pub IsByGix : Zoned → List ℕ → Result Approximate Refusal → Type 0
 IsByGix now text found =
     (result : Result Time ParseError) × ParseNoAllocOutcome (first_family text) (Some now) result
@@ -63,6 +67,7 @@ IsReadBy Approxidate now text found = IsApproximately now text found
 IsReadBy Careful now text found = IsCarefully now text found
 IsReadBy Gix now text found = IsByGix now text found
 
+-- what was found, unless something was ignored
 abbrev pub unless_ignored : Approximate → Option ℕ → Result Approximate Refusal
 unless_ignored found None = Ok found
 unless_ignored found (Some place) = Err (Ignored place)
@@ -72,6 +77,7 @@ abbrev pub judged : Bool → Approximate → Result Approximate Refusal
 judged strict found =
     if strict then (if found.understood then unless_ignored found found.ignored else Err NotUnderstood) else Ok found
 
+-- what a reader found, if anything, judged so
 abbrev pub judged_if_found : Bool → Result Approximate Refusal → Result Approximate Refusal
 judged_if_found strict (Ok found) = judged strict found
 judged_if_found strict (Err e) = Err e

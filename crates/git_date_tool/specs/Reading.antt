@@ -16,11 +16,11 @@ pub record Cursor : Type 0 where
   pub unread : List ℕ
   pub source : StreamState
 
+-- the cursor of these lines, which come from this source
 abbrev pub cursor : Lines → StreamState → Cursor
 cursor lines source = record { unread = unread lines; source = source }
 
--- What is left of an input whose first line this is: it ends at a newline, or at the end of the input, or the source refused
--- there. A line may be too long, or memory for it be refused: then it has a front of the line, and more is left of it.
+-- How the next line ends: at a newline, at the end of the input, or where the source refused. Otherwise only its front was read.
 abbrev pub LineEnds : List ℕ → List ℕ → Cursor → Result Bool ToolError → Type 0
 LineEnds input line new (Ok true) = input ≡ with_newline line ++ new.unread
 LineEnds input line new (Ok false) = (input ≡ line) × HasEnded new.source × (new.source.fault ≡ None)

@@ -38,6 +38,7 @@ format_named name =
     else if bytes_eq name (codes "RAW") then Some Raw
     else None
 
+-- a format of gix-date, or else a mode of Git
 abbrev pub format_or_mode : Option NamedFormat → Option DateMode → Option Shown
 format_or_mode (Some format) mode = Some (Gix format)
 format_or_mode None mode = option_map Git mode

@@ -26,6 +26,7 @@ abbrev pub warning_of : List ℕ → Approximate → Told
 warning_of text found =
     record { understood = found.understood; ignored = option_map (λ place. (place, word_at text place)) found.ignored }
 
+-- what the code has of a word that was ignored: its place and its bytes
 abbrev pub ignored_view : ℕ × Bor (List ℕ) → ℕ × List ℕ
 ignored_view both = (both.0, both.1.now)
 
@@ -38,6 +39,7 @@ abbrev pub ignored_front : Bool → List ℕ
 ignored_front true = codes "git_date: ignored from byte "
 ignored_front false = codes "git_date: nothing understood; ignored from byte "
 
+-- the line of a warning, by whether anything was understood and what was ignored
 abbrev pub line_by : Bool → Option (ℕ × List ℕ) → Option (List ℕ)
 line_by understood (Some both) =
     Some (with_newline (ignored_front understood ++ decimal both.0 ++ codes ": " ++ both.1))

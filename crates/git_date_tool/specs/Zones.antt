@@ -1,9 +1,10 @@
 -- Which zone a command line asks for. Offsets and rules are zones by their text alone. Of names and files no contract can say what the system
 -- has: a database and bytes are some that it gave.
-use Rattle.std.specs.Prelude.{◌≡◌, ◌⊎◌, ℕ, ◌+◌, ◌*◌, ◌≤◌, ◌==◌, ◌||◌, nat_lt, List, [], ◌∷◌, length, ℤ, pos, neg_ℤ, if◌then◌else◌, Option, Some, None, Result, Ok, Err}
+use Rattle.std.specs.Prelude.{◌≡◌, ◌⊎◌, ℕ, ◌+◌, ◌*◌, ◌≤◌, ◌==◌, ◌||◌, nat_lt, List, [], ◌∷◌, length, ℤ, pos, neg_ℤ, if◌then◌else◌, Option, Some, None, Result, Ok}
 use Rattle.jiff.specs.Placed.{IsLookedUp, IsPosixZone, fixed_zone}
 use Rattle.jiff.specs.Types.{Offset, TimeZone, TimeZoneDatabase, UTC}
 use Rattle.jiff.specs.ZoneView.{plain_zone, plain_database, plain_system}
+use Rattle.jiff_core.specs.Calendar.{IsBetween}
 use Rattle.jiff_core.specs.declared.error.Error.{Error}
 use Rattle.jiff_tz.specs.PosixReader.{read_whole}
 use Rattle.jiff_tz.specs.System.{IsNamed, IsSystemZone, IsTable, Lacks}
@@ -15,6 +16,8 @@ use Rattle.gix_date.specs.Fields.ClockNumbers.{seconds_per_minute, seconds_per_h
 use Rattle.gix_date.specs.Text.Characters.{plus, minus, colon}
 use Rattle.gix_date.specs.Text.Front.{◌>>=◌}
 use Rattle.gix_date.specs.Text.Numbers.{two_digit_value}
+use Rattle.git_date_tool.specs.declared.offsets.TheConstants.{MAX_HOURS, MAX_MINUTES}
+use Rattle.git_date_tool.specs.declared.zones.TheConstants.{MAX_FILE_BYTES}
 use Rattle.git_date_tool.specs.declared.zones.ZoneSource.{ZoneSource}
 use Rattle.git_date_tool.specs.declared.zones.ZoneSource.TheVariants as sources
 
@@ -22,17 +25,23 @@ use Rattle.git_date_tool.specs.declared.zones.ZoneSource.TheVariants as sources
 abbrev pub distance : ℕ → ℕ → ℕ
 distance hours minutes = seconds_per_hour * hours + seconds_per_minute * minutes
 
+-- the seconds are no further from UTC than the most hours and minutes
+abbrev pub IsNear : ℤ → Type 0
+IsNear seconds = IsBetween (neg_ℤ (pos (distance MAX_HOURS MAX_MINUTES))) (pos (distance MAX_HOURS MAX_MINUTES)) seconds
+
 -- so far east of UTC after a plus, west after a minus; below 26 hours, as zones of `jiff` are
 abbrev pub signed : ℕ → ℕ → ℕ → Option ℤ
 signed sign hours minutes =
-    if nat_lt 25 hours || nat_lt 59 minutes then None
+    if nat_lt MAX_HOURS hours || nat_lt MAX_MINUTES minutes then None
     else if sign == plus then Some (pos (distance hours minutes))
     else if sign == minus then Some (neg_ℤ (pos (distance hours minutes)))
     else None
 
+-- the seconds of a sign and two digits of hours
 abbrev pub signed_hours : ℕ → ℕ → ℕ → Option ℤ
 signed_hours sign tens ones = two_digit_value tens ones >>= λ hours. signed sign hours 0
 
+-- the seconds of a sign, two digits of hours and two of minutes
 abbrev pub signed_clock : ℕ → ℕ → ℕ → ℕ → ℕ → Option ℤ
 signed_clock sign a b c d = two_digit_value a b >>= λ hours. two_digit_value c d >>= λ minutes. signed sign hours minutes
 
@@ -62,10 +71,10 @@ IsPlainZone None text zone = IsPosixZone text zone
 abbrev pub IsName : List ℕ → Type 0
 IsName text = (offset_in text ≡ None) × (read_whole text ≡ None)
 
--- the bytes of some file, of 1 MiB at most, are this table
+-- the bytes of some file within the limit are this table
 pub record IsOfFile (table : Tzif) : Type 0 where
   pub bytes : List ℕ
-  pub fits : length bytes ≤ 1_048_576
+  pub fits : length bytes ≤ MAX_FILE_BYTES
   pub read : read_tzif bytes ≡ Ok (tzif_view table)
 
 -- the zone is the table of some file
@@ -94,7 +103,7 @@ abbrev pub AsksForName : Option (List ℕ) → Type 0
 AsksForName (Some text) = IsName text
 AsksForName None = ⊥
 
--- so it is, or the system's own
+-- the zone that is asked for is that of a name, of a file, or of the system
 abbrev pub NeedsSystem : Option (List ℕ) → Type 0
 NeedsSystem (Some text) = IsName text
 NeedsSystem None = Unit {0}

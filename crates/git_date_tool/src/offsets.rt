@@ -1,11 +1,16 @@
 //! Offsets from UTC, as an option has them.
-ghost use Rattle.std.specs.Prelude.{◌≡◌, ◌<◌, IfSome, option_map, pos, neg_ℤ};
+ghost use Rattle.std.specs.Prelude.{◌≡◌, ◌<◌, IfSome, option_map};
 ghost use Rattle.jiff.specs.ZoneView.{plain_zone};
-ghost use Rattle.jiff_core.specs.Calendar.{IsBetween};
 ghost use Rattle.gix_date.specs.Text.Numbers.{two_digit_value};
-ghost use Rattle.git_date_tool.specs.Zones.{IsFixedAt, IsOffsetZone, offset_in, signed, signed_clock, signed_hours};
+ghost use Rattle.git_date_tool.specs.Zones.{IsFixedAt, IsNear, IsOffsetZone, offset_in, signed, signed_clock, signed_hours};
 
 use jiff::tz::{Offset, TimeZone};
+
+/// The most hours of an offset.
+const MAX_HOURS: u8 = 25;
+
+/// The most minutes beside the hours of an offset.
+const MAX_MINUTES: u8 = 59;
 
 /// The zone that always has the offset of a text: a sign, two digits of hours to 25, and perhaps two of minutes, with a colon
 /// before them or without. `None` for any other text.
@@ -20,7 +25,7 @@ pub(crate) fn offset_zone(text: &str) -> Option<TimeZone<'static>>
 
 /// The zone that is always so many seconds east of UTC.
 fn fixed_zone(seconds: i32) -> TimeZone<'static>
-    requires { IsBetween (neg_ℤ (pos 93_540)) (pos 93_540) seconds }
+    requires { IsNear seconds }
     ensures { IsFixedAt seconds (plain_zone result) }
 {
     let Ok(offset) = Offset::from_seconds(seconds) else {
@@ -33,7 +38,7 @@ fn fixed_zone(seconds: i32) -> TimeZone<'static>
 #[tactic(auto, unfolding(crate::specs::Zones::offset_in))]
 fn offset_in(text: &str) -> Option<i32>
     ensures value { result ≡ offset_in text.now }
-    ensures near { IfSome result (IsBetween (neg_ℤ (pos 93_540)) (pos 93_540)) }
+    ensures near { IfSome result IsNear }
 {
     match text.as_bytes() {
         [sign, a, b] => signed_hours(*sign, *a, *b),
@@ -52,7 +57,7 @@ fn offset_in(text: &str) -> Option<i32>
 /// The seconds of hours alone.
 fn signed_hours(sign: u8, tens: u8, ones: u8) -> Option<i32>
     ensures value { result ≡ signed_hours sign tens ones }
-    ensures near { IfSome result (IsBetween (neg_ℤ (pos 93_540)) (pos 93_540)) }
+    ensures near { IfSome result IsNear }
 {
     let hours = two_digits(tens, ones)?;
     signed(sign, hours, 0)
@@ -61,7 +66,7 @@ fn signed_hours(sign: u8, tens: u8, ones: u8) -> Option<i32>
 /// The seconds of hours and minutes.
 fn signed_clock(sign: u8, a: u8, b: u8, c: u8, d: u8) -> Option<i32>
     ensures value { result ≡ signed_clock sign a b c d }
-    ensures near { IfSome result (IsBetween (neg_ℤ (pos 93_540)) (pos 93_540)) }
+    ensures near { IfSome result IsNear }
 {
     let hours = two_digits(a, b)?;
     let minutes = two_digits(c, d)?;
@@ -83,9 +88,9 @@ fn two_digits(tens: u8, ones: u8) -> Option<u8>
 /// The seconds of hours and minutes east or west of UTC.
 fn signed(sign: u8, hours: u8, minutes: u8) -> Option<i32>
     ensures value { result ≡ signed sign hours minutes }
-    ensures near { IfSome result (IsBetween (neg_ℤ (pos 93_540)) (pos 93_540)) }
+    ensures near { IfSome result IsNear }
 {
-    if hours > 25 || minutes > 59 {
+    if hours > MAX_HOURS || minutes > MAX_MINUTES {
         return None;
     }
     let distance = 3600 * i32::from(hours) + 60 * i32::from(minutes);

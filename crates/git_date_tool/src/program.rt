@@ -5,6 +5,7 @@ ghost use Rattle.gix_date_tool.specs.Messages.{Reports};
 ghost use Rattle.gix_date_tool.specs.Run.{change};
 ghost use Rattle.git_date_tool.specs.Command.{asked, asked_view};
 ghost use Rattle.git_date_tool.specs.Program.{EndsCommand, EndsInUsage, EndsRequest, EndsRun, EndsWithoutZone, Executes, IsMomentIn, IsNoMoment, IsNoQuery, IsQuery, ShowsUsage, message_of, no_zone_words, status_of};
+ghost use Rattle.git_date_tool.specs.Runs.{output};
 ghost use Rattle.git_date_tool.specs.Zones.{IsAskedZone};
 
 use crate::answers::Query;
@@ -72,8 +73,8 @@ fn dispatch<S: Files + Env + Clock + AllocGlobal + Clone + Drop, R: Source, W: S
     messages: &mut M,
 ) -> Outcome
     ensures { EndsCommand (asked (map string_bytes words.now)) (change (R.known reader.old) (R.known reader.new))
-        (change (W.known writer.old) (W.known writer.new))
-        (change (M.known messages.old) (M.known messages.new)) result }
+        (output (change (W.known writer.old) (W.known writer.new))
+        (change (M.known messages.old) (M.known messages.new))) result }
 {
     match read_words(words) {
         Ok(request) => execute_request(system, request, reader, writer, messages),
@@ -89,8 +90,8 @@ fn execute_request<
     M: Sink,
 >(system: &S, request: Request<'_>, reader: &mut R, writer: &mut W, messages: &mut M) -> Outcome
     ensures { EndsRequest (asked_view request.entry) (change (R.known reader.old) (R.known reader.new))
-        (change (W.known writer.old) (W.known writer.new))
-        (change (M.known messages.old) (M.known messages.new)) result }
+        (output (change (W.known writer.old) (W.known writer.new))
+        (change (M.known messages.old) (M.known messages.new))) result }
 {
     let source = match source_asked(system, request.zone) {
         Ok(source) => source,
@@ -119,8 +120,8 @@ fn run<R: Source, W: Sink, M: Sink>(
     messages: &mut M,
 ) -> Outcome
     ensures { EndsRun (asked_view request.entry) query.entry.now (change (R.known reader.old) (R.known reader.new))
-        (change (W.known writer.old) (W.known writer.new))
-        (change (M.known messages.old) (M.known messages.new)) result }
+        (output (change (W.known writer.old) (W.known writer.new))
+        (change (M.known messages.old) (M.known messages.new))) result }
 {
     let ran = if request.texts.is_empty() {
         run_through(alloc, query, reader, writer, messages)

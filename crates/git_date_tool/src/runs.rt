@@ -2,7 +2,7 @@
 ghost use Rattle.std.specs.Prelude.{◌≡◌, map, string_bytes};
 ghost use Rattle.gix_date_tool.specs.Lines.{last_line};
 ghost use Rattle.gix_date_tool.specs.Run.{change};
-ghost use Rattle.git_date_tool.specs.Runs.{RunsOver, RunsThrough, ServesLast, end_of};
+ghost use Rattle.git_date_tool.specs.Runs.{RunsOver, RunsThrough, ServesLast, end_of, output};
 
 use crate::answers::Query;
 use crate::reading::Lines;
@@ -19,8 +19,8 @@ pub(crate) fn run_over<W: Sink, M: Sink>(
     writer: &mut W,
     messages: &mut M,
 ) -> Result<bool, ToolError>
-    ensures { RunsOver query.entry.now (map string_bytes texts.now) (change (W.known writer.old) (W.known writer.new))
-        (change (M.known messages.old) (M.known messages.new)) result }
+    ensures { RunsOver query.entry.now (map string_bytes texts.now) (output (change (W.known writer.old) (W.known writer.new))
+        (change (M.known messages.old) (M.known messages.new))) result }
 {
     let mut all_read = true;
     for text in texts {
@@ -42,8 +42,8 @@ pub(crate) fn run_through<R: Source, W: Sink, M: Sink>(
     messages: &mut M,
 ) -> Result<bool, ToolError>
     ensures { RunsThrough query.entry.now (change (R.known reader.old) (R.known reader.new))
-        (change (W.known writer.old) (W.known writer.new))
-        (change (M.known messages.old) (M.known messages.new)) result }
+        (output (change (W.known writer.old) (W.known writer.new))
+        (change (M.known messages.old) (M.known messages.new))) result }
 {
     let mut lines = Lines::new();
     let mut line = Vec::new(alloc);
@@ -55,7 +55,11 @@ pub(crate) fn run_through<R: Source, W: Sink, M: Sink>(
             Err(fault) => return Err(fault),
         };
         if !goes_on {
-            return serve_last(alloc, query, line.as_slice(), all_read, writer, messages);
+            let is_date = match serve_last(alloc, query, line.as_slice(), writer, messages) {
+                Ok(is_date) => is_date,
+                Err(fault) => return Err(fault),
+            };
+            return Ok(all_read & is_date);
         }
         let is_date = match serve(alloc, query, line.as_slice(), writer, messages) {
             Ok(is_date) => is_date,
@@ -70,25 +74,21 @@ pub(crate) fn run_through<R: Source, W: Sink, M: Sink>(
     }
 }
 
-/// Answers what stands at the end of the input, if a byte does.
+/// Answers what stands at the end of the input, if a byte does. `false` if that is no date.
 fn serve_last<W: Sink, M: Sink>(
     alloc: Global,
     query: &Query<'_>,
     line: &[u8],
-    all_read: bool,
     writer: &mut W,
     messages: &mut M,
 ) -> Result<bool, ToolError>
-    ensures { ServesLast query.entry.now (last_line line.now) all_read (change (W.known writer.old) (W.known writer.new))
-        (change (M.known messages.old) (M.known messages.new)) result }
+    ensures { ServesLast query.entry.now (last_line line.now) (output (change (W.known writer.old) (W.known writer.new))
+        (change (M.known messages.old) (M.known messages.new))) result }
 {
     if line.is_empty() {
-        return Ok(all_read);
+        return Ok(true);
     }
-    match serve(alloc, query, line, writer, messages) {
-        Ok(is_date) => Ok(all_read & is_date),
-        Err(fault) => Err(fault),
-    }
+    serve(alloc, query, line, writer, messages)
 }
 
 /// After the last line that an input may have no byte may stand.

@@ -1,7 +1,7 @@
 //! Texts answered one after the other.
 ghost use Rattle.std.specs.Prelude.{◌≡◌};
 ghost use Rattle.gix_date_tool.specs.Run.{change};
-ghost use Rattle.git_date_tool.specs.Runs.{Serves};
+ghost use Rattle.git_date_tool.specs.Runs.{Serves, output};
 
 use crate::answers::{Query, answer_line};
 use gix_date::device::Sink;
@@ -16,8 +16,8 @@ pub(crate) fn serve<W: Sink, M: Sink>(
     writer: &mut W,
     messages: &mut M,
 ) -> Result<bool, ToolError>
-    ensures { Serves query.entry.now text.now (change (W.known writer.old) (W.known writer.new))
-        (change (M.known messages.old) (M.known messages.new)) result }
+    ensures { Serves query.entry.now text.now (output (change (W.known writer.old) (W.known writer.new))
+        (change (M.known messages.old) (M.known messages.new))) result }
 {
     let Ok(answer) = answer_line(alloc, query, text) else {
         return Err(ToolError::Memory);
