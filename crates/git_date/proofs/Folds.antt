@@ -1,72 +1,96 @@
 -- What is left to read of a text.
 use Rattle.std.proofs.Common.{◌≡◌, ◌∙◌, ◌<◌, ◌≤◌, ℕ, zero, suc, Bool, true, false, cond, List, [], ◌∷◌, length, refl, ap, sym, arith, Option, Result, Ok, Err}
-use Rattle.git_date.specs.Tokens.{Token, tokens, bytes_left, texts, is_end}
+use Rattle.git_date.specs.Approximate.{Read}
+use Rattle.git_date.specs.Approximate as approximate
+use Rattle.git_date.specs.ApproximateZones.{Choices}
+use Rattle.git_date.specs.Tokens.{Token, tokens, bytes_left, texts, is_end, walked}
 use Rattle.git_date.specs.Digits.{Stepped}
-use Rattle.git_date.specs.Reading.{nothing_read, read_on, and_then, rule, steps, reading_of}
+use Rattle.git_date.specs.Reading.{read_on, and_then, rule}
+use Rattle.git_date.specs.Reading as exact
+use Rattle.git_date.specs.declared.approximate.answer.Today.{Today}
+use Rattle.git_date.specs.declared.approximate.drafts.Draft.{Draft}
 use Rattle.git_date.specs.declared.dates.Now.{Now}
 use Rattle.git_date.specs.declared.fault.Fault.{Fault}
 use Rattle.git_date.specs.declared.fields.Fields.{Fields}
 use Rattle.git_date.specs.declared.reader.Reading.{Reading}
 use Rattle.git_date.proofs.TokenRuns.{texts_are}
 
--- what stands in `rest`, read after this, gives what the text says; there are steps enough
-pub record Left (now : Now) (text rest : List ℕ) (r : Reading) : Type 0 where
+abbrev pub Go : Type 0 → Type 0
+Go S = S → List Token → Result S Fault
+
+abbrev pub Step : Type 0 → Type 0
+Step S = S → Token → List Token → Go S → Result S Fault
+
+-- what stands in `rest`, read after this, gives what the whole text does; there are steps enough
+pub record Left {S : Type 0} (step : Step S) (whole : Result S Fault) (rest : List ℕ) (s : S) : Type 0 where
   pub count : ℕ
   pub enough : length rest ≤ count
-  pub same : steps now count r (tokens rest) ≡ reading_of now text
+  pub same : walked step count s (tokens rest) ≡ whole
 
-pub left-all : (now : Now) (text : List ℕ) → Left now text text nothing_read
-unfolding reading_of
-left-all now text = record { count = length text; enough = omega arith; same = refl }
+pub left-all : {S : Type 0} (step : Step S) (text : List ℕ) (s : S) → Left step (walked step (length text) s (tokens text)) text s
+left-all step text s = record { count = length text; enough = omega arith; same = refl }
 
-nothing-left : (now : Now) (n : ℕ) (r : Reading) → steps now n r [] ≡ Ok r
-unfolding steps
-nothing-left now zero r = refl
-nothing-left now (suc n) r = refl
+nothing-left : {S : Type 0} (step : Step S) (n : ℕ) (s : S) → walked step n s [] ≡ Ok s
+unfolding walked
+nothing-left step zero s = refl
+nothing-left step (suc n) s = refl
 
-pub left-none : (now : Now) (text rest : List ℕ) (r : Reading) → Left now text rest r → tokens rest ≡ [] → Ok r ≡ reading_of now text
-left-none now text rest r left e = sym (nothing-left now left.count r) ∙ ap (steps now left.count r) (sym e) ∙ left.same
+pub left-none : {S : Type 0} (step : Step S) (whole : Result S Fault) (rest : List ℕ) (s : S) → Left step whole rest s → tokens rest ≡ [] → Ok s ≡ whole
+left-none step whole rest s left e = sym (nothing-left step left.count s) ∙ ap (walked step left.count s) (sym e) ∙ left.same
 
--- what goes on after a step
-abbrev pub later : Now → ℕ → Reading → ℕ → Stepped → Result Reading Fault
-later now n r left step = and_then step (λ next. steps now n (read_on r left next.0) next.1)
+first-by : {S : Type 0} (step : Step S) (whole : Result S Fault) (n : ℕ) (rest after : List ℕ) (s : S) (t : Token) → length rest ≤ n
+    → walked step n s (tokens rest) ≡ whole → tokens rest ≡ t ∷ tokens after → length after < length rest
+    → (m : ℕ) × (length after ≤ m) × (step s t (tokens after) (λ next more. walked step m next more) ≡ whole)
+unfolding walked
+first-by step whole zero rest after s t enough same e shorter = absurd (omega arith)
+first-by step whole (suc n) rest after s t enough same e shorter = (n, omega arith, ap (walked step (suc n) s) (sym e) ∙ same)
 
--- the next of so many steps
-stepped : (now : Now) (n : ℕ) (r : Reading) (t : Token) (more : List Token) (b : Bool) (s : Stepped) → is_end t ≡ b → rule now r.fields t more ≡ s
-    → steps now (suc n) r (t ∷ more) ≡ cond b (Ok r) (later now n r (bytes_left (t ∷ more)) s)
-unfolding steps
-stepped now n r t more b s e is =
-    ap (λ b. cond b (Ok r) (later now n r (bytes_left (t ∷ more)) (rule now r.fields t more))) e
-    ∙ ap (λ (s : Stepped). cond b (Ok r) (later now n r (bytes_left (t ∷ more)) s)) is
+-- a step that ends the reading
+pub left-ends : {S : Type 0} (step : Step S) (whole value : Result S Fault) (rest after : List ℕ) (s : S) (t : Token) → Left step whole rest s
+    → tokens rest ≡ t ∷ tokens after → length after < length rest → ((go : Go S) → step s t (tokens after) go ≡ value) → value ≡ whole
+left-ends step whole value rest after s t left e shorter is =
+    let found = first-by step whole left.count rest after s t left.enough left.same e shorter in
+    sym (is (λ next more. walked step found.0 next more)) ∙ found.2
+
+-- one that goes on
+pub left-next : {S : Type 0} (step : Step S) (whole : Result S Fault) (rest after further : List ℕ) (s next : S) (t : Token) → Left step whole rest s
+    → tokens rest ≡ t ∷ tokens after → length after < length rest → ((go : Go S) → step s t (tokens after) go ≡ go next (tokens further))
+    → length further ≤ length after → Left step whole further next
+left-next step whole rest after further s next t left e shorter is less =
+    let found = first-by step whole left.count rest after s t left.enough left.same e shorter in
+    record { count = found.0; enough = omega (arith, found.1); same = sym (is (λ next more. walked step found.0 next more)) ∙ found.2 }
+
+-- steps of the exact reader
+stepped : (now : Now) (r : Reading) (t : Token) (more : List Token) (b : Bool) (s : Stepped) (go : Go Reading) → is_end t ≡ b → rule now r.fields t more ≡ s
+    → exact.step now r t more go ≡ cond b (Ok r) (and_then s (λ next. go (read_on r (bytes_left (t ∷ more)) next.0) next.1))
+stepped now r t more b s go e is = rw (e, is) refl
+
+pub step-end : (now : Now) (r : Reading) (t : Token) (more : List Token) → is_end t ≡ true → (go : Go Reading) → exact.step now r t more go ≡ Ok r
+step-end now r t more e go = stepped now r t more true (rule now r.fields t more) go e refl
+
+pub step-refused : (now : Now) (r : Reading) (t : Token) (more : List Token) (fault : Fault) → is_end t ≡ false → Err fault ≡ rule now r.fields t more
+    → (go : Go Reading) → exact.step now r t more go ≡ Err fault
+step-refused now r t more fault e is go = stepped now r t more false (Err fault) go e (sym is)
 
 -- so many bytes are left from a token on
 bytes-at : (rest after : List ℕ) (t : Token) → tokens rest ≡ t ∷ tokens after → bytes_left (t ∷ tokens after) ≡ length rest
 bytes-at rest after t e = ap (λ (ts : List Token). length (texts ts)) (sym e) ∙ ap (λ (bytes : List ℕ). length bytes) (texts_are rest)
 
-first-by : (now : Now) (n : ℕ) (text rest after : List ℕ) (r : Reading) (t : Token) (b : Bool) (s : Stepped) → length rest ≤ n
-    → steps now n r (tokens rest) ≡ reading_of now text → tokens rest ≡ t ∷ tokens after → length after < length rest → is_end t ≡ b → rule now r.fields t (tokens after) ≡ s
-    → (m : ℕ) × (length after ≤ m) × (cond b (Ok r) (later now m r (length rest) s) ≡ reading_of now text)
-first-by now zero text rest after r t b s enough same e shorter end is = absurd (omega arith)
-first-by now (suc n) text rest after r t b s enough same e shorter end is = (
-  n,
-  omega arith,
-  ap (λ (left : ℕ). cond b (Ok r) (later now n r left s)) (sym (bytes-at rest after t e))
-      ∙ sym (stepped now n r t (tokens after) b s end is) ∙ ap (steps now (suc n) r) (sym e) ∙ same,
-)
+pub step-next : (now : Now) (rest after further : List ℕ) (r : Reading) (next : Option Fields) (t : Token) → tokens rest ≡ t ∷ tokens after → is_end t ≡ false
+    → Ok (next, tokens further) ≡ rule now r.fields t (tokens after)
+    → (go : Go Reading) → exact.step now r t (tokens after) go ≡ go (read_on r (length rest) next) (tokens further)
+step-next now rest after further r next t e on is go =
+    stepped now r t (tokens after) false (Ok (next, tokens further)) go on (sym is)
+    ∙ ap (λ (left : ℕ). go (read_on r left next) (tokens further)) (bytes-at rest after t e)
 
-pub left-end : (now : Now) (text rest after : List ℕ) (r : Reading) (t : Token) → Left now text rest r → tokens rest ≡ t ∷ tokens after → length after < length rest
-    → is_end t ≡ true → Ok r ≡ reading_of now text
-left-end now text rest after r t left e shorter end =
-    (first-by now left.count text rest after r t true (rule now r.fields t (tokens after)) left.enough left.same e shorter end refl).2
+-- steps of the approximate reader
+abbrev draft_step : Choices → Today → Step Draft
+draft_step zone today d t more go = approximate.step zone today d t more go
 
-pub left-refused : (now : Now) (text rest after : List ℕ) (r : Reading) (t : Token) (fault : Fault) → Left now text rest r → tokens rest ≡ t ∷ tokens after
-    → length after < length rest → is_end t ≡ false → Err fault ≡ rule now r.fields t (tokens after) → Err fault ≡ reading_of now text
-left-refused now text rest after r t fault left e shorter go is =
-    (first-by now left.count text rest after r t false (Err fault) left.enough left.same e shorter go (sym is)).2
+pub draft-refused : (zone : Choices) (today : Today) (d : Draft) (t : Token) (more : List Token) (fault : Fault) → Err fault ≡ approximate.rule zone today d t more
+    → (go : Go Draft) → draft_step zone today d t more go ≡ Err fault
+draft-refused zone today d t more fault is go = ap (λ (s : Read). and_then s (λ next. go next.0 next.1)) (sym is)
 
-pub left-next : (now : Now) (text rest after further : List ℕ) (r : Reading) (next : Option Fields) (t : Token) → Left now text rest r
-    → tokens rest ≡ t ∷ tokens after → length after < length rest → is_end t ≡ false
-    → Ok (next, tokens further) ≡ rule now r.fields t (tokens after) → length further ≤ length after → Left now text further (read_on r (length rest) next)
-left-next now text rest after further r next t left e shorter go is less =
-    let found = first-by now left.count text rest after r t false (Ok (next, tokens further)) left.enough left.same e shorter go (sym is) in
-    record { count = found.0; enough = omega (arith, found.1); same = found.2 }
+pub draft-next : (zone : Choices) (today : Today) (d next : Draft) (t : Token) (more rest : List Token) → Ok (next, rest) ≡ approximate.rule zone today d t more
+    → (go : Go Draft) → draft_step zone today d t more go ≡ go next rest
+draft-next zone today d next t more rest is go = ap (λ (s : Read). and_then s (λ next. go next.0 next.1)) (sym is)

@@ -1,19 +1,17 @@
 -- Where the places of answers and refusals are: at characters of the text.
-use Rattle.std.proofs.Common.{◌≡◌, ◌∙◌, ◌<◌, ◌-◌, ◌+◌, pos, option_map, ℕ, zero, suc, ℤ, Bool, true, false, cond, List, [], ◌∷◌, ◌++◌, length, get_or, refl, ap, sym, subst, arith, append_assoc, length-append, Option, Some, None, IfSome, Result, Ok, Err}
+use Rattle.std.proofs.Common.{◌≡◌, ◌∙◌, ◌<◌, ◌-◌, ◌+◌, pos, option_map, ℕ, ℤ, Bool, true, false, cond, List, [], ◌∷◌, ◌++◌, length, get_or, refl, ap, sym, subst, arith, append_assoc, length-append, Option, Some, None, IfSome, Result, Ok, Err}
 use Rattle.std.proofs.lemmas.Str.{IsCharBoundary-before_ascii}
 use Rattle.std.proofs.Math.Seq.{get_or-append_seam}
 use Rattle.std.specs.Char.{is_ascii_alphabetic, is_ascii_digit}
 use Rattle.std.specs.Int.Signed.{le_z}
-use Rattle.std.specs.Option.{option_or}
 use Rattle.jiff.specs.Types.{TimeZone}
 use Rattle.gix_date.proofs.Text.AsciiCuts.{digit_is_ascii, letter_is_ascii}
 use Rattle.gix_date.specs.Fields.Zoned.{is_instant}
 use Rattle.gix_date.specs.declared.time.Time.{Time}
-use Rattle.git_date.specs.Tokens.{Token, Letters, Digits, Mark, token_text, letter_before, digit_before, tokens, texts, bytes_left, is_end}
+use Rattle.git_date.specs.Tokens.{Token, Letters, Digits, Mark, token_text, letter_before, digit_before, tokens, texts}
 use Rattle.git_date.specs.Dates.{exact_seconds}
-use Rattle.git_date.specs.Digits.{Stepped}
 use Rattle.git_date.specs.Offsets.{at_text}
-use Rattle.git_date.specs.Reading.{nothing_read, read_on, and_then, rule, steps, reading_of, place_in, at_said, by_seconds, fields_said, at_or_fields, said_by}
+use Rattle.git_date.specs.Reading.{nothing_read, reading_of, place_in, at_said, by_seconds, fields_said, at_or_fields, said_by}
 use Rattle.git_date.specs.Outcome.{date_at, date_in, instant_seconds, AtOffset, DateOutcome, IsPlaceIn, IsErrorIn, HasPlacesIn}
 use Rattle.git_date.specs.declared.date.ReadDate.{ReadDate}
 use Rattle.git_date.specs.declared.dates.Now.{Now}
@@ -22,7 +20,7 @@ use Rattle.git_date.specs.declared.fault.Fault.{Fault}
 use Rattle.git_date.specs.declared.fault.Fault.TheVariants as fault
 use Rattle.git_date.specs.declared.reader.Reading.{Reading}
 use Rattle.git_date.specs.declared.reader.Said.{Said}
-use Rattle.git_date.proofs.Kept.{IsKept, Leaves, IsFaultAt, IsAt, first-at, rule-left, unused-at, either}
+use Rattle.git_date.proofs.Kept.{IsKept, IsAt, IsReadAt, steps-at, either}
 use Rattle.git_date.proofs.TokenRuns.{texts_are}
 
 -- a run has a byte, which is no part of a longer character
@@ -92,32 +90,12 @@ kept text = record {
 
 -- the places of what was read
 abbrev IsReadIn : List ℕ → Result Reading Fault → Type 0
-IsReadIn text (Ok r) = IsAt (IsPlaceOf text) r.ignored
-IsReadIn text (Err e) = IsFaultAt (IsPlaceOf text) e
-
-after-step : (text : List ℕ) (now : Now) (n : ℕ) (r : Reading) (t : Token) (more : List Token) (step : Stepped)
-    → ((other : Reading) (rest : List Token) → Ends text rest → IsAt (IsPlaceOf text) other.ignored → IsReadIn text (steps now n other rest))
-    → Ends text (t ∷ more) → IsAt (IsPlaceOf text) r.ignored → rule now r.fields t more ≡ step → Leaves (Ends text) (IsPlaceOf text) step
-    → IsReadIn text (and_then step (λ next. steps now n (read_on r (bytes_left (t ∷ more)) next.0) next.1))
-after-step text now n r t more (Err e) then q h is left = left
-after-step text now n r t more (Ok (Some f, rest)) then q h is left = then (record r { fields = f }) rest left h
-after-step text now n r t more (Ok (None, rest)) then q h is left =
-    then (record r { ignored = option_or r.ignored (Some (bytes_left (t ∷ more))) }) rest left
-    (first-at (IsPlaceOf text) r.ignored (Some (bytes_left (t ∷ more))) h (unused-at (Ends text) (Ends text) (IsPlaceOf text) (kept text) now r.fields t more rest q is))
-
-steps-at : (text : List ℕ) (now : Now) (n : ℕ) (r : Reading) (ts : List Token) → Ends text ts → IsAt (IsPlaceOf text) r.ignored → IsReadIn text (steps now n r ts)
-unfolding steps
-steps-at text now zero r [] q h = h
-steps-at text now (suc n) r [] q h = h
-steps-at text now zero r (t ∷ more) q h = h
-steps-at text now (suc n) r (t ∷ more) q h =
-    either (IsReadIn text) (is_end t) (Ok r) _ h
-    (after-step text now n r t more (rule now r.fields t more) (λ other rest. steps-at text now n other rest) q h refl
-    (rule-left (Ends text) (Ends text) (IsPlaceOf text) (kept text) now r.fields t more q))
+IsReadIn text read = IsReadAt (IsPlaceOf text) read
 
 reading-at : (now : Now) (text : List ℕ) → IsReadIn text (reading_of now text)
 unfolding reading_of
-reading-at now text = steps-at text now (length text) nothing_read (tokens text) ([], sym (texts_are text), runs-of text) tt
+reading-at now text =
+    steps-at (Ends text) (Ends text) (IsPlaceOf text) (kept text) now (length text) nothing_read (tokens text) ([], sym (texts_are text), runs-of text) tt
 
 -- the places of what a text says
 abbrev IsSaidIn : List ℕ → Result Said DateError → Type 0

@@ -1,5 +1,5 @@
 -- The approximate reader: one token after the other, and what the whole text comes to.
-use Rattle.std.specs.Prelude.{◌≡◌, ℕ, zero, suc, Bool, true, false, List, [], ◌∷◌, length, pos, if◌then◌else◌, Option, Some, None, IfSome, Result, Ok, Err, option_map}
+use Rattle.std.specs.Prelude.{◌≡◌, ℕ, Bool, true, false, List, length, pos, if◌then◌else◌, Option, Some, None, IfSome, Result, Ok, Err, option_map}
 use Rattle.std.specs.Int.Signed.{le_z}
 use Rattle.jiff.specs.declared.zoned.Zoned.{Zoned}
 use Rattle.gix_date.specs.Relative.Steps.{zone_of}
@@ -9,8 +9,8 @@ use Rattle.git_date.specs.ApproximateRules.{letters_rule, digits_rule}
 use Rattle.git_date.specs.ApproximateZones.{Choices, AreChoices, shown_in, filled_time}
 use Rattle.git_date.specs.Dates.{now_of}
 use Rattle.git_date.specs.Outcome.{DateOutcome, IsPlaceIn, IsErrorIn}
-use Rattle.git_date.specs.Reading.{and_then, place_in, error_of, said_by}
-use Rattle.git_date.specs.Tokens.{Token, Letters, Digits, Mark, tokens}
+use Rattle.git_date.specs.Reading.{and_then, place_in, error_of, said_by, ended}
+use Rattle.git_date.specs.Tokens.{Token, Letters, Digits, Mark, tokens, walked}
 use Rattle.git_date.specs.declared.approximate.answer.Approximate.{Approximate}
 use Rattle.git_date.specs.declared.approximate.answer.Today.{Today}
 use Rattle.git_date.specs.declared.approximate.drafts.Draft.{Draft}
@@ -32,14 +32,14 @@ with_rest more (Err e) = Err e
 -- the rule of a token: marks say nothing
 abbrev pub rule : Choices → Today → Draft → Token → List Token → Read
 rule zone today d (Letters run) more = with_rest more (letters_rule zone today.shown d run more)
-rule zone today d (Digits run) more = digits_rule today.now d run more
+rule zone today d (Digits run) more = ended (digits_rule today.now d run more)
 rule zone today d (Mark byte) more = Ok (d, more)
 
--- so many steps, or as many as there are
-unfoldable pub steps : Choices → Today → ℕ → Draft → List Token → Result Draft Fault
-steps zone today n d [] = Ok d
-steps zone today zero d (t ∷ more) = Ok d
-steps zone today (suc n) d (t ∷ more) = and_then (rule zone today d t more) (λ next. steps zone today n next.0 next.1)
+abbrev pub step : Choices → Today → Draft → Token → List Token → (Draft → List Token → Result Draft Fault) → Result Draft Fault
+step zone today d t more go = and_then (rule zone today d t more) (λ next. go next.0 next.1)
+
+abbrev pub steps : Choices → Today → ℕ → Draft → List Token → Result Draft Fault
+steps zone today n d ts = walked (step zone today) n d ts
 
 -- what the tokens of a text say, one after the other: it has no more of them than bytes
 unfoldable pub draft_of : Choices → Today → List ℕ → Result Draft Fault

@@ -9,7 +9,7 @@ use Rattle.git_date.specs.Digits.{Stepped, group_or_bare}
 use Rattle.git_date.specs.Groups.{group_of}
 use Rattle.git_date.specs.Numbers.{number, is_too_large}
 use Rattle.git_date.specs.Tokens.{Token, Letters, Digits, bytes_left}
-use Rattle.git_date.specs.Words.{is_filler, without_ending}
+use Rattle.git_date.specs.Words.{is_filler}
 use Rattle.git_date.specs.declared.approximate.drafts.Draft.{Draft}
 use Rattle.git_date.specs.declared.approximate.meanings.Meaning.{Meaning}
 use Rattle.git_date.specs.declared.approximate.meanings.Meaning.TheVariants.{Month, Back, Never, Hour, Morning, Afternoon, Count}
@@ -127,8 +127,8 @@ unfoldable pub group_said : Now → Fields → List ℕ → List Token → Stepp
 group_said now f run more = group_or_bare now f (bytes_left (Digits run ∷ more)) (group_of (number run) more) (Ok (None, more))
 
 abbrev pub group_or_number : Draft → List ℕ → ℕ → Stepped → Result (Draft × List Token) Fault
-group_or_number d run left (Ok (Some next, more)) = Ok (record d { fields = next }, without_ending more)
-group_or_number d run left (Ok (None, more)) = Ok (number_waits d run left, without_ending more)
+group_or_number d run left (Ok (Some next, more)) = Ok (record d { fields = next }, more)
+group_or_number d run left (Ok (None, more)) = Ok (number_waits d run left, more)
 group_or_number d run left (Err e) = Err e
 
 -- digits: the number that waited is settled; then a group is taken, or this number waits

@@ -33,3 +33,10 @@ pub mod ShowHuman
 pub mod Show
 pub mod RelativeBack
 pub mod HumanTexts
+pub mod Types
+pub mod DatedCases
+pub mod FaultCases
+pub mod MeaningCases
+pub mod UnitCases
+pub mod AgeCases
+pub mod DistanceCases

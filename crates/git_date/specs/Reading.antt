@@ -1,9 +1,9 @@
 -- The reader: one token after the other, and what the whole text says.
-use Rattle.std.specs.Prelude.{ℕ, ◌-◌, zero, suc, Bool, true, false, List, [], ◌∷◌, length, ℤ, pos, ◌==◌, if◌then◌else◌, Option, Some, None, Result, Ok, Err, option_map}
+use Rattle.std.specs.Prelude.{ℕ, ◌-◌, Bool, true, false, List, ◌∷◌, length, ℤ, pos, ◌==◌, if◌then◌else◌, Option, Some, None, Result, Ok, Err, option_map}
 use Rattle.std.specs.Option.{option_or}
 use Rattle.gix_date.specs.Text.Characters.{plus, minus}
 use Rattle.gix_date.specs.Fields.Zoned.{is_instant}
-use Rattle.git_date.specs.Tokens.{Token, Letters, Digits, Mark, tokens, bytes_left, is_end}
+use Rattle.git_date.specs.Tokens.{Token, Letters, Digits, Mark, tokens, bytes_left, is_end, walked}
 use Rattle.git_date.specs.Fields.{unknown}
 use Rattle.git_date.specs.Words.{letters_rule, without_ending}
 use Rattle.git_date.specs.Dates.{exact_seconds}
@@ -19,7 +19,7 @@ use Rattle.git_date.specs.declared.error.DateError.{DateError}
 use Rattle.git_date.specs.declared.error.DateError.TheVariants.{Unreadable, NumberTooLarge, YearRefused, BackTooFar, Range}
 
 -- what follows a number is read without its ending
-abbrev pub ended : Stepped → Stepped
+abbrev pub ended : {A : Type 0} → Result (A × List Token) Fault → Result (A × List Token) Fault
 ended (Ok found) = Ok (found.0, without_ending found.1)
 ended (Err e) = Err e
 
@@ -53,13 +53,14 @@ abbrev pub and_then : {A B : Type 0} → Result A Fault → (A → Result B Faul
 and_then (Ok found) next = next found
 and_then (Err e) next = Err e
 
--- so many steps, or as many as there are
-unfoldable pub steps : Now → ℕ → Reading → List Token → Result Reading Fault
-steps now n r [] = Ok r
-steps now zero r (t ∷ more) = Ok r
-steps now (suc n) r (t ∷ more) =
+-- one step: a line feed that no rule takes ends the reading
+abbrev pub step : Now → Reading → Token → List Token → (Reading → List Token → Result Reading Fault) → Result Reading Fault
+step now r t more go =
     if is_end t then Ok r
-    else and_then (rule now r.fields t more) (λ next. steps now n (read_on r (bytes_left (t ∷ more)) next.0) next.1)
+    else and_then (rule now r.fields t more) (λ next. go (read_on r (bytes_left (t ∷ more)) next.0) next.1)
+
+abbrev pub steps : Now → ℕ → Reading → List Token → Result Reading Fault
+steps now n r ts = walked (step now) n r ts
 
 -- what the tokens of a text say, one after the other: it has no more of them than bytes
 unfoldable pub reading_of : Now → List ℕ → Result Reading Fault

@@ -1,5 +1,5 @@
 -- The tokens of a text: the longest runs of letters, those of digits, and single marks.
-use Rattle.std.specs.Prelude.{ℕ, Bool, false, List, [], ◌∷◌, ◌++◌, length, ◌==◌, if◌then◌else◌}
+use Rattle.std.specs.Prelude.{ℕ, zero, suc, Result, Ok, Bool, false, List, [], ◌∷◌, ◌++◌, length, ◌==◌, if◌then◌else◌}
 use Rattle.std.specs.Char.{is_ascii_alphabetic, is_ascii_digit}
 use Rattle.gix_date.specs.Text.Characters.{newline}
 use Rattle.git_date.specs.declared.tokens.Token.{Token as Slice}
@@ -55,3 +55,10 @@ abbrev pub token_of : Slice → Token
 token_of (slice.Letters run) = Letters run.now
 token_of (slice.Digits run) = Digits run.now
 token_of (slice.Mark byte) = Mark byte
+
+-- So many steps over tokens, or as many as there are: each makes something of a token, takes what it needs of the next, and goes
+-- on, or does not.
+unfoldable pub walked : {S E : Type 0} → (S → Token → List Token → (S → List Token → Result S E) → Result S E) → ℕ → S → List Token → Result S E
+walked step n s [] = Ok s
+walked step zero s (t ∷ more) = Ok s
+walked step (suc n) s (t ∷ more) = step s t more (λ next rest. walked step n next rest)

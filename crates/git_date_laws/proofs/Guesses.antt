@@ -17,13 +17,13 @@ use Rattle.git_date.specs.declared.approximate.answer.Approximate.{Approximate}
 use Rattle.git_date.specs.declared.date.ReadDate.{ReadDate}
 use Rattle.git_date.specs.declared.error.DateError.{DateError}
 use Rattle.git_date.specs.declared.error.DateError.TheVariants.{Unreadable}
-use Rattle.git_date.proofs.Alike.{same-case}
-use Rattle.git_date.proofs.ApproximateAlike.{guess-in-any-case}
-use Rattle.git_date.proofs.FixedChoices.{fixed-choices, choices-once}
-use Rattle.git_date.proofs.ExactBack.{counted-back}
-use Rattle.git_date.proofs.ExactOnce.{date-once}
-use Rattle.git_date.proofs.HeardTexts.{guesses-alike}
-use Rattle.git_date.proofs.Usual.{guess-usual}
+use Rattle.git_date_laws.proofs.Alike.{same-case}
+use Rattle.git_date_laws.proofs.ApproximateAlike.{guess-in-any-case}
+use Rattle.git_date_laws.proofs.FixedChoices.{fixed-choices, choices-once}
+use Rattle.git_date_laws.proofs.ExactBack.{counted-back}
+use Rattle.git_date_laws.proofs.ExactOnce.{date-once}
+use Rattle.git_date_laws.proofs.HeardTexts.{guesses-alike}
+use Rattle.git_date_laws.proofs.Usual.{guess-usual}
 use Rattle.git_date_laws.specs.ApproximateLaws.{HasExactAnswer, HasOneAnswer, IsExactlyBack, HasAnswerInAnyCase, IgnoresMarks, IgnoresNoWord}
 
 abbrev exact_of : Zoned → List ℕ → Choices → Result ReadDate DateError → Result Approximate DateError

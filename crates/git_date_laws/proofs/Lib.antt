@@ -10,3 +10,33 @@ pub mod Offsets
 pub mod Agreement
 pub mod MonthsAgreement
 mod AgreementRows
+mod Recent
+mod Usual
+mod Spoken
+mod HeardTexts
+mod Bare
+mod ApproximateAlike
+mod AgeOrder
+mod Alike
+mod Changed
+mod ClocksBack
+mod ExactBack
+mod ExactNothing
+mod ExactOnce
+mod FixedChoices
+mod HumanTexts
+mod LessMonths
+mod MonthsAgo
+mod MonthsBack
+mod MonthsRead
+mod MonthsTold
+mod PairsNothing
+mod PairsRead
+mod PrintedClocks
+mod PrintedBack
+mod RawBack
+mod RelativeAges
+mod RelativeBack
+mod RelativeMonths
+mod RelativeTexts
+mod Spelling

@@ -2,7 +2,7 @@
 use Rattle.std.proofs.Common.{ℕ, List}
 use Rattle.jiff.specs.declared.zoned.Zoned.{Zoned}
 use Rattle.git_date.specs.Dates.{now_of}
-use Rattle.git_date.proofs.Recent.{same-instants, meets-none}
+use Rattle.git_date_laws.proofs.Recent.{same-instants, meets-none}
 use Rattle.git_date_laws.specs.Laws.{IgnoresInstant, IsWithoutDayMonth}
 
 pub any_instant : (moment : Zoned) (text : List ℕ) → IgnoresInstant moment text

@@ -4,7 +4,7 @@ use Rattle.jiff.specs.Words.{offset_at}
 use Rattle.jiff_tz.specs.PosixRule as PosixRule
 use Rattle.jiff_tz.specs.Tzif as Table
 use Rattle.jiff_tz.specs.Zone.{zero_in_range}
-use Rattle.git_date.proofs.HumanTexts.{HasOffsets}
+use Rattle.git_date_laws.proofs.HumanTexts.{HasOffsets}
 
 pub has_offsets : (tz : TimeZone) → HasOffsets tz
 unfolding offset_at

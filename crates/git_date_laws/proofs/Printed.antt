@@ -2,7 +2,7 @@
 use Rattle.jiff.specs.declared.zoned.Zoned.{Zoned}
 use Rattle.gix_date.specs.declared.time.Time.{Time}
 use Rattle.git_date.specs.Dates.{now_of}
-use Rattle.git_date.proofs.PrintedBack.{read-back}
+use Rattle.git_date_laws.proofs.PrintedBack.{read-back}
 use Rattle.git_date_laws.specs.Laws.{ReadsBack}
 
 pub any_printed : (moment : Zoned) (t : Time) → ReadsBack moment t

@@ -3,7 +3,7 @@ use Rattle.std.proofs.Common.{◌∙◌, Err, refl, subst, sym}
 use Rattle.jiff.specs.declared.zoned.Zoned.{Zoned}
 use Rattle.gix_date.specs.Relative.Steps.{zone_of}
 use Rattle.gix_date.specs.declared.time.Time.{Time}
-use Rattle.git_date.proofs.RelativeBack.{relative-shown, said-near, future-said}
+use Rattle.git_date_laws.proofs.RelativeBack.{relative-shown, said-near, future-said}
 use Rattle.git_date.specs.Dates.{now_of}
 use Rattle.git_date.specs.Outcome.{DateOutcome}
 use Rattle.git_date.specs.Reading.{said_by}

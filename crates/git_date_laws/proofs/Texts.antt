@@ -2,7 +2,7 @@
 use Rattle.std.proofs.Common.{ℕ, List}
 use Rattle.jiff.specs.declared.zoned.Zoned.{Zoned}
 use Rattle.git_date.specs.Dates.{now_of}
-use Rattle.git_date.proofs.Alike.{same-case, same-lines}
+use Rattle.git_date_laws.proofs.Alike.{same-case, same-lines}
 use Rattle.git_date_laws.specs.Laws.{IgnoresCase, IgnoresLines}
 
 pub any_case : (moment : Zoned) (text : List ℕ) → IgnoresCase moment text

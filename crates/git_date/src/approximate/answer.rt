@@ -16,6 +16,7 @@ use crate::error::DateError;
 use crate::fault::Fault;
 use crate::reader::{error_of, place_in};
 use crate::tokens::{Token, next_token};
+use crate::words::without_ending;
 use gix_date::{Time, Zoned};
 
 /// What [`approxidate`](crate::approxidate) makes of a text.
@@ -58,7 +59,10 @@ fn rule<'a>(
             Ok(next) => Ok((next, text)),
             Err(fault) => Err(fault),
         },
-        Token::Digits(run) => digits_rule(today.now, draft, run, text),
+        Token::Digits(run) => match digits_rule(today.now, draft, run, text) {
+            Ok((next, rest)) => Ok((next, without_ending(rest))),
+            Err(fault) => Err(fault),
+        },
         Token::Mark(_) => Ok((draft, text)),
     }
 }

@@ -18,7 +18,7 @@ use crate::fields::Fields;
 use crate::groups::{Number, group_of};
 use crate::numbers::{MAX_SMALL, is_too_large, number};
 use crate::tokens::{Token, left_from, next_token};
-use crate::words::{is_filler, without_ending};
+use crate::words::is_filler;
 use gix_date::Zoned;
 
 /// What a rule makes of a draft: `None` if it did nothing.
@@ -304,7 +304,7 @@ fn group_said<'a>(now: Now, fields: Fields, run: &[u8], text: &'a [u8]) -> Stepp
     }
 }
 
-/// What digits make of a draft, and what is left to read.
+/// What digits make of a draft, and what is left to read, before an ending of theirs.
 #[tactic(auto, unfolding(crate::specs::ApproximateRules::digits_rule))]
 pub(crate) fn digits_rule<'a>(
     now: Now,
@@ -324,8 +324,8 @@ pub(crate) fn digits_rule<'a>(
         ..draft.settle()
     };
     match group_said(now, ready.fields, run, text) {
-        Ok((Some(fields), rest)) => Ok((Draft { fields, ..ready }, without_ending(rest))),
-        Ok((None, rest)) => Ok((number_waits(ready, run, left), without_ending(rest))),
+        Ok((Some(fields), rest)) => Ok((Draft { fields, ..ready }, rest)),
+        Ok((None, rest)) => Ok((number_waits(ready, run, left), rest)),
         Err(fault) => Err(fault),
     }
 }

@@ -1,5 +1,5 @@
 use Rattle.gix_date.specs.Relative.Steps.{zone_of}
-use Rattle.git_date.proofs.RawBack.{raw-back}
+use Rattle.git_date_laws.proofs.RawBack.{raw-back}
 use Rattle.git_date.specs.Dates.{now_of}
 use Rattle.git_date_laws.proofs.raw_read_back.Goals as goal
 

@@ -1,4 +1,4 @@
-use Rattle.git_date.proofs.HumanTexts.{human-shown}
+use Rattle.git_date_laws.proofs.HumanTexts.{human-shown}
 use Rattle.git_date.specs.ShowClocks.{moment_of}
 use Rattle.git_date_laws.proofs.Offsets.{has_offsets}
 use Rattle.git_date_laws.proofs.shown.human_by_distance.Goals as goal

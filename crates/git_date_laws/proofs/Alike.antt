@@ -1,0 +1,228 @@
+-- Letter case and later lines.
+use Rattle.std.proofs.Common.{◌≡◌, ◌∙◌, ◌≤◌, ◌+◌, ◌-◌, ℕ, zero, suc, ℤ, Bool, true, false, cond, List, [], ◌∷◌, ◌++◌, length, refl, ap, ap₂, sym, arith, length-append, Option, Some, None, option_map, Result, Ok, Err}
+use Rattle.std.proofs.lemmas.List.{length-map}
+use Rattle.std.specs.Char.{is_ascii_alphabetic, is_ascii_digit, to_ascii_lowercase}
+use Rattle.std.specs.Str.{bytes_eq, str_to_ascii_lowercase}
+use Rattle.std.proofs.lemmas.Str.Ascii.{lowercase-lowercase}
+use Rattle.std.proofs.lemmas.Slice.Eq.{bytes_eq-Decides}
+use Rattle.std.proofs.lemmas.Bool.Decides.{nat_tests}
+use Rattle.gix_date.specs.Text.Characters.{newline}
+use Rattle.gix_date.specs.Text.Names.{is_name}
+use Rattle.gix_date.specs.Fields.Zoned.{is_instant}
+use Rattle.git_date.specs.Tokens.{Token, Letters, Digits, Mark, letter_before, digit_before, tokens, bytes_left, is_end, walked}
+use Rattle.git_date.specs.Dates.{exact_seconds}
+use Rattle.git_date.specs.Digits.{Stepped}
+use Rattle.git_date.specs.Offsets.{at_text}
+use Rattle.git_date.specs.Reading.{nothing_read, read_on, and_then, rule, steps, reading_of, place_in, by_seconds, fields_said, at_or_fields, said_by}
+use Rattle.git_date.specs.Types.{Now}
+use Rattle.git_date.specs.Types.{Fault}
+use Rattle.git_date.specs.FaultCases.{NumberTooLarge, BackTooFar, YearRefused, Range}
+use Rattle.git_date.specs.declared.error.DateError.TheVariants as error
+use Rattle.git_date.specs.Types.{Reading}
+use Rattle.git_date.proofs.Kept.{IsKept, Leaves, rule-left}
+use Rattle.git_date.proofs.TokenRuns.{texts_are}
+use Rattle.git_date.specs.Lines.{AreComplete}
+use Rattle.git_date_laws.proofs.Spelling.{IsSpelling}
+use Rattle.git_date_laws.proofs.Changed.{after, changed, farther, read_farther, IsClosed, IsClosedAt, steps-is, at-is}
+
+-- steps enough are as good as more
+short-kept : (n : ℕ) → IsKept (λ ts. length ts ≤ suc n) (λ ts. length ts ≤ n) (λ left. Unit {0})
+short-kept n = record {
+  next = λ t more h. omega arith;
+  also = λ ts h. omega arith;
+  at_letters = λ run more h. tt;
+  at_digits = λ run more h. tt;
+  at_mark = λ byte more below h. tt;
+}
+
+enough-then : (now : Now) (n m : ℕ) (r : Reading) (left : ℕ) (step : Stepped) → Leaves (λ ts. length ts ≤ n) (λ place. Unit {0}) step
+    → Leaves (λ ts. length ts ≤ m) (λ place. Unit {0}) step
+    → ((other : Reading) (rest : List Token) → length rest ≤ n → length rest ≤ m → steps now n other rest ≡ steps now m other rest)
+    → and_then step (λ next. steps now n (read_on r left next.0) next.1) ≡ and_then step (λ next. steps now m (read_on r left next.0) next.1)
+enough-then now n m r left (Err e) h g same = refl
+enough-then now n m r left (Ok found) h g same = same (read_on r left found.0) found.1 h g
+
+pub enough : (now : Now) (n m : ℕ) (r : Reading) (ts : List Token) → length ts ≤ n → length ts ≤ m → steps now n r ts ≡ steps now m r ts
+unfolding walked
+enough now zero zero r [] h g = refl
+enough now zero (suc m) r [] h g = refl
+enough now (suc n) zero r [] h g = refl
+enough now (suc n) (suc m) r [] h g = refl
+enough now zero m r (t ∷ more) h g = absurd (omega arith)
+enough now (suc n) zero r (t ∷ more) h g = absurd (omega arith)
+enough now (suc n) (suc m) r (t ∷ more) h g =
+    ap (λ (later : Result Reading Fault). cond (is_end t) (Ok r) later)
+    (enough-then now n m r (bytes_left (t ∷ more)) (rule now r.fields t more)
+    (rule-left (λ ts. length ts ≤ suc n) (λ ts. length ts ≤ n) (λ place. Unit {0}) (short-kept n) now r.fields t more h)
+    (rule-left (λ ts. length ts ≤ suc m) (λ ts. length ts ≤ m) (λ place. Unit {0}) (short-kept m) now r.fields t more g)
+    (λ other rest. enough now n m other rest))
+
+-- a text has no more tokens than bytes
+fewer-letters : (c : ℕ) (ts : List Token) → length (letter_before c ts) ≤ 1 + length ts
+fewer-letters c [] = omega arith
+fewer-letters c (Letters run ∷ more) = omega arith
+fewer-letters c (Digits run ∷ more) = omega arith
+fewer-letters c (Mark byte ∷ more) = omega arith
+
+fewer-digits : (c : ℕ) (ts : List Token) → length (digit_before c ts) ≤ 1 + length ts
+fewer-digits c [] = omega arith
+fewer-digits c (Letters run ∷ more) = omega arith
+fewer-digits c (Digits run ∷ more) = omega arith
+fewer-digits c (Mark byte ∷ more) = omega arith
+
+fewer-byte : (letter digit : Bool) (c : ℕ) (ts : List Token) (n : ℕ) → length ts ≤ n
+    → length (cond letter (letter_before c ts) (cond digit (digit_before c ts) (Mark c ∷ ts))) ≤ 1 + n
+fewer-byte true digit c ts n h = omega (arith, fewer-letters c ts)
+fewer-byte false true c ts n h = omega (arith, fewer-digits c ts)
+fewer-byte false false c ts n h = omega arith
+
+pub fewer : (text : List ℕ) → length (tokens text) ≤ length text
+unfolding tokens
+fewer [] = omega arith
+fewer (c ∷ text) = omega (arith, fewer-byte (is_ascii_alphabetic c) (is_ascii_digit c) c (tokens text) (length text) (fewer text))
+
+-- what is said then
+same-places : (text other : List ℕ) (k : ℕ) (ignored : Option ℕ) → length other ≡ length text + k
+    → option_map (place_in other) (option_map (λ left. left + k) ignored) ≡ option_map (place_in text) ignored
+same-places text other k None e = refl
+same-places text other k (Some left) e = ap Some (omega arith)
+
+same-seconds : (text other : List ℕ) (k : ℕ) (r : Reading) (seconds : Option ℤ) → length other ≡ length text + k
+    → by_seconds other (farther k r) seconds ≡ by_seconds text r seconds
+same-seconds text other k r None e = refl
+same-seconds text other k r (Some seconds) e =
+    ap (λ (ignored : Option ℕ). cond (is_instant seconds)
+    (Ok (record { seconds = seconds; offset = r.fields.offset; epoch = r.fields.epoch; ignored = ignored })) (Err error.Range)) (same-places text other k r.ignored e)
+
+same-fields : (text other : List ℕ) (k : ℕ) (read : Result Reading Fault) → length other ≡ length text + k
+    → fields_said other (read_farther k read) ≡ fields_said text read
+unfolding fields_said
+same-fields text other k (Ok r) e = same-seconds text other k r (exact_seconds r.fields) e
+same-fields text other k (Err (NumberTooLarge left)) e = let place : length other - (left + k) ≡ length text - left = omega arith in ap (λ (n : ℕ). Err (error.NumberTooLarge n)) place
+same-fields text other k (Err (BackTooFar left)) e = let place : length other - (left + k) ≡ length text - left = omega arith in ap (λ (n : ℕ). Err (error.BackTooFar n)) place
+same-fields text other k (Err (YearRefused left)) e = let place : length other - (left + k) ≡ length text - left = omega arith in ap (λ (n : ℕ). Err (error.YearRefused n)) place
+same-fields text other k (Err Range) e = refl
+
+module _ (spell : List ℕ → List ℕ) (same : IsSpelling spell) (stop : Option (List Token)) (now : Now) (text other : List ℕ)
+    (read : tokens other ≡ changed spell stop (tokens text)) (long : length other ≡ length text + bytes_left (after stop)) where
+  reading-same : IsClosed stop (tokens text) → reading_of now other ≡ read_farther (bytes_left (after stop)) (reading_of now text)
+  unfolding reading_of
+  reading-same closed =
+      let less : length (tokens text) ≤ length text = fewer text in
+      let within : length (tokens text) ≤ length other = omega arith in
+      ap (steps now (length other) nothing_read) read ∙ steps-is spell same stop now (length other) nothing_read (tokens text) closed
+      ∙ ap (read_farther (bytes_left (after stop))) (enough now (length other) (length text) nothing_read (tokens text) within less)
+
+  at-or-same : (found : Option (ℕ × ℤ)) → IsClosed stop (tokens text) → at_or_fields now other found ≡ at_or_fields now text found
+  at-or-same (Some found) closed = refl
+  at-or-same None closed = ap (fields_said other) (reading-same closed) ∙ same-fields text other (bytes_left (after stop)) (reading_of now text) long
+
+  said-same : IsClosed stop (tokens text) → IsClosedAt stop (tokens text) → said_by now other ≡ said_by now text
+  unfolding said_by
+  said-same closed closed_at =
+      ap (at_or_fields now other) (ap at_text read ∙ at-is spell same stop (tokens text) closed_at) ∙ at-or-same (at_text (tokens text)) closed
+
+-- letter case
+twice : (word : List ℕ) → str_to_ascii_lowercase (str_to_ascii_lowercase word) ≡ str_to_ascii_lowercase word
+twice [] = refl
+twice (c ∷ word) = ap₂ ◌∷◌ (lowercase-lowercase c) (twice word)
+
+pub in_lower_case : IsSpelling str_to_ascii_lowercase
+in_lower_case = record {
+  named = λ word name. ap (λ (bytes : List ℕ). bytes_eq bytes (str_to_ascii_lowercase name)) (twice word);
+  sized = λ word. length-map word to_ascii_lowercase;
+}
+
+lower-letter : (c : ℕ) → is_ascii_alphabetic c ≡ true → is_ascii_alphabetic (to_ascii_lowercase c) ≡ true
+lower-letter c h = grind (arith, nat_tests)
+
+lower-other : (c : ℕ) → is_ascii_alphabetic c ≡ false → to_ascii_lowercase c ≡ c
+lower-other c h = grind (arith, nat_tests)
+
+abbrev lowered : List Token → List Token
+lowered ts = changed str_to_ascii_lowercase None ts
+
+lower-letters : (c : ℕ) (ts : List Token) → letter_before (to_ascii_lowercase c) (lowered ts) ≡ lowered (letter_before c ts)
+lower-letters c [] = refl
+lower-letters c (Letters run ∷ more) = refl
+lower-letters c (Digits run ∷ more) = refl
+lower-letters c (Mark byte ∷ more) = refl
+
+lower-digits : (c : ℕ) (ts : List Token) → digit_before c (lowered ts) ≡ lowered (digit_before c ts)
+lower-digits c [] = refl
+lower-digits c (Letters run ∷ more) = refl
+lower-digits c (Digits run ∷ more) = refl
+lower-digits c (Mark byte ∷ more) = refl
+
+abbrev byte_by : Bool → Bool → ℕ → List Token → List Token
+byte_by letter digit c ts = cond letter (letter_before c ts) (cond digit (digit_before c ts) (Mark c ∷ ts))
+
+lower-plain : (digit : Bool) (c : ℕ) (ts : List Token) → byte_by false digit c (lowered ts) ≡ lowered (byte_by false digit c ts)
+lower-plain true c ts = lower-digits c ts
+lower-plain false c ts = refl
+
+lower-byte : (letter : Bool) (c : ℕ) (ts : List Token) → is_ascii_alphabetic c ≡ letter
+    → byte_by (is_ascii_alphabetic (to_ascii_lowercase c)) (is_ascii_digit (to_ascii_lowercase c)) (to_ascii_lowercase c) (lowered ts)
+    ≡ lowered (byte_by (is_ascii_alphabetic c) (is_ascii_digit c) c ts)
+lower-byte true c ts e = rw (lower-letter c e, e) (lower-letters c ts)
+lower-byte false c ts e = rw (lower-other c e, e) (lower-plain (is_ascii_digit c) c ts)
+
+pub tokens-lower : (text : List ℕ) → tokens (str_to_ascii_lowercase text) ≡ lowered (tokens text)
+unfolding tokens
+tokens-lower [] = refl
+tokens-lower (c ∷ text) =
+    ap (byte_by (is_ascii_alphabetic (to_ascii_lowercase c)) (is_ascii_digit (to_ascii_lowercase c)) (to_ascii_lowercase c)) (tokens-lower text)
+    ∙ lower-byte (is_ascii_alphabetic c) c (tokens text) refl
+
+said-lower : (now : Now) (text : List ℕ) → said_by now (str_to_ascii_lowercase text) ≡ said_by now text
+said-lower now text =
+    let long : length (str_to_ascii_lowercase text) ≡ length text + 0 = omega (arith, length-map text to_ascii_lowercase) in
+    said-same str_to_ascii_lowercase in_lower_case None now text (str_to_ascii_lowercase text) (tokens-lower text) long tt tt
+
+pub equal-bytes : (a b : List ℕ) → bytes_eq a b ≡ true → a ≡ b
+equal-bytes a b h = (bytes_eq-Decides a b).0 h
+
+pub same-case : (now : Now) (text other : List ℕ) → is_name text other ≡ true → said_by now text ≡ said_by now other
+same-case now text other same =
+    sym (said-lower now text) ∙ ap (said_by now) (equal-bytes (str_to_ascii_lowercase text) (str_to_ascii_lowercase other) same) ∙ said-lower now other
+
+-- later lines
+abbrev as_written : List ℕ → List ℕ
+as_written word = word
+
+written : IsSpelling as_written
+written = record { named = λ word name. refl; sized = λ word. refl }
+
+abbrev with_lines : List Token → List Token → List Token
+with_lines lines ts = changed as_written (Some lines) ts
+
+lines-letters : (lines : List Token) (c : ℕ) (ts : List Token) → letter_before c (with_lines lines ts) ≡ with_lines lines (letter_before c ts)
+lines-letters lines c [] = refl
+lines-letters lines c (Letters run ∷ more) = refl
+lines-letters lines c (Digits run ∷ more) = refl
+lines-letters lines c (Mark byte ∷ more) = refl
+
+lines-digits : (lines : List Token) (c : ℕ) (ts : List Token) → digit_before c (with_lines lines ts) ≡ with_lines lines (digit_before c ts)
+lines-digits lines c [] = refl
+lines-digits lines c (Letters run ∷ more) = refl
+lines-digits lines c (Digits run ∷ more) = refl
+lines-digits lines c (Mark byte ∷ more) = refl
+
+lines-byte : (lines : List Token) (letter digit : Bool) (c : ℕ) (ts : List Token)
+    → byte_by letter digit c (with_lines lines ts) ≡ with_lines lines (byte_by letter digit c ts)
+lines-byte lines true digit c ts = lines-letters lines c ts
+lines-byte lines false true c ts = lines-digits lines c ts
+lines-byte lines false false c ts = refl
+
+tokens-lines : (lines text : List ℕ) → tokens (text ++ newline ∷ lines) ≡ with_lines (tokens lines) (tokens text)
+unfolding tokens
+tokens-lines lines [] = refl
+tokens-lines lines (c ∷ text) =
+    ap (byte_by (is_ascii_alphabetic c) (is_ascii_digit c) c) (tokens-lines lines text)
+    ∙ lines-byte (tokens lines) (is_ascii_alphabetic c) (is_ascii_digit c) c (tokens text)
+
+pub same-lines : (now : Now) (text lines : List ℕ) → AreComplete (tokens text) → said_by now (text ++ newline ∷ lines) ≡ said_by now text
+same-lines now text lines complete =
+    let left : bytes_left (Mark newline ∷ tokens lines) ≡ length (newline ∷ lines) = ap (λ (bytes : List ℕ). length (newline ∷ bytes)) (texts_are lines) in
+    let long : length (text ++ newline ∷ lines) ≡ length text + bytes_left (Mark newline ∷ tokens lines) = omega (arith, length-append text (newline ∷ lines)) in
+    said-same as_written written (Some (tokens lines)) now text (text ++ newline ∷ lines) (tokens-lines lines text) long complete.0 complete.1

@@ -1,0 +1,244 @@
+-- `n UNIT ago` is that many seconds before now.
+use Rattle.std.proofs.Common.{◌≡◌, ◌∙◌, ◌≤◌, ◌<◌, ℕ, suc, ◌-◌, ◌*◌, Bool, true, false, cond, ℤ, pos, ◌+ℤ◌, ◌-ℤ◌, ◌≤ℤ◌, List, [], ◌∷◌, ◌++◌, length, length-append, Option, Some, None, Result, Ok, Err, refl, sym, ap, subst, arith}
+use Rattle.std.specs.Prelude.{codes, ◌==◌}
+use Rattle.std.proofs.lemmas.Bool.Decides.{nat_tests}
+use Rattle.jiff.specs.Types.{Offset}
+use Rattle.jiff_core.proofs.SignedLemmas.{signed_arith}
+use Rattle.gix_date.proofs.Fields.Instants.{instant_holds, instant_from, z_holds}
+use Rattle.gix_date.specs.Fields.Zoned.{is_instant}
+use Rattle.gix_date.specs.Text.Front.{◌>>=◌}
+use Rattle.gix_date.specs.declared.time.Time.{Time}
+use Rattle.git_date.specs.Approximate.{rule, steps, draft_of, answer, answer_of, guess_by, guess}
+use Rattle.git_date.specs.ApproximateDrafts.{first_draft, clock_fields, all_fields, settle, units}
+use Rattle.git_date.specs.ApproximateRules.{letters_rule, digits_rule, back_rule, meaning_rule, number_waits, group_said, is_padded}
+use Rattle.git_date.specs.ApproximateWords.{moment_named, count_named, unit_named, weekday_named, meaning_of}
+use Rattle.git_date.specs.ApproximateZones.{Choices, one_offset, shown_in, filled_time, moved_by, moved_to, fill_by, fill}
+use Rattle.git_date.specs.Groups.{group_of, marked_number}
+use Rattle.git_date.specs.Names.{month_named}
+use Rattle.git_date.specs.Numbers.{number, is_too_large, max_small}
+use Rattle.git_date.specs.Reading.{said_by}
+use Rattle.git_date.specs.Tokens.{Token, Letters, Digits, Mark, tokens, texts, bytes_left, walked}
+use Rattle.git_date.specs.Words.{is_filler, without_ending}
+use Rattle.git_date.specs.declared.approximate.answer.Approximate.{Approximate}
+use Rattle.git_date.specs.Types.{Today}
+use Rattle.git_date.specs.Types.{Draft}
+use Rattle.git_date.specs.MeaningCases as meaning
+use Rattle.git_date.specs.UnitCases.{Seconds}
+use Rattle.git_date.specs.Types.{ShownClock}
+use Rattle.git_date.specs.Types.{Now}
+use Rattle.git_date.specs.declared.error.DateError.TheVariants.{Unreadable, Range}
+use Rattle.git_date.specs.Types.{Fault}
+use Rattle.git_date.proofs.TokenRuns.{texts_are}
+use Rattle.git_date_laws.proofs.ClocksBack.{IsClockBack, shown_of, filled-back, filled-today, shown-back}
+use Rattle.git_date_laws.proofs.ExactNothing.{nothing-said}
+use Rattle.git_date.specs.ApproximateBack.{CountsBack, IsReached, exactly_back}
+
+-- one step after the other
+pub go-on : (zone : Choices) (today : Today) (n : ℕ) (d next : Draft) (t : Token) (more : List Token) (r : Result Draft Fault)
+    → rule zone today d t more ≡ Ok (next, more) → steps zone today n next more ≡ r → steps zone today (suc n) d (t ∷ more) ≡ r
+unfolding walked
+go-on zone today n d next t more r is e = rw is e
+
+abbrev pub followed : ℕ → List ℕ → ℕ → List Token
+followed gap unit last = Mark gap ∷ Letters unit ∷ Mark last ∷ Letters (codes "ago") ∷ []
+
+-- the draft after the digits: they wait
+abbrev pub waiting_draft : ShownClock → ℕ → ℕ → Draft
+waiting_draft c n left = record {
+  fields = clock_fields c;
+  weekday = c.weekday;
+  waiting = Some (record { value = n; left = left });
+  understood = true;
+  ignored = None;
+}
+
+-- the draft after the unit
+abbrev pub moved_draft : ShownClock → Draft
+moved_draft c = record { fields = all_fields c; weekday = c.weekday; waiting = None; understood = true; ignored = None }
+
+pub not-zero : (n : ℕ) → 1 ≤ n → (n == 0) ≡ false
+not-zero n h = grind (arith, nat_tests)
+
+pub not-large : (n : ℕ) → n ≤ max_small → is_too_large n ≡ false
+not-large n h = grind (arith, nat_tests)
+
+pub digits-wait : (zone : Choices) (today : Today) (run : List ℕ) (gap : ℕ) (unit : List ℕ) (last : ℕ) → number run ≤ max_small → 1 ≤ number run → is_padded run ≡ false
+    → rule zone today (first_draft today.shown) (Digits run) (followed gap unit last)
+    ≡ Ok (waiting_draft today.shown (number run) (bytes_left (Digits run ∷ followed gap unit last)), followed gap unit last)
+unfolding digits_rule group_said group_of marked_number number_waits without_ending settle
+digits-wait zone today run gap unit last small some padded =
+    rw (not-large (number run) small, not-zero (number run) some, padded) refl
+
+-- the unit moves the draft, where its filling does
+unit-moves : (zone : Choices) (c next : ShownClock) (unit : List ℕ) (last n size left : ℕ) → meaning_of unit ≡ Some (meaning.Unit (Seconds size)) → n * size ≤ max_small
+    → fill zone c (record (waiting_draft c n left) { waiting = None }) (n * size) left ≡ Ok (moved_draft next)
+    → letters_rule zone c (waiting_draft c n left) unit (Mark last ∷ Letters (codes "ago") ∷ []) ≡ Ok (moved_draft next)
+unfolding letters_rule meaning_rule back_rule
+unit-moves zone c next unit last n size left means small moves =
+    let same : units n size ≡ n * size = omega (arith, small) in
+    rw (means, same, not-large (n * size) small, moves) refl
+
+pub ago-nothing : (zone : Choices) (c : ShownClock) (d : Draft) → letters_rule zone c d (codes "ago") [] ≡ Ok d
+unfolding letters_rule meaning_of month_named moment_named count_named weekday_named unit_named is_filler
+ago-nothing zone c d = refl
+
+-- what a zone of one offset chooses
+abbrev picked : ℤ → ℤ → Time
+picked s o = record { seconds = s -ℤ o; offset = o }
+
+picks-is : (o s : ℤ) → is_instant s ≡ true → is_instant (s -ℤ o) ≡ true → (one_offset o).picks s ≡ Some (picked s o)
+picks-is o s a b = rw (a, b) refl
+
+pub shown-is : (o n : ℤ) → is_instant n ≡ true → IsClockBack (n +ℤ o) → shown_in (one_offset o) n ≡ Some (shown_of (n +ℤ o))
+unfolding shown_in
+shown-is o n a h = rw a (shown-back (n +ℤ o) h)
+
+-- the moment and the time that is told, by the clock
+pub record AreClocks (o now : ℤ) (back : ℕ) : Type 0 where
+  pub now_instant : is_instant now ≡ true
+  pub told_instant : is_instant (now -ℤ pos back) ≡ true
+  pub now_clock : is_instant (now +ℤ o) ≡ true
+  pub told_clock : is_instant (now -ℤ pos back +ℤ o) ≡ true
+  pub now_shown : IsClockBack (now +ℤ o)
+  pub told_shown : IsClockBack (now -ℤ pos back +ℤ o)
+  pub since_1970 : pos 0 ≤ℤ (now -ℤ pos back)
+
+pub are-clocks : (o : Offset) (now : ℤ) (back : ℕ) → is_instant now ≡ true → IsReached now o.seconds back → AreClocks o.seconds now back
+are-clocks o now back instant h =
+    let range = o.in_range in
+    let within = instant_holds now instant in
+    let clock = instant_holds (now +ℤ o.seconds) h.clock in
+    let since = h.since_1970 in
+    record {
+      now_instant = instant;
+      told_instant = instant_from (now -ℤ pos back) (omega (arith, signed_arith, within, since), omega (arith, signed_arith, within, since));
+      now_clock = h.clock;
+      told_clock = instant_from (now -ℤ pos back +ℤ o.seconds) (omega (arith, signed_arith, clock, since, range), omega (arith, signed_arith, clock, since, range));
+      now_shown = (omega (arith, signed_arith, since, range), clock.1);
+      told_shown = (omega (arith, signed_arith, since, range), omega (arith, signed_arith, clock, since, range));
+      since_1970 = omega (arith, signed_arith, since);
+    }
+
+module _ (o now : ℤ) (back : ℕ) (are : AreClocks o now back) where
+  abbrev pub today_shown : ShownClock
+  today_shown = shown_of (now +ℤ o)
+
+  abbrev told_shown : ShownClock
+  told_shown = shown_of (now -ℤ pos back +ℤ o)
+
+  pub filled-now : filled_time (one_offset o) today_shown (clock_fields today_shown) ≡ Some (record { seconds = now; offset = o })
+  unfolding filled_time
+  filled-now =
+      let same : now +ℤ o -ℤ o ≡ now = omega (arith, signed_arith) in
+      ap (λ s. s >>= (one_offset o).picks) (filled-today (now +ℤ o) are.now_shown)
+      ∙ picks-is o (now +ℤ o) are.now_clock (subst (λ (s : ℤ). is_instant s ≡ true) (sym same) are.now_instant)
+      ∙ ap (λ (s : ℤ). let t : Time = record { seconds = s; offset = o } in Some t) same
+
+  filled-told : filled_time (one_offset o) today_shown (all_fields told_shown) ≡ Some (record { seconds = now -ℤ pos back; offset = o })
+  unfolding filled_time
+  filled-told =
+      let same : now -ℤ pos back +ℤ o -ℤ o ≡ now -ℤ pos back = omega (arith, signed_arith) in
+      ap (λ s. s >>= (one_offset o).picks) (filled-back (now -ℤ pos back +ℤ o) today_shown are.told_shown)
+      ∙ picks-is o (now -ℤ pos back +ℤ o) are.told_clock (subst (λ (s : ℤ). is_instant s ≡ true) (sym same) are.told_instant)
+      ∙ ap (λ (s : ℤ). let t : Time = record { seconds = s; offset = o } in Some t) same
+
+  pub filled-moves : (n left : ℕ)
+      → fill (one_offset o) today_shown (record (waiting_draft today_shown n left) { waiting = None }) back left ≡ Ok (moved_draft told_shown)
+  unfolding fill moved_to
+  filled-moves n left =
+      let d : Draft = record (waiting_draft today_shown n left) { waiting = None } in
+      ap (λ (t : Option Time). fill_by (one_offset o) d back left t) filled-now
+      ∙ ap (λ (s : Option ShownClock). moved_by d left s) (shown-is o (now -ℤ pos back) are.told_instant are.told_shown)
+
+  answered : (text : List ℕ) → answer text (settle (moved_draft told_shown)) (filled_time (one_offset o) today_shown (settle (moved_draft told_shown)).fields)
+      ≡ Ok (exactly_back now o back)
+  unfolding settle
+  answered text =
+      ap (λ (t : Option Time). answer text (moved_draft told_shown) t) filled-told
+      ∙ ap (λ (b : Bool). cond b (Ok (exactly_back now o back)) (Err Range)) (z_holds (pos 0) (now -ℤ pos back) are.since_1970)
+
+pub ends-so : (zone : Choices) (today : Today) (k : ℕ) (d : Draft) → steps zone today k d [] ≡ Ok d
+unfolding walked
+ends-so zone today k d = refl
+
+-- the tokens of such a text move the draft
+module _ (o now : ℤ) (this : Now) (digits : List ℕ) (gap : ℕ) (unit : List ℕ) (last size : ℕ) (are : AreClocks o now (number digits * size))
+    (fits : number digits * size ≤ max_small) (small : number digits ≤ max_small) (some : 1 ≤ number digits) (padded : is_padded digits ≡ false)
+    (means : meaning_of unit ≡ Some (meaning.Unit (Seconds size))) where
+  abbrev here : Today
+  here = record { now = this; shown = shown_of (now +ℤ o) }
+
+  abbrev there : Draft
+  there = moved_draft (shown_of (now -ℤ pos (number digits * size) +ℤ o))
+
+  abbrev ts : List Token
+  ts = followed gap unit last
+
+  abbrev waits : Draft
+  waits = waiting_draft (shown_of (now +ℤ o)) (number digits) (bytes_left (Digits digits ∷ ts))
+
+  moved-word : letters_rule (one_offset o) here.shown waits unit (Mark last ∷ Letters (codes "ago") ∷ []) ≡ Ok there
+  moved-word =
+      unit-moves (one_offset o) (shown_of (now +ℤ o)) (shown_of (now -ℤ pos (number digits * size) +ℤ o)) unit last (number digits) size (bytes_left (Digits digits ∷ ts)) means fits
+      (filled-moves o now (number digits * size) are (number digits) (bytes_left (Digits digits ∷ ts)))
+
+  drafted : (k : ℕ) → steps (one_offset o) here (suc (suc (suc (suc (suc k))))) (first_draft here.shown) (Digits digits ∷ ts) ≡ Ok there
+  drafted k =
+      let zone : Choices = one_offset o in
+      let ago : List Token = Letters (codes "ago") ∷ [] in
+      let fifth = go-on zone here k there there (Letters (codes "ago")) [] (Ok there) (rw (ago-nothing zone here.shown there) refl) (ends-so zone here k there) in
+      let fourth = go-on zone here (suc k) there there (Mark last) ago (Ok there) refl fifth in
+      let third = go-on zone here (suc (suc k)) waits there (Letters unit) (Mark last ∷ ago) (Ok there) (rw moved-word refl) fourth in
+      let second = go-on zone here (suc (suc (suc k))) waits waits (Mark gap) (Letters unit ∷ Mark last ∷ ago) (Ok there) refl third in
+      go-on zone here (suc (suc (suc (suc k)))) (first_draft here.shown) waits (Digits digits) ts (Ok there)
+      (digits-wait zone here digits gap unit last small some padded) second
+
+  guessed : (text : List ℕ) (k : ℕ) → this.seconds ≡ now → tokens text ≡ Digits digits ∷ ts → length text ≡ suc (suc (suc (suc (suc k))))
+      → guess (one_offset o) this text ≡ Ok (exactly_back now o (number digits * size))
+  unfolding guess draft_of
+  guessed text k same is long =
+      let shown : shown_in (one_offset o) this.seconds ≡ Some (shown_of (now +ℤ o)) =
+      ap (λ (n : ℤ). shown_in (one_offset o) n) same ∙ shown-is o now are.now_instant are.now_shown in
+      let drafts : draft_of (one_offset o) here text ≡ Ok there = rw (is, long) (drafted k) in
+      ap (λ (s : Option ShownClock). guess_by (one_offset o) this text s) shown
+      ∙ ap (λ (d : Result Draft Fault). answer_of (one_offset o) here text d) drafts
+      ∙ answered o now (number digits * size) are text
+
+-- the text has as many bytes as tokens, or more
+pub long-enough : (text digits : List ℕ) (gap : ℕ) (unit : List ℕ) (last : ℕ) → tokens text ≡ Digits digits ∷ followed gap unit last → 5 ≤ length text
+long-enough text digits gap unit last is =
+    let ago : List ℕ = last ∷ codes "ago" in
+    let e : text ≡ digits ++ (gap ∷ (unit ++ ago)) = sym (texts_are text) ∙ ap texts is in
+    omega (arith, ap length e, length-append digits (gap ∷ (unit ++ ago)), length-append unit ago)
+
+pub few : (n : ℕ) → n < 100_000_000 → n ≤ max_small
+few n h = omega (arith, h)
+
+-- what both readers make of a text that only the approximate one reads
+abbrev pub Says : ℤ → Now → List ℕ → Approximate → Type 0
+Says o this text date = (said_by this text ≡ Err Unreadable) × (guess (one_offset o) this text ≡ Ok date)
+
+abbrev pub SaysBack : ℤ → Now → List ℕ → ℕ → Type 0
+SaysBack o this text back = Says o this text (exactly_back this.seconds o back)
+
+-- by the digits' own number
+by-digits : (this : Now) (text : List ℕ) (o : Offset) (count size : ℕ) → is_instant this.seconds ≡ true → (says : CountsBack text count size)
+    → IsReached this.seconds o.seconds (number says.digits * size) → 1 ≤ number says.digits → number says.digits < 100_000_000
+    → SaysBack o.seconds this text (number says.digits * size)
+by-digits this text o count size instant says reached some few_digits =
+    let least = long-enough text says.digits says.gap says.unit says.last says.is in
+    let k = length text - 5 in
+    let long : length text ≡ suc (suc (suc (suc (suc k)))) = omega (arith, least) in
+    let are = are-clocks o this.seconds (number says.digits * size) instant reached in (
+      nothing-said this says.digits says.gap says.unit says.last (Seconds size) says.no_date few_digits says.means text k says.is long,
+      guessed o.seconds this.seconds this says.digits says.gap says.unit says.last size are reached.fits (few (number says.digits) few_digits) some says.not_padded says.means text k refl says.is long,
+    )
+
+pub counted-back : (this : Now) (text : List ℕ) (o : Offset) (count size : ℕ) → is_instant this.seconds ≡ true → CountsBack text count size
+    → IsReached this.seconds o.seconds (count * size) → SaysBack o.seconds this text (count * size)
+counted-back this text o count size instant says reached =
+    let same : number says.digits ≡ count = says.counts in
+    let here : IsReached this.seconds o.seconds (number says.digits * size) = subst (λ (n : ℕ). IsReached this.seconds o.seconds (n * size)) (sym same) reached in
+    let some : 1 ≤ number says.digits = subst (λ (n : ℕ). 1 ≤ n) (sym same) says.not_zero in
+    let less : number says.digits < 100_000_000 = subst (λ (n : ℕ). n < 100_000_000) (sym same) says.no_epoch in
+    subst (λ (n : ℕ). SaysBack o.seconds this text (n * size)) same (by-digits this text o count size instant says here some less)
