@@ -1,5 +1,6 @@
 pub mod TokenRuns
 pub mod ZoneRows
+pub mod ShortNames
 pub mod Months
 pub mod Saturated
 mod Conditions
@@ -13,6 +14,11 @@ pub mod Folds
 pub mod Respects
 pub mod RespectedDrafts
 pub mod Kept
+pub mod EnoughSteps
+pub mod PrintedClocks
+pub mod PrintedReads
+pub mod FastTexts
+pub mod FewDigits
 pub mod Places
 mod RowMoment
 mod LawRows

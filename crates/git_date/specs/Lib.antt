@@ -9,6 +9,7 @@ pub mod Groups
 pub mod Digits
 pub mod Offsets
 pub mod Reading
+pub mod Fast
 pub mod Outcome
 pub mod ApproximateWords
 pub mod ApproximateClocks

@@ -1,5 +1,6 @@
 -- The names of months, days of the week and zones, by their beginnings.
-use Rattle.std.specs.Prelude.{ℕ, ◌+◌, ◌*◌, Bool, ◌&&◌, ◌||◌, List, [], ◌∷◌, length, take, ℤ, pos, neg_ℤ, nat_le, codes, Option, option_map, is_some}
+use Rattle.std.specs.Char.{to_ascii_lowercase}
+use Rattle.std.specs.Prelude.{ℕ, ◌+◌, ◌*◌, ◌%◌, ◌==◌, Bool, false, ◌&&◌, ◌||◌, List, [], ◌∷◌, length, take, ℤ, pos, neg_ℤ, nat_le, codes, Option, option_map, is_some}
 use Rattle.std.specs.List.{position, find}
 use Rattle.gix_date.specs.Text.Names.{is_name}
 
@@ -23,6 +24,19 @@ abbrev pub weekday_names : List (List ℕ)
 weekday_names =
     codes "Sundays" ∷ codes "Mondays" ∷ codes "Tuesdays" ∷ codes "Wednesdays" ∷ codes "Thursdays" ∷ codes "Fridays"
     ∷ codes "Saturdays" ∷ []
+
+-- a name begins with these small letters, in any letter case, and goes on with what begins so
+abbrev pub tells : ℕ → ℕ → ℕ → List ℕ → List ℕ → Bool
+tells u v w end (x ∷ y ∷ z ∷ rest) =
+    u == to_ascii_lowercase x && (v == to_ascii_lowercase y && (w == to_ascii_lowercase z && begins end rest))
+tells u v w end _ = false
+
+-- the month and the day of the week, from 0 for Monday, that are told so
+abbrev pub month_told : ℕ → ℕ → ℕ → List ℕ → Option ℕ
+month_told u v w end = option_map (λ place. place + 1) (position (tells u v w end) month_names)
+
+abbrev pub weekday_told : ℕ → ℕ → ℕ → List ℕ → Option ℕ
+weekday_told u v w end = option_map (λ place. (place + 6) % 7) (position (tells u v w end) weekday_names)
 
 -- the month that a word names, from 1
 unfoldable pub month_named : List ℕ → Option ℕ

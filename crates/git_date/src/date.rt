@@ -6,7 +6,6 @@ ghost use Rattle.git_date.specs.Dates.{now_of};
 ghost use Rattle.git_date.specs.Outcome.{instant_seconds, date_at, DateOutcome, HasPlacesIn, InZone, SaidIsInstant, IsMinutes};
 ghost use Rattle.git_date.specs.Reading.{said_by};
 
-use crate::dates::Now;
 use crate::error::DateError;
 use crate::reader::{Said, said_by};
 use gix_date::{Time, Zoned, time_in_zone};
@@ -34,7 +33,7 @@ pub fn parse_date(text: &str, now: Zoned<'_>) -> Result<ReadDate, DateError>
     ensures date { DateOutcome (zone_of now.entry) (said_by (now_of now.entry) text.now) result }
     ensures places { HasPlacesIn text.now result }
 {
-    date_said(said_by(Now::of(now), text.as_bytes()), now)
+    date_said(said_by(now, text.as_bytes()), now)
 }
 
 /// The date that a text says, in the moment's zone if it says no offset.

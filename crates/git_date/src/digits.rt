@@ -2,6 +2,7 @@
 ghost use Rattle.std.specs.Prelude.{◌≡◌, ◌≤◌, ◌<◌, length, IfOk};
 ghost use Rattle.git_date.specs.Tokens.{tokens};
 ghost use Rattle.git_date.specs.Digits.{is_epoch, epoch_rule, eight_digits, six_digits, four_digits, two_digit_year, or_month, few_digits, bare_digits, number_rule, digits_rule};
+ghost use Rattle.git_date.specs.Numbers.{number};
 ghost use Rattle.git_date.specs.Views.{rest_view, step_view};
 
 use crate::clocks::utc_clock;
@@ -51,11 +52,11 @@ fn epoch_rule<'a>(fields: Fields, n: u64, text: &'a [u8]) -> Stepped<'a>
 
 /// Eight digits are a date, which begins with its year.
 #[tactic(auto, unfolding(crate::specs::Digits::eight_digits))]
-fn eight_digits<'a>(fields: Fields, run: &[u8], text: &'a [u8]) -> Stepped<'a>
+fn eight_digits<'a>(fields: Fields, n: u64, run: &[u8], text: &'a [u8]) -> Stepped<'a>
+    requires { n ≡ number run.now }
     ensures value { step_view result ≡ eight_digits fields run.now (tokens text.now) }
     ensures shorter { IfOk result (λ found. length found.1.now ≤ length text.now) }
 {
-    let n = number(run);
     match year_date(fields, n / 10_000, n / 100 % 100, n % 100) {
         Dated::Taken(next) => Ok((Some(next), text)),
         Dated::Refused => Ok((None, text)),
@@ -154,30 +155,32 @@ impl Fields {
 
 /// What digits say that are no group, by their width.
 #[tactic(auto, unfolding(crate::specs::Digits::bare_digits))]
-fn bare_digits<'a>(fields: Fields, run: &[u8], text: &'a [u8]) -> Stepped<'a>
+fn bare_digits<'a>(fields: Fields, n: u64, run: &[u8], text: &'a [u8]) -> Stepped<'a>
+    requires { n ≡ number run.now }
     ensures value { step_view result ≡ bare_digits fields run.now (tokens text.now) }
     ensures shorter { IfOk result (λ found. length found.1.now ≤ length text.now) }
 {
     match run.len() {
-        8 => eight_digits(fields, run, text),
-        6 => Ok(six_digits(fields, number(run), text)),
-        4 => Ok((fields.four_digits(number(run)), text)),
-        1 | 2 => Ok((fields.few_digits(run.len(), number(run)), text)),
+        8 => eight_digits(fields, n, run, text),
+        6 => Ok(six_digits(fields, n, text)),
+        4 => Ok((fields.four_digits(n), text)),
+        1 | 2 => Ok((fields.few_digits(run.len(), n), text)),
         _ => Ok((None, text)),
     }
 }
 
 /// What digits say that are no epoch: a group, or else what they say by their width.
 #[tactic(auto, unfolding(crate::specs::Digits::number_rule))]
-fn number_rule<'a>(now: Now, fields: Fields, run: &[u8], text: &'a [u8]) -> Stepped<'a>
+fn number_rule<'a>(now: Now, fields: Fields, n: u64, run: &[u8], text: &'a [u8]) -> Stepped<'a>
+    requires { n ≡ number run.now }
     ensures value { step_view result ≡ number_rule now fields run.now (tokens text.now) }
     ensures shorter { IfOk result (λ found. length found.1.now ≤ length text.now) }
 {
-    let Some((group, rest)) = group_of(number(run), text) else {
-        return bare_digits(fields, run, text);
+    let Some((group, rest)) = group_of(n, text) else {
+        return bare_digits(fields, n, run, text);
     };
     match group.rule(now, fields) {
-        Dated::Refused => bare_digits(fields, run, text),
+        Dated::Refused => bare_digits(fields, n, run, text),
         Dated::Taken(next) => match group.large_in() {
             Some(left) => Err(Fault::NumberTooLarge(left)),
             None => Ok((Some(next), group.after_group(next, rest))),
@@ -202,5 +205,5 @@ pub(crate) fn digits_rule<'a>(now: Now, fields: Fields, run: &[u8], text: &'a [u
     if is_too_large(n) {
         return Err(Fault::NumberTooLarge(left_from(run, text)));
     }
-    number_rule(now, fields, run, text)
+    number_rule(now, fields, n, run, text)
 }

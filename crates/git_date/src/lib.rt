@@ -30,6 +30,7 @@ mod date;
 mod dates;
 mod digits;
 mod error;
+mod fast;
 mod fault;
 mod fields;
 mod groups;

@@ -100,7 +100,7 @@ fn padded_number(text: &[u8]) -> Option<(Padded, &[u8])>
 }
 
 /// So many minutes, or so many below 0.
-fn signed_minutes(negative: bool, minutes: u32) -> i16
+pub(crate) fn signed_minutes(negative: bool, minutes: u32) -> i16
     requires { minutes < 10_000 }
     ensures { result ≡ signed_minutes negative minutes }
 {

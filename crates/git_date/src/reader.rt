@@ -1,6 +1,8 @@
 //! The reader: one token after the other, and what the whole text says.
 ghost use Rattle.std.specs.Prelude.{◌≡◌, ◌≤◌, length, IfOk, Option, List, ℕ};
 ghost use Rattle.git_date.specs.Tokens.{tokens, token_of};
+ghost use Rattle.git_date.specs.Dates.{now_of};
+ghost use Rattle.git_date.specs.Fast.{has_few_digits};
 ghost use Rattle.git_date.specs.Reading.{sign_rule, mark_rule, rule, reading_of, read_on, place_in, error_of, at_said, fields_said, said_by, ended};
 ghost use Rattle.git_date.specs.Outcome.{SaidIsInstant};
 ghost use Rattle.git_date.specs.Views.{step_view};
@@ -9,11 +11,13 @@ use crate::clocks::is_instant;
 use crate::dates::{Now, exact_seconds};
 use crate::digits::{Stepped, digits_rule};
 use crate::error::DateError;
+use crate::fast::printed_fields;
 use crate::fault::Fault;
 use crate::fields::Fields;
 use crate::offsets::{at_text, offset_rule};
 use crate::tokens::{Token, is_end, next_token};
 use crate::words::{letters_rule, without_ending};
+use gix_date::Zoned;
 
 /// What was read so far.
 #[derive(Clone, Copy)]
@@ -179,14 +183,46 @@ fn fields_said(text: &[u8], read: Result<Reading, Fault>) -> Result<Said, DateEr
     })
 }
 
-/// What a text says.
-#[tactic(auto, unfolding(crate::specs::Reading::said_by))]
-pub(crate) fn said_by(now: Now, text: &[u8]) -> Result<Said, DateError>
-    ensures value { result ≡ said_by now text.now }
+/// Whether a text has fewer than three digits, and no colon.
+fn has_few_digits(text: &[u8]) -> bool
+    ensures { result ≡ has_few_digits text.now }
+{
+    !text.contains(&b':') && text.iter().filter(|b| b.is_ascii_digit()).count() < 3
+}
+
+/// Whether the third byte is a digit, as in most dates that are no words.
+fn third_is_digit(text: &[u8]) -> bool {
+    matches!(text, [_, _, third, ..] if third.is_ascii_digit())
+}
+
+/// What the tokens of a text say. Few digits say no clock, so that words are not read here.
+fn tokens_said(now: Zoned<'_>, text: &[u8]) -> Result<Said, DateError>
+    ensures value { result ≡ fields_said text.now (reading_of (now_of now.entry) text.now) }
     ensures instant { IfOk result SaidIsInstant }
 {
+    if !third_is_digit(text) && has_few_digits(text) {
+        return Err(DateError::Unreadable);
+    }
+    fields_said(text, reading_of(Now::of(now), text))
+}
+
+/// What a text says. The moment is asked only where its tokens are read.
+#[tactic(auto, unfolding(crate::specs::Reading::said_by))]
+pub(crate) fn said_by(now: Zoned<'_>, text: &[u8]) -> Result<Said, DateError>
+    ensures value { result ≡ said_by (now_of now.entry) text.now }
+    ensures instant { IfOk result SaidIsInstant }
+{
+    if let Some(fields) = printed_fields(text) {
+        return fields_said(
+            text,
+            Ok(Reading {
+                fields,
+                ignored: None,
+            }),
+        );
+    }
     match at_text(text) {
         Some((seconds, minutes)) => at_said(seconds, minutes),
-        None => fields_said(text, reading_of(now, text)),
+        None => tokens_said(now, text),
     }
 }

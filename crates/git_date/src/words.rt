@@ -6,7 +6,7 @@ ghost use Rattle.git_date.specs.Tokens.{tokens};
 ghost use Rattle.git_date.specs.Words.{afternoon, morning, with_zone, is_filler, half_or_filler, with_word, letters_rule, is_ending, without_ending};
 
 use crate::fields::Fields;
-use crate::names::{is_weekday, month_named, zone_named};
+use crate::names::{is_name, is_weekday, month_named, zone_named};
 use crate::tokens::{Token, next_token};
 
 impl Fields {
@@ -73,9 +73,9 @@ impl Fields {
     fn half_or_filler(self, word: &[u8]) -> Option<Fields>
         ensures { result ≡ half_or_filler self word.now }
     {
-        if word.eq_ignore_ascii_case(b"PM") {
+        if is_name(word, b"PM") {
             Some(self.afternoon())
-        } else if word.eq_ignore_ascii_case(b"AM") {
+        } else if is_name(word, b"AM") {
             Some(self.morning())
         } else if is_filler(word) {
             Some(self)
@@ -89,7 +89,7 @@ impl Fields {
 fn is_any_of(names: &[&[u8]], word: &[u8]) -> bool
     ensures { result ≡ list_any (λ name. is_name word.now name.now) names.now }
 {
-    names.iter().any(|name| word.eq_ignore_ascii_case(name))
+    names.iter().any(|name| is_name(word, name))
 }
 
 const FILLERS: [&[u8]; 6] = [b"ago", b"at", b"on", b"of", b"the", b"and"];

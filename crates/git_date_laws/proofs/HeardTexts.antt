@@ -19,7 +19,8 @@ use Rattle.git_date.specs.Words.{is_filler, is_ending, without_ending}
 use Rattle.git_date.specs.Types.{Today, Draft, ShownClock, Now, Fault}
 use Rattle.git_date.specs.FaultCases.{NumberTooLarge, BackTooFar, YearRefused, Range}
 use Rattle.git_date.specs.declared.error.DateError.{DateError}
-use Rattle.git_date_laws.proofs.Alike.{in_lower_case, equal-bytes, fewer}
+use Rattle.git_date.proofs.EnoughSteps.{fewer}
+use Rattle.git_date_laws.proofs.Alike.{in_lower_case, equal-bytes}
 use Rattle.git_date_laws.proofs.Spelling.{meaning-agrees}
 use Rattle.git_date.proofs.Kept.{IsKept, Leaves, Twice, fault-at, begin-kept}
 use Rattle.git_date.proofs.Respects.{marked}

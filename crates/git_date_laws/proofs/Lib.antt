@@ -30,9 +30,7 @@ mod MonthsAgo
 mod MonthsBack
 mod MonthsRead
 mod MonthsTold
-mod PairsNothing
 mod PairsRead
-mod PrintedClocks
 mod PrintedBack
 mod RawBack
 mod RelativeAges

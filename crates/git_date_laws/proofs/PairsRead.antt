@@ -1,5 +1,5 @@
 -- `n years, m months ago` is read by the calendar, in two steps.
-use Rattle.std.proofs.Common.{◌≡◌, ◌∙◌, ◌≤◌, ◌<◌, ◌≤ℤ◌, ◌+◌, ◌-◌, ◌*◌, ◌⊎◌, ◌^◌, inl, inr, ℕ, zero, suc, Bool, true, false, ℤ, pos, ◌+ℤ◌, ◌-ℤ◌, ◌*ℤ◌, List, [], ◌∷◌, ◌++◌, length, length-append, append_assoc, Option, Result, Ok, refl, sym, ap, arith}
+use Rattle.std.proofs.Common.{◌≡◌, ◌∙◌, ◌≤◌, ◌<◌, ◌≤ℤ◌, ◌+◌, ◌-◌, ◌*◌, ◌^◌, ℕ, suc, Bool, true, false, ℤ, pos, ◌+ℤ◌, ◌-ℤ◌, ◌*ℤ◌, List, [], ◌∷◌, ◌++◌, length, length-append, append_assoc, Option, Result, Ok, refl, sym, ap, arith}
 use Rattle.std.specs.Prelude.{codes, decimal, ◌==◌}
 use Rattle.std.proofs.lemmas.Fmt.{decimal_nonempty, first_decimal, length-decimal-le}
 use Rattle.jiff.specs.Types.{Offset}
@@ -12,6 +12,7 @@ use Rattle.git_date.specs.ApproximateDrafts.{clock_fields, first_draft}
 use Rattle.git_date.specs.ApproximateZones.{Choices, one_offset}
 use Rattle.git_date.specs.Computing.{computing}
 use Rattle.git_date.specs.Numbers.{number}
+use Rattle.git_date.specs.Offsets.{at_text}
 use Rattle.git_date.specs.ShowAges.{counted}
 use Rattle.git_date.specs.Tokens.{Token, Letters, Digits, Mark, tokens, texts, bytes_left}
 use Rattle.git_date.specs.Types.{Today}
@@ -20,10 +21,10 @@ use Rattle.git_date.specs.Types.{ShownClock}
 use Rattle.git_date.specs.Types.{Now}
 use Rattle.git_date.specs.Types.{Fault}
 use Rattle.git_date.specs.Types.{Fields}
+use Rattle.git_date.proofs.FewDigits.{tame-nothing}
 use Rattle.git_date_laws.proofs.LessMonths.{earlier_fields, days_back}
 use Rattle.git_date_laws.proofs.MonthsRead.{answered, told}
 use Rattle.git_date_laws.proofs.MonthsTold.{ready, waits, Stands, Fills, digits-wait, fills-now, unit-moves, fills-after}
-use Rattle.git_date_laws.proofs.PairsNothing.{IsUnknown, pair_tokens, ten_more, pair-nothing}
 use Rattle.git_date_laws.proofs.RawBack.{decimal-run, number-of}
 use Rattle.git_date_laws.proofs.RelativeTexts.{not-padded, word_of, years-unit, months-unit}
 
@@ -34,15 +35,12 @@ unfolding computing
 year-before true rest = refl
 year-before false rest = refl
 
-year-unknown : (one : Bool) → IsUnknown (word_of (codes "year") one)
-unfolding computing
-year-unknown true f = refl
-year-unknown false f = refl
+abbrev pair_tokens : List ℕ → List ℕ → List ℕ → List ℕ → List Token
+pair_tokens run word other last =
+    Digits run ∷ Mark space ∷ Letters word ∷ Mark comma ∷ Mark space ∷ Digits other ∷ Mark space ∷ Letters last ∷ Mark space ∷ Letters (codes "ago") ∷ []
 
-month-unknown : (one : Bool) → IsUnknown (word_of (codes "month") one)
-unfolding computing
-month-unknown true f = refl
-month-unknown false f = refl
+abbrev ten_more : ℕ → ℕ
+ten_more n = suc (suc (suc (suc (suc (suc (suc (suc (suc (suc n)))))))))
 
 abbrev year_word : ℕ → List ℕ
 year_word n = word_of (codes "year") (n == 1)
@@ -147,19 +145,11 @@ module _ (this : Now) (o : Offset) (n m : ℕ) (at : Stands o.seconds this.secon
       ∙ answered o.seconds earlier here.shown text (earlier_fields clock m) clock.weekday
       (fills-after o.seconds here.shown first_fields first there first-fills m later here.shown earlier end so) since
 
-  one-or-two : (v : ℕ) → v < 100 → (length (decimal v) ≡ 1) ⊎ (length (decimal v) ≡ 2)
-  one-or-two v few =
-      let least = decimal_nonempty v (omega arith) in
-      let most = length-decimal-le 2 v (omega arith) (omega arith) (omega arith) in
-      by-length (length (decimal v)) least most
-    where
-      by-length : (k : ℕ) → 0 < k → k ≤ 2 → (k ≡ 1) ⊎ (k ≡ 2)
-      by-length (suc zero) a b = inl refl
-      by-length (suc (suc zero)) a b = inr refl
-      by-length zero a b = absurd (omega arith)
-      by-length (suc (suc (suc k))) a b = absurd (omega arith)
+  short : (v : ℕ) → v < 100 → length (decimal v) ≤ 2
+  short v few = length-decimal-le 2 v (omega arith) (omega arith) (omega arith)
 
   pub pair-read : 1 ≤ n → n < 100 → 1 ≤ m → m < 100 → pos 0 ≤ℤ earlier → Says o.seconds this (pair_text n m) (told o.seconds earlier)
+  unfolding at_text
   pair-read some few some_months few_months since =
       let text = pair_text n m in
       let wide : n < 2 ^ 64 = omega arith in
@@ -170,7 +160,7 @@ module _ (this : Now) (o : Offset) (n m : ℕ) (at : Stands o.seconds this.secon
       let least = long-enough text (decimal n) (year_word n) (decimal m) (month_word m) (decimal_nonempty n wide) (decimal_nonempty m wide_months) are in
       let k = length text - 10 in
       let long : length text ≡ ten_more k = omega (arith, least) in (
-        pair-nothing this (decimal n) (year_word n) (decimal m) (month_word m) (one-or-two n few) (omega (arith, number_is)) (year-unknown (n == 1))
-            (one-or-two m few_months) (omega (arith, months_is)) (month-unknown (m == 1)) text k are long,
+        tame-nothing this text (pair_tokens (decimal n) (year_word n) (decimal m) (month_word m)) are refl
+            ((short n few, omega (arith, number_is)), (refl, (tt, (refl, (refl, ((short m few_months, omega (arith, months_is)), (refl, (tt, (refl, (tt, tt)))))))))),
         guessed text k some few some_months few_months are long since,
       )

@@ -1,7 +1,6 @@
 -- The time that a printed clock says is the time that was printed.
-use Rattle.std.proofs.Common.{◌≡◌, ◌∙◌, ◌≤◌, ◌≤ℤ◌, ◌<ℤ◌, ◌+◌, ◌*◌, ◌/◌, ◌%◌, ℕ, suc, ℤ, pos, negsuc, neg_ℤ, ◌+ℤ◌, ◌-ℤ◌, ◌*ℤ◌, unsigned_abs, Bool, true, false, cond, List, [], ◌∷◌, ◌++◌, append_assoc, length, refl, ap, sym, subst, arith, Some, None, Result, Ok, Err}
-use Rattle.std.specs.Prelude.{◌&&◌, nat_lt, int_lt}
-use Rattle.std.specs.Fmt.{decimal}
+use Rattle.std.proofs.Common.{◌≡◌, ◌∙◌, ◌≤◌, ◌≤ℤ◌, ◌<ℤ◌, ◌+◌, ◌*◌, ℕ, ℤ, pos, neg_ℤ, ◌+ℤ◌, ◌-ℤ◌, ◌*ℤ◌, unsigned_abs, Bool, true, false, cond, List, refl, ap, sym, subst, arith, Some, None, Result, Ok, Err}
+use Rattle.std.specs.Prelude.{◌&&◌, int_lt}
 use Rattle.std.specs.Int.Signed.{le_z}
 use Rattle.std.proofs.lemmas.Bool.Decides.{nat_tests}
 use Rattle.jiff.specs.Types.{PlainZoned}
@@ -17,28 +16,20 @@ use Rattle.gix_date.specs.Fields.Civil.{civil_seconds, civil_instant, is_date, i
 use Rattle.gix_date.specs.Fields.ClockNumbers.{hours_in, minutes_in}
 use Rattle.gix_date.specs.Fields.Layout.{LocalTime, LocalDate, LocalClock}
 use Rattle.gix_date.specs.Families.Patterns.{midnight}
-use Rattle.gix_date.specs.Fields.FieldTexts.{four_digits, clock_text}
-use Rattle.gix_date.specs.Fields.Offsets.{compact_offset_text}
-use Rattle.gix_date.specs.Text.Characters.{comma, space}
-use Rattle.gix_date.specs.Text.Names.{day_name, month_name}
-use Rattle.gix_date.specs.Text.Numbers.{two_digits}
 use Rattle.gix_date.specs.Printing.LocalClocks.{clock_of}
 use Rattle.gix_date.specs.Printing.NamedTexts.{local_time, rfc2822_text, git_rfc2822_text, iso8601_text, iso8601_strict_text, gitoxide_text, default_text}
 use Rattle.gix_date.specs.Fields.Zoned.{is_instant}
 use Rattle.gix_date.specs.declared.time.Time.{Time}
-use Rattle.git_date.specs.Tokens.{Token, tokens}
-use Rattle.git_date.specs.Fields.{unknown}
 use Rattle.git_date.specs.Dates.{is_month, first_of, month_start, seconds_after, exact_seconds}
-use Rattle.git_date.specs.Offsets.{at_text}
 use Rattle.git_date.specs.Outcome.{instant_seconds, date_at, DateOutcome}
 use Rattle.git_date.specs.Printed.{IsGitTime, IsReadBack, AreReadBack}
-use Rattle.git_date.specs.Reading.{nothing_read, steps, reading_of, by_seconds, fields_said, at_or_fields, said_by}
+use Rattle.git_date.specs.Reading.{by_seconds, fields_said, said_by}
 use Rattle.git_date.specs.Types.{Now}
 use Rattle.git_date.specs.declared.error.DateError.{DateError}
 use Rattle.git_date.specs.declared.error.DateError.TheVariants as error
 use Rattle.git_date.specs.Types.{Said}
-use Rattle.git_date_laws.proofs.Alike.{enough, fewer}
-use Rattle.git_date_laws.proofs.PrintedClocks.{IsGitClock, IsDayText, two-day, bare-day, at, fields_of, hours_of, minutes_of, is_behind, signed, offset_in_minutes, iso_tokens, iso-steps, iso-are, strict_tokens, strict-steps, strict-are, mail_tokens, mail-steps, mail-are, gitoxide_tokens, gitoxide-steps, gitoxide-are, default_tokens, default-steps, default-are}
+use Rattle.git_date.proofs.PrintedClocks.{IsGitClock, at, fields_of, hours_of, minutes_of, is_behind, signed, offset_in_minutes}
+use Rattle.git_date.proofs.PrintedReads.{minutes-back, iso-reads, strict-reads, mail-reads, git-mail-reads, gitoxide-reads, default-reads}
 
 -- the seconds that such a clock has counted
 abbrev clock_of_utc : LocalTime → ℤ
@@ -68,77 +59,6 @@ unfolding fields_said
 fields-are text t h instant =
     ap (by_seconds text (at (fields_of t))) (exact t h)
     ∙ ap (λ (b : Bool). cond b (Ok (said_of t)) (Err error.Range)) instant
-
-said-are : (now : Now) (text : List ℕ) (ts : List Token) (n : ℕ) (t : LocalTime) → tokens text ≡ ts → length ts ≤ n → at_text ts ≡ None
-    → steps now n (at unknown) ts ≡ Ok (at (fields_of t)) → IsGitClock t → is_instant (clock_of_utc t) ≡ true → said_by now text ≡ Ok (said_of t)
-unfolding said_by reading_of
-said-are now text ts n t e fits none read h instant =
-    let few : length (tokens text) ≤ n = subst (λ (ts : List Token). length ts ≤ n) (sym e) fits in
-    let reading : steps now (length text) nothing_read (tokens text) ≡ Ok (at (fields_of t)) =
-    enough now (length text) n nothing_read (tokens text) (fewer text) few ∙ ap (steps now n nothing_read) e ∙ read in
-    ap (at_or_fields now text) (ap at_text e ∙ none) ∙ ap (fields_said text) reading ∙ fields-are text t h instant
-
--- what each format prints
-iso-said : (now : Now) (t : LocalTime) → IsGitClock t → is_instant (clock_of_utc t) ≡ true → said_by now (iso8601_text t) ≡ Ok (said_of t)
-unfolding at_text
-iso-said now t h instant = said-are now (iso8601_text t) (iso_tokens t) 40 t (iso-are t h) (omega arith) refl (iso-steps now 35 t h) h instant
-
-strict-said : (now : Now) (t : LocalTime) → IsGitClock t → is_instant (clock_of_utc t) ≡ true → said_by now (iso8601_strict_text t) ≡ Ok (said_of t)
-unfolding at_text
-strict-said now t h instant = said-are now (iso8601_strict_text t) (strict_tokens t) 40 t (strict-are t h) (omega arith) refl (strict-steps now 37 t h) h instant
-
-two-day-of : (t : LocalTime) → IsGitClock t → IsDayText t.date.day (two_digits t.date.day)
-two-day-of t h = two-day t.date.day (omega (arith, h.last_day))
-
-bare-day-of : (t : LocalTime) → IsGitClock t → IsDayText t.date.day (decimal t.date.day)
-bare-day-of t h = bare-day t.date.day (omega (arith, h.last_day))
-
--- the day's name and what follows it
-abbrev after_comma : LocalTime → List ℕ → List ℕ
-after_comma t day =
-    day ++ (space ∷ (month_name t.date.month ++ (space ∷ (four_digits t.date.year ++ (space ∷ (clock_text t.clock ++ (space ∷ compact_offset_text t.offset)))))))
-
-after-day : (t : LocalTime) (day : List ℕ)
-    → tokens ((day_name t.weekday ++ (comma ∷ (space ∷ []))) ++ after_comma t day) ≡ tokens (day_name t.weekday ++ (comma ∷ (space ∷ after_comma t day)))
-after-day t day = ap tokens (append_assoc (day_name t.weekday) (comma ∷ (space ∷ [])) (after_comma t day))
-
-mail-said : (now : Now) (t : LocalTime) → IsGitClock t → is_instant (clock_of_utc t) ≡ true → said_by now (rfc2822_text t) ≡ Ok (said_of t)
-unfolding at_text
-mail-said now t h instant =
-    let day = two_digits t.date.day in
-    let is = two-day-of t h in
-    said-are now (rfc2822_text t) (mail_tokens day t) 40 t (after-day t day ∙ mail-are day t h is) (omega arith) refl (mail-steps now 28 day t h is) h instant
-
-git-mail-said : (now : Now) (t : LocalTime) → IsGitClock t → is_instant (clock_of_utc t) ≡ true → said_by now (git_rfc2822_text t) ≡ Ok (said_of t)
-unfolding at_text
-git-mail-said now t h instant =
-    let day = decimal t.date.day in
-    let is = bare-day-of t h in
-    said-are now (git_rfc2822_text t) (mail_tokens day t) 40 t (after-day t day ∙ mail-are day t h is) (omega arith) refl (mail-steps now 28 day t h is) h instant
-
-gitoxide-said : (now : Now) (t : LocalTime) → IsGitClock t → is_instant (clock_of_utc t) ≡ true → said_by now (gitoxide_text t) ≡ Ok (said_of t)
-unfolding at_text
-gitoxide-said now t h instant =
-    let day = two_digits t.date.day in
-    let is = two-day-of t h in
-    said-are now (gitoxide_text t) (gitoxide_tokens day t) 40 t (gitoxide-are day t h is) (omega arith) refl (gitoxide-steps now 29 day t h is) h instant
-
-default-said : (now : Now) (t : LocalTime) → IsGitClock t → is_instant (clock_of_utc t) ≡ true → said_by now (default_text t) ≡ Ok (said_of t)
-unfolding at_text
-default-said now t h instant =
-    let day = decimal t.date.day in
-    let is = bare-day-of t h in
-    said-are now (default_text t) (default_tokens day t) 40 t (default-are day t h is) (omega arith) refl (default-steps now 29 day t h is) h instant
-
--- the offset
-minutes-back : (o : ℤ) → unsigned_abs o % 60 ≡ 0 → pos 60 *ℤ signed (int_lt o (pos 0)) (60 * hours_in (unsigned_abs o) + minutes_in (unsigned_abs o)) ≡ o
-minutes-back (pos n) h =
-    let up : nat_lt n 0 ≡ false = grind (arith, nat_tests) in
-    let whole : 60 * (60 * (n / 3600) + n % 3600 / 60) ≡ n = omega arith in
-    rw up (omega (arith, signed_arith))
-minutes-back (negsuc n) h =
-    let whole : 60 * (60 * (suc n / 3600) + suc n % 3600 / 60) ≡ suc n = omega arith in
-    omega (arith, signed_arith)
 
 one-behind : (o : ℤ) (b : Bool) (k : ℕ) → pos 60 *ℤ signed b k ≡ o → b ≡ true → k ≡ 1 → o ≡ neg_ℤ (pos 60)
 one-behind o true k e t one = omega (arith, signed_arith)
@@ -238,20 +158,21 @@ module _ (t : Time) (h : IsGitTime t) (z : PlainZoned) (shows : Shows z t) where
       ∙ ap (λ (o : ℤ). cond (le_z (pos 0) t.seconds) (Ok (record { time = record { seconds = t.seconds; offset = o }; ignored = None })) (Err error.Range)) back
       ∙ ap (λ (b : Bool). cond b (Ok (record { time = t; ignored = None })) (Err error.Range)) (z_holds (pos 0) t.seconds h.since_1970)
 
-  back-by : (now : Now) (text : LocalTime → List ℕ) → said_by now (text (local_time z)) ≡ Ok (said_of (local_time z)) → IsReadBack now t text
-  back-by now text said tz result outcome =
+  back-by : (now : Now) (text : LocalTime → List ℕ) → ((l : LocalTime) → IsGitClock l → said_by now (text l) ≡ fields_said (text l) (Ok (at (fields_of l)))) → IsReadBack now t text
+  back-by now text reads tz result outcome =
+      let said = reads (local_time z) is-clock ∙ fields-are (text (local_time z)) (local_time z) is-clock instant in
       let read : said_by now (text (clock_of t)) ≡ Ok (said_of (local_time z)) = ap (λ (l : LocalTime). said_by now (text l)) (sym shown) ∙ said in
       let is : DateOutcome tz (Ok (said_of (local_time z))) result = subst (λ (said : Result Said DateError). DateOutcome tz said result) read outcome in
       is ∙ time-back
 
   all-back : (now : Now) → AreReadBack now t
   all-back now = record {
-    iso8601 = back-by now iso8601_text (iso-said now (local_time z) is-clock instant);
-    iso8601_strict = back-by now iso8601_strict_text (strict-said now (local_time z) is-clock instant);
-    rfc2822 = back-by now rfc2822_text (mail-said now (local_time z) is-clock instant);
-    git_rfc2822 = back-by now git_rfc2822_text (git-mail-said now (local_time z) is-clock instant);
-    gitoxide = back-by now gitoxide_text (gitoxide-said now (local_time z) is-clock instant);
-    default = back-by now default_text (default-said now (local_time z) is-clock instant);
+    iso8601 = back-by now iso8601_text (iso-reads now);
+    iso8601_strict = back-by now iso8601_strict_text (strict-reads now);
+    rfc2822 = back-by now rfc2822_text (mail-reads now);
+    git_rfc2822 = back-by now git_rfc2822_text (git-mail-reads now);
+    gitoxide = back-by now gitoxide_text (gitoxide-reads now);
+    default = back-by now default_text (default-reads now);
   }
 
 pub read-back : (now : Now) (t : Time) → IsGitTime t → AreReadBack now t

@@ -19,7 +19,7 @@ use Rattle.git_date.specs.declared.approximate.answer.Approximate.{Approximate}
 use Rattle.git_date.specs.Types.{Today, Draft, ShownClock, Number, Meaning, Fault, Now}
 use Rattle.git_date.specs.declared.error.DateError.{DateError}
 use Rattle.git_date.specs.declared.error.DateError.TheVariants as error
-use Rattle.git_date_laws.proofs.Alike.{fewer}
+use Rattle.git_date.proofs.EnoughSteps.{fewer}
 use Rattle.git_date_laws.proofs.Bare.{Anywhere}
 use Rattle.git_date.proofs.RespectedDrafts.{Waits, NoneWaits, OneWaits, Drafts, SameDraft, Ruleds, DoesNothing, Makes, Stops, settle-respects, meaning-respects, ReadOn, GoesOn, EndsBy, read-respects}
 use Rattle.git_date.proofs.Kept.{Twice, ending-left}

@@ -2,9 +2,9 @@
 ghost use Rattle.std.specs.Prelude.{◌≡◌};
 ghost use Rattle.std.specs.List.{position};
 ghost use Rattle.gix_date.specs.Text.Names.{is_name};
-ghost use Rattle.git_date.specs.ApproximateWords.{moment_named, count_named, is_unit, unit_named, weekday_named, meaning_of};
+ghost use Rattle.git_date.specs.ApproximateWords.{moment_named, count_named, is_unit, unit_named, meaning_of};
 
-use crate::names::{WEEKDAYS, month_named, place_in};
+use crate::names::{is_name, month_named, weekday_named};
 
 /// What a word says.
 #[derive(Clone, Copy)]
@@ -47,21 +47,21 @@ const NUMBERS: [&[u8]; 10] = [
 fn moment_named(word: &[u8]) -> Option<Meaning>
     ensures { result ≡ moment_named word.now }
 {
-    if word.eq_ignore_ascii_case(b"now") {
+    if is_name(word, b"now") {
         Some(Meaning::Back(0))
-    } else if word.eq_ignore_ascii_case(b"yesterday") {
+    } else if is_name(word, b"yesterday") {
         Some(Meaning::Back(86_400))
-    } else if word.eq_ignore_ascii_case(b"never") {
+    } else if is_name(word, b"never") {
         Some(Meaning::Never)
-    } else if word.eq_ignore_ascii_case(b"midnight") {
+    } else if is_name(word, b"midnight") {
         Some(Meaning::Hour(0))
-    } else if word.eq_ignore_ascii_case(b"noon") {
+    } else if is_name(word, b"noon") {
         Some(Meaning::Hour(12))
-    } else if word.eq_ignore_ascii_case(b"tea") {
+    } else if is_name(word, b"tea") {
         Some(Meaning::Hour(17))
-    } else if word.eq_ignore_ascii_case(b"AM") {
+    } else if is_name(word, b"AM") {
         Some(Meaning::Morning)
-    } else if word.eq_ignore_ascii_case(b"PM") {
+    } else if is_name(word, b"PM") {
         Some(Meaning::Afternoon)
     } else {
         None
@@ -72,9 +72,7 @@ fn moment_named(word: &[u8]) -> Option<Meaning>
 fn place_of(word: &[u8], names: &[&[u8]]) -> Option<usize>
     ensures { result ≡ position (λ name. is_name word.now name.now) names.now }
 {
-    names
-        .iter()
-        .position(|name| word.eq_ignore_ascii_case(name))
+    names.iter().position(|name| is_name(word, name))
 }
 
 /// What `one` to `ten` and `last` count.
@@ -82,7 +80,7 @@ fn place_of(word: &[u8], names: &[&[u8]]) -> Option<usize>
 fn count_named(word: &[u8]) -> Option<u8>
     ensures { result ≡ count_named word.now }
 {
-    if word.eq_ignore_ascii_case(b"last") {
+    if is_name(word, b"last") {
         return Some(1);
     }
     let place = place_of(word, &NUMBERS)?;
@@ -93,8 +91,7 @@ fn count_named(word: &[u8]) -> Option<u8>
 fn is_unit(word: &[u8], name: &[u8]) -> bool
     ensures { result ≡ is_unit word.now name.now }
 {
-    word.eq_ignore_ascii_case(name)
-        || (word.len() + 1 == name.len() && word.eq_ignore_ascii_case(&name[..word.len()]))
+    is_name(word, name) || (word.len() + 1 == name.len() && is_name(word, &name[..word.len()]))
 }
 
 /// The unit that a word names.
@@ -119,15 +116,6 @@ fn unit_named(word: &[u8]) -> Option<Unit>
     } else {
         None
     }
-}
-
-/// The day of the week that a word names, from 0 for Monday.
-#[tactic(auto, unfolding(crate::specs::ApproximateWords::weekday_named))]
-fn weekday_named(word: &[u8]) -> Option<u8>
-    ensures { result ≡ weekday_named word.now }
-{
-    let place = place_in(word, &WEEKDAYS)?;
-    Some(((place as u32 + 6) % 7) as u8)
 }
 
 /// What a word says, if it is known. No word that has a digit is.

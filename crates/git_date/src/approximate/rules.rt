@@ -3,6 +3,7 @@ ghost use Rattle.std.specs.Prelude.{◌≡◌, ◌≤◌, ◌∷◌, length, IfO
 ghost use Rattle.gix_date.specs.Relative.Steps.{zone_of};
 ghost use Rattle.git_date.specs.Tokens.{tokens, Letters, bytes_left};
 ghost use Rattle.git_date.specs.ApproximateWords.{meaning_of};
+ghost use Rattle.git_date.specs.Numbers.{number};
 ghost use Rattle.git_date.specs.ApproximateZones.{Choices, AreChoices};
 ghost use Rattle.git_date.specs.ApproximateRules.{used, hour_rule, back_rule, months_rule, unit_rule, counted_by, count_waits, with_month, meaning_rule, word_by, read_word, are_digits_next, letters_rule, is_padded, number_waits, group_said, digits_rule};
 ghost use Rattle.git_date.specs.Views.{step_view};
@@ -269,10 +270,10 @@ fn is_padded(run: &[u8]) -> bool
 
 /// A number waits, unless it is 0 or padded.
 #[tactic(auto, unfolding(crate::specs::ApproximateRules::number_waits))]
-fn number_waits(draft: Draft, run: &[u8], left: usize) -> Draft
+fn number_waits(draft: Draft, value: u64, run: &[u8], left: usize) -> Draft
+    requires { value ≡ number run.now }
     ensures { result ≡ number_waits draft run.now left }
 {
-    let value = number(run);
     if value == 0 || is_padded(run) {
         return draft.ignore(left);
     }
@@ -284,11 +285,12 @@ fn number_waits(draft: Draft, run: &[u8], left: usize) -> Draft
 
 /// What the group says that begins with these digits, if it is taken.
 #[tactic(auto, unfolding(crate::specs::ApproximateRules::group_said))]
-fn group_said<'a>(now: Now, fields: Fields, run: &[u8], text: &'a [u8]) -> Stepped<'a>
+fn group_said<'a>(now: Now, fields: Fields, n: u64, run: &[u8], text: &'a [u8]) -> Stepped<'a>
+    requires { n ≡ number run.now }
     ensures value { step_view result ≡ group_said now fields run.now (tokens text.now) }
     ensures shorter { IfOk result (λ found. length found.1.now ≤ length text.now) }
 {
-    let Some((group, rest)) = group_of(number(run), text) else {
+    let Some((group, rest)) = group_of(n, text) else {
         return Ok((None, text));
     };
     match group.rule(now, fields) {
@@ -315,17 +317,18 @@ pub(crate) fn digits_rule<'a>(
     ensures value { step_view result ≡ digits_rule now draft run.now (tokens text.now) }
     ensures shorter { IfOk result (λ found. length found.1.now ≤ length text.now) }
 {
+    let n = number(run);
     let left = left_from(run, text);
-    if is_too_large(number(run)) {
+    if is_too_large(n) {
         return Err(Fault::NumberTooLarge(left));
     }
     let ready = Draft {
         understood: true,
         ..draft.settle()
     };
-    match group_said(now, ready.fields, run, text) {
+    match group_said(now, ready.fields, n, run, text) {
         Ok((Some(fields), rest)) => Ok((Draft { fields, ..ready }, rest)),
-        Ok((None, rest)) => Ok((number_waits(ready, run, left), rest)),
+        Ok((None, rest)) => Ok((number_waits(ready, n, run, left), rest)),
         Err(fault) => Err(fault),
     }
 }

@@ -26,13 +26,13 @@ use Rattle.git_date.specs.Groups.{ReadTokens, number_at, marked_number, group_of
 use Rattle.git_date.specs.Digits.{Stepped, four_digits as four_digit_rule, few_digits, bare_digits, by_rule, unless_large, grouped, group_or_bare, number_rule, digits_rule}
 use Rattle.git_date.specs.Offsets.{white, without_white, padded_number, offset_minutes, colon_minutes, two_digit_offset, offset_said, known_minutes, with_offset, offset_rule}
 use Rattle.git_date.specs.Reading.{read_on, and_then, ended, sign_rule, rule, steps}
-use Rattle.git_date.specs.Types.{Now}
-use Rattle.git_date.specs.Types.{Dated}
-use Rattle.git_date.specs.DatedCases as dated
-use Rattle.git_date.specs.Types.{Fields}
-use Rattle.git_date.specs.Types.{Group}
-use Rattle.git_date.specs.Types.{Number}
-use Rattle.git_date.specs.Types.{Reading}
+use Rattle.git_date.specs.declared.dates.Now.{Now}
+use Rattle.git_date.specs.declared.dates.Dated.{Dated}
+use Rattle.git_date.specs.declared.dates.Dated.TheVariants as dated
+use Rattle.git_date.specs.declared.fields.Fields.{Fields}
+use Rattle.git_date.specs.declared.groups.Group.{Group}
+use Rattle.git_date.specs.declared.groups.Number.{Number}
+use Rattle.git_date.specs.declared.reader.Reading.{Reading}
 use Rattle.git_date.proofs.TokenRuns.{digit-first, mark-first}
 
 -- digits before other tokens

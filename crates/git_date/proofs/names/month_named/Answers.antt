@@ -1,0 +1,12 @@
+use Rattle.std.proofs.Common.{◌∙◌, sym}
+use Rattle.git_date.proofs.ShortNames.{no-month, month-in}
+use Rattle.git_date.proofs.names.month_named.Goals as goal
+
+pub returns-in_default : goal.returns-in_default
+returns-in_default c = sym (no-month c.args.word.now c.in_default.len_below)
+
+pub returns-in-len3-up : goal.returns-in-len3-up
+returns-in-len3-up c =
+    c.month_told.ensures
+    ∙ month-in c.args.word.now _ _ _ c.in-len3-up.len_at_least c.to_ascii_lowercase.ensures.value c.to_ascii_lowercase-in-len3-up.ensures.value
+    c.to_ascii_lowercase-in-len3-up-2.ensures.value
