@@ -16,7 +16,8 @@ use Rattle.git_date.specs.Digits.{Stepped, is_epoch, bare_digits, few_digits, tw
 use Rattle.git_date.specs.Fast.{has_few_digits}
 use Rattle.git_date.specs.Fields.{with_date}
 use Rattle.git_date.specs.Groups.{ReadTokens, marked_number, is_group_mark, third_or_none, group_after, group_of, second_of, third_of, taken_or_refused, or_else, year_first_by, year_first_group, day_month_group, group_rule, large_in}
-use Rattle.git_date.specs.Names.{month_named, is_weekday, zone_named}
+use Rattle.git_date.specs.Names.{is_weekday, zone_named}
+use Rattle.gix_date.specs.Text.LongNames.{month_told}
 use Rattle.git_date.specs.Numbers.{number, is_too_large}
 use Rattle.git_date.specs.Offsets.{without_white, white, padded_after, padded_number, by_minutes, colon_minutes, two_digit_offset, offset_said, SaidOffset, with_offset, or_refused, by_offset, offset_rule, at_text}
 use Rattle.git_date.specs.Reading.{nothing_read, read_on, and_then, ended, sign_rule, mark_rule, rule, steps, reading_of, fields_said, by_seconds, at_or_fields, said_by}
@@ -93,7 +94,7 @@ month-quiet f word None e = either NoneHasMinute (is_weekday word) _ _ e (zone-q
 
 word-quiet : (f : Fields) (word : List ℕ) → HasNoMinute f → NoneHasMinute (with_word f word)
 unfolding with_word
-word-quiet f word e = month-quiet f word (month_named word) e
+word-quiet f word e = month-quiet f word (month_told word) e
 
 letters-quiet : (f : Fields) (run : List ℕ) (more : List Token) → HasNoMinute f → NoneHasMinute (letters_rule f run more)
 unfolding letters_rule

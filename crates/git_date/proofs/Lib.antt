@@ -1,6 +1,5 @@
 pub mod TokenRuns
 pub mod ZoneRows
-pub mod ShortNames
 pub mod Months
 pub mod Saturated
 mod Conditions

@@ -18,7 +18,8 @@ use Rattle.gix_date.specs.Fields.Offsets.{offset_sign, compact_offset_text}
 use Rattle.gix_date.specs.Printing.NamedTexts.{iso8601_text, iso8601_strict_text}
 use Rattle.git_date.specs.Tokens.{Token, Letters, Digits, Mark, letter_before, digit_before, tokens, bytes_left, is_end, walked}
 use Rattle.git_date.specs.Numbers.{number, narrow}
-use Rattle.git_date.specs.Names.{month_named, is_weekday}
+use Rattle.git_date.specs.Names.{is_weekday}
+use Rattle.gix_date.specs.Text.LongNames.{month_told, weekday_told}
 use Rattle.git_date.specs.Fields.{unknown, with_clock, with_date, knows_date}
 use Rattle.git_date.specs.Words.{with_word, letters_rule, without_ending}
 use Rattle.git_date.specs.Dates.{year_said, year_date}
@@ -223,7 +224,7 @@ month-before (suc (suc (suc (suc (suc (suc (suc (suc (suc (suc (suc (suc (suc n)
 
 -- what names say
 day-said : (f : Fields) (n : ℕ) → n < 7 → with_word f (day_name n) ≡ Some f
-unfolding with_word month_named is_weekday
+unfolding with_word month_told is_weekday weekday_told
 day-said f zero h = refl
 day-said f (suc zero) h = refl
 day-said f (suc (suc zero)) h = refl
@@ -234,7 +235,7 @@ day-said f (suc (suc (suc (suc (suc (suc zero)))))) h = refl
 day-said f (suc (suc (suc (suc (suc (suc (suc n))))))) h = absurd (omega arith)
 
 month-said : (f : Fields) (n : ℕ) → 1 ≤ n → n ≤ 12 → with_word f (month_name n) ≡ Some (record f { month = Some n })
-unfolding with_word month_named
+unfolding with_word month_told
 month-said f zero l h = absurd (omega arith)
 month-said f (suc zero) l h = refl
 month-said f (suc (suc zero)) l h = refl

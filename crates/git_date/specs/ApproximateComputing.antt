@@ -5,11 +5,12 @@ use Rattle.git_date.specs.ApproximateClocks.{shown_at, first_second, filled_seco
 use Rattle.git_date.specs.ApproximateDrafts.{lone_year, with_number, settle, dropped, half, at_month, less_months}
 use Rattle.git_date.specs.ApproximateExpiry.{fixed_expiry}
 use Rattle.git_date.specs.ApproximateRules.{hour_rule, back_rule, months_rule, meaning_rule, letters_rule, is_padded, number_waits, group_said, digits_rule}
-use Rattle.git_date.specs.ApproximateWords.{moment_named, count_named, unit_named, weekday_named, meaning_of}
+use Rattle.git_date.specs.ApproximateWords.{moment_named, count_named, unit_named, meaning_of}
+use Rattle.gix_date.specs.Text.LongNames.{weekday_told}
 use Rattle.git_date.specs.ApproximateZones.{shown_in, filled_time, moved_to, fill}
 
 -- for proofs about literal texts: `unfolding computing approximating` below a signature lets `guess` compute, for a
 -- written-out text, a zone of one offset and a moment in numerals
 unfoldable pub approximating : Type 0
-unfolding walked draft_of guess shown_at first_second filled_seconds lone_year with_number settle dropped half at_month less_months fixed_expiry hour_rule back_rule months_rule meaning_rule letters_rule is_padded number_waits group_said digits_rule moment_named count_named unit_named weekday_named meaning_of shown_in filled_time moved_to fill
+unfolding walked draft_of guess shown_at first_second filled_seconds lone_year with_number settle dropped half at_month less_months fixed_expiry hour_rule back_rule months_rule meaning_rule letters_rule is_padded number_waits group_said digits_rule moment_named count_named unit_named weekday_told meaning_of shown_in filled_time moved_to fill
 approximating = Unit {0}

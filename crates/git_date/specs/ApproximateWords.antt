@@ -1,9 +1,9 @@
 -- What words say to the approximate reader.
-use Rattle.std.specs.Prelude.{ℕ, ◌+◌, ◌*◌, ◌%◌, Bool, ◌&&◌, ◌||◌, List, [], ◌∷◌, length, ◌==◌, codes, if◌then◌else◌, Option, Some, None, option_map}
+use Rattle.std.specs.Prelude.{ℕ, ◌+◌, ◌*◌, Bool, ◌&&◌, ◌||◌, List, [], ◌∷◌, length, ◌==◌, codes, if◌then◌else◌, Option, Some, None, option_map}
 use Rattle.std.specs.List.{position}
 use Rattle.gix_date.specs.Fields.ClockNumbers.{seconds_per_minute, seconds_per_hour, seconds_per_day}
 use Rattle.gix_date.specs.Text.Names.{is_name, named_in, number_names}
-use Rattle.git_date.specs.Names.{begins, is_short, month_named, weekday_names}
+use Rattle.gix_date.specs.Text.LongNames.{begins, month_told, weekday_told}
 use Rattle.git_date.specs.declared.approximate.meanings.Meaning.{Meaning}
 use Rattle.git_date.specs.declared.approximate.meanings.Meaning.TheVariants.{Month, Back, Never, Hour, Morning, Afternoon, Count}
 use Rattle.git_date.specs.declared.approximate.meanings.Meaning.TheVariants as meaning
@@ -42,10 +42,6 @@ unit_names =
 unfoldable pub unit_named : List ℕ → Option Unit
 unit_named word = unit_in unit_names word
 
--- the day of the week that a word names, from 0 for Monday
-unfoldable pub weekday_named : List ℕ → Option ℕ
-weekday_named word = option_map (λ place. (place + 6) % 7) (position (is_short word) weekday_names)
-
 abbrev pub count_or : Option ℕ → Option Meaning → Option Meaning
 count_or (Some n) other = Some (Count n)
 count_or None other = other
@@ -65,5 +61,5 @@ meaning_or None other = other
 -- what a word says, if it is known; no word is in two of these tables
 unfoldable pub meaning_of : List ℕ → Option Meaning
 meaning_of word =
-    let counted = count_or (count_named word) (weekday_or (weekday_named word) (option_map meaning.Unit (unit_named word))) in
-    month_or (month_named word) (meaning_or (moment_named word) counted)
+    let counted = count_or (count_named word) (weekday_or (weekday_told word) (option_map meaning.Unit (unit_named word))) in
+    month_or (month_told word) (meaning_or (moment_named word) counted)

@@ -1,50 +1,12 @@
--- The names of months, days of the week and zones, by their beginnings.
-use Rattle.std.specs.Char.{to_ascii_lowercase}
-use Rattle.std.specs.Prelude.{ℕ, ◌+◌, ◌*◌, ◌%◌, ◌==◌, Bool, false, ◌&&◌, ◌||◌, List, [], ◌∷◌, length, take, ℤ, pos, neg_ℤ, nat_le, codes, Option, option_map, is_some}
-use Rattle.std.specs.List.{position, find}
+-- Words that name a day of the week, and those that name a zone, by their beginnings.
+use Rattle.std.specs.Prelude.{ℕ, ◌*◌, Bool, ◌||◌, List, [], ◌∷◌, ℤ, pos, neg_ℤ, codes, Option, option_map, is_some}
+use Rattle.std.specs.List.{find}
 use Rattle.gix_date.specs.Text.Names.{is_name}
-
--- a word is the front of a name, in any letter case
-abbrev pub begins : List ℕ → List ℕ → Bool
-begins word name = nat_le (length word) (length name) && is_name word (take (length word) name)
-
--- the least count of letters that tells a name
-abbrev pub least : ℕ
-least = 3
-
-abbrev pub is_short : List ℕ → List ℕ → Bool
-is_short word name = nat_le least (length word) && begins word name
-
-abbrev pub month_names : List (List ℕ)
-month_names =
-    codes "January" ∷ codes "February" ∷ codes "March" ∷ codes "April" ∷ codes "May" ∷ codes "June" ∷ codes "July"
-    ∷ codes "August" ∷ codes "September" ∷ codes "October" ∷ codes "November" ∷ codes "December" ∷ []
-
-abbrev pub weekday_names : List (List ℕ)
-weekday_names =
-    codes "Sundays" ∷ codes "Mondays" ∷ codes "Tuesdays" ∷ codes "Wednesdays" ∷ codes "Thursdays" ∷ codes "Fridays"
-    ∷ codes "Saturdays" ∷ []
-
--- a name begins with these small letters, in any letter case, and goes on with what begins so
-abbrev pub tells : ℕ → ℕ → ℕ → List ℕ → List ℕ → Bool
-tells u v w end (x ∷ y ∷ z ∷ rest) =
-    u == to_ascii_lowercase x && (v == to_ascii_lowercase y && (w == to_ascii_lowercase z && begins end rest))
-tells u v w end _ = false
-
--- the month and the day of the week, from 0 for Monday, that are told so
-abbrev pub month_told : ℕ → ℕ → ℕ → List ℕ → Option ℕ
-month_told u v w end = option_map (λ place. place + 1) (position (tells u v w end) month_names)
-
-abbrev pub weekday_told : ℕ → ℕ → ℕ → List ℕ → Option ℕ
-weekday_told u v w end = option_map (λ place. (place + 6) % 7) (position (tells u v w end) weekday_names)
-
--- the month that a word names, from 1
-unfoldable pub month_named : List ℕ → Option ℕ
-month_named word = option_map (λ place. place + 1) (position (is_short word) month_names)
+use Rattle.gix_date.specs.Text.LongNames.{is_short, weekday_told}
 
 -- a word names a day of the week
 unfoldable pub is_weekday : List ℕ → Bool
-is_weekday word = is_some (position (is_short word) weekday_names)
+is_weekday word = is_some (weekday_told word)
 
 -- a zone's name: the whole, or at least three letters of it
 abbrev pub is_zone_name : List ℕ → List ℕ → Bool

@@ -3,7 +3,8 @@ use Rattle.std.specs.Prelude.{ℕ, ◌+◌, ◌%◌, Bool, List, [], ◌∷◌, 
 use Rattle.std.specs.List.{list_any}
 use Rattle.std.specs.Option.{option_or}
 use Rattle.gix_date.specs.Text.Names.{is_name}
-use Rattle.git_date.specs.Names.{month_named, is_weekday, zone_named}
+use Rattle.git_date.specs.Names.{is_weekday, zone_named}
+use Rattle.gix_date.specs.Text.LongNames.{month_told}
 use Rattle.git_date.specs.Tokens.{Token, Letters, Digits}
 use Rattle.git_date.specs.declared.fields.Fields.{Fields}
 
@@ -48,7 +49,7 @@ month_or_other f word None = if is_weekday word then Some f else zone_or_half f 
 
 -- what a word says; `None` if it is unknown
 unfoldable pub with_word : Fields → List ℕ → Option Fields
-with_word f word = month_or_other f word (month_named word)
+with_word f word = month_or_other f word (month_told word)
 
 -- letters: no word that has a digit is known
 unfoldable pub letters_rule : Fields → List ℕ → List Token → Option Fields

@@ -6,6 +6,7 @@ ghost use Rattle.git_date.specs.Fast.{WritesTwo, WritesYear, WritesMonth, Writes
 
 use crate::fields::Fields;
 use crate::offsets::signed_minutes;
+use gix_date::names::{day_name, month_name, month_told, weekday_told};
 
 /// Year, month and day.
 type Date = (u16, u8, u8);
@@ -41,20 +42,12 @@ fn year(a: u8, b: u8, c: u8, d: u8) -> Option<u16>
 fn month(a: u8, b: u8, c: u8) -> Option<u8>
     ensures { IfSome result (WritesMonth (a ∷ b ∷ c ∷ [])) }
 {
-    match (a, b, c) {
-        (b'J', b'a', b'n') => Some(1),
-        (b'F', b'e', b'b') => Some(2),
-        (b'M', b'a', b'r') => Some(3),
-        (b'A', b'p', b'r') => Some(4),
-        (b'M', b'a', b'y') => Some(5),
-        (b'J', b'u', b'n') => Some(6),
-        (b'J', b'u', b'l') => Some(7),
-        (b'A', b'u', b'g') => Some(8),
-        (b'S', b'e', b'p') => Some(9),
-        (b'O', b'c', b't') => Some(10),
-        (b'N', b'o', b'v') => Some(11),
-        (b'D', b'e', b'c') => Some(12),
-        _ => None,
+    let name: &[u8] = &[a, b, c];
+    let month = month_told(name)?;
+    if month_name(month).as_bytes() == name {
+        Some(month)
+    } else {
+        None
     }
 }
 
@@ -63,15 +56,11 @@ fn month(a: u8, b: u8, c: u8) -> Option<u8>
 fn weekday(text: &[u8]) -> Option<u8>
     ensures { IfSome result (WritesWeekday text.now) }
 {
-    match text {
-        b"Mon" => Some(0),
-        b"Tue" => Some(1),
-        b"Wed" => Some(2),
-        b"Thu" => Some(3),
-        b"Fri" => Some(4),
-        b"Sat" => Some(5),
-        b"Sun" => Some(6),
-        _ => None,
+    let weekday = weekday_told(text)?;
+    if day_name(weekday).as_bytes() == text {
+        Some(weekday)
+    } else {
+        None
     }
 }
 

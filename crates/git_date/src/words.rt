@@ -6,8 +6,9 @@ ghost use Rattle.git_date.specs.Tokens.{tokens};
 ghost use Rattle.git_date.specs.Words.{afternoon, morning, with_zone, is_filler, half_or_filler, with_word, letters_rule, is_ending, without_ending};
 
 use crate::fields::Fields;
-use crate::names::{is_name, is_weekday, month_named, zone_named};
+use crate::names::{is_weekday, zone_named};
 use crate::tokens::{Token, next_token};
+use gix_date::names::{is_name, month_told};
 
 impl Fields {
     #[tactic(auto, unfolding(crate::specs::Words::afternoon))]
@@ -55,7 +56,7 @@ impl Fields {
     fn with_word(self, word: &[u8]) -> Option<Fields>
         ensures { result ≡ with_word self word.now }
     {
-        if let Some(month) = month_named(word) {
+        if let Some(month) = month_told(word) {
             return Some(Fields {
                 month: Some(month),
                 ..self

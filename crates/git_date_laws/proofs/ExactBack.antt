@@ -11,10 +11,10 @@ use Rattle.gix_date.specs.declared.time.Time.{Time}
 use Rattle.git_date.specs.Approximate.{rule, steps, draft_of, answer, answer_of, guess_by, guess}
 use Rattle.git_date.specs.ApproximateDrafts.{first_draft, clock_fields, all_fields, settle, units}
 use Rattle.git_date.specs.ApproximateRules.{letters_rule, digits_rule, back_rule, meaning_rule, number_waits, group_said, is_padded}
-use Rattle.git_date.specs.ApproximateWords.{moment_named, count_named, unit_named, weekday_named, meaning_of}
+use Rattle.git_date.specs.ApproximateWords.{moment_named, count_named, unit_named, meaning_of}
+use Rattle.gix_date.specs.Text.LongNames.{weekday_told, month_told}
 use Rattle.git_date.specs.ApproximateZones.{Choices, one_offset, shown_in, filled_time, moved_by, moved_to, fill_by, fill}
 use Rattle.git_date.specs.Groups.{group_of, marked_number}
-use Rattle.git_date.specs.Names.{month_named}
 use Rattle.git_date.specs.Numbers.{number, is_too_large, max_small}
 use Rattle.git_date.specs.Reading.{said_by}
 use Rattle.git_date.specs.Tokens.{Token, Letters, Digits, Mark, tokens, texts, bytes_left, walked}
@@ -79,7 +79,7 @@ unit-moves zone c next unit last n size left means small moves =
     rw (means, same, not-large (n * size) small, moves) refl
 
 pub ago-nothing : (zone : Choices) (c : ShownClock) (d : Draft) → letters_rule zone c d (codes "ago") [] ≡ Ok d
-unfolding letters_rule meaning_of month_named moment_named count_named weekday_named unit_named is_filler
+unfolding letters_rule meaning_of month_told moment_named count_named weekday_told unit_named is_filler
 ago-nothing zone c d = refl
 
 -- what a zone of one offset chooses

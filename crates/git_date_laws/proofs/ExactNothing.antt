@@ -10,7 +10,8 @@ use Rattle.git_date.specs.Dates.{exact_seconds, month_start, seconds_after}
 use Rattle.git_date.specs.Digits.{Stepped, min_epoch, is_epoch, bare_digits, six_digits, four_digits, few_digits, two_digit_year, or_month, year_or_month, clock_taken, number_rule, digits_rule}
 use Rattle.git_date.specs.Fields.{unknown, with_clock}
 use Rattle.git_date.specs.Groups.{group_of, marked_number, without_fraction}
-use Rattle.git_date.specs.Names.{month_named, is_weekday, zone_named}
+use Rattle.git_date.specs.Names.{is_weekday, zone_named}
+use Rattle.gix_date.specs.Text.LongNames.{month_told, weekday_told}
 use Rattle.git_date.specs.Numbers.{number, is_too_large}
 use Rattle.git_date.specs.Offsets.{at_text}
 use Rattle.git_date.specs.Reading.{ended, sign_rule, nothing_read, read_on, and_then, steps, reading_of, fields_said, by_seconds, at_or_fields, said_by}
@@ -140,13 +141,13 @@ no-afternoon false false false false false false true h o u is = absurd cc
 no-afternoon false false false false false false false true o u is = absurd cc
 no-afternoon false false false false false false false false o u is = refl
 
-no-month : (word : List ℕ) (u : Unit) → meaning_of word ≡ Some (meaning.Unit u) → month_named word ≡ None
+no-month : (word : List ℕ) (u : Unit) → meaning_of word ≡ Some (meaning.Unit u) → month_told word ≡ None
 unfolding meaning_of
-no-month word u e = (not-month (month_named word) _ u e).0
+no-month word u e = (not-month (month_told word) _ u e).0
 
 no-pm : (word : List ℕ) (u : Unit) → meaning_of word ≡ Some (meaning.Unit u) → is_name word (codes "PM") ≡ false
 unfolding meaning_of moment_named
-no-pm word u e = no-afternoon _ _ _ _ _ _ _ _ _ u (not-month (month_named word) _ u e).1
+no-pm word u e = no-afternoon _ _ _ _ _ _ _ _ _ u (not-month (month_told word) _ u e).1
 
 morning-by : (y h : Option ℕ) → (is_none y || is_none h) ≡ true → (is_none y || is_none (option_map (λ (n : ℕ). n % 12) h)) ≡ true
 morning-by None h e = refl
@@ -217,7 +218,7 @@ abbrev ago_token : List Token
 ago_token = Letters (codes "ago") ∷ []
 
 ago-is : (f : Fields) → with_word f (codes "ago") ≡ Some f
-unfolding with_word month_named is_weekday zone_named is_filler
+unfolding with_word month_told is_weekday weekday_told zone_named is_filler
 ago-is f = refl
 
 end-of : (now : Now) (m : ℕ) (s : Reading) → lacks s.fields ≡ true → Ends (steps now m s [])

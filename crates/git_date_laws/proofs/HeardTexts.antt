@@ -9,10 +9,10 @@ use Rattle.gix_date.specs.declared.time.Time.{Time}
 use Rattle.git_date.specs.Approximate.{Read, with_rest, steps, draft_of, answer, answer_of, guess_by, guess}
 use Rattle.git_date.specs.ApproximateDrafts.{first_draft, ignore, settle}
 use Rattle.git_date.specs.ApproximateRules.{are_digits_next, letters_rule, digits_rule}
-use Rattle.git_date.specs.ApproximateWords.{moment_named, count_named, unit_named, weekday_named, meaning_of}
+use Rattle.git_date.specs.ApproximateWords.{moment_named, count_named, unit_named, meaning_of}
+use Rattle.gix_date.specs.Text.LongNames.{weekday_told, month_told}
 use Rattle.git_date.specs.ApproximateZones.{Choices, shown_in, filled_time}
 use Rattle.git_date.specs.Groups.{is_group_mark}
-use Rattle.git_date.specs.Names.{month_named}
 use Rattle.git_date.specs.Reading.{and_then, error_of, ended}
 use Rattle.git_date.specs.Tokens.{Token, Letters, Digits, Mark, tokens, bytes_left, walked}
 use Rattle.git_date.specs.Words.{is_filler, is_ending, without_ending}
@@ -39,19 +39,19 @@ abbrev IsNoWord : List ℕ → Type 0
 IsNoWord name = meaning_of (str_to_ascii_lowercase name) ≡ None
 
 st : IsNoWord (codes "st")
-unfolding meaning_of month_named moment_named count_named weekday_named unit_named
+unfolding meaning_of month_told moment_named count_named weekday_told unit_named
 st = refl
 
 nd : IsNoWord (codes "nd")
-unfolding meaning_of month_named moment_named count_named weekday_named unit_named
+unfolding meaning_of month_told moment_named count_named weekday_told unit_named
 nd = refl
 
 rd : IsNoWord (codes "rd")
-unfolding meaning_of month_named moment_named count_named weekday_named unit_named
+unfolding meaning_of month_told moment_named count_named weekday_told unit_named
 rd = refl
 
 th : IsNoWord (codes "th")
-unfolding meaning_of month_named moment_named count_named weekday_named unit_named
+unfolding meaning_of month_told moment_named count_named weekday_told unit_named
 th = refl
 
 any-of : (run : List ℕ) (a b c d : Bool) → is_name run (codes "st") ≡ a → is_name run (codes "nd") ≡ b → is_name run (codes "rd") ≡ c

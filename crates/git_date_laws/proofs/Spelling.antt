@@ -1,12 +1,13 @@
 -- Words that may be spelled otherwise, as in letter case, and say the same.
-use Rattle.std.proofs.Common.{◌≡◌, ◌∙◌, ◌+◌, ◌%◌, ℕ, ℤ, Bool, cond, List, [], ◌∷◌, length, refl, ap, ap₂, is_some, sym, Option, Some, None, option_map}
+use Rattle.std.proofs.Common.{◌≡◌, ◌∙◌, ◌+◌, ℕ, ℤ, Bool, cond, List, [], ◌∷◌, length, refl, ap, ap₂, is_some, sym, Option, Some, None, option_map}
 use Rattle.std.specs.Prelude.{◌==◌, ◌&&◌, ◌||◌, codes, take, nat_le}
 use Rattle.std.specs.List.{position, find, list_any}
 use Rattle.gix_date.specs.Text.Names.{is_name, named_in, number_names}
-use Rattle.git_date.specs.Names.{is_short, is_zone_name, month_names, weekday_names, zone_rows, month_named, is_weekday, zone_named}
+use Rattle.git_date.specs.Names.{is_zone_name, zone_rows, is_weekday, zone_named}
+use Rattle.gix_date.specs.Text.LongNames.{is_short, long_month_names, long_day_names, month_told, weekday_told}
 use Rattle.git_date.specs.Words.{filler_words, ending_words, is_filler, half_or_filler, zone_or_half, month_or_other, with_word, is_ending}
 use Rattle.git_date.specs.Types.{Fields}
-use Rattle.git_date.specs.ApproximateWords.{moment_names, moment_named, count_named, is_unit, unit_in, unit_names, unit_named, weekday_named, count_or, weekday_or, month_or, meaning_or, meaning_of}
+use Rattle.git_date.specs.ApproximateWords.{moment_names, moment_named, count_named, is_unit, unit_in, unit_names, unit_named, count_or, weekday_or, month_or, meaning_or, meaning_of}
 use Rattle.git_date.specs.MeaningCases as meaning
 use Rattle.git_date.specs.Types.{Unit as Counted}
 use Rattle.git_date.proofs.Respects.{AreWords}
@@ -23,13 +24,13 @@ module _ (spell : List ℕ → List ℕ) (same : IsSpelling spell) where
   zone-agrees : (word name : List ℕ) → is_zone_name (spell word) name ≡ is_zone_name word name
   zone-agrees word name = ap₂ ◌||◌ (same.named word name) (short-agrees word name)
 
-  pub month-agrees : (word : List ℕ) → month_named (spell word) ≡ month_named word
-  unfolding month_named
-  month-agrees word = λ i. option_map (λ place. place + 1) (position (λ name. short-agrees word name i) month_names)
+  pub month-agrees : (word : List ℕ) → month_told (spell word) ≡ month_told word
+  unfolding month_told
+  month-agrees word = λ i. option_map (λ place. place + 1) (position (λ name. short-agrees word name i) long_month_names)
 
   weekday-agrees : (word : List ℕ) → is_weekday (spell word) ≡ is_weekday word
-  unfolding is_weekday
-  weekday-agrees word = λ i. is_some (position (λ name. short-agrees word name i) weekday_names)
+  unfolding is_weekday weekday_told
+  weekday-agrees word = λ i. is_some (position (λ name. short-agrees word name i) long_day_names)
 
   zone-named-agrees : (word : List ℕ) → zone_named (spell word) ≡ zone_named word
   unfolding zone_named
@@ -56,7 +57,7 @@ module _ (spell : List ℕ → List ℕ) (same : IsSpelling spell) where
 
   word-agrees : (f : Fields) (word : List ℕ) → with_word f (spell word) ≡ with_word f word
   unfolding with_word
-  word-agrees f word = ap (month_or_other f (spell word)) (month-agrees word) ∙ month-or-agrees f word (month_named word)
+  word-agrees f word = ap (month_or_other f (spell word)) (month-agrees word) ∙ month-or-agrees f word (month_told word)
 
   -- what words say
   named-agrees : {A : Type 0} (rows : List (List ℕ × A)) (word : List ℕ) → named_in rows (spell word) ≡ named_in rows word
@@ -88,9 +89,9 @@ module _ (spell : List ℕ → List ℕ) (same : IsSpelling spell) where
   unfolding unit_named
   unit-agrees word = unit-in-agrees unit_names word
 
-  weekday-named-agrees : (word : List ℕ) → weekday_named (spell word) ≡ weekday_named word
-  unfolding weekday_named
-  weekday-named-agrees word = λ i. option_map (λ place. (place + 6) % 7) (position (λ name. short-agrees word name i) weekday_names)
+  weekday-named-agrees : (word : List ℕ) → weekday_told (spell word) ≡ weekday_told word
+  unfolding weekday_told
+  weekday-named-agrees word = λ i. position (λ name. short-agrees word name i) long_day_names
 
   pub meaning-agrees : (word : List ℕ) → meaning_of (spell word) ≡ meaning_of word
   unfolding meaning_of

@@ -2,5 +2,6 @@ pub mod Failures
 pub mod Fronts
 pub mod Unzoned
 pub mod Zones
+pub mod FixedZones
 pub mod Clear
 pub mod WholeWords

@@ -5,5 +5,6 @@ pub mod ColonOffsets
 pub mod Layouts
 pub mod AfterDay
 pub mod NamesRead
+pub mod ThreeLetters
 pub mod DateTimes
 pub mod Instants

@@ -12,5 +12,6 @@ pub mod Ints
 pub mod Decimals
 pub mod WhiteSpace
 pub mod Texts
+pub mod LongNames
 pub mod LastPlaces
 pub mod Trimmed

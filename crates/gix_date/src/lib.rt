@@ -22,6 +22,7 @@ mod civil;
 pub mod device;
 mod error;
 pub mod laws;
+pub mod names;
 pub mod parsing;
 pub mod time;
 

@@ -4,7 +4,7 @@ ghost use Rattle.std.specs.List.{position};
 ghost use Rattle.gix_date.specs.Text.Names.{is_name};
 ghost use Rattle.git_date.specs.ApproximateWords.{moment_named, count_named, is_unit, unit_named, meaning_of};
 
-use crate::names::{is_name, month_named, weekday_named};
+use gix_date::names::{begins, is_name, month_told, weekday_told};
 
 /// What a word says.
 #[derive(Clone, Copy)]
@@ -91,7 +91,7 @@ fn count_named(word: &[u8]) -> Option<u8>
 fn is_unit(word: &[u8], name: &[u8]) -> bool
     ensures { result ≡ is_unit word.now name.now }
 {
-    is_name(word, name) || (word.len() + 1 == name.len() && is_name(word, &name[..word.len()]))
+    is_name(word, name) || (word.len() + 1 == name.len() && begins(word, name))
 }
 
 /// The unit that a word names.
@@ -123,7 +123,7 @@ fn unit_named(word: &[u8]) -> Option<Unit>
 pub(crate) fn meaning_of(word: &[u8]) -> Option<Meaning>
     ensures { result ≡ meaning_of word.now }
 {
-    if let Some(month) = month_named(word) {
+    if let Some(month) = month_told(word) {
         return Some(Meaning::Month(month));
     }
     if let Some(meaning) = moment_named(word) {
@@ -132,7 +132,7 @@ pub(crate) fn meaning_of(word: &[u8]) -> Option<Meaning>
     if let Some(n) = count_named(word) {
         return Some(Meaning::Count(n));
     }
-    if let Some(day) = weekday_named(word) {
+    if let Some(day) = weekday_told(word) {
         return Some(Meaning::Unit(Unit::Weekday(day)));
     }
     match unit_named(word) {

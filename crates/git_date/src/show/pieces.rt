@@ -13,47 +13,7 @@ ghost use Rattle.git_date.specs.Clocks.{local_of, HasFields};
 
 use crate::clocks::ShownClock;
 use crate::show::DateText;
-
-/// The name of a day of the week, from 0 for Monday.
-fn day_name(weekday: u8) -> &'static str
-    requires { weekday < 7 }
-    ensures name { result.now ≡ day_name weekday }
-    ensures len { length result.now ≡ 3 }
-{
-    match weekday {
-        0 => "Mon",
-        1 => "Tue",
-        2 => "Wed",
-        3 => "Thu",
-        4 => "Fri",
-        5 => "Sat",
-        6 => "Sun",
-        _ => unreachable!(),
-    }
-}
-
-/// The name of a month, from 1 for January.
-fn month_name(month: u8) -> &'static str
-    requires { IsInRange 1 12 month }
-    ensures name { result.now ≡ month_name month }
-    ensures len { length result.now ≡ 3 }
-{
-    match month {
-        1 => "Jan",
-        2 => "Feb",
-        3 => "Mar",
-        4 => "Apr",
-        5 => "May",
-        6 => "Jun",
-        7 => "Jul",
-        8 => "Aug",
-        9 => "Sep",
-        10 => "Oct",
-        11 => "Nov",
-        12 => "Dec",
-        _ => unreachable!(),
-    }
-}
+use gix_date::names::{day_name, month_name};
 
 /// Appends the two digits of a number below 100.
 fn push_two_digits(text: &mut DateText, n: u8)

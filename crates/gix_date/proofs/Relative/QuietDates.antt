@@ -1,5 +1,5 @@
 -- Formatted dates and numbers are quiet: their words are digits, and names of days, months and zones.
-use Rattle.std.proofs.Common.{◌≡◌, ◌∙◌, ◌<◌, ◌+◌, ◌-◌, ◌≤◌, ℕ, ℤ, Bool, true, false, cond, List, [], ◌∷◌, ◌++◌, length, take, refl, ap, ap₂, sym, subst, arith, append_assoc, append-nil, Some, None, Option, option_map, inl, inr, ◌⊎◌, IsUtf8, flat_map, zero, suc, get_or}
+use Rattle.std.proofs.Common.{◌≡◌, ◌∙◌, ◌+◌, ◌-◌, ◌≤◌, ℕ, ℤ, Bool, true, false, cond, List, [], ◌∷◌, ◌++◌, length, take, refl, ap, ap₂, sym, subst, arith, append_assoc, append-nil, Some, None, Option, option_map, inl, inr, ◌⊎◌, IsUtf8, flat_map, suc, get_or}
 use Rattle.std.proofs.lemmas.Bool.{and_parts as both}
 use Rattle.std.proofs.lemmas.Bool.Decides.{nat_tests}
 use Rattle.std.proofs.lemmas.List.Quantifiers.{position-Some}
@@ -27,6 +27,7 @@ use Rattle.gix_date.specs.declared.civil.ClockFields.{ClockFields}
 use Rattle.gix_date.specs.declared.civil.DateFields.{DateFields}
 use Rattle.gix_date.specs.declared.parsing.offset.OffsetFields.{OffsetFields}
 use Rattle.gix_date.specs.declared.parsing.offset.Sign.{Sign}
+use Rattle.gix_date.proofs.Fields.ThreeLetters.{all-at}
 use Rattle.gix_date.proofs.Fields.FieldsRead.{digit-no-letter}
 use Rattle.gix_date.proofs.Fields.ColonOffsets.{AreLastSeconds, strict-taken}
 use Rattle.gix_date.proofs.Fields.FieldsTaken.{went}
@@ -184,16 +185,11 @@ quiet-day-name : (t : List ℕ) → IsDayName t → IsQuiet t
 unfolding is_weekday
 quiet-day-name t h = quiet-name t (letters-run t h.0) (like-any t day_names names-quiet.0 h.1)
 
-all-at : (names : List (List ℕ)) (k : ℕ) → list_all says_nothing names ≡ true → k < length names → says_nothing (get_or names k []) ≡ true
-all-at [] k h l = absurd (omega (arith, l))
-all-at (x ∷ xs) zero h l = (both (says_nothing x) (list_all says_nothing xs) h).0
-all-at (x ∷ xs) (suc k) h l = all-at xs k (both (says_nothing x) (list_all says_nothing xs) h).1 (omega (arith, l))
-
 found-name : (t : List ℕ) (place : Option ℕ) (n : ℕ) → position (is_name t) month_names ≡ place → option_map {U = ℕ} (λ k. k + 1) place ≡ Some n → says_nothing t ≡ true
 found-name t None n e h = absurd cc
 found-name t (Some k) n e h =
     let at = position-Some (is_name t) month_names k [] e in
-    like t (get_or month_names k []) at.1 (all-at month_names k names-quiet.1 at.0)
+    like t (get_or month_names k []) at.1 (all-at says_nothing month_names k names-quiet.1 at.0)
 
 quiet-month-name : (t : List ℕ) (n : ℕ) → IsMonthName t n → IsQuiet t
 unfolding month_named

@@ -1,6 +1,6 @@
 //! Dates for callers that must not guess: which texts are careful, and which zone a date without an offset has.
-ghost use Rattle.std.specs.Prelude.{◌≡◌, [], ◌∷◌, true, if◌then◌else◌, Some, None, IfOk, IfErr, IfSome, IsCharBoundary, List, option_map, ℕ};
-ghost use Rattle.jiff.specs.Words.{IsOffsetSeconds};
+ghost use Rattle.std.specs.Prelude.{◌≡◌, ◌-ℤ◌, [], ◌∷◌, true, if◌then◌else◌, Some, None, IfOk, IfErr, IfSome, IsCharBoundary, List, option_map, ℕ};
+ghost use Rattle.jiff.specs.Words.{fixed_zone, IsOffsetSeconds};
 ghost use Rattle.jiff_core.specs.Calendar.{weekday_number};
 ghost use Rattle.gix_date.specs.Careful.Dates.{day_named, first_day, is_large_if_raw, is_whole_git, names_its_day, unzoned_day, unzoned_git_time, unzoned_time, IsLocalIfAny};
 ghost use Rattle.gix_date.specs.Careful.Fronts.{longest_front};
@@ -13,6 +13,7 @@ ghost use Rattle.gix_date.specs.Relative.Steps.{zone_of};
 ghost use Rattle.gix_date.specs.declared.parsing.careful.Texts.TheVariants.{Careful, All};
 
 use crate::error::{CarefulError, ParseError};
+use crate::names::weekday_told;
 use crate::parsing::answer::Answer;
 use crate::parsing::dates::{MIN_EPOCH, first_answer, outcome};
 use crate::parsing::fronts::longest_front;
@@ -286,20 +287,7 @@ fn first_day(input: &str) -> Option<u8>
 fn day_named(a: u8, b: u8, c: u8) -> Option<u8>
     ensures { result ≡ day_named (a ∷ b ∷ c ∷ []) }
 {
-    match (
-        a.to_ascii_lowercase(),
-        b.to_ascii_lowercase(),
-        c.to_ascii_lowercase(),
-    ) {
-        (b'm', b'o', b'n') => Some(0),
-        (b't', b'u', b'e') => Some(1),
-        (b'w', b'e', b'd') => Some(2),
-        (b't', b'h', b'u') => Some(3),
-        (b'f', b'r', b'i') => Some(4),
-        (b's', b'a', b't') => Some(5),
-        (b's', b'u', b'n') => Some(6),
-        _ => None,
-    }
+    weekday_told(&[a, b, c])
 }
 
 /// The day of the week by the time's own clock, from 0 for Monday.
@@ -362,6 +350,39 @@ fn local_time(time: Time, now: Option<Zoned<'_>>) -> Result<Time, CarefulError>
 ///
 /// The zone chooses as for [`WithoutOffset::MomentsZone`]. `None` if it has no instant for that clock. Takes no memory.
 pub fn time_in_zone(time: Time, moment: Zoned<'_>) -> Option<Time>
+    requires { is_instant time.seconds ≡ true }
+    ensures local { IsLocalIfAny (zone_of moment.entry) time result }
+    ensures offset_fits { IfSome result (λ t. IsOffsetSeconds t.offset) }
+{
+    match moment.time_zone().to_fixed_offset() {
+        Ok(offset) => fast_time_in_zone(time, offset),
+        Err(_) => time_in_any_zone(time, moment),
+    }
+}
+
+/// [`time_in_zone`] in a zone of one offset: seconds are subtracted, and no zoned value is made.
+fn fast_time_in_zone(time: Time, offset: Offset) -> Option<Time>
+    requires { is_instant time.seconds ≡ true }
+    ensures local { IsLocalIfAny (fixed_zone offset) time result }
+    ensures offset_fits { IfSome result (λ t. IsOffsetSeconds t.offset) }
+{
+    let local = earlier_by(time, offset);
+    match Timestamp::from_second(local.seconds) {
+        Ok(_) => Some(local),
+        Err(_) => None,
+    }
+}
+
+/// A time earlier by an offset, at that offset.
+fn earlier_by(time: Time, offset: Offset) -> Time
+    requires { is_instant time.seconds ≡ true }
+    ensures { result ≡ record { seconds = time.seconds -ℤ offset.seconds; offset = offset.seconds } }
+{
+    Time::new(time.seconds - i64::from(offset.seconds()), offset.seconds())
+}
+
+/// [`time_in_zone`] in any zone.
+fn time_in_any_zone(time: Time, moment: Zoned<'_>) -> Option<Time>
     requires { is_instant time.seconds ≡ true }
     ensures local { IsLocalIfAny (zone_of moment.entry) time result }
     ensures offset_fits { IfSome result (λ t. IsOffsetSeconds t.offset) }

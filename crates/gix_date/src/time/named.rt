@@ -16,6 +16,7 @@ ghost use Rattle.gix_date.specs.declared.error.Error.TheVariants as errors;
 
 use crate::civil::{ClockFields, DateFields};
 use crate::error::Error;
+use crate::names::{day_name, month_name};
 use crate::time::{
     MAX_OFFSET_IN_SECONDS, OffsetInSeconds, SECONDS_PER_DAY, SECONDS_PER_HOUR, SECONDS_PER_MINUTE,
     SecondsSinceUnixEpoch, Time, push_hours, push_minutes, push_two_digits,
@@ -147,49 +148,6 @@ fn local_moment(time: Time) -> Option<LocalMoment>
         clock: clock_at(local.rem_euclid(SECONDS_PER_DAY) as u32),
         offset: time.offset,
     })
-}
-
-/// The name of a day of the week, from 0 for Monday.
-#[inline(always)]
-fn day_name(weekday: u8) -> &'static str
-    requires { weekday < 7 }
-    ensures name { result.now ≡ day_name weekday }
-    ensures len { length result.now ≡ 3 }
-{
-    match weekday {
-        0 => "Mon",
-        1 => "Tue",
-        2 => "Wed",
-        3 => "Thu",
-        4 => "Fri",
-        5 => "Sat",
-        6 => "Sun",
-        _ => unreachable!(),
-    }
-}
-
-/// The name of a month, from 1 for January.
-#[inline(always)]
-fn month_name(month: u8) -> &'static str
-    requires { IsInRange 1 12 month }
-    ensures name { result.now ≡ month_name month }
-    ensures len { length result.now ≡ 3 }
-{
-    match month {
-        1 => "Jan",
-        2 => "Feb",
-        3 => "Mar",
-        4 => "Apr",
-        5 => "May",
-        6 => "Jun",
-        7 => "Jul",
-        8 => "Aug",
-        9 => "Sep",
-        10 => "Oct",
-        11 => "Nov",
-        12 => "Dec",
-        _ => unreachable!(),
-    }
 }
 
 /// Appends the four digits of a year.

@@ -8,6 +8,7 @@ ghost use Rattle.gix_date.specs.Text.Front.{read_view};
 ghost use Rattle.gix_date.specs.Fields.DateFields.{skip_spaces, month_named, is_weekday, read_month, skip_weekday, read_plain_date, read_second, read_clock, read_rfc2822_clock, without_leap_second};
 
 use crate::civil::{ClockFields, DateFields};
+use crate::names::{month_told, weekday_told};
 use crate::parsing::fields::{read_colon_clock, read_marked_date, skip_char};
 use crate::parsing::numbers::{read_field, read_year};
 use crate::time::MAX_SECOND;
@@ -51,25 +52,7 @@ fn month_named(a: u8, b: u8, c: u8) -> Option<u8>
     ensures small { IfSome result (λ month. month < 100) }
     ensures letters { IfSome result (λ month. AreThreeLetters (a ∷ b ∷ c ∷ [])) }
 {
-    match (
-        a.to_ascii_lowercase(),
-        b.to_ascii_lowercase(),
-        c.to_ascii_lowercase(),
-    ) {
-        (b'j', b'a', b'n') => Some(1),
-        (b'f', b'e', b'b') => Some(2),
-        (b'm', b'a', b'r') => Some(3),
-        (b'a', b'p', b'r') => Some(4),
-        (b'm', b'a', b'y') => Some(5),
-        (b'j', b'u', b'n') => Some(6),
-        (b'j', b'u', b'l') => Some(7),
-        (b'a', b'u', b'g') => Some(8),
-        (b's', b'e', b'p') => Some(9),
-        (b'o', b'c', b't') => Some(10),
-        (b'n', b'o', b'v') => Some(11),
-        (b'd', b'e', b'c') => Some(12),
-        _ => None,
-    }
+    month_told(&[a, b, c])
 }
 
 /// Whether three letters name a day of the week, in any letter case.
@@ -79,20 +62,7 @@ fn is_weekday(a: u8, b: u8, c: u8) -> bool
     ensures value { result ≡ is_weekday (a ∷ b ∷ c ∷ []) }
     ensures letters { result ≡ true → AreThreeLetters (a ∷ b ∷ c ∷ []) }
 {
-    match (
-        a.to_ascii_lowercase(),
-        b.to_ascii_lowercase(),
-        c.to_ascii_lowercase(),
-    ) {
-        (b'm', b'o', b'n') => true,
-        (b't', b'u', b'e') => true,
-        (b'w', b'e', b'd') => true,
-        (b't', b'h', b'u') => true,
-        (b'f', b'r', b'i') => true,
-        (b's', b'a', b't') => true,
-        (b's', b'u', b'n') => true,
-        _ => false,
-    }
+    weekday_told(&[a, b, c]).is_some()
 }
 
 /// A month's name at the front.

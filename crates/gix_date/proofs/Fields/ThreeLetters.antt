@@ -1,0 +1,88 @@
+-- Three letters tell the name that they are, and no other three bytes tell one.
+use Rattle.std.proofs.Common.{◌≡◌, ◌∙◌, ◌<◌, ◌+◌, ℕ, suc, zero, Bool, true, false, cond, List, [], ◌∷◌, length, get_or, option_map, is_some, Option, Some, None, IfSome, refl, sym, ap, subst, arith}
+use Rattle.std.specs.Char.{to_ascii_lowercase, is_ascii_alphabetic}
+use Rattle.std.specs.List.{position, position_or_len, list_any, list_all}
+use Rattle.std.specs.Prelude.{◌==◌, ◌||◌, not, nat_lt}
+use Rattle.std.proofs.lemmas.Bool.{and_parts as both, and_from as join}
+use Rattle.std.proofs.lemmas.Bool.Decides.{nat_tests}
+use Rattle.std.proofs.lemmas.List.Quantifiers.{position-Some}
+use Rattle.gix_date.specs.Careful.Dates.{day_named}
+use Rattle.gix_date.specs.Fields.DateFields.{month_named, is_weekday}
+use Rattle.gix_date.specs.Fields.FieldTexts.{AreThreeLetters}
+use Rattle.gix_date.specs.Text.LongNames.{month_told, weekday_told}
+use Rattle.gix_date.specs.Text.Names.{is_name, month_names, day_names}
+
+pub month-is : (a b c : ℕ) → month_told (a ∷ b ∷ c ∷ []) ≡ month_named (a ∷ b ∷ c ∷ [])
+unfolding month_told month_named
+month-is a b c = refl
+
+pub day-is : (a b c : ℕ) → weekday_told (a ∷ b ∷ c ∷ []) ≡ day_named (a ∷ b ∷ c ∷ [])
+unfolding weekday_told day_named
+day-is a b c = refl
+
+is-some : {X : Type 0} (b : Bool) (x : X) → is_some (cond b (Some x) None) ≡ b
+is-some true x = refl
+is-some false x = refl
+
+lt-any : {X : Type 0} (p : X → Bool) (xs : List X) → nat_lt (position_or_len p xs) (length xs) ≡ list_any p xs
+lt-any p [] = refl
+lt-any p (x ∷ xs) = by (p x) (position_or_len p xs) (length xs) (list_any p xs) (lt-any p xs)
+  where
+    by : (b : Bool) (n m : ℕ) (any : Bool) → nat_lt n m ≡ any → nat_lt (cond (not b) (1 + n) 0) (suc m) ≡ (b || any)
+    by true n m any e = grind (arith, nat_tests)
+    by false n m true e = grind (arith, nat_tests)
+    by false n m false e = grind (arith, nat_tests)
+
+some-any : {X : Type 0} (p : X → Bool) (xs : List X) → is_some (position p xs) ≡ list_any p xs
+some-any p xs = is-some (nat_lt (position_or_len p xs) (length xs)) (position_or_len p xs) ∙ lt-any p xs
+
+pub weekday-is : (a b c : ℕ) → is_some (weekday_told (a ∷ b ∷ c ∷ [])) ≡ is_weekday (a ∷ b ∷ c ∷ [])
+unfolding is_weekday day_named
+weekday-is a b c = ap is_some (day-is a b c) ∙ some-any (is_name (a ∷ b ∷ c ∷ [])) day_names
+
+-- a name of letters is told by letters alone
+like-letter : (a x : ℕ) → (to_ascii_lowercase a == to_ascii_lowercase x) ≡ true → is_ascii_alphabetic x ≡ true → is_ascii_alphabetic a ≡ true
+like-letter a x e h = grind (arith, nat_tests)
+
+like-letters : (a b c : ℕ) (name : List ℕ) → is_name (a ∷ b ∷ c ∷ []) name ≡ true → list_all is_ascii_alphabetic name ≡ true → AreThreeLetters (a ∷ b ∷ c ∷ [])
+like-letters a b c [] e h = absurd cc
+like-letters a b c (x ∷ []) e h = absurd (let p = both (to_ascii_lowercase a == to_ascii_lowercase x) false e in cc)
+like-letters a b c (x ∷ y ∷ []) e h =
+    absurd (let p = both (to_ascii_lowercase a == to_ascii_lowercase x) _ e in let q = both (to_ascii_lowercase b == to_ascii_lowercase y) false p.1 in cc)
+like-letters a b c (x ∷ y ∷ z ∷ more) e h =
+    let p = both (to_ascii_lowercase a == to_ascii_lowercase x) _ e in
+    let q = both (to_ascii_lowercase b == to_ascii_lowercase y) _ p.1 in
+    let r = both (to_ascii_lowercase c == to_ascii_lowercase z) _ q.1 in
+    let i = both (is_ascii_alphabetic x) _ h in
+    let j = both (is_ascii_alphabetic y) _ i.1 in
+    let k = both (is_ascii_alphabetic z) _ j.1 in
+    join _ _ (join _ _ (like-letter a x p.0 i.0) (like-letter b y q.0 j.0)) (like-letter c z r.0 k.0)
+
+-- what passes for each of some names
+pub all-at : (p : List ℕ → Bool) (names : List (List ℕ)) (k : ℕ) → list_all p names ≡ true → k < length names → p (get_or names k []) ≡ true
+all-at p [] k h l = absurd (omega (arith, l))
+all-at p (x ∷ xs) zero h l = (both (p x) (list_all p xs) h).0
+all-at p (x ∷ xs) (suc k) h l = all-at p xs k (both (p x) (list_all p xs) h).1 (omega (arith, l))
+
+letters-at : (a b c : ℕ) (names : List (List ℕ)) (k : ℕ) → list_all (list_all is_ascii_alphabetic) names ≡ true → position (is_name (a ∷ b ∷ c ∷ [])) names ≡ Some k
+    → AreThreeLetters (a ∷ b ∷ c ∷ [])
+letters-at a b c names k h e =
+    let at = position-Some (is_name (a ∷ b ∷ c ∷ [])) names k [] e in
+    like-letters a b c (get_or names k []) at.1 (all-at (list_all is_ascii_alphabetic) names k h at.0)
+
+pub month-has-letters : (a b c : ℕ) (found : Option ℕ) → found ≡ month_told (a ∷ b ∷ c ∷ []) → IfSome found (λ month. AreThreeLetters (a ∷ b ∷ c ∷ []))
+unfolding month_named
+month-has-letters a b c found e =
+    subst (λ (o : Option ℕ). IfSome o (λ month. AreThreeLetters (a ∷ b ∷ c ∷ []))) (sym (e ∙ month-is a b c)) (by (position (is_name (a ∷ b ∷ c ∷ [])) month_names) refl)
+  where
+    by : (o : Option ℕ) → position (is_name (a ∷ b ∷ c ∷ [])) month_names ≡ o → IfSome (option_map (λ place. place + 1) o) (λ month. AreThreeLetters (a ∷ b ∷ c ∷ []))
+    by None e = tt
+    by (Some k) e = letters-at a b c month_names k refl e
+
+pub day-has-letters : (a b c : ℕ) → is_weekday (a ∷ b ∷ c ∷ []) ≡ true → AreThreeLetters (a ∷ b ∷ c ∷ [])
+unfolding is_weekday
+day-has-letters a b c e = by (position (is_name (a ∷ b ∷ c ∷ [])) day_names) refl (some-any (is_name (a ∷ b ∷ c ∷ [])) day_names ∙ e)
+  where
+    by : (o : Option ℕ) → position (is_name (a ∷ b ∷ c ∷ [])) day_names ≡ o → is_some o ≡ true → AreThreeLetters (a ∷ b ∷ c ∷ [])
+    by None e h = absurd cc
+    by (Some k) e h = letters-at a b c day_names k refl e
