@@ -29,6 +29,8 @@ pub use Rattle.gix_date.specs.Fields.Layout.{LocalTime, LocalDate, LocalClock, P
 pub use Rattle.gix_date.specs.Devices.Lending.{LeavesText}
 pub use Rattle.gix_date.specs.Printing.LocalClocks.{clock_of, HasFourDigitFields}
 pub use Rattle.gix_date.specs.Printing.NamedTexts.{short_text, rfc2822_text, git_rfc2822_text, iso8601_text, iso8601_strict_text, gitoxide_text, default_text, short_pattern, rfc2822_pattern, git_rfc2822_pattern, iso8601_pattern, iso8601_strict_pattern, gitoxide_pattern, default_pattern, ShowsFourDigitFields, local_time}
+pub use Rattle.gix_date.specs.Text.LongNames.{begins, month_told, weekday_told}
+pub use Rattle.gix_date.specs.Text.Names.{is_name, day_name, month_name}
 pub use Rattle.gix_date.specs.Text.Numbers.{decimal_text}
 pub use Rattle.gix_date.specs.Values.{ComparesParts, AgreesWith, IsEquality, FeedsParts, FeedsAlike}
 pub use Rattle.gix_date.specs.Families.Patterns.{Accepts, IsMeaning, time_answer, real_day_answer, short_layout, rfc2822_layout, iso8601_layout, iso8601_strict_layout, gitoxide_layout, default_layout, short_answer, rfc2822_answer, iso8601_answer, iso8601_strict_answer, gitoxide_answer, default_answer, max_date_offset}

@@ -14,6 +14,8 @@ ghost use Rattle.gix_date.specs.Families.Raw.{is_minute_offset, raw_time, raw_ti
 ghost use Rattle.gix_date.specs.Printing.ReadingBack.{RoundTrips, IsMinuteOffset, HasClock};
 ghost use Rattle.gix_date.specs.Relative.Dates.{RelativeDate, relative_date};
 ghost use Rattle.gix_date.specs.Header.TimeBuf.{text_in};
+ghost use Rattle.gix_date.specs.Text.LongNames.{month_told};
+ghost use Rattle.gix_date.specs.Text.Names.{month_name};
 ghost use Rattle.gix_date.specs.Fields.Zoned.{IsConvertible, is_instant, time_in, time_in_utc};
 ghost use Rattle.gix_date.specs.declared.error.Error.TheVariants.{Memory, OffsetTooWide, Range};
 ghost use Rattle.gix_date.specs.declared.time.Time.{Time as Read};
@@ -25,6 +27,7 @@ ghost use Rattle.jiff.specs.declared.zoned.Zoned.{Zoned as Moment};
 use crate::caller::date_typed;
 use gix_date::bytes::text_of;
 use gix_date::device::Device;
+use gix_date::names::{month_name, month_told};
 use gix_date::parsing::TimeBuf;
 use gix_date::time::format::{
     DEFAULT, GIT_RFC2822, GITOXIDE, ISO8601, ISO8601_STRICT, RFC2822, UNIX,
@@ -57,6 +60,16 @@ pub fn header_in_bytes(header: &[u8]) -> Option<Time>
     ensures other { ¬ (IsUtf8 header.now) → result ≡ None }
 {
     parse_header(text_of(header)?)
+}
+
+/// The month that a word tells, by the three letters that dates show: `Aug` for `august`.
+pub fn short_month(word: &[u8]) -> Option<&'static str>
+    ensures { option_map (λ name. name.now) result ≡ option_map month_name (month_told word.now) }
+{
+    match month_told(word) {
+        Some(month) => Some(month_name(month)),
+        None => None,
+    }
 }
 
 /// The time of a header that is written as Git writes it, and of no other.

@@ -4,9 +4,10 @@ use crate::machine::Machine;
 use crate::more_callers::{
     absolute_date, asks_for_a_moment, authored, authored_in_utc, day_before, day_before_in_zone,
     doubled, header_bytes, kept_by_each, kept_in_date, log_date, log_text, read_canonical,
-    resolved, shown, stored_date,
+    resolved, short_month, shown, stored_date,
 };
 use gix_date::device::Device;
+use gix_date::names::{begins, day_name, is_name, weekday_told};
 use gix_date::parsing::TimeBuf;
 use gix_date::time::{CustomFormat, Format, format};
 use gix_date::{
@@ -49,6 +50,24 @@ fn names_stand_at_the_root(rt: HostRuntime) -> Result<(), Fail> {
     let refusal = gix_date::parsing::parse_no_alloc("1:2", Some(moment), RawOffsets::Quarter);
     assert_eq!(rt; refusal, Err(ParseError::UnknownFormat));
     assert_eq!(rt; TimeBuf::default().as_str(), "");
+    Ok(())
+}
+
+#[test]
+fn words_tell_months_and_days(rt: HostRuntime) -> Result<(), Fail> {
+    assert_eq!(rt; short_month(b"august"), Some("Aug"));
+    assert_eq!(rt; short_month(b"SEPT"), Some("Sep"));
+    assert_eq!(rt; short_month(b"may"), Some("May"));
+    for word in [b"Au".as_slice(), b"mays", b"augusta", b""] {
+        assert_eq!(rt; short_month(word), None, "{word:?}");
+    }
+    for (word, day) in [(b"Mondays".as_slice(), 0), (b"tue", 1), (b"SUNDAY", 6)] {
+        assert_eq!(rt; weekday_told(word), Some(day), "{word:?}");
+    }
+    assert_eq!(rt; weekday_told(b"frid!"), None);
+    assert_eq!(rt; (day_name(0), day_name(6)), ("Mon", "Sun"));
+    assert!(rt; is_name(b"NOON", b"noon") && !is_name(b"noo", b"noon"));
+    assert!(rt; begins(b"noo", b"NOON") && begins(b"", b"") && !begins(b"noons", b"noon"));
     Ok(())
 }
 

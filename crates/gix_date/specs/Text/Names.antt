@@ -19,10 +19,11 @@ month_names =
     codes "Jan" ∷ codes "Feb" ∷ codes "Mar" ∷ codes "Apr" ∷ codes "May" ∷ codes "Jun" ∷ codes "Jul" ∷ codes "Aug"
     ∷ codes "Sep" ∷ codes "Oct" ∷ codes "Nov" ∷ codes "Dec" ∷ []
 
--- the name of a day of the week, from 0 for Monday, and of a month, from 1 for January
+-- the name of a day of the week, from 0 for Monday
 abbrev pub day_name : ℕ → List ℕ
 day_name weekday = get_or day_names weekday []
 
+-- the name of a month, from 1 for January
 abbrev pub month_name : ℕ → List ℕ
 month_name month = get_or month_names (month - 1) []
 
