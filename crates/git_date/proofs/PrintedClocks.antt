@@ -1,8 +1,8 @@
 -- What the named formats print of a clock is read back.
 use Rattle.std.proofs.Common.{◌≡◌, ◌∙◌, ◌<◌, ◌≤◌, ◌+◌, ◌*◌, ◌/◌, ◌%◌, ◌⊎◌, inl, inr, ℕ, zero, suc, ℤ, pos, neg_ℤ, unsigned_abs, Bool, true, false, cond, List, [], ◌∷◌, ◌++◌, length, refl, ap, sym, subst, arith, Option, Some, None, is_none, Ok}
 use Rattle.std.specs.Prelude.{◌==◌, nat_le, nat_lt, int_lt}
+use Rattle.std.specs.Char.{is_ascii_alphabetic, is_ascii_digit}
 use Rattle.std.specs.Fmt.{decimal}
-use Rattle.std.specs.Char.{is_ascii_digit}
 use Rattle.std.proofs.lemmas.Bool.Decides.{nat_tests}
 use Rattle.std.proofs.lemmas.Bool.{cases_order}
 use Rattle.std.proofs.lemmas.Fmt.{decimal_digit}
@@ -11,19 +11,19 @@ use Rattle.gix_date.specs.Text.Characters.{space, plus, minus, colon, comma, dot
 use Rattle.gix_date.specs.Text.Names.{day_name, month_name}
 use Rattle.gix_date.specs.Text.Numbers.{two_digits}
 use Rattle.gix_date.specs.Fields.ClockNumbers.{hours_in, minutes_in}
-use Rattle.gix_date.specs.Fields.FieldTexts.{four_digits, date_text, clock_text}
+use Rattle.gix_date.specs.Fields.FieldTexts.{four_digits, clock_text}
 use Rattle.gix_date.specs.Fields.DateOffsets.{strict_offset_text}
 use Rattle.gix_date.specs.Fields.Layout.{LocalTime}
 use Rattle.gix_date.specs.Fields.Offsets.{offset_sign, compact_offset_text}
-use Rattle.gix_date.specs.Printing.NamedTexts.{iso8601_text, iso8601_strict_text}
 use Rattle.git_date.specs.Tokens.{Token, Letters, Digits, Mark, letter_before, digit_before, tokens, bytes_left, is_end, walked}
 use Rattle.git_date.specs.Numbers.{number, narrow}
 use Rattle.git_date.specs.Names.{is_weekday}
 use Rattle.gix_date.specs.Text.LongNames.{month_told, weekday_told}
+use Rattle.git_date.specs.Fast.{is_date_mark, marked_date}
 use Rattle.git_date.specs.Fields.{unknown, with_clock, with_date, knows_date}
 use Rattle.git_date.specs.Words.{with_word, letters_rule, without_ending}
 use Rattle.git_date.specs.Dates.{year_said, year_date}
-use Rattle.git_date.specs.Groups.{ReadTokens, number_at, marked_number, group_of, clock_group, year_first_group, group_rule, large_in, without_fraction, after_group}
+use Rattle.git_date.specs.Groups.{ReadTokens, number_at, marked_number, group_of, clock_group, year_first_group, group_rule, large_in, without_fraction, after_group, is_group_mark}
 use Rattle.git_date.specs.Digits.{Stepped, four_digits as four_digit_rule, few_digits, bare_digits, by_rule, unless_large, grouped, group_or_bare, number_rule, digits_rule}
 use Rattle.git_date.specs.Offsets.{white, without_white, padded_number, offset_minutes, colon_minutes, two_digit_offset, offset_said, known_minutes, with_offset, offset_rule}
 use Rattle.git_date.specs.Reading.{read_on, and_then, ended, sign_rule, rule, steps}
@@ -135,9 +135,9 @@ abbrev pub clock_tokens : LocalTime → List Token → List Token
 clock_tokens t more =
     Digits (two_digits t.clock.hour) ∷ Mark colon ∷ Digits (two_digits t.clock.minute) ∷ Mark colon ∷ Digits (two_digits t.clock.second) ∷ more
 
-abbrev pub date_tokens : LocalTime → List Token → List Token
-date_tokens t more =
-    Digits (four_digits t.date.year) ∷ Mark minus ∷ Digits (two_digits t.date.month) ∷ Mark minus ∷ Digits (two_digits t.date.day) ∷ more
+abbrev pub date_tokens : ℕ → LocalTime → List Token → List Token
+date_tokens mark t more =
+    Digits (four_digits t.date.year) ∷ Mark mark ∷ Digits (two_digits t.date.month) ∷ Mark mark ∷ Digits (two_digits t.date.day) ∷ more
 
 abbrev pub sign_of : LocalTime → ℕ
 sign_of t = offset_sign t.offset
@@ -180,15 +180,33 @@ clock-before t rest ts h e free =
 year-before : (t : LocalTime) (rest : List ℕ) (ts : List Token) → IsGitClock t → tokens rest ≡ ts → HasNoDigits ts → tokens (four_digits t.date.year ++ rest) ≡ Digits (four_digits t.date.year) ∷ ts
 year-before t rest ts h e free = pairs-before (t.date.year / 100) (t.date.year % 100) rest ts (omega (arith, h.last_year)) (omega arith) e free
 
-date-before : (t : LocalTime) (rest : List ℕ) (ts : List Token) → IsGitClock t → tokens rest ≡ ts → HasNoDigits ts → tokens (date_text t.date ++ rest) ≡ date_tokens t ts
-unfolding tokens
-date-before t rest ts h e free =
+-- what the rules ask of a mark between the numbers of a date
+pub record IsDateMark (mark : ℕ) : Type 0 where
+  pub no_letter : is_ascii_alphabetic mark ≡ false
+  pub no_digit : is_ascii_digit mark ≡ false
+  pub group : is_group_mark mark ≡ true
+  pub no_colon : (mark == colon) ≡ false
+  pub again : (mark == mark) ≡ true
+
+pub date-mark : (mark : ℕ) → is_date_mark mark ≡ true → IsDateMark mark
+date-mark mark h = record {
+  no_letter = grind (arith, nat_tests, h);
+  no_digit = grind (arith, nat_tests, h);
+  group = grind (arith, nat_tests, h);
+  no_colon = grind (arith, nat_tests, h);
+  again = grind (arith, nat_tests);
+}
+
+date-before : (mark : ℕ) (t : LocalTime) (rest : List ℕ) (ts : List Token) → IsDateMark mark → IsGitClock t → tokens rest ≡ ts → HasNoDigits ts
+    → tokens (marked_date mark (t.date.year, t.date.month, t.date.day) ++ rest) ≡ date_tokens mark t ts
+date-before mark t rest ts is h e free =
     let d = t.date.day in
     let m = t.date.month in
-    let last = ap (λ (ts : List Token). Mark minus ∷ ts) (two-before d rest ts (omega (arith, h.last_day)) e free) in
+    let last = mark-first mark (two_digits d ++ rest) is.no_letter is.no_digit ∙ ap (λ (ts : List Token). Mark mark ∷ ts) (two-before d rest ts (omega (arith, h.last_day)) e free) in
     let middle =
-    ap (λ (ts : List Token). Mark minus ∷ ts) (two-before m (minus ∷ (two_digits d ++ rest)) (Mark minus ∷ Digits (two_digits d) ∷ ts) (omega (arith, h.last_month)) last tt) in
-    year-before t (minus ∷ (two_digits m ++ (minus ∷ (two_digits d ++ rest)))) (Mark minus ∷ Digits (two_digits m) ∷ Mark minus ∷ Digits (two_digits d) ∷ ts) h middle tt
+    mark-first mark (two_digits m ++ (mark ∷ (two_digits d ++ rest))) is.no_letter is.no_digit
+    ∙ ap (λ (ts : List Token). Mark mark ∷ ts) (two-before m (mark ∷ (two_digits d ++ rest)) (Mark mark ∷ Digits (two_digits d) ∷ ts) (omega (arith, h.last_month)) last tt) in
+    year-before t (mark ∷ (two_digits m ++ (mark ∷ (two_digits d ++ rest)))) (Mark mark ∷ Digits (two_digits m) ∷ Mark mark ∷ Digits (two_digits d) ∷ ts) h middle tt
 
 -- names, before a mark
 abbrev three_before : ℕ → ℕ → ℕ → List Token → List Token
@@ -398,32 +416,45 @@ date-taken f y m d a b c e g h =
     let d31 : nat_le d 31 ≡ true = grind (arith, nat_tests) in
     rw (m1, m12, d1, d31, low, high) refl
 
-date-group : (now : Now) (f : Fields) (y : ℕ) (m d : Number) → 1970 ≤ y → y ≤ 2099 → 1 ≤ m.value → m.value ≤ 12 → 1 ≤ d.value → d.value ≤ 31
-    → group_rule now f (group_at minus y m d) ≡ dated.Taken (with_date f y m.value d.value)
+date-group : (mark : ℕ) (now : Now) (f : Fields) (y : ℕ) (m d : Number) → IsDateMark mark → 1970 ≤ y → y ≤ 2099 → 1 ≤ m.value → m.value ≤ 12 → 1 ≤ d.value → d.value ≤ 31
+    → group_rule now f (group_at mark y m d) ≡ dated.Taken (with_date f y m.value d.value)
 unfolding group_rule year_first_group
-date-group now f y m d a b c e g h =
+date-group mark now f y m d is a b c e g h =
     let above : nat_lt 70 y ≡ true = grind (arith, nat_tests) in
-    rw (above, narrow-small m.value (omega arith), narrow-small d.value (omega arith), date-taken f y m.value d.value a b c e g h) refl
+    let no_colon = is.no_colon in
+    rw (no_colon, above, narrow-small m.value (omega arith), narrow-small d.value (omega arith), date-taken f y m.value d.value a b c e g h) refl
 
-date-rule : (now : Now) (f : Fields) (y m d : ℕ) (rest : List Token) → 1970 ≤ y → y ≤ 2099 → 1 ≤ m → m ≤ 12 → 1 ≤ d → d ≤ 31
-    → rule now f (Digits (four_digits y)) (Mark minus ∷ Digits (two_digits m) ∷ Mark minus ∷ Digits (two_digits d) ∷ rest) ≡ Ok (Some (with_date f y m d), without_ending rest)
-unfolding number_rule group_of marked_number
-date-rule now f y m d rest a b c e g h =
+three-of : (mark first : ℕ) (second third : List ℕ) (rest : List Token) → IsDateMark mark
+    → group_of first (Mark mark ∷ Digits second ∷ Mark mark ∷ Digits third ∷ rest)
+    ≡ Some (group_at mark first (number_at second (Mark mark ∷ Digits third ∷ rest)) (number_at third rest), rest)
+unfolding group_of marked_number
+three-of mark first second third rest is = let group = is.group in let again = is.again in rw (group, again) refl
+
+date-rule : (mark : ℕ) (now : Now) (f : Fields) (y m d : ℕ) (rest : List Token) → IsDateMark mark → 1970 ≤ y → y ≤ 2099 → 1 ≤ m → m ≤ 12 → 1 ≤ d → d ≤ 31
+    → rule now f (Digits (four_digits y)) (Mark mark ∷ Digits (two_digits m) ∷ Mark mark ∷ Digits (two_digits d) ∷ rest) ≡ Ok (Some (with_date f y m d), without_ending rest)
+unfolding number_rule
+date-rule mark now f y m d rest is a b c e g h =
     let yy = number-year y b in
     let mm = number-two m (omega arith) in
     let dd = number-two d (omega arith) in
-    let middle = Mark minus ∷ Digits (two_digits d) ∷ rest in
-    let more = Mark minus ∷ Digits (two_digits m) ∷ middle in
+    let middle = Mark mark ∷ Digits (two_digits d) ∷ rest in
+    let more = Mark mark ∷ Digits (two_digits m) ∷ middle in
     let second = number_at (two_digits m) middle in
     let third = number_at (two_digits d) rest in
     let left = bytes_left (Digits (four_digits y) ∷ more) in
     let bare = bare_digits f (four_digits y) more in
+    let whole = group_at mark y (numbered m second.left) (numbered d third.left) in
+    let no_colon = is.no_colon in
+    let after : after_group (with_date f y m d) whole rest ≡ rest = rw no_colon refl in
     ap ended (small-rule now f (four_digits y) more (omega arith)
-    ∙ ap (λ (n : ℕ). grouped now f left (group_at minus n second third, rest) bare) yy
-    ∙ ap (λ (n : ℕ). grouped now f left (group_at minus y (numbered n second.left) third, rest) bare) mm
-    ∙ ap (λ (n : ℕ). grouped now f left (group_at minus y (numbered m second.left) (numbered n third.left), rest) bare) dd
-    ∙ taken-rule now f left (group_at minus y (numbered m second.left) (numbered d third.left)) rest bare (with_date f y m d)
-    (none-large minus y (numbered m second.left) (numbered d third.left) (omega arith) (omega arith)) (date-group now f y (numbered m second.left) (numbered d third.left) a b c e g h))
+    ∙ ap (λ (found : ReadTokens Group). group_or_bare now f left found bare) (three-of mark (number (four_digits y)) (two_digits m) (two_digits d) rest is)
+    ∙ ap (λ (n : ℕ). grouped now f left (group_at mark n second third, rest) bare) yy
+    ∙ ap (λ (n : ℕ). grouped now f left (group_at mark y (numbered n second.left) third, rest) bare) mm
+    ∙ ap (λ (n : ℕ). grouped now f left (group_at mark y (numbered m second.left) (numbered n third.left), rest) bare) dd
+    ∙ taken-rule now f left whole rest bare (with_date f y m d)
+    (none-large mark y (numbered m second.left) (numbered d third.left) (omega arith) (omega arith))
+    (date-group mark now f y (numbered m second.left) (numbered d third.left) is a b c e g h)
+    ∙ ap (λ (rest : List Token). Ok (Some (with_date f y m d), rest)) after)
 
 -- offsets
 known-by : (behind : Bool) (k : ℕ) → (behind ≡ true → k ≡ 1 → ⊥) → known_minutes (signed behind k) ≡ Some (signed behind k)
@@ -540,11 +571,11 @@ go-colon now n f t h =
     (sign-rule now f (is_behind t) _ (Mark colon ∷ Digits (two_digits (minutes_of t)) ∷ []) (60 * hours_of t + minutes_of t) h.known (said-colon (hours_of t) (minutes_of t) h.hours h.minutes))
     ∙ done now n (record f { offset = Some (offset_in_minutes t) })
 
-go-date : (now : Now) (n : ℕ) (t : LocalTime) (more rest : List Token) → IsGitClock t → without_ending more ≡ rest
-    → steps now (suc n) (at unknown) (date_tokens t more) ≡ steps now n (at (dated_fields t)) rest
-go-date now n t more rest h e =
+go-date : (mark : ℕ) (now : Now) (n : ℕ) (t : LocalTime) (more rest : List Token) → IsDateMark mark → IsGitClock t → without_ending more ≡ rest
+    → steps now (suc n) (at unknown) (date_tokens mark t more) ≡ steps now n (at (dated_fields t)) rest
+go-date mark now n t more rest is h e =
     go now n unknown (dated_fields t) (Digits (four_digits t.date.year)) _ rest refl
-    (date-rule now unknown t.date.year t.date.month t.date.day more h.first_year h.last_year h.first_month h.last_month h.first_day h.last_day
+    (date-rule mark now unknown t.date.year t.date.month t.date.day more is h.first_year h.last_year h.first_month h.last_month h.first_day h.last_day
     ∙ ap (λ (rest : List Token). Ok (Some (dated_fields t), rest)) e)
 
 go-name : (now : Now) (n : ℕ) (f next : Fields) (word : List ℕ) (byte : ℕ) (more : List Token) → with_word f word ≡ Some next
@@ -553,13 +584,13 @@ unfolding letters_rule
 go-name now n f next word byte more e = go now n f next (Letters word) (Mark byte ∷ more) (Mark byte ∷ more) refl (ap (λ (said : Option Fields). Ok (said, Mark byte ∷ more)) e)
 
 -- `2022-08-18 12:45:06 +0800`
-abbrev pub iso_tokens : LocalTime → List Token
-iso_tokens t = date_tokens t (Mark space ∷ clock_tokens t (Mark space ∷ offset_tokens t))
+abbrev pub iso_tokens : ℕ → LocalTime → List Token
+iso_tokens mark t = date_tokens mark t (Mark space ∷ clock_tokens t (Mark space ∷ offset_tokens t))
 
-pub iso-steps : (now : Now) (n : ℕ) (t : LocalTime) → IsGitClock t → steps now (suc (suc (suc (suc (suc n))))) (at unknown) (iso_tokens t) ≡ Ok (at (fields_of t))
+pub iso-steps : (mark : ℕ) (now : Now) (n : ℕ) (t : LocalTime) → IsDateMark mark → IsGitClock t → steps now (suc (suc (suc (suc (suc n))))) (at unknown) (iso_tokens mark t) ≡ Ok (at (fields_of t))
 unfolding without_ending
-iso-steps now n t h =
-    go-date now _ t (Mark space ∷ clock_tokens t (Mark space ∷ offset_tokens t)) _ h refl
+iso-steps mark now n t is h =
+    go-date mark now _ t (Mark space ∷ clock_tokens t (Mark space ∷ offset_tokens t)) _ is h refl
     ∙ skip-space now _ (dated_fields t) _
     ∙ go-clock now _ (dated_fields t) t space (offset_tokens t) h refl
     ∙ skip-space now _ (with_time t (dated_fields t)) _
@@ -573,17 +604,21 @@ spaced-clock : (t : LocalTime) → IsGitClock t → tokens (space ∷ (clock_tex
 unfolding tokens
 spaced-clock t h = ap (λ (ts : List Token). Mark space ∷ ts) (clock-before t (space ∷ compact_offset_text t.offset) _ h (spaced-offset t h) tt)
 
-pub iso-are : (t : LocalTime) → IsGitClock t → tokens (iso8601_text t) ≡ iso_tokens t
-iso-are t h = date-before t (space ∷ (clock_text t.clock ++ (space ∷ compact_offset_text t.offset))) _ h (spaced-clock t h) tt
+-- such a date, a clock and an offset
+abbrev pub marked_text : ℕ → LocalTime → List ℕ
+marked_text mark t = marked_date mark (t.date.year, t.date.month, t.date.day) ++ (space ∷ (clock_text t.clock ++ (space ∷ compact_offset_text t.offset)))
+
+pub iso-are : (mark : ℕ) (t : LocalTime) → IsDateMark mark → IsGitClock t → tokens (marked_text mark t) ≡ iso_tokens mark t
+iso-are mark t is h = date-before mark t (space ∷ (clock_text t.clock ++ (space ∷ compact_offset_text t.offset))) _ is h (spaced-clock t h) tt
 
 -- `2022-08-18T12:45:06+08:00`
-abbrev pub strict_tokens : LocalTime → List Token
-strict_tokens t = date_tokens t (Letters (letter_t ∷ []) ∷ clock_tokens t (colon_tokens t))
+abbrev pub strict_tokens : ℕ → LocalTime → List Token
+strict_tokens mark t = date_tokens mark t (Letters (letter_t ∷ []) ∷ clock_tokens t (colon_tokens t))
 
-pub strict-steps : (now : Now) (n : ℕ) (t : LocalTime) → IsGitClock t → steps now (suc (suc (suc n))) (at unknown) (strict_tokens t) ≡ Ok (at (fields_of t))
+pub strict-steps : (mark : ℕ) (now : Now) (n : ℕ) (t : LocalTime) → IsDateMark mark → IsGitClock t → steps now (suc (suc (suc n))) (at unknown) (strict_tokens mark t) ≡ Ok (at (fields_of t))
 unfolding without_ending
-strict-steps now n t h =
-    go-date now _ t (Letters (letter_t ∷ []) ∷ clock_tokens t (colon_tokens t)) (clock_tokens t (colon_tokens t)) h refl
+strict-steps mark now n t is h =
+    go-date mark now _ t (Letters (letter_t ∷ []) ∷ clock_tokens t (colon_tokens t)) (clock_tokens t (colon_tokens t)) is h refl
     ∙ go-clock now _ (dated_fields t) t (sign_of t) (Digits (two_digits (hours_of t)) ∷ Mark colon ∷ Digits (two_digits (minutes_of t)) ∷ []) h (sign-no-dot (is_behind t))
     ∙ go-colon now n (with_time t (dated_fields t)) t h
 
@@ -591,8 +626,11 @@ lettered : (t : LocalTime) → IsGitClock t → tokens (letter_t ∷ (clock_text
 unfolding tokens
 lettered t h = ap (letter_before letter_t) (clock-before t (strict_offset_text t.offset) _ h (colon-before t h) tt)
 
-pub strict-are : (t : LocalTime) → IsGitClock t → tokens (iso8601_strict_text t) ≡ strict_tokens t
-strict-are t h = date-before t (letter_t ∷ (clock_text t.clock ++ strict_offset_text t.offset)) _ h (lettered t h) tt
+abbrev pub marked_strict_text : ℕ → LocalTime → List ℕ
+marked_strict_text mark t = marked_date mark (t.date.year, t.date.month, t.date.day) ++ (letter_t ∷ (clock_text t.clock ++ strict_offset_text t.offset))
+
+pub strict-are : (mark : ℕ) (t : LocalTime) → IsDateMark mark → IsGitClock t → tokens (marked_strict_text mark t) ≡ strict_tokens mark t
+strict-are mark t is h = date-before mark t (letter_t ∷ (clock_text t.clock ++ strict_offset_text t.offset)) _ is h (lettered t h) tt
 
 -- `Thu, 18 Aug 2022 12:45:06 +0800`
 abbrev pub mail_tokens : List ℕ → LocalTime → List Token

@@ -1,5 +1,5 @@
 -- What a text that is printed says: the fields of its clock.
-use Rattle.std.proofs.Common.{◌≡◌, ◌∙◌, ◌≤◌, ◌+◌, ◌*◌, ◌/◌, ◌%◌, ℕ, suc, ℤ, pos, negsuc, ◌*ℤ◌, unsigned_abs, false, List, [], ◌∷◌, ◌++◌, append_assoc, length, refl, ap, sym, subst, arith, None, Ok}
+use Rattle.std.proofs.Common.{◌≡◌, ◌∙◌, ◌≤◌, ◌+◌, ◌*◌, ◌/◌, ◌%◌, ℕ, suc, ℤ, pos, negsuc, ◌*ℤ◌, unsigned_abs, false, List, ◌∷◌, ◌++◌, length, refl, ap, sym, subst, arith, None, Ok}
 use Rattle.std.specs.Prelude.{nat_lt, int_lt}
 use Rattle.std.specs.Fmt.{decimal}
 use Rattle.std.proofs.lemmas.Bool.Decides.{nat_tests}
@@ -11,14 +11,13 @@ use Rattle.gix_date.specs.Fields.Offsets.{compact_offset_text}
 use Rattle.gix_date.specs.Text.Characters.{comma, space}
 use Rattle.gix_date.specs.Text.Names.{day_name, month_name}
 use Rattle.gix_date.specs.Text.Numbers.{two_digits}
-use Rattle.gix_date.specs.Printing.NamedTexts.{rfc2822_text, git_rfc2822_text, iso8601_text, iso8601_strict_text, gitoxide_text, default_text}
 use Rattle.git_date.specs.Tokens.{Token, tokens}
 use Rattle.git_date.specs.Fields.{unknown}
 use Rattle.git_date.specs.Offsets.{at_text}
 use Rattle.git_date.specs.Reading.{nothing_read, steps, reading_of, fields_said, at_or_fields, said_by}
 use Rattle.git_date.specs.declared.dates.Now.{Now}
 use Rattle.git_date.proofs.EnoughSteps.{enough, fewer}
-use Rattle.git_date.proofs.PrintedClocks.{IsGitClock, IsDayText, two-day, bare-day, at, fields_of, signed, iso_tokens, iso-steps, iso-are, strict_tokens, strict-steps, strict-are, mail_tokens, mail-steps, mail-are, gitoxide_tokens, gitoxide-steps, gitoxide-are, default_tokens, default-steps, default-are}
+use Rattle.git_date.proofs.PrintedClocks.{IsGitClock, IsDayText, IsDateMark, two-day, bare-day, marked_text, marked_strict_text, at, fields_of, signed, iso_tokens, iso-steps, iso-are, strict_tokens, strict-steps, strict-are, mail_tokens, mail-steps, mail-are, gitoxide_tokens, gitoxide-steps, gitoxide-are, default_tokens, default-steps, default-are}
 
 reads-are : (now : Now) (text : List ℕ) (ts : List Token) (n : ℕ) (t : LocalTime) → tokens text ≡ ts → length ts ≤ n → at_text ts ≡ None
     → steps now n (at unknown) ts ≡ Ok (at (fields_of t)) → said_by now text ≡ fields_said text (Ok (at (fields_of t)))
@@ -29,57 +28,52 @@ reads-are now text ts n t e fits none read =
     enough now (length text) n nothing_read (tokens text) (fewer text) few ∙ ap (steps now n nothing_read) e ∙ read in
     ap (at_or_fields now text) (ap at_text e ∙ none) ∙ ap (fields_said text) reading
 
--- what each format prints
-pub iso-reads : (now : Now) (t : LocalTime) → IsGitClock t → said_by now (iso8601_text t) ≡ fields_said (iso8601_text t) (Ok (at (fields_of t)))
+-- what is printed of a date, a clock and an offset, by the mark between the date's numbers
+pub iso-reads : (mark : ℕ) → IsDateMark mark → (now : Now) (t : LocalTime) → IsGitClock t → said_by now (marked_text mark t) ≡ fields_said (marked_text mark t) (Ok (at (fields_of t)))
 unfolding at_text
-iso-reads now t h = reads-are now (iso8601_text t) (iso_tokens t) 40 t (iso-are t h) (omega arith) refl (iso-steps now 35 t h)
+iso-reads mark is now t h = reads-are now (marked_text mark t) (iso_tokens mark t) 40 t (iso-are mark t is h) (omega arith) refl (iso-steps mark now 35 t is h)
 
-pub strict-reads : (now : Now) (t : LocalTime) → IsGitClock t → said_by now (iso8601_strict_text t) ≡ fields_said (iso8601_strict_text t) (Ok (at (fields_of t)))
+pub strict-reads : (mark : ℕ) → IsDateMark mark → (now : Now) (t : LocalTime) → IsGitClock t
+    → said_by now (marked_strict_text mark t) ≡ fields_said (marked_strict_text mark t) (Ok (at (fields_of t)))
 unfolding at_text
-strict-reads now t h = reads-are now (iso8601_strict_text t) (strict_tokens t) 40 t (strict-are t h) (omega arith) refl (strict-steps now 37 t h)
+strict-reads mark is now t h =
+    reads-are now (marked_strict_text mark t) (strict_tokens mark t) 40 t (strict-are mark t is h) (omega arith) refl (strict-steps mark now 37 t is h)
 
-two-day-of : (t : LocalTime) → IsGitClock t → IsDayText t.date.day (two_digits t.date.day)
+-- dates with names, by the text of their day
+module _ (day : List ℕ) where
+  abbrev pub mail_text : LocalTime → List ℕ
+  mail_text t =
+      day_name t.weekday ++ (comma ∷ (space ∷ (day ++ (space ∷ (month_name t.date.month ++ (space ∷ (four_digits t.date.year
+      ++ (space ∷ (clock_text t.clock ++ (space ∷ compact_offset_text t.offset))))))))))
+
+  pub mail-reads : (now : Now) (t : LocalTime) → IsGitClock t → IsDayText t.date.day day → said_by now (mail_text t) ≡ fields_said (mail_text t) (Ok (at (fields_of t)))
+  unfolding at_text
+  mail-reads now t h is = reads-are now (mail_text t) (mail_tokens day t) 40 t (mail-are day t h is) (omega arith) refl (mail-steps now 28 day t h is)
+
+  abbrev pub named_text : LocalTime → List ℕ
+  named_text t =
+      day_name t.weekday ++ (space ∷ (month_name t.date.month ++ (space ∷ (day ++ (space ∷ (four_digits t.date.year
+      ++ (space ∷ (clock_text t.clock ++ (space ∷ compact_offset_text t.offset)))))))))
+
+  pub gitoxide-reads : (now : Now) (t : LocalTime) → IsGitClock t → IsDayText t.date.day day → said_by now (named_text t) ≡ fields_said (named_text t) (Ok (at (fields_of t)))
+  unfolding at_text
+  gitoxide-reads now t h is = reads-are now (named_text t) (gitoxide_tokens day t) 40 t (gitoxide-are day t h is) (omega arith) refl (gitoxide-steps now 29 day t h is)
+
+  abbrev pub default_day_text : LocalTime → List ℕ
+  default_day_text t =
+      day_name t.weekday ++ (space ∷ (month_name t.date.month ++ (space ∷ (day ++ (space ∷ (clock_text t.clock
+      ++ (space ∷ (four_digits t.date.year ++ (space ∷ compact_offset_text t.offset)))))))))
+
+  pub default-reads : (now : Now) (t : LocalTime) → IsGitClock t → IsDayText t.date.day day → said_by now (default_day_text t) ≡ fields_said (default_day_text t) (Ok (at (fields_of t)))
+  unfolding at_text
+  default-reads now t h is = reads-are now (default_day_text t) (default_tokens day t) 40 t (default-are day t h is) (omega arith) refl (default-steps now 29 day t h is)
+
+-- days in two digits, and without a zero before them
+pub two-day-of : (t : LocalTime) → IsGitClock t → IsDayText t.date.day (two_digits t.date.day)
 two-day-of t h = two-day t.date.day (omega (arith, h.last_day))
 
-bare-day-of : (t : LocalTime) → IsGitClock t → IsDayText t.date.day (decimal t.date.day)
+pub bare-day-of : (t : LocalTime) → IsGitClock t → IsDayText t.date.day (decimal t.date.day)
 bare-day-of t h = bare-day t.date.day (omega (arith, h.last_day))
-
--- the day's name and what follows it
-abbrev after_comma : LocalTime → List ℕ → List ℕ
-after_comma t day =
-    day ++ (space ∷ (month_name t.date.month ++ (space ∷ (four_digits t.date.year ++ (space ∷ (clock_text t.clock ++ (space ∷ compact_offset_text t.offset)))))))
-
-after-day : (t : LocalTime) (day : List ℕ)
-    → tokens ((day_name t.weekday ++ (comma ∷ (space ∷ []))) ++ after_comma t day) ≡ tokens (day_name t.weekday ++ (comma ∷ (space ∷ after_comma t day)))
-after-day t day = ap tokens (append_assoc (day_name t.weekday) (comma ∷ (space ∷ [])) (after_comma t day))
-
-pub mail-reads : (now : Now) (t : LocalTime) → IsGitClock t → said_by now (rfc2822_text t) ≡ fields_said (rfc2822_text t) (Ok (at (fields_of t)))
-unfolding at_text
-mail-reads now t h =
-    let day = two_digits t.date.day in
-    let is = two-day-of t h in
-    reads-are now (rfc2822_text t) (mail_tokens day t) 40 t (after-day t day ∙ mail-are day t h is) (omega arith) refl (mail-steps now 28 day t h is)
-
-pub git-mail-reads : (now : Now) (t : LocalTime) → IsGitClock t → said_by now (git_rfc2822_text t) ≡ fields_said (git_rfc2822_text t) (Ok (at (fields_of t)))
-unfolding at_text
-git-mail-reads now t h =
-    let day = decimal t.date.day in
-    let is = bare-day-of t h in
-    reads-are now (git_rfc2822_text t) (mail_tokens day t) 40 t (after-day t day ∙ mail-are day t h is) (omega arith) refl (mail-steps now 28 day t h is)
-
-pub gitoxide-reads : (now : Now) (t : LocalTime) → IsGitClock t → said_by now (gitoxide_text t) ≡ fields_said (gitoxide_text t) (Ok (at (fields_of t)))
-unfolding at_text
-gitoxide-reads now t h =
-    let day = two_digits t.date.day in
-    let is = two-day-of t h in
-    reads-are now (gitoxide_text t) (gitoxide_tokens day t) 40 t (gitoxide-are day t h is) (omega arith) refl (gitoxide-steps now 29 day t h is)
-
-pub default-reads : (now : Now) (t : LocalTime) → IsGitClock t → said_by now (default_text t) ≡ fields_said (default_text t) (Ok (at (fields_of t)))
-unfolding at_text
-default-reads now t h =
-    let day = decimal t.date.day in
-    let is = bare-day-of t h in
-    reads-are now (default_text t) (default_tokens day t) 40 t (default-are day t h is) (omega arith) refl (default-steps now 29 day t h is)
 
 -- the offset
 pub minutes-back : (o : ℤ) → unsigned_abs o % 60 ≡ 0 → pos 60 *ℤ signed (int_lt o (pos 0)) (60 * hours_in (unsigned_abs o) + minutes_in (unsigned_abs o)) ≡ o

@@ -1,6 +1,7 @@
 -- Words that name a day of the week, and those that name a zone, by their beginnings.
-use Rattle.std.specs.Prelude.{ℕ, ◌*◌, Bool, ◌||◌, List, [], ◌∷◌, ℤ, pos, neg_ℤ, codes, Option, option_map, is_some}
-use Rattle.std.specs.List.{find}
+use Rattle.std.specs.Prelude.{ℕ, ◌*◌, ◌==◌, Bool, false, not, ◌&&◌, ◌||◌, List, take, drop, [], ◌∷◌, ℤ, pos, neg_ℤ, codes, Option, option_map, is_some}
+use Rattle.std.specs.List.{find, list_all}
+use Rattle.std.specs.Char.{to_ascii_lowercase}
 use Rattle.gix_date.specs.Text.Names.{is_name}
 use Rattle.gix_date.specs.Text.LongNames.{is_short, weekday_told}
 
@@ -19,20 +20,31 @@ ahead hours = pos (60 * hours)
 abbrev pub behind : ℕ → ℤ
 behind hours = neg_ℤ (pos (60 * hours))
 
--- the offsets of zones in minutes, the first that fits
+-- The zones that Git knows, by their first letters, and their offsets in minutes. Of those that fit the first counts.
 abbrev pub zone_rows : List (List ℕ × ℤ)
 zone_rows =
-    (codes "IDLW", behind 12) ∷ (codes "NT", behind 11) ∷ (codes "CAT", behind 10) ∷ (codes "HST", behind 10)
-    ∷ (codes "HDT", behind 9) ∷ (codes "YST", behind 9) ∷ (codes "YDT", behind 8) ∷ (codes "PST", behind 8)
-    ∷ (codes "PDT", behind 7) ∷ (codes "MST", behind 7) ∷ (codes "MDT", behind 6) ∷ (codes "CST", behind 6)
-    ∷ (codes "CDT", behind 5) ∷ (codes "EST", behind 5) ∷ (codes "EDT", behind 4) ∷ (codes "AST", behind 3)
-    ∷ (codes "ADT", behind 2) ∷ (codes "WAT", behind 1) ∷ (codes "GMT", pos 0) ∷ (codes "UTC", pos 0)
-    ∷ (codes "Z", pos 0) ∷ (codes "WET", pos 0) ∷ (codes "BST", ahead 1) ∷ (codes "CET", ahead 1)
-    ∷ (codes "MET", ahead 1) ∷ (codes "MEWT", ahead 1) ∷ (codes "MEST", ahead 2) ∷ (codes "CEST", ahead 2)
-    ∷ (codes "MESZ", ahead 2) ∷ (codes "FWT", ahead 1) ∷ (codes "FST", ahead 2) ∷ (codes "EET", ahead 2)
-    ∷ (codes "EEST", ahead 3) ∷ (codes "WAST", ahead 7) ∷ (codes "WADT", ahead 8) ∷ (codes "CCT", ahead 8)
-    ∷ (codes "JST", ahead 9) ∷ (codes "EAST", ahead 10) ∷ (codes "EADT", ahead 11) ∷ (codes "GST", ahead 10)
-    ∷ (codes "NZT", ahead 12) ∷ (codes "NZST", ahead 12) ∷ (codes "NZDT", ahead 13) ∷ (codes "IDLE", ahead 12) ∷ []
+    (codes "AST", behind 3) ∷ (codes "ADT", behind 2) ∷ (codes "BST", ahead 1) ∷ (codes "CAT", behind 10)
+    ∷ (codes "CST", behind 6) ∷ (codes "CDT", behind 5) ∷ (codes "CET", ahead 1) ∷ (codes "CEST", ahead 2)
+    ∷ (codes "CCT", ahead 8) ∷ (codes "EST", behind 5) ∷ (codes "EDT", behind 4) ∷ (codes "EET", ahead 2)
+    ∷ (codes "EEST", ahead 3) ∷ (codes "EAST", ahead 10) ∷ (codes "EADT", ahead 11) ∷ (codes "FWT", ahead 1)
+    ∷ (codes "FST", ahead 2) ∷ (codes "GMT", pos 0) ∷ (codes "GST", ahead 10) ∷ (codes "HST", behind 10)
+    ∷ (codes "HDT", behind 9) ∷ (codes "IDLW", behind 12) ∷ (codes "IDLE", ahead 12) ∷ (codes "JST", ahead 9)
+    ∷ (codes "MST", behind 7) ∷ (codes "MDT", behind 6) ∷ (codes "MET", ahead 1) ∷ (codes "MEWT", ahead 1)
+    ∷ (codes "MEST", ahead 2) ∷ (codes "MESZ", ahead 2) ∷ (codes "NT", behind 11) ∷ (codes "NZT", ahead 12)
+    ∷ (codes "NZST", ahead 12) ∷ (codes "NZDT", ahead 13) ∷ (codes "PST", behind 8) ∷ (codes "PDT", behind 7)
+    ∷ (codes "UTC", pos 0) ∷ (codes "WAT", behind 1) ∷ (codes "WET", pos 0) ∷ (codes "WAST", ahead 7)
+    ∷ (codes "WADT", ahead 8) ∷ (codes "YST", behind 9) ∷ (codes "YDT", behind 8) ∷ (codes "Z", pos 0) ∷ []
+
+-- a name begins with a small letter, in any letter case
+abbrev pub has_initial : ℕ → List ℕ → Bool
+has_initial letter [] = false
+has_initial letter (c ∷ name) = letter == to_ascii_lowercase c
+
+-- the zones whose names begin with a small letter stand from one place on, and before another
+abbrev pub stand_between : ℕ → ℕ → ℕ → Bool
+stand_between letter first end =
+    list_all (λ row. not (has_initial letter row.0)) (take first zone_rows)
+    && list_all (λ row. not (has_initial letter row.0)) (drop end zone_rows)
 
 -- the offset of the first zone that a word tells
 unfoldable pub zone_named : List ℕ → Option ℤ

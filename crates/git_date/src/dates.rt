@@ -1,13 +1,14 @@
 //! Dates: their years, the seconds that fields come to, and dates of three numbers or of two.
 ghost use Rattle.std.specs.Prelude.{◌≡◌, ◌<◌, ◌^◌, ◌*ℤ◌, pos, negsuc, neg_ℤ, IfSome};
 ghost use Rattle.jiff_core.specs.Calendar.{IsBetween};
+ghost use Rattle.git_date.specs.ApproximateClocks.{first_second, is_shown_month};
 ghost use Rattle.git_date.specs.Dates.{year_said, is_day_of_month, is_month, month_start, days_after_first, seconds_of_day, seconds_after, IsSmall, exact_seconds, now_of, is_ahead, recent_date, year_date};
 
 use crate::clocks::{SECONDS_PER_DAY, utc_year};
 use crate::fields::Fields;
 use crate::numbers::NUMBERS_OF_32_BITS;
 use gix_date::Zoned;
-use jiff::civil::DateTime;
+use jiff_core::civil::Date;
 
 /// What the rules use of a moment.
 #[derive(Clone, Copy)]
@@ -73,18 +74,37 @@ fn is_month(year: u16, month: u8) -> bool
     1970 <= year && year <= 2099 && 1 <= month && month <= 12
 }
 
-/// The first second of such a month.
+/// Whether this is a month of the years from 1900 to 9999.
+fn is_shown_month(year: u16, month: u8) -> bool
+    ensures { result ≡ is_shown_month year month }
+{
+    1900 <= year && year <= 9999 && 1 <= month && month <= 12
+}
+
+/// The first second of such a month by a clock.
+pub(crate) fn first_second(year: u16, month: u8) -> Option<i64>
+    ensures value { result ≡ first_second year month }
+    ensures small { IfSome result IsSmall }
+{
+    if !is_shown_month(year, month) {
+        return None;
+    }
+    let Ok(first) = Date::new(year as i16, month as i8, 1) else {
+        return None;
+    };
+    Some(SECONDS_PER_DAY * i64::from(first.to_unix_epoch_day()))
+}
+
+/// The first second of a month of the years that Git knows.
 fn month_start(year: u16, month: u8) -> Option<i64>
     ensures value { result ≡ month_start year month }
     ensures small { IfSome result IsSmall }
 {
-    if !is_month(year, month) {
-        return None;
+    if is_month(year, month) {
+        first_second(year, month)
+    } else {
+        None
     }
-    let Ok(local) = DateTime::new(year as i16, month as i8, 1, 0, 0, 0, 0) else {
-        return None;
-    };
-    Some(local.to_plain().to_second())
 }
 
 /// The seconds since the first of a month. An unknown day is two days before it.

@@ -2,7 +2,7 @@
 ghost use Rattle.std.specs.Prelude.{◌≡◌, ◌∷◌, [], IfSome};
 ghost use Rattle.gix_date.specs.Fields.DateOffsets.{strict_offset_text};
 ghost use Rattle.gix_date.specs.Fields.Offsets.{compact_offset_text};
-ghost use Rattle.git_date.specs.Fast.{WritesTwo, WritesYear, WritesMonth, WritesWeekday, WritesDate, WritesMailDate, WritesMonthDay, WritesClock, WritesOffset, fields_in, SaysFields};
+ghost use Rattle.git_date.specs.Fast.{WritesTwo, WritesYear, WritesMonth, WritesWeekday, is_date_mark, WritesDate, WritesDay, WritesMonthYear, WritesMailDate, WritesMailDay, WritesNamedDay, WritesClock, WritesTime, WritesStrictTime, WritesYearOffset, WritesYearTime, WritesOffset, fields_in, SaysFields};
 
 use crate::fields::Fields;
 use crate::offsets::signed_minutes;
@@ -13,6 +13,13 @@ type Date = (u16, u8, u8);
 
 /// Hour, minute and second.
 type Clock = (u8, u8, u8);
+
+/// How many bytes ` Aug 2022`, ` 12:45:06 +0800` and ` 12:45:06 2022 +0800` have.
+const MONTH_YEAR_LEN: usize = 9;
+
+const TIME_LEN: usize = 15;
+
+const YEAR_TIME_LEN: usize = 20;
 
 /// The number that two digits write, if it is within these bounds.
 #[inline(always)]
@@ -53,28 +60,63 @@ fn month(a: u8, b: u8, c: u8) -> Option<u8>
 
 /// The day of the week that has this name, from 0 for Monday.
 #[inline(always)]
-fn weekday(text: &[u8]) -> Option<u8>
-    ensures { IfSome result (WritesWeekday text.now) }
+fn weekday(a: u8, b: u8, c: u8) -> Option<u8>
+    ensures { IfSome result (WritesWeekday (a ∷ b ∷ c ∷ [])) }
 {
-    let weekday = weekday_told(text)?;
-    if day_name(weekday).as_bytes() == text {
+    let name: &[u8] = &[a, b, c];
+    let weekday = weekday_told(name)?;
+    if day_name(weekday).as_bytes() == name {
         Some(weekday)
     } else {
         None
     }
 }
 
-/// The date of `2022-08-18`.
+/// The date of `2022-08-18`, `2022.08.18` or `2022/08/18`.
 #[inline(always)]
 fn date(text: &[u8]) -> Option<Date>
     ensures { IfSome result (WritesDate text.now) }
 {
     match text {
-        [a, b, c, d, minus, e, f, again, g, h] if *minus == b'-' && *again == b'-' => {
+        [a, b, c, d, mark, e, f, again, g, h] if is_date_mark(*mark) && mark == again => {
             let year = year(*a, *b, *c, *d)?;
             let month = two(1, 12, *e, *f)?;
             let day = two(1, 31, *g, *h)?;
             Some((year, month, day))
+        }
+        _ => None,
+    }
+}
+
+#[inline(always)]
+fn is_date_mark(mark: u8) -> bool
+    ensures { result ≡ is_date_mark mark }
+{
+    mark == b'-' || mark == b'.' || mark == b'/'
+}
+
+/// The day of `7`, `07` or `18`.
+#[inline(always)]
+fn day(text: &[u8]) -> Option<u8>
+    ensures { IfSome result (WritesDay text.now) }
+{
+    match text {
+        [a] => two(1, 9, b'0', *a),
+        [a, b] => two(1, 31, *a, *b),
+        _ => None,
+    }
+}
+
+/// The month and the year of ` Aug 2022`.
+#[inline(always)]
+fn month_year(text: &[u8]) -> Option<(u8, u16)>
+    ensures { IfSome result (WritesMonthYear text.now) }
+{
+    match text {
+        [space, a, b, c, again, d, e, f, g] if *space == b' ' && *again == b' ' => {
+            let month = month(*a, *b, *c)?;
+            let year = year(*d, *e, *f, *g)?;
+            Some((month, year))
         }
         _ => None,
     }
@@ -85,39 +127,38 @@ fn date(text: &[u8]) -> Option<Date>
 fn mail_date(text: &[u8]) -> Option<Date>
     ensures { IfSome result (WritesMailDate text.now) }
 {
+    let (front, back) = text.split_at(text.len().checked_sub(MONTH_YEAR_LEN)?);
+    let day = day(front)?;
+    let (month, year) = month_year(back)?;
+    Some((year, month, day))
+}
+
+/// The date of `Thu, 18 Aug 2022`.
+#[inline(always)]
+fn mail_day(text: &[u8]) -> Option<Date>
+    ensures { IfSome result (WritesMailDay text.now) }
+{
     match text {
-        [a, b, space, c, d, e, again, f, g, h, i] if *space == b' ' && *again == b' ' => {
-            let day = two(1, 31, *a, *b)?;
-            let month = month(*c, *d, *e)?;
-            let year = year(*f, *g, *h, *i)?;
-            Some((year, month, day))
+        [a, b, c, comma, space, rest @ ..] if *comma == b',' && *space == b' ' => {
+            let _weekday = weekday(*a, *b, *c)?;
+            mail_date(rest)
         }
         _ => None,
     }
 }
 
-/// The month and the day of `Aug 18`. A day of one digit is left to the rules.
+/// The month and the day of `Thu Aug 18`.
 #[inline(always)]
-fn month_day(text: &[u8]) -> Option<(u8, u8)>
-    ensures { IfSome result (WritesMonthDay text.now) }
+fn named_day(text: &[u8]) -> Option<(u8, u8)>
+    ensures { IfSome result (WritesNamedDay text.now) }
 {
     match text {
-        [a, b, c, space, d, e] if *space == b' ' => {
-            let month = month(*a, *b, *c)?;
-            let day = two(10, 31, *d, *e)?;
+        [a, b, c, space, d, e, f, again, rest @ ..] if *space == b' ' && *again == b' ' => {
+            let _weekday = weekday(*a, *b, *c)?;
+            let month = month(*d, *e, *f)?;
+            let day = day(rest)?;
             Some((month, day))
         }
-        _ => None,
-    }
-}
-
-/// The year of `2022`.
-#[inline(always)]
-fn whole_year(text: &[u8]) -> Option<u16>
-    ensures { IfSome result (WritesYear text.now) }
-{
-    match text {
-        [a, b, c, d] => year(*a, *b, *c, *d),
         _ => None,
     }
 }
@@ -177,6 +218,60 @@ fn colon_offset(text: &[u8]) -> Option<i16>
     }
 }
 
+/// The clock and the offset of ` 12:45:06 +0800`.
+#[inline(always)]
+fn time(text: &[u8]) -> Option<(Clock, i16)>
+    ensures { IfSome result (WritesTime text.now) }
+{
+    if text.len() != TIME_LEN || text[0] != b' ' || text[9] != b' ' {
+        return None;
+    }
+    let clock = clock(&text[1..9])?;
+    let offset = offset(&text[10..])?;
+    Some((clock, offset))
+}
+
+/// The clock and the offset of `T12:45:06+08:00`.
+#[inline(always)]
+fn strict_time(text: &[u8]) -> Option<(Clock, i16)>
+    ensures { IfSome result (WritesStrictTime text.now) }
+{
+    if text.len() != TIME_LEN || text[0] != b'T' {
+        return None;
+    }
+    let clock = clock(&text[1..9])?;
+    let offset = colon_offset(&text[9..])?;
+    Some((clock, offset))
+}
+
+/// The year and the offset of ` 2022 +0800`.
+#[inline(always)]
+fn year_offset(text: &[u8]) -> Option<(u16, i16)>
+    ensures { IfSome result (WritesYearOffset text.now) }
+{
+    match text {
+        [space, a, b, c, d, again, rest @ ..] if *space == b' ' && *again == b' ' => {
+            let year = year(*a, *b, *c, *d)?;
+            let offset = offset(rest)?;
+            Some((year, offset))
+        }
+        _ => None,
+    }
+}
+
+/// The clock, the year and the offset of ` 12:45:06 2022 +0800`.
+#[inline(always)]
+fn year_time(text: &[u8]) -> Option<(Clock, u16, i16)>
+    ensures { IfSome result (WritesYearTime text.now) }
+{
+    if text.len() != YEAR_TIME_LEN || text[0] != b' ' {
+        return None;
+    }
+    let clock = clock(&text[1..9])?;
+    let (year, offset) = year_offset(&text[9..])?;
+    Some((clock, year, offset))
+}
+
 #[inline(always)]
 fn fields(date: Date, clock: Clock, offset: i16) -> Fields
     ensures { result ≡ fields_in date clock offset }
@@ -197,12 +292,9 @@ fn fields(date: Date, clock: Clock, offset: i16) -> Fields
 fn iso8601(text: &[u8]) -> Option<Fields>
     ensures { IfSome result (SaysFields text.now) }
 {
-    if text.len() != 25 || text[10] != b' ' || text[19] != b' ' {
-        return None;
-    }
-    let date = date(&text[..10])?;
-    let clock = clock(&text[11..19])?;
-    let offset = offset(&text[20..])?;
+    let (front, back) = text.split_at(text.len().checked_sub(TIME_LEN)?);
+    let date = date(front)?;
+    let (clock, offset) = time(back)?;
     Some(fields(date, clock, offset))
 }
 
@@ -210,12 +302,9 @@ fn iso8601(text: &[u8]) -> Option<Fields>
 fn iso8601_strict(text: &[u8]) -> Option<Fields>
     ensures { IfSome result (SaysFields text.now) }
 {
-    if text.len() != 25 || text[10] != b'T' {
-        return None;
-    }
-    let date = date(&text[..10])?;
-    let clock = clock(&text[11..19])?;
-    let offset = colon_offset(&text[19..])?;
+    let (front, back) = text.split_at(text.len().checked_sub(TIME_LEN)?);
+    let date = date(front)?;
+    let (clock, offset) = strict_time(back)?;
     Some(fields(date, clock, offset))
 }
 
@@ -223,18 +312,9 @@ fn iso8601_strict(text: &[u8]) -> Option<Fields>
 fn rfc2822(text: &[u8]) -> Option<Fields>
     ensures { IfSome result (SaysFields text.now) }
 {
-    if text.len() != 31
-        || text[3] != b','
-        || text[4] != b' '
-        || text[16] != b' '
-        || text[25] != b' '
-    {
-        return None;
-    }
-    let _weekday = weekday(&text[..3])?;
-    let date = mail_date(&text[5..16])?;
-    let clock = clock(&text[17..25])?;
-    let offset = offset(&text[26..])?;
+    let (front, back) = text.split_at(text.len().checked_sub(TIME_LEN)?);
+    let date = mail_day(front)?;
+    let (clock, offset) = time(back)?;
     Some(fields(date, clock, offset))
 }
 
@@ -242,20 +322,10 @@ fn rfc2822(text: &[u8]) -> Option<Fields>
 fn default(text: &[u8]) -> Option<Fields>
     ensures { IfSome result (SaysFields text.now) }
 {
-    if text.len() != 30
-        || text[3] != b' '
-        || text[10] != b' '
-        || text[19] != b' '
-        || text[24] != b' '
-    {
-        return None;
-    }
-    let _weekday = weekday(&text[..3])?;
-    let date = month_day(&text[4..10])?;
-    let clock = clock(&text[11..19])?;
-    let year = whole_year(&text[20..24])?;
-    let offset = offset(&text[25..])?;
-    Some(fields((year, date.0, date.1), clock, offset))
+    let (front, back) = text.split_at(text.len().checked_sub(YEAR_TIME_LEN)?);
+    let (month, day) = named_day(front)?;
+    let (clock, year, offset) = year_time(back)?;
+    Some(fields((year, month, day), clock, offset))
 }
 
 /// The fields of a date as Git prints it.
@@ -265,8 +335,9 @@ pub(crate) fn printed_fields(text: &[u8]) -> Option<Fields>
     match text.len() {
         25 if text[10] == b'T' => iso8601_strict(text),
         25 => iso8601(text),
+        29 => default(text),
+        30 | 31 if text[3] == b',' => rfc2822(text),
         30 => default(text),
-        31 => rfc2822(text),
         _ => None,
     }
 }

@@ -1,59 +1,59 @@
 //! Names of days of the week and of zones, by their beginnings, in any letter case.
-ghost use Rattle.std.specs.Prelude.{◌≡◌, option_map, map};
+ghost use Rattle.std.specs.Prelude.{◌≡◌, ◌≤◌, true, option_map, map, length};
 ghost use Rattle.std.specs.List.{find};
 ghost use Rattle.gix_date.specs.Text.LongNames.{is_short};
-ghost use Rattle.git_date.specs.Names.{is_weekday, is_zone_name, zone_rows, zone_named};
+ghost use Rattle.git_date.specs.Names.{is_weekday, is_zone_name, stand_between, zone_rows, zone_named};
 
 use gix_date::names::{begins, is_name, weekday_told};
 
 const LEAST: usize = 3;
 
-/// Zones and their offsets in minutes.
+/// Zones and their offsets in minutes, by their first letters.
 const ZONES: [(&[u8], i16); 44] = [
-    (b"IDLW", -720),
-    (b"NT", -660),
-    (b"CAT", -600),
-    (b"HST", -600),
-    (b"HDT", -540),
-    (b"YST", -540),
-    (b"YDT", -480),
-    (b"PST", -480),
-    (b"PDT", -420),
-    (b"MST", -420),
-    (b"MDT", -360),
-    (b"CST", -360),
-    (b"CDT", -300),
-    (b"EST", -300),
-    (b"EDT", -240),
     (b"AST", -180),
     (b"ADT", -120),
-    (b"WAT", -60),
-    (b"GMT", 0),
-    (b"UTC", 0),
-    (b"Z", 0),
-    (b"WET", 0),
     (b"BST", 60),
+    (b"CAT", -600),
+    (b"CST", -360),
+    (b"CDT", -300),
     (b"CET", 60),
+    (b"CEST", 120),
+    (b"CCT", 480),
+    (b"EST", -300),
+    (b"EDT", -240),
+    (b"EET", 120),
+    (b"EEST", 180),
+    (b"EAST", 600),
+    (b"EADT", 660),
+    (b"FWT", 60),
+    (b"FST", 120),
+    (b"GMT", 0),
+    (b"GST", 600),
+    (b"HST", -600),
+    (b"HDT", -540),
+    (b"IDLW", -720),
+    (b"IDLE", 720),
+    (b"JST", 540),
+    (b"MST", -420),
+    (b"MDT", -360),
     (b"MET", 60),
     (b"MEWT", 60),
     (b"MEST", 120),
-    (b"CEST", 120),
     (b"MESZ", 120),
-    (b"FWT", 60),
-    (b"FST", 120),
-    (b"EET", 120),
-    (b"EEST", 180),
-    (b"WAST", 420),
-    (b"WADT", 480),
-    (b"CCT", 480),
-    (b"JST", 540),
-    (b"EAST", 600),
-    (b"EADT", 660),
-    (b"GST", 600),
+    (b"NT", -660),
     (b"NZT", 720),
     (b"NZST", 720),
     (b"NZDT", 780),
-    (b"IDLE", 720),
+    (b"PST", -480),
+    (b"PDT", -420),
+    (b"UTC", 0),
+    (b"WAT", -60),
+    (b"WET", 0),
+    (b"WAST", 420),
+    (b"WADT", 480),
+    (b"YST", -540),
+    (b"YDT", -480),
+    (b"Z", 0),
 ];
 
 /// Whether a word is the front of a name and has three letters or more.
@@ -92,16 +92,48 @@ fn zone_in(word: &[u8], rows: &[(&[u8], i16)]) -> Option<i16>
     Some(row.1)
 }
 
+/// The places between which all zones stand whose names begin with this small letter.
+fn places_of(letter: u8) -> (usize, usize)
+    ensures ordered { result.0 ≤ result.1 }
+    ensures within { result.1 ≤ 44 }
+    ensures all { stand_between letter result.0 result.1 ≡ true }
+{
+    match letter {
+        b'a' => (0, 2),
+        b'b' => (2, 3),
+        b'c' => (3, 9),
+        b'e' => (9, 15),
+        b'f' => (15, 17),
+        b'g' => (17, 19),
+        b'h' => (19, 21),
+        b'i' => (21, 23),
+        b'j' => (23, 24),
+        b'm' => (24, 30),
+        b'n' => (30, 34),
+        b'p' => (34, 36),
+        b'u' => (36, 37),
+        b'w' => (37, 41),
+        b'y' => (41, 43),
+        b'z' => (43, 44),
+        _ => (0, ZONES.len()),
+    }
+}
+
 /// The offset in minutes of the zone that a word tells.
 #[tactic(auto, unfolding(crate::specs::Names::zone_named))]
 pub(crate) fn zone_named(word: &[u8]) -> Option<i16>
     ensures { result ≡ zone_named word.now }
 {
-    zone_in(word, zones())
+    let [letter, ..] = word else {
+        return None;
+    };
+    let (first, end) = places_of(letter.to_ascii_lowercase());
+    zone_in(word, &zones()[first..end])
 }
 
 fn zones() -> &'static [(&'static [u8], i16)]
-    ensures { map (λ row. (row.0.now, row.1)) result.now ≡ zone_rows }
+    ensures rows { map (λ row. (row.0.now, row.1)) result.now ≡ zone_rows }
+    ensures len { length result.now ≡ 44 }
 {
     &ZONES
 }

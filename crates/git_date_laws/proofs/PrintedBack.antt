@@ -29,7 +29,20 @@ use Rattle.git_date.specs.declared.error.DateError.{DateError}
 use Rattle.git_date.specs.declared.error.DateError.TheVariants as error
 use Rattle.git_date.specs.Types.{Said}
 use Rattle.git_date.proofs.PrintedClocks.{IsGitClock, at, fields_of, hours_of, minutes_of, is_behind, signed, offset_in_minutes}
-use Rattle.git_date.proofs.PrintedReads.{minutes-back, iso-reads, strict-reads, mail-reads, git-mail-reads, gitoxide-reads, default-reads}
+use Rattle.git_date.proofs.PrintedReads.{minutes-back, iso-reads, strict-reads, mail_text, mail-reads, gitoxide-reads, default-reads, two-day-of, bare-day-of}
+
+-- a mail's date, with its comma behind the name
+abbrev after_comma : LocalTime → List ℕ → List ℕ
+after_comma l day =
+    day ++ (space ∷ (month_name l.date.month ++ (space ∷ (four_digits l.date.year ++ (space ∷ (clock_text l.clock ++ (space ∷ compact_offset_text l.offset)))))))
+
+abbrev named_mail : List ℕ → LocalTime → List ℕ
+named_mail day l = (day_name l.weekday ++ (comma ∷ (space ∷ []))) ++ after_comma l day
+
+mail-back : (now : Now) (day : List ℕ) (l : LocalTime) → IsGitClock l → IsDayText l.date.day day → said_by now (named_mail day l) ≡ fields_said (named_mail day l) (Ok (at (fields_of l)))
+mail-back now day l h is =
+    subst (λ (text : List ℕ). said_by now text ≡ fields_said text (Ok (at (fields_of l)))) (sym (append_assoc (day_name l.weekday) (comma ∷ (space ∷ [])) (after_comma l day)))
+    (mail-reads day now l h is)
 
 -- the seconds that such a clock has counted
 abbrev clock_of_utc : LocalTime → ℤ
@@ -167,12 +180,12 @@ module _ (t : Time) (h : IsGitTime t) (z : PlainZoned) (shows : Shows z t) where
 
   all-back : (now : Now) → AreReadBack now t
   all-back now = record {
-    iso8601 = back-by now iso8601_text (iso-reads now);
-    iso8601_strict = back-by now iso8601_strict_text (strict-reads now);
-    rfc2822 = back-by now rfc2822_text (mail-reads now);
-    git_rfc2822 = back-by now git_rfc2822_text (git-mail-reads now);
-    gitoxide = back-by now gitoxide_text (gitoxide-reads now);
-    default = back-by now default_text (default-reads now);
+    iso8601 = back-by now iso8601_text (iso-reads minus (date-mark minus refl) now);
+    iso8601_strict = back-by now iso8601_strict_text (strict-reads minus (date-mark minus refl) now);
+    rfc2822 = back-by now rfc2822_text (λ l h. mail-back now (two_digits l.date.day) l h (two-day-of l h));
+    git_rfc2822 = back-by now git_rfc2822_text (λ l h. mail-back now (decimal l.date.day) l h (bare-day-of l h));
+    gitoxide = back-by now gitoxide_text (λ l h. gitoxide-reads (two_digits l.date.day) now l h (two-day-of l h));
+    default = back-by now default_text (λ l h. default-reads (decimal l.date.day) now l h (bare-day-of l h));
   }
 
 pub read-back : (now : Now) (t : Time) → IsGitTime t → AreReadBack now t

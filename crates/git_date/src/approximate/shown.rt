@@ -1,14 +1,13 @@
 //! What a clock shows from 1900 on, and the seconds that fields come to whose date is not all said.
 ghost use Rattle.std.specs.Prelude.{◌≡◌, ◌^◌, pos, neg_ℤ, IfSome};
 ghost use Rattle.jiff_core.specs.Calendar.{IsBetween};
-ghost use Rattle.git_date.specs.ApproximateClocks.{is_shown, shown_at, is_shown_month, first_second, year_of_month, filled_seconds};
+ghost use Rattle.git_date.specs.ApproximateClocks.{is_shown, shown_at, year_of_month, filled_seconds};
 ghost use Rattle.git_date.specs.Dates.{IsSmall};
 
 use crate::clocks::{LAST_OF_YEAR_9999, ShownClock, clock_of};
-use crate::dates::seconds_after;
+use crate::dates::{first_second, seconds_after};
 use crate::fields::Fields;
 use gix_date::Time;
-use jiff::civil::DateTime;
 
 /// The first second of the year 1900 by a clock.
 const FIRST_OF_YEAR_1900: i64 = -2_208_988_800;
@@ -28,27 +27,6 @@ pub(crate) fn shown_at(seconds: i64) -> Option<ShownClock>
         return None;
     }
     Some(clock_of(Time::new(seconds, 0)))
-}
-
-/// Whether this is a month of the years from 1900 to 9999.
-fn is_shown_month(year: u16, month: u8) -> bool
-    ensures { result ≡ is_shown_month year month }
-{
-    1900 <= year && year <= 9999 && 1 <= month && month <= 12
-}
-
-/// The first second of such a month by a clock.
-fn first_second(year: u16, month: u8) -> Option<i64>
-    ensures value { result ≡ first_second year month }
-    ensures small { IfSome result IsSmall }
-{
-    if !is_shown_month(year, month) {
-        return None;
-    }
-    let Ok(local) = DateTime::new(year as i16, month as i8, 1, 0, 0, 0, 0) else {
-        return None;
-    };
-    Some(local.to_plain().to_second())
 }
 
 /// The year of a month where none is said: a month later than today's is one of last year.

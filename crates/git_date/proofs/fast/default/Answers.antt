@@ -1,4 +1,4 @@
-use Rattle.std.proofs.Common.{◌∙◌, FitsSigned, w16, None, Ok, ap, sym, rules, arith}
+use Rattle.std.proofs.Common.{◌∙◌, ◌++◌, take-append-drop, FitsSigned, w16, None, Ok, ap, ap₂, sym, List, ℕ, rules}
 use Rattle.std.proofs.lemmas.Int.{to_z-of_z}
 use Rattle.git_date.specs.Reading.{fields_said}
 use Rattle.git_date.specs.declared.fields.Fields.{Fields}
@@ -7,7 +7,10 @@ use Rattle.git_date.proofs.fast.default.Goals as goal
 
 pub returns : goal.returns
 returns c now =
-    let fits : FitsSigned w16 c.in_ok-offset.offset = search rules in
-    default-says c.args.text.now c.in_ok-date.date c.in_ok-clock.clock c.in_ok-year.year c.in_ok-offset.offset c.in_ok-_weekday._weekday (omega (arith, c.if-text-ne30.false)) (omega (arith, c.if-text-ne32.false)) (omega (arith, c.if-text-ne32-2.false)) (omega (arith, c.if-text-ne32-3.false)) (omega (arith, c.if-text-ne32-4.false))
-    c.in_ok-_weekday.ensures c.in_ok-date.ensures c.in_ok-clock.ensures c.in_ok-year.ensures c.in_ok-offset.ensures now
-    ∙ sym (ap (λ (f : Fields). fields_said c.args.text.now (Ok (record { fields = f; ignored = None }))) (simp to_z-of_z at c.fields.ensures))
+    let text = c.args.text.now in
+    let parts = c.split_at.result in
+    let whole = ap₂ (λ (x y : List ℕ). x ++ y) c.split_at.ensures.front c.split_at.ensures.back ∙ take-append-drop _ text in
+    let fits : FitsSigned w16 c.in_ok-clock.offset = search rules in
+    default-says text parts.0.now parts.1.now c.in_ok-clock.year (c.in_ok-month.month, c.in_ok-month.day) c.in_ok-clock.clock c.in_ok-clock.offset whole c.in_ok-month.ensures
+    c.in_ok-clock.ensures now
+    ∙ sym (ap (λ (f : Fields). fields_said text (Ok (record { fields = f; ignored = None }))) (simp to_z-of_z at c.fields.ensures))

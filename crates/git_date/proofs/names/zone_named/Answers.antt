@@ -1,11 +1,12 @@
-use Rattle.std.proofs.Common.{◌∙◌, ap, List, ℕ, ℤ, option_map}
-use Rattle.std.specs.List.{find}
-use Rattle.git_date.specs.Names.{is_zone_name, zone_named}
-use Rattle.git_date.proofs.ZoneRows.{zone-rows, said}
+use Rattle.std.proofs.Common.{◌∙◌}
+use Rattle.git_date.specs.Names.{zone_named}
+use Rattle.git_date.proofs.ZoneRows.{zone-between}
 use Rattle.git_date.proofs.names.zone_named.Goals as goal
 
 pub returns : goal.returns
 unfolding zone_named
 returns c =
-    c.zone_in.ensures ∙ zone-rows c.args.word.now c.zones.result.now
-    ∙ ap (λ (rows : List (List ℕ × ℤ)). option_map said (find (λ (row : List ℕ × ℤ). is_zone_name c.args.word.now row.0) rows)) c.zones.ensures
+    let places = c.places_of-first.result in
+    c.zone_in.ensures
+    ∙ zone-between c.args.word.now c.zones.result.now _ places.0 places.1 c.in-len1-up.len_at_least c.to_ascii_lowercase.ensures.value
+    c.places_of-first.ensures.ordered c.places_of-first.ensures.all c.zones.ensures.rows
