@@ -1,5 +1,5 @@
 -- The time that a printed clock says is the time that was printed.
-use Rattle.std.proofs.Common.{◌≡◌, ◌∙◌, ◌≤◌, ◌≤ℤ◌, ◌<ℤ◌, ◌+◌, ◌*◌, ℕ, ℤ, pos, neg_ℤ, ◌+ℤ◌, ◌-ℤ◌, ◌*ℤ◌, unsigned_abs, Bool, true, false, cond, List, refl, ap, sym, subst, arith, Some, None, Result, Ok, Err}
+use Rattle.std.proofs.Common.{◌≡◌, ◌∙◌, ◌≤◌, ◌≤ℤ◌, ◌<ℤ◌, ◌+◌, ◌*◌, ℕ, ℤ, pos, neg_ℤ, ◌+ℤ◌, ◌-ℤ◌, ◌*ℤ◌, unsigned_abs, Bool, true, false, cond, List, refl, ap, sym, subst, arith, Some, None, Result, Ok, Err, [], ◌∷◌, ◌++◌, append_assoc}
 use Rattle.std.specs.Prelude.{◌&&◌, int_lt}
 use Rattle.std.specs.Int.Signed.{le_z}
 use Rattle.std.proofs.lemmas.Bool.Decides.{nat_tests}
@@ -20,6 +20,12 @@ use Rattle.gix_date.specs.Printing.LocalClocks.{clock_of}
 use Rattle.gix_date.specs.Printing.NamedTexts.{local_time, rfc2822_text, git_rfc2822_text, iso8601_text, iso8601_strict_text, gitoxide_text, default_text}
 use Rattle.gix_date.specs.Fields.Zoned.{is_instant}
 use Rattle.gix_date.specs.declared.time.Time.{Time}
+use Rattle.gix_date.specs.Text.Characters.{comma, minus, space}
+use Rattle.gix_date.specs.Text.Names.{day_name, month_name}
+use Rattle.gix_date.specs.Text.Numbers.{two_digits}
+use Rattle.gix_date.specs.Fields.FieldTexts.{four_digits, clock_text}
+use Rattle.gix_date.specs.Fields.Offsets.{compact_offset_text}
+use Rattle.std.specs.Fmt.{decimal}
 use Rattle.git_date.specs.Dates.{is_month, first_of, month_start, seconds_after, exact_seconds}
 use Rattle.git_date.specs.Outcome.{instant_seconds, date_at, DateOutcome}
 use Rattle.git_date.specs.Printed.{IsGitTime, IsReadBack, AreReadBack}
@@ -28,8 +34,8 @@ use Rattle.git_date.specs.Types.{Now}
 use Rattle.git_date.specs.declared.error.DateError.{DateError}
 use Rattle.git_date.specs.declared.error.DateError.TheVariants as error
 use Rattle.git_date.specs.Types.{Said}
-use Rattle.git_date.proofs.PrintedClocks.{IsGitClock, at, fields_of, hours_of, minutes_of, is_behind, signed, offset_in_minutes}
-use Rattle.git_date.proofs.PrintedReads.{minutes-back, iso-reads, strict-reads, mail_text, mail-reads, gitoxide-reads, default-reads, two-day-of, bare-day-of}
+use Rattle.git_date.proofs.PrintedClocks.{IsGitClock, at, fields_of, hours_of, minutes_of, is_behind, signed, offset_in_minutes, IsDayText, date-mark}
+use Rattle.git_date.proofs.PrintedReads.{minutes-back, iso-reads, strict-reads, mail-reads, gitoxide-reads, default-reads, two-day-of, bare-day-of}
 
 -- a mail's date, with its comma behind the name
 abbrev after_comma : LocalTime → List ℕ → List ℕ
