@@ -16,7 +16,7 @@ use Rattle.git_date.proofs.PrintedReads.{minutes-back, iso-reads, strict-reads, 
 -- the clock of these: a text that is printed of it says them
 module _ (weekday : ℕ) (date clock : ℕ × ℕ × ℕ) (offset : ℤ) (clock_is offset_is : List ℕ) (show : ℤ → List ℕ) (is_weekday : weekday < 7) (d : IsGitDate date)
     (c : WritesClock clock_is clock) (o : WritesOffset show offset_is offset) where
-  abbrev t : LocalTime
+  abbrev pub t : LocalTime
   t = record {
     weekday = weekday;
     date = record { year = date.0; month = date.1; day = date.2 };
@@ -24,10 +24,10 @@ module _ (weekday : ℕ) (date clock : ℕ × ℕ × ℕ) (offset : ℤ) (clock_
     offset = pos 60 *ℤ offset;
   }
 
-  minutes-are : offset_in_minutes t ≡ offset
+  pub minutes-are : offset_in_minutes t ≡ offset
   minutes-are = let back = minutes-back (pos 60 *ℤ offset) o.whole in omega (arith, signed_arith, back)
 
-  git-clock : IsGitClock t
+  pub git-clock : IsGitClock t
   git-clock =
       let within = o.within in
       record {

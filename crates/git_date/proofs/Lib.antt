@@ -16,7 +16,9 @@ pub mod Kept
 pub mod EnoughSteps
 pub mod PrintedClocks
 pub mod PrintedReads
+pub mod ClocksBack
 pub mod FastTexts
+pub mod FastSeconds
 pub mod FewDigits
 pub mod Places
 mod RowMoment

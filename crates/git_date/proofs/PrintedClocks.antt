@@ -509,7 +509,7 @@ sign-rule now f false run more k known e = offset-by f false run more k known e
 abbrev pub at : Fields → Reading
 at f = record { fields = f; ignored = None }
 
-go : (now : Now) (n : ℕ) (f next : Fields) (t : Token) (more rest : List Token) → is_end t ≡ false → rule now f t more ≡ Ok (Some next, rest)
+pub go : (now : Now) (n : ℕ) (f next : Fields) (t : Token) (more rest : List Token) → is_end t ≡ false → rule now f t more ≡ Ok (Some next, rest)
     → steps now (suc n) (at f) (t ∷ more) ≡ steps now n (at next) rest
 unfolding walked
 go now n f next t more rest e is =
@@ -548,7 +548,7 @@ fields_of t = record {
   epoch = false;
 }
 
-skip-space : (now : Now) (n : ℕ) (f : Fields) (more : List Token) → steps now (suc n) (at f) (Mark space ∷ more) ≡ steps now n (at f) more
+pub skip-space : (now : Now) (n : ℕ) (f : Fields) (more : List Token) → steps now (suc n) (at f) (Mark space ∷ more) ≡ steps now n (at f) more
 skip-space now n f more = go now n f f (Mark space) more more refl refl
 
 go-clock : (now : Now) (n : ℕ) (f : Fields) (t : LocalTime) (byte : ℕ) (more : List Token) → IsGitClock t → (byte == dot) ≡ false
@@ -557,7 +557,7 @@ go-clock now n f t byte more h free =
     go now n f (with_time t f) (Digits (two_digits t.clock.hour)) _ (Mark byte ∷ more) refl
     (clock-rule now f t.clock.hour t.clock.minute t.clock.second byte more h.hour h.minute h.second free)
 
-go-offset : (now : Now) (n : ℕ) (f : Fields) (t : LocalTime) → IsGitClock t
+pub go-offset : (now : Now) (n : ℕ) (f : Fields) (t : LocalTime) → IsGitClock t
     → steps now (suc n) (at f) (offset_tokens t) ≡ Ok (at (record f { offset = Some (offset_in_minutes t) }))
 go-offset now n f t h =
     go now n f (record f { offset = Some (offset_in_minutes t) }) (Mark (sign_of t)) _ [] (sign-no-end (is_behind t))
@@ -596,7 +596,7 @@ iso-steps mark now n t is h =
     ∙ skip-space now _ (with_time t (dated_fields t)) _
     ∙ go-offset now n (with_time t (dated_fields t)) t h
 
-spaced-offset : (t : LocalTime) → IsGitClock t → tokens (space ∷ compact_offset_text t.offset) ≡ Mark space ∷ offset_tokens t
+pub spaced-offset : (t : LocalTime) → IsGitClock t → tokens (space ∷ compact_offset_text t.offset) ≡ Mark space ∷ offset_tokens t
 unfolding tokens
 spaced-offset t h = ap (λ (ts : List Token). Mark space ∷ ts) (offset-before t h)
 

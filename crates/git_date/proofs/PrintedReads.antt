@@ -16,28 +16,29 @@ use Rattle.git_date.specs.Fields.{unknown}
 use Rattle.git_date.specs.Offsets.{at_text}
 use Rattle.git_date.specs.Reading.{nothing_read, steps, reading_of, fields_said, at_or_fields, said_by}
 use Rattle.git_date.specs.declared.dates.Now.{Now}
+use Rattle.git_date.specs.declared.fields.Fields.{Fields}
 use Rattle.git_date.proofs.EnoughSteps.{enough, fewer}
 use Rattle.git_date.proofs.PrintedClocks.{IsGitClock, IsDayText, IsDateMark, two-day, bare-day, marked_text, marked_strict_text, at, fields_of, signed, iso_tokens, iso-steps, iso-are, strict_tokens, strict-steps, strict-are, mail_tokens, mail-steps, mail-are, gitoxide_tokens, gitoxide-steps, gitoxide-are, default_tokens, default-steps, default-are}
 
-reads-are : (now : Now) (text : List ℕ) (ts : List Token) (n : ℕ) (t : LocalTime) → tokens text ≡ ts → length ts ≤ n → at_text ts ≡ None
-    → steps now n (at unknown) ts ≡ Ok (at (fields_of t)) → said_by now text ≡ fields_said text (Ok (at (fields_of t)))
+pub reads-are : (now : Now) (text : List ℕ) (ts : List Token) (n : ℕ) (f : Fields) → tokens text ≡ ts → length ts ≤ n → at_text ts ≡ None
+    → steps now n (at unknown) ts ≡ Ok (at f) → said_by now text ≡ fields_said text (Ok (at f))
 unfolding said_by reading_of
-reads-are now text ts n t e fits none read =
+reads-are now text ts n f e fits none read =
     let few : length (tokens text) ≤ n = subst (λ (ts : List Token). length ts ≤ n) (sym e) fits in
-    let reading : steps now (length text) nothing_read (tokens text) ≡ Ok (at (fields_of t)) =
+    let reading : steps now (length text) nothing_read (tokens text) ≡ Ok (at f) =
     enough now (length text) n nothing_read (tokens text) (fewer text) few ∙ ap (steps now n nothing_read) e ∙ read in
     ap (at_or_fields now text) (ap at_text e ∙ none) ∙ ap (fields_said text) reading
 
 -- what is printed of a date, a clock and an offset, by the mark between the date's numbers
 pub iso-reads : (mark : ℕ) → IsDateMark mark → (now : Now) (t : LocalTime) → IsGitClock t → said_by now (marked_text mark t) ≡ fields_said (marked_text mark t) (Ok (at (fields_of t)))
 unfolding at_text
-iso-reads mark is now t h = reads-are now (marked_text mark t) (iso_tokens mark t) 40 t (iso-are mark t is h) (omega arith) refl (iso-steps mark now 35 t is h)
+iso-reads mark is now t h = reads-are now (marked_text mark t) (iso_tokens mark t) 40 (fields_of t) (iso-are mark t is h) (omega arith) refl (iso-steps mark now 35 t is h)
 
 pub strict-reads : (mark : ℕ) → IsDateMark mark → (now : Now) (t : LocalTime) → IsGitClock t
     → said_by now (marked_strict_text mark t) ≡ fields_said (marked_strict_text mark t) (Ok (at (fields_of t)))
 unfolding at_text
 strict-reads mark is now t h =
-    reads-are now (marked_strict_text mark t) (strict_tokens mark t) 40 t (strict-are mark t is h) (omega arith) refl (strict-steps mark now 37 t is h)
+    reads-are now (marked_strict_text mark t) (strict_tokens mark t) 40 (fields_of t) (strict-are mark t is h) (omega arith) refl (strict-steps mark now 37 t is h)
 
 -- dates with names, by the text of their day
 module _ (day : List ℕ) where
@@ -48,7 +49,7 @@ module _ (day : List ℕ) where
 
   pub mail-reads : (now : Now) (t : LocalTime) → IsGitClock t → IsDayText t.date.day day → said_by now (mail_text t) ≡ fields_said (mail_text t) (Ok (at (fields_of t)))
   unfolding at_text
-  mail-reads now t h is = reads-are now (mail_text t) (mail_tokens day t) 40 t (mail-are day t h is) (omega arith) refl (mail-steps now 28 day t h is)
+  mail-reads now t h is = reads-are now (mail_text t) (mail_tokens day t) 40 (fields_of t) (mail-are day t h is) (omega arith) refl (mail-steps now 28 day t h is)
 
   abbrev pub named_text : LocalTime → List ℕ
   named_text t =
@@ -57,7 +58,7 @@ module _ (day : List ℕ) where
 
   pub gitoxide-reads : (now : Now) (t : LocalTime) → IsGitClock t → IsDayText t.date.day day → said_by now (named_text t) ≡ fields_said (named_text t) (Ok (at (fields_of t)))
   unfolding at_text
-  gitoxide-reads now t h is = reads-are now (named_text t) (gitoxide_tokens day t) 40 t (gitoxide-are day t h is) (omega arith) refl (gitoxide-steps now 29 day t h is)
+  gitoxide-reads now t h is = reads-are now (named_text t) (gitoxide_tokens day t) 40 (fields_of t) (gitoxide-are day t h is) (omega arith) refl (gitoxide-steps now 29 day t h is)
 
   abbrev pub default_day_text : LocalTime → List ℕ
   default_day_text t =
@@ -66,7 +67,7 @@ module _ (day : List ℕ) where
 
   pub default-reads : (now : Now) (t : LocalTime) → IsGitClock t → IsDayText t.date.day day → said_by now (default_day_text t) ≡ fields_said (default_day_text t) (Ok (at (fields_of t)))
   unfolding at_text
-  default-reads now t h is = reads-are now (default_day_text t) (default_tokens day t) 40 t (default-are day t h is) (omega arith) refl (default-steps now 29 day t h is)
+  default-reads now t h is = reads-are now (default_day_text t) (default_tokens day t) 40 (fields_of t) (default-are day t h is) (omega arith) refl (default-steps now 29 day t h is)
 
 -- days in two digits, and without a zero before them
 pub two-day-of : (t : LocalTime) → IsGitClock t → IsDayText t.date.day (two_digits t.date.day)

@@ -1,11 +1,13 @@
 //! A fast path for dates as Git prints them. `None` means only that a text has another form.
-ghost use Rattle.std.specs.Prelude.{◌≡◌, ◌∷◌, [], IfSome};
+ghost use Rattle.std.specs.Prelude.{◌≡◌, ◌+◌, ◌*◌, ◌<◌, ◌∷◌, [], IfSome, pos, Some, None, true};
 ghost use Rattle.gix_date.specs.Fields.DateOffsets.{strict_offset_text};
 ghost use Rattle.gix_date.specs.Fields.Offsets.{compact_offset_text};
-ghost use Rattle.git_date.specs.Fast.{WritesTwo, WritesYear, WritesMonth, WritesWeekday, is_date_mark, WritesDate, WritesDay, WritesMonthYear, WritesMailDate, WritesMailDay, WritesNamedDay, WritesClock, WritesTime, WritesStrictTime, WritesYearOffset, WritesYearTime, WritesOffset, fields_in, SaysFields};
+ghost use Rattle.git_date.specs.Fast.{WritesTwo, WritesYear, WritesMonth, WritesWeekday, is_date_mark, WritesDate, WritesDay, WritesMonthYear, WritesMailDate, WritesMailDay, WritesNamedDay, WritesClock, WritesTime, WritesStrictTime, WritesYearOffset, WritesYearTime, WritesOffset, WritesSeconds, WritesRaw, fields_in, SaysFields, Says};
+ghost use Rattle.git_date.specs.Outcome.{SaidIsInstant};
 
 use crate::fields::Fields;
 use crate::offsets::signed_minutes;
+use crate::reader::Said;
 use gix_date::names::{day_name, month_name, month_told, weekday_told};
 
 /// Year, month and day.
@@ -20,6 +22,9 @@ const MONTH_YEAR_LEN: usize = 9;
 const TIME_LEN: usize = 15;
 
 const YEAR_TIME_LEN: usize = 20;
+
+/// How many bytes `1660797906 +0800` has.
+const RAW_LEN: usize = 16;
 
 /// The number that two digits write, if it is within these bounds.
 #[inline(always)]
@@ -339,5 +344,78 @@ pub(crate) fn printed_fields(text: &[u8]) -> Option<Fields>
         30 | 31 if text[3] == b',' => rfc2822(text),
         30 => default(text),
         _ => None,
+    }
+}
+
+/// The seconds of ten digits.
+#[inline(always)]
+fn seconds(text: &[u8]) -> Option<u64>
+    ensures { IfSome result (WritesSeconds text.now) }
+{
+    match text {
+        [a, b, c, d, e, f, g, h, i, j] => {
+            let first = two(10, 40, *a, *b)?;
+            let second = two(0, 99, *c, *d)?;
+            let third = two(0, 99, *e, *f)?;
+            let fourth = two(0, 99, *g, *h)?;
+            let fifth = two(0, 99, *i, *j)?;
+            Some(of_pairs(
+                of_pairs(of_pairs(of_pairs(u64::from(first), second), third), fourth),
+                fifth,
+            ))
+        }
+        _ => None,
+    }
+}
+
+/// The number of these digits and two more.
+#[inline(always)]
+fn of_pairs(front: u64, pair: u8) -> u64
+    requires { front < 10_000_000_000 }
+    ensures { result ≡ 100 * front + pair }
+{
+    100 * front + u64::from(pair)
+}
+
+/// The seconds and the minutes of offset of `1660797906 +0800`.
+#[inline(always)]
+fn raw(text: &[u8]) -> Option<(u64, i16)>
+    ensures { IfSome result (WritesRaw text.now) }
+{
+    if text.len() != RAW_LEN || text[10] != b' ' {
+        return None;
+    }
+    let seconds = seconds(&text[..10])?;
+    let offset = offset(&text[11..])?;
+    Some((seconds, offset))
+}
+
+#[inline(always)]
+fn said_at(seconds: u64, minutes: i16) -> Said
+    requires { seconds < 4_100_000_000 }
+    ensures { result ≡ record { seconds = pos seconds; offset = Some minutes; epoch = true; ignored = None } }
+{
+    Said {
+        seconds: seconds as i64,
+        offset: Some(minutes),
+        epoch: true,
+        ignored: None,
+    }
+}
+
+/// What `1660797906 +0800` says, alone or after `@`.
+pub(crate) fn printed_seconds(text: &[u8]) -> Option<Said>
+    ensures says { IfSome result (Says text.now) }
+    ensures instant { IfSome result SaidIsInstant }
+{
+    match text {
+        [at, rest @ ..] if *at == b'@' => {
+            let (seconds, minutes) = raw(rest)?;
+            Some(said_at(seconds, minutes))
+        }
+        _ => {
+            let (seconds, minutes) = raw(text)?;
+            Some(said_at(seconds, minutes))
+        }
     }
 }

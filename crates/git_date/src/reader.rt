@@ -11,7 +11,7 @@ use crate::clocks::is_instant;
 use crate::dates::{Now, exact_seconds};
 use crate::digits::{Stepped, digits_rule};
 use crate::error::DateError;
-use crate::fast::printed_fields;
+use crate::fast::{printed_fields, printed_seconds};
 use crate::fault::Fault;
 use crate::fields::Fields;
 use crate::offsets::{at_text, offset_rule};
@@ -212,6 +212,9 @@ pub(crate) fn said_by(now: Zoned<'_>, text: &[u8]) -> Result<Said, DateError>
     ensures value { result ≡ said_by (now_of now.entry) text.now }
     ensures instant { IfOk result SaidIsInstant }
 {
+    if let Some(said) = printed_seconds(text) {
+        return Ok(said);
+    }
     if let Some(fields) = printed_fields(text) {
         return fields_said(
             text,

@@ -29,7 +29,7 @@ use Rattle.git_date.specs.Types.{Now}
 use Rattle.git_date.specs.declared.error.DateError.TheVariants.{Unreadable, Range}
 use Rattle.git_date.specs.Types.{Fault}
 use Rattle.git_date.proofs.TokenRuns.{texts_are}
-use Rattle.git_date_laws.proofs.ClocksBack.{IsClockBack, shown_of, filled-back, filled-today, shown-back}
+use Rattle.git_date.proofs.ClocksBack.{IsClockBack, shown_of, filled-back, filled-today, shown-back}
 use Rattle.git_date_laws.proofs.ExactNothing.{nothing-said}
 use Rattle.git_date.specs.ApproximateBack.{CountsBack, IsReached, exactly_back}
 

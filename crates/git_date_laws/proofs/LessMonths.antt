@@ -14,7 +14,7 @@ use Rattle.gix_date.specs.Families.Epoch.{utc_time}
 use Rattle.gix_date.specs.Families.Patterns.{midnight}
 use Rattle.gix_date.specs.Fields.Civil.{civil_seconds}
 use Rattle.gix_date.specs.Fields.Layout.{LocalTime}
-use Rattle.git_date_laws.proofs.ClocksBack.{IsClockBack, clock-is, shown_of}
+use Rattle.git_date.proofs.ClocksBack.{IsClockBack, clock-is, shown_of}
 use Rattle.git_date.specs.ApproximateClocks.{is_shown_month, first_second, filled_seconds}
 use Rattle.git_date.specs.ApproximateDrafts.{all_fields, less_months, at_month}
 use Rattle.git_date.specs.Clocks.{held_clock}

@@ -19,7 +19,6 @@ mod ApproximateAlike
 mod AgeOrder
 mod Alike
 mod Changed
-mod ClocksBack
 mod ExactBack
 mod ExactNothing
 mod ExactOnce

@@ -44,7 +44,7 @@ use Rattle.git_date.specs.declared.error.DateError.TheVariants.{Unreadable, Rang
 use Rattle.git_date.specs.Types.{Fault}
 use Rattle.git_date.specs.FaultCases.{BackTooFar}
 use Rattle.git_date.specs.Types.{Fields}
-use Rattle.git_date_laws.proofs.ClocksBack.{shown_of, before-1900}
+use Rattle.git_date.proofs.ClocksBack.{shown_of, before-1900}
 use Rattle.git_date_laws.proofs.ExactBack.{followed, waiting_draft, moved_draft, go-on, digits-wait, ago-nothing, ends-so, shown-is, AreClocks, filled-moves, are-clocks, long-enough, few}
 use Rattle.git_date_laws.proofs.ExactNothing.{nothing-said}
 use Rattle.git_date.proofs.HeldClocks.{shown-by}

@@ -22,7 +22,7 @@ use Rattle.git_date.specs.Dates.{now_of}
 use Rattle.git_date.specs.Outcome.{DateOutcome}
 use Rattle.git_date.specs.Reading.{said_by}
 use Rattle.git_date.specs.declared.error.DateError.TheVariants.{Unreadable}
-use Rattle.git_date_laws.proofs.ClocksBack.{shown_of}
+use Rattle.git_date.proofs.ClocksBack.{shown_of}
 use Rattle.git_date_laws.proofs.MonthsAgo.{month_back, seconds_back, months-back, rolled}
 use Rattle.git_date_laws.specs.ApproximateLaws.{AgreesOnMonths}
 use Rattle.git_date_laws.proofs.Guesses.{one_answers, moment-instant}

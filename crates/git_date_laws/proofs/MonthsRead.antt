@@ -5,7 +5,7 @@ use Rattle.jiff.specs.Types.{Offset}
 use Rattle.gix_date.proofs.Fields.Instants.{z_holds}
 use Rattle.gix_date.specs.Text.Characters.{space}
 use Rattle.gix_date.specs.declared.time.Time.{Time}
-use Rattle.git_date_laws.proofs.ClocksBack.{shown_of}
+use Rattle.git_date.proofs.ClocksBack.{shown_of}
 use Rattle.git_date_laws.proofs.ExactBack.{Says, ago-nothing, go-on, ends-so, shown-is}
 use Rattle.git_date_laws.proofs.ExactNothing.{nothing-said}
 use Rattle.git_date.proofs.TokenRuns.{texts_are}

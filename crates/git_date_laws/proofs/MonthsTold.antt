@@ -6,7 +6,7 @@ use Rattle.gix_date.proofs.Fields.Instants.{instant_from, instant_holds}
 use Rattle.gix_date.specs.Fields.Zoned.{is_instant}
 use Rattle.gix_date.specs.Text.Front.{◌>>=◌}
 use Rattle.gix_date.specs.declared.time.Time.{Time}
-use Rattle.git_date_laws.proofs.ClocksBack.{IsClockBack, shown_of, filled-today}
+use Rattle.git_date.proofs.ClocksBack.{IsClockBack, shown_of, filled-today}
 use Rattle.git_date_laws.proofs.ExactBack.{not-large, not-zero, shown-is}
 use Rattle.git_date.specs.Approximate.{rule}
 use Rattle.git_date.specs.ApproximateClocks.{filled_seconds}

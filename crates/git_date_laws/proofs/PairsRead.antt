@@ -4,7 +4,7 @@ use Rattle.std.specs.Prelude.{codes, decimal, ◌==◌}
 use Rattle.std.proofs.lemmas.Fmt.{decimal_nonempty, first_decimal, length-decimal-le}
 use Rattle.jiff.specs.Types.{Offset}
 use Rattle.gix_date.specs.Text.Characters.{space, comma}
-use Rattle.git_date_laws.proofs.ClocksBack.{shown_of}
+use Rattle.git_date.proofs.ClocksBack.{shown_of}
 use Rattle.git_date_laws.proofs.ExactBack.{Says, ago-nothing, go-on, ends-so, shown-is}
 use Rattle.git_date.proofs.TokenRuns.{texts_are}
 use Rattle.git_date.specs.Approximate.{answer_of, draft_of, guess, guess_by, steps}

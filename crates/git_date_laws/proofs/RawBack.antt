@@ -18,6 +18,7 @@ use Rattle.gix_date.specs.Header.Text.{written_text}
 use Rattle.gix_date.specs.Text.Characters.{at_sign, space, plus, minus}
 use Rattle.gix_date.specs.Text.Numbers.{two_digits}
 use Rattle.gix_date.specs.declared.time.Time.{Time}
+use Rattle.git_date.proofs.FastSeconds.{sign_byte, minutes_of, raw_tokens, at-is, said_at, said-is}
 use Rattle.git_date.proofs.TokenRuns.{digit-first, mark-first}
 use Rattle.git_date.specs.Modes.{own}
 use Rattle.git_date.specs.Numbers.{digit_more, number}
@@ -70,9 +71,6 @@ pub decimal-run : (n : ℕ) → n < 2 ^ 64 → IsRun n (decimal n)
 decimal-run n h = decimal_by_steps IsRun one-run more-run n h
 
 -- the four digits of an offset
-abbrev sign_byte : Bool → ℕ
-sign_byte behind = cond behind minus plus
-
 pair-first : (n : ℕ) (rest : List ℕ) (ts : List Token) → n < 100 → tokens rest ≡ ts → tokens (two_digits n ++ rest) ≡ digit_before (48 + n / 10) (digit_before (48 + n % 10) ts)
 pair-first n rest ts h e = one-before (n / 10) _ _ (omega arith) (one-before (n % 10) rest ts (omega arith) e)
 
@@ -83,9 +81,6 @@ four-tokens a b h g = pair-first a (two_digits b) _ h (pair-first b [] [] g refl
 sign-first : (behind : Bool) (rest : List ℕ) → tokens (sign_byte behind ∷ rest) ≡ Mark (sign_byte behind) ∷ tokens rest
 sign-first true rest = mark-first minus rest refl refl
 sign-first false rest = mark-first plus rest refl refl
-
-abbrev raw_tokens : List ℕ → Bool → List ℕ → List Token
-raw_tokens run behind pairs = Mark at_sign ∷ Digits run ∷ Mark space ∷ Mark (sign_byte behind) ∷ Digits pairs ∷ []
 
 raw-are : (n a b : ℕ) (behind : Bool) → n < 2 ^ 64 → a < 100 → b < 100
     → tokens (at_sign ∷ (decimal n ++ (space ∷ sign_byte behind ∷ (two_digits a ++ two_digits b))))
@@ -101,35 +96,6 @@ raw-are n a b behind h f g =
 pub number-of : (n : ℕ) → n < 2 ^ 64 → number (decimal n) ≡ n
 unfolding number
 number-of n h = let is = (decimal-run n h).number_is in omega arith
-
-number-pairs : (a b : ℕ) → a < 100 → b < 100 → number (two_digits a ++ two_digits b) ≡ 100 * a + b
-unfolding number
-number-pairs a b h g = omega arith
-
-abbrev minutes_of : Bool → ℕ → ℕ → ℤ
-minutes_of behind a b = cond behind (neg_ℤ (pos (60 * a + b))) (pos (60 * a + b))
-
-small : (k : ℕ) → k < 10_000 → nat_lt k 10_000 ≡ true
-small k h = grind (arith, nat_tests)
-
-at-is : (run : List ℕ) (a b : ℕ) (behind : Bool) → a < 100 → b < 100
-    → at_text (raw_tokens run behind (two_digits a ++ two_digits b)) ≡ Some (number run, minutes_of behind a b)
-unfolding at_text padded_number white without_white
-at-is run a b true h g =
-    let hundreds : (100 * a + b) / 100 ≡ a = omega arith in
-    let ones : (100 * a + b) % 100 ≡ b = omega arith in
-    rw (number-pairs a b h g, small (100 * a + b) (omega arith), hundreds, ones) refl
-at-is run a b false h g =
-    let hundreds : (100 * a + b) / 100 ≡ a = omega arith in
-    let ones : (100 * a + b) % 100 ≡ b = omega arith in
-    rw (number-pairs a b h g, small (100 * a + b) (omega arith), hundreds, ones) refl
-
-abbrev said_at : ℕ → ℤ → Said
-said_at n minutes = record { seconds = pos n; offset = Some minutes; epoch = true; ignored = None }
-
-said-is : (n : ℕ) (minutes : ℤ) → is_instant (pos n) ≡ true → at_said (n, minutes) ≡ Ok (said_at n minutes)
-unfolding at_said
-said-is n minutes e = rw e refl
 
 raw-said : (now : Now) (n a b : ℕ) (behind : Bool) → n < 2 ^ 64 → a < 100 → b < 100 → is_instant (pos n) ≡ true
     → said_by now (at_sign ∷ (decimal n ++ (space ∷ sign_byte behind ∷ (two_digits a ++ two_digits b)))) ≡ Ok (said_at n (minutes_of behind a b))

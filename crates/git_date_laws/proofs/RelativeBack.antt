@@ -11,7 +11,7 @@ use Rattle.jiff_core.proofs.SignedLemmas.{signed_arith, one_part}
 use Rattle.gix_date.proofs.Fields.Instants.{z_holds}
 use Rattle.gix_date.specs.Fields.Zoned.{is_instant}
 use Rattle.gix_date.specs.declared.time.Time.{Time}
-use Rattle.git_date_laws.proofs.ClocksBack.{shown_of}
+use Rattle.git_date.proofs.ClocksBack.{shown_of}
 use Rattle.git_date_laws.proofs.ExactBack.{AreClocks, Says, are-clocks, filled-now, shown-is, counted-back}
 use Rattle.git_date_laws.proofs.PairsRead.{pair_text}
 use Rattle.git_date_laws.proofs.RelativeAges.{IsNearly, IsRounded, rounded-near}

@@ -7,7 +7,7 @@ use Rattle.jiff_core.specs.Calendar.{IsBetween, day_count}
 use Rattle.gix_date.proofs.Fields.Instants.{instant_holds}
 use Rattle.gix_date.specs.Fields.Zoned.{is_instant}
 use Rattle.gix_date.specs.declared.time.Time.{Time}
-use Rattle.git_date_laws.proofs.ClocksBack.{nineteen, shown_of}
+use Rattle.git_date.proofs.ClocksBack.{nineteen, shown_of}
 use Rattle.git_date_laws.proofs.ExactBack.{Says}
 use Rattle.git_date.specs.Numbers.{max_small}
 use Rattle.git_date.specs.declared.approximate.answer.Approximate.{Approximate}

@@ -23,7 +23,7 @@ use Rattle.gix_date.specs.Printing.NamedTexts.{local_time}
 use Rattle.git_date.specs.ApproximateClocks.{is_shown, is_shown_month, shown_at, first_second, filled_seconds}
 use Rattle.git_date.specs.Clocks.{first_of_year_1900, held_clock}
 use Rattle.git_date.specs.ApproximateDrafts.{clock_fields, all_fields}
-use Rattle.git_date.specs.Dates.{first_of, seconds_after}
+use Rattle.git_date.specs.Dates.{first_of, is_month, seconds_after}
 use Rattle.git_date.specs.Types.{ShownClock}
 
 -- seconds from 1900 to the last of an instant
@@ -33,17 +33,41 @@ IsClockBack x = IsBetween first_of_year_1900 last_second x
 abbrev pub shown_of : ℤ → ShownClock
 shown_of x = held_clock (clock_of (utc_time x))
 
+-- the first day of a year bounds its dates, and those of the years before
+pub before-year : (date : Date) (y first : ℕ) → y ≤ 9999 → day_count (pos y) 1 1 ≡ first → date.year <ℤ pos y → epoch_day date <ℤ (pos first -ℤ pos 4_371_953)
+before-year date y first small e lt =
+    let day_in = date.day_in in
+    let year_in = date.year_in in
+    let here = day_count-day_of_year date.year date.month date.day day_in.0 in
+    let within = day_of_year_bound date.year date.month date.day (date.year_in, date.month_in, date.day_in) in
+    omega (arith, signed_arith, here, within, day_count-later_year date.year (pos y) (omega (arith, signed_arith, year_in)) lt, days_from_civil-day_count date.year date.month date.day, e)
+
+from-first : (date : Date) (first : ℕ) → first ≤ day_count date.year 1 1 → (pos first -ℤ pos 4_371_953) ≤ℤ epoch_day date
+from-first date first h =
+    let day_in = date.day_in in
+    let here = day_count-day_of_year date.year date.month date.day day_in.0 in
+    omega (arith, signed_arith, here, h, day_in.0, days_from_civil-day_count date.year date.month date.day)
+
+pub from-year : (date : Date) (y first : ℕ) → day_count (pos y) 1 1 ≡ first → pos y ≤ℤ date.year → (pos first -ℤ pos 4_371_953) ≤ℤ epoch_day date
+from-year date y first e ge =
+    by_lt_z (pos y) date.year
+    (λ lt. from-first date first (omega (arith, signed_arith, e, day_count-later_year (pos y) date.year (omega (arith, signed_arith)) lt)))
+    (λ le. let is : date.year ≡ pos y = omega (arith, signed_arith, ge, le) in from-first date first (omega (arith, e, ap (λ (year : ℤ). day_count year 1 1) is)))
+
 pub nineteen : day_count (pos 1900) 1 1 ≡ 4_346_386
 unfolding day_count days_of_years days_of_months
 nineteen = refl
 
 pub before-1900 : (date : Date) → date.year <ℤ pos 1900 → epoch_day date <ℤ neg_ℤ (pos 25_567)
-before-1900 date lt =
-    let day_in = date.day_in in
-    let year_in = date.year_in in
-    let here = day_count-day_of_year date.year date.month date.day day_in.0 in
-    let within = day_of_year_bound date.year date.month date.day (date.year_in, date.month_in, date.day_in) in
-    omega (arith, signed_arith, here, within, day_count-later_year date.year (pos 1900) (omega (arith, signed_arith, year_in)) lt, days_from_civil-day_count date.year date.month date.day, nineteen)
+before-1900 date lt = before-year date 1900 4_346_386 (omega arith) nineteen lt
+
+seventy : day_count (pos 1970) 1 1 ≡ 4_371_953
+unfolding day_count days_of_years days_of_months
+seventy = refl
+
+next : day_count (pos 2100) 1 1 ≡ 4_419_435
+unfolding day_count days_of_years days_of_months
+next = refl
 
 later-day : (y : ℤ) (m d : ℕ) → 1 ≤ d → days_from_civil y m d ≡ days_from_civil y m 1 +ℤ (pos d -ℤ pos 1)
 unfolding days_from_civil day_count
@@ -74,6 +98,23 @@ module _ (x : ℤ) (h : IsClockBack x) (z : PlainZoned) (shows : Shows z (utc_ti
       let high : unsigned_abs z.datetime.date.year ≤ 9999 = omega (arith, signed_arith, some, from, year_in) in
       let first : 1 ≤ z.datetime.date.month = month_in.0 in
       let last : z.datetime.date.month ≤ 12 = month_in.1 in
+      grind (arith, nat_tests)
+
+  -- a year that Git knows
+  git-month : pos 0 ≤ℤ x → x <ℤ pos 4_102_444_800 → is_month (unsigned_abs z.datetime.date.year) z.datetime.date.month ≡ true
+  git-month low high =
+      let date = z.datetime.date in
+      let local = local-is z (utc_time x) shows in
+      let from : pos 1970 ≤ℤ date.year =
+      by_lt_z date.year (pos 1970) (λ lt. absurd (omega (arith, signed_arith, before-year date 1970 4_371_953 (omega arith) seventy lt, local, low))) (λ ge. ge) in
+      let to : date.year <ℤ pos 2100 =
+      by_lt_z date.year (pos 2100) (λ lt. lt) (λ ge. absurd (omega (arith, signed_arith, from-year date 2100 4_419_435 next ge, local, high))) in
+      let some = one_part date.year in
+      let month_in = date.month_in in
+      let first_year : 1970 ≤ unsigned_abs date.year = omega (arith, signed_arith, some, from) in
+      let last_year : unsigned_abs date.year ≤ 2099 = omega (arith, signed_arith, some, from, to) in
+      let first : 1 ≤ date.month = month_in.0 in
+      let last : date.month ≤ 12 = month_in.1 in
       grind (arith, nat_tests)
 
   civil : civil_seconds (local_time z).date (local_time z).clock (pos 0) ≡ x
@@ -131,3 +172,10 @@ unfolding shown_at
 shown-back x h =
     let is : is_shown x ≡ true = join _ _ (z_holds first_of_year_1900 x h.0) (z_holds x last_of_year_9999 (omega (arith, signed_arith, h.1))) in
     ap (λ (b : Bool). cond b (Some (shown_of x)) None) is
+
+-- from 1970 to 2099
+pub known-month : (x : ℤ) → pos 0 ≤ℤ x → x <ℤ pos 4_102_444_800 → is_month (shown_of x).year (shown_of x).month ≡ true
+known-month x low high =
+    let h : IsClockBack x = (omega (arith, signed_arith, low), omega (arith, signed_arith, high)) in
+    let found = shown-by (utc_time x) ((omega (arith, signed_arith), omega (arith, signed_arith)), (omega (arith, signed_arith, h.0), h.1)) in
+    subst (λ (l : LocalTime). is_month (held_clock l).year (held_clock l).month ≡ true) (clock-shown found.0 (utc_time x) found.1) (git-month x h found.0 found.1 low high)
