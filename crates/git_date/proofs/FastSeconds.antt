@@ -1,5 +1,5 @@
 -- Seconds since 1970 and an offset, as `raw` shows them, say themselves: alone and after `@`.
-use Rattle.std.proofs.Common.{◌≡◌, ◌∙◌, ◌≤◌, ◌<◌, ◌+◌, ◌-◌, ◌*◌, ◌/◌, ◌%◌, ℕ, ℤ, pos, neg_ℤ, ◌*ℤ◌, nat_le, Bool, true, false, cond, List, [], ◌∷◌, ◌++◌, length, take, drop, get_or, Option, Some, None, Result, Ok, refl, ap, sym, subst, arith}
+use Rattle.std.proofs.Common.{◌≡◌, ◌∙◌, ◌≤◌, ◌<◌, ◌+◌, ◌-◌, ◌*◌, ◌/◌, ◌%◌, ℕ, ℤ, pos, neg_ℤ, nat_le, Bool, true, false, cond, List, [], ◌∷◌, ◌++◌, length, take, drop, get_or, Option, Some, None, Ok, refl, ap, sym, subst, arith}
 use Rattle.std.specs.Char.{is_ascii_digit}
 use Rattle.std.specs.List.{fold, list_all}
 use Rattle.std.specs.Prelude.{nat_lt}
@@ -16,21 +16,20 @@ use Rattle.gix_date.specs.Text.Characters.{at_sign, space, plus, minus}
 use Rattle.gix_date.specs.Text.Numbers.{two_digits}
 use Rattle.git_date.specs.Clocks.{utc_clock}
 use Rattle.git_date.specs.Dates.{exact_seconds, month_start}
-use Rattle.git_date.specs.Digits.{is_epoch, by_clock, epoch_rule, digits_rule, with_epoch}
+use Rattle.git_date.specs.Digits.{epoch_rule, digits_rule, with_epoch}
 use Rattle.git_date.specs.Fast.{IsGitDate, WritesTwo, WritesClock, WritesOffset, WritesSeconds, WritesRaw, Says}
 use Rattle.git_date.specs.Fields.{unknown}
 use Rattle.git_date.specs.Numbers.{digit_more, number}
 use Rattle.git_date.specs.Offsets.{at_text, padded_number, white, without_white}
-use Rattle.git_date.specs.Reading.{ended, rule, steps, at_said, by_seconds, fields_said, said_by, at_or_fields}
+use Rattle.git_date.specs.Reading.{ended, steps, at_said, by_seconds, fields_said, said_by, at_or_fields}
 use Rattle.git_date.specs.Tokens.{Token, Digits, Mark, digit_before, tokens}
 use Rattle.git_date.specs.Words.{without_ending}
 use Rattle.git_date.specs.declared.dates.Now.{Now}
-use Rattle.git_date.specs.declared.error.DateError.{DateError}
 use Rattle.git_date.specs.declared.fields.Fields.{Fields}
 use Rattle.git_date.specs.declared.reader.Said.{Said}
 use Rattle.git_date.proofs.ClocksBack.{shown_of, clock-is, known-month}
 use Rattle.git_date.proofs.FastTexts.{t, git-clock, minutes-are}
-use Rattle.git_date.proofs.PrintedClocks.{IsGitClock, at, go, skip-space, go-offset, offset_tokens, spaced-offset, signed, offset_in_minutes, hours_of, is_behind, minutes_of as minutes_in}
+use Rattle.git_date.proofs.PrintedClocks.{IsGitClock, at, go, skip-space, go-offset, offset_tokens, spaced-offset, offset_in_minutes, hours_of, is_behind, minutes_of as minutes_in}
 use Rattle.git_date.proofs.PrintedReads.{reads-are}
 use Rattle.git_date.proofs.TokenRuns.{digit-first, mark-first}
 

@@ -78,9 +78,13 @@ exact_seconds f = do
   start ← month_start year month
   Some (seconds_after start f.day hour minute second)
 
+-- the seconds and the year in UTC of an instant in nanoseconds since 1970, which the rules use
+abbrev pub now_at : ℤ → Now
+now_at nanos = record { seconds = whole_seconds nanos; year = utc_year (whole_seconds nanos) }
+
 -- the seconds and the year in UTC of a moment, which the rules use
 abbrev pub now_of : Zoned → Now
-now_of moment = record { seconds = whole_seconds (zoned_nanos moment); year = utc_year (whole_seconds (zoned_nanos moment)) }
+now_of moment = now_at (zoned_nanos moment)
 
 -- ten days, after which a date is ahead
 abbrev pub ten_days : ℤ

@@ -18,9 +18,13 @@ pub record Moment : Type 0 where
   pub zone : TimeZone
   pub seconds : ℤ
 
+-- an instant in nanoseconds since 1970, in a zone
+abbrev pub moment_at : ℤ → TimeZone → Moment
+moment_at nanos zone = record { zone = zone; seconds = whole_seconds nanos }
+
 -- the zone and the seconds of a moment, which shown dates use
 abbrev pub moment_of : Zoned → Moment
-moment_of moment = record { zone = zone_of moment; seconds = whole_seconds (zoned_nanos moment) }
+moment_of moment = moment_at (zoned_nanos moment) (zone_of moment)
 
 -- An offset that is shown: whole minutes, as Git's are, and below 100 hours. (Git shows more hours.)
 abbrev pub is_written_offset : ℤ → Bool

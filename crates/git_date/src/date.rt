@@ -2,13 +2,16 @@
 ghost use Rattle.std.specs.Prelude.{◌≡◌, true, IfOk};
 ghost use Rattle.gix_date.specs.Fields.Zoned.{is_instant};
 ghost use Rattle.gix_date.specs.Relative.Steps.{zone_of};
-ghost use Rattle.git_date.specs.Dates.{now_of};
+ghost use Rattle.jiff.specs.Words.{plain_zone};
+ghost use Rattle.git_date.specs.Dates.{now_at, now_of};
 ghost use Rattle.git_date.specs.Outcome.{instant_seconds, date_at, DateOutcome, HasPlacesIn, InZone, SaidIsInstant, IsMinutes};
 ghost use Rattle.git_date.specs.Reading.{said_by};
 
 use crate::error::DateError;
 use crate::reader::{Said, said_by};
 use gix_date::{Time, Zoned, time_in_zone};
+use jiff::Timestamp;
+use jiff::tz::TimeZone;
 
 /// What [`parse_date`] reads.
 #[derive(Clone, Copy, Debug, PartialEq, Eq)]
@@ -33,18 +36,30 @@ pub fn parse_date(text: &str, now: Zoned<'_>) -> Result<ReadDate, DateError>
     ensures date { DateOutcome (zone_of now.entry) (said_by (now_of now.entry) text.now) result }
     ensures places { HasPlacesIn text.now result }
 {
-    date_said(said_by(now, text.as_bytes()), now)
+    parse_date_at(text, now.timestamp(), now.time_zone())
 }
 
-/// The date that a text says, in the moment's zone if it says no offset.
-fn date_said(said: Result<Said, DateError>, now: Zoned<'_>) -> Result<ReadDate, DateError>
+/// [`parse_date`] at an instant in a zone. The zone is asked only for a text without an offset, so most texts cost less so.
+pub fn parse_date_at(text: &str, now: Timestamp, zone: TimeZone<'_>) -> Result<ReadDate, DateError>
+    ensures date { DateOutcome (plain_zone zone.entry) (said_by (now_at now.nanosecond) text.now) result }
+    ensures places { HasPlacesIn text.now result }
+{
+    date_said(said_by(now, text.as_bytes()), now, zone)
+}
+
+/// The date that a text says, in the zone if it says no offset.
+fn date_said(
+    said: Result<Said, DateError>,
+    now: Timestamp,
+    zone: TimeZone<'_>,
+) -> Result<ReadDate, DateError>
     requires { IfOk said SaidIsInstant }
-    ensures { DateOutcome (zone_of now.entry) said result }
+    ensures { DateOutcome (plain_zone zone.entry) said result }
 {
     match said {
         Ok(said) => match said.offset {
             Some(minutes) => date_at(said, i64::from(minutes)),
-            None => date_in_zone(said, now),
+            None => date_in_zone(said, now.to_zoned(zone)),
         },
         Err(error) => Err(error),
     }

@@ -2,15 +2,15 @@
 ghost use Rattle.std.specs.Prelude.{◌≡◌, ◌<◌, ◌^◌, ◌*ℤ◌, pos, negsuc, neg_ℤ, IfSome};
 ghost use Rattle.jiff_core.specs.Calendar.{IsBetween};
 ghost use Rattle.git_date.specs.ApproximateClocks.{first_second, is_shown_month};
-ghost use Rattle.git_date.specs.Dates.{year_said, is_day_of_month, is_month, month_start, days_after_first, seconds_of_day, seconds_after, IsSmall, exact_seconds, now_of, is_ahead, recent_date, year_date};
+ghost use Rattle.git_date.specs.Dates.{year_said, is_day_of_month, is_month, month_start, days_after_first, seconds_of_day, seconds_after, IsSmall, exact_seconds, now_at, is_ahead, recent_date, year_date};
 
 use crate::clocks::{SECONDS_PER_DAY, utc_year};
 use crate::fields::Fields;
 use crate::numbers::NUMBERS_OF_32_BITS;
-use gix_date::Zoned;
+use jiff::Timestamp;
 use jiff_core::civil::Date;
 
-/// What the rules use of a moment.
+/// What the rules use of an instant.
 #[derive(Clone, Copy)]
 pub(crate) struct Now {
     /// Seconds since 1970-01-01 00:00:00 UTC.
@@ -20,10 +20,10 @@ pub(crate) struct Now {
 }
 
 impl Now {
-    pub(crate) fn of(moment: Zoned<'_>) -> Now
-        ensures { result ≡ now_of moment.entry }
+    pub(crate) fn of(instant: Timestamp) -> Now
+        ensures { result ≡ now_at instant.nanosecond }
     {
-        let seconds = moment.timestamp().as_second();
+        let seconds = instant.as_second();
         Now {
             seconds,
             year: utc_year(seconds),

@@ -44,7 +44,7 @@ mod tokens;
 mod words;
 
 pub use approximate::{Approximate, Expiry, approxidate, expiry_date};
-pub use date::{ReadDate, parse_date};
+pub use date::{ReadDate, parse_date, parse_date_at};
 pub use error::DateError;
 pub use mode::{DateKind, DateMode, UnknownMode};
-pub use show::{DateText, show_date};
+pub use show::{DateText, show_date, show_date_at};

@@ -1,7 +1,7 @@
 //! The reader: one token after the other, and what the whole text says.
 ghost use Rattle.std.specs.Prelude.{◌≡◌, ◌≤◌, length, IfOk, Option, List, ℕ};
 ghost use Rattle.git_date.specs.Tokens.{tokens, token_of};
-ghost use Rattle.git_date.specs.Dates.{now_of};
+ghost use Rattle.git_date.specs.Dates.{now_at};
 ghost use Rattle.git_date.specs.Fast.{has_few_digits};
 ghost use Rattle.git_date.specs.Reading.{sign_rule, mark_rule, rule, reading_of, read_on, place_in, error_of, at_said, fields_said, said_by, ended};
 ghost use Rattle.git_date.specs.Outcome.{SaidIsInstant};
@@ -17,7 +17,7 @@ use crate::fields::Fields;
 use crate::offsets::{at_text, offset_rule};
 use crate::tokens::{Token, is_end, next_token};
 use crate::words::{letters_rule, without_ending};
-use gix_date::Zoned;
+use jiff::Timestamp;
 
 /// What was read so far.
 #[derive(Clone, Copy)]
@@ -196,8 +196,8 @@ fn third_is_digit(text: &[u8]) -> bool {
 }
 
 /// What the tokens of a text say. Few digits say no clock, so that words are not read here.
-fn tokens_said(now: Zoned<'_>, text: &[u8]) -> Result<Said, DateError>
-    ensures value { result ≡ fields_said text.now (reading_of (now_of now.entry) text.now) }
+fn tokens_said(now: Timestamp, text: &[u8]) -> Result<Said, DateError>
+    ensures value { result ≡ fields_said text.now (reading_of (now_at now.nanosecond) text.now) }
     ensures instant { IfOk result SaidIsInstant }
 {
     if !third_is_digit(text) && has_few_digits(text) {
@@ -206,10 +206,10 @@ fn tokens_said(now: Zoned<'_>, text: &[u8]) -> Result<Said, DateError>
     fields_said(text, reading_of(Now::of(now), text))
 }
 
-/// What a text says. The moment is asked only where its tokens are read.
+/// What a text says. The instant is asked only where its tokens are read.
 #[tactic(auto, unfolding(crate::specs::Reading::said_by))]
-pub(crate) fn said_by(now: Zoned<'_>, text: &[u8]) -> Result<Said, DateError>
-    ensures value { result ≡ said_by (now_of now.entry) text.now }
+pub(crate) fn said_by(now: Timestamp, text: &[u8]) -> Result<Said, DateError>
+    ensures value { result ≡ said_by (now_at now.nanosecond) text.now }
     ensures instant { IfOk result SaidIsInstant }
 {
     if let Some(said) = printed_seconds(text) {

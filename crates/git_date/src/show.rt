@@ -1,8 +1,9 @@
 //! Dates as Git shows them.
 ghost use Rattle.std.specs.Prelude.{◌≡◌, ◌<◌, ◌≤ℤ◌, pos, MatchResult, IfSome, option_map, unsigned_abs, false};
 ghost use Rattle.std.specs.Int.Signed.{lt_z};
+ghost use Rattle.jiff.specs.Words.{plain_zone};
 ghost use Rattle.git_date.specs.Show.{shown, shown_by, shown_clock, shown_offset, relative_shown, human_shown};
-ghost use Rattle.git_date.specs.ShowClocks.{moment_of};
+ghost use Rattle.git_date.specs.ShowClocks.{moment_at, moment_of};
 ghost use Rattle.git_date.specs.Clocks.{local_of, HasFields};
 ghost use Rattle.git_date.specs.declared.error.DateError.TheVariants.{Range};
 
@@ -23,6 +24,8 @@ use dates::{
 };
 use gix_date::{Time, Zoned};
 use human::human_text;
+use jiff::Timestamp;
+use jiff::tz::TimeZone;
 
 /// The most bytes of a shown date: those of [`DateKind::Rfc2822`].
 const MAX_DATE_LEN: usize = 31;
@@ -51,29 +54,43 @@ pub fn show_date(time: Time, mode: DateMode, now: Zoned<'_>) -> Result<DateText,
         (λ text. shown (moment_of now.entry) mode time ≡ Some text.bytes)
         (λ e. (e ≡ Range) × (shown (moment_of now.entry) mode time ≡ None)) }
 {
-    match shown(time, mode, now) {
+    show_date_at(time, mode, now.timestamp(), now.time_zone())
+}
+
+/// [`show_date`] at an instant in a zone, without the clock of both.
+pub fn show_date_at(
+    time: Time,
+    mode: DateMode,
+    now: Timestamp,
+    zone: TimeZone<'_>,
+) -> Result<DateText, DateError>
+    ensures { MatchResult result
+        (λ text. shown (moment_at now.nanosecond (plain_zone zone.entry)) mode time ≡ Some text.bytes)
+        (λ e. (e ≡ Range) × (shown (moment_at now.nanosecond (plain_zone zone.entry)) mode time ≡ None)) }
+{
+    match shown(time, mode, now, zone) {
         Some(text) => Ok(text),
         None => Err(DateError::Range),
     }
 }
 
 #[tactic(auto, unfolding(crate::specs::Show::shown))]
-fn shown(time: Time, mode: DateMode, now: Zoned<'_>) -> Option<DateText>
-    ensures { option_map (λ text. text.bytes) result ≡ shown (moment_of now.entry) mode time }
+fn shown(time: Time, mode: DateMode, now: Timestamp, zone: TimeZone<'_>) -> Option<DateText>
+    ensures { option_map (λ text. text.bytes) result ≡ shown (moment_at now.nanosecond (plain_zone zone.entry)) mode time }
 {
     if time.seconds < 0 {
         return None;
     }
-    shown_by(time, mode, now)
+    shown_by(time, mode, now, zone)
 }
 
 /// The clock by which a time is shown.
-fn shown_clock(time: Time, local: bool, now: Zoned<'_>) -> Option<ShownClock>
-    ensures shown { option_map local_of result ≡ shown_clock (moment_of now.entry) local time }
+fn shown_clock(time: Time, local: bool, now: Timestamp, zone: TimeZone<'_>) -> Option<ShownClock>
+    ensures shown { option_map local_of result ≡ shown_clock (moment_at now.nanosecond (plain_zone zone.entry)) local time }
     ensures fields { IfSome result HasFields }
 {
     if local {
-        zone_clock(time.seconds, now)
+        zone_clock(time.seconds, zone)
     } else {
         own_clock(time)
     }
@@ -81,12 +98,12 @@ fn shown_clock(time: Time, local: bool, now: Zoned<'_>) -> Option<ShownClock>
 
 /// The offset that is shown without a clock.
 #[tactic(auto, unfolding(crate::specs::Show::shown_offset))]
-fn shown_offset(time: Time, local: bool, now: Zoned<'_>) -> Option<i32>
-    ensures value { result ≡ shown_offset (moment_of now.entry) local time }
+fn shown_offset(time: Time, local: bool, now: Timestamp, zone: TimeZone<'_>) -> Option<i32>
+    ensures value { result ≡ shown_offset (moment_at now.nanosecond (plain_zone zone.entry)) local time }
     ensures short { IfSome result (λ offset. unsigned_abs offset < 360000) }
 {
     if local {
-        let shown = zone_clock(time.seconds, now)?;
+        let shown = zone_clock(time.seconds, zone)?;
         return Some(shown.offset);
     }
     if is_written_offset(time.offset) {
@@ -110,33 +127,33 @@ fn relative_shown(now: i64, seconds: i64) -> Option<DateText>
 }
 
 /// A human date, by the clock of the time and that of the moment.
-fn human_shown(time: Time, local: bool, now: Zoned<'_>) -> Option<DateText>
+fn human_shown(time: Time, local: bool, now: Timestamp, zone: TimeZone<'_>) -> Option<DateText>
     requires { lt_z time.seconds (pos 0) ≡ false }
-    ensures { option_map (λ text. text.bytes) result ≡ human_shown (moment_of now.entry) local time }
+    ensures { option_map (λ text. text.bytes) result ≡ human_shown (moment_at now.nanosecond (plain_zone zone.entry)) local time }
 {
-    let second = now.timestamp().as_second();
-    let shown = shown_clock(time, local, now)?;
-    let today = zone_clock(second, now)?;
+    let second = now.as_second();
+    let shown = shown_clock(time, local, now, zone)?;
+    let today = zone_clock(second, zone)?;
     let age = relative_text(second, time.seconds);
     Some(human_text(local, shown, today, age))
 }
 
 /// What each kind shows of a time from 1970 on.
-fn shown_by(time: Time, mode: DateMode, now: Zoned<'_>) -> Option<DateText>
+fn shown_by(time: Time, mode: DateMode, now: Timestamp, zone: TimeZone<'_>) -> Option<DateText>
     requires { lt_z time.seconds (pos 0) ≡ false }
     ensures { option_map (λ text. text.bytes) result
-        ≡ shown_by mode.kind (moment_of now.entry) mode.local time }
+        ≡ shown_by mode.kind (moment_at now.nanosecond (plain_zone zone.entry)) mode.local time }
 {
     let text = match mode.kind {
-        DateKind::Relative => relative_shown(now.timestamp().as_second(), time.seconds)?,
+        DateKind::Relative => relative_shown(now.as_second(), time.seconds)?,
         DateKind::Unix => unix_text(time.seconds),
-        DateKind::Raw => raw_text(time.seconds, shown_offset(time, mode.local, now)?),
-        DateKind::Human => human_shown(time, mode.local, now)?,
-        DateKind::Default => default_text(mode.local, shown_clock(time, mode.local, now)?),
-        DateKind::Short => short_text(shown_clock(time, mode.local, now)?),
-        DateKind::Iso8601 => iso8601_text(shown_clock(time, mode.local, now)?),
-        DateKind::Iso8601Strict => iso8601_strict_text(shown_clock(time, mode.local, now)?),
-        DateKind::Rfc2822 => rfc2822_text(shown_clock(time, mode.local, now)?),
+        DateKind::Raw => raw_text(time.seconds, shown_offset(time, mode.local, now, zone)?),
+        DateKind::Human => human_shown(time, mode.local, now, zone)?,
+        DateKind::Default => default_text(mode.local, shown_clock(time, mode.local, now, zone)?),
+        DateKind::Short => short_text(shown_clock(time, mode.local, now, zone)?),
+        DateKind::Iso8601 => iso8601_text(shown_clock(time, mode.local, now, zone)?),
+        DateKind::Iso8601Strict => iso8601_strict_text(shown_clock(time, mode.local, now, zone)?),
+        DateKind::Rfc2822 => rfc2822_text(shown_clock(time, mode.local, now, zone)?),
     };
     Some(text)
 }

@@ -130,7 +130,7 @@ fn guess(moment: Zoned<'_>, text: &[u8]) -> Result<Approximate, DateError>
     requires { AreChoices (zone_of moment) zone }
     ensures { result ≡ guess zone (now_of moment.entry) text.now }
 {
-    let now = Now::of(moment);
+    let now = Now::of(moment.timestamp());
     match shown_in(moment, now.seconds) {
         Some(shown) => answer_of(moment, Today { now, shown }, text),
         None => Err(DateError::Range),

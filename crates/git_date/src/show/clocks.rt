@@ -1,13 +1,14 @@
 //! What clocks show: a time's own, or that of a zone.
 ghost use Rattle.std.specs.Prelude.{◌≡◌, ◌<◌, IfSome, option_map, unsigned_abs};
-ghost use Rattle.gix_date.specs.Relative.Steps.{zone_of};
+ghost use Rattle.jiff.specs.Words.{plain_zone};
 ghost use Rattle.git_date.specs.Clocks.{local_of, HasFields};
 ghost use Rattle.git_date.specs.ShowClocks.{has_own_clock, has_zone_clock, is_dated, is_written_offset};
 ghost use Rattle.git_date.specs.ShowClocks.{known_offset, own_clock, zone_clock};
 
 use crate::clocks::{LAST_OF_YEAR_9999, LAST_SECOND, ShownClock, clock_of, local_seconds};
-use gix_date::{Time, Zoned};
+use gix_date::Time;
 use jiff::Timestamp;
+use jiff::tz::TimeZone;
 
 const SECONDS_PER_MINUTE: i32 = 60;
 
@@ -68,10 +69,10 @@ fn known_offset(shown: ShownClock) -> i32
     }
 }
 
-/// What the clock of the moment's zone shows at an instant, which may be before 1970 there. `None` for an instant before 1970
+/// What the clock of a zone shows at an instant, which may be before 1970 there. `None` for an instant before 1970
 /// UTC, and after 9999-12-30 22:00:00 UTC, the last second of `jiff`.
-pub(crate) fn zone_clock(seconds: i64, now: Zoned<'_>) -> Option<ShownClock>
-    ensures shown { option_map local_of result ≡ zone_clock (zone_of now.entry) seconds }
+pub(crate) fn zone_clock(seconds: i64, zone: TimeZone<'_>) -> Option<ShownClock>
+    ensures shown { option_map local_of result ≡ zone_clock (plain_zone zone.entry) seconds }
     ensures fields { IfSome result HasFields }
 {
     if !has_zone_clock(seconds) {
@@ -80,7 +81,7 @@ pub(crate) fn zone_clock(seconds: i64, now: Zoned<'_>) -> Option<ShownClock>
     let Ok(instant) = Timestamp::from_second(seconds) else {
         unreachable!()
     };
-    let offset = now.time_zone().to_offset(instant);
+    let offset = zone.to_offset(instant);
     let shown = clock_of(Time::new(seconds, offset.seconds()));
     Some(ShownClock {
         offset: known_offset(shown),

@@ -1,7 +1,6 @@
-use Rattle.std.proofs.Common.{◌∙◌, sym, subst, ap, Ok, FitsSigned, w16, rules}
+use Rattle.std.proofs.Common.{sym, subst, FitsSigned, w16, rules}
 use Rattle.std.proofs.lemmas.Int.{to_z-of_z}
 use Rattle.git_date.specs.Fast.{Says}
-use Rattle.git_date.specs.declared.reader.Said.{Said}
 use Rattle.git_date.proofs.FastSeconds.{raw-text, at-text}
 use Rattle.git_date.proofs.fast.printed_seconds.Goals as goal
 

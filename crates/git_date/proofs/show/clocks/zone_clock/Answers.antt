@@ -1,9 +1,7 @@
 use Rattle.std.proofs.Common.{rules, ◌≡◌, ◌∙◌, ℤ, sym, ap, subst, FitsSigned, w64, w32}
 use Rattle.std.proofs.lemmas.Int.{to_z-of_z}
-use Rattle.jiff.specs.Types.{TimeZone}
-use Rattle.jiff.specs.Words.{offset_at, nanos_of_seconds}
+use Rattle.jiff.specs.Words.{offset_at, nanos_of_seconds, plain_zone}
 use Rattle.gix_date.specs.Printing.LocalClocks.{clock_of}
-use Rattle.gix_date.specs.Relative.Steps.{zone_of}
 use Rattle.gix_date.specs.declared.time.Time.{Time}
 use Rattle.git_date.specs.Clocks.{IsShowable}
 use Rattle.git_date.proofs.ShownClocks.{a-zone-clock, known, near-zone, no-zone-clock, timed-at, zone-dated}
@@ -13,7 +11,7 @@ pub returns-then-not-has_zone_clock-clause-shown : goal.returns-then-not-has_zon
 returns-then-not-has_zone_clock-clause-shown c =
     let fits : FitsSigned w64 c.args.seconds = c.ranges.seconds in
     let test = simp to_z-of_z at c.has_zone_clock.ensures in
-    no-zone-clock (zone_of c.args.now) c.args.seconds (sym test ∙ c.if-not-has_zone_clock.true)
+    no-zone-clock (plain_zone c.args.zone) c.args.seconds (sym test ∙ c.if-not-has_zone_clock.true)
 
 pub clock_of-shown-requires : goal.clock_of-shown-requires
 clock_of-shown-requires c =
@@ -27,7 +25,7 @@ clock_of-shown-requires c =
 
 pub returns-clause-shown : goal.returns-clause-shown
 returns-clause-shown c =
-    let zone = zone_of c.args.now in
+    let zone = plain_zone c.args.zone in
     let fits : FitsSigned w64 c.args.seconds = c.ranges.seconds in
     let offset_fits : FitsSigned w32 c.seconds.result = search rules in
     let known_fits : FitsSigned w32 c.known_offset.result = search rules in
@@ -35,8 +33,7 @@ returns-clause-shown c =
     let made = simp to_z-of_z at c.new.ensures in
     let at = simp to_z-of_z at c.in-Ok.ensures.value in
     let offset : c.seconds.result ≡ offset_at zone (nanos_of_seconds c.args.seconds) =
-    c.seconds.ensures ∙ c.to_offset-offset.ensures ∙ ap (λ (z : TimeZone). offset_at z c.in-Ok.instant.nanosecond) c.time_zone.ensures
-    ∙ ap (λ (n : ℤ). offset_at zone n) at in
+    c.seconds.ensures ∙ c.to_offset-offset.ensures ∙ ap (λ (n : ℤ). offset_at zone n) at in
     let time = timed-at zone c.args.seconds c.seconds.result c.new.result made offset in
     let shown = c.clock_of-shown.ensures.shown ∙ ap (λ (t : Time). clock_of t) time in
     simp to_z-of_z (a-zone-clock zone c.args.seconds _ (sym test ∙ c.if-not-has_zone_clock.false) (known c.clock_of-shown.result c.known_offset.result _ shown c.known_offset.ensures.value))
