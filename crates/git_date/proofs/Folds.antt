@@ -14,12 +14,7 @@ use Rattle.git_date.specs.declared.fault.Fault.{Fault}
 use Rattle.git_date.specs.declared.fields.Fields.{Fields}
 use Rattle.git_date.specs.declared.reader.Reading.{Reading}
 use Rattle.git_date.proofs.TokenRuns.{texts_are}
-
-abbrev pub Go : Type 0 → Type 0
-Go S = S → List Token → Result S Fault
-
-abbrev pub Step : Type 0 → Type 0
-Step S = S → Token → List Token → Go S → Result S Fault
+use Rattle.git_date.proofs.Walked.{Go, Step, nothing-left}
 
 -- what stands in `rest`, read after this, gives what the whole text does; there are steps enough
 pub record Left {S : Type 0} (step : Step S) (whole : Result S Fault) (rest : List ℕ) (s : S) : Type 0 where
@@ -29,11 +24,6 @@ pub record Left {S : Type 0} (step : Step S) (whole : Result S Fault) (rest : Li
 
 pub left-all : {S : Type 0} (step : Step S) (text : List ℕ) (s : S) → Left step (walked step (length text) s (tokens text)) text s
 left-all step text s = record { count = length text; enough = omega arith; same = refl }
-
-nothing-left : {S : Type 0} (step : Step S) (n : ℕ) (s : S) → walked step n s [] ≡ Ok s
-unfolding walked
-nothing-left step zero s = refl
-nothing-left step (suc n) s = refl
 
 pub left-none : {S : Type 0} (step : Step S) (whole : Result S Fault) (rest : List ℕ) (s : S) → Left step whole rest s → tokens rest ≡ [] → Ok s ≡ whole
 left-none step whole rest s left e = sym (nothing-left step left.count s) ∙ ap (walked step left.count s) (sym e) ∙ left.same

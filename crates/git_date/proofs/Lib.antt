@@ -9,6 +9,7 @@ pub mod ModeRows
 pub mod ShownClocks
 pub mod ShownTexts
 pub mod Whites
+pub mod Walked
 pub mod Folds
 pub mod Respects
 pub mod RespectedDrafts

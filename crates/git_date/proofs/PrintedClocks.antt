@@ -26,7 +26,7 @@ use Rattle.git_date.specs.Dates.{year_said, year_date}
 use Rattle.git_date.specs.Groups.{ReadTokens, number_at, marked_number, group_of, clock_group, year_first_group, group_rule, large_in, without_fraction, after_group, is_group_mark}
 use Rattle.git_date.specs.Digits.{Stepped, four_digits as four_digit_rule, few_digits, bare_digits, by_rule, unless_large, grouped, group_or_bare, number_rule, digits_rule}
 use Rattle.git_date.specs.Offsets.{white, without_white, padded_number, offset_minutes, colon_minutes, two_digit_offset, offset_said, known_minutes, with_offset, offset_rule}
-use Rattle.git_date.specs.Reading.{read_on, and_then, ended, sign_rule, rule, steps}
+use Rattle.git_date.specs.Reading.{read_on, and_then, ended, sign_rule, rule, steps, step}
 use Rattle.git_date.specs.declared.dates.Now.{Now}
 use Rattle.git_date.specs.declared.dates.Dated.{Dated}
 use Rattle.git_date.specs.declared.dates.Dated.TheVariants as dated
@@ -34,6 +34,7 @@ use Rattle.git_date.specs.declared.fields.Fields.{Fields}
 use Rattle.git_date.specs.declared.groups.Group.{Group}
 use Rattle.git_date.specs.declared.groups.Number.{Number}
 use Rattle.git_date.specs.declared.reader.Reading.{Reading}
+use Rattle.git_date.proofs.Walked.{nothing-left}
 use Rattle.git_date.proofs.TokenRuns.{digit-first, mark-first}
 
 -- digits before other tokens
@@ -516,11 +517,6 @@ go now n f next t more rest e is =
     ap (λ (b : Bool). cond b (Ok (at f)) (and_then (rule now f t more) (λ found. steps now n (read_on (at f) (bytes_left (t ∷ more)) found.0) found.1))) e
     ∙ ap (λ (step : Stepped). and_then step (λ found. steps now n (read_on (at f) (bytes_left (t ∷ more)) found.0) found.1)) is
 
-done : (now : Now) (n : ℕ) (f : Fields) → steps now n (at f) [] ≡ Ok (at f)
-unfolding walked
-done now zero f = refl
-done now (suc n) f = refl
-
 sign-no-end : (behind : Bool) → is_end (Mark (cond behind minus plus)) ≡ false
 sign-no-end true = refl
 sign-no-end false = refl
@@ -562,14 +558,14 @@ pub go-offset : (now : Now) (n : ℕ) (f : Fields) (t : LocalTime) → IsGitCloc
 go-offset now n f t h =
     go now n f (record f { offset = Some (offset_in_minutes t) }) (Mark (sign_of t)) _ [] (sign-no-end (is_behind t))
     (sign-rule now f (is_behind t) _ [] (60 * hours_of t + minutes_of t) h.known (said-four (hours_of t) (minutes_of t) h.hours h.minutes))
-    ∙ done now n (record f { offset = Some (offset_in_minutes t) })
+    ∙ nothing-left (step now) n (at (record f { offset = Some (offset_in_minutes t) }))
 
 go-colon : (now : Now) (n : ℕ) (f : Fields) (t : LocalTime) → IsGitClock t
     → steps now (suc n) (at f) (colon_tokens t) ≡ Ok (at (record f { offset = Some (offset_in_minutes t) }))
 go-colon now n f t h =
     go now n f (record f { offset = Some (offset_in_minutes t) }) (Mark (sign_of t)) _ [] (sign-no-end (is_behind t))
     (sign-rule now f (is_behind t) _ (Mark colon ∷ Digits (two_digits (minutes_of t)) ∷ []) (60 * hours_of t + minutes_of t) h.known (said-colon (hours_of t) (minutes_of t) h.hours h.minutes))
-    ∙ done now n (record f { offset = Some (offset_in_minutes t) })
+    ∙ nothing-left (step now) n (at (record f { offset = Some (offset_in_minutes t) }))
 
 go-date : (mark : ℕ) (now : Now) (n : ℕ) (t : LocalTime) (more rest : List Token) → IsDateMark mark → IsGitClock t → without_ending more ≡ rest
     → steps now (suc n) (at unknown) (date_tokens mark t more) ≡ steps now n (at (dated_fields t)) rest

@@ -29,6 +29,7 @@ use Rattle.git_date.specs.declared.groups.Number.{Number}
 use Rattle.git_date.specs.declared.groups.Group.{Group}
 use Rattle.git_date.specs.declared.offsets.Padded.{Padded}
 use Rattle.git_date.specs.declared.reader.Reading.{Reading}
+use Rattle.git_date.proofs.Walked.{stopped}
 
 -- words that say the same in each rule
 pub record AreWords (a b : List ℕ) : Type 0 where
@@ -259,11 +260,11 @@ line-marked (Letters run ∷ more) = refl
 line-marked (Mark byte ∷ more) = refl
 line-marked (Digits run ∷ more) = refl
 
-or-left : (a b : Bool) → a ≡ true → (a || b) ≡ true
+pub or-left : (a b : Bool) → a ≡ true → (a || b) ≡ true
 or-left true b h = refl
 or-left false b h = absurd cc
 
-or-right : (a b : Bool) → b ≡ true → (a || b) ≡ true
+pub or-right : (a b : Bool) → b ≡ true → (a || b) ≡ true
 or-right true b h = refl
 or-right false b h = h
 
@@ -417,11 +418,6 @@ module _ {S : Type 0} (E : S → S → Type 0) (R : List Token → List Token �
     (next : (s r : S) (t u : Token) (more rest : List Token) (go : S → List Token → Result S Fault)
     → ((s r : S) (ts us : List Token) → E s r → R ts us → Comes E P (go s ts) (go r us)) → E s r → R (t ∷ more) (u ∷ rest) → Begin R P (t ∷ more) (u ∷ rest)
     → Comes E P (step s t more go) (step r u rest go)) where
-  stopped : (s : S) (ts : List Token) → walked step zero s ts ≡ Ok s
-  unfolding walked
-  stopped s [] = refl
-  stopped s (t ∷ more) = refl
-
   walked-on : (n : ℕ) (s r : S) (ts us : List Token) → ((s r : S) (ts us : List Token) → E s r → R ts us → Comes E P (walked step n s ts) (walked step n r us))
       → E s r → R ts us → Begin R P ts us → Comes E P (walked step (suc n) s ts) (walked step (suc n) r us)
   unfolding walked
@@ -432,7 +428,7 @@ module _ {S : Type 0} (E : S → S → Type 0) (R : List Token → List Token �
   walked-on n s r ts us all h q (SameMark byte more rest x p) = next s r (Mark byte) (Mark byte) more rest _ all h q (SameMark byte more rest x p)
 
   pub walk-respects : (n : ℕ) (s r : S) (ts us : List Token) → E s r → R ts us → Comes E P (walked step n s ts) (walked step n r us)
-  walk-respects zero s r ts us h q = rw (stopped s ts, stopped r us) (ComesTo s r h)
+  walk-respects zero s r ts us h q = rw (stopped step s ts, stopped step r us) (ComesTo s r h)
   walk-respects (suc n) s r ts us h q = walked-on n s r ts us (λ s r ts us h q. walk-respects n s r ts us h q) h q (begin ts us q)
 
 module _ (Q R : List Token → List Token → Type 0) (P : ℕ → ℕ → Type 0) (k : Respects Q R P) where

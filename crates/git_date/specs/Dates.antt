@@ -78,7 +78,7 @@ exact_seconds f = do
   start ← month_start year month
   Some (seconds_after start f.day hour minute second)
 
--- the seconds and the year in UTC of an instant in nanoseconds since 1970, which the rules use
+-- the seconds and the year in UTC of an instant, which the rules use
 abbrev pub now_at : ℤ → Now
 now_at nanos = record { seconds = whole_seconds nanos; year = utc_year (whole_seconds nanos) }
 

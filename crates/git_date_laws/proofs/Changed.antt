@@ -15,7 +15,7 @@ use Rattle.git_date.specs.Types.{Padded}
 use Rattle.git_date.specs.Types.{Reading}
 use Rattle.git_date.proofs.Kept.{white-left}
 use Rattle.git_date_laws.proofs.Spelling.{IsSpelling, words-agree}
-use Rattle.git_date.proofs.Respects.{Readings, Comes, ComesTo, FailsAt, Begin, NoMore, LineNext, SameWords, SameDigits, SameMark, Faults, TooLarge, TooFar, Year, NoInstant, Places, NoPlace, Place, SameReading, Paddeds, NoPadded, SamePadded, Whites, after_three, Respects, number-respects, steps-respects}
+use Rattle.git_date.proofs.Respects.{Readings, Comes, ComesTo, FailsAt, Begin, NoMore, LineNext, SameWords, SameDigits, SameMark, Faults, TooLarge, TooFar, Year, NoInstant, Places, NoPlace, Place, SameReading, Paddeds, NoPadded, SamePadded, Whites, after_three, Respects, number-respects, steps-respects, or-left, or-right}
 use Rattle.git_date.specs.Lines.{are_white, is_sign, awaits_minutes, awaits_offset, end_before_minutes}
 
 -- what follows the tokens: nothing, or a line feed and others
@@ -77,14 +77,6 @@ and-second false b e h = absurd cc
 and-both : (a b : Bool) → a ≡ true → b ≡ true → (a && b) ≡ true
 and-both true b e f = f
 and-both false b e f = absurd cc
-
-or-left : (a b : Bool) → a ≡ true → (a || b) ≡ true
-or-left true b h = refl
-or-left false b h = absurd cc
-
-or-right : (a b : Bool) → b ≡ true → (a || b) ≡ true
-or-right true b h = refl
-or-right false b h = h
 
 same-both : {A : Type 0} (b : Bool) (x : A) → cond b x x ≡ x
 same-both true x = refl
@@ -210,23 +202,17 @@ module _ (spell : List ℕ → List ℕ) (same : IsSpelling spell) where
     left-is (Mark byte ∷ more) = omega (arith, left-is more)
 
     -- white space, and a number after it
-    white-is : (ts : List Token) → HasMinutes stop ts → white (φ ts) ≡ white ts
-    unfolding white
-    white-is [] h = white-after stop h
-    white-is (Letters run ∷ more) h = refl
-    white-is (Digits run ∷ more) h = refl
-    white-is (Mark byte ∷ more) h =
-        by-true (λ (n : ℕ). n) (is_white (Mark byte)) (1 + white more) 0 (1 + white (φ more)) 0
-        (λ e. ap (λ n. 1 + n) (white-is more (white-next stop (Mark byte) more h e))) refl
-
-    rest-is : (ts : List Token) → HasMinutes stop ts → without_white (φ ts) ≡ φ (without_white ts)
-    unfolding without_white
-    rest-is [] h = rest-after stop h
-    rest-is (Letters run ∷ more) h = refl
-    rest-is (Digits run ∷ more) h = refl
-    rest-is (Mark byte ∷ more) h =
-        by-true φ (is_white (Mark byte)) (without_white more) (Mark byte ∷ more) (without_white (φ more)) (Mark byte ∷ φ more)
-        (λ e. rest-is more (white-next stop (Mark byte) more h e)) refl
+    whites-are : (ts : List Token) → HasMinutes stop ts → (white (φ ts) ≡ white ts) × (without_white (φ ts) ≡ φ (without_white ts))
+    unfolding white without_white
+    whites-are [] h = (white-after stop h, rest-after stop h)
+    whites-are (Letters run ∷ more) h = (refl, refl)
+    whites-are (Digits run ∷ more) h = (refl, refl)
+    whites-are (Mark byte ∷ more) h = (
+      by-true (λ (n : ℕ). n) (is_white (Mark byte)) (1 + white more) 0 (1 + white (φ more)) 0
+          (λ e. ap (λ n. 1 + n) (whites-are more (white-next stop (Mark byte) more h e)).0) refl,
+      by-true φ (is_white (Mark byte)) (without_white more) (Mark byte ∷ more) (without_white (φ more)) (Mark byte ∷ φ more)
+          (λ e. (whites-are more (white-next stop (Mark byte) more h e)).1) refl,
+    )
 
     -- the rules respect them
     abbrev pub Closed : List Token → List Token → Type 0
@@ -252,7 +238,7 @@ module _ (spell : List ℕ → List ℕ) (same : IsSpelling spell) where
     begin-closed ts us r = subst (Begin Closed Farther ts) (sym r.0) (begin-by Closed ts (closed-rest ts r.1))
 
     closed-whites : (more rest : List Token) → rest ≡ φ more → IsClosed stop more → HasMinutes stop more → Whites Closed more rest
-    closed-whites more rest e c h = (sym (ap white e ∙ white-is more h), (ap without_white e ∙ rest-is more h, white-left (IsClosed stop) (closed-next stop) more c))
+    closed-whites more rest e c h = (sym (ap white e ∙ (whites-are more h).0), (ap without_white e ∙ (whites-are more h).1, white-left (IsClosed stop) (closed-next stop) more c))
 
     respected : Respects Closed Closed Farther
     respected = record {
@@ -292,7 +278,7 @@ module _ (spell : List ℕ → List ℕ) (same : IsSpelling spell) where
         → (padded_number (φ ts) >>= (λ (found : Padded × List Token). wide_minutes behind found.0 found.1))
         ≡ (padded_number ts >>= (λ (found : Padded × List Token). wide_minutes behind found.0 found.1))
     wide-after-is behind ts h =
-        wide-is behind (padded_number ts) (padded_number (φ ts)) (number-respects Plain Farther begin-plain ts (φ ts) (sym (white-is ts h), rest-is ts h))
+        wide-is behind (padded_number ts) (padded_number (φ ts)) (number-respects Plain Farther begin-plain ts (φ ts) (sym (whites-are ts h).0, (whites-are ts h).1))
 
     by-sign-is : (sign : ℕ) (ts : List Token) → (is_sign sign ≡ true → HasMinutes stop ts) → by_sign sign (φ ts) ≡ by_sign sign ts
     by-sign-is sign ts h =

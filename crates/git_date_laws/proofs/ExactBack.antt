@@ -8,7 +8,8 @@ use Rattle.gix_date.proofs.Fields.Instants.{instant_holds, instant_from, z_holds
 use Rattle.gix_date.specs.Fields.Zoned.{is_instant}
 use Rattle.gix_date.specs.Text.Front.{◌>>=◌}
 use Rattle.gix_date.specs.declared.time.Time.{Time}
-use Rattle.git_date.specs.Approximate.{rule, steps, draft_of, answer, answer_of, guess_by, guess}
+use Rattle.git_date.proofs.Walked.{nothing-left}
+use Rattle.git_date.specs.Approximate.{rule, steps, draft_of, answer, answer_of, guess_by, guess, step}
 use Rattle.git_date.specs.ApproximateDrafts.{first_draft, clock_fields, all_fields, settle, units}
 use Rattle.git_date.specs.ApproximateRules.{letters_rule, digits_rule, back_rule, meaning_rule, number_waits, group_said, is_padded}
 use Rattle.git_date.specs.ApproximateWords.{moment_named, count_named, unit_named, meaning_of}
@@ -157,10 +158,6 @@ module _ (o now : ℤ) (back : ℕ) (are : AreClocks o now back) where
       ap (λ (t : Option Time). answer text (moved_draft told_shown) t) filled-told
       ∙ ap (λ (b : Bool). cond b (Ok (exactly_back now o back)) (Err Range)) (z_holds (pos 0) (now -ℤ pos back) are.since_1970)
 
-pub ends-so : (zone : Choices) (today : Today) (k : ℕ) (d : Draft) → steps zone today k d [] ≡ Ok d
-unfolding walked
-ends-so zone today k d = refl
-
 -- the tokens of such a text move the draft
 module _ (o now : ℤ) (this : Now) (digits : List ℕ) (gap : ℕ) (unit : List ℕ) (last size : ℕ) (are : AreClocks o now (number digits * size))
     (fits : number digits * size ≤ max_small) (small : number digits ≤ max_small) (some : 1 ≤ number digits) (padded : is_padded digits ≡ false)
@@ -186,7 +183,7 @@ module _ (o now : ℤ) (this : Now) (digits : List ℕ) (gap : ℕ) (unit : List
   drafted k =
       let zone : Choices = one_offset o in
       let ago : List Token = Letters (codes "ago") ∷ [] in
-      let fifth = go-on zone here k there there (Letters (codes "ago")) [] (Ok there) (rw (ago-nothing zone here.shown there) refl) (ends-so zone here k there) in
+      let fifth = go-on zone here k there there (Letters (codes "ago")) [] (Ok there) (rw (ago-nothing zone here.shown there) refl) (nothing-left (step zone here) k there) in
       let fourth = go-on zone here (suc k) there there (Mark last) ago (Ok there) refl fifth in
       let third = go-on zone here (suc (suc k)) waits there (Letters unit) (Mark last ∷ ago) (Ok there) (rw moved-word refl) fourth in
       let second = go-on zone here (suc (suc (suc k))) waits waits (Mark gap) (Letters unit ∷ Mark last ∷ ago) (Ok there) refl third in

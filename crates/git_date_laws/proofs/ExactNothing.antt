@@ -5,6 +5,7 @@ use Rattle.std.proofs.lemmas.Bool.Decides.{nat_tests}
 use Rattle.gix_date.specs.Text.Characters.{plus, minus, newline}
 use Rattle.gix_date.specs.Text.Front.{◌>>=◌}
 use Rattle.gix_date.specs.Text.Names.{is_name}
+use Rattle.git_date.proofs.Walked.{nothing-left}
 use Rattle.git_date.specs.ApproximateWords.{moment_named, meaning_of, month_or, meaning_or}
 use Rattle.git_date.specs.Dates.{exact_seconds, month_start, seconds_after}
 use Rattle.git_date.specs.Digits.{Stepped, min_epoch, is_epoch, bare_digits, six_digits, four_digits, few_digits, two_digit_year, or_month, year_or_month, clock_taken, number_rule, digits_rule}
@@ -14,7 +15,7 @@ use Rattle.git_date.specs.Names.{is_weekday, zone_named}
 use Rattle.gix_date.specs.Text.LongNames.{month_told, weekday_told}
 use Rattle.git_date.specs.Numbers.{number, is_too_large}
 use Rattle.git_date.specs.Offsets.{at_text}
-use Rattle.git_date.specs.Reading.{ended, sign_rule, nothing_read, read_on, and_then, steps, reading_of, fields_said, by_seconds, at_or_fields, said_by}
+use Rattle.git_date.specs.Reading.{ended, sign_rule, nothing_read, read_on, and_then, steps, reading_of, fields_said, by_seconds, at_or_fields, said_by, step}
 use Rattle.git_date.specs.Tokens.{Token, Letters, Digits, Mark, tokens, walked}
 use Rattle.git_date.specs.Words.{with_zone, morning, is_filler, with_word, letters_rule, half_or_filler, zone_or_half, without_ending}
 use Rattle.git_date.specs.Types.{Meaning}
@@ -221,13 +222,9 @@ ago-is : (f : Fields) → with_word f (codes "ago") ≡ Some f
 unfolding with_word month_told is_weekday weekday_told zone_named is_filler
 ago-is f = refl
 
-end-of : (now : Now) (m : ℕ) (s : Reading) → lacks s.fields ≡ true → Ends (steps now m s [])
-unfolding walked
-end-of now m s h = (s, refl, h)
-
 go-ago : (now : Now) (n : ℕ) (r : Reading) → lacks r.fields ≡ true → Ends (steps now (suc n) r ago_token)
 unfolding walked letters_rule
-go-ago now n r e = rw (ago-is r.fields) (end-of now n (record r { fields = r.fields }) e)
+go-ago now n r e = rw (ago-is r.fields) (record r { fields = r.fields }, nothing-left (step now) n (record r { fields = r.fields }), e)
 
 digits-then : (now : Now) (n left : ℕ) (s : Stepped) (gap : ℕ) (unit : List ℕ) (more : List Token) → Lacking s (followed gap unit more)
     → ((next : Reading) → lacks next.fields ≡ true → Ends (steps now n next (followed gap unit more)))

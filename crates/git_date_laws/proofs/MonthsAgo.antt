@@ -21,7 +21,8 @@ use Rattle.gix_date.specs.Printing.LocalClocks.{clock_of, local_day, second_of_d
 use Rattle.gix_date.specs.Relative.Steps.{civil_of, month_start, rolled_day, month_before}
 use Rattle.gix_date.specs.Text.Front.{◌>>=◌}
 use Rattle.gix_date.specs.declared.time.Time.{Time}
-use Rattle.git_date.specs.Approximate.{rule, steps, draft_of, answer, answer_of, guess_by, guess}
+use Rattle.git_date.proofs.Walked.{nothing-left}
+use Rattle.git_date.specs.Approximate.{rule, steps, draft_of, answer, answer_of, guess_by, guess, step}
 use Rattle.git_date.specs.ApproximateClocks.{is_shown_month, first_second, filled_seconds}
 use Rattle.git_date.specs.ApproximateDrafts.{first_draft, all_fields, settle, units, at_month, less_months}
 use Rattle.git_date.specs.ApproximateRules.{letters_rule, meaning_rule, months_rule, is_padded}
@@ -45,7 +46,7 @@ use Rattle.git_date.specs.Types.{Fault}
 use Rattle.git_date.specs.FaultCases.{BackTooFar}
 use Rattle.git_date.specs.Types.{Fields}
 use Rattle.git_date.proofs.ClocksBack.{shown_of, before-1900}
-use Rattle.git_date_laws.proofs.ExactBack.{followed, waiting_draft, moved_draft, go-on, digits-wait, ago-nothing, ends-so, shown-is, AreClocks, filled-moves, are-clocks, long-enough, few}
+use Rattle.git_date_laws.proofs.ExactBack.{followed, waiting_draft, moved_draft, go-on, digits-wait, ago-nothing, shown-is, AreClocks, filled-moves, are-clocks, long-enough, few}
 use Rattle.git_date_laws.proofs.ExactNothing.{nothing-said}
 use Rattle.git_date.proofs.HeldClocks.{shown-by}
 use Rattle.git_date.specs.ApproximateBack.{CountsMonths, IsReached}
@@ -162,7 +163,7 @@ module _ (o now : ℤ) (this : Now) (digits : List ℕ) (gap : ℕ) (unit : List
       → steps (one_offset o) here (suc (suc (suc (suc (suc k))))) (first_draft c) (Digits digits ∷ ts) ≡ Ok (record (moved_draft c) { fields = f })
   drafted k f e =
       let there : Draft = record (moved_draft c) { fields = f } in
-      let fifth = go-on (one_offset o) here k there there (Letters (codes "ago")) [] (Ok there) (rw (ago-nothing (one_offset o) c there) refl) (ends-so (one_offset o) here k there) in
+      let fifth = go-on (one_offset o) here k there there (Letters (codes "ago")) [] (Ok there) (rw (ago-nothing (one_offset o) c there) refl) (nothing-left (step (one_offset o) here) k there) in
       let fourth = go-on (one_offset o) here (suc k) there there (Mark last) ago (Ok there) refl fifth in
       begun k (Ok there) (go-on (one_offset o) here (suc (suc k)) waits there (Letters unit) (Mark last ∷ ago) (Ok there) (rw (word-some f e) refl) fourth)
 

@@ -5,11 +5,12 @@ use Rattle.jiff.specs.Types.{Offset}
 use Rattle.gix_date.proofs.Fields.Instants.{z_holds}
 use Rattle.gix_date.specs.Text.Characters.{space}
 use Rattle.gix_date.specs.declared.time.Time.{Time}
+use Rattle.git_date.proofs.Walked.{nothing-left}
 use Rattle.git_date.proofs.ClocksBack.{shown_of}
-use Rattle.git_date_laws.proofs.ExactBack.{Says, ago-nothing, go-on, ends-so, shown-is}
+use Rattle.git_date_laws.proofs.ExactBack.{Says, ago-nothing, go-on, shown-is}
 use Rattle.git_date_laws.proofs.ExactNothing.{nothing-said}
 use Rattle.git_date.proofs.TokenRuns.{texts_are}
-use Rattle.git_date.specs.Approximate.{answer, answer_of, draft_of, guess, guess_by, steps}
+use Rattle.git_date.specs.Approximate.{answer, answer_of, draft_of, guess, guess_by, steps, step}
 use Rattle.git_date.specs.ApproximateDrafts.{clock_fields, first_draft, settle}
 use Rattle.git_date.specs.ApproximateRules.{is_padded}
 use Rattle.git_date.specs.ApproximateWords.{meaning_of}
@@ -72,7 +73,7 @@ module _ (this : Now) (o : Offset) (k : ℕ) (at : Stands o.seconds this.seconds
       let left = bytes_left (Digits run ∷ tail_tokens word) in
       let moved = unit-moves o.seconds here.shown f now at (fills-now o.seconds now at) k late weekday (number run) size left word space ago means product fits in
       let waiting = waits f weekday (number run) left in
-      let fifth = go-on zone here n there_draft there_draft (Letters (codes "ago")) [] (Ok there_draft) (rw (ago-nothing zone here.shown there_draft) refl) (ends-so zone here n there_draft) in
+      let fifth = go-on zone here n there_draft there_draft (Letters (codes "ago")) [] (Ok there_draft) (rw (ago-nothing zone here.shown there_draft) refl) (nothing-left (step zone here) n there_draft) in
       let fourth = go-on zone here (suc n) there_draft there_draft (Mark space) ago (Ok there_draft) refl fifth in
       let third = go-on zone here (suc (suc n)) waiting there_draft (Letters word) (Mark space ∷ ago) (Ok there_draft) (rw moved refl) fourth in
       let second = go-on zone here (suc (suc (suc n))) waiting waiting (Mark space) (Letters word ∷ Mark space ∷ ago) (Ok there_draft) refl third in

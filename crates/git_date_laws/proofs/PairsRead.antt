@@ -4,10 +4,11 @@ use Rattle.std.specs.Prelude.{codes, decimal, ◌==◌}
 use Rattle.std.proofs.lemmas.Fmt.{decimal_nonempty, first_decimal, length-decimal-le}
 use Rattle.jiff.specs.Types.{Offset}
 use Rattle.gix_date.specs.Text.Characters.{space, comma}
+use Rattle.git_date.proofs.Walked.{nothing-left}
 use Rattle.git_date.proofs.ClocksBack.{shown_of}
-use Rattle.git_date_laws.proofs.ExactBack.{Says, ago-nothing, go-on, ends-so, shown-is}
+use Rattle.git_date_laws.proofs.ExactBack.{Says, ago-nothing, go-on, shown-is}
 use Rattle.git_date.proofs.TokenRuns.{texts_are}
-use Rattle.git_date.specs.Approximate.{answer_of, draft_of, guess, guess_by, steps}
+use Rattle.git_date.specs.Approximate.{answer_of, draft_of, guess, guess_by, steps, step}
 use Rattle.git_date.specs.ApproximateDrafts.{clock_fields, first_draft}
 use Rattle.git_date.specs.ApproximateZones.{Choices, one_offset}
 use Rattle.git_date.specs.Computing.{computing}
@@ -119,7 +120,7 @@ module _ (this : Now) (o : Offset) (n m : ℕ) (at : Stands o.seconds this.secon
       let other_moved =
       unit-moves o.seconds here.shown first_fields first there first-fills m later weekday (number (decimal m)) 1 other_left (month_word m) space ago
       ((months-unit (m == 1)).1) (omega (arith, months_is)) (omega arith) in
-      let tenth = go-on zone here k last_there last_there (Letters (codes "ago")) [] (Ok last_there) (rw (ago-nothing zone here.shown last_there) refl) (ends-so zone here k last_there) in
+      let tenth = go-on zone here k last_there last_there (Letters (codes "ago")) [] (Ok last_there) (rw (ago-nothing zone here.shown last_there) refl) (nothing-left (step zone here) k last_there) in
       let ninth = go-on zone here (suc k) last_there last_there (Mark space) ago (Ok last_there) refl tenth in
       let eighth = go-on zone here (suc (suc k)) other_waiting last_there (Letters (month_word m)) after_month (Ok last_there) (rw other_moved refl) ninth in
       let seventh = go-on zone here (suc (suc (suc k))) other_waiting other_waiting (Mark space) (Letters (month_word m) ∷ after_month) (Ok last_there) refl eighth in

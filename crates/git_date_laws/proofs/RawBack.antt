@@ -1,5 +1,5 @@
 -- What `raw` shows, after `@`.
-use Rattle.std.proofs.Common.{◌≡◌, ◌∙◌, ◌≤◌, ◌<◌, ◌+◌, ◌*◌, ◌/◌, ◌%◌, ◌^◌, ℕ, ℤ, pos, negsuc, neg_ℤ, ◌*ℤ◌, unsigned_abs, Bool, true, false, cond, List, [], ◌∷◌, ◌++◌, append_assoc, Option, Some, None, Result, Ok, Err, refl, sym, ap, subst, arith}
+use Rattle.std.proofs.Common.{◌≡◌, ◌∙◌, ◌≤◌, ◌<◌, ◌+◌, ◌/◌, ◌%◌, ◌^◌, ℕ, ℤ, pos, negsuc, ◌*ℤ◌, unsigned_abs, Bool, true, false, cond, List, [], ◌∷◌, ◌++◌, append_assoc, Option, Some, None, Result, Ok, Err, refl, sym, ap, subst, arith}
 use Rattle.std.specs.Char.{is_ascii_digit}
 use Rattle.std.specs.Fmt.{decimal}
 use Rattle.std.specs.Int.Signed.{lt_z}
@@ -22,9 +22,9 @@ use Rattle.git_date.proofs.FastSeconds.{sign_byte, minutes_of, raw_tokens, at-is
 use Rattle.git_date.proofs.TokenRuns.{digit-first, mark-first}
 use Rattle.git_date.specs.Modes.{own}
 use Rattle.git_date.specs.Numbers.{digit_more, number}
-use Rattle.git_date.specs.Offsets.{at_text, padded_number, white, without_white}
+use Rattle.git_date.specs.Offsets.{at_text}
 use Rattle.git_date.specs.Outcome.{DateOutcome, date_at}
-use Rattle.git_date.specs.Reading.{at_said, said_by, at_or_fields}
+use Rattle.git_date.specs.Reading.{said_by, at_or_fields}
 use Rattle.git_date.specs.Show.{raw_text, shown, shown_offset}
 use Rattle.git_date.specs.ShowClocks.{Moment, is_written_offset}
 use Rattle.git_date.specs.Tokens.{Token, Digits, Mark, digit_before, tokens}

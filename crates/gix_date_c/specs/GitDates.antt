@@ -1,12 +1,12 @@
 -- Git's dates, as they are read for C.
-use Rattle.std.specs.Prelude.{◌≡◌, ℕ, ◌^◌, ◌-◌, if◌then◌else◌, Bool, List, Option, unwrap_or, Result}
+use Rattle.std.specs.Prelude.{◌≡◌, ℕ, ◌^◌, ◌-◌, if◌then◌else◌, Bool, List, Option, unwrap_or, Result, ℤ}
 use Rattle.std.specs.Result.{result_map_both}
 use Rattle.std.specs.Str.{is_utf8}
+use Rattle.jiff.specs.Types.{TimeZone}
 use Rattle.jiff.specs.declared.zoned.Zoned.{Zoned}
-use Rattle.gix_date.specs.Relative.Steps.{zone_of}
 use Rattle.git_date.specs.Approximate.{ApproximateOutcome, HasApproximatePlacesIn}
 use Rattle.git_date.specs.ApproximateExpiry.{ExpiryOutcome, HasExpiryPlacesIn}
-use Rattle.git_date.specs.Dates.{now_of}
+use Rattle.git_date.specs.Dates.{now_at}
 use Rattle.git_date.specs.Outcome.{DateOutcome, HasPlacesIn}
 use Rattle.git_date.specs.Reading.{said_by}
 use Rattle.git_date.specs.declared.approximate.answer.Approximate.{Approximate}
@@ -15,6 +15,7 @@ use Rattle.git_date.specs.declared.approximate.expiry.Expiry.TheVariants.{Never,
 use Rattle.git_date.specs.declared.date.ReadDate.{ReadDate}
 use Rattle.git_date.specs.declared.error.DateError.{DateError}
 use Rattle.git_date.specs.declared.error.DateError.TheVariants as errors
+use Rattle.gix_date_c.specs.Moments.{Place}
 use Rattle.gix_date_c.specs.Reading.{IfText}
 use Rattle.gix_date_c.specs.Refusals.{refused, refused_at}
 use Rattle.gix_date_c.specs.Times.{time_for_c}
@@ -57,10 +58,10 @@ expiry_of old Never = record { kind = 0; before = old.before }
 expiry_of old All = record { kind = 1; before = old.before }
 expiry_of old (Before date) = record { kind = 2; before = approximate_of date }
 
--- what the exact reader comes to at a moment, as C has it: the library's outcome, of which each place is in the text
-abbrev pub IsExact : Zoned → List ℕ → Result CExact Refusal → Type 0
-IsExact now text answer =
-    IfText (is_utf8 text) (λ told. (date : Result ReadDate DateError) × DateOutcome (zone_of now) (said_by (now_of now) text) date
+-- what the exact reader comes to at an instant in a zone, as C has it: the library's outcome, of which each place is in the text
+abbrev pub IsExact : Place → List ℕ → Result CExact Refusal → Type 0
+IsExact place text answer =
+    IfText (is_utf8 text) (λ told. (date : Result ReadDate DateError) × DateOutcome place.1 (said_by (now_at place.0) text) date
     × HasPlacesIn text date × (told ≡ result_map_both exact_of date_refusal date)) answer
 
 -- the same of the approximate reader

@@ -1,18 +1,17 @@
 -- How Git shows dates, as C says it.
-use Rattle.std.specs.Prelude.{◌≡◌, ℕ, ◌==◌, if◌then◌else◌, Bool, true, false, List, [], ◌∷◌, slice_get, Option, Some, None, ok_or, Result, Ok, Err}
+use Rattle.std.specs.Prelude.{◌≡◌, ℕ, ◌==◌, if◌then◌else◌, Bool, true, false, List, [], ◌∷◌, slice_get, Option, Some, None, ok_or, Result, Ok, Err, ℤ}
 use Rattle.std.specs.Result.{result_map_both}
 use Rattle.jiff.specs.Types.{TimeZone}
-use Rattle.jiff.specs.declared.zoned.Zoned.{Zoned}
 use Rattle.gix_date.specs.Text.Front.{◌>>=◌}
 use Rattle.gix_date.specs.declared.time.Time.{Time}
 use Rattle.git_date.specs.Modes.{mode_named}
 use Rattle.git_date.specs.Show.{shown}
-use Rattle.git_date.specs.ShowClocks.{moment_of}
+use Rattle.git_date.specs.ShowClocks.{moment_at}
 use Rattle.git_date.specs.declared.mode.DateKind.{DateKind}
 use Rattle.git_date.specs.declared.mode.DateKind.TheVariants.{Relative, Iso8601Strict, Iso8601, Rfc2822, Short, Default, Human, Raw, Unix}
 use Rattle.git_date.specs.declared.mode.DateMode.{DateMode}
 use Rattle.gix_date_c.specs.GitDates.{bool_for_c}
-use Rattle.gix_date_c.specs.Moments.{IsNow}
+use Rattle.gix_date_c.specs.Moments.{IsPlaced, Place}
 use Rattle.gix_date_c.specs.Statuses.{if_text}
 use Rattle.gix_date_c.specs.declared.git.show.CMode.{CMode}
 use Rattle.gix_date_c.specs.declared.moment.CInstant.{CInstant}
@@ -55,17 +54,17 @@ mode_for_c mode = record { kind = kind_number mode.kind; local = bool_for_c mode
 abbrev pub mode_answer : List ℕ → Result CMode Status
 mode_answer name = if_text name (result_map_both mode_for_c (λ status. status) (ok_or (mode_named name) NoSuchOption))
 
--- what Git shows of a time at a moment, in a mode that may be none
-abbrev pub shown_answer : Time → Option DateMode → Zoned → Result (List ℕ) Status
-shown_answer t (Some mode) now = ok_or (shown (moment_of now) mode t) GitRange
-shown_answer t None now = Err NoSuchOption
+-- what Git shows of a time at an instant in a zone, in a mode that may be none
+abbrev pub shown_answer : Time → Option DateMode → Place → Result (List ℕ) Status
+shown_answer t (Some mode) place = ok_or (shown (moment_at place.0 place.1) mode t) GitRange
+shown_answer t None place = Err NoSuchOption
 
--- the same where there is a moment
-abbrev pub shown_at : Time → CMode → Result Zoned Status → Result (List ℕ) Status
-shown_at t mode (Ok now) = shown_answer t (mode_of mode) now
+-- the same where there are both
+abbrev pub shown_at : Time → CMode → Result Place Status → Result (List ℕ) Status
+shown_at t mode (Ok place) = shown_answer t (mode_of mode) place
 shown_at t mode (Err status) = Err status
 
 -- what Git shows of a time at an instant in a zone of which this is known
 abbrev pub IsShownIn : Time → CMode → (Result TimeZone Status → Type 0) → CInstant → Result (List ℕ) Status → Type 0
 IsShownIn t mode IsZone instant answer =
-    (now : Result Zoned Status) × IsNow IsZone instant now × (answer ≡ shown_at t mode now)
+    (place : Result Place Status) × IsPlaced IsZone instant place × (answer ≡ shown_at t mode place)

@@ -38,6 +38,28 @@ IsMomentIn instant (Err status) now = now ≡ Err status
 abbrev pub IsNow : (Result TimeZone Status → Type 0) → CInstant → Result Zoned Status → Type 0
 IsNow IsZone instant now = (zone : Result TimeZone Status) × IsZone zone × IsMomentIn instant zone now
 
+-- an instant in nanoseconds since 1970, and a zone
+abbrev pub Place : Type 0
+Place = ℤ × TimeZone
+
+-- the nanoseconds since 1970 of an instant, where `jiff` has it
+abbrev pub IsInstant : CInstant → Result ℤ Status → Type 0
+IsInstant instant nanos =
+    MatchResult nanos (λ n. n ≡ instant.seconds *ℤ pos 1_000_000_000 +ℤ instant.nanoseconds)
+    (λ status. (status ≡ statuses.InvalidInstant) × (IsTimestampParts instant.seconds instant.nanoseconds → ⊥))
+
+-- an instant and a zone where there are both, or why not: the zone is looked at first
+abbrev pub placed : Result ℤ Status → Result TimeZone Status → Result Place Status
+placed (Ok nanos) (Ok zone) = Ok (nanos, zone)
+placed (Err status) (Ok zone) = Err status
+placed nanos (Err status) = Err status
+
+-- an instant and a zone of which this is known, or why there are not both
+abbrev pub IsPlaced : (Result TimeZone Status → Type 0) → CInstant → Result Place Status → Type 0
+IsPlaced IsZone instant place =
+    (zone : Result TimeZone Status) × IsZone zone
+    × ((nanos : Result ℤ Status) × IsInstant instant nanos × (place ≡ placed nanos zone))
+
 -- the zone that always has this offset
 abbrev pub IsOffsetZone : ℤ → Result TimeZone Status → Type 0
 IsOffsetZone offset zone =

@@ -1,8 +1,8 @@
 -- What reading a text comes to, where it may be refused at a place.
-use Rattle.std.specs.Prelude.{◌≡◌, ℕ, List, Bool, true, false, Result, Ok, Err}
+use Rattle.std.specs.Prelude.{◌≡◌, ℕ, List, Bool, true, false, Result, Ok, Err, ℤ}
 use Rattle.jiff.specs.Types.{TimeZone}
 use Rattle.jiff.specs.declared.zoned.Zoned.{Zoned}
-use Rattle.gix_date_c.specs.Moments.{IsNow}
+use Rattle.gix_date_c.specs.Moments.{IsNow, IsPlaced, Place}
 use Rattle.gix_date_c.specs.Refusals.{refused}
 use Rattle.gix_date_c.specs.declared.moment.CInstant.{CInstant}
 use Rattle.gix_date_c.specs.declared.refusal.Refusal.{Refusal}
@@ -15,7 +15,7 @@ IfText true Reads answer = Reads answer
 IfText false Reads answer = answer ≡ Err (refused NotText)
 
 -- what a reader comes to at a moment, or where there is none for this reason
-abbrev pub IsReadAt : {T : Type 0} → (Zoned → List ℕ → Result T Refusal → Type 0) → Result Zoned Status → List ℕ
+abbrev pub IsReadAt : {M T : Type 0} → (M → List ℕ → Result T Refusal → Type 0) → Result M Status → List ℕ
     → Result T Refusal → Type 0
 IsReadAt Reads (Ok now) text answer = Reads now text answer
 IsReadAt Reads (Err status) text answer = answer ≡ Err (refused status)
@@ -25,3 +25,9 @@ abbrev pub IsReadIn : {T : Type 0} → (Zoned → List ℕ → Result T Refusal 
     → CInstant → List ℕ → Result T Refusal → Type 0
 IsReadIn Reads IsZone instant text answer =
     (now : Result Zoned Status) × IsNow IsZone instant now × IsReadAt Reads now text answer
+
+-- the same of a reader that takes the instant and the zone apart
+abbrev pub IsReadPlaced : {T : Type 0} → (Place → List ℕ → Result T Refusal → Type 0) → (Result TimeZone Status → Type 0)
+    → CInstant → List ℕ → Result T Refusal → Type 0
+IsReadPlaced Reads IsZone instant text answer =
+    (place : Result Place Status) × IsPlaced IsZone instant place × IsReadAt Reads place text answer

@@ -2,7 +2,7 @@
 ghost use Rattle.std.specs.Prelude.{◌≡◌};
 ghost use Rattle.std.specs.Result.{result_map_both};
 ghost use Rattle.jiff.specs.Words.{plain_zone};
-ghost use Rattle.gix_date_c.specs.Moments.{IsMomentIn, IsMomentOf, IsNow, IsOffsetZone, IsRuleZone, IsTable, IsTableZone, file_status};
+ghost use Rattle.gix_date_c.specs.Moments.{IsInstant, IsMomentIn, IsMomentOf, IsNow, IsOffsetZone, IsRuleZone, IsTable, IsTableZone, file_status};
 
 use crate::status::Status;
 use crate::text::utf8_text;
@@ -60,13 +60,23 @@ fn moment_in<'z>(
 fn moment<'z>(instant: &CInstant, zone: TimeZone<'z>) -> Result<Zoned<'z>, Status>
     ensures { IsMomentOf instant.now (plain_zone zone.entry) result }
 {
+    Ok(timestamp_of(instant)?.to_zoned(zone))
+}
+
+/// An instant, where `jiff` has it.
+#[inline(always)]
+pub(crate) fn timestamp_of(instant: &CInstant) -> Result<Timestamp, Status>
+    ensures { IsInstant instant.now (result_map_both (λ now. now.nanosecond) (λ status. status) result) }
+{
     match Timestamp::new(instant.seconds, instant.nanoseconds) {
-        Ok(instant) => Ok(instant.to_zoned(zone)),
+        Ok(now) => Ok(now),
         Err(_) => Err(Status::InvalidInstant),
     }
 }
 
-fn offset_zone(offset: i32) -> Result<TimeZone<'static>, Status>
+/// The zone that always has an offset.
+#[inline(always)]
+pub(crate) fn offset_zone(offset: i32) -> Result<TimeZone<'static>, Status>
     ensures { IsOffsetZone offset (result_map_both plain_zone (λ status. status) result) }
 {
     match Offset::from_seconds(offset) {
@@ -75,7 +85,8 @@ fn offset_zone(offset: i32) -> Result<TimeZone<'static>, Status>
     }
 }
 
-fn rule_zone(rule: &[u8]) -> Result<TimeZone<'static>, Status>
+/// The zone of a POSIX rule.
+pub(crate) fn rule_zone(rule: &[u8]) -> Result<TimeZone<'static>, Status>
     ensures { IsRuleZone rule.now (result_map_both plain_zone (λ status. status) result) }
 {
     match TimeZone::posix(utf8_text(rule)?) {
@@ -95,7 +106,7 @@ pub(crate) fn table_of(alloc: Global, file: &[u8]) -> Result<Tzif, Status>
 }
 
 /// The zone of a table, where there is the table.
-fn table_zone<'a>(table: &'a Result<Tzif, Status>) -> Result<TimeZone<'a>, Status>
+pub(crate) fn table_zone<'a>(table: &'a Result<Tzif, Status>) -> Result<TimeZone<'a>, Status>
     ensures { IsTableZone table.now (result_map_both plain_zone (λ status. status) result) }
 {
     match table {

@@ -1,8 +1,11 @@
 //! Dates as Git reads them: what the rows cannot say.
 use crate::approximate_caller::{human, reference_time, since};
 use crate::git_date_caller::{date_and_ignored, mail_time};
-use git_date::{DateError, ReadDate, parse_date};
+use crate::instant_caller::{committed, logged};
+use git_date::{DateError, DateKind, DateMode, ReadDate, parse_date};
 use gix_date::Time;
+use jiff::Timestamp;
+use jiff::tz::Offset;
 use std::test::Fail;
 
 /// Whether two values are the same, by a full equality.
@@ -122,5 +125,27 @@ fn dates_of_people_are_read_and_shown_as_git_does(rt: HostRuntime) -> Result<(),
     let shown = human(Time::new(1_251_300_000, 7200), now)?;
     assert_eq!(rt; shown.as_str(), "Wed 17:20 +0200");
     assert_eq!(rt; human(Time::new(-1, 0), now).err(), Some(DateError::Range));
+    Ok(())
+}
+
+#[test]
+fn an_instant_and_a_zone_do_as_a_moment(rt: HostRuntime) -> Result<(), Fail> {
+    let now = Timestamp::from_second(1_251_660_000)?;
+    let zone = Offset::from_seconds(-16_200)?.to_time_zone();
+    let local = committed("2005-04-07 22:13:13", now, zone)?;
+    assert_eq!(rt; local, Time::new(1_112_928_193, -16_200));
+    let told = committed("2005-04-07 22:13:13 +0200", now, zone)?;
+    assert_eq!(rt; told, Time::new(1_112_904_793, 7200));
+    assert_eq!(rt;
+        committed("2005-04-07", now, zone),
+        Err(DateError::Unreadable)
+    );
+    let mode = DateMode {
+        kind: DateKind::Iso8601,
+        local: true,
+    };
+    let shown = logged(told, mode, now, zone).ok_or("a time")?;
+    assert_eq!(rt; shown.as_str(), "2005-04-07 15:43:13 -0430");
+    assert!(rt; logged(Time::new(-1, 0), mode, now, zone).is_none());
     Ok(())
 }

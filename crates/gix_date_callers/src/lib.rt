@@ -10,6 +10,7 @@ pub mod git_date_caller;
 mod git_dates;
 #[cfg(test)]
 mod headers;
+pub mod instant_caller;
 #[cfg(test)]
 mod machine;
 pub mod more_callers;

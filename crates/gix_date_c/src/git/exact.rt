@@ -1,19 +1,22 @@
 //! Dates as Git reads them exactly.
 ghost use Rattle.std.specs.Prelude.{◌≡◌};
+ghost use Rattle.std.specs.Result.{result_map_both};
+ghost use Rattle.jiff.specs.Words.{plain_zone};
 ghost use Rattle.gix_date_c.specs.GitDates.{IsExact, exact_of};
-ghost use Rattle.gix_date_c.specs.Reading.{IsReadAt, IsReadIn};
-ghost use Rattle.gix_date_c.specs.Moments.{IsFileZone, IsOffsetZone, IsRuleZone};
+ghost use Rattle.gix_date_c.specs.Reading.{IsReadAt, IsReadPlaced};
+ghost use Rattle.gix_date_c.specs.Moments.{IsFileZone, IsOffsetZone, IsRuleZone, placed};
 ghost use Rattle.gix_date_c.specs.Stores.{StoresRead};
 
 use crate::git::{date_refusal, ignored_place};
-use crate::moment::{CInstant, moment_at_offset, moment_by_rule, moment_by_table, table_of};
+use crate::moment::{CInstant, offset_zone, rule_zone, table_of, table_zone, timestamp_of};
 use crate::refusal::Refusal;
 use crate::status::Status;
 use crate::store::store_read;
 use crate::text::utf8_text;
 use crate::time::{CTime, time_for_c};
-use git_date::{ReadDate, parse_date};
-use gix_date::Zoned;
+use git_date::{ReadDate, parse_date_at};
+use jiff::Timestamp;
+use jiff::tz::TimeZone;
 use std::alloc::Global;
 
 /// A date that is read exactly: `struct git_date_exact`.
@@ -33,10 +36,14 @@ pub extern "C" fn git_date_parse_at_offset(
     date: &mut CExact,
     place: &mut usize,
 ) -> u32
-    ensures { StoresRead (IsReadIn IsExact (IsOffsetZone offset) now.now text.now)
+    ensures { StoresRead (IsReadPlaced IsExact (IsOffsetZone offset) now.now text.now)
         (date.old, place.old) (date.new, place.new) result }
 {
-    store_read(read(text, moment_at_offset(now, offset)), date, place)
+    store_read(
+        read(text, timestamp_of(now), offset_zone(offset)),
+        date,
+        place,
+    )
 }
 
 /// Reads a date as Git does, at a moment in the zone of a POSIX rule.
@@ -48,10 +55,10 @@ pub extern "C" fn git_date_parse_in_posix_zone(
     date: &mut CExact,
     place: &mut usize,
 ) -> u32
-    ensures { StoresRead (IsReadIn IsExact (IsRuleZone rule.now) now.now text.now)
+    ensures { StoresRead (IsReadPlaced IsExact (IsRuleZone rule.now) now.now text.now)
         (date.old, place.old) (date.new, place.new) result }
 {
-    store_read(read(text, moment_by_rule(now, rule)), date, place)
+    store_read(read(text, timestamp_of(now), rule_zone(rule)), date, place)
 }
 
 /// Reads a date as Git does, at a moment in the zone of a TZif file.
@@ -64,20 +71,26 @@ pub extern "C" fn git_date_parse_in_tzif_zone(
     date: &mut CExact,
     place: &mut usize,
 ) -> u32
-    ensures { StoresRead (IsReadIn IsExact (IsFileZone file.now) now.now text.now)
+    ensures { StoresRead (IsReadPlaced IsExact (IsFileZone file.now) now.now text.now)
         (date.old, place.old) (date.new, place.new) result }
 {
     let table = table_of(alloc, file);
-    let answer = read(text, moment_by_table(now, &table));
+    let answer = read(text, timestamp_of(now), table_zone(&table));
     store_read(answer, date, place)
 }
 
-/// What a text says at a moment, where there is one.
-fn read(text: &[u8], now: Result<Zoned<'_>, Status>) -> Result<CExact, Refusal>
-    ensures { IsReadAt IsExact now.entry text.now result }
+/// What a text says at an instant in a zone, where there are both.
+fn read(
+    text: &[u8],
+    now: Result<Timestamp, Status>,
+    zone: Result<TimeZone<'_>, Status>,
+) -> Result<CExact, Refusal>
+    ensures { IsReadAt IsExact (placed (result_map_both (λ now. now.nanosecond) (λ status. status) now)
+        (result_map_both plain_zone (λ status. status) zone.entry)) text.now result }
 {
+    let zone = zone.map_err(Refusal::of)?;
     let now = now.map_err(Refusal::of)?;
-    match parse_date(utf8_text(text).map_err(Refusal::of)?, now) {
+    match parse_date_at(utf8_text(text).map_err(Refusal::of)?, now, zone) {
         Ok(date) => Ok(exact_of(date)),
         Err(error) => Err(date_refusal(error)),
     }

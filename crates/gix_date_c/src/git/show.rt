@@ -1,20 +1,23 @@
 //! Dates as Git shows them.
 ghost use Rattle.std.specs.Prelude.{◌≡◌};
 ghost use Rattle.std.specs.Result.{result_map_both};
+ghost use Rattle.jiff.specs.Words.{plain_zone};
 ghost use Rattle.gix_date_c.specs.Buffers.{Outcome, Puts, outcome_of};
 ghost use Rattle.gix_date_c.specs.GitModes.{IsShownIn, kind_number, kind_of, local_of, mode_answer, mode_for_c, mode_of, shown_at};
-ghost use Rattle.gix_date_c.specs.Moments.{IsFileZone, IsOffsetZone, IsRuleZone};
+ghost use Rattle.gix_date_c.specs.Moments.{IsFileZone, IsOffsetZone, IsRuleZone, placed};
 ghost use Rattle.gix_date_c.specs.Stores.{Stores};
 ghost use Rattle.gix_date_c.specs.Times.{load_time};
 
 use crate::buffer::store_text;
-use crate::moment::{CInstant, moment_at_offset, moment_by_rule, moment_by_table, table_of};
+use crate::moment::{CInstant, offset_zone, rule_zone, table_of, table_zone, timestamp_of};
 use crate::status::Status;
 use crate::store::store;
 use crate::text::utf8_text;
 use crate::time::{CTime, load_time};
-use git_date::{DateKind, DateMode, DateText, show_date};
-use gix_date::{Time, Zoned};
+use git_date::{DateKind, DateMode, DateText, show_date_at};
+use gix_date::Time;
+use jiff::Timestamp;
+use jiff::tz::TimeZone;
 use std::alloc::Global;
 
 /// How a date is shown: `struct git_date_mode`. Its last field is a `bool` of C.
@@ -49,7 +52,8 @@ pub extern "C" fn git_date_show_at_offset(
     store_shown(
         load_time(time),
         mode,
-        moment_at_offset(now, offset),
+        timestamp_of(now),
+        offset_zone(offset),
         out,
         len,
     )
@@ -68,7 +72,14 @@ pub extern "C" fn git_date_show_in_posix_zone(
     ensures { Puts (IsShownIn (load_time time.now) mode.now (IsRuleZone rule.now) now.now)
         out.old (record { bytes = out.new; len = len.new; status = result }) }
 {
-    store_shown(load_time(time), mode, moment_by_rule(now, rule), out, len)
+    store_shown(
+        load_time(time),
+        mode,
+        timestamp_of(now),
+        rule_zone(rule),
+        out,
+        len,
+    )
 }
 
 /// Puts a date into a buffer as Git shows it, at a moment in the zone of a TZif file.
@@ -89,36 +100,47 @@ pub extern "C" fn git_date_show_in_tzif_zone(
     store_shown(
         load_time(time),
         mode,
-        moment_by_table(now, &table),
+        timestamp_of(now),
+        table_zone(&table),
         out,
         len,
     )
 }
 
-/// Puts a date into a buffer as Git shows it at a moment, where there is one.
+/// Puts a date into a buffer as Git shows it at an instant in a zone, where there are both.
 fn store_shown(
     time: Time,
     mode: &CMode,
-    now: Result<Zoned<'_>, Status>,
+    now: Result<Timestamp, Status>,
+    zone: Result<TimeZone<'_>, Status>,
     out: &mut [u8],
     len: &mut usize,
 ) -> u32
     ensures { record { bytes = out.new; len = len.new; status = result }
-        ≡ outcome_of (shown_at time mode.now now.entry) out.old }
+        ≡ outcome_of (shown_at time mode.now (placed (result_map_both (λ now. now.nanosecond) (λ status. status) now)
+        (result_map_both plain_zone (λ status. status) zone.entry))) out.old }
 {
-    match shown_at(time, mode, now) {
+    match shown_at(time, mode, now, zone) {
         Ok(text) => store_text(Ok(text.as_str()), out, len),
         Err(status) => store_text(Err(status), out, len),
     }
 }
 
-/// What Git shows of a time at a moment, where there is one.
-fn shown_at(time: Time, mode: &CMode, now: Result<Zoned<'_>, Status>) -> Result<DateText, Status>
-    ensures { result_map_both (λ text. text.bytes) (λ status. status) result ≡ shown_at time mode.now now.entry }
+/// What Git shows of a time at an instant in a zone, where there are both.
+fn shown_at(
+    time: Time,
+    mode: &CMode,
+    now: Result<Timestamp, Status>,
+    zone: Result<TimeZone<'_>, Status>,
+) -> Result<DateText, Status>
+    ensures { result_map_both (λ text. text.bytes) (λ status. status) result
+        ≡ shown_at time mode.now (placed (result_map_both (λ now. now.nanosecond) (λ status. status) now)
+        (result_map_both plain_zone (λ status. status) zone.entry)) }
 {
+    let zone = zone?;
     let now = now?;
     let mode = mode_of(mode).ok_or(Status::NoSuchOption)?;
-    match show_date(time, mode, now) {
+    match show_date_at(time, mode, now, zone) {
         Ok(text) => Ok(text),
         Err(_) => Err(Status::GitRange),
     }
