@@ -1,5 +1,5 @@
 -- Dates as Git shows them.
-use Rattle.std.specs.Prelude.{ℕ, List, Bool, ℤ, pos, if◌then◌else◌, Option, Some, None, option_map}
+use Rattle.std.specs.Prelude.{ℕ, List, Bool, true, false, ℤ, pos, if◌then◌else◌, Option, Some, None, option_map}
 use Rattle.std.specs.Int.Signed.{lt_z}
 use Rattle.gix_date.specs.Text.Front.{◌>>=◌}
 use Rattle.gix_date.specs.Fields.Layout.{LocalTime}
@@ -37,6 +37,12 @@ abbrev pub human_shown : Moment → Bool → Time → Option (List ℕ)
 human_shown now local t =
     shown_clock now local t >>= λ clock. zone_clock now.zone now.seconds >>= λ today.
     Some (human_text local clock today (relative_text now.seconds t.seconds))
+
+-- the kinds that show a time as Git stores it
+abbrev pub is_stored : DateKind → Bool
+is_stored Raw = true
+is_stored Unix = true
+is_stored _ = false
 
 -- what each kind shows of a time from 1970 on
 abbrev pub shown_by : DateKind → Moment → Bool → Time → Option (List ℕ)

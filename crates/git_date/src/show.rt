@@ -2,7 +2,7 @@
 ghost use Rattle.std.specs.Prelude.{◌≡◌, ◌<◌, ◌≤ℤ◌, pos, MatchResult, IfSome, option_map, unsigned_abs, false};
 ghost use Rattle.std.specs.Int.Signed.{lt_z};
 ghost use Rattle.jiff.specs.Words.{plain_zone};
-ghost use Rattle.git_date.specs.Show.{shown, shown_by, shown_clock, shown_offset, relative_shown, human_shown};
+ghost use Rattle.git_date.specs.Show.{is_stored, shown, shown_by, shown_clock, shown_offset, relative_shown, human_shown};
 ghost use Rattle.git_date.specs.ShowClocks.{moment_at, moment_of};
 ghost use Rattle.git_date.specs.Clocks.{local_of, HasFields};
 ghost use Rattle.git_date.specs.declared.error.DateError.TheVariants.{Range};
@@ -144,16 +144,31 @@ fn shown_by(time: Time, mode: DateMode, now: Timestamp, zone: TimeZone<'_>) -> O
     ensures { option_map (λ text. text.bytes) result
         ≡ shown_by mode.kind (moment_at now.nanosecond (plain_zone zone.entry)) mode.local time }
 {
+    match mode.kind {
+        DateKind::Unix => Some(unix_text(time.seconds)),
+        DateKind::Raw => Some(raw_text(time.seconds, shown_offset(time, mode.local, now, zone)?)),
+        _ => shown_apart(time, mode, now, zone),
+    }
+}
+
+/// What the kinds show that do not show a time as it is stored. They need more room, which costs the others a third.
+#[inline(never)]
+fn shown_apart(time: Time, mode: DateMode, now: Timestamp, zone: TimeZone<'_>) -> Option<DateText>
+    requires kind { is_stored mode.kind ≡ false }
+    requires seconds { lt_z time.seconds (pos 0) ≡ false }
+    ensures { option_map (λ text. text.bytes) result
+        ≡ shown_by mode.kind (moment_at now.nanosecond (plain_zone zone.entry)) mode.local time }
+{
+    let local = mode.local;
     let text = match mode.kind {
         DateKind::Relative => relative_shown(now.as_second(), time.seconds)?,
-        DateKind::Unix => unix_text(time.seconds),
-        DateKind::Raw => raw_text(time.seconds, shown_offset(time, mode.local, now, zone)?),
-        DateKind::Human => human_shown(time, mode.local, now, zone)?,
-        DateKind::Default => default_text(mode.local, shown_clock(time, mode.local, now, zone)?),
-        DateKind::Short => short_text(shown_clock(time, mode.local, now, zone)?),
-        DateKind::Iso8601 => iso8601_text(shown_clock(time, mode.local, now, zone)?),
-        DateKind::Iso8601Strict => iso8601_strict_text(shown_clock(time, mode.local, now, zone)?),
-        DateKind::Rfc2822 => rfc2822_text(shown_clock(time, mode.local, now, zone)?),
+        DateKind::Human => human_shown(time, local, now, zone)?,
+        DateKind::Default => default_text(local, shown_clock(time, local, now, zone)?),
+        DateKind::Short => short_text(shown_clock(time, local, now, zone)?),
+        DateKind::Iso8601 => iso8601_text(shown_clock(time, local, now, zone)?),
+        DateKind::Iso8601Strict => iso8601_strict_text(shown_clock(time, local, now, zone)?),
+        DateKind::Rfc2822 => rfc2822_text(shown_clock(time, local, now, zone)?),
+        DateKind::Unix | DateKind::Raw => unreachable!(),
     };
     Some(text)
 }
