@@ -34,12 +34,13 @@ use Rattle.git_date.proofs.PrintedReads.{reads-are}
 use Rattle.git_date.proofs.TokenRuns.{digit-first, mark-first}
 
 -- digits before a mark are one token
-pub run-before : (c : ℕ) (run rest : List ℕ) (byte : ℕ) (more : List Token) → list_all is_ascii_digit (c ∷ run) ≡ true → tokens rest ≡ Mark byte ∷ more
-    → tokens ((c ∷ run) ++ rest) ≡ Digits (c ∷ run) ∷ Mark byte ∷ more
-run-before c [] rest byte more h e = digit-first c rest (and_parts (is_ascii_digit c) true h).0 ∙ ap (digit_before c) e
-run-before c (d ∷ run) rest byte more h e =
+pub run-before : (run rest : List ℕ) (byte : ℕ) (more : List Token) → 1 ≤ length run → list_all is_ascii_digit run ≡ true → tokens rest ≡ Mark byte ∷ more
+    → tokens (run ++ rest) ≡ Digits run ∷ Mark byte ∷ more
+run-before [] rest byte more some h e = absurd (omega (arith, some))
+run-before (c ∷ []) rest byte more some h e = digit-first c rest (and_parts (is_ascii_digit c) true h).0 ∙ ap (digit_before c) e
+run-before (c ∷ d ∷ run) rest byte more some h e =
     let both = and_parts (is_ascii_digit c) (list_all is_ascii_digit (d ∷ run)) h in
-    digit-first c ((d ∷ run) ++ rest) both.0 ∙ ap (digit_before c) (run-before d run rest byte more both.1 e)
+    digit-first c ((d ∷ run) ++ rest) both.0 ∙ ap (digit_before c) (run-before (d ∷ run) rest byte more (omega arith) both.1 e)
 
 -- two digits more
 pair-read : (v n tens ones : ℕ) (rest : List ℕ) → n ≤ 99 → two_digits n ≡ tens ∷ ones ∷ [] → fold digit_more v (tens ∷ ones ∷ rest) ≡ fold digit_more (100 * v + n) rest
@@ -163,7 +164,7 @@ module _ (seconds offset_is : List ℕ) (n : ℕ) (offset : ℤ) (s : WritesSeco
   run-are : (run : List ℕ) → list_all is_ascii_digit run ≡ true → 1 ≤ number run → tokens (run ++ (space ∷ offset_is)) ≡ Digits run ∷ Mark space ∷ offset_tokens l
   unfolding number
   run-are [] digits h = absurd (omega (arith, h))
-  run-are (c ∷ run) digits h = run-before c run (space ∷ offset_is) space (offset_tokens l) digits spaced
+  run-are (c ∷ run) digits h = run-before (c ∷ run) (space ∷ offset_is) space (offset_tokens l) (omega arith) digits spaced
 
   tokens-are : tokens (seconds ++ (space ∷ offset_is)) ≡ Digits seconds ∷ Mark space ∷ offset_tokens l
   tokens-are = let first = s.first in let is = s.is in run-are seconds s.digits (omega (arith, first, is))

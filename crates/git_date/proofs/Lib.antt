@@ -20,6 +20,7 @@ pub mod PrintedReads
 pub mod ClocksBack
 pub mod FastTexts
 pub mod FastSeconds
+pub mod NoSeconds
 pub mod FewDigits
 pub mod Places
 mod RowMoment

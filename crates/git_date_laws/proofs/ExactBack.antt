@@ -83,6 +83,19 @@ pub ago-nothing : (zone : Choices) (c : ShownClock) (d : Draft) → letters_rule
 unfolding letters_rule meaning_of month_told moment_named count_named weekday_told unit_named is_filler
 ago-nothing zone c d = refl
 
+-- a count that waits, the unit that moves it, and `ago`
+pub unit-walk : (zone : Choices) (today : Today) (n : ℕ) (d waits there : Draft) (digits : List ℕ) (gap : ℕ) (unit : List ℕ) (last : ℕ)
+    → rule zone today d (Digits digits) (followed gap unit last) ≡ Ok (waits, followed gap unit last)
+    → letters_rule zone today.shown waits unit (Mark last ∷ Letters (codes "ago") ∷ []) ≡ Ok there
+    → steps zone today (suc (suc (suc (suc (suc n))))) d (Digits digits ∷ followed gap unit last) ≡ Ok there
+unit-walk zone today n d waits there digits gap unit last wait moves =
+    let ago : List Token = Letters (codes "ago") ∷ [] in
+    let fifth = go-on zone today n there there (Letters (codes "ago")) [] (Ok there) (rw (ago-nothing zone today.shown there) refl) (nothing-left (step zone today) n there) in
+    let fourth = go-on zone today (suc n) there there (Mark last) ago (Ok there) refl fifth in
+    let third = go-on zone today (suc (suc n)) waits there (Letters unit) (Mark last ∷ ago) (Ok there) (rw moves refl) fourth in
+    let second = go-on zone today (suc (suc (suc n))) waits waits (Mark gap) (Letters unit ∷ Mark last ∷ ago) (Ok there) refl third in
+    go-on zone today (suc (suc (suc (suc n)))) d waits (Digits digits) (followed gap unit last) (Ok there) wait second
+
 -- what a zone of one offset chooses
 abbrev picked : ℤ → ℤ → Time
 picked s o = record { seconds = s -ℤ o; offset = o }
@@ -181,14 +194,7 @@ module _ (o now : ℤ) (this : Now) (digits : List ℕ) (gap : ℕ) (unit : List
 
   drafted : (k : ℕ) → steps (one_offset o) here (suc (suc (suc (suc (suc k))))) (first_draft here.shown) (Digits digits ∷ ts) ≡ Ok there
   drafted k =
-      let zone : Choices = one_offset o in
-      let ago : List Token = Letters (codes "ago") ∷ [] in
-      let fifth = go-on zone here k there there (Letters (codes "ago")) [] (Ok there) (rw (ago-nothing zone here.shown there) refl) (nothing-left (step zone here) k there) in
-      let fourth = go-on zone here (suc k) there there (Mark last) ago (Ok there) refl fifth in
-      let third = go-on zone here (suc (suc k)) waits there (Letters unit) (Mark last ∷ ago) (Ok there) (rw moved-word refl) fourth in
-      let second = go-on zone here (suc (suc (suc k))) waits waits (Mark gap) (Letters unit ∷ Mark last ∷ ago) (Ok there) refl third in
-      go-on zone here (suc (suc (suc (suc k)))) (first_draft here.shown) waits (Digits digits) ts (Ok there)
-      (digits-wait zone here digits gap unit last small some padded) second
+      unit-walk (one_offset o) here k (first_draft here.shown) waits there digits gap unit last (digits-wait (one_offset o) here digits gap unit last small some padded) moved-word
 
   guessed : (text : List ℕ) (k : ℕ) → this.seconds ≡ now → tokens text ≡ Digits digits ∷ ts → length text ≡ suc (suc (suc (suc (suc k))))
       → guess (one_offset o) this text ≡ Ok (exactly_back now o (number digits * size))
@@ -227,7 +233,7 @@ by-digits this text o count size instant says reached some few_digits =
     let k = length text - 5 in
     let long : length text ≡ suc (suc (suc (suc (suc k)))) = omega (arith, least) in
     let are = are-clocks o this.seconds (number says.digits * size) instant reached in (
-      nothing-said this says.digits says.gap says.unit says.last (Seconds size) says.no_date few_digits says.means text k says.is long,
+      nothing-said this text says.digits says.gap says.unit says.last says.no_date few_digits says.is,
       guessed o.seconds this.seconds this says.digits says.gap says.unit says.last size are reached.fits (few (number says.digits) few_digits) some says.not_padded says.means text k refl says.is long,
     )
 

@@ -21,8 +21,7 @@ use Rattle.gix_date.specs.Printing.LocalClocks.{clock_of, local_day, second_of_d
 use Rattle.gix_date.specs.Relative.Steps.{civil_of, month_start, rolled_day, month_before}
 use Rattle.gix_date.specs.Text.Front.{◌>>=◌}
 use Rattle.gix_date.specs.declared.time.Time.{Time}
-use Rattle.git_date.proofs.Walked.{nothing-left}
-use Rattle.git_date.specs.Approximate.{rule, steps, draft_of, answer, answer_of, guess_by, guess, step}
+use Rattle.git_date.specs.Approximate.{rule, steps, draft_of, answer, answer_of, guess_by, guess}
 use Rattle.git_date.specs.ApproximateClocks.{is_shown_month, first_second, filled_seconds}
 use Rattle.git_date.specs.ApproximateDrafts.{first_draft, all_fields, settle, units, at_month, less_months}
 use Rattle.git_date.specs.ApproximateRules.{letters_rule, meaning_rule, months_rule, is_padded}
@@ -46,7 +45,7 @@ use Rattle.git_date.specs.Types.{Fault}
 use Rattle.git_date.specs.FaultCases.{BackTooFar}
 use Rattle.git_date.specs.Types.{Fields}
 use Rattle.git_date.proofs.ClocksBack.{shown_of, before-1900}
-use Rattle.git_date_laws.proofs.ExactBack.{followed, waiting_draft, moved_draft, go-on, digits-wait, ago-nothing, shown-is, AreClocks, filled-moves, are-clocks, long-enough, few}
+use Rattle.git_date_laws.proofs.ExactBack.{followed, waiting_draft, moved_draft, go-on, digits-wait, shown-is, AreClocks, filled-moves, are-clocks, long-enough, few, unit-walk}
 use Rattle.git_date_laws.proofs.ExactNothing.{nothing-said}
 use Rattle.git_date.proofs.HeldClocks.{shown-by}
 use Rattle.git_date.specs.ApproximateBack.{CountsMonths, IsReached}
@@ -152,26 +151,19 @@ module _ (o now : ℤ) (this : Now) (digits : List ℕ) (gap : ℕ) (unit : List
   unfolding letters_rule meaning_rule months_rule
   word-some f e = rw (means, filled, e) refl
 
-  begun : (k : ℕ) (end : Result Draft Fault) → steps (one_offset o) here (suc (suc (suc k))) waits (Letters unit ∷ Mark last ∷ ago) ≡ end
-      → steps (one_offset o) here (suc (suc (suc (suc (suc k))))) (first_draft c) (Digits digits ∷ ts) ≡ end
-  begun k end e =
-      go-on (one_offset o) here (suc (suc (suc (suc k)))) (first_draft c) waits (Digits digits) ts end
-      (digits-wait (one_offset o) here digits gap unit last small some padded)
-      (go-on (one_offset o) here (suc (suc (suc k))) waits waits (Mark gap) (Letters unit ∷ Mark last ∷ ago) end refl e)
-
   drafted : (k : ℕ) (f : Fields) → less_months (all_fields c) months ≡ Some f
       → steps (one_offset o) here (suc (suc (suc (suc (suc k))))) (first_draft c) (Digits digits ∷ ts) ≡ Ok (record (moved_draft c) { fields = f })
   drafted k f e =
-      let there : Draft = record (moved_draft c) { fields = f } in
-      let fifth = go-on (one_offset o) here k there there (Letters (codes "ago")) [] (Ok there) (rw (ago-nothing (one_offset o) c there) refl) (nothing-left (step (one_offset o) here) k there) in
-      let fourth = go-on (one_offset o) here (suc k) there there (Mark last) ago (Ok there) refl fifth in
-      begun k (Ok there) (go-on (one_offset o) here (suc (suc k)) waits there (Letters unit) (Mark last ∷ ago) (Ok there) (rw (word-some f e) refl) fourth)
+      unit-walk (one_offset o) here k (first_draft c) waits (record (moved_draft c) { fields = f }) digits gap unit last
+      (digits-wait (one_offset o) here digits gap unit last small some padded) (word-some f e)
 
   not-drafted : (k : ℕ) → less_months (all_fields c) months ≡ None
       → steps (one_offset o) here (suc (suc (suc (suc (suc k))))) (first_draft c) (Digits digits ∷ ts) ≡ Err (BackTooFar left)
   not-drafted k e =
-      begun k (Err (BackTooFar left))
-      (go-wrong (one_offset o) here (suc (suc k)) waits (Letters unit) (Mark last ∷ ago) (BackTooFar left) (rw (word-none e) refl))
+      let third = go-wrong (one_offset o) here (suc (suc k)) waits (Letters unit) (Mark last ∷ ago) (BackTooFar left) (rw (word-none e) refl) in
+      let second = go-on (one_offset o) here (suc (suc (suc k))) waits waits (Mark gap) (Letters unit ∷ Mark last ∷ ago) (Err (BackTooFar left)) refl third in
+      go-on (one_offset o) here (suc (suc (suc (suc k)))) (first_draft c) waits (Digits digits) ts (Err (BackTooFar left))
+      (digits-wait (one_offset o) here digits gap unit last small some padded) second
 
   guessed : (text : List ℕ) (k : ℕ) (d : Result Draft Fault) → this.seconds ≡ now → tokens text ≡ Digits digits ∷ ts → length text ≡ suc (suc (suc (suc (suc k))))
       → steps (one_offset o) here (suc (suc (suc (suc (suc k))))) (first_draft c) (Digits digits ∷ ts) ≡ d
@@ -221,7 +213,7 @@ months-back this text o count size instant says reached =
     let are = are-clocks o this.seconds 0 instant reached in
     subst (λ (n : ℕ). SaysMonths o.seconds this text n size) same
     (record {
-      unread = nothing-said this says.digits says.gap says.unit says.last (Months size) says.no_date less says.means text k says.is long;
+      unread = nothing-said this text says.digits says.gap says.unit says.last says.no_date less says.is;
       guesses = λ date h. months-guessed o.seconds this.seconds this says.digits says.gap says.unit says.last size are (few (number says.digits) less) some says.not_padded says.means text k date refl says.is long h;
     })
 

@@ -1,22 +1,20 @@
 -- `n months ago` and `n years ago` are read by the calendar.
-use Rattle.std.proofs.Common.{◌≡◌, ◌∙◌, ◌≤◌, ◌<◌, ◌≤ℤ◌, ◌+◌, ◌-◌, ◌*◌, ℕ, suc, Bool, true, false, cond, ℤ, pos, ◌+ℤ◌, ◌-ℤ◌, ◌*ℤ◌, List, [], ◌∷◌, ◌++◌, length, length-append, Option, Some, None, Result, Ok, Err, refl, sym, ap, subst, arith}
+use Rattle.std.proofs.Common.{◌≡◌, ◌∙◌, ◌≤◌, ◌<◌, ◌≤ℤ◌, ◌+◌, ◌-◌, ◌*◌, ℕ, suc, Bool, true, false, cond, ℤ, pos, ◌+ℤ◌, ◌-ℤ◌, ◌*ℤ◌, List, [], ◌∷◌, length, Option, Some, None, Result, Ok, Err, sym, ap, subst, arith}
 use Rattle.std.specs.Prelude.{codes}
 use Rattle.jiff.specs.Types.{Offset}
 use Rattle.gix_date.proofs.Fields.Instants.{z_holds}
 use Rattle.gix_date.specs.Text.Characters.{space}
 use Rattle.gix_date.specs.declared.time.Time.{Time}
-use Rattle.git_date.proofs.Walked.{nothing-left}
 use Rattle.git_date.proofs.ClocksBack.{shown_of}
-use Rattle.git_date_laws.proofs.ExactBack.{Says, ago-nothing, go-on, shown-is}
+use Rattle.git_date_laws.proofs.ExactBack.{Says, long-enough, shown-is, unit-walk}
 use Rattle.git_date_laws.proofs.ExactNothing.{nothing-said}
-use Rattle.git_date.proofs.TokenRuns.{texts_are}
-use Rattle.git_date.specs.Approximate.{answer, answer_of, draft_of, guess, guess_by, steps, step}
+use Rattle.git_date.specs.Approximate.{answer, answer_of, draft_of, guess, guess_by, steps}
 use Rattle.git_date.specs.ApproximateDrafts.{clock_fields, first_draft, settle}
 use Rattle.git_date.specs.ApproximateRules.{is_padded}
 use Rattle.git_date.specs.ApproximateWords.{meaning_of}
 use Rattle.git_date.specs.ApproximateZones.{Choices, one_offset, filled_time}
 use Rattle.git_date.specs.Numbers.{number, max_small}
-use Rattle.git_date.specs.Tokens.{Token, Letters, Digits, Mark, tokens, texts, bytes_left}
+use Rattle.git_date.specs.Tokens.{Token, Letters, Digits, Mark, tokens, bytes_left}
 use Rattle.git_date.specs.declared.approximate.answer.Approximate.{Approximate}
 use Rattle.git_date.specs.Types.{Today}
 use Rattle.git_date.specs.Types.{Draft}
@@ -42,12 +40,6 @@ answered o s today text f weekday is since =
     ap (λ (t : Option Time). answer text (ready f weekday true) t) is
     ∙ ap (λ (b : Bool). cond b (Ok (told o s)) (Err Range)) (z_holds (pos 0) s since)
 
-long-enough : (text digits word : List ℕ) → tokens text ≡ Digits digits ∷ tail_tokens word → 5 ≤ length text
-long-enough text digits word is =
-    let ago : List ℕ = space ∷ codes "ago" in
-    let e : text ≡ digits ++ (space ∷ (word ++ ago)) = sym (texts_are text) ∙ ap texts is in
-    omega (arith, ap length e, length-append digits (space ∷ (word ++ ago)), length-append word ago)
-
 -- back from now
 module _ (this : Now) (o : Offset) (k : ℕ) (at : Stands o.seconds this.seconds)
     (late : 22_800 + k ≤ 12 * (shown_of (this.seconds +ℤ o.seconds)).year + ((shown_of (this.seconds +ℤ o.seconds)).month - 1))
@@ -72,13 +64,8 @@ module _ (this : Now) (o : Offset) (k : ℕ) (at : Stands o.seconds this.seconds
       let ago : List Token = Letters (codes "ago") ∷ [] in
       let left = bytes_left (Digits run ∷ tail_tokens word) in
       let moved = unit-moves o.seconds here.shown f now at (fills-now o.seconds now at) k late weekday (number run) size left word space ago means product fits in
-      let waiting = waits f weekday (number run) left in
-      let fifth = go-on zone here n there_draft there_draft (Letters (codes "ago")) [] (Ok there_draft) (rw (ago-nothing zone here.shown there_draft) refl) (nothing-left (step zone here) n there_draft) in
-      let fourth = go-on zone here (suc n) there_draft there_draft (Mark space) ago (Ok there_draft) refl fifth in
-      let third = go-on zone here (suc (suc n)) waiting there_draft (Letters word) (Mark space ∷ ago) (Ok there_draft) (rw moved refl) fourth in
-      let second = go-on zone here (suc (suc (suc n))) waiting waiting (Mark space) (Letters word ∷ Mark space ∷ ago) (Ok there_draft) refl third in
-      go-on zone here (suc (suc (suc (suc n)))) (first_draft here.shown) waiting (Digits run) (tail_tokens word) (Ok there_draft)
-      (digits-wait zone here f weekday false run space word (Mark space ∷ ago) small some padded) second
+      unit-walk zone here n (first_draft here.shown) (waits f weekday (number run) left) there_draft run space word space
+      (digits-wait zone here f weekday false run space word (Mark space ∷ ago) small some padded) moved
 
   guessed : (text run word : List ℕ) (size n : ℕ) → number run * size ≡ k → k ≤ max_small → number run ≤ max_small → 1 ≤ number run → is_padded run ≡ false
       → meaning_of word ≡ Some (meaning.Unit (Months size)) → tokens text ≡ Digits run ∷ tail_tokens word → length text ≡ suc (suc (suc (suc (suc n))))
@@ -95,10 +82,10 @@ module _ (this : Now) (o : Offset) (k : ℕ) (at : Stands o.seconds this.seconds
   by-digits : (text : List ℕ) (n size : ℕ) → (count : IsCount text n (Months size)) → number count.digits * size ≡ k → k ≤ max_small
       → 1 ≤ number count.digits → number count.digits < 100_000_000 → pos 0 ≤ℤ earlier → Says o.seconds this text (told o.seconds earlier)
   by-digits text n size count product fits some few since =
-      let least = long-enough text count.digits count.word count.is in
+      let least = long-enough text count.digits space count.word space count.is in
       let more = length text - 5 in
       let long : length text ≡ suc (suc (suc (suc (suc more)))) = omega (arith, least) in (
-        nothing-said this count.digits space count.word space (Months size) count.no_date few count.means text more count.is long,
+        nothing-said this text count.digits space count.word space count.no_date few count.is,
         guessed text count.digits count.word size more product fits (omega (arith, few)) some count.not_padded count.means count.is long since,
       )
 

@@ -55,9 +55,9 @@ pair_text n m = (counted n (codes "year") ++ (codes ", " ++ counted m (codes "mo
 pair-are : (n m : ℕ) → n < 2 ^ 64 → m < 2 ^ 64 → tokens (pair_text n m) ≡ pair_tokens (decimal n) (year_word n) (decimal m) (month_word m)
 pair-are n m h g =
     let rest = decimal m ++ ((space ∷ month_word m) ++ codes " ago") in
-    let last = (decimal-run m g).alone ((space ∷ month_word m) ++ codes " ago") space _ ((months-unit (m == 1)).0) in
+    let last = decimal-run m ((space ∷ month_word m) ++ codes " ago") space _ g ((months-unit (m == 1)).0) in
     let joined : pair_text n m ≡ decimal n ++ ((space ∷ year_word n) ++ (codes ", " ++ rest)) = simp append_assoc refl in
-    ap tokens joined ∙ (decimal-run n h).alone ((space ∷ year_word n) ++ (codes ", " ++ rest)) space (Letters (year_word n) ∷ Mark comma ∷ Mark space ∷ tokens rest) (year-before (n == 1) rest)
+    ap tokens joined ∙ decimal-run n ((space ∷ year_word n) ++ (codes ", " ++ rest)) space (Letters (year_word n) ∷ Mark comma ∷ Mark space ∷ tokens rest) h (year-before (n == 1) rest)
     ∙ ap (λ (ts : List Token). Digits (decimal n) ∷ Mark space ∷ Letters (year_word n) ∷ Mark comma ∷ Mark space ∷ ts) last
 
 long-enough : (text run word other last : List ℕ) → 1 ≤ length run → 1 ≤ length other → tokens text ≡ pair_tokens run word other last → 10 ≤ length text

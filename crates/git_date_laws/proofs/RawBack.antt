@@ -1,13 +1,14 @@
 -- What `raw` shows, after `@`.
-use Rattle.std.proofs.Common.{◌≡◌, ◌∙◌, ◌≤◌, ◌<◌, ◌+◌, ◌/◌, ◌%◌, ◌^◌, ℕ, ℤ, pos, negsuc, ◌*ℤ◌, unsigned_abs, Bool, true, false, cond, List, [], ◌∷◌, ◌++◌, append_assoc, Option, Some, None, Result, Ok, Err, refl, sym, ap, subst, arith}
+use Rattle.std.proofs.Common.{◌≡◌, ◌∙◌, ◌≤◌, ◌<◌, ◌+◌, ◌/◌, ◌%◌, ◌^◌, ℕ, ℤ, pos, negsuc, ◌*ℤ◌, unsigned_abs, Bool, true, false, cond, List, [], ◌∷◌, ◌++◌, length, length-append, Option, Some, None, Result, Ok, Err, refl, sym, ap, subst, arith}
 use Rattle.std.specs.Char.{is_ascii_digit}
 use Rattle.std.specs.Fmt.{decimal}
 use Rattle.std.specs.Int.Signed.{lt_z}
-use Rattle.std.specs.List.{fold}
+use Rattle.std.specs.List.{fold, list_all}
 use Rattle.std.specs.Prelude.{◌==◌, int_lt, nat_lt, option_map}
 use Rattle.std.proofs.lemmas.Bool.{and_parts}
 use Rattle.std.proofs.lemmas.Bool.Decides.{nat_tests, Decides-ltb, Decides-eqb}
 use Rattle.std.proofs.lemmas.Fmt.{decimal_by_steps}
+use Rattle.std.proofs.lemmas.List.Folds.{list_all-append}
 use Rattle.std.proofs.lemmas.List.Sums.{fold-append}
 use Rattle.jiff.specs.Types.{TimeZone}
 use Rattle.jiff_core.proofs.SignedLemmas.{signed_arith, one_part}
@@ -18,7 +19,7 @@ use Rattle.gix_date.specs.Header.Text.{written_text}
 use Rattle.gix_date.specs.Text.Characters.{at_sign, space, plus, minus}
 use Rattle.gix_date.specs.Text.Numbers.{two_digits}
 use Rattle.gix_date.specs.declared.time.Time.{Time}
-use Rattle.git_date.proofs.FastSeconds.{sign_byte, minutes_of, raw_tokens, at-is, said_at, said-is}
+use Rattle.git_date.proofs.FastSeconds.{sign_byte, minutes_of, raw_tokens, run-before, at-is, said_at, said-is}
 use Rattle.git_date.proofs.TokenRuns.{digit-first, mark-first}
 use Rattle.git_date.specs.Modes.{own}
 use Rattle.git_date.specs.Numbers.{digit_more, number}
@@ -35,11 +36,11 @@ use Rattle.git_date.specs.declared.error.DateError.TheVariants.{Range}
 use Rattle.git_date.specs.declared.mode.DateKind.TheVariants.{Raw}
 use Rattle.git_date.specs.Types.{Said}
 
--- digits that write a number are one token
-pub record IsRun (n : ℕ) (run : List ℕ) : Type 0 where
-  pub number_is : fold digit_more 0 run ≡ n
-  pub before : (rest other : List ℕ) (more : List Token) → tokens rest ≡ Digits other ∷ more → tokens (run ++ rest) ≡ Digits (run ++ other) ∷ more
-  pub alone : (rest : List ℕ) (byte : ℕ) (more : List Token) → tokens rest ≡ Mark byte ∷ more → tokens (run ++ rest) ≡ Digits run ∷ Mark byte ∷ more
+-- digits that write a number, which are one token before a mark
+record IsRun (n : ℕ) (run : List ℕ) : Type 0 where
+  number_is : fold digit_more 0 run ≡ n
+  digits : list_all is_ascii_digit run ≡ true
+  some : 1 ≤ length run
 
 digit-test : (n : ℕ) → n < 10 → is_ascii_digit (48 + n) ≡ true
 digit-test n h = grind (arith, nat_tests)
@@ -48,27 +49,24 @@ one-before : (n : ℕ) (rest : List ℕ) (ts : List Token) → n < 10 → tokens
 one-before n rest ts h e = digit-first (48 + n) rest (digit-test n h) ∙ ap (digit_before (48 + n)) e
 
 one-run : (n : ℕ) → n < 10 → IsRun n ((48 + n) ∷ [])
-one-run n h = record {
-  number_is = omega arith;
-  before = λ rest other more e. one-before n rest (Digits other ∷ more) h e;
-  alone = λ rest byte more e. one-before n rest (Mark byte ∷ more) h e;
-}
+one-run n h = let e = digit-test n h in record { number_is = omega arith; digits = rw e refl; some = omega arith }
 
 more-run : (n : ℕ) (run : List ℕ) → 10 ≤ n → IsRun (n / 10) run → IsRun n (run ++ ((48 + n % 10) ∷ []))
 more-run n run h is =
     let c = 48 + n % 10 in
-    let last : n % 10 < 10 = omega arith in
+    let last = digit-test (n % 10) (omega arith) in
     record {
       number_is = fold-append digit_more 0 run (c ∷ []) ∙ ap (λ (k : ℕ). digit_more k c) is.number_is ∙ omega arith;
-      before = λ rest other more e.
-          ap tokens (append_assoc run (c ∷ []) rest) ∙ is.before (c ∷ rest) (c ∷ other) more (one-before (n % 10) rest (Digits other ∷ more) last e)
-          ∙ ap (λ (ds : List ℕ). Digits ds ∷ more) (sym (append_assoc run (c ∷ []) other));
-      alone = λ rest byte more e.
-          ap tokens (append_assoc run (c ∷ []) rest) ∙ is.before (c ∷ rest) (c ∷ []) (Mark byte ∷ more) (one-before (n % 10) rest (Mark byte ∷ more) last e);
+      digits = list_all-append is_ascii_digit run (c ∷ []) ∙ rw (is.digits, last) refl;
+      some = omega (arith, length-append run (c ∷ []));
     }
 
-pub decimal-run : (n : ℕ) → n < 2 ^ 64 → IsRun n (decimal n)
-decimal-run n h = decimal_by_steps IsRun one-run more-run n h
+decimal-is : (n : ℕ) → n < 2 ^ 64 → IsRun n (decimal n)
+decimal-is n h = decimal_by_steps IsRun one-run more-run n h
+
+pub decimal-run : (n : ℕ) (rest : List ℕ) (byte : ℕ) (more : List Token) → n < 2 ^ 64 → tokens rest ≡ Mark byte ∷ more
+    → tokens (decimal n ++ rest) ≡ Digits (decimal n) ∷ Mark byte ∷ more
+decimal-run n rest byte more h e = let is = decimal-is n h in run-before (decimal n) rest byte more is.some is.digits e
 
 -- the four digits of an offset
 pair-first : (n : ℕ) (rest : List ℕ) (ts : List Token) → n < 100 → tokens rest ≡ ts → tokens (two_digits n ++ rest) ≡ digit_before (48 + n / 10) (digit_before (48 + n % 10) ts)
@@ -91,11 +89,11 @@ raw-are n a b behind h f g =
     mark-first space (sign_byte behind ∷ pairs) refl refl
     ∙ ap (λ (ts : List Token). Mark space ∷ ts) (sign-first behind pairs ∙ ap (λ (ts : List Token). Mark (sign_byte behind) ∷ ts) (four-tokens a b f g)) in
     mark-first at_sign (decimal n ++ (space ∷ sign_byte behind ∷ pairs)) refl refl
-    ∙ ap (λ (ts : List Token). Mark at_sign ∷ ts) ((decimal-run n h).alone (space ∷ sign_byte behind ∷ pairs) space (Mark (sign_byte behind) ∷ Digits pairs ∷ []) last)
+    ∙ ap (λ (ts : List Token). Mark at_sign ∷ ts) (decimal-run n (space ∷ sign_byte behind ∷ pairs) space (Mark (sign_byte behind) ∷ Digits pairs ∷ []) h last)
 
 pub number-of : (n : ℕ) → n < 2 ^ 64 → number (decimal n) ≡ n
 unfolding number
-number-of n h = let is = (decimal-run n h).number_is in omega arith
+number-of n h = let is = (decimal-is n h).number_is in omega arith
 
 raw-said : (now : Now) (n a b : ℕ) (behind : Bool) → n < 2 ^ 64 → a < 100 → b < 100 → is_instant (pos n) ≡ true
     → said_by now (at_sign ∷ (decimal n ++ (space ∷ sign_byte behind ∷ (two_digits a ++ two_digits b)))) ≡ Ok (said_at n (minutes_of behind a b))

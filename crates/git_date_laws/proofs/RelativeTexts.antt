@@ -98,7 +98,7 @@ is-count n unit name is some few =
     record {
       digits = run;
       word = word;
-      is = ap tokens joined ∙ (decimal-run n small).alone ((space ∷ word) ++ ago) space (Letters word ∷ Mark space ∷ Letters (codes "ago") ∷ []) (is.0);
+      is = ap tokens joined ∙ decimal-run n ((space ∷ word) ++ ago) space (Letters word ∷ Mark space ∷ Letters (codes "ago") ∷ []) small is.0;
       counts = number-of n small;
       no_date = not-eight run (length-decimal-le 7 n (omega arith) (omega arith) small);
       not_padded = not-padded run (first_decimal n (omega arith) small);
