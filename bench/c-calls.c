@@ -12,7 +12,7 @@
 enum { STACK = 1 << 18 };
 
 static size_t requests, largest;
-static char zone_file[1 << 16];
+static char zone_bytes[1 << 16];
 static size_t zone_len;
 
 void *__real_malloc(size_t size);
@@ -44,7 +44,21 @@ void *__wrap_realloc(void *block, size_t size)
         return NULL;                                                                               \
     }
 
+/* The same call in UTC, by a rule, and by a file. */
+#define CALLS_AT(name, ...)                                                                        \
+    CALL_IN(name, utc, __VA_ARGS__)                                                                \
+    CALL_IN(name, rule, __VA_ARGS__)                                                               \
+    CALL_IN(name, file, __VA_ARGS__)
+#define CALL_IN(name, place, ...)                                                                  \
+    static void *call_##name##_##place(void *status)                                               \
+    {                                                                                              \
+        gix_date_zone *zone = &place;                                                              \
+        *(uint32_t *)status = name(__VA_ARGS__);                                                   \
+        return NULL;                                                                               \
+    }
+
 static const gix_date_instant now = {1699165800, 0};
+static gix_date_zone utc, rule, file, read, copy;
 static const gix_date_time at = {1660797906, 28800};
 static const gix_date_careful_options usual = {0, 0, 0};
 static gix_date_time parsed;
@@ -61,18 +75,12 @@ static size_t len, place;
 CALL(gix_date_parse_header, TEXT("1660797906 +0800"), &parsed)
 CALL(gix_date_write_header, &at, out, sizeof out, &len)
 CALL(gix_date_parse, TEXT("2024-01-05 10:00"), GIX_DATE_QUARTERS, &parsed)
-CALL(gix_date_parse_at_offset, TEXT("1 month 2 days ago"), GIX_DATE_QUARTERS, &now, 0, &parsed)
-CALL(gix_date_parse_in_posix_zone, TEXT("1 month 2 days ago"), GIX_DATE_QUARTERS, &now,
-     TEXT("EST5EDT,M3.2.0,M11.1.0"), &parsed)
-CALL(gix_date_parse_in_tzif_zone, TEXT("1 month 2 days ago"), GIX_DATE_QUARTERS, &now, zone_file,
-     zone_len, &parsed)
+CALL(gix_date_zone_read, zone_bytes, zone_len, &read)
+CALL(gix_date_zone_copy, &read, &copy)
+CALLS_AT(gix_date_parse_at, TEXT("1 month 2 days ago"), GIX_DATE_QUARTERS, &now, zone, &parsed)
 CALL(gix_date_parse_carefully, TEXT("Thu, 18 Aug 2022 12:45:06 +0800"), &usual, &parsed, &place)
-CALL(gix_date_parse_carefully_at_offset, TEXT("1 month 2 days ago"), &usual, &now, 0, &parsed,
-     &place)
-CALL(gix_date_parse_carefully_in_posix_zone, TEXT("1 month 2 days ago"), &usual, &now,
-     TEXT("EST5EDT,M3.2.0,M11.1.0"), &parsed, &place)
-CALL(gix_date_parse_carefully_in_tzif_zone, TEXT("1 month 2 days ago"), &usual, &now, zone_file,
-     zone_len, &parsed, &place)
+CALLS_AT(gix_date_parse_carefully_at, TEXT("1 month 2 days ago"), &usual, &now, zone, &parsed,
+         &place)
 CALL(gix_date_format, &at, GIX_DATE_ISO8601, out, sizeof out, &len)
 CALL(gix_date_format_or_unix, &at, GIX_DATE_DEFAULT, out, sizeof out, &len)
 CALL(gix_date_format_by_pattern, &at, TEXT("%A %-d %B %Y, %H:%M"), out, sizeof out, &len)
@@ -80,26 +88,24 @@ CALL(gix_date_format_by_pattern_or_unix, &at, TEXT("%A %-d %B %Y, %H:%M"), out, 
 CALL(gix_date_cut_signature, TEXT("A U Thor <author@example.com> 1660797906 +0800"), &parts)
 CALL(gix_date_write_signature, TEXT("A U Thor"), TEXT("author@example.com"), &at, out, sizeof out,
      &len)
-CALL(git_date_parse_at_offset, long_text, sizeof long_text, &now, 0, &exact, &place)
-CALL(git_date_parse_in_posix_zone, long_text, sizeof long_text, &now,
-     TEXT("EST5EDT,M3.2.0,M11.1.0"), &exact, &place)
-CALL(git_date_parse_in_tzif_zone, long_text, sizeof long_text, &now, zone_file, zone_len, &exact,
-     &place)
-CALL(git_date_approxidate_at_offset, long_text, sizeof long_text, &now, 0, &guess, &place)
-CALL(git_date_approxidate_in_posix_zone, long_text, sizeof long_text, &now,
-     TEXT("EST5EDT,M3.2.0,M11.1.0"), &guess, &place)
-CALL(git_date_approxidate_in_tzif_zone, long_text, sizeof long_text, &now, zone_file, zone_len,
-     &guess, &place)
-CALL(git_date_expiry_at_offset, long_text, sizeof long_text, &now, 0, &expiry, &place)
-CALL(git_date_expiry_in_posix_zone, long_text, sizeof long_text, &now,
-     TEXT("EST5EDT,M3.2.0,M11.1.0"), &expiry, &place)
-CALL(git_date_expiry_in_tzif_zone, long_text, sizeof long_text, &now, zone_file, zone_len, &expiry,
-     &place)
+CALLS_AT(git_date_parse_at, long_text, sizeof long_text, &now, zone, &exact, &place)
+CALLS_AT(git_date_approxidate_at, long_text, sizeof long_text, &now, zone, &guess, &place)
+CALLS_AT(git_date_expiry_at, long_text, sizeof long_text, &now, zone, &expiry, &place)
 CALL(git_date_mode_named, TEXT("iso8601-strict-local"), &named)
-CALL(git_date_show_at_offset, &at, &shown, &now, 0, out, sizeof out, &len)
-CALL(git_date_show_in_posix_zone, &at, &shown, &now, TEXT("EST5EDT,M3.2.0,M11.1.0"), out,
-     sizeof out, &len)
-CALL(git_date_show_in_tzif_zone, &at, &shown, &now, zone_file, zone_len, out, sizeof out, &len)
+CALLS_AT(git_date_show_at, &at, &shown, &now, zone, out, sizeof out, &len)
+
+static void *call_gix_date_zone_read_rule(void *status)
+{
+    *(uint32_t *)status = gix_date_zone_read(TEXT("EST5EDT,M3.2.0,M11.1.0"), &rule);
+    return NULL;
+}
+
+static void *call_gix_date_zone_free(void *status)
+{
+    gix_date_zone_free(&copy);
+    *(uint32_t *)status = 0;
+    return NULL;
+}
 
 static void *call_gix_date_is_canonical_header(void *status)
 {
@@ -140,36 +146,29 @@ static const struct {
     void *(*call)(void *);
 } calls[] = {
 #define ROW(name) {#name, call_##name}
+#define ROWS_AT(name) ROW(name##_utc), ROW(name##_rule), ROW(name##_file)
     ROW(gix_date_parse_header),
     ROW(gix_date_is_canonical_header),
     ROW(gix_date_write_header),
     ROW(gix_date_parse),
-    ROW(gix_date_parse_at_offset),
-    ROW(gix_date_parse_in_posix_zone),
-    ROW(gix_date_parse_in_tzif_zone),
+    ROW(gix_date_zone_read),
+    ROW(gix_date_zone_read_rule),
+    ROW(gix_date_zone_copy),
+    ROW(gix_date_zone_free),
+    ROWS_AT(gix_date_parse_at),
     ROW(gix_date_parse_carefully),
-    ROW(gix_date_parse_carefully_at_offset),
-    ROW(gix_date_parse_carefully_in_posix_zone),
-    ROW(gix_date_parse_carefully_in_tzif_zone),
+    ROWS_AT(gix_date_parse_carefully_at),
     ROW(gix_date_format),
     ROW(gix_date_format_or_unix),
     ROW(gix_date_format_by_pattern),
     ROW(gix_date_format_by_pattern_or_unix),
     ROW(gix_date_cut_signature),
     ROW(gix_date_write_signature),
-    ROW(git_date_parse_at_offset),
-    ROW(git_date_parse_in_posix_zone),
-    ROW(git_date_parse_in_tzif_zone),
-    ROW(git_date_approxidate_at_offset),
-    ROW(git_date_approxidate_in_posix_zone),
-    ROW(git_date_approxidate_in_tzif_zone),
-    ROW(git_date_expiry_at_offset),
-    ROW(git_date_expiry_in_posix_zone),
-    ROW(git_date_expiry_in_tzif_zone),
+    ROWS_AT(git_date_parse_at),
+    ROWS_AT(git_date_approxidate_at),
+    ROWS_AT(git_date_expiry_at),
     ROW(git_date_mode_named),
-    ROW(git_date_show_at_offset),
-    ROW(git_date_show_in_posix_zone),
-    ROW(git_date_show_in_tzif_zone),
+    ROWS_AT(git_date_show_at),
 };
 
 /* A text of 60000 bytes: words that Git passes over, and this date at its end. */
@@ -201,17 +200,19 @@ static size_t taken(const char *name, void *(*call)(void *), size_t size)
  * bytes. */
 int main(int count, char **words)
 {
-    FILE *file = count > 1 ? fopen(words[1], "rb") : NULL;
+    FILE *stream = count > 1 ? fopen(words[1], "rb") : NULL;
     uint32_t status = 0;
-    if (!file)
+    if (!stream)
         fail("the file of a zone");
-    zone_len = fread(zone_file, 1, sizeof zone_file, file);
-    fclose(file);
+    zone_len = fread(zone_bytes, 1, sizeof zone_bytes, stream);
+    fclose(stream);
+    if (gix_date_zone_read(zone_bytes, zone_len, &file) != GIX_DATE_OK)
+        fail("the zone of the file");
     changed(nothing, STACK, &status);
     size_t idle = changed(nothing, STACK, &status);
     size_t room = count > 2 ? strtoul(words[2], NULL, 10) : STACK;
     for (size_t i = 0; i < sizeof calls / sizeof *calls; i++) {
-        if (room < STACK && strstr(calls[i].name, "_in_tzif_zone"))
+        if (room < STACK && !strcmp(calls[i].name, "gix_date_zone_read"))
             continue;
         fill_long_text(strstr(calls[i].name, "git_date_parse") ? " 10:00 7.4.2005"
                                                                : " last friday at noon");

@@ -1,5 +1,5 @@
-/* Makes one call of gix_date.h or git_date.h so many times: calls KIND TEXT COUNT. The file of a zone is
- * named by TZIF. */
+/* Makes one call of gix_date.h or git_date.h so many times: calls KIND ZONE TEXT COUNT. The zone is that of a
+ * file by its path, or of a POSIX rule, or UTC where it is `-`. */
 #include "git_date.h"
 
 #include <stdio.h>
@@ -8,11 +8,11 @@
 
 static const gix_date_instant now = {1698400800, 0};
 static const gix_date_time day = {1660797906, 28800};
-static const char rule[] = "EST5EDT,M3.2.0,M11.1.0";
 static const gix_date_careful_options usual = {0, 0, 0};
 static const gix_date_careful_options local = {GIX_DATE_QUARTERS, GIX_DATE_MOMENTS_ZONE, 0};
-static char file[1 << 16];
-static size_t file_len;
+static gix_date_zone zone;
+static char bytes[1 << 16];
+static size_t bytes_len;
 
 /* One call, by the letter of its kind, and the number of a format or a kind of shown dates. */
 static uint32_t call(char kind, uint32_t format, const char *text, size_t len)
@@ -32,49 +32,52 @@ static uint32_t call(char kind, uint32_t format, const char *text, size_t len)
     case 'p':
         return gix_date_parse(text, len, GIX_DATE_QUARTERS, &time);
     case 'r':
-        return gix_date_parse_at_offset(text, len, GIX_DATE_QUARTERS, &now, 0, &time);
-    case 'z':
-        return gix_date_parse_in_posix_zone(text, len, GIX_DATE_QUARTERS, &now, rule,
-                                            sizeof rule - 1, &time);
-    case 't':
-        return gix_date_parse_in_tzif_zone(text, len, GIX_DATE_QUARTERS, &now, file, file_len, &time);
+        return gix_date_parse_at(text, len, GIX_DATE_QUARTERS, &now, &zone, &time);
     case 'k':
-        return gix_date_parse_carefully_at_offset(text, len, &usual, &now, 0, &time, &place);
+        return gix_date_parse_carefully_at(text, len, &usual, &now, &zone, &time, &place);
     case 'l':
-        return gix_date_parse_carefully_in_posix_zone(text, len, &local, &now, rule,
-                                                      sizeof rule - 1, &time, &place);
+        return gix_date_parse_carefully_at(text, len, &local, &now, &zone, &time, &place);
     case 'd':
-        return git_date_parse_at_offset(text, len, &now, 0, &exact, &place);
+        return git_date_parse_at(text, len, &now, &zone, &exact, &place);
     case 'a':
-        return git_date_approxidate_at_offset(text, len, &now, 0, &guess, &place);
+        return git_date_approxidate_at(text, len, &now, &zone, &guess, &place);
     case 's':
-        return git_date_show_at_offset(&day, &(git_date_mode){format, false}, &now, 0, out,
-                                       sizeof out, &out_len);
+        return git_date_show_at(&day, &(git_date_mode){format, false}, &now, &zone, out, sizeof out,
+                                &out_len);
     case 'S':
-        return git_date_show_in_posix_zone(&day, &(git_date_mode){format, true}, &now, rule,
-                                           sizeof rule - 1, out, sizeof out, &out_len);
+        return git_date_show_at(&day, &(git_date_mode){format, true}, &now, &zone, out, sizeof out,
+                                &out_len);
+    case 'Z':
+        return gix_date_zone_read(bytes, bytes_len, &zone);
     default:
         return gix_date_format(&day, format, out, sizeof out, &out_len);
     }
 }
 
+/* Reads the zone of a file, or of a rule. */
+static uint32_t read_zone(const char *name)
+{
+    FILE *file = fopen(name, "rb");
+    bytes_len = file ? fread(bytes, 1, sizeof bytes, file) : strlen(name);
+    if (file)
+        fclose(file);
+    else
+        memcpy(bytes, name, bytes_len);
+    return gix_date_zone_read(bytes, bytes_len, &zone);
+}
+
 int main(int count, char **words)
 {
-    if (count != 4)
+    if (count != 5)
         return 2;
     /* A number may follow the letter. */
     char kind = words[1][0];
     uint32_t format = (uint32_t)strtoul(words[1] + 1, NULL, 10);
-    size_t len = strlen(words[2]);
-    uint32_t status = 0;
-    const char *name = getenv("TZIF");
-    FILE *zone = name ? fopen(name, "rb") : NULL;
-    if (zone) {
-        file_len = fread(file, 1, sizeof file, zone);
-        fclose(zone);
-    }
-    for (long i = strtol(words[3], NULL, 10); i > 0; i--)
-        status |= call(kind, format, words[2], len);
+    size_t len = strlen(words[3]);
+    uint32_t status = strcmp(words[2], "-") ? read_zone(words[2]) : 0;
+    for (long i = strtol(words[4], NULL, 10); i > 0; i--)
+        status |= call(kind, format, words[3], len);
+    gix_date_zone_free(&zone);
     printf("%u\n", (unsigned)status);
     return 0;
 }

@@ -4,9 +4,8 @@
  * lengths. What Git reads, and each refusal, is in docs/GIT_DATES.md. All that gix_date.h says of
  * texts, buffers, threads and memory holds here too.
  *
- * A call has a moment: the instant now, in a zone. The zone is an offset in seconds east of UTC
- * (.._at_offset), a POSIX rule (.._in_posix_zone) or the bytes of a TZif file (.._in_tzif_zone). A
- * text without an offset has that of the zone.
+ * A call has a moment: the instant now in a zone, which gix_date.h tells how to make. A text without
+ * an offset has that of the zone. No call takes memory.
  *
  * A place counts bytes from the text's start. It is one where a character of the text begins. */
 #ifndef GIT_DATE_H
@@ -108,57 +107,21 @@ typedef struct git_date_mode {
 /* Reads a date as Git's exact reader does: GIT_COMMITTER_DATE, the date of a mail.
  * GIX_DATE_INVALID_ZONE, GIX_DATE_INVALID_INSTANT; GIX_DATE_NOT_TEXT, GIT_DATE_UNREADABLE,
  * GIT_DATE_NUMBER_TOO_LARGE, GIT_DATE_YEAR_REFUSED, GIT_DATE_RANGE. */
-uint32_t git_date_parse_at_offset(const char *text, size_t text_len, const gix_date_instant *now,
-                                  int32_t offset, git_date_exact *date, size_t *place);
-
-/* git_date_parse_at_offset in the zone of a POSIX rule, with its statuses. */
-uint32_t git_date_parse_in_posix_zone(const char *text, size_t text_len,
-                                      const gix_date_instant *now, const char *rule,
-                                      size_t rule_len, git_date_exact *date, size_t *place);
-
-/* git_date_parse_at_offset in the zone of a TZif file. Takes memory for the zone. Also
- * GIX_DATE_OUT_OF_MEMORY. */
-uint32_t git_date_parse_in_tzif_zone(const char *text, size_t text_len, const gix_date_instant *now,
-                                     const void *file, size_t file_len, git_date_exact *date,
-                                     size_t *place);
+uint32_t git_date_parse_at(const char *text, size_t text_len, const gix_date_instant *now,
+                           gix_date_zone *zone, git_date_exact *date, size_t *place);
 
 /* Reads a date as people write it, as Git reads --since and REF@{..}: "yesterday noon". A word that
  * Git does not know is ignored: "5 mins ago" is the fifth. GIX_DATE_INVALID_ZONE,
  * GIX_DATE_INVALID_INSTANT; GIX_DATE_NOT_TEXT, GIT_DATE_NUMBER_TOO_LARGE, GIT_DATE_BACK_TOO_FAR,
  * GIT_DATE_YEAR_REFUSED, GIT_DATE_RANGE. */
-uint32_t git_date_approxidate_at_offset(const char *text, size_t text_len,
-                                        const gix_date_instant *now, int32_t offset,
-                                        git_date_approximate *date, size_t *place);
-
-/* git_date_approxidate_at_offset in the zone of a POSIX rule, with its statuses. */
-uint32_t git_date_approxidate_in_posix_zone(const char *text, size_t text_len,
-                                            const gix_date_instant *now, const char *rule,
-                                            size_t rule_len, git_date_approximate *date,
-                                            size_t *place);
-
-/* git_date_approxidate_at_offset in the zone of a TZif file. Takes memory for the zone. Also
- * GIX_DATE_OUT_OF_MEMORY. */
-uint32_t git_date_approxidate_in_tzif_zone(const char *text, size_t text_len,
-                                           const gix_date_instant *now, const void *file,
-                                           size_t file_len, git_date_approximate *date,
-                                           size_t *place);
+uint32_t git_date_approxidate_at(const char *text, size_t text_len, const gix_date_instant *now,
+                                 gix_date_zone *zone, git_date_approximate *date, size_t *place);
 
 /* Reads what expires, as Git reads gc.pruneExpire: "never" and "false" are GIT_DATE_NEVER, "all"
- * and "now" GIT_DATE_ALL, and any other text is a date of git_date_approxidate_at_offset. Its
- * statuses, and GIT_DATE_UNREADABLE if nothing of the date was understood. */
-uint32_t git_date_expiry_at_offset(const char *text, size_t text_len, const gix_date_instant *now,
-                                   int32_t offset, git_date_expiry *expiry, size_t *place);
-
-/* git_date_expiry_at_offset in the zone of a POSIX rule, with its statuses. */
-uint32_t git_date_expiry_in_posix_zone(const char *text, size_t text_len,
-                                       const gix_date_instant *now, const char *rule,
-                                       size_t rule_len, git_date_expiry *expiry, size_t *place);
-
-/* git_date_expiry_at_offset in the zone of a TZif file. Takes memory for the zone. Also
- * GIX_DATE_OUT_OF_MEMORY. */
-uint32_t git_date_expiry_in_tzif_zone(const char *text, size_t text_len,
-                                      const gix_date_instant *now, const void *file,
-                                      size_t file_len, git_date_expiry *expiry, size_t *place);
+ * and "now" GIT_DATE_ALL, and any other text is a date of git_date_approxidate_at. Its statuses, and
+ * GIT_DATE_UNREADABLE if nothing of the date was understood. */
+uint32_t git_date_expiry_at(const char *text, size_t text_len, const gix_date_instant *now,
+                            gix_date_zone *zone, git_date_expiry *expiry, size_t *place);
 
 /* The mode of one of Git's names, in its letter case: "iso8601-strict-local", "local". Git's modes
  * "auto:" and "format:" have none. GIX_DATE_NOT_TEXT, GIX_DATE_NO_SUCH_OPTION. */
@@ -167,20 +130,9 @@ uint32_t git_date_mode_named(const char *name, size_t name_len, git_date_mode *m
 /* Writes a time as git log --date=MODE shows it at the moment now, of at most GIT_DATE_MAX_SHOWN
  * bytes. GIX_DATE_INVALID_ZONE, GIX_DATE_INVALID_INSTANT; GIX_DATE_NO_SUCH_OPTION, GIT_DATE_RANGE,
  * GIX_DATE_NO_ROOM. */
-uint32_t git_date_show_at_offset(const gix_date_time *time, const git_date_mode *mode,
-                                 const gix_date_instant *now, int32_t offset, char *out,
-                                 size_t out_len, size_t *len);
-
-/* git_date_show_at_offset in the zone of a POSIX rule. Also GIX_DATE_NOT_TEXT. */
-uint32_t git_date_show_in_posix_zone(const gix_date_time *time, const git_date_mode *mode,
-                                     const gix_date_instant *now, const char *rule, size_t rule_len,
-                                     char *out, size_t out_len, size_t *len);
-
-/* git_date_show_at_offset in the zone of a TZif file. Takes memory for the zone. Also
- * GIX_DATE_OUT_OF_MEMORY. */
-uint32_t git_date_show_in_tzif_zone(const gix_date_time *time, const git_date_mode *mode,
-                                    const gix_date_instant *now, const void *file, size_t file_len,
-                                    char *out, size_t out_len, size_t *len);
+uint32_t git_date_show_at(const gix_date_time *time, const git_date_mode *mode,
+                          const gix_date_instant *now, gix_date_zone *zone, char *out,
+                          size_t out_len, size_t *len);
 
 #ifdef __cplusplus
 }

@@ -14,9 +14,10 @@
  *
  * Seconds count from 1970-01-01 00:00:00 UTC, and an offset is seconds east of UTC.
  *
- * Only calls that say so take memory, by malloc, and free it before they return: do not call these
- * in a signal handler. No call keeps a pointer, has a state, or reads the clock, the environment or
- * a file, so threads may call at once. */
+ * Only calls that say so take memory, by malloc: do not call these in a signal handler. All free it
+ * before they return, but gix_date_zone_read and gix_date_zone_copy, whose zone is freed by
+ * gix_date_zone_free. No call keeps a pointer to what it is given, has a state, or reads the clock,
+ * the environment or a file, so threads may call at once, but not with one gix_date_zone. */
 #ifndef GIX_DATE_H
 #define GIX_DATE_H
 
@@ -31,8 +32,8 @@ extern "C" {
 /* The version of this library, and the number that gix_date_version answers for it: ten thousands
  * for the first number, hundreds for the second. The first number rises if programs have to be
  * changed or linked again, the second if there are new calls. */
-#define GIX_DATE_VERSION "1.0.0"
-#define GIX_DATE_VERSION_NUMBER 10000
+#define GIX_DATE_VERSION "2.0.0"
+#define GIX_DATE_VERSION_NUMBER 20000
 
 /* The version of the Rust crate gix-date that this library ports, and its number. */
 #define GIX_DATE_PORTED_VERSION "0.18.1"
@@ -196,6 +197,21 @@ typedef struct gix_date_signature {
     gix_date_span time;
 } gix_date_signature;
 
+/* A zone. All zero it is UTC, and GIX_DATE_AT_OFFSET(7200) is the zone that is always two hours east
+ * of it. These need no call, and may be copied. gix_date_zone_read makes any other.
+ *
+ * A zone that was read may hold memory until gix_date_zone_free. Do not assign it to another, which
+ * would hold the same memory: gix_date_zone_copy makes another. It goes into one call at a time,
+ * which leaves it as it was, and may go from thread to thread. For calls at once give each thread a
+ * copy: copies share the table of a file. */
+typedef struct gix_date_zone {
+    uint32_t kind;  /* the library's own */
+    int32_t offset; /* seconds east of UTC, if nothing is held */
+    void *held;     /* the library's own */
+} gix_date_zone;
+
+#define GIX_DATE_AT_OFFSET(seconds) {0, (seconds), NULL}
+
 /* The version of the library that is linked: GIX_DATE_VERSION_NUMBER of its own header. */
 uint32_t gix_date_version(void);
 
@@ -229,23 +245,25 @@ uint32_t gix_date_write_header(const gix_date_time *time, char *out, size_t out_
 uint32_t gix_date_parse(const char *text, size_t text_len, uint32_t raw_offsets,
                         gix_date_time *time);
 
-/* Parses as gix_date_parse does a text that may be relative to the moment now, in the zone that
- * always has this offset. GIX_DATE_INVALID_ZONE, GIX_DATE_INVALID_INSTANT; GIX_DATE_NO_SUCH_OPTION,
- * GIX_DATE_NOT_TEXT, GIX_DATE_UNKNOWN_FORMAT, GIX_DATE_DATE_CONVERSION, GIX_DATE_RANGE. */
-uint32_t gix_date_parse_at_offset(const char *text, size_t text_len, uint32_t raw_offsets,
-                                  const gix_date_instant *now, int32_t offset, gix_date_time *time);
+/* Reads a zone for any number of calls. A text that begins with TZif is a file, as those in
+ * /usr/share/zoneinfo; "+0200", "-03:30" and "+02" are offsets; any other is a POSIX rule,
+ * "EST5EDT,M3.2.0,M11.1.0". What the zone held before is freed. Takes memory for a file and a rule.
+ * After a refusal the zone is as it was.
+ * GIX_DATE_NOT_TEXT, GIX_DATE_INVALID_ZONE, GIX_DATE_OUT_OF_MEMORY. */
+uint32_t gix_date_zone_read(const void *text, size_t text_len, gix_date_zone *zone);
 
-/* gix_date_parse_at_offset in the zone of a POSIX rule, "EST5EDT,M3.2.0,M11.1.0", with its
- * statuses. */
-uint32_t gix_date_parse_in_posix_zone(const char *text, size_t text_len, uint32_t raw_offsets,
-                                      const gix_date_instant *now, const char *rule,
-                                      size_t rule_len, gix_date_time *time);
+/* Makes a zone mean what another means. What it held before is freed. Takes memory where the other
+ * holds some. GIX_DATE_OUT_OF_MEMORY. */
+uint32_t gix_date_zone_copy(gix_date_zone *from, gix_date_zone *zone);
 
-/* gix_date_parse_at_offset in the zone of a TZif file, as those in /usr/share/zoneinfo, by its
- * bytes. Takes memory for the zone. Also GIX_DATE_OUT_OF_MEMORY. */
-uint32_t gix_date_parse_in_tzif_zone(const char *text, size_t text_len, uint32_t raw_offsets,
-                                     const gix_date_instant *now, const void *file,
-                                     size_t file_len, gix_date_time *time);
+/* Frees what a zone holds. It is UTC then, and may be freed again. */
+void gix_date_zone_free(gix_date_zone *zone);
+
+/* Parses as gix_date_parse does a text that may be relative to the moment now in a zone.
+ * GIX_DATE_INVALID_ZONE, GIX_DATE_INVALID_INSTANT; GIX_DATE_NO_SUCH_OPTION, GIX_DATE_NOT_TEXT,
+ * GIX_DATE_UNKNOWN_FORMAT, GIX_DATE_DATE_CONVERSION, GIX_DATE_RANGE. */
+uint32_t gix_date_parse_at(const char *text, size_t text_len, uint32_t raw_offsets,
+                           const gix_date_instant *now, gix_date_zone *zone, gix_date_time *time);
 
 /* Parses a date as gix_date_parse does, but refuses it unless each character says something that is
  * used. With GIX_DATE_UNCLEAR *place says where the text stops being careful; no other status
@@ -254,27 +272,12 @@ uint32_t gix_date_parse_carefully(const char *text, size_t text_len,
                                   const gix_date_careful_options *options, gix_date_time *time,
                                   size_t *place);
 
-/* gix_date_parse_carefully at the moment now, in the zone that always has this offset. The statuses
- * are those of gix_date_parse_at_offset, and GIX_DATE_UNCLEAR. */
-uint32_t gix_date_parse_carefully_at_offset(const char *text, size_t text_len,
-                                            const gix_date_careful_options *options,
-                                            const gix_date_instant *now, int32_t offset,
-                                            gix_date_time *time, size_t *place);
-
-/* gix_date_parse_carefully_at_offset in the zone of a POSIX rule, with its statuses. */
-uint32_t gix_date_parse_carefully_in_posix_zone(const char *text, size_t text_len,
-                                                const gix_date_careful_options *options,
-                                                const gix_date_instant *now, const char *rule,
-                                                size_t rule_len, gix_date_time *time,
-                                                size_t *place);
-
-/* gix_date_parse_carefully_at_offset in the zone of a TZif file, by its bytes. Takes memory for the
- * zone. Also GIX_DATE_OUT_OF_MEMORY. */
-uint32_t gix_date_parse_carefully_in_tzif_zone(const char *text, size_t text_len,
-                                               const gix_date_careful_options *options,
-                                               const gix_date_instant *now, const void *file,
-                                               size_t file_len, gix_date_time *time,
-                                               size_t *place);
+/* gix_date_parse_carefully at the moment now in a zone. The statuses are those of gix_date_parse_at,
+ * and GIX_DATE_UNCLEAR. */
+uint32_t gix_date_parse_carefully_at(const char *text, size_t text_len,
+                                     const gix_date_careful_options *options,
+                                     const gix_date_instant *now, gix_date_zone *zone,
+                                     gix_date_time *time, size_t *place);
 
 /* Writes a time in a format of enum gix_date_named_format. Takes memory for the text only in years
  * before 1000 or at offsets with seconds.

@@ -1,5 +1,5 @@
 /* Makes the calls of git_date.h that rows name, for rows.c. A date in the zone of an offset is read
- * and shown by a rule that says this offset too. */
+ * and shown by a rule that says this offset too, and any other by a copy of its zone. */
 #include "rows.h"
 
 #include "git_date.h"
@@ -41,13 +41,6 @@ static const reading untouched = {
     GIX_DATE_OK,          (size_t)-2, {{-77, -7}, 9}, {{-77, -7}, 9, true},
     {99, {{-77, -7}, 9, true}}};
 
-/* A zone of a row: an offset, the bytes of a TZif file, or a rule. */
-typedef struct zone {
-    enum { OFFSET, FILE_BYTES, RULE } kind;
-    int32_t offset;
-    field bytes;
-} zone;
-
 static bool is_same_date(const git_date_approximate *one, const git_date_approximate *other)
 {
     return one->time.seconds == other->time.seconds && one->time.offset == other->time.offset &&
@@ -65,63 +58,16 @@ static bool stored_nothing(const reading *seen)
            is_same_date(&seen->expiry.before, &untouched.expiry.before);
 }
 
-static uint32_t read_exactly(field text, const gix_date_instant *now, const zone *in, reading *seen)
+static uint32_t read_text(enum reader reader, field text, const gix_date_instant *now,
+                          gix_date_zone *in, reading *seen)
 {
-    switch (in->kind) {
-    case OFFSET:
-        return git_date_parse_at_offset(TEXT(text), now, in->offset, &seen->exact, &seen->place);
-    case RULE:
-        return git_date_parse_in_posix_zone(TEXT(text), now, TEXT(in->bytes), &seen->exact,
-                                            &seen->place);
+    switch (reader) {
+    case EXACT:
+        return git_date_parse_at(TEXT(text), now, in, &seen->exact, &seen->place);
+    case APPROXIMATE:
+        return git_date_approxidate_at(TEXT(text), now, in, &seen->approximate, &seen->place);
     default:
-        return git_date_parse_in_tzif_zone(TEXT(text), now, TEXT(in->bytes), &seen->exact,
-                                           &seen->place);
-    }
-}
-
-static uint32_t read_approximately(field text, const gix_date_instant *now, const zone *in,
-                                   reading *seen)
-{
-    switch (in->kind) {
-    case OFFSET:
-        return git_date_approxidate_at_offset(TEXT(text), now, in->offset, &seen->approximate,
-                                              &seen->place);
-    case RULE:
-        return git_date_approxidate_in_posix_zone(TEXT(text), now, TEXT(in->bytes),
-                                                  &seen->approximate, &seen->place);
-    default:
-        return git_date_approxidate_in_tzif_zone(TEXT(text), now, TEXT(in->bytes),
-                                                 &seen->approximate, &seen->place);
-    }
-}
-
-static uint32_t read_expiry(field text, const gix_date_instant *now, const zone *in, reading *seen)
-{
-    switch (in->kind) {
-    case OFFSET:
-        return git_date_expiry_at_offset(TEXT(text), now, in->offset, &seen->expiry, &seen->place);
-    case RULE:
-        return git_date_expiry_in_posix_zone(TEXT(text), now, TEXT(in->bytes), &seen->expiry,
-                                             &seen->place);
-    default:
-        return git_date_expiry_in_tzif_zone(TEXT(text), now, TEXT(in->bytes), &seen->expiry,
-                                            &seen->place);
-    }
-}
-
-static uint32_t show(gix_date_time time, git_date_mode mode, const gix_date_instant *now,
-                     const zone *in, answer *told)
-{
-    char *out = told->bytes;
-    switch (in->kind) {
-    case OFFSET:
-        return git_date_show_at_offset(&time, &mode, now, in->offset, out, MAX_ANSWER, &told->len);
-    case RULE:
-        return git_date_show_in_posix_zone(&time, &mode, now, TEXT(in->bytes), out, MAX_ANSWER,
-                                           &told->len);
-    default:
-        return git_date_show_in_tzif_zone(&time, &mode, now, TEXT(in->bytes), out, MAX_ANSWER,
-                                          &told->len);
+        return git_date_expiry_at(TEXT(text), now, in, &seen->expiry, &seen->place);
     }
 }
 
@@ -171,12 +117,10 @@ static void tell_ignored(size_t place, answer *told)
 
 /* Reads a text in a zone, and tells what of it the row asks for. */
 static void read_in(enum reader reader, bool of_ignored, field text, const gix_date_instant *now,
-                    const zone *in, answer *told)
+                    gix_date_zone *in, answer *told)
 {
     reading seen = untouched;
-    seen.status = reader == EXACT         ? read_exactly(text, now, in, &seen)
-                  : reader == APPROXIMATE ? read_approximately(text, now, in, &seen)
-                                          : read_expiry(text, now, in, &seen);
+    seen.status = read_text(reader, text, now, in, &seen);
     if (is_refused_at(seen.status, seen.place, told)) {
         if (!stored_nothing(&seen))
             tell_apart(told);
@@ -192,52 +136,52 @@ static void read_in(enum reader reader, bool of_ignored, field text, const gix_d
 }
 
 static void show_in(gix_date_time time, git_date_mode mode, const gix_date_instant *now,
-                    const zone *in, answer *told)
+                    gix_date_zone *in, answer *told)
 {
-    is_refused_at(show(time, mode, now, in, told), untouched.place, told);
+    uint32_t status =
+        git_date_show_at(&time, &mode, now, in, told->bytes, MAX_ANSWER, &told->len);
+    is_refused_at(status, untouched.place, told);
 }
 
-/* A zone of a name, where it is a file with its bytes. */
-static zone zone_of(field name)
+/* Puts in the place of a zone what means the same: the rule that always has its offset, within a day, or else
+ * a copy. */
+static void in_other_words(field name, gix_date_zone *zone)
 {
+    char room[32];
     int64_t offset;
-    if (is_file_name(name))
-        return (zone){FILE_BYTES, 0, read_file(name.bytes)};
-    if (to_number(name.bytes, &offset))
-        return (zone){OFFSET, (int32_t)offset, name};
-    return (zone){RULE, 0, name};
+    int64_t size = to_number(name.bytes, &offset) ? imaxabs(offset) : 86400;
+    if (size >= 86400) {
+        in_copy(zone);
+        return;
+    }
+    int len = snprintf(room, sizeof room, "<ROW>%s%d:%02d:%02d", offset < 0 ? "" : "-",
+                       (int)size / 3600, (int)size / 60 % 60, (int)size % 60);
+    if (gix_date_zone_read(room, (size_t)len, zone) != GIX_DATE_OK)
+        abort();
 }
 
-/* The rule that always has this offset, within a day. */
-static bool to_rule(int32_t offset, char *room, size_t size, zone *rule)
+/* Answers a zone that is refused. */
+static bool is_no_zone(uint32_t status, answer *told)
 {
-    int32_t size_of_it = offset < 0 ? -offset : offset;
-    if (size_of_it >= 86400)
-        return false;
-    int len = snprintf(room, size, "<ROW>%s%d:%02d:%02d", offset < 0 ? "" : "-", size_of_it / 3600,
-                       size_of_it / 60 % 60, size_of_it % 60);
-    *rule = (zone){RULE, 0, {room, (size_t)len}};
-    return true;
+    return status != GIX_DATE_OK && is_refused_at(status, untouched.place, told);
 }
 
 /* Reads the text of a row, at the moment before it. */
 static bool read_row(enum reader reader, bool of_ignored, arguments *row, answer *told)
 {
     gix_date_instant now;
+    gix_date_zone zone;
+    answer other;
     field moment = take(row), text = take(row), name;
-    char room[32];
-    zone rule;
     if (!to_moment(moment, &now, &name))
         return false;
-    zone in = zone_of(name);
-    read_in(reader, of_ignored, text, &now, &in, told);
-    if (in.kind == OFFSET && to_rule(in.offset, room, sizeof room, &rule)) {
-        answer other;
-        read_in(reader, of_ignored, text, &now, &rule, &other);
-        agree(told, &other);
-    }
-    if (in.kind == FILE_BYTES)
-        free(in.bytes.bytes);
+    if (is_no_zone(read_zone(name, &zone), told))
+        return true;
+    read_in(reader, of_ignored, text, &now, &zone, told);
+    in_other_words(name, &zone);
+    read_in(reader, of_ignored, text, &now, &zone, &other);
+    agree(told, &other);
+    gix_date_zone_free(&zone);
     return true;
 }
 
@@ -247,21 +191,19 @@ static bool show_row(arguments *row, answer *told)
     gix_date_instant now;
     gix_date_time time;
     git_date_mode mode;
+    gix_date_zone zone;
+    answer other;
     field name = take(row), moment = take(row), zone_name;
-    char room[32];
-    zone rule;
     if (git_date_mode_named(TEXT(name), &mode) != GIX_DATE_OK ||
         !to_moment(moment, &now, &zone_name) || !take_time(row, &time))
         return false;
-    zone in = zone_of(zone_name);
-    show_in(time, mode, &now, &in, told);
-    if (in.kind == OFFSET && to_rule(in.offset, room, sizeof room, &rule)) {
-        answer other;
-        show_in(time, mode, &now, &rule, &other);
-        agree(told, &other);
-    }
-    if (in.kind == FILE_BYTES)
-        free(in.bytes.bytes);
+    if (is_no_zone(read_zone(zone_name, &zone), told))
+        return true;
+    show_in(time, mode, &now, &zone, told);
+    in_other_words(zone_name, &zone);
+    show_in(time, mode, &now, &zone, &other);
+    agree(told, &other);
+    gix_date_zone_free(&zone);
     return true;
 }
 

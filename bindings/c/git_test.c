@@ -4,8 +4,6 @@
 #include "git_date.h"
 #include "test.h"
 
-static const char new_york[] = "EST5EDT,M3.2.0,M11.1.0";
-
 /* A Sunday in UTC, and an hour of New York that its clock shows twice. */
 static const gix_date_instant sunday = {1251660000, 0}, in_fold = {1699165800, 0};
 
@@ -53,28 +51,24 @@ static void exact_dates(void)
     for (size_t i = 0; i < sizeof rows / sizeof *rows; i++) {
         git_date_exact date = no_date;
         size_t place = NO_PLACE;
-        uint32_t status = git_date_parse_at_offset(TEXT(rows[i].text), &sunday, 0, &date, &place);
+        uint32_t status = git_date_parse_at(TEXT(rows[i].text), &sunday, AT(0), &date, &place);
         EXPECT(status == rows[i].status && place == rows[i].place, "%s: %u, %zu", rows[i].text,
                status, place);
         EXPECT(is_exact(date, -77, -7, 9), "%s", rows[i].text);
     }
     git_date_exact date = no_date;
     size_t place = NO_PLACE;
-    EXPECT(git_date_parse_at_offset(TEXT("2008-02-14 20:30:45 IST"), &sunday, 0, &date, &place) ==
+    EXPECT(git_date_parse_at(TEXT("2008-02-14 20:30:45 IST"), &sunday, AT(0), &date, &place) ==
                    GIX_DATE_OK &&
                is_exact(date, 1203021045, 0, 20),
            "%lld %zu", (long long)date.time.seconds, date.ignored);
-    EXPECT(git_date_parse_at_offset(TEXT("2008-02-14 20:30:45 EST"), &sunday, 0, &date, &place) ==
+    EXPECT(git_date_parse_at(TEXT("2008-02-14 20:30:45 EST"), &sunday, AT(0), &date, &place) ==
                    GIX_DATE_OK &&
                is_exact(date, 1203039045, -18000, GIT_DATE_NOTHING),
            "%lld %zu", (long long)date.time.seconds, date.ignored);
-    EXPECT(git_date_parse_at_offset(TEXT("2005-04-07 22:13:13"), &sunday, -16200, &date, &place) ==
+    EXPECT(git_date_parse_at(TEXT("2005-04-07 22:13:13"), &sunday, AT(-16200), &date, &place) ==
                    GIX_DATE_OK &&
                is_exact(date, 1112928193, -16200, GIT_DATE_NOTHING),
-           "%lld", (long long)date.time.seconds);
-    EXPECT(git_date_parse_in_posix_zone(TEXT("2023-07-01 12:00"), &sunday, TEXT(new_york), &date,
-                                        &place) == GIX_DATE_OK &&
-               is_exact(date, 1688227200, -14400, GIT_DATE_NOTHING),
            "%lld", (long long)date.time.seconds);
     EXPECT(place == NO_PLACE, "%zu", place);
 }
@@ -91,29 +85,24 @@ static void approximate_dates(void)
         git_date_approximate date = no_guess;
         size_t place = NO_PLACE;
         uint32_t status =
-            git_date_approxidate_at_offset(TEXT(rows[i].text), &sunday, 0, &date, &place);
+            git_date_approxidate_at(TEXT(rows[i].text), &sunday, AT(0), &date, &place);
         EXPECT(status == rows[i].status && place == rows[i].place, "%s: %u, %zu", rows[i].text,
                status, place);
         EXPECT(is_no_guess(date), "%s", rows[i].text);
     }
     git_date_approximate date = no_guess;
     size_t place = NO_PLACE;
-    EXPECT(git_date_approxidate_at_offset(TEXT("5 mins ago"), &sunday, 0, &date, &place) ==
+    EXPECT(git_date_approxidate_at(TEXT("5 mins ago"), &sunday, AT(0), &date, &place) ==
                    GIX_DATE_OK &&
                is_approximate(date, 1249500000, 0, 2, true),
            "%lld %zu", (long long)date.time.seconds, date.ignored);
-    EXPECT(git_date_approxidate_at_offset(TEXT("last friday at noon"), &sunday, 0, &date, &place) ==
+    EXPECT(git_date_approxidate_at(TEXT("last friday at noon"), &sunday, AT(0), &date, &place) ==
                    GIX_DATE_OK &&
                is_approximate(date, 1251460800, 0, GIT_DATE_NOTHING, true),
            "%lld %zu", (long long)date.time.seconds, date.ignored);
-    EXPECT(git_date_approxidate_at_offset(TEXT("lst day, llast day"), &sunday, 0, &date, &place) ==
+    EXPECT(git_date_approxidate_at(TEXT("lst day, llast day"), &sunday, AT(0), &date, &place) ==
                    GIX_DATE_OK &&
                is_time(date.time, 1251660000, 0) && !date.understood,
-           "%lld", (long long)date.time.seconds);
-    EXPECT(git_date_approxidate_in_posix_zone(TEXT("noon july 1"),
-                                              &(gix_date_instant){1700000000, 0}, TEXT(new_york),
-                                              &date, &place) == GIX_DATE_OK &&
-               is_time(date.time, 1688227200, -14400),
            "%lld", (long long)date.time.seconds);
     EXPECT(place == NO_PLACE, "%zu", place);
 }
@@ -122,7 +111,7 @@ static void expect_expiry(const char *text, uint32_t status, uint32_t kind, int6
 {
     git_date_expiry expiry = no_expiry;
     size_t place = NO_PLACE;
-    EXPECT(git_date_expiry_at_offset(TEXT(text), &sunday, 0, &expiry, &place) == status, "%s",
+    EXPECT(git_date_expiry_at(TEXT(text), &sunday, AT(0), &expiry, &place) == status, "%s",
            text);
     EXPECT(expiry.kind == kind && place == NO_PLACE, "%s: %u", text, expiry.kind);
     if (kind == GIT_DATE_BEFORE)
@@ -143,14 +132,56 @@ static void expiries(void)
     expect_expiry("2008\xc3", GIX_DATE_NOT_TEXT, 99, 0);
     git_date_expiry expiry = no_expiry;
     size_t place = NO_PLACE;
-    EXPECT(git_date_expiry_at_offset(TEXT("10600130-0-2004"), &sunday, 0, &expiry, &place) ==
+    EXPECT(git_date_expiry_at(TEXT("10600130-0-2004"), &sunday, AT(0), &expiry, &place) ==
                    GIT_DATE_YEAR_REFUSED &&
                place == 0 && expiry.kind == 99,
            "%zu", place);
-    EXPECT(git_date_expiry_in_posix_zone(TEXT("never"), &sunday, TEXT(new_york), &expiry, &place) ==
+}
+
+/* Dates in New York, by the zone's rule and its file, which serve all calls and take no memory in them. */
+static void dates_in(gix_date_zone *zone)
+{
+    static const gix_date_instant november = {1700000000, 0};
+    git_date_exact date = no_date;
+    git_date_approximate guess = no_guess;
+    git_date_expiry expiry = no_expiry;
+    size_t place = NO_PLACE;
+    const demand before = so_far();
+    EXPECT(git_date_parse_at(TEXT("2023-07-01 12:00"), &sunday, zone, &date, &place) ==
                    GIX_DATE_OK &&
+               is_exact(date, 1688227200, -14400, GIT_DATE_NOTHING),
+           "%lld", (long long)date.time.seconds);
+    EXPECT(git_date_parse_at(TEXT("2023-11-05 01:30"), &in_fold, zone, &date, &place) ==
+                   GIX_DATE_OK &&
+               is_exact(date, 1699162200, -14400, GIT_DATE_NOTHING),
+           "%lld", (long long)date.time.seconds);
+    EXPECT(git_date_approxidate_at(TEXT("noon july 1"), &november, zone, &guess, &place) ==
+                   GIX_DATE_OK &&
+               is_time(guess.time, 1688227200, -14400),
+           "%lld", (long long)guess.time.seconds);
+    /* At night noon is that of the day before, so the 1 is ignored. */
+    EXPECT(git_date_approxidate_at(TEXT("noon july 1"), &in_fold, zone, &guess, &place) ==
+                   GIX_DATE_OK &&
+               is_approximate(guess, 1688486400, -14400, 10, true),
+           "%lld", (long long)guess.time.seconds);
+    EXPECT(git_date_expiry_at(TEXT("never"), &sunday, zone, &expiry, &place) == GIX_DATE_OK &&
                expiry.kind == GIT_DATE_NEVER,
            "%u", expiry.kind);
+    EXPECT(git_date_expiry_at(TEXT("noon july 1"), &in_fold, zone, &expiry, &place) ==
+                   GIX_DATE_OK &&
+               expiry.kind == GIT_DATE_BEFORE && is_time(expiry.before.time, 1688486400, -14400),
+           "%lld", (long long)expiry.before.time.seconds);
+    expect_demand(before, none, "dates in a zone");
+    EXPECT(place == NO_PLACE, "%zu", place);
+}
+
+static void dates_in_new_york(void)
+{
+    gix_date_zone zones[] = {zone_of(TEXT(new_york)), zone_of(BYTES(zone_file))};
+    for (size_t i = 0; i < sizeof zones / sizeof *zones; i++) {
+        dates_in(&zones[i]);
+        gix_date_zone_free(&zones[i]);
+    }
 }
 
 /* A moment and a zone that are none are told before anything of the text. */
@@ -165,27 +196,21 @@ static void moments(void)
     char out[4];
     size_t place = NO_PLACE, len = 99;
     const uint32_t bad_zone = GIX_DATE_INVALID_ZONE, bad_instant = GIX_DATE_INVALID_INSTANT;
-    EXPECT(git_date_parse_at_offset(BYTES("\xff"), &odd, 93600, &date, &place) == bad_zone, "zone");
-    EXPECT(git_date_parse_at_offset(BYTES("\xff"), &odd, 0, &date, &place) == bad_instant,
+    EXPECT(git_date_parse_at(BYTES("\xff"), &odd, AT(93600), &date, &place) == bad_zone, "zone");
+    EXPECT(git_date_parse_at(BYTES("\xff"), &odd, AT(0), &date, &place) == bad_instant,
            "moment");
-    EXPECT(git_date_parse_in_posix_zone(BYTES("\xff"), &odd, TEXT("banana"), &date, &place) ==
-               bad_zone,
+    EXPECT(git_date_approxidate_at(TEXT("now"), &odd, AT(-93600), &guess, &place) == bad_zone,
            "zone");
-    EXPECT(git_date_parse_in_posix_zone(TEXT("now"), &sunday, BYTES("\xff"), &date, &place) ==
-               GIX_DATE_NOT_TEXT,
-           "zone");
-    EXPECT(git_date_approxidate_at_offset(TEXT("now"), &odd, -93600, &guess, &place) == bad_zone,
-           "zone");
-    EXPECT(git_date_approxidate_at_offset(TEXT("now"), &odd, 0, &guess, &place) == bad_instant,
+    EXPECT(git_date_approxidate_at(TEXT("now"), &odd, AT(0), &guess, &place) == bad_instant,
            "moment");
-    EXPECT(git_date_expiry_at_offset(TEXT("never"), &odd, 93600, &expiry, &place) == bad_zone,
+    EXPECT(git_date_expiry_at(TEXT("never"), &odd, AT(93600), &expiry, &place) == bad_zone,
            "zone");
-    EXPECT(git_date_expiry_at_offset(TEXT("never"), &odd, 0, &expiry, &place) == bad_instant,
+    EXPECT(git_date_expiry_at(TEXT("never"), &odd, AT(0), &expiry, &place) == bad_instant,
            "moment");
-    EXPECT(git_date_show_at_offset(&day, &mode, &odd, 93600, out, sizeof out, &len) == bad_zone &&
+    EXPECT(git_date_show_at(&day, &mode, &odd, AT(93600), out, sizeof out, &len) == bad_zone &&
                len == 0,
            "zone");
-    EXPECT(git_date_show_at_offset(&day, &mode, &odd, 0, out, sizeof out, &len) == bad_instant,
+    EXPECT(git_date_show_at(&day, &mode, &odd, AT(0), out, sizeof out, &len) == bad_instant,
            "moment");
     EXPECT(is_exact(date, -77, -7, 9) && is_no_guess(guess) && is_no_guess(expiry.before) &&
                expiry.kind == 99 && place == NO_PLACE,
@@ -202,21 +227,15 @@ static void null_pointers(void)
     git_date_expiry expiry = no_expiry;
     git_date_mode named = mode;
     size_t place = NO_PLACE, len = 99;
-    EXPECT(git_date_parse_at_offset(NULL, 0, &sunday, 0, &date, &place) == GIT_DATE_UNREADABLE,
+    EXPECT(git_date_parse_at(NULL, 0, &sunday, AT(0), &date, &place) == GIT_DATE_UNREADABLE,
            "a date");
-    EXPECT(git_date_parse_in_posix_zone(TEXT("now"), &sunday, NULL, 0, &date, &place) ==
-               GIX_DATE_INVALID_ZONE,
-           "a rule");
-    EXPECT(git_date_parse_in_tzif_zone(TEXT("now"), &sunday, NULL, 0, &date, &place) ==
-               GIX_DATE_INVALID_ZONE,
-           "a file");
-    EXPECT(git_date_approxidate_at_offset(NULL, 0, &sunday, 0, &guess, &place) == GIX_DATE_OK &&
+    EXPECT(git_date_approxidate_at(NULL, 0, &sunday, AT(0), &guess, &place) == GIX_DATE_OK &&
                is_approximate(guess, 1251660000, 0, GIT_DATE_NOTHING, false),
            "a date");
-    EXPECT(git_date_expiry_at_offset(NULL, 0, &sunday, 0, &expiry, &place) == GIT_DATE_UNREADABLE,
+    EXPECT(git_date_expiry_at(NULL, 0, &sunday, AT(0), &expiry, &place) == GIT_DATE_UNREADABLE,
            "a date");
     EXPECT(git_date_mode_named(NULL, 0, &named) == GIX_DATE_NO_SUCH_OPTION, "a mode");
-    EXPECT(git_date_show_at_offset(&day, &mode, &sunday, 0, NULL, 0, &len) == GIX_DATE_NO_ROOM &&
+    EXPECT(git_date_show_at(&day, &mode, &sunday, AT(0), NULL, 0, &len) == GIX_DATE_NO_ROOM &&
                len == 25,
            "%zu", len);
     EXPECT(place == NO_PLACE && is_exact(date, -77, -7, 9), "a refusal stores nothing");
@@ -250,15 +269,12 @@ static void modes(void)
     EXPECT(mode.kind == 99 && mode.local, "a refusal stores nothing");
 }
 
-/* The noon of July 1, 2023 in New York, which is shown by the zone's file or its rule. */
-static uint32_t show_in_new_york(bool by_file, git_date_mode mode, char *out, size_t room,
+/* The noon of July 1, 2023 in New York. */
+static uint32_t show_in_new_york(gix_date_zone *zone, git_date_mode mode, char *out, size_t room,
                                  size_t *len)
 {
     static const gix_date_time time = {1688227200, 0};
-    return by_file ? git_date_show_in_tzif_zone(&time, &mode, &in_fold, BYTES(zone_file), out, room,
-                                                len)
-                   : git_date_show_in_posix_zone(&time, &mode, &in_fold, TEXT(new_york), out, room,
-                                                 len);
+    return git_date_show_at(&time, &mode, &in_fold, zone, out, room, len);
 }
 
 /* What Git shows of 1251660000 +0000 two hours later. */
@@ -287,22 +303,21 @@ static const char *const shown_locally[] = {
     "1688227200",
 };
 
-/* A buffer of each length, too short or not, for the text that is due. */
-static void expect_shown(const char *due, uint32_t kind, const char *zone)
+/* A buffer of each length, too short or not, for the text that is due: in New York's zone, or in none. */
+static void expect_shown(const char *due, uint32_t kind, gix_date_zone *zone)
 {
     static const gix_date_time time = {1251660000, 0};
     static const gix_date_instant later = {1251667200, 0};
-    const git_date_mode mode = {kind, *zone != 0};
+    const git_date_mode mode = {kind, zone != NULL};
     for (size_t room = 0; room <= strlen(due) + 1; room++) {
         char *buffer = malloc(room + 1);
         memset(buffer, '#', room + 1);
         size_t len = 99;
-        bool fits = room >= strlen(due), by_file = !strcmp(zone, "file");
+        bool fits = room >= strlen(due);
         demand before = so_far();
-        uint32_t status =
-            *zone ? show_in_new_york(by_file, mode, buffer, room, &len)
-                  : git_date_show_at_offset(&time, &mode, &later, 0, buffer, room, &len);
-        expect_demand(before, by_file ? (demand){1, 40} : none, due);
+        uint32_t status = zone ? show_in_new_york(zone, mode, buffer, room, &len)
+                               : git_date_show_at(&time, &mode, &later, AT(0), buffer, room, &len);
+        expect_demand(before, none, due);
         EXPECT(status == (fits ? GIX_DATE_OK : GIX_DATE_NO_ROOM) && len == strlen(due),
                "%s: %u, %zu", due, status, len);
         EXPECT(fits ? holds(buffer, room + 1, due, len) : is_untouched(buffer, room + 1), "%s",
@@ -313,12 +328,15 @@ static void expect_shown(const char *due, uint32_t kind, const char *zone)
 
 static void shown_dates(void)
 {
+    gix_date_zone rule = zone_of(TEXT(new_york)), file = zone_of(BYTES(zone_file));
     for (uint32_t kind = 0; kind < sizeof shown / sizeof *shown; kind++) {
-        expect_shown(shown[kind], kind, "");
-        expect_shown(shown_locally[kind], kind, "rule");
-        expect_shown(shown_locally[kind], kind, "file");
+        expect_shown(shown[kind], kind, NULL);
+        expect_shown(shown_locally[kind], kind, &rule);
+        expect_shown(shown_locally[kind], kind, &file);
         EXPECT(strlen(shown[kind]) <= GIT_DATE_MAX_SHOWN, "%s", shown[kind]);
     }
+    gix_date_zone_free(&rule);
+    gix_date_zone_free(&file);
 }
 
 static void refused_to_show(void)
@@ -331,98 +349,20 @@ static void refused_to_show(void)
     size_t len = 99;
     memset(buffer, '#', sizeof buffer);
     memset(&neither.local, 2, 1);
-    EXPECT(git_date_show_at_offset(&early, &iso, &sunday, 0, out, sizeof buffer, &len) ==
+    EXPECT(git_date_show_at(&early, &iso, &sunday, AT(0), out, sizeof buffer, &len) ==
                    GIT_DATE_RANGE &&
                len == 0,
            "before 1970");
-    EXPECT(git_date_show_at_offset(&odd, &iso, &sunday, 0, out, sizeof buffer, &len) ==
+    EXPECT(git_date_show_at(&odd, &iso, &sunday, AT(0), out, sizeof buffer, &len) ==
                GIT_DATE_RANGE,
            "an offset with seconds");
-    EXPECT(git_date_show_at_offset(&day, &none_such, &sunday, 0, out, sizeof buffer, &len) ==
+    EXPECT(git_date_show_at(&day, &none_such, &sunday, AT(0), out, sizeof buffer, &len) ==
                GIX_DATE_NO_SUCH_OPTION,
            "kind 9");
-    EXPECT(git_date_show_at_offset(&day, &neither, &sunday, 0, out, sizeof buffer, &len) ==
+    EXPECT(git_date_show_at(&day, &neither, &sunday, AT(0), out, sizeof buffer, &len) ==
                GIX_DATE_NO_SUCH_OPTION,
            "neither true nor false");
-    EXPECT(git_date_show_in_posix_zone(&day, &iso, &sunday, BYTES("\xff"), out, sizeof buffer,
-                                       &len) == GIX_DATE_NOT_TEXT,
-           "a rule that is no text");
     EXPECT(len == 0 && is_untouched(buffer, sizeof buffer), "a refusal stores nothing");
-}
-
-/* What a call with a file of a zone answers. It is made with each start of the file and the whole
- * of it, and is refused memory once. At night noon is that of the day before, so the 1 is ignored.
- */
-typedef uint32_t with_file(const void *file, size_t len);
-
-static uint32_t parse_with(const void *file, size_t len)
-{
-    git_date_exact date = no_date;
-    size_t place = NO_PLACE;
-    uint32_t status =
-        git_date_parse_in_tzif_zone(TEXT("2023-11-05 01:30"), &in_fold, file, len, &date, &place);
-    EXPECT(status == GIX_DATE_OK ? is_exact(date, 1699162200, -14400, GIT_DATE_NOTHING)
-                                 : is_exact(date, -77, -7, 9),
-           "%lld", (long long)date.time.seconds);
-    EXPECT(place == NO_PLACE, "%zu", place);
-    return status;
-}
-
-static uint32_t approxidate_with(const void *file, size_t len)
-{
-    git_date_approximate date = no_guess;
-    size_t place = NO_PLACE;
-    uint32_t status =
-        git_date_approxidate_in_tzif_zone(TEXT("noon july 1"), &in_fold, file, len, &date, &place);
-    EXPECT(status == GIX_DATE_OK ? is_approximate(date, 1688486400, -14400, 10, true)
-                                 : is_no_guess(date),
-           "%lld", (long long)date.time.seconds);
-    EXPECT(place == NO_PLACE, "%zu", place);
-    return status;
-}
-
-static uint32_t expiry_with(const void *file, size_t len)
-{
-    git_date_expiry expiry = no_expiry;
-    size_t place = NO_PLACE;
-    uint32_t status =
-        git_date_expiry_in_tzif_zone(TEXT("noon july 1"), &in_fold, file, len, &expiry, &place);
-    EXPECT(status == GIX_DATE_OK
-               ? expiry.kind == GIT_DATE_BEFORE && is_time(expiry.before.time, 1688486400, -14400)
-               : expiry.kind == 99 && is_no_guess(expiry.before),
-           "%lld", (long long)expiry.before.time.seconds);
-    EXPECT(place == NO_PLACE, "%zu", place);
-    return status;
-}
-
-static uint32_t show_with(const void *file, size_t len)
-{
-    static const gix_date_time time = {1688227200, 0};
-    const git_date_mode mode = {GIT_DATE_ISO8601, true};
-    char out[64];
-    size_t out_len = 99;
-    memset(out, '#', sizeof out);
-    uint32_t status =
-        git_date_show_in_tzif_zone(&time, &mode, &in_fold, file, len, out, sizeof out, &out_len);
-    EXPECT(status == GIX_DATE_OK ? holds(out, sizeof out, "2023-07-01 12:00:00 -0400", out_len)
-                                 : out_len == 0 && is_untouched(out, sizeof out),
-           "%zu", out_len);
-    return status;
-}
-
-static void zone_files(with_file *call, const char *name)
-{
-    const size_t whole = sizeof zone_file - 1;
-    demand before = so_far();
-    EXPECT(call(zone_file, whole) == GIX_DATE_OK, "%s", name);
-    expect_demand(before, (demand){1, 40}, name);
-    for (size_t len = 0; len < whole; len++)
-        EXPECT(call(zone_file, len) == GIX_DATE_INVALID_ZONE, "%s: a file of %zu bytes", name, len);
-    before = so_far();
-    refuses = true;
-    EXPECT(call(zone_file, whole) == GIX_DATE_OUT_OF_MEMORY, "%s", name);
-    refuses = false;
-    expect_demand(before, (demand){1, 40}, name);
 }
 
 enum { LONG = 60000 };
@@ -446,14 +386,14 @@ static void long_texts(void)
         git_date_mode mode;
         size_t place = NO_PLACE;
         bool is_sign = *pieces[i] == '-';
-        uint32_t status = git_date_parse_at_offset(text, len, &sunday, 0, &exact, &place);
+        uint32_t status = git_date_parse_at(text, len, &sunday, AT(0), &exact, &place);
         EXPECT(is_sign ? status == GIT_DATE_UNREADABLE
                        : status == GIX_DATE_OK && is_time(exact.time, 1112864400, 3600),
                "%s: %u", pieces[i], status);
-        status = git_date_approxidate_at_offset(text, len, &sunday, 0, &guess, &place);
+        status = git_date_approxidate_at(text, len, &sunday, AT(0), &guess, &place);
         EXPECT(status == GIX_DATE_OK && guess.time.seconds == (is_sign ? 1112868000 : 1112864400),
                "%s: %u, %lld", pieces[i], status, (long long)guess.time.seconds);
-        status = git_date_expiry_at_offset(text, len, &sunday, 0, &expiry, &place);
+        status = git_date_expiry_at(text, len, &sunday, AT(0), &expiry, &place);
         EXPECT(status == GIX_DATE_OK && expiry.before.time.seconds == guess.time.seconds, "%s: %u",
                pieces[i], status);
         EXPECT(git_date_mode_named(text, len, &mode) == GIX_DATE_NO_SUCH_OPTION, "%s", pieces[i]);
@@ -492,10 +432,12 @@ static void *reads_and_shows(void *unused)
         modes();
         char out[GIT_DATE_MAX_SHOWN];
         size_t len;
-        EXPECT(show_in_new_york(true, (git_date_mode){GIT_DATE_DEFAULT, true}, out, sizeof out,
+        gix_date_zone zone = zone_of(BYTES(zone_file));
+        EXPECT(show_in_new_york(&zone, (git_date_mode){GIT_DATE_DEFAULT, true}, out, sizeof out,
                                 &len) == GIX_DATE_OK &&
                    len == 23 && !memcmp(out, "Sat Jul 1 12:00:00 2023", 23),
                "a thread");
+        gix_date_zone_free(&zone);
     }
     return NULL;
 }
@@ -512,10 +454,7 @@ int main(void)
     without_memory(refused_to_show, "dates that are not shown");
     without_memory(long_texts, "long texts");
     shown_dates();
-    zone_files(parse_with, "git_date_parse_in_tzif_zone");
-    zone_files(approxidate_with, "git_date_approxidate_in_tzif_zone");
-    zone_files(expiry_with, "git_date_expiry_in_tzif_zone");
-    zone_files(show_with, "git_date_show_in_tzif_zone");
+    dates_in_new_york();
     in_threads(reads_and_shows);
     if (failures > 0)
         return 1;

@@ -228,11 +228,6 @@ static void parse_alone(const manner *how, field text, answer *told)
     tell_date(status, time, place, told);
 }
 
-bool is_file_name(field zone)
-{
-    return zone.len > 5 && !strcmp(zone.bytes + zone.len - 5, ".tzif");
-}
-
 bool to_moment(field moment, gix_date_instant *now, field *zone)
 {
     char *rest;
@@ -244,34 +239,60 @@ bool to_moment(field moment, gix_date_instant *now, field *zone)
     return true;
 }
 
-/* A date parsed at an instant in a zone: an offset, the name of a TZif file, or a rule. */
-static void parse_in(const manner *how, field text, const gix_date_instant *now, field zone,
-                     answer *told)
+uint32_t read_zone(field name, gix_date_zone *zone)
+{
+    int64_t offset;
+    *zone = (gix_date_zone)GIX_DATE_AT_OFFSET(0);
+    if (name.len > 5 && !strcmp(name.bytes + name.len - 5, ".tzif")) {
+        field file = read_file(name.bytes);
+        uint32_t status = gix_date_zone_read(TEXT(file), zone);
+        free(file.bytes);
+        return status;
+    }
+    if (!to_number(name.bytes, &offset))
+        return gix_date_zone_read(TEXT(name), zone);
+    zone->offset = (int32_t)offset;
+    return GIX_DATE_OK;
+}
+
+void in_copy(gix_date_zone *zone)
+{
+    gix_date_zone copy = GIX_DATE_AT_OFFSET(1);
+    if (gix_date_zone_copy(zone, &copy) != GIX_DATE_OK)
+        abort();
+    gix_date_zone_free(zone);
+    *zone = copy;
+}
+
+static void parse_in_zone(const manner *how, field text, const gix_date_instant *now,
+                          gix_date_zone *zone, answer *told)
 {
     const gix_date_careful_options *options = &how->options;
     gix_date_time time = no_time;
     size_t place = no_place;
-    int64_t offset;
-    uint32_t status, rule = options->raw_offsets;
-    if (is_file_name(zone)) {
-        field file = read_file(zone.bytes);
-        status = how->carefully
-                     ? gix_date_parse_carefully_in_tzif_zone(TEXT(text), options, now, TEXT(file),
-                                                             &time, &place)
-                     : gix_date_parse_in_tzif_zone(TEXT(text), rule, now, TEXT(file), &time);
-        free(file.bytes);
-    } else if (to_number(zone.bytes, &offset)) {
-        status = how->carefully
-                     ? gix_date_parse_carefully_at_offset(TEXT(text), options, now, (int32_t)offset,
-                                                          &time, &place)
-                     : gix_date_parse_at_offset(TEXT(text), rule, now, (int32_t)offset, &time);
-    } else {
-        status = how->carefully
-                     ? gix_date_parse_carefully_in_posix_zone(TEXT(text), options, now, TEXT(zone),
-                                                              &time, &place)
-                     : gix_date_parse_in_posix_zone(TEXT(text), rule, now, TEXT(zone), &time);
-    }
+    uint32_t status =
+        how->carefully
+            ? gix_date_parse_carefully_at(TEXT(text), options, now, zone, &time, &place)
+            : gix_date_parse_at(TEXT(text), options->raw_offsets, now, zone, &time);
     tell_date(status, time, place, told);
+}
+
+/* A date parsed at an instant in a zone, and in a copy of it. */
+static void parse_in(const manner *how, field text, const gix_date_instant *now, field name,
+                     answer *told)
+{
+    gix_date_zone zone;
+    answer other;
+    uint32_t status = read_zone(name, &zone);
+    if (status != GIX_DATE_OK) {
+        tell_date(status, no_time, no_place, told);
+        return;
+    }
+    parse_in_zone(how, text, now, &zone, told);
+    in_copy(&zone);
+    parse_in_zone(how, text, now, &zone, &other);
+    agree(told, &other);
+    gix_date_zone_free(&zone);
 }
 
 /* A date parsed at a moment: `none`, or its seconds, its nanoseconds and its zone. */

@@ -61,8 +61,11 @@ void agree(answer *told, const answer *other);
 /* The instant of a field, and the zone after it. */
 bool to_moment(field moment, gix_date_instant *now, field *zone);
 
-/* Whether a zone is the name of a TZif file. */
-bool is_file_name(field zone);
+/* Reads the zone of a row: an offset in seconds, the name of a TZif file, or a rule. */
+uint32_t read_zone(field name, gix_date_zone *zone);
+
+/* Puts a copy of a zone into its place, and frees the one that was there. */
+void in_copy(gix_date_zone *zone);
 
 /* Makes the call of git_date.h that a row names. */
 enum outcome git_call(const char *name, arguments *row, answer *told);

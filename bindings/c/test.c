@@ -27,11 +27,9 @@ static void null_pointers(void)
     EXPECT(gix_date_parse_header(NULL, 0, &time) == GIX_DATE_INVALID_TIME, "a header");
     EXPECT(!gix_date_is_canonical_header(NULL, 0), "a header");
     EXPECT(gix_date_parse(NULL, 0, 0, &time) == GIX_DATE_UNKNOWN_FORMAT, "a date");
-    EXPECT(gix_date_parse_at_offset(NULL, 0, 0, &now, 0, &time) == GIX_DATE_UNKNOWN_FORMAT,
+    EXPECT(gix_date_parse_at(NULL, 0, 0, &now, AT(0), &time) == GIX_DATE_UNKNOWN_FORMAT,
            "a date");
-    EXPECT(gix_date_parse_in_posix_zone(TEXT("now"), 0, &now, NULL, 0, &time) ==
-               GIX_DATE_INVALID_ZONE,
-           "a rule");
+    EXPECT(gix_date_zone_read(NULL, 0, AT(0)) == GIX_DATE_INVALID_ZONE, "a zone");
     EXPECT(gix_date_parse_carefully(NULL, 0, &options, &time, &place) == GIX_DATE_UNKNOWN_FORMAT,
            "a date");
     EXPECT(gix_date_cut_signature(NULL, 0, &parts) == GIX_DATE_NO_SIGNATURE, "a line");
@@ -94,60 +92,58 @@ static void relative_dates(void)
     static const gix_date_instant now = {1698400800, 0}, beyond = {253402207201, 0},
                                   odd = {0, 1000000000}, last = {253402207200, 999999999},
                                   last_otherwise = {253402207201, -1};
-    static const gix_date_instant in_fold = {1699165800, 0}, before_a_second = {1, -1};
-    const char *rule = "EST5EDT,M3.2.0,M11.1.0";
+    static const gix_date_instant before_a_second = {1, -1};
     gix_date_time time = untouched;
-    EXPECT(gix_date_parse_at_offset(TEXT("yesterday"), 0, &now, 7200, &time) == GIX_DATE_OK,
+    EXPECT(gix_date_parse_at(TEXT("yesterday"), 0, &now, AT(7200), &time) == GIX_DATE_OK,
            "yesterday");
     EXPECT(is_time(time, 1698314400, 7200), "%lld", (long long)time.seconds);
-    EXPECT(gix_date_parse_at_offset(TEXT("1 month 2 days ago"), 0, &now, 7200, &time) ==
+    EXPECT(gix_date_parse_at(TEXT("1 month 2 days ago"), 0, &now, AT(7200), &time) ==
                GIX_DATE_OK,
            "a month and two days");
     EXPECT(is_time(time, 1695636000, 7200), "%lld", (long long)time.seconds);
-    EXPECT(gix_date_parse_at_offset(TEXT("@0"), 0, &now, 7200, &time) == GIX_DATE_OK &&
+    EXPECT(gix_date_parse_at(TEXT("@0"), 0, &now, AT(7200), &time) == GIX_DATE_OK &&
                is_time(time, 0, 0),
            "@0");
-    EXPECT(gix_date_parse_in_posix_zone(TEXT("now"), 0, &in_fold, TEXT(rule), &time) == GIX_DATE_OK,
-           "now");
-    EXPECT(is_time(time, 1699165800, -18000), "%lld %d", (long long)time.seconds, (int)time.offset);
-    EXPECT(gix_date_parse_in_posix_zone(TEXT("1 hour ago"), 0, &in_fold, TEXT(rule), &time) ==
-               GIX_DATE_OK,
-           "1 hour ago");
-    EXPECT(is_time(time, 1699158600, -14400), "%lld %d", (long long)time.seconds, (int)time.offset);
-
-    EXPECT(gix_date_parse_at_offset(TEXT("now"), 0, &before_a_second, 0, &time) == GIX_DATE_OK &&
+    EXPECT(gix_date_parse_at(TEXT("now"), 0, &before_a_second, AT(0), &time) == GIX_DATE_OK &&
                is_time(time, 0, 0),
            "a nanosecond before second 1 is in second 0");
 
-    EXPECT(gix_date_parse_at_offset(TEXT("now"), 0, &last, 0, &time) == GIX_DATE_OK &&
+    EXPECT(gix_date_parse_at(TEXT("now"), 0, &last, AT(0), &time) == GIX_DATE_OK &&
                is_time(time, 253402207200, 0),
            "the last instant");
 
     time = untouched;
-    EXPECT(gix_date_parse_at_offset(TEXT("now"), 0, &last_otherwise, 0, &time) ==
+    EXPECT(gix_date_parse_at(TEXT("now"), 0, &last_otherwise, AT(0), &time) ==
                GIX_DATE_INVALID_INSTANT,
            "the last instant by a second more");
-    EXPECT(gix_date_parse_at_offset(TEXT("12023 years ago"), 0, &now, 0, &time) == GIX_DATE_RANGE,
+    EXPECT(gix_date_parse_at(TEXT("12023 years ago"), 0, &now, AT(0), &time) == GIX_DATE_RANGE,
            "too long ago");
-    EXPECT(gix_date_parse_at_offset(TEXT("now"), 0, &now, 93600, &time) == GIX_DATE_INVALID_ZONE,
+    EXPECT(gix_date_parse_at(TEXT("now"), 0, &now, AT(93600), &time) == GIX_DATE_INVALID_ZONE,
            "26 hours");
-    EXPECT(gix_date_parse_at_offset(TEXT("now"), 0, &beyond, 0, &time) == GIX_DATE_INVALID_INSTANT,
+    EXPECT(gix_date_parse_at(TEXT("now"), 0, &beyond, AT(0), &time) == GIX_DATE_INVALID_INSTANT,
            "beyond the last instant");
-    EXPECT(gix_date_parse_at_offset(TEXT("now"), 0, &odd, 0, &time) == GIX_DATE_INVALID_INSTANT,
+    EXPECT(gix_date_parse_at(TEXT("now"), 0, &odd, AT(0), &time) == GIX_DATE_INVALID_INSTANT,
            "a second of nanoseconds");
-    EXPECT(gix_date_parse_at_offset(BYTES("\xff"), 0, &now, 0, &time) == GIX_DATE_NOT_TEXT,
+    EXPECT(gix_date_parse_at(BYTES("\xff"), 0, &now, AT(0), &time) == GIX_DATE_NOT_TEXT,
            "no text");
-    EXPECT(gix_date_parse_at_offset(TEXT("banana"), 0, &now, 0, &time) == GIX_DATE_UNKNOWN_FORMAT,
+    EXPECT(gix_date_parse_at(TEXT("banana"), 0, &now, AT(0), &time) == GIX_DATE_UNKNOWN_FORMAT,
            "no date");
-    EXPECT(gix_date_parse_at_offset(TEXT("now"), 7, &now, 0, &time) == GIX_DATE_NO_SUCH_OPTION,
+    EXPECT(gix_date_parse_at(TEXT("now"), 7, &now, AT(0), &time) == GIX_DATE_NO_SUCH_OPTION,
            "no rule");
-    EXPECT(gix_date_parse_in_posix_zone(TEXT("now"), 0, &now, TEXT("banana"), &time) ==
-               GIX_DATE_INVALID_ZONE,
-           "no rule");
-    EXPECT(gix_date_parse_in_posix_zone(TEXT("now"), 0, &now, BYTES("\xff"), &time) ==
-               GIX_DATE_NOT_TEXT,
-           "no text");
     EXPECT(is_time(time, untouched.seconds, untouched.offset), "a refusal stores nothing");
+}
+
+static void relative_dates_by_a_rule(void)
+{
+    static const gix_date_instant in_fold = {1699165800, 0};
+    gix_date_zone zone = zone_of(TEXT(new_york));
+    gix_date_time time = untouched;
+    EXPECT(gix_date_parse_at(TEXT("now"), 0, &in_fold, &zone, &time) == GIX_DATE_OK, "now");
+    EXPECT(is_time(time, 1699165800, -18000), "%lld %d", (long long)time.seconds, (int)time.offset);
+    EXPECT(gix_date_parse_at(TEXT("1 hour ago"), 0, &in_fold, &zone, &time) == GIX_DATE_OK,
+           "1 hour ago");
+    EXPECT(is_time(time, 1699158600, -14400), "%lld %d", (long long)time.seconds, (int)time.offset);
+    gix_date_zone_free(&zone);
 }
 
 /* Options of careful calls: the usual, dates in the moment's zone, and all texts. */
@@ -225,8 +221,7 @@ static void expect_at_offset(const char *text, gix_date_careful_options options,
 {
     static const gix_date_instant now = {1698400800, 0};
     careful_answer seen = {0, untouched, NO_PLACE};
-    seen.status = gix_date_parse_carefully_at_offset(TEXT(text), &options, &now, offset, &seen.time,
-                                                     &seen.place);
+    seen.status = gix_date_parse_carefully_at(TEXT(text), &options, &now, AT(offset), &seen.time, &seen.place);
     expect_answer(seen, due, text);
 }
 
@@ -234,16 +229,17 @@ static void expect_in_zone(const char *text, gix_date_careful_options options, c
                            careful_answer due)
 {
     static const gix_date_instant now = {1699165800, 0};
+    gix_date_zone zone = zone_of(TEXT(rule));
     careful_answer seen = {0, untouched, NO_PLACE};
-    seen.status = gix_date_parse_carefully_in_posix_zone(TEXT(text), &options, &now, TEXT(rule),
-                                                         &seen.time, &seen.place);
+    seen.status =
+        gix_date_parse_carefully_at(TEXT(text), &options, &now, &zone, &seen.time, &seen.place);
     expect_answer(seen, due, text);
+    gix_date_zone_free(&zone);
 }
 
 static void careful_dates_at_moments(void)
 {
     static const gix_date_instant odd = {0, 1000000000};
-    const char *rule = "EST5EDT,M3.2.0,M11.1.0";
     expect_at_offset("2 weeks ago", usual, 7200, answers(1697191200, 7200));
     expect_at_offset("2024-01-05 10:00", usual, 7200, answers(1704448800, 0));
     expect_at_offset("2024-01-05 10:00", local, 7200, answers(1704441600, 7200));
@@ -254,91 +250,179 @@ static void careful_dates_at_moments(void)
     expect_at_offset("now", usual, 93600, refused(GIX_DATE_INVALID_ZONE));
     expect_at_offset("now", (gix_date_careful_options){0, 0, 2}, 0,
                      refused(GIX_DATE_NO_SUCH_OPTION));
+    careful_answer seen = {0, untouched, NO_PLACE};
+    seen.status =
+        gix_date_parse_carefully_at(TEXT("now"), &usual, &odd, AT(0), &seen.time, &seen.place);
+    expect_answer(seen, refused(GIX_DATE_INVALID_INSTANT), "a second of nanoseconds");
+}
+
+static void careful_dates_by_a_rule(void)
+{
+    const char *rule = new_york;
     expect_in_zone("2024-01-05 10:00", local, rule, answers(1704466800, -18000));
     /* A clock time that is there twice, and one that is skipped. */
     expect_in_zone("2023-11-05 01:30", local, rule, answers(1699162200, -14400));
     expect_in_zone("2024-03-10 02:30", local, rule, answers(1710055800, -14400));
     expect_in_zone("1 hour ago", usual, rule, answers(1699158600, -14400));
     expect_in_zone("1 hour", usual, rule, unclear(6));
-    expect_in_zone("now", usual, "banana", refused(GIX_DATE_INVALID_ZONE));
-    expect_in_zone("now", usual, "\xff", refused(GIX_DATE_NOT_TEXT));
-    careful_answer seen = {0, untouched, NO_PLACE};
-    seen.status =
-        gix_date_parse_carefully_at_offset(TEXT("now"), &usual, &odd, 0, &seen.time, &seen.place);
-    expect_answer(seen, refused(GIX_DATE_INVALID_INSTANT), "a second of nanoseconds");
 }
 
 /* The rule for raw offsets, as each call that takes a moment is given it. */
 static void rules_of_offsets(void)
 {
     static const gix_date_instant now = {1698400800, 0};
-    const char *text = "@5 +0007", *rule = "EST5EDT,M3.2.0,M11.1.0";
+    const char *text = "@5 +0007";
+    gix_date_zone zone = zone_of(TEXT(new_york));
     gix_date_time time = untouched;
-    EXPECT(gix_date_parse_at_offset(TEXT(text), GIX_DATE_WHOLE_MINUTES, &now, 0, &time) ==
+    EXPECT(gix_date_parse_at(TEXT(text), GIX_DATE_WHOLE_MINUTES, &now, AT(0), &time) ==
                GIX_DATE_OK,
            "%s", text);
     EXPECT(is_time(time, 5, 420), "%d", (int)time.offset);
     time = untouched;
-    EXPECT(gix_date_parse_in_posix_zone(TEXT(text), GIX_DATE_WHOLE_MINUTES, &now, TEXT(rule),
-                                        &time) == GIX_DATE_OK,
+    EXPECT(gix_date_parse_at(TEXT(text), GIX_DATE_WHOLE_MINUTES, &now, &zone, &time) == GIX_DATE_OK,
            "%s", text);
     EXPECT(is_time(time, 5, 420), "%d", (int)time.offset);
     time = untouched;
-    EXPECT(gix_date_parse_at_offset(TEXT(text), GIX_DATE_QUARTERS, &now, 0, &time) ==
+    EXPECT(gix_date_parse_at(TEXT(text), GIX_DATE_QUARTERS, &now, AT(0), &time) ==
                GIX_DATE_UNKNOWN_FORMAT,
            "%s", text);
-    EXPECT(gix_date_parse_in_posix_zone(TEXT(text), GIX_DATE_QUARTERS, &now, TEXT(rule), &time) ==
+    EXPECT(gix_date_parse_at(TEXT(text), GIX_DATE_QUARTERS, &now, &zone, &time) ==
                GIX_DATE_UNKNOWN_FORMAT,
            "%s", text);
     EXPECT(is_time(time, untouched.seconds, untouched.offset), "a refusal stores nothing");
+    gix_date_zone_free(&zone);
 }
 
-static void zone_files(void)
+/* A zone holds memory until it is freed: that of a rule 72 bytes, and that of a file more. */
+static const demand of_rule = {1, 72}, of_file = {3, 272};
+
+/* Whether a zone means New York's, and is as it was after the call. */
+static bool is_new_york(gix_date_zone *zone)
 {
-    static const gix_date_instant now = {1699165800, 0};
+    static const gix_date_instant in_fold = {1699165800, 0};
+    const gix_date_zone before = *zone;
     gix_date_time time = untouched;
+    return gix_date_parse_at(TEXT("1 hour ago"), 0, &in_fold, zone, &time) == GIX_DATE_OK &&
+           is_time(time, 1699158600, -14400) && before.kind == zone->kind &&
+           before.offset == zone->offset;
+}
+
+/* Whether a zone always has this offset, and holds nothing. */
+static bool is_at(gix_date_zone *zone, int32_t offset)
+{
+    static const gix_date_instant now = {1698400800, 0};
+    gix_date_time time = untouched;
+    return !zone->held && zone->offset == offset &&
+           gix_date_parse_at(TEXT("now"), 0, &now, zone, &time) == GIX_DATE_OK &&
+           is_time(time, 1698400800, offset);
+}
+
+/* Zones that are read, each in the place of the one before, which is freed. */
+static void zones_are_read(void)
+{
+    static const struct {
+        const char *text;
+        int32_t offset;
+    } rows[] = {{"+0200", 7200}, {"-03:30", -12600}, {"+02", 7200}, {"-0000", 0}, {"+2559", 93540}};
+    gix_date_zone zone = GIX_DATE_AT_OFFSET(-3600);
+    EXPECT(is_at(&zone, -3600), "an offset needs no call");
+    for (size_t i = 0; i < sizeof rows / sizeof *rows; i++) {
+        demand before = so_far();
+        EXPECT(gix_date_zone_read(TEXT(rows[i].text), &zone) == GIX_DATE_OK &&
+                   is_at(&zone, rows[i].offset),
+               "%s", rows[i].text);
+        expect_demand(before, none, rows[i].text);
+        before = so_far();
+        EXPECT(gix_date_zone_read(TEXT(new_york), &zone) == GIX_DATE_OK && is_new_york(&zone),
+               "a rule");
+        expect_demand(before, of_rule, "a rule");
+    }
     demand before = so_far();
-    EXPECT(gix_date_parse_in_tzif_zone(TEXT("1 hour ago"), 0, &now, BYTES(zone_file), &time) ==
-               GIX_DATE_OK,
-           "1 hour ago");
-    expect_demand(before, (demand){1, 40}, "a zone of one change");
-    EXPECT(is_time(time, 1699158600, -14400), "%lld %d", (long long)time.seconds, (int)time.offset);
-    time = untouched;
+    EXPECT(gix_date_zone_read(BYTES(zone_file), &zone) == GIX_DATE_OK, "a file");
+    expect_demand(before, of_file, "a file");
+    EXPECT(is_new_york(&zone) && is_new_york(&zone), "a zone serves many calls");
+    gix_date_zone_free(&zone);
+    EXPECT(is_at(&zone, 0), "UTC, once freed");
+    gix_date_zone_free(&zone);
+    EXPECT(is_at(&zone, 0), "freed twice");
+}
+
+/* Texts that name no zone, after which a zone is as it was. */
+static void refused_zones(void)
+{
+    static const char *const texts[] = {"",      "banana", "TZif", "TZif5",  "UTC",        "+2600",
+                                        "+0260", "0200",   "+2",   "+02000", "CET-1CEST,J", "+02:0"};
+    gix_date_zone zone = zone_of(TEXT(new_york));
+    const gix_date_zone before = zone;
+    for (size_t i = 0; i < sizeof texts / sizeof *texts; i++)
+        EXPECT(gix_date_zone_read(TEXT(texts[i]), &zone) == GIX_DATE_INVALID_ZONE, "%s", texts[i]);
     for (size_t len = 0; len < sizeof zone_file - 1; len++)
-        EXPECT(gix_date_parse_in_tzif_zone(TEXT("now"), 0, &now, zone_file, len,
-                                           &time) == GIX_DATE_INVALID_ZONE,
+        EXPECT(gix_date_zone_read(zone_file, len, &zone) == GIX_DATE_INVALID_ZONE,
                "a file of %zu bytes", len);
-    refuses = true;
-    before = so_far();
-    EXPECT(gix_date_parse_in_tzif_zone(TEXT("now"), 0, &now, BYTES(zone_file), &time) ==
-               GIX_DATE_OUT_OF_MEMORY,
-           "no memory");
-    expect_demand(before, (demand){1, 40}, "a zone that is refused memory");
-    refuses = false;
-    EXPECT(is_time(time, untouched.seconds, untouched.offset), "a refusal stores nothing");
+    EXPECT(gix_date_zone_read(BYTES("\xff"), &zone) == GIX_DATE_NOT_TEXT, "no text");
+    EXPECT(!memcmp(&before, &zone, sizeof zone) && is_new_york(&zone), "a refusal stores nothing");
+    gix_date_zone_free(&zone);
 }
 
-static void expect_in_file(const char *text, size_t file_len, careful_answer due, demand wanted)
+/* A zone that memory is refused for, each request in its turn, is as it was. */
+static void zones_without_memory(void)
 {
-    static const gix_date_instant now = {1699165800, 0};
-    careful_answer seen = {0, untouched, NO_PLACE};
-    demand before = so_far();
-    seen.status = gix_date_parse_carefully_in_tzif_zone(TEXT(text), &local, &now, zone_file,
-                                                        file_len, &seen.time, &seen.place);
-    expect_demand(before, wanted, text);
-    expect_answer(seen, due, text);
+    gix_date_zone zone = zone_of(TEXT(new_york)), file = zone_of(BYTES(zone_file));
+    const gix_date_zone before = zone;
+    for (size_t granted = 0; granted < of_file.requests; granted++) {
+        refuse_after(granted);
+        EXPECT(gix_date_zone_read(BYTES(zone_file), &zone) == GIX_DATE_OUT_OF_MEMORY,
+               "a file, after %zu requests", granted);
+        refuse_after(SIZE_MAX);
+    }
+    refuse_after(0);
+    EXPECT(gix_date_zone_read(TEXT("UTC0"), &zone) == GIX_DATE_OUT_OF_MEMORY, "a rule");
+    EXPECT(gix_date_zone_copy(&file, &zone) == GIX_DATE_OUT_OF_MEMORY, "a copy");
+    EXPECT(gix_date_zone_copy(AT(60), &file) == GIX_DATE_OK && is_at(&file, 60),
+           "a copy of an offset");
+    refuse_after(SIZE_MAX);
+    EXPECT(!memcmp(&before, &zone, sizeof zone) && is_new_york(&zone), "a refusal stores nothing");
+    gix_date_zone_free(&zone);
+    gix_date_zone_free(&file);
+}
+
+/* A copy means the same, and outlives what it was made of. */
+static void copied_zones(void)
+{
+    gix_date_zone zones[] = {zone_of(TEXT(new_york)), zone_of(BYTES(zone_file))};
+    for (size_t i = 0; i < sizeof zones / sizeof *zones; i++) {
+        gix_date_zone copy = zone_of(TEXT("UTC0"));
+        demand before = so_far();
+        EXPECT(gix_date_zone_copy(&zones[i], &copy) == GIX_DATE_OK && is_new_york(&zones[i]),
+               "zone %zu", i);
+        expect_demand(before, of_rule, "a copy");
+        gix_date_zone_free(&zones[i]);
+        EXPECT(is_new_york(&copy), "the copy of zone %zu", i);
+        gix_date_zone_free(&copy);
+    }
 }
 
 static void careful_dates_by_zone_files(void)
 {
-    const size_t whole = sizeof zone_file - 1;
-    expect_in_file("2024-01-05 10:00", whole, answers(1704466800, -18000), (demand){1, 40});
-    expect_in_file("1 hour ago", whole, answers(1699158600, -14400), (demand){1, 40});
-    expect_in_file("1 hour from now", whole, unclear(7), (demand){1, 40});
-    expect_in_file("now", 0, refused(GIX_DATE_INVALID_ZONE), none);
-    refuses = true;
-    expect_in_file("now", whole, refused(GIX_DATE_OUT_OF_MEMORY), (demand){1, 40});
-    refuses = false;
+    static const gix_date_instant now = {1699165800, 0};
+    static const struct {
+        const char *text;
+        careful_answer due;
+    } rows[] = {
+        {"2024-01-05 10:00", {GIX_DATE_OK, {1704466800, -18000}, NO_PLACE}},
+        {"1 hour ago", {GIX_DATE_OK, {1699158600, -14400}, NO_PLACE}},
+        {"1 hour from now", {GIX_DATE_UNCLEAR, {-77, -7}, 7}},
+    };
+    gix_date_zone zone = zone_of(BYTES(zone_file));
+    for (size_t i = 0; i < sizeof rows / sizeof *rows; i++) {
+        careful_answer seen = {0, untouched, NO_PLACE};
+        demand before = so_far();
+        seen.status = gix_date_parse_carefully_at(TEXT(rows[i].text), &local, &now, &zone,
+                                                  &seen.time, &seen.place);
+        expect_demand(before, none, rows[i].text);
+        expect_answer(seen, rows[i].due, rows[i].text);
+    }
+    gix_date_zone_free(&zone);
 }
 
 typedef uint32_t formatter(const gix_date_time *, uint32_t, char *, size_t, size_t *);
@@ -381,12 +465,12 @@ static void formats(formatter *format)
                len == 0,
            "format 9");
     expect_demand(before, none, "format 9");
-    refuses = true;
+    refuse_after(0);
     EXPECT(format(&early, GIX_DATE_ISO8601, buffer, sizeof buffer, &len) ==
                GIX_DATE_OUT_OF_MEMORY,
            "no memory");
     expect_demand(before, (demand){1, 40}, "a format that is refused memory");
-    refuses = false;
+    refuse_after(SIZE_MAX);
     EXPECT(len == 0 && is_untouched(buffer, sizeof buffer), "a refusal stores nothing");
 }
 
@@ -490,14 +574,14 @@ static void patterns_without_memory(void)
     size_t len = 99, len_or_unix = 99;
     memset(buffer, '#', sizeof buffer);
     demand before = so_far();
-    refuses = true;
+    refuse_after(0);
     EXPECT(gix_date_format_by_pattern(&day, TEXT("%H:%M"), out, sizeof buffer, &len) ==
                GIX_DATE_OUT_OF_MEMORY,
            "a clock");
     EXPECT(gix_date_format_by_pattern_or_unix(&day, TEXT("%H:%M"), out, sizeof buffer,
                                               &len_or_unix) == GIX_DATE_OUT_OF_MEMORY,
            "a clock");
-    refuses = false;
+    refuse_after(SIZE_MAX);
     expect_demand(before, (demand){2, 10 + 10}, "two patterns that are refused memory");
     EXPECT(len == 0 && len_or_unix == 0 && is_untouched(buffer, sizeof buffer),
            "a refusal stores nothing");
@@ -568,6 +652,7 @@ static void *reads_and_formats(void *unused)
         headers();
         dates();
         relative_dates();
+        relative_dates_by_a_rule();
         char buffer[64];
         size_t len;
         static const gix_date_time time = {1660797906, 28800};
@@ -633,11 +718,16 @@ int main(void)
     without_memory(null_pointers, "texts at NULL");
     without_memory(dates, "dates");
     without_memory(relative_dates, "relative dates");
-    without_memory(rules_of_offsets, "rules for offsets");
     without_memory(careful_dates, "careful dates");
     without_memory(careful_dates_at_moments, "careful dates at moments");
     written_headers();
-    zone_files();
+    rules_of_offsets();
+    relative_dates_by_a_rule();
+    careful_dates_by_a_rule();
+    zones_are_read();
+    refused_zones();
+    zones_without_memory();
+    copied_zones();
     careful_dates_by_zone_files();
     formats(gix_date_format);
     formats(gix_date_format_or_unix);

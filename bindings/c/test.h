@@ -12,25 +12,41 @@
 #include <string.h>
 
 static atomic_size_t requests, bytes;
-static _Atomic bool refuses;
+
+/* How many requests more are granted. */
+static atomic_size_t granted = SIZE_MAX;
 
 void *__real_malloc(size_t size);
 void *__real_realloc(void *block, size_t size);
 void *__wrap_malloc(size_t size);
 void *__wrap_realloc(void *block, size_t size);
 
-void *__wrap_malloc(size_t size)
+static inline void refuse_after(size_t requests_more)
+{
+    granted = requests_more;
+}
+
+/* Whether a request of so many bytes, which is counted, is granted. */
+static inline bool is_granted(size_t size)
 {
     requests++;
     bytes += size;
-    return refuses ? NULL : __real_malloc(size);
+    if (granted == SIZE_MAX)
+        return true;
+    if (granted == 0)
+        return false;
+    granted--;
+    return true;
+}
+
+void *__wrap_malloc(size_t size)
+{
+    return is_granted(size) ? __real_malloc(size) : NULL;
 }
 
 void *__wrap_realloc(void *block, size_t size)
 {
-    requests++;
-    bytes += size;
-    return refuses ? NULL : __real_realloc(block, size);
+    return is_granted(size) ? __real_realloc(block, size) : NULL;
 }
 
 /* Requests for memory, and how many bytes they ask for together. */
@@ -111,6 +127,21 @@ static inline void in_threads(void *(*work)(void *))
     for (int i = 0; i < 16; i++)
         pthread_join(all[i], NULL);
 }
+
+/* The zone that always has an offset. */
+#define AT(offset) (&(gix_date_zone)GIX_DATE_AT_OFFSET(offset))
+
+/* The zone of a text, which has to name one. */
+static inline gix_date_zone zone_of(const void *text, size_t len)
+{
+    gix_date_zone zone = GIX_DATE_AT_OFFSET(0);
+    if (gix_date_zone_read(text, len, &zone) != GIX_DATE_OK)
+        abort();
+    return zone;
+}
+
+/* New York's zone as a rule. */
+static const char new_york[] = "EST5EDT,M3.2.0,M11.1.0";
 
 /* New York's zone as a file: version 2, the change of March 2023, and the rule. */
 static const char zone_file[] = "TZif2\0\0\0\0\0\0\0\0\0\0\0\0\0\0\0\0\0\0\0\0\0\0\0\0\0\0\0\0\0\0"

@@ -6,7 +6,7 @@ It runs with refuse.c loaded before others, and with PYTHONMALLOC=malloc, so tha
 from __future__ import annotations
 
 import ctypes
-from typing import Callable, Dict, List, Tuple
+from typing import Callable, Dict, List, Tuple, Union
 
 from gix_date import _library
 
@@ -19,8 +19,15 @@ PROCESS.none_refused.restype = ctypes.c_int
 PROCESS.count_from_now.restype = None
 PROCESS.more_held.restype = ctypes.c_long
 
-TIME, FILE = (1660797906, 28800), (FOLDER / "new_york_2023.tzif").read_bytes()
-NOWS = [(1698400800, 0, 7200), (1698400800, 0, "EST5EDT,M3.2.0,M11.1.0"), (1698400800, 0, FILE)]
+TIME = (1660797906, 28800)
+RULE, FILE = "EST5EDT,M3.2.0,M11.1.0", (FOLDER / "new_york_2023.tzif").read_bytes()
+NOWS = [(1698400800, 0, zone) for zone in (7200, _library.Zone(RULE), _library.Zone(FILE))]
+
+
+def in_new_zone(zone: Union[str, bytes]) -> object:
+    """What a call answers in a zone that is made for it alone."""
+    return _library.parse("1 month ago", 0, (1700499600, 0, _library.Zone(zone)))
+
 
 CALLS: List[Tuple[str, Callable[..., object], Tuple[object, ...]]] = [
     ("parse_header", _library.parse_header, ("5 +0100",)),
@@ -34,6 +41,7 @@ CALLS: List[Tuple[str, Callable[..., object], Tuple[object, ...]]] = [
     ("cut_signature", _library.cut_signature, ("A <a> 0 +0000",)),
     ("write_signature", _library.write_signature, ("A" * 1000, "a", TIME)),
     ("mode_named", _library.mode_named, ("iso",)),
+    *(("Zone", in_new_zone, (zone,)) for zone in (RULE, FILE, "no rule", b"no file", b"TZif")),
     *(("parse", _library.parse, ("2 days ago", 0, now)) for now in NOWS),
     *(("parse_carefully", _library.parse_carefully, ("2 days ago", 0, 0, 0, now)) for now in NOWS),
     *(("parse_lines", _library.parse_lines, ("2 days ago", 0, now)) for now in NOWS),
@@ -76,7 +84,7 @@ def main() -> None:
             assert not keeps(call, arguments, number), f"{call} keeps memory if request {number} is refused"
             number += 1
         requests[name] = requests.get(name, 0) + number - 1
-    assert len(requests) == 15 and all(requests[name] > 0 for name in requests if name != "is_canonical_header"), requests
+    assert len(requests) == 16 and all(requests[name] > 0 for name in requests if name != "is_canonical_header"), requests
     print(f"each of {sum(requests.values())} requests for memory is refused: MemoryError, and none is kept")
 
 

@@ -7,7 +7,6 @@
 #include <stdlib.h>
 
 static const gix_date_instant now = {1698400800, 0};
-static const int32_t offset = 7200;
 
 static void print_time(uint32_t status, gix_date_time time)
 {
@@ -31,6 +30,7 @@ static void print_place(uint32_t status, size_t place, size_t ignored)
 static void answer(const char *text, size_t len)
 {
     static const gix_date_careful_options options = {GIX_DATE_WHOLE_MINUTES, GIX_DATE_MOMENTS_ZONE, GIX_DATE_CAREFUL};
+    static gix_date_zone zone = GIX_DATE_AT_OFFSET(7200);
     gix_date_time time;
     git_date_exact exact;
     git_date_approximate date;
@@ -38,15 +38,15 @@ static void answer(const char *text, size_t len)
     size_t place = GIT_DATE_NOTHING;
     uint32_t status = gix_date_parse_header(text, len, &time);
     print_time(status, time);
-    status = gix_date_parse_at_offset(text, len, GIX_DATE_QUARTERS, &now, offset, &time);
+    status = gix_date_parse_at(text, len, GIX_DATE_QUARTERS, &now, &zone, &time);
     print_time(status, time);
-    status = gix_date_parse_carefully_at_offset(text, len, &options, &now, offset, &time, &place);
+    status = gix_date_parse_carefully_at(text, len, &options, &now, &zone, &time, &place);
     print_time(status, time);
     print_place(status, place, GIT_DATE_NOTHING);
-    status = git_date_parse_at_offset(text, len, &now, offset, &exact, &place);
+    status = git_date_parse_at(text, len, &now, &zone, &exact, &place);
     print_time(status, exact.time);
     print_place(status, place, exact.ignored);
-    status = git_date_approxidate_at_offset(text, len, &now, offset, &date, &place);
+    status = git_date_approxidate_at(text, len, &now, &zone, &date, &place);
     print_time(status, date.time);
     print_place(status, place, date.ignored);
     status = gix_date_cut_signature(text, len, &parts);

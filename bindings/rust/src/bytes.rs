@@ -21,7 +21,10 @@ pub fn parse(input: &[u8], now: Option<Moment>) -> Result<Time, Error> {
 
 /// Parses a date as [`parse_with()`](crate::parse_with) does. The same refusals, and [`Error::NotText`].
 pub fn parse_with(input: &[u8], now: Option<Moment>, raw: RawOffsets) -> Result<Time, Error> {
-    calls::parse(input, now.as_ref(), raw)
+    match now {
+        Some(now) => now.zone.read()?.parse_with(input, now.instant(), raw),
+        None => calls::parse(input, raw),
+    }
 }
 
 /// Parses a date as [`parse_carefully()`](crate::parse_carefully) does. The same refusals, and [`Error::NotText`] in
@@ -31,23 +34,29 @@ pub fn parse_carefully(
     now: Option<Moment>,
     options: CarefulOptions,
 ) -> Result<Time, CarefulError> {
-    calls::parse_carefully(input, now.as_ref(), options)
+    match now {
+        Some(now) => now
+            .zone
+            .read()?
+            .parse_carefully(input, now.instant(), options),
+        None => calls::parse_carefully(input, options),
+    }
 }
 
 /// Reads a date as [`git::parse_date()`](crate::git::parse_date) does. The same refusals, and [`Error::NotText`] in
 /// [`DateError::Refused`].
 pub fn parse_date(input: &[u8], now: &Moment) -> Result<ReadDate, DateError> {
-    calls::git::parse_date(input, now)
+    now.zone.read()?.parse_date(input, now.instant())
 }
 
 /// Reads a date as [`git::approxidate()`](crate::git::approxidate) does. The same refusals, and [`Error::NotText`] in
 /// [`DateError::Refused`].
 pub fn approxidate(input: &[u8], now: &Moment) -> Result<Approximate, DateError> {
-    calls::git::approxidate(input, now)
+    now.zone.read()?.approxidate(input, now.instant())
 }
 
 /// Reads what expires as [`git::expiry_date()`](crate::git::expiry_date) does. The same refusals, and [`Error::NotText`] in
 /// [`DateError::Refused`].
 pub fn expiry_date(input: &[u8], now: &Moment) -> Result<Expiry, DateError> {
-    calls::git::expiry_date(input, now)
+    now.zone.read()?.expiry_date(input, now.instant())
 }

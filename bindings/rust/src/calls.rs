@@ -1,9 +1,11 @@
 //! The calls of the library, each behind a safe function. No other module has an `unsafe` block.
 
 pub(crate) mod git;
+pub(crate) mod zone;
 
-use crate::ffi::{self, CCarefulOptions, CInstant, CSignature};
-use crate::{CarefulError, CarefulOptions, Error, Moment, RawOffsets, Time, Zone};
+use crate::ffi::{self, CCarefulOptions, CSignature};
+use crate::{CarefulError, CarefulOptions, Error, Instant, RawOffsets, Time};
+use zone::HeldZone;
 
 const OK: u32 = 0;
 const NO_SUCH_OPTION: u32 = 2;
@@ -71,107 +73,69 @@ pub(crate) fn write_header(time: &Time, out: &mut [u8; MAX_HEADER]) -> Result<us
     stored(status, len)
 }
 
-pub(crate) fn parse(text: &[u8], now: Option<&Moment>, raw: RawOffsets) -> Result<Time, Error> {
-    match now {
-        Some(now) => parse_at(text, now, raw),
-        None => parse_absolute(text, raw),
-    }
-}
-
-fn parse_absolute(text: &[u8], raw: RawOffsets) -> Result<Time, Error> {
+pub(crate) fn parse(text: &[u8], raw: RawOffsets) -> Result<Time, Error> {
     let mut time = Time::default();
     // SAFETY: the text is valid for its length, and the time is a place of its own.
     let status = unsafe { ffi::gix_date_parse(text.as_ptr(), text.len(), raw as u32, &mut time) };
     stored(status, time)
 }
 
-fn parse_at(text: &[u8], now: &Moment, raw: RawOffsets) -> Result<Time, Error> {
-    let instant = instant_of(now);
+pub(crate) fn parse_at(
+    text: &[u8],
+    now: Instant,
+    zone: &mut HeldZone,
+    raw: RawOffsets,
+) -> Result<Time, Error> {
     let mut time = Time::default();
     let (start, len, raw) = (text.as_ptr(), text.len(), raw as u32);
-    let status = match &now.zone {
-        // SAFETY: the text is valid for its length, the instant is valid, and the time is a place of its own.
-        Zone::Offset(offset) => unsafe {
-            ffi::gix_date_parse_at_offset(start, len, raw, &instant, *offset, &mut time)
-        },
-        // SAFETY: as above, and the rule is valid for its length.
-        Zone::Posix(rule) => unsafe {
-            let (rule, rule_len) = (rule.as_ptr(), rule.len());
-            ffi::gix_date_parse_in_posix_zone(start, len, raw, &instant, rule, rule_len, &mut time)
-        },
-        // SAFETY: as above, and the file is valid for its length.
-        Zone::Tzif(file) => unsafe {
-            let (file, file_len) = (file.as_ptr(), file.len());
-            ffi::gix_date_parse_in_tzif_zone(start, len, raw, &instant, file, file_len, &mut time)
-        },
-    };
+    // SAFETY: the text is valid for its length, the instant is valid, and the zone, which is valid, and the time are places of
+    // their own.
+    let status = unsafe { ffi::gix_date_parse_at(start, len, raw, &now, zone.place(), &mut time) };
     stored(status, time)
 }
 
-fn instant_of(moment: &Moment) -> CInstant {
-    CInstant {
-        seconds: moment.seconds,
-        nanoseconds: moment.nanoseconds,
+pub(crate) fn parse_carefully(text: &[u8], options: CarefulOptions) -> Result<Time, CarefulError> {
+    let options = options.into();
+    let (mut time, mut place) = (Time::default(), 0);
+    let (start, len) = (text.as_ptr(), text.len());
+    // SAFETY: the text is valid for its length, the options are valid, and the time and the place are places of their own.
+    let status =
+        unsafe { ffi::gix_date_parse_carefully(start, len, &options, &mut time, &mut place) };
+    carefully_stored(status, time, place)
+}
+
+pub(crate) fn parse_carefully_at(
+    text: &[u8],
+    now: Instant,
+    zone: &mut HeldZone,
+    options: CarefulOptions,
+) -> Result<Time, CarefulError> {
+    let options = options.into();
+    let (mut time, mut place) = (Time::default(), 0);
+    let (start, len, zone) = (text.as_ptr(), text.len(), zone.place());
+    // SAFETY: the text is valid for its length, options and instant are valid, and the zone, which is valid, the time and the
+    // place are places of their own.
+    let status = unsafe {
+        ffi::gix_date_parse_carefully_at(start, len, &options, &now, zone, &mut time, &mut place)
+    };
+    carefully_stored(status, time, place)
+}
+
+impl From<CarefulOptions> for CCarefulOptions {
+    fn from(options: CarefulOptions) -> CCarefulOptions {
+        CCarefulOptions {
+            raw_offsets: options.raw as u32,
+            without_offset: options.without_offset as u32,
+            texts: options.texts as u32,
+        }
     }
 }
 
-pub(crate) fn parse_carefully(
-    text: &[u8],
-    now: Option<&Moment>,
-    options: CarefulOptions,
-) -> Result<Time, CarefulError> {
-    let options = CCarefulOptions {
-        raw_offsets: options.raw as u32,
-        without_offset: options.without_offset as u32,
-        texts: options.texts as u32,
-    };
-    let (mut time, mut place) = (Time::default(), 0);
-    let status = match now {
-        Some(now) => parse_carefully_at(text, now, &options, &mut time, &mut place),
-        // SAFETY: the text is valid for its length, the options are valid, and the time and the place are places of their own.
-        None => unsafe {
-            let (start, len) = (text.as_ptr(), text.len());
-            ffi::gix_date_parse_carefully(start, len, &options, &mut time, &mut place)
-        },
-    };
+/// What a careful call stored, or its refusal, perhaps at a place.
+fn carefully_stored(status: u32, time: Time, place: usize) -> Result<Time, CarefulError> {
     match status {
         UNCLEAR => Err(CarefulError::Unclear(place)),
         status => Ok(stored(status, time)?),
-    }
-}
-
-/// The status of a date that is parsed at a moment.
-fn parse_carefully_at(
-    text: &[u8],
-    now: &Moment,
-    options: &CCarefulOptions,
-    time: &mut Time,
-    place: &mut usize,
-) -> u32 {
-    let instant = instant_of(now);
-    let (start, len) = (text.as_ptr(), text.len());
-    match &now.zone {
-        // SAFETY: the text is valid for its length, options and instant are valid, and the time and the place are places of
-        // their own.
-        Zone::Offset(offset) => unsafe {
-            ffi::gix_date_parse_carefully_at_offset(
-                start, len, options, &instant, *offset, time, place,
-            )
-        },
-        // SAFETY: as above, and the rule is valid for its length.
-        Zone::Posix(rule) => unsafe {
-            let (rule, rule_len) = (rule.as_ptr(), rule.len());
-            ffi::gix_date_parse_carefully_in_posix_zone(
-                start, len, options, &instant, rule, rule_len, time, place,
-            )
-        },
-        // SAFETY: as above, and the file is valid for its length.
-        Zone::Tzif(file) => unsafe {
-            let (file, file_len) = (file.as_ptr(), file.len());
-            ffi::gix_date_parse_carefully_in_tzif_zone(
-                start, len, options, &instant, file, file_len, time, place,
-            )
-        },
     }
 }
 

@@ -1,15 +1,9 @@
-//! The calls of `include/gix_date.h`. [`Time`] is laid out as its `gix_date_time`.
+//! The calls of `include/gix_date.h`. [`Time`] is laid out as its `gix_date_time`, [`Instant`] as its `gix_date_instant`.
 
 pub mod git;
 
-use crate::Time;
-
-#[repr(C)]
-#[derive(Clone, Copy, Default)]
-pub struct CInstant {
-    pub seconds: i64,
-    pub nanoseconds: i32,
-}
+use crate::{Instant, Time};
+use std::ptr;
 
 #[repr(C)]
 #[derive(Clone, Copy, Default)]
@@ -34,6 +28,25 @@ pub struct CSignature {
     pub time: CSpan,
 }
 
+/// A zone that the library may hold memory for.
+#[repr(C)]
+pub struct CZone {
+    kind: u32,
+    offset: i32,
+    held: *mut u8,
+}
+
+impl CZone {
+    /// The zone that always has this offset: `GIX_DATE_AT_OFFSET`.
+    pub const fn at_offset(offset: i32) -> CZone {
+        CZone {
+            kind: 0,
+            offset,
+            held: ptr::null_mut(),
+        }
+    }
+}
+
 extern "C" {
     pub fn gix_date_version() -> u32;
     pub fn gix_date_ported_version() -> u32;
@@ -51,30 +64,15 @@ extern "C" {
         raw_offsets: u32,
         time: *mut Time,
     ) -> u32;
-    pub fn gix_date_parse_at_offset(
+    pub fn gix_date_zone_read(text: *const u8, text_len: usize, zone: *mut CZone) -> u32;
+    pub fn gix_date_zone_copy(from: *mut CZone, zone: *mut CZone) -> u32;
+    pub fn gix_date_zone_free(zone: *mut CZone);
+    pub fn gix_date_parse_at(
         text: *const u8,
         text_len: usize,
         raw_offsets: u32,
-        now: *const CInstant,
-        offset: i32,
-        time: *mut Time,
-    ) -> u32;
-    pub fn gix_date_parse_in_posix_zone(
-        text: *const u8,
-        text_len: usize,
-        raw_offsets: u32,
-        now: *const CInstant,
-        rule: *const u8,
-        rule_len: usize,
-        time: *mut Time,
-    ) -> u32;
-    pub fn gix_date_parse_in_tzif_zone(
-        text: *const u8,
-        text_len: usize,
-        raw_offsets: u32,
-        now: *const CInstant,
-        file: *const u8,
-        file_len: usize,
+        now: *const Instant,
+        zone: *mut CZone,
         time: *mut Time,
     ) -> u32;
     pub fn gix_date_parse_carefully(
@@ -84,32 +82,12 @@ extern "C" {
         time: *mut Time,
         place: *mut usize,
     ) -> u32;
-    pub fn gix_date_parse_carefully_at_offset(
+    pub fn gix_date_parse_carefully_at(
         text: *const u8,
         text_len: usize,
         options: *const CCarefulOptions,
-        now: *const CInstant,
-        offset: i32,
-        time: *mut Time,
-        place: *mut usize,
-    ) -> u32;
-    pub fn gix_date_parse_carefully_in_posix_zone(
-        text: *const u8,
-        text_len: usize,
-        options: *const CCarefulOptions,
-        now: *const CInstant,
-        rule: *const u8,
-        rule_len: usize,
-        time: *mut Time,
-        place: *mut usize,
-    ) -> u32;
-    pub fn gix_date_parse_carefully_in_tzif_zone(
-        text: *const u8,
-        text_len: usize,
-        options: *const CCarefulOptions,
-        now: *const CInstant,
-        file: *const u8,
-        file_len: usize,
+        now: *const Instant,
+        zone: *mut CZone,
         time: *mut Time,
         place: *mut usize,
     ) -> u32;
@@ -183,8 +161,14 @@ mod tests {
             (include_str!("ffi/git.rs"), GIT_DATE),
         ] {
             let due = calls(header);
-            assert!(due.len() > 12);
+            assert!(due.len() >= 5);
             assert_eq!(declared(source), due);
+        }
+    }
+
+    impl Default for CZone {
+        fn default() -> CZone {
+            CZone::at_offset(0)
         }
     }
 
@@ -212,7 +196,7 @@ mod tests {
             ("gix_date_time", layout!(Time { seconds, offset })),
             (
                 "gix_date_instant",
-                layout!(CInstant {
+                layout!(Instant {
                     seconds,
                     nanoseconds
                 }),
@@ -230,6 +214,7 @@ mod tests {
                 "gix_date_signature",
                 layout!(CSignature { name, mail, time }),
             ),
+            ("gix_date_zone", layout!(CZone { kind, offset, held })),
             ("git_date_exact", layout!(CExact { time, ignored })),
             (
                 "git_date_approximate",

@@ -6,8 +6,9 @@
 //! - [`show_date()`]: a date as `git log --date=MODE` shows it
 //!
 //! Every answer is Git's, or a refusal by name ([`DateError`]); `docs/GIT_DATES.md` has the rules. Seconds count from 1970-01-01
-//! 00:00:00 UTC, an offset is seconds east of UTC, and a place counts bytes from the text's start. Memory is taken only in a
-//! [`Zone::Tzif`](crate::Zone::Tzif). The module [`bytes`] has the calls that read for `&[u8]`.
+//! 00:00:00 UTC, an offset is seconds east of UTC, and a place counts bytes from the text's start. Memory is taken only to read
+//! the zone of a moment that is a rule or a file. The module [`bytes`] has the calls that read for `&[u8]`, and
+//! [`ReadZone`](crate::ReadZone) those for a zone that is read once.
 //!
 //! ```
 //! use gix_date_proved::git::{approxidate, parse_date, show_date};
@@ -177,5 +178,5 @@ pub fn expiry_date(input: &str, now: &Moment) -> Result<Expiry, DateError> {
 /// Git itself shows offsets of 100 hours and years above 9999. All kinds but [`DateKind::Relative`], [`DateKind::Unix`] and
 /// [`DateKind::Raw`] have a clock. [`DateError::Refused`] of the moment.
 pub fn show_date(time: Time, mode: DateMode, now: &Moment) -> Result<DateText, DateError> {
-    DateText::shown(time, mode, now)
+    now.zone.read()?.show_date(time, mode, now.instant())
 }

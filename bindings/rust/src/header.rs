@@ -55,12 +55,16 @@ impl<'a> Declared<'a> {
     }
 }
 
-/// A header without its comments.
+/// A header without its comments, and without lines for the preprocessor.
 fn without_comments(header: &str) -> String {
     let parts = header.split("*/");
-    parts
+    let code: String = parts
         .map(|part| part.split_once("/*").map_or(part, |(code, _)| code))
-        .collect()
+        .collect();
+    let lines = code
+        .split_inclusive('\n')
+        .filter(|line| !line.starts_with('#'));
+    lines.collect()
 }
 
 /// The calls of a header, as Rust declares them without white space.
@@ -70,7 +74,10 @@ pub fn calls(header: &str) -> Vec<String> {
         .split(';')
         .map(|text| text.trim_start_matches(|c: char| c == '}' || c.is_whitespace()));
     statements
-        .filter(|text| text.starts_with("uint32_t ") || text.starts_with("bool "))
+        .filter(|text| {
+            let results = ["uint32_t ", "bool ", "void "];
+            results.iter().any(|result| text.starts_with(result))
+        })
         .filter_map(|text| text.strip_suffix(')')?.split_once('('))
         .map(|(head, parameters)| {
             let head = Declared::new(head);
@@ -81,8 +88,11 @@ pub fn calls(header: &str) -> Vec<String> {
                 .map(Declared::new)
                 .map(|one| format!("{}:{}", one.name, rust_type(one.of)))
                 .collect();
-            let (name, result) = (head.name, rust_type(head.of));
-            format!("fn{name}({})->{result}", parameters.join(","))
+            let call = format!("fn{}({})", head.name, parameters.join(","));
+            match head.of {
+                "void" => call,
+                of => format!("{call}->{}", rust_type(of)),
+            }
         })
         .collect()
 }
@@ -102,6 +112,7 @@ fn rust_type(of: &str) -> String {
         "uint32_t" => "u32",
         "size_t" => "usize",
         "gix_date_time" => "Time",
+        "gix_date_instant" => "Instant",
         record => return format!("C{}", camel_case(&record["gix_date_".len()..])),
     };
     name.to_string()
@@ -153,7 +164,7 @@ fn size_of(of: &str, known: &[(String, Layout)]) -> (usize, usize) {
         "bool" => 1,
         "int32_t" | "uint32_t" => 4,
         "int64_t" => 8,
-        "size_t" => std::mem::size_of::<usize>(),
+        "size_t" | "void *" => std::mem::size_of::<usize>(),
         record => {
             let (_, found) = known.iter().find(|(name, _)| name == record).unwrap();
             return (found.size, found.align);

@@ -5,8 +5,9 @@
 //! as Git itself does.
 //!
 //! Seconds count from 1970-01-01 00:00:00 UTC, and an offset is seconds east of UTC. The library has no state, so many threads may
-//! call at once. It takes memory only for what is printed by a format or a pattern, and for [`Zone::Tzif`]. This crate takes
-//! memory for each `String` that it gives. It reads the clock, `TZ` and zone files only in calls named `now` or `local`.
+//! call at once. It takes memory only for what is printed by a format or a pattern, and to read a [`Zone::Posix`] or a
+//! [`Zone::Tzif`]. This crate takes memory for each `String` that it gives. It reads the clock, `TZ` and zone files only in
+//! calls named `now` or `local`.
 //!
 //! ```
 //! use gix_date_proved as gix_date;
@@ -40,7 +41,7 @@ pub mod time;
 mod version;
 
 pub use error::{CarefulError, Error};
-pub use moment::{Moment, Zone, Zoned};
+pub use moment::{Instant, Moment, ReadZone, Zone, Zoned};
 pub use parse::careful::{parse_carefully, CarefulOptions, Texts, WithoutOffset};
 pub use parse::function::{is_canonical_header, parse, parse_header, parse_with, RawOffsets};
 pub use signature::{write_signature, Signature};

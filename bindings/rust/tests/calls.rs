@@ -5,7 +5,7 @@ use gix_date_proved::time::{format, CustomFormat, Format};
 use gix_date_proved::{
     bytes, check_library, is_canonical_header, library_version, parse, parse_carefully,
     parse_header, parse_with, ported_version, write_signature, CarefulError, CarefulOptions, Error,
-    Moment, RawOffsets, Signature, Texts, Time, Version, WithoutOffset, Zone,
+    Instant, Moment, RawOffsets, ReadZone, Signature, Texts, Time, Version, WithoutOffset, Zone,
 };
 use std::collections::HashSet;
 use std::io;
@@ -364,6 +364,7 @@ fn times_are_in_order_of_their_seconds() {
 fn types_have_their_traits() {
     fn are_shared<T: Clone + std::fmt::Debug + Send + Sync + 'static>() {}
     fn are_keys<T: Copy + std::fmt::Debug + Eq + std::hash::Hash>() {}
+    fn are_sent<T: Clone + std::fmt::Debug + Send + 'static>() {}
     are_keys::<Time>();
     are_keys::<Error>();
     are_keys::<Format>();
@@ -372,8 +373,11 @@ fn types_have_their_traits() {
     are_keys::<CarefulOptions>();
     are_keys::<CarefulError>();
     are_keys::<Signature<'_>>();
+    are_keys::<Instant>();
     are_shared::<Moment>();
+    are_shared::<Zone>();
     are_shared::<TimeBuf>();
+    are_sent::<ReadZone>();
     assert_eq!(Format::default(), format::DEFAULT.into());
     assert_eq!(CustomFormat::default(), format::DEFAULT);
     assert_eq!(RawOffsets::default(), RawOffsets::Quarter);

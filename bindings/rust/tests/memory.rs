@@ -1,18 +1,26 @@
-//! Memory that is refused to this crate is a refusal. The library asks another allocator.
+//! Memory that is refused is a refusal: to this crate, which asks Rust's allocator, and to the library, which asks C's. What zones
+//! hold is freed.
 
 use gix_date_proved::git::{approxidate, expiry_date, parse_date, show_date, DateMode, Expiry};
 use gix_date_proved::parse::TimeBuf;
 use gix_date_proved::time::format;
 use gix_date_proved::{
-    parse, parse_carefully, parse_header, write_signature, CarefulOptions, Error, Moment,
-    Signature, Time,
+    parse, parse_carefully, parse_header, write_signature, CarefulOptions, Error, Instant, Moment,
+    ReadZone, Signature, Time, Zone,
 };
 use std::alloc::{GlobalAlloc, Layout, System};
 use std::cell::Cell;
-use std::ptr;
+use std::ffi::c_void;
+use std::panic::{catch_unwind, AssertUnwindSafe};
+use std::path::Path;
+use std::{fs, ptr};
 
 thread_local! {
     static REFUSES: Cell<bool> = const { Cell::new(false) };
+    /// Which of C's next requests is refused, counted from 1; 0 if none is.
+    static REFUSED: Cell<usize> = const { Cell::new(0) };
+    /// How many of C's blocks are held.
+    static HELD: Cell<isize> = const { Cell::new(0) };
 }
 
 /// The allocator of the system, which refuses all to a thread that asks for that.
@@ -43,6 +51,61 @@ fn refused<T>(call: impl FnOnce() -> T) -> T {
     let answer = call();
     REFUSES.set(false);
     answer
+}
+
+extern "C" {
+    fn __libc_malloc(size: usize) -> *mut c_void;
+    fn __libc_free(block: *mut c_void);
+}
+
+/// Stands before that of the C library.
+#[no_mangle]
+extern "C" fn malloc(size: usize) -> *mut c_void {
+    let place = REFUSED.get();
+    REFUSED.set(place.saturating_sub(1));
+    if place == 1 {
+        return ptr::null_mut();
+    }
+    // SAFETY: any size may be asked for.
+    let block = unsafe { __libc_malloc(size) };
+    HELD.set(HELD.get() + isize::from(!block.is_null()));
+    block
+}
+
+/// Stands before that of the C library.
+#[no_mangle]
+unsafe extern "C" fn free(block: *mut c_void) {
+    HELD.set(HELD.get() - isize::from(!block.is_null()));
+    // SAFETY: the block is the caller's, from the C library.
+    unsafe { __libc_free(block) }
+}
+
+/// What a call answers where one of C's requests is refused after the other, until it makes no more.
+fn refused_in_turn<T>(call: impl Fn() -> T) -> Vec<T> {
+    let answer = |place| {
+        REFUSED.set(place);
+        let answer = call();
+        (REFUSED.replace(0) == 0).then_some(answer)
+    };
+    (1..).map_while(answer).collect()
+}
+
+/// What a call answers, and how many more of C's blocks are held then.
+fn held_by<T>(call: impl FnOnce() -> T) -> (T, isize) {
+    let before = HELD.get();
+    let answer = call();
+    (answer, HELD.get() - before)
+}
+
+/// A zone of each kind, how many requests reading it makes, and how many a clone.
+fn zones() -> [(Zone, usize, usize); 3] {
+    let folder = Path::new(env!("CARGO_MANIFEST_DIR")).join("../../crates/gix_date_rows/data");
+    let file = fs::read(folder.join("new_york_2023.tzif")).unwrap();
+    [
+        (Zone::Offset(7200), 0, 0),
+        (Zone::Posix("EST5EDT,M3.2.0,M11.1.0".into()), 1, 1),
+        (Zone::Tzif(file.into()), 3, 1),
+    ]
 }
 
 #[test]
@@ -83,4 +146,113 @@ fn other_calls_take_no_memory() {
         assert!(show_date(time, mode, &now).is_ok_and(|text| text.len() == 31));
     });
     assert!(out.starts_with(b"1660797906 +0800\0"));
+}
+
+/// A call's answers of which each is that memory was refused, and how many they are.
+fn are_refusals<T>(answers: Vec<Result<T, Error>>) -> usize {
+    let count = answers.len();
+    let refusals = answers.into_iter().filter_map(Result::err);
+    assert_eq!(
+        refusals.collect::<Vec<_>>(),
+        vec![Error::OutOfMemory; count]
+    );
+    count
+}
+
+#[test]
+fn a_zone_that_has_no_memory_is_refused() {
+    let now = Instant::at_second(1699165800);
+    for (zone, reads, clones) in zones() {
+        assert_eq!(are_refusals(refused_in_turn(|| zone.read())), reads);
+        let mut read = zone.read().unwrap();
+        let due = read.parse("yesterday", now);
+        assert_eq!(are_refusals(refused_in_turn(|| read.try_clone())), clones);
+        assert_eq!(read.parse("yesterday", now), due);
+        assert_eq!(read.clone().parse("yesterday", now), due);
+    }
+}
+
+#[test]
+fn a_moment_whose_zone_has_no_memory_is_refused() {
+    for (zone, reads, _) in zones() {
+        let now = Moment {
+            zone,
+            ..Moment::at_offset(1699165800, 0)
+        };
+        let parsed = || parse("yesterday", Some(now.clone()));
+        assert_eq!(are_refusals(refused_in_turn(parsed)), reads);
+        assert_eq!(are_refusals(refused_in_turn(|| now.to_time())), reads);
+        let options = CarefulOptions::default();
+        let careful = refused_in_turn(|| parse_carefully("yesterday", Some(now.clone()), options));
+        assert_eq!(careful, vec![Err(Error::OutOfMemory.into()); reads]);
+        let date = refused_in_turn(|| approxidate("yesterday", &now));
+        assert_eq!(date, vec![Err(Error::OutOfMemory.into()); reads]);
+    }
+}
+
+#[test]
+fn a_clone_that_has_no_memory_panics() {
+    for (zone, _, clones) in zones() {
+        let read = zone.read().unwrap();
+        REFUSED.set(1);
+        let clone = catch_unwind(AssertUnwindSafe(|| read.clone()));
+        REFUSED.set(0);
+        assert_eq!(clone.is_err(), clones > 0);
+        if let Err(panic) = clone {
+            let message = panic.downcast_ref::<String>().unwrap();
+            assert_eq!(message, "a zone cannot be cloned: out of memory");
+        }
+    }
+}
+
+#[test]
+fn a_zone_that_is_read_takes_no_memory_in_calls() {
+    let now = Instant::at_second(1699165800);
+    let calls = |zone: &mut ReadZone| {
+        zone.parse("1 hour ago", now).unwrap();
+        let options = CarefulOptions::default();
+        zone.parse_carefully("yesterday", now, options).unwrap();
+        zone.parse_date("2008-02-14 20:30:45", now).unwrap();
+        zone.approxidate("yesterday", now).unwrap();
+        zone.expiry_date("never", now).unwrap();
+        let mode = DateMode::default();
+        zone.show_date(Time::new(5, 7200), mode, now).unwrap();
+    };
+    for (zone, ..) in zones() {
+        let mut zone = zone.read().unwrap();
+        REFUSED.set(1);
+        refused(|| calls(&mut zone));
+        assert_eq!(REFUSED.replace(0), 1);
+    }
+}
+
+#[test]
+fn what_zones_hold_is_freed() {
+    let now = Instant::at_second(1699165800);
+    for (zone, reads, clones) in zones() {
+        let (_, held) = held_by(|| {
+            let (mut read, held) = held_by(|| zone.read().unwrap());
+            assert_eq!(held, reads as isize);
+            let (clone, held) = held_by(|| read.clone());
+            assert_eq!(held, clones as isize);
+            for _ in 0..1000 {
+                read.parse("yesterday", now).unwrap();
+                read = zone.read().unwrap().clone();
+                read.parse("yesterday", now).unwrap();
+                read = clone.clone();
+            }
+        });
+        assert_eq!(held, 0);
+        let moment = Moment {
+            zone,
+            ..Moment::at_offset(1699165800, 0)
+        };
+        let (_, held) = held_by(|| {
+            for _ in 0..1000 {
+                moment.to_time().unwrap();
+                show_date(Time::new(5, 7200), DateMode::default(), &moment).unwrap();
+            }
+        });
+        assert_eq!(held, 0);
+    }
 }

@@ -4,8 +4,8 @@ use gix_date_proved::parse::TimeBuf;
 use gix_date_proved::time::{format as formats, Format};
 use gix_date_proved::{
     bytes, is_canonical_header, parse, parse_carefully, parse_header, parse_with, write_signature,
-    CarefulError, CarefulOptions, Error, Moment, RawOffsets, Signature, Texts, Time, WithoutOffset,
-    Zone,
+    CarefulError, CarefulOptions, Error, Instant, Moment, RawOffsets, ReadZone, Signature, Texts,
+    Time, WithoutOffset, Zone,
 };
 use std::fs;
 use std::path::PathBuf;
@@ -143,11 +143,18 @@ fn parsed_carefully(
             raw: *raw,
             ..options
         };
-        [
+        let mut answers = vec![
             parse_carefully(text, now.clone(), options),
             bytes::parse_carefully(text.as_bytes(), now.clone(), options),
-        ]
-        .map(|answer| Some(told_carefully(answer)))
+        ];
+        if let Some(now) = &now {
+            answers.extend(in_read_zone(now, |zone, now| {
+                zone.parse_carefully(text, now, options)
+            }));
+        }
+        answers
+            .into_iter()
+            .map(|answer| Some(told_carefully(answer)))
     }))
 }
 
@@ -198,6 +205,22 @@ fn zone_of(zone: &str) -> Option<Zone> {
     })
 }
 
+/// What a call answers twice in the moment's zone, which is read once, and then in a copy of the zone.
+fn in_read_zone<T, E: From<Error>>(
+    now: &Moment,
+    call: impl Fn(&mut ReadZone, Instant) -> Result<T, E>,
+) -> [Result<T, E>; 3] {
+    let now_in = |zone: &mut ReadZone| call(zone, now.instant());
+    match now.zone.read() {
+        Ok(mut zone) => [
+            now_in(&mut zone),
+            now_in(&mut zone),
+            now_in(&mut zone.clone()),
+        ],
+        Err(error) => [(); 3].map(|()| Err(error.into())),
+    }
+}
+
 /// The same by each call that has this rule.
 fn parsed_by(rule: RawOffsets, now: Option<Moment>, text: &str) -> Option<Answer> {
     let mut answers = vec![
@@ -206,7 +229,12 @@ fn parsed_by(rule: RawOffsets, now: Option<Moment>, text: &str) -> Option<Answer
     ];
     if rule == RawOffsets::default() {
         answers.push(parse(text, now.clone()));
-        answers.push(bytes::parse(text.as_bytes(), now));
+        answers.push(bytes::parse(text.as_bytes(), now.clone()));
+    }
+    if let Some(now) = &now {
+        answers.extend(in_read_zone(now, |zone, now| {
+            zone.parse_with(text, now, rule)
+        }));
     }
     agreeing(answers.into_iter().map(|answer| Some(told_time(answer))))
 }

@@ -8,6 +8,7 @@ pub mod Dates
 pub mod Groups
 pub mod Digits
 pub mod Offsets
+pub mod ZoneTexts
 pub mod Reading
 pub mod Fast
 pub mod Outcome

@@ -18,10 +18,10 @@ use jiff::tz::TimeZone;
 pub struct ReadDate {
     /// The time: seconds since 1970-01-01 00:00:00 UTC, and the offset in seconds east of UTC, of whole minutes.
     pub time: Time,
-    /// The place, in bytes, of the first word or number that no rule used, so that a program can say so.
+    /// The place, in bytes, of the first word, number or sign of an offset that no rule used, so that a program can say so.
     ///
-    /// Not counted are marks, `ago`, `at`, `on`, `of`, `the`, `and`, the ending of a number as in `7th`, and one `T` between
-    /// digits. A day of the week is used, though it is not compared.
+    /// Not counted are other marks, the ending of a number as in `7th`, one `T` between digits, and, if no digit follows
+    /// directly, `ago`, `at`, `on`, `of`, `the`, `and`. A day of the week is used then, though it is not compared.
     pub ignored: Option<usize>,
 }
 

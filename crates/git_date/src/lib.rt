@@ -42,9 +42,11 @@ mod reader;
 mod show;
 mod tokens;
 mod words;
+mod zone_texts;
 
 pub use approximate::{Approximate, Expiry, approxidate, expiry_date};
 pub use date::{ReadDate, parse_date, parse_date_at};
 pub use error::DateError;
 pub use mode::{DateKind, DateMode, UnknownMode};
 pub use show::{DateText, show_date, show_date_at};
+pub use zone_texts::zone_offset;

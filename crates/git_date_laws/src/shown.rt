@@ -23,7 +23,7 @@ pub fn shown_as_printed(time: Time)
     ensures unix { IsShownAs Unix (PrintsSeconds time) time }
 {}
 
-/// No age is one minute, hour, day, week or month, and none is 0 of these.
+/// No age is one minute, hour, day, week or month alone, and none is 0 of these.
 #[tactic(auto, using(crate::proofs::ShownLaws::no_single))]
 pub fn no_single_unit(seconds: u64)
     ensures { IsNoSingle (age_of seconds) }

@@ -5,7 +5,8 @@ use Rattle.jiff.specs.Types.{TimeZone, TimeZoneDatabase}
 use Rattle.jiff.specs.ZoneView.{plain_zone, plain_database, plain_system}
 use Rattle.jiff_core.specs.declared.error.Error.{Error}
 use Rattle.jiff_tz.specs.System.{IsNamed}
-use Rattle.git_date_tool.specs.Zones.{IsAskedSource, IsAskedZone, IsPlainZone, IsTaken, NeedsSystem, offset_in}
+use Rattle.git_date.specs.ZoneTexts.{zone_offset}
+use Rattle.git_date_tool.specs.Zones.{IsAskedSource, IsAskedZone, IsPlainZone, IsTaken, NeedsSystem}
 use Rattle.git_date_tool.specs.declared.zones.ZoneSource.{ZoneSource}
 use Rattle.git_date_tool.specs.declared.zones.ZoneSource.TheVariants as sources
 
@@ -16,7 +17,7 @@ named db name text zone e found =
 pub taken-is : (asked : Option (List ℕ)) (source : ZoneSource) (zone : TimeZone) → IsAskedSource asked source → IsTaken source (Ok zone) → IsAskedZone asked zone
 taken-is (Some text) (sources.Plain z) zone h t =
     let same : plain_zone z ≡ zone = cc in
-    inl (subst (λ (k : TimeZone). IsPlainZone (offset_in text) text k) same h)
+    inl (subst (λ (k : TimeZone). IsPlainZone (zone_offset text) text k) same h)
 taken-is (Some text) (sources.Table table) zone h t = inr (h.0, (h.1, inr (h.2, (table, h.3, t))))
 taken-is (Some text) (sources.Named db name) zone h t = inr (h.0, (plain_database db, inl (named (plain_database db) name.now text zone h.1 t)))
 taken-is (Some text) (sources.System system db) zone h t = absurd h

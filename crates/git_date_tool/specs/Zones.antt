@@ -4,7 +4,6 @@ use Rattle.std.specs.Prelude.{◌≡◌, ◌⊎◌, ℕ, ◌+◌, ◌*◌, ◌�
 use Rattle.jiff.specs.Placed.{IsLookedUp, IsPosixZone, fixed_zone}
 use Rattle.jiff.specs.Types.{Offset, TimeZone, TimeZoneDatabase, UTC}
 use Rattle.jiff.specs.ZoneView.{plain_zone, plain_database, plain_system}
-use Rattle.jiff_core.specs.Calendar.{IsBetween}
 use Rattle.jiff_core.specs.declared.error.Error.{Error}
 use Rattle.jiff_tz.specs.PosixReader.{read_whole}
 use Rattle.jiff_tz.specs.System.{IsNamed, IsSystemZone, IsTable, Lacks}
@@ -12,45 +11,10 @@ use Rattle.jiff_tz.specs.Tzif.{tzif_view}
 use Rattle.jiff_tz.specs.TzifReader.{read_tzif}
 use Rattle.jiff_tz.specs.declared.system.SystemTimeZone.{SystemTimeZone}
 use Rattle.jiff_tz.specs.declared.tzif.Tzif.{Tzif}
-use Rattle.gix_date.specs.Fields.ClockNumbers.{seconds_per_minute, seconds_per_hour}
-use Rattle.gix_date.specs.Text.Characters.{plus, minus, colon}
-use Rattle.gix_date.specs.Text.Front.{◌>>=◌}
-use Rattle.gix_date.specs.Text.Numbers.{two_digit_value}
-use Rattle.git_date_tool.specs.declared.offsets.TheConstants.{MAX_HOURS, MAX_MINUTES}
+use Rattle.git_date.specs.ZoneTexts.{zone_offset}
 use Rattle.git_date_tool.specs.declared.zones.TheConstants.{MAX_FILE_BYTES}
 use Rattle.git_date_tool.specs.declared.zones.ZoneSource.{ZoneSource}
 use Rattle.git_date_tool.specs.declared.zones.ZoneSource.TheVariants as sources
-
--- hours and minutes in seconds
-abbrev pub distance : ℕ → ℕ → ℕ
-distance hours minutes = seconds_per_hour * hours + seconds_per_minute * minutes
-
--- the seconds are no further from UTC than the most hours and minutes
-abbrev pub IsNear : ℤ → Type 0
-IsNear seconds = IsBetween (neg_ℤ (pos (distance MAX_HOURS MAX_MINUTES))) (pos (distance MAX_HOURS MAX_MINUTES)) seconds
-
--- so far east of UTC after a plus, west after a minus; below 26 hours, as zones of `jiff` are
-abbrev pub signed : ℕ → ℕ → ℕ → Option ℤ
-signed sign hours minutes =
-    if nat_lt MAX_HOURS hours || nat_lt MAX_MINUTES minutes then None
-    else if sign == plus then Some (pos (distance hours minutes))
-    else if sign == minus then Some (neg_ℤ (pos (distance hours minutes)))
-    else None
-
--- the seconds of a sign and two digits of hours
-abbrev pub signed_hours : ℕ → ℕ → ℕ → Option ℤ
-signed_hours sign tens ones = two_digit_value tens ones >>= λ hours. signed sign hours 0
-
--- the seconds of a sign, two digits of hours and two of minutes
-abbrev pub signed_clock : ℕ → ℕ → ℕ → ℕ → ℕ → Option ℤ
-signed_clock sign a b c d = two_digit_value a b >>= λ hours. two_digit_value c d >>= λ minutes. signed sign hours minutes
-
--- the seconds of an offset: a sign, two digits of hours, and perhaps two of minutes, with a colon before them or without
-unfoldable pub offset_in : List ℕ → Option ℤ
-offset_in (sign ∷ a ∷ b ∷ []) = signed_hours sign a b
-offset_in (sign ∷ a ∷ b ∷ c ∷ d ∷ []) = signed_clock sign a b c d
-offset_in (sign ∷ a ∷ b ∷ mark ∷ c ∷ d ∷ []) = if mark == colon then signed_clock sign a b c d else None
-offset_in _ = None
 
 -- the zone that always has this offset
 abbrev pub IsFixedAt : ℤ → TimeZone → Type 0
@@ -69,7 +33,7 @@ IsPlainZone None text zone = IsPosixZone text zone
 
 -- a text that is neither an offset nor a rule: a name, or the path of a file
 abbrev pub IsName : List ℕ → Type 0
-IsName text = (offset_in text ≡ None) × (read_whole text ≡ None)
+IsName text = (zone_offset text ≡ None) × (read_whole text ≡ None)
 
 -- the bytes of some file within the limit are this table
 pub record IsOfFile (table : Tzif) : Type 0 where
@@ -87,7 +51,7 @@ IsNamedZone text zone = (db : TimeZoneDatabase) × (IsNamed db text (Ok zone) �
 
 -- the zone that a text means: an offset, or else a rule, or else a name, or else a file
 abbrev pub IsTextZone : List ℕ → TimeZone → Type 0
-IsTextZone text zone = IsPlainZone (offset_in text) text zone ⊎ (IsName text × IsNamedZone text zone)
+IsTextZone text zone = IsPlainZone (zone_offset text) text zone ⊎ (IsName text × IsNamedZone text zone)
 
 -- The zone of the system: that of `TZ` or of the system's file in some database, as `jiff` finds it, or else UTC.
 abbrev pub IsZoneOfSystem : TimeZone → Type 0
@@ -110,7 +74,7 @@ NeedsSystem None = Unit {0}
 
 -- what the zone of a text is taken from
 abbrev pub IsTextSource : List ℕ → ZoneSource → Type 0
-IsTextSource text (sources.Plain zone) = IsPlainZone (offset_in text) text (plain_zone zone)
+IsTextSource text (sources.Plain zone) = IsPlainZone (zone_offset text) text (plain_zone zone)
 IsTextSource text (sources.Table table) = IsName text × (db : TimeZoneDatabase) × Lacks db text × IsOfFile table
 IsTextSource text (sources.Named db name) = IsName text × (name.now ≡ text)
 IsTextSource text (sources.System system db) = ⊥

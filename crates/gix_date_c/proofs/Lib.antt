@@ -1,2 +1,4 @@
+mod Boxed
+mod Named
 mod Pieces
 mod Printed

@@ -2,6 +2,7 @@ pub mod Buffers
 pub mod Careful
 pub mod GitDates
 pub mod GitModes
+pub mod Handles
 pub mod Moments
 pub mod Parsing
 pub mod Printing
@@ -11,3 +12,4 @@ pub mod Signatures
 pub mod Statuses
 pub mod Stores
 pub mod Times
+pub mod Zones

@@ -2,18 +2,19 @@
 ghost use Rattle.std.specs.Prelude.{◌≡◌, Some, None};
 ghost use Rattle.std.specs.Result.{result_map_both};
 ghost use Rattle.gix_date_c.specs.Careful.{IsParsedCarefully, options_of, refusal_of, texts_of, without_offset_of};
-ghost use Rattle.gix_date_c.specs.Moments.{IsFileZone, IsOffsetZone, IsRuleZone};
 ghost use Rattle.gix_date_c.specs.Reading.{IsReadAt, IsReadIn};
 ghost use Rattle.gix_date_c.specs.Stores.{StoresRead};
+ghost use Rattle.gix_date_c.specs.Zones.{IsSame, IsZone};
 ghost use Rattle.gix_date_c.specs.Times.{time_for_c};
 
-use crate::moment::{CInstant, moment_at_offset, moment_by_rule, moment_by_table, table_of};
+use crate::moment::CInstant;
 use crate::parse::{raw_rule, refusal_status};
 use crate::refusal::Refusal;
 use crate::status::Status;
 use crate::store::store_read;
 use crate::text::utf8_text;
 use crate::time::{CTime, time_for_c};
+use crate::zone::CZone;
 use gix_date::{CarefulError, CarefulOptions, Texts, Time, WithoutOffset, Zoned, parse_carefully};
 use std::alloc::Global;
 
@@ -40,62 +41,24 @@ pub extern "C" fn gix_date_parse_carefully(
     store_read(parse_text(text, options, None), time, place)
 }
 
-/// Parses a date carefully, with a moment in the zone that always has an offset.
+/// Parses a date carefully, with a moment in a zone that C holds.
 #[unsafe(no_mangle)]
-pub extern "C" fn gix_date_parse_carefully_at_offset(
-    text: &[u8],
-    options: &CCarefulOptions,
-    now: &CInstant,
-    offset: i32,
-    time: &mut CTime,
-    place: &mut usize,
-) -> u32
-    ensures { StoresRead (IsReadIn (λ now. IsParsedCarefully options.now (Some now)) (IsOffsetZone offset) now.now text.now)
-        (time.old, place.old) (time.new, place.new) result }
-{
-    store_read(
-        parse_at(text, options, moment_at_offset(now, offset)),
-        time,
-        place,
-    )
-}
-
-/// Parses a date carefully, with a moment in the zone of a POSIX rule.
-#[unsafe(no_mangle)]
-pub extern "C" fn gix_date_parse_carefully_in_posix_zone(
-    text: &[u8],
-    options: &CCarefulOptions,
-    now: &CInstant,
-    rule: &[u8],
-    time: &mut CTime,
-    place: &mut usize,
-) -> u32
-    ensures { StoresRead (IsReadIn (λ now. IsParsedCarefully options.now (Some now)) (IsRuleZone rule.now) now.now text.now)
-        (time.old, place.old) (time.new, place.new) result }
-{
-    store_read(
-        parse_at(text, options, moment_by_rule(now, rule)),
-        time,
-        place,
-    )
-}
-
-/// Parses a date carefully, with a moment in the zone of a TZif file.
-#[unsafe(no_mangle)]
-pub extern "C" fn gix_date_parse_carefully_in_tzif_zone(
+pub extern "C" fn gix_date_parse_carefully_at(
     alloc: Global,
     text: &[u8],
     options: &CCarefulOptions,
     now: &CInstant,
-    file: &[u8],
+    zone: &mut CZone,
     time: &mut CTime,
     place: &mut usize,
 ) -> u32
-    ensures { StoresRead (IsReadIn (λ now. IsParsedCarefully options.now (Some now)) (IsFileZone file.now) now.now text.now)
+    ensures read { StoresRead (IsReadIn (λ now. IsParsedCarefully options.now (Some now)) (IsZone zone.old) now.now text.now)
         (time.old, place.old) (time.new, place.new) result }
+    ensures zone { IsSame zone.old zone.new }
 {
-    let table = table_of(alloc, file);
-    let answer = parse_at(text, options, moment_by_table(now, &table));
+    let taken = zone.take(alloc);
+    let answer = parse_at(text, options, taken.moment(now));
+    zone.give_back(alloc, taken);
     store_read(answer, time, place)
 }
 

@@ -20,3 +20,4 @@ mod store;
 mod text;
 mod time;
 mod version;
+mod zone;

@@ -2,7 +2,7 @@
 ghost use Rattle.std.specs.Prelude.{◌≡◌};
 ghost use Rattle.std.specs.Result.{result_map_both};
 ghost use Rattle.jiff.specs.Words.{plain_zone};
-ghost use Rattle.gix_date_c.specs.Moments.{IsInstant, IsMomentIn, IsMomentOf, IsNow, IsOffsetZone, IsRuleZone, IsTable, IsTableZone, file_status};
+ghost use Rattle.gix_date_c.specs.Moments.{IsInstant, IsMomentIn, IsMomentOf, IsOffsetZone, IsRuleZone, IsTable, file_status};
 
 use crate::status::Status;
 use crate::text::utf8_text;
@@ -19,36 +19,9 @@ pub struct CInstant {
     pub nanoseconds: i32,
 }
 
-/// The moment of an instant in the zone that always has an offset.
-#[inline(always)]
-pub(crate) fn moment_at_offset(instant: &CInstant, offset: i32) -> Result<Zoned<'static>, Status>
-    ensures { IsNow (IsOffsetZone offset) instant.now result }
-{
-    moment_in(instant, offset_zone(offset))
-}
-
-/// The moment of an instant in the zone of a POSIX rule.
-#[inline(always)]
-pub(crate) fn moment_by_rule(instant: &CInstant, rule: &[u8]) -> Result<Zoned<'static>, Status>
-    ensures { IsNow (IsRuleZone rule.now) instant.now result }
-{
-    moment_in(instant, rule_zone(rule))
-}
-
-/// The moment of an instant in the zone of a table, where there is the table.
-#[inline(always)]
-pub(crate) fn moment_by_table<'a>(
-    instant: &CInstant,
-    table: &'a Result<Tzif, Status>,
-) -> Result<Zoned<'a>, Status>
-    ensures { IsNow (IsTableZone table.now) instant.now result }
-{
-    moment_in(instant, table_zone(table))
-}
-
 /// The moment of an instant in a zone, where there is the zone.
 #[inline(always)]
-fn moment_in<'z>(
+pub(crate) fn moment_in<'z>(
     instant: &CInstant,
     zone: Result<TimeZone<'z>, Status>,
 ) -> Result<Zoned<'z>, Status>
@@ -95,23 +68,14 @@ pub(crate) fn rule_zone(rule: &[u8]) -> Result<TimeZone<'static>, Status>
     }
 }
 
-/// The table of a TZif file.
+/// The table of a TZif file. It needs much stack, which a rule is not to pay for.
+#[inline(never)]
 pub(crate) fn table_of(alloc: Global, file: &[u8]) -> Result<Tzif, Status>
     ensures { IsTable file.now result }
 {
     match Tzif::parse(alloc, None, file) {
         Ok(table) => Ok(table),
         Err(error) => Err(file_status(error)),
-    }
-}
-
-/// The zone of a table, where there is the table.
-pub(crate) fn table_zone<'a>(table: &'a Result<Tzif, Status>) -> Result<TimeZone<'a>, Status>
-    ensures { IsTableZone table.now (result_map_both plain_zone (λ status. status) result) }
-{
-    match table {
-        Ok(table) => Ok(TimeZone::tzif(table)),
-        Err(status) => Err(*status),
     }
 }
 

@@ -1,13 +1,14 @@
 //! Dates parsed.
 ghost use Rattle.std.specs.Prelude.{◌≡◌, Result, Ok, None};
-ghost use Rattle.gix_date_c.specs.Moments.{IsFileZone, IsOffsetZone, IsRuleZone};
 ghost use Rattle.gix_date_c.specs.Parsing.{IsParsed, IsParsedAt, IsParsedIn, raw_rule, refusal_status};
 ghost use Rattle.gix_date_c.specs.Times.{StoresTime};
+ghost use Rattle.gix_date_c.specs.Zones.{IsSame, IsZone};
 
-use crate::moment::{CInstant, moment_at_offset, moment_by_rule, moment_by_table, table_of};
+use crate::moment::CInstant;
 use crate::status::Status;
 use crate::text::utf8_text;
 use crate::time::{CTime, store_time};
+use crate::zone::CZone;
 use gix_date::{ParseError, RawOffsets, Time, Zoned, parse_no_alloc};
 use std::alloc::Global;
 
@@ -20,54 +21,23 @@ pub extern "C" fn gix_date_parse(text: &[u8], raw_offsets: u32, time: &mut CTime
     store_time(parse_text(text, raw_offsets, None), time)
 }
 
-/// Parses a date, which may be relative to a moment in the zone that always has an offset.
+/// Parses a date, which may be relative to a moment in a zone that C holds.
 #[unsafe(no_mangle)]
-pub extern "C" fn gix_date_parse_at_offset(
-    text: &[u8],
-    raw_offsets: u32,
-    now: &CInstant,
-    offset: i32,
-    time: &mut CTime,
-) -> u32
-    ensures { (answer : Result Time Status) × IsParsedIn raw_offsets (IsOffsetZone offset) now.now text.now answer
-        × StoresTime answer time.old time.new result }
-{
-    store_time(
-        parse_at(text, raw_offsets, moment_at_offset(now, offset)),
-        time,
-    )
-}
-
-/// Parses a date, which may be relative to a moment in the zone of a POSIX rule.
-#[unsafe(no_mangle)]
-pub extern "C" fn gix_date_parse_in_posix_zone(
-    text: &[u8],
-    raw_offsets: u32,
-    now: &CInstant,
-    rule: &[u8],
-    time: &mut CTime,
-) -> u32
-    ensures { (answer : Result Time Status) × IsParsedIn raw_offsets (IsRuleZone rule.now) now.now text.now answer
-        × StoresTime answer time.old time.new result }
-{
-    store_time(parse_at(text, raw_offsets, moment_by_rule(now, rule)), time)
-}
-
-/// Parses a date, which may be relative to a moment in the zone of a TZif file.
-#[unsafe(no_mangle)]
-pub extern "C" fn gix_date_parse_in_tzif_zone(
+pub extern "C" fn gix_date_parse_at(
     alloc: Global,
     text: &[u8],
     raw_offsets: u32,
     now: &CInstant,
-    file: &[u8],
+    zone: &mut CZone,
     time: &mut CTime,
 ) -> u32
-    ensures { (answer : Result Time Status) × IsParsedIn raw_offsets (IsFileZone file.now) now.now text.now answer
+    ensures parsed { (answer : Result Time Status) × IsParsedIn raw_offsets (IsZone zone.old) now.now text.now answer
         × StoresTime answer time.old time.new result }
+    ensures zone { IsSame zone.old zone.new }
 {
-    let table = table_of(alloc, file);
-    let answer = parse_at(text, raw_offsets, moment_by_table(now, &table));
+    let taken = zone.take(alloc);
+    let answer = parse_at(text, raw_offsets, taken.moment(now));
+    zone.give_back(alloc, taken);
     store_time(answer, time)
 }
 

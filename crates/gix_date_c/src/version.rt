@@ -1,8 +1,8 @@
 //! The version of this library, and of the crate that it ports.
 ghost use Rattle.std.specs.Prelude.{◌≡◌};
 
-/// The version, 1.0.0: ten thousands for the first number, hundreds for the second, ones for the third.
-const VERSION: u32 = 10000;
+/// The version, 2.0.0: ten thousands for the first number, hundreds for the second, ones for the third.
+const VERSION: u32 = 20_000;
 
 /// The version of the crate gix-date that is ported, 0.18.1.
 const PORTED_VERSION: u32 = 1801;
@@ -10,7 +10,7 @@ const PORTED_VERSION: u32 = 1801;
 /// The version of this library.
 #[unsafe(no_mangle)]
 pub extern "C" fn gix_date_version() -> u32
-    ensures { result ≡ 10000 }
+    ensures { result ≡ 20_000 }
 {
     VERSION
 }

@@ -10,3 +10,4 @@ pub use Rattle.git_date.specs.ShowAges.{age_of, IsNoLess, IsNoSingle}
 pub use Rattle.git_date.specs.ShowClocks.{moment_at, moment_of}
 pub use Rattle.git_date.specs.ShowTexts.{unknown_offset}
 pub use Rattle.git_date.specs.Tokens.{tokens, texts}
+pub use Rattle.git_date.specs.ZoneTexts.{IsNear, zone_offset}

@@ -2,7 +2,7 @@
 use crate::approximate_caller::{human, reference_time, since};
 use crate::git_date_caller::{date_and_ignored, mail_time};
 use crate::instant_caller::{committed, logged};
-use git_date::{DateError, DateKind, DateMode, ReadDate, parse_date};
+use git_date::{DateError, DateKind, DateMode, ReadDate, parse_date, zone_offset};
 use gix_date::Time;
 use jiff::Timestamp;
 use jiff::tz::Offset;
@@ -147,5 +147,24 @@ fn an_instant_and_a_zone_do_as_a_moment(rt: HostRuntime) -> Result<(), Fail> {
     let shown = logged(told, mode, now, zone).ok_or("a time")?;
     assert_eq!(rt; shown.as_str(), "2005-04-07 15:43:13 -0430");
     assert!(rt; logged(Time::new(-1, 0), mode, now, zone).is_none());
+    Ok(())
+}
+
+#[test]
+fn the_offset_of_a_zone_has_hours_and_perhaps_minutes(rt: HostRuntime) -> Result<(), Fail> {
+    for (text, offset) in [
+        ("+0200", 7200),
+        ("-03:30", -12_600),
+        ("+02", 7200),
+        ("-0000", 0),
+        ("+2559", 93_540),
+    ] {
+        assert_eq!(rt; zone_offset(text.as_bytes()), Some(offset));
+    }
+    for text in [
+        "", "0200", "+2600", "+0260", "+2", "+02000", "+02:0", "+02-00", "UTC", " +0200",
+    ] {
+        assert_eq!(rt; zone_offset(text.as_bytes()), None);
+    }
     Ok(())
 }

@@ -1,12 +1,18 @@
 """The calls of the library for C, by numbers, texts and tuples. Each answer begins with the library's status."""
 
-from typing import Optional, Tuple, Union
+from typing import Optional, Tuple, Union, final
 
 _Text = Union[str, bytes]
 _Time = Tuple[int, int]
-_Moment = Tuple[int, int, Union[int, str, bytes]]
+_Moment = Tuple[int, int, object]  # the last is an int or a Zone; others are a TypeError
 _Read = Tuple[int, int, int]
 _Written = Tuple[int, Optional[str]]
+
+@final
+class Zone:
+    """A zone that was read: of a POSIX rule as a str, or of a TZif file as bytes. Calls refuse one that cannot be read."""
+
+    def __new__(cls, zone: _Text, /) -> Zone: ...
 
 def parse_header(text: _Text, /) -> _Read: ...
 def is_canonical_header(text: _Text, /) -> bool: ...

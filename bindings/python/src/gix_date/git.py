@@ -17,7 +17,7 @@ from typing import Optional, Union
 
 from . import _library
 from .errors import REFUSALS, GixDateError, Text, index_of, named, refusal
-from .moments import Now, moment_of
+from .moments import Now, given
 from .options import number_of
 from .times import Time, time_of
 
@@ -160,7 +160,7 @@ def parse_date(text: Text, now: Now) -> ReadDate:
 
     Refuses by `Unreadable`, `NumberTooLarge`, `YearRefused` and `Range`.
     """
-    status, seconds, offset, ignored, place = _library.parse_date(text, moment_of(now))
+    status, seconds, offset, ignored, place = _library.parse_date(text, given(now))
     if status:
         raise refusal(status, text, place, _GIT_REFUSALS)
     return ReadDate(time_of(seconds, offset), index_of(text, ignored))
@@ -171,7 +171,7 @@ def approxidate(text: Text, now: Now) -> Approximate:
 
     Refuses by `NumberTooLarge`, `BackTooFar`, `YearRefused` and `Range`.
     """
-    status, seconds, offset, ignored, understood, place = _library.approxidate(text, moment_of(now))
+    status, seconds, offset, ignored, understood, place = _library.approxidate(text, given(now))
     if status:
         raise refusal(status, text, place, _GIT_REFUSALS)
     return Approximate(time_of(seconds, offset), bool(understood), index_of(text, ignored))
@@ -182,7 +182,7 @@ def expiry_date(text: Text, now: Now) -> Union[Approximate, Expires]:
 
     Refuses as `approxidate` does, and by `Unreadable` if nothing was understood.
     """
-    status, kind, seconds, offset, ignored, understood, place = _library.expiry_date(text, moment_of(now))
+    status, kind, seconds, offset, ignored, understood, place = _library.expiry_date(text, given(now))
     if status:
         raise refusal(status, text, place, _GIT_REFUSALS)
     if kind < 2:
@@ -199,7 +199,7 @@ def show_date(time: Time, mode: Union[DateMode, DateKind, Text], now: Now) -> st
         mode = DateMode.of_name(mode)
     elif not isinstance(mode, DateMode):
         mode = DateMode(mode)
-    status, text = _library.show_date((time.seconds, time.offset), mode.kind.value, mode.local, moment_of(now))
+    status, text = _library.show_date((time.seconds, time.offset), mode.kind.value, mode.local, given(now))
     if text is None:
         raise refusal(status, refusals=_GIT_REFUSALS)
     return text

@@ -8,7 +8,7 @@ from typing import IO, Dict, Iterator, Optional, Tuple, Union
 
 from . import _library
 from .errors import GixDateError, refusal
-from .moments import Moment, Now, any_moment_of
+from .moments import Given, Now, given
 from .options import RawOffsets, number_of
 from .times import Time, time_of
 
@@ -51,11 +51,11 @@ def _faults(chunk: bytes, statuses: bytes) -> Dict[int, GixDateError]:
     return {i: refusal(status, lines[i]) for i, status in enumerate(statuses) if status}
 
 
-def _check(source: _Source, now: Optional[Now], raw_offsets: RawOffsets) -> Tuple[int, Optional[Moment]]:
+def _check(source: _Source, now: Optional[Now], raw_offsets: RawOffsets) -> Tuple[int, Optional[Given]]:
     """The number of the option, and the moment. Refuses what no line could be read of or at."""
     if not isinstance(source, bytes) and (isinstance(source, TextIOBase) or not hasattr(source, "read")):
         raise _wrong_source()
-    rule, moment = number_of(raw_offsets, RawOffsets), any_moment_of(now)
+    rule, moment = number_of(raw_offsets, RawOffsets), None if now is None else given(now)
     status, *_ = _library.parse("@0", rule, moment)
     if status:
         raise refusal(status)
@@ -73,7 +73,7 @@ def parse_lines(
     return _times(source, *_check(source, now, raw_offsets))
 
 
-def _times(source: _Source, rule: int, moment: Optional[Moment]) -> Iterator[Union[Time, GixDateError]]:
+def _times(source: _Source, rule: int, moment: Optional[Given]) -> Iterator[Union[Time, GixDateError]]:
     for chunk in _chunks(source):
         seconds, offsets, statuses = _library.parse_lines(chunk, rule, moment)
         faults = _faults(chunk, statuses)

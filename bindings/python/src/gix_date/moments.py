@@ -9,11 +9,13 @@ from datetime import datetime, tzinfo
 from functools import lru_cache
 from importlib import resources
 from pathlib import Path
-from typing import NamedTuple, Optional, Sequence, Union
+from typing import NamedTuple, Optional, Sequence, Tuple, Union
 
+from . import _library
 from .times import parts_of
 
 Zone = Union[int, str, bytes]
+Parts = Tuple[int, int, Zone]
 
 
 class Moment(NamedTuple):
@@ -37,13 +39,21 @@ class Moment(NamedTuple):
         A `ZoneInfo` gives the file of its key, which is looked for as `zoneinfo` does; without one, and for every other zone, the
         offset at that moment holds always. Refuses by `NaiveDatetime`, and an offset with parts of a second by `InvalidZone`.
         """
-        seconds, microseconds, offset = parts_of(at)
-        file = file_of(at.tzinfo)
-        return cls(seconds, microseconds * 1000, offset if file is None else file)
+        return cls(*parts_in_zone(at))
 
 
 Now = Union[datetime, Moment]
 """A moment: an aware datetime, or a Moment."""
+
+Given = Tuple[int, int, object]
+"""A moment as the extension takes it, whose zone is an int or a Zone that was read."""
+
+
+def parts_in_zone(at: datetime) -> Parts:
+    """The parts of an aware datetime's moment."""
+    seconds, microseconds, offset = parts_of(at)
+    file = file_of(at.tzinfo)
+    return seconds, microseconds * 1000, offset if file is None else file
 
 
 def file_of(zone: Optional[tzinfo]) -> Optional[bytes]:
@@ -73,18 +83,25 @@ def tzif_of(key: str, folders: Sequence[str]) -> Optional[bytes]:
         return None
 
 
-def moment_of(now: Now) -> Moment:
-    """The moment of a datetime, or the moment itself."""
+@lru_cache(maxsize=64)
+def read_zone(zone: Union[str, bytes]) -> _library.Zone:
+    """The zone of a rule or a file, read once for many calls."""
+    return _library.Zone(zone)
+
+
+def given(now: Now) -> Given:
+    """What the extension is given of a moment: its parts, with a zone that is read where that is a rule or a file."""
     if isinstance(now, Moment):
-        return now
-    if isinstance(now, datetime):
-        return Moment.from_datetime(now)
-    raise TypeError(f"a moment has to be an aware datetime or a Moment, not {type(now).__name__}")
-
-
-def any_moment_of(now: Optional[Now]) -> Optional[Moment]:
-    """The same, where there may be none."""
-    return None if now is None else moment_of(now)
+        parts: Parts = now
+    elif isinstance(now, datetime):
+        parts = parts_in_zone(now)
+    else:
+        raise TypeError(f"a moment has to be an aware datetime or a Moment, not {type(now).__name__}")
+    zone = parts[2]
+    if isinstance(zone, int):
+        return parts
+    # a zone of another type is left to the extension, which refuses it
+    return parts[0], parts[1], read_zone(zone) if isinstance(zone, (str, bytes)) else zone
 
 
 def file_at(path: Path) -> Optional[bytes]:

@@ -6,7 +6,7 @@ from typing import Optional
 
 from . import _library
 from .errors import Text, refusal
-from .moments import Now, any_moment_of
+from .moments import Now, given
 from .options import RawOffsets, Texts, WithoutOffset, number_of
 from .times import Time, time_of
 
@@ -33,7 +33,7 @@ def parse(text: Text, now: Optional[Now] = None, *, raw_offsets: RawOffsets = Ra
     docs/SPECIFICATION.md lists the forms. Refuses by `NotText`, `UnknownFormat`, `DateConversion`, `MissingNow` and `Range`, and the
     moment by `NaiveDatetime`, `InvalidInstant` and `InvalidZone`.
     """
-    status, seconds, offset = _library.parse(text, number_of(raw_offsets, RawOffsets), any_moment_of(now))
+    status, seconds, offset = _library.parse(text, number_of(raw_offsets, RawOffsets), None if now is None else given(now))
     if status:
         raise refusal(status, text)
     return time_of(seconds, offset)
@@ -52,7 +52,7 @@ def parse_carefully(
     The other refusals are those of `parse`.
     """
     options = (number_of(raw_offsets, RawOffsets), number_of(without_offset, WithoutOffset), number_of(texts, Texts))
-    status, seconds, offset, place = _library.parse_carefully(text, *options, any_moment_of(now))
+    status, seconds, offset, place = _library.parse_carefully(text, *options, None if now is None else given(now))
     if status:
         raise refusal(status, text, place)
     return time_of(seconds, offset)

@@ -1,77 +1,31 @@
 //! The calls for Git's dates.
 
-use super::{instant_of, NO_SUCH_OPTION, OK};
+use super::zone::HeldZone;
+use super::{NO_SUCH_OPTION, OK};
 use crate::ffi::git::{self as ffi, CApproximate, CExact, CExpiry, CMode};
-use crate::ffi::CInstant;
+use crate::ffi::CZone;
 use crate::git::{
     Approximate, DateError, DateKind, DateMode, Expiry, ReadDate, UnknownMode, MAX_SHOWN,
 };
-use crate::{Error, Moment, Time, Zone};
+use crate::{Error, Instant, Time};
 
-/// A call that reads at an offset.
-type AtOffset<T> =
-    unsafe extern "C" fn(*const u8, usize, *const CInstant, i32, *mut T, *mut usize) -> u32;
+/// A call that reads a date.
+type Reader<T> =
+    unsafe extern "C" fn(*const u8, usize, *const Instant, *mut CZone, *mut T, *mut usize) -> u32;
 
-/// A call that reads in the zone of a rule or a file.
-type InZone<T> = unsafe extern "C" fn(
-    *const u8,
-    usize,
-    *const CInstant,
-    *const u8,
-    usize,
-    *mut T,
-    *mut usize,
-) -> u32;
-
-/// The calls of the library that read alike, by the ways to give a zone.
-struct Reader<T> {
-    at_offset: AtOffset<T>,
-    in_posix_zone: InZone<T>,
-    in_tzif_zone: InZone<T>,
-}
-
-const EXACT: Reader<CExact> = Reader {
-    at_offset: ffi::git_date_parse_at_offset,
-    in_posix_zone: ffi::git_date_parse_in_posix_zone,
-    in_tzif_zone: ffi::git_date_parse_in_tzif_zone,
-};
-
-const APPROXIMATE: Reader<CApproximate> = Reader {
-    at_offset: ffi::git_date_approxidate_at_offset,
-    in_posix_zone: ffi::git_date_approxidate_in_posix_zone,
-    in_tzif_zone: ffi::git_date_approxidate_in_tzif_zone,
-};
-
-const EXPIRY: Reader<CExpiry> = Reader {
-    at_offset: ffi::git_date_expiry_at_offset,
-    in_posix_zone: ffi::git_date_expiry_in_posix_zone,
-    in_tzif_zone: ffi::git_date_expiry_in_tzif_zone,
-};
-
-impl<T: Default> Reader<T> {
-    fn read(&self, text: &[u8], now: &Moment) -> Result<T, DateError> {
-        let instant = instant_of(now);
-        let (mut date, mut place) = (T::default(), 0);
-        let (start, len) = (text.as_ptr(), text.len());
-        let status = match &now.zone {
-            // SAFETY: readers are the three above. The text is valid for its length, the instant is valid, and the date and
-            // the place are places of their own.
-            Zone::Offset(offset) => unsafe {
-                (self.at_offset)(start, len, &instant, *offset, &mut date, &mut place)
-            },
-            // SAFETY: as above, and the rule is valid for its length.
-            Zone::Posix(rule) => unsafe {
-                let (rule, rule_len) = (rule.as_ptr(), rule.len());
-                (self.in_posix_zone)(start, len, &instant, rule, rule_len, &mut date, &mut place)
-            },
-            // SAFETY: as above, and the file is valid for its length.
-            Zone::Tzif(file) => unsafe {
-                let (file, file_len) = (file.as_ptr(), file.len());
-                (self.in_tzif_zone)(start, len, &instant, file, file_len, &mut date, &mut place)
-            },
-        };
-        stored(status, date, place)
-    }
+/// What one of the three readers reads.
+fn read<T: Default>(
+    reader: Reader<T>,
+    text: &[u8],
+    now: Instant,
+    zone: &mut HeldZone,
+) -> Result<T, DateError> {
+    let (mut date, mut place) = (T::default(), 0);
+    let (start, len) = (text.as_ptr(), text.len());
+    // SAFETY: readers are the three below. The text is valid for its length, the instant is valid, and the zone, which is valid,
+    // the date and the place are places of their own.
+    let status = unsafe { reader(start, len, &now, zone.place(), &mut date, &mut place) };
+    stored(status, date, place)
 }
 
 /// What a call stored, or its refusal at a place.
@@ -124,16 +78,28 @@ impl From<CExpiry> for Expiry {
     }
 }
 
-pub(crate) fn parse_date(text: &[u8], now: &Moment) -> Result<ReadDate, DateError> {
-    EXACT.read(text, now).map(ReadDate::from)
+pub(crate) fn parse_date(
+    text: &[u8],
+    now: Instant,
+    zone: &mut HeldZone,
+) -> Result<ReadDate, DateError> {
+    read(ffi::git_date_parse_at, text, now, zone).map(ReadDate::from)
 }
 
-pub(crate) fn approxidate(text: &[u8], now: &Moment) -> Result<Approximate, DateError> {
-    APPROXIMATE.read(text, now).map(Approximate::from)
+pub(crate) fn approxidate(
+    text: &[u8],
+    now: Instant,
+    zone: &mut HeldZone,
+) -> Result<Approximate, DateError> {
+    read(ffi::git_date_approxidate_at, text, now, zone).map(Approximate::from)
 }
 
-pub(crate) fn expiry_date(text: &[u8], now: &Moment) -> Result<Expiry, DateError> {
-    EXPIRY.read(text, now).map(Expiry::from)
+pub(crate) fn expiry_date(
+    text: &[u8],
+    now: Instant,
+    zone: &mut HeldZone,
+) -> Result<Expiry, DateError> {
+    read(ffi::git_date_expiry_at, text, now, zone).map(Expiry::from)
 }
 
 /// The mode of a name. A kind that only a later library has is unknown here.
@@ -155,36 +121,19 @@ pub(crate) fn mode_named(name: &str) -> Result<DateMode, UnknownMode> {
 pub(crate) fn show_date(
     time: &Time,
     mode: DateMode,
-    now: &Moment,
+    now: Instant,
+    zone: &mut HeldZone,
     out: &mut [u8; MAX_SHOWN],
 ) -> Result<usize, DateError> {
-    let instant = instant_of(now);
     let mode = CMode {
         kind: mode.kind as u32,
         local: mode.local,
     };
     let (out, room, mut len) = (out.as_mut_ptr(), out.len(), 0);
-    let status = match &now.zone {
-        // SAFETY: time, mode and instant are valid, and the buffer, of the length given, and the length are places of their
-        // own.
-        Zone::Offset(offset) => unsafe {
-            ffi::git_date_show_at_offset(time, &mode, &instant, *offset, out, room, &mut len)
-        },
-        // SAFETY: as above, and the rule is valid for its length.
-        Zone::Posix(rule) => unsafe {
-            let (rule, rule_len) = (rule.as_ptr(), rule.len());
-            ffi::git_date_show_in_posix_zone(
-                time, &mode, &instant, rule, rule_len, out, room, &mut len,
-            )
-        },
-        // SAFETY: as above, and the file is valid for its length.
-        Zone::Tzif(file) => unsafe {
-            let (file, file_len) = (file.as_ptr(), file.len());
-            ffi::git_date_show_in_tzif_zone(
-                time, &mode, &instant, file, file_len, out, room, &mut len,
-            )
-        },
-    };
+    // SAFETY: time, mode and instant are valid, and the zone, which is valid, the buffer, of the length given, and the length are
+    // places of their own.
+    let status =
+        unsafe { ffi::git_date_show_at(time, &mode, &now, zone.place(), out, room, &mut len) };
     stored(status, len, 0)
 }
 

@@ -1,7 +1,7 @@
 //! The calls of `include/git_date.h`.
 
-use super::CInstant;
-use crate::Time;
+use super::CZone;
+use crate::{Instant, Time};
 
 #[repr(C)]
 #[derive(Clone, Copy, Default)]
@@ -33,110 +33,36 @@ pub struct CMode {
 }
 
 extern "C" {
-    pub fn git_date_parse_at_offset(
+    pub fn git_date_parse_at(
         text: *const u8,
         text_len: usize,
-        now: *const CInstant,
-        offset: i32,
+        now: *const Instant,
+        zone: *mut CZone,
         date: *mut CExact,
         place: *mut usize,
     ) -> u32;
-    pub fn git_date_parse_in_posix_zone(
+    pub fn git_date_approxidate_at(
         text: *const u8,
         text_len: usize,
-        now: *const CInstant,
-        rule: *const u8,
-        rule_len: usize,
-        date: *mut CExact,
-        place: *mut usize,
-    ) -> u32;
-    pub fn git_date_parse_in_tzif_zone(
-        text: *const u8,
-        text_len: usize,
-        now: *const CInstant,
-        file: *const u8,
-        file_len: usize,
-        date: *mut CExact,
-        place: *mut usize,
-    ) -> u32;
-    pub fn git_date_approxidate_at_offset(
-        text: *const u8,
-        text_len: usize,
-        now: *const CInstant,
-        offset: i32,
+        now: *const Instant,
+        zone: *mut CZone,
         date: *mut CApproximate,
         place: *mut usize,
     ) -> u32;
-    pub fn git_date_approxidate_in_posix_zone(
+    pub fn git_date_expiry_at(
         text: *const u8,
         text_len: usize,
-        now: *const CInstant,
-        rule: *const u8,
-        rule_len: usize,
-        date: *mut CApproximate,
-        place: *mut usize,
-    ) -> u32;
-    pub fn git_date_approxidate_in_tzif_zone(
-        text: *const u8,
-        text_len: usize,
-        now: *const CInstant,
-        file: *const u8,
-        file_len: usize,
-        date: *mut CApproximate,
-        place: *mut usize,
-    ) -> u32;
-    pub fn git_date_expiry_at_offset(
-        text: *const u8,
-        text_len: usize,
-        now: *const CInstant,
-        offset: i32,
-        expiry: *mut CExpiry,
-        place: *mut usize,
-    ) -> u32;
-    pub fn git_date_expiry_in_posix_zone(
-        text: *const u8,
-        text_len: usize,
-        now: *const CInstant,
-        rule: *const u8,
-        rule_len: usize,
-        expiry: *mut CExpiry,
-        place: *mut usize,
-    ) -> u32;
-    pub fn git_date_expiry_in_tzif_zone(
-        text: *const u8,
-        text_len: usize,
-        now: *const CInstant,
-        file: *const u8,
-        file_len: usize,
+        now: *const Instant,
+        zone: *mut CZone,
         expiry: *mut CExpiry,
         place: *mut usize,
     ) -> u32;
     pub fn git_date_mode_named(name: *const u8, name_len: usize, mode: *mut CMode) -> u32;
-    pub fn git_date_show_at_offset(
+    pub fn git_date_show_at(
         time: *const Time,
         mode: *const CMode,
-        now: *const CInstant,
-        offset: i32,
-        out: *mut u8,
-        out_len: usize,
-        len: *mut usize,
-    ) -> u32;
-    pub fn git_date_show_in_posix_zone(
-        time: *const Time,
-        mode: *const CMode,
-        now: *const CInstant,
-        rule: *const u8,
-        rule_len: usize,
-        out: *mut u8,
-        out_len: usize,
-        len: *mut usize,
-    ) -> u32;
-    pub fn git_date_show_in_tzif_zone(
-        time: *const Time,
-        mode: *const CMode,
-        now: *const CInstant,
-        file: *const u8,
-        file_len: usize,
+        now: *const Instant,
+        zone: *mut CZone,
         out: *mut u8,
         out_len: usize,
         len: *mut usize,

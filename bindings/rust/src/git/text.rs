@@ -1,7 +1,8 @@
 //! Shown dates.
 
 use super::{DateError, DateMode};
-use crate::{calls, Moment, Time};
+use crate::calls::{self, zone::HeldZone};
+use crate::{Instant, Time};
 use std::fmt;
 use std::hash::{Hash, Hasher};
 use std::ops::Deref;
@@ -17,9 +18,14 @@ pub struct DateText {
 }
 
 impl DateText {
-    pub(super) fn shown(time: Time, mode: DateMode, now: &Moment) -> Result<DateText, DateError> {
+    pub(crate) fn shown(
+        time: Time,
+        mode: DateMode,
+        now: Instant,
+        zone: &mut HeldZone,
+    ) -> Result<DateText, DateError> {
         let mut bytes = [0; MAX_SHOWN];
-        let len = calls::git::show_date(&time, mode, now, &mut bytes)?;
+        let len = calls::git::show_date(&time, mode, now, zone, &mut bytes)?;
         Ok(DateText { bytes, len })
     }
 

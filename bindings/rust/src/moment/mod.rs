@@ -1,11 +1,15 @@
 //! The moment that relative dates count from.
 
+mod instant;
+mod read_zone;
 mod zone;
 
+pub use instant::Instant;
+pub use read_zone::ReadZone;
 pub use zone::Zone;
 
-use crate::{calls, Error, OffsetInSeconds, RawOffsets, SecondsSinceUnixEpoch, Time};
-use std::time::{Duration, SystemTime, UNIX_EPOCH};
+use crate::{Error, OffsetInSeconds, SecondsSinceUnixEpoch, Time};
+use std::time::SystemTime;
 
 /// A moment: an instant, in a zone. Two are equal where their fields are.
 ///
@@ -55,9 +59,17 @@ impl Moment {
     /// The time of this moment, without the part of a second: half a second before 1970 is 0. Its offset is that of the zone
     /// then.
     ///
-    /// [`Error::InvalidInstant`], [`Error::InvalidZone`], and in a zone by its file [`Error::OutOfMemory`].
+    /// [`Error::InvalidInstant`], [`Error::InvalidZone`], and in a zone by a rule or a file [`Error::OutOfMemory`].
     pub fn to_time(&self) -> Result<Time, Error> {
-        calls::parse(b"now", Some(self), RawOffsets::default())
+        self.zone.read()?.parse("now", self.instant())
+    }
+
+    /// The instant, without the zone.
+    pub const fn instant(&self) -> Instant {
+        Instant {
+            seconds: self.seconds,
+            nanoseconds: self.nanoseconds,
+        }
     }
 }
 
@@ -71,20 +83,10 @@ impl From<Time> for Moment {
 impl From<SystemTime> for Moment {
     /// The moment of the system's time, in UTC.
     fn from(time: SystemTime) -> Moment {
-        // There are less than 1000000000 nanoseconds, which an `i32` holds.
-        let (seconds, nanoseconds) = match time.duration_since(UNIX_EPOCH) {
-            Ok(after) => (
-                0_i64.saturating_add_unsigned(after.as_secs()),
-                after.subsec_nanos() as i32,
-            ),
-            Err(error) => {
-                let before = error.duration();
-                (
-                    0_i64.saturating_sub_unsigned(before.as_secs()),
-                    -(before.subsec_nanos() as i32),
-                )
-            }
-        };
+        let Instant {
+            seconds,
+            nanoseconds,
+        } = time.into();
         Moment {
             seconds,
             nanoseconds,
@@ -98,19 +100,6 @@ impl TryFrom<&Moment> for SystemTime {
 
     /// The instant, without the zone. [`Error::InvalidInstant`] where the system has no such time.
     fn try_from(moment: &Moment) -> Result<SystemTime, Error> {
-        let seconds = Duration::from_secs(moment.seconds.unsigned_abs());
-        let nanoseconds = Duration::from_nanos(moment.nanoseconds.unsigned_abs().into());
-        moved(UNIX_EPOCH, seconds, moment.seconds < 0)
-            .and_then(|time| moved(time, nanoseconds, moment.nanoseconds < 0))
-            .ok_or(Error::InvalidInstant)
-    }
-}
-
-/// A time of the system so much later, or earlier.
-fn moved(time: SystemTime, by: Duration, is_back: bool) -> Option<SystemTime> {
-    if is_back {
-        time.checked_sub(by)
-    } else {
-        time.checked_add(by)
+        moment.instant().try_into()
     }
 }

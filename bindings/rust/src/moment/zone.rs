@@ -1,6 +1,7 @@
 //! Time zones, and that of the machine.
 
-use super::Moment;
+use super::ReadZone;
+use crate::calls::zone::HeldZone;
 use crate::{Error, OffsetInSeconds};
 use std::env;
 use std::ffi::OsStr;
@@ -9,14 +10,16 @@ use std::path::{Path, PathBuf};
 use std::sync::Arc;
 
 /// A time zone. Two are equal where they are given alike: a rule is not compared with a file.
+///
+/// Each call at a moment reads the moment's zone. [`Zone::read()`] reads it once for many calls.
 #[derive(Clone, Debug, PartialEq, Eq, Hash)]
 #[non_exhaustive]
 pub enum Zone {
     /// The zone that always has this offset, in seconds east of UTC, up to 93599 either way.
     Offset(OffsetInSeconds),
-    /// The zone of a POSIX rule, `EST5EDT,M3.2.0,M11.1.0`.
+    /// The zone of a POSIX rule, `EST5EDT,M3.2.0,M11.1.0`. One that begins with `TZif`, as a file does, is refused.
     Posix(Arc<str>),
-    /// The zone of a TZif file, by its bytes. Each call takes memory for it.
+    /// The zone of a TZif file, by its bytes.
     Tzif(Arc<[u8]>),
 }
 
@@ -63,15 +66,24 @@ impl Zone {
         Zone::of_file(&folder.join(name)).unwrap_or(Err(Error::InvalidZone))
     }
 
+    /// Reads this zone once, for any number of calls. It takes memory for a rule and for a file.
+    ///
+    /// [`Error::InvalidZone`] of a rule or a file that cannot be read, [`Error::OutOfMemory`]. An offset is not looked at here:
+    /// each call refuses one beyond 25:59:59.
+    pub fn read(&self) -> Result<ReadZone, Error> {
+        let held = match self {
+            Zone::Offset(offset) => HeldZone::at_offset(*offset),
+            Zone::Posix(rule) if may_be_rule(rule) => HeldZone::read(rule.as_bytes())?,
+            Zone::Tzif(file) if may_be_file(file) => HeldZone::read(file)?,
+            Zone::Posix(_) | Zone::Tzif(_) => return Err(Error::InvalidZone),
+        };
+        Ok(ReadZone::new(held))
+    }
+
     /// This zone, where the library can read it.
     fn if_valid(self) -> Result<Zone, Error> {
-        let moment = Moment {
-            seconds: 0,
-            nanoseconds: 0,
-            zone: self,
-        };
-        moment.to_time()?;
-        Ok(moment.zone)
+        self.read()?;
+        Ok(self)
     }
 
     /// The zone of a TZif file. `None` where there is no file.
@@ -81,6 +93,17 @@ impl Zone {
         let bytes = is_file.then(|| fs::read(path))?.ok()?;
         Some(Zone::Tzif(bytes.into()).if_valid())
     }
+}
+
+/// Whether the library can only take a text for a rule: it takes one for a file by its first bytes, and an offset begins with a
+/// sign, as no rule does.
+fn may_be_rule(text: &str) -> bool {
+    !may_be_file(text.as_bytes()) && !text.starts_with(['+', '-'])
+}
+
+/// Whether the library takes bytes for a file, and not for an offset or a rule.
+fn may_be_file(bytes: &[u8]) -> bool {
+    bytes.starts_with(b"TZif")
 }
 
 /// Where the files of zones lie.
@@ -134,6 +157,7 @@ mod tests {
         fs::create_dir_all(below.join("America")).unwrap();
         fs::copy(data().join(NEW_YORK), below.join("America/New_York")).unwrap();
         fs::write(below.join("notes"), "no zone").unwrap();
+        fs::write(below.join("rule"), RULE).unwrap();
         assert_eq!(
             Zone::named_below(&below, "America/New_York"),
             Ok(new_york())
@@ -143,6 +167,7 @@ mod tests {
             "",
             "America",
             "notes",
+            "rule",
             "Mars",
             "../x",
             "America/../America/New_York",
@@ -188,7 +213,15 @@ mod tests {
         for empty in ["", ":"] {
             assert_eq!(zone(Some(empty), NEW_YORK), Ok(Zone::UTC));
         }
-        for none in ["banana", "raw.rows", "/dev/zero", ".", "EST5EDT,M3"] {
+        for none in [
+            "banana",
+            "raw.rows",
+            "/dev/zero",
+            ".",
+            "EST5EDT,M3",
+            "+0200",
+            "TZif2",
+        ] {
             assert_eq!(
                 zone(Some(none), NEW_YORK),
                 Err(Error::InvalidZone),

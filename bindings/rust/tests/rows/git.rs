@@ -1,11 +1,11 @@
 //! The calls of rows for Git's dates.
 
-use super::{now, text, time, Answer};
+use super::{in_read_zone, now, text, time, Answer};
 use gix_date_proved::git::{
     approxidate, expiry_date, parse_date, show_date, Approximate, DateError, DateMode, DateText,
     Expiry, ReadDate,
 };
-use gix_date_proved::{bytes, Moment, Time};
+use gix_date_proved::{bytes, Instant, Moment, ReadZone, Time};
 
 /// What the call of this name answers. `None` where there is none, or the fields are not its arguments.
 pub fn answer(call: &str, row: &mut &[String]) -> Option<Answer> {
@@ -25,7 +25,7 @@ pub fn answer(call: &str, row: &mut &[String]) -> Option<Answer> {
         "show_date" => {
             let mode = text(row)?.parse().ok()?;
             let moment = moment(text(row)?)?;
-            told([show_date(time(row)?, mode, &moment)], text_of)
+            told(shows(time(row)?, mode, &moment), text_of)
         }
         _ => None,
     }
@@ -35,11 +35,24 @@ pub fn answer(call: &str, row: &mut &[String]) -> Option<Answer> {
 pub fn answer_of_bytes(call: &[u8], at: &[u8], text: &[u8]) -> Option<Answer> {
     let moment = moment(std::str::from_utf8(at).ok()?)?;
     match call {
-        b"parse_date" => told([bytes::parse_date(text, &moment)], |date| shown(date.time)),
-        b"approxidate" => told([bytes::approxidate(text, &moment)], |date| shown(date.time)),
-        b"expiry_date" => told([bytes::expiry_date(text, &moment)], |expiry| {
-            format!("{expiry:?}")
-        }),
+        b"parse_date" => told(
+            all([bytes::parse_date(text, &moment)], &moment, |zone, now| {
+                zone.parse_date(text, now)
+            }),
+            |date| shown(date.time),
+        ),
+        b"approxidate" => told(
+            all([bytes::approxidate(text, &moment)], &moment, |zone, now| {
+                zone.approxidate(text, now)
+            }),
+            |date| shown(date.time),
+        ),
+        b"expiry_date" => told(
+            all([bytes::expiry_date(text, &moment)], &moment, |zone, now| {
+                zone.expiry_date(text, now)
+            }),
+            |expiry| format!("{expiry:?}"),
+        ),
         _ => None,
     }
 }
@@ -49,38 +62,54 @@ fn moment(text: &str) -> Option<Moment> {
     now(text)?
 }
 
-/// What the calls for texts and for bytes answer.
-type Both<T> = [Result<T, DateError>; 2];
+/// What all calls answer.
+type All<T> = Vec<Result<T, DateError>>;
 
-fn exact(row: &mut &[String]) -> Option<Both<ReadDate>> {
-    let (moment, text) = (moment(text(row)?)?, text(row)?);
-    Some([
-        parse_date(text, &moment),
-        bytes::parse_date(text.as_bytes(), &moment),
-    ])
+/// What calls answer at a moment, and another in its zone, which is read once.
+fn all<T, const N: usize>(
+    at_moment: [Result<T, DateError>; N],
+    moment: &Moment,
+    call: impl Fn(&mut ReadZone, Instant) -> Result<T, DateError>,
+) -> All<T> {
+    let in_zone = in_read_zone(moment, call);
+    at_moment.into_iter().chain(in_zone).collect()
 }
 
-fn guessed(row: &mut &[String]) -> Option<Both<Approximate>> {
+fn exact(row: &mut &[String]) -> Option<All<ReadDate>> {
     let (moment, text) = (moment(text(row)?)?, text(row)?);
-    Some([
-        approxidate(text, &moment),
-        bytes::approxidate(text.as_bytes(), &moment),
-    ])
+    let of_bytes = bytes::parse_date(text.as_bytes(), &moment);
+    let answers = [parse_date(text, &moment), of_bytes];
+    Some(all(answers, &moment, |zone, now| {
+        zone.parse_date(text, now)
+    }))
 }
 
-fn expires(row: &mut &[String]) -> Option<Both<Expiry>> {
+fn guessed(row: &mut &[String]) -> Option<All<Approximate>> {
     let (moment, text) = (moment(text(row)?)?, text(row)?);
-    Some([
-        expiry_date(text, &moment),
-        bytes::expiry_date(text.as_bytes(), &moment),
-    ])
+    let of_bytes = bytes::approxidate(text.as_bytes(), &moment);
+    let answers = [approxidate(text, &moment), of_bytes];
+    Some(all(answers, &moment, |zone, now| {
+        zone.approxidate(text, now)
+    }))
+}
+
+fn expires(row: &mut &[String]) -> Option<All<Expiry>> {
+    let (moment, text) = (moment(text(row)?)?, text(row)?);
+    let of_bytes = bytes::expiry_date(text.as_bytes(), &moment);
+    let answers = [expiry_date(text, &moment), of_bytes];
+    Some(all(answers, &moment, |zone, now| {
+        zone.expiry_date(text, now)
+    }))
+}
+
+fn shows(time: Time, mode: DateMode, moment: &Moment) -> All<DateText> {
+    all([show_date(time, mode, moment)], moment, |zone, now| {
+        zone.show_date(time, mode, now)
+    })
 }
 
 /// The one answer of all calls.
-fn told<T: Copy + PartialEq, const N: usize>(
-    answers: [Result<T, DateError>; N],
-    text: impl Fn(T) -> String,
-) -> Option<Answer> {
+fn told<T: Copy + PartialEq>(answers: All<T>, text: impl Fn(T) -> String) -> Option<Answer> {
     let first = answers[0];
     if answers.iter().any(|other| *other != first) {
         return Some(Err("CallsDiffer".to_string()));

@@ -2,16 +2,17 @@
 ghost use Rattle.std.specs.Prelude.{◌≡◌};
 ghost use Rattle.gix_date_c.specs.GitDates.{IsApproximate, approximate_of};
 ghost use Rattle.gix_date_c.specs.Reading.{IsReadAt, IsReadIn};
-ghost use Rattle.gix_date_c.specs.Moments.{IsFileZone, IsOffsetZone, IsRuleZone};
 ghost use Rattle.gix_date_c.specs.Stores.{StoresRead};
+ghost use Rattle.gix_date_c.specs.Zones.{IsSame, IsZone};
 
 use crate::git::{date_refusal, ignored_place};
-use crate::moment::{CInstant, moment_at_offset, moment_by_rule, moment_by_table, table_of};
+use crate::moment::CInstant;
 use crate::refusal::Refusal;
 use crate::status::Status;
 use crate::store::store_read;
 use crate::text::utf8_text;
 use crate::time::{CTime, time_for_c};
+use crate::zone::CZone;
 use git_date::{Approximate, approxidate};
 use gix_date::Zoned;
 use std::alloc::Global;
@@ -25,51 +26,23 @@ pub struct CApproximate {
     pub understood: u8,
 }
 
-/// Reads a date as people write it, at a moment in the zone that always has an offset.
+/// Reads a date as people write it, at a moment in a zone that C holds.
 #[unsafe(no_mangle)]
-pub extern "C" fn git_date_approxidate_at_offset(
-    text: &[u8],
-    now: &CInstant,
-    offset: i32,
-    date: &mut CApproximate,
-    place: &mut usize,
-) -> u32
-    ensures { StoresRead (IsReadIn IsApproximate (IsOffsetZone offset) now.now text.now)
-        (date.old, place.old) (date.new, place.new) result }
-{
-    store_read(read(text, moment_at_offset(now, offset)), date, place)
-}
-
-/// Reads a date as people write it, at a moment in the zone of a POSIX rule.
-#[unsafe(no_mangle)]
-pub extern "C" fn git_date_approxidate_in_posix_zone(
-    text: &[u8],
-    now: &CInstant,
-    rule: &[u8],
-    date: &mut CApproximate,
-    place: &mut usize,
-) -> u32
-    ensures { StoresRead (IsReadIn IsApproximate (IsRuleZone rule.now) now.now text.now)
-        (date.old, place.old) (date.new, place.new) result }
-{
-    store_read(read(text, moment_by_rule(now, rule)), date, place)
-}
-
-/// Reads a date as people write it, at a moment in the zone of a TZif file.
-#[unsafe(no_mangle)]
-pub extern "C" fn git_date_approxidate_in_tzif_zone(
+pub extern "C" fn git_date_approxidate_at(
     alloc: Global,
     text: &[u8],
     now: &CInstant,
-    file: &[u8],
+    zone: &mut CZone,
     date: &mut CApproximate,
     place: &mut usize,
 ) -> u32
-    ensures { StoresRead (IsReadIn IsApproximate (IsFileZone file.now) now.now text.now)
+    ensures read { StoresRead (IsReadIn IsApproximate (IsZone zone.old) now.now text.now)
         (date.old, place.old) (date.new, place.new) result }
+    ensures zone { IsSame zone.old zone.new }
 {
-    let table = table_of(alloc, file);
-    let answer = read(text, moment_by_table(now, &table));
+    let taken = zone.take(alloc);
+    let answer = read(text, taken.moment(now));
+    zone.give_back(alloc, taken);
     store_read(answer, date, place)
 }
 

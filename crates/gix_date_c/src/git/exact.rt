@@ -4,16 +4,18 @@ ghost use Rattle.std.specs.Result.{result_map_both};
 ghost use Rattle.jiff.specs.Words.{plain_zone};
 ghost use Rattle.gix_date_c.specs.GitDates.{IsExact, exact_of};
 ghost use Rattle.gix_date_c.specs.Reading.{IsReadAt, IsReadPlaced};
-ghost use Rattle.gix_date_c.specs.Moments.{IsFileZone, IsOffsetZone, IsRuleZone, placed};
+ghost use Rattle.gix_date_c.specs.Moments.{placed};
 ghost use Rattle.gix_date_c.specs.Stores.{StoresRead};
+ghost use Rattle.gix_date_c.specs.Zones.{IsSame, IsZone};
 
 use crate::git::{date_refusal, ignored_place};
-use crate::moment::{CInstant, offset_zone, rule_zone, table_of, table_zone, timestamp_of};
+use crate::moment::{CInstant, timestamp_of};
 use crate::refusal::Refusal;
 use crate::status::Status;
 use crate::store::store_read;
 use crate::text::utf8_text;
 use crate::time::{CTime, time_for_c};
+use crate::zone::CZone;
 use git_date::{ReadDate, parse_date_at};
 use jiff::Timestamp;
 use jiff::tz::TimeZone;
@@ -27,55 +29,23 @@ pub struct CExact {
     pub ignored: usize,
 }
 
-/// Reads a date as Git does, at a moment in the zone that always has an offset.
+/// Reads a date as Git does, at a moment in a zone that C holds.
 #[unsafe(no_mangle)]
-pub extern "C" fn git_date_parse_at_offset(
-    text: &[u8],
-    now: &CInstant,
-    offset: i32,
-    date: &mut CExact,
-    place: &mut usize,
-) -> u32
-    ensures { StoresRead (IsReadPlaced IsExact (IsOffsetZone offset) now.now text.now)
-        (date.old, place.old) (date.new, place.new) result }
-{
-    store_read(
-        read(text, timestamp_of(now), offset_zone(offset)),
-        date,
-        place,
-    )
-}
-
-/// Reads a date as Git does, at a moment in the zone of a POSIX rule.
-#[unsafe(no_mangle)]
-pub extern "C" fn git_date_parse_in_posix_zone(
-    text: &[u8],
-    now: &CInstant,
-    rule: &[u8],
-    date: &mut CExact,
-    place: &mut usize,
-) -> u32
-    ensures { StoresRead (IsReadPlaced IsExact (IsRuleZone rule.now) now.now text.now)
-        (date.old, place.old) (date.new, place.new) result }
-{
-    store_read(read(text, timestamp_of(now), rule_zone(rule)), date, place)
-}
-
-/// Reads a date as Git does, at a moment in the zone of a TZif file.
-#[unsafe(no_mangle)]
-pub extern "C" fn git_date_parse_in_tzif_zone(
+pub extern "C" fn git_date_parse_at(
     alloc: Global,
     text: &[u8],
     now: &CInstant,
-    file: &[u8],
+    zone: &mut CZone,
     date: &mut CExact,
     place: &mut usize,
 ) -> u32
-    ensures { StoresRead (IsReadPlaced IsExact (IsFileZone file.now) now.now text.now)
+    ensures read { StoresRead (IsReadPlaced IsExact (IsZone zone.old) now.now text.now)
         (date.old, place.old) (date.new, place.new) result }
+    ensures zone { IsSame zone.old zone.new }
 {
-    let table = table_of(alloc, file);
-    let answer = read(text, timestamp_of(now), table_zone(&table));
+    let taken = zone.take(alloc);
+    let answer = read(text, timestamp_of(now), taken.zone());
+    zone.give_back(alloc, taken);
     store_read(answer, date, place)
 }
 

@@ -2,16 +2,17 @@
 ghost use Rattle.std.specs.Prelude.{◌≡◌};
 ghost use Rattle.gix_date_c.specs.GitDates.{IsExpiry, expiry_of};
 ghost use Rattle.gix_date_c.specs.Reading.{IsReadAt, IsReadIn};
-ghost use Rattle.gix_date_c.specs.Moments.{IsFileZone, IsOffsetZone, IsRuleZone};
 ghost use Rattle.gix_date_c.specs.Stores.{StoresRead};
+ghost use Rattle.gix_date_c.specs.Zones.{IsSame, IsZone};
 
 use crate::git::approximate::{CApproximate, approximate_of};
 use crate::git::date_refusal;
-use crate::moment::{CInstant, moment_at_offset, moment_by_rule, moment_by_table, table_of};
+use crate::moment::CInstant;
 use crate::refusal::Refusal;
 use crate::status::Status;
 use crate::store::store_read;
 use crate::text::utf8_text;
+use crate::zone::CZone;
 use git_date::{Expiry, expiry_date};
 use gix_date::Zoned;
 use std::alloc::Global;
@@ -24,59 +25,23 @@ pub struct CExpiry {
     pub before: CApproximate,
 }
 
-/// Reads what expires, at a moment in the zone that always has an offset.
+/// Reads what expires, at a moment in a zone that C holds.
 #[unsafe(no_mangle)]
-pub extern "C" fn git_date_expiry_at_offset(
-    text: &[u8],
-    now: &CInstant,
-    offset: i32,
-    expiry: &mut CExpiry,
-    place: &mut usize,
-) -> u32
-    ensures { StoresRead (IsReadIn (IsExpiry expiry.old) (IsOffsetZone offset) now.now text.now)
-        (expiry.old, place.old) (expiry.new, place.new) result }
-{
-    store_read(
-        read(text, moment_at_offset(now, offset), *expiry),
-        expiry,
-        place,
-    )
-}
-
-/// Reads what expires, at a moment in the zone of a POSIX rule.
-#[unsafe(no_mangle)]
-pub extern "C" fn git_date_expiry_in_posix_zone(
-    text: &[u8],
-    now: &CInstant,
-    rule: &[u8],
-    expiry: &mut CExpiry,
-    place: &mut usize,
-) -> u32
-    ensures { StoresRead (IsReadIn (IsExpiry expiry.old) (IsRuleZone rule.now) now.now text.now)
-        (expiry.old, place.old) (expiry.new, place.new) result }
-{
-    store_read(
-        read(text, moment_by_rule(now, rule), *expiry),
-        expiry,
-        place,
-    )
-}
-
-/// Reads what expires, at a moment in the zone of a TZif file.
-#[unsafe(no_mangle)]
-pub extern "C" fn git_date_expiry_in_tzif_zone(
+pub extern "C" fn git_date_expiry_at(
     alloc: Global,
     text: &[u8],
     now: &CInstant,
-    file: &[u8],
+    zone: &mut CZone,
     expiry: &mut CExpiry,
     place: &mut usize,
 ) -> u32
-    ensures { StoresRead (IsReadIn (IsExpiry expiry.old) (IsFileZone file.now) now.now text.now)
+    ensures read { StoresRead (IsReadIn (IsExpiry expiry.old) (IsZone zone.old) now.now text.now)
         (expiry.old, place.old) (expiry.new, place.new) result }
+    ensures zone { IsSame zone.old zone.new }
 {
-    let table = table_of(alloc, file);
-    let answer = read(text, moment_by_table(now, &table), *expiry);
+    let taken = zone.take(alloc);
+    let answer = read(text, taken.moment(now), *expiry);
+    zone.give_back(alloc, taken);
     store_read(answer, expiry, place)
 }
 

@@ -4,16 +4,18 @@ ghost use Rattle.std.specs.Result.{result_map_both};
 ghost use Rattle.jiff.specs.Words.{plain_zone};
 ghost use Rattle.gix_date_c.specs.Buffers.{Outcome, Puts, outcome_of};
 ghost use Rattle.gix_date_c.specs.GitModes.{IsShownIn, kind_number, kind_of, local_of, mode_answer, mode_for_c, mode_of, shown_at};
-ghost use Rattle.gix_date_c.specs.Moments.{IsFileZone, IsOffsetZone, IsRuleZone, placed};
+ghost use Rattle.gix_date_c.specs.Moments.{placed};
 ghost use Rattle.gix_date_c.specs.Stores.{Stores};
 ghost use Rattle.gix_date_c.specs.Times.{load_time};
+ghost use Rattle.gix_date_c.specs.Zones.{IsSame, IsZone};
 
 use crate::buffer::store_text;
-use crate::moment::{CInstant, offset_zone, rule_zone, table_of, table_zone, timestamp_of};
+use crate::moment::{CInstant, timestamp_of};
 use crate::status::Status;
 use crate::store::store;
 use crate::text::utf8_text;
 use crate::time::{CTime, load_time};
+use crate::zone::CZone;
 use git_date::{DateKind, DateMode, DateText, show_date_at};
 use gix_date::Time;
 use jiff::Timestamp;
@@ -36,75 +38,32 @@ pub extern "C" fn git_date_mode_named(name: &[u8], mode: &mut CMode) -> u32
     store(mode_named(name), mode)
 }
 
-/// Puts a date into a buffer as Git shows it, at a moment in the zone that always has an offset.
+/// Puts a date into a buffer as Git shows it, at a moment in a zone that C holds.
 #[unsafe(no_mangle)]
-pub extern "C" fn git_date_show_at_offset(
-    time: &CTime,
-    mode: &CMode,
-    now: &CInstant,
-    offset: i32,
-    out: &mut [u8],
-    len: &mut usize,
-) -> u32
-    ensures { Puts (IsShownIn (load_time time.now) mode.now (IsOffsetZone offset) now.now)
-        out.old (record { bytes = out.new; len = len.new; status = result }) }
-{
-    store_shown(
-        load_time(time),
-        mode,
-        timestamp_of(now),
-        offset_zone(offset),
-        out,
-        len,
-    )
-}
-
-/// Puts a date into a buffer as Git shows it, at a moment in the zone of a POSIX rule.
-#[unsafe(no_mangle)]
-pub extern "C" fn git_date_show_in_posix_zone(
-    time: &CTime,
-    mode: &CMode,
-    now: &CInstant,
-    rule: &[u8],
-    out: &mut [u8],
-    len: &mut usize,
-) -> u32
-    ensures { Puts (IsShownIn (load_time time.now) mode.now (IsRuleZone rule.now) now.now)
-        out.old (record { bytes = out.new; len = len.new; status = result }) }
-{
-    store_shown(
-        load_time(time),
-        mode,
-        timestamp_of(now),
-        rule_zone(rule),
-        out,
-        len,
-    )
-}
-
-/// Puts a date into a buffer as Git shows it, at a moment in the zone of a TZif file.
-#[unsafe(no_mangle)]
-pub extern "C" fn git_date_show_in_tzif_zone(
+pub extern "C" fn git_date_show_at(
     alloc: Global,
     time: &CTime,
     mode: &CMode,
     now: &CInstant,
-    file: &[u8],
+    zone: &mut CZone,
     out: &mut [u8],
     len: &mut usize,
 ) -> u32
-    ensures { Puts (IsShownIn (load_time time.now) mode.now (IsFileZone file.now) now.now)
+    ensures shown { Puts (IsShownIn (load_time time.now) mode.now (IsZone zone.old) now.now)
         out.old (record { bytes = out.new; len = len.new; status = result }) }
+    ensures zone { IsSame zone.old zone.new }
 {
-    let table = table_of(alloc, file);
-    store_shown(
+    let taken = zone.take(alloc);
+    let status = store_shown(
         load_time(time),
         mode,
         timestamp_of(now),
-        table_zone(&table),
+        taken.zone(),
         out,
         len,
-    )
+    );
+    zone.give_back(alloc, taken);
+    status
 }
 
 /// Puts a date into a buffer as Git shows it at an instant in a zone, where there are both.

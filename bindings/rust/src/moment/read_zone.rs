@@ -1,0 +1,126 @@
+//! Zones that are read once for many calls.
+
+use super::Instant;
+use crate::calls::{self, zone::HeldZone};
+use crate::git::{Approximate, DateError, DateMode, DateText, Expiry, ReadDate};
+use crate::{CarefulError, CarefulOptions, Error, RawOffsets, Time};
+use std::fmt;
+
+/// A zone that the library has read once, for any number of calls. [`Zone::read()`](crate::Zone::read) makes it.
+///
+/// A call with a [`Moment`](crate::Moment) reads the moment's zone each time, and reading a file takes longer than the call
+/// itself. So a program that has many dates reads their zone once.
+///
+/// ```
+/// use gix_date_proved::{Instant, Time, Zone};
+///
+/// let mut zone = Zone::Posix("EST5EDT,M3.2.0,M11.1.0".into()).read()?;
+/// let now = Instant::at_second(1700000000);
+/// assert_eq!(zone.parse("1 hour ago", now)?, Time::new(1699996400, -18000));
+/// assert_eq!(zone.approxidate("noon july 1", now)?.time, Time::new(1688227200, -14400));
+/// # Ok::<(), Box<dyn std::error::Error>>(())
+/// ```
+///
+/// The methods that read take a `&str` or bytes. They answer and refuse as the calls of the module [`bytes`](crate::bytes) do at
+/// a moment in this zone, so an offset beyond 25:59:59 is [`Error::InvalidZone`]. They take no memory.
+///
+/// A zone may go to another thread, and takes one call at a time. For calls at once give each thread a clone. Clones share the
+/// table of a file.
+///
+/// ```compile_fail,E0277
+/// fn is_shared<T: Sync>() {}
+/// is_shared::<gix_date_proved::ReadZone>();
+/// ```
+pub struct ReadZone(HeldZone);
+
+impl ReadZone {
+    pub(super) fn new(held: HeldZone) -> ReadZone {
+        ReadZone(held)
+    }
+
+    /// Parses a date as [`parse()`](crate::parse()) does.
+    pub fn parse(&mut self, input: impl AsRef<[u8]>, now: Instant) -> Result<Time, Error> {
+        self.parse_with(input, now, RawOffsets::default())
+    }
+
+    /// Parses a date as [`parse_with()`](crate::parse_with) does.
+    pub fn parse_with(
+        &mut self,
+        input: impl AsRef<[u8]>,
+        now: Instant,
+        raw: RawOffsets,
+    ) -> Result<Time, Error> {
+        calls::parse_at(input.as_ref(), now, &mut self.0, raw)
+    }
+
+    /// Parses a date as [`parse_carefully()`](crate::parse_carefully) does.
+    pub fn parse_carefully(
+        &mut self,
+        input: impl AsRef<[u8]>,
+        now: Instant,
+        options: CarefulOptions,
+    ) -> Result<Time, CarefulError> {
+        calls::parse_carefully_at(input.as_ref(), now, &mut self.0, options)
+    }
+
+    /// Reads a date as [`git::parse_date()`](crate::git::parse_date) does.
+    pub fn parse_date(
+        &mut self,
+        input: impl AsRef<[u8]>,
+        now: Instant,
+    ) -> Result<ReadDate, DateError> {
+        calls::git::parse_date(input.as_ref(), now, &mut self.0)
+    }
+
+    /// Reads a date as [`git::approxidate()`](crate::git::approxidate) does.
+    pub fn approxidate(
+        &mut self,
+        input: impl AsRef<[u8]>,
+        now: Instant,
+    ) -> Result<Approximate, DateError> {
+        calls::git::approxidate(input.as_ref(), now, &mut self.0)
+    }
+
+    /// Reads what expires as [`git::expiry_date()`](crate::git::expiry_date) does.
+    pub fn expiry_date(
+        &mut self,
+        input: impl AsRef<[u8]>,
+        now: Instant,
+    ) -> Result<Expiry, DateError> {
+        calls::git::expiry_date(input.as_ref(), now, &mut self.0)
+    }
+
+    /// A date as [`git::show_date()`](crate::git::show_date) shows it.
+    pub fn show_date(
+        &mut self,
+        time: Time,
+        mode: DateMode,
+        now: Instant,
+    ) -> Result<DateText, DateError> {
+        DateText::shown(time, mode, now, &mut self.0)
+    }
+
+    /// The same zone once more. [`Error::OutOfMemory`].
+    pub fn try_clone(&self) -> Result<ReadZone, Error> {
+        self.0.copied().map(ReadZone)
+    }
+}
+
+impl Clone for ReadZone {
+    /// As [`ReadZone::try_clone()`].
+    ///
+    /// # Panics
+    ///
+    /// Where memory is refused.
+    fn clone(&self) -> ReadZone {
+        self.try_clone()
+            .unwrap_or_else(|error| panic!("a zone cannot be cloned: {error}"))
+    }
+}
+
+impl fmt::Debug for ReadZone {
+    /// The name of the type alone, since the library tells nothing of a zone.
+    fn fmt(&self, f: &mut fmt::Formatter<'_>) -> fmt::Result {
+        f.debug_struct("ReadZone").finish_non_exhaustive()
+    }
+}
