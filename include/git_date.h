@@ -7,7 +7,9 @@
  * A call has a moment: the instant now in a zone, which gix_date.h tells how to make. A text without
  * an offset has that of the zone. No call takes memory.
  *
- * A place counts bytes from the text's start. It is one where a character of the text begins. */
+ * The text of a date is any bytes, as in Git, and need not be UTF-8: a byte that is not ASCII is a
+ * mark, which is passed over. A place counts bytes from the text's start. It is one where a character
+ * of the text begins. */
 #ifndef GIT_DATE_H
 #define GIT_DATE_H
 
@@ -105,15 +107,15 @@ typedef struct git_date_mode {
 } git_date_mode;
 
 /* Reads a date as Git's exact reader does: GIT_COMMITTER_DATE, the date of a mail.
- * GIX_DATE_INVALID_ZONE, GIX_DATE_INVALID_INSTANT; GIX_DATE_NOT_TEXT, GIT_DATE_UNREADABLE,
- * GIT_DATE_NUMBER_TOO_LARGE, GIT_DATE_YEAR_REFUSED, GIT_DATE_RANGE. */
+ * GIX_DATE_INVALID_ZONE, GIX_DATE_INVALID_INSTANT; GIT_DATE_UNREADABLE, GIT_DATE_NUMBER_TOO_LARGE,
+ * GIT_DATE_YEAR_REFUSED, GIT_DATE_RANGE. */
 uint32_t git_date_parse_at(const char *text, size_t text_len, const gix_date_instant *now,
                            gix_date_zone *zone, git_date_exact *date, size_t *place);
 
 /* Reads a date as people write it, as Git reads --since and REF@{..}: "yesterday noon". A word that
  * Git does not know is ignored: "5 mins ago" is the fifth. GIX_DATE_INVALID_ZONE,
- * GIX_DATE_INVALID_INSTANT; GIX_DATE_NOT_TEXT, GIT_DATE_NUMBER_TOO_LARGE, GIT_DATE_BACK_TOO_FAR,
- * GIT_DATE_YEAR_REFUSED, GIT_DATE_RANGE. */
+ * GIX_DATE_INVALID_INSTANT; GIT_DATE_NUMBER_TOO_LARGE, GIT_DATE_BACK_TOO_FAR, GIT_DATE_YEAR_REFUSED,
+ * GIT_DATE_RANGE. */
 uint32_t git_date_approxidate_at(const char *text, size_t text_len, const gix_date_instant *now,
                                  gix_date_zone *zone, git_date_approximate *date, size_t *place);
 

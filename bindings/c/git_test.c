@@ -46,7 +46,7 @@ static void exact_dates(void)
         {"1900-02-03 10:00 2009 +0000", GIT_DATE_YEAR_REFUSED, 0},
         {"12-sunny/-1900_2101/01/12 10:25Ttea +0415/", GIT_DATE_YEAR_REFUSED, 15},
         {"1970-01-01 00:00 +0100", GIT_DATE_RANGE, NO_PLACE},
-        {"2008\xc3", GIX_DATE_NOT_TEXT, NO_PLACE},
+        {"2008\xc3", GIT_DATE_UNREADABLE, NO_PLACE},
     };
     for (size_t i = 0; i < sizeof rows / sizeof *rows; i++) {
         git_date_exact date = no_date;
@@ -58,6 +58,10 @@ static void exact_dates(void)
     }
     git_date_exact date = no_date;
     size_t place = NO_PLACE;
+    EXPECT(git_date_parse_at(TEXT("Mon, 4 Mar 2019 10:00:00 +0100 (Mitteleurop\xe4ische Zeit)"), &sunday,
+                             AT(0), &date, &place) == GIX_DATE_OK &&
+               is_time(date.time, 1551690000, 3600),
+           "%lld", (long long)date.time.seconds);
     EXPECT(git_date_parse_at(TEXT("2008-02-14 20:30:45 IST"), &sunday, AT(0), &date, &place) ==
                    GIX_DATE_OK &&
                is_exact(date, 1203021045, 0, 20),
@@ -79,7 +83,6 @@ static void approximate_dates(void)
         {"10045thur 0sun 23.wednesday", GIT_DATE_BACK_TOO_FAR, 0},
         {"10600130-0-2004", GIT_DATE_YEAR_REFUSED, 0},
         {"12345678934567890", GIT_DATE_RANGE, NO_PLACE},
-        {"\xff", GIX_DATE_NOT_TEXT, NO_PLACE},
     };
     for (size_t i = 0; i < sizeof rows / sizeof *rows; i++) {
         git_date_approximate date = no_guess;
@@ -100,6 +103,10 @@ static void approximate_dates(void)
                    GIX_DATE_OK &&
                is_approximate(date, 1251460800, 0, GIT_DATE_NOTHING, true),
            "%lld %zu", (long long)date.time.seconds, date.ignored);
+    EXPECT(git_date_approxidate_at(TEXT("noon\xffyesterday"), &sunday, AT(0), &date, &place) ==
+                   GIX_DATE_OK &&
+               is_approximate(date, 1251547200, 0, GIT_DATE_NOTHING, true),
+           "%lld", (long long)date.time.seconds);
     EXPECT(git_date_approxidate_at(TEXT("lst day, llast day"), &sunday, AT(0), &date, &place) ==
                    GIX_DATE_OK &&
                is_time(date.time, 1251660000, 0) && !date.understood,
@@ -129,7 +136,8 @@ static void expiries(void)
     expect_expiry("Never", GIX_DATE_OK, GIT_DATE_BEFORE, 0);
     expect_expiry("NOW", GIX_DATE_OK, GIT_DATE_BEFORE, 1251660000);
     expect_expiry("ALL", GIT_DATE_UNREADABLE, 99, 0);
-    expect_expiry("2008\xc3", GIX_DATE_NOT_TEXT, 99, 0);
+    expect_expiry("2008\xc3", GIX_DATE_OK, GIT_DATE_BEFORE, 1220124000);
+    expect_expiry("\xff", GIT_DATE_UNREADABLE, 99, 0);
     git_date_expiry expiry = no_expiry;
     size_t place = NO_PLACE;
     EXPECT(git_date_expiry_at(TEXT("10600130-0-2004"), &sunday, AT(0), &expiry, &place) ==

@@ -118,6 +118,8 @@ def test_a_refusal_has_the_refused_text() -> None:
             error = caught.value
             assert (type(error), error.text, error.place) == (kind, given, place)
             assert type(error.text) is type(given)
+        if kind in (git.YearRefused, git.Unreadable, git.BackTooFar):
+            continue  # any bytes are read
         for broken in BROKEN:
             with pytest.raises(NotText) as not_text:
                 call(broken)

@@ -48,6 +48,20 @@ def test_expiry() -> None:
         git.expiry_date("friday", NOW)
 
 
+def test_any_bytes_are_read() -> None:
+    mail = "Mon, 4 Mar 2019 10:00:00 +0100 (Mitteleurop\xe4ische Zeit)"
+    mails: List[Union[str, bytes]] = [mail, mail.encode(), mail.encode("latin-1")]
+    for text in mails:
+        assert git.parse_date(text, NOW).time == Time(1551690000, 3600)
+    broken = "\ud800 5 mins ago"
+    both: List[Union[str, bytes]] = [broken, broken.encode("utf-8", "surrogatepass")]
+    for given in both:
+        date = git.approxidate(given, NOW)
+        assert date.time == Time(1249500000, 0)
+        assert date.ignored is not None and len(given[date.ignored :]) == len("mins ago")
+    assert git.expiry_date(b"noon\xffyesterday", NOW) == git.approxidate("noon yesterday", NOW)
+
+
 def test_shown_dates() -> None:
     time = Time(1251300000, 7200)
     assert git.show_date(time, DateKind.ISO8601, NOW) == "2009-08-26 17:20:00 +0200"

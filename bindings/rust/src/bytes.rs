@@ -1,4 +1,5 @@
-//! The calls that read texts, for bytes that may not be UTF-8. Such bytes are refused by [`Error::NotText`].
+//! The calls that read texts, for bytes that may not be UTF-8. Git's dates are read of any bytes; other calls refuse such by
+//! [`Error::NotText`].
 
 use crate::git::{Approximate, DateError, Expiry, ReadDate};
 use crate::{calls, CarefulError, CarefulOptions, Error, Moment, RawOffsets, Time};
@@ -43,20 +44,17 @@ pub fn parse_carefully(
     }
 }
 
-/// Reads a date as [`git::parse_date()`](crate::git::parse_date) does. The same refusals, and [`Error::NotText`] in
-/// [`DateError::Refused`].
+/// Reads a date as [`git::parse_date()`](crate::git::parse_date) does, with its refusals.
 pub fn parse_date(input: &[u8], now: &Moment) -> Result<ReadDate, DateError> {
     now.zone.read()?.parse_date(input, now.instant())
 }
 
-/// Reads a date as [`git::approxidate()`](crate::git::approxidate) does. The same refusals, and [`Error::NotText`] in
-/// [`DateError::Refused`].
+/// Reads a date as [`git::approxidate()`](crate::git::approxidate) does, with its refusals.
 pub fn approxidate(input: &[u8], now: &Moment) -> Result<Approximate, DateError> {
     now.zone.read()?.approxidate(input, now.instant())
 }
 
-/// Reads what expires as [`git::expiry_date()`](crate::git::expiry_date) does. The same refusals, and [`Error::NotText`] in
-/// [`DateError::Refused`].
+/// Reads what expires as [`git::expiry_date()`](crate::git::expiry_date) does, with its refusals.
 pub fn expiry_date(input: &[u8], now: &Moment) -> Result<Expiry, DateError> {
     now.zone.read()?.expiry_date(input, now.instant())
 }

@@ -95,14 +95,15 @@ fn what_expires_is_read() {
 }
 
 #[test]
-fn bytes_that_are_no_text_are_refused() {
-    let no_text = DateError::Refused(Error::NotText);
+fn bytes_that_are_no_text_are_passed_over() {
     let text = b"2008-02-14 20:30:45\xff";
-    assert_eq!(bytes::parse_date(text, &now()), Err(no_text));
-    assert_eq!(bytes::approxidate(text, &now()), Err(no_text));
-    assert_eq!(bytes::expiry_date(text, &now()), Err(no_text));
     let date = parse_date("2008-02-14 20:30:45", &now());
-    assert_eq!(bytes::parse_date(&text[..19], &now()), date);
+    assert!(date.is_ok());
+    assert_eq!(bytes::parse_date(text, &now()), date);
+    let guess = approxidate("2008-02-14 20:30:45", &now());
+    assert_eq!(bytes::approxidate(text, &now()), guess);
+    let expiry = expiry_date("2008-02-14 20:30:45", &now());
+    assert_eq!(bytes::expiry_date(text, &now()), expiry);
 }
 
 /// A moment in each kind of zone that New York's can be, and the file of it for 2023.

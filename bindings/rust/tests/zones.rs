@@ -271,10 +271,12 @@ fn texts_may_be_bytes() {
     let weeks = Ok(Time::new(1697191200, 7200));
     assert_eq!(zone.parse(b"2 weeks ago", now), weeks);
     assert_eq!(zone.parse(b"@5\xff", now), Err(Error::NotText));
-    let no_text = DateError::Refused(Error::NotText);
-    assert_eq!(zone.parse_date(b"now\xff", now), Err(no_text));
-    assert_eq!(zone.approxidate(b"now\xff", now), Err(no_text));
-    assert_eq!(zone.expiry_date(b"now\xff", now), Err(no_text));
+    let date = zone.parse_date(b"2009-02-14 01:31:30\xff", now).unwrap();
+    assert_eq!(date.time, Time::new(1234567890, 7200));
+    let noon = zone.approxidate(b"noon\xffyesterday", now).unwrap();
+    assert_eq!(noon.time, Time::new(1698314400, 7200));
+    let unread = Err(DateError::Unreadable);
+    assert_eq!(zone.expiry_date(b"all\xff", now), unread);
 }
 
 #[test]

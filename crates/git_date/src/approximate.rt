@@ -27,7 +27,7 @@ use gix_date::Zoned;
 /// refusals of [`parse_date`](crate::parse_date) but for [`DateError::Unreadable`]. In a fold the zone chooses the earlier
 /// instant, and in a gap the offset before it, as `jiff` does. A place that the answer has is one where a character of the text
 /// begins. Takes no memory.
-pub fn approxidate(text: &str, now: Zoned<'_>) -> Result<Approximate, DateError>
+pub fn approxidate(text: &[u8], now: Zoned<'_>) -> Result<Approximate, DateError>
     ensures answer { ApproximateOutcome now.entry text.now result }
     ensures places { HasApproximatePlacesIn text.now result }
 {
@@ -37,6 +37,6 @@ pub fn approxidate(text: &str, now: Zoned<'_>) -> Result<Approximate, DateError>
             understood: true,
             ignored: date.ignored,
         }),
-        Err(error) => or_guess(now, text.as_bytes(), error),
+        Err(error) => or_guess(now, text, error),
     }
 }

@@ -30,9 +30,9 @@ pub struct ReadDate {
 /// In a fold the zone chooses the earlier instant, and in a gap the offset before it, as `jiff` does. The moment itself
 /// matters only to a date such as `7/4/2009` after a clock, which is refused if it is more than ten days ahead.
 ///
-/// [`DateError`] says when a text is refused. A place that the answer has is one where a character of the text begins. Takes
-/// no memory.
-pub fn parse_date(text: &str, now: Zoned<'_>) -> Result<ReadDate, DateError>
+/// The text is bytes, UTF-8 or not: each byte that is not ASCII is a mark, which is skipped. [`DateError`] says when a text is
+/// refused. A place that the answer has is one where a character of the text begins. Takes no memory.
+pub fn parse_date(text: &[u8], now: Zoned<'_>) -> Result<ReadDate, DateError>
     ensures date { DateOutcome (zone_of now.entry) (said_by (now_of now.entry) text.now) result }
     ensures places { HasPlacesIn text.now result }
 {
@@ -40,11 +40,11 @@ pub fn parse_date(text: &str, now: Zoned<'_>) -> Result<ReadDate, DateError>
 }
 
 /// [`parse_date`] at an instant in a zone. The zone is asked only for a text without an offset, so most texts cost less so.
-pub fn parse_date_at(text: &str, now: Timestamp, zone: TimeZone<'_>) -> Result<ReadDate, DateError>
+pub fn parse_date_at(text: &[u8], now: Timestamp, zone: TimeZone<'_>) -> Result<ReadDate, DateError>
     ensures date { DateOutcome (plain_zone zone.entry) (said_by (now_at now.nanosecond) text.now) result }
     ensures places { HasPlacesIn text.now result }
 {
-    date_said(said_by(now, text.as_bytes()), now, zone)
+    date_said(said_by(now, text), now, zone)
 }
 
 /// The date that a text says, in the zone if it says no offset.

@@ -5,23 +5,24 @@
 //!
 //! ```
 //! let now = Time::new(1251660000, 0).to_zoned()?;
-//! parse_date("Thu, 07 Apr 2005 22:13:13 +0200", now); // Ok, with the time 1112904793 +0200
-//! parse_date("2008-02-14 20:30:45 EST", now);         // Ok, with the time 1203039045 -0500
-//! parse_date("2008-02-14 20:30:45 IST", now);         // Ok, with 1203021045 +0000 and Some(20): `IST` was ignored
-//! parse_date("2008-02-14", now);                      // Err(DateError::Unreadable): no clock
+//! parse_date(b"Thu, 07 Apr 2005 22:13:13 +0200", now); // Ok, with the time 1112904793 +0200
+//! parse_date(b"2008-02-14 20:30:45 EST", now);         // Ok, with the time 1203039045 -0500
+//! parse_date(b"2008-02-14 20:30:45 IST", now);         // Ok, with 1203021045 +0000 and Some(20): `IST` was ignored
+//! parse_date(b"2008-02-14", now);                      // Err(DateError::Unreadable): no clock
 //! ```
 //!
 //! [`approxidate`] reads what people write, as Git reads `--since` and `REF@{..}`: `yesterday noon`, `2 weeks ago`. It says which
 //! word Git passes over ([`Approximate::ignored`]).
 //!
 //! ```
-//! approxidate("last friday at noon", now); // Ok, with the time 1251460800 +0000
-//! approxidate("5 mins ago", now);          // Ok, with 1249500000 +0000 and Some(2): Git knows no `mins`, so this is the 5th
+//! approxidate(b"last friday at noon", now); // Ok, with the time 1251460800 +0000
+//! approxidate(b"5 mins ago", now);          // Ok, with 1249500000 +0000 and Some(2): Git knows no `mins`, so this is the 5th
 //! ```
 //!
 //! [`show_date`] shows a date as `git log --date=MODE` does.
 //!
-//! The moment and its zone are handed in, as for [`gix_date::parse`]. No call here takes memory.
+//! The text of a date is bytes, UTF-8 or not, as in Git: each byte that is not ASCII is a mark. The moment and its zone are
+//! handed in, as for [`gix_date::parse`]. No call here takes memory.
 #![tactic(auto)]
 
 mod approximate;

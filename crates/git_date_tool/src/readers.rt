@@ -44,11 +44,11 @@ fn read_by(reader: Reader, text: &str, now: Zoned<'_>) -> Result<Approximate, Re
     ensures place { IfOk result (HasPlace text.now) }
 {
     match reader {
-        Reader::Exact => match parse_date(text, now) {
+        Reader::Exact => match parse_date(text.as_bytes(), now) {
             Ok(date) => Ok(of_exact(date)),
             Err(error) => Err(of_git(error)),
         },
-        Reader::Approxidate => match approxidate(text, now) {
+        Reader::Approxidate => match approxidate(text.as_bytes(), now) {
             Ok(found) => Ok(found),
             Err(error) => Err(of_git(error)),
         },

@@ -1,7 +1,6 @@
 -- Git's dates, as they are read for C.
 use Rattle.std.specs.Prelude.{◌≡◌, ℕ, ◌^◌, ◌-◌, if◌then◌else◌, Bool, List, Option, unwrap_or, Result, ℤ}
 use Rattle.std.specs.Result.{result_map_both}
-use Rattle.std.specs.Str.{is_utf8}
 use Rattle.jiff.specs.Types.{TimeZone}
 use Rattle.jiff.specs.declared.zoned.Zoned.{Zoned}
 use Rattle.git_date.specs.Approximate.{ApproximateOutcome, HasApproximatePlacesIn}
@@ -16,7 +15,6 @@ use Rattle.git_date.specs.declared.date.ReadDate.{ReadDate}
 use Rattle.git_date.specs.declared.error.DateError.{DateError}
 use Rattle.git_date.specs.declared.error.DateError.TheVariants as errors
 use Rattle.gix_date_c.specs.Moments.{Place}
-use Rattle.gix_date_c.specs.Reading.{IfText}
 use Rattle.gix_date_c.specs.Refusals.{refused, refused_at}
 use Rattle.gix_date_c.specs.Times.{time_for_c}
 use Rattle.gix_date_c.specs.declared.git.approximate.CApproximate.{CApproximate}
@@ -61,17 +59,17 @@ expiry_of old (Before date) = record { kind = 2; before = approximate_of date }
 -- what the exact reader comes to at an instant in a zone, as C has it: the library's outcome, of which each place is in the text
 abbrev pub IsExact : Place → List ℕ → Result CExact Refusal → Type 0
 IsExact place text answer =
-    IfText (is_utf8 text) (λ told. (date : Result ReadDate DateError) × DateOutcome place.1 (said_by (now_at place.0) text) date
-    × HasPlacesIn text date × (told ≡ result_map_both exact_of date_refusal date)) answer
+    (date : Result ReadDate DateError) × DateOutcome place.1 (said_by (now_at place.0) text) date
+    × HasPlacesIn text date × (answer ≡ result_map_both exact_of date_refusal date)
 
 -- the same of the approximate reader
 abbrev pub IsApproximate : Zoned → List ℕ → Result CApproximate Refusal → Type 0
 IsApproximate now text answer =
-    IfText (is_utf8 text) (λ told. (date : Result Approximate DateError) × ApproximateOutcome now text date
-    × HasApproximatePlacesIn text date × (told ≡ result_map_both approximate_of date_refusal date)) answer
+    (date : Result Approximate DateError) × ApproximateOutcome now text date
+    × HasApproximatePlacesIn text date × (answer ≡ result_map_both approximate_of date_refusal date)
 
 -- the same of what expires
 abbrev pub IsExpiry : CExpiry → Zoned → List ℕ → Result CExpiry Refusal → Type 0
 IsExpiry old now text answer =
-    IfText (is_utf8 text) (λ told. (expiry : Result Expiry DateError) × ExpiryOutcome now text expiry
-    × HasExpiryPlacesIn text expiry × (told ≡ result_map_both (expiry_of old) date_refusal expiry)) answer
+    (expiry : Result Expiry DateError) × ExpiryOutcome now text expiry
+    × HasExpiryPlacesIn text expiry × (answer ≡ result_map_both (expiry_of old) date_refusal expiry)

@@ -16,7 +16,7 @@ pub fn reference_time(text: &str, now: Zoned<'_>) -> Option<Time>
     ensures { IfSome result (λ time. (date : Guess) × ApproximateOutcome now.entry text.now (Ok date)
         × (date.understood ≡ true) × (time ≡ date.time)) }
 {
-    match approxidate(text, now) {
+    match approxidate(text.as_bytes(), now) {
         Ok(date) => {
             if date.understood {
                 Some(date.time)
@@ -33,7 +33,7 @@ pub fn since<'a>(text: &'a str, now: Zoned<'_>) -> Result<(Time, Option<&'a str>
     ensures { IfOk result (λ found. (date : Guess) × ApproximateOutcome now.entry text.now (Ok date)
         × (found.0 ≡ date.time)) }
 {
-    match approxidate(text, now) {
+    match approxidate(text.as_bytes(), now) {
         Ok(date) => Ok((date.time, rest_from(text, date.ignored))),
         Err(error) => Err(error),
     }

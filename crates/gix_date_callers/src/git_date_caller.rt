@@ -20,7 +20,7 @@ pub fn date_and_ignored<'a>(
         ≡ option_map (λ place. drop place text.now) found.0.ignored) }
     ensures refuses { IfErr result (λ e. DateOutcome (zone_of now.entry) (said_by (now_of now.entry) text.now) (Err e)) }
 {
-    let date = match parse_date(text, now) {
+    let date = match parse_date(text.as_bytes(), now) {
         Ok(date) => date,
         Err(error) => return Err(error),
     };
@@ -39,7 +39,7 @@ pub fn mail_time(line: &str, now: Zoned<'_>) -> Option<Time>
         → (e : Refusal) × DateOutcome (zone_of now.entry) (said_by (now_of now.entry) text) (Err e)) }
 {
     let text = line.strip_prefix("Date: ")?;
-    match parse_date(text, now) {
+    match parse_date(text.as_bytes(), now) {
         Ok(date) => Some(date.time),
         Err(_) => None,
     }

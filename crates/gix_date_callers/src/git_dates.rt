@@ -108,7 +108,7 @@ fn a_mail_says_when_it_was_sent(rt: HostRuntime) -> Result<(), Fail> {
 #[test]
 fn a_text_without_an_offset_is_of_the_moments_zone(rt: HostRuntime) -> Result<(), Fail> {
     let now = Time::new(1_251_660_000, -16_200).to_zoned()?;
-    let date = parse_date("2005-04-07 22:13:13", now)?;
+    let date = parse_date(b"2005-04-07 22:13:13", now)?;
     assert_eq!(rt; date.time, Time::new(1_112_928_193, -16_200));
     Ok(())
 }

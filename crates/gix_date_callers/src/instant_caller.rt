@@ -21,7 +21,7 @@ pub fn committed(date: &str, now: Timestamp, zone: TimeZone<'_>) -> Result<Time,
         × DateOutcome (plain_zone zone.entry) (said_by (now_at now.nanosecond) date.now) read
         × (result ≡ result_map_both (λ found. found.time) (λ e. e) read) }
 {
-    match parse_date_at(date, now, zone) {
+    match parse_date_at(date.as_bytes(), now, zone) {
         Ok(found) => Ok(found.time),
         Err(error) => Err(error),
     }

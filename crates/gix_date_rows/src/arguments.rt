@@ -6,17 +6,24 @@ use gix_date::time::format::{
 };
 use gix_date::{RawOffsets, Texts, Time, WithoutOffset};
 use jiff::Timestamp;
+use std::str;
 
 /// Fields, and how many of them are taken.
 #[derive(Drop)]
 pub(crate) struct Arguments<'a> {
-    fields: &'a [&'a str],
+    fields: &'a [Vec<u8>],
     taken: usize,
+    /// Whether a field had to be a text and is none.
+    pub(crate) wants_text: bool,
 }
 
 impl<'a> Arguments<'a> {
-    pub(crate) fn new(fields: &'a [&'a str]) -> Arguments<'a> {
-        Arguments { fields, taken: 0 }
+    pub(crate) fn new(fields: &'a [Vec<u8>]) -> Arguments<'a> {
+        Arguments {
+            fields,
+            taken: 0,
+            wants_text: false,
+        }
     }
 
     /// Whether each field is taken.
@@ -24,11 +31,22 @@ impl<'a> Arguments<'a> {
         self.fields.len() == self.taken
     }
 
-    /// The next field.
-    pub(crate) fn text(&mut self) -> Option<&'a str> {
+    /// The bytes of the next field.
+    pub(crate) fn bytes(&mut self) -> Option<&'a [u8]> {
         let field = self.fields.get(self.taken)?;
         self.taken = self.taken.saturating_add(1);
-        Some(field)
+        Some(field.as_slice())
+    }
+
+    /// The next field, where it is a text.
+    pub(crate) fn text(&mut self) -> Option<&'a str> {
+        match str::from_utf8(self.bytes()?) {
+            Ok(text) => Some(text),
+            Err(_) => {
+                self.wants_text = true;
+                None
+            }
+        }
     }
 
     /// A time: its seconds and its offset.

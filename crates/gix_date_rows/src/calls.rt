@@ -40,23 +40,23 @@ pub(crate) fn answer_to(
         }
         "parse_date" => {
             let moment = row.text()?;
-            read_date(zones, moment, row.text()?)
+            read_date(zones, moment, row.bytes()?)
         }
         "ignored" => {
             let moment = row.text()?;
-            ignored_place(zones, moment, row.text()?)
+            ignored_place(zones, moment, row.bytes()?)
         }
         "approxidate" => {
             let moment = row.text()?;
-            guessed(zones, moment, row.text()?)
+            guessed(zones, moment, row.bytes()?)
         }
         "approximate_ignored" => {
             let moment = row.text()?;
-            passed_over(zones, moment, row.text()?)
+            passed_over(zones, moment, row.bytes()?)
         }
         "expiry_date" => {
             let moment = row.text()?;
-            expires(zones, moment, row.text()?)
+            expires(zones, moment, row.bytes()?)
         }
         "to_zoned" => Some(converted(row.time()?)),
         "now_local" => {

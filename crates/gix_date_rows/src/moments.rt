@@ -52,7 +52,7 @@ pub(crate) fn parsed_carefully(
 }
 
 /// The time of a date as Git reads it, at the moment that a field says. `None` where it says none.
-pub(crate) fn read_date(zones: &TimeZoneDatabase, moment: &str, text: &str) -> Option<Answer> {
+pub(crate) fn read_date(zones: &TimeZoneDatabase, moment: &str, text: &[u8]) -> Option<Answer> {
     Some(match dated(zones, moment, text)? {
         Ok(date) => Answer::Time(date.time),
         Err(refusal) => refusal,
@@ -60,14 +60,14 @@ pub(crate) fn read_date(zones: &TimeZoneDatabase, moment: &str, text: &str) -> O
 }
 
 /// The place of what such a date ignores.
-pub(crate) fn ignored_place(zones: &TimeZoneDatabase, moment: &str, text: &str) -> Option<Answer> {
+pub(crate) fn ignored_place(zones: &TimeZoneDatabase, moment: &str, text: &[u8]) -> Option<Answer> {
     Some(match dated(zones, moment, text)? {
         Ok(date) => Answer::Ignored(date.ignored),
         Err(refusal) => refusal,
     })
 }
 
-fn dated(zones: &TimeZoneDatabase, moment: &str, text: &str) -> Option<Result<ReadDate, Answer>> {
+fn dated(zones: &TimeZoneDatabase, moment: &str, text: &[u8]) -> Option<Result<ReadDate, Answer>> {
     match moment_of(zones, moment)? {
         Ok(now) => Some(parse_date(text, now?).map_err(Answer::from)),
         Err(refusal) => Some(Err(Answer::Refused(refusal))),

@@ -5,14 +5,13 @@ use crate::calls::answer_to;
 use crate::escapes::unescaped;
 use jiff::tz::TimeZoneDatabase;
 use std::alloc::{AllocError, Global};
-use std::str;
 
 /// What became of a row.
 #[derive(Drop)]
 pub(crate) enum Outcome {
     /// Its call answers what is due.
     Agrees,
-    /// An argument is no text, and the calls take none but text.
+    /// An argument is no text, and its call takes none but text.
     LeftOut,
     /// Its call answers otherwise, or it is no row: what is wrong with it.
     Differs(String),
@@ -34,16 +33,10 @@ pub(crate) fn outcome_of(
             None => return malformed(alloc),
         }
     }
-    let Some(texts) = texts_of(alloc, fields.as_slice())? else {
-        return if due == "!NotText" {
-            Ok(Outcome::LeftOut)
-        } else {
-            malformed(alloc)
-        };
-    };
-    let mut arguments = Arguments::new(texts.as_slice());
+    let mut arguments = Arguments::new(fields.as_slice());
     let answer = answer_to(alloc, zones, &mut arguments);
     match answer {
+        None if arguments.wants_text && due == "!NotText" => Ok(Outcome::LeftOut),
         Some(answer) if arguments.is_empty() => compared(alloc, &answer, due),
         _ => malformed(alloc),
     }
@@ -51,18 +44,6 @@ pub(crate) fn outcome_of(
 
 fn malformed(alloc: Global) -> Result<Outcome, AllocError> {
     Ok(Outcome::Differs(String::from_str(alloc, "no row")?))
-}
-
-/// The fields as texts. `None` where one is none.
-fn texts_of<'a>(alloc: Global, fields: &'a [Vec<u8>]) -> Result<Option<Vec<&'a str>>, AllocError> {
-    let mut texts = Vec::new(alloc);
-    for field in fields {
-        match str::from_utf8(field.as_slice()) {
-            Ok(text) => texts.push(text)?,
-            Err(_) => return Ok(None),
-        }
-    }
-    Ok(Some(texts))
 }
 
 /// Whether an answer is the one that a field says is due.

@@ -146,7 +146,8 @@ def index_of(text: Text, place: int) -> Optional[int]:
     """The index into a text of a place that counts bytes; None if it is below 0."""
     if place < 0 or isinstance(text, bytes):
         return None if place < 0 else place
-    return len(text.encode()[:place].decode())
+    # Halves of surrogate pairs, which no text should have, are three bytes each to the library.
+    return len(text.encode("utf-8", "surrogatepass")[:place].decode("utf-8", "surrogatepass"))
 
 
 def refusal(

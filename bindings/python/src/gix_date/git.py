@@ -6,7 +6,7 @@
 - `show_date`: a date as `git log --date=MODE` shows it
 
 Each call has a moment, an aware datetime or a `Moment`, in whose zone a text without an offset is read. docs/GIT_DATES.md has the rules.
-All refuse the moment by `NaiveDatetime`, `InvalidInstant` and `InvalidZone`, and bytes that are not UTF-8 by `NotText`.
+All refuse the moment by `NaiveDatetime`, `InvalidInstant` and `InvalidZone`. A text may be any bytes, as in Git.
 """
 
 from __future__ import annotations

@@ -19,8 +19,8 @@ pub enum DateError {
     /// The date is before 1970-01-01 00:00:00 UTC, or leads to an instant that cannot be computed with. Of
     /// [`show_date()`](super::show_date): Git cannot show the time, or it is beyond what is shown here.
     Range,
-    /// The moment is refused ([`Error::InvalidInstant`], [`Error::InvalidZone`]), memory for its zone
-    /// ([`Error::OutOfMemory`]), or bytes that are not UTF-8 ([`Error::NotText`]).
+    /// The moment is refused ([`Error::InvalidInstant`], [`Error::InvalidZone`]), or memory for its zone
+    /// ([`Error::OutOfMemory`]).
     Refused(Error),
 }
 

@@ -12,15 +12,9 @@ pub fn answer(call: &str, row: &mut &[String]) -> Option<Answer> {
     match call {
         "parse_date" => told(exact(row)?, |date| shown(date.time)),
         "ignored" => told(exact(row)?, |date| place(date.ignored)),
-        "approxidate" => told(guessed(row)?, |date| {
-            shown(date.time) + if date.understood { "" } else { " ?" }
-        }),
+        "approxidate" => told(guessed(row)?, guess_shown),
         "approximate_ignored" => told(guessed(row)?, |date| place(date.ignored)),
-        "expiry_date" => told(expires(row)?, |expiry| match expiry {
-            Expiry::Never => "never".to_string(),
-            Expiry::All => "all".to_string(),
-            Expiry::Before(date) => shown(date.time),
-        }),
+        "expiry_date" => told(expires(row)?, expiry_shown),
         "date_mode" => mode_name(text(row)?),
         "show_date" => {
             let mode = text(row)?.parse().ok()?;
@@ -45,15 +39,27 @@ pub fn answer_of_bytes(call: &[u8], at: &[u8], text: &[u8]) -> Option<Answer> {
             all([bytes::approxidate(text, &moment)], &moment, |zone, now| {
                 zone.approxidate(text, now)
             }),
-            |date| shown(date.time),
+            guess_shown,
         ),
         b"expiry_date" => told(
             all([bytes::expiry_date(text, &moment)], &moment, |zone, now| {
                 zone.expiry_date(text, now)
             }),
-            |expiry| format!("{expiry:?}"),
+            expiry_shown,
         ),
         _ => None,
+    }
+}
+
+fn guess_shown(date: Approximate) -> String {
+    shown(date.time) + if date.understood { "" } else { " ?" }
+}
+
+fn expiry_shown(expiry: Expiry) -> String {
+    match expiry {
+        Expiry::Never => "never".to_string(),
+        Expiry::All => "all".to_string(),
+        Expiry::Before(date) => shown(date.time),
     }
 }
 

@@ -20,12 +20,12 @@ pub enum Expiry {
 
 /// What the words say that are no dates here.
 #[tactic(auto, unfolding(crate::specs::ApproximateExpiry::fixed_expiry))]
-fn fixed_expiry(text: &str) -> Option<Expiry>
+fn fixed_expiry(text: &[u8]) -> Option<Expiry>
     ensures { result ≡ fixed_expiry text.now }
 {
-    if text == "never" || text == "false" {
+    if text == b"never".as_slice() || text == b"false".as_slice() {
         Some(Expiry::Never)
-    } else if text == "all" || text == "now" {
+    } else if text == b"all".as_slice() || text == b"now".as_slice() {
         Some(Expiry::All)
     } else {
         None
@@ -53,7 +53,7 @@ fn expiry_of(date: Result<Approximate, DateError>) -> Result<Expiry, DateError>
 /// `never` and `false` are [`Expiry::Never`], `all` and `now` are [`Expiry::All`]: these words alone, in small letters. Any other
 /// text is a date, read as by [`approxidate`](crate::approxidate), with its refusals; [`DateError::Unreadable`] if nothing of it
 /// was understood. A place that the answer has is one where a character of the text begins. Takes no memory.
-pub fn expiry_date(text: &str, now: Zoned<'_>) -> Result<Expiry, DateError>
+pub fn expiry_date(text: &[u8], now: Zoned<'_>) -> Result<Expiry, DateError>
     ensures answer { ExpiryOutcome now.entry text.now result }
     ensures places { HasExpiryPlacesIn text.now result }
 {

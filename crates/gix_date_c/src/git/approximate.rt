@@ -10,7 +10,6 @@ use crate::moment::CInstant;
 use crate::refusal::Refusal;
 use crate::status::Status;
 use crate::store::store_read;
-use crate::text::utf8_text;
 use crate::time::{CTime, time_for_c};
 use crate::zone::CZone;
 use git_date::{Approximate, approxidate};
@@ -51,7 +50,7 @@ fn read(text: &[u8], now: Result<Zoned<'_>, Status>) -> Result<CApproximate, Ref
     ensures { IsReadAt IsApproximate now.entry text.now result }
 {
     let now = now.map_err(Refusal::of)?;
-    match approxidate(utf8_text(text).map_err(Refusal::of)?, now) {
+    match approxidate(text, now) {
         Ok(date) => Ok(approximate_of(date)),
         Err(error) => Err(date_refusal(error)),
     }

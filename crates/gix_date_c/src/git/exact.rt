@@ -13,7 +13,6 @@ use crate::moment::{CInstant, timestamp_of};
 use crate::refusal::Refusal;
 use crate::status::Status;
 use crate::store::store_read;
-use crate::text::utf8_text;
 use crate::time::{CTime, time_for_c};
 use crate::zone::CZone;
 use git_date::{ReadDate, parse_date_at};
@@ -60,7 +59,7 @@ fn read(
 {
     let zone = zone.map_err(Refusal::of)?;
     let now = now.map_err(Refusal::of)?;
-    match parse_date_at(utf8_text(text).map_err(Refusal::of)?, now, zone) {
+    match parse_date_at(text, now, zone) {
         Ok(date) => Ok(exact_of(date)),
         Err(error) => Err(date_refusal(error)),
     }

@@ -11,7 +11,6 @@ use crate::moment::CInstant;
 use crate::refusal::Refusal;
 use crate::status::Status;
 use crate::store::store_read;
-use crate::text::utf8_text;
 use crate::zone::CZone;
 use git_date::{Expiry, expiry_date};
 use gix_date::Zoned;
@@ -50,7 +49,7 @@ fn read(text: &[u8], now: Result<Zoned<'_>, Status>, old: CExpiry) -> Result<CEx
     ensures { IsReadAt (IsExpiry old) now.entry text.now result }
 {
     let now = now.map_err(Refusal::of)?;
-    match expiry_date(utf8_text(text).map_err(Refusal::of)?, now) {
+    match expiry_date(text, now) {
         Ok(expiry) => Ok(expiry_of(old, expiry)),
         Err(error) => Err(date_refusal(error)),
     }

@@ -1,4 +1,4 @@
-use Rattle.std.proofs.Common.{◌≡◌, ◌∙◌, ℕ, List, refl, ap, Result, Ok, Err}
+use Rattle.std.proofs.Common.{◌≡◌, ℕ, List, refl, Result, Ok, Err}
 use Rattle.jiff.specs.declared.zoned.Zoned.{Zoned}
 use Rattle.gix_date.specs.Relative.Steps.{zone_of}
 use Rattle.git_date.specs.Approximate.{exact_or_guess, guess, ApproximateOutcome}
@@ -11,15 +11,15 @@ use Rattle.git_date.proofs.ApproximatePlaces.{approximate-places}
 use Rattle.git_date.proofs.ZoneChoices.{choices-of, are-choices}
 use Rattle.git_date.proofs.approximate.approxidate.Goals as goal
 
-guessed : (moment : Zoned) (text bytes : List ℕ) (e : DateError) (result : Result Approximate DateError)
-    → DateOutcome (zone_of moment) (said_by (now_of moment) text) (Err e) → bytes ≡ text
-    → result ≡ exact_or_guess (Err e) (guess (choices-of (zone_of moment)) (now_of moment) bytes) → ApproximateOutcome moment text result
-guessed moment text bytes e result reads same is = record {
+guessed : (moment : Zoned) (text : List ℕ) (e : DateError) (result : Result Approximate DateError)
+    → DateOutcome (zone_of moment) (said_by (now_of moment) text) (Err e)
+    → result ≡ exact_or_guess (Err e) (guess (choices-of (zone_of moment)) (now_of moment) text) → ApproximateOutcome moment text result
+guessed moment text e result reads is = record {
   zone = choices-of (zone_of moment);
   are_choices = are-choices (zone_of moment);
   exact = Err e;
   reads = reads;
-  is = is ∙ ap (λ (text : List ℕ). exact_or_guess (Err e) (guess (choices-of (zone_of moment)) (now_of moment) text)) same;
+  is = is;
 }
 
 pub or_guess-requires : goal.or_guess-requires
@@ -35,10 +35,9 @@ returns-in-Ok-clause-answer c = record {
 }
 
 pub returns-in-Err-clause-answer : goal.returns-in-Err-clause-answer
-returns-in-Err-clause-answer c =
-    guessed c.args.now c.args.text.now c.as_bytes.result.now c.in-Err.error c.or_guess.result c.in-Err.ensures.date c.as_bytes.ensures.value c.or_guess.ensures
+returns-in-Err-clause-answer c = guessed c.args.now c.args.text.now c.in-Err.error c.or_guess.result c.in-Err.ensures.date c.or_guess.ensures
 
 pub returns-in-Err-clause-places : goal.returns-in-Err-clause-places
 returns-in-Err-clause-places c =
     approximate-places c.args.now c.args.text.now c.or_guess.result
-    (guessed c.args.now c.args.text.now c.as_bytes.result.now c.in-Err.error c.or_guess.result c.in-Err.ensures.date c.as_bytes.ensures.value c.or_guess.ensures)
+    (guessed c.args.now c.args.text.now c.in-Err.error c.or_guess.result c.in-Err.ensures.date c.or_guess.ensures)

@@ -1,8 +1,7 @@
-use Rattle.std.proofs.Common.{◌≡◌, ◌∙◌, ap, subst, Result}
+use Rattle.std.proofs.Common.{subst, Result}
 use Rattle.jiff.specs.Words.{plain_zone}
 use Rattle.git_date.specs.Dates.{now_at}
 use Rattle.git_date.specs.Outcome.{DateOutcome}
-use Rattle.git_date.specs.Reading.{said_by}
 use Rattle.git_date.specs.declared.error.DateError.{DateError}
 use Rattle.git_date.specs.declared.reader.Said.{Said}
 use Rattle.git_date.proofs.Places.{places}
@@ -10,7 +9,5 @@ use Rattle.git_date.proofs.date.parse_date_at.Goals as goal
 
 pub returns-clause-places : goal.returns-clause-places
 returns-clause-places c =
-    let now = now_at c.args.now.nanosecond in
-    let is : c.said_by.result ≡ said_by now c.args.text.now = c.said_by.ensures.value ∙ ap (said_by now) c.as_bytes.ensures.value in
-    places (plain_zone c.args.zone) now c.args.text.now c.date_said.result
-    (subst (λ (said : Result Said DateError). DateOutcome (plain_zone c.args.zone) said c.date_said.result) is c.date_said.ensures)
+    places (plain_zone c.args.zone) (now_at c.args.now.nanosecond) c.args.text.now c.date_said.result
+    (subst (λ (said : Result Said DateError). DateOutcome (plain_zone c.args.zone) said c.date_said.result) c.said_by.ensures.value c.date_said.ensures)
