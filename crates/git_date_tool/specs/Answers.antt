@@ -1,7 +1,6 @@
 -- What a text is answered by.
 use Rattle.std.specs.Prelude.{◌≡◌, ℕ, Bool, true, false, List, [], ◌∷◌, ◌++◌, Option, Some, None, Result, Ok, Err}
 use Rattle.std.specs.Fmt.{decimal}
-use Rattle.std.specs.Str.{is_utf8}
 use Rattle.gix_date.specs.Text.Characters.{space}
 use Rattle.git_date.specs.declared.approximate.answer.Approximate.{Approximate}
 use Rattle.git_date_tool.specs.Readers.{IsRead}
@@ -12,7 +11,6 @@ use Rattle.git_date_tool.specs.declared.answers.Answer.{Answer}
 use Rattle.git_date_tool.specs.declared.answers.Answer.TheVariants.{Date, Refused}
 use Rattle.git_date_tool.specs.declared.answers.Query.{Query}
 use Rattle.git_date_tool.specs.declared.refusals.Refusal.{Refusal}
-use Rattle.git_date_tool.specs.declared.refusals.Refusal.TheVariants.{NotText}
 use Rattle.git_date_tool.specs.declared.shown.DateLine.{DateLine}
 
 -- the line that answers a text, the line of a warning beside it, and whether the text was read
@@ -50,20 +48,11 @@ IsFoundReply query text (Ok found) reply =
     × (reply ≡ line_reply line (warning_of text found))
 IsFoundReply query text (Err e) reply = reply ≡ refused e
 
--- the reply to a text
-abbrev pub IsTextReply : Query → List ℕ → Reply → Type 0
-IsTextReply query text reply =
+-- the reply to the bytes of a text
+unfoldable pub IsReply : Query → List ℕ → Reply → Type 0
+IsReply query text reply =
     (found : Result Approximate Refusal) × IsRead query.reader query.strict query.now text found
     × IsFoundReply query text found reply
-
--- the reply to a line, by whether it is text
-abbrev pub IsReplyTo : Bool → Query → List ℕ → Reply → Type 0
-IsReplyTo true query line reply = IsTextReply query line reply
-IsReplyTo false query line reply = reply ≡ refused NotText
-
--- the reply to a line, which is text or not
-unfoldable pub IsReply : Query → List ℕ → Reply → Type 0
-IsReply query line reply = IsReplyTo (is_utf8 line) query line reply
 
 -- what an answer of the code replies
 abbrev pub answer_reply : Answer → Reply

@@ -1,6 +1,7 @@
 -- What the readers make of a text.
-use Rattle.std.specs.Prelude.{◌≡◌, ℕ, Bool, true, List, if◌then◌else◌, Option, Some, None, Result, Ok, Err, IfSome}
+use Rattle.std.specs.Prelude.{◌≡◌, ℕ, Bool, true, false, List, if◌then◌else◌, Option, Some, None, Result, Ok, Err, IfSome}
 use Rattle.std.specs.Result.{result_map_both}
+use Rattle.std.specs.Str.{is_utf8}
 use Rattle.jiff.specs.declared.zoned.Zoned.{Zoned}
 use Rattle.gix_date.specs.Careful.Outcome.{careful_reading, CarefulOutcome}
 use Rattle.gix_date.specs.Families.Order.{first_family, ParseNoAllocOutcome}
@@ -23,7 +24,7 @@ use Rattle.git_date_tool.specs.Refusals.{of_git, of_careful, of_gix}
 use Rattle.git_date_tool.specs.declared.readers.Reader.{Reader}
 use Rattle.git_date_tool.specs.declared.readers.Reader.TheVariants.{Exact, Approxidate, Careful, Gix}
 use Rattle.git_date_tool.specs.declared.refusals.Refusal.{Refusal}
-use Rattle.git_date_tool.specs.declared.refusals.Refusal.TheVariants.{NotUnderstood, Ignored}
+use Rattle.git_date_tool.specs.declared.refusals.Refusal.TheVariants.{NotText, NotUnderstood, Ignored}
 
 -- an exact date is understood
 abbrev pub of_exact : ReadDate → Approximate
@@ -60,12 +61,21 @@ IsByGix now text found =
     (result : Result Time ParseError) × ParseNoAllocOutcome (first_family text) (Some now) result
     × (found ≡ result_map_both whole of_gix result)
 
--- what a reader finds in a text at a moment, as its own library says it
+-- what a reader of text finds in bytes, by whether they are text
+abbrev pub IsIfText : Bool → (List ℕ → Result Approximate Refusal → Type 0) → List ℕ → Result Approximate Refusal → Type 0
+IsIfText true Finds text found = Finds text found
+IsIfText false Finds text found = found ≡ Err NotText
+
+-- what a reader of text finds in bytes, which are text or not
+unfoldable pub IsOfText : (List ℕ → Result Approximate Refusal → Type 0) → List ℕ → Result Approximate Refusal → Type 0
+IsOfText Finds text found = IsIfText (is_utf8 text) Finds text found
+
+-- What a reader finds at a moment, as its own library says it. Git's readers take any bytes.
 abbrev pub IsReadBy : Reader → Zoned → List ℕ → Result Approximate Refusal → Type 0
 IsReadBy Exact now text found = IsExactly now text found
 IsReadBy Approxidate now text found = IsApproximately now text found
-IsReadBy Careful now text found = IsCarefully now text found
-IsReadBy Gix now text found = IsByGix now text found
+IsReadBy Careful now text found = IsOfText (IsCarefully now) text found
+IsReadBy Gix now text found = IsOfText (IsByGix now) text found
 
 -- what was found, unless something was ignored
 abbrev pub unless_ignored : Approximate → Option ℕ → Result Approximate Refusal

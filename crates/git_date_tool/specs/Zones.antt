@@ -1,6 +1,6 @@
 -- Which zone a command line asks for. Offsets and rules are zones by their text alone. Of names and files no contract can say what the system
 -- has: a database and bytes are some that it gave.
-use Rattle.std.specs.Prelude.{◌≡◌, ◌⊎◌, ℕ, ◌+◌, ◌*◌, ◌≤◌, ◌==◌, ◌||◌, nat_lt, List, [], ◌∷◌, length, ℤ, pos, neg_ℤ, if◌then◌else◌, Option, Some, None, Result, Ok}
+use Rattle.std.specs.Prelude.{◌≡◌, ◌⊎◌, ℕ, ◌≤◌, List, length, ℤ, Option, Some, None, Result, Ok}
 use Rattle.jiff.specs.Placed.{IsLookedUp, IsPosixZone, fixed_zone}
 use Rattle.jiff.specs.Types.{Offset, TimeZone, TimeZoneDatabase, UTC}
 use Rattle.jiff.specs.ZoneView.{plain_zone, plain_database, plain_system}

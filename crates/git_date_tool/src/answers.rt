@@ -3,14 +3,13 @@ ghost use Rattle.std.specs.Prelude.{◌≡◌, IfOk};
 ghost use Rattle.gix_date_tool.specs.Run.{change, IsWritten};
 ghost use Rattle.gix_date_tool.specs.Lines.{with_newline};
 ghost use Rattle.gix_date_tool.specs.Messages.{Reports};
-ghost use Rattle.git_date_tool.specs.Answers.{IsReply, IsTextReply, answer_reply, refusal_text};
+ghost use Rattle.git_date_tool.specs.Answers.{IsReply, answer_reply, refusal_text};
 
 use crate::readers::{Reader, read};
 use crate::refusals::Refusal;
 use crate::shown::{DateLine, Shown, show};
 use crate::warnings::{Warning, warning_of};
 use gix_date::Zoned;
-use gix_date::bytes::text_of;
 use gix_date::device::Sink;
 use gix_date_tool::put_pieces;
 use std::alloc::{AllocError, Global};
@@ -82,6 +81,9 @@ fn put_refusal<W: Sink>(refusal: Refusal, out: &mut W) -> Result<(), io::ErrorKi
 }
 
 /// The answer to a line. Memory is taken to print by a format of gix-date, and for nothing else; `Err` if it is refused.
+///
+/// Git's readers take any bytes, and the others text alone.
+#[tactic(auto, unfolding(crate::specs::Answers::IsReply))]
 pub fn answer_line<'a>(
     alloc: Global,
     query: &Query<'_>,
@@ -89,26 +91,12 @@ pub fn answer_line<'a>(
 ) -> Result<Answer<'a>, AllocError>
     ensures { IfOk result (λ answer. IsReply query.entry.now line.now (answer_reply answer)) }
 {
-    match text_of(line) {
-        Some(text) => answer_text(alloc, query, text),
-        None => Ok(Answer::Refused(Refusal::NotText)),
-    }
-}
-
-/// The answer to a text.
-fn answer_text<'a>(
-    alloc: Global,
-    query: &Query<'_>,
-    text: &'a str,
-) -> Result<Answer<'a>, AllocError>
-    ensures { IfOk result (λ answer. IsTextReply query.entry.now text.now (answer_reply answer)) }
-{
-    let found = match read(query.reader, query.strict, text, query.now) {
+    let found = match read(query.reader, query.strict, line, query.now) {
         Ok(found) => found,
         Err(refusal) => return Ok(Answer::Refused(refusal)),
     };
     match show(alloc, query.shown, found.time, query.now) {
-        Ok(Ok(line)) => Ok(Answer::Date(line, warning_of(text, &found))),
+        Ok(Ok(shown)) => Ok(Answer::Date(shown, warning_of(line, &found))),
         Ok(Err(refusal)) => Ok(Answer::Refused(refusal)),
         Err(AllocError) => Err(AllocError),
     }

@@ -1,9 +1,10 @@
 //! The readers of dates.
 ghost use Rattle.std.specs.Prelude.{◌≡◌, IfOk};
-ghost use Rattle.git_date_tool.specs.Readers.{IsRead, IsReadBy, careful_options, of_exact, whole, judged, HasPlace};
+ghost use Rattle.git_date_tool.specs.Readers.{IsRead, IsReadBy, IsOfText, IsCarefully, IsByGix, careful_options, of_exact, whole, judged, HasPlace};
 
 use crate::refusals::{Refusal, of_careful, of_git, of_gix};
 use git_date::{Approximate, ReadDate, approxidate, parse_date};
+use gix_date::bytes::text_of;
 use gix_date::{
     CarefulOptions, RawOffsets, Texts, Time, WithoutOffset, Zoned, parse_carefully, parse_no_alloc,
 };
@@ -22,11 +23,11 @@ pub enum Reader {
     Gix,
 }
 
-/// What a text says at a moment. If that is strict, all of it has to be understood.
+/// What the bytes of a text say at a moment. If that is strict, all of it has to be understood.
 pub(crate) fn read(
     reader: Reader,
     strict: bool,
-    text: &str,
+    text: &[u8],
     now: Zoned<'_>,
 ) -> Result<Approximate, Refusal>
     ensures is { IsRead reader strict now.entry text.now result }
@@ -39,27 +40,51 @@ pub(crate) fn read(
 }
 
 /// What a reader finds in a text.
-fn read_by(reader: Reader, text: &str, now: Zoned<'_>) -> Result<Approximate, Refusal>
+fn read_by(reader: Reader, text: &[u8], now: Zoned<'_>) -> Result<Approximate, Refusal>
     ensures is { IsReadBy reader now.entry text.now result }
     ensures place { IfOk result (HasPlace text.now) }
 {
     match reader {
-        Reader::Exact => match parse_date(text.as_bytes(), now) {
+        Reader::Exact => match parse_date(text, now) {
             Ok(date) => Ok(of_exact(date)),
             Err(error) => Err(of_git(error)),
         },
-        Reader::Approxidate => match approxidate(text.as_bytes(), now) {
+        Reader::Approxidate => match approxidate(text, now) {
             Ok(found) => Ok(found),
             Err(error) => Err(of_git(error)),
         },
-        Reader::Careful => match parse_carefully(text, Some(now), careful_options()) {
-            Ok(time) => Ok(whole(time)),
-            Err(error) => Err(of_careful(error)),
-        },
-        Reader::Gix => match parse_no_alloc(text, Some(now), RawOffsets::Quarter) {
-            Ok(time) => Ok(whole(time)),
-            Err(error) => Err(of_gix(error)),
-        },
+        Reader::Careful => carefully(text, now),
+        Reader::Gix => by_gix(text, now),
+    }
+}
+
+/// What the careful reader finds in bytes that are text.
+#[tactic(auto, using(crate::proofs::OfText::of_text, crate::proofs::OfText::of_bytes))]
+fn carefully(text: &[u8], now: Zoned<'_>) -> Result<Approximate, Refusal>
+    ensures is { IsOfText (IsCarefully now.entry) text.now result }
+    ensures place { IfOk result (HasPlace text.now) }
+{
+    let Some(text) = text_of(text) else {
+        return Err(Refusal::NotText);
+    };
+    match parse_carefully(text, Some(now), careful_options()) {
+        Ok(time) => Ok(whole(time)),
+        Err(error) => Err(of_careful(error)),
+    }
+}
+
+/// What the reader of gix-date finds in bytes that are text.
+#[tactic(auto, using(crate::proofs::OfText::of_text, crate::proofs::OfText::of_bytes))]
+fn by_gix(text: &[u8], now: Zoned<'_>) -> Result<Approximate, Refusal>
+    ensures is { IsOfText (IsByGix now.entry) text.now result }
+    ensures place { IfOk result (HasPlace text.now) }
+{
+    let Some(text) = text_of(text) else {
+        return Err(Refusal::NotText);
+    };
+    match parse_no_alloc(text, Some(now), RawOffsets::Quarter) {
+        Ok(time) => Ok(whole(time)),
+        Err(error) => Err(of_gix(error)),
     }
 }
 

@@ -11,6 +11,7 @@ ghost use Rattle.git_date_tool.specs.Readers.{HasPlace};
 ghost use Rattle.git_date_tool.specs.Warnings.{word_at, warning_of, warning_view, warning_line, line_by, ignored_front, ignored_view};
 
 use git_date::Approximate;
+use gix_date::bytes::text_of;
 use gix_date::device::Sink;
 use gix_date_tool::write_message;
 
@@ -23,7 +24,7 @@ pub struct Warning<'a> {
 }
 
 /// What is said of what was found in a text.
-pub(crate) fn warning_of<'a>(text: &'a str, found: &Approximate) -> Warning<'a>
+pub(crate) fn warning_of<'a>(text: &'a [u8], found: &Approximate) -> Warning<'a>
     requires { HasPlace text.now found.now }
     ensures { warning_view result ≡ warning_of text.now found.now }
 {
@@ -38,12 +39,15 @@ pub(crate) fn warning_of<'a>(text: &'a str, found: &Approximate) -> Warning<'a>
 }
 
 /// The letters and digits from a place on.
-fn word_at(text: &str, place: usize) -> &str
+fn word_at(text: &[u8], place: usize) -> &str
     requires { IsPlaceIn text.now place }
     ensures { result.now ≡ word_at text.now place }
 {
-    let rest = text.split_at(place).1;
-    rest.split_at(word_len(rest.as_bytes())).0
+    let rest = &text[place..];
+    match text_of(&rest[..word_len(rest)]) {
+        Some(word) => word,
+        None => unreachable!(),
+    }
 }
 
 /// How many letters and digits stand in front.
