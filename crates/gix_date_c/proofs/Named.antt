@@ -5,7 +5,8 @@ use Rattle.jiff.specs.Types.{TimeZone}
 use Rattle.jiff.specs.Placed.{IsPosixZone}
 use Rattle.git_date.specs.ZoneTexts.{zone_offset}
 use Rattle.gix_date_c.specs.Moments.{IsOffsetZone}
-use Rattle.gix_date_c.specs.Zones.{IsHeld, IsHeldNamed, IsKept, IsNamed, IsRead, IsTaken, IsZone, IsZoneOf, Names, Reads, is_file}
+use Rattle.gix_date_c.specs.Zones.{IsHeld, IsHeldNamed, IsKept, IsNamed, IsRead, IsTaken, IsZone, IsZoneOf, Reads, is_file}
+use Rattle.gix_date_c.specs.Laws.{HasMomentsOf, HasPlacesOf}
 use Rattle.gix_date_c.specs.Statuses.{number_of}
 use Rattle.gix_date_c.specs.declared.status.Status.{Status}
 use Rattle.gix_date_c.specs.declared.status.Status.TheVariants.{Done}
@@ -38,3 +39,9 @@ named None text zone kept is k z at =
 pub reads : (text : List ℕ) (old new : CZone) (kept : TakenZone) (status : ℕ) → IsTaken new kept → IsKept (zone_offset text) text (Ok kept)
     → status ≡ number_of Done → Reads text old new status
 reads text old new kept status is k done = inl (named (zone_offset text) text new kept is k, done)
+
+pub moments : (text : List ℕ) (zone : CZone) → HasMomentsOf text zone
+moments text zone instant now names at = (at.0, names at.0 at.1, at.2)
+
+pub places : (text : List ℕ) (zone : CZone) → HasPlacesOf text zone
+places text zone instant place names at = (at.0, names at.0 at.1, at.2)

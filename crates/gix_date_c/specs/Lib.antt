@@ -3,6 +3,7 @@ pub mod Careful
 pub mod GitDates
 pub mod GitModes
 pub mod Handles
+pub mod Laws
 pub mod Moments
 pub mod Parsing
 pub mod Printing

@@ -1,5 +1,5 @@
 -- What reading a text comes to, where it may be refused at a place.
-use Rattle.std.specs.Prelude.{◌≡◌, ℕ, List, Bool, true, false, Result, Ok, Err, ℤ}
+use Rattle.std.specs.Prelude.{◌≡◌, ℕ, List, Bool, true, false, Result, Ok, Err}
 use Rattle.jiff.specs.Types.{TimeZone}
 use Rattle.jiff.specs.declared.zoned.Zoned.{Zoned}
 use Rattle.gix_date_c.specs.Moments.{IsNow, IsPlaced, Place}

@@ -10,6 +10,7 @@ mod buffer;
 mod careful;
 mod git;
 mod header;
+pub mod laws;
 mod moment;
 mod parse;
 mod print;
