@@ -27,6 +27,9 @@ static const char *const kinds[] = {"relative", "iso8601-strict", "iso8601", "rf
 /* The calls that read a text. */
 enum reader { EXACT, APPROXIMATE, EXPIRY };
 
+/* What of it a row asks for. */
+enum asked { DATE, IGNORED, HAS_OFFSET };
+
 /* What a call that reads a text leaves. */
 typedef struct reading {
     uint32_t status;
@@ -38,7 +41,7 @@ typedef struct reading {
 
 /* What such a call has to leave where it stores nothing. */
 static const reading untouched = {
-    GIX_DATE_OK,          (size_t)-2, {{-77, -7}, 9}, {{-77, -7}, 9, true},
+    GIX_DATE_OK,          (size_t)-2, {{-77, -7}, 9, true}, {{-77, -7}, 9, true},
     {99, {{-77, -7}, 9, true}}};
 
 static bool is_same_date(const git_date_approximate *one, const git_date_approximate *other)
@@ -53,6 +56,7 @@ static bool stored_nothing(const reading *seen)
     return seen->exact.time.seconds == untouched.exact.time.seconds &&
            seen->exact.time.offset == untouched.exact.time.offset &&
            seen->exact.ignored == untouched.exact.ignored &&
+           seen->exact.has_offset == untouched.exact.has_offset &&
            is_same_date(&seen->approximate, &untouched.approximate) &&
            seen->expiry.kind == untouched.expiry.kind &&
            is_same_date(&seen->expiry.before, &untouched.expiry.before);
@@ -116,7 +120,7 @@ static void tell_ignored(size_t place, answer *told)
 }
 
 /* Reads a text in a zone, and tells what of it the row asks for. */
-static void read_in(enum reader reader, bool of_ignored, field text, const gix_date_instant *now,
+static void read_in(enum reader reader, enum asked asked, field text, const gix_date_instant *now,
                     gix_date_zone *in, answer *told)
 {
     reading seen = untouched;
@@ -126,8 +130,10 @@ static void read_in(enum reader reader, bool of_ignored, field text, const gix_d
             tell_apart(told);
     } else if (reader == EXPIRY) {
         tell_expiry(&seen.expiry, told);
-    } else if (of_ignored) {
+    } else if (asked == IGNORED) {
         tell_ignored(reader == EXACT ? seen.exact.ignored : seen.approximate.ignored, told);
+    } else if (asked == HAS_OFFSET) {
+        tell(told, "%s", seen.exact.has_offset ? "yes" : "no");
     } else if (reader == EXACT) {
         tell_time(seen.exact.time, true, told);
     } else {
@@ -167,7 +173,7 @@ static bool is_no_zone(uint32_t status, answer *told)
 }
 
 /* Reads the text of a row, at the moment before it. */
-static bool read_row(enum reader reader, bool of_ignored, arguments *row, answer *told)
+static bool read_row(enum reader reader, enum asked asked, arguments *row, answer *told)
 {
     gix_date_instant now;
     gix_date_zone zone;
@@ -177,9 +183,9 @@ static bool read_row(enum reader reader, bool of_ignored, arguments *row, answer
         return false;
     if (is_no_zone(read_zone(name, &zone), told))
         return true;
-    read_in(reader, of_ignored, text, &now, &zone, told);
+    read_in(reader, asked, text, &now, &zone, told);
     in_other_words(name, &zone);
-    read_in(reader, of_ignored, text, &now, &zone, &other);
+    read_in(reader, asked, text, &now, &zone, &other);
     agree(told, &other);
     gix_date_zone_free(&zone);
     return true;
@@ -226,18 +232,19 @@ enum outcome git_call(const char *name, arguments *row, answer *told)
     static const struct {
         const char *name;
         enum reader reader;
-        bool of_ignored;
+        enum asked asked;
     } readers[] = {
-        {"parse_date", EXACT, false},
-        {"ignored", EXACT, true},
-        {"approxidate", APPROXIMATE, false},
-        {"approximate_ignored", APPROXIMATE, true},
-        {"expiry_date", EXPIRY, false},
+        {"parse_date", EXACT, DATE},
+        {"ignored", EXACT, IGNORED},
+        {"has_offset", EXACT, HAS_OFFSET},
+        {"approxidate", APPROXIMATE, DATE},
+        {"approximate_ignored", APPROXIMATE, IGNORED},
+        {"expiry_date", EXPIRY, DATE},
     };
     bool is_right = false;
     for (size_t i = 0; i < LENGTH(readers); i++)
         if (!strcmp(readers[i].name, name))
-            is_right = read_row(readers[i].reader, readers[i].of_ignored, row, told);
+            is_right = read_row(readers[i].reader, readers[i].asked, row, told);
     if (!strcmp(name, "show_date"))
         is_right = show_row(row, told);
     if (!strcmp(name, "date_mode")) {

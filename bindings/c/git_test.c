@@ -10,13 +10,15 @@ static const gix_date_instant sunday = {1251660000, 0}, in_fold = {1699165800, 0
 /* The place that no call stores. */
 enum { NO_PLACE = 99 };
 
-static const git_date_exact no_date = {{-77, -7}, 9};
+static const git_date_exact no_date = {{-77, -7}, 9, true};
 static const git_date_approximate no_guess = {{-77, -7}, 9, true};
 static const git_date_expiry no_expiry = {99, {{-77, -7}, 9, true}};
 
-static bool is_exact(git_date_exact date, int64_t seconds, int32_t offset, size_t ignored)
+static bool is_exact(git_date_exact date, int64_t seconds, int32_t offset, size_t ignored,
+                     bool has_offset)
 {
-    return is_time(date.time, seconds, offset) && date.ignored == ignored;
+    return is_time(date.time, seconds, offset) && date.ignored == ignored &&
+           date.has_offset == has_offset;
 }
 
 static bool is_approximate(git_date_approximate date, int64_t seconds, int32_t offset,
@@ -54,7 +56,7 @@ static void exact_dates(void)
         uint32_t status = git_date_parse_at(TEXT(rows[i].text), &sunday, AT(0), &date, &place);
         EXPECT(status == rows[i].status && place == rows[i].place, "%s: %u, %zu", rows[i].text,
                status, place);
-        EXPECT(is_exact(date, -77, -7, 9), "%s", rows[i].text);
+        EXPECT(is_exact(date, -77, -7, 9, true), "%s", rows[i].text);
     }
     git_date_exact date = no_date;
     size_t place = NO_PLACE;
@@ -64,15 +66,15 @@ static void exact_dates(void)
            "%lld", (long long)date.time.seconds);
     EXPECT(git_date_parse_at(TEXT("2008-02-14 20:30:45 IST"), &sunday, AT(0), &date, &place) ==
                    GIX_DATE_OK &&
-               is_exact(date, 1203021045, 0, 20),
+               is_exact(date, 1203021045, 0, 20, false),
            "%lld %zu", (long long)date.time.seconds, date.ignored);
     EXPECT(git_date_parse_at(TEXT("2008-02-14 20:30:45 EST"), &sunday, AT(0), &date, &place) ==
                    GIX_DATE_OK &&
-               is_exact(date, 1203039045, -18000, GIT_DATE_NOTHING),
+               is_exact(date, 1203039045, -18000, GIT_DATE_NOTHING, true),
            "%lld %zu", (long long)date.time.seconds, date.ignored);
     EXPECT(git_date_parse_at(TEXT("2005-04-07 22:13:13"), &sunday, AT(-16200), &date, &place) ==
                    GIX_DATE_OK &&
-               is_exact(date, 1112928193, -16200, GIT_DATE_NOTHING),
+               is_exact(date, 1112928193, -16200, GIT_DATE_NOTHING, false),
            "%lld", (long long)date.time.seconds);
     EXPECT(place == NO_PLACE, "%zu", place);
 }
@@ -157,11 +159,11 @@ static void dates_in(gix_date_zone *zone)
     const demand before = so_far();
     EXPECT(git_date_parse_at(TEXT("2023-07-01 12:00"), &sunday, zone, &date, &place) ==
                    GIX_DATE_OK &&
-               is_exact(date, 1688227200, -14400, GIT_DATE_NOTHING),
+               is_exact(date, 1688227200, -14400, GIT_DATE_NOTHING, false),
            "%lld", (long long)date.time.seconds);
     EXPECT(git_date_parse_at(TEXT("2023-11-05 01:30"), &in_fold, zone, &date, &place) ==
                    GIX_DATE_OK &&
-               is_exact(date, 1699162200, -14400, GIT_DATE_NOTHING),
+               is_exact(date, 1699162200, -14400, GIT_DATE_NOTHING, false),
            "%lld", (long long)date.time.seconds);
     EXPECT(git_date_approxidate_at(TEXT("noon july 1"), &november, zone, &guess, &place) ==
                    GIX_DATE_OK &&
@@ -220,7 +222,7 @@ static void moments(void)
            "zone");
     EXPECT(git_date_show_at(&day, &mode, &odd, AT(0), out, sizeof out, &len) == bad_instant,
            "moment");
-    EXPECT(is_exact(date, -77, -7, 9) && is_no_guess(guess) && is_no_guess(expiry.before) &&
+    EXPECT(is_exact(date, -77, -7, 9, true) && is_no_guess(guess) && is_no_guess(expiry.before) &&
                expiry.kind == 99 && place == NO_PLACE,
            "a refusal stores nothing");
 }
@@ -246,7 +248,7 @@ static void null_pointers(void)
     EXPECT(git_date_show_at(&day, &mode, &sunday, AT(0), NULL, 0, &len) == GIX_DATE_NO_ROOM &&
                len == 25,
            "%zu", len);
-    EXPECT(place == NO_PLACE && is_exact(date, -77, -7, 9), "a refusal stores nothing");
+    EXPECT(place == NO_PLACE && is_exact(date, -77, -7, 9, true), "a refusal stores nothing");
 }
 
 static void modes(void)

@@ -216,6 +216,11 @@ def ignored(at: bytes, text: bytes) -> str:
     return agreeing(told(lambda: place(given, git.parse_date(given, now).ignored), given) for given in both(text))
 
 
+def has_offset(at: bytes, text: bytes) -> str:
+    now = needed(at)
+    return agreeing(told(lambda: "yes" if git.parse_date(given, now).has_offset else "no", given) for given in both(text))
+
+
 def of_approximate(date: git.Approximate) -> str:
     return of_time(date.time) + ("" if date.understood else " ?")
 
@@ -269,6 +274,7 @@ CALLS: Dict[str, Callable[..., str]] = {
     "write_signature": write_signature,
     "parse_date": parse_date,
     "ignored": ignored,
+    "has_offset": has_offset,
     "approxidate": approxidate,
     "approximate_ignored": approximate_ignored,
     "expiry_date": expiry_date,

@@ -368,7 +368,7 @@ def test_signatures() -> None:
 
 def test_answers_are_values() -> None:
     git, time = gix_date.git, Time(5, 0)
-    values = [Signature("A", "a", "5"), git.ReadDate(time, None), git.Approximate(time, True, 3), git.DateMode()]
+    values = [Signature("A", "a", "5"), git.ReadDate(time, True, None), git.Approximate(time, True, 3), git.DateMode()]
     for value in values:
         (first, *_) = dataclasses.fields(value)
         with pytest.raises(dataclasses.FrozenInstanceError):

@@ -15,8 +15,8 @@ NOW = datetime(2009, 8, 30, 19, 20, tzinfo=timezone.utc)
 
 
 def test_exact_dates() -> None:
-    assert git.parse_date("2008-02-14 20:30:45 EST", NOW) == ReadDate(Time(1203039045, -18000), None)
-    assert git.parse_date("2008-02-14 20:30:45 IST", NOW) == ReadDate(Time(1203021045, 0), 20)
+    assert git.parse_date("2008-02-14 20:30:45 EST", NOW) == ReadDate(Time(1203039045, -18000), True, None)
+    assert git.parse_date("2008-02-14 20:30:45 IST", NOW) == ReadDate(Time(1203021045, 0), False, 20)
     with pytest.raises(git.Unreadable):
         git.parse_date("2008-02-14", NOW)
     with pytest.raises(git.YearRefused) as caught:

@@ -215,7 +215,14 @@ mod tests {
                 layout!(CSignature { name, mail, time }),
             ),
             ("gix_date_zone", layout!(CZone { kind, offset, held })),
-            ("git_date_exact", layout!(CExact { time, ignored })),
+            (
+                "git_date_exact",
+                layout!(CExact {
+                    time,
+                    ignored,
+                    has_offset
+                }),
+            ),
             (
                 "git_date_approximate",
                 layout!(CApproximate {

@@ -44,6 +44,8 @@ use crate::{bytes, Moment, Time};
 pub struct ReadDate {
     /// The time. Its offset has whole minutes.
     pub time: Time,
+    /// Whether the text names its offset itself, so that no zone was asked, as `+0200`, `Z` or `EST`. `-0001` names none, as in Git.
+    pub has_offset: bool,
     /// The place of the first word or number that no rule used, so that a program can say so.
     ///
     /// Not counted are marks, `ago`, `at`, `on`, `of`, `the`, `and`, the ending of a number as in `7th`, and one `T` between
@@ -85,9 +87,11 @@ pub enum Expiry {
 /// let now = Moment::at_offset(1251660000, 0);
 /// let date = parse_date("2008-02-14 20:30:45 EST", &now)?;
 /// assert_eq!((date.time, date.ignored), (Time::new(1203039045, -18000), None));
-/// // `IST` is no zone that Git knows.
+/// assert!(date.has_offset);
+/// // `IST` is no zone that Git knows, so the moment's is taken.
 /// let date = parse_date("2008-02-14 20:30:45 IST", &now)?;
 /// assert_eq!((date.time, date.ignored), (Time::new(1203021045, 0), Some(20)));
+/// assert!(!date.has_offset);
 /// // There is no clock.
 /// assert_eq!(parse_date("2008-02-14", &now), Err(DateError::Unreadable));
 /// # Ok::<(), DateError>(())

@@ -16,9 +16,22 @@ fn now() -> Moment {
     Moment::at_offset(1251660000, 0)
 }
 
+/// A date that names its own offset.
 fn exact(seconds: i64, offset: i32, ignored: Option<usize>) -> Result<ReadDate, DateError> {
-    let time = Time { seconds, offset };
-    Ok(ReadDate { time, ignored })
+    Ok(ReadDate {
+        time: Time { seconds, offset },
+        has_offset: true,
+        ignored,
+    })
+}
+
+/// A date at the offset of a zone.
+fn in_zone(seconds: i64, offset: i32, ignored: Option<usize>) -> Result<ReadDate, DateError> {
+    let date = exact(seconds, offset, ignored)?;
+    Ok(ReadDate {
+        has_offset: false,
+        ..date
+    })
 }
 
 fn approximate(seconds: i64, offset: i32, ignored: Option<usize>) -> Approximate {
@@ -36,7 +49,7 @@ fn exact_dates_are_read() {
             "Thu, 07 Apr 2005 22:13:13 +0200",
             exact(1112904793, 7200, None),
         ),
-        ("2008-02-14 20:30:45 IST", exact(1203021045, 0, Some(20))),
+        ("2008-02-14 20:30:45 IST", in_zone(1203021045, 0, Some(20))),
         ("2005-02-31 10:00 +0000", exact(1109844000, 0, None)),
         ("1234567890 +0530", exact(1234567890, 19800, None)),
         ("2008-02-14", Err(DateError::Unreadable)),
@@ -125,9 +138,9 @@ fn in_new_york(seconds: i64) -> [Moment; 2] {
 fn each_kind_of_zone_is_that_of_the_clock() {
     for now in in_new_york(1700000000) {
         let skipped = parse_date("2023-03-12 02:30", &now);
-        assert_eq!(skipped, exact(1678606200, -18000, None));
+        assert_eq!(skipped, in_zone(1678606200, -18000, None));
         let twice = parse_date("2023-11-05 01:30", &now);
-        assert_eq!(twice, exact(1699162200, -14400, None));
+        assert_eq!(twice, in_zone(1699162200, -14400, None));
         let july = approximate(1688227200, -14400, None);
         assert_eq!(approxidate("noon july 1", &now), Ok(july));
         let months = approximate(1692047600, -14400, None);
@@ -292,7 +305,7 @@ fn threads_share_nothing() {
         local: false,
     };
     let is_same = move || {
-        parse_date("2008-02-14 20:30:45 IST", &now()) == exact(1203021045, 0, Some(20))
+        parse_date("2008-02-14 20:30:45 IST", &now()) == in_zone(1203021045, 0, Some(20))
             && approxidate("5 mins ago", &now()) == Ok(approximate(1249500000, 0, Some(2)))
             && expiry_date("never", &now()) == Ok(Expiry::Never)
             && "human".parse() == Ok(mode)

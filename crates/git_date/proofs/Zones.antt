@@ -1,5 +1,5 @@
 -- How far a zone's clock is from UTC.
-use Rattle.std.proofs.Common.{◌≡◌, ◌∙◌, ℕ, ℤ, Bool, true, cond, Option, Some, Result, Ok, Err, sym, subst, pos, neg_ℤ, ◌-ℤ◌, ◌*ℤ◌, arith, ap, int_div}
+use Rattle.std.proofs.Common.{◌≡◌, ◌∙◌, ℤ, Bool, true, cond, Option, Some, Result, Ok, Err, sym, subst, pos, neg_ℤ, ◌-ℤ◌, ◌*ℤ◌, arith, ap, int_div}
 use Rattle.jiff.specs.Types.{TimeZone}
 use Rattle.jiff.specs.Words.{nanos_of_seconds, ambiguous_at, compatible_offset}
 use Rattle.jiff_core.proofs.SignedLemmas.{signed_arith, one_part}
@@ -13,6 +13,7 @@ use Rattle.git_date.specs.declared.date.ReadDate.{ReadDate}
 use Rattle.git_date.specs.declared.error.DateError.{DateError}
 use Rattle.git_date.specs.declared.error.DateError.TheVariants.{Range}
 use Rattle.std.specs.Int.Signed.{le_z}
+use Rattle.std.specs.Option.{is_some}
 
 -- an instant at an offset of a zone is less than two days from the clock
 near : (s o n : ℤ) → n ≡ nanos_of_seconds s -ℤ nanos_of_seconds o → IsBetween (neg_ℤ (pos 93_599)) (pos 93_599) o
@@ -30,16 +31,16 @@ local-near tz s r local =
 pub minutes-in : (s : ℤ) (r : Time) → IsBetween (neg_ℤ (pos 100_000)) (pos 100_000) (s -ℤ r.seconds) → IsMinutes (minutes_to r s)
 minutes-in s r h = (omega (arith, signed_arith, one_part (s -ℤ r.seconds)), omega (arith, signed_arith, one_part (s -ℤ r.seconds)))
 
-abbrev date_of : Time → Option ℕ → Result ReadDate DateError
-date_of t ignored = Ok (record { time = t; ignored = ignored })
+abbrev date_of : Said → Time → Result ReadDate DateError
+date_of said t = Ok (record { time = t; has_offset = is_some said.offset; ignored = said.ignored })
 
 -- a date that is not before 1970
 pub a-date : (said : Said) (m : ℤ) (t : Time) → le_z (pos 0) (instant_seconds said m) ≡ true
-    → t ≡ record { seconds = instant_seconds said m; offset = pos 60 *ℤ m } → Ok (record { time = t; ignored = said.ignored }) ≡ date_at said m
+    → t ≡ record { seconds = instant_seconds said m; offset = pos 60 *ℤ m } → date_of said t ≡ date_at said m
 unfolding date_at
 a-date said m t h e =
-    ap (λ (t : Time). date_of t said.ignored) e
-    ∙ ap (λ (b : Bool). cond b (date_of (record { seconds = instant_seconds said m; offset = pos 60 *ℤ m }) said.ignored) (Err Range)) (sym h)
+    ap (date_of said) e
+    ∙ ap (λ (b : Bool). cond b (date_of said (record { seconds = instant_seconds said m; offset = pos 60 *ℤ m })) (Err Range)) (sym h)
 
 -- an offset that is said leaves nothing to the zone
 pub moved : (tz other : TimeZone) (read : Result Said DateError) (minutes : ℤ) (result : Result ReadDate DateError) → said_offset read ≡ Some minutes

@@ -1,6 +1,7 @@
 -- What a text comes to in a zone.
 use Rattle.std.specs.Prelude.{◌≡◌, ◌<◌, ℕ, ℤ, List, length, IsCharBoundary, pos, neg_ℤ, ◌-ℤ◌, ◌*ℤ◌, true, if◌then◌else◌, Option, Some, None, IfSome, Result, Ok, Err, int_div}
 use Rattle.std.specs.Int.Signed.{le_z}
+use Rattle.std.specs.Option.{is_some}
 use Rattle.jiff.specs.Types.{TimeZone}
 use Rattle.jiff_core.specs.Calendar.{IsBetween}
 use Rattle.gix_date.specs.Careful.Dates.{IsLocalIfAny}
@@ -32,7 +33,11 @@ instant_seconds said minutes = if said.epoch then said.seconds else said.seconds
 unfoldable pub date_at : Said → ℤ → Result ReadDate DateError
 date_at said minutes =
     if le_z (pos 0) (instant_seconds said minutes)
-    then Ok (record { time = record { seconds = instant_seconds said minutes; offset = pos 60 *ℤ minutes }; ignored = said.ignored })
+    then Ok (record {
+      time = record { seconds = instant_seconds said minutes; offset = pos 60 *ℤ minutes };
+      has_offset = is_some said.offset;
+      ignored = said.ignored;
+    })
     else Err Range
 
 -- the whole minutes, toward zero, from the time at which the zone's clock shows these seconds to the seconds

@@ -1,5 +1,5 @@
 -- What printed times come to.
-use Rattle.std.specs.Prelude.{◌≡◌, ◌≤◌, ◌≤ℤ◌, pos, neg_ℤ, List, ℕ, None, Result, Ok}
+use Rattle.std.specs.Prelude.{◌≡◌, ◌≤◌, ◌≤ℤ◌, pos, neg_ℤ, true, List, ℕ, None, Result, Ok}
 use Rattle.jiff.specs.Types.{TimeZone}
 use Rattle.gix_date.specs.Fields.Layout.{LocalTime}
 use Rattle.gix_date.specs.Printing.LocalClocks.{clock_of}
@@ -25,7 +25,7 @@ pub record IsGitTime (t : Time) : Type 0 where
 abbrev pub IsReadBack : Now → Time → (LocalTime → List ℕ) → Type 0
 IsReadBack now t text =
     (tz : TimeZone) (result : Result ReadDate DateError) → DateOutcome tz (said_by now (text (clock_of t))) result
-    → result ≡ Ok (record { time = t; ignored = None })
+    → result ≡ Ok (record { time = t; has_offset = true; ignored = None })
 
 -- the time is read back from each of the six named formats that have a clock
 pub record AreReadBack (now : Now) (t : Time) : Type 0 where

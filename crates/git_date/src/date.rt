@@ -18,6 +18,8 @@ use jiff::tz::TimeZone;
 pub struct ReadDate {
     /// The time: seconds since 1970-01-01 00:00:00 UTC, and the offset in seconds east of UTC, of whole minutes.
     pub time: Time,
+    /// Whether the text names its offset itself, so that no zone was asked, as `+0200`, `Z` or `EST`. `-0001` names none, as in Git.
+    pub has_offset: bool,
     /// The place, in bytes, of the first word, number or sign of an offset that no rule used, so that a program can say so.
     ///
     /// Not counted are other marks, the ending of a number as in `7th`, one `T` between digits, and, if no digit follows
@@ -89,6 +91,7 @@ fn date_at(said: Said, minutes: i64) -> Result<ReadDate, DateError>
     if 0 <= seconds {
         Ok(ReadDate {
             time: Time::new(seconds, (60 * minutes) as i32),
+            has_offset: said.offset.is_some(),
             ignored: said.ignored,
         })
     } else {

@@ -170,12 +170,12 @@ module _ (t : Time) (h : IsGitTime t) (z : PlainZoned) (shows : Shows z t) where
   seconds-back : instant_seconds (said_of (local_time z)) (offset_in_minutes (local_time z)) ≡ t.seconds
   seconds-back = let is = counted in let minutes = back in omega (arith, signed_arith, is, minutes)
 
-  time-back : date_at (said_of (local_time z)) (offset_in_minutes (local_time z)) ≡ Ok (record { time = t; ignored = None })
+  time-back : date_at (said_of (local_time z)) (offset_in_minutes (local_time z)) ≡ Ok (record { time = t; has_offset = true; ignored = None })
   unfolding date_at
   time-back =
-      ap (λ (s : ℤ). cond (le_z (pos 0) s) (Ok (record { time = record { seconds = s; offset = pos 60 *ℤ offset_in_minutes (local_time z) }; ignored = None })) (Err error.Range)) seconds-back
-      ∙ ap (λ (o : ℤ). cond (le_z (pos 0) t.seconds) (Ok (record { time = record { seconds = t.seconds; offset = o }; ignored = None })) (Err error.Range)) back
-      ∙ ap (λ (b : Bool). cond b (Ok (record { time = t; ignored = None })) (Err error.Range)) (z_holds (pos 0) t.seconds h.since_1970)
+      ap (λ (s : ℤ). cond (le_z (pos 0) s) (Ok (record { time = record { seconds = s; offset = pos 60 *ℤ offset_in_minutes (local_time z) }; has_offset = true; ignored = None })) (Err error.Range)) seconds-back
+      ∙ ap (λ (o : ℤ). cond (le_z (pos 0) t.seconds) (Ok (record { time = record { seconds = t.seconds; offset = o }; has_offset = true; ignored = None })) (Err error.Range)) back
+      ∙ ap (λ (b : Bool). cond b (Ok (record { time = t; has_offset = true; ignored = None })) (Err error.Range)) (z_holds (pos 0) t.seconds h.since_1970)
 
   back-by : (now : Now) (text : LocalTime → List ℕ) → ((l : LocalTime) → IsGitClock l → said_by now (text l) ≡ fields_said (text l) (Ok (at (fields_of l)))) → IsReadBack now t text
   back-by now text reads tz result outcome =

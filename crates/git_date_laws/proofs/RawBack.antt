@@ -105,10 +105,10 @@ raw-said now n a b behind h f g e =
     ap (λ (o : Option (ℕ × ℤ)). at_or_fields now text o) found ∙ said-is n (minutes_of behind a b) e
 
 date-is : (n : ℕ) (minutes offset : ℤ) → pos 60 *ℤ minutes ≡ offset
-    → date_at (said_at n minutes) minutes ≡ Ok (record { time = record { seconds = pos n; offset = offset }; ignored = None })
+    → date_at (said_at n minutes) minutes ≡ Ok (record { time = record { seconds = pos n; offset = offset }; has_offset = true; ignored = None })
 unfolding date_at
 date-is n minutes offset e =
-    let date : ℤ → ReadDate = λ o. record { time = record { seconds = pos n; offset = o }; ignored = None } in
+    let date : ℤ → ReadDate = λ o. record { time = record { seconds = pos n; offset = o }; has_offset = true; ignored = None } in
     ap (λ (b : Bool). cond b (Ok (date (pos 60 *ℤ minutes))) (Err Range)) (z_holds (pos 0) (pos n) (omega (arith, signed_arith)))
     ∙ ap (λ (o : ℤ). Ok (date o)) e
 
@@ -137,7 +137,7 @@ raw-parts now t text e =
 by-seconds : (tz : TimeZone) (this : Now) (s o : ℤ) (behind : Bool) (result : Result ReadDate DateError) → lt_z s (pos 0) ≡ false → is_written_offset o ≡ true
     → is_instant s ≡ true → int_lt o (pos 0) ≡ behind
     → DateOutcome tz (said_by this (at_sign ∷ written_text (record { seconds = s; offset = o }))) result
-    → result ≡ Ok (record { time = record { seconds = s; offset = o }; ignored = None })
+    → result ≡ Ok (record { time = record { seconds = s; offset = o }; has_offset = true; ignored = None })
 by-seconds tz this (negsuc n) o behind result past written instant e h = absurd cc
 by-seconds tz this (pos n) o behind result past written instant e h =
     let within = instant_holds (pos n) instant in
@@ -152,7 +152,7 @@ by-seconds tz this (pos n) o behind result past written instant e h =
     is ∙ date-is n (minutes_of behind a b) o (offset-back behind o e whole)
 
 pub raw-back : (tz : TimeZone) (this : Now) (now : Moment) (t : Time) (text : List ℕ) (result : Result ReadDate DateError) → is_instant t.seconds ≡ true
-    → shown now (own Raw) t ≡ Some text → DateOutcome tz (said_by this (at_sign ∷ text)) result → result ≡ Ok (record { time = t; ignored = None })
+    → shown now (own Raw) t ≡ Some text → DateOutcome tz (said_by this (at_sign ∷ text)) result → result ≡ Ok (record { time = t; has_offset = true; ignored = None })
 raw-back tz this now t text result instant e h =
     let parts = raw-parts now t text e in
     by-seconds tz this t.seconds t.offset _ result parts.0 parts.1 instant refl

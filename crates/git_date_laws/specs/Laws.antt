@@ -39,6 +39,12 @@ IgnoresZone moment text =
     → said_offset (said_by (now_of moment) text) ≡ Some minutes
     → DateOutcome tz (said_by (now_of moment) text) result ↔ DateOutcome other (said_by (now_of moment) text) result
 
+-- a date that has its own offset is read so in every zone
+abbrev pub IsOfEveryZone : Zoned → List ℕ → Type 0
+IsOfEveryZone moment text =
+    (tz other : TimeZone) (date : ReadDate) → date.has_offset ≡ true
+    → DateOutcome tz (said_by (now_of moment) text) (Ok date) → DateOutcome other (said_by (now_of moment) text) (Ok date)
+
 -- a text says the same in any letter case
 abbrev pub IgnoresCase : Zoned → List ℕ → Type 0
 IgnoresCase moment text =
@@ -67,4 +73,4 @@ ReadsBack moment t = IsGitTime t → AreReadBack (now_of moment) t
 abbrev pub ReadsRawBack : Zoned → Time → Type 0
 ReadsRawBack moment t =
     (now : Moment) (text : List ℕ) (result : Result ReadDate DateError) → is_instant t.seconds ≡ true → shown now (own Raw) t ≡ Some text
-    → DateOutcome (zone_of moment) (said_by (now_of moment) (at_sign ∷ text)) result → result ≡ Ok (record { time = t; ignored = None })
+    → DateOutcome (zone_of moment) (said_by (now_of moment) (at_sign ∷ text)) result → result ≡ Ok (record { time = t; has_offset = true; ignored = None })

@@ -3,7 +3,7 @@
 
 ghost use Rattle.std.specs.Prelude.{◌≡◌};
 ghost use Rattle.git_date.specs.Tokens.{tokens as tokens_of, texts};
-ghost use Rattle.git_date_laws.specs.Laws.{AreApart, IgnoresZone, IgnoresCase, IgnoresLines, IgnoresInstant, IsWithoutDayMonth, ReadsBack, ReadsRawBack};
+ghost use Rattle.git_date_laws.specs.Laws.{AreApart, IgnoresZone, IsOfEveryZone, IgnoresCase, IgnoresLines, IgnoresInstant, IsWithoutDayMonth, ReadsBack, ReadsRawBack};
 
 mod approximate;
 mod shown;
@@ -22,10 +22,11 @@ pub fn tokens(text: &str)
     ensures apart { AreApart (tokens_of text.now) }
 {}
 
-/// A date that says its offset has the same answer in every zone.
-#[tactic(auto, using(crate::proofs::Zones::zones))]
+/// A date that says its offset has the same answer in every zone. [`git_date::ReadDate::has_offset`] tells of such a date.
+#[tactic(auto, using(crate::proofs::Zones::zones, crate::proofs::Zones::every_zone))]
 pub fn written_offset(text: &str, now: &Zoned<'_>)
-    ensures { IgnoresZone now.now text.now }
+    ensures said { IgnoresZone now.now text.now }
+    ensures told { IsOfEveryZone now.now text.now }
 {}
 
 /// A text has the same answer in any letter case.

@@ -1,7 +1,6 @@
 -- Git's dates, as they are read for C.
-use Rattle.std.specs.Prelude.{◌≡◌, ℕ, ◌^◌, ◌-◌, if◌then◌else◌, Bool, List, Option, unwrap_or, Result, ℤ}
+use Rattle.std.specs.Prelude.{◌≡◌, ℕ, ◌^◌, ◌-◌, if◌then◌else◌, Bool, List, Option, unwrap_or, Result}
 use Rattle.std.specs.Result.{result_map_both}
-use Rattle.jiff.specs.Types.{TimeZone}
 use Rattle.jiff.specs.declared.zoned.Zoned.{Zoned}
 use Rattle.git_date.specs.Approximate.{ApproximateOutcome, HasApproximatePlacesIn}
 use Rattle.git_date.specs.ApproximateExpiry.{ExpiryOutcome, HasExpiryPlacesIn}
@@ -40,7 +39,12 @@ abbrev pub bool_for_c : Bool → ℕ
 bool_for_c b = if b then 1 else 0
 
 abbrev pub exact_of : ReadDate → CExact
-exact_of date = record { time = time_for_c date.time; ignored = ignored_place date.ignored }
+exact_of date =
+    record {
+      time = time_for_c date.time;
+      ignored = ignored_place date.ignored;
+      has_offset = bool_for_c date.has_offset;
+    }
 
 abbrev pub approximate_of : Approximate → CApproximate
 approximate_of date =

@@ -6,7 +6,7 @@ use crate::zone::CZone;
 /// After `gix_date_zone_read` of an offset, a file or a rule each call has the moments of the zone that this text names: its answer
 /// is that of the library in this zone.
 #[tactic(auto, using(crate::proofs::Named::moments, crate::proofs::Named::places))]
-pub fn read_zone(text: &[u8], zone: &CZone)
+fn read_zone(text: &[u8], zone: &CZone)
     ensures moments { HasMomentsOf text.now zone.now }
     ensures places { HasPlacesOf text.now zone.now }
 {}

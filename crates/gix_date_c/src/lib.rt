@@ -10,7 +10,7 @@ mod buffer;
 mod careful;
 mod git;
 mod header;
-pub mod laws;
+mod laws;
 mod moment;
 mod parse;
 mod print;

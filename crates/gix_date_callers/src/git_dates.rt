@@ -52,6 +52,7 @@ fn each_refusal_says_what_is_wrong(rt: HostRuntime) -> Result<(), Fail> {
 fn dates_and_refusals_have_the_traits_that_callers_count_on(rt: HostRuntime) -> Result<(), Fail> {
     let date = ReadDate {
         time: Time::new(1_112_904_793, 7200),
+        has_offset: true,
         ignored: None,
     };
     let copied = date;
@@ -67,7 +68,7 @@ fn dates_and_refusals_have_the_traits_that_callers_count_on(rt: HostRuntime) -> 
     );
     assert_eq!(rt;
         format!(in rt.alloc(); "{date:?}")?.as_str(),
-        "ReadDate { time: Time { seconds: 1112904793, offset: 7200 }, ignored: None }"
+        "ReadDate { time: Time { seconds: 1112904793, offset: 7200 }, has_offset: true, ignored: None }"
     );
     let refusal = DateError::YearRefused(4);
     let kept = refusal;

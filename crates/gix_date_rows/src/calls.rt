@@ -2,7 +2,9 @@
 use crate::answer::{Answer, name_of};
 use crate::approximate::{expires, guessed, passed_over};
 use crate::arguments::Arguments;
-use crate::moments::{ignored_place, parsed, parsed_carefully, read_date, shown_date, zone_of};
+use crate::moments::{
+    ignored_place, names_offset, parsed, parsed_carefully, read_date, shown_date, zone_of,
+};
 use git_date::DateMode;
 use gix_date::device::Device;
 use gix_date::parsing::TimeBuf;
@@ -45,6 +47,10 @@ pub(crate) fn answer_to(
         "ignored" => {
             let moment = row.text()?;
             ignored_place(zones, moment, row.bytes()?)
+        }
+        "has_offset" => {
+            let moment = row.text()?;
+            names_offset(zones, moment, row.bytes()?)
         }
         "approxidate" => {
             let moment = row.text()?;

@@ -67,6 +67,14 @@ pub(crate) fn ignored_place(zones: &TimeZoneDatabase, moment: &str, text: &[u8])
     })
 }
 
+/// Whether such a date names its own offset.
+pub(crate) fn names_offset(zones: &TimeZoneDatabase, moment: &str, text: &[u8]) -> Option<Answer> {
+    Some(match dated(zones, moment, text)? {
+        Ok(date) => Answer::Word(if date.has_offset { "yes" } else { "no" }),
+        Err(refusal) => refusal,
+    })
+}
+
 fn dated(zones: &TimeZoneDatabase, moment: &str, text: &[u8]) -> Option<Result<ReadDate, Answer>> {
     match moment_of(zones, moment)? {
         Ok(now) => Some(parse_date(text, now?).map_err(Answer::from)),

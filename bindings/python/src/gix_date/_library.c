@@ -515,14 +515,14 @@ static PyObject *parse_date(PyObject *module, PyObject *arguments)
 {
     struct text text = {0};
     struct moment moment = no_moment(module);
-    git_date_exact date = {{0, 0}, GIT_DATE_NOTHING};
+    git_date_exact date = {{0, 0}, GIT_DATE_NOTHING, false};
     size_t place = GIT_DATE_NOTHING;
     if (!PyArg_ParseTuple(arguments, "O&O&", read_text, &text, read_moment, &moment))
         return NULL;
     uint32_t status = read_exact_at(&moment, &text, &date, &place);
     drop_text(&text);
-    return answer(status, "(ILinn)", status, (long long)date.time.seconds, (int)date.time.offset, place_or_none(date.ignored),
-                  place_or_none(place));
+    return answer(status, "(ILinin)", status, (long long)date.time.seconds, (int)date.time.offset, place_or_none(date.ignored),
+                  (int)date.has_offset, place_or_none(place));
 }
 
 static uint32_t read_approximate_at(struct moment *m, const struct text *text, git_date_approximate *date, size_t *place)

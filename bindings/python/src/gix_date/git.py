@@ -70,10 +70,12 @@ class ReadDate:
     """What `parse_date` reads.
 
     - time: its offset has whole minutes
+    - has_offset: whether the text names its offset itself, so that no zone was asked, as `+0200`, `Z` or `EST`
     - ignored: the index into the text of the first word or number that no rule used, or None
     """
 
     time: Time
+    has_offset: bool
     ignored: Optional[int]
 
 
@@ -160,10 +162,10 @@ def parse_date(text: Text, now: Now) -> ReadDate:
 
     Refuses by `Unreadable`, `NumberTooLarge`, `YearRefused` and `Range`.
     """
-    status, seconds, offset, ignored, place = _library.parse_date(text, given(now))
+    status, seconds, offset, ignored, has_offset, place = _library.parse_date(text, given(now))
     if status:
         raise refusal(status, text, place, _GIT_REFUSALS)
-    return ReadDate(time_of(seconds, offset), index_of(text, ignored))
+    return ReadDate(time_of(seconds, offset), bool(has_offset), index_of(text, ignored))
 
 
 def approxidate(text: Text, now: Now) -> Approximate:

@@ -52,6 +52,7 @@ impl From<CExact> for ReadDate {
     fn from(date: CExact) -> ReadDate {
         ReadDate {
             time: date.time,
+            has_offset: date.has_offset,
             ignored: place_of(date.ignored),
         }
     }

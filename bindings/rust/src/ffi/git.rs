@@ -8,6 +8,7 @@ use crate::{Instant, Time};
 pub struct CExact {
     pub time: Time,
     pub ignored: usize,
+    pub has_offset: bool,
 }
 
 #[repr(C)]

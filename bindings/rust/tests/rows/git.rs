@@ -12,6 +12,7 @@ pub fn answer(call: &str, row: &mut &[String]) -> Option<Answer> {
     match call {
         "parse_date" => told(exact(row)?, |date| shown(date.time)),
         "ignored" => told(exact(row)?, |date| place(date.ignored)),
+        "has_offset" => told(exact(row)?, |date| yes_or_no(date.has_offset)),
         "approxidate" => told(guessed(row)?, guess_shown),
         "approximate_ignored" => told(guessed(row)?, |date| place(date.ignored)),
         "expiry_date" => told(expires(row)?, expiry_shown),
@@ -140,6 +141,10 @@ fn shown(time: Time) -> String {
 
 fn place(ignored: Option<usize>) -> String {
     ignored.map_or("none".to_string(), |place| place.to_string())
+}
+
+fn yes_or_no(holds: bool) -> String {
+    if holds { "yes" } else { "no" }.to_string()
 }
 
 /// A shown date, which says the same in each way to take it.

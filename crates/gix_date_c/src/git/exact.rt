@@ -20,12 +20,13 @@ use jiff::Timestamp;
 use jiff::tz::TimeZone;
 use std::alloc::Global;
 
-/// A date that is read exactly: `struct git_date_exact`.
+/// A date that is read exactly: `struct git_date_exact`. Its last field is a `bool` of C.
 #[repr(C)]
 #[derive(Clone, Copy)]
 pub struct CExact {
     pub time: CTime,
     pub ignored: usize,
+    pub has_offset: u8,
 }
 
 /// Reads a date as Git does, at a moment in a zone that C holds.
@@ -72,5 +73,6 @@ fn exact_of(date: ReadDate) -> CExact
     CExact {
         time: time_for_c(date.time),
         ignored: ignored_place(date.ignored),
+        has_offset: u8::from(date.has_offset),
     }
 }

@@ -1,4 +1,4 @@
-use Rattle.std.proofs.Common.{◌≡◌, pos, ◌*ℤ◌, true, FitsSigned, w64, w32, rules, arith}
+use Rattle.std.proofs.Common.{◌≡◌, ◌∙◌, ap, Bool, Ok, pos, ◌*ℤ◌, true, FitsSigned, w64, w32, rules, arith}
 use Rattle.std.proofs.lemmas.Int.{to_z-of_z}
 use Rattle.std.specs.Int.Signed.{le_z}
 use Rattle.jiff_core.proofs.SignedLemmas.{signed_arith}
@@ -17,4 +17,5 @@ returns-then-seconds-ge0 c =
     let is : s ≡ instant_seconds c.args.said m = simp to_z-of_z at c.instant_seconds-seconds.ensures in
     let h : le_z (pos 0) s ≡ true = simp to_z-of_z at c.if-seconds-ge0.true in
     let made = simp to_z-of_z at c.new.ensures in
-    a-date c.args.said m c.new.result (rw is at h) (rw is at made)
+    ap (λ (has : Bool). Ok (record { time = c.new.result; has_offset = has; ignored = c.args.said.ignored })) c.is_some.ensures
+    ∙ a-date c.args.said m c.new.result (rw is at h) (rw is at made)
