@@ -65,8 +65,8 @@ static inline const char *git_date_status_text(uint32_t status)
 /* A date that is read exactly. */
 typedef struct git_date_exact {
     gix_date_time time;
-    size_t ignored;  /* the place of the first unused word or number, or GIT_DATE_NOTHING */
-    bool has_offset; /* the text names its offset, as "+0200", "Z" or "EST": no zone was asked */
+    size_t ignored;  /* the place of the first unused word, number or sign, or GIT_DATE_NOTHING */
+    bool has_offset; /* the text names its offset, as "+0200" or "EST": each zone gives this date */
 } git_date_exact;
 
 /* A date that is read as people write it. */

@@ -5,7 +5,7 @@
  * pages are installed in share/doc/gix_date, with an example that finds the machine's zone, now.c.
  *
  * A text is UTF-8, given by a pointer and a length, and needs no NUL. Other bytes are refused by
- * GIX_DATE_NOT_TEXT or false. With length 0 any pointer is valid; no other pointer is NULL. Outputs
+ * GIX_DATE_NOT_TEXT or false, but for TZif files and the dates of git_date.h. With length 0 any pointer is valid; no other pointer is NULL. Outputs
  * overlap no other argument.
  *
  * A call that writes a text puts it at the front of a buffer, without a NUL, and its length into

@@ -184,6 +184,9 @@ static bool read_row(enum reader reader, enum asked asked, arguments *row, answe
     if (is_no_zone(read_zone(name, &zone), told))
         return true;
     read_in(reader, asked, text, &now, &zone, told);
+    /* A call leaves the zone the same. */
+    read_in(reader, asked, text, &now, &zone, &other);
+    agree(told, &other);
     in_other_words(name, &zone);
     read_in(reader, asked, text, &now, &zone, &other);
     agree(told, &other);
@@ -206,6 +209,8 @@ static bool show_row(arguments *row, answer *told)
     if (is_no_zone(read_zone(zone_name, &zone), told))
         return true;
     show_in(time, mode, &now, &zone, told);
+    show_in(time, mode, &now, &zone, &other);
+    agree(told, &other);
     in_other_words(zone_name, &zone);
     show_in(time, mode, &now, &zone, &other);
     agree(told, &other);

@@ -307,14 +307,19 @@ static bool is_new_york(gix_date_zone *zone)
            before.offset == zone->offset;
 }
 
-/* Whether a zone always has this offset, and holds nothing. */
-static bool is_at(gix_date_zone *zone, int32_t offset)
+/* Whether a zone has this offset now. */
+static bool shows(gix_date_zone *zone, int32_t offset)
 {
     static const gix_date_instant now = {1698400800, 0};
     gix_date_time time = untouched;
-    return !zone->held && zone->offset == offset &&
-           gix_date_parse_at(TEXT("now"), 0, &now, zone, &time) == GIX_DATE_OK &&
+    return gix_date_parse_at(TEXT("now"), 0, &now, zone, &time) == GIX_DATE_OK &&
            is_time(time, 1698400800, offset);
+}
+
+/* Whether a zone always has this offset, and holds nothing. */
+static bool is_at(gix_date_zone *zone, int32_t offset)
+{
+    return !zone->held && zone->offset == offset && shows(zone, offset);
 }
 
 /* Zones that are read, each in the place of the one before, which is freed. */
@@ -341,6 +346,8 @@ static void zones_are_read(void)
     EXPECT(gix_date_zone_read(BYTES(zone_file), &zone) == GIX_DATE_OK, "a file");
     expect_demand(before, of_file, "a file");
     EXPECT(is_new_york(&zone) && is_new_york(&zone), "a zone serves many calls");
+    EXPECT(gix_date_zone_read(TEXT("TZA-3"), &zone) == GIX_DATE_OK && shows(&zone, 10800),
+           "a rule that begins as a file does, but for two letters");
     gix_date_zone_free(&zone);
     EXPECT(is_at(&zone, 0), "UTC, once freed");
     gix_date_zone_free(&zone);
@@ -351,7 +358,8 @@ static void zones_are_read(void)
 static void refused_zones(void)
 {
     static const char *const texts[] = {"",      "banana", "TZif", "TZif5",  "UTC",        "+2600",
-                                        "+0260", "0200",   "+2",   "+02000", "CET-1CEST,J", "+02:0"};
+                                        "+0260", "0200",   "+2",   "+02000", "CET-1CEST,J", "+02:0",
+                                        "+02.30", "+02x30"};
     gix_date_zone zone = zone_of(TEXT(new_york));
     const gix_date_zone before = zone;
     for (size_t i = 0; i < sizeof texts / sizeof *texts; i++)

@@ -44,9 +44,10 @@ use crate::{bytes, Moment, Time};
 pub struct ReadDate {
     /// The time. Its offset has whole minutes.
     pub time: Time,
-    /// Whether the text names its offset itself, so that no zone was asked, as `+0200`, `Z` or `EST`. `-0001` names none, as in Git.
+    /// Whether the text names its offset, as `+0200`, `Z` or `EST`, so that each zone gives the same date. As in Git, `-0001` names
+    /// none, but after `@` it does.
     pub has_offset: bool,
-    /// The place of the first word or number that no rule used, so that a program can say so.
+    /// The place of the first word, number or sign of an offset that no rule used, so that a program can say so.
     ///
     /// Not counted are marks, `ago`, `at`, `on`, `of`, `the`, `and`, the ending of a number as in `7th`, and one `T` between
     /// digits. A day of the week is used, though it is not compared.
@@ -60,7 +61,7 @@ pub struct Approximate {
     pub time: Time,
     /// Whether anything was understood, by Git's own count. If not, the time is the moment, or near it.
     pub understood: bool,
-    /// The place of the first word or number that no rule used, as in [`ReadDate::ignored`].
+    /// The place of the first word, number or sign of an offset that no rule used, as in [`ReadDate::ignored`].
     pub ignored: Option<usize>,
 }
 

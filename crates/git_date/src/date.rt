@@ -18,7 +18,8 @@ use jiff::tz::TimeZone;
 pub struct ReadDate {
     /// The time: seconds since 1970-01-01 00:00:00 UTC, and the offset in seconds east of UTC, of whole minutes.
     pub time: Time,
-    /// Whether the text names its offset itself, so that no zone was asked, as `+0200`, `Z` or `EST`. `-0001` names none, as in Git.
+    /// Whether the text names its offset, as `+0200`, `Z` or `EST`, so that each zone gives the same date. As in Git, `-0001` names
+    /// none, but after `@` it does.
     pub has_offset: bool,
     /// The place, in bytes, of the first word, number or sign of an offset that no rule used, so that a program can say so.
     ///

@@ -5,24 +5,24 @@ ghost use Rattle.git_date_laws.specs.RelativeLaws.{IsReadNear, IsReadAsNow};
 use gix_date::{CarefulOptions, Time, Zoned};
 
 /// Where [`git_date::parse_date`] reads a text, [`git_date::approxidate`] has its answer, and understands.
-pub fn exact_answer(text: &str, now: &Zoned<'_>)
+pub fn exact_answer(text: &[u8], now: &Zoned<'_>)
     ensures { HasExactAnswer now.now text.now }
 {}
 
 /// In a zone of one offset [`git_date::approxidate`] has one answer: the guess of a definition that asks no zone.
-pub fn one_answer(text: &str, now: &Zoned<'_>)
+pub fn one_answer(text: &[u8], now: &Zoned<'_>)
     ensures { HasOneAnswer now.now text.now }
 {}
 
 /// In a zone of one offset `n UNIT ago`, of seconds to weeks, is exactly that many seconds before now, and nothing is ignored.
 /// The count is 1 or more, below 100000000 and not of eight digits: [`git_date::parse_date`] takes larger numbers for seconds
 /// since 1970, and eight digits for a date. It has no leading 0 in three digits or more, which Git ignores.
-pub fn exactly_back(text: &str, now: &Zoned<'_>)
+pub fn exactly_back(text: &[u8], now: &Zoned<'_>)
     ensures { IsExactlyBack now.now text.now }
 {}
 
 /// Letter case changes no answer of [`git_date::approxidate`].
-pub fn approximate_letter_case(text: &str, now: &Zoned<'_>)
+pub fn approximate_letter_case(text: &[u8], now: &Zoned<'_>)
     ensures { HasAnswerInAnyCase now.now text.now }
 {}
 
@@ -38,24 +38,24 @@ pub fn relative_read_near(time: Time, now: &Zoned<'_>)
 /// Of a text that [`git_date::parse_date`] does not read, [`git_date::approxidate`] hears the letters and digits alone, and the
 /// marks `:`, `.`, `/` and `-` directly between digits. Others change neither the time, nor whether anything was understood, nor
 /// the refusal; but letters directly before digits are no word. (What is ignored can differ: `7 th` ignores what `7th` does not.)
-pub fn marks(text: &str, now: &Zoned<'_>)
+pub fn marks(text: &[u8], now: &Zoned<'_>)
     ensures { IgnoresMarks now.now text.now }
 {}
 
 /// Where nothing is ignored of a text that [`git_date::parse_date`] does not read, each word is one that
 /// [`git_date::approxidate`] knows, a filler, the ending of a number, or a `T` between digits.
-pub fn no_word_ignored(text: &str, now: &Zoned<'_>)
+pub fn no_word_ignored(text: &[u8], now: &Zoned<'_>)
     ensures { IgnoresNoWord now.now text.now }
 {}
 
 /// In a zone of one offset [`gix_date::parse_carefully`] and [`git_date::approxidate`] answer the same time to `n UNIT ago` of
 /// seconds to weeks, where both read that pair, and nothing is ignored.
-pub fn careful_agrees(text: &str, options: CarefulOptions, now: &Zoned<'_>)
+pub fn careful_agrees(text: &[u8], options: CarefulOptions, now: &Zoned<'_>)
     ensures { AgreesWithCareful options now.now text.now }
 {}
 
 /// So they do to `n months ago` and `n years ago`, where both read that pair and answer, at a moment since 1970: both keep the
 /// day of the month, and go on into the next month past its end.
-pub fn months_agree(text: &str, options: CarefulOptions, now: &Zoned<'_>)
+pub fn months_agree(text: &[u8], options: CarefulOptions, now: &Zoned<'_>)
     ensures { AgreesOnMonths options now.now text.now }
 {}

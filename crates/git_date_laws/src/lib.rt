@@ -17,35 +17,35 @@ pub use shown::{ages_grow, human_by_distance, mode_named_back, no_single_unit, s
 
 /// The texts of the tokens are the text, and no two neighbours are both letters or both digits.
 #[tactic(auto, using(git_date::proofs::TokenRuns::texts_are, crate::proofs::Apart::apart))]
-pub fn tokens(text: &str)
+pub fn tokens(text: &[u8])
     ensures texts { texts (tokens_of text.now) ≡ text.now }
     ensures apart { AreApart (tokens_of text.now) }
 {}
 
 /// A date that says its offset has the same answer in every zone. [`git_date::ReadDate::has_offset`] tells of such a date.
 #[tactic(auto, using(crate::proofs::Zones::zones, crate::proofs::Zones::every_zone))]
-pub fn written_offset(text: &str, now: &Zoned<'_>)
+pub fn written_offset(text: &[u8], now: &Zoned<'_>)
     ensures said { IgnoresZone now.now text.now }
     ensures told { IsOfEveryZone now.now text.now }
 {}
 
 /// A text has the same answer in any letter case.
 #[tactic(auto, using(crate::proofs::Texts::any_case))]
-pub fn letter_case(text: &str, now: &Zoned<'_>)
+pub fn letter_case(text: &[u8], now: &Zoned<'_>)
     ensures { IgnoresCase now.now text.now }
 {}
 
 /// What follows a line feed changes no answer, unless an offset goes on there: after `@`, seconds, a space and a sign, or after
 /// a sign, two digits and a colon.
 #[tactic(auto, using(crate::proofs::Texts::any_lines))]
-pub fn later_lines(text: &str, now: &Zoned<'_>)
+pub fn later_lines(text: &[u8], now: &Zoned<'_>)
     ensures { IgnoresLines now.now text.now }
 {}
 
 /// A text in which the reader comes to no date with dots, slashes or dashes but those that begin with their year has the same
 /// answer at every instant. So has one in which no number up to 70 stands directly before a dot, a slash or a dash and digits.
 #[tactic(auto, using(crate::proofs::Moments::any_instant, crate::proofs::Moments::without_days))]
-pub fn instants(text: &str, now: &Zoned<'_>)
+pub fn instants(text: &[u8], now: &Zoned<'_>)
     ensures met { IgnoresInstant now.now text.now }
     ensures begun { IsWithoutDayMonth now.now text.now }
 {}

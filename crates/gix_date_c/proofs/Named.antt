@@ -3,10 +3,11 @@ use Rattle.std.specs.Prelude.{◌≡◌, Bool, true, false, List, ℕ, Option, S
 use Rattle.std.proofs.Common.{◌∙◌, sym, subst, ap, inl, inr}
 use Rattle.jiff.specs.Types.{TimeZone}
 use Rattle.jiff.specs.Placed.{IsPosixZone}
+use Rattle.jiff.specs.Words.{plain_zone}
 use Rattle.git_date.specs.ZoneTexts.{zone_offset}
 use Rattle.gix_date_c.specs.Moments.{IsOffsetZone}
-use Rattle.gix_date_c.specs.Zones.{IsHeld, IsHeldNamed, IsKept, IsNamed, IsRead, IsTaken, IsZone, IsZoneOf, Reads, is_file}
-use Rattle.gix_date_c.specs.Laws.{HasMomentsOf, HasPlacesOf}
+use Rattle.gix_date_c.specs.Zones.{IsCopy, IsCopyOf, IsHeld, IsHeldNamed, IsHeldZone, IsKept, IsNamed, IsRead, IsTaken, IsZone, IsZoneOf, Reads, is_file}
+use Rattle.gix_date_c.specs.Laws.{AreCopiesNamed, HasMomentsOf, HasPlacesOf, StaysNamed}
 use Rattle.gix_date_c.specs.Statuses.{number_of}
 use Rattle.gix_date_c.specs.declared.status.Status.{Status}
 use Rattle.gix_date_c.specs.declared.status.Status.TheVariants.{Done}
@@ -45,3 +46,25 @@ moments text zone instant now names at = (at.0, names at.0 at.1, at.2)
 
 pub places : (text : List ℕ) (zone : CZone) → HasPlacesOf text zone
 places text zone instant place names at = (at.0, names at.0 at.1, at.2)
+
+copied-held : (from copy : Held) (z : TimeZone) → IsCopy from copy → IsHeldZone copy z → IsHeldZone from z
+copied-held (Rule held) (Rule copy) z is at = at ∙ ap plain_zone is
+copied-held (Rows held) (Rows copy) z is at = (at.0, at.1 ∙ is, at.2)
+copied-held (Rule held) (Rows copy) z is at = absurd is
+copied-held (Rows held) (Rule copy) z is at = absurd is
+
+copied-zone : (offset : ℤ) (from copy : Option Held) (z : Result TimeZone Status) → IsCopyOf from copy → IsZoneOf offset copy z → IsZoneOf offset from z
+copied-zone offset None None z is at = at
+copied-zone offset (Some held) (Some copy) (Ok z) is at = copied-held held copy z is at
+copied-zone offset (Some held) (Some copy) (Err status) is at = at
+copied-zone offset None (Some copy) z is at = absurd is
+copied-zone offset (Some held) None z is at = absurd is
+
+pub copies : (text : List ℕ) (from : CZone) → AreCopiesNamed text from
+copies text from old new names (inl copied) z at =
+    names z (copied-zone from.offset from.handle.held new.handle.held z copied.1 (subst (λ (o : ℤ). IsZoneOf o new.handle.held z) copied.0 at))
+copies text from old new names (inr refused) z at = absurd cc
+
+pub stays : (text : List ℕ) (old : CZone) → StaysNamed text old
+stays text old new names same z at =
+    names z (subst (λ (held : Option Held). IsZoneOf old.offset held z) same.1 (subst (λ (o : ℤ). IsZoneOf o new.handle.held z) same.0 at))

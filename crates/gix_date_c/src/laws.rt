@@ -1,5 +1,5 @@
 //! Laws of the calls for C: each is the contract of a function that does nothing.
-ghost use Rattle.gix_date_c.specs.Laws.{HasMomentsOf, HasPlacesOf};
+ghost use Rattle.gix_date_c.specs.Laws.{AreCopiesNamed, HasMomentsOf, HasPlacesOf, StaysNamed};
 
 use crate::zone::CZone;
 
@@ -9,4 +9,11 @@ use crate::zone::CZone;
 fn read_zone(text: &[u8], zone: &CZone)
     ensures moments { HasMomentsOf text.now zone.now }
     ensures places { HasPlacesOf text.now zone.now }
+{}
+
+/// A copy of such a zone means what that text names, and so does the zone itself after each call.
+#[tactic(auto, using(crate::proofs::Named::stays))]
+fn kept_zone(text: &[u8], zone: &CZone)
+    ensures copies { AreCopiesNamed text.now zone.now }
+    ensures stays { StaysNamed text.now zone.now }
 {}

@@ -70,8 +70,8 @@ class ReadDate:
     """What `parse_date` reads.
 
     - time: its offset has whole minutes
-    - has_offset: whether the text names its offset itself, so that no zone was asked, as `+0200`, `Z` or `EST`
-    - ignored: the index into the text of the first word or number that no rule used, or None
+    - has_offset: whether the text names its offset, as `+0200`, `Z` or `EST`, so that each zone gives the same date
+    - ignored: the index into the text of the first word, number or sign of an offset that no rule used, or None
     """
 
     time: Time

@@ -36,6 +36,12 @@ pub fn answer_of_bytes(call: &[u8], at: &[u8], text: &[u8]) -> Option<Answer> {
             }),
             |date| shown(date.time),
         ),
+        b"has_offset" => told(
+            all([bytes::parse_date(text, &moment)], &moment, |zone, now| {
+                zone.parse_date(text, now)
+            }),
+            |date| yes_or_no(date.has_offset),
+        ),
         b"approxidate" => told(
             all([bytes::approxidate(text, &moment)], &moment, |zone, now| {
                 zone.approxidate(text, now)
