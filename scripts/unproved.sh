@@ -8,7 +8,7 @@ copy_input() {
     cmp -s "$work/given" "$work/asked" && return
     more=yes
     # The last line may be cut. Where it is the only one, it is too long for the program.
-    [ "$(tail -c 1 "$work/asked")" = '' ] || [ "$(wc -l <"$work/asked")" = 0 ] || sed -i '$d' "$work/asked"
+    [ "$(tail -c 1 "$work/asked" | wc -l)" = 1 ] || [ "$(wc -l <"$work/asked")" = 0 ] || sed -i '$d' "$work/asked"
 }
 
 # Answers at most so many lines by the program of a crate, called with the further words. It is built for this call alone, and goes with it.

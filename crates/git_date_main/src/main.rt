@@ -20,7 +20,7 @@ fn main(rt: HostRuntime) -> ExitCode {
             &mut writer,
             &mut messages,
         ),
-        Ok(None) => show_usage(&mut writer, &mut messages),
+        Ok(None) => show_usage(&mut messages),
         // Nothing was read or written.
         Err(AllocError) => Status::Failure,
     };

@@ -2,7 +2,7 @@ pub mod Answering
 pub mod Cutting
 pub mod Following
 pub mod OfText
-pub mod Words
 pub mod Reported
-pub mod Starting
+pub mod Texts
+pub mod Words
 pub mod Zoning

@@ -1,33 +1,62 @@
--- What the program says of its end, as one line.
-use Rattle.std.proofs.Common.{◌≡◌, ◌∙◌, ℕ, List, [], ◌∷◌, ◌++◌, sym, ap, subst, append_assoc}
+-- What the program says of its end.
+use Rattle.std.proofs.Common.{◌≡◌, ◌∙◌, ℕ, List, [], ◌∷◌, ◌++◌, sym, ap, ap₂, subst, append_assoc, Bool, false, cond, Option, Some, None}
 use Rattle.std.specs.Prelude.{codes}
 use Rattle.gix_date.specs.Text.Characters.{newline}
 use Rattle.gix_date_tool.specs.Messages.{WritesMessage, Reports, fault_words, cause_words}
 use Rattle.gix_date_tool.specs.Run.{Change}
 use Rattle.gix_date_tool.specs.declared.error.ToolError.{ToolError}
-use Rattle.git_date_tool.specs.Program.{message, message_of}
-use Rattle.git_date_tool.specs.Wrong.{wrong_words}
+use Rattle.git_date_tool.specs.Program.{fault_message, is_closed_pipe, message, message_of, usage_message}
+use Rattle.git_date_tool.specs.Wrong.{about, about_any, wrong_words}
+use Rattle.git_date_tool.specs.declared.help.TheConstants.{USAGE}
 use Rattle.git_date_tool.specs.declared.outcome.Outcome.{Outcome}
-use Rattle.git_date_tool.specs.declared.outcome.Outcome.TheVariants.{Fault, Shown}
+use Rattle.git_date_tool.specs.declared.outcome.Outcome.TheVariants.{Shown}
 use Rattle.git_date_tool.specs.declared.wrong.WrongWords.{WrongWords}
 
--- the pieces of a fault's line
-pub fault-reported : (telling : Change) (outcome : Outcome) (fault : ToolError) (words cause : List ℕ)
-    → outcome ≡ Fault fault → words ≡ fault_words fault → cause ≡ cause_words fault
-    → WritesMessage telling (codes "git_date: " ++ (words ++ (cause ++ newline ∷ []))) → Reports telling (message_of outcome)
-fault-reported telling outcome fault words cause is w k said =
-    let whole : codes "git_date: " ++ (words ++ (cause ++ newline ∷ [])) ≡ message (fault_words fault ++ cause_words fault) =
+-- the pieces of a fault's line, where the fault is to be told
+pub fault-reported : (telling : Change) (fault : ToolError) (words cause : List ℕ) → is_closed_pipe fault ≡ false → words ≡ fault_words fault
+    → cause ≡ cause_words fault → WritesMessage telling (codes "git_date: " ++ (words ++ (cause ++ newline ∷ []))) → Reports telling (fault_message fault)
+fault-reported telling fault words cause told-of w k said =
+    let told = message (fault_words fault ++ cause_words fault) in
+    let whole : codes "git_date: " ++ (words ++ (cause ++ newline ∷ [])) ≡ told =
     ap (λ xs. codes "git_date: " ++ (xs ++ (cause ++ newline ∷ []))) w
     ∙ ap (λ xs. codes "git_date: " ++ (fault_words fault ++ (xs ++ newline ∷ []))) k
     ∙ ap (λ xs. codes "git_date: " ++ xs) (sym (append_assoc (fault_words fault) (cause_words fault) (newline ∷ [])))
     ∙ sym (append_assoc (codes "git_date: ") (fault_words fault ++ cause_words fault) (newline ∷ [])) in
-    subst (λ e. Reports telling (message_of e)) (sym is) (subst (WritesMessage telling) whole said)
+    subst (λ (closed : Bool). Reports telling (cond closed None (Some told))) (sym told-of) (subst (WritesMessage telling) whole said)
 
--- those of what is wrong with the words
-pub usage-reported : (telling : Change) (outcome : Outcome) (why : WrongWords) (words : List ℕ)
-    → outcome ≡ Shown why → words ≡ wrong_words why
-    → WritesMessage telling (codes "git_date: " ++ (words ++ newline ∷ [])) → Reports telling (message_of outcome)
-usage-reported telling outcome why words is w said =
-    let whole : codes "git_date: " ++ (words ++ newline ∷ []) ≡ message (wrong_words why) =
-    ap (λ xs. codes "git_date: " ++ (xs ++ newline ∷ [])) w ∙ sym (append_assoc (codes "git_date: ") (wrong_words why) (newline ∷ [])) in
-    subst (λ e. Reports telling (message_of e)) (sym is) (subst (WritesMessage telling) whole said)
+-- a line and what follows it, in pieces
+in-pieces : (front lead text line usage : List ℕ) → front ++ (lead ++ (text ++ (line ++ usage))) ≡ ((front ++ (lead ++ text)) ++ line) ++ usage
+in-pieces front lead text line usage =
+    sym (append_assoc (front ++ (lead ++ text)) line usage ∙ append_assoc front (lead ++ text) (line ++ usage)
+    ∙ ap (λ (xs : List ℕ). front ++ xs) (append_assoc lead text (line ++ usage)))
+
+-- so that begins with a word
+of-word : (front word mid lead text line usage : List ℕ) → front ++ (word ++ (mid ++ (lead ++ (text ++ (line ++ usage)))))
+    ≡ ((front ++ (word ++ (mid ++ (lead ++ text)))) ++ line) ++ usage
+of-word front word mid lead text line usage =
+    let more = line ++ usage in
+    sym (append_assoc (front ++ (word ++ (mid ++ (lead ++ text)))) line usage
+    ∙ append_assoc front (word ++ (mid ++ (lead ++ text))) more
+    ∙ ap (λ (xs : List ℕ). front ++ xs) (append_assoc word (mid ++ (lead ++ text)) more)
+    ∙ ap (λ (xs : List ℕ). front ++ (word ++ xs)) (append_assoc mid (lead ++ text) more)
+    ∙ ap (λ (xs : List ℕ). front ++ (word ++ (mid ++ xs))) (append_assoc lead text more))
+
+pub tells-usage : (telling : Change) (lead text : List ℕ)
+    → WritesMessage telling (codes "git_date: " ++ (lead ++ (text ++ (newline ∷ USAGE.now)))) → WritesMessage telling (usage_message (lead ++ text))
+tells-usage telling lead text h = subst (WritesMessage telling) (in-pieces (codes "git_date: ") lead text (newline ∷ []) USAGE.now) h
+
+pub tells-about : (telling : Change) (word lead text : List ℕ)
+    → WritesMessage telling (codes "git_date: '" ++ (word ++ (codes "' " ++ (lead ++ (text ++ (newline ∷ USAGE.now))))))
+    → WritesMessage telling (usage_message (about word (lead ++ text)))
+tells-about telling word lead text h = subst (WritesMessage telling) (of-word (codes "git_date: '") word (codes "' ") lead text (newline ∷ []) USAGE.now) h
+
+-- what is wrong with a word, by what it is
+pub tells-wrong : (telling : Change) (subject : Option (List ℕ)) (word lead text l t : List ℕ) → subject ≡ Some word → lead ≡ l → text ≡ t
+    → WritesMessage telling (usage_message (about word (lead ++ text))) → WritesMessage telling (usage_message (about_any subject (l ++ t)))
+tells-wrong telling subject word lead text l t is d e h =
+    subst (λ (s : Option (List ℕ)). WritesMessage telling (usage_message (about_any s (l ++ t)))) (sym is)
+    (subst (λ (said : List ℕ). WritesMessage telling (usage_message (about word said))) (ap₂ (λ (xs ys : List ℕ). xs ++ ys) d e) h)
+
+pub wrong-reported : (telling : Change) (outcome : Outcome) (why : WrongWords) → outcome ≡ Shown why
+    → WritesMessage telling (usage_message (wrong_words why)) → Reports telling (message_of outcome)
+wrong-reported telling outcome why is h = subst (λ e. Reports telling (message_of e)) (sym is) h

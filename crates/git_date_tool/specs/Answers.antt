@@ -51,7 +51,7 @@ IsFoundReply query text (Err e) reply = reply ≡ refused e
 -- the reply to the bytes of a text
 unfoldable pub IsReply : Query → List ℕ → Reply → Type 0
 IsReply query text reply =
-    (found : Result Approximate Refusal) × IsRead query.reader query.strict query.now text found
+    (found : Result Approximate Refusal) × IsRead query.reader query.strictness query.now text found
     × IsFoundReply query text found reply
 
 -- what an answer of the code replies

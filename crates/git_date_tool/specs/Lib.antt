@@ -9,4 +9,5 @@ pub mod Runs
 pub mod Wrong
 pub mod Zones
 pub mod Command
+pub mod Now
 pub mod Program

@@ -1,34 +1,39 @@
 -- What the program does with a command line.
-use Rattle.std.specs.Prelude.{◌≡◌, ◌⊎◌, ℕ, Bool, true, false, List, [], ◌∷◌, ◌++◌, pos, ◌*ℤ◌, Option, Some, None, IfSome, IsSome, Result, Ok, Err, codes}
+use Rattle.std.specs.Prelude.{◌≡◌, ◌⊎◌, ℕ, Bool, true, false, List, [], ◌∷◌, ◌++◌, if◌then◌else◌, Option, Some, None, unwrap_or, Result, Ok, Err, codes}
 use Rattle.gix_date.specs.Devices.StreamState.{StreamState, Takes, TakesProperPrefix}
 use Rattle.jiff.specs.Types.{TimeZone}
 use Rattle.jiff.specs.Words.{zoned_nanos}
 use Rattle.jiff.specs.declared.zoned.Zoned.{Zoned}
 use Rattle.gix_date.specs.Relative.Steps.{zone_of}
-use Rattle.gix_date.specs.declared.time.Time.{Time}
 use Rattle.gix_date_tool.specs.Messages.{Reports, fault_words, cause_words}
 use Rattle.gix_date_tool.specs.Lines.{with_newline}
 use Rattle.gix_date_tool.specs.Run.{Change, change}
-use Rattle.gix_date_tool.specs.declared.arguments.NoMoment.TheVariants.{Conversion}
 use Rattle.gix_date_tool.specs.declared.error.ToolError.{ToolError}
 use Rattle.gix_date_tool.specs.declared.error.ToolError.TheVariants as errors
 use Rattle.gix_date_tool.specs.declared.program.Status.{Status}
 use Rattle.gix_date_tool.specs.declared.program.Status.TheVariants.{Success, Failure, Usage}
-use Rattle.git_date_tool.specs.Command.{Asked, asked}
+use Rattle.std.specs.declared.io.ErrorKind.TheVariants as kinds
+use Rattle.git_date.specs.declared.mode.DateKind.TheVariants.{Raw}
+use Rattle.git_date_tool.specs.Command.{Answer, Ask, Asked, Help, Version, asked}
+use Rattle.git_date_tool.specs.Now.{IsInstantOf}
 use Rattle.git_date_tool.specs.Runs.{IsUntouched, Output, output, RunsOver, RunsThrough}
-use Rattle.git_date_tool.specs.Wrong.{wrong_words}
-use Rattle.git_date_tool.specs.Zones.{AsksForName, IsAskedZone, NeedsSystem}
+use Rattle.git_date_tool.specs.Wrong.{not_text, wrong_words}
+use Rattle.git_date_tool.specs.Zones.{IsAskedZone, IsName, NeedsSystem}
 use Rattle.git_date_tool.specs.declared.answers.Query.{Query}
 use Rattle.git_date_tool.specs.declared.outcome.NoNow.{NoNow}
-use Rattle.git_date_tool.specs.declared.outcome.NoNow.TheVariants.{Clock, NoInstant}
+use Rattle.git_date_tool.specs.declared.outcome.NoNow.TheVariants.{Clock, NoMoment as NoMomentOf}
 use Rattle.git_date_tool.specs.declared.outcome.Outcome.{Outcome}
-use Rattle.git_date_tool.specs.declared.outcome.Outcome.TheVariants.{Answered, Fault, NoClock, Shown}
-use Rattle.git_date_tool.specs.declared.program.TheConstants.{USAGE}
+use Rattle.git_date_tool.specs.declared.outcome.Outcome.TheVariants.{Answered, Fault, NoClock, Printed, Shown}
+use Rattle.git_date_tool.specs.declared.help.TheConstants.{HELP, USAGE, VERSION}
+use Rattle.git_date_tool.specs.declared.readers.Reader.TheVariants.{Approxidate}
+use Rattle.git_date_tool.specs.declared.readers.Strictness.TheVariants.{Usual}
+use Rattle.git_date_tool.specs.declared.shown.Shown.TheVariants.{Git}
 use Rattle.git_date_tool.specs.declared.wrong.WrongWords.{WrongWords}
-use Rattle.git_date_tool.specs.declared.wrong.WrongWords.TheVariants.{NotText, NoMoment, NoZone, NoSystemZone}
+use Rattle.git_date_tool.specs.declared.wrong.WrongWords.TheVariants.{NoMoment, NoZone, NoSystemZone}
 
 -- the status that an end has
 abbrev pub status_of : Outcome → Status
+status_of Printed = Success
 status_of (Answered true) = Success
 status_of (Answered false) = Failure
 status_of (Fault fault) = Failure
@@ -39,48 +44,69 @@ status_of (Shown why) = Usage
 abbrev pub message : List ℕ → List ℕ
 message words = with_newline (codes "git_date: " ++ words)
 
+-- what is wrong, in one line, and the usage line
+abbrev pub usage_message : List ℕ → List ℕ
+usage_message why = message why ++ USAGE.now
+
+-- the writer is a pipe that nothing reads any more
+abbrev pub is_closed_pipe : ToolError → Bool
+is_closed_pipe (errors.Write kinds.BrokenPipe) = true
+is_closed_pipe _ = false
+
+-- what is said of a fault, unless it is such a pipe
+abbrev pub fault_message : ToolError → Option (List ℕ)
+fault_message fault = if is_closed_pipe fault then None else Some (message (fault_words fault ++ cause_words fault))
+
 -- what is said of an end, where anything is
 abbrev pub message_of : Outcome → Option (List ℕ)
-message_of (Fault fault) = Some (message (fault_words fault ++ cause_words fault))
-message_of (Shown why) = Some (message (wrong_words why))
+message_of (Fault fault) = fault_message fault
+message_of (Shown why) = Some (usage_message (wrong_words why))
+message_of Printed = None
 message_of NoClock = Some (message (codes "the clock cannot be read"))
 message_of (Answered all_read) = None
 
--- The usage line was written, or the writer has a fault and a proper prefix of it was.
-abbrev pub EndsInUsage : WrongWords → Change → Outcome → Type 0
-EndsInUsage why writing (Shown told) = Takes writing.old writing.new USAGE.now × (told ≡ why)
-EndsInUsage why writing (Fault (errors.Write kind)) =
-    TakesProperPrefix writing.old writing.new USAGE.now × (writing.new.fault ≡ Some kind)
-EndsInUsage why writing _ = ⊥
+-- This is wrong with the command line, and nothing is written.
+abbrev pub EndsWrong : List ℕ → Outcome → Type 0
+EndsWrong why (Shown told) = wrong_words told ≡ why
+EndsWrong why _ = ⊥
 
--- memory was refused for a zone, or the usage line is due
-abbrev pub EndsWithoutZone : WrongWords → Change → Outcome → Type 0
-EndsWithoutZone why writing (Fault errors.Memory) = IsUntouched writing
-EndsWithoutZone why writing outcome = EndsInUsage why writing outcome
+-- A text was written, or the writer has a fault and a proper prefix of it was.
+abbrev pub Prints : List ℕ → Change → Outcome → Type 0
+Prints text writing Printed = Takes writing.old writing.new text
+Prints text writing (Fault (errors.Write kind)) = TakesProperPrefix writing.old writing.new text × (writing.new.fault ≡ Some kind)
+Prints text writing _ = ⊥
+
+-- without a zone: there was no memory for it, or none
+abbrev pub EndsWithoutZone : Option (List ℕ) → Outcome → Type 0
+EndsWithoutZone asked (Fault errors.Memory) = Unit {0}
+EndsWithoutZone asked (Shown (NoZone text)) = (asked ≡ Some text.now) × IsName text.now
+EndsWithoutZone asked (Shown NoSystemZone) = asked ≡ None
+EndsWithoutZone asked _ = ⊥
 
 -- the instant is that of NOW, or some other
-abbrev pub IsInstantOf : Option Time → Zoned → Type 0
-IsInstantOf now z = IfSome now (λ t. zoned_nanos z ≡ t.seconds *ℤ pos 1_000_000_000)
+abbrev pub IsInstantOfNow : Option (List ℕ) → TimeZone → Zoned → Type 0
+IsInstantOfNow (Some text) zone z = IsInstantOf zone text (Ok (zoned_nanos z))
+IsInstantOfNow None zone z = Unit {0}
 
 -- such an instant in this zone
-abbrev pub IsMomentIn : Option Time → TimeZone → Zoned → Type 0
-IsMomentIn now zone z = IsInstantOf now z × (zone_of z ≡ zone)
+abbrev pub IsMomentIn : Option (List ℕ) → TimeZone → Zoned → Type 0
+IsMomentIn now zone z = IsInstantOfNow now zone z × (zone_of z ≡ zone)
 
--- there is no moment: of NOW, or of the clock
-abbrev pub IsNoMoment : Option Time → NoNow → Type 0
-IsNoMoment now Clock = now ≡ None
-IsNoMoment now NoInstant = IsSome now
+-- there is no moment in this zone: of NOW, or of the clock
+abbrev pub IsNoMoment : Option (List ℕ) → TimeZone → NoNow → Type 0
+IsNoMoment now zone Clock = now ≡ None
+IsNoMoment now zone (NoMomentOf text why) = (now ≡ Some text.now) × IsInstantOf zone text.now (Err why)
 
--- there is no query, since there is no moment
+-- there is no query, since there is no moment in the zone that is asked for
 abbrev pub IsNoQuery : Asked → NoNow → Type 0
-IsNoQuery a why = IsNoMoment a.now why
+IsNoQuery a why = (zone : TimeZone) × IsAskedZone a.zone zone × IsNoMoment a.now zone why
 
 -- the query is what was asked for
 pub record IsQuery (a : Asked) (query : Query) : Type 0 where
-  pub reader : query.reader ≡ a.reader
-  pub shown : query.shown ≡ a.shown
-  pub strict : query.strict ≡ a.strict
-  pub now : IsInstantOf a.now query.now
+  pub reader : query.reader ≡ unwrap_or a.reader Approxidate
+  pub shown : query.shown ≡ unwrap_or a.shown (Git (record { kind = Raw; local = false }))
+  pub strictness : query.strictness ≡ unwrap_or a.strictness Usual
+  pub now : IsInstantOfNow a.now (zone_of query.now) query.now
   pub zone : IsAskedZone a.zone (zone_of query.now)
 
 -- a run over the texts, or over the lines of the reader if there is none
@@ -94,36 +120,32 @@ EndsRun a query reading out (Answered all_read) = RunsAs a.texts query reading o
 EndsRun a query reading out (Fault fault) = RunsAs a.texts query reading out (Err fault)
 EndsRun a query reading out _ = ⊥
 
--- what is wrong where there is no zone
-abbrev pub no_zone_words : Option (List ℕ) → WrongWords
-no_zone_words (Some text) = NoZone
-no_zone_words None = NoSystemZone
-
--- Why the usage line is due though the words are right: there is no zone, or NOW is no instant.
+-- Why the command line is wrong though its words are right: there is no zone, or NOW is no moment in it.
 abbrev pub IsNoStart : Asked → WrongWords → Type 0
-IsNoStart a NoZone = AsksForName a.zone
+IsNoStart a (NoZone text) = (a.zone ≡ Some text.now) × IsName text.now
 IsNoStart a NoSystemZone = a.zone ≡ None
-IsNoStart a (NoMoment Conversion) = IsSome a.now
+IsNoStart a (NoMoment text why) = (zone : TimeZone) × IsAskedZone a.zone zone × (a.now ≡ Some text.now) × IsInstantOf zone text.now (Err why)
 IsNoStart a _ = ⊥
 
--- no text was read or answered: the usage line is due, or there was no memory for a zone, or no clock
-abbrev pub StartsNot : Asked → Change → Outcome → Type 0
-StartsNot a writing (Shown why) = IsNoStart a why × EndsInUsage why writing (Shown why)
-StartsNot a writing (Fault errors.Memory) = NeedsSystem a.zone × IsUntouched writing
-StartsNot a writing (Fault fault) = (why : WrongWords) × IsNoStart a why × EndsInUsage why writing (Fault fault)
-StartsNot a writing NoClock = (a.now ≡ None) × IsUntouched writing
-StartsNot a writing (Answered all_read) = ⊥
+-- nothing was read, written or answered: the command line is wrong, or there was no memory for a zone, or no clock
+abbrev pub StartsNot : Asked → Outcome → Type 0
+StartsNot a (Shown why) = IsNoStart a why
+StartsNot a (Fault errors.Memory) = NeedsSystem a.zone
+StartsNot a NoClock = a.now ≡ None
+StartsNot a _ = ⊥
 
--- what the program comes to that is asked for this
+-- what the program comes to that is asked to answer
 abbrev pub EndsRequest : Asked → Change → Output → Outcome → Type 0
 EndsRequest a reading out outcome =
     ((query : Query) × IsQuery a query × EndsRun a query reading out outcome)
-    ⊎ (IsUntouched reading × IsUntouched out.telling × StartsNot a out.writing outcome)
+    ⊎ (IsUntouched reading × IsUntouched out.writing × IsUntouched out.telling × StartsNot a outcome)
 
 -- what it comes to by the words of its command line
-abbrev pub EndsCommand : Result Asked WrongWords → Change → Output → Outcome → Type 0
-EndsCommand (Ok a) reading out outcome = EndsRequest a reading out outcome
-EndsCommand (Err why) reading out outcome = IsUntouched reading × IsUntouched out.telling × EndsInUsage why out.writing outcome
+abbrev pub EndsCommand : Result Ask (List ℕ) → Change → Output → Outcome → Type 0
+EndsCommand (Ok (Answer a)) reading out outcome = EndsRequest a reading out outcome
+EndsCommand (Ok Help) reading out outcome = IsUntouched reading × IsUntouched out.telling × Prints HELP.now out.writing outcome
+EndsCommand (Ok Version) reading out outcome = IsUntouched reading × IsUntouched out.telling × Prints VERSION.now out.writing outcome
+EndsCommand (Err why) reading out outcome = IsUntouched reading × IsUntouched out.writing × IsUntouched out.telling × EndsWrong why outcome
 
 -- Warnings, the message of the end, and the status are those of such an end.
 pub record Executes (words : List (List ℕ)) (reading writing telling : Change) (status : Status) : Type 0 where
@@ -133,9 +155,7 @@ pub record Executes (words : List (List ℕ)) (reading writing telling : Change)
   pub reports : Reports (change warned telling.new) (message_of outcome)
   pub status_is : status ≡ status_of outcome
 
--- those of an end that owes the usage line since a word is not UTF-8
-pub record ShowsUsage (writing telling : Change) (status : Status) : Type 0 where
-  pub outcome : Outcome
-  pub ends : EndsInUsage NotText writing outcome
-  pub reports : Reports telling (message_of outcome)
-  pub status_is : status ≡ status_of outcome
+-- what the program does with a command line that has a word which is not UTF-8: it says so, and nothing else
+pub record ShowsUsage (telling : Change) (status : Status) : Type 0 where
+  pub reports : Reports telling (Some (usage_message not_text))
+  pub status_is : status ≡ Usage

@@ -7,7 +7,7 @@ use Rattle.gix_date.specs.declared.error.ParseError.TheVariants as gix
 use Rattle.git_date.specs.declared.error.DateError.{DateError}
 use Rattle.git_date.specs.declared.error.DateError.TheVariants as git
 use Rattle.git_date_tool.specs.declared.refusals.Refusal.{Refusal}
-use Rattle.git_date_tool.specs.declared.refusals.Refusal.TheVariants.{NotText, UnknownFormat, DateConversion, MissingMoment, Range, Unreadable, NumberTooLarge, BackTooFar, YearRefused, Unclear, NotUnderstood, Ignored, NotShown}
+use Rattle.git_date_tool.specs.declared.refusals.Refusal.TheVariants.{NotText, UnknownFormat, DateConversion, MissingMoment, Range, Unreadable, NumberTooLarge, BackTooFar, YearRefused, Unclear, NotUnderstood, Ignored, NoHeader, NotCanonical, NotShown}
 
 -- what a refusal is called
 abbrev pub refusal_name : Refusal → List ℕ
@@ -23,6 +23,8 @@ refusal_name (YearRefused place) = codes "error year-refused"
 refusal_name (Unclear place) = codes "error unclear"
 refusal_name NotUnderstood = codes "error not-understood"
 refusal_name (Ignored place) = codes "error ignored"
+refusal_name NoHeader = codes "error no-header"
+refusal_name NotCanonical = codes "error not-canonical"
 refusal_name NotShown = codes "error not-shown"
 
 -- the place that a refusal is about

@@ -1,9 +1,10 @@
 -- What is said beside a date.
-use Rattle.std.specs.Prelude.{ℕ, Bool, true, false, List, ◌++◌, take, drop, Option, Some, None, option_map, codes}
+use Rattle.std.specs.Prelude.{ℕ, ◌+◌, ◌==◌, ◌||◌, if◌then◌else◌, Bool, true, false, List, [], ◌∷◌, ◌++◌, take, drop, Option, Some, None, option_map, codes}
 use Rattle.std.specs.Borrow.{Bor}
 use Rattle.std.specs.Char.{is_ascii_alphanumeric}
 use Rattle.std.specs.Fmt.{decimal}
 use Rattle.std.specs.List.{prefix_len}
+use Rattle.gix_date.specs.Text.Characters.{minus, plus}
 use Rattle.gix_date_tool.specs.Lines.{with_newline}
 use Rattle.git_date.specs.declared.approximate.answer.Approximate.{Approximate}
 use Rattle.git_date_tool.specs.declared.warnings.Warning.{Warning}
@@ -13,9 +14,15 @@ pub record Told : Type 0 where
   pub understood : Bool
   pub ignored : Option (ℕ × List ℕ)
 
--- the letters and digits in front
+-- how many bytes the word in front has: letters and digits, perhaps after a sign
+abbrev pub word_len : List ℕ → ℕ
+word_len [] = 0
+word_len (b ∷ bs) =
+    if b == plus || b == minus then 1 + prefix_len is_ascii_alphanumeric bs else prefix_len is_ascii_alphanumeric (b ∷ bs)
+
+-- that word
 abbrev pub word_of : List ℕ → List ℕ
-word_of rest = take (prefix_len is_ascii_alphanumeric rest) rest
+word_of rest = take (word_len rest) rest
 
 -- those from a place on
 abbrev pub word_at : List ℕ → ℕ → List ℕ

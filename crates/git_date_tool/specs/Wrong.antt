@@ -1,18 +1,98 @@
 -- What may be wrong with a command line.
-use Rattle.std.specs.Prelude.{ℕ, List, codes}
+use Rattle.std.specs.Prelude.{ℕ, List, [], ◌++◌, Option, Some, None, option_map, codes}
+use Rattle.std.specs.Borrow.{Bor}
 use Rattle.gix_date_tool.specs.Messages.{no_moment_words}
+use Rattle.git_date_tool.specs.declared.arguments.Given.{Given}
+use Rattle.git_date_tool.specs.declared.arguments.Given.TheVariants.{Now, Zone, As, Show}
 use Rattle.git_date_tool.specs.declared.wrong.WrongWords.{WrongWords}
-use Rattle.git_date_tool.specs.declared.wrong.WrongWords.TheVariants.{UnknownOption, NoValue, UnknownReader, UnknownMode, LateOption, TooManyOptions, NotText, NoMoment, NoZone, NoSystemZone}
+use Rattle.git_date_tool.specs.declared.wrong.WrongWords.TheVariants.{UnknownOption, NoValue, Twice, TwoDemands, UnknownReader, UnknownMode, LateOption, NotText, NoMoment, NoZone, NoSystemZone}
 
--- what is said of it
+-- what an option is called
+abbrev pub option_text : Given → List ℕ
+option_text Now = codes "--now"
+option_text Zone = codes "--zone"
+option_text As = codes "--as"
+option_text Show = codes "--show"
+
+-- what is said of a word: the word in quotes, and then this
+abbrev pub about : List ℕ → List ℕ → List ℕ
+about word text = codes "'" ++ (word ++ (codes "' " ++ text))
+
+-- what is said, of a word if of one
+abbrev pub about_any : Option (List ℕ) → List ℕ → List ℕ
+about_any (Some word) text = about word text
+about_any None text = text
+
+-- a word of the code
+abbrev pub subject_of : Option (Bor (List ℕ)) → Option (List ℕ)
+subject_of word = option_map (λ w. w.now) word
+
+-- the word that is wrong, where it is one
+abbrev pub wrong_subject : WrongWords → Option (List ℕ)
+wrong_subject (UnknownOption word) = Some word.now
+wrong_subject (NoValue given) = Some (option_text given)
+wrong_subject (Twice given) = Some (option_text given)
+wrong_subject (TwoDemands word) = Some word.now
+wrong_subject (UnknownReader word) = Some word.now
+wrong_subject (UnknownMode word) = Some word.now
+wrong_subject (LateOption word) = Some word.now
+wrong_subject NotText = None
+wrong_subject (NoMoment text why) = Some text.now
+wrong_subject (NoZone text) = Some text.now
+wrong_subject NoSystemZone = None
+
+abbrev pub no_option : List ℕ
+no_option = codes "is no option; --help lists them"
+
+abbrev pub no_value : List ℕ
+no_value = codes "has no value"
+
+abbrev pub twice : List ℕ
+twice = codes "is given twice"
+
+abbrev pub two_demands : List ℕ
+two_demands = codes "stands beside another --strict or --lenient"
+
+abbrev pub no_reader : List ℕ
+no_reader = codes "is no reader; expected exact, approxidate, careful, gix or header"
+
+abbrev pub no_mode : List ℕ
+no_mode = codes "is no way to show a date; expected one such as iso8601, human or RFC2822"
+
+abbrev pub late_option : List ℕ
+late_option = codes "stands after a text; write options before all texts, or -- before these"
+
+abbrev pub not_text : List ℕ
+not_text = codes "a word is not UTF-8"
+
+abbrev pub no_moment : List ℕ
+no_moment = codes "is no moment: "
+
+abbrev pub no_zone : List ℕ
+no_zone = codes "is no offset, rule, name or TZif file; expected one such as +0800, EST5EDT,M3.2.0,M11.1.0 or Europe/Berlin"
+
+abbrev pub no_system_zone : List ℕ
+no_system_zone = codes "TZ or the system names no zone; give one by --zone"
+
+-- how what is said begins
+abbrev pub wrong_lead : WrongWords → List ℕ
+wrong_lead (NoMoment text why) = no_moment
+wrong_lead _ = []
+
+-- what is said of it then
+abbrev pub wrong_text : WrongWords → List ℕ
+wrong_text (UnknownOption word) = no_option
+wrong_text (NoValue given) = no_value
+wrong_text (Twice given) = twice
+wrong_text (TwoDemands word) = two_demands
+wrong_text (UnknownReader word) = no_reader
+wrong_text (UnknownMode word) = no_mode
+wrong_text (LateOption word) = late_option
+wrong_text NotText = not_text
+wrong_text (NoMoment text why) = no_moment_words why
+wrong_text (NoZone text) = no_zone
+wrong_text NoSystemZone = no_system_zone
+
+-- what is said of what is wrong
 abbrev pub wrong_words : WrongWords → List ℕ
-wrong_words UnknownOption = codes "an option is none of --now, --zone, --as, --show and --strict"
-wrong_words NoValue = codes "the last option has no value"
-wrong_words UnknownReader = codes "READER is none of exact, approxidate, careful and gix"
-wrong_words UnknownMode = codes "MODE is no way to show a date; expected one such as iso8601, human or RFC2822"
-wrong_words LateOption = codes "an option stands after a text; write it before all texts, or -- before these"
-wrong_words TooManyOptions = codes "there are more than 100 options"
-wrong_words NotText = codes "a word is not UTF-8"
-wrong_words (NoMoment why) = no_moment_words why
-wrong_words NoZone = codes "ZONE is no offset, rule, name or TZif file; expected one such as +0800, EST5EDT,M3.2.0,M11.1.0 or Europe/Berlin"
-wrong_words NoSystemZone = codes "TZ or the system names no zone; give one by --zone"
+wrong_words why = about_any (wrong_subject why) (wrong_lead why ++ wrong_text why)

@@ -5,7 +5,7 @@ ghost use Rattle.gix_date_tool.specs.Lines.{with_newline};
 ghost use Rattle.gix_date_tool.specs.Messages.{Reports};
 ghost use Rattle.git_date_tool.specs.Answers.{IsReply, answer_reply, refusal_text};
 
-use crate::readers::{Reader, read};
+use crate::readers::{Reader, Strictness, read};
 use crate::refusals::Refusal;
 use crate::shown::{DateLine, Shown, show};
 use crate::warnings::{Warning, warning_of};
@@ -24,8 +24,8 @@ pub struct Query<'z> {
     pub shown: Shown,
     /// The moment that dates are relative to, in the zone of dates without an offset.
     pub now: Zoned<'z>,
-    /// Whether a text is refused of which something is ignored, or nothing is understood.
-    pub strict: bool,
+    /// How much of a text has to be understood.
+    pub strictness: Strictness,
 }
 
 /// What a text is answered by.
@@ -91,7 +91,7 @@ pub fn answer_line<'a>(
 ) -> Result<Answer<'a>, AllocError>
     ensures { IfOk result (λ answer. IsReply query.entry.now line.now (answer_reply answer)) }
 {
-    let found = match read(query.reader, query.strict, line, query.now) {
+    let found = match read(query.reader, query.strictness, line, query.now) {
         Ok(found) => found,
         Err(refusal) => return Ok(Answer::Refused(refusal)),
     };

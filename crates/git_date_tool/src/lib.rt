@@ -3,7 +3,9 @@
 
 mod answers;
 mod arguments;
+mod help;
 mod line;
+mod now;
 mod offsets;
 mod outcome;
 mod program;
@@ -19,7 +21,7 @@ mod zones;
 
 pub use answers::{Answer, Query, answer_line};
 pub use program::{execute, show_usage};
-pub use readers::Reader;
+pub use readers::{Reader, Strictness};
 pub use refusals::Refusal;
 pub use shown::{DateLine, NamedFormat, Shown, shown_named};
 pub use warnings::Warning;

@@ -1,25 +1,27 @@
 //! How the program ends.
 use crate::wrong::WrongWords;
-use gix_date_tool::ToolError;
+use gix_date_tool::{NoMoment, ToolError};
 
 /// How the program ends, before its status and message.
 #[derive(Drop)]
-pub(crate) enum Outcome {
+pub(crate) enum Outcome<'w> {
     /// Each text was answered. Whether all were read.
     Answered(bool),
-    /// The run has this fault, or the writer refused the usage line.
+    /// The run has this fault, or the writer refused the help or the version.
     Fault(ToolError),
     /// The clock was not read.
     NoClock,
-    /// The usage line was written, for this reason.
-    Shown(WrongWords),
+    /// The help or the version was written.
+    Printed,
+    /// This is wrong with the command line.
+    Shown(WrongWords<'w>),
 }
 
 /// Why there is no moment.
 #[derive(Clone, Copy)]
-pub(crate) enum NoNow {
+pub(crate) enum NoNow<'w> {
     /// The clock was not read.
     Clock,
-    /// NOW is no instant.
-    NoInstant,
+    /// NOW is no moment.
+    NoMoment(&'w str, NoMoment),
 }

@@ -1,34 +1,36 @@
 //! What the program does with a command line.
-ghost use Rattle.std.specs.Prelude.{◌≡◌, MatchResult, map, option_map, string_bytes};
+ghost use Rattle.std.specs.Prelude.{◌≡◌, ◌++◌, MatchResult, map, option_map, string_bytes};
 ghost use Rattle.jiff.specs.ZoneView.{plain_zone};
-ghost use Rattle.gix_date_tool.specs.Messages.{Reports};
+ghost use Rattle.gix_date_tool.specs.Messages.{Reports, WritesMessage};
 ghost use Rattle.gix_date_tool.specs.Run.{change};
-ghost use Rattle.git_date_tool.specs.Command.{asked, asked_view};
-ghost use Rattle.git_date_tool.specs.Program.{EndsCommand, EndsInUsage, EndsRequest, EndsRun, EndsWithoutZone, Executes, IsMomentIn, IsNoMoment, IsNoQuery, IsQuery, ShowsUsage, message_of, no_zone_words, status_of};
+ghost use Rattle.git_date_tool.specs.Command.{asked, request_view};
+ghost use Rattle.git_date_tool.specs.Program.{EndsCommand, EndsRequest, EndsRun, EndsWithoutZone, Executes, IsMomentIn, IsNoMoment, IsNoQuery, IsQuery, Prints, ShowsUsage, fault_message, is_closed_pipe, message_of, status_of, usage_message};
 ghost use Rattle.git_date_tool.specs.Runs.{output};
-ghost use Rattle.git_date_tool.specs.Zones.{IsAskedZone};
+ghost use Rattle.git_date_tool.specs.Wrong.{about, wrong_words};
+ghost use Rattle.git_date_tool.specs.Zones.{IsAskedZone, NeedsSystem};
 
 use crate::answers::Query;
-use crate::arguments::{Request, read_words};
+use crate::arguments::{Command, Request, read_words};
+use crate::help::{HELP, USAGE, VERSION};
+use crate::now::instant_of;
 use crate::outcome::{NoNow, Outcome};
+use crate::readers::{Reader, Strictness};
 use crate::runs::{run_over, run_through};
+use crate::shown::Shown;
 use crate::wrong::WrongWords;
 use crate::zones::source_asked;
+use gix_date::Zoned;
 use gix_date::device::{Sink, Source, put_all};
-use gix_date::{Time, Zoned};
-use gix_date_tool::{NoMoment, Status, ToolError, write_message};
+use gix_date_tool::{Status, ToolError, write_message};
 use jiff::tz::TimeZone;
 use jiff::{Error, Timestamp};
 use std::alloc::Global;
+use std::io::ErrorKind;
 use std::rt::{Env, Files};
 use std::time::Clock;
 
-/// How the program is called.
-pub(crate) const USAGE: &[u8] =
-    b"usage: git_date [--now NOW] [--zone ZONE] [--as READER] [--show MODE] [--strict] [--] [TEXT]...\n";
-
 /// Does what the words of a command line, without the program's name, ask for: answers each text, or each line of the reader
-/// if there is no text, or writes the usage line if the words are invalid.
+/// if there is no text, or writes the help or the version. Of wrong words it says which and why, and how it is called.
 ///
 /// ZONE is an offset to 25:59, or else a POSIX rule, or else a name in the time zone database, or else the path of a TZif file.
 /// Without it the zone is the system's: that of `TZ`, or else of `/etc/localtime`, or else UTC. That the clock, `TZ`, the
@@ -53,73 +55,71 @@ pub fn execute<S: Files + Env + Clock + AllocGlobal + Clone + Drop, R: Source, W
     status_of(&outcome)
 }
 
-/// Writes the usage line for a command line with a word that is not UTF-8, and puts that into the messages.
-/// [`Status::Failure`] if the writer refuses; its fault then goes into the messages.
-pub fn show_usage<W: Sink, M: Sink>(writer: &mut W, messages: &mut M) -> Status
-    ensures { ShowsUsage (change (W.known writer.old) (W.known writer.new))
-        (change (M.known messages.old) (M.known messages.new)) result }
+/// Says that a word of the command line is not UTF-8, and how the program is called.
+pub fn show_usage<M: Sink>(messages: &mut M) -> Status
+    ensures { ShowsUsage (change (M.known messages.old) (M.known messages.new)) result }
 {
-    let outcome = usage_outcome(writer, WrongWords::NotText);
-    report(&outcome, messages);
-    status_of(&outcome)
+    tell_wrong(WrongWords::NotText, messages);
+    Status::Usage
 }
 
 /// Does what the words ask for, but for the message of its end.
-fn dispatch<S: Files + Env + Clock + AllocGlobal + Clone + Drop, R: Source, W: Sink, M: Sink>(
+fn dispatch<'w, S: Files + Env + Clock + AllocGlobal + Clone + Drop, R: Source, W: Sink, M: Sink>(
     system: &S,
-    words: &[String],
+    words: &'w [String],
     reader: &mut R,
     writer: &mut W,
     messages: &mut M,
-) -> Outcome
+) -> Outcome<'w>
     ensures { EndsCommand (asked (map string_bytes words.now)) (change (R.known reader.old) (R.known reader.new))
         (output (change (W.known writer.old) (W.known writer.new))
         (change (M.known messages.old) (M.known messages.new))) result }
 {
     match read_words(words) {
-        Ok(request) => execute_request(system, request, reader, writer, messages),
-        Err(why) => usage_outcome(writer, why),
+        Ok(Command::Answer(request)) => execute_request(system, request, reader, writer, messages),
+        Ok(Command::Help) => print(HELP, writer),
+        Ok(Command::Version) => print(VERSION, writer),
+        Err(why) => Outcome::Shown(why),
     }
 }
 
 /// Does what is asked for, but for the message of its end.
 fn execute_request<
+    'w,
     S: Files + Env + Clock + AllocGlobal + Clone + Drop,
     R: Source,
     W: Sink,
     M: Sink,
->(system: &S, request: Request<'_>, reader: &mut R, writer: &mut W, messages: &mut M) -> Outcome
-    ensures { EndsRequest (asked_view request.entry) (change (R.known reader.old) (R.known reader.new))
+>(system: &S, request: Request<'w>, reader: &mut R, writer: &mut W, messages: &mut M) -> Outcome<'w>
+    ensures { EndsRequest (request_view request.entry) (change (R.known reader.old) (R.known reader.new))
         (output (change (W.known writer.old) (W.known writer.new))
         (change (M.known messages.old) (M.known messages.new))) result }
 {
     let source = match source_asked(system, request.zone) {
         Ok(source) => source,
-        Err(error) => return no_zone(error, request.zone, writer),
+        Err(error) => return no_zone(error, request.zone),
     };
     let zone = match source.zone() {
         Ok(zone) => zone,
-        Err(error) => return no_zone(error, request.zone, writer),
+        Err(error) => return no_zone(error, request.zone),
     };
     match query_of(system, request, zone) {
         Ok(query) => run(system.alloc(), request, &query, reader, writer, messages),
         Err(NoNow::Clock) => Outcome::NoClock,
-        Err(NoNow::NoInstant) => {
-            usage_outcome(writer, WrongWords::NoMoment(NoMoment::Conversion))
-        }
+        Err(NoNow::NoMoment(text, why)) => Outcome::Shown(WrongWords::NoMoment(text, why)),
     }
 }
 
 /// Answers the texts, or the lines of the reader if there is no text.
-fn run<R: Source, W: Sink, M: Sink>(
+fn run<'w, R: Source, W: Sink, M: Sink>(
     alloc: Global,
-    request: Request<'_>,
+    request: Request<'w>,
     query: &Query<'_>,
     reader: &mut R,
     writer: &mut W,
     messages: &mut M,
-) -> Outcome
-    ensures { EndsRun (asked_view request.entry) query.entry.now (change (R.known reader.old) (R.known reader.new))
+) -> Outcome<'w>
+    ensures { EndsRun (request_view request.entry) query.entry.now (change (R.known reader.old) (R.known reader.new))
         (output (change (W.known writer.old) (W.known writer.new))
         (change (M.known messages.old) (M.known messages.new))) result }
 {
@@ -135,58 +135,50 @@ fn run<R: Source, W: Sink, M: Sink>(
 }
 
 /// What is asked of each text, in a zone.
-fn query_of<'z, S: Clock>(
+fn query_of<'w, 'z, S: Clock>(
     system: &S,
-    request: Request<'_>,
+    request: Request<'w>,
     zone: TimeZone<'z>,
-) -> Result<Query<'z>, NoNow>
-    requires { IsAskedZone (asked_view request).zone (plain_zone zone) }
-    ensures { MatchResult result (IsQuery (asked_view request.entry)) (IsNoQuery (asked_view request.entry)) }
+) -> Result<Query<'z>, NoNow<'w>>
+    requires { IsAskedZone (request_view request).zone (plain_zone zone) }
+    ensures { MatchResult result (IsQuery (request_view request.entry)) (IsNoQuery (request_view request.entry)) }
 {
     match moment(system, request.now, zone) {
         Ok(now) => Ok(Query {
-            reader: request.reader,
-            shown: request.shown,
+            reader: request.reader.unwrap_or(Reader::Approxidate),
+            shown: request.shown.unwrap_or(Shown::RAW),
             now,
-            strict: request.strict,
+            strictness: request.strictness.unwrap_or(Strictness::Usual),
         }),
         Err(why) => Err(why),
     }
 }
 
-/// Without the zone that is asked for: memory was refused, or the usage line is due.
-fn no_zone<W: Sink>(error: Error, asked: Option<&str>, writer: &mut W) -> Outcome
-    ensures { EndsWithoutZone (no_zone_words (option_map (λ text. text.now) asked.entry))
-        (change (W.known writer.old) (W.known writer.new)) result }
+/// Without the zone that is asked for: memory was refused, or there is none.
+fn no_zone<'w>(error: Error, asked: Option<&'w str>) -> Outcome<'w>
+    requires { NeedsSystem (option_map (λ text. text.now) asked) }
+    ensures { EndsWithoutZone (option_map (λ text. text.now) asked.entry) result }
 {
-    match error {
-        Error::OutOfMemory => Outcome::Fault(ToolError::Memory),
-        _ => usage_outcome(writer, no_zone_words(asked)),
-    }
-}
-
-/// What is wrong where there is no zone.
-fn no_zone_words(asked: Option<&str>) -> WrongWords
-    ensures { result ≡ no_zone_words (option_map (λ text. text.now) asked.entry) }
-{
-    match asked {
-        Some(_) => WrongWords::NoZone,
-        None => WrongWords::NoSystemZone,
+    match (error, asked) {
+        (Error::OutOfMemory, _) => Outcome::Fault(ToolError::Memory),
+        (_, Some(text)) => Outcome::Shown(WrongWords::NoZone(text)),
+        (_, None) => Outcome::Shown(WrongWords::NoSystemZone),
     }
 }
 
 /// The moment in a zone: that of NOW, or the clock's.
-fn moment<'z, S: Clock>(
+fn moment<'w, 'z, S: Clock>(
     system: &S,
-    now: Option<Time>,
+    now: Option<&'w str>,
     zone: TimeZone<'z>,
-) -> Result<Zoned<'z>, NoNow>
-    ensures { MatchResult result (IsMomentIn now (plain_zone zone.entry)) (IsNoMoment now) }
+) -> Result<Zoned<'z>, NoNow<'w>>
+    ensures { MatchResult result (IsMomentIn (option_map (λ now. now.now) now.entry) (plain_zone zone.entry))
+        (IsNoMoment (option_map (λ now. now.now) now.entry) (plain_zone zone.entry)) }
 {
     match now {
-        Some(time) => match Timestamp::from_second(time.seconds) {
+        Some(text) => match instant_of(text, zone) {
             Ok(instant) => Ok(instant.to_zoned(zone)),
-            Err(_) => Err(NoNow::NoInstant),
+            Err(why) => Err(NoNow::NoMoment(text, why)),
         },
         None => match Timestamp::now(system) {
             Ok(instant) => Ok(instant.to_zoned(zone)),
@@ -195,35 +187,79 @@ fn moment<'z, S: Clock>(
     }
 }
 
-/// Writes the usage line.
-fn usage_outcome<W: Sink>(writer: &mut W, why: WrongWords) -> Outcome
-    ensures { EndsInUsage why (change (W.known writer.old) (W.known writer.new)) result }
+/// Writes a text.
+fn print<'w, W: Sink>(text: &str, writer: &mut W) -> Outcome<'w>
+    ensures { Prints text.now (change (W.known writer.old) (W.known writer.new)) result }
 {
-    match put_all(writer, USAGE) {
-        Ok(()) => Outcome::Shown(why),
+    match put_all(writer, text.as_bytes()) {
+        Ok(()) => Outcome::Printed,
         Err(kind) => Outcome::Fault(ToolError::Write(kind)),
     }
 }
 
-/// Says in one line why the program ends so, where there is something to say.
-fn report<M: Sink>(outcome: &Outcome, messages: &mut M)
+/// Says why the program ends so, where there is something to say.
+fn report<M: Sink>(outcome: &Outcome<'_>, messages: &mut M)
     ensures { Reports (change (M.known messages.old) (M.known messages.new)) (message_of outcome.now) }
 {
     match outcome {
-        Outcome::Fault(fault) => {
-            write_message(&["git_date: ", fault.text(), fault.cause(), "\n"], messages);
-        }
-        Outcome::Shown(why) => write_message(&["git_date: ", why.text(), "\n"], messages),
+        Outcome::Fault(fault) => tell_fault(fault, messages),
+        Outcome::Shown(why) => tell_wrong(*why, messages),
         Outcome::NoClock => write_message(&["git_date: the clock cannot be read\n"], messages),
         Outcome::Answered(_) => {}
+        Outcome::Printed => {}
     }
 }
 
+/// Says in one line what fault a run has. That its reader wants no more, as `head`, is none that a user has to read.
+fn tell_fault<M: Sink>(fault: &ToolError, messages: &mut M)
+    ensures { Reports (change (M.known messages.old) (M.known messages.new)) (fault_message fault.now) }
+{
+    if !is_closed_pipe(fault) {
+        write_message(&["git_date: ", fault.text(), fault.cause(), "\n"], messages);
+    }
+}
+
+/// Whether the writer is a pipe that nothing reads any more.
+fn is_closed_pipe(fault: &ToolError) -> bool
+    ensures { result ≡ is_closed_pipe fault.now }
+{
+    matches!(fault, ToolError::Write(ErrorKind::BrokenPipe))
+}
+
+/// Says what is wrong with the command line, and how the program is called.
+fn tell_wrong<M: Sink>(why: WrongWords<'_>, messages: &mut M)
+    ensures { WritesMessage (change (M.known messages.old) (M.known messages.new)) (usage_message (wrong_words why.entry)) }
+{
+    match why.subject() {
+        Some(word) => tell_about(word, why.lead(), why.text(), messages),
+        None => tell_usage(why.lead(), why.text(), messages),
+    }
+}
+
+/// Says of a word what is wrong with it, and how the program is called.
+fn tell_about<'a, M: Sink>(word: &'a str, lead: &'a str, text: &'a str, messages: &mut M)
+    ensures { WritesMessage (change (M.known messages.old) (M.known messages.new))
+        (usage_message (about word.now (lead.now ++ text.now))) }
+{
+    write_message(
+        &["git_date: '", word, "' ", lead, text, "\n", USAGE],
+        messages,
+    );
+}
+
+/// Says this, and how the program is called.
+fn tell_usage<'a, M: Sink>(lead: &'a str, text: &'a str, messages: &mut M)
+    ensures { WritesMessage (change (M.known messages.old) (M.known messages.new)) (usage_message (lead.now ++ text.now)) }
+{
+    write_message(&["git_date: ", lead, text, "\n", USAGE], messages);
+}
+
 /// The status that an end has.
-fn status_of(outcome: &Outcome) -> Status
+fn status_of(outcome: &Outcome<'_>) -> Status
     ensures { result ≡ status_of outcome.now }
 {
     match outcome {
+        Outcome::Printed => Status::Success,
         Outcome::Answered(true) => Status::Success,
         Outcome::Answered(false) => Status::Failure,
         Outcome::Fault(_) => Status::Failure,

@@ -1,12 +1,13 @@
 //! The readers of dates.
 ghost use Rattle.std.specs.Prelude.{◌≡◌, IfOk};
-ghost use Rattle.git_date_tool.specs.Readers.{IsRead, IsReadBy, IsOfText, IsCarefully, IsByGix, careful_options, of_exact, whole, judged, HasPlace};
+ghost use Rattle.git_date_tool.specs.Readers.{IsRead, IsReadBy, IsOfText, IsCarefully, IsByGix, IsHeader, header_found, careful_options, of_exact, whole, judged, HasPlace};
 
 use crate::refusals::{Refusal, of_careful, of_git, of_gix};
 use git_date::{Approximate, ReadDate, approxidate, parse_date};
 use gix_date::bytes::text_of;
 use gix_date::{
-    CarefulOptions, RawOffsets, Texts, Time, WithoutOffset, Zoned, parse_carefully, parse_no_alloc,
+    CarefulOptions, RawOffsets, Texts, Time, WithoutOffset, Zoned, is_canonical_header,
+    parse_carefully, parse_header, parse_no_alloc,
 };
 
 /// What reads the texts.
@@ -21,27 +22,45 @@ pub enum Reader {
     Careful,
     /// [`gix_date::parse_no_alloc`], as the crate gix-date reads dates.
     Gix,
+    /// [`gix_date::parse_header`], as the time in a commit's header: with [`Strictness::Strict`] only where that is canonical.
+    Header,
 }
 
-/// What the bytes of a text say at a moment. If that is strict, all of it has to be understood.
+/// How much of a text has to be understood.
+#[derive(Clone, Copy, Debug, PartialEq, Eq)]
+pub enum Strictness {
+    /// Nothing, as for Git.
+    Lenient,
+    /// Something.
+    Usual,
+    /// Each word.
+    Strict,
+}
+
+/// What the bytes of a text say at a moment, where so much of it has to be understood.
 pub(crate) fn read(
     reader: Reader,
-    strict: bool,
+    strictness: Strictness,
     text: &[u8],
     now: Zoned<'_>,
 ) -> Result<Approximate, Refusal>
-    ensures is { IsRead reader strict now.entry text.now result }
+    ensures is { IsRead reader strictness now.entry text.now result }
     ensures place { IfOk result (HasPlace text.now) }
 {
-    match read_by(reader, text, now) {
-        Ok(found) => judged(strict, found),
+    match read_by(reader, strictness, text, now) {
+        Ok(found) => judged(strictness, found),
         Err(refusal) => Err(refusal),
     }
 }
 
 /// What a reader finds in a text.
-fn read_by(reader: Reader, text: &[u8], now: Zoned<'_>) -> Result<Approximate, Refusal>
-    ensures is { IsReadBy reader now.entry text.now result }
+fn read_by(
+    reader: Reader,
+    strictness: Strictness,
+    text: &[u8],
+    now: Zoned<'_>,
+) -> Result<Approximate, Refusal>
+    ensures is { IsReadBy reader strictness now.entry text.now result }
     ensures place { IfOk result (HasPlace text.now) }
 {
     match reader {
@@ -55,6 +74,33 @@ fn read_by(reader: Reader, text: &[u8], now: Zoned<'_>) -> Result<Approximate, R
         },
         Reader::Careful => carefully(text, now),
         Reader::Gix => by_gix(text, now),
+        Reader::Header => header(strictness, text),
+    }
+}
+
+/// The time of a header, in bytes that are text.
+#[tactic(auto, using(crate::proofs::OfText::of_text, crate::proofs::OfText::of_bytes))]
+fn header(strictness: Strictness, text: &[u8]) -> Result<Approximate, Refusal>
+    ensures is { IsOfText (IsHeader strictness) text.now result }
+    ensures place { IfOk result (HasPlace text.now) }
+{
+    let Some(text) = text_of(text) else {
+        return Err(Refusal::NotText);
+    };
+    header_found(strictness, text)
+}
+
+/// The time of a header.
+fn header_found(strictness: Strictness, text: &str) -> Result<Approximate, Refusal>
+    ensures is { result ≡ header_found strictness text.now }
+    ensures place { IfOk result (HasPlace text.now) }
+{
+    match parse_header(text) {
+        Some(_) if strictness == Strictness::Strict && !is_canonical_header(text) => {
+            Err(Refusal::NotCanonical)
+        }
+        Some(time) => Ok(whole(time)),
+        None => Err(Refusal::NoHeader),
     }
 }
 
@@ -122,15 +168,13 @@ fn whole(time: Time) -> Approximate
 }
 
 /// What was found, unless something was not understood and has to be.
-fn judged(strict: bool, found: Approximate) -> Result<Approximate, Refusal>
-    ensures { result ≡ judged strict found }
+fn judged(strictness: Strictness, found: Approximate) -> Result<Approximate, Refusal>
+    ensures { result ≡ judged strictness found }
 {
-    if !strict {
-        return Ok(found);
-    }
-    match found.ignored {
+    match (strictness, found.ignored) {
+        (Strictness::Lenient, _) => Ok(found),
         _ if !found.understood => Err(Refusal::NotUnderstood),
-        Some(place) => Err(Refusal::Ignored(place)),
-        None => Ok(found),
+        (Strictness::Strict, Some(place)) => Err(Refusal::Ignored(place)),
+        _ => Ok(found),
     }
 }

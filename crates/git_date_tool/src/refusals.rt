@@ -32,6 +32,10 @@ pub enum Refusal {
     NotUnderstood,
     /// Git ignores the word or number at this place.
     Ignored(usize),
+    /// The text is no header.
+    NoHeader,
+    /// Git writes another header for the time.
+    NotCanonical,
     /// The time of the text cannot be shown so.
     NotShown,
 }
@@ -54,6 +58,8 @@ impl Refusal {
             Refusal::Unclear(_) => "error unclear",
             Refusal::NotUnderstood => "error not-understood",
             Refusal::Ignored(_) => "error ignored",
+            Refusal::NoHeader => "error no-header",
+            Refusal::NotCanonical => "error not-canonical",
             Refusal::NotShown => "error not-shown",
         }
     }

@@ -3,7 +3,7 @@ ghost use Rattle.std.specs.Prelude.{◌≡◌};
 ghost use Rattle.git_date_tool.specs.Shown.{shown_named, format_named, IsFormat, IsShown, line_text};
 
 use crate::refusals::Refusal;
-use git_date::{DateMode, DateText, show_date};
+use git_date::{DateKind, DateMode, DateText, show_date};
 use gix_date::time::format::{
     DEFAULT, Format, GIT_RFC2822, GITOXIDE, ISO8601, ISO8601_STRICT, RAW, RFC2822, SHORT, UNIX,
 };
@@ -59,6 +59,14 @@ pub enum Shown {
     Git(DateMode),
     /// What [`gix_date::Time::format`] prints.
     Gix(NamedFormat),
+}
+
+impl Shown {
+    /// The text of a commit's header, as `git log --date=raw` shows it.
+    pub const RAW: Shown = Shown::Git(DateMode {
+        kind: DateKind::Raw,
+        local: false,
+    });
 }
 
 /// What a name stands for: one of Git's modes, or a constant of gix-date's formats. Letter case matters: `iso8601` is Git's,

@@ -1,5 +1,5 @@
 //! What is said beside a date.
-ghost use Rattle.std.specs.Prelude.{◌≡◌, ◌++◌, None, Some, codes};
+ghost use Rattle.std.specs.Prelude.{◌≡◌, ◌≤◌, ◌++◌, None, Some, codes, length};
 ghost use Rattle.std.specs.List.{prefix_len};
 ghost use Rattle.std.specs.Char.{is_ascii_alphanumeric};
 ghost use Rattle.git_date.specs.Outcome.{IsPlaceIn};
@@ -8,7 +8,7 @@ ghost use Rattle.gix_date_tool.specs.Lines.{with_newline};
 ghost use Rattle.gix_date_tool.specs.Run.{change};
 ghost use Rattle.std.specs.Fmt.{decimal};
 ghost use Rattle.git_date_tool.specs.Readers.{HasPlace};
-ghost use Rattle.git_date_tool.specs.Warnings.{word_at, warning_of, warning_view, warning_line, line_by, ignored_front, ignored_view};
+ghost use Rattle.git_date_tool.specs.Warnings.{word_at, word_len, warning_of, warning_view, warning_line, line_by, ignored_front, ignored_view};
 
 use git_date::Approximate;
 use gix_date::bytes::text_of;
@@ -38,7 +38,7 @@ pub(crate) fn warning_of<'a>(text: &'a [u8], found: &Approximate) -> Warning<'a>
     }
 }
 
-/// The letters and digits from a place on.
+/// The letters and digits from a place on, perhaps after a sign.
 fn word_at(text: &[u8], place: usize) -> &str
     requires { IsPlaceIn text.now place }
     ensures { result.now ≡ word_at text.now place }
@@ -50,9 +50,23 @@ fn word_at(text: &[u8], place: usize) -> &str
     }
 }
 
-/// How many letters and digits stand in front.
+/// How many bytes the word in front has.
+#[tactic(auto, using(crate::proofs::Words::word_within))]
 fn word_len(text: &[u8]) -> usize
-    ensures { result ≡ prefix_len is_ascii_alphanumeric text.now }
+    ensures value { result ≡ word_len text.now }
+    ensures within { result ≤ length text.now }
+{
+    match text {
+        [b'+' | b'-', digits @ ..] => 1 + alphanumeric_len(digits),
+        _ => alphanumeric_len(text),
+    }
+}
+
+/// How many letters and digits stand in front.
+#[tactic(auto, using(crate::proofs::Words::letters_within))]
+fn alphanumeric_len(text: &[u8]) -> usize
+    ensures value { result ≡ prefix_len is_ascii_alphanumeric text.now }
+    ensures within { result ≤ length text.now }
 {
     text.iter()
         .take_while(|b| b.is_ascii_alphanumeric())

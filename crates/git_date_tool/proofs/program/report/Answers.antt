@@ -1,13 +1,21 @@
+use Rattle.std.proofs.Common.{sym, subst}
+use Rattle.gix_date_tool.specs.Messages.{Reports}
 use Rattle.gix_date_tool.specs.Run.{change}
-use Rattle.git_date_tool.proofs.Reported.{fault-reported, usage-reported}
+use Rattle.git_date_tool.specs.Program.{message_of}
+use Rattle.git_date_tool.proofs.Reported.{wrong-reported}
 use Rattle.git_date_tool.proofs.program.report.Goals as goal
 
 pub returns-in-Fault : goal.returns-in-Fault
 returns-in-Fault g c =
-    let telling = change (g.M.Sink.known c.args.messages.now) (g.M.Sink.known c.write_message.new.messages) in
-    fault-reported telling c.args.outcome.now c.in-Fault.fault c.text.result.now c.cause.result.now c.in-Fault.is c.text.ensures c.cause.ensures c.write_message.ensures
+    let telling = change (g.M.Sink.known c.args.messages.now) (g.M.Sink.known c.tell_fault.new.messages) in
+    subst (λ e. Reports telling (message_of e)) (sym c.in-Fault.is) c.tell_fault.ensures
 
 pub returns-in-Shown : goal.returns-in-Shown
 returns-in-Shown g c =
-    let telling = change (g.M.Sink.known c.args.messages.now) (g.M.Sink.known c.write_message-in-Shown.new.messages) in
-    usage-reported telling c.args.outcome.now c.in-Shown.why c.text-in-Shown.result.now c.in-Shown.is c.text-in-Shown.ensures c.write_message-in-Shown.ensures
+    let telling = change (g.M.Sink.known c.args.messages.now) (g.M.Sink.known c.tell_wrong.new.messages) in
+    wrong-reported telling c.args.outcome.now c.in-Shown.why c.in-Shown.is c.tell_wrong.ensures
+
+pub returns-in-NoClock : goal.returns-in-NoClock
+returns-in-NoClock g c =
+    let telling = change (g.M.Sink.known c.args.messages.now) (g.M.Sink.known c.write_message.new.messages) in
+    subst (λ e. Reports telling (message_of e)) (sym c.in-NoClock.is) c.write_message.ensures
