@@ -1,8 +1,8 @@
 -- Texts answered one after the other.
-use Rattle.std.proofs.Common.{◌≡◌, true, false, Bool, ℕ, List, [], ◌∷◌, ◌++◌, ◌&&◌, refl, sym, ap, ◌∙◌, subst, append-nil, append_assoc, ◌+◌, ◌<◌, length, take, drop, get_or, map, string_bytes, Ok}
+use Rattle.std.proofs.Common.{◌≡◌, true, false, Bool, ℕ, List, [], ◌∷◌, ◌++◌, ◌&&◌, refl, sym, ap, ◌∙◌, subst, append-nil, append_assoc, ◌+◌, ◌<◌, suc, arith, length, take, drop, get_or, map, string_bytes, Result, Ok}
 use Rattle.std.proofs.lemmas.List.Concat.{flat_map-append}
 use Rattle.std.proofs.lemmas.List.Folds.{list_all-append}
-use Rattle.std.proofs.lemmas.List.{take_more, take-append-drop}
+use Rattle.std.proofs.lemmas.List.{take_more, take-append-drop, length-map, length-take-le}
 use mathlib.Core.List.{map-append}
 use Rattle.std.specs.Global.{Global}
 use Rattle.std.specs.Prelude.{String}
@@ -11,9 +11,11 @@ use Rattle.gix_date.proofs.Text.KnownBytes.{Appends-append}
 use Rattle.gix_date_tool.specs.Lines.{with_newline}
 use Rattle.gix_date_tool.specs.Messages.{Reports}
 use Rattle.gix_date_tool.specs.Run.{change}
+use Rattle.gix_date_tool.specs.declared.error.ToolError.{ToolError}
 use Rattle.gix_date_tool.proofs.Sending.{Appends-nil}
 use Rattle.git_date_tool.specs.Answers.{Reply, IsReply}
-use Rattle.git_date_tool.specs.Runs.{output, AreReplies, reply_lines, Warns, all_dates, Answered, Serves}
+use Rattle.git_date_tool.specs.Runs.{Output, output, AreReplies, reply_lines, Warns, all_dates, Answered, Serves}
+use Rattle.git_date_tool.specs.Warnings.{warning_line}
 use Rattle.git_date_tool.specs.declared.answers.Query.{Query}
 
 pub and_true : (b : Bool) → (b && true) ≡ b
@@ -32,9 +34,25 @@ lines-more : (replies : List Reply) (reply : Reply) → reply_lines (replies ++ 
 lines-more replies reply =
     flat_map-append (λ (r : Reply). with_newline r.text) replies (reply ∷ []) ∙ ap (λ xs. reply_lines replies ++ xs) (append-nil (with_newline reply.text))
 
-Warns-more : (a b c : StreamState) (replies : List Reply) (reply : Reply) → Warns a b replies → Reports (change b c) reply.warning → Warns a c (replies ++ reply ∷ [])
-Warns-more a b c [] reply h k = (c, subst (λ s. Reports (change s c) reply.warning) h k, refl)
-Warns-more a b c (r ∷ rs) reply h k = (h.0, h.1, Warns-more h.0 b c rs reply h.2 k)
+-- a warning more, with the number after those of the others
+Warns-more : (query : Query) (number next : ℕ) (a b c : StreamState) (replies : List Reply) (reply : Reply) → next ≡ length replies + number
+    → Warns query number a b replies → Reports (change b c) (warning_line query.numbered next reply.warning) → Warns query number a c (replies ++ reply ∷ [])
+Warns-more query number next a b c [] reply e h k =
+    let first : next ≡ number = omega (arith, e) in (
+      c,
+      subst (λ (n : ℕ). Reports (change a c) (warning_line query.numbered n reply.warning)) first
+          (subst (λ (s : StreamState). Reports (change s c) (warning_line query.numbered next reply.warning)) h k),
+      refl,
+    )
+Warns-more query number next a b c (r ∷ rs) reply e h k =
+    (h.0, h.1, Warns-more query (number + 1) next h.0 b c rs reply (omega (arith, e)) h.2 k)
+
+-- as many replies as texts
+as-many : (query : Query) (texts : List (List ℕ)) (replies : List Reply) → AreReplies query texts replies → length replies ≡ length texts
+as-many query [] [] h = refl
+as-many query [] (r ∷ rs) h = absurd h
+as-many query (t ∷ ts) [] h = absurd h
+as-many query (t ∷ ts) (r ∷ rs) h = ap (λ (n : ℕ). suc n) (as-many query ts rs h.1)
 
 dates-more : (replies : List Reply) (reply : Reply) → all_dates (replies ++ reply ∷ []) ≡ (all_dates replies && reply.is_date)
 dates-more replies reply =
@@ -47,7 +65,7 @@ Answered-none query sink messages =
 
 -- some texts, and the next
 pub Answered-more : (query : Query) (texts : List (List ℕ)) (text : List ℕ) (a b c d e f : StreamState) (all_read is_date : Bool)
-    → Answered query texts (output (change a b) (change d e)) all_read → Serves query text (output (change b c) (change e f)) (Ok is_date)
+    → Answered query texts (output (change a b) (change d e)) all_read → Serves query (length texts + 1) text (output (change b c) (change e f)) (Ok is_date)
     → Answered query (texts ++ text ∷ []) (output (change a c) (change d f)) (all_read && is_date)
 Answered-more query texts text a b c d e f all_read is_date h k =
     let reply = k.0 in
@@ -55,7 +73,7 @@ Answered-more query texts text a b c d e f all_read is_date h k =
       replies = h.replies ++ reply ∷ [];
       each = AreReplies-more query texts h.replies text reply h.each k.1;
       wrote = subst (Takes a c) (sym (lines-more h.replies reply)) (Appends-append a.bytes b.bytes c.bytes (reply_lines h.replies) (with_newline reply.text) h.wrote k.2);
-      warned = Warns-more d e f h.replies reply h.warned k.3;
+      warned = Warns-more query 1 (length texts + 1) d e f h.replies reply (ap (λ (n : ℕ). n + 1) (sym (as-many query texts h.replies h.each))) h.warned k.3;
       all_read_is = ap (λ x. x && is_date) h.all_read_is ∙ ap (λ x. all_dates h.replies && x) k.4 ∙ sym (dates-more h.replies reply);
     }
 
@@ -74,3 +92,11 @@ texts-around texts i d text within is =
     ap (λ ts. map string_bytes ts) (sym (take-append-drop (i + 1) texts)) ∙ map-append string_bytes (take (i + 1) texts) after
     ∙ ap (λ ts. ts ++ map string_bytes after) (texts-more texts i d text within is)
     ∙ append_assoc (map string_bytes (take i texts)) (text ∷ []) (map string_bytes after)
+
+-- the number of the next text
+pub numbered-next : (query : Query) (texts : List (String Global)) (i before : ℕ) (text : List ℕ) (out : Output) (result : Result Bool ToolError) → i < length texts
+    → before ≡ i → Serves query (before + 1) text out result → Serves query (length (map string_bytes (take i texts)) + 1) text out result
+numbered-next query texts i before text out result within e h =
+    let same : before ≡ length (map string_bytes (take i texts)) =
+    e ∙ sym (length-map (take i texts) string_bytes ∙ length-take-le i texts (omega (arith, within))) in
+    subst (λ (n : ℕ). Serves query (n + 1) text out result) same h

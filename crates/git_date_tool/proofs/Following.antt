@@ -1,5 +1,5 @@
 -- Lines of a source answered one after the other.
-use Rattle.std.proofs.Common.{◌≡◌, ◌≢◌, inl, inr, true, false, Bool, ◌&&◌, ℕ, List, [], ◌∷◌, ◌++◌, length, refl, sym, ap, ◌∙◌, subst, append_assoc, append-nil, length-append, arith, Ok, Err}
+use Rattle.std.proofs.Common.{◌≡◌, ◌≢◌, ◌+◌, inl, inr, true, false, Bool, ◌&&◌, ℕ, List, [], ◌∷◌, ◌++◌, length, refl, sym, ap, ◌∙◌, subst, append_assoc, append-nil, length-append, arith, Ok, Err}
 use Rattle.std.proofs.lemmas.List.Concat.{flat_map-append}
 use Rattle.std.proofs.lemmas.List.Elements.{All-append, All-nil, All-cons}
 use Rattle.std.specs.List.{flat_map}
@@ -100,8 +100,8 @@ is_next input lines unread more line new false is h k = (is, inl (begins-more in
 
 -- the answer to the next line had a fault
 pub breaks-next : (query : Query) (first : StreamState) (now new : Cursor) (a b c d e f : StreamState) (line : List ℕ) (all_read goes_on : Bool) (fault : ToolError)
-    → Far query first now (output (change a b) (change d e)) all_read → Reads now new line (Ok goes_on)
-    → Serves query line (output (change b c) (change e f)) (Err fault)
+    → (far : Far query first now (output (change a b) (change d e)) all_read) → Reads now new line (Ok goes_on)
+    → Serves query (length far.lines + 1) line (output (change b c) (change e f)) (Err fault)
     → RunsThrough query (change first new.source) (output (change a c) (change d f)) (Err fault)
 breaks-next query first now new a b c d e f line all_read goes_on fault far h served = record {
   read = far.input ++ h.input;
@@ -138,8 +138,8 @@ ends-empty query first now new out line all_read far h empty = record {
 
 -- the input has ended, and its last line was answered
 ends-last : (query : Query) (first : StreamState) (now new : Cursor) (a b c d e f : StreamState) (line : List ℕ) (all_read is_date : Bool)
-    → Far query first now (output (change a b) (change d e)) all_read → Reads now new line (Ok false)
-    → last_line line ≡ line ∷ [] → Serves query line (output (change b c) (change e f)) (Ok is_date)
+    → (far : Far query first now (output (change a b) (change d e)) all_read) → Reads now new line (Ok false)
+    → last_line line ≡ line ∷ [] → Serves query (length far.lines + 1) line (output (change b c) (change e f)) (Ok is_date)
     → RunsThrough query (change first new.source) (output (change a c) (change d f)) (Ok (all_read && is_date))
 ends-last query first now new a b c d e f line all_read is_date far h some served = record {
   read = far.input ++ h.input;
@@ -161,8 +161,8 @@ ends-last query first now new a b c d e f line all_read is_date far h some serve
 
 -- the input has ended, and what stands there was answered, if a byte does
 pub ends-with : (query : Query) (first : StreamState) (now new : Cursor) (a b c d e f : StreamState) (line : List ℕ) (all_read is_date : Bool)
-    → Far query first now (output (change a b) (change d e)) all_read → Reads now new line (Ok false)
-    → ServesLast query (last_line line) (output (change b c) (change e f)) (Ok is_date)
+    → (far : Far query first now (output (change a b) (change d e)) all_read) → Reads now new line (Ok false)
+    → ServesLast query (length far.lines + 1) (last_line line) (output (change b c) (change e f)) (Ok is_date)
     → RunsThrough query (change first new.source) (output (change a c) (change d f)) (Ok (all_read && is_date))
 ends-with query first now new a b c d e f [] all_read is_date far h served =
     let run = ends-empty query first now new (output (change a b) (change d e)) [] all_read far h refl in
@@ -176,8 +176,8 @@ ends-with query first now new a b c d e f (x ∷ xs) all_read is_date far h serv
 
 -- the input has ended, and answering what stands there had a fault
 pub breaks-last : (query : Query) (first : StreamState) (now new : Cursor) (a b c d e f : StreamState) (line : List ℕ) (all_read : Bool) (fault : ToolError)
-    → Far query first now (output (change a b) (change d e)) all_read → Reads now new line (Ok false)
-    → ServesLast query (last_line line) (output (change b c) (change e f)) (Err fault)
+    → (far : Far query first now (output (change a b) (change d e)) all_read) → Reads now new line (Ok false)
+    → ServesLast query (length far.lines + 1) (last_line line) (output (change b c) (change e f)) (Err fault)
     → RunsThrough query (change first new.source) (output (change a c) (change d f)) (Err fault)
 breaks-last query first now new a b c d e f [] all_read fault far h served = absurd cc
 breaks-last query first now new a b c d e f (x ∷ xs) all_read fault far h served =
@@ -185,8 +185,8 @@ breaks-last query first now new a b c d e f (x ∷ xs) all_read fault far h serv
 
 -- one more line was answered
 unfoldable pub goes-on : (query : Query) (first : StreamState) (now new : Cursor) (a b c d e f : StreamState) (line : List ℕ) (all_read is_date : Bool)
-    → Far query first now (output (change a b) (change d e)) all_read → Reads now new line (Ok true)
-    → Serves query line (output (change b c) (change e f)) (Ok is_date)
+    → (far : Far query first now (output (change a b) (change d e)) all_read) → Reads now new line (Ok true)
+    → Serves query (length far.lines + 1) line (output (change b c) (change e f)) (Ok is_date)
     → Far query first new (output (change a c) (change d f)) (all_read && is_date)
 goes-on query first now new a b c d e f line all_read is_date far h served = record {
   input = far.input ++ h.input;

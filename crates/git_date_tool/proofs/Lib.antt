@@ -4,5 +4,6 @@ pub mod Following
 pub mod OfText
 pub mod Reported
 pub mod Texts
+pub mod Told
 pub mod Words
 pub mod Zoning

@@ -6,14 +6,14 @@ use Rattle.git_date.specs.declared.approximate.answer.Approximate.{Approximate}
 use Rattle.git_date_tool.specs.Readers.{IsRead}
 use Rattle.git_date_tool.specs.Refusals.{refusal_name, refusal_place}
 use Rattle.git_date_tool.specs.Shown.{IsShown, line_text}
-use Rattle.git_date_tool.specs.Warnings.{Told, warning_of, warning_view, warning_line}
+use Rattle.git_date_tool.specs.Warnings.{Told, warning_of, warning_view, warning_words}
 use Rattle.git_date_tool.specs.declared.answers.Answer.{Answer}
 use Rattle.git_date_tool.specs.declared.answers.Answer.TheVariants.{Date, Refused}
 use Rattle.git_date_tool.specs.declared.answers.Query.{Query}
 use Rattle.git_date_tool.specs.declared.refusals.Refusal.{Refusal}
 use Rattle.git_date_tool.specs.declared.shown.DateLine.{DateLine}
 
--- the line that answers a text, the line of a warning beside it, and whether the text was read
+-- the line that answers a text, what a warning beside it says after the text's number, and whether the text was read
 pub record Reply : Type 0 where
   pub text : List ℕ
   pub warning : Option (List ℕ)
@@ -34,7 +34,7 @@ refused e = record { text = refusal_text e; warning = None; is_date = false }
 
 -- the reply to a text that is a date
 abbrev pub dated : DateLine → Told → Reply
-dated line told = record { text = line_text line; warning = warning_line told; is_date = true }
+dated line told = record { text = line_text line; warning = warning_words told; is_date = true }
 
 -- the reply to a text that was read, by the line that shows its date
 abbrev pub line_reply : Result DateLine Refusal → Told → Reply

@@ -28,6 +28,8 @@ use Rattle.git_date_tool.specs.declared.help.TheConstants.{HELP, USAGE, VERSION}
 use Rattle.git_date_tool.specs.declared.readers.Reader.TheVariants.{Approxidate}
 use Rattle.git_date_tool.specs.declared.readers.Strictness.TheVariants.{Usual}
 use Rattle.git_date_tool.specs.declared.shown.Shown.TheVariants.{Git}
+use Rattle.git_date_tool.specs.declared.warnings.Numbered.{Numbered}
+use Rattle.git_date_tool.specs.declared.warnings.Numbered.TheVariants.{Line, Text}
 use Rattle.git_date_tool.specs.declared.wrong.WrongWords.{WrongWords}
 use Rattle.git_date_tool.specs.declared.wrong.WrongWords.TheVariants.{NoMoment, NoZone, NoSystemZone}
 
@@ -101,11 +103,17 @@ IsNoMoment now zone (NoMomentOf text why) = (now ≡ Some text.now) × IsInstant
 abbrev pub IsNoQuery : Asked → NoNow → Type 0
 IsNoQuery a why = (zone : TimeZone) × IsAskedZone a.zone zone × IsNoMoment a.now zone why
 
+-- texts of the command line are numbered as texts, and else there are lines
+abbrev pub numbered_of : List (List ℕ) → Numbered
+numbered_of [] = Line
+numbered_of (text ∷ texts) = Text
+
 -- the query is what was asked for
 pub record IsQuery (a : Asked) (query : Query) : Type 0 where
   pub reader : query.reader ≡ unwrap_or a.reader Approxidate
   pub shown : query.shown ≡ unwrap_or a.shown (Git (record { kind = Raw; local = false }))
   pub strictness : query.strictness ≡ unwrap_or a.strictness Usual
+  pub numbered : query.numbered ≡ numbered_of a.texts
   pub now : IsInstantOfNow a.now (zone_of query.now) query.now
   pub zone : IsAskedZone a.zone (zone_of query.now)
 

@@ -1,5 +1,5 @@
 -- What answering texts comes to.
-use Rattle.std.specs.Prelude.{◌≡◌, ◌⊎◌, ℕ, Bool, true, false, List, [], ◌∷◌, ◌++◌, ◌<◌, length, All, Some, None, Result, Ok, Err}
+use Rattle.std.specs.Prelude.{◌≡◌, ◌⊎◌, ℕ, Bool, true, false, List, [], ◌∷◌, ◌++◌, ◌+◌, ◌<◌, length, All, Some, None, Result, Ok, Err}
 use Rattle.std.specs.List.{flat_map, list_all}
 use Rattle.gix_date.specs.Devices.StreamState.{StreamState, Gives, HasEnded, Takes, TakesProperPrefix}
 use Rattle.gix_date_tool.specs.Lines.{IsLine, Splits, with_newline, last_line}
@@ -9,6 +9,7 @@ use Rattle.gix_date_tool.specs.declared.error.ToolError.{ToolError}
 use Rattle.gix_date_tool.specs.declared.error.ToolError.TheVariants as errors
 use Rattle.gix_date_tool.specs.declared.lines.TheConstants.{MAX_LINE_LEN, MAX_LINES}
 use Rattle.git_date_tool.specs.Answers.{Reply, IsReply}
+use Rattle.git_date_tool.specs.Warnings.{warning_line}
 use Rattle.git_date_tool.specs.declared.answers.Query.{Query}
 
 -- what a run writes, and what it tells beside that
@@ -35,10 +36,11 @@ AreReplies query _ _ = ⊥
 abbrev pub reply_lines : List Reply → List ℕ
 reply_lines replies = flat_map (λ reply. with_newline reply.text) replies
 
--- the warnings of some replies are said one after the other
-abbrev pub Warns : StreamState → StreamState → List Reply → Type 0
-Warns old new [] = new ≡ old
-Warns old new (reply ∷ replies) = (mid : StreamState) × Reports (change old mid) reply.warning × Warns mid new replies
+-- the warnings of some replies are said one after the other, each with its number, from this one on
+abbrev pub Warns : Query → ℕ → StreamState → StreamState → List Reply → Type 0
+Warns query number old new [] = new ≡ old
+Warns query number old new (reply ∷ replies) =
+    (mid : StreamState) × Reports (change old mid) (warning_line query.numbered number reply.warning) × Warns query (number + 1) mid new replies
 
 -- whether all replies are dates
 abbrev pub all_dates : List Reply → Bool
@@ -49,28 +51,28 @@ pub record Answered (query : Query) (texts : List (List ℕ)) (out : Output) (al
   pub replies : List Reply
   pub each : AreReplies query texts replies
   pub wrote : Takes out.writing.old out.writing.new (reply_lines replies)
-  pub warned : Warns out.telling.old out.telling.new replies
+  pub warned : Warns query 1 out.telling.old out.telling.new replies
   pub all_read_is : all_read ≡ all_dates replies
 
 -- nothing was done with a stream
 abbrev pub IsUntouched : Change → Type 0
 IsUntouched stream = stream.new ≡ stream.old
 
--- What answering one text comes to: a line, and a warning beside it. Without memory nothing is written or said.
-abbrev pub Serves : Query → List ℕ → Output → Result Bool ToolError → Type 0
-Serves query text out (Ok is_date) =
+-- What answering the text with this number comes to: a line, and a warning beside it. Without memory nothing is written or said.
+abbrev pub Serves : Query → ℕ → List ℕ → Output → Result Bool ToolError → Type 0
+Serves query number text out (Ok is_date) =
     (reply : Reply) × IsReply query text reply × Takes out.writing.old out.writing.new (with_newline reply.text)
-    × Reports out.telling reply.warning × (is_date ≡ reply.is_date)
-Serves query text out (Err (errors.Write kind)) =
+    × Reports out.telling (warning_line query.numbered number reply.warning) × (is_date ≡ reply.is_date)
+Serves query number text out (Err (errors.Write kind)) =
     (reply : Reply) × IsReply query text reply × TakesProperPrefix out.writing.old out.writing.new (with_newline reply.text)
     × (out.writing.new.fault ≡ Some kind) × IsUntouched out.telling
-Serves query text out (Err errors.Memory) = IsUntouched out.writing × IsUntouched out.telling
-Serves query text out (Err _) = ⊥
+Serves query number text out (Err errors.Memory) = IsUntouched out.writing × IsUntouched out.telling
+Serves query number text out (Err _) = ⊥
 
 -- What answering the last line comes to. If there is none, nothing is written or said.
-abbrev pub ServesLast : Query → List (List ℕ) → Output → Result Bool ToolError → Type 0
-ServesLast query [] out result = (result ≡ Ok true) × IsUntouched out.writing × IsUntouched out.telling
-ServesLast query (line ∷ lines) out result = Serves query line out result
+abbrev pub ServesLast : Query → ℕ → List (List ℕ) → Output → Result Bool ToolError → Type 0
+ServesLast query number [] out result = (result ≡ Ok true) × IsUntouched out.writing × IsUntouched out.telling
+ServesLast query number (line ∷ lines) out result = Serves query number line out result
 
 -- after the last line that an input may have no byte may stand
 abbrev pub end_of : Bool → List ℕ → Bool → Result Bool ToolError
@@ -84,7 +86,7 @@ pub record Broken (query : Query) (texts : List (List ℕ)) (text : List ℕ) (o
   pub told : StreamState
   pub all_read : Bool
   pub before : Answered query texts (output (change out.writing.old written) (change out.telling.old told)) all_read
-  pub at : Serves query text (output (change written out.writing.new) (change told out.telling.new)) (Err fault)
+  pub at : Serves query (length texts + 1) text (output (change written out.writing.new) (change told out.telling.new)) (Err fault)
 
 -- a fault came at one of the texts
 pub record BreaksAmong (query : Query) (texts : List (List ℕ)) (out : Output) (fault : ToolError) : Type 0 where

@@ -7,6 +7,8 @@ use Rattle.std.specs.List.{prefix_len}
 use Rattle.gix_date.specs.Text.Characters.{minus, plus}
 use Rattle.gix_date_tool.specs.Lines.{with_newline}
 use Rattle.git_date.specs.declared.approximate.answer.Approximate.{Approximate}
+use Rattle.git_date_tool.specs.declared.warnings.Numbered.{Numbered}
+use Rattle.git_date_tool.specs.declared.warnings.Numbered.TheVariants.{Line, Text}
 use Rattle.git_date_tool.specs.declared.warnings.Warning.{Warning}
 
 -- whether anything was understood, and what was ignored: its place and its word
@@ -41,18 +43,30 @@ ignored_view both = (both.0, both.1.now)
 abbrev pub warning_view : Warning → Told
 warning_view w = record { understood = w.understood; ignored = option_map ignored_view w.ignored }
 
--- how its line begins
+-- how it begins
 abbrev pub ignored_front : Bool → List ℕ
-ignored_front true = codes "git_date: ignored from byte "
-ignored_front false = codes "git_date: nothing understood; ignored from byte "
+ignored_front true = codes ": ignored from byte "
+ignored_front false = codes ": nothing understood; ignored from byte "
 
--- the line of a warning, by whether anything was understood and what was ignored
-abbrev pub line_by : Bool → Option (ℕ × List ℕ) → Option (List ℕ)
-line_by understood (Some both) =
-    Some (with_newline (ignored_front understood ++ decimal both.0 ++ codes ": " ++ both.1))
-line_by true None = None
-line_by false None = Some (with_newline (codes "git_date: nothing understood"))
+-- what a warning says after the text's number, by whether anything was understood and what was ignored
+abbrev pub words_by : Bool → Option (ℕ × List ℕ) → Option (List ℕ)
+words_by understood (Some both) = Some (ignored_front understood ++ (decimal both.0 ++ (codes ": " ++ both.1)))
+words_by true None = None
+words_by false None = Some (codes ": nothing understood")
 
--- the line of a warning, if there is something to say
-abbrev pub warning_line : Told → Option (List ℕ)
-warning_line told = line_by told.understood told.ignored
+-- what a warning says after the text's number, if there is something to say
+abbrev pub warning_words : Told → Option (List ℕ)
+warning_words told = words_by told.understood told.ignored
+
+-- what a text is called before its number
+abbrev pub called : Numbered → List ℕ
+called Line = codes "git_date: line "
+called Text = codes "git_date: text "
+
+-- what is said of the text with this number, in one line
+abbrev pub told_of : Numbered → ℕ → List ℕ → List ℕ
+told_of numbered number words = with_newline (called numbered ++ (decimal number ++ words))
+
+-- the line of a warning, if there is one
+abbrev pub warning_line : Numbered → ℕ → Option (List ℕ) → Option (List ℕ)
+warning_line numbered number words = option_map (told_of numbered number) words

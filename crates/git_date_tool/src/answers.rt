@@ -3,12 +3,13 @@ ghost use Rattle.std.specs.Prelude.{◌≡◌, IfOk};
 ghost use Rattle.gix_date_tool.specs.Run.{change, IsWritten};
 ghost use Rattle.gix_date_tool.specs.Lines.{with_newline};
 ghost use Rattle.gix_date_tool.specs.Messages.{Reports};
+ghost use Rattle.git_date_tool.specs.Warnings.{warning_line};
 ghost use Rattle.git_date_tool.specs.Answers.{IsReply, answer_reply, refusal_text};
 
 use crate::readers::{Reader, Strictness, read};
 use crate::refusals::Refusal;
 use crate::shown::{DateLine, Shown, show};
-use crate::warnings::{Warning, warning_of};
+use crate::warnings::{Numbered, Warning, warning_of};
 use gix_date::Zoned;
 use gix_date::device::Sink;
 use gix_date_tool::put_pieces;
@@ -26,6 +27,8 @@ pub struct Query<'z> {
     pub now: Zoned<'z>,
     /// How much of a text has to be understood.
     pub strictness: Strictness,
+    /// What a warning calls a text.
+    pub numbered: Numbered,
 }
 
 /// What a text is answered by.
@@ -56,12 +59,13 @@ impl Answer<'_> {
         }
     }
 
-    /// Says what is to be said beside it. What the messages refuse is not said.
-    pub(crate) fn warn<M: Sink>(&self, messages: &mut M)
-        ensures { Reports (change (M.known messages.old) (M.known messages.new)) (answer_reply self.now).warning }
+    /// Says what is to be said beside it, of the text with this number. What the messages refuse is not said.
+    pub(crate) fn warn<M: Sink>(&self, numbered: Numbered, number: u64, messages: &mut M)
+        ensures { Reports (change (M.known messages.old) (M.known messages.new))
+            (warning_line numbered number (answer_reply self.now).warning) }
     {
         match self {
-            Answer::Date(_, warning) => warning.tell(messages),
+            Answer::Date(_, warning) => warning.tell(numbered, number, messages),
             Answer::Refused(_) => {}
         }
     }

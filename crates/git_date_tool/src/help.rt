@@ -18,7 +18,7 @@ header answer `not text`.
     $ git_date --now @1251660000 --zone +0000 'last friday at noon' '5 mins ago' friday
     1251460800 +0000
     1249500000 +0000
-    git_date: ignored from byte 2: mins
+    git_date: text 2: ignored from byte 2: mins
     error not-understood
 
 --now NOW      the moment that dates are relative to; else the clock's: a date as `exact` reads it, in ZONE where it names no offset, or

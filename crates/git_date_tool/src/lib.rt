@@ -24,4 +24,4 @@ pub use program::{execute, show_usage};
 pub use readers::{Reader, Strictness};
 pub use refusals::Refusal;
 pub use shown::{DateLine, NamedFormat, Shown, shown_named};
-pub use warnings::Warning;
+pub use warnings::{Numbered, Warning};

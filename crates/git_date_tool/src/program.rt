@@ -4,7 +4,7 @@ ghost use Rattle.jiff.specs.ZoneView.{plain_zone};
 ghost use Rattle.gix_date_tool.specs.Messages.{Reports, WritesMessage};
 ghost use Rattle.gix_date_tool.specs.Run.{change};
 ghost use Rattle.git_date_tool.specs.Command.{asked, request_view};
-ghost use Rattle.git_date_tool.specs.Program.{EndsCommand, EndsRequest, EndsRun, EndsWithoutZone, Executes, IsMomentIn, IsNoMoment, IsNoQuery, IsQuery, Prints, ShowsUsage, fault_message, is_closed_pipe, message_of, status_of, usage_message};
+ghost use Rattle.git_date_tool.specs.Program.{EndsCommand, EndsRequest, EndsRun, EndsWithoutZone, Executes, IsMomentIn, IsNoMoment, IsNoQuery, IsQuery, Prints, ShowsUsage, fault_message, is_closed_pipe, message_of, numbered_of, status_of, usage_message};
 ghost use Rattle.git_date_tool.specs.Runs.{output};
 ghost use Rattle.git_date_tool.specs.Wrong.{about, wrong_words};
 ghost use Rattle.git_date_tool.specs.Zones.{IsAskedZone, NeedsSystem};
@@ -17,6 +17,7 @@ use crate::outcome::{NoNow, Outcome};
 use crate::readers::{Reader, Strictness};
 use crate::runs::{run_over, run_through};
 use crate::shown::Shown;
+use crate::warnings::Numbered;
 use crate::wrong::WrongWords;
 use crate::zones::source_asked;
 use gix_date::Zoned;
@@ -149,8 +150,19 @@ fn query_of<'w, 'z, S: Clock>(
             shown: request.shown.unwrap_or(Shown::RAW),
             now,
             strictness: request.strictness.unwrap_or(Strictness::Usual),
+            numbered: numbered_of(request.texts),
         }),
         Err(why) => Err(why),
+    }
+}
+
+/// What warnings call the texts: those of the command line, or else lines.
+fn numbered_of(texts: &[String]) -> Numbered
+    ensures { result ≡ numbered_of (map string_bytes texts.now) }
+{
+    match texts {
+        [] => Numbered::Line,
+        _ => Numbered::Text,
     }
 }
 

@@ -23,12 +23,14 @@ pub(crate) fn run_over<W: Sink, M: Sink>(
         (change (M.known messages.old) (M.known messages.new))) result }
 {
     let mut all_read = true;
+    let mut before = 0;
     for text in texts {
-        let is_date = match serve(alloc, query, text.as_bytes(), writer, messages) {
+        let is_date = match serve(alloc, query, before + 1, text.as_bytes(), writer, messages) {
             Ok(is_date) => is_date,
             Err(fault) => return Err(fault),
         };
         all_read &= is_date;
+        before += 1;
     }
     Ok(all_read)
 }
@@ -55,13 +57,20 @@ pub(crate) fn run_through<R: Source, W: Sink, M: Sink>(
             Err(fault) => return Err(fault),
         };
         if !goes_on {
-            let is_date = match serve_last(alloc, query, line.as_slice(), writer, messages) {
+            let is_date = match serve_last(
+                alloc,
+                query,
+                count + 1,
+                line.as_slice(),
+                writer,
+                messages,
+            ) {
                 Ok(is_date) => is_date,
                 Err(fault) => return Err(fault),
             };
             return Ok(all_read & is_date);
         }
-        let is_date = match serve(alloc, query, line.as_slice(), writer, messages) {
+        let is_date = match serve(alloc, query, count + 1, line.as_slice(), writer, messages) {
             Ok(is_date) => is_date,
             Err(fault) => return Err(fault),
         };
@@ -78,17 +87,18 @@ pub(crate) fn run_through<R: Source, W: Sink, M: Sink>(
 fn serve_last<W: Sink, M: Sink>(
     alloc: Global,
     query: &Query<'_>,
+    number: u64,
     line: &[u8],
     writer: &mut W,
     messages: &mut M,
 ) -> Result<bool, ToolError>
-    ensures { ServesLast query.entry.now (last_line line.now) (output (change (W.known writer.old) (W.known writer.new))
+    ensures { ServesLast query.entry.now number (last_line line.now) (output (change (W.known writer.old) (W.known writer.new))
         (change (M.known messages.old) (M.known messages.new))) result }
 {
     if line.is_empty() {
         return Ok(true);
     }
-    serve(alloc, query, line, writer, messages)
+    serve(alloc, query, number, line, writer, messages)
 }
 
 /// After the last line that an input may have no byte may stand.

@@ -6,9 +6,8 @@ ghost use Rattle.git_date.specs.Outcome.{IsPlaceIn};
 ghost use Rattle.gix_date_tool.specs.Messages.{Reports, WritesMessage};
 ghost use Rattle.gix_date_tool.specs.Lines.{with_newline};
 ghost use Rattle.gix_date_tool.specs.Run.{change};
-ghost use Rattle.std.specs.Fmt.{decimal};
 ghost use Rattle.git_date_tool.specs.Readers.{HasPlace};
-ghost use Rattle.git_date_tool.specs.Warnings.{word_at, word_len, warning_of, warning_view, warning_line, line_by, ignored_front, ignored_view};
+ghost use Rattle.git_date_tool.specs.Warnings.{called, ignored_front, ignored_view, warning_line, warning_of, warning_view, warning_words, word_at, word_len, words_by};
 
 use git_date::Approximate;
 use gix_date::bytes::text_of;
@@ -73,33 +72,77 @@ fn alphanumeric_len(text: &[u8]) -> usize
         .count()
 }
 
+/// What a warning calls a text before its number.
+#[derive(Clone, Copy, Debug, PartialEq, Eq)]
+pub enum Numbered {
+    /// A line of the input.
+    Line,
+    /// A text of the command line.
+    Text,
+}
+
+impl Numbered {
+    /// How a line of it begins.
+    fn called(self) -> &'static str
+        ensures { result.now ≡ called self }
+    {
+        match self {
+            Numbered::Line => "git_date: line ",
+            Numbered::Text => "git_date: text ",
+        }
+    }
+}
+
 impl Warning<'_> {
-    /// Puts the line of it into the messages, if there is something to say. What they refuse is not said.
-    pub(crate) fn tell<M: Sink>(self, messages: &mut M)
-        ensures { Reports (change (M.known messages.old) (M.known messages.new)) (warning_line (warning_view self.entry)) }
+    /// Puts the line of it into the messages, if there is something to say of the text with this number. What they refuse is
+    /// not said.
+    pub(crate) fn tell<M: Sink>(self, numbered: Numbered, number: u64, messages: &mut M)
+        ensures { Reports (change (M.known messages.old) (M.known messages.new))
+            (warning_line numbered number (warning_words (warning_view self.entry))) }
     {
         match self.ignored {
-            Some(ignored) => tell_ignored(self.understood, ignored, messages),
-            None => tell_nothing(self.understood, messages),
+            Some(ignored) => tell_ignored(numbered, number, self.understood, ignored, messages),
+            None => tell_nothing(numbered, number, self.understood, messages),
         }
     }
 }
 
 /// Puts the place and the word of what was ignored into the messages.
-fn tell_ignored<M: Sink>(understood: bool, ignored: (usize, &str), messages: &mut M)
+fn tell_ignored<M: Sink>(
+    numbered: Numbered,
+    number: u64,
+    understood: bool,
+    ignored: (usize, &str),
+    messages: &mut M,
+)
     ensures { Reports (change (M.known messages.old) (M.known messages.new))
-        (line_by understood (Some (ignored_view ignored.entry))) }
-{
-    tell_word(front(understood), ignored.0, ignored.1, messages);
-}
-
-/// Puts a place and a word into the messages, in a line that begins so.
-fn tell_word<'a, M: Sink>(front: &'a str, place: usize, word: &'a str, messages: &mut M)
-    ensures { WritesMessage (change (M.known messages.old) (M.known messages.new))
-        (with_newline (front.now ++ decimal place ++ codes ": " ++ word.now)) }
+        (warning_line numbered number (words_by understood (Some (ignored_view ignored.entry)))) }
 {
     let mut digits = itoa::Buffer::new();
-    write_message(&[front, digits.format(place), ": ", word, "\n"], messages);
+    let mut place = itoa::Buffer::new();
+    tell_word(
+        numbered.called(),
+        digits.format(number),
+        front(understood),
+        place.format(ignored.0),
+        ignored.1,
+        messages,
+    );
+}
+
+/// Puts these words into the messages, in one line.
+fn tell_word<'a, M: Sink>(
+    called: &'a str,
+    number: &'a str,
+    front: &'a str,
+    place: &'a str,
+    word: &'a str,
+    messages: &mut M,
+)
+    ensures { WritesMessage (change (M.known messages.old) (M.known messages.new))
+        (with_newline (called.now ++ (number.now ++ (front.now ++ (place.now ++ (codes ": " ++ word.now)))))) }
+{
+    write_message(&[called, number, front, place, ": ", word, "\n"], messages);
 }
 
 /// How that begins.
@@ -107,17 +150,27 @@ fn front(understood: bool) -> &'static str
     ensures { result.now ≡ ignored_front understood }
 {
     if understood {
-        "git_date: ignored from byte "
+        ": ignored from byte "
     } else {
-        "git_date: nothing understood; ignored from byte "
+        ": nothing understood; ignored from byte "
     }
 }
 
 /// Puts into the messages that nothing was understood, if so.
-fn tell_nothing<M: Sink>(understood: bool, messages: &mut M)
-    ensures { Reports (change (M.known messages.old) (M.known messages.new)) (line_by understood None) }
+fn tell_nothing<M: Sink>(numbered: Numbered, number: u64, understood: bool, messages: &mut M)
+    ensures { Reports (change (M.known messages.old) (M.known messages.new))
+        (warning_line numbered number (words_by understood None)) }
 {
     if !understood {
-        write_message(&["git_date: nothing understood\n"], messages);
+        let mut digits = itoa::Buffer::new();
+        tell_number(numbered.called(), digits.format(number), messages);
     }
+}
+
+/// Puts into the messages that nothing was understood of the text with this number.
+fn tell_number<'a, M: Sink>(called: &'a str, number: &'a str, messages: &mut M)
+    ensures { WritesMessage (change (M.known messages.old) (M.known messages.new))
+        (with_newline (called.now ++ (number.now ++ codes ": nothing understood"))) }
+{
+    write_message(&[called, number, ": nothing understood\n"], messages);
 }

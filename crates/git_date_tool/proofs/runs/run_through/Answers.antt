@@ -1,11 +1,25 @@
-use Rattle.std.proofs.Common.{◌≡◌, ◌∙◌, ◌+◌, ℕ, List, true, false, refl, ap, sym, subst, length, length-append, arith, Ok, Err}
+use Rattle.std.proofs.Common.{◌≡◌, ◌∙◌, ◌+◌, ℕ, Bool, Result, List, true, false, refl, ap, sym, subst, length, length-append, arith, Ok, Err}
 use Rattle.gix_date_tool.specs.Lines.{last_line}
 use Rattle.gix_date_tool.specs.Run.{change}
 use Rattle.gix_date_tool.specs.declared.lines.TheConstants.{MAX_LINES}
+use Rattle.gix_date_tool.specs.declared.error.ToolError.{ToolError}
+use Rattle.git_date_tool.specs.declared.answers.Query.{Query}
 use Rattle.git_date_tool.specs.Reading.{cursor, unread, Reads}
-use Rattle.git_date_tool.specs.Runs.{output, RunsThrough, Serves, ServesLast, end_of}
+use Rattle.git_date_tool.specs.Runs.{Output, output, RunsThrough, Serves, ServesLast, end_of}
 use Rattle.git_date_tool.proofs.Following.{Far-first, stops-next, breaks-next, breaks-last, ends-with, ends-after, goes-on}
 use Rattle.git_date_tool.proofs.runs.run_through.Goals as goal
+
+-- the next line has the number after those that were answered
+numbered : (query : Query) (answered count : ℕ) (line item : List ℕ) (out : Output) (result : Result Bool ToolError) → answered ≡ count → line ≡ item
+    → Serves query (count + 1) line out result → Serves query (answered + 1) item out result
+numbered query answered count line item out result e same h =
+    subst (λ (n : ℕ). Serves query (n + 1) item out result) (sym e) (subst (λ (l : List ℕ). Serves query (count + 1) l out result) same h)
+
+numbered-last : (query : Query) (answered count : ℕ) (both : List ℕ × List ℕ) (out : Output) (result : Result Bool ToolError) → answered ≡ count → both.0 ≡ both.1
+    → ServesLast query (count + 1) (last_line both.0) out result → ServesLast query (answered + 1) (last_line both.1) out result
+numbered-last query answered count both out result e same h =
+    subst (λ (n : ℕ). ServesLast query (n + 1) (last_line both.1) out result) (sym e)
+    (subst (λ (l : List ℕ). ServesLast query (count + 1) (last_line l) out result) same h)
 
 pub lines-init : goal.lines-init
 unfolding Far-first
@@ -37,7 +51,7 @@ returns-then-not-goes_on g c =
     ends-with c.args.query.now (g.R.Source.known c.args.reader.now) now new (g.W.Sink.known c.args.writer.now) b z (g.M.Sink.known c.args.messages.now) e f
     c.next.new.line.items c.lines.all_read date c.lines.invariant.far
     (subst (λ o. Reads now new c.next.new.line.items (Ok o)) off c.in-Ok.ensures)
-    (subst (λ (l : List ℕ). ServesLast c.args.query.now (last_line l) (output (change b z) (change e f)) (Ok date)) c.as_slice.ensures.value c.in-Ok-serve_last.ensures)
+    (numbered-last c.args.query.now _ _ (_, _) (output (change b z) (change e f)) (Ok date) c.lines.invariant.counted c.as_slice.ensures.value c.in-Ok-serve_last.ensures)
 
 pub returns-in-Err-serve_last : goal.returns-in-Err-serve_last
 returns-in-Err-serve_last g c =
@@ -52,7 +66,7 @@ returns-in-Err-serve_last g c =
     breaks-last c.args.query.now (g.R.Source.known c.args.reader.now) now new (g.W.Sink.known c.args.writer.now) b z (g.M.Sink.known c.args.messages.now) e f
     c.next.new.line.items c.lines.all_read fault c.lines.invariant.far
     (subst (λ o. Reads now new c.next.new.line.items (Ok o)) off c.in-Ok.ensures)
-    (subst (λ (l : List ℕ). ServesLast c.args.query.now (last_line l) (output (change b z) (change e f)) (Err fault)) c.as_slice.ensures.value c.in-Err-serve_last.ensures)
+    (numbered-last c.args.query.now _ _ (_, _) (output (change b z) (change e f)) (Err fault) c.lines.invariant.counted c.as_slice.ensures.value c.in-Err-serve_last.ensures)
 
 pub returns-in-Err-serve : goal.returns-in-Err-serve
 returns-in-Err-serve g c =
@@ -65,7 +79,7 @@ returns-in-Err-serve g c =
     let fault = c.in-Err-serve.fault in
     breaks-next c.args.query.now (g.R.Source.known c.args.reader.now) now new (g.W.Sink.known c.args.writer.now) b z (g.M.Sink.known c.args.messages.now) e f
     c.next.new.line.items c.lines.all_read c.in-Ok.goes_on fault c.lines.invariant.far c.in-Ok.ensures
-    (subst (λ (l : List ℕ). Serves c.args.query.now l (output (change b z) (change e f)) (Err fault)) c.as_slice-in-lines.ensures.value c.in-Err-serve.ensures)
+    (numbered c.args.query.now _ _ _ _ (output (change b z) (change e f)) (Err fault) c.lines.invariant.counted c.as_slice-in-lines.ensures.value c.in-Err-serve.ensures)
 
 pub lines-preserved : goal.lines-preserved
 unfolding goes-on
@@ -83,7 +97,7 @@ lines-preserved g c =
       far = goes-on c.args.query.now (g.R.Source.known c.args.reader.now) now new (g.W.Sink.known c.args.writer.now) b z (g.M.Sink.known c.args.messages.now) e f
           c.next.new.line.items c.lines.all_read date far
           (subst (λ o. Reads now new c.next.new.line.items (Ok o)) on c.in-Ok.ensures)
-          (subst (λ (l : List ℕ). Serves c.args.query.now l (output (change b z) (change e f)) (Ok date)) c.as_slice-in-lines.ensures.value c.in-Ok-serve.ensures);
+          (numbered c.args.query.now _ _ _ _ (output (change b z) (change e f)) (Ok date) c.lines.invariant.counted c.as_slice-in-lines.ensures.value c.in-Ok-serve.ensures);
       counted = length-append far.lines _ ∙ ap (λ (n : ℕ). n + 1) c.lines.invariant.counted;
       few = omega arith;
     }
