@@ -1,5 +1,5 @@
 -- The instant that NOW says.
-use Rattle.std.specs.Prelude.{◌≡◌, ℕ, List, ℤ, pos, ◌*ℤ◌, Result, Ok, Err}
+use Rattle.std.specs.Prelude.{◌≡◌, ℕ, List, ℤ, pos, ◌*ℤ◌, Option, Some, None, Result, Ok, Err}
 use Rattle.jiff.specs.Types.{TimeZone}
 use Rattle.jiff.specs.Words.{IsTimestampNanos}
 use Rattle.gix_date.specs.declared.time.Time.{Time}
@@ -26,9 +26,14 @@ abbrev pub IsInstantOfMoment : Result Time NoMoment → Result ℤ NoMoment → 
 IsInstantOfMoment (Ok t) nanos = IsInstantAt t.seconds nanos
 IsInstantOfMoment (Err why) nanos = nanos ≡ Err why
 
+-- the instant of a date of which nothing is ignored, and else that of a moment of gix-date
+abbrev pub IsInstantOfDate : Time → Option ℕ → List ℕ → Result ℤ NoMoment → Type 0
+IsInstantOfDate t None text nanos = IsInstantAt t.seconds nanos
+IsInstantOfDate t (Some place) text nanos = IsInstantOfMoment (moment_or_why text) nanos
+
 -- the instant of an exact date, and of a text that is none that of a moment of gix-date
 abbrev pub IsInstantBy : Result ReadDate DateError → List ℕ → Result ℤ NoMoment → Type 0
-IsInstantBy (Ok date) text nanos = IsInstantAt date.time.seconds nanos
+IsInstantBy (Ok date) text nanos = IsInstantOfDate date.time date.ignored text nanos
 IsInstantBy (Err e) text nanos = IsInstantOfMoment (moment_or_why text) nanos
 
 -- the instant of NOW: of an exact date of Git, in this zone if it names no offset, or else of a moment of gix-date

@@ -42,7 +42,7 @@ wrong_subject (NoZone text) = Some text.now
 wrong_subject NoSystemZone = None
 
 abbrev pub no_option : List ℕ
-no_option = codes "is no option; --help lists them"
+no_option = codes "is no option; --help lists them, and a text may stand after --"
 
 abbrev pub no_value : List ℕ
 no_value = codes "has no value"

@@ -21,21 +21,22 @@ header answer `not text`.
     git_date: text 2: ignored from byte 2: mins
     error not-understood
 
---now NOW      the moment that dates are relative to; else the clock's: a date as `exact` reads it, in ZONE where it names no offset, or
-               else as gix reads it, but for relative ones
+--now NOW      the moment that dates are relative to; else the clock's: a date as `exact` reads it, all of it, in ZONE where it names no
+               offset, or else as gix reads it, but for relative ones
 --zone ZONE    the zone of dates without an offset: an offset (+0200), a rule (EST5EDT,M3.2.0,M11.1.0), a name (Europe/Berlin)
                or a TZif file; else TZ, and then the system's
 --as READER    approxidate   as Git reads --since and REF@{..} (the default)
                exact         as Git reads GIT_COMMITTER_DATE
                careful       by gix-date, where each character of the text has to count
                gix           as the crate gix-date reads dates: in UTC without an offset, but for relative ones
-               header        as a commit's header has it: 1660874655 +0800
+               header        as gix-date reads the time of a commit's header, leniently: 1660874655 +0800
 --show MODE    what `git log --date=MODE` shows: relative, iso8601-strict (iso-strict), iso8601 (iso), rfc2822 (rfc), short, default,
                human, raw (the default) or unix, alone or before -local, and local; or a format of gix-date: SHORT, RFC2822,
                GIT_RFC2822, ISO8601, ISO8601_STRICT, GITOXIDE, DEFAULT, UNIX or RAW
---strict       a text of which a word is ignored is an error, and so is a header that Git writes otherwise. Else a line on standard
+--strict       a text of which a word is ignored is an error, and so is a header that is not canonical. Else a line on standard
                error tells of such a word.
---lenient      a text of which nothing is understood is now, as for Git. Else it is an error.
+--lenient      a text of which approxidate understands nothing is now, as for Git. Else it is an error. (Each number counts as
+               understood: 12345 is now, and a line tells that it is ignored.)
 --version      prints the version
 
 A value may stand after `=`, as in --zone=+0200. The status is 0 if each text was read, 1 if one was not or on a fault, and 2 where the

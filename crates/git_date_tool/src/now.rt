@@ -3,12 +3,13 @@ ghost use Rattle.std.specs.Result.{result_map_both};
 ghost use Rattle.jiff.specs.ZoneView.{plain_zone};
 ghost use Rattle.git_date_tool.specs.Now.{IsInstantAt, IsInstantOf};
 
-use git_date::parse_date_at;
+use git_date::{ReadDate, parse_date_at};
 use gix_date_tool::{NoMoment, moment};
 use jiff::Timestamp;
 use jiff::tz::TimeZone;
 
-/// The instant of NOW: an exact date of Git, in the zone if it names no offset, or else a date of gix-date that is not relative.
+/// The instant of NOW: an exact date of Git of which nothing is ignored, in the zone if it names no offset, or else a date of
+/// gix-date that is not relative.
 ///
 /// No exact date is ahead of the last instant, so that the text and the zone alone decide.
 pub(crate) fn instant_of(text: &str, zone: TimeZone<'_>) -> Result<Timestamp, NoMoment>
@@ -16,8 +17,14 @@ pub(crate) fn instant_of(text: &str, zone: TimeZone<'_>) -> Result<Timestamp, No
         (result_map_both (λ instant. instant.nanosecond) (λ why. why) result) }
 {
     match parse_date_at(text.as_bytes(), Timestamp::MAX, zone) {
-        Ok(date) => instant_at(date.time.seconds),
-        Err(_) => match moment(text) {
+        Ok(
+            ReadDate {
+                time,
+                ignored: None,
+                has_offset: _,
+            },
+        ) => instant_at(time.seconds),
+        _ => match moment(text) {
             Ok(time) => instant_at(time.seconds),
             Err(why) => Err(why),
         },

@@ -38,8 +38,8 @@ use std::time::Clock;
 /// database and the files are the machine's is trusted: no contract can say what they hold. [`Status::Success`] if each text was read, [`Status::Failure`] if
 /// one was not or the run has a fault. Takes memory for a line, for zones and for the formats of gix-date.
 ///
-/// A line is put into the messages for what was ignored of a text, and one for a fault or what is wrong with the words. What
-/// they refuse changes nothing.
+/// A line is put into the messages for what was ignored of a text, one for a fault but that of a closed pipe, and two for wrong
+/// words: what is wrong, and the usage. What they refuse changes nothing.
 pub fn execute<S: Files + Env + Clock + AllocGlobal + Clone + Drop, R: Source, W: Sink, M: Sink>(
     system: &S,
     words: &[String],

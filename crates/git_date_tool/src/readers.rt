@@ -29,7 +29,7 @@ pub enum Reader {
 /// How much of a text has to be understood.
 #[derive(Clone, Copy, Debug, PartialEq, Eq)]
 pub enum Strictness {
-    /// Nothing, as for Git.
+    /// Nothing, as for Git: [`Reader::Approxidate`] answers near the moment.
     Lenient,
     /// Something.
     Usual,

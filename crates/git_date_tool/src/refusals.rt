@@ -34,7 +34,7 @@ pub enum Refusal {
     Ignored(usize),
     /// The text is no header.
     NoHeader,
-    /// Git writes another header for the time.
+    /// The header is not canonical.
     NotCanonical,
     /// The time of the text cannot be shown so.
     NotShown,

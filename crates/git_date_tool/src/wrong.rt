@@ -67,7 +67,8 @@ impl<'w> WrongWords<'w> {
         ensures { result.now ≡ wrong_text self.entry }
     {
         match self {
-            WrongWords::UnknownOption(_) => "is no option; --help lists them",
+            WrongWords::UnknownOption(_) =>
+                "is no option; --help lists them, and a text may stand after --",
             WrongWords::NoValue(_) => "has no value",
             WrongWords::Twice(_) => "is given twice",
             WrongWords::TwoDemands(_) => "stands beside another --strict or --lenient",
