@@ -6,6 +6,7 @@ pub mod Answers
 pub mod Line
 pub mod Reading
 pub mod Runs
+pub mod ZoneFiles
 pub mod Wrong
 pub mod Zones
 pub mod Command

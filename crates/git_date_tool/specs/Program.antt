@@ -18,7 +18,7 @@ use Rattle.git_date_tool.specs.Command.{Answer, Ask, Asked, Help, Version, asked
 use Rattle.git_date_tool.specs.Now.{IsInstantOf}
 use Rattle.git_date_tool.specs.Runs.{IsUntouched, Output, output, RunsOver, RunsThrough}
 use Rattle.git_date_tool.specs.Wrong.{not_text, wrong_words}
-use Rattle.git_date_tool.specs.Zones.{IsAskedZone, IsName, NeedsSystem}
+use Rattle.git_date_tool.specs.Zones.{IsAskedZone, IsTextOf, MayLackZone, NeedsSystem}
 use Rattle.git_date_tool.specs.declared.answers.Query.{Query}
 use Rattle.git_date_tool.specs.declared.outcome.NoNow.{NoNow}
 use Rattle.git_date_tool.specs.declared.outcome.NoNow.TheVariants.{Clock, NoMoment as NoMomentOf}
@@ -31,7 +31,10 @@ use Rattle.git_date_tool.specs.declared.shown.Shown.TheVariants.{Git}
 use Rattle.git_date_tool.specs.declared.warnings.Numbered.{Numbered}
 use Rattle.git_date_tool.specs.declared.warnings.Numbered.TheVariants.{Line, Text}
 use Rattle.git_date_tool.specs.declared.wrong.WrongWords.{WrongWords}
-use Rattle.git_date_tool.specs.declared.wrong.WrongWords.TheVariants.{NoMoment, NoZone, NoSystemZone}
+use Rattle.git_date_tool.specs.declared.wrong.WrongWords.TheVariants.{NoMoment, NoZone}
+use Rattle.git_date_tool.specs.declared.zone_files.NoZone.{NoZone as Lack}
+use Rattle.git_date_tool.specs.declared.zone_files.NoZone.TheVariants as lacks
+use Rattle.git_date_tool.specs.declared.zones.ZoneText.{ZoneText}
 
 -- the status that an end has
 abbrev pub status_of : Outcome → Status
@@ -78,12 +81,11 @@ Prints text writing Printed = Takes writing.old writing.new text
 Prints text writing (Fault (errors.Write kind)) = TakesProperPrefix writing.old writing.new text × (writing.new.fault ≡ Some kind)
 Prints text writing _ = ⊥
 
--- without a zone: there was no memory for it, or none
-abbrev pub EndsWithoutZone : Option (List ℕ) → Outcome → Type 0
-EndsWithoutZone asked (Fault errors.Memory) = Unit {0}
-EndsWithoutZone asked (Shown (NoZone text)) = (asked ≡ Some text.now) × IsName text.now
-EndsWithoutZone asked (Shown NoSystemZone) = asked ≡ None
-EndsWithoutZone asked _ = ⊥
+-- what it comes to without a zone of a text: there was no memory for it, or the machine refused to read its file, or it says none
+abbrev pub without_zone : ZoneText → Lack → Outcome
+without_zone text lacks.Memory = Fault errors.Memory
+without_zone text (lacks.Fault kind) = Fault (errors.Read kind)
+without_zone text (lacks.Text fault) = Shown (NoZone text fault)
 
 -- the instant is that of NOW, or some other
 abbrev pub IsInstantOfNow : Option (List ℕ) → TimeZone → Zoned → Type 0
@@ -130,15 +132,15 @@ EndsRun a query reading out _ = ⊥
 
 -- Why the command line is wrong though its words are right: there is no zone, or NOW is no moment in it.
 abbrev pub IsNoStart : Asked → WrongWords → Type 0
-IsNoStart a (NoZone text) = (a.zone ≡ Some text.now) × IsName text.now
-IsNoStart a NoSystemZone = a.zone ≡ None
+IsNoStart a (NoZone text fault) = IsTextOf a.zone text × MayLackZone text
 IsNoStart a (NoMoment text why) = (zone : TimeZone) × IsAskedZone a.zone zone × (a.now ≡ Some text.now) × IsInstantOf zone text.now (Err why)
 IsNoStart a _ = ⊥
 
--- nothing was read, written or answered: the command line is wrong, or there was no memory for a zone, or no clock
+-- nothing was read, written or answered: the command line is wrong, or there was no memory for a zone, its file was not read, or no clock
 abbrev pub StartsNot : Asked → Outcome → Type 0
 StartsNot a (Shown why) = IsNoStart a why
 StartsNot a (Fault errors.Memory) = NeedsSystem a.zone
+StartsNot a (Fault (errors.Read kind)) = NeedsSystem a.zone
 StartsNot a NoClock = a.now ≡ None
 StartsNot a _ = ⊥
 

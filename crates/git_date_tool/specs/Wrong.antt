@@ -5,7 +5,12 @@ use Rattle.gix_date_tool.specs.Messages.{no_moment_words}
 use Rattle.git_date_tool.specs.declared.arguments.Given.{Given}
 use Rattle.git_date_tool.specs.declared.arguments.Given.TheVariants.{Now, Zone, As, Show}
 use Rattle.git_date_tool.specs.declared.wrong.WrongWords.{WrongWords}
-use Rattle.git_date_tool.specs.declared.wrong.WrongWords.TheVariants.{UnknownOption, NoValue, Twice, TwoDemands, UnknownReader, UnknownMode, LateOption, NotText, NoMoment, NoZone, NoSystemZone}
+use Rattle.git_date_tool.specs.declared.wrong.WrongWords.TheVariants.{UnknownOption, NoValue, Twice, TwoDemands, UnknownReader, UnknownMode, LateOption, NotText, NoMoment, NoZone}
+use Rattle.git_date_tool.specs.declared.zone_files.ZoneFault.{ZoneFault}
+use Rattle.git_date_tool.specs.declared.zone_files.ZoneFault.TheVariants as faults
+use Rattle.git_date_tool.specs.declared.zones.TheConstants.{MACHINE_FILE}
+use Rattle.git_date_tool.specs.declared.zones.ZoneText.{ZoneText}
+use Rattle.git_date_tool.specs.declared.zones.ZoneText.TheVariants as texts
 
 -- what an option is called
 abbrev pub option_text : Given → List ℕ
@@ -27,6 +32,14 @@ about_any None text = text
 abbrev pub subject_of : Option (Bor (List ℕ)) → Option (List ℕ)
 subject_of word = option_map (λ w. w.now) word
 
+-- the text that says no zone, or else the file of the machine
+abbrev pub zone_subject : ZoneText → Option (List ℕ)
+zone_subject (texts.Zone text) = Some text.now
+zone_subject (texts.Tz text) = Some text.now
+zone_subject texts.TzNotText = None
+zone_subject texts.TzNoMemory = None
+zone_subject texts.Machine = Some MACHINE_FILE.now
+
 -- the word that is wrong, where it is one
 abbrev pub wrong_subject : WrongWords → Option (List ℕ)
 wrong_subject (UnknownOption word) = Some word.now
@@ -38,8 +51,7 @@ wrong_subject (UnknownMode word) = Some word.now
 wrong_subject (LateOption word) = Some word.now
 wrong_subject NotText = None
 wrong_subject (NoMoment text why) = Some text.now
-wrong_subject (NoZone text) = Some text.now
-wrong_subject NoSystemZone = None
+wrong_subject (NoZone text fault) = zone_subject text
 
 abbrev pub no_option : List ℕ
 no_option = codes "is no option; --help lists them, and a text may stand after --"
@@ -68,15 +80,31 @@ not_text = codes "a word is not UTF-8"
 abbrev pub no_moment : List ℕ
 no_moment = codes "is no moment: "
 
-abbrev pub no_zone : List ℕ
-no_zone = codes "is no offset, rule, name or TZif file; expected one such as +0800, EST5EDT,M3.2.0,M11.1.0 or Europe/Berlin"
+-- how begins what is said of it
+abbrev pub zone_lead : ZoneText → List ℕ
+zone_lead (texts.Zone text) = codes "is no zone: "
+zone_lead (texts.Tz text) = codes "of TZ is no zone: "
+zone_lead texts.TzNotText = codes "TZ says no zone: "
+zone_lead texts.TzNoMemory = codes "TZ says no zone: "
+zone_lead texts.Machine = codes "is no zone: "
 
-abbrev pub no_system_zone : List ℕ
-no_system_zone = codes "TZ or the system names no zone; give one by --zone"
+-- why it says no zone
+abbrev pub zone_fault_text : ZoneFault → List ℕ
+zone_fault_text faults.NotText = codes "it is not UTF-8"
+zone_fault_text faults.NoName = codes "there is none of this name; expected one such as EST5EDT,M3.2.0,M11.1.0 or Europe/Berlin, and for --zone also +0800"
+zone_fault_text faults.NoFolder = codes "for names a time zone database is missing; expected one such as EST5EDT,M3.2.0,M11.1.0, and for --zone also +0800"
+zone_fault_text faults.LeadsOut = codes "a name is not empty and has no ..; the path of a file begins with / or ./"
+zone_fault_text faults.CountsLeapSeconds = codes "its clock counts leap seconds, as no time of Git does"
+zone_fault_text faults.NoFile = codes "there is no such file"
+zone_fault_text faults.Denied = codes "its file may not be read"
+zone_fault_text faults.NotRegular = codes "it is a folder, a pipe or a device"
+zone_fault_text faults.TooLarge = codes "its file has more than 1048576 bytes"
+zone_fault_text faults.NotTzif = codes "its file is no TZif"
 
 -- how what is said begins
 abbrev pub wrong_lead : WrongWords → List ℕ
 wrong_lead (NoMoment text why) = no_moment
+wrong_lead (NoZone text fault) = zone_lead text
 wrong_lead _ = []
 
 -- what is said of it then
@@ -90,8 +118,7 @@ wrong_text (UnknownMode word) = no_mode
 wrong_text (LateOption word) = late_option
 wrong_text NotText = not_text
 wrong_text (NoMoment text why) = no_moment_words why
-wrong_text (NoZone text) = no_zone
-wrong_text NoSystemZone = no_system_zone
+wrong_text (NoZone text fault) = zone_fault_text fault
 
 -- what is said of what is wrong
 abbrev pub wrong_words : WrongWords → List ℕ

@@ -23,8 +23,8 @@ header answer `not text`.
 
 --now NOW      the moment that dates are relative to; else the clock's: a date as `exact` reads it, all of it, in ZONE where it names no
                offset, or else as gix reads it, but for relative ones
---zone ZONE    the zone of dates without an offset: an offset (+0200), a rule (EST5EDT,M3.2.0,M11.1.0), a name (Europe/Berlin)
-               or a TZif file; else TZ, and then the system's
+--zone ZONE    the zone of dates without an offset: an offset (+0200), a rule (EST5EDT,M3.2.0,M11.1.0), a name of the time zone
+               database (Europe/Berlin), or a TZif file by its path, which begins with / or ./; else that of TZ, or the machine's
 --as READER    approxidate   as Git reads --since and REF@{..} (the default)
                exact         as Git reads GIT_COMMITTER_DATE
                careful       by gix-date, where each character of the text has to count

@@ -17,6 +17,7 @@ mod session;
 mod shown;
 mod warnings;
 mod wrong;
+mod zone_files;
 mod zones;
 
 pub use answers::{Answer, Query, answer_line};

@@ -4,10 +4,10 @@ ghost use Rattle.jiff.specs.ZoneView.{plain_zone};
 ghost use Rattle.gix_date_tool.specs.Messages.{Reports, WritesMessage};
 ghost use Rattle.gix_date_tool.specs.Run.{change};
 ghost use Rattle.git_date_tool.specs.Command.{asked, request_view};
-ghost use Rattle.git_date_tool.specs.Program.{EndsCommand, EndsRequest, EndsRun, EndsWithoutZone, Executes, IsMomentIn, IsNoMoment, IsNoQuery, IsQuery, Prints, ShowsUsage, fault_message, is_closed_pipe, message_of, numbered_of, status_of, usage_message};
+ghost use Rattle.git_date_tool.specs.Program.{EndsCommand, EndsRequest, EndsRun, Executes, IsMomentIn, IsNoMoment, IsNoQuery, IsQuery, Prints, ShowsUsage, fault_message, is_closed_pipe, message_of, numbered_of, status_of, usage_message, without_zone};
 ghost use Rattle.git_date_tool.specs.Runs.{output};
 ghost use Rattle.git_date_tool.specs.Wrong.{about, wrong_words};
-ghost use Rattle.git_date_tool.specs.Zones.{IsAskedZone, NeedsSystem};
+ghost use Rattle.git_date_tool.specs.Zones.{IsAskedZone};
 
 use crate::answers::Query;
 use crate::arguments::{Command, Request, read_words};
@@ -19,13 +19,16 @@ use crate::runs::{run_over, run_through};
 use crate::shown::Shown;
 use crate::warnings::Numbered;
 use crate::wrong::WrongWords;
-use crate::zones::source_asked;
+use crate::zone_files::NoZone;
+use crate::zones::{ZoneText, zone_source, zone_text};
 use gix_date::Zoned;
 use gix_date::device::{Sink, Source, put_all};
 use gix_date_tool::{Status, ToolError, write_message};
+use jiff::Timestamp;
 use jiff::tz::TimeZone;
-use jiff::{Error, Timestamp};
 use std::alloc::Global;
+use std::env;
+use std::env::VarError;
 use std::io::ErrorKind;
 use std::rt::{Env, Files};
 use std::time::Clock;
@@ -40,7 +43,7 @@ use std::time::Clock;
 ///
 /// A line is put into the messages for what was ignored of a text, one for a fault but that of a closed pipe, and two for wrong
 /// words: what is wrong, and the usage. What they refuse changes nothing.
-pub fn execute<S: Files + Env + Clock + AllocGlobal + Clone + Drop, R: Source, W: Sink, M: Sink>(
+pub fn execute<S: Files + Env + Clock + AllocGlobal, R: Source, W: Sink, M: Sink>(
     system: &S,
     words: &[String],
     reader: &mut R,
@@ -51,7 +54,8 @@ pub fn execute<S: Files + Env + Clock + AllocGlobal + Clone + Drop, R: Source, W
         (change (W.known writer.old) (W.known writer.new))
         (change (M.known messages.old) (M.known messages.new)) result }
 {
-    let outcome = dispatch(system, words, reader, writer, messages);
+    let tz = env::var(system, "TZ");
+    let outcome = dispatch(system, words, &tz, reader, writer, messages);
     report(&outcome, messages);
     status_of(&outcome)
 }
@@ -65,9 +69,10 @@ pub fn show_usage<M: Sink>(messages: &mut M) -> Status
 }
 
 /// Does what the words ask for, but for the message of its end.
-fn dispatch<'w, S: Files + Env + Clock + AllocGlobal + Clone + Drop, R: Source, W: Sink, M: Sink>(
+fn dispatch<'w, S: Files + Env + Clock + AllocGlobal, R: Source, W: Sink, M: Sink>(
     system: &S,
     words: &'w [String],
+    tz: &'w Result<String, VarError>,
     reader: &mut R,
     writer: &mut W,
     messages: &mut M,
@@ -77,7 +82,9 @@ fn dispatch<'w, S: Files + Env + Clock + AllocGlobal + Clone + Drop, R: Source, 
         (change (M.known messages.old) (M.known messages.new))) result }
 {
     match read_words(words) {
-        Ok(Command::Answer(request)) => execute_request(system, request, reader, writer, messages),
+        Ok(Command::Answer(request)) => execute_request(
+            system, request, tz, reader, writer, messages,
+        ),
         Ok(Command::Help) => print(HELP, writer),
         Ok(Command::Version) => print(VERSION, writer),
         Err(why) => Outcome::Shown(why),
@@ -85,25 +92,24 @@ fn dispatch<'w, S: Files + Env + Clock + AllocGlobal + Clone + Drop, R: Source, 
 }
 
 /// Does what is asked for, but for the message of its end.
-fn execute_request<
-    'w,
-    S: Files + Env + Clock + AllocGlobal + Clone + Drop,
-    R: Source,
-    W: Sink,
-    M: Sink,
->(system: &S, request: Request<'w>, reader: &mut R, writer: &mut W, messages: &mut M) -> Outcome<'w>
+fn execute_request<'w, S: Files + Env + Clock + AllocGlobal, R: Source, W: Sink, M: Sink>(
+    system: &S,
+    request: Request<'w>,
+    tz: &'w Result<String, VarError>,
+    reader: &mut R,
+    writer: &mut W,
+    messages: &mut M,
+) -> Outcome<'w>
     ensures { EndsRequest (request_view request.entry) (change (R.known reader.old) (R.known reader.new))
         (output (change (W.known writer.old) (W.known writer.new))
         (change (M.known messages.old) (M.known messages.new))) result }
 {
-    let source = match source_asked(system, request.zone) {
+    let text = zone_text(request.zone, tz);
+    let source = match zone_source(system, text) {
         Ok(source) => source,
-        Err(error) => return no_zone(error, request.zone),
+        Err(why) => return no_zone(text, why),
     };
-    let zone = match source.zone() {
-        Ok(zone) => zone,
-        Err(error) => return no_zone(error, request.zone),
-    };
+    let zone = source.zone();
     match query_of(system, request, zone) {
         Ok(query) => run(system.alloc(), request, &query, reader, writer, messages),
         Err(NoNow::Clock) => Outcome::NoClock,
@@ -166,15 +172,14 @@ fn numbered_of(texts: &[String]) -> Numbered
     }
 }
 
-/// Without the zone that is asked for: memory was refused, or there is none.
-fn no_zone<'w>(error: Error, asked: Option<&'w str>) -> Outcome<'w>
-    requires { NeedsSystem (option_map (λ text. text.now) asked) }
-    ensures { EndsWithoutZone (option_map (λ text. text.now) asked.entry) result }
+/// Without a zone of a text: memory was refused, or its file was not read, or it says none.
+fn no_zone<'w>(text: ZoneText<'w>, why: NoZone) -> Outcome<'w>
+    ensures { result ≡ without_zone text.entry why }
 {
-    match (error, asked) {
-        (Error::OutOfMemory, _) => Outcome::Fault(ToolError::Memory),
-        (_, Some(text)) => Outcome::Shown(WrongWords::NoZone(text)),
-        (_, None) => Outcome::Shown(WrongWords::NoSystemZone),
+    match why {
+        NoZone::Memory => Outcome::Fault(ToolError::Memory),
+        NoZone::Fault(kind) => Outcome::Fault(ToolError::Read(kind)),
+        NoZone::Text(fault) => Outcome::Shown(WrongWords::NoZone(text, fault)),
     }
 }
 

@@ -1,8 +1,10 @@
 //! What may be wrong with a command line.
 ghost use Rattle.std.specs.Prelude.{◌≡◌, ◌++◌};
-ghost use Rattle.git_date_tool.specs.Wrong.{subject_of, wrong_lead, wrong_subject, wrong_text};
+ghost use Rattle.git_date_tool.specs.Wrong.{subject_of, wrong_lead, wrong_subject, wrong_text, zone_fault_text, zone_lead, zone_subject};
 
 use crate::arguments::Given;
+use crate::zone_files::ZoneFault;
+use crate::zones::{MACHINE_FILE, ZoneText};
 use gix_date_tool::NoMoment;
 
 /// What is wrong with the words of a command line.
@@ -26,10 +28,8 @@ pub(crate) enum WrongWords<'w> {
     NotText,
     /// NOW is no moment.
     NoMoment(&'w str, NoMoment),
-    /// ZONE is no zone.
-    NoZone(&'w str),
-    /// The system names no zone.
-    NoSystemZone,
+    /// ZONE, the value of `TZ` or the file of the machine says no zone.
+    NoZone(ZoneText<'w>, ZoneFault),
 }
 
 impl<'w> WrongWords<'w> {
@@ -47,8 +47,7 @@ impl<'w> WrongWords<'w> {
             WrongWords::LateOption(word) => Some(word),
             WrongWords::NotText => None,
             WrongWords::NoMoment(text, _) => Some(text),
-            WrongWords::NoZone(text) => Some(text),
-            WrongWords::NoSystemZone => None,
+            WrongWords::NoZone(text, _) => text.subject(),
         }
     }
 
@@ -58,6 +57,7 @@ impl<'w> WrongWords<'w> {
     {
         match self {
             WrongWords::NoMoment(_, _) => "is no moment: ",
+            WrongWords::NoZone(text, _) => text.lead(),
             _ => "",
         }
     }
@@ -83,11 +83,63 @@ impl<'w> WrongWords<'w> {
             }
             WrongWords::NotText => "a word is not UTF-8",
             WrongWords::NoMoment(_, why) => why.text(),
-            WrongWords::NoZone(_) => {
-                "is no offset, rule, name or TZif file; \
-                 expected one such as +0800, EST5EDT,M3.2.0,M11.1.0 or Europe/Berlin"
+            WrongWords::NoZone(_, fault) => fault.text(),
+        }
+    }
+}
+
+impl<'w> ZoneText<'w> {
+    /// The text itself, where it is one, or else the file of the machine.
+    fn subject(self) -> Option<&'w str>
+        ensures { subject_of result ≡ zone_subject self.entry }
+    {
+        match self {
+            ZoneText::Zone(text) => Some(text),
+            ZoneText::Tz(text) => Some(text),
+            ZoneText::TzNotText => None,
+            ZoneText::TzNoMemory => None,
+            ZoneText::Machine => Some(MACHINE_FILE),
+        }
+    }
+
+    /// How begins what is said of it.
+    fn lead(self) -> &'static str
+        ensures { result.now ≡ zone_lead self.entry }
+    {
+        match self {
+            ZoneText::Zone(_) => "is no zone: ",
+            ZoneText::Tz(_) => "of TZ is no zone: ",
+            ZoneText::TzNotText => "TZ says no zone: ",
+            ZoneText::TzNoMemory => "TZ says no zone: ",
+            ZoneText::Machine => "is no zone: ",
+        }
+    }
+}
+
+impl ZoneFault {
+    /// What is said of it.
+    fn text(self) -> &'static str
+        ensures { result.now ≡ zone_fault_text self }
+    {
+        match self {
+            ZoneFault::NotText => "it is not UTF-8",
+            ZoneFault::NoName => {
+                "there is none of this name; expected one such as EST5EDT,M3.2.0,M11.1.0 or \
+                 Europe/Berlin, and for --zone also +0800"
             }
-            WrongWords::NoSystemZone => "TZ or the system names no zone; give one by --zone",
+            ZoneFault::NoFolder => {
+                "for names a time zone database is missing; expected one such as \
+                 EST5EDT,M3.2.0,M11.1.0, and for --zone also +0800"
+            }
+            ZoneFault::LeadsOut => {
+                "a name is not empty and has no ..; the path of a file begins with / or ./"
+            }
+            ZoneFault::CountsLeapSeconds => "its clock counts leap seconds, as no time of Git does",
+            ZoneFault::NoFile => "there is no such file",
+            ZoneFault::Denied => "its file may not be read",
+            ZoneFault::NotRegular => "it is a folder, a pipe or a device",
+            ZoneFault::TooLarge => "its file has more than 1048576 bytes",
+            ZoneFault::NotTzif => "its file is no TZif",
         }
     }
 }

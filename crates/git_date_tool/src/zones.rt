@@ -1,132 +1,139 @@
 //! The zone of the moment.
-ghost use Rattle.std.specs.Prelude.{◌≡◌, MatchResult, IfOk, false, option_map};
-ghost use Rattle.std.specs.Result.{result_map_both};
-ghost use Rattle.jiff.specs.ZoneView.{plain_zone, plain_database};
-ghost use Rattle.jiff_tz.specs.System.{Lacks};
-ghost use Rattle.git_date_tool.specs.Zones.{IsAskedSource, IsName, IsOfFile, IsSourceOfSystem, IsTaken, IsTextSource, NeedsSystem};
+ghost use Rattle.std.specs.Prelude.{◌≡◌, MatchResult, option_map};
+ghost use Rattle.jiff.specs.ZoneView.{plain_zone};
+ghost use Rattle.git_date_tool.specs.Zones.{IsMachineSource, IsNamedSource, IsRestSource, IsSourceOf, IsTaken, IsTextOf, IsTextSource, MayLackZone, IsName, without_colon};
 
 use crate::offsets::offset_zone;
-use jiff::Error;
-use jiff::tz::{SystemTimeZone, TimeZone, TimeZoneDatabase, Tzif};
-use std::io::{ErrorKind, Read};
+use crate::zone_files::{NoZone, ZoneFault, read_named, read_table};
+use jiff::tz::{TimeZone, Tzif};
+use std::env::VarError;
 use std::rt::{Env, Files};
-use std::{env, fs};
-
-/// The most bytes of a file that is read as a zone, as in `jiff`.
-const MAX_FILE_BYTES: u64 = 1 << 20;
 
 /// What a zone is taken from.
 #[derive(Drop)]
-pub(crate) enum ZoneSource<'w> {
+pub(crate) enum ZoneSource {
     /// A zone that needs no file.
     Plain(TimeZone<'static>),
     /// The table of a file.
     Table(Tzif),
-    /// The name of a zone that the database has.
-    Named(TimeZoneDatabase, &'w str),
-    /// What the system names.
-    System(SystemTimeZone, TimeZoneDatabase),
 }
 
-impl ZoneSource<'_> {
+impl ZoneSource {
     /// The zone itself.
-    pub(crate) fn zone(&self) -> Result<TimeZone<'_>, Error>
-        ensures { IsTaken self.now (result_map_both plain_zone (λ error. error) result) }
+    pub(crate) fn zone(&self) -> TimeZone<'_>
+        ensures { IsTaken self.now (plain_zone result) }
     {
         match self {
-            ZoneSource::Plain(zone) => Ok(*zone),
-            ZoneSource::Table(table) => Ok(TimeZone::tzif(table)),
-            ZoneSource::Named(database, name) => database.get(name),
-            ZoneSource::System(system, database) => system.time_zone(database),
+            ZoneSource::Plain(zone) => *zone,
+            ZoneSource::Table(table) => TimeZone::tzif(table),
         }
     }
 }
 
-/// What the zone that is asked for is taken from: that of a text, or the system's.
-pub(crate) fn source_asked<'w, S: Files + Env + AllocGlobal + Clone + Drop>(
-    system: &S,
-    asked: Option<&'w str>,
-) -> Result<ZoneSource<'w>, Error>
-    ensures { MatchResult result (IsAskedSource (option_map (λ text. text.now) asked.entry))
-        (λ error. NeedsSystem (option_map (λ text. text.now) asked.entry)) }
+/// Whose text says the zone.
+#[derive(Clone, Copy)]
+pub(crate) enum ZoneText<'w> {
+    /// ZONE.
+    Zone(&'w str),
+    /// The value of `TZ`.
+    Tz(&'w str),
+    /// A value of `TZ` that is not UTF-8.
+    TzNotText,
+    /// A value of `TZ` for which there is no memory.
+    TzNoMemory,
+    /// Nobody's: the zone is that of the machine.
+    Machine,
+}
+
+/// Whose text says the zone: ZONE, or else `TZ`, or else nobody's.
+pub(crate) fn zone_text<'w>(zone: Option<&'w str>, tz: &'w Result<String, VarError>) -> ZoneText<'w>
+    ensures { IsTextOf (option_map (λ text. text.now) zone.entry) result }
 {
-    match asked {
-        Some(text) => text_source(system, text),
-        None => system_source(system),
+    match (zone, tz) {
+        (Some(text), _) => ZoneText::Zone(text),
+        (None, Ok(text)) => ZoneText::Tz(text.as_str()),
+        (None, Err(VarError::NotPresent)) => ZoneText::Machine,
+        (None, Err(VarError::NotUnicode)) => ZoneText::TzNotText,
+        (None, Err(VarError::OutOfMemory)) => ZoneText::TzNoMemory,
     }
 }
 
-/// What the zone of a text is taken from: an offset, a POSIX rule, a name, or else a TZif file.
-fn text_source<'w, S: Files + Env + AllocGlobal + Clone + Drop>(
+/// What the zone is taken from that a text says.
+pub(crate) fn zone_source<S: Files + Env + AllocGlobal>(
     system: &S,
-    text: &'w str,
-) -> Result<ZoneSource<'w>, Error>
-    ensures { MatchResult result (IsTextSource text.now) (λ error. IsName text.now) }
+    text: ZoneText<'_>,
+) -> Result<ZoneSource, NoZone>
+    ensures { MatchResult result (IsSourceOf text.entry) (λ why. MayLackZone text.entry) }
+{
+    match text {
+        ZoneText::Zone(text) => text_source(system, text),
+        ZoneText::Tz(text) => rest_source(system, without_colon(text)),
+        ZoneText::TzNotText => Err(NoZone::Text(ZoneFault::NotText)),
+        ZoneText::TzNoMemory => Err(NoZone::Memory),
+        ZoneText::Machine => machine_source(system),
+    }
+}
+
+/// What a value of `TZ` says: a colon in front says nothing.
+fn without_colon(text: &str) -> &str
+    ensures { result.now ≡ without_colon text.now }
+{
+    match text.strip_prefix(':') {
+        Some(rest) => rest,
+        None => text,
+    }
+}
+
+/// What the zone of ZONE is taken from: an offset, a POSIX rule, or a name.
+fn text_source<S: Files + Env + AllocGlobal>(system: &S, text: &str) -> Result<ZoneSource, NoZone>
+    ensures { MatchResult result (IsTextSource text.now) (λ why. IsName text.now) }
 {
     if let Some(zone) = offset_zone(text) {
         return Ok(ZoneSource::Plain(zone));
     }
-    if let Ok(zone) = TimeZone::posix(text) {
-        return Ok(ZoneSource::Plain(zone));
-    }
-    named_source(system, text)
-}
-
-/// What the zone of a name is taken from, or else that of a file.
-fn named_source<'w, S: Files + Env + AllocGlobal + Clone + Drop>(
-    system: &S,
-    text: &'w str,
-) -> Result<ZoneSource<'w>, Error>
-    requires { IsName text.now }
-    ensures { IfOk result (IsTextSource text.now) }
-{
-    let database = TimeZoneDatabase::from_env(system)?;
-    if has_zone(&database, text)? {
-        return Ok(ZoneSource::Named(database, text));
-    }
-    Ok(ZoneSource::Table(read_table(system, text)?))
-}
-
-/// Whether a database has a zone of this name.
-fn has_zone(database: &TimeZoneDatabase, name: &str) -> Result<bool, Error>
-    ensures { IfOk result (λ found. found ≡ false → Lacks (plain_database database.now) name.now) }
-{
-    match database.get(name) {
-        Ok(_) => Ok(true),
-        Err(Error::TimeZoneNotFound) => Ok(false),
-        Err(error) => Err(error),
+    match TimeZone::posix(text) {
+        Ok(zone) => Ok(ZoneSource::Plain(zone)),
+        Err(_) => named_source(system, text),
     }
 }
 
-/// What the system's zone is taken from: `TZ`, or else `/etc/localtime`, or else UTC.
-fn system_source<S: Files + Env + AllocGlobal + Clone + Drop>(
-    system: &S,
-) -> Result<ZoneSource<'static>, Error>
-    ensures { IfOk result IsSourceOfSystem }
+/// What the zone of a value of `TZ` is taken from, behind its colon, as the C library does it: UTC without a text, and else a
+/// POSIX rule, or a name.
+fn rest_source<S: Files + Env + AllocGlobal>(system: &S, rest: &str) -> Result<ZoneSource, NoZone>
+    ensures { MatchResult result (IsRestSource rest.now) (λ why. Unit {0}) }
 {
-    let is_named = !matches!(env::var(system, "TZ"), Err(env::VarError::NotPresent));
-    match SystemTimeZone::read(system) {
-        // Only `TZ` needs a look-up: `/etc/localtime` is a table.
-        Ok(zone) if is_named => Ok(ZoneSource::System(zone, TimeZoneDatabase::from_env(system)?)),
-        Ok(zone) => Ok(ZoneSource::System(zone, TimeZoneDatabase::new(system.alloc()))),
-        Err(Error::OutOfMemory) => Err(Error::OutOfMemory),
-        Err(error) if is_named => Err(error),
-        Err(_) => Ok(ZoneSource::Plain(TimeZone::UTC)),
+    if rest.is_empty() {
+        return Ok(ZoneSource::Plain(TimeZone::UTC));
+    }
+    match TimeZone::posix(rest) {
+        Ok(zone) => Ok(ZoneSource::Plain(zone)),
+        Err(_) => named_source(system, rest),
     }
 }
 
-/// The table of a regular file of 1 MiB at most. A pipe or a device might never end.
-fn read_table<S: Files + AllocGlobal>(system: &S, path: &str) -> Result<Tzif, Error>
-    ensures { IfOk result IsOfFile }
+/// What the zone of a name is taken from. UTC needs no file.
+fn named_source<S: Files + Env + AllocGlobal>(system: &S, name: &str) -> Result<ZoneSource, NoZone>
+    ensures { MatchResult result (IsNamedSource name.now) (λ why. Unit {0}) }
 {
-    if !fs::metadata(system, path)?.is_file() {
-        return Err(Error::Io(ErrorKind::InvalidInput));
+    if name.eq_ignore_ascii_case("utc") {
+        return Ok(ZoneSource::Plain(TimeZone::UTC));
     }
-    let mut bytes = Vec::new(system.alloc());
-    let mut file = fs::open(system, path)?.take(MAX_FILE_BYTES + 1);
-    file.read_to_end(&mut bytes)?;
-    if bytes.len() as u64 > MAX_FILE_BYTES {
-        return Err(Error::Io(ErrorKind::FileTooLarge));
+    match read_named(system, name) {
+        Ok(table) => Ok(ZoneSource::Table(table)),
+        Err(why) => Err(why),
     }
-    Tzif::parse(system.alloc(), None, bytes.as_slice())
 }
+
+/// What the zone of the machine is taken from: `/etc/localtime`, and UTC where there is no such file.
+fn machine_source<S: Files + AllocGlobal>(system: &S) -> Result<ZoneSource, NoZone>
+    ensures { MatchResult result IsMachineSource (λ why. Unit {0}) }
+{
+    match read_table(system, MACHINE_FILE) {
+        Ok(table) => Ok(ZoneSource::Table(table)),
+        Err(NoZone::Text(ZoneFault::NoFile)) => Ok(ZoneSource::Plain(TimeZone::UTC)),
+        Err(why) => Err(why),
+    }
+}
+
+/// The file that says the zone of the machine.
+pub(crate) const MACHINE_FILE: &str = "/etc/localtime";
