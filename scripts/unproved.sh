@@ -13,7 +13,7 @@ copy_input() {
 
 # Answers at most so many lines by the program of a crate, called with the further words. It is built for this call alone, and goes with it.
 answer_unproved() {
-    needs cmp head rt sed tail wc
+    needs cat cmp head rt sed tail wc
     crate=$1 most_lines=$2 most_bytes=262144 more='' status=0 work=$root/out/unproved.$$
     shift 2
     say 'building the program for this call alone, without proofs; about a minute'
@@ -21,10 +21,13 @@ answer_unproved() {
     leftover=$work
     mkdir -p "$work"
     copy_input
-    (cd "$root/crates/$crate" && exec rt try -- "$@") <"$work/asked" &
+    (cd "$root/crates/$crate" && exec rt try -- "$@") <"$work/asked" 2>"$work/said" &
     builder=$!
     wait "$builder" || status=$?
     builder=''
+    # What `rt` says of its checks reads as if something were proved.
+    [ "$status" -gt 2 ] || sed -i -E '/^(by-macro: |checked: ended |run=ended )/d' "$work/said"
+    cat "$work/said" >&2 || :
     [ "$status" -le 2 ] || stop 'rt has no answer without proofs'
     [ "$status" = 2 ] || [ -z "$more" ] || stop "without proofs no more than $most_lines lines and $most_bytes bytes are answered"
     exit "$status"
