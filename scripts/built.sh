@@ -24,11 +24,6 @@ needs() {
     done
 }
 
-# Whether the words are UTF-8, as far as that can be told here.
-are_text() {
-    ! command -v iconv >/dev/null || printf '%s' "$*" | iconv -f UTF-8 -t UTF-8 >/dev/null 2>&1
-}
-
 # Removes what killed builds have left beside a file: names of it that end in a process which is no more.
 clear_killed() {
     for left in "$1".[0-9]*; do

@@ -1,4 +1,5 @@
-# Answers by a program that `rt try` builds for one call, without proofs, for a script that sources this after scripts/progress.sh.
+# Answers by a program that `rt try` builds for one call, without proofs, for a script that sources this after scripts/help.sh
+# and scripts/progress.sh.
 # shellcheck shell=sh disable=SC2034,SC2154
 
 # Copies the lines that are answered: `rt try` has room for 1 MiB of replies, and for as much of messages.
@@ -11,11 +12,21 @@ copy_input() {
     [ "$(tail -c 1 "$work/asked" | wc -l)" = 1 ] || [ "$(wc -l <"$work/asked")" = 0 ] || sed -i '$d' "$work/asked"
 }
 
+# Ends where a word is not UTF-8, as far as that can be told here: `rt try` takes none.
+refuse_bytes() {
+    ! command -v iconv >/dev/null || printf '%s' "$*" | iconv -f UTF-8 -t UTF-8 >/dev/null 2>&1 || {
+        say 'a word is not UTF-8'
+        show_help | sed -n 1p >&2
+        exit 2
+    }
+}
+
 # Answers at most so many lines by the program of a crate, called with the further words. It is built for this call alone, and goes with it.
 answer_unproved() {
     needs cat cmp head rt sed tail wc
     crate=$1 most_lines=$2 most_bytes=262144 more='' status=0 work=$root/out/unproved.$$
     shift 2
+    refuse_bytes "$@"
     say 'building the program for this call alone, without proofs; about a minute'
     clear_killed "${work%.*}"
     leftover=$work

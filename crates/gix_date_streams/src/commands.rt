@@ -31,6 +31,8 @@ fn a_command_line_is_a_mode_and_perhaps_a_moment(rt: HostRuntime) -> Result<(), 
         (["parse", "@-377705023202"].as_slice(), None),
         (["parse", "now"].as_slice(), None),
         (["Check"].as_slice(), None),
+        (["--help"].as_slice(), None),
+        (["--version"].as_slice(), None),
         ([].as_slice(), None),
     ];
     for (line, wanted) in rows {

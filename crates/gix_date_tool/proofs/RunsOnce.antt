@@ -18,7 +18,7 @@ use Rattle.gix_date_tool.specs.declared.arguments.Mode.{Mode}
 use Rattle.gix_date_tool.specs.declared.arguments.Mode.TheVariants.{Check, Parse, Sign}
 use Rattle.gix_date_tool.specs.declared.arguments.WrongWords.{WrongWords}
 use Rattle.gix_date_tool.specs.declared.outcome.Outcome.{Outcome}
-use Rattle.gix_date_tool.specs.declared.outcome.Outcome.TheVariants.{Replied, Fault, Shown}
+use Rattle.gix_date_tool.specs.declared.outcome.Outcome.TheVariants.{Replied, Fault, Printed, Shown}
 use Rattle.gix_date_tool.specs.declared.program.Status.{Status}
 use Rattle.gix_date_tool.specs.declared.program.Status.TheVariants.{Success, Failure, Usage}
 use Rattle.gix_date_tool.specs.declared.replies.Query.{Query}
@@ -26,7 +26,7 @@ use Rattle.gix_date_tool.specs.declared.replies.Reply.{Reply}
 use Rattle.gix_date_tool.specs.Command.{asked}
 use Rattle.gix_date_tool.specs.Laws.{Begun, EndsWell, RunsAreUnique, Had, StatusesAreUnique}
 use Rattle.gix_date_tool.specs.Lines.{Splits, Part, last_line}
-use Rattle.gix_date_tool.specs.Program.{EndsCommand, status_of}
+use Rattle.gix_date_tool.specs.Program.{EndsBy, EndsCommand, Prints, printed_of, status_of}
 use Rattle.gix_date_tool.specs.Replies.{IsTextReply, IsReplyTo, IsReply, AreReplies, reply_lines}
 use Rattle.gix_date_tool.specs.Run.{Change, IsMomentOf}
 use Rattle.gix_date_tool.proofs.Replying.{reply-once}
@@ -174,17 +174,34 @@ abbrev status_asked : {A : Type 0} → Result A WrongWords → Status
 status_asked (Ok query) = Success
 status_asked (Err why) = Usage
 
+abbrev status_due : {A : Type 0} → Option (List ℕ) → Result A WrongWords → Status
+status_due (Some text) words = Success
+status_due None words = status_asked words
+
 asked-status : (words : Result (Mode × Option Time) WrongWords) (reading writing : Change) (outcome : Outcome) → EndsCommand words reading writing outcome → status_of outcome ≢ Failure → status_of outcome ≡ status_asked words
 asked-status (Ok query) reading writing Replied h none = refl
+asked-status (Ok query) reading writing Printed h none = absurd h
 asked-status (Ok query) reading writing (Shown why) h none = absurd h
 asked-status (Err why) reading writing Replied h none = absurd h.1
+asked-status (Err why) reading writing Printed h none = absurd h.1
 asked-status (Err why) reading writing (Shown told) h none = refl
 asked-status words reading writing (Fault fault) h none = absurd (none refl)
 
-status-is : (words : List (List ℕ)) (status : Status) → Had words status → status ≡ status_asked (asked words)
+printed-status : (text : List ℕ) (writing : Change) (outcome : Outcome) → Prints text writing outcome → status_of outcome ≢ Failure → status_of outcome ≡ Success
+printed-status text writing Printed h none = refl
+printed-status text writing Replied h none = absurd h
+printed-status text writing (Shown why) h none = absurd h
+printed-status text writing (Fault fault) h none = absurd (none refl)
+
+status-due : (text : Option (List ℕ)) (words : List (List ℕ)) (reading writing : Change) (outcome : Outcome)
+    → EndsBy text words reading writing outcome → status_of outcome ≢ Failure → status_of outcome ≡ status_due text (asked words)
+status-due (Some text) words reading writing outcome h none = printed-status text writing outcome h.1 none
+status-due None words reading writing outcome h none = asked-status (asked words) reading writing outcome h none
+
+status-is : (words : List (List ℕ)) (status : Status) → Had words status → status ≡ status_due (printed_of words) (asked words)
 status-is words status h =
     let none : status_of h.executes.outcome ≢ Failure = λ e. h.no_failure (h.executes.status_is ∙ e) in
-    h.executes.status_is ∙ asked-status (asked words) h.reading h.writing h.executes.outcome h.executes.ends none
+    h.executes.status_is ∙ status-due (printed_of words) words h.reading h.writing h.executes.outcome h.executes.ends none
 
 pub statuses-once : StatusesAreUnique
 statuses-once words status other h g = status-is words status h ∙ sym (status-is words other g)

@@ -104,8 +104,8 @@ impl NoMoment {
 ///
 /// The command lines are `check`, `parse`, `parse NOW` and `sign`, where NOW is a date that [`gix_date::parse`]
 /// reads without a moment (`1698400800 +0000`) and [`Time::to_zoned`] converts. `None` for any other: then the usage line
-/// is due. A moment that is answered is one that [`crate::run`] may be given. It is always `Ok`, since it asks the
-/// allocator for nothing.
+/// is due, or the text that `--help`, `-h` or `--version` asks for. A moment that is answered is one that [`crate::run`] may be
+/// given. It is always `Ok`, since it asks the allocator for nothing.
 pub fn command(_alloc: Global, words: &[String]) -> Result<Option<(Mode, Option<Time>)>, ToolError>
     ensures answer { result ≡ Ok (command_of (map string_bytes words.now)) }
     ensures moment { IfOk result (λ asked. IfSome asked (λ both. ForSome both.1 IsConvertible)) }

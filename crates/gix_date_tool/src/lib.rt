@@ -5,6 +5,7 @@
 mod arguments;
 mod at_once;
 mod error;
+mod help;
 mod kinds;
 pub mod laws;
 mod lines;

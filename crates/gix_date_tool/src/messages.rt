@@ -22,6 +22,7 @@ pub(crate) fn report<M: Sink>(outcome: &Outcome, messages: &mut M)
         ),
         Outcome::Shown(why) => write_message(&[PREFIX, why.text(), "\n"], messages),
         Outcome::Replied => {}
+        Outcome::Printed => {}
     }
 }
 

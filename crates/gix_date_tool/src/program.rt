@@ -1,10 +1,12 @@
 //! What the program does with a command line.
 ghost use Rattle.std.specs.Prelude.{◌≡◌, map, string_bytes};
 ghost use Rattle.gix_date_tool.specs.Run.{change};
-ghost use Rattle.gix_date_tool.specs.Program.{code_of, status_of, EndsInUsage, Ends, ShowsUsage, Executes};
+ghost use Rattle.gix_date_tool.specs.Command.{asked};
+ghost use Rattle.gix_date_tool.specs.Program.{code_of, status_of, EndsInUsage, EndsCommand, Ends, Prints, ShowsUsage, Executes};
 
 use crate::arguments::{Request, WrongWords, read_words};
 use crate::error::ToolError;
+use crate::help::text_asked;
 use crate::messages::report;
 use crate::outcome::Outcome;
 use crate::runs::run;
@@ -17,7 +19,7 @@ pub(crate) const USAGE: &[u8] = b"usage: gix_date_tool MODE [NOW]\n";
 /// How the program ends.
 #[derive(Debug, Clone, Copy, PartialEq, Eq)]
 pub enum Status {
-    /// The input was read to its end, and the replies to all its lines were written.
+    /// The input was read to its end, and the replies to all its lines were written. Or the help or the version was written.
     Success,
     /// A fault, or out of memory.
     Failure,
@@ -39,12 +41,13 @@ impl Status {
 }
 
 /// Does what the words of a command line, without the program's name, ask for: runs over the reader's lines, or writes
-/// the usage line if the words are invalid.
+/// the usage line if the words are invalid. If the first word is `--help` or `-h`, it writes the help instead, and if it is
+/// `--version` the version, whatever follows it. Then it reads nothing.
 ///
-/// [`Status::Failure`] if the run has a fault, or the usage line is not written. Takes memory as [`run`] does.
+/// [`Status::Failure`] if the run has a fault, or such a text is not written. Takes memory as [`run`] does.
 ///
 /// One line is put into the messages: after the program's name the text of the run's fault, or of the writer's that
-/// refused the usage line, or what is wrong with the words. Else they are not called, and what they refuse changes nothing.
+/// refused such a text, or what is wrong with the words. Else they are not called, and what they refuse changes nothing.
 pub fn execute<R: Source, W: Sink, M: Sink>(
     alloc: Global,
     words: &[String],
@@ -82,6 +85,32 @@ fn dispatch<R: Source, W: Sink>(
     ensures { Ends (map string_bytes words.now) (change (R.known reader.old) (R.known reader.new))
         (change (W.known writer.old) (W.known writer.new)) result }
 {
+    match text_asked(words) {
+        Some(text) => print(text, writer),
+        None => reply(alloc, words, reader, writer),
+    }
+}
+
+/// Writes a text.
+fn print<W: Sink>(text: &str, writer: &mut W) -> Outcome
+    ensures { Prints text.now (change (W.known writer.old) (W.known writer.new)) result }
+{
+    match put_all(writer, text.as_bytes()) {
+        Ok(()) => Outcome::Printed,
+        Err(kind) => Outcome::Fault(ToolError::Write(kind)),
+    }
+}
+
+/// Replies to lines, or writes the usage line.
+fn reply<R: Source, W: Sink>(
+    alloc: Global,
+    words: &[String],
+    reader: &mut R,
+    writer: &mut W,
+) -> Outcome
+    ensures { EndsCommand (asked (map string_bytes words.now)) (change (R.known reader.old) (R.known reader.new))
+        (change (W.known writer.old) (W.known writer.new)) result }
+{
     match read_words(words) {
         Request::Run(mode, now) => match run(alloc, mode, now, reader, writer) {
             Ok(_) => Outcome::Replied,
@@ -107,6 +136,7 @@ fn status_of(outcome: &Outcome) -> Status
 {
     match outcome {
         Outcome::Replied => Status::Success,
+        Outcome::Printed => Status::Success,
         Outcome::Fault(_) => Status::Failure,
         Outcome::Shown(_) => Status::Usage,
     }
