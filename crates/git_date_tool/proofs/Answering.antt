@@ -6,6 +6,7 @@ use Rattle.std.proofs.lemmas.List.{take_more, take-append-drop, length-map, leng
 use mathlib.Core.List.{map-append}
 use Rattle.std.specs.Global.{Global}
 use Rattle.std.specs.Prelude.{String}
+use Rattle.std.specs.List.{list_all}
 use Rattle.gix_date.specs.Devices.StreamState.{StreamState, Takes}
 use Rattle.gix_date.proofs.Text.KnownBytes.{Appends-append}
 use Rattle.gix_date_tool.specs.Lines.{with_newline}
@@ -14,11 +15,12 @@ use Rattle.gix_date_tool.specs.Run.{change}
 use Rattle.gix_date_tool.specs.declared.error.ToolError.{ToolError}
 use Rattle.gix_date_tool.proofs.Sending.{Appends-nil}
 use Rattle.git_date_tool.specs.Answers.{Reply, IsReply}
-use Rattle.git_date_tool.specs.Runs.{Output, output, AreReplies, reply_lines, Warns, all_dates, Answered, Serves}
+use Rattle.git_date_tool.specs.Runs.{Output, output, AreReplies, reply_lines, Warns, Answered, Serves, both, first_verdict, verdict_of, verdict_on}
 use Rattle.git_date_tool.specs.Warnings.{warning_line}
 use Rattle.git_date_tool.specs.declared.answers.Query.{Query}
+use Rattle.git_date_tool.specs.declared.session.Verdict.{Verdict}
 
-pub and_true : (b : Bool) → (b && true) ≡ b
+and_true : (b : Bool) → (b && true) ≡ b
 and_true true = refl
 and_true false = refl
 
@@ -54,27 +56,38 @@ as-many query [] (r ∷ rs) h = absurd h
 as-many query (t ∷ ts) [] h = absurd h
 as-many query (t ∷ ts) (r ∷ rs) h = ap (λ (n : ℕ). suc n) (as-many query ts rs h.1)
 
-dates-more : (replies : List Reply) (reply : Reply) → all_dates (replies ++ reply ∷ []) ≡ (all_dates replies && reply.is_date)
-dates-more replies reply =
-    list_all-append (λ (r : Reply). r.is_date) replies (reply ∷ []) ∙ ap (λ b. all_dates replies && b) (and_true reply.is_date)
+all-more : (P : Reply → Bool) (replies : List Reply) (reply : Reply) → list_all P (replies ++ reply ∷ []) ≡ (list_all P replies && P reply)
+all-more P replies reply = list_all-append P replies (reply ∷ []) ∙ ap (λ b. list_all P replies && b) (and_true (P reply))
+
+verdict-more : (replies : List Reply) (reply : Reply) → both (verdict_on replies) (verdict_of reply) ≡ verdict_on (replies ++ reply ∷ [])
+verdict-more replies reply =
+    let reads = all-more (λ (r : Reply). r.is_date) replies reply in
+    let clear = all-more (λ (r : Reply). r.is_clear) replies reply in
+    λ i. record { all_read = (sym reads) i; all_clear = (sym clear) i }
+
+-- with no text more
+pub both-first : (verdict : Verdict) → both verdict first_verdict ≡ verdict
+both-first verdict =
+    λ i. record { all_read = (and_true verdict.all_read) i; all_clear = (and_true verdict.all_clear) i }
 
 -- no text was answered yet
-pub Answered-none : (query : Query) (sink messages : StreamState) → Answered query [] (output (change sink sink) (change messages messages)) true
-Answered-none query sink messages =
-    record { replies = []; each = tt; wrote = Appends-nil sink.bytes; warned = refl; all_read_is = refl }
+pub Answered-none : (query : Query) (sink messages : StreamState) (none : Verdict) → none ≡ first_verdict
+    → Answered query [] (output (change sink sink) (change messages messages)) none
+Answered-none query sink messages none is =
+    record { replies = []; each = tt; wrote = Appends-nil sink.bytes; warned = refl; verdict_is = is }
 
 -- some texts, and the next
-pub Answered-more : (query : Query) (texts : List (List ℕ)) (text : List ℕ) (a b c d e f : StreamState) (all_read is_date : Bool)
-    → Answered query texts (output (change a b) (change d e)) all_read → Serves query (length texts + 1) text (output (change b c) (change e f)) (Ok is_date)
-    → Answered query (texts ++ text ∷ []) (output (change a c) (change d f)) (all_read && is_date)
-Answered-more query texts text a b c d e f all_read is_date h k =
+pub Answered-more : (query : Query) (texts : List (List ℕ)) (text : List ℕ) (a b c d e f : StreamState) (all one next : Verdict) → next ≡ both all one
+    → Answered query texts (output (change a b) (change d e)) all → Serves query (length texts + 1) text (output (change b c) (change e f)) (Ok one)
+    → Answered query (texts ++ text ∷ []) (output (change a c) (change d f)) next
+Answered-more query texts text a b c d e f all one next is h k =
     let reply = k.0 in
     record {
       replies = h.replies ++ reply ∷ [];
       each = AreReplies-more query texts h.replies text reply h.each k.1;
       wrote = subst (Takes a c) (sym (lines-more h.replies reply)) (Appends-append a.bytes b.bytes c.bytes (reply_lines h.replies) (with_newline reply.text) h.wrote k.2);
       warned = Warns-more query 1 (length texts + 1) d e f h.replies reply (ap (λ (n : ℕ). n + 1) (sym (as-many query texts h.replies h.each))) h.warned k.3;
-      all_read_is = ap (λ x. x && is_date) h.all_read_is ∙ ap (λ x. all_dates h.replies && x) k.4 ∙ sym (dates-more h.replies reply);
+      verdict_is = is ∙ ap (λ x. both x one) h.verdict_is ∙ ap (λ x. both (verdict_on h.replies) x) k.4 ∙ verdict-more h.replies reply;
     }
 
 -- the texts up to one, and that one
@@ -94,7 +107,7 @@ texts-around texts i d text within is =
     ∙ append_assoc (map string_bytes (take i texts)) (text ∷ []) (map string_bytes after)
 
 -- the number of the next text
-pub numbered-next : (query : Query) (texts : List (String Global)) (i before : ℕ) (text : List ℕ) (out : Output) (result : Result Bool ToolError) → i < length texts
+pub numbered-next : (query : Query) (texts : List (String Global)) (i before : ℕ) (text : List ℕ) (out : Output) (result : Result Verdict ToolError) → i < length texts
     → before ≡ i → Serves query (before + 1) text out result → Serves query (length (map string_bytes (take i texts)) + 1) text out result
 numbered-next query texts i before text out result within e h =
     let same : before ≡ length (map string_bytes (take i texts)) =

@@ -1,5 +1,5 @@
 -- What the program does with a command line.
-use Rattle.std.specs.Prelude.{◌≡◌, ◌⊎◌, ℕ, Bool, true, false, List, [], ◌∷◌, ◌++◌, if◌then◌else◌, Option, Some, None, unwrap_or, Result, Ok, Err, codes}
+use Rattle.std.specs.Prelude.{◌≡◌, ◌⊎◌, ℕ, Bool, true, false, not, ◌&&◌, List, [], ◌∷◌, ◌++◌, if◌then◌else◌, Option, Some, None, unwrap_or, Result, Ok, Err, codes}
 use Rattle.gix_date.specs.Devices.StreamState.{StreamState, Takes, TakesProperPrefix}
 use Rattle.jiff.specs.Types.{TimeZone}
 use Rattle.jiff.specs.Words.{zoned_nanos}
@@ -23,11 +23,12 @@ use Rattle.git_date_tool.specs.declared.answers.Query.{Query}
 use Rattle.git_date_tool.specs.declared.outcome.NoNow.{NoNow}
 use Rattle.git_date_tool.specs.declared.outcome.NoNow.TheVariants.{Clock, NoMoment as NoMomentOf}
 use Rattle.git_date_tool.specs.declared.outcome.Outcome.{Outcome}
-use Rattle.git_date_tool.specs.declared.outcome.Outcome.TheVariants.{Answered, Fault, NoClock, Printed, Shown}
+use Rattle.git_date_tool.specs.declared.outcome.Outcome.TheVariants.{Answered, Fault, NoClock, Printed, Shown, Unquoted}
 use Rattle.git_date_tool.specs.declared.help.TheConstants.{HELP, USAGE, VERSION}
 use Rattle.git_date_tool.specs.declared.readers.Reader.TheVariants.{Approxidate}
 use Rattle.git_date_tool.specs.declared.readers.Strictness.TheVariants.{Usual}
 use Rattle.git_date_tool.specs.declared.shown.Shown.TheVariants.{Git}
+use Rattle.git_date_tool.specs.declared.session.Verdict.{Verdict}
 use Rattle.git_date_tool.specs.declared.warnings.Numbered.{Numbered}
 use Rattle.git_date_tool.specs.declared.warnings.Numbered.TheVariants.{Line, Text}
 use Rattle.git_date_tool.specs.declared.wrong.WrongWords.{WrongWords}
@@ -41,6 +42,8 @@ abbrev pub status_of : Outcome → Status
 status_of Printed = Success
 status_of (Answered true) = Success
 status_of (Answered false) = Failure
+status_of (Unquoted true) = Success
+status_of (Unquoted false) = Failure
 status_of (Fault fault) = Failure
 status_of NoClock = Failure
 status_of (Shown why) = Usage
@@ -69,6 +72,7 @@ message_of (Shown why) = Some (usage_message (wrong_words why))
 message_of Printed = None
 message_of NoClock = Some (message (codes "the clock cannot be read"))
 message_of (Answered all_read) = None
+message_of (Unquoted all_read) = Some (message (codes "quote a text of several words, such as 'last friday at noon'"))
 
 -- This is wrong with the command line, and nothing is written.
 abbrev pub EndsWrong : List ℕ → Outcome → Type 0
@@ -120,15 +124,25 @@ pub record IsQuery (a : Asked) (query : Query) : Type 0 where
   pub zone : IsAskedZone a.zone (zone_of query.now)
 
 -- a run over the texts, or over the lines of the reader if there is none
-abbrev pub RunsAs : List (List ℕ) → Query → Change → Output → Result Bool ToolError → Type 0
+abbrev pub RunsAs : List (List ℕ) → Query → Change → Output → Result Verdict ToolError → Type 0
 RunsAs [] query reading out result = RunsThrough query reading out result
 RunsAs (text ∷ texts) query reading out result = IsUntouched reading × RunsOver query (text ∷ texts) out result
 
+-- more texts than one
+abbrev pub are_several : List (List ℕ) → Bool
+are_several (text ∷ next ∷ texts) = true
+are_several _ = false
+
+-- how such a run ends, by what it comes to: where a word of several texts was not understood, a quote may be missing
+abbrev pub end_of : List (List ℕ) → Result Verdict ToolError → Outcome
+end_of texts (Ok verdict) =
+    if are_several texts && not verdict.all_clear then Unquoted verdict.all_read else Answered verdict.all_read
+end_of texts (Err fault) = Fault fault
+
 -- such a run came to its end, or to a fault
 abbrev pub EndsRun : Asked → Query → Change → Output → Outcome → Type 0
-EndsRun a query reading out (Answered all_read) = RunsAs a.texts query reading out (Ok all_read)
-EndsRun a query reading out (Fault fault) = RunsAs a.texts query reading out (Err fault)
-EndsRun a query reading out _ = ⊥
+EndsRun a query reading out outcome =
+    (result : Result Verdict ToolError) × RunsAs a.texts query reading out result × (outcome ≡ end_of a.texts result)
 
 -- Why the command line is wrong though its words are right: there is no zone, or NOW is no moment in it.
 abbrev pub IsNoStart : Asked → WrongWords → Type 0

@@ -1,5 +1,5 @@
 -- Why a text is answered by no date, and what that is called.
-use Rattle.std.specs.Prelude.{ℕ, List, Option, Some, None, codes}
+use Rattle.std.specs.Prelude.{ℕ, Bool, true, false, List, Option, Some, None, codes}
 use Rattle.gix_date.specs.declared.error.CarefulError.{CarefulError}
 use Rattle.gix_date.specs.declared.error.CarefulError.TheVariants as careful
 use Rattle.gix_date.specs.declared.error.ParseError.{ParseError}
@@ -35,6 +35,16 @@ refusal_place (YearRefused place) = Some place
 refusal_place (Unclear place) = Some place
 refusal_place (Ignored place) = Some place
 refusal_place _ = None
+
+-- the reader does not understand the text, or a word of it
+abbrev pub is_unclear : Refusal → Bool
+is_unclear NotUnderstood = true
+is_unclear (Ignored place) = true
+is_unclear Unreadable = true
+is_unclear (Unclear place) = true
+is_unclear UnknownFormat = true
+is_unclear NoHeader = true
+is_unclear _ = false
 
 -- the refusal of Git's readers
 abbrev pub of_git : DateError → Refusal

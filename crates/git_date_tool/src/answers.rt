@@ -48,6 +48,16 @@ impl Answer<'_> {
         matches!(self, Answer::Date(_, _))
     }
 
+    /// Whether its reader understood each word of the text: no warning stands beside its date, or it is refused for something else.
+    pub fn is_clear(&self) -> bool
+        ensures { result ≡ (answer_reply self.now).is_clear }
+    {
+        match self {
+            Answer::Date(_, warning) => warning.is_empty(),
+            Answer::Refused(refusal) => !refusal.is_unclear(),
+        }
+    }
+
     /// Writes its line.
     pub(crate) fn put<W: Sink>(&self, out: &mut W) -> Result<(), io::ErrorKind>
         ensures { IsWritten (change (W.known out.old) (W.known out.new))

@@ -6,11 +6,14 @@ ghost use Rattle.git_date_tool.specs.Line.{Extends};
 use gix_date_tool::{MAX_LINE_LEN, ToolError};
 use std::alloc::AllocError;
 
-/// Appends bytes to a line, if it may be so long.
+/// Appends bytes to a line, if it may be so long. An empty slice never allocates.
 pub(crate) fn extend(line: &mut Vec<u8>, part: &[u8]) -> Result<(), ToolError>
     requires { length line.old.items ≤ MAX_LINE_LEN }
     ensures { Extends line.old.items line.new.items part.now result }
 {
+    if part.is_empty() {
+        return Ok(());
+    }
     if part.len() > MAX_LINE_LEN - line.len() {
         return Err(ToolError::LineTooLong);
     }

@@ -7,6 +7,8 @@ use gix_date_tool::{NoMoment, ToolError};
 pub(crate) enum Outcome<'w> {
     /// Each text was answered. Whether all were read.
     Answered(bool),
+    /// Each of several texts was answered, and a word of them was not understood: a quote may be missing. Whether all were read.
+    Unquoted(bool),
     /// The run has this fault, or the writer refused the help or the version.
     Fault(ToolError),
     /// The clock was not read.

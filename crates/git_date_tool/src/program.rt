@@ -4,7 +4,7 @@ ghost use Rattle.jiff.specs.ZoneView.{plain_zone};
 ghost use Rattle.gix_date_tool.specs.Messages.{Reports, WritesMessage};
 ghost use Rattle.gix_date_tool.specs.Run.{change};
 ghost use Rattle.git_date_tool.specs.Command.{asked, request_view};
-ghost use Rattle.git_date_tool.specs.Program.{EndsCommand, EndsRequest, EndsRun, Executes, IsMomentIn, IsNoMoment, IsNoQuery, IsQuery, Prints, ShowsUsage, fault_message, is_closed_pipe, message_of, numbered_of, status_of, usage_message, without_zone};
+ghost use Rattle.git_date_tool.specs.Program.{EndsCommand, EndsRequest, EndsRun, Executes, IsMomentIn, IsNoMoment, IsNoQuery, IsQuery, Prints, RunsAs, ShowsUsage, are_several, end_of, fault_message, is_closed_pipe, message_of, numbered_of, status_of, usage_message, without_zone};
 ghost use Rattle.git_date_tool.specs.Runs.{output};
 ghost use Rattle.git_date_tool.specs.Wrong.{about, wrong_words};
 ghost use Rattle.git_date_tool.specs.Zones.{IsAskedZone};
@@ -16,6 +16,7 @@ use crate::now::instant_of;
 use crate::outcome::{NoNow, Outcome};
 use crate::readers::{Reader, Strictness};
 use crate::runs::{run_over, run_through};
+use crate::session::Verdict;
 use crate::shown::Shown;
 use crate::warnings::Numbered;
 use crate::wrong::WrongWords;
@@ -41,8 +42,8 @@ use std::time::Clock;
 /// database and the files are the machine's is trusted: no contract can say what they hold. [`Status::Success`] if each text was read, [`Status::Failure`] if
 /// one was not or the run has a fault. Takes memory for a line, for zones and for the formats of gix-date.
 ///
-/// A line is put into the messages for what was ignored of a text, one for a fault but that of a closed pipe, and two for wrong
-/// words: what is wrong, and the usage. What they refuse changes nothing.
+/// A line is put into the messages for what was ignored of a text, one after several texts of which a word was not understood, one for a
+/// fault but that of a closed pipe, and two for wrong words: what is wrong, and the usage. What they refuse changes nothing.
 pub fn execute<S: Files + Env + Clock + AllocGlobal, R: Source, W: Sink, M: Sink>(
     system: &S,
     words: &[String],
@@ -117,7 +118,7 @@ fn execute_request<'w, S: Files + Env + Clock + AllocGlobal, R: Source, W: Sink,
     }
 }
 
-/// Answers the texts, or the lines of the reader if there is no text.
+/// Answers the texts, or the lines of the reader if there is no text, and says how that ends.
 fn run<'w, R: Source, W: Sink, M: Sink>(
     alloc: Global,
     request: Request<'w>,
@@ -130,14 +131,53 @@ fn run<'w, R: Source, W: Sink, M: Sink>(
         (output (change (W.known writer.old) (W.known writer.new))
         (change (M.known messages.old) (M.known messages.new))) result }
 {
-    let ran = if request.texts.is_empty() {
+    let ran = run_as(alloc, request.texts, query, reader, writer, messages);
+    end_of(request.texts, ran)
+}
+
+/// Answers the texts, or the lines of the reader if there is no text.
+fn run_as<R: Source, W: Sink, M: Sink>(
+    alloc: Global,
+    texts: &[String],
+    query: &Query<'_>,
+    reader: &mut R,
+    writer: &mut W,
+    messages: &mut M,
+) -> Result<Verdict, ToolError>
+    ensures { RunsAs (map string_bytes texts.now) query.entry.now (change (R.known reader.old) (R.known reader.new))
+        (output (change (W.known writer.old) (W.known writer.new))
+        (change (M.known messages.old) (M.known messages.new))) result }
+{
+    if texts.is_empty() {
         run_through(alloc, query, reader, writer, messages)
     } else {
-        run_over(alloc, query, request.texts, writer, messages)
+        run_over(alloc, query, texts, writer, messages)
+    }
+}
+
+/// How a run over these texts ends, or over lines if there is no text. Where a word of several texts was not understood, a quote
+/// may be missing.
+fn end_of<'w>(texts: &[String], ran: Result<Verdict, ToolError>) -> Outcome<'w>
+    ensures { result ≡ end_of (map string_bytes texts.now) ran }
+{
+    let verdict = match ran {
+        Ok(verdict) => verdict,
+        Err(fault) => return Outcome::Fault(fault),
     };
-    match ran {
-        Ok(all_read) => Outcome::Answered(all_read),
-        Err(fault) => Outcome::Fault(fault),
+    if are_several(texts) && !verdict.all_clear {
+        return Outcome::Unquoted(verdict.all_read);
+    }
+    Outcome::Answered(verdict.all_read)
+}
+
+/// Whether there are more texts than one.
+fn are_several(texts: &[String]) -> bool
+    ensures { result ≡ are_several (map string_bytes texts.now) }
+{
+    match texts {
+        [] => false,
+        [_] => false,
+        _ => true,
     }
 }
 
@@ -222,6 +262,10 @@ fn report<M: Sink>(outcome: &Outcome<'_>, messages: &mut M)
         Outcome::Fault(fault) => tell_fault(fault, messages),
         Outcome::Shown(why) => tell_wrong(*why, messages),
         Outcome::NoClock => write_message(&["git_date: the clock cannot be read\n"], messages),
+        Outcome::Unquoted(_) => write_message(
+            &["git_date: quote a text of several words, such as 'last friday at noon'\n"],
+            messages,
+        ),
         Outcome::Answered(_) => {}
         Outcome::Printed => {}
     }
@@ -279,6 +323,8 @@ fn status_of(outcome: &Outcome<'_>) -> Status
         Outcome::Printed => Status::Success,
         Outcome::Answered(true) => Status::Success,
         Outcome::Answered(false) => Status::Failure,
+        Outcome::Unquoted(true) => Status::Success,
+        Outcome::Unquoted(false) => Status::Failure,
         Outcome::Fault(_) => Status::Failure,
         Outcome::NoClock => Status::Failure,
         Outcome::Shown(_) => Status::Usage,

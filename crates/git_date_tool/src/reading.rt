@@ -21,7 +21,7 @@ pub(crate) struct Lines {
 
 impl Lines {
     ghost use Rattle.std.specs.Prelude.{◌≡◌, []};
-    ghost use Rattle.git_date_tool.specs.Reading.{cursor, unread, Reads};
+    ghost use Rattle.git_date_tool.specs.Reading.{cursor, unread, Looks, Reads};
 
     /// Nothing was read.
     pub(crate) fn new() -> Lines
@@ -64,6 +64,25 @@ impl Lines {
                 Ok(count) => self.to = count,
                 Err(kind) => return Err(ToolError::Read(kind)),
             }
+        }
+    }
+
+    /// Whether a byte stands after the lines that were read.
+    pub(crate) fn has_more<R: Source>(&mut self, reader: &mut R) -> Result<bool, ToolError>
+        ensures { Looks (cursor self.old (R.known reader.old)) (cursor self.new (R.known reader.new)) result }
+    {
+        if self.from < self.to {
+            return Ok(true);
+        }
+        self.from = 0;
+        self.to = 0;
+        match reader.get(&mut self.bytes) {
+            Ok(0) => Ok(false),
+            Ok(count) => {
+                self.to = count;
+                Ok(true)
+            }
+            Err(kind) => Err(ToolError::Read(kind)),
         }
     }
 }

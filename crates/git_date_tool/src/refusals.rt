@@ -1,6 +1,6 @@
 //! Why a text is answered by no date.
 ghost use Rattle.std.specs.Prelude.{◌≡◌};
-ghost use Rattle.git_date_tool.specs.Refusals.{refusal_name, refusal_place, of_git, of_careful, of_gix};
+ghost use Rattle.git_date_tool.specs.Refusals.{is_unclear, refusal_name, refusal_place, of_git, of_careful, of_gix};
 
 use git_date::DateError;
 use gix_date::{CarefulError, ParseError};
@@ -75,6 +75,21 @@ impl Refusal {
             Refusal::Unclear(place) => Some(place),
             Refusal::Ignored(place) => Some(place),
             _ => None,
+        }
+    }
+
+    /// Whether the reader does not understand the text, or a word of it.
+    pub fn is_unclear(self) -> bool
+        ensures { result ≡ is_unclear self }
+    {
+        match self {
+            Refusal::NotUnderstood => true,
+            Refusal::Ignored(_) => true,
+            Refusal::Unreadable => true,
+            Refusal::Unclear(_) => true,
+            Refusal::UnknownFormat => true,
+            Refusal::NoHeader => true,
+            _ => false,
         }
     }
 }

@@ -1,5 +1,5 @@
 //! What is said beside a date.
-ghost use Rattle.std.specs.Prelude.{◌≡◌, ◌≤◌, ◌++◌, None, Some, codes, length};
+ghost use Rattle.std.specs.Prelude.{◌≡◌, ◌≤◌, ◌++◌, None, Some, codes, is_none, length};
 ghost use Rattle.std.specs.List.{prefix_len};
 ghost use Rattle.std.specs.Char.{is_ascii_alphanumeric};
 ghost use Rattle.git_date.specs.Outcome.{IsPlaceIn};
@@ -94,6 +94,17 @@ impl Numbered {
 }
 
 impl Warning<'_> {
+    /// Whether there is nothing to say.
+    #[tactic(auto, using(crate::proofs::Told::unsaid))]
+    pub(crate) fn is_empty(self) -> bool
+        ensures { result ≡ is_none (warning_words (warning_view self.entry)) }
+    {
+        match self.ignored {
+            Some(_) => false,
+            None => self.understood,
+        }
+    }
+
     /// Puts the line of it into the messages, if there is something to say of the text with this number. What they refuse is
     /// not said.
     pub(crate) fn tell<M: Sink>(self, numbered: Numbered, number: u64, messages: &mut M)

@@ -19,3 +19,8 @@ pub returns-in-NoClock : goal.returns-in-NoClock
 returns-in-NoClock g c =
     let telling = change (g.M.Sink.known c.args.messages.now) (g.M.Sink.known c.write_message.new.messages) in
     subst (λ e. Reports telling (message_of e)) (sym c.in-NoClock.is) c.write_message.ensures
+
+pub returns-in-Unquoted : goal.returns-in-Unquoted
+returns-in-Unquoted g c =
+    let telling = change (g.M.Sink.known c.args.messages.now) (g.M.Sink.known c.write_message-in-Unquoted.new.messages) in
+    subst (λ e. Reports telling (message_of e)) (sym c.in-Unquoted.is) c.write_message-in-Unquoted.ensures

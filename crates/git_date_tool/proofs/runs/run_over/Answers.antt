@@ -1,4 +1,4 @@
-use Rattle.std.proofs.Common.{◌∙◌, ap, ℕ, ◌+◌, ◌&&◌, subst, sym, take, drop, map, string_bytes, Ok, Err}
+use Rattle.std.proofs.Common.{◌∙◌, ap, ℕ, ◌+◌, subst, sym, take, drop, map, string_bytes, Ok, Err}
 use Rattle.gix_date_tool.specs.Run.{change}
 use Rattle.git_date_tool.specs.Runs.{output, Answered}
 use Rattle.git_date_tool.proofs.Answering.{Answered-more, numbered-next, texts-more, texts-around}
@@ -19,7 +19,7 @@ returns-in-Err g c =
       broken = record {
         written = g.W.Sink.known c.loop-text.writer;
         told = g.M.Sink.known c.loop-text.messages;
-        all_read = c.loop-text.all_read;
+        verdict = c.loop-text.all;
         before = c.loop-text.invariant.answered;
         at = numbered-next c.args.query.now texts i c.loop-text.before text (output written told) (Err c.in-Err.fault) c.loop-text-test.true
             c.loop-text.invariant.counted c.in-Err.ensures;
@@ -38,10 +38,10 @@ loop-text-preserved g c =
     let e = g.M.Sink.known c.loop-text.messages in
     let f = g.M.Sink.known c.serve.new.messages in
     record {
-      answered = subst (λ ts. Answered c.args.query.now ts (output (change a z) (change d f)) (c.loop-text.all_read && c.in-Ok.is_date))
+      answered = subst (λ ts. Answered c.args.query.now ts (output (change a z) (change d f)) c.with-all.result)
           (sym (texts-more texts i c.text-item.result text c.loop-text-test.true (c.as_bytes.ensures.value ∙ ap string_bytes c.text-item.is)))
-          (Answered-more c.args.query.now (map string_bytes (take i texts)) text a b z d e f c.loop-text.all_read c.in-Ok.is_date c.loop-text.invariant.answered
-          (numbered-next c.args.query.now texts i c.loop-text.before text (output (change b z) (change e f)) (Ok c.in-Ok.is_date) c.loop-text-test.true
+          (Answered-more c.args.query.now (map string_bytes (take i texts)) text a b z d e f c.loop-text.all c.in-Ok.one c.with-all.result c.with-all.ensures c.loop-text.invariant.answered
+          (numbered-next c.args.query.now texts i c.loop-text.before text (output (change b z) (change e f)) (Ok c.in-Ok.one) c.loop-text-test.true
           c.loop-text.invariant.counted c.in-Ok.ensures));
       counted = ap (λ (n : ℕ). n + 1) c.loop-text.invariant.counted;
     }

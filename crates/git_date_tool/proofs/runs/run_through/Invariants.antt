@@ -11,7 +11,7 @@ abbrev pub invariant-lines : goal.invariant-lines
 invariant-lines g l = record {
   far : Far l.query (g.R.Source.known l.initial.reader) (cursor l.lines (g.R.Source.known l.reader))
       (output (change (g.W.Sink.known l.initial.writer) (g.W.Sink.known l.writer)) (change (g.M.Sink.known l.initial.messages) (g.M.Sink.known l.messages)))
-      l.all_read;
+      l.all;
   counted : length far.lines ≡ l.count;
   few : l.count ≤ MAX_LINES;
 }
