@@ -37,10 +37,13 @@ use std::time::Clock;
 /// Does what the words of a command line, without the program's name, ask for: answers each text, or each line of the reader
 /// if there is no text, or writes the help or the version. Of wrong words it says which and why, and how it is called.
 ///
-/// ZONE is an offset to 25:59, or else a POSIX rule, or else a name in the time zone database, or else the path of a TZif file.
-/// Without it the zone is the system's: that of `TZ`, or else of `/etc/localtime`, or else UTC. That the clock, `TZ`, the
-/// database and the files are the machine's is trusted: no contract can say what they hold. [`Status::Success`] if each text was read, [`Status::Failure`] if
-/// one was not or the run has a fault. Takes memory for a line, for zones and for the formats of gix-date.
+/// ZONE is an offset to 25:59, or else a POSIX rule, or else a name of the time zone database, which `UTC` need not be, or the path of a
+/// TZif file, which begins with `/` or `./`. Without it `TZ` says the zone, as for the C library: behind a colon in front it is a rule or
+/// a name, or UTC if nothing stands there. Else it is that of `/etc/localtime`, and UTC if there is no such file. That the clock, `TZ`,
+/// `TZDIR` and the files are the machine's is trusted: no contract can say what they hold.
+///
+/// [`Status::Success`] if each text was read, [`Status::Failure`] if one was not or the run has a fault. Takes memory for a line, for
+/// zones and for the formats of gix-date.
 ///
 /// A line is put into the messages for what was ignored of a text, one after several texts of which a word was not understood, one for a
 /// fault but that of a closed pipe, and two for wrong words: what is wrong, and the usage. What they refuse changes nothing.
