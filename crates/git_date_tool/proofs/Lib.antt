@@ -1,8 +1,11 @@
 pub mod Answering
 pub mod Cutting
 pub mod Following
+pub mod FoundOnce
 pub mod OfText
+pub mod RepliesOnce
 pub mod Reported
+pub mod RunsOnce
 pub mod Texts
 pub mod Told
 pub mod Words

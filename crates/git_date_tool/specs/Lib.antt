@@ -12,3 +12,4 @@ pub mod Zones
 pub mod Command
 pub mod Now
 pub mod Program
+pub mod Laws

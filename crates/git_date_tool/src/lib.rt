@@ -4,6 +4,7 @@
 mod answers;
 mod arguments;
 mod help;
+pub mod laws;
 mod line;
 mod now;
 mod offsets;

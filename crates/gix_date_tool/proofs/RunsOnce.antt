@@ -103,7 +103,7 @@ same-replies mode now a b (line ∷ lines) (r ∷ replies) (s ∷ others) m n h 
     both-heads r s replies others first (same-replies mode now a b lines replies others m n h.1 g.1)
 
 -- The input that was read.
-all-read : (old new : Option (List ℕ)) (input known : List ℕ) → old ≡ Some known → Consumes old new input → IsAtEnd new → input ≡ known
+pub all-read : (old new : Option (List ℕ)) (input known : List ℕ) → old ≡ Some known → Consumes old new input → IsAtEnd new → input ≡ known
 all-read None new input known e h end = absurd cc
 all-read (Some xs) None input known e h end = absurd h
 all-read (Some xs) (Some ys) input known e h end =
@@ -111,7 +111,7 @@ all-read (Some xs) (Some ys) input known e h end =
     sym (append-nil input) ∙ ap (λ (t : List ℕ). input ++ t) (sym end) ∙ sym h ∙ same
 
 -- what was written
-all-written : (old new : Option (List ℕ)) (text before after : List ℕ) → old ≡ Some before → new ≡ Some after → Appends old new text → after ≡ before ++ text
+pub all-written : (old new : Option (List ℕ)) (text before after : List ℕ) → old ≡ Some before → new ≡ Some after → Appends old new text → after ≡ before ++ text
 all-written None new text before after e f h = absurd cc
 all-written (Some xs) None text before after e f h = absurd cc
 all-written (Some xs) (Some ys) text before after e f h =
@@ -119,7 +119,7 @@ all-written (Some xs) (Some ys) text before after e f h =
     let y : ys ≡ after = cc in
     sym y ∙ h ∙ ap (λ (t : List ℕ). t ++ text) x
 
-part-splits : {input : List ℕ} (part : Part input) → part.beyond ≡ [] → Splits input part.lines part.rest
+pub part-splits : {input : List ℕ} (part : Part input) → part.beyond ≡ [] → Splits input part.lines part.rest
 part-splits part none =
     let whole = part.whole ∙ ap (λ (t : List ℕ). part.front ++ t) none ∙ append-nil part.front in
     subst (λ (t : List ℕ). Splits t part.lines part.rest) (sym whole) part.splits
