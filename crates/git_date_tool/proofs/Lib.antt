@@ -3,6 +3,7 @@ pub mod Cutting
 pub mod Following
 pub mod FoundOnce
 pub mod OfText
+pub mod PatternsOnce
 pub mod RepliesOnce
 pub mod Reported
 pub mod RunsOnce

@@ -1,18 +1,17 @@
 -- A run over lines that ends well comes to one end, and so do wrong words.
-use Rattle.std.proofs.Common.{◌≡◌, ◌∙◌, ℕ, List, [], ◌∷◌, ◌++◌, Some, Result, Ok, Err, refl, sym, ap, subst}
+use Rattle.std.proofs.Common.{◌≡◌, ◌∙◌, ℕ, List, [], ◌∷◌, ◌++◌, Some, Result, Err, refl, sym, ap, subst}
 use Rattle.gix_date.specs.Devices.StreamState.{StreamState}
 use Rattle.gix_date_tool.specs.Laws.{Begun}
 use Rattle.gix_date_tool.specs.Lines.{Splits, last_line}
 use Rattle.gix_date_tool.specs.Messages.{Reports}
 use Rattle.gix_date_tool.specs.Run.{Change, change}
 use Rattle.gix_date_tool.specs.declared.program.Status.{Status}
-use Rattle.gix_date_tool.specs.declared.program.Status.TheVariants.{Usage}
 use Rattle.gix_date_tool.proofs.RunsOnce.{all-read, all-written, part-splits}
 use Rattle.gix_date_tool.proofs.Splitting.{Splits_unique}
 use Rattle.git_date_tool.specs.Answers.{Reply}
-use Rattle.git_date_tool.specs.Command.{Ask, asked}
-use Rattle.git_date_tool.specs.Laws.{EndsWell, IsRefused, RunsAreUnique, ShowsNoPattern, WrongWordsAreRefused}
-use Rattle.git_date_tool.specs.Program.{EndsCommand, Executes, message_of, status_of, usage_message}
+use Rattle.git_date_tool.specs.Command.{Ask}
+use Rattle.git_date_tool.specs.Laws.{EndsWell, IsRefused, RunsAreUnique, WrongWordsAreRefused}
+use Rattle.git_date_tool.specs.Program.{EndsCommand, message_of, status_of, usage_message}
 use Rattle.git_date_tool.specs.Runs.{AreReplies, output, reply_lines, verdict_on}
 use Rattle.git_date_tool.specs.declared.answers.Query.{Query}
 use Rattle.git_date_tool.specs.declared.outcome.Outcome.{Outcome}
@@ -23,15 +22,15 @@ use Rattle.git_date_tool.proofs.RepliesOnce.{replies-once}
 both-heads : (x y : Reply) (xs ys : List Reply) → x ≡ y → xs ≡ ys → x ∷ xs ≡ y ∷ ys
 both-heads x y xs ys e f = cc
 
-same-replies : (query : Query) (texts : List (List ℕ)) (replies others : List Reply) → ShowsNoPattern query.shown
+same-replies : (query : Query) (texts : List (List ℕ)) (replies others : List Reply)
     → AreReplies query texts replies → AreReplies query texts others → replies ≡ others
-same-replies query [] [] [] none h g = refl
-same-replies query [] [] (s ∷ others) none h g = absurd g
-same-replies query [] (r ∷ replies) others none h g = absurd h
-same-replies query (t ∷ texts) [] others none h g = absurd h
-same-replies query (t ∷ texts) (r ∷ replies) [] none h g = absurd g
-same-replies query (t ∷ texts) (r ∷ replies) (s ∷ others) none h g =
-    both-heads r s replies others (replies-once query t r s none h.0 g.0) (same-replies query texts replies others none h.1 g.1)
+same-replies query [] [] [] h g = refl
+same-replies query [] [] (s ∷ others) h g = absurd g
+same-replies query [] (r ∷ replies) others h g = absurd h
+same-replies query (t ∷ texts) [] others h g = absurd h
+same-replies query (t ∷ texts) (r ∷ replies) [] h g = absurd g
+same-replies query (t ∷ texts) (r ∷ replies) (s ∷ others) h g =
+    both-heads r s replies others (replies-once query t r s h.0 g.0) (same-replies query texts replies others h.1 g.1)
 
 -- what a run that ends well comes to, of its whole input
 record Due (query : Query) (begun : Begun) (end : Verdict × List ℕ) : Type 0 where
@@ -63,13 +62,13 @@ both-parts : (a b : Verdict × List ℕ) → a.0 ≡ b.0 → a.1 ≡ b.1 → a �
 both-parts a b e f = λ i. (e i, f i)
 
 pub runs-once : RunsAreUnique
-runs-once query begun one other none h g =
+runs-once query begun one other h g =
     let a = due query begun one h in
     let b = due query begun other g in
     let cut = Splits_unique begun.input a.lines b.lines a.rest b.rest a.splits b.splits in
     let lines : (b.lines ++ last_line b.rest) ≡ (a.lines ++ last_line a.rest) = ap (λ (ls : List (List ℕ)). ls ++ last_line b.rest) (sym cut.0) ∙ ap (λ (r : List ℕ). a.lines ++ last_line r) (sym cut.1) in
     let each = subst (λ (ls : List (List ℕ)). AreReplies query ls b.replies) lines b.each in
-    let same = same-replies query (a.lines ++ last_line a.rest) a.replies b.replies none a.each each in
+    let same = same-replies query (a.lines ++ last_line a.rest) a.replies b.replies a.each each in
     both-parts one other
     (a.verdict_is ∙ ap (λ (rs : List Reply). verdict_on rs) same ∙ sym b.verdict_is)
     (a.output_is ∙ ap (λ (rs : List Reply). begun.output ++ reply_lines rs) same ∙ sym b.output_is)

@@ -17,9 +17,6 @@ use Rattle.git_date_tool.specs.declared.readers.Reader.{Reader}
 use Rattle.git_date_tool.specs.declared.readers.Strictness.{Strictness}
 use Rattle.git_date_tool.specs.declared.refusals.Refusal.{Refusal}
 use Rattle.git_date_tool.specs.declared.session.Verdict.{Verdict}
-use Rattle.git_date_tool.specs.declared.shown.NamedFormat.TheVariants.{Unix, Raw}
-use Rattle.git_date_tool.specs.declared.shown.Shown.{Shown}
-use Rattle.git_date_tool.specs.declared.shown.Shown.TheVariants.{Git, Gix}
 
 -- reader, strictness, moment and text determine what is found
 abbrev pub ReadsAreUnique : Type 0
@@ -27,18 +24,10 @@ ReadsAreUnique =
     (reader : Reader) (strictness : Strictness) (now : Zoned) (text : List ℕ) (found other : Result Approximate Refusal)
     → IsRead reader strictness now text found → IsRead reader strictness now text other → found ≡ other
 
--- dates are shown by a mode of Git, or by a format of gix-date that is no pattern
-abbrev pub ShowsNoPattern : Shown → Type 0
-ShowsNoPattern (Git mode) = Unit {0}
-ShowsNoPattern (Gix Unix) = Unit {0}
-ShowsNoPattern (Gix Raw) = Unit {0}
-ShowsNoPattern (Gix _) = ⊥
-
--- so query and text determine the reply
+-- query and text determine the reply
 abbrev pub RepliesAreUnique : Type 0
 RepliesAreUnique =
-    (query : Query) (text : List ℕ) (reply other : Reply) → ShowsNoPattern query.shown
-    → IsReply query text reply → IsReply query text other → reply ≡ other
+    (query : Query) (text : List ℕ) (reply other : Reply) → IsReply query text reply → IsReply query text other → reply ≡ other
 
 -- a run over lines that ended well from these bytes: this is known of its replies, and then the writer had taken this output
 pub record EndsWell (query : Query) (begun : Begun) (verdict : Verdict) (written : List ℕ) : Type 0 where
@@ -49,10 +38,10 @@ pub record EndsWell (query : Query) (begun : Begun) (verdict : Verdict) (written
   pub output_is : out.writing.new.bytes ≡ Some written
   pub runs : RunsThrough query reading out (Ok verdict)
 
--- and query and bytes determine what such a run comes to
+-- query and bytes determine what such a run comes to
 abbrev pub RunsAreUnique : Type 0
 RunsAreUnique =
-    (query : Query) (begun : Begun) (one other : Verdict × List ℕ) → ShowsNoPattern query.shown
+    (query : Query) (begun : Begun) (one other : Verdict × List ℕ)
     → EndsWell query begun one.0 one.1 → EndsWell query begun other.0 other.1 → one ≡ other
 
 -- what a command comes to whose words are wrong, whatever the machine has: it says why and how it is called, and nothing else

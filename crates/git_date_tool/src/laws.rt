@@ -6,13 +6,13 @@ pub fn reads_are_unique()
     ensures { ReadsAreUnique }
 {}
 
-/// Query and text determine the reply, where dates are shown by a mode of Git, or by a format of gix-date that is no pattern.
+/// Query and text determine the reply.
 pub fn replies_are_unique()
     ensures { RepliesAreUnique }
 {}
 
-/// There the query, the input and what the writer had taken determine what a run over lines writes that ends well, and what is
-/// known of its replies.
+/// The query, the input and what the writer had taken determine what a run over lines writes that ends well, and what is known of
+/// its replies.
 pub fn runs_are_unique()
     ensures { RunsAreUnique }
 {}

@@ -1,4 +1,4 @@
-use Rattle.std.proofs.Common.{◌≡◌, ◌<◌, ◌≤◌, ◌∙◌, ◌+◌, ℕ, Bool, Result, List, true, false, refl, ap, sym, subst, length, length-append, arith, Ok, Err}
+use Rattle.std.proofs.Common.{◌≡◌, ◌<◌, ◌≤◌, ◌∙◌, ◌+◌, ℕ, Result, List, true, false, refl, ap, sym, subst, length-append, arith, Ok, Err}
 use Rattle.gix_date_tool.specs.Lines.{last_line}
 use Rattle.gix_date_tool.specs.Run.{change}
 use Rattle.gix_date_tool.specs.declared.lines.TheConstants.{MAX_LINES}
