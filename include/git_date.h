@@ -110,6 +110,7 @@ typedef struct git_date_mode {
 /* Reads a date as Git's exact reader does: GIT_COMMITTER_DATE, the date of a mail.
  * GIX_DATE_INVALID_ZONE, GIX_DATE_INVALID_INSTANT; GIT_DATE_UNREADABLE, GIT_DATE_NUMBER_TOO_LARGE,
  * GIT_DATE_YEAR_REFUSED, GIT_DATE_RANGE. */
+GIX_DATE_MUST_USE
 uint32_t git_date_parse_at(const char *text, size_t text_len, const gix_date_instant *now,
                            gix_date_zone *zone, git_date_exact *date, size_t *place);
 
@@ -117,22 +118,26 @@ uint32_t git_date_parse_at(const char *text, size_t text_len, const gix_date_ins
  * Git does not know is ignored: "5 mins ago" is the fifth. GIX_DATE_INVALID_ZONE,
  * GIX_DATE_INVALID_INSTANT; GIT_DATE_NUMBER_TOO_LARGE, GIT_DATE_BACK_TOO_FAR, GIT_DATE_YEAR_REFUSED,
  * GIT_DATE_RANGE. */
+GIX_DATE_MUST_USE
 uint32_t git_date_approxidate_at(const char *text, size_t text_len, const gix_date_instant *now,
                                  gix_date_zone *zone, git_date_approximate *date, size_t *place);
 
 /* Reads what expires, as Git reads gc.pruneExpire: "never" and "false" are GIT_DATE_NEVER, "all"
  * and "now" GIT_DATE_ALL, and any other text is a date of git_date_approxidate_at. Its statuses, and
  * GIT_DATE_UNREADABLE if nothing of the date was understood. */
+GIX_DATE_MUST_USE
 uint32_t git_date_expiry_at(const char *text, size_t text_len, const gix_date_instant *now,
                             gix_date_zone *zone, git_date_expiry *expiry, size_t *place);
 
 /* The mode of one of Git's names, in its letter case: "iso8601-strict-local", "local". Git's modes
  * "auto:" and "format:" have none. GIX_DATE_NOT_TEXT, GIX_DATE_NO_SUCH_OPTION. */
+GIX_DATE_MUST_USE
 uint32_t git_date_mode_named(const char *name, size_t name_len, git_date_mode *mode);
 
 /* Writes a time as git log --date=MODE shows it at the moment now, of at most GIT_DATE_MAX_SHOWN
  * bytes. GIX_DATE_INVALID_ZONE, GIX_DATE_INVALID_INSTANT; GIX_DATE_NO_SUCH_OPTION, GIT_DATE_RANGE,
  * GIX_DATE_NO_ROOM. */
+GIX_DATE_MUST_USE
 uint32_t git_date_show_at(const gix_date_time *time, const git_date_mode *mode,
                           const gix_date_instant *now, gix_date_zone *zone, char *out,
                           size_t out_len, size_t *len);

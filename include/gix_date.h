@@ -29,6 +29,16 @@
 extern "C" {
 #endif
 
+/* A call that may refuse answers a status, and a compiler warns of a program that drops it. */
+#if (defined(__cplusplus) && __cplusplus >= 201703L) || \
+    (defined(__STDC_VERSION__) && __STDC_VERSION__ >= 202311L)
+#define GIX_DATE_MUST_USE [[nodiscard]]
+#elif defined(__GNUC__)
+#define GIX_DATE_MUST_USE __attribute__((warn_unused_result))
+#else
+#define GIX_DATE_MUST_USE
+#endif
+
 /* The version of this library, and the number that gix_date_version answers for it: ten thousands
  * for the first number, hundreds for the second. The first number rises if programs have to be
  * changed or linked again, the second if there are new calls. */
@@ -228,6 +238,7 @@ static inline bool gix_date_version_fits(void)
 
 /* Reads the time of a commit header, "1660797906 +0800", leniently as gix-date does: "12abc" is 12,
  * 0. GIX_DATE_NOT_TEXT, GIX_DATE_INVALID_TIME. */
+GIX_DATE_MUST_USE
 uint32_t gix_date_parse_header(const char *text, size_t text_len, gix_date_time *time);
 
 /* Whether a text is as Git writes it: read as a header and written, it comes back byte for byte. */
@@ -235,6 +246,7 @@ bool gix_date_is_canonical_header(const char *text, size_t text_len);
 
 /* Writes the text of a time in a commit header, of at most GIX_DATE_MAX_HEADER bytes. Seconds of an
  * offset beyond whole minutes are dropped. GIX_DATE_NO_ROOM, GIX_DATE_OFFSET_TOO_WIDE. */
+GIX_DATE_MUST_USE
 uint32_t gix_date_write_header(const gix_date_time *time, char *out, size_t out_len,
                                size_t *len);
 
@@ -242,6 +254,7 @@ uint32_t gix_date_write_header(const gix_date_time *time, char *out, size_t out_
  * gix_date_raw_offsets. A relative date ("2 days ago") is refused, since no moment is given.
  * GIX_DATE_NO_SUCH_OPTION, GIX_DATE_NOT_TEXT, GIX_DATE_UNKNOWN_FORMAT, GIX_DATE_DATE_CONVERSION,
  * GIX_DATE_MISSING_NOW. */
+GIX_DATE_MUST_USE
 uint32_t gix_date_parse(const char *text, size_t text_len, uint32_t raw_offsets,
                         gix_date_time *time);
 
@@ -250,10 +263,12 @@ uint32_t gix_date_parse(const char *text, size_t text_len, uint32_t raw_offsets,
  * "EST5EDT,M3.2.0,M11.1.0". What the zone held before is freed. Takes memory for a file and a rule.
  * After a refusal the zone is as it was.
  * GIX_DATE_NOT_TEXT, GIX_DATE_INVALID_ZONE, GIX_DATE_OUT_OF_MEMORY. */
+GIX_DATE_MUST_USE
 uint32_t gix_date_zone_read(const void *text, size_t text_len, gix_date_zone *zone);
 
 /* Makes a zone mean what another means. What it held before is freed. Takes memory where the other
  * holds some. GIX_DATE_OUT_OF_MEMORY. */
+GIX_DATE_MUST_USE
 uint32_t gix_date_zone_copy(gix_date_zone *from, gix_date_zone *zone);
 
 /* Frees what a zone holds. It is UTC then, and may be freed again. */
@@ -262,18 +277,21 @@ void gix_date_zone_free(gix_date_zone *zone);
 /* Parses as gix_date_parse does a text that may be relative to the moment now in a zone.
  * GIX_DATE_INVALID_ZONE, GIX_DATE_INVALID_INSTANT; GIX_DATE_NO_SUCH_OPTION, GIX_DATE_NOT_TEXT,
  * GIX_DATE_UNKNOWN_FORMAT, GIX_DATE_DATE_CONVERSION, GIX_DATE_RANGE. */
+GIX_DATE_MUST_USE
 uint32_t gix_date_parse_at(const char *text, size_t text_len, uint32_t raw_offsets,
                            const gix_date_instant *now, gix_date_zone *zone, gix_date_time *time);
 
 /* Parses a date as gix_date_parse does, but refuses it unless each character says something that is
  * used. With GIX_DATE_UNCLEAR *place says where the text stops being careful; no other status
  * changes it. The statuses are those of gix_date_parse, and GIX_DATE_UNCLEAR. */
+GIX_DATE_MUST_USE
 uint32_t gix_date_parse_carefully(const char *text, size_t text_len,
                                   const gix_date_careful_options *options, gix_date_time *time,
                                   size_t *place);
 
 /* gix_date_parse_carefully at the moment now in a zone. The statuses are those of gix_date_parse_at,
  * and GIX_DATE_UNCLEAR. */
+GIX_DATE_MUST_USE
 uint32_t gix_date_parse_carefully_at(const char *text, size_t text_len,
                                      const gix_date_careful_options *options,
                                      const gix_date_instant *now, gix_date_zone *zone,
@@ -283,12 +301,14 @@ uint32_t gix_date_parse_carefully_at(const char *text, size_t text_len,
  * before 1000 or at offsets with seconds.
  * GIX_DATE_NO_ROOM, GIX_DATE_NO_SUCH_OPTION, GIX_DATE_CONVERSION, GIX_DATE_OFFSET_TOO_WIDE,
  * GIX_DATE_OUT_OF_MEMORY. */
+GIX_DATE_MUST_USE
 uint32_t gix_date_format(const gix_date_time *time, uint32_t format, char *out, size_t out_len,
                          size_t *len);
 
 /* gix_date_format, with the seconds in decimal for a time that has no text in that format. Takes
  * memory for these too.
  * GIX_DATE_NO_ROOM, GIX_DATE_NO_SUCH_OPTION, GIX_DATE_OUT_OF_MEMORY. */
+GIX_DATE_MUST_USE
 uint32_t gix_date_format_or_unix(const gix_date_time *time, uint32_t format, char *out,
                                  size_t out_len, size_t *len);
 
@@ -296,11 +316,13 @@ uint32_t gix_date_format_or_unix(const gix_date_time *time, uint32_t format, cha
  * but for the patterns of named formats where gix_date_format takes none.
  * GIX_DATE_NO_ROOM, GIX_DATE_NOT_TEXT, GIX_DATE_CONVERSION, GIX_DATE_PATTERN,
  * GIX_DATE_OUT_OF_MEMORY. */
+GIX_DATE_MUST_USE
 uint32_t gix_date_format_by_pattern(const gix_date_time *time, const char *pattern,
                                     size_t pattern_len, char *out, size_t out_len, size_t *len);
 
 /* gix_date_format_by_pattern, with the seconds in decimal for a time that has no text by it.
  * GIX_DATE_NO_ROOM, GIX_DATE_NOT_TEXT, GIX_DATE_OUT_OF_MEMORY. */
+GIX_DATE_MUST_USE
 uint32_t gix_date_format_by_pattern_or_unix(const gix_date_time *time, const char *pattern,
                                             size_t pattern_len, char *out, size_t out_len,
                                             size_t *len);
@@ -308,10 +330,12 @@ uint32_t gix_date_format_by_pattern_or_unix(const gix_date_time *time, const cha
 /* Cuts a signature line, without its newline, into its parts: "A U Thor <author@example.com>
  * 1660797906 +0800". The time is read by gix_date_parse_header. GIX_DATE_NOT_TEXT,
  * GIX_DATE_NO_SIGNATURE. */
+GIX_DATE_MUST_USE
 uint32_t gix_date_cut_signature(const char *line, size_t line_len, gix_date_signature *parts);
 
 /* Writes the signature line of a name, a mail and a time, without a newline. GIX_DATE_NO_ROOM,
  * GIX_DATE_NOT_TEXT, GIX_DATE_BAD_PART, GIX_DATE_OFFSET_TOO_WIDE. */
+GIX_DATE_MUST_USE
 uint32_t gix_date_write_signature(const char *name, size_t name_len, const char *mail,
                                   size_t mail_len, const gix_date_time *time, char *out,
                                   size_t out_len, size_t *len);

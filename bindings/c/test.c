@@ -534,11 +534,13 @@ static void print(const gix_date_time *time, uint32_t format, const char *patter
 {
     char out[64];
     size_t len;
-    if (format == BY_PATTERN)
-        (or_unix ? gix_date_format_by_pattern_or_unix
-                 : gix_date_format_by_pattern)(time, TEXT(pattern), out, sizeof out, &len);
-    else
-        (or_unix ? gix_date_format_or_unix : gix_date_format)(time, format, out, sizeof out, &len);
+    uint32_t status =
+        format == BY_PATTERN
+            ? (or_unix ? gix_date_format_by_pattern_or_unix
+                       : gix_date_format_by_pattern)(time, TEXT(pattern), out, sizeof out, &len)
+            : (or_unix ? gix_date_format_or_unix : gix_date_format)(time, format, out, sizeof out,
+                                                                    &len);
+    EXPECT(status == GIX_DATE_OK || len == 0, "a refusal writes nothing");
 }
 
 /* What each print asks for. By a pattern that is no named one, or for a time that is printed by it,
