@@ -12,10 +12,21 @@ fail() {
     exit 1
 }
 
-# Whether a tool is there; what it would have shown is said to be left out otherwise.
+# Says what cannot be tested here, and what that wants: packages of Debian, or something else in several words. What test_all exports as
+# SKIPPED is a file of such lines, which it counts.
+skip() {
+    local wants line
+    printf -v wants ', %s' "${@:2}"
+    line="skipped: $1 (wants ${wants#, })"
+    echo "$line"
+    [ -z "${SKIPPED-}" ] || echo "$line" >>"$SKIPPED"
+}
+
+# Whether a tool is there, or a file of a whole path. What it would have shown is skipped otherwise, and wants the package that is named last,
+# or else one of the tool's name.
 has() {
-    command -v "$1" >/dev/null || {
-        echo "no $1 is here: $2 is left out"
+    command -v "$1" >/dev/null || [[ "$1" == /* && -e "$1" ]] || {
+        skip "$2" "${3:-$1}"
         return 1
     }
 }
