@@ -1,15 +1,24 @@
 # Tells by checksums whether what a script has built is what its sources and this toolchain build, for a script that sources this: `root` is
 # the folder of all, and `speaker` the script's name. `made` names the files that it builds, and `used` what it reads beside the crates,
 # both below `root`. The file `built` keeps what `rt --version` said, and the checksums.
-# shellcheck shell=sh disable=SC2154
+# shellcheck shell=sh disable=SC2034,SC2154
 
 newline='
 '
 
-# A line on standard error; nothing fails where that is closed.
+# A line on standard error; nothing fails where that is closed. Of a word or path in it no control character reaches a terminal.
 say() {
-    printf '%s: %s\n' "$speaker" "$1" >&2 || :
+    case $1 in
+        *[![:print:]]*) printf '%s: %s' "$speaker" "$1" | LC_ALL=C sed -z 's/[[:cntrl:]]/?/g; s/\xc2[\x80-\x9f]/?/g; s/$/\n/' ;;
+        *) printf '%s: %s\n' "$speaker" "$1" ;;
+    esac >&2 || :
 }
+
+# Whether a path stands for itself in flags of compilers and in lists of paths, in any locale.
+is_plain() (
+    LC_ALL=C
+    case $1 in *[!A-Za-z0-9_./+,@=~-]*) return 1 ;; esac
+)
 
 # Ends with the status of a fault, and says why.
 stop() {
@@ -51,13 +60,26 @@ changed_since() {
     find_sources '' ! -regex 'crates\(/[^/]*\)?' -newerct "@$1" -print
 }
 
+# Asks `rt` for its version, as `toolchain`. Ends where it is another program of that name, as Debian has one: nothing is forgotten before.
+ask_toolchain() {
+    needs rt
+    toolchain=$(rt --version 2>/dev/null </dev/null) && case $toolchain in
+        *"$newline"*) ;;
+        rattle-kit-*' logic '*) return 0 ;;
+    esac
+    said=$(rt --version 2>&1 </dev/null | LC_ALL=C sed -E 's/[[:cntrl:]]//g; s/^(.{80}).*/\1/; q')
+    stop "$(command -v rt) is not the toolchain's rt: it says '$said'"
+}
+
 # Whether `rt --version` says this. A kit has that in a file, which is read first: Python takes a third of a second to start. Without `rt`
 # nothing else can be built.
 is_toolchain() {
     rt=$(command -v rt) || return 0
     kit=$(readlink -f "$rt") || exit 1
     kit=${kit%/bin/rt}/KIT-ID
-    { [ -f "$kit" ] && [ "$(cat "$kit")" = "$1" ]; } || [ "$(rt --version)" = "$1" ]
+    [ ! -f "$kit" ] || [ "$(cat "$kit")" != "$1" ] || return 0
+    ask_toolchain
+    [ "$toolchain" = "$1" ]
 }
 
 # A program, as its crate builds it.
@@ -100,9 +122,9 @@ why_anew() {
 # Runs a command that builds, and keeps the checksums: `kept` says so. It is empty where a source changed meanwhile, even if it changed back.
 build_once() {
     kept=''
+    ask_toolchain
     rm -f "$built"
     begun=$(date +%s.%N)
-    toolchain=$(rt --version)
     before=$(checksums '')
     "$@"
     now=$(checksums "$made")

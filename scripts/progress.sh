@@ -126,7 +126,7 @@ build_crate() {
 
 # Builds by a command, so that `made` is of the sources as they are at its end.
 build() {
-    needs rt awk date grep
+    needs awk date grep
     clear_killed "$built"
     for round in 1 2 3; do
         build_once "$@"
@@ -140,7 +140,7 @@ build() {
 build_program() {
     crate_of_program=$1
     shift
-    needs rt
+    ask_toolchain
     # shellcheck disable=SC2154
     if [ -e "$program" ]; then
         say "proving and building the program anew, $(why_anew); at most $how_long"

@@ -23,7 +23,8 @@ refuse_bytes() {
 
 # Answers at most so many lines by the program of a crate, called with the further words. It is built for this call alone, and goes with it.
 answer_unproved() {
-    needs cat cmp head rt sed tail wc
+    needs cat cmp head sed tail wc
+    ask_toolchain
     crate=$1 most_lines=$2 most_bytes=262144 more='' status=0 work=$root/out/unproved.$$
     shift 2
     refuse_bytes "$@"
