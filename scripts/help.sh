@@ -12,12 +12,13 @@ show_help() {
     program_help && printf '\n%s\n' "$added"
 }
 
-# Ends where the first word asks for the help or the version.
+# Ends where the first word asks for the help or the version. That its reader wants no more is no fault that is told.
 explain() {
     case ${1-} in
-        --help | -h) show_help ;;
-        --version) sed -n 's/^.* VERSION: .*"\(.*\)\\n";$/\1/p' "$root/crates/$teller/src/help.rt" ;;
+        --help | -h) (show_help) 2>/dev/null ;;
+        --version) sed -n 's/^.* VERSION: .*"\(.*\)\\n";$/\1/p' "$root/crates/$teller/src/help.rt" 2>/dev/null ;;
         *) return 0 ;;
-    esac 2>/dev/null || stop 'writing failed: uncategorized error, as of a full disk'
-    exit 0
+    esac && exit 0
+    [ $? -le 128 ] || exit 1
+    stop 'writing failed, as to a closed stream or a full disk'
 }

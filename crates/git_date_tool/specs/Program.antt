@@ -72,7 +72,7 @@ message_of (Shown why) = Some (usage_message (wrong_words why))
 message_of Printed = None
 message_of NoClock = Some (message (codes "the clock cannot be read"))
 message_of (Answered all_read) = None
-message_of (Unquoted all_read) = Some (message (codes "quote a text of several words, such as 'last friday at noon'"))
+message_of (Unquoted all_read) = Some (message (codes "each word is a text by itself; quote a text of several words"))
 
 -- This is wrong with the command line, and nothing is written.
 abbrev pub EndsWrong : List ℕ → Outcome → Type 0

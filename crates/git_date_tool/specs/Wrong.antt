@@ -91,10 +91,10 @@ zone_lead texts.Machine = codes "is no zone: "
 -- why it says no zone
 abbrev pub zone_fault_text : ZoneFault → List ℕ
 zone_fault_text faults.NotText = codes "it is not UTF-8"
-zone_fault_text faults.NoName = codes "there is none of this name; expected one such as EST5EDT,M3.2.0,M11.1.0 or Europe/Berlin, and for --zone also +0800"
+zone_fault_text faults.NoName = codes "there is none of this name, and a rule has the dates of both its changes; expected one such as EST5EDT,M3.2.0,M11.1.0 or Europe/Berlin, and for --zone also an offset to 25:59, as +0800"
 zone_fault_text faults.NoFolder = codes "for names a time zone database is missing; expected one such as EST5EDT,M3.2.0,M11.1.0, and for --zone also +0800"
-zone_fault_text faults.LeadsOut = codes "a name is not empty and has no ..; the path of a file begins with / or ./"
-zone_fault_text faults.CountsLeapSeconds = codes "its clock counts leap seconds, as no time of Git does"
+zone_fault_text faults.LeadsOut = codes "a name is not empty and has no ..; the path of a file begins with /, or for --zone also with ./"
+zone_fault_text faults.CountsLeapSeconds = codes "its file counts leap seconds, as no time of Git does"
 zone_fault_text faults.NoFile = codes "there is no such file"
 zone_fault_text faults.Denied = codes "its file may not be read"
 zone_fault_text faults.NotRegular = codes "it is a folder, a pipe or a device"

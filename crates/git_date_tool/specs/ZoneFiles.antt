@@ -11,5 +11,6 @@ no_zone_of kinds.OutOfMemory = Memory
 no_zone_of kinds.NotFound = Text NoFile
 no_zone_of kinds.NotADirectory = Text NoFile
 no_zone_of kinds.InvalidFilename = Text NoFile
+no_zone_of kinds.FilesystemLoop = Text NoFile
 no_zone_of kinds.PermissionDenied = Text Denied
 no_zone_of kind = Fault kind

@@ -42,6 +42,15 @@ IsName text = (zone_offset text ≡ None) × (read_whole text ≡ None)
 abbrev pub is_utc : List ℕ → Bool
 is_utc name = bytes_eq (lower name) (codes "utc")
 
+-- only other names may lack a zone
+abbrev pub MayLackText : List ℕ → Type 0
+MayLackText text = IsName text × (is_utc text ≡ false)
+
+-- of a value of `TZ` behind its colon: neither nothing nor a rule, nor that name
+abbrev pub MayLackRest : List ℕ → Type 0
+MayLackRest [] = ⊥
+MayLackRest (b ∷ bs) = (read_whole (b ∷ bs) ≡ None) × (is_utc (b ∷ bs) ≡ false)
+
 -- the bytes of some file within the limit are this table
 pub record IsOfFile (table : Tzif) : Type 0 where
   pub bytes : List ℕ
@@ -86,9 +95,9 @@ abbrev pub IsAskedZone : Option (List ℕ) → TimeZone → Type 0
 IsAskedZone (Some text) zone = IsTextZone text zone
 IsAskedZone None zone = ((tz : List ℕ) × IsTzZone tz zone) ⊎ IsMachineZone zone
 
--- the zone that is asked for is that of a name, of a file, or of the system
+-- the zone that is asked for is that of a file, or of the system
 abbrev pub NeedsSystem : Option (List ℕ) → Type 0
-NeedsSystem (Some text) = IsName text
+NeedsSystem (Some text) = MayLackText text
 NeedsSystem None = Unit {0}
 
 -- the text is that of the option exactly if one was given
@@ -144,9 +153,10 @@ IsSourceOf (texts.Tz text) source = IsRestSource (without_colon text.now) source
 IsSourceOf texts.Machine source = IsMachineSource source
 IsSourceOf _ source = ⊥
 
--- only what is no offset or rule may lack a zone
+-- Which texts may lack a zone. That of the machine may.
 abbrev pub MayLackZone : ZoneText → Type 0
-MayLackZone (texts.Zone text) = IsName text.now
+MayLackZone (texts.Zone text) = MayLackText text.now
+MayLackZone (texts.Tz text) = MayLackRest (without_colon text.now)
 MayLackZone _ = Unit {0}
 
 -- the zone that is taken from there

@@ -20,11 +20,13 @@ header answer `not text`.
     1249500000 +0000
     git_date: text 2: ignored from byte 2: mins
     error not-understood
+    git_date: each word is a text by itself; quote a text of several words
 
 --now NOW      the moment that dates are relative to; else the clock's: a date as `exact` reads it, all of it, in ZONE where it names no
                offset, or else as gix reads it, but for relative ones
 --zone ZONE    the zone of dates without an offset: an offset (+0200), a rule (EST5EDT,M3.2.0,M11.1.0), a name of the time zone
-               database (Europe/Berlin), or a TZif file by its path, which begins with / or ./; else that of TZ, or the machine's
+               database (Europe/Berlin), or a TZif file by its path, which begins with / or ./; else that of TZ, or the machine's.
+               Files that count leap seconds are refused.
 --as READER    approxidate   as Git reads --since and REF@{..} (the default)
                exact         as Git reads GIT_COMMITTER_DATE
                careful       by gix-date, where each character of the text has to count
@@ -37,8 +39,14 @@ header answer `not text`.
                error tells of such a word.
 --lenient      a text of which approxidate understands nothing is now, as for Git. Else it is an error. (Each number counts as
                understood: 12345 is now, and a line tells that it is ignored.)
+--help, -h     prints this
 --version      prints the version
 
 A value may stand after `=`, as in --zone=+0200. The status is 0 if each text was read, 1 if one was not or on a fault, and 2 where the
-command line is not as above: then a line on standard error names the word that is wrong.
+command line is not as above or there is no zone: then a line on standard error names the word that is wrong.
+
+Of refusals, unreadable, unknown-format, no-header, unclear and not-understood mean that the reader does not understand the text, or what
+stands at the place, and ignored, by --strict, that it skips a word. number-too-large, back-too-far, year-refused, range and
+date-conversion mean that there is no such date, or Git refuses it; missing-moment, that the date is relative where none may be;
+not-canonical, that a header is not as Git writes it; not-shown, that MODE cannot show the date.
 "#;

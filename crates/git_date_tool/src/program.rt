@@ -37,16 +37,17 @@ use std::time::Clock;
 /// Does what the words of a command line, without the program's name, ask for: answers each text, or each line of the reader
 /// if there is no text, or writes the help or the version. Of wrong words it says which and why, and how it is called.
 ///
-/// ZONE is an offset to 25:59, or else a POSIX rule, or else a name of the time zone database, which `UTC` need not be, or the path of a
-/// TZif file, which begins with `/` or `./`. Without it `TZ` says the zone, as for the C library: behind a colon in front it is a rule or
-/// a name, or UTC if nothing stands there. Else it is that of `/etc/localtime`, and UTC if there is no such file. That the clock, `TZ`,
-/// `TZDIR` and the files are the machine's is trusted: no contract can say what they hold.
+/// ZONE is an offset to 25:59, or else a POSIX rule with its dates, or else a name of the time zone database, which `UTC` need not be, or
+/// the path of a TZif file, which begins with `/` or `./`. Without it `TZ` says the zone: behind a colon in front it is a rule, a name
+/// or a path from `/`, or UTC if nothing stands there. Else it is that of `/etc/localtime`, and UTC if there is no such file. That the
+/// clock, `TZ`, `TZDIR` and the files are the machine's is trusted: no contract can say what they hold.
 ///
-/// [`Status::Success`] if each text was read, [`Status::Failure`] if one was not or the run has a fault. Takes memory for a line, for
-/// zones and for the formats of gix-date.
+/// [`Status::Success`] if each text was read, [`Status::Failure`] if one was not or the run has a fault, and [`Status::Usage`] if the
+/// words, NOW or the zone are wrong. Takes memory for a line, for zones and for the formats of gix-date.
 ///
-/// A line is put into the messages for what was ignored of a text, one after several texts of which a word was not understood, one for a
-/// fault but that of a closed pipe, and two for wrong words: what is wrong, and the usage. What they refuse changes nothing.
+/// A line is put into the messages for what was ignored or not understood of a text that was read, one after several texts of which a
+/// word was not understood, one for a fault but that of a closed pipe, and two for wrong words: what is wrong, and the usage. What they
+/// refuse changes nothing.
 pub fn execute<S: Files + Env + Clock + AllocGlobal, R: Source, W: Sink, M: Sink>(
     system: &S,
     words: &[String],
@@ -266,7 +267,7 @@ fn report<M: Sink>(outcome: &Outcome<'_>, messages: &mut M)
         Outcome::Shown(why) => tell_wrong(*why, messages),
         Outcome::NoClock => write_message(&["git_date: the clock cannot be read\n"], messages),
         Outcome::Unquoted(_) => write_message(
-            &["git_date: quote a text of several words, such as 'last friday at noon'\n"],
+            &["git_date: each word is a text by itself; quote a text of several words\n"],
             messages,
         ),
         Outcome::Answered(_) => {}

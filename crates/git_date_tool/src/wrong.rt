@@ -124,17 +124,17 @@ impl ZoneFault {
         match self {
             ZoneFault::NotText => "it is not UTF-8",
             ZoneFault::NoName => {
-                "there is none of this name; expected one such as EST5EDT,M3.2.0,M11.1.0 or \
-                 Europe/Berlin, and for --zone also +0800"
+                "there is none of this name, and a rule has the dates of both its changes; expected one \
+                 such as EST5EDT,M3.2.0,M11.1.0 or Europe/Berlin, and for --zone also an offset to 25:59, as +0800"
             }
             ZoneFault::NoFolder => {
                 "for names a time zone database is missing; expected one such as \
                  EST5EDT,M3.2.0,M11.1.0, and for --zone also +0800"
             }
             ZoneFault::LeadsOut => {
-                "a name is not empty and has no ..; the path of a file begins with / or ./"
+                "a name is not empty and has no ..; the path of a file begins with /, or for --zone also with ./"
             }
-            ZoneFault::CountsLeapSeconds => "its clock counts leap seconds, as no time of Git does",
+            ZoneFault::CountsLeapSeconds => "its file counts leap seconds, as no time of Git does",
             ZoneFault::NoFile => "there is no such file",
             ZoneFault::Denied => "its file may not be read",
             ZoneFault::NotRegular => "it is a folder, a pipe or a device",

@@ -1,5 +1,5 @@
 //! The files of zones.
-ghost use Rattle.std.specs.Prelude.{◌≡◌, IfOk};
+ghost use Rattle.std.specs.Prelude.{◌≡◌, ◌+◌, ◌<◌, ◌≤◌, ◌^◌, IfOk, length};
 ghost use Rattle.git_date_tool.specs.ZoneFiles.{no_zone_of};
 ghost use Rattle.git_date_tool.specs.Zones.{IsOfFile};
 
@@ -13,6 +13,9 @@ use std::{env, fs, io};
 
 /// The most bytes of a file that is read as a zone, as in `jiff`.
 const MAX_FILE_BYTES: u64 = 1 << 20;
+
+/// How many bytes the header of TZif data has.
+const HEADER_LEN: usize = 44;
 
 /// Where systems keep their zones, unless `TZDIR` says so.
 const FOLDERS: [&str; 3] = [
@@ -43,8 +46,6 @@ pub(crate) enum ZoneFault {
     NoFolder,
     /// It is a name that leads out of the folder.
     LeadsOut,
-    /// It is a name of a zone that counts leap seconds, which no time of Git does.
-    CountsLeapSeconds,
     /// It is the path of no file.
     NoFile,
     /// Its file may not be read.
@@ -55,24 +56,22 @@ pub(crate) enum ZoneFault {
     TooLarge,
     /// Its file is no TZif.
     NotTzif,
+    /// Its file counts leap seconds, as no time of Git does.
+    CountsLeapSeconds,
 }
 
-/// The table of a name. A path, which begins with `/` or `./`, is that of the file itself. Any other name is that of a file of the
-/// time zone database.
+/// The table of a name. A path from the root is that of the file itself. Any other name is that of a file of the time zone database.
 pub(crate) fn read_named<S: Files + Env + AllocGlobal>(
     system: &S,
     name: &str,
 ) -> Result<Tzif, NoZone>
     ensures { IfOk result IsOfFile }
 {
-    if name.starts_with('/') || name.starts_with("./") {
+    if name.starts_with('/') {
         return read_table(system, name);
     }
     if name.is_empty() || name.split('/').any(|part| part == "..") {
         return Err(NoZone::Text(ZoneFault::LeadsOut));
-    }
-    if name.starts_with("right/") {
-        return Err(NoZone::Text(ZoneFault::CountsLeapSeconds));
     }
     read_listed(system, name)
 }
@@ -163,6 +162,9 @@ fn parse_file<S: Files + AllocGlobal>(system: &S, path: &str) -> Result<Tzif, No
         return Err(NoZone::Text(ZoneFault::TooLarge));
     }
     match Tzif::parse(system.alloc(), None, bytes.as_slice()) {
+        Ok(_) if counts_leap_seconds(bytes.as_slice()) => Err(NoZone::Text(
+            ZoneFault::CountsLeapSeconds,
+        )),
         Ok(table) => Ok(table),
         Err(Error::OutOfMemory) => Err(NoZone::Memory),
         Err(_) => Err(NoZone::Text(ZoneFault::NotTzif)),
@@ -177,6 +179,42 @@ fn read_file<S: Files + AllocGlobal>(system: &S, path: &str) -> io::Result<Vec<u
     Ok(bytes)
 }
 
+/// Whether TZif data counts leap seconds (RFC 8536). Behind data with times of four bytes a later version has the same once more.
+fn counts_leap_seconds(data: &[u8]) -> bool {
+    match cut_data(data) {
+        Some((leap_seconds, rest)) => leap_seconds > 0 || leap_seconds_of(rest) > 0,
+        None => false,
+    }
+}
+
+/// How many leap seconds the data counts.
+fn leap_seconds_of(data: &[u8]) -> u64 {
+    match cut_data(data) {
+        Some((leap_seconds, _)) => leap_seconds,
+        None => 0,
+    }
+}
+
+/// How many leap seconds the data counts, and what stands behind it where its times have four bytes.
+fn cut_data(data: &[u8]) -> Option<(u64, &[u8])> {
+    let header = data.get(..HEADER_LEN)?;
+    let leap_seconds = count_at(header, 28);
+    let marks = count_at(header, 20) + count_at(header, 24);
+    let times = count_at(header, 32);
+    let kinds = count_at(header, 36);
+    let letters = count_at(header, 40);
+    let len = 5 * times + 6 * kinds + letters + 8 * leap_seconds + marks;
+    Some((leap_seconds, data.get(HEADER_LEN + len as usize..)?))
+}
+
+/// The count at a place of a header, which has four bytes.
+fn count_at(header: &[u8], at: usize) -> u64
+    requires { at + 4 ≤ length header.now }
+    ensures { result < 2 ^ 32 }
+{
+    u32::from_be_bytes([header[at], header[at + 1], header[at + 2], header[at + 3]]) as u64
+}
+
 /// What a fault of reading a file says of the text that names it, or of the machine.
 fn no_zone_of(kind: ErrorKind) -> NoZone
     ensures { result ≡ no_zone_of kind }
@@ -186,6 +224,7 @@ fn no_zone_of(kind: ErrorKind) -> NoZone
         ErrorKind::NotFound => NoZone::Text(ZoneFault::NoFile),
         ErrorKind::NotADirectory => NoZone::Text(ZoneFault::NoFile),
         ErrorKind::InvalidFilename => NoZone::Text(ZoneFault::NoFile),
+        ErrorKind::FilesystemLoop => NoZone::Text(ZoneFault::NoFile),
         ErrorKind::PermissionDenied => NoZone::Text(ZoneFault::Denied),
         other => NoZone::Fault(other),
     }

@@ -1,7 +1,7 @@
 //! The zone of the moment.
-ghost use Rattle.std.specs.Prelude.{◌≡◌, MatchResult, option_map};
+ghost use Rattle.std.specs.Prelude.{◌≡◌, IfOk, MatchResult, false, option_map};
 ghost use Rattle.jiff.specs.ZoneView.{plain_zone};
-ghost use Rattle.git_date_tool.specs.Zones.{IsMachineSource, IsNamedSource, IsRestSource, IsSourceOf, IsTaken, IsTextOf, IsTextSource, MayLackZone, IsName, without_colon};
+ghost use Rattle.git_date_tool.specs.Zones.{IsFileSource, MayLackRest, is_utc, IsMachineSource, IsNamedSource, IsRestSource, IsSourceOf, IsTaken, IsTextOf, IsTextSource, MayLackText, MayLackZone, without_colon};
 
 use crate::offsets::offset_zone;
 use crate::zone_files::{NoZone, ZoneFault, read_named, read_table};
@@ -84,15 +84,16 @@ fn without_colon(text: &str) -> &str
     }
 }
 
-/// What the zone of ZONE is taken from: an offset, a POSIX rule, or a name.
+/// What the zone of ZONE is taken from: an offset, a POSIX rule, the path of a file of the current folder, or a name.
 fn text_source<S: Files + Env + AllocGlobal>(system: &S, text: &str) -> Result<ZoneSource, NoZone>
-    ensures { MatchResult result (IsTextSource text.now) (λ why. IsName text.now) }
+    ensures { MatchResult result (IsTextSource text.now) (λ why. MayLackText text.now) }
 {
     if let Some(zone) = offset_zone(text) {
         return Ok(ZoneSource::Plain(zone));
     }
     match TimeZone::posix(text) {
         Ok(zone) => Ok(ZoneSource::Plain(zone)),
+        Err(_) if text.starts_with("./") => file_source(system, text),
         Err(_) => named_source(system, text),
     }
 }
@@ -100,7 +101,7 @@ fn text_source<S: Files + Env + AllocGlobal>(system: &S, text: &str) -> Result<Z
 /// What the zone of a value of `TZ` is taken from, behind its colon, as the C library does it: UTC without a text, and else a
 /// POSIX rule, or a name.
 fn rest_source<S: Files + Env + AllocGlobal>(system: &S, rest: &str) -> Result<ZoneSource, NoZone>
-    ensures { MatchResult result (IsRestSource rest.now) (λ why. Unit {0}) }
+    ensures { MatchResult result (IsRestSource rest.now) (λ why. MayLackRest rest.now) }
 {
     if rest.is_empty() {
         return Ok(ZoneSource::Plain(TimeZone::UTC));
@@ -113,7 +114,7 @@ fn rest_source<S: Files + Env + AllocGlobal>(system: &S, rest: &str) -> Result<Z
 
 /// What the zone of a name is taken from. UTC needs no file.
 fn named_source<S: Files + Env + AllocGlobal>(system: &S, name: &str) -> Result<ZoneSource, NoZone>
-    ensures { MatchResult result (IsNamedSource name.now) (λ why. Unit {0}) }
+    ensures { MatchResult result (IsNamedSource name.now) (λ why. is_utc name.now ≡ false) }
 {
     if name.eq_ignore_ascii_case("utc") {
         return Ok(ZoneSource::Plain(TimeZone::UTC));
@@ -124,14 +125,23 @@ fn named_source<S: Files + Env + AllocGlobal>(system: &S, name: &str) -> Result<
     }
 }
 
+/// What the zone of a file is taken from.
+fn file_source<S: Files + AllocGlobal>(system: &S, path: &str) -> Result<ZoneSource, NoZone>
+    ensures { IfOk result IsFileSource }
+{
+    match read_table(system, path) {
+        Ok(table) => Ok(ZoneSource::Table(table)),
+        Err(why) => Err(why),
+    }
+}
+
 /// What the zone of the machine is taken from: `/etc/localtime`, and UTC where there is no such file.
 fn machine_source<S: Files + AllocGlobal>(system: &S) -> Result<ZoneSource, NoZone>
     ensures { MatchResult result IsMachineSource (λ why. Unit {0}) }
 {
-    match read_table(system, MACHINE_FILE) {
-        Ok(table) => Ok(ZoneSource::Table(table)),
+    match file_source(system, MACHINE_FILE) {
         Err(NoZone::Text(ZoneFault::NoFile)) => Ok(ZoneSource::Plain(TimeZone::UTC)),
-        Err(why) => Err(why),
+        found => found,
     }
 }
 
