@@ -30,8 +30,9 @@ extern "C" {
 #endif
 
 /* A call that may refuse answers a status, and a compiler warns of a program that drops it. */
-#if (defined(__cplusplus) && __cplusplus >= 201703L) || \
-    (defined(__STDC_VERSION__) && __STDC_VERSION__ >= 202311L)
+#if defined(__cplusplus) && __cplusplus >= 201703L
+#define GIX_DATE_MUST_USE [[nodiscard]]
+#elif defined(__STDC_VERSION__) && __STDC_VERSION__ >= 202311L
 #define GIX_DATE_MUST_USE [[nodiscard]]
 #elif defined(__GNUC__)
 #define GIX_DATE_MUST_USE __attribute__((warn_unused_result))

@@ -72,7 +72,8 @@ pub fn calls(header: &str) -> Vec<String> {
     let code = without_comments(header);
     let statements = code
         .split(';')
-        .map(|text| text.trim_start_matches(|c: char| c == '}' || c.is_whitespace()));
+        .map(|text| text.trim_start_matches(|c: char| c == '}' || c.is_whitespace()))
+        .map(|text| text.trim_start_matches("GIX_DATE_MUST_USE\n"));
     statements
         .filter(|text| {
             let results = ["uint32_t ", "bool ", "void "];
