@@ -63,6 +63,11 @@ changed_since() {
 # Asks `rt` for its version, as `toolchain`. Ends where it is another program of that name, as Debian has one: nothing is forgotten before.
 ask_toolchain() {
     needs rt
+    # Another folder is current where it builds.
+    case $(command -v rt) in
+        /*) ;;
+        *) stop "the path leads to rt by a folder that does not begin with /: $(command -v rt)" ;;
+    esac
     toolchain=$(rt --version 2>/dev/null </dev/null) && case $toolchain in
         *"$newline"*) ;;
         rattle-kit-*' logic '*) return 0 ;;

@@ -9,7 +9,7 @@ program_help() {
 
 # The help of the script.
 show_help() {
-    program_help && printf '\n%s\n' "$added"
+    told=$(program_help) && printf '%s\n\n%s\n' "$told" "$added"
 }
 
 # Ends where the first word asks for the help or the version. That its reader wants no more is no fault that is told.

@@ -19,7 +19,7 @@ skip() {
     printf -v wants ', %s' "${@:2}"
     line="skipped: $1 (wants ${wants#, })"
     echo "$line"
-    [ -z "${SKIPPED-}" ] || echo "$line" >>"$SKIPPED"
+    [ -z "${SKIPPED-}" ] || echo "$line" >>"$SKIPPED" || fail 'what is skipped cannot be counted'
 }
 
 # Whether a tool is there, or a file of a whole path. What it would have shown is skipped otherwise, and wants the package that is named last,
