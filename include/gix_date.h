@@ -94,7 +94,11 @@ enum gix_date_status {
     GIX_DATE_BAD_PART = 16,
     /* The text is not careful. *place is the first byte that does not fit, or the text's length if
      * its end is missing. No other status here has a place. */
-    GIX_DATE_UNCLEAR = 17
+    GIX_DATE_UNCLEAR = 17,
+    /* The text is a number of seconds above 253402300799, the end of the year 9999, alone or before
+     * an offset, and without '@'. It may be milliseconds, or a date and a clock in digits alone.
+     * git_date.h has the numbers between. */
+    GIX_DATE_AFTER_YEAR_9999 = 23
 };
 
 /* What a status means, in English; "unknown status" for another number. */
@@ -137,6 +141,8 @@ static inline const char *gix_date_status_text(uint32_t status)
         return "a name or a mail holds <, >, a newline or NUL";
     case GIX_DATE_UNCLEAR:
         return "the date is not clear: expected a date, or counts and whole units, then ago";
+    case GIX_DATE_AFTER_YEAR_9999:
+        return "seconds after the year 9999: perhaps milliseconds, or a date and a clock in digits alone";
     default:
         return "unknown status";
     }
@@ -284,14 +290,15 @@ uint32_t gix_date_parse_at(const char *text, size_t text_len, uint32_t raw_offse
 
 /* Parses a date as gix_date_parse does, but refuses it unless each character says something that is
  * used. With GIX_DATE_UNCLEAR *place says where the text stops being careful; no other status
- * changes it. The statuses are those of gix_date_parse, and GIX_DATE_UNCLEAR. */
+ * changes it. The statuses are those of gix_date_parse, GIX_DATE_UNCLEAR and
+ * GIX_DATE_AFTER_YEAR_9999. */
 GIX_DATE_MUST_USE
 uint32_t gix_date_parse_carefully(const char *text, size_t text_len,
                                   const gix_date_careful_options *options, gix_date_time *time,
                                   size_t *place);
 
 /* gix_date_parse_carefully at the moment now in a zone. The statuses are those of gix_date_parse_at,
- * and GIX_DATE_UNCLEAR. */
+ * GIX_DATE_UNCLEAR and GIX_DATE_AFTER_YEAR_9999. */
 GIX_DATE_MUST_USE
 uint32_t gix_date_parse_carefully_at(const char *text, size_t text_len,
                                      const gix_date_careful_options *options,

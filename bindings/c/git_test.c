@@ -428,7 +428,11 @@ static void status_texts(void)
                "%u", status);
     for (uint32_t i = 0; i < sizeof texts / sizeof *texts; i++)
         EXPECT(!strcmp(git_date_status_text(first + i), texts[i]), "%u", first + i);
-    EXPECT(!strcmp(git_date_status_text(first + sizeof texts / sizeof *texts), "unknown status"),
+    EXPECT(first + sizeof texts / sizeof *texts == GIX_DATE_AFTER_YEAR_9999 &&
+               !strcmp(git_date_status_text(GIX_DATE_AFTER_YEAR_9999),
+                       gix_date_status_text(GIX_DATE_AFTER_YEAR_9999)),
+           "the number after the last of this header");
+    EXPECT(!strcmp(git_date_status_text(GIX_DATE_AFTER_YEAR_9999 + 1), "unknown status"),
            "the number after the last");
 }
 

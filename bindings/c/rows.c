@@ -44,6 +44,7 @@ static const struct {
       {"NoSignature", GIX_DATE_NO_SIGNATURE},
       {"BadPart", GIX_DATE_BAD_PART},
       {"Unclear", GIX_DATE_UNCLEAR},
+      {"AfterYear9999", GIX_DATE_AFTER_YEAR_9999},
 };
 
 /* Calls that other callers of the rows have, and this library has not. */

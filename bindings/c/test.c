@@ -717,6 +717,11 @@ static void status_texts(void)
     const uint32_t unknown = sizeof texts / sizeof *texts - 1;
     for (uint32_t status = 0; status <= unknown; status++)
         EXPECT(strcmp(gix_date_status_text(status), texts[status]) == 0, "%u", (unsigned)status);
+    EXPECT(strcmp(gix_date_status_text(GIX_DATE_AFTER_YEAR_9999),
+                  "seconds after the year 9999: perhaps milliseconds, or a date and a clock in digits alone") == 0,
+           "after the statuses of git_date.h");
+    EXPECT(strcmp(gix_date_status_text(GIX_DATE_AFTER_YEAR_9999 + 1), texts[unknown]) == 0,
+           "the number after the last");
     EXPECT(strcmp(gix_date_status_text(UINT32_MAX), texts[unknown]) == 0, "the greatest number");
 }
 

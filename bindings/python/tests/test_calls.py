@@ -21,6 +21,7 @@ import pytest
 import gix_date
 from gix_date import (
     _library,
+    AfterYear9999,
     BadPart,
     BeyondDatetime,
     Format,
@@ -75,6 +76,10 @@ def test_refusals_have_text_and_message() -> None:
         parse_carefully("30 min ago", AFTER_SUMMER)
     assert unclear.value.text == "30 min ago" and unclear.value.place == 3
     assert str(unclear.value).endswith(", at index 3")
+    with pytest.raises(AfterYear9999, match="perhaps milliseconds") as late:
+        parse_carefully("1704450600000")
+    assert (late.value.text, late.value.place) == ("1704450600000", None)
+    assert parse_carefully("@1704450600000").seconds == 1704450600000
     with pytest.raises(MissingNow):
         parse("2 days ago")
 
@@ -142,7 +147,7 @@ def all_refusals(below: Type[GixDateError]) -> Iterator[Type[GixDateError]]:
 
 def test_each_refusal_has_its_own_status_and_message() -> None:
     errors = [error for error in all_refusals(GixDateError) if error.__module__ in ("gix_date.errors", "gix_date.git")]
-    assert sorted(error.status for error in errors if error.status is not None) == [1, *range(4, 14), *range(15, 23)]
+    assert sorted(error.status for error in errors if error.status is not None) == [1, *range(4, 14), *range(15, 24)]
     assert {error for error in errors if error.status is None} == {NaiveDatetime, BeyondDatetime, gix_date.git.UnknownMode}
     messages = {str(error()) for error in errors}
     assert len(messages) == len(errors)

@@ -11,6 +11,7 @@ const OK: u32 = 0;
 const NO_SUCH_OPTION: u32 = 2;
 const NO_ROOM: u32 = 3;
 const UNCLEAR: u32 = 17;
+const AFTER_YEAR_9999: u32 = 23;
 
 /// The most bytes of a header text.
 pub(crate) const MAX_HEADER: usize = 26;
@@ -135,6 +136,7 @@ impl From<CarefulOptions> for CCarefulOptions {
 fn carefully_stored(status: u32, time: Time, place: usize) -> Result<Time, CarefulError> {
     match status {
         UNCLEAR => Err(CarefulError::Unclear(place)),
+        AFTER_YEAR_9999 => Err(CarefulError::AfterYear9999),
         status => Ok(stored(status, time)?),
     }
 }

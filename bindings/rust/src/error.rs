@@ -37,7 +37,7 @@ pub enum Error {
 }
 
 impl Error {
-    /// The refusal of a status that is neither `GIX_DATE_OK` nor `GIX_DATE_UNCLEAR`.
+    /// The refusal of a status that is neither `GIX_DATE_OK` nor one that only careful calls answer.
     pub(crate) fn of_status(status: u32) -> Error {
         match status {
             1 => Error::NotText,
@@ -89,6 +89,9 @@ pub enum CarefulError {
     /// The relative text is not careful: the place, in bytes, of the first word or character that is not understood, or the
     /// text's length if `ago` is missing at its end. The text can be cut there.
     Unclear(usize),
+    /// The text is a number of seconds after the year 9999, alone or before an offset, and without `@`. It may be milliseconds, or
+    /// a date and a clock in digits alone.
+    AfterYear9999,
     /// The text is refused as by [`parse_with()`](crate::parse_with).
     Refused(Error),
 }
@@ -106,6 +109,10 @@ impl fmt::Display for CarefulError {
                 f,
                 "not understood from byte {place} on; expected a date, or counts and whole units, then `ago`, such as \"2 weeks ago\""
             ),
+            CarefulError::AfterYear9999 => f.write_str(
+                "a number of seconds after the year 9999; if milliseconds were meant, divide them by 1000, and if a date and a clock, \
+                 write them as \"2024-01-05 10:30:00\"; `@` before the number reads it as seconds",
+            ),
             CarefulError::Refused(error) => error.fmt(f),
         }
     }
@@ -121,10 +128,11 @@ mod tests {
     #[test]
     fn each_status_is_its_error() {
         let statuses = numbers(GIX_DATE, "gix_date_status", "GIX_DATE_");
-        assert_eq!(statuses.len(), 18);
+        assert_eq!(statuses.len(), 19);
+        // The types of this crate rule out the first three, and `CarefulError` has the last two.
+        let others = ["Ok", "NoSuchOption", "NoRoom", "Unclear", "AfterYear9999"];
         for (name, number) in statuses {
-            // The types of this crate rule out the others, and `CarefulError` has the last.
-            if !["Ok", "NoSuchOption", "NoRoom", "Unclear"].contains(&name.as_str()) {
+            if !others.contains(&name.as_str()) {
                 assert_eq!(format!("{:?}", Error::of_status(number)), name);
             }
         }

@@ -159,6 +159,11 @@ fn dates_are_parsed_carefully() {
         assert_eq!(parse_carefully(text, None, options), unclear, "{text}");
         assert_eq!(parse_carefully(text, now(), local), unclear, "{text}");
     }
+    for text in ["1704450600000", "20240105103000 +0000"] {
+        let late = Err(CarefulError::AfterYear9999);
+        assert_eq!(parse_carefully(text, now(), local), late, "{text}");
+        assert!(parse_carefully(&format!("@{text}"), None, options).is_ok());
+    }
     let bytes = bytes::parse_carefully(b"@5\xff", None, options);
     assert_eq!(bytes, Err(CarefulError::Refused(Error::NotText)));
 }
@@ -403,6 +408,8 @@ fn errors_are_errors() {
     assert!(unclear
         .to_string()
         .starts_with("not understood from byte 7 on; expected a date, or counts"));
+    let late = parse_carefully("1704450600000", None, options).unwrap_err();
+    assert!(late.to_string().contains("if milliseconds were meant"));
 }
 
 fn version([major, minor, patch]: [u32; 3]) -> Version {

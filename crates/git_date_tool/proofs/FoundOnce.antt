@@ -4,7 +4,7 @@ use Rattle.std.specs.Result.{result_map_both}
 use Rattle.std.specs.Str.{is_utf8}
 use Rattle.jiff.specs.Types.{TimeZone}
 use Rattle.jiff.specs.declared.zoned.Zoned.{Zoned}
-use Rattle.gix_date.specs.Careful.Outcome.{Reading, Local, Unclear, First, CarefulOutcome, careful_reading}
+use Rattle.gix_date.specs.Careful.Outcome.{Reading, Local, Unclear, AfterYear9999, First, CarefulOutcome, careful_reading}
 use Rattle.gix_date.specs.Families.Epoch.{utc_time}
 use Rattle.gix_date.specs.Families.Order.{first_family}
 use Rattle.gix_date.specs.Fields.Zoned.{is_instant}
@@ -67,6 +67,7 @@ careful-once (Local t) now (Ok r) (Err e) h g = absurd (g.1 r h)
 careful-once (Local t) now (Err e) (Ok s) h g = absurd (h.1 s g)
 careful-once (Local t) now (Err e) (Err f) h g = ap Err (h.0 ∙ sym g.0)
 careful-once (Unclear place) now a b h g = h ∙ sym g
+careful-once AfterYear9999 now a b h g = h ∙ sym g
 careful-once (First answer) now a b h g =
     h.2 ∙ ap (λ (r : Result Time ParseError). result_map_both (λ t. t) errors.Refused r) (one-outcome answer (Some now) h.0 g.0 h.1 g.1) ∙ sym g.2
 

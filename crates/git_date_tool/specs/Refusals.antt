@@ -7,7 +7,7 @@ use Rattle.gix_date.specs.declared.error.ParseError.TheVariants as gix
 use Rattle.git_date.specs.declared.error.DateError.{DateError}
 use Rattle.git_date.specs.declared.error.DateError.TheVariants as git
 use Rattle.git_date_tool.specs.declared.refusals.Refusal.{Refusal}
-use Rattle.git_date_tool.specs.declared.refusals.Refusal.TheVariants.{NotText, UnknownFormat, DateConversion, MissingMoment, Range, Unreadable, NumberTooLarge, BackTooFar, YearRefused, Unclear, NotUnderstood, Ignored, NoHeader, NotCanonical, NotShown}
+use Rattle.git_date_tool.specs.declared.refusals.Refusal.TheVariants.{NotText, UnknownFormat, DateConversion, MissingMoment, Range, Unreadable, NumberTooLarge, BackTooFar, YearRefused, Unclear, AfterYear9999, NotUnderstood, Ignored, NoHeader, NotCanonical, NotShown}
 
 -- what a refusal is called
 abbrev pub refusal_name : Refusal → List ℕ
@@ -21,6 +21,7 @@ refusal_name (NumberTooLarge place) = codes "error number-too-large"
 refusal_name (BackTooFar place) = codes "error back-too-far"
 refusal_name (YearRefused place) = codes "error year-refused"
 refusal_name (Unclear place) = codes "error unclear"
+refusal_name AfterYear9999 = codes "error after-year-9999"
 refusal_name NotUnderstood = codes "error not-understood"
 refusal_name (Ignored place) = codes "error ignored"
 refusal_name NoHeader = codes "error no-header"
@@ -64,4 +65,5 @@ of_gix gix.Range = Range
 -- that of the careful reader
 abbrev pub of_careful : CarefulError → Refusal
 of_careful (careful.Unclear place) = Unclear place
+of_careful careful.AfterYear9999 = AfterYear9999
 of_careful (careful.Refused e) = of_gix e

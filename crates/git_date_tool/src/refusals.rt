@@ -28,6 +28,8 @@ pub enum Refusal {
     YearRefused(usize),
     /// The text is not careful from this place on.
     Unclear(usize),
+    /// The careful text is a number of seconds after the year 9999.
+    AfterYear9999,
     /// Git understands nothing of the text.
     NotUnderstood,
     /// Git ignores the word or number at this place.
@@ -56,6 +58,7 @@ impl Refusal {
             Refusal::BackTooFar(_) => "error back-too-far",
             Refusal::YearRefused(_) => "error year-refused",
             Refusal::Unclear(_) => "error unclear",
+            Refusal::AfterYear9999 => "error after-year-9999",
             Refusal::NotUnderstood => "error not-understood",
             Refusal::Ignored(_) => "error ignored",
             Refusal::NoHeader => "error no-header",
@@ -125,6 +128,7 @@ pub(crate) fn of_careful(error: CarefulError) -> Refusal
 {
     match error {
         CarefulError::Unclear(place) => Refusal::Unclear(place),
+        CarefulError::AfterYear9999 => Refusal::AfterYear9999,
         CarefulError::Refused(refusal) => of_gix(refusal),
     }
 }

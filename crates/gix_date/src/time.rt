@@ -7,6 +7,7 @@ mod named;
 mod write;
 
 pub use format::{CustomFormat, Format, FormatBuf};
+pub(crate) use named::LAST_OF_YEAR_9999;
 use serde::{Deserialize, Serialize};
 pub(crate) use write::{MAX_TEXT_LEN, header_text, push_hours, push_minutes, push_two_digits};
 

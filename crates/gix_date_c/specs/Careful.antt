@@ -41,6 +41,7 @@ options_of numbers = do
 -- the refusal that C is told for one of the library
 abbrev pub refusal_of : CarefulError → Refusal
 refusal_of (errors.Unclear place) = refused_at statuses.Unclear place
+refusal_of errors.AfterYear9999 = refused statuses.AfterYear9999
 refusal_of (errors.Refused error) = refused (refusal_status error)
 
 -- what parsing a text by options comes to, at this moment or none, as the library says it

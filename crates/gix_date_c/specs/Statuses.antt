@@ -29,6 +29,7 @@ number_of statuses.NumberTooLarge = 19
 number_of statuses.BackTooFar = 20
 number_of statuses.YearRefused = 21
 number_of statuses.GitRange = 22
+number_of statuses.AfterYear9999 = 23
 
 -- what is answered of bytes that are text, and else that they are not
 abbrev pub if_text : {T : Type 0} → List ℕ → Result T Status → Result T Status

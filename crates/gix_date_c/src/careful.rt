@@ -103,6 +103,7 @@ fn for_c(answer: Result<Time, CarefulError>) -> Result<CTime, Refusal>
     match answer {
         Ok(time) => Ok(time_for_c(time)),
         Err(CarefulError::Unclear(place)) => Err(Refusal::at(Status::Unclear, place)),
+        Err(CarefulError::AfterYear9999) => Err(Refusal::of(Status::AfterYear9999)),
         Err(CarefulError::Refused(error)) => Err(Refusal::of(refusal_status(error))),
     }
 }

@@ -51,6 +51,8 @@ pub(crate) enum Status {
     YearRefused = 21,
     /// The date is before 1970 or no instant that can be computed with, or Git cannot show it.
     GitRange = 22,
+    /// The text is a number of seconds after the year 9999, which is not careful.
+    AfterYear9999 = 23,
 }
 
 impl Status {

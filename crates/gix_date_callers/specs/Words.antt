@@ -1,10 +1,10 @@
 -- Each word of the contracts and laws of `gix_date`, imported as another crate does.
 pub use Rattle.gix_date.specs.Families.Answer.{FamilyAnswer, Absolute, Relative, OffsetAboveDay, NoInstant}
 pub use Rattle.gix_date.specs.Header.Canonical.{header_kind, is_canonical_header}
-pub use Rattle.gix_date.specs.Careful.Dates.{is_whole_git, names_its_day, is_large_if_raw, unzoned_day, unzoned_git_time, unzoned_time, IsLocalTime, IsLocalIfAny}
+pub use Rattle.gix_date.specs.Careful.Dates.{is_whole_git, names_its_day, is_number, is_large_if_number, is_in_years_if_number, unzoned_day, unzoned_git_time, unzoned_time, IsLocalTime, IsLocalIfAny}
 pub use Rattle.gix_date.specs.Careful.Fronts.{longest_front}
 pub use Rattle.gix_date.specs.Careful.Grammar.{IsCarefulOf, IsCarefulText, IsWholeClock}
-pub use Rattle.gix_date.specs.Careful.Laws.{IsUnzoned, HasNoLocalDate, AnswersUnzoned, IsParsedToo, in_utc, in_zone, IgnoresZone, IsUtc, AnswersAlike, IsCarefulSo, AnswersPairs, ReadsPairs, SaysTime, IsWholeSo, ReadsGit, IsUnzonedSo, HasOneCarefulOutcome, CarefulNoneLater}
+pub use Rattle.gix_date.specs.Careful.Laws.{IsUnzoned, HasNoLocalDate, AnswersUnzoned, IsParsedToo, in_utc, in_zone, IgnoresZone, IsUtc, AnswersAlike, IsCarefulSo, AnswersPairs, ReadsPairs, SaysTime, IsWholeSo, ReadsGit, IsUnzonedSo, HasOneCarefulOutcome, CarefulNoneLater, IsNumberOf, ReadsNumbers, RefusesLate, ReadsAfterAt}
 pub use Rattle.gix_date.specs.Careful.Outcome.{Reading, default_options, careful_reading, CarefulOutcome, IsPlaceIn}
 pub use Rattle.gix_date.specs.Careful.Texts.{begins_word, word_at, word_before, is_plain_count, may_follow, may_stand_after, separates, is_clear_at, ends_in_ago, unclear_place}
 pub use Rattle.gix_date.specs.Computing.{computing}

@@ -74,7 +74,7 @@ pub fn date_meant<'a>(date: &'a str, now: Zoned<'_>) -> Result<Time, &'a str>
     match parse_carefully(date, Some(now), options) {
         Ok(time) => Ok(time),
         Err(CarefulError::Unclear(place)) => Err(&date[place..]),
-        Err(CarefulError::Refused(_)) => Err(date),
+        Err(CarefulError::AfterYear9999 | CarefulError::Refused(_)) => Err(date),
     }
 }
 

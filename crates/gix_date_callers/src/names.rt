@@ -228,6 +228,14 @@ fn careful_options_and_refusals_are_as_told(rt: HostRuntime) -> Result<(), Fail>
         text.as_str(),
         "not understood from byte 3 on; expected a date, or counts and whole units, then `ago`, such as \"2 weeks ago\""
     );
+    let late = parse_carefully("1704450600000", None, options);
+    assert!(rt; late == Err(CarefulError::AfterYear9999));
+    let text = format!(in rt.alloc(); "{}", CarefulError::AfterYear9999)?;
+    assert_eq!(rt;
+        text.as_str(),
+        "a number of seconds after the year 9999; if milliseconds were meant, divide them by 1000, and if a date and a clock, \
+         write them as \"2024-01-05 10:30:00\"; `@` before the number reads it as seconds"
+    );
     let text = format!(in rt.alloc(); "{}", CarefulError::Refused(ParseError::MissingNow))?;
     let same = format!(in rt.alloc(); "{}", ParseError::MissingNow)?;
     assert!(rt; text == same);

@@ -11,7 +11,7 @@ use Rattle.jiff.specs.declared.zoned.Zoned.{Zoned}
 use Rattle.gix_date.specs.Careful.Dates.{is_whole_clock, is_whole_git, unzoned_day, unzoned_git_time, unzoned_time}
 use Rattle.gix_date.specs.Careful.Fronts.{longest_front}
 use Rattle.gix_date.specs.Careful.Laws.{IsParsedToo, IgnoresZone, HasNoLocalDate, HasOneCarefulOutcome, ReadsGit, SaysTime, in_utc, in_zone}
-use Rattle.gix_date.specs.Careful.Outcome.{Reading, Local, First, Unclear, careful_reading, clear_or, date_reading, git_or, has_word_before, is_clear_answer, local_date, local_or, names_no_other_day, pairs_or, reading_of_texts, unzoned_or, unzoned_reading, CarefulOutcome}
+use Rattle.gix_date.specs.Careful.Outcome.{Reading, Local, First, Unclear, AfterYear9999, careful_reading, clear_or, date_reading, git_or, has_word_before, is_clear_answer, is_in_years, in_years_or_late, local_date, local_or, names_no_other_day, pairs_or, reading_of_texts, unzoned_or, unzoned_reading, CarefulOutcome}
 use Rattle.gix_date.specs.Careful.Texts.{unclear_place}
 use Rattle.gix_date.specs.Families.Answer.{Absolute}
 use Rattle.gix_date.specs.Families.Order.{first_family_by}
@@ -44,6 +44,7 @@ FirstOf options text = First (first_family_by (allows options.raw) text)
 data Says (options : CarefulOptions) (text : List ℕ) (reading : Reading) : Type 0 where
   first : reading ≡ FirstOf options text → Says options text reading
   unclear : (place : ℕ) → reading ≡ Unclear place → Says options text reading
+  late : reading ≡ AfterYear9999 → Says options text reading
   local : (t : Time) → reading ≡ Local t → local_date options.without_offset text ≡ Some t → Says options text reading
 
 all-says : (options : CarefulOptions) (text : List ℕ) (date : Option Time) → local_date options.without_offset text ≡ date → Says options text (local_or date (FirstOf options text))
@@ -63,6 +64,10 @@ clear-says : (options : CarefulOptions) (text : List ℕ) (clear : Bool) (readin
 clear-says options text true reading place h = h
 clear-says options text false reading place h = unclear place refl
 
+years-say : (options : CarefulOptions) (text : List ℕ) (in_years : Bool) (reading : Reading) → Says options text reading → Says options text (in_years_or_late in_years reading)
+years-say options text true reading h = h
+years-say options text false reading h = late refl
+
 git-first : (options : CarefulOptions) (text : List ℕ) (t : Time) → IsUtf8 text → git_time text ≡ Some t → first_family_by (allows options.raw) text ≡ Some (Absolute t)
 git-first options text t u e = (comes-first (allows options.raw) text u).git (ap (λ o. is_some (option_map Absolute o)) e) ∙ ap (option_map Absolute) e
 
@@ -70,8 +75,10 @@ day-says : (options : CarefulOptions) (text : List ℕ) (place : ℕ) → IsUtf8
 day-says options text place u None e =
     let answer = first_family_by (allows options.raw) text in
     let clear = is_clear_answer (allows options.raw) text answer || (is_none answer && not (has_word_before text place)) in
-    clear-says options text (names_no_other_day text answer) (clear_or clear (FirstOf options text) place) 0
-    (clear-says options text clear (FirstOf options text) place (first refl))
+    let said = clear_or clear (FirstOf options text) place in
+    let years = is_in_years (allows options.raw) text answer in
+    clear-says options text (names_no_other_day text answer) (in_years_or_late years said) 0
+    (years-say options text years said (clear-says options text clear (FirstOf options text) place (first refl)))
 day-says options text place u (Some t) e = unzoned-says options text u t (unzoned-by-day text t e) options.without_offset refl
 
 git-says : (options : CarefulOptions) (text : List ℕ) (place : ℕ) → IsUtf8 text → (git : Option Time) → git_time text ≡ git → Says options text (git_or options text place git)
@@ -98,6 +105,9 @@ says options text u = texts-say options text u options.texts
 no-time : (place : ℕ) (now : Option Zoned) (t : Time) → CarefulOutcome (Unclear place) now (Ok t) → ⊥
 no-time place now t e = cc
 
+no-late-time : (now : Option Zoned) (t : Time) → CarefulOutcome AfterYear9999 now (Ok t) → ⊥
+no-late-time now t e = cc
+
 no-local : (options : CarefulOptions) (text : List ℕ) → IsUtf8 text → (options.without_offset ≡ zone.Utc) ⊎ HasNoLocalDate text → (t : Time) (without : WithoutOffset) → options.without_offset ≡ without → local_date without text ≡ Some t → ⊥
 no-local options text u h t zone.Utc z e = cc
 no-local options text u (inl utc) t zone.MomentsZone z e = let bad : zone.Utc ≡ zone.MomentsZone = sym utc ∙ z in cc
@@ -109,6 +119,7 @@ parsed-too options text u none now t h =
     elim (says options text u) [
       | first e ↦ plain-time (first_family_by (allows options.raw) text) now t (subst Result-of e h)
       | unclear place e ↦ absurd (no-time place now t (subst Result-of e h))
+      | late e ↦ absurd (no-late-time now t (subst Result-of e h))
       | local k e l ↦ absurd (no-local options text u none k options.without_offset refl l)
     ]
 
@@ -150,6 +161,7 @@ local-once (Some moment) t (Err e) (Err f) h g = ap Err (h.0 ∙ sym g.0)
 reading-once : (reading : Reading) (now : Option Zoned) (a b : Result Time CarefulError) → CarefulOutcome reading now a → CarefulOutcome reading now b → a ≡ b
 reading-once (Local t) now a b h g = local-once now t a b h g
 reading-once (Unclear place) now a b h g = h ∙ sym g
+reading-once AfterYear9999 now a b h g = h ∙ sym g
 reading-once (First answer) now a b (p, h, e) (q, g, f) =
     e ∙ ap (result_map_both (λ t. t) errors.Refused) (one-outcome answer now p q h g) ∙ sym f
 

@@ -4,7 +4,7 @@ use Rattle.std.specs.Prelude.{◌||◌, not}
 use Rattle.gix_date.specs.Careful.Dates.{is_whole_git, names_its_day, unzoned_day, unzoned_git_time}
 use Rattle.gix_date.specs.Careful.Fronts.{longest_front}
 use Rattle.gix_date.specs.Careful.Grammar.{IsCarefulOf, IsCarefulText, words_of}
-use Rattle.gix_date.specs.Careful.Outcome.{First, careful_reading, clear_or, date_reading, git_or, has_word_before, is_clear_answer, pairs_or, reading_of_texts, unzoned_or}
+use Rattle.gix_date.specs.Careful.Outcome.{First, careful_reading, clear_or, date_reading, git_or, has_word_before, in_years_or_late, is_clear_answer, is_in_years, pairs_or, reading_of_texts, unzoned_or}
 use Rattle.gix_date.specs.Careful.Texts.{unclear_place}
 use Rattle.gix_date.specs.Families.Answer.{FamilyAnswer, Absolute, Relative}
 use Rattle.gix_date.specs.Families.Order.{first_family_by}
@@ -59,13 +59,15 @@ no-pairs-if : (clear : Bool) (answer : Option FamilyAnswer) (place : ℕ) (pairs
 no-pairs-if false answer place pairs n e = cc
 no-pairs-if true answer place pairs n e = n cc
 
-no-first-pairs-if : (named clear : Bool) (answer : Option FamilyAnswer) (place : ℕ) (pairs : List (ℤ × PeriodUnit)) → ¬ (answer ≡ PairsAnswer pairs) → clear_or named (clear_or clear (First answer) place) 0 ≡ First (PairsAnswer pairs) → ⊥
-no-first-pairs-if true clear answer place pairs n e = no-pairs-if clear answer place pairs n e
-no-first-pairs-if false clear answer place pairs n e = cc
+no-first-pairs-if : (named in_years clear : Bool) (answer : Option FamilyAnswer) (place : ℕ) (pairs : List (ℤ × PeriodUnit)) → ¬ (answer ≡ PairsAnswer pairs)
+    → clear_or named (in_years_or_late in_years (clear_or clear (First answer) place)) 0 ≡ First (PairsAnswer pairs) → ⊥
+no-first-pairs-if true true clear answer place pairs n e = no-pairs-if clear answer place pairs n e
+no-first-pairs-if true false clear answer place pairs n e = cc
+no-first-pairs-if false in_years clear answer place pairs n e = cc
 
 no-first-pairs : (rule : OffsetRule) (text : List ℕ) (place : ℕ) (answer : Option FamilyAnswer) (pairs : List (ℤ × PeriodUnit)) → date_reading rule text place answer ≡ First (PairsAnswer pairs) → ⊥
 no-first-pairs rule text place (Some (Relative (MinusPairs found))) pairs e = cc
-no-first-pairs rule text place (Some (Absolute t)) pairs e = no-first-pairs-if (names_its_day text t) (is_clear_answer rule text (Some (Absolute t)) || false) (Some (Absolute t)) place pairs (λ k. cc) e
+no-first-pairs rule text place (Some (Absolute t)) pairs e = no-first-pairs-if (names_its_day text t) (is_in_years rule text (Some (Absolute t))) (is_clear_answer rule text (Some (Absolute t)) || false) (Some (Absolute t)) place pairs (λ k. cc) e
 no-first-pairs rule text place None pairs e = no-pairs-if (not (has_word_before text place)) None place pairs (λ k. cc) e
 no-first-pairs rule text place answer pairs e = no-pairs-if true answer place pairs (λ k. cc) e
 

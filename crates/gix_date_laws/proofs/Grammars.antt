@@ -63,7 +63,7 @@ bare-int (c ∷ t) number n a v f =
     let value : signed_digits_value 10 (c ∷ t) ≡ n = rw (not-minus c first, not-plus c first) (ap pos (sym a.2) ∙ sym v) in
     int_value_from (c ∷ t) n (rw bare (a.0, own.to (c ∷ t) a.1)) value f
 
-is-int : (text : List ℕ) (n : ℤ) → IsInt text n → int_value text ≡ Some n
+pub is-int : (text : List ℕ) (n : ℤ) → IsInt text n → int_value text ≡ Some n
 is-int text n h = by h.is
   where
     by : ((text ≡ h.digits) × (n ≡ pos h.number)) ⊎ (((text ≡ plus ∷ h.digits) × (n ≡ pos h.number)) ⊎ ((text ≡ minus ∷ h.digits) × (n ≡ neg_ℤ (pos h.number)))) → int_value text ≡ Some n

@@ -27,6 +27,7 @@ mod CarefulInUtc
 mod CarefulGrammar
 mod WholeClocks
 mod CarefulCases
+mod CarefulNumbers
 pub mod CarefulRows
 mod NamedInstants
 mod SecondSteps

@@ -1,5 +1,5 @@
 //! Laws of dates for callers that must not guess.
-ghost use Rattle.gix_date.specs.Careful.Laws.{AnswersAlike, AnswersPairs, AnswersUnzoned, CarefulNoneLater, HasOneCarefulOutcome, IgnoresZone, IsCarefulSo, IsParsedToo, IsUnzonedSo, IsUtc, ReadsGit, IsWholeSo, ReadsPairs};
+ghost use Rattle.gix_date.specs.Careful.Laws.{AnswersAlike, AnswersPairs, AnswersUnzoned, CarefulNoneLater, HasOneCarefulOutcome, IgnoresZone, IsCarefulSo, IsParsedToo, IsUnzonedSo, IsUtc, ReadsAfterAt, ReadsGit, ReadsNumbers, RefusesLate, IsWholeSo, ReadsPairs};
 ghost use Rattle.gix_date.specs.Families.Raw.{allows};
 ghost use Rattle.gix_date.specs.Relative.Steps.{zone_of};
 ghost use Rattle.jiff.specs.Words.{IsFixed};
@@ -45,6 +45,15 @@ pub fn reads_pairs(text: &str, options: CarefulOptions)
 /// slice is dropped, and then as the time of that text.
 pub fn reads_git(text: &str, options: CarefulOptions)
     ensures { ReadsGit options text.now }
+{}
+
+/// Where texts have to be careful, `parse_carefully` reads a number of seconds, alone or before an offset, iff it lies in
+/// 100000000 ..= 253402300799, the last second of the year 9999 in UTC. It refuses a greater one as such, and nothing else
+/// so. After `@` it reads any number.
+pub fn reads_numbers(text: &str, options: CarefulOptions)
+    ensures numbers { ReadsNumbers options text.now }
+    ensures late { RefusesLate options text.now }
+    ensures after_at { ReadsAfterAt options text.now }
 {}
 
 /// A clock's slice drops no character iff it is, white space aside, `h`, `h:m`, `h:m:s` or `h:m:s.digits` of runs of digits,

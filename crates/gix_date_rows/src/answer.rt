@@ -110,6 +110,7 @@ impl From<Result<Time, CarefulError>> for Answer {
         match answer {
             Ok(time) => Answer::Time(time),
             Err(CarefulError::Unclear(place)) => Answer::Unclear(place),
+            Err(CarefulError::AfterYear9999) => Answer::Refused("AfterYear9999"),
             Err(CarefulError::Refused(refusal)) => refusal.into(),
         }
     }

@@ -18,6 +18,7 @@ True
 from __future__ import annotations
 
 from . import _library, git
+from .errors import AfterYear9999 as AfterYear9999
 from .errors import BadPart as BadPart
 from .errors import BeyondDatetime as BeyondDatetime
 from .errors import Conversion as Conversion

@@ -119,6 +119,12 @@ class Unclear(GixDateError):
     status = 17
 
 
+class AfterYear9999(GixDateError):
+    """A number of seconds above 253402300799 without `@`: perhaps milliseconds, or a date and a clock in digits alone."""
+
+    status = 23
+
+
 class NaiveDatetime(GixDateError):
     """The datetime has no zone."""
 
@@ -138,7 +144,7 @@ def named(*classes: Type[GixDateError]) -> Dict[int, Type[GixDateError]]:
 
 REFUSALS = named(
     NotText, InvalidTime, UnknownFormat, DateConversion, MissingNow, Range, InvalidInstant, InvalidZone, Conversion,
-    OffsetTooWide, Pattern, NoSignature, BadPart, Unclear,
+    OffsetTooWide, Pattern, NoSignature, BadPart, Unclear, AfterYear9999,
 )  # fmt: skip
 
 
@@ -159,6 +165,6 @@ def refusal(
 
 __all__ = [
     "GixDateError", "NotText", "InvalidTime", "UnknownFormat", "DateConversion", "MissingNow", "Range",
-    "InvalidInstant", "InvalidZone", "Conversion", "OffsetTooWide", "Pattern", "NoSignature", "BadPart", "Unclear", "NaiveDatetime",
-    "BeyondDatetime",
+    "InvalidInstant", "InvalidZone", "Conversion", "OffsetTooWide", "Pattern", "NoSignature", "BadPart", "Unclear",
+    "AfterYear9999", "NaiveDatetime", "BeyondDatetime",
 ]  # fmt: skip

@@ -49,7 +49,8 @@ def parse_carefully(
 ) -> Time:
     """Reads a date as `parse` does, but refuses it by `Unclear` unless each character says something that is used.
 
-    The other refusals are those of `parse`.
+    A number of seconds above 253402300799 needs `@`: else it is `AfterYear9999`, since it may be milliseconds or digits of a date. The
+    other refusals are those of `parse`.
     """
     options = (number_of(raw_offsets, RawOffsets), number_of(without_offset, WithoutOffset), number_of(texts, Texts))
     status, seconds, offset, place = _library.parse_carefully(text, *options, None if now is None else given(now))

@@ -26,7 +26,8 @@ pub enum Texts {
     /// word. `and` may stand before a count that is not the first. Letters have any case.
     ///
     /// In one of Git's own forms only a fraction of the seconds and an offset may follow the clock. A day of the week has to be that
-    /// of the date. Seconds before an offset are 100000000 at least, unless `@` is before them.
+    /// of the date. Seconds, alone or before an offset, are from 100000000 to the end of the year 9999 by UTC, 253402300799, unless
+    /// `@` is before them: other numbers may be dates, or milliseconds.
     #[default]
     Careful = 0,
     /// All that [`parse()`](crate::parse()) reads: `30 min ago` is 30 seconds ago there, and `2024-01-05 10.30` is ten.
@@ -70,7 +71,8 @@ pub struct CarefulOptions {
 /// ```
 ///
 /// [`CarefulError::Unclear`] for a text that begins as a date or as a relative text and stops being one, or that
-/// [`parse()`](crate::parse()) reads with a guess. Else the refusals are those of [`parse()`](crate::parse()), in
+/// [`parse()`](crate::parse()) reads with a guess. [`CarefulError::AfterYear9999`] for a number of seconds above 253402300799, alone
+/// or before an offset, without `@`. It may be milliseconds (`1704450600000`), or a date and a clock (`20240105103000`). Else the refusals are those of [`parse()`](crate::parse()), in
 /// [`CarefulError::Refused`]. [`Error::MissingNow`](crate::Error::MissingNow) also for a date that
 /// has to be in the moment's zone without a moment, and [`Error::Range`](crate::Error::Range) if it has no instant there.
 pub fn parse_carefully(

@@ -1,5 +1,5 @@
 -- What a date has to say to be read carefully; and dates without an offset, and what they name in a zone.
-use Rattle.std.specs.Prelude.{◌≡◌, ℕ, ℤ, pos, Bool, true, false, not, ◌||◌, ◌==◌, List, [], ◌∷◌, if◌then◌else◌, Option, Some, None, is_none, option_map, unwrap_or}
+use Rattle.std.specs.Prelude.{◌≡◌, ℕ, ℤ, pos, Bool, true, false, not, ◌||◌, ◌==◌, List, [], ◌∷◌, if◌then◌else◌, Option, Some, None, is_some, option_map, unwrap_or}
 use Rattle.std.specs.Int.Signed.{le_z}
 use Rattle.std.specs.List.{position}
 use Rattle.std.specs.Option.{option_or}
@@ -16,10 +16,11 @@ use Rattle.gix_date.specs.Fields.DateFields.{read_plain_date}
 use Rattle.gix_date.specs.Text.Front.{◌>>=◌}
 use Rattle.gix_date.specs.Git.ClockCut.{clock_cut}
 use Rattle.gix_date.specs.Git.Forms.{git_front, time_of_cut}
-use Rattle.gix_date.specs.Printing.LocalClocks.{local_day}
+use Rattle.gix_date.specs.Printing.LocalClocks.{last_of_year_9999, local_day}
 use Rattle.gix_date.specs.Fields.Zoned.{time_in}
 use Rattle.gix_date.specs.Relative.Steps.{IsPicked}
 use Rattle.gix_date.specs.Text.Names.{is_name, day_names}
+use Rattle.gix_date.specs.Text.Numbers.{int_value}
 use Rattle.gix_date.specs.Text.SpaceWords.{is_nonempty}
 use Rattle.gix_date.specs.declared.time.Time.{Time}
 
@@ -50,9 +51,18 @@ first_day _ = None
 unfoldable pub names_its_day : List ℕ → Time → Bool
 names_its_day text t = unwrap_or (option_map (λ day. day == weekday_number (local_day t)) (first_day text)) true
 
--- The time has 100000000 seconds at least, or the text is not raw. Fewer seconds could be a date, as in a bare epoch.
-unfoldable pub is_large_if_raw : OffsetRule → List ℕ → Time → Bool
-is_large_if_raw rule text t = le_z min_bare_epoch t.seconds || is_none (raw_time_by rule text)
+-- the text is a number of seconds, alone or before an offset: no `@` is before it
+unfoldable pub is_number : OffsetRule → List ℕ → Bool
+is_number rule text = is_some (raw_time_by rule text) || is_some (int_value text)
+
+-- The time has 100000000 seconds at least, or the text is no number of seconds. A lesser number could be a date.
+unfoldable pub is_large_if_number : OffsetRule → List ℕ → Time → Bool
+is_large_if_number rule text t = le_z min_bare_epoch t.seconds || not (is_number rule text)
+
+-- The time is of the year 9999 at the latest, by UTC, or the text is no number of seconds. No format prints a later time:
+-- a larger number could be milliseconds, or a date and a clock in digits alone.
+unfoldable pub is_in_years_if_number : OffsetRule → List ℕ → Time → Bool
+is_in_years_if_number rule text t = le_z t.seconds last_of_year_9999 || not (is_number rule text)
 
 -- the midnight in UTC of a day alone, `YYYY-M-D`
 unfoldable pub unzoned_day : List ℕ → Option Time

@@ -1,17 +1,21 @@
 -- What is promised of careful reading beside what it answers.
-use Rattle.std.specs.Prelude.{◌≡◌, true, ◌↔◌, ◌⊎◌, ◌≤ℤ◌, ℕ, ℤ, pos, List, [], Option, Some, None, Result, Ok}
+use Rattle.std.specs.Prelude.{◌≡◌, true, ◌↔◌, ◌⊎◌, ◌<ℤ◌, ◌≤ℤ◌, ℕ, ℤ, pos, List, [], Option, Some, None, Result, Ok}
 use Rattle.std.specs.Str.{trim}
 use Rattle.jiff.specs.Words.{IsFixed, offset_at, zoned_nanos}
 use Rattle.jiff.specs.declared.zoned.Zoned.{Zoned}
+use Rattle.jiff_core.specs.Calendar.{IsBetween}
 use Rattle.gix_date.specs.Careful.Dates.{is_whole_clock, unzoned_time}
 use Rattle.gix_date.specs.Careful.Grammar.{IsCarefulOf, IsCarefulText, IsWholeClock}
-use Rattle.gix_date.specs.Careful.Outcome.{Reading, First, Local, careful_reading, CarefulOutcome}
+use Rattle.gix_date.specs.Careful.Outcome.{Reading, AfterYear9999, First, Local, careful_reading, CarefulOutcome}
 use Rattle.gix_date.specs.Careful.Texts.{unclear_place}
 use Rattle.gix_date.specs.Families.Answer.{Absolute, Relative}
+use Rattle.gix_date.specs.Families.Epoch.{min_bare_epoch}
+use Rattle.gix_date.specs.Families.Grammars.{IsAtText, IsInt, IsRawText}
 use Rattle.gix_date.specs.Families.Order.{first_family_by, ParseNoAllocOutcome}
 use Rattle.gix_date.specs.Families.Patterns.{short_layout, real_day_answer, IsMeaning}
 use Rattle.gix_date.specs.Families.Raw.{OffsetRule, allows}
 use Rattle.gix_date.specs.Git.Grammar.{IsGitText}
+use Rattle.gix_date.specs.Printing.LocalClocks.{last_of_year_9999}
 use Rattle.gix_date.specs.Relative.Dates.{MinusPairs}
 use Rattle.gix_date.specs.Relative.FixedZones.{Names}
 use Rattle.gix_date.specs.Relative.Steps.{zone_of}
@@ -94,6 +98,28 @@ abbrev pub ReadsGit : CarefulOptions → List ℕ → Type 0
 ReadsGit options text =
     options.texts ≡ Careful → (t : Time) (git : IsGitText text t)
     → SaysTime (careful_reading options text) t ↔ IsWholeClock (trim git.clock)
+
+-- the text is a number of seconds of this time: alone, or before an offset that the rule allows
+abbrev pub IsNumberOf : OffsetRule → List ℕ → Time → Type 0
+IsNumberOf rule text t = IsRawText rule text t ⊎ (IsInt text t.seconds × (t.offset ≡ pos 0))
+
+-- where texts have to be careful, a number of seconds is read iff it lies in 100000000 ..= 253402300799
+abbrev pub ReadsNumbers : CarefulOptions → List ℕ → Type 0
+ReadsNumbers options text =
+    options.texts ≡ Careful → (t : Time) → IsNumberOf (allows options.raw) text t
+    → (careful_reading options text ≡ First (Some (Absolute t))) ↔ IsBetween min_bare_epoch last_of_year_9999 t.seconds
+
+-- where texts have to be careful, what is refused as after the year 9999 is a greater number, and each such number is
+abbrev pub RefusesLate : CarefulOptions → List ℕ → Type 0
+RefusesLate options text =
+    options.texts ≡ Careful
+    → (careful_reading options text ≡ AfterYear9999)
+    ↔ ((t : Time) × IsNumberOf (allows options.raw) text t × (last_of_year_9999 <ℤ t.seconds))
+
+-- any number of seconds is read after `@`
+abbrev pub ReadsAfterAt : CarefulOptions → List ℕ → Type 0
+ReadsAfterAt options text =
+    (t : Time) → IsAtText (allows options.raw) text t → careful_reading options text ≡ First (Some (Absolute t))
 
 -- a date is without an offset iff none is written
 abbrev pub IsUnzonedSo : List ℕ → Type 0

@@ -4,7 +4,7 @@ use Rattle.std.specs.Char.{is_ascii_alphanumeric}
 use Rattle.std.specs.List.{list_any}
 use Rattle.std.specs.Result.{result_map_both}
 use Rattle.jiff.specs.declared.zoned.Zoned.{Zoned}
-use Rattle.gix_date.specs.Careful.Dates.{is_large_if_raw, is_whole_git, names_its_day, unzoned_day, unzoned_git_time, unzoned_time, IsLocalTime}
+use Rattle.gix_date.specs.Careful.Dates.{is_in_years_if_number, is_large_if_number, is_whole_git, names_its_day, unzoned_day, unzoned_git_time, unzoned_time, IsLocalTime}
 use Rattle.gix_date.specs.Careful.Fronts.{longest_front}
 use Rattle.gix_date.specs.Careful.Texts.{unclear_place}
 use Rattle.gix_date.specs.Families.Answer.{FamilyAnswer, Absolute, NoInstant, OffsetAboveDay, Relative, answer_of, HasJiffOffset}
@@ -36,6 +36,8 @@ pub data Reading : Type 0 where
   Local : Time → Reading
   -- a text that is not careful: it stops being so at this place
   Unclear : ℕ → Reading
+  -- a number of seconds that are after the year 9999
+  AfterYear9999 : Reading
   -- what the first family answers
   First : Option FamilyAnswer → Reading
 
@@ -43,12 +45,14 @@ pub data Reading : Type 0 where
 abbrev pub reading_of : TextReading → Reading
 reading_of (reading.Local t) = Local t
 reading_of (reading.Unclear place) = Unclear place
+reading_of reading.AfterYear9999 = AfterYear9999
 reading_of (reading.First answer) = First (option_map answer_of answer)
 
 -- a date of the moment's zone is an instant, a text may be cut where it is unclear, and offsets are those of zones
 abbrev pub IsReadingOf : List ℕ → TextReading → Type 0
 IsReadingOf text (reading.Local t) = is_instant t.seconds ≡ true
 IsReadingOf text (reading.Unclear place) = IsCharBoundary text place
+IsReadingOf text reading.AfterYear9999 = Unit {0}
 IsReadingOf text (reading.First answer) = IfSome answer HasJiffOffset
 
 -- the text as a date of the moment's zone
@@ -81,9 +85,19 @@ abbrev pub names_no_other_day : List ℕ → Option FamilyAnswer → Bool
 names_no_other_day text (Some (Absolute t)) = names_its_day text t
 names_no_other_day text _ = true
 
--- an answer says all of its text: a raw text has many seconds, and careful pairs come before
+-- a number of seconds is of the year 9999 at the latest
+abbrev pub is_in_years : OffsetRule → List ℕ → Option FamilyAnswer → Bool
+is_in_years rule text (Some (Absolute t)) = is_in_years_if_number rule text t
+is_in_years rule text _ = true
+
+-- a reading where the seconds of a number are in these years
+abbrev pub in_years_or_late : Bool → Reading → Reading
+in_years_or_late true reading = reading
+in_years_or_late false reading = AfterYear9999
+
+-- an answer says all of its text: a number has many seconds, and careful pairs come before
 abbrev pub is_clear_answer : OffsetRule → List ℕ → Option FamilyAnswer → Bool
-is_clear_answer rule text (Some (Absolute t)) = is_large_if_raw rule text t
+is_clear_answer rule text (Some (Absolute t)) = is_large_if_number rule text t
 is_clear_answer rule text (Some (Relative (MinusPairs pairs))) = false
 is_clear_answer rule text (Some (Relative (MinusSeconds seconds))) = true
 is_clear_answer rule text (Some OffsetAboveDay) = true
@@ -95,11 +109,13 @@ unfoldable pub has_word_before : List ℕ → ℕ → Bool
 has_word_before text place = list_any is_ascii_alphanumeric (take place text)
 
 -- What the first answer says: of a text that is neither careful pairs nor a Git form. A wrong day of the week is unclear
--- where it stands, at the front. A text of no family is unclear only if it begins as some form.
+-- where it stands, at the front. Seconds after the year 9999 are refused as such. A text of no family is unclear only if
+-- it begins as some form.
 abbrev pub date_reading : OffsetRule → List ℕ → ℕ → Option FamilyAnswer → Reading
 date_reading rule text place answer =
     clear_or (names_no_other_day text answer)
-    (clear_or (is_clear_answer rule text answer || (is_none answer && not (has_word_before text place))) (First answer) place) 0
+    (in_years_or_late (is_in_years rule text answer)
+    (clear_or (is_clear_answer rule text answer || (is_none answer && not (has_word_before text place))) (First answer) place)) 0
 
 -- what a text says that is no careful pairs: a Git form of this time drops no character
 abbrev pub git_or : CarefulOptions → List ℕ → ℕ → Option Time → Reading
@@ -138,10 +154,12 @@ CarefulOutcome (Local t) (Some moment) (Ok r) = IsLocalTime (zone_of moment) t r
 CarefulOutcome (Local t) (Some moment) (Err e) =
     (e ≡ errors.Refused Range) × ((r : Time) → ¬ (IsLocalTime (zone_of moment) t r))
 CarefulOutcome (Unclear place) now result = result ≡ Err (errors.Unclear place)
+CarefulOutcome AfterYear9999 now result = result ≡ Err errors.AfterYear9999
 CarefulOutcome (First answer) now result =
     (plain : Result Time ParseError) × ParseNoAllocOutcome answer now plain × (result ≡ result_map_both (λ t. t) errors.Refused plain)
 
 -- the text may be cut at the place of a refusal
 abbrev pub IsPlaceIn : List ℕ → CarefulError → Type 0
 IsPlaceIn text (errors.Unclear place) = IsCharBoundary text place
+IsPlaceIn text errors.AfterYear9999 = Unit {0}
 IsPlaceIn text (errors.Refused refusal) = Unit {0}

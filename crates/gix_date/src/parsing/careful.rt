@@ -2,9 +2,9 @@
 ghost use Rattle.std.specs.Prelude.{◌≡◌, ◌-ℤ◌, [], ◌∷◌, true, if◌then◌else◌, Some, None, IfOk, IfErr, IfSome, IsCharBoundary, List, option_map, ℕ};
 ghost use Rattle.jiff.specs.Words.{fixed_zone, IsOffsetSeconds};
 ghost use Rattle.jiff_core.specs.Calendar.{weekday_number};
-ghost use Rattle.gix_date.specs.Careful.Dates.{day_named, first_day, is_large_if_raw, is_whole_git, names_its_day, unzoned_day, unzoned_git_time, unzoned_time, IsLocalIfAny};
+ghost use Rattle.gix_date.specs.Careful.Dates.{day_named, first_day, is_in_years_if_number, is_large_if_number, is_number, is_whole_git, names_its_day, unzoned_day, unzoned_git_time, unzoned_time, IsLocalIfAny};
 ghost use Rattle.gix_date.specs.Careful.Fronts.{longest_front};
-ghost use Rattle.gix_date.specs.Careful.Outcome.{careful_reading, clear_or, date_reading, has_word_before, is_clear_answer, local_date, names_no_other_day, reading_of_texts, unzoned_or, unzoned_reading, CarefulOutcome, First, IsPlaceIn, Local, reading_of, IsReadingOf};
+ghost use Rattle.gix_date.specs.Careful.Outcome.{careful_reading, clear_or, date_reading, has_word_before, is_clear_answer, is_in_years, local_date, names_no_other_day, reading_of_texts, unzoned_or, unzoned_reading, CarefulOutcome, First, IsPlaceIn, Local, reading_of, IsReadingOf};
 ghost use Rattle.gix_date.specs.Families.Answer.{Absolute, answer_of, HasJiffOffset};
 ghost use Rattle.gix_date.specs.Families.Raw.{allows};
 ghost use Rattle.gix_date.specs.Printing.LocalClocks.{local_day as day_by_clock};
@@ -18,12 +18,13 @@ use crate::parsing::answer::Answer;
 use crate::parsing::dates::{MIN_EPOCH, first_answer, outcome};
 use crate::parsing::fronts::longest_front;
 use crate::parsing::git::{GitDate, parse_git_date, parse_unzoned_git};
+use crate::parsing::numbers::parse_int;
 use crate::parsing::patterns::parse_unzoned_day;
 use crate::parsing::raw::{RawOffsets, parse_raw};
 use crate::parsing::relative::careful::unclear_place;
 use crate::parsing::relative::steps::to_instant;
 use crate::parsing::relative::{Relative, time_of_moment};
-use crate::time::{SECONDS_PER_DAY, Time};
+use crate::time::{LAST_OF_YEAR_9999, SECONDS_PER_DAY, Time};
 use jiff::tz::Offset;
 use jiff::{Timestamp, Zoned};
 
@@ -47,7 +48,8 @@ pub enum Texts {
     /// `_`, and `-` directly after a word. `and` may stand before a count that is not the first. Letters have any case.
     ///
     /// In one of Git's own forms only a fraction of the seconds and an offset may follow the clock. A day of the week has
-    /// to be that of the date. Seconds before an offset are 100000000 at least, unless `@` is before them.
+    /// to be that of the date. Seconds, alone or before an offset, are from 100000000 to the end of the year 9999 by UTC,
+    /// 253402300799, unless `@` is before them: other numbers may be dates, or milliseconds.
     Careful,
     /// All that [`parse`](crate::parse) reads: `30 min ago` is 30 seconds ago there, and `2024-01-05 10.30` is ten.
     All,
@@ -86,6 +88,8 @@ pub(crate) enum Reading<'a> {
     Local(Time),
     /// A text that is not careful from this place on.
     Unclear(usize),
+    /// A number of seconds that are after the year 9999.
+    AfterYear9999,
     /// What the first family answers.
     First(Option<Answer<'a>>),
 }
@@ -96,6 +100,9 @@ pub(crate) enum Reading<'a> {
 /// [`CarefulError::Unclear`] for a text that begins as a date or as a relative text and stops being one, or that
 /// [`parse`](crate::parse) reads with a guess. It has the place, in bytes, of the first character that does not fit: the
 /// end of the longest front that some form has, or the text's length if its end is missing. The text may be cut there.
+///
+/// [`CarefulError::AfterYear9999`] for a number of seconds above 253402300799, alone or before an offset, without `@`. It
+/// may be milliseconds (`1704450600000`), or a date and a clock (`20240105103000`).
 ///
 /// [`CarefulError::Refused`] has the refusals of [`parse_no_alloc`](crate::parse_no_alloc). Of these,
 /// [`ParseError::UnknownFormat`] is for a text that begins as no form. [`ParseError::MissingNow`] is also for a date that
@@ -113,6 +120,7 @@ pub fn parse_carefully(
     match read(input, options) {
         Reading::Local(time) => local_time(time, now),
         Reading::Unclear(place) => Err(CarefulError::Unclear(place)),
+        Reading::AfterYear9999 => Err(CarefulError::AfterYear9999),
         Reading::First(answer) => match outcome(answer, now) {
             Ok(time) => Ok(time),
             Err(refusal) => Err(CarefulError::Refused(refusal)),
@@ -220,6 +228,9 @@ fn read_date<'a>(
     if !names_no_other_day(input, answer) {
         return Reading::Unclear(0);
     }
+    if !is_in_years(input, answer, raw) {
+        return Reading::AfterYear9999;
+    }
     if is_clear_answer(input, answer, raw) {
         return Reading::First(answer);
     }
@@ -254,8 +265,18 @@ fn is_clear_answer(input: &str, answer: Option<Answer<'_>>, raw: RawOffsets) -> 
     ensures { result ≡ is_clear_answer (allows raw) input.now (option_map answer_of answer.entry) }
 {
     match answer {
-        Some(Answer::Absolute(time)) => is_large_if_raw(input, time, raw),
+        Some(Answer::Absolute(time)) => is_large_if_number(input, time, raw),
         Some(Answer::Relative(Relative::MinusPairs(_))) | None => false,
+        _ => true,
+    }
+}
+
+/// Whether an answer to a number of seconds is of the year 9999 at the latest.
+fn is_in_years(input: &str, answer: Option<Answer<'_>>, raw: RawOffsets) -> bool
+    ensures { result ≡ is_in_years (allows raw) input.now (option_map answer_of answer.entry) }
+{
+    match answer {
+        Some(Answer::Absolute(time)) => is_in_years_if_number(input, time, raw),
         _ => true,
     }
 }
@@ -299,12 +320,28 @@ fn weekday_of(time: Time) -> u8
     (day + 3).rem_euclid(7) as u8
 }
 
-/// Whether a raw text has as many seconds as a bare epoch needs.
-#[tactic(auto, unfolding(crate::specs::Careful::Dates::is_large_if_raw))]
-fn is_large_if_raw(input: &str, time: Time, raw: RawOffsets) -> bool
-    ensures { result ≡ is_large_if_raw (allows raw) input.now time }
+/// Whether a number has as many seconds as a bare epoch needs.
+#[tactic(auto, unfolding(crate::specs::Careful::Dates::is_large_if_number))]
+fn is_large_if_number(input: &str, time: Time, raw: RawOffsets) -> bool
+    ensures { result ≡ is_large_if_number (allows raw) input.now time }
 {
-    time.seconds >= MIN_EPOCH || parse_raw(input, raw).is_none()
+    time.seconds >= MIN_EPOCH || !is_number(input, raw)
+}
+
+/// Whether a number has seconds that some format prints.
+#[tactic(auto, unfolding(crate::specs::Careful::Dates::is_in_years_if_number))]
+fn is_in_years_if_number(input: &str, time: Time, raw: RawOffsets) -> bool
+    ensures { result ≡ is_in_years_if_number (allows raw) input.now time }
+{
+    time.seconds <= LAST_OF_YEAR_9999 || !is_number(input, raw)
+}
+
+/// Whether a text is a number of seconds, alone or before an offset.
+#[tactic(auto, unfolding(crate::specs::Careful::Dates::is_number))]
+fn is_number(input: &str, raw: RawOffsets) -> bool
+    ensures { result ≡ is_number (allows raw) input.now }
+{
+    parse_raw(input, raw).is_some() || parse_int(input).is_some()
 }
 
 /// The time in UTC of a date that is one of the moment's zone.

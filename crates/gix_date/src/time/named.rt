@@ -53,7 +53,7 @@ const LAST_SECOND: SecondsSinceUnixEpoch = 253_402_207_200;
 const FIRST_OF_YEAR_1000: SecondsSinceUnixEpoch = -30_610_224_000;
 
 /// The last second of the year 9999.
-const LAST_OF_YEAR_9999: SecondsSinceUnixEpoch = 253_402_300_799;
+pub(crate) const LAST_OF_YEAR_9999: SecondsSinceUnixEpoch = 253_402_300_799;
 
 /// The most bytes of such a text: those of an RFC 2822 date.
 pub const MAX_NAMED_LEN: usize = 31;
