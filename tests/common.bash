@@ -83,3 +83,31 @@ build_rows() {
 modes() {
     ./gix_date_tool --help | sed -nE 's/^([a-z]+) {3,}.*/\1/p'
 }
+
+# Makes in a new folder what is no file that a program may read as a zone, and prints the names. None of it may be opened.
+make_no_zones() {
+    mkdir -p "$1"
+    mkfifo "$1/pipe"
+    ln -s pipe "$1/to-pipe"
+    ln -s /dev/zero "$1/to-device"
+    ln -s /proc/kmsg "$1/to-kernel"
+    touch "$1/empty"
+    cp /usr/share/zoneinfo/Asia/Tokyo "$1/above"
+    truncate -s 1048577 "$1/above"
+    cp "$1/above" "$1/huge"
+    truncate -s 1G "$1/huge"
+    echo pipe to-pipe to-device to-kernel empty above huge
+}
+
+# A command has to open no pipe of this path: who waits there for a reader goes on waiting.
+opens_no_pipe() {
+    local pipe=$1 writer
+    shift
+    timeout 60 sh -c ': >"$1.waits"; : >"$1"; : >"$1.opened"' sh "$pipe" >/dev/null 2>&1 &
+    writer=$!
+    until [ -e "$pipe.waits" ]; do sleep 0.01; done
+    "$@"
+    [ ! -e "$pipe.opened" ] && kill "$writer" || fail "$pipe is opened by $*"
+    wait "$writer" 2>/dev/null || true
+    rm "$pipe.waits"
+}

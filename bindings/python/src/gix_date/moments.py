@@ -3,6 +3,7 @@
 from __future__ import annotations
 
 import os
+import stat
 import time
 import zoneinfo
 from datetime import datetime, tzinfo
@@ -16,6 +17,12 @@ from .times import parts_of
 
 Zone = Union[int, str, bytes]
 Parts = Tuple[int, int, Zone]
+
+MAX_FILE_BYTES = 1 << 20
+"""The most bytes of a file that is read as a zone, as in the library's programs."""
+
+LOCAL_FILE = Path("/etc/localtime")
+"""The file of the machine's zone."""
 
 
 class Moment(NamedTuple):
@@ -75,7 +82,7 @@ def tzif_of(key: str, folders: Sequence[str]) -> Optional[bytes]:
         return None
     for path in (Path(folder, key) for folder in folders):
         if path.is_file():
-            return path.read_bytes()
+            return file_at(path)
     *packages, name = key.split("/")
     try:
         return resources.files(".".join(["tzdata.zoneinfo", *packages])).joinpath(name).read_bytes()
@@ -104,16 +111,35 @@ def given(now: Now) -> Given:
     return parts[0], parts[1], read_zone(zone) if isinstance(zone, (str, bytes)) else zone
 
 
+def may_be_read(file: os.stat_result) -> bool:
+    """Whether a file may be read as a zone.
+
+    A pipe or a device might never end, and neither might a file of the kernel, which says that it has no byte.
+    """
+    return stat.S_ISREG(file.st_mode) and 1 <= file.st_size <= MAX_FILE_BYTES
+
+
+def without_waiting(path: str, flags: int) -> int:
+    """Opens a file; where that is a pipe it waits for no writer."""
+    return os.open(path, flags | os.O_NONBLOCK)
+
+
 def file_at(path: Path) -> Optional[bytes]:
-    """The bytes of a file; None if there is none."""
-    return path.read_bytes() if path.is_file() else None
+    """The bytes of a file; None if there is none that may be read as a zone."""
+    # to open a device may already change it
+    if not path.is_file() or not may_be_read(path.stat()):
+        return None
+    with open(path, "rb", opener=without_waiting) as file:
+        # the path may mean another file by now, and a file may grow
+        data = file.read(MAX_FILE_BYTES + 1) if may_be_read(os.fstat(file.fileno())) else b""
+    return data if 1 <= len(data) <= MAX_FILE_BYTES else None
 
 
 def local_zone() -> Zone:
     """The machine's zone: that of `TZ`, or of `/etc/localtime` if it is not set. What names no file has to be a rule."""
     name = os.environ.get("TZ")
     if name is None:
-        return file_at(Path("/etc/localtime")) or 0
+        return file_at(LOCAL_FILE) or b"" if LOCAL_FILE.exists() else 0
     name = name[1:] if name.startswith(":") else name
     file = file_at(Path(name)) if os.path.isabs(name) else tzif_of(name, zoneinfo.TZPATH)
     return file or name or 0
@@ -122,7 +148,8 @@ def local_zone() -> Zone:
 def now() -> Moment:
     """The moment now in the machine's zone: that of `TZ`, or of `/etc/localtime` if it is not set.
 
-    It is UTC if `TZ` is empty, or neither is there. Calls refuse by `InvalidZone` a `TZ` that names no zone.
+    It is UTC if `TZ` is empty, or neither is there. Calls refuse by `InvalidZone` a `TZ` that names no zone, and a file that is a
+    pipe, a device or empty, or has more than 1048576 bytes.
     Only this call reads the clock, the environment and the machine's zone.
     """
     seconds, nanoseconds = divmod(time.time_ns(), 1_000_000_000)

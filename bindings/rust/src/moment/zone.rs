@@ -5,9 +5,17 @@ use crate::calls::zone::HeldZone;
 use crate::{Error, OffsetInSeconds};
 use std::env;
 use std::ffi::OsStr;
-use std::fs;
+use std::fs::{self, File, Metadata};
+use std::io::Read;
+use std::os::unix::fs::OpenOptionsExt;
 use std::path::{Path, PathBuf};
 use std::sync::Arc;
+
+/// The most bytes of a file that is read as a zone, as in the library's programs.
+const MAX_FILE_BYTES: u64 = 1 << 20;
+
+/// `O_NONBLOCK` of Linux, by which to open a pipe waits for no writer.
+const NO_WAIT: i32 = 0o4000;
 
 /// A time zone. Two are equal where they are given alike: a rule is not compared with a file.
 ///
@@ -37,9 +45,10 @@ impl Zone {
     /// The machine's zone: that of the variable `TZ`, or without it that of `/etc/localtime`.
     ///
     /// `TZ` may be empty, for UTC. Else it is the path of a TZif file, below `TZDIR` or `/usr/share/zoneinfo` where it is not
-    /// absolute, or a POSIX rule. A colon before it is skipped.
+    /// absolute, or a POSIX rule. A colon before it is skipped. Below a folder no path has `..`.
     ///
-    /// [`Error::InvalidZone`] where this names no zone that can be read, [`Error::OutOfMemory`].
+    /// [`Error::InvalidZone`] where this names no zone that can be read, [`Error::OutOfMemory`]. No file is read that is a pipe, a
+    /// device or empty, or has more than 1048576 bytes.
     pub fn local() -> Result<Zone, Error> {
         let variable = env::var_os("TZ");
         Settings {
@@ -53,7 +62,7 @@ impl Zone {
     /// The zone of this name, such as `America/New_York`: the TZif file below `TZDIR` or `/usr/share/zoneinfo`.
     ///
     /// A name has ASCII letters, digits, `/`, `_`, `+` and `-`, and does not begin with `/`. [`Error::InvalidZone`] for other
-    /// names, and where there is no such zone; [`Error::OutOfMemory`].
+    /// names, and where there is no such zone; [`Error::OutOfMemory`]. No file is read that [`Zone::local()`] does not read.
     pub fn named(name: &str) -> Result<Zone, Error> {
         Zone::named_below(&folder(), name)
     }
@@ -86,13 +95,29 @@ impl Zone {
         Ok(self)
     }
 
-    /// The zone of a TZif file. `None` where there is no file.
+    /// The zone of a TZif file. `None` where there is no file that may be one.
     fn of_file(path: &Path) -> Option<Result<Zone, Error>> {
-        // A device or a pipe may never end.
-        let is_file = fs::metadata(path).is_ok_and(|found| found.is_file());
-        let bytes = is_file.then(|| fs::read(path))?.ok()?;
+        let bytes = read_file(path)?;
         Some(Zone::Tzif(bytes.into()).if_valid())
     }
+}
+
+/// The bytes of a file that may be that of a zone.
+fn read_file(path: &Path) -> Option<Vec<u8>> {
+    // To open a device may already change it. Between both looks the path may come to mean another file, and a file may grow.
+    fs::metadata(path).ok().filter(may_be_read)?;
+    let mut options = File::options();
+    let file = options.read(true).custom_flags(NO_WAIT).open(path).ok()?;
+    file.metadata().ok().filter(may_be_read)?;
+    let mut bytes = Vec::new();
+    file.take(MAX_FILE_BYTES + 1).read_to_end(&mut bytes).ok()?;
+    (bytes.len() as u64 <= MAX_FILE_BYTES).then_some(bytes)
+}
+
+/// Whether a file may be read as a zone. A pipe or a device might never end, and neither might a file of the kernel, which says that
+/// it has no byte.
+fn may_be_read(file: &Metadata) -> bool {
+    file.is_file() && (1..=MAX_FILE_BYTES).contains(&file.len())
 }
 
 /// Whether the library can only take a text for a rule: it takes one for a file by its first bytes, and an offset begins with a
@@ -106,9 +131,9 @@ fn may_be_file(bytes: &[u8]) -> bool {
     bytes.starts_with(b"TZif")
 }
 
-/// Where the files of zones lie.
+/// Where the files of zones lie. An empty `TZDIR` would be the current folder, and is as none.
 fn folder() -> PathBuf {
-    let variable = env::var_os("TZDIR");
+    let variable = env::var_os("TZDIR").filter(|folder| !folder.is_empty());
     variable.map_or_else(|| "/usr/share/zoneinfo".into(), PathBuf::from)
 }
 
@@ -130,15 +155,23 @@ impl Settings<'_> {
         let text = variable.to_str().ok_or(Error::InvalidZone)?;
         match text.strip_prefix(':').unwrap_or(text) {
             "" => Ok(Zone::UTC),
+            name if leads_out(name) => Err(Error::InvalidZone),
             name => Zone::of_file(&self.folder.join(name))
                 .unwrap_or_else(|| Zone::Posix(name.into()).if_valid()),
         }
     }
 }
 
+/// Whether a name could be that of a file outside the folder. A path from the root is that of the file itself.
+fn leads_out(name: &str) -> bool {
+    !name.starts_with('/') && name.split('/').any(|part| part == "..")
+}
+
 #[cfg(test)]
 mod tests {
     use super::*;
+    use std::os::unix::fs::symlink;
+    use std::process::Command;
 
     const NEW_YORK: &str = "new_york_2023.tzif";
     const RULE: &str = "EST5EDT,M3.2.0,M11.1.0";
@@ -151,10 +184,16 @@ mod tests {
         Zone::Tzif(fs::read(data().join(NEW_YORK)).unwrap().into())
     }
 
+    /// A new folder with a folder, by names that no other test and no other process has.
+    fn folder_with(name: &str, inner: &str) -> PathBuf {
+        let below = env::temp_dir().join(format!("gix_date_{name}_{}", std::process::id()));
+        fs::create_dir_all(below.join(inner)).unwrap();
+        below
+    }
+
     #[test]
     fn a_name_is_that_of_a_file() {
-        let below = env::temp_dir().join(format!("gix_date_zones_{}", std::process::id()));
-        fs::create_dir_all(below.join("America")).unwrap();
+        let below = folder_with("zones", "America");
         fs::copy(data().join(NEW_YORK), below.join("America/New_York")).unwrap();
         fs::write(below.join("notes"), "no zone").unwrap();
         fs::write(below.join("rule"), RULE).unwrap();
@@ -228,6 +267,72 @@ mod tests {
                 "{none}"
             );
         }
+    }
+
+    /// A copy of the zone's file that zeros fill up to a length.
+    fn filled(path: &Path, len: u64) {
+        fs::copy(data().join(NEW_YORK), path).unwrap();
+        let file = File::options().write(true).open(path).unwrap();
+        file.set_len(len).unwrap();
+    }
+
+    /// What is no file that may be read as a zone, in a new folder.
+    fn no_files(below: &Path) -> [PathBuf; 9] {
+        let [folder, pipe, to_pipe, to_device, to_kernel, loops, empty, above, huge] = [
+            "folder",
+            "pipe",
+            "to-pipe",
+            "to-device",
+            "to-kernel",
+            "loops",
+            "empty",
+            "above",
+            "huge",
+        ]
+        .map(|name| below.join(name));
+        let made = Command::new("mkfifo").arg(&pipe).status().unwrap();
+        assert!(made.success());
+        symlink(&pipe, &to_pipe).unwrap();
+        symlink("/dev/zero", &to_device).unwrap();
+        symlink("/proc/kmsg", &to_kernel).unwrap();
+        symlink("loops", &loops).unwrap();
+        File::create(&empty).unwrap();
+        filled(&above, MAX_FILE_BYTES + 1);
+        filled(&huge, 1 << 30);
+        [
+            folder, pipe, to_pipe, to_device, to_kernel, loops, empty, above, huge,
+        ]
+    }
+
+    #[test]
+    fn only_regular_files_within_the_limit_are_read() {
+        let below = folder_with("files", "folder");
+        for path in no_files(&below) {
+            let refused = Err(Error::InvalidZone);
+            assert_eq!(read_file(&path), None, "{path:?}");
+            let name = path.file_name().unwrap().to_str().unwrap();
+            assert_eq!(Zone::named_below(&below, name), refused, "{name}");
+            assert_eq!(zone(path.to_str(), NEW_YORK), refused, "{name}");
+            let default_file = path.to_str().unwrap();
+            assert_eq!(zone(None, default_file), refused, "{name}");
+            assert_eq!(zone(Some(NEW_YORK), default_file), Ok(new_york()), "{name}");
+        }
+        filled(&below.join("full"), MAX_FILE_BYTES);
+        symlink(data().join(NEW_YORK), below.join("to-file")).unwrap();
+        assert!(Zone::named_below(&below, "full").is_ok());
+        assert_eq!(Zone::named_below(&below, "to-file"), Ok(new_york()));
+        fs::remove_dir_all(&below).unwrap();
+    }
+
+    #[test]
+    fn a_name_does_not_lead_out_of_its_folder() {
+        let back = format!("../data/{NEW_YORK}");
+        for name in ["..", "../", &back, &format!(":{back}")] {
+            let refused = Err(Error::InvalidZone);
+            assert_eq!(zone(Some(name), NEW_YORK), refused, "{name}");
+        }
+        let absolute = data().join(back);
+        assert_eq!(zone(absolute.to_str(), "none"), Ok(new_york()));
     }
 
     #[test]
