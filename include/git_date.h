@@ -1,8 +1,10 @@
 /* Dates as Git itself reads and shows them, for C and C++: in the library of gix_date.h.
  *
  * Each call is proved to do what docs/C.md says of it, for every input with valid pointers and
- * lengths. What Git reads, and each refusal, is in docs/GIT_DATES.md. All that gix_date.h says of
- * texts, buffers, threads and memory holds here too.
+ * lengths. What Git reads, and each refusal, is in docs/GIT_DATES.md. In a zone of one offset each
+ * answer is Git's, or a refusal. In zones that change two kinds of times are not: those that the
+ * clock shows twice or never, and dates of people whose daylight flag is not the moment's. All that
+ * gix_date.h says of texts, buffers, threads and memory holds here too.
  *
  * A call has a moment: the instant now in a zone, which gix_date.h tells how to make. A text without
  * an offset has that of the zone. No call takes memory.

@@ -5,10 +5,11 @@
 //! - [`expiry_date()`]: what expires, as in `gc.pruneExpire`
 //! - [`show_date()`]: a date as `git log --date=MODE` shows it
 //!
-//! Every answer is Git's, or a refusal by name ([`DateError`]); `docs/GIT_DATES.md` has the rules. Seconds count from 1970-01-01
-//! 00:00:00 UTC, an offset is seconds east of UTC, and a place counts bytes from the text's start. Memory is taken only to read
-//! the zone of a moment that is a rule or a file. The module [`bytes`] has the calls that read for `&[u8]`, and
-//! [`ReadZone`](crate::ReadZone) those for a zone that is read once.
+//! In a zone of one offset every answer is Git's, or a refusal by name ([`DateError`]). In zones that change some times are not
+//! Git's: `docs/GIT_DATES.md` names them, and has the rules. Seconds count from 1970-01-01 00:00:00 UTC, an offset is seconds
+//! east of UTC, and a place counts bytes from the text's start. Memory is taken only to read the zone of a moment that is a rule
+//! or a file. The module [`bytes`] has the calls that read for `&[u8]`, and [`ReadZone`](crate::ReadZone) those for a zone that
+//! is read once.
 //!
 //! ```
 //! use gix_date_proved::git::{approxidate, parse_date, show_date};

@@ -1,7 +1,11 @@
 //! Dates as Git itself reads them.
 //!
 //! [`parse_date`] reads what Git's own exact reader reads: the dates of `GIT_COMMITTER_DATE` and of mails, and nearly all
-//! that `git commit --date` is given. Every answer is Git's, or a refusal by name ([`DateError`]).
+//! that `git commit --date` is given. In a zone of one offset every answer is Git's, or a refusal by name ([`DateError`]).
+//!
+//! In zones that change two kinds of times, and what a text counts from them, are not Git's. One is local times that the clock
+//! shows twice or never. The other is dates of people whose daylight flag is not the moment's. Git asks with the moment's, and is
+//! often an hour off. Here each date has the offset of its own day.
 //!
 //! ```
 //! let now = Time::new(1251660000, 0).to_zoned()?;
