@@ -77,8 +77,8 @@ pub enum Expiry {
     Before(Approximate),
 }
 
-/// Reads a date as Git's exact reader does. A text without an offset has that of the moment's zone: in a fold the earlier
-/// instant (east of UTC Git's is the later), in a gap the offset before it.
+/// Reads a date as Git's exact reader does. A text without an offset has that of the moment's zone, in folds and gaps as Git finds
+/// it.
 ///
 /// The instant matters only to a date such as `7/4/2009` after a clock, which is refused if it is more than ten days ahead.
 ///

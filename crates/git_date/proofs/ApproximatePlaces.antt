@@ -6,12 +6,13 @@ use Rattle.std.specs.Int.Signed.{le_z}
 use Rattle.jiff.specs.declared.zoned.Zoned.{Zoned}
 use Rattle.gix_date.specs.Relative.Steps.{zone_of}
 use Rattle.gix_date.specs.declared.time.Time.{Time}
-use Rattle.git_date.specs.Approximate.{draft_of, answer, answer_of, guess_by, guess, is_unreadable, exact_or_guess, ApproximateOutcome, HasApproximatePlacesIn}
+use Rattle.git_date.specs.Approximate.{draft_of, answer, answer_of, guess_by, guess, is_unreadable, exact_or_guess, approximate, HasApproximatePlacesIn}
 use Rattle.git_date.specs.ApproximateDrafts.{first_draft, earlier, settle}
-use Rattle.git_date.specs.ApproximateExpiry.{expiry_of, ExpiryBy, fixed_expiry, ExpiryOutcome, HasExpiryPlacesIn}
-use Rattle.git_date.specs.ApproximateZones.{Choices, shown_in, filled_time}
+use Rattle.git_date.specs.ApproximateExpiry.{expiry_of, expiry_by, fixed_expiry, HasExpiryPlacesIn}
+use Rattle.git_date.specs.ApproximateZones.{Choices, choices_of, shown_in, filled_time}
 use Rattle.git_date.specs.Dates.{now_of}
-use Rattle.git_date.specs.Outcome.{HasPlacesIn}
+use Rattle.git_date.specs.Outcome.{date_of, HasPlacesIn}
+use Rattle.git_date.specs.Reading.{said_by}
 use Rattle.git_date.specs.Tokens.{tokens}
 use Rattle.git_date.specs.declared.approximate.answer.Approximate.{Approximate}
 use Rattle.git_date.specs.declared.approximate.answer.Today.{Today}
@@ -70,7 +71,7 @@ answer-in text d (Some time) h = either (HasApproximatePlacesIn text) (le_z (pos
 
 answer-of-in : (zone : Choices) (today : Today) (text : List ℕ) (given : Result Draft Fault) → IsGivenAt (IsPlaceOf text) given
     → HasApproximatePlacesIn text (answer_of zone today text given)
-answer-of-in zone today text (Ok d) h = answer-in text (settle d) (filled_time zone today.shown (settle d).fields) h
+answer-of-in zone today text (Ok d) h = answer-in text (settle d) (filled_time zone today.shown (settle d).last.offset (settle d).fields) h
 answer-of-in zone today text (Err (fault.NumberTooLarge left)) h = h
 answer-of-in zone today text (Err (fault.BackTooFar left)) h = h
 answer-of-in zone today text (Err (fault.YearRefused left)) h = h
@@ -91,12 +92,10 @@ exact-or-in : (text : List ℕ) (exact : Result ReadDate DateError) (guessed : R
 exact-or-in text (Ok date) guessed h g = h
 exact-or-in text (Err e) guessed h g = either (HasApproximatePlacesIn text) (is_unreadable e) guessed (Err e) g h
 
-pub approximate-places : (moment : Zoned) (text : List ℕ) (result : Result Approximate DateError) → ApproximateOutcome moment text result
-    → HasApproximatePlacesIn text result
-approximate-places moment text result h =
-    subst (HasApproximatePlacesIn text) (sym h.is)
-    (exact-or-in text h.exact (guess h.zone (now_of moment) text) (places (zone_of moment) (now_of moment) text h.exact h.reads)
-    (guess-in h.zone (now_of moment) text))
+pub approximate-places : (moment : Zoned) (text : List ℕ) → HasApproximatePlacesIn text (approximate moment text)
+approximate-places moment text =
+    exact-or-in text (date_of (zone_of moment) (said_by (now_of moment) text)) (guess (choices_of (zone_of moment)) (now_of moment) text)
+    (places (zone_of moment) (now_of moment) text) (guess-in (choices_of (zone_of moment)) (now_of moment) text)
 
 -- what expires
 dated-in : (text : List ℕ) (date : Result Approximate DateError) → HasApproximatePlacesIn text date → HasExpiryPlacesIn text (expiry_of date)
@@ -112,11 +111,9 @@ fixed-in text =
     either (HasNoPlaces text) (bytes_eq text (codes "never") || bytes_eq text (codes "false")) _ _ tt
     (either (HasNoPlaces text) (bytes_eq text (codes "all") || bytes_eq text (codes "now")) _ _ tt tt)
 
-expiry-by-in : (moment : Zoned) (text : List ℕ) (fixed : Option Expiry) (result : Result Expiry DateError)
-    → HasNoPlaces text fixed → ExpiryBy moment text fixed result → HasExpiryPlacesIn text result
-expiry-by-in moment text (Some said) result fixed h = subst (HasExpiryPlacesIn text) (sym h) fixed
-expiry-by-in moment text None result fixed h =
-    subst (HasExpiryPlacesIn text) (sym h.is) (dated-in text h.date (approximate-places moment text h.date h.reads))
+expiry-by-in : (moment : Zoned) (text : List ℕ) (fixed : Option Expiry) → HasNoPlaces text fixed → HasExpiryPlacesIn text (expiry_by moment text fixed)
+expiry-by-in moment text (Some said) fixed = fixed
+expiry-by-in moment text None fixed = dated-in text (approximate moment text) (approximate-places moment text)
 
-pub expiry-places : (moment : Zoned) (text : List ℕ) (result : Result Expiry DateError) → ExpiryOutcome moment text result → HasExpiryPlacesIn text result
-expiry-places moment text result h = expiry-by-in moment text (fixed_expiry text) result (fixed-in text) h
+pub expiry-places : (moment : Zoned) (text : List ℕ) → HasExpiryPlacesIn text (expiry_by moment text (fixed_expiry text))
+expiry-places moment text = expiry-by-in moment text (fixed_expiry text) (fixed-in text)

@@ -4,7 +4,7 @@ pub mod Months
 pub mod Saturated
 mod Conditions
 pub mod HeldClocks
-pub mod Zones
+pub mod ZoneOffsets
 pub mod ModeRows
 pub mod ShownClocks
 pub mod ShownTexts

@@ -7,13 +7,12 @@ use Rattle.std.specs.Int.Signed.{le_z}
 use Rattle.jiff.specs.Types.{TimeZone}
 use Rattle.gix_date.proofs.Text.AsciiCuts.{digit_is_ascii, letter_is_ascii}
 use Rattle.gix_date.specs.Fields.Zoned.{is_instant}
-use Rattle.gix_date.specs.declared.time.Time.{Time}
 use Rattle.git_date.specs.Tokens.{Token, Letters, Digits, Mark, token_text, letter_before, digit_before, tokens, texts}
 use Rattle.git_date.specs.Dates.{exact_seconds}
 use Rattle.git_date.specs.Offsets.{at_text}
 use Rattle.git_date.specs.Reading.{nothing_read, reading_of, place_in, at_said, by_seconds, fields_said, at_or_fields, said_by}
-use Rattle.git_date.specs.Outcome.{date_at, date_in, instant_seconds, AtOffset, DateOutcome, IsPlaceIn, IsErrorIn, HasPlacesIn}
-use Rattle.git_date.specs.declared.date.ReadDate.{ReadDate}
+use Rattle.git_date.specs.Outcome.{date_at, date_in, at_offset, date_of, instant_seconds, IsPlaceIn, IsErrorIn, HasPlacesIn}
+use Rattle.git_date.specs.Zones.{offsets_of, local_offset}
 use Rattle.git_date.specs.declared.dates.Now.{Now}
 use Rattle.git_date.specs.declared.error.DateError.{DateError}
 use Rattle.git_date.specs.declared.fault.Fault.{Fault}
@@ -135,19 +134,17 @@ date-at-in : (text : List ℕ) (said : Said) (minutes : ℤ) → IfSome said.ign
 unfolding date_at
 date-at-in text said minutes h = either (HasPlacesIn text) (le_z (pos 0) (instant_seconds said minutes)) _ _ h tt
 
-local-in : (text : List ℕ) (said : Said) (local : Option Time) → IfSome said.ignored (IsPlaceIn text) → HasPlacesIn text (date_in said local)
+local-in : (text : List ℕ) (said : Said) (offset : Option ℤ) → IfSome said.ignored (IsPlaceIn text) → HasPlacesIn text (date_in said offset)
 local-in text said None h = tt
-local-in text said (Some local) h = date-at-in text said _ h
+local-in text said (Some offset) h = date-at-in text said _ h
 
-offset-in : (tz : TimeZone) (text : List ℕ) (said : Said) (offset : Option ℤ) (result : Result ReadDate DateError) → IfSome said.ignored (IsPlaceIn text)
-    → AtOffset tz said offset result → HasPlacesIn text result
-offset-in tz text said (Some minutes) result h is = subst (HasPlacesIn text) (sym is) (date-at-in text said minutes h)
-offset-in tz text said None result h is = subst (HasPlacesIn text) (sym is.is) (local-in text said is.local h)
+offset-in : (tz : TimeZone) (text : List ℕ) (said : Said) (offset : Option ℤ) → IfSome said.ignored (IsPlaceIn text) → HasPlacesIn text (at_offset tz said offset)
+offset-in tz text said (Some minutes) h = date-at-in text said minutes h
+offset-in tz text said None h = local-in text said (local_offset (offsets_of tz) None said.seconds) h
 
-outcome-in : (tz : TimeZone) (text : List ℕ) (said : Result Said DateError) (result : Result ReadDate DateError) → IsSaidIn text said
-    → DateOutcome tz said result → HasPlacesIn text result
-outcome-in tz text (Ok said) result h is = offset-in tz text said said.offset result h is
-outcome-in tz text (Err e) result h is = subst (HasPlacesIn text) (sym is) h
+pub date-in : (tz : TimeZone) (text : List ℕ) (said : Result Said DateError) → IsSaidIn text said → HasPlacesIn text (date_of tz said)
+date-in tz text (Ok said) h = offset-in tz text said said.offset h
+date-in tz text (Err e) h = h
 
-pub places : (tz : TimeZone) (now : Now) (text : List ℕ) (result : Result ReadDate DateError) → DateOutcome tz (said_by now text) result → HasPlacesIn text result
-places tz now text result is = outcome-in tz text (said_by now text) result (said-in now text) is
+pub places : (tz : TimeZone) (now : Now) (text : List ℕ) → HasPlacesIn text (date_of tz (said_by now text))
+places tz now text = date-in tz text (said_by now text) (said-in now text)

@@ -36,9 +36,9 @@ pub data Waits (P : ℕ → ℕ → Type 0) : Option Number → Option Number �
 
 -- drafts, with `P` of the places of such numbers and `I` of those of what is ignored
 pub data Drafts (P : ℕ → ℕ → Type 0) (I : Option ℕ → Option ℕ → Type 0) : Draft → Draft → Type 0 where
-  SameDraft : (f : Fields) (weekday : ℕ) (w x : Option Number) (known : Bool) (i j : Option ℕ) → Waits P w x → I i j
-      → Drafts P I (record { fields = f; weekday = weekday; waiting = w; understood = known; ignored = i })
-      (record { fields = f; weekday = weekday; waiting = x; understood = known; ignored = j })
+  SameDraft : (f : Fields) (last : ShownClock) (w x : Option Number) (known : Bool) (i j : Option ℕ) → Waits P w x → I i j
+      → Drafts P I (record { fields = f; last = last; waiting = w; understood = known; ignored = i })
+      (record { fields = f; last = last; waiting = x; understood = known; ignored = j })
 
 abbrev pub Givens : (ℕ → ℕ → Type 0) → (Option ℕ → Option ℕ → Type 0) → Result Draft Fault → Result Draft Fault → Type 0
 Givens P I a b = Comes (Drafts P I) P a b
@@ -55,41 +55,41 @@ pub data ReadOn (R : List Token → List Token → Type 0) (P : ℕ → ℕ → 
 module _ (P : ℕ → ℕ → Type 0) (I : Option ℕ → Option ℕ → Type 0)
     (law : (left other : ℕ) (i j : Option ℕ) → P left other → I i j → I (Some (earlier left i)) (Some (earlier other j))) where
   ignore-respects : (d e : Draft) (left other : ℕ) → P left other → Drafts P I d e → Drafts P I (ignore d left) (ignore e other)
-  ignore-respects d e left other p (SameDraft f weekday w x known i j waits h) = SameDraft f weekday w x known _ _ waits (law left other i j p h)
+  ignore-respects d e left other p (SameDraft f last w x known i j waits h) = SameDraft f last w x known _ _ waits (law left other i j p h)
 
-  settled-respects : (f : Fields) (weekday left other : ℕ) (w x : Option Number) (known : Bool) (i j : Option ℕ) (g : Option Fields) → P left other → I i j
-      → Drafts P I (settled_by (record { fields = f; weekday = weekday; waiting = w; understood = known; ignored = i }) left g)
-      (settled_by (record { fields = f; weekday = weekday; waiting = x; understood = known; ignored = j }) other g)
-  settled-respects f weekday left other w x known i j (Some g) p h = SameDraft g weekday None None known i j NoneWaits h
-  settled-respects f weekday left other w x known i j None p h = SameDraft f weekday None None known _ _ NoneWaits (law left other i j p h)
+  settled-respects : (f : Fields) (last : ShownClock) (left other : ℕ) (w x : Option Number) (known : Bool) (i j : Option ℕ) (g : Option Fields) → P left other → I i j
+      → Drafts P I (settled_by (record { fields = f; last = last; waiting = w; understood = known; ignored = i }) left g)
+      (settled_by (record { fields = f; last = last; waiting = x; understood = known; ignored = j }) other g)
+  settled-respects f last left other w x known i j (Some g) p h = SameDraft g last None None known i j NoneWaits h
+  settled-respects f last left other w x known i j None p h = SameDraft f last None None known _ _ NoneWaits (law left other i j p h)
 
   pub settle-respects : (d e : Draft) → Drafts P I d e → Drafts P I (settle d) (settle e)
   unfolding settle
-  settle-respects d e (SameDraft f weekday w x known i j NoneWaits h) = SameDraft f weekday None None known i j NoneWaits h
-  settle-respects d e (SameDraft f weekday w x known i j (OneWaits n m (SameNumber value a b p)) h) =
-      settled-respects f weekday a b (Some (record { value = value; left = a })) (Some (record { value = value; left = b })) known i j (with_number f value) p h
+  settle-respects d e (SameDraft f last w x known i j NoneWaits h) = SameDraft f last None None known i j NoneWaits h
+  settle-respects d e (SameDraft f last w x known i j (OneWaits n m (SameNumber value a b p)) h) =
+      settled-respects f last a b (Some (record { value = value; left = a })) (Some (record { value = value; left = b })) known i j (with_number f value) p h
 
   dropped-respects : (d e : Draft) → Drafts P I d e → Drafts P I (dropped d) (dropped e)
   unfolding dropped
-  dropped-respects d e (SameDraft f weekday w x known i j NoneWaits h) = SameDraft f weekday None None known i j NoneWaits h
-  dropped-respects d e (SameDraft f weekday w x known i j (OneWaits n m (SameNumber value a b p)) h) =
-      SameDraft f weekday None None known _ _ NoneWaits (law a b i j p h)
+  dropped-respects d e (SameDraft f last w x known i j NoneWaits h) = SameDraft f last None None known i j NoneWaits h
+  dropped-respects d e (SameDraft f last w x known i j (OneWaits n m (SameNumber value a b p)) h) =
+      SameDraft f last None None known _ _ NoneWaits (law a b i j p h)
 
   half-respects : (first : ℕ) (d e : Draft) → Drafts P I d e → Drafts P I (half d first) (half e first)
   unfolding half
-  half-respects first d e (SameDraft f weekday w x known i j NoneWaits h) = SameDraft _ weekday None None known i j NoneWaits h
-  half-respects first d e (SameDraft f weekday w x known i j (OneWaits n m (SameNumber value a b p)) h) = SameDraft _ weekday None None known i j NoneWaits h
+  half-respects first d e (SameDraft f last w x known i j NoneWaits h) = SameDraft _ last None None known i j NoneWaits h
+  half-respects first d e (SameDraft f last w x known i j (OneWaits n m (SameNumber value a b p)) h) = SameDraft _ last None None known i j NoneWaits h
 
   -- what a zone makes of them
   moved-respects : (zone : Choices) (d e : Draft) (left other : ℕ) (instant : ℤ) → P left other → Drafts P I d e
       → Givens P I (moved_to zone d left instant) (moved_to zone e other instant)
   unfolding moved_to
-  moved-respects zone d e left other instant p (SameDraft f weekday w x known i j waits h) = by (shown_in zone instant)
+  moved-respects zone d e left other instant p (SameDraft f last w x known i j waits h) = by (shown_in zone instant)
     where
       by : (shown : Option ShownClock)
-          → Givens P I (moved_by (record { fields = f; weekday = weekday; waiting = w; understood = known; ignored = i }) left shown)
-          (moved_by (record { fields = f; weekday = weekday; waiting = x; understood = known; ignored = j }) other shown)
-      by (Some shown) = ComesTo _ _ (SameDraft _ shown.weekday w x known i j waits h)
+          → Givens P I (moved_by (record { fields = f; last = last; waiting = w; understood = known; ignored = i }) left shown)
+          (moved_by (record { fields = f; last = last; waiting = x; understood = known; ignored = j }) other shown)
+      by (Some shown) = ComesTo _ _ (SameDraft _ shown w x known i j waits h)
       by None = FailsAt _ _ (TooFar left other p)
 
   filled-respects : (zone : Choices) (d e : Draft) (back left other : ℕ) (time : Option Time) → P left other → Drafts P I d e
@@ -100,21 +100,21 @@ module _ (P : ℕ → ℕ → Type 0) (I : Option ℕ → Option ℕ → Type 0)
   fill-respects : (zone : Choices) (today : ShownClock) (d e : Draft) (back left other : ℕ) → P left other → Drafts P I d e
       → Givens P I (fill zone today d back left) (fill zone today e back other)
   unfolding fill
-  fill-respects zone today d e back left other p (SameDraft f weekday w x known i j waits h) =
-      filled-respects zone _ _ back left other (filled_time zone today f) p (SameDraft f weekday w x known i j waits h)
+  fill-respects zone today d e back left other p (SameDraft f last w x known i j waits h) =
+      filled-respects zone _ _ back left other (filled_time zone today last.offset f) p (SameDraft f last w x known i j waits h)
 
   -- words
   at-hour-respects : (hour : ℕ) (a b : Result Draft Fault) → Givens P I a b → Givens P I (at_hour hour a) (at_hour hour b)
-  at-hour-respects hour a b (ComesTo d e (SameDraft f weekday w x known i j waits h)) = ComesTo _ _ (SameDraft _ weekday w x known i j waits h)
+  at-hour-respects hour a b (ComesTo d e (SameDraft f last w x known i j waits h)) = ComesTo _ _ (SameDraft _ last w x known i j waits h)
   at-hour-respects hour a b (FailsAt x y faults) = FailsAt x y faults
 
   hour-by-respects : (zone : Choices) (today : ShownClock) (d e : Draft) (hour left other : ℕ) → P left other → Drafts P I d e
       → Givens P I (cond (is_before d.fields.hour hour) (at_hour hour (fill zone today d seconds_per_day left)) (Ok (with_hour d hour)))
       (cond (is_before e.fields.hour hour) (at_hour hour (fill zone today e seconds_per_day other)) (Ok (with_hour e hour)))
-  hour-by-respects zone today d e hour left other p (SameDraft f weekday w x known i j waits h) =
+  hour-by-respects zone today d e hour left other p (SameDraft f last w x known i j waits h) =
       both (Givens P I) (is_before f.hour hour) _ _ _ _
-      (at-hour-respects hour _ _ (fill-respects zone today _ _ seconds_per_day left other p (SameDraft f weekday w x known i j waits h)))
-      (ComesTo _ _ (SameDraft _ weekday w x known i j waits h))
+      (at-hour-respects hour _ _ (fill-respects zone today _ _ seconds_per_day left other p (SameDraft f last w x known i j waits h)))
+      (ComesTo _ _ (SameDraft _ last w x known i j waits h))
 
   hour-respects : (zone : Choices) (today : ShownClock) (d e : Draft) (hour left other : ℕ) → P left other → Drafts P I d e
       → Givens P I (hour_rule zone today d hour left) (hour_rule zone today e hour other)
@@ -122,12 +122,12 @@ module _ (P : ℕ → ℕ → Type 0) (I : Option ℕ → Option ℕ → Type 0)
   hour-respects zone today d e hour left other p h = hour-by-respects zone today (settle d) (settle e) hour left other p (settle-respects d e h)
 
   month-taken-respects : (left other : ℕ) (d e : Draft) (f : Option Fields) → P left other → Drafts P I d e → Givens P I (month_taken d left f) (month_taken e other f)
-  month-taken-respects left other d e (Some g) p (SameDraft f weekday w x known i j waits h) = ComesTo _ _ (SameDraft g weekday w x known i j waits h)
+  month-taken-respects left other d e (Some g) p (SameDraft f last w x known i j waits h) = ComesTo _ _ (SameDraft g last w x known i j waits h)
   month-taken-respects left other d e None p h = FailsAt _ _ (TooFar left other p)
 
   less-by-respects : (months left other : ℕ) (a b : Result Draft Fault) → P left other → Givens P I a b → Givens P I (less_by months left a) (less_by months other b)
-  less-by-respects months left other a b p (ComesTo d e (SameDraft f weekday w x known i j waits h)) =
-      month-taken-respects left other _ _ (less_months f months) p (SameDraft f weekday w x known i j waits h)
+  less-by-respects months left other a b p (ComesTo d e (SameDraft f last w x known i j waits h)) =
+      month-taken-respects left other _ _ (less_months f months) p (SameDraft f last w x known i j waits h)
   less-by-respects months left other a b p (FailsAt x y faults) = FailsAt x y faults
 
   -- the number is taken before
@@ -148,22 +148,22 @@ module _ (P : ℕ → ℕ → Type 0) (I : Option ℕ → Option ℕ → Type 0)
 
   unit-respects : (zone : Choices) (today : ShownClock) (unit : Counted) (d e : Draft) → Drafts P I d e
       → Ruleds P I (counted_by zone today d unit d.waiting) (counted_by zone today e unit e.waiting)
-  unit-respects zone today unit d e (SameDraft f weekday w x known i j NoneWaits h) = DoesNothing
-  unit-respects zone today (Seconds size) d e (SameDraft f weekday w x known i j (OneWaits n m (SameNumber value a b p)) h) =
-      used-respects _ _ (back-respects zone today _ _ (units value size) value a b p (SameDraft f weekday None None known i j NoneWaits h))
-  unit-respects zone today (Weekday day) d e (SameDraft f weekday w x known i j (OneWaits n m (SameNumber value a b p)) h) =
-      used-respects _ _ (back-respects zone today _ _ (weekday_seconds weekday day value) value a b p (SameDraft f weekday None None known i j NoneWaits h))
-  unit-respects zone today (Months size) d e (SameDraft f weekday w x known i j (OneWaits n m (SameNumber value a b p)) h) =
-      used-respects _ _ (months-respect zone today _ _ (units value size) value a b p (SameDraft f weekday None None known i j NoneWaits h))
+  unit-respects zone today unit d e (SameDraft f last w x known i j NoneWaits h) = DoesNothing
+  unit-respects zone today (Seconds size) d e (SameDraft f last w x known i j (OneWaits n m (SameNumber value a b p)) h) =
+      used-respects _ _ (back-respects zone today _ _ (units value size) value a b p (SameDraft f last None None known i j NoneWaits h))
+  unit-respects zone today (Weekday day) d e (SameDraft f last w x known i j (OneWaits n m (SameNumber value a b p)) h) =
+      used-respects _ _ (back-respects zone today _ _ (weekday_seconds last.weekday day value) value a b p (SameDraft f last None None known i j NoneWaits h))
+  unit-respects zone today (Months size) d e (SameDraft f last w x known i j (OneWaits n m (SameNumber value a b p)) h) =
+      used-respects _ _ (months-respect zone today _ _ (units value size) value a b p (SameDraft f last None None known i j NoneWaits h))
 
   waits-respects : (n left other : ℕ) (d e : Draft) → P left other → Drafts P I d e
       → Ruleds P I (Ok (count_waits d n left d.waiting)) (Ok (count_waits e n other e.waiting))
-  waits-respects n left other d e p (SameDraft f weekday w x known i j NoneWaits h) =
-      Makes _ _ (SameDraft f weekday _ _ known i j (OneWaits _ _ (SameNumber n left other p)) h)
-  waits-respects n left other d e p (SameDraft f weekday w x known i j (OneWaits a b same) h) = DoesNothing
+  waits-respects n left other d e p (SameDraft f last w x known i j NoneWaits h) =
+      Makes _ _ (SameDraft f last _ _ known i j (OneWaits _ _ (SameNumber n left other p)) h)
+  waits-respects n left other d e p (SameDraft f last w x known i j (OneWaits a b same) h) = DoesNothing
 
   month-respects : (month : ℕ) (d e : Draft) → Drafts P I d e → Drafts P I (with_month d month) (with_month e month)
-  month-respects month d e (SameDraft f weekday w x known i j waits h) = SameDraft _ weekday w x known i j waits h
+  month-respects month d e (SameDraft f last w x known i j waits h) = SameDraft _ last w x known i j waits h
 
   pub meaning-respects : (zone : Choices) (today : ShownClock) (d e : Draft) (left other : ℕ) (said : Meaning) → P left other → Drafts P I d e
       → Ruleds P I (meaning_rule zone today d left said) (meaning_rule zone today e other said)
@@ -185,7 +185,7 @@ module _ (P : ℕ → ℕ → Type 0) (I : Option ℕ → Option ℕ → Type 0)
   word-respects zone today d e left other (Some said) p h = meaning-respects zone today d e left other said p h
 
   understood-respects : (d e : Draft) → Drafts P I d e → Drafts P I (understood d) (understood e)
-  understood-respects d e (SameDraft f weekday w x known i j waits h) = SameDraft f weekday w x true i j waits h
+  understood-respects d e (SameDraft f last w x known i j waits h) = SameDraft f last w x true i j waits h
 
   read-word-respects : (d e : Draft) (word name : List ℕ) (left other : ℕ) (a b : Ruled) → is_filler word ≡ is_filler name → P left other → Drafts P I d e → Ruleds P I a b
       → Givens P I (read_word d word left a) (read_word e name other b)
@@ -205,25 +205,25 @@ module _ (P : ℕ → ℕ → Type 0) (I : Option ℕ → Option ℕ → Type 0)
   pub number-waits-respects : (d e : Draft) (run : List ℕ) (left other : ℕ) → P left other → Drafts P I d e
       → Drafts P I (number_waits d run left) (number_waits e run other)
   unfolding number_waits
-  number-waits-respects d e run left other p (SameDraft f weekday w x known i j waits h) =
+  number-waits-respects d e run left other p (SameDraft f last w x known i j waits h) =
       both (Drafts P I) (number run == 0 || is_padded run) _ _ _ _
-      (ignore-respects _ _ left other p (SameDraft f weekday w x known i j waits h))
-      (SameDraft f weekday _ _ known i j (OneWaits _ _ (SameNumber (number run) left other p)) h)
+      (ignore-respects _ _ left other p (SameDraft f last w x known i j waits h))
+      (SameDraft f last _ _ known i j (OneWaits _ _ (SameNumber (number run) left other p)) h)
 
   -- digits, before their ending: tokens may differ but in the marks of groups
   module _ (R : List Token → List Token → Type 0) (marks : (ts us : List Token) → R ts us → Marked R P (marked_number ts) (marked_number us)) where
     number-respects : (d e : Draft) (run : List ℕ) (left other : ℕ) (x y : Stepped) → P left other → Drafts P I d e → Related R P x y
         → ReadOn R P I (group_or_number d run left x) (group_or_number e run other y)
-    number-respects d e run left other x y p (SameDraft f weekday w v known i j waits h) (Same (Some g) more rest r) =
-        GoesOn _ _ more rest (SameDraft g weekday w v known i j waits h) r
+    number-respects d e run left other x y p (SameDraft f last w v known i j waits h) (Same (Some g) more rest r) =
+        GoesOn _ _ more rest (SameDraft g last w v known i j waits h) r
     number-respects d e run left other x y p h (Same None more rest r) = GoesOn _ _ more rest (number-waits-respects d e run left other p h) r
     number-respects d e run left other x y p h (Fails a b faults) = EndsBy a b faults
 
     digits-by : (now : Now) (d e : Draft) (run : List ℕ) (more rest : List Token) (left other : ℕ) → P left other → P (bytes_left (Digits run ∷ more)) (bytes_left (Digits run ∷ rest))
         → R more rest → Drafts P I d e
         → ReadOn R P I (group_or_number d run left (group_said now d.fields run more)) (group_or_number e run other (group_said now e.fields run rest))
-    digits-by now d e run more rest left other p q r (SameDraft f weekday w x known i j waits h) =
-        number-respects _ _ run left other _ _ p (SameDraft f weekday w x known i j waits h) (group-said-respects R P marks now f run more rest q r)
+    digits-by now d e run more rest left other p q r (SameDraft f last w x known i j waits h) =
+        number-respects _ _ run left other _ _ p (SameDraft f last w x known i j waits h) (group-said-respects R P marks now f run more rest q r)
 
     pub read-respects : (now : Now) (d e : Draft) (run : List ℕ) (more rest : List Token) → P (bytes_left (Digits run ∷ more)) (bytes_left (Digits run ∷ rest)) → R more rest
         → Drafts P I d e → ReadOn R P I (digits_rule now d run more) (digits_rule now e run rest)

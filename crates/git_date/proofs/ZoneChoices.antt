@@ -1,106 +1,68 @@
--- What a zone chooses.
-use Rattle.std.proofs.Common.{◌≡◌, ◌∙◌, ◌+ℤ◌, ◌-ℤ◌, ℕ, ℤ, Result, pos, neg_ℤ, Bool, true, false, cond, Option, Some, None, IfSome, ◌^◌, refl, sym, ap, subst, arith}
-use Rattle.std.proofs.lemmas.Int.{by_lt_z}
-use Rattle.jiff.specs.Types.{TimeZone, DateTime}
-use Rattle.jiff.specs.Words.{picked_instant, civil_nanos, nanos_of_seconds, offset_at, IsTimestampNanos, IsCivilNanos}
-use Rattle.jiff_core.proofs.DateTimeLemmas.{civil_nanos-parts}
+-- What a zone chooses, and what its clock shows.
+use Rattle.std.proofs.Common.{◌≡◌, ◌∙◌, ◌+ℤ◌, ◌-ℤ◌, ℕ, ℤ, Result, pos, neg_ℤ, Bool, true, false, cond, Option, Some, None, IfSome, ◌^◌, option_map, refl, sym, ap, arith}
+use Rattle.jiff.specs.Types.{TimeZone}
+use Rattle.jiff.specs.Words.{nanos_of_seconds, offset_at, IsOffsetSeconds}
 use Rattle.jiff_core.proofs.SignedLemmas.{signed_arith}
 use Rattle.jiff_core.specs.Calendar.{IsBetween}
-use Rattle.gix_date.specs.Careful.Dates.{IsLocalTime, IsLocalIfAny}
-use Rattle.gix_date.specs.Families.Epoch.{utc_time}
-use Rattle.gix_date.specs.Fields.Zoned.{is_instant, time_in}
-use Rattle.gix_date.specs.Relative.Steps.{IsPicked}
+use Rattle.gix_date.specs.Fields.Zoned.{is_instant}
 use Rattle.gix_date.specs.declared.time.Time.{Time}
-use Rattle.gix_date.proofs.Fields.DateTimes.{datetime_exists}
 use Rattle.gix_date.proofs.Fields.Instants.{instant_holds}
-use Rattle.gix_date.proofs.Relative.Steps.{picked-once, picked-none}
-use Rattle.git_date.proofs.Zones.{local-near}
 use Rattle.git_date.specs.ApproximateClocks.{shown_at}
-use Rattle.git_date.specs.ApproximateZones.{Choices, AreChoices, IsChoice, shown_in, filled_time, moved_to, fill_by, fill}
+use Rattle.git_date.specs.ApproximateZones.{Choices, choices_of, time_at, with_offset, shown_in, filled_time, moved_to, fill_by, fill}
+use Rattle.git_date.specs.Zones.{offsets_of, local_offset}
 use Rattle.git_date.specs.declared.approximate.drafts.Draft.{Draft}
 use Rattle.git_date.specs.declared.clocks.ShownClock.{ShownClock}
 use Rattle.git_date.specs.declared.fault.Fault.{Fault}
 
--- a zone has one time for a clock
-local-once : (tz : TimeZone) (t a b : Time) → IsLocalTime tz t a → IsLocalTime tz t b → a ≡ b
-local-once tz t a b h g =
-    h.is ∙ ap (λ (n : ℤ). time_in tz n) (picked-once tz (nanos_of_seconds t.seconds) h.instant g.instant h.picked g.picked) ∙ sym g.is
+abbrev picked_if : Bool → ℤ → Option ℤ → Option Time
+picked_if b local offset = cond b (option_map (time_at local) offset) None
 
-pub if-any-once : (tz : TimeZone) (t : Time) (a b : Option Time) → IsLocalIfAny tz t a → IsLocalIfAny tz t b → a ≡ b
-if-any-once tz t (Some a) (Some b) h g = ap Some (local-once tz t a b h g)
-if-any-once tz t (Some a) None h g = absurd (g a h)
-if-any-once tz t None (Some b) h g = absurd (h b g)
-if-any-once tz t None None h g = refl
+-- the time that is picked
+pub none-picked : (tz : TimeZone) (preferred local : ℤ) → is_instant local ≡ false → None ≡ (choices_of tz).picks preferred local
+unfolding choices_of
+none-picked tz preferred local e = ap (λ (b : Bool). picked_if b local (local_offset (offsets_of tz) (Some preferred) local)) (sym e)
 
-pub choice-true : (tz : TimeZone) (s : ℤ) (b : Bool) (a r : Option Time) → IsChoice tz s b a → b ≡ true → IsLocalIfAny tz (utc_time s) r → r ≡ a
-choice-true tz s true a r h e l = if-any-once tz (utc_time s) r a l h
-choice-true tz s false a r h e l = absurd cc
-
-pub choice-false : (tz : TimeZone) (s : ℤ) (b : Bool) (a : Option Time) → IsChoice tz s b a → b ≡ false → None ≡ a
-choice-false tz s true a h e = absurd cc
-choice-false tz s false a h e = sym h
+pub a-picked : (tz : TimeZone) (preferred local : ℤ) (found : Option ℤ) → is_instant local ≡ true
+    → found ≡ local_offset (offsets_of tz) (Some preferred) local → option_map (time_at local) found ≡ (choices_of tz).picks preferred local
+unfolding choices_of
+a-picked tz preferred local found e is =
+    ap (option_map (time_at local)) is ∙ ap (λ (b : Bool). picked_if b local (local_offset (offsets_of tz) (Some preferred) local)) (sym e)
 
 -- a zone's time is near the clock
-pub small-if-any : (tz : TimeZone) (s : ℤ) (r : Option Time) → is_instant s ≡ true → IsLocalIfAny tz (utc_time s) r
-    → IfSome r (λ t. IsBetween (neg_ℤ (pos (10 ^ 15))) (pos (10 ^ 15)) t.seconds)
-small-if-any tz s None e l = tt
-small-if-any tz s (Some t) e l =
-    let within = instant_holds s e in
-    let near = local-near tz s t l in
+pub small-at : (local offset : ℤ) → is_instant local ≡ true → IsOffsetSeconds offset → IsBetween (neg_ℤ (pos (10 ^ 15))) (pos (10 ^ 15)) (local -ℤ offset)
+small-at local offset e near =
+    let within = instant_holds local e in
     (omega (arith, signed_arith, within, near), omega (arith, signed_arith, within, near))
 
 -- what a zone's clock shows at an instant
 
-pub none-shown-in : (zone : Choices) (s : ℤ) → is_instant s ≡ false → None ≡ shown_in zone s
-unfolding shown_in
-none-shown-in zone s e = ap (λ (b : Bool). cond b (shown_at (s +ℤ zone.offset s)) None) (sym e)
+abbrev shown_by : ℤ → ℤ → Option ShownClock
+shown_by instant offset = option_map (with_offset offset) (shown_at (instant +ℤ offset))
 
-pub a-shown-in : (zone : Choices) (s o : ℤ) → is_instant s ≡ true → o ≡ zone.offset s → shown_at (s +ℤ o) ≡ shown_in zone s
-unfolding shown_in
-a-shown-in zone s o h e =
-    ap (λ (z : ℤ). shown_at (s +ℤ z)) e ∙ ap (λ (b : Bool). cond b (shown_at (s +ℤ zone.offset s)) None) (sym h)
+abbrev there : TimeZone → ℤ → ℤ
+there tz instant = offset_at tz (nanos_of_seconds instant)
+
+shown-there : (tz : TimeZone) (instant : ℤ) (b : Bool) → is_instant instant ≡ b
+    → cond b (shown_by instant (there tz instant)) None ≡ shown_in (choices_of tz) instant
+unfolding shown_in choices_of
+shown-there tz instant b e = ap (λ (b : Bool). cond b (shown_by instant (there tz instant)) None) (sym e)
+
+pub none-shown-in : (tz : TimeZone) (instant : ℤ) → None ≡ (offsets_of tz).at instant → None ≡ shown_in (choices_of tz) instant
+none-shown-in tz instant h = by (is_instant instant) refl h
+  where
+    by : (b : Bool) → is_instant instant ≡ b → None ≡ cond b (Some (there tz instant)) None → None ≡ shown_in (choices_of tz) instant
+    by true e h = absurd cc
+    by false e h = shown-there tz instant false e
+
+pub a-shown-in : (tz : TimeZone) (instant offset : ℤ) → Some offset ≡ (offsets_of tz).at instant → shown_by instant offset ≡ shown_in (choices_of tz) instant
+a-shown-in tz instant offset h = by (is_instant instant) refl h
+  where
+    by : (b : Bool) → is_instant instant ≡ b → Some offset ≡ cond b (Some (there tz instant)) None → shown_by instant offset ≡ shown_in (choices_of tz) instant
+    by true e h = let is : offset ≡ there tz instant = cc in ap (shown_by instant) is ∙ shown-there tz instant true e
+    by false e h = absurd cc
 
 -- a date that is filled in
-pub filled-by : (zone : Choices) (today : ShownClock) (d : Draft) (back left : ℕ) (time : Time) (r : Result Draft Fault) → Some time ≡ filled_time zone today d.fields
+pub filled-by : (zone : Choices) (today : ShownClock) (d : Draft) (back left : ℕ) (time : Time) (r : Result Draft Fault) → Some time ≡ filled_time zone today d.last.offset d.fields
     → r ≡ moved_to zone d left (time.seconds -ℤ pos back) → r ≡ fill zone today d back left
 unfolding fill
 filled-by zone today d back left time r e is = is ∙ ap (λ (o : Option Time). fill_by zone d back left o) e
-
--- each zone chooses
-
-abbrev Chosen : TimeZone → ℤ → Type 0
-Chosen tz s = (time : Option Time) × IsLocalIfAny tz (utc_time s) time
-
-nowhere : (tz : TimeZone) (s : ℤ) (dt : DateTime) → civil_nanos dt ≡ nanos_of_seconds s → ¬ (IsTimestampNanos (picked_instant tz dt)) → (r : Time) → ¬ (IsLocalTime tz (utc_time s) r)
-nowhere tz s dt e beyond r h =
-    picked-none tz dt.date dt.time dt h.instant refl refl beyond (subst (λ (n : ℤ). IsPicked tz n h.instant) (sym e ∙ civil_nanos-parts dt) h.picked)
-
-chosen-by : (tz : TimeZone) (s : ℤ) (dt : DateTime) → civil_nanos dt ≡ nanos_of_seconds s → Chosen tz s
-chosen-by tz s dt e =
-    let j = picked_instant tz dt in
-    by_lt_z j (neg_ℤ (pos 377_705_023_201_000_000_000))
-    (λ low. (None, nowhere tz s dt e (λ range. omega (arith, signed_arith, range, low))))
-    (λ first. by_lt_z (pos 253_402_207_200_999_999_999) j
-    (λ high. (None, nowhere tz s dt e (λ range. omega (arith, signed_arith, range, high))))
-    (λ last. (Some (time_in tz j), record { instant = j; picked = record { shown = dt; civil_is = e; is_choice = refl; in_range = (first, last) }; is = refl })))
-
-chosen : (tz : TimeZone) (s : ℤ) → is_instant s ≡ true → Chosen tz s
-chosen tz s e =
-    let within = instant_holds s e in
-    let range : IsCivilNanos (nanos_of_seconds s) = (omega (arith, signed_arith, within), omega (arith, signed_arith, within)) in
-    let found = datetime_exists (nanos_of_seconds s) range in
-    chosen-by tz s found.0 found.1
-
-abbrev ChosenBy : TimeZone → ℤ → Bool → Type 0
-ChosenBy tz s b = (time : Option Time) × IsChoice tz s b time
-
-choice : (tz : TimeZone) (s : ℤ) (b : Bool) → is_instant s ≡ b → ChosenBy tz s b
-choice tz s true e = chosen tz s e
-choice tz s false e = (None, refl)
-
-pub choices-of : TimeZone → Choices
-choices-of tz = record { picks = λ s. (choice tz s (is_instant s) refl).0; offset = λ s. offset_at tz (nanos_of_seconds s) }
-
-pub are-choices : (tz : TimeZone) → AreChoices tz (choices-of tz)
-unfolding choices-of
-are-choices tz = record { picks = λ s. (choice tz s (is_instant s) refl).1; offset = λ s. refl }

@@ -6,9 +6,9 @@ use Rattle.gix_date.specs.Relative.Steps.{zone_of}
 use Rattle.gix_date.specs.declared.time.Time.{Time}
 use Rattle.git_date.specs.ApproximateDrafts.{first_draft, settle}
 use Rattle.git_date.specs.ApproximateRules.{letters_rule, digits_rule}
-use Rattle.git_date.specs.ApproximateZones.{Choices, AreChoices, shown_in, filled_time}
+use Rattle.git_date.specs.ApproximateZones.{Choices, choices_of, shown_in, filled_time}
 use Rattle.git_date.specs.Dates.{now_of}
-use Rattle.git_date.specs.Outcome.{DateOutcome, IsPlaceIn, IsErrorIn}
+use Rattle.git_date.specs.Outcome.{date_of, IsPlaceIn, IsErrorIn}
 use Rattle.git_date.specs.Reading.{and_then, place_in, error_of, said_by, ended}
 use Rattle.git_date.specs.Tokens.{Token, Letters, Digits, Mark, tokens, walked}
 use Rattle.git_date.specs.declared.approximate.answer.Approximate.{Approximate}
@@ -54,7 +54,7 @@ answer text d (Some time) =
 answer text d None = Err Range
 
 abbrev pub answer_of : Choices → Today → List ℕ → Result Draft Fault → Result Approximate DateError
-answer_of zone today text (Ok d) = answer text (settle d) (filled_time zone today.shown (settle d).fields)
+answer_of zone today text (Ok d) = answer text (settle d) (filled_time zone today.shown (settle d).last.offset (settle d).fields)
 answer_of zone today text (Err e) = Err (error_of text e)
 
 abbrev pub guess_by : Choices → Now → List ℕ → Option ShownClock → Result Approximate DateError
@@ -75,14 +75,14 @@ abbrev pub exact_or_guess : Result ReadDate DateError → Result Approximate Dat
 exact_or_guess (Ok date) guessed = Ok (record { time = date.time; understood = true; ignored = date.ignored })
 exact_or_guess (Err e) guessed = if is_unreadable e then guessed else Err e
 
--- The result of `approxidate`: what the exact reader says, or else the guess. The guess is in what the moment's zone
--- chooses.
-pub record ApproximateOutcome (moment : Zoned) (text : List ℕ) (result : Result Approximate DateError) : Type 0 where
-  pub zone : Choices
-  pub are_choices : AreChoices (zone_of moment) zone
-  pub exact : Result ReadDate DateError
-  pub reads : DateOutcome (zone_of moment) (said_by (now_of moment) text) exact
-  pub is : result ≡ exact_or_guess exact (guess zone (now_of moment) text)
+-- what `approxidate` reads: what the exact reader says, or else the guess
+abbrev pub approximate : Zoned → List ℕ → Result Approximate DateError
+approximate moment text =
+    exact_or_guess (date_of (zone_of moment) (said_by (now_of moment) text)) (guess (choices_of (zone_of moment)) (now_of moment) text)
+
+-- the result of `approxidate`
+abbrev pub ApproximateOutcome : Zoned → List ℕ → Result Approximate DateError → Type 0
+ApproximateOutcome moment text result = result ≡ approximate moment text
 
 -- places are in the text: that of what was ignored, or that of a refusal
 abbrev pub HasApproximatePlacesIn : List ℕ → Result Approximate DateError → Type 0

@@ -28,7 +28,7 @@ all_fields s = record unknown {
 abbrev pub first_draft : ShownClock → Draft
 first_draft today = record {
   fields = clock_fields today;
-  weekday = today.weekday;
+  last = today;
   waiting = None;
   understood = false;
   ignored = None;
@@ -36,7 +36,7 @@ first_draft today = record {
 
 -- all that a clock shows
 abbrev pub with_shown : Draft → ShownClock → Draft
-with_shown d s = record d { fields = all_fields s; weekday = s.weekday }
+with_shown d s = record d { fields = all_fields s; last = s }
 
 -- what is ignored first: places are told by how many bytes are left from there on
 abbrev pub earlier : ℕ → Option ℕ → ℕ

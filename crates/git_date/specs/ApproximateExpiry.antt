@@ -1,7 +1,7 @@
 -- What expires: all, nothing, or what is older than a date.
 use Rattle.std.specs.Prelude.{◌≡◌, ℕ, ◌||◌, List, bytes_eq, codes, if◌then◌else◌, Option, Some, None, Result, Ok, Err}
 use Rattle.jiff.specs.declared.zoned.Zoned.{Zoned}
-use Rattle.git_date.specs.Approximate.{ApproximateOutcome, HasApproximatePlacesIn}
+use Rattle.git_date.specs.Approximate.{approximate, HasApproximatePlacesIn}
 use Rattle.git_date.specs.Outcome.{IsErrorIn}
 use Rattle.git_date.specs.declared.approximate.answer.Approximate.{Approximate}
 use Rattle.git_date.specs.declared.approximate.expiry.Expiry.{Expiry}
@@ -20,19 +20,13 @@ abbrev pub expiry_of : Result Approximate DateError → Result Expiry DateError
 expiry_of (Ok date) = if date.understood then Ok (Before date) else Err Unreadable
 expiry_of (Err e) = Err e
 
--- the result is that of the date that `approxidate` reads
-pub record IsDated (moment : Zoned) (text : List ℕ) (result : Result Expiry DateError) : Type 0 where
-  pub date : Result Approximate DateError
-  pub reads : ApproximateOutcome moment text date
-  pub is : result ≡ expiry_of date
-
-abbrev pub ExpiryBy : Zoned → List ℕ → Option Expiry → Result Expiry DateError → Type 0
-ExpiryBy moment text (Some expiry) result = result ≡ Ok expiry
-ExpiryBy moment text None result = IsDated moment text result
+abbrev pub expiry_by : Zoned → List ℕ → Option Expiry → Result Expiry DateError
+expiry_by moment text (Some expiry) = Ok expiry
+expiry_by moment text None = expiry_of (approximate moment text)
 
 -- the result of `expiry_date`: that of one of four words, or else of a date
 abbrev pub ExpiryOutcome : Zoned → List ℕ → Result Expiry DateError → Type 0
-ExpiryOutcome moment text result = ExpiryBy moment text (fixed_expiry text) result
+ExpiryOutcome moment text result = result ≡ expiry_by moment text (fixed_expiry text)
 
 -- places are in the text: those of a date, or that of a refusal
 abbrev pub HasExpiryPlacesIn : List ℕ → Result Expiry DateError → Type 0

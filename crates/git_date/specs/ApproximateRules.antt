@@ -60,7 +60,7 @@ months_rule zone today d months n = less_by months n.left (fill zone today d 0 n
 -- what a number counts
 abbrev pub unit_rule : Choices → ShownClock → Draft → Unit → Number → Result Draft Fault
 unit_rule zone today d (Seconds size) n = back_rule zone today (without_number d) (units n.value size) n
-unit_rule zone today d (Weekday day) n = back_rule zone today (without_number d) (weekday_seconds d.weekday day n.value) n
+unit_rule zone today d (Weekday day) n = back_rule zone today (without_number d) (weekday_seconds d.last.weekday day n.value) n
 unit_rule zone today d (Months size) n = months_rule zone today (without_number d) (units n.value size) n
 
 -- without a number that waits it says nothing

@@ -11,6 +11,7 @@ pub mod Offsets
 pub mod ZoneTexts
 pub mod Reading
 pub mod Fast
+pub mod Zones
 pub mod Outcome
 pub mod ApproximateWords
 pub mod ApproximateClocks

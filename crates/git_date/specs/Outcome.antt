@@ -4,10 +4,9 @@ use Rattle.std.specs.Int.Signed.{le_z}
 use Rattle.std.specs.Option.{is_some}
 use Rattle.jiff.specs.Types.{TimeZone}
 use Rattle.jiff_core.specs.Calendar.{IsBetween}
-use Rattle.gix_date.specs.Careful.Dates.{IsLocalIfAny}
-use Rattle.gix_date.specs.Families.Epoch.{utc_time}
 use Rattle.gix_date.specs.Fields.Zoned.{is_instant, first_second, last_second}
 use Rattle.gix_date.specs.declared.time.Time.{Time}
+use Rattle.git_date.specs.Zones.{offsets_of, local_offset}
 use Rattle.git_date.specs.declared.reader.Said.{Said}
 use Rattle.git_date.specs.declared.date.ReadDate.{ReadDate}
 use Rattle.git_date.specs.declared.error.DateError.{DateError}
@@ -40,29 +39,24 @@ date_at said minutes =
     })
     else Err Range
 
--- the whole minutes, toward zero, from the time at which the zone's clock shows these seconds to the seconds
-abbrev pub minutes_to : Time → ℤ → ℤ
-minutes_to local seconds = int_div (seconds -ℤ local.seconds) (pos 60)
-
--- the date where the zone's clock shows it, if the zone has an instant for that
-abbrev pub date_in : Said → Option Time → Result ReadDate DateError
-date_in said (Some local) = date_at said (minutes_to local said.seconds)
+-- the date where the zone's clock shows it, if the zone has an offset there: in whole minutes, toward zero
+abbrev pub date_in : Said → Option ℤ → Result ReadDate DateError
+date_in said (Some offset) = date_at said (int_div offset (pos 60))
 date_in said None = Err Range
 
--- no offset is known: it is the zone's, at the time at which the zone's clock shows these seconds
-pub record InZone (tz : TimeZone) (said : Said) (result : Result ReadDate DateError) : Type 0 where
-  pub local : Option Time
-  pub is_local : IsLocalIfAny tz (utc_time said.seconds) local
-  pub is : result ≡ date_in said local
+-- the date at the offset that the text says, or at that of the zone where its clock shows these seconds
+abbrev pub at_offset : TimeZone → Said → Option ℤ → Result ReadDate DateError
+at_offset tz said (Some minutes) = date_at said minutes
+at_offset tz said None = date_in said (local_offset (offsets_of tz) None said.seconds)
 
-abbrev pub AtOffset : TimeZone → Said → Option ℤ → Result ReadDate DateError → Type 0
-AtOffset tz said (Some minutes) result = result ≡ date_at said minutes
-AtOffset tz said None result = InZone tz said result
+-- what the exact reader makes of what a text says
+abbrev pub date_of : TimeZone → Result Said DateError → Result ReadDate DateError
+date_of tz (Ok said) = at_offset tz said said.offset
+date_of tz (Err e) = Err e
 
--- the result of `parse_date`: what the text says, at its offset or that of the zone
+-- the result of `parse_date`
 abbrev pub DateOutcome : TimeZone → Result Said DateError → Result ReadDate DateError → Type 0
-DateOutcome tz (Ok said) result = AtOffset tz said said.offset result
-DateOutcome tz (Err e) result = result ≡ Err e
+DateOutcome tz read result = result ≡ date_of tz read
 
 -- the minutes of the offset that a text says, if it says one
 abbrev pub said_offset : Result Said DateError → Option ℤ

@@ -1,15 +1,16 @@
 //! The public call.
-ghost use Rattle.std.specs.Prelude.{◌≡◌, true, IfOk};
-ghost use Rattle.gix_date.specs.Fields.Zoned.{is_instant};
+ghost use Rattle.std.specs.Prelude.{◌≡◌, None, IfOk};
 ghost use Rattle.gix_date.specs.Relative.Steps.{zone_of};
 ghost use Rattle.jiff.specs.Words.{plain_zone};
 ghost use Rattle.git_date.specs.Dates.{now_at, now_of};
-ghost use Rattle.git_date.specs.Outcome.{instant_seconds, date_at, DateOutcome, HasPlacesIn, InZone, SaidIsInstant, IsMinutes};
+ghost use Rattle.git_date.specs.Outcome.{instant_seconds, date_at, date_in, date_of, DateOutcome, HasPlacesIn, SaidIsInstant, IsMinutes};
 ghost use Rattle.git_date.specs.Reading.{said_by};
+ghost use Rattle.git_date.specs.Zones.{offsets_of, local_offset};
 
 use crate::error::DateError;
 use crate::reader::{Said, said_by};
-use gix_date::{Time, Zoned, time_in_zone};
+use crate::zones::local_offset;
+use gix_date::{Time, Zoned};
 use jiff::Timestamp;
 use jiff::tz::TimeZone;
 
@@ -30,7 +31,8 @@ pub struct ReadDate {
 
 /// Reads a date as Git's exact reader does. A text without an offset has that of the moment's zone.
 ///
-/// In a fold the zone chooses the earlier instant, and in a gap the offset before it, as `jiff` does. The moment itself
+/// A local time that the zone's clock shows twice or never has the offset that Git finds, in the first date of a process: in a fold
+/// that which the zone has where UTC's clock shows the time, in a gap that which is not daylight saving time's. The moment itself
 /// matters only to a date such as `7/4/2009` after a clock, which is refused if it is more than ten days ahead.
 ///
 /// The text is bytes, UTF-8 or not: each byte that is not ASCII is a mark, which is skipped. [`DateError`] says when a text is
@@ -47,22 +49,18 @@ pub fn parse_date_at(text: &[u8], now: Timestamp, zone: TimeZone<'_>) -> Result<
     ensures date { DateOutcome (plain_zone zone.entry) (said_by (now_at now.nanosecond) text.now) result }
     ensures places { HasPlacesIn text.now result }
 {
-    date_said(said_by(now, text), now, zone)
+    date_said(said_by(now, text), zone)
 }
 
 /// The date that a text says, in the zone if it says no offset.
-fn date_said(
-    said: Result<Said, DateError>,
-    now: Timestamp,
-    zone: TimeZone<'_>,
-) -> Result<ReadDate, DateError>
+fn date_said(said: Result<Said, DateError>, zone: TimeZone<'_>) -> Result<ReadDate, DateError>
     requires { IfOk said SaidIsInstant }
-    ensures { DateOutcome (plain_zone zone.entry) said result }
+    ensures { result ≡ date_of (plain_zone zone.entry) said }
 {
     match said {
         Ok(said) => match said.offset {
             Some(minutes) => date_at(said, i64::from(minutes)),
-            None => date_in_zone(said, now.to_zoned(zone)),
+            None => date_in_zone(said, zone),
         },
         Err(error) => Err(error),
     }
@@ -100,13 +98,13 @@ fn date_at(said: Said, minutes: i64) -> Result<ReadDate, DateError>
     }
 }
 
-/// The date at the offset that the moment's zone has when its clock shows these seconds.
-fn date_in_zone(said: Said, now: Zoned<'_>) -> Result<ReadDate, DateError>
+/// The date at the zone's offset where its clock shows these seconds.
+fn date_in_zone(said: Said, zone: TimeZone<'_>) -> Result<ReadDate, DateError>
     requires { SaidIsInstant said }
-    ensures { InZone (zone_of now.entry) said result }
+    ensures { result ≡ date_in said (local_offset (offsets_of (plain_zone zone.entry)) None said.seconds) }
 {
-    match time_in_zone(Time::new(said.seconds, 0), now) {
-        Some(local) => date_at(said, (said.seconds - local.seconds) / 60),
+    match local_offset(zone, None, said.seconds) {
+        Some(offset) => date_at(said, i64::from(offset / 60)),
         None => Err(DateError::Range),
     }
 }

@@ -48,6 +48,7 @@ mod show;
 mod tokens;
 mod words;
 mod zone_texts;
+mod zones;
 
 pub use approximate::{Approximate, Expiry, approxidate, expiry_date};
 pub use date::{ReadDate, parse_date, parse_date_at};

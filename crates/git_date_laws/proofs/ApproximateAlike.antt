@@ -47,8 +47,8 @@ module _ (spell : List ℕ → List ℕ) (same : IsSpelling spell) where
   waits-same w x (OneWaits n m (SameNumber value a b p)) = ap (λ (left : ℕ). Some (record { value = value; left = left })) (near a b p)
 
   givens-same : (x y : Result Draft Fault) → Givens Near Unmoved x y → y ≡ x
-  givens-same x y (ComesTo d e (SameDraft f weekday w v known i j waits h)) =
-      ap₂ (λ (w : Option Number) (i : Option ℕ). Ok (record { fields = f; weekday = weekday; waiting = w; understood = known; ignored = i })) (waits-same w v waits) h
+  givens-same x y (ComesTo d e (SameDraft f last w v known i j waits h)) =
+      ap₂ (λ (w : Option Number) (i : Option ℕ). Ok (record { fields = f; last = last; waiting = w; understood = known; ignored = i })) (waits-same w v waits) h
   givens-same x y (FailsAt a b faults) = ap (λ (e : Fault). Err e) (fault-is 0 a b faults ∙ no-farther a)
 
   none-after : (more : List Token) → Closed spell same None [] (Mark newline ∷ more) → ⊥
@@ -76,7 +76,7 @@ error-same text other Range long = refl
 
 answer-of-same : (zone : Choices) (today : Today) (text other : List ℕ) (given : Result Draft Fault) → length other ≡ length text
     → answer_of zone today other given ≡ answer_of zone today text given
-answer-of-same zone today text other (Ok d) long = answer-same text other (settle d) (filled_time zone today.shown (settle d).fields) long
+answer-of-same zone today text other (Ok d) long = answer-same text other (settle d) (filled_time zone today.shown (settle d).last.offset (settle d).fields) long
 answer-of-same zone today text other (Err e) long = ap (λ (e : DateError). Err e) (error-same text other e long)
 
 abbrev lower : List ℕ → List ℕ

@@ -58,15 +58,15 @@ waits-of (Some n) None h = absurd cc
 pub drafts-of : (d e : Draft) → bare d ≡ bare e → Drafts Anywhere Anything d e
 drafts-of d e same =
     subst (Drafts Anywhere Anything d) (ap (λ (x : Draft). record x { waiting = e.waiting; ignored = e.ignored }) same)
-    (SameDraft d.fields d.weekday d.waiting e.waiting d.understood d.ignored e.ignored (waits-of d.waiting e.waiting (ap (λ (x : Draft). x.waiting) same)) tt)
+    (SameDraft d.fields d.last d.waiting e.waiting d.understood d.ignored e.ignored (waits-of d.waiting e.waiting (ap (λ (x : Draft). x.waiting) same)) tt)
 
 bare-waits : (w x : Option Number) → Waits Anywhere w x → bare_waiting w ≡ bare_waiting x
 bare-waits w x NoneWaits = refl
 bare-waits w x (OneWaits n m (SameNumber value a b p)) = refl
 
 pub bare-drafts : (d e : Draft) → Drafts Anywhere Anything d e → bare d ≡ bare e
-bare-drafts d e (SameDraft f weekday w x known i j waits h) =
-    ap (λ (w : Option Number). record { fields = f; weekday = weekday; waiting = w; understood = known; ignored = None }) (bare-waits w x waits)
+bare-drafts d e (SameDraft f last w x known i j waits h) =
+    ap (λ (w : Option Number). record { fields = f; last = last; waiting = w; understood = known; ignored = None }) (bare-waits w x waits)
 
 pub bare-faults : (a b : Fault) → Faults Anywhere a b → bare_fault a ≡ bare_fault b
 bare-faults a b (TooLarge left other p) = refl

@@ -1,5 +1,5 @@
 -- `n UNIT ago` is that many seconds before now.
-use Rattle.std.proofs.Common.{◌≡◌, ◌∙◌, ◌≤◌, ◌<◌, ℕ, suc, ◌-◌, ◌*◌, Bool, true, false, cond, ℤ, pos, ◌+ℤ◌, ◌-ℤ◌, ◌≤ℤ◌, List, [], ◌∷◌, ◌++◌, length, length-append, Option, Some, None, Result, Ok, Err, refl, sym, ap, subst, arith}
+use Rattle.std.proofs.Common.{◌≡◌, ◌∙◌, ◌≤◌, ◌<◌, ℕ, suc, ◌-◌, ◌*◌, Bool, true, false, cond, ℤ, pos, ◌+ℤ◌, ◌-ℤ◌, ◌≤ℤ◌, List, [], ◌∷◌, ◌++◌, length, length-append, Option, Some, None, option_map, Result, Ok, Err, refl, sym, ap, ap₂, subst, arith}
 use Rattle.std.specs.Prelude.{codes, ◌==◌}
 use Rattle.std.proofs.lemmas.Bool.Decides.{nat_tests}
 use Rattle.jiff.specs.Types.{Offset}
@@ -10,11 +10,12 @@ use Rattle.gix_date.specs.Text.Front.{◌>>=◌}
 use Rattle.gix_date.specs.declared.time.Time.{Time}
 use Rattle.git_date.proofs.Walked.{nothing-left}
 use Rattle.git_date.specs.Approximate.{rule, steps, draft_of, answer, answer_of, guess_by, guess, step}
-use Rattle.git_date.specs.ApproximateDrafts.{first_draft, clock_fields, all_fields, settle, units}
+use Rattle.git_date.specs.ApproximateDrafts.{first_draft, clock_fields, all_fields, with_shown, settle, units}
 use Rattle.git_date.specs.ApproximateRules.{letters_rule, digits_rule, back_rule, meaning_rule, number_waits, group_said, is_padded}
 use Rattle.git_date.specs.ApproximateWords.{moment_named, count_named, unit_named, meaning_of}
 use Rattle.gix_date.specs.Text.LongNames.{weekday_told, month_told}
-use Rattle.git_date.specs.ApproximateZones.{Choices, one_offset, shown_in, filled_time, moved_by, moved_to, fill_by, fill}
+use Rattle.git_date.specs.ApproximateClocks.{filled_seconds}
+use Rattle.git_date.specs.ApproximateZones.{Choices, one_offset, with_offset, shown_in, filled_time, moved_by, moved_to, fill_by, fill}
 use Rattle.git_date.specs.Groups.{group_of, marked_number}
 use Rattle.git_date.specs.Numbers.{number, is_too_large, max_small}
 use Rattle.git_date.specs.Reading.{said_by}
@@ -29,6 +30,7 @@ use Rattle.git_date.specs.Types.{ShownClock}
 use Rattle.git_date.specs.Types.{Now}
 use Rattle.git_date.specs.declared.error.DateError.TheVariants.{Unreadable, Range}
 use Rattle.git_date.specs.Types.{Fault}
+use Rattle.git_date.specs.Types.{Fields}
 use Rattle.git_date.proofs.TokenRuns.{texts_are}
 use Rattle.git_date.proofs.ClocksBack.{IsClockBack, shown_of, filled-back, filled-today, shown-back}
 use Rattle.git_date_laws.proofs.ExactNothing.{nothing-said}
@@ -47,7 +49,7 @@ followed gap unit last = Mark gap ∷ Letters unit ∷ Mark last ∷ Letters (co
 abbrev pub waiting_draft : ShownClock → ℕ → ℕ → Draft
 waiting_draft c n left = record {
   fields = clock_fields c;
-  weekday = c.weekday;
+  last = c;
   waiting = Some (record { value = n; left = left });
   understood = true;
   ignored = None;
@@ -55,7 +57,7 @@ waiting_draft c n left = record {
 
 -- the draft after the unit
 abbrev pub moved_draft : ShownClock → Draft
-moved_draft c = record { fields = all_fields c; weekday = c.weekday; waiting = None; understood = true; ignored = None }
+moved_draft c = record { fields = all_fields c; last = c; waiting = None; understood = true; ignored = None }
 
 pub not-zero : (n : ℕ) → 1 ≤ n → (n == 0) ≡ false
 not-zero n h = grind (arith, nat_tests)
@@ -100,12 +102,20 @@ unit-walk zone today n d waits there digits gap unit last wait moves =
 abbrev picked : ℤ → ℤ → Time
 picked s o = record { seconds = s -ℤ o; offset = o }
 
-picks-is : (o s : ℤ) → is_instant s ≡ true → is_instant (s -ℤ o) ≡ true → (one_offset o).picks s ≡ Some (picked s o)
+picks-is : (o s : ℤ) → is_instant s ≡ true → is_instant (s -ℤ o) ≡ true → (one_offset o).picks o s ≡ Some (picked s o)
 picks-is o s a b = rw (a, b) refl
 
-pub shown-is : (o n : ℤ) → is_instant n ≡ true → IsClockBack (n +ℤ o) → shown_in (one_offset o) n ≡ Some (shown_of (n +ℤ o))
+-- what the clock of such a zone shows
+abbrev pub clock_at : ℤ → ℤ → ShownClock
+clock_at o x = with_offset o (shown_of x)
+
+pub shown-is : (o n : ℤ) → is_instant n ≡ true → IsClockBack (n +ℤ o) → shown_in (one_offset o) n ≡ Some (clock_at o (n +ℤ o))
 unfolding shown_in
-shown-is o n a h = rw a (shown-back (n +ℤ o) h)
+shown-is o n a h = rw a (ap (option_map (with_offset o)) (shown-back (n +ℤ o) h))
+
+pub filled-clock : (o x : ℤ) → IsClockBack x → filled_seconds (clock_at o x) (clock_fields (clock_at o x)) ≡ Some x
+unfolding filled_seconds
+filled-clock o x h = filled-today x h
 
 -- the moment and the time that is told, by the clock
 pub record AreClocks (o now : ℤ) (back : ℕ) : Type 0 where
@@ -133,79 +143,106 @@ are-clocks o now back instant h =
       since_1970 = omega (arith, signed_arith, since);
     }
 
+-- the same in any zone, by its offsets at the two
+pub record Reaches (zone : Choices) (now : ℤ) (back : ℕ) (o then : ℤ) : Type 0 where
+  pub now_shown : shown_in zone now ≡ Some (clock_at o (now +ℤ o))
+  pub told_shown : shown_in zone (now -ℤ pos back) ≡ Some (clock_at then (now -ℤ pos back +ℤ then))
+  pub filled_now : filled_time zone (clock_at o (now +ℤ o)) o (clock_fields (clock_at o (now +ℤ o))) ≡ Some (record { seconds = now; offset = o })
+  pub filled_told : filled_time zone (clock_at o (now +ℤ o)) then (all_fields (clock_at then (now -ℤ pos back +ℤ then)))
+      ≡ Some (record { seconds = now -ℤ pos back; offset = then })
+  pub since_1970 : pos 0 ≤ℤ (now -ℤ pos back)
+
 module _ (o now : ℤ) (back : ℕ) (are : AreClocks o now back) where
   abbrev pub today_shown : ShownClock
-  today_shown = shown_of (now +ℤ o)
+  today_shown = clock_at o (now +ℤ o)
 
   abbrev told_shown : ShownClock
-  told_shown = shown_of (now -ℤ pos back +ℤ o)
+  told_shown = clock_at o (now -ℤ pos back +ℤ o)
 
-  pub filled-now : filled_time (one_offset o) today_shown (clock_fields today_shown) ≡ Some (record { seconds = now; offset = o })
+  pub filled-now : filled_time (one_offset o) today_shown o (clock_fields today_shown) ≡ Some (record { seconds = now; offset = o })
   unfolding filled_time
   filled-now =
       let same : now +ℤ o -ℤ o ≡ now = omega (arith, signed_arith) in
-      ap (λ s. s >>= (one_offset o).picks) (filled-today (now +ℤ o) are.now_shown)
+      ap (λ s. s >>= (one_offset o).picks o) (filled-clock o (now +ℤ o) are.now_shown)
       ∙ picks-is o (now +ℤ o) are.now_clock (subst (λ (s : ℤ). is_instant s ≡ true) (sym same) are.now_instant)
       ∙ ap (λ (s : ℤ). let t : Time = record { seconds = s; offset = o } in Some t) same
 
-  filled-told : filled_time (one_offset o) today_shown (all_fields told_shown) ≡ Some (record { seconds = now -ℤ pos back; offset = o })
+  filled-told : filled_time (one_offset o) today_shown o (all_fields told_shown) ≡ Some (record { seconds = now -ℤ pos back; offset = o })
   unfolding filled_time
   filled-told =
       let same : now -ℤ pos back +ℤ o -ℤ o ≡ now -ℤ pos back = omega (arith, signed_arith) in
-      ap (λ s. s >>= (one_offset o).picks) (filled-back (now -ℤ pos back +ℤ o) today_shown are.told_shown)
+      ap (λ s. s >>= (one_offset o).picks o) (filled-back (now -ℤ pos back +ℤ o) today_shown are.told_shown)
       ∙ picks-is o (now -ℤ pos back +ℤ o) are.told_clock (subst (λ (s : ℤ). is_instant s ≡ true) (sym same) are.told_instant)
       ∙ ap (λ (s : ℤ). let t : Time = record { seconds = s; offset = o } in Some t) same
 
-  pub filled-moves : (n left : ℕ)
-      → fill (one_offset o) today_shown (record (waiting_draft today_shown n left) { waiting = None }) back left ≡ Ok (moved_draft told_shown)
-  unfolding fill moved_to
-  filled-moves n left =
-      let d : Draft = record (waiting_draft today_shown n left) { waiting = None } in
-      ap (λ (t : Option Time). fill_by (one_offset o) d back left t) filled-now
-      ∙ ap (λ (s : Option ShownClock). moved_by d left s) (shown-is o (now -ℤ pos back) are.told_instant are.told_shown)
+  pub reaches : Reaches (one_offset o) now back o o
+  reaches = record {
+    now_shown = shown-is o now are.now_instant are.now_shown;
+    told_shown = shown-is o (now -ℤ pos back) are.told_instant are.told_shown;
+    filled_now = filled-now;
+    filled_told = filled-told;
+    since_1970 = are.since_1970;
+  }
 
-  answered : (text : List ℕ) → answer text (settle (moved_draft told_shown)) (filled_time (one_offset o) today_shown (settle (moved_draft told_shown)).fields)
-      ≡ Ok (exactly_back now o back)
+module _ (zone : Choices) (now : ℤ) (back : ℕ) (o then : ℤ) (are : Reaches zone now back o then) where
+  abbrev now_clock : ShownClock
+  now_clock = clock_at o (now +ℤ o)
+
+  abbrev then_clock : ShownClock
+  then_clock = clock_at then (now -ℤ pos back +ℤ then)
+
+  pub moves : (d : Draft) (left : ℕ) → d.fields ≡ clock_fields now_clock → d.last ≡ now_clock → fill zone now_clock d back left ≡ Ok (with_shown d then_clock)
+  unfolding fill moved_to
+  moves d left fields last =
+      ap₂ (λ (f : Fields) (shown : ShownClock). fill_by zone d back left (filled_time zone now_clock shown.offset f)) fields last
+      ∙ ap (λ (t : Option Time). fill_by zone d back left t) are.filled_now
+      ∙ ap (λ (s : Option ShownClock). moved_by d left s) are.told_shown
+
+  pub filled-moves : (n left : ℕ) → fill zone now_clock (record (waiting_draft now_clock n left) { waiting = None }) back left ≡ Ok (moved_draft then_clock)
+  filled-moves n left = moves (record (waiting_draft now_clock n left) { waiting = None }) left refl refl
+
+  pub answered : (text : List ℕ) → answer text (settle (moved_draft then_clock)) (filled_time zone now_clock (settle (moved_draft then_clock)).last.offset (settle (moved_draft then_clock)).fields)
+      ≡ Ok (exactly_back now then back)
   unfolding settle
   answered text =
-      ap (λ (t : Option Time). answer text (moved_draft told_shown) t) filled-told
-      ∙ ap (λ (b : Bool). cond b (Ok (exactly_back now o back)) (Err Range)) (z_holds (pos 0) (now -ℤ pos back) are.since_1970)
+      ap (λ (t : Option Time). answer text (moved_draft then_clock) t) are.filled_told
+      ∙ ap (λ (b : Bool). cond b (Ok (exactly_back now then back)) (Err Range)) (z_holds (pos 0) (now -ℤ pos back) are.since_1970)
 
 -- the tokens of such a text move the draft
-module _ (o now : ℤ) (this : Now) (digits : List ℕ) (gap : ℕ) (unit : List ℕ) (last size : ℕ) (are : AreClocks o now (number digits * size))
+module _ (zone : Choices) (now o then : ℤ) (this : Now) (digits : List ℕ) (gap : ℕ) (unit : List ℕ) (last size : ℕ)
+    (are : Reaches zone now (number digits * size) o then)
     (fits : number digits * size ≤ max_small) (small : number digits ≤ max_small) (some : 1 ≤ number digits) (padded : is_padded digits ≡ false)
     (means : meaning_of unit ≡ Some (meaning.Unit (Seconds size))) where
   abbrev here : Today
-  here = record { now = this; shown = shown_of (now +ℤ o) }
+  here = record { now = this; shown = clock_at o (now +ℤ o) }
 
   abbrev there : Draft
-  there = moved_draft (shown_of (now -ℤ pos (number digits * size) +ℤ o))
+  there = moved_draft (clock_at then (now -ℤ pos (number digits * size) +ℤ then))
 
   abbrev ts : List Token
   ts = followed gap unit last
 
   abbrev waits : Draft
-  waits = waiting_draft (shown_of (now +ℤ o)) (number digits) (bytes_left (Digits digits ∷ ts))
+  waits = waiting_draft here.shown (number digits) (bytes_left (Digits digits ∷ ts))
 
-  moved-word : letters_rule (one_offset o) here.shown waits unit (Mark last ∷ Letters (codes "ago") ∷ []) ≡ Ok there
+  moved-word : letters_rule zone here.shown waits unit (Mark last ∷ Letters (codes "ago") ∷ []) ≡ Ok there
   moved-word =
-      unit-moves (one_offset o) (shown_of (now +ℤ o)) (shown_of (now -ℤ pos (number digits * size) +ℤ o)) unit last (number digits) size (bytes_left (Digits digits ∷ ts)) means fits
-      (filled-moves o now (number digits * size) are (number digits) (bytes_left (Digits digits ∷ ts)))
+      unit-moves zone here.shown (clock_at then (now -ℤ pos (number digits * size) +ℤ then)) unit last (number digits) size (bytes_left (Digits digits ∷ ts)) means fits
+      (filled-moves zone now (number digits * size) o then are (number digits) (bytes_left (Digits digits ∷ ts)))
 
-  drafted : (k : ℕ) → steps (one_offset o) here (suc (suc (suc (suc (suc k))))) (first_draft here.shown) (Digits digits ∷ ts) ≡ Ok there
+  drafted : (k : ℕ) → steps zone here (suc (suc (suc (suc (suc k))))) (first_draft here.shown) (Digits digits ∷ ts) ≡ Ok there
   drafted k =
-      unit-walk (one_offset o) here k (first_draft here.shown) waits there digits gap unit last (digits-wait (one_offset o) here digits gap unit last small some padded) moved-word
+      unit-walk zone here k (first_draft here.shown) waits there digits gap unit last (digits-wait zone here digits gap unit last small some padded) moved-word
 
   guessed : (text : List ℕ) (k : ℕ) → this.seconds ≡ now → tokens text ≡ Digits digits ∷ ts → length text ≡ suc (suc (suc (suc (suc k))))
-      → guess (one_offset o) this text ≡ Ok (exactly_back now o (number digits * size))
+      → guess zone this text ≡ Ok (exactly_back now then (number digits * size))
   unfolding guess draft_of
   guessed text k same is long =
-      let shown : shown_in (one_offset o) this.seconds ≡ Some (shown_of (now +ℤ o)) =
-      ap (λ (n : ℤ). shown_in (one_offset o) n) same ∙ shown-is o now are.now_instant are.now_shown in
-      let drafts : draft_of (one_offset o) here text ≡ Ok there = rw (is, long) (drafted k) in
-      ap (λ (s : Option ShownClock). guess_by (one_offset o) this text s) shown
-      ∙ ap (λ (d : Result Draft Fault). answer_of (one_offset o) here text d) drafts
-      ∙ answered o now (number digits * size) are text
+      let shown : shown_in zone this.seconds ≡ Some here.shown = ap (λ (n : ℤ). shown_in zone n) same ∙ are.now_shown in
+      let drafts : draft_of zone here text ≡ Ok there = rw (is, long) (drafted k) in
+      ap (λ (s : Option ShownClock). guess_by zone this text s) shown
+      ∙ ap (λ (d : Result Draft Fault). answer_of zone here text d) drafts
+      ∙ answered zone now (number digits * size) o then are text
 
 -- the text has as many bytes as tokens, or more
 pub long-enough : (text digits : List ℕ) (gap : ℕ) (unit : List ℕ) (last : ℕ) → tokens text ≡ Digits digits ∷ followed gap unit last → 5 ≤ length text
@@ -218,30 +255,37 @@ pub few : (n : ℕ) → n < 100_000_000 → n ≤ max_small
 few n h = omega (arith, h)
 
 -- what both readers make of a text that only the approximate one reads
-abbrev pub Says : ℤ → Now → List ℕ → Approximate → Type 0
-Says o this text date = (said_by this text ≡ Err Unreadable) × (guess (one_offset o) this text ≡ Ok date)
+abbrev pub SaysIn : Choices → Now → List ℕ → Approximate → Type 0
+SaysIn zone this text date = (said_by this text ≡ Err Unreadable) × (guess zone this text ≡ Ok date)
 
-abbrev pub SaysBack : ℤ → Now → List ℕ → ℕ → Type 0
-SaysBack o this text back = Says o this text (exactly_back this.seconds o back)
+abbrev pub Says : ℤ → Now → List ℕ → Approximate → Type 0
+Says o this text date = SaysIn (one_offset o) this text date
 
 -- by the digits' own number
-by-digits : (this : Now) (text : List ℕ) (o : Offset) (count size : ℕ) → is_instant this.seconds ≡ true → (says : CountsBack text count size)
-    → IsReached this.seconds o.seconds (number says.digits * size) → 1 ≤ number says.digits → number says.digits < 100_000_000
-    → SaysBack o.seconds this text (number says.digits * size)
-by-digits this text o count size instant says reached some few_digits =
+by-digits : (zone : Choices) (o then : ℤ) (this : Now) (text : List ℕ) (count size : ℕ) (says : CountsBack text count size)
+    → Reaches zone this.seconds (number says.digits * size) o then → number says.digits * size ≤ max_small
+    → 1 ≤ number says.digits → number says.digits < 100_000_000 → SaysIn zone this text (exactly_back this.seconds then (number says.digits * size))
+by-digits zone o then this text count size says reached fits some few_digits =
     let least = long-enough text says.digits says.gap says.unit says.last says.is in
     let k = length text - 5 in
-    let long : length text ≡ suc (suc (suc (suc (suc k)))) = omega (arith, least) in
-    let are = are-clocks o this.seconds (number says.digits * size) instant reached in (
+    let long : length text ≡ suc (suc (suc (suc (suc k)))) = omega (arith, least) in (
       nothing-said this text says.digits says.gap says.unit says.last says.no_date few_digits says.is,
-      guessed o.seconds this.seconds this says.digits says.gap says.unit says.last size are reached.fits (few (number says.digits) few_digits) some says.not_padded says.means text k refl says.is long,
+      guessed zone this.seconds o then this says.digits says.gap says.unit says.last size reached fits (few (number says.digits) few_digits) some says.not_padded says.means text k refl says.is long,
     )
 
-pub counted-back : (this : Now) (text : List ℕ) (o : Offset) (count size : ℕ) → is_instant this.seconds ≡ true → CountsBack text count size
-    → IsReached this.seconds o.seconds (count * size) → SaysBack o.seconds this text (count * size)
-counted-back this text o count size instant says reached =
+-- in any zone
+pub counted-in : (zone : Choices) (o then : ℤ) (this : Now) (text : List ℕ) (count size : ℕ) → CountsBack text count size → count * size ≤ max_small
+    → Reaches zone this.seconds (count * size) o then → SaysIn zone this text (exactly_back this.seconds then (count * size))
+counted-in zone o then this text count size says fits reached =
     let same : number says.digits ≡ count = says.counts in
-    let here : IsReached this.seconds o.seconds (number says.digits * size) = subst (λ (n : ℕ). IsReached this.seconds o.seconds (n * size)) (sym same) reached in
+    let here : Reaches zone this.seconds (number says.digits * size) o then = subst (λ (n : ℕ). Reaches zone this.seconds (n * size) o then) (sym same) reached in
+    let within : number says.digits * size ≤ max_small = subst (λ (n : ℕ). n * size ≤ max_small) (sym same) fits in
     let some : 1 ≤ number says.digits = subst (λ (n : ℕ). 1 ≤ n) (sym same) says.not_zero in
     let less : number says.digits < 100_000_000 = subst (λ (n : ℕ). n < 100_000_000) (sym same) says.no_epoch in
-    subst (λ (n : ℕ). SaysBack o.seconds this text (n * size)) same (by-digits this text o count size instant says here some less)
+    subst (λ (n : ℕ). SaysIn zone this text (exactly_back this.seconds then (n * size))) same (by-digits zone o then this text count size says here within some less)
+
+pub counted-back : (this : Now) (text : List ℕ) (o : Offset) (count size : ℕ) → is_instant this.seconds ≡ true → CountsBack text count size
+    → IsReached this.seconds o.seconds (count * size) → Says o.seconds this text (exactly_back this.seconds o.seconds (count * size))
+counted-back this text o count size instant says reached =
+    let are = are-clocks o this.seconds (count * size) instant reached in
+    counted-in (one_offset o.seconds) o.seconds o.seconds this text count size says reached.fits (reaches o.seconds this.seconds (count * size) are)

@@ -7,21 +7,21 @@ use Rattle.jiff_core.proofs.SignedLemmas.{signed_arith, one_part}
 use Rattle.gix_date.proofs.Fields.Instants.{instant_from}
 use Rattle.gix_date.specs.Fields.Zoned.{is_instant, whole_seconds}
 use Rattle.gix_date.specs.Relative.Steps.{zone_of}
-use Rattle.git_date.specs.Approximate.{exact_or_guess, guess}
-use Rattle.git_date.specs.ApproximateZones.{Choices, AreChoices, one_offset}
+use Rattle.git_date.specs.Approximate.{approximate, exact_or_guess, guess}
+use Rattle.git_date.specs.ApproximateZones.{Choices, choices_of, one_offset}
 use Rattle.git_date.specs.Dates.{now_of}
 use Rattle.git_date.specs.Heard.{told}
-use Rattle.git_date.specs.Outcome.{DateOutcome}
+use Rattle.git_date.specs.Outcome.{date_of, DateOutcome}
 use Rattle.git_date.specs.Reading.{said_by}
+use Rattle.git_date.specs.Types.{Said}
 use Rattle.git_date.specs.declared.approximate.answer.Approximate.{Approximate}
 use Rattle.git_date.specs.declared.date.ReadDate.{ReadDate}
 use Rattle.git_date.specs.declared.error.DateError.{DateError}
 use Rattle.git_date.specs.declared.error.DateError.TheVariants.{Unreadable}
 use Rattle.git_date_laws.proofs.Alike.{same-case}
 use Rattle.git_date_laws.proofs.ApproximateAlike.{guess-in-any-case}
-use Rattle.git_date_laws.proofs.FixedChoices.{fixed-choices, choices-once}
+use Rattle.git_date_laws.proofs.FixedChoices.{fixed-choices}
 use Rattle.git_date_laws.proofs.ExactBack.{counted-back}
-use Rattle.git_date_laws.proofs.ExactOnce.{date-once}
 use Rattle.git_date_laws.proofs.HeardTexts.{guesses-alike}
 use Rattle.git_date_laws.proofs.Usual.{guess-usual}
 use Rattle.git_date_laws.specs.ApproximateLaws.{HasExactAnswer, HasOneAnswer, IsExactlyBack, HasAnswerInAnyCase, IgnoresMarks, IgnoresNoWord}
@@ -30,14 +30,12 @@ abbrev exact_of : Zoned → List ℕ → Choices → Result ReadDate DateError �
 exact_of moment text zone exact = exact_or_guess exact (guess zone (now_of moment) text)
 
 pub exact_answers : (moment : Zoned) (text : List ℕ) → HasExactAnswer moment text
-exact_answers moment text date result reads h =
-    h.is ∙ ap (exact_of moment text h.zone) (date-once (zone_of moment) (said_by (now_of moment) text) h.exact (Ok date) h.reads reads)
+exact_answers moment text date result reads h = h ∙ ap (exact_of moment text (choices_of (zone_of moment))) (sym reads)
 
 pub one_answers : (moment : Zoned) (text : List ℕ) → HasOneAnswer moment text
 one_answers moment text o exact result fixed reads h =
-    let here : AreChoices (fixed_zone o) h.zone = subst (λ (tz : TimeZone). AreChoices tz h.zone) fixed h.are_choices in
-    h.is ∙ ap (exact_of moment text h.zone) (date-once (zone_of moment) (said_by (now_of moment) text) h.exact exact h.reads reads)
-    ∙ ap (λ (zone : Choices). exact_of moment text zone exact) (choices-once (fixed_zone o) h.zone (one_offset o.seconds) here (fixed-choices o))
+    h ∙ ap (exact_of moment text (choices_of (zone_of moment))) (sym reads)
+    ∙ ap (λ (zone : Choices). exact_of moment text zone exact) (ap choices_of fixed ∙ fixed-choices o)
 
 whole-instant : (n : ℤ) → IsTimestampNanos n → is_instant (whole_seconds n) ≡ true
 whole-instant n range =
@@ -55,30 +53,20 @@ exactly_backs moment text o count size result fixed says reached answers =
 
 pub same_in_any_case : (moment : Zoned) (text : List ℕ) → HasAnswerInAnyCase moment text
 same_in_any_case moment text other result again same h g =
-    let tz = zone_of moment in
-    let said = same-case (now_of moment) text other same in
-    let here : DateOutcome tz (said_by (now_of moment) other) h.exact =
-    subst (λ said. DateOutcome tz said h.exact) said h.reads in
-    h.is ∙ ap (exact_of moment text h.zone) (date-once tz (said_by (now_of moment) other) h.exact g.exact here g.reads)
-    ∙ ap (λ (zone : Choices). exact_of moment text zone g.exact) (choices-once tz h.zone g.zone h.are_choices g.are_choices)
-    ∙ ap (exact_or_guess g.exact) (guess-in-any-case g.zone (now_of moment) text other same) ∙ sym g.is
+    let zone = choices_of (zone_of moment) in
+    h ∙ ap (λ (said : Result Said DateError). exact_of moment text zone (date_of (zone_of moment) said)) (same-case (now_of moment) text other same)
+    ∙ ap (exact_or_guess (date_of (zone_of moment) (said_by (now_of moment) other))) (guess-in-any-case zone (now_of moment) text other same) ∙ sym g
 
 -- an unreadable text has its guess
-guessed : (moment : Zoned) (text : List ℕ) (zone : Choices) (exact : Result ReadDate DateError) → DateOutcome (zone_of moment) (said_by (now_of moment) text) exact
-    → DateOutcome (zone_of moment) (said_by (now_of moment) text) (Err Unreadable)
-    → exact_or_guess exact (guess zone (now_of moment) text) ≡ guess zone (now_of moment) text
-guessed moment text zone exact reads unreadable =
-    ap (λ (x : Result ReadDate DateError). exact_or_guess x (guess zone (now_of moment) text))
-    (date-once (zone_of moment) (said_by (now_of moment) text) exact (Err Unreadable) reads unreadable)
+pub guessed : (moment : Zoned) (text : List ℕ) → DateOutcome (zone_of moment) (said_by (now_of moment) text) (Err Unreadable)
+    → approximate moment text ≡ guess (choices_of (zone_of moment)) (now_of moment) text
+guessed moment text unreadable = ap (exact_of moment text (choices_of (zone_of moment))) (sym unreadable)
 
 pub ignores-marks : (moment : Zoned) (text : List ℕ) → IgnoresMarks moment text
 ignores-marks moment text other result again same none nothing h g =
-    let now = now_of moment in
-    ap told (h.is ∙ guessed moment text h.zone h.exact h.reads none)
-    ∙ ap (λ (zone : Choices). told (guess zone now text)) (choices-once (zone_of moment) h.zone g.zone h.are_choices g.are_choices)
-    ∙ guesses-alike g.zone now text other same
-    ∙ ap told (sym (g.is ∙ guessed moment other g.zone g.exact g.reads nothing))
+    ap told (h ∙ guessed moment text none) ∙ guesses-alike (choices_of (zone_of moment)) (now_of moment) text other same
+    ∙ ap told (sym (g ∙ guessed moment other nothing))
 
 pub ignores-no-word : (moment : Zoned) (text : List ℕ) → IgnoresNoWord moment text
 ignores-no-word moment text date unreadable h none =
-    guess-usual h.zone (now_of moment) text date (sym (h.is ∙ guessed moment text h.zone h.exact h.reads unreadable)) none
+    guess-usual (choices_of (zone_of moment)) (now_of moment) text date (sym (h ∙ guessed moment text unreadable)) none

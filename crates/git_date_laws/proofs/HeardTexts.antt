@@ -279,8 +279,8 @@ module _ (zone : Choices) (today : Today) where
       → told (answer_of zone today text a) ≡ told (answer_of zone today other b)
   answers-alike text other (Ok d) (Ok e) same =
       let settled = settle-alike d e (same-draft (bare d) (bare e) same) in
-      ap (λ (x : Draft). told (answer text (settle d) (filled_time zone today.shown x.fields))) settled
-      ∙ answer-alike text other (settle d) (settle e) (filled_time zone today.shown (settle e).fields) settled
+      ap (λ (x : Draft). told (answer text (settle d) (filled_time zone today.shown x.last.offset x.fields))) settled
+      ∙ answer-alike text other (settle d) (settle e) (filled_time zone today.shown (settle e).last.offset (settle e).fields) settled
   answers-alike text other (Err x) (Err y) same =
       error-told text x ∙ ap fault_told (same-fault (bare_fault x) (bare_fault y) same) ∙ sym (error-told other y)
   answers-alike text other (Ok d) (Err y) same = absurd cc

@@ -21,7 +21,6 @@ mod Alike
 mod Changed
 mod ExactBack
 mod ExactNothing
-mod ExactOnce
 mod FixedChoices
 mod HumanTexts
 mod LessMonths
@@ -37,3 +36,5 @@ mod RelativeBack
 mod RelativeMonths
 mod RelativeTexts
 mod Spelling
+mod EveryZone
+pub mod ClockRead

@@ -45,7 +45,7 @@ use Rattle.git_date.specs.Types.{Fault}
 use Rattle.git_date.specs.FaultCases.{BackTooFar}
 use Rattle.git_date.specs.Types.{Fields}
 use Rattle.git_date.proofs.ClocksBack.{shown_of, before-1900}
-use Rattle.git_date_laws.proofs.ExactBack.{followed, waiting_draft, moved_draft, go-on, digits-wait, shown-is, AreClocks, filled-moves, are-clocks, long-enough, few, unit-walk}
+use Rattle.git_date_laws.proofs.ExactBack.{followed, clock_at, waiting_draft, moved_draft, go-on, digits-wait, shown-is, AreClocks, reaches, filled-moves, are-clocks, long-enough, few, unit-walk}
 use Rattle.git_date_laws.proofs.ExactNothing.{nothing-said}
 use Rattle.git_date.proofs.HeldClocks.{shown-by}
 use Rattle.git_date.specs.ApproximateBack.{CountsMonths, IsReached}
@@ -99,11 +99,11 @@ module _ (text : List ℕ) (c : ShownClock) (months : ℕ) (o : ℤ) (date : App
   picked false b is = absurd cc
 
   filled-by : (b : Bool) → answered (cond b (Some (civil_seconds (first_of (month_back c months / 12) (month_back c months % 12 + 1)) midnight (pos 0))) None
-      >>= (λ (start : ℤ). Some (seconds_after start (Some c.day) c.hour c.minute c.second)) >>= (one_offset o).picks) ≡ Ok date → IsMonthsBack c months o date
+      >>= (λ (start : ℤ). Some (seconds_after start (Some c.day) c.hour c.minute c.second)) >>= (one_offset o).picks c.offset) ≡ Ok date → IsMonthsBack c months o date
   filled-by true is = picked (is_instant s) (is_instant (s -ℤ o)) is
   filled-by false is = absurd cc
 
-  months-answered : answered (filled_time (one_offset o) c (fields_back c (month_back c months))) ≡ Ok date → IsMonthsBack c months o date
+  months-answered : answered (filled_time (one_offset o) c c.offset (fields_back c (month_back c months))) ≡ Ok date → IsMonthsBack c months o date
   unfolding filled_time filled_seconds first_second
   months-answered is = filled-by (is_shown_month (month_back c months / 12) (month_back c months % 12 + 1)) is
 
@@ -117,7 +117,7 @@ module _ (o now : ℤ) (this : Now) (digits : List ℕ) (gap : ℕ) (unit : List
     (small : number digits ≤ max_small) (some : 1 ≤ number digits) (padded : is_padded digits ≡ false)
     (means : meaning_of unit ≡ Some (meaning.Unit (Months size))) where
   abbrev c : ShownClock
-  c = shown_of (now +ℤ o)
+  c = clock_at o (now +ℤ o)
 
   abbrev here : Today
   here = record { now = this; shown = c }
@@ -140,7 +140,7 @@ module _ (o now : ℤ) (this : Now) (digits : List ℕ) (gap : ℕ) (unit : List
   filled : fill (one_offset o) c (record waits { waiting = None }) 0 left ≡ Ok (moved_draft c)
   filled =
       let same : now -ℤ pos 0 +ℤ o ≡ now +ℤ o = omega (arith, signed_arith) in
-      filled-moves o now 0 are (number digits) left ∙ ap (λ (x : ℤ). Ok (moved_draft (shown_of x))) same
+      filled-moves (one_offset o) now 0 o o (reaches o now 0 are) (number digits) left ∙ ap (λ (x : ℤ). Ok (moved_draft (clock_at o x))) same
 
   word-none : less_months (all_fields c) months ≡ None → letters_rule (one_offset o) c waits unit (Mark last ∷ ago) ≡ Err (BackTooFar left)
   unfolding letters_rule meaning_rule months_rule
@@ -214,7 +214,9 @@ months-back this text o count size instant says reached =
     subst (λ (n : ℕ). SaysMonths o.seconds this text n size) same
     (record {
       unread = nothing-said this text says.digits says.gap says.unit says.last says.no_date less says.is;
-      guesses = λ date h. months-guessed o.seconds this.seconds this says.digits says.gap says.unit says.last size are (few (number says.digits) less) some says.not_padded says.means text k date refl says.is long h;
+      guesses = λ date h.
+      let back = months-guessed o.seconds this.seconds this says.digits says.gap says.unit says.last size are (few (number says.digits) less) some says.not_padded says.means text k date refl says.is long h in
+      record { from_1900 = back.from_1900; since_1970 = back.since_1970; is = back.is };
     })
 
 -- what `jiff` shows at an instant from 1970 on, as a clock that is held

@@ -6,7 +6,7 @@ use Rattle.gix_date.proofs.Fields.Instants.{z_holds}
 use Rattle.gix_date.specs.Text.Characters.{space}
 use Rattle.gix_date.specs.declared.time.Time.{Time}
 use Rattle.git_date.proofs.ClocksBack.{shown_of}
-use Rattle.git_date_laws.proofs.ExactBack.{Says, long-enough, shown-is, unit-walk}
+use Rattle.git_date_laws.proofs.ExactBack.{Says, clock_at, long-enough, shown-is, unit-walk}
 use Rattle.git_date_laws.proofs.ExactNothing.{nothing-said}
 use Rattle.git_date.specs.Approximate.{answer, answer_of, draft_of, guess, guess_by, steps}
 use Rattle.git_date.specs.ApproximateDrafts.{clock_fields, first_draft, settle}
@@ -26,18 +26,18 @@ use Rattle.git_date.specs.declared.error.DateError.TheVariants.{Range}
 use Rattle.git_date.specs.Types.{Fault}
 use Rattle.git_date.specs.Types.{Fields}
 use Rattle.git_date_laws.proofs.LessMonths.{earlier_fields, days_back}
-use Rattle.git_date_laws.proofs.MonthsTold.{ready, waits, Stands, Fills, digits-wait, fills-now, unit-moves, fills-after}
+use Rattle.git_date_laws.proofs.MonthsTold.{ready, waits, Stands, Fills, none-preferred, digits-wait, fills-now, unit-moves, fills-after}
 use Rattle.git_date_laws.proofs.RelativeTexts.{IsCount, tail_tokens}
 
 abbrev pub told : ℤ → ℤ → Approximate
 told o s = record { time = record { seconds = s; offset = o }; understood = true; ignored = None }
 
 -- a draft whose fields come to an instant from 1970 on is answered so
-pub answered : (o s : ℤ) (today : ShownClock) (text : List ℕ) (f : Fields) (weekday : ℕ) → Fills o today f s → pos 0 ≤ℤ s
-    → answer text (settle (ready f weekday true)) (filled_time (one_offset o) today (settle (ready f weekday true)).fields) ≡ Ok (told o s)
+pub answered : (o s : ℤ) (today : ShownClock) (text : List ℕ) (f : Fields) (last : ShownClock) → Fills o today f s → pos 0 ≤ℤ s
+    → answer text (settle (ready f last true)) (filled_time (one_offset o) today (settle (ready f last true)).last.offset (settle (ready f last true)).fields) ≡ Ok (told o s)
 unfolding settle
-answered o s today text f weekday is since =
-    ap (λ (t : Option Time). answer text (ready f weekday true) t) is
+answered o s today text f last is since =
+    ap (λ (t : Option Time). answer text (ready f last true) t) (none-preferred o today last.offset f ∙ is)
     ∙ ap (λ (b : Bool). cond b (Ok (told o s)) (Err Range)) (z_holds (pos 0) s since)
 
 -- back from now
@@ -49,10 +49,10 @@ module _ (this : Now) (o : Offset) (k : ℕ) (at : Stands o.seconds this.seconds
   now = this.seconds
 
   abbrev here : Today
-  here = record { now = this; shown = shown_of (now +ℤ o.seconds) }
+  here = record { now = this; shown = clock_at o.seconds (now +ℤ o.seconds) }
 
   abbrev there_draft : Draft
-  there_draft = ready (earlier_fields here.shown k) here.shown.weekday true
+  there_draft = ready (earlier_fields here.shown k) here.shown true
 
   drafted : (run word : List ℕ) (size n : ℕ) → number run * size ≡ k → k ≤ max_small → number run ≤ max_small → 1 ≤ number run → is_padded run ≡ false
       → meaning_of word ≡ Some (meaning.Unit (Months size))
@@ -60,12 +60,12 @@ module _ (this : Now) (o : Offset) (k : ℕ) (at : Stands o.seconds this.seconds
   drafted run word size n product fits small some padded means =
       let zone : Choices = one_offset o.seconds in
       let f = clock_fields here.shown in
-      let weekday = here.shown.weekday in
+      let last = here.shown in
       let ago : List Token = Letters (codes "ago") ∷ [] in
       let left = bytes_left (Digits run ∷ tail_tokens word) in
-      let moved = unit-moves o.seconds here.shown f now at (fills-now o.seconds now at) k late weekday (number run) size left word space ago means product fits in
-      unit-walk zone here n (first_draft here.shown) (waits f weekday (number run) left) there_draft run space word space
-      (digits-wait zone here f weekday false run space word (Mark space ∷ ago) small some padded) moved
+      let moved = unit-moves o.seconds here.shown f now at (fills-now o.seconds now at) k late last (number run) size left word space ago means product fits in
+      unit-walk zone here n (first_draft here.shown) (waits f last (number run) left) there_draft run space word space
+      (digits-wait zone here f last false run space word (Mark space ∷ ago) small some padded) moved
 
   guessed : (text run word : List ℕ) (size n : ℕ) → number run * size ≡ k → k ≤ max_small → number run ≤ max_small → 1 ≤ number run → is_padded run ≡ false
       → meaning_of word ≡ Some (meaning.Unit (Months size)) → tokens text ≡ Digits run ∷ tail_tokens word → length text ≡ suc (suc (suc (suc (suc n))))
@@ -76,7 +76,7 @@ module _ (this : Now) (o : Offset) (k : ℕ) (at : Stands o.seconds this.seconds
       let drafts : draft_of zone here text ≡ Ok there_draft = rw (same, long) (drafted run word size n product fits small some padded means) in
       ap (λ (s : Option ShownClock). guess_by zone this text s) (shown-is o.seconds now at.instant at.shown)
       ∙ ap (λ (d : Result Draft Fault). answer_of zone here text d) drafts
-      ∙ answered o.seconds earlier here.shown text (earlier_fields here.shown k) here.shown.weekday
+      ∙ answered o.seconds earlier here.shown text (earlier_fields here.shown k) here.shown
       (fills-after o.seconds here.shown (clock_fields here.shown) now at (fills-now o.seconds now at) k late here.shown earlier there is) since
 
   by-digits : (text : List ℕ) (n size : ℕ) → (count : IsCount text n (Months size)) → number count.digits * size ≡ k → k ≤ max_small

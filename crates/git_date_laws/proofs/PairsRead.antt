@@ -6,7 +6,7 @@ use Rattle.jiff.specs.Types.{Offset}
 use Rattle.gix_date.specs.Text.Characters.{space, comma}
 use Rattle.git_date.proofs.Walked.{nothing-left}
 use Rattle.git_date.proofs.ClocksBack.{shown_of}
-use Rattle.git_date_laws.proofs.ExactBack.{Says, ago-nothing, go-on, shown-is}
+use Rattle.git_date_laws.proofs.ExactBack.{Says, clock_at, ago-nothing, go-on, shown-is}
 use Rattle.git_date.proofs.TokenRuns.{texts_are}
 use Rattle.git_date.specs.Approximate.{answer_of, draft_of, guess, guess_by, steps, step}
 use Rattle.git_date.specs.ApproximateDrafts.{clock_fields, first_draft}
@@ -79,19 +79,19 @@ module _ (this : Now) (o : Offset) (n m : ℕ) (at : Stands o.seconds this.secon
   now = this.seconds
 
   abbrev here : Today
-  here = record { now = this; shown = shown_of (now +ℤ o.seconds) }
+  here = record { now = this; shown = clock_at o.seconds (now +ℤ o.seconds) }
 
   abbrev first_fields : Fields
   first_fields = earlier_fields here.shown (n * 12)
 
   abbrev first_there : Draft
-  first_there = ready first_fields here.shown.weekday true
+  first_there = ready first_fields here.shown true
 
   abbrev clock : ShownClock
-  clock = shown_of (first +ℤ o.seconds)
+  clock = clock_at o.seconds (first +ℤ o.seconds)
 
   abbrev last_there : Draft
-  last_there = ready (earlier_fields clock m) clock.weekday true
+  last_there = ready (earlier_fields clock m) clock true
 
   first-fills : Fills o.seconds here.shown first_fields first
   first-fills = fills-after o.seconds here.shown (clock_fields here.shown) now at (fills-now o.seconds now at) (n * 12) late here.shown first there is
@@ -104,7 +104,7 @@ module _ (this : Now) (o : Offset) (n m : ℕ) (at : Stands o.seconds this.secon
       let wide_months : m < 2 ^ 64 = omega arith in
       let number_is = number-of n wide in
       let months_is = number-of m wide_months in
-      let weekday = here.shown.weekday in
+      let last = here.shown in
       let ago : List Token = Letters (codes "ago") ∷ [] in
       let after_month : List Token = Mark space ∷ ago in
       let month : List Token = Mark space ∷ Letters (month_word m) ∷ after_month in
@@ -112,13 +112,13 @@ module _ (this : Now) (o : Offset) (n m : ℕ) (at : Stands o.seconds this.secon
       let year : List Token = Mark space ∷ Letters (year_word n) ∷ Mark comma ∷ Mark space ∷ rest in
       let left = bytes_left (Digits (decimal n) ∷ year) in
       let other_left = bytes_left rest in
-      let waiting = waits (clock_fields here.shown) weekday (number (decimal n)) left in
-      let other_waiting = waits first_fields weekday (number (decimal m)) other_left in
+      let waiting = waits (clock_fields here.shown) last (number (decimal n)) left in
+      let other_waiting = waits first_fields last (number (decimal m)) other_left in
       let moved =
-      unit-moves o.seconds here.shown (clock_fields here.shown) now at (fills-now o.seconds now at) (n * 12) late weekday (number (decimal n)) 12 left (year_word n) comma (Mark space ∷ rest)
+      unit-moves o.seconds here.shown (clock_fields here.shown) now at (fills-now o.seconds now at) (n * 12) late last (number (decimal n)) 12 left (year_word n) comma (Mark space ∷ rest)
       ((years-unit (n == 1)).1) (ap (λ (v : ℕ). v * 12) number_is) (omega arith) in
       let other_moved =
-      unit-moves o.seconds here.shown first_fields first there first-fills m later weekday (number (decimal m)) 1 other_left (month_word m) space ago
+      unit-moves o.seconds here.shown first_fields first there first-fills m later last (number (decimal m)) 1 other_left (month_word m) space ago
       ((months-unit (m == 1)).1) (omega (arith, months_is)) (omega arith) in
       let tenth = go-on zone here k last_there last_there (Letters (codes "ago")) [] (Ok last_there) (rw (ago-nothing zone here.shown last_there) refl) (nothing-left (step zone here) k last_there) in
       let ninth = go-on zone here (suc k) last_there last_there (Mark space) ago (Ok last_there) refl tenth in
@@ -126,13 +126,13 @@ module _ (this : Now) (o : Offset) (n m : ℕ) (at : Stands o.seconds this.secon
       let seventh = go-on zone here (suc (suc (suc k))) other_waiting other_waiting (Mark space) (Letters (month_word m) ∷ after_month) (Ok last_there) refl eighth in
       let sixth =
       go-on zone here (suc (suc (suc (suc k)))) first_there other_waiting (Digits (decimal m)) month (Ok last_there)
-      (digits-wait zone here first_fields weekday true (decimal m) space (month_word m) after_month (omega (arith, months_is)) (omega (arith, months_is)) (not-padded (decimal m) (first_decimal m (omega arith) wide_months))) seventh in
+      (digits-wait zone here first_fields last true (decimal m) space (month_word m) after_month (omega (arith, months_is)) (omega (arith, months_is)) (not-padded (decimal m) (first_decimal m (omega arith) wide_months))) seventh in
       let fifth = go-on zone here (suc (suc (suc (suc (suc k))))) first_there first_there (Mark space) rest (Ok last_there) refl sixth in
       let fourth = go-on zone here (suc (suc (suc (suc (suc (suc k)))))) first_there first_there (Mark comma) (Mark space ∷ rest) (Ok last_there) refl fifth in
       let third = go-on zone here (suc (suc (suc (suc (suc (suc (suc k))))))) waiting first_there (Letters (year_word n)) (Mark comma ∷ Mark space ∷ rest) (Ok last_there) (rw moved refl) fourth in
       let second = go-on zone here (suc (suc (suc (suc (suc (suc (suc (suc k)))))))) waiting waiting (Mark space) (Letters (year_word n) ∷ Mark comma ∷ Mark space ∷ rest) (Ok last_there) refl third in
       go-on zone here (suc (suc (suc (suc (suc (suc (suc (suc (suc k))))))))) (first_draft here.shown) waiting (Digits (decimal n)) year (Ok last_there)
-      (digits-wait zone here (clock_fields here.shown) weekday false (decimal n) space (year_word n) (Mark comma ∷ Mark space ∷ rest) (omega (arith, number_is)) (omega (arith, number_is)) (not-padded (decimal n) (first_decimal n (omega arith) wide)))
+      (digits-wait zone here (clock_fields here.shown) last false (decimal n) space (year_word n) (Mark comma ∷ Mark space ∷ rest) (omega (arith, number_is)) (omega (arith, number_is)) (not-padded (decimal n) (first_decimal n (omega arith) wide)))
       second
 
   guessed : (text : List ℕ) (k : ℕ) → 1 ≤ n → n < 100 → 1 ≤ m → m < 100 → tokens text ≡ pair_tokens (decimal n) (year_word n) (decimal m) (month_word m) → length text ≡ ten_more k
@@ -143,7 +143,7 @@ module _ (this : Now) (o : Offset) (n m : ℕ) (at : Stands o.seconds this.secon
       let drafts : draft_of zone here text ≡ Ok last_there = rw (same, long) (drafted k some few some_months few_months) in
       ap (λ (s : Option ShownClock). guess_by zone this text s) (shown-is o.seconds now at.instant at.shown)
       ∙ ap (λ (d : Result Draft Fault). answer_of zone here text d) drafts
-      ∙ answered o.seconds earlier here.shown text (earlier_fields clock m) clock.weekday
+      ∙ answered o.seconds earlier here.shown text (earlier_fields clock m) clock
       (fills-after o.seconds here.shown first_fields first there first-fills m later here.shown earlier end so) since
 
   short : (v : ℕ) → v < 100 → length (decimal v) ≤ 2

@@ -12,7 +12,7 @@ use Rattle.gix_date.proofs.Fields.Instants.{z_holds}
 use Rattle.gix_date.specs.Fields.Zoned.{is_instant}
 use Rattle.gix_date.specs.declared.time.Time.{Time}
 use Rattle.git_date.proofs.ClocksBack.{shown_of}
-use Rattle.git_date_laws.proofs.ExactBack.{AreClocks, Says, are-clocks, filled-now, shown-is, counted-back}
+use Rattle.git_date_laws.proofs.ExactBack.{AreClocks, clock_at, Says, are-clocks, filled-now, shown-is, counted-back}
 use Rattle.git_date_laws.proofs.PairsRead.{pair_text}
 use Rattle.git_date_laws.proofs.RelativeAges.{IsNearly, IsRounded, rounded-near}
 use Rattle.git_date_laws.proofs.RelativeMonths.{IsSaidWithin, months-near, few-years, years-near, pair-near}
@@ -69,7 +69,7 @@ relative-shown now t local text is =
 -- a text that says nothing is read as now
 module _ (this : Now) (o : Offset) (instant : is_instant this.seconds ≡ true) (since : pos 0 ≤ℤ this.seconds) (clock : is_instant (this.seconds +ℤ o.seconds) ≡ true) where
   abbrev here : Today
-  here = record { now = this; shown = shown_of (this.seconds +ℤ o.seconds) }
+  here = record { now = this; shown = clock_at o.seconds (this.seconds +ℤ o.seconds) }
 
   are : AreClocks o.seconds this.seconds 0
   are = are-clocks o this.seconds 0 instant (record { fits = omega arith; since_1970 = since; clock = clock })
@@ -77,7 +77,7 @@ module _ (this : Now) (o : Offset) (instant : is_instant this.seconds ≡ true) 
   abbrev idle : Bool → ℕ → Draft
   idle understood left = record {
     fields = clock_fields here.shown;
-    weekday = here.shown.weekday;
+    last = here.shown;
     waiting = None;
     understood = understood;
     ignored = Some left;
@@ -91,7 +91,7 @@ module _ (this : Now) (o : Offset) (instant : is_instant this.seconds ≡ true) 
   }
 
   idle-answered : (text : List ℕ) (understood : Bool) (left : ℕ)
-      → answer text (settle (idle understood left)) (filled_time (one_offset o.seconds) here.shown (settle (idle understood left)).fields)
+      → answer text (settle (idle understood left)) (filled_time (one_offset o.seconds) here.shown (settle (idle understood left)).last.offset (settle (idle understood left)).fields)
       ≡ Ok (as_now text understood left)
   unfolding settle
   idle-answered text understood left =
@@ -106,13 +106,13 @@ module _ (this : Now) (o : Offset) (instant : is_instant this.seconds ≡ true) 
       ∙ ap (λ (d : Result Draft Fault). answer_of (one_offset o.seconds) here text d) drafts
       ∙ idle-answered text understood left
 
-no-date : (this : Now) → said_by this (codes "0 seconds ago") ≡ Err Unreadable
+pub no-date : (this : Now) → said_by this (codes "0 seconds ago") ≡ Err Unreadable
 unfolding computing
 no-date this = refl
 
-no-count : (zone : Choices) (today : Today)
+pub no-count : (zone : Choices) (today : Today)
     → draft_of zone today (codes "0 seconds ago")
-    ≡ Ok (record { fields = clock_fields today.shown; weekday = today.shown.weekday; waiting = None; understood = true; ignored = Some 13 })
+    ≡ Ok (record { fields = clock_fields today.shown; last = today.shown; waiting = None; understood = true; ignored = Some 13 })
 unfolding computing approximating
 no-count zone today = refl
 
@@ -210,7 +210,7 @@ future-undated this = refl
 
 future-idle : (zone : Choices) (today : Today)
     → draft_of zone today (codes "in the future")
-    ≡ Ok (record { fields = clock_fields today.shown; weekday = today.shown.weekday; waiting = None; understood = false; ignored = Some 13 })
+    ≡ Ok (record { fields = clock_fields today.shown; last = today.shown; waiting = None; understood = false; ignored = Some 13 })
 unfolding computing approximating
 future-idle zone today = refl
 

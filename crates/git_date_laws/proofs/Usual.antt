@@ -48,10 +48,10 @@ waits-twice None = NoneWaits
 waits-twice (Some n) = OneWaits n n (SameNumber n.value n.left n.left tt)
 
 draft-twice : (d : Draft) → Drafts Anywhere (IsNoneBefore d.ignored) d d
-draft-twice d = SameDraft d.fields d.weekday d.waiting d.waiting d.understood d.ignored d.ignored (waits-twice d.waiting) (λ h. h)
+draft-twice d = SameDraft d.fields d.last d.waiting d.waiting d.understood d.ignored d.ignored (waits-twice d.waiting) (λ h. h)
 
 draft-goes : (d x y : Draft) → Drafts Anywhere (IsNoneBefore d.ignored) x y → Goes d x
-draft-goes d x y (SameDraft f weekday w v known i j waits h) = h
+draft-goes d x y (SameDraft f last w v known i j waits h) = h
 
 ruled-goes : (d : Draft) (x y : Ruled) → Ruleds Anywhere (IsNoneBefore d.ignored) x y → NoneRuled d x
 ruled-goes d x y DoesNothing = tt
@@ -231,7 +231,7 @@ module _ (zone : Choices) (today : Today) where
   answered-usual : (text : List ℕ) (date : Approximate) (given : Result Draft Fault) → draft_of zone today text ≡ given → answer_of zone today text given ≡ Ok date
       → date.ignored ≡ None → are_usual text ≡ true
   answered-usual text date (Ok d) is e none =
-      draft-usual text d is (settle-goes d (answer-none text (settle d) (filled_time zone today.shown (settle d).fields) date e none))
+      draft-usual text d is (settle-goes d (answer-none text (settle d) (filled_time zone today.shown (settle d).last.offset (settle d).fields) date e none))
   answered-usual text date (Err x) is e none = absurd cc
 
 guess-by-usual : (zone : Choices) (now : Now) (text : List ℕ) (date : Approximate) (shown : Option ShownClock) → guess_by zone now text shown ≡ Ok date

@@ -4,20 +4,21 @@ use Rattle.std.specs.Int.Signed.{le_z}
 use Rattle.std.specs.Option.{is_some}
 use Rattle.jiff.specs.Types.{TimeZone}
 use Rattle.jiff.specs.declared.zoned.Zoned.{Zoned}
-use Rattle.gix_date.specs.declared.time.Time.{Time}
 use Rattle.git_date.specs.Dates.{now_of}
-use Rattle.git_date.specs.Outcome.{AtOffset, DateOutcome, date_at, date_in, instant_seconds, said_offset}
+use Rattle.git_date.specs.Outcome.{at_offset, date_of, DateOutcome, date_at, date_in, instant_seconds, said_offset}
 use Rattle.git_date.specs.Reading.{said_by}
 use Rattle.git_date.specs.Types.{Said}
+use Rattle.git_date.specs.Zones.{offsets_of, local_offset}
 use Rattle.git_date.specs.declared.date.ReadDate.{ReadDate}
 use Rattle.git_date.specs.declared.error.DateError.{DateError}
 use Rattle.git_date.specs.declared.error.DateError.TheVariants.{Range}
-use Rattle.git_date.proofs.Zones.{moved}
+use Rattle.git_date.proofs.ZoneOffsets.{moved}
 use Rattle.git_date_laws.specs.Laws.{IgnoresZone, IsOfEveryZone}
 
 pub zones : (moment : Zoned) (text : List ℕ) → IgnoresZone moment text
 zones moment text tz other minutes result f =
-    (moved tz other (said_by (now_of moment) text) minutes result f, moved other tz (said_by (now_of moment) text) minutes result f)
+    let same = moved tz other (said_by (now_of moment) text) minutes f in
+    (λ h. h ∙ same, λ h. h ∙ sym same)
 
 -- a date tells whether an offset was said
 at-told : (said : Said) (minutes : ℤ) (date : ReadDate) → Ok date ≡ date_at said minutes → date.has_offset ≡ is_some said.offset
@@ -29,17 +30,17 @@ at-told said minutes date h = by (le_z (pos 0) (instant_seconds said minutes)) h
     by true h = cc
     by false h = absurd cc
 
-told : (tz : TimeZone) (read : Result Said DateError) (date : ReadDate) → DateOutcome tz read (Ok date) → date.has_offset ≡ is_some (said_offset read)
+told : (tz : TimeZone) (read : Result Said DateError) (date : ReadDate) → Ok date ≡ date_of tz read → date.has_offset ≡ is_some (said_offset read)
 told tz (Err e) date h = absurd cc
 told tz (Ok said) date h = by said.offset h
   where
-    in-zone : (local : Option Time) → Ok date ≡ date_in said local → date.has_offset ≡ is_some said.offset
-    in-zone (Some time) h = at-told said _ date h
+    in-zone : (offset : Option ℤ) → Ok date ≡ date_in said offset → date.has_offset ≡ is_some said.offset
+    in-zone (Some offset) h = at-told said _ date h
     in-zone None h = absurd cc
 
-    by : (offset : Option ℤ) → AtOffset tz said offset (Ok date) → date.has_offset ≡ is_some said.offset
+    by : (offset : Option ℤ) → Ok date ≡ at_offset tz said offset → date.has_offset ≡ is_some said.offset
     by (Some minutes) h = at-told said minutes date h
-    by None h = in-zone h.local h.is
+    by None h = in-zone (local_offset (offsets_of tz) None said.seconds) h
 
 in-other : (other : TimeZone) (read : Result Said DateError) (date : ReadDate) (offset : Option ℤ) → is_some offset ≡ true
     → ((minutes : ℤ) → offset ≡ Some minutes → DateOutcome other read (Ok date)) → DateOutcome other read (Ok date)
@@ -49,4 +50,4 @@ in-other other read date None some h = absurd cc
 pub every_zone : (moment : Zoned) (text : List ℕ) → IsOfEveryZone moment text
 every_zone moment text tz other date has h =
     let read = said_by (now_of moment) text in
-    in-other other read date (said_offset read) (sym (told tz read date h) ∙ has) (λ minutes e. moved tz other read minutes (Ok date) e h)
+    in-other other read date (said_offset read) (sym (told tz read date h) ∙ has) (λ minutes e. h ∙ moved tz other read minutes e)

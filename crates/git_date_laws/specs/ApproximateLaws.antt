@@ -1,10 +1,11 @@
 -- Laws of dates as people write them.
-use Rattle.std.specs.Prelude.{◌≡◌, ℕ, ◌*◌, true, List, [], ◌∷◌, pos, ◌≤ℤ◌, Some, None, Result, Ok, Err}
+use Rattle.std.specs.Prelude.{◌≡◌, ◌≤◌, ℕ, ◌*◌, ℤ, ◌+ℤ◌, ◌-ℤ◌, true, List, [], ◌∷◌, codes, pos, ◌≤ℤ◌, Option, Some, None, Result, Ok, Err}
 use Rattle.jiff.specs.Types.{Offset}
-use Rattle.jiff.specs.Words.{fixed_zone, zoned_nanos}
+use Rattle.jiff.specs.Words.{fixed_zone, zoned_nanos, offset_at, nanos_of_seconds}
 use Rattle.jiff.specs.declared.zoned.Zoned.{Zoned}
 use Rattle.gix_date.specs.Careful.Outcome.{First, careful_reading, CarefulOutcome}
 use Rattle.gix_date.specs.Families.Answer.{Relative}
+use Rattle.gix_date.specs.Fields.Zoned.{is_instant}
 use Rattle.gix_date.specs.Relative.FixedZones.{less_seconds, less_months}
 use Rattle.gix_date.specs.Relative.Steps.{zone_of}
 use Rattle.gix_date.specs.Text.Names.{is_name}
@@ -16,6 +17,7 @@ use Rattle.git_date.specs.ApproximateBack.{CountsBack, CountsMonths, IsReached, 
 use Rattle.git_date.specs.ApproximateZones.{one_offset}
 use Rattle.git_date.specs.Dates.{now_of}
 use Rattle.git_date.specs.Heard.{heard, told, are_usual}
+use Rattle.git_date.specs.Numbers.{max_small}
 use Rattle.git_date.specs.Outcome.{DateOutcome}
 use Rattle.git_date.specs.Reading.{said_by}
 use Rattle.git_date.specs.declared.approximate.answer.Approximate.{Approximate}
@@ -46,6 +48,45 @@ IsExactlyBack moment text =
     (o : Offset) (count size : ℕ) (result : Result Approximate DateError) → zone_of moment ≡ fixed_zone o → CountsBack text count size
     → IsReached (now_of moment).seconds o.seconds (count * size) → ApproximateOutcome moment text result
     → result ≡ Ok (exactly_back (now_of moment).seconds o.seconds (count * size))
+
+-- the offset of the moment's zone at an instant, in seconds since 1970
+abbrev pub offset_then : Zoned → ℤ → ℤ
+offset_then moment seconds = offset_at (zone_of moment) (nanos_of_seconds seconds)
+
+-- the instant is not before 1970, and what the zone's clock shows there not in the last days of 9999
+abbrev pub IsShownThere : Zoned → ℤ → Type 0
+IsShownThere moment seconds = (pos 0 ≤ℤ seconds) × (is_instant (seconds +ℤ offset_then moment seconds) ≡ true)
+
+-- so many seconds before now are 32 bits' and lead to an instant that the zone's clock shows
+pub record IsReachedThere (moment : Zoned) (back : ℕ) : Type 0 where
+  pub fits : back ≤ max_small
+  pub now_shown : IsShownThere moment (now_of moment).seconds
+  pub then_shown : IsShownThere moment ((now_of moment).seconds -ℤ pos back)
+
+-- in every zone `n UNIT ago` is exactly that many seconds before now, at the zone's offset there, and nothing is ignored
+abbrev pub IsBackInEveryZone : Zoned → List ℕ → Type 0
+IsBackInEveryZone moment text =
+    (count size : ℕ) (result : Result Approximate DateError) → CountsBack text count size → IsReachedThere moment (count * size)
+    → ApproximateOutcome moment text result
+    → result ≡ Ok (exactly_back (now_of moment).seconds (offset_then moment ((now_of moment).seconds -ℤ pos (count * size))) (count * size))
+
+-- the moment itself, at its offset
+abbrev pub moment_itself : Zoned → Option ℕ → Approximate
+moment_itself moment ignored = record {
+  time = record { seconds = (now_of moment).seconds; offset = offset_then moment (now_of moment).seconds };
+  understood = true;
+  ignored = ignored;
+}
+
+-- in every zone `now` is now, and so is `0 seconds ago`, which ignores the 0
+pub record IsNow (moment : Zoned) : Type 0 where
+  pub now : (result : Result Approximate DateError) → ApproximateOutcome moment (codes "now") result → result ≡ Ok (moment_itself moment None)
+  pub zero : (result : Result Approximate DateError) → ApproximateOutcome moment (codes "0 seconds ago") result
+      → result ≡ Ok (moment_itself moment (Some 0))
+
+-- where the zone's clock shows the moment
+abbrev pub IsNowIfShown : Zoned → Type 0
+IsNowIfShown moment = IsShownThere moment (now_of moment).seconds → IsNow moment
 
 -- texts that differ in letter case alone have the same answer
 abbrev pub HasAnswerInAnyCase : Zoned → List ℕ → Type 0

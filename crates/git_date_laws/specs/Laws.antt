@@ -1,7 +1,8 @@
 -- Laws of dates as Git reads them.
-use Rattle.std.specs.Prelude.{◌≡◌, ◌↔◌, ℕ, ℤ, true, false, List, [], ◌∷◌, ◌++◌, Some, None, Result, Ok}
-use Rattle.jiff.specs.Types.{TimeZone}
+use Rattle.std.specs.Prelude.{◌≡◌, ◌↔◌, ◌⊎◌, ℕ, ℤ, true, false, List, [], ◌∷◌, ◌++◌, Option, Some, None, IfSome, Result, Ok}
+use Rattle.jiff.specs.Types.{TimeZone, Posix}
 use Rattle.jiff.specs.declared.zoned.Zoned.{Zoned}
+use Rattle.jiff_tz.specs.declared.posix.TimeZone.{TimeZone as Rule}
 use Rattle.gix_date.specs.Fields.Zoned.{is_instant}
 use Rattle.gix_date.specs.Text.Characters.{newline, at_sign}
 use Rattle.gix_date.specs.Text.Names.{is_name}
@@ -17,6 +18,7 @@ use Rattle.git_date.specs.ShowClocks.{Moment}
 use Rattle.git_date.specs.Tokens.{Token, Letters, Digits, tokens}
 use Rattle.git_date.specs.Reading.{said_by}
 use Rattle.git_date.specs.Outcome.{DateOutcome, said_offset}
+use Rattle.git_date.specs.Zones.{ZoneOffsets, offsets_of, shows, local_offset}
 use Rattle.git_date.specs.declared.date.ReadDate.{ReadDate}
 use Rattle.git_date.specs.declared.error.DateError.{DateError}
 use Rattle.git_date.specs.declared.mode.DateKind.TheVariants.{Raw}
@@ -74,3 +76,18 @@ abbrev pub ReadsRawBack : Zoned → Time → Type 0
 ReadsRawBack moment t =
     (now : Moment) (text : List ℕ) (result : Result ReadDate DateError) → is_instant t.seconds ≡ true → shown now (own Raw) t ≡ Some text
     → DateOutcome (zone_of moment) (said_by (now_of moment) (at_sign ∷ text)) result → result ≡ Ok (record { time = t; has_offset = true; ignored = None })
+
+-- the zone has one of two offsets at each instant
+abbrev pub HasTwoOffsets : ZoneOffsets → ℤ → ℤ → Type 0
+HasTwoOffsets zone a b = (seconds : ℤ) → IfSome (zone.at seconds) (λ o. (o ≡ a) ⊎ (o ≡ b))
+
+-- where the zone's clock ever shows these seconds, the offset that is found shows them
+abbrev pub IsReadIfShown : ZoneOffsets → Type 0
+IsReadIfShown zone =
+    (preferred : Option ℤ) (local offset : ℤ) → shows zone local offset ≡ true
+    → IfSome (local_offset zone preferred local) (λ found. shows zone local found ≡ true)
+
+-- so it is in a zone of two offsets, and in each zone of a rule, whatever its days are
+pub record IsClockRead (tz : TimeZone) : Type 0 where
+  pub two : (a b : ℤ) → HasTwoOffsets (offsets_of tz) a b → IsReadIfShown (offsets_of tz)
+  pub rule : (rule : Rule) → tz ≡ Posix rule → IsReadIfShown (offsets_of tz)

@@ -1,5 +1,5 @@
 //! Laws of dates as people write them.
-ghost use Rattle.git_date_laws.specs.ApproximateLaws.{HasExactAnswer, HasOneAnswer, IsExactlyBack, HasAnswerInAnyCase, AgreesWithCareful, AgreesOnMonths, IgnoresMarks, IgnoresNoWord};
+ghost use Rattle.git_date_laws.specs.ApproximateLaws.{HasExactAnswer, HasOneAnswer, IsExactlyBack, IsBackInEveryZone, IsNowIfShown, HasAnswerInAnyCase, AgreesWithCareful, AgreesOnMonths, IgnoresMarks, IgnoresNoWord};
 ghost use Rattle.git_date_laws.specs.RelativeLaws.{IsReadNear, IsReadAsNow};
 
 use gix_date::{CarefulOptions, Time, Zoned};
@@ -19,6 +19,17 @@ pub fn one_answer(text: &[u8], now: &Zoned<'_>)
 /// since 1970, and eight digits for a date. It has no leading 0 in three digits or more, which Git ignores.
 pub fn exactly_back(text: &[u8], now: &Zoned<'_>)
     ensures { IsExactlyBack now.now text.now }
+{}
+
+/// In every zone `n UNIT ago`, of seconds to weeks, is exactly that many seconds before now, at the zone's offset there: also over
+/// a change of the zone, and in a fold. The count is as for [`exactly_back`].
+pub fn back_in_every_zone(text: &[u8], now: &Zoned<'_>)
+    ensures { IsBackInEveryZone now.now text.now }
+{}
+
+/// In every zone whose clock shows the moment `now` is now, and so is `0 seconds ago`, which ignores the 0.
+pub fn now_in_every_zone(now: &Zoned<'_>)
+    ensures { IsNowIfShown now.now }
 {}
 
 /// Letter case changes no answer of [`git_date::approxidate`].

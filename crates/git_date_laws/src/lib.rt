@@ -2,17 +2,20 @@
 #![tactic(auto)]
 
 ghost use Rattle.std.specs.Prelude.{◌≡◌};
+ghost use Rattle.jiff.specs.Words.{plain_zone};
 ghost use Rattle.git_date.specs.Tokens.{tokens as tokens_of, texts};
-ghost use Rattle.git_date_laws.specs.Laws.{AreApart, IgnoresZone, IsOfEveryZone, IgnoresCase, IgnoresLines, IgnoresInstant, IsWithoutDayMonth, ReadsBack, ReadsRawBack};
+ghost use Rattle.git_date_laws.specs.Laws.{AreApart, IgnoresZone, IsOfEveryZone, IsClockRead, IgnoresCase, IgnoresLines, IgnoresInstant, IsWithoutDayMonth, ReadsBack, ReadsRawBack};
 
 mod approximate;
 mod shown;
 
 pub use approximate::{
-    approximate_letter_case, careful_agrees, exact_answer, exactly_back, marks, months_agree,
+    approximate_letter_case, back_in_every_zone, careful_agrees, exact_answer, exactly_back, marks, months_agree,
+    now_in_every_zone,
     no_word_ignored, one_answer, relative_read_near,
 };
 use gix_date::{Time, Zoned};
+use jiff::tz::TimeZone;
 pub use shown::{ages_grow, human_by_distance, mode_named_back, no_single_unit, shown_as_printed};
 
 /// The texts of the tokens are the text, and no two neighbours are both letters or both digits.
@@ -27,6 +30,13 @@ pub fn tokens(text: &[u8])
 pub fn written_offset(text: &[u8], now: &Zoned<'_>)
     ensures said { IgnoresZone now.now text.now }
     ensures told { IsOfEveryZone now.now text.now }
+{}
+
+/// In a zone of two offsets, as in each zone of a rule, the offset that is found shows the clock that was read, wherever the zone's
+/// clock ever shows it: also where changes stand near each other, or near New Year.
+#[tactic(auto, using(crate::proofs::ClockRead::clocks_read))]
+pub fn clock_read(zone: TimeZone<'_>)
+    ensures { IsClockRead (plain_zone zone.entry) }
 {}
 
 /// A text has the same answer in any letter case.

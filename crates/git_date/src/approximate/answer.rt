@@ -1,10 +1,10 @@
 //! The approximate reader: one token after the other, and what the whole text comes to.
 ghost use Rattle.std.specs.Prelude.{◌≡◌, ◌≤◌, length, IfOk, Err};
-ghost use Rattle.gix_date.specs.Relative.Steps.{zone_of};
 ghost use Rattle.git_date.specs.Tokens.{tokens, token_of};
 ghost use Rattle.git_date.specs.Dates.{now_of};
 ghost use Rattle.git_date.specs.Approximate.{rule, draft_of, answer, answer_of, guess, is_unreadable, exact_or_guess};
-ghost use Rattle.git_date.specs.ApproximateZones.{Choices, AreChoices};
+ghost use Rattle.gix_date.specs.Relative.Steps.{zone_of};
+ghost use Rattle.git_date.specs.ApproximateZones.{choices_of};
 ghost use Rattle.git_date.specs.Views.{step_view};
 
 use crate::approximate::drafts::Draft;
@@ -49,9 +49,7 @@ fn rule<'a>(
     token: Token<'_>,
     text: &'a [u8],
 ) -> Result<(Draft, &'a [u8]), Fault>
-    ghost zone: { Choices }
-    requires { AreChoices (zone_of moment) zone }
-    ensures value { step_view result ≡ rule zone today draft (token_of token.entry) (tokens text.now) }
+    ensures value { step_view result ≡ rule (choices_of (zone_of moment.entry)) today draft (token_of token.entry) (tokens text.now) }
     ensures shorter { IfOk result (λ found. length found.1.now ≤ length text.now) }
 {
     match token {
@@ -69,9 +67,7 @@ fn rule<'a>(
 
 /// What the tokens of a text say, one after the other.
 fn draft_of(moment: Zoned<'_>, today: Today, text: &[u8]) -> Result<Draft, Fault>
-    ghost zone: { Choices }
-    requires { AreChoices (zone_of moment) zone }
-    ensures { result ≡ draft_of zone today text.now }
+    ensures { result ≡ draft_of (choices_of (zone_of moment.entry)) today text.now }
 {
     let mut draft = Draft::first(today.shown);
     let mut rest = text;
@@ -110,14 +106,12 @@ fn answer(text: &[u8], draft: Draft, time: Option<Time>) -> Result<Approximate, 
 
 /// The answer of what the tokens say, with the number settled that still waits.
 fn answer_of(moment: Zoned<'_>, today: Today, text: &[u8]) -> Result<Approximate, DateError>
-    ghost zone: { Choices }
-    requires { AreChoices (zone_of moment) zone }
-    ensures { result ≡ answer_of zone today text.now (draft_of zone today text.now) }
+    ensures { result ≡ answer_of (choices_of (zone_of moment.entry)) today text.now (draft_of (choices_of (zone_of moment.entry)) today text.now) }
 {
     match draft_of(moment, today, text) {
         Ok(draft) => {
             let last = draft.settle();
-            answer(text, last, filled_time(moment, today.shown, last.fields))
+            answer(text, last, filled_time(moment, today.shown, last.last.offset, last.fields))
         }
         Err(fault) => Err(error_of(text, fault)),
     }
@@ -126,9 +120,7 @@ fn answer_of(moment: Zoned<'_>, today: Today, text: &[u8]) -> Result<Approximate
 /// What the approximate reader makes of a text.
 #[tactic(auto, unfolding(crate::specs::Approximate::guess))]
 fn guess(moment: Zoned<'_>, text: &[u8]) -> Result<Approximate, DateError>
-    ghost zone: { Choices }
-    requires { AreChoices (zone_of moment) zone }
-    ensures { result ≡ guess zone (now_of moment.entry) text.now }
+    ensures { result ≡ guess (choices_of (zone_of moment.entry)) (now_of moment.entry) text.now }
 {
     let now = Now::of(moment.timestamp());
     match shown_in(moment, now.seconds) {
@@ -149,9 +141,7 @@ pub(crate) fn or_guess(
     text: &[u8],
     error: DateError,
 ) -> Result<Approximate, DateError>
-    ghost zone: { Choices }
-    requires { AreChoices (zone_of moment) zone }
-    ensures { result ≡ exact_or_guess (Err error) (guess zone (now_of moment.entry) text.now) }
+    ensures { result ≡ exact_or_guess (Err error) (guess (choices_of (zone_of moment.entry)) (now_of moment.entry) text.now) }
 {
     if is_unreadable(error) {
         guess(moment, text)

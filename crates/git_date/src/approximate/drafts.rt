@@ -10,8 +10,8 @@ use crate::groups::Number;
 #[derive(Clone, Copy)]
 pub(crate) struct Draft {
     pub(crate) fields: Fields,
-    /// The day of the week, from 0 for Monday, that the zone's clock showed last.
-    pub(crate) weekday: u8,
+    /// What the zone's clock showed last.
+    pub(crate) last: ShownClock,
     /// A number of which no word has said yet what it counts.
     pub(crate) waiting: Option<Number>,
     /// Whether anything was understood.
@@ -125,7 +125,7 @@ impl Draft {
     {
         Draft {
             fields: clock_fields(today),
-            weekday: today.weekday,
+            last: today,
             waiting: None,
             understood: false,
             ignored: None,
@@ -138,7 +138,7 @@ impl Draft {
     {
         Draft {
             fields: all_fields(shown),
-            weekday: shown.weekday,
+            last: shown,
             ..self
         }
     }

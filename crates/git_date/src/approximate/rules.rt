@@ -1,10 +1,10 @@
 //! The rules of the approximate reader: what digits and words make of a draft.
 ghost use Rattle.std.specs.Prelude.{◌≡◌, ◌≤◌, ◌∷◌, length, IfOk};
-ghost use Rattle.gix_date.specs.Relative.Steps.{zone_of};
 ghost use Rattle.git_date.specs.Tokens.{tokens, Letters, bytes_left};
 ghost use Rattle.git_date.specs.ApproximateWords.{meaning_of};
 ghost use Rattle.git_date.specs.Numbers.{number};
-ghost use Rattle.git_date.specs.ApproximateZones.{Choices, AreChoices};
+ghost use Rattle.gix_date.specs.Relative.Steps.{zone_of};
+ghost use Rattle.git_date.specs.ApproximateZones.{choices_of};
 ghost use Rattle.git_date.specs.ApproximateRules.{used, hour_rule, back_rule, months_rule, unit_rule, counted_by, count_waits, with_month, meaning_rule, word_by, read_word, are_digits_next, letters_rule, is_padded, number_waits, group_said, digits_rule};
 ghost use Rattle.git_date.specs.Views.{step_view};
 
@@ -43,9 +43,7 @@ fn hour_rule(
     hour: u8,
     left: usize,
 ) -> Result<Draft, Fault>
-    ghost zone: { Choices }
-    requires { AreChoices (zone_of moment) zone }
-    ensures { result ≡ hour_rule zone today draft hour left }
+    ensures { result ≡ hour_rule (choices_of (zone_of moment.entry)) today draft hour left }
 {
     let settled = draft.settle();
     if !settled.is_before(hour) {
@@ -66,9 +64,7 @@ fn back_rule(
     back: u64,
     n: Number,
 ) -> Result<Draft, Fault>
-    ghost zone: { Choices }
-    requires { AreChoices (zone_of moment) zone }
-    ensures { result ≡ back_rule zone today draft back n }
+    ensures { result ≡ back_rule (choices_of (zone_of moment.entry)) today draft back n }
 {
     if MAX_SMALL < back {
         return Err(Fault::BackTooFar(n.left));
@@ -85,9 +81,7 @@ fn months_rule(
     months: u64,
     n: Number,
 ) -> Result<Draft, Fault>
-    ghost zone: { Choices }
-    requires { AreChoices (zone_of moment) zone }
-    ensures { result ≡ months_rule zone today draft months n }
+    ensures { result ≡ months_rule (choices_of (zone_of moment.entry)) today draft months n }
 {
     let filled = match fill(moment, today, draft, 0, n.left) {
         Ok(filled) => filled,
@@ -107,9 +101,7 @@ fn unit_rule(
     unit: Unit,
     n: Number,
 ) -> Result<Draft, Fault>
-    ghost zone: { Choices }
-    requires { AreChoices (zone_of moment) zone }
-    ensures { result ≡ unit_rule zone today draft unit n }
+    ensures { result ≡ unit_rule (choices_of (zone_of moment.entry)) today draft unit n }
 {
     let rest = Draft {
         waiting: None,
@@ -118,7 +110,7 @@ fn unit_rule(
     match unit {
         Unit::Seconds(size) => back_rule(moment, today, rest, units(n.value, size), n),
         Unit::Weekday(day) => {
-            let back = weekday_seconds(draft.weekday, day, n.value);
+            let back = weekday_seconds(draft.last.weekday, day, n.value);
             back_rule(moment, today, rest, back, n)
         }
         Unit::Months(size) => months_rule(moment, today, rest, units(n.value, size), n),
@@ -127,9 +119,7 @@ fn unit_rule(
 
 /// What the waiting number counts.
 fn counted(moment: Zoned<'_>, today: ShownClock, draft: Draft, unit: Unit) -> Ruled
-    ghost zone: { Choices }
-    requires { AreChoices (zone_of moment) zone }
-    ensures { result ≡ counted_by zone today draft unit draft.waiting }
+    ensures { result ≡ counted_by (choices_of (zone_of moment.entry)) today draft unit draft.waiting }
 {
     match draft.waiting {
         Some(n) => used(unit_rule(moment, today, draft, unit, n)),
@@ -175,9 +165,7 @@ fn meaning_rule(
     left: usize,
     meaning: Meaning,
 ) -> Ruled
-    ghost zone: { Choices }
-    requires { AreChoices (zone_of moment) zone }
-    ensures { result ≡ meaning_rule zone today draft left meaning }
+    ensures { result ≡ meaning_rule (choices_of (zone_of moment.entry)) today draft left meaning }
 {
     match meaning {
         Meaning::Month(month) => Ok(Some(with_month(draft, month))),
@@ -193,9 +181,7 @@ fn meaning_rule(
 
 /// What a word makes of a draft.
 fn word_rule(moment: Zoned<'_>, today: ShownClock, draft: Draft, left: usize, word: &[u8]) -> Ruled
-    ghost zone: { Choices }
-    requires { AreChoices (zone_of moment) zone }
-    ensures { result ≡ word_by zone today draft left (meaning_of word.now) }
+    ensures { result ≡ word_by (choices_of (zone_of moment.entry)) today draft left (meaning_of word.now) }
 {
     match meaning_of(word) {
         Some(meaning) => meaning_rule(moment, today, draft, left, meaning),
@@ -239,9 +225,7 @@ pub(crate) fn letters_rule(
     run: &[u8],
     text: &[u8],
 ) -> Result<Draft, Fault>
-    ghost zone: { Choices }
-    requires { AreChoices (zone_of moment) zone }
-    ensures { result ≡ letters_rule zone today draft run.now (tokens text.now) }
+    ensures { result ≡ letters_rule (choices_of (zone_of moment.entry)) today draft run.now (tokens text.now) }
 {
     let left = letters_left(run, text);
     if begins_with_digits(text) {

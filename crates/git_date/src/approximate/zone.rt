@@ -1,56 +1,56 @@
 //! What a zone's clock shows, which instants it chooses, and how dates are filled in from there.
-ghost use Rattle.std.specs.Prelude.{◌≡◌, ◌^◌, pos, neg_ℤ, IfSome, true};
+ghost use Rattle.std.specs.Prelude.{◌≡◌, ◌^◌, pos, neg_ℤ, IfSome};
 ghost use Rattle.jiff_core.specs.Calendar.{IsBetween};
 ghost use Rattle.gix_date.specs.Relative.Steps.{zone_of};
-ghost use Rattle.git_date.specs.ApproximateZones.{Choices, AreChoices, shown_in, filled_time, moved_to, fill};
+ghost use Rattle.git_date.specs.ApproximateZones.{choices_of, shown_in, filled_time, moved_to, fill};
 
 use crate::approximate::drafts::Draft;
 use crate::approximate::shown::{filled_seconds, shown_at};
 use crate::clocks::{ShownClock, is_instant};
 use crate::fault::Fault;
 use crate::fields::Fields;
-use gix_date::{Time, Zoned, time_in_zone};
-use jiff::Timestamp;
+use crate::zones::{local_offset, offset_at};
+use gix_date::{Time, Zoned};
 
-/// The time at which the clock of the moment's zone has counted so many seconds since 1970-01-01 00:00:00.
-fn picked(moment: Zoned<'_>, seconds: i64) -> Option<Time>
-    ghost zone: { Choices }
-    requires { AreChoices (zone_of moment) zone }
-    ensures value { result ≡ zone.picks seconds }
+/// The time at which the clock of the moment's zone has counted so many seconds since 1970-01-01 00:00:00, with a preferred offset.
+#[tactic(auto, unfolding(crate::specs::ApproximateZones::choices_of))]
+fn picked(moment: Zoned<'_>, preferred: i32, local: i64) -> Option<Time>
+    ensures value { result ≡ (choices_of (zone_of moment.entry)).picks preferred local }
     ensures small { IfSome result (λ t. IsBetween (neg_ℤ (pos (10 ^ 15))) (pos (10 ^ 15)) t.seconds) }
 {
-    if !is_instant(seconds) {
+    if !is_instant(local) {
         return None;
     }
-    time_in_zone(Time::new(seconds, 0), moment)
+    let offset = local_offset(moment.time_zone(), Some(preferred), local)?;
+    Some(Time::new(local - i64::from(offset), offset))
 }
 
-/// What the clock of the moment's zone shows at an instant. `None` before 1900.
+/// What the clock of the moment's zone shows at an instant, with its offset there. `None` before 1900.
 pub(crate) fn shown_in(moment: Zoned<'_>, instant: i64) -> Option<ShownClock>
-    ghost zone: { Choices }
-    requires { AreChoices (zone_of moment) zone }
-    ensures { result ≡ shown_in zone instant }
+    ensures { result ≡ shown_in (choices_of (zone_of moment.entry)) instant }
 {
-    if !is_instant(instant) {
-        return None;
-    }
-    let Ok(at) = Timestamp::from_second(instant) else {
+    let Some(offset) = offset_at(moment.time_zone(), instant) else {
         return None;
     };
-    let offset = moment.time_zone().to_offset(at).seconds();
-    shown_at(instant + i64::from(offset))
+    match shown_at(instant + i64::from(offset)) {
+        Some(shown) => Some(ShownClock { offset, ..shown }),
+        None => None,
+    }
 }
 
-/// The time at which the clock of the moment's zone shows these fields.
+/// The time at which the clock of the moment's zone shows these fields, with a preferred offset.
 #[tactic(auto, unfolding(crate::specs::ApproximateZones::filled_time))]
-pub(crate) fn filled_time(moment: Zoned<'_>, today: ShownClock, fields: Fields) -> Option<Time>
-    ghost zone: { Choices }
-    requires { AreChoices (zone_of moment) zone }
-    ensures value { result ≡ filled_time zone today fields }
+pub(crate) fn filled_time(
+    moment: Zoned<'_>,
+    today: ShownClock,
+    preferred: i32,
+    fields: Fields,
+) -> Option<Time>
+    ensures value { result ≡ filled_time (choices_of (zone_of moment.entry)) today preferred fields }
     ensures small { IfSome result (λ t. IsBetween (neg_ℤ (pos (10 ^ 15))) (pos (10 ^ 15)) t.seconds) }
 {
     match filled_seconds(today, fields) {
-        Some(seconds) => picked(moment, seconds),
+        Some(seconds) => picked(moment, preferred, seconds),
         None => None,
     }
 }
@@ -63,9 +63,7 @@ pub(crate) fn moved_to(
     left: usize,
     instant: i64,
 ) -> Result<Draft, Fault>
-    ghost zone: { Choices }
-    requires { AreChoices (zone_of moment) zone }
-    ensures { result ≡ moved_to zone draft left instant }
+    ensures { result ≡ moved_to (choices_of (zone_of moment.entry)) draft left instant }
 {
     match shown_in(moment, instant) {
         Some(shown) => Ok(draft.with_shown(shown)),
@@ -82,11 +80,9 @@ pub(crate) fn fill(
     back: u32,
     left: usize,
 ) -> Result<Draft, Fault>
-    ghost zone: { Choices }
-    requires { AreChoices (zone_of moment) zone }
-    ensures { result ≡ fill zone today draft back left }
+    ensures { result ≡ fill (choices_of (zone_of moment.entry)) today draft back left }
 {
-    match filled_time(moment, today, draft.fields) {
+    match filled_time(moment, today, draft.last.offset, draft.fields) {
         Some(time) => moved_to(moment, draft, left, time.seconds - i64::from(back)),
         None => Err(Fault::Range),
     }

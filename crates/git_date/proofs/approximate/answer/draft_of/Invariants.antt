@@ -1,13 +1,12 @@
 use Rattle.std.proofs.Common.{length}
+use Rattle.gix_date.specs.Relative.Steps.{zone_of}
 use Rattle.git_date.specs.Approximate.{step, draft_of}
+use Rattle.git_date.specs.ApproximateZones.{choices_of}
 use Rattle.git_date.proofs.Folds.{Left}
 use Rattle.git_date.proofs.approximate.answer.draft_of.Given as goal
 
-abbrev pub ghost-rule : goal.ghost-rule
-ghost-rule g a = g.zone
-
 abbrev pub invariant-tokens : goal.invariant-tokens
-invariant-tokens g l = Left (step g.zone l.today) (draft_of g.zone l.today l.text) l.rest l.draft
+invariant-tokens l = Left (step (choices_of (zone_of l.moment)) l.today) (draft_of (choices_of (zone_of l.moment)) l.today l.text) l.rest l.draft
 
 abbrev pub decreases-tokens : goal.decreases-tokens
-decreases-tokens g l = length l.rest
+decreases-tokens l = length l.rest

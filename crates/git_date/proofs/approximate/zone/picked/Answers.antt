@@ -1,35 +1,62 @@
-use Rattle.std.proofs.Common.{rules, ◌≡◌, ◌∙◌, sym, subst, true, FitsSigned, w64}
+use Rattle.std.proofs.Common.{rules, ◌≡◌, ◌∙◌, ◌-ℤ◌, ℤ, Option, Some, sym, ap, subst, true, arith, FitsSigned, w64, w32}
 use Rattle.std.proofs.lemmas.Int.{to_z-of_z}
-use Rattle.gix_date.specs.Careful.Dates.{IsLocalIfAny}
-use Rattle.gix_date.specs.Families.Epoch.{utc_time}
+use Rattle.jiff.specs.Types.{TimeZone}
+use Rattle.jiff.specs.Words.{plain_zone}
+use Rattle.jiff_core.proofs.SignedLemmas.{signed_arith}
+use Rattle.gix_date.proofs.Fields.Instants.{instant_holds}
 use Rattle.gix_date.specs.Fields.Zoned.{is_instant}
 use Rattle.gix_date.specs.Relative.Steps.{zone_of}
 use Rattle.gix_date.specs.declared.time.Time.{Time}
-use Rattle.git_date.proofs.ZoneChoices.{choice-true, choice-false, small-if-any}
+use Rattle.git_date.specs.ApproximateZones.{time_at}
+use Rattle.git_date.specs.Zones.{offsets_of, local_offset}
+use Rattle.git_date.proofs.ZoneChoices.{a-picked, small-at}
 use Rattle.git_date.proofs.approximate.zone.picked.Goals as goal
 
-pub returns-then-not-is_instant-clause-value : goal.returns-then-not-is_instant-clause-value
-returns-then-not-is_instant-clause-value g c =
-    let fits : FitsSigned w64 c.args.seconds = search rules in
+pub overflow_sub-local : goal.overflow_sub-local
+overflow_sub-local c =
+    let s = c.args.local in
+    let fits : FitsSigned w64 s = search rules in
     let is = simp to_z-of_z at c.is_instant.ensures in
-    choice-false (zone_of c.args.moment) c.args.seconds (is_instant c.args.seconds) (g.zone.picks c.args.seconds) (c.requires.picks c.args.seconds) (sym is ∙ c.if-not-is_instant.true)
+    let within = instant_holds s (sym is ∙ c.if-not-is_instant.false) in
+    let near = c.in_ok-offset.ensures.near in
+    let offset_fits : FitsSigned w32 c.in_ok-offset.offset = search rules in
+    let from : c.from.result ≡ c.in_ok-offset.offset = simp to_z-of_z at c.from.ensures in
+    let from_fits : FitsSigned w64 c.from.result = search rules in
+    simp to_z-of_z (omega (arith, signed_arith, within, near, from))
 
 pub returns-clause-value : goal.returns-clause-value
-returns-clause-value g c =
-    let s = c.args.seconds in
+returns-clause-value c =
+    let s = c.args.local in
+    let offset = c.in_ok-offset.offset in
     let fits : FitsSigned w64 s = search rules in
     let is = simp to_z-of_z at c.is_instant.ensures in
     let yes : is_instant s ≡ true = sym is ∙ c.if-not-is_instant.false in
-    let made : c.new.result ≡ utc_time s = simp to_z-of_z at c.new.ensures in
-    let local = subst (λ (t : Time). IsLocalIfAny (zone_of c.args.moment) t c.time_in_zone.result) made c.time_in_zone.ensures.local in
-    choice-true (zone_of c.args.moment) s (is_instant s) (g.zone.picks s) c.time_in_zone.result (c.requires.picks s) yes local
+    let within = instant_holds s yes in
+    let near = c.in_ok-offset.ensures.near in
+    let offset_fits : FitsSigned w32 offset = search rules in
+    let from : c.from.result ≡ offset = simp to_z-of_z at c.from.ensures in
+    let from_fits : FitsSigned w64 c.from.result = search rules in
+    let less_fits : FitsSigned w64 (s -ℤ c.from.result) = omega (arith, signed_arith, within, near, from) in
+    let preferred_fits : FitsSigned w32 c.args.preferred = search rules in
+    let there : Some offset ≡ local_offset (offsets_of (plain_zone c.time_zone.result)) (Some c.args.preferred) s = simp to_z-of_z at c.in_ok-offset.ensures.value in
+    let at : Some offset ≡ local_offset (offsets_of (zone_of c.args.moment)) (Some c.args.preferred) s =
+    subst (λ (tz : TimeZone). Some offset ≡ local_offset (offsets_of tz) (Some c.args.preferred) s) c.time_zone.ensures there in
+    let made : c.new.result ≡ record { seconds = s -ℤ c.from.result; offset = offset } = simp to_z-of_z at c.new.ensures in
+    ap Some (made ∙ ap (λ (o : ℤ). record { seconds = s -ℤ o; offset = offset }) from) ∙ a-picked (zone_of c.args.moment) c.args.preferred s (Some offset) yes at
 
 pub returns-clause-small : goal.returns-clause-small
-returns-clause-small g c =
-    let s = c.args.seconds in
+returns-clause-small c =
+    let s = c.args.local in
+    let offset = c.in_ok-offset.offset in
     let fits : FitsSigned w64 s = search rules in
     let is = simp to_z-of_z at c.is_instant.ensures in
     let yes : is_instant s ≡ true = sym is ∙ c.if-not-is_instant.false in
-    let made : c.new.result ≡ utc_time s = simp to_z-of_z at c.new.ensures in
-    let local = subst (λ (t : Time). IsLocalIfAny (zone_of c.args.moment) t c.time_in_zone.result) made c.time_in_zone.ensures.local in
-    small-if-any (zone_of c.args.moment) s c.time_in_zone.result yes local
+    let within = instant_holds s yes in
+    let near = c.in_ok-offset.ensures.near in
+    let offset_fits : FitsSigned w32 offset = search rules in
+    let from : c.from.result ≡ offset = simp to_z-of_z at c.from.ensures in
+    let from_fits : FitsSigned w64 c.from.result = search rules in
+    let less_fits : FitsSigned w64 (s -ℤ c.from.result) = omega (arith, signed_arith, within, near, from) in
+    let made : c.new.result ≡ record { seconds = s -ℤ c.from.result; offset = offset } = simp to_z-of_z at c.new.ensures in
+    let seconds : c.new.result.seconds ≡ s -ℤ offset = ap (λ (t : Time). t.seconds) made ∙ ap (λ (o : ℤ). s -ℤ o) from in
+    rw seconds (small-at s offset yes near)

@@ -1,4 +1,0 @@
-use Rattle.git_date.proofs.approximate.rules.hour_rule.Given as goal
-
-abbrev pub ghost-fill : goal.ghost-fill
-ghost-fill g a = g.zone
