@@ -10,8 +10,9 @@
  * an offset has that of the zone. No call takes memory.
  *
  * The text of a date is any bytes, as in Git, and need not be UTF-8: a byte that is not ASCII is a
- * mark, which is passed over. A place counts bytes from the text's start. It is one where a character
- * of the text begins. */
+ * mark, which is passed over. But a NUL ends the text, where its length goes on: `ignored` is then the
+ * place of the NUL, or an earlier one. So the length does not count the NUL that ends a string of C.
+ * A place counts bytes from the text's start. It is one where a character of the text begins. */
 #ifndef GIT_DATE_H
 #define GIT_DATE_H
 
@@ -67,7 +68,7 @@ static inline const char *git_date_status_text(uint32_t status)
 /* A date that is read exactly. */
 typedef struct git_date_exact {
     gix_date_time time;
-    size_t ignored;  /* the place of the first unused word, number or sign, or GIT_DATE_NOTHING */
+    size_t ignored;  /* the place of the first unused word, number, sign or NUL, or GIT_DATE_NOTHING */
     bool has_offset; /* the text names its offset, as "+0200" or "EST": each zone gives this date */
 } git_date_exact;
 
@@ -125,8 +126,9 @@ uint32_t git_date_approxidate_at(const char *text, size_t text_len, const gix_da
                                  gix_date_zone *zone, git_date_approximate *date, size_t *place);
 
 /* Reads what expires, as Git reads gc.pruneExpire: "never" and "false" are GIT_DATE_NEVER, "all"
- * and "now" GIT_DATE_ALL, and any other text is a date of git_date_approxidate_at. Its statuses, and
- * GIT_DATE_UNREADABLE if nothing of the date was understood. */
+ * and "now" GIT_DATE_ALL, also before a NUL, which is not told then. Any other text is a date of
+ * git_date_approxidate_at. Its statuses, and GIT_DATE_UNREADABLE if nothing of the date was
+ * understood. */
 GIX_DATE_MUST_USE
 uint32_t git_date_expiry_at(const char *text, size_t text_len, const gix_date_instant *now,
                             gix_date_zone *zone, git_date_expiry *expiry, size_t *place);

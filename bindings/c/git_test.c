@@ -64,6 +64,11 @@ static void exact_dates(void)
                              AT(0), &date, &place) == GIX_DATE_OK &&
                is_time(date.time, 1551690000, 3600),
            "%lld", (long long)date.time.seconds);
+    /* A NUL ends the text before its length does. */
+    EXPECT(git_date_parse_at(BYTES("Thu, 14 Feb 2008 20:30:45 +0000\0 +0500"), &sunday, AT(0), &date,
+                             &place) == GIX_DATE_OK &&
+               is_exact(date, 1203021045, 0, 31, true),
+           "%lld %zu", (long long)date.time.seconds, date.ignored);
     EXPECT(git_date_parse_at(TEXT("2008-02-14 20:30:45 IST"), &sunday, AT(0), &date, &place) ==
                    GIX_DATE_OK &&
                is_exact(date, 1203021045, 0, 20, false),

@@ -62,6 +62,15 @@ def test_any_bytes_are_read() -> None:
     assert git.expiry_date(b"noon\xffyesterday", NOW) == git.approxidate("noon yesterday", NOW)
 
 
+def test_a_nul_ends_a_text() -> None:
+    text = "Thu, 14 Feb 2008 20:30:45 +0000\0 +0500"
+    texts: List[Union[str, bytes]] = [text, text.encode()]
+    for given in texts:
+        assert git.parse_date(given, NOW) == ReadDate(Time(1203021045, 0), True, 31)
+    assert git.approxidate("yesterday\0 noon", NOW) == Approximate(Time(1251573600, 0), True, 9)
+    assert git.expiry_date("never\0x", NOW) is Expires.NEVER
+
+
 def test_shown_dates() -> None:
     time = Time(1251300000, 7200)
     assert git.show_date(time, DateKind.ISO8601, NOW) == "2009-08-26 17:20:00 +0200"

@@ -48,9 +48,10 @@ pub struct ReadDate {
     /// Whether the text names its offset, as `+0200`, `Z` or `EST`, so that each zone gives the same date. As in Git, `-0001` names
     /// none, but after `@` it does.
     pub has_offset: bool,
-    /// The place of the first word, number or sign of an offset that no rule used, so that a program can say so.
+    /// The place of the first word, number or sign of an offset that no rule used, so that a program can say so; else that of
+    /// a NUL, which ends the text.
     ///
-    /// Not counted are marks, `ago`, `at`, `on`, `of`, `the`, `and`, the ending of a number as in `7th`, and one `T` between
+    /// Not counted are other marks, `ago`, `at`, `on`, `of`, `the`, `and`, the ending of a number as in `7th`, and one `T` between
     /// digits. A day of the week is used, though it is not compared.
     pub ignored: Option<usize>,
 }

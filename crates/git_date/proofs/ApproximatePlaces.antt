@@ -6,13 +6,14 @@ use Rattle.std.specs.Int.Signed.{le_z}
 use Rattle.jiff.specs.declared.zoned.Zoned.{Zoned}
 use Rattle.gix_date.specs.Relative.Steps.{zone_of}
 use Rattle.gix_date.specs.declared.time.Time.{Time}
-use Rattle.git_date.specs.Approximate.{draft_of, answer, answer_of, guess_by, guess, is_unreadable, exact_or_guess, approximate, HasApproximatePlacesIn}
+use Rattle.git_date.specs.Approximate.{draft_of, answer, answer_of, guess_by, answer_up_to, string_guess, guess, is_unreadable, exact_or_guess, approximate, HasApproximatePlacesIn}
 use Rattle.git_date.specs.ApproximateDrafts.{first_draft, earlier, settle}
 use Rattle.git_date.specs.ApproximateExpiry.{expiry_of, expiry_by, fixed_expiry, HasExpiryPlacesIn}
 use Rattle.git_date.specs.ApproximateZones.{Choices, choices_of, shown_in, filled_time}
 use Rattle.git_date.specs.Dates.{now_of}
 use Rattle.git_date.specs.Outcome.{date_of, HasPlacesIn}
 use Rattle.git_date.specs.Reading.{said_by}
+use Rattle.git_date.specs.Strings.{before_nul, nul_place}
 use Rattle.git_date.specs.Tokens.{tokens}
 use Rattle.git_date.specs.declared.approximate.answer.Approximate.{Approximate}
 use Rattle.git_date.specs.declared.approximate.answer.Today.{Today}
@@ -27,7 +28,7 @@ use Rattle.git_date.specs.declared.fault.Fault.TheVariants as fault
 use Rattle.git_date.proofs.Respects.{ComesTo, FailsAt}
 use Rattle.git_date.proofs.Kept.{IsFaultAt, IsAt, either, First, Twice, fault-at, begin-kept, whole-twice}
 use Rattle.git_date.proofs.RespectedDrafts.{Drafts, SameDraft, NoneWaits, Givens, settle-respects, steps-respects}
-use Rattle.git_date.proofs.Places.{Ends, IsPlaceOf, kept, runs-of, ignored-in, places}
+use Rattle.git_date.proofs.Places.{Ends, IsPlaceOf, kept, runs-of, ignored-in, up-to-in, error-before, places}
 use Rattle.git_date.proofs.TokenRuns.{texts_are}
 
 max-by : (P : ℕ → Type 0) (a b : ℕ) (less : Bool) → nat_le a b ≡ less → P a → P b → P (max a b)
@@ -83,9 +84,18 @@ guess-by-in zone now text (Some shown) =
     let today : Today = record { now = now; shown = shown } in
     answer-of-in zone today text (draft_of zone today text) (draft-at zone today text)
 
+string-guess-in : (zone : Choices) (now : Now) (text : List ℕ) → HasApproximatePlacesIn text (string_guess zone now text)
+unfolding string_guess
+string-guess-in zone now text = guess-by-in zone now text (shown_in zone now.seconds)
+
+answer-up-to-in : (text : List ℕ) (found : Result Approximate DateError) → HasApproximatePlacesIn (before_nul text) found
+    → HasApproximatePlacesIn text (answer_up_to (nul_place text) found)
+answer-up-to-in text (Ok date) h = up-to-in text date.ignored h
+answer-up-to-in text (Err e) h = error-before text e h
+
 guess-in : (zone : Choices) (now : Now) (text : List ℕ) → HasApproximatePlacesIn text (guess zone now text)
 unfolding guess
-guess-in zone now text = guess-by-in zone now text (shown_in zone now.seconds)
+guess-in zone now text = answer-up-to-in text (string_guess zone now (before_nul text)) (string-guess-in zone now (before_nul text))
 
 exact-or-in : (text : List ℕ) (exact : Result ReadDate DateError) (guessed : Result Approximate DateError) → HasPlacesIn text exact
     → HasApproximatePlacesIn text guessed → HasApproximatePlacesIn text (exact_or_guess exact guessed)
@@ -105,15 +115,15 @@ dated-in text (Err e) h = h
 abbrev HasNoPlaces : List ℕ → Option Expiry → Type 0
 HasNoPlaces text fixed = IfSome fixed (λ said. HasExpiryPlacesIn text (Ok said))
 
-fixed-in : (text : List ℕ) → HasNoPlaces text (fixed_expiry text)
+fixed-in : (text word : List ℕ) → HasNoPlaces text (fixed_expiry word)
 unfolding fixed_expiry
-fixed-in text =
-    either (HasNoPlaces text) (bytes_eq text (codes "never") || bytes_eq text (codes "false")) _ _ tt
-    (either (HasNoPlaces text) (bytes_eq text (codes "all") || bytes_eq text (codes "now")) _ _ tt tt)
+fixed-in text word =
+    either (HasNoPlaces text) (bytes_eq word (codes "never") || bytes_eq word (codes "false")) _ _ tt
+    (either (HasNoPlaces text) (bytes_eq word (codes "all") || bytes_eq word (codes "now")) _ _ tt tt)
 
 expiry-by-in : (moment : Zoned) (text : List ℕ) (fixed : Option Expiry) → HasNoPlaces text fixed → HasExpiryPlacesIn text (expiry_by moment text fixed)
 expiry-by-in moment text (Some said) fixed = fixed
 expiry-by-in moment text None fixed = dated-in text (approximate moment text) (approximate-places moment text)
 
-pub expiry-places : (moment : Zoned) (text : List ℕ) → HasExpiryPlacesIn text (expiry_by moment text (fixed_expiry text))
-expiry-places moment text = expiry-by-in moment text (fixed_expiry text) (fixed-in text)
+pub expiry-places : (moment : Zoned) (text : List ℕ) → HasExpiryPlacesIn text (expiry_by moment text (fixed_expiry (before_nul text)))
+expiry-places moment text = expiry-by-in moment text (fixed_expiry (before_nul text)) (fixed-in text (before_nul text))

@@ -1,5 +1,5 @@
 -- The definition of the approximate reader, on worked texts: each row computes. The moment is 2009-08-30 19:20:00 in UTC.
-use Rattle.std.proofs.Common.{◌≡◌, refl, List, [], ◌∷◌, ℕ, ℤ, pos, Bool, true, false, map, Option, Some, None, Result, Ok, Err}
+use Rattle.std.proofs.Common.{◌≡◌, refl, List, [], ◌∷◌, ◌++◌, ℕ, ℤ, pos, Bool, true, false, map, Option, Some, None, Result, Ok, Err}
 use Prim.Native.String.{String}
 use Rattle.std.specs.Prelude.{codes}
 use Rattle.git_date.specs.Approximate.{guess}
@@ -7,6 +7,7 @@ use Rattle.git_date.specs.ApproximateComputing.{approximating}
 use Rattle.git_date.specs.ApproximateExpiry.{fixed_expiry}
 use Rattle.git_date.specs.ApproximateZones.{one_offset}
 use Rattle.git_date.specs.Computing.{computing}
+use Rattle.git_date.specs.Strings.{nul, before_nul}
 use Rattle.git_date.specs.declared.approximate.answer.Approximate.{Approximate}
 use Rattle.git_date.specs.declared.approximate.expiry.Expiry.TheVariants.{Never, All}
 use Rattle.git_date.proofs.RowMoment.{row_now}
@@ -131,3 +132,33 @@ expiry_rows :
     ≡ Some Never ∷ Some Never ∷ Some All ∷ Some All ∷ None ∷ None ∷ None ∷ None ∷ None ∷ []
 unfolding computing approximating
 expiry_rows = refl
+
+-- a NUL ends such a word, and a text
+expiry_cut : map (λ (word : String × String). fixed_expiry (before_nul (codes word.0 ++ (nul ∷ codes word.1)))) (("never", "x") ∷ ("nev", "er") ∷ ("all", "") ∷ [])
+    ≡ Some Never ∷ None ∷ Some All ∷ []
+unfolding computing approximating
+expiry_cut = refl
+
+abbrev CutRow : Type 0
+CutRow = String × String × Result (ℤ × Bool) DateError × Option ℕ
+
+abbrev guess_of : CutRow → Result Approximate DateError
+guess_of row = guess (one_offset (pos 0)) row_now (codes row.0 ++ (nul ∷ codes row.1))
+
+abbrev guessed_cut : CutRow → Result (ℤ × Bool) DateError × Option ℕ
+guessed_cut row = (told (guess_of row), place_ignored (guess_of row))
+
+abbrev due : CutRow → Result (ℤ × Bool) DateError × Option ℕ
+due row = (row.2, row.3)
+
+abbrev GuessesUpToNul : List CutRow → Type 0
+GuessesUpToNul rows = map guessed_cut rows ≡ map due rows
+
+cut_rows :
+    GuessesUpToNul
+    (("2 weeks ago", " yesterday", is 1250450400, Some 11)
+    ∷ ("friday", " 2 weeks ago", doubtful 1251660000, Some 0)
+    ∷ ("5 mins", " ago", is 1249500000, Some 2)
+    ∷ ("", "yesterday", doubtful 1251660000, Some 0) ∷ [])
+unfolding computing approximating
+cut_rows = refl

@@ -21,7 +21,7 @@ use Rattle.git_date.specs.Fast.{IsGitDate, WritesTwo, WritesClock, WritesOffset,
 use Rattle.git_date.specs.Fields.{unknown}
 use Rattle.git_date.specs.Numbers.{digit_more, number}
 use Rattle.git_date.specs.Offsets.{at_text, padded_number, white, without_white}
-use Rattle.git_date.specs.Reading.{ended, steps, at_said, by_seconds, fields_said, said_by, at_or_fields}
+use Rattle.git_date.specs.Reading.{ended, steps, at_said, by_seconds, fields_said, string_said, at_or_fields}
 use Rattle.git_date.specs.Tokens.{Token, Digits, Mark, digit_before, tokens}
 use Rattle.git_date.specs.Words.{without_ending}
 use Rattle.git_date.specs.declared.dates.Now.{Now}
@@ -30,7 +30,8 @@ use Rattle.git_date.specs.declared.reader.Said.{Said}
 use Rattle.git_date.proofs.ClocksBack.{shown_of, clock-is, known-month}
 use Rattle.git_date.proofs.FastTexts.{t, git-clock, minutes-are}
 use Rattle.git_date.proofs.PrintedClocks.{IsGitClock, at, go, skip-space, go-offset, offset_tokens, spaced-offset, offset_in_minutes, hours_of, is_behind, minutes_of as minutes_in}
-use Rattle.git_date.proofs.PrintedReads.{reads-are}
+use Rattle.git_date.proofs.PrintedReads.{reads-are, sign-free}
+use Rattle.git_date.proofs.StringEnds.{has_nul, no-nul, whole-said}
 use Rattle.git_date.proofs.TokenRuns.{digit-first, mark-first}
 
 -- digits before a mark are one token
@@ -199,20 +200,22 @@ module _ (seconds offset_is : List ℕ) (n : ℕ) (offset : ℤ) (s : WritesSeco
   pub raw-says : Says (seconds ++ (space ∷ offset_is)) (said_at n offset)
   unfolding at_text
   raw-says now =
-      reads-are now (seconds ++ (space ∷ offset_is)) (Digits seconds ∷ Mark space ∷ offset_tokens l) 40 fields tokens-are (omega arith) refl (raw-steps now)
+      reads-are now (seconds ++ (space ∷ offset_is)) (Digits seconds ∷ Mark space ∷ offset_tokens l) 40 fields tokens-are (rw (sign-free (is_behind l)) refl) (omega arith) refl (raw-steps now)
       ∙ fields-say (seconds ++ (space ∷ offset_is))
 
   pub at-says : Says (at_sign ∷ (seconds ++ (space ∷ offset_is))) (said_at n offset)
-  unfolding said_by
+  unfolding string_said
   at-says now =
       let text = at_sign ∷ (seconds ++ (space ∷ offset_is)) in
       let hours = clock.hours in
       let rest = clock.minutes in
+      let are = mark-first at_sign (seconds ++ (space ∷ offset_is)) refl refl ∙ ap (λ (ts : List Token). Mark at_sign ∷ ts) tokens-are in
+      let free : has_nul (Mark at_sign ∷ Digits seconds ∷ Mark space ∷ offset_tokens l) ≡ false = rw (sign-free (is_behind l)) refl in
       let found : at_text (tokens text) ≡ Some (n, offset) =
-      ap at_text (mark-first at_sign (seconds ++ (space ∷ offset_is)) refl refl ∙ ap (λ (ts : List Token). Mark at_sign ∷ ts) tokens-are)
+      ap at_text are
       ∙ at-is seconds (hours_of l) (minutes_in l) (is_behind l) (omega (arith, hours)) (omega (arith, rest))
       ∙ (λ i. Some (s.is i, minutes i)) in
-      ap (λ (o : Option (ℕ × ℤ)). at_or_fields now text o) found ∙ said-is n offset instant
+      whole-said now text (no-nul text (ap has_nul are ∙ free)) ∙ ap (λ (o : Option (ℕ × ℤ)). at_or_fields now text o) found ∙ said-is n offset instant
 
 pub raw-text : (text : List ℕ) (n : ℕ) (minutes : ℤ) → WritesRaw text (n, minutes) → Says text (said_at n minutes)
 raw-text text n minutes w = subst (λ (text : List ℕ). Says text (said_at n minutes)) w.is (raw-says w.seconds w.offset n minutes w.is_seconds w.is_offset)

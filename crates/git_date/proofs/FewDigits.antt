@@ -17,7 +17,7 @@ use Rattle.git_date.specs.Fields.{with_date}
 use Rattle.git_date.specs.Groups.{ReadTokens, marked_number, is_group_mark, third_or_none, group_after, group_of, second_of, third_of, taken_or_refused, or_else, year_first_by, year_first_group, day_month_group, group_rule, large_in}
 use Rattle.git_date.specs.Numbers.{number}
 use Rattle.git_date.specs.Offsets.{at_text}
-use Rattle.git_date.specs.Reading.{nothing_read, reading_of, fields_said, at_or_fields, said_by}
+use Rattle.git_date.specs.Reading.{nothing_read, reading_of, fields_said, at_or_fields, string_said}
 use Rattle.git_date.specs.Tokens.{Token, Letters, Digits, Mark, letter_before, digit_before, tokens, bytes_left}
 use Rattle.git_date.specs.declared.dates.Dated.{Dated}
 use Rattle.git_date.specs.declared.dates.Dated.TheVariants as dated
@@ -293,7 +293,7 @@ few-digits now text e =
     let less : count_by is_ascii_digit text < 3 = let t = both.1 in grind (arith, nat_tests) in
     tame-steps now text (tame-from (tokens text) has.plain (omega arith))
 
-pub tame-nothing : (now : Now) (text : List ℕ) (ts : List Token) → tokens text ≡ ts → at_text ts ≡ None → AreAll Tame ts → said_by now text ≡ Err Unreadable
-unfolding said_by
+pub tame-nothing : (now : Now) (text : List ℕ) (ts : List Token) → tokens text ≡ ts → at_text ts ≡ None → AreAll Tame ts → string_said now text ≡ Err Unreadable
+unfolding string_said
 tame-nothing now text ts e none tame =
     ap (at_or_fields now text) (ap at_text e ∙ none) ∙ tame-steps now text (subst (AreAll Tame) (sym e) tame)

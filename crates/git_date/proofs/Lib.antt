@@ -1,3 +1,4 @@
+pub mod StringEnds
 pub mod TokenRuns
 pub mod ZoneRows
 pub mod Months

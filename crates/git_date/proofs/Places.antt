@@ -1,25 +1,30 @@
 -- Where the places of answers and refusals are: at characters of the text.
-use Rattle.std.proofs.Common.{◌≡◌, ◌∙◌, ◌<◌, ◌-◌, ◌+◌, pos, option_map, ℕ, ℤ, Bool, true, false, cond, List, [], ◌∷◌, ◌++◌, length, get_or, refl, ap, sym, subst, arith, append_assoc, length-append, Option, Some, None, IfSome, Result, Ok, Err}
+use Rattle.std.proofs.Common.{◌≡◌, ◌∙◌, ◌<◌, ◌-◌, ◌+◌, pos, nat_lt, option_map, ℕ, ℤ, Bool, true, false, cond, List, [], ◌∷◌, ◌++◌, length, get_or, refl, ap, sym, subst, arith, append_assoc, length-append, Option, Some, None, IfSome, Result, Ok, Err}
 use Rattle.std.proofs.lemmas.Str.{IsCharBoundary-before_ascii}
 use Rattle.std.proofs.Math.Seq.{get_or-append_seam}
 use Rattle.std.specs.Char.{is_ascii_alphabetic, is_ascii_digit}
 use Rattle.std.specs.Int.Signed.{le_z}
+use Rattle.std.specs.Option.{option_or}
+use Rattle.std.proofs.lemmas.Bool.Decides.{nat_tests}
 use Rattle.jiff.specs.Types.{TimeZone}
 use Rattle.gix_date.proofs.Text.AsciiCuts.{digit_is_ascii, letter_is_ascii}
 use Rattle.gix_date.specs.Fields.Zoned.{is_instant}
 use Rattle.git_date.specs.Tokens.{Token, Letters, Digits, Mark, token_text, letter_before, digit_before, tokens, texts}
 use Rattle.git_date.specs.Dates.{exact_seconds}
 use Rattle.git_date.specs.Offsets.{at_text}
-use Rattle.git_date.specs.Reading.{nothing_read, reading_of, place_in, at_said, by_seconds, fields_said, at_or_fields, said_by}
+use Rattle.git_date.specs.Strings.{string_len, before_nul, nul_place}
+use Rattle.git_date.specs.Reading.{nothing_read, reading_of, place_in, at_said, by_seconds, fields_said, at_or_fields, said_up_to, string_said, said_by}
 use Rattle.git_date.specs.Outcome.{date_at, date_in, at_offset, date_of, instant_seconds, IsPlaceIn, IsErrorIn, HasPlacesIn}
 use Rattle.git_date.specs.Zones.{offsets_of, local_offset}
 use Rattle.git_date.specs.declared.dates.Now.{Now}
 use Rattle.git_date.specs.declared.error.DateError.{DateError}
+use Rattle.git_date.specs.declared.error.DateError.TheVariants as error
 use Rattle.git_date.specs.declared.fault.Fault.{Fault}
 use Rattle.git_date.specs.declared.fault.Fault.TheVariants as fault
 use Rattle.git_date.specs.declared.reader.Reading.{Reading}
 use Rattle.git_date.specs.declared.reader.Said.{Said}
 use Rattle.git_date.proofs.Kept.{IsKept, IsAt, IsReadAt, steps-at, either}
+use Rattle.git_date.proofs.StringEnds.{before-place, nul-place-in}
 use Rattle.git_date.proofs.TokenRuns.{texts_are}
 
 -- a run has a byte, which is no part of a longer character
@@ -125,9 +130,38 @@ at-or-in : (now : Now) (text : List ℕ) (found : Option (ℕ × ℤ)) → IsSai
 at-or-in now text (Some found) = at-in text found
 at-or-in now text None = fields-in text (reading_of now text) (reading-at now text)
 
+string-said-in : (now : Now) (text : List ℕ) → IsSaidIn text (string_said now text)
+unfolding string_said
+string-said-in now text = at-or-in now text (at_text (tokens text))
+
+-- a place before a NUL is one of the whole text, and so is that of the NUL
+pub place-before : (text : List ℕ) (place : ℕ) → IsPlaceIn (before_nul text) place → IsPlaceIn text place
+unfolding before_nul
+place-before text place h = before-place text place h
+
+pub error-before : (text : List ℕ) (e : DateError) → IsErrorIn (before_nul text) e → IsErrorIn text e
+error-before text (error.NumberTooLarge place) h = place-before text place h
+error-before text (error.BackTooFar place) h = place-before text place h
+error-before text (error.YearRefused place) h = place-before text place h
+error-before text error.Unreadable h = tt
+error-before text error.Range h = tt
+
+nul-in : (text : List ℕ) (b : Bool) → nat_lt (string_len text) (length text) ≡ b → IfSome (cond b (Some (string_len text)) None) (IsPlaceIn text)
+nul-in text true e = nul-place-in text (grind (arith, nat_tests, e))
+nul-in text false e = tt
+
+pub up-to-in : (text : List ℕ) (ignored : Option ℕ) → IfSome ignored (IsPlaceIn (before_nul text)) → IfSome (option_or ignored (nul_place text)) (IsPlaceIn text)
+unfolding nul_place
+up-to-in text None h = nul-in text (nat_lt (string_len text) (length text)) refl
+up-to-in text (Some place) h = place-before text place h
+
+said-up-to-in : (text : List ℕ) (said : Result Said DateError) → IsSaidIn (before_nul text) said → IsSaidIn text (said_up_to (nul_place text) said)
+said-up-to-in text (Ok said) h = up-to-in text said.ignored h
+said-up-to-in text (Err e) h = error-before text e h
+
 said-in : (now : Now) (text : List ℕ) → IsSaidIn text (said_by now text)
 unfolding said_by
-said-in now text = at-or-in now text (at_text (tokens text))
+said-in now text = said-up-to-in text (string_said now (before_nul text)) (string-said-in now (before_nul text))
 
 -- the places of an answer
 date-at-in : (text : List ℕ) (said : Said) (minutes : ℤ) → IfSome said.ignored (IsPlaceIn text) → HasPlacesIn text (date_at said minutes)

@@ -15,6 +15,7 @@ use Rattle.gix_date.specs.Fields.FieldTexts.{four_digits, clock_text}
 use Rattle.gix_date.specs.Fields.DateOffsets.{strict_offset_text}
 use Rattle.gix_date.specs.Fields.Layout.{LocalTime}
 use Rattle.gix_date.specs.Fields.Offsets.{offset_sign, compact_offset_text}
+use Rattle.git_date.specs.Strings.{nul}
 use Rattle.git_date.specs.Tokens.{Token, Letters, Digits, Mark, letter_before, digit_before, tokens, bytes_left, is_end, walked}
 use Rattle.git_date.specs.Numbers.{number, narrow}
 use Rattle.git_date.specs.Names.{is_weekday}
@@ -187,6 +188,7 @@ pub record IsDateMark (mark : ℕ) : Type 0 where
   pub no_digit : is_ascii_digit mark ≡ false
   pub group : is_group_mark mark ≡ true
   pub no_colon : (mark == colon) ≡ false
+  pub no_nul : (mark == nul) ≡ false
   pub again : (mark == mark) ≡ true
 
 pub date-mark : (mark : ℕ) → is_date_mark mark ≡ true → IsDateMark mark
@@ -195,6 +197,7 @@ date-mark mark h = record {
   no_digit = grind (arith, nat_tests, h);
   group = grind (arith, nat_tests, h);
   no_colon = grind (arith, nat_tests, h);
+  no_nul = grind (arith, nat_tests, h);
   again = grind (arith, nat_tests);
 }
 

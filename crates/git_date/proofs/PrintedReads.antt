@@ -1,6 +1,6 @@
 -- What a text that is printed says: the fields of its clock.
-use Rattle.std.proofs.Common.{◌≡◌, ◌∙◌, ◌≤◌, ◌+◌, ◌*◌, ◌/◌, ◌%◌, ℕ, suc, ℤ, pos, negsuc, ◌*ℤ◌, unsigned_abs, false, List, ◌∷◌, ◌++◌, length, refl, ap, sym, subst, arith, None, Ok}
-use Rattle.std.specs.Prelude.{nat_lt, int_lt}
+use Rattle.std.proofs.Common.{◌≡◌, ◌∙◌, ◌≤◌, ◌+◌, ◌*◌, ◌/◌, ◌%◌, ℕ, suc, ℤ, pos, negsuc, ◌*ℤ◌, unsigned_abs, Bool, true, false, cond, List, ◌∷◌, ◌++◌, length, refl, ap, sym, subst, arith, None, Ok}
+use Rattle.std.specs.Prelude.{◌==◌, nat_lt, int_lt}
 use Rattle.std.specs.Fmt.{decimal}
 use Rattle.std.proofs.lemmas.Bool.Decides.{nat_tests}
 use Rattle.jiff_core.proofs.SignedLemmas.{signed_arith}
@@ -8,37 +8,47 @@ use Rattle.gix_date.specs.Fields.ClockNumbers.{hours_in, minutes_in}
 use Rattle.gix_date.specs.Fields.FieldTexts.{four_digits, clock_text}
 use Rattle.gix_date.specs.Fields.Layout.{LocalTime}
 use Rattle.gix_date.specs.Fields.Offsets.{compact_offset_text}
-use Rattle.gix_date.specs.Text.Characters.{comma, space}
+use Rattle.gix_date.specs.Text.Characters.{comma, minus, plus, space}
 use Rattle.gix_date.specs.Text.Names.{day_name, month_name}
 use Rattle.gix_date.specs.Text.Numbers.{two_digits}
 use Rattle.git_date.specs.Tokens.{Token, tokens}
 use Rattle.git_date.specs.Fields.{unknown}
 use Rattle.git_date.specs.Offsets.{at_text}
-use Rattle.git_date.specs.Reading.{nothing_read, steps, reading_of, fields_said, at_or_fields, said_by}
+use Rattle.git_date.specs.Reading.{nothing_read, steps, reading_of, fields_said, at_or_fields, string_said, said_by}
+use Rattle.git_date.specs.Strings.{nul}
 use Rattle.git_date.specs.declared.dates.Now.{Now}
 use Rattle.git_date.specs.declared.fields.Fields.{Fields}
 use Rattle.git_date.proofs.EnoughSteps.{enough, fewer}
-use Rattle.git_date.proofs.PrintedClocks.{IsGitClock, IsDayText, IsDateMark, two-day, bare-day, marked_text, marked_strict_text, at, fields_of, signed, iso_tokens, iso-steps, iso-are, strict_tokens, strict-steps, strict-are, mail_tokens, mail-steps, mail-are, gitoxide_tokens, gitoxide-steps, gitoxide-are, default_tokens, default-steps, default-are}
+use Rattle.git_date.proofs.StringEnds.{has_nul, no-nul, whole-said}
+use Rattle.git_date.proofs.PrintedClocks.{IsGitClock, IsDayText, IsDateMark, two-day, bare-day, marked_text, marked_strict_text, at, fields_of, signed, sign_of, is_behind, iso_tokens, iso-steps, iso-are, strict_tokens, strict-steps, strict-are, mail_tokens, mail-steps, mail-are, gitoxide_tokens, gitoxide-steps, gitoxide-are, default_tokens, default-steps, default-are}
 
-pub reads-are : (now : Now) (text : List ℕ) (ts : List Token) (n : ℕ) (f : Fields) → tokens text ≡ ts → length ts ≤ n → at_text ts ≡ None
+pub reads-are : (now : Now) (text : List ℕ) (ts : List Token) (n : ℕ) (f : Fields) → tokens text ≡ ts → has_nul ts ≡ false → length ts ≤ n → at_text ts ≡ None
     → steps now n (at unknown) ts ≡ Ok (at f) → said_by now text ≡ fields_said text (Ok (at f))
-unfolding said_by reading_of
-reads-are now text ts n f e fits none read =
+unfolding string_said reading_of
+reads-are now text ts n f e free fits none read =
     let few : length (tokens text) ≤ n = subst (λ (ts : List Token). length ts ≤ n) (sym e) fits in
     let reading : steps now (length text) nothing_read (tokens text) ≡ Ok (at f) =
     enough now (length text) n nothing_read (tokens text) (fewer text) few ∙ ap (steps now n nothing_read) e ∙ read in
-    ap (at_or_fields now text) (ap at_text e ∙ none) ∙ ap (fields_said text) reading
+    whole-said now text (no-nul text (ap has_nul e ∙ free)) ∙ ap (at_or_fields now text) (ap at_text e ∙ none) ∙ ap (fields_said text) reading
+
+-- no NUL is printed
+pub sign-free : (behind : Bool) → (cond behind minus plus == nul) ≡ false
+sign-free true = refl
+sign-free false = refl
+
+free : (t : LocalTime) → (sign_of t == nul) ≡ false
+free t = sign-free (is_behind t)
 
 -- what is printed of a date, a clock and an offset, by the mark between the date's numbers
 pub iso-reads : (mark : ℕ) → IsDateMark mark → (now : Now) (t : LocalTime) → IsGitClock t → said_by now (marked_text mark t) ≡ fields_said (marked_text mark t) (Ok (at (fields_of t)))
 unfolding at_text
-iso-reads mark is now t h = reads-are now (marked_text mark t) (iso_tokens mark t) 40 (fields_of t) (iso-are mark t is h) (omega arith) refl (iso-steps mark now 35 t is h)
+iso-reads mark is now t h = reads-are now (marked_text mark t) (iso_tokens mark t) 40 (fields_of t) (iso-are mark t is h) (rw (is.no_nul, free t) refl) (omega arith) refl (iso-steps mark now 35 t is h)
 
 pub strict-reads : (mark : ℕ) → IsDateMark mark → (now : Now) (t : LocalTime) → IsGitClock t
     → said_by now (marked_strict_text mark t) ≡ fields_said (marked_strict_text mark t) (Ok (at (fields_of t)))
 unfolding at_text
 strict-reads mark is now t h =
-    reads-are now (marked_strict_text mark t) (strict_tokens mark t) 40 (fields_of t) (strict-are mark t is h) (omega arith) refl (strict-steps mark now 37 t is h)
+    reads-are now (marked_strict_text mark t) (strict_tokens mark t) 40 (fields_of t) (strict-are mark t is h) (rw (is.no_nul, free t) refl) (omega arith) refl (strict-steps mark now 37 t is h)
 
 -- dates with names, by the text of their day
 module _ (day : List ℕ) where
@@ -49,7 +59,7 @@ module _ (day : List ℕ) where
 
   pub mail-reads : (now : Now) (t : LocalTime) → IsGitClock t → IsDayText t.date.day day → said_by now (mail_text t) ≡ fields_said (mail_text t) (Ok (at (fields_of t)))
   unfolding at_text
-  mail-reads now t h is = reads-are now (mail_text t) (mail_tokens day t) 40 (fields_of t) (mail-are day t h is) (omega arith) refl (mail-steps now 28 day t h is)
+  mail-reads now t h is = reads-are now (mail_text t) (mail_tokens day t) 40 (fields_of t) (mail-are day t h is) (rw (free t) refl) (omega arith) refl (mail-steps now 28 day t h is)
 
   abbrev pub named_text : LocalTime → List ℕ
   named_text t =
@@ -58,7 +68,7 @@ module _ (day : List ℕ) where
 
   pub gitoxide-reads : (now : Now) (t : LocalTime) → IsGitClock t → IsDayText t.date.day day → said_by now (named_text t) ≡ fields_said (named_text t) (Ok (at (fields_of t)))
   unfolding at_text
-  gitoxide-reads now t h is = reads-are now (named_text t) (gitoxide_tokens day t) 40 (fields_of t) (gitoxide-are day t h is) (omega arith) refl (gitoxide-steps now 29 day t h is)
+  gitoxide-reads now t h is = reads-are now (named_text t) (gitoxide_tokens day t) 40 (fields_of t) (gitoxide-are day t h is) (rw (free t) refl) (omega arith) refl (gitoxide-steps now 29 day t h is)
 
   abbrev pub default_day_text : LocalTime → List ℕ
   default_day_text t =
@@ -67,7 +77,7 @@ module _ (day : List ℕ) where
 
   pub default-reads : (now : Now) (t : LocalTime) → IsGitClock t → IsDayText t.date.day day → said_by now (default_day_text t) ≡ fields_said (default_day_text t) (Ok (at (fields_of t)))
   unfolding at_text
-  default-reads now t h is = reads-are now (default_day_text t) (default_tokens day t) 40 (fields_of t) (default-are day t h is) (omega arith) refl (default-steps now 29 day t h is)
+  default-reads now t h is = reads-are now (default_day_text t) (default_tokens day t) 40 (fields_of t) (default-are day t h is) (rw (free t) refl) (omega arith) refl (default-steps now 29 day t h is)
 
 -- days in two digits, and without a zero before them
 pub two-day-of : (t : LocalTime) → IsGitClock t → IsDayText t.date.day (two_digits t.date.day)

@@ -1,11 +1,12 @@
 -- The definition of what is read, on worked texts: each row computes. The moment is 2009-08-30 19:20:00 in UTC.
-use Rattle.std.proofs.Common.{◌≡◌, refl, List, [], ◌∷◌, ℕ, ℤ, pos, neg_ℤ, map, Result, Ok, Err}
+use Rattle.std.proofs.Common.{◌≡◌, refl, List, [], ◌∷◌, ◌++◌, ℕ, ℤ, pos, neg_ℤ, map, Option, Some, None, Result, Ok, Err}
 use Prim.Native.String.{String}
 use Rattle.std.specs.Prelude.{codes, unwrap_or}
 use Rattle.gix_date.specs.declared.time.Time.{Time}
 use Rattle.git_date.specs.Computing.{computing}
 use Rattle.git_date.specs.Outcome.{date_at}
 use Rattle.git_date.specs.Reading.{said_by}
+use Rattle.git_date.specs.Strings.{nul}
 use Rattle.git_date.specs.declared.date.ReadDate.{ReadDate}
 use Rattle.git_date.proofs.RowMoment.{row_now}
 use Rattle.git_date.specs.declared.error.DateError.{DateError}
@@ -103,3 +104,33 @@ ten_days_after : map (λ text. in_utc (said_by (record { seconds = pos 125019120
     ≡ Ok (at 1251055200 (pos 0)) ∷ Err Unreadable ∷ []
 unfolding computing
 ten_days_after = refl
+
+-- each row is what stands before a NUL and after it, the time, and the place of what is ignored
+abbrev CutRow : Type 0
+CutRow = String × String × Result Time DateError × Option ℕ
+
+abbrev said_ignored : Result Said DateError → Option ℕ
+said_ignored (Ok said) = said.ignored
+said_ignored (Err e) = None
+
+abbrev said_of : CutRow → Result Said DateError
+said_of row = said_by row_now (codes row.0 ++ (nul ∷ codes row.1))
+
+abbrev read_cut : CutRow → Result Time DateError × Option ℕ
+read_cut row = (in_utc (said_of row), said_ignored (said_of row))
+
+abbrev due : CutRow → Result Time DateError × Option ℕ
+due row = (row.2, row.3)
+
+abbrev ReadsUpToNul : List CutRow → Type 0
+ReadsUpToNul rows = map read_cut rows ≡ map due rows
+
+cut_rows :
+    ReadsUpToNul
+    (("Thu, 14 Feb 2008 20:30:45 +0000", " +0500", Ok (at 1203021045 (pos 0)), Some 31)
+    ∷ ("2008-02-14 20:30:45 -0500", "", Ok (at 1203039045 (neg_ℤ (pos 18000))), Some 25)
+    ∷ ("2008-02-14 20:30:45 IST", " +0500", Ok (at 1203021045 (pos 0)), Some 20)
+    ∷ ("@1203021045 +0200", "x", Ok (at 1203021045 (pos 7200)), Some 17)
+    ∷ ("2008-02-14", " 20:30:45", Err Unreadable, None) ∷ [])
+unfolding computing
+cut_rows = refl

@@ -1,5 +1,5 @@
 -- What a zone chooses, and what its clock shows.
-use Rattle.std.proofs.Common.{◌≡◌, ◌∙◌, ◌+ℤ◌, ◌-ℤ◌, ℕ, ℤ, Result, pos, neg_ℤ, Bool, true, false, cond, Option, Some, None, IfSome, ◌^◌, option_map, refl, sym, ap, arith}
+use Rattle.std.proofs.Common.{◌≡◌, ◌∙◌, ◌+ℤ◌, ◌-ℤ◌, ℕ, ℤ, Result, pos, neg_ℤ, Bool, true, false, cond, Option, Some, None, ◌^◌, option_map, refl, sym, ap, arith}
 use Rattle.jiff.specs.Types.{TimeZone}
 use Rattle.jiff.specs.Words.{nanos_of_seconds, offset_at, IsOffsetSeconds}
 use Rattle.jiff_core.proofs.SignedLemmas.{signed_arith}

@@ -11,7 +11,7 @@ use Rattle.jiff_tz.specs.Zone.{zero_in_range}
 use Rattle.gix_date.specs.Fields.Zoned.{is_instant}
 use Rattle.gix_date.specs.declared.time.Time.{Time}
 use Rattle.git_date.specs.Outcome.{instant_seconds, date_at, date_of, said_offset, at_offset}
-use Rattle.git_date.specs.Zones.{ZoneOffsets, daylight_at, offsets_of, is_same, shows, standard_offset, gap_offset, second_offset, searched_offset, local_offset}
+use Rattle.git_date.specs.Zones.{ZoneOffsets, daylight_at, offsets_of, is_same, shows, gap_offset, second_offset, searched_offset, local_offset}
 use Rattle.git_date.specs.declared.reader.Said.{Said}
 use Rattle.git_date.specs.declared.date.ReadDate.{ReadDate}
 use Rattle.git_date.specs.declared.error.DateError.{DateError}

@@ -1,6 +1,7 @@
 -- The approximate reader: one token after the other, and what the whole text comes to.
 use Rattle.std.specs.Prelude.{◌≡◌, ℕ, Bool, true, false, List, length, pos, if◌then◌else◌, Option, Some, None, IfSome, Result, Ok, Err, option_map}
 use Rattle.std.specs.Int.Signed.{le_z}
+use Rattle.std.specs.Option.{option_or}
 use Rattle.jiff.specs.declared.zoned.Zoned.{Zoned}
 use Rattle.gix_date.specs.Relative.Steps.{zone_of}
 use Rattle.gix_date.specs.declared.time.Time.{Time}
@@ -10,6 +11,7 @@ use Rattle.git_date.specs.ApproximateZones.{Choices, choices_of, shown_in, fille
 use Rattle.git_date.specs.Dates.{now_of}
 use Rattle.git_date.specs.Outcome.{date_of, IsPlaceIn, IsErrorIn}
 use Rattle.git_date.specs.Reading.{and_then, place_in, error_of, said_by, ended}
+use Rattle.git_date.specs.Strings.{nul_place, before_nul}
 use Rattle.git_date.specs.Tokens.{Token, Letters, Digits, Mark, tokens, walked}
 use Rattle.git_date.specs.declared.approximate.answer.Approximate.{Approximate}
 use Rattle.git_date.specs.declared.approximate.answer.Today.{Today}
@@ -62,9 +64,18 @@ guess_by zone now text (Some shown) =
     let today : Today = record { now = now; shown = shown } in answer_of zone today text (draft_of zone today text)
 guess_by zone now text None = Err Range
 
--- what the approximate reader makes of a text
+-- what the approximate reader makes of a text without NUL
+unfoldable pub string_guess : Choices → Now → List ℕ → Result Approximate DateError
+string_guess zone now text = guess_by zone now text (shown_in zone now.seconds)
+
+-- what is answered, where what begins at this place is ignored too, if there is one
+abbrev pub answer_up_to : Option ℕ → Result Approximate DateError → Result Approximate DateError
+answer_up_to place (Ok date) = Ok (record date { ignored = option_or date.ignored place })
+answer_up_to place (Err e) = Err e
+
+-- what the approximate reader makes of a text: of what stands before its first NUL
 unfoldable pub guess : Choices → Now → List ℕ → Result Approximate DateError
-guess zone now text = guess_by zone now text (shown_in zone now.seconds)
+guess zone now text = answer_up_to (nul_place text) (string_guess zone now (before_nul text))
 
 abbrev pub is_unreadable : DateError → Bool
 is_unreadable Unreadable = true

@@ -6,20 +6,21 @@ use Rattle.git_date.specs.ApproximateRules.{is_padded}
 use Rattle.git_date.specs.ApproximateWords.{meaning_of}
 use Rattle.git_date.specs.Digits.{min_epoch}
 use Rattle.git_date.specs.Numbers.{number, max_small}
+use Rattle.git_date.specs.Strings.{before_nul}
 use Rattle.git_date.specs.Tokens.{Letters, Digits, Mark, tokens}
 use Rattle.git_date.specs.declared.approximate.answer.Approximate.{Approximate}
 use Rattle.git_date.specs.declared.approximate.meanings.Meaning.TheVariants as meaning
 use Rattle.git_date.specs.declared.approximate.meanings.Unit.{Unit}
 use Rattle.git_date.specs.declared.approximate.meanings.Unit.TheVariants.{Seconds, Months}
 
--- `n UNIT ago`: a count in digits, a mark, the word of a unit, a mark, and `ago`. The digits are neither an epoch nor a date
+-- `n UNIT ago`, up to a NUL: a count in digits, a mark, the word of a unit, a mark, and `ago`. The digits are neither an epoch nor a date
 -- of eight digits, which the exact reader would take.
 pub record CountsUnit (text : List ℕ) (count : ℕ) (counted : Unit) : Type 0 where
   pub digits : List ℕ
   pub gap : ℕ
   pub unit : List ℕ
   pub last : ℕ
-  pub is : tokens text ≡ Digits digits ∷ Mark gap ∷ Letters unit ∷ Mark last ∷ Letters (codes "ago") ∷ []
+  pub is : tokens (before_nul text) ≡ Digits digits ∷ Mark gap ∷ Letters unit ∷ Mark last ∷ Letters (codes "ago") ∷ []
   pub counts : number digits ≡ count
   pub not_zero : 1 ≤ count
   pub no_epoch : count < min_epoch

@@ -1,6 +1,6 @@
 -- What a proof about an approximate text that is written out opens, beside `computing`.
 use Rattle.git_date.specs.Tokens.{walked}
-use Rattle.git_date.specs.Approximate.{draft_of, guess}
+use Rattle.git_date.specs.Approximate.{draft_of, string_guess, guess}
 use Rattle.git_date.specs.ApproximateClocks.{shown_at, first_second, filled_seconds}
 use Rattle.git_date.specs.ApproximateDrafts.{lone_year, with_number, settle, dropped, half, at_month, less_months}
 use Rattle.git_date.specs.ApproximateExpiry.{fixed_expiry}
@@ -12,5 +12,5 @@ use Rattle.git_date.specs.ApproximateZones.{shown_in, filled_time, moved_to, fil
 -- for proofs about literal texts: `unfolding computing approximating` below a signature lets `guess` compute, for a
 -- written-out text, a zone of one offset and a moment in numerals
 unfoldable pub approximating : Type 0
-unfolding walked draft_of guess shown_at first_second filled_seconds lone_year with_number settle dropped half at_month less_months fixed_expiry hour_rule back_rule months_rule meaning_rule letters_rule is_padded number_waits group_said digits_rule moment_named count_named unit_named weekday_told meaning_of shown_in filled_time moved_to fill
+unfolding walked draft_of string_guess guess shown_at first_second filled_seconds lone_year with_number settle dropped half at_month less_months fixed_expiry hour_rule back_rule months_rule meaning_rule letters_rule is_padded number_waits group_said digits_rule moment_named count_named unit_named weekday_told meaning_of shown_in filled_time moved_to fill
 approximating = Unit {0}

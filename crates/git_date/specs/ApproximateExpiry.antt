@@ -3,6 +3,7 @@ use Rattle.std.specs.Prelude.{◌≡◌, ℕ, ◌||◌, List, bytes_eq, codes, i
 use Rattle.jiff.specs.declared.zoned.Zoned.{Zoned}
 use Rattle.git_date.specs.Approximate.{approximate, HasApproximatePlacesIn}
 use Rattle.git_date.specs.Outcome.{IsErrorIn}
+use Rattle.git_date.specs.Strings.{before_nul}
 use Rattle.git_date.specs.declared.approximate.answer.Approximate.{Approximate}
 use Rattle.git_date.specs.declared.approximate.expiry.Expiry.{Expiry}
 use Rattle.git_date.specs.declared.approximate.expiry.Expiry.TheVariants.{Never, All, Before}
@@ -24,9 +25,9 @@ abbrev pub expiry_by : Zoned → List ℕ → Option Expiry → Result Expiry Da
 expiry_by moment text (Some expiry) = Ok expiry
 expiry_by moment text None = expiry_of (approximate moment text)
 
--- the result of `expiry_date`: that of one of four words, or else of a date
+-- The result of `expiry_date`: that of one of four words, or else of a date. The word may stand before a NUL.
 abbrev pub ExpiryOutcome : Zoned → List ℕ → Result Expiry DateError → Type 0
-ExpiryOutcome moment text result = result ≡ expiry_by moment text (fixed_expiry text)
+ExpiryOutcome moment text result = result ≡ expiry_by moment text (fixed_expiry (before_nul text))
 
 -- places are in the text: those of a date, or that of a refusal
 abbrev pub HasExpiryPlacesIn : List ℕ → Result Expiry DateError → Type 0

@@ -5,6 +5,7 @@ use Rattle.gix_date.specs.declared.time.Time.{Time}
 use Rattle.git_date.specs.ApproximateRules.{are_digits_next}
 use Rattle.git_date.specs.ApproximateWords.{meaning_of}
 use Rattle.git_date.specs.Groups.{is_group_mark}
+use Rattle.git_date.specs.Strings.{before_nul}
 use Rattle.git_date.specs.Tokens.{Token, Letters, Digits, Mark, tokens}
 use Rattle.git_date.specs.Words.{is_filler, is_ending}
 use Rattle.git_date.specs.declared.approximate.answer.Approximate.{Approximate}
@@ -29,9 +30,13 @@ heard_from digits (Mark byte ∷ more) =
     if digits && are_digits_next more && is_group_mark byte then Between byte ∷ heard_from false more
     else heard_from false more
 
--- what is heard of a text: its letters and digits, and such marks
+-- what is heard of a text without NUL: its letters and digits, and such marks
+abbrev pub string_heard : List ℕ → List Heard
+string_heard text = heard_from false (tokens text)
+
+-- what is heard of a text, up to its first NUL
 abbrev pub heard : List ℕ → List Heard
-heard text = heard_from false (tokens text)
+heard text = string_heard (before_nul text)
 
 -- Letters that say something or may be passed over: a known word, or a filler. Directly after digits it may be their ending;
 -- and directly between digits a `T`, and nothing else.

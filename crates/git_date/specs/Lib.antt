@@ -1,3 +1,4 @@
+pub mod Strings
 pub mod Tokens
 pub mod Numbers
 pub mod Names

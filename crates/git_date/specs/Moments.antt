@@ -4,6 +4,7 @@ use Rattle.gix_date.specs.Text.Characters.{colon}
 use Rattle.git_date.specs.Digits.{Stepped}
 use Rattle.git_date.specs.Groups.{ReadTokens, group_of}
 use Rattle.git_date.specs.Numbers.{number}
+use Rattle.git_date.specs.Strings.{before_nul}
 use Rattle.git_date.specs.Tokens.{Token, Digits, tokens, bytes_left, is_end}
 use Rattle.git_date.specs.Reading.{nothing_read, read_on, rule}
 use Rattle.git_date.specs.declared.dates.Now.{Now}
@@ -43,4 +44,4 @@ meets_day_month now (suc n) r (t ∷ more) =
 
 -- the reader of the text comes to no such date
 abbrev pub HasNoDayMonth : Now → List ℕ → Type 0
-HasNoDayMonth now text = meets_day_month now (length text) nothing_read (tokens text) ≡ false
+HasNoDayMonth now text = meets_day_month now (length (before_nul text)) nothing_read (tokens (before_nul text)) ≡ false

@@ -5,7 +5,6 @@ use Rattle.std.specs.Option.{is_some}
 use Rattle.jiff.specs.Types.{TimeZone}
 use Rattle.jiff_core.specs.Calendar.{IsBetween}
 use Rattle.gix_date.specs.Fields.Zoned.{is_instant, first_second, last_second}
-use Rattle.gix_date.specs.declared.time.Time.{Time}
 use Rattle.git_date.specs.Zones.{offsets_of, local_offset}
 use Rattle.git_date.specs.declared.reader.Said.{Said}
 use Rattle.git_date.specs.declared.date.ReadDate.{ReadDate}

@@ -3,6 +3,7 @@ use Rattle.std.specs.Prelude.{ℕ, ◌-◌, Bool, true, false, List, ◌∷◌, 
 use Rattle.std.specs.Option.{option_or}
 use Rattle.gix_date.specs.Text.Characters.{plus, minus}
 use Rattle.gix_date.specs.Fields.Zoned.{is_instant}
+use Rattle.git_date.specs.Strings.{nul_place, before_nul}
 use Rattle.git_date.specs.Tokens.{Token, Letters, Digits, Mark, tokens, bytes_left, is_end, walked}
 use Rattle.git_date.specs.Fields.{unknown}
 use Rattle.git_date.specs.Words.{letters_rule, without_ending}
@@ -103,6 +104,16 @@ abbrev pub at_or_fields : Now → List ℕ → Option (ℕ × ℤ) → Result Sa
 at_or_fields now text (Some found) = at_said found
 at_or_fields now text None = fields_said text (reading_of now text)
 
--- What a text says, before a zone is asked. It has the seconds that a clock has counted, or those of the instant.
+-- what a text without NUL says
+unfoldable pub string_said : Now → List ℕ → Result Said DateError
+string_said now text = at_or_fields now text (at_text (tokens text))
+
+-- what is said, where what begins at this place is ignored too, if there is one
+abbrev pub said_up_to : Option ℕ → Result Said DateError → Result Said DateError
+said_up_to place (Ok said) = Ok (record said { ignored = option_or said.ignored place })
+said_up_to place (Err e) = Err e
+
+-- What a text says up to its first NUL, before a zone is asked. It has the seconds that a clock has counted, or those of the
+-- instant.
 unfoldable pub said_by : Now → List ℕ → Result Said DateError
-said_by now text = at_or_fields now text (at_text (tokens text))
+said_by now text = said_up_to (nul_place text) (string_said now (before_nul text))

@@ -22,7 +22,8 @@ pub struct ReadDate {
     /// Whether the text names its offset, as `+0200`, `Z` or `EST`, so that each zone gives the same date. As in Git, `-0001` names
     /// none, but after `@` it does.
     pub has_offset: bool,
-    /// The place, in bytes, of the first word, number or sign of an offset that no rule used, so that a program can say so.
+    /// The place, in bytes, of the first word, number or sign of an offset that no rule used, so that a program can say so; or
+    /// else that of the first NUL, which ends the text.
     ///
     /// Not counted are other marks, the ending of a number as in `7th`, one `T` between digits, and, if no digit follows
     /// directly, `ago`, `at`, `on`, `of`, `the`, `and`. A day of the week is used then, though it is not compared.
@@ -35,7 +36,8 @@ pub struct ReadDate {
 /// that which the zone has where UTC's clock shows the time, in a gap that which is not daylight saving time's. The moment itself
 /// matters only to a date such as `7/4/2009` after a clock, which is refused if it is more than ten days ahead.
 ///
-/// The text is bytes, UTF-8 or not: each byte that is not ASCII is a mark, which is skipped. [`DateError`] says when a text is
+/// The text is bytes, UTF-8 or not: each byte that is not ASCII is a mark, which is skipped. As in Git, whose dates are C strings,
+/// a NUL ends the text: [`ReadDate::ignored`] tells of it, also where nothing follows. [`DateError`] says when a text is
 /// refused. A place that the answer has is one where a character of the text begins. Takes no memory.
 pub fn parse_date(text: &[u8], now: Zoned<'_>) -> Result<ReadDate, DateError>
     ensures date { DateOutcome (zone_of now.entry) (said_by (now_of now.entry) text.now) result }

@@ -25,8 +25,8 @@
 //!
 //! [`show_date`] shows a date as `git log --date=MODE` does.
 //!
-//! The text of a date is bytes, UTF-8 or not, as in Git: each byte that is not ASCII is a mark. The moment and its zone are
-//! handed in, as for [`gix_date::parse`]. No call here takes memory.
+//! The text of a date is bytes, UTF-8 or not, as in Git: each byte that is not ASCII is a mark, and a NUL ends the text. The
+//! moment and its zone are handed in, as for [`gix_date::parse`]. No call here takes memory.
 #![tactic(auto)]
 
 mod approximate;
@@ -45,6 +45,7 @@ mod numbers;
 mod offsets;
 mod reader;
 mod show;
+mod strings;
 mod tokens;
 mod words;
 mod zone_texts;

@@ -3,7 +3,7 @@ ghost use Rattle.std.specs.Prelude.{◌≡◌, ◌≤◌, length, IfOk, Option, 
 ghost use Rattle.git_date.specs.Tokens.{tokens, token_of};
 ghost use Rattle.git_date.specs.Dates.{now_at};
 ghost use Rattle.git_date.specs.Fast.{has_few_digits};
-ghost use Rattle.git_date.specs.Reading.{sign_rule, mark_rule, rule, reading_of, read_on, place_in, error_of, at_said, fields_said, said_by, ended};
+ghost use Rattle.git_date.specs.Reading.{sign_rule, mark_rule, rule, reading_of, read_on, place_in, error_of, at_said, fields_said, string_said, said_up_to, said_by, ended};
 ghost use Rattle.git_date.specs.Outcome.{SaidIsInstant};
 ghost use Rattle.git_date.specs.Views.{step_view};
 
@@ -15,6 +15,7 @@ use crate::fast::{printed_fields, printed_seconds};
 use crate::fault::Fault;
 use crate::fields::Fields;
 use crate::offsets::{at_text, offset_rule};
+use crate::strings::up_to_nul;
 use crate::tokens::{Token, is_end, next_token};
 use crate::words::{letters_rule, without_ending};
 use jiff::Timestamp;
@@ -36,7 +37,7 @@ pub(crate) struct Said {
     pub(crate) offset: Option<i16>,
     /// Whether the seconds are those of the instant.
     pub(crate) epoch: bool,
-    /// The place of the first word or number that no rule used.
+    /// The place of the first word or number that no rule used, or else of a NUL.
     pub(crate) ignored: Option<usize>,
 }
 
@@ -206,7 +207,34 @@ fn tokens_said(now: Timestamp, text: &[u8]) -> Result<Said, DateError>
     fields_said(text, reading_of(Now::of(now), text))
 }
 
-/// What a text says. The instant is asked only where its tokens are read.
+/// What a text without NUL says. The instant is asked only where its tokens are read.
+#[tactic(auto, unfolding(crate::specs::Reading::string_said))]
+fn string_said(now: Timestamp, text: &[u8]) -> Result<Said, DateError>
+    ensures value { result ≡ string_said (now_at now.nanosecond) text.now }
+    ensures instant { IfOk result SaidIsInstant }
+{
+    match at_text(text) {
+        Some((seconds, minutes)) => at_said(seconds, minutes),
+        None => tokens_said(now, text),
+    }
+}
+
+/// What is said, where what begins at this place is ignored too, if there is one.
+fn said_up_to(place: Option<usize>, said: Result<Said, DateError>) -> Result<Said, DateError>
+    requires { IfOk said SaidIsInstant }
+    ensures value { result ≡ said_up_to place said }
+    ensures instant { IfOk result SaidIsInstant }
+{
+    match said {
+        Ok(said) => Ok(Said {
+            ignored: said.ignored.or(place),
+            ..said
+        }),
+        Err(error) => Err(error),
+    }
+}
+
+/// What a text says, up to its first NUL. What is printed has none, so only other texts are searched for it.
 #[tactic(auto, unfolding(crate::specs::Reading::said_by))]
 pub(crate) fn said_by(now: Timestamp, text: &[u8]) -> Result<Said, DateError>
     ensures value { result ≡ said_by (now_at now.nanosecond) text.now }
@@ -224,8 +252,6 @@ pub(crate) fn said_by(now: Timestamp, text: &[u8]) -> Result<Said, DateError>
             }),
         );
     }
-    match at_text(text) {
-        Some((seconds, minutes)) => at_said(seconds, minutes),
-        None => tokens_said(now, text),
-    }
+    let (string, nul) = up_to_nul(text);
+    said_up_to(nul, string_said(now, string))
 }

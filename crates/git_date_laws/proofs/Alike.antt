@@ -1,5 +1,6 @@
 -- Letter case and later lines.
 use Rattle.std.proofs.Common.{◌≡◌, ◌∙◌, ◌≤◌, ◌+◌, ◌-◌, ℕ, ℤ, Bool, true, false, cond, List, [], ◌∷◌, ◌++◌, length, refl, ap, ap₂, sym, arith, length-append, Option, Some, None, option_map, Result, Ok, Err}
+use Rattle.std.proofs.Math.Numerals.{one-add}
 use Rattle.std.proofs.lemmas.List.{length-map}
 use Rattle.std.specs.Char.{is_ascii_alphabetic, is_ascii_digit, to_ascii_lowercase}
 use Rattle.std.specs.Str.{bytes_eq, str_to_ascii_lowercase}
@@ -12,7 +13,8 @@ use Rattle.gix_date.specs.Fields.Zoned.{is_instant}
 use Rattle.git_date.specs.Tokens.{Token, Letters, Digits, Mark, letter_before, digit_before, tokens, bytes_left}
 use Rattle.git_date.specs.Dates.{exact_seconds}
 use Rattle.git_date.specs.Offsets.{at_text}
-use Rattle.git_date.specs.Reading.{nothing_read, steps, reading_of, place_in, by_seconds, fields_said, at_or_fields, said_by}
+use Rattle.git_date.specs.Reading.{nothing_read, steps, reading_of, place_in, by_seconds, fields_said, at_or_fields, said_up_to, string_said, said_by}
+use Rattle.git_date.specs.Strings.{before_nul, nul_place}
 use Rattle.git_date.specs.Types.{Now}
 use Rattle.git_date.specs.Types.{Fault}
 use Rattle.git_date.specs.FaultCases.{NumberTooLarge, BackTooFar, YearRefused, Range}
@@ -23,6 +25,7 @@ use Rattle.git_date.specs.Lines.{AreComplete}
 use Rattle.git_date.proofs.EnoughSteps.{enough, fewer}
 use Rattle.git_date_laws.proofs.Spelling.{IsSpelling}
 use Rattle.git_date_laws.proofs.Changed.{after, changed, farther, read_farther, IsClosed, IsClosedAt, steps-is, at-is}
+use Rattle.git_date_laws.proofs.Cuts.{before-lower, place-lower, said-at-more}
 
 -- what is said then
 same-places : (text other : List ℕ) (k : ℕ) (ignored : Option ℕ) → length other ≡ length text + k
@@ -60,8 +63,8 @@ module _ (spell : List ℕ → List ℕ) (same : IsSpelling spell) (stop : Optio
   at-or-same (Some found) closed = refl
   at-or-same None closed = ap (fields_said other) (reading-same closed) ∙ same-fields text other (bytes_left (after stop)) (reading_of now text) long
 
-  said-same : IsClosed stop (tokens text) → IsClosedAt stop (tokens text) → said_by now other ≡ said_by now text
-  unfolding said_by
+  said-same : IsClosed stop (tokens text) → IsClosedAt stop (tokens text) → string_said now other ≡ string_said now text
+  unfolding string_said
   said-same closed closed_at =
       ap (at_or_fields now other) (ap at_text read ∙ at-is spell same stop (tokens text) closed_at) ∙ at-or-same (at_text (tokens text)) closed
 
@@ -117,10 +120,16 @@ tokens-lower (c ∷ text) =
     ap (byte_by (is_ascii_alphabetic (to_ascii_lowercase c)) (is_ascii_digit (to_ascii_lowercase c)) (to_ascii_lowercase c)) (tokens-lower text)
     ∙ lower-byte (is_ascii_alphabetic c) c (tokens text) refl
 
-said-lower : (now : Now) (text : List ℕ) → said_by now (str_to_ascii_lowercase text) ≡ said_by now text
-said-lower now text =
+string-said-lower : (now : Now) (text : List ℕ) → string_said now (str_to_ascii_lowercase text) ≡ string_said now text
+string-said-lower now text =
     let long : length (str_to_ascii_lowercase text) ≡ length text + 0 = omega (arith, length-map text to_ascii_lowercase) in
     said-same str_to_ascii_lowercase in_lower_case None now text (str_to_ascii_lowercase text) (tokens-lower text) long tt tt
+
+said-lower : (now : Now) (text : List ℕ) → said_by now (str_to_ascii_lowercase text) ≡ said_by now text
+unfolding said_by
+said-lower now text =
+    (λ i. said_up_to (place-lower text i) (string_said now (before-lower text i)))
+    ∙ ap (said_up_to (nul_place text)) (string-said-lower now (before_nul text))
 
 pub equal-bytes : (a b : List ℕ) → bytes_eq a b ≡ true → a ≡ b
 equal-bytes a b h = (bytes_eq-Decides a b).0 h
@@ -164,8 +173,19 @@ tokens-lines lines (c ∷ text) =
     ap (byte_by (is_ascii_alphabetic c) (is_ascii_digit c) c) (tokens-lines lines text)
     ∙ lines-byte (tokens lines) (is_ascii_alphabetic c) (is_ascii_digit c) c (tokens text)
 
-pub same-lines : (now : Now) (text lines : List ℕ) → AreComplete (tokens text) → said_by now (text ++ newline ∷ lines) ≡ said_by now text
-same-lines now text lines complete =
+same-string-lines : (now : Now) (text lines : List ℕ) → AreComplete (tokens text) → string_said now (text ++ newline ∷ lines) ≡ string_said now text
+same-string-lines now text lines complete =
     let left : bytes_left (Mark newline ∷ tokens lines) ≡ length (newline ∷ lines) = ap (λ (bytes : List ℕ). length (newline ∷ bytes)) (texts_are lines) in
     let long : length (text ++ newline ∷ lines) ≡ length text + bytes_left (Mark newline ∷ tokens lines) = omega (arith, length-append text (newline ∷ lines)) in
     said-same as_written written (Some (tokens lines)) now text (text ++ newline ∷ lines) (tokens-lines lines text) long complete.0 complete.1
+
+-- a NUL in later lines is ignored
+newline-first : (lines : List ℕ) → before_nul (newline ∷ lines) ≡ newline ∷ before_nul lines
+unfolding before_nul
+newline-first lines = rw one-add refl
+
+pub same-lines : (now : Now) (text lines : List ℕ) → AreComplete (tokens text)
+    → said_by now (text ++ newline ∷ lines) ≡ said_up_to (nul_place (text ++ newline ∷ lines)) (said_by now text)
+same-lines now text lines complete =
+    said-at-more now text (newline ∷ lines)
+    (λ all. ap (λ (rest : List ℕ). string_said now (text ++ rest)) (newline-first lines) ∙ same-string-lines now text (before_nul lines) complete)

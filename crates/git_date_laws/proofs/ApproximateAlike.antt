@@ -6,16 +6,18 @@ use Rattle.std.specs.Int.Signed.{le_z}
 use Rattle.std.specs.Str.{str_to_ascii_lowercase}
 use Rattle.gix_date.specs.Text.Names.{is_name}
 use Rattle.gix_date.specs.declared.time.Time.{Time}
-use Rattle.git_date.specs.Approximate.{steps, draft_of, answer, answer_of, guess_by, guess}
+use Rattle.git_date.specs.Approximate.{steps, draft_of, answer, answer_of, guess_by, string_guess, answer_up_to, guess}
 use Rattle.git_date.specs.ApproximateDrafts.{earlier, first_draft, settle}
 use Rattle.git_date.specs.ApproximateZones.{Choices, shown_in, filled_time}
 use Rattle.git_date.specs.Reading.{error_of}
 use Rattle.git_date.specs.Tokens.{Token, Mark, tokens}
+use Rattle.git_date.specs.Strings.{before_nul, nul_place}
 use Rattle.git_date.specs.Types.{Today, Draft, ShownClock, Now, Fault, Number}
 use Rattle.git_date.specs.FaultCases.{NumberTooLarge, BackTooFar, YearRefused, Range}
 use Rattle.git_date.specs.declared.error.DateError.{DateError}
 use Rattle.git_date.specs.declared.error.DateError.TheVariants as error
 use Rattle.git_date_laws.proofs.Alike.{in_lower_case, tokens-lower, equal-bytes}
+use Rattle.git_date_laws.proofs.Cuts.{place-lower, before-lower}
 use Rattle.git_date_laws.proofs.Spelling.{IsSpelling}
 use Rattle.git_date.proofs.Respects.{ComesTo, FailsAt, SameNumber}
 use Rattle.git_date.proofs.RespectedDrafts.{Waits, NoneWaits, OneWaits, SameDraft, Givens, steps-respects}
@@ -98,9 +100,15 @@ guess-by-lower zone now text (Some shown) =
     ap (answer_of zone today (lower text)) (draft-lower zone today text)
     ∙ answer-of-same zone today text (lower text) (draft_of zone today text) (lower-length text)
 
+string-guess-lower : (zone : Choices) (now : Now) (text : List ℕ) → string_guess zone now (lower text) ≡ string_guess zone now text
+unfolding string_guess
+string-guess-lower zone now text = guess-by-lower zone now text (shown_in zone now.seconds)
+
 guess-lower : (zone : Choices) (now : Now) (text : List ℕ) → guess zone now (lower text) ≡ guess zone now text
 unfolding guess
-guess-lower zone now text = guess-by-lower zone now text (shown_in zone now.seconds)
+guess-lower zone now text =
+    (λ i. answer_up_to (place-lower text i) (string_guess zone now (before-lower text i)))
+    ∙ ap (answer_up_to (nul_place text)) (string-guess-lower zone now (before_nul text))
 
 pub guess-in-any-case : (zone : Choices) (now : Now) (text other : List ℕ) → is_name text other ≡ true → guess zone now text ≡ guess zone now other
 guess-in-any-case zone now text other same =

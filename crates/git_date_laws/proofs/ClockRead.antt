@@ -138,6 +138,6 @@ pub clocks_read : (tz : TimeZone) → IsClockRead tz
 clocks_read tz = record {
   two = λ a b two. read-if-shown (offsets_of tz) a b two;
   rule = λ r e.
-  subst (λ (z : TimeZone). IsReadIfShown (offsets_of z)) (sym e)
-  (read-if-shown (offsets_of (Posix r)) r.std_offset.seconds (summer_offset r.std_offset r.dst).seconds (rule-offsets r));
+      subst (λ (z : TimeZone). IsReadIfShown (offsets_of z)) (sym e)
+      (read-if-shown (offsets_of (Posix r)) r.std_offset.seconds (summer_offset r.std_offset r.dst).seconds (rule-offsets r));
 }

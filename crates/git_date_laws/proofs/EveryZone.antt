@@ -1,5 +1,5 @@
 -- In every zone now is now, and so many seconds ago are so many seconds.
-use Rattle.std.proofs.Common.{◌≡◌, ◌∙◌, ◌*◌, ℕ, ℤ, pos, ◌+ℤ◌, ◌-ℤ◌, ◌≤ℤ◌, Bool, true, cond, List, Option, Some, None, option_map, Result, Ok, Err, refl, sym, ap, subst, arith}
+use Rattle.std.proofs.Common.{◌≡◌, ◌∙◌, ◌*◌, ℕ, ℤ, pos, ◌+ℤ◌, ◌-ℤ◌, ◌≤ℤ◌, Bool, true, cond, List, length, Option, Some, None, option_map, Result, Ok, Err, refl, sym, ap, subst, arith}
 use Rattle.std.specs.Prelude.{codes}
 use Rattle.std.proofs.lemmas.Bool.Decides.{Decides-int_eq}
 use Rattle.jiff.specs.Types.{TimeZone}
@@ -11,8 +11,7 @@ use Rattle.gix_date.specs.Fields.Zoned.{is_instant}
 use Rattle.gix_date.specs.Relative.Steps.{zone_of}
 use Rattle.gix_date.specs.Text.Front.{◌>>=◌}
 use Rattle.gix_date.specs.declared.time.Time.{Time}
-use Rattle.git_date.specs.Approximate.{answer, answer_of, guess_by, guess, draft_of, exact_or_guess}
-use Rattle.git_date.specs.ApproximateBack.{exactly_back}
+use Rattle.git_date.specs.Approximate.{ApproximateOutcome, answer, answer_of, guess_by, string_guess, draft_of}
 use Rattle.git_date.specs.ApproximateClocks.{filled_seconds}
 use Rattle.git_date.specs.ApproximateDrafts.{clock_fields, all_fields, dropped, first_draft, settle, with_shown}
 use Rattle.git_date.specs.ApproximateRules.{understood, letters_rule, meaning_rule}
@@ -21,21 +20,22 @@ use Rattle.git_date.specs.ApproximateZones.{Choices, choices_of, with_offset, sh
 use Rattle.git_date.specs.Computing.{computing}
 use Rattle.git_date.specs.Dates.{now_of}
 use Rattle.git_date.specs.Outcome.{date_of}
-use Rattle.git_date.specs.Reading.{said_by}
+use Rattle.git_date.specs.Reading.{string_said, said_by}
+use Rattle.git_date.specs.Strings.{string_len}
 use Rattle.git_date.specs.Tokens.{walked}
 use Rattle.git_date.specs.Zones.{offsets_of, is_same, shows, searched_offset, local_offset}
-use Rattle.git_date.specs.Types.{Draft, Fault, Fields, Now, Said, ShownClock, Today}
+use Rattle.git_date.specs.Types.{Draft, Fault, Fields, Now, ShownClock, Today}
 use Rattle.git_date.specs.declared.approximate.answer.Approximate.{Approximate}
-use Rattle.git_date.specs.declared.date.ReadDate.{ReadDate}
 use Rattle.git_date.specs.declared.error.DateError.{DateError}
 use Rattle.git_date.specs.declared.error.DateError.TheVariants.{Unreadable, Range}
 use Rattle.git_date.proofs.ClocksBack.{IsClockBack, filled-back, shown-back}
+use Rattle.git_date.proofs.StringEnds.{whole-said, whole-guess}
 use Rattle.git_date.proofs.ZoneChoices.{a-picked, a-shown-in}
 use Rattle.git_date.proofs.ZoneOffsets.{says-there, offset-near}
-use Rattle.git_date_laws.proofs.ExactBack.{Reaches, clock_at, filled-clock, moves, answered, counted-in}
+use Rattle.git_date_laws.proofs.ExactBack.{Reaches, clock_at, filled-clock, moves, answered, counted-in, up-to-nul}
 use Rattle.git_date_laws.proofs.Guesses.{guessed, moment-instant}
 use Rattle.git_date_laws.proofs.RelativeBack.{no-count, no-date}
-use Rattle.git_date_laws.specs.ApproximateLaws.{IsShownThere, IsReachedThere, IsBackInEveryZone, IsNow, IsNowIfShown, moment_itself}
+use Rattle.git_date_laws.specs.ApproximateLaws.{IsShownThere, IsBackInEveryZone, IsNow, IsNowIfShown, moment_itself}
 
 module _ (tz : TimeZone) where
   abbrev there : ℤ → ℤ
@@ -99,14 +99,15 @@ back-in-every-zone moment text count size result says reached answers =
     let this = now_of moment in
     let here = reached.now_shown in
     let then = reached.then_shown in
-    let both = counted-in (choices_of tz) _ _ this text count size says reached.fits
-        (reaches-in tz this.seconds (count * size) (moment-instant moment) here.0 here.1 then.0 then.1) in
+    let back = counted-in (choices_of tz) _ _ this text count size says reached.fits
+    (reaches-in tz this.seconds (count * size) (moment-instant moment) here.0 here.1 then.0 then.1) in
+    let both = up-to-nul (choices_of tz) this text _ back in
     let unread : Err Unreadable ≡ date_of tz (said_by this text) = ap (date_of tz) (sym both.0) in
     answers ∙ guessed moment text unread ∙ both.1
 
 -- `now` fills in today's clock, and goes no second back
 
-now-undated : (this : Now) → said_by this (codes "now") ≡ Err Unreadable
+now-undated : (this : Now) → string_said this (codes "now") ≡ Err Unreadable
 unfolding computing
 now-undated this = refl
 
@@ -153,8 +154,8 @@ module _ (moment : Zoned) (shown : IsShownThere moment (now_of moment).seconds) 
     ignored = ignored;
   })
 
-  now-guessed : guess zone this (codes "now") ≡ Ok (moment_itself moment None)
-  unfolding guess
+  now-guessed : string_guess zone this (codes "now") ≡ Ok (moment_itself moment None)
+  unfolding string_guess
   now-guessed =
       let d = first_draft here.shown in
       let moved = moves zone now 0 o then reached d 3 refl refl in
@@ -170,17 +171,21 @@ module _ (moment : Zoned) (shown : IsShownThere moment (now_of moment).seconds) 
       (record { fields = clock_fields here.shown; last = here.shown; waiting = None; understood = true; ignored = Some 13 }) t) reached.filled_now
       ∙ ap (λ (b : Bool). cond b (itself now (Some 0)) (Err Range)) (z_holds (pos 0) now shown.0)
 
-  zero-guessed : guess zone this (codes "0 seconds ago") ≡ Ok (moment_itself moment (Some 0))
-  unfolding guess
+  zero-guessed : string_guess zone this (codes "0 seconds ago") ≡ Ok (moment_itself moment (Some 0))
+  unfolding string_guess
   zero-guessed = ap (λ (s : Option ShownClock). guess_by zone this (codes "0 seconds ago") s) reached.now_shown ∙ zero-answered
 
-  unread : (text : List ℕ) → said_by this text ≡ Err Unreadable → Err Unreadable ≡ date_of tz (said_by this text)
-  unread text e = ap (date_of tz) (sym e)
+  itself-answered : (text : List ℕ) (result : Result Approximate DateError) (ignored : Option ℕ) → string_len text ≡ length text
+      → string_said this text ≡ Err Unreadable → string_guess zone this text ≡ Ok (moment_itself moment ignored) → ApproximateOutcome moment text result
+      → result ≡ Ok (moment_itself moment ignored)
+  itself-answered text result ignored whole undated is answers =
+      let unread : Err Unreadable ≡ date_of tz (said_by this text) = ap (date_of tz) (sym (whole-said this text whole ∙ undated)) in
+      answers ∙ guessed moment text unread ∙ whole-guess zone this text whole ∙ is
 
   pub is-now : IsNow moment
   is-now = record {
-    now = λ result answers. answers ∙ guessed moment (codes "now") (unread (codes "now") (now-undated this)) ∙ now-guessed;
-    zero = λ result answers. answers ∙ guessed moment (codes "0 seconds ago") (unread (codes "0 seconds ago") (no-date this)) ∙ zero-guessed;
+    now = λ result answers. itself-answered (codes "now") result None refl (now-undated this) now-guessed answers;
+    zero = λ result answers. itself-answered (codes "0 seconds ago") result (Some 0) refl (no-date this) zero-guessed answers;
   }
 
 pub now-in-every-zone : (moment : Zoned) → IsNowIfShown moment

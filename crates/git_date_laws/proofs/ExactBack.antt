@@ -1,5 +1,6 @@
 -- `n UNIT ago` is that many seconds before now.
 use Rattle.std.proofs.Common.{◌≡◌, ◌∙◌, ◌≤◌, ◌<◌, ℕ, suc, ◌-◌, ◌*◌, Bool, true, false, cond, ℤ, pos, ◌+ℤ◌, ◌-ℤ◌, ◌≤ℤ◌, List, [], ◌∷◌, ◌++◌, length, length-append, Option, Some, None, option_map, Result, Ok, Err, refl, sym, ap, ap₂, subst, arith}
+use Rattle.std.specs.Option.{option_or}
 use Rattle.std.specs.Prelude.{codes, ◌==◌}
 use Rattle.std.proofs.lemmas.Bool.Decides.{nat_tests}
 use Rattle.jiff.specs.Types.{Offset}
@@ -9,7 +10,7 @@ use Rattle.gix_date.specs.Fields.Zoned.{is_instant}
 use Rattle.gix_date.specs.Text.Front.{◌>>=◌}
 use Rattle.gix_date.specs.declared.time.Time.{Time}
 use Rattle.git_date.proofs.Walked.{nothing-left}
-use Rattle.git_date.specs.Approximate.{rule, steps, draft_of, answer, answer_of, guess_by, guess, step}
+use Rattle.git_date.specs.Approximate.{rule, steps, draft_of, answer, answer_of, answer_up_to, guess_by, string_guess, guess, step}
 use Rattle.git_date.specs.ApproximateDrafts.{first_draft, clock_fields, all_fields, with_shown, settle, units}
 use Rattle.git_date.specs.ApproximateRules.{letters_rule, digits_rule, back_rule, meaning_rule, number_waits, group_said, is_padded}
 use Rattle.git_date.specs.ApproximateWords.{moment_named, count_named, unit_named, meaning_of}
@@ -18,7 +19,9 @@ use Rattle.git_date.specs.ApproximateClocks.{filled_seconds}
 use Rattle.git_date.specs.ApproximateZones.{Choices, one_offset, with_offset, shown_in, filled_time, moved_by, moved_to, fill_by, fill}
 use Rattle.git_date.specs.Groups.{group_of, marked_number}
 use Rattle.git_date.specs.Numbers.{number, is_too_large, max_small}
-use Rattle.git_date.specs.Reading.{said_by}
+use Rattle.git_date.specs.Reading.{said_up_to, string_said, said_by}
+use Rattle.git_date.specs.Strings.{string_len, before_nul, nul_place}
+use Rattle.git_date.proofs.StringEnds.{whole-said, whole-guess}
 use Rattle.git_date.specs.Tokens.{Token, Letters, Digits, Mark, tokens, texts, bytes_left, walked}
 use Rattle.git_date.specs.Words.{is_filler, without_ending}
 use Rattle.git_date.specs.declared.approximate.answer.Approximate.{Approximate}
@@ -235,8 +238,8 @@ module _ (zone : Choices) (now o then : ℤ) (this : Now) (digits : List ℕ) (g
       unit-walk zone here k (first_draft here.shown) waits there digits gap unit last (digits-wait zone here digits gap unit last small some padded) moved-word
 
   guessed : (text : List ℕ) (k : ℕ) → this.seconds ≡ now → tokens text ≡ Digits digits ∷ ts → length text ≡ suc (suc (suc (suc (suc k))))
-      → guess zone this text ≡ Ok (exactly_back now then (number digits * size))
-  unfolding guess draft_of
+      → string_guess zone this text ≡ Ok (exactly_back now then (number digits * size))
+  unfolding string_guess draft_of
   guessed text k same is long =
       let shown : shown_in zone this.seconds ≡ Some here.shown = ap (λ (n : ℤ). shown_in zone n) same ∙ are.now_shown in
       let drafts : draft_of zone here text ≡ Ok there = rw (is, long) (drafted k) in
@@ -254,38 +257,56 @@ long-enough text digits gap unit last is =
 pub few : (n : ℕ) → n < 100_000_000 → n ≤ max_small
 few n h = omega (arith, h)
 
--- what both readers make of a text that only the approximate one reads
+-- what both readers make of a text that only the approximate one reads, and of one without NUL
 abbrev pub SaysIn : Choices → Now → List ℕ → Approximate → Type 0
 SaysIn zone this text date = (said_by this text ≡ Err Unreadable) × (guess zone this text ≡ Ok date)
 
 abbrev pub Says : ℤ → Now → List ℕ → Approximate → Type 0
 Says o this text date = SaysIn (one_offset o) this text date
 
+abbrev pub StringSaysIn : Choices → Now → List ℕ → Approximate → Type 0
+StringSaysIn zone this text date = (string_said this text ≡ Err Unreadable) × (string_guess zone this text ≡ Ok date)
+
+abbrev pub StringSays : ℤ → Now → List ℕ → Approximate → Type 0
+StringSays o this text date = StringSaysIn (one_offset o) this text date
+
+pub up-to-nul : (zone : Choices) (this : Now) (text : List ℕ) (date : Approximate) → StringSaysIn zone this (before_nul text) date
+    → SaysIn zone this text (record date { ignored = option_or date.ignored (nul_place text) })
+unfolding said_by guess
+up-to-nul zone this text date says = (ap (said_up_to (nul_place text)) says.0, ap (answer_up_to (nul_place text)) says.1)
+
+pub as-whole : (o : ℤ) (this : Now) (text : List ℕ) (date : Approximate) → string_len text ≡ length text → StringSays o this text date → Says o this text date
+as-whole o this text date e says = (whole-said this text e ∙ says.0, whole-guess (one_offset o) this text e ∙ says.1)
+
+abbrev pub SaysBackIn : Choices → ℤ → Now → List ℕ → ℕ → Type 0
+SaysBackIn zone then this text back = StringSaysIn zone this (before_nul text) (exactly_back this.seconds then back)
+
 -- by the digits' own number
 by-digits : (zone : Choices) (o then : ℤ) (this : Now) (text : List ℕ) (count size : ℕ) (says : CountsBack text count size)
     → Reaches zone this.seconds (number says.digits * size) o then → number says.digits * size ≤ max_small
-    → 1 ≤ number says.digits → number says.digits < 100_000_000 → SaysIn zone this text (exactly_back this.seconds then (number says.digits * size))
+    → 1 ≤ number says.digits → number says.digits < 100_000_000 → SaysBackIn zone then this text (number says.digits * size)
 by-digits zone o then this text count size says reached fits some few_digits =
-    let least = long-enough text says.digits says.gap says.unit says.last says.is in
-    let k = length text - 5 in
-    let long : length text ≡ suc (suc (suc (suc (suc k)))) = omega (arith, least) in (
-      nothing-said this text says.digits says.gap says.unit says.last says.no_date few_digits says.is,
-      guessed zone this.seconds o then this says.digits says.gap says.unit says.last size reached fits (few (number says.digits) few_digits) some says.not_padded says.means text k refl says.is long,
+    let string = before_nul text in
+    let least = long-enough string says.digits says.gap says.unit says.last says.is in
+    let k = length string - 5 in
+    let long : length string ≡ suc (suc (suc (suc (suc k)))) = omega (arith, least) in (
+      nothing-said this string says.digits says.gap says.unit says.last says.no_date few_digits says.is,
+      guessed zone this.seconds o then this says.digits says.gap says.unit says.last size reached fits (few (number says.digits) few_digits) some says.not_padded says.means string k refl says.is long,
     )
 
 -- in any zone
 pub counted-in : (zone : Choices) (o then : ℤ) (this : Now) (text : List ℕ) (count size : ℕ) → CountsBack text count size → count * size ≤ max_small
-    → Reaches zone this.seconds (count * size) o then → SaysIn zone this text (exactly_back this.seconds then (count * size))
+    → Reaches zone this.seconds (count * size) o then → SaysBackIn zone then this text (count * size)
 counted-in zone o then this text count size says fits reached =
     let same : number says.digits ≡ count = says.counts in
     let here : Reaches zone this.seconds (number says.digits * size) o then = subst (λ (n : ℕ). Reaches zone this.seconds (n * size) o then) (sym same) reached in
     let within : number says.digits * size ≤ max_small = subst (λ (n : ℕ). n * size ≤ max_small) (sym same) fits in
     let some : 1 ≤ number says.digits = subst (λ (n : ℕ). 1 ≤ n) (sym same) says.not_zero in
     let less : number says.digits < 100_000_000 = subst (λ (n : ℕ). n < 100_000_000) (sym same) says.no_epoch in
-    subst (λ (n : ℕ). SaysIn zone this text (exactly_back this.seconds then (n * size))) same (by-digits zone o then this text count size says here within some less)
+    subst (λ (n : ℕ). SaysBackIn zone then this text (n * size)) same (by-digits zone o then this text count size says here within some less)
 
 pub counted-back : (this : Now) (text : List ℕ) (o : Offset) (count size : ℕ) → is_instant this.seconds ≡ true → CountsBack text count size
-    → IsReached this.seconds o.seconds (count * size) → Says o.seconds this text (exactly_back this.seconds o.seconds (count * size))
+    → IsReached this.seconds o.seconds (count * size) → SaysBackIn (one_offset o.seconds) o.seconds this text (count * size)
 counted-back this text o count size instant says reached =
     let are = are-clocks o this.seconds (count * size) instant reached in
     counted-in (one_offset o.seconds) o.seconds o.seconds this text count size says reached.fits (reaches o.seconds this.seconds (count * size) are)

@@ -10,7 +10,7 @@ use Rattle.git_date.specs.Fields.{unknown, with_clock}
 use Rattle.git_date.specs.Groups.{group_of, marked_number, without_fraction}
 use Rattle.git_date.specs.Numbers.{number, is_too_large}
 use Rattle.git_date.specs.Offsets.{at_text}
-use Rattle.git_date.specs.Reading.{ended, nothing_read, read_on, and_then, steps, reading_of, fields_said, at_or_fields, said_by}
+use Rattle.git_date.specs.Reading.{ended, nothing_read, read_on, and_then, steps, reading_of, fields_said, at_or_fields, string_said}
 use Rattle.git_date.specs.Tokens.{Token, Letters, Digits, Mark, tokens, walked}
 use Rattle.git_date.specs.Words.{without_ending}
 use Rattle.git_date.specs.Types.{Now}
@@ -99,8 +99,8 @@ module _ (now : Now) (text digits : List ℕ) (gap : ℕ) (unit : List ℕ) (las
   walked-over (suc n) = after-digits n _ (digits_rule now unknown digits rest) (digits-lack now digits gap unit _ no_date no_epoch)
 
   -- the exact reader reads nothing
-  pub nothing-said : tokens text ≡ Digits digits ∷ rest → said_by now text ≡ Err Unreadable
-  unfolding said_by at_text reading_of
+  pub nothing-said : tokens text ≡ Digits digits ∷ rest → string_said now text ≡ Err Unreadable
+  unfolding string_said at_text reading_of
   nothing-said is =
       ap (λ (ts : List Token). at_or_fields now text (at_text ts)) is ∙ ap (λ (ts : List Token). fields_said text (steps now (length text) nothing_read ts)) is
       ∙ walked-over (length text)

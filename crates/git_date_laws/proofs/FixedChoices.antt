@@ -1,14 +1,13 @@
 -- What a zone of one offset chooses.
 use Rattle.std.proofs.Common.{◌≡◌, ◌∙◌, ◌-ℤ◌, ℤ, Bool, true, false, cond, Option, Some, None, refl, sym, ap, subst, option_map}
 use Rattle.std.proofs.lemmas.Bool.Decides.{Decides-int_eq}
-use Rattle.std.specs.Ordering.{int_eq}
 use Rattle.jiff.proofs.ZoneFacts.{offset_at-fixed_zone}
 use Rattle.jiff.specs.Types.{Offset}
 use Rattle.jiff.specs.Words.{fixed_zone, nanos_of_seconds}
 use Rattle.gix_date.specs.Fields.Zoned.{is_instant}
 use Rattle.gix_date.specs.declared.time.Time.{Time}
-use Rattle.git_date.specs.ApproximateZones.{Choices, choices_of, one_offset, time_at, picked}
-use Rattle.git_date.specs.Zones.{ZoneOffsets, offsets_of, is_same, shows, searched_offset, local_offset}
+use Rattle.git_date.specs.ApproximateZones.{choices_of, one_offset, time_at, picked}
+use Rattle.git_date.specs.Zones.{offsets_of, is_same, shows, searched_offset, local_offset}
 use Rattle.git_date.proofs.ZoneOffsets.{second-leads, none-leads}
 
 fixed-at : (o : Offset) (s : ℤ) → (offsets_of (fixed_zone o)).at s ≡ cond (is_instant s) (Some o.seconds) None

@@ -6,7 +6,7 @@ use Rattle.std.specs.Str.{str_to_ascii_lowercase}
 use Rattle.gix_date.specs.Text.Characters.{space}
 use Rattle.gix_date.specs.Text.Names.{is_name}
 use Rattle.gix_date.specs.declared.time.Time.{Time}
-use Rattle.git_date.specs.Approximate.{Read, with_rest, steps, draft_of, answer, answer_of, guess_by, guess}
+use Rattle.git_date.specs.Approximate.{Read, with_rest, steps, draft_of, answer, answer_of, guess_by, string_guess}
 use Rattle.git_date.specs.ApproximateDrafts.{first_draft, ignore, settle}
 use Rattle.git_date.specs.ApproximateRules.{are_digits_next, letters_rule, digits_rule}
 use Rattle.git_date.specs.ApproximateWords.{moment_named, count_named, unit_named, meaning_of}
@@ -25,7 +25,7 @@ use Rattle.git_date_laws.proofs.Spelling.{meaning-agrees}
 use Rattle.git_date.proofs.Kept.{IsKept, Leaves, Twice, fault-at, begin-kept}
 use Rattle.git_date.proofs.Respects.{marked}
 use Rattle.git_date.proofs.RespectedDrafts.{ReadOn, GoesOn, EndsBy, read-respects}
-use Rattle.git_date.specs.Heard.{Heard, Word, Number, Between, heard_from, heard, told}
+use Rattle.git_date.specs.Heard.{Heard, Word, Number, Between, heard_from, string_heard, told}
 use Rattle.git_date_laws.proofs.Bare.{Anywhere, Anything, drafts-of, bare, bare_fault, bare_given, both-ways, letters-alike, settle-alike}
 use Rattle.git_date_laws.proofs.Spoken.{gap, spoken, after, next-spoken, unended, plain_read, told_read, digits-spoken}
 
@@ -244,13 +244,13 @@ module _ (zone : Choices) (today : Today) where
       (read-short today.now d run more) (omega arith) (omega arith)
 
   heard-draft : (m : ℕ) (text : List ℕ) → 2 * length text ≤ m
-      → bare_given (steps zone today m (first_draft today.shown) (spoken (heard text))) ≡ bare_given (draft_of zone today text)
+      → bare_given (steps zone today m (first_draft today.shown) (spoken (string_heard text))) ≡ bare_given (draft_of zone today text)
   unfolding draft_of
   heard-draft m text enough =
       let few = fewer text in
       alike (length text) m (first_draft today.shown) (first_draft today.shown) false (tokens text) refl few (omega arith)
 
-  drafts-alike : (text other : List ℕ) → heard text ≡ heard other → bare_given (draft_of zone today text) ≡ bare_given (draft_of zone today other)
+  drafts-alike : (text other : List ℕ) → string_heard text ≡ string_heard other → bare_given (draft_of zone today text) ≡ bare_given (draft_of zone today other)
   drafts-alike text other same =
       let m = 2 * length text + 2 * length other in
       sym (heard-draft m text (omega arith))
@@ -286,13 +286,13 @@ module _ (zone : Choices) (today : Today) where
   answers-alike text other (Ok d) (Err y) same = absurd cc
   answers-alike text other (Err x) (Ok e) same = absurd cc
 
-guesses-alike-by : (zone : Choices) (now : Now) (text other : List ℕ) (shown : Option ShownClock) → heard text ≡ heard other
+guesses-alike-by : (zone : Choices) (now : Now) (text other : List ℕ) (shown : Option ShownClock) → string_heard text ≡ string_heard other
     → told (guess_by zone now text shown) ≡ told (guess_by zone now other shown)
 guesses-alike-by zone now text other None same = refl
 guesses-alike-by zone now text other (Some shown) same =
     let today : Today = record { now = now; shown = shown } in
     answers-alike zone today text other (draft_of zone today text) (draft_of zone today other) (drafts-alike zone today text other same)
 
-pub guesses-alike : (zone : Choices) (now : Now) (text other : List ℕ) → heard text ≡ heard other → told (guess zone now text) ≡ told (guess zone now other)
-unfolding guess
+pub guesses-alike : (zone : Choices) (now : Now) (text other : List ℕ) → string_heard text ≡ string_heard other → told (string_guess zone now text) ≡ told (string_guess zone now other)
+unfolding string_guess
 guesses-alike zone now text other same = guesses-alike-by zone now text other (shown_in zone now.seconds) same

@@ -2,6 +2,7 @@ pub mod Apart
 pub mod Moments
 pub mod Printed
 pub mod Texts
+pub mod UpToNul
 pub mod Zones
 pub mod ShownLaws
 pub mod Guesses
@@ -19,6 +20,7 @@ mod ApproximateAlike
 mod AgeOrder
 mod Alike
 mod Changed
+mod Cuts
 mod ExactBack
 mod ExactNothing
 mod FixedChoices

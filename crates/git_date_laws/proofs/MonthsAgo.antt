@@ -21,7 +21,7 @@ use Rattle.gix_date.specs.Printing.LocalClocks.{clock_of, local_day, second_of_d
 use Rattle.gix_date.specs.Relative.Steps.{civil_of, month_start, rolled_day, month_before}
 use Rattle.gix_date.specs.Text.Front.{◌>>=◌}
 use Rattle.gix_date.specs.declared.time.Time.{Time}
-use Rattle.git_date.specs.Approximate.{rule, steps, draft_of, answer, answer_of, guess_by, guess}
+use Rattle.git_date.specs.Approximate.{rule, steps, draft_of, answer, answer_of, guess_by, string_guess}
 use Rattle.git_date.specs.ApproximateClocks.{is_shown_month, first_second, filled_seconds}
 use Rattle.git_date.specs.ApproximateDrafts.{first_draft, all_fields, settle, units, at_month, less_months}
 use Rattle.git_date.specs.ApproximateRules.{letters_rule, meaning_rule, months_rule, is_padded}
@@ -30,7 +30,8 @@ use Rattle.git_date.specs.ApproximateZones.{Choices, one_offset, shown_in, fille
 use Rattle.git_date.specs.Clocks.{held_clock}
 use Rattle.git_date.specs.Dates.{first_of, seconds_after}
 use Rattle.git_date.specs.Numbers.{number, max_small}
-use Rattle.git_date.specs.Reading.{error_of, said_by}
+use Rattle.git_date.specs.Reading.{error_of, string_said}
+use Rattle.git_date.specs.Strings.{before_nul}
 use Rattle.git_date.specs.Tokens.{Token, Letters, Digits, Mark, tokens, bytes_left, walked}
 use Rattle.git_date.specs.declared.approximate.answer.Approximate.{Approximate}
 use Rattle.git_date.specs.Types.{Today}
@@ -167,8 +168,8 @@ module _ (o now : ℤ) (this : Now) (digits : List ℕ) (gap : ℕ) (unit : List
 
   guessed : (text : List ℕ) (k : ℕ) (d : Result Draft Fault) → this.seconds ≡ now → tokens text ≡ Digits digits ∷ ts → length text ≡ suc (suc (suc (suc (suc k))))
       → steps (one_offset o) here (suc (suc (suc (suc (suc k))))) (first_draft c) (Digits digits ∷ ts) ≡ d
-      → guess (one_offset o) this text ≡ answer_of (one_offset o) here text d
-  unfolding guess draft_of
+      → string_guess (one_offset o) this text ≡ answer_of (one_offset o) here text d
+  unfolding string_guess draft_of
   guessed text k d same is long e =
       let shown : shown_in (one_offset o) this.seconds ≡ Some c =
       ap (λ (n : ℤ). shown_in (one_offset o) n) same ∙ shown-is o now are.now_instant are.now_shown in
@@ -178,7 +179,7 @@ module _ (o now : ℤ) (this : Now) (digits : List ℕ) (gap : ℕ) (unit : List
   by-month : (text : List ℕ) (k : ℕ) (date : Approximate) (b : Bool) → this.seconds ≡ now → tokens text ≡ Digits digits ∷ ts
       → length text ≡ suc (suc (suc (suc (suc k)))) → (nat_le 1900 (month_back c months / 12) && nat_le (month_back c months / 12) 9999) ≡ b
       → less_months (all_fields c) months ≡ cond b (Some (fields_back c (month_back c months))) None
-      → guess (one_offset o) this text ≡ Ok date → IsMonthsBack c months o date
+      → string_guess (one_offset o) this text ≡ Ok date → IsMonthsBack c months o date
   unfolding settle
   by-month text k date true same is long test e h =
       let f = fields_back c (month_back c months) in
@@ -193,30 +194,31 @@ module _ (o now : ℤ) (this : Now) (digits : List ℕ) (gap : ℕ) (unit : List
   month-is = refl
 
   months-guessed : (text : List ℕ) (k : ℕ) (date : Approximate) → this.seconds ≡ now → tokens text ≡ Digits digits ∷ ts
-      → length text ≡ suc (suc (suc (suc (suc k)))) → guess (one_offset o) this text ≡ Ok date → IsMonthsBack c months o date
+      → length text ≡ suc (suc (suc (suc (suc k)))) → string_guess (one_offset o) this text ≡ Ok date → IsMonthsBack c months o date
   months-guessed text k date same is long h = by-month text k date _ same is long refl month-is h
 
--- what both readers make of such a text
+-- what both readers make of such a text without NUL
 pub record SaysMonths (o : ℤ) (this : Now) (text : List ℕ) (count size : ℕ) : Type 0 where
-  pub unread : said_by this text ≡ Err Unreadable
-  pub guesses : (date : Approximate) → guess (one_offset o) this text ≡ Ok date → IsMonthsBack (shown_of (this.seconds +ℤ o)) (units count size) o date
+  pub unread : string_said this text ≡ Err Unreadable
+  pub guesses : (date : Approximate) → string_guess (one_offset o) this text ≡ Ok date → IsMonthsBack (shown_of (this.seconds +ℤ o)) (units count size) o date
 
 pub months-back : (this : Now) (text : List ℕ) (o : Offset) (count size : ℕ) → is_instant this.seconds ≡ true → CountsMonths text count size
-    → IsReached this.seconds o.seconds 0 → SaysMonths o.seconds this text count size
+    → IsReached this.seconds o.seconds 0 → SaysMonths o.seconds this (before_nul text) count size
 months-back this text o count size instant says reached =
     let same : number says.digits ≡ count = says.counts in
     let some : 1 ≤ number says.digits = subst (λ (n : ℕ). 1 ≤ n) (sym same) says.not_zero in
     let less : number says.digits < 100_000_000 = subst (λ (n : ℕ). n < 100_000_000) (sym same) says.no_epoch in
-    let least = long-enough text says.digits says.gap says.unit says.last says.is in
-    let k = length text - 5 in
-    let long : length text ≡ suc (suc (suc (suc (suc k)))) = omega (arith, least) in
+    let string = before_nul text in
+    let least = long-enough string says.digits says.gap says.unit says.last says.is in
+    let k = length string - 5 in
+    let long : length string ≡ suc (suc (suc (suc (suc k)))) = omega (arith, least) in
     let are = are-clocks o this.seconds 0 instant reached in
-    subst (λ (n : ℕ). SaysMonths o.seconds this text n size) same
+    subst (λ (n : ℕ). SaysMonths o.seconds this string n size) same
     (record {
-      unread = nothing-said this text says.digits says.gap says.unit says.last says.no_date less says.is;
+      unread = nothing-said this string says.digits says.gap says.unit says.last says.no_date less says.is;
       guesses = λ date h.
-      let back = months-guessed o.seconds this.seconds this says.digits says.gap says.unit says.last size are (few (number says.digits) less) some says.not_padded says.means text k date refl says.is long h in
-      record { from_1900 = back.from_1900; since_1970 = back.since_1970; is = back.is };
+          let back = months-guessed o.seconds this.seconds this says.digits says.gap says.unit says.last size are (few (number says.digits) less) some says.not_padded says.means string k date refl says.is long h in
+          record { from_1900 = back.from_1900; since_1970 = back.since_1970; is = back.is };
     })
 
 -- what `jiff` shows at an instant from 1970 on, as a clock that is held

@@ -1,5 +1,5 @@
 -- Where both readers answer to `n months ago`, they answer the same.
-use Rattle.std.proofs.Common.{◌≡◌, ◌∙◌, ◌≤◌, ℕ, ◌*◌, ◌/◌, ℤ, pos, ◌+ℤ◌, ◌-ℤ◌, ◌≤ℤ◌, true, List, [], ◌∷◌, Some, None, Result, Ok, Err, refl, sym, ap, subst}
+use Rattle.std.proofs.Common.{◌≡◌, ◌∙◌, ◌≤◌, ℕ, ◌*◌, ◌/◌, ℤ, pos, ◌+ℤ◌, ◌-ℤ◌, ◌≤ℤ◌, true, List, [], ◌∷◌, Some, Result, Ok, Err, refl, sym, ap, subst}
 use Rattle.std.specs.Result.{result_map_both}
 use Rattle.jiff.proofs.ZoneFacts.{offset_at-fixed_zone}
 use Rattle.jiff.specs.Types.{Offset, TimeZone}
@@ -17,14 +17,19 @@ use Rattle.gix_date.specs.declared.error.ParseError.{ParseError}
 use Rattle.gix_date.specs.declared.parsing.careful.CarefulOptions.{CarefulOptions}
 use Rattle.gix_date.specs.declared.time.Time.{Time}
 use Rattle.gix_date.proofs.Relative.FixedZones.{fixed-picked, fixed-local, fixed-resolves}
+use Rattle.std.specs.Option.{option_or}
 use Rattle.git_date.specs.ApproximateDrafts.{units}
+use Rattle.git_date.specs.ApproximateZones.{one_offset}
 use Rattle.git_date.specs.Dates.{now_of}
 use Rattle.git_date.specs.Outcome.{DateOutcome}
 use Rattle.git_date.specs.Reading.{said_by}
+use Rattle.git_date.specs.Strings.{nul_place}
+use Rattle.git_date.specs.declared.approximate.answer.Approximate.{Approximate}
 use Rattle.git_date.specs.declared.error.DateError.TheVariants.{Unreadable}
 use Rattle.git_date.proofs.ClocksBack.{shown_of}
 use Rattle.git_date_laws.proofs.MonthsAgo.{month_back, seconds_back, months-back, rolled}
 use Rattle.git_date_laws.specs.ApproximateLaws.{AgreesOnMonths}
+use Rattle.git_date_laws.proofs.Cuts.{answer-parts, refused-up-to}
 use Rattle.git_date_laws.proofs.Guesses.{one_answers, moment-instant}
 
 abbrev pair_back : ℕ → ℕ → RelativeDate
@@ -76,8 +81,10 @@ module _ (moment : Zoned) (o : Offset) (count size : ℕ) (fixed : zone_of momen
 pub agrees-on-months : (options : CarefulOptions) (moment : Zoned) (text : List ℕ) → AgreesOnMonths options moment text
 agrees-on-months options moment text o count size time date fixed says from_1970 reached reading h g =
     let both = months-back (now_of moment) text o count size (moment-instant moment) says reached in
-    let reads : DateOutcome (zone_of moment) (said_by (now_of moment) text) (Err Unreadable) = rw (both.unread) refl in
-    let back = both.guesses date (sym (one_answers moment text o (Err Unreadable) (Ok date) fixed reads g)) in
+    let reads : DateOutcome (zone_of moment) (said_by (now_of moment) text) (Err Unreadable) = rw (refused-up-to (now_of moment) text Unreadable both.unread) refl in
+    let parts = answer-parts (one_offset o.seconds) (now_of moment) text date (sym (one_answers moment text o (Err Unreadable) (Ok date) fixed reads g)) in
+    let back = both.guesses parts.before parts.is_found in
     let named = careful-named moment (pair_back count size) (careful_reading options text) time reading h in
     let is = time-is moment o count size fixed from_1970 time named back.from_1900 back.since_1970 in
-    back.is ∙ ap (λ (t : Time). record { time = t; understood = true; ignored = None }) (sym is)
+    parts.is ∙ ap (λ (d : Approximate). record d { ignored = option_or d.ignored (nul_place text) }) back.is
+    ∙ ap (λ (t : Time). record { time = t; understood = true; ignored = nul_place text }) (sym is)

@@ -6,9 +6,9 @@ use Rattle.gix_date.proofs.Fields.Instants.{z_holds}
 use Rattle.gix_date.specs.Text.Characters.{space}
 use Rattle.gix_date.specs.declared.time.Time.{Time}
 use Rattle.git_date.proofs.ClocksBack.{shown_of}
-use Rattle.git_date_laws.proofs.ExactBack.{Says, clock_at, long-enough, shown-is, unit-walk}
+use Rattle.git_date_laws.proofs.ExactBack.{Says, as-whole, clock_at, long-enough, shown-is, unit-walk}
 use Rattle.git_date_laws.proofs.ExactNothing.{nothing-said}
-use Rattle.git_date.specs.Approximate.{answer, answer_of, draft_of, guess, guess_by, steps}
+use Rattle.git_date.specs.Approximate.{answer, answer_of, draft_of, string_guess, guess_by, steps}
 use Rattle.git_date.specs.ApproximateDrafts.{clock_fields, first_draft, settle}
 use Rattle.git_date.specs.ApproximateRules.{is_padded}
 use Rattle.git_date.specs.ApproximateWords.{meaning_of}
@@ -27,7 +27,7 @@ use Rattle.git_date.specs.Types.{Fault}
 use Rattle.git_date.specs.Types.{Fields}
 use Rattle.git_date_laws.proofs.LessMonths.{earlier_fields, days_back}
 use Rattle.git_date_laws.proofs.MonthsTold.{ready, waits, Stands, Fills, none-preferred, digits-wait, fills-now, unit-moves, fills-after}
-use Rattle.git_date_laws.proofs.RelativeTexts.{IsCount, tail_tokens}
+use Rattle.git_date_laws.proofs.RelativeTexts.{count-whole, IsCount, tail_tokens}
 
 abbrev pub told : ℤ → ℤ → Approximate
 told o s = record { time = record { seconds = s; offset = o }; understood = true; ignored = None }
@@ -69,8 +69,8 @@ module _ (this : Now) (o : Offset) (k : ℕ) (at : Stands o.seconds this.seconds
 
   guessed : (text run word : List ℕ) (size n : ℕ) → number run * size ≡ k → k ≤ max_small → number run ≤ max_small → 1 ≤ number run → is_padded run ≡ false
       → meaning_of word ≡ Some (meaning.Unit (Months size)) → tokens text ≡ Digits run ∷ tail_tokens word → length text ≡ suc (suc (suc (suc (suc n))))
-      → pos 0 ≤ℤ earlier → guess (one_offset o.seconds) this text ≡ Ok (told o.seconds earlier)
-  unfolding guess draft_of
+      → pos 0 ≤ℤ earlier → string_guess (one_offset o.seconds) this text ≡ Ok (told o.seconds earlier)
+  unfolding string_guess draft_of
   guessed text run word size n product fits small some padded means same long since =
       let zone : Choices = one_offset o.seconds in
       let drafts : draft_of zone here text ≡ Ok there_draft = rw (same, long) (drafted run word size n product fits small some padded means) in
@@ -84,7 +84,8 @@ module _ (this : Now) (o : Offset) (k : ℕ) (at : Stands o.seconds this.seconds
   by-digits text n size count product fits some few since =
       let least = long-enough text count.digits space count.word space count.is in
       let more = length text - 5 in
-      let long : length text ≡ suc (suc (suc (suc (suc more)))) = omega (arith, least) in (
+      let long : length text ≡ suc (suc (suc (suc (suc more)))) = omega (arith, least) in
+      as-whole o.seconds this text (told o.seconds earlier) (count-whole text n (Months size) count) (
         nothing-said this text count.digits space count.word space count.no_date few count.is,
         guessed text count.digits count.word size more product fits (omega (arith, few)) some count.not_padded count.means count.is long since,
       )

@@ -6,9 +6,10 @@ use Rattle.jiff.specs.Types.{Offset}
 use Rattle.gix_date.specs.Text.Characters.{space, comma}
 use Rattle.git_date.proofs.Walked.{nothing-left}
 use Rattle.git_date.proofs.ClocksBack.{shown_of}
-use Rattle.git_date_laws.proofs.ExactBack.{Says, clock_at, ago-nothing, go-on, shown-is}
+use Rattle.git_date.proofs.StringEnds.{has_nul, no-nul}
+use Rattle.git_date_laws.proofs.ExactBack.{Says, as-whole, clock_at, ago-nothing, go-on, shown-is}
 use Rattle.git_date.proofs.TokenRuns.{texts_are}
-use Rattle.git_date.specs.Approximate.{answer_of, draft_of, guess, guess_by, steps, step}
+use Rattle.git_date.specs.Approximate.{answer_of, draft_of, string_guess, guess_by, steps, step}
 use Rattle.git_date.specs.ApproximateDrafts.{clock_fields, first_draft}
 use Rattle.git_date.specs.ApproximateZones.{Choices, one_offset}
 use Rattle.git_date.specs.Computing.{computing}
@@ -136,8 +137,8 @@ module _ (this : Now) (o : Offset) (n m : ℕ) (at : Stands o.seconds this.secon
       second
 
   guessed : (text : List ℕ) (k : ℕ) → 1 ≤ n → n < 100 → 1 ≤ m → m < 100 → tokens text ≡ pair_tokens (decimal n) (year_word n) (decimal m) (month_word m) → length text ≡ ten_more k
-      → pos 0 ≤ℤ earlier → guess (one_offset o.seconds) this text ≡ Ok (told o.seconds earlier)
-  unfolding guess draft_of
+      → pos 0 ≤ℤ earlier → string_guess (one_offset o.seconds) this text ≡ Ok (told o.seconds earlier)
+  unfolding string_guess draft_of
   guessed text k some few some_months few_months same long since =
       let zone : Choices = one_offset o.seconds in
       let drafts : draft_of zone here text ≡ Ok last_there = rw (same, long) (drafted k some few some_months few_months) in
@@ -160,7 +161,8 @@ module _ (this : Now) (o : Offset) (n m : ℕ) (at : Stands o.seconds this.secon
       let are = pair-are n m wide wide_months in
       let least = long-enough text (decimal n) (year_word n) (decimal m) (month_word m) (decimal_nonempty n wide) (decimal_nonempty m wide_months) are in
       let k = length text - 10 in
-      let long : length text ≡ ten_more k = omega (arith, least) in (
+      let long : length text ≡ ten_more k = omega (arith, least) in
+      as-whole o.seconds this text (told o.seconds earlier) (no-nul text (ap has_nul are)) (
         tame-nothing this text (pair_tokens (decimal n) (year_word n) (decimal m) (month_word m)) are refl
             ((short n few, omega (arith, number_is)), (refl, (tt, (refl, (refl, ((short m few_months, omega (arith, months_is)), (refl, (tt, (refl, (tt, tt)))))))))),
         guessed text k some few some_months few_months are long since,

@@ -19,13 +19,15 @@ use Rattle.gix_date.specs.Header.Text.{written_text}
 use Rattle.gix_date.specs.Text.Characters.{at_sign, space, plus, minus}
 use Rattle.gix_date.specs.Text.Numbers.{two_digits}
 use Rattle.gix_date.specs.declared.time.Time.{Time}
+use Rattle.git_date.proofs.PrintedReads.{sign-free}
+use Rattle.git_date.proofs.StringEnds.{has_nul, no-nul, whole-said}
 use Rattle.git_date.proofs.FastSeconds.{sign_byte, minutes_of, raw_tokens, run-before, at-is, said_at, said-is}
 use Rattle.git_date.proofs.TokenRuns.{digit-first, mark-first}
 use Rattle.git_date.specs.Modes.{own}
 use Rattle.git_date.specs.Numbers.{digit_more, number}
 use Rattle.git_date.specs.Offsets.{at_text}
 use Rattle.git_date.specs.Outcome.{DateOutcome, date_at}
-use Rattle.git_date.specs.Reading.{said_by, at_or_fields}
+use Rattle.git_date.specs.Reading.{string_said, said_by, at_or_fields}
 use Rattle.git_date.specs.Show.{raw_text, shown, shown_offset}
 use Rattle.git_date.specs.ShowClocks.{Moment, is_written_offset}
 use Rattle.git_date.specs.Tokens.{Token, Digits, Mark, digit_before, tokens}
@@ -97,12 +99,14 @@ number-of n h = let is = (decimal-is n h).number_is in omega arith
 
 raw-said : (now : Now) (n a b : ℕ) (behind : Bool) → n < 2 ^ 64 → a < 100 → b < 100 → is_instant (pos n) ≡ true
     → said_by now (at_sign ∷ (decimal n ++ (space ∷ sign_byte behind ∷ (two_digits a ++ two_digits b)))) ≡ Ok (said_at n (minutes_of behind a b))
-unfolding said_by
+unfolding string_said
 raw-said now n a b behind h f g e =
     let text = at_sign ∷ (decimal n ++ (space ∷ sign_byte behind ∷ (two_digits a ++ two_digits b))) in
+    let are = raw-are n a b behind h f g in
+    let free : has_nul (raw_tokens (decimal n) behind (two_digits a ++ two_digits b)) ≡ false = rw (sign-free behind) refl in
     let found : at_text (tokens text) ≡ Some (n, minutes_of behind a b) =
-    ap at_text (raw-are n a b behind h f g) ∙ at-is (decimal n) a b behind f g ∙ ap (λ (k : ℕ). Some (k, minutes_of behind a b)) (number-of n h) in
-    ap (λ (o : Option (ℕ × ℤ)). at_or_fields now text o) found ∙ said-is n (minutes_of behind a b) e
+    ap at_text are ∙ at-is (decimal n) a b behind f g ∙ ap (λ (k : ℕ). Some (k, minutes_of behind a b)) (number-of n h) in
+    whole-said now text (no-nul text (ap has_nul are ∙ free)) ∙ ap (λ (o : Option (ℕ × ℤ)). at_or_fields now text o) found ∙ said-is n (minutes_of behind a b) e
 
 date-is : (n : ℕ) (minutes offset : ℤ) → pos 60 *ℤ minutes ≡ offset
     → date_at (said_at n minutes) minutes ≡ Ok (record { time = record { seconds = pos n; offset = offset }; has_offset = true; ignored = None })

@@ -10,7 +10,8 @@ use Rattle.git_date.specs.Dates.{is_day_of_month, recent_date}
 use Rattle.git_date.specs.Groups.{ReadTokens, group_of, day_month_group, group_rule, second_of, third_of, taken_or_refused, large_in}
 use Rattle.git_date.specs.Digits.{Stepped, is_epoch, epoch_rule, bare_digits, by_rule, unless_large, group_or_bare, number_rule, digits_rule}
 use Rattle.git_date.specs.Offsets.{at_text}
-use Rattle.git_date.specs.Reading.{nothing_read, read_on, and_then, ended, rule, steps, reading_of, fields_said, at_or_fields, said_by}
+use Rattle.git_date.specs.Reading.{nothing_read, read_on, and_then, ended, rule, steps, reading_of, fields_said, at_or_fields, said_up_to, string_said, said_by}
+use Rattle.git_date.specs.Strings.{before_nul, nul_place}
 use Rattle.git_date.specs.Types.{Now, Dated, Fault, Fields, Group, Reading}
 use Rattle.git_date.specs.FaultCases.{NumberTooLarge}
 use Rattle.git_date.specs.DatedCases.{Refused}
@@ -105,9 +106,13 @@ unfolding reading_of
 at-or-same now other text (Some found) h = refl
 at-or-same now other text None h = ap (fields_said text) (steps-same now other (length text) nothing_read (tokens text) h)
 
+string-same : (now other : Now) (text : List ℕ) → meets_day_month now (length text) nothing_read (tokens text) ≡ false → string_said now text ≡ string_said other text
+unfolding string_said
+string-same now other text h = at-or-same now other text (at_text (tokens text)) h
+
 pub same-instants : (now other : Now) (text : List ℕ) → HasNoDayMonth now text → said_by now text ≡ said_by other text
 unfolding said_by
-same-instants now other text h = at-or-same now other text (at_text (tokens text)) h
+same-instants now other text h = ap (said_up_to (nul_place text)) (string-same now other (before_nul text) h)
 
 -- where no such date begins, the reader comes to none
 abbrev HasNone : List Token → Type 0
@@ -152,5 +157,5 @@ none-met now (suc n) r (t ∷ more) h =
     (none-then now n r (bytes_left (t ∷ more)) (rule now r.fields t more) (rule-left HasNone HasNone (λ place. Unit {0}) none-kept now r.fields t more h)
     (λ other rest. none-met now n other rest))
 
-pub meets-none : (now : Now) (text : List ℕ) → has_day_month (tokens text) ≡ false → HasNoDayMonth now text
-meets-none now text h = none-met now (length text) nothing_read (tokens text) h
+pub meets-none : (now : Now) (text : List ℕ) → has_day_month (tokens (before_nul text)) ≡ false → HasNoDayMonth now text
+meets-none now text h = none-met now (length (before_nul text)) nothing_read (tokens (before_nul text)) h

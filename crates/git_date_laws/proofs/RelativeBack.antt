@@ -11,19 +11,20 @@ use Rattle.jiff_core.proofs.SignedLemmas.{signed_arith, one_part}
 use Rattle.gix_date.proofs.Fields.Instants.{z_holds}
 use Rattle.gix_date.specs.Fields.Zoned.{is_instant}
 use Rattle.gix_date.specs.declared.time.Time.{Time}
-use Rattle.git_date.proofs.ClocksBack.{shown_of}
-use Rattle.git_date_laws.proofs.ExactBack.{AreClocks, clock_at, Says, are-clocks, filled-now, shown-is, counted-back}
+use Rattle.git_date_laws.proofs.ExactBack.{AreClocks, clock_at, Says, StringSays, as-whole, are-clocks, filled-now, shown-is, counted-back}
 use Rattle.git_date_laws.proofs.PairsRead.{pair_text}
 use Rattle.git_date_laws.proofs.RelativeAges.{IsNearly, IsRounded, rounded-near}
 use Rattle.git_date_laws.proofs.RelativeMonths.{IsSaidWithin, months-near, few-years, years-near, pair-near}
-use Rattle.git_date_laws.proofs.RelativeTexts.{IsUnit, is-count, counts-back, seconds-unit, minutes-unit, hours-unit, days-unit, weeks-unit, months-unit, years-unit}
-use Rattle.git_date.specs.Approximate.{answer, answer_of, draft_of, guess, guess_by}
+use Rattle.git_date_laws.proofs.RelativeTexts.{IsUnit, is-count, count-whole, counts-back, seconds-unit, minutes-unit, hours-unit, days-unit, weeks-unit, months-unit, years-unit}
+use Rattle.git_date.specs.Approximate.{answer, answer_of, draft_of, string_guess, guess_by}
 use Rattle.git_date.specs.ApproximateBack.{CountsBack, IsReached, exactly_back}
 use Rattle.git_date.specs.ApproximateComputing.{approximating}
 use Rattle.git_date.specs.ApproximateDrafts.{clock_fields, settle}
 use Rattle.git_date.specs.ApproximateZones.{Choices, one_offset, filled_time}
 use Rattle.git_date.specs.Computing.{computing}
-use Rattle.git_date.specs.Reading.{said_by}
+use Rattle.git_date.specs.Reading.{string_said}
+use Rattle.git_date.specs.Strings.{string_len}
+use Rattle.git_date.proofs.StringEnds.{all-before}
 use Rattle.git_date.specs.RelativeBack.{slack, days_slack, IsToldBack, IsAhead, not_understood}
 use Rattle.git_date.specs.Show.{shown, relative_shown}
 use Rattle.git_date.specs.ShowAges.{age_of, age_text, counted, relative_text}
@@ -99,14 +100,14 @@ module _ (this : Now) (o : Offset) (instant : is_instant this.seconds ≡ true) 
       ∙ ap (λ (b : Bool). cond b (Ok (as_now text understood left)) (Err Range)) (z_holds (pos 0) this.seconds since)
 
   pub guessed-now : (text : List ℕ) (understood : Bool) (left : ℕ) → draft_of (one_offset o.seconds) here text ≡ Ok (idle understood left)
-      → guess (one_offset o.seconds) this text ≡ Ok (as_now text understood left)
-  unfolding guess
+      → string_guess (one_offset o.seconds) this text ≡ Ok (as_now text understood left)
+  unfolding string_guess
   guessed-now text understood left drafts =
       ap (λ (s : Option ShownClock). guess_by (one_offset o.seconds) this text s) (shown-is o.seconds this.seconds instant (are.now_shown))
       ∙ ap (λ (d : Result Draft Fault). answer_of (one_offset o.seconds) here text d) drafts
       ∙ idle-answered text understood left
 
-pub no-date : (this : Now) → said_by this (codes "0 seconds ago") ≡ Err Unreadable
+pub no-date : (this : Now) → string_said this (codes "0 seconds ago") ≡ Err Unreadable
 unfolding computing
 no-date this = refl
 
@@ -119,15 +120,17 @@ no-count zone today = refl
 module _ (this : Now) (t : Time) (o : Offset) (seconds : ℕ) (instant : is_instant this.seconds ≡ true) (clock : is_instant (this.seconds +ℤ o.seconds) ≡ true)
     (at : t.seconds +ℤ pos seconds ≡ this.seconds) where
   -- a count of units
-  near-by : (text : List ℕ) (n size far : ℕ) → CountsBack text n size → IsNearly seconds n size far → pos far ≤ℤ t.seconds → IsSaidWithin o.seconds this t text far
-  near-by text n size far counts near since =
+  near-by : (text : List ℕ) (n size far : ℕ) → string_len text ≡ length text → CountsBack text n size → IsNearly seconds n size far → pos far ≤ℤ t.seconds → IsSaidWithin o.seconds this t text far
+  near-by text n size far whole counts near since =
       let fits = near.fits in
       let above = near.above in
       let below = near.below in
       let reached : IsReached this.seconds o.seconds (n * size) = record { fits = fits; since_1970 = omega (arith, signed_arith); clock = clock } in
       record {
         date = exactly_back this.seconds o.seconds (n * size);
-        says = counted-back this text o n size instant counts reached;
+        says = as-whole o.seconds this text _ whole
+            (subst (λ (s : List ℕ). StringSays o.seconds this s (exactly_back this.seconds o.seconds (n * size))) (all-before text whole)
+            (counted-back this text o n size instant counts reached));
         near = (omega (arith, signed_arith), omega (arith, signed_arith));
       }
 
@@ -137,7 +140,8 @@ module _ (this : Now) (t : Time) (o : Offset) (seconds : ℕ) (instant : is_inst
       let text = counted n name ++ codes " ago" in
       let small = near.few in
       let few : n < 10_000_000 = omega arith in
-      near-by text n size far (counts-back text n size (is-count n (unit.Seconds size) name is near.some few) near.some near.few) near since
+      let count = is-count n (unit.Seconds size) name is near.some few in
+      near-by text n size far (count-whole text n (unit.Seconds size) count) (counts-back text n size count near.some near.few) near since
 
   zero-near : seconds ≡ 0 → pos 0 ≤ℤ t.seconds → IsSaidWithin o.seconds this t (codes "0 seconds ago") 0
   zero-near none since =
@@ -145,7 +149,7 @@ module _ (this : Now) (t : Time) (o : Offset) (seconds : ℕ) (instant : is_inst
       let from : pos 0 ≤ℤ this.seconds = omega (arith, signed_arith) in
       record {
         date = record { time = record { seconds = this.seconds; offset = o.seconds }; understood = true; ignored = Some 0 };
-        says = (no-date this, guessed-now this o instant from clock text true 13 (no-count (one_offset o.seconds) _));
+        says = as-whole o.seconds this text _ refl (no-date this, guessed-now this o instant from clock text true 13 (no-count (one_offset o.seconds) _));
         near = (omega (arith, signed_arith), omega (arith, signed_arith));
       }
 
@@ -204,7 +208,7 @@ future-text : (now t : ℤ) → lt_z now t ≡ true → relative_text now t ≡ 
 unfolding relative_text
 future-text now t ahead = rw ahead refl
 
-future-undated : (this : Now) → said_by this (codes "in the future") ≡ Err Unreadable
+future-undated : (this : Now) → string_said this (codes "in the future") ≡ Err Unreadable
 unfolding computing
 future-undated this = refl
 
@@ -218,7 +222,8 @@ pub future-said : (this : Now) (t : Time) (o : Offset) (text : List ℕ) → is_
     → relative_text this.seconds t.seconds ≡ text → Says o.seconds this text (not_understood this.seconds o.seconds)
 future-said this t o text instant told is =
     subst (λ (s : List ℕ). Says o.seconds this s (not_understood this.seconds o.seconds)) (sym (future-text this.seconds t.seconds (after this.seconds t.seconds told.ahead)) ∙ is)
-    (future-undated this, guessed-now this o instant told.since_1970 told.clock (codes "in the future") false 13 (future-idle (one_offset o.seconds) _))
+    (as-whole o.seconds this (codes "in the future") _ refl
+    (future-undated this, guessed-now this o instant told.since_1970 told.clock (codes "in the future") false 13 (future-idle (one_offset o.seconds) _)))
   where
     after : (a b : ℤ) → a <ℤ b → lt_z a b ≡ true
     after a b h = grind (arith, ints)

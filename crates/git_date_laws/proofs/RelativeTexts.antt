@@ -11,7 +11,9 @@ use Rattle.git_date.specs.ApproximateWords.{meaning_of}
 use Rattle.git_date.specs.Computing.{computing}
 use Rattle.git_date.specs.Numbers.{number}
 use Rattle.git_date.specs.ShowAges.{counted}
+use Rattle.git_date.specs.Strings.{string_len}
 use Rattle.git_date.specs.Tokens.{Token, Letters, Digits, Mark, tokens}
+use Rattle.git_date.proofs.StringEnds.{has_nul, no-nul, all-before}
 use Rattle.git_date.specs.MeaningCases as meaning
 use Rattle.git_date.specs.Types.{Unit}
 use Rattle.git_date.specs.UnitCases.{Seconds, Months}
@@ -105,13 +107,17 @@ is-count n unit name is some few =
       means = is.1;
     }
 
+-- it has no NUL
+pub count-whole : (text : List ℕ) (n : ℕ) (unit : Unit) → IsCount text n unit → string_len text ≡ length text
+count-whole text n unit is = no-nul text (ap has_nul is.is)
+
 pub counts-back : (text : List ℕ) (n size : ℕ) → IsCount text n (Seconds size) → 1 ≤ n → n < 100 → CountsBack text n size
 counts-back text n size is some few = record {
   digits = is.digits;
   gap = space;
   unit = is.word;
   last = space;
-  is = is.is;
+  is = ap tokens (all-before text (count-whole text n (Seconds size) is)) ∙ is.is;
   counts = is.counts;
   not_zero = some;
   no_epoch = omega arith;

@@ -5,7 +5,7 @@ use Rattle.std.specs.Prelude.{codes, ◌&&◌, ◌||◌}
 use Rattle.std.specs.Int.Signed.{le_z}
 use Rattle.gix_date.specs.Text.Names.{is_name}
 use Rattle.gix_date.specs.declared.time.Time.{Time}
-use Rattle.git_date.specs.Approximate.{Read, with_rest, steps, draft_of, answer, answer_of, guess_by, guess}
+use Rattle.git_date.specs.Approximate.{Read, with_rest, steps, draft_of, answer, answer_of, guess_by, string_guess}
 use Rattle.git_date.specs.ApproximateDrafts.{earlier, first_draft, ignore, settle}
 use Rattle.git_date.specs.ApproximateRules.{Ruled, meaning_rule, word_by, read_word, are_digits_next, letters_rule, digits_rule}
 use Rattle.git_date.specs.ApproximateWords.{meaning_of}
@@ -241,6 +241,6 @@ guess-by-usual zone now text date (Some shown) e none =
     let today : Today = record { now = now; shown = shown } in
     answered-usual zone today text date (draft_of zone today text) refl e none
 
-pub guess-usual : (zone : Choices) (now : Now) (text : List ℕ) (date : Approximate) → guess zone now text ≡ Ok date → date.ignored ≡ None → are_usual text ≡ true
-unfolding guess
+pub guess-usual : (zone : Choices) (now : Now) (text : List ℕ) (date : Approximate) → string_guess zone now text ≡ Ok date → date.ignored ≡ None → are_usual text ≡ true
+unfolding string_guess
 guess-usual zone now text date e none = guess-by-usual zone now text date (shown_in zone now.seconds) e none

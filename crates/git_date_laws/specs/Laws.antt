@@ -1,5 +1,5 @@
 -- Laws of dates as Git reads them.
-use Rattle.std.specs.Prelude.{◌≡◌, ◌↔◌, ◌⊎◌, ℕ, ℤ, true, false, List, [], ◌∷◌, ◌++◌, Option, Some, None, IfSome, Result, Ok}
+use Rattle.std.specs.Prelude.{◌≡◌, ◌↔◌, ◌⊎◌, ℕ, ℤ, true, false, List, length, [], ◌∷◌, ◌++◌, Option, Some, None, IfSome, Result, Ok}
 use Rattle.jiff.specs.Types.{TimeZone, Posix}
 use Rattle.jiff.specs.declared.zoned.Zoned.{Zoned}
 use Rattle.jiff_tz.specs.declared.posix.TimeZone.{TimeZone as Rule}
@@ -15,8 +15,9 @@ use Rattle.git_date.specs.Moments.{has_day_month, HasNoDayMonth}
 use Rattle.git_date.specs.Printed.{IsGitTime, AreReadBack}
 use Rattle.git_date.specs.Show.{shown}
 use Rattle.git_date.specs.ShowClocks.{Moment}
+use Rattle.git_date.specs.Strings.{nul, before_nul, nul_place}
 use Rattle.git_date.specs.Tokens.{Token, Letters, Digits, tokens}
-use Rattle.git_date.specs.Reading.{said_by}
+use Rattle.git_date.specs.Reading.{said_up_to, said_by}
 use Rattle.git_date.specs.Outcome.{DateOutcome, said_offset}
 use Rattle.git_date.specs.Zones.{ZoneOffsets, offsets_of, shows, local_offset}
 use Rattle.git_date.specs.declared.date.ReadDate.{ReadDate}
@@ -52,11 +53,17 @@ abbrev pub IgnoresCase : Zoned → List ℕ → Type 0
 IgnoresCase moment text =
     (other : List ℕ) → is_name text other ≡ true → said_by (now_of moment) text ≡ said_by (now_of moment) other
 
--- neither a line feed nor what follows it changes what a text says, where no offset takes the line feed
+-- Neither a line feed nor what follows it changes what a text says, where no offset takes the line feed. What begins at a NUL
+-- there is ignored.
 abbrev pub IgnoresLines : Zoned → List ℕ → Type 0
 IgnoresLines moment text =
     (lines : List ℕ) → AreComplete (tokens text)
-    → said_by (now_of moment) (text ++ newline ∷ lines) ≡ said_by (now_of moment) text
+    → said_by (now_of moment) (text ++ newline ∷ lines) ≡ said_up_to (nul_place (text ++ newline ∷ lines)) (said_by (now_of moment) text)
+
+-- what follows a NUL changes nothing of what a text says, but that what begins at the NUL is ignored, unless something before it is
+abbrev pub EndsAtNul : Zoned → List ℕ → Type 0
+EndsAtNul moment text =
+    (rest : List ℕ) → said_by (now_of moment) (text ++ nul ∷ rest) ≡ said_up_to (Some (length text)) (said_by (now_of moment) text)
 
 -- a text in which the reader comes to no such date says the same at every moment
 abbrev pub IgnoresInstant : Zoned → List ℕ → Type 0
@@ -65,7 +72,7 @@ IgnoresInstant moment text =
 
 -- a text in which no such date begins anywhere is such a text at every moment
 abbrev pub IsWithoutDayMonth : Zoned → List ℕ → Type 0
-IsWithoutDayMonth moment text = has_day_month (tokens text) ≡ false → HasNoDayMonth (now_of moment) text
+IsWithoutDayMonth moment text = has_day_month (tokens (before_nul text)) ≡ false → HasNoDayMonth (now_of moment) text
 
 -- what the six named formats that have a clock print of such a time is read back
 abbrev pub ReadsBack : Zoned → Time → Type 0

@@ -1,5 +1,5 @@
 //! Laws of dates as people write them.
-ghost use Rattle.git_date_laws.specs.ApproximateLaws.{HasExactAnswer, HasOneAnswer, IsExactlyBack, IsBackInEveryZone, IsNowIfShown, HasAnswerInAnyCase, AgreesWithCareful, AgreesOnMonths, IgnoresMarks, IgnoresNoWord};
+ghost use Rattle.git_date_laws.specs.ApproximateLaws.{HasExactAnswer, HasOneAnswer, IsExactlyBack, IsBackInEveryZone, IsNowIfShown, HasAnswerInAnyCase, AgreesWithCareful, AgreesOnMonths, IgnoresMarks, IgnoresNoWord, AnswersUpToNul, ExpiresUpToNul};
 ghost use Rattle.git_date_laws.specs.RelativeLaws.{IsReadNear, IsReadAsNow};
 
 use gix_date::{CarefulOptions, Time, Zoned};
@@ -14,7 +14,8 @@ pub fn one_answer(text: &[u8], now: &Zoned<'_>)
     ensures { HasOneAnswer now.now text.now }
 {}
 
-/// In a zone of one offset `n UNIT ago`, of seconds to weeks, is exactly that many seconds before now, and nothing is ignored.
+/// In a zone of one offset `n UNIT ago`, of seconds to weeks, is exactly that many seconds before now, and nothing is ignored
+/// but what begins at a NUL.
 /// The count is 1 or more, below 100000000 and not of eight digits: [`git_date::parse_date`] takes larger numbers for seconds
 /// since 1970, and eight digits for a date. It has no leading 0 in three digits or more, which Git ignores.
 pub fn exactly_back(text: &[u8], now: &Zoned<'_>)
@@ -22,7 +23,7 @@ pub fn exactly_back(text: &[u8], now: &Zoned<'_>)
 {}
 
 /// In every zone `n UNIT ago`, of seconds to weeks, is exactly that many seconds before now, at the zone's offset there: also over
-/// a change of the zone, and in a fold. The count is as for [`exactly_back`].
+/// a change of the zone, and in a fold. Nothing is ignored but what begins at a NUL. The count is as for [`exactly_back`].
 pub fn back_in_every_zone(text: &[u8], now: &Zoned<'_>)
     ensures { IsBackInEveryZone now.now text.now }
 {}
@@ -46,9 +47,21 @@ pub fn relative_read_near(time: Time, now: &Zoned<'_>)
     ensures ahead { IsReadAsNow now.now time }
 {}
 
+/// What follows a NUL changes no answer of [`git_date::approxidate`], but that what begins at the NUL is ignored, unless
+/// something before it is.
+pub fn approximate_up_to_nul(text: &[u8], now: &Zoned<'_>)
+    ensures { AnswersUpToNul now.now text.now }
+{}
+
+/// So it is of [`git_date::expiry_date`].
+pub fn expiry_up_to_nul(text: &[u8], now: &Zoned<'_>)
+    ensures { ExpiresUpToNul now.now text.now }
+{}
+
 /// Of a text that [`git_date::parse_date`] does not read, [`git_date::approxidate`] hears the letters and digits alone, and the
-/// marks `:`, `.`, `/` and `-` directly between digits. Others change neither the time, nor whether anything was understood, nor
-/// the refusal; but letters directly before digits are no word. (What is ignored can differ: `7 th` ignores what `7th` does not.)
+/// marks `:`, `.`, `/` and `-` directly between digits, up to a NUL. Other marks change neither the time, nor whether anything was
+/// understood, nor the refusal; but letters directly before digits are no word. (What is ignored can differ: `7 th` ignores what
+/// `7th` does not.)
 pub fn marks(text: &[u8], now: &Zoned<'_>)
     ensures { IgnoresMarks now.now text.now }
 {}
@@ -60,7 +73,7 @@ pub fn no_word_ignored(text: &[u8], now: &Zoned<'_>)
 {}
 
 /// In a zone of one offset [`gix_date::parse_carefully`] and [`git_date::approxidate`] answer the same time to `n UNIT ago` of
-/// seconds to weeks, where both read that pair, and nothing is ignored.
+/// seconds to weeks, where both read that pair, and nothing is ignored but what begins at a NUL.
 pub fn careful_agrees(text: &[u8], options: CarefulOptions, now: &Zoned<'_>)
     ensures { AgreesWithCareful options now.now text.now }
 {}

@@ -4,15 +4,15 @@
 ghost use Rattle.std.specs.Prelude.{◌≡◌};
 ghost use Rattle.jiff.specs.Words.{plain_zone};
 ghost use Rattle.git_date.specs.Tokens.{tokens as tokens_of, texts};
-ghost use Rattle.git_date_laws.specs.Laws.{AreApart, IgnoresZone, IsOfEveryZone, IsClockRead, IgnoresCase, IgnoresLines, IgnoresInstant, IsWithoutDayMonth, ReadsBack, ReadsRawBack};
+ghost use Rattle.git_date_laws.specs.Laws.{AreApart, IgnoresZone, IsOfEveryZone, IsClockRead, IgnoresCase, IgnoresLines, EndsAtNul, IgnoresInstant, IsWithoutDayMonth, ReadsBack, ReadsRawBack};
 
 mod approximate;
 mod shown;
 
 pub use approximate::{
-    approximate_letter_case, back_in_every_zone, careful_agrees, exact_answer, exactly_back, marks, months_agree,
-    now_in_every_zone,
-    no_word_ignored, one_answer, relative_read_near,
+    approximate_letter_case, approximate_up_to_nul, back_in_every_zone, careful_agrees,
+    exact_answer, exactly_back, expiry_up_to_nul, marks, months_agree, no_word_ignored,
+    now_in_every_zone, one_answer, relative_read_near,
 };
 use gix_date::{Time, Zoned};
 use jiff::tz::TimeZone;
@@ -46,10 +46,16 @@ pub fn letter_case(text: &[u8], now: &Zoned<'_>)
 {}
 
 /// What follows a line feed changes no answer, unless an offset goes on there: after `@`, seconds, a space and a sign, or after
-/// a sign, two digits and a colon.
+/// a sign, two digits and a colon. What begins at a NUL there is ignored, unless something before it is.
 #[tactic(auto, using(crate::proofs::Texts::any_lines))]
 pub fn later_lines(text: &[u8], now: &Zoned<'_>)
     ensures { IgnoresLines now.now text.now }
+{}
+
+/// What follows a NUL changes no answer, but that what begins at the NUL is ignored, unless something before it is.
+#[tactic(auto, using(crate::proofs::UpToNul::ends_at_nul))]
+pub fn up_to_nul(text: &[u8], now: &Zoned<'_>)
+    ensures { EndsAtNul now.now text.now }
 {}
 
 /// A text in which the reader comes to no date with dots, slashes or dashes but those that begin with their year has the same

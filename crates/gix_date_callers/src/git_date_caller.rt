@@ -1,14 +1,12 @@
 //! Callers of `git_date`, as docs/GIT_DATES.md shows them.
-ghost use Rattle.std.specs.Prelude.{◌≡◌, ◌++◌, ℕ, List, Option, Ok, Err, IfOk, IfErr, IfSome, IfNone, codes, drop, option_map};
+ghost use Rattle.std.specs.Prelude.{◌≡◌, Ok, Err, IfOk, IfErr, drop, option_map};
 ghost use Rattle.gix_date.specs.Relative.Steps.{zone_of};
 ghost use Rattle.git_date.specs.Dates.{now_of};
 ghost use Rattle.git_date.specs.Outcome.{DateOutcome};
 ghost use Rattle.git_date.specs.Reading.{said_by};
-ghost use Rattle.git_date.specs.declared.date.ReadDate.{ReadDate as Read};
-ghost use Rattle.git_date.specs.declared.error.DateError.{DateError as Refusal};
 
 use git_date::{DateError, ReadDate, parse_date};
-use gix_date::{Time, Zoned};
+use gix_date::Zoned;
 
 /// A date as Git reads it, and the text from the first word on that Git ignores, so that a program can warn of it.
 pub fn date_and_ignored<'a>(
@@ -29,18 +27,4 @@ pub fn date_and_ignored<'a>(
         None => None,
     };
     Ok((date, ignored))
-}
-
-/// When a mail was sent, by its line `Date: Thu, 07 Apr 2005 22:13:13 +0200`.
-pub fn mail_time(line: &str, now: Zoned<'_>) -> Option<Time>
-    ensures some { IfSome result (λ t. (text : List ℕ) × (date : Read) × (line.now ≡ codes "Date: " ++ text) × (date.time ≡ t)
-        × DateOutcome (zone_of now.entry) (said_by (now_of now.entry) text) (Ok date)) }
-    ensures none { IfNone result ((text : List ℕ) → line.now ≡ codes "Date: " ++ text
-        → (e : Refusal) × DateOutcome (zone_of now.entry) (said_by (now_of now.entry) text) (Err e)) }
-{
-    let text = line.strip_prefix("Date: ")?;
-    match parse_date(text.as_bytes(), now) {
-        Ok(date) => Some(date.time),
-        Err(_) => None,
-    }
 }

@@ -1,7 +1,8 @@
 //! Dates as Git reads them: what the rows cannot say.
 use crate::approximate_caller::{human, reference_time, since};
-use crate::git_date_caller::{date_and_ignored, mail_time};
+use crate::git_date_caller::date_and_ignored;
 use crate::instant_caller::{committed, logged};
+use crate::mail_caller::mail_time;
 use git_date::{DateError, DateKind, DateMode, ReadDate, parse_date, zone_offset};
 use gix_date::Time;
 use jiff::Timestamp;
@@ -90,6 +91,18 @@ fn a_date_says_what_was_ignored(rt: HostRuntime) -> Result<(), Fail> {
         date_and_ignored("2008-02-14", now),
         Err(DateError::Unreadable)
     );
+    Ok(())
+}
+
+#[test]
+fn a_nul_ends_a_date_and_is_told(rt: HostRuntime) -> Result<(), Fail> {
+    let now = Time::new(1_251_660_000, 0).to_zoned()?;
+    let (date, ignored) = date_and_ignored("Thu, 14 Feb 2008 20:30:45 +0000\0 +0500", now)?;
+    assert_eq!(rt; date.time, Time::new(1_203_021_045, 0));
+    assert_eq!(rt; ignored, Some("\0 +0500"));
+    let (time, ignored) = since("yesterday\0 noon", now)?;
+    assert_eq!(rt; time, Time::new(1_251_573_600, 0));
+    assert_eq!(rt; ignored, Some("\0 noon"));
     Ok(())
 }
 

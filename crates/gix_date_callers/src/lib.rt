@@ -13,6 +13,7 @@ mod headers;
 pub mod instant_caller;
 #[cfg(test)]
 mod machine;
+pub mod mail_caller;
 pub mod more_callers;
 #[cfg(test)]
 mod names;

@@ -6,7 +6,8 @@
 - `show_date`: a date as `git log --date=MODE` shows it
 
 Each call has a moment, an aware datetime or a `Moment`, in whose zone a text without an offset is read. docs/GIT_DATES.md has the rules.
-All refuse the moment by `NaiveDatetime`, `InvalidInstant` and `InvalidZone`. A text may be any bytes, as in Git.
+All refuse the moment by `NaiveDatetime`, `InvalidInstant` and `InvalidZone`. A text may be any bytes, as in Git, and ends before its first
+NUL.
 """
 
 from __future__ import annotations
@@ -71,7 +72,7 @@ class ReadDate:
 
     - time: its offset has whole minutes
     - has_offset: whether the text names its offset, as `+0200`, `Z` or `EST`, so that each zone gives the same date
-    - ignored: the index into the text of the first word, number or sign of an offset that no rule used, or None
+    - ignored: the index into the text of the first word, number or sign of an offset that no rule used, or else of a NUL; or None
     """
 
     time: Time

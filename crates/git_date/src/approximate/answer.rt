@@ -2,7 +2,7 @@
 ghost use Rattle.std.specs.Prelude.{◌≡◌, ◌≤◌, length, IfOk, Err};
 ghost use Rattle.git_date.specs.Tokens.{tokens, token_of};
 ghost use Rattle.git_date.specs.Dates.{now_of};
-ghost use Rattle.git_date.specs.Approximate.{rule, draft_of, answer, answer_of, guess, is_unreadable, exact_or_guess};
+ghost use Rattle.git_date.specs.Approximate.{rule, draft_of, answer, answer_of, string_guess, answer_up_to, guess, is_unreadable, exact_or_guess};
 ghost use Rattle.gix_date.specs.Relative.Steps.{zone_of};
 ghost use Rattle.git_date.specs.ApproximateZones.{choices_of};
 ghost use Rattle.git_date.specs.Views.{step_view};
@@ -15,6 +15,7 @@ use crate::dates::Now;
 use crate::error::DateError;
 use crate::fault::Fault;
 use crate::reader::{error_of, place_in};
+use crate::strings::up_to_nul;
 use crate::tokens::{Token, next_token};
 use crate::words::without_ending;
 use gix_date::{Time, Zoned};
@@ -26,9 +27,10 @@ pub struct Approximate {
     pub time: Time,
     /// Whether anything was understood, by Git's own count. If not, the time is the moment, or near it.
     pub understood: bool,
-    /// The place, in bytes, of the first word or number that no rule used, so that a program can say so.
+    /// The place, in bytes, of the first word or number that no rule used, so that a program can say so; or else that of the first
+    /// NUL, which ends the text.
     ///
-    /// Not counted are marks, `ago`, `at`, `on`, `of`, `the`, `and`, the ending of a number as in `7th`, and one `T` between
+    /// Not counted are other marks, `ago`, `at`, `on`, `of`, `the`, `and`, the ending of a number as in `7th`, and one `T` between
     /// digits.
     pub ignored: Option<usize>,
 }
@@ -111,22 +113,51 @@ fn answer_of(moment: Zoned<'_>, today: Today, text: &[u8]) -> Result<Approximate
     match draft_of(moment, today, text) {
         Ok(draft) => {
             let last = draft.settle();
-            answer(text, last, filled_time(moment, today.shown, last.last.offset, last.fields))
+            answer(
+                text,
+                last,
+                filled_time(moment, today.shown, last.last.offset, last.fields),
+            )
         }
         Err(fault) => Err(error_of(text, fault)),
     }
 }
 
-/// What the approximate reader makes of a text.
-#[tactic(auto, unfolding(crate::specs::Approximate::guess))]
-fn guess(moment: Zoned<'_>, text: &[u8]) -> Result<Approximate, DateError>
-    ensures { result ≡ guess (choices_of (zone_of moment.entry)) (now_of moment.entry) text.now }
+/// What the approximate reader makes of a text without NUL.
+#[tactic(auto, unfolding(crate::specs::Approximate::string_guess))]
+fn string_guess(moment: Zoned<'_>, text: &[u8]) -> Result<Approximate, DateError>
+    ensures { result ≡ string_guess (choices_of (zone_of moment.entry)) (now_of moment.entry) text.now }
 {
     let now = Now::of(moment.timestamp());
     match shown_in(moment, now.seconds) {
         Some(shown) => answer_of(moment, Today { now, shown }, text),
         None => Err(DateError::Range),
     }
+}
+
+/// What is answered, where what begins at this place is ignored too, if there is one.
+fn answer_up_to(
+    place: Option<usize>,
+    found: Result<Approximate, DateError>,
+) -> Result<Approximate, DateError>
+    ensures { result ≡ answer_up_to place found }
+{
+    match found {
+        Ok(date) => Ok(Approximate {
+            ignored: date.ignored.or(place),
+            ..date
+        }),
+        Err(error) => Err(error),
+    }
+}
+
+/// What the approximate reader makes of a text, up to its first NUL.
+#[tactic(auto, unfolding(crate::specs::Approximate::guess))]
+fn guess(moment: Zoned<'_>, text: &[u8]) -> Result<Approximate, DateError>
+    ensures { result ≡ guess (choices_of (zone_of moment.entry)) (now_of moment.entry) text.now }
+{
+    let (string, nul) = up_to_nul(text);
+    answer_up_to(nul, string_guess(moment, string))
 }
 
 fn is_unreadable(error: DateError) -> bool

@@ -5,6 +5,7 @@ ghost use Rattle.git_date.specs.ApproximateExpiry.{fixed_expiry, expiry_of, Expi
 use crate::approximate::answer::Approximate;
 use crate::approximate::approxidate;
 use crate::error::DateError;
+use crate::strings::up_to_nul;
 use gix_date::Zoned;
 
 /// What expires by a text such as `gc.pruneExpire` has.
@@ -52,12 +53,13 @@ fn expiry_of(date: Result<Approximate, DateError>) -> Result<Expiry, DateError>
 ///
 /// `never` and `false` are [`Expiry::Never`], `all` and `now` are [`Expiry::All`]: these words alone, in small letters. Any other
 /// text is a date, read as by [`approxidate`](crate::approxidate), with its refusals; [`DateError::Unreadable`] if nothing of it
-/// was understood. A place that the answer has is one where a character of the text begins. Takes no memory.
+/// was understood. A NUL ends the text: `never\0x` is [`Expiry::Never`], which does not tell of it. A place that the answer has
+/// is one where a character of the text begins. Takes no memory.
 pub fn expiry_date(text: &[u8], now: Zoned<'_>) -> Result<Expiry, DateError>
     ensures answer { ExpiryOutcome now.entry text.now result }
     ensures places { HasExpiryPlacesIn text.now result }
 {
-    match fixed_expiry(text) {
+    match fixed_expiry(up_to_nul(text).0) {
         Some(expiry) => Ok(expiry),
         None => expiry_of(approxidate(text, now)),
     }

@@ -1,6 +1,6 @@
-use Rattle.std.proofs.Common.{rules, ◌≡◌, ◌∙◌, ◌-ℤ◌, ℤ, Bool, true, false, Option, Some, None, refl, sym, ap, subst, FitsSigned, w64, w32, arith}
+use Rattle.std.proofs.Common.{rules, ◌≡◌, ◌∙◌, Some, None, sym, subst, FitsSigned, w64, w32}
 use Rattle.std.proofs.lemmas.Int.{to_z-of_z}
-use Rattle.jiff.specs.Words.{plain_zone, IsOffsetSeconds}
+use Rattle.jiff.specs.Words.{plain_zone}
 use Rattle.git_date.specs.Zones.{offsets_of, shows, searched_offset}
 use Rattle.git_date.proofs.ZoneOffsets.{shown-near, searched-near, Near}
 use Rattle.git_date.proofs.zones.local_offset.Goals as goal

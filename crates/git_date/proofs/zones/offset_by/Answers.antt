@@ -3,7 +3,6 @@ use Rattle.std.proofs.lemmas.Int.{to_z-of_z}
 use Rattle.jiff.specs.Words.{plain_zone}
 use Rattle.jiff_core.proofs.SignedLemmas.{signed_arith}
 use Rattle.gix_date.proofs.Fields.Instants.{instant_holds}
-use Rattle.gix_date.specs.Fields.Zoned.{is_instant}
 use Rattle.git_date.specs.Zones.{offsets_of}
 use Rattle.git_date.proofs.zones.offset_by.Goals as goal
 

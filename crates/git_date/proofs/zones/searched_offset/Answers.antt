@@ -1,8 +1,7 @@
-use Rattle.std.proofs.Common.{rules, ◌≡◌, ◌∙◌, ◌-ℤ◌, ℤ, Bool, true, false, Option, Some, None, refl, sym, ap, subst, FitsSigned, w64, w32, arith}
+use Rattle.std.proofs.Common.{rules, ◌≡◌, ◌∙◌, ◌-ℤ◌, true, false, FitsSigned, w64, w32}
 use Rattle.std.proofs.lemmas.Int.{to_z-of_z}
 use Rattle.std.specs.Ordering.{int_eq}
 use Rattle.jiff.specs.Words.{plain_zone}
-use Rattle.gix_date.specs.Fields.Zoned.{is_instant}
 use Rattle.git_date.specs.Zones.{offsets_of, second_offset}
 use Rattle.git_date.proofs.ZoneOffsets.{Says, is-instant-there, same-bits, other-bits, second-leads}
 use Rattle.git_date.proofs.zones.searched_offset.Goals as goal

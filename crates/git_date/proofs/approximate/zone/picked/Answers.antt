@@ -1,4 +1,4 @@
-use Rattle.std.proofs.Common.{rules, ◌≡◌, ◌∙◌, ◌-ℤ◌, ℤ, Option, Some, sym, ap, subst, true, arith, FitsSigned, w64, w32}
+use Rattle.std.proofs.Common.{rules, ◌≡◌, ◌∙◌, ◌-ℤ◌, ℤ, Some, sym, ap, subst, true, arith, FitsSigned, w64, w32}
 use Rattle.std.proofs.lemmas.Int.{to_z-of_z}
 use Rattle.jiff.specs.Types.{TimeZone}
 use Rattle.jiff.specs.Words.{plain_zone}
@@ -7,7 +7,6 @@ use Rattle.gix_date.proofs.Fields.Instants.{instant_holds}
 use Rattle.gix_date.specs.Fields.Zoned.{is_instant}
 use Rattle.gix_date.specs.Relative.Steps.{zone_of}
 use Rattle.gix_date.specs.declared.time.Time.{Time}
-use Rattle.git_date.specs.ApproximateZones.{time_at}
 use Rattle.git_date.specs.Zones.{offsets_of, local_offset}
 use Rattle.git_date.proofs.ZoneChoices.{a-picked, small-at}
 use Rattle.git_date.proofs.approximate.zone.picked.Goals as goal

@@ -1,4 +1,4 @@
-use Rattle.std.proofs.Common.{rules, ◌≡◌, ◌∙◌, ◌+ℤ◌, ℤ, Option, Some, None, option_map, ap, subst, arith, FitsSigned, w64, w32}
+use Rattle.std.proofs.Common.{rules, ◌≡◌, ◌∙◌, ◌+ℤ◌, ℤ, Some, None, option_map, ap, subst, arith, FitsSigned, w64, w32}
 use Rattle.std.proofs.lemmas.Int.{to_z-of_z}
 use Rattle.jiff.specs.Types.{TimeZone}
 use Rattle.jiff.specs.Words.{plain_zone}
@@ -8,7 +8,6 @@ use Rattle.gix_date.specs.Relative.Steps.{zone_of}
 use Rattle.git_date.specs.ApproximateClocks.{shown_at}
 use Rattle.git_date.specs.ApproximateZones.{with_offset}
 use Rattle.git_date.specs.Zones.{offsets_of}
-use Rattle.git_date.specs.declared.clocks.ShownClock.{ShownClock}
 use Rattle.git_date.proofs.ZoneOffsets.{Says, is-instant-there}
 use Rattle.git_date.proofs.ZoneChoices.{none-shown-in, a-shown-in}
 use Rattle.git_date.proofs.approximate.zone.shown_in.Goals as goal
