@@ -2,8 +2,8 @@
  *
  * Each call is proved to do what docs/C.md says of it, for every input with valid pointers and
  * lengths. What Git reads, and each refusal, is in docs/GIT_DATES.md. In a zone of one offset each
- * answer is Git's, or a refusal. In zones that change two kinds of times are not: those that the
- * clock shows twice or never, and dates of people whose daylight flag is not the moment's. All that
+ * answer is Git's, or a refusal. In zones that change some dates of people are not: those of another
+ * daylight flag than the clock showed last, and those that it shows twice or never. All that
  * gix_date.h says of texts, buffers, threads and memory holds here too.
  *
  * A call has a moment: the instant now in a zone, which gix_date.h tells how to make. A text without

@@ -138,8 +138,8 @@ module _ (moment : Zoned) (shown : IsShownThere moment (now_of moment).seconds) 
   same : now -ℤ pos 0 ≡ now
   same = omega (arith, signed_arith)
 
-  reached : Reaches zone now 0 o then
-  reached =
+  pub now-reached : Reaches zone now 0 o then
+  now-reached =
       let since = shown.0 in
       reaches-in tz now 0 (moment-instant moment) shown.0 shown.1 (omega (arith, signed_arith, since))
       (subst (λ (n : ℤ). is_instant (n +ℤ offset_at tz (nanos_of_seconds n)) ≡ true) (sym same) shown.1)
@@ -158,22 +158,22 @@ module _ (moment : Zoned) (shown : IsShownThere moment (now_of moment).seconds) 
   unfolding string_guess
   now-guessed =
       let d = first_draft here.shown in
-      let moved = moves zone now 0 o then reached d 3 refl refl in
-      ap (λ (s : Option ShownClock). guess_by zone this (codes "now") s) reached.now_shown
+      let moved = moves zone now 0 o then now-reached d 3 refl refl in
+      ap (λ (s : Option ShownClock). guess_by zone this (codes "now") s) now-reached.now_shown
       ∙ ap (λ (d : Result Draft Fault). answer_of zone here (codes "now") d) (now-drafted zone here (with_shown d (clock_at then (now -ℤ pos 0 +ℤ then))) moved)
-      ∙ answered zone now 0 o then reached (codes "now") ∙ ap (λ (n : ℤ). itself n None) same
+      ∙ answered zone now 0 o then now-reached (codes "now") ∙ ap (λ (n : ℤ). itself n None) same
 
   zero-answered : answer_of zone here (codes "0 seconds ago") (draft_of zone here (codes "0 seconds ago")) ≡ Ok (moment_itself moment (Some 0))
   unfolding settle
   zero-answered =
       ap (λ (d : Result Draft Fault). answer_of zone here (codes "0 seconds ago") d) (no-count zone here)
       ∙ ap (λ (t : Option Time). answer (codes "0 seconds ago")
-      (record { fields = clock_fields here.shown; last = here.shown; waiting = None; understood = true; ignored = Some 13 }) t) reached.filled_now
+      (record { fields = clock_fields here.shown; last = here.shown; waiting = None; understood = true; ignored = Some 13 }) t) now-reached.filled_now
       ∙ ap (λ (b : Bool). cond b (itself now (Some 0)) (Err Range)) (z_holds (pos 0) now shown.0)
 
   zero-guessed : string_guess zone this (codes "0 seconds ago") ≡ Ok (moment_itself moment (Some 0))
   unfolding string_guess
-  zero-guessed = ap (λ (s : Option ShownClock). guess_by zone this (codes "0 seconds ago") s) reached.now_shown ∙ zero-answered
+  zero-guessed = ap (λ (s : Option ShownClock). guess_by zone this (codes "0 seconds ago") s) now-reached.now_shown ∙ zero-answered
 
   itself-answered : (text : List ℕ) (result : Result Approximate DateError) (ignored : Option ℕ) → string_len text ≡ length text
       → string_said this text ≡ Err Unreadable → string_guess zone this text ≡ Ok (moment_itself moment ignored) → ApproximateOutcome moment text result

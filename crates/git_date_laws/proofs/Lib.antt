@@ -40,3 +40,5 @@ mod RelativeTexts
 mod Spelling
 mod EveryZone
 pub mod ClockRead
+pub mod WholePromise
+mod Understood

@@ -91,11 +91,11 @@ pub no_single : (seconds : ℕ) → IsNoSingle (age_of seconds)
 no_single seconds = by-tests seconds _ _ _ refl refl refl
 
 -- printers
-when-shown : (b : Bool) (x : Option (List ℕ)) (text : List ℕ) → cond b None x ≡ Some text → x ≡ Some text
+pub when-shown : (b : Bool) (x : Option (List ℕ)) (text : List ℕ) → cond b None x ≡ Some text → x ≡ Some text
 when-shown true x text e = cc
 when-shown false x text e = e
 
-mapped : (show : LocalTime → List ℕ) (b : Bool) (clock : LocalTime) (text : List ℕ) → option_map show (cond b (Some clock) None) ≡ Some text
+pub mapped : (show : LocalTime → List ℕ) (b : Bool) (clock : LocalTime) (text : List ℕ) → option_map show (cond b (Some clock) None) ≡ Some text
     → (b ≡ true) × (show clock ≡ text)
 mapped show true clock text e = (refl, cc)
 mapped show false clock text e = (cc, cc)
@@ -144,7 +144,7 @@ known-default t other =
     let apart = false_from_ne_true (int_eq t.offset unknown_offset) (λ e. other ((Decides-int_eq t.offset unknown_offset).0 e)) in
     ap (λ (b : Bool). cond b (bare_default_text (clock_of t)) (default_text (clock_of t))) apart
 
-default-mapped : (t : Time) (text : List ℕ) → t.offset ≢ unknown_offset → option_map (git_default_text false) (own_clock t) ≡ Some text
+pub default-mapped : (t : Time) (text : List ℕ) → t.offset ≢ unknown_offset → option_map (git_default_text false) (own_clock t) ≡ Some text
     → option_map default_text (own_clock t) ≡ Some text
 unfolding own_clock
 default-mapped t text other e = with-clock (has_own_clock t) e

@@ -1,5 +1,5 @@
 -- Laws of dates as people write them.
-use Rattle.std.specs.Prelude.{◌≡◌, ◌≤◌, ℕ, ◌*◌, ℤ, ◌+ℤ◌, ◌-ℤ◌, true, List, [], ◌∷◌, ◌++◌, length, codes, pos, ◌≤ℤ◌, Option, Some, None, Result, Ok, Err}
+use Rattle.std.specs.Prelude.{◌≡◌, ◌≤◌, ℕ, ◌*◌, ℤ, ◌+ℤ◌, ◌-ℤ◌, true, false, List, [], ◌∷◌, ◌++◌, length, codes, pos, ◌≤ℤ◌, Option, Some, None, Result, Ok, Err}
 use Rattle.std.specs.Option.{option_or}
 use Rattle.jiff.specs.Types.{Offset}
 use Rattle.jiff.specs.Words.{fixed_zone, zoned_nanos, offset_at, nanos_of_seconds}
@@ -95,6 +95,12 @@ pub record IsNow (moment : Zoned) : Type 0 where
 -- where the zone's clock shows the moment
 abbrev pub IsNowIfShown : Zoned → Type 0
 IsNowIfShown moment = IsShownThere moment (now_of moment).seconds → IsNow moment
+
+-- where nothing is understood, the time is the moment's
+abbrev pub IsMomentUnlessUnderstood : Zoned → List ℕ → Type 0
+IsMomentUnlessUnderstood moment text =
+    (date : Approximate) → IsShownThere moment (now_of moment).seconds → ApproximateOutcome moment text (Ok date) → date.understood ≡ false
+    → date.time ≡ record { seconds = (now_of moment).seconds; offset = offset_then moment (now_of moment).seconds }
 
 -- texts that differ in letter case alone have the same answer
 abbrev pub HasAnswerInAnyCase : Zoned → List ℕ → Type 0

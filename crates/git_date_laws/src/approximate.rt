@@ -1,5 +1,5 @@
 //! Laws of dates as people write them.
-ghost use Rattle.git_date_laws.specs.ApproximateLaws.{HasExactAnswer, HasOneAnswer, IsExactlyBack, IsBackInEveryZone, IsNowIfShown, HasAnswerInAnyCase, AgreesWithCareful, AgreesOnMonths, IgnoresMarks, IgnoresNoWord, AnswersUpToNul, ExpiresUpToNul};
+ghost use Rattle.git_date_laws.specs.ApproximateLaws.{HasExactAnswer, HasOneAnswer, IsExactlyBack, IsBackInEveryZone, IsNowIfShown, IsMomentUnlessUnderstood, HasAnswerInAnyCase, AgreesWithCareful, AgreesOnMonths, IgnoresMarks, IgnoresNoWord, AnswersUpToNul, ExpiresUpToNul};
 ghost use Rattle.git_date_laws.specs.RelativeLaws.{IsReadNear, IsReadAsNow};
 
 use gix_date::{CarefulOptions, Time, Zoned};
@@ -23,14 +23,21 @@ pub fn exactly_back(text: &[u8], now: &Zoned<'_>)
 {}
 
 /// In every zone `n UNIT ago`, of seconds to weeks, is exactly that many seconds before now, at the zone's offset there: also over
-/// a change of the zone, and in a fold. Nothing is ignored but what begins at a NUL. The count is as for [`exactly_back`].
+/// a change of the zone, and in a fold. A NUL after it is all that is ignored. The count is as for [`exactly_back`]. The seconds fit
+/// 32 bits and lead to no time before 1970, and the zone's clock shows both instants, so that none is in the last days of 9999.
 pub fn back_in_every_zone(text: &[u8], now: &Zoned<'_>)
     ensures { IsBackInEveryZone now.now text.now }
 {}
 
-/// In every zone whose clock shows the moment `now` is now, and so is `0 seconds ago`, which ignores the 0.
+/// In every zone `now` is now, and so is `0 seconds ago`, which ignores the 0. The moment is not before 1970, and the zone's clock shows
+/// it, so it is not in the last days of 9999.
 pub fn now_in_every_zone(now: &Zoned<'_>)
     ensures { IsNowIfShown now.now }
+{}
+
+/// Where nothing of a text is understood, the time is the moment's, in whole seconds, in every zone whose clock shows it.
+pub fn not_understood_is_now(text: &[u8], now: &Zoned<'_>)
+    ensures { IsMomentUnlessUnderstood now.now text.now }
 {}
 
 /// Letter case changes no answer of [`git_date::approxidate`].

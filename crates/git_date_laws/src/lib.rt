@@ -7,15 +7,17 @@ ghost use Rattle.git_date.specs.Tokens.{tokens as tokens_of, texts};
 ghost use Rattle.git_date_laws.specs.Laws.{AreApart, IgnoresZone, IsOfEveryZone, IsClockRead, IgnoresCase, IgnoresLines, EndsAtNul, IgnoresInstant, IsWithoutDayMonth, ReadsBack, ReadsRawBack};
 
 mod approximate;
+mod promise;
 mod shown;
 
 pub use approximate::{
     approximate_letter_case, approximate_up_to_nul, back_in_every_zone, careful_agrees,
     exact_answer, exactly_back, expiry_up_to_nul, marks, months_agree, no_word_ignored,
-    now_in_every_zone, one_answer, relative_read_near,
+    not_understood_is_now, now_in_every_zone, one_answer, relative_read_near,
 };
 use gix_date::{Time, Zoned};
 use jiff::tz::TimeZone;
+pub use promise::headline;
 pub use shown::{ages_grow, human_by_distance, mode_named_back, no_single_unit, shown_as_printed};
 
 /// The texts of the tokens are the text, and no two neighbours are both letters or both digits.
