@@ -1,0 +1,268 @@
+/* Answers by the library for C what Git 2.39.5 asks of its dates. It is compiled in the unpacked source of
+ * Git, in the place of Git's own file: README.md says how.
+ *
+ * Git's functions cannot refuse as the library does. Where the library refuses to read approximately, the
+ * answer is now, and not understood. Where it refuses to show, the time 0 +0000 is shown. */
+#include "git_date.h"
+#include "machine_zone.h"
+
+/* Git's headers, last: they put macros in the place of functions of the C library. */
+#include "cache.h"
+#include "date.h"
+
+/* Git's number of each kind of date that is shown. */
+static const enum date_mode_type types[] = {
+    [GIT_DATE_RELATIVE] = DATE_RELATIVE,
+    [GIT_DATE_ISO8601_STRICT] = DATE_ISO8601_STRICT,
+    [GIT_DATE_ISO8601] = DATE_ISO8601,
+    [GIT_DATE_RFC2822] = DATE_RFC2822,
+    [GIT_DATE_SHORT] = DATE_SHORT,
+    [GIT_DATE_DEFAULT] = DATE_NORMAL,
+    [GIT_DATE_HUMAN] = DATE_HUMAN,
+    [GIT_DATE_RAW] = DATE_RAW,
+    [GIT_DATE_UNIX] = DATE_UNIX,
+};
+
+static uint32_t kind_of(enum date_mode_type type)
+{
+    uint32_t kind = 0;
+    while (kind < ARRAY_SIZE(types) && types[kind] != type)
+        kind++;
+    return kind;
+}
+
+/* The moment of the system's clock. */
+static gix_date_instant system_now(void)
+{
+    const gix_date_instant now = {time(NULL), 0};
+    return now;
+}
+
+/* The moment for ages and for dates of people. Git's tests set it. */
+static gix_date_instant present(void)
+{
+    const char *set = getenv("GIT_TEST_DATE_NOW");
+    const gix_date_instant now = {set ? strtoll(set, NULL, 10) : time(NULL), 0};
+    return now;
+}
+
+/* The zone of the process, which is read once. One that cannot be read is UTC, as in the C library. */
+static gix_date_zone *own_zone(void)
+{
+    static gix_date_zone zone;
+    static bool is_read;
+    if (!is_read)
+        read_machine_zone(&zone);
+    is_read = true;
+    return &zone;
+}
+
+/* Git writes an offset in decimal: -130 is 90 minutes west of UTC. One of 100 hours or more is not shown, and
+ * the bound keeps its seconds within their type. */
+static int32_t offset_of(int tz)
+{
+    const int bound = 99999;
+    tz = tz > bound ? bound : tz < -bound ? -bound : tz;
+    return (tz / 100 * 60 + tz % 100) * 60;
+}
+
+static int decimal_of(int32_t offset)
+{
+    return offset / 3600 * 100 + offset / 60 % 60;
+}
+
+static void add_time(struct strbuf *out, gix_date_time time)
+{
+    strbuf_addf(out, "%" PRId64 " %+05d", time.seconds, decimal_of(time.offset));
+}
+
+/* Reads a date exactly. No zone's file is read for a text that names its offset. */
+static bool read_exactly(const char *text, gix_date_time *time)
+{
+    const gix_date_instant now = system_now();
+    gix_date_zone utc = GIX_DATE_AT_OFFSET(0);
+    git_date_exact date;
+    size_t place;
+    uint32_t status = git_date_parse_at(text, strlen(text), &now, &utc, &date, &place);
+    if (status == GIX_DATE_OK && !date.has_offset)
+        status = git_date_parse_at(text, strlen(text), &now, own_zone(), &date, &place);
+    if (status != GIX_DATE_OK)
+        return false;
+    *time = date.time;
+    return true;
+}
+
+int parse_date_basic(const char *text, timestamp_t *seconds, int *minutes)
+{
+    gix_date_time time;
+    if (!read_exactly(text, &time))
+        return -1;
+    if (seconds)
+        *seconds = time.seconds;
+    if (minutes)
+        *minutes = time.offset / 60;
+    return 0;
+}
+
+int parse_date(const char *text, struct strbuf *out)
+{
+    gix_date_time time;
+    if (!read_exactly(text, &time))
+        return -1;
+    add_time(out, time);
+    return 0;
+}
+
+static git_date_approximate read_approximately(const char *text, gix_date_instant now)
+{
+    git_date_approximate date;
+    size_t place;
+    if (git_date_approxidate_at(text, strlen(text), &now, own_zone(), &date, &place) != GIX_DATE_OK) {
+        date.time.seconds = now.seconds;
+        date.time.offset = 0;
+        date.understood = false;
+    }
+    return date;
+}
+
+timestamp_t approxidate_careful(const char *text, int *error)
+{
+    const git_date_approximate date = read_approximately(text, present());
+    if (error)
+        *error = !date.understood;
+    return date.time.seconds;
+}
+
+/* Git does not try the exact reader here. The library has no call for that. */
+timestamp_t approxidate_relative(const char *text)
+{
+    return approxidate_careful(text, NULL);
+}
+
+int parse_expiry_date(const char *text, timestamp_t *seconds)
+{
+    const gix_date_instant now = present();
+    git_date_expiry expiry;
+    size_t place;
+    if (git_date_expiry_at(text, strlen(text), &now, own_zone(), &expiry, &place) != GIX_DATE_OK)
+        return 1;
+    if (expiry.kind == GIT_DATE_NEVER)
+        *seconds = 0;
+    else if (expiry.kind == GIT_DATE_ALL)
+        *seconds = TIME_MAX;
+    else
+        *seconds = expiry.before.time.seconds;
+    return 0;
+}
+
+/* The system's time now, with the offset of the zone. */
+void datestamp(struct strbuf *out)
+{
+    add_time(out, read_approximately("now", system_now()).time);
+}
+
+int date_overflows(timestamp_t seconds)
+{
+    return seconds > INT64_MAX;
+}
+
+/* The days of a month may go on into the next. */
+time_t tm_to_time_t(const struct tm *tm)
+{
+    struct tm clock = *tm;
+    if (tm->tm_year < 70 || tm->tm_year > 199 || tm->tm_mon < 0 || tm->tm_mon > 11 || tm->tm_hour < 0 ||
+        tm->tm_min < 0 || tm->tm_sec < 0)
+        return -1;
+    return timegm(&clock);
+}
+
+/* Shows a time as the library does. Most modes ask for no zone. */
+static void add_shown(struct strbuf *out, gix_date_time time, git_date_mode mode)
+{
+    static const gix_date_time epoch;
+    const gix_date_instant now = present();
+    gix_date_zone utc = GIX_DATE_AT_OFFSET(0);
+    gix_date_zone *zone = mode.local || mode.kind == GIT_DATE_HUMAN ? own_zone() : &utc;
+    char shown[GIT_DATE_MAX_SHOWN];
+    size_t len;
+    if (git_date_show_at(&time, &mode, &now, zone, shown, sizeof shown, &len) == GIX_DATE_OK ||
+        git_date_show_at(&epoch, &mode, &now, zone, shown, sizeof shown, &len) == GIX_DATE_OK)
+        strbuf_add(out, shown, len);
+}
+
+/* Shows a time by a pattern, which the library does not: the clock is that of the C library. Outside 1970 to
+ * 2099 Git takes the offset of a zone for 0. */
+static void add_by_pattern(struct strbuf *out, gix_date_time time, const struct date_mode *mode)
+{
+    time_t seconds = mode->local ? time.seconds : time.seconds + time.offset;
+    struct tm clock;
+    if (!(mode->local ? localtime_r(&seconds, &clock) : gmtime_r(&seconds, &clock))) {
+        seconds = time.offset = 0;
+        gmtime_r(&seconds, &clock);
+    } else if (mode->local) {
+        time.offset = tm_to_time_t(&clock) < 0 ? 0 : clock.tm_gmtoff;
+    }
+    strbuf_addftime(out, mode->strftime_fmt, &clock, decimal_of(time.offset), !mode->local);
+}
+
+/* The time of seconds and an offset of Git, or 0 +0000 where the seconds are too many. */
+static gix_date_time time_of(timestamp_t seconds, int tz)
+{
+    gix_date_time time = {0, 0};
+    if (!date_overflows(seconds)) {
+        time.seconds = seconds;
+        time.offset = offset_of(tz);
+    }
+    return time;
+}
+
+const char *show_date(timestamp_t seconds, int tz, const struct date_mode *mode)
+{
+    static struct strbuf shown = STRBUF_INIT;
+    const gix_date_time time = time_of(seconds, tz);
+    strbuf_reset(&shown);
+    if (mode->type == DATE_STRFTIME)
+        add_by_pattern(&shown, time, mode);
+    else
+        add_shown(&shown, time, (git_date_mode){kind_of(mode->type), mode->local});
+    return shown.buf;
+}
+
+void show_date_relative(timestamp_t seconds, struct strbuf *out)
+{
+    add_shown(out, time_of(seconds, 0), (git_date_mode){GIT_DATE_RELATIVE, false});
+}
+
+/* Patterns are not modes of the library, and neither is `auto:`, which depends on where the output goes. */
+void parse_date_format(const char *name, struct date_mode *mode)
+{
+    const char *pattern;
+    git_date_mode named;
+    if (skip_prefix(name, "auto:", &name) && !isatty(1) && !pager_in_use())
+        name = "default";
+    if (skip_prefix(name, "format:", &pattern) || skip_prefix(name, "format-local:", &pattern)) {
+        mode->type = DATE_STRFTIME;
+        mode->local = name[strlen("format")] == '-';
+        mode->strftime_fmt = xstrdup(pattern);
+    } else if (starts_with(name, "format")) {
+        die("date format missing colon separator: %s", name);
+    } else if (git_date_mode_named(name, strlen(name), &named) != GIX_DATE_OK) {
+        die("unknown date format %s", name);
+    } else {
+        mode->type = types[named.kind];
+        mode->local = named.local;
+    }
+}
+
+/* Of any type but that of patterns. */
+struct date_mode *date_mode_from_type(enum date_mode_type type)
+{
+    static struct date_mode mode;
+    mode.type = type;
+    return &mode;
+}
+
+void date_mode_release(struct date_mode *mode)
+{
+    free((char *)mode->strftime_fmt);
+}
