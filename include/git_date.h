@@ -41,8 +41,8 @@ enum git_date_status {
     /* The date at *place begins with a year that Git refuses. */
     GIT_DATE_YEAR_REFUSED = 21,
     /* The date is before 1970, or leads to an instant that cannot be computed with. When shown: Git
-     * cannot show it, as an age at a moment before 1970, or it is beyond what is shown here: an
-     * offset of 100 hours, or after 9999. */
+     * cannot show it, or it is beyond what is shown here: an age at a moment before 1970, an offset
+     * of 100 hours, or after 9999. */
     GIT_DATE_RANGE = 22
 };
 

@@ -1,5 +1,5 @@
 //! The approximate reader of dates.
-ghost use Rattle.git_date.specs.Approximate.{ApproximateOutcome, HasApproximatePlacesIn};
+ghost use Rattle.git_date.specs.Approximate.Reading.{ApproximateOutcome, HasApproximatePlacesIn};
 
 mod answer;
 mod drafts;

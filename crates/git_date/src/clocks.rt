@@ -3,8 +3,8 @@ ghost use Rattle.std.specs.Prelude.{◌≡◌};
 ghost use Rattle.jiff_core.specs.Calendar.{weekday_number};
 ghost use Rattle.gix_date.specs.Fields.Zoned.{is_instant};
 ghost use Rattle.gix_date.specs.Printing.LocalClocks.{clock_of, local_seconds};
-ghost use Rattle.git_date.specs.Clocks.{local_of, utc_clock, utc_year, HasFields, IsShowable};
-ghost use Rattle.git_date.specs.Dates.{IsSmall};
+ghost use Rattle.git_date.specs.Rules.Clocks.{local_of, utc_clock, utc_year, HasFields, IsShowable};
+ghost use Rattle.git_date.specs.Rules.Dates.{IsSmall};
 
 use gix_date::Time;
 use jiff_core::civil::Date;
@@ -91,7 +91,7 @@ pub(crate) fn utc_clock(seconds: u64) -> Option<ShownClock>
 }
 
 /// The year of some seconds by the clock of UTC, or 0 before 1970.
-#[tactic(auto, unfolding(crate::specs::Clocks::utc_year))]
+#[tactic(auto, unfolding(crate::specs::Rules::Clocks::utc_year))]
 pub(crate) fn utc_year(seconds: i64) -> u16
     ensures { result ≡ utc_year seconds }
 {

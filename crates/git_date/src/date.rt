@@ -1,11 +1,8 @@
 //! The public call.
 ghost use Rattle.std.specs.Prelude.{◌≡◌, None, IfOk};
-ghost use Rattle.gix_date.specs.Relative.Steps.{zone_of};
 ghost use Rattle.jiff.specs.Words.{plain_zone};
-ghost use Rattle.git_date.specs.Dates.{now_at, now_of};
-ghost use Rattle.git_date.specs.Outcome.{instant_seconds, date_at, date_in, date_of, DateOutcome, HasPlacesIn, SaidIsInstant, IsMinutes};
-ghost use Rattle.git_date.specs.Reading.{said_by};
-ghost use Rattle.git_date.specs.Zones.{offsets_of, local_offset};
+ghost use Rattle.git_date.specs.Exact.Outcome.{instant_seconds, date_at, date_in, date_of, DateOutcome, DateOutcomeAt, HasPlacesIn, SaidIsInstant, IsMinutes};
+ghost use Rattle.git_date.specs.Exact.Zones.{offsets_of, local_offset};
 
 use crate::error::DateError;
 use crate::reader::{Said, said_by};
@@ -26,7 +23,8 @@ pub struct ReadDate {
     /// else that of the first NUL, which ends the text.
     ///
     /// Not counted are other marks, the ending of a number as in `7th`, one `T` between digits, and, if no digit follows
-    /// directly, `ago`, `at`, `on`, `of`, `the`, `and`. A day of the week is used then, though it is not compared.
+    /// directly, `ago`, `at`, `on`, `of`, `the`, `and`. A day of the week is used then, though it is not compared. So is what
+    /// another word overrules: of `2009-01-01 10:00 11:00 +0000` nothing is ignored.
     pub ignored: Option<usize>,
 }
 
@@ -40,7 +38,7 @@ pub struct ReadDate {
 /// a NUL ends the text: [`ReadDate::ignored`] tells of it, also where nothing follows. [`DateError`] says when a text is
 /// refused. A place that the answer has is one where a character of the text begins. Takes no memory.
 pub fn parse_date(text: &[u8], now: Zoned<'_>) -> Result<ReadDate, DateError>
-    ensures date { DateOutcome (zone_of now.entry) (said_by (now_of now.entry) text.now) result }
+    ensures date { DateOutcome now.entry text.now result }
     ensures places { HasPlacesIn text.now result }
 {
     parse_date_at(text, now.timestamp(), now.time_zone())
@@ -48,7 +46,7 @@ pub fn parse_date(text: &[u8], now: Zoned<'_>) -> Result<ReadDate, DateError>
 
 /// [`parse_date`] at an instant in a zone. The zone is asked only for a text without an offset, so most texts cost less so.
 pub fn parse_date_at(text: &[u8], now: Timestamp, zone: TimeZone<'_>) -> Result<ReadDate, DateError>
-    ensures date { DateOutcome (plain_zone zone.entry) (said_by (now_at now.nanosecond) text.now) result }
+    ensures date { DateOutcomeAt now.nanosecond (plain_zone zone.entry) text.now result }
     ensures places { HasPlacesIn text.now result }
 {
     date_said(said_by(now, text), zone)
@@ -59,12 +57,10 @@ fn date_said(said: Result<Said, DateError>, zone: TimeZone<'_>) -> Result<ReadDa
     requires { IfOk said SaidIsInstant }
     ensures { result ≡ date_of (plain_zone zone.entry) said }
 {
-    match said {
-        Ok(said) => match said.offset {
-            Some(minutes) => date_at(said, i64::from(minutes)),
-            None => date_in_zone(said, zone),
-        },
-        Err(error) => Err(error),
+    let said = said?;
+    match said.offset {
+        Some(minutes) => date_at(said, i64::from(minutes)),
+        None => date_in_zone(said, zone),
     }
 }
 
@@ -82,7 +78,7 @@ fn instant_seconds(said: Said, minutes: i64) -> i64
 }
 
 /// The date at an offset in minutes, if that is not before 1970.
-#[tactic(auto, unfolding(crate::specs::Outcome::date_at))]
+#[tactic(auto, unfolding(crate::specs::Exact::Outcome::date_at))]
 fn date_at(said: Said, minutes: i64) -> Result<ReadDate, DateError>
     requires said { SaidIsInstant said }
     requires minutes { IsMinutes minutes }

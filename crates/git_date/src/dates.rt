@@ -1,8 +1,8 @@
 //! Dates: their years, the seconds that fields come to, and dates of three numbers or of two.
 ghost use Rattle.std.specs.Prelude.{◌≡◌, ◌<◌, ◌^◌, ◌*ℤ◌, pos, negsuc, neg_ℤ, IfSome};
 ghost use Rattle.jiff_core.specs.Calendar.{IsBetween};
-ghost use Rattle.git_date.specs.ApproximateClocks.{first_second, is_shown_month};
-ghost use Rattle.git_date.specs.Dates.{year_said, is_day_of_month, is_month, month_start, days_after_first, seconds_of_day, seconds_after, IsSmall, exact_seconds, now_at, is_ahead, recent_date, year_date};
+ghost use Rattle.git_date.specs.Approximate.Clocks.{first_second, is_shown_month};
+ghost use Rattle.git_date.specs.Rules.Dates.{year_said, is_day_of_month, is_month, month_start, days_after_first, seconds_of_day, seconds_after, IsSmall, exact_seconds, now_at, is_ahead, recent_date, year_date};
 
 use crate::clocks::{SECONDS_PER_DAY, utc_year};
 use crate::fields::Fields;
@@ -43,7 +43,7 @@ pub(crate) enum Dated {
 }
 
 /// The year that a number says in a date.
-#[tactic(auto, unfolding(crate::specs::Dates::year_said))]
+#[tactic(auto, unfolding(crate::specs::Rules::Dates::year_said))]
 fn year_said(n: u64) -> Option<u16>
     ensures { result ≡ year_said n }
 {
@@ -134,7 +134,7 @@ pub(crate) fn seconds_after(start: i64, day: Option<u8>, hour: u8, minute: u8, s
 }
 
 /// The seconds that a clock has counted when it shows these fields, where all but the day are known.
-#[tactic(auto, unfolding(crate::specs::Dates::exact_seconds))]
+#[tactic(auto, unfolding(crate::specs::Rules::Dates::exact_seconds))]
 pub(crate) fn exact_seconds(fields: Fields) -> Option<i64>
     ensures value { result ≡ exact_seconds fields }
     ensures small { IfSome result (λ s. IsBetween (neg_ℤ (pos (10 ^ 16))) (pos (10 ^ 16)) s) }
@@ -149,7 +149,7 @@ pub(crate) fn exact_seconds(fields: Fields) -> Option<i64>
 }
 
 /// Whether a date is more than ten days after now, with the clock that was read before it.
-#[tactic(auto, unfolding(crate::specs::Dates::is_ahead))]
+#[tactic(auto, unfolding(crate::specs::Rules::Dates::is_ahead))]
 fn is_ahead(now: Now, fields: Fields) -> bool
     ensures { result ≡ is_ahead now fields }
 {
@@ -160,7 +160,7 @@ fn is_ahead(now: Now, fields: Fields) -> bool
 }
 
 /// A month, a day and perhaps a year, if that is not ahead.
-#[tactic(auto, unfolding(crate::specs::Dates::recent_date))]
+#[tactic(auto, unfolding(crate::specs::Rules::Dates::recent_date))]
 pub(crate) fn recent_date(
     now: Now,
     fields: Fields,
@@ -196,7 +196,7 @@ pub(crate) fn recent_date(
 }
 
 /// A year, a month and a day, which may be ahead.
-#[tactic(auto, unfolding(crate::specs::Dates::year_date))]
+#[tactic(auto, unfolding(crate::specs::Rules::Dates::year_date))]
 pub(crate) fn year_date(fields: Fields, year: u64, month: u64, day: u64) -> Dated
     ensures { result ≡ year_date fields year month day }
 {

@@ -1,9 +1,9 @@
 //! What digits say.
 ghost use Rattle.std.specs.Prelude.{◌≡◌, ◌≤◌, ◌<◌, length, IfOk};
-ghost use Rattle.git_date.specs.Tokens.{tokens};
-ghost use Rattle.git_date.specs.Digits.{is_epoch, epoch_rule, eight_digits, six_digits, four_digits, two_digit_year, or_month, few_digits, bare_digits, number_rule, digits_rule};
-ghost use Rattle.git_date.specs.Numbers.{number};
-ghost use Rattle.git_date.specs.Views.{rest_view, step_view};
+ghost use Rattle.git_date.specs.Tokens.Tokens.{tokens};
+ghost use Rattle.git_date.specs.Rules.Digits.{is_epoch, epoch_rule, eight_digits, six_digits, four_digits, two_digit_year, or_month, few_digits, bare_digits, number_rule, digits_rule};
+ghost use Rattle.git_date.specs.Tokens.Numbers.{number};
+ghost use Rattle.git_date.specs.Rules.Views.{rest_view, step_view};
 
 use crate::clocks::utc_clock;
 use crate::dates::{Dated, Now, year_date};
@@ -27,7 +27,7 @@ fn is_epoch(fields: Fields, n: u64) -> bool
 }
 
 /// The fields of an epoch, by the clock of UTC.
-#[tactic(auto, unfolding(crate::specs::Digits::epoch_rule))]
+#[tactic(auto, unfolding(crate::specs::Rules::Digits::epoch_rule))]
 fn epoch_rule<'a>(fields: Fields, n: u64, text: &'a [u8]) -> Stepped<'a>
     ensures value { step_view result ≡ epoch_rule fields n (tokens text.now) }
     ensures shorter { IfOk result (λ found. length found.1.now ≤ length text.now) }
@@ -51,7 +51,7 @@ fn epoch_rule<'a>(fields: Fields, n: u64, text: &'a [u8]) -> Stepped<'a>
 }
 
 /// Eight digits are a date, which begins with its year.
-#[tactic(auto, unfolding(crate::specs::Digits::eight_digits))]
+#[tactic(auto, unfolding(crate::specs::Rules::Digits::eight_digits))]
 fn eight_digits<'a>(fields: Fields, n: u64, run: &[u8], text: &'a [u8]) -> Stepped<'a>
     requires { n ≡ number run.now }
     ensures value { step_view result ≡ eight_digits fields run.now (tokens text.now) }
@@ -65,7 +65,7 @@ fn eight_digits<'a>(fields: Fields, n: u64, run: &[u8], text: &'a [u8]) -> Stepp
 }
 
 /// Six digits are a clock, and a fraction after it is taken.
-#[tactic(auto, unfolding(crate::specs::Digits::six_digits))]
+#[tactic(auto, unfolding(crate::specs::Rules::Digits::six_digits))]
 fn six_digits<'a>(fields: Fields, n: u64, text: &'a [u8]) -> (Option<Fields>, &'a [u8])
     ensures value { rest_view result ≡ six_digits fields n (tokens text.now) }
     ensures shorter { length result.1.now ≤ length text.now }
@@ -78,7 +78,7 @@ fn six_digits<'a>(fields: Fields, n: u64, text: &'a [u8]) -> (Option<Fields>, &'
 
 impl Fields {
     /// With what four digits say.
-    #[tactic(auto, unfolding(crate::specs::Digits::four_digits))]
+    #[tactic(auto, unfolding(crate::specs::Rules::Digits::four_digits))]
     fn four_digits(self, n: u64) -> Option<Fields>
         ensures { result ≡ four_digits self n }
     {
@@ -98,7 +98,7 @@ impl Fields {
     }
 
     /// The year that two digits say.
-    #[tactic(auto, unfolding(crate::specs::Digits::two_digit_year))]
+    #[tactic(auto, unfolding(crate::specs::Rules::Digits::two_digit_year))]
     fn two_digit_year(self, n: u64) -> Option<u16>
         ensures { result ≡ two_digit_year self n }
     {
@@ -113,7 +113,7 @@ impl Fields {
         }
     }
 
-    #[tactic(auto, unfolding(crate::specs::Digits::or_month))]
+    #[tactic(auto, unfolding(crate::specs::Rules::Digits::or_month))]
     fn or_month(self, n: u64) -> Option<Fields>
         ensures { result ≡ or_month self n }
     {
@@ -128,7 +128,7 @@ impl Fields {
     }
 
     /// With what one digit or two say.
-    #[tactic(auto, unfolding(crate::specs::Digits::few_digits))]
+    #[tactic(auto, unfolding(crate::specs::Rules::Digits::few_digits))]
     fn few_digits(self, width: usize, n: u64) -> Option<Fields>
         ensures { result ≡ few_digits self width n }
     {
@@ -154,7 +154,7 @@ impl Fields {
 }
 
 /// What digits say that are no group, by their width.
-#[tactic(auto, unfolding(crate::specs::Digits::bare_digits))]
+#[tactic(auto, unfolding(crate::specs::Rules::Digits::bare_digits))]
 fn bare_digits<'a>(fields: Fields, n: u64, run: &[u8], text: &'a [u8]) -> Stepped<'a>
     requires { n ≡ number run.now }
     ensures value { step_view result ≡ bare_digits fields run.now (tokens text.now) }
@@ -170,7 +170,7 @@ fn bare_digits<'a>(fields: Fields, n: u64, run: &[u8], text: &'a [u8]) -> Steppe
 }
 
 /// What digits say that are no epoch: a group, or else what they say by their width.
-#[tactic(auto, unfolding(crate::specs::Digits::number_rule))]
+#[tactic(auto, unfolding(crate::specs::Rules::Digits::number_rule))]
 fn number_rule<'a>(now: Now, fields: Fields, n: u64, run: &[u8], text: &'a [u8]) -> Stepped<'a>
     requires { n ≡ number run.now }
     ensures value { step_view result ≡ number_rule now fields run.now (tokens text.now) }
@@ -193,7 +193,7 @@ fn number_rule<'a>(now: Now, fields: Fields, n: u64, run: &[u8], text: &'a [u8])
 }
 
 /// What digits say.
-#[tactic(auto, unfolding(crate::specs::Digits::digits_rule))]
+#[tactic(auto, unfolding(crate::specs::Rules::Digits::digits_rule))]
 pub(crate) fn digits_rule<'a>(now: Now, fields: Fields, run: &[u8], text: &'a [u8]) -> Stepped<'a>
     ensures value { step_view result ≡ digits_rule now fields run.now (tokens text.now) }
     ensures shorter { IfOk result (λ found. length found.1.now ≤ length text.now) }

@@ -2,8 +2,9 @@
 ghost use Rattle.std.specs.Prelude.{◌≡◌, ◌+◌, ◌*◌, ◌<◌, ◌∷◌, [], IfSome, pos, Some, None, true};
 ghost use Rattle.gix_date.specs.Fields.DateOffsets.{strict_offset_text};
 ghost use Rattle.gix_date.specs.Fields.Offsets.{compact_offset_text};
-ghost use Rattle.git_date.specs.Fast.{WritesTwo, WritesYear, WritesMonth, WritesWeekday, is_date_mark, WritesDate, WritesDay, WritesMonthYear, WritesMailDate, WritesMailDay, WritesNamedDay, WritesClock, WritesTime, WritesStrictTime, WritesYearOffset, WritesYearTime, WritesOffset, WritesSeconds, WritesRaw, fields_in, SaysFields, Says};
-ghost use Rattle.git_date.specs.Outcome.{SaidIsInstant};
+ghost use Rattle.git_date.specs.Rules.Dates.{first_of_year_2100};
+ghost use Rattle.git_date.specs.Exact.Fast.{WritesTwo, WritesYear, WritesMonth, WritesWeekday, is_date_mark, WritesDate, WritesDay, WritesMonthYear, WritesMailDate, WritesMailDay, WritesNamedDay, WritesClock, WritesTime, WritesStrictTime, WritesYearOffset, WritesYearTime, WritesOffset, WritesSeconds, WritesRaw, fields_in, SaysFields, Says};
+ghost use Rattle.git_date.specs.Exact.Outcome.{SaidIsInstant};
 
 use crate::fields::Fields;
 use crate::offsets::signed_minutes;
@@ -392,7 +393,7 @@ fn raw(text: &[u8]) -> Option<(u64, i16)>
 
 #[inline(always)]
 fn said_at(seconds: u64, minutes: i16) -> Said
-    requires { seconds < 4_100_000_000 }
+    requires { seconds < first_of_year_2100 }
     ensures { result ≡ record { seconds = pos seconds; offset = Some minutes; epoch = true; ignored = None } }
 {
     Said {

@@ -1,6 +1,6 @@
 //! What was read of a date so far.
 ghost use Rattle.std.specs.Prelude.{◌≡◌};
-ghost use Rattle.git_date.specs.Fields.{knows_nothing, knows_date, with_clock};
+ghost use Rattle.git_date.specs.Rules.Fields.{knows_nothing, knows_date, with_clock};
 
 /// The fields of a date, its clock and its offset in minutes, as far as they are known.
 #[derive(Clone, Copy)]
@@ -48,7 +48,7 @@ impl Fields {
     }
 
     /// With this clock, if it is one.
-    #[tactic(auto, unfolding(crate::specs::Fields::with_clock))]
+    #[tactic(auto, unfolding(crate::specs::Rules::Fields::with_clock))]
     pub(crate) fn with_clock(self, hour: u64, minute: u64, second: u64) -> Option<Fields>
         ensures { result ≡ with_clock self hour minute second }
     {

@@ -1,8 +1,8 @@
 //! Groups: two numbers or three, with the same mark between them.
 ghost use Rattle.std.specs.Prelude.{◌≡◌, ◌≤◌, ◌<◌, length, IfSome, option_map};
-ghost use Rattle.git_date.specs.Tokens.{tokens};
-ghost use Rattle.git_date.specs.Groups.{number_at, marked_number, group_of, second_of, third_of, clock_group, year_first_group, day_month_group, group_rule, large_number, large_in, without_fraction, after_group};
-ghost use Rattle.git_date.specs.Views.{read_view};
+ghost use Rattle.git_date.specs.Tokens.Tokens.{tokens};
+ghost use Rattle.git_date.specs.Rules.Groups.{number_at, marked_number, group_of, second_of, third_of, clock_group, year_first_group, day_month_group, group_rule, large_number, large_in, without_fraction, after_group};
+ghost use Rattle.git_date.specs.Rules.Views.{read_view};
 
 use crate::dates::{Dated, Now, recent_date, year_date};
 use crate::fields::Fields;
@@ -36,7 +36,7 @@ fn number_at(run: &[u8], text: &[u8]) -> Number
 }
 
 /// A mark and the number after it.
-#[tactic(auto, unfolding(crate::specs::Groups::marked_number))]
+#[tactic(auto, unfolding(crate::specs::Rules::Groups::marked_number))]
 fn marked_number(text: &[u8]) -> Option<((u8, Number), &[u8])>
     ensures value { read_view result ≡ marked_number (tokens text.now) }
     ensures shorter { IfSome result (λ found. length found.1.now < length text.now) }
@@ -51,7 +51,7 @@ fn marked_number(text: &[u8]) -> Option<((u8, Number), &[u8])>
 }
 
 /// The group that begins with a number, by the text after that.
-#[tactic(auto, unfolding(crate::specs::Groups::group_of))]
+#[tactic(auto, unfolding(crate::specs::Rules::Groups::group_of))]
 pub(crate) fn group_of(first: u64, text: &[u8]) -> Option<(Group, &[u8])>
     ensures value { read_view result ≡ group_of first (tokens text.now) }
     ensures shorter { IfSome result (λ found. length found.1.now < length text.now) }
@@ -100,27 +100,21 @@ impl Group {
     fn third_of(self) -> Option<u64>
         ensures { result ≡ third_of self }
     {
-        match self.third {
-            Some(third) => Some(narrow(third.value)),
-            None => None,
-        }
+        Some(narrow(self.third?.value))
     }
 
     /// How many bytes are left from the first number on that is too large.
-    #[tactic(auto, unfolding(crate::specs::Groups::large_in))]
+    #[tactic(auto, unfolding(crate::specs::Rules::Groups::large_in))]
     pub(crate) fn large_in(self) -> Option<usize>
         ensures { result ≡ large_in self }
     {
         if let Some(left) = large_number(self.second) {
             return Some(left);
         }
-        match self.third {
-            Some(third) => large_number(third),
-            None => None,
-        }
+        large_number(self.third?)
     }
 
-    #[tactic(auto, unfolding(crate::specs::Groups::clock_group))]
+    #[tactic(auto, unfolding(crate::specs::Rules::Groups::clock_group))]
     fn clock_group(self, fields: Fields) -> Dated
         ensures { result ≡ clock_group fields self }
     {
@@ -135,7 +129,7 @@ impl Group {
     }
 
     /// Year, month, day, or else year, day, month.
-    #[tactic(auto, unfolding(crate::specs::Groups::year_first_group))]
+    #[tactic(auto, unfolding(crate::specs::Rules::Groups::year_first_group))]
     fn year_first_group(self, fields: Fields) -> Dated
         ensures { result ≡ year_first_group fields self }
     {
@@ -151,7 +145,7 @@ impl Group {
     }
 
     /// Month, day and perhaps year, or day, month and perhaps year: the mark says which is tried first.
-    #[tactic(auto, unfolding(crate::specs::Groups::day_month_group))]
+    #[tactic(auto, unfolding(crate::specs::Rules::Groups::day_month_group))]
     fn day_month_group(self, now: Now, fields: Fields) -> Dated
         ensures { result ≡ day_month_group now fields self }
     {
@@ -169,7 +163,7 @@ impl Group {
     }
 
     /// What a group says.
-    #[tactic(auto, unfolding(crate::specs::Groups::group_rule))]
+    #[tactic(auto, unfolding(crate::specs::Rules::Groups::group_rule))]
     pub(crate) fn rule(self, now: Now, fields: Fields) -> Dated
         ensures { result ≡ group_rule now fields self }
     {
@@ -200,7 +194,7 @@ impl Group {
 }
 
 /// What stands after a dot and digits, or else all.
-#[tactic(auto, unfolding(crate::specs::Groups::without_fraction))]
+#[tactic(auto, unfolding(crate::specs::Rules::Groups::without_fraction))]
 pub(crate) fn without_fraction(text: &[u8]) -> &[u8]
     ensures value { tokens result.now ≡ without_fraction (tokens text.now) }
     ensures shorter { length result.now ≤ length text.now }

@@ -3,9 +3,11 @@
 //! [`parse_date`] reads what Git's own exact reader reads: the dates of `GIT_COMMITTER_DATE` and of mails, and nearly all
 //! that `git commit --date` is given. In a zone of one offset every answer is Git's, or a refusal by name ([`DateError`]).
 //!
-//! In zones that change two kinds of times, and what a text counts from them, are not Git's. One is local times that the clock
-//! shows twice or never. The other is dates of people whose daylight flag is not the moment's. Git asks with the moment's, and is
-//! often an hour off. Here each date has the offset of its own day.
+//! In zones that change exact dates are Git's too, as it reads the first of a process, unless three offsets lie near each
+//! other ([`DateError::Range`]). Two kinds of dates of people, and what a text counts from them, are not. One is dates
+//! whose daylight flag is not the one that the clock showed last, at the moment or at a step such as `yesterday`. Git asks
+//! with that flag, and is often an hour off. Here each date has the offset of its own day. The other is local times that
+//! the clock shows twice or never. Here the offset counts that the clock showed last.
 //!
 //! ```
 //! let now = Time::new(1251660000, 0).to_zoned()?;

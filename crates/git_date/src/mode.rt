@@ -2,7 +2,7 @@
 ghost use Rattle.std.specs.Prelude.{◌≡◌, map, option_map};
 ghost use Rattle.std.specs.List.{find};
 ghost use Rattle.std.specs.Str.{bytes_eq};
-ghost use Rattle.git_date.specs.Modes.{mode_named, mode_row, mode_rows, row_mode, kind_name};
+ghost use Rattle.git_date.specs.Show.Modes.{mode_named, mode_row, mode_rows, row_mode, kind_name};
 
 use std::fmt;
 use std::str::FromStr;
@@ -119,7 +119,7 @@ impl DateKind {
 }
 
 impl FromStr for DateMode {
-    ghost use Rattle.git_date.specs.Modes.{NamesMode};
+    ghost use Rattle.git_date.specs.Show.Modes.{NamesMode};
 
     type Err = UnknownMode;
 
@@ -133,7 +133,7 @@ impl FromStr for DateMode {
 
 impl fmt::Display for DateMode {
     ghost use Rattle.std.specs.Prelude.{Some};
-    ghost use Rattle.git_date.specs.Modes.{mode_name};
+    ghost use Rattle.git_date.specs.Show.Modes.{mode_name};
 
     ghost output = { λ mode. Some (mode_name mode) };
 

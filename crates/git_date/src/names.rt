@@ -2,7 +2,7 @@
 ghost use Rattle.std.specs.Prelude.{◌≡◌, ◌≤◌, true, option_map, map, length};
 ghost use Rattle.std.specs.List.{find};
 ghost use Rattle.gix_date.specs.Text.LongNames.{is_short};
-ghost use Rattle.git_date.specs.Names.{is_weekday, is_zone_name, stand_between, zone_rows, zone_named};
+ghost use Rattle.git_date.specs.Tokens.Names.{is_weekday, is_zone_name, stand_between, zone_rows, zone_named};
 
 use gix_date::names::{begins, is_name, weekday_told};
 
@@ -65,7 +65,7 @@ fn is_short(word: &[u8], name: &[u8]) -> bool
 }
 
 /// Whether a word names a day of the week.
-#[tactic(auto, unfolding(crate::specs::Names::is_weekday))]
+#[tactic(auto, unfolding(crate::specs::Tokens::Names::is_weekday))]
 pub(crate) fn is_weekday(word: &[u8]) -> bool
     ensures { result ≡ is_weekday word.now }
 {
@@ -120,7 +120,7 @@ fn places_of(letter: u8) -> (usize, usize)
 }
 
 /// The offset in minutes of the zone that a word tells.
-#[tactic(auto, unfolding(crate::specs::Names::zone_named))]
+#[tactic(auto, unfolding(crate::specs::Tokens::Names::zone_named))]
 pub(crate) fn zone_named(word: &[u8]) -> Option<i16>
     ensures { result ≡ zone_named word.now }
 {

@@ -1,7 +1,7 @@
 //! Numbers, as Git keeps them.
 ghost use Rattle.std.specs.Prelude.{◌≡◌, ◌<◌};
-ghost use Rattle.git_date.specs.Numbers.{number, is_too_large, narrow};
-ghost use Rattle.git_date.specs.Views.{saturated};
+ghost use Rattle.git_date.specs.Tokens.Numbers.{number, is_too_large, narrow};
+ghost use Rattle.git_date.specs.Rules.Views.{saturated};
 
 /// The greatest number that 32 bits hold with a sign.
 pub(crate) const MAX_SMALL: u64 = 2_147_483_647;
@@ -19,7 +19,7 @@ pub(crate) fn number(digits: &[u8]) -> u64
     saturated(digits)
 }
 
-#[tactic(auto, unfolding(crate::specs::Views::saturated))]
+#[tactic(auto, unfolding(crate::specs::Rules::Views::saturated))]
 fn saturated(digits: &[u8]) -> u64
     ensures { result ≡ saturated digits.now }
 {
@@ -38,7 +38,7 @@ pub(crate) fn is_too_large(n: u64) -> bool
 }
 
 /// What Git's 32 bits hold of a number.
-#[tactic(auto, unfolding(crate::specs::Numbers::narrow))]
+#[tactic(auto, unfolding(crate::specs::Tokens::Numbers::narrow))]
 pub(crate) fn narrow(n: u64) -> u64
     ensures { result ≡ narrow n }
 {

@@ -1,8 +1,8 @@
 //! Offsets after a sign, and `@` with its seconds and offset.
 ghost use Rattle.std.specs.Prelude.{◌≡◌, ◌≤◌, ◌<◌, length, IfSome, IfOk};
-ghost use Rattle.git_date.specs.Tokens.{tokens, token_of};
-ghost use Rattle.git_date.specs.Offsets.{is_white, white, without_white, padded_by, padded_after, padded_number, signed_minutes, offset_minutes, colon_minutes, two_digit_offset, offset_said, is_minus_one, known_minutes, with_offset, offset_rule, ends, wide_minutes, by_sign, at_text};
-ghost use Rattle.git_date.specs.Views.{rest_view, read_view, step_view, IsOffset};
+ghost use Rattle.git_date.specs.Tokens.Tokens.{tokens, token_of};
+ghost use Rattle.git_date.specs.Rules.Offsets.{is_white, white, without_white, padded_by, padded_after, padded_number, signed_minutes, offset_minutes, colon_minutes, two_digit_offset, offset_said, is_minus_one, known_minutes, with_offset, offset_rule, ends, wide_minutes, by_sign, at_text};
+ghost use Rattle.git_date.specs.Rules.Views.{rest_view, read_view, step_view, IsOffset};
 
 use crate::digits::Stepped;
 use crate::fault::Fault;
@@ -90,7 +90,7 @@ fn padded_after(before: usize, text: &[u8]) -> Option<(Padded, &[u8])>
 }
 
 /// A number after white space and perhaps a sign.
-#[tactic(auto, unfolding(crate::specs::Offsets::padded_number))]
+#[tactic(auto, unfolding(crate::specs::Rules::Offsets::padded_number))]
 fn padded_number(text: &[u8]) -> Option<(Padded, &[u8])>
     ensures value { read_view result ≡ padded_number (tokens text.now) }
     ensures shorter { IfSome result (λ found. length found.1.now ≤ length text.now) }
@@ -112,7 +112,7 @@ pub(crate) fn signed_minutes(negative: bool, minutes: u32) -> i16
 }
 
 /// The minutes of an offset: hours below 24, and minutes below 60.
-#[tactic(auto, unfolding(crate::specs::Offsets::offset_minutes))]
+#[tactic(auto, unfolding(crate::specs::Rules::Offsets::offset_minutes))]
 fn offset_minutes(hours: u64, negative: bool, minutes: u64) -> Option<i16>
     ensures value { result ≡ offset_minutes hours negative minutes }
     ensures small { IfSome result IsOffset }
@@ -125,7 +125,7 @@ fn offset_minutes(hours: u64, negative: bool, minutes: u64) -> Option<i16>
 }
 
 /// The minutes after the colon of an offset: two bytes, with white space and sign.
-#[tactic(auto, unfolding(crate::specs::Offsets::colon_minutes))]
+#[tactic(auto, unfolding(crate::specs::Rules::Offsets::colon_minutes))]
 fn colon_minutes<'a>(hours: u64, text: &'a [u8]) -> SaidOffset<'a>
     ensures value { step_view result ≡ colon_minutes hours (tokens text.now) }
     ensures shorter { IfOk result (λ found. length found.1.now ≤ length text.now) }
@@ -145,7 +145,7 @@ fn colon_minutes<'a>(hours: u64, text: &'a [u8]) -> SaidOffset<'a>
 }
 
 /// Two digits after a sign: hours, and minutes after a colon.
-#[tactic(auto, unfolding(crate::specs::Offsets::two_digit_offset))]
+#[tactic(auto, unfolding(crate::specs::Rules::Offsets::two_digit_offset))]
 fn two_digit_offset<'a>(hours: u64, text: &'a [u8]) -> SaidOffset<'a>
     ensures value { step_view result ≡ two_digit_offset hours (tokens text.now) }
     ensures shorter { IfOk result (λ found. length found.1.now ≤ length text.now) }
@@ -158,7 +158,7 @@ fn two_digit_offset<'a>(hours: u64, text: &'a [u8]) -> SaidOffset<'a>
 }
 
 /// The offset after a sign, by its first digits and the text after them.
-#[tactic(auto, unfolding(crate::specs::Offsets::offset_said))]
+#[tactic(auto, unfolding(crate::specs::Rules::Offsets::offset_said))]
 fn offset_said<'a>(run: &[u8], text: &'a [u8]) -> SaidOffset<'a>
     ensures value { step_view result ≡ offset_said run.now (tokens text.now) }
     ensures shorter { IfOk result (λ found. length found.1.now ≤ length text.now) }
@@ -188,7 +188,7 @@ fn known_minutes(minutes: i16) -> Option<i16>
 
 impl Fields {
     /// With an offset that is said by a sign.
-    #[tactic(auto, unfolding(crate::specs::Offsets::with_offset))]
+    #[tactic(auto, unfolding(crate::specs::Rules::Offsets::with_offset))]
     fn with_offset(self, behind: bool, minutes: i16) -> Fields
         requires { IsOffset minutes }
         ensures { result ≡ with_offset self behind minutes }
@@ -202,7 +202,7 @@ impl Fields {
 }
 
 /// What a sign directly before digits says.
-#[tactic(auto, unfolding(crate::specs::Offsets::offset_rule))]
+#[tactic(auto, unfolding(crate::specs::Rules::Offsets::offset_rule))]
 pub(crate) fn offset_rule<'a>(
     fields: Fields,
     behind: bool,
@@ -212,10 +212,9 @@ pub(crate) fn offset_rule<'a>(
     ensures value { step_view result ≡ offset_rule fields behind run.now (tokens text.now) }
     ensures shorter { IfOk result (λ found. length found.1.now ≤ length text.now) }
 {
-    match offset_said(run, text) {
-        Ok((Some(minutes), rest)) => Ok((Some(fields.with_offset(behind, minutes)), rest)),
-        Ok((None, rest)) => Ok((None, rest)),
-        Err(fault) => Err(fault),
+    match offset_said(run, text)? {
+        (Some(minutes), rest) => Ok((Some(fields.with_offset(behind, minutes)), rest)),
+        (None, rest) => Ok((None, rest)),
     }
 }
 
@@ -254,7 +253,7 @@ fn by_sign(mark: u8, text: &[u8]) -> Option<i16>
 }
 
 /// The seconds and the minutes of offset of a text of `@`, seconds, one space and an offset.
-#[tactic(auto, unfolding(crate::specs::Offsets::at_text))]
+#[tactic(auto, unfolding(crate::specs::Rules::Offsets::at_text))]
 pub(crate) fn at_text(text: &[u8]) -> Option<(u64, i16)>
     ensures { result ≡ at_text (tokens text.now) }
 {

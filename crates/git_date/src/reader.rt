@@ -1,11 +1,11 @@
 //! The reader: one token after the other, and what the whole text says.
 ghost use Rattle.std.specs.Prelude.{◌≡◌, ◌≤◌, length, IfOk, Option, List, ℕ};
-ghost use Rattle.git_date.specs.Tokens.{tokens, token_of};
-ghost use Rattle.git_date.specs.Dates.{now_at};
-ghost use Rattle.git_date.specs.Fast.{has_few_digits};
-ghost use Rattle.git_date.specs.Reading.{sign_rule, mark_rule, rule, reading_of, read_on, place_in, error_of, at_said, fields_said, string_said, said_up_to, said_by, ended};
-ghost use Rattle.git_date.specs.Outcome.{SaidIsInstant};
-ghost use Rattle.git_date.specs.Views.{step_view};
+ghost use Rattle.git_date.specs.Tokens.Tokens.{tokens, token_of};
+ghost use Rattle.git_date.specs.Rules.Dates.{now_at};
+ghost use Rattle.git_date.specs.Exact.Fast.{has_few_digits};
+ghost use Rattle.git_date.specs.Exact.Reading.{sign_rule, mark_rule, rule, reading_of, read_on, place_in, error_of, at_said, fields_said, string_said, said_up_to, said_by, ended};
+ghost use Rattle.git_date.specs.Exact.Outcome.{SaidIsInstant};
+ghost use Rattle.git_date.specs.Rules.Views.{step_view};
 
 use crate::clocks::is_instant;
 use crate::dates::{Now, exact_seconds};
@@ -66,14 +66,12 @@ fn ended<'a>(step: Stepped<'a>) -> Stepped<'a>
     ensures value { step_view result ≡ ended (step_view step.entry) }
     ensures shorter { (n : ℕ) → IfOk step.entry (λ found. length found.1.now ≤ n) → IfOk result (λ found. length found.1.now ≤ n) }
 {
-    match step {
-        Ok((fields, rest)) => Ok((fields, without_ending(rest))),
-        Err(fault) => Err(fault),
-    }
+    let (fields, rest) = step?;
+    Ok((fields, without_ending(rest)))
 }
 
 /// What a sign says, directly before digits or not.
-#[tactic(auto, unfolding(crate::specs::Reading::sign_rule))]
+#[tactic(auto, unfolding(crate::specs::Exact::Reading::sign_rule))]
 fn sign_rule<'a>(fields: Fields, behind: bool, text: &'a [u8]) -> Stepped<'a>
     ensures value { step_view result ≡ sign_rule fields behind (tokens text.now) }
     ensures shorter { IfOk result (λ found. length found.1.now ≤ length text.now) }
@@ -137,7 +135,7 @@ pub(crate) fn error_of(text: &[u8], fault: Fault) -> DateError
 }
 
 /// What `@` and its seconds say.
-#[tactic(auto, unfolding(crate::specs::Reading::at_said))]
+#[tactic(auto, unfolding(crate::specs::Exact::Reading::at_said))]
 fn at_said(seconds: u64, minutes: i16) -> Result<Said, DateError>
     ensures value { result ≡ at_said (seconds, minutes) }
     ensures instant { IfOk result SaidIsInstant }
@@ -157,7 +155,7 @@ fn at_said(seconds: u64, minutes: i16) -> Result<Said, DateError>
 }
 
 /// What the fields say that were read.
-#[tactic(auto, unfolding(crate::specs::Reading::fields_said))]
+#[tactic(auto, unfolding(crate::specs::Exact::Reading::fields_said))]
 fn fields_said(text: &[u8], read: Result<Reading, Fault>) -> Result<Said, DateError>
     ensures value { result ≡ fields_said text.now read }
     ensures instant { IfOk result SaidIsInstant }
@@ -208,7 +206,7 @@ fn tokens_said(now: Timestamp, text: &[u8]) -> Result<Said, DateError>
 }
 
 /// What a text without NUL says. The instant is asked only where its tokens are read.
-#[tactic(auto, unfolding(crate::specs::Reading::string_said))]
+#[tactic(auto, unfolding(crate::specs::Exact::Reading::string_said))]
 fn string_said(now: Timestamp, text: &[u8]) -> Result<Said, DateError>
     ensures value { result ≡ string_said (now_at now.nanosecond) text.now }
     ensures instant { IfOk result SaidIsInstant }
@@ -225,17 +223,15 @@ fn said_up_to(place: Option<usize>, said: Result<Said, DateError>) -> Result<Sai
     ensures value { result ≡ said_up_to place said }
     ensures instant { IfOk result SaidIsInstant }
 {
-    match said {
-        Ok(said) => Ok(Said {
-            ignored: said.ignored.or(place),
-            ..said
-        }),
-        Err(error) => Err(error),
-    }
+    let said = said?;
+    Ok(Said {
+        ignored: said.ignored.or(place),
+        ..said
+    })
 }
 
 /// What a text says, up to its first NUL. What is printed has none, so only other texts are searched for it.
-#[tactic(auto, unfolding(crate::specs::Reading::said_by))]
+#[tactic(auto, unfolding(crate::specs::Exact::Reading::said_by))]
 pub(crate) fn said_by(now: Timestamp, text: &[u8]) -> Result<Said, DateError>
     ensures value { result ≡ said_by (now_at now.nanosecond) text.now }
     ensures instant { IfOk result SaidIsInstant }

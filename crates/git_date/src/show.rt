@@ -2,9 +2,9 @@
 ghost use Rattle.std.specs.Prelude.{◌≡◌, ◌<◌, ◌≤ℤ◌, pos, MatchResult, IfSome, option_map, unsigned_abs, false};
 ghost use Rattle.std.specs.Int.Signed.{lt_z};
 ghost use Rattle.jiff.specs.Words.{plain_zone};
-ghost use Rattle.git_date.specs.Show.{is_stored, shown, shown_by, shown_clock, shown_offset, relative_shown, human_shown};
-ghost use Rattle.git_date.specs.ShowClocks.{moment_at, moment_of};
-ghost use Rattle.git_date.specs.Clocks.{local_of, HasFields};
+ghost use Rattle.git_date.specs.Show.Dates.{is_stored, shown, shown_by, shown_clock, shown_offset, relative_shown, human_shown};
+ghost use Rattle.git_date.specs.Show.Clocks.{moment_at, moment_of};
+ghost use Rattle.git_date.specs.Rules.Clocks.{local_of, HasFields};
 ghost use Rattle.git_date.specs.declared.error.DateError.TheVariants.{Range};
 
 mod ages;
@@ -74,7 +74,7 @@ pub fn show_date_at(
     }
 }
 
-#[tactic(auto, unfolding(crate::specs::Show::shown))]
+#[tactic(auto, unfolding(crate::specs::Show::Dates::shown))]
 fn shown(time: Time, mode: DateMode, now: Timestamp, zone: TimeZone<'_>) -> Option<DateText>
     ensures { option_map (λ text. text.bytes) result ≡ shown (moment_at now.nanosecond (plain_zone zone.entry)) mode time }
 {
@@ -97,7 +97,7 @@ fn shown_clock(time: Time, local: bool, now: Timestamp, zone: TimeZone<'_>) -> O
 }
 
 /// The offset that is shown without a clock.
-#[tactic(auto, unfolding(crate::specs::Show::shown_offset))]
+#[tactic(auto, unfolding(crate::specs::Show::Dates::shown_offset))]
 fn shown_offset(time: Time, local: bool, now: Timestamp, zone: TimeZone<'_>) -> Option<i32>
     ensures value { result ≡ shown_offset (moment_at now.nanosecond (plain_zone zone.entry)) local time }
     ensures short { IfSome result (λ offset. unsigned_abs offset < 360000) }
@@ -114,7 +114,7 @@ fn shown_offset(time: Time, local: bool, now: Timestamp, zone: TimeZone<'_>) -> 
 }
 
 /// How long ago a time was. `None` at a moment before 1970, where Git's ages wrap.
-#[tactic(auto, unfolding(crate::specs::Show::relative_shown))]
+#[tactic(auto, unfolding(crate::specs::Show::Dates::relative_shown))]
 fn relative_shown(now: i64, seconds: i64) -> Option<DateText>
     requires now { now ≤ℤ pos 253_402_207_200 }
     requires seconds { lt_z seconds (pos 0) ≡ false }

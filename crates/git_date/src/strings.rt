@@ -1,6 +1,6 @@
 //! Where a text ends: Git's dates are C strings, and each of these ends before its first NUL.
 ghost use Rattle.std.specs.Prelude.{◌≡◌, ◌≤◌, length};
-ghost use Rattle.git_date.specs.Strings.{string_len, before_nul, nul_place};
+ghost use Rattle.git_date.specs.Tokens.Strings.{string_len, before_nul, nul_place};
 
 /// How many bytes stand before the first NUL.
 fn string_len(text: &[u8]) -> usize
@@ -11,7 +11,7 @@ fn string_len(text: &[u8]) -> usize
 }
 
 /// The text before its first NUL, or all of it, and the place of that NUL.
-#[tactic(auto, unfolding(crate::specs::Strings::before_nul))]
+#[tactic(auto, unfolding(crate::specs::Tokens::Strings::before_nul))]
 pub(crate) fn up_to_nul(text: &[u8]) -> (&[u8], Option<usize>)
     ensures string { result.0.now ≡ before_nul text.now }
     ensures place { result.1 ≡ nul_place text.now }

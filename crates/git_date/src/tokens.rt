@@ -2,7 +2,7 @@
 ghost use Rattle.std.specs.Prelude.{◌≡◌, ◌∷◌, [], ◌<◌, length, IfSome, MatchOption};
 ghost use Rattle.std.specs.List.{prefix_len};
 ghost use Rattle.std.specs.Char.{is_ascii_alphabetic, is_ascii_digit};
-ghost use Rattle.git_date.specs.Tokens.{tokens, token_of, Digits, bytes_left, is_end};
+ghost use Rattle.git_date.specs.Tokens.Tokens.{tokens, token_of, Digits, bytes_left, is_end};
 
 /// A longest run of letters or of digits, or a single mark.
 #[derive(Clone, Copy)]

@@ -2,8 +2,8 @@
 ghost use Rattle.std.specs.Prelude.{◌≡◌, ◌≤◌, length};
 ghost use Rattle.std.specs.List.{list_any};
 ghost use Rattle.gix_date.specs.Text.Names.{is_name};
-ghost use Rattle.git_date.specs.Tokens.{tokens};
-ghost use Rattle.git_date.specs.Words.{afternoon, morning, with_zone, is_filler, half_or_filler, with_word, letters_rule, is_ending, without_ending};
+ghost use Rattle.git_date.specs.Tokens.Tokens.{tokens};
+ghost use Rattle.git_date.specs.Rules.Words.{afternoon, morning, with_zone, is_filler, half_or_filler, with_word, letters_rule, is_ending, without_ending};
 
 use crate::fields::Fields;
 use crate::names::{is_weekday, zone_named};
@@ -11,7 +11,7 @@ use crate::tokens::{Token, next_token};
 use gix_date::names::{is_name, month_told};
 
 impl Fields {
-    #[tactic(auto, unfolding(crate::specs::Words::afternoon))]
+    #[tactic(auto, unfolding(crate::specs::Rules::Words::afternoon))]
     fn afternoon(self) -> Fields
         ensures { result ≡ afternoon self }
     {
@@ -25,7 +25,7 @@ impl Fields {
         }
     }
 
-    #[tactic(auto, unfolding(crate::specs::Words::morning))]
+    #[tactic(auto, unfolding(crate::specs::Rules::Words::morning))]
     fn morning(self) -> Fields
         ensures { result ≡ morning self }
     {
@@ -38,7 +38,7 @@ impl Fields {
         }
     }
 
-    #[tactic(auto, unfolding(crate::specs::Words::with_zone))]
+    #[tactic(auto, unfolding(crate::specs::Rules::Words::with_zone))]
     fn with_zone(self, minutes: i16) -> Fields
         ensures { result ≡ with_zone self minutes }
     {
@@ -52,7 +52,7 @@ impl Fields {
     }
 
     /// With what a word says. `None` if it is unknown.
-    #[tactic(auto, unfolding(crate::specs::Words::with_word))]
+    #[tactic(auto, unfolding(crate::specs::Rules::Words::with_word))]
     fn with_word(self, word: &[u8]) -> Option<Fields>
         ensures { result ≡ with_word self word.now }
     {
@@ -98,7 +98,7 @@ const FILLERS: [&[u8]; 6] = [b"ago", b"at", b"on", b"of", b"the", b"and"];
 const ENDINGS: [&[u8]; 4] = [b"st", b"nd", b"rd", b"th"];
 
 /// Whether a word says nothing, and people write it.
-#[tactic(auto, unfolding(crate::specs::Words::is_filler))]
+#[tactic(auto, unfolding(crate::specs::Rules::Words::is_filler))]
 pub(crate) fn is_filler(word: &[u8]) -> bool
     ensures { result ≡ is_filler word.now }
 {
@@ -106,7 +106,7 @@ pub(crate) fn is_filler(word: &[u8]) -> bool
 }
 
 /// Whether a word is the ending of `1st`, `2nd`, `3rd` or `4th`.
-#[tactic(auto, unfolding(crate::specs::Words::is_ending))]
+#[tactic(auto, unfolding(crate::specs::Rules::Words::is_ending))]
 fn is_ending(word: &[u8]) -> bool
     ensures { result ≡ is_ending word.now }
 {
@@ -114,7 +114,7 @@ fn is_ending(word: &[u8]) -> bool
 }
 
 /// What letters say, by the text after them. No word that has a digit is known.
-#[tactic(auto, unfolding(crate::specs::Words::letters_rule))]
+#[tactic(auto, unfolding(crate::specs::Rules::Words::letters_rule))]
 pub(crate) fn letters_rule(fields: Fields, run: &[u8], text: &[u8]) -> Option<Fields>
     ensures { result ≡ letters_rule fields run.now (tokens text.now) }
 {
@@ -125,7 +125,7 @@ pub(crate) fn letters_rule(fields: Fields, run: &[u8], text: &[u8]) -> Option<Fi
 }
 
 /// What stands after a number, without its ending or a `T` before further digits.
-#[tactic(auto, unfolding(crate::specs::Words::without_ending))]
+#[tactic(auto, unfolding(crate::specs::Rules::Words::without_ending))]
 pub(crate) fn without_ending(text: &[u8]) -> &[u8]
     ensures value { tokens result.now ≡ without_ending (tokens text.now) }
     ensures shorter { length result.now ≤ length text.now }

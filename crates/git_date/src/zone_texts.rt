@@ -1,7 +1,7 @@
 //! The offset of a zone, as people write it.
 ghost use Rattle.std.specs.Prelude.{◌≡◌, ◌<◌, IfSome};
 ghost use Rattle.gix_date.specs.Text.Numbers.{two_digit_value};
-ghost use Rattle.git_date.specs.ZoneTexts.{IsNear, signed, signed_clock, signed_hours, zone_offset};
+ghost use Rattle.git_date.specs.Exact.ZoneTexts.{IsNear, signed, signed_clock, signed_hours, zone_offset};
 
 /// The most hours of an offset.
 const MAX_HOURS: u8 = 25;
@@ -11,7 +11,7 @@ const MAX_MINUTES: u8 = 59;
 
 /// The seconds east of UTC of an offset: a sign, two digits of hours to 25, and perhaps two of minutes, with a colon before
 /// them or without: `+0200`, `-03:30`, `+02`. `None` for any other text. Takes no memory.
-#[tactic(auto, unfolding(crate::specs::ZoneTexts::zone_offset))]
+#[tactic(auto, unfolding(crate::specs::Exact::ZoneTexts::zone_offset))]
 pub fn zone_offset(text: &[u8]) -> Option<i32>
     ensures value { result ≡ zone_offset text.now }
     ensures near { IfSome result IsNear }

@@ -2,7 +2,7 @@
 ghost use Rattle.std.specs.Prelude.{◌≡◌, ◌-ℤ◌, true, IfSome};
 ghost use Rattle.jiff.specs.Words.{plain_zone, IsOffsetSeconds};
 ghost use Rattle.gix_date.specs.Fields.Zoned.{is_instant};
-ghost use Rattle.git_date.specs.Zones.{offsets_of, is_same, shows, standard_offset, gap_offset, second_offset, searched_offset, local_offset};
+ghost use Rattle.git_date.specs.Exact.Zones.{offsets_of, is_same, shows, standard_offset, gap_offset, second_offset, searched_offset, local_offset};
 
 use crate::clocks::is_instant;
 use jiff::Timestamp;
@@ -119,7 +119,7 @@ fn second_offset(
 }
 
 /// Git's search.
-#[tactic(auto, unfolding(crate::specs::Zones::searched_offset))]
+#[tactic(auto, unfolding(crate::specs::Exact::Zones::searched_offset))]
 fn searched_offset(zone: TimeZone<'_>, preferred: Option<i32>, local: i64) -> Option<i32>
     requires { is_instant local ≡ true }
     ensures { result ≡ searched_offset (offsets_of (plain_zone zone.entry)) preferred local }
@@ -133,7 +133,7 @@ fn searched_offset(zone: TimeZone<'_>, preferred: Option<i32>, local: i64) -> Op
 }
 
 /// The offset of the zone where its clock shows these seconds: the preferred one, if it shows them so.
-#[tactic(auto, unfolding(crate::specs::Zones::local_offset))]
+#[tactic(auto, unfolding(crate::specs::Exact::Zones::local_offset))]
 pub(crate) fn local_offset(zone: TimeZone<'_>, preferred: Option<i32>, local: i64) -> Option<i32>
     requires { is_instant local ≡ true }
     ensures value { result ≡ local_offset (offsets_of (plain_zone zone.entry)) preferred local }

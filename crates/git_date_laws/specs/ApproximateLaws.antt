@@ -13,16 +13,15 @@ use Rattle.gix_date.specs.Text.Names.{is_name}
 use Rattle.gix_date.specs.declared.error.CarefulError.{CarefulError}
 use Rattle.gix_date.specs.declared.parsing.careful.CarefulOptions.{CarefulOptions}
 use Rattle.gix_date.specs.declared.time.Time.{Time}
-use Rattle.git_date.specs.Approximate.{ApproximateOutcome, answer_up_to, exact_or_guess, guess}
-use Rattle.git_date.specs.ApproximateBack.{CountsBack, CountsMonths, IsReached, exactly_back}
-use Rattle.git_date.specs.ApproximateExpiry.{ExpiryOutcome}
-use Rattle.git_date.specs.ApproximateZones.{one_offset}
-use Rattle.git_date.specs.Dates.{now_of}
-use Rattle.git_date.specs.Heard.{heard, told, are_usual}
-use Rattle.git_date.specs.Numbers.{max_small}
-use Rattle.git_date.specs.Outcome.{DateOutcome}
-use Rattle.git_date.specs.Reading.{said_by}
-use Rattle.git_date.specs.Strings.{nul, nul_place}
+use Rattle.git_date.specs.Approximate.Reading.{ApproximateOutcome, answer_up_to, exact_or_guess, guess}
+use Rattle.git_date.specs.Laws.Back.{CountsBack, CountsMonths, IsReached, exactly_back}
+use Rattle.git_date.specs.Approximate.Expiry.{ExpiryOutcome}
+use Rattle.git_date.specs.Approximate.Zones.{one_offset}
+use Rattle.git_date.specs.Rules.Dates.{now_of}
+use Rattle.git_date.specs.Laws.Heard.{heard, told, are_usual}
+use Rattle.git_date.specs.Tokens.Numbers.{max_small}
+use Rattle.git_date.specs.Exact.Outcome.{DateOutcome}
+use Rattle.git_date.specs.Tokens.Strings.{nul, nul_place}
 use Rattle.git_date.specs.declared.approximate.answer.Approximate.{Approximate}
 use Rattle.git_date.specs.declared.approximate.expiry.Expiry.{Expiry}
 use Rattle.git_date.specs.declared.approximate.expiry.Expiry.TheVariants.{Before}
@@ -30,21 +29,17 @@ use Rattle.git_date.specs.declared.date.ReadDate.{ReadDate}
 use Rattle.git_date.specs.declared.error.DateError.{DateError}
 use Rattle.git_date.specs.declared.error.DateError.TheVariants.{Unreadable}
 
--- this is a result of `parse_date`, of `approxidate`
-abbrev pub Reads : Zoned → List ℕ → Result ReadDate DateError → Type 0
-Reads moment text exact = DateOutcome (zone_of moment) (said_by (now_of moment) text) exact
-
 -- where the exact reader reads a text, the approximate one has its answer
 abbrev pub HasExactAnswer : Zoned → List ℕ → Type 0
 HasExactAnswer moment text =
-    (date : ReadDate) (result : Result Approximate DateError) → Reads moment text (Ok date) → ApproximateOutcome moment text result
+    (date : ReadDate) (result : Result Approximate DateError) → DateOutcome moment text (Ok date) → ApproximateOutcome moment text result
     → result ≡ Ok (record { time = date.time; understood = true; ignored = date.ignored })
 
 -- in a zone of one offset the answer is one, by a definition that asks no zone
 abbrev pub HasOneAnswer : Zoned → List ℕ → Type 0
 HasOneAnswer moment text =
     (o : Offset) (exact : Result ReadDate DateError) (result : Result Approximate DateError) → zone_of moment ≡ fixed_zone o
-    → Reads moment text exact → ApproximateOutcome moment text result
+    → DateOutcome moment text exact → ApproximateOutcome moment text result
     → result ≡ exact_or_guess exact (guess (one_offset o.seconds) (now_of moment) text)
 
 -- in a zone of one offset `n UNIT ago` is exactly that many seconds before now, and nothing is ignored but what begins at a NUL
@@ -111,14 +106,14 @@ HasAnswerInAnyCase moment text =
 -- texts that `parse_date` does not read, and of which the same is heard, have the same result, but for places
 abbrev pub IgnoresMarks : Zoned → List ℕ → Type 0
 IgnoresMarks moment text =
-    (other : List ℕ) (result again : Result Approximate DateError) → heard text ≡ heard other → Reads moment text (Err Unreadable)
-    → Reads moment other (Err Unreadable) → ApproximateOutcome moment text result → ApproximateOutcome moment other again
+    (other : List ℕ) (result again : Result Approximate DateError) → heard text ≡ heard other → DateOutcome moment text (Err Unreadable)
+    → DateOutcome moment other (Err Unreadable) → ApproximateOutcome moment text result → ApproximateOutcome moment other again
     → told result ≡ told again
 
 -- where nothing is ignored of a text that `parse_date` does not read, all its letters are usual
 abbrev pub IgnoresNoWord : Zoned → List ℕ → Type 0
 IgnoresNoWord moment text =
-    (date : Approximate) → Reads moment text (Err Unreadable) → ApproximateOutcome moment text (Ok date) → date.ignored ≡ None
+    (date : Approximate) → DateOutcome moment text (Err Unreadable) → ApproximateOutcome moment text (Ok date) → date.ignored ≡ None
     → are_usual text ≡ true
 
 -- In a zone of one offset `parse_carefully` and `approxidate` answer the same time to `n UNIT ago`, where both take the word

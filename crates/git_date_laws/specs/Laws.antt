@@ -1,25 +1,30 @@
 -- Laws of dates as Git reads them.
-use Rattle.std.specs.Prelude.{◌≡◌, ◌↔◌, ◌⊎◌, ℕ, ℤ, true, false, List, length, [], ◌∷◌, ◌++◌, Option, Some, None, IfSome, Result, Ok}
+use Rattle.std.specs.Prelude.{◌≡◌, ◌≤◌, ◌↔◌, ◌⊎◌, ℕ, ℤ, true, false, List, length, [], ◌∷◌, ◌++◌, Option, Some, None, IfSome, Result, Ok}
 use Rattle.jiff.specs.Types.{TimeZone, Posix}
+use Rattle.jiff.specs.Words.{zoned_nanos}
 use Rattle.jiff.specs.declared.zoned.Zoned.{Zoned}
 use Rattle.jiff_tz.specs.declared.posix.TimeZone.{TimeZone as Rule}
 use Rattle.gix_date.specs.Fields.Zoned.{is_instant}
 use Rattle.gix_date.specs.Text.Characters.{newline, at_sign}
 use Rattle.gix_date.specs.Text.Names.{is_name}
-use Rattle.gix_date.specs.Relative.Steps.{zone_of}
 use Rattle.gix_date.specs.declared.time.Time.{Time}
-use Rattle.git_date.specs.Dates.{now_of}
-use Rattle.git_date.specs.Lines.{AreComplete}
-use Rattle.git_date.specs.Modes.{own}
-use Rattle.git_date.specs.Moments.{has_day_month, HasNoDayMonth}
-use Rattle.git_date.specs.Printed.{IsGitTime, AreReadBack}
-use Rattle.git_date.specs.Show.{shown}
-use Rattle.git_date.specs.ShowClocks.{Moment}
-use Rattle.git_date.specs.Strings.{nul, before_nul, nul_place}
-use Rattle.git_date.specs.Tokens.{Token, Letters, Digits, tokens}
-use Rattle.git_date.specs.Reading.{said_up_to, said_by}
-use Rattle.git_date.specs.Outcome.{DateOutcome, said_offset}
-use Rattle.git_date.specs.Zones.{ZoneOffsets, offsets_of, shows, local_offset}
+use Rattle.git_date.specs.Approximate.Reading.{draft_of}
+use Rattle.git_date.specs.Approximate.Reading as approximate
+use Rattle.git_date.specs.Approximate.Drafts.{first_draft}
+use Rattle.git_date.specs.Approximate.Zones.{Choices}
+use Rattle.git_date.specs.Rules.Dates.{now_of}
+use Rattle.git_date.specs.Laws.Lines.{AreComplete}
+use Rattle.git_date.specs.Show.Modes.{own}
+use Rattle.git_date.specs.Laws.Moments.{has_day_month, HasNoDayMonth}
+use Rattle.git_date.specs.Laws.Printed.{IsGitTime, AreReadBack}
+use Rattle.git_date.specs.Show.Dates.{shown}
+use Rattle.git_date.specs.Show.Clocks.{Moment}
+use Rattle.git_date.specs.Tokens.Strings.{nul, before_nul, nul_place}
+use Rattle.git_date.specs.Tokens.Tokens.{Token, Letters, Digits, tokens}
+use Rattle.git_date.specs.Exact.Reading.{nothing_read, steps, reading_of, said_up_to, said_by}
+use Rattle.git_date.specs.Exact.Outcome.{DateOutcome, DateOutcomeAt, said_offset}
+use Rattle.git_date.specs.Exact.Zones.{ZoneOffsets, offsets_of, shows, local_offset}
+use Rattle.git_date.specs.Types.Names.{Today}
 use Rattle.git_date.specs.declared.date.ReadDate.{ReadDate}
 use Rattle.git_date.specs.declared.error.DateError.{DateError}
 use Rattle.git_date.specs.declared.mode.DateKind.TheVariants.{Raw}
@@ -40,13 +45,13 @@ abbrev pub IgnoresZone : Zoned → List ℕ → Type 0
 IgnoresZone moment text =
     (tz other : TimeZone) (minutes : ℤ) (result : Result ReadDate DateError)
     → said_offset (said_by (now_of moment) text) ≡ Some minutes
-    → DateOutcome tz (said_by (now_of moment) text) result ↔ DateOutcome other (said_by (now_of moment) text) result
+    → DateOutcomeAt (zoned_nanos moment) tz text result ↔ DateOutcomeAt (zoned_nanos moment) other text result
 
 -- a date that has its own offset is read so in every zone
 abbrev pub IsOfEveryZone : Zoned → List ℕ → Type 0
 IsOfEveryZone moment text =
     (tz other : TimeZone) (date : ReadDate) → date.has_offset ≡ true
-    → DateOutcome tz (said_by (now_of moment) text) (Ok date) → DateOutcome other (said_by (now_of moment) text) (Ok date)
+    → DateOutcomeAt (zoned_nanos moment) tz text (Ok date) → DateOutcomeAt (zoned_nanos moment) other text (Ok date)
 
 -- a text says the same in any letter case
 abbrev pub IgnoresCase : Zoned → List ℕ → Type 0
@@ -74,6 +79,12 @@ IgnoresInstant moment text =
 abbrev pub IsWithoutDayMonth : Zoned → List ℕ → Type 0
 IsWithoutDayMonth moment text = has_day_month (tokens (before_nul text)) ≡ false → HasNoDayMonth (now_of moment) text
 
+-- steps as many as bytes are enough for both readers: more of them read the same
+pub record AreStepsEnough (moment : Zoned) (text : List ℕ) : Type 0 where
+  pub exact : (n : ℕ) → length text ≤ n → steps (now_of moment) n nothing_read (tokens text) ≡ reading_of (now_of moment) text
+  pub approximate : (zone : Choices) (today : Today) (n : ℕ) → length text ≤ n
+      → approximate.steps zone today n (first_draft today.shown) (tokens text) ≡ draft_of zone today text
+
 -- what the six named formats that have a clock print of such a time is read back
 abbrev pub ReadsBack : Zoned → Time → Type 0
 ReadsBack moment t = IsGitTime t → AreReadBack (now_of moment) t
@@ -82,7 +93,7 @@ ReadsBack moment t = IsGitTime t → AreReadBack (now_of moment) t
 abbrev pub ReadsRawBack : Zoned → Time → Type 0
 ReadsRawBack moment t =
     (now : Moment) (text : List ℕ) (result : Result ReadDate DateError) → is_instant t.seconds ≡ true → shown now (own Raw) t ≡ Some text
-    → DateOutcome (zone_of moment) (said_by (now_of moment) (at_sign ∷ text)) result → result ≡ Ok (record { time = t; has_offset = true; ignored = None })
+    → DateOutcome moment (at_sign ∷ text) result → result ≡ Ok (record { time = t; has_offset = true; ignored = None })
 
 -- the zone has one of two offsets at each instant
 abbrev pub HasTwoOffsets : ZoneOffsets → ℤ → ℤ → Type 0

@@ -1,5 +1,6 @@
 pub mod Laws
 pub mod Shown
 pub mod ApproximateLaws
-pub mod RelativeLaws
 pub mod Headline
+pub mod Ignored
+pub mod ApproximateIgnored

@@ -1,8 +1,8 @@
 //! Laws of dates as people write them.
+ghost use Rattle.git_date_laws.specs.ApproximateIgnored.{IgnoresEarliest};
 ghost use Rattle.git_date_laws.specs.ApproximateLaws.{HasExactAnswer, HasOneAnswer, IsExactlyBack, IsBackInEveryZone, IsNowIfShown, IsMomentUnlessUnderstood, HasAnswerInAnyCase, AgreesWithCareful, AgreesOnMonths, IgnoresMarks, IgnoresNoWord, AnswersUpToNul, ExpiresUpToNul};
-ghost use Rattle.git_date_laws.specs.RelativeLaws.{IsReadNear, IsReadAsNow};
 
-use gix_date::{CarefulOptions, Time, Zoned};
+use gix_date::{CarefulOptions, Zoned};
 
 /// Where [`git_date::parse_date`] reads a text, [`git_date::approxidate`] has its answer, and understands.
 pub fn exact_answer(text: &[u8], now: &Zoned<'_>)
@@ -45,15 +45,6 @@ pub fn approximate_letter_case(text: &[u8], now: &Zoned<'_>)
     ensures { HasAnswerInAnyCase now.now text.now }
 {}
 
-/// What `relative` shows of a time is read near it, at the same moment in a zone of one offset. Seconds are exact. Minutes are
-/// within 30 s, hours within 30:30 minutes, days within 12:30:30 hours. Weeks are within 3 days more, months within 22, years
-/// below five within 18, with months or without, and n more years within 183 + (n + 3) / 4. The time has to be so far from
-/// 1970. What is ahead, `in the future`, is read as now, and not understood.
-pub fn relative_read_near(time: Time, now: &Zoned<'_>)
-    ensures near { IsReadNear now.now time }
-    ensures ahead { IsReadAsNow now.now time }
-{}
-
 /// What follows a NUL changes no answer of [`git_date::approxidate`], but that what begins at the NUL is ignored, unless
 /// something before it is.
 pub fn approximate_up_to_nul(text: &[u8], now: &Zoned<'_>)
@@ -71,6 +62,14 @@ pub fn expiry_up_to_nul(text: &[u8], now: &Zoned<'_>)
 /// `7th` does not.)
 pub fn marks(text: &[u8], now: &Zoned<'_>)
     ensures { IgnoresMarks now.now text.now }
+{}
+
+/// What is ignored of a text that [`git_date::parse_date`] does not read is the earliest that is not used, or else a NUL. Not used are
+/// letters directly before digits; unknown words but `ago`, `at`, `on`, `of`, `the` and `and`; a unit without a number, and a count
+/// beside a number that waits; the number 0, and one of three digits or more that begins with 0; and a number that fits no unknown
+/// field, or that `now`, `yesterday` or `never` drops.
+pub fn approximate_ignored_is_unused(text: &[u8], now: &Zoned<'_>)
+    ensures { IgnoresEarliest now.now text.now }
 {}
 
 /// Where nothing is ignored of a text that [`git_date::parse_date`] does not read, each word is one that

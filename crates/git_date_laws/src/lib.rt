@@ -3,32 +3,40 @@
 
 ghost use Rattle.std.specs.Prelude.{◌≡◌};
 ghost use Rattle.jiff.specs.Words.{plain_zone};
-ghost use Rattle.git_date.specs.Tokens.{tokens as tokens_of, texts};
-ghost use Rattle.git_date_laws.specs.Laws.{AreApart, IgnoresZone, IsOfEveryZone, IsClockRead, IgnoresCase, IgnoresLines, EndsAtNul, IgnoresInstant, IsWithoutDayMonth, ReadsBack, ReadsRawBack};
+ghost use Rattle.git_date.specs.Tokens.Tokens.{tokens as tokens_of, texts};
+ghost use Rattle.git_date_laws.specs.Ignored.{IgnoresUnused};
+ghost use Rattle.git_date_laws.specs.Laws.{AreApart, AreStepsEnough, IgnoresZone, IsOfEveryZone, IsClockRead, IgnoresCase, IgnoresLines, EndsAtNul, IgnoresInstant, IsWithoutDayMonth, ReadsBack, ReadsRawBack};
 
 mod approximate;
 mod promise;
 mod shown;
 
 pub use approximate::{
-    approximate_letter_case, approximate_up_to_nul, back_in_every_zone, careful_agrees,
-    exact_answer, exactly_back, expiry_up_to_nul, marks, months_agree, no_word_ignored,
-    not_understood_is_now, now_in_every_zone, one_answer, relative_read_near,
+    approximate_ignored_is_unused, approximate_letter_case, approximate_up_to_nul,
+    back_in_every_zone, careful_agrees, exact_answer, exactly_back, expiry_up_to_nul, marks,
+    months_agree, no_word_ignored, not_understood_is_now, now_in_every_zone, one_answer,
 };
 use gix_date::{Time, Zoned};
 use jiff::tz::TimeZone;
 pub use promise::headline;
-pub use shown::{ages_grow, human_by_distance, mode_named_back, no_single_unit, shown_as_printed};
+pub use shown::{ages_grow, mode_named_back, no_single_unit, shown_as_printed};
 
 /// The texts of the tokens are the text, and no two neighbours are both letters or both digits.
-#[tactic(auto, using(git_date::proofs::TokenRuns::texts_are, crate::proofs::Apart::apart))]
+#[tactic(auto, using(git_date::proofs::Text::TokenRuns::texts_are, crate::proofs::Alike::Apart::apart))]
 pub fn tokens(text: &[u8])
     ensures texts { texts (tokens_of text.now) ≡ text.now }
     ensures apart { AreApart (tokens_of text.now) }
 {}
 
+/// Both readers take the tokens one after the other, in as many steps at most as the text has bytes: more steps read the same, so
+/// none ends early.
+#[tactic(auto, using(crate::proofs::Whole::Enough::are_enough))]
+pub fn steps_suffice(text: &[u8], now: &Zoned<'_>)
+    ensures { AreStepsEnough now.now text.now }
+{}
+
 /// A date that says its offset has the same answer in every zone. [`git_date::ReadDate::has_offset`] tells of such a date.
-#[tactic(auto, using(crate::proofs::Zones::zones, crate::proofs::Zones::every_zone))]
+#[tactic(auto, using(crate::proofs::Back::Zones::zones, crate::proofs::Back::Zones::every_zone))]
 pub fn written_offset(text: &[u8], now: &Zoned<'_>)
     ensures said { IgnoresZone now.now text.now }
     ensures told { IsOfEveryZone now.now text.now }
@@ -36,33 +44,41 @@ pub fn written_offset(text: &[u8], now: &Zoned<'_>)
 
 /// In a zone of two offsets, as in each zone of a rule, the offset that is found shows the clock that was read, wherever the zone's
 /// clock ever shows it: also where changes stand near each other, or near New Year.
-#[tactic(auto, using(crate::proofs::ClockRead::clocks_read))]
+#[tactic(auto, using(crate::proofs::Back::ClockRead::clocks_read))]
 pub fn clock_read(zone: TimeZone<'_>)
     ensures { IsClockRead (plain_zone zone.entry) }
 {}
 
+/// What is ignored of a date is the first word, number or sign of an offset that is not used, or else a NUL. A word is used if it is
+/// a month, a day of the week, a zone, `AM`, `PM`, `ago`, `at`, `on`, `of`, `the` or `and`, and no digit follows directly; digits are
+/// if they set a field, and a sign directly before digits is if they say an offset. Only other marks, a fraction or the ending of a
+/// number, a `T` between digits and what follows a line feed are passed over. After `@` nothing is ignored but a NUL.
+pub fn ignored_is_unused(text: &[u8], now: &Zoned<'_>)
+    ensures { IgnoresUnused now.now text.now }
+{}
+
 /// A text has the same answer in any letter case.
-#[tactic(auto, using(crate::proofs::Texts::any_case))]
+#[tactic(auto, using(crate::proofs::Alike::Cases::any_case))]
 pub fn letter_case(text: &[u8], now: &Zoned<'_>)
     ensures { IgnoresCase now.now text.now }
 {}
 
 /// What follows a line feed changes no answer, unless an offset goes on there: after `@`, seconds, a space and a sign, or after
 /// a sign, two digits and a colon. What begins at a NUL there is ignored, unless something before it is.
-#[tactic(auto, using(crate::proofs::Texts::any_lines))]
+#[tactic(auto, using(crate::proofs::Alike::Cases::any_lines))]
 pub fn later_lines(text: &[u8], now: &Zoned<'_>)
     ensures { IgnoresLines now.now text.now }
 {}
 
 /// What follows a NUL changes no answer, but that what begins at the NUL is ignored, unless something before it is.
-#[tactic(auto, using(crate::proofs::UpToNul::ends_at_nul))]
+#[tactic(auto, using(crate::proofs::Alike::UpToNul::ends_at_nul))]
 pub fn up_to_nul(text: &[u8], now: &Zoned<'_>)
     ensures { EndsAtNul now.now text.now }
 {}
 
 /// A text in which the reader comes to no date with dots, slashes or dashes but those that begin with their year has the same
 /// answer at every instant. So has one in which no number up to 70 stands directly before a dot, a slash or a dash and digits.
-#[tactic(auto, using(crate::proofs::Moments::any_instant, crate::proofs::Moments::without_days))]
+#[tactic(auto, using(crate::proofs::Heard::Moments::any_instant, crate::proofs::Heard::Moments::without_days))]
 pub fn instants(text: &[u8], now: &Zoned<'_>)
     ensures met { IgnoresInstant now.now text.now }
     ensures begun { IsWithoutDayMonth now.now text.now }

@@ -2,14 +2,14 @@
 ghost use Rattle.std.specs.Prelude.{◌≡◌, ◌≢◌, ◌≤◌, Some};
 ghost use Rattle.gix_date.specs.Printing.Formats.{PrintsPattern, PrintsHeader, PrintsSeconds};
 ghost use Rattle.gix_date.specs.Printing.NamedTexts.{short_pattern, iso8601_pattern, iso8601_strict_pattern, git_rfc2822_pattern, default_pattern};
-ghost use Rattle.git_date.specs.Modes.{mode_named, mode_name};
-ghost use Rattle.git_date.specs.ShowAges.{age_of, IsNoLess, IsNoSingle};
-ghost use Rattle.git_date.specs.ShowTexts.{unknown_offset};
+ghost use Rattle.git_date.specs.Show.Modes.{mode_named, mode_name};
+ghost use Rattle.git_date.specs.Show.Ages.{age_of, IsNoLess, IsNoSingle};
+ghost use Rattle.git_date.specs.Show.Texts.{unknown_offset};
 ghost use Rattle.git_date.specs.declared.mode.DateKind.TheVariants.{Short, Iso8601, Iso8601Strict, Rfc2822, Default, Raw, Unix};
-ghost use Rattle.git_date_laws.specs.Shown.{IsShownAs, IsShownHuman};
+ghost use Rattle.git_date_laws.specs.Shown.{IsShownAs};
 
 use git_date::DateMode;
-use gix_date::{Time, Zoned};
+use gix_date::Time;
 
 /// What seven kinds show of a time by its own clock is what `Time::format` prints, wherever both are defined. Of the default
 /// an unknown offset (`-0001`) is left out.
@@ -24,7 +24,7 @@ pub fn shown_as_printed(time: Time)
 {}
 
 /// No age is one minute, hour, day, week or month alone, and none is 0 of these.
-#[tactic(auto, using(crate::proofs::ShownLaws::no_single))]
+#[tactic(auto, using(crate::proofs::Printing::ShownLaws::no_single))]
 pub fn no_single_unit(seconds: u64)
     ensures { IsNoSingle (age_of seconds) }
 {}
@@ -36,14 +36,8 @@ pub fn ages_grow(seconds: u64, later: u64)
     ensures { IsNoLess (age_of seconds) (age_of later) }
 {}
 
-/// `human` shows a clock only of a time of this year, and not of today: the time by its own clock, or the zone's if the mode is
-/// local, and today by the zone's. Of another year it shows exactly the month, the day and the year; of today the age.
-pub fn human_by_distance(time: Time, now: &Zoned<'_>)
-    ensures { IsShownHuman now.now time }
-{}
-
 /// Each mode is named by the name that it shows.
-#[tactic(auto, using(crate::proofs::ShownLaws::named_back))]
+#[tactic(auto, using(crate::proofs::Printing::ShownLaws::named_back))]
 pub fn mode_named_back(mode: DateMode)
     ensures { mode_named (mode_name mode) ≡ Some mode }
 {}

@@ -10,8 +10,8 @@ use Rattle.gix_date.specs.Text.Numbers.{decimal_text}
 use Rattle.gix_date.specs.declared.error.Error.{Error}
 use Rattle.gix_date.specs.declared.time.Time.{Time}
 use Rattle.gix_date.specs.declared.time.format.Format.{Format}
-use Rattle.git_date.specs.Show.{shown}
-use Rattle.git_date.specs.ShowClocks.{moment_of}
+use Rattle.git_date.specs.Show.Dates.{shown}
+use Rattle.git_date.specs.Show.Clocks.{moment_of}
 use Rattle.git_date.specs.declared.approximate.answer.Approximate.{Approximate}
 use Rattle.git_date_tool.specs.Answers.{Reply, IsFoundReply, IsReply, line_reply}
 use Rattle.git_date_tool.specs.Laws.{RepliesAreUnique}

@@ -3,7 +3,7 @@ use Rattle.std.proofs.Common.{◌≡◌, ◌≢◌, ◌==◌, ◌⊎◌, if◌th
 use Rattle.gix_date.specs.Text.Characters.{colon}
 use Rattle.jiff.specs.Placed.{IsPosixZone}
 use Rattle.jiff.specs.Types.{TimeZone, UTC}
-use Rattle.git_date.specs.ZoneTexts.{zone_offset}
+use Rattle.git_date.specs.Exact.ZoneTexts.{zone_offset}
 use Rattle.git_date_tool.specs.Zones.{IsAskedZone, IsFileSource, IsFileZone, IsMachineZone, IsPlainSource, IsPlainZone, IsRestSource, IsRestZone, IsRuleSource, IsSourceOf, IsTaken, IsTextOf, IsTextSource, IsTextZone, IsUtcOrFile, IsUtcOrFileSource, IsUtcSource, MayLackZone, NeedsSystem, is_utc, without_colon}
 use Rattle.git_date_tool.specs.Command.{Asked}
 use Rattle.git_date_tool.specs.Program.{StartsNot, without_zone}

@@ -6,9 +6,7 @@ use Rattle.gix_date.specs.declared.time.Time.{Time}
 use Rattle.gix_date_tool.specs.Command.{moment_or_why}
 use Rattle.gix_date_tool.specs.declared.arguments.NoMoment.{NoMoment}
 use Rattle.gix_date_tool.specs.declared.arguments.NoMoment.TheVariants.{Conversion}
-use Rattle.git_date.specs.Dates.{now_at}
-use Rattle.git_date.specs.Outcome.{DateOutcome}
-use Rattle.git_date.specs.Reading.{said_by}
+use Rattle.git_date.specs.Exact.Outcome.{DateOutcomeAt}
 use Rattle.git_date.specs.declared.date.ReadDate.{ReadDate}
 use Rattle.git_date.specs.declared.error.DateError.{DateError}
 
@@ -39,4 +37,4 @@ IsInstantBy (Err e) text nanos = IsInstantOfMoment (moment_or_why text) nanos
 -- the instant of NOW: of an exact date of Git, in this zone if it names no offset, or else of a moment of gix-date
 abbrev pub IsInstantOf : TimeZone → List ℕ → Result ℤ NoMoment → Type 0
 IsInstantOf zone text nanos =
-    (exact : Result ReadDate DateError) × DateOutcome zone (said_by (now_at last_instant) text) exact × IsInstantBy exact text nanos
+    (exact : Result ReadDate DateError) × DateOutcomeAt last_instant zone text exact × IsInstantBy exact text nanos

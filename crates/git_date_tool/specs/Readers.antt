@@ -15,10 +15,10 @@ use Rattle.gix_date.specs.declared.parsing.careful.Texts.TheVariants.{Careful as
 use Rattle.gix_date.specs.declared.parsing.careful.WithoutOffset.TheVariants.{MomentsZone}
 use Rattle.gix_date.specs.declared.parsing.raw.RawOffsets.TheVariants.{Quarter}
 use Rattle.gix_date.specs.declared.time.Time.{Time}
-use Rattle.git_date.specs.Approximate.{ApproximateOutcome}
-use Rattle.git_date.specs.Dates.{now_of}
-use Rattle.git_date.specs.Outcome.{DateOutcome, IsPlaceIn}
-use Rattle.git_date.specs.Reading.{said_by}
+use Rattle.git_date.specs.Approximate.Reading.{ApproximateOutcome}
+use Rattle.git_date.specs.Rules.Dates.{now_of}
+use Rattle.git_date.specs.Exact.Outcome.{DateOutcome, IsPlaceIn}
+use Rattle.git_date.specs.Exact.Reading.{said_by}
 use Rattle.git_date.specs.declared.approximate.answer.Approximate.{Approximate}
 use Rattle.git_date.specs.declared.date.ReadDate.{ReadDate}
 use Rattle.git_date.specs.declared.error.DateError.{DateError}
@@ -45,8 +45,7 @@ careful_options = record { raw = Quarter; without_offset = MomentsZone; texts = 
 -- the exact reader of Git finds this
 abbrev pub IsExactly : Zoned → List ℕ → Result Approximate Refusal → Type 0
 IsExactly now text found =
-    (result : Result ReadDate DateError) × DateOutcome (zone_of now) (said_by (now_of now) text) result
-    × (found ≡ result_map_both of_exact of_git result)
+    (result : Result ReadDate DateError) × DateOutcome now text result × (found ≡ result_map_both of_exact of_git result)
 
 -- the approximate reader of Git finds this
 abbrev pub IsApproximately : Zoned → List ℕ → Result Approximate Refusal → Type 0

@@ -11,9 +11,9 @@ use Rattle.gix_date.specs.declared.error.Error.TheVariants as errors
 use Rattle.gix_date.specs.declared.time.Time.{Time}
 use Rattle.gix_date.specs.declared.time.format.Format.{Format}
 use Rattle.gix_date.specs.declared.time.format.Format.TheVariants.{Custom, Unix as UnixFormat, Raw as RawFormat}
-use Rattle.git_date.specs.Modes.{mode_named}
-use Rattle.git_date.specs.Show.{shown}
-use Rattle.git_date.specs.ShowClocks.{moment_of}
+use Rattle.git_date.specs.Show.Modes.{mode_named}
+use Rattle.git_date.specs.Show.Dates.{shown}
+use Rattle.git_date.specs.Show.Clocks.{moment_of}
 use Rattle.git_date.specs.declared.mode.DateMode.{DateMode}
 use Rattle.git_date_tool.specs.declared.refusals.Refusal.{Refusal}
 use Rattle.git_date_tool.specs.declared.refusals.Refusal.TheVariants.{NotShown}

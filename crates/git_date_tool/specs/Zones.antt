@@ -12,7 +12,7 @@ use Rattle.jiff_tz.specs.System.{IsTable}
 use Rattle.jiff_tz.specs.Tzif.{tzif_view}
 use Rattle.jiff_tz.specs.TzifReader.{read_tzif}
 use Rattle.jiff_tz.specs.declared.tzif.Tzif.{Tzif}
-use Rattle.git_date.specs.ZoneTexts.{zone_offset}
+use Rattle.git_date.specs.Exact.ZoneTexts.{zone_offset}
 use Rattle.git_date_tool.specs.declared.zone_files.TheConstants.{MAX_FILE_BYTES}
 use Rattle.git_date_tool.specs.declared.zones.ZoneSource.{ZoneSource}
 use Rattle.git_date_tool.specs.declared.zones.ZoneSource.TheVariants as sources

@@ -1,7 +1,7 @@
 //! The zone of an offset, as an option has it.
 ghost use Rattle.std.specs.Prelude.{option_map};
 ghost use Rattle.jiff.specs.ZoneView.{plain_zone};
-ghost use Rattle.git_date.specs.ZoneTexts.{IsNear, zone_offset};
+ghost use Rattle.git_date.specs.Exact.ZoneTexts.{IsNear, zone_offset};
 ghost use Rattle.git_date_tool.specs.Zones.{IsFixedAt, IsOffsetZone};
 
 use git_date::zone_offset;

@@ -2,7 +2,7 @@
 ghost use Rattle.std.specs.Prelude.{◌≡◌, ◌≤◌, ◌++◌, None, Some, codes, is_none, length};
 ghost use Rattle.std.specs.List.{prefix_len};
 ghost use Rattle.std.specs.Char.{is_ascii_alphanumeric};
-ghost use Rattle.git_date.specs.Outcome.{IsPlaceIn};
+ghost use Rattle.git_date.specs.Exact.Outcome.{IsPlaceIn};
 ghost use Rattle.gix_date_tool.specs.Messages.{Reports, WritesMessage};
 ghost use Rattle.gix_date_tool.specs.Lines.{with_newline};
 ghost use Rattle.gix_date_tool.specs.Run.{change};

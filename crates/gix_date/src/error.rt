@@ -76,7 +76,8 @@ pub enum CarefulError {
     /// end is missing.
     #[error("not understood from byte {0} on; expected a date, or counts and whole units, then `ago`, such as \"2 weeks ago\"")]
     Unclear(usize),
-    /// The text is a number of seconds after the year 9999, alone or before an offset, and no format prints these.
+    /// The text is a number of seconds after the year 9999, alone or before an offset. Of the formats only `UNIX` and `RAW`
+    /// print these.
     #[error("a number of seconds after the year 9999; if milliseconds were meant, divide them by 1000, \
         and if a date and a clock, write them as \"2024-01-05 10:30:00\"; `@` before the number reads it as seconds")]
     AfterYear9999,

@@ -28,7 +28,7 @@ pub mod time;
 
 pub use error::{CarefulError, Error, InputBytes, ParseError};
 pub use jiff::Zoned;
-pub use parsing::careful::{CarefulOptions, Texts, WithoutOffset, parse_carefully, time_in_zone};
+pub use parsing::careful::{CarefulOptions, Texts, WithoutOffset, parse_carefully};
 pub use parsing::dates::{parse, parse_no_alloc, parse_with};
 pub use parsing::headers::{HeaderKind, header_kind, is_canonical_header, parse_header};
 pub use parsing::raw::RawOffsets;

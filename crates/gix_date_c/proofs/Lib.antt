@@ -1,4 +1,5 @@
 mod Boxed
+mod Modes
 mod Named
 mod Pieces
 mod Printed

@@ -4,7 +4,7 @@ use Rattle.std.proofs.Common.{◌∙◌, sym, subst, ap, inl, inr}
 use Rattle.jiff.specs.Types.{TimeZone}
 use Rattle.jiff.specs.Placed.{IsPosixZone}
 use Rattle.jiff.specs.Words.{plain_zone}
-use Rattle.git_date.specs.ZoneTexts.{zone_offset}
+use Rattle.git_date.specs.Exact.ZoneTexts.{zone_offset}
 use Rattle.gix_date_c.specs.Moments.{IsOffsetZone}
 use Rattle.gix_date_c.specs.Zones.{IsCopy, IsCopyOf, IsHeld, IsHeldNamed, IsHeldZone, IsKept, IsNamed, IsRead, IsTaken, IsZone, IsZoneOf, Reads, is_file}
 use Rattle.gix_date_c.specs.Laws.{AreCopiesNamed, HasMomentsOf, HasPlacesOf, StaysNamed}

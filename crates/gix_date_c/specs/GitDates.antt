@@ -2,11 +2,9 @@
 use Rattle.std.specs.Prelude.{◌≡◌, ℕ, ◌^◌, ◌-◌, if◌then◌else◌, Bool, List, Option, unwrap_or, Result}
 use Rattle.std.specs.Result.{result_map_both}
 use Rattle.jiff.specs.declared.zoned.Zoned.{Zoned}
-use Rattle.git_date.specs.Approximate.{ApproximateOutcome, HasApproximatePlacesIn}
-use Rattle.git_date.specs.ApproximateExpiry.{ExpiryOutcome, HasExpiryPlacesIn}
-use Rattle.git_date.specs.Dates.{now_at}
-use Rattle.git_date.specs.Outcome.{DateOutcome, HasPlacesIn}
-use Rattle.git_date.specs.Reading.{said_by}
+use Rattle.git_date.specs.Approximate.Reading.{ApproximateOutcome, HasApproximatePlacesIn}
+use Rattle.git_date.specs.Approximate.Expiry.{ExpiryOutcome, HasExpiryPlacesIn}
+use Rattle.git_date.specs.Exact.Outcome.{DateOutcomeAt, HasPlacesIn}
 use Rattle.git_date.specs.declared.approximate.answer.Approximate.{Approximate}
 use Rattle.git_date.specs.declared.approximate.expiry.Expiry.{Expiry}
 use Rattle.git_date.specs.declared.approximate.expiry.Expiry.TheVariants.{Never, All, Before}
@@ -63,7 +61,7 @@ expiry_of old (Before date) = record { kind = 2; before = approximate_of date }
 -- what the exact reader comes to at an instant in a zone, as C has it: the library's outcome, of which each place is in the text
 abbrev pub IsExact : Place → List ℕ → Result CExact Refusal → Type 0
 IsExact place text answer =
-    (date : Result ReadDate DateError) × DateOutcome place.1 (said_by (now_at place.0) text) date
+    (date : Result ReadDate DateError) × DateOutcomeAt place.0 place.1 text date
     × HasPlacesIn text date × (answer ≡ result_map_both exact_of date_refusal date)
 
 -- the same of the approximate reader

@@ -4,9 +4,9 @@ use Rattle.std.specs.Result.{result_map_both}
 use Rattle.jiff.specs.Types.{TimeZone}
 use Rattle.gix_date.specs.Text.Front.{◌>>=◌}
 use Rattle.gix_date.specs.declared.time.Time.{Time}
-use Rattle.git_date.specs.Modes.{mode_named}
-use Rattle.git_date.specs.Show.{shown}
-use Rattle.git_date.specs.ShowClocks.{moment_at}
+use Rattle.git_date.specs.Show.Modes.{mode_named}
+use Rattle.git_date.specs.Show.Dates.{shown}
+use Rattle.git_date.specs.Show.Clocks.{moment_at}
 use Rattle.git_date.specs.declared.mode.DateKind.{DateKind}
 use Rattle.git_date.specs.declared.mode.DateKind.TheVariants.{Relative, Iso8601Strict, Iso8601, Rfc2822, Short, Default, Human, Raw, Unix}
 use Rattle.git_date.specs.declared.mode.DateMode.{DateMode}
@@ -49,6 +49,10 @@ mode_of mode = do
 
 abbrev pub mode_for_c : DateMode → CMode
 mode_for_c mode = record { kind = kind_number mode.kind; local = bool_for_c mode.local }
+
+-- a kind is had back from its number, and a mode from both of its numbers
+abbrev pub IsNumbered : DateMode → Type 0
+IsNumbered mode = (kind_of (kind_number mode.kind) ≡ Some mode.kind) × (mode_of (mode_for_c mode) ≡ Some mode)
 
 -- the mode that a name says
 abbrev pub mode_answer : List ℕ → Result CMode Status

@@ -1,7 +1,7 @@
 -- Laws of zones that C holds.
 use Rattle.std.specs.Prelude.{ℕ, List, Result}
 use Rattle.jiff.specs.declared.zoned.Zoned.{Zoned}
-use Rattle.git_date.specs.ZoneTexts.{zone_offset}
+use Rattle.git_date.specs.Exact.ZoneTexts.{zone_offset}
 use Rattle.gix_date_c.specs.Moments.{IsNow, IsPlaced, Place}
 use Rattle.gix_date_c.specs.Statuses.{number_of}
 use Rattle.gix_date_c.specs.Zones.{Copies, IsNamed, IsSame, IsZone, Names}

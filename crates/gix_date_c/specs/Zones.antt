@@ -6,7 +6,7 @@ use Rattle.jiff.specs.Types.{TimeZone, Tzif as Table}
 use Rattle.jiff.specs.Placed.{IsPosixZone}
 use Rattle.jiff.specs.Words.{plain_zone}
 use Rattle.jiff_tz.specs.declared.tzif.Tzif.{Tzif}
-use Rattle.git_date.specs.ZoneTexts.{zone_offset}
+use Rattle.git_date.specs.Exact.ZoneTexts.{zone_offset}
 use Rattle.gix_date_c.specs.Moments.{IsFileZone, IsOffsetZone, IsRuleZone, IsTable}
 use Rattle.gix_date_c.specs.Statuses.{number_of}
 use Rattle.gix_date_c.specs.declared.status.Status.{Status}

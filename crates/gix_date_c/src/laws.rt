@@ -1,7 +1,15 @@
 //! Laws of the calls for C: each is the contract of a function that does nothing.
+ghost use Rattle.gix_date_c.specs.GitModes.{IsNumbered};
 ghost use Rattle.gix_date_c.specs.Laws.{AreCopiesNamed, HasMomentsOf, HasPlacesOf, StaysNamed};
 
 use crate::zone::CZone;
+use git_date::DateMode;
+
+/// The numbers by which C says how a date is shown say each mode, and no two say one.
+#[tactic(auto, using(crate::proofs::Modes::numbered))]
+fn numbered_modes(mode: DateMode)
+    ensures { IsNumbered mode }
+{}
 
 /// After `gix_date_zone_read` of an offset, a file or a rule each call has the moments of the zone that this text names: its answer
 /// is that of the library in this zone.

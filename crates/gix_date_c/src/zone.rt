@@ -2,7 +2,7 @@
 ghost use Rattle.std.specs.Prelude.{◌≡◌, MatchResult, None, option_map};
 ghost use Rattle.std.specs.Result.{result_map_both};
 ghost use Rattle.jiff.specs.Words.{plain_zone};
-ghost use Rattle.git_date.specs.ZoneTexts.{zone_offset};
+ghost use Rattle.git_date.specs.Exact.ZoneTexts.{zone_offset};
 ghost use Rattle.gix_date_c.specs.Moments.{IsNow};
 ghost use Rattle.gix_date_c.specs.Zones.{Copies, IsKept, IsRead, IsSame, IsTaken, IsTakenCopy, IsUtc, IsZoneOf, Reads};
 ghost use Rattle.gix_date_c.specs.declared.status.Status.TheVariants.{Memory};

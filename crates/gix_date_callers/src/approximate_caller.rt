@@ -1,8 +1,8 @@
 //! Callers of `git_date::approxidate` and `git_date::show_date`: docs/GIT_DATES.md says what each is for.
 ghost use Rattle.std.specs.Prelude.{◌≡◌, true, false, Some, None, Ok, IfSome, IfOk, MatchResult};
-ghost use Rattle.git_date.specs.Approximate.{ApproximateOutcome};
-ghost use Rattle.git_date.specs.Show.{shown};
-ghost use Rattle.git_date.specs.ShowClocks.{moment_of};
+ghost use Rattle.git_date.specs.Approximate.Reading.{ApproximateOutcome};
+ghost use Rattle.git_date.specs.Show.Dates.{shown};
+ghost use Rattle.git_date.specs.Show.Clocks.{moment_of};
 ghost use Rattle.git_date.specs.declared.approximate.answer.Approximate.{Approximate as Guess};
 ghost use Rattle.git_date.specs.declared.error.DateError.TheVariants.{Range};
 ghost use Rattle.git_date.specs.declared.mode.DateKind.TheVariants.{Human};

@@ -2,11 +2,9 @@
 ghost use Rattle.std.specs.Prelude.{◌≡◌, Result, Ok, option_map};
 ghost use Rattle.std.specs.Result.{result_map_both};
 ghost use Rattle.jiff.specs.Words.{plain_zone};
-ghost use Rattle.git_date.specs.Dates.{now_at};
-ghost use Rattle.git_date.specs.Outcome.{DateOutcome};
-ghost use Rattle.git_date.specs.Reading.{said_by};
-ghost use Rattle.git_date.specs.Show.{shown};
-ghost use Rattle.git_date.specs.ShowClocks.{moment_at};
+ghost use Rattle.git_date.specs.Exact.Outcome.{DateOutcomeAt};
+ghost use Rattle.git_date.specs.Show.Dates.{shown};
+ghost use Rattle.git_date.specs.Show.Clocks.{moment_at};
 ghost use Rattle.git_date.specs.declared.date.ReadDate.{ReadDate as Read};
 ghost use Rattle.git_date.specs.declared.error.DateError.{DateError as Refusal};
 
@@ -18,7 +16,7 @@ use jiff::tz::TimeZone;
 /// The time of `GIT_COMMITTER_DATE`.
 pub fn committed(date: &str, now: Timestamp, zone: TimeZone<'_>) -> Result<Time, DateError>
     ensures { (read : Result Read Refusal)
-        × DateOutcome (plain_zone zone.entry) (said_by (now_at now.nanosecond) date.now) read
+        × DateOutcomeAt now.nanosecond (plain_zone zone.entry) date.now read
         × (result ≡ result_map_both (λ found. found.time) (λ e. e) read) }
 {
     match parse_date_at(date.as_bytes(), now, zone) {

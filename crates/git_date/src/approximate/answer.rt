@@ -1,11 +1,11 @@
 //! The approximate reader: one token after the other, and what the whole text comes to.
 ghost use Rattle.std.specs.Prelude.{◌≡◌, ◌≤◌, length, IfOk, Err};
-ghost use Rattle.git_date.specs.Tokens.{tokens, token_of};
-ghost use Rattle.git_date.specs.Dates.{now_of};
-ghost use Rattle.git_date.specs.Approximate.{rule, draft_of, answer, answer_of, string_guess, answer_up_to, guess, is_unreadable, exact_or_guess};
+ghost use Rattle.git_date.specs.Tokens.Tokens.{tokens, token_of};
+ghost use Rattle.git_date.specs.Rules.Dates.{now_of};
+ghost use Rattle.git_date.specs.Approximate.Reading.{rule, draft_of, answer, answer_of, string_guess, answer_up_to, guess, is_unreadable, exact_or_guess};
 ghost use Rattle.gix_date.specs.Relative.Steps.{zone_of};
-ghost use Rattle.git_date.specs.ApproximateZones.{choices_of};
-ghost use Rattle.git_date.specs.Views.{step_view};
+ghost use Rattle.git_date.specs.Approximate.Zones.{choices_of};
+ghost use Rattle.git_date.specs.Rules.Views.{step_view};
 
 use crate::approximate::drafts::Draft;
 use crate::approximate::rules::{digits_rule, letters_rule};
@@ -55,14 +55,11 @@ fn rule<'a>(
     ensures shorter { IfOk result (λ found. length found.1.now ≤ length text.now) }
 {
     match token {
-        Token::Letters(run) => match letters_rule(moment, today.shown, draft, run, text) {
-            Ok(next) => Ok((next, text)),
-            Err(fault) => Err(fault),
-        },
-        Token::Digits(run) => match digits_rule(today.now, draft, run, text) {
-            Ok((next, rest)) => Ok((next, without_ending(rest))),
-            Err(fault) => Err(fault),
-        },
+        Token::Letters(run) => Ok((letters_rule(moment, today.shown, draft, run, text)?, text)),
+        Token::Digits(run) => {
+            let (next, rest) = digits_rule(today.now, draft, run, text)?;
+            Ok((next, without_ending(rest)))
+        }
         Token::Mark(_) => Ok((draft, text)),
     }
 }
@@ -124,7 +121,7 @@ fn answer_of(moment: Zoned<'_>, today: Today, text: &[u8]) -> Result<Approximate
 }
 
 /// What the approximate reader makes of a text without NUL.
-#[tactic(auto, unfolding(crate::specs::Approximate::string_guess))]
+#[tactic(auto, unfolding(crate::specs::Approximate::Reading::string_guess))]
 fn string_guess(moment: Zoned<'_>, text: &[u8]) -> Result<Approximate, DateError>
     ensures { result ≡ string_guess (choices_of (zone_of moment.entry)) (now_of moment.entry) text.now }
 {
@@ -142,17 +139,15 @@ fn answer_up_to(
 ) -> Result<Approximate, DateError>
     ensures { result ≡ answer_up_to place found }
 {
-    match found {
-        Ok(date) => Ok(Approximate {
-            ignored: date.ignored.or(place),
-            ..date
-        }),
-        Err(error) => Err(error),
-    }
+    let date = found?;
+    Ok(Approximate {
+        ignored: date.ignored.or(place),
+        ..date
+    })
 }
 
 /// What the approximate reader makes of a text, up to its first NUL.
-#[tactic(auto, unfolding(crate::specs::Approximate::guess))]
+#[tactic(auto, unfolding(crate::specs::Approximate::Reading::guess))]
 fn guess(moment: Zoned<'_>, text: &[u8]) -> Result<Approximate, DateError>
     ensures { result ≡ guess (choices_of (zone_of moment.entry)) (now_of moment.entry) text.now }
 {

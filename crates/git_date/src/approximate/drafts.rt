@@ -1,6 +1,6 @@
 //! What an approximate text says so far.
 ghost use Rattle.std.specs.Prelude.{◌≡◌, ◌≤◌, None};
-ghost use Rattle.git_date.specs.ApproximateDrafts.{clock_fields, all_fields, first_draft, with_shown, ignore, lone_year, with_number, settle, dropped, with_hour, is_before, half, half_by, units, days_back, weekday_seconds, at_month, less_months};
+ghost use Rattle.git_date.specs.Approximate.Drafts.{clock_fields, all_fields, first_draft, with_shown, ignore, lone_year, with_number, settle, dropped, with_hour, is_before, half, half_by, units, days_back, weekday_seconds, at_month, less_months};
 
 use crate::clocks::ShownClock;
 use crate::fields::Fields;
@@ -46,7 +46,7 @@ fn all_fields(shown: ShownClock) -> Fields
 
 impl Fields {
     /// With what a number says alone: the day, the month or the year.
-    #[tactic(auto, unfolding(crate::specs::ApproximateDrafts::with_number))]
+    #[tactic(auto, unfolding(crate::specs::Approximate::Drafts::with_number))]
     fn with_number(self, n: u64) -> Option<Fields>
         ensures { result ≡ with_number self n }
     {
@@ -65,17 +65,14 @@ impl Fields {
         if self.year.is_some() {
             return None;
         }
-        match lone_year(n) {
-            Some(year) => Some(Fields {
-                year: Some(year),
-                ..self
-            }),
-            None => None,
-        }
+        Some(Fields {
+            year: Some(lone_year(n)?),
+            ..self
+        })
     }
 
     /// With a month by how many months come before it from the year 0 on.
-    #[tactic(auto, unfolding(crate::specs::ApproximateDrafts::at_month))]
+    #[tactic(auto, unfolding(crate::specs::Approximate::Drafts::at_month))]
     fn at_month(self, months: u64) -> Option<Fields>
         ensures { result ≡ at_month self months }
     {
@@ -91,7 +88,7 @@ impl Fields {
     }
 
     /// With the month so many months earlier. `None` before 1900.
-    #[tactic(auto, unfolding(crate::specs::ApproximateDrafts::less_months))]
+    #[tactic(auto, unfolding(crate::specs::Approximate::Drafts::less_months))]
     pub(crate) fn less_months(self, months: u64) -> Option<Fields>
         ensures { result ≡ less_months self months }
     {
@@ -103,7 +100,7 @@ impl Fields {
 }
 
 /// The year that a number says alone.
-#[tactic(auto, unfolding(crate::specs::ApproximateDrafts::lone_year))]
+#[tactic(auto, unfolding(crate::specs::Approximate::Drafts::lone_year))]
 fn lone_year(n: u64) -> Option<u16>
     ensures { result ≡ lone_year n }
 {
@@ -158,7 +155,7 @@ impl Draft {
     }
 
     /// With the field that the waiting number says, or with that number ignored.
-    #[tactic(auto, unfolding(crate::specs::ApproximateDrafts::settle))]
+    #[tactic(auto, unfolding(crate::specs::Approximate::Drafts::settle))]
     pub(crate) fn settle(self) -> Draft
         ensures { result ≡ settle self }
     {
@@ -176,7 +173,7 @@ impl Draft {
     }
 
     /// With the waiting number ignored.
-    #[tactic(auto, unfolding(crate::specs::ApproximateDrafts::dropped))]
+    #[tactic(auto, unfolding(crate::specs::Approximate::Drafts::dropped))]
     pub(crate) fn dropped(self) -> Draft
         ensures { result ≡ dropped self }
     {
@@ -216,7 +213,7 @@ impl Draft {
     }
 
     /// With an hour of the half of a day that begins with this one: the waiting number, or else the clock's hour.
-    #[tactic(auto, unfolding(crate::specs::ApproximateDrafts::half))]
+    #[tactic(auto, unfolding(crate::specs::Approximate::Drafts::half))]
     pub(crate) fn half(self, first: u8) -> Draft
         requires { first ≤ 12 }
         ensures { result ≡ half self first }

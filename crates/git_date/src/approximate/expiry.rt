@@ -1,6 +1,6 @@
 //! What expires, as in `gc.pruneExpire`.
 ghost use Rattle.std.specs.Prelude.{◌≡◌};
-ghost use Rattle.git_date.specs.ApproximateExpiry.{fixed_expiry, expiry_of, ExpiryOutcome, HasExpiryPlacesIn};
+ghost use Rattle.git_date.specs.Approximate.Expiry.{fixed_expiry, expiry_of, ExpiryOutcome, HasExpiryPlacesIn};
 
 use crate::approximate::answer::Approximate;
 use crate::approximate::approxidate;
@@ -20,7 +20,7 @@ pub enum Expiry {
 }
 
 /// What the words say that are no dates here.
-#[tactic(auto, unfolding(crate::specs::ApproximateExpiry::fixed_expiry))]
+#[tactic(auto, unfolding(crate::specs::Approximate::Expiry::fixed_expiry))]
 fn fixed_expiry(text: &[u8]) -> Option<Expiry>
     ensures { result ≡ fixed_expiry text.now }
 {
@@ -37,15 +37,11 @@ fn fixed_expiry(text: &[u8]) -> Option<Expiry>
 fn expiry_of(date: Result<Approximate, DateError>) -> Result<Expiry, DateError>
     ensures { result ≡ expiry_of date }
 {
-    match date {
-        Ok(date) => {
-            if date.understood {
-                Ok(Expiry::Before(date))
-            } else {
-                Err(DateError::Unreadable)
-            }
-        }
-        Err(error) => Err(error),
+    let date = date?;
+    if date.understood {
+        Ok(Expiry::Before(date))
+    } else {
+        Err(DateError::Unreadable)
     }
 }
 

@@ -2,7 +2,7 @@
 ghost use Rattle.std.specs.Prelude.{◌≡◌};
 ghost use Rattle.std.specs.List.{position};
 ghost use Rattle.gix_date.specs.Text.Names.{is_name};
-ghost use Rattle.git_date.specs.ApproximateWords.{moment_named, count_named, is_unit, unit_named, meaning_of};
+ghost use Rattle.git_date.specs.Approximate.Words.{moment_named, count_named, is_unit, unit_named, meaning_of};
 
 use gix_date::names::{begins, is_name, month_told, weekday_told};
 
@@ -43,7 +43,7 @@ const NUMBERS: [&[u8]; 10] = [
 ];
 
 /// What a word of a moment says.
-#[tactic(auto, unfolding(crate::specs::ApproximateWords::moment_named))]
+#[tactic(auto, unfolding(crate::specs::Approximate::Words::moment_named))]
 fn moment_named(word: &[u8]) -> Option<Meaning>
     ensures { result ≡ moment_named word.now }
 {
@@ -76,7 +76,7 @@ fn place_of(word: &[u8], names: &[&[u8]]) -> Option<usize>
 }
 
 /// What `one` to `ten` and `last` count.
-#[tactic(auto, unfolding(crate::specs::ApproximateWords::count_named))]
+#[tactic(auto, unfolding(crate::specs::Approximate::Words::count_named))]
 fn count_named(word: &[u8]) -> Option<u8>
     ensures { result ≡ count_named word.now }
 {
@@ -95,7 +95,7 @@ fn is_unit(word: &[u8], name: &[u8]) -> bool
 }
 
 /// The unit that a word names.
-#[tactic(auto, unfolding(crate::specs::ApproximateWords::unit_named))]
+#[tactic(auto, unfolding(crate::specs::Approximate::Words::unit_named))]
 fn unit_named(word: &[u8]) -> Option<Unit>
     ensures { result ≡ unit_named word.now }
 {
@@ -119,7 +119,7 @@ fn unit_named(word: &[u8]) -> Option<Unit>
 }
 
 /// What a word says, if it is known. No word that has a digit is.
-#[tactic(auto, unfolding(crate::specs::ApproximateWords::meaning_of))]
+#[tactic(auto, unfolding(crate::specs::Approximate::Words::meaning_of))]
 pub(crate) fn meaning_of(word: &[u8]) -> Option<Meaning>
     ensures { result ≡ meaning_of word.now }
 {
@@ -135,8 +135,5 @@ pub(crate) fn meaning_of(word: &[u8]) -> Option<Meaning>
     if let Some(day) = weekday_told(word) {
         return Some(Meaning::Unit(Unit::Weekday(day)));
     }
-    match unit_named(word) {
-        Some(unit) => Some(Meaning::Unit(unit)),
-        None => None,
-    }
+    Some(Meaning::Unit(unit_named(word)?))
 }

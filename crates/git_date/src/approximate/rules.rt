@@ -1,12 +1,12 @@
 //! The rules of the approximate reader: what digits and words make of a draft.
 ghost use Rattle.std.specs.Prelude.{◌≡◌, ◌≤◌, ◌∷◌, length, IfOk};
-ghost use Rattle.git_date.specs.Tokens.{tokens, Letters, bytes_left};
-ghost use Rattle.git_date.specs.ApproximateWords.{meaning_of};
-ghost use Rattle.git_date.specs.Numbers.{number};
+ghost use Rattle.git_date.specs.Tokens.Tokens.{tokens, Letters, bytes_left};
+ghost use Rattle.git_date.specs.Approximate.Words.{meaning_of};
+ghost use Rattle.git_date.specs.Tokens.Numbers.{number};
 ghost use Rattle.gix_date.specs.Relative.Steps.{zone_of};
-ghost use Rattle.git_date.specs.ApproximateZones.{choices_of};
-ghost use Rattle.git_date.specs.ApproximateRules.{used, hour_rule, back_rule, months_rule, unit_rule, counted_by, count_waits, with_month, meaning_rule, word_by, read_word, are_digits_next, letters_rule, is_padded, number_waits, group_said, digits_rule};
-ghost use Rattle.git_date.specs.Views.{step_view};
+ghost use Rattle.git_date.specs.Approximate.Zones.{choices_of};
+ghost use Rattle.git_date.specs.Approximate.Rules.{used, hour_rule, back_rule, months_rule, unit_rule, counted_by, count_waits, with_month, meaning_rule, word_by, read_word, are_digits_next, letters_rule, is_padded, number_waits, group_said, digits_rule};
+ghost use Rattle.git_date.specs.Rules.Views.{step_view};
 
 use crate::approximate::drafts::{Draft, units, weekday_seconds};
 use crate::approximate::meanings::{Meaning, Unit, meaning_of};
@@ -28,14 +28,11 @@ type Ruled = Result<Option<Draft>, Fault>;
 fn used(draft: Result<Draft, Fault>) -> Ruled
     ensures { result ≡ used draft }
 {
-    match draft {
-        Ok(draft) => Ok(Some(draft)),
-        Err(fault) => Err(fault),
-    }
+    Ok(Some(draft?))
 }
 
 /// `midnight`, `noon` and `tea`: where the clock is before that hour, the day before.
-#[tactic(auto, unfolding(crate::specs::ApproximateRules::hour_rule))]
+#[tactic(auto, unfolding(crate::specs::Approximate::Rules::hour_rule))]
 fn hour_rule(
     moment: Zoned<'_>,
     today: ShownClock,
@@ -49,14 +46,11 @@ fn hour_rule(
     if !settled.is_before(hour) {
         return Ok(settled.with_hour(hour));
     }
-    match fill(moment, today, settled, 86_400, left) {
-        Ok(filled) => Ok(filled.with_hour(hour)),
-        Err(fault) => Err(fault),
-    }
+    Ok(fill(moment, today, settled, 86_400, left)?.with_hour(hour))
 }
 
 /// A number of seconds back.
-#[tactic(auto, unfolding(crate::specs::ApproximateRules::back_rule))]
+#[tactic(auto, unfolding(crate::specs::Approximate::Rules::back_rule))]
 fn back_rule(
     moment: Zoned<'_>,
     today: ShownClock,
@@ -73,7 +67,7 @@ fn back_rule(
 }
 
 /// A number of months back.
-#[tactic(auto, unfolding(crate::specs::ApproximateRules::months_rule))]
+#[tactic(auto, unfolding(crate::specs::Approximate::Rules::months_rule))]
 fn months_rule(
     moment: Zoned<'_>,
     today: ShownClock,
@@ -157,7 +151,7 @@ fn with_month(draft: Draft, month: u8) -> Draft
 }
 
 /// What a word makes of a draft by what it says.
-#[tactic(auto, unfolding(crate::specs::ApproximateRules::meaning_rule))]
+#[tactic(auto, unfolding(crate::specs::Approximate::Rules::meaning_rule))]
 fn meaning_rule(
     moment: Zoned<'_>,
     today: ShownClock,
@@ -193,19 +187,13 @@ fn word_rule(moment: Zoned<'_>, today: ShownClock, draft: Draft, left: usize, wo
 fn read_word(draft: Draft, word: &[u8], left: usize, ruled: Ruled) -> Result<Draft, Fault>
     ensures { result ≡ read_word draft word.now left ruled }
 {
-    match ruled {
-        Ok(Some(next)) => Ok(Draft {
+    match ruled? {
+        Some(next) => Ok(Draft {
             understood: true,
             ..next
         }),
-        Ok(None) => {
-            if is_filler(word) {
-                Ok(draft)
-            } else {
-                Ok(draft.ignore(left))
-            }
-        }
-        Err(fault) => Err(fault),
+        None if is_filler(word) => Ok(draft),
+        None => Ok(draft.ignore(left)),
     }
 }
 
@@ -217,7 +205,7 @@ fn begins_with_digits(text: &[u8]) -> bool
 }
 
 /// What letters make of a draft, by the text after them. No word that has a digit is known.
-#[tactic(auto, unfolding(crate::specs::ApproximateRules::letters_rule))]
+#[tactic(auto, unfolding(crate::specs::Approximate::Rules::letters_rule))]
 pub(crate) fn letters_rule(
     moment: Zoned<'_>,
     today: ShownClock,
@@ -242,7 +230,7 @@ fn letters_left(run: &[u8], text: &[u8]) -> usize
 }
 
 /// Whether three digits or more begin with 0.
-#[tactic(auto, unfolding(crate::specs::ApproximateRules::is_padded))]
+#[tactic(auto, unfolding(crate::specs::Approximate::Rules::is_padded))]
 fn is_padded(run: &[u8]) -> bool
     ensures { result ≡ is_padded run.now }
 {
@@ -253,7 +241,7 @@ fn is_padded(run: &[u8]) -> bool
 }
 
 /// A number waits, unless it is 0 or padded.
-#[tactic(auto, unfolding(crate::specs::ApproximateRules::number_waits))]
+#[tactic(auto, unfolding(crate::specs::Approximate::Rules::number_waits))]
 fn number_waits(draft: Draft, value: u64, run: &[u8], left: usize) -> Draft
     requires { value ≡ number run.now }
     ensures { result ≡ number_waits draft run.now left }
@@ -268,7 +256,7 @@ fn number_waits(draft: Draft, value: u64, run: &[u8], left: usize) -> Draft
 }
 
 /// What the group says that begins with these digits, if it is taken.
-#[tactic(auto, unfolding(crate::specs::ApproximateRules::group_said))]
+#[tactic(auto, unfolding(crate::specs::Approximate::Rules::group_said))]
 fn group_said<'a>(now: Now, fields: Fields, n: u64, run: &[u8], text: &'a [u8]) -> Stepped<'a>
     requires { n ≡ number run.now }
     ensures value { step_view result ≡ group_said now fields run.now (tokens text.now) }
@@ -291,7 +279,7 @@ fn group_said<'a>(now: Now, fields: Fields, n: u64, run: &[u8], text: &'a [u8]) 
 }
 
 /// What digits make of a draft, and what is left to read, before an ending of theirs.
-#[tactic(auto, unfolding(crate::specs::ApproximateRules::digits_rule))]
+#[tactic(auto, unfolding(crate::specs::Approximate::Rules::digits_rule))]
 pub(crate) fn digits_rule<'a>(
     now: Now,
     draft: Draft,
@@ -310,9 +298,8 @@ pub(crate) fn digits_rule<'a>(
         understood: true,
         ..draft.settle()
     };
-    match group_said(now, ready.fields, n, run, text) {
-        Ok((Some(fields), rest)) => Ok((Draft { fields, ..ready }, rest)),
-        Ok((None, rest)) => Ok((number_waits(ready, n, run, left), rest)),
-        Err(fault) => Err(fault),
+    match group_said(now, ready.fields, n, run, text)? {
+        (Some(fields), rest) => Ok((Draft { fields, ..ready }, rest)),
+        (None, rest) => Ok((number_waits(ready, n, run, left), rest)),
     }
 }

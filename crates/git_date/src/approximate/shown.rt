@@ -1,8 +1,8 @@
 //! What a clock shows from 1900 on, and the seconds that fields come to whose date is not all said.
 ghost use Rattle.std.specs.Prelude.{◌≡◌, ◌^◌, pos, neg_ℤ, IfSome};
 ghost use Rattle.jiff_core.specs.Calendar.{IsBetween};
-ghost use Rattle.git_date.specs.ApproximateClocks.{is_shown, shown_at, year_of_month, filled_seconds};
-ghost use Rattle.git_date.specs.Dates.{IsSmall};
+ghost use Rattle.git_date.specs.Approximate.Clocks.{is_shown, shown_at, year_of_month, filled_seconds};
+ghost use Rattle.git_date.specs.Rules.Dates.{IsSmall};
 
 use crate::clocks::{LAST_OF_YEAR_9999, ShownClock, clock_of};
 use crate::dates::{first_second, seconds_after};
@@ -41,7 +41,7 @@ fn year_of_month(today: ShownClock, month: u8) -> u16
 }
 
 /// The seconds that a clock has counted when it shows these fields, where the date is today's as far as it is not said.
-#[tactic(auto, unfolding(crate::specs::ApproximateClocks::filled_seconds))]
+#[tactic(auto, unfolding(crate::specs::Approximate::Clocks::filled_seconds))]
 pub(crate) fn filled_seconds(today: ShownClock, fields: Fields) -> Option<i64>
     ensures value { result ≡ filled_seconds today fields }
     ensures small { IfSome result (λ s. IsBetween (neg_ℤ (pos (10 ^ 16))) (pos (10 ^ 16)) s) }

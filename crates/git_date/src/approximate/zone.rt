@@ -2,7 +2,7 @@
 ghost use Rattle.std.specs.Prelude.{◌≡◌, ◌^◌, pos, neg_ℤ, IfSome};
 ghost use Rattle.jiff_core.specs.Calendar.{IsBetween};
 ghost use Rattle.gix_date.specs.Relative.Steps.{zone_of};
-ghost use Rattle.git_date.specs.ApproximateZones.{choices_of, shown_in, filled_time, moved_to, fill};
+ghost use Rattle.git_date.specs.Approximate.Zones.{choices_of, shown_in, filled_time, moved_to, fill};
 
 use crate::approximate::drafts::Draft;
 use crate::approximate::shown::{filled_seconds, shown_at};
@@ -13,7 +13,7 @@ use crate::zones::{local_offset, offset_at};
 use gix_date::{Time, Zoned};
 
 /// The time at which the clock of the moment's zone has counted so many seconds since 1970-01-01 00:00:00, with a preferred offset.
-#[tactic(auto, unfolding(crate::specs::ApproximateZones::choices_of))]
+#[tactic(auto, unfolding(crate::specs::Approximate::Zones::choices_of))]
 fn picked(moment: Zoned<'_>, preferred: i32, local: i64) -> Option<Time>
     ensures value { result ≡ (choices_of (zone_of moment.entry)).picks preferred local }
     ensures small { IfSome result (λ t. IsBetween (neg_ℤ (pos (10 ^ 15))) (pos (10 ^ 15)) t.seconds) }
@@ -39,7 +39,7 @@ pub(crate) fn shown_in(moment: Zoned<'_>, instant: i64) -> Option<ShownClock>
 }
 
 /// The time at which the clock of the moment's zone shows these fields, with a preferred offset.
-#[tactic(auto, unfolding(crate::specs::ApproximateZones::filled_time))]
+#[tactic(auto, unfolding(crate::specs::Approximate::Zones::filled_time))]
 pub(crate) fn filled_time(
     moment: Zoned<'_>,
     today: ShownClock,
@@ -49,14 +49,11 @@ pub(crate) fn filled_time(
     ensures value { result ≡ filled_time (choices_of (zone_of moment.entry)) today preferred fields }
     ensures small { IfSome result (λ t. IsBetween (neg_ℤ (pos (10 ^ 15))) (pos (10 ^ 15)) t.seconds) }
 {
-    match filled_seconds(today, fields) {
-        Some(seconds) => picked(moment, preferred, seconds),
-        None => None,
-    }
+    picked(moment, preferred, filled_seconds(today, fields)?)
 }
 
 /// With the zone's clock at an instant.
-#[tactic(auto, unfolding(crate::specs::ApproximateZones::moved_to))]
+#[tactic(auto, unfolding(crate::specs::Approximate::Zones::moved_to))]
 pub(crate) fn moved_to(
     moment: Zoned<'_>,
     draft: Draft,
@@ -72,7 +69,7 @@ pub(crate) fn moved_to(
 }
 
 /// With the zone's clock so many seconds before it shows the fields, where the date is today's as far as it is not said.
-#[tactic(auto, unfolding(crate::specs::ApproximateZones::fill))]
+#[tactic(auto, unfolding(crate::specs::Approximate::Zones::fill))]
 pub(crate) fn fill(
     moment: Zoned<'_>,
     today: ShownClock,

@@ -1,7 +1,7 @@
 //! How long ago a time was.
 ghost use Rattle.std.specs.Prelude.{◌≡◌, ◌+◌, ◌^◌, ◌≤◌, ◌<◌, ◌≤ℤ◌, ◌++◌, length, pos};
 ghost use Rattle.arrayvec.specs.ArrayString.{array_string_len};
-ghost use Rattle.git_date.specs.ShowAges.{age_of, age_of_days, age_text, and_months, counted, in_years_and_months, relative_text, rounded};
+ghost use Rattle.git_date.specs.Show.Ages.{age_of, age_of_days, age_text, and_months, counted, in_years_and_months, relative_text, rounded};
 
 use crate::show::DateText;
 use arrayvec::ArrayString;
@@ -29,7 +29,7 @@ fn rounded(n: u64, length: u64) -> u64
 }
 
 /// An age of so many days, in days or a larger unit.
-#[tactic(auto, unfolding(crate::specs::ShowAges::age_of_days))]
+#[tactic(auto, unfolding(crate::specs::Show::Ages::age_of_days))]
 fn age_of_days(days: u64) -> Age
     requires { days < 10_000_000 }
     ensures { result ≡ age_of_days days }
@@ -55,7 +55,7 @@ fn in_years_and_months(months: u64) -> Age
 }
 
 /// An age of so many seconds.
-#[tactic(auto, unfolding(crate::specs::ShowAges::age_of))]
+#[tactic(auto, unfolding(crate::specs::Show::Ages::age_of))]
 fn age_of(seconds: u64) -> Age
     requires { seconds ≤ 253_402_207_200 }
     ensures { result ≡ age_of seconds }
@@ -119,7 +119,7 @@ fn push_age(text: &mut DateText, age: Age)
 }
 
 /// How long ago a time was, at a moment. Both are in seconds since 1970.
-#[tactic(auto, unfolding(crate::specs::ShowAges::relative_text))]
+#[tactic(auto, unfolding(crate::specs::Show::Ages::relative_text))]
 pub(crate) fn relative_text(now: i64, seconds: i64) -> DateText
     requires now { now ≤ℤ pos 253_402_207_200 }
     requires seconds { pos 0 ≤ℤ seconds }

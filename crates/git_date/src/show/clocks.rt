@@ -1,9 +1,9 @@
 //! What clocks show: a time's own, or that of a zone.
 ghost use Rattle.std.specs.Prelude.{◌≡◌, ◌<◌, IfSome, option_map, unsigned_abs};
 ghost use Rattle.jiff.specs.Words.{plain_zone};
-ghost use Rattle.git_date.specs.Clocks.{local_of, HasFields};
-ghost use Rattle.git_date.specs.ShowClocks.{has_own_clock, has_zone_clock, is_dated, is_written_offset};
-ghost use Rattle.git_date.specs.ShowClocks.{known_offset, own_clock, zone_clock};
+ghost use Rattle.git_date.specs.Rules.Clocks.{local_of, HasFields};
+ghost use Rattle.git_date.specs.Show.Clocks.{has_own_clock, has_zone_clock, is_dated, is_written_offset};
+ghost use Rattle.git_date.specs.Show.Clocks.{known_offset, own_clock, zone_clock};
 
 use crate::clocks::{LAST_OF_YEAR_9999, LAST_SECOND, ShownClock, clock_of, local_seconds};
 use gix_date::Time;

@@ -4,9 +4,9 @@ ghost use Rattle.arrayvec.specs.ArrayString.{array_string_len};
 ghost use Rattle.gix_date.specs.Header.Text.{written_text};
 ghost use Rattle.gix_date.specs.Printing.NamedTexts.{short_text, iso8601_text, iso8601_strict_text, git_rfc2822_text};
 ghost use Rattle.gix_date.specs.Text.Numbers.{decimal_text};
-ghost use Rattle.git_date.specs.Show.{raw_text};
-ghost use Rattle.git_date.specs.ShowTexts.{bare_default_text, git_default_text};
-ghost use Rattle.git_date.specs.Clocks.{local_of, HasFields};
+ghost use Rattle.git_date.specs.Show.Dates.{raw_text};
+ghost use Rattle.git_date.specs.Show.Texts.{bare_default_text, git_default_text};
+ghost use Rattle.git_date.specs.Rules.Clocks.{local_of, HasFields};
 
 use crate::clocks::ShownClock;
 use crate::show::DateText;

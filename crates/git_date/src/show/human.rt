@@ -1,8 +1,8 @@
 //! Human dates: as much as tells a date from now.
 ghost use Rattle.std.specs.Prelude.{◌≡◌};
-ghost use Rattle.git_date.specs.ShowHuman.{distance_of, is_few_days_before, is_same_day, few_days_text, human_text};
-ghost use Rattle.git_date.specs.ShowTexts.{year_text, day_and_clock_text};
-ghost use Rattle.git_date.specs.Clocks.{local_of, HasFields};
+ghost use Rattle.git_date.specs.Show.Human.{distance_of, is_few_days_before, is_same_day, few_days_text, human_text};
+ghost use Rattle.git_date.specs.Show.Texts.{year_text, day_and_clock_text};
+ghost use Rattle.git_date.specs.Rules.Clocks.{local_of, HasFields};
 
 use crate::clocks::ShownClock;
 use crate::show::DateText;

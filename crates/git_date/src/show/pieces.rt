@@ -8,8 +8,8 @@ ghost use Rattle.gix_date.specs.Text.Numbers.{two_digits};
 ghost use Rattle.gix_date.specs.Fields.ClockNumbers.{hours_in, minutes_in};
 ghost use Rattle.gix_date.specs.Fields.FieldTexts.{four_digits, date_text, clock_text};
 ghost use Rattle.gix_date.specs.Fields.Offsets.{compact_offset_text, offset_sign};
-ghost use Rattle.git_date.specs.ShowTexts.{short_clock_text};
-ghost use Rattle.git_date.specs.Clocks.{local_of, HasFields};
+ghost use Rattle.git_date.specs.Show.Texts.{short_clock_text};
+ghost use Rattle.git_date.specs.Rules.Clocks.{local_of, HasFields};
 
 use crate::clocks::ShownClock;
 use crate::show::DateText;

@@ -1,6 +1,6 @@
 use Rattle.gix_date.specs.Relative.Steps.{zone_of}
-use Rattle.git_date_laws.proofs.RawBack.{raw-back}
-use Rattle.git_date.specs.Dates.{now_of}
+use Rattle.git_date_laws.proofs.Printing.RawBack.{raw-back}
+use Rattle.git_date.specs.Rules.Dates.{now_of}
 use Rattle.git_date_laws.proofs.raw_read_back.Goals as goal
 
 pub returns : goal.returns

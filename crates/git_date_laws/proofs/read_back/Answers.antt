@@ -1,4 +1,4 @@
-use Rattle.git_date_laws.proofs.Printed.{any_printed}
+use Rattle.git_date_laws.proofs.Printing.Printed.{any_printed}
 use Rattle.git_date_laws.proofs.read_back.Goals as goal
 
 pub returns : goal.returns

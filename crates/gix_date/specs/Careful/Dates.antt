@@ -59,8 +59,8 @@ is_number rule text = is_some (raw_time_by rule text) || is_some (int_value text
 unfoldable pub is_large_if_number : OffsetRule → List ℕ → Time → Bool
 is_large_if_number rule text t = le_z min_bare_epoch t.seconds || not (is_number rule text)
 
--- The time is of the year 9999 at the latest, by UTC, or the text is no number of seconds. No format prints a later time:
--- a larger number could be milliseconds, or a date and a clock in digits alone.
+-- The time is of the year 9999 at the latest, by UTC, or the text is no number of seconds. A larger number could be
+-- milliseconds, or a date and a clock in digits alone.
 unfoldable pub is_in_years_if_number : OffsetRule → List ℕ → Time → Bool
 is_in_years_if_number rule text t = le_z t.seconds last_of_year_9999 || not (is_number rule text)
 

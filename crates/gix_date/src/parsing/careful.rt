@@ -328,7 +328,7 @@ fn is_large_if_number(input: &str, time: Time, raw: RawOffsets) -> bool
     time.seconds >= MIN_EPOCH || !is_number(input, raw)
 }
 
-/// Whether a number has seconds that some format prints.
+/// Whether a number has seconds of the year 9999 at the latest.
 #[tactic(auto, unfolding(crate::specs::Careful::Dates::is_in_years_if_number))]
 fn is_in_years_if_number(input: &str, time: Time, raw: RawOffsets) -> bool
     ensures { result ≡ is_in_years_if_number (allows raw) input.now time }
@@ -386,7 +386,7 @@ fn local_time(time: Time, now: Option<Zoned<'_>>) -> Result<Time, CarefulError>
 /// there.
 ///
 /// The zone chooses as for [`WithoutOffset::MomentsZone`]. `None` if it has no instant for that clock. Takes no memory.
-pub fn time_in_zone(time: Time, moment: Zoned<'_>) -> Option<Time>
+fn time_in_zone(time: Time, moment: Zoned<'_>) -> Option<Time>
     requires { is_instant time.seconds ≡ true }
     ensures local { IsLocalIfAny (zone_of moment.entry) time result }
     ensures offset_fits { IfSome result (λ t. IsOffsetSeconds t.offset) }

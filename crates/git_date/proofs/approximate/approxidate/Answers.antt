@@ -1,11 +1,11 @@
 use Rattle.std.proofs.Common.{◌≡◌, ◌∙◌, sym, ap, subst, Result}
 use Rattle.gix_date.specs.Relative.Steps.{zone_of}
-use Rattle.git_date.specs.Approximate.{approximate, exact_or_guess, guess, HasApproximatePlacesIn}
-use Rattle.git_date.specs.ApproximateZones.{choices_of}
-use Rattle.git_date.specs.Dates.{now_of}
+use Rattle.git_date.specs.Approximate.Reading.{approximate, exact_or_guess, guess, HasApproximatePlacesIn}
+use Rattle.git_date.specs.Approximate.Zones.{choices_of}
+use Rattle.git_date.specs.Rules.Dates.{now_of}
 use Rattle.git_date.specs.declared.date.ReadDate.{ReadDate}
 use Rattle.git_date.specs.declared.error.DateError.{DateError}
-use Rattle.git_date.proofs.ApproximatePlaces.{approximate-places}
+use Rattle.git_date.proofs.Guesses.Places.{approximate-places}
 use Rattle.git_date.proofs.approximate.approxidate.Goals as goal
 
 pub returns-in-Err-clause-places : goal.returns-in-Err-clause-places

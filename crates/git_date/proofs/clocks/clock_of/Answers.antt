@@ -5,7 +5,7 @@ use Rattle.jiff_core.proofs.DateLemmas.{epoch_day_range}
 use Rattle.jiff_core.proofs.CalendarLemmas.{days_in_month_bounds, weekday_number_bound}
 use Rattle.jiff_core.proofs.SignedLemmas.{signed_arith, one_part}
 use Rattle.gix_date.specs.Printing.LocalClocks.{local_day, second_of_day}
-use Rattle.git_date.proofs.HeldClocks.{shown-by}
+use Rattle.git_date.proofs.Rules.HeldClocks.{shown-by}
 use Rattle.git_date.proofs.clocks.clock_of.Goals as goal
 
 pub weekday_of-requires : goal.weekday_of-requires

@@ -5,8 +5,8 @@ use Rattle.jiff_core.proofs.SignedLemmas.{signed_arith}
 use Rattle.gix_date.specs.Families.Epoch.{utc_time}
 use Rattle.gix_date.specs.Printing.LocalClocks.{clock_of}
 use Rattle.gix_date.specs.declared.time.Time.{Time}
-use Rattle.git_date.specs.Clocks.{local_of, held_clock, IsShowable}
-use Rattle.git_date.proofs.HeldClocks.{no-clock, a-clock, utc-showable}
+use Rattle.git_date.specs.Rules.Clocks.{local_of, held_clock, IsShowable}
+use Rattle.git_date.proofs.Rules.HeldClocks.{no-clock, a-clock, utc-showable}
 use Rattle.git_date.proofs.clocks.utc_clock.Goals as goal
 
 pub returns-then-seconds : goal.returns-then-seconds

@@ -2,8 +2,8 @@ use Rattle.std.proofs.Common.{◌≡◌, ◌∙◌, ap, Bool, Ok, pos, ◌*ℤ�
 use Rattle.std.proofs.lemmas.Int.{to_z-of_z}
 use Rattle.std.specs.Int.Signed.{le_z}
 use Rattle.jiff_core.proofs.SignedLemmas.{signed_arith}
-use Rattle.git_date.specs.Outcome.{instant_seconds}
-use Rattle.git_date.proofs.ZoneOffsets.{a-date}
+use Rattle.git_date.specs.Exact.Outcome.{instant_seconds}
+use Rattle.git_date.proofs.Exact.ZoneOffsets.{a-date}
 use Rattle.git_date.proofs.date.date_at.Goals as goal
 
 pub returns-then-seconds-ge0 : goal.returns-then-seconds-ge0

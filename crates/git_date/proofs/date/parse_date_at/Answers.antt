@@ -1,9 +1,9 @@
 use Rattle.std.proofs.Common.{◌∙◌, ◌≡◌, sym, ap, subst}
 use Rattle.jiff.specs.Words.{plain_zone}
-use Rattle.git_date.specs.Dates.{now_at}
-use Rattle.git_date.specs.Outcome.{date_of, HasPlacesIn}
-use Rattle.git_date.specs.Reading.{said_by}
-use Rattle.git_date.proofs.Places.{places}
+use Rattle.git_date.specs.Rules.Dates.{now_at}
+use Rattle.git_date.specs.Exact.Outcome.{date_of, HasPlacesIn}
+use Rattle.git_date.specs.Exact.Reading.{said_by}
+use Rattle.git_date.proofs.Exact.Places.{places}
 use Rattle.git_date.proofs.date.parse_date_at.Goals as goal
 
 pub returns-clause-places : goal.returns-clause-places

@@ -6,9 +6,9 @@ use Rattle.jiff_core.specs.Date.{epoch_day}
 use mir.Val.{hbits}
 use Rattle.gix_date.specs.Fields.Civil.{civil_seconds}
 use Rattle.gix_date.specs.Families.Patterns.{midnight}
-use Rattle.git_date.specs.ApproximateClocks.{is_shown_month}
-use Rattle.git_date.specs.Dates.{first_of}
-use Rattle.git_date.proofs.ApproximateClocks.{year-within, month-within, none-first, a-first}
+use Rattle.git_date.specs.Approximate.Clocks.{is_shown_month}
+use Rattle.git_date.specs.Rules.Dates.{first_of}
+use Rattle.git_date.proofs.Guesses.Clocks.{year-within, month-within, none-first, a-first}
 use Rattle.git_date.proofs.dates.first_second.Goals as goal
 
 pub returns-then-not-is_shown_month-clause-value : goal.returns-then-not-is_shown_month-clause-value

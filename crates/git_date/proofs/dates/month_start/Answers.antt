@@ -1,5 +1,5 @@
 use Rattle.std.proofs.Common.{◌∙◌, sym}
-use Rattle.git_date.proofs.Months.{no-month, a-month}
+use Rattle.git_date.proofs.Rules.Months.{no-month, a-month}
 use Rattle.git_date.proofs.dates.month_start.Goals as goal
 
 pub returns-then-is_month-clause-value : goal.returns-then-is_month-clause-value

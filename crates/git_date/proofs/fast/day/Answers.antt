@@ -1,6 +1,6 @@
 use Rattle.std.proofs.Common.{◌≡◌, ◌∙◌, ◌+◌, ℕ, List, [], ◌∷◌, length, get_or, inr, Option, Some, None, IfSome, ap, arith}
 use Rattle.std.proofs.lemmas.Fmt.{decimal_digit}
-use Rattle.git_date.specs.Fast.{WritesTwo, WritesDay}
+use Rattle.git_date.specs.Exact.Fast.{WritesTwo, WritesDay}
 use Rattle.git_date.proofs.fast.day.Goals as goal
 
 one-digit : (text : List ℕ) (found : Option ℕ) → length text ≡ 1 → IfSome found (WritesTwo 1 9 48 (get_or text 0 0)) → IfSome found (WritesDay text)

@@ -1,8 +1,8 @@
 use Rattle.std.proofs.Common.{◌∙◌, ◌++◌, take-append-drop, FitsSigned, w16, None, Ok, ap, ap₂, sym, List, ℕ, rules}
 use Rattle.std.proofs.lemmas.Int.{to_z-of_z}
-use Rattle.git_date.specs.Reading.{fields_said}
+use Rattle.git_date.specs.Exact.Reading.{fields_said}
 use Rattle.git_date.specs.declared.fields.Fields.{Fields}
-use Rattle.git_date.proofs.FastTexts.{strict-says}
+use Rattle.git_date.proofs.Exact.FastTexts.{strict-says}
 use Rattle.git_date.proofs.fast.iso8601_strict.Goals as goal
 
 pub returns : goal.returns

@@ -1,7 +1,7 @@
 use Rattle.std.proofs.Common.{sym, subst, FitsSigned, w16, rules}
 use Rattle.std.proofs.lemmas.Int.{to_z-of_z}
-use Rattle.git_date.specs.Fast.{Says}
-use Rattle.git_date.proofs.FastSeconds.{raw-text, at-text}
+use Rattle.git_date.specs.Exact.Fast.{Says}
+use Rattle.git_date.proofs.Exact.FastSeconds.{raw-text, at-text}
 use Rattle.git_date.proofs.fast.printed_seconds.Goals as goal
 
 pub returns-in_ok-seconds-in-len1-up-clause-says : goal.returns-in_ok-seconds-in-len1-up-clause-says

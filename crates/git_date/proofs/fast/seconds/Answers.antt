@@ -1,6 +1,6 @@
 use Rattle.std.proofs.Common.{◌≡◌, ◌+◌, ◌*◌, sym, subst, arith}
-use Rattle.git_date.specs.Fast.{WritesSeconds}
-use Rattle.git_date.proofs.FastSeconds.{ten-digits}
+use Rattle.git_date.specs.Exact.Fast.{WritesSeconds}
+use Rattle.git_date.proofs.Exact.FastSeconds.{ten-digits}
 use Rattle.git_date.proofs.fast.seconds.Goals as goal
 
 pub returns-in_ok-fifth-in-len10 : goal.returns-in_ok-fifth-in-len10

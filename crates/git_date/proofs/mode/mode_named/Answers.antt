@@ -1,9 +1,9 @@
 use Rattle.std.proofs.Common.{◌∙◌, ap, List, ℕ, option_map}
 use Rattle.std.specs.List.{find}
 use Rattle.std.specs.Str.{bytes_eq}
-use Rattle.git_date.specs.Modes.{mode_named}
+use Rattle.git_date.specs.Show.Modes.{mode_named}
 use Rattle.git_date.specs.declared.mode.DateMode.{DateMode}
-use Rattle.git_date.proofs.ModeRows.{mode-rows, said}
+use Rattle.git_date.proofs.Rows.ModeRows.{mode-rows, said}
 use Rattle.git_date.proofs.mode.mode_named.Goals as goal
 
 pub returns : goal.returns

@@ -1,6 +1,6 @@
 use Rattle.std.proofs.Common.{◌∙◌}
-use Rattle.git_date.specs.Names.{zone_named}
-use Rattle.git_date.proofs.ZoneRows.{zone-between}
+use Rattle.git_date.specs.Tokens.Names.{zone_named}
+use Rattle.git_date.proofs.Rows.ZoneRows.{zone-between}
 use Rattle.git_date.proofs.names.zone_named.Goals as goal
 
 pub returns : goal.returns

@@ -1,5 +1,5 @@
 use Rattle.std.proofs.Common.{◌∙◌}
-use Rattle.git_date.proofs.Saturated.{saturated-is}
+use Rattle.git_date.proofs.Rules.Saturated.{saturated-is}
 use Rattle.git_date.proofs.numbers.number.Goals as goal
 
 pub returns : goal.returns

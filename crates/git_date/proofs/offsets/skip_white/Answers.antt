@@ -1,6 +1,6 @@
 use Rattle.std.proofs.Common.{◌∙◌, sym}
-use Rattle.git_date.specs.Tokens.{token_of}
-use Rattle.git_date.proofs.Whites.{skipped-one, count-at, rest-at, count-none, rest-none}
+use Rattle.git_date.specs.Tokens.Tokens.{token_of}
+use Rattle.git_date.proofs.Text.Whites.{skipped-one, count-at, rest-at, count-none, rest-none}
 use Rattle.git_date.proofs.offsets.skip_white.Goals as goal
 
 pub white-preserved : goal.white-preserved

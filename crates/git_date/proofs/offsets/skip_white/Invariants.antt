@@ -1,5 +1,5 @@
 use Rattle.std.proofs.Common.{length}
-use Rattle.git_date.proofs.Whites.{Skipped}
+use Rattle.git_date.proofs.Text.Whites.{Skipped}
 use Rattle.git_date.proofs.offsets.skip_white.Given as goal
 
 abbrev pub invariant-white : goal.invariant-white

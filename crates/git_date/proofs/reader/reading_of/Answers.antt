@@ -1,8 +1,8 @@
 use Rattle.std.proofs.Common.{◌∙◌, sym, subst}
-use Rattle.git_date.specs.Tokens.{token_of}
-use Rattle.git_date.specs.Reading.{step, nothing_read, reading_of}
+use Rattle.git_date.specs.Tokens.Tokens.{token_of}
+use Rattle.git_date.specs.Exact.Reading.{step, nothing_read, reading_of}
 use Rattle.git_date.specs.declared.reader.Reading.{Reading}
-use Rattle.git_date.proofs.Folds.{Left, left-all, left-none, left-ends, left-next, step-end, step-refused, step-next}
+use Rattle.git_date.proofs.Text.Folds.{Left, left-all, left-none, left-ends, left-next, step-end, step-refused, step-next}
 use Rattle.git_date.proofs.reader.reading_of.Goals as goal
 
 pub tokens-init : goal.tokens-init

@@ -1,6 +1,6 @@
 use Rattle.std.proofs.Common.{length}
-use Rattle.git_date.specs.Reading.{step, reading_of}
-use Rattle.git_date.proofs.Folds.{Left}
+use Rattle.git_date.specs.Exact.Reading.{step, reading_of}
+use Rattle.git_date.proofs.Text.Folds.{Left}
 use Rattle.git_date.proofs.reader.reading_of.Given as goal
 
 abbrev pub invariant-tokens : goal.invariant-tokens

@@ -1,6 +1,6 @@
 use Rattle.std.proofs.Common.{◌∙◌, sym}
-use Rattle.git_date.specs.Dates.{now_at}
-use Rattle.git_date.proofs.FewDigits.{few-digits}
+use Rattle.git_date.specs.Rules.Dates.{now_at}
+use Rattle.git_date.proofs.Exact.FewDigits.{few-digits}
 use Rattle.git_date.proofs.reader.tokens_said.Goals as goal
 
 pub returns-then-has_few_digits-clause-value : goal.returns-then-has_few_digits-clause-value

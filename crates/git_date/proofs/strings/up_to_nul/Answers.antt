@@ -1,5 +1,5 @@
 use Rattle.std.proofs.Common.{◌∙◌, ℕ, ap, sym, Some}
-use Rattle.git_date.proofs.StringEnds.{holds-none, holds-one, all-before, no-place, some-place}
+use Rattle.git_date.proofs.Text.StringEnds.{holds-none, holds-one, all-before, no-place, some-place}
 use Rattle.git_date.proofs.strings.up_to_nul.Goals as goal
 
 pub returns-then-not-contains-clause-string : goal.returns-then-not-contains-clause-string

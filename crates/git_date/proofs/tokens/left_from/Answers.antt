@@ -1,7 +1,7 @@
 use Rattle.std.proofs.Common.{◌∙◌, ◌+◌, length, List, ℕ, ap, sym}
 use Rattle.std.proofs.Math.ListN.{length-append}
-use Rattle.git_date.specs.Tokens.{tokens, texts}
-use Rattle.git_date.proofs.TokenRuns.{texts_are}
+use Rattle.git_date.specs.Tokens.Tokens.{tokens, texts}
+use Rattle.git_date.proofs.Text.TokenRuns.{texts_are}
 use Rattle.git_date.proofs.tokens.left_from.Goals as goal
 
 pub returns : goal.returns

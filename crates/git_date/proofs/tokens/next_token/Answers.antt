@@ -2,7 +2,7 @@ use Rattle.std.proofs.Common.{◌∙◌, sym, arith}
 use Rattle.std.proofs.lemmas.Grind.{common_steps}
 use Rattle.std.proofs.lemmas.List.Sums.{prefix_len-le-length}
 use Rattle.std.specs.Char.{is_ascii_alphabetic, is_ascii_digit}
-use Rattle.git_date.proofs.TokenRuns.{letters-front, digits-front, mark-front, nothing-first}
+use Rattle.git_date.proofs.Text.TokenRuns.{letters-front, digits-front, mark-front, nothing-first}
 use Rattle.git_date.proofs.tokens.next_token.Goals as goal
 
 pub split_at-requires : goal.split_at-requires

@@ -4,8 +4,8 @@ use Rattle.jiff.specs.Words.{plain_zone, plain_info, nanos_of_seconds}
 use Rattle.jiff_core.proofs.SignedLemmas.{signed_arith}
 use Rattle.gix_date.proofs.Fields.Instants.{instant_holds}
 use Rattle.jiff_tz.specs.Flag.{is_dst}
-use Rattle.git_date.specs.Zones.{daylight_at}
-use Rattle.git_date.proofs.ZoneOffsets.{daylight-told}
+use Rattle.git_date.specs.Exact.Zones.{daylight_at}
+use Rattle.git_date.proofs.Exact.ZoneOffsets.{daylight-told}
 use Rattle.git_date.proofs.zones.is_daylight_by.Goals as goal
 
 pub returns : goal.returns

@@ -1,8 +1,8 @@
 use Rattle.std.proofs.Common.{rules, ◌≡◌, ◌∙◌, Some, None, sym, subst, FitsSigned, w64, w32}
 use Rattle.std.proofs.lemmas.Int.{to_z-of_z}
 use Rattle.jiff.specs.Words.{plain_zone}
-use Rattle.git_date.specs.Zones.{offsets_of, shows, searched_offset}
-use Rattle.git_date.proofs.ZoneOffsets.{shown-near, searched-near, Near}
+use Rattle.git_date.specs.Exact.Zones.{offsets_of, shows, searched_offset}
+use Rattle.git_date.proofs.Exact.ZoneOffsets.{shown-near, searched-near, Near}
 use Rattle.git_date.proofs.zones.local_offset.Goals as goal
 
 pub returns-then-shows-clause-near : goal.returns-then-shows-clause-near

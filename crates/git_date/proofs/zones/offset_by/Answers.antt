@@ -3,7 +3,7 @@ use Rattle.std.proofs.lemmas.Int.{to_z-of_z}
 use Rattle.jiff.specs.Words.{plain_zone}
 use Rattle.jiff_core.proofs.SignedLemmas.{signed_arith}
 use Rattle.gix_date.proofs.Fields.Instants.{instant_holds}
-use Rattle.git_date.specs.Zones.{offsets_of}
+use Rattle.git_date.specs.Exact.Zones.{offsets_of}
 use Rattle.git_date.proofs.zones.offset_by.Goals as goal
 
 pub overflow_sub-local : goal.overflow_sub-local

@@ -2,8 +2,8 @@ use Rattle.std.proofs.Common.{rules, ◌≡◌, ◌∙◌, ◌-ℤ◌, true, fal
 use Rattle.std.proofs.lemmas.Int.{to_z-of_z}
 use Rattle.std.specs.Ordering.{int_eq}
 use Rattle.jiff.specs.Words.{plain_zone}
-use Rattle.git_date.specs.Zones.{offsets_of, second_offset}
-use Rattle.git_date.proofs.ZoneOffsets.{Says, is-instant-there, same-bits, other-bits, second-leads}
+use Rattle.git_date.specs.Exact.Zones.{offsets_of, second_offset}
+use Rattle.git_date.proofs.Exact.ZoneOffsets.{Says, is-instant-there, same-bits, other-bits, second-leads}
 use Rattle.git_date.proofs.zones.searched_offset.Goals as goal
 
 pub returns-then-second-first : goal.returns-then-second-first

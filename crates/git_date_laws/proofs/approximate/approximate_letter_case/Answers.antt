@@ -1,4 +1,4 @@
-use Rattle.git_date_laws.proofs.Guesses.{same_in_any_case}
+use Rattle.git_date_laws.proofs.Whole.Guesses.{same_in_any_case}
 use Rattle.git_date_laws.proofs.approximate.approximate_letter_case.Goals as goal
 
 pub returns : goal.returns

@@ -1,4 +1,4 @@
-use Rattle.git_date_laws.proofs.UpToNul.{answers_up_to_nul}
+use Rattle.git_date_laws.proofs.Alike.UpToNul.{answers_up_to_nul}
 use Rattle.git_date_laws.proofs.approximate.approximate_up_to_nul.Goals as goal
 
 pub returns : goal.returns

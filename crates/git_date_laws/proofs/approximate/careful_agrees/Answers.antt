@@ -1,4 +1,4 @@
-use Rattle.git_date_laws.proofs.Agreement.{agrees}
+use Rattle.git_date_laws.proofs.Whole.Agreement.{agrees}
 use Rattle.git_date_laws.proofs.approximate.careful_agrees.Goals as goal
 
 pub returns : goal.returns

@@ -1,4 +1,4 @@
-use Rattle.git_date_laws.proofs.Guesses.{exact_answers}
+use Rattle.git_date_laws.proofs.Whole.Guesses.{exact_answers}
 use Rattle.git_date_laws.proofs.approximate.exact_answer.Goals as goal
 
 pub returns : goal.returns

@@ -1,4 +1,4 @@
-use Rattle.git_date_laws.proofs.Guesses.{exactly_backs}
+use Rattle.git_date_laws.proofs.Whole.Guesses.{exactly_backs}
 use Rattle.git_date_laws.proofs.approximate.exactly_back.Goals as goal
 
 pub returns : goal.returns

@@ -1,4 +1,4 @@
-use Rattle.git_date_laws.proofs.UpToNul.{expires_up_to_nul}
+use Rattle.git_date_laws.proofs.Alike.UpToNul.{expires_up_to_nul}
 use Rattle.git_date_laws.proofs.approximate.expiry_up_to_nul.Goals as goal
 
 pub returns : goal.returns

@@ -1,4 +1,4 @@
-use Rattle.git_date_laws.proofs.Guesses.{ignores-marks}
+use Rattle.git_date_laws.proofs.Whole.Guesses.{ignores-marks}
 use Rattle.git_date_laws.proofs.approximate.marks.Goals as goal
 
 pub returns : goal.returns

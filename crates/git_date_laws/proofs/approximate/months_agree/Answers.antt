@@ -1,4 +1,4 @@
-use Rattle.git_date_laws.proofs.MonthsAgreement.{agrees-on-months}
+use Rattle.git_date_laws.proofs.Whole.MonthsAgreement.{agrees-on-months}
 use Rattle.git_date_laws.proofs.approximate.months_agree.Goals as goal
 
 pub returns : goal.returns

@@ -1,4 +1,4 @@
-use Rattle.git_date_laws.proofs.Understood.{moment-unless}
+use Rattle.git_date_laws.proofs.Whole.Understood.{moment-unless}
 use Rattle.git_date_laws.proofs.approximate.not_understood_is_now.Goals as goal
 
 pub returns : goal.returns

@@ -1,4 +1,4 @@
-use Rattle.git_date_laws.proofs.EveryZone.{now-in-every-zone}
+use Rattle.git_date_laws.proofs.Whole.EveryZone.{now-in-every-zone}
 use Rattle.git_date_laws.proofs.approximate.now_in_every_zone.Goals as goal
 
 pub returns : goal.returns

@@ -1,4 +1,4 @@
-use Rattle.git_date_laws.proofs.Guesses.{one_answers}
+use Rattle.git_date_laws.proofs.Whole.Guesses.{one_answers}
 use Rattle.git_date_laws.proofs.approximate.one_answer.Goals as goal
 
 pub returns : goal.returns

@@ -1,4 +1,4 @@
-use Rattle.git_date_laws.proofs.WholePromise.{headline-holds}
+use Rattle.git_date_laws.proofs.Whole.WholePromise.{headline-holds}
 use Rattle.git_date_laws.proofs.promise.headline.Goals as goal
 
 pub returns : goal.returns

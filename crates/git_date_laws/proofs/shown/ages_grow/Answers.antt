@@ -1,4 +1,4 @@
-use Rattle.git_date_laws.proofs.AgeOrder.{ages_grow}
+use Rattle.git_date_laws.proofs.Printing.AgeOrder.{ages_grow}
 use Rattle.git_date_laws.proofs.shown.ages_grow.Goals as goal
 
 pub returns : goal.returns

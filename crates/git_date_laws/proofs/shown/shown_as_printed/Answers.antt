@@ -1,4 +1,4 @@
-use Rattle.git_date_laws.proofs.ShownLaws.{short-alike, iso8601-alike, iso8601-strict-alike, rfc2822-alike, default-alike, raw-alike, unix-alike}
+use Rattle.git_date_laws.proofs.Printing.ShownLaws.{short-alike, iso8601-alike, iso8601-strict-alike, rfc2822-alike, default-alike, raw-alike, unix-alike}
 use Rattle.git_date_laws.proofs.shown.shown_as_printed.Goals as goal
 
 pub returns-clause-short : goal.returns-clause-short

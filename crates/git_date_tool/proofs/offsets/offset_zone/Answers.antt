@@ -1,7 +1,7 @@
 use Rattle.std.proofs.Common.{◌∙◌, rules, ℤ, Option, Some, ap, subst, FitsSigned, w32}
 use Rattle.std.proofs.lemmas.Int.{to_z-of_z}
 use Rattle.jiff.specs.ZoneView.{plain_zone}
-use Rattle.git_date.specs.ZoneTexts.{zone_offset}
+use Rattle.git_date.specs.Exact.ZoneTexts.{zone_offset}
 use Rattle.git_date_tool.specs.Zones.{IsOffsetZone}
 use Rattle.git_date_tool.proofs.offsets.offset_zone.Goals as goal
 

@@ -1,5 +1,5 @@
 use Rattle.std.proofs.Common.{ℕ, List, Ok, refl, subst}
-use Rattle.git_date.specs.Approximate.{ApproximateOutcome}
+use Rattle.git_date.specs.Approximate.Reading.{ApproximateOutcome}
 use Rattle.gix_date_callers.proofs.approximate_caller.since.Goals as goal
 
 pub returns-in-Ok : goal.returns-in-Ok

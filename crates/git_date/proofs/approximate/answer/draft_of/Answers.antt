@@ -1,11 +1,11 @@
 use Rattle.std.proofs.Common.{sym, subst}
 use Rattle.gix_date.specs.Relative.Steps.{zone_of}
-use Rattle.git_date.specs.Approximate.{step, draft_of}
-use Rattle.git_date.specs.ApproximateDrafts.{first_draft}
-use Rattle.git_date.specs.ApproximateZones.{choices_of}
-use Rattle.git_date.specs.Tokens.{token_of}
+use Rattle.git_date.specs.Approximate.Reading.{step, draft_of}
+use Rattle.git_date.specs.Approximate.Drafts.{first_draft}
+use Rattle.git_date.specs.Approximate.Zones.{choices_of}
+use Rattle.git_date.specs.Tokens.Tokens.{token_of}
 use Rattle.git_date.specs.declared.approximate.drafts.Draft.{Draft}
-use Rattle.git_date.proofs.Folds.{Left, left-all, left-none, left-ends, left-next, draft-refused, draft-next}
+use Rattle.git_date.proofs.Text.Folds.{Left, left-all, left-none, left-ends, left-next, draft-refused, draft-next}
 use Rattle.git_date.proofs.approximate.answer.draft_of.Goals as goal
 
 pub tokens-init : goal.tokens-init

@@ -1,8 +1,8 @@
 use Rattle.std.proofs.Common.{length}
 use Rattle.gix_date.specs.Relative.Steps.{zone_of}
-use Rattle.git_date.specs.Approximate.{step, draft_of}
-use Rattle.git_date.specs.ApproximateZones.{choices_of}
-use Rattle.git_date.proofs.Folds.{Left}
+use Rattle.git_date.specs.Approximate.Reading.{step, draft_of}
+use Rattle.git_date.specs.Approximate.Zones.{choices_of}
+use Rattle.git_date.proofs.Text.Folds.{Left}
 use Rattle.git_date.proofs.approximate.answer.draft_of.Given as goal
 
 abbrev pub invariant-tokens : goal.invariant-tokens

@@ -1,7 +1,7 @@
 use Rattle.std.proofs.Common.{◌∙◌, ap, sym, subst, Option}
-use Rattle.git_date.specs.ApproximateExpiry.{expiry_by, fixed_expiry, HasExpiryPlacesIn}
+use Rattle.git_date.specs.Approximate.Expiry.{expiry_by, fixed_expiry, HasExpiryPlacesIn}
 use Rattle.git_date.specs.declared.approximate.expiry.Expiry.{Expiry}
-use Rattle.git_date.proofs.ApproximatePlaces.{expiry-places}
+use Rattle.git_date.proofs.Guesses.Places.{expiry-places}
 use Rattle.git_date.proofs.approximate.expiry.expiry_date.Goals as goal
 
 pub returns-in-Some-clause-places : goal.returns-in-Some-clause-places

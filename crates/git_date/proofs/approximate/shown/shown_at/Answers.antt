@@ -3,10 +3,10 @@ use Rattle.std.proofs.lemmas.Int.{to_z-of_z}
 use Rattle.gix_date.specs.Families.Epoch.{utc_time}
 use Rattle.gix_date.specs.Printing.LocalClocks.{clock_of}
 use Rattle.gix_date.specs.declared.time.Time.{Time}
-use Rattle.git_date.specs.ApproximateClocks.{is_shown}
-use Rattle.git_date.specs.Clocks.{local_of, held_clock, IsShowable}
-use Rattle.git_date.proofs.ApproximateClocks.{shown-within, none-shown, a-shown}
-use Rattle.git_date.proofs.HeldClocks.{utc-showable}
+use Rattle.git_date.specs.Approximate.Clocks.{is_shown}
+use Rattle.git_date.specs.Rules.Clocks.{local_of, held_clock, IsShowable}
+use Rattle.git_date.proofs.Guesses.Clocks.{shown-within, none-shown, a-shown}
+use Rattle.git_date.proofs.Rules.HeldClocks.{utc-showable}
 use Rattle.git_date.proofs.approximate.shown.shown_at.Goals as goal
 
 pub returns-then-not-is_shown : goal.returns-then-not-is_shown

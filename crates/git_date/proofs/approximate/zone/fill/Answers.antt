@@ -2,8 +2,8 @@ use Rattle.std.proofs.Common.{rules, ◌≡◌, ◌∙◌, ◌-ℤ◌, ℤ, pos,
 use Rattle.std.proofs.lemmas.Int.{to_z-of_z}
 use Rattle.jiff_core.proofs.SignedLemmas.{signed_arith}
 use Rattle.gix_date.specs.Relative.Steps.{zone_of}
-use Rattle.git_date.specs.ApproximateZones.{choices_of, filled_time, moved_to}
-use Rattle.git_date.proofs.ZoneChoices.{filled-by}
+use Rattle.git_date.specs.Approximate.Zones.{choices_of, filled_time, moved_to}
+use Rattle.git_date.proofs.Guesses.ZoneChoices.{filled-by}
 use Rattle.git_date.proofs.approximate.zone.fill.Goals as goal
 
 pub returns-in-Some : goal.returns-in-Some

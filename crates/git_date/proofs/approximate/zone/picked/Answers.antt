@@ -7,8 +7,8 @@ use Rattle.gix_date.proofs.Fields.Instants.{instant_holds}
 use Rattle.gix_date.specs.Fields.Zoned.{is_instant}
 use Rattle.gix_date.specs.Relative.Steps.{zone_of}
 use Rattle.gix_date.specs.declared.time.Time.{Time}
-use Rattle.git_date.specs.Zones.{offsets_of, local_offset}
-use Rattle.git_date.proofs.ZoneChoices.{a-picked, small-at}
+use Rattle.git_date.specs.Exact.Zones.{offsets_of, local_offset}
+use Rattle.git_date.proofs.Guesses.ZoneChoices.{a-picked, small-at}
 use Rattle.git_date.proofs.approximate.zone.picked.Goals as goal
 
 pub overflow_sub-local : goal.overflow_sub-local

@@ -5,11 +5,11 @@ use Rattle.jiff.specs.Words.{plain_zone}
 use Rattle.jiff_core.proofs.SignedLemmas.{signed_arith}
 use Rattle.gix_date.proofs.Fields.Instants.{instant_holds}
 use Rattle.gix_date.specs.Relative.Steps.{zone_of}
-use Rattle.git_date.specs.ApproximateClocks.{shown_at}
-use Rattle.git_date.specs.ApproximateZones.{with_offset}
-use Rattle.git_date.specs.Zones.{offsets_of}
-use Rattle.git_date.proofs.ZoneOffsets.{Says, is-instant-there}
-use Rattle.git_date.proofs.ZoneChoices.{none-shown-in, a-shown-in}
+use Rattle.git_date.specs.Approximate.Clocks.{shown_at}
+use Rattle.git_date.specs.Approximate.Zones.{with_offset}
+use Rattle.git_date.specs.Exact.Zones.{offsets_of}
+use Rattle.git_date.proofs.Exact.ZoneOffsets.{Says, is-instant-there}
+use Rattle.git_date.proofs.Guesses.ZoneChoices.{none-shown-in, a-shown-in}
 use Rattle.git_date.proofs.approximate.zone.shown_in.Goals as goal
 
 pub returns-in_default : goal.returns-in_default

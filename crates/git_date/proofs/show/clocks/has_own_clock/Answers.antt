@@ -1,8 +1,8 @@
 use Rattle.std.proofs.Common.{rules, ◌∙◌, sym, ap, FitsSigned, w64, w32}
 use Rattle.std.proofs.lemmas.Int.{to_z-of_z}
 use Rattle.gix_date.specs.Printing.LocalClocks.{local_seconds}
-use Rattle.git_date.specs.ShowClocks.{is_dated, is_written_offset}
-use Rattle.git_date.proofs.ShownClocks.{and-last}
+use Rattle.git_date.specs.Show.Clocks.{is_dated, is_written_offset}
+use Rattle.git_date.proofs.Printing.ShownClocks.{and-last}
 use Rattle.git_date.proofs.show.clocks.has_own_clock.Goals as goal
 use Rattle.git_date.proofs.show.clocks.has_own_clock.Goals.{then-is_written_offset, else-is_written_offset}
 

@@ -1,6 +1,6 @@
 use Rattle.std.proofs.Common.{◌∙◌, sym}
-use Rattle.git_date.proofs.ShownClocks.{an-own-clock, no-own-clock}
-use Rattle.git_date.specs.Clocks.{local_of}
+use Rattle.git_date.proofs.Printing.ShownClocks.{an-own-clock, no-own-clock}
+use Rattle.git_date.specs.Rules.Clocks.{local_of}
 use Rattle.git_date.proofs.show.clocks.own_clock.Goals as goal
 
 pub returns-then-has_own_clock-clause-shown : goal.returns-then-has_own_clock-clause-shown

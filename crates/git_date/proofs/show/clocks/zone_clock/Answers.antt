@@ -3,8 +3,8 @@ use Rattle.std.proofs.lemmas.Int.{to_z-of_z}
 use Rattle.jiff.specs.Words.{offset_at, nanos_of_seconds, plain_zone}
 use Rattle.gix_date.specs.Printing.LocalClocks.{clock_of}
 use Rattle.gix_date.specs.declared.time.Time.{Time}
-use Rattle.git_date.specs.Clocks.{IsShowable}
-use Rattle.git_date.proofs.ShownClocks.{a-zone-clock, known, near-zone, no-zone-clock, timed-at, zone-dated}
+use Rattle.git_date.specs.Rules.Clocks.{IsShowable}
+use Rattle.git_date.proofs.Printing.ShownClocks.{a-zone-clock, known, near-zone, no-zone-clock, timed-at, zone-dated}
 use Rattle.git_date.proofs.show.clocks.zone_clock.Goals as goal
 
 pub returns-then-not-has_zone_clock-clause-shown : goal.returns-then-not-has_zone_clock-clause-shown

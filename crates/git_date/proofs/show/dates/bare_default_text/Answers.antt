@@ -2,8 +2,8 @@ use Rattle.std.proofs.Common.{◌≡◌, ◌∙◌, ◌+◌, [], ◌∷◌, leng
 use Rattle.gix_date.specs.Text.Characters.{space}
 use Rattle.gix_date.specs.Text.Names.{day_name, month_name}
 use Rattle.gix_date.specs.Fields.FieldTexts.{four_digits, clock_text}
-use Rattle.git_date.specs.Clocks.{local_of}
-use Rattle.git_date.proofs.ShownTexts.{first, more, bare-default}
+use Rattle.git_date.specs.Rules.Clocks.{local_of}
+use Rattle.git_date.proofs.Printing.ShownTexts.{first, more, bare-default}
 use Rattle.git_date.proofs.show.dates.bare_default_text.Goals as goal
 
 pub returns-clause-bytes : goal.returns-clause-bytes

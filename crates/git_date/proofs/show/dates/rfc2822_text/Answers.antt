@@ -4,8 +4,8 @@ use Rattle.gix_date.specs.Text.Characters.{space}
 use Rattle.gix_date.specs.Text.Names.{day_name, month_name}
 use Rattle.gix_date.specs.Fields.FieldTexts.{four_digits, clock_text}
 use Rattle.gix_date.specs.Fields.Offsets.{compact_offset_text}
-use Rattle.git_date.specs.Clocks.{local_of}
-use Rattle.git_date.proofs.ShownTexts.{first, more, mail}
+use Rattle.git_date.specs.Rules.Clocks.{local_of}
+use Rattle.git_date.proofs.Printing.ShownTexts.{first, more, mail}
 use Rattle.git_date.proofs.show.dates.rfc2822_text.Goals as goal
 
 pub returns : goal.returns

@@ -1,0 +1,9 @@
+-- What the exact reader comes to.
+pub mod Places
+pub mod PrintedClocks
+pub mod PrintedReads
+pub mod FastTexts
+pub mod FastSeconds
+pub mod NoSeconds
+pub mod FewDigits
+pub mod ZoneOffsets

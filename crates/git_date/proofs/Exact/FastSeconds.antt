@@ -1,0 +1,229 @@
+-- Seconds since 1970 and an offset, as `raw` shows them, say themselves: alone and after `@`.
+use Rattle.std.proofs.Common.{◌≡◌, ◌∙◌, ◌≤◌, ◌<◌, ◌+◌, ◌-◌, ◌*◌, ◌/◌, ◌%◌, ℕ, ℤ, pos, neg_ℤ, nat_le, Bool, true, false, cond, List, [], ◌∷◌, ◌++◌, length, take, drop, get_or, Option, Some, None, Ok, refl, ap, sym, subst, arith}
+use Rattle.std.specs.Char.{is_ascii_digit}
+use Rattle.std.specs.List.{fold, list_all}
+use Rattle.std.specs.Prelude.{nat_lt}
+use Rattle.std.proofs.lemmas.Bool.{and_parts, and_from as join}
+use Rattle.std.proofs.lemmas.List.{take_all}
+use Rattle.std.proofs.lemmas.Bool.Decides.{nat_tests}
+use Rattle.jiff_core.proofs.SignedLemmas.{signed_arith}
+use Rattle.gix_date.proofs.Fields.Instants.{instant_from}
+use Rattle.gix_date.specs.Fields.FieldTexts.{clock_text}
+use Rattle.gix_date.specs.Fields.Layout.{LocalTime}
+use Rattle.gix_date.specs.Fields.Offsets.{compact_offset_text}
+use Rattle.gix_date.specs.Fields.Zoned.{is_instant}
+use Rattle.gix_date.specs.Text.Characters.{at_sign, space, plus, minus}
+use Rattle.gix_date.specs.Text.Numbers.{two_digits}
+use Rattle.git_date.specs.Rules.Clocks.{utc_clock}
+use Rattle.git_date.specs.Rules.Dates.{exact_seconds, month_start, first_of_year_2100}
+use Rattle.git_date.specs.Rules.Digits.{epoch_rule, digits_rule, min_epoch, with_epoch}
+use Rattle.git_date.specs.Exact.Fast.{IsGitDate, WritesTwo, WritesClock, WritesOffset, WritesSeconds, WritesRaw, Says}
+use Rattle.git_date.specs.Rules.Fields.{unknown}
+use Rattle.git_date.specs.Tokens.Numbers.{digit_more, number}
+use Rattle.git_date.specs.Rules.Offsets.{at_text, padded_number, white, without_white}
+use Rattle.git_date.specs.Exact.Reading.{ended, steps, at_said, by_seconds, fields_said, string_said, at_or_fields}
+use Rattle.git_date.specs.Tokens.Tokens.{Token, Digits, Mark, digit_before, tokens}
+use Rattle.git_date.specs.Rules.Words.{without_ending}
+use Rattle.git_date.specs.declared.dates.Now.{Now}
+use Rattle.git_date.specs.declared.fields.Fields.{Fields}
+use Rattle.git_date.specs.declared.reader.Said.{Said}
+use Rattle.git_date.proofs.Rules.ClocksBack.{shown_of, clock-is, known-month}
+use Rattle.git_date.proofs.Exact.FastTexts.{t, git-clock, minutes-are}
+use Rattle.git_date.proofs.Exact.PrintedClocks.{IsGitClock, at, go, skip-space, go-offset, offset_tokens, spaced-offset, offset_in_minutes, hours_of, is_behind, minutes_of as minutes_in}
+use Rattle.git_date.proofs.Exact.PrintedReads.{reads-are, sign-free}
+use Rattle.git_date.proofs.Text.StringEnds.{has_nul, no-nul, whole-said}
+use Rattle.git_date.proofs.Text.TokenRuns.{digit-first, mark-first}
+
+-- digits before a mark are one token
+pub run-before : (run rest : List ℕ) (byte : ℕ) (more : List Token) → 1 ≤ length run → list_all is_ascii_digit run ≡ true → tokens rest ≡ Mark byte ∷ more
+    → tokens (run ++ rest) ≡ Digits run ∷ Mark byte ∷ more
+run-before [] rest byte more some h e = absurd (omega (arith, some))
+run-before (c ∷ []) rest byte more some h e = digit-first c rest (and_parts (is_ascii_digit c) true h).0 ∙ ap (digit_before c) e
+run-before (c ∷ d ∷ run) rest byte more some h e =
+    let both = and_parts (is_ascii_digit c) (list_all is_ascii_digit (d ∷ run)) h in
+    digit-first c ((d ∷ run) ++ rest) both.0 ∙ ap (digit_before c) (run-before (d ∷ run) rest byte more (omega arith) both.1 e)
+
+-- two digits more
+pair-read : (v n tens ones : ℕ) (rest : List ℕ) → n ≤ 99 → two_digits n ≡ tens ∷ ones ∷ [] → fold digit_more v (tens ∷ ones ∷ rest) ≡ fold digit_more (100 * v + n) rest
+pair-read v n tens ones rest h e =
+    let first : 48 + n / 10 ≡ tens = ap (λ (digits : List ℕ). get_or digits 0 0) e in
+    let second : 48 + n % 10 ≡ ones = ap (λ (digits : List ℕ). get_or digits 1 0) e in
+    let both : digit_more (digit_more v tens) ones ≡ 100 * v + n = omega (arith, first, second) in
+    ap (λ (value : ℕ). fold digit_more value rest) both
+
+pair-digits : (n tens ones : ℕ) (rest : List ℕ) → n ≤ 99 → two_digits n ≡ tens ∷ ones ∷ [] → list_all is_ascii_digit rest ≡ true → list_all is_ascii_digit (tens ∷ ones ∷ rest) ≡ true
+pair-digits n tens ones rest h e more =
+    let first : 48 + n / 10 ≡ tens = ap (λ (digits : List ℕ). get_or digits 0 0) e in
+    let second : 48 + n % 10 ≡ ones = ap (λ (digits : List ℕ). get_or digits 1 0) e in
+    let a : is_ascii_digit tens ≡ true = grind (arith, nat_tests) in
+    let b : is_ascii_digit ones ≡ true = grind (arith, nat_tests) in
+    join _ _ a (join _ _ b more)
+
+pub ten-digits : (text : List ℕ) (p q r s u : ℕ) → 10 ≤ length text → length text < 11 → WritesTwo 10 40 (get_or text 0 0) (get_or text 1 0) p
+    → WritesTwo 0 99 (get_or text 2 0) (get_or text 3 0) q → WritesTwo 0 99 (get_or text 4 0) (get_or text 5 0) r → WritesTwo 0 99 (get_or text 6 0) (get_or text 7 0) s
+    → WritesTwo 0 99 (get_or text 8 0) (get_or text 9 0) u → WritesSeconds text (100 * (100 * (100 * (100 * p + q) + r) + s) + u)
+unfolding number
+ten-digits (a ∷ b ∷ c ∷ d ∷ e ∷ f ∷ g ∷ h ∷ i ∷ j ∷ []) p q r s u low high v w x y z =
+    let least = v.least in
+    let most = v.most in
+    let most_q = w.most in
+    let most_r = x.most in
+    let most_s = y.most in
+    let most_u = z.most in
+    let first : p ≤ 99 = omega (arith, most) in
+    record {
+      first = omega (arith, least);
+      last = omega (arith, most, most_q, most_r, most_s, most_u);
+      digits = pair-digits p a b (c ∷ d ∷ e ∷ f ∷ g ∷ h ∷ i ∷ j ∷ []) first v.is (pair-digits q c d (e ∷ f ∷ g ∷ h ∷ i ∷ j ∷ []) w.most w.is
+          (pair-digits r e f (g ∷ h ∷ i ∷ j ∷ []) x.most x.is (pair-digits s g h (i ∷ j ∷ []) y.most y.is (pair-digits u i j [] z.most z.is refl))));
+      is =
+          let folded =
+          pair-read 0 p a b (c ∷ d ∷ e ∷ f ∷ g ∷ h ∷ i ∷ j ∷ []) first v.is ∙ pair-read (100 * 0 + p) q c d (e ∷ f ∷ g ∷ h ∷ i ∷ j ∷ []) w.most w.is
+          ∙ pair-read _ r e f (g ∷ h ∷ i ∷ j ∷ []) x.most x.is ∙ pair-read _ s g h (i ∷ j ∷ []) y.most y.is ∙ pair-read _ u i j [] z.most z.is in
+          omega (arith, folded, most, most_q, most_r, most_s, most_u);
+    }
+ten-digits text p q r s u low high v w x y z = absurd (omega (arith, low, high))
+
+-- `@`
+abbrev pub sign_byte : Bool → ℕ
+sign_byte behind = cond behind minus plus
+
+pub number-pairs : (a b : ℕ) → a < 100 → b < 100 → number (two_digits a ++ two_digits b) ≡ 100 * a + b
+unfolding number
+number-pairs a b h g = omega arith
+
+abbrev pub minutes_of : Bool → ℕ → ℕ → ℤ
+minutes_of behind a b = cond behind (neg_ℤ (pos (60 * a + b))) (pos (60 * a + b))
+
+abbrev pub raw_tokens : List ℕ → Bool → List ℕ → List Token
+raw_tokens run behind pairs = Mark at_sign ∷ Digits run ∷ Mark space ∷ Mark (sign_byte behind) ∷ Digits pairs ∷ []
+
+small : (k : ℕ) → k < 10_000 → nat_lt k 10_000 ≡ true
+small k h = grind (arith, nat_tests)
+
+pub at-is : (run : List ℕ) (a b : ℕ) (behind : Bool) → a < 100 → b < 100
+    → at_text (raw_tokens run behind (two_digits a ++ two_digits b)) ≡ Some (number run, minutes_of behind a b)
+unfolding at_text padded_number white without_white
+at-is run a b true h g =
+    let hundreds : (100 * a + b) / 100 ≡ a = omega arith in
+    let ones : (100 * a + b) % 100 ≡ b = omega arith in
+    rw (number-pairs a b h g, small (100 * a + b) (omega arith), hundreds, ones) refl
+at-is run a b false h g =
+    let hundreds : (100 * a + b) / 100 ≡ a = omega arith in
+    let ones : (100 * a + b) % 100 ≡ b = omega arith in
+    rw (number-pairs a b h g, small (100 * a + b) (omega arith), hundreds, ones) refl
+
+abbrev pub said_at : ℕ → ℤ → Said
+said_at n minutes = record { seconds = pos n; offset = Some minutes; epoch = true; ignored = None }
+
+pub said-is : (n : ℕ) (minutes : ℤ) → is_instant (pos n) ≡ true → at_said (n, minutes) ≡ Ok (said_at n minutes)
+unfolding at_said
+said-is n minutes e = rw e refl
+
+-- an epoch, where nothing is known
+seconds-instant : (n : ℕ) → n < first_of_year_2100 → is_instant (pos n) ≡ true
+seconds-instant n h = instant_from (pos n) (omega (arith, signed_arith), omega (arith, signed_arith))
+
+pub epoch-by : (now : Now) (n : ℕ) (run : List ℕ) (more : List Token) → number run ≡ n → min_epoch ≤ n → n < first_of_year_2100
+    → digits_rule now unknown run more ≡ Ok (Some (with_epoch unknown (shown_of (pos n))), more)
+unfolding digits_rule epoch_rule utc_clock
+epoch-by now n run more e first last =
+    let large : nat_le 100_000_000 (number run) ≡ true = grind (arith, nat_tests) in
+    let instant : is_instant (pos (number run)) ≡ true = seconds-instant (number run) (omega arith) in
+    rw (large, instant) (ap (λ (k : ℕ). Ok (Some (with_epoch unknown (shown_of (pos k))), more)) e)
+
+-- its fields say its seconds, with an offset or without one
+pub epoch-says : (n : ℕ) (offset : Option ℤ) (text : List ℕ) → n < first_of_year_2100
+    → fields_said text (Ok (at (record (with_epoch unknown (shown_of (pos n))) { offset = offset }))) ≡ Ok (record { seconds = pos n; offset = offset; epoch = true; ignored = None })
+unfolding fields_said exact_seconds month_start
+epoch-says n offset text last =
+    let fields : Fields = record (with_epoch unknown (shown_of (pos n))) { offset = offset } in
+    let month = known-month (pos n) (omega (arith, signed_arith)) (omega (arith, signed_arith, last)) in
+    let seconds : exact_seconds fields ≡ Some (pos n) =
+    rw month (ap (λ (x : ℤ). Some x) (clock-is (pos n) (omega (arith, signed_arith), omega (arith, signed_arith, last))).seconds) in
+    ap (by_seconds text (at fields)) seconds ∙ rw (seconds-instant n last) refl
+
+midnight-is : WritesClock (clock_text (record { hour = 0; minute = 0; second = 0 })) (0, 0, 0)
+midnight-is = record { hour = omega arith; minute = omega arith; second = omega arith; is = refl }
+
+some-day : IsGitDate (2000, 1, 1)
+some-day = record {
+  first_year = omega arith;
+  last_year = omega arith;
+  first_month = omega arith;
+  last_month = omega arith;
+  first_day = omega arith;
+  last_day = omega arith;
+}
+
+monday : 0 < 7
+monday = omega arith
+
+module _ (seconds offset_is : List ℕ) (n : ℕ) (offset : ℤ) (s : WritesSeconds seconds n) (o : WritesOffset compact_offset_text offset_is offset) where
+  -- some clock at this offset
+  abbrev l : LocalTime
+  l = t 0 (2000, 1, 1) (0, 0, 0) offset _ offset_is compact_offset_text monday some-day midnight-is o
+
+  clock : IsGitClock l
+  clock = git-clock 0 (2000, 1, 1) (0, 0, 0) offset _ offset_is compact_offset_text monday some-day midnight-is o
+
+  minutes : offset_in_minutes l ≡ offset
+  minutes = minutes-are 0 (2000, 1, 1) (0, 0, 0) offset _ offset_is compact_offset_text monday some-day midnight-is o
+
+  spaced : tokens (space ∷ offset_is) ≡ Mark space ∷ offset_tokens l
+  spaced = subst (λ (shown : List ℕ). tokens (space ∷ shown) ≡ Mark space ∷ offset_tokens l) o.is (spaced-offset l clock)
+
+  run-are : (run : List ℕ) → list_all is_ascii_digit run ≡ true → 1 ≤ number run → tokens (run ++ (space ∷ offset_is)) ≡ Digits run ∷ Mark space ∷ offset_tokens l
+  unfolding number
+  run-are [] digits h = absurd (omega (arith, h))
+  run-are (c ∷ run) digits h = run-before (c ∷ run) (space ∷ offset_is) space (offset_tokens l) (omega arith) digits spaced
+
+  tokens-are : tokens (seconds ++ (space ∷ offset_is)) ≡ Digits seconds ∷ Mark space ∷ offset_tokens l
+  tokens-are = let first = s.first in let is = s.is in run-are seconds s.digits (omega (arith, first, is))
+
+  instant : is_instant (pos n) ≡ true
+  instant = seconds-instant n s.last
+
+  abbrev fields : Fields
+  fields = record (with_epoch unknown (shown_of (pos n))) { offset = Some (offset_in_minutes l) }
+
+  raw-steps : (now : Now) → steps now 40 (at unknown) (Digits seconds ∷ Mark space ∷ offset_tokens l) ≡ Ok (at fields)
+  unfolding without_ending
+  raw-steps now =
+      go now 39 unknown (with_epoch unknown (shown_of (pos n))) (Digits seconds) (Mark space ∷ offset_tokens l) (Mark space ∷ offset_tokens l) refl
+      (ap ended (epoch-by now n seconds (Mark space ∷ offset_tokens l) s.is s.first s.last))
+      ∙ skip-space now 38 (with_epoch unknown (shown_of (pos n))) (offset_tokens l)
+      ∙ go-offset now 37 (with_epoch unknown (shown_of (pos n))) l clock
+
+  fields-say : (text : List ℕ) → fields_said text (Ok (at fields)) ≡ Ok (said_at n offset)
+  fields-say text = epoch-says n (Some (offset_in_minutes l)) text s.last ∙ ap (λ (m : ℤ). Ok (said_at n m)) minutes
+
+  pub raw-says : Says (seconds ++ (space ∷ offset_is)) (said_at n offset)
+  unfolding at_text
+  raw-says now =
+      reads-are now (seconds ++ (space ∷ offset_is)) (Digits seconds ∷ Mark space ∷ offset_tokens l) 40 fields tokens-are (rw (sign-free (is_behind l)) refl) (omega arith) refl (raw-steps now)
+      ∙ fields-say (seconds ++ (space ∷ offset_is))
+
+  pub at-says : Says (at_sign ∷ (seconds ++ (space ∷ offset_is))) (said_at n offset)
+  unfolding string_said
+  at-says now =
+      let text = at_sign ∷ (seconds ++ (space ∷ offset_is)) in
+      let hours = clock.hours in
+      let rest = clock.minutes in
+      let are = mark-first at_sign (seconds ++ (space ∷ offset_is)) refl refl ∙ ap (λ (ts : List Token). Mark at_sign ∷ ts) tokens-are in
+      let free : has_nul (Mark at_sign ∷ Digits seconds ∷ Mark space ∷ offset_tokens l) ≡ false = rw (sign-free (is_behind l)) refl in
+      let found : at_text (tokens text) ≡ Some (n, offset) =
+      ap at_text are
+      ∙ at-is seconds (hours_of l) (minutes_in l) (is_behind l) (omega (arith, hours)) (omega (arith, rest))
+      ∙ (λ i. Some (s.is i, minutes i)) in
+      whole-said now text (no-nul text (ap has_nul are ∙ free)) ∙ ap (λ (o : Option (ℕ × ℤ)). at_or_fields now text o) found ∙ said-is n offset instant
+
+pub raw-text : (text : List ℕ) (n : ℕ) (minutes : ℤ) → WritesRaw text (n, minutes) → Says text (said_at n minutes)
+raw-text text n minutes w = subst (λ (text : List ℕ). Says text (said_at n minutes)) w.is (raw-says w.seconds w.offset n minutes w.is_seconds w.is_offset)
+
+pub at-text : (text : List ℕ) (n : ℕ) (minutes : ℤ) → 1 ≤ length text → get_or text 0 0 ≡ at_sign → WritesRaw (take (length text - 1) (drop 1 text)) (n, minutes)
+    → Says text (said_at n minutes)
+at-text [] n minutes some is w = absurd (omega arith)
+at-text (c ∷ text) n minutes some is w =
+    let rest : take (length (c ∷ text) - 1) text ≡ text = take_all (length (c ∷ text) - 1) text (omega arith) in
+    subst (λ (text : List ℕ). Says text (said_at n minutes)) (λ i. sym is i ∷ (w.is ∙ rest) i) (at-says w.seconds w.offset n minutes w.is_seconds w.is_offset)

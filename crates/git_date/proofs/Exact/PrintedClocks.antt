@@ -1,0 +1,782 @@
+-- What the named formats print of a clock is read back.
+use Rattle.std.proofs.Common.{◌≡◌, ◌∙◌, ◌<◌, ◌≤◌, ◌+◌, ◌*◌, ◌/◌, ◌%◌, ◌⊎◌, inl, inr, ℕ, zero, suc, ℤ, pos, neg_ℤ, unsigned_abs, Bool, true, false, cond, List, [], ◌∷◌, ◌++◌, length, refl, ap, sym, subst, arith, Option, Some, None, is_none, Ok}
+use Rattle.std.specs.Prelude.{◌==◌, nat_le, nat_lt, int_lt}
+use Rattle.std.specs.Char.{is_ascii_alphabetic, is_ascii_digit}
+use Rattle.std.specs.Fmt.{decimal}
+use Rattle.std.proofs.lemmas.Bool.Decides.{nat_tests}
+use Rattle.std.proofs.lemmas.Bool.{cases_order}
+use Rattle.std.proofs.lemmas.Fmt.{decimal_digit}
+use Rattle.gix_date.proofs.Printing.ShownPieces.{decimal-two}
+use Rattle.gix_date.specs.Text.Characters.{space, plus, minus, colon, comma, dot, letter_t}
+use Rattle.gix_date.specs.Text.Names.{day_name, month_name}
+use Rattle.gix_date.specs.Text.Numbers.{two_digits}
+use Rattle.gix_date.specs.Fields.ClockNumbers.{hours_in, minutes_in}
+use Rattle.gix_date.specs.Fields.FieldTexts.{four_digits, clock_text}
+use Rattle.gix_date.specs.Fields.DateOffsets.{strict_offset_text}
+use Rattle.gix_date.specs.Fields.Layout.{LocalTime}
+use Rattle.gix_date.specs.Fields.Offsets.{offset_sign, compact_offset_text}
+use Rattle.git_date.specs.Tokens.Strings.{nul}
+use Rattle.git_date.specs.Tokens.Tokens.{Token, Letters, Digits, Mark, letter_before, digit_before, tokens, bytes_left, is_end, walked}
+use Rattle.git_date.specs.Tokens.Numbers.{number, narrow}
+use Rattle.git_date.specs.Tokens.Names.{is_weekday}
+use Rattle.gix_date.specs.Text.LongNames.{month_told, weekday_told}
+use Rattle.git_date.specs.Exact.Fast.{is_date_mark, marked_date}
+use Rattle.git_date.specs.Rules.Fields.{unknown, with_clock, with_date, knows_date}
+use Rattle.git_date.specs.Rules.Words.{with_word, letters_rule, without_ending}
+use Rattle.git_date.specs.Rules.Dates.{year_said, year_date}
+use Rattle.git_date.specs.Rules.Groups.{ReadTokens, number_at, marked_number, group_of, clock_group, year_first_group, group_rule, large_in, without_fraction, after_group, is_group_mark}
+use Rattle.git_date.specs.Rules.Digits.{Stepped, four_digits as four_digit_rule, few_digits, bare_digits, by_rule, unless_large, grouped, group_or_bare, number_rule, digits_rule}
+use Rattle.git_date.specs.Rules.Offsets.{white, without_white, padded_number, offset_minutes, colon_minutes, two_digit_offset, offset_said, known_minutes, with_offset, offset_rule}
+use Rattle.git_date.specs.Exact.Reading.{read_on, and_then, ended, sign_rule, rule, steps, step}
+use Rattle.git_date.specs.declared.dates.Now.{Now}
+use Rattle.git_date.specs.declared.dates.Dated.{Dated}
+use Rattle.git_date.specs.declared.dates.Dated.TheVariants as dated
+use Rattle.git_date.specs.declared.fields.Fields.{Fields}
+use Rattle.git_date.specs.declared.groups.Group.{Group}
+use Rattle.git_date.specs.declared.groups.Number.{Number}
+use Rattle.git_date.specs.declared.reader.Reading.{Reading}
+use Rattle.git_date.proofs.Text.Walked.{nothing-left}
+use Rattle.git_date.proofs.Text.TokenRuns.{digit-first, mark-first}
+
+-- digits before other tokens
+abbrev pub HasNoDigits : List Token → Type 0
+HasNoDigits (Digits run ∷ more) = ⊥
+HasNoDigits ts = Unit {0}
+
+pub alone : (c : ℕ) (ts : List Token) → HasNoDigits ts → digit_before c ts ≡ Digits (c ∷ []) ∷ ts
+alone c [] h = refl
+alone c (Letters run ∷ more) h = refl
+alone c (Digits run ∷ more) h = absurd h
+alone c (Mark byte ∷ more) h = refl
+
+digit-test : (n : ℕ) → n < 10 → is_ascii_digit (48 + n) ≡ true
+digit-test n h = grind (arith, nat_tests)
+
+one-before : (n : ℕ) (rest : List ℕ) (ts : List Token) → n < 10 → tokens rest ≡ ts → HasNoDigits ts → tokens ((48 + n) ∷ rest) ≡ Digits ((48 + n) ∷ []) ∷ ts
+one-before n rest ts h e free = digit-first (48 + n) rest (digit-test n h) ∙ ap (digit_before (48 + n)) e ∙ alone (48 + n) ts free
+
+next-before : (n : ℕ) (rest run : List ℕ) (ts : List Token) → n < 10 → tokens rest ≡ Digits run ∷ ts → tokens ((48 + n) ∷ rest) ≡ Digits ((48 + n) ∷ run) ∷ ts
+next-before n rest run ts h e = digit-first (48 + n) rest (digit-test n h) ∙ ap (digit_before (48 + n)) e
+
+two-before : (n : ℕ) (rest : List ℕ) (ts : List Token) → n < 100 → tokens rest ≡ ts → HasNoDigits ts → tokens (two_digits n ++ rest) ≡ Digits (two_digits n) ∷ ts
+two-before n rest ts h e free =
+    next-before (n / 10) ((48 + n % 10) ∷ rest) ((48 + n % 10) ∷ []) ts (omega arith) (one-before (n % 10) rest ts (omega arith) e free)
+
+pairs-before : (a b : ℕ) (rest : List ℕ) (ts : List Token) → a < 100 → b < 100 → tokens rest ≡ ts → HasNoDigits ts
+    → tokens (two_digits a ++ (two_digits b ++ rest)) ≡ Digits (two_digits a ++ two_digits b) ∷ ts
+pairs-before a b rest ts h g e free =
+    next-before (a / 10) ((48 + a % 10) ∷ (two_digits b ++ rest)) ((48 + a % 10) ∷ two_digits b) ts (omega arith)
+    (next-before (a % 10) (two_digits b ++ rest) (two_digits b) ts (omega arith) (two-before b rest ts g e free))
+
+-- numbers that are so written
+number-one : (n : ℕ) → n < 10 → number ((48 + n) ∷ []) ≡ n
+unfolding number
+number-one n h = omega arith
+
+number-two : (n : ℕ) → n < 100 → number (two_digits n) ≡ n
+unfolding number
+number-two n h = omega arith
+
+number-pairs : (a b : ℕ) → a < 100 → b < 100 → number (two_digits a ++ two_digits b) ≡ 100 * a + b
+unfolding number
+number-pairs a b h g = omega arith
+
+-- the day of the month, as formats print it
+pub record IsDayText (n : ℕ) (run : List ℕ) : Type 0 where
+  pub width : (length run ≡ 1) ⊎ (length run ≡ 2)
+  pub number_is : number run ≡ n
+  pub before : (rest : List ℕ) (ts : List Token) → tokens rest ≡ ts → HasNoDigits ts → tokens (run ++ rest) ≡ Digits run ∷ ts
+
+pub two-day : (n : ℕ) → n < 100 → IsDayText n (two_digits n)
+two-day n h = record { width = inr refl; number_is = number-two n h; before = λ rest ts e free. two-before n rest ts h e free }
+
+one-day : (n : ℕ) → n < 10 → IsDayText n (decimal n)
+one-day n h = subst (IsDayText n) (sym (decimal_digit n h)) (record { width = inl refl; number_is = number-one n h; before = λ rest ts e free. one-before n rest ts h e free })
+
+pub bare-day : (n : ℕ) → n < 100 → IsDayText n (decimal n)
+bare-day n h =
+    elim (cases_order n 10) [
+      | inl ten ↦ subst (IsDayText n) (sym (decimal-two n (omega arith) h)) (two-day n h)
+      | inr (inl low) ↦ one-day n low
+      | inr (inr large) ↦ subst (IsDayText n) (sym (decimal-two n (omega arith) h)) (two-day n h)
+    ]
+
+-- what is written of a clock: years that Git knows, and an offset of whole minutes that is not -0001
+abbrev pub hours_of : LocalTime → ℕ
+hours_of t = hours_in (unsigned_abs t.offset)
+
+abbrev pub minutes_of : LocalTime → ℕ
+minutes_of t = minutes_in (unsigned_abs t.offset)
+
+abbrev pub is_behind : LocalTime → Bool
+is_behind t = int_lt t.offset (pos 0)
+
+abbrev pub signed : Bool → ℕ → ℤ
+signed behind n = cond behind (neg_ℤ (pos n)) (pos n)
+
+abbrev pub offset_in_minutes : LocalTime → ℤ
+offset_in_minutes t = signed (is_behind t) (60 * hours_of t + minutes_of t)
+
+pub record IsGitClock (t : LocalTime) : Type 0 where
+  pub weekday : t.weekday < 7
+  pub first_year : 1970 ≤ t.date.year
+  pub last_year : t.date.year ≤ 2099
+  pub first_month : 1 ≤ t.date.month
+  pub last_month : t.date.month ≤ 12
+  pub first_day : 1 ≤ t.date.day
+  pub last_day : t.date.day ≤ 31
+  pub hour : t.clock.hour < 24
+  pub minute : t.clock.minute < 60
+  pub second : t.clock.second < 60
+  pub hours : hours_of t < 24
+  pub minutes : minutes_of t < 60
+  pub known : is_behind t ≡ true → 60 * hours_of t + minutes_of t ≡ 1 → ⊥
+
+-- tokens of what is printed
+abbrev pub clock_tokens : LocalTime → List Token → List Token
+clock_tokens t more =
+    Digits (two_digits t.clock.hour) ∷ Mark colon ∷ Digits (two_digits t.clock.minute) ∷ Mark colon ∷ Digits (two_digits t.clock.second) ∷ more
+
+abbrev pub date_tokens : ℕ → LocalTime → List Token → List Token
+date_tokens mark t more =
+    Digits (four_digits t.date.year) ∷ Mark mark ∷ Digits (two_digits t.date.month) ∷ Mark mark ∷ Digits (two_digits t.date.day) ∷ more
+
+abbrev pub sign_of : LocalTime → ℕ
+sign_of t = offset_sign t.offset
+
+abbrev pub offset_tokens : LocalTime → List Token
+offset_tokens t = Mark (sign_of t) ∷ Digits (two_digits (hours_of t) ++ two_digits (minutes_of t)) ∷ []
+
+abbrev pub colon_tokens : LocalTime → List Token
+colon_tokens t = Mark (sign_of t) ∷ Digits (two_digits (hours_of t)) ∷ Mark colon ∷ Digits (two_digits (minutes_of t)) ∷ []
+
+pub sign-before : (behind : Bool) (rest : List ℕ) → tokens (cond behind minus plus ∷ rest) ≡ Mark (cond behind minus plus) ∷ tokens rest
+sign-before true rest = mark-first minus rest refl refl
+sign-before false rest = mark-first plus rest refl refl
+
+offset-before : (t : LocalTime) → IsGitClock t → tokens (compact_offset_text t.offset) ≡ offset_tokens t
+unfolding tokens
+offset-before t h =
+    sign-before (is_behind t) (two_digits (hours_of t) ++ two_digits (minutes_of t))
+    ∙ ap (λ (ts : List Token). Mark (sign_of t) ∷ ts) (pairs-before (hours_of t) (minutes_of t) [] [] (omega (arith, h.hours)) (omega (arith, h.minutes)) refl tt)
+
+colon-before : (t : LocalTime) → IsGitClock t → tokens (strict_offset_text t.offset) ≡ colon_tokens t
+unfolding tokens
+colon-before t h =
+    sign-before (is_behind t) (two_digits (hours_of t) ++ colon ∷ two_digits (minutes_of t))
+    ∙ ap (λ (ts : List Token). Mark (sign_of t) ∷ ts)
+    (two-before (hours_of t) (colon ∷ two_digits (minutes_of t)) (Mark colon ∷ Digits (two_digits (minutes_of t)) ∷ []) (omega (arith, h.hours))
+    (ap (λ (ts : List Token). Mark colon ∷ ts) (two-before (minutes_of t) [] [] (omega (arith, h.minutes)) refl tt)) tt)
+
+clock-before : (t : LocalTime) (rest : List ℕ) (ts : List Token) → IsGitClock t → tokens rest ≡ ts → HasNoDigits ts → tokens (clock_text t.clock ++ rest) ≡ clock_tokens t ts
+unfolding tokens
+clock-before t rest ts h e free =
+    let s = t.clock.second in
+    let m = t.clock.minute in
+    let last = ap (λ (ts : List Token). Mark colon ∷ ts) (two-before s rest ts (omega (arith, h.second)) e free) in
+    let middle =
+    ap (λ (ts : List Token). Mark colon ∷ ts) (two-before m (colon ∷ (two_digits s ++ rest)) (Mark colon ∷ Digits (two_digits s) ∷ ts) (omega (arith, h.minute)) last tt) in
+    two-before t.clock.hour (colon ∷ (two_digits m ++ (colon ∷ (two_digits s ++ rest))))
+    (Mark colon ∷ Digits (two_digits m) ∷ Mark colon ∷ Digits (two_digits s) ∷ ts) (omega (arith, h.hour)) middle tt
+
+year-before : (t : LocalTime) (rest : List ℕ) (ts : List Token) → IsGitClock t → tokens rest ≡ ts → HasNoDigits ts → tokens (four_digits t.date.year ++ rest) ≡ Digits (four_digits t.date.year) ∷ ts
+year-before t rest ts h e free = pairs-before (t.date.year / 100) (t.date.year % 100) rest ts (omega (arith, h.last_year)) (omega arith) e free
+
+-- what the rules ask of a mark between the numbers of a date
+pub record IsDateMark (mark : ℕ) : Type 0 where
+  pub no_letter : is_ascii_alphabetic mark ≡ false
+  pub no_digit : is_ascii_digit mark ≡ false
+  pub group : is_group_mark mark ≡ true
+  pub no_colon : (mark == colon) ≡ false
+  pub no_nul : (mark == nul) ≡ false
+  pub again : (mark == mark) ≡ true
+
+pub date-mark : (mark : ℕ) → is_date_mark mark ≡ true → IsDateMark mark
+date-mark mark h = record {
+  no_letter = grind (arith, nat_tests, h);
+  no_digit = grind (arith, nat_tests, h);
+  group = grind (arith, nat_tests, h);
+  no_colon = grind (arith, nat_tests, h);
+  no_nul = grind (arith, nat_tests, h);
+  again = grind (arith, nat_tests);
+}
+
+date-before : (mark : ℕ) (t : LocalTime) (rest : List ℕ) (ts : List Token) → IsDateMark mark → IsGitClock t → tokens rest ≡ ts → HasNoDigits ts
+    → tokens (marked_date mark (t.date.year, t.date.month, t.date.day) ++ rest) ≡ date_tokens mark t ts
+date-before mark t rest ts is h e free =
+    let d = t.date.day in
+    let m = t.date.month in
+    let last = mark-first mark (two_digits d ++ rest) is.no_letter is.no_digit ∙ ap (λ (ts : List Token). Mark mark ∷ ts) (two-before d rest ts (omega (arith, h.last_day)) e free) in
+    let middle =
+    mark-first mark (two_digits m ++ (mark ∷ (two_digits d ++ rest))) is.no_letter is.no_digit
+    ∙ ap (λ (ts : List Token). Mark mark ∷ ts) (two-before m (mark ∷ (two_digits d ++ rest)) (Mark mark ∷ Digits (two_digits d) ∷ ts) (omega (arith, h.last_month)) last tt) in
+    year-before t (mark ∷ (two_digits m ++ (mark ∷ (two_digits d ++ rest)))) (Mark mark ∷ Digits (two_digits m) ∷ Mark mark ∷ Digits (two_digits d) ∷ ts) h middle tt
+
+-- names, before a mark
+abbrev three_before : ℕ → ℕ → ℕ → List Token → List Token
+three_before a b c ts = letter_before a (letter_before b (letter_before c ts))
+
+day-before : (n : ℕ) (rest : List ℕ) (byte : ℕ) (more : List Token) → n < 7 → tokens rest ≡ Mark byte ∷ more → tokens (day_name n ++ rest) ≡ Letters (day_name n) ∷ Mark byte ∷ more
+unfolding tokens
+day-before zero rest byte more h e = ap (three_before 77 111 110) e
+day-before (suc zero) rest byte more h e = ap (three_before 84 117 101) e
+day-before (suc (suc zero)) rest byte more h e = ap (three_before 87 101 100) e
+day-before (suc (suc (suc zero))) rest byte more h e = ap (three_before 84 104 117) e
+day-before (suc (suc (suc (suc zero)))) rest byte more h e = ap (three_before 70 114 105) e
+day-before (suc (suc (suc (suc (suc zero))))) rest byte more h e = ap (three_before 83 97 116) e
+day-before (suc (suc (suc (suc (suc (suc zero)))))) rest byte more h e = ap (three_before 83 117 110) e
+day-before (suc (suc (suc (suc (suc (suc (suc n))))))) rest byte more h e = absurd (omega arith)
+
+month-before : (n : ℕ) (rest : List ℕ) (byte : ℕ) (more : List Token) → 1 ≤ n → n ≤ 12 → tokens rest ≡ Mark byte ∷ more → tokens (month_name n ++ rest) ≡ Letters (month_name n) ∷ Mark byte ∷ more
+unfolding tokens
+month-before zero rest byte more l h e = absurd (omega arith)
+month-before (suc zero) rest byte more l h e = ap (three_before 74 97 110) e
+month-before (suc (suc zero)) rest byte more l h e = ap (three_before 70 101 98) e
+month-before (suc (suc (suc zero))) rest byte more l h e = ap (three_before 77 97 114) e
+month-before (suc (suc (suc (suc zero)))) rest byte more l h e = ap (three_before 65 112 114) e
+month-before (suc (suc (suc (suc (suc zero))))) rest byte more l h e = ap (three_before 77 97 121) e
+month-before (suc (suc (suc (suc (suc (suc zero)))))) rest byte more l h e = ap (three_before 74 117 110) e
+month-before (suc (suc (suc (suc (suc (suc (suc zero))))))) rest byte more l h e = ap (three_before 74 117 108) e
+month-before (suc (suc (suc (suc (suc (suc (suc (suc zero)))))))) rest byte more l h e = ap (three_before 65 117 103) e
+month-before (suc (suc (suc (suc (suc (suc (suc (suc (suc zero))))))))) rest byte more l h e = ap (three_before 83 101 112) e
+month-before (suc (suc (suc (suc (suc (suc (suc (suc (suc (suc zero)))))))))) rest byte more l h e = ap (three_before 79 99 116) e
+month-before (suc (suc (suc (suc (suc (suc (suc (suc (suc (suc (suc zero))))))))))) rest byte more l h e = ap (three_before 78 111 118) e
+month-before (suc (suc (suc (suc (suc (suc (suc (suc (suc (suc (suc (suc zero)))))))))))) rest byte more l h e = ap (three_before 68 101 99) e
+month-before (suc (suc (suc (suc (suc (suc (suc (suc (suc (suc (suc (suc (suc n))))))))))))) rest byte more l h e = absurd (omega arith)
+
+-- what names say
+day-said : (f : Fields) (n : ℕ) → n < 7 → with_word f (day_name n) ≡ Some f
+unfolding with_word month_told is_weekday weekday_told
+day-said f zero h = refl
+day-said f (suc zero) h = refl
+day-said f (suc (suc zero)) h = refl
+day-said f (suc (suc (suc zero))) h = refl
+day-said f (suc (suc (suc (suc zero)))) h = refl
+day-said f (suc (suc (suc (suc (suc zero))))) h = refl
+day-said f (suc (suc (suc (suc (suc (suc zero)))))) h = refl
+day-said f (suc (suc (suc (suc (suc (suc (suc n))))))) h = absurd (omega arith)
+
+month-said : (f : Fields) (n : ℕ) → 1 ≤ n → n ≤ 12 → with_word f (month_name n) ≡ Some (record f { month = Some n })
+unfolding with_word month_told
+month-said f zero l h = absurd (omega arith)
+month-said f (suc zero) l h = refl
+month-said f (suc (suc zero)) l h = refl
+month-said f (suc (suc (suc zero))) l h = refl
+month-said f (suc (suc (suc (suc zero)))) l h = refl
+month-said f (suc (suc (suc (suc (suc zero))))) l h = refl
+month-said f (suc (suc (suc (suc (suc (suc zero)))))) l h = refl
+month-said f (suc (suc (suc (suc (suc (suc (suc zero))))))) l h = refl
+month-said f (suc (suc (suc (suc (suc (suc (suc (suc zero)))))))) l h = refl
+month-said f (suc (suc (suc (suc (suc (suc (suc (suc (suc zero))))))))) l h = refl
+month-said f (suc (suc (suc (suc (suc (suc (suc (suc (suc (suc zero)))))))))) l h = refl
+month-said f (suc (suc (suc (suc (suc (suc (suc (suc (suc (suc (suc zero))))))))))) l h = refl
+month-said f (suc (suc (suc (suc (suc (suc (suc (suc (suc (suc (suc (suc zero)))))))))))) l h = refl
+month-said f (suc (suc (suc (suc (suc (suc (suc (suc (suc (suc (suc (suc (suc n))))))))))))) l h = absurd (omega arith)
+
+-- rules of digits
+pub small-rule : (now : Now) (f : Fields) (run : List ℕ) (more : List Token) → number run < 10_000 → digits_rule now f run more ≡ number_rule now f run more
+unfolding digits_rule
+small-rule now f run more h =
+    let early : nat_le 100_000_000 (number run) ≡ false = grind (arith, nat_tests) in
+    let small : nat_lt 2_147_483_647 (number run) ≡ false = grind (arith, nat_tests) in
+    rw (early, small) refl
+
+bare-rule : (now : Now) (f : Fields) (run : List ℕ) (more : List Token) → group_of (number run) more ≡ None → number_rule now f run more ≡ bare_digits f run more
+unfolding number_rule
+bare-rule now f run more e = ap (λ (found : ReadTokens Group). group_or_bare now f (bytes_left (Digits run ∷ more)) found (bare_digits f run more)) e
+
+space-group : (first : ℕ) (rest : List Token) → group_of first (Mark space ∷ rest) ≡ None
+unfolding group_of marked_number
+space-group first [] = refl
+space-group first (Letters run ∷ more) = refl
+space-group first (Mark byte ∷ more) = refl
+space-group first (Digits run ∷ more) = refl
+
+few-rule : (f : Fields) (width n : ℕ) → 1 ≤ n → n ≤ 31 → f.day ≡ None → few_digits f width n ≡ Some (record f { day = Some n })
+unfolding few_digits
+few-rule f width n l h e =
+    let low : nat_le 1 n ≡ true = grind (arith, nat_tests) in
+    let high : nat_le n 31 ≡ true = grind (arith, nat_tests) in
+    let none : is_none f.day ≡ true = ap is_none e in
+    rw (low, high, none) refl
+
+bare-few : (f : Fields) (run : List ℕ) (more : List Token) → (length run ≡ 1) ⊎ (length run ≡ 2) → bare_digits f run more ≡ Ok (few_digits f (length run) (number run), more)
+unfolding bare_digits
+bare-few f run more (inl e) = rw e refl
+bare-few f run more (inr e) = rw e refl
+
+pub day-rule : (now : Now) (f : Fields) (n : ℕ) (run : List ℕ) (rest : List Token) → IsDayText n run → 1 ≤ n → n ≤ 31 → f.day ≡ None
+    → rule now f (Digits run) (Mark space ∷ rest) ≡ Ok (Some (record f { day = Some n }), Mark space ∷ rest)
+unfolding without_ending
+day-rule now f n run rest is l h none =
+    let e = is.number_is in
+    ap ended (small-rule now f run (Mark space ∷ rest) (omega arith) ∙ bare-rule now f run (Mark space ∷ rest) (space-group (number run) rest)
+    ∙ bare-few f run (Mark space ∷ rest) is.width
+    ∙ ap (λ (m : ℕ). Ok (few_digits f (length run) m, Mark space ∷ rest)) e
+    ∙ ap (λ (next : Option Fields). Ok (next, Mark space ∷ rest)) (few-rule f (length run) n l h none))
+
+four-rule : (f : Fields) (y : ℕ) → 1970 ≤ y → y ≤ 2099 → four_digit_rule f y ≡ Some (record f { year = Some y })
+unfolding four_digit_rule
+four-rule f y l h =
+    let high : nat_le y 1400 ≡ false = grind (arith, nat_tests) in
+    let low : nat_lt 1900 y ≡ true = grind (arith, nat_tests) in
+    let last : nat_le y 2099 ≡ true = grind (arith, nat_tests) in
+    rw (high, low, last) refl
+
+number-year : (y : ℕ) → y ≤ 2099 → number (four_digits y) ≡ y
+number-year y h = let whole : 100 * (y / 100) + y % 100 ≡ y = omega arith in number-pairs (y / 100) (y % 100) (omega arith) (omega arith) ∙ whole
+
+bare-four : (f : Fields) (run : List ℕ) (more : List Token) → length run ≡ 4 → bare_digits f run more ≡ Ok (four_digit_rule f (number run), more)
+unfolding bare_digits
+bare-four f run more e = rw e refl
+
+pub four-read : (now : Now) (f : Fields) (run : List ℕ) (y : ℕ) (rest : List Token) → length run ≡ 4 → number run ≡ y → y < 10_000
+    → rule now f (Digits run) (Mark space ∷ rest) ≡ Ok (four_digit_rule f y, Mark space ∷ rest)
+unfolding without_ending
+four-read now f run y rest long e h =
+    ap ended (small-rule now f run (Mark space ∷ rest) (omega arith) ∙ bare-rule now f run (Mark space ∷ rest) (space-group (number run) rest)
+    ∙ bare-four f run (Mark space ∷ rest) long ∙ ap (λ (m : ℕ). Ok (four_digit_rule f m, Mark space ∷ rest)) e)
+
+year-rule : (now : Now) (f : Fields) (y : ℕ) (rest : List Token) → 1970 ≤ y → y ≤ 2099
+    → rule now f (Digits (four_digits y)) (Mark space ∷ rest) ≡ Ok (Some (record f { year = Some y }), Mark space ∷ rest)
+year-rule now f y rest l h =
+    four-read now f (four_digits y) y rest refl (number-year y h) (omega arith) ∙ ap (λ (next : Option Fields). Ok (next, Mark space ∷ rest)) (four-rule f y l h)
+
+-- groups
+pub taken-rule : (now : Now) (f : Fields) (left : ℕ) (g : Group) (more : List Token) (bare : Stepped) (next : Fields) → large_in g ≡ None → group_rule now f g ≡ dated.Taken next
+    → grouped now f left (g, more) bare ≡ Ok (Some next, after_group next g more)
+taken-rule now f left g more bare next e is =
+    ap (λ (d : Dated). unless_large (large_in g) d (by_rule left g more d bare)) is
+    ∙ ap (λ (large : Option ℕ). unless_large large (dated.Taken next) (by_rule left g more (dated.Taken next) bare)) e
+
+none-large : (mark first : ℕ) (second third : Number) → second.value < 100 → third.value < 100
+    → large_in (record { mark = mark; first = first; second = second; third = Some third }) ≡ None
+unfolding large_in
+none-large mark first second third h g =
+    let a : nat_lt 2_147_483_647 second.value ≡ false = grind (arith, nat_tests) in
+    let b : nat_lt 2_147_483_647 third.value ≡ false = grind (arith, nat_tests) in
+    rw (a, b) refl
+
+abbrev pub group_at : ℕ → ℕ → Number → Number → Group
+group_at mark first second third = record { mark = mark; first = first; second = second; third = Some third }
+
+pub clock-taken : (f : Fields) (h m s : ℕ) → h < 24 → m < 60 → s < 60 → with_clock f h m s ≡ Some (record f { hour = Some h; minute = Some m; second = Some s })
+unfolding with_clock
+clock-taken f h m s a b c =
+    let hour : nat_le h 24 ≡ true = grind (arith, nat_tests) in
+    let minute : nat_le m 59 ≡ true = grind (arith, nat_tests) in
+    let second : nat_le s 60 ≡ true = grind (arith, nat_tests) in
+    rw (hour, minute, second) refl
+
+clock-group : (now : Now) (f : Fields) (h : ℕ) (m s : Number) → h < 24 → m.value < 60 → s.value < 60
+    → group_rule now f (group_at colon h m s) ≡ dated.Taken (record f { hour = Some h; minute = Some m.value; second = Some s.value })
+unfolding group_rule clock_group
+clock-group now f h m s a b c = rw (clock-taken f h m.value s.value a b c) refl
+
+no-fraction : (byte : ℕ) (rest : List Token) → (byte == dot) ≡ false → without_fraction (Mark byte ∷ rest) ≡ Mark byte ∷ rest
+unfolding without_fraction
+no-fraction byte [] h = refl
+no-fraction byte (Letters run ∷ more) h = refl
+no-fraction byte (Mark other ∷ more) h = refl
+no-fraction byte (Digits run ∷ more) h = rw h refl
+
+pub after-clock : (byte : ℕ) (rest : List Token) (b : Bool) → (byte == dot) ≡ false → cond b (without_fraction (Mark byte ∷ rest)) (Mark byte ∷ rest) ≡ Mark byte ∷ rest
+after-clock byte rest true h = no-fraction byte rest h
+after-clock byte rest false h = refl
+
+abbrev pub numbered : ℕ → ℕ → Number
+numbered value left = record { value = value; left = left }
+
+pub clock-rule : (now : Now) (f : Fields) (a b c : List ℕ) (h m s byte : ℕ) (rest : List Token) → number a ≡ h → number b ≡ m → number c ≡ s → h < 24 → m < 60 → s < 60
+    → (byte == dot) ≡ false → rule now f (Digits a) (Mark colon ∷ Digits b ∷ Mark colon ∷ Digits c ∷ Mark byte ∷ rest)
+    ≡ Ok (Some (record f { hour = Some h; minute = Some m; second = Some s }), Mark byte ∷ rest)
+unfolding without_ending number_rule group_of marked_number
+clock-rule now f a b c h m s byte rest hh mm ss low mid top free =
+    let last = Mark byte ∷ rest in
+    let middle = Mark colon ∷ Digits c ∷ last in
+    let more = Mark colon ∷ Digits b ∷ middle in
+    let second = number_at b middle in
+    let third = number_at c last in
+    let left = bytes_left (Digits a ∷ more) in
+    let bare = bare_digits f a more in
+    let next : Fields = record f { hour = Some h; minute = Some m; second = Some s } in
+    ap ended (small-rule now f a more (omega arith)
+    ∙ ap (λ (n : ℕ). grouped now f left (group_at colon n second third, last) bare) hh
+    ∙ ap (λ (n : ℕ). grouped now f left (group_at colon h (numbered n second.left) third, last) bare) mm
+    ∙ ap (λ (n : ℕ). grouped now f left (group_at colon h (numbered m second.left) (numbered n third.left), last) bare) ss
+    ∙ taken-rule now f left (group_at colon h (numbered m second.left) (numbered s third.left)) last bare next
+    (none-large colon h (numbered m second.left) (numbered s third.left) (omega arith) (omega arith)) (clock-group now f h (numbered m second.left) (numbered s third.left) low mid top)
+    ∙ ap (λ (rest : List Token). Ok (Some next, rest)) (after-clock byte rest (knows_date next) free))
+
+pub narrow-small : (n : ℕ) → n < 100 → narrow n ≡ n
+unfolding narrow
+narrow-small n h = omega arith
+
+date-taken : (f : Fields) (y m d : ℕ) → 1970 ≤ y → y ≤ 2099 → 1 ≤ m → m ≤ 12 → 1 ≤ d → d ≤ 31 → year_date f y m d ≡ dated.Taken (with_date f y m d)
+unfolding year_date year_said
+date-taken f y m d a b c e g h =
+    let low : nat_le 1970 y ≡ true = grind (arith, nat_tests) in
+    let high : nat_le y 2099 ≡ true = grind (arith, nat_tests) in
+    let m1 : nat_le 1 m ≡ true = grind (arith, nat_tests) in
+    let m12 : nat_le m 12 ≡ true = grind (arith, nat_tests) in
+    let d1 : nat_le 1 d ≡ true = grind (arith, nat_tests) in
+    let d31 : nat_le d 31 ≡ true = grind (arith, nat_tests) in
+    rw (m1, m12, d1, d31, low, high) refl
+
+date-group : (mark : ℕ) (now : Now) (f : Fields) (y : ℕ) (m d : Number) → IsDateMark mark → 1970 ≤ y → y ≤ 2099 → 1 ≤ m.value → m.value ≤ 12 → 1 ≤ d.value → d.value ≤ 31
+    → group_rule now f (group_at mark y m d) ≡ dated.Taken (with_date f y m.value d.value)
+unfolding group_rule year_first_group
+date-group mark now f y m d is a b c e g h =
+    let above : nat_lt 70 y ≡ true = grind (arith, nat_tests) in
+    let no_colon = is.no_colon in
+    rw (no_colon, above, narrow-small m.value (omega arith), narrow-small d.value (omega arith), date-taken f y m.value d.value a b c e g h) refl
+
+three-of : (mark first : ℕ) (second third : List ℕ) (rest : List Token) → IsDateMark mark
+    → group_of first (Mark mark ∷ Digits second ∷ Mark mark ∷ Digits third ∷ rest)
+    ≡ Some (group_at mark first (number_at second (Mark mark ∷ Digits third ∷ rest)) (number_at third rest), rest)
+unfolding group_of marked_number
+three-of mark first second third rest is = let group = is.group in let again = is.again in rw (group, again) refl
+
+-- a group of three numbers, as Git keeps them
+abbrev pub date_group : ℕ → ℕ → ℕ → ℕ → List ℕ → List ℕ → List Token → Group
+date_group mark y m d b c rest = group_at mark y (numbered m (bytes_left (Digits b ∷ Mark mark ∷ Digits c ∷ rest))) (numbered d (bytes_left (Digits c ∷ rest)))
+
+pub group-read : (mark : ℕ) (now : Now) (f : Fields) (a b c : List ℕ) (y m d : ℕ) (rest : List Token) → IsDateMark mark → number a ≡ y → number b ≡ m → number c ≡ d → y < 10_000
+    → m < 100 → d < 100 → rule now f (Digits a) (Mark mark ∷ Digits b ∷ Mark mark ∷ Digits c ∷ rest)
+    ≡ ended (by_rule (bytes_left (Digits a ∷ Mark mark ∷ Digits b ∷ Mark mark ∷ Digits c ∷ rest)) (date_group mark y m d b c rest) rest
+    (group_rule now f (date_group mark y m d b c rest)) (bare_digits f a (Mark mark ∷ Digits b ∷ Mark mark ∷ Digits c ∷ rest)))
+unfolding number_rule
+group-read mark now f a b c y m d rest is yy mm dd long mid low =
+    let middle = Mark mark ∷ Digits c ∷ rest in
+    let more = Mark mark ∷ Digits b ∷ middle in
+    let second = number_at b middle in
+    let third = number_at c rest in
+    let left = bytes_left (Digits a ∷ more) in
+    let bare = bare_digits f a more in
+    let whole = date_group mark y m d b c rest in
+    ap ended (small-rule now f a more (omega arith)
+    ∙ ap (λ (found : ReadTokens Group). group_or_bare now f left found bare) (three-of mark (number a) b c rest is)
+    ∙ ap (λ (n : ℕ). grouped now f left (group_at mark n second third, rest) bare) yy
+    ∙ ap (λ (n : ℕ). grouped now f left (group_at mark y (numbered n second.left) third, rest) bare) mm
+    ∙ ap (λ (n : ℕ). grouped now f left (group_at mark y (numbered m second.left) (numbered n third.left), rest) bare) dd
+    ∙ ap (λ (large : Option ℕ). unless_large large (group_rule now f whole) (by_rule left whole rest (group_rule now f whole) bare))
+    (none-large mark y (numbered m second.left) (numbered d third.left) mid low))
+
+date-rule : (mark : ℕ) (now : Now) (f : Fields) (y m d : ℕ) (rest : List Token) → IsDateMark mark → 1970 ≤ y → y ≤ 2099 → 1 ≤ m → m ≤ 12 → 1 ≤ d → d ≤ 31
+    → rule now f (Digits (four_digits y)) (Mark mark ∷ Digits (two_digits m) ∷ Mark mark ∷ Digits (two_digits d) ∷ rest) ≡ Ok (Some (with_date f y m d), without_ending rest)
+date-rule mark now f y m d rest is a b c e g h =
+    let run = four_digits y in
+    let whole = date_group mark y m d (two_digits m) (two_digits d) rest in
+    let more = Mark mark ∷ Digits (two_digits m) ∷ Mark mark ∷ Digits (two_digits d) ∷ rest in
+    let no_colon = is.no_colon in
+    let after : after_group (with_date f y m d) whole rest ≡ rest = rw no_colon refl in
+    group-read mark now f run (two_digits m) (two_digits d) y m d rest is (number-year y b) (number-two m (omega arith)) (number-two d (omega arith)) (omega arith) (omega arith) (omega arith)
+    ∙ ap (λ (said : Dated). ended (by_rule (bytes_left (Digits run ∷ more)) whole rest said (bare_digits f run more)))
+    (date-group mark now f y (numbered m (bytes_left (Digits (two_digits m) ∷ Mark mark ∷ Digits (two_digits d) ∷ rest))) (numbered d (bytes_left (Digits (two_digits d) ∷ rest))) is a b c e g h)
+    ∙ ap (λ (rest : List Token). ended (Ok (Some (with_date f y m d), rest))) after
+
+-- offsets
+known-by : (behind : Bool) (k : ℕ) → (behind ≡ true → k ≡ 1 → ⊥) → known_minutes (signed behind k) ≡ Some (signed behind k)
+known-by false k h = refl
+known-by true zero h = refl
+known-by true (suc zero) h = absurd (h refl refl)
+known-by true (suc (suc k)) h = let more : nat_le (suc k) 0 ≡ false = grind (arith, nat_tests) in rw more refl
+
+with-known : (f : Fields) (behind : Bool) (k : ℕ) → (behind ≡ true → k ≡ 1 → ⊥) → with_offset f behind (pos k) ≡ record f { offset = Some (signed behind k) }
+unfolding with_offset
+with-known f true k h = ap (λ (o : Option ℤ). record f { offset = o }) (known-by true k h)
+with-known f false k h = refl
+
+minutes-are : (hours minutes : ℕ) → hours < 24 → minutes < 60 → offset_minutes hours false minutes ≡ Some (pos (60 * hours + minutes))
+unfolding offset_minutes
+minutes-are hours minutes h g =
+    let a : nat_lt hours 24 ≡ true = grind (arith, nat_tests) in
+    let b : nat_lt minutes 60 ≡ true = grind (arith, nat_tests) in
+    rw (a, b) refl
+
+said-four : (hours minutes : ℕ) → hours < 24 → minutes < 60 → offset_said (two_digits hours ++ two_digits minutes) [] ≡ Ok (Some (pos (60 * hours + minutes)), [])
+unfolding offset_said
+said-four hours minutes h g =
+    let run = two_digits hours ++ two_digits minutes in
+    let e : number run ≡ 100 * hours + minutes = number-pairs hours minutes (omega arith) (omega arith) in
+    let small : nat_lt 2_147_483_647 (number run) ≡ false = grind (arith, nat_tests) in
+    let a : number run / 100 ≡ hours = omega arith in
+    let b : number run % 100 ≡ minutes = omega arith in
+    rw (small, a, b, minutes-are hours minutes h g) refl
+
+said-colon : (hours minutes : ℕ) → hours < 24 → minutes < 60
+    → offset_said (two_digits hours) (Mark colon ∷ Digits (two_digits minutes) ∷ []) ≡ Ok (Some (pos (60 * hours + minutes)), [])
+unfolding offset_said two_digit_offset colon_minutes padded_number white without_white
+said-colon hours minutes h g =
+    let a : number (two_digits hours) ≡ hours = number-two hours (omega arith) in
+    let b : number (two_digits minutes) ≡ minutes = number-two minutes (omega arith) in
+    let small : nat_lt 2_147_483_647 hours ≡ false = grind (arith, nat_tests) in
+    let less : nat_lt 2_147_483_647 minutes ≡ false = grind (arith, nat_tests) in
+    rw (a, b, small, less, minutes-are hours minutes h g) refl
+
+offset-by : (f : Fields) (behind : Bool) (run : List ℕ) (more : List Token) (k : ℕ) → (behind ≡ true → k ≡ 1 → ⊥) → offset_said run more ≡ Ok (Some (pos k), [])
+    → sign_rule f behind (Digits run ∷ more) ≡ Ok (Some (record f { offset = Some (signed behind k) }), [])
+unfolding sign_rule offset_rule without_ending
+offset-by f behind run more k known e = rw (e, with-known f behind k known) refl
+
+sign-rule : (now : Now) (f : Fields) (behind : Bool) (run : List ℕ) (more : List Token) (k : ℕ) → (behind ≡ true → k ≡ 1 → ⊥) → offset_said run more ≡ Ok (Some (pos k), [])
+    → rule now f (Mark (cond behind minus plus)) (Digits run ∷ more) ≡ Ok (Some (record f { offset = Some (signed behind k) }), [])
+sign-rule now f true run more k known e = offset-by f true run more k known e
+sign-rule now f false run more k known e = offset-by f false run more k known e
+
+-- steps
+abbrev pub at : Fields → Reading
+at f = record { fields = f; ignored = None }
+
+pub go : (now : Now) (n : ℕ) (f next : Fields) (t : Token) (more rest : List Token) → is_end t ≡ false → rule now f t more ≡ Ok (Some next, rest)
+    → steps now (suc n) (at f) (t ∷ more) ≡ steps now n (at next) rest
+unfolding walked
+go now n f next t more rest e is =
+    ap (λ (b : Bool). cond b (Ok (at f)) (and_then (rule now f t more) (λ found. steps now n (read_on (at f) (bytes_left (t ∷ more)) found.0) found.1))) e
+    ∙ ap (λ (step : Stepped). and_then step (λ found. steps now n (read_on (at f) (bytes_left (t ∷ more)) found.0) found.1)) is
+
+sign-no-end : (behind : Bool) → is_end (Mark (cond behind minus plus)) ≡ false
+sign-no-end true = refl
+sign-no-end false = refl
+
+pub sign-no-dot : (behind : Bool) → ((cond behind minus plus) == dot) ≡ false
+sign-no-dot true = refl
+sign-no-dot false = refl
+
+abbrev with_time : LocalTime → Fields → Fields
+with_time t f = record f { hour = Some t.clock.hour; minute = Some t.clock.minute; second = Some t.clock.second }
+
+abbrev dated_fields : LocalTime → Fields
+dated_fields t = with_date unknown t.date.year t.date.month t.date.day
+
+-- what each format says
+abbrev pub fields_of : LocalTime → Fields
+fields_of t = record {
+  year = Some t.date.year;
+  month = Some t.date.month;
+  day = Some t.date.day;
+  hour = Some t.clock.hour;
+  minute = Some t.clock.minute;
+  second = Some t.clock.second;
+  offset = Some (offset_in_minutes t);
+  epoch = false;
+}
+
+pub skip-space : (now : Now) (n : ℕ) (f : Fields) (more : List Token) → steps now (suc n) (at f) (Mark space ∷ more) ≡ steps now n (at f) more
+skip-space now n f more = go now n f f (Mark space) more more refl refl
+
+go-clock : (now : Now) (n : ℕ) (f : Fields) (t : LocalTime) (byte : ℕ) (more : List Token) → IsGitClock t → (byte == dot) ≡ false
+    → steps now (suc n) (at f) (clock_tokens t (Mark byte ∷ more)) ≡ steps now n (at (with_time t f)) (Mark byte ∷ more)
+go-clock now n f t byte more h free =
+    go now n f (with_time t f) (Digits (two_digits t.clock.hour)) _ (Mark byte ∷ more) refl
+    (clock-rule now f _ _ _ t.clock.hour t.clock.minute t.clock.second byte more (number-two _ (omega (arith, h.hour))) (number-two _ (omega (arith, h.minute))) (number-two _ (omega (arith, h.second)))
+    h.hour h.minute h.second free)
+
+pub go-offset : (now : Now) (n : ℕ) (f : Fields) (t : LocalTime) → IsGitClock t
+    → steps now (suc n) (at f) (offset_tokens t) ≡ Ok (at (record f { offset = Some (offset_in_minutes t) }))
+go-offset now n f t h =
+    go now n f (record f { offset = Some (offset_in_minutes t) }) (Mark (sign_of t)) _ [] (sign-no-end (is_behind t))
+    (sign-rule now f (is_behind t) _ [] (60 * hours_of t + minutes_of t) h.known (said-four (hours_of t) (minutes_of t) h.hours h.minutes))
+    ∙ nothing-left (step now) n (at (record f { offset = Some (offset_in_minutes t) }))
+
+go-colon : (now : Now) (n : ℕ) (f : Fields) (t : LocalTime) → IsGitClock t
+    → steps now (suc n) (at f) (colon_tokens t) ≡ Ok (at (record f { offset = Some (offset_in_minutes t) }))
+go-colon now n f t h =
+    go now n f (record f { offset = Some (offset_in_minutes t) }) (Mark (sign_of t)) _ [] (sign-no-end (is_behind t))
+    (sign-rule now f (is_behind t) _ (Mark colon ∷ Digits (two_digits (minutes_of t)) ∷ []) (60 * hours_of t + minutes_of t) h.known (said-colon (hours_of t) (minutes_of t) h.hours h.minutes))
+    ∙ nothing-left (step now) n (at (record f { offset = Some (offset_in_minutes t) }))
+
+go-date : (mark : ℕ) (now : Now) (n : ℕ) (t : LocalTime) (more rest : List Token) → IsDateMark mark → IsGitClock t → without_ending more ≡ rest
+    → steps now (suc n) (at unknown) (date_tokens mark t more) ≡ steps now n (at (dated_fields t)) rest
+go-date mark now n t more rest is h e =
+    go now n unknown (dated_fields t) (Digits (four_digits t.date.year)) _ rest refl
+    (date-rule mark now unknown t.date.year t.date.month t.date.day more is h.first_year h.last_year h.first_month h.last_month h.first_day h.last_day
+    ∙ ap (λ (rest : List Token). Ok (Some (dated_fields t), rest)) e)
+
+go-name : (now : Now) (n : ℕ) (f next : Fields) (word : List ℕ) (byte : ℕ) (more : List Token) → with_word f word ≡ Some next
+    → steps now (suc n) (at f) (Letters word ∷ Mark byte ∷ more) ≡ steps now n (at next) (Mark byte ∷ more)
+unfolding letters_rule
+go-name now n f next word byte more e = go now n f next (Letters word) (Mark byte ∷ more) (Mark byte ∷ more) refl (ap (λ (said : Option Fields). Ok (said, Mark byte ∷ more)) e)
+
+-- `2022-08-18 12:45:06 +0800`
+abbrev pub iso_tokens : ℕ → LocalTime → List Token
+iso_tokens mark t = date_tokens mark t (Mark space ∷ clock_tokens t (Mark space ∷ offset_tokens t))
+
+pub iso-steps : (mark : ℕ) (now : Now) (n : ℕ) (t : LocalTime) → IsDateMark mark → IsGitClock t → steps now (suc (suc (suc (suc (suc n))))) (at unknown) (iso_tokens mark t) ≡ Ok (at (fields_of t))
+unfolding without_ending
+iso-steps mark now n t is h =
+    go-date mark now _ t (Mark space ∷ clock_tokens t (Mark space ∷ offset_tokens t)) _ is h refl
+    ∙ skip-space now _ (dated_fields t) _
+    ∙ go-clock now _ (dated_fields t) t space (offset_tokens t) h refl
+    ∙ skip-space now _ (with_time t (dated_fields t)) _
+    ∙ go-offset now n (with_time t (dated_fields t)) t h
+
+pub spaced-offset : (t : LocalTime) → IsGitClock t → tokens (space ∷ compact_offset_text t.offset) ≡ Mark space ∷ offset_tokens t
+unfolding tokens
+spaced-offset t h = ap (λ (ts : List Token). Mark space ∷ ts) (offset-before t h)
+
+spaced-clock : (t : LocalTime) → IsGitClock t → tokens (space ∷ (clock_text t.clock ++ (space ∷ compact_offset_text t.offset))) ≡ Mark space ∷ clock_tokens t (Mark space ∷ offset_tokens t)
+unfolding tokens
+spaced-clock t h = ap (λ (ts : List Token). Mark space ∷ ts) (clock-before t (space ∷ compact_offset_text t.offset) _ h (spaced-offset t h) tt)
+
+-- such a date, a clock and an offset
+abbrev pub marked_text : ℕ → LocalTime → List ℕ
+marked_text mark t = marked_date mark (t.date.year, t.date.month, t.date.day) ++ (space ∷ (clock_text t.clock ++ (space ∷ compact_offset_text t.offset)))
+
+pub iso-are : (mark : ℕ) (t : LocalTime) → IsDateMark mark → IsGitClock t → tokens (marked_text mark t) ≡ iso_tokens mark t
+iso-are mark t is h = date-before mark t (space ∷ (clock_text t.clock ++ (space ∷ compact_offset_text t.offset))) _ is h (spaced-clock t h) tt
+
+-- `2022-08-18T12:45:06+08:00`
+abbrev pub strict_tokens : ℕ → LocalTime → List Token
+strict_tokens mark t = date_tokens mark t (Letters (letter_t ∷ []) ∷ clock_tokens t (colon_tokens t))
+
+pub strict-steps : (mark : ℕ) (now : Now) (n : ℕ) (t : LocalTime) → IsDateMark mark → IsGitClock t → steps now (suc (suc (suc n))) (at unknown) (strict_tokens mark t) ≡ Ok (at (fields_of t))
+unfolding without_ending
+strict-steps mark now n t is h =
+    go-date mark now _ t (Letters (letter_t ∷ []) ∷ clock_tokens t (colon_tokens t)) (clock_tokens t (colon_tokens t)) is h refl
+    ∙ go-clock now _ (dated_fields t) t (sign_of t) (Digits (two_digits (hours_of t)) ∷ Mark colon ∷ Digits (two_digits (minutes_of t)) ∷ []) h (sign-no-dot (is_behind t))
+    ∙ go-colon now n (with_time t (dated_fields t)) t h
+
+lettered : (t : LocalTime) → IsGitClock t → tokens (letter_t ∷ (clock_text t.clock ++ strict_offset_text t.offset)) ≡ Letters (letter_t ∷ []) ∷ clock_tokens t (colon_tokens t)
+unfolding tokens
+lettered t h = ap (letter_before letter_t) (clock-before t (strict_offset_text t.offset) _ h (colon-before t h) tt)
+
+abbrev pub marked_strict_text : ℕ → LocalTime → List ℕ
+marked_strict_text mark t = marked_date mark (t.date.year, t.date.month, t.date.day) ++ (letter_t ∷ (clock_text t.clock ++ strict_offset_text t.offset))
+
+pub strict-are : (mark : ℕ) (t : LocalTime) → IsDateMark mark → IsGitClock t → tokens (marked_strict_text mark t) ≡ strict_tokens mark t
+strict-are mark t is h = date-before mark t (letter_t ∷ (clock_text t.clock ++ strict_offset_text t.offset)) _ is h (lettered t h) tt
+
+-- `Thu, 18 Aug 2022 12:45:06 +0800`
+abbrev pub mail_tokens : List ℕ → LocalTime → List Token
+mail_tokens day t =
+    Letters (day_name t.weekday) ∷ Mark comma ∷ Mark space ∷ Digits day ∷ Mark space ∷ Letters (month_name t.date.month) ∷ Mark space
+    ∷ Digits (four_digits t.date.year) ∷ Mark space ∷ clock_tokens t (Mark space ∷ offset_tokens t)
+
+abbrev with_day : LocalTime → Fields → Fields
+with_day t f = record f { day = Some t.date.day }
+
+abbrev with_month : LocalTime → Fields → Fields
+with_month t f = record f { month = Some t.date.month }
+
+abbrev with_year : LocalTime → Fields → Fields
+with_year t f = record f { year = Some t.date.year }
+
+go-weekday : (now : Now) (n : ℕ) (t : LocalTime) (byte : ℕ) (more : List Token) → IsGitClock t
+    → steps now (suc n) (at unknown) (Letters (day_name t.weekday) ∷ Mark byte ∷ more) ≡ steps now n (at unknown) (Mark byte ∷ more)
+go-weekday now n t byte more h = go-name now n unknown unknown (day_name t.weekday) byte more (day-said unknown t.weekday h.weekday)
+
+go-month : (now : Now) (n : ℕ) (f : Fields) (t : LocalTime) (more : List Token) → IsGitClock t
+    → steps now (suc (suc n)) (at f) (Letters (month_name t.date.month) ∷ Mark space ∷ more) ≡ steps now n (at (with_month t f)) more
+go-month now n f t more h =
+    go-name now (suc n) f (with_month t f) (month_name t.date.month) space more (month-said f t.date.month h.first_month h.last_month)
+    ∙ skip-space now n (with_month t f) more
+
+go-day : (now : Now) (n : ℕ) (f : Fields) (t : LocalTime) (run : List ℕ) (more : List Token) → IsGitClock t → IsDayText t.date.day run → f.day ≡ None
+    → steps now (suc (suc n)) (at f) (Digits run ∷ Mark space ∷ more) ≡ steps now n (at (with_day t f)) more
+go-day now n f t run more h is none =
+    go now (suc n) f (with_day t f) (Digits run) (Mark space ∷ more) (Mark space ∷ more) refl (day-rule now f t.date.day run more is h.first_day h.last_day none)
+    ∙ skip-space now n (with_day t f) more
+
+go-year : (now : Now) (n : ℕ) (f : Fields) (t : LocalTime) (more : List Token) → IsGitClock t
+    → steps now (suc (suc n)) (at f) (Digits (four_digits t.date.year) ∷ Mark space ∷ more) ≡ steps now n (at (with_year t f)) more
+go-year now n f t more h =
+    go now (suc n) f (with_year t f) (Digits (four_digits t.date.year)) (Mark space ∷ more) (Mark space ∷ more) refl (year-rule now f t.date.year more h.first_year h.last_year)
+    ∙ skip-space now n (with_year t f) more
+
+go-time : (now : Now) (n : ℕ) (f : Fields) (t : LocalTime) (more : List Token) → IsGitClock t
+    → steps now (suc (suc n)) (at f) (clock_tokens t (Mark space ∷ more)) ≡ steps now n (at (with_time t f)) more
+go-time now n f t more h = go-clock now (suc n) f t space more h refl ∙ skip-space now n (with_time t f) more
+
+pub mail-steps : (now : Now) (n : ℕ) (day : List ℕ) (t : LocalTime) → IsGitClock t → IsDayText t.date.day day
+    → steps now (suc (suc (suc (suc (suc (suc (suc (suc (suc (suc (suc (suc n)))))))))))) (at unknown) (mail_tokens day t) ≡ Ok (at (fields_of t))
+mail-steps now n day t h is =
+    let months = with_month t (with_day t unknown) in
+    let years = with_year t months in
+    go-weekday now _ t comma _ h
+    ∙ go now _ unknown unknown (Mark comma) _ _ refl refl
+    ∙ skip-space now _ unknown _
+    ∙ go-day now _ unknown t day _ h is refl
+    ∙ go-month now _ (with_day t unknown) t _ h
+    ∙ go-year now _ months t (clock_tokens t (Mark space ∷ offset_tokens t)) h
+    ∙ go-time now _ years t (offset_tokens t) h
+    ∙ go-offset now n (with_time t years) t h
+
+pub mail-are : (day : List ℕ) (t : LocalTime) → IsGitClock t → IsDayText t.date.day day
+    → tokens (day_name t.weekday ++ (comma ∷ (space ∷ (day ++ (space ∷ (month_name t.date.month ++ (space ∷ (four_digits t.date.year
+    ++ (space ∷ (clock_text t.clock ++ (space ∷ compact_offset_text t.offset)))))))))))
+    ≡ mail_tokens day t
+unfolding tokens
+mail-are day t h is =
+    let year_text = space ∷ (four_digits t.date.year ++ (space ∷ (clock_text t.clock ++ (space ∷ compact_offset_text t.offset)))) in
+    let month_text = space ∷ (month_name t.date.month ++ year_text) in
+    let year = ap (λ (ts : List Token). Mark space ∷ ts) (year-before t (space ∷ (clock_text t.clock ++ (space ∷ compact_offset_text t.offset))) _ h (spaced-clock t h) tt) in
+    let month = ap (λ (ts : List Token). Mark space ∷ ts) (month-before t.date.month year_text space _ h.first_month h.last_month year) in
+    let date = ap (λ (ts : List Token). Mark comma ∷ Mark space ∷ ts) (is.before month_text _ month tt) in
+    day-before t.weekday (comma ∷ (space ∷ (day ++ month_text))) comma _ h.weekday date
+
+-- `Thu Aug 18 2022 12:45:06 +0800`
+abbrev pub gitoxide_tokens : List ℕ → LocalTime → List Token
+gitoxide_tokens day t =
+    Letters (day_name t.weekday) ∷ Mark space ∷ Letters (month_name t.date.month) ∷ Mark space ∷ Digits day ∷ Mark space
+    ∷ Digits (four_digits t.date.year) ∷ Mark space ∷ clock_tokens t (Mark space ∷ offset_tokens t)
+
+pub gitoxide-steps : (now : Now) (n : ℕ) (day : List ℕ) (t : LocalTime) → IsGitClock t → IsDayText t.date.day day
+    → steps now (suc (suc (suc (suc (suc (suc (suc (suc (suc (suc (suc n))))))))))) (at unknown) (gitoxide_tokens day t) ≡ Ok (at (fields_of t))
+gitoxide-steps now n day t h is =
+    let days = with_day t (with_month t unknown) in
+    let years = with_year t days in
+    go-weekday now _ t space _ h
+    ∙ skip-space now _ unknown _
+    ∙ go-month now _ unknown t _ h
+    ∙ go-day now _ (with_month t unknown) t day _ h is refl
+    ∙ go-year now _ days t (clock_tokens t (Mark space ∷ offset_tokens t)) h
+    ∙ go-time now _ years t (offset_tokens t) h
+    ∙ go-offset now n (with_time t years) t h
+
+pub gitoxide-are : (day : List ℕ) (t : LocalTime) → IsGitClock t → IsDayText t.date.day day
+    → tokens (day_name t.weekday ++ (space ∷ (month_name t.date.month ++ (space ∷ (day ++ (space ∷ (four_digits t.date.year
+    ++ (space ∷ (clock_text t.clock ++ (space ∷ compact_offset_text t.offset))))))))))
+    ≡ gitoxide_tokens day t
+unfolding tokens
+gitoxide-are day t h is =
+    let year_text = space ∷ (four_digits t.date.year ++ (space ∷ (clock_text t.clock ++ (space ∷ compact_offset_text t.offset)))) in
+    let day_text = space ∷ (day ++ year_text) in
+    let year = ap (λ (ts : List Token). Mark space ∷ ts) (year-before t (space ∷ (clock_text t.clock ++ (space ∷ compact_offset_text t.offset))) _ h (spaced-clock t h) tt) in
+    let date = ap (λ (ts : List Token). Mark space ∷ ts) (is.before year_text _ year tt) in
+    let month = ap (λ (ts : List Token). Mark space ∷ ts) (month-before t.date.month day_text space _ h.first_month h.last_month date) in
+    day-before t.weekday (space ∷ (month_name t.date.month ++ day_text)) space _ h.weekday month
+
+-- `Thu Aug 18 12:45:06 2022 +0800`
+abbrev pub default_tokens : List ℕ → LocalTime → List Token
+default_tokens day t =
+    Letters (day_name t.weekday) ∷ Mark space ∷ Letters (month_name t.date.month) ∷ Mark space ∷ Digits day ∷ Mark space
+    ∷ clock_tokens t (Mark space ∷ Digits (four_digits t.date.year) ∷ Mark space ∷ offset_tokens t)
+
+pub default-steps : (now : Now) (n : ℕ) (day : List ℕ) (t : LocalTime) → IsGitClock t → IsDayText t.date.day day
+    → steps now (suc (suc (suc (suc (suc (suc (suc (suc (suc (suc (suc n))))))))))) (at unknown) (default_tokens day t) ≡ Ok (at (fields_of t))
+default-steps now n day t h is =
+    let days = with_day t (with_month t unknown) in
+    let times = with_time t days in
+    go-weekday now _ t space _ h
+    ∙ skip-space now _ unknown _
+    ∙ go-month now _ unknown t _ h
+    ∙ go-day now _ (with_month t unknown) t day _ h is refl
+    ∙ go-time now _ days t (Digits (four_digits t.date.year) ∷ Mark space ∷ offset_tokens t) h
+    ∙ go-year now _ times t (offset_tokens t) h
+    ∙ go-offset now n (with_year t times) t h
+
+pub default-are : (day : List ℕ) (t : LocalTime) → IsGitClock t → IsDayText t.date.day day
+    → tokens (day_name t.weekday ++ (space ∷ (month_name t.date.month ++ (space ∷ (day ++ (space ∷ (clock_text t.clock
+    ++ (space ∷ (four_digits t.date.year ++ (space ∷ compact_offset_text t.offset))))))))))
+    ≡ default_tokens day t
+unfolding tokens
+default-are day t h is =
+    let year_text = space ∷ (four_digits t.date.year ++ (space ∷ compact_offset_text t.offset)) in
+    let time_text = space ∷ (clock_text t.clock ++ year_text) in
+    let day_text = space ∷ (day ++ time_text) in
+    let year = ap (λ (ts : List Token). Mark space ∷ ts) (year-before t (space ∷ compact_offset_text t.offset) _ h (spaced-offset t h) tt) in
+    let time = ap (λ (ts : List Token). Mark space ∷ ts) (clock-before t year_text _ h year tt) in
+    let date = ap (λ (ts : List Token). Mark space ∷ ts) (is.before time_text _ time tt) in
+    let month = ap (λ (ts : List Token). Mark space ∷ ts) (month-before t.date.month day_text space _ h.first_month h.last_month date) in
+    day-before t.weekday (space ∷ (month_name t.date.month ++ day_text)) space _ h.weekday month

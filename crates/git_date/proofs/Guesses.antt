@@ -1,0 +1,4 @@
+-- What the approximate reader comes to.
+pub mod Clocks
+pub mod Places
+pub mod ZoneChoices

@@ -1,0 +1,129 @@
+-- Where the places of approximate answers and of their refusals are: at characters of the text.
+use Rattle.std.proofs.Common.{◌≡◌, pos, ℕ, Bool, true, false, List, [], length, sym, subst, refl, arith, nat_le, Option, Some, None, IfSome, Result, Ok, Err}
+use Rattle.std.specs.Prelude.{◌||◌, bytes_eq, codes, max}
+use Rattle.std.proofs.lemmas.Bool.Decides.{nat_tests}
+use Rattle.std.specs.Int.Signed.{le_z}
+use Rattle.jiff.specs.declared.zoned.Zoned.{Zoned}
+use Rattle.gix_date.specs.Relative.Steps.{zone_of}
+use Rattle.gix_date.specs.declared.time.Time.{Time}
+use Rattle.git_date.specs.Approximate.Reading.{draft_of, answer, answer_of, guess_by, answer_up_to, string_guess, guess, is_unreadable, exact_or_guess, approximate, HasApproximatePlacesIn}
+use Rattle.git_date.specs.Approximate.Drafts.{first_draft, earlier, settle}
+use Rattle.git_date.specs.Approximate.Expiry.{expiry_of, expiry_by, fixed_expiry, HasExpiryPlacesIn}
+use Rattle.git_date.specs.Approximate.Zones.{Choices, choices_of, shown_in, filled_time}
+use Rattle.git_date.specs.Rules.Dates.{now_of}
+use Rattle.git_date.specs.Exact.Outcome.{date_of, HasPlacesIn}
+use Rattle.git_date.specs.Exact.Reading.{said_by}
+use Rattle.git_date.specs.Tokens.Strings.{before_nul, nul_place}
+use Rattle.git_date.specs.Tokens.Tokens.{tokens}
+use Rattle.git_date.specs.declared.approximate.answer.Approximate.{Approximate}
+use Rattle.git_date.specs.declared.approximate.answer.Today.{Today}
+use Rattle.git_date.specs.declared.approximate.drafts.Draft.{Draft}
+use Rattle.git_date.specs.declared.approximate.expiry.Expiry.{Expiry}
+use Rattle.git_date.specs.declared.clocks.ShownClock.{ShownClock}
+use Rattle.git_date.specs.declared.date.ReadDate.{ReadDate}
+use Rattle.git_date.specs.declared.dates.Now.{Now}
+use Rattle.git_date.specs.declared.error.DateError.{DateError}
+use Rattle.git_date.specs.declared.fault.Fault.{Fault}
+use Rattle.git_date.specs.declared.fault.Fault.TheVariants as fault
+use Rattle.git_date.proofs.Rules.Respects.{ComesTo, FailsAt}
+use Rattle.git_date.proofs.Rules.Kept.{IsFaultAt, IsAt, either, First, Twice, fault-at, begin-kept, whole-twice}
+use Rattle.git_date.proofs.Rules.RespectedDrafts.{Drafts, SameDraft, NoneWaits, Givens, settle-respects, steps-respects}
+use Rattle.git_date.proofs.Exact.Places.{Ends, IsPlaceOf, kept, runs-of, ignored-in, up-to-in, error-before, places}
+use Rattle.git_date.proofs.Text.TokenRuns.{texts_are}
+
+max-by : (P : ℕ → Type 0) (a b : ℕ) (less : Bool) → nat_le a b ≡ less → P a → P b → P (max a b)
+max-by P a b true e p q = let is : max a b ≡ b = grind (arith, nat_tests, e) in subst P (sym is) q
+max-by P a b false e p q = let is : max a b ≡ a = grind (arith, nat_tests, e) in subst P (sym is) p
+
+-- the places of a draft: that of what is ignored, and that of the number that waits
+abbrev IsDraftAt : (ℕ → Type 0) → Draft → Draft → Type 0
+IsDraftAt P d e = Drafts (First P) (λ i j. IsAt P i) d e
+
+earlier-at : (P : ℕ → Type 0) (left : ℕ) (ignored : Option ℕ) → P left → IsAt P ignored → P (earlier left ignored)
+earlier-at P left None p h = p
+earlier-at P left (Some other) p h = max-by P left other (nat_le left other) refl p h
+
+ignored-at : (P : ℕ → Type 0) (d e : Draft) → IsDraftAt P d e → IsAt P d.ignored
+ignored-at P d e (SameDraft f weekday w x known i j waits h) = h
+
+-- the place of what is ignored in the end, or that of a refusal
+abbrev IsGivenAt : (ℕ → Type 0) → Result Draft Fault → Type 0
+IsGivenAt P (Ok d) = IsAt P (settle d).ignored
+IsGivenAt P (Err e) = IsFaultAt P e
+
+given-at : (P : ℕ → Type 0) (x y : Result Draft Fault) → Givens (First P) (λ i j. IsAt P i) x y → IsGivenAt P x
+given-at P x y (ComesTo d e h) =
+    ignored-at P (settle d) (settle e) (settle-respects (First P) (λ i j. IsAt P i) (λ left other i j p h. earlier-at P left i p h) d e h)
+given-at P x y (FailsAt a b faults) = fault-at P a b faults
+
+draft-at : (zone : Choices) (today : Today) (text : List ℕ) → IsGivenAt (IsPlaceOf text) (draft_of zone today text)
+unfolding draft_of
+draft-at zone today text =
+    let P = IsPlaceOf text in
+    let first = first_draft today.shown in
+    given-at P _ _ (steps-respects (First P) (λ i j. IsAt P i) (λ left other i j p h. earlier-at P left i p h)
+    (Twice (Ends text)) (begin-kept (Ends text) (Ends text) P (kept text)) (whole-twice (Ends text)) zone today (length text) first first (tokens text) (tokens text)
+    (SameDraft _ _ None None false None None NoneWaits tt) (refl, ([], sym (texts_are text), runs-of text)))
+
+-- the places of an answer
+answer-in : (text : List ℕ) (d : Draft) (time : Option Time) → IsAt (IsPlaceOf text) d.ignored → HasApproximatePlacesIn text (answer text d time)
+answer-in text d None h = tt
+answer-in text d (Some time) h = either (HasApproximatePlacesIn text) (le_z (pos 0) time.seconds) _ _ (ignored-in text d.ignored h) tt
+
+answer-of-in : (zone : Choices) (today : Today) (text : List ℕ) (given : Result Draft Fault) → IsGivenAt (IsPlaceOf text) given
+    → HasApproximatePlacesIn text (answer_of zone today text given)
+answer-of-in zone today text (Ok d) h = answer-in text (settle d) (filled_time zone today.shown (settle d).last.offset (settle d).fields) h
+answer-of-in zone today text (Err (fault.NumberTooLarge left)) h = h
+answer-of-in zone today text (Err (fault.BackTooFar left)) h = h
+answer-of-in zone today text (Err (fault.YearRefused left)) h = h
+answer-of-in zone today text (Err fault.Range) h = tt
+
+guess-by-in : (zone : Choices) (now : Now) (text : List ℕ) (shown : Option ShownClock) → HasApproximatePlacesIn text (guess_by zone now text shown)
+guess-by-in zone now text None = tt
+guess-by-in zone now text (Some shown) =
+    let today : Today = record { now = now; shown = shown } in
+    answer-of-in zone today text (draft_of zone today text) (draft-at zone today text)
+
+string-guess-in : (zone : Choices) (now : Now) (text : List ℕ) → HasApproximatePlacesIn text (string_guess zone now text)
+unfolding string_guess
+string-guess-in zone now text = guess-by-in zone now text (shown_in zone now.seconds)
+
+answer-up-to-in : (text : List ℕ) (found : Result Approximate DateError) → HasApproximatePlacesIn (before_nul text) found
+    → HasApproximatePlacesIn text (answer_up_to (nul_place text) found)
+answer-up-to-in text (Ok date) h = up-to-in text date.ignored h
+answer-up-to-in text (Err e) h = error-before text e h
+
+guess-in : (zone : Choices) (now : Now) (text : List ℕ) → HasApproximatePlacesIn text (guess zone now text)
+unfolding guess
+guess-in zone now text = answer-up-to-in text (string_guess zone now (before_nul text)) (string-guess-in zone now (before_nul text))
+
+exact-or-in : (text : List ℕ) (exact : Result ReadDate DateError) (guessed : Result Approximate DateError) → HasPlacesIn text exact
+    → HasApproximatePlacesIn text guessed → HasApproximatePlacesIn text (exact_or_guess exact guessed)
+exact-or-in text (Ok date) guessed h g = h
+exact-or-in text (Err e) guessed h g = either (HasApproximatePlacesIn text) (is_unreadable e) guessed (Err e) g h
+
+pub approximate-places : (moment : Zoned) (text : List ℕ) → HasApproximatePlacesIn text (approximate moment text)
+approximate-places moment text =
+    exact-or-in text (date_of (zone_of moment) (said_by (now_of moment) text)) (guess (choices_of (zone_of moment)) (now_of moment) text)
+    (places (zone_of moment) (now_of moment) text) (guess-in (choices_of (zone_of moment)) (now_of moment) text)
+
+-- what expires
+dated-in : (text : List ℕ) (date : Result Approximate DateError) → HasApproximatePlacesIn text date → HasExpiryPlacesIn text (expiry_of date)
+dated-in text (Ok date) h = either (HasExpiryPlacesIn text) date.understood _ _ h tt
+dated-in text (Err e) h = h
+
+abbrev HasNoPlaces : List ℕ → Option Expiry → Type 0
+HasNoPlaces text fixed = IfSome fixed (λ said. HasExpiryPlacesIn text (Ok said))
+
+fixed-in : (text word : List ℕ) → HasNoPlaces text (fixed_expiry word)
+unfolding fixed_expiry
+fixed-in text word =
+    either (HasNoPlaces text) (bytes_eq word (codes "never") || bytes_eq word (codes "false")) _ _ tt
+    (either (HasNoPlaces text) (bytes_eq word (codes "all") || bytes_eq word (codes "now")) _ _ tt tt)
+
+expiry-by-in : (moment : Zoned) (text : List ℕ) (fixed : Option Expiry) → HasNoPlaces text fixed → HasExpiryPlacesIn text (expiry_by moment text fixed)
+expiry-by-in moment text (Some said) fixed = fixed
+expiry-by-in moment text None fixed = dated-in text (approximate moment text) (approximate-places moment text)
+
+pub expiry-places : (moment : Zoned) (text : List ℕ) → HasExpiryPlacesIn text (expiry_by moment text (fixed_expiry (before_nul text)))
+expiry-places moment text = expiry-by-in moment text (fixed_expiry (before_nul text)) (fixed-in text (before_nul text))

@@ -1,0 +1,7 @@
+-- What the exact reader makes of a text.
+pub mod Reading
+pub mod Zones
+pub mod ZoneTexts
+pub mod Outcome
+pub mod Fast
+pub mod Computing

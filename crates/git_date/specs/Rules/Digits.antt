@@ -1,0 +1,134 @@
+-- What digits say: an epoch, a group, or by their width a date, a clock, an offset, a year, a day or a month.
+use Rattle.std.specs.Prelude.{ℕ, ◌+◌, ◌*◌, ◌/◌, ◌%◌, Bool, ◌&&◌, ◌||◌, List, ◌∷◌, length, pos, true, ◌==◌, nat_le, nat_lt, if◌then◌else◌, Option, Some, None, Result, Ok, Err, is_some, is_none}
+use Rattle.git_date.specs.Tokens.Tokens.{Token, Digits, bytes_left}
+use Rattle.git_date.specs.Tokens.Numbers.{number, is_too_large}
+use Rattle.git_date.specs.Rules.Fields.{knows_nothing, with_clock}
+use Rattle.git_date.specs.Rules.Clocks.{utc_clock}
+use Rattle.git_date.specs.Rules.Dates.{year_date, last_year}
+use Rattle.git_date.specs.Rules.Groups.{ReadTokens, group_of, group_rule, large_in, without_fraction, after_group}
+use Rattle.git_date.specs.declared.fields.Fields.{Fields}
+use Rattle.git_date.specs.declared.dates.Now.{Now}
+use Rattle.git_date.specs.declared.clocks.ShownClock.{ShownClock}
+use Rattle.git_date.specs.declared.dates.Dated.{Dated}
+use Rattle.git_date.specs.declared.dates.Dated.TheVariants.{Taken, Refused}
+use Rattle.git_date.specs.declared.dates.Dated.TheVariants as dated
+use Rattle.git_date.specs.declared.fault.Fault.{Fault}
+use Rattle.git_date.specs.declared.fault.Fault.TheVariants.{NumberTooLarge, YearRefused, Range}
+use Rattle.git_date.specs.declared.groups.Group.{Group}
+
+-- What a rule makes of the tokens that stand first: the fields, or `None` if no rule used them, and the tokens after those
+-- that it took; or why the whole text is refused.
+abbrev pub Stepped : Type 0
+Stepped = Result (Option Fields × List Token) Fault
+
+-- the least number that may be seconds since 1970
+abbrev pub min_epoch : ℕ
+min_epoch = 100_000_000
+
+-- seconds since 1970: a number so large, where nothing is known
+abbrev pub is_epoch : Fields → ℕ → Bool
+is_epoch f n = nat_le min_epoch n && knows_nothing f
+
+-- the fields of a clock of UTC, which are those of an epoch
+abbrev pub with_epoch : Fields → ShownClock → Fields
+with_epoch f shown = record f {
+  year = Some shown.year;
+  month = Some shown.month;
+  day = Some shown.day;
+  hour = Some shown.hour;
+  minute = Some shown.minute;
+  second = Some shown.second;
+  epoch = true;
+}
+
+abbrev pub by_clock : Fields → List Token → Option ShownClock → Stepped
+by_clock f more (Some shown) = Ok (Some (with_epoch f shown), more)
+by_clock f more None = Err Range
+
+-- the fields of an epoch, by the clock of UTC; `Range` if it is no instant
+unfoldable pub epoch_rule : Fields → ℕ → List Token → Stepped
+epoch_rule f n more = by_clock f more (utc_clock n)
+
+-- eight digits: a date, which begins with its year
+abbrev pub by_date : List ℕ → List Token → Dated → Stepped
+by_date run more (Taken next) = Ok (Some next, more)
+by_date run more Refused = Ok (None, more)
+by_date run more dated.YearRefused = Err (YearRefused (bytes_left (Digits run ∷ more)))
+
+unfoldable pub eight_digits : Fields → List ℕ → List Token → Stepped
+eight_digits f run more =
+    by_date run more (year_date f (number run / 10_000) (number run / 100 % 100) (number run % 100))
+
+-- six digits: a clock, and a fraction after it is taken
+abbrev pub clock_taken : List Token → Option Fields → Option Fields × List Token
+clock_taken more (Some next) = (Some next, without_fraction more)
+clock_taken more None = (None, more)
+
+unfoldable pub six_digits : Fields → ℕ → List Token → Option Fields × List Token
+six_digits f n more = clock_taken more (with_clock f (n / 10_000) (n / 100 % 100) (n % 100))
+
+-- four digits: the offset, where none is known, or else the year
+unfoldable pub four_digits : Fields → ℕ → Option Fields
+four_digits f n =
+    if nat_le n 1400 && is_none f.offset then Some (record f { offset = Some (pos (60 * (n / 100) + n % 100)) })
+    else (if nat_lt 1900 n && nat_le n last_year then Some (record f { year = Some n }) else None)
+
+-- two digits where no year is known: the year
+unfoldable pub two_digit_year : Fields → ℕ → Option ℕ
+two_digit_year f n =
+    if is_some f.year then None
+    else (if nat_lt n 10 && is_some f.day then Some (2000 + n)
+    else (if nat_le 70 n && nat_le n 99 then Some (1900 + n) else None))
+
+-- a month, where none is known
+unfoldable pub or_month : Fields → ℕ → Option Fields
+or_month f n = if nat_le 1 n && nat_le n 12 && is_none f.month then Some (record f { month = Some n }) else None
+
+abbrev pub year_or_month : Fields → ℕ → Option ℕ → Option Fields
+year_or_month f n (Some year) = Some (record f { year = Some year })
+year_or_month f n None = or_month f n
+
+-- one digit or two: the day, where none is known, or else the year, or else the month
+unfoldable pub few_digits : Fields → ℕ → ℕ → Option Fields
+few_digits f width n =
+    if nat_le 1 n && nat_le n 31 && is_none f.day then Some (record f { day = Some n })
+    else year_or_month f n (if width == 2 then two_digit_year f n else None)
+
+-- digits that are no group, by their width
+unfoldable pub bare_digits : Fields → List ℕ → List Token → Stepped
+bare_digits f run more =
+    if length run == 8 then eight_digits f run more
+    else (if length run == 6 then Ok (six_digits f (number run) more)
+    else (if length run == 4 then Ok (four_digits f (number run), more)
+    else (if length run == 1 || length run == 2 then Ok (few_digits f (length run) (number run), more) else Ok (None, more))))
+
+-- A group that is taken: it is refused where a number of it was too large, and so is a date whose year is refused.
+abbrev pub by_rule : ℕ → Group → List Token → Dated → Stepped → Stepped
+by_rule left g more (Taken next) bare = Ok (Some next, after_group next g more)
+by_rule left g more Refused bare = bare
+by_rule left g more dated.YearRefused bare = Err (YearRefused left)
+
+abbrev pub unless_large : Option ℕ → Dated → Stepped → Stepped
+unless_large (Some left) Refused taken = taken
+unless_large (Some left) found taken = Err (NumberTooLarge left)
+unless_large None found taken = taken
+
+abbrev pub grouped : Now → Fields → ℕ → Group × List Token → Stepped → Stepped
+grouped now f left found bare =
+    unless_large (large_in found.0) (group_rule now f found.0) (by_rule left found.0 found.1 (group_rule now f found.0) bare)
+
+abbrev pub group_or_bare : Now → Fields → ℕ → ReadTokens Group → Stepped → Stepped
+group_or_bare now f left (Some found) bare = grouped now f left found bare
+group_or_bare now f left None bare = bare
+
+-- digits that are no epoch: a group, or else by their width
+unfoldable pub number_rule : Now → Fields → List ℕ → List Token → Stepped
+number_rule now f run more =
+    group_or_bare now f (bytes_left (Digits run ∷ more)) (group_of (number run) more) (bare_digits f run more)
+
+-- what digits say
+unfoldable pub digits_rule : Now → Fields → List ℕ → List Token → Stepped
+digits_rule now f run more =
+    if is_epoch f (number run) then epoch_rule f (number run) more
+    else (if is_too_large (number run) then Err (NumberTooLarge (bytes_left (Digits run ∷ more)))
+    else number_rule now f run more)

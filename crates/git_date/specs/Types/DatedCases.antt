@@ -1,0 +1,12 @@
+-- The variants of `Dated`.
+use Rattle.git_date.specs.Types.Names.{Dated, Fields}
+use Rattle.git_date.specs.declared.dates.Dated.TheVariants as variant
+
+pattern abbrev pub Taken : Fields → Dated
+Taken a = variant.Taken a
+
+pattern abbrev pub Refused : Dated
+Refused = variant.Refused
+
+pattern abbrev pub YearRefused : Dated
+YearRefused = variant.YearRefused

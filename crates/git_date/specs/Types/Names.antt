@@ -1,0 +1,65 @@
+-- The types of the code that definitions speak of, by names that other crates can use.
+use Rattle.git_date.specs.declared.dates.Now.{Now as TheNow}
+use Rattle.git_date.specs.declared.dates.Dated.{Dated as TheDated}
+use Rattle.git_date.specs.declared.fault.Fault.{Fault as TheFault}
+use Rattle.git_date.specs.declared.fields.Fields.{Fields as TheFields}
+use Rattle.git_date.specs.declared.groups.Group.{Group as TheGroup}
+use Rattle.git_date.specs.declared.groups.Number.{Number as TheNumber}
+use Rattle.git_date.specs.declared.offsets.Padded.{Padded as ThePadded}
+use Rattle.git_date.specs.declared.reader.Reading.{Reading as TheReading}
+use Rattle.git_date.specs.declared.reader.Said.{Said as TheSaid}
+use Rattle.git_date.specs.declared.clocks.ShownClock.{ShownClock as TheShownClock}
+use Rattle.git_date.specs.declared.approximate.answer.Today.{Today as TheToday}
+use Rattle.git_date.specs.declared.approximate.drafts.Draft.{Draft as TheDraft}
+use Rattle.git_date.specs.declared.approximate.meanings.Meaning.{Meaning as TheMeaning}
+use Rattle.git_date.specs.declared.approximate.meanings.Unit.{Unit as TheUnit}
+use Rattle.git_date.specs.declared.show.ages.Age.{Age as TheAge}
+use Rattle.git_date.specs.declared.show.human.Distance.{Distance as TheDistance}
+
+abbrev pub Now : Type 0
+Now = TheNow
+
+abbrev pub Dated : Type 0
+Dated = TheDated
+
+abbrev pub Fault : Type 0
+Fault = TheFault
+
+abbrev pub Fields : Type 0
+Fields = TheFields
+
+abbrev pub Group : Type 0
+Group = TheGroup
+
+abbrev pub Number : Type 0
+Number = TheNumber
+
+abbrev pub Padded : Type 0
+Padded = ThePadded
+
+abbrev pub Reading : Type 0
+Reading = TheReading
+
+abbrev pub Said : Type 0
+Said = TheSaid
+
+abbrev pub ShownClock : Type 0
+ShownClock = TheShownClock
+
+abbrev pub Today : Type 0
+Today = TheToday
+
+abbrev pub Draft : Type 0
+Draft = TheDraft
+
+abbrev pub Meaning : Type 0
+Meaning = TheMeaning
+
+abbrev pub Unit : Type 0
+Unit = TheUnit
+
+abbrev pub Age : Type 0
+Age = TheAge
+
+abbrev pub Distance : Type 0
+Distance = TheDistance

@@ -1,0 +1,7 @@
+-- Texts that go back from now, and zones.
+pub mod FixedChoices
+pub mod ExactBack
+pub mod ExactNothing
+pub mod MonthsAgo
+pub mod Zones
+pub mod ClockRead

@@ -1,0 +1,305 @@
+-- `n UNIT ago` is that many seconds before now.
+use Rattle.std.proofs.Common.{◌≡◌, ◌∙◌, ◌≤◌, ◌<◌, ℕ, suc, ◌-◌, ◌*◌, Bool, true, false, cond, ℤ, pos, ◌+ℤ◌, ◌-ℤ◌, ◌≤ℤ◌, List, [], ◌∷◌, ◌++◌, length, length-append, Option, Some, None, option_map, Result, Ok, Err, refl, sym, ap, ap₂, subst, arith}
+use Rattle.std.specs.Option.{option_or}
+use Rattle.std.specs.Prelude.{codes, ◌==◌}
+use Rattle.std.proofs.lemmas.Bool.Decides.{nat_tests}
+use Rattle.jiff.specs.Types.{Offset}
+use Rattle.jiff_core.proofs.SignedLemmas.{signed_arith}
+use Rattle.gix_date.proofs.Fields.Instants.{instant_holds, instant_from, z_holds}
+use Rattle.gix_date.specs.Fields.Zoned.{is_instant}
+use Rattle.gix_date.specs.Text.Front.{◌>>=◌}
+use Rattle.gix_date.specs.declared.time.Time.{Time}
+use Rattle.git_date.proofs.Text.Walked.{nothing-left}
+use Rattle.git_date.specs.Approximate.Reading.{rule, steps, draft_of, answer, answer_of, answer_up_to, guess_by, string_guess, guess, step}
+use Rattle.git_date.specs.Approximate.Drafts.{first_draft, clock_fields, all_fields, with_shown, settle, units}
+use Rattle.git_date.specs.Approximate.Rules.{letters_rule, digits_rule, back_rule, meaning_rule, number_waits, group_said, is_padded}
+use Rattle.git_date.specs.Approximate.Words.{moment_named, count_named, unit_named, meaning_of}
+use Rattle.gix_date.specs.Text.LongNames.{weekday_told, month_told}
+use Rattle.git_date.specs.Approximate.Clocks.{filled_seconds}
+use Rattle.git_date.specs.Approximate.Zones.{Choices, one_offset, with_offset, shown_in, filled_time, moved_by, moved_to, fill_by, fill}
+use Rattle.git_date.specs.Rules.Groups.{group_of, marked_number}
+use Rattle.git_date.specs.Tokens.Numbers.{number, is_too_large, max_small}
+use Rattle.git_date.specs.Exact.Reading.{said_up_to, string_said, said_by}
+use Rattle.git_date.specs.Tokens.Strings.{before_nul, nul_place}
+use Rattle.git_date.specs.Tokens.Tokens.{Token, Letters, Digits, Mark, tokens, texts, bytes_left, walked}
+use Rattle.git_date.specs.Rules.Words.{is_filler, without_ending}
+use Rattle.git_date.specs.declared.approximate.answer.Approximate.{Approximate}
+use Rattle.git_date.specs.Types.Names.{Today}
+use Rattle.git_date.specs.Types.Names.{Draft}
+use Rattle.git_date.specs.Types.MeaningCases as meaning
+use Rattle.git_date.specs.Types.UnitCases.{Seconds}
+use Rattle.git_date.specs.Types.Names.{ShownClock}
+use Rattle.git_date.specs.Types.Names.{Now}
+use Rattle.git_date.specs.declared.error.DateError.TheVariants.{Unreadable, Range}
+use Rattle.git_date.specs.Types.Names.{Fault}
+use Rattle.git_date.specs.Types.Names.{Fields}
+use Rattle.git_date.proofs.Text.TokenRuns.{texts_are}
+use Rattle.git_date.proofs.Rules.ClocksBack.{IsClockBack, shown_of, filled-back, filled-today, shown-back}
+use Rattle.git_date_laws.proofs.Back.ExactNothing.{nothing-said}
+use Rattle.git_date.specs.Laws.Back.{CountsBack, IsReached, exactly_back}
+
+-- one step after the other
+pub go-on : (zone : Choices) (today : Today) (n : ℕ) (d next : Draft) (t : Token) (more : List Token) (r : Result Draft Fault)
+    → rule zone today d t more ≡ Ok (next, more) → steps zone today n next more ≡ r → steps zone today (suc n) d (t ∷ more) ≡ r
+unfolding walked
+go-on zone today n d next t more r is e = rw is e
+
+abbrev pub followed : ℕ → List ℕ → ℕ → List Token
+followed gap unit last = Mark gap ∷ Letters unit ∷ Mark last ∷ Letters (codes "ago") ∷ []
+
+-- the draft after the digits: they wait
+abbrev pub waiting_draft : ShownClock → ℕ → ℕ → Draft
+waiting_draft c n left = record {
+  fields = clock_fields c;
+  last = c;
+  waiting = Some (record { value = n; left = left });
+  understood = true;
+  ignored = None;
+}
+
+-- the draft after the unit
+abbrev pub moved_draft : ShownClock → Draft
+moved_draft c = record { fields = all_fields c; last = c; waiting = None; understood = true; ignored = None }
+
+pub not-zero : (n : ℕ) → 1 ≤ n → (n == 0) ≡ false
+not-zero n h = grind (arith, nat_tests)
+
+pub not-large : (n : ℕ) → n ≤ max_small → is_too_large n ≡ false
+not-large n h = grind (arith, nat_tests)
+
+pub digits-wait : (zone : Choices) (today : Today) (run : List ℕ) (gap : ℕ) (unit : List ℕ) (last : ℕ) → number run ≤ max_small → 1 ≤ number run → is_padded run ≡ false
+    → rule zone today (first_draft today.shown) (Digits run) (followed gap unit last)
+    ≡ Ok (waiting_draft today.shown (number run) (bytes_left (Digits run ∷ followed gap unit last)), followed gap unit last)
+unfolding digits_rule group_said group_of marked_number number_waits without_ending settle
+digits-wait zone today run gap unit last small some padded =
+    rw (not-large (number run) small, not-zero (number run) some, padded) refl
+
+-- the unit moves the draft, where its filling does
+unit-moves : (zone : Choices) (c next : ShownClock) (unit : List ℕ) (last n size left : ℕ) → meaning_of unit ≡ Some (meaning.Unit (Seconds size)) → n * size ≤ max_small
+    → fill zone c (record (waiting_draft c n left) { waiting = None }) (n * size) left ≡ Ok (moved_draft next)
+    → letters_rule zone c (waiting_draft c n left) unit (Mark last ∷ Letters (codes "ago") ∷ []) ≡ Ok (moved_draft next)
+unfolding letters_rule meaning_rule back_rule
+unit-moves zone c next unit last n size left means small moves =
+    let same : units n size ≡ n * size = omega (arith, small) in
+    rw (means, same, not-large (n * size) small, moves) refl
+
+pub ago-nothing : (zone : Choices) (c : ShownClock) (d : Draft) → letters_rule zone c d (codes "ago") [] ≡ Ok d
+unfolding letters_rule meaning_of month_told moment_named count_named weekday_told unit_named is_filler
+ago-nothing zone c d = refl
+
+-- a count that waits, the unit that moves it, and `ago`
+pub unit-walk : (zone : Choices) (today : Today) (n : ℕ) (d waits there : Draft) (digits : List ℕ) (gap : ℕ) (unit : List ℕ) (last : ℕ)
+    → rule zone today d (Digits digits) (followed gap unit last) ≡ Ok (waits, followed gap unit last)
+    → letters_rule zone today.shown waits unit (Mark last ∷ Letters (codes "ago") ∷ []) ≡ Ok there
+    → steps zone today (suc (suc (suc (suc (suc n))))) d (Digits digits ∷ followed gap unit last) ≡ Ok there
+unit-walk zone today n d waits there digits gap unit last wait moves =
+    let ago : List Token = Letters (codes "ago") ∷ [] in
+    let fifth = go-on zone today n there there (Letters (codes "ago")) [] (Ok there) (rw (ago-nothing zone today.shown there) refl) (nothing-left (step zone today) n there) in
+    let fourth = go-on zone today (suc n) there there (Mark last) ago (Ok there) refl fifth in
+    let third = go-on zone today (suc (suc n)) waits there (Letters unit) (Mark last ∷ ago) (Ok there) (rw moves refl) fourth in
+    let second = go-on zone today (suc (suc (suc n))) waits waits (Mark gap) (Letters unit ∷ Mark last ∷ ago) (Ok there) refl third in
+    go-on zone today (suc (suc (suc (suc n)))) d waits (Digits digits) (followed gap unit last) (Ok there) wait second
+
+-- what a zone of one offset chooses
+abbrev picked : ℤ → ℤ → Time
+picked s o = record { seconds = s -ℤ o; offset = o }
+
+picks-is : (o s : ℤ) → is_instant s ≡ true → is_instant (s -ℤ o) ≡ true → (one_offset o).picks o s ≡ Some (picked s o)
+picks-is o s a b = rw (a, b) refl
+
+-- what the clock of such a zone shows
+abbrev pub clock_at : ℤ → ℤ → ShownClock
+clock_at o x = with_offset o (shown_of x)
+
+pub shown-is : (o n : ℤ) → is_instant n ≡ true → IsClockBack (n +ℤ o) → shown_in (one_offset o) n ≡ Some (clock_at o (n +ℤ o))
+unfolding shown_in
+shown-is o n a h = rw a (ap (option_map (with_offset o)) (shown-back (n +ℤ o) h))
+
+pub filled-clock : (o x : ℤ) → IsClockBack x → filled_seconds (clock_at o x) (clock_fields (clock_at o x)) ≡ Some x
+unfolding filled_seconds
+filled-clock o x h = filled-today x h
+
+-- the moment and the time that is told, by the clock
+pub record AreClocks (o now : ℤ) (back : ℕ) : Type 0 where
+  pub now_instant : is_instant now ≡ true
+  pub told_instant : is_instant (now -ℤ pos back) ≡ true
+  pub now_clock : is_instant (now +ℤ o) ≡ true
+  pub told_clock : is_instant (now -ℤ pos back +ℤ o) ≡ true
+  pub now_shown : IsClockBack (now +ℤ o)
+  pub told_shown : IsClockBack (now -ℤ pos back +ℤ o)
+  pub since_1970 : pos 0 ≤ℤ (now -ℤ pos back)
+
+pub are-clocks : (o : Offset) (now : ℤ) (back : ℕ) → is_instant now ≡ true → IsReached now o.seconds back → AreClocks o.seconds now back
+are-clocks o now back instant h =
+    let range = o.in_range in
+    let within = instant_holds now instant in
+    let clock = instant_holds (now +ℤ o.seconds) h.clock in
+    let since = h.since_1970 in
+    record {
+      now_instant = instant;
+      told_instant = instant_from (now -ℤ pos back) (omega (arith, signed_arith, within, since), omega (arith, signed_arith, within, since));
+      now_clock = h.clock;
+      told_clock = instant_from (now -ℤ pos back +ℤ o.seconds) (omega (arith, signed_arith, clock, since, range), omega (arith, signed_arith, clock, since, range));
+      now_shown = (omega (arith, signed_arith, since, range), clock.1);
+      told_shown = (omega (arith, signed_arith, since, range), omega (arith, signed_arith, clock, since, range));
+      since_1970 = omega (arith, signed_arith, since);
+    }
+
+-- the same in any zone, by its offsets at the two
+pub record Reaches (zone : Choices) (now : ℤ) (back : ℕ) (o then : ℤ) : Type 0 where
+  pub now_shown : shown_in zone now ≡ Some (clock_at o (now +ℤ o))
+  pub told_shown : shown_in zone (now -ℤ pos back) ≡ Some (clock_at then (now -ℤ pos back +ℤ then))
+  pub filled_now : filled_time zone (clock_at o (now +ℤ o)) o (clock_fields (clock_at o (now +ℤ o))) ≡ Some (record { seconds = now; offset = o })
+  pub filled_told : filled_time zone (clock_at o (now +ℤ o)) then (all_fields (clock_at then (now -ℤ pos back +ℤ then)))
+      ≡ Some (record { seconds = now -ℤ pos back; offset = then })
+  pub since_1970 : pos 0 ≤ℤ (now -ℤ pos back)
+
+module _ (o now : ℤ) (back : ℕ) (are : AreClocks o now back) where
+  abbrev pub today_shown : ShownClock
+  today_shown = clock_at o (now +ℤ o)
+
+  abbrev told_shown : ShownClock
+  told_shown = clock_at o (now -ℤ pos back +ℤ o)
+
+  pub filled-now : filled_time (one_offset o) today_shown o (clock_fields today_shown) ≡ Some (record { seconds = now; offset = o })
+  unfolding filled_time
+  filled-now =
+      let same : now +ℤ o -ℤ o ≡ now = omega (arith, signed_arith) in
+      ap (λ s. s >>= (one_offset o).picks o) (filled-clock o (now +ℤ o) are.now_shown)
+      ∙ picks-is o (now +ℤ o) are.now_clock (subst (λ (s : ℤ). is_instant s ≡ true) (sym same) are.now_instant)
+      ∙ ap (λ (s : ℤ). let t : Time = record { seconds = s; offset = o } in Some t) same
+
+  filled-told : filled_time (one_offset o) today_shown o (all_fields told_shown) ≡ Some (record { seconds = now -ℤ pos back; offset = o })
+  unfolding filled_time
+  filled-told =
+      let same : now -ℤ pos back +ℤ o -ℤ o ≡ now -ℤ pos back = omega (arith, signed_arith) in
+      ap (λ s. s >>= (one_offset o).picks o) (filled-back (now -ℤ pos back +ℤ o) today_shown are.told_shown)
+      ∙ picks-is o (now -ℤ pos back +ℤ o) are.told_clock (subst (λ (s : ℤ). is_instant s ≡ true) (sym same) are.told_instant)
+      ∙ ap (λ (s : ℤ). let t : Time = record { seconds = s; offset = o } in Some t) same
+
+  pub reaches : Reaches (one_offset o) now back o o
+  reaches = record {
+    now_shown = shown-is o now are.now_instant are.now_shown;
+    told_shown = shown-is o (now -ℤ pos back) are.told_instant are.told_shown;
+    filled_now = filled-now;
+    filled_told = filled-told;
+    since_1970 = are.since_1970;
+  }
+
+module _ (zone : Choices) (now : ℤ) (back : ℕ) (o then : ℤ) (are : Reaches zone now back o then) where
+  abbrev now_clock : ShownClock
+  now_clock = clock_at o (now +ℤ o)
+
+  abbrev then_clock : ShownClock
+  then_clock = clock_at then (now -ℤ pos back +ℤ then)
+
+  pub moves : (d : Draft) (left : ℕ) → d.fields ≡ clock_fields now_clock → d.last ≡ now_clock → fill zone now_clock d back left ≡ Ok (with_shown d then_clock)
+  unfolding fill moved_to
+  moves d left fields last =
+      ap₂ (λ (f : Fields) (shown : ShownClock). fill_by zone d back left (filled_time zone now_clock shown.offset f)) fields last
+      ∙ ap (λ (t : Option Time). fill_by zone d back left t) are.filled_now
+      ∙ ap (λ (s : Option ShownClock). moved_by d left s) are.told_shown
+
+  pub filled-moves : (n left : ℕ) → fill zone now_clock (record (waiting_draft now_clock n left) { waiting = None }) back left ≡ Ok (moved_draft then_clock)
+  filled-moves n left = moves (record (waiting_draft now_clock n left) { waiting = None }) left refl refl
+
+  pub answered : (text : List ℕ) → answer text (settle (moved_draft then_clock)) (filled_time zone now_clock (settle (moved_draft then_clock)).last.offset (settle (moved_draft then_clock)).fields)
+      ≡ Ok (exactly_back now then back)
+  unfolding settle
+  answered text =
+      ap (λ (t : Option Time). answer text (moved_draft then_clock) t) are.filled_told
+      ∙ ap (λ (b : Bool). cond b (Ok (exactly_back now then back)) (Err Range)) (z_holds (pos 0) (now -ℤ pos back) are.since_1970)
+
+-- the tokens of such a text move the draft
+module _ (zone : Choices) (now o then : ℤ) (this : Now) (digits : List ℕ) (gap : ℕ) (unit : List ℕ) (last size : ℕ)
+    (are : Reaches zone now (number digits * size) o then)
+    (fits : number digits * size ≤ max_small) (small : number digits ≤ max_small) (some : 1 ≤ number digits) (padded : is_padded digits ≡ false)
+    (means : meaning_of unit ≡ Some (meaning.Unit (Seconds size))) where
+  abbrev here : Today
+  here = record { now = this; shown = clock_at o (now +ℤ o) }
+
+  abbrev there : Draft
+  there = moved_draft (clock_at then (now -ℤ pos (number digits * size) +ℤ then))
+
+  abbrev ts : List Token
+  ts = followed gap unit last
+
+  abbrev waits : Draft
+  waits = waiting_draft here.shown (number digits) (bytes_left (Digits digits ∷ ts))
+
+  moved-word : letters_rule zone here.shown waits unit (Mark last ∷ Letters (codes "ago") ∷ []) ≡ Ok there
+  moved-word =
+      unit-moves zone here.shown (clock_at then (now -ℤ pos (number digits * size) +ℤ then)) unit last (number digits) size (bytes_left (Digits digits ∷ ts)) means fits
+      (filled-moves zone now (number digits * size) o then are (number digits) (bytes_left (Digits digits ∷ ts)))
+
+  drafted : (k : ℕ) → steps zone here (suc (suc (suc (suc (suc k))))) (first_draft here.shown) (Digits digits ∷ ts) ≡ Ok there
+  drafted k =
+      unit-walk zone here k (first_draft here.shown) waits there digits gap unit last (digits-wait zone here digits gap unit last small some padded) moved-word
+
+  guessed : (text : List ℕ) (k : ℕ) → this.seconds ≡ now → tokens text ≡ Digits digits ∷ ts → length text ≡ suc (suc (suc (suc (suc k))))
+      → string_guess zone this text ≡ Ok (exactly_back now then (number digits * size))
+  unfolding string_guess draft_of
+  guessed text k same is long =
+      let shown : shown_in zone this.seconds ≡ Some here.shown = ap (λ (n : ℤ). shown_in zone n) same ∙ are.now_shown in
+      let drafts : draft_of zone here text ≡ Ok there = rw (is, long) (drafted k) in
+      ap (λ (s : Option ShownClock). guess_by zone this text s) shown
+      ∙ ap (λ (d : Result Draft Fault). answer_of zone here text d) drafts
+      ∙ answered zone now (number digits * size) o then are text
+
+-- the text has as many bytes as tokens, or more
+pub long-enough : (text digits : List ℕ) (gap : ℕ) (unit : List ℕ) (last : ℕ) → tokens text ≡ Digits digits ∷ followed gap unit last → 5 ≤ length text
+long-enough text digits gap unit last is =
+    let ago : List ℕ = last ∷ codes "ago" in
+    let e : text ≡ digits ++ (gap ∷ (unit ++ ago)) = sym (texts_are text) ∙ ap texts is in
+    omega (arith, ap length e, length-append digits (gap ∷ (unit ++ ago)), length-append unit ago)
+
+pub few : (n : ℕ) → n < 100_000_000 → n ≤ max_small
+few n h = omega (arith, h)
+
+-- what both readers make of a text that only the approximate one reads, and of one without NUL
+abbrev pub SaysIn : Choices → Now → List ℕ → Approximate → Type 0
+SaysIn zone this text date = (said_by this text ≡ Err Unreadable) × (guess zone this text ≡ Ok date)
+
+abbrev pub Says : ℤ → Now → List ℕ → Approximate → Type 0
+Says o this text date = SaysIn (one_offset o) this text date
+
+abbrev pub StringSaysIn : Choices → Now → List ℕ → Approximate → Type 0
+StringSaysIn zone this text date = (string_said this text ≡ Err Unreadable) × (string_guess zone this text ≡ Ok date)
+
+pub up-to-nul : (zone : Choices) (this : Now) (text : List ℕ) (date : Approximate) → StringSaysIn zone this (before_nul text) date
+    → SaysIn zone this text (record date { ignored = option_or date.ignored (nul_place text) })
+unfolding said_by guess
+up-to-nul zone this text date says = (ap (said_up_to (nul_place text)) says.0, ap (answer_up_to (nul_place text)) says.1)
+
+abbrev pub SaysBackIn : Choices → ℤ → Now → List ℕ → ℕ → Type 0
+SaysBackIn zone then this text back = StringSaysIn zone this (before_nul text) (exactly_back this.seconds then back)
+
+-- by the digits' own number
+by-digits : (zone : Choices) (o then : ℤ) (this : Now) (text : List ℕ) (count size : ℕ) (says : CountsBack text count size)
+    → Reaches zone this.seconds (number says.digits * size) o then → number says.digits * size ≤ max_small
+    → 1 ≤ number says.digits → number says.digits < 100_000_000 → SaysBackIn zone then this text (number says.digits * size)
+by-digits zone o then this text count size says reached fits some few_digits =
+    let string = before_nul text in
+    let least = long-enough string says.digits says.gap says.unit says.last says.is in
+    let k = length string - 5 in
+    let long : length string ≡ suc (suc (suc (suc (suc k)))) = omega (arith, least) in (
+      nothing-said this string says.digits says.gap says.unit says.last says.no_date few_digits says.is,
+      guessed zone this.seconds o then this says.digits says.gap says.unit says.last size reached fits (few (number says.digits) few_digits) some says.not_padded says.means string k refl says.is long,
+    )
+
+-- in any zone
+pub counted-in : (zone : Choices) (o then : ℤ) (this : Now) (text : List ℕ) (count size : ℕ) → CountsBack text count size → count * size ≤ max_small
+    → Reaches zone this.seconds (count * size) o then → SaysBackIn zone then this text (count * size)
+counted-in zone o then this text count size says fits reached =
+    let same : number says.digits ≡ count = says.counts in
+    let here : Reaches zone this.seconds (number says.digits * size) o then = subst (λ (n : ℕ). Reaches zone this.seconds (n * size) o then) (sym same) reached in
+    let within : number says.digits * size ≤ max_small = subst (λ (n : ℕ). n * size ≤ max_small) (sym same) fits in
+    let some : 1 ≤ number says.digits = subst (λ (n : ℕ). 1 ≤ n) (sym same) says.not_zero in
+    let less : number says.digits < 100_000_000 = subst (λ (n : ℕ). n < 100_000_000) (sym same) says.no_epoch in
+    subst (λ (n : ℕ). SaysBackIn zone then this text (n * size)) same (by-digits zone o then this text count size says here within some less)
+
+pub counted-back : (this : Now) (text : List ℕ) (o : Offset) (count size : ℕ) → is_instant this.seconds ≡ true → CountsBack text count size
+    → IsReached this.seconds o.seconds (count * size) → SaysBackIn (one_offset o.seconds) o.seconds this text (count * size)
+counted-back this text o count size instant says reached =
+    let are = are-clocks o this.seconds (count * size) instant reached in
+    counted-in (one_offset o.seconds) o.seconds o.seconds this text count size says reached.fits (reaches o.seconds this.seconds (count * size) are)

@@ -1,0 +1,161 @@
+-- Texts that the moment's instant does not matter to.
+use Rattle.std.proofs.Common.{◌≡◌, ◌∙◌, ◌<◌, ℕ, zero, suc, ℤ, Bool, true, false, cond, not, List, [], ◌∷◌, length, refl, ap, arith, Option, Some, None, Result, Ok, Err}
+use Rattle.std.specs.Prelude.{◌==◌, ◌&&◌, ◌||◌, nat_le}
+use Rattle.std.specs.Option.{option_or}
+use Rattle.std.proofs.lemmas.Bool.Decides.{nat_tests}
+use Rattle.gix_date.specs.Text.Characters.{colon, dot}
+use Rattle.git_date.specs.Tokens.Tokens.{Token, Letters, Digits, Mark, tokens, bytes_left, is_end, walked}
+use Rattle.git_date.specs.Tokens.Numbers.{number, is_too_large}
+use Rattle.git_date.specs.Rules.Dates.{is_day_of_month, recent_date}
+use Rattle.git_date.specs.Rules.Groups.{ReadTokens, group_of, day_month_group, group_rule, second_of, third_of, taken_or_refused, large_in}
+use Rattle.git_date.specs.Rules.Digits.{Stepped, is_epoch, epoch_rule, bare_digits, by_rule, unless_large, group_or_bare, number_rule, digits_rule}
+use Rattle.git_date.specs.Rules.Offsets.{at_text}
+use Rattle.git_date.specs.Exact.Reading.{nothing_read, read_on, and_then, ended, rule, steps, reading_of, fields_said, at_or_fields, said_up_to, string_said, said_by}
+use Rattle.git_date.specs.Tokens.Strings.{before_nul, nul_place}
+use Rattle.git_date.specs.Types.Names.{Now, Dated, Fault, Fields, Group, Reading}
+use Rattle.git_date.specs.Types.FaultCases.{NumberTooLarge}
+use Rattle.git_date.specs.Types.DatedCases.{Refused}
+use Rattle.git_date.specs.Laws.Moments.{is_day_month, is_any_day_month, begins_day_month, has_day_month, goes_on, meets_day_month, HasNoDayMonth}
+use Rattle.git_date_laws.proofs.Alike.Changed.{or-first, or-second}
+use Rattle.git_date.proofs.Rules.Kept.{IsKept, Leaves, rule-left}
+
+no-recent : (now : Now) (f : Fields) (month day : ℕ) (third : Option ℕ) → is_day_of_month month day ≡ false → recent_date now f month day third ≡ None
+unfolding recent_date
+no-recent now f month day None h = rw h
+no-recent now f month day (Some third) h = rw h
+
+no-month : (month day : ℕ) → 70 < month → is_day_of_month month day ≡ false
+no-month month day h = grind (arith, nat_tests)
+
+no-day : (month day : ℕ) → 70 < day → is_day_of_month month day ≡ false
+no-day month day h = grind (arith, nat_tests)
+
+-- a number above 70 is neither a month nor a day
+refused : (now : Now) (f : Fields) (g : Group) → 70 < g.first → day_month_group now f g ≡ Refused
+unfolding day_month_group
+refused now f g h =
+    let first = no-recent now f g.first (second_of g) (third_of g) (no-month g.first (second_of g) h) in
+    let second = no-recent now f (second_of g) g.first (third_of g) (no-day (second_of g) g.first h) in
+    rw (first, second) (either-none (g.mark == dot))
+  where
+    either-none : (b : Bool) → taken_or_refused (cond b (option_or None None) (option_or None None)) ≡ Refused
+    either-none true = refl
+    either-none false = refl
+
+group-by : (now other : Now) (f : Fields) (g : Group) (clock low : Bool) → (g.mark == colon) ≡ clock → nat_le g.first 70 ≡ low → (not clock && low) ≡ false
+    → group_rule now f g ≡ group_rule other f g
+unfolding group_rule
+group-by now other f g true low e l h = rw e
+group-by now other f g false true e l h = absurd cc
+group-by now other f g false false e l h =
+    let above : 70 < g.first = grind (arith, nat_tests) in
+    rw (refused now f g above, refused other f g above)
+
+group-same : (now other : Now) (f : Fields) (g : Group) → is_day_month g ≡ false → group_rule now f g ≡ group_rule other f g
+group-same now other f g h = group-by now other f g (g.mark == colon) (nat_le g.first 70) refl refl h
+
+grouped-same : (now other : Now) (f : Fields) (left : ℕ) (found : ReadTokens Group) (bare : Stepped) → is_any_day_month found ≡ false
+    → group_or_bare now f left found bare ≡ group_or_bare other f left found bare
+grouped-same now other f left None bare h = refl
+grouped-same now other f left (Some found) bare h =
+    ap (λ (d : Dated). unless_large (large_in found.0) d (by_rule left found.0 found.1 d bare)) (group-same now other f found.0 h)
+
+digits-same : (now other : Now) (f : Fields) (run : List ℕ) (more : List Token) → is_any_day_month (group_of (number run) more) ≡ false
+    → digits_rule now f run more ≡ digits_rule other f run more
+unfolding digits_rule number_rule
+digits-same now other f run more h =
+    ap (λ (step : Stepped). cond (is_epoch f (number run)) (epoch_rule f (number run) more)
+    (cond (is_too_large (number run)) (Err (NumberTooLarge (bytes_left (Digits run ∷ more)))) step))
+    (grouped-same now other f (bytes_left (Digits run ∷ more)) (group_of (number run) more) (bare_digits f run more) h)
+
+rule-same : (now other : Now) (f : Fields) (t : Token) (more : List Token) → begins_day_month t more ≡ false → rule now f t more ≡ rule other f t more
+rule-same now other f (Letters run) more h = refl
+rule-same now other f (Digits run) more h = ap ended (digits-same now other f run more h)
+rule-same now other f (Mark byte) more h = refl
+
+abbrev later : Now → ℕ → Reading → ℕ → Stepped → Result Reading Fault
+later now n r left step = and_then step (λ next. steps now n (read_on r left next.0) next.1)
+
+then-same : (now other : Now) (n : ℕ) (r : Reading) (left : ℕ) (step : Stepped)
+    → goes_on step (λ next. meets_day_month now n (read_on r left next.0) next.1) ≡ false
+    → ((r : Reading) (rest : List Token) → meets_day_month now n r rest ≡ false → steps now n r rest ≡ steps other n r rest)
+    → and_then step (λ next. steps now n (read_on r left next.0) next.1) ≡ and_then step (λ next. steps other n (read_on r left next.0) next.1)
+then-same now other n r left (Err e) h same = refl
+then-same now other n r left (Ok found) h same = same (read_on r left found.0) found.1 h
+
+step-same : (now other : Now) (n : ℕ) (r : Reading) (t : Token) (more : List Token) (ends : Bool)
+    → cond ends false (begins_day_month t more || goes_on (rule now r.fields t more) (λ next. meets_day_month now n (read_on r (bytes_left (t ∷ more)) next.0) next.1)) ≡ false
+    → ((r : Reading) (rest : List Token) → meets_day_month now n r rest ≡ false → steps now n r rest ≡ steps other n r rest)
+    → cond ends (Ok r) (later now n r (bytes_left (t ∷ more)) (rule now r.fields t more)) ≡ cond ends (Ok r) (later other n r (bytes_left (t ∷ more)) (rule other r.fields t more))
+step-same now other n r t more true h same = refl
+step-same now other n r t more false h same =
+    let goes = goes_on (rule now r.fields t more) (λ next. meets_day_month now n (read_on r (bytes_left (t ∷ more)) next.0) next.1) in
+    then-same now other n r (bytes_left (t ∷ more)) (rule now r.fields t more) (or-second (begins_day_month t more) goes h) same
+    ∙ ap (later other n r (bytes_left (t ∷ more))) (rule-same now other r.fields t more (or-first (begins_day_month t more) goes h))
+
+steps-same : (now other : Now) (n : ℕ) (r : Reading) (ts : List Token) → meets_day_month now n r ts ≡ false → steps now n r ts ≡ steps other n r ts
+unfolding walked meets_day_month
+steps-same now other zero r [] h = refl
+steps-same now other (suc n) r [] h = refl
+steps-same now other zero r (t ∷ more) h = refl
+steps-same now other (suc n) r (t ∷ more) h = step-same now other n r t more (is_end t) h (λ r rest. steps-same now other n r rest)
+
+at-or-same : (now other : Now) (text : List ℕ) (found : Option (ℕ × ℤ)) → meets_day_month now (length text) nothing_read (tokens text) ≡ false
+    → at_or_fields now text found ≡ at_or_fields other text found
+unfolding reading_of
+at-or-same now other text (Some found) h = refl
+at-or-same now other text None h = ap (fields_said text) (steps-same now other (length text) nothing_read (tokens text) h)
+
+string-same : (now other : Now) (text : List ℕ) → meets_day_month now (length text) nothing_read (tokens text) ≡ false → string_said now text ≡ string_said other text
+unfolding string_said
+string-same now other text h = at-or-same now other text (at_text (tokens text)) h
+
+pub same-instants : (now other : Now) (text : List ℕ) → HasNoDayMonth now text → said_by now text ≡ said_by other text
+unfolding said_by
+same-instants now other text h = ap (said_up_to (nul_place text)) (string-same now other (before_nul text) h)
+
+-- where no such date begins, the reader comes to none
+abbrev HasNone : List Token → Type 0
+HasNone ts = has_day_month ts ≡ false
+
+none-next : (t : Token) (more : List Token) → HasNone (t ∷ more) → HasNone more
+unfolding has_day_month
+none-next t more h = or-second (begins_day_month t more) (has_day_month more) h
+
+none-first : (t : Token) (more : List Token) → HasNone (t ∷ more) → begins_day_month t more ≡ false
+unfolding has_day_month
+none-first t more h = or-first (begins_day_month t more) (has_day_month more) h
+
+none-kept : IsKept HasNone HasNone (λ left. Unit {0})
+none-kept = record {
+  next = λ t more h. none-next t more h;
+  also = λ ts h. h;
+  at_letters = λ run more h. tt;
+  at_digits = λ run more h. tt;
+  at_mark = λ byte more below h. tt;
+}
+
+none-then : (now : Now) (n : ℕ) (r : Reading) (left : ℕ) (step : Stepped) → Leaves HasNone (λ place. Unit {0}) step
+    → ((other : Reading) (rest : List Token) → HasNone rest → meets_day_month now n other rest ≡ false)
+    → goes_on step (λ next. meets_day_month now n (read_on r left next.0) next.1) ≡ false
+none-then now n r left (Err e) h none = refl
+none-then now n r left (Ok found) h none = none (read_on r left found.0) found.1 h
+
+none-step : (ends first later : Bool) → first ≡ false → later ≡ false → cond ends false (first || later) ≡ false
+none-step true first later e h = refl
+none-step false true later e h = absurd cc
+none-step false false later e h = h
+
+none-met : (now : Now) (n : ℕ) (r : Reading) (ts : List Token) → HasNone ts → meets_day_month now n r ts ≡ false
+unfolding meets_day_month
+none-met now zero r [] h = refl
+none-met now (suc n) r [] h = refl
+none-met now zero r (t ∷ more) h = refl
+none-met now (suc n) r (t ∷ more) h =
+    none-step (is_end t) (begins_day_month t more)
+    (goes_on (rule now r.fields t more) (λ next. meets_day_month now n (read_on r (bytes_left (t ∷ more)) next.0) next.1)) (none-first t more h)
+    (none-then now n r (bytes_left (t ∷ more)) (rule now r.fields t more) (rule-left HasNone HasNone (λ place. Unit {0}) none-kept now r.fields t more h)
+    (λ other rest. none-met now n other rest))
+
+pub meets-none : (now : Now) (text : List ℕ) → has_day_month (tokens (before_nul text)) ≡ false → HasNoDayMonth now text
+meets-none now text h = none-met now (length (before_nul text)) nothing_read (tokens (before_nul text)) h

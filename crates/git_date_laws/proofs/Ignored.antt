@@ -1,0 +1,3 @@
+-- What readers ignore.
+pub mod Unused
+pub mod UnusedDrafts

@@ -1,0 +1,150 @@
+-- Seconds without `@`: alone, as `unix` shows them, and before an offset, as `raw` does.
+use Rattle.std.proofs.Common.{◌≡◌, ◌∙◌, ◌≤◌, ◌<◌, ◌+◌, ◌*◌, ◌%◌, ◌^◌, ℕ, ℤ, pos, negsuc, ◌*ℤ◌, unsigned_abs, Bool, true, false, cond, List, [], ◌∷◌, length, Option, Some, None, Ok, Err, refl, sym, ap, subst, arith}
+use Rattle.std.specs.Char.{is_ascii_digit}
+use Rattle.std.specs.Fmt.{decimal}
+use Rattle.std.specs.Int.Signed.{le_z, lt_z}
+use Rattle.std.specs.List.{list_all}
+use Rattle.std.specs.Prelude.{option_map, int_lt}
+use Rattle.std.proofs.lemmas.Bool.{and_parts}
+use Rattle.jiff.specs.Types.{TimeZone}
+use Rattle.jiff.specs.declared.zoned.Zoned.{Zoned}
+use Rattle.jiff_core.proofs.SignedLemmas.{signed_arith}
+use Rattle.gix_date.specs.Fields.ClockNumbers.{hours_in, minutes_in}
+use Rattle.gix_date.specs.Fields.Layout.{LocalTime}
+use Rattle.gix_date.specs.Fields.Offsets.{compact_offset_text}
+use Rattle.gix_date.specs.Printing.LocalClocks.{clock_of}
+use Rattle.gix_date.specs.Text.Numbers.{decimal_text}
+use Rattle.gix_date.specs.declared.time.Time.{Time}
+use Rattle.git_date.proofs.Rules.ClocksBack.{shown_of}
+use Rattle.git_date.proofs.Exact.FastSeconds.{epoch-by, epoch-says, raw-says}
+use Rattle.git_date.proofs.Exact.PrintedClocks.{at, go, signed}
+use Rattle.git_date.proofs.Exact.PrintedReads.{minutes-back, reads-are}
+use Rattle.git_date.proofs.Text.TokenRuns.{digit-first}
+use Rattle.git_date.proofs.Text.Walked.{nothing-left}
+use Rattle.git_date.specs.Rules.Dates.{now_of, first_of_year_2100}
+use Rattle.git_date.specs.Rules.Digits.{min_epoch, with_epoch}
+use Rattle.git_date.specs.Exact.Fast.{WritesOffset, WritesSeconds}
+use Rattle.git_date.specs.Rules.Fields.{unknown}
+use Rattle.git_date.specs.Rules.Offsets.{at_text}
+use Rattle.git_date.specs.Exact.Outcome.{date_at, date_in, date_of, instant_seconds}
+use Rattle.git_date.specs.Laws.Printed.{IsGitTime}
+use Rattle.git_date.specs.Exact.Reading.{ended, said_by, step}
+use Rattle.git_date.specs.Show.Dates.{raw_text, shown, shown_offset}
+use Rattle.git_date.specs.Show.Clocks.{Moment, is_written_offset, time_at, zone_clock}
+use Rattle.git_date.specs.Tokens.Tokens.{Digits, digit_before, tokens}
+use Rattle.git_date.specs.Types.Names.{Now, Said}
+use Rattle.git_date.specs.Rules.Words.{without_ending}
+use Rattle.git_date.specs.Exact.Zones.{offsets_of, local_offset}
+use Rattle.git_date.specs.declared.date.ReadDate.{ReadDate}
+use Rattle.git_date.specs.declared.error.DateError.TheVariants.{Range}
+use Rattle.git_date.specs.declared.mode.DateKind.TheVariants.{Raw, Unix}
+use Rattle.git_date_laws.proofs.Printing.PrintedBack.{zone-is}
+use Rattle.git_date_laws.proofs.Printing.RawBack.{date-is, decimal-is, number-of}
+use Rattle.git_date_laws.proofs.Printing.ShownLaws.{when-shown}
+use Rattle.git_date_laws.specs.Headline.{IsEpoch, IsReadAs, shown_time}
+
+-- digits alone are one token
+digits-alone : (run : List ℕ) → 1 ≤ length run → list_all is_ascii_digit run ≡ true → tokens run ≡ Digits run ∷ []
+unfolding tokens
+digits-alone [] some h = absurd (omega (arith, some))
+digits-alone (c ∷ []) some h = digit-first c [] (and_parts (is_ascii_digit c) true h).0
+digits-alone (c ∷ d ∷ run) some h =
+    let both = and_parts (is_ascii_digit c) (list_all is_ascii_digit (d ∷ run)) h in
+    digit-first c (d ∷ run) both.0 ∙ ap (digit_before c) (digits-alone (d ∷ run) (omega arith) both.1)
+
+abbrev said_alone : ℕ → Said
+said_alone n = record { seconds = pos n; offset = None; epoch = true; ignored = None }
+
+alone-said : (now : Now) (n : ℕ) → min_epoch ≤ n → n < first_of_year_2100 → said_by now (decimal n) ≡ Ok (said_alone n)
+unfolding without_ending at_text
+alone-said now n first last =
+    let is = decimal-is n (omega (arith, last)) in
+    let fields = with_epoch unknown (shown_of (pos n)) in
+    reads-are now (decimal n) (Digits (decimal n) ∷ []) 40 fields (digits-alone (decimal n) is.some is.digits) refl (omega arith) refl
+    (go now 39 unknown fields (Digits (decimal n)) [] [] refl (ap ended (epoch-by now n (decimal n) [] (number-of n (omega (arith, last))) first last))
+    ∙ nothing-left (step now) 39 (at fields))
+    ∙ epoch-says n None (decimal n) last
+
+-- the time of such seconds
+at-seconds : (said : Said) (minutes : ℤ) (date : ReadDate) → date_at said minutes ≡ Ok date → (date.time.seconds ≡ instant_seconds said minutes) × (date.ignored ≡ said.ignored)
+unfolding date_at
+at-seconds said minutes date e = by (le_z (pos 0) (instant_seconds said minutes)) _ e
+  where
+    by : (b : Bool) (read : ReadDate) → cond b (Ok read) (Err Range) ≡ Ok date → (date.time.seconds ≡ read.time.seconds) × (date.ignored ≡ read.ignored)
+    by true read e = let is : date ≡ read = cc in (ap (λ (d : ReadDate). d.time.seconds) is, ap (λ (d : ReadDate). d.ignored) is)
+    by false read e = absurd cc
+
+alone-in : (n : ℕ) (offset : Option ℤ) (date : ReadDate) → date_in (said_alone n) offset ≡ Ok date → (date.time.seconds ≡ pos n) × (date.ignored ≡ None)
+alone-in n (Some offset) date e = at-seconds (said_alone n) _ date e
+alone-in n None date e = absurd cc
+
+alone-read : (this : Now) (tz : TimeZone) (s : ℤ) (date : ReadDate) → IsEpoch s → date_of tz (said_by this (decimal_text s)) ≡ Ok date
+    → (date.time.seconds ≡ s) × (date.ignored ≡ None)
+alone-read this tz (negsuc n) date h e = absurd (omega (arith, signed_arith, h))
+alone-read this tz (pos n) date h e =
+    alone-in n (local_offset (offsets_of tz) None (pos n)) date
+    (ap (date_of tz) (sym (alone-said this n (omega (arith, signed_arith, h)) (omega (arith, signed_arith, h)))) ∙ e)
+
+pub unix-alone : (this : Now) (at : Moment) (local : Bool) (tz : TimeZone) (t : Time) (text : List ℕ) (date : ReadDate) → IsEpoch t.seconds
+    → shown at (record { kind = Unix; local = local }) t ≡ Some text → date_of tz (said_by this text) ≡ Ok date
+    → (date.time.seconds ≡ t.seconds) × (date.ignored ≡ None)
+unfolding shown
+unix-alone this at local tz t text date h e read =
+    let is = when-shown (lt_z t.seconds (pos 0)) _ text e in
+    let same : decimal_text t.seconds ≡ text = cc in
+    alone-read this tz t.seconds date h (ap (λ (shown : List ℕ). date_of tz (said_by this shown)) same ∙ read)
+
+-- seconds before an offset
+raw-read : (this : Now) (tz : TimeZone) (s o : ℤ) → IsEpoch s → IsGitTime (record { seconds = s; offset = o })
+    → date_of tz (said_by this (raw_text s o)) ≡ Ok (record { time = record { seconds = s; offset = o }; has_offset = true; ignored = None })
+raw-read this tz (negsuc n) o epoch h = absurd (omega (arith, signed_arith, epoch))
+raw-read this tz (pos n) o epoch h =
+    let minutes = signed (int_lt o (pos 0)) (60 * hours_in (unsigned_abs o) + minutes_in (unsigned_abs o)) in
+    let back : pos 60 *ℤ minutes ≡ o = minutes-back o h.round_trips.four_digits.minutes in
+    let small : n < 2 ^ 64 = omega (arith, signed_arith, epoch) in
+    let seconds : WritesSeconds (decimal n) n = record {
+      first = omega (arith, signed_arith, epoch);
+      last = omega (arith, signed_arith, epoch);
+      digits = (decimal-is n small).digits;
+      is = number-of n small;
+    } in
+    let offset : WritesOffset compact_offset_text (compact_offset_text o) minutes = record {
+      within = subst (λ (x : ℤ). unsigned_abs x ≤ 86_340) (sym back) h.round_trips.within;
+      whole = subst (λ (x : ℤ). unsigned_abs x % 60 ≡ 0) (sym back) h.round_trips.four_digits.minutes;
+      known = λ one. h.known (omega (arith, signed_arith, back, one));
+      is = ap compact_offset_text back;
+    } in
+    ap (date_of tz) (raw-says (decimal n) (compact_offset_text o) n minutes seconds offset this) ∙ date-is n minutes o back
+
+-- the offset that is shown
+offset-is : (at : Moment) (local : Bool) (t : Time) (o : ℤ) → IsGitTime (shown_time at local t) → shown_offset at local t ≡ Some o → o ≡ (shown_time at local t).offset
+unfolding shown_offset clock_of
+offset-is at false t o h e = by (is_written_offset t.offset) e
+  where
+    by : (b : Bool) → cond b (Some t.offset) None ≡ Some o → o ≡ t.offset
+    by true e = cc
+    by false e = absurd cc
+offset-is at true t o h e = by (zone_clock at.zone t.seconds) refl e
+  where
+    by : (clock : Option LocalTime) → zone_clock at.zone t.seconds ≡ clock → option_map (λ clock. clock.offset) clock ≡ Some o → o ≡ (time_at at.zone t.seconds).offset
+    by (Some clock) is e = let own : clock.offset ≡ o = cc in sym own ∙ ap (λ (c : LocalTime). c.offset) (zone-is at.zone t.seconds clock h is)
+    by None is e = absurd cc
+
+pub raw-alone : (moment : Zoned) (at : Moment) (local : Bool) (t : Time) (text : List ℕ) → IsEpoch t.seconds → IsGitTime (shown_time at local t)
+    → shown at (record { kind = Raw; local = local }) t ≡ Some text → IsReadAs moment text (shown_time at local t)
+unfolding shown
+raw-alone moment at local t text epoch h e tz = by (shown_offset at local t) refl (when-shown (lt_z t.seconds (pos 0)) _ text e)
+  where
+    seconds-are : (local : Bool) → (shown_time at local t).seconds ≡ t.seconds
+    seconds-are true = refl
+    seconds-are false = refl
+
+    by : (o : Option ℤ) → shown_offset at local t ≡ o → option_map (raw_text t.seconds) o ≡ Some text
+        → date_of tz (said_by (now_of moment) text) ≡ Ok (record { time = shown_time at local t; has_offset = true; ignored = None })
+    by (Some o) is e =
+        let same : raw_text t.seconds o ≡ text = cc in
+        let text-is : raw_text (shown_time at local t).seconds (shown_time at local t).offset ≡ text =
+        (λ i. raw_text (seconds-are local i) (sym (offset-is at local t o h is) i)) ∙ same in
+        ap (λ (shown : List ℕ). date_of tz (said_by (now_of moment) shown)) (sym text-is)
+        ∙ raw-read (now_of moment) tz (shown_time at local t).seconds (shown_time at local t).offset (subst IsEpoch (sym (seconds-are local)) epoch) h
+    by None is e = absurd cc

@@ -1,0 +1,224 @@
+-- Where nothing is understood, the draft is today's clock, and the answer the moment.
+use Rattle.std.proofs.Common.{◌≡◌, ◌∙◌, ℕ, zero, suc, ℤ, pos, ◌+ℤ◌, Bool, true, false, cond, List, [], ◌∷◌, Option, Some, None, option_map, Result, Ok, Err, refl, sym, ap, ap₂, subst}
+use Rattle.std.specs.Prelude.{◌||◌, ◌==◌}
+use Rattle.std.specs.Int.Signed.{le_z}
+use Rattle.jiff.specs.Types.{TimeZone}
+use Rattle.jiff.specs.Words.{nanos_of_seconds, offset_at}
+use Rattle.jiff.specs.declared.zoned.Zoned.{Zoned}
+use Rattle.gix_date.specs.Relative.Steps.{zone_of}
+use Rattle.gix_date.specs.declared.time.Time.{Time}
+use Rattle.git_date.specs.Approximate.Reading.{Read, with_rest, steps, draft_of, answer, answer_of, answer_up_to, guess_by, string_guess, guess, is_unreadable, exact_or_guess}
+use Rattle.git_date.specs.Approximate.Drafts.{clock_fields, first_draft, ignore, with_number, settled_by, settle_number, settle}
+use Rattle.git_date.specs.Approximate.Rules.{Ruled, understood, read_word, word_by, are_digits_next, letters_rule, is_padded, number_waits, group_said, group_or_number, digits_rule}
+use Rattle.git_date.specs.Approximate.Words.{meaning_of}
+use Rattle.git_date.specs.Approximate.Zones.{Choices, choices_of, filled_time}
+use Rattle.git_date.specs.Rules.Dates.{now_of}
+use Rattle.git_date.specs.Rules.Digits.{Stepped}
+use Rattle.git_date.specs.Tokens.Numbers.{number, is_too_large}
+use Rattle.git_date.specs.Exact.Outcome.{date_of}
+use Rattle.git_date.specs.Exact.Reading.{and_then, ended, place_in, said_by}
+use Rattle.git_date.specs.Tokens.Strings.{before_nul, nul_place}
+use Rattle.git_date.specs.Tokens.Tokens.{Token, Letters, Digits, Mark, tokens, bytes_left, walked}
+use Rattle.git_date.specs.Rules.Words.{is_filler, without_ending}
+use Rattle.git_date.specs.Types.FaultCases.{NumberTooLarge}
+use Rattle.git_date.specs.Types.Names.{Draft, Fault, Fields, Now, Number, ShownClock, Today}
+use Rattle.git_date.specs.declared.approximate.answer.Approximate.{Approximate}
+use Rattle.git_date.specs.declared.date.ReadDate.{ReadDate}
+use Rattle.git_date.specs.declared.error.DateError.{DateError}
+use Rattle.git_date.specs.declared.error.DateError.TheVariants as error
+use Rattle.git_date_laws.proofs.Whole.EveryZone.{now-reached}
+use Rattle.git_date_laws.proofs.Back.ExactBack.{clock_at}
+use Rattle.git_date_laws.specs.ApproximateLaws.{IsShownThere, IsMomentUnlessUnderstood}
+
+same-draft : (a b : Draft) → ◌≡◌ {A = Result Draft Fault} (Ok a) (Ok b) → a ≡ b
+same-draft a b e = cc
+
+same-read : (a b : Draft × List Token) → ◌≡◌ {A = Read} (Ok a) (Ok b) → a ≡ b
+same-read a b e = cc
+
+same-date : (a b : Approximate) → ◌≡◌ {A = Result Approximate DateError} (Ok a) (Ok b) → a ≡ b
+same-date a b e = cc
+
+not-both : (b : Bool) → b ≡ true → b ≡ false → ⊥
+not-both true e f = absurd cc
+not-both false e f = absurd cc
+
+module _ (zone : Choices) (today : Today) where
+  -- the draft is the first, but for what is ignored, or something was understood
+  abbrev Idle : Draft → Type 0
+  Idle d = d.understood ≡ false → record d { ignored = None } ≡ first_draft today.shown
+
+  word-idle : (d next : Draft) (run : List ℕ) (left : ℕ) (ruled : Ruled) → Idle d → read_word d run left ruled ≡ Ok next → Idle next
+  word-idle d next run left (Ok (Some n)) h e =
+      λ silent. absurd (not-both next.understood (sym (ap (λ (x : Draft). x.understood) (same-draft (understood n) next e))) silent)
+  word-idle d next run left (Ok None) h e = by (is_filler run) e
+    where
+      by : (b : Bool) → ◌≡◌ {A = Result Draft Fault} (Ok (cond b d (ignore d left))) (Ok next) → Idle next
+      by true e = subst Idle (same-draft d next e) h
+      by false e = subst Idle (same-draft (ignore d left) next e) h
+  word-idle d next run left (Err x) h e = absurd cc
+
+  letters-idle : (d next : Draft) (run : List ℕ) (more : List Token) → Idle d → letters_rule zone today.shown d run more ≡ Ok next → Idle next
+  unfolding letters_rule
+  letters-idle d next run more h e = by (are_digits_next more) e
+    where
+      left : ℕ
+      left = bytes_left (Letters run ∷ more)
+
+      by : (b : Bool) → cond b (Ok (ignore d left)) (read_word d run left (word_by zone today.shown d left (meaning_of run))) ≡ Ok next → Idle next
+      by true e = subst Idle (same-draft (ignore d left) next e) h
+      by false e = word-idle d next run left (word_by zone today.shown d left (meaning_of run)) h e
+
+  number-heard : (d : Draft) (run : List ℕ) (left : ℕ) → d.understood ≡ true → (number_waits d run left).understood ≡ true
+  unfolding number_waits
+  number-heard d run left h = by (number run == 0 || is_padded run)
+    where
+      by : (b : Bool) → (cond b (ignore d left) (record d { waiting = Some (record { value = number run; left = left }) })).understood ≡ true
+      by true = h
+      by false = h
+
+  group-heard : (d : Draft) (run : List ℕ) (left : ℕ) (found : Draft × List Token) (said : Stepped) → d.understood ≡ true
+      → group_or_number d run left said ≡ Ok found → found.0.understood ≡ true
+  group-heard d run left found (Ok (Some f, more)) h e = sym (ap (λ (x : Draft × List Token). x.0.understood) (same-read _ found e)) ∙ h
+  group-heard d run left found (Ok (None, more)) h e = sym (ap (λ (x : Draft × List Token). x.0.understood) (same-read _ found e)) ∙ number-heard d run left h
+  group-heard d run left found (Err x) h e = absurd cc
+
+  digits-heard : (d : Draft) (run : List ℕ) (more : List Token) (found : Draft × List Token) → digits_rule today.now d run more ≡ Ok found → found.0.understood ≡ true
+  unfolding digits_rule
+  digits-heard d run more found e = by (is_too_large (number run)) e
+    where
+      left : ℕ
+      left = bytes_left (Digits run ∷ more)
+
+      ready : Draft
+      ready = understood (settle d)
+
+      by : (b : Bool) → cond b (Err (NumberTooLarge left)) (group_or_number ready run left (group_said today.now ready.fields run more)) ≡ Ok found
+          → found.0.understood ≡ true
+      by true e = absurd cc
+      by false e = group-heard ready run left found (group_said today.now ready.fields run more) refl e
+
+  abbrev go : ℕ → Read → Result Draft Fault
+  go n step = and_then step (λ next. steps zone today n next.0 next.1)
+
+  abbrev StepsIdle : ℕ → Type 0
+  StepsIdle n = (d last : Draft) (ts : List Token) → Idle d → steps zone today n d ts ≡ Ok last → Idle last
+
+  letters-then : (n : ℕ) → StepsIdle n → (d last : Draft) (run : List ℕ) (more : List Token) (found : Result Draft Fault) → Idle d
+      → letters_rule zone today.shown d run more ≡ found → go n (with_rest more found) ≡ Ok last → Idle last
+  letters-then n all d last run more (Ok next) h is e = all next last more (letters-idle d next run more h is) e
+  letters-then n all d last run more (Err x) h is e = absurd cc
+
+  digits-then : (n : ℕ) → StepsIdle n → (d last : Draft) (run : List ℕ) (more : List Token) (found : Read)
+      → digits_rule today.now d run more ≡ found → go n (ended found) ≡ Ok last → Idle last
+  digits-then n all d last run more (Ok (next, rest)) is e =
+      all next last (without_ending rest) (λ silent. absurd (not-both next.understood (digits-heard d run more (next, rest) is) silent)) e
+  digits-then n all d last run more (Err x) is e = absurd cc
+
+  steps-idle : (n : ℕ) (d last : Draft) (ts : List Token) → Idle d → steps zone today n d ts ≡ Ok last → Idle last
+  unfolding walked
+  steps-idle zero d last [] h e = subst Idle (same-draft d last e) h
+  steps-idle (suc n) d last [] h e = subst Idle (same-draft d last e) h
+  steps-idle zero d last (t ∷ more) h e = subst Idle (same-draft d last e) h
+  steps-idle (suc n) d last (Mark byte ∷ more) h e = steps-idle n d last more h e
+  steps-idle (suc n) d last (Letters run ∷ more) h e =
+      letters-then n (λ d last ts h e. steps-idle n d last ts h e) d last run more (letters_rule zone today.shown d run more) h refl e
+  steps-idle (suc n) d last (Digits run ∷ more) h e =
+      digits-then n (λ d last ts h e. steps-idle n d last ts h e) d last run more (digits_rule today.now d run more) refl e
+
+  draft-idle : (text : List ℕ) (d : Draft) → draft_of zone today text ≡ Ok d → Idle d
+  unfolding draft_of
+  draft-idle text d e = steps-idle _ (first_draft today.shown) d (tokens text) (λ silent. refl) e
+
+  settle-understood : (d : Draft) → (settle d).understood ≡ d.understood
+  unfolding settle
+  settle-understood d = by d.waiting
+    where
+      by-field : (left : ℕ) (f : Option Fields) → (settled_by d left f).understood ≡ d.understood
+      by-field left (Some f) = refl
+      by-field left None = refl
+
+      by : (waiting : Option Number) → (settle_number d waiting).understood ≡ d.understood
+      by (Some n) = by-field n.left (with_number d.fields n.value)
+      by None = refl
+
+  settle-idle : (d : Draft) → d.waiting ≡ None → settle d ≡ d
+  unfolding settle
+  settle-idle d none = ap (settle_number d) none
+
+-- what an answer has of a draft
+answer-parts : (text : List ℕ) (d : Draft) (time : Option Time) (date : Approximate) → answer text d time ≡ Ok date
+    → (date.understood ≡ d.understood) × (Some date.time ≡ time)
+answer-parts text d None date e = absurd cc
+answer-parts text d (Some time) date e = by (le_z (pos 0) time.seconds) e
+  where
+    by : (b : Bool) → cond b (Ok (record { time = time; understood = d.understood; ignored = option_map (place_in text) d.ignored })) (Err error.Range) ≡ Ok date
+        → (date.understood ≡ d.understood) × (Some date.time ≡ Some time)
+    by true e =
+        let same = same-date _ date e in
+        (sym (ap (λ (x : Approximate). x.understood) same), sym (ap (λ (x : Approximate). Some x.time) same))
+    by false e = absurd cc
+
+same-time : (a b : Time) → Some a ≡ Some b → a ≡ b
+same-time a b e = cc
+
+module _ (moment : Zoned) (shown : IsShownThere moment (now_of moment).seconds) where
+  abbrev this : Now
+  this = now_of moment
+
+  abbrev tz : TimeZone
+  tz = zone_of moment
+
+  abbrev zone : Choices
+  zone = choices_of tz
+
+  abbrev o : ℤ
+  o = offset_at tz (nanos_of_seconds this.seconds)
+
+  abbrev here : Today
+  here = record { now = this; shown = clock_at o (this.seconds +ℤ o) }
+
+  abbrev itself : Time
+  itself = record { seconds = this.seconds; offset = o }
+
+  drafted : (text : List ℕ) (date : Approximate) (given : Result Draft Fault) → draft_of zone here text ≡ given → answer_of zone here text given ≡ Ok date
+      → date.understood ≡ false → date.time ≡ itself
+  drafted text date (Err x) is e silent = absurd cc
+  drafted text date (Ok d) is e silent =
+      let parts = answer-parts text (settle d) (filled_time zone here.shown (settle d).last.offset (settle d).fields) date e in
+      let unheard : d.understood ≡ false = sym (settle-understood zone here d) ∙ sym parts.0 ∙ silent in
+      let first = draft-idle zone here text d is unheard in
+      let settled : settle d ≡ d = settle-idle zone here d (ap (λ (x : Draft). x.waiting) first) in
+      let fields : (settle d).fields ≡ clock_fields here.shown = ap (λ (x : Draft). x.fields) settled ∙ ap (λ (x : Draft). x.fields) first in
+      let last : (settle d).last ≡ here.shown = ap (λ (x : Draft). x.last) settled ∙ ap (λ (x : Draft). x.last) first in
+      same-time date.time itself
+      (parts.1 ∙ ap₂ (λ (clock : ShownClock) (f : Fields). filled_time zone here.shown clock.offset f) last fields ∙ (now-reached moment shown).filled_now)
+
+  string-guessed : (text : List ℕ) (date : Approximate) → string_guess zone this text ≡ Ok date → date.understood ≡ false → date.time ≡ itself
+  unfolding string_guess
+  string-guessed text date e silent =
+      drafted text date (draft_of zone here text) refl (sym (ap (λ (s : Option ShownClock). guess_by zone this text s) (now-reached moment shown).now_shown) ∙ e) silent
+
+  guessed-so : (text : List ℕ) (date : Approximate) → guess zone this text ≡ Ok date → date.understood ≡ false → date.time ≡ itself
+  unfolding guess
+  guessed-so text date e silent = by (string_guess zone this (before_nul text)) refl e
+    where
+      by : (found : Result Approximate DateError) → string_guess zone this (before_nul text) ≡ found → answer_up_to (nul_place text) found ≡ Ok date → date.time ≡ itself
+      by (Ok inner) is e =
+          let same = same-date _ date e in
+          sym (ap (λ (x : Approximate). x.time) same)
+          ∙ string-guessed (before_nul text) inner is (ap (λ (x : Approximate). x.understood) same ∙ silent)
+      by (Err x) is e = absurd cc
+
+  exact-or : (text : List ℕ) (date : Approximate) (exact : Result ReadDate DateError) → exact_or_guess exact (guess zone this text) ≡ Ok date
+      → date.understood ≡ false → date.time ≡ itself
+  exact-or text date (Ok read) e silent = absurd (not-both date.understood (sym (ap (λ (x : Approximate). x.understood) (same-date _ date e))) silent)
+  exact-or text date (Err x) e silent = by (is_unreadable x) e
+    where
+      by : (b : Bool) → cond b (guess zone this text) (Err x) ≡ Ok date → date.time ≡ itself
+      by true e = guessed-so text date e silent
+      by false e = absurd cc
+
+pub moment-unless : (moment : Zoned) (text : List ℕ) → IsMomentUnlessUnderstood moment text
+moment-unless moment text date shown answers silent =
+    exact-or moment shown text date (date_of (zone_of moment) (said_by (now_of moment) text)) (sym answers) silent
