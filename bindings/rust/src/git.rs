@@ -61,7 +61,8 @@ pub struct ReadDate {
 pub struct Approximate {
     /// The time. Its offset is the zone's, or the one that an exact date says.
     pub time: Time,
-    /// Whether anything was understood, by Git's own count. If not, the time is the moment, or near it.
+    /// Whether anything was understood, by Git's own count. If not, the time is the moment in whole seconds, or in the
+    /// last days of 9999 near it.
     pub understood: bool,
     /// The place of the first word, number or sign of an offset that no rule used, as in [`ReadDate::ignored`].
     pub ignored: Option<usize>,

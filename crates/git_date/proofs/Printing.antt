@@ -1,3 +1,2 @@
 -- What is shown.
 pub mod ShownClocks
-pub mod ShownTexts

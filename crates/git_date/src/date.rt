@@ -64,7 +64,7 @@ fn date_said(said: Result<Said, DateError>, zone: TimeZone<'_>) -> Result<ReadDa
     }
 }
 
-/// The seconds since 1970, at an offset in minutes.
+/// The seconds since 1970, at an offset in minutes. It does not affect those of an epoch, as git-fast-import's manual says.
 fn instant_seconds(said: Said, minutes: i64) -> i64
     requires said { SaidIsInstant said }
     requires minutes { IsMinutes minutes }
@@ -77,7 +77,7 @@ fn instant_seconds(said: Said, minutes: i64) -> i64
     }
 }
 
-/// The date at an offset in minutes, if that is not before 1970.
+/// The date at an offset in minutes. For seconds below 0 Git prints 2^64 more, so they are refused.
 #[tactic(auto, unfolding(crate::specs::Exact::Outcome::date_at))]
 fn date_at(said: Said, minutes: i64) -> Result<ReadDate, DateError>
     requires said { SaidIsInstant said }
@@ -96,7 +96,7 @@ fn date_at(said: Said, minutes: i64) -> Result<ReadDate, DateError>
     }
 }
 
-/// The date at the zone's offset where its clock shows these seconds.
+/// The date at the zone's offset where its clock shows these seconds. Git keeps whole minutes of an offset.
 fn date_in_zone(said: Said, zone: TimeZone<'_>) -> Result<ReadDate, DateError>
     requires { SaidIsInstant said }
     ensures { result ≡ date_in said (local_offset (offsets_of (plain_zone zone.entry)) None said.seconds) }

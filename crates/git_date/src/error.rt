@@ -10,7 +10,7 @@ pub enum DateError {
     /// The digits at this place say more than 2147483647, and are neither an epoch nor a fraction. Git cuts such numbers.
     #[error("the number at byte {0} is too large")]
     NumberTooLarge(usize),
-    /// The date leads back beyond what Git can say. No exact date does.
+    /// The date leads back beyond what Git can say: over 2147483647 seconds, or to a year before 1900. No exact date does.
     #[error("the date at byte {0} leads back too far")]
     BackTooFar(usize),
     /// The date at this place begins with a year that Git refuses, of which it would keep month and day: `1900-02-03`.

@@ -7,7 +7,7 @@ ghost use Rattle.git_date.specs.Exact.Fast.{WritesTwo, WritesYear, WritesMonth, 
 ghost use Rattle.git_date.specs.Exact.Outcome.{SaidIsInstant};
 
 use crate::fields::Fields;
-use crate::offsets::signed_minutes;
+use crate::fields::offsets::signed_minutes;
 use crate::reader::Said;
 use gix_date::names::{day_name, month_name, month_told, weekday_told};
 
@@ -50,7 +50,7 @@ fn year(a: u8, b: u8, c: u8, d: u8) -> Option<u16>
     if 1970 <= n { Some(n) } else { None }
 }
 
-/// The month that has this name.
+/// The month that has this name, in the letter case that Git prints.
 #[inline(always)]
 fn month(a: u8, b: u8, c: u8) -> Option<u8>
     ensures { IfSome result (WritesMonth (a ∷ b ∷ c ∷ [])) }
@@ -64,7 +64,7 @@ fn month(a: u8, b: u8, c: u8) -> Option<u8>
     }
 }
 
-/// The day of the week that has this name, from 0 for Monday.
+/// The day of the week that has this name, in the letter case that Git prints, from 0 for Monday.
 #[inline(always)]
 fn weekday(a: u8, b: u8, c: u8) -> Option<u8>
     ensures { IfSome result (WritesWeekday (a ∷ b ∷ c ∷ [])) }
@@ -185,7 +185,7 @@ fn clock(text: &[u8]) -> Option<Clock>
     }
 }
 
-/// The minutes of an offset. `-0000` and `-0001` are left to the rules.
+/// The minutes of an offset. `-0001`, which is none, and `-0000` are left to the rules.
 #[inline(always)]
 fn minutes(sign: u8, a: u8, b: u8, c: u8, d: u8) -> Option<i16>
     ensures { IfSome result (WritesOffset compact_offset_text (sign ∷ a ∷ b ∷ c ∷ d ∷ [])) }
@@ -348,7 +348,7 @@ pub(crate) fn printed_fields(text: &[u8]) -> Option<Fields>
     }
 }
 
-/// The seconds of ten digits.
+/// The seconds of ten digits, from 2001 on, in the years that Git knows.
 #[inline(always)]
 fn seconds(text: &[u8]) -> Option<u64>
     ensures { IfSome result (WritesSeconds text.now) }

@@ -2,6 +2,11 @@
 ghost use Rattle.std.specs.Prelude.{◌≡◌};
 ghost use Rattle.git_date.specs.Rules.Fields.{knows_nothing, knows_date, with_clock};
 
+pub(crate) mod dates;
+pub(crate) mod digits;
+pub(crate) mod groups;
+pub(crate) mod offsets;
+
 /// The fields of a date, its clock and its offset in minutes, as far as they are known.
 #[derive(Clone, Copy)]
 pub(crate) struct Fields {

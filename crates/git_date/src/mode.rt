@@ -39,7 +39,8 @@ pub enum DateKind {
 pub struct DateMode {
     /// What is shown.
     pub kind: DateKind,
-    /// Whether the clock is that of the moment's zone. Else it is the time's own.
+    /// Whether the clock is that of the moment's zone. Else it is the time's own. By git-log's manual this has no effect on
+    /// `relative` and `unix`.
     pub local: bool,
 }
 

@@ -8,16 +8,16 @@ ghost use Rattle.git_date.specs.Exact.Outcome.{SaidIsInstant};
 ghost use Rattle.git_date.specs.Rules.Views.{step_view};
 
 use crate::clocks::is_instant;
-use crate::dates::{Now, exact_seconds};
-use crate::digits::{Stepped, digits_rule};
 use crate::error::DateError;
 use crate::fast::{printed_fields, printed_seconds};
 use crate::fault::Fault;
 use crate::fields::Fields;
-use crate::offsets::{at_text, offset_rule};
-use crate::strings::up_to_nul;
+use crate::fields::dates::{Now, exact_seconds};
+use crate::fields::digits::{Stepped, digits_rule};
+use crate::fields::offsets::{at_text, offset_rule};
+use crate::tokens::strings::up_to_nul;
+use crate::tokens::words::{letters_rule, without_ending};
 use crate::tokens::{Token, is_end, next_token};
-use crate::words::{letters_rule, without_ending};
 use jiff::Timestamp;
 
 /// What was read so far.
@@ -35,7 +35,7 @@ pub(crate) struct Said {
     pub(crate) seconds: i64,
     /// The minutes of the offset.
     pub(crate) offset: Option<i16>,
-    /// Whether the seconds are those of the instant.
+    /// Whether the seconds are those of the instant, so that the offset is not subtracted.
     pub(crate) epoch: bool,
     /// The place of the first word or number that no rule used, or else of a NUL.
     pub(crate) ignored: Option<usize>,
@@ -70,7 +70,7 @@ fn ended<'a>(step: Stepped<'a>) -> Stepped<'a>
     Ok((fields, without_ending(rest)))
 }
 
-/// What a sign says, directly before digits or not.
+/// What a sign says. Only directly before digits Git reads an offset.
 #[tactic(auto, unfolding(crate::specs::Exact::Reading::sign_rule))]
 fn sign_rule<'a>(fields: Fields, behind: bool, text: &'a [u8]) -> Stepped<'a>
     ensures value { step_view result ≡ sign_rule fields behind (tokens text.now) }
@@ -154,7 +154,7 @@ fn at_said(seconds: u64, minutes: i16) -> Result<Said, DateError>
     })
 }
 
-/// What the fields say that were read.
+/// What the fields say that were read. Without a year, a month or a clock Git reads no date.
 #[tactic(auto, unfolding(crate::specs::Exact::Reading::fields_said))]
 fn fields_said(text: &[u8], read: Result<Reading, Fault>) -> Result<Said, DateError>
     ensures value { result ≡ fields_said text.now read }
@@ -189,7 +189,7 @@ fn has_few_digits(text: &[u8]) -> bool
     !text.contains(&b':') && text.iter().filter(|b| b.is_ascii_digit()).count() < 3
 }
 
-/// Whether the third byte is a digit, as in most dates that are no words.
+/// Whether the third byte is a digit, as in most dates that are no words. This costs less than to count digits.
 fn third_is_digit(text: &[u8]) -> bool {
     matches!(text, [_, _, third, ..] if third.is_ascii_digit())
 }

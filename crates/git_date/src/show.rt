@@ -1,27 +1,25 @@
 //! Dates as Git shows them.
 ghost use Rattle.std.specs.Prelude.{◌≡◌, ◌<◌, ◌≤ℤ◌, pos, MatchResult, IfSome, option_map, unsigned_abs, false};
+ghost use Rattle.gix_date.specs.Fields.Zoned.{last_second};
+ghost use Rattle.gix_date.specs.Header.Text.{hundred_hours};
 ghost use Rattle.std.specs.Int.Signed.{lt_z};
 ghost use Rattle.jiff.specs.Words.{plain_zone};
 ghost use Rattle.git_date.specs.Show.Dates.{is_stored, shown, shown_by, shown_clock, shown_offset, relative_shown, human_shown};
 ghost use Rattle.git_date.specs.Show.Clocks.{moment_at, moment_of};
-ghost use Rattle.git_date.specs.Rules.Clocks.{local_of, HasFields};
 ghost use Rattle.git_date.specs.declared.error.DateError.TheVariants.{Range};
 
 mod ages;
 mod clocks;
 mod dates;
 mod human;
-mod pieces;
 
-use crate::clocks::ShownClock;
 use crate::error::DateError;
 use crate::mode::{DateKind, DateMode};
 use ages::relative_text;
 use arrayvec::ArrayString;
 use clocks::{is_written_offset, own_clock, zone_clock};
-use dates::{
-    default_text, iso8601_strict_text, iso8601_text, raw_text, rfc2822_text, short_text, unix_text,
-};
+use dates::{push_clock_text, raw_text, unix_text};
+use gix_date::clock::Clock;
 use gix_date::{Time, Zoned};
 use human::human_text;
 use jiff::Timestamp;
@@ -85,9 +83,8 @@ fn shown(time: Time, mode: DateMode, now: Timestamp, zone: TimeZone<'_>) -> Opti
 }
 
 /// The clock by which a time is shown.
-fn shown_clock(time: Time, local: bool, now: Timestamp, zone: TimeZone<'_>) -> Option<ShownClock>
-    ensures shown { option_map local_of result ≡ shown_clock (moment_at now.nanosecond (plain_zone zone.entry)) local time }
-    ensures fields { IfSome result HasFields }
+fn shown_clock(time: Time, local: bool, now: Timestamp, zone: TimeZone<'_>) -> Option<Clock>
+    ensures { result ≡ shown_clock (moment_at now.nanosecond (plain_zone zone.entry)) local time }
 {
     if local {
         zone_clock(time.seconds, zone)
@@ -100,11 +97,11 @@ fn shown_clock(time: Time, local: bool, now: Timestamp, zone: TimeZone<'_>) -> O
 #[tactic(auto, unfolding(crate::specs::Show::Dates::shown_offset))]
 fn shown_offset(time: Time, local: bool, now: Timestamp, zone: TimeZone<'_>) -> Option<i32>
     ensures value { result ≡ shown_offset (moment_at now.nanosecond (plain_zone zone.entry)) local time }
-    ensures short { IfSome result (λ offset. unsigned_abs offset < 360000) }
+    ensures short { IfSome result (λ offset. unsigned_abs offset < hundred_hours) }
 {
     if local {
         let shown = zone_clock(time.seconds, zone)?;
-        return Some(shown.offset);
+        return Some(shown.offset());
     }
     if is_written_offset(time.offset) {
         Some(time.offset)
@@ -116,7 +113,7 @@ fn shown_offset(time: Time, local: bool, now: Timestamp, zone: TimeZone<'_>) -> 
 /// How long ago a time was. `None` at a moment before 1970, where Git's ages wrap.
 #[tactic(auto, unfolding(crate::specs::Show::Dates::relative_shown))]
 fn relative_shown(now: i64, seconds: i64) -> Option<DateText>
-    requires now { now ≤ℤ pos 253_402_207_200 }
+    requires now { now ≤ℤ last_second }
     requires seconds { lt_z seconds (pos 0) ≡ false }
     ensures { option_map (λ text. text.bytes) result ≡ relative_shown now seconds }
 {
@@ -160,15 +157,13 @@ fn shown_apart(time: Time, mode: DateMode, now: Timestamp, zone: TimeZone<'_>) -
         ≡ shown_by mode.kind (moment_at now.nanosecond (plain_zone zone.entry)) mode.local time }
 {
     let local = mode.local;
-    let text = match mode.kind {
-        DateKind::Relative => relative_shown(now.as_second(), time.seconds)?,
-        DateKind::Human => human_shown(time, local, now, zone)?,
-        DateKind::Default => default_text(local, shown_clock(time, local, now, zone)?),
-        DateKind::Short => short_text(shown_clock(time, local, now, zone)?),
-        DateKind::Iso8601 => iso8601_text(shown_clock(time, local, now, zone)?),
-        DateKind::Iso8601Strict => iso8601_strict_text(shown_clock(time, local, now, zone)?),
-        DateKind::Rfc2822 => rfc2822_text(shown_clock(time, local, now, zone)?),
-        DateKind::Unix | DateKind::Raw => unreachable!(),
-    };
-    Some(text)
+    match mode.kind {
+        DateKind::Relative => relative_shown(now.as_second(), time.seconds),
+        DateKind::Human => human_shown(time, local, now, zone),
+        kind => {
+            let mut text = ArrayString::new();
+            push_clock_text(&mut text, kind, local, shown_clock(time, local, now, zone)?);
+            Some(text)
+        }
+    }
 }

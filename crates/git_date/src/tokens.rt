@@ -4,6 +4,11 @@ ghost use Rattle.std.specs.List.{prefix_len};
 ghost use Rattle.std.specs.Char.{is_ascii_alphabetic, is_ascii_digit};
 ghost use Rattle.git_date.specs.Tokens.Tokens.{tokens, token_of, Digits, bytes_left, is_end};
 
+pub(crate) mod names;
+pub(crate) mod numbers;
+pub(crate) mod strings;
+pub(crate) mod words;
+
 /// A longest run of letters or of digits, or a single mark.
 #[derive(Clone, Copy)]
 pub(crate) enum Token<'a> {
@@ -51,7 +56,7 @@ pub(crate) fn left_from(run: &[u8], text: &[u8]) -> usize
     run.len() + text.len()
 }
 
-/// Whether a token is a line feed.
+/// Whether a token is a line feed: one that no rule takes ends an exact date.
 pub(crate) fn is_end(token: Token<'_>) -> bool
     ensures { result ≡ is_end (token_of token.entry) }
 {

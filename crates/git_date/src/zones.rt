@@ -4,6 +4,8 @@ ghost use Rattle.jiff.specs.Words.{plain_zone, IsOffsetSeconds};
 ghost use Rattle.gix_date.specs.Fields.Zoned.{is_instant};
 ghost use Rattle.git_date.specs.Exact.Zones.{offsets_of, is_same, shows, standard_offset, gap_offset, second_offset, searched_offset, local_offset};
 
+pub(crate) mod texts;
+
 use crate::clocks::is_instant;
 use jiff::Timestamp;
 use jiff::tz::TimeZone;
@@ -58,7 +60,7 @@ fn shows(zone: TimeZone<'_>, local: i64, offset: i32) -> bool
     is_same(offset, offset_by(zone, local, offset))
 }
 
-/// Of two offsets the one that is not of daylight saving time, or else 0, or else the first.
+/// Of two offsets the one that is not of daylight saving time, as Git mostly has it in a gap, or else 0, or else the first.
 fn standard_offset(zone: TimeZone<'_>, local: i64, first: i32, second: i32) -> i32
     requires first { is_instant (local -ℤ first) ≡ true }
     requires second { is_instant (local -ℤ second) ≡ true }
@@ -96,7 +98,7 @@ fn gap_offset(
     standard_offset(zone, local, first, second)
 }
 
-/// The second offset, after two that were tried, or that in a gap.
+/// The second offset, after two that were tried, or that in a gap. `None` if there is a third, where Git's search goes on.
 fn second_offset(
     zone: TimeZone<'_>,
     preferred: Option<i32>,
@@ -118,7 +120,8 @@ fn second_offset(
     None
 }
 
-/// Git's search.
+/// Git's search: the offset where UTC's clock shows the time, and those to which it leads. So of a time that is shown twice the
+/// earlier is found west of UTC, the later east, mostly.
 #[tactic(auto, unfolding(crate::specs::Exact::Zones::searched_offset))]
 fn searched_offset(zone: TimeZone<'_>, preferred: Option<i32>, local: i64) -> Option<i32>
     requires { is_instant local ≡ true }
@@ -132,7 +135,8 @@ fn searched_offset(zone: TimeZone<'_>, preferred: Option<i32>, local: i64) -> Op
     second_offset(zone, preferred, local, first, second)
 }
 
-/// The offset of the zone where its clock shows these seconds: the preferred one, if it shows them so.
+/// The offset of the zone where its clock shows these seconds: the preferred one, if it shows them so. That is the one which the
+/// clock showed last, for dates of people; for exact dates there is none.
 #[tactic(auto, unfolding(crate::specs::Exact::Zones::local_offset))]
 pub(crate) fn local_offset(zone: TimeZone<'_>, preferred: Option<i32>, local: i64) -> Option<i32>
     requires { is_instant local ≡ true }

@@ -1,9 +1,8 @@
 -- The time of a date that was read whole and with its offset, where the steps over its text fit a time.
-use Rattle.std.proofs.Common.{◌≡◌, ◌∙◌, ◌≤◌, ℕ, ℤ, pos, ◌*ℤ◌, Bool, true, false, cond, List, length, nat_lt, Option, Some, None, Result, Ok, Err, refl, ap, sym, arith}
+use Rattle.std.proofs.Common.{◌≡◌, ◌∙◌, ℕ, ℤ, pos, ◌*ℤ◌, Bool, true, false, cond, List, length, Option, Some, None, Result, Ok, Err, refl, ap, sym}
 use Rattle.std.specs.Prelude.{option_map}
 use Rattle.std.specs.Int.Signed.{le_z}
 use Rattle.std.specs.Option.{is_some, option_or}
-use Rattle.std.proofs.lemmas.Bool.Decides.{nat_tests}
 use Rattle.jiff.specs.Types.{TimeZone}
 use Rattle.gix_date.specs.Fields.Zoned.{is_instant}
 use Rattle.gix_date.specs.declared.time.Time.{Time}
@@ -12,16 +11,17 @@ use Rattle.git_date.specs.Rules.Fields.{unknown}
 use Rattle.git_date.specs.Rules.Offsets.{at_text}
 use Rattle.git_date.specs.Exact.Outcome.{at_offset, date_at, date_of, instant_seconds}
 use Rattle.git_date.specs.Exact.Reading.{place_in, at_said, by_seconds, fields_said, reading_of, at_or_fields, said_up_to, string_said, said_by}
-use Rattle.git_date.specs.Tokens.Strings.{string_len, nul_place}
+use Rattle.git_date.specs.Tokens.Strings.{nul_place}
 use Rattle.git_date.specs.Tokens.Tokens.{tokens}
 use Rattle.git_date.specs.Types.Names.{Fault, Now, Reading, Said}
 use Rattle.git_date.specs.declared.date.ReadDate.{ReadDate}
 use Rattle.git_date.specs.declared.error.DateError.{DateError}
 use Rattle.git_date.specs.declared.error.DateError.TheVariants.{Range}
 use Rattle.git_date.proofs.Rules.EnoughSteps.{fewer}
-use Rattle.git_date.proofs.Text.StringEnds.{within, whole-said}
+use Rattle.git_date.proofs.Text.StringEnds.{whole-said}
 use Rattle.git_date_agreement.proofs.Steps.{Fits, Goes}
 use Rattle.git_date_laws.proofs.Back.Zones.{told}
+use Rattle.git_date_laws.proofs.Whole.Guesses.{whole-text}
 
 abbrev time_said : Said → ℤ → Time
 time_said said minutes = record { seconds = instant_seconds said minutes; offset = pos 60 *ℤ minutes }
@@ -64,14 +64,6 @@ no-place None read said e none = refl
 no-place (Some place) (Err x) said e none = absurd cc
 no-place (Some place) (Ok x) said e none = absurd (or-some x.ignored place (let same : record x { ignored = option_or x.ignored (Some place) } ≡ said = cc in ap (λ (s : Said). s.ignored) same ∙ none))
 
-no-nul : (text : List ℕ) → nul_place text ≡ None → string_len text ≡ length text
-unfolding nul_place
-no-nul text e = by (nat_lt (string_len text) (length text)) refl e
-  where
-    by : (b : Bool) → nat_lt (string_len text) (length text) ≡ b → cond b (Some (string_len text)) None ≡ None → string_len text ≡ length text
-    by true t e = absurd cc
-    by false t e = let least : length text ≤ string_len text = grind (arith, nat_tests) in omega (arith, within text)
-
 none-left : (place : ℕ → ℕ) (i : Option ℕ) → option_map place i ≡ None → i ≡ None
 none-left place None e = refl
 none-left place (Some left) e = absurd cc
@@ -108,5 +100,5 @@ pub time-is : (now : Now) (tz : TimeZone) (t : Time) (text : List ℕ) (date : R
 unfolding said_by string_said
 time-is now tz t text date goes fits h has none =
     let s = said-by tz (said_by now text) date h has none in
-    let whole = no-nul text (no-place (nul_place text) _ s.said s.is s.ignored) in
+    let whole = whole-text text (no-place (nul_place text) _ s.said s.is s.ignored) in
     s.time ∙ by-at now t text s.said s.minutes s.offset s.ignored (at_text (tokens text)) fits goes (sym s.is ∙ whole-said now text whole)

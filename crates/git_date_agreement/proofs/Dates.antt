@@ -13,7 +13,7 @@ use Rattle.gix_date.specs.Text.Characters.{space, comma}
 use Rattle.gix_date.specs.declared.time.Time.{Time}
 use Rattle.git_date.proofs.Exact.PrintedClocks.{HasNoDigits}
 use Rattle.git_date.specs.Rules.Fields.{unknown, with_date}
-use Rattle.git_date.specs.Tokens.Tokens.{Token, Letters, Digits, Mark, letter_before, digit_before, tokens}
+use Rattle.git_date.specs.Tokens.Tokens.{Token, Letters, letter_before, digit_before, tokens}
 use Rattle.git_date.specs.Types.Names.{Fields, Now}
 use Rattle.git_date.specs.Rules.Words.{without_ending}
 use Rattle.git_date_agreement.proofs.Fields.{IsOf, AreFields, time-of, fields-of, year-from, year-is, IsSpaced, free-rest}
@@ -139,17 +139,13 @@ late-year l t is f x h since = year-from l t is f (year-is x l.date.year h).1 si
 -- what begins with a letter or a digit does not begin with `@`
 digit-no-at : (c : ℕ) (ts : List Token) → at_text (digit_before c ts) ≡ None
 unfolding at_text
-digit-no-at c [] = refl
 digit-no-at c (Letters run ∷ more) = refl
-digit-no-at c (Digits run ∷ more) = refl
-digit-no-at c (Mark byte ∷ more) = refl
+digit-no-at c ts = refl
 
 letter-no-at : (c : ℕ) (ts : List Token) → at_text (letter_before c ts) ≡ None
 unfolding at_text
-letter-no-at c [] = refl
 letter-no-at c (Letters run ∷ more) = refl
-letter-no-at c (Digits run ∷ more) = refl
-letter-no-at c (Mark byte ∷ more) = refl
+letter-no-at c ts = refl
 
 pub number-no-at : (text : List ℕ) → Begins is_ascii_digit text → at_text (tokens text) ≡ None
 number-no-at [] h = absurd h

@@ -3,7 +3,6 @@ use Rattle.std.proofs.Common.{◌≡◌, ◌∙◌, ◌<◌, ◌≤◌, ◌≤�
 use Rattle.std.specs.Prelude.{◌&&◌, codes}
 use Rattle.std.specs.Char.{is_ascii_alphabetic, is_ascii_digit}
 use Rattle.std.specs.List.{list_all}
-use Rattle.std.specs.Str.{all_ascii_digits}
 use Rattle.std.proofs.lemmas.Bool.{and_parts, eqb-true as is-byte}
 use Rattle.std.proofs.lemmas.Bool.Decides.{nat_tests}
 use Rattle.std.proofs.lemmas.Int.{by_lt_z}
@@ -15,16 +14,16 @@ use Rattle.gix_date.proofs.Fields.FieldsTaken.{went}
 use Rattle.gix_date.specs.Families.Answer.{Absolute, OffsetAboveDay}
 use Rattle.gix_date.specs.Families.Patterns.{date_answer, time_answer}
 use Rattle.gix_date.specs.Fields.Civil.{civil_seconds, civil_instant, is_date, is_clock}
-use Rattle.gix_date.specs.Fields.FieldTexts.{IsField, IsYear, AreSpaces, AreThreeLetters}
+use Rattle.gix_date.specs.Fields.FieldTexts.{IsField, IsYear, AreSpaces}
 use Rattle.gix_date.specs.Fields.Layout.{LocalTime}
 use Rattle.gix_date.specs.Fields.Zoned.{is_instant}
 use Rattle.gix_date.specs.Text.Characters.{space, is_space}
 use Rattle.gix_date.specs.declared.time.Time.{Time}
-use Rattle.git_date.proofs.Exact.PrintedClocks.{HasNoDigits, IsDayText}
-use Rattle.git_date.proofs.Text.TokenRuns.{letter-first, mark-first}
+use Rattle.git_date.proofs.Exact.PrintedClocks.{HasNoDigits, IsDayText, IsNumber, three-numbers}
+use Rattle.git_date.proofs.Text.TokenRuns.{mark-first}
 use Rattle.git_date.specs.Tokens.Numbers.{number}
-use Rattle.git_date.specs.Tokens.Tokens.{Token, Letters, Digits, Mark, letter_before, tokens}
-use Rattle.git_date_agreement.proofs.Steps.{IsQuiet, AreQuiet, run-first, digit-below, four-is, under}
+use Rattle.git_date.specs.Tokens.Tokens.{Token, Digits, Mark, tokens}
+use Rattle.git_date_agreement.proofs.Steps.{IsQuiet, AreQuiet, digit-below, four-is, under}
 use Rattle.git_date_agreement.specs.Agree.{HasNoLeapSecond}
 
 -- what a date and a clock at an offset come to
@@ -115,12 +114,6 @@ year-from l t is f short since =
     omega (arith, signed_arith, here, within, day_count-later_year y (pos 1969) (omega (arith, signed_arith)) lt, days_from_civil-day_count y m d, sixty-nine, civil, near, hour, minute, second, since)))
     (λ ge. omega (arith, signed_arith, ge))
 
--- a number in digits
-pub record IsNumber (x : List ℕ) (n : ℕ) : Type 0 where
-  pub some : 1 ≤ length x
-  pub digits : all_ascii_digits x ≡ true
-  pub is : number x ≡ n
-
 pub field-is : (x : List ℕ) (n : ℕ) → IsField x n → IsNumber x n × (n < 100) × ((length x ≡ 1) ⊎ (length x ≡ 2))
 unfolding number
 field-is [] n h = absurd h
@@ -149,9 +142,7 @@ year-is (a ∷ b ∷ c ∷ d ∷ []) n h =
 year-is x n h = absurd h
 
 pub day-text : (x : List ℕ) (n : ℕ) → IsField x n → IsDayText n x
-day-text x n h =
-    let d = field-is x n h in
-    record { width = d.2; number_is = d.0.is; before = λ rest ts e free. run-first x rest d.0.some d.0.digits (subst HasNoDigits (sym e) free) ∙ ap (λ (ts : List Token). Digits x ∷ ts) e }
+day-text x n h = let d = field-is x n h in record { width = d.2; number = d.0 }
 
 -- spaces, of which the first is a mark of its own
 space-quiet : IsQuiet space
@@ -175,30 +166,11 @@ spaced (c ∷ gap) rest h =
     let same = is-byte c space h.0 in
     record { more = tokens (gap ++ rest); is = ap (λ (b : ℕ). tokens (b ∷ (gap ++ rest))) same ∙ mark-first space (gap ++ rest) refl refl }
 
--- three numbers with a mark between them, and letters
-pub three-first : (mark : ℕ) (a b c rest : List ℕ) (x y z : ℕ) → is_ascii_alphabetic mark ≡ false → is_ascii_digit mark ≡ false → IsNumber a x → IsNumber b y → IsNumber c z
-    → HasNoDigits (tokens rest) → tokens (((a ++ (mark ∷ b)) ++ (mark ∷ c)) ++ rest) ≡ Digits a ∷ Mark mark ∷ Digits b ∷ Mark mark ∷ Digits c ∷ tokens rest
-three-first mark a b c rest x y z no_letter no_digit p q r free =
-    let last = run-first c rest r.some r.digits free in
-    let after_b = mark-first mark (c ++ rest) no_letter no_digit ∙ ap (λ (ts : List Token). Mark mark ∷ ts) last in
-    let middle = run-first b (mark ∷ (c ++ rest)) q.some q.digits (subst HasNoDigits (sym after_b) tt) ∙ ap (λ (ts : List Token). Digits b ∷ ts) after_b in
-    let after_a = mark-first mark (b ++ (mark ∷ (c ++ rest))) no_letter no_digit ∙ ap (λ (ts : List Token). Mark mark ∷ ts) middle in
-    ap tokens (append_assoc (a ++ (mark ∷ b)) (mark ∷ c) rest ∙ append_assoc a (mark ∷ b) (mark ∷ (c ++ rest)))
-    ∙ run-first a (mark ∷ (b ++ (mark ∷ (c ++ rest)))) p.some p.digits (subst HasNoDigits (sym after_a) tt) ∙ ap (λ (ts : List Token). Digits a ∷ ts) after_a
-
-letters-first : (a b c : ℕ) (rest : List ℕ) (byte : ℕ) (more : List Token) → AreThreeLetters (a ∷ b ∷ c ∷ []) → tokens rest ≡ Mark byte ∷ more
-    → tokens (a ∷ b ∷ c ∷ rest) ≡ Letters (a ∷ b ∷ c ∷ []) ∷ Mark byte ∷ more
-letters-first a b c rest byte more h e =
-    let last = and_parts (is_ascii_alphabetic a && is_ascii_alphabetic b) (is_ascii_alphabetic c) h in
-    let front = and_parts (is_ascii_alphabetic a) (is_ascii_alphabetic b) last.0 in
-    letter-first a (b ∷ c ∷ rest) front.0 ∙ ap (letter_before a) (letter-first b (c ∷ rest) front.1 ∙ ap (letter_before b) (letter-first c rest last.1 ∙ ap (letter_before c) e))
-
-pub name-first : (x rest : List ℕ) (byte : ℕ) (more : List Token) → AreThreeLetters x → tokens rest ≡ Mark byte ∷ more → tokens (x ++ rest) ≡ Letters x ∷ Mark byte ∷ more
-name-first [] rest byte more h e = absurd h
-name-first (a ∷ []) rest byte more h e = absurd h
-name-first (a ∷ b ∷ []) rest byte more h e = absurd h
-name-first (a ∷ b ∷ c ∷ []) rest byte more h e = letters-first a b c rest byte more h e
-name-first (a ∷ b ∷ c ∷ d ∷ x) rest byte more h e = absurd h
+-- three numbers with a mark between them
+pub three-first : (mark : ℕ) (a b c rest : List ℕ) (x y z : ℕ) (ts : List Token) → is_ascii_alphabetic mark ≡ false → is_ascii_digit mark ≡ false → IsNumber a x → IsNumber b y → IsNumber c z
+    → tokens rest ≡ ts → HasNoDigits ts → tokens (((a ++ (mark ∷ b)) ++ (mark ∷ c)) ++ rest) ≡ Digits a ∷ Mark mark ∷ Digits b ∷ Mark mark ∷ Digits c ∷ ts
+three-first mark a b c rest x y z ts no_letter no_digit p q r e free =
+    ap tokens (append_assoc (a ++ (mark ∷ b)) (mark ∷ c) rest ∙ append_assoc a (mark ∷ b) (mark ∷ (c ++ rest))) ∙ three-numbers mark a b c rest x y z ts no_letter no_digit p q r e free
 
 -- no second 60 in a part of a text without
 pub free-rest : (text front rest : List ℕ) → HasNoLeapSecond text → text ≡ front ++ rest → HasNoLeapSecond rest

@@ -16,7 +16,7 @@ use Rattle.gix_date.specs.Text.Characters.{colon, comma, space}
 use Rattle.gix_date.specs.Text.LongNames.{month_told, weekday_told}
 use Rattle.gix_date.specs.Text.Names.{is_name}
 use Rattle.gix_date.specs.declared.time.Time.{Time}
-use Rattle.git_date.proofs.Exact.PrintedClocks.{HasNoDigits, at, small-rule, taken-rule, after-clock, clock-taken, numbered}
+use Rattle.git_date.proofs.Exact.PrintedClocks.{at, small-rule, taken-rule, after-clock, clock-taken, numbered, two-numbers}
 use Rattle.git_date.proofs.Text.TokenRuns.{mark-first}
 use Rattle.git_date.specs.Types.DatedCases.{Taken}
 use Rattle.git_date.specs.Rules.Dates.{exact_seconds}
@@ -32,7 +32,7 @@ use Rattle.git_date.specs.Rules.Words.{with_zone, is_filler, with_word, letters_
 use Rattle.git_date_laws.proofs.Alike.Texts.{lowered, tokens-lower, in_lower_case}
 use Rattle.git_date_laws.proofs.Alike.Spelling.{word-agrees}
 use Rattle.git_date_agreement.proofs.Fields.{IsOf, AreFields, field-is, gap-quiet, IsSpaced}
-use Rattle.git_date_agreement.proofs.Parts.{all_of, colon-first, ready, stop, piece, clock-part, weekday-part}
+use Rattle.git_date_agreement.proofs.Parts.{all_of, ready, stop, piece, clock-part, weekday-part}
 use Rattle.git_date_agreement.proofs.Steps.{IsQuiet, Fits, Goes, Step, After, goes, over, skip, no-offset, offset-goes}
 use Rattle.git_date_agreement.specs.Agree.{HasNoLeapSecond}
 
@@ -42,10 +42,8 @@ pair_at first second = record { mark = colon; first = first; second = second; th
 
 two-of : (first : ℕ) (b : List ℕ) (more : List Token) → group_of first (Mark colon ∷ Digits b ∷ Mark space ∷ more) ≡ Some (pair_at first (number_at b (Mark space ∷ more)), Mark space ∷ more)
 unfolding group_of marked_number
-two-of first b [] = refl
 two-of first b (Letters run ∷ more) = refl
-two-of first b (Digits run ∷ more) = refl
-two-of first b (Mark byte ∷ more) = refl
+two-of first b ts = refl
 
 pair-small : (first : ℕ) (second : Number) → second.value < 60 → large_in (pair_at first second) ≡ None
 unfolding large_in
@@ -80,8 +78,7 @@ lowered-one (Letters run ∷ t ∷ more) word e = absurd (none t more (let rest 
   where
     none : (t : Token) (more : List Token) → lowered (t ∷ more) ≡ [] → ⊥
     none (Letters run) more e = cc
-    none (Digits run) more e = cc
-    none (Mark byte) more e = cc
+    none x more e = cc
 lowered-one (Digits run ∷ more) word e = absurd cc
 lowered-one (Mark byte ∷ more) word e = absurd cc
 
@@ -169,8 +166,7 @@ module _ (now : Now) (t : Time) (l : LocalTime) (is : IsOf l t) (f : AreFields l
             let next : ℕ → Fields = λ second. record g { hour = Some l.clock.hour; minute = Some l.clock.minute; second = Some second } in
             let a = (field-is k.hour l.clock.hour k.is_hour).0 in
             let b = (field-is k.minute l.clock.minute k.is_minute).0 in
-            let whole = ap tokens (append_assoc k.hour (colon ∷ k.minute) p.rest) ∙ colon-first k.hour k.minute p.rest l.clock.hour l.clock.minute a b (subst HasNoDigits (sym s.is) tt)
-            ∙ ap (λ (ts : List Token). Digits k.hour ∷ Mark colon ∷ Digits k.minute ∷ ts) s.is in
+            let whole = ap tokens (append_assoc k.hour (colon ∷ k.minute) p.rest) ∙ two-numbers colon k.hour k.minute p.rest l.clock.hour l.clock.minute (Mark space ∷ s.more) refl refl a b s.is tt in
             subst (λ (x : List ℕ). Goes now t g (tokens x)) (sym (p.whole ∙ ap (λ (x : List ℕ). x ++ p.rest) k.whole))
             (piece now t l is f late g (k.hour ++ (colon ∷ k.minute)) p.rest (Digits k.hour) (Mark colon ∷ Digits k.minute ∷ Mark space ∷ s.more) whole none
             (subst (Step now t) (sym (pair-rule now g k.hour k.minute l.clock.hour l.clock.minute s.more a.is b.is f.hour f.minute))

@@ -1,7 +1,7 @@
 -- A number of seconds at the front of what is left: from 100000000 it is those seconds, and a smaller one, or one with a sign,
 -- says no time.
 use Rattle.std.proofs.Common.{◌≡◌, ◌∙◌, ◌<◌, ◌≤◌, ◌/◌, ◌%◌, ◌^◌, ◌⊎◌, inl, inr, ℕ, ℤ, pos, nat_le, nat_lt, Bool, true, false, cond, List, [], ◌∷◌, ◌++◌, length, Option, Some, None, Ok, refl, ap, sym, subst, arith}
-use Rattle.std.specs.Prelude.{◌==◌, ◌&&◌, ◌||◌}
+use Rattle.std.specs.Prelude.{◌==◌}
 use Rattle.std.specs.Char.{is_ascii_digit}
 use Rattle.std.specs.List.{fold}
 use Rattle.std.specs.Str.{all_ascii_digits}
@@ -14,12 +14,13 @@ use Rattle.gix_date.specs.Fields.Zoned.{is_instant}
 use Rattle.gix_date.specs.Text.Characters.{plus, minus}
 use Rattle.gix_date.specs.Text.Numbers.{fits_i64, int_value}
 use Rattle.gix_date.specs.declared.time.Time.{Time}
+use Rattle.git_date.proofs.Exact.PrintedClocks.{run-before}
 use Rattle.git_date.proofs.Rules.ClocksBack.{shown_of}
 use Rattle.git_date.proofs.Rules.Kept.{either}
 use Rattle.git_date.specs.Rules.Clocks.{utc_clock}
 use Rattle.git_date.specs.Rules.Dates.{is_day_of_month, year_said, by_year, year_date}
-use Rattle.git_date.specs.Rules.Digits.{Stepped, by_clock, epoch_rule, with_epoch, by_date, eight_digits, clock_taken, six_digits, four_digits, two_digit_year, or_month, year_or_month, few_digits, bare_digits, number_rule, digits_rule}
-use Rattle.git_date.specs.Rules.Fields.{unknown, with_clock}
+use Rattle.git_date.specs.Rules.Digits.{Stepped, by_clock, epoch_rule, with_epoch, by_date, eight_digits, bare_digits, number_rule, digits_rule}
+use Rattle.git_date.specs.Rules.Fields.{unknown}
 use Rattle.git_date.specs.Rules.Groups.{marked_number, group_of, without_fraction}
 use Rattle.git_date.specs.Tokens.Numbers.{digit_more, number}
 use Rattle.git_date.specs.Rules.Offsets.{offset_minutes, two_digit_offset, offset_said, or_refused, by_offset, SaidOffset, offset_rule, with_offset}
@@ -27,7 +28,8 @@ use Rattle.git_date.specs.Exact.Reading.{ended, sign_rule}
 use Rattle.git_date.specs.Tokens.Tokens.{Token, Letters, Digits, Mark, tokens}
 use Rattle.git_date.specs.Types.Names.{Dated, Fields, Now}
 use Rattle.git_date.specs.Rules.Words.{without_ending}
-use Rattle.git_date_agreement.proofs.Steps.{run-first, Ends, ends-free, ends-kept, IsPartial, Goes, Step, After, goes, sign-goes, no-offset}
+use Rattle.git_date_laws.proofs.Back.ExactNothing.{AllLack, Lacking, bare-lacks}
+use Rattle.git_date_agreement.proofs.Steps.{Ends, ends-free, ends-kept, IsPartial, Goes, Step, After, goes, sign-goes, no-offset}
 
 -- the two readers of digits
 digit-same : (v c : ℕ) → is_ascii_digit c ≡ true → digit_more v c ≡ digits_value_after 10 v (c ∷ [])
@@ -83,23 +85,17 @@ int-is (c ∷ t) n e =
 -- what stands after a number is no part of it
 group-none : (first : ℕ) (ts : List Token) → Ends ts → group_of first ts ≡ None
 unfolding group_of marked_number
-group-none first [] h = refl
 group-none first (Letters run ∷ more) h = absurd h
 group-none first (Digits run ∷ more) h = absurd h
-group-none first (Mark c ∷ []) h = refl
-group-none first (Mark c ∷ Letters run ∷ more) h = refl
 group-none first (Mark c ∷ Digits run ∷ more) h = absurd h.1
-group-none first (Mark c ∷ Mark byte ∷ more) h = refl
+group-none first ts h = refl
 
 fraction-kept : (ts : List Token) → Ends ts → without_fraction ts ≡ ts
 unfolding without_fraction
-fraction-kept [] h = refl
 fraction-kept (Letters run ∷ more) h = absurd h
 fraction-kept (Digits run ∷ more) h = absurd h
-fraction-kept (Mark c ∷ []) h = refl
-fraction-kept (Mark c ∷ Letters run ∷ more) h = refl
 fraction-kept (Mark c ∷ Digits run ∷ more) h = absurd h.1
-fraction-kept (Mark c ∷ Mark byte ∷ more) h = refl
+fraction-kept ts h = refl
 
 two-kept : (hours : ℕ) (ts : List Token) → Ends ts → two_digit_offset hours ts ≡ Ok (offset_minutes hours false 0, ts)
 unfolding two_digit_offset
@@ -126,33 +122,20 @@ module _ (now : Now) (t : Time) (ts : List Token) (ends : Ends ts) (partial : (f
       either (λ (d : Dated). Ended (by_date run ts d)) (is_day_of_month (number run / 100 % 100) (number run % 100)) _ _
       (eight-by run (number run / 100 % 100) (number run % 100) (year_said (number run / 10_000))) tt
 
-  six : (n : ℕ) → Ended (Ok (six_digits unknown n ts))
-  unfolding six_digits with_clock
-  six n =
-      either (λ (o : Option Fields). Ended (Ok (clock_taken ts o))) (nat_le (n / 10_000) 24 && nat_le (n / 100 % 100) 59 && nat_le (n % 100) 60) _ _
-      (rw (fraction-kept ts ends) (kept _ refl)) tt
-
-  four : (n : ℕ) → Ended (Ok (four_digits unknown n, ts))
-  unfolding four_digits
-  four n =
-      either (λ (o : Option Fields). Ended (Ok (o, ts))) (nat_le n 1400 && true) _ _ (kept _ refl)
-      (either (λ (o : Option Fields). Ended (Ok (o, ts))) (nat_lt 1900 n && nat_le n 2099) _ _ (kept _ refl) tt)
-
-  few-by : (n : ℕ) (year : Option ℕ) → Ended (Ok (year_or_month unknown n year, ts))
-  unfolding or_month
-  few-by n (Some year) = kept _ refl
-  few-by n None = either (λ (o : Option Fields). Ended (Ok (o, ts))) (nat_le 1 n && nat_le n 12 && true) _ _ (kept _ refl) tt
-
-  few : (width n : ℕ) → Ended (Ok (few_digits unknown width n, ts))
-  unfolding few_digits
-  few width n =
-      either (λ (o : Option Fields). Ended (Ok (o, ts))) (nat_le 1 n && nat_le n 31 && true) _ _ (kept _ refl) (few-by n (cond (width == 2) (two_digit_year unknown n) None))
+  lacking : (step : Stepped) → Lacking ts step → Ended step
+  lacking step (next, is, lacks) = subst Ended (sym is) (by next lacks)
+    where
+      by : (next : Option Fields) → AllLack next → Ended (Ok (next, ts))
+      by (Some f) h = kept f h
+      by None h = tt
 
   bare : (run : List ℕ) → Ended (bare_digits unknown run ts)
   unfolding bare_digits
-  bare run =
-      either Ended (length run == 8) _ _ (eight run) (either Ended (length run == 6) _ _ (six (number run)) (either Ended (length run == 4) _ _ (four (number run))
-      (either Ended (length run == 1 || length run == 2) _ _ (few (length run) (number run)) tt)))
+  bare run = by (length run == 8) refl
+    where
+      by : (b : Bool) → (length run == 8) ≡ b → Ended (bare_digits unknown run ts)
+      by true e = rw e (eight run)
+      by false e = lacking (bare_digits unknown run ts) (bare-lacks run ts (fraction-kept ts ends) e)
 
   low : (run : List ℕ) → number run < 100_000_000 → Ended (digits_rule now unknown run ts)
   unfolding digits_rule number_rule
@@ -187,7 +170,7 @@ module _ (now : Now) (t : Time) (ts : List Token) (ends : Ends ts) (partial : (f
 pub number-goes : (now : Now) (t : Time) (x rest : List ℕ) (n : ℤ) → IsBare x n ⊎ IsSigned x → Ends (tokens rest) → ((f : Fields) → IsPartial f → Goes now t f (tokens rest))
     → ((k : ℕ) → n ≡ pos k → is_instant (pos k) ≡ true → Goes now t (with_epoch unknown (shown_of (pos k))) (tokens rest)) → Goes now t unknown (tokens (x ++ rest))
 number-goes now t x rest n (inl b) ends partial epoch =
-    subst (Goes now t unknown) (sym (run-first x rest b.some b.digits (ends-free (tokens rest) ends)))
+    subst (Goes now t unknown) (sym (run-before x rest (tokens rest) b.some b.digits refl (ends-free (tokens rest) ends)))
     (goes now t unknown (Digits x) (tokens rest) (λ end. no-offset now t unknown refl)
     (elim (cases_lt (number x) 100_000_000) [
       | inl less ↦ low now t (tokens rest) ends partial x less
@@ -195,4 +178,4 @@ number-goes now t x rest n (inl b) ends partial epoch =
     ]))
 number-goes now t x rest n (inr s) ends partial epoch =
     subst (λ (x : List ℕ). Goes now t unknown (tokens (x ++ rest))) (sym s.whole) (sign-goes now t unknown s.behind (s.run ++ rest) (no-offset now t unknown refl)
-    (subst (λ (ts : List Token). Step now t (sign_rule unknown s.behind ts)) (sym (run-first s.run rest s.some s.digits (ends-free (tokens rest) ends))) (signed-step now t (tokens rest) ends partial s.behind s.run)))
+    (subst (λ (ts : List Token). Step now t (sign_rule unknown s.behind ts)) (sym (run-before s.run rest (tokens rest) s.some s.digits refl (ends-free (tokens rest) ends))) (signed-step now t (tokens rest) ends partial s.behind s.run)))

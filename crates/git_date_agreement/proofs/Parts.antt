@@ -1,5 +1,6 @@
 -- The pieces of formatted dates, one after the other, as the exact reader takes them.
 use Rattle.std.proofs.Common.{◌≡◌, ◌∙◌, ◌<◌, ◌≤◌, ◌+◌, ◌-◌, ◌*◌, inl, inr, ℕ, ℤ, pos, neg_ℤ, ◌+ℤ◌, ◌*ℤ◌, nat_le, nat_lt, Bool, true, false, cond, List, [], ◌∷◌, ◌++◌, Option, Some, None, is_none, is_some, Ok, refl, ap, sym, subst, arith, append_assoc, append-nil}
+use Rattle.std.proofs.Math.Bool.{and-false}
 use Rattle.std.specs.Prelude.{◌==◌, ◌&&◌, codes}
 use Rattle.std.proofs.lemmas.Bool.Decides.{nat_tests}
 use Rattle.std.proofs.lemmas.Option.{cond_some as guard}
@@ -20,22 +21,22 @@ use Rattle.gix_date.specs.Text.LongNames.{month_told}
 use Rattle.gix_date.specs.declared.time.Time.{Time}
 use Rattle.git_date.proofs.Rules.ClocksBack.{later-day}
 use Rattle.git_date.proofs.Rules.Kept.{either}
-use Rattle.git_date.proofs.Exact.PrintedClocks.{HasNoDigits, sign-before, sign-no-dot, at, date-mark, narrow-small, day-rule, four-read, clock-rule, date_group, group-read}
+use Rattle.git_date.proofs.Exact.PrintedClocks.{HasNoDigits, sign-before, sign-no-dot, at, date-mark, IsNumber, number-before, two-numbers, name-first, day-rule, four-read, clock-rule, three_group, date-read}
 use Rattle.git_date.proofs.Text.TokenRuns.{letter-first, mark-first}
-use Rattle.git_date.specs.Rules.Dates.{exact_seconds, month_start, first_of, is_month, seconds_after, year_said, by_year, year_date}
+use Rattle.git_date.specs.Rules.Dates.{exact_seconds, month_start, first_of, is_month, seconds_after, by_year}
 use Rattle.git_date.specs.Rules.Digits.{by_rule, bare_digits, four_digits, few_digits, two_digit_year, or_month, number_rule, digits_rule}
 use Rattle.git_date.specs.Rules.Fields.{unknown, with_date}
-use Rattle.git_date.specs.Rules.Groups.{marked_number, group_of, year_first_group, group_rule}
+use Rattle.git_date.specs.Rules.Groups.{marked_number, group_of}
 use Rattle.git_date.specs.Tokens.Names.{is_weekday}
 use Rattle.git_date.specs.Tokens.Numbers.{number}
 use Rattle.git_date.specs.Rules.Offsets.{white, without_white, padded_number, offset_minutes, colon_minutes, two_digit_offset, offset_said, with_offset, or_refused, offset_rule}
 use Rattle.git_date.specs.Exact.Reading.{ended, sign_rule, rule}
 use Rattle.git_date.specs.Tokens.Tokens.{Token, Letters, Digits, Mark, letter_before, tokens, bytes_left}
-use Rattle.git_date.specs.Types.Names.{Dated, Fields, Now}
+use Rattle.git_date.specs.Types.Names.{Fields, Now}
 use Rattle.git_date.specs.Rules.Words.{month_or_other, with_word, letters_rule, without_ending}
-use Rattle.git_date_agreement.proofs.Fields.{IsOf, AreFields, IsNumber, field-is, year-is, day-text, gap-quiet, IsSpaced, spaced, three-first, name-first}
+use Rattle.git_date_agreement.proofs.Fields.{IsOf, AreFields, field-is, year-is, day-text, gap-quiet, IsSpaced, spaced, three-first}
 use Rattle.git_date_agreement.proofs.Seconds.{from-month}
-use Rattle.git_date_agreement.proofs.Steps.{Fits, Goes, Step, After, goes, Ready, over, skip, no-offset, with-it, offset-goes, minutes_at, has-sign, sign-goes, digit-below, run-first}
+use Rattle.git_date_agreement.proofs.Steps.{Fits, Goes, Step, After, goes, Ready, over, skip, no-offset, with-it, offset-goes, minutes_at, has-sign, sign-goes, digit-below}
 use Rattle.git_date_agreement.specs.Agree.{HasNoLeapSecond}
 
 -- all of a date and a clock
@@ -73,66 +74,24 @@ second-is text before second after n m free e h is = by (n == 60) refl is
         absurd (free before after (e ∙ ap (λ (x : List ℕ). before ++ (colon ∷ (x ++ after))) written))
     by false t is = sym is
 
--- the rule of a date that begins with its year
-year-by : (y : ℕ) → 1969 ≤ y → y < 10_000 → year_said y ≡ cond (nat_le 1970 y && nat_le y 2099) (Some y) None
-unfolding year_said
-year-by y l h =
-    let a : (nat_le 71 y && nat_le y 99) ≡ false = grind (arith, nat_tests) in
-    let b : nat_lt y 38 ≡ false = grind (arith, nat_tests) in
-    let c : nat_le 2_147_483_648 y ≡ false = grind (arith, nat_tests) in
-    rw (a, b, c) refl
-
-group-by : (now : Now) (y m d : ℕ) (b c : List ℕ) (rest : List Token) (said : Option ℕ) → 1969 ≤ y → 1 ≤ m → m ≤ 12 → 1 ≤ d → d ≤ 31 → year_said y ≡ said
-    → group_rule now unknown (date_group minus y m d b c rest) ≡ by_year unknown m d said
-unfolding group_rule year_first_group year_date
-group-by now y m d b c rest (Some v) l m1 m12 d1 d31 e =
-    let above : nat_lt 70 y ≡ true = grind (arith, nat_tests) in
-    let low : nat_le 1 m ≡ true = grind (arith, nat_tests) in
-    let high : nat_le m 12 ≡ true = grind (arith, nat_tests) in
-    let first : nat_le 1 d ≡ true = grind (arith, nat_tests) in
-    let last : nat_le d 31 ≡ true = grind (arith, nat_tests) in
-    rw (above, narrow-small m (omega arith), narrow-small d (omega arith), low, high, first, last, e) refl
-group-by now y m d b c rest None l m1 m12 d1 d31 e =
-    let above : nat_lt 70 y ≡ true = grind (arith, nat_tests) in
-    let low : nat_le 1 m ≡ true = grind (arith, nat_tests) in
-    let high : nat_le m 12 ≡ true = grind (arith, nat_tests) in
-    let first : nat_le 1 d ≡ true = grind (arith, nat_tests) in
-    let last : nat_le d 31 ≡ true = grind (arith, nat_tests) in
-    rw (above, narrow-small m (omega arith), narrow-small d (omega arith), low, high, first, last, e) refl
-
 -- three letters tell the month that they name, and the day of the week
 month-told : (x : List ℕ) → AreThreeLetters x → month_told x ≡ month_named x
-month-told [] h = absurd h
-month-told (a ∷ []) h = absurd h
-month-told (a ∷ b ∷ []) h = absurd h
 month-told (a ∷ b ∷ c ∷ []) h = month-is a b c
-month-told (a ∷ b ∷ c ∷ d ∷ x) h = absurd h
+month-told ts h = absurd h
 
 day-told : (x : List ℕ) → AreThreeLetters x → is_weekday x ≡ is_day_name x
 unfolding is_weekday
-day-told [] h = absurd h
-day-told (a ∷ []) h = absurd h
-day-told (a ∷ b ∷ []) h = absurd h
 day-told (a ∷ b ∷ c ∷ []) h = weekday-is a b c
-day-told (a ∷ b ∷ c ∷ d ∷ x) h = absurd h
+day-told ts h = absurd h
 
 -- an offset with colons, as tokens
 pair-is : (a b n : ℕ) → IsDigit a → IsDigit b → n ≡ 10 * (a - 48) + (b - 48) → IsNumber (a ∷ b ∷ []) n × (n < 100)
 pair-is a b n p q e = let x = field-is (a ∷ b ∷ []) n (p, q, e) in (x.0, x.1)
 
-pub colon-first : (a b rest : List ℕ) (x y : ℕ) → IsNumber a x → IsNumber b y → HasNoDigits (tokens rest) → tokens (a ++ (colon ∷ (b ++ rest))) ≡ Digits a ∷ Mark colon ∷ Digits b ∷ tokens rest
-colon-first a b rest x y p q free =
-    let second = mark-first colon (b ++ rest) refl refl ∙ ap (λ (ts : List Token). Mark colon ∷ ts) (run-first b rest q.some q.digits free) in
-    run-first a (colon ∷ (b ++ rest)) p.some p.digits (subst HasNoDigits (sym second) tt) ∙ ap (λ (ts : List Token). Digits a ∷ ts) second
-
 last-free : (last : List ℕ) (seconds : Option ℕ) → AreLastSeconds last seconds → HasNoDigits (tokens last)
 unfolding tokens
 last-free last seconds (inl p) = subst (λ (x : List ℕ). HasNoDigits (tokens x)) (sym p.0) tt
 last-free last seconds (inr p) = subst (λ (x : List ℕ). HasNoDigits (tokens x)) (sym p.2) (subst HasNoDigits (sym (mark-first colon (p.0 ∷ p.1 ∷ []) refl refl)) tt)
-
-and-false : (b : Bool) → (b && false) ≡ false
-and-false true = refl
-and-false false = refl
 
 module _ (now : Now) (t : Time) where
   colon-step : (g : Fields) (behind : Bool) (a b c d hours minutes : ℕ) (ts : List Token) → number (a ∷ b ∷ []) ≡ hours → number (c ∷ d ∷ []) ≡ minutes → hours < 100 → minutes < 100
@@ -185,7 +144,7 @@ module _ (now : Now) (t : Time) (l : LocalTime) (is : IsOf l t) (f : AreFields l
         let n = field-is p.front l.date.day p.is in
         let d = day-text p.front l.date.day p.is in
         subst (λ (x : List ℕ). Goes now t g (tokens x)) (sym p.whole)
-        (piece g p.front p.rest (Digits p.front) (Mark space ∷ s.more) (d.before p.rest (Mark space ∷ s.more) s.is tt) none
+        (piece g p.front p.rest (Digits p.front) (Mark space ∷ s.more) (number-before p.front p.rest (Mark space ∷ s.more) _ n.0 s.is tt) none
         (subst (Step now t) (sym (day-rule now g l.date.day p.front s.more d f.first_day f.last_day no_day)) (subst (Goes now t (record g { day = Some l.date.day })) s.is go)))
 
     pub year-part : (g : Fields) (p : BeginsWith Year l M text) → IsSpaced (tokens p.rest) → g.offset ≡ None
@@ -195,7 +154,7 @@ module _ (now : Now) (t : Time) (l : LocalTime) (is : IsOf l t) (f : AreFields l
         let y = l.date.year in
         let n = year-is p.front y p.is in
         let early : nat_le y 1400 ≡ false = grind (arith, nat_tests) in
-        let first = run-first p.front p.rest n.0.some n.0.digits (subst HasNoDigits (sym s.is) tt) ∙ ap (λ (ts : List Token). Digits p.front ∷ ts) s.is in
+        let first = number-before p.front p.rest (Mark space ∷ s.more) y n.0 s.is tt in
         subst (λ (x : List ℕ). Goes now t g (tokens x)) (sym p.whole)
         (piece g p.front p.rest (Digits p.front) (Mark space ∷ s.more) first none
         (subst (Step now t) (sym (four-read now g p.front y s.more n.2 n.0.is n.1))
@@ -211,8 +170,7 @@ module _ (now : Now) (t : Time) (l : LocalTime) (is : IsOf l t) (f : AreFields l
         let a = (field-is k.hour l.clock.hour k.is_hour).0 in
         let b = (field-is k.minute l.clock.minute k.is_minute).0 in
         let c = (field-is k.second k.seconds k.is_second).0 in
-        let first = three-first colon k.hour k.minute k.second p.rest l.clock.hour l.clock.minute k.seconds refl refl a b c (subst HasNoDigits (sym e) tt)
-        ∙ ap (λ (ts : List Token). Digits k.hour ∷ Mark colon ∷ Digits k.minute ∷ Mark colon ∷ Digits k.second ∷ ts) e in
+        let first = three-first colon k.hour k.minute k.second p.rest l.clock.hour l.clock.minute k.seconds (Mark byte ∷ more) refl refl a b c e tt in
         subst (λ (x : List ℕ). Goes now t g (tokens x)) (sym (p.whole ∙ ap (λ (x : List ℕ). x ++ p.rest) k.whole))
         (piece g ((k.hour ++ (colon ∷ k.minute)) ++ (colon ∷ k.second)) p.rest (Digits k.hour) _ first none
         (subst (Step now t) (sym (clock-rule now g k.hour k.minute k.second l.clock.hour l.clock.minute l.clock.second byte more a.is b.is (c.is ∙ same) f.hour f.minute f.second no_dot))
@@ -230,12 +188,10 @@ module _ (now : Now) (t : Time) (l : LocalTime) (is : IsOf l t) (f : AreFields l
         let c = field-is k.day d k.is_day in
         let ts = tokens p.rest in
         let mid = Mark minus ∷ Digits k.month ∷ Mark minus ∷ Digits k.day ∷ ts in
-        let group = date_group minus y m d k.month k.day ts in
-        let said = group-by now y m d k.month k.day ts (year_said y) late f.first_month f.last_month f.first_day f.last_day refl ∙ ap (by_year unknown m d) (year-by y late a.1) in
+        let group = three_group minus y m d k.month k.day ts in
         subst (λ (x : List ℕ). Goes now t unknown (tokens x)) (sym (p.whole ∙ ap (λ (x : List ℕ). x ++ p.rest) k.whole))
-        (piece unknown ((k.year ++ (minus ∷ k.month)) ++ (minus ∷ k.day)) p.rest (Digits k.year) mid (three-first minus k.year k.month k.day p.rest y m d refl refl a.0 b.0 c.0 free) refl
-        (subst (Step now t) (sym (group-read minus now unknown k.year k.month k.day y m d ts (date-mark minus refl) a.0.is b.0.is c.0.is a.1 b.1 c.1
-        ∙ ap (λ (x : Dated). ended (by_rule (bytes_left (Digits k.year ∷ mid)) group ts x (bare_digits unknown k.year mid))) said))
+        (piece unknown ((k.year ++ (minus ∷ k.month)) ++ (minus ∷ k.day)) p.rest (Digits k.year) mid (three-first minus k.year k.month k.day p.rest y m d ts refl refl a.0 b.0 c.0 refl free) refl
+        (subst (Step now t) (sym (date-read minus now unknown k.year k.month k.day y m d ts (date-mark minus refl) a.0.is b.0.is c.0.is late a.1 f.first_month f.last_month f.first_day f.last_day))
         (either (λ (o : Option ℕ). Step now t (ended (by_rule (bytes_left (Digits k.year ∷ mid)) group ts (by_year unknown m d o) (bare_digits unknown k.year mid)))) (nat_le 1970 y && nat_le y 2099) _ _ go tt)))
 
     pub offset-part : (p : BeginsWith Offset l M text) → p.rest ≡ [] → Goes now t (all_of l) (tokens text)
@@ -279,7 +235,7 @@ module _ (now : Now) (t : Time) (l : LocalTime) (is : IsOf l t) (f : AreFields l
         let a = (field-is k.hour l.clock.hour k.is_hour).0 in
         let b = (field-is k.minute l.clock.minute k.is_minute).0 in
         let c = (field-is k.second k.seconds k.is_second).0 in
-        (k.hour, _, ap tokens (p.whole ∙ ap (λ (x : List ℕ). x ++ p.rest) k.whole) ∙ three-first colon k.hour k.minute k.second p.rest l.clock.hour l.clock.minute k.seconds refl refl a b c free)
+        (k.hour, _, ap tokens (p.whole ∙ ap (λ (x : List ℕ). x ++ p.rest) k.whole) ∙ three-first colon k.hour k.minute k.second p.rest l.clock.hour l.clock.minute k.seconds (tokens p.rest) refl refl a b c refl free)
 
     colon-last : (behind : Bool) (minutes : ℤ) (last : List ℕ) (seconds : Option ℕ) → AreLastSeconds last seconds → (seconds ≡ None → t.offset ≡ pos 60 *ℤ cond behind (neg_ℤ minutes) minutes)
         → Goes now t (with_offset (all_of l) behind minutes) (without_ending (tokens last))
@@ -291,7 +247,7 @@ module _ (now : Now) (t : Time) (l : LocalTime) (is : IsOf l t) (f : AreFields l
         let next = with_offset (all_of l) behind minutes in
         let n = pair-is p.0 p.1 _ p.3 p.4 refl in
         let whole : tokens (colon ∷ p.0 ∷ p.1 ∷ []) ≡ Mark colon ∷ Digits (p.0 ∷ p.1 ∷ []) ∷ [] =
-        mark-first colon (p.0 ∷ p.1 ∷ []) refl refl ∙ ap (λ (ts : List Token). Mark colon ∷ ts) (run-first (p.0 ∷ p.1 ∷ []) [] n.0.some n.0.digits tt) in
+        mark-first colon (p.0 ∷ p.1 ∷ []) refl refl ∙ ap (λ (ts : List Token). Mark colon ∷ ts) (number-before (p.0 ∷ p.1 ∷ []) [] [] _ n.0 refl tt) in
         subst (λ (x : List ℕ). Goes now t next (without_ending (tokens x))) (sym p.2) (subst (λ (ts : List Token). Goes now t next (without_ending ts)) (sym whole)
         (goes now t next (Mark colon) (Digits (p.0 ∷ p.1 ∷ []) ∷ []) (λ end. absurd cc)
         (goes now t next (Digits (p.0 ∷ p.1 ∷ [])) [] (λ end. absurd cc) (idle now t next p.0 p.1 _ n.0.is n.1 refl refl refl))))
@@ -301,7 +257,7 @@ module _ (now : Now) (t : Time) (l : LocalTime) (is : IsOf l t) (f : AreFields l
     colon-goes behind fields x k e =
         let a = pair-is k.h0 k.h1 fields.hours k.is_h0 k.is_h1 k.hours in
         let b = pair-is k.m0 k.m1 fields.minutes k.is_m0 k.is_m1 k.minutes in
-        subst (λ (ts : List Token). Step now t (sign_rule (all_of l) behind ts)) (sym (colon-first (k.h0 ∷ k.h1 ∷ []) (k.m0 ∷ k.m1 ∷ []) k.last fields.hours fields.minutes a.0 b.0 (last-free k.last fields.seconds k.is_last)))
+        subst (λ (ts : List Token). Step now t (sign_rule (all_of l) behind ts)) (sym (two-numbers colon (k.h0 ∷ k.h1 ∷ []) (k.m0 ∷ k.m1 ∷ []) k.last fields.hours fields.minutes (tokens k.last) refl refl a.0 b.0 refl (last-free k.last fields.seconds k.is_last)))
         (colon-step now t (all_of l) behind k.h0 k.h1 k.m0 k.m1 fields.hours fields.minutes (tokens k.last) a.0.is b.0.is a.1 b.1 (colon-last behind (minutes_at fields) k.last fields.seconds k.is_last e))
 
     pub colon-part : (p : BeginsWith ColonOffset l M text) → p.rest ≡ [] → (byte : ℕ) × (more : List Token) × (tokens text ≡ Mark byte ∷ more) × ((byte == dot) ≡ false) × Goes now t (all_of l) (tokens text)

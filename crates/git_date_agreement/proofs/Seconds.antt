@@ -22,18 +22,18 @@ use Rattle.gix_date.specs.declared.time.Time.{Time}
 use Rattle.git_date.proofs.Rules.ClocksBack.{shown_of, clock-is}
 use Rattle.git_date.proofs.Rules.Kept.{either}
 use Rattle.git_date.proofs.Exact.NoSeconds.{unsaid}
-use Rattle.git_date.proofs.Exact.PrintedClocks.{HasNoDigits, sign-before, at}
+use Rattle.git_date.proofs.Exact.PrintedClocks.{HasNoDigits, run-before, sign-before, at}
 use Rattle.git_date.proofs.Text.TokenRuns.{mark-first}
 use Rattle.git_date.specs.Rules.Dates.{exact_seconds, is_month, month_start, first_of, seconds_after}
 use Rattle.git_date.specs.Rules.Digits.{with_epoch}
 use Rattle.git_date.specs.Rules.Fields.{unknown}
 use Rattle.git_date.specs.Tokens.Numbers.{number}
 use Rattle.git_date.specs.Rules.Offsets.{at_text, ends, padded_number, signed_minutes, wide_minutes, white, without_white}
-use Rattle.git_date.specs.Tokens.Tokens.{Token, Letters, Digits, Mark, tokens}
+use Rattle.git_date.specs.Tokens.Tokens.{Token, Digits, Mark, tokens}
 use Rattle.git_date.specs.Types.Names.{Fields, Now}
 use Rattle.git_date_agreement.proofs.Answers.{FitsAt}
 use Rattle.git_date_agreement.proofs.Numbers.{IsBare, IsSigned, int-is, number-goes}
-use Rattle.git_date_agreement.proofs.Steps.{has-sign, AreQuiet, quiet-free, Ends, IsPartial, Fits, Goes, goes, Ready, over, skip, no-offset, offset-goes, IsRun, offset-run, minutes_at, run-first, ends-free}
+use Rattle.git_date_agreement.proofs.Steps.{has-sign, AreQuiet, quiet-free, Ends, IsPartial, Fits, Goes, goes, Ready, over, skip, no-offset, offset-goes, IsRun, offset-run, minutes_at, ends-free}
 use Rattle.git_date_agreement.proofs.Words.{AreTwo, two-words}
 
 -- fields without a year or a minute come to no seconds
@@ -51,26 +51,18 @@ unfolding exact_seconds month_start
 epoch-is n s instant e =
     let within = instant_holds (pos n) instant in
     let c = shown_of (pos n) in
-    sym (from-month (is_month c.year c.month) (civil_seconds (first_of c.year c.month) midnight (pos 0)) s (λ start. seconds_after start (Some c.day) c.hour c.minute c.second) e)
+    sym (from-month (is_month c.date.year c.date.month) (civil_seconds (first_of c.date.year c.date.month) midnight (pos 0)) s (λ start. seconds_after start (Some c.date.day) c.clock.hour c.clock.minute c.clock.second) e)
     ∙ (clock-is (pos n) (omega (arith, signed_arith), omega (arith, signed_arith, within))).seconds
 
 -- what does not begin with `@`, seconds, a space and a sign
 not-at : (c : ℕ) (ts : List Token) → (c == at_sign) ≡ false → at_text (Mark c ∷ ts) ≡ None
 unfolding at_text
-not-at c [] h = refl
-not-at c (Letters run ∷ more) h = refl
-not-at c (Mark b ∷ more) h = refl
-not-at c (Digits run ∷ []) h = refl
-not-at c (Digits run ∷ Letters r ∷ more) h = refl
-not-at c (Digits run ∷ Digits r ∷ more) h = refl
-not-at c (Digits run ∷ Mark g ∷ []) h = refl
-not-at c (Digits run ∷ Mark g ∷ Letters r ∷ more) h = refl
-not-at c (Digits run ∷ Mark g ∷ Digits r ∷ more) h = refl
 not-at c (Digits run ∷ Mark g ∷ Mark s ∷ more) h = rw h refl
+not-at c ts h = refl
 
 no-at-in : (x rest : List ℕ) (n : ℤ) → IsBare x n ⊎ IsSigned x → HasNoDigits (tokens rest) → at_text (tokens (x ++ rest)) ≡ None
 unfolding at_text
-no-at-in x rest n (inl b) free = ap at_text (run-first x rest b.some b.digits free)
+no-at-in x rest n (inl b) free = ap at_text (run-before x rest (tokens rest) b.some b.digits refl free)
 no-at-in x rest n (inr s) free =
     ap (λ (x : List ℕ). at_text (tokens (x ++ rest))) s.whole ∙ ap at_text (sign-before s.behind (s.run ++ rest)) ∙ not-at (cond s.behind minus plus) (tokens (s.run ++ rest)) (no-sign s.behind)
   where
@@ -191,7 +183,7 @@ module _ (now : Now) (t : Time) (rule : OffsetRule) (text : List ℕ) (r : RawWo
   unfolding at_text
   at-number-fits (inl b) =
       let q = two.quiet_between.0 in
-      let whole = run-first r.front back b.some b.digits (ends-free (tokens back) (tail-ends now t rule text r two)) ∙ ap (λ (ts : List Token). Digits r.front ∷ ts) (mark-first two.first (two.between ++ (r.zone ++ two.after)) q.no_letter q.no_digit) in
+      let whole = run-before r.front back _ b.some b.digits (mark-first two.first (two.between ++ (r.zone ++ two.after)) q.no_letter q.no_digit) tt in
       subst (λ (ts : List Token). FitsAt t (at_text (Mark at_sign ∷ ts))) (sym whole)
       (at-gap-fits now t rule text r two (number r.front) (sym (ap (λ (u : Time). u.seconds) r.time) ∙ b.is) r.front two.first two.between refl two.quiet_between.1)
   at-number-fits (inr s) =
@@ -239,7 +231,7 @@ at-parts rule text t e =
 at-int-fits : (t : Time) (x : List ℕ) (n : ℤ) → IsBare x n ⊎ IsSigned x → FitsAt t (at_text (tokens (at_sign ∷ x)))
 unfolding at_text tokens
 at-int-fits t x n (inl b) =
-    let whole : tokens x ≡ Digits x ∷ [] = ap tokens (sym (append-nil x)) ∙ run-first x [] b.some b.digits tt in
+    let whole : tokens x ≡ Digits x ∷ [] = ap tokens (sym (append-nil x)) ∙ run-before x [] [] b.some b.digits refl tt in
     subst (λ (ts : List Token). FitsAt t (at_text ts)) (sym (mark-first at_sign x refl refl ∙ ap (λ (ts : List Token). Mark at_sign ∷ ts) whole)) tt
 at-int-fits t x n (inr s) =
     subst (λ (ts : List Token). FitsAt t (at_text ts)) (sym (ap (λ (x : List ℕ). tokens (at_sign ∷ x)) s.whole ∙ mark-first at_sign (cond s.behind minus plus ∷ s.run) refl refl ∙ ap (λ (ts : List Token). Mark at_sign ∷ ts) (sign-before s.behind s.run))) tt

@@ -4,8 +4,6 @@ use Rattle.std.proofs.Common.{◌≡◌, ◌∙◌, ◌<◌, ◌≤◌, ◌+◌,
 use Rattle.std.specs.Prelude.{◌==◌, ◌||◌, ◌&&◌, nat_lt, unwrap_or}
 use Rattle.std.specs.Char.{is_ascii_alphabetic, is_ascii_digit}
 use Rattle.std.specs.Option.{option_or}
-use Rattle.std.specs.Str.{all_ascii_digits}
-use Rattle.std.proofs.lemmas.Bool.{and_parts}
 use Rattle.std.proofs.lemmas.Bool.Decides.{nat_tests}
 use Rattle.jiff_core.proofs.SignedLemmas.{signed_arith}
 use Rattle.gix_date.proofs.Fast.FastHeaders.{IsOffsetText}
@@ -18,20 +16,13 @@ use Rattle.git_date.specs.Rules.Digits.{Stepped}
 use Rattle.git_date.specs.Tokens.Numbers.{number}
 use Rattle.git_date.specs.Rules.Offsets.{offset_minutes, offset_said, is_minus_one, with_offset, or_refused, offset_rule}
 use Rattle.git_date.specs.Exact.Reading.{read_on, and_then, sign_rule, rule, steps}
-use Rattle.git_date.specs.Tokens.Tokens.{Token, Letters, Digits, Mark, digit_before, tokens, bytes_left, is_end, walked}
+use Rattle.git_date.specs.Tokens.Tokens.{Token, Letters, Digits, Mark, tokens, bytes_left, is_end, walked}
 use Rattle.git_date.specs.Types.Names.{Fault, Fields, Now, Reading}
 use Rattle.git_date.specs.Rules.Words.{without_ending}
 use Rattle.git_date.proofs.Rules.EnoughSteps.{short-kept}
 use Rattle.git_date.proofs.Rules.Kept.{Leaves, either, rule-left}
-use Rattle.git_date.proofs.Exact.PrintedClocks.{HasNoDigits, alone, sign-before, at}
-use Rattle.git_date.proofs.Text.TokenRuns.{digit-first, mark-first}
-
-pub run-first : (run rest : List ℕ) → 1 ≤ length run → all_ascii_digits run ≡ true → HasNoDigits (tokens rest) → tokens (run ++ rest) ≡ Digits run ∷ tokens rest
-run-first [] rest some h free = absurd (omega arith)
-run-first (c ∷ []) rest some h free = digit-first c rest (and_parts (is_ascii_digit c) true h).0 ∙ alone c (tokens rest) free
-run-first (c ∷ d ∷ run) rest some h free =
-    let both = and_parts (is_ascii_digit c) (all_ascii_digits (d ∷ run)) h in
-    digit-first c ((d ∷ run) ++ rest) both.0 ∙ ap (digit_before c) (run-first (d ∷ run) rest (omega arith) both.1 free)
+use Rattle.git_date.proofs.Exact.PrintedClocks.{HasNoDigits, run-before, sign-before, at}
+use Rattle.git_date.proofs.Text.TokenRuns.{mark-first}
 
 -- a mark that no rule uses
 pub record IsQuiet (c : ℕ) : Type 0 where
@@ -57,10 +48,8 @@ Ends (Mark c ∷ more) = ((c == colon) ≡ false) × HasNoDigits more
 Ends ts = ⊥
 
 pub ends-free : (ts : List Token) → Ends ts → HasNoDigits ts
-ends-free [] h = tt
-ends-free (Letters run ∷ more) h = tt
 ends-free (Digits run ∷ more) h = absurd h
-ends-free (Mark c ∷ more) h = tt
+ends-free ts h = tt
 
 pub ends-kept : (ts : List Token) → Ends ts → without_ending ts ≡ ts
 unfolding without_ending
@@ -131,7 +120,7 @@ offset-run fields x w k q = by k.last k.is_last.is
         let n : number run ≡ 100 * fields.hours + fields.minutes = four-is k.h0 k.h1 k.m0 k.m1 a b c d ∙ omega (arith, k.hours, k.minutes) in
         record {
           run = run;
-          whole = run-first run w (omega arith) (rw (a, b, c, d) refl) (ends-free (tokens w) (ends-quiet w q));
+          whole = run-before run w (tokens w) (omega arith) (rw (a, b, c, d) refl) refl (ends-free (tokens w) (ends-quiet w q));
           is = inl (refl, n, under k.h0 k.h1 fields.hours a b k.hours, under k.m0 k.m1 fields.minutes c d k.minutes, p.1);
         }
     by (u ∷ v ∷ []) (inr p) =
@@ -144,7 +133,7 @@ offset-run fields x w k q = by k.last k.is_last.is
         let y = p.1.1 in
         record {
           run = run;
-          whole = run-first run w (omega arith) (rw (a, b, c, d, x, y) refl) (ends-free (tokens w) (ends-quiet w q));
+          whole = run-before run w (tokens w) (omega arith) (rw (a, b, c, d, x, y) refl) refl (ends-free (tokens w) (ends-quiet w q));
           is = inr (refl, six-is k.h0 k.h1 k.m0 k.m1 u v a b c d x y);
         }
     by (u ∷ rest) (inl p) = absurd cc

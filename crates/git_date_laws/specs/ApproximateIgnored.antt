@@ -16,10 +16,11 @@ use Rattle.git_date.specs.Exact.Outcome.{DateOutcome}
 use Rattle.git_date.specs.Exact.Reading.{place_in}
 use Rattle.git_date.specs.Tokens.Strings.{before_nul, nul_place}
 use Rattle.git_date.specs.Tokens.Tokens.{Token, Letters, Digits, Mark, tokens, bytes_left}
-use Rattle.git_date.specs.Types.Names.{Now, Today, Draft, Fields, Meaning, Number, ShownClock}
+use Rattle.git_date.specs.Types.Names.{Now, Today, Draft, Fields, Meaning, Number}
 use Rattle.git_date.specs.declared.approximate.answer.Approximate.{Approximate}
 use Rattle.git_date.specs.declared.error.DateError.TheVariants.{Unreadable}
 use Rattle.git_date_laws.specs.Ignored.{is_passed, takes_group, after_ending}
+use Rattle.gix_date.specs.Fields.Layout.{LocalTime}
 
 -- a number fits an unknown field: below 32 the day, below 13 the month, or the year
 abbrev pub fits : Fields → ℕ → Bool
@@ -90,7 +91,7 @@ earliest (Some first) (left ∷ more) = earliest (Some (max left first)) more
 pub record IsEarliestUnused (moment : Zoned) (text : List ℕ) (date : Approximate) : Type 0 where
   pub unused : List ℕ
   pub last : Draft
-  pub shown : ShownClock
+  pub shown : LocalTime
   pub is_shown : shown_in (choices_of (zone_of moment)) (now_of moment).seconds ≡ Some shown
   pub walk : Drafted (choices_of (zone_of moment)) (record { now = now_of moment; shown = shown }) (first_draft shown)
       (tokens (before_nul text)) unused last

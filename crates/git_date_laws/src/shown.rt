@@ -3,10 +3,10 @@ ghost use Rattle.std.specs.Prelude.{◌≡◌, ◌≢◌, ◌≤◌, Some};
 ghost use Rattle.gix_date.specs.Printing.Formats.{PrintsPattern, PrintsHeader, PrintsSeconds};
 ghost use Rattle.gix_date.specs.Printing.NamedTexts.{short_pattern, iso8601_pattern, iso8601_strict_pattern, git_rfc2822_pattern, default_pattern};
 ghost use Rattle.git_date.specs.Show.Modes.{mode_named, mode_name};
-ghost use Rattle.git_date.specs.Show.Ages.{age_of, IsNoLess, IsNoSingle};
+ghost use Rattle.git_date.specs.Show.Ages.{age_of};
 ghost use Rattle.git_date.specs.Show.Texts.{unknown_offset};
 ghost use Rattle.git_date.specs.declared.mode.DateKind.TheVariants.{Short, Iso8601, Iso8601Strict, Rfc2822, Default, Raw, Unix};
-ghost use Rattle.git_date_laws.specs.Shown.{IsShownAs};
+ghost use Rattle.git_date_laws.specs.Shown.{IsShownAs, IsNoLess};
 
 use git_date::DateMode;
 use gix_date::Time;
@@ -21,12 +21,6 @@ pub fn shown_as_printed(time: Time)
     ensures default { time.offset ≢ unknown_offset → IsShownAs Default (PrintsPattern time default_pattern) time }
     ensures raw { IsShownAs Raw (PrintsHeader time) time }
     ensures unix { IsShownAs Unix (PrintsSeconds time) time }
-{}
-
-/// No age is one minute, hour, day, week or month alone, and none is 0 of these.
-#[tactic(auto, using(crate::proofs::Printing::ShownLaws::no_single))]
-pub fn no_single_unit(seconds: u64)
-    ensures { IsNoSingle (age_of seconds) }
 {}
 
 /// As time passes, the unit of an age gets no smaller, and its count no lower in the same unit. (In length an age can lose: after

@@ -14,11 +14,11 @@ use Rattle.gix_date_tool.specs.Messages.{Reports}
 use Rattle.gix_date_tool.specs.Run.{change}
 use Rattle.gix_date_tool.specs.declared.error.ToolError.{ToolError}
 use Rattle.gix_date_tool.proofs.Sending.{Appends-nil}
-use Rattle.git_date_tool.specs.Answers.{Reply, IsReply}
-use Rattle.git_date_tool.specs.Runs.{Output, output, AreReplies, reply_lines, Warns, Answered, Serves, both, first_verdict, verdict_of, verdict_on}
-use Rattle.git_date_tool.specs.Warnings.{warning_line}
+use Rattle.git_date_tool.specs.Answers.Replies.{Reply, IsReply}
+use Rattle.git_date_tool.specs.Runs.Runs.{Output, output, AreReplies, reply_lines, Warns, Answered, Serves, both, first_verdict, verdict_of, verdict_on}
+use Rattle.git_date_tool.specs.Answers.Warnings.{warning_line}
 use Rattle.git_date_tool.specs.declared.answers.Query.{Query}
-use Rattle.git_date_tool.specs.declared.session.Verdict.{Verdict}
+use Rattle.git_date_tool.specs.declared.runs.session.Verdict.{Verdict}
 
 and_true : (b : Bool) → (b && true) ≡ b
 and_true true = refl

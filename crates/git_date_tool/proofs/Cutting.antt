@@ -7,9 +7,9 @@ use Rattle.gix_date.specs.Devices.StreamState.{Gives}
 use Rattle.gix_date_tool.specs.Lines.{IsLine, IsShort, LineGoesOn, with_newline}
 use Rattle.gix_date_tool.specs.declared.error.ToolError.{ToolError}
 use Rattle.gix_date_tool.specs.declared.error.ToolError.TheVariants as errors
-use Rattle.gix_date_tool.specs.declared.lines.TheConstants.{MAX_LINE_LEN}
-use Rattle.git_date_tool.specs.Line.{Extends}
-use Rattle.git_date_tool.specs.Reading.{Cursor, LineEnds, Reads}
+use Rattle.gix_date_tool.specs.declared.runs.lines.TheConstants.{MAX_LINE_LEN}
+use Rattle.git_date_tool.specs.Runs.Line.{Extends}
+use Rattle.git_date_tool.specs.Runs.Reading.{Cursor, LineEnds, Reads}
 
 -- bytes of a line stand before what comes after them
 goes-on : (part rest : List ℕ) → IsLine part → 0 < length part → LineGoesOn (part ++ rest)
@@ -41,8 +41,7 @@ cut-short old new input left line line' part rest errors.Memory given whole cut 
       (left, whole, omega (arith, length-append line part, h.1, h.2), subst LineGoesOn (sym cut) (goes-on part rest is_part h.1));
 }
 cut-short old new input left line line' part rest errors.TooManyLines given whole cut is_line short is_part h = absurd h
-cut-short old new input left line line' part rest (errors.Read kind) given whole cut is_line short is_part h = absurd h
-cut-short old new input left line line' part rest (errors.Write kind) given whole cut is_line short is_part h = absurd h
+cut-short old new input left line line' part rest x given whole cut is_line short is_part h = absurd h
 
 -- the line ends with this
 pub cut-line : (old new : Cursor) (input left line line' part rest : List ℕ) → Gives old.source new.source input

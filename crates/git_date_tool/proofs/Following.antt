@@ -1,5 +1,5 @@
 -- Lines of a source answered one after the other.
-use Rattle.std.proofs.Common.{◌≡◌, ◌≢◌, ◌+◌, ◌<◌, ◌≤◌, ◌⊎◌, inl, inr, true, false, ℕ, List, [], ◌∷◌, ◌++◌, length, take, drop, refl, sym, ap, ◌∙◌, subst, append_assoc, append-nil, length-append, arith, Some, None, Ok, Err}
+use Rattle.std.proofs.Common.{◌≡◌, ◌≢◌, ◌+◌, ◌<◌, ◌≤◌, ◌⊎◌, inl, inr, Bool, true, false, ℕ, List, [], ◌∷◌, ◌++◌, length, take, drop, refl, sym, ap, ◌∙◌, subst, append_assoc, append-nil, length-append, arith, Some, None, Ok, Err}
 use Rattle.std.proofs.lemmas.List.{take-append-drop, length-take-le}
 use Rattle.std.proofs.lemmas.List.Concat.{flat_map-append}
 use Rattle.std.proofs.lemmas.List.Elements.{All-append, All-nil, All-cons, All-take}
@@ -13,12 +13,12 @@ use Rattle.gix_date_tool.specs.Run.{change}
 use Rattle.gix_date_tool.proofs.Reading.{Consumes-nil, Consumes-append}
 use Rattle.gix_date_tool.specs.declared.error.ToolError.{ToolError}
 use Rattle.gix_date_tool.specs.declared.error.ToolError.TheVariants as errors
-use Rattle.gix_date_tool.specs.declared.lines.TheConstants.{MAX_LINE_LEN, MAX_LINES}
+use Rattle.gix_date_tool.specs.declared.runs.lines.TheConstants.{MAX_LINE_LEN, MAX_LINES}
 use Rattle.git_date_tool.proofs.Answering.{Answered-none, Answered-more, both-first}
-use Rattle.git_date_tool.specs.Reading.{Cursor, Looks, Reads}
-use Rattle.git_date_tool.specs.Runs.{Output, output, Answered, Serves, ServesLast, RestIsWhole, StopsAfter, RunsThrough, both, first_verdict}
+use Rattle.git_date_tool.specs.Runs.Reading.{Cursor, Looks, Reads}
+use Rattle.git_date_tool.specs.Runs.Runs.{Output, output, Answered, Serves, ServesRead, line_read, RestIsWhole, StopsAfter, RunsThrough, both, first_verdict}
 use Rattle.git_date_tool.specs.declared.answers.Query.{Query}
-use Rattle.git_date_tool.specs.declared.session.Verdict.{Verdict}
+use Rattle.git_date_tool.specs.declared.runs.session.Verdict.{Verdict}
 
 -- the input begins with these lines, and then comes this
 abbrev BeginsWith : List ℕ → List (List ℕ) → List ℕ → Type 0
@@ -152,7 +152,7 @@ breaks-at query first now new a b c d e f more line beyond all fault far few giv
     by (inl h) = inl h
     by (inr h) = inr (record { at_end = h.0; none_beyond = h.1 }, h.2)
 
-pub breaks-next : (query : Query) (first : StreamState) (now new : Cursor) (a b c d e f : StreamState) (line : List ℕ) (all : Verdict) (fault : ToolError)
+breaks-next : (query : Query) (first : StreamState) (now new : Cursor) (a b c d e f : StreamState) (line : List ℕ) (all : Verdict) (fault : ToolError)
     → (far : Far query first now (output (change a b) (change d e)) all) → length far.lines < MAX_LINES → Reads now new line (Ok true)
     → Serves query (length far.lines + 1) line (output (change b c) (change e f)) (Err fault)
     → RunsThrough query (change first new.source) (output (change a c) (change d f)) (Err fault)
@@ -161,14 +161,22 @@ breaks-next query first now new a b c d e f line all fault far few h served =
     (h.ends ∙ append_assoc line (newline ∷ []) new.unread) (inl (new.unread, refl)) served
 
 -- the input has ended, and answering what stands there had a fault
-pub breaks-last : (query : Query) (first : StreamState) (now new : Cursor) (a b c d e f : StreamState) (line : List ℕ) (all : Verdict) (fault : ToolError)
+breaks-last : (query : Query) (first : StreamState) (now new : Cursor) (a b c d e f : StreamState) (line : List ℕ) (all : Verdict) (fault : ToolError)
     → (far : Far query first now (output (change a b) (change d e)) all) → length far.lines < MAX_LINES → Reads now new line (Ok false)
-    → ServesLast query (length far.lines + 1) (last_line line) (output (change b c) (change e f)) (Err fault)
+    → ServesRead query (length far.lines + 1) (last_line line) (output (change b c) (change e f)) (Err fault)
     → RunsThrough query (change first new.source) (output (change a c) (change d f)) (Err fault)
 breaks-last query first now new a b c d e f [] all fault far few h served = absurd cc
 breaks-last query first now new a b c d e f (x ∷ xs) all fault far few h served =
     breaks-at query first now new.source a b c d e f h.input (x ∷ xs) [] all fault far few h.given h.is_line h.short
     (h.ends.0 ∙ sym (append-nil (x ∷ xs))) (inr (h.ends.1, refl, refl)) served
+
+-- answering the line that was read had a fault
+pub breaks-read : (is_ended : Bool) (query : Query) (first : StreamState) (now new : Cursor) (a b c d e f : StreamState) (line : List ℕ) (all : Verdict) (fault : ToolError)
+    → (far : Far query first now (output (change a b) (change d e)) all) → length far.lines < MAX_LINES → Reads now new line (Ok is_ended)
+    → ServesRead query (length far.lines + 1) (line_read is_ended line) (output (change b c) (change e f)) (Err fault)
+    → RunsThrough query (change first new.source) (output (change a c) (change d f)) (Err fault)
+breaks-read true = breaks-next
+breaks-read false = breaks-last
 
 -- the input has ended, and no byte stands after the last newline
 ends-empty : (query : Query) (first : StreamState) (now : Cursor) (new : StreamState) (out : Output) (more : List ℕ) (all : Verdict)
@@ -215,35 +223,46 @@ ends-last query first now new a b c d e f line all one next is far few h some se
 }
 
 -- the input has ended, and what stands there was answered, if a byte does
-pub ends-with : (query : Query) (first : StreamState) (now new : Cursor) (a b c d e f : StreamState) (line : List ℕ) (all one next : Verdict) → next ≡ both all one
+ends-there : (query : Query) (first : StreamState) (now new : Cursor) (a b c d e f : StreamState) (line : List ℕ) (all one next : Verdict) → next ≡ both all one
     → (far : Far query first now (output (change a b) (change d e)) all) → length far.lines < MAX_LINES → Reads now new line (Ok false)
-    → ServesLast query (length far.lines + 1) (last_line line) (output (change b c) (change e f)) (Ok one)
+    → ServesRead query (length far.lines + 1) (last_line line) (output (change b c) (change e f)) (Ok one)
     → RunsThrough query (change first new.source) (output (change a c) (change d f)) (Ok next)
-ends-with query first now new a b c d e f [] all one next is far few h served =
+ends-there query first now new a b c d e f [] all one next is far few h served =
     let run = ends-empty query first now new.source (output (change a b) (change d e)) h.input all far (omega (arith, few)) h.given h.ends.0 h.ends.1 h.ends.2 in
     let none : one ≡ first_verdict = cc in
     let same : all ≡ next = sym (both-first all) ∙ ap (λ last. both all last) (sym none) ∙ sym is in
     subst (λ v. RunsThrough query (change first new.source) (output (change a c) (change d f)) (Ok v)) same
     (subst (λ w. RunsThrough query (change first new.source) (output (change a w) (change d f)) (Ok all)) (sym served.1)
     (subst (λ t. RunsThrough query (change first new.source) (output (change a b) (change d t)) (Ok all)) (sym served.2) run))
-ends-with query first now new a b c d e f (x ∷ xs) all one next is far few h served =
+ends-there query first now new a b c d e f (x ∷ xs) all one next is far few h served =
     ends-last query first now new a b c d e f (x ∷ xs) all one next is far few h refl served
 
+-- the input has ended where no newline ends the line that was read, and that was answered
+pub ends-with : (is_ended : Bool) (query : Query) (first : StreamState) (now new : Cursor) (a b c d e f : StreamState) (line : List ℕ) (all one next : Verdict) → is_ended ≡ false
+    → next ≡ both all one → (far : Far query first now (output (change a b) (change d e)) all) → length far.lines < MAX_LINES → Reads now new line (Ok is_ended)
+    → ServesRead query (length far.lines + 1) (line_read is_ended line) (output (change b c) (change e f)) (Ok one)
+    → RunsThrough query (change first new.source) (output (change a c) (change d f)) (Ok next)
+ends-with false query first now new a b c d e f line all one next off = ends-there query first now new a b c d e f line all one next
+ends-with true query first now new a b c d e f line all one next off = cc
+
 -- one more line was answered
-unfoldable pub goes-on : (query : Query) (first : StreamState) (now new : Cursor) (a b c d e f : StreamState) (line : List ℕ) (all one next : Verdict) → next ≡ both all one
-    → (far : Far query first now (output (change a b) (change d e)) all) → Reads now new line (Ok true)
-    → Serves query (length far.lines + 1) line (output (change b c) (change e f)) (Ok one)
+unfoldable pub goes-on : (is_ended : Bool) (query : Query) (first : StreamState) (now new : Cursor) (a b c d e f : StreamState) (line : List ℕ) (all one next : Verdict) → is_ended ≡ true
+    → next ≡ both all one → (far : Far query first now (output (change a b) (change d e)) all) → Reads now new line (Ok is_ended)
+    → ServesRead query (length far.lines + 1) (line_read is_ended line) (output (change b c) (change e f)) (Ok one)
     → Far query first new (output (change a c) (change d f)) next
-goes-on query first now new a b c d e f line all one next is far h served = record {
-  input = far.input ++ h.input;
-  given = given-more first now.source new.source far.input h.input far.given h.given;
-  lines = far.lines ++ line ∷ [];
-  each = All-append IsLine far.lines (line ∷ []) far.each (All-cons IsLine line [] h.is_line (All-nil IsLine));
-  short = All-append IsShort far.lines (line ∷ []) far.short (All-cons IsShort line [] h.short (All-nil IsShort));
-  begins = begins-line (far.input ++ h.input) far.lines line new.unread
-      (begins-more far.input far.lines now.unread h.input (with_newline line ++ new.unread) far.begins h.ends);
-  answered = Answered-more query far.lines line a b c d e f all one next is far.answered served;
-}
+goes-on is_ended query first now new a b c d e f line all one next on is far read served =
+    let h = subst (λ o. Reads now new line (Ok o)) on read in
+    let served = subst (λ o. ServesRead query (length far.lines + 1) (line_read o line) (output (change b c) (change e f)) (Ok one)) on served in
+    record {
+      input = far.input ++ h.input;
+      given = given-more first now.source new.source far.input h.input far.given h.given;
+      lines = far.lines ++ line ∷ [];
+      each = All-append IsLine far.lines (line ∷ []) far.each (All-cons IsLine line [] h.is_line (All-nil IsLine));
+      short = All-append IsShort far.lines (line ∷ []) far.short (All-cons IsShort line [] h.short (All-nil IsShort));
+      begins = begins-line (far.input ++ h.input) far.lines line new.unread
+          (begins-more far.input far.lines now.unread h.input (with_newline line ++ new.unread) far.begins h.ends);
+      answered = Answered-more query far.lines line a b c d e f all one next is far.answered served;
+    }
 
 -- nothing was read
 unfoldable pub Far-first : (query : Query) (source sink messages : StreamState) (unread : List ℕ) (all : Verdict) → unread ≡ [] → all ≡ first_verdict
@@ -259,17 +278,19 @@ Far-first query source sink messages unread all none is = record {
 }
 
 -- no byte stands after as many lines as an input may have
-pub ends-full : (query : Query) (first : StreamState) (now new : Cursor) (out : Output) (all : Verdict)
-    → (far : Far query first now out all) → length far.lines ≡ MAX_LINES → Looks now new (Ok false)
+pub ends-full : (has_more : Bool) (query : Query) (first : StreamState) (now new : Cursor) (out : Output) (all : Verdict) → has_more ≡ false
+    → (far : Far query first now out all) → length far.lines ≡ MAX_LINES → Looks now new (Ok has_more)
     → RunsThrough query (change first new.source) out (Ok all)
-ends-full query first now new out all far full h =
+ends-full true query first now new out all none far full h = cc
+ends-full false query first now new out all none far full h =
     ends-empty query first now new.source out h.input all far (omega (arith, full)) h.given (h.whole ∙ h.left.0) h.left.1 h.left.2
 
 -- a byte does
-pub stops-full : (query : Query) (first : StreamState) (now new : Cursor) (out : Output) (all : Verdict)
-    → (far : Far query first now out all) → length far.lines ≡ MAX_LINES → Looks now new (Ok true)
+pub stops-full : (has_more : Bool) (query : Query) (first : StreamState) (now new : Cursor) (out : Output) (all : Verdict) → has_more ≡ true
+    → (far : Far query first now out all) → length far.lines ≡ MAX_LINES → Looks now new (Ok has_more)
     → RunsThrough query (change first new.source) out (Err errors.TooManyLines)
-stops-full query first now new out all far full h =
+stops-full false query first now new out all more far full h = cc
+stops-full true query first now new out all more far full h =
     let begins = begins-more far.input far.lines now.unread h.input new.unread far.begins h.whole in
     through query first new.source out errors.TooManyLines (far.input ++ h.input) (given-more first now.source new.source far.input h.input far.given h.given)
     (record {
@@ -287,6 +308,4 @@ unread-full query first now new out all (errors.Read kind) far full h =
     stops-unread query first now new.source out h.input [] all kind far h.given (h.whole ∙ h.left.0) (All-nil (λ b. b ≢ newline))
     (none_within far.lines far.short (omega (arith, full))) h.left.1
 unread-full query first now new out all errors.LineTooLong far full h = absurd h.left
-unread-full query first now new out all errors.Memory far full h = absurd h.left
-unread-full query first now new out all errors.TooManyLines far full h = absurd h.left
-unread-full query first now new out all (errors.Write kind) far full h = absurd h.left
+unread-full query first now new out all x far full h = absurd h.left

@@ -20,12 +20,12 @@ use Rattle.git_date.specs.declared.approximate.answer.Approximate.{Approximate}
 use Rattle.git_date.specs.declared.date.ReadDate.{ReadDate}
 use Rattle.git_date.specs.declared.error.DateError.{DateError}
 use Rattle.git_date_tool.specs.Laws.{ReadsAreUnique}
-use Rattle.git_date_tool.specs.Readers.{IsByGix, IsCarefully, IsHeader, IsIfText, IsOfText, IsReadBy, careful_options, judged_if_found, of_exact, whole}
-use Rattle.git_date_tool.specs.Refusals.{of_careful, of_git, of_gix}
-use Rattle.git_date_tool.specs.declared.readers.Reader.{Reader}
-use Rattle.git_date_tool.specs.declared.readers.Reader.TheVariants.{Exact, Approxidate, Careful, Gix, Header}
-use Rattle.git_date_tool.specs.declared.readers.Strictness.{Strictness}
-use Rattle.git_date_tool.specs.declared.refusals.Refusal.{Refusal}
+use Rattle.git_date_tool.specs.Answers.Readers.{IsByGix, IsCarefully, IsHeader, IsIfText, IsOfText, IsReadBy, careful_options, judged_if_found, of_exact, whole}
+use Rattle.git_date_tool.specs.Answers.Refusals.{of_careful, of_git, of_gix}
+use Rattle.git_date_tool.specs.declared.answers.readers.Reader.{Reader}
+use Rattle.git_date_tool.specs.declared.answers.readers.Reader.TheVariants.{Exact, Approxidate, Careful, Gix, Header}
+use Rattle.git_date_tool.specs.declared.answers.readers.Strictness.{Strictness}
+use Rattle.git_date_tool.specs.declared.answers.refusals.Refusal.{Refusal}
 
 -- a zone has one time for a clock
 local-once : (tz : TimeZone) (t a b : Time) → IsLocalTime tz t a → IsLocalTime tz t b → a ≡ b

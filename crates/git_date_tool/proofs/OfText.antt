@@ -4,9 +4,9 @@ use Rattle.std.proofs.lemmas.Str.{is_utf8-from_IsUtf8}
 use Rattle.std.specs.Prelude.{IsUtf8}
 use Rattle.git_date.specs.declared.approximate.answer.Approximate.{Approximate}
 use Rattle.gix_date.proofs.Text.Texts.{no_text}
-use Rattle.git_date_tool.specs.Readers.{IsIfText, IsOfText}
-use Rattle.git_date_tool.specs.declared.refusals.Refusal.{Refusal}
-use Rattle.git_date_tool.specs.declared.refusals.Refusal.TheVariants.{NotText}
+use Rattle.git_date_tool.specs.Answers.Readers.{IsIfText, IsOfText}
+use Rattle.git_date_tool.specs.declared.answers.refusals.Refusal.{Refusal}
+use Rattle.git_date_tool.specs.declared.answers.refusals.Refusal.TheVariants.{NotText}
 
 pub of_text : (Finds : List ℕ → Result Approximate Refusal → Type 0) (text bytes : List ℕ) (found : Result Approximate Refusal)
     → text ≡ bytes → IsUtf8 bytes → Finds text found → IsOfText Finds bytes found

@@ -32,10 +32,10 @@ use Rattle.gix_date.proofs.Printing.LocalClocks.{Shows, clock-shown, date-of-day
 use Rattle.gix_date.proofs.Printing.NamedTexts.{ShowsPieces, jiff_bare, jiff_pieces, jiff_two}
 use Rattle.gix_date.proofs.Printing.Printing.{filled_parts}
 use Rattle.gix_date.proofs.Printing.ShownPieces.{context, joined_text, strict_config}
-use Rattle.git_date_tool.specs.Shown.{HasPattern, IsPrinted, line_text}
-use Rattle.git_date_tool.specs.declared.refusals.Refusal.{Refusal}
-use Rattle.git_date_tool.specs.declared.refusals.Refusal.TheVariants.{NotShown}
-use Rattle.git_date_tool.specs.declared.shown.DateLine.{DateLine}
+use Rattle.git_date_tool.specs.Answers.Shown.{HasPattern, IsPrinted, line_text}
+use Rattle.git_date_tool.specs.declared.answers.refusals.Refusal.{Refusal}
+use Rattle.git_date_tool.specs.declared.answers.refusals.Refusal.TheVariants.{NotShown}
+use Rattle.git_date_tool.specs.declared.answers.shown.DateLine.{DateLine}
 
 -- what `jiff` shows by a pattern: the pieces of a layout
 pub record Piecewise (pattern : List ℕ) : Type 0 where

@@ -13,17 +13,17 @@ use Rattle.gix_date.specs.declared.time.format.Format.{Format}
 use Rattle.git_date.specs.Show.Dates.{shown}
 use Rattle.git_date.specs.Show.Clocks.{moment_of}
 use Rattle.git_date.specs.declared.approximate.answer.Approximate.{Approximate}
-use Rattle.git_date_tool.specs.Answers.{Reply, IsFoundReply, IsReply, line_reply}
+use Rattle.git_date_tool.specs.Answers.Replies.{Reply, IsFoundReply, IsReply, line_reply}
 use Rattle.git_date_tool.specs.Laws.{RepliesAreUnique}
-use Rattle.git_date_tool.specs.Shown.{HasPattern, IsFormat, IsPrinted, IsShown, IsShownByGit, IsShownByGix, line_text}
-use Rattle.git_date_tool.specs.Warnings.{Told, warning_of, warning_words}
+use Rattle.git_date_tool.specs.Answers.Shown.{HasPattern, IsFormat, IsPrinted, IsShown, IsShownByGit, IsShownByGix, line_text}
+use Rattle.git_date_tool.specs.Answers.Warnings.{Told, warning_of, warning_words}
 use Rattle.git_date_tool.specs.declared.answers.Query.{Query}
-use Rattle.git_date_tool.specs.declared.refusals.Refusal.{Refusal}
-use Rattle.git_date_tool.specs.declared.shown.DateLine.{DateLine}
-use Rattle.git_date_tool.specs.declared.shown.NamedFormat.{NamedFormat}
-use Rattle.git_date_tool.specs.declared.shown.NamedFormat.TheVariants.{Short, Rfc2822, GitRfc2822, Iso8601, Iso8601Strict, Gitoxide, Default, Unix, Raw}
-use Rattle.git_date_tool.specs.declared.shown.Shown.{Shown}
-use Rattle.git_date_tool.specs.declared.shown.Shown.TheVariants.{Git, Gix}
+use Rattle.git_date_tool.specs.declared.answers.refusals.Refusal.{Refusal}
+use Rattle.git_date_tool.specs.declared.answers.shown.DateLine.{DateLine}
+use Rattle.git_date_tool.specs.declared.answers.shown.NamedFormat.{NamedFormat}
+use Rattle.git_date_tool.specs.declared.answers.shown.NamedFormat.TheVariants.{Short, Rfc2822, GitRfc2822, Iso8601, Iso8601Strict, Gitoxide, Default, Unix, Raw}
+use Rattle.git_date_tool.specs.declared.answers.shown.Shown.{Shown}
+use Rattle.git_date_tool.specs.declared.answers.shown.Shown.TheVariants.{Git, Gix}
 use Rattle.git_date_tool.proofs.FoundOnce.{reads-once}
 use Rattle.git_date_tool.proofs.PatternsOnce.{IsLineOf, Piecewise, format-line, piecewise}
 

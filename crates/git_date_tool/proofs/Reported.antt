@@ -6,11 +6,9 @@ use Rattle.gix_date_tool.specs.Messages.{WritesMessage, Reports, fault_words, ca
 use Rattle.gix_date_tool.specs.Run.{Change}
 use Rattle.gix_date_tool.specs.declared.error.ToolError.{ToolError}
 use Rattle.git_date_tool.specs.Program.{fault_message, is_closed_pipe, message, message_of, usage_message}
-use Rattle.git_date_tool.specs.Wrong.{about, about_any, wrong_words}
-use Rattle.git_date_tool.specs.declared.help.TheConstants.{USAGE}
-use Rattle.git_date_tool.specs.declared.outcome.Outcome.{Outcome}
-use Rattle.git_date_tool.specs.declared.outcome.Outcome.TheVariants.{Shown}
-use Rattle.git_date_tool.specs.declared.wrong.WrongWords.{WrongWords}
+use Rattle.git_date_tool.specs.CommandLine.Wrong.{about, about_any}
+use Rattle.git_date_tool.specs.declared.program.help.TheConstants.{USAGE}
+use Rattle.git_date_tool.specs.declared.program.outcome.Outcome.{Outcome}
 
 -- the pieces of a fault's line, where the fault is to be told
 pub fault-reported : (telling : Change) (fault : ToolError) (words cause : List ℕ) → is_closed_pipe fault ≡ false → words ≡ fault_words fault
@@ -57,6 +55,6 @@ tells-wrong telling subject word lead text l t is d e h =
     subst (λ (s : Option (List ℕ)). WritesMessage telling (usage_message (about_any s (l ++ t)))) (sym is)
     (subst (λ (said : List ℕ). WritesMessage telling (usage_message (about word said))) (ap₂ (λ (xs ys : List ℕ). xs ++ ys) d e) h)
 
-pub wrong-reported : (telling : Change) (outcome : Outcome) (why : WrongWords) → outcome ≡ Shown why
-    → WritesMessage telling (usage_message (wrong_words why)) → Reports telling (message_of outcome)
-wrong-reported telling outcome why is h = subst (λ e. Reports telling (message_of e)) (sym is) h
+-- what is said of an end, by what it is
+pub end-reported : (telling : Change) (outcome this : Outcome) → outcome ≡ this → Reports telling (message_of this) → Reports telling (message_of outcome)
+end-reported telling outcome this is h = subst (λ e. Reports telling (message_of e)) (sym is) h

@@ -8,15 +8,15 @@ use Rattle.gix_date_tool.specs.Run.{Change, change}
 use Rattle.gix_date_tool.specs.declared.program.Status.{Status}
 use Rattle.gix_date_tool.proofs.RunsOnce.{all-read, all-written, part-splits}
 use Rattle.gix_date_tool.proofs.Splitting.{Splits_unique}
-use Rattle.git_date_tool.specs.Answers.{Reply}
-use Rattle.git_date_tool.specs.Command.{Ask}
+use Rattle.git_date_tool.specs.Answers.Replies.{Reply}
+use Rattle.git_date_tool.specs.CommandLine.Command.{Ask}
 use Rattle.git_date_tool.specs.Laws.{EndsWell, IsRefused, RunsAreUnique, WrongWordsAreRefused}
 use Rattle.git_date_tool.specs.Program.{EndsCommand, message_of, status_of, usage_message}
-use Rattle.git_date_tool.specs.Runs.{AreReplies, output, reply_lines, verdict_on}
+use Rattle.git_date_tool.specs.Runs.Runs.{AreReplies, output, reply_lines, verdict_on}
 use Rattle.git_date_tool.specs.declared.answers.Query.{Query}
-use Rattle.git_date_tool.specs.declared.outcome.Outcome.{Outcome}
-use Rattle.git_date_tool.specs.declared.outcome.Outcome.TheVariants.{Answered, Fault, NoClock, Printed, Shown, Unquoted}
-use Rattle.git_date_tool.specs.declared.session.Verdict.{Verdict}
+use Rattle.git_date_tool.specs.declared.program.outcome.Outcome.{Outcome}
+use Rattle.git_date_tool.specs.declared.program.outcome.Outcome.TheVariants.{Answered, Fault, NoClock, Printed, Shown, Unquoted}
+use Rattle.git_date_tool.specs.declared.runs.session.Verdict.{Verdict}
 use Rattle.git_date_tool.proofs.RepliesOnce.{replies-once}
 
 both-heads : (x y : Reply) (xs ys : List Reply) → x ≡ y → xs ≡ ys → x ∷ xs ≡ y ∷ ys
@@ -87,10 +87,7 @@ refused-by why reading writing telling warned (Shown told) status h said is =
       status_is = is;
     }
 refused-by why reading writing telling warned (Answered all_read) status h said is = absurd h.3
-refused-by why reading writing telling warned (Unquoted all_read) status h said is = absurd h.3
-refused-by why reading writing telling warned (Fault fault) status h said is = absurd h.3
-refused-by why reading writing telling warned NoClock status h said is = absurd h.3
-refused-by why reading writing telling warned Printed status h said is = absurd h.3
+refused-by why reading writing telling warned x status h said is = absurd h.3
 
 pub wrong-refused : WrongWordsAreRefused
 wrong-refused words why reading writing telling status wrong h =

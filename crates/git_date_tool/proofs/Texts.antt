@@ -3,7 +3,7 @@ use Rattle.std.proofs.Common.{◌≡◌, refl, Bool, true, false, cond, ℕ, Lis
 use Rattle.std.specs.Global.{Global}
 use Rattle.std.specs.List.{find}
 use Rattle.std.specs.Prelude.{String}
-use Rattle.git_date_tool.specs.Command.{first_option, is_option}
+use Rattle.git_date_tool.specs.CommandLine.Command.{first_option, is_option}
 
 -- a word is it, or it is that of the words after it
 first-or : (word : String Global) (later : Option (String Global)) (b : Bool) (found : Option (List ℕ)) → found ≡ option_map string_bytes later

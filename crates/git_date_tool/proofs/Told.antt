@@ -3,7 +3,7 @@ use Rattle.std.proofs.Common.{◌≡◌, ◌∙◌, Bool, true, false, ℕ, List
 use Rattle.std.specs.Prelude.{is_none}
 use Rattle.gix_date.specs.Text.Characters.{newline}
 use Rattle.gix_date_tool.specs.Lines.{with_newline}
-use Rattle.git_date_tool.specs.Warnings.{words_by}
+use Rattle.git_date_tool.specs.Answers.Warnings.{words_by}
 
 pub in-three : (a b c : List ℕ) → a ++ (b ++ (c ++ newline ∷ [])) ≡ with_newline (a ++ (b ++ c))
 in-three a b c =

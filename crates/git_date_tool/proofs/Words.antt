@@ -5,7 +5,7 @@ use Rattle.std.specs.Char.{is_ascii_alphanumeric}
 use Rattle.std.specs.List.{prefix_len}
 use Rattle.std.specs.Prelude.{IsAscii, ◌==◌, ◌||◌}
 use Rattle.gix_date.specs.Text.Characters.{minus, plus}
-use Rattle.git_date_tool.specs.Warnings.{word_len}
+use Rattle.git_date_tool.specs.Answers.Warnings.{word_len}
 
 -- a letter or a digit is ASCII
 byte_is_ascii : (b : ℕ) → is_ascii_alphanumeric b ≡ true → b < 128

@@ -4,12 +4,12 @@ use Rattle.gix_date.specs.Text.Characters.{colon}
 use Rattle.jiff.specs.Placed.{IsPosixZone}
 use Rattle.jiff.specs.Types.{TimeZone, UTC}
 use Rattle.git_date.specs.Exact.ZoneTexts.{zone_offset}
-use Rattle.git_date_tool.specs.Zones.{IsAskedZone, IsFileSource, IsFileZone, IsMachineZone, IsPlainSource, IsPlainZone, IsRestSource, IsRestZone, IsRuleSource, IsSourceOf, IsTaken, IsTextOf, IsTextSource, IsTextZone, IsUtcOrFile, IsUtcOrFileSource, IsUtcSource, MayLackZone, NeedsSystem, is_utc, without_colon}
-use Rattle.git_date_tool.specs.Command.{Asked}
+use Rattle.git_date_tool.specs.Zones.Zones.{IsAskedZone, IsFileSource, IsFileZone, IsMachineZone, IsPlainSource, IsPlainZone, IsRestSource, IsRestZone, IsRuleSource, IsSourceOf, IsTaken, IsTextOf, IsTextSource, IsTextZone, IsUtcOrFile, IsUtcOrFileSource, IsUtcSource, MayLackZone, NeedsSystem, is_utc, without_colon}
+use Rattle.git_date_tool.specs.CommandLine.Command.{Asked}
 use Rattle.git_date_tool.specs.Program.{StartsNot, without_zone}
-use Rattle.git_date_tool.specs.declared.outcome.Outcome.{Outcome}
-use Rattle.git_date_tool.specs.declared.zone_files.NoZone.{NoZone as Lack}
-use Rattle.git_date_tool.specs.declared.zone_files.NoZone.TheVariants as lacks
+use Rattle.git_date_tool.specs.declared.program.outcome.Outcome.{Outcome}
+use Rattle.git_date_tool.specs.declared.zones.files.NoZone.{NoZone as Lack}
+use Rattle.git_date_tool.specs.declared.zones.files.NoZone.TheVariants as lacks
 use Rattle.git_date_tool.specs.declared.zones.ZoneSource.{ZoneSource}
 use Rattle.git_date_tool.specs.declared.zones.ZoneSource.TheVariants as sources
 use Rattle.git_date_tool.specs.declared.zones.ZoneText.{ZoneText}
@@ -80,10 +80,7 @@ taken-is asked texts.Machine source zone is h t =
 -- where no zone can be taken
 pub may-lack : (asked : Option (List ℕ)) (text : ZoneText) → IsTextOf asked text → MayLackZone text → NeedsSystem asked
 may-lack asked (texts.Zone text) is h = subst (λ (a : Option (List ℕ)). NeedsSystem a) (sym is) h
-may-lack asked (texts.Tz text) is h = subst (λ (a : Option (List ℕ)). NeedsSystem a) (sym is) tt
-may-lack asked texts.TzNotText is h = subst (λ (a : Option (List ℕ)). NeedsSystem a) (sym is) tt
-may-lack asked texts.TzNoMemory is h = subst (λ (a : Option (List ℕ)). NeedsSystem a) (sym is) tt
-may-lack asked texts.Machine is h = subst (λ (a : Option (List ℕ)). NeedsSystem a) (sym is) tt
+may-lack asked x is h = subst (λ (a : Option (List ℕ)). NeedsSystem a) (sym is) tt
 
 -- without a zone the program does not start
 lacking : (a : Asked) (text : ZoneText) (why : Lack) → IsTextOf a.zone text → MayLackZone text → StartsNot a (without_zone text why)

@@ -7,16 +7,16 @@ use Rattle.gix_date_tool.specs.Messages.{Reports}
 use Rattle.gix_date_tool.specs.Run.{Change}
 use Rattle.gix_date_tool.specs.declared.program.Status.{Status}
 use Rattle.gix_date_tool.specs.declared.program.Status.TheVariants.{Usage}
-use Rattle.git_date_tool.specs.Answers.{Reply, IsReply}
-use Rattle.git_date_tool.specs.Command.{asked}
+use Rattle.git_date_tool.specs.Answers.Replies.{Reply, IsReply}
+use Rattle.git_date_tool.specs.CommandLine.Command.{asked}
 use Rattle.git_date_tool.specs.Program.{Executes, usage_message}
-use Rattle.git_date_tool.specs.Readers.{IsRead}
-use Rattle.git_date_tool.specs.Runs.{IsUntouched, Output, RunsThrough}
+use Rattle.git_date_tool.specs.Answers.Readers.{IsRead}
+use Rattle.git_date_tool.specs.Runs.Runs.{IsUntouched, Output, RunsThrough}
 use Rattle.git_date_tool.specs.declared.answers.Query.{Query}
-use Rattle.git_date_tool.specs.declared.readers.Reader.{Reader}
-use Rattle.git_date_tool.specs.declared.readers.Strictness.{Strictness}
-use Rattle.git_date_tool.specs.declared.refusals.Refusal.{Refusal}
-use Rattle.git_date_tool.specs.declared.session.Verdict.{Verdict}
+use Rattle.git_date_tool.specs.declared.answers.readers.Reader.{Reader}
+use Rattle.git_date_tool.specs.declared.answers.readers.Strictness.{Strictness}
+use Rattle.git_date_tool.specs.declared.answers.refusals.Refusal.{Refusal}
+use Rattle.git_date_tool.specs.declared.runs.session.Verdict.{Verdict}
 
 -- reader, strictness, moment and text determine what is found
 abbrev pub ReadsAreUnique : Type 0

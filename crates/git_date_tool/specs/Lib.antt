@@ -1,15 +1,6 @@
-pub mod Refusals
-pub mod Readers
-pub mod Shown
-pub mod Warnings
 pub mod Answers
-pub mod Line
-pub mod Reading
 pub mod Runs
-pub mod ZoneFiles
-pub mod Wrong
 pub mod Zones
-pub mod Command
-pub mod Now
+pub mod CommandLine
 pub mod Program
 pub mod Laws

@@ -14,27 +14,27 @@ use Rattle.gix_date_tool.specs.declared.program.Status.{Status}
 use Rattle.gix_date_tool.specs.declared.program.Status.TheVariants.{Success, Failure, Usage}
 use Rattle.std.specs.declared.io.ErrorKind.TheVariants as kinds
 use Rattle.git_date.specs.declared.mode.DateKind.TheVariants.{Raw}
-use Rattle.git_date_tool.specs.Command.{Answer, Ask, Asked, Help, Version, asked}
-use Rattle.git_date_tool.specs.Now.{IsInstantOf}
-use Rattle.git_date_tool.specs.Runs.{IsUntouched, Output, output, RunsOver, RunsThrough}
-use Rattle.git_date_tool.specs.Wrong.{not_text, wrong_words}
-use Rattle.git_date_tool.specs.Zones.{IsAskedZone, IsTextOf, MayLackZone, NeedsSystem}
+use Rattle.git_date_tool.specs.CommandLine.Command.{Answer, Ask, Asked, Help, Version, asked}
+use Rattle.git_date_tool.specs.CommandLine.Now.{IsInstantOf}
+use Rattle.git_date_tool.specs.Runs.Runs.{IsUntouched, Output, output, RunsOver, RunsThrough}
+use Rattle.git_date_tool.specs.CommandLine.Wrong.{not_text, wrong_words}
+use Rattle.git_date_tool.specs.Zones.Zones.{IsAskedZone, IsTextOf, MayLackZone, NeedsSystem}
 use Rattle.git_date_tool.specs.declared.answers.Query.{Query}
-use Rattle.git_date_tool.specs.declared.outcome.NoNow.{NoNow}
-use Rattle.git_date_tool.specs.declared.outcome.NoNow.TheVariants.{Clock, NoMoment as NoMomentOf}
-use Rattle.git_date_tool.specs.declared.outcome.Outcome.{Outcome}
-use Rattle.git_date_tool.specs.declared.outcome.Outcome.TheVariants.{Answered, Fault, NoClock, Printed, Shown, Unquoted}
-use Rattle.git_date_tool.specs.declared.help.TheConstants.{HELP, USAGE, VERSION}
-use Rattle.git_date_tool.specs.declared.readers.Reader.TheVariants.{Approxidate}
-use Rattle.git_date_tool.specs.declared.readers.Strictness.TheVariants.{Usual}
-use Rattle.git_date_tool.specs.declared.shown.Shown.TheVariants.{Git}
-use Rattle.git_date_tool.specs.declared.session.Verdict.{Verdict}
-use Rattle.git_date_tool.specs.declared.warnings.Numbered.{Numbered}
-use Rattle.git_date_tool.specs.declared.warnings.Numbered.TheVariants.{Line, Text}
-use Rattle.git_date_tool.specs.declared.wrong.WrongWords.{WrongWords}
-use Rattle.git_date_tool.specs.declared.wrong.WrongWords.TheVariants.{NoMoment, NoZone}
-use Rattle.git_date_tool.specs.declared.zone_files.NoZone.{NoZone as Lack}
-use Rattle.git_date_tool.specs.declared.zone_files.NoZone.TheVariants as lacks
+use Rattle.git_date_tool.specs.declared.program.outcome.NoNow.{NoNow}
+use Rattle.git_date_tool.specs.declared.program.outcome.NoNow.TheVariants.{Clock, NoMoment as NoMomentOf}
+use Rattle.git_date_tool.specs.declared.program.outcome.Outcome.{Outcome}
+use Rattle.git_date_tool.specs.declared.program.outcome.Outcome.TheVariants.{Answered, Fault, NoClock, Printed, Shown, Unquoted}
+use Rattle.git_date_tool.specs.declared.program.help.TheConstants.{HELP, USAGE, VERSION}
+use Rattle.git_date_tool.specs.declared.answers.readers.Reader.TheVariants.{Approxidate}
+use Rattle.git_date_tool.specs.declared.answers.readers.Strictness.TheVariants.{Usual}
+use Rattle.git_date_tool.specs.declared.answers.shown.Shown.TheVariants.{Git}
+use Rattle.git_date_tool.specs.declared.runs.session.Verdict.{Verdict}
+use Rattle.git_date_tool.specs.declared.answers.warnings.Numbered.{Numbered}
+use Rattle.git_date_tool.specs.declared.answers.warnings.Numbered.TheVariants.{Line, Text}
+use Rattle.git_date_tool.specs.declared.program.wrong.WrongWords.{WrongWords}
+use Rattle.git_date_tool.specs.declared.program.wrong.WrongWords.TheVariants.{NoMoment, NoZone}
+use Rattle.git_date_tool.specs.declared.zones.files.NoZone.{NoZone as Lack}
+use Rattle.git_date_tool.specs.declared.zones.files.NoZone.TheVariants as lacks
 use Rattle.git_date_tool.specs.declared.zones.ZoneText.{ZoneText}
 
 -- the status that an end has

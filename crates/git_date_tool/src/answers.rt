@@ -3,13 +3,18 @@ ghost use Rattle.std.specs.Prelude.{◌≡◌, IfOk};
 ghost use Rattle.gix_date_tool.specs.Run.{change, IsWritten};
 ghost use Rattle.gix_date_tool.specs.Lines.{with_newline};
 ghost use Rattle.gix_date_tool.specs.Messages.{Reports};
-ghost use Rattle.git_date_tool.specs.Warnings.{warning_line};
-ghost use Rattle.git_date_tool.specs.Answers.{IsReply, answer_reply, refusal_text};
+ghost use Rattle.git_date_tool.specs.Answers.Warnings.{warning_line};
+ghost use Rattle.git_date_tool.specs.Answers.Replies.{IsReply, answer_reply, refusal_text};
 
-use crate::readers::{Reader, Strictness, read};
-use crate::refusals::Refusal;
-use crate::shown::{DateLine, Shown, show};
-use crate::warnings::{Numbered, Warning, warning_of};
+pub(crate) mod readers;
+pub(crate) mod refusals;
+pub(crate) mod shown;
+pub(crate) mod warnings;
+
+use crate::answers::readers::{Reader, Strictness, read};
+use crate::answers::refusals::Refusal;
+use crate::answers::shown::{DateLine, Shown, show};
+use crate::answers::warnings::{Numbered, Warning, warning_of};
 use gix_date::Zoned;
 use gix_date::device::Sink;
 use gix_date_tool::put_pieces;
@@ -97,7 +102,7 @@ fn put_refusal<W: Sink>(refusal: Refusal, out: &mut W) -> Result<(), io::ErrorKi
 /// The answer to a line. Memory is taken to print by a format of gix-date, and for nothing else; `Err` if it is refused.
 ///
 /// Git's readers take any bytes, and the others text alone.
-#[tactic(auto, unfolding(crate::specs::Answers::IsReply))]
+#[tactic(auto, unfolding(crate::specs::Answers::Replies::IsReply))]
 pub fn answer_line<'a>(
     alloc: Global,
     query: &Query<'_>,

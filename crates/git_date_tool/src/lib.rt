@@ -2,28 +2,14 @@
 #![tactic(auto)]
 
 mod answers;
-mod arguments;
-mod help;
 pub mod laws;
-mod line;
-mod now;
-mod offsets;
-mod outcome;
 mod program;
-mod readers;
-mod reading;
-mod refusals;
 mod runs;
-mod session;
-mod shown;
-mod warnings;
-mod wrong;
-mod zone_files;
 mod zones;
 
+pub use answers::readers::{Reader, Strictness};
+pub use answers::refusals::Refusal;
+pub use answers::shown::{DateLine, NamedFormat, Shown, shown_named};
+pub use answers::warnings::{Numbered, Warning};
 pub use answers::{Answer, Query, answer_line};
 pub use program::{execute, show_usage};
-pub use readers::{Reader, Strictness};
-pub use refusals::Refusal;
-pub use shown::{DateLine, NamedFormat, Shown, shown_named};
-pub use warnings::{Numbered, Warning};

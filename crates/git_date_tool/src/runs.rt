@@ -1,12 +1,15 @@
 //! Runs over the words of a command line, and over the lines of a stream.
 ghost use Rattle.std.specs.Prelude.{◌≡◌, map, string_bytes};
-ghost use Rattle.gix_date_tool.specs.Lines.{last_line};
 ghost use Rattle.gix_date_tool.specs.Run.{change};
-ghost use Rattle.git_date_tool.specs.Runs.{RunsOver, RunsThrough, ServesLast, output};
+ghost use Rattle.git_date_tool.specs.Runs.Runs.{RunsOver, RunsThrough, ServesRead, line_read, output};
+
+mod line;
+mod reading;
+pub(crate) mod session;
 
 use crate::answers::Query;
-use crate::reading::Lines;
-use crate::session::{Verdict, serve};
+use crate::runs::reading::Lines;
+use crate::runs::session::{Verdict, serve};
 use gix_date::device::{Sink, Source};
 use gix_date_tool::{MAX_LINES, ToolError};
 use std::alloc::Global;
@@ -56,19 +59,24 @@ pub(crate) fn run_through<R: Source, W: Sink, M: Sink>(
             Ok(goes_on) => goes_on,
             Err(fault) => return Err(fault),
         };
-        if !goes_on {
-            let one = match serve_last(alloc, query, count + 1, line.as_slice(), writer, messages) {
-                Ok(one) => one,
-                Err(fault) => return Err(fault),
-            };
-            return Ok(all.with(one));
-        }
-        let one = match serve(alloc, query, count + 1, line.as_slice(), writer, messages) {
+        let number = count + 1;
+        let one = match serve_read(
+            alloc,
+            query,
+            number,
+            line.as_slice(),
+            goes_on,
+            writer,
+            messages,
+        ) {
             Ok(one) => one,
             Err(fault) => return Err(fault),
         };
         all = all.with(one);
-        count += 1;
+        if !goes_on {
+            return Ok(all);
+        }
+        count = number;
     }
     match lines.has_more(reader) {
         Ok(false) => Ok(all),
@@ -77,20 +85,21 @@ pub(crate) fn run_through<R: Source, W: Sink, M: Sink>(
     }
 }
 
-/// Answers what stands at the end of the input, if a byte does.
-fn serve_last<W: Sink, M: Sink>(
+/// Answers a line that was read. What stands at the end of the input is none if no byte does.
+fn serve_read<W: Sink, M: Sink>(
     alloc: Global,
     query: &Query<'_>,
     number: u64,
     line: &[u8],
+    is_ended: bool,
     writer: &mut W,
     messages: &mut M,
 ) -> Result<Verdict, ToolError>
-    ensures { ServesLast query.entry.now number (last_line line.now) (output (change (W.known writer.old) (W.known writer.new))
+    ensures { ServesRead query.entry.now number (line_read is_ended line.now) (output (change (W.known writer.old) (W.known writer.new))
         (change (M.known messages.old) (M.known messages.new))) result }
 {
-    if line.is_empty() {
-        return Ok(Verdict::first());
+    match (is_ended, line) {
+        (false, []) => Ok(Verdict::first()),
+        _ => serve(alloc, query, number, line, writer, messages),
     }
-    serve(alloc, query, number, line, writer, messages)
 }

@@ -1,10 +1,13 @@
 //! The zone of the moment.
 ghost use Rattle.std.specs.Prelude.{◌≡◌, IfOk, MatchResult, false, option_map};
 ghost use Rattle.jiff.specs.ZoneView.{plain_zone};
-ghost use Rattle.git_date_tool.specs.Zones.{IsFileSource, MayLackRest, is_utc, IsMachineSource, IsNamedSource, IsRestSource, IsSourceOf, IsTaken, IsTextOf, IsTextSource, MayLackText, MayLackZone, without_colon};
+ghost use Rattle.git_date_tool.specs.Zones.Zones.{IsFileSource, MayLackRest, is_utc, IsMachineSource, IsNamedSource, IsRestSource, IsSourceOf, IsTaken, IsTextOf, IsTextSource, MayLackText, MayLackZone, without_colon};
 
-use crate::offsets::offset_zone;
-use crate::zone_files::{NoZone, ZoneFault, read_named, read_table};
+pub(crate) mod files;
+mod offsets;
+
+use crate::zones::files::{NoZone, ZoneFault, read_named, read_table};
+use crate::zones::offsets::offset_zone;
 use jiff::tz::{TimeZone, Tzif};
 use std::env::VarError;
 use std::rt::{Env, Files};

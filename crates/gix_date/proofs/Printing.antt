@@ -8,3 +8,4 @@ pub mod PrintedTimes
 pub mod RawBack
 pub mod LocalClocks
 pub mod ShownTexts
+pub mod Appended

@@ -9,7 +9,7 @@ pub mod RolePlaces
 pub mod RelativeReading
 pub mod Steps
 pub mod FixedZones
-pub mod FixedTimes
 pub mod Chains
 pub mod FixedSteps
-pub mod NeverLater
+pub mod KeptInstants
+pub mod FixedTimes

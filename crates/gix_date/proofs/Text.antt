@@ -10,7 +10,6 @@ pub mod Places
 pub mod FirstBytes
 pub mod Ints
 pub mod Decimals
-pub mod WhiteSpace
 pub mod Texts
 pub mod LongNames
 pub mod LastPlaces

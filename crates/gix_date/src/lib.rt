@@ -19,6 +19,7 @@
 
 pub mod bytes;
 mod civil;
+pub mod clock;
 pub mod device;
 mod error;
 pub mod laws;

@@ -16,7 +16,6 @@ use arrayvec::ArrayString;
 use std::str::FromStr;
 
 mod answer;
-mod canonical;
 pub mod careful;
 pub(crate) mod dates;
 mod fast;

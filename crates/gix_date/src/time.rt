@@ -5,11 +5,11 @@ pub mod format;
 mod init;
 mod named;
 mod write;
+mod zoned;
 
 pub use format::{CustomFormat, Format, FormatBuf};
-pub(crate) use named::LAST_OF_YEAR_9999;
 use serde::{Deserialize, Serialize};
-pub(crate) use write::{MAX_TEXT_LEN, header_text, push_hours, push_minutes, push_two_digits};
+pub(crate) use write::{MAX_TEXT_LEN, header_text};
 
 /// Seconds since 1970-01-01 00:00:00 UTC, negative before. Git itself reads only dates from 1970 on.
 pub type SecondsSinceUnixEpoch = i64;
@@ -27,13 +27,25 @@ pub(crate) const MAX_MINUTE: u8 = 59;
 pub(crate) const MAX_SECOND: u8 = 59;
 
 /// Seconds of a minute.
-pub(crate) const SECONDS_PER_MINUTE: OffsetInSeconds = 60;
+pub const SECONDS_PER_MINUTE: OffsetInSeconds = 60;
 
 /// Seconds of an hour.
-pub(crate) const SECONDS_PER_HOUR: OffsetInSeconds = 60 * SECONDS_PER_MINUTE;
+pub const SECONDS_PER_HOUR: OffsetInSeconds = 60 * SECONDS_PER_MINUTE;
 
 /// Seconds of a day in which the zone's offset does not change.
-pub(crate) const SECONDS_PER_DAY: SecondsSinceUnixEpoch = 86_400;
+pub const SECONDS_PER_DAY: SecondsSinceUnixEpoch = 86_400;
+
+/// The least distance from UTC, in seconds, that two digits of hours cannot say.
+pub const HUNDRED_HOURS: u32 = 100 * SECONDS_PER_HOUR as u32;
+
+/// The first whole second of `jiff`'s instants.
+pub const FIRST_SECOND: SecondsSinceUnixEpoch = -377_705_023_201;
+
+/// The last one: 9999-12-30 22:00:00 UTC.
+pub const LAST_SECOND: SecondsSinceUnixEpoch = 253_402_207_200;
+
+/// The last second of the year 9999 by a clock.
+pub const LAST_OF_YEAR_9999: SecondsSinceUnixEpoch = 253_402_300_799;
 
 /// The farthest offset of a formatted date: 23:59 either way.
 pub(crate) const MAX_OFFSET_IN_SECONDS: u32 = SECONDS_PER_DAY as u32 - SECONDS_PER_MINUTE as u32;

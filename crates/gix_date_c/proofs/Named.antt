@@ -8,9 +8,9 @@ use Rattle.git_date.specs.Exact.ZoneTexts.{zone_offset}
 use Rattle.gix_date_c.specs.Moments.{IsOffsetZone}
 use Rattle.gix_date_c.specs.Zones.{IsCopy, IsCopyOf, IsHeld, IsHeldNamed, IsHeldZone, IsKept, IsNamed, IsRead, IsTaken, IsZone, IsZoneOf, Reads, is_file}
 use Rattle.gix_date_c.specs.Laws.{AreCopiesNamed, HasMomentsOf, HasPlacesOf, StaysNamed}
-use Rattle.gix_date_c.specs.Statuses.{number_of}
-use Rattle.gix_date_c.specs.declared.status.Status.{Status}
-use Rattle.gix_date_c.specs.declared.status.Status.TheVariants.{Done}
+use Rattle.gix_date_c.specs.Values.Statuses.{number_of}
+use Rattle.gix_date_c.specs.declared.values.status.Status.{Status}
+use Rattle.gix_date_c.specs.declared.values.status.Status.TheVariants.{Done}
 use Rattle.gix_date_c.specs.declared.zone.TakenZone.{TakenZone}
 use Rattle.gix_date_c.specs.declared.zone.stored.CZone.{CZone}
 use Rattle.gix_date_c.specs.declared.zone.held.Held.{Held}

@@ -2,7 +2,7 @@
 use Rattle.std.proofs.Common.{◌≡◌, ◌∙◌, ℕ, ◌+◌, List, ◌++◌, take, drop, length, sym, ap, ap₂}
 use Rattle.std.proofs.Math.Seq.{take-append_seam, drop-append-add}
 use Rattle.std.proofs.lemmas.List.{append_assoc, drop-drop, length-append}
-use Rattle.gix_date_c.specs.Buffers.{with_text}
+use Rattle.gix_date_c.specs.Values.Buffers.{with_text}
 
 -- a piece that is put after what is at the front lies after it
 pub piece-after : (front piece old cur new : List ℕ) (at : ℕ) → at ≡ length front → cur ≡ with_text front old

@@ -1,15 +1,15 @@
 -- What is printed by a pattern, or is not, and what is printed without an owned text.
-use Rattle.std.proofs.Common.{◌≡◌, ◌∙◌, ◌≤◌, ◌<◌, ◌^◌, ℕ, List, length, Bool, true, false, Result, Ok, Err, IsUtf8, refl, sym, ap, subst, arith, string_bytes}
+use Rattle.std.proofs.Common.{◌≡◌, ◌∙◌, ◌≤◌, ◌<◌, ◌^◌, ℕ, List, length, Bool, true, false, Result, Ok, Err, IsUtf8, inl, refl, sym, ap, subst, arith, string_bytes}
 use Rattle.std.specs.Prelude.{String}
 use Rattle.std.specs.Global.{Global}
-use Rattle.gix_date.specs.Printing.Formats.{IsTextOf, Prints}
+use Rattle.gix_date.specs.Printing.Formats.{IsTextOf, IsPatternText, Prints}
 use Rattle.gix_date.specs.declared.error.Error.{Error}
 use Rattle.gix_date.specs.declared.time.Time.{Time}
 use Rattle.gix_date.specs.declared.time.format.Format.{Format}
 use Rattle.gix_date.specs.declared.time.format.Format.TheVariants.{Custom, Unix, Raw}
-use Rattle.gix_date_c.specs.Printing.{IsPatternPrinted, IsPrinted}
-use Rattle.gix_date_c.specs.declared.status.Status.{Status}
-use Rattle.gix_date_c.specs.declared.status.Status.TheVariants.{NotText}
+use Rattle.gix_date_c.specs.Printing.{IsPatternPrinted, IsPrinted, PrintsPatternSo, PrintsSo}
+use Rattle.gix_date_c.specs.declared.values.status.Status.{Status}
+use Rattle.gix_date_c.specs.declared.values.status.Status.TheVariants.{NotText}
 use denote.RawPtr.{null_ptr}
 
 -- a pattern that is no text is refused as such
@@ -46,8 +46,19 @@ pub text-by_pattern : (IsResult : Result (String Global) Error → Type 0) (is_t
 text-by_pattern IsResult is_text answer is printed = subst (λ b. IsPatternPrinted IsResult b answer) (sym is) printed
 
 -- the text of a time in a format is what printing gives
-pub text-prints : (t : Time) (format : Format) (text : List ℕ) (s : String Global) → IsTextOf t format text → string_bytes s ≡ text
-    → Prints t format (Ok s)
-text-prints t Unix text s is bytes = bytes ∙ is
-text-prints t Raw text s is bytes = subst (IsTextOf t Raw) (sym bytes) is
-text-prints t (Custom format) text s is bytes = subst (IsTextOf t (Custom format)) (sym bytes) is
+in-format : (t : Time) (format : Format) (text : List ℕ) (s : String Global) → IsTextOf t format text → string_bytes s ≡ text → Prints t format (Ok s)
+in-format t Unix text s is bytes = bytes ∙ is
+in-format t Raw text s is bytes = subst (IsTextOf t Raw) (sym bytes) is
+in-format t (Custom format) text s is bytes = subst (IsTextOf t (Custom format)) (sym bytes) is
+
+-- also where seconds are wanted if there is none
+pub text-prints : (or_unix : Bool) (t : Time) (format : Format) (text : List ℕ) (s : String Global) → IsTextOf t format text → string_bytes s ≡ text
+    → PrintsSo or_unix t format (Ok s)
+text-prints false t format text s is bytes = in-format t format text s is bytes
+text-prints true t format text s is bytes = inl (in-format t format text s is bytes)
+
+-- so is the text by a pattern
+pub pattern-prints : (or_unix : Bool) (t : Time) (pattern text : List ℕ) (s : String Global) → IsPatternText t pattern text → string_bytes s ≡ text
+    → PrintsPatternSo or_unix t pattern (Ok s)
+pattern-prints false t pattern text s is bytes = subst (IsPatternText t pattern) (sym bytes) is
+pattern-prints true t pattern text s is bytes = inl (subst (IsPatternText t pattern) (sym bytes) is)

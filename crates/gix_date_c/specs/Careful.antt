@@ -15,12 +15,12 @@ use Rattle.gix_date.specs.declared.parsing.careful.WithoutOffset.TheVariants as 
 use Rattle.gix_date.specs.declared.time.Time.{Time}
 use Rattle.gix_date_c.specs.Parsing.{raw_rule, refusal_status}
 use Rattle.gix_date_c.specs.Reading.{IfText}
-use Rattle.gix_date_c.specs.Refusals.{refused, refused_at}
-use Rattle.gix_date_c.specs.Times.{time_for_c}
+use Rattle.gix_date_c.specs.Values.Refusals.{refused, refused_at}
+use Rattle.gix_date_c.specs.Values.Times.{time_for_c}
 use Rattle.gix_date_c.specs.declared.careful.CCarefulOptions.{CCarefulOptions}
-use Rattle.gix_date_c.specs.declared.refusal.Refusal.{Refusal}
-use Rattle.gix_date_c.specs.declared.status.Status.TheVariants as statuses
-use Rattle.gix_date_c.specs.declared.time.CTime.{CTime}
+use Rattle.gix_date_c.specs.declared.values.refusal.Refusal.{Refusal}
+use Rattle.gix_date_c.specs.declared.values.status.Status.TheVariants as statuses
+use Rattle.gix_date_c.specs.declared.values.time.CTime.{CTime}
 
 -- what a date without an offset means, by this number
 abbrev pub without_offset_of : ℕ → Option WithoutOffset

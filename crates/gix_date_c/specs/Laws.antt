@@ -3,11 +3,11 @@ use Rattle.std.specs.Prelude.{ℕ, List, Result}
 use Rattle.jiff.specs.declared.zoned.Zoned.{Zoned}
 use Rattle.git_date.specs.Exact.ZoneTexts.{zone_offset}
 use Rattle.gix_date_c.specs.Moments.{IsNow, IsPlaced, Place}
-use Rattle.gix_date_c.specs.Statuses.{number_of}
+use Rattle.gix_date_c.specs.Values.Statuses.{number_of}
 use Rattle.gix_date_c.specs.Zones.{Copies, IsNamed, IsSame, IsZone, Names}
 use Rattle.gix_date_c.specs.declared.moment.CInstant.{CInstant}
-use Rattle.gix_date_c.specs.declared.status.Status.{Status}
-use Rattle.gix_date_c.specs.declared.status.Status.TheVariants.{Done}
+use Rattle.gix_date_c.specs.declared.values.status.Status.{Status}
+use Rattle.gix_date_c.specs.declared.values.status.Status.TheVariants.{Done}
 use Rattle.gix_date_c.specs.declared.zone.stored.CZone.{CZone}
 
 -- where a zone means what a text names, a moment in it is one in the zone that the text names

@@ -14,8 +14,8 @@ use Rattle.jiff_tz.specs.TzifReader.{read_tzif}
 use Rattle.jiff_tz.specs.PosixReader.{read_whole}
 use Rattle.jiff_tz.specs.declared.tzif.Tzif.{Tzif}
 use Rattle.gix_date_c.specs.declared.moment.CInstant.{CInstant}
-use Rattle.gix_date_c.specs.declared.status.Status.{Status}
-use Rattle.gix_date_c.specs.declared.status.Status.TheVariants as statuses
+use Rattle.gix_date_c.specs.declared.values.status.Status.{Status}
+use Rattle.gix_date_c.specs.declared.values.status.Status.TheVariants as statuses
 
 -- the moment is this instant, in this zone
 abbrev pub IsInstantIn : CInstant → TimeZone → Zoned → Type 0

@@ -13,8 +13,8 @@ use Rattle.gix_date.specs.declared.parsing.raw.RawOffsets.TheVariants.{Quarter, 
 use Rattle.gix_date.specs.declared.time.Time.{Time}
 use Rattle.gix_date_c.specs.Moments.{IsNow}
 use Rattle.gix_date_c.specs.declared.moment.CInstant.{CInstant}
-use Rattle.gix_date_c.specs.declared.status.Status.{Status}
-use Rattle.gix_date_c.specs.declared.status.Status.TheVariants as statuses
+use Rattle.gix_date_c.specs.declared.values.status.Status.{Status}
+use Rattle.gix_date_c.specs.declared.values.status.Status.TheVariants as statuses
 
 -- the rule for raw offsets of this number
 abbrev pub raw_rule : ℕ → Option RawOffsets

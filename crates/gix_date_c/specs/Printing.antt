@@ -3,12 +3,14 @@ use Rattle.std.specs.Prelude.{◌≡◌, ◌⊎◌, ◌<◌, ℕ, Bool, true, fa
 use Rattle.std.specs.Result.{result_map_both}
 use Rattle.std.specs.Global.{Global}
 use Rattle.gix_date.specs.Printing.NamedTexts.{short_pattern, rfc2822_pattern, git_rfc2822_pattern, iso8601_pattern, iso8601_strict_pattern, gitoxide_pattern, default_pattern}
+use Rattle.gix_date.specs.Printing.Formats.{Prints, PrintsOrSeconds, PrintsPattern, PrintsPatternOrSeconds}
 use Rattle.gix_date.specs.declared.error.Error.{Error}
 use Rattle.gix_date.specs.declared.error.Error.TheVariants as errors
+use Rattle.gix_date.specs.declared.time.Time.{Time}
 use Rattle.gix_date.specs.declared.time.format.Format.{Format}
 use Rattle.gix_date.specs.declared.time.format.Format.TheVariants.{Custom, Unix, Raw}
-use Rattle.gix_date_c.specs.declared.status.Status.{Status}
-use Rattle.gix_date_c.specs.declared.status.Status.TheVariants as statuses
+use Rattle.gix_date_c.specs.declared.values.status.Status.{Status}
+use Rattle.gix_date_c.specs.declared.values.status.Status.TheVariants as statuses
 
 -- the patterns of the formats that have one, in the order of their numbers
 abbrev pub named_patterns : List (List ℕ)
@@ -35,6 +37,16 @@ printed_text = result_map_both string_bytes print_status
 
 abbrev pub IsPrinted : (Result (String Global) Error → Type 0) → Result (List ℕ) Status → Type 0
 IsPrinted Prints answer = (result : Result (String Global) Error) × Prints result × (answer ≡ printed_text result)
+
+-- printing in a format, or else seconds if they are wanted
+abbrev pub PrintsSo : Bool → Time → Format → Result (String Global) Error → Type 0
+PrintsSo false = Prints
+PrintsSo true = PrintsOrSeconds
+
+-- the same by a pattern
+abbrev pub PrintsPatternSo : Bool → Time → List ℕ → Result (String Global) Error → Type 0
+PrintsPatternSo false = PrintsPattern
+PrintsPatternSo true = PrintsPatternOrSeconds
 
 -- printing in the format of a number, as the library does it in that format
 abbrev pub IsFormatted : (Format → Result (String Global) Error → Type 0) → ℕ → Result (List ℕ) Status → Type 0

@@ -3,11 +3,11 @@ use Rattle.std.specs.Prelude.{◌≡◌, ℕ, List, Bool, true, false, Result, O
 use Rattle.jiff.specs.Types.{TimeZone}
 use Rattle.jiff.specs.declared.zoned.Zoned.{Zoned}
 use Rattle.gix_date_c.specs.Moments.{IsNow, IsPlaced, Place}
-use Rattle.gix_date_c.specs.Refusals.{refused}
+use Rattle.gix_date_c.specs.Values.Refusals.{refused}
 use Rattle.gix_date_c.specs.declared.moment.CInstant.{CInstant}
-use Rattle.gix_date_c.specs.declared.refusal.Refusal.{Refusal}
-use Rattle.gix_date_c.specs.declared.status.Status.{Status}
-use Rattle.gix_date_c.specs.declared.status.Status.TheVariants.{NotText}
+use Rattle.gix_date_c.specs.declared.values.refusal.Refusal.{Refusal}
+use Rattle.gix_date_c.specs.declared.values.status.Status.{Status}
+use Rattle.gix_date_c.specs.declared.values.status.Status.TheVariants.{NotText}
 
 -- what is read of bytes that are text; of others it is told that they are none
 abbrev pub IfText : {T : Type 0} → Bool → (Result T Refusal → Type 0) → Result T Refusal → Type 0

@@ -7,10 +7,10 @@ use Rattle.gix_signature.specs.Signature.{Parts, IsCut, HasNoCut}
 use Rattle.gix_signature.specs.Writing.{line_due}
 use Rattle.gix_signature.specs.declared.error.SignatureError.{SignatureError}
 use Rattle.gix_signature.specs.declared.error.SignatureError.TheVariants as refusals
-use Rattle.gix_date_c.specs.Stores.{Stores}
+use Rattle.gix_date_c.specs.Values.Stores.{Stores}
 use Rattle.gix_date_c.specs.declared.signature.CSignature.{CSignature}
-use Rattle.gix_date_c.specs.declared.status.Status.{Status}
-use Rattle.gix_date_c.specs.declared.status.Status.TheVariants.{NotText, NoSignature, OffsetTooWide, BadPart, NoRoom}
+use Rattle.gix_date_c.specs.declared.values.status.Status.{Status}
+use Rattle.gix_date_c.specs.declared.values.status.Status.TheVariants.{NotText, NoSignature, OffsetTooWide, BadPart, NoRoom}
 
 -- what cutting bytes into the parts of a signature line comes to
 abbrev pub IsCutAnswer : List ℕ → Result Parts Status → Type 0

@@ -8,9 +8,9 @@ use Rattle.jiff.specs.Words.{plain_zone}
 use Rattle.jiff_tz.specs.declared.tzif.Tzif.{Tzif}
 use Rattle.git_date.specs.Exact.ZoneTexts.{zone_offset}
 use Rattle.gix_date_c.specs.Moments.{IsFileZone, IsOffsetZone, IsRuleZone, IsTable}
-use Rattle.gix_date_c.specs.Statuses.{number_of}
-use Rattle.gix_date_c.specs.declared.status.Status.{Status}
-use Rattle.gix_date_c.specs.declared.status.Status.TheVariants as statuses
+use Rattle.gix_date_c.specs.Values.Statuses.{number_of}
+use Rattle.gix_date_c.specs.declared.values.status.Status.{Status}
+use Rattle.gix_date_c.specs.declared.values.status.Status.TheVariants as statuses
 use Rattle.gix_date_c.specs.declared.zone.stored.CZone.{CZone}
 use Rattle.gix_date_c.specs.declared.zone.TakenZone.{TakenZone}
 use Rattle.gix_date_c.specs.declared.zone.held.Held.{Held}

@@ -1,14 +1,12 @@
 //! Dates as Git reads and shows them, as `include/git_date.h` declares them.
 ghost use Rattle.std.specs.Prelude.{◌≡◌};
-ghost use Rattle.gix_date_c.specs.GitDates.{date_refusal, ignored_place};
+ghost use Rattle.gix_date_c.specs.Git.Dates.{date_refusal, ignored_place};
 
-mod approximate;
-mod exact;
-mod expiry;
+mod dates;
 mod show;
 
-use crate::refusal::Refusal;
-use crate::status::Status;
+use crate::values::refusal::Refusal;
+use crate::values::status::Status;
 use git_date::DateError;
 
 /// The refusal that C is told for one of Git's dates.

@@ -1,13 +1,13 @@
 //! Times of commit headers.
 ghost use Rattle.std.specs.Prelude.{◌≡◌};
 ghost use Rattle.gix_date.specs.Header.Canonical.{is_canonical_header};
-ghost use Rattle.gix_date_c.specs.Buffers.{Outcome, outcome_of, header_text_answer};
-ghost use Rattle.gix_date_c.specs.Times.{StoresTime, header_answer, load_time};
+ghost use Rattle.gix_date_c.specs.Values.Buffers.{Outcome, outcome_of, header_text_answer};
+ghost use Rattle.gix_date_c.specs.Values.Times.{StoresTime, header_answer, load_time};
 
-use crate::buffer::store_text;
-use crate::status::Status;
-use crate::text::utf8_text;
-use crate::time::{CTime, load_time, store_time};
+use crate::values::buffer::store_text;
+use crate::values::status::Status;
+use crate::values::text::utf8_text;
+use crate::values::time::{CTime, load_time, store_time};
 use gix_date::{Time, is_canonical_header, parse_header};
 
 /// The time of a commit header, read leniently.

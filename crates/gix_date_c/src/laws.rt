@@ -1,5 +1,5 @@
 //! Laws of the calls for C: each is the contract of a function that does nothing.
-ghost use Rattle.gix_date_c.specs.GitModes.{IsNumbered};
+ghost use Rattle.gix_date_c.specs.Git.Modes.{IsNumbered};
 ghost use Rattle.gix_date_c.specs.Laws.{AreCopiesNamed, HasMomentsOf, HasPlacesOf, StaysNamed};
 
 use crate::zone::CZone;

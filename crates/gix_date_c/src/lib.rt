@@ -6,7 +6,6 @@
 //! lengths, which have to be valid, and none keeps a pointer.
 #![tactic(auto)]
 
-mod buffer;
 mod careful;
 mod git;
 mod header;
@@ -14,11 +13,7 @@ mod laws;
 mod moment;
 mod parse;
 mod print;
-mod refusal;
 mod signature;
-mod status;
-mod store;
-mod text;
-mod time;
+mod values;
 mod version;
 mod zone;

@@ -4,8 +4,8 @@ ghost use Rattle.std.specs.Result.{result_map_both};
 ghost use Rattle.jiff.specs.Words.{plain_zone};
 ghost use Rattle.gix_date_c.specs.Moments.{IsInstant, IsMomentIn, IsMomentOf, IsOffsetZone, IsRuleZone, IsTable, file_status};
 
-use crate::status::Status;
-use crate::text::utf8_text;
+use crate::values::status::Status;
+use crate::values::text::utf8_text;
 use gix_date::Zoned;
 use jiff::Timestamp;
 use jiff::tz::{Offset, TimeZone, Tzif};

@@ -1,13 +1,13 @@
 //! Dates parsed.
 ghost use Rattle.std.specs.Prelude.{◌≡◌, Result, Ok, None};
 ghost use Rattle.gix_date_c.specs.Parsing.{IsParsed, IsParsedAt, IsParsedIn, raw_rule, refusal_status};
-ghost use Rattle.gix_date_c.specs.Times.{StoresTime};
+ghost use Rattle.gix_date_c.specs.Values.Times.{StoresTime};
 ghost use Rattle.gix_date_c.specs.Zones.{IsSame, IsZone};
 
 use crate::moment::CInstant;
-use crate::status::Status;
-use crate::text::utf8_text;
-use crate::time::{CTime, store_time};
+use crate::values::status::Status;
+use crate::values::text::utf8_text;
+use crate::values::time::{CTime, store_time};
 use crate::zone::CZone;
 use gix_date::{ParseError, RawOffsets, Time, Zoned, parse_no_alloc};
 use std::alloc::Global;

@@ -2,14 +2,14 @@
 ghost use Rattle.std.specs.Prelude.{◌≡◌, Result, IfSome, IfNone, ◌<◌};
 ghost use Rattle.std.specs.Str.{is_utf8};
 ghost use Rattle.gix_date.specs.Printing.Formats.{Prints, PrintsPattern, PrintsPatternOrSeconds, PrintsOrSeconds};
-ghost use Rattle.gix_date_c.specs.Buffers.{Outcome, Puts, outcome_of};
-ghost use Rattle.gix_date_c.specs.Printing.{IsFormat, IsFormatted, IsPatternPrinted, print_status, printed_text};
-ghost use Rattle.gix_date_c.specs.Times.{load_time};
+ghost use Rattle.gix_date_c.specs.Values.Buffers.{Outcome, Puts, outcome_of};
+ghost use Rattle.gix_date_c.specs.Printing.{IsFormat, IsFormatted, IsPatternPrinted, PrintsPatternSo, PrintsSo, print_status, printed_text};
+ghost use Rattle.gix_date_c.specs.Values.Times.{load_time};
 
-use crate::buffer::store_text;
-use crate::status::Status;
-use crate::text::utf8_text;
-use crate::time::{CTime, load_time};
+use crate::values::buffer::store_text;
+use crate::values::status::Status;
+use crate::values::text::utf8_text;
+use crate::values::time::{CTime, load_time};
 use gix_date::time::format::{
     DEFAULT, Format, GIT_RFC2822, GITOXIDE, ISO8601, ISO8601_STRICT, RAW, RFC2822, SHORT, UNIX,
 };
@@ -28,15 +28,7 @@ pub extern "C" fn gix_date_format(
     ensures { Puts (IsFormatted (Prints (load_time time.now)) format)
         out.old (record { bytes = out.new; len = len.new; status = result }) }
 {
-    let Some(format) = format_of(format) else {
-        return store_text(Err(Status::NoSuchOption), out, len);
-    };
-    let time = load_time(time);
-    let printed = time.format_to_buf(format);
-    match &printed {
-        Some(text) => store_text(Ok(text.as_str()), out, len),
-        None => store_printed(time.format(alloc, format), out, len),
-    }
+    put_formatted(alloc, time, format, false, out, len)
 }
 
 /// Prints as [`gix_date_format`] does, but the seconds for a time that has no text in that format.
@@ -51,15 +43,7 @@ pub extern "C" fn gix_date_format_or_unix(
     ensures { Puts (IsFormatted (PrintsOrSeconds (load_time time.now)) format)
         out.old (record { bytes = out.new; len = len.new; status = result }) }
 {
-    let Some(format) = format_of(format) else {
-        return store_text(Err(Status::NoSuchOption), out, len);
-    };
-    let time = load_time(time);
-    let printed = time.format_to_buf(format);
-    match &printed {
-        Some(text) => store_text(Ok(text.as_str()), out, len),
-        None => store_printed(time.format_or_unix(alloc, format), out, len),
-    }
+    put_formatted(alloc, time, format, true, out, len)
 }
 
 /// Puts the text of a time by a pattern into a buffer.
@@ -74,16 +58,7 @@ pub extern "C" fn gix_date_format_by_pattern(
     ensures { Puts (IsPatternPrinted (PrintsPattern (load_time time.now) pattern.now) (is_utf8 pattern.now))
         out.old (record { bytes = out.new; len = len.new; status = result }) }
 {
-    let pattern = match utf8_text(pattern) {
-        Ok(pattern) => pattern,
-        Err(status) => return store_text(Err(status), out, len),
-    };
-    let time = load_time(time);
-    let printed = time.format_by_pattern_to_buf(pattern);
-    match &printed {
-        Some(text) => store_text(Ok(text.as_str()), out, len),
-        None => store_printed(time.format_by_pattern(alloc, pattern), out, len),
-    }
+    put_by_pattern(alloc, time, pattern, false, out, len)
 }
 
 /// Prints as [`gix_date_format_by_pattern`] does, but the seconds for a time that has no text by that pattern.
@@ -98,6 +73,47 @@ pub extern "C" fn gix_date_format_by_pattern_or_unix(
     ensures { Puts (IsPatternPrinted (PrintsPatternOrSeconds (load_time time.now) pattern.now) (is_utf8 pattern.now))
         out.old (record { bytes = out.new; len = len.new; status = result }) }
 {
+    put_by_pattern(alloc, time, pattern, true, out, len)
+}
+
+/// Puts a time in the format of a number into a buffer, or the seconds of one that has no such text, if they are wanted.
+#[inline(always)]
+fn put_formatted(
+    alloc: Global,
+    time: &CTime,
+    format: u32,
+    or_unix: bool,
+    out: &mut [u8],
+    len: &mut usize,
+) -> u32
+    ensures { Puts (IsFormatted (PrintsSo or_unix (load_time time.now)) format)
+        out.old (record { bytes = out.new; len = len.new; status = result }) }
+{
+    let Some(format) = format_of(format) else {
+        return store_text(Err(Status::NoSuchOption), out, len);
+    };
+    let time = load_time(time);
+    let printed = time.format_to_buf(format);
+    match &printed {
+        Some(text) => store_text(Ok(text.as_str()), out, len),
+        None if or_unix => store_printed(time.format_or_unix(alloc, format), out, len),
+        None => store_printed(time.format(alloc, format), out, len),
+    }
+}
+
+/// Puts a time by a pattern into a buffer, or the seconds of one that has no such text, if they are wanted.
+#[inline(always)]
+fn put_by_pattern(
+    alloc: Global,
+    time: &CTime,
+    pattern: &[u8],
+    or_unix: bool,
+    out: &mut [u8],
+    len: &mut usize,
+) -> u32
+    ensures { Puts (IsPatternPrinted (PrintsPatternSo or_unix (load_time time.now) pattern.now) (is_utf8 pattern.now))
+        out.old (record { bytes = out.new; len = len.new; status = result }) }
+{
     let pattern = match utf8_text(pattern) {
         Ok(pattern) => pattern,
         Err(status) => return store_text(Err(status), out, len),
@@ -106,7 +122,8 @@ pub extern "C" fn gix_date_format_by_pattern_or_unix(
     let printed = time.format_by_pattern_to_buf(pattern);
     match &printed {
         Some(text) => store_text(Ok(text.as_str()), out, len),
-        None => store_printed(time.format_by_pattern_or_unix(alloc, pattern), out, len),
+        None if or_unix => store_printed(time.format_by_pattern_or_unix(alloc, pattern), out, len),
+        None => store_printed(time.format_by_pattern(alloc, pattern), out, len),
     }
 }
 

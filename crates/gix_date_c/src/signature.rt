@@ -2,18 +2,18 @@
 ghost use Rattle.std.specs.Prelude.{◌≡◌, ◌+◌, ◌<◌, ◌≤◌, ◌^◌, length, drop, take, ◌++◌, Result, Ok, None};
 ghost use Rattle.std.specs.Result.{result_map_both};
 ghost use Rattle.gix_date.specs.Header.Text.{header_text};
-ghost use Rattle.gix_date_c.specs.Buffers.{Outcome, as_usize, outcome_of, text_outcome, with_text};
+ghost use Rattle.gix_date_c.specs.Values.Buffers.{Outcome, as_usize, outcome_of, text_outcome, with_text};
 ghost use Rattle.gix_date_c.specs.Signatures.{IsCutAnswer, StoresParts, line_answer, line_status, spans_of};
-ghost use Rattle.gix_date_c.specs.Statuses.{number_of};
-ghost use Rattle.gix_date_c.specs.Times.{load_time};
+ghost use Rattle.gix_date_c.specs.Values.Statuses.{number_of};
+ghost use Rattle.gix_date_c.specs.Values.Times.{load_time};
 ghost use Rattle.gix_signature.specs.Signature.{Parts, line_of, parts_of};
 ghost use Rattle.gix_signature.specs.Writing.{line_due, parts_due};
 
-use crate::buffer::{put_at, store_text};
-use crate::status::Status;
-use crate::store::store;
-use crate::text::utf8_text;
-use crate::time::{CTime, load_time};
+use crate::values::buffer::{put_at, store_text};
+use crate::values::status::Status;
+use crate::values::store::store;
+use crate::values::text::utf8_text;
+use crate::values::time::{CTime, load_time};
 use gix_date::Time;
 use gix_date::device::Sink;
 use gix_date::parsing::TimeBuf;

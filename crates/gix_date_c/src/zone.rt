@@ -5,14 +5,14 @@ ghost use Rattle.jiff.specs.Words.{plain_zone};
 ghost use Rattle.git_date.specs.Exact.ZoneTexts.{zone_offset};
 ghost use Rattle.gix_date_c.specs.Moments.{IsNow};
 ghost use Rattle.gix_date_c.specs.Zones.{Copies, IsKept, IsRead, IsSame, IsTaken, IsTakenCopy, IsUtc, IsZoneOf, Reads};
-ghost use Rattle.gix_date_c.specs.declared.status.Status.TheVariants.{Memory};
+ghost use Rattle.gix_date_c.specs.declared.values.status.Status.TheVariants.{Memory};
 
 mod handle;
 mod held;
 mod stored;
 
 use crate::moment::{CInstant, moment_in, offset_zone};
-use crate::status::Status;
+use crate::values::status::Status;
 use crate::zone::held::Held;
 pub(crate) use crate::zone::stored::CZone;
 use git_date::zone_offset;

@@ -12,9 +12,13 @@ pub use Rattle.gix_date.specs.Devices.Device.{inner_of, fault_of}
 pub use Rattle.gix_date.specs.Families.Epoch.{at_time, epoch_time, utc_time, min_bare_epoch}
 pub use Rattle.gix_date.specs.Families.Order.{first_family, ParseNoAllocOutcome, ParseOutcome, WithCopy, RefusesWithCopy, Family, families, family_answer, RefusesDate, answers_before_git, RefusesUnknown, first_family_by}
 pub use Rattle.gix_date.specs.Families.Laws.{Agree, AnswersHaveText, AnswersWithinDay, AreApart, HasOneOutcome, IgnoresCase, IgnoresSpace, Holds, overlap, AreExclusive, AreOverlapping, Overlap, AreDisjoint, ComesFirst, IgnoresMoment, IsWidened, RawIsHeader}
-pub use Rattle.gix_date.specs.Relative.FixedZones.{NamesSum, IgnoresOrder, NamesNoneLater, IsNonnegativePair, less_seconds, less_months, total, Names, NamesAlike, IsSecondsBefore, NamesBefore, earlier, NamesEarlier}
+pub use Rattle.gix_date.specs.Relative.FixedZones.{NamesSum, IgnoresOrder, NamesNoneLater, IsNonnegativePair, less_seconds, less_months, total, Keeps, KeepsWay, Names, NamesAlike, IsSecondsBefore, NamesBefore, earlier, NamesEarlier}
 pub use Rattle.gix_date.specs.Relative.Pairs.{AreFreeByParity, ArePairs, IsRelativeText, IsSpelledSo}
-pub use Rattle.gix_date.specs.Fields.FieldTexts.{AreDigits, IsPair, IsSign}
+pub use Rattle.gix_date.specs.Fields.ClockNumbers.{hours_in, minutes_in}
+pub use Rattle.gix_date.specs.Fields.DateOffsets.{strict_offset_text}
+pub use Rattle.gix_date.specs.Fields.FieldTexts.{AreDigits, IsPair, IsSign, clock_text, date_text, four_digits}
+pub use Rattle.gix_date.specs.Fields.Offsets.{compact_offset_text, offset_sign}
+pub use Rattle.gix_date.specs.Text.Characters.{space}
 pub use Rattle.gix_date.specs.Families.Grammars.{IsInt, AreOffsetFields, IsRawText, IsEpochText, IsAtText}
 pub use Rattle.gix_date.specs.Git.Cuts.{IsCut}
 pub use Rattle.gix_date.specs.Git.Grammar.{IsGitDate, IsGitFront, IsGitClock, IsGitOffset, IsGitText}
@@ -27,11 +31,11 @@ pub use Rattle.gix_date.specs.Devices.InputBytes.{shown_text}
 pub use Rattle.gix_date.specs.Devices.StreamState.{StreamState, Takes, TakesProperPrefix, TakesNothing, Gives, HasEnded, refusal}
 pub use Rattle.gix_date.specs.Fields.Layout.{LocalTime, LocalDate, LocalClock, Piece, ArePieces, IsPiece, print_pieces}
 pub use Rattle.gix_date.specs.Devices.Lending.{LeavesText}
-pub use Rattle.gix_date.specs.Printing.LocalClocks.{clock_of, HasFourDigitFields}
-pub use Rattle.gix_date.specs.Printing.NamedTexts.{short_text, rfc2822_text, git_rfc2822_text, iso8601_text, iso8601_strict_text, gitoxide_text, default_text, short_pattern, rfc2822_pattern, git_rfc2822_pattern, iso8601_pattern, iso8601_strict_pattern, gitoxide_pattern, default_pattern, ShowsFourDigitFields, local_time}
+pub use Rattle.gix_date.specs.Printing.LocalClocks.{clock_of, local_seconds, HasFields, HasFourDigitFields, IsShowable}
+pub use Rattle.gix_date.specs.Printing.NamedTexts.{short_text, rfc2822_text, git_rfc2822_text, iso8601_text, iso8601_strict_text, gitoxide_text, default_text, bare_default_text, short_pattern, rfc2822_pattern, git_rfc2822_pattern, iso8601_pattern, iso8601_strict_pattern, gitoxide_pattern, default_pattern, ShowsFourDigitFields, local_time}
 pub use Rattle.gix_date.specs.Text.LongNames.{begins, month_told, weekday_told}
 pub use Rattle.gix_date.specs.Text.Names.{is_name, day_name, month_name}
-pub use Rattle.gix_date.specs.Text.Numbers.{decimal_text}
+pub use Rattle.gix_date.specs.Text.Numbers.{decimal_text, two_digits}
 pub use Rattle.gix_date.specs.Values.{ComparesParts, AgreesWith, IsEquality, FeedsParts, FeedsAlike}
 pub use Rattle.gix_date.specs.Families.Patterns.{Accepts, IsMeaning, time_answer, real_day_answer, short_layout, rfc2822_layout, iso8601_layout, iso8601_strict_layout, gitoxide_layout, default_layout, short_answer, rfc2822_answer, iso8601_answer, iso8601_strict_answer, gitoxide_answer, default_answer, max_date_offset}
 pub use Rattle.gix_date.specs.Printing.Formats.{IsTextOf, IsPatternText, Prints, PrintsSeconds, PrintsHeader, PrintsPattern, PrintsOrSeconds, HasNoText, HasNoPatternText, PrintsPatternOrSeconds, IsShown, AtMoment}
@@ -45,7 +49,6 @@ pub use Rattle.gix_date.specs.Text.SpaceWords.{StdWhiteSpaceIsUnicodes, white_sp
 pub use Rattle.gix_date.specs.Header.TimeBuf.{text_in, HoldsText}
 pub use Rattle.gix_date.specs.Fields.Zoned.{time_in, time_in_utc, is_instant, IsConvertible, IsMoment}
 pub use Rattle.jiff.specs.Words.{plain_zone, plain_zoned, IsOffsetSeconds, IsFixed}
-pub use Rattle.gix_date_laws.specs.AnyZone.{IsWord, NamesInstant, Keeps, KeepsWay, SubtractAlike, TextsNameAlike, KeepClock, AreWholeDays, ResolvesNoneLater, long_seconds, EachTakes, DateNamesNoneLater}
+pub use Rattle.gix_date_laws.specs.AnyZone.{IsWord, NamesInstant, SubtractAlike, TextsNameAlike, KeepClock, AreWholeDays, ResolvesNoneLater, long_seconds, EachTakes, DateNamesNoneLater}
 pub use Rattle.gix_date_laws.specs.OffsetTexts.{WritesOffset, IsCompactOffset, IsColonOffset, IsMailOffset, mail_zones}
 pub use Rattle.gix_date_laws.specs.PrintedTexts.{HaveUnlikeTexts, SortBefore}
-pub use Rattle.gix_date_laws.specs.Zones.{IsUsualZone, KnownAreUsual, LeastGoesOn, TablesAreUsual}

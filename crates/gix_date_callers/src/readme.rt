@@ -25,22 +25,3 @@ pub fn stored_time(alloc: Global, date: &str) -> Result<Time, Error>
     gix_date_laws::comes_first(date, RawOffsets::Quarter);
     parse(alloc, date, None)
 }
-
-#[test]
-fn a_header_is_written_again(rt: HostRuntime) -> Result<(), Error> {
-    assert_eq!(rt;
-        written_again("1660874655 +0800")?.as_str(),
-        "1660874655 +0800"
-    );
-    assert_eq!(rt; written_again("12abc +0100")?.as_str(), "12 +0100");
-    assert!(rt; matches!(written_again("yesterday"), Err(Error::InvalidTime)));
-    Ok(())
-}
-
-#[test]
-fn a_stored_time_is_read(rt: HostRuntime) -> Result<(), Error> {
-    let time = stored_time(rt.alloc(), "1660874655 +0800")?;
-    assert_eq!(rt; time, Time::new(1_660_874_655, 28_800));
-    assert!(rt; matches!(stored_time(rt.alloc(), "yesterday"), Err(Error::MissingNow)));
-    Ok(())
-}

@@ -1,44 +1,8 @@
-mod AroundTexts
-mod RawHeaders
-mod GitClocks
-mod GitOffsets
-mod GitCuts
-mod GitGrammar
-mod RelativeGrammar
-mod LetterCase
-mod DateCase
-mod Grammars
-mod Overlaps
-mod FirstFamily
-mod Agreement
-mod WiderRules
-mod ShortBack
-mod Parity
-mod CarefulScan
-mod CarefulPieces
-mod CarefulCounts
-mod CarefulUnits
-mod CarefulWords
-mod CarefulNoGit
-mod CarefulAnswers
-mod UnzonedGrammar
-mod CarefulReading
-mod CarefulInUtc
-mod CarefulGrammar
-mod WholeClocks
-mod CarefulCases
-mod CarefulNumbers
-pub mod CarefulRows
-mod NamedInstants
-mod SecondSteps
-mod KeptInstants
-mod NoneNegative
-mod LaterInstants
-mod ClockDays
-mod OffsetTexts
-mod PrintedTexts
-mod SortedTexts
-mod RuleClocks
-mod TableClocks
-mod UsualZones
-mod KnownRules
+pub mod Numbers
+pub mod Letters
+pub mod Git
+pub mod Shared
+pub mod Pairs
+pub mod Printing
+pub mod Clear
+pub mod Whole

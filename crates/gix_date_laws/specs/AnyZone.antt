@@ -2,7 +2,7 @@
 use Rattle.std.specs.Prelude.{◌≡◌, ◌↔◌, ℕ, ℤ, pos, ◌-ℤ◌, ◌*ℤ◌, ◌≤ℤ◌, List, [], ◌∷◌, map, true, Some}
 use Rattle.std.specs.Str.{trim}
 use Rattle.jiff.specs.Types.{TimeZone, DateTime}
-use Rattle.jiff.specs.Words.{zoned_nanos, offset_at, epoch_day, nanos_of_seconds, IsTimestampNanos}
+use Rattle.jiff.specs.Words.{zoned_nanos, offset_at, epoch_day, IsTimestampNanos}
 use Rattle.jiff.specs.declared.zoned.Zoned.{Zoned}
 use Rattle.gix_date.specs.Fields.ClockNumbers.{seconds_per_day}
 use Rattle.gix_date.specs.Fields.Zoned.{time_in}
@@ -22,15 +22,6 @@ abbrev pub NamesInstant : List ℕ → Zoned → ℤ → Type 0
 NamesInstant text moment instant =
     (date : RelativeDate) × (relative_date text ≡ Some date)
     × ((t : Time) → IsNamed date moment t ↔ ((t ≡ time_in (zone_of moment) instant) × IsTimestampNanos instant))
-
--- the zone resolves the instant's local time to the instant, if `jiff` has it
-abbrev pub Keeps : TimeZone → ℤ → Type 0
-Keeps tz instant = IsTimestampNanos instant → Resolves tz instant instant
-
--- the zone keeps the instant, and what is left after each pair of seconds
-abbrev pub KeepsWay : TimeZone → List (ℤ × ℤ) → ℤ → Type 0
-KeepsWay tz [] instant = Keeps tz instant
-KeepsWay tz (pair ∷ more) instant = Keeps tz instant × KeepsWay tz more (instant -ℤ nanos_of_seconds (product pair))
 
 -- each pair subtracts as many seconds as its counterpart
 abbrev pub SubtractAlike : List (ℤ × ℤ) → List (ℤ × ℤ) → Type 0

@@ -1,4 +1,3 @@
 pub mod AnyZone
 pub mod OffsetTexts
 pub mod PrintedTexts
-pub mod Zones

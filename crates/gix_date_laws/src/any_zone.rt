@@ -2,10 +2,9 @@
 ghost use Rattle.std.specs.Prelude.{ℤ, pos, ◌-ℤ◌, [], ◌∷◌, codes};
 ghost use Rattle.std.specs.List.{All};
 ghost use Rattle.gix_date.specs.Relative.Dates.{MinusSeconds};
-ghost use Rattle.gix_date.specs.Relative.FixedZones.{IsNonnegativePair, less_months, less_seconds, total, NamesAlike, NamesBefore, NamesNoneLater, NamesSum};
+ghost use Rattle.gix_date.specs.Relative.FixedZones.{IsNonnegativePair, Keeps, KeepsWay, less_months, less_seconds, total, NamesAlike, NamesBefore, NamesNoneLater, NamesSum};
 ghost use Rattle.gix_date.specs.Relative.Steps.{zone_of};
-ghost use Rattle.gix_date_laws.specs.AnyZone.{AreWholeDays, DateNamesNoneLater, EachTakes, IsWord, KeepClock, Keeps, KeepsWay, NamesInstant, ResolvesNoneLater, long_seconds, SubtractAlike, TextsNameAlike};
-ghost use Rattle.gix_date_laws.specs.Zones.{IsUsualZone, KnownAreUsual, LeastGoesOn, TablesAreUsual};
+ghost use Rattle.gix_date_laws.specs.AnyZone.{AreWholeDays, DateNamesNoneLater, EachTakes, IsWord, KeepClock, NamesInstant, ResolvesNoneLater, long_seconds, SubtractAlike, TextsNameAlike};
 ghost use Rattle.jiff.specs.Words.{zoned_nanos, nanos_of_seconds, IsFixed};
 
 use jiff::Zoned;
@@ -71,17 +70,4 @@ pub fn one_offset(moment: &Zoned<'_>)
     requires { IsFixed (zone_of moment.now) }
     ensures keeps { (instant : ℤ) → Keeps (zone_of moment.now) instant }
     ensures none_later { ResolvesNoneLater (zone_of moment.now) }
-{}
-
-/// A usual zone resolves no instant to a later one. It has one offset, a POSIX rule, or a TZif table.
-///
-/// The rule has no daylight saving time, or changes on weekdays of months from February to November, with a month between.
-/// If a rule follows a table, it is such a rule, and its clock shows nothing earlier than at the table's last transition:
-/// so if that transition sets the least offset of the rule, which the table's text says. Zones by the rules of New York,
-/// Dublin, Auckland and Jerusalem are usual, and by a file of New York that has no rule.
-pub fn usual_zones(moment: &Zoned<'_>)
-    ensures none_later { IsUsualZone (zone_of moment.now) → ResolvesNoneLater (zone_of moment.now) }
-    ensures least { LeastGoesOn }
-    ensures tables { TablesAreUsual (zone_of moment.now) }
-    ensures known { KnownAreUsual (zone_of moment.now) }
 {}

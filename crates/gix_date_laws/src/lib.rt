@@ -13,7 +13,7 @@ mod values;
 
 pub use any_zone::{
     days_keep_clock, long_none_later, named_instants, none_later, one_offset, seconds_kept,
-    units_agree, usual_zones, yesterday_kept,
+    units_agree, yesterday_kept,
 };
 pub use careful::{
     careful_is_parsed, careful_never_later, ignores_zone, one_careful_outcome, reads_git,

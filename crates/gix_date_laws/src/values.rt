@@ -77,7 +77,7 @@ pub fn hash()
 
 /// The white space between words is that of the standard library, which is Unicode's White_Space: these characters and
 /// no others.
-#[tactic(auto, using(gix_date::proofs::Text::WhiteSpace::is_whitespace_listed))]
+#[tactic(auto, using(crate::proofs::Letters::WhiteSpace::is_whitespace_listed))]
 pub fn white_space()
     ensures { StdWhiteSpaceIsUnicodes }
 {}

@@ -1,4 +1,42 @@
 //! The calls of rows, each named as in the library.
+//!
+//! A row is a line: a call, its arguments and the answer that is due, cut by tabs. A line that is empty or begins with `#` is none.
+//! The calls, with what each row of them has:
+//!
+//! | Call | Arguments | Answer |
+//! |---|---|---|
+//! | `parse_header` | text | time |
+//! | `is_canonical_header` | text | `yes` or `no` |
+//! | `header_text` | seconds, offset | text |
+//! | `parse` | rule, moment, text | time |
+//! | `parse_carefully` | rule, `utc` or `local`, `careful` or `all`, moment, text | time |
+//! | `parse_date` | moment, text | time |
+//! | `ignored` | moment, text | place of what `parse_date` ignores, or `none` |
+//! | `has_offset` | moment, text | `yes` if the date names an offset, or `no` |
+//! | `approxidate` | moment, text | time, and ` ?` after it if nothing is understood |
+//! | `approximate_ignored` | moment, text | place of what `approxidate` ignores, or `none` |
+//! | `expiry_date` | moment, text | time, `never` or `all` |
+//! | `to_zoned` | seconds, offset | time |
+//! | `now_local` | seconds, nanoseconds, zone | time |
+//! | `date_mode` | name of a mode | the name that the mode shows |
+//! | `show_date` | mode, moment, seconds, offset | text |
+//! | `format` | format, seconds, offset | text |
+//! | `format_by_pattern` | pattern, seconds, offset | text |
+//! | `cut_signature` | line | name, `<`, mail, `>` and time |
+//! | `signature_time` | line | time |
+//! | `write_signature` | name, mail, seconds, offset | line |
+//!
+//! - A refusal is its name after `!`, and its place after a space if it has one: `!Range`, `!Unclear 3`. A text that begins with
+//!   `!` is written `\x21..`.
+//! - A time is its seconds and its offset, cut by a space. A place counts bytes.
+//! - A rule is `quarters`, `minutes`, or `both`, if both answer the same.
+//! - A moment is `none`; or seconds, nanoseconds and a zone, cut by spaces; or `any` in `parse`, if none and five others answer the
+//!   same.
+//! - A zone is an offset in seconds, a POSIX rule, or a TZif file in `data`.
+//! - Escapes are `\t`, `\n`, `\r`, `\\`, `\xff` for a byte and `\u{2028}` for a character.
+//!
+//! A row runs all calls that answer the same, such as `parse_with` and `parse_no_alloc`. Rows that are not UTF-8 are skipped here if
+//! `!NotText` is due. The library for C has no `to_zoned` and no `now_local`, so the readers in C and Python pass over both by name.
 use crate::answer::{Answer, name_of};
 use crate::approximate::{expires, guessed, passed_over};
 use crate::arguments::Arguments;

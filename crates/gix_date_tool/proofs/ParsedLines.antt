@@ -14,10 +14,10 @@ use Rattle.gix_date.specs.declared.error.ParseError.TheVariants as errors
 use Rattle.gix_date.specs.declared.parsing.raw.RawOffsets.TheVariants.{Quarter}
 use Rattle.gix_date.specs.declared.time.Time.{Time}
 use Rattle.gix_date.proofs.Families.Ranges.{outcome-written}
-use Rattle.gix_date_tool.specs.declared.arguments.Mode.{Mode}
-use Rattle.gix_date_tool.specs.declared.arguments.Mode.TheVariants.{Check, Parse, Sign}
-use Rattle.gix_date_tool.specs.declared.replies.Query.{Query}
-use Rattle.gix_date_tool.specs.declared.replies.Reply.TheVariants.{Canonical, Read, NoTime, Parsed}
+use Rattle.gix_date_tool.specs.declared.program.arguments.Mode.{Mode}
+use Rattle.gix_date_tool.specs.declared.program.arguments.Mode.TheVariants.{Check, Parse, Sign}
+use Rattle.gix_date_tool.specs.declared.runs.replies.Query.{Query}
+use Rattle.gix_date_tool.specs.declared.runs.replies.Reply.TheVariants.{Canonical, Read, NoTime, Parsed}
 use Rattle.gix_date_tool.specs.Replies.{IsReply, IsReplyTo, IsTextReply, parse_reply, ParsedLines}
 
 -- where a time has a header text, it is what is written of the time
@@ -35,18 +35,15 @@ text-written t text e = same_some text (written_text t) (sym e ∙ written-is t 
 
 -- a reply of Check is of no parsed time
 no-check : (canonical : Bool) (found : Option Time) (t : Time) → Parsed t ≡ cond canonical Canonical (option_map_or Read found NoTime) → ⊥
-no-check true found t e = absurd cc
 no-check false None t e = absurd cc
-no-check false (Some u) t e = absurd cc
+no-check x found t e = absurd cc
 
 of-result : (text : List ℕ) (now : Option Zoned) (t : Time) (result : Result Time ParseError) → ParseNoAllocOutcome (first_family text) now result
     → Parsed t ≡ parse_reply result → IsSome (header_text t)
 of-result text now t (Ok u) h e =
     let same : u ≡ t = cc in outcome-written Quarter text now t (subst (λ (v : Time). ParseNoAllocOutcome (first_family text) now (Ok v)) same h)
 of-result text now t (Err errors.UnknownFormat) h e = absurd cc
-of-result text now t (Err errors.DateConversion) h e = absurd cc
-of-result text now t (Err errors.MissingNow) h e = absurd cc
-of-result text now t (Err errors.Range) h e = absurd cc
+of-result text now t x h e = absurd cc
 
 of-text : (mode : Mode) (now : Option Zoned) (text : List ℕ) (t : Time) → IsTextReply mode now text (Parsed t) → IsSome (header_text t)
 of-text Check now text t h = absurd (no-check (is_canonical_header text) (header_time text) t h)

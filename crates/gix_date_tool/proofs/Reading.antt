@@ -8,8 +8,8 @@ use Rattle.gix_date.specs.Text.Characters.{newline}
 use Rattle.gix_date.specs.Devices.StreamState.{StreamState, Takes, TakesNothing, Gives, HasEnded}
 use Rattle.gix_date_tool.specs.declared.error.ToolError.{ToolError}
 use Rattle.gix_date_tool.specs.declared.error.ToolError.TheVariants as errors
-use Rattle.gix_date_tool.specs.declared.lines.TheConstants.{MAX_LINES}
-use Rattle.gix_date_tool.specs.declared.replies.Query.{Query}
+use Rattle.gix_date_tool.specs.declared.runs.lines.TheConstants.{MAX_LINES}
+use Rattle.gix_date_tool.specs.declared.runs.replies.Query.{Query}
 use Rattle.gix_date_tool.specs.Lines.{last_line, Part, with_last_line, IsShort, IsWithinLimits}
 use Rattle.gix_date_tool.specs.Replies.{Replied}
 use Rattle.gix_date_tool.specs.Outbox.{all_sent, Sends}
@@ -189,20 +189,13 @@ pub Ran-unwritten : (sink : StreamState) (s : Stage) (query : Query) (reading : 
     → is_unwritten r ≡ true → RanBut sink s query reading r → Ran (IsWritten (change sink s.output.sink)) query reading r
 Ran-unwritten sink s query reading (Err (errors.Write kind)) is h =
     record { input = h.input; part = h.part; lines = h.lines; read = h.read; ends = h.ends; wrote = Replied-map (λ text put. (put.taken, put.fault)) h.wrote }
-Ran-unwritten sink s query reading (Ok count) is h = cc
 Ran-unwritten sink s query reading (Err (errors.Read kind)) is h = cc
-Ran-unwritten sink s query reading (Err errors.Memory) is h = cc
-Ran-unwritten sink s query reading (Err errors.LineTooLong) is h = cc
-Ran-unwritten sink s query reading (Err errors.TooManyLines) is h = cc
+Ran-unwritten sink s query reading x is h = cc
 
 -- the writer took all that was put, unless the run says otherwise
 took_all : (r : Result ℕ ToolError) → is_unwritten r ≡ false → writer_answer r ≡ Ok tt
-took_all (Ok count) not = refl
-took_all (Err (errors.Read kind)) not = refl
 took_all (Err (errors.Write kind)) not = cc
-took_all (Err errors.Memory) not = refl
-took_all (Err errors.LineTooLong) not = refl
-took_all (Err errors.TooManyLines) not = refl
+took_all x not = refl
 
 -- What a run comes to once what was unsent is sent.
 pub Ran-sent : (sink : StreamState) (s s' : Stage) (query : Query) (reading : Change) (r : Result ℕ ToolError)
@@ -224,11 +217,8 @@ Ran-sent sink s s' query reading r not h k =
 due_unwritten : (reader : StreamState) {input : List ℕ} (part : Part input) (lines : List (List ℕ)) (r : Result ℕ ToolError) (kind : ErrorKind) → EndsAt r reader part lines
     → EndsAt (Err (errors.Write kind)) reader part lines
 due_unwritten reader part lines (Ok count) kind h = inr (h.whole, h.all)
-due_unwritten reader part lines (Err (errors.Read first)) kind h = inl h.ended
 due_unwritten reader part lines (Err (errors.Write first)) kind h = h
-due_unwritten reader part lines (Err errors.Memory) kind h = inl h.ended
-due_unwritten reader part lines (Err errors.LineTooLong) kind h = inl h.ended
-due_unwritten reader part lines (Err errors.TooManyLines) kind h = inl h.ended
+due_unwritten reader part lines x kind h = inl h.ended
 
 -- What a run comes to where the writer refuses what was unsent.
 pub Ran-cut : (sink : StreamState) (s s' : Stage) (query : Query) (reading : Change) (r : Result ℕ ToolError) (kind : ErrorKind)

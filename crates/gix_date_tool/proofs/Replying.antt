@@ -5,12 +5,12 @@ use Rattle.jiff.specs.declared.zoned.Zoned.{Zoned}
 use Rattle.gix_date.proofs.Relative.Chains.{one-outcome}
 use Rattle.gix_date.specs.Families.Answer.{FamilyAnswer}
 use Rattle.gix_date.specs.Families.Order.{first_family}
-use Rattle.gix_date_tool.specs.declared.arguments.Mode.{Mode}
-use Rattle.gix_date_tool.specs.declared.arguments.Mode.TheVariants.{Check, Parse, Sign}
-use Rattle.gix_date_tool.specs.declared.replies.Query.{Query}
-use Rattle.gix_date_tool.specs.declared.replies.Reply.{Reply}
+use Rattle.gix_date_tool.specs.declared.program.arguments.Mode.{Mode}
+use Rattle.gix_date_tool.specs.declared.program.arguments.Mode.TheVariants.{Check, Parse, Sign}
+use Rattle.gix_date_tool.specs.declared.runs.replies.Query.{Query}
+use Rattle.gix_date_tool.specs.declared.runs.replies.Reply.{Reply}
 use Rattle.gix_date_tool.specs.Replies.{IsReply, IsReplyTo, IsTextReply, IsParseReply, IsSignReply, parse_reply, RepliesAreUnique}
-use Rattle.gix_date_tool.specs.declared.replies.Reply.TheVariants.{Signed}
+use Rattle.gix_date_tool.specs.declared.runs.replies.Reply.TheVariants.{Signed}
 use Rattle.gix_date_tool.proofs.Signing.{signed-once}
 
 parse-once : (answer : Option FamilyAnswer) (now : Option Zoned) (a b : Reply) → IsParseReply answer now a → IsParseReply answer now b → a ≡ b

@@ -4,10 +4,10 @@ use Rattle.std.specs.Prelude.{OnOk, IsSome, codes}
 use Rattle.std.specs.declared.io.ErrorKind.{ErrorKind}
 use Rattle.gix_date.specs.Text.Characters.{newline}
 use Rattle.gix_date.specs.Devices.StreamState.{Takes, TakesProperPrefix}
-use Rattle.gix_date_tool.specs.declared.arguments.WrongWords.{WrongWords}
+use Rattle.gix_date_tool.specs.declared.program.arguments.WrongWords.{WrongWords}
 use Rattle.gix_date_tool.specs.declared.error.ToolError.{ToolError}
-use Rattle.gix_date_tool.specs.declared.outcome.Outcome.{Outcome}
-use Rattle.gix_date_tool.specs.declared.outcome.Outcome.TheVariants.{Fault, Shown}
+use Rattle.gix_date_tool.specs.declared.program.outcome.Outcome.{Outcome}
+use Rattle.gix_date_tool.specs.declared.program.outcome.Outcome.TheVariants.{Fault, Shown}
 use Rattle.gix_date_tool.specs.Messages.{fault_words, cause_words, wrong_words, message, message_of, WritesMessage, Reports}
 use Rattle.gix_date_tool.specs.Outbox.{Output, Puts, PutsProperPrefix, Sends}
 use Rattle.gix_date_tool.specs.Run.{Change, change, IsWritten}

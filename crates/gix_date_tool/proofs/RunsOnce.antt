@@ -14,15 +14,15 @@ use Rattle.gix_date.specs.Relative.Dates.{RelativeDate, Reaches, IsNamed, Relati
 use Rattle.gix_date.specs.Relative.Steps.{zone_of}
 use Rattle.gix_date.specs.declared.error.ParseError.{ParseError}
 use Rattle.gix_date.specs.declared.time.Time.{Time}
-use Rattle.gix_date_tool.specs.declared.arguments.Mode.{Mode}
-use Rattle.gix_date_tool.specs.declared.arguments.Mode.TheVariants.{Check, Parse, Sign}
-use Rattle.gix_date_tool.specs.declared.arguments.WrongWords.{WrongWords}
-use Rattle.gix_date_tool.specs.declared.outcome.Outcome.{Outcome}
-use Rattle.gix_date_tool.specs.declared.outcome.Outcome.TheVariants.{Replied, Fault, Printed, Shown}
+use Rattle.gix_date_tool.specs.declared.program.arguments.Mode.{Mode}
+use Rattle.gix_date_tool.specs.declared.program.arguments.Mode.TheVariants.{Check, Parse, Sign}
+use Rattle.gix_date_tool.specs.declared.program.arguments.WrongWords.{WrongWords}
+use Rattle.gix_date_tool.specs.declared.program.outcome.Outcome.{Outcome}
+use Rattle.gix_date_tool.specs.declared.program.outcome.Outcome.TheVariants.{Replied, Fault, Printed, Shown}
 use Rattle.gix_date_tool.specs.declared.program.Status.{Status}
 use Rattle.gix_date_tool.specs.declared.program.Status.TheVariants.{Success, Failure, Usage}
-use Rattle.gix_date_tool.specs.declared.replies.Query.{Query}
-use Rattle.gix_date_tool.specs.declared.replies.Reply.{Reply}
+use Rattle.gix_date_tool.specs.declared.runs.replies.Query.{Query}
+use Rattle.gix_date_tool.specs.declared.runs.replies.Reply.{Reply}
 use Rattle.gix_date_tool.specs.Command.{asked}
 use Rattle.gix_date_tool.specs.Laws.{Begun, EndsWell, RunsAreUnique, Had, StatusesAreUnique}
 use Rattle.gix_date_tool.specs.Lines.{Splits, Part, last_line}

@@ -10,9 +10,9 @@ use Rattle.std.specs.declared.io.ErrorKind.{ErrorKind}
 use Rattle.gix_date.specs.Text.Characters.{newline}
 use Rattle.gix_date_tool.specs.declared.error.ToolError.{ToolError}
 use Rattle.gix_date_tool.specs.declared.error.ToolError.TheVariants as errors
-use Rattle.gix_date_tool.specs.declared.lines.TheConstants.{MAX_LINE_LEN, MAX_LINES}
-use Rattle.gix_date_tool.specs.declared.replies.Query.{Query}
-use Rattle.gix_date_tool.specs.declared.replies.Reply.{Reply}
+use Rattle.gix_date_tool.specs.declared.runs.lines.TheConstants.{MAX_LINE_LEN, MAX_LINES}
+use Rattle.gix_date_tool.specs.declared.runs.replies.Query.{Query}
+use Rattle.gix_date_tool.specs.declared.runs.replies.Reply.{Reply}
 use Rattle.gix_date_tool.specs.Lines.{IsLine, LineGoesOn, Part, with_newline, IsShort}
 use Rattle.gix_date_tool.specs.Replies.{Replied, AreReplies, IsReply, reply_line, reply_lines}
 use Rattle.gix_date_tool.specs.Outbox.{Output, Puts, Sends}

@@ -8,10 +8,10 @@ use Rattle.gix_signature.specs.Signature.{Parts, line_of}
 use Rattle.gix_signature.specs.declared.error.SignatureError.{SignatureError}
 use Rattle.gix_signature.specs.declared.error.SignatureError.TheVariants.{OffsetTooWide}
 use Rattle.gix_signature.proofs.Cuts.{the-cut}
-use Rattle.gix_date_tool.specs.declared.arguments.Mode.TheVariants.{Sign}
-use Rattle.gix_date_tool.specs.declared.replies.Query.{Query}
-use Rattle.gix_date_tool.specs.declared.replies.Reply.{Reply}
-use Rattle.gix_date_tool.specs.declared.replies.Reply.TheVariants.{NotText, Signed, NoSignature}
+use Rattle.gix_date_tool.specs.declared.program.arguments.Mode.TheVariants.{Sign}
+use Rattle.gix_date_tool.specs.declared.runs.replies.Query.{Query}
+use Rattle.gix_date_tool.specs.declared.runs.replies.Reply.{Reply}
+use Rattle.gix_date_tool.specs.declared.runs.replies.Reply.TheVariants.{NotText, Signed, NoSignature}
 use Rattle.gix_date_tool.specs.Replies.{IsReply, IsReplyTo, IsSignReply, UnchangedLines}
 use Rattle.gix_date_tool.specs.Signed.{IsSigned, IsCanonicalLine}
 use Rattle.gix_date_tool.proofs.Signing.{due-of, same-line}

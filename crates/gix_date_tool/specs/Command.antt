@@ -2,29 +2,25 @@
 use Rattle.std.specs.Prelude.{◌≡◌, ℕ, List, [], ◌∷◌, Option, Some, None, Result, Ok, Err, if◌then◌else◌, codes}
 use Rattle.std.specs.Option.{ForSome}
 use Rattle.std.specs.Result.{result_ok}
-use Rattle.std.specs.Str.{bytes_eq}
 use Rattle.gix_date.specs.Families.Answer.{FamilyAnswer, Absolute, OffsetAboveDay, NoInstant}
 use Rattle.gix_date.specs.Families.Answer as answers
 use Rattle.gix_date.specs.Families.Order.{first_family, first_family_by}
 use Rattle.gix_date.specs.Families.Raw.{is_minute_offset}
 use Rattle.gix_date.specs.Fields.Zoned.{is_convertible, IsConvertible}
 use Rattle.gix_date.specs.declared.time.Time.{Time}
-use Rattle.gix_date_tool.specs.declared.arguments.Mode.{Mode}
-use Rattle.gix_date_tool.specs.declared.arguments.NoMoment.{NoMoment}
-use Rattle.gix_date_tool.specs.declared.arguments.NoMoment.TheVariants.{UnknownFormat, RawOffset, DateConversion, Relative, Conversion}
-use Rattle.gix_date_tool.specs.declared.arguments.WrongWords.{WrongWords}
-use Rattle.gix_date_tool.specs.declared.arguments.WrongWords.TheVariants.{NoMode, UnknownMode, NowWithoutParse, AfterNow, NoMoment as NoMomentIn}
-use Rattle.gix_date_tool.specs.declared.arguments.Request.{Request}
-use Rattle.gix_date_tool.specs.declared.arguments.Request.TheVariants.{Run, Usage}
-use Rattle.gix_date_tool.specs.declared.arguments.Mode.TheVariants.{Check, Parse, Sign}
+use Rattle.gix_date_tool.specs.Names.{named_in}
+use Rattle.gix_date_tool.specs.declared.program.arguments.Mode.{Mode}
+use Rattle.gix_date_tool.specs.declared.program.arguments.NoMoment.{NoMoment}
+use Rattle.gix_date_tool.specs.declared.program.arguments.NoMoment.TheVariants.{UnknownFormat, RawOffset, DateConversion, Relative, Conversion}
+use Rattle.gix_date_tool.specs.declared.program.arguments.WrongWords.{WrongWords}
+use Rattle.gix_date_tool.specs.declared.program.arguments.WrongWords.TheVariants.{NoMode, UnknownMode, NowWithoutParse, AfterNow, NoMoment as NoMomentIn}
+use Rattle.gix_date_tool.specs.declared.program.arguments.Request.{Request}
+use Rattle.gix_date_tool.specs.declared.program.arguments.Request.TheVariants.{Run, Usage}
+use Rattle.gix_date_tool.specs.declared.program.arguments.Mode.TheVariants.{Check, Parse, Sign}
 
 -- the word `check` asks for Check, `parse` for Parse and `sign` for Sign, without a moment
 abbrev pub mode_of : List ℕ → Option Mode
-mode_of word =
-    if bytes_eq word (codes "check") then Some Check
-    else if bytes_eq word (codes "parse") then Some Parse
-    else if bytes_eq word (codes "sign") then Some Sign
-    else None
+mode_of = named_in ((codes "check", Check) ∷ (codes "parse", Parse) ∷ (codes "sign", Sign) ∷ [])
 
 -- Why a text that is not read is no moment. By the rule of whole minutes it would be a time, or not.
 abbrev pub why_unread : Option FamilyAnswer → NoMoment

@@ -1,7 +1,7 @@
 -- What a run and a command come to at most.
 use Rattle.std.specs.Prelude.{◌≡◌, ◌≢◌, ℕ, List, Option, Some, Ok}
 use Rattle.gix_date.specs.declared.time.Time.{Time}
-use Rattle.gix_date_tool.specs.declared.arguments.Mode.{Mode}
+use Rattle.gix_date_tool.specs.declared.program.arguments.Mode.{Mode}
 use Rattle.gix_date_tool.specs.declared.program.Status.{Status}
 use Rattle.gix_date_tool.specs.declared.program.Status.TheVariants.{Failure}
 use Rattle.gix_date_tool.specs.Program.{Executes}

@@ -3,6 +3,7 @@ pub mod Replies
 pub mod Outbox
 pub mod Progress
 pub mod Run
+pub mod Names
 pub mod Command
 pub mod Kinds
 pub mod Messages

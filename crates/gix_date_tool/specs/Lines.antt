@@ -2,7 +2,7 @@
 use Rattle.std.specs.Prelude.{◌≡◌, ◌≢◌, ℕ, ◌≤◌, List, [], ◌∷◌, ◌++◌, length, All}
 use Rattle.std.specs.List.{flat_map}
 use Rattle.gix_date.specs.Text.Characters.{newline}
-use Rattle.gix_date_tool.specs.declared.lines.TheConstants.{MAX_LINE_LEN, MAX_LINES}
+use Rattle.gix_date_tool.specs.declared.runs.lines.TheConstants.{MAX_LINE_LEN, MAX_LINES}
 
 -- no newline
 abbrev pub IsLine : List ℕ → Type 0

@@ -2,14 +2,14 @@
 use Rattle.std.specs.Prelude.{◌≡◌, ◌⊎◌, ℕ, List, [], ◌∷◌, ◌++◌, Option, None, Some, IsSome, codes}
 use Rattle.gix_date.specs.Text.Characters.{newline}
 use Rattle.gix_date.specs.Devices.StreamState.{Takes, TakesProperPrefix}
-use Rattle.gix_date_tool.specs.declared.arguments.NoMoment.{NoMoment}
-use Rattle.gix_date_tool.specs.declared.arguments.NoMoment.TheVariants.{UnknownFormat, RawOffset, DateConversion, Relative, Conversion}
-use Rattle.gix_date_tool.specs.declared.arguments.WrongWords.{WrongWords}
-use Rattle.gix_date_tool.specs.declared.arguments.WrongWords.TheVariants as wrong
+use Rattle.gix_date_tool.specs.declared.program.arguments.NoMoment.{NoMoment}
+use Rattle.gix_date_tool.specs.declared.program.arguments.NoMoment.TheVariants.{UnknownFormat, RawOffset, DateConversion, Relative, Conversion}
+use Rattle.gix_date_tool.specs.declared.program.arguments.WrongWords.{WrongWords}
+use Rattle.gix_date_tool.specs.declared.program.arguments.WrongWords.TheVariants as wrong
 use Rattle.gix_date_tool.specs.declared.error.ToolError.{ToolError}
 use Rattle.gix_date_tool.specs.declared.error.ToolError.TheVariants as errors
-use Rattle.gix_date_tool.specs.declared.outcome.Outcome.{Outcome}
-use Rattle.gix_date_tool.specs.declared.outcome.Outcome.TheVariants.{Fault, Shown}
+use Rattle.gix_date_tool.specs.declared.program.outcome.Outcome.{Outcome}
+use Rattle.gix_date_tool.specs.declared.program.outcome.Outcome.TheVariants.{Fault, Shown}
 use Rattle.gix_date_tool.specs.Kinds.{kind_words}
 use Rattle.gix_date_tool.specs.Run.{Change}
 

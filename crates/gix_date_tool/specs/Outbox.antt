@@ -4,7 +4,7 @@ use Rattle.std.specs.Borrow.{Bor}
 use Rattle.std.specs.List.{flat_map}
 use Rattle.std.specs.declared.io.ErrorKind.{ErrorKind}
 use Rattle.gix_date.specs.Devices.StreamState.{StreamState, Takes, TakesProperPrefix}
-use Rattle.gix_date_tool.specs.declared.outbox.Outbox.{Outbox}
+use Rattle.gix_date_tool.specs.declared.runs.outbox.Outbox.{Outbox}
 
 -- what is known of a sink, and what waits to be sent to it
 pub record Output : Type 0 where

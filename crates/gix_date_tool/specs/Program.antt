@@ -3,13 +3,13 @@ use Rattle.std.specs.Prelude.{◌≡◌, ℕ, List, [], ◌∷◌, Option, Some,
 use Rattle.std.specs.Str.{bytes_eq}
 use Rattle.gix_date.specs.Devices.StreamState.{Takes, TakesProperPrefix}
 use Rattle.gix_date.specs.declared.time.Time.{Time}
-use Rattle.gix_date_tool.specs.declared.arguments.Mode.{Mode}
-use Rattle.gix_date_tool.specs.declared.arguments.WrongWords.{WrongWords}
-use Rattle.gix_date_tool.specs.declared.arguments.WrongWords.TheVariants.{NotText}
+use Rattle.gix_date_tool.specs.declared.program.arguments.Mode.{Mode}
+use Rattle.gix_date_tool.specs.declared.program.arguments.WrongWords.{WrongWords}
+use Rattle.gix_date_tool.specs.declared.program.arguments.WrongWords.TheVariants.{NotText}
 use Rattle.gix_date_tool.specs.declared.error.ToolError.TheVariants as errors
-use Rattle.gix_date_tool.specs.declared.outcome.Outcome.{Outcome}
-use Rattle.gix_date_tool.specs.declared.outcome.Outcome.TheVariants.{Replied, Fault, Printed, Shown}
-use Rattle.gix_date_tool.specs.declared.help.TheConstants.{HELP, VERSION}
+use Rattle.gix_date_tool.specs.declared.program.outcome.Outcome.{Outcome}
+use Rattle.gix_date_tool.specs.declared.program.outcome.Outcome.TheVariants.{Replied, Fault, Printed, Shown}
+use Rattle.gix_date_tool.specs.declared.program.help.TheConstants.{HELP, VERSION}
 use Rattle.gix_date_tool.specs.declared.program.Status.{Status}
 use Rattle.gix_date_tool.specs.declared.program.Status.TheVariants.{Success, Failure, Usage}
 use Rattle.gix_date_tool.specs.declared.program.TheConstants.{USAGE}

@@ -4,9 +4,9 @@ use Rattle.std.specs.declared.io.ErrorKind.{ErrorKind}
 use Rattle.gix_date.specs.Devices.StreamState.{StreamState}
 use Rattle.gix_date_tool.specs.declared.error.ToolError.{ToolError}
 use Rattle.gix_date_tool.specs.declared.error.ToolError.TheVariants as errors
-use Rattle.gix_date_tool.specs.declared.lines.TheConstants.{MAX_LINES}
-use Rattle.gix_date_tool.specs.declared.progress.Progress.{Progress}
-use Rattle.gix_date_tool.specs.declared.replies.Query.{Query}
+use Rattle.gix_date_tool.specs.declared.runs.lines.TheConstants.{MAX_LINES}
+use Rattle.gix_date_tool.specs.declared.runs.progress.Progress.{Progress}
+use Rattle.gix_date_tool.specs.declared.runs.replies.Query.{Query}
 use Rattle.gix_date_tool.specs.Lines.{IsLine, Part, IsShort, last_line}
 use Rattle.gix_date_tool.specs.Replies.{Replied}
 use Rattle.gix_date_tool.specs.Outbox.{Output, output, all_sent, Sends}

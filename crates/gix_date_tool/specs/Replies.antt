@@ -14,11 +14,11 @@ use Rattle.gix_date.specs.Families.Answer.{FamilyAnswer}
 use Rattle.gix_date.specs.Families.Order.{first_family, ParseNoAllocOutcome}
 use Rattle.gix_date.specs.declared.error.ParseError.{ParseError}
 use Rattle.gix_date.specs.declared.error.ParseError.TheVariants as errors
-use Rattle.gix_date_tool.specs.declared.arguments.Mode.{Mode}
-use Rattle.gix_date_tool.specs.declared.arguments.Mode.TheVariants.{Check, Parse, Sign}
-use Rattle.gix_date_tool.specs.declared.replies.Query.{Query}
-use Rattle.gix_date_tool.specs.declared.replies.Reply.{Reply}
-use Rattle.gix_date_tool.specs.declared.replies.Reply.TheVariants.{NotText, NoTime, Canonical, Read, Parsed, UnknownFormat, DateConversion, MissingMoment, OutOfRange, Signed, NoSignature}
+use Rattle.gix_date_tool.specs.declared.program.arguments.Mode.{Mode}
+use Rattle.gix_date_tool.specs.declared.program.arguments.Mode.TheVariants.{Check, Parse, Sign}
+use Rattle.gix_date_tool.specs.declared.runs.replies.Query.{Query}
+use Rattle.gix_date_tool.specs.declared.runs.replies.Reply.{Reply}
+use Rattle.gix_date_tool.specs.declared.runs.replies.Reply.TheVariants.{NotText, NoTime, Canonical, Read, Parsed, UnknownFormat, DateConversion, MissingMoment, OutOfRange, Signed, NoSignature}
 use Rattle.gix_date_tool.specs.Lines.{with_newline}
 use Rattle.gix_date_tool.specs.Signed.{IsSigned, IsUnsigned, IsCanonicalLine}
 

@@ -5,11 +5,11 @@ use Rattle.gix_date.specs.Devices.StreamState.{StreamState, Takes, TakesProperPr
 use Rattle.gix_date.specs.Fields.Zoned.{IsMoment}
 use Rattle.gix_date.specs.declared.time.Time.{Time}
 use Rattle.jiff.specs.declared.zoned.Zoned.{Zoned}
-use Rattle.gix_date_tool.specs.declared.arguments.Mode.{Mode}
+use Rattle.gix_date_tool.specs.declared.program.arguments.Mode.{Mode}
 use Rattle.gix_date_tool.specs.declared.error.ToolError.{ToolError}
 use Rattle.gix_date_tool.specs.declared.error.ToolError.TheVariants as errors
-use Rattle.gix_date_tool.specs.declared.lines.TheConstants.{MAX_LINE_LEN, MAX_LINES}
-use Rattle.gix_date_tool.specs.declared.replies.Query.{Query}
+use Rattle.gix_date_tool.specs.declared.runs.lines.TheConstants.{MAX_LINE_LEN, MAX_LINES}
+use Rattle.gix_date_tool.specs.declared.runs.replies.Query.{Query}
 use Rattle.gix_date_tool.specs.Lines.{Part, with_last_line, LineGoesOn, IsShort, IsWithinLimits}
 use Rattle.gix_date_tool.specs.Replies.{Replied}
 

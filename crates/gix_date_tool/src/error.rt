@@ -2,7 +2,7 @@
 ghost use Rattle.std.specs.Prelude.{◌≡◌};
 ghost use Rattle.gix_date_tool.specs.Messages.{fault_words, cause_words};
 
-use crate::kinds::kind_text;
+use crate::program::kinds::kind_text;
 use std::io;
 use thiserror::Error;
 

@@ -2,11 +2,11 @@
 ghost use Rattle.std.specs.Prelude.{◌≡◌, ◌↔◌, ◌++◌, ◌∷◌, [], IsTrue, codes};
 ghost use Rattle.gix_date.specs.Text.Characters.{newline};
 ghost use Rattle.gix_date_tool.specs.Laws.{RunsAreUnique, StatusesAreUnique};
-ghost use Rattle.gix_date_tool.specs.declared.lines.TheConstants.{MAX_LINE_LEN, MAX_LINES};
+ghost use Rattle.gix_date_tool.specs.declared.runs.lines.TheConstants.{MAX_LINE_LEN, MAX_LINES};
 ghost use Rattle.gix_date_tool.specs.declared.program.TheConstants.{USAGE};
 
-use crate::arguments::Mode;
 use crate::program::Status;
+use crate::program::arguments::Mode;
 
 /// The limits are the numbers that the texts of the faults name, and the usage line is this text.
 pub fn limits()

@@ -4,11 +4,18 @@ ghost use Rattle.gix_date_tool.specs.Run.{change};
 ghost use Rattle.gix_date_tool.specs.Command.{asked};
 ghost use Rattle.gix_date_tool.specs.Program.{code_of, status_of, EndsInUsage, EndsCommand, Ends, Prints, ShowsUsage, Executes};
 
-use crate::arguments::{Request, WrongWords, read_words};
+pub(crate) mod arguments;
+mod help;
+pub(crate) mod kinds;
+pub(crate) mod messages;
+pub(crate) mod names;
+mod outcome;
+
 use crate::error::ToolError;
-use crate::help::text_asked;
-use crate::messages::report;
-use crate::outcome::Outcome;
+use crate::program::arguments::{Request, WrongWords, read_words};
+use crate::program::help::text_asked;
+use crate::program::messages::report;
+use crate::program::outcome::Outcome;
 use crate::runs::run;
 use gix_date::device::{Sink, Source, put_all};
 use std::alloc::Global;

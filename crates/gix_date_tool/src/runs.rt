@@ -4,10 +4,17 @@ ghost use Rattle.std.specs.Option.{ForSome};
 ghost use Rattle.gix_date.specs.Fields.Zoned.{IsConvertible};
 ghost use Rattle.gix_date_tool.specs.Run.{Runs, change, IsMomentOf, is_unwritten};
 
-use crate::arguments::Mode;
+pub(crate) mod at_once;
+pub(crate) mod lines;
+pub(crate) mod outbox;
+mod progress;
+pub(crate) mod replies;
+mod signed;
+
 use crate::error::ToolError;
-use crate::progress::Progress;
-use crate::replies::Query;
+use crate::program::arguments::Mode;
+use crate::runs::progress::Progress;
+use crate::runs::replies::Query;
 use gix_date::device::{Sink, Source};
 use gix_date::{Time, Zoned};
 use std::alloc::Global;

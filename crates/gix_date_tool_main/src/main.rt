@@ -2,10 +2,9 @@
 #![tactic(auto)]
 
 use gix_date::device::Device;
-use gix_date_tool::{Status, execute, show_usage};
+use gix_date_tool::{Status, execute, show_usage, words};
 use std::alloc::AllocError;
 use std::process::ExitCode;
-use std::{env, io};
 
 fn main(rt: HostRuntime) -> ExitCode {
     let mut reader = Device::new(rt.stdin());
@@ -24,13 +23,4 @@ fn main(rt: HostRuntime) -> ExitCode {
         Err(AllocError) => Status::Failure,
     };
     ExitCode::from(status.code())
-}
-
-/// The words of the command line, without the program's name. `None` where one is no text.
-fn words(rt: &HostRuntime) -> Result<Option<Vec<String>>, AllocError> {
-    match env::args(rt) {
-        Ok(words) => Ok(Some(words.skip(1).collect(rt.alloc())?)),
-        Err(e) if e.kind() == io::ErrorKind::OutOfMemory => Err(AllocError),
-        Err(_) => Ok(None),
-    }
 }

@@ -3,7 +3,7 @@ use Rattle.std.proofs.Common.{◌≡◌, ◌∙◌, ◌≤◌, ◌<◌, ◌+◌,
 use Rattle.std.specs.Char.{is_ascii_digit}
 use Rattle.std.specs.List.{fold, list_all}
 use Rattle.std.specs.Prelude.{nat_lt}
-use Rattle.std.proofs.lemmas.Bool.{and_parts, and_from as join}
+use Rattle.std.proofs.lemmas.Bool.{and_from as join}
 use Rattle.std.proofs.lemmas.List.{take_all}
 use Rattle.std.proofs.lemmas.Bool.Decides.{nat_tests}
 use Rattle.jiff_core.proofs.SignedLemmas.{signed_arith}
@@ -22,26 +22,17 @@ use Rattle.git_date.specs.Rules.Fields.{unknown}
 use Rattle.git_date.specs.Tokens.Numbers.{digit_more, number}
 use Rattle.git_date.specs.Rules.Offsets.{at_text, padded_number, white, without_white}
 use Rattle.git_date.specs.Exact.Reading.{ended, steps, at_said, by_seconds, fields_said, string_said, at_or_fields}
-use Rattle.git_date.specs.Tokens.Tokens.{Token, Digits, Mark, digit_before, tokens}
+use Rattle.git_date.specs.Tokens.Tokens.{Token, Digits, Mark, tokens}
 use Rattle.git_date.specs.Rules.Words.{without_ending}
-use Rattle.git_date.specs.declared.dates.Now.{Now}
+use Rattle.git_date.specs.declared.fields.dates.Now.{Now}
 use Rattle.git_date.specs.declared.fields.Fields.{Fields}
 use Rattle.git_date.specs.declared.reader.Said.{Said}
 use Rattle.git_date.proofs.Rules.ClocksBack.{shown_of, clock-is, known-month}
 use Rattle.git_date.proofs.Exact.FastTexts.{t, git-clock, minutes-are}
-use Rattle.git_date.proofs.Exact.PrintedClocks.{IsGitClock, at, go, skip-space, go-offset, offset_tokens, spaced-offset, offset_in_minutes, hours_of, is_behind, minutes_of as minutes_in}
+use Rattle.git_date.proofs.Exact.PrintedClocks.{IsGitClock, pairs-number, run-before, at, go, skip-space, go-offset, offset_tokens, spaced-offset, offset_in_minutes, hours_of, is_behind, minutes_of as minutes_in}
 use Rattle.git_date.proofs.Exact.PrintedReads.{reads-are, sign-free}
 use Rattle.git_date.proofs.Text.StringEnds.{has_nul, no-nul, whole-said}
-use Rattle.git_date.proofs.Text.TokenRuns.{digit-first, mark-first}
-
--- digits before a mark are one token
-pub run-before : (run rest : List ℕ) (byte : ℕ) (more : List Token) → 1 ≤ length run → list_all is_ascii_digit run ≡ true → tokens rest ≡ Mark byte ∷ more
-    → tokens (run ++ rest) ≡ Digits run ∷ Mark byte ∷ more
-run-before [] rest byte more some h e = absurd (omega (arith, some))
-run-before (c ∷ []) rest byte more some h e = digit-first c rest (and_parts (is_ascii_digit c) true h).0 ∙ ap (digit_before c) e
-run-before (c ∷ d ∷ run) rest byte more some h e =
-    let both = and_parts (is_ascii_digit c) (list_all is_ascii_digit (d ∷ run)) h in
-    digit-first c ((d ∷ run) ++ rest) both.0 ∙ ap (digit_before c) (run-before (d ∷ run) rest byte more (omega arith) both.1 e)
+use Rattle.git_date.proofs.Text.TokenRuns.{mark-first}
 
 -- two digits more
 pair-read : (v n tens ones : ℕ) (rest : List ℕ) → n ≤ 99 → two_digits n ≡ tens ∷ ones ∷ [] → fold digit_more v (tens ∷ ones ∷ rest) ≡ fold digit_more (100 * v + n) rest
@@ -88,10 +79,6 @@ ten-digits text p q r s u low high v w x y z = absurd (omega (arith, low, high))
 abbrev pub sign_byte : Bool → ℕ
 sign_byte behind = cond behind minus plus
 
-pub number-pairs : (a b : ℕ) → a < 100 → b < 100 → number (two_digits a ++ two_digits b) ≡ 100 * a + b
-unfolding number
-number-pairs a b h g = omega arith
-
 abbrev pub minutes_of : Bool → ℕ → ℕ → ℤ
 minutes_of behind a b = cond behind (neg_ℤ (pos (60 * a + b))) (pos (60 * a + b))
 
@@ -107,11 +94,11 @@ unfolding at_text padded_number white without_white
 at-is run a b true h g =
     let hundreds : (100 * a + b) / 100 ≡ a = omega arith in
     let ones : (100 * a + b) % 100 ≡ b = omega arith in
-    rw (number-pairs a b h g, small (100 * a + b) (omega arith), hundreds, ones) refl
+    rw ((pairs-number a b h g).is, small (100 * a + b) (omega arith), hundreds, ones) refl
 at-is run a b false h g =
     let hundreds : (100 * a + b) / 100 ≡ a = omega arith in
     let ones : (100 * a + b) % 100 ≡ b = omega arith in
-    rw (number-pairs a b h g, small (100 * a + b) (omega arith), hundreds, ones) refl
+    rw ((pairs-number a b h g).is, small (100 * a + b) (omega arith), hundreds, ones) refl
 
 abbrev pub said_at : ℕ → ℤ → Said
 said_at n minutes = record { seconds = pos n; offset = Some minutes; epoch = true; ignored = None }
@@ -176,7 +163,7 @@ module _ (seconds offset_is : List ℕ) (n : ℕ) (offset : ℤ) (s : WritesSeco
   run-are : (run : List ℕ) → list_all is_ascii_digit run ≡ true → 1 ≤ number run → tokens (run ++ (space ∷ offset_is)) ≡ Digits run ∷ Mark space ∷ offset_tokens l
   unfolding number
   run-are [] digits h = absurd (omega (arith, h))
-  run-are (c ∷ run) digits h = run-before (c ∷ run) (space ∷ offset_is) space (offset_tokens l) (omega arith) digits spaced
+  run-are (c ∷ run) digits h = run-before (c ∷ run) (space ∷ offset_is) (Mark space ∷ offset_tokens l) (omega arith) digits spaced tt
 
   tokens-are : tokens (seconds ++ (space ∷ offset_is)) ≡ Digits seconds ∷ Mark space ∷ offset_tokens l
   tokens-are = let first = s.first in let is = s.is in run-are seconds s.digits (omega (arith, first, is))

@@ -1,5 +1,5 @@
 -- Dates as Git prints them say the fields that are written there.
-use Rattle.std.proofs.Common.{◌≡◌, ◌∙◌, ◌<◌, append_assoc, ℕ, ℤ, pos, ◌*ℤ◌, List, ◌∷◌, ◌++◌, ap, ap₂, sym, subst, arith, inl, inr, Ok}
+use Rattle.std.proofs.Common.{◌≡◌, ◌∙◌, ◌<◌, append_assoc, ℕ, ℤ, pos, ◌*ℤ◌, List, ◌∷◌, ◌++◌, ap, ap₂, sym, subst, arith, inl, inr, Ok, None, take, drop, take-append-drop}
 use Rattle.jiff_core.proofs.SignedLemmas.{signed_arith}
 use Rattle.gix_date.specs.Fields.DateOffsets.{strict_offset_text}
 use Rattle.gix_date.specs.Fields.FieldTexts.{four_digits, clock_text}
@@ -9,7 +9,8 @@ use Rattle.gix_date.specs.Text.Characters.{space, comma, letter_t}
 use Rattle.gix_date.specs.Text.Names.{day_name, month_name}
 use Rattle.git_date.specs.Exact.Fast.{IsGitDate, WritesDate, WritesDay, WritesMailDate, WritesMailDay, WritesNamedDay, WritesClock, WritesOffset, WritesTime, WritesStrictTime, WritesYearTime, fields_in, SaysFields}
 use Rattle.git_date.specs.Exact.Reading.{fields_said, said_by}
-use Rattle.git_date.specs.declared.dates.Now.{Now}
+use Rattle.git_date.specs.declared.fields.Fields.{Fields}
+use Rattle.git_date.specs.declared.fields.dates.Now.{Now}
 use Rattle.git_date.proofs.Exact.PrintedClocks.{IsGitClock, IsDayText, date-mark, two-day, bare-day, at, fields_of, signed, offset_in_minutes}
 use Rattle.git_date.proofs.Exact.PrintedReads.{minutes-back, iso-reads, strict-reads, mail-reads, default-reads}
 
@@ -50,6 +51,13 @@ module _ (weekday : ℕ) (date clock : ℕ × ℕ × ℕ) (offset : ℤ) (clock_
   says text shown reads same now =
       subst (λ (text : List ℕ). said_by now text ≡ fields_said text (Ok (at (fields_in date clock offset)))) same
       (reads now ∙ ap (λ (m : ℤ). fields_said shown (Ok (at (fields_in date clock m)))) minutes-are)
+
+-- the two parts of a text, and the fields that are made of them
+pub joined : (text front back : List ℕ) (n : ℕ) → front ≡ take n text → back ≡ drop n text → front ++ back ≡ text
+joined text front back n f b = ap₂ (λ (x y : List ℕ). x ++ y) f b ∙ take-append-drop n text
+
+pub made-says : (text : List ℕ) (f made : Fields) → made ≡ f → SaysFields text f → SaysFields text made
+made-says text f made is says now = says now ∙ sym (ap (λ (f : Fields). fields_said text (Ok (record { fields = f; ignored = None }))) is)
 
 -- a day, as it is written
 is-day : (text : List ℕ) (n : ℕ) → WritesDay text n → IsDayText n text

@@ -18,13 +18,13 @@ use Rattle.git_date.specs.Rules.Groups.{ReadTokens, marked_number, is_group_mark
 use Rattle.git_date.specs.Tokens.Numbers.{number}
 use Rattle.git_date.specs.Exact.Reading.{nothing_read, reading_of, fields_said}
 use Rattle.git_date.specs.Tokens.Tokens.{Token, Letters, Digits, Mark, letter_before, digit_before, tokens, bytes_left}
-use Rattle.git_date.specs.declared.dates.Dated.{Dated}
-use Rattle.git_date.specs.declared.dates.Dated.TheVariants as dated
-use Rattle.git_date.specs.declared.dates.Now.{Now}
+use Rattle.git_date.specs.declared.fields.dates.Dated.{Dated}
+use Rattle.git_date.specs.declared.fields.dates.Dated.TheVariants as dated
+use Rattle.git_date.specs.declared.fields.dates.Now.{Now}
 use Rattle.git_date.specs.declared.error.DateError.TheVariants.{Unreadable}
 use Rattle.git_date.specs.declared.fields.Fields.{Fields}
-use Rattle.git_date.specs.declared.groups.Group.{Group}
-use Rattle.git_date.specs.declared.groups.Number.{Number}
+use Rattle.git_date.specs.declared.fields.groups.Group.{Group}
+use Rattle.git_date.specs.declared.fields.groups.Number.{Number}
 use Rattle.git_date.proofs.Rules.Kept.{either}
 use Rattle.git_date.proofs.Exact.NoSeconds.{AreAll, Keeps, Quiet, not-large, no-seconds}
 
@@ -94,13 +94,8 @@ IsReadSmall (Some found) = IsGroupSmall found.0
 
 marked-small : (ts : List Token) → AreAll Tame ts → IsMarkedSmall (marked_number ts)
 unfolding marked_number
-marked-small [] q = tt
-marked-small (Letters run ∷ more) q = tt
-marked-small (Digits run ∷ more) q = tt
-marked-small (Mark byte ∷ []) q = tt
-marked-small (Mark byte ∷ Letters run ∷ more) q = tt
-marked-small (Mark byte ∷ Mark other ∷ more) q = tt
 marked-small (Mark byte ∷ Digits run ∷ more) q = (q.0, q.1.0.1, q.1.1)
+marked-small ts q = tt
 
 third-small : (mark first : ℕ) (second : Number) (more : List Token) (found : ReadTokens (ℕ × Number)) → (mark == colon) ≡ false → first ≤ 99 → second.value ≤ 99 → IsMarkedSmall found
     → IsReadSmall (Some (third_or_none mark first second more found))

@@ -16,11 +16,11 @@ use Rattle.git_date.specs.Rules.Offsets.{without_white, white, padded_after, pad
 use Rattle.git_date.specs.Exact.Reading.{read_on, and_then, ended, sign_rule, rule, steps, fields_said, by_seconds}
 use Rattle.git_date.specs.Tokens.Tokens.{Token, Letters, Digits, Mark, bytes_left, is_end, walked}
 use Rattle.git_date.specs.Rules.Words.{afternoon, morning, with_zone, is_filler, half_or_filler, zone_or_half, month_or_other, with_word, letters_rule}
-use Rattle.git_date.specs.declared.dates.Now.{Now}
+use Rattle.git_date.specs.declared.fields.dates.Now.{Now}
 use Rattle.git_date.specs.declared.error.DateError.TheVariants.{Unreadable}
 use Rattle.git_date.specs.declared.fault.Fault.{Fault}
 use Rattle.git_date.specs.declared.fields.Fields.{Fields}
-use Rattle.git_date.specs.declared.offsets.Padded.{Padded}
+use Rattle.git_date.specs.declared.fields.offsets.Padded.{Padded}
 use Rattle.git_date.specs.declared.reader.Reading.{Reading}
 use Rattle.git_date.proofs.Rules.Kept.{IsKept, Leaves, either, rule-left, white-left}
 
@@ -73,11 +73,8 @@ minutes-fine hours ts (Some found) h = rw (not-large found.0.value h) tt
 
 -- no seconds without a year and a minute
 pub unsaid : (y m h n : Option ℕ) (k : ℕ → ℕ → ℕ → ℕ → Option ℤ) → (is_none n || is_none y) ≡ true → (y >>= λ a. m >>= λ b. h >>= λ c. n >>= λ d. k a b c d) ≡ None
-unsaid None m h n k e = refl
-unsaid (Some a) None h n k e = refl
-unsaid (Some a) (Some b) None n k e = refl
-unsaid (Some a) (Some b) (Some c) None k e = refl
 unsaid (Some a) (Some b) (Some c) (Some d) k e = absurd cc
+unsaid x m h n k e = refl
 
 module _ (K : Option ℕ → Option ℕ → Type 0) (D : Token → Type 0) (lacks : (year minute : Option ℕ) → K year minute → (is_none minute || is_none year) ≡ true)
     (small : (run : List ℕ) → D (Digits run) → number run ≤ 99) where
@@ -102,20 +99,14 @@ module _ (K : Option ℕ → Option ℕ → Type 0) (D : Token → Type 0) (lack
 
   letters-quiet : (f : Fields) (run : List ℕ) (more : List Token) → K f.year f.minute → Keeps K (letters_rule f run more)
   unfolding letters_rule
-  letters-quiet f run [] e = word-quiet f run e
-  letters-quiet f run (Letters other ∷ more) e = word-quiet f run e
-  letters-quiet f run (Mark byte ∷ more) e = word-quiet f run e
   letters-quiet f run (Digits after ∷ more) e = tt
+  letters-quiet f run ts e = word-quiet f run e
 
   -- offsets
   padded-small : (before : ℕ) (ts : List Token) → AreAll D ts → IsPaddedSmall (padded_after before ts)
-  padded-small before [] q = tt
-  padded-small before (Letters run ∷ more) q = tt
   padded-small before (Digits run ∷ more) q = small run q.0
-  padded-small before (Mark m ∷ []) q = tt
-  padded-small before (Mark m ∷ Letters run ∷ more) q = tt
-  padded-small before (Mark m ∷ Mark byte ∷ more) q = tt
   padded-small before (Mark m ∷ Digits run ∷ more) q = either IsPaddedSmall (m == plus) _ _ (small run q.1.0) (either IsPaddedSmall (m == minus) _ _ (small run q.1.0) tt)
+  padded-small before ts q = tt
 
   two-fine : (hours : ℕ) (ts : List Token) → AreAll D ts → NoFault (two_digit_offset hours ts)
   unfolding two_digit_offset colon_minutes padded_number
@@ -145,10 +136,8 @@ module _ (K : Option ℕ → Option ℕ → Type 0) (D : Token → Type 0) (lack
 
   sign-quiet : (f : Fields) (behind : Bool) (ts : List Token) → K f.year f.minute → AreAll D ts → Quiet K (sign_rule f behind ts)
   unfolding sign_rule offset_rule
-  sign-quiet f behind [] e q = e
-  sign-quiet f behind (Letters run ∷ more) e q = e
-  sign-quiet f behind (Mark byte ∷ more) e q = e
   sign-quiet f behind (Digits run ∷ more) e q = ended-quiet (by_offset f behind (offset_said run more)) (offset-by f behind (offset_said run more) e (said-fine run more q))
+  sign-quiet f behind ts e q = e
 
   -- the reading ends so
   abbrev Ends : Result Reading Fault → Type 0

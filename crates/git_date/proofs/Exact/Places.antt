@@ -16,7 +16,7 @@ use Rattle.git_date.specs.Tokens.Strings.{string_len, before_nul, nul_place}
 use Rattle.git_date.specs.Exact.Reading.{nothing_read, reading_of, place_in, at_said, by_seconds, fields_said, at_or_fields, said_up_to, string_said, said_by}
 use Rattle.git_date.specs.Exact.Outcome.{date_at, date_in, at_offset, date_of, instant_seconds, IsPlaceIn, IsErrorIn, HasPlacesIn}
 use Rattle.git_date.specs.Exact.Zones.{offsets_of, local_offset}
-use Rattle.git_date.specs.declared.dates.Now.{Now}
+use Rattle.git_date.specs.declared.fields.dates.Now.{Now}
 use Rattle.git_date.specs.declared.error.DateError.{DateError}
 use Rattle.git_date.specs.declared.error.DateError.TheVariants as error
 use Rattle.git_date.specs.declared.fault.Fault.{Fault}
@@ -117,10 +117,8 @@ seconds-in text r (Some seconds) h = either (IsSaidIn text) (is_instant seconds)
 fields-in : (text : List ℕ) (read : Result Reading Fault) → IsReadIn text read → IsSaidIn text (fields_said text read)
 unfolding fields_said
 fields-in text (Ok r) h = seconds-in text r (exact_seconds r.fields) h
-fields-in text (Err (fault.NumberTooLarge left)) h = h
-fields-in text (Err (fault.BackTooFar left)) h = h
-fields-in text (Err (fault.YearRefused left)) h = h
 fields-in text (Err fault.Range) h = tt
+fields-in text x h = h
 
 at-in : (text : List ℕ) (found : ℕ × ℤ) → IsSaidIn text (at_said found)
 unfolding at_said

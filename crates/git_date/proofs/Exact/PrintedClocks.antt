@@ -1,17 +1,19 @@
 -- What the named formats print of a clock is read back.
 use Rattle.std.proofs.Common.{◌≡◌, ◌∙◌, ◌<◌, ◌≤◌, ◌+◌, ◌*◌, ◌/◌, ◌%◌, ◌⊎◌, inl, inr, ℕ, zero, suc, ℤ, pos, neg_ℤ, unsigned_abs, Bool, true, false, cond, List, [], ◌∷◌, ◌++◌, length, refl, ap, sym, subst, arith, Option, Some, None, is_none, Ok}
-use Rattle.std.specs.Prelude.{◌==◌, nat_le, nat_lt, int_lt}
+use Rattle.std.specs.Prelude.{◌==◌, ◌&&◌, nat_le, nat_lt, int_lt}
 use Rattle.std.specs.Char.{is_ascii_alphabetic, is_ascii_digit}
 use Rattle.std.specs.Fmt.{decimal}
+use Rattle.std.specs.Str.{all_ascii_digits}
 use Rattle.std.proofs.lemmas.Bool.Decides.{nat_tests}
-use Rattle.std.proofs.lemmas.Bool.{cases_order}
+use Rattle.std.proofs.lemmas.Bool.{and_parts, cases_order}
 use Rattle.std.proofs.lemmas.Fmt.{decimal_digit}
+use Rattle.gix_date.proofs.Printing.ReadBack.{day-is, month-is}
 use Rattle.gix_date.proofs.Printing.ShownPieces.{decimal-two}
 use Rattle.gix_date.specs.Text.Characters.{space, plus, minus, colon, comma, dot, letter_t}
 use Rattle.gix_date.specs.Text.Names.{day_name, month_name}
 use Rattle.gix_date.specs.Text.Numbers.{two_digits}
 use Rattle.gix_date.specs.Fields.ClockNumbers.{hours_in, minutes_in}
-use Rattle.gix_date.specs.Fields.FieldTexts.{four_digits, clock_text}
+use Rattle.gix_date.specs.Fields.FieldTexts.{AreThreeLetters, four_digits, clock_text}
 use Rattle.gix_date.specs.Fields.DateOffsets.{strict_offset_text}
 use Rattle.gix_date.specs.Fields.Layout.{LocalTime}
 use Rattle.gix_date.specs.Fields.Offsets.{offset_sign, compact_offset_text}
@@ -23,81 +25,92 @@ use Rattle.gix_date.specs.Text.LongNames.{month_told, weekday_told}
 use Rattle.git_date.specs.Exact.Fast.{is_date_mark, marked_date}
 use Rattle.git_date.specs.Rules.Fields.{unknown, with_clock, with_date, knows_date}
 use Rattle.git_date.specs.Rules.Words.{with_word, letters_rule, without_ending}
-use Rattle.git_date.specs.Rules.Dates.{year_said, year_date}
-use Rattle.git_date.specs.Rules.Groups.{ReadTokens, number_at, marked_number, group_of, clock_group, year_first_group, group_rule, large_in, without_fraction, after_group, is_group_mark}
+use Rattle.git_date.specs.Rules.Dates.{by_year, year_said, year_date}
+use Rattle.git_date.specs.Rules.Groups.{ReadTokens, or_else, number_at, marked_number, group_of, clock_group, year_first_group, group_rule, large_in, without_fraction, after_group, is_group_mark}
 use Rattle.git_date.specs.Rules.Digits.{Stepped, four_digits as four_digit_rule, few_digits, bare_digits, by_rule, unless_large, grouped, group_or_bare, number_rule, digits_rule}
 use Rattle.git_date.specs.Rules.Offsets.{white, without_white, padded_number, offset_minutes, colon_minutes, two_digit_offset, offset_said, known_minutes, with_offset, offset_rule}
 use Rattle.git_date.specs.Exact.Reading.{read_on, and_then, ended, sign_rule, rule, steps, step}
-use Rattle.git_date.specs.declared.dates.Now.{Now}
-use Rattle.git_date.specs.declared.dates.Dated.{Dated}
-use Rattle.git_date.specs.declared.dates.Dated.TheVariants as dated
+use Rattle.git_date.specs.declared.fields.dates.Now.{Now}
+use Rattle.git_date.specs.declared.fields.dates.Dated.{Dated}
+use Rattle.git_date.specs.declared.fields.dates.Dated.TheVariants as dated
 use Rattle.git_date.specs.declared.fields.Fields.{Fields}
-use Rattle.git_date.specs.declared.groups.Group.{Group}
-use Rattle.git_date.specs.declared.groups.Number.{Number}
+use Rattle.git_date.specs.declared.fields.groups.Group.{Group}
+use Rattle.git_date.specs.declared.fields.groups.Number.{Number}
 use Rattle.git_date.specs.declared.reader.Reading.{Reading}
 use Rattle.git_date.proofs.Text.Walked.{nothing-left}
-use Rattle.git_date.proofs.Text.TokenRuns.{digit-first, mark-first}
+use Rattle.git_date.proofs.Text.TokenRuns.{digit-first, letter-first, mark-first}
 
 -- digits before other tokens
 abbrev pub HasNoDigits : List Token → Type 0
 HasNoDigits (Digits run ∷ more) = ⊥
 HasNoDigits ts = Unit {0}
 
-pub alone : (c : ℕ) (ts : List Token) → HasNoDigits ts → digit_before c ts ≡ Digits (c ∷ []) ∷ ts
-alone c [] h = refl
-alone c (Letters run ∷ more) h = refl
+alone : (c : ℕ) (ts : List Token) → HasNoDigits ts → digit_before c ts ≡ Digits (c ∷ []) ∷ ts
 alone c (Digits run ∷ more) h = absurd h
-alone c (Mark byte ∷ more) h = refl
+alone c ts h = refl
 
-digit-test : (n : ℕ) → n < 10 → is_ascii_digit (48 + n) ≡ true
+pub run-before : (run rest : List ℕ) (ts : List Token) → 1 ≤ length run → all_ascii_digits run ≡ true → tokens rest ≡ ts → HasNoDigits ts → tokens (run ++ rest) ≡ Digits run ∷ ts
+run-before [] rest ts some h e free = absurd (omega arith)
+run-before (c ∷ []) rest ts some h e free = digit-first c rest (and_parts (is_ascii_digit c) true h).0 ∙ ap (digit_before c) e ∙ alone c ts free
+run-before (c ∷ d ∷ run) rest ts some h e free =
+    let both = and_parts (is_ascii_digit c) (all_ascii_digits (d ∷ run)) h in
+    digit-first c ((d ∷ run) ++ rest) both.0 ∙ ap (digit_before c) (run-before (d ∷ run) rest ts (omega arith) both.1 e free)
+
+pub digit-test : (n : ℕ) → n < 10 → is_ascii_digit (48 + n) ≡ true
 digit-test n h = grind (arith, nat_tests)
 
-one-before : (n : ℕ) (rest : List ℕ) (ts : List Token) → n < 10 → tokens rest ≡ ts → HasNoDigits ts → tokens ((48 + n) ∷ rest) ≡ Digits ((48 + n) ∷ []) ∷ ts
-one-before n rest ts h e free = digit-first (48 + n) rest (digit-test n h) ∙ ap (digit_before (48 + n)) e ∙ alone (48 + n) ts free
+-- a number in digits
+pub record IsNumber (x : List ℕ) (n : ℕ) : Type 0 where
+  pub some : 1 ≤ length x
+  pub digits : all_ascii_digits x ≡ true
+  pub is : number x ≡ n
 
-next-before : (n : ℕ) (rest run : List ℕ) (ts : List Token) → n < 10 → tokens rest ≡ Digits run ∷ ts → tokens ((48 + n) ∷ rest) ≡ Digits ((48 + n) ∷ run) ∷ ts
-next-before n rest run ts h e = digit-first (48 + n) rest (digit-test n h) ∙ ap (digit_before (48 + n)) e
+pub number-before : (x rest : List ℕ) (ts : List Token) (n : ℕ) → IsNumber x n → tokens rest ≡ ts → HasNoDigits ts → tokens (x ++ rest) ≡ Digits x ∷ ts
+number-before x rest ts n p = run-before x rest ts p.some p.digits
 
-two-before : (n : ℕ) (rest : List ℕ) (ts : List Token) → n < 100 → tokens rest ≡ ts → HasNoDigits ts → tokens (two_digits n ++ rest) ≡ Digits (two_digits n) ∷ ts
-two-before n rest ts h e free =
-    next-before (n / 10) ((48 + n % 10) ∷ rest) ((48 + n % 10) ∷ []) ts (omega arith) (one-before (n % 10) rest ts (omega arith) e free)
+pub two-numbers : (mark : ℕ) (a b rest : List ℕ) (x y : ℕ) (ts : List Token) → is_ascii_alphabetic mark ≡ false → is_ascii_digit mark ≡ false → IsNumber a x → IsNumber b y
+    → tokens rest ≡ ts → HasNoDigits ts → tokens (a ++ (mark ∷ (b ++ rest))) ≡ Digits a ∷ Mark mark ∷ Digits b ∷ ts
+two-numbers mark a b rest x y ts no_letter no_digit p q e free =
+    number-before a _ _ x p (mark-first mark (b ++ rest) no_letter no_digit ∙ ap (λ (ts : List Token). Mark mark ∷ ts) (number-before b rest ts y q e free)) tt
 
-pairs-before : (a b : ℕ) (rest : List ℕ) (ts : List Token) → a < 100 → b < 100 → tokens rest ≡ ts → HasNoDigits ts
-    → tokens (two_digits a ++ (two_digits b ++ rest)) ≡ Digits (two_digits a ++ two_digits b) ∷ ts
-pairs-before a b rest ts h g e free =
-    next-before (a / 10) ((48 + a % 10) ∷ (two_digits b ++ rest)) ((48 + a % 10) ∷ two_digits b) ts (omega arith)
-    (next-before (a % 10) (two_digits b ++ rest) (two_digits b) ts (omega arith) (two-before b rest ts g e free))
+pub three-numbers : (mark : ℕ) (a b c rest : List ℕ) (x y z : ℕ) (ts : List Token) → is_ascii_alphabetic mark ≡ false → is_ascii_digit mark ≡ false → IsNumber a x → IsNumber b y → IsNumber c z
+    → tokens rest ≡ ts → HasNoDigits ts → tokens (a ++ (mark ∷ (b ++ (mark ∷ (c ++ rest))))) ≡ Digits a ∷ Mark mark ∷ Digits b ∷ Mark mark ∷ Digits c ∷ ts
+three-numbers mark a b c rest x y z ts no_letter no_digit p q r e free =
+    number-before a _ _ x p (mark-first mark _ no_letter no_digit ∙ ap (λ (ts : List Token). Mark mark ∷ ts) (two-numbers mark b c rest y z ts no_letter no_digit q r e free)) tt
 
 -- numbers that are so written
-number-one : (n : ℕ) → n < 10 → number ((48 + n) ∷ []) ≡ n
+one-number : (n : ℕ) → n < 10 → IsNumber ((48 + n) ∷ []) n
 unfolding number
-number-one n h = omega arith
+one-number n h = record { some = omega arith; digits = rw (digit-test n h) refl; is = omega arith }
 
-number-two : (n : ℕ) → n < 100 → number (two_digits n) ≡ n
+two-number : (n : ℕ) → n < 100 → IsNumber (two_digits n) n
 unfolding number
-number-two n h = omega arith
+two-number n h = record { some = omega arith; digits = rw (digit-test (n / 10) (omega arith), digit-test (n % 10) (omega arith)) refl; is = omega arith }
 
-number-pairs : (a b : ℕ) → a < 100 → b < 100 → number (two_digits a ++ two_digits b) ≡ 100 * a + b
+pub pairs-number : (a b : ℕ) → a < 100 → b < 100 → IsNumber (two_digits a ++ two_digits b) (100 * a + b)
 unfolding number
-number-pairs a b h g = omega arith
+pairs-number a b h g = record {
+  some = omega arith;
+  digits = rw (digit-test (a / 10) (omega arith), digit-test (a % 10) (omega arith), digit-test (b / 10) (omega arith), digit-test (b % 10) (omega arith)) refl;
+  is = omega arith;
+}
+
+year-number : (y : ℕ) → y < 10_000 → IsNumber (four_digits y) y
+year-number y h = let whole : 100 * (y / 100) + y % 100 ≡ y = omega arith in subst (IsNumber (four_digits y)) whole (pairs-number (y / 100) (y % 100) (omega arith) (omega arith))
 
 -- the day of the month, as formats print it
 pub record IsDayText (n : ℕ) (run : List ℕ) : Type 0 where
   pub width : (length run ≡ 1) ⊎ (length run ≡ 2)
-  pub number_is : number run ≡ n
-  pub before : (rest : List ℕ) (ts : List Token) → tokens rest ≡ ts → HasNoDigits ts → tokens (run ++ rest) ≡ Digits run ∷ ts
+  pub number : IsNumber run n
 
 pub two-day : (n : ℕ) → n < 100 → IsDayText n (two_digits n)
-two-day n h = record { width = inr refl; number_is = number-two n h; before = λ rest ts e free. two-before n rest ts h e free }
-
-one-day : (n : ℕ) → n < 10 → IsDayText n (decimal n)
-one-day n h = subst (IsDayText n) (sym (decimal_digit n h)) (record { width = inl refl; number_is = number-one n h; before = λ rest ts e free. one-before n rest ts h e free })
+two-day n h = record { width = inr refl; number = two-number n h }
 
 pub bare-day : (n : ℕ) → n < 100 → IsDayText n (decimal n)
 bare-day n h =
     elim (cases_order n 10) [
       | inl ten ↦ subst (IsDayText n) (sym (decimal-two n (omega arith) h)) (two-day n h)
-      | inr (inl low) ↦ one-day n low
+      | inr (inl low) ↦ subst (IsDayText n) (sym (decimal_digit n low)) (record { width = inl refl; number = one-number n low })
       | inr (inr large) ↦ subst (IsDayText n) (sym (decimal-two n (omega arith) h)) (two-day n h)
     ]
 
@@ -158,29 +171,22 @@ offset-before : (t : LocalTime) → IsGitClock t → tokens (compact_offset_text
 unfolding tokens
 offset-before t h =
     sign-before (is_behind t) (two_digits (hours_of t) ++ two_digits (minutes_of t))
-    ∙ ap (λ (ts : List Token). Mark (sign_of t) ∷ ts) (pairs-before (hours_of t) (minutes_of t) [] [] (omega (arith, h.hours)) (omega (arith, h.minutes)) refl tt)
+    ∙ ap (λ (ts : List Token). Mark (sign_of t) ∷ ts) (number-before _ [] [] _ (pairs-number (hours_of t) (minutes_of t) (omega (arith, h.hours)) (omega (arith, h.minutes))) refl tt)
 
 colon-before : (t : LocalTime) → IsGitClock t → tokens (strict_offset_text t.offset) ≡ colon_tokens t
 unfolding tokens
 colon-before t h =
     sign-before (is_behind t) (two_digits (hours_of t) ++ colon ∷ two_digits (minutes_of t))
     ∙ ap (λ (ts : List Token). Mark (sign_of t) ∷ ts)
-    (two-before (hours_of t) (colon ∷ two_digits (minutes_of t)) (Mark colon ∷ Digits (two_digits (minutes_of t)) ∷ []) (omega (arith, h.hours))
-    (ap (λ (ts : List Token). Mark colon ∷ ts) (two-before (minutes_of t) [] [] (omega (arith, h.minutes)) refl tt)) tt)
+    (two-numbers colon (two_digits (hours_of t)) (two_digits (minutes_of t)) [] _ _ [] refl refl (two-number (hours_of t) (omega (arith, h.hours))) (two-number (minutes_of t) (omega (arith, h.minutes))) refl tt)
 
 clock-before : (t : LocalTime) (rest : List ℕ) (ts : List Token) → IsGitClock t → tokens rest ≡ ts → HasNoDigits ts → tokens (clock_text t.clock ++ rest) ≡ clock_tokens t ts
-unfolding tokens
-clock-before t rest ts h e free =
-    let s = t.clock.second in
-    let m = t.clock.minute in
-    let last = ap (λ (ts : List Token). Mark colon ∷ ts) (two-before s rest ts (omega (arith, h.second)) e free) in
-    let middle =
-    ap (λ (ts : List Token). Mark colon ∷ ts) (two-before m (colon ∷ (two_digits s ++ rest)) (Mark colon ∷ Digits (two_digits s) ∷ ts) (omega (arith, h.minute)) last tt) in
-    two-before t.clock.hour (colon ∷ (two_digits m ++ (colon ∷ (two_digits s ++ rest))))
-    (Mark colon ∷ Digits (two_digits m) ∷ Mark colon ∷ Digits (two_digits s) ∷ ts) (omega (arith, h.hour)) middle tt
+clock-before t rest ts h =
+    three-numbers colon (two_digits t.clock.hour) (two_digits t.clock.minute) (two_digits t.clock.second) rest _ _ _ ts refl refl
+    (two-number t.clock.hour (omega (arith, h.hour))) (two-number t.clock.minute (omega (arith, h.minute))) (two-number t.clock.second (omega (arith, h.second)))
 
 year-before : (t : LocalTime) (rest : List ℕ) (ts : List Token) → IsGitClock t → tokens rest ≡ ts → HasNoDigits ts → tokens (four_digits t.date.year ++ rest) ≡ Digits (four_digits t.date.year) ∷ ts
-year-before t rest ts h e free = pairs-before (t.date.year / 100) (t.date.year % 100) rest ts (omega (arith, h.last_year)) (omega arith) e free
+year-before t rest ts h = number-before (four_digits t.date.year) rest ts _ (year-number t.date.year (omega (arith, h.last_year)))
 
 -- what the rules ask of a mark between the numbers of a date
 pub record IsDateMark (mark : ℕ) : Type 0 where
@@ -203,83 +209,44 @@ date-mark mark h = record {
 
 date-before : (mark : ℕ) (t : LocalTime) (rest : List ℕ) (ts : List Token) → IsDateMark mark → IsGitClock t → tokens rest ≡ ts → HasNoDigits ts
     → tokens (marked_date mark (t.date.year, t.date.month, t.date.day) ++ rest) ≡ date_tokens mark t ts
-date-before mark t rest ts is h e free =
-    let d = t.date.day in
-    let m = t.date.month in
-    let last = mark-first mark (two_digits d ++ rest) is.no_letter is.no_digit ∙ ap (λ (ts : List Token). Mark mark ∷ ts) (two-before d rest ts (omega (arith, h.last_day)) e free) in
-    let middle =
-    mark-first mark (two_digits m ++ (mark ∷ (two_digits d ++ rest))) is.no_letter is.no_digit
-    ∙ ap (λ (ts : List Token). Mark mark ∷ ts) (two-before m (mark ∷ (two_digits d ++ rest)) (Mark mark ∷ Digits (two_digits d) ∷ ts) (omega (arith, h.last_month)) last tt) in
-    year-before t (mark ∷ (two_digits m ++ (mark ∷ (two_digits d ++ rest)))) (Mark mark ∷ Digits (two_digits m) ∷ Mark mark ∷ Digits (two_digits d) ∷ ts) h middle tt
+date-before mark t rest ts is h =
+    three-numbers mark (four_digits t.date.year) (two_digits t.date.month) (two_digits t.date.day) rest _ _ _ ts is.no_letter is.no_digit
+    (year-number t.date.year (omega (arith, h.last_year))) (two-number t.date.month (omega (arith, h.last_month))) (two-number t.date.day (omega (arith, h.last_day)))
 
--- names, before a mark
-abbrev three_before : ℕ → ℕ → ℕ → List Token → List Token
-three_before a b c ts = letter_before a (letter_before b (letter_before c ts))
+-- names of three letters, before a mark
+letters-first : (a b c : ℕ) (rest : List ℕ) (byte : ℕ) (more : List Token) → AreThreeLetters (a ∷ b ∷ c ∷ []) → tokens rest ≡ Mark byte ∷ more
+    → tokens (a ∷ b ∷ c ∷ rest) ≡ Letters (a ∷ b ∷ c ∷ []) ∷ Mark byte ∷ more
+letters-first a b c rest byte more h e =
+    let last = and_parts (is_ascii_alphabetic a && is_ascii_alphabetic b) (is_ascii_alphabetic c) h in
+    let front = and_parts (is_ascii_alphabetic a) (is_ascii_alphabetic b) last.0 in
+    letter-first a (b ∷ c ∷ rest) front.0 ∙ ap (letter_before a) (letter-first b (c ∷ rest) front.1 ∙ ap (letter_before b) (letter-first c rest last.1 ∙ ap (letter_before c) e))
+
+pub name-first : (x rest : List ℕ) (byte : ℕ) (more : List Token) → AreThreeLetters x → tokens rest ≡ Mark byte ∷ more → tokens (x ++ rest) ≡ Letters x ∷ Mark byte ∷ more
+name-first (a ∷ b ∷ c ∷ []) rest byte more h e = letters-first a b c rest byte more h e
+name-first x rest byte more h e = absurd h
 
 day-before : (n : ℕ) (rest : List ℕ) (byte : ℕ) (more : List Token) → n < 7 → tokens rest ≡ Mark byte ∷ more → tokens (day_name n ++ rest) ≡ Letters (day_name n) ∷ Mark byte ∷ more
-unfolding tokens
-day-before zero rest byte more h e = ap (three_before 77 111 110) e
-day-before (suc zero) rest byte more h e = ap (three_before 84 117 101) e
-day-before (suc (suc zero)) rest byte more h e = ap (three_before 87 101 100) e
-day-before (suc (suc (suc zero))) rest byte more h e = ap (three_before 84 104 117) e
-day-before (suc (suc (suc (suc zero)))) rest byte more h e = ap (three_before 70 114 105) e
-day-before (suc (suc (suc (suc (suc zero))))) rest byte more h e = ap (three_before 83 97 116) e
-day-before (suc (suc (suc (suc (suc (suc zero)))))) rest byte more h e = ap (three_before 83 117 110) e
-day-before (suc (suc (suc (suc (suc (suc (suc n))))))) rest byte more h e = absurd (omega arith)
+day-before n rest byte more h = name-first (day_name n) rest byte more (day-is n h).0
 
 month-before : (n : ℕ) (rest : List ℕ) (byte : ℕ) (more : List Token) → 1 ≤ n → n ≤ 12 → tokens rest ≡ Mark byte ∷ more → tokens (month_name n ++ rest) ≡ Letters (month_name n) ∷ Mark byte ∷ more
-unfolding tokens
-month-before zero rest byte more l h e = absurd (omega arith)
-month-before (suc zero) rest byte more l h e = ap (three_before 74 97 110) e
-month-before (suc (suc zero)) rest byte more l h e = ap (three_before 70 101 98) e
-month-before (suc (suc (suc zero))) rest byte more l h e = ap (three_before 77 97 114) e
-month-before (suc (suc (suc (suc zero)))) rest byte more l h e = ap (three_before 65 112 114) e
-month-before (suc (suc (suc (suc (suc zero))))) rest byte more l h e = ap (three_before 77 97 121) e
-month-before (suc (suc (suc (suc (suc (suc zero)))))) rest byte more l h e = ap (three_before 74 117 110) e
-month-before (suc (suc (suc (suc (suc (suc (suc zero))))))) rest byte more l h e = ap (three_before 74 117 108) e
-month-before (suc (suc (suc (suc (suc (suc (suc (suc zero)))))))) rest byte more l h e = ap (three_before 65 117 103) e
-month-before (suc (suc (suc (suc (suc (suc (suc (suc (suc zero))))))))) rest byte more l h e = ap (three_before 83 101 112) e
-month-before (suc (suc (suc (suc (suc (suc (suc (suc (suc (suc zero)))))))))) rest byte more l h e = ap (three_before 79 99 116) e
-month-before (suc (suc (suc (suc (suc (suc (suc (suc (suc (suc (suc zero))))))))))) rest byte more l h e = ap (three_before 78 111 118) e
-month-before (suc (suc (suc (suc (suc (suc (suc (suc (suc (suc (suc (suc zero)))))))))))) rest byte more l h e = ap (three_before 68 101 99) e
-month-before (suc (suc (suc (suc (suc (suc (suc (suc (suc (suc (suc (suc (suc n))))))))))))) rest byte more l h e = absurd (omega arith)
+month-before n rest byte more l h = name-first (month_name n) rest byte more (month-is n l h).0
 
 -- what names say
 day-said : (f : Fields) (n : ℕ) → n < 7 → with_word f (day_name n) ≡ Some f
 unfolding with_word month_told is_weekday weekday_told
-day-said f zero h = refl
-day-said f (suc zero) h = refl
-day-said f (suc (suc zero)) h = refl
-day-said f (suc (suc (suc zero))) h = refl
-day-said f (suc (suc (suc (suc zero)))) h = refl
-day-said f (suc (suc (suc (suc (suc zero))))) h = refl
-day-said f (suc (suc (suc (suc (suc (suc zero)))))) h = refl
 day-said f (suc (suc (suc (suc (suc (suc (suc n))))))) h = absurd (omega arith)
+day-said f n h = refl
 
 month-said : (f : Fields) (n : ℕ) → 1 ≤ n → n ≤ 12 → with_word f (month_name n) ≡ Some (record f { month = Some n })
 unfolding with_word month_told
 month-said f zero l h = absurd (omega arith)
-month-said f (suc zero) l h = refl
-month-said f (suc (suc zero)) l h = refl
-month-said f (suc (suc (suc zero))) l h = refl
-month-said f (suc (suc (suc (suc zero)))) l h = refl
-month-said f (suc (suc (suc (suc (suc zero))))) l h = refl
-month-said f (suc (suc (suc (suc (suc (suc zero)))))) l h = refl
-month-said f (suc (suc (suc (suc (suc (suc (suc zero))))))) l h = refl
-month-said f (suc (suc (suc (suc (suc (suc (suc (suc zero)))))))) l h = refl
-month-said f (suc (suc (suc (suc (suc (suc (suc (suc (suc zero))))))))) l h = refl
-month-said f (suc (suc (suc (suc (suc (suc (suc (suc (suc (suc zero)))))))))) l h = refl
-month-said f (suc (suc (suc (suc (suc (suc (suc (suc (suc (suc (suc zero))))))))))) l h = refl
-month-said f (suc (suc (suc (suc (suc (suc (suc (suc (suc (suc (suc (suc zero)))))))))))) l h = refl
 month-said f (suc (suc (suc (suc (suc (suc (suc (suc (suc (suc (suc (suc (suc n))))))))))))) l h = absurd (omega arith)
+month-said f n l h = refl
 
 -- rules of digits
 pub small-rule : (now : Now) (f : Fields) (run : List ℕ) (more : List Token) → number run < 10_000 → digits_rule now f run more ≡ number_rule now f run more
 unfolding digits_rule
-small-rule now f run more h =
-    let early : nat_le 100_000_000 (number run) ≡ false = grind (arith, nat_tests) in
-    let small : nat_lt 2_147_483_647 (number run) ≡ false = grind (arith, nat_tests) in
-    rw (early, small) refl
+small-rule now f run more h = grind (arith, nat_tests)
 
 bare-rule : (now : Now) (f : Fields) (run : List ℕ) (more : List Token) → group_of (number run) more ≡ None → number_rule now f run more ≡ bare_digits f run more
 unfolding number_rule
@@ -287,10 +254,8 @@ bare-rule now f run more e = ap (λ (found : ReadTokens Group). group_or_bare no
 
 space-group : (first : ℕ) (rest : List Token) → group_of first (Mark space ∷ rest) ≡ None
 unfolding group_of marked_number
-space-group first [] = refl
-space-group first (Letters run ∷ more) = refl
-space-group first (Mark byte ∷ more) = refl
 space-group first (Digits run ∷ more) = refl
+space-group first ts = refl
 
 few-rule : (f : Fields) (width n : ℕ) → 1 ≤ n → n ≤ 31 → f.day ≡ None → few_digits f width n ≡ Some (record f { day = Some n })
 unfolding few_digits
@@ -309,7 +274,7 @@ pub day-rule : (now : Now) (f : Fields) (n : ℕ) (run : List ℕ) (rest : List 
     → rule now f (Digits run) (Mark space ∷ rest) ≡ Ok (Some (record f { day = Some n }), Mark space ∷ rest)
 unfolding without_ending
 day-rule now f n run rest is l h none =
-    let e = is.number_is in
+    let e = is.number.is in
     ap ended (small-rule now f run (Mark space ∷ rest) (omega arith) ∙ bare-rule now f run (Mark space ∷ rest) (space-group (number run) rest)
     ∙ bare-few f run (Mark space ∷ rest) is.width
     ∙ ap (λ (m : ℕ). Ok (few_digits f (length run) m, Mark space ∷ rest)) e
@@ -317,14 +282,7 @@ day-rule now f n run rest is l h none =
 
 four-rule : (f : Fields) (y : ℕ) → 1970 ≤ y → y ≤ 2099 → four_digit_rule f y ≡ Some (record f { year = Some y })
 unfolding four_digit_rule
-four-rule f y l h =
-    let high : nat_le y 1400 ≡ false = grind (arith, nat_tests) in
-    let low : nat_lt 1900 y ≡ true = grind (arith, nat_tests) in
-    let last : nat_le y 2099 ≡ true = grind (arith, nat_tests) in
-    rw (high, low, last) refl
-
-number-year : (y : ℕ) → y ≤ 2099 → number (four_digits y) ≡ y
-number-year y h = let whole : 100 * (y / 100) + y % 100 ≡ y = omega arith in number-pairs (y / 100) (y % 100) (omega arith) (omega arith) ∙ whole
+four-rule f y l h = grind (arith, nat_tests)
 
 bare-four : (f : Fields) (run : List ℕ) (more : List Token) → length run ≡ 4 → bare_digits f run more ≡ Ok (four_digit_rule f (number run), more)
 unfolding bare_digits
@@ -340,7 +298,7 @@ four-read now f run y rest long e h =
 year-rule : (now : Now) (f : Fields) (y : ℕ) (rest : List Token) → 1970 ≤ y → y ≤ 2099
     → rule now f (Digits (four_digits y)) (Mark space ∷ rest) ≡ Ok (Some (record f { year = Some y }), Mark space ∷ rest)
 year-rule now f y rest l h =
-    four-read now f (four_digits y) y rest refl (number-year y h) (omega arith) ∙ ap (λ (next : Option Fields). Ok (next, Mark space ∷ rest)) (four-rule f y l h)
+    four-read now f (four_digits y) y rest refl (year-number y (omega arith)).is (omega arith) ∙ ap (λ (next : Option Fields). Ok (next, Mark space ∷ rest)) (four-rule f y l h)
 
 -- groups
 pub taken-rule : (now : Now) (f : Fields) (left : ℕ) (g : Group) (more : List Token) (bare : Stepped) (next : Fields) → large_in g ≡ None → group_rule now f g ≡ dated.Taken next
@@ -352,21 +310,14 @@ taken-rule now f left g more bare next e is =
 none-large : (mark first : ℕ) (second third : Number) → second.value < 100 → third.value < 100
     → large_in (record { mark = mark; first = first; second = second; third = Some third }) ≡ None
 unfolding large_in
-none-large mark first second third h g =
-    let a : nat_lt 2_147_483_647 second.value ≡ false = grind (arith, nat_tests) in
-    let b : nat_lt 2_147_483_647 third.value ≡ false = grind (arith, nat_tests) in
-    rw (a, b) refl
+none-large mark first second third h g = grind (arith, nat_tests)
 
 abbrev pub group_at : ℕ → ℕ → Number → Number → Group
 group_at mark first second third = record { mark = mark; first = first; second = second; third = Some third }
 
 pub clock-taken : (f : Fields) (h m s : ℕ) → h < 24 → m < 60 → s < 60 → with_clock f h m s ≡ Some (record f { hour = Some h; minute = Some m; second = Some s })
 unfolding with_clock
-clock-taken f h m s a b c =
-    let hour : nat_le h 24 ≡ true = grind (arith, nat_tests) in
-    let minute : nat_le m 59 ≡ true = grind (arith, nat_tests) in
-    let second : nat_le s 60 ≡ true = grind (arith, nat_tests) in
-    rw (hour, minute, second) refl
+clock-taken f h m s a b c = grind (arith, nat_tests)
 
 clock-group : (now : Now) (f : Fields) (h : ℕ) (m s : Number) → h < 24 → m.value < 60 → s.value < 60
     → group_rule now f (group_at colon h m s) ≡ dated.Taken (record f { hour = Some h; minute = Some m.value; second = Some s.value })
@@ -375,10 +326,8 @@ clock-group now f h m s a b c = rw (clock-taken f h m.value s.value a b c) refl
 
 no-fraction : (byte : ℕ) (rest : List Token) → (byte == dot) ≡ false → without_fraction (Mark byte ∷ rest) ≡ Mark byte ∷ rest
 unfolding without_fraction
-no-fraction byte [] h = refl
-no-fraction byte (Letters run ∷ more) h = refl
-no-fraction byte (Mark other ∷ more) h = refl
 no-fraction byte (Digits run ∷ more) h = rw h refl
+no-fraction byte ts h = refl
 
 pub after-clock : (byte : ℕ) (rest : List Token) (b : Bool) → (byte == dot) ≡ false → cond b (without_fraction (Mark byte ∷ rest)) (Mark byte ∷ rest) ≡ Mark byte ∷ rest
 after-clock byte rest true h = no-fraction byte rest h
@@ -387,93 +336,93 @@ after-clock byte rest false h = refl
 abbrev pub numbered : ℕ → ℕ → Number
 numbered value left = record { value = value; left = left }
 
-pub clock-rule : (now : Now) (f : Fields) (a b c : List ℕ) (h m s byte : ℕ) (rest : List Token) → number a ≡ h → number b ≡ m → number c ≡ s → h < 24 → m < 60 → s < 60
-    → (byte == dot) ≡ false → rule now f (Digits a) (Mark colon ∷ Digits b ∷ Mark colon ∷ Digits c ∷ Mark byte ∷ rest)
-    ≡ Ok (Some (record f { hour = Some h; minute = Some m; second = Some s }), Mark byte ∷ rest)
-unfolding without_ending number_rule group_of marked_number
-clock-rule now f a b c h m s byte rest hh mm ss low mid top free =
-    let last = Mark byte ∷ rest in
-    let middle = Mark colon ∷ Digits c ∷ last in
-    let more = Mark colon ∷ Digits b ∷ middle in
-    let second = number_at b middle in
-    let third = number_at c last in
-    let left = bytes_left (Digits a ∷ more) in
-    let bare = bare_digits f a more in
-    let next : Fields = record f { hour = Some h; minute = Some m; second = Some s } in
-    ap ended (small-rule now f a more (omega arith)
-    ∙ ap (λ (n : ℕ). grouped now f left (group_at colon n second third, last) bare) hh
-    ∙ ap (λ (n : ℕ). grouped now f left (group_at colon h (numbered n second.left) third, last) bare) mm
-    ∙ ap (λ (n : ℕ). grouped now f left (group_at colon h (numbered m second.left) (numbered n third.left), last) bare) ss
-    ∙ taken-rule now f left (group_at colon h (numbered m second.left) (numbered s third.left)) last bare next
-    (none-large colon h (numbered m second.left) (numbered s third.left) (omega arith) (omega arith)) (clock-group now f h (numbered m second.left) (numbered s third.left) low mid top)
-    ∙ ap (λ (rest : List Token). Ok (Some next, rest)) (after-clock byte rest (knows_date next) free))
+-- three numbers, as Git keeps them
+abbrev pub three_group : ℕ → ℕ → ℕ → ℕ → List ℕ → List ℕ → List Token → Group
+three_group mark x y z b c rest = group_at mark x (numbered y (bytes_left (Digits b ∷ Mark mark ∷ Digits c ∷ rest))) (numbered z (bytes_left (Digits c ∷ rest)))
 
-pub narrow-small : (n : ℕ) → n < 100 → narrow n ≡ n
-unfolding narrow
-narrow-small n h = omega arith
-
-date-taken : (f : Fields) (y m d : ℕ) → 1970 ≤ y → y ≤ 2099 → 1 ≤ m → m ≤ 12 → 1 ≤ d → d ≤ 31 → year_date f y m d ≡ dated.Taken (with_date f y m d)
-unfolding year_date year_said
-date-taken f y m d a b c e g h =
-    let low : nat_le 1970 y ≡ true = grind (arith, nat_tests) in
-    let high : nat_le y 2099 ≡ true = grind (arith, nat_tests) in
-    let m1 : nat_le 1 m ≡ true = grind (arith, nat_tests) in
-    let m12 : nat_le m 12 ≡ true = grind (arith, nat_tests) in
-    let d1 : nat_le 1 d ≡ true = grind (arith, nat_tests) in
-    let d31 : nat_le d 31 ≡ true = grind (arith, nat_tests) in
-    rw (m1, m12, d1, d31, low, high) refl
-
-date-group : (mark : ℕ) (now : Now) (f : Fields) (y : ℕ) (m d : Number) → IsDateMark mark → 1970 ≤ y → y ≤ 2099 → 1 ≤ m.value → m.value ≤ 12 → 1 ≤ d.value → d.value ≤ 31
-    → group_rule now f (group_at mark y m d) ≡ dated.Taken (with_date f y m.value d.value)
-unfolding group_rule year_first_group
-date-group mark now f y m d is a b c e g h =
-    let above : nat_lt 70 y ≡ true = grind (arith, nat_tests) in
-    let no_colon = is.no_colon in
-    rw (no_colon, above, narrow-small m.value (omega arith), narrow-small d.value (omega arith), date-taken f y m.value d.value a b c e g h) refl
-
-three-of : (mark first : ℕ) (second third : List ℕ) (rest : List Token) → IsDateMark mark
+three-of : (mark first : ℕ) (second third : List ℕ) (rest : List Token) → is_group_mark mark ≡ true → (mark == mark) ≡ true
     → group_of first (Mark mark ∷ Digits second ∷ Mark mark ∷ Digits third ∷ rest)
     ≡ Some (group_at mark first (number_at second (Mark mark ∷ Digits third ∷ rest)) (number_at third rest), rest)
 unfolding group_of marked_number
-three-of mark first second third rest is = let group = is.group in let again = is.again in rw (group, again) refl
+three-of mark first second third rest group again = rw (group, again) refl
 
--- a group of three numbers, as Git keeps them
-abbrev pub date_group : ℕ → ℕ → ℕ → ℕ → List ℕ → List ℕ → List Token → Group
-date_group mark y m d b c rest = group_at mark y (numbered m (bytes_left (Digits b ∷ Mark mark ∷ Digits c ∷ rest))) (numbered d (bytes_left (Digits c ∷ rest)))
-
-pub group-read : (mark : ℕ) (now : Now) (f : Fields) (a b c : List ℕ) (y m d : ℕ) (rest : List Token) → IsDateMark mark → number a ≡ y → number b ≡ m → number c ≡ d → y < 10_000
-    → m < 100 → d < 100 → rule now f (Digits a) (Mark mark ∷ Digits b ∷ Mark mark ∷ Digits c ∷ rest)
-    ≡ ended (by_rule (bytes_left (Digits a ∷ Mark mark ∷ Digits b ∷ Mark mark ∷ Digits c ∷ rest)) (date_group mark y m d b c rest) rest
-    (group_rule now f (date_group mark y m d b c rest)) (bare_digits f a (Mark mark ∷ Digits b ∷ Mark mark ∷ Digits c ∷ rest)))
+group-read : (mark : ℕ) (now : Now) (f : Fields) (a b c : List ℕ) (x y z : ℕ) (rest : List Token) → is_group_mark mark ≡ true → (mark == mark) ≡ true → number a ≡ x → number b ≡ y → number c ≡ z
+    → x < 10_000 → y < 100 → z < 100 → rule now f (Digits a) (Mark mark ∷ Digits b ∷ Mark mark ∷ Digits c ∷ rest)
+    ≡ ended (by_rule (bytes_left (Digits a ∷ Mark mark ∷ Digits b ∷ Mark mark ∷ Digits c ∷ rest)) (three_group mark x y z b c rest) rest
+    (group_rule now f (three_group mark x y z b c rest)) (bare_digits f a (Mark mark ∷ Digits b ∷ Mark mark ∷ Digits c ∷ rest)))
 unfolding number_rule
-group-read mark now f a b c y m d rest is yy mm dd long mid low =
+group-read mark now f a b c x y z rest group again xx yy zz long mid low =
     let middle = Mark mark ∷ Digits c ∷ rest in
     let more = Mark mark ∷ Digits b ∷ middle in
     let second = number_at b middle in
     let third = number_at c rest in
     let left = bytes_left (Digits a ∷ more) in
     let bare = bare_digits f a more in
-    let whole = date_group mark y m d b c rest in
+    let whole = three_group mark x y z b c rest in
     ap ended (small-rule now f a more (omega arith)
-    ∙ ap (λ (found : ReadTokens Group). group_or_bare now f left found bare) (three-of mark (number a) b c rest is)
-    ∙ ap (λ (n : ℕ). grouped now f left (group_at mark n second third, rest) bare) yy
-    ∙ ap (λ (n : ℕ). grouped now f left (group_at mark y (numbered n second.left) third, rest) bare) mm
-    ∙ ap (λ (n : ℕ). grouped now f left (group_at mark y (numbered m second.left) (numbered n third.left), rest) bare) dd
+    ∙ ap (λ (found : ReadTokens Group). group_or_bare now f left found bare) (three-of mark (number a) b c rest group again)
+    ∙ ap (λ (n : ℕ). grouped now f left (group_at mark n second third, rest) bare) xx
+    ∙ ap (λ (n : ℕ). grouped now f left (group_at mark x (numbered n second.left) third, rest) bare) yy
+    ∙ ap (λ (n : ℕ). grouped now f left (group_at mark x (numbered y second.left) (numbered n third.left), rest) bare) zz
     ∙ ap (λ (large : Option ℕ). unless_large large (group_rule now f whole) (by_rule left whole rest (group_rule now f whole) bare))
-    (none-large mark y (numbered m second.left) (numbered d third.left) mid low))
+    (none-large mark x (numbered y second.left) (numbered z third.left) mid low))
+
+pub clock-rule : (now : Now) (f : Fields) (a b c : List ℕ) (h m s byte : ℕ) (rest : List Token) → number a ≡ h → number b ≡ m → number c ≡ s → h < 24 → m < 60 → s < 60
+    → (byte == dot) ≡ false → rule now f (Digits a) (Mark colon ∷ Digits b ∷ Mark colon ∷ Digits c ∷ Mark byte ∷ rest)
+    ≡ Ok (Some (record f { hour = Some h; minute = Some m; second = Some s }), Mark byte ∷ rest)
+unfolding without_ending
+clock-rule now f a b c h m s byte rest hh mm ss low mid top free =
+    let last = Mark byte ∷ rest in
+    let more = Mark colon ∷ Digits b ∷ Mark colon ∷ Digits c ∷ last in
+    let next : Fields = record f { hour = Some h; minute = Some m; second = Some s } in
+    group-read colon now f a b c h m s last refl refl hh mm ss (omega arith) (omega arith) (omega arith)
+    ∙ ap (λ (said : Dated). ended (by_rule (bytes_left (Digits a ∷ more)) (three_group colon h m s b c last) last said (bare_digits f a more)))
+    (clock-group now f h (numbered m (bytes_left (Digits b ∷ Mark colon ∷ Digits c ∷ last))) (numbered s (bytes_left (Digits c ∷ last))) low mid top)
+    ∙ ap (λ (rest : List Token). ended (Ok (Some next, rest))) (after-clock byte rest (knows_date next) free)
+
+narrow-small : (n : ℕ) → n < 100 → narrow n ≡ n
+unfolding narrow
+narrow-small n h = omega arith
+
+-- a date that begins with its year
+year-by : (y : ℕ) → 1969 ≤ y → y < 10_000 → year_said y ≡ cond (nat_le 1970 y && nat_le y 2099) (Some y) None
+unfolding year_said
+year-by y l h = grind (arith, nat_tests)
+
+year-or : (f : Fields) (m d : ℕ) (year : Option ℕ) (a b : Dated) → or_else (or_else (by_year f m d year) a) b ≡ by_year f m d year
+year-or f m d (Some y) a b = refl
+year-or f m d None a b = refl
+
+date-group : (mark : ℕ) (now : Now) (f : Fields) (y : ℕ) (m d : Number) → IsDateMark mark → 1969 ≤ y → 1 ≤ m.value → m.value ≤ 12 → 1 ≤ d.value → d.value ≤ 31
+    → group_rule now f (group_at mark y m d) ≡ by_year f m.value d.value (year_said y)
+unfolding group_rule year_first_group year_date
+date-group mark now f y m d is l m1 m12 d1 d31 =
+    let above : nat_lt 70 y ≡ true = grind (arith, nat_tests) in
+    let low : nat_le 1 m.value ≡ true = grind (arith, nat_tests) in
+    let high : nat_le m.value 12 ≡ true = grind (arith, nat_tests) in
+    let first : nat_le 1 d.value ≡ true = grind (arith, nat_tests) in
+    let last : nat_le d.value 31 ≡ true = grind (arith, nat_tests) in
+    let no_colon = is.no_colon in
+    rw (no_colon, above, narrow-small m.value (omega arith), narrow-small d.value (omega arith), low, high, first, last) (year-or f m.value d.value (year_said y) _ _)
+
+pub date-read : (mark : ℕ) (now : Now) (f : Fields) (a b c : List ℕ) (y m d : ℕ) (rest : List Token) → IsDateMark mark → number a ≡ y → number b ≡ m → number c ≡ d → 1969 ≤ y → y < 10_000
+    → 1 ≤ m → m ≤ 12 → 1 ≤ d → d ≤ 31 → rule now f (Digits a) (Mark mark ∷ Digits b ∷ Mark mark ∷ Digits c ∷ rest)
+    ≡ ended (by_rule (bytes_left (Digits a ∷ Mark mark ∷ Digits b ∷ Mark mark ∷ Digits c ∷ rest)) (three_group mark y m d b c rest) rest
+    (by_year f m d (cond (nat_le 1970 y && nat_le y 2099) (Some y) None)) (bare_digits f a (Mark mark ∷ Digits b ∷ Mark mark ∷ Digits c ∷ rest)))
+date-read mark now f a b c y m d rest is yy mm dd l long m1 m12 d1 d31 =
+    let more = Mark mark ∷ Digits b ∷ Mark mark ∷ Digits c ∷ rest in
+    group-read mark now f a b c y m d rest is.group is.again yy mm dd long (omega arith) (omega arith)
+    ∙ ap (λ (said : Dated). ended (by_rule (bytes_left (Digits a ∷ more)) (three_group mark y m d b c rest) rest said (bare_digits f a more)))
+    (date-group mark now f y (numbered m (bytes_left (Digits b ∷ Mark mark ∷ Digits c ∷ rest))) (numbered d (bytes_left (Digits c ∷ rest))) is l m1 m12 d1 d31 ∙ ap (by_year f m d) (year-by y l long))
 
 date-rule : (mark : ℕ) (now : Now) (f : Fields) (y m d : ℕ) (rest : List Token) → IsDateMark mark → 1970 ≤ y → y ≤ 2099 → 1 ≤ m → m ≤ 12 → 1 ≤ d → d ≤ 31
     → rule now f (Digits (four_digits y)) (Mark mark ∷ Digits (two_digits m) ∷ Mark mark ∷ Digits (two_digits d) ∷ rest) ≡ Ok (Some (with_date f y m d), without_ending rest)
 date-rule mark now f y m d rest is a b c e g h =
-    let run = four_digits y in
-    let whole = date_group mark y m d (two_digits m) (two_digits d) rest in
-    let more = Mark mark ∷ Digits (two_digits m) ∷ Mark mark ∷ Digits (two_digits d) ∷ rest in
+    let low : nat_le 1970 y ≡ true = grind (arith, nat_tests) in
+    let high : nat_le y 2099 ≡ true = grind (arith, nat_tests) in
     let no_colon = is.no_colon in
-    let after : after_group (with_date f y m d) whole rest ≡ rest = rw no_colon refl in
-    group-read mark now f run (two_digits m) (two_digits d) y m d rest is (number-year y b) (number-two m (omega arith)) (number-two d (omega arith)) (omega arith) (omega arith) (omega arith)
-    ∙ ap (λ (said : Dated). ended (by_rule (bytes_left (Digits run ∷ more)) whole rest said (bare_digits f run more)))
-    (date-group mark now f y (numbered m (bytes_left (Digits (two_digits m) ∷ Mark mark ∷ Digits (two_digits d) ∷ rest))) (numbered d (bytes_left (Digits (two_digits d) ∷ rest))) is a b c e g h)
-    ∙ ap (λ (rest : List Token). ended (Ok (Some (with_date f y m d), rest))) after
+    date-read mark now f (four_digits y) (two_digits m) (two_digits d) y m d rest is (year-number y (omega arith)).is (two-number m (omega arith)).is (two-number d (omega arith)).is (omega arith) (omega arith) c e g h
+    ∙ rw (low, high, no_colon) refl
 
 -- offsets
 known-by : (behind : Bool) (k : ℕ) → (behind ≡ true → k ≡ 1 → ⊥) → known_minutes (signed behind k) ≡ Some (signed behind k)
@@ -489,16 +438,13 @@ with-known f false k h = refl
 
 minutes-are : (hours minutes : ℕ) → hours < 24 → minutes < 60 → offset_minutes hours false minutes ≡ Some (pos (60 * hours + minutes))
 unfolding offset_minutes
-minutes-are hours minutes h g =
-    let a : nat_lt hours 24 ≡ true = grind (arith, nat_tests) in
-    let b : nat_lt minutes 60 ≡ true = grind (arith, nat_tests) in
-    rw (a, b) refl
+minutes-are hours minutes h g = grind (arith, nat_tests)
 
 said-four : (hours minutes : ℕ) → hours < 24 → minutes < 60 → offset_said (two_digits hours ++ two_digits minutes) [] ≡ Ok (Some (pos (60 * hours + minutes)), [])
 unfolding offset_said
 said-four hours minutes h g =
     let run = two_digits hours ++ two_digits minutes in
-    let e : number run ≡ 100 * hours + minutes = number-pairs hours minutes (omega arith) (omega arith) in
+    let e : number run ≡ 100 * hours + minutes = (pairs-number hours minutes (omega arith) (omega arith)).is in
     let small : nat_lt 2_147_483_647 (number run) ≡ false = grind (arith, nat_tests) in
     let a : number run / 100 ≡ hours = omega arith in
     let b : number run % 100 ≡ minutes = omega arith in
@@ -508,8 +454,8 @@ said-colon : (hours minutes : ℕ) → hours < 24 → minutes < 60
     → offset_said (two_digits hours) (Mark colon ∷ Digits (two_digits minutes) ∷ []) ≡ Ok (Some (pos (60 * hours + minutes)), [])
 unfolding offset_said two_digit_offset colon_minutes padded_number white without_white
 said-colon hours minutes h g =
-    let a : number (two_digits hours) ≡ hours = number-two hours (omega arith) in
-    let b : number (two_digits minutes) ≡ minutes = number-two minutes (omega arith) in
+    let a : number (two_digits hours) ≡ hours = (two-number hours (omega arith)).is in
+    let b : number (two_digits minutes) ≡ minutes = (two-number minutes (omega arith)).is in
     let small : nat_lt 2_147_483_647 hours ≡ false = grind (arith, nat_tests) in
     let less : nat_lt 2_147_483_647 minutes ≡ false = grind (arith, nat_tests) in
     rw (a, b, small, less, minutes-are hours minutes h g) refl
@@ -569,7 +515,7 @@ go-clock : (now : Now) (n : ℕ) (f : Fields) (t : LocalTime) (byte : ℕ) (more
     → steps now (suc n) (at f) (clock_tokens t (Mark byte ∷ more)) ≡ steps now n (at (with_time t f)) (Mark byte ∷ more)
 go-clock now n f t byte more h free =
     go now n f (with_time t f) (Digits (two_digits t.clock.hour)) _ (Mark byte ∷ more) refl
-    (clock-rule now f _ _ _ t.clock.hour t.clock.minute t.clock.second byte more (number-two _ (omega (arith, h.hour))) (number-two _ (omega (arith, h.minute))) (number-two _ (omega (arith, h.second)))
+    (clock-rule now f _ _ _ t.clock.hour t.clock.minute t.clock.second byte more (two-number _ (omega (arith, h.hour))).is (two-number _ (omega (arith, h.minute))).is (two-number _ (omega (arith, h.second))).is
     h.hour h.minute h.second free)
 
 pub go-offset : (now : Now) (n : ℕ) (f : Fields) (t : LocalTime) → IsGitClock t
@@ -712,7 +658,7 @@ mail-are day t h is =
     let month_text = space ∷ (month_name t.date.month ++ year_text) in
     let year = ap (λ (ts : List Token). Mark space ∷ ts) (year-before t (space ∷ (clock_text t.clock ++ (space ∷ compact_offset_text t.offset))) _ h (spaced-clock t h) tt) in
     let month = ap (λ (ts : List Token). Mark space ∷ ts) (month-before t.date.month year_text space _ h.first_month h.last_month year) in
-    let date = ap (λ (ts : List Token). Mark comma ∷ Mark space ∷ ts) (is.before month_text _ month tt) in
+    let date = ap (λ (ts : List Token). Mark comma ∷ Mark space ∷ ts) (number-before day month_text _ _ is.number month tt) in
     day-before t.weekday (comma ∷ (space ∷ (day ++ month_text))) comma _ h.weekday date
 
 -- `Thu Aug 18 2022 12:45:06 +0800`
@@ -743,7 +689,7 @@ gitoxide-are day t h is =
     let year_text = space ∷ (four_digits t.date.year ++ (space ∷ (clock_text t.clock ++ (space ∷ compact_offset_text t.offset)))) in
     let day_text = space ∷ (day ++ year_text) in
     let year = ap (λ (ts : List Token). Mark space ∷ ts) (year-before t (space ∷ (clock_text t.clock ++ (space ∷ compact_offset_text t.offset))) _ h (spaced-clock t h) tt) in
-    let date = ap (λ (ts : List Token). Mark space ∷ ts) (is.before year_text _ year tt) in
+    let date = ap (λ (ts : List Token). Mark space ∷ ts) (number-before day year_text _ _ is.number year tt) in
     let month = ap (λ (ts : List Token). Mark space ∷ ts) (month-before t.date.month day_text space _ h.first_month h.last_month date) in
     day-before t.weekday (space ∷ (month_name t.date.month ++ day_text)) space _ h.weekday month
 
@@ -777,6 +723,6 @@ default-are day t h is =
     let day_text = space ∷ (day ++ time_text) in
     let year = ap (λ (ts : List Token). Mark space ∷ ts) (year-before t (space ∷ compact_offset_text t.offset) _ h (spaced-offset t h) tt) in
     let time = ap (λ (ts : List Token). Mark space ∷ ts) (clock-before t year_text _ h year tt) in
-    let date = ap (λ (ts : List Token). Mark space ∷ ts) (is.before time_text _ time tt) in
+    let date = ap (λ (ts : List Token). Mark space ∷ ts) (number-before day time_text _ _ is.number time tt) in
     let month = ap (λ (ts : List Token). Mark space ∷ ts) (month-before t.date.month day_text space _ h.first_month h.last_month date) in
     day-before t.weekday (space ∷ (month_name t.date.month ++ day_text)) space _ h.weekday month

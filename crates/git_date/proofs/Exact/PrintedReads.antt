@@ -16,7 +16,7 @@ use Rattle.git_date.specs.Rules.Fields.{unknown}
 use Rattle.git_date.specs.Rules.Offsets.{at_text}
 use Rattle.git_date.specs.Exact.Reading.{nothing_read, steps, reading_of, fields_said, at_or_fields, string_said, said_by}
 use Rattle.git_date.specs.Tokens.Strings.{nul}
-use Rattle.git_date.specs.declared.dates.Now.{Now}
+use Rattle.git_date.specs.declared.fields.dates.Now.{Now}
 use Rattle.git_date.specs.declared.fields.Fields.{Fields}
 use Rattle.git_date.proofs.Rules.EnoughSteps.{enough, fewer}
 use Rattle.git_date.proofs.Text.StringEnds.{has_nul, no-nul, whole-said}

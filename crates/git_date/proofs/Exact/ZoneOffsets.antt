@@ -35,11 +35,9 @@ is-instant-there tz s o h = by (is_instant s) h
 
 pub daylight-told : (tz : TimeZone) (n : ℤ) (info : OffsetInfo) → IsInfoAt tz n info → is_dst info.dst ≡ daylight_at tz n
 unfolding daylight_at
-daylight-told UTC n info h = ap is_dst h.2
-daylight-told Unknown n info h = ap is_dst h.2
-daylight-told (Fixed o) n info h = ap is_dst h.2
 daylight-told (Posix z) n info h = ap (λ (i : OffsetInfo). is_dst i.dst) h
 daylight-told (Tzif z) n info h = ap (λ (i : OffsetInfo). is_dst i.dst) h
+daylight-told x n info h = ap is_dst h.2
 
 -- an offset of a zone is less than 26 hours
 pub offset-near : (tz : TimeZone) (n : ℤ) → IsOffsetSeconds (offset_at tz n)

@@ -9,9 +9,9 @@ use Rattle.gix_date.specs.Printing.LocalClocks.{clock_of, last_of_year_9999}
 use Rattle.git_date.proofs.Rules.Conditions.{none-where, some-where}
 use Rattle.git_date.proofs.Rules.HeldClocks.{within}
 use Rattle.git_date.specs.Approximate.Clocks.{is_shown, is_shown_month, shown_at, first_second}
-use Rattle.git_date.specs.Rules.Clocks.{first_of_year_1900, held_clock}
+use Rattle.git_date.specs.Rules.Clocks.{first_of_year_1900}
 use Rattle.git_date.specs.Rules.Dates.{first_of}
-use Rattle.git_date.specs.declared.clocks.ShownClock.{ShownClock}
+use Rattle.gix_date.specs.Fields.Layout.{LocalTime}
 
 pub shown-within : (s : ℤ) → is_shown s ≡ true → IsBetween first_of_year_1900 last_of_year_9999 s
 shown-within s h = within first_of_year_1900 last_of_year_9999 s h
@@ -20,7 +20,7 @@ pub none-shown : (s : ℤ) → is_shown s ≡ false → None ≡ shown_at s
 unfolding shown_at
 none-shown s e = none-where (is_shown s) _ e
 
-pub a-shown : (s : ℤ) (c : ShownClock) → is_shown s ≡ true → c ≡ held_clock (clock_of (utc_time s)) → Some c ≡ shown_at s
+pub a-shown : (s : ℤ) (c : LocalTime) → is_shown s ≡ true → c ≡ (clock_of (utc_time s)) → Some c ≡ shown_at s
 unfolding shown_at
 a-shown s c h e = some-where (is_shown s) c _ h e
 

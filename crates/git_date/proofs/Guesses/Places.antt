@@ -19,9 +19,8 @@ use Rattle.git_date.specs.declared.approximate.answer.Approximate.{Approximate}
 use Rattle.git_date.specs.declared.approximate.answer.Today.{Today}
 use Rattle.git_date.specs.declared.approximate.drafts.Draft.{Draft}
 use Rattle.git_date.specs.declared.approximate.expiry.Expiry.{Expiry}
-use Rattle.git_date.specs.declared.clocks.ShownClock.{ShownClock}
 use Rattle.git_date.specs.declared.date.ReadDate.{ReadDate}
-use Rattle.git_date.specs.declared.dates.Now.{Now}
+use Rattle.git_date.specs.declared.fields.dates.Now.{Now}
 use Rattle.git_date.specs.declared.error.DateError.{DateError}
 use Rattle.git_date.specs.declared.fault.Fault.{Fault}
 use Rattle.git_date.specs.declared.fault.Fault.TheVariants as fault
@@ -30,6 +29,7 @@ use Rattle.git_date.proofs.Rules.Kept.{IsFaultAt, IsAt, either, First, Twice, fa
 use Rattle.git_date.proofs.Rules.RespectedDrafts.{Drafts, SameDraft, NoneWaits, Givens, settle-respects, steps-respects}
 use Rattle.git_date.proofs.Exact.Places.{Ends, IsPlaceOf, kept, runs-of, ignored-in, up-to-in, error-before, places}
 use Rattle.git_date.proofs.Text.TokenRuns.{texts_are}
+use Rattle.gix_date.specs.Fields.Layout.{LocalTime}
 
 max-by : (P : ℕ → Type 0) (a b : ℕ) (less : Bool) → nat_le a b ≡ less → P a → P b → P (max a b)
 max-by P a b true e p q = let is : max a b ≡ b = grind (arith, nat_tests, e) in subst P (sym is) q
@@ -73,12 +73,10 @@ answer-in text d (Some time) h = either (HasApproximatePlacesIn text) (le_z (pos
 answer-of-in : (zone : Choices) (today : Today) (text : List ℕ) (given : Result Draft Fault) → IsGivenAt (IsPlaceOf text) given
     → HasApproximatePlacesIn text (answer_of zone today text given)
 answer-of-in zone today text (Ok d) h = answer-in text (settle d) (filled_time zone today.shown (settle d).last.offset (settle d).fields) h
-answer-of-in zone today text (Err (fault.NumberTooLarge left)) h = h
-answer-of-in zone today text (Err (fault.BackTooFar left)) h = h
-answer-of-in zone today text (Err (fault.YearRefused left)) h = h
 answer-of-in zone today text (Err fault.Range) h = tt
+answer-of-in zone today text x h = h
 
-guess-by-in : (zone : Choices) (now : Now) (text : List ℕ) (shown : Option ShownClock) → HasApproximatePlacesIn text (guess_by zone now text shown)
+guess-by-in : (zone : Choices) (now : Now) (text : List ℕ) (shown : Option LocalTime) → HasApproximatePlacesIn text (guess_by zone now text shown)
 guess-by-in zone now text None = tt
 guess-by-in zone now text (Some shown) =
     let today : Today = record { now = now; shown = shown } in

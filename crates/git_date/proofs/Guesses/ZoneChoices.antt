@@ -11,8 +11,8 @@ use Rattle.git_date.specs.Approximate.Clocks.{shown_at}
 use Rattle.git_date.specs.Approximate.Zones.{Choices, choices_of, time_at, with_offset, shown_in, filled_time, moved_to, fill_by, fill}
 use Rattle.git_date.specs.Exact.Zones.{offsets_of, local_offset}
 use Rattle.git_date.specs.declared.approximate.drafts.Draft.{Draft}
-use Rattle.git_date.specs.declared.clocks.ShownClock.{ShownClock}
 use Rattle.git_date.specs.declared.fault.Fault.{Fault}
+use Rattle.gix_date.specs.Fields.Layout.{LocalTime}
 
 abbrev picked_if : Bool → ℤ → Option ℤ → Option Time
 picked_if b local offset = cond b (option_map (time_at local) offset) None
@@ -32,7 +32,7 @@ small-at local offset e near =
 
 -- what a zone's clock shows at an instant
 
-abbrev shown_by : ℤ → ℤ → Option ShownClock
+abbrev shown_by : ℤ → ℤ → Option LocalTime
 shown_by instant offset = option_map (with_offset offset) (shown_at (instant +ℤ offset))
 
 abbrev there : TimeZone → ℤ → ℤ
@@ -58,7 +58,7 @@ a-shown-in tz instant offset h = by (is_instant instant) refl h
     by false e h = absurd cc
 
 -- a date that is filled in
-pub filled-by : (zone : Choices) (today : ShownClock) (d : Draft) (back left : ℕ) (time : Time) (r : Result Draft Fault) → Some time ≡ filled_time zone today d.last.offset d.fields
+pub filled-by : (zone : Choices) (today : LocalTime) (d : Draft) (back left : ℕ) (time : Time) (r : Result Draft Fault) → Some time ≡ filled_time zone today d.last.offset d.fields
     → r ≡ moved_to zone d left (time.seconds -ℤ pos back) → r ≡ fill zone today d back left
 unfolding fill
 filled-by zone today d back left time r e is = is ∙ ap (λ (o : Option Time). fill_by zone d back left o) e

@@ -8,14 +8,12 @@ use Rattle.jiff.specs.Words.{offset_at, nanos_of_seconds}
 use Rattle.jiff_core.proofs.SignedLemmas.{signed_arith, one_part}
 use Rattle.jiff_core.specs.Calendar.{IsBetween}
 use Rattle.gix_date.specs.Fields.Layout.{LocalTime}
-use Rattle.gix_date.specs.Printing.LocalClocks.{clock_of, local_seconds, last_of_year_9999}
+use Rattle.gix_date.specs.Printing.LocalClocks.{clock_of, last_of_year_9999, IsShowable}
 use Rattle.gix_date.specs.Fields.Zoned.{last_second}
 use Rattle.gix_date.specs.declared.time.Time.{Time}
 use Rattle.git_date.specs.Show.Clocks.{has_own_clock, has_zone_clock, is_dated, is_written_offset, known_offset, own_clock, zone_clock, time_at, with_known_offset}
-use Rattle.git_date.specs.Rules.Clocks.{local_of, IsShowable}
 use Rattle.git_date.proofs.Rules.Conditions.{none-where, some-where}
 use Rattle.git_date.proofs.Rules.HeldClocks.{within}
-use Rattle.git_date.specs.declared.clocks.ShownClock.{ShownClock}
 
 pub dated : (s : ℤ) → is_dated s ≡ true → IsBetween (pos 0) last_of_year_9999 s
 dated s h = within (pos 0) last_of_year_9999 s h
@@ -26,17 +24,10 @@ zone-dated s h = within (pos 0) last_second s h
 pub written : (o : ℤ) → is_written_offset o ≡ true → unsigned_abs o < 360_000
 written o h = (Decides-ltb _ _).0 (and_parts (nat_lt (unsigned_abs o) 360_000) (unsigned_abs o % 60 == 0) h).0
 
-pub near-dated : (t : Time) → has_own_clock t ≡ true → IsShowable t
-near-dated t h =
-    let last = and_parts (is_written_offset t.offset && is_dated t.seconds) (is_dated (local_seconds t)) h in
-    let first = and_parts (is_written_offset t.offset) (is_dated t.seconds) last.0 in
-    let local = dated (local_seconds t) last.1 in
-    record { local = (omega (arith, signed_arith, local), local.1); offset = written t.offset first.0 }
-
 pub near-zone : (s o : ℤ) → IsBetween (pos 0) last_second s → IsBetween (neg_ℤ (pos 93_599)) (pos 93_599) o
     → IsShowable (record { seconds = s; offset = o })
 near-zone s o dated offset =
-    record { local = (omega (arith, signed_arith), omega (arith, signed_arith)); offset = omega (arith, signed_arith, one_part o) }
+    record { in_years = (omega (arith, signed_arith), omega (arith, signed_arith)); offset = omega (arith, signed_arith, one_part o) }
 
 pub and-last : (a b c r : Bool) → a ≡ true → b ≡ true → r ≡ c → r ≡ (a && b && c)
 and-last true true c r p q e = e
@@ -61,9 +52,8 @@ unfolding zone_clock
 no-zone-clock zone s h = none-where (has_zone_clock s) _ h
 
 -- a clock with the offset that Git knows
-pub known : (u : ShownClock) (o : ℤ) (l : LocalTime) → local_of u ≡ l → o ≡ known_offset (local_of u)
-    → ◌≡◌ {A = LocalTime} (record (local_of u) { offset = o }) (with_known_offset l)
-known u o l e h = ap (λ (n : ℤ). let r : LocalTime = record (local_of u) { offset = n } in r) h ∙ ap (λ (v : LocalTime). with_known_offset v) e
+pub known : (u : LocalTime) (o : ℤ) (l : LocalTime) → u ≡ l → o ≡ known_offset u → ◌≡◌ {A = LocalTime} (record u { offset = o }) (with_known_offset l)
+known u o l e h = ap (λ (n : ℤ). let r : LocalTime = record u { offset = n } in r) h ∙ ap (λ (v : LocalTime). with_known_offset v) e
 
 abbrev timed : ℤ → ℤ → Time
 timed s o = record { seconds = s; offset = o }

@@ -42,7 +42,7 @@ place_ignored (Err e) = None
 abbrev Ignores : List (String × Option ℕ) → Type 0
 Ignores rows = map (λ row. place_ignored (guessed row.0)) rows ≡ map (λ row. row.1) rows
 
-first_rows :
+guess_rows :
     Guesses
     (("10/09/2009", is 1252610400)
     ∷ ("7/4", is 1246735200)
@@ -51,66 +51,42 @@ first_rows :
     ∷ ("25:00", is 1251228000)
     ∷ ("noon yesterday", is 1251547200)
     ∷ ("10am noon", is 1251547200)
-    ∷ ("last tuesday", is 1251228000) ∷ [])
-unfolding computing approximating
-first_rows = refl
-
-second_rows :
-    Guesses
-    (("last sunday", is 1251055200)
+    ∷ ("last tuesday", is 1251228000)
+    ∷ ("last sunday", is 1251055200)
     ∷ ("2 fridays ago", is 1250882400)
     ∷ ("friday", doubtful 1251660000)
     ∷ ("tea last saturday", is 1251565200)
     ∷ ("12:34:56.3.days.ago", is 1251376496)
     ∷ ("2.years.3.months.ago", is 1180552800)
     ∷ ("6pm yesterday", is 1251568800)
-    ∷ ("12am", is 1251590400) ∷ [])
-unfolding computing approximating
-second_rows = refl
-
-third_rows :
-    Guesses
-    (("0am", is 1251616800)
+    ∷ ("12am", is 1251590400)
+    ∷ ("0am", is 1251616800)
     ∷ ("july 5th", is 1246821600)
     ∷ ("3 oct 15", is 1443900000)
     ∷ ("sep 1", is 1220296800)
     ∷ ("aug 31", is 1251746400)
     ∷ ("feb 30", is 1236021600)
     ∷ ("31 august 6 months ago", is 1236108000)
-    ∷ ("1 2 3", is 1044127200) ∷ [])
-unfolding computing approximating
-third_rows = refl
-
-fourth_rows :
-    Guesses
-    (("32", is 1977506400)
+    ∷ ("1 2 3", is 1044127200)
+    ∷ ("32", is 1977506400)
     ∷ ("002 jan", is 1233343200)
     ∷ ("jan5", is 1249500000)
     ∷ ("never 5pm", is 61200)
     ∷ ("2007", is 1188501600)
     ∷ ("monday", doubtful 1251660000)
     ∷ ("today", doubtful 1251660000)
-    ∷ ("2009-08-30", is 1251660000) ∷ [])
-unfolding computing approximating
-fourth_rows = refl
-
-fifth_rows :
-    Guesses
-    (("1.5 hours ago", is 1241205600)
+    ∷ ("2009-08-30", is 1251660000)
+    ∷ ("1.5 hours ago", is 1241205600)
     ∷ ("5 mins ago", is 1249500000)
     ∷ ("1 day from now", is 1251573600)
     ∷ ("25000 days ago", Err (BackTooFar 0))
     ∷ ("200 years ago", Err (BackTooFar 0))
     ∷ ("mayor", doubtful 1251660000)
     ∷ ("10 thursday", is 1245957600)
-    ∷ ("3 fortnights ago", is 1249327200) ∷ [])
+    ∷ ("3 fortnights ago", is 1249327200)
+    ∷ ("30 feb 2009 1 month ago", is 1233602400) ∷ [])
 unfolding computing approximating
-fifth_rows = refl
-
--- a month ago from a day that its month does not have
-short_month : Guesses (("30 feb 2009 1 month ago", is 1233602400) ∷ [])
-unfolding computing approximating
-short_month = refl
+guess_rows = refl
 
 -- what is ignored
 

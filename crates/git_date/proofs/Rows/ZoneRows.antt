@@ -29,8 +29,7 @@ zone-rows word (row ∷ rows) = said-by (is_zone_name word row.0.now) row _ _ (z
 -- a name that begins with another letter is not told
 and-no : (b c : Bool) → (b && (c && false)) ≡ false
 and-no true true = refl
-and-no true false = refl
-and-no false c = refl
+and-no x c = refl
 
 no-initial : (a : ℕ) (word name : List ℕ) → has_initial (to_ascii_lowercase a) name ≡ false → is_zone_name (a ∷ word) name ≡ false
 no-initial a word [] e = and-no (nat_le 3 (length (a ∷ word))) (nat_le (length (a ∷ word)) 0)

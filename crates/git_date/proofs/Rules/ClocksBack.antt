@@ -21,17 +21,16 @@ use Rattle.gix_date.specs.Fields.Zoned.{is_instant, last_second}
 use Rattle.gix_date.specs.Printing.LocalClocks.{clock_of, last_of_year_9999}
 use Rattle.gix_date.specs.Printing.NamedTexts.{local_time}
 use Rattle.git_date.specs.Approximate.Clocks.{is_shown, is_shown_month, shown_at, first_second, filled_seconds}
-use Rattle.git_date.specs.Rules.Clocks.{first_of_year_1900, held_clock}
+use Rattle.git_date.specs.Rules.Clocks.{first_of_year_1900}
 use Rattle.git_date.specs.Approximate.Drafts.{clock_fields, all_fields}
 use Rattle.git_date.specs.Rules.Dates.{first_of, is_month, seconds_after}
-use Rattle.git_date.specs.Types.Names.{ShownClock}
 
 -- seconds from 1900 to the last of an instant
 abbrev pub IsClockBack : ℤ → Type 0
 IsClockBack x = IsBetween first_of_year_1900 last_second x
 
-abbrev pub shown_of : ℤ → ShownClock
-shown_of x = held_clock (clock_of (utc_time x))
+abbrev pub shown_of : ℤ → LocalTime
+shown_of x = (clock_of (utc_time x))
 
 -- the first day of a year bounds its dates, and those of the years before
 pub before-year : (date : Date) (y first : ℕ) → y ≤ 9999 → day_count (pos y) 1 1 ≡ first → date.year <ℤ pos y → epoch_day date <ℤ (pos first -ℤ pos 4_371_953)
@@ -132,26 +131,26 @@ module _ (x : ℤ) (h : IsClockBack x) (z : PlainZoned) (shows : Shows z (utc_ti
       let later = later-day (pos (unsigned_abs z.datetime.date.year)) z.datetime.date.month z.datetime.date.day day_in.0 in
       omega (arith, signed_arith, later, is)
 
-  filled : (today : ShownClock) → filled_seconds today (all_fields (held_clock (local_time z))) ≡ Some x
+  filled : (today : LocalTime) → filled_seconds today (all_fields (local_time z)) ≡ Some x
   unfolding filled_seconds first_second
   filled today = rw shown-month (ap (λ (s : ℤ). Some s) whole)
 
-  filled-of : (today : ShownClock) → filled_seconds today (all_fields (shown_of x)) ≡ Some x
-  filled-of today = subst (λ (l : LocalTime). filled_seconds today (all_fields (held_clock l)) ≡ Some x) (clock-shown z (utc_time x) shows) (filled today)
+  filled-of : (today : LocalTime) → filled_seconds today (all_fields (shown_of x)) ≡ Some x
+  filled-of today = subst (λ (l : LocalTime). filled_seconds today (all_fields l) ≡ Some x) (clock-shown z (utc_time x) shows) (filled today)
 
 -- what a clock shows at these seconds: a month from 1900 on, and a date and a clock that come to them
-pub record IsClockOf (x : ℤ) (c : ShownClock) : Type 0 where
-  pub month : is_shown_month c.year c.month ≡ true
-  pub seconds : seconds_after (civil_seconds (first_of c.year c.month) midnight (pos 0)) (Some c.day) c.hour c.minute c.second ≡ x
+pub record IsClockOf (x : ℤ) (c : LocalTime) : Type 0 where
+  pub month : is_shown_month c.date.year c.date.month ≡ true
+  pub seconds : seconds_after (civil_seconds (first_of c.date.year c.date.month) midnight (pos 0)) (Some c.date.day) c.clock.hour c.clock.minute c.clock.second ≡ x
 
 pub clock-is : (x : ℤ) → IsClockBack x → IsClockOf x (shown_of x)
 clock-is x h =
     let found = shown-by (utc_time x) ((omega (arith, signed_arith), omega (arith, signed_arith)), (omega (arith, signed_arith, h.0), h.1)) in
-    subst (λ (l : LocalTime). IsClockOf x (held_clock l)) (clock-shown found.0 (utc_time x) found.1)
+    subst (λ (l : LocalTime). IsClockOf x l) (clock-shown found.0 (utc_time x) found.1)
     (record { month = shown-month x h found.0 found.1; seconds = whole x h found.0 found.1 })
 
 -- all that a clock shows comes to its seconds, whatever today is
-pub filled-back : (x : ℤ) (today : ShownClock) → IsClockBack x → filled_seconds today (all_fields (shown_of x)) ≡ Some x
+pub filled-back : (x : ℤ) (today : LocalTime) → IsClockBack x → filled_seconds today (all_fields (shown_of x)) ≡ Some x
 filled-back x today h =
     let found = shown-by (utc_time x) ((omega (arith, signed_arith), omega (arith, signed_arith)), (omega (arith, signed_arith, h.0), h.1)) in
     filled-of x h found.0 found.1 today
@@ -159,9 +158,9 @@ filled-back x today h =
 not-before : (m : ℕ) → nat_lt m m ≡ false
 not-before m = grind (arith, nat_tests)
 
-same-fields : (c : ShownClock) → filled_seconds c (clock_fields c) ≡ filled_seconds c (all_fields c)
+same-fields : (c : LocalTime) → filled_seconds c (clock_fields c) ≡ filled_seconds c (all_fields c)
 unfolding filled_seconds
-same-fields c = rw (not-before c.month) refl
+same-fields c = rw (not-before c.date.month) refl
 
 -- and so does its clock, where the date is today's
 pub filled-today : (x : ℤ) → IsClockBack x → filled_seconds (shown_of x) (clock_fields (shown_of x)) ≡ Some x
@@ -174,8 +173,8 @@ shown-back x h =
     ap (λ (b : Bool). cond b (Some (shown_of x)) None) is
 
 -- from 1970 to 2099
-pub known-month : (x : ℤ) → pos 0 ≤ℤ x → x <ℤ pos 4_102_444_800 → is_month (shown_of x).year (shown_of x).month ≡ true
+pub known-month : (x : ℤ) → pos 0 ≤ℤ x → x <ℤ pos 4_102_444_800 → is_month (shown_of x).date.year (shown_of x).date.month ≡ true
 known-month x low high =
     let h : IsClockBack x = (omega (arith, signed_arith, low), omega (arith, signed_arith, high)) in
     let found = shown-by (utc_time x) ((omega (arith, signed_arith), omega (arith, signed_arith)), (omega (arith, signed_arith, h.0), h.1)) in
-    subst (λ (l : LocalTime). is_month (held_clock l).year (held_clock l).month ≡ true) (clock-shown found.0 (utc_time x) found.1) (git-month x h found.0 found.1 low high)
+    subst (λ (l : LocalTime). is_month l.date.year l.date.month ≡ true) (clock-shown found.0 (utc_time x) found.1) (git-month x h found.0 found.1 low high)

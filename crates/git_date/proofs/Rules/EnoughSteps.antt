@@ -4,7 +4,7 @@ use Rattle.std.specs.Char.{is_ascii_alphabetic, is_ascii_digit}
 use Rattle.git_date.specs.Tokens.Tokens.{Token, Letters, Digits, Mark, letter_before, digit_before, tokens, bytes_left, is_end, walked}
 use Rattle.git_date.specs.Rules.Digits.{Stepped}
 use Rattle.git_date.specs.Exact.Reading.{read_on, and_then, rule, steps}
-use Rattle.git_date.specs.declared.dates.Now.{Now}
+use Rattle.git_date.specs.declared.fields.dates.Now.{Now}
 use Rattle.git_date.specs.declared.fault.Fault.{Fault}
 use Rattle.git_date.specs.declared.reader.Reading.{Reading}
 use Rattle.git_date.proofs.Rules.Kept.{IsKept, Leaves, rule-left}
@@ -43,16 +43,12 @@ enough now (suc n) (suc m) r (t ∷ more) h g =
 
 -- a text has no more tokens than bytes
 fewer-letters : (c : ℕ) (ts : List Token) → length (letter_before c ts) ≤ 1 + length ts
-fewer-letters c [] = omega arith
 fewer-letters c (Letters run ∷ more) = omega arith
-fewer-letters c (Digits run ∷ more) = omega arith
-fewer-letters c (Mark byte ∷ more) = omega arith
+fewer-letters c ts = omega arith
 
 fewer-digits : (c : ℕ) (ts : List Token) → length (digit_before c ts) ≤ 1 + length ts
-fewer-digits c [] = omega arith
 fewer-digits c (Letters run ∷ more) = omega arith
-fewer-digits c (Digits run ∷ more) = omega arith
-fewer-digits c (Mark byte ∷ more) = omega arith
+fewer-digits c ts = omega arith
 
 fewer-byte : (letter digit : Bool) (c : ℕ) (ts : List Token) (n : ℕ) → length ts ≤ n
     → length (cond letter (letter_before c ts) (cond digit (digit_before c ts) (Mark c ∷ ts))) ≤ 1 + n

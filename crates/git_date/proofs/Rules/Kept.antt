@@ -8,7 +8,7 @@ use Rattle.git_date.specs.Rules.Words.{without_ending}
 use Rattle.git_date.specs.Exact.Reading.{rule, steps}
 use Rattle.git_date.specs.declared.reader.Reading.{Reading}
 use Rattle.git_date.specs.declared.fields.Fields.{Fields}
-use Rattle.git_date.specs.declared.dates.Now.{Now}
+use Rattle.git_date.specs.declared.fields.dates.Now.{Now}
 use Rattle.git_date.specs.declared.fault.Fault.{Fault}
 use Rattle.git_date.specs.declared.fault.Fault.TheVariants.{NumberTooLarge, BackTooFar, YearRefused, Range}
 use Rattle.git_date.proofs.Rules.Respects.{Readings, Comes, ComesTo, FailsAt, AreWords, Begin, NoMore, SameWords, SameDigits, SameMark, Faults, TooLarge, TooFar, Year, NoInstant, Related, Same, Fails, Places, NoPlace, Place, SameReading, Whites, after_three, Respects, ending-respects, rule-respects, steps-respects}

@@ -5,7 +5,7 @@ use Rattle.gix_date.specs.Fields.ClockNumbers.{seconds_per_day}
 use Rattle.gix_date.specs.Text.Characters.{newline}
 use Rattle.gix_date.specs.declared.time.Time.{Time}
 use Rattle.git_date.specs.Approximate.Reading.{Read, with_rest, rule, step, steps}
-use Rattle.git_date.specs.Approximate.Drafts.{earlier, ignore, with_number, settled_by, settle, dropped, with_hour, is_before, half, units, weekday_seconds, less_months}
+use Rattle.git_date.specs.Approximate.Drafts.{earlier, ignore, last_of, with_number, settled_by, settle, dropped, with_hour, is_before, half, units, weekday_seconds, less_months}
 use Rattle.git_date.specs.Approximate.Rules.{Ruled, used, at_hour, hour_rule, back_rule, month_taken, less_by, months_rule, counted_by, count_waits, with_month, meaning_rule, word_by, read_word, are_digits_next, letters_rule, is_padded, number_waits, group_said, group_or_number, digits_rule, understood}
 use Rattle.git_date.specs.Approximate.Words.{meaning_of}
 use Rattle.git_date.specs.Approximate.Zones.{Choices, shown_in, filled_time, moved_by, moved_to, fill_by, fill}
@@ -22,12 +22,13 @@ use Rattle.git_date.specs.declared.approximate.meanings.Meaning.TheVariants.{Mon
 use Rattle.git_date.specs.declared.approximate.meanings.Meaning.TheVariants as meaning
 use Rattle.git_date.specs.declared.approximate.meanings.Unit.{Unit as Counted}
 use Rattle.git_date.specs.declared.approximate.meanings.Unit.TheVariants.{Seconds, Weekday, Months}
-use Rattle.git_date.specs.declared.clocks.ShownClock.{ShownClock}
-use Rattle.git_date.specs.declared.dates.Now.{Now}
+use Rattle.git_date.specs.declared.approximate.drafts.LastShown.{LastShown}
+use Rattle.git_date.specs.declared.fields.dates.Now.{Now}
 use Rattle.git_date.specs.declared.fault.Fault.{Fault}
 use Rattle.git_date.specs.declared.fields.Fields.{Fields}
-use Rattle.git_date.specs.declared.groups.Number.{Number}
+use Rattle.git_date.specs.declared.fields.groups.Number.{Number}
 use Rattle.git_date.proofs.Rules.Respects.{Numbers, SameNumber, Faults, TooLarge, TooFar, NoInstant, AreWords, Marked, Begin, NoMore, LineNext, SameWords, SameDigits, SameMark, Related, Same, Fails, both, marked, group-said-respects, ending-respects, Comes, ComesTo, FailsAt, walk-respects}
+use Rattle.gix_date.specs.Fields.Layout.{LocalTime}
 
 -- numbers that wait
 pub data Waits (P : ℕ → ℕ → Type 0) : Option Number → Option Number → Type 0 where
@@ -36,7 +37,7 @@ pub data Waits (P : ℕ → ℕ → Type 0) : Option Number → Option Number �
 
 -- drafts, with `P` of the places of such numbers and `I` of those of what is ignored
 pub data Drafts (P : ℕ → ℕ → Type 0) (I : Option ℕ → Option ℕ → Type 0) : Draft → Draft → Type 0 where
-  SameDraft : (f : Fields) (last : ShownClock) (w x : Option Number) (known : Bool) (i j : Option ℕ) → Waits P w x → I i j
+  SameDraft : (f : Fields) (last : LastShown) (w x : Option Number) (known : Bool) (i j : Option ℕ) → Waits P w x → I i j
       → Drafts P I (record { fields = f; last = last; waiting = w; understood = known; ignored = i })
       (record { fields = f; last = last; waiting = x; understood = known; ignored = j })
 
@@ -57,7 +58,7 @@ module _ (P : ℕ → ℕ → Type 0) (I : Option ℕ → Option ℕ → Type 0)
   ignore-respects : (d e : Draft) (left other : ℕ) → P left other → Drafts P I d e → Drafts P I (ignore d left) (ignore e other)
   ignore-respects d e left other p (SameDraft f last w x known i j waits h) = SameDraft f last w x known _ _ waits (law left other i j p h)
 
-  settled-respects : (f : Fields) (last : ShownClock) (left other : ℕ) (w x : Option Number) (known : Bool) (i j : Option ℕ) (g : Option Fields) → P left other → I i j
+  settled-respects : (f : Fields) (last : LastShown) (left other : ℕ) (w x : Option Number) (known : Bool) (i j : Option ℕ) (g : Option Fields) → P left other → I i j
       → Drafts P I (settled_by (record { fields = f; last = last; waiting = w; understood = known; ignored = i }) left g)
       (settled_by (record { fields = f; last = last; waiting = x; understood = known; ignored = j }) other g)
   settled-respects f last left other w x known i j (Some g) p h = SameDraft g last None None known i j NoneWaits h
@@ -86,10 +87,10 @@ module _ (P : ℕ → ℕ → Type 0) (I : Option ℕ → Option ℕ → Type 0)
   unfolding moved_to
   moved-respects zone d e left other instant p (SameDraft f last w x known i j waits h) = by (shown_in zone instant)
     where
-      by : (shown : Option ShownClock)
+      by : (shown : Option LocalTime)
           → Givens P I (moved_by (record { fields = f; last = last; waiting = w; understood = known; ignored = i }) left shown)
           (moved_by (record { fields = f; last = last; waiting = x; understood = known; ignored = j }) other shown)
-      by (Some shown) = ComesTo _ _ (SameDraft _ shown w x known i j waits h)
+      by (Some shown) = ComesTo _ _ (SameDraft _ (last_of shown) w x known i j waits h)
       by None = FailsAt _ _ (TooFar left other p)
 
   filled-respects : (zone : Choices) (d e : Draft) (back left other : ℕ) (time : Option Time) → P left other → Drafts P I d e
@@ -97,7 +98,7 @@ module _ (P : ℕ → ℕ → Type 0) (I : Option ℕ → Option ℕ → Type 0)
   filled-respects zone d e back left other (Some time) p h = moved-respects zone d e left other _ p h
   filled-respects zone d e back left other None p h = FailsAt _ _ NoInstant
 
-  fill-respects : (zone : Choices) (today : ShownClock) (d e : Draft) (back left other : ℕ) → P left other → Drafts P I d e
+  fill-respects : (zone : Choices) (today : LocalTime) (d e : Draft) (back left other : ℕ) → P left other → Drafts P I d e
       → Givens P I (fill zone today d back left) (fill zone today e back other)
   unfolding fill
   fill-respects zone today d e back left other p (SameDraft f last w x known i j waits h) =
@@ -108,7 +109,7 @@ module _ (P : ℕ → ℕ → Type 0) (I : Option ℕ → Option ℕ → Type 0)
   at-hour-respects hour a b (ComesTo d e (SameDraft f last w x known i j waits h)) = ComesTo _ _ (SameDraft _ last w x known i j waits h)
   at-hour-respects hour a b (FailsAt x y faults) = FailsAt x y faults
 
-  hour-by-respects : (zone : Choices) (today : ShownClock) (d e : Draft) (hour left other : ℕ) → P left other → Drafts P I d e
+  hour-by-respects : (zone : Choices) (today : LocalTime) (d e : Draft) (hour left other : ℕ) → P left other → Drafts P I d e
       → Givens P I (cond (is_before d.fields.hour hour) (at_hour hour (fill zone today d seconds_per_day left)) (Ok (with_hour d hour)))
       (cond (is_before e.fields.hour hour) (at_hour hour (fill zone today e seconds_per_day other)) (Ok (with_hour e hour)))
   hour-by-respects zone today d e hour left other p (SameDraft f last w x known i j waits h) =
@@ -116,7 +117,7 @@ module _ (P : ℕ → ℕ → Type 0) (I : Option ℕ → Option ℕ → Type 0)
       (at-hour-respects hour _ _ (fill-respects zone today _ _ seconds_per_day left other p (SameDraft f last w x known i j waits h)))
       (ComesTo _ _ (SameDraft _ last w x known i j waits h))
 
-  hour-respects : (zone : Choices) (today : ShownClock) (d e : Draft) (hour left other : ℕ) → P left other → Drafts P I d e
+  hour-respects : (zone : Choices) (today : LocalTime) (d e : Draft) (hour left other : ℕ) → P left other → Drafts P I d e
       → Givens P I (hour_rule zone today d hour left) (hour_rule zone today e hour other)
   unfolding hour_rule
   hour-respects zone today d e hour left other p h = hour-by-respects zone today (settle d) (settle e) hour left other p (settle-respects d e h)
@@ -131,13 +132,13 @@ module _ (P : ℕ → ℕ → Type 0) (I : Option ℕ → Option ℕ → Type 0)
   less-by-respects months left other a b p (FailsAt x y faults) = FailsAt x y faults
 
   -- the number is taken before
-  back-respects : (zone : Choices) (today : ShownClock) (d e : Draft) (back value left other : ℕ) → P left other → Drafts P I d e
+  back-respects : (zone : Choices) (today : LocalTime) (d e : Draft) (back value left other : ℕ) → P left other → Drafts P I d e
       → Givens P I (back_rule zone today d back (record { value = value; left = left })) (back_rule zone today e back (record { value = value; left = other }))
   unfolding back_rule
   back-respects zone today d e back value left other p h =
       both (Givens P I) (is_too_large back) _ _ _ _ (FailsAt _ _ (TooFar left other p)) (fill-respects zone today d e back left other p h)
 
-  months-respect : (zone : Choices) (today : ShownClock) (d e : Draft) (months value left other : ℕ) → P left other → Drafts P I d e
+  months-respect : (zone : Choices) (today : LocalTime) (d e : Draft) (months value left other : ℕ) → P left other → Drafts P I d e
       → Givens P I (months_rule zone today d months (record { value = value; left = left })) (months_rule zone today e months (record { value = value; left = other }))
   unfolding months_rule
   months-respect zone today d e months value left other p h = less-by-respects months left other _ _ p (fill-respects zone today d e 0 left other p h)
@@ -146,7 +147,7 @@ module _ (P : ℕ → ℕ → Type 0) (I : Option ℕ → Option ℕ → Type 0)
   used-respects a b (ComesTo d e h) = Makes d e h
   used-respects a b (FailsAt x y faults) = Stops x y faults
 
-  unit-respects : (zone : Choices) (today : ShownClock) (unit : Counted) (d e : Draft) → Drafts P I d e
+  unit-respects : (zone : Choices) (today : LocalTime) (unit : Counted) (d e : Draft) → Drafts P I d e
       → Ruleds P I (counted_by zone today d unit d.waiting) (counted_by zone today e unit e.waiting)
   unit-respects zone today unit d e (SameDraft f last w x known i j NoneWaits h) = DoesNothing
   unit-respects zone today (Seconds size) d e (SameDraft f last w x known i j (OneWaits n m (SameNumber value a b p)) h) =
@@ -165,7 +166,7 @@ module _ (P : ℕ → ℕ → Type 0) (I : Option ℕ → Option ℕ → Type 0)
   month-respects : (month : ℕ) (d e : Draft) → Drafts P I d e → Drafts P I (with_month d month) (with_month e month)
   month-respects month d e (SameDraft f last w x known i j waits h) = SameDraft _ last w x known i j waits h
 
-  pub meaning-respects : (zone : Choices) (today : ShownClock) (d e : Draft) (left other : ℕ) (said : Meaning) → P left other → Drafts P I d e
+  pub meaning-respects : (zone : Choices) (today : LocalTime) (d e : Draft) (left other : ℕ) (said : Meaning) → P left other → Drafts P I d e
       → Ruleds P I (meaning_rule zone today d left said) (meaning_rule zone today e other said)
   unfolding meaning_rule
   meaning-respects zone today d e left other (Month month) p h = Makes _ _ (month-respects month d e h)
@@ -179,7 +180,7 @@ module _ (P : ℕ → ℕ → Type 0) (I : Option ℕ → Option ℕ → Type 0)
   meaning-respects zone today d e left other (Count n) p h = waits-respects n left other d e p h
   meaning-respects zone today d e left other (meaning.Unit unit) p h = unit-respects zone today unit d e h
 
-  word-respects : (zone : Choices) (today : ShownClock) (d e : Draft) (left other : ℕ) (said : Option Meaning) → P left other → Drafts P I d e
+  word-respects : (zone : Choices) (today : LocalTime) (d e : Draft) (left other : ℕ) (said : Option Meaning) → P left other → Drafts P I d e
       → Ruleds P I (word_by zone today d left said) (word_by zone today e other said)
   word-respects zone today d e left other None p h = DoesNothing
   word-respects zone today d e left other (Some said) p h = meaning-respects zone today d e left other said p h
@@ -194,7 +195,7 @@ module _ (P : ℕ → ℕ → Type 0) (I : Option ℕ → Option ℕ → Type 0)
   read-word-respects d e word name left other a b same p h (Makes x y g) = ComesTo _ _ (understood-respects x y g)
   read-word-respects d e word name left other a b same p h (Stops x y faults) = FailsAt x y faults
 
-  pub letters-respects : (zone : Choices) (today : ShownClock) (d e : Draft) (a b : List ℕ) (more rest : List Token) → AreWords a b → are_digits_next more ≡ are_digits_next rest
+  pub letters-respects : (zone : Choices) (today : LocalTime) (d e : Draft) (a b : List ℕ) (more rest : List Token) → AreWords a b → are_digits_next more ≡ are_digits_next rest
       → P (bytes_left (Letters a ∷ more)) (bytes_left (Letters b ∷ rest)) → Drafts P I d e → Givens P I (letters_rule zone today d a more) (letters_rule zone today e b rest)
   unfolding letters_rule
   letters-respects zone today d e a b more rest words next p h =
@@ -245,10 +246,7 @@ module _ (P : ℕ → ℕ → Type 0) (I : Option ℕ → Option ℕ → Type 0)
 
     next-digits : (ts us : List Token) → Begin R P ts us → are_digits_next ts ≡ are_digits_next us
     next-digits ts us NoMore = refl
-    next-digits ts us (LineNext more) = refl
-    next-digits ts us (SameWords a b more rest w r p) = refl
-    next-digits ts us (SameDigits run more rest r p) = refl
-    next-digits ts us (SameMark byte more rest r p) = refl
+    next-digits ts us x = refl
 
     pub rule-respects : (zone : Choices) (today : Today) (d e : Draft) (t u : Token) (more rest : List Token) → Drafts P I d e → Begin R P (t ∷ more) (u ∷ rest)
         → ReadOn R P I (rule zone today d t more) (rule zone today e u rest)

@@ -19,17 +19,17 @@ use Rattle.git_date.specs.Exact.Reading.{read_on, and_then, ended, sign_rule, ma
 use Rattle.git_date.specs.Approximate.Rules.{group_said}
 use Rattle.git_date.specs.Laws.Lines.{is_sign}
 use Rattle.git_date.specs.declared.fields.Fields.{Fields}
-use Rattle.git_date.specs.declared.dates.Now.{Now}
-use Rattle.git_date.specs.declared.dates.Dated.{Dated}
-use Rattle.git_date.specs.declared.dates.Dated.TheVariants as dated
-use Rattle.git_date.specs.declared.clocks.ShownClock.{ShownClock}
+use Rattle.git_date.specs.declared.fields.dates.Now.{Now}
+use Rattle.git_date.specs.declared.fields.dates.Dated.{Dated}
+use Rattle.git_date.specs.declared.fields.dates.Dated.TheVariants as dated
 use Rattle.git_date.specs.declared.fault.Fault.{Fault}
 use Rattle.git_date.specs.declared.fault.Fault.TheVariants.{NumberTooLarge, BackTooFar, YearRefused, Range}
-use Rattle.git_date.specs.declared.groups.Number.{Number}
-use Rattle.git_date.specs.declared.groups.Group.{Group}
-use Rattle.git_date.specs.declared.offsets.Padded.{Padded}
+use Rattle.git_date.specs.declared.fields.groups.Number.{Number}
+use Rattle.git_date.specs.declared.fields.groups.Group.{Group}
+use Rattle.git_date.specs.declared.fields.offsets.Padded.{Padded}
 use Rattle.git_date.specs.declared.reader.Reading.{Reading}
 use Rattle.git_date.proofs.Text.Walked.{stopped}
+use Rattle.gix_date.specs.Fields.Layout.{LocalTime}
 
 -- words that say the same in each rule
 pub record AreWords (a b : List ℕ) : Type 0 where
@@ -153,13 +153,8 @@ fraction_by ts None = ts
 
 fraction-by : (ts : List Token) → without_fraction ts ≡ fraction_by ts (marked_number ts)
 unfolding without_fraction marked_number
-fraction-by [] = refl
-fraction-by (Letters run ∷ more) = refl
-fraction-by (Digits run ∷ more) = refl
-fraction-by (Mark byte ∷ []) = refl
 fraction-by (Mark byte ∷ Letters run ∷ more) = refl
-fraction-by (Mark byte ∷ Mark other ∷ more) = refl
-fraction-by (Mark byte ∷ Digits run ∷ more) = refl
+fraction-by ts = refl
 
 no-fraction : (ts : List Token) (found : ReadTokens (ℕ × Number)) → is_group_next found ≡ false → fraction_by ts found ≡ ts
 no-fraction ts None h = refl
@@ -248,17 +243,13 @@ pub record Respects (Q R : List Token → List Token → Type 0) (P : ℕ → �
 
 -- where one text ends, at a line feed of the other
 line-padded : (before : ℕ) (more : List Token) → padded_after before (Mark newline ∷ more) ≡ None
-line-padded before [] = refl
 line-padded before (Letters run ∷ more) = refl
-line-padded before (Mark byte ∷ more) = refl
-line-padded before (Digits run ∷ more) = refl
+line-padded before ts = refl
 
 line-marked : (more : List Token) → is_group_next (marked_number (Mark newline ∷ more)) ≡ false
 unfolding marked_number
-line-marked [] = refl
 line-marked (Letters run ∷ more) = refl
-line-marked (Mark byte ∷ more) = refl
-line-marked (Digits run ∷ more) = refl
+line-marked ts = refl
 
 pub or-left : (a b : Bool) → a ≡ true → (a || b) ≡ true
 or-left true b h = refl
@@ -272,19 +263,14 @@ module _ (R : List Token → List Token → Type 0) (P : ℕ → ℕ → Type 0)
   -- groups
   digit-marked : (byte : ℕ) (ts us : List Token) → Begin R P ts us → Marked R P (marked_number (Mark byte ∷ ts)) (marked_number (Mark byte ∷ us))
   unfolding marked_number
-  digit-marked byte ts us NoMore = NoGroupMark None None refl refl
-  digit-marked byte ts us (LineNext more) = NoGroupMark None None refl refl
-  digit-marked byte ts us (SameWords a b more rest w r p) = NoGroupMark None None refl refl
-  digit-marked byte ts us (SameMark other more rest r p) = NoGroupMark None None refl refl
   digit-marked byte ts us (SameDigits run more rest r p) = SameMarked byte (number_at run more) (number_at run rest) more rest (SameNumber (number run) _ _ p) r
+  digit-marked byte ts us x = NoGroupMark None None refl refl
 
   begin-marked : (ts us : List Token) → Begin R P ts us → Marked R P (marked_number ts) (marked_number us)
   unfolding marked_number
-  begin-marked ts us NoMore = NoGroupMark None None refl refl
   begin-marked ts us (LineNext more) = NoGroupMark None (marked_number (Mark newline ∷ more)) refl (line-marked more)
-  begin-marked ts us (SameWords a b more rest w r p) = NoGroupMark None None refl refl
-  begin-marked ts us (SameDigits run more rest r p) = NoGroupMark None None refl refl
   begin-marked ts us (SameMark byte more rest r p) = digit-marked byte more rest (begin more rest r)
+  begin-marked ts us x = NoGroupMark None None refl refl
 
   pub marked : (ts us : List Token) → R ts us → Marked R P (marked_number ts) (marked_number us)
   marked ts us r = begin-marked ts us (begin ts us r)
@@ -293,19 +279,13 @@ module _ (R : List Token → List Token → Type 0) (P : ℕ → ℕ → Type 0)
   ending-word : (a b : List ℕ) (more rest : List Token) → AreWords a b → R (Letters a ∷ more) (Letters b ∷ rest) → R more rest → Begin R P more rest
       → R (without_ending (Letters a ∷ more)) (without_ending (Letters b ∷ rest))
   unfolding without_ending
-  ending-word a b more rest w q r NoMore = rw w.ends (both R (is_ending b) _ _ _ _ r q)
-  ending-word a b more rest w q r (LineNext lines) = rw w.ends (both R (is_ending b) _ _ _ _ r q)
-  ending-word a b more rest w q r (SameWords c d left right v s p) = rw w.ends (both R (is_ending b) _ _ _ _ r q)
-  ending-word a b more rest w q r (SameMark byte left right s p) = rw w.ends (both R (is_ending b) _ _ _ _ r q)
   ending-word a b more rest w q r (SameDigits run left right s p) = rw (w.named (codes "T")) (both R (is_name b (codes "T")) _ _ _ _ r q)
+  ending-word a b more rest w q r x = rw w.ends (both R (is_ending b) _ _ _ _ r q)
 
   ending-begun : (ts us : List Token) → R ts us → Begin R P ts us → R (without_ending ts) (without_ending us)
   unfolding without_ending
-  ending-begun ts us q NoMore = q
-  ending-begun ts us q (LineNext more) = q
-  ending-begun ts us q (SameDigits run more rest r p) = q
-  ending-begun ts us q (SameMark byte more rest r p) = q
   ending-begun ts us q (SameWords a b more rest w r p) = ending-word a b more rest w q r (begin more rest r)
+  ending-begun ts us q x = q
 
   pub ending-respects : (ts us : List Token) → R ts us → R (without_ending ts) (without_ending us)
   ending-respects ts us r = ending-begun ts us r (begin ts us r)
@@ -317,11 +297,8 @@ module _ (R : List Token → List Token → Type 0) (P : ℕ → ℕ → Type 0)
   -- letters
   letters-respects : (f : Fields) (a b : List ℕ) (more rest : List Token) → AreWords a b → Begin R P more rest → letters_rule f a more ≡ letters_rule f b rest
   unfolding letters_rule
-  letters-respects f a b more rest w NoMore = w.said f
-  letters-respects f a b more rest w (LineNext lines) = w.said f
-  letters-respects f a b more rest w (SameWords c d left right v s p) = w.said f
-  letters-respects f a b more rest w (SameMark byte left right s p) = w.said f
   letters-respects f a b more rest w (SameDigits run left right s p) = refl
+  letters-respects f a b more rest w x = w.said f
 
   -- offsets
   padded-digits : (before byte : ℕ) (ts us : List Token) → Begin R P ts us → Paddeds R P (padded_after before (Mark byte ∷ ts)) (padded_after before (Mark byte ∷ us))
@@ -399,7 +376,7 @@ module _ (R : List Token → List Token → Type 0) (P : ℕ → ℕ → Type 0)
       (both (Related R P) (length run == 4) _ _ _ _ (Same _ more rest r)
       (both (Related R P) (length run == 1 || length run == 2) _ _ _ _ (Same _ more rest r) (Same _ more rest r))))
 
-  epoch-respects : (f : Fields) (more rest : List Token) (shown : Option ShownClock) → R more rest → Related R P (by_clock f more shown) (by_clock f rest shown)
+  epoch-respects : (f : Fields) (more rest : List Token) (shown : Option LocalTime) → R more rest → Related R P (by_clock f more shown) (by_clock f rest shown)
   epoch-respects f more rest None r = Fails _ _ NoInstant
   epoch-respects f more rest (Some shown) r = Same _ more rest r
 
@@ -507,8 +484,7 @@ module _ (Q R : List Token → List Token → Type 0) (P : ℕ → ℕ → Type 
 
   same-end : (t u : Token) (more rest : List Token) → Begin R P (t ∷ more) (u ∷ rest) → is_end t ≡ is_end u
   same-end t u more rest (SameWords a b left right w r p) = refl
-  same-end t u more rest (SameDigits run left right r p) = refl
-  same-end t u more rest (SameMark byte left right r p) = refl
+  same-end t u more rest x = refl
 
   step-respects : (now : Now) (r s : Reading) (t u : Token) (more rest : List Token) (go : Reading → List Token → Result Reading Fault)
       → ((r s : Reading) (ts us : List Token) → Readings P r s → R ts us → Comes (Readings P) P (go r ts) (go s us)) → Readings P r s → R (t ∷ more) (u ∷ rest)

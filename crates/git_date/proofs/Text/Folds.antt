@@ -9,7 +9,7 @@ use Rattle.git_date.specs.Exact.Reading.{read_on, and_then, rule}
 use Rattle.git_date.specs.Exact.Reading as exact
 use Rattle.git_date.specs.declared.approximate.answer.Today.{Today}
 use Rattle.git_date.specs.declared.approximate.drafts.Draft.{Draft}
-use Rattle.git_date.specs.declared.dates.Now.{Now}
+use Rattle.git_date.specs.declared.fields.dates.Now.{Now}
 use Rattle.git_date.specs.declared.fault.Fault.{Fault}
 use Rattle.git_date.specs.declared.fields.Fields.{Fields}
 use Rattle.git_date.specs.declared.reader.Reading.{Reading}

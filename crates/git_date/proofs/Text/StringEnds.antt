@@ -18,7 +18,7 @@ use Rattle.git_date.specs.Exact.Reading.{said_up_to, string_said, said_by}
 use Rattle.git_date.specs.Tokens.Strings.{nul, string_len, before_nul, nul_place}
 use Rattle.git_date.specs.Tokens.Tokens.{Token, Letters, Digits, Mark, letter_before, digit_before, tokens}
 use Rattle.git_date.specs.declared.approximate.answer.Approximate.{Approximate}
-use Rattle.git_date.specs.declared.dates.Now.{Now}
+use Rattle.git_date.specs.declared.fields.dates.Now.{Now}
 use Rattle.git_date.specs.declared.error.DateError.{DateError}
 use Rattle.git_date.specs.declared.reader.Said.{Said}
 
@@ -89,16 +89,12 @@ has_nul (Digits run ∷ more) = has_nul more
 has_nul (Mark byte ∷ more) = (byte == nul) || has_nul more
 
 letter-nul : (c : ℕ) (ts : List Token) → has_nul (letter_before c ts) ≡ has_nul ts
-letter-nul c [] = refl
 letter-nul c (Letters run ∷ more) = refl
-letter-nul c (Digits run ∷ more) = refl
-letter-nul c (Mark byte ∷ more) = refl
+letter-nul c ts = refl
 
 digit-nul : (c : ℕ) (ts : List Token) → has_nul (digit_before c ts) ≡ has_nul ts
-digit-nul c [] = refl
 digit-nul c (Letters run ∷ more) = refl
-digit-nul c (Digits run ∷ more) = refl
-digit-nul c (Mark byte ∷ more) = refl
+digit-nul c ts = refl
 
 abbrev byte_by : Bool → Bool → ℕ → List Token → List Token
 byte_by letter digit c ts = cond letter (letter_before c ts) (cond digit (digit_before c ts) (Mark c ∷ ts))

@@ -8,16 +8,12 @@ use Rattle.git_date.specs.Tokens.Tokens.{Token, Letters, Digits, Mark, letter_be
 
 -- the texts of the tokens are the text
 letter-text : (c : ℕ) (ts : List Token) → texts (letter_before c ts) ≡ c ∷ texts ts
-letter-text c [] = refl
 letter-text c (Letters run ∷ more) = refl
-letter-text c (Digits run ∷ more) = refl
-letter-text c (Mark byte ∷ more) = refl
+letter-text c ts = refl
 
 digit-text : (c : ℕ) (ts : List Token) → texts (digit_before c ts) ≡ c ∷ texts ts
-digit-text c [] = refl
 digit-text c (Letters run ∷ more) = refl
-digit-text c (Digits run ∷ more) = refl
-digit-text c (Mark byte ∷ more) = refl
+digit-text c ts = refl
 
 byte-text : (letter digit : Bool) (c : ℕ) (ts : List Token)
     → texts (cond letter (letter_before c ts) (cond digit (digit_before c ts) (Mark c ∷ ts))) ≡ c ∷ texts ts
@@ -33,19 +29,13 @@ texts_are (c ∷ text) = byte-text (is_ascii_alphabetic c) (is_ascii_digit c) c 
 -- no letters stand first where no letter does
 letter-alone : (c d : ℕ) (digit : Bool) (ts : List Token)
     → letter_before c (cond digit (digit_before d ts) (Mark d ∷ ts)) ≡ Letters (c ∷ []) ∷ cond digit (digit_before d ts) (Mark d ∷ ts)
-letter-alone c d true [] = refl
 letter-alone c d true (Letters run ∷ more) = refl
-letter-alone c d true (Digits run ∷ more) = refl
-letter-alone c d true (Mark byte ∷ more) = refl
-letter-alone c d false ts = refl
+letter-alone c d x ts = refl
 
 digit-alone : (c d : ℕ) (letter : Bool) (ts : List Token)
     → digit_before c (cond letter (letter_before d ts) (Mark d ∷ ts)) ≡ Digits (c ∷ []) ∷ cond letter (letter_before d ts) (Mark d ∷ ts)
-digit-alone c d true [] = refl
 digit-alone c d true (Letters run ∷ more) = refl
-digit-alone c d true (Digits run ∷ more) = refl
-digit-alone c d true (Mark byte ∷ more) = refl
-digit-alone c d false ts = refl
+digit-alone c d x ts = refl
 
 -- a letter, a digit, a mark first
 pub letter-first : (c : ℕ) (text : List ℕ) → is_ascii_alphabetic c ≡ true → tokens (c ∷ text) ≡ letter_before c (tokens text)

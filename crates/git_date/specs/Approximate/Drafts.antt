@@ -6,37 +6,42 @@ use Rattle.git_date.specs.Rules.Dates.{first_year, last_year}
 use Rattle.git_date.specs.Rules.Fields.{unknown}
 use Rattle.git_date.specs.Tokens.Numbers.{max_number}
 use Rattle.git_date.specs.declared.approximate.drafts.Draft.{Draft}
-use Rattle.git_date.specs.declared.clocks.ShownClock.{ShownClock}
+use Rattle.git_date.specs.declared.approximate.drafts.LastShown.{LastShown}
 use Rattle.git_date.specs.declared.fields.Fields.{Fields}
-use Rattle.git_date.specs.declared.groups.Number.{Number}
+use Rattle.git_date.specs.declared.fields.groups.Number.{Number}
+use Rattle.gix_date.specs.Fields.Layout.{LocalTime}
 
 -- the fields of a clock that is shown, without its date and with it
-abbrev pub clock_fields : ShownClock → Fields
-clock_fields s = record unknown { hour = Some s.hour; minute = Some s.minute; second = Some s.second }
+abbrev pub clock_fields : LocalTime → Fields
+clock_fields s = record unknown { hour = Some s.clock.hour; minute = Some s.clock.minute; second = Some s.clock.second }
 
-abbrev pub all_fields : ShownClock → Fields
+abbrev pub all_fields : LocalTime → Fields
 all_fields s = record unknown {
-  year = Some s.year;
-  month = Some s.month;
-  day = Some s.day;
-  hour = Some s.hour;
-  minute = Some s.minute;
-  second = Some s.second;
+  year = Some s.date.year;
+  month = Some s.date.month;
+  day = Some s.date.day;
+  hour = Some s.clock.hour;
+  minute = Some s.clock.minute;
+  second = Some s.clock.second;
 }
 
+-- what the rules use of the clock that was shown last
+abbrev pub last_of : LocalTime → LastShown
+last_of s = record { weekday = s.weekday; offset = s.offset }
+
 -- before the first token: today's clock, and no date
-abbrev pub first_draft : ShownClock → Draft
+abbrev pub first_draft : LocalTime → Draft
 first_draft today = record {
   fields = clock_fields today;
-  last = today;
+  last = last_of today;
   waiting = None;
   understood = false;
   ignored = None;
 }
 
 -- all that a clock shows
-abbrev pub with_shown : Draft → ShownClock → Draft
-with_shown d s = record d { fields = all_fields s; last = s }
+abbrev pub with_shown : Draft → LocalTime → Draft
+with_shown d s = record d { fields = all_fields s; last = last_of s }
 
 -- what is ignored first: places are told by how many bytes are left from there on
 abbrev pub earlier : ℕ → Option ℕ → ℕ

@@ -17,12 +17,12 @@ use Rattle.git_date.specs.Tokens.Tokens.{Token, Letters, Digits, Mark, tokens, w
 use Rattle.git_date.specs.declared.approximate.answer.Approximate.{Approximate}
 use Rattle.git_date.specs.declared.approximate.answer.Today.{Today}
 use Rattle.git_date.specs.declared.approximate.drafts.Draft.{Draft}
-use Rattle.git_date.specs.declared.clocks.ShownClock.{ShownClock}
 use Rattle.git_date.specs.declared.date.ReadDate.{ReadDate}
-use Rattle.git_date.specs.declared.dates.Now.{Now}
+use Rattle.git_date.specs.declared.fields.dates.Now.{Now}
 use Rattle.git_date.specs.declared.error.DateError.{DateError}
 use Rattle.git_date.specs.declared.error.DateError.TheVariants.{Unreadable, Range}
 use Rattle.git_date.specs.declared.fault.Fault.{Fault}
+use Rattle.gix_date.specs.Fields.Layout.{LocalTime}
 
 -- a draft, and the tokens that are left to read
 abbrev pub Read : Type 0
@@ -60,7 +60,7 @@ abbrev pub answer_of : Choices → Today → List ℕ → Result Draft Fault →
 answer_of zone today text (Ok d) = answer text (settle d) (filled_time zone today.shown (settle d).last.offset (settle d).fields)
 answer_of zone today text (Err e) = Err (error_of text e)
 
-abbrev pub guess_by : Choices → Now → List ℕ → Option ShownClock → Result Approximate DateError
+abbrev pub guess_by : Choices → Now → List ℕ → Option LocalTime → Result Approximate DateError
 guess_by zone now text (Some shown) =
     let today : Today = record { now = now; shown = shown } in answer_of zone today text (draft_of zone today text)
 guess_by zone now text None = Err Range

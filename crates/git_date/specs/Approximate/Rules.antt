@@ -16,12 +16,12 @@ use Rattle.git_date.specs.declared.approximate.meanings.Meaning.TheVariants.{Mon
 use Rattle.git_date.specs.declared.approximate.meanings.Meaning.TheVariants as meaning
 use Rattle.git_date.specs.declared.approximate.meanings.Unit.{Unit}
 use Rattle.git_date.specs.declared.approximate.meanings.Unit.TheVariants.{Seconds, Weekday, Months}
-use Rattle.git_date.specs.declared.clocks.ShownClock.{ShownClock}
-use Rattle.git_date.specs.declared.dates.Now.{Now}
+use Rattle.git_date.specs.declared.fields.dates.Now.{Now}
 use Rattle.git_date.specs.declared.fault.Fault.{Fault}
 use Rattle.git_date.specs.declared.fault.Fault.TheVariants.{NumberTooLarge, BackTooFar}
 use Rattle.git_date.specs.declared.fields.Fields.{Fields}
-use Rattle.git_date.specs.declared.groups.Number.{Number}
+use Rattle.git_date.specs.declared.fields.groups.Number.{Number}
+use Rattle.gix_date.specs.Fields.Layout.{LocalTime}
 
 -- what a rule makes of a draft: `None` if it did nothing
 abbrev pub Ruled : Type 0
@@ -36,13 +36,13 @@ abbrev pub at_hour : ℕ → Result Draft Fault → Result Draft Fault
 at_hour hour (Ok d) = Ok (with_hour d hour)
 at_hour hour (Err e) = Err e
 
-unfoldable pub hour_rule : Choices → ShownClock → Draft → ℕ → ℕ → Result Draft Fault
+unfoldable pub hour_rule : Choices → LocalTime → Draft → ℕ → ℕ → Result Draft Fault
 hour_rule zone today d hour left =
     if is_before (settle d).fields.hour hour then at_hour hour (fill zone today (settle d) seconds_per_day left)
     else Ok (with_hour (settle d) hour)
 
 -- a number of seconds back: Git has no more than 32 bits for them
-unfoldable pub back_rule : Choices → ShownClock → Draft → ℕ → Number → Result Draft Fault
+unfoldable pub back_rule : Choices → LocalTime → Draft → ℕ → Number → Result Draft Fault
 back_rule zone today d back n = if is_too_large back then Err (BackTooFar n.left) else fill zone today d back n.left
 
 abbrev pub month_taken : Draft → ℕ → Option Fields → Result Draft Fault
@@ -54,17 +54,17 @@ less_by months left (Ok d) = month_taken d left (less_months d.fields months)
 less_by months left (Err e) = Err e
 
 -- a number of months back: the date is filled in first
-unfoldable pub months_rule : Choices → ShownClock → Draft → ℕ → Number → Result Draft Fault
+unfoldable pub months_rule : Choices → LocalTime → Draft → ℕ → Number → Result Draft Fault
 months_rule zone today d months n = less_by months n.left (fill zone today d 0 n.left)
 
 -- what a number counts
-abbrev pub unit_rule : Choices → ShownClock → Draft → Unit → Number → Result Draft Fault
+abbrev pub unit_rule : Choices → LocalTime → Draft → Unit → Number → Result Draft Fault
 unit_rule zone today d (Seconds size) n = back_rule zone today (without_number d) (units n.value size) n
 unit_rule zone today d (Weekday day) n = back_rule zone today (without_number d) (weekday_seconds d.last.weekday day n.value) n
 unit_rule zone today d (Months size) n = months_rule zone today (without_number d) (units n.value size) n
 
 -- without a number that waits it says nothing
-abbrev pub counted_by : Choices → ShownClock → Draft → Unit → Option Number → Ruled
+abbrev pub counted_by : Choices → LocalTime → Draft → Unit → Option Number → Ruled
 counted_by zone today d unit (Some n) = used (unit_rule zone today d unit n)
 counted_by zone today d unit None = Ok None
 
@@ -77,7 +77,7 @@ abbrev pub with_month : Draft → ℕ → Draft
 with_month d month = record d { fields = record d.fields { month = Some month } }
 
 -- what a word makes of a draft by what it says
-unfoldable pub meaning_rule : Choices → ShownClock → Draft → ℕ → Meaning → Ruled
+unfoldable pub meaning_rule : Choices → LocalTime → Draft → ℕ → Meaning → Ruled
 meaning_rule zone today d left (Month month) = Ok (Some (with_month d month))
 meaning_rule zone today d left (Back seconds) = used (fill zone today (dropped d) seconds left)
 meaning_rule zone today d left Never = used (moved_to zone (dropped d) left (pos 0))
@@ -87,7 +87,7 @@ meaning_rule zone today d left Afternoon = Ok (Some (half d 12))
 meaning_rule zone today d left (Count n) = Ok (count_waits d n left d.waiting)
 meaning_rule zone today d left (meaning.Unit unit) = counted_by zone today d unit d.waiting
 
-abbrev pub word_by : Choices → ShownClock → Draft → ℕ → Option Meaning → Ruled
+abbrev pub word_by : Choices → LocalTime → Draft → ℕ → Option Meaning → Ruled
 word_by zone today d left (Some meaning) = meaning_rule zone today d left meaning
 word_by zone today d left None = Ok None
 
@@ -105,7 +105,7 @@ are_digits_next (Digits run ∷ more) = true
 are_digits_next more = false
 
 -- letters: no word that has a digit is known
-unfoldable pub letters_rule : Choices → ShownClock → Draft → List ℕ → List Token → Result Draft Fault
+unfoldable pub letters_rule : Choices → LocalTime → Draft → List ℕ → List Token → Result Draft Fault
 letters_rule zone today d run more =
     let left = bytes_left (Letters run ∷ more) in
     if are_digits_next more then Ok (ignore d left)

@@ -9,10 +9,10 @@ use Rattle.git_date.specs.Approximate.Clocks.{shown_at, filled_seconds}
 use Rattle.git_date.specs.Approximate.Drafts.{with_shown}
 use Rattle.git_date.specs.Exact.Zones.{ZoneOffsets, offsets_of, local_offset}
 use Rattle.git_date.specs.declared.approximate.drafts.Draft.{Draft}
-use Rattle.git_date.specs.declared.clocks.ShownClock.{ShownClock}
 use Rattle.git_date.specs.declared.fault.Fault.{Fault}
 use Rattle.git_date.specs.declared.fault.Fault.TheVariants.{BackTooFar, Range}
 use Rattle.git_date.specs.declared.fields.Fields.{Fields}
+use Rattle.gix_date.specs.Fields.Layout.{LocalTime}
 
 -- what is asked of a zone
 pub record Choices : Type 0 where
@@ -48,19 +48,19 @@ one_offset offset = record {
 }
 
 -- a clock at an offset
-abbrev pub with_offset : ℤ → ShownClock → ShownClock
+abbrev pub with_offset : ℤ → LocalTime → LocalTime
 with_offset offset shown = record shown { offset = offset }
 
 -- what the zone's clock shows at an instant, with its offset there
-unfoldable pub shown_in : Choices → ℤ → Option ShownClock
+unfoldable pub shown_in : Choices → ℤ → Option LocalTime
 shown_in zone instant =
     if is_instant instant then option_map (with_offset (zone.offset instant)) (shown_at (instant +ℤ zone.offset instant)) else None
 
 -- the time at which the zone's clock shows these fields, with a preferred offset
-unfoldable pub filled_time : Choices → ShownClock → ℤ → Fields → Option Time
+unfoldable pub filled_time : Choices → LocalTime → ℤ → Fields → Option Time
 filled_time zone today preferred f = filled_seconds today f >>= zone.picks preferred
 
-abbrev pub moved_by : Draft → ℕ → Option ShownClock → Result Draft Fault
+abbrev pub moved_by : Draft → ℕ → Option LocalTime → Result Draft Fault
 moved_by d left (Some shown) = Ok (with_shown d shown)
 moved_by d left None = Err (BackTooFar left)
 
@@ -73,5 +73,5 @@ fill_by zone d back left (Some time) = moved_to zone d left (time.seconds -ℤ p
 fill_by zone d back left None = Err Range
 
 -- Filled in, and so many seconds back: the fields become the zone's clock so many seconds before it shows them.
-unfoldable pub fill : Choices → ShownClock → Draft → ℕ → ℕ → Result Draft Fault
+unfoldable pub fill : Choices → LocalTime → Draft → ℕ → ℕ → Result Draft Fault
 fill zone today d back left = fill_by zone d back left (filled_time zone today d.last.offset d.fields)

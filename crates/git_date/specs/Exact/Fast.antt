@@ -13,7 +13,7 @@ use Rattle.git_date.specs.Tokens.Numbers.{number}
 use Rattle.gix_date.specs.Text.Names.{day_name, month_name}
 use Rattle.gix_date.specs.Text.Numbers.{two_digits}
 use Rattle.git_date.specs.Exact.Reading.{fields_said, said_by}
-use Rattle.git_date.specs.declared.dates.Now.{Now}
+use Rattle.git_date.specs.declared.fields.dates.Now.{Now}
 use Rattle.git_date.specs.declared.fields.Fields.{Fields}
 use Rattle.git_date.specs.declared.reader.Said.{Said}
 

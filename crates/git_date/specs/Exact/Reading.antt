@@ -11,7 +11,7 @@ use Rattle.git_date.specs.Rules.Dates.{exact_seconds}
 use Rattle.git_date.specs.Rules.Digits.{Stepped, digits_rule}
 use Rattle.git_date.specs.Rules.Offsets.{offset_rule, at_text}
 use Rattle.git_date.specs.declared.fields.Fields.{Fields}
-use Rattle.git_date.specs.declared.dates.Now.{Now}
+use Rattle.git_date.specs.declared.fields.dates.Now.{Now}
 use Rattle.git_date.specs.declared.reader.Reading.{Reading}
 use Rattle.git_date.specs.declared.reader.Said.{Said}
 use Rattle.git_date.specs.declared.fault.Fault.{Fault}

@@ -7,9 +7,9 @@ use Rattle.git_date.specs.Tokens.Numbers.{number}
 use Rattle.git_date.specs.Tokens.Strings.{before_nul}
 use Rattle.git_date.specs.Tokens.Tokens.{Token, Digits, tokens, bytes_left, is_end}
 use Rattle.git_date.specs.Exact.Reading.{nothing_read, read_on, rule}
-use Rattle.git_date.specs.declared.dates.Now.{Now}
+use Rattle.git_date.specs.declared.fields.dates.Now.{Now}
 use Rattle.git_date.specs.declared.fields.Fields.{Fields}
-use Rattle.git_date.specs.declared.groups.Group.{Group}
+use Rattle.git_date.specs.declared.fields.groups.Group.{Group}
 use Rattle.git_date.specs.declared.reader.Reading.{Reading}
 
 -- a date by dots, slashes or dashes that does not begin with its year

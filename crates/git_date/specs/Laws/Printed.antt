@@ -8,7 +8,7 @@ use Rattle.gix_date.specs.Printing.ReadingBack.{RoundTrips}
 use Rattle.gix_date.specs.declared.time.Time.{Time}
 use Rattle.git_date.specs.Exact.Outcome.{date_of}
 use Rattle.git_date.specs.Exact.Reading.{said_by}
-use Rattle.git_date.specs.declared.dates.Now.{Now}
+use Rattle.git_date.specs.declared.fields.dates.Now.{Now}
 
 -- A time that Git's dates can say: it is printed so that `gix_date` reads it back, it is not before 1970, its own clock shows
 -- a year from 1970 to 2099, and it is not one minute behind UTC.

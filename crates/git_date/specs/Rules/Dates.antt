@@ -14,9 +14,9 @@ use Rattle.git_date.specs.Rules.Clocks.{utc_year}
 use Rattle.git_date.specs.Rules.Fields.{with_date}
 use Rattle.git_date.specs.Tokens.Numbers.{numbers_of_32_bits}
 use Rattle.git_date.specs.declared.fields.Fields.{Fields}
-use Rattle.git_date.specs.declared.dates.Now.{Now}
-use Rattle.git_date.specs.declared.dates.Dated.{Dated}
-use Rattle.git_date.specs.declared.dates.Dated.TheVariants.{Taken, Refused, YearRefused}
+use Rattle.git_date.specs.declared.fields.dates.Now.{Now}
+use Rattle.git_date.specs.declared.fields.dates.Dated.{Dated}
+use Rattle.git_date.specs.declared.fields.dates.Dated.TheVariants.{Taken, Refused, YearRefused}
 
 -- the first and the last year that Git knows
 abbrev pub first_year : ℕ

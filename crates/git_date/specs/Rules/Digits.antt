@@ -7,14 +7,14 @@ use Rattle.git_date.specs.Rules.Clocks.{utc_clock}
 use Rattle.git_date.specs.Rules.Dates.{year_date, last_year}
 use Rattle.git_date.specs.Rules.Groups.{ReadTokens, group_of, group_rule, large_in, without_fraction, after_group}
 use Rattle.git_date.specs.declared.fields.Fields.{Fields}
-use Rattle.git_date.specs.declared.dates.Now.{Now}
-use Rattle.git_date.specs.declared.clocks.ShownClock.{ShownClock}
-use Rattle.git_date.specs.declared.dates.Dated.{Dated}
-use Rattle.git_date.specs.declared.dates.Dated.TheVariants.{Taken, Refused}
-use Rattle.git_date.specs.declared.dates.Dated.TheVariants as dated
+use Rattle.git_date.specs.declared.fields.dates.Now.{Now}
+use Rattle.git_date.specs.declared.fields.dates.Dated.{Dated}
+use Rattle.git_date.specs.declared.fields.dates.Dated.TheVariants.{Taken, Refused}
+use Rattle.git_date.specs.declared.fields.dates.Dated.TheVariants as dated
 use Rattle.git_date.specs.declared.fault.Fault.{Fault}
 use Rattle.git_date.specs.declared.fault.Fault.TheVariants.{NumberTooLarge, YearRefused, Range}
-use Rattle.git_date.specs.declared.groups.Group.{Group}
+use Rattle.git_date.specs.declared.fields.groups.Group.{Group}
+use Rattle.gix_date.specs.Fields.Layout.{LocalTime}
 
 -- What a rule makes of the tokens that stand first: the fields, or `None` if no rule used them, and the tokens after those
 -- that it took; or why the whole text is refused.
@@ -30,18 +30,18 @@ abbrev pub is_epoch : Fields → ℕ → Bool
 is_epoch f n = nat_le min_epoch n && knows_nothing f
 
 -- the fields of a clock of UTC, which are those of an epoch
-abbrev pub with_epoch : Fields → ShownClock → Fields
+abbrev pub with_epoch : Fields → LocalTime → Fields
 with_epoch f shown = record f {
-  year = Some shown.year;
-  month = Some shown.month;
-  day = Some shown.day;
-  hour = Some shown.hour;
-  minute = Some shown.minute;
-  second = Some shown.second;
+  year = Some shown.date.year;
+  month = Some shown.date.month;
+  day = Some shown.date.day;
+  hour = Some shown.clock.hour;
+  minute = Some shown.clock.minute;
+  second = Some shown.clock.second;
   epoch = true;
 }
 
-abbrev pub by_clock : Fields → List Token → Option ShownClock → Stepped
+abbrev pub by_clock : Fields → List Token → Option LocalTime → Stepped
 by_clock f more (Some shown) = Ok (Some (with_epoch f shown), more)
 by_clock f more None = Err Range
 

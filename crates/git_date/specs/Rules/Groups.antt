@@ -7,11 +7,11 @@ use Rattle.git_date.specs.Tokens.Numbers.{number, is_too_large, narrow}
 use Rattle.git_date.specs.Rules.Fields.{with_clock, knows_date}
 use Rattle.git_date.specs.Rules.Dates.{recent_date, year_date}
 use Rattle.git_date.specs.declared.fields.Fields.{Fields}
-use Rattle.git_date.specs.declared.dates.Now.{Now}
-use Rattle.git_date.specs.declared.dates.Dated.{Dated}
-use Rattle.git_date.specs.declared.dates.Dated.TheVariants.{Taken, Refused}
-use Rattle.git_date.specs.declared.groups.Number.{Number}
-use Rattle.git_date.specs.declared.groups.Group.{Group}
+use Rattle.git_date.specs.declared.fields.dates.Now.{Now}
+use Rattle.git_date.specs.declared.fields.dates.Dated.{Dated}
+use Rattle.git_date.specs.declared.fields.dates.Dated.TheVariants.{Taken, Refused}
+use Rattle.git_date.specs.declared.fields.groups.Number.{Number}
+use Rattle.git_date.specs.declared.fields.groups.Group.{Group}
 
 -- `/`
 abbrev pub slash : ℕ

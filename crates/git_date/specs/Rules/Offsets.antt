@@ -10,7 +10,7 @@ use Rattle.git_date.specs.Rules.Digits.{Stepped}
 use Rattle.git_date.specs.declared.fields.Fields.{Fields}
 use Rattle.git_date.specs.declared.fault.Fault.{Fault}
 use Rattle.git_date.specs.declared.fault.Fault.TheVariants.{NumberTooLarge}
-use Rattle.git_date.specs.declared.offsets.Padded.{Padded}
+use Rattle.git_date.specs.declared.fields.offsets.Padded.{Padded}
 
 -- white space: a space, a tab, a line feed, a vertical tab, a form feed, a carriage return
 abbrev pub is_white : Token → Bool

@@ -1,5 +1,5 @@
 -- Ages: how long ago a time was, in one unit.
-use Rattle.std.specs.Prelude.{◌≡◌, ℕ, ◌+◌, ◌*◌, ◌/◌, ◌%◌, ◌≤◌, ◌==◌, nat_lt, List, [], ◌∷◌, ◌++◌, codes, decimal, ℤ, ◌-ℤ◌, unsigned_abs, if◌then◌else◌}
+use Rattle.std.specs.Prelude.{ℕ, ◌+◌, ◌*◌, ◌/◌, ◌%◌, ◌==◌, nat_lt, List, [], ◌∷◌, ◌++◌, codes, decimal, ℤ, ◌-ℤ◌, unsigned_abs, if◌then◌else◌}
 use Rattle.std.specs.Int.Signed.{lt_z}
 use Rattle.gix_date.specs.Text.Characters.{space}
 use Rattle.git_date.specs.declared.show.ages.Age.{Age}
@@ -67,36 +67,3 @@ unfoldable pub relative_text : ℤ → ℤ → List ℕ
 relative_text now seconds =
     if lt_z now seconds then codes "in the future"
     else age_text (age_of (unsigned_abs (now -ℤ seconds))) ++ codes " ago"
-
--- the age is of no single unit: of minutes to months it is two at least, and of years one
-abbrev pub IsNoSingle : Age → Type 0
-IsNoSingle (Seconds n) = Unit {0}
-IsNoSingle (Minutes n) = 2 ≤ n
-IsNoSingle (Hours n) = 2 ≤ n
-IsNoSingle (Days n) = 2 ≤ n
-IsNoSingle (Weeks n) = 2 ≤ n
-IsNoSingle (Months n) = 2 ≤ n
-IsNoSingle (Years years months) = 1 ≤ years
-
--- an age's unit, from 0 for seconds, and how many of it; years are told in months
-abbrev pub unit_of : Age → ℕ
-unit_of (Seconds n) = 0
-unit_of (Minutes n) = 1
-unit_of (Hours n) = 2
-unit_of (Days n) = 3
-unit_of (Weeks n) = 4
-unit_of (Months n) = 5
-unit_of (Years years months) = 6
-
-abbrev pub count_of : Age → ℕ
-count_of (Seconds n) = n
-count_of (Minutes n) = n
-count_of (Hours n) = n
-count_of (Days n) = n
-count_of (Weeks n) = n
-count_of (Months n) = n
-count_of (Years years months) = 12 * years + months
-
--- the second age is no less: its unit is no smaller, and of the same unit there are no fewer
-abbrev pub IsNoLess : Age → Age → Type 0
-IsNoLess age later = (unit_of age ≤ unit_of later) × (unit_of age ≡ unit_of later → count_of age ≤ count_of later)

@@ -1,5 +1,5 @@
 -- Dates as Git shows them.
-use Rattle.std.specs.Prelude.{ℕ, List, Bool, true, false, ℤ, pos, if◌then◌else◌, Option, Some, None, option_map}
+use Rattle.std.specs.Prelude.{ℕ, List, [], Bool, true, false, ℤ, pos, if◌then◌else◌, Option, Some, None, option_map}
 use Rattle.std.specs.Int.Signed.{lt_z}
 use Rattle.gix_date.specs.Text.Front.{◌>>=◌}
 use Rattle.gix_date.specs.Fields.Layout.{LocalTime}
@@ -44,14 +44,32 @@ is_stored Raw = true
 is_stored Unix = true
 is_stored _ = false
 
+-- the kinds that show a clock and nothing else
+abbrev pub is_clock_kind : DateKind → Bool
+is_clock_kind Iso8601Strict = true
+is_clock_kind Iso8601 = true
+is_clock_kind Rfc2822 = true
+is_clock_kind Short = true
+is_clock_kind Default = true
+is_clock_kind _ = false
+
+-- what these kinds show of a clock
+abbrev pub clock_text : DateKind → Bool → LocalTime → List ℕ
+clock_text Iso8601Strict local t = iso8601_strict_text t
+clock_text Iso8601 local t = iso8601_text t
+clock_text Rfc2822 local t = git_rfc2822_text t
+clock_text Short local t = short_text t
+clock_text Default local t = git_default_text local t
+clock_text _ local t = []
+
 -- what each kind shows of a time from 1970 on
 abbrev pub shown_by : DateKind → Moment → Bool → Time → Option (List ℕ)
 shown_by Relative now local t = relative_shown now.seconds t.seconds
-shown_by Iso8601Strict now local t = option_map iso8601_strict_text (shown_clock now local t)
-shown_by Iso8601 now local t = option_map iso8601_text (shown_clock now local t)
-shown_by Rfc2822 now local t = option_map git_rfc2822_text (shown_clock now local t)
-shown_by Short now local t = option_map short_text (shown_clock now local t)
-shown_by Default now local t = option_map (git_default_text local) (shown_clock now local t)
+shown_by Iso8601Strict now local t = option_map (clock_text Iso8601Strict local) (shown_clock now local t)
+shown_by Iso8601 now local t = option_map (clock_text Iso8601 local) (shown_clock now local t)
+shown_by Rfc2822 now local t = option_map (clock_text Rfc2822 local) (shown_clock now local t)
+shown_by Short now local t = option_map (clock_text Short local) (shown_clock now local t)
+shown_by Default now local t = option_map (clock_text Default local) (shown_clock now local t)
 shown_by Human now local t = human_shown now local t
 shown_by Raw now local t = option_map (raw_text t.seconds) (shown_offset now local t)
 shown_by Unix now local t = Some (decimal_text t.seconds)

@@ -2,17 +2,10 @@
 use Rattle.std.specs.Prelude.{ℕ, List, [], ◌∷◌, ◌++◌, Bool, ◌||◌, ℤ, neg_ℤ, pos, if◌then◌else◌}
 use Rattle.std.specs.Fmt.{decimal}
 use Rattle.std.specs.Ordering.{int_eq}
-use Rattle.gix_date.specs.Fields.Layout.{LocalTime, LocalClock, Piece, DayName, MonthName, Day, Year, Clock, Spaces, print_pieces}
-use Rattle.gix_date.specs.Printing.NamedTexts.{default_text}
+use Rattle.gix_date.specs.Fields.Layout.{LocalTime, LocalClock, Piece, DayName, MonthName, Day, Year, Spaces, print_pieces}
+use Rattle.gix_date.specs.Printing.NamedTexts.{bare_default_text, default_text}
 use Rattle.gix_date.specs.Text.Characters.{colon}
 use Rattle.gix_date.specs.Text.Numbers.{two_digits}
-
--- the pieces of Git's default date without its offset: `Www Mmm D hh:mm:ss YYYY`
-abbrev pub bare_default_layout : List Piece
-bare_default_layout = DayName ∷ Spaces ∷ MonthName ∷ Spaces ∷ Day ∷ Spaces ∷ Clock ∷ Spaces ∷ Year ∷ []
-
-abbrev pub bare_default_text : LocalTime → List ℕ
-bare_default_text t = print_pieces decimal bare_default_layout t
 
 -- `-0001`, by which Git marks an unknown offset
 abbrev pub unknown_offset : ℤ

@@ -1,6 +1,6 @@
 -- The variants of `Dated`.
 use Rattle.git_date.specs.Types.Names.{Dated, Fields}
-use Rattle.git_date.specs.declared.dates.Dated.TheVariants as variant
+use Rattle.git_date.specs.declared.fields.dates.Dated.TheVariants as variant
 
 pattern abbrev pub Taken : Fields → Dated
 Taken a = variant.Taken a

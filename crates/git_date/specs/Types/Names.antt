@@ -1,16 +1,16 @@
 -- The types of the code that definitions speak of, by names that other crates can use.
-use Rattle.git_date.specs.declared.dates.Now.{Now as TheNow}
-use Rattle.git_date.specs.declared.dates.Dated.{Dated as TheDated}
+use Rattle.git_date.specs.declared.fields.dates.Now.{Now as TheNow}
+use Rattle.git_date.specs.declared.fields.dates.Dated.{Dated as TheDated}
 use Rattle.git_date.specs.declared.fault.Fault.{Fault as TheFault}
 use Rattle.git_date.specs.declared.fields.Fields.{Fields as TheFields}
-use Rattle.git_date.specs.declared.groups.Group.{Group as TheGroup}
-use Rattle.git_date.specs.declared.groups.Number.{Number as TheNumber}
-use Rattle.git_date.specs.declared.offsets.Padded.{Padded as ThePadded}
+use Rattle.git_date.specs.declared.fields.groups.Group.{Group as TheGroup}
+use Rattle.git_date.specs.declared.fields.groups.Number.{Number as TheNumber}
+use Rattle.git_date.specs.declared.fields.offsets.Padded.{Padded as ThePadded}
 use Rattle.git_date.specs.declared.reader.Reading.{Reading as TheReading}
 use Rattle.git_date.specs.declared.reader.Said.{Said as TheSaid}
-use Rattle.git_date.specs.declared.clocks.ShownClock.{ShownClock as TheShownClock}
 use Rattle.git_date.specs.declared.approximate.answer.Today.{Today as TheToday}
 use Rattle.git_date.specs.declared.approximate.drafts.Draft.{Draft as TheDraft}
+use Rattle.git_date.specs.declared.approximate.drafts.LastShown.{LastShown as TheLastShown}
 use Rattle.git_date.specs.declared.approximate.meanings.Meaning.{Meaning as TheMeaning}
 use Rattle.git_date.specs.declared.approximate.meanings.Unit.{Unit as TheUnit}
 use Rattle.git_date.specs.declared.show.ages.Age.{Age as TheAge}
@@ -43,14 +43,14 @@ Reading = TheReading
 abbrev pub Said : Type 0
 Said = TheSaid
 
-abbrev pub ShownClock : Type 0
-ShownClock = TheShownClock
-
 abbrev pub Today : Type 0
 Today = TheToday
 
 abbrev pub Draft : Type 0
 Draft = TheDraft
+
+abbrev pub LastShown : Type 0
+LastShown = TheLastShown
 
 abbrev pub Meaning : Type 0
 Meaning = TheMeaning

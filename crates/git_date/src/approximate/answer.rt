@@ -10,14 +10,14 @@ ghost use Rattle.git_date.specs.Rules.Views.{step_view};
 use crate::approximate::drafts::Draft;
 use crate::approximate::rules::{digits_rule, letters_rule};
 use crate::approximate::zone::{filled_time, shown_in};
-use crate::clocks::ShownClock;
-use crate::dates::Now;
 use crate::error::DateError;
 use crate::fault::Fault;
+use crate::fields::dates::Now;
 use crate::reader::{error_of, place_in};
-use crate::strings::up_to_nul;
+use crate::tokens::strings::up_to_nul;
+use crate::tokens::words::without_ending;
 use crate::tokens::{Token, next_token};
-use crate::words::without_ending;
+use gix_date::clock::Clock;
 use gix_date::{Time, Zoned};
 
 /// What [`approxidate`](crate::approxidate) makes of a text.
@@ -25,7 +25,8 @@ use gix_date::{Time, Zoned};
 pub struct Approximate {
     /// The time: seconds since 1970-01-01 00:00:00 UTC, and the offset in seconds east of UTC.
     pub time: Time,
-    /// Whether anything was understood, by Git's own count. If not, the time is the moment, or near it.
+    /// Whether anything was understood, by Git's own count. If not, the time is the moment in whole seconds, or in the
+    /// last days of 9999 near it.
     pub understood: bool,
     /// The place, in bytes, of the first word or number that no rule used, so that a program can say so; or else that of the first
     /// NUL, which ends the text.
@@ -40,18 +41,18 @@ pub struct Approximate {
 pub(crate) struct Today {
     now: Now,
     /// What the clock of its zone shows.
-    shown: ShownClock,
+    shown: Clock,
 }
 
 /// What a token makes of a draft, and what is left to read. Marks say nothing.
 fn rule<'a>(
     moment: Zoned<'_>,
-    today: Today,
+    today: &Today,
     draft: Draft,
     token: Token<'_>,
     text: &'a [u8],
 ) -> Result<(Draft, &'a [u8]), Fault>
-    ensures value { step_view result ≡ rule (choices_of (zone_of moment.entry)) today draft (token_of token.entry) (tokens text.now) }
+    ensures value { step_view result ≡ rule (choices_of (zone_of moment.entry)) today.entry.now draft (token_of token.entry) (tokens text.now) }
     ensures shorter { IfOk result (λ found. length found.1.now ≤ length text.now) }
 {
     match token {
@@ -65,8 +66,8 @@ fn rule<'a>(
 }
 
 /// What the tokens of a text say, one after the other.
-fn draft_of(moment: Zoned<'_>, today: Today, text: &[u8]) -> Result<Draft, Fault>
-    ensures { result ≡ draft_of (choices_of (zone_of moment.entry)) today text.now }
+fn draft_of(moment: Zoned<'_>, today: &Today, text: &[u8]) -> Result<Draft, Fault>
+    ensures { result ≡ draft_of (choices_of (zone_of moment.entry)) today.entry.now text.now }
 {
     let mut draft = Draft::first(today.shown);
     let mut rest = text;
@@ -104,8 +105,8 @@ fn answer(text: &[u8], draft: Draft, time: Option<Time>) -> Result<Approximate, 
 }
 
 /// The answer of what the tokens say, with the number settled that still waits.
-fn answer_of(moment: Zoned<'_>, today: Today, text: &[u8]) -> Result<Approximate, DateError>
-    ensures { result ≡ answer_of (choices_of (zone_of moment.entry)) today text.now (draft_of (choices_of (zone_of moment.entry)) today text.now) }
+fn answer_of(moment: Zoned<'_>, today: &Today, text: &[u8]) -> Result<Approximate, DateError>
+    ensures { result ≡ answer_of (choices_of (zone_of moment.entry)) today.entry.now text.now (draft_of (choices_of (zone_of moment.entry)) today.entry.now text.now) }
 {
     match draft_of(moment, today, text) {
         Ok(draft) => {
@@ -127,7 +128,7 @@ fn string_guess(moment: Zoned<'_>, text: &[u8]) -> Result<Approximate, DateError
 {
     let now = Now::of(moment.timestamp());
     match shown_in(moment, now.seconds) {
-        Some(shown) => answer_of(moment, Today { now, shown }, text),
+        Some(shown) => answer_of(moment, &Today { now, shown }, text),
         None => Err(DateError::Range),
     }
 }

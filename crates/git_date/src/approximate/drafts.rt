@@ -1,17 +1,37 @@
 //! What an approximate text says so far.
 ghost use Rattle.std.specs.Prelude.{◌≡◌, ◌≤◌, None};
-ghost use Rattle.git_date.specs.Approximate.Drafts.{clock_fields, all_fields, first_draft, with_shown, ignore, lone_year, with_number, settle, dropped, with_hour, is_before, half, half_by, units, days_back, weekday_seconds, at_month, less_months};
+ghost use Rattle.git_date.specs.Approximate.Drafts.{clock_fields, all_fields, last_of, first_draft, with_shown, ignore, lone_year, with_number, settle, dropped, with_hour, is_before, half, half_by, units, days_back, weekday_seconds, at_month, less_months};
 
-use crate::clocks::ShownClock;
 use crate::fields::Fields;
-use crate::groups::Number;
+use crate::fields::groups::Number;
+use gix_date::clock::Clock;
+use gix_date::time::SECONDS_PER_DAY;
+
+/// What the rules use of the clock of the zone that was shown last.
+#[derive(Clone, Copy)]
+pub(crate) struct LastShown {
+    /// The day of the week, from 0 for Monday.
+    pub(crate) weekday: u8,
+    /// Seconds east of UTC.
+    pub(crate) offset: i32,
+}
+
+impl LastShown {
+    fn of(shown: Clock) -> LastShown
+        ensures { result ≡ last_of shown }
+    {
+        LastShown {
+            weekday: shown.weekday(),
+            offset: shown.offset(),
+        }
+    }
+}
 
 /// What an approximate text says so far.
 #[derive(Clone, Copy)]
 pub(crate) struct Draft {
     pub(crate) fields: Fields,
-    /// What the zone's clock showed last.
-    pub(crate) last: ShownClock,
+    pub(crate) last: LastShown,
     /// A number of which no word has said yet what it counts.
     pub(crate) waiting: Option<Number>,
     /// Whether anything was understood.
@@ -21,25 +41,25 @@ pub(crate) struct Draft {
 }
 
 /// The fields of a clock without its date.
-fn clock_fields(shown: ShownClock) -> Fields
+fn clock_fields(shown: Clock) -> Fields
     ensures { result ≡ clock_fields shown }
 {
     Fields {
-        hour: Some(shown.hour),
-        minute: Some(shown.minute),
-        second: Some(shown.second),
+        hour: Some(shown.hour()),
+        minute: Some(shown.minute()),
+        second: Some(shown.second()),
         ..Fields::UNKNOWN
     }
 }
 
 /// The fields of a clock and its date.
-fn all_fields(shown: ShownClock) -> Fields
+fn all_fields(shown: Clock) -> Fields
     ensures { result ≡ all_fields shown }
 {
     Fields {
-        year: Some(shown.year),
-        month: Some(shown.month),
-        day: Some(shown.day),
+        year: Some(shown.year()),
+        month: Some(shown.month()),
+        day: Some(shown.day()),
         ..clock_fields(shown)
     }
 }
@@ -117,12 +137,12 @@ fn lone_year(n: u64) -> Option<u16>
 
 impl Draft {
     /// Before the first token: today's clock, and no date.
-    pub(crate) fn first(today: ShownClock) -> Draft
+    pub(crate) fn first(today: Clock) -> Draft
         ensures { result ≡ first_draft today }
     {
         Draft {
             fields: clock_fields(today),
-            last: today,
+            last: LastShown::of(today),
             waiting: None,
             understood: false,
             ignored: None,
@@ -130,12 +150,12 @@ impl Draft {
     }
 
     /// With all that a clock shows.
-    pub(crate) fn with_shown(self, shown: ShownClock) -> Draft
+    pub(crate) fn with_shown(self, shown: Clock) -> Draft
         ensures { result ≡ with_shown self shown }
     {
         Draft {
             fields: all_fields(shown),
-            last: shown,
+            last: LastShown::of(shown),
             ..self
         }
     }
@@ -265,6 +285,6 @@ fn days_back(weekday: u8, named: u8) -> u32
 pub(crate) fn weekday_seconds(weekday: u8, named: u8, n: u64) -> u64
     ensures { result ≡ weekday_seconds weekday named n }
 {
-    let weeks = units(n.saturating_sub(1), 604_800);
-    weeks.saturating_add(u64::from(86_400 * days_back(weekday, named)))
+    let weeks = units(n.saturating_sub(1), 7 * SECONDS_PER_DAY as u32);
+    weeks.saturating_add(SECONDS_PER_DAY as u64 * u64::from(days_back(weekday, named)))
 }

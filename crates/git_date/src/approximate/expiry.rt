@@ -5,7 +5,7 @@ ghost use Rattle.git_date.specs.Approximate.Expiry.{fixed_expiry, expiry_of, Exp
 use crate::approximate::answer::Approximate;
 use crate::approximate::approxidate;
 use crate::error::DateError;
-use crate::strings::up_to_nul;
+use crate::tokens::strings::up_to_nul;
 use gix_date::Zoned;
 
 /// What expires by a text such as `gc.pruneExpire` has.
@@ -19,7 +19,7 @@ pub enum Expiry {
     Before(Approximate),
 }
 
-/// What the words say that are no dates here.
+/// What the words say that are no dates here. By git-gc's manual `never` suppresses expiration, and `now` expires all at once.
 #[tactic(auto, unfolding(crate::specs::Approximate::Expiry::fixed_expiry))]
 fn fixed_expiry(text: &[u8]) -> Option<Expiry>
     ensures { result ≡ fixed_expiry text.now }
@@ -33,7 +33,7 @@ fn fixed_expiry(text: &[u8]) -> Option<Expiry>
     }
 }
 
-/// What a date says of which something was understood.
+/// What a date says of which something was understood. Git refuses any other, too.
 fn expiry_of(date: Result<Approximate, DateError>) -> Result<Expiry, DateError>
     ensures { result ≡ expiry_of date }
 {

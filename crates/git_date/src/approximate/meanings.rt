@@ -5,6 +5,7 @@ ghost use Rattle.gix_date.specs.Text.Names.{is_name};
 ghost use Rattle.git_date.specs.Approximate.Words.{moment_named, count_named, is_unit, unit_named, meaning_of};
 
 use gix_date::names::{begins, is_name, month_told, weekday_told};
+use gix_date::time::SECONDS_PER_DAY;
 
 /// What a word says.
 #[derive(Clone, Copy)]
@@ -50,7 +51,7 @@ fn moment_named(word: &[u8]) -> Option<Meaning>
     if is_name(word, b"now") {
         Some(Meaning::Back(0))
     } else if is_name(word, b"yesterday") {
-        Some(Meaning::Back(86_400))
+        Some(Meaning::Back(SECONDS_PER_DAY as u32))
     } else if is_name(word, b"never") {
         Some(Meaning::Never)
     } else if is_name(word, b"midnight") {
@@ -87,7 +88,7 @@ fn count_named(word: &[u8]) -> Option<u8>
     Some(place as u8 + 1)
 }
 
-/// Whether a word is a unit's name, or that without its last letter.
+/// Whether a word is a unit's name, or that without its last letter. Git knows no shorter ones: `mins` is none.
 fn is_unit(word: &[u8], name: &[u8]) -> bool
     ensures { result ≡ is_unit word.now name.now }
 {
@@ -106,7 +107,7 @@ fn unit_named(word: &[u8]) -> Option<Unit>
     } else if is_unit(word, b"hours") {
         Some(Unit::Seconds(3600))
     } else if is_unit(word, b"days") {
-        Some(Unit::Seconds(86_400))
+        Some(Unit::Seconds(SECONDS_PER_DAY as u32))
     } else if is_unit(word, b"weeks") {
         Some(Unit::Seconds(604_800))
     } else if is_unit(word, b"months") {
@@ -118,7 +119,7 @@ fn unit_named(word: &[u8]) -> Option<Unit>
     }
 }
 
-/// What a word says, if it is known. No word that has a digit is.
+/// What a word says, if it is known. As in Git `today`, `tomorrow` and `next` are not.
 #[tactic(auto, unfolding(crate::specs::Approximate::Words::meaning_of))]
 pub(crate) fn meaning_of(word: &[u8]) -> Option<Meaning>
     ensures { result ≡ meaning_of word.now }

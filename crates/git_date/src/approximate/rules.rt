@@ -11,16 +11,17 @@ ghost use Rattle.git_date.specs.Rules.Views.{step_view};
 use crate::approximate::drafts::{Draft, units, weekday_seconds};
 use crate::approximate::meanings::{Meaning, Unit, meaning_of};
 use crate::approximate::zone::{fill, moved_to};
-use crate::clocks::ShownClock;
-use crate::dates::{Dated, Now};
-use crate::digits::Stepped;
 use crate::fault::Fault;
 use crate::fields::Fields;
-use crate::groups::{Number, group_of};
-use crate::numbers::{MAX_SMALL, is_too_large, number};
+use crate::fields::dates::{Dated, Now};
+use crate::fields::digits::Stepped;
+use crate::fields::groups::{Number, group_of};
+use crate::tokens::numbers::{MAX_SMALL, is_too_large, number};
+use crate::tokens::words::is_filler;
 use crate::tokens::{Token, left_from, next_token};
-use crate::words::is_filler;
 use gix_date::Zoned;
+use gix_date::clock::Clock;
+use gix_date::time::SECONDS_PER_DAY;
 
 /// What a rule makes of a draft: `None` if it did nothing.
 type Ruled = Result<Option<Draft>, Fault>;
@@ -31,11 +32,11 @@ fn used(draft: Result<Draft, Fault>) -> Ruled
     Ok(Some(draft?))
 }
 
-/// `midnight`, `noon` and `tea`: where the clock is before that hour, the day before.
+/// `midnight`, `noon` and `tea`: where the clock is before that hour, the day before. gitrevisions asks for a prior point in time.
 #[tactic(auto, unfolding(crate::specs::Approximate::Rules::hour_rule))]
 fn hour_rule(
     moment: Zoned<'_>,
-    today: ShownClock,
+    today: Clock,
     draft: Draft,
     hour: u8,
     left: usize,
@@ -46,14 +47,14 @@ fn hour_rule(
     if !settled.is_before(hour) {
         return Ok(settled.with_hour(hour));
     }
-    Ok(fill(moment, today, settled, 86_400, left)?.with_hour(hour))
+    Ok(fill(moment, today, settled, SECONDS_PER_DAY as u32, left)?.with_hour(hour))
 }
 
-/// A number of seconds back.
+/// A number of seconds back. Git keeps them in 32 bits: its `25000 days ago` lies ahead, and is refused here.
 #[tactic(auto, unfolding(crate::specs::Approximate::Rules::back_rule))]
 fn back_rule(
     moment: Zoned<'_>,
-    today: ShownClock,
+    today: Clock,
     draft: Draft,
     back: u64,
     n: Number,
@@ -66,11 +67,11 @@ fn back_rule(
     fill(moment, today, draft, back as u32, n.left)
 }
 
-/// A number of months back.
+/// A number of months back. To Git a year before 1900 is unknown, so its `200 years ago` is this year, and is refused here.
 #[tactic(auto, unfolding(crate::specs::Approximate::Rules::months_rule))]
 fn months_rule(
     moment: Zoned<'_>,
-    today: ShownClock,
+    today: Clock,
     draft: Draft,
     months: u64,
     n: Number,
@@ -90,7 +91,7 @@ fn months_rule(
 /// What a number counts.
 fn unit_rule(
     moment: Zoned<'_>,
-    today: ShownClock,
+    today: Clock,
     draft: Draft,
     unit: Unit,
     n: Number,
@@ -111,8 +112,8 @@ fn unit_rule(
     }
 }
 
-/// What the waiting number counts.
-fn counted(moment: Zoned<'_>, today: ShownClock, draft: Draft, unit: Unit) -> Ruled
+/// What the waiting number counts. Without one a unit says nothing, so Git understands no `friday` alone.
+fn counted(moment: Zoned<'_>, today: Clock, draft: Draft, unit: Unit) -> Ruled
     ensures { result ≡ counted_by (choices_of (zone_of moment.entry)) today draft unit draft.waiting }
 {
     match draft.waiting {
@@ -154,7 +155,7 @@ fn with_month(draft: Draft, month: u8) -> Draft
 #[tactic(auto, unfolding(crate::specs::Approximate::Rules::meaning_rule))]
 fn meaning_rule(
     moment: Zoned<'_>,
-    today: ShownClock,
+    today: Clock,
     draft: Draft,
     left: usize,
     meaning: Meaning,
@@ -174,7 +175,7 @@ fn meaning_rule(
 }
 
 /// What a word makes of a draft.
-fn word_rule(moment: Zoned<'_>, today: ShownClock, draft: Draft, left: usize, word: &[u8]) -> Ruled
+fn word_rule(moment: Zoned<'_>, today: Clock, draft: Draft, left: usize, word: &[u8]) -> Ruled
     ensures { result ≡ word_by (choices_of (zone_of moment.entry)) today draft left (meaning_of word.now) }
 {
     match meaning_of(word) {
@@ -204,11 +205,11 @@ fn begins_with_digits(text: &[u8]) -> bool
     matches!(next_token(text), Some((Token::Digits(_), _)))
 }
 
-/// What letters make of a draft, by the text after them. No word that has a digit is known.
+/// What letters make of a draft, by the text after them. To Git `jan5` is one word, and no name has a digit.
 #[tactic(auto, unfolding(crate::specs::Approximate::Rules::letters_rule))]
 pub(crate) fn letters_rule(
     moment: Zoned<'_>,
-    today: ShownClock,
+    today: Clock,
     draft: Draft,
     run: &[u8],
     text: &[u8],
@@ -229,7 +230,7 @@ fn letters_left(run: &[u8], text: &[u8]) -> usize
     left_from(run, text)
 }
 
-/// Whether three digits or more begin with 0.
+/// Whether three digits or more begin with 0. In Git `07` may be a day or a month, and `007` says nothing.
 #[tactic(auto, unfolding(crate::specs::Approximate::Rules::is_padded))]
 fn is_padded(run: &[u8]) -> bool
     ensures { result ≡ is_padded run.now }
@@ -240,7 +241,7 @@ fn is_padded(run: &[u8]) -> bool
     }
 }
 
-/// A number waits, unless it is 0 or padded.
+/// A number waits, unless it is padded, or 0, by which Git says that none waits.
 #[tactic(auto, unfolding(crate::specs::Approximate::Rules::number_waits))]
 fn number_waits(draft: Draft, value: u64, run: &[u8], left: usize) -> Draft
     requires { value ≡ number run.now }

@@ -6,10 +6,11 @@ ghost use Rattle.git_date.specs.Approximate.Zones.{choices_of, shown_in, filled_
 
 use crate::approximate::drafts::Draft;
 use crate::approximate::shown::{filled_seconds, shown_at};
-use crate::clocks::{ShownClock, is_instant};
+use crate::clocks::is_instant;
 use crate::fault::Fault;
 use crate::fields::Fields;
 use crate::zones::{local_offset, offset_at};
+use gix_date::clock::Clock;
 use gix_date::{Time, Zoned};
 
 /// The time at which the clock of the moment's zone has counted so many seconds since 1970-01-01 00:00:00, with a preferred offset.
@@ -26,14 +27,14 @@ fn picked(moment: Zoned<'_>, preferred: i32, local: i64) -> Option<Time>
 }
 
 /// What the clock of the moment's zone shows at an instant, with its offset there. `None` before 1900.
-pub(crate) fn shown_in(moment: Zoned<'_>, instant: i64) -> Option<ShownClock>
+pub(crate) fn shown_in(moment: Zoned<'_>, instant: i64) -> Option<Clock>
     ensures { result ≡ shown_in (choices_of (zone_of moment.entry)) instant }
 {
     let Some(offset) = offset_at(moment.time_zone(), instant) else {
         return None;
     };
     match shown_at(instant + i64::from(offset)) {
-        Some(shown) => Some(ShownClock { offset, ..shown }),
+        Some(shown) => Some(shown.with_offset(offset)),
         None => None,
     }
 }
@@ -42,7 +43,7 @@ pub(crate) fn shown_in(moment: Zoned<'_>, instant: i64) -> Option<ShownClock>
 #[tactic(auto, unfolding(crate::specs::Approximate::Zones::filled_time))]
 pub(crate) fn filled_time(
     moment: Zoned<'_>,
-    today: ShownClock,
+    today: Clock,
     preferred: i32,
     fields: Fields,
 ) -> Option<Time>
@@ -72,7 +73,7 @@ pub(crate) fn moved_to(
 #[tactic(auto, unfolding(crate::specs::Approximate::Zones::fill))]
 pub(crate) fn fill(
     moment: Zoned<'_>,
-    today: ShownClock,
+    today: Clock,
     draft: Draft,
     back: u32,
     left: usize,

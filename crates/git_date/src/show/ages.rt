@@ -1,6 +1,7 @@
 //! How long ago a time was.
 ghost use Rattle.std.specs.Prelude.{◌≡◌, ◌+◌, ◌^◌, ◌≤◌, ◌<◌, ◌≤ℤ◌, ◌++◌, length, pos};
 ghost use Rattle.arrayvec.specs.ArrayString.{array_string_len};
+ghost use Rattle.gix_date.specs.Fields.Zoned.{last_second};
 ghost use Rattle.git_date.specs.Show.Ages.{age_of, age_of_days, age_text, and_months, counted, in_years_and_months, relative_text, rounded};
 
 use crate::show::DateText;
@@ -28,7 +29,7 @@ fn rounded(n: u64, length: u64) -> u64
     (n + length / 2) / length
 }
 
-/// An age of so many days, in days or a larger unit.
+/// An age of so many days, in days or a larger unit. A year has 365 days here, so 24 months have 730.
 #[tactic(auto, unfolding(crate::specs::Show::Ages::age_of_days))]
 fn age_of_days(days: u64) -> Age
     requires { days < 10_000_000 }
@@ -54,7 +55,7 @@ fn in_years_and_months(months: u64) -> Age
     Age::Years((months / 12) as u16, (months % 12) as u16)
 }
 
-/// An age of so many seconds.
+/// An age of so many seconds. After 89 seconds come 2 minutes: one minute, hour, day, week or month is never said alone.
 #[tactic(auto, unfolding(crate::specs::Show::Ages::age_of))]
 fn age_of(seconds: u64) -> Age
     requires { seconds ≤ 253_402_207_200 }
@@ -121,7 +122,7 @@ fn push_age(text: &mut DateText, age: Age)
 /// How long ago a time was, at a moment. Both are in seconds since 1970.
 #[tactic(auto, unfolding(crate::specs::Show::Ages::relative_text))]
 pub(crate) fn relative_text(now: i64, seconds: i64) -> DateText
-    requires now { now ≤ℤ pos 253_402_207_200 }
+    requires now { now ≤ℤ last_second }
     requires seconds { pos 0 ≤ℤ seconds }
     ensures { result.bytes ≡ relative_text now seconds }
 {

@@ -1,15 +1,14 @@
 //! Human dates: as much as tells a date from now.
-ghost use Rattle.std.specs.Prelude.{◌≡◌};
+ghost use Rattle.std.specs.Prelude.{◌≡◌, ◌+◌, ◌≤◌, ◌++◌};
+ghost use Rattle.arrayvec.specs.ArrayString.{array_string_len};
 ghost use Rattle.git_date.specs.Show.Human.{distance_of, is_few_days_before, is_same_day, few_days_text, human_text};
-ghost use Rattle.git_date.specs.Show.Texts.{year_text, day_and_clock_text};
-ghost use Rattle.git_date.specs.Rules.Clocks.{local_of, HasFields};
+ghost use Rattle.git_date.specs.Show.Texts.{year_text, day_and_clock_text, short_clock_text};
 
-use crate::clocks::ShownClock;
-use crate::show::DateText;
-use crate::show::pieces::{
-    push_month_and_day, push_offset, push_short_clock, push_weekday, push_year,
-};
+use crate::show::{DateText, MAX_DATE_LEN};
 use arrayvec::ArrayString;
+use gix_date::clock::{
+    Clock, push_day, push_month, push_offset, push_two_digits, push_weekday, push_year,
+};
 
 /// How far a date is from today.
 #[derive(Clone, Copy)]
@@ -21,24 +20,23 @@ pub(crate) enum Distance {
     SameYear,
 }
 
-fn is_same_day(t: ShownClock, today: ShownClock) -> bool
-    ensures { result ≡ is_same_day (local_of t).date (local_of today).date }
+fn is_same_day(t: Clock, today: Clock) -> bool
+    ensures { result ≡ is_same_day t.date today.date }
 {
-    t.month == today.month && t.day == today.day
+    t.month() == today.month() && t.day() == today.day()
 }
 
-fn is_few_days_before(t: ShownClock, today: ShownClock) -> bool
-    requires { HasFields t }
-    ensures { result ≡ is_few_days_before (local_of t).date (local_of today).date }
+/// One to four days before: by git-log's manual the day of the week says which of the last few days it is.
+fn is_few_days_before(t: Clock, today: Clock) -> bool
+    ensures { result ≡ is_few_days_before t.date today.date }
 {
-    t.month == today.month && t.day < today.day && today.day <= t.day + 4
+    t.month() == today.month() && t.day() < today.day() && today.day() <= t.day() + 4
 }
 
-fn distance_of(t: ShownClock, today: ShownClock) -> Distance
-    requires { HasFields t }
-    ensures { result ≡ distance_of (local_of t).date (local_of today).date }
+fn distance_of(t: Clock, today: Clock) -> Distance
+    ensures { result ≡ distance_of t.date today.date }
 {
-    if t.year != today.year {
+    if t.year() != today.year() {
         Distance::OtherYear
     } else if is_same_day(t, today) {
         Distance::SameDay
@@ -49,47 +47,58 @@ fn distance_of(t: ShownClock, today: ShownClock) -> Distance
     }
 }
 
-/// `Mmm D YYYY`
-fn year_text(t: ShownClock) -> DateText
-    requires { HasFields t }
-    ensures { result.bytes ≡ year_text (local_of t) }
+/// Appends `hh:mm`.
+fn push_short_clock(text: &mut DateText, t: Clock)
+    requires { array_string_len text.old + 5 ≤ MAX_DATE_LEN }
+    ensures bytes { text.new.bytes ≡ text.old.bytes ++ short_clock_text t.clock }
+    ensures len { array_string_len text.new ≡ array_string_len text.old + 5 }
+{
+    push_two_digits(text, t.hour());
+    text.push(':');
+    push_two_digits(text, t.minute());
+}
+
+/// `Mmm D YYYY`: for older dates git-log's manual omits hour and minute.
+fn year_text(t: Clock) -> DateText
+    ensures { result.bytes ≡ year_text t }
 {
     let mut text = ArrayString::new();
-    push_month_and_day(&mut text, t);
-    push_year(&mut text, t.year);
+    push_month(&mut text, t);
+    push_day(&mut text, t);
+    text.push(' ');
+    push_year(&mut text, t);
     text
 }
 
 /// `Www hh:mm`, and the offset if today has another.
-fn few_days_text(local: bool, t: ShownClock, today: ShownClock) -> DateText
-    requires { HasFields t }
-    ensures { result.bytes ≡ few_days_text local (local_of t) (local_of today) }
+fn few_days_text(local: bool, t: Clock, today: Clock) -> DateText
+    ensures { result.bytes ≡ few_days_text local t today }
 {
     let mut text = ArrayString::new();
     push_weekday(&mut text, t);
     push_short_clock(&mut text, t);
-    if !local && t.offset != today.offset {
-        push_offset(&mut text, t.offset);
+    if !local && t.offset() != today.offset() {
+        push_offset(&mut text, t.offset());
     }
     text
 }
 
 /// `Www Mmm D hh:mm`
-fn day_and_clock_text(t: ShownClock) -> DateText
-    requires { HasFields t }
-    ensures { result.bytes ≡ day_and_clock_text (local_of t) }
+fn day_and_clock_text(t: Clock) -> DateText
+    ensures { result.bytes ≡ day_and_clock_text t }
 {
     let mut text = ArrayString::new();
     push_weekday(&mut text, t);
-    push_month_and_day(&mut text, t);
+    push_month(&mut text, t);
+    push_day(&mut text, t);
+    text.push(' ');
     push_short_clock(&mut text, t);
     text
 }
 
 /// What is shown of a clock by today's. Of the same day it is the age.
-pub(crate) fn human_text(local: bool, t: ShownClock, today: ShownClock, age: DateText) -> DateText
-    requires { HasFields t }
-    ensures { result.bytes ≡ human_text local (local_of t) (local_of today) age.bytes }
+pub(crate) fn human_text(local: bool, t: Clock, today: Clock, age: DateText) -> DateText
+    ensures { result.bytes ≡ human_text local t today age.bytes }
 {
     match distance_of(t, today) {
         Distance::OtherYear => year_text(t),

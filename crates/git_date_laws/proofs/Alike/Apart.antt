@@ -6,16 +6,12 @@ use Rattle.git_date_laws.specs.Laws.{IsApart, AreApart}
 
 -- a letter, a digit, any byte before tokens
 longer-letters : (c : ℕ) (run : List ℕ) (more : List Token) → IsApart (Letters run) more → IsApart (Letters (c ∷ run)) more
-longer-letters c run [] h = tt
 longer-letters c run (Letters other ∷ more) h = h
-longer-letters c run (Digits other ∷ more) h = tt
-longer-letters c run (Mark byte ∷ more) h = tt
+longer-letters c run ts h = tt
 
 longer-digits : (c : ℕ) (run : List ℕ) (more : List Token) → IsApart (Digits run) more → IsApart (Digits (c ∷ run)) more
-longer-digits c run [] h = tt
-longer-digits c run (Letters other ∷ more) h = tt
 longer-digits c run (Digits other ∷ more) h = h
-longer-digits c run (Mark byte ∷ more) h = tt
+longer-digits c run ts h = tt
 
 after-letter : (c : ℕ) (ts : List Token) → AreApart ts → AreApart (letter_before c ts)
 after-letter c [] h = (tt, tt)
@@ -30,10 +26,8 @@ after-digit c (Digits run ∷ more) h = (longer-digits c run more h.0, h.1)
 after-digit c (Mark byte ∷ more) h = (tt, h)
 
 after-mark : (c : ℕ) (ts : List Token) → AreApart ts → AreApart (Mark c ∷ ts)
-after-mark c [] h = (tt, h)
 after-mark c (Letters run ∷ more) h = (tt, h)
-after-mark c (Digits run ∷ more) h = (tt, h)
-after-mark c (Mark byte ∷ more) h = (tt, h)
+after-mark c ts h = (tt, h)
 
 after-byte : (letter digit : Bool) (c : ℕ) (ts : List Token) → AreApart ts
     → AreApart (cond letter (letter_before c ts) (cond digit (digit_before c ts) (Mark c ∷ ts)))

@@ -12,7 +12,7 @@ use Rattle.git_date.specs.Approximate.Zones.{Choices, shown_in, filled_time}
 use Rattle.git_date.specs.Exact.Reading.{error_of}
 use Rattle.git_date.specs.Tokens.Tokens.{Token, Mark, tokens}
 use Rattle.git_date.specs.Tokens.Strings.{before_nul, nul_place}
-use Rattle.git_date.specs.Types.Names.{Today, Draft, ShownClock, Now, Fault, Number}
+use Rattle.git_date.specs.Types.Names.{Today, Draft, Now, Fault, Number}
 use Rattle.git_date.specs.Types.FaultCases.{NumberTooLarge, BackTooFar, YearRefused, Range}
 use Rattle.git_date.specs.declared.error.DateError.{DateError}
 use Rattle.git_date.specs.declared.error.DateError.TheVariants as error
@@ -23,6 +23,7 @@ use Rattle.git_date.proofs.Rules.Respects.{ComesTo, FailsAt, SameNumber}
 use Rattle.git_date.proofs.Rules.RespectedDrafts.{Waits, NoneWaits, OneWaits, SameDraft, Givens, steps-respects}
 use Rattle.git_date_laws.proofs.Alike.Changed.{changed, farther_fault, fault-is, Closed, Farther, begin-closed}
 use Rattle.gix_date.specs.Text.Characters.{newline}
+use Rattle.gix_date.specs.Fields.Layout.{LocalTime}
 
 no-farther : (e : Fault) → farther_fault 0 e ≡ e
 no-farther (NumberTooLarge left) = ap NumberTooLarge (omega arith)
@@ -93,7 +94,7 @@ draft-lower zone today text =
     ap₂ (λ (n : ℕ) (ts : List Token). steps zone today n (first_draft today.shown) ts) (lower-length text) (tokens-lower text)
     ∙ steps-same str_to_ascii_lowercase in_lower_case zone today (length text) (tokens text)
 
-guess-by-lower : (zone : Choices) (now : Now) (text : List ℕ) (shown : Option ShownClock) → guess_by zone now (lower text) shown ≡ guess_by zone now text shown
+guess-by-lower : (zone : Choices) (now : Now) (text : List ℕ) (shown : Option LocalTime) → guess_by zone now (lower text) shown ≡ guess_by zone now text shown
 guess-by-lower zone now text None = refl
 guess-by-lower zone now text (Some shown) =
     let today : Today = record { now = now; shown = shown } in

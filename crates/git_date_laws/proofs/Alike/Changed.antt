@@ -1,6 +1,8 @@
 -- Texts that say the same: their words may be spelled otherwise, and a line feed and more may follow.
 use Rattle.std.proofs.Common.{◌≡◌, ◌∙◌, ◌+◌, ℕ, ℤ, Bool, true, false, cond, List, [], ◌∷◌, length, refl, ap, sym, subst, arith, length-append, Option, Some, None, option_map, Result, Ok, Err}
-use Rattle.std.specs.Prelude.{◌==◌, ◌&&◌, ◌||◌}
+use Rattle.std.proofs.Math.Bool.{and-false}
+use Rattle.std.proofs.lemmas.Bool.{and_from, or_parts}
+use Rattle.std.specs.Prelude.{◌==◌, ◌&&◌}
 use Rattle.gix_date.specs.Text.Characters.{newline, space, plus, minus, colon, at_sign}
 use Rattle.gix_date.specs.Text.Front.{◌>>=◌}
 use Rattle.git_date.specs.Tokens.Tokens.{Token, Letters, Digits, Mark, texts, bytes_left}
@@ -62,21 +64,9 @@ by-true : {A B : Type 0} (m : A → B) (b : Bool) (x y : A) (p q : B) → (b ≡
 by-true m true x y p q e f = e refl
 by-true m false x y p q e f = f
 
-pub or-first : (a b : Bool) → (a || b) ≡ false → a ≡ false
-or-first true b h = h
-or-first false b h = refl
-
-pub or-second : (a b : Bool) → (a || b) ≡ false → b ≡ false
-or-second true b h = absurd cc
-or-second false b h = h
-
 and-second : (a b : Bool) → a ≡ true → (a && b) ≡ false → b ≡ false
 and-second true b e h = h
 and-second false b e h = absurd cc
-
-and-both : (a b : Bool) → a ≡ true → b ≡ true → (a && b) ≡ true
-and-both true b e f = f
-and-both false b e f = absurd cc
 
 same-both : {A : Type 0} (b : Bool) (x : A) → cond b x x ≡ x
 same-both true x = refl
@@ -86,7 +76,7 @@ same-both false x = refl
 closed-next : (stop : Option (List Token)) (t : Token) (more : List Token) → IsClosed stop (t ∷ more) → IsClosed stop more
 unfolding end_before_minutes
 closed-next None t more h = tt
-closed-next (Some lines) t more h = or-second (awaits_minutes (t ∷ more)) (end_before_minutes more) h
+closed-next (Some lines) t more h = (or_parts (awaits_minutes (t ∷ more)) (end_before_minutes more) h).1
 
 white-next : (stop : Option (List Token)) (t : Token) (more : List Token) → HasMinutes stop (t ∷ more) → is_white t ≡ true → HasMinutes stop more
 unfolding are_white
@@ -98,8 +88,8 @@ closed-first : (lines : List Token) (sign byte : ℕ) (run : List ℕ) (more : L
 unfolding end_before_minutes
 closed-first lines sign byte run more h s two e =
     and-second (is_sign sign && length run == 2 && byte == colon) (are_white more)
-    (and-both (is_sign sign && length run == 2) (byte == colon) (and-both (is_sign sign) (length run == 2) s two) e)
-    (or-first (awaits_minutes (Mark sign ∷ Digits run ∷ Mark byte ∷ more)) (end_before_minutes (Digits run ∷ Mark byte ∷ more)) h)
+    (and_from (is_sign sign && length run == 2) (byte == colon) (and_from (is_sign sign) (length run == 2) s two) e)
+    (or_parts (awaits_minutes (Mark sign ∷ Digits run ∷ Mark byte ∷ more)) (end_before_minutes (Digits run ∷ Mark byte ∷ more)) h).0
 
 closed-minutes : (stop : Option (List Token)) (sign byte : ℕ) (run : List ℕ) (more : List Token) → IsClosed stop (Mark sign ∷ Digits run ∷ Mark byte ∷ more)
     → is_sign sign ≡ true → (length run == 2) ≡ true → (byte == colon) ≡ true → HasMinutes stop more
@@ -110,7 +100,7 @@ closed-at : (stop : Option (List Token)) (at : ℕ) (run : List ℕ) (gap sign :
     → (at == at_sign && gap == space) ≡ true → is_sign sign ≡ true → HasMinutes stop more
 closed-at None at run gap sign more h e s = tt
 closed-at (Some lines) at run gap sign more h e s =
-    and-second (at == at_sign && gap == space && is_sign sign) (are_white more) (and-both (at == at_sign && gap == space) (is_sign sign) e s) h
+    and-second (at == at_sign && gap == space && is_sign sign) (are_white more) (and_from (at == at_sign && gap == space) (is_sign sign) e s) h
 
 -- the rules where the tokens end: a line feed says what nothing says
 white-after : (stop : Option (List Token)) → HasMinutes stop [] → white (after stop) ≡ 0
@@ -129,16 +119,8 @@ ends-end (Some lines) = refl
 
 at-line : (lines : List Token) → at_text (Mark newline ∷ lines) ≡ None
 unfolding at_text
-at-line [] = refl
-at-line (Letters run ∷ more) = refl
-at-line (Mark byte ∷ more) = refl
-at-line (Digits run ∷ []) = refl
-at-line (Digits run ∷ Letters other ∷ more) = refl
-at-line (Digits run ∷ Digits other ∷ more) = refl
-at-line (Digits run ∷ Mark gap ∷ []) = refl
 at-line (Digits run ∷ Mark gap ∷ Letters other ∷ more) = refl
-at-line (Digits run ∷ Mark gap ∷ Digits other ∷ more) = refl
-at-line (Digits run ∷ Mark gap ∷ Mark sign ∷ more) = refl
+at-line ts = refl
 
 at-end : (stop : Option (List Token)) → at_text (after stop) ≡ None
 unfolding at_text
@@ -150,17 +132,10 @@ unfolding at_text
 at-mark-end at None = refl
 at-mark-end at (Some lines) = refl
 
-and-no : (b : Bool) → (b && false) ≡ false
-and-no true = refl
-and-no false = refl
-
 at-digits-end : (at : ℕ) (run : List ℕ) (stop : Option (List Token)) → at_text (Mark at ∷ Digits run ∷ after stop) ≡ None
 unfolding at_text
-at-digits-end at run None = refl
-at-digits-end at run (Some []) = refl
-at-digits-end at run (Some (Letters other ∷ more)) = refl
-at-digits-end at run (Some (Digits other ∷ more)) = refl
-at-digits-end at run (Some (Mark sign ∷ more)) = rw (and-no (at == at_sign))
+at-digits-end at run (Some (Mark sign ∷ more)) = rw (and-false (at == at_sign))
+at-digits-end at run ts = refl
 
 at-gap-end : (at gap : ℕ) (run : List ℕ) (stop : Option (List Token)) → at_text (Mark at ∷ Digits run ∷ Mark gap ∷ after stop) ≡ None
 unfolding at_text
@@ -260,8 +235,7 @@ module _ (spell : List ℕ → List ℕ) (same : IsSpelling spell) where
     ends-are : (ts : List Token) → ends (φ ts) ≡ ends ts
     ends-are [] = ends-end stop
     ends-are (Letters run ∷ more) = refl
-    ends-are (Digits run ∷ more) = refl
-    ends-are (Mark byte ∷ more) = refl
+    ends-are ts = refl
 
     abbrev Plain : List Token → List Token → Type 0
     Plain ts us = us ≡ φ ts

@@ -10,7 +10,7 @@ use Rattle.std.proofs.lemmas.Bool.Decides.{nat_tests}
 use Rattle.gix_date.specs.Text.Characters.{newline}
 use Rattle.gix_date.specs.Text.Names.{is_name}
 use Rattle.gix_date.specs.Fields.Zoned.{is_instant}
-use Rattle.git_date.specs.Tokens.Tokens.{Token, Letters, Digits, Mark, letter_before, digit_before, tokens, bytes_left}
+use Rattle.git_date.specs.Tokens.Tokens.{Token, Letters, Mark, letter_before, digit_before, tokens, bytes_left}
 use Rattle.git_date.specs.Rules.Dates.{exact_seconds}
 use Rattle.git_date.specs.Rules.Offsets.{at_text}
 use Rattle.git_date.specs.Exact.Reading.{nothing_read, steps, reading_of, place_in, by_seconds, fields_said, at_or_fields, said_up_to, string_said, said_by}
@@ -89,16 +89,12 @@ abbrev pub lowered : List Token → List Token
 lowered ts = changed str_to_ascii_lowercase None ts
 
 lower-letters : (c : ℕ) (ts : List Token) → letter_before (to_ascii_lowercase c) (lowered ts) ≡ lowered (letter_before c ts)
-lower-letters c [] = refl
 lower-letters c (Letters run ∷ more) = refl
-lower-letters c (Digits run ∷ more) = refl
-lower-letters c (Mark byte ∷ more) = refl
+lower-letters c ts = refl
 
 lower-digits : (c : ℕ) (ts : List Token) → digit_before c (lowered ts) ≡ lowered (digit_before c ts)
-lower-digits c [] = refl
 lower-digits c (Letters run ∷ more) = refl
-lower-digits c (Digits run ∷ more) = refl
-lower-digits c (Mark byte ∷ more) = refl
+lower-digits c ts = refl
 
 abbrev byte_by : Bool → Bool → ℕ → List Token → List Token
 byte_by letter digit c ts = cond letter (letter_before c ts) (cond digit (digit_before c ts) (Mark c ∷ ts))
@@ -149,16 +145,12 @@ abbrev with_lines : List Token → List Token → List Token
 with_lines lines ts = changed as_written (Some lines) ts
 
 lines-letters : (lines : List Token) (c : ℕ) (ts : List Token) → letter_before c (with_lines lines ts) ≡ with_lines lines (letter_before c ts)
-lines-letters lines c [] = refl
 lines-letters lines c (Letters run ∷ more) = refl
-lines-letters lines c (Digits run ∷ more) = refl
-lines-letters lines c (Mark byte ∷ more) = refl
+lines-letters lines c ts = refl
 
 lines-digits : (lines : List Token) (c : ℕ) (ts : List Token) → digit_before c (with_lines lines ts) ≡ with_lines lines (digit_before c ts)
-lines-digits lines c [] = refl
 lines-digits lines c (Letters run ∷ more) = refl
-lines-digits lines c (Digits run ∷ more) = refl
-lines-digits lines c (Mark byte ∷ more) = refl
+lines-digits lines c ts = refl
 
 lines-byte : (lines : List Token) (letter digit : Bool) (c : ℕ) (ts : List Token)
     → byte_by letter digit c (with_lines lines ts) ≡ with_lines lines (byte_by letter digit c ts)

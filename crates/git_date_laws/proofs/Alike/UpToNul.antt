@@ -97,9 +97,8 @@ unfolding fixed_expiry
 words word = by (bytes_eq word (codes "never") || bytes_eq word (codes "false")) (bytes_eq word (codes "all") || bytes_eq word (codes "now"))
   where
     by : (b c : Bool) → IsWord (cond b (Some Never) (cond c (Some All) None))
-    by true c = tt
     by false true = tt
-    by false false = tt
+    by x c = tt
 
 expires-by : (moment : Zoned) (text rest : List ℕ) (fixed : Option Expiry) → IsWord fixed
     → expiry_by moment (text ++ nul ∷ rest) fixed ≡ expiry_up_to (length text) (expiry_by moment text fixed)

@@ -11,7 +11,7 @@ use Rattle.gix_date.specs.Text.Front.{◌>>=◌}
 use Rattle.gix_date.specs.declared.time.Time.{Time}
 use Rattle.git_date.proofs.Text.Walked.{nothing-left}
 use Rattle.git_date.specs.Approximate.Reading.{rule, steps, draft_of, answer, answer_of, answer_up_to, guess_by, string_guess, guess, step}
-use Rattle.git_date.specs.Approximate.Drafts.{first_draft, clock_fields, all_fields, with_shown, settle, units}
+use Rattle.git_date.specs.Approximate.Drafts.{first_draft, clock_fields, all_fields, with_shown, settle, units, last_of}
 use Rattle.git_date.specs.Approximate.Rules.{letters_rule, digits_rule, back_rule, meaning_rule, number_waits, group_said, is_padded}
 use Rattle.git_date.specs.Approximate.Words.{moment_named, count_named, unit_named, meaning_of}
 use Rattle.gix_date.specs.Text.LongNames.{weekday_told, month_told}
@@ -24,11 +24,10 @@ use Rattle.git_date.specs.Tokens.Strings.{before_nul, nul_place}
 use Rattle.git_date.specs.Tokens.Tokens.{Token, Letters, Digits, Mark, tokens, texts, bytes_left, walked}
 use Rattle.git_date.specs.Rules.Words.{is_filler, without_ending}
 use Rattle.git_date.specs.declared.approximate.answer.Approximate.{Approximate}
-use Rattle.git_date.specs.Types.Names.{Today}
+use Rattle.git_date.specs.Types.Names.{Today, LastShown}
 use Rattle.git_date.specs.Types.Names.{Draft}
 use Rattle.git_date.specs.Types.MeaningCases as meaning
 use Rattle.git_date.specs.Types.UnitCases.{Seconds}
-use Rattle.git_date.specs.Types.Names.{ShownClock}
 use Rattle.git_date.specs.Types.Names.{Now}
 use Rattle.git_date.specs.declared.error.DateError.TheVariants.{Unreadable, Range}
 use Rattle.git_date.specs.Types.Names.{Fault}
@@ -37,6 +36,7 @@ use Rattle.git_date.proofs.Text.TokenRuns.{texts_are}
 use Rattle.git_date.proofs.Rules.ClocksBack.{IsClockBack, shown_of, filled-back, filled-today, shown-back}
 use Rattle.git_date_laws.proofs.Back.ExactNothing.{nothing-said}
 use Rattle.git_date.specs.Laws.Back.{CountsBack, IsReached, exactly_back}
+use Rattle.gix_date.specs.Fields.Layout.{LocalTime}
 
 -- one step after the other
 pub go-on : (zone : Choices) (today : Today) (n : ℕ) (d next : Draft) (t : Token) (more : List Token) (r : Result Draft Fault)
@@ -48,18 +48,18 @@ abbrev pub followed : ℕ → List ℕ → ℕ → List Token
 followed gap unit last = Mark gap ∷ Letters unit ∷ Mark last ∷ Letters (codes "ago") ∷ []
 
 -- the draft after the digits: they wait
-abbrev pub waiting_draft : ShownClock → ℕ → ℕ → Draft
+abbrev pub waiting_draft : LocalTime → ℕ → ℕ → Draft
 waiting_draft c n left = record {
   fields = clock_fields c;
-  last = c;
+  last = last_of c;
   waiting = Some (record { value = n; left = left });
   understood = true;
   ignored = None;
 }
 
 -- the draft after the unit
-abbrev pub moved_draft : ShownClock → Draft
-moved_draft c = record { fields = all_fields c; last = c; waiting = None; understood = true; ignored = None }
+abbrev pub moved_draft : LocalTime → Draft
+moved_draft c = record { fields = all_fields c; last = last_of c; waiting = None; understood = true; ignored = None }
 
 pub not-zero : (n : ℕ) → 1 ≤ n → (n == 0) ≡ false
 not-zero n h = grind (arith, nat_tests)
@@ -75,7 +75,7 @@ digits-wait zone today run gap unit last small some padded =
     rw (not-large (number run) small, not-zero (number run) some, padded) refl
 
 -- the unit moves the draft, where its filling does
-unit-moves : (zone : Choices) (c next : ShownClock) (unit : List ℕ) (last n size left : ℕ) → meaning_of unit ≡ Some (meaning.Unit (Seconds size)) → n * size ≤ max_small
+unit-moves : (zone : Choices) (c next : LocalTime) (unit : List ℕ) (last n size left : ℕ) → meaning_of unit ≡ Some (meaning.Unit (Seconds size)) → n * size ≤ max_small
     → fill zone c (record (waiting_draft c n left) { waiting = None }) (n * size) left ≡ Ok (moved_draft next)
     → letters_rule zone c (waiting_draft c n left) unit (Mark last ∷ Letters (codes "ago") ∷ []) ≡ Ok (moved_draft next)
 unfolding letters_rule meaning_rule back_rule
@@ -83,7 +83,7 @@ unit-moves zone c next unit last n size left means small moves =
     let same : units n size ≡ n * size = omega (arith, small) in
     rw (means, same, not-large (n * size) small, moves) refl
 
-pub ago-nothing : (zone : Choices) (c : ShownClock) (d : Draft) → letters_rule zone c d (codes "ago") [] ≡ Ok d
+pub ago-nothing : (zone : Choices) (c : LocalTime) (d : Draft) → letters_rule zone c d (codes "ago") [] ≡ Ok d
 unfolding letters_rule meaning_of month_told moment_named count_named weekday_told unit_named is_filler
 ago-nothing zone c d = refl
 
@@ -108,7 +108,7 @@ picks-is : (o s : ℤ) → is_instant s ≡ true → is_instant (s -ℤ o) ≡ t
 picks-is o s a b = rw (a, b) refl
 
 -- what the clock of such a zone shows
-abbrev pub clock_at : ℤ → ℤ → ShownClock
+abbrev pub clock_at : ℤ → ℤ → LocalTime
 clock_at o x = with_offset o (shown_of x)
 
 pub shown-is : (o n : ℤ) → is_instant n ≡ true → IsClockBack (n +ℤ o) → shown_in (one_offset o) n ≡ Some (clock_at o (n +ℤ o))
@@ -155,10 +155,10 @@ pub record Reaches (zone : Choices) (now : ℤ) (back : ℕ) (o then : ℤ) : Ty
   pub since_1970 : pos 0 ≤ℤ (now -ℤ pos back)
 
 module _ (o now : ℤ) (back : ℕ) (are : AreClocks o now back) where
-  abbrev pub today_shown : ShownClock
+  abbrev pub today_shown : LocalTime
   today_shown = clock_at o (now +ℤ o)
 
-  abbrev told_shown : ShownClock
+  abbrev told_shown : LocalTime
   told_shown = clock_at o (now -ℤ pos back +ℤ o)
 
   pub filled-now : filled_time (one_offset o) today_shown o (clock_fields today_shown) ≡ Some (record { seconds = now; offset = o })
@@ -187,18 +187,18 @@ module _ (o now : ℤ) (back : ℕ) (are : AreClocks o now back) where
   }
 
 module _ (zone : Choices) (now : ℤ) (back : ℕ) (o then : ℤ) (are : Reaches zone now back o then) where
-  abbrev now_clock : ShownClock
+  abbrev now_clock : LocalTime
   now_clock = clock_at o (now +ℤ o)
 
-  abbrev then_clock : ShownClock
+  abbrev then_clock : LocalTime
   then_clock = clock_at then (now -ℤ pos back +ℤ then)
 
-  pub moves : (d : Draft) (left : ℕ) → d.fields ≡ clock_fields now_clock → d.last ≡ now_clock → fill zone now_clock d back left ≡ Ok (with_shown d then_clock)
+  pub moves : (d : Draft) (left : ℕ) → d.fields ≡ clock_fields now_clock → d.last ≡ last_of now_clock → fill zone now_clock d back left ≡ Ok (with_shown d then_clock)
   unfolding fill moved_to
   moves d left fields last =
-      ap₂ (λ (f : Fields) (shown : ShownClock). fill_by zone d back left (filled_time zone now_clock shown.offset f)) fields last
+      ap₂ (λ (f : Fields) (shown : LastShown). fill_by zone d back left (filled_time zone now_clock shown.offset f)) fields last
       ∙ ap (λ (t : Option Time). fill_by zone d back left t) are.filled_now
-      ∙ ap (λ (s : Option ShownClock). moved_by d left s) are.told_shown
+      ∙ ap (λ (s : Option LocalTime). moved_by d left s) are.told_shown
 
   pub filled-moves : (n left : ℕ) → fill zone now_clock (record (waiting_draft now_clock n left) { waiting = None }) back left ≡ Ok (moved_draft then_clock)
   filled-moves n left = moves (record (waiting_draft now_clock n left) { waiting = None }) left refl refl
@@ -242,7 +242,7 @@ module _ (zone : Choices) (now o then : ℤ) (this : Now) (digits : List ℕ) (g
   guessed text k same is long =
       let shown : shown_in zone this.seconds ≡ Some here.shown = ap (λ (n : ℤ). shown_in zone n) same ∙ are.now_shown in
       let drafts : draft_of zone here text ≡ Ok there = rw (is, long) (drafted k) in
-      ap (λ (s : Option ShownClock). guess_by zone this text s) shown
+      ap (λ (s : Option LocalTime). guess_by zone this text s) shown
       ∙ ap (λ (d : Result Draft Fault). answer_of zone here text d) drafts
       ∙ answered zone now (number digits * size) o then are text
 
@@ -259,9 +259,6 @@ few n h = omega (arith, h)
 -- what both readers make of a text that only the approximate one reads, and of one without NUL
 abbrev pub SaysIn : Choices → Now → List ℕ → Approximate → Type 0
 SaysIn zone this text date = (said_by this text ≡ Err Unreadable) × (guess zone this text ≡ Ok date)
-
-abbrev pub Says : ℤ → Now → List ℕ → Approximate → Type 0
-Says o this text date = SaysIn (one_offset o) this text date
 
 abbrev pub StringSaysIn : Choices → Now → List ℕ → Approximate → Type 0
 StringSaysIn zone this text date = (string_said this text ≡ Err Unreadable) × (string_guess zone this text ≡ Ok date)

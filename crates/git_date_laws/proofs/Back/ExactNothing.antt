@@ -19,10 +19,10 @@ use Rattle.git_date.specs.Types.Names.{Fields}
 use Rattle.git_date.specs.Types.Names.{Reading}
 
 -- the year or the minute is unknown
-abbrev Lacks : Option ℕ → Option ℕ → Type 0
+abbrev pub Lacks : Option ℕ → Option ℕ → Type 0
 Lacks year minute = (is_none minute || is_none year) ≡ true
 
-abbrev AllLack : Option Fields → Type 0
+abbrev pub AllLack : Option Fields → Type 0
 AllLack o = Keeps Lacks o
 
 -- digits
@@ -44,36 +44,34 @@ unfolding few_digits
 few-lack width n = either AllLack (nat_le 1 n && nat_le n 31 && true) _ _ refl (year-lack n (cond (width == 2) (two_digit_year unknown n) None))
 
 -- a step that leaves all that follows, and no clock with a year
-abbrev Lacking : List Token → Stepped → Type 0
+abbrev pub Lacking : List Token → Stepped → Type 0
 Lacking more step = (next : Option Fields) × (step ≡ Ok (next, more)) × AllLack next
 
 clock-next : (more : List Token) (o : Option Fields) → without_fraction more ≡ more → clock_taken more o ≡ (o, more)
 clock-next more (Some f) e = ap (λ (ts : List Token). (Some f, ts)) e
 clock-next more None e = refl
 
-abbrev followed : ℕ → List ℕ → List Token → List Token
-followed gap unit more = Mark gap ∷ Letters unit ∷ more
-
-bare-lacks : (run : List ℕ) (gap : ℕ) (unit : List ℕ) (more : List Token) → (length run == 8) ≡ false
-    → Lacking (followed gap unit more) (bare_digits unknown run (followed gap unit more))
-unfolding bare_digits six_digits without_fraction
-bare-lacks run gap unit more e =
-    let after = followed gap unit more in
+pub bare-lacks : (run : List ℕ) (more : List Token) → without_fraction more ≡ more → (length run == 8) ≡ false → Lacking more (bare_digits unknown run more)
+unfolding bare_digits six_digits
+bare-lacks run more kept e =
     let n = number run in
     let clock = with_clock unknown (n / 10_000) (n / 100 % 100) (n % 100) in
     rw e
-    (either (Lacking after) (length run == 6) _ _ (clock, ap (λ p. Ok p) (clock-next after clock refl), clock-lacks n)
-    (either (Lacking after) (length run == 4) _ _ (four_digits unknown n, refl, four-lack n)
-    (either (Lacking after) (length run == 1 || length run == 2) _ _ (few_digits unknown (length run) n, refl, few-lack (length run) n) (None, refl, tt))))
+    (either (Lacking more) (length run == 6) _ _ (clock, ap (λ p. Ok p) (clock-next more clock kept), clock-lacks n)
+    (either (Lacking more) (length run == 4) _ _ (four_digits unknown n, refl, four-lack n)
+    (either (Lacking more) (length run == 1 || length run == 2) _ _ (few_digits unknown (length run) n, refl, few-lack (length run) n) (None, refl, tt))))
+
+abbrev followed : ℕ → List ℕ → List Token → List Token
+followed gap unit more = Mark gap ∷ Letters unit ∷ more
 
 small : (n : ℕ) → n < min_epoch → (is_epoch unknown n ≡ false) × (is_too_large n ≡ false)
 small n h = (grind (arith, nat_tests), grind (arith, nat_tests))
 
 digits-lack : (now : Now) (run : List ℕ) (gap : ℕ) (unit : List ℕ) (more : List Token) → (length run == 8) ≡ false → number run < min_epoch
     → Lacking (followed gap unit more) (digits_rule now unknown run (followed gap unit more))
-unfolding digits_rule number_rule group_of marked_number
+unfolding digits_rule number_rule group_of marked_number without_fraction
 digits-lack now run gap unit more e h =
-    let tests = small (number run) h in rw (tests.0, tests.1) (bare-lacks run gap unit more e)
+    let tests = small (number run) h in rw (tests.0, tests.1) (bare-lacks run (followed gap unit more) refl e)
 
 -- no digits follow
 abbrev IsNoNumber : Token → Type 0

@@ -27,7 +27,6 @@ use Rattle.git_date.specs.Approximate.Drafts.{first_draft, all_fields, settle, u
 use Rattle.git_date.specs.Approximate.Rules.{letters_rule, meaning_rule, months_rule, is_padded}
 use Rattle.git_date.specs.Approximate.Words.{meaning_of}
 use Rattle.git_date.specs.Approximate.Zones.{Choices, one_offset, shown_in, filled_time, fill}
-use Rattle.git_date.specs.Rules.Clocks.{held_clock}
 use Rattle.git_date.specs.Rules.Dates.{first_of, seconds_after}
 use Rattle.git_date.specs.Tokens.Numbers.{number, max_small}
 use Rattle.git_date.specs.Exact.Reading.{error_of, string_said}
@@ -38,7 +37,6 @@ use Rattle.git_date.specs.Types.Names.{Today}
 use Rattle.git_date.specs.Types.Names.{Draft}
 use Rattle.git_date.specs.Types.MeaningCases as meaning
 use Rattle.git_date.specs.Types.UnitCases.{Months}
-use Rattle.git_date.specs.Types.Names.{ShownClock}
 use Rattle.git_date.specs.Types.Names.{Now}
 use Rattle.git_date.specs.declared.error.DateError.{DateError}
 use Rattle.git_date.specs.declared.error.DateError.TheVariants.{Unreadable, Range}
@@ -48,20 +46,20 @@ use Rattle.git_date.specs.Types.Names.{Fields}
 use Rattle.git_date.proofs.Rules.ClocksBack.{shown_of, before-1900}
 use Rattle.git_date_laws.proofs.Back.ExactBack.{followed, clock_at, waiting_draft, moved_draft, go-on, digits-wait, shown-is, AreClocks, reaches, filled-moves, are-clocks, long-enough, few, unit-walk}
 use Rattle.git_date_laws.proofs.Back.ExactNothing.{nothing-said}
-use Rattle.git_date.proofs.Rules.HeldClocks.{shown-by}
 use Rattle.git_date.specs.Laws.Back.{CountsMonths, IsReached}
+use Rattle.gix_date.proofs.Printing.LocalClocks.{clock-by}
 
 -- the month so many months before that of a clock, counted from January of the year 0, and the seconds of its day there
-abbrev pub month_back : ShownClock → ℕ → ℕ
-month_back c months = 12 * c.year + (c.month - 1) - months
+abbrev pub month_back : LocalTime → ℕ → ℕ
+month_back c months = 12 * c.date.year + (c.date.month - 1) - months
 
-abbrev pub seconds_back : ShownClock → ℕ → ℤ
+abbrev pub seconds_back : LocalTime → ℕ → ℤ
 seconds_back c months =
     let month = month_back c months in
-    seconds_after (civil_seconds (first_of (month / 12) (month % 12 + 1)) midnight (pos 0)) (Some c.day) c.hour c.minute c.second
+    seconds_after (civil_seconds (first_of (month / 12) (month % 12 + 1)) midnight (pos 0)) (Some c.date.day) c.clock.hour c.clock.minute c.clock.second
 
 -- a date is that, from 1900 on
-pub record IsMonthsBack (c : ShownClock) (months : ℕ) (offset : ℤ) (date : Approximate) : Type 0 where
+pub record IsMonthsBack (c : LocalTime) (months : ℕ) (offset : ℤ) (date : Approximate) : Type 0 where
   pub from_1900 : 1900 ≤ month_back c months / 12
   pub since_1970 : pos 0 ≤ℤ (seconds_back c months -ℤ offset)
   pub is : date ≡ record { time = record { seconds = seconds_back c months -ℤ offset; offset = offset }; understood = true; ignored = None }
@@ -69,17 +67,14 @@ pub record IsMonthsBack (c : ShownClock) (months : ℕ) (offset : ℤ) (date : A
 same-date : (a b : Approximate) → ◌≡◌ {A = Result Approximate DateError} (Ok a) (Ok b) → a ≡ b
 same-date a b e = cc
 
-same-fields : (a b : Fields) → Some a ≡ Some b → a ≡ b
-same-fields a b e = cc
-
-abbrev fields_back : ShownClock → ℕ → Fields
+abbrev fields_back : LocalTime → ℕ → Fields
 fields_back c month = record (all_fields c) { year = Some (month / 12); month = Some (month % 12 + 1) }
 
-abbrev back_draft : ShownClock → ℕ → Draft
+abbrev back_draft : LocalTime → ℕ → Draft
 back_draft c month = record (moved_draft c) { fields = fields_back c month }
 
 -- where the draft has that month, its answer is that
-module _ (text : List ℕ) (c : ShownClock) (months : ℕ) (o : ℤ) (date : Approximate) (from : 1900 ≤ month_back c months / 12) where
+module _ (text : List ℕ) (c : LocalTime) (months : ℕ) (o : ℤ) (date : Approximate) (from : 1900 ≤ month_back c months / 12) where
   abbrev s : ℤ
   s = seconds_back c months
 
@@ -100,7 +95,7 @@ module _ (text : List ℕ) (c : ShownClock) (months : ℕ) (o : ℤ) (date : App
   picked false b is = absurd cc
 
   filled-by : (b : Bool) → answered (cond b (Some (civil_seconds (first_of (month_back c months / 12) (month_back c months % 12 + 1)) midnight (pos 0))) None
-      >>= (λ (start : ℤ). Some (seconds_after start (Some c.day) c.hour c.minute c.second)) >>= (one_offset o).picks c.offset) ≡ Ok date → IsMonthsBack c months o date
+      >>= (λ (start : ℤ). Some (seconds_after start (Some c.date.day) c.clock.hour c.clock.minute c.clock.second)) >>= (one_offset o).picks c.offset) ≡ Ok date → IsMonthsBack c months o date
   filled-by true is = picked (is_instant s) (is_instant (s -ℤ o)) is
   filled-by false is = absurd cc
 
@@ -117,7 +112,7 @@ go-wrong zone today n d t more e is = rw is refl
 module _ (o now : ℤ) (this : Now) (digits : List ℕ) (gap : ℕ) (unit : List ℕ) (last size : ℕ) (are : AreClocks o now 0)
     (small : number digits ≤ max_small) (some : 1 ≤ number digits) (padded : is_padded digits ≡ false)
     (means : meaning_of unit ≡ Some (meaning.Unit (Months size))) where
-  abbrev c : ShownClock
+  abbrev c : LocalTime
   c = clock_at o (now +ℤ o)
 
   abbrev here : Today
@@ -174,7 +169,7 @@ module _ (o now : ℤ) (this : Now) (digits : List ℕ) (gap : ℕ) (unit : List
       let shown : shown_in (one_offset o) this.seconds ≡ Some c =
       ap (λ (n : ℤ). shown_in (one_offset o) n) same ∙ shown-is o now are.now_instant are.now_shown in
       let drafts : draft_of (one_offset o) here text ≡ d = rw (is, long) e in
-      ap (λ (s : Option ShownClock). guess_by (one_offset o) this text s) shown ∙ ap (λ (d : Result Draft Fault). answer_of (one_offset o) here text d) drafts
+      ap (λ (s : Option LocalTime). guess_by (one_offset o) this text s) shown ∙ ap (λ (d : Result Draft Fault). answer_of (one_offset o) here text d) drafts
 
   by-month : (text : List ℕ) (k : ℕ) (date : Approximate) (b : Bool) → this.seconds ≡ now → tokens text ≡ Digits digits ∷ ts
       → length text ≡ suc (suc (suc (suc (suc k)))) → (nat_le 1900 (month_back c months / 12) && nat_le (month_back c months / 12) 9999) ≡ b
@@ -249,7 +244,8 @@ module _ (o : Offset) (n : ℤ) (local : DateTime) (is : civil_nanos local ≡ n
       let whole = parts in
       let day : epoch_day local.date ≡ local_day (utc_time x) = omega (arith, signed_arith, whole) in
       let at : second ≡ second_of_day (utc_time x) = omega (arith, signed_arith, whole) in
-      shown-by (utc_time x) (epoch_day local.date) local.date second (weekday_number (epoch_day local.date)) day refl at refl
+      clock-by (utc_time x) (epoch_day local.date) local.date (unsigned_abs local.date.year) second (weekday_number (epoch_day local.date))
+      (record { hour = second / 3600; minute = second % 3600 / 60; second = second % 60 }) day refl refl at refl refl refl refl
 
   from-1900 : pos 1900 ≤ℤ local.date.year
   from-1900 =
@@ -258,8 +254,8 @@ module _ (o : Offset) (n : ℤ) (local : DateTime) (is : civil_nanos local ≡ n
       let part = one_part n in
       by_lt_z local.date.year (pos 1900) (λ lt. absurd (let early = before-1900 local.date lt in omega (arith, signed_arith, part, whole, early, range))) (λ ge. ge)
 
-  abbrev held : ShownClock
-  held = held_clock told_clock
+  abbrev held : LocalTime
+  held = told_clock
 
   rolled-back : (count size : ℕ) (j : ℤ) → 1900 ≤ month_back held (units count size) / 12
       → j ≡ civil_of (rolled_day (month_before local.date (pos (count * size))) local.date) local.time -ℤ nanos_of_seconds o.seconds
@@ -282,7 +278,7 @@ module _ (o : Offset) (n : ℤ) (local : DateTime) (is : civil_nanos local ≡ n
       → j ≡ civil_of (rolled_day (month_before local.date (pos (count * size))) local.date) local.time -ℤ nanos_of_seconds o.seconds
       → pos 0 ≤ℤ (seconds_back (shown_of x) (units count size) -ℤ o.seconds) → whole_seconds j ≡ seconds_back (shown_of x) (units count size) -ℤ o.seconds
   rolled count size j =
-      subst (λ (l : LocalTime). 1900 ≤ month_back (held_clock l) (units count size) / 12
+      subst (λ (l : LocalTime). 1900 ≤ month_back l (units count size) / 12
       → j ≡ civil_of (rolled_day (month_before local.date (pos (count * size))) local.date) local.time -ℤ nanos_of_seconds o.seconds
-      → pos 0 ≤ℤ (seconds_back (held_clock l) (units count size) -ℤ o.seconds) → whole_seconds j ≡ seconds_back (held_clock l) (units count size) -ℤ o.seconds)
+      → pos 0 ≤ℤ (seconds_back l (units count size) -ℤ o.seconds) → whole_seconds j ≡ seconds_back l (units count size) -ℤ o.seconds)
       clock-is (rolled-back count size j)

@@ -4,11 +4,12 @@ use Rattle.git_date.specs.Approximate.Drafts.{settle}
 use Rattle.git_date.specs.Approximate.Rules.{are_digits_next, letters_rule}
 use Rattle.git_date.specs.Approximate.Zones.{Choices}
 use Rattle.git_date.specs.Tokens.Tokens.{Token}
-use Rattle.git_date.specs.Types.Names.{Draft, ShownClock, Fault, Number}
+use Rattle.git_date.specs.Types.Names.{Draft, Fault, Number}
 use Rattle.git_date.specs.Types.FaultCases.{NumberTooLarge, BackTooFar, YearRefused, Range}
 use Rattle.git_date.proofs.Rules.Kept.{same-words}
-use Rattle.git_date.proofs.Rules.Respects.{ComesTo, FailsAt, Numbers, SameNumber, Faults, TooLarge, TooFar, Year, NoInstant}
+use Rattle.git_date.proofs.Rules.Respects.{ComesTo, FailsAt, Numbers, SameNumber, Faults, TooLarge}
 use Rattle.git_date.proofs.Rules.RespectedDrafts.{Waits, NoneWaits, OneWaits, Drafts, SameDraft, Givens, settle-respects, letters-respects}
+use Rattle.gix_date.specs.Fields.Layout.{LocalTime}
 
 -- without places
 abbrev pub bare_number : Number → Number
@@ -70,16 +71,14 @@ bare-drafts d e (SameDraft f last w x known i j waits h) =
 
 pub bare-faults : (a b : Fault) → Faults Anywhere a b → bare_fault a ≡ bare_fault b
 bare-faults a b (TooLarge left other p) = refl
-bare-faults a b (TooFar left other p) = refl
-bare-faults a b (Year left other p) = refl
-bare-faults a b NoInstant = refl
+bare-faults a b x = refl
 
 bare-givens : (a b : Result Draft Fault) → Givens Anywhere Anything a b → bare_given a ≡ bare_given b
 bare-givens a b (ComesTo d e h) = ap (λ (x : Draft). Ok x) (bare-drafts d e h)
 bare-givens a b (FailsAt x y faults) = ap (λ (e : Fault). Err e) (bare-faults x y faults)
 
 -- letters say the same where the same stands directly after them: digits, or none
-pub letters-alike : (zone : Choices) (today : ShownClock) (d e : Draft) (run : List ℕ) (more other : List Token) → bare d ≡ bare e
+pub letters-alike : (zone : Choices) (today : LocalTime) (d e : Draft) (run : List ℕ) (more other : List Token) → bare d ≡ bare e
     → are_digits_next more ≡ are_digits_next other → bare_given (letters_rule zone today d run more) ≡ bare_given (letters_rule zone today e run other)
 letters-alike zone today d e run more other same next =
     bare-givens _ _ (letters-respects Anywhere Anything (λ left other i j p h. tt) zone today d e run run more other (same-words run) next tt (drafts-of d e same))

@@ -1,5 +1,6 @@
 -- Texts that the moment's instant does not matter to.
 use Rattle.std.proofs.Common.{◌≡◌, ◌∙◌, ◌<◌, ℕ, zero, suc, ℤ, Bool, true, false, cond, not, List, [], ◌∷◌, length, refl, ap, arith, Option, Some, None, Result, Ok, Err}
+use Rattle.std.proofs.lemmas.Bool.{or_parts}
 use Rattle.std.specs.Prelude.{◌==◌, ◌&&◌, ◌||◌, nat_le}
 use Rattle.std.specs.Option.{option_or}
 use Rattle.std.proofs.lemmas.Bool.Decides.{nat_tests}
@@ -16,7 +17,6 @@ use Rattle.git_date.specs.Types.Names.{Now, Dated, Fault, Fields, Group, Reading
 use Rattle.git_date.specs.Types.FaultCases.{NumberTooLarge}
 use Rattle.git_date.specs.Types.DatedCases.{Refused}
 use Rattle.git_date.specs.Laws.Moments.{is_day_month, is_any_day_month, begins_day_month, has_day_month, goes_on, meets_day_month, HasNoDayMonth}
-use Rattle.git_date_laws.proofs.Alike.Changed.{or-first, or-second}
 use Rattle.git_date.proofs.Rules.Kept.{IsKept, Leaves, rule-left}
 
 no-recent : (now : Now) (f : Fields) (month day : ℕ) (third : Option ℕ) → is_day_of_month month day ≡ false → recent_date now f month day third ≡ None
@@ -90,15 +90,13 @@ step-same : (now other : Now) (n : ℕ) (r : Reading) (t : Token) (more : List T
 step-same now other n r t more true h same = refl
 step-same now other n r t more false h same =
     let goes = goes_on (rule now r.fields t more) (λ next. meets_day_month now n (read_on r (bytes_left (t ∷ more)) next.0) next.1) in
-    then-same now other n r (bytes_left (t ∷ more)) (rule now r.fields t more) (or-second (begins_day_month t more) goes h) same
-    ∙ ap (later other n r (bytes_left (t ∷ more))) (rule-same now other r.fields t more (or-first (begins_day_month t more) goes h))
+    then-same now other n r (bytes_left (t ∷ more)) (rule now r.fields t more) (or_parts (begins_day_month t more) goes h).1 same
+    ∙ ap (later other n r (bytes_left (t ∷ more))) (rule-same now other r.fields t more (or_parts (begins_day_month t more) goes h).0)
 
 steps-same : (now other : Now) (n : ℕ) (r : Reading) (ts : List Token) → meets_day_month now n r ts ≡ false → steps now n r ts ≡ steps other n r ts
 unfolding walked meets_day_month
-steps-same now other zero r [] h = refl
-steps-same now other (suc n) r [] h = refl
-steps-same now other zero r (t ∷ more) h = refl
 steps-same now other (suc n) r (t ∷ more) h = step-same now other n r t more (is_end t) h (λ r rest. steps-same now other n r rest)
+steps-same now other x r ts h = refl
 
 at-or-same : (now other : Now) (text : List ℕ) (found : Option (ℕ × ℤ)) → meets_day_month now (length text) nothing_read (tokens text) ≡ false
     → at_or_fields now text found ≡ at_or_fields other text found
@@ -120,11 +118,11 @@ HasNone ts = has_day_month ts ≡ false
 
 none-next : (t : Token) (more : List Token) → HasNone (t ∷ more) → HasNone more
 unfolding has_day_month
-none-next t more h = or-second (begins_day_month t more) (has_day_month more) h
+none-next t more h = (or_parts (begins_day_month t more) (has_day_month more) h).1
 
 none-first : (t : Token) (more : List Token) → HasNone (t ∷ more) → begins_day_month t more ≡ false
 unfolding has_day_month
-none-first t more h = or-first (begins_day_month t more) (has_day_month more) h
+none-first t more h = (or_parts (begins_day_month t more) (has_day_month more) h).0
 
 none-kept : IsKept HasNone HasNone (λ left. Unit {0})
 none-kept = record {

@@ -29,25 +29,19 @@ abbrev pub after : List Token → List Token
 after ts = gap (heard_from true ts) (spoken (heard_from true ts))
 
 pub next-spoken : (ts : List Token) → are_digits_next (cond (are_digits_next ts) (spoken (heard_from false ts)) (Mark space ∷ spoken (heard_from false ts))) ≡ are_digits_next ts
-next-spoken [] = refl
 next-spoken (Letters run ∷ more) = refl
-next-spoken (Digits run ∷ more) = refl
-next-spoken (Mark byte ∷ more) = refl
+next-spoken ts = refl
 
 -- after a mark no mark is heard first
 pub loose : (ts : List Token) (rest : List Token) → gap (heard_from false ts) rest ≡ Mark space ∷ rest
-loose [] rest = refl
-loose (Letters run ∷ more) rest = refl
-loose (Digits run ∷ more) rest = refl
 loose (Mark byte ∷ more) rest = loose more rest
+loose ts rest = refl
 
 -- no ending stands first
 unended-gap : (h : List Heard) → without_ending (gap h (spoken h)) ≡ gap h (spoken h)
 unfolding without_ending
-unended-gap [] = refl
 unended-gap (Word run next ∷ more) = refl
-unended-gap (Number run ∷ more) = refl
-unended-gap (Between byte ∷ more) = refl
+unended-gap ts = refl
 
 pub unended : (ts : List Token) → without_ending (after ts) ≡ after ts
 unended ts = unended-gap (heard_from true ts)
@@ -71,10 +65,8 @@ NextMarked ts us = Marked Spoken Anywhere (marked_number ts) (marked_number us)
 
 space-next : (ts : List Token) → is_group_next (marked_number (Mark space ∷ ts)) ≡ false
 unfolding marked_number
-space-next [] = refl
 space-next (Letters run ∷ more) = refl
-space-next (Mark byte ∷ more) = refl
-space-next (Digits run ∷ more) = refl
+space-next ts = refl
 
 between-marked : (b : Bool) (byte : ℕ) (run : List ℕ) (more : List Token) → is_group_mark byte ≡ b
     → NextMarked (Mark byte ∷ Digits run ∷ more) (Mark (cond b byte space) ∷ Digits run ∷ after more)

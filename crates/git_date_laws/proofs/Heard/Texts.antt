@@ -16,8 +16,8 @@ use Rattle.git_date.specs.Rules.Groups.{is_group_mark}
 use Rattle.git_date.specs.Exact.Reading.{and_then, error_of, ended}
 use Rattle.git_date.specs.Tokens.Tokens.{Token, Letters, Digits, Mark, tokens, bytes_left, walked}
 use Rattle.git_date.specs.Rules.Words.{is_filler, is_ending, without_ending}
-use Rattle.git_date.specs.Types.Names.{Today, Draft, ShownClock, Now, Fault}
-use Rattle.git_date.specs.Types.FaultCases.{NumberTooLarge, BackTooFar, YearRefused, Range}
+use Rattle.git_date.specs.Types.Names.{Today, Draft, Now, Fault}
+use Rattle.git_date.specs.Types.FaultCases.{NumberTooLarge}
 use Rattle.git_date.specs.declared.error.DateError.{DateError}
 use Rattle.git_date.proofs.Rules.EnoughSteps.{fewer, short-kept}
 use Rattle.git_date_laws.proofs.Alike.Texts.{in_lower_case, equal-bytes}
@@ -25,9 +25,10 @@ use Rattle.git_date_laws.proofs.Alike.Spelling.{meaning-agrees}
 use Rattle.git_date.proofs.Rules.Kept.{Leaves, Twice, fault-at, begin-kept}
 use Rattle.git_date.proofs.Rules.Respects.{marked}
 use Rattle.git_date.proofs.Rules.RespectedDrafts.{ReadOn, GoesOn, EndsBy, read-respects}
-use Rattle.git_date.specs.Laws.Heard.{Heard, Word, Number, Between, heard_from, string_heard, told}
+use Rattle.git_date.specs.Laws.Heard.{Heard, Between, heard_from, string_heard, told}
 use Rattle.git_date_laws.proofs.Heard.Bare.{Anywhere, Anything, drafts-of, bare, bare_fault, bare_given, both-ways, letters-alike, settle-alike}
 use Rattle.git_date_laws.proofs.Heard.Spoken.{gap, spoken, after, next-spoken, unended, plain_read, told_read, digits-spoken}
+use Rattle.gix_date.specs.Fields.Layout.{LocalTime}
 
 -- no ending of a number is a word
 ending-named : (run name : List ℕ) → is_name run name ≡ true → meaning_of (str_to_ascii_lowercase name) ≡ None → meaning_of run ≡ None
@@ -125,10 +126,8 @@ module _ (zone : Choices) (today : Today) where
   gap-then : (m : ℕ) (e : Draft) (h : List Heard) (end : Result Draft Fault) → bare_given (steps zone today (suc m) e (spoken h)) ≡ end
       → bare_given (steps zone today m e (spoken h)) ≡ end → bare_given (steps zone today (suc m) e (gap h (spoken h))) ≡ end
   unfolding walked
-  gap-then m e [] end more less = less
-  gap-then m e (Word run next ∷ h) end more less = less
-  gap-then m e (Number run ∷ h) end more less = less
   gap-then m e (Between byte ∷ h) end more less = more
+  gap-then m e ts end more less = less
 
   plain-after : (n : ℕ) → IsAlike n → (m : ℕ) (d e : Draft) (ts : List Token) → bare e ≡ bare d → length ts ≤ n → 2 * length ts + 1 ≤ m
       → bare_given (steps zone today m e (after ts)) ≡ bare_given (steps zone today n d ts)
@@ -259,9 +258,7 @@ module _ (zone : Choices) (today : Today) where
 
   error-told : (text : List ℕ) (e : Fault) → told (Err (error_of text e)) ≡ fault_told (bare_fault e)
   error-told text (NumberTooLarge left) = refl
-  error-told text (BackTooFar left) = refl
-  error-told text (YearRefused left) = refl
-  error-told text Range = refl
+  error-told text x = refl
 
   same-fault : (a b : Fault) → ◌≡◌ {A = Result Draft Fault} (Err a) (Err b) → a ≡ b
   same-fault a b e = cc
@@ -277,7 +274,7 @@ module _ (zone : Choices) (today : Today) where
   answers-alike text other (Ok d) (Err y) same = absurd cc
   answers-alike text other (Err x) (Ok e) same = absurd cc
 
-guesses-alike-by : (zone : Choices) (now : Now) (text other : List ℕ) (shown : Option ShownClock) → string_heard text ≡ string_heard other
+guesses-alike-by : (zone : Choices) (now : Now) (text other : List ℕ) (shown : Option LocalTime) → string_heard text ≡ string_heard other
     → told (guess_by zone now text shown) ≡ told (guess_by zone now other shown)
 guesses-alike-by zone now text other None same = refl
 guesses-alike-by zone now text other (Some shown) same =

@@ -1,6 +1,6 @@
 -- Where the approximate reader ignores nothing, all letters are usual.
 use Rattle.std.proofs.Common.{◌≡◌, ◌∙◌, ◌≤◌, ℕ, zero, suc, pos, Bool, true, false, cond, List, [], ◌∷◌, length, refl, sym, subst, ap, arith, option_map, is_some, Option, Some, None, Result, Ok, Err}
-use Rattle.std.proofs.lemmas.Bool.{and_from as join}
+use Rattle.std.proofs.lemmas.Bool.{and_from as join, or_right}
 use Rattle.std.specs.Prelude.{codes, ◌&&◌, ◌||◌}
 use Rattle.std.specs.Int.Signed.{le_z}
 use Rattle.gix_date.specs.Text.Names.{is_name}
@@ -16,7 +16,7 @@ use Rattle.git_date.specs.Exact.Reading.{and_then, place_in, ended}
 use Rattle.git_date.specs.Tokens.Tokens.{Token, Letters, Digits, Mark, tokens, bytes_left, walked}
 use Rattle.git_date.specs.Rules.Words.{is_filler, is_ending, without_ending}
 use Rattle.git_date.specs.declared.approximate.answer.Approximate.{Approximate}
-use Rattle.git_date.specs.Types.Names.{Today, Draft, ShownClock, Number, Meaning, Fault, Now}
+use Rattle.git_date.specs.Types.Names.{Today, Draft, Number, Meaning, Fault, Now}
 use Rattle.git_date.specs.declared.error.DateError.{DateError}
 use Rattle.git_date.specs.declared.error.DateError.TheVariants as error
 use Rattle.git_date.proofs.Rules.EnoughSteps.{fewer, short-kept}
@@ -26,6 +26,7 @@ use Rattle.git_date.proofs.Rules.Kept.{Twice, ending-left}
 use Rattle.git_date.proofs.Rules.Respects.{Marked, NoGroupMark, SameMarked, SameNumber}
 use Rattle.git_date.specs.Laws.Heard.{is_usual, are_usual_from, are_usual}
 use Rattle.git_date_laws.proofs.Heard.Texts.{IsShort, read-short, same-draft}
+use Rattle.gix_date.specs.Fields.Layout.{LocalTime}
 
 -- where nothing is ignored, nothing was before
 abbrev Goes : Draft → Draft → Type 0
@@ -61,7 +62,7 @@ ruled-goes d x y (Stops a b faults) = tt
 settle-goes : (d : Draft) → Goes d (settle d)
 settle-goes d = draft-goes d _ _ (settle-respects Anywhere (IsNoneBefore d.ignored) (none-earlier d.ignored) d d (draft-twice d))
 
-meaning-goes : (zone : Choices) (today : ShownClock) (d : Draft) (left : ℕ) (said : Meaning) → NoneRuled d (meaning_rule zone today d left said)
+meaning-goes : (zone : Choices) (today : LocalTime) (d : Draft) (left : ℕ) (said : Meaning) → NoneRuled d (meaning_rule zone today d left said)
 meaning-goes zone today d left said =
     ruled-goes d _ _ (meaning-respects Anywhere (IsNoneBefore d.ignored) (none-earlier d.ignored) zone today d d left left said tt (draft-twice d))
 
@@ -83,12 +84,12 @@ unknown-says : (d : Draft) (left : ℕ) (filler ending : Bool) → Says d (fille
 unknown-says d left true ending = λ h. (h, refl)
 unknown-says d left false ending = λ h. absurd cc
 
-word-says : (zone : Choices) (today : ShownClock) (d : Draft) (run : List ℕ) (left : ℕ) (ending : Bool) (said : Option Meaning)
+word-says : (zone : Choices) (today : LocalTime) (d : Draft) (run : List ℕ) (left : ℕ) (ending : Bool) (said : Option Meaning)
     → Says d (is_some said || is_filler run || ending) (read_word d run left (word_by zone today d left said))
 word-says zone today d run left ending None = unknown-says d left (is_filler run) ending
 word-says zone today d run left ending (Some said) = read-says d run left _ (meaning-goes zone today d left said)
 
-letters-say : (zone : Choices) (today : ShownClock) (d : Draft) (digits : Bool) (run : List ℕ) (more : List Token)
+letters-say : (zone : Choices) (today : LocalTime) (d : Draft) (digits : Bool) (run : List ℕ) (more : List Token)
     → Says d (is_usual digits run more) (letters_rule zone today d run more)
 unfolding letters_rule
 letters-say zone today d digits run more = by (are_digits_next more)
@@ -111,13 +112,8 @@ From first ts = AreUsual ts → AreUsual first
 
 marked-usual : (first ts : List Token) → From first ts → Marked (Twice (From first)) Anywhere (marked_number ts) (marked_number ts)
 unfolding marked_number
-marked-usual first [] h = NoGroupMark None None refl refl
-marked-usual first (Letters run ∷ more) h = NoGroupMark None None refl refl
-marked-usual first (Digits run ∷ more) h = NoGroupMark None None refl refl
-marked-usual first (Mark byte ∷ []) h = NoGroupMark None None refl refl
-marked-usual first (Mark byte ∷ Letters run ∷ more) h = NoGroupMark None None refl refl
-marked-usual first (Mark byte ∷ Mark other ∷ more) h = NoGroupMark None None refl refl
 marked-usual first (Mark byte ∷ Digits run ∷ more) h = SameMarked byte (number_at run more) (number_at run more) more more (SameNumber (number run) _ _ tt) (refl, h)
+marked-usual first ts h = NoGroupMark None None refl refl
 
 -- what digits make of a draft
 abbrev Tells : Draft → List Token → Read → Type 0
@@ -135,14 +131,10 @@ digits-tell now d run more =
     now d d run more more tt (refl, λ all. all) (draft-twice d))
 
 -- endings
-or-last : (a : Bool) → (a || true) ≡ true
-or-last true = refl
-or-last false = refl
-
 ending-usual : (run : List ℕ) (more : List Token) (b : Bool) → is_ending run ≡ b
     → ((digits : Bool) → are_usual_from digits (cond b more (Letters run ∷ more)) ≡ true) → are_digits_next more ≡ false → AreUsual (Letters run ∷ more)
 ending-usual run more true e h next =
-    let here : is_usual true run more ≡ true = rw (next, e) (or-last (is_some (meaning_of run) || is_filler run)) in
+    let here : is_usual true run more ≡ true = rw (next, e) (or_right (is_some (meaning_of run) || is_filler run) true refl) in
     join _ _ here (h false)
 ending-usual run more false e h next = h true
 
@@ -234,7 +226,7 @@ module _ (zone : Choices) (today : Today) where
       draft-usual text d is (settle-goes d (answer-none text (settle d) (filled_time zone today.shown (settle d).last.offset (settle d).fields) date e none))
   answered-usual text date (Err x) is e none = absurd cc
 
-guess-by-usual : (zone : Choices) (now : Now) (text : List ℕ) (date : Approximate) (shown : Option ShownClock) → guess_by zone now text shown ≡ Ok date
+guess-by-usual : (zone : Choices) (now : Now) (text : List ℕ) (date : Approximate) (shown : Option LocalTime) → guess_by zone now text shown ≡ Ok date
     → date.ignored ≡ None → are_usual text ≡ true
 guess-by-usual zone now text date None e none = absurd cc
 guess-by-usual zone now text date (Some shown) e none =

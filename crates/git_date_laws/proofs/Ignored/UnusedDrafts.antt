@@ -18,7 +18,7 @@ use Rattle.git_date.specs.Tokens.Numbers.{number}
 use Rattle.git_date.specs.Exact.Reading.{and_then, ended, place_in}
 use Rattle.git_date.specs.Tokens.Strings.{before_nul, nul_place}
 use Rattle.git_date.specs.Tokens.Tokens.{Token, Letters, Digits, Mark, tokens, bytes_left, walked}
-use Rattle.git_date.specs.Types.Names.{Now, Today, Draft, Fault, Fields, Meaning, Number, ShownClock, Unit as TheUnit}
+use Rattle.git_date.specs.Types.Names.{Now, Today, Draft, Fault, Fields, Meaning, Number, Unit as TheUnit}
 use Rattle.git_date.specs.Rules.Words.{is_filler, without_ending}
 use Rattle.git_date.specs.declared.approximate.answer.Approximate.{Approximate}
 use Rattle.git_date.proofs.Rules.EnoughSteps.{fewer, short-kept}
@@ -29,6 +29,7 @@ use Rattle.git_date_laws.proofs.Heard.Texts.{IsShort, read-short, same-draft}
 use Rattle.git_date_laws.proofs.Ignored.Unused.{ending-is}
 use Rattle.git_date_laws.specs.ApproximateIgnored.{place_of, unfit, does_nothing, left_by, unused_letters, unused_digits, Drafted, AtEnd, AtMark, AtLetters, AtDigits, earliest, IsEarliestUnused, IgnoresEarliest}
 use Rattle.git_date_laws.specs.Ignored.{is_passed, takes_group, after_ending}
+use Rattle.gix_date.specs.Fields.Layout.{LocalTime}
 
 -- places
 one-place : (i : Option ℕ) (left : ℕ) → Some (earlier left i) ≡ earliest i (left ∷ [])
@@ -54,7 +55,7 @@ unfolding dropped
 dropped-leaves d = grind (arith, one-place)
 
 -- words
-module _ (zone : Choices) (today : ShownClock) where
+module _ (zone : Choices) (today : LocalTime) where
   moved-keeps : (d next : Draft) (left : ℕ) (instant : ℤ) → moved_to zone d left instant ≡ Ok next → next.ignored ≡ d.ignored
   unfolding moved_to
   moved-keeps d next left instant e = grind arith
@@ -194,7 +195,7 @@ ignores-earliest moment text date unreadable h = by-shown (shown_in zone now.sec
     parts : IsUpTo (nul_place text) (string_guess zone now string) date
     parts = answer-parts zone now text date (sym (h ∙ guessed moment text unreadable))
 
-    by-draft : (shown : ShownClock) (given : Result Draft Fault) → shown_in zone now.seconds ≡ Some shown → draft_of zone (record { now = now; shown = shown }) string ≡ given
+    by-draft : (shown : LocalTime) (given : Result Draft Fault) → shown_in zone now.seconds ≡ Some shown → draft_of zone (record { now = now; shown = shown }) string ≡ given
         → answer_of zone (record { now = now; shown = shown }) string given ≡ Ok parts.before → IsEarliestUnused moment text date
     by-draft shown (Err wrong) seen is e = absurd cc
     by-draft shown (Ok d) seen is e =
@@ -210,6 +211,6 @@ ignores-earliest moment text date unreadable h = by-shown (shown_in zone now.sec
           first = ap (λ (x : Approximate). x.ignored) parts.is ∙ ap (λ (i : Option ℕ). option_or i (nul_place text)) (found.1 ∙ ap (option_map (place_in string)) walk.2);
         }
 
-    by-shown : (shown : Option ShownClock) → shown_in zone now.seconds ≡ shown → guess_by zone now string shown ≡ Ok parts.before → IsEarliestUnused moment text date
+    by-shown : (shown : Option LocalTime) → shown_in zone now.seconds ≡ shown → guess_by zone now string shown ≡ Ok parts.before → IsEarliestUnused moment text date
     by-shown None seen e = absurd cc
     by-shown (Some shown) seen e = by-draft shown (draft_of zone (record { now = now; shown = shown }) string) seen refl e

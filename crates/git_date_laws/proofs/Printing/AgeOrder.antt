@@ -1,7 +1,8 @@
 -- Ages grow as time passes.
 use Rattle.std.proofs.Common.{◌≡◌, ◌≤◌, ◌<◌, ◌+◌, ◌/◌, ℕ, Bool, true, false, cond, nat_lt, refl, arith}
 use Rattle.std.proofs.lemmas.Bool.Decides.{Decides-ltb, nat_tests}
-use Rattle.git_date.specs.Show.Ages.{age_of, age_of_days, days_of, hours_of, minutes_of, whole_months, rounded, in_years_and_months, unit_of, IsNoLess}
+use Rattle.git_date.specs.Show.Ages.{age_of, age_of_days, days_of, hours_of, minutes_of, whole_months, rounded, in_years_and_months}
+use Rattle.git_date_laws.specs.Shown.{unit_of, IsNoLess}
 use Rattle.git_date.specs.Types.Names.{Age}
 use Rattle.git_date.specs.Types.AgeCases.{Seconds, Minutes, Hours, Days, Weeks, Months, Years}
 

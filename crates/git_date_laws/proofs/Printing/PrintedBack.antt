@@ -1,12 +1,13 @@
 -- The time that a printed clock says is the time that was printed.
-use Rattle.std.proofs.Common.{◌≡◌, ◌∙◌, ◌≤◌, ◌≤ℤ◌, ◌<ℤ◌, ◌+◌, ◌*◌, ◌%◌, ℕ, ℤ, pos, negsuc, neg_ℤ, ◌+ℤ◌, ◌-ℤ◌, ◌*ℤ◌, unsigned_abs, Bool, true, false, cond, List, refl, ap, sym, subst, arith, Some, None, Ok, Err, [], ◌∷◌, ◌++◌, append_assoc}
+use Rattle.std.proofs.Common.{◌≡◌, ◌∙◌, ◌≤◌, ◌≤ℤ◌, ◌<ℤ◌, ◌+◌, ◌*◌, ◌%◌, ℕ, ℤ, pos, negsuc, neg_ℤ, ◌+ℤ◌, ◌*ℤ◌, unsigned_abs, Bool, true, false, cond, List, refl, ap, sym, subst, arith, Some, None, Ok, Err, [], ◌∷◌, ◌++◌, append_assoc}
 use Rattle.std.specs.Prelude.{◌&&◌, int_lt, nat_le}
 use Rattle.std.specs.Int.Signed.{le_z}
 use Rattle.std.proofs.lemmas.Bool.Decides.{nat_tests}
+use Rattle.std.proofs.lemmas.Option.{cond_some as guard}
 use Rattle.jiff.specs.Types.{PlainZoned, TimeZone}
-use Rattle.jiff_core.proofs.CalendarLemmas.{days_from_civil-day_count, day_count-later_year, day_count-day_of_year, day_of_year_bound, days_in_month_bounds}
+use Rattle.jiff_core.proofs.CalendarLemmas.{days_in_month_bounds}
 use Rattle.jiff_core.proofs.SignedLemmas.{signed_arith, one_part}
-use Rattle.jiff_core.specs.Calendar.{day_count, days_of_years, days_of_months, days_from_civil}
+use Rattle.jiff_core.specs.Calendar.{day_count, days_of_years, days_of_months}
 use Rattle.jiff_core.specs.Date.{epoch_day}
 use Rattle.jiff_core.specs.declared.civil.date.Date.{Date}
 use Rattle.gix_date.proofs.Fields.Instants.{z_holds, instant_from}
@@ -34,6 +35,7 @@ use Rattle.git_date.specs.Show.Clocks.{has_zone_clock, known_offset, time_at, wh
 use Rattle.git_date.specs.Types.Names.{Now}
 use Rattle.git_date.specs.declared.error.DateError.TheVariants as error
 use Rattle.git_date.specs.Types.Names.{Said}
+use Rattle.git_date.proofs.Rules.ClocksBack.{before-year, later-day}
 use Rattle.git_date.proofs.Exact.PrintedClocks.{IsGitClock, at, fields_of, hours_of, minutes_of, is_behind, signed, offset_in_minutes, IsDayText, date-mark}
 use Rattle.git_date.proofs.Exact.PrintedReads.{minutes-back, iso-reads, strict-reads, mail-reads, gitoxide-reads, default-reads, two-day-of, bare-day-of}
 
@@ -56,10 +58,6 @@ clock_of_utc t = civil_seconds t.date t.clock (pos 0)
 
 abbrev said_of : LocalTime → Said
 said_of t = record { seconds = clock_of_utc t; offset = Some (offset_in_minutes t); epoch = false; ignored = None }
-
-later-day : (y : ℤ) (m d : ℕ) → 1 ≤ d → days_from_civil y m d ≡ days_from_civil y m 1 +ℤ (pos d -ℤ pos 1)
-unfolding days_from_civil day_count
-later-day y m d h = omega (arith, signed_arith)
 
 month-known : (t : LocalTime) → IsGitClock t → is_month t.date.year t.date.month ≡ true
 month-known t h = let a = h.first_year in let b = h.last_year in let c = h.first_month in let d = h.last_month in grind (arith, nat_tests)
@@ -84,13 +82,9 @@ one-behind o true k e t one = omega (arith, signed_arith)
 one-behind o false k e t one = absurd cc
 
 -- the instant
-from-cond : (b : Bool) (x y : ℤ) → cond b (Some x) None ≡ Some y → x ≡ y
-from-cond true x y e = cc
-from-cond false x y e = absurd cc
-
 seconds-from : (d : LocalDate) (c : LocalClock) (o s : ℤ) → civil_instant d c o ≡ Some s → civil_seconds d c o ≡ s
 unfolding civil_instant
-seconds-from d c o s e = from-cond (is_date d && is_clock c && is_instant (civil_seconds d c o)) (civil_seconds d c o) s e
+seconds-from d c o s e = (guard (is_date d && is_clock c && is_instant (civil_seconds d c o)) (civil_seconds d c o) s e).1
 
 twenty-one : day_count (pos 2100) 1 1 ≡ 4_419_435
 unfolding day_count days_of_years days_of_months
@@ -98,11 +92,8 @@ twenty-one = refl
 
 before-2100 : (date : Date) → date.year ≤ℤ pos 2099 → epoch_day date <ℤ pos 47_482
 before-2100 date h =
-    let day_in = date.day_in in
-    let year_in = date.year_in in
-    let here = day_count-day_of_year date.year date.month date.day day_in.0 in
-    let within = day_of_year_bound date.year date.month date.day (date.year_in, date.month_in, date.day_in) in
-    omega (arith, signed_arith, here, within, day_count-later_year date.year (pos 2100) (omega (arith, signed_arith, year_in)) (omega (arith, signed_arith)), days_from_civil-day_count date.year date.month date.day, twenty-one)
+    let before = before-year date 2100 4_419_435 (omega arith) twenty-one (omega (arith, signed_arith, h)) in
+    omega (arith, signed_arith, before)
 
 -- what the clock of such a time shows
 module _ (t : Time) (h : IsGitTime t) (z : PlainZoned) (shows : Shows z t) where

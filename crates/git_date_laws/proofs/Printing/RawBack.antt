@@ -4,25 +4,26 @@ use Rattle.std.specs.Char.{is_ascii_digit}
 use Rattle.std.specs.Fmt.{decimal}
 use Rattle.std.specs.Int.Signed.{lt_z}
 use Rattle.std.specs.List.{fold, list_all}
-use Rattle.std.specs.Prelude.{◌==◌, int_lt, nat_lt, option_map}
+use Rattle.std.specs.Prelude.{◌==◌, int_lt, nat_lt}
 use Rattle.std.proofs.lemmas.Bool.{and_parts}
-use Rattle.std.proofs.lemmas.Bool.Decides.{nat_tests, Decides-ltb, Decides-eqb}
+use Rattle.std.proofs.lemmas.Bool.Decides.{Decides-ltb, Decides-eqb}
 use Rattle.std.proofs.lemmas.Fmt.{decimal_by_steps}
 use Rattle.std.proofs.lemmas.List.Folds.{list_all-append}
 use Rattle.std.proofs.lemmas.List.Sums.{fold-append}
 use Rattle.jiff.specs.Types.{TimeZone}
-use Rattle.jiff_core.proofs.SignedLemmas.{signed_arith, one_part}
+use Rattle.jiff_core.proofs.SignedLemmas.{signed_arith}
 use Rattle.gix_date.proofs.Fields.Instants.{instant_holds, z_holds}
 use Rattle.gix_date.specs.Fields.ClockNumbers.{hours_in, minutes_in}
 use Rattle.gix_date.specs.Fields.Zoned.{is_instant}
 use Rattle.gix_date.specs.Header.Text.{written_text}
-use Rattle.gix_date.specs.Text.Characters.{at_sign, space, plus, minus}
+use Rattle.gix_date.specs.Text.Characters.{at_sign, space}
 use Rattle.gix_date.specs.Text.Numbers.{two_digits}
 use Rattle.gix_date.specs.declared.time.Time.{Time}
-use Rattle.git_date.proofs.Exact.PrintedReads.{sign-free}
+use Rattle.git_date.proofs.Exact.PrintedReads.{minutes-back, sign-free}
 use Rattle.git_date.proofs.Text.StringEnds.{has_nul, no-nul, whole-said}
-use Rattle.git_date.proofs.Exact.FastSeconds.{sign_byte, minutes_of, raw_tokens, run-before, at-is, said_at, said-is}
-use Rattle.git_date.proofs.Text.TokenRuns.{digit-first, mark-first}
+use Rattle.git_date.proofs.Exact.FastSeconds.{sign_byte, minutes_of, raw_tokens, at-is, said_at, said-is}
+use Rattle.git_date.proofs.Exact.PrintedClocks.{IsNumber, digit-test, number-before, pairs-number, sign-before}
+use Rattle.git_date.proofs.Text.TokenRuns.{mark-first}
 use Rattle.git_date.specs.Show.Modes.{own}
 use Rattle.git_date.specs.Tokens.Numbers.{digit_more, number}
 use Rattle.git_date.specs.Rules.Offsets.{at_text}
@@ -30,24 +31,19 @@ use Rattle.git_date.specs.Exact.Outcome.{date_of, date_at}
 use Rattle.git_date.specs.Exact.Reading.{string_said, said_by, at_or_fields}
 use Rattle.git_date.specs.Show.Dates.{raw_text, shown, shown_offset}
 use Rattle.git_date.specs.Show.Clocks.{Moment, is_written_offset}
-use Rattle.git_date.specs.Tokens.Tokens.{Token, Digits, Mark, digit_before, tokens}
+use Rattle.git_date.specs.Tokens.Tokens.{Token, Digits, Mark, tokens}
 use Rattle.git_date.specs.declared.date.ReadDate.{ReadDate}
 use Rattle.git_date.specs.Types.Names.{Now}
 use Rattle.git_date.specs.declared.error.DateError.{DateError}
 use Rattle.git_date.specs.declared.error.DateError.TheVariants.{Range}
 use Rattle.git_date.specs.declared.mode.DateKind.TheVariants.{Raw}
+use Rattle.git_date_laws.proofs.Printing.ShownLaws.{mapped, when-shown}
 
--- digits that write a number, which are one token before a mark
-pub record IsRun (n : ℕ) (run : List ℕ) : Type 0 where
-  pub number_is : fold digit_more 0 run ≡ n
-  pub digits : list_all is_ascii_digit run ≡ true
-  pub some : 1 ≤ length run
-
-digit-test : (n : ℕ) → n < 10 → is_ascii_digit (48 + n) ≡ true
-digit-test n h = grind (arith, nat_tests)
-
-one-before : (n : ℕ) (rest : List ℕ) (ts : List Token) → n < 10 → tokens rest ≡ ts → tokens ((48 + n) ∷ rest) ≡ digit_before (48 + n) ts
-one-before n rest ts h e = digit-first (48 + n) rest (digit-test n h) ∙ ap (digit_before (48 + n)) e
+-- digits that write a number
+record IsRun (n : ℕ) (run : List ℕ) : Type 0 where
+  number_is : fold digit_more 0 run ≡ n
+  digits : list_all is_ascii_digit run ≡ true
+  some : 1 ≤ length run
 
 one-run : (n : ℕ) → n < 10 → IsRun n ((48 + n) ∷ [])
 one-run n h = let e = digit-test n h in record { number_is = omega arith; digits = rw e refl; some = omega arith }
@@ -62,39 +58,24 @@ more-run n run h is =
       some = omega (arith, length-append run (c ∷ []));
     }
 
-pub decimal-is : (n : ℕ) → n < 2 ^ 64 → IsRun n (decimal n)
+decimal-is : (n : ℕ) → n < 2 ^ 64 → IsRun n (decimal n)
 decimal-is n h = decimal_by_steps IsRun one-run more-run n h
 
-pub decimal-run : (n : ℕ) (rest : List ℕ) (byte : ℕ) (more : List Token) → n < 2 ^ 64 → tokens rest ≡ Mark byte ∷ more
-    → tokens (decimal n ++ rest) ≡ Digits (decimal n) ∷ Mark byte ∷ more
-decimal-run n rest byte more h e = let is = decimal-is n h in run-before (decimal n) rest byte more is.some is.digits e
-
--- the four digits of an offset
-pair-first : (n : ℕ) (rest : List ℕ) (ts : List Token) → n < 100 → tokens rest ≡ ts → tokens (two_digits n ++ rest) ≡ digit_before (48 + n / 10) (digit_before (48 + n % 10) ts)
-pair-first n rest ts h e = one-before (n / 10) _ _ (omega arith) (one-before (n % 10) rest ts (omega arith) e)
-
-four-tokens : (a b : ℕ) → a < 100 → b < 100 → tokens (two_digits a ++ two_digits b) ≡ Digits (two_digits a ++ two_digits b) ∷ []
-unfolding tokens
-four-tokens a b h g = pair-first a (two_digits b) _ h (pair-first b [] [] g refl)
-
-sign-first : (behind : Bool) (rest : List ℕ) → tokens (sign_byte behind ∷ rest) ≡ Mark (sign_byte behind) ∷ tokens rest
-sign-first true rest = mark-first minus rest refl refl
-sign-first false rest = mark-first plus rest refl refl
+pub decimal-number : (n : ℕ) → n < 2 ^ 64 → IsNumber (decimal n) n
+unfolding number
+decimal-number n h = let run = decimal-is n h in let is = run.number_is in record { some = run.some; digits = run.digits; is = omega arith }
 
 raw-are : (n a b : ℕ) (behind : Bool) → n < 2 ^ 64 → a < 100 → b < 100
     → tokens (at_sign ∷ (decimal n ++ (space ∷ sign_byte behind ∷ (two_digits a ++ two_digits b))))
     ≡ raw_tokens (decimal n) behind (two_digits a ++ two_digits b)
+unfolding tokens
 raw-are n a b behind h f g =
     let pairs = two_digits a ++ two_digits b in
     let last : tokens (space ∷ sign_byte behind ∷ pairs) ≡ Mark space ∷ Mark (sign_byte behind) ∷ Digits pairs ∷ [] =
     mark-first space (sign_byte behind ∷ pairs) refl refl
-    ∙ ap (λ (ts : List Token). Mark space ∷ ts) (sign-first behind pairs ∙ ap (λ (ts : List Token). Mark (sign_byte behind) ∷ ts) (four-tokens a b f g)) in
+    ∙ ap (λ (ts : List Token). Mark space ∷ ts) (sign-before behind pairs ∙ ap (λ (ts : List Token). Mark (sign_byte behind) ∷ ts) (number-before pairs [] [] _ (pairs-number a b f g) refl tt)) in
     mark-first at_sign (decimal n ++ (space ∷ sign_byte behind ∷ pairs)) refl refl
-    ∙ ap (λ (ts : List Token). Mark at_sign ∷ ts) (decimal-run n (space ∷ sign_byte behind ∷ pairs) space (Mark (sign_byte behind) ∷ Digits pairs ∷ []) h last)
-
-pub number-of : (n : ℕ) → n < 2 ^ 64 → number (decimal n) ≡ n
-unfolding number
-number-of n h = let is = (decimal-is n h).number_is in omega arith
+    ∙ ap (λ (ts : List Token). Mark at_sign ∷ ts) (number-before (decimal n) (space ∷ sign_byte behind ∷ pairs) _ n (decimal-number n h) last tt)
 
 raw-said : (now : Now) (n a b : ℕ) (behind : Bool) → n < 2 ^ 64 → a < 100 → b < 100 → is_instant (pos n) ≡ true
     → said_by now (at_sign ∷ (decimal n ++ (space ∷ sign_byte behind ∷ (two_digits a ++ two_digits b)))) ≡ Ok (said_at n (minutes_of behind a b))
@@ -104,7 +85,7 @@ raw-said now n a b behind h f g e =
     let are = raw-are n a b behind h f g in
     let free : has_nul (raw_tokens (decimal n) behind (two_digits a ++ two_digits b)) ≡ false = rw (sign-free behind) refl in
     let found : at_text (tokens text) ≡ Some (n, minutes_of behind a b) =
-    ap at_text are ∙ at-is (decimal n) a b behind f g ∙ ap (λ (k : ℕ). Some (k, minutes_of behind a b)) (number-of n h) in
+    ap at_text are ∙ at-is (decimal n) a b behind f g ∙ ap (λ (k : ℕ). Some (k, minutes_of behind a b)) (decimal-number n h).is in
     whole-said now text (no-nul text (ap has_nul are ∙ free)) ∙ ap (λ (o : Option (ℕ × ℤ)). at_or_fields now text o) found ∙ said-is n (minutes_of behind a b) e
 
 pub date-is : (n : ℕ) (minutes offset : ℤ) → pos 60 *ℤ minutes ≡ offset
@@ -115,34 +96,20 @@ date-is n minutes offset e =
     ap (λ (b : Bool). cond b (Ok (date (pos 60 *ℤ minutes))) (Err Range)) (z_holds (pos 0) (pos n) (omega (arith, signed_arith)))
     ∙ ap (λ (o : ℤ). Ok (date o)) e
 
--- the offset that is written
-offset-back : (behind : Bool) (o : ℤ) → int_lt o (pos 0) ≡ behind → unsigned_abs o % 60 ≡ 0
-    → pos 60 *ℤ minutes_of behind (hours_in (unsigned_abs o)) (minutes_in (unsigned_abs o)) ≡ o
-offset-back true o e whole = omega (arith, signed_arith, e, whole, one_part o)
-offset-back false o e whole = omega (arith, signed_arith, e, whole, one_part o)
-
-when : (b : Bool) (t : Time) (text : List ℕ) → option_map (raw_text t.seconds) (cond b (Some t.offset) None) ≡ Some text → (b ≡ true) × (written_text t ≡ text)
-when true t text e = (refl, cc)
-when false t text e = absurd cc
-
-since : (past : Bool) (x : Option (List ℕ)) (text : List ℕ) → cond past None x ≡ Some text → (past ≡ false) × (x ≡ Some text)
-since true x text e = absurd cc
-since false x text e = (refl, e)
-
 raw-parts : (now : Moment) (t : Time) (text : List ℕ) → shown now (own Raw) t ≡ Some text
     → (lt_z t.seconds (pos 0) ≡ false) × (is_written_offset t.offset ≡ true) × (written_text t ≡ text)
 unfolding shown shown_offset
 raw-parts now t text e =
-    let first = since (lt_z t.seconds (pos 0)) _ text e in
-    let second = when (is_written_offset t.offset) t text first.1 in
-    (first.0, second.0, second.1)
+    let first = when-shown (lt_z t.seconds (pos 0)) _ text e in
+    let written = mapped (raw_text t.seconds) (is_written_offset t.offset) t.offset text first.1 in
+    (first.0, written.0, written.1)
 
-by-seconds : (tz : TimeZone) (this : Now) (s o : ℤ) (behind : Bool) (result : Result ReadDate DateError) → lt_z s (pos 0) ≡ false → is_written_offset o ≡ true
-    → is_instant s ≡ true → int_lt o (pos 0) ≡ behind
+by-seconds : (tz : TimeZone) (this : Now) (s o : ℤ) (result : Result ReadDate DateError) → lt_z s (pos 0) ≡ false → is_written_offset o ≡ true → is_instant s ≡ true
     → result ≡ date_of tz (said_by this (at_sign ∷ written_text (record { seconds = s; offset = o })))
     → result ≡ Ok (record { time = record { seconds = s; offset = o }; has_offset = true; ignored = None })
-by-seconds tz this (negsuc n) o behind result past written instant e h = absurd cc
-by-seconds tz this (pos n) o behind result past written instant e h =
+by-seconds tz this (negsuc n) o result past written instant h = absurd cc
+by-seconds tz this (pos n) o result past written instant h =
+    let behind = int_lt o (pos 0) in
     let within = instant_holds (pos n) instant in
     let tests = and_parts (nat_lt (unsigned_abs o) 360_000) (unsigned_abs o % 60 == 0) written in
     let short = (Decides-ltb (unsigned_abs o) 360_000).0 tests.0 in
@@ -150,13 +117,13 @@ by-seconds tz this (pos n) o behind result past written instant e h =
     let a = hours_in (unsigned_abs o) in
     let b = minutes_in (unsigned_abs o) in
     let said : said_by this (at_sign ∷ written_text (record { seconds = pos n; offset = o })) ≡ Ok (said_at n (minutes_of behind a b)) =
-    rw e (raw-said this n a b behind (omega (arith, signed_arith, within)) (omega arith) (omega arith) instant) in
+    raw-said this n a b behind (omega (arith, signed_arith, within)) (omega arith) (omega arith) instant in
     let is : result ≡ date_at (said_at n (minutes_of behind a b)) (minutes_of behind a b) = h ∙ ap (date_of tz) said in
-    is ∙ date-is n (minutes_of behind a b) o (offset-back behind o e whole)
+    is ∙ date-is n (minutes_of behind a b) o (minutes-back o whole)
 
 pub raw-back : (tz : TimeZone) (this : Now) (now : Moment) (t : Time) (text : List ℕ) (result : Result ReadDate DateError) → is_instant t.seconds ≡ true
     → shown now (own Raw) t ≡ Some text → result ≡ date_of tz (said_by this (at_sign ∷ text)) → result ≡ Ok (record { time = t; has_offset = true; ignored = None })
 raw-back tz this now t text result instant e h =
     let parts = raw-parts now t text e in
-    by-seconds tz this t.seconds t.offset _ result parts.0 parts.1 instant refl
+    by-seconds tz this t.seconds t.offset result parts.0 parts.1 instant
     (h ∙ ap (λ (s : List ℕ). date_of tz (said_by this (at_sign ∷ s))) (sym parts.2))

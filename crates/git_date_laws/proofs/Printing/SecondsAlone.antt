@@ -1,11 +1,8 @@
 -- Seconds without `@`: alone, as `unix` shows them, and before an offset, as `raw` does.
-use Rattle.std.proofs.Common.{◌≡◌, ◌∙◌, ◌≤◌, ◌<◌, ◌+◌, ◌*◌, ◌%◌, ◌^◌, ℕ, ℤ, pos, negsuc, ◌*ℤ◌, unsigned_abs, Bool, true, false, cond, List, [], ◌∷◌, length, Option, Some, None, Ok, Err, refl, sym, ap, subst, arith}
-use Rattle.std.specs.Char.{is_ascii_digit}
+use Rattle.std.proofs.Common.{◌≡◌, ◌∙◌, ◌≤◌, ◌<◌, ◌+◌, ◌*◌, ◌%◌, ◌^◌, ℕ, ℤ, pos, negsuc, ◌*ℤ◌, unsigned_abs, Bool, true, false, cond, List, [], ◌∷◌, append-nil, Option, Some, None, Ok, Err, refl, sym, ap, subst, arith}
 use Rattle.std.specs.Fmt.{decimal}
 use Rattle.std.specs.Int.Signed.{le_z, lt_z}
-use Rattle.std.specs.List.{list_all}
 use Rattle.std.specs.Prelude.{option_map, int_lt}
-use Rattle.std.proofs.lemmas.Bool.{and_parts}
 use Rattle.jiff.specs.Types.{TimeZone}
 use Rattle.jiff.specs.declared.zoned.Zoned.{Zoned}
 use Rattle.jiff_core.proofs.SignedLemmas.{signed_arith}
@@ -17,9 +14,8 @@ use Rattle.gix_date.specs.Text.Numbers.{decimal_text}
 use Rattle.gix_date.specs.declared.time.Time.{Time}
 use Rattle.git_date.proofs.Rules.ClocksBack.{shown_of}
 use Rattle.git_date.proofs.Exact.FastSeconds.{epoch-by, epoch-says, raw-says}
-use Rattle.git_date.proofs.Exact.PrintedClocks.{at, go, signed}
+use Rattle.git_date.proofs.Exact.PrintedClocks.{number-before, at, go, signed}
 use Rattle.git_date.proofs.Exact.PrintedReads.{minutes-back, reads-are}
-use Rattle.git_date.proofs.Text.TokenRuns.{digit-first}
 use Rattle.git_date.proofs.Text.Walked.{nothing-left}
 use Rattle.git_date.specs.Rules.Dates.{now_of, first_of_year_2100}
 use Rattle.git_date.specs.Rules.Digits.{min_epoch, with_epoch}
@@ -31,7 +27,7 @@ use Rattle.git_date.specs.Laws.Printed.{IsGitTime}
 use Rattle.git_date.specs.Exact.Reading.{ended, said_by, step}
 use Rattle.git_date.specs.Show.Dates.{raw_text, shown, shown_offset}
 use Rattle.git_date.specs.Show.Clocks.{Moment, is_written_offset, time_at, zone_clock}
-use Rattle.git_date.specs.Tokens.Tokens.{Digits, digit_before, tokens}
+use Rattle.git_date.specs.Tokens.Tokens.{Digits, tokens}
 use Rattle.git_date.specs.Types.Names.{Now, Said}
 use Rattle.git_date.specs.Rules.Words.{without_ending}
 use Rattle.git_date.specs.Exact.Zones.{offsets_of, local_offset}
@@ -39,29 +35,20 @@ use Rattle.git_date.specs.declared.date.ReadDate.{ReadDate}
 use Rattle.git_date.specs.declared.error.DateError.TheVariants.{Range}
 use Rattle.git_date.specs.declared.mode.DateKind.TheVariants.{Raw, Unix}
 use Rattle.git_date_laws.proofs.Printing.PrintedBack.{zone-is}
-use Rattle.git_date_laws.proofs.Printing.RawBack.{date-is, decimal-is, number-of}
+use Rattle.git_date_laws.proofs.Printing.RawBack.{date-is, decimal-number}
 use Rattle.git_date_laws.proofs.Printing.ShownLaws.{when-shown}
 use Rattle.git_date_laws.specs.Headline.{IsEpoch, IsReadAs, shown_time}
-
--- digits alone are one token
-digits-alone : (run : List ℕ) → 1 ≤ length run → list_all is_ascii_digit run ≡ true → tokens run ≡ Digits run ∷ []
-unfolding tokens
-digits-alone [] some h = absurd (omega (arith, some))
-digits-alone (c ∷ []) some h = digit-first c [] (and_parts (is_ascii_digit c) true h).0
-digits-alone (c ∷ d ∷ run) some h =
-    let both = and_parts (is_ascii_digit c) (list_all is_ascii_digit (d ∷ run)) h in
-    digit-first c (d ∷ run) both.0 ∙ ap (digit_before c) (digits-alone (d ∷ run) (omega arith) both.1)
 
 abbrev said_alone : ℕ → Said
 said_alone n = record { seconds = pos n; offset = None; epoch = true; ignored = None }
 
 alone-said : (now : Now) (n : ℕ) → min_epoch ≤ n → n < first_of_year_2100 → said_by now (decimal n) ≡ Ok (said_alone n)
-unfolding without_ending at_text
+unfolding without_ending at_text tokens
 alone-said now n first last =
-    let is = decimal-is n (omega (arith, last)) in
+    let is = decimal-number n (omega (arith, last)) in
     let fields = with_epoch unknown (shown_of (pos n)) in
-    reads-are now (decimal n) (Digits (decimal n) ∷ []) 40 fields (digits-alone (decimal n) is.some is.digits) refl (omega arith) refl
-    (go now 39 unknown fields (Digits (decimal n)) [] [] refl (ap ended (epoch-by now n (decimal n) [] (number-of n (omega (arith, last))) first last))
+    reads-are now (decimal n) (Digits (decimal n) ∷ []) 40 fields (ap tokens (sym (append-nil (decimal n))) ∙ number-before (decimal n) [] [] n is refl tt) refl (omega arith) refl
+    (go now 39 unknown fields (Digits (decimal n)) [] [] refl (ap ended (epoch-by now n (decimal n) [] is.is first last))
     ∙ nothing-left (step now) 39 (at fields))
     ∙ epoch-says n None (decimal n) last
 
@@ -90,7 +77,7 @@ pub unix-alone : (this : Now) (at : Moment) (local : Bool) (tz : TimeZone) (t : 
     → (date.time.seconds ≡ t.seconds) × (date.ignored ≡ None)
 unfolding shown
 unix-alone this at local tz t text date h e read =
-    let is = when-shown (lt_z t.seconds (pos 0)) _ text e in
+    let is = (when-shown (lt_z t.seconds (pos 0)) _ text e).1 in
     let same : decimal_text t.seconds ≡ text = cc in
     alone-read this tz t.seconds date h (ap (λ (shown : List ℕ). date_of tz (said_by this shown)) same ∙ read)
 
@@ -105,8 +92,8 @@ raw-read this tz (pos n) o epoch h =
     let seconds : WritesSeconds (decimal n) n = record {
       first = omega (arith, signed_arith, epoch);
       last = omega (arith, signed_arith, epoch);
-      digits = (decimal-is n small).digits;
-      is = number-of n small;
+      digits = (decimal-number n small).digits;
+      is = (decimal-number n small).is;
     } in
     let offset : WritesOffset compact_offset_text (compact_offset_text o) minutes = record {
       within = subst (λ (x : ℤ). unsigned_abs x ≤ 86_340) (sym back) h.round_trips.within;
@@ -133,7 +120,7 @@ offset-is at true t o h e = by (zone_clock at.zone t.seconds) refl e
 pub raw-alone : (moment : Zoned) (at : Moment) (local : Bool) (t : Time) (text : List ℕ) → IsEpoch t.seconds → IsGitTime (shown_time at local t)
     → shown at (record { kind = Raw; local = local }) t ≡ Some text → IsReadAs moment text (shown_time at local t)
 unfolding shown
-raw-alone moment at local t text epoch h e tz = by (shown_offset at local t) refl (when-shown (lt_z t.seconds (pos 0)) _ text e)
+raw-alone moment at local t text epoch h e tz = by (shown_offset at local t) refl (when-shown (lt_z t.seconds (pos 0)) _ text e).1
   where
     seconds-are : (local : Bool) → (shown_time at local t).seconds ≡ t.seconds
     seconds-are true = refl

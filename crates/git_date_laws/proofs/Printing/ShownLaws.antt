@@ -1,5 +1,5 @@
 -- Laws of dates as Git shows them.
-use Rattle.std.proofs.Common.{◌≡◌, ◌≢◌, ◌∙◌, ◌≤◌, ◌+◌, ◌/◌, ◌%◌, ℕ, pos, Bool, true, false, cond, List, nat_lt, Option, Some, None, option_map, Result, Ok, Err, String, Global, string_bytes, refl, sym, ap, arith, unsigned_abs}
+use Rattle.std.proofs.Common.{◌≡◌, ◌≢◌, ◌∙◌, ◌%◌, ℕ, pos, Bool, true, false, cond, List, nat_lt, Option, Some, None, option_map, Result, Ok, Err, String, Global, string_bytes, refl, sym, ap, arith, unsigned_abs}
 use Rattle.std.proofs.lemmas.Bool.{and_parts, false_from_ne_true}
 use Rattle.std.proofs.lemmas.Bool.Decides.{nat_tests, Decides-int_eq}
 use Rattle.std.specs.Int.Signed.{lt_z}
@@ -12,18 +12,17 @@ use Rattle.gix_date.specs.Fields.Layout.{LocalTime}
 use Rattle.gix_date.specs.Header.Text.{header_text, written_text}
 use Rattle.gix_date.specs.Printing.Formats.{PrintsPattern, PrintsHeader, PrintsSeconds}
 use Rattle.gix_date.specs.Printing.LocalClocks.{clock_of, local_seconds, HasFourDigitFields}
-use Rattle.gix_date.specs.Printing.NamedTexts.{ShowsText, short_pattern, short_text, iso8601_pattern, iso8601_text, iso8601_strict_pattern, iso8601_strict_text, git_rfc2822_pattern, git_rfc2822_text, default_pattern, default_text}
+use Rattle.gix_date.specs.Printing.NamedTexts.{ShowsText, short_pattern, short_text, iso8601_pattern, iso8601_text, iso8601_strict_pattern, iso8601_strict_text, git_rfc2822_pattern, git_rfc2822_text, default_pattern, default_text, bare_default_text}
 use Rattle.gix_date.specs.Text.Numbers.{decimal_text}
 use Rattle.gix_date.specs.declared.error.Error.{Error}
 use Rattle.gix_date.specs.declared.time.Time.{Time}
 use Rattle.git_date.proofs.Printing.ShownClocks.{dated}
 use Rattle.git_date.specs.Show.Modes.{mode_named, mode_name}
 use Rattle.git_date.specs.Show.Dates.{raw_text, shown, shown_offset}
-use Rattle.git_date.specs.Show.Ages.{age_of, age_of_days, days_of, IsNoSingle}
 use Rattle.git_date.specs.Show.Clocks.{has_own_clock, is_dated, is_written_offset, own_clock}
-use Rattle.git_date.specs.Show.Texts.{bare_default_text, git_default_text, unknown_offset}
+use Rattle.git_date.specs.Show.Texts.{git_default_text, unknown_offset}
 use Rattle.git_date.specs.declared.mode.DateKind.{DateKind}
-use Rattle.git_date.specs.declared.mode.DateKind.TheVariants.{Relative, Iso8601Strict, Iso8601, Rfc2822, Short, Default, Human, Raw, Unix}
+use Rattle.git_date.specs.declared.mode.DateKind.TheVariants.{Relative, Iso8601Strict, Iso8601, Rfc2822, Short, Default, Raw, Unix}
 use Rattle.git_date.specs.declared.mode.DateMode.{DateMode}
 use Rattle.git_date_laws.specs.Shown.{IsShownAs}
 
@@ -32,71 +31,18 @@ named-so : (kind : DateKind) (local : Bool) → mode_named (mode_name (record { 
 unfolding mode_named
 named-so Relative true = refl
 named-so Relative false = refl
-named-so Iso8601Strict true = refl
-named-so Iso8601Strict false = refl
-named-so Iso8601 true = refl
-named-so Iso8601 false = refl
-named-so Rfc2822 true = refl
-named-so Rfc2822 false = refl
-named-so Short true = refl
-named-so Short false = refl
-named-so Default true = refl
-named-so Default false = refl
-named-so Human true = refl
-named-so Human false = refl
-named-so Raw true = refl
-named-so Raw false = refl
-named-so Unix true = refl
-named-so Unix false = refl
+named-so kind true = refl
+named-so kind false = refl
 
 pub named_back : (mode : DateMode) → mode_named (mode_name mode) ≡ Some mode
 named_back mode = named-so mode.kind mode.local
 
--- ages
-test : (a b : ℕ) → nat_lt a b ≡ false → b ≤ a
-test a b h = grind (arith, nat_tests, h)
-
-by-days : (days : ℕ) (two ten year five : Bool) → 2 ≤ days → nat_lt days 14 ≡ two → nat_lt days 70 ≡ ten → nat_lt days 365 ≡ year → nat_lt days 1825 ≡ five
-    → IsNoSingle (age_of_days days)
-unfolding age_of_days
-by-days days true ten year five least a b d e = rw a least
-by-days days false true year five least a b d e =
-    let h = test days 14 a in
-    rw (a, b) (omega arith)
-by-days days false false true five least a b d e =
-    let h = test days 70 b in
-    rw (a, b, d) (omega arith)
-by-days days false false false true least a b d e =
-    let h = test days 365 d in
-    rw (a, b, d, e) (omega arith)
-by-days days false false false false least a b d e =
-    let h = test days 1825 e in
-    rw (a, b, d, e) (omega arith)
-
-by-tests : (seconds : ℕ) (short middle long : Bool) → nat_lt seconds 90 ≡ short → nat_lt ((seconds + 30) / 60) 90 ≡ middle
-    → nat_lt (((seconds + 30) / 60 + 30) / 60) 36 ≡ long → IsNoSingle (age_of seconds)
-unfolding age_of
-by-tests seconds true middle long a b d = rw a tt
-by-tests seconds false true long a b d =
-    let h = test seconds 90 a in
-    rw (a, b) (omega arith)
-by-tests seconds false false true a b d =
-    let h = test ((seconds + 30) / 60) 90 b in
-    rw (a, b, d) (omega arith)
-by-tests seconds false false false a b d =
-    let h = test (((seconds + 30) / 60 + 30) / 60) 36 d in
-    rw (a, b, d) (by-days (days_of seconds) _ _ _ _ (omega arith) refl refl refl refl)
-
-pub no_single : (seconds : ℕ) → IsNoSingle (age_of seconds)
-no_single seconds = by-tests seconds _ _ _ refl refl refl
-
 -- printers
-pub when-shown : (b : Bool) (x : Option (List ℕ)) (text : List ℕ) → cond b None x ≡ Some text → x ≡ Some text
-when-shown true x text e = cc
-when-shown false x text e = e
+pub when-shown : (past : Bool) (x : Option (List ℕ)) (text : List ℕ) → cond past None x ≡ Some text → (past ≡ false) × (x ≡ Some text)
+when-shown true x text e = (cc, cc)
+when-shown false x text e = (refl, e)
 
-pub mapped : (show : LocalTime → List ℕ) (b : Bool) (clock : LocalTime) (text : List ℕ) → option_map show (cond b (Some clock) None) ≡ Some text
-    → (b ≡ true) × (show clock ≡ text)
+pub mapped : {A : Type 0} (show : A → List ℕ) (b : Bool) (clock : A) (text : List ℕ) → option_map show (cond b (Some clock) None) ≡ Some text → (b ≡ true) × (show clock ≡ text)
 mapped show true clock text e = (refl, cc)
 mapped show false clock text e = (cc, cc)
 
@@ -123,19 +69,19 @@ by-clock show pattern law t text e (Err fault) h = tt
 
 pub short-alike : (t : Time) → IsShownAs Short (PrintsPattern t short_pattern) t
 unfolding shown
-short-alike t now text printed e h = by-clock short_text short_pattern formats_printed.short.only t text (when-shown (lt_z t.seconds (pos 0)) _ text e) printed h
+short-alike t now text printed e h = by-clock short_text short_pattern formats_printed.short.only t text (when-shown (lt_z t.seconds (pos 0)) _ text e).1 printed h
 
 pub iso8601-alike : (t : Time) → IsShownAs Iso8601 (PrintsPattern t iso8601_pattern) t
 unfolding shown
-iso8601-alike t now text printed e h = by-clock iso8601_text iso8601_pattern formats_printed.iso8601.only t text (when-shown (lt_z t.seconds (pos 0)) _ text e) printed h
+iso8601-alike t now text printed e h = by-clock iso8601_text iso8601_pattern formats_printed.iso8601.only t text (when-shown (lt_z t.seconds (pos 0)) _ text e).1 printed h
 
 pub iso8601-strict-alike : (t : Time) → IsShownAs Iso8601Strict (PrintsPattern t iso8601_strict_pattern) t
 unfolding shown
-iso8601-strict-alike t now text printed e h = by-clock iso8601_strict_text iso8601_strict_pattern formats_printed.iso8601_strict.only t text (when-shown (lt_z t.seconds (pos 0)) _ text e) printed h
+iso8601-strict-alike t now text printed e h = by-clock iso8601_strict_text iso8601_strict_pattern formats_printed.iso8601_strict.only t text (when-shown (lt_z t.seconds (pos 0)) _ text e).1 printed h
 
 pub rfc2822-alike : (t : Time) → IsShownAs Rfc2822 (PrintsPattern t git_rfc2822_pattern) t
 unfolding shown
-rfc2822-alike t now text printed e h = by-clock git_rfc2822_text git_rfc2822_pattern formats_printed.git_rfc2822.only t text (when-shown (lt_z t.seconds (pos 0)) _ text e) printed h
+rfc2822-alike t now text printed e h = by-clock git_rfc2822_text git_rfc2822_pattern formats_printed.git_rfc2822.only t text (when-shown (lt_z t.seconds (pos 0)) _ text e).1 printed h
 
 -- a known offset is shown after the default date
 known-default : (t : Time) → t.offset ≢ unknown_offset → git_default_text false (clock_of t) ≡ default_text (clock_of t)
@@ -156,13 +102,9 @@ default-mapped t text other e = with-clock (has_own_clock t) e
 
 pub default-alike : (t : Time) → t.offset ≢ unknown_offset → IsShownAs Default (PrintsPattern t default_pattern) t
 unfolding shown
-default-alike t other now text printed e h = by-clock default_text default_pattern formats_printed.default.only t text (default-mapped t text other (when-shown (lt_z t.seconds (pos 0)) _ text e)) printed h
+default-alike t other now text printed e h = by-clock default_text default_pattern formats_printed.default.only t text (default-mapped t text other (when-shown (lt_z t.seconds (pos 0)) _ text e).1) printed h
 
 -- raw dates and seconds
-raw-of : (b : Bool) (t : Time) (text : List ℕ) → option_map (raw_text t.seconds) (cond b (Some t.offset) None) ≡ Some text → written_text t ≡ text
-raw-of true t text e = cc
-raw-of false t text e = cc
-
 header-of : (b : Bool) (t : Time) (bytes : List ℕ) → cond b (Some (written_text t)) None ≡ Some bytes → written_text t ≡ bytes
 header-of true t bytes e = cc
 header-of false t bytes e = cc
@@ -170,12 +112,12 @@ header-of false t bytes e = cc
 pub raw-alike : (t : Time) → IsShownAs Raw (PrintsHeader t) t
 unfolding shown shown_offset header_text
 raw-alike t now text (Ok s) e h =
-    sym (header-of _ t (string_bytes s) h) ∙ raw-of (is_written_offset t.offset) t text (when-shown (lt_z t.seconds (pos 0)) _ text e)
+    sym (header-of _ t (string_bytes s) h) ∙ (mapped (raw_text t.seconds) (is_written_offset t.offset) t.offset text (when-shown (lt_z t.seconds (pos 0)) _ text e).1).1
 raw-alike t now text (Err fault) e h = tt
 
 pub unix-alike : (t : Time) → IsShownAs Unix (PrintsSeconds t) t
 unfolding shown
 unix-alike t now text (Ok s) e h =
-    let same : decimal_text t.seconds ≡ text = let f = when-shown (lt_z t.seconds (pos 0)) (Some (decimal_text t.seconds)) text e in cc in
+    let same : decimal_text t.seconds ≡ text = let f = (when-shown (lt_z t.seconds (pos 0)) (Some (decimal_text t.seconds)) text e).1 in cc in
     h ∙ same
 unix-alike t now text (Err fault) e h = tt

@@ -13,7 +13,7 @@ use Rattle.gix_date.specs.Text.Front.{◌>>=◌}
 use Rattle.gix_date.specs.declared.time.Time.{Time}
 use Rattle.git_date.specs.Approximate.Reading.{ApproximateOutcome, answer, answer_of, guess_by, string_guess, draft_of}
 use Rattle.git_date.specs.Approximate.Clocks.{filled_seconds}
-use Rattle.git_date.specs.Approximate.Drafts.{clock_fields, all_fields, dropped, first_draft, settle, with_shown}
+use Rattle.git_date.specs.Approximate.Drafts.{clock_fields, all_fields, dropped, first_draft, settle, with_shown, last_of}
 use Rattle.git_date.specs.Approximate.Rules.{understood, letters_rule, meaning_rule}
 use Rattle.git_date.specs.Approximate.Words.{moment_named, count_named, unit_named, meaning_of}
 use Rattle.git_date.specs.Approximate.Zones.{Choices, choices_of, with_offset, shown_in, filled_time, fill}
@@ -24,7 +24,7 @@ use Rattle.git_date.specs.Exact.Reading.{string_said, said_by}
 use Rattle.git_date.specs.Tokens.Strings.{string_len}
 use Rattle.git_date.specs.Tokens.Tokens.{walked}
 use Rattle.git_date.specs.Exact.Zones.{offsets_of, is_same, shows, searched_offset, local_offset}
-use Rattle.git_date.specs.Types.Names.{Draft, Fault, Fields, Now, ShownClock, Today}
+use Rattle.git_date.specs.Types.Names.{Draft, Fault, Fields, Now, Today}
 use Rattle.git_date.specs.declared.approximate.answer.Approximate.{Approximate}
 use Rattle.git_date.specs.declared.error.DateError.{DateError}
 use Rattle.git_date.specs.declared.error.DateError.TheVariants.{Unreadable, Range}
@@ -37,6 +37,7 @@ use Rattle.git_date_laws.proofs.Whole.Guesses.{guessed, moment-instant}
 use Rattle.git_date.specs.Approximate.Computing.{approximating}
 use Rattle.git_date.specs.Exact.Computing.{computing}
 use Rattle.git_date_laws.specs.ApproximateLaws.{IsShownThere, IsBackInEveryZone, IsNow, IsNowIfShown, moment_itself}
+use Rattle.gix_date.specs.Fields.Layout.{LocalTime}
 
 -- `0 seconds ago` says no time, and its 0 counts nothing
 no-date : (this : Now) → string_said this (codes "0 seconds ago") ≡ Err Unreadable
@@ -45,7 +46,7 @@ no-date this = refl
 
 no-count : (zone : Choices) (today : Today)
     → draft_of zone today (codes "0 seconds ago")
-    ≡ Ok (record { fields = clock_fields today.shown; last = today.shown; waiting = None; understood = true; ignored = Some 13 })
+    ≡ Ok (record { fields = clock_fields today.shown; last = last_of today.shown; waiting = None; understood = true; ignored = Some 13 })
 unfolding computing approximating
 no-count zone today = refl
 
@@ -75,7 +76,7 @@ module _ (tz : TimeZone) where
   shown-own : (s : ℤ) → is_instant s ≡ true → IsClockBack (s +ℤ there s) → shown_in (choices_of tz) s ≡ Some (clock_at (there s) (s +ℤ there s))
   shown-own s e h = sym (a-shown-in tz s (there s) (says s e)) ∙ ap (option_map (with_offset (there s))) (shown-back (s +ℤ there s) h)
 
-  filled-own : (today : ShownClock) (f : Fields) (s : ℤ) → is_instant s ≡ true → is_instant (s +ℤ there s) ≡ true → filled_seconds today f ≡ Some (s +ℤ there s)
+  filled-own : (today : LocalTime) (f : Fields) (s : ℤ) → is_instant s ≡ true → is_instant (s +ℤ there s) ≡ true → filled_seconds today f ≡ Some (s +ℤ there s)
       → filled_time (choices_of tz) today (there s) f ≡ Some (record { seconds = s; offset = there s })
   unfolding filled_time
   filled-own today f s e clock is = ap (λ x. x >>= (choices_of tz).picks (there s)) is ∙ picks-own s e clock
@@ -171,7 +172,7 @@ module _ (moment : Zoned) (shown : IsShownThere moment (now_of moment).seconds) 
   now-guessed =
       let d = first_draft here.shown in
       let moved = moves zone now 0 o then now-reached d 3 refl refl in
-      ap (λ (s : Option ShownClock). guess_by zone this (codes "now") s) now-reached.now_shown
+      ap (λ (s : Option LocalTime). guess_by zone this (codes "now") s) now-reached.now_shown
       ∙ ap (λ (d : Result Draft Fault). answer_of zone here (codes "now") d) (now-drafted zone here (with_shown d (clock_at then (now -ℤ pos 0 +ℤ then))) moved)
       ∙ answered zone now 0 o then now-reached (codes "now") ∙ ap (λ (n : ℤ). itself n None) same
 
@@ -180,12 +181,12 @@ module _ (moment : Zoned) (shown : IsShownThere moment (now_of moment).seconds) 
   zero-answered =
       ap (λ (d : Result Draft Fault). answer_of zone here (codes "0 seconds ago") d) (no-count zone here)
       ∙ ap (λ (t : Option Time). answer (codes "0 seconds ago")
-      (record { fields = clock_fields here.shown; last = here.shown; waiting = None; understood = true; ignored = Some 13 }) t) now-reached.filled_now
+      (record { fields = clock_fields here.shown; last = last_of here.shown; waiting = None; understood = true; ignored = Some 13 }) t) now-reached.filled_now
       ∙ ap (λ (b : Bool). cond b (itself now (Some 0)) (Err Range)) (z_holds (pos 0) now shown.0)
 
   zero-guessed : string_guess zone this (codes "0 seconds ago") ≡ Ok (moment_itself moment (Some 0))
   unfolding string_guess
-  zero-guessed = ap (λ (s : Option ShownClock). guess_by zone this (codes "0 seconds ago") s) now-reached.now_shown ∙ zero-answered
+  zero-guessed = ap (λ (s : Option LocalTime). guess_by zone this (codes "0 seconds ago") s) now-reached.now_shown ∙ zero-answered
 
   itself-answered : (text : List ℕ) (result : Result Approximate DateError) (ignored : Option ℕ) → string_len text ≡ length text
       → string_said this text ≡ Err Unreadable → string_guess zone this text ≡ Ok (moment_itself moment ignored) → ApproximateOutcome moment text result

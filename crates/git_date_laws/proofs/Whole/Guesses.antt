@@ -88,7 +88,7 @@ none-both : (a b : Option ℕ) → option_or a b ≡ None → (a ≡ None) × (b
 none-both None b e = (refl, e)
 none-both (Some place) b e = absurd cc
 
-whole-text : (text : List ℕ) → nul_place text ≡ None → string_len text ≡ length text
+pub whole-text : (text : List ℕ) → nul_place text ≡ None → string_len text ≡ length text
 unfolding nul_place
 whole-text text e = by (nat_lt (string_len text) (length text)) refl e
   where

@@ -8,7 +8,7 @@ use Rattle.jiff.specs.declared.zoned.Zoned.{Zoned}
 use Rattle.gix_date.specs.Relative.Steps.{zone_of}
 use Rattle.gix_date.specs.declared.time.Time.{Time}
 use Rattle.git_date.specs.Approximate.Reading.{Read, with_rest, steps, draft_of, answer, answer_of, answer_up_to, guess_by, string_guess, guess, is_unreadable, exact_or_guess}
-use Rattle.git_date.specs.Approximate.Drafts.{clock_fields, first_draft, ignore, with_number, settled_by, settle_number, settle}
+use Rattle.git_date.specs.Approximate.Drafts.{clock_fields, first_draft, ignore, with_number, settled_by, settle_number, settle, last_of}
 use Rattle.git_date.specs.Approximate.Rules.{Ruled, understood, read_word, word_by, are_digits_next, letters_rule, is_padded, number_waits, group_said, group_or_number, digits_rule}
 use Rattle.git_date.specs.Approximate.Words.{meaning_of}
 use Rattle.git_date.specs.Approximate.Zones.{Choices, choices_of, filled_time}
@@ -21,7 +21,7 @@ use Rattle.git_date.specs.Tokens.Strings.{before_nul, nul_place}
 use Rattle.git_date.specs.Tokens.Tokens.{Token, Letters, Digits, Mark, tokens, bytes_left, walked}
 use Rattle.git_date.specs.Rules.Words.{is_filler, without_ending}
 use Rattle.git_date.specs.Types.FaultCases.{NumberTooLarge}
-use Rattle.git_date.specs.Types.Names.{Draft, Fault, Fields, Now, Number, ShownClock, Today}
+use Rattle.git_date.specs.Types.Names.{Draft, Fault, Fields, Now, Number, Today, LastShown}
 use Rattle.git_date.specs.declared.approximate.answer.Approximate.{Approximate}
 use Rattle.git_date.specs.declared.date.ReadDate.{ReadDate}
 use Rattle.git_date.specs.declared.error.DateError.{DateError}
@@ -29,6 +29,7 @@ use Rattle.git_date.specs.declared.error.DateError.TheVariants as error
 use Rattle.git_date_laws.proofs.Whole.EveryZone.{now-reached}
 use Rattle.git_date_laws.proofs.Back.ExactBack.{clock_at}
 use Rattle.git_date_laws.specs.ApproximateLaws.{IsShownThere, IsMomentUnlessUnderstood}
+use Rattle.gix_date.specs.Fields.Layout.{LocalTime}
 
 same-draft : (a b : Draft) → ◌≡◌ {A = Result Draft Fault} (Ok a) (Ok b) → a ≡ b
 same-draft a b e = cc
@@ -190,14 +191,14 @@ module _ (moment : Zoned) (shown : IsShownThere moment (now_of moment).seconds) 
       let first = draft-idle zone here text d is unheard in
       let settled : settle d ≡ d = settle-idle zone here d (ap (λ (x : Draft). x.waiting) first) in
       let fields : (settle d).fields ≡ clock_fields here.shown = ap (λ (x : Draft). x.fields) settled ∙ ap (λ (x : Draft). x.fields) first in
-      let last : (settle d).last ≡ here.shown = ap (λ (x : Draft). x.last) settled ∙ ap (λ (x : Draft). x.last) first in
+      let last : (settle d).last ≡ last_of here.shown = ap (λ (x : Draft). x.last) settled ∙ ap (λ (x : Draft). x.last) first in
       same-time date.time itself
-      (parts.1 ∙ ap₂ (λ (clock : ShownClock) (f : Fields). filled_time zone here.shown clock.offset f) last fields ∙ (now-reached moment shown).filled_now)
+      (parts.1 ∙ ap₂ (λ (clock : LastShown) (f : Fields). filled_time zone here.shown clock.offset f) last fields ∙ (now-reached moment shown).filled_now)
 
   string-guessed : (text : List ℕ) (date : Approximate) → string_guess zone this text ≡ Ok date → date.understood ≡ false → date.time ≡ itself
   unfolding string_guess
   string-guessed text date e silent =
-      drafted text date (draft_of zone here text) refl (sym (ap (λ (s : Option ShownClock). guess_by zone this text s) (now-reached moment shown).now_shown) ∙ e) silent
+      drafted text date (draft_of zone here text) refl (sym (ap (λ (s : Option LocalTime). guess_by zone this text s) (now-reached moment shown).now_shown) ∙ e) silent
 
   guessed-so : (text : List ℕ) (date : Approximate) → guess zone this text ≡ Ok date → date.understood ≡ false → date.time ≡ itself
   unfolding guess

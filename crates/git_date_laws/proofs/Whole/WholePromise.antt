@@ -17,7 +17,7 @@ use Rattle.git_date.specs.Show.Dates.{shown, shown_clock}
 use Rattle.git_date.specs.Show.Clocks.{Moment, has_own_clock, own_clock}
 use Rattle.git_date.specs.Tokens.Strings.{before_nul}
 use Rattle.git_date.specs.declared.mode.DateKind.{DateKind}
-use Rattle.git_date.specs.declared.mode.DateKind.TheVariants.{Relative, Iso8601Strict, Iso8601, Rfc2822, Short, Default, Human, Raw, Unix}
+use Rattle.git_date.specs.declared.mode.DateKind.TheVariants.{Iso8601Strict, Iso8601, Rfc2822, Default}
 use Rattle.git_date_laws.proofs.Whole.EveryZone.{now-in-every-zone}
 use Rattle.git_date_laws.proofs.Whole.Guesses.{exact_answers, same_in_any_case}
 use Rattle.git_date_laws.proofs.Printing.PrintedBack.{read-back, zone-is}
@@ -57,19 +57,15 @@ module _ (moment : Zoned) (at : Moment) (t : Time) (text : List ℕ) where
       → shown at (record { kind = kind; local = local }) t ≡ Some text → IsReadAs moment text (shown_time at local t)
   unfolding shown
   read-shown Iso8601 local all h e =
-      by-clock local iso8601_text _ refl h (read-back (now_of moment) (shown_time at local t) h).iso8601 (when-shown (lt_z t.seconds (pos 0)) _ text e)
+      by-clock local iso8601_text _ refl h (read-back (now_of moment) (shown_time at local t) h).iso8601 (when-shown (lt_z t.seconds (pos 0)) _ text e).1
   read-shown Iso8601Strict local all h e =
-      by-clock local iso8601_strict_text _ refl h (read-back (now_of moment) (shown_time at local t) h).iso8601_strict (when-shown (lt_z t.seconds (pos 0)) _ text e)
+      by-clock local iso8601_strict_text _ refl h (read-back (now_of moment) (shown_time at local t) h).iso8601_strict (when-shown (lt_z t.seconds (pos 0)) _ text e).1
   read-shown Rfc2822 local all h e =
-      by-clock local git_rfc2822_text _ refl h (read-back (now_of moment) (shown_time at local t) h).git_rfc2822 (when-shown (lt_z t.seconds (pos 0)) _ text e)
+      by-clock local git_rfc2822_text _ refl h (read-back (now_of moment) (shown_time at local t) h).git_rfc2822 (when-shown (lt_z t.seconds (pos 0)) _ text e).1
   read-shown Default false all h e =
-      by-clock false default_text _ refl h (read-back (now_of moment) t h).default (default-mapped t text (λ same. h.known same) (when-shown (lt_z t.seconds (pos 0)) _ text e))
+      by-clock false default_text _ refl h (read-back (now_of moment) t h).default (default-mapped t text (λ same. h.known same) (when-shown (lt_z t.seconds (pos 0)) _ text e).1)
   read-shown Default true all h e = absurd cc
-  read-shown Relative local all h e = absurd cc
-  read-shown Short local all h e = absurd cc
-  read-shown Human local all h e = absurd cc
-  read-shown Raw local all h e = absurd cc
-  read-shown Unix local all h e = absurd cc
+  read-shown x local all h e = absurd cc
 
 pub headline-holds : (moment : Zoned) (text : List ℕ) (t : Time) → IsHeadline moment text t
 headline-holds moment text t = record {

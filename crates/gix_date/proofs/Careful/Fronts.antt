@@ -9,7 +9,6 @@ use Rattle.gix_date.specs.Careful.Grammar.{AreSomeDigits}
 use Rattle.gix_date.specs.Fields.Civil.{is_date, is_clock}
 use Rattle.gix_date.specs.Fields.DateFields.{skip_spaces, skip_weekday, skip_day_name, read_month, read_plain_date, read_clock, read_rfc2822_clock}
 use Rattle.gix_date.specs.Text.Front.{ReadFront, skip_char, ◌>>=◌}
-use Rattle.gix_date.specs.Fields.Layout.{LocalDate, LocalClock}
 use Rattle.gix_date.specs.Git.Forms.{git_front}
 use Rattle.gix_date.specs.Text.Characters.{colon, dot}
 use Rattle.gix_date.specs.Text.Numbers.{read_two_digits, read_field, read_year}
@@ -90,26 +89,24 @@ rfc2822-clock-is = taken-is read_rfc2822_clock (λ text value rest e. let h = rf
 prefix-is : IsPart skip_day_name
 prefix-is text rest e = let h = prefix-taken text rest e in (h.text, h.whole)
 
+-- a part that is read and passes a test
+tested-is : {A : Type 0} (read : List ℕ → ReadFront A) (test : A → Bool) → ((text : List ℕ) (value : A) (rest : List ℕ) → read text ≡ Some (value, rest) → IsRestOf text rest)
+    → IsPart (λ text. read text >>= λ (d : A × List ℕ). cond (test d.0) (Some d.1) None)
+tested-is {A} read test h text rest e =
+    let d = went (read text) (λ (d : A × List ℕ). cond (test d.0) (Some d.1) None) rest e in
+    turned text d.0.1 rest (guard (test d.0.0) d.0.1 rest d.2).1 (h text d.0.0 d.0.1 d.1)
+
 day-is : IsPart skip_day
 unfolding skip_day
-day-is text rest e =
-    let d = went (read_plain_date text) (λ (d : LocalDate × List ℕ). cond (is_date d.0) (Some d.1) None) rest e in
-    let h = date-taken text d.0.0 d.0.1 d.1 in
-    turned text d.0.1 rest (guard (is_date d.0.0) d.0.1 rest d.2).1 (h.text, h.whole)
+day-is = tested-is read_plain_date is_date (λ text value rest e. let h = date-taken text value rest e in (h.text, h.whole))
 
 clock-is : IsPart skip_clock
 unfolding skip_clock
-clock-is text rest e =
-    let d = went (read_clock text) (λ (d : LocalClock × List ℕ). cond (is_clock d.0) (Some d.1) None) rest e in
-    let h = clock-taken text d.0.0 d.0.1 d.1 in
-    turned text d.0.1 rest (guard (is_clock d.0.0) d.0.1 rest d.2).1 (h.text, h.whole)
+clock-is = tested-is read_clock is_clock (λ text value rest e. let h = clock-taken text value rest e in (h.text, h.whole))
 
 git-day-is : IsPart skip_git_day
 unfolding skip_git_day
-git-day-is text rest e =
-    let d = went (git_front text) (λ (d : LocalDate × List ℕ). cond (is_date d.0) (Some d.1) None) rest e in
-    let h = front-taken text d.0.0 d.0.1 d.1 in
-    turned text d.0.1 rest (guard (is_date d.0.0) d.0.1 rest d.2).1 (h.day ++ h.gap, h.whole ∙ sym (append_assoc h.day h.gap d.0.1))
+git-day-is = tested-is git_front is_date (λ text value rest e. let h = front-taken text value rest e in (h.day ++ h.gap, h.whole ∙ sym (append_assoc h.day h.gap rest)))
 
 named-day-is : IsPart skip_named_day
 unfolding skip_named_day

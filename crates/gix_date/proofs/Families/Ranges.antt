@@ -198,7 +198,7 @@ unfolding first_family_by
 absolute-near raw text = first-near raw text families
 
 -- What a relative date names.
-zone-fits : (tz : TimeZone) (n : ℤ) → IsOffsetSeconds (offset_at tz n)
+pub zone-fits : (tz : TimeZone) (n : ℤ) → IsOffsetSeconds (offset_at tz n)
 unfolding offset_at
 zone-fits (Fixed o) n = o.in_range
 zone-fits (Posix z) n = (PosixRule.offset_at z n).in_range

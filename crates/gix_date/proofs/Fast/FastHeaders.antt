@@ -200,14 +200,15 @@ offset-taken x f e =
       is_last = d;
     })
 
-mark_is : (c : ℕ) (s : Sign) → IsSign c s → is_number_byte c ≡ true
-mark_is c s (inl p) = rw p.0 refl
-mark_is c s (inr p) = rw p.0 refl
+-- a sign passes a test that plus and minus pass
+pub sign_passes : (p : ℕ → Bool) (c : ℕ) (s : Sign) → IsSign c s → p plus ≡ true → p minus ≡ true → p c ≡ true
+sign_passes p c s (inl e) h k = rw e.0 h
+sign_passes p c s (inr e) h k = rw e.0 k
 
 pub offset-number : (x : List ℕ) (f : OffsetFields) → offset_fields x ≡ Some f → IsNumber x
 offset-number x f e =
     let o = offset-taken x f e in
-    record { first = o.mark; rest = o.h0 ∷ o.h1 ∷ o.m0 ∷ o.m1 ∷ o.last; whole = o.whole; bytes = (mark_is o.mark f.sign o.is_mark, (digit_is o.h0 o.is_h0, (digit_is o.h1 o.is_h1, (digit_is o.m0 o.is_m0, (digit_is o.m1 o.is_m1, o.is_last.bytes))))) }
+    record { first = o.mark; rest = o.h0 ∷ o.h1 ∷ o.m0 ∷ o.m1 ∷ o.last; whole = o.whole; bytes = (sign_passes is_number_byte o.mark f.sign o.is_mark refl refl, (digit_is o.h0 o.is_h0, (digit_is o.h1 o.is_h1, (digit_is o.m0 o.is_m0, (digit_is o.m1 o.is_m1, o.is_last.bytes))))) }
 
 byte_no_colon : (c : ℕ) → is_number_byte c ≡ true → is_colon c ≡ false
 byte_no_colon c h = grind (arith, nat_tests, h)

@@ -17,17 +17,19 @@ use Rattle.gix_date.proofs.Fields.FieldsTaken.{went, after-taken, two-taken}
 -- nothing, or a colon and two digits
 abbrev pub AreLastSeconds : List ℕ → Option ℕ → Type 0
 AreLastSeconds x seconds =
-    ((x ≡ []) × (seconds ≡ None)) ⊎ ((tens : ℕ) × (ones : ℕ) × (x ≡ colon ∷ tens ∷ ones ∷ []) × IsDigit tens × IsDigit ones)
+    ((x ≡ []) × (seconds ≡ None)) ⊎ ((tens : ℕ) × (ones : ℕ) × (x ≡ colon ∷ tens ∷ ones ∷ []) × IsDigit tens × IsDigit ones × (seconds ≡ Some (10 * (tens - 48) + (ones - 48))))
 
-last-by : (c a b n : ℕ) (m p q : Bool) (seconds : Option ℕ) → (c == colon) ≡ m → is_ascii_digit a ≡ p → is_ascii_digit b ≡ q
-    → cond m (option_map {U = Option ℕ} (λ n. Some n) (cond (p && q) (Some n) None)) None ≡ Some seconds → AreLastSeconds (c ∷ a ∷ b ∷ []) seconds
-last-by c a b n true true true seconds m e f h = let mark : c ≡ colon = grind (arith, nat_tests, m) in inr (a, b, ap (λ (k : ℕ). k ∷ a ∷ b ∷ []) mark, e, f)
-last-by c a b n x p q seconds m e f h = absurd cc
+last-by : (c a b : ℕ) (m p q : Bool) (seconds : Option ℕ) → (c == colon) ≡ m → is_ascii_digit a ≡ p → is_ascii_digit b ≡ q
+    → cond m (option_map {U = Option ℕ} (λ n. Some n) (cond (p && q) (Some (10 * (a - 48) + (b - 48))) None)) None ≡ Some seconds → AreLastSeconds (c ∷ a ∷ b ∷ []) seconds
+last-by c a b true true true seconds m e f h =
+    let mark : c ≡ colon = grind (arith, nat_tests, m) in
+    inr (a, b, ap (λ (k : ℕ). k ∷ a ∷ b ∷ []) mark, e, f, sym (same_some _ seconds h))
+last-by c a b x p q seconds m e f h = absurd cc
 
 last-taken : (x : List ℕ) (seconds : Option ℕ) → last_colon_pair x ≡ Some seconds → AreLastSeconds x seconds
 unfolding last_colon_pair
 last-taken [] seconds e = inl (refl, sym (same_some None seconds e))
-last-taken (c ∷ a ∷ b ∷ []) seconds e = last-by c a b _ (c == colon) (is_ascii_digit a) (is_ascii_digit b) seconds refl refl refl e
+last-taken (c ∷ a ∷ b ∷ []) seconds e = last-by c a b (c == colon) (is_ascii_digit a) (is_ascii_digit b) seconds refl refl refl e
 last-taken x seconds e = absurd cc
 
 -- a sign, two digits, a colon, two digits, and perhaps a colon and two more
@@ -48,9 +50,9 @@ pub record IsColonOffset (x : List ℕ) (f : OffsetFields) : Type 0 where
   pub minutes : f.minutes ≡ 10 * (m0 - 48) + (m1 - 48)
   pub is_last : AreLastSeconds last f.seconds
 
-pub strict-taken : (x : List ℕ) (o : ℤ) → strict_offset x ≡ Some o → (f : OffsetFields) × IsColonOffset x f × (o ≡ offset_of f)
+pub strict-fields : (x : List ℕ) (o : ℤ) → strict_offset x ≡ Some o → (f : OffsetFields) × IsColonOffset x f × (jiff_offset f ≡ Some o)
 unfolding strict_offset
-strict-taken x o e =
+strict-fields x o e =
     let sign = went (read_sign x) (λ sign. read_two_digits sign.1 >>= λ h. skip_char colon h.1 >>= λ r. read_two_digits r >>= λ m. last_colon_pair m.1 >>= λ s. jiff_offset (fields_at sign.0 h.0 m.0 s)) o e in
     let hours = went (read_two_digits sign.0.1) (λ h. skip_char colon h.1 >>= λ r. read_two_digits r >>= λ m. last_colon_pair m.1 >>= λ s. jiff_offset (fields_at sign.0.0 h.0 m.0 s)) o sign.2 in
     let next = went (skip_char colon hours.0.1) (λ r. read_two_digits r >>= λ m. last_colon_pair m.1 >>= λ s. jiff_offset (fields_at sign.0.0 hours.0.0 m.0 s)) o hours.2 in
@@ -77,4 +79,7 @@ strict-taken x o e =
       minutes = c.value;
       is_last = last-taken minutes.0.1 seconds.0 seconds.1;
     } in
-    (f, is, sym (guard (is_jiff_offset f) (offset_of f) o seconds.2).1)
+    (f, is, seconds.2)
+
+pub strict-taken : (x : List ℕ) (o : ℤ) → strict_offset x ≡ Some o → (f : OffsetFields) × IsColonOffset x f × (o ≡ offset_of f)
+strict-taken x o e = let s = strict-fields x o e in (s.0, s.1, sym (guard (is_jiff_offset s.0) (offset_of s.0) o s.2).1)

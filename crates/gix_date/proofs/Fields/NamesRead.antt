@@ -1,5 +1,5 @@
 -- Names of three letters at the front of a text: where the letters name a month or a day of the week, and where not.
-use Rattle.std.proofs.Common.{◌≡◌, ◌<◌, ◌≤◌, ℕ, Bool, true, false, List, [], ◌∷◌, length, drop, get_or, Some, None, refl, sym, ap, subst, arith, IsUtf8}
+use Rattle.std.proofs.Common.{◌≡◌, ◌<◌, ◌≤◌, ℕ, Bool, true, false, List, [], ◌∷◌, length, drop, get_or, Option, Some, None, refl, sym, ap, subst, arith, IsUtf8}
 use Rattle.std.proofs.lemmas.Bool.{and_parts as both}
 use Rattle.std.proofs.lemmas.Str.{IsCharBoundary-after_ascii}
 use Rattle.std.specs.Char.{is_ascii_alphabetic}
@@ -7,41 +7,45 @@ use Rattle.std.specs.Prelude.{◌&&◌}
 use Rattle.std.specs.Str.{IsCharBoundary}
 use Rattle.gix_date.specs.Fields.DateFields.{read_name, read_month, skip_weekday, month_named, is_weekday}
 use Rattle.gix_date.specs.Fields.FieldTexts.{AreThreeLetters}
+use Rattle.gix_date.specs.Text.Front.{◌>>=◌}
 use Rattle.gix_date.proofs.Text.AsciiCuts.{letter_is_ascii}
 
 -- the first three bytes
 abbrev pub three : List ℕ → List ℕ
 three text = get_or text 0 0 ∷ get_or text 1 0 ∷ get_or text 2 0 ∷ []
 
+-- the name there, and that no other is read
+name-at : (text : List ℕ) → 3 ≤ length text → AreThreeLetters (three text) → read_name text ≡ Some (three text, drop 3 text)
+unfolding read_name
+name-at (a ∷ b ∷ c ∷ rest) n letters = rw letters refl
+name-at text n letters = absurd (omega arith)
+
+no-name-at : {A : Type 0} (text : List ℕ) (f : List ℕ × List ℕ → Option A) → ((rest : List ℕ) → f (three text, rest) ≡ None) → (read_name text >>= f) ≡ None
+unfolding read_name
+no-name-at (a ∷ b ∷ c ∷ rest) f h = by (is_ascii_alphabetic a && is_ascii_alphabetic b && is_ascii_alphabetic c) refl
+  where
+    by : (q : Bool) → (is_ascii_alphabetic a && is_ascii_alphabetic b && is_ascii_alphabetic c) ≡ q → (read_name (a ∷ b ∷ c ∷ rest) >>= f) ≡ None
+    by true q = rw q (h rest)
+    by false q = rw q refl
+no-name-at text f h = refl
+
 month-at : (text : List ℕ) (m : ℕ) → 3 ≤ length text → AreThreeLetters (three text) → month_named (three text) ≡ Some m
     → read_month text ≡ Some (m, drop 3 text)
-unfolding read_month read_name
-month-at (a ∷ b ∷ c ∷ rest) m n letters e = rw (letters, e) refl
-month-at text m n letters e = absurd (omega arith)
+unfolding read_month
+month-at text m n letters e = rw (name-at text n letters, e) refl
 
 no-month-at : (text : List ℕ) → month_named (three text) ≡ None → read_month text ≡ None
-unfolding read_month read_name
-no-month-at (a ∷ b ∷ c ∷ rest) e = by (is_ascii_alphabetic a && is_ascii_alphabetic b && is_ascii_alphabetic c) refl
-  where
-    by : (q : Bool) → (is_ascii_alphabetic a && is_ascii_alphabetic b && is_ascii_alphabetic c) ≡ q → read_month (a ∷ b ∷ c ∷ rest) ≡ None
-    by true q = rw (q, e) refl
-    by false q = rw q refl
-no-month-at text e = refl
+unfolding read_month
+no-month-at text e = no-name-at text _ (λ rest. rw e refl)
 
 day-at : (text : List ℕ) → 3 ≤ length text → AreThreeLetters (three text) → is_weekday (three text) ≡ true
     → skip_weekday text ≡ Some (drop 3 text)
-unfolding skip_weekday read_name
-day-at (a ∷ b ∷ c ∷ rest) n letters e = rw (letters, e) refl
-day-at text n letters e = absurd (omega arith)
+unfolding skip_weekday
+day-at text n letters e = rw (name-at text n letters, e) refl
 
 no-day-at : (text : List ℕ) → is_weekday (three text) ≡ false → skip_weekday text ≡ None
-unfolding skip_weekday read_name
-no-day-at (a ∷ b ∷ c ∷ rest) e = by (is_ascii_alphabetic a && is_ascii_alphabetic b && is_ascii_alphabetic c) refl
-  where
-    by : (q : Bool) → (is_ascii_alphabetic a && is_ascii_alphabetic b && is_ascii_alphabetic c) ≡ q → skip_weekday (a ∷ b ∷ c ∷ rest) ≡ None
-    by true q = rw (q, e) refl
-    by false q = rw q refl
-no-day-at text e = refl
+unfolding skip_weekday
+no-day-at text e = no-name-at text _ (λ rest. rw e refl)
 
 -- shorter texts begin with neither
 pub short-no-month : (text : List ℕ) → length text < 3 → read_month text ≡ None

@@ -29,9 +29,8 @@ lt-any p [] = refl
 lt-any p (x ∷ xs) = by (p x) (position_or_len p xs) (length xs) (list_any p xs) (lt-any p xs)
   where
     by : (b : Bool) (n m : ℕ) (any : Bool) → nat_lt n m ≡ any → nat_lt (cond (not b) (1 + n) 0) (suc m) ≡ (b || any)
-    by true n m any e = grind (arith, nat_tests)
     by false n m true e = grind (arith, nat_tests)
-    by false n m false e = grind (arith, nat_tests)
+    by x n m any e = grind (arith, nat_tests)
 
 some-any : {X : Type 0} (p : X → Bool) (xs : List X) → is_some (position p xs) ≡ list_any p xs
 some-any p xs = is-some (nat_lt (position_or_len p xs) (length xs)) (position_or_len p xs) ∙ lt-any p xs

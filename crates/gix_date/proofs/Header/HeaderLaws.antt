@@ -33,7 +33,7 @@ use Rattle.gix_date.specs.declared.parsing.offset.OffsetFields.{OffsetFields}
 use Rattle.gix_date.specs.declared.parsing.offset.Sign.{Sign}
 use Rattle.gix_date.specs.declared.parsing.offset.Sign.TheVariants.{Plus, Minus}
 use Rattle.gix_date.specs.declared.time.Time.{Time}
-use Rattle.gix_date.specs.declared.time.write.TheConstants.{HUNDRED_HOURS}
+use Rattle.gix_date.specs.declared.time.TheConstants.{HUNDRED_HOURS}
 use Rattle.gix_date.proofs.Fields.FieldsRead.{is-space}
 use Rattle.gix_date.proofs.Text.Ints.{own, int_value_from, fits_from, each_of}
 use Rattle.gix_date.proofs.Fields.FieldsTaken.{time_at, went, none_is}
@@ -154,9 +154,8 @@ zone-back x f o small e other =
     ∙ sym (o.whole ∙ rw (o.is_last.none e) refl)
 
 pub abs-signed : (s : Sign) (n : ℕ) → unsigned_abs (signed s n) ≡ n
-abs-signed Plus n = refl
 abs-signed Minus zero = refl
-abs-signed Minus (suc n) = refl
+abs-signed x n = refl
 
 pub written-by : (t : Time) → unsigned_abs t.offset < 360000 → header_text t ≡ Some (decimal_text t.seconds ++ (space ∷ compact_offset_text t.offset))
 unfolding header_text

@@ -12,7 +12,7 @@ use Rattle.gix_date.specs.Header.TimeBuf.{HoldsText}
 use Rattle.gix_date.specs.declared.error.Error.{Error}
 use Rattle.gix_date.specs.declared.error.Error.TheVariants.{OffsetTooWide}
 use Rattle.gix_date.specs.declared.time.Time.{Time}
-use Rattle.gix_date.specs.declared.time.write.TheConstants.{HUNDRED_HOURS}
+use Rattle.gix_date.specs.declared.time.TheConstants.{HUNDRED_HOURS}
 
 some_of : (b : Bool) (xs : List ℕ) (P : List ℕ → Type 0) → P xs → IfSome (cond b (Some xs) None) P
 some_of true xs P h = h

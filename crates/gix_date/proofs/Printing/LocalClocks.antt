@@ -1,13 +1,13 @@
 -- What a time's own clock shows is what each moment of it shows.
-use Rattle.std.proofs.Common.{◌≡◌, ◌∙◌, ◌≤◌, ◌<◌, ◌+◌, ◌-◌, ◌*◌, ◌/◌, ◌%◌, ℕ, suc, Bool, true, false, nat_lt, if◌then◌else◌, ℤ, pos, negsuc, neg_ℤ, ◌+ℤ◌, ◌-ℤ◌, ◌*ℤ◌, ◌≤ℤ◌, ◌<ℤ◌, unsigned_abs, refl, sym, ap, subst, arith}
+use Rattle.std.proofs.Common.{◌≡◌, ◌∙◌, ◌≤◌, ◌<◌, ◌+◌, ◌-◌, ◌*◌, ◌/◌, ◌%◌, ℕ, suc, Bool, true, false, nat_lt, if◌then◌else◌, ℤ, pos, neg_ℤ, ◌+ℤ◌, ◌-ℤ◌, ◌*ℤ◌, ◌≤ℤ◌, ◌<ℤ◌, unsigned_abs, refl, sym, ap, subst, arith}
 use Rattle.std.proofs.lemmas.Bool.Decides.{nat_tests}
 use Rattle.std.proofs.lemmas.Int.{by_lt_z}
-use Rattle.std.specs.Int.{int_rem_euclid, FitsUnsignedBits}
+use Rattle.std.specs.Int.{int_rem_euclid}
 use Rattle.jiff.specs.Types.{Date, Offset, PlainZoned}
 use Rattle.jiff.proofs.ZoneFacts.{offset_at-fixed_zone}
 use Rattle.jiff.specs.Words.{plain_zoned, nanos_of_seconds, fixed_zone, IsTimestampNanos, IsCivilNanos}
 use Rattle.gix_date.proofs.Fields.DateTimes.{datetime_exists}
-use Rattle.jiff_core.specs.Calendar.{IsYear, IsCivilDate, IsEpochDay, day_count, weekday_number}
+use Rattle.jiff_core.specs.Calendar.{IsYear, IsCivilDate, day_count, weekday_number}
 use Rattle.jiff_core.specs.Date.{epoch_day}
 use Rattle.jiff_core.specs.March.{march_days}
 use Rattle.jiff_core.proofs.CalendarLemmas.{days_from_civil-day_count, day_count-later_year, day_count-day_of_year, day_of_year_bound}
@@ -180,22 +180,6 @@ four-digits-from z t h o =
       minutes = subst (λ (s : ℤ). unsigned_abs s % 60 ≡ 0) (sym h.offset_is) o.minutes;
     }
 
--- so the calendar has the day of such a time
-pub day-within : (t : Time) → HasFourDigitFields t → IsEpochDay (local_day t)
-day-within t h = (omega (arith, signed_arith, h.in_years), omega (arith, signed_arith, h.in_years))
-
--- and its year is a `u16`
-year-fits : (year : ℤ) → pos 1000 ≤ℤ year → year ≤ℤ pos 9999 → FitsUnsignedBits 16 year
-year-fits (pos n) low high = omega (arith, signed_arith, high)
-year-fits (negsuc n) low high = absurd (omega (arith, signed_arith, low))
-
-pub local-year-fits : (t : Time) (date : Date) → HasFourDigitFields t → epoch_day date ≡ local_day t → FitsUnsignedBits 16 date.year
-local-year-fits t date h at =
-    let year_in = date.year_in in
-    by_lt_z date.year (pos 1000)
-    (λ lt. absurd (omega (arith, signed_arith, year-before date lt, at, h.in_years)))
-    (λ ge. year-fits date.year ge year_in.1)
-
 pub moment-shows : (t : Time) (z : Zoned) → IsMoment t z → Shows (plain_zoned z) t
 moment-shows t z h = record { instant = h.instant; offset_is = h.offset_is }
 
@@ -228,25 +212,20 @@ shown-by t h =
 
 -- what a clock shows is its date by the day number, and its time by the second of the day
 pub clock-by : (t : Time) (day : ℤ) (date : Date) (year second weekday : ℕ) (clock : ClockFields) → day ≡ local_day t
-    → epoch_day date ≡ day → date.year ≡ pos year → second ≡ second_of_day t → weekday ≡ unsigned_abs (int_rem_euclid (day +ℤ pos 3) (pos 7))
+    → epoch_day date ≡ day → year ≡ unsigned_abs date.year → second ≡ second_of_day t → weekday ≡ weekday_number day
     → clock.hour ≡ hours_in second → clock.minute ≡ minutes_in second → clock.second ≡ second % 60
     → ◌≡◌ {A = LocalTime} (record { weekday = weekday; date = record { year = year; month = date.month; day = date.day }; clock = clock; offset = t.offset }) (clock_of t)
-unfolding clock_of weekday_number
+unfolding clock_of
 clock-by t day date year second weekday clock is_day at is_year is_second is_weekday hour minute last =
-    let d = sym (ap (λ (n : ℤ). date_of_day n) (at ∙ is_day)) in
-    let same : date_of_day (local_day t) ≡ (date.year, date.month, date.day) = d ∙ date-of-day date in
-    let y : year ≡ unsigned_abs (date_of_day (local_day t)).0 = sym (ap (λ (v : ℤ). unsigned_abs v) is_year) ∙ ap (λ (r : ℤ × ℕ × ℕ). unsigned_abs r.0) (sym same) in
-    let w : weekday ≡ unsigned_abs (int_rem_euclid (local_day t +ℤ pos 3) (pos 7)) = is_weekday ∙ ap (λ (n : ℤ). unsigned_abs (int_rem_euclid (n +ℤ pos 3) (pos 7))) is_day in
+    let same : (date.year, date.month, date.day) ≡ date_of_day (local_day t) = sym (date-of-day date) ∙ ap (λ (d : ℤ). date_of_day d) (at ∙ is_day) in
+    let y : year ≡ unsigned_abs (date_of_day (local_day t)).0 = is_year ∙ ap (λ (r : ℤ × ℕ × ℕ). unsigned_abs r.0) same in
+    let w : weekday ≡ weekday_number (local_day t) = is_weekday ∙ ap (λ (n : ℤ). weekday_number n) is_day in
     let h = hour ∙ ap (λ (n : ℕ). hours_in n) is_second in
     let m = minute ∙ ap (λ (n : ℕ). minutes_in n) is_second in
     let s = last ∙ ap (λ (n : ℕ). n % 60) is_second in
     λ i. record {
       weekday = w i;
-      date = record { year = y i; month = (sym same i).1; day = (sym same i).2 };
+      date = record { year = y i; month = (same i).1; day = (same i).2 };
       clock = record { hour = h i; minute = m i; second = s i };
       offset = t.offset;
     }
-
-pub unsigned-is : (z : ℤ) → FitsUnsignedBits 16 z → z ≡ pos (unsigned_abs z)
-unsigned-is (pos n) h = refl
-unsigned-is (negsuc n) h = absurd h

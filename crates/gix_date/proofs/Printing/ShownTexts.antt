@@ -1,5 +1,5 @@
 -- What the strict printer shows by a named pattern is its text: not only nothing else, but that.
-use Rattle.std.proofs.Common.{◌≡◌, ◌∙◌, ◌+◌, ◌/◌, ◌%◌, ◌++◌, ℤ, pos, int_lt, unsigned_abs, Bool, true, length, Bor, option_map, arith, get_or, lit<, if◌then◌else◌, ◌<◌, ◌≤◌, ℕ, List, [], ◌∷◌, decimal, Option, Some, None, Result, Ok, Err, IfOk, IfErr, String, Global, refl, sym, ap, append_assoc, subst, inl, inr, false, string_bytes, suc}
+use Rattle.std.proofs.Common.{◌≡◌, ◌∙◌, ◌+◌, ◌/◌, ◌%◌, ◌++◌, ℤ, pos, int_lt, unsigned_abs, Bool, true, length, Bor, option_map, arith, get_or, lit<, if◌then◌else◌, ◌<◌, ◌≤◌, ℕ, List, [], ◌∷◌, decimal, Option, Some, None, Result, Ok, Err, IfOk, IfErr, String, Global, refl, sym, ap, subst, inl, inr, false, string_bytes, suc}
 use Rattle.std.proofs.lemmas.Fmt.{decimal_digit}
 use Rattle.jiff.specs.Types.{PlainZoned}
 use Rattle.jiff_core.specs.declared.error.Error.TheVariants.{Missing}
@@ -60,9 +60,8 @@ behind-ascii false true m s in_m in_s = colon-ascii m in_m
 behind-ascii false false m s in_m in_s = IsAscii-nil
 
 behind-short : (has_seconds has_minutes : Bool) (m s : ℕ) → length (behind_hours has_seconds has_minutes m s) ≤ 6
-behind-short true b m s = omega arith
 behind-short false true m s = omega arith
-behind-short false false m s = omega arith
+behind-short x b m s = omega arith
 
 offset-ascii : (o : ℤ) → unsigned_abs o / 3600 < 100 → IsAscii (offset_text o)
 offset-ascii o hours =
@@ -183,11 +182,6 @@ named-text pattern t local bytes shown clock converts four_digits =
     let shows = moment-shows t m.0 m.1 in
     let z = plain_zoned m.0 in
     (m.0, m.1, shown z (four-digits-from z t shows four_digits) (clock-shown z t shows ∙ sym clock))
-
--- a text, and two more after it
-pub three-joined : (first second whole a b c : List ℕ) → first ≡ a → second ≡ first ++ b → whole ≡ second ++ c → whole ≡ a ++ (b ++ c)
-three-joined first second whole a b c e f g =
-    g ∙ ap (λ (xs : List ℕ). xs ++ c) (f ∙ ap (λ (xs : List ℕ). xs ++ b) e) ∙ append_assoc a b c
 
 -- the day of the month, in one digit or two
 pub day-of-one : (day : ℕ) → day < 10 → (48 + day) ∷ [] ≡ decimal day

@@ -9,7 +9,7 @@ use Rattle.jiff.specs.declared.zoned.Zoned.{Zoned}
 use Rattle.jiff_tz.specs.Zone.{IsFixed, utc_offset, ambiguous_at}
 use Rattle.jiff_tz.specs.declared.timezone.TimeZone.TheVariants.{UTC, Fixed, Posix, Tzif}
 use Rattle.gix_date.specs.Relative.Dates.{RelativeDate, MinusSeconds, MinusPairs, Reaches, IsNamed}
-use Rattle.gix_date.specs.Relative.FixedZones.{total, less_seconds, less_months}
+use Rattle.gix_date.specs.Relative.FixedZones.{total, less_months, Keeps}
 use Rattle.gix_date.specs.Relative.PairsRead.{pairs_read}
 use Rattle.gix_date.specs.Relative.Steps.{IsLocal, IsPicked, Resolves, SecondsStep, PairStep, Chain, zone_of, ChooseAlike, IsAtInstant}
 use Rattle.gix_date.specs.Relative.Roles.{pairs}
@@ -18,7 +18,7 @@ use Rattle.gix_date.specs.declared.parsing.relative.words.TimeUnit.{TimeUnit}
 use Rattle.gix_date.specs.declared.parsing.relative.words.TimeUnit.TheVariants.{Seconds, Months}
 use Rattle.gix_date.specs.declared.time.Time.{Time}
 use Rattle.gix_date.proofs.Relative.Chains.{reaches-is, reaches-back}
-use Rattle.gix_date.proofs.Relative.FixedZones.{IsLoss, IsBefore, Alike, seconds-law, yesterday-law, months-law, fixed-resolves-exists, fixed-seconds-exists}
+use Rattle.gix_date.proofs.Relative.FixedZones.{IsLoss, months-fixed, fixed-resolves-exists, fixed-seconds-exists}
 
 picks : (tz : TimeZone) (o : Offset) → IsFixed tz → ((n : ℤ) → o.seconds ≡ offset_at tz n) → (dt : DateTime) → picked_instant tz dt ≡ civil_nanos dt -ℤ nanos_of_seconds o.seconds
 unfolding offset_at ambiguous_at
@@ -42,7 +42,7 @@ local-alike a b h i dt l = l ∙ ap (λ (s : ℤ). i +ℤ nanos_of_seconds s) (h
 pub picked-alike : (a b : TimeZone) → ChooseAlike a b → (civil j : ℤ) → IsPicked a civil j → IsPicked b civil j
 picked-alike a b h civil j p = record { shown = p.shown; civil_is = p.civil_is; is_choice = p.is_choice ∙ h.picks p.shown; in_range = p.in_range }
 
-resolves-alike : (a b : TimeZone) → ChooseAlike a b → (i j : ℤ) → Resolves a i j → Resolves b i j
+pub resolves-alike : (a b : TimeZone) → ChooseAlike a b → (i j : ℤ) → Resolves a i j → Resolves b i j
 resolves-alike a b h i j s = record {
   local = s.local;
   local_is = local-alike a b h i s.local s.local_is;
@@ -86,32 +86,24 @@ fixed-zone o = by (int_eq o.seconds (pos 0))
     by true = tt
     by false = tt
 
--- what is so at each offset is so in each such zone
-pub at-one-offset : (tz : TimeZone) → IsFixed tz → (i : ℤ) (date : RelativeDate) (Such : ℤ → Type 0)
-    → ((o : Offset) → ChooseAlike tz (fixed_zone o) → Alike (fixed_zone o) i date Such) → Alike tz i date Such
-at-one-offset tz f i date Such law j =
-    let o = fixed-offset tz f in
-    let alike = one-offset tz o.0 f o.1 in
-    let at = law o.0 alike j in
-    (λ h. at.0 (reaches-alike tz (fixed_zone o.0) alike date i j h), λ h. reaches-alike (fixed_zone o.0) tz (turned tz (fixed_zone o.0) alike) date i j (at.1 h))
-
-pub seconds-in : (tz : TimeZone) → IsFixed tz → (pairs : List (ℤ × ℤ)) (i : ℤ) → All IsLoss pairs → IsTimestampNanos i
-    → Alike tz i (less_seconds pairs) (IsBefore pairs i)
-seconds-in tz f pairs i loss range = at-one-offset tz f i (less_seconds pairs) (IsBefore pairs i) (λ o a. seconds-law (fixed_zone o) o refl pairs i loss range)
-
-pub yesterday-in : (tz : TimeZone) → IsFixed tz → (i : ℤ) → IsTimestampNanos i
-    → (j : ℤ) → ((j ≡ i -ℤ nanos_of_seconds (pos 86_400)) × IsTimestampNanos j) ↔ Reaches (less_seconds ((pos 1, pos 86_400) ∷ [])) tz i j
-yesterday-in tz f i range j =
-    let day : RelativeDate = less_seconds ((pos 1, pos 86_400) ∷ []) in
-    let law = at-one-offset tz f i day (λ j. (j ≡ i -ℤ nanos_of_seconds (pos 86_400)) × IsTimestampNanos j) (λ o a k. let y = yesterday-law (fixed_zone o) o refl i range k in (y.1, y.0)) j in
-    (law.1, law.0)
-
 pub months-in : (tz : TimeZone) → IsFixed tz → (i : ℤ) (dt : DateTime) (pairs : List (ℤ × ℤ)) → IsLocal tz i dt → dt.date.day ≤ 28 → IsTimestampNanos i
     → All IsLoss pairs → FitsSigned w64 (total pairs) → (j : ℤ) → Reaches (less_months pairs) tz i j ↔ Reaches (less_months ((total pairs, pos 1) ∷ [])) tz i j
-months-in tz f i dt pairs local day range loss fits = at-one-offset tz f i (less_months pairs) (λ j. Reaches (less_months ((total pairs, pos 1) ∷ [])) tz i j) (λ o a j.
-    let law = months-law (fixed_zone o) o refl i dt pairs (local-alike tz (fixed_zone o) a i dt local) day range loss fits j in
+months-in tz f i dt pairs local day range loss fits j =
+    let o = fixed-offset tz f in
+    let zone = fixed_zone o.0 in
+    let alike = one-offset tz o.0 f o.1 in
+    let many : RelativeDate = less_months pairs in
     let one : RelativeDate = less_months ((total pairs, pos 1) ∷ []) in
-    (λ h. reaches-alike (fixed_zone o) tz (turned tz (fixed_zone o) a) one i j (law.0 h), λ h. law.1 (reaches-alike tz (fixed_zone o) a one i j h)))
+    let law = months-fixed o.0 i dt pairs (local-alike tz zone alike i dt local) day range loss fits j in (
+      λ h. reaches-alike zone tz (turned tz zone alike) one i j (law.0 (reaches-alike tz zone alike many i j h)),
+      λ h. reaches-alike zone tz (turned tz zone alike) many i j (law.1 (reaches-alike tz zone alike one i j h)),
+    )
+
+-- a zone of one offset resolves each instant to itself
+pub fixed-keeps : (tz : TimeZone) → IsFixed tz → (i : ℤ) → Keeps tz i
+fixed-keeps tz f i range =
+    let o = fixed-offset tz f in
+    resolves-alike (fixed_zone o.0) tz (turned tz (fixed_zone o.0) (one-offset tz o.0 f o.1)) i i (fixed-resolves-exists o.0 i range)
 
 -- The time that is named, by the instant that is reached at the one offset.
 

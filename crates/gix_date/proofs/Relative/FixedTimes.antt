@@ -1,24 +1,29 @@
 -- What a date of seconds names from a time: its seconds less so many, at its offset.
-use Rattle.std.proofs.Common.{◌≡◌, ◌∙◌, ◌↔◌, ℤ, pos, ◌-ℤ◌, ◌*ℤ◌, List, true, refl, sym, ap, subst, arith, FitsSigned, w64}
+use Rattle.std.proofs.Common.{◌≡◌, ◌∙◌, ◌↔◌, ℤ, pos, ◌-ℤ◌, ◌*ℤ◌, List, true, refl, sym, ap, subst, arith}
 use Rattle.std.specs.List.{All}
 use Rattle.jiff.proofs.ZoneFacts.{offset_at-fixed_zone}
 use Rattle.jiff.specs.Types.{TimeZone}
-use Rattle.jiff.specs.Words.{plain_zoned, zoned_nanos, offset_at, nanos_of_seconds, IsTimestampNanos}
+use Rattle.jiff.specs.Words.{zoned_nanos, offset_at, nanos_of_seconds, IsTimestampNanos}
 use Rattle.jiff.specs.declared.zoned.Zoned.{Zoned}
 use Rattle.jiff_core.proofs.SignedLemmas.{signed_arith}
 use Rattle.jiff_tz.specs.Zone.{IsFixed}
-use Rattle.gix_date.specs.Relative.FixedZones.{total, less_seconds, earlier, NamesEarlier, NamesBefore}
-use Rattle.gix_date.specs.Relative.Dates.{RelativeDate, MinusSeconds, Reaches}
+use Rattle.gix_date.specs.Relative.FixedZones.{total, less_seconds, earlier, KeepsWay, NamesEarlier, NamesBefore}
+use Rattle.gix_date.specs.Relative.Dates.{RelativeDate, MinusSeconds, Reaches, IsNamed}
 use Rattle.gix_date.specs.Relative.Steps.{zone_of}
 use Rattle.gix_date.specs.Fields.Zoned.{IsMoment, is_instant, time_in, whole_seconds as seconds_of}
 use Rattle.gix_date.specs.declared.time.Time.{Time}
 use Rattle.gix_date.proofs.Relative.Chains.{same-time}
-use Rattle.gix_date.proofs.Relative.FixedSteps.{seconds-in, fixed-zone}
-use Rattle.gix_date.proofs.Relative.FixedZones.{IsLoss, seconds-law, total-loss, products-fit}
+use Rattle.gix_date.proofs.Relative.FixedSteps.{fixed-zone}
+use Rattle.gix_date.proofs.Relative.FixedZones.{IsLoss}
+use Rattle.gix_date.proofs.Relative.KeptInstants.{fixed-way, kept-law}
 use Rattle.gix_date.proofs.Fields.Instants.{instant_range, whole_seconds, instant_from, instant_holds}
 
 zone-offset : (t : Time) (z : Zoned) → IsMoment t z → (n : ℤ) → offset_at (zone_of z) n ≡ t.offset
 zone-offset t z m n = ap (λ (tz : TimeZone). offset_at tz n) m.zone.2 ∙ offset_at-fixed_zone m.zone.0 n ∙ m.zone.1
+
+-- a moment of a time has such a zone
+pub moment-fixed : (t : Time) (z : Zoned) → IsMoment t z → IsFixed (zone_of z)
+moment-fixed t z m = subst IsFixed (sym m.zone.2) (fixed-zone m.zone.0)
 
 abbrev IsEarlierInstant : Zoned → ℤ → ℤ → Type 0
 IsEarlierInstant z n j = (j ≡ zoned_nanos z -ℤ nanos_of_seconds n) × IsTimestampNanos j
@@ -51,42 +56,33 @@ names-earlier date t n law z m r =
 pub yesterday-earlier : (t : Time) → NamesEarlier (MinusSeconds (pos 86_400)) t (pos 86_400)
 yesterday-earlier t = names-earlier (MinusSeconds (pos 86_400)) t (pos 86_400) (λ z m j. (λ h. h, λ h. h))
 
--- An instant that is reached lies within `jiff`'s range, so an i64 holds what was taken off the moment.
-total-fits : (pairs : List (ℤ × ℤ)) → All IsLoss pairs → (i j : ℤ) → IsTimestampNanos i → IsTimestampNanos j
-    → j ≡ i -ℤ nanos_of_seconds (total pairs) → FitsSigned w64 (total pairs)
-total-fits pairs loss i j from to e = omega (arith, signed_arith, from, to, e, total-loss pairs loss)
-
 pub seconds-earlier : (t : Time) (pairs : List (ℤ × ℤ)) → All IsLoss pairs
     → NamesEarlier (less_seconds pairs) t (total pairs)
-seconds-earlier t pairs loss = names-earlier (less_seconds pairs) t (total pairs) (λ z m j.
-    let range = (plain_zoned z).timestamp.in_range in
-    let law = seconds-law (zone_of z) m.zone.0 m.zone.2 pairs (zoned_nanos z) loss range j in
-    (λ h. let r = law.0 h in (r.0, r.2), λ h. law.1 (h.0, products-fit pairs loss (total-fits pairs loss (zoned_nanos z) j range h.1 h.0), h.1)))
+seconds-earlier t pairs loss =
+    names-earlier (less_seconds pairs) t (total pairs) (λ z m. kept-law z pairs (fixed-way (zone_of z) (moment-fixed t z m) pairs (zoned_nanos z)) loss)
 
 -- The same from each moment, by the instant that is reached.
-names-before : (date : RelativeDate) (z : Zoned) (n : ℤ) → ((j : ℤ) → Reaches date (zone_of z) (zoned_nanos z) j ↔ IsEarlierInstant z n j) → NamesBefore date z n
-names-before date z n law t =
-    let due = zoned_nanos z -ℤ nanos_of_seconds n in (
-      λ h.
-          let at = (law h.instant).0 h.reaches in
-          (same-time t (time_in (zone_of z) due) (h.seconds_is ∙ ap (λ (i : ℤ). seconds_of i) at.0) (h.offset_is ∙ ap (λ (i : ℤ). offset_at (zone_of z) i) at.0), subst IsTimestampNanos at.0 at.1),
-      λ h. record {
-        instant = due;
-        reaches = (law due).1 (refl, h.1);
-        seconds_is = ap (λ (q : Time). q.seconds) h.0;
-        offset_is = ap (λ (q : Time). q.offset) h.0;
-      },
-    )
+abbrev NamesOnly : RelativeDate → Zoned → ℤ → Type 0
+NamesOnly date z due = (t : Time) → IsNamed date z t ↔ ((t ≡ time_in (zone_of z) due) × IsTimestampNanos due)
+
+pub names-before : (date : RelativeDate) (z : Zoned) (due : ℤ) → ((j : ℤ) → Reaches date (zone_of z) (zoned_nanos z) j ↔ ((j ≡ due) × IsTimestampNanos j)) → NamesOnly date z due
+names-before date z due law t = (
+  λ h.
+      let at = (law h.instant).0 h.reaches in
+      (same-time t (time_in (zone_of z) due) (h.seconds_is ∙ ap (λ (i : ℤ). seconds_of i) at.0) (h.offset_is ∙ ap (λ (i : ℤ). offset_at (zone_of z) i) at.0), subst IsTimestampNanos at.0 at.1),
+  λ h. record {
+    instant = due;
+    reaches = (law due).1 (refl, h.1);
+    seconds_is = ap (λ (q : Time). q.seconds) h.0;
+    offset_is = ap (λ (q : Time). q.offset) h.0;
+  },
+)
 
 pub yesterday-before : (z : Zoned) → NamesBefore (MinusSeconds (pos 86_400)) z (pos 86_400)
-yesterday-before z = names-before (MinusSeconds (pos 86_400)) z (pos 86_400) (λ j. (λ h. h, λ h. h))
+yesterday-before z = names-before (MinusSeconds (pos 86_400)) z (zoned_nanos z -ℤ nanos_of_seconds (pos 86_400)) (λ j. (λ h. h, λ h. h))
+
+pub kept-names-before : (z : Zoned) (pairs : List (ℤ × ℤ)) → KeepsWay (zone_of z) pairs (zoned_nanos z) → All IsLoss pairs → NamesBefore (less_seconds pairs) z (total pairs)
+kept-names-before z pairs kept loss = names-before (less_seconds pairs) z (zoned_nanos z -ℤ nanos_of_seconds (total pairs)) (kept-law z pairs kept loss)
 
 pub seconds-before : (z : Zoned) → IsFixed (zone_of z) → (pairs : List (ℤ × ℤ)) → All IsLoss pairs → NamesBefore (less_seconds pairs) z (total pairs)
-seconds-before z f pairs loss = names-before (less_seconds pairs) z (total pairs) (λ j.
-    let range = (plain_zoned z).timestamp.in_range in
-    let law = seconds-in (zone_of z) f pairs (zoned_nanos z) loss range j in
-    (λ h. let r = law.0 h in (r.0, r.2), λ h. law.1 (h.0, products-fit pairs loss (total-fits pairs loss (zoned_nanos z) j range h.1 h.0), h.1)))
-
--- a moment of a time has such a zone
-pub moment-fixed : (t : Time) (z : Zoned) → IsMoment t z → IsFixed (zone_of z)
-moment-fixed t z m = subst IsFixed (sym m.zone.2) (fixed-zone m.zone.0)
+seconds-before z f pairs = kept-names-before z pairs (fixed-way (zone_of z) f pairs (zoned_nanos z))

@@ -57,10 +57,6 @@ fixed-resolves-exists o i range =
     }
 
 -- a step of seconds is a plain difference, and exists wherever that is an instant
-pub fixed-seconds : (o : Offset) (n i j : ℤ) → SecondsStep (fixed_zone o) n i j
-    → (j ≡ i -ℤ nanos_of_seconds n) × IsTimestampNanos j
-fixed-seconds o n i j h = (fixed-resolves o (i -ℤ nanos_of_seconds n) j h.resolves, h.resolves.picked.in_range)
-
 pub fixed-seconds-exists : (o : Offset) (n i : ℤ) → IsTimestampNanos (i -ℤ nanos_of_seconds n)
     → SecondsStep (fixed_zone o) n i (i -ℤ nanos_of_seconds n)
 fixed-seconds-exists o n i range = record { in_range = range; resolves = fixed-resolves-exists o (i -ℤ nanos_of_seconds n) range }
@@ -98,34 +94,8 @@ products-fit (p ∷ more) loss fits =
 abbrev pub IsBefore : List (ℤ × ℤ) → ℤ → ℤ → Type 0
 IsBefore pairs i j = (j ≡ i -ℤ nanos_of_seconds (total pairs)) × All ProductFits pairs × IsTimestampNanos j
 
-abbrev second_steps : List (ℤ × ℤ) → List (ℤ × TimeUnit)
+abbrev pub second_steps : List (ℤ × ℤ) → List (ℤ × TimeUnit)
 second_steps pairs = map (λ p. (p.0, Seconds p.1)) pairs
-
-same-less-none : (i : ℤ) → i ≡ (i -ℤ nanos_of_seconds (pos 0))
-same-less-none i = omega (arith, signed_arith)
-
-pub seconds-chain : (o : Offset) (pairs : List (ℤ × ℤ)) (i j : ℤ) → IsTimestampNanos i
-    → Chain (fixed_zone o) (second_steps pairs) i j → IsBefore pairs i j
-seconds-chain o [] i j range h = (h ∙ same-less-none i, All-nil ProductFits, subst IsTimestampNanos (sym h) range)
-seconds-chain o (p ∷ more) i j range (between, step, rest) =
-    let first = fixed-seconds o (product p) i between step.1 in
-    let later = seconds-chain o more between j first.1 rest in
-    (omega (arith, signed_arith, first.0, later.0), All-cons ProductFits p more step.0 later.1, later.2)
-
--- counts are never negative, so that instants only fall: where the last is one, all between are
-pub seconds-chain-back : (o : Offset) (pairs : List (ℤ × ℤ)) (i j : ℤ) → All IsLoss pairs → IsTimestampNanos i
-    → IsBefore pairs i j → Chain (fixed_zone o) (second_steps pairs) i j
-seconds-chain-back o [] i j loss range h = h.0 ∙ sym (same-less-none i)
-seconds-chain-back o (p ∷ more) i j loss range (e, fits, last) =
-    let falls = All-head IsLoss p more loss in
-    let left = total-loss more (All-tail IsLoss p more loss) in
-    let next = i -ℤ nanos_of_seconds (product p) in
-    let between : IsTimestampNanos next =
-    (omega (arith, signed_arith, e, last, range, falls, left), omega (arith, signed_arith, range, falls)) in
-    let due : j ≡ (next -ℤ nanos_of_seconds (total more)) = omega (arith, signed_arith, e) in
-    let later =
-    seconds-chain-back o more next j (All-tail IsLoss p more loss) between (due, All-tail ProductFits p more fits, last) in
-    (next, (All-head ProductFits p more fits, fixed-seconds-exists o (product p) i between), later)
 
 -- Relative dates of such pairs.
 
@@ -136,18 +106,6 @@ from-start : (o : Offset) (i j : ℤ) (date : List (ℤ × TimeUnit)) → Reache
     → Chain (fixed_zone o) date i j
 from-start o i j date (start, resolves, chain) =
     subst (λ (k : ℤ). Chain (fixed_zone o) date k j) (fixed-resolves o i start resolves) chain
-
-seconds-of : (o : Offset) (pairs : List (ℤ × ℤ)) (i : ℤ) → All IsLoss pairs → IsTimestampNanos i
-    → Alike (fixed_zone o) i (less_seconds pairs) (IsBefore pairs i)
-seconds-of o pairs i loss range j = (
-  λ h. seconds-chain o pairs i j range (from-start o i j (second_steps pairs) h),
-  λ h. (i, fixed-resolves-exists o i range, seconds-chain-back o pairs i j loss range h),
-)
-
-pub seconds-law : (tz : TimeZone) (o : Offset) → tz ≡ fixed_zone o → (pairs : List (ℤ × ℤ)) (i : ℤ) → All IsLoss pairs
-    → IsTimestampNanos i → Alike tz i (less_seconds pairs) (IsBefore pairs i)
-seconds-law tz o e pairs i loss range =
-    subst (λ (z : TimeZone). Alike z i (less_seconds pairs) (IsBefore pairs i)) (sym e) (seconds-of o pairs i loss range)
 
 -- pairs with the same sum, which fit where the others do, name the same
 pub same-seconds : (tz : TimeZone) (pairs other : List (ℤ × ℤ)) (i : ℤ) → total other ≡ total pairs
@@ -173,15 +131,6 @@ all-loss pairs h k d lt = pair-loss (slice_index_or pairs k d) (h k d lt)
 pub one-loss : (p : ℤ × ℤ) → IsLoss p → All IsLoss (p ∷ [])
 one-loss p h = All-cons IsLoss p [] h (All-nil IsLoss)
 
--- one day
-pub yesterday-law : (tz : TimeZone) (o : Offset) → tz ≡ fixed_zone o → (i : ℤ) → IsTimestampNanos i
-    → (j : ℤ) → ((j ≡ i -ℤ nanos_of_seconds (pos 86_400)) × IsTimestampNanos j) ↔ Reaches (less_seconds ((pos 1, pos 86_400) ∷ [])) tz i j
-yesterday-law tz o e i range j =
-    let one : ℤ × ℤ = (pos 1, pos 86_400) in
-    let law = seconds-law tz o e (one ∷ []) i (one-loss one (omega (arith, signed_arith))) range j in
-    let fits = All-cons ProductFits one [] (omega (arith, signed_arith)) (All-nil ProductFits) in
-    (λ h. law.1 (h.0, fits, h.1), λ h. let r = law.0 h in (r.0, r.2))
-
 -- A day of the month that each month has, from the first to the 28th, with a time of day.
 
 abbrev pub IsSmall : ℕ → Type 0
@@ -197,7 +146,7 @@ pub record IsPlaced (o : Offset) (day : ℕ) (time : TimeOfDay) (m : ℤ) : Type
   pub year_in : IsYear (int_div_euclid m (pos 12))
   pub in_range : IsTimestampNanos (place o day time m)
 
-month-in : (m : ℤ)
+pub month-in : (m : ℤ)
     → (1 ≤ unsigned_abs (int_rem_euclid m (pos 12)) + 1) × (unsigned_abs (int_rem_euclid m (pos 12)) + 1 ≤ 12)
 month-in m = omega (arith, signed_arith)
 
@@ -220,7 +169,7 @@ shown-there m day time small year = record {
   time = time;
 }
 
-number-there : (m : ℤ) → int_div_euclid m (pos 12) *ℤ pos 12 +ℤ pos (unsigned_abs (int_rem_euclid m (pos 12)) + 1 - 1) ≡ m
+pub number-there : (m : ℤ) → int_div_euclid m (pos 12) *ℤ pos 12 +ℤ pos (unsigned_abs (int_rem_euclid m (pos 12)) + 1 - 1) ≡ m
 number-there m = omega (arith, signed_arith)
 
 civil-there : (m : ℤ) (day : ℕ) (time : TimeOfDay) (small : IsSmall day) (year : IsYear (int_div_euclid m (pos 12)))
@@ -270,13 +219,19 @@ months-from o day time m n small here there =
     subst (Goes o day time n (place o day time (m -ℤ n))) (sym (number-there m)) goes in
     record { local = dt; local_is = local-there o m day time small here.year_in; fits = from.0; year_in = from.1; picked = from.2 }
 
--- earlier months begin earlier, so what lies between two such days is such a day
-pub months-order : (a b : ℤ) → IsYear (int_div_euclid a (pos 12)) → a ≤ℤ b → month_start a ≤ℤ month_start b
+-- earlier months begin at least 28 days earlier, so what lies between two such days is such a day
+pub month-shorter : (a b : ℤ) → IsYear (int_div_euclid a (pos 12)) → (a +ℤ pos 1) ≤ℤ b → (month_start a +ℤ pos 28) ≤ℤ month_start b
+month-shorter a b year le =
+    let y = int_div_euclid a (pos 12) in
+    let m = unsigned_abs (int_rem_euclid a (pos 12)) + 1 in
+    let before = days_from_civil-month y (int_div_euclid b (pos 12)) m (unsigned_abs (int_rem_euclid b (pos 12)) + 1) 28 1
+    (year, month-in a, long-enough a 28 (omega arith, omega arith)) (month-in b).0 (month-in b).1 (omega arith) (omega (arith, signed_arith, le, number-there a, number-there b)) in
+    omega (arith, signed_arith, before, days_from_civil-day y m 1 28 (omega arith) (omega arith))
+
+months-order : (a b : ℤ) → IsYear (int_div_euclid a (pos 12)) → a ≤ℤ b → month_start a ≤ℤ month_start b
 months-order a b year le =
     by_lt_z a b
-    (λ lt. let before = days_from_civil-month (int_div_euclid a (pos 12)) (int_div_euclid b (pos 12)) (unsigned_abs (int_rem_euclid a (pos 12)) + 1) (unsigned_abs (int_rem_euclid b (pos 12)) + 1) 1 1
-    (year, month-in a, long-enough a 1 (omega arith, omega arith)) (month-in b).0 (month-in b).1 (omega arith) (omega (arith, signed_arith, lt, number-there a, number-there b)) in
-    omega (arith, signed_arith, before))
+    (λ lt. let before = month-shorter a b year (omega (arith, signed_arith, lt)) in omega (arith, signed_arith, before))
     (λ ge. let e : a ≡ b = omega (arith, signed_arith) in rw e (omega (arith, signed_arith)))
 
 between-placed : (o : Offset) (day : ℕ) (time : TimeOfDay) (a b c : ℤ) → IsPlaced o day time a → IsPlaced o day time c → a ≤ℤ b
@@ -289,7 +244,7 @@ between-placed o day time a b c low high le ge =
     let last = months-order b c year ge in
     record { fits = fits; year_in = year; in_range = (omega (arith, signed_arith, first, low.in_range), omega (arith, signed_arith, last, high.in_range)) }
 
-abbrev month_steps : List (ℤ × ℤ) → List (ℤ × TimeUnit)
+abbrev pub month_steps : List (ℤ × ℤ) → List (ℤ × TimeUnit)
 month_steps pairs = map (λ p. (p.0, Months p.1)) pairs
 
 pub months-chain : (o : Offset) (day : ℕ) (time : TimeOfDay) (pairs : List (ℤ × ℤ)) (m j : ℤ) → IsSmall day → All IsLoss pairs
@@ -358,7 +313,7 @@ placed-here : (o : Offset) (i : ℤ) (dt : DateTime) → IsLocal (fixed_zone o) 
     → i ≡ place o dt.date.day dt.time (month_number dt.date)
 placed-here o i dt h = omega (arith, signed_arith, fixed-local o i dt h, civil_nanos-parts dt, day_of dt.date)
 
-months-fixed : (o : Offset) (i : ℤ) (dt : DateTime) (pairs : List (ℤ × ℤ)) → IsLocal (fixed_zone o) i dt → dt.date.day ≤ 28
+pub months-fixed : (o : Offset) (i : ℤ) (dt : DateTime) (pairs : List (ℤ × ℤ)) → IsLocal (fixed_zone o) i dt → dt.date.day ≤ 28
     → IsTimestampNanos i → All IsLoss pairs → FitsSigned w64 (total pairs) → SameMonths pairs (fixed_zone o) i
 months-fixed o i dt pairs local day range loss fits =
     let is = placed-here o i dt local in
@@ -372,9 +327,3 @@ months-fixed o i dt pairs local day range loss fits =
       in_range = subst IsTimestampNanos is range;
     } in
     subst (SameMonths pairs (fixed_zone o)) (sym is) (months-same o date.day dt.time pairs (month_number date) (day_in.0, day) loss fits here)
-
-pub months-law : (tz : TimeZone) (o : Offset) → tz ≡ fixed_zone o → (i : ℤ) (dt : DateTime) (pairs : List (ℤ × ℤ))
-    → IsLocal tz i dt → dt.date.day ≤ 28 → IsTimestampNanos i → All IsLoss pairs → FitsSigned w64 (total pairs)
-    → SameMonths pairs tz i
-months-law tz o e i dt pairs local day range loss fits =
-    subst (λ (z : TimeZone). SameMonths pairs z i) (sym e) (months-fixed o i dt pairs (subst (λ (z : TimeZone). IsLocal z i dt) e local) day range loss fits)

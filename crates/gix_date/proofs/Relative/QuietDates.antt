@@ -9,7 +9,7 @@ use Rattle.std.specs.Option.{option_or}
 use Rattle.std.specs.Prelude.{◌==◌, ◌||◌, ◌&&◌, nat_le, nat_lt}
 use Rattle.std.specs.Str.{all_ascii_digits}
 use Rattle.std.specs.Str.Parse.{without_leading_sign, signed_digits_value}
-use Rattle.gix_date.specs.Fields.FieldTexts.{IsSign, IsField, IsYear, AreSpaces, AreThreeLetters, IsDayName, IsMonthName, IsPlainDate, IsClock, IsRfc2822Clock, IsDayPrefix}
+use Rattle.gix_date.specs.Fields.FieldTexts.{IsField, IsYear, AreSpaces, AreThreeLetters, IsDayName, IsMonthName, IsPlainDate, IsClock, IsRfc2822Clock, IsDayPrefix}
 use Rattle.gix_date.specs.Families.Answer.{FamilyAnswer}
 use Rattle.gix_date.specs.Text.Characters.{minus, plus, colon, comma, letter_t}
 use Rattle.gix_date.specs.Fields.Layout.{LocalTime, Piece, DayName, Rfc2822DayName, MonthName, Day, Year, PlainDate, Clock, Rfc2822Clock, Spaces, LetterT, Offset, ColonOffset, Rfc2822Offset, IsPiece, ArePieces}
@@ -26,14 +26,13 @@ use Rattle.gix_date.specs.Text.SpaceWords.{space_words}
 use Rattle.gix_date.specs.declared.civil.ClockFields.{ClockFields}
 use Rattle.gix_date.specs.declared.civil.DateFields.{DateFields}
 use Rattle.gix_date.specs.declared.parsing.offset.OffsetFields.{OffsetFields}
-use Rattle.gix_date.specs.declared.parsing.offset.Sign.{Sign}
 use Rattle.gix_date.proofs.Fields.ThreeLetters.{all-at}
 use Rattle.gix_date.proofs.Fields.FieldsRead.{digit-no-letter}
 use Rattle.gix_date.proofs.Fields.ColonOffsets.{AreLastSeconds, strict-taken}
 use Rattle.gix_date.proofs.Fields.FieldsTaken.{went}
 use Rattle.gix_date.proofs.Text.Ints.{each_of, each_of as three}
 use Rattle.gix_date.proofs.Fields.Layouts.{dates_spelled}
-use Rattle.gix_date.proofs.Fast.FastHeaders.{int-taken, offset-taken}
+use Rattle.gix_date.proofs.Fast.FastHeaders.{int-taken, offset-taken, sign_passes}
 use Rattle.gix_date.proofs.Relative.QuietWords.{says_nothing, says-by, IsQuiet, like, like-any, names_of, named-any, any-run, one-run-word}
 use Rattle.gix_date.proofs.Text.WordsWithin.{words-within, one-gap, none-of-empty}
 
@@ -216,16 +215,12 @@ quiet-rfc2822-clock x clock (inr h) =
     subst IsQuiet (sym h.whole) (quiet-gap h.hour colon h.minute refl (quiet-field h.hour clock.hour h.is_hour) (quiet-field h.minute clock.minute h.is_minute))
 
 -- Offsets.
-mark_gap : (c : ℕ) (s : Sign) → IsSign c s → is_gap c ≡ true
-mark_gap c s (inl p) = rw p.0 refl
-mark_gap c s (inr p) = rw p.0 refl
-
 pub quiet-offset : (x : List ℕ) (f : OffsetFields) → offset_fields x ≡ Some f → IsQuiet x
 quiet-offset x f e =
     let k = offset-taken x f e in
     let rest = k.h0 ∷ k.h1 ∷ k.m0 ∷ k.m1 ∷ k.last in
     let all : all_ascii_digits rest ≡ true = rw (k.is_h0, k.is_h1, k.is_m0, k.is_m1) k.is_last.digits in
-    subst IsQuiet (sym k.whole) (quiet-after k.mark rest (mark_gap k.mark f.sign k.is_mark) (quiet-digits rest all))
+    subst IsQuiet (sym k.whole) (quiet-after k.mark rest (sign_passes is_gap k.mark f.sign k.is_mark refl refl) (quiet-digits rest all))
 
 quiet-compact : (x : List ℕ) (o : ℤ) → compact_offset x ≡ Some o → IsQuiet x
 unfolding compact_offset
@@ -256,7 +251,7 @@ strict-signed x o e =
       mark = k.mark;
       rest = hour ++ (colon ∷ (minute ++ k.last));
       whole = k.whole;
-      gap = mark_gap k.mark t.0.sign k.is_mark;
+      gap = sign_passes is_gap k.mark t.0.sign k.is_mark refl refl;
       quiet = quiet-gap hour colon (minute ++ k.last) refl (quiet-digits hour hour_digits) (quiet-last minute k.last t.0.seconds k.is_last (quiet-digits minute minute_digits));
     }
 

@@ -32,14 +32,12 @@ on true b e = refl
 on false b e = cc
 
 none_any : (a v : Bool) → a ≡ (a || ((v && false) || false))
-none_any true v = refl
 none_any false true = refl
-none_any false false = refl
+none_any x v = refl
 
 none_known : (k v : Bool) → k ≡ (k && ((not v || true) && true))
 none_known true true = refl
-none_known true false = refl
-none_known false v = refl
+none_known x v = refl
 
 ago_of : (ws front : List (List ℕ)) (v a k g : Bool) → v ≡ not (next_is_free front)
     → (fold step (scan v a k g) ws).ago ≡ (g || any_place (λ f w back. next_is_free f && is_ago w) front ws)

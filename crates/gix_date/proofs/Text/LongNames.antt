@@ -16,11 +16,8 @@ le-three m n true e = grind (arith, nat_tests)
 le-three m n false e = grind (arith, nat_tests)
 
 moved : (x p q r s : Bool) → (x && (p && (q && (r && s)))) ≡ (p && (q && (r && (x && s))))
-moved true p q r s = refl
 moved false true true true s = refl
-moved false true true false s = refl
-moved false true false r s = refl
-moved false false q r s = refl
+moved x p q r s = refl
 
 no-room : (word name : List ℕ) → length name < length word → is_short word name ≡ false
 no-room word name h =

@@ -20,9 +20,10 @@ seconds_per_hour = 3600
 abbrev pub seconds_per_day : ℕ
 seconds_per_day = 86_400
 
--- the whole hours of so many seconds, and the whole minutes that remain
+-- the whole hours of so many seconds
 abbrev pub hours_in : ℕ → ℕ
 hours_in seconds = seconds / seconds_per_hour
 
+-- the whole minutes of so many seconds beyond whole hours
 abbrev pub minutes_in : ℕ → ℕ
 minutes_in seconds = seconds % seconds_per_hour / seconds_per_minute

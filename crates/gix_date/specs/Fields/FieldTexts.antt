@@ -105,7 +105,7 @@ pub record IsDayPrefix (text : List ℕ) : Type 0 where
   pub is_name : IsDayName name
   pub are_spaces : AreSpaces gap
 
--- a year as it is printed
+-- the four digits of a year
 abbrev pub four_digits : ℕ → List ℕ
 four_digits n = two_digits (n / 100) ++ two_digits (n % 100)
 

@@ -10,7 +10,8 @@ use Rattle.gix_date.specs.Text.Numbers.{decimal_text}
 use Rattle.gix_date.specs.declared.error.Error.{Error}
 use Rattle.gix_date.specs.declared.error.Error.TheVariants.{OffsetTooWide, Write}
 use Rattle.gix_date.specs.declared.time.Time.{Time}
-use Rattle.gix_date.specs.declared.time.write.TheConstants.{HUNDRED_HOURS, MAX_TEXT_LEN}
+use Rattle.gix_date.specs.declared.time.TheConstants.{HUNDRED_HOURS}
+use Rattle.gix_date.specs.declared.time.write.TheConstants.{MAX_TEXT_LEN}
 
 -- the least offset without header text, 360000 seconds
 abbrev pub hundred_hours : ℕ

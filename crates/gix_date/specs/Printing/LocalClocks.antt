@@ -1,9 +1,10 @@
 -- What the clock of a time shows at its offset, from its seconds.
-use Rattle.std.specs.Prelude.{◌≡◌, ℕ, ◌+◌, ◌-◌, ◌*◌, ◌/◌, ◌%◌, nat_lt, if◌then◌else◌, ℤ, pos, neg_ℤ, ◌+ℤ◌, ◌-ℤ◌, unsigned_abs}
-use Rattle.std.specs.Int.{int_div_euclid, int_rem_euclid}
+use Rattle.std.specs.Prelude.{◌≡◌, ℕ, ◌+◌, ◌-◌, ◌*◌, ◌/◌, ◌%◌, ◌<◌, ◌≤◌, nat_lt, if◌then◌else◌, ℤ, pos, neg_ℤ, ◌+ℤ◌, ◌-ℤ◌, unsigned_abs}
+use Rattle.std.specs.Int.{int_div_euclid, int_rem_euclid, IsInRange}
 use Rattle.jiff_core.specs.Calendar.{IsBetween, weekday_number}
 use Rattle.gix_date.specs.Fields.ClockNumbers.{seconds_per_minute, seconds_per_day, hours_in, minutes_in}
 use Rattle.gix_date.specs.Fields.Layout.{LocalTime}
+use Rattle.gix_date.specs.Header.Text.{hundred_hours}
 use Rattle.gix_date.specs.declared.time.Time.{Time}
 
 -- Years that begin on 1 March, so that a leap day comes last, count from the year -10000, and days from its 1 March. Of
@@ -73,3 +74,19 @@ last_of_year_9999 = pos 253_402_300_799
 pub record HasFourDigitFields (t : Time) : Type 0 where
   pub in_years : IsBetween first_of_year_1000 last_of_year_9999 (local_seconds t)
   pub minutes : unsigned_abs t.offset % seconds_per_minute ≡ 0
+
+-- a clock is shown: local year 1000 to 9999, and offset below 100 hours
+pub record IsShowable (t : Time) : Type 0 where
+  pub in_years : IsBetween first_of_year_1000 last_of_year_9999 (local_seconds t)
+  pub offset : unsigned_abs t.offset < hundred_hours
+
+-- each field of a shown clock has its digits or its name
+pub record HasFields (t : LocalTime) : Type 0 where
+  pub weekday : t.weekday < 7
+  pub year : t.date.year ≤ 9999
+  pub month : IsInRange 1 12 t.date.month
+  pub day : IsInRange 1 31 t.date.day
+  pub hour : t.clock.hour < 24
+  pub minute : t.clock.minute < 60
+  pub second : t.clock.second < 60
+  pub offset : unsigned_abs t.offset < hundred_hours

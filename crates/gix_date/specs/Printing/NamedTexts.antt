@@ -1,16 +1,14 @@
 -- The texts of the named formats.
-use Rattle.std.specs.Prelude.{◌≡◌, ℕ, ◌%◌, ◌≤◌, List, pos, unsigned_abs, codes, Ok, ◌<◌}
+use Rattle.std.specs.Prelude.{◌≡◌, ℕ, ◌%◌, ◌≤◌, List, [], ◌∷◌, pos, unsigned_abs, codes, Ok}
 use Rattle.std.specs.Fmt.{decimal}
-use Rattle.std.specs.Int.{IsInRange}
 use Rattle.jiff.specs.Types.{PlainZoned}
 use Rattle.jiff_core.specs.Date.{weekday_of}
 use Rattle.jiff_strtime.specs.Show.{Shown}
 use Rattle.gix_date.specs.Fields.ClockNumbers.{seconds_per_minute}
-use Rattle.gix_date.specs.Fields.Layout.{LocalTime, print_pieces}
+use Rattle.gix_date.specs.Fields.Layout.{LocalTime, Piece, DayName, MonthName, Day, Year, Clock, Spaces, print_pieces}
 use Rattle.gix_date.specs.Text.Numbers.{two_digits}
 use Rattle.gix_date.specs.Families.Patterns.{short_layout, rfc2822_layout, iso8601_layout, iso8601_strict_layout, gitoxide_layout, default_layout}
 use Rattle.gix_date.specs.Printing.Formats.{IsShown, IsUnprinted}
-use Rattle.gix_date.specs.declared.time.named.LocalMoment.{LocalMoment}
 
 -- what a zoned value's clock shows
 abbrev pub local_time : PlainZoned → LocalTime
@@ -85,23 +83,19 @@ default_pattern = codes "%a %b %-d %H:%M:%S %Y %z"
 abbrev pub default_text : LocalTime → List ℕ
 default_text t = print_pieces decimal default_layout t
 
+-- the pieces of `DEFAULT` without its offset
+abbrev pub bare_default_layout : List Piece
+bare_default_layout = DayName ∷ Spaces ∷ MonthName ∷ Spaces ∷ Day ∷ Spaces ∷ Clock ∷ Spaces ∷ Year ∷ []
+
+-- the clock's text by them: `Mon Aug 8 12:45:06 2022`
+abbrev pub bare_default_text : LocalTime → List ℕ
+bare_default_text t = print_pieces decimal bare_default_layout t
+
 -- by this pattern a zoned value with four-digit fields is printed so, and never refused
 abbrev pub ShowsText : List ℕ → (LocalTime → List ℕ) → Type 0
 ShowsText pattern text =
     (z : PlainZoned) → ShowsFourDigitFields z
     → ((shown : Shown) → IsShown pattern z shown → shown ≡ Ok (text (local_time z))) × (IsUnprinted pattern z → ⊥)
-
--- a local moment as the fields of a formatted date
-abbrev pub local_of : LocalMoment → LocalTime
-local_of t = record { weekday = t.weekday; date = t.date; clock = t.clock; offset = t.offset }
-
--- each field has its digits or its name
-pub record HasFields (t : LocalMoment) : Type 0 where
-  pub weekday : t.weekday < 7
-  pub year : t.date.year ≤ 9999
-  pub month : IsInRange 1 12 t.date.month
-  pub day : t.date.day < 100
-  pub offset : unsigned_abs t.offset < 360000
 
 -- by this pattern each zoned value with four-digit fields whose clock shows this is printed so
 abbrev pub IsShownByAll : List ℕ → LocalTime → List ℕ → Type 0

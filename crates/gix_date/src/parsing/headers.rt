@@ -4,13 +4,15 @@ ghost use Rattle.gix_date.specs.Header.Canonical.{header_kind, is_canonical_head
 ghost use Rattle.gix_date.specs.Header.Reading.{header_time, header_seconds};
 ghost use Rattle.gix_date.specs.Header.Text.{is_header_text_of};
 
-use crate::parsing::canonical::fast_canonical;
+mod canonical;
+
 use crate::parsing::fast::fast_header;
 use crate::parsing::fields::has_colon;
 use crate::parsing::numbers::{leading_digits, parse_int};
 use crate::parsing::offset::parse_offset_fields;
 use crate::parsing::space_words::first_words;
 use crate::time::{SecondsSinceUnixEpoch, Time, header_text};
+use canonical::fast_canonical;
 
 /// Reads the time of a commit header leniently, as gix-date does.
 ///

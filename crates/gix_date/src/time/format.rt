@@ -1,11 +1,11 @@
-//! Formats of a time by their names, and times as values of `jiff`.
+//! Formats of a time by their names.
 //!
 //! [`parse`](crate::parse) reads what these print of a year of four digits and an offset of whole minutes up to 23:59:
 //! of [`SHORT`] the midnight in UTC of that day, of [`UNIX`] from 100000000 on, and of [`RAW`] offsets in quarters of
 //! an hour up to 14:45; [`parse_with`](crate::parse_with) reads those of whole minutes up to 23:59. The day
 //! `9999-12-31`, which [`SHORT`] prints of 253402207200 at +0200, is refused by `DateConversion`: its midnight in UTC
 //! is no instant.
-ghost use Rattle.std.specs.Prelude.{◌≡◌, ◌↔◌, ◌⊎◌, Some, Err, option_map, IsTrue, IsOk, IsSome, IfOk, IfErr, IfSome};
+ghost use Rattle.std.specs.Prelude.{◌≡◌, ◌↔◌, ◌⊎◌, Some, Err, option_map, IsTrue, IsSome, IfSome};
 ghost use Rattle.jiff.specs.Words.{plain_zoned};
 ghost use Rattle.jiff.specs.ZonedText.{zoned_parts};
 ghost use Rattle.jiff_core.specs.Date.{weekday_of};
@@ -24,9 +24,8 @@ use crate::time::named::{
     ISO8601_STRICT_PATTERN, RFC2822_PATTERN, SHORT_PATTERN, copy_text, named_text, short_buf,
 };
 use crate::time::{Time, header_text};
+use jiff::Zoned;
 use jiff::fmt::strtime::{BrokenDownTime, Config, to_string};
-use jiff::tz::Offset;
-use jiff::{Timestamp, Zoned};
 use std::alloc::Global;
 
 /// What a time is printed as.
@@ -165,9 +164,6 @@ fn is_memory(error: &Error) -> bool
 }
 
 impl Time {
-    ghost use Rattle.gix_date.specs.Fields.Zoned.{IsConvertible, IsMoment};
-    ghost use Rattle.gix_date.specs.declared.error.Error.TheVariants.{Conversion};
-
     /// The text of this time in a format: the seconds in decimal, the text of a commit header, or what `jiff`'s strict
     /// printer shows of [`Time::to_zoned`] by the pattern.
     ///
@@ -278,23 +274,5 @@ impl Time {
             return Err(Error::OffsetTooWide);
         };
         copy_text(alloc, text.as_str())
-    }
-
-    /// This instant, in the zone that always has this offset.
-    ///
-    /// [`Error::Conversion`] where the offset is beyond 93599 seconds (25:59:59) either way, or the seconds are outside
-    /// -377705023201 to 253402207200, the instants of `jiff`, and nowhere else.
-    pub fn to_zoned(self) -> Result<Zoned<'static>, Error>
-        ensures succeeds { IsOk result ↔ IsConvertible self }
-        ensures value { IfOk result (IsMoment self) }
-        ensures refuses { IfErr result (λ e. e ≡ Conversion) }
-    {
-        let Ok(offset) = Offset::from_seconds(self.offset) else {
-            return Err(Error::Conversion);
-        };
-        match Timestamp::from_second(self.seconds) {
-            Ok(instant) => Ok(instant.to_zoned(offset.to_time_zone())),
-            Err(_) => Err(Error::Conversion),
-        }
     }
 }

@@ -1,22 +1,15 @@
 //! The text of a time in a commit header.
-ghost use Rattle.std.specs.Prelude.{◌≡◌, ◌+◌, ◌<◌, ◌≤◌, ◌∷◌, ◌++◌, length, unsigned_abs, None, Err, IfSome, option_map};
+ghost use Rattle.std.specs.Prelude.{◌≡◌, ◌+◌, ◌≤◌, length, None, Err, IfSome, option_map};
 ghost use Rattle.std.specs.Fmt.{decimal, fmt_error, DisplaysOnOk, DisplaysStyledOnOk};
-ghost use Rattle.arrayvec.specs.ArrayString.{array_string_len};
-ghost use Rattle.gix_date.specs.Text.Numbers.{decimal_text, two_digits};
-ghost use Rattle.gix_date.specs.Fields.ClockNumbers.{hours_in, minutes_in};
+ghost use Rattle.gix_date.specs.Text.Numbers.{decimal_text};
 ghost use Rattle.gix_date.specs.Header.Text.{header_text, max_text_len, Writes};
-ghost use Rattle.gix_date.specs.Fields.Offsets.{offset_sign};
 
+use crate::clock::{push_hours, push_minutes};
 use crate::device::{Sink, put_all};
 use crate::error::Error;
-use crate::time::{
-    OffsetInSeconds, SECONDS_PER_HOUR, SECONDS_PER_MINUTE, SecondsSinceUnixEpoch, Time,
-};
+use crate::time::{HUNDRED_HOURS, SecondsSinceUnixEpoch, Time};
 use arrayvec::ArrayString;
 use std::fmt;
-
-/// The least distance from UTC, in seconds, that two digits of hours cannot say.
-const HUNDRED_HOURS: u32 = 100 * SECONDS_PER_HOUR as u32;
 
 /// The most bytes that the text of a time has: those of the least seconds with an offset.
 pub(crate) const MAX_TEXT_LEN: usize = 26;
@@ -112,40 +105,4 @@ pub(crate) fn header_text(time: Time) -> Option<ArrayString<MAX_TEXT_LEN>>
     push_hours(&mut text, time.offset);
     push_minutes(&mut text, time.offset);
     Some(text)
-}
-
-/// Appends the sign of an offset and two digits of its whole hours.
-#[inline(always)]
-pub(crate) fn push_hours<const CAP: usize>(text: &mut ArrayString<CAP>, offset: OffsetInSeconds)
-    requires short { unsigned_abs offset < 360000 }
-    requires room { array_string_len text.old + 3 ≤ CAP }
-    ensures bytes { text.new.bytes
-        ≡ text.old.bytes ++ offset_sign offset ∷ two_digits (hours_in (unsigned_abs offset)) }
-    ensures len { array_string_len text.new ≡ array_string_len text.old + 3 }
-{
-    let hours = offset.unsigned_abs() / SECONDS_PER_HOUR as u32;
-    text.push(if offset < 0 { '-' } else { '+' });
-    push_two_digits(text, hours as u8);
-}
-
-/// Appends two digits of the whole minutes that remain.
-#[inline(always)]
-pub(crate) fn push_minutes<const CAP: usize>(text: &mut ArrayString<CAP>, offset: OffsetInSeconds)
-    requires { array_string_len text.old + 2 ≤ CAP }
-    ensures bytes { text.new.bytes ≡ text.old.bytes ++ two_digits (minutes_in (unsigned_abs offset)) }
-    ensures len { array_string_len text.new ≡ array_string_len text.old + 2 }
-{
-    let minutes = offset.unsigned_abs() % SECONDS_PER_HOUR as u32 / SECONDS_PER_MINUTE as u32;
-    push_two_digits(text, minutes as u8);
-}
-
-/// Appends the two digits of a number below 100.
-#[inline(always)]
-pub(crate) fn push_two_digits<const CAP: usize>(text: &mut ArrayString<CAP>, n: u8)
-    requires { array_string_len text.old + 2 ≤ CAP }
-    ensures bytes { text.new.bytes ≡ text.old.bytes ++ two_digits n }
-    ensures len { array_string_len text.new ≡ array_string_len text.old + 2 }
-{
-    text.push(char::from(b'0' + n / 10));
-    text.push(char::from(b'0' + n % 10));
 }

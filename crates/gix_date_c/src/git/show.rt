@@ -2,19 +2,19 @@
 ghost use Rattle.std.specs.Prelude.{◌≡◌};
 ghost use Rattle.std.specs.Result.{result_map_both};
 ghost use Rattle.jiff.specs.Words.{plain_zone};
-ghost use Rattle.gix_date_c.specs.Buffers.{Outcome, Puts, outcome_of};
-ghost use Rattle.gix_date_c.specs.GitModes.{IsShownIn, kind_number, kind_of, local_of, mode_answer, mode_for_c, mode_of, shown_at};
+ghost use Rattle.gix_date_c.specs.Values.Buffers.{Outcome, Puts, outcome_of};
+ghost use Rattle.gix_date_c.specs.Git.Modes.{IsShownIn, kind_number, kind_of, local_of, mode_answer, mode_for_c, mode_of, shown_at};
 ghost use Rattle.gix_date_c.specs.Moments.{placed};
-ghost use Rattle.gix_date_c.specs.Stores.{Stores};
-ghost use Rattle.gix_date_c.specs.Times.{load_time};
+ghost use Rattle.gix_date_c.specs.Values.Stores.{Stores};
+ghost use Rattle.gix_date_c.specs.Values.Times.{load_time};
 ghost use Rattle.gix_date_c.specs.Zones.{IsSame, IsZone};
 
-use crate::buffer::store_text;
 use crate::moment::{CInstant, timestamp_of};
-use crate::status::Status;
-use crate::store::store;
-use crate::text::utf8_text;
-use crate::time::{CTime, load_time};
+use crate::values::buffer::store_text;
+use crate::values::status::Status;
+use crate::values::store::store;
+use crate::values::text::utf8_text;
+use crate::values::time::{CTime, load_time};
 use crate::zone::CZone;
 use git_date::{DateKind, DateMode, DateText, show_date_at};
 use gix_date::Time;

@@ -3,10 +3,10 @@ ghost use Rattle.std.specs.Prelude.{◌≡◌, MatchResult};
 ghost use Rattle.std.specs.Result.{result_map_both};
 ghost use Rattle.jiff.specs.Words.{plain_zone};
 ghost use Rattle.gix_date_c.specs.Zones.{IsCopy, IsHeld, IsHeldZone, is_file};
-ghost use Rattle.gix_date_c.specs.declared.status.Status.TheVariants.{Memory};
+ghost use Rattle.gix_date_c.specs.declared.values.status.Status.TheVariants.{Memory};
 
 use crate::moment::{rule_zone, table_of};
-use crate::status::Status;
+use crate::values::status::Status;
 use jiff::tz::{TimeZone, Tzif};
 use std::alloc::Global;
 use std::sync::Arc;

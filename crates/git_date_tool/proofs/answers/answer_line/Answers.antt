@@ -1,8 +1,8 @@
 use Rattle.std.proofs.Common.{Result, Ok, Err, refl, subst}
-use Rattle.git_date_tool.specs.Answers.{IsReply}
-use Rattle.git_date_tool.specs.Shown.{IsShown}
-use Rattle.git_date_tool.specs.declared.refusals.Refusal.{Refusal}
-use Rattle.git_date_tool.specs.declared.shown.DateLine.{DateLine}
+use Rattle.git_date_tool.specs.Answers.Replies.{IsReply}
+use Rattle.git_date_tool.specs.Answers.Shown.{IsShown}
+use Rattle.git_date_tool.specs.declared.answers.refusals.Refusal.{Refusal}
+use Rattle.git_date_tool.specs.declared.answers.shown.DateLine.{DateLine}
 use Rattle.git_date_tool.proofs.answers.answer_line.Goals as goal
 
 pub returns-in-Ok-Err : goal.returns-in-Ok-Err

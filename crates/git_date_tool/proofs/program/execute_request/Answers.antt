@@ -1,6 +1,6 @@
 use Rattle.std.proofs.Common.{inl, inr, refl}
 use Rattle.jiff.specs.ZoneView.{plain_zone}
-use Rattle.git_date_tool.specs.Command.{request_view}
+use Rattle.git_date_tool.specs.CommandLine.Command.{request_view}
 use Rattle.git_date_tool.proofs.Zoning.{starts-not, taken-is}
 use Rattle.git_date_tool.proofs.program.execute_request.Goals as goal
 

@@ -1,6 +1,6 @@
 use Rattle.std.proofs.Common.{sym}
 use Rattle.gix_date_tool.specs.Run.{change}
-use Rattle.git_date_tool.specs.Wrong.{wrong_lead, wrong_subject, wrong_text}
+use Rattle.git_date_tool.specs.CommandLine.Wrong.{wrong_lead, wrong_subject, wrong_text}
 use Rattle.git_date_tool.proofs.Reported.{tells-wrong}
 use Rattle.git_date_tool.proofs.program.tell_wrong.Goals as goal
 

@@ -1,6 +1,6 @@
 use Rattle.std.proofs.Common.{◌∙◌, ap, ℕ, ◌+◌, subst, sym, take, drop, map, string_bytes, Ok, Err}
 use Rattle.gix_date_tool.specs.Run.{change}
-use Rattle.git_date_tool.specs.Runs.{output, Answered}
+use Rattle.git_date_tool.specs.Runs.Runs.{output, Answered}
 use Rattle.git_date_tool.proofs.Answering.{Answered-more, numbered-next, texts-more, texts-around}
 use Rattle.git_date_tool.proofs.runs.run_over.Goals as goal
 

@@ -1,6 +1,6 @@
 use Rattle.std.proofs.Common.{◌≡◌, take, map, string_bytes}
 use Rattle.gix_date_tool.specs.Run.{change}
-use Rattle.git_date_tool.specs.Runs.{output, Answered}
+use Rattle.git_date_tool.specs.Runs.Runs.{output, Answered}
 use Rattle.git_date_tool.proofs.runs.run_over.Given as goal
 
 -- the texts so far were answered

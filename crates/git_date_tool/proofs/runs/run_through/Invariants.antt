@@ -1,8 +1,8 @@
 use Rattle.std.proofs.Common.{◌≡◌, ◌≤◌, ◌-◌, length}
 use Rattle.gix_date_tool.specs.Run.{change}
-use Rattle.gix_date_tool.specs.declared.lines.TheConstants.{MAX_LINES}
-use Rattle.git_date_tool.specs.Reading.{cursor}
-use Rattle.git_date_tool.specs.Runs.{output}
+use Rattle.gix_date_tool.specs.declared.runs.lines.TheConstants.{MAX_LINES}
+use Rattle.git_date_tool.specs.Runs.Reading.{cursor}
+use Rattle.git_date_tool.specs.Runs.Runs.{output}
 use Rattle.git_date_tool.proofs.Following.{Far}
 use Rattle.git_date_tool.proofs.runs.run_through.Given as goal
 

@@ -1,7 +1,7 @@
 use Rattle.std.proofs.Common.{◌≡◌, ◌∙◌, ◌+◌, [], ◌++◌, length, codes, refl, sym, ap}
 use Rattle.std.proofs.Math.Nat.{zero-add}
 use Rattle.std.proofs.lemmas.List.{length-append}
-use Rattle.gix_date_c.specs.Buffers.{with_text}
+use Rattle.gix_date_c.specs.Values.Buffers.{with_text}
 use Rattle.gix_date_c.proofs.Pieces.{piece-after, five-pieces}
 use Rattle.gix_date_c.proofs.signature.put_line.Goals as goal
 

@@ -1,5 +1,5 @@
 use Rattle.gix_date.proofs.Relative.FixedZones.{all-loss}
-use Rattle.gix_date_laws.proofs.ClockDays.{keeps-clock}
+use Rattle.gix_date_laws.proofs.Pairs.ClockDays.{keeps-clock}
 use Rattle.gix_date_laws.proofs.any_zone.days_keep_clock.Goals as goal
 
 pub returns : goal.returns

@@ -1,4 +1,4 @@
-use Rattle.gix_date_laws.proofs.LaterInstants.{long-none-later, months-none-later}
+use Rattle.gix_date_laws.proofs.Pairs.LaterInstants.{long-none-later, months-none-later}
 use Rattle.gix_date_laws.proofs.any_zone.long_none_later.Goals as goal
 
 pub returns-clause-hours : goal.returns-clause-hours

@@ -1,4 +1,4 @@
-use Rattle.gix_date_laws.proofs.NamedInstants.{now-names, today-names, yesterday-names}
+use Rattle.gix_date_laws.proofs.Pairs.NamedInstants.{now-names, today-names, yesterday-names}
 use Rattle.gix_date_laws.proofs.any_zone.named_instants.Goals as goal
 
 pub returns-clause-now : goal.returns-clause-now

@@ -1,6 +1,6 @@
 use Rattle.jiff.specs.Words.{zoned_nanos}
 use Rattle.gix_date.specs.Relative.Steps.{zone_of}
-use Rattle.gix_date_laws.proofs.LaterInstants.{none-later}
+use Rattle.gix_date_laws.proofs.Pairs.LaterInstants.{none-later}
 use Rattle.gix_date_laws.proofs.any_zone.none_later.Goals as goal
 
 pub returns : goal.returns

@@ -1,5 +1,6 @@
 use Rattle.gix_date.specs.Relative.Steps.{zone_of}
-use Rattle.gix_date_laws.proofs.LaterInstants.{fixed-keeps, fixed-none-later}
+use Rattle.gix_date.proofs.Relative.FixedSteps.{fixed-keeps}
+use Rattle.gix_date_laws.proofs.Pairs.LaterInstants.{fixed-none-later}
 use Rattle.gix_date_laws.proofs.any_zone.one_offset.Goals as goal
 
 pub returns-clause-keeps : goal.returns-clause-keeps

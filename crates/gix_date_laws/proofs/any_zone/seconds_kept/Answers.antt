@@ -1,5 +1,6 @@
 use Rattle.gix_date.proofs.Relative.FixedZones.{all-loss}
-use Rattle.gix_date_laws.proofs.KeptInstants.{kept-names-sum, kept-names-before}
+use Rattle.gix_date.proofs.Relative.FixedTimes.{kept-names-before}
+use Rattle.gix_date.proofs.Relative.KeptInstants.{kept-names-sum}
 use Rattle.gix_date_laws.proofs.any_zone.seconds_kept.Goals as goal
 
 pub returns-clause-sum : goal.returns-clause-sum

@@ -1,4 +1,4 @@
-use Rattle.gix_date_laws.proofs.ClockDays.{same-seconds, day-agrees, week-agrees}
+use Rattle.gix_date_laws.proofs.Pairs.ClockDays.{same-seconds, day-agrees, week-agrees}
 use Rattle.gix_date_laws.proofs.any_zone.units_agree.Goals as goal
 
 pub returns-clause-alike : goal.returns-clause-alike

@@ -1,4 +1,4 @@
-use Rattle.gix_date_laws.proofs.KeptInstants.{kept-yesterday}
+use Rattle.gix_date.proofs.Relative.KeptInstants.{kept-yesterday}
 use Rattle.gix_date_laws.proofs.any_zone.yesterday_kept.Goals as goal
 
 pub returns : goal.returns

@@ -1,4 +1,4 @@
-use Rattle.gix_date_laws.proofs.CarefulCases.{parsed-too}
+use Rattle.gix_date_laws.proofs.Whole.Cases.{parsed-too}
 use Rattle.gix_date_laws.proofs.careful.careful_is_parsed.Goals as goal
 
 pub returns : goal.returns

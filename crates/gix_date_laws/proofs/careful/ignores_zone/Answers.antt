@@ -1,4 +1,4 @@
-use Rattle.gix_date_laws.proofs.CarefulCases.{no-zone}
+use Rattle.gix_date_laws.proofs.Whole.Cases.{no-zone}
 use Rattle.gix_date_laws.proofs.careful.ignores_zone.Goals as goal
 
 pub returns : goal.returns

@@ -1,4 +1,4 @@
-use Rattle.gix_date_laws.proofs.CarefulCases.{one-careful-outcome}
+use Rattle.gix_date_laws.proofs.Whole.Cases.{one-careful-outcome}
 use Rattle.gix_date_laws.proofs.careful.one_careful_outcome.Goals as goal
 
 pub returns : goal.returns

@@ -1,4 +1,4 @@
-use Rattle.gix_date_laws.proofs.CarefulCases.{reads-git}
+use Rattle.gix_date_laws.proofs.Whole.Cases.{reads-git}
 use Rattle.gix_date_laws.proofs.careful.reads_git.Goals as goal
 
 pub returns : goal.returns

@@ -1,4 +1,4 @@
-use Rattle.gix_date_laws.proofs.CarefulNumbers.{reads-numbers, refuses-late, reads-after-at}
+use Rattle.gix_date_laws.proofs.Whole.Seconds.{reads-numbers, refuses-late, reads-after-at}
 use Rattle.gix_date_laws.proofs.careful.reads_numbers.Goals as goal
 
 pub returns-clause-numbers : goal.returns-clause-numbers

@@ -1,4 +1,4 @@
-use Rattle.gix_date_laws.proofs.CarefulGrammar.{reads}
+use Rattle.gix_date_laws.proofs.Clear.Grammar.{reads}
 use Rattle.gix_date_laws.proofs.careful.reads_pairs.Goals as goal
 
 pub returns : goal.returns

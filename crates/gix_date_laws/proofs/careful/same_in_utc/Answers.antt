@@ -1,4 +1,4 @@
-use Rattle.gix_date_laws.proofs.CarefulInUtc.{alike-in-utc}
+use Rattle.gix_date_laws.proofs.Whole.InUtc.{alike-in-utc}
 use Rattle.gix_date_laws.proofs.careful.same_in_utc.Goals as goal
 
 pub returns : goal.returns

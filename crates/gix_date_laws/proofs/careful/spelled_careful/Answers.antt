@@ -1,6 +1,6 @@
 use Rattle.gix_date.specs.Families.Raw.{allows}
-use Rattle.gix_date_laws.proofs.CarefulAnswers.{answers-pairs}
-use Rattle.gix_date_laws.proofs.CarefulGrammar.{careful-spelled}
+use Rattle.gix_date_laws.proofs.Clear.Dates.{answers-pairs}
+use Rattle.gix_date_laws.proofs.Clear.Grammar.{careful-spelled}
 use Rattle.gix_date_laws.proofs.careful.spelled_careful.Goals as goal
 
 pub returns-clause-so : goal.returns-clause-so

@@ -1,4 +1,4 @@
-use Rattle.gix_date_laws.proofs.WholeClocks.{whole-so}
+use Rattle.gix_date_laws.proofs.Whole.Clocks.{whole-so}
 use Rattle.gix_date_laws.proofs.careful.spelled_clock.Goals as goal
 
 pub returns : goal.returns

@@ -1,4 +1,4 @@
-use Rattle.gix_date_laws.proofs.CarefulReading.{unzoned-so}
+use Rattle.gix_date_laws.proofs.Whole.Reading.{unzoned-so}
 use Rattle.gix_date_laws.proofs.careful.spelled_unzoned.Goals as goal
 
 pub returns : goal.returns

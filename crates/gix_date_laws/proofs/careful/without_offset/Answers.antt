@@ -1,5 +1,5 @@
 use Rattle.gix_date.specs.Families.Raw.{allows}
-use Rattle.gix_date_laws.proofs.CarefulReading.{answers-unzoned}
+use Rattle.gix_date_laws.proofs.Whole.Reading.{answers-unzoned}
 use Rattle.gix_date_laws.proofs.careful.without_offset.Goals as goal
 
 pub returns : goal.returns

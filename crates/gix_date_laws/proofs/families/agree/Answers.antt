@@ -1,5 +1,5 @@
 use Rattle.gix_date.specs.Families.Raw.{allows}
-use Rattle.gix_date_laws.proofs.Agreement.{iso8601-git, strict-git}
+use Rattle.gix_date_laws.proofs.Shared.Agreement.{iso8601-git, strict-git}
 use Rattle.gix_date_laws.proofs.families.agree.Goals as goal
 
 pub returns-clause-iso8601 : goal.returns-clause-iso8601

@@ -1,22 +1,29 @@
+use Rattle.gix_date.specs.Families.Patterns.{short_answer, rfc2822_answer, iso8601_answer, gitoxide_answer, default_answer, short_layout, rfc2822_layout, iso8601_layout, gitoxide_layout, default_layout, real_day_answer, time_answer}
 use Rattle.gix_date.specs.Families.Raw.{allows}
-use Rattle.gix_date_laws.proofs.LetterCase.{relative-case}
-use Rattle.gix_date_laws.proofs.DateCase.{day-case, rfc2822-case, iso8601-case, gitoxide-case, default-case}
+use Rattle.gix_date_laws.proofs.Letters.LetterCase.{relative-case}
+use Rattle.gix_date_laws.proofs.Letters.DateCase.{layout-low}
 use Rattle.gix_date_laws.proofs.families.any_case.Goals as goal
+use Rattle.std.proofs.Common.{refl}
 
 pub returns-clause-relative : goal.returns-clause-relative
 returns-clause-relative c = relative-case (allows c.args.raw) c.args.text.now c.utf8.text
 
 pub returns-clause-day : goal.returns-clause-day
-returns-clause-day c = day-case (allows c.args.raw) c.args.text.now
+unfolding short_answer
+returns-clause-day c = layout-low short_layout real_day_answer c.args.text.now refl
 
 pub returns-clause-rfc2822 : goal.returns-clause-rfc2822
-returns-clause-rfc2822 c = rfc2822-case (allows c.args.raw) c.args.text.now
+unfolding rfc2822_answer
+returns-clause-rfc2822 c = layout-low rfc2822_layout time_answer c.args.text.now refl
 
 pub returns-clause-iso8601 : goal.returns-clause-iso8601
-returns-clause-iso8601 c = iso8601-case (allows c.args.raw) c.args.text.now
+unfolding iso8601_answer
+returns-clause-iso8601 c = layout-low iso8601_layout time_answer c.args.text.now refl
 
 pub returns-clause-gitoxide : goal.returns-clause-gitoxide
-returns-clause-gitoxide c = gitoxide-case (allows c.args.raw) c.args.text.now
+unfolding gitoxide_answer
+returns-clause-gitoxide c = layout-low gitoxide_layout time_answer c.args.text.now refl
 
 pub returns-clause-default : goal.returns-clause-default
-returns-clause-default c = default-case (allows c.args.raw) c.args.text.now
+unfolding default_answer
+returns-clause-default c = layout-low default_layout time_answer c.args.text.now refl

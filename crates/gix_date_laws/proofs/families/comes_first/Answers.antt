@@ -1,5 +1,5 @@
 use Rattle.gix_date.specs.Families.Raw.{allows}
-use Rattle.gix_date_laws.proofs.Agreement.{comes-first}
+use Rattle.gix_date_laws.proofs.Shared.Agreement.{comes-first}
 use Rattle.gix_date_laws.proofs.families.comes_first.Goals as goal
 
 pub returns : goal.returns

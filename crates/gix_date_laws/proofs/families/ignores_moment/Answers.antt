@@ -1,5 +1,5 @@
 use Rattle.gix_date.specs.Families.Raw.{allows}
-use Rattle.gix_date_laws.proofs.FirstFamily.{ignores}
+use Rattle.gix_date_laws.proofs.Shared.FirstFamily.{ignores}
 use Rattle.gix_date_laws.proofs.families.ignores_moment.Goals as goal
 
 pub returns : goal.returns

@@ -1,4 +1,4 @@
-use Rattle.gix_date_laws.proofs.Overlaps.{are-overlapping}
+use Rattle.gix_date_laws.proofs.Shared.Overlaps.{are-overlapping}
 use Rattle.gix_date_laws.proofs.families.overlapping.Goals as goal
 
 pub returns : goal.returns

@@ -1,4 +1,4 @@
-use Rattle.gix_date_laws.proofs.GitGrammar.{git-spelled}
+use Rattle.gix_date_laws.proofs.Git.Grammar.{git-spelled}
 use Rattle.gix_date_laws.proofs.families.spelled_git.Goals as goal
 
 pub returns : goal.returns

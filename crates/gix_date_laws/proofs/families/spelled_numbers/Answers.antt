@@ -1,5 +1,5 @@
 use Rattle.gix_date.specs.Families.Raw.{allows}
-use Rattle.gix_date_laws.proofs.Grammars.{at-spelled, epoch-spelled, raw-spelled}
+use Rattle.gix_date_laws.proofs.Numbers.Grammars.{at-spelled, epoch-spelled, raw-spelled}
 use Rattle.gix_date_laws.proofs.families.spelled_numbers.Goals as goal
 
 pub returns-clause-at_text : goal.returns-clause-at_text

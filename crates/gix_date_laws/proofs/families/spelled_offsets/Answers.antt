@@ -1,4 +1,4 @@
-use Rattle.gix_date_laws.proofs.OffsetTexts.{compact-spelled, colon-spelled, mail-spelled}
+use Rattle.gix_date_laws.proofs.Numbers.OffsetTexts.{compact-spelled, colon-spelled, mail-spelled}
 use Rattle.gix_date_laws.proofs.families.spelled_offsets.Goals as goal
 
 pub returns-clause-digits : goal.returns-clause-digits

@@ -1,5 +1,5 @@
 use Rattle.gix_date.specs.Families.Raw.{allows}
-use Rattle.gix_date_laws.proofs.AroundTexts.{git-around, relative-around, raw-around, header-around}
+use Rattle.gix_date_laws.proofs.Numbers.AroundTexts.{git-around, relative-around, raw-around, header-around}
 use Rattle.gix_date_laws.proofs.families.trimmed.Goals as goal
 
 pub returns-clause-git : goal.returns-clause-git

@@ -1,4 +1,4 @@
-use Rattle.gix_date_laws.proofs.WiderRules.{is-widened}
+use Rattle.gix_date_laws.proofs.Shared.WiderRules.{is-widened}
 use Rattle.gix_date_laws.proofs.families.widened.Goals as goal
 
 pub returns : goal.returns

@@ -1,5 +1,5 @@
 use Rattle.gix_date.specs.Families.Raw.{allows}
-use Rattle.gix_date_laws.proofs.ShortBack.{short-back}
+use Rattle.gix_date_laws.proofs.Printing.ShortBack.{short-back}
 use Rattle.gix_date_laws.proofs.formats.short_read_back.Goals as goal
 
 pub returns : goal.returns

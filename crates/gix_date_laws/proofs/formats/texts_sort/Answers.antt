@@ -1,4 +1,4 @@
-use Rattle.gix_date_laws.proofs.SortedTexts.{texts-sort}
+use Rattle.gix_date_laws.proofs.Printing.SortedTexts.{texts-sort}
 use Rattle.gix_date_laws.proofs.formats.texts_sort.Goals as goal
 
 pub returns : goal.returns

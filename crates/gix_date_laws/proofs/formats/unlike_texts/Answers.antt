@@ -1,4 +1,4 @@
-use Rattle.gix_date_laws.proofs.PrintedTexts.{unlike-texts}
+use Rattle.gix_date_laws.proofs.Printing.PrintedTexts.{unlike-texts}
 use Rattle.gix_date_laws.proofs.formats.unlike_texts.Goals as goal
 
 pub returns : goal.returns

@@ -1,5 +1,5 @@
 use Rattle.gix_date.specs.Families.Raw.{allows}
-use Rattle.gix_date_laws.proofs.RawHeaders.{raw-header, canonical-raw}
+use Rattle.gix_date_laws.proofs.Numbers.RawHeaders.{raw-header, canonical-raw}
 use Rattle.gix_date_laws.proofs.headers.raw_is_header.Goals as goal
 
 pub returns-clause-read : goal.returns-clause-read

@@ -1,5 +1,5 @@
-use Rattle.gix_date_laws.proofs.Parity.{by-parity}
-use Rattle.gix_date_laws.proofs.RelativeGrammar.{relative-spelled}
+use Rattle.gix_date_laws.proofs.Pairs.Parity.{by-parity}
+use Rattle.gix_date_laws.proofs.Pairs.Grammar.{relative-spelled}
 use Rattle.gix_date_laws.proofs.relative.spelled_relative.Goals as goal
 
 pub returns-clause-so : goal.returns-clause-so

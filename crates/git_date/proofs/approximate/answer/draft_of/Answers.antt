@@ -11,20 +11,20 @@ use Rattle.git_date.proofs.approximate.answer.draft_of.Goals as goal
 pub tokens-init : goal.tokens-init
 unfolding draft_of
 tokens-init c =
-    subst (λ (d : Draft). Left (step (choices_of (zone_of c.args.moment)) c.args.today) (draft_of (choices_of (zone_of c.args.moment)) c.args.today c.args.text.now) c.args.text.now d) (sym c.first-draft.ensures)
-    (left-all (step (choices_of (zone_of c.args.moment)) c.args.today) c.args.text.now (first_draft c.args.today.shown))
+    subst (λ (d : Draft). Left (step (choices_of (zone_of c.args.moment)) c.args.today.now) (draft_of (choices_of (zone_of c.args.moment)) c.args.today.now c.args.text.now) c.args.text.now d) (sym c.first-draft.ensures)
+    (left-all (step (choices_of (zone_of c.args.moment)) c.args.today.now) c.args.text.now (first_draft c.args.today.now.shown))
 
 pub tokens-preserved : goal.tokens-preserved
 tokens-preserved c =
-    left-next (step (choices_of (zone_of c.args.moment)) c.args.today) (draft_of (choices_of (zone_of c.args.moment)) c.args.today c.args.text.now) c.tokens.rest.now c.in-Some.after.now c.in-Ok.step.1.now c.tokens.draft c.in-Ok.step.0
+    left-next (step (choices_of (zone_of c.args.moment)) c.args.today.now) (draft_of (choices_of (zone_of c.args.moment)) c.args.today.now c.args.text.now) c.tokens.rest.now c.in-Some.after.now c.in-Ok.step.1.now c.tokens.draft c.in-Ok.step.0
     (token_of c.in-Some.token) c.tokens.invariant c.in-Some.ensures.tokens c.in-Some.ensures.shorter
-    (draft-next (choices_of (zone_of c.args.moment)) c.args.today c.tokens.draft c.in-Ok.step.0 (token_of c.in-Some.token) _ _ c.in-Ok.ensures.value) c.in-Ok.ensures.shorter
+    (draft-next (choices_of (zone_of c.args.moment)) c.args.today.now c.tokens.draft c.in-Ok.step.0 (token_of c.in-Some.token) _ _ c.in-Ok.ensures.value) c.in-Ok.ensures.shorter
 
 pub returns : goal.returns
-returns c = left-none (step (choices_of (zone_of c.args.moment)) c.args.today) (draft_of (choices_of (zone_of c.args.moment)) c.args.today c.args.text.now) c.tokens.rest.now c.tokens.draft c.tokens.invariant c.in_default.ensures.tokens
+returns c = left-none (step (choices_of (zone_of c.args.moment)) c.args.today.now) (draft_of (choices_of (zone_of c.args.moment)) c.args.today.now c.args.text.now) c.tokens.rest.now c.tokens.draft c.tokens.invariant c.in_default.ensures.tokens
 
 pub returns-in-Err : goal.returns-in-Err
 returns-in-Err c =
-    left-ends (step (choices_of (zone_of c.args.moment)) c.args.today) (draft_of (choices_of (zone_of c.args.moment)) c.args.today c.args.text.now) _ c.tokens.rest.now c.in-Some.after.now c.tokens.draft (token_of c.in-Some.token)
+    left-ends (step (choices_of (zone_of c.args.moment)) c.args.today.now) (draft_of (choices_of (zone_of c.args.moment)) c.args.today.now c.args.text.now) _ c.tokens.rest.now c.in-Some.after.now c.tokens.draft (token_of c.in-Some.token)
     c.tokens.invariant c.in-Some.ensures.tokens c.in-Some.ensures.shorter
-    (draft-refused (choices_of (zone_of c.args.moment)) c.args.today c.tokens.draft (token_of c.in-Some.token) _ c.in-Err.fault c.in-Err.ensures.value)
+    (draft-refused (choices_of (zone_of c.args.moment)) c.args.today.now c.tokens.draft (token_of c.in-Some.token) _ c.in-Err.fault c.in-Err.ensures.value)

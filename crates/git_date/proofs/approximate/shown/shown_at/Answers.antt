@@ -1,10 +1,9 @@
 use Rattle.std.proofs.Common.{rules, ◌≡◌, ◌∙◌, sym, subst, ap, true, FitsSigned, w64}
 use Rattle.std.proofs.lemmas.Int.{to_z-of_z}
 use Rattle.gix_date.specs.Families.Epoch.{utc_time}
-use Rattle.gix_date.specs.Printing.LocalClocks.{clock_of}
+use Rattle.gix_date.specs.Printing.LocalClocks.{clock_of, IsShowable}
 use Rattle.gix_date.specs.declared.time.Time.{Time}
 use Rattle.git_date.specs.Approximate.Clocks.{is_shown}
-use Rattle.git_date.specs.Rules.Clocks.{local_of, held_clock, IsShowable}
 use Rattle.git_date.proofs.Guesses.Clocks.{shown-within, none-shown, a-shown}
 use Rattle.git_date.proofs.Rules.HeldClocks.{utc-showable}
 use Rattle.git_date.proofs.approximate.shown.shown_at.Goals as goal
@@ -15,8 +14,8 @@ returns-then-not-is_shown c =
     let is = simp to_z-of_z at c.is_shown.ensures in
     none-shown c.args.seconds (sym is ∙ c.if-not-is_shown.true)
 
-pub clock_of-requires : goal.clock_of-requires
-clock_of-requires c =
+pub of-requires : goal.of-requires
+of-requires c =
     let s = c.args.seconds in
     let fits : FitsSigned w64 s = search rules in
     let is = simp to_z-of_z at c.is_shown.ensures in
@@ -30,5 +29,5 @@ returns c =
     let is = simp to_z-of_z at c.is_shown.ensures in
     let yes : is_shown s ≡ true = sym is ∙ c.if-not-is_shown.false in
     let made = simp to_z-of_z at c.new.ensures in
-    let shown : local_of c.clock_of.result ≡ clock_of (utc_time s) = c.clock_of.ensures.shown ∙ ap (λ (t : Time). clock_of t) made in
-    a-shown s c.clock_of.result yes (ap held_clock shown)
+    let shown : c.of.result ≡ clock_of (utc_time s) = c.of.ensures ∙ ap (λ (t : Time). clock_of t) made in
+    a-shown s c.of.result yes (shown)

@@ -1,18 +1,17 @@
 use Rattle.std.proofs.Common.{◌≡◌, ◌∙◌, pos, unsigned_abs, ap, sym}
 use Rattle.std.proofs.lemmas.List.Sorted.{All-permutation, IsPermutation-sym, sum_by-IsPermutation}
-use Rattle.jiff.specs.Words.{plain_zoned, zoned_nanos}
+use Rattle.jiff.specs.Words.{zoned_nanos}
 use Rattle.gix_date.specs.Relative.FixedZones.{ProductFits, product, total}
 use Rattle.gix_date.specs.Relative.Steps.{zone_of}
-use Rattle.gix_date.proofs.Relative.FixedSteps.{seconds-in}
 use Rattle.gix_date.proofs.Relative.FixedZones.{IsLoss, total-sum_by, same-seconds, all-loss}
+use Rattle.gix_date.proofs.Relative.KeptInstants.{fixed-way, kept-names-sum}
 use Rattle.gix_date.proofs.laws.relative.seconds_permute.Goals as goal
 
 pub returns-clause-sum : goal.returns-clause-sum
 returns-clause-sum c =
     let z = c.args.moment.now in
     let pairs = c.args.pairs.now in
-    seconds-in (zone_of z) c.requires.fixed pairs (zoned_nanos z) (all-loss pairs c.requires.pairs)
-    (plain_zoned z).timestamp.in_range
+    kept-names-sum z pairs (fixed-way (zone_of z) c.requires.fixed pairs (zoned_nanos z)) (all-loss pairs c.requires.pairs)
 
 pub returns-clause-order : goal.returns-clause-order
 returns-clause-order c other h =
@@ -22,8 +21,7 @@ returns-clause-order c other h =
     let other_loss = All-permutation IsLoss pairs other h loss in
     let sums = ap pos (sum_by-IsPermutation (λ p. unsigned_abs (product p)) pairs other h) in
     let same : total other ≡ total pairs = total-sum_by other other_loss ∙ sums ∙ sym (total-sum_by pairs loss) in
-    let range = (plain_zoned z).timestamp.in_range in
+    let way = fixed-way (zone_of z) c.requires.fixed in
     same-seconds (zone_of z) pairs other (zoned_nanos z) same
     (All-permutation ProductFits pairs other h, All-permutation ProductFits other pairs (IsPermutation-sym pairs other h))
-    (seconds-in (zone_of z) c.requires.fixed pairs (zoned_nanos z) loss range)
-    (seconds-in (zone_of z) c.requires.fixed other (zoned_nanos z) other_loss range)
+    (kept-names-sum z pairs (way pairs (zoned_nanos z)) loss) (kept-names-sum z other (way other (zoned_nanos z)) other_loss)

@@ -1,0 +1,189 @@
+//! What clocks show: the day of the week, the date and the time of day, and their texts.
+ghost use Rattle.std.specs.Prelude.{◌≡◌, ◌≤◌, ◌<◌, ◌%◌, pos, unsigned_abs, FitsSigned};
+ghost use Rattle.std.specs.Int.{IsInRange, w64};
+ghost use Rattle.jiff_core.specs.Calendar.{IsEpochDay, weekday_number};
+ghost use Rattle.gix_date.specs.Fields.ClockNumbers.{hours_in, minutes_in, seconds_per_minute};
+ghost use Rattle.gix_date.specs.Header.Text.{hundred_hours};
+ghost use Rattle.gix_date.specs.Printing.LocalClocks.{clock_of, local_seconds, IsShowable};
+
+mod pieces;
+mod texts;
+
+use crate::civil::{ClockFields, DateFields};
+use crate::time::{
+    OffsetInSeconds, SECONDS_PER_DAY, SECONDS_PER_HOUR, SECONDS_PER_MINUTE, SecondsSinceUnixEpoch,
+    Time,
+};
+use jiff_core::civil::Date;
+pub use pieces::{
+    push_clock, push_colon_offset, push_date, push_day, push_hours, push_minutes, push_month,
+    push_offset, push_two_digits, push_weekday, push_year,
+};
+use std::marker::Model;
+pub use texts::{
+    push_bare_default, push_default, push_git_rfc2822, push_gitoxide, push_iso8601,
+    push_iso8601_strict, push_rfc2822,
+};
+
+/// What the clock of a time shows in a year of four digits, at an offset below 100 hours. Contracts see it as a `LocalTime`.
+#[derive(Clone, Copy)]
+pub struct Clock {
+    weekday: u8,
+    date: DateFields,
+    clock: ClockFields,
+    offset: OffsetInSeconds,
+}
+
+impl Model for Clock {
+    ghost use Rattle.gix_date.specs.Fields.Layout.{LocalTime};
+    ghost use Rattle.gix_date.specs.Printing.LocalClocks.{HasFields};
+
+    ghost Value = { LocalTime };
+
+    ghost view = { λ c. record { weekday = c.weekday; date = c.date; clock = c.clock; offset = c.offset } };
+
+    ghost invariant = { λ c. HasFields (record { weekday = c.weekday; date = c.date; clock = c.clock; offset = c.offset }) };
+
+    ghost inverse = { λ t. record { weekday = t.weekday; date = t.date; clock = t.clock; offset = t.offset } };
+}
+
+/// The seconds that a time's own clock has counted since 1970-01-01 00:00:00.
+#[inline(always)]
+pub fn local_seconds(time: Time) -> SecondsSinceUnixEpoch
+    requires { FitsSigned w64 (local_seconds time) }
+    ensures { result ≡ local_seconds time }
+{
+    time.seconds + SecondsSinceUnixEpoch::from(time.offset)
+}
+
+/// The day of the week of a day number, from 0 for Monday.
+#[inline(always)]
+#[tactic(auto, unfolding(jiff_core::specs::Calendar::weekday_number))]
+fn weekday_of(day: i64) -> u8
+    requires { IsEpochDay day }
+    ensures { result ≡ weekday_number day }
+{
+    (day + 3).rem_euclid(7) as u8
+}
+
+/// The clock that shows so many seconds of a day.
+#[inline(always)]
+fn clock_at(second: u32) -> ClockFields
+    requires { second < 86400 }
+    ensures hour { result.hour ≡ hours_in second }
+    ensures minute { result.minute ≡ minutes_in second }
+    ensures second { result.second ≡ second % seconds_per_minute }
+    ensures small { (result.hour < 24) × (result.minute < 60) × (result.second < 60) }
+{
+    ClockFields {
+        hour: (second / SECONDS_PER_HOUR as u32) as u8,
+        minute: (second % SECONDS_PER_HOUR as u32 / SECONDS_PER_MINUTE as u32) as u8,
+        second: (second % SECONDS_PER_MINUTE as u32) as u8,
+    }
+}
+
+impl Clock {
+    /// What a time's own clock shows, for the years from 1000 to 9999 and an offset below 100 hours. Takes no memory.
+    #[inline(always)]
+    pub fn of(time: Time) -> Clock
+        requires { IsShowable time }
+        ensures { result ≡ clock_of time }
+    {
+        let local = local_seconds(time);
+        let day = local.div_euclid(SECONDS_PER_DAY);
+        let Ok(date) = Date::from_unix_epoch_day(day) else {
+            unreachable!();
+        };
+        Clock {
+            weekday: weekday_of(day),
+            date: DateFields {
+                year: date.year.unsigned_abs(),
+                month: date.month,
+                day: date.day,
+            },
+            clock: clock_at(local.rem_euclid(SECONDS_PER_DAY) as u32),
+            offset: time.offset,
+        }
+    }
+
+    /// The same clock with another offset, in seconds east of UTC.
+    #[inline(always)]
+    pub fn with_offset(self, offset: OffsetInSeconds) -> Clock
+        requires { unsigned_abs offset < hundred_hours }
+        ensures { result ≡ record self { offset = offset } }
+    {
+        Clock { offset, ..self }
+    }
+
+    /// The day of the week, from 0 for Monday.
+    #[inline(always)]
+    pub fn weekday(self) -> u8
+        ensures value { result ≡ self.weekday }
+        ensures small { result < 7 }
+    {
+        self.weekday
+    }
+
+    /// The year, of four digits.
+    #[inline(always)]
+    pub fn year(self) -> u16
+        ensures value { result ≡ self.date.year }
+        ensures small { result ≤ 9999 }
+    {
+        self.date.year
+    }
+
+    /// The month, from 1 for January.
+    #[inline(always)]
+    pub fn month(self) -> u8
+        ensures value { result ≡ self.date.month }
+        ensures small { IsInRange 1 12 result }
+    {
+        self.date.month
+    }
+
+    /// The day of the month, from 1.
+    #[inline(always)]
+    pub fn day(self) -> u8
+        ensures value { result ≡ self.date.day }
+        ensures small { IsInRange 1 31 result }
+    {
+        self.date.day
+    }
+
+    /// The hour of the day, from 0 to 23.
+    #[inline(always)]
+    pub fn hour(self) -> u8
+        ensures value { result ≡ self.clock.hour }
+        ensures small { result < 24 }
+    {
+        self.clock.hour
+    }
+
+    /// The minute of the hour, from 0 to 59.
+    #[inline(always)]
+    pub fn minute(self) -> u8
+        ensures value { result ≡ self.clock.minute }
+        ensures small { result < 60 }
+    {
+        self.clock.minute
+    }
+
+    /// The second of the minute, from 0 to 59.
+    #[inline(always)]
+    pub fn second(self) -> u8
+        ensures value { result ≡ self.clock.second }
+        ensures small { result < 60 }
+    {
+        self.clock.second
+    }
+
+    /// The offset, in seconds east of UTC, below 100 hours either way.
+    #[inline(always)]
+    pub fn offset(self) -> OffsetInSeconds
+        ensures value { result ≡ self.offset }
+        ensures small { unsigned_abs result < hundred_hours }
+    {
+        self.offset
+    }
+}

@@ -1,0 +1,154 @@
+//! The texts of a clock by the named formats, each appended to a buffer of any capacity.
+ghost use Rattle.std.specs.Prelude.{◌≡◌, ◌+◌, ◌≤◌, ◌∷◌, ◌++◌, []};
+ghost use Rattle.arrayvec.specs.ArrayString.{array_string_len};
+ghost use Rattle.gix_date.specs.Text.Characters.{comma, space};
+ghost use Rattle.gix_date.specs.Text.Names.{day_name, month_name};
+ghost use Rattle.gix_date.specs.Fields.FieldTexts.{four_digits, clock_text};
+ghost use Rattle.gix_date.specs.Fields.Offsets.{compact_offset_text};
+ghost use Rattle.gix_date.specs.Printing.NamedTexts.{rfc2822_text, git_rfc2822_text, iso8601_text, iso8601_strict_text, gitoxide_text, default_text, bare_default_text};
+
+use crate::clock::Clock;
+use crate::clock::pieces::{
+    push_clock, push_colon_offset, push_date, push_day, push_month, push_offset, push_two_digits,
+    push_weekday, push_year,
+};
+use crate::names::{day_name, month_name};
+use arrayvec::ArrayString;
+
+/// Appends ` hh:mm:ss +hhmm`.
+#[inline(always)]
+fn push_clock_and_offset<const CAP: usize>(text: &mut ArrayString<CAP>, t: Clock)
+    requires { array_string_len text.old + 15 ≤ CAP }
+    ensures bytes { text.new.bytes
+        ≡ text.old.bytes ++ space ∷ clock_text t.clock ++ space ∷ compact_offset_text t.offset }
+    ensures len { array_string_len text.new ≡ array_string_len text.old + 15 }
+{
+    text.push(' ');
+    push_clock(text, t);
+    push_offset(text, t.offset());
+}
+
+/// Appends `YYYY-MM-DD hh:mm:ss +hhmm`.
+#[inline(always)]
+pub fn push_iso8601<const CAP: usize>(text: &mut ArrayString<CAP>, t: Clock)
+    requires { array_string_len text.old + 25 ≤ CAP }
+    ensures bytes { text.new.bytes ≡ text.old.bytes ++ iso8601_text t }
+    ensures len { array_string_len text.new ≡ array_string_len text.old + 25 }
+{
+    push_date(text, t);
+    push_clock_and_offset(text, t);
+}
+
+/// Appends `YYYY-MM-DDThh:mm:ss+hh:mm`.
+#[inline(always)]
+pub fn push_iso8601_strict<const CAP: usize>(text: &mut ArrayString<CAP>, t: Clock)
+    requires { array_string_len text.old + 25 ≤ CAP }
+    ensures bytes { text.new.bytes ≡ text.old.bytes ++ iso8601_strict_text t }
+    ensures len { array_string_len text.new ≡ array_string_len text.old + 25 }
+{
+    push_date(text, t);
+    text.push('T');
+    push_clock(text, t);
+    push_colon_offset(text, t);
+}
+
+/// Appends ` YYYY hh:mm:ss +hhmm`.
+#[inline(always)]
+fn push_from_year<const CAP: usize>(text: &mut ArrayString<CAP>, t: Clock)
+    requires { array_string_len text.old + 20 ≤ CAP }
+    ensures bytes { text.new.bytes ≡ text.old.bytes ++ space ∷ four_digits t.date.year ++ space ∷ clock_text t.clock
+        ++ space ∷ compact_offset_text t.offset }
+    ensures len { array_string_len text.new ≡ array_string_len text.old + 20 }
+{
+    text.push(' ');
+    push_year(text, t);
+    push_clock_and_offset(text, t);
+}
+
+/// Appends ` Mmm YYYY hh:mm:ss +hhmm`.
+#[inline(always)]
+fn push_from_month<const CAP: usize>(text: &mut ArrayString<CAP>, t: Clock)
+    requires { array_string_len text.old + 24 ≤ CAP }
+    ensures bytes { text.new.bytes ≡ text.old.bytes ++ space ∷ month_name t.date.month ++ space ∷ four_digits t.date.year
+        ++ space ∷ clock_text t.clock ++ space ∷ compact_offset_text t.offset }
+    ensures len { array_string_len text.new ≡ array_string_len text.old + 24 }
+{
+    text.push(' ');
+    text.push_str(month_name(t.month()));
+    push_from_year(text, t);
+}
+
+/// Appends `Www, `.
+#[inline(always)]
+fn push_rfc2822_name<const CAP: usize>(text: &mut ArrayString<CAP>, t: Clock)
+    requires { array_string_len text.old + 5 ≤ CAP }
+    ensures bytes { text.new.bytes ≡ text.old.bytes ++ (day_name t.weekday ++ comma ∷ space ∷ []) }
+    ensures len { array_string_len text.new ≡ array_string_len text.old + 5 }
+{
+    text.push_str(day_name(t.weekday()));
+    text.push_str(", ");
+}
+
+/// Appends `Www, DD Mmm YYYY hh:mm:ss +hhmm`.
+#[inline(always)]
+pub fn push_rfc2822<const CAP: usize>(text: &mut ArrayString<CAP>, t: Clock)
+    requires { array_string_len text.old + 31 ≤ CAP }
+    ensures bytes { text.new.bytes ≡ text.old.bytes ++ rfc2822_text t }
+    ensures len { array_string_len text.new ≡ array_string_len text.old + 31 }
+{
+    push_rfc2822_name(text, t);
+    push_two_digits(text, t.day());
+    push_from_month(text, t);
+}
+
+/// Appends `Www, D Mmm YYYY hh:mm:ss +hhmm`, as Git does.
+#[inline(always)]
+pub fn push_git_rfc2822<const CAP: usize>(text: &mut ArrayString<CAP>, t: Clock)
+    requires { array_string_len text.old + 31 ≤ CAP }
+    ensures bytes { text.new.bytes ≡ text.old.bytes ++ git_rfc2822_text t }
+    ensures len { array_string_len text.new ≤ array_string_len text.old + 31 }
+{
+    push_rfc2822_name(text, t);
+    push_day(text, t);
+    push_from_month(text, t);
+}
+
+/// Appends `Www Mmm DD YYYY hh:mm:ss +hhmm`.
+#[inline(always)]
+pub fn push_gitoxide<const CAP: usize>(text: &mut ArrayString<CAP>, t: Clock)
+    requires { array_string_len text.old + 30 ≤ CAP }
+    ensures bytes { text.new.bytes ≡ text.old.bytes ++ gitoxide_text t }
+    ensures len { array_string_len text.new ≡ array_string_len text.old + 30 }
+{
+    push_weekday(text, t);
+    push_month(text, t);
+    push_two_digits(text, t.day());
+    push_from_year(text, t);
+}
+
+/// Appends `Www Mmm D hh:mm:ss YYYY`, Git's default date without its offset.
+#[inline(always)]
+pub fn push_bare_default<const CAP: usize>(text: &mut ArrayString<CAP>, t: Clock)
+    requires { array_string_len text.old + 24 ≤ CAP }
+    ensures bytes { text.new.bytes ≡ text.old.bytes ++ bare_default_text t }
+    ensures len { array_string_len text.new ≤ array_string_len text.old + 24 }
+{
+    push_weekday(text, t);
+    push_month(text, t);
+    push_day(text, t);
+    text.push(' ');
+    push_clock(text, t);
+    text.push(' ');
+    push_year(text, t);
+}
+
+/// Appends `Www Mmm D hh:mm:ss YYYY +hhmm`.
+#[inline(always)]
+pub fn push_default<const CAP: usize>(text: &mut ArrayString<CAP>, t: Clock)
+    requires { array_string_len text.old + 30 ≤ CAP }
+    ensures bytes { text.new.bytes ≡ text.old.bytes ++ default_text t }
+    ensures len { array_string_len text.new ≤ array_string_len text.old + 30 }
+{
+    push_bare_default(text, t);
+    push_offset(text, t.offset());
+}

@@ -1,0 +1,3 @@
+-- Git's dates, as C has them.
+pub mod Dates
+pub mod Modes

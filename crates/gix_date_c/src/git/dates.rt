@@ -1,0 +1,187 @@
+//! Dates as Git reads them: exactly, as people write them, and what expires.
+ghost use Rattle.std.specs.Prelude.{◌≡◌};
+ghost use Rattle.std.specs.Result.{result_map_both};
+ghost use Rattle.jiff.specs.Words.{plain_zone};
+ghost use Rattle.gix_date_c.specs.Git.Dates.{IsApproximate, IsExact, IsExpiry, approximate_of, exact_of, expiry_of};
+ghost use Rattle.gix_date_c.specs.Moments.{placed};
+ghost use Rattle.gix_date_c.specs.Reading.{IsReadAt, IsReadIn, IsReadPlaced};
+ghost use Rattle.gix_date_c.specs.Values.Stores.{StoresRead};
+ghost use Rattle.gix_date_c.specs.Zones.{IsSame, IsZone};
+
+use crate::git::{date_refusal, ignored_place};
+use crate::moment::{CInstant, timestamp_of};
+use crate::values::refusal::Refusal;
+use crate::values::status::Status;
+use crate::values::store::store_read;
+use crate::values::time::{CTime, time_for_c};
+use crate::zone::CZone;
+use git_date::{Approximate, Expiry, ReadDate, approxidate, expiry_date, parse_date_at};
+use gix_date::Zoned;
+use jiff::Timestamp;
+use jiff::tz::TimeZone;
+use std::alloc::Global;
+
+/// A date that is read exactly: `struct git_date_exact`. Its last field is a `bool` of C.
+#[repr(C)]
+#[derive(Clone, Copy)]
+pub struct CExact {
+    pub time: CTime,
+    pub ignored: usize,
+    pub has_offset: u8,
+}
+
+/// Reads a date as Git does, at a moment in a zone that C holds.
+#[unsafe(no_mangle)]
+pub extern "C" fn git_date_parse_at(
+    alloc: Global,
+    text: &[u8],
+    now: &CInstant,
+    zone: &mut CZone,
+    date: &mut CExact,
+    place: &mut usize,
+) -> u32
+    ensures read { StoresRead (IsReadPlaced IsExact (IsZone zone.old) now.now text.now)
+        (date.old, place.old) (date.new, place.new) result }
+    ensures zone { IsSame zone.old zone.new }
+{
+    let taken = zone.take(alloc);
+    let answer = read_exact(text, timestamp_of(now), taken.zone());
+    zone.give_back(alloc, taken);
+    store_read(answer, date, place)
+}
+
+/// What a text says at an instant in a zone, where there are both.
+fn read_exact(
+    text: &[u8],
+    now: Result<Timestamp, Status>,
+    zone: Result<TimeZone<'_>, Status>,
+) -> Result<CExact, Refusal>
+    ensures { IsReadAt IsExact (placed (result_map_both (λ now. now.nanosecond) (λ status. status) now)
+        (result_map_both plain_zone (λ status. status) zone.entry)) text.now result }
+{
+    let zone = zone.map_err(Refusal::of)?;
+    let now = now.map_err(Refusal::of)?;
+    match parse_date_at(text, now, zone) {
+        Ok(date) => Ok(exact_of(date)),
+        Err(error) => Err(date_refusal(error)),
+    }
+}
+
+/// A date as C has it.
+fn exact_of(date: ReadDate) -> CExact
+    ensures { result ≡ exact_of date }
+{
+    CExact {
+        time: time_for_c(date.time),
+        ignored: ignored_place(date.ignored),
+        has_offset: u8::from(date.has_offset),
+    }
+}
+
+/// A date that is read as people write it: `struct git_date_approximate`. Its last field is a `bool` of C.
+#[repr(C)]
+#[derive(Clone, Copy)]
+pub struct CApproximate {
+    pub time: CTime,
+    pub ignored: usize,
+    pub understood: u8,
+}
+
+/// Reads a date as people write it, at a moment in a zone that C holds.
+#[unsafe(no_mangle)]
+pub extern "C" fn git_date_approxidate_at(
+    alloc: Global,
+    text: &[u8],
+    now: &CInstant,
+    zone: &mut CZone,
+    date: &mut CApproximate,
+    place: &mut usize,
+) -> u32
+    ensures read { StoresRead (IsReadIn IsApproximate (IsZone zone.old) now.now text.now)
+        (date.old, place.old) (date.new, place.new) result }
+    ensures zone { IsSame zone.old zone.new }
+{
+    let taken = zone.take(alloc);
+    let answer = read_approximate(text, taken.moment(now));
+    zone.give_back(alloc, taken);
+    store_read(answer, date, place)
+}
+
+/// What a text says at a moment, where there is one.
+fn read_approximate(text: &[u8], now: Result<Zoned<'_>, Status>) -> Result<CApproximate, Refusal>
+    ensures { IsReadAt IsApproximate now.entry text.now result }
+{
+    let now = now.map_err(Refusal::of)?;
+    match approxidate(text, now) {
+        Ok(date) => Ok(approximate_of(date)),
+        Err(error) => Err(date_refusal(error)),
+    }
+}
+
+/// A date as C has it.
+fn approximate_of(date: Approximate) -> CApproximate
+    ensures { result ≡ approximate_of date }
+{
+    CApproximate {
+        time: time_for_c(date.time),
+        ignored: ignored_place(date.ignored),
+        understood: u8::from(date.understood),
+    }
+}
+
+/// What expires: `struct git_date_expiry`. The date is one only of the last kind.
+#[repr(C)]
+#[derive(Clone, Copy)]
+pub struct CExpiry {
+    pub kind: u32,
+    pub before: CApproximate,
+}
+
+/// Reads what expires, at a moment in a zone that C holds.
+#[unsafe(no_mangle)]
+pub extern "C" fn git_date_expiry_at(
+    alloc: Global,
+    text: &[u8],
+    now: &CInstant,
+    zone: &mut CZone,
+    expiry: &mut CExpiry,
+    place: &mut usize,
+) -> u32
+    ensures read { StoresRead (IsReadIn (IsExpiry expiry.old) (IsZone zone.old) now.now text.now)
+        (expiry.old, place.old) (expiry.new, place.new) result }
+    ensures zone { IsSame zone.old zone.new }
+{
+    let taken = zone.take(alloc);
+    let answer = read_expiry(text, taken.moment(now), *expiry);
+    zone.give_back(alloc, taken);
+    store_read(answer, expiry, place)
+}
+
+/// What expires by a text at a moment, where there is one. What is no date leaves the date that was there before.
+fn read_expiry(
+    text: &[u8],
+    now: Result<Zoned<'_>, Status>,
+    old: CExpiry,
+) -> Result<CExpiry, Refusal>
+    ensures { IsReadAt (IsExpiry old) now.entry text.now result }
+{
+    let now = now.map_err(Refusal::of)?;
+    match expiry_date(text, now) {
+        Ok(expiry) => Ok(expiry_of(old, expiry)),
+        Err(error) => Err(date_refusal(error)),
+    }
+}
+
+/// What expires, as C has it.
+fn expiry_of(old: CExpiry, expiry: Expiry) -> CExpiry
+    ensures { result ≡ expiry_of old expiry }
+{
+    match expiry {
+        Expiry::Never => CExpiry { kind: 0, ..old },
+        Expiry::All => CExpiry { kind: 1, ..old },
+        Expiry::Before(date) => CExpiry {
+            kind: 2,
+            before: approximate_of(date),
+        },
+    }
+}

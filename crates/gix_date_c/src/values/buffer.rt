@@ -1,0 +1,48 @@
+//! Texts that go into a buffer of the caller.
+ghost use Rattle.std.specs.Prelude.{◌≡◌, ◌+◌, ◌≤◌, ◌++◌, length, take, drop};
+ghost use Rattle.std.specs.Result.{result_map_both};
+ghost use Rattle.gix_date_c.specs.Values.Buffers.{Outcome, text_outcome, outcome_of};
+ghost use Rattle.gix_date_c.specs.Values.Statuses.{number_of};
+
+use crate::values::status::Status;
+
+/// Puts a piece into a buffer from this place on, and answers the place after it.
+pub(crate) fn put_at(out: &mut [u8], at: usize, piece: &str) -> usize
+    requires room { at + length piece.now ≤ length out.old }
+    ensures bytes { out.new ≡ take at out.old ++ (piece.now ++ drop (at + length piece.now) out.old) }
+    ensures after { result ≡ at + length piece.now }
+{
+    let after = at + piece.len();
+    out[at..after].copy_from_slice(piece.as_bytes());
+    after
+}
+
+/// Puts the text of an answer at the front of a buffer, and tells how many bytes it has and how the call ended. A
+/// refusal, and a text that the buffer is too short for, leave the buffer as it is.
+pub(crate) fn store_text(answer: Result<&str, Status>, out: &mut [u8], len: &mut usize) -> u32
+    ensures { record { bytes = out.new; len = len.new; status = result }
+        ≡ outcome_of (result_map_both (λ text. text.now) (λ status. status) answer.entry) out.old }
+{
+    match answer {
+        Ok(text) => {
+            *len = text.len();
+            put_text(text, out).number()
+        }
+        Err(status) => {
+            *len = 0;
+            status.number()
+        }
+    }
+}
+
+/// Puts a text at the front of a buffer that has room for it.
+fn put_text(text: &str, out: &mut [u8]) -> Status
+    ensures { record { bytes = out.new; len = length text.now; status = number_of result }
+        ≡ text_outcome text.now out.old }
+{
+    if text.len() > out.len() {
+        return Status::NoRoom;
+    }
+    put_at(out, 0, text);
+    Status::Done
+}

@@ -1,0 +1,18 @@
+//! Bytes that have to be text.
+ghost use Rattle.std.specs.Prelude.{◌≡◌, true, false, MatchResult};
+ghost use Rattle.std.specs.Str.{is_utf8};
+ghost use Rattle.gix_date_c.specs.declared.values.status.Status.TheVariants.{NotText};
+
+use crate::values::status::Status;
+use gix_date::bytes;
+
+/// Bytes as text, where they are UTF-8.
+pub(crate) fn utf8_text(bytes: &[u8]) -> Result<&str, Status>
+    ensures { MatchResult result (λ text. (text.now ≡ bytes.now) × (is_utf8 bytes.now ≡ true))
+        (λ status. (status ≡ NotText) × (is_utf8 bytes.now ≡ false)) }
+{
+    match bytes::text_of(bytes) {
+        Some(text) => Ok(text),
+        None => Err(Status::NotText),
+    }
+}

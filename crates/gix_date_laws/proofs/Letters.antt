@@ -1,0 +1,4 @@
+-- Letter case.
+pub mod LetterCase
+pub mod DateCase
+pub mod WhiteSpace

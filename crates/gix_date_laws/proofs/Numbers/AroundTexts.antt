@@ -1,0 +1,113 @@
+-- White space around a text changes no answer of the families that trim, nor what a header says.
+use Rattle.std.proofs.Common.{◌≡◌, ◌∙◌, ℕ, Bool, true, false, cond, List, [], ◌∷◌, length, refl, ap, sym, subst, option_map, IsUtf8, encode_utf8_all}
+use Rattle.std.proofs.lemmas.Str.{chars-encodes, scalars-chars}
+use Rattle.std.specs.Char.{is_whitespace}
+use Rattle.std.specs.List.{flat_map, list_any}
+use Rattle.std.specs.Prelude.{◌==◌, ◌&&◌}
+use Rattle.std.specs.Str.{chars, trim, trim_start, trim_end, skip_leading_whitespace, drop_trailing_whitespace}
+use Rattle.gix_date.specs.Families.Answer.{Absolute}
+use Rattle.gix_date.specs.Families.Laws.{IgnoresSpace}
+use Rattle.gix_date.specs.Families.Order.{GitForm, RelativeText, RawText}
+use Rattle.gix_date.specs.Families.Raw.{OffsetRule, raw_time_by}
+use Rattle.gix_date.specs.Git.Forms.{git_form, git_time}
+use Rattle.gix_date.specs.Header.Reading.{header_time}
+use Rattle.gix_date.specs.Relative.Dates.{pairs_date, relative_date}
+use Rattle.gix_date.specs.Relative.Words.{relative_words}
+use Rattle.gix_date.specs.Text.Characters.{has_colon}
+use Rattle.gix_date.proofs.Text.FirstWords.{trimmed-words, skip-scalars, drop-scalars}
+use Rattle.gix_date_laws.proofs.Numbers.RawHeaders.{colon-within}
+use Rattle.gix_date.proofs.Text.WordsWithin.{words-within}
+use Rattle.gix_date.proofs.Text.Trimmed.{skips-none as skip-keep}
+
+-- a character that stays
+drop-keep : (c : ℕ) (t : List ℕ) → is_whitespace c ≡ false → drop_trailing_whitespace (c ∷ t) ≡ c ∷ drop_trailing_whitespace t
+drop-keep c t e = rw e refl
+
+-- what was cut off in front is not there to be cut off again
+skip-by : (c : ℕ) (cs : List ℕ) (b : Bool) → is_whitespace c ≡ b
+    → skip_leading_whitespace (drop_trailing_whitespace (skip_leading_whitespace cs)) ≡ drop_trailing_whitespace (skip_leading_whitespace cs)
+    → skip_leading_whitespace (drop_trailing_whitespace (cond b (skip_leading_whitespace cs) (c ∷ cs)))
+    ≡ drop_trailing_whitespace (cond b (skip_leading_whitespace cs) (c ∷ cs))
+skip-by c cs true e h = h
+skip-by c cs false e h =
+    ap skip_leading_whitespace (drop-keep c cs e) ∙ skip-keep c (drop_trailing_whitespace cs) e ∙ sym (drop-keep c cs e)
+
+skip-twice : (cs : List ℕ) → skip_leading_whitespace (drop_trailing_whitespace (skip_leading_whitespace cs)) ≡ drop_trailing_whitespace (skip_leading_whitespace cs)
+skip-twice [] = refl
+skip-twice (c ∷ cs) = skip-by c cs (is_whitespace c) refl (skip-twice cs)
+
+-- nor at the end
+drop-by : (c : ℕ) (ts : List ℕ) (b : Bool) → (is_whitespace c && length ts == 0) ≡ b → drop_trailing_whitespace ts ≡ ts
+    → drop_trailing_whitespace (cond b [] (c ∷ ts)) ≡ cond b [] (c ∷ ts)
+drop-by c ts true e h = refl
+drop-by c ts false e h =
+    ap (λ (us : List ℕ). cond (is_whitespace c && length us == 0) [] (c ∷ us)) h ∙ ap (λ b. cond b [] (c ∷ ts)) e
+
+drop-twice : (cs : List ℕ) → drop_trailing_whitespace (drop_trailing_whitespace cs) ≡ drop_trailing_whitespace cs
+drop-twice [] = refl
+drop-twice (c ∷ cs) =
+    let ts = drop_trailing_whitespace cs in drop-by c ts (is_whitespace c && length ts == 0) refl (drop-twice cs)
+
+-- the characters of a trimmed text
+record Trim (text : List ℕ) : Type 0 where
+  left : List ℕ
+  is : trim text ≡ encode_utf8_all left
+  back : chars (encode_utf8_all left) ≡ left
+  utf8 : IsUtf8 (encode_utf8_all left)
+  starts : skip_leading_whitespace left ≡ left
+  ends : drop_trailing_whitespace left ≡ left
+
+trim-of : (text : List ℕ) → IsUtf8 text → Trim text
+unfolding trim_start trim_end
+trim-of text u =
+    let cs = chars text in
+    let xs = skip_leading_whitespace cs in
+    let scalars = skip-scalars cs (scalars-chars text u) in
+    let front : chars (encode_utf8_all xs) ≡ xs = chars-encodes xs scalars in
+    let ts = drop_trailing_whitespace xs in
+    let more = drop-scalars xs scalars in
+    record {
+      left = ts;
+      is = ap (λ (q : List ℕ). encode_utf8_all (drop_trailing_whitespace q)) front;
+      back = chars-encodes ts more;
+      utf8 = (ts, (more, refl));
+      starts = skip-twice cs;
+      ends = drop-twice xs;
+    }
+
+trim-utf8 : (text : List ℕ) → IsUtf8 text → IsUtf8 (trim text)
+trim-utf8 text u = let t = trim-of text u in subst IsUtf8 (sym t.is) t.utf8
+
+trim-twice : (text : List ℕ) → IsUtf8 text → trim (trim text) ≡ trim text
+unfolding trim_start trim_end
+trim-twice text u =
+    let t = trim-of text u in
+    let again : trim (encode_utf8_all t.left) ≡ encode_utf8_all t.left =
+    ap (λ (q : List ℕ). encode_utf8_all (drop_trailing_whitespace (chars (encode_utf8_all (skip_leading_whitespace q))))) t.back
+    ∙ ap (λ (q : List ℕ). encode_utf8_all (drop_trailing_whitespace (chars (encode_utf8_all q)))) t.starts
+    ∙ ap (λ (q : List ℕ). encode_utf8_all (drop_trailing_whitespace q)) t.back
+    ∙ ap encode_utf8_all t.ends in
+    ap trim t.is ∙ again ∙ sym t.is
+
+pub git-around : (rule : OffsetRule) (text : List ℕ) → IsUtf8 text → IgnoresSpace rule GitForm text
+unfolding git_time
+git-around rule text u = ap (λ (t : List ℕ). option_map Absolute (git_form t)) (trim-twice text u)
+
+pub words-around : (text : List ℕ) → IsUtf8 text → relative_words (trim text) ≡ relative_words text
+words-around text u =
+    words-within (trim text) (trim-utf8 text u) ∙ ap (flat_map relative_words) (trimmed-words text u) ∙ sym (words-within text u)
+
+pub relative-around : (rule : OffsetRule) (text : List ℕ) → IsUtf8 text → IgnoresSpace rule RelativeText text
+unfolding relative_date pairs_date
+relative-around rule text u = rw (trim-twice text u, words-around text u) refl
+
+pub raw-around : (rule : OffsetRule) (text : List ℕ) → IsUtf8 text → IgnoresSpace rule RawText text
+unfolding raw_time_by
+raw-around rule text u = rw (trimmed-words text u) refl
+
+pub header-around : (text : List ℕ) → IsUtf8 text → header_time (trim text) ≡ header_time text
+unfolding header_time
+header-around text u =
+    let same : has_colon (trim text) ≡ has_colon text =
+    colon-within (trim text) (trim-utf8 text u) ∙ ap (list_any has_colon) (trimmed-words text u) ∙ sym (colon-within text u) in
+    rw (same, trimmed-words text u) refl

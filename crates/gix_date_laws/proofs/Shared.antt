@@ -1,0 +1,5 @@
+-- Which families share texts, and whose answer comes first.
+pub mod FirstFamily
+pub mod Agreement
+pub mod Overlaps
+pub mod WiderRules

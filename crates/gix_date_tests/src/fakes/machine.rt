@@ -1,0 +1,102 @@
+//! A machine of a given clock and zone, which takes memory and files from the one that the tests run on.
+use std::alloc::{Allocator, Global};
+use std::env::FillError;
+use std::fs::{Metadata, OpenOptions};
+use std::io;
+use std::rt::{Clock, Env, Files};
+use std::time::Duration;
+
+/// A runtime whose clock stands still, and whose `TZ` names this zone.
+#[derive(Clone, Copy)]
+pub struct Machine {
+    pub rt: HostRuntime,
+    /// Since 1970-01-01 00:00:00 UTC.
+    pub seconds: u32,
+    pub zone: &'static str,
+}
+
+impl Alloc for Machine {
+    type A = Global;
+
+    fn alloc(&self) -> Global {
+        self.rt.alloc()
+    }
+}
+
+impl Clock for Machine {
+    fn monotonic(&self) -> io::Result<Duration> {
+        self.rt.monotonic()
+    }
+
+    fn since_1970(&self) -> io::Result<Duration> {
+        Ok(Duration::from_secs(u64::from(self.seconds)))
+    }
+}
+
+impl Env for Machine {
+    fn arg(&self, i: usize, buf: &mut [u8]) -> Result<usize, FillError> {
+        self.rt.arg(i, buf)
+    }
+
+    fn var(&self, name: &str, buf: &mut [u8]) -> Result<usize, FillError> {
+        if name != "TZ" {
+            return self.rt.var(name, buf);
+        }
+        let zone = self.zone.as_bytes();
+        if zone.len() > buf.len() {
+            return Err(FillError::TooLong);
+        }
+        buf[..zone.len()].copy_from_slice(zone);
+        Ok(zone.len())
+    }
+
+    fn var_at(&self, i: usize, buf: &mut [u8]) -> Result<usize, FillError> {
+        self.rt.var_at(i, buf)
+    }
+}
+
+impl Files for Machine {
+    type File = <HostRuntime as Files>::File;
+
+    type Dir = <HostRuntime as Files>::Dir;
+
+    fn open_file(&self, how: &OpenOptions, path: &str) -> io::Result<<HostRuntime as Files>::File> {
+        self.rt.open_file(how, path)
+    }
+
+    fn open_dir(&self, path: &str) -> io::Result<<HostRuntime as Files>::Dir> {
+        self.rt.open_dir(path)
+    }
+
+    fn metadata(&self, path: &str) -> io::Result<Metadata> {
+        self.rt.metadata(path)
+    }
+
+    fn symlink_metadata(&self, path: &str) -> io::Result<Metadata> {
+        self.rt.symlink_metadata(path)
+    }
+
+    fn copy(&self, from: &str, to: &str) -> io::Result<u64> {
+        self.rt.copy(from, to)
+    }
+
+    fn rename(&self, from: &str, to: &str) -> io::Result<()> {
+        self.rt.rename(from, to)
+    }
+
+    fn remove_file(&self, path: &str) -> io::Result<()> {
+        self.rt.remove_file(path)
+    }
+
+    fn create_dir(&self, path: &str) -> io::Result<()> {
+        self.rt.create_dir(path)
+    }
+
+    fn remove_dir(&self, path: &str) -> io::Result<()> {
+        self.rt.remove_dir(path)
+    }
+
+    fn remove_dir_all<B: Allocator>(&self, alloc: B, path: &str) -> io::Result<()> {
+        self.rt.remove_dir_all(alloc, path)
+    }
+}

@@ -1,0 +1,10 @@
+//! What the contracts of the libraries leave open: names, traits, texts of faults, and outside values.
+mod clocks;
+mod faults;
+mod git_dates;
+mod headers;
+mod names;
+mod prints;
+mod signatures;
+mod texts;
+mod times;

@@ -1,0 +1,16 @@
+use Rattle.std.proofs.Common.{◌≡◌, ◌++◌, List, ℕ, length, Ok}
+use Rattle.gix_date_tool.specs.Progress.{stage, TakesIn}
+use Rattle.gix_date_tool.proofs.runs.progress.Progress.feed.Given as goal
+
+-- a front of the bytes was taken in
+abbrev pub invariant-loop-part : goal.invariant-loop-part
+invariant-loop-part g l =
+    let first = stage l.initial.self (g.W.Sink.known l.initial.writer) in
+    record {
+      front : List ℕ;
+      cut : l.initial.rest ≡ front ++ l.rest;
+      took : TakesIn first (stage l.self (g.W.Sink.known l.writer)) front (Ok tt);
+    }
+
+abbrev pub decreases-loop-part : goal.decreases-loop-part
+decreases-loop-part g l = length l.rest

@@ -1,0 +1,172 @@
+//! The reply to one line.
+ghost use Rattle.std.specs.Prelude.{◌≡◌};
+ghost use Rattle.gix_date.specs.Families.Order.{first_family};
+ghost use Rattle.gix_date.specs.Header.Reading.{header_time};
+ghost use Rattle.gix_date_tool.specs.declared.runs.replies.Reply.TheVariants.{Read};
+ghost use Rattle.gix_date_tool.specs.Outbox.{Sends, output};
+ghost use Rattle.gix_date_tool.specs.Replies.{RepliesAreUnique, CanonicalLines, ParsedLines, UnchangedLines, IsReply, IsParseReply, IsSignReply, IsWritable, reply_line, check_reply};
+
+use crate::program::arguments::Mode;
+use crate::runs::outbox::Outbox;
+use crate::runs::signed::{SignedLine, sign};
+use gix_date::bytes::text_of;
+use gix_date::device::Sink;
+use gix_date::{HeaderKind, ParseError, RawOffsets, Time, Zoned, header_kind, parse_no_alloc};
+use std::io;
+
+/// What is asked of each line.
+#[derive(Clone, Copy)]
+pub(crate) struct Query {
+    /// Which replies the lines get.
+    pub(crate) mode: Mode,
+    /// What a date may be relative to.
+    pub(crate) now: Option<Zoned<'static>>,
+}
+
+/// What is replied to a line.
+#[derive(Drop)]
+pub(crate) enum Reply<'a> {
+    /// The line is not UTF-8.
+    NotText,
+    /// The line is read as no time.
+    NoTime,
+    /// The line is the header text of the time that it is read as.
+    Canonical,
+    /// The line is read as this time, and is not its header text.
+    Read(Time),
+    /// The line is parsed as this time.
+    Parsed(Time),
+    /// No form that a date may have holds the line, or its offset is above what a formatted date may have.
+    UnknownFormat,
+    /// The line is a day whose midnight is no instant.
+    DateConversion,
+    /// The line is relative to a moment, and none was given.
+    MissingMoment,
+    /// The line leads from the moment to no time.
+    OutOfRange,
+    /// The line is a signature line, which is written again as this one.
+    Signed(SignedLine<'a>),
+    /// The line is no signature line, or has a time that is not read or cannot be written.
+    NoSignature,
+}
+
+impl Reply<'_> {
+    /// Puts the text of a reply, and a newline, after what is unsent.
+    pub(crate) fn push_to<W: Sink>(
+        self,
+        outbox: &mut Outbox,
+        out: &mut W,
+    ) -> Result<(), io::ErrorKind>
+        requires { IsWritable self }
+        ensures { Sends (output outbox.old (W.known out.old)) (output outbox.new (W.known out.new))
+            (reply_line self.entry) result }
+    {
+        match self {
+            Reply::NotText => outbox.push(&["not text\n"], out),
+            Reply::NoTime => outbox.push(&["none\n"], out),
+            Reply::Canonical => outbox.push(&["canonical\n"], out),
+            Reply::Read(time) => push_reading(time, outbox, out),
+            Reply::Parsed(time) => match time.to_buf() {
+                Ok(buf) => outbox.push(&[buf.as_str(), "\n"], out),
+                Err(_) => unreachable!(),
+            },
+            Reply::UnknownFormat => outbox.push(&["error unknown-format\n"], out),
+            Reply::DateConversion => outbox.push(&["error date-conversion\n"], out),
+            Reply::MissingMoment => outbox.push(&["error missing-moment\n"], out),
+            Reply::OutOfRange => outbox.push(&["error range\n"], out),
+            Reply::Signed(line) => line.push_to(outbox, out),
+            Reply::NoSignature => outbox.push(&["none\n"], out),
+        }
+    }
+}
+
+/// Puts the seconds and the offset of a time that a line is read as after what is unsent.
+fn push_reading<W: Sink>(time: Time, outbox: &mut Outbox, out: &mut W) -> Result<(), io::ErrorKind>
+    ensures { Sends (output outbox.old (W.known out.old)) (output outbox.new (W.known out.new))
+        (reply_line (Read time)) result }
+{
+    let mut seconds = itoa::Buffer::new();
+    let mut offset = itoa::Buffer::new();
+    let pieces = [
+        "read ",
+        seconds.format(time.seconds),
+        " ",
+        offset.format(time.offset),
+        "\n",
+    ];
+    outbox.push(&pieces, out)
+}
+
+/// Each line has at most one reply, in a mode and at a moment.
+pub fn replies_are_unique()
+    ensures { RepliesAreUnique }
+{}
+
+/// The reply to a line that is parsed as a time is the header text of that time, so it is never empty.
+pub fn parsed_lines(line: &[u8])
+    ensures { ParsedLines line.now }
+{}
+
+/// In Check the reply to a line is `canonical` iff the line is a canonical header (`is_canonical_header`), whatever the
+/// moment.
+pub fn canonical_lines(line: &[u8])
+    ensures { CanonicalLines line.now }
+{}
+
+/// In Sign the reply to a line is the line iff it is text, has a cut, and has a canonical header as its time
+/// (`is_canonical_header`), whatever the moment.
+pub fn unchanged_lines(line: &[u8])
+    ensures { UnchangedLines line.now }
+{}
+
+/// The reply to a line.
+pub(crate) fn reply_to(query: Query, line: &[u8]) -> Reply<'_>
+    ensures is { IsReply query line.now result }
+    ensures writable { IsWritable result }
+{
+    let Some(text) = text_of(line) else {
+        return Reply::NotText;
+    };
+    match query.mode {
+        Mode::Check => check_reply(text),
+        Mode::Parse => parse_reply(text, query.now),
+        Mode::Sign => sign_reply(text),
+    }
+}
+
+/// Whether a text is a header text that comes back when it is read and written, and else what it is read as.
+fn check_reply(text: &str) -> Reply<'static>
+    ensures is { result ≡ check_reply text.now }
+    ensures writable { IsWritable result }
+{
+    match header_kind(text) {
+        HeaderKind::Canonical => Reply::Canonical,
+        HeaderKind::Lenient(time) => Reply::Read(time),
+        HeaderKind::NoHeader => Reply::NoTime,
+    }
+}
+
+/// The time that a text is parsed as, or why it is not.
+fn parse_reply(text: &str, now: Option<Zoned<'static>>) -> Reply<'static>
+    ensures is { IsParseReply (first_family text.now) now.entry result }
+    ensures writable { IsWritable result }
+{
+    match parse_no_alloc(text, now, RawOffsets::Quarter) {
+        Ok(time) => Reply::Parsed(time),
+        Err(ParseError::UnknownFormat) => Reply::UnknownFormat,
+        Err(ParseError::DateConversion) => Reply::DateConversion,
+        Err(ParseError::MissingNow) => Reply::MissingMoment,
+        Err(ParseError::Range) => Reply::OutOfRange,
+    }
+}
+
+/// The line that is written of a signature line's parts, or that there is none.
+fn sign_reply(text: &str) -> Reply<'_>
+    ensures is { IsSignReply text.now result }
+    ensures writable { IsWritable result }
+{
+    match sign(text) {
+        Some(line) => Reply::Signed(line),
+        None => Reply::NoSignature,
+    }
+}
