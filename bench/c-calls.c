@@ -44,6 +44,28 @@ void *__wrap_realloc(void *block, size_t size)
         return NULL;                                                                               \
     }
 
+/* A call for many lines, which has to read one line well. */
+#define LINE(name, ...)                                                                            \
+    static void *call_##name(void *status)                                                         \
+    {                                                                                              \
+        *(uint32_t *)status = name(__VA_ARGS__) == 1 ? read_so : 1;                                \
+        return NULL;                                                                               \
+    }
+#define CELL &seconds, 1, &offset, 1, &read_so, 1, &len
+
+/* The same in UTC, by a rule, and by a file. */
+#define LINES_AT(name, ...)                                                                        \
+    LINE_IN(name, utc, __VA_ARGS__)                                                                \
+    LINE_IN(name, rule, __VA_ARGS__)                                                               \
+    LINE_IN(name, file, __VA_ARGS__)
+#define LINE_IN(name, place, ...)                                                                  \
+    static void *call_##name##_##place(void *status)                                               \
+    {                                                                                              \
+        gix_date_zone *zone = &place;                                                              \
+        *(uint32_t *)status = name(__VA_ARGS__) == 1 ? read_so : 1;                                \
+        return NULL;                                                                               \
+    }
+
 /* The same call in UTC, by a rule, and by a file. */
 #define CALLS_AT(name, ...)                                                                        \
     CALL_IN(name, utc, __VA_ARGS__)                                                                \
@@ -71,6 +93,10 @@ static git_date_mode named;
 static char long_text[60000];
 static char out[256];
 static size_t len, place;
+static int64_t seconds;
+static int32_t offset;
+static uint32_t read_so;
+static uint8_t canonical;
 
 CALL(gix_date_parse_header, TEXT("1660797906 +0800"), &parsed)
 CALL(gix_date_write_header, &at, out, sizeof out, &len)
@@ -81,6 +107,10 @@ CALLS_AT(gix_date_parse_at, TEXT("1 month 2 days ago"), GIX_DATE_QUARTERS, &now,
 CALL(gix_date_parse_carefully, TEXT("Thu, 18 Aug 2022 12:45:06 +0800"), &usual, &parsed, &place)
 CALLS_AT(gix_date_parse_carefully_at, TEXT("1 month 2 days ago"), &usual, &now, zone, &parsed,
          &place)
+LINE(gix_date_parse_lines, TEXT("Thu, 18 Aug 2022 12:45:06 +0800"), GIX_DATE_CAREFUL_LINES, &usual, CELL)
+LINES_AT(gix_date_parse_lines_at, TEXT("1 month 2 days ago"), GIX_DATE_CAREFUL_LINES, &usual, &now,
+         zone, CELL)
+LINE(gix_date_check_lines, TEXT("1660797906 +0800"), &canonical, 1, &len)
 CALL(gix_date_format, &at, GIX_DATE_ISO8601, out, sizeof out, &len)
 CALL(gix_date_format_or_unix, &at, GIX_DATE_DEFAULT, out, sizeof out, &len)
 CALL(gix_date_format_by_pattern, &at, TEXT("%A %-d %B %Y, %H:%M"), out, sizeof out, &len)
@@ -91,6 +121,8 @@ CALL(gix_date_write_signature, TEXT("A U Thor"), TEXT("author@example.com"), &at
 CALLS_AT(git_date_parse_at, long_text, sizeof long_text, &now, zone, &exact, &place)
 CALLS_AT(git_date_approxidate_at, long_text, sizeof long_text, &now, zone, &guess, &place)
 CALLS_AT(git_date_expiry_at, long_text, sizeof long_text, &now, zone, &expiry, &place)
+LINES_AT(git_date_parse_lines_at, long_text, sizeof long_text, &now, zone, CELL)
+LINES_AT(git_date_approxidate_lines_at, long_text, sizeof long_text, &now, zone, CELL)
 CALL(git_date_mode_named, TEXT("iso8601-strict-local"), &named)
 CALLS_AT(git_date_show_at, &at, &shown, &now, zone, out, sizeof out, &len)
 
@@ -158,6 +190,9 @@ static const struct {
     ROWS_AT(gix_date_parse_at),
     ROW(gix_date_parse_carefully),
     ROWS_AT(gix_date_parse_carefully_at),
+    ROW(gix_date_parse_lines),
+    ROWS_AT(gix_date_parse_lines_at),
+    ROW(gix_date_check_lines),
     ROW(gix_date_format),
     ROW(gix_date_format_or_unix),
     ROW(gix_date_format_by_pattern),
@@ -167,6 +202,8 @@ static const struct {
     ROWS_AT(git_date_parse_at),
     ROWS_AT(git_date_approxidate_at),
     ROWS_AT(git_date_expiry_at),
+    ROWS_AT(git_date_parse_lines_at),
+    ROWS_AT(git_date_approxidate_lines_at),
     ROW(git_date_mode_named),
     ROWS_AT(git_date_show_at),
 };

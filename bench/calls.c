@@ -1,5 +1,6 @@
 /* Makes one call of gix_date.h or git_date.h so many times: calls KIND ZONE TEXT COUNT. The zone is that of a
- * file by its path, or of a POSIX rule, or UTC where it is `-`. */
+ * file by its path, or of a POSIX rule, or UTC where it is `-`. A kind of many lines reads so many thousands in
+ * calls for a thousand each, so that COUNT is a number of lines. */
 #include "git_date.h"
 
 #include <stdio.h>
@@ -54,6 +55,49 @@ static uint32_t call(char kind, uint32_t format, const char *text, size_t len)
     }
 }
 
+enum { LINES = 1000 };
+
+/* Reads a thousand lines of one text, by the letter of the kind and the number of a reader. */
+static uint32_t call_lines(char kind, uint32_t reader, const char *block, size_t len)
+{
+    static int64_t seconds[LINES];
+    static int32_t offsets[LINES];
+    static uint32_t statuses[LINES];
+    static uint8_t canonical[LINES];
+    size_t done, taken;
+    switch (kind) {
+    case 'C':
+        done = gix_date_check_lines(block, len, canonical, LINES, &taken);
+        break;
+    case 'D':
+        done = git_date_parse_lines_at(block, len, &now, &zone, seconds, LINES, offsets, LINES,
+                                       statuses, LINES, &taken);
+        break;
+    case 'A':
+        done = git_date_approxidate_lines_at(block, len, &now, &zone, seconds, LINES, offsets, LINES,
+                                             statuses, LINES, &taken);
+        break;
+    default:
+        done = gix_date_parse_lines_at(block, len, reader, &usual, &now, &zone, seconds, LINES, offsets,
+                                       LINES, statuses, LINES, &taken);
+    }
+    return done == LINES && taken == len ? statuses[LINES - 1] : 1;
+}
+
+/* Reads so many lines of one text. */
+static uint32_t read_lines(char kind, uint32_t reader, const char *text, long count)
+{
+    const size_t len = strlen(text) + 1;
+    char *block = malloc(LINES * len + 1);
+    uint32_t status = 0;
+    for (size_t i = 0; i < LINES; i++)
+        snprintf(block + i * len, len + 1, "%s\n", text);
+    for (; count > 0; count -= LINES)
+        status |= call_lines(kind, reader, block, LINES * len);
+    free(block);
+    return status;
+}
+
 /* Reads the zone of a file, or of a rule. */
 static uint32_t read_zone(const char *name)
 {
@@ -75,7 +119,12 @@ int main(int count, char **words)
     uint32_t format = (uint32_t)strtoul(words[1] + 1, NULL, 10);
     size_t len = strlen(words[3]);
     uint32_t status = strcmp(words[2], "-") ? read_zone(words[2]) : 0;
-    for (long i = strtol(words[4], NULL, 10); i > 0; i--)
+    long times = strtol(words[4], NULL, 10);
+    if (strchr("LCDA", kind)) {
+        status |= read_lines(kind, format, words[3], times);
+        times = 0;
+    }
+    for (; times > 0; times--)
         status |= call(kind, format, words[3], len);
     gix_date_zone_free(&zone);
     printf("%u\n", (unsigned)status);

@@ -133,6 +133,22 @@ GIX_DATE_MUST_USE
 uint32_t git_date_expiry_at(const char *text, size_t text_len, const gix_date_instant *now,
                             gix_date_zone *zone, git_date_expiry *expiry, size_t *place);
 
+/* Reads each line of a block by git_date_parse_at, as gix_date_parse_lines of gix_date.h does by other
+ * readers. The zone is found once for all lines. It is not told what was ignored. */
+GIX_DATE_MUST_USE
+size_t git_date_parse_lines_at(const char *block, size_t block_len, const gix_date_instant *now,
+                               gix_date_zone *zone, int64_t *seconds, size_t seconds_len,
+                               int32_t *offsets, size_t offsets_len, uint32_t *statuses,
+                               size_t statuses_len, size_t *bytes);
+
+/* The same by git_date_approxidate_at. A line of which nothing is understood is the moment. */
+GIX_DATE_MUST_USE
+size_t git_date_approxidate_lines_at(const char *block, size_t block_len,
+                                     const gix_date_instant *now, gix_date_zone *zone,
+                                     int64_t *seconds, size_t seconds_len, int32_t *offsets,
+                                     size_t offsets_len, uint32_t *statuses, size_t statuses_len,
+                                     size_t *bytes);
+
 /* The mode of one of Git's names, in its letter case: "iso8601-strict-local", "local". Git's modes
  * "auto:" and "format:" have none. GIX_DATE_NOT_TEXT, GIX_DATE_NO_SUCH_OPTION. */
 GIX_DATE_MUST_USE

@@ -167,6 +167,14 @@ enum gix_date_texts {
     GIX_DATE_ALL_TEXTS = 1 /* all that gix_date_parse reads */
 };
 
+/* How each line of a block is read: as the calls that are named read one text. */
+enum gix_date_line_reader {
+    GIX_DATE_DATE_LINES = 0,     /* gix_date_parse, by the rule for raw offsets of the options */
+    GIX_DATE_CAREFUL_LINES = 1,  /* gix_date_parse_carefully, by the options */
+    GIX_DATE_HEADER_LINES = 2,   /* gix_date_parse_header */
+    GIX_DATE_SIGNATURE_LINES = 3 /* gix_date_cut_signature, and gix_date_parse_header of its time */
+};
+
 /* What a time is printed as. */
 enum gix_date_named_format {
     GIX_DATE_SHORT = 0,          /* 2022-08-18 */
@@ -304,6 +312,37 @@ uint32_t gix_date_parse_carefully_at(const char *text, size_t text_len,
                                      const gix_date_careful_options *options,
                                      const gix_date_instant *now, gix_date_zone *zone,
                                      gix_date_time *time, size_t *place);
+
+/* Reads many lines in one call. A block is lines that end at '\n', which the last may lack if it has a
+ * byte; '\r' belongs to its line. A call reads the first lines, all or as many as the shortest array
+ * has cells for, and answers how many. *bytes is how many bytes these have with their newlines: a
+ * caller goes on from there.
+ *
+ * Line i leaves what the calls for one text, named at enum gix_date_line_reader, leave of it:
+ * statuses[i], and with GIX_DATE_OK seconds[i] and offsets[i], which are else as they were. No place
+ * is told: call for the line again if you need one. No other cell changes. A number that is no reader
+ * makes each status GIX_DATE_NO_SUCH_OPTION. */
+GIX_DATE_MUST_USE
+size_t gix_date_parse_lines(const char *block, size_t block_len, uint32_t reader,
+                            const gix_date_careful_options *options, int64_t *seconds,
+                            size_t seconds_len, int32_t *offsets, size_t offsets_len,
+                            uint32_t *statuses, size_t statuses_len, size_t *bytes);
+
+/* gix_date_parse_lines at the moment now in a zone, which is found once for all lines. Dates are read
+ * as by gix_date_parse_at and gix_date_parse_carefully_at, which tell of a moment that is none at each
+ * line. Headers and signature lines need no moment. */
+GIX_DATE_MUST_USE
+size_t gix_date_parse_lines_at(const char *block, size_t block_len, uint32_t reader,
+                               const gix_date_careful_options *options,
+                               const gix_date_instant *now, gix_date_zone *zone, int64_t *seconds,
+                               size_t seconds_len, int32_t *offsets, size_t offsets_len,
+                               uint32_t *statuses, size_t statuses_len, size_t *bytes);
+
+/* Tells of each line of a block, in the words of gix_date_parse_lines, whether it is as Git writes it:
+ * canonical[i] is 1 if gix_date_is_canonical_header holds of line i, and else 0. */
+GIX_DATE_MUST_USE
+size_t gix_date_check_lines(const char *block, size_t block_len, uint8_t *canonical,
+                            size_t canonical_len, size_t *bytes);
 
 /* Writes a time in a format of enum gix_date_named_format. Takes memory for the text only in years
  * before 1000 or at offsets with seconds.

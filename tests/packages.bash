@@ -36,7 +36,7 @@ dpkg_there() {
 make_system() {
     local name
     mkdir -p "$system/var/lib/dpkg/info" "$system/var/lib/dpkg/updates"
-    for name in libc6=2.34 libc6-dev=2.34 python3=3.9; do
+    for name in libc6=2.34 libc6-dev=2.34 python3=3.10; do
         : >"$system/var/lib/dpkg/info/${name%=*}.list"
         printf '%s\n' "Package: ${name%=*}" 'Status: install ok installed' "Version: ${name#*=}" 'Architecture: amd64' 'Maintainer: A <a@b.de>' \
             'Description: as it would be there' ''

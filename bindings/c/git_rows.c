@@ -172,6 +172,19 @@ static bool is_no_zone(uint32_t status, answer *told)
     return status != GIX_DATE_OK && is_refused_at(status, untouched.place, told);
 }
 
+/* Keeps what one date came to, for the lines of a block. */
+static void keep_date(enum reader reader, field moment, field text, const gix_date_instant *now,
+                      gix_date_zone *in)
+{
+    reading seen = untouched;
+    if (reader == EXPIRY)
+        return;
+    uint32_t status = read_text(reader, text, now, in, &seen);
+    keep_line(&(line_reader){reader == EXACT ? EXACT_LINES : APPROXIMATE_LINES, {0, 0, 0},
+                             moment.bytes},
+              text, status, reader == EXACT ? seen.exact.time : seen.approximate.time);
+}
+
 /* Reads the text of a row, at the moment before it. */
 static bool read_row(enum reader reader, enum asked asked, arguments *row, answer *told)
 {
@@ -187,6 +200,7 @@ static bool read_row(enum reader reader, enum asked asked, arguments *row, answe
     /* A call leaves the zone the same. */
     read_in(reader, asked, text, &now, &zone, &other);
     agree(told, &other);
+    keep_date(reader, moment, text, &now, &zone);
     in_other_words(name, &zone);
     read_in(reader, asked, text, &now, &zone, &other);
     agree(told, &other);

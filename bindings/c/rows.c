@@ -48,7 +48,7 @@ static const struct {
 };
 
 /* Calls that other callers of the rows have, and this library has not. */
-static const char *const lacking[] = {"to_zoned", "now_local"};
+static const char *const lacking[] = {"to_zoned", "now_local", "ident", "ident_label", "ident_offset", "git_time", "ident_time", "fsck_of", "write_ident", "show_by_format"};
 
 static void fail(const char *what, const char *which)
 {
@@ -226,6 +226,7 @@ static void parse_alone(const manner *how, field text, answer *told)
     uint32_t status = how->carefully
                           ? gix_date_parse_carefully(TEXT(text), &how->options, &time, &place)
                           : gix_date_parse(TEXT(text), how->options.raw_offsets, &time);
+    keep_line(&(line_reader){how->carefully, how->options, ""}, text, status, time);
     tell_date(status, time, place, told);
 }
 
@@ -296,6 +297,24 @@ static void parse_in(const manner *how, field text, const gix_date_instant *now,
     gix_date_zone_free(&zone);
 }
 
+/* Keeps what one text came to at a moment that there is. */
+static void keep_date(const manner *how, field moment, field text)
+{
+    gix_date_instant now;
+    field name;
+    gix_date_zone zone;
+    gix_date_time time = no_time;
+    size_t place;
+    if (!to_moment(moment, &now, &name) || read_zone(name, &zone) != GIX_DATE_OK)
+        return;
+    uint32_t status =
+        how->carefully
+            ? gix_date_parse_carefully_at(TEXT(text), &how->options, &now, &zone, &time, &place)
+            : gix_date_parse_at(TEXT(text), how->options.raw_offsets, &now, &zone, &time);
+    keep_line(&(line_reader){how->carefully, how->options, moment.bytes}, text, status, time);
+    gix_date_zone_free(&zone);
+}
+
 /* A date parsed at a moment: `none`, or its seconds, its nanoseconds and its zone. */
 static bool parse_at(field moment, const manner *how, field text, answer *told)
 {
@@ -308,6 +327,7 @@ static bool parse_at(field moment, const manner *how, field text, answer *told)
     if (!to_moment(moment, &now, &zone))
         return false;
     parse_in(how, text, &now, zone, told);
+    keep_date(how, moment, text);
     return true;
 }
 
@@ -420,10 +440,14 @@ static void signature_time(field line, answer *told)
 {
     gix_date_signature parts;
     gix_date_time time = {0, 0};
-    if (is_refused(gix_date_cut_signature(TEXT(line), &parts), told))
+    uint32_t cut = gix_date_cut_signature(TEXT(line), &parts);
+    if (is_refused(cut, told)) {
+        keep_line(&(line_reader){GIX_DATE_SIGNATURE_LINES, {0, 0, 0}, ""}, line, cut, time);
         return;
+    }
     const char *start = line.bytes + parts.time.start;
     uint32_t status = gix_date_parse_header(start, parts.time.len, &time);
+    keep_line(&(line_reader){GIX_DATE_SIGNATURE_LINES, {0, 0, 0}, ""}, line, status, time);
     tell_time(status, time, told);
 }
 
@@ -452,13 +476,16 @@ static void parse_header(field text, answer *told)
 {
     gix_date_time time = {0, 0};
     uint32_t status = gix_date_parse_header(TEXT(text), &time);
+    keep_line(&(line_reader){GIX_DATE_HEADER_LINES, {0, 0, 0}, ""}, text, status, time);
     tell_time(status, time, told);
 }
 
 static void is_canonical_header(field text, answer *told)
 {
+    bool is_one = gix_date_is_canonical_header(TEXT(text));
+    keep_line(&(line_reader){CHECKED, {0, 0, 0}, ""}, text, is_one, no_time);
     told->refused = false;
-    tell(told, "%s", gix_date_is_canonical_header(TEXT(text)) ? "yes" : "no");
+    tell(told, "%s", is_one ? "yes" : "no");
 }
 
 /* Makes the call that a row names. */
@@ -556,7 +583,7 @@ static size_t run_file(const char *name)
     for (size_t i = 0; i < LENGTH(lacking); i++)
         if (left_out[i])
             printf("%s: %zu left out: %s\n", name, left_out[i], lacking[i]);
-    return differing;
+    return differing + run_lines(name);
 }
 
 int main(int count, char **names)

@@ -67,6 +67,24 @@ uint32_t read_zone(field name, gix_date_zone *zone);
 /* Puts a copy of a zone into its place, and frees the one that was there. */
 void in_copy(gix_date_zone *zone);
 
+/* How lines are read: by a reader of enum gix_date_line_reader, or by one of these. */
+enum { EXACT_LINES = 100, APPROXIMATE_LINES, CHECKED };
+
+/* A reader of lines, its options, and its moment as a row has it; no text where it has none. */
+typedef struct line_reader {
+    uint32_t kind;
+    gix_date_careful_options options;
+    const char *moment;
+} line_reader;
+
+/* Keeps a text, and what the call for one text left of it, for the block of its reader at its moment. A
+ * text with a newline is no line. The status of a check is 0 or 1. */
+void keep_line(const line_reader *reader, field text, uint32_t status, gix_date_time time);
+
+/* Reads the texts that were kept as the lines of blocks, and forgets them. Says how many there were, and
+ * which blocks differ, and answers how many do. */
+size_t run_lines(const char *name);
+
 /* Makes the call of git_date.h that a row names. */
 enum outcome git_call(const char *name, arguments *row, answer *told);
 

@@ -3,6 +3,7 @@
 from __future__ import annotations
 
 import subprocess
+from glob import glob
 from pathlib import Path
 
 from setuptools import Extension, setup
@@ -20,18 +21,18 @@ def ask(*words: str) -> str:
 
 
 def extension() -> Extension:
-    """The extension, by the stable ABI of Python 3.9."""
+    """The extension, by the stable ABI of Python 3.10, the first that has calls by arrays of arguments, and the UTF-8 of a str."""
     library = str(Path(ask("--variable=libdir")) / "libgix_date.a")
     return Extension(
         "gix_date._library",
-        sources=["src/gix_date/_library.c"],
-        depends=[library],
-        define_macros=[("Py_LIMITED_API", "0x03090000")],
-        extra_compile_args=["-std=c99", *ask("--cflags", "--keep-system-cflags").split()],
+        sources=sorted(glob("c/*.c")),
+        depends=[library, "c/library.h"],
+        define_macros=[("Py_LIMITED_API", "0x030a0000")],
+        extra_compile_args=["-std=c99", "-O2", "-fvisibility=hidden", *ask("--cflags", "--keep-system-cflags").split()],
         extra_objects=[library],
         extra_link_args=["-Wl,--exclude-libs,ALL"],
         py_limited_api=True,
     )
 
 
-setup(ext_modules=[extension()], options={"bdist_wheel": {"py_limited_api": "cp39"}})
+setup(ext_modules=[extension()], options={"bdist_wheel": {"py_limited_api": "cp310"}})

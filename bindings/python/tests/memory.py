@@ -6,9 +6,11 @@ It runs with refuse.c loaded before others, and with PYTHONMALLOC=malloc, so tha
 from __future__ import annotations
 
 import ctypes
-from typing import Callable, Dict, List, Tuple, Union
+from array import array
+from typing import Callable, Dict, List, Optional, Tuple, Union
 
-from gix_date import _library
+from gix_date import ISO8601, Moment, Refused, Time, _library, git, is_canonical_header, parse, parse_carefully, parse_header
+from gix_date import write_signature
 
 from rows import FOLDER
 
@@ -19,42 +21,91 @@ PROCESS.none_refused.restype = ctypes.c_int
 PROCESS.count_from_now.restype = None
 PROCESS.more_held.restype = ctypes.c_long
 
-TIME = (1660797906, 28800)
+Output = Union["array[int]", List[int]]
+TIME = Time(1660797906, 28800)
 RULE, FILE = "EST5EDT,M3.2.0,M11.1.0", (FOLDER / "new_york_2023.tzif").read_bytes()
-NOWS = [(1698400800, 0, zone) for zone in (7200, _library.Zone(RULE), _library.Zone(FILE))]
+NOWS = [Moment(1698400800, 0, zone) for zone in (7200, RULE, FILE)]
+MODE = git.DateMode(git.DateKind.ISO8601, True)
+LINES = b"1660797906 +0800\n" * 60
+for now in NOWS:
+    parse("@5", now)  # so that zones are kept
 
 
-def in_new_zone(zone: Union[str, bytes]) -> object:
-    """What a call answers in a zone that is made for it alone."""
-    return _library.parse("1 month ago", 0, (1700499600, 0, _library.Zone(zone)))
+def in_new_zone(zone: Union[str, bytes]) -> bool:
+    """Whether a zone can be read that is made for this call alone."""
+    return _library.Zone(zone).is_read
+
+
+def of_new_text(text: bytes) -> bool:
+    """Whether a text is canonical that is made for this call alone, and has no UTF-8 yet."""
+    return is_canonical_header(text.decode())
+
+
+class Filled:
+    """Two outputs, into which the lines are put after one number."""
+
+    def __init__(self, seconds: Output, offsets: Output) -> None:
+        self.outputs, self.refused = (seconds, offsets), Refused()
+
+    def clear(self) -> None:
+        for output in self.outputs:
+            del output[1:]
+        self.refused.lines = 0
+
+    def __call__(self, now: Optional[Moment]) -> int:
+        return _library.add_lines(self.outputs, 1, self.refused, 0, LINES, 0, len(LINES), now, None)
+
+    def is_whole(self) -> bool:
+        """Whether all lines are there, or none, and as many in both."""
+        return [len(output) for output in self.outputs] == [1 + self.refused.lines] * 2
+
+
+FILLED = [Filled(array("q", [7]), array("i", [7])), Filled([7], [7])]
+VIEWS, NONE_REFUSED = (memoryview(array("q", [7] * 60)), memoryview(array("i", [7] * 60))), Refused()
+
+
+def into_views(now: Optional[Moment]) -> int:
+    NONE_REFUSED.lines = 0
+    return _library.add_lines(VIEWS, 0, NONE_REFUSED, 0, LINES, 0, len(LINES), now, None)
 
 
 CALLS: List[Tuple[str, Callable[..., object], Tuple[object, ...]]] = [
-    ("parse_header", _library.parse_header, ("5 +0100",)),
-    ("is_canonical_header", _library.is_canonical_header, ("5 +0100",)),
-    ("write_header", _library.write_header, (TIME,)),
-    ("parse", _library.parse, ("@5", 0, None)),
-    ("parse_carefully", _library.parse_carefully, ("@5", 0, 0, 0, None)),
-    ("parse_lines", _library.parse_lines, (b"@5\n" * 1000, 0, None)),
-    ("format", _library.format, (TIME, 3, False)),
-    ("format_by_pattern", _library.format_by_pattern, (TIME, "%H" * 200, False)),
+    ("Time", Time, (1660797906, 28800)),
+    ("hash", hash, (TIME,)),
+    ("repr", repr, (TIME,)),
+    ("str", str, (TIME,)),
+    ("to_header", TIME.to_header, ()),
+    ("format", TIME.format, (ISO8601,)),
+    ("format", TIME.format, ("%H" * 200,)),
+    ("format_or_unix", TIME.format_or_unix, ("%H" * 200,)),
+    ("parse_header", parse_header, ("5 +0100",)),
+    ("is_canonical_header", is_canonical_header, ("5 +0100",)),
+    ("is_canonical_header", is_canonical_header, ("\ud800",)),
+    ("is_canonical_header", of_new_text, ("\u00e9".encode(),)),
+    ("parse", parse, ("@5",)),
+    ("parse_carefully", parse_carefully, ("@5",)),
     ("cut_signature", _library.cut_signature, ("A <a> 0 +0000",)),
-    ("write_signature", _library.write_signature, ("A" * 1000, "a", TIME)),
+    ("write_signature", write_signature, ("A" * 1000, "a", TIME)),
     ("mode_named", _library.mode_named, ("iso",)),
     *(("Zone", in_new_zone, (zone,)) for zone in (RULE, FILE, "no rule", b"no file", b"TZif")),
-    *(("parse", _library.parse, ("2 days ago", 0, now)) for now in NOWS),
-    *(("parse_carefully", _library.parse_carefully, ("2 days ago", 0, 0, 0, now)) for now in NOWS),
-    *(("parse_lines", _library.parse_lines, ("2 days ago", 0, now)) for now in NOWS),
-    *(("parse_date", _library.parse_date, ("2005-04-07 22:13:13", now)) for now in NOWS),
-    *(("approxidate", _library.approxidate, ("2 days ago", now)) for now in NOWS),
-    *(("expiry_date", _library.expiry_date, ("2 days ago", now)) for now in NOWS),
-    *(("show_date", _library.show_date, (TIME, 2, True, now)) for now in NOWS),
+    *(("parse", parse, ("2 days ago", now)) for now in NOWS),
+    *(("parse_carefully", parse_carefully, ("2 days ago", now)) for now in NOWS),
+    *(("times_of_lines", _library.times_of_lines, (0, b"@5\n" * 100, 0, 300, now, None)) for now in [None, *NOWS]),
+    *(("add_lines", add, (now,)) for now in [None, *NOWS] for add in [*FILLED, into_views]),
+    *(("parse_date", git.parse_date, ("2005-04-07 22:13:13", now)) for now in NOWS),
+    *(("approxidate", git.approxidate, ("2 days ago", now)) for now in NOWS),
+    *(("expiry_date", git.expiry_date, ("2 days ago", now)) for now in NOWS),
+    *(("show_date", git.show_date, (TIME, MODE, now)) for now in NOWS),
+    *(("show_date", git.show_date, (TIME, "iso-local", now)) for now in NOWS),
 ]
 
 
 def refused(call: Callable[..., object], arguments: Tuple[object, ...], number: int) -> bool:
     """Whether a request of this number was refused. If so, the call has to tell it."""
     answer: object = None
+    for filled in FILLED:
+        filled.clear()
+    PROCESS.count_from_now()
     PROCESS.refuse(number)
     try:
         answer = call(*arguments)
@@ -65,11 +116,13 @@ def refused(call: Callable[..., object], arguments: Tuple[object, ...], number: 
     return False
 
 
+NO_REQUEST = 1 << 30
+
+
 def keeps(call: Callable[..., object], arguments: Tuple[object, ...], number: int) -> bool:
-    """Whether each of some refused calls keeps memory. The first may, since Python keeps some blocks for later."""
+    """Whether each of some calls keeps memory, of which this request is refused. The first may: Python keeps some blocks for later."""
     more: List[int] = []
     for _ in range(5):
-        PROCESS.count_from_now()
         refused(call, arguments, number)
         more.append(PROCESS.more_held())
     return min(more) > 0
@@ -78,13 +131,19 @@ def keeps(call: Callable[..., object], arguments: Tuple[object, ...], number: in
 def main() -> None:
     requests: Dict[str, int] = {}
     for name, call, arguments in CALLS:
+        for filled in FILLED:
+            filled.clear()
         due, number = call(*arguments), 1
         while refused(call, arguments, number):
+            for filled in FILLED:
+                assert filled.is_whole()
+                filled.clear()
             assert call(*arguments) == due
             assert not keeps(call, arguments, number), f"{call} keeps memory if request {number} is refused"
             number += 1
+        assert isinstance(call, Filled) or not keeps(call, arguments, NO_REQUEST), f"{call} keeps memory"
         requests[name] = requests.get(name, 0) + number - 1
-    assert len(requests) == 16 and all(requests[name] > 0 for name in requests if name != "is_canonical_header"), requests
+    assert len(requests) == 21 and all(requests[name] > 0 for name in requests if name != "mode_named"), requests
     print(f"each of {sum(requests.values())} requests for memory is refused: MemoryError, and none is kept")
 
 

@@ -19,7 +19,8 @@ RULES = {
 }
 WITHOUT_OFFSET = {"utc": WithoutOffset.UTC, "local": WithoutOffset.MOMENTS_ZONE}
 TEXTS = {"careful": Texts.CAREFUL, "all": Texts.ALL}
-LEFT_OUT = {"to_zoned", "now_local"}  # calls that the library for C lacks
+# Calls that the library for C lacks.
+LEFT_OUT = {"to_zoned", "now_local", "ident", "ident_label", "ident_offset", "git_time", "ident_time", "fsck_of", "write_ident", "show_by_format"}
 
 Text = Union[str, bytes]
 Named = TypeVar("Named")
@@ -153,8 +154,25 @@ def parse_carefully(rules: bytes, without_offset: bytes, texts: bytes, at: bytes
     )
 
 
+def in_lines(into: Callable[[Tuple[List[int], List[int]], bytes], gix_date.Refused], text: bytes) -> List[str]:
+    """What a call for many lines answers, if a text is a line of three."""
+    if b"\n" in text:
+        return []
+
+    def line() -> str:
+        outputs: Tuple[List[int], List[int]] = ([], [])
+        refused = into(outputs, b"\n" + text + b"\n5 +0100")
+        if 1 in refused:
+            assert (outputs[0][1], outputs[1][1], refused[1].text) == (0, 0, text)
+            raise refused[1]
+        return f"{outputs[0][1]} {outputs[1][1]}"
+
+    return [told(line)]
+
+
 def parse_header(text: bytes) -> str:
-    return agreeing(told(lambda: of_time(gix_date.parse_header(given))) for given in both(text))
+    answers = [told(lambda: of_time(gix_date.parse_header(given))) for given in both(text)]
+    return agreeing(answers + in_lines(gix_date.parse_headers_into, text))
 
 
 def is_canonical_header(text: bytes) -> str:
@@ -194,7 +212,8 @@ def cut_signature(line: bytes) -> str:
 
 
 def signature_time(line: bytes) -> str:
-    return agreeing(told(lambda: of_time(Signature.from_line(given).read_time())) for given in both(line))
+    answers = [told(lambda: of_time(Signature.from_line(given).read_time())) for given in both(line)]
+    return agreeing(answers + in_lines(gix_date.parse_signatures_into, line))
 
 
 def write_signature(name: bytes, mail: bytes, seconds: bytes, offset: bytes) -> str:
@@ -227,7 +246,18 @@ def of_approximate(date: git.Approximate) -> str:
 
 def approxidate(at: bytes, text: bytes) -> str:
     now = needed(at)
-    return agreeing(told(lambda: of_approximate(git.approxidate(given, now)), given) for given in both(text))
+    alike = agreeing(told(lambda: of_approximate(git.approxidate(given, now)), given) for given in both(text))
+    return alike if b"\n" in text or approximate_line(text, now) in (alike, alike.replace(" ?", "")) else "!CallsDiffer"
+
+
+def approximate_line(text: bytes, now: Moment) -> str:
+    """The same of a line of three, whose refusal has its place by the call for one text."""
+    _, line, _ = git.approxidate_lines(text.join([b"\n", b"\n5"]), now)
+    if not isinstance(line, GixDateError):
+        return of_time(line)
+    assert line.text == text and line.place is None
+    again = told(lambda: git.approxidate(text, now), text)
+    return again if again.split(" ")[0] == f"!{type(line).__name__}" else "!LineDiffers"
 
 
 def approximate_ignored(at: bytes, text: bytes) -> str:
@@ -298,11 +328,16 @@ def answer_to(row: bytes) -> Tuple[str, str]:
         raise
 
 
+def rows_of(name: str) -> Iterator[Tuple[int, bytes]]:
+    """The rows of a file, with their lines, but for calls that are left out."""
+    for at, row in enumerate((FOLDER / name).read_bytes().split(b"\n"), 1):
+        if row and not row.startswith(b"#") and row.split(b"\t")[0].decode() not in LEFT_OUT:
+            yield at, row
+
+
 def differing(name: str) -> Iterator[Optional[str]]:
     """For each row of a file what differs, or None."""
-    for at, row in enumerate((FOLDER / name).read_bytes().split(b"\n"), 1):
-        if not row or row.startswith(b"#") or row.split(b"\t")[0].decode() in LEFT_OUT:
-            continue
+    for at, row in rows_of(name):
         try:
             answer, due = answer_to(row)
         except NoRow:
@@ -318,8 +353,8 @@ def run(name: str) -> Tuple[int, List[str]]:
 
 
 def names() -> List[str]:
-    """The files of right rows."""
-    return sorted(path.name for path in FOLDER.glob("*.rows") if path.name != "wrong.rows")
+    """The files of right rows that have rows of these calls."""
+    return sorted(path.name for path in FOLDER.glob("*.rows") if path.name != "wrong.rows" and any(rows_of(path.name)))
 
 
 def main() -> None:

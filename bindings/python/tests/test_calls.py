@@ -20,7 +20,6 @@ import pytest
 
 import gix_date
 from gix_date import (
-    _library,
     AfterYear9999,
     BadPart,
     BeyondDatetime,
@@ -32,8 +31,10 @@ from gix_date import (
     MissingNow,
     Moment,
     NaiveDatetime,
+    NoDirective,
     NoSignature,
     NotText,
+    OffsetTooWide,
     Pattern,
     RawOffsets,
     Signature,
@@ -148,7 +149,7 @@ def all_refusals(below: Type[GixDateError]) -> Iterator[Type[GixDateError]]:
 def test_each_refusal_has_its_own_status_and_message() -> None:
     errors = [error for error in all_refusals(GixDateError) if error.__module__ in ("gix_date.errors", "gix_date.git")]
     assert sorted(error.status for error in errors if error.status is not None) == [1, *range(4, 14), *range(15, 24)]
-    assert {error for error in errors if error.status is None} == {NaiveDatetime, BeyondDatetime, gix_date.git.UnknownMode}
+    assert {error for error in errors if error.status is None} == {NaiveDatetime, BeyondDatetime, NoDirective, gix_date.git.UnknownMode}
     messages = {str(error()) for error in errors}
     assert len(messages) == len(errors)
     assert not messages & {"unknown status", str(GixDateError())}
@@ -293,10 +294,10 @@ def test_options_are_those_of_the_library() -> None:
         parse_carefully("1660797906 +0007")
     assert parse_carefully("1660797906 +0007", raw_offsets=RawOffsets.WHOLE_MINUTES) == Time(1660797906, 420)
     assert parse_carefully("2024-01-05 10:00", Moment(0, 0, 3600)) == Time(1704448800, 0)
-    for raw in (2, -1):
-        assert _library.parse("1", raw, None)[0] == _library.parse_carefully("1", raw, 0, 0, None)[0] == 2
-    with pytest.raises(OverflowError):
-        _library.parse("1", 2**32, None)
+    usual = {"raw_offsets": RawOffsets.QUARTERS, "without_offset": WithoutOffset.UTC, "texts": Texts.CAREFUL}
+    for text in ("1660797906 +0045", "2024-01-05 10:00"):
+        for options in (usual, dict.fromkeys(usual)):
+            assert parse_carefully(text, **options) == parse_carefully(text)  # type: ignore[arg-type]
 
 
 def test_options_of_other_kinds_are_refused() -> None:
@@ -327,7 +328,7 @@ def test_now_is_the_clock_of_the_machine(monkeypatch: pytest.MonkeyPatch) -> Non
 
 
 def test_now_is_in_the_zone_of_tz(monkeypatch: pytest.MonkeyPatch) -> None:
-    zones = [("JST-9", "JST-9"), ("", 0), (":", 0), (":/nowhere", "/nowhere")]
+    zones = [("JST-9", "JST-9"), ("", 0), (":", 0)]
     for name, zone in zones:
         monkeypatch.setenv("TZ", name)
         now = gix_date.now()
@@ -336,10 +337,11 @@ def test_now_is_in_the_zone_of_tz(monkeypatch: pytest.MonkeyPatch) -> None:
     for name in ("Asia/Tokyo", ":Asia/Tokyo", f"{zoneinfo.TZPATH[0]}/Asia/Tokyo"):
         monkeypatch.setenv("TZ", name)
         assert parse("1 second ago", gix_date.now()).offset == 32400
-    for name in ("Mars", "/nowhere", zoneinfo.TZPATH[0], "EST5EDT,M3", "\udcff"):
+    for name in ("Mars", "/nowhere", ":/nowhere", zoneinfo.TZPATH[0], "EST5EDT,M3", "\udcff", "a" * 256, "/" + "a" * 256, "a/" * 3000):
         monkeypatch.setenv("TZ", name)
-        with pytest.raises(InvalidZone):
-            parse("1 second ago", gix_date.now())
+        with pytest.raises(InvalidZone) as caught:
+            gix_date.now()
+        assert caught.value.text == name
     monkeypatch.delenv("TZ")
     local = Path("/etc/localtime")
     assert gix_date.now().zone == (local.read_bytes() if local.is_file() else 0)
@@ -365,8 +367,10 @@ def test_signatures() -> None:
         Signature.from_line("A U Thor")
     with pytest.raises(NotText):
         Signature.from_line(b"Ren\xe9 <rene@example.com> 1660797906 +0800")
-    with pytest.raises(BadPart):
-        write_signature("A\n", "a", Time(0, 0))
+    for name, mail, wide, kind in [("A\n", "a", 0, BadPart), (b"\xff", "a", 0, NotText), ("A", "a", 360000, OffsetTooWide)]:
+        with pytest.raises(kind) as caught:
+            write_signature(name, mail, Time(0, wide))  # type: ignore[arg-type]
+        assert caught.value.text is None
     long = "é" * 1000
     assert write_signature(long, "a", Time(0, 0)) == f"{long} <a> 0 +0000"
 
@@ -413,7 +417,7 @@ def test_lines_fill_arrays() -> None:
         assert {at: (type(error), error.text) for at, error in again.items()} == {
             at: (type(error), error.text) for at, error in refused.items()
         }
-    for wrong in [(array("q"), array("q")), (array("i"), array("i")), (array("l"), array("i"))]:
+    for wrong in [(array("q"), array("q")), (array("i"), array("i")), (array("Q"), array("i")), (array("d"), array("i")), (array("q"), 5)]:
         with pytest.raises(TypeError):
             parse_lines_into(wrong, LINES)
     with pytest.raises(ValueError):

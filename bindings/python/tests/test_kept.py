@@ -18,7 +18,7 @@ import pytest
 
 from gix_date import GixDateError, InvalidInstant, InvalidZone, Moment, Time, WithoutOffset, _library, git
 from gix_date import parse, parse_carefully, parse_lines
-from gix_date.moments import given, read_zone
+from gix_date.moments import parts_in_zone, read_zone
 
 from rows import FOLDER
 
@@ -27,16 +27,23 @@ NEW_YORK = ZoneInfo("America/New_York")
 AFTER_SUMMER = datetime(2023, 11, 20, 12, tzinfo=NEW_YORK)
 MONTH_AGO = Time.from_datetime(datetime(2023, 10, 20, 12, tzinfo=NEW_YORK))
 SECONDS = 1700499600  # of AFTER_SUMMER
-TIME = (1660797906, 28800)
-CALLS: List[Callable[[Tuple[int, int, object]], object]] = [
-    lambda now: _library.parse("1 month ago", 0, now),
-    lambda now: _library.parse_carefully("2023-07-01 10:00", 0, 1, 0, now),
-    lambda now: _library.parse_lines("1 month ago\n@5\nyesterday", 0, now),
-    lambda now: _library.parse_date("2023-07-01 10:00", now),
-    lambda now: _library.approxidate("last friday at noon", now),
-    lambda now: _library.expiry_date("2 weeks ago", now),
-    lambda now: _library.show_date(TIME, 2, True, now),
+CALLS: List[Callable[[Moment], object]] = [
+    lambda now: parse("1 month ago", now),
+    lambda now: parse_carefully("2023-07-01 10:00", now, without_offset=WithoutOffset.MOMENTS_ZONE),
+    lambda now: list(parse_lines(b"1 month ago\n@5\n2 days ago", now)),
+    lambda now: git.parse_date("2023-07-01 10:00", now),
+    lambda now: git.approxidate("last friday at noon", now),
+    lambda now: git.expiry_date("2 weeks ago", now),
+    lambda now: git.show_date(Time(1660797906, 28800), "iso-local", now),
 ]
+
+
+def told(call: Callable[[Moment], object], now: Moment) -> object:
+    """What a call answers, or the class of its refusal."""
+    try:
+        return call(now)
+    except GixDateError as error:
+        return type(error)
 
 
 @pytest.fixture(autouse=True)
@@ -66,17 +73,23 @@ def test_moments_share_a_zone() -> None:
     files = [(Path(zoneinfo.TZPATH[0]) / "America/New_York").read_bytes() for _ in range(2)]
     moments = [AFTER_SUMMER, AFTER_SUMMER - timedelta(days=400), *(Moment(SECONDS, 0, file) for file in files)]
     assert zones_read(lambda: [parse("1 month ago", now) for now in moments]) == 1
-    assert len({id(given(now)[2]) for now in moments}) == 1
+    kept = {read_zone(now.zone if isinstance(now, Moment) else parts_in_zone(now)[2]) for now in moments}  # type: ignore[arg-type]
+    assert len(kept) == 1
     assert parse("1 month ago", Moment(SECONDS, 0, RULE)) == parse("1 month ago", moments[2]) == MONTH_AGO
-    assert given(Moment(0, 0, RULE))[2] is not given(moments[0])[2]
+    assert read_zone(RULE) not in kept
 
 
 def test_a_call_leaves_the_zone_as_it_was() -> None:
     for zone in (RULE, FILE):
-        kept = _library.Zone(zone)
-        for call in CALLS * 3:
-            for seconds in (SECONDS, 0, 2**62):  # the last is refused
-                assert call((seconds, 0, kept)) == call((seconds, 0, _library.Zone(zone)))
+        for seconds in (SECONDS, 0, 2**62):  # the last is refused
+            now = Moment(seconds, 0, zone)
+            read_zone.cache_clear()
+            again = [[told(call, now) for call in CALLS] for _ in range(3)]
+            assert zones_read(lambda: [told(call, now) for call in CALLS]) == 0
+            for answers in again:
+                for call, answer in zip(CALLS, answers):
+                    read_zone.cache_clear()
+                    assert told(call, now) == answer
 
 
 def test_moments_stay_values() -> None:
@@ -128,7 +141,7 @@ def test_zones_keep_no_references() -> None:
 
     rule = Rule(RULE)
     goes = weakref.ref(rule)
-    zone = _library.Zone(rule)
+    assert _library.Zone(rule).is_read
     del rule
     gc.collect()
     assert goes() is None  # since a zone was read, and has no text
@@ -137,7 +150,6 @@ def test_zones_keep_no_references() -> None:
         _library.Zone(FILE)
         _library.Zone(b"no file")
     assert (sys.getrefcount(_library.Zone), sys.getrefcount(FILE)) == before
-    assert _library.parse("1 month ago", 0, (SECONDS, 0, zone)) == (0, MONTH_AGO.seconds, MONTH_AGO.offset)
 
 
 WRONG: List[Union[str, bytes]] = [
@@ -196,9 +208,9 @@ def test_zones_of_the_extension() -> None:
             _library.Zone(other)  # type: ignore[arg-type]
         with pytest.raises(TypeError, match="^a zone has to be an int, a str or bytes$"):
             parse("@5", Moment(SECONDS, 0, other))  # type: ignore[arg-type]
-    for unread in (RULE, FILE):
-        with pytest.raises(TypeError, match="^a zone has to be an int, a str or bytes$"):
-            _library.parse("@5", 0, (SECONDS, 0, unread))
+    with pytest.raises(TypeError, match="^a zone has to be an int, a str or bytes$"):
+        parse("@5", Moment(SECONDS, 0, _library.Zone(RULE)))  # type: ignore[arg-type]
+    assert [_library.Zone(zone).is_read for zone in (RULE, FILE, "no rule", b"no file")] == [True, True, False, False]
 
 
 def test_other_refusals_stay() -> None:

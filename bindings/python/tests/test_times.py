@@ -4,10 +4,13 @@ from __future__ import annotations
 
 import copy
 import dataclasses
+import inspect
+import operator
 import pickle
 import random
+import weakref
 from datetime import datetime, timedelta, timezone
-from typing import List, Union
+from typing import Any, Callable, List, Tuple, Union
 from zoneinfo import ZoneInfo
 
 import pytest
@@ -21,12 +24,16 @@ from gix_date import (
     Format,
     GixDateError,
     InvalidZone,
+    Moment,
     NaiveDatetime,
+    NoDirective,
     NotText,
     OffsetTooWide,
     Pattern,
     Time,
+    git,
     parse,
+    write_signature,
 )
 
 TIME = Time(1660797906, 28800)
@@ -40,12 +47,153 @@ def test_a_time_is_a_value() -> None:
     assert TIME.__eq__((1660797906, 28800)) is NotImplemented
 
 
+def test_a_time_is_matched_by_its_fields() -> None:
+    found = []
+    for time in (TIME, Time(5, 0)):
+        match time:
+            case Time(1660797906, offset):
+                found.append(("first", offset))
+            case Time(seconds=seconds, offset=0):
+                found.append(("second", seconds))
+            case _:
+                found.append(("none", 0))
+    assert found == [("first", 28800), ("second", 5)]
+
+
 def test_a_time_does_not_change() -> None:
     with pytest.raises(AttributeError):
         TIME.seconds = 5  # type: ignore[misc]
     with pytest.raises((AttributeError, TypeError)):
         TIME.zone = "UTC"  # type: ignore[attr-defined]
     assert not hasattr(TIME, "__dict__")
+
+
+NUMBERS = [(5, 0), (5, 1), (4, 2), (-1, 0), (0, -1), (2**63 - 1, 2**31 - 1), (-(2**63), -(2**31)), (2**32, 0), (0, 0)]
+
+
+@pytest.mark.parametrize("one", NUMBERS)
+def test_times_compare_as_pairs_of_their_numbers(one: Tuple[int, int]) -> None:
+    for other in NUMBERS:
+        for compare in (operator.eq, operator.ne, operator.lt, operator.le, operator.gt, operator.ge):
+            assert compare(Time(*one), Time(*other)) is compare(one, other)
+    assert hash(Time(*one)) == hash(one)
+    assert (Time(*one).seconds, Time(*one).offset) == dataclasses.astuple(Time(*one)) == one
+    assert repr(Time(*one)) == f"Time(seconds={one[0]}, offset={one[1]})"
+
+
+def test_times_compare_with_times_alone() -> None:
+    others: List[Any] = [(5, 0), 5, None, Named(5, 0), datetime(2022, 8, 18)]
+    for other in others:
+        assert Time(5, 0) != other and not Time(5, 0) == other
+        for compare in (operator.lt, operator.le, operator.gt, operator.ge):
+            with pytest.raises(TypeError):
+                compare(Time(5, 0), other)
+    assert Named(5, 0) == Named(5, 0) != Named(5, 1) and hash(Named(5, 0)) == hash(Time(5, 0))
+    assert Named(5, 0) < Named(6, 0)
+
+
+def test_a_time_is_a_dataclass() -> None:
+    assert [field.name for field in dataclasses.fields(Time)] == ["seconds", "offset"]
+    assert dataclasses.is_dataclass(TIME) and dataclasses.asdict(TIME) == {"seconds": 1660797906, "offset": 28800}
+    assert Time.__match_args__ == ("seconds", "offset")
+    assert dataclasses.replace(TIME, seconds=5) == Time(5, 28800)
+    assert Time(seconds=5, offset=60) == Time(5, offset=60) == Time(5, 60)
+    assert list(inspect.signature(Time).parameters) == ["seconds", "offset"]
+    for name in ("seconds", "offset"):
+        with pytest.raises(dataclasses.FrozenInstanceError):
+            setattr(TIME, name, 5)
+        with pytest.raises(dataclasses.FrozenInstanceError):
+            delattr(TIME, name)
+    for wrong in ((), (1,), (1, 2, 3)):
+        with pytest.raises(TypeError):
+            Time(*wrong)
+    with pytest.raises(TypeError):
+        Time(1, seconds=1)  # type: ignore[misc, call-arg]
+    with pytest.raises(TypeError):
+        Time(1, zone=1)  # type: ignore[call-arg]
+
+
+@dataclasses.dataclass(frozen=True)
+class Commit(Time):
+    """A dataclass of a caller below Time."""
+
+    author: str = "A"
+
+
+class Zoned(Time):
+    """A time of a caller that is made otherwise, and has more."""
+
+    def __init__(self, seconds: int) -> None:
+        super().__init__(seconds, 3600)
+        object.__setattr__(self, "zone", "CET")
+
+
+def test_dataclasses_below_time() -> None:
+    commit = Commit(5, 60, "B")
+    assert repr(commit) == "Commit(seconds=5, offset=60, author='B')"
+    assert commit == Commit(5, 60, "B") != Commit(5, 60, "C") and commit != Time(5, 60)
+    assert dataclasses.replace(commit, seconds=6) == Commit(6, 60, "B")
+    assert commit.format("%s %z") == "5 +0001" and str(commit) == commit.to_header() == "5 +0001"
+    for wrong in ((2**63, 0), (0, 2**31), (0, -(2**31) - 1), (0, 2**63)):
+        with pytest.raises(OverflowError):
+            Commit(*wrong)
+    for other in ((1.5, 0), (0, "1")):
+        with pytest.raises(TypeError):
+            Commit(*other)  # type: ignore[arg-type]
+    zoned = Zoned(5)
+    assert (zoned.seconds, zoned.offset, vars(zoned)) == (5, 3600, {"zone": "CET"}) and repr(zoned) == "Zoned(seconds=5, offset=3600)"
+    assert weakref.ref(zoned)() is zoned
+
+
+class Neither:
+    """What is neither true nor false."""
+
+    def __bool__(self) -> bool:
+        raise ZeroDivisionError
+
+
+class Silent(Time):
+    """A time of a caller that compares to no answer."""
+
+    def __eq__(self, other: object) -> bool:
+        return Neither()  # type: ignore[return-value]
+
+
+class Unsure(Time):
+    """A time of a caller that cannot be compared."""
+
+    def __eq__(self, other: object) -> bool:
+        raise ZeroDivisionError
+
+    __hash__ = Time.__hash__
+
+
+def test_classes_below_may_compare_otherwise() -> None:
+    for compare in (operator.eq, operator.ne):
+        with pytest.raises(ZeroDivisionError):
+            compare(Unsure(5, 0), Unsure(5, 0))
+    with pytest.raises(ZeroDivisionError):
+        Silent(5, 0) != Silent(5, 0)
+    assert Unsure(5, 0) < Unsure(6, 0) and hash(Unsure(5, 0)) == hash(Time(5, 0))
+
+
+def test_an_offset_that_is_set_too_wide_is_refused() -> None:
+    time = Time(5, 60)
+    object.__setattr__(time, "offset", 2**31)
+    calls: List[Callable[[], object]] = [
+        lambda: str(time),
+        time.to_header,
+        lambda: time.format(ISO8601),
+        lambda: time.format_or_unix("%H"),
+        lambda: write_signature("A", "a", time),
+        lambda: git.show_date(time, "iso", Moment(0)),
+    ]
+    for call in calls:
+        with pytest.raises(OverflowError, match="32 bits"):
+            call()
+    for wrong in (2**63, 1.5, None):
+        with pytest.raises((OverflowError, TypeError)):
+            object.__setattr__(time, "offset", wrong)
 
 
 @pytest.mark.parametrize("protocol", range(pickle.HIGHEST_PROTOCOL + 1))
@@ -88,6 +236,40 @@ def test_formats_and_patterns() -> None:
         for call in (TIME.format, TIME.format_or_unix):
             with pytest.raises(NotText):
                 call(broken)
+
+
+def test_the_name_of_a_form_is_no_pattern() -> None:
+    names = ["iso", "iso8601", "iso-strict", "rfc2822", "short", "default", "unix", "raw", "relative", "human", "iso-local", "local"]
+    for name in names:
+        texts: List[Union[str, bytes]] = [name, name.encode()]
+        for text in texts:
+            for call in (TIME.format, TIME.format_or_unix):
+                with pytest.raises(NoDirective, match="a pattern without a directive") as caught:
+                    call(text)
+                assert isinstance(caught.value, Pattern) and caught.value.text == text and caught.value.place is None
+        with pytest.raises(NoDirective):
+            format(TIME, name)
+    for text in ("", "Iso", "iso ", "is", "noon", "%%", "iso%%"):
+        assert TIME.format(text) == text.replace("%%", "%")
+
+
+def test_isoformat_is_that_of_datetime() -> None:
+    source = random.Random(7)
+    times = [Time(source.randrange(-62 * 10**9, 253 * 10**9), source.choice([0, 3600, -12345, 86399, -60, 59])) for _ in range(500)]
+    for time in [TIME, Time(0, 0), *times]:
+        at = time.to_datetime()
+        assert time.isoformat() == at.isoformat()
+        for timespec in ("auto", "hours", "minutes", "seconds", "milliseconds", "microseconds"):
+            for sep in ("T", " ", "%", "é", "H"):
+                assert time.isoformat(sep, timespec) == at.isoformat(sep, timespec) == time.isoformat(sep=sep, timespec=timespec)
+    for wrong in ("", "TT", 5, None):
+        with pytest.raises(TypeError):
+            TIME.isoformat(wrong)  # type: ignore[arg-type]
+    for spec in ("", "nanoseconds", "second"):
+        with pytest.raises(ValueError):
+            TIME.isoformat("T", spec)
+    with pytest.raises(Conversion):
+        Time(2**62, 0).isoformat()
 
 
 def test_format_strings_print_by_patterns() -> None:

@@ -5,8 +5,10 @@ from __future__ import annotations
 import inspect
 import pydoc
 import re
+from datetime import datetime
+from pathlib import Path
 from types import ModuleType
-from typing import Dict
+from typing import Any, Dict
 
 import pytest
 
@@ -44,7 +46,7 @@ def test_examples_of_dates_are_shown() -> None:
 @pytest.mark.parametrize("module", [gix_date, errors, git])
 def test_a_module_exports_what_it_has(module: ModuleType) -> None:
     own = {name for name, value in vars(module).items() if getattr(value, "__module__", None) == module.__name__ and name[0] != "_"}
-    helpers = {"index_of", "named", "refusal"} if module is errors else set()
+    helpers = {"named"} if module is errors else set()
     assert own - helpers <= set(module.__all__)
     for name in module.__all__:
         assert inspect.getdoc(getattr(module, name))
@@ -58,6 +60,29 @@ def test_the_package_exports_what_it_imports() -> None:
 def test_each_refusal_can_be_imported() -> None:
     for name in errors.__all__:
         assert getattr(gix_date, name) is getattr(errors, name)
+
+
+def blocks_for(module: str) -> str:
+    """The examples of the page on Python that a module needs, with those before."""
+    page = (Path(__file__).parents[3] / "docs/PYTHON.md").read_text()
+    plain = [block for block in re.findall(r"```python\n(.*?)```", page, re.DOTALL) if not block.startswith(">>>")]
+    (last,) = (at for at, block in enumerate(plain) if f"import {module}\n" in block)
+    return "".join([plain[0], *plain[last : last + 1]][: last + 1])
+
+
+@pytest.mark.parametrize("module", ["numpy", "pandas", "polars"])
+def test_examples_for_other_packages(module: str) -> None:
+    for needed in ("numpy", module):
+        pytest.importorskip(needed)
+    names: Dict[str, Any] = {}
+    exec(blocks_for(module), names)
+    due = [datetime(2022, 8, 18, 4, 45, 6), datetime(1970, 1, 1, 0, 0, 5)]
+    assert not names["refused"] and names["times"].tolist() == due
+    if module == "pandas":
+        assert [time.to_pydatetime().replace(tzinfo=None) for time in names["frame"]["time"]] == due
+        assert names["frame"]["offset"].tolist() == [28800, 0] and names["frame"]["time"][0].tzinfo is not None
+    if module == "polars":
+        assert names["table"]["time"].to_list() == due and names["table"]["offset"].to_list() == [28800, 0]
 
 
 def test_help_has_all_names() -> None:

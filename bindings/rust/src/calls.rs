@@ -1,6 +1,7 @@
 //! The calls of the library, each behind a safe function. No other module has an `unsafe` block.
 
 pub(crate) mod git;
+pub(crate) mod lines;
 pub(crate) mod zone;
 
 use crate::ffi::{self, CCarefulOptions, CSignature};

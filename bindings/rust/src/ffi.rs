@@ -91,6 +91,41 @@ extern "C" {
         time: *mut Time,
         place: *mut usize,
     ) -> u32;
+    pub fn gix_date_parse_lines(
+        block: *const u8,
+        block_len: usize,
+        reader: u32,
+        options: *const CCarefulOptions,
+        seconds: *mut i64,
+        seconds_len: usize,
+        offsets: *mut i32,
+        offsets_len: usize,
+        statuses: *mut u32,
+        statuses_len: usize,
+        bytes: *mut usize,
+    ) -> usize;
+    pub fn gix_date_parse_lines_at(
+        block: *const u8,
+        block_len: usize,
+        reader: u32,
+        options: *const CCarefulOptions,
+        now: *const Instant,
+        zone: *mut CZone,
+        seconds: *mut i64,
+        seconds_len: usize,
+        offsets: *mut i32,
+        offsets_len: usize,
+        statuses: *mut u32,
+        statuses_len: usize,
+        bytes: *mut usize,
+    ) -> usize;
+    pub fn gix_date_check_lines(
+        block: *const u8,
+        block_len: usize,
+        canonical: *mut u8,
+        canonical_len: usize,
+        bytes: *mut usize,
+    ) -> usize;
     pub fn gix_date_format(
         time: *const Time,
         format: u32,

@@ -76,7 +76,7 @@ pub fn calls(header: &str) -> Vec<String> {
         .map(|text| text.trim_start_matches("GIX_DATE_MUST_USE\n"));
     statements
         .filter(|text| {
-            let results = ["uint32_t ", "bool ", "void "];
+            let results = ["uint32_t ", "size_t ", "bool ", "void "];
             results.iter().any(|result| text.starts_with(result))
         })
         .filter_map(|text| text.strip_suffix(')')?.split_once('('))
@@ -107,9 +107,10 @@ fn rust_type(of: &str) -> String {
         };
     }
     let name = match of {
-        "char" | "void" => "u8",
+        "char" | "void" | "uint8_t" => "u8",
         "bool" => "bool",
         "int32_t" => "i32",
+        "int64_t" => "i64",
         "uint32_t" => "u32",
         "size_t" => "usize",
         "gix_date_time" => "Time",

@@ -32,6 +32,7 @@ mod ffi;
 pub mod git;
 #[cfg(test)]
 mod header;
+pub mod lines;
 mod moment;
 pub mod parse;
 #[cfg(feature = "serde")]

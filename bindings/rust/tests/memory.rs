@@ -2,6 +2,7 @@
 //! hold is freed.
 
 use gix_date_proved::git::{approxidate, expiry_date, parse_date, show_date, DateMode, Expiry};
+use gix_date_proved::lines::{check_lines, parse_lines, Columns, Done, LineReader, Status};
 use gix_date_proved::parse::TimeBuf;
 use gix_date_proved::time::format;
 use gix_date_proved::{
@@ -123,6 +124,19 @@ fn a_text_that_has_no_memory_is_refused() {
     assert_eq!(refusals, [(); 5].map(|()| Err(Error::OutOfMemory)));
 }
 
+/// What a call for many lines does of two, which it has to read.
+fn two_lines(call: impl FnOnce(&[u8], Columns<'_>) -> Done) {
+    let (mut seconds, mut offsets, mut statuses) = ([0; 2], [0; 2], [Status::default(); 2]);
+    let columns = Columns {
+        seconds: &mut seconds,
+        offsets: &mut offsets,
+        statuses: &mut statuses,
+    };
+    let block = b"2008-02-14 20:30:45\n2008-02-14 20:30:45";
+    assert_eq!(call(block, columns).lines, 2);
+    assert!(statuses.iter().all(|status| status.result().is_ok()));
+}
+
 #[test]
 fn other_calls_take_no_memory() {
     let time = Time::new(1660797906, 28800);
@@ -138,6 +152,9 @@ fn other_calls_take_no_memory() {
         assert_eq!(time.to_str(&mut buf), Ok("1660797906 +0800"));
         assert!(time.write_to(&mut &mut out[..]).is_ok());
         assert!(Signature::from_line("A <a> 5 +0000").is_ok());
+        let reader = LineReader::Careful(CarefulOptions::default());
+        two_lines(|block, columns| parse_lines(block, reader, columns));
+        assert_eq!(check_lines(b"5 +0000", &mut [false]).lines, 1);
         let now = Moment::at_offset(1251660000, 0);
         assert!(parse_date("2008-02-14 20:30:45", &now).is_ok());
         assert!(approxidate("yesterday", &now).is_ok());
@@ -217,6 +234,10 @@ fn a_zone_that_is_read_takes_no_memory_in_calls() {
         zone.expiry_date("never", now).unwrap();
         let mode = DateMode::default();
         zone.show_date(Time::new(5, 7200), mode, now).unwrap();
+        let reader = LineReader::Careful(options);
+        two_lines(|block, columns| zone.parse_lines(block, reader, now, columns));
+        two_lines(|block, columns| zone.parse_date_lines(block, now, columns));
+        two_lines(|block, columns| zone.approxidate_lines(block, now, columns));
     };
     for (zone, ..) in zones() {
         let mut zone = zone.read().unwrap();

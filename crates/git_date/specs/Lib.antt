@@ -4,4 +4,4 @@ pub mod Rules
 pub mod Exact
 pub mod Approximate
 pub mod Show
-pub mod Laws
+pub mod Formats

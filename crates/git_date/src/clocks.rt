@@ -25,7 +25,6 @@ pub(crate) fn utc_clock(seconds: u64) -> Option<Clock>
 }
 
 /// The year of some seconds by the clock of UTC, or 0 before 1970.
-#[tactic(auto, unfolding(crate::specs::Rules::Clocks::utc_year))]
 pub(crate) fn utc_year(seconds: i64) -> u16
     ensures { result ≡ utc_year seconds }
 {

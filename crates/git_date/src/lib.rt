@@ -25,10 +25,11 @@
 //! approxidate(b"5 mins ago", now);          // Ok, with 1249500000 +0000 and Some(2): Git knows no `mins`, so this is the 5th
 //! ```
 //!
-//! [`show_date`] shows a date as `git log --date=MODE` does.
+//! [`show_date`] shows a date as `git log --date=MODE` does, and [`show_by_format`] as `--date=format:PATTERN` does.
 //!
 //! The text of a date is bytes, UTF-8 or not, as in Git: each byte that is not ASCII is a mark, and a NUL ends the text. The
-//! moment and its zone are handed in, as for [`gix_date::parse`]. No call here takes memory.
+//! moment and its zone are handed in, as for [`gix_date::parse`]. No call here takes memory, but for
+//! [`text_by_format`].
 #![tactic(auto)]
 
 mod approximate;
@@ -38,6 +39,7 @@ mod error;
 mod fast;
 mod fault;
 mod fields;
+mod format;
 mod mode;
 mod reader;
 mod show;
@@ -47,6 +49,7 @@ mod zones;
 pub use approximate::{Approximate, Expiry, approxidate, expiry_date};
 pub use date::{ReadDate, parse_date, parse_date_at};
 pub use error::DateError;
+pub use format::{DateFormat, FormatFault, ShowError, show_by_format, text_by_format};
 pub use mode::{DateKind, DateMode, UnknownMode};
 pub use show::{DateText, show_date, show_date_at};
 pub use zones::texts::zone_offset;

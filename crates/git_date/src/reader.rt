@@ -1,9 +1,9 @@
 //! The reader: one token after the other, and what the whole text says.
-ghost use Rattle.std.specs.Prelude.{◌≡◌, ◌≤◌, length, IfOk, Option, List, ℕ};
+ghost use Rattle.std.specs.Prelude.{◌≡◌, ◌≤◌, length, IfOk, Option, ℕ};
 ghost use Rattle.git_date.specs.Tokens.Tokens.{tokens, token_of};
 ghost use Rattle.git_date.specs.Rules.Dates.{now_at};
 ghost use Rattle.git_date.specs.Exact.Fast.{has_few_digits};
-ghost use Rattle.git_date.specs.Exact.Reading.{sign_rule, mark_rule, rule, reading_of, read_on, place_in, error_of, at_said, fields_said, string_said, said_up_to, said_by, ended};
+ghost use Rattle.git_date.specs.Exact.Reading.{sign_rule, rule, reading_of, read_on, place_in, error_of, at_said, fields_said, string_said, said_up_to, said_by, ended};
 ghost use Rattle.git_date.specs.Exact.Outcome.{SaidIsInstant};
 ghost use Rattle.git_date.specs.Rules.Views.{step_view};
 

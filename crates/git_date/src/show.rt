@@ -9,7 +9,7 @@ ghost use Rattle.git_date.specs.Show.Clocks.{moment_at, moment_of};
 ghost use Rattle.git_date.specs.declared.error.DateError.TheVariants.{Range};
 
 mod ages;
-mod clocks;
+pub(crate) mod clocks;
 mod dates;
 mod human;
 

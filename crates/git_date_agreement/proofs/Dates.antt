@@ -1,5 +1,6 @@
 -- Formatted dates, as the exact reader reads them.
-use Rattle.std.proofs.Common.{◌≡◌, ◌≤◌, ◌≤ℤ◌, ℕ, pos, List, [], ◌∷◌, ◌++◌, Option, Some, None, refl, ◌∙◌, ap, sym, subst, append_assoc, inl, inr}
+use Rattle.std.specs.Prelude.{◌&&◌}
+use Rattle.std.proofs.Common.{◌≡◌, ◌≤◌, ◌≤ℤ◌, ℕ, pos, List, [], ◌∷◌, ◌++◌, Option, Some, None, refl, ◌∙◌, ap, sym, subst, append_assoc, inl, inr, arith, nat_le}
 use Rattle.gix_date.specs.Families.Answer.{Absolute}
 use Rattle.gix_date.specs.Families.Patterns.{IsMeaning, rfc2822_layout, iso8601_layout, iso8601_strict_layout, gitoxide_layout, default_layout, time_answer}
 use Rattle.gix_date.proofs.Fields.FieldsRead.{Begins, begins-append, field-begins, year-begins, name-begins}
@@ -16,14 +17,16 @@ use Rattle.git_date.specs.Rules.Fields.{unknown, with_date}
 use Rattle.git_date.specs.Tokens.Tokens.{Token, Letters, letter_before, digit_before, tokens}
 use Rattle.git_date.specs.Types.Names.{Fields, Now}
 use Rattle.git_date.specs.Rules.Words.{without_ending}
-use Rattle.git_date_agreement.proofs.Fields.{IsOf, AreFields, time-of, fields-of, year-from, year-is, IsSpaced, free-rest}
+use Rattle.git_date_agreement.proofs.Fields.{IsOf, AreFields, time-of, fields-of, IsSpaced, free-rest, at-most, sixty-nine}
 use Rattle.git_date_agreement.proofs.Mail.{mail-clock-part, prefix-part, zone-part}
 use Rattle.git_date_agreement.proofs.Parts.{all_of, gap-part, gap-first, day-part, year-part, clock-part, date-part, offset-part, letter-part, clock-first, colon-part, month-part, weekday-part}
 use Rattle.git_date_agreement.proofs.Steps.{Goes}
+use Rattle.std.proofs.lemmas.Bool.{and_parts}
+use Rattle.std.proofs.lemmas.Int.{by_lt_z}
+use Rattle.jiff_core.proofs.CalendarLemmas.{day_count-day_of_year, day_count-later_year, day_of_year_bound, days_from_civil-day_count}
+use Rattle.jiff_core.specs.Calendar.{days_in_month}
+use Rattle.jiff_core.proofs.SignedLemmas.{signed_arith}
 use Rattle.git_date_agreement.specs.Agree.{HasNoLeapSecond}
-
-pub spaced-free : (ts : List Token) → IsSpaced ts → HasNoDigits ts
-spaced-free ts s = subst HasNoDigits (sym s.is) tt
 
 spaced-kept : (ts : List Token) → IsSpaced ts → without_ending ts ≡ ts
 unfolding without_ending
@@ -72,7 +75,7 @@ module _ (now : Now) (t : Time) (l : LocalTime) (is : IsOf l t) (f : AreFields l
       let dated = with_date unknown l.date.year l.date.month l.date.day in
       let known = subst (λ (g : Fields). Goes now t (told PlainDate g) (tokens b.rest)) a go in
       subst (λ (g : Fields). Goes now t g (tokens text)) (sym a)
-      (date-part now t l is f late M text b (spaced-free (tokens b.rest) s) (subst (Goes now t dated) (sym (spaced-kept (tokens b.rest) s)) known))
+      (date-part now t l is f late M text b (subst HasNoDigits (sym s.is) tt) (subst (Goes now t dated) (sym (spaced-kept (tokens b.rest) s)) known))
   part Clock g M text b a free s go = clock-part now t l is f late M text g b space s.more free s.is refl a go
   part Rfc2822Clock g M text b a free s go = mail-clock-part now t l is f late M text g b free s a go
   part p g M text b a free s go = absurd a
@@ -134,7 +137,23 @@ module _ (now : Now) (t : Time) (l : LocalTime) (is : IsOf l t) (f : AreFields l
 
 -- the year of such a date
 pub late-year : (l : LocalTime) (t : Time) → IsOf l t → AreFields l → (x : List ℕ) → IsYear x l.date.year → pos 0 ≤ℤ t.seconds → 1969 ≤ l.date.year
-late-year l t is f x h since = year-from l t is f (year-is x l.date.year h).1 since
+late-year l t is f x h since =
+    by_lt_z (pos l.date.year) (pos 1969)
+    (λ lt. absurd (
+    let y = pos l.date.year in
+    let m = l.date.month in
+    let d = l.date.day in
+    let here = day_count-day_of_year y m d f.first_day in
+    let fine = and_parts (nat_le 1 m && nat_le m 12 && nat_le 1 d) (nat_le d (days_in_month y m)) is.date in
+    let day : d ≤ days_in_month y m = at-most d (days_in_month y m) fine.1 in
+    let within = day_of_year_bound y m d ((omega (arith, signed_arith), omega (arith, signed_arith)), (f.first_month, f.last_month), (f.first_day, day)) in
+    let civil = is.civil in
+    let near = is.within in
+    let hour = f.hour in
+    let minute = f.minute in
+    let second = f.second in
+    omega (arith, signed_arith, here, within, day_count-later_year y (pos 1969) (omega (arith, signed_arith)) lt, days_from_civil-day_count y m d, sixty-nine, civil, near, hour, minute, second, since)))
+    (λ ge. omega (arith, signed_arith, ge))
 
 -- what begins with a letter or a digit does not begin with `@`
 digit-no-at : (c : ℕ) (ts : List Token) → at_text (digit_before c ts) ≡ None

@@ -1,14 +1,12 @@
 -- What the exact reader says of the fields of a formatted date.
-use Rattle.std.proofs.Common.{◌≡◌, ◌∙◌, ◌<◌, ◌≤◌, ◌≤ℤ◌, ◌⊎◌, inl, inr, ℕ, pos, unsigned_abs, nat_le, nat_lt, Bool, true, false, cond, List, [], ◌∷◌, ◌++◌, length, Some, refl, ap, sym, subst, arith, append_assoc}
+use Rattle.std.proofs.Common.{◌≡◌, ◌∙◌, ◌<◌, ◌≤◌, ◌⊎◌, inl, inr, ℕ, pos, unsigned_abs, nat_le, nat_lt, Bool, true, false, cond, List, [], ◌∷◌, ◌++◌, length, Some, refl, ap, sym, subst, arith, append_assoc}
 use Rattle.std.specs.Prelude.{◌&&◌, codes}
 use Rattle.std.specs.Char.{is_ascii_alphabetic, is_ascii_digit}
 use Rattle.std.specs.List.{list_all}
 use Rattle.std.proofs.lemmas.Bool.{and_parts, eqb-true as is-byte}
 use Rattle.std.proofs.lemmas.Bool.Decides.{nat_tests}
-use Rattle.std.proofs.lemmas.Int.{by_lt_z}
 use Rattle.std.proofs.lemmas.Option.{cond_some as guard}
-use Rattle.jiff_core.proofs.CalendarLemmas.{days_in_month_bounds, days_from_civil-day_count, day_count-later_year, day_count-day_of_year, day_of_year_bound}
-use Rattle.jiff_core.proofs.SignedLemmas.{signed_arith}
+use Rattle.jiff_core.proofs.CalendarLemmas.{days_in_month_bounds}
 use Rattle.jiff_core.specs.Calendar.{days_in_month, day_count, days_of_years, days_of_months}
 use Rattle.gix_date.proofs.Fields.FieldsTaken.{went}
 use Rattle.gix_date.specs.Families.Answer.{Absolute, OffsetAboveDay}
@@ -46,13 +44,12 @@ time-of l t e =
     let a = answer-by (nat_lt 86_340 (unsigned_abs l.offset)) (record { seconds = s.0; offset = l.offset }) t s.2 in
     let p = and_parts (is_date l.date && is_clock l.clock) (is_instant (civil_seconds l.date l.clock l.offset)) g.0 in
     let q = and_parts (is_date l.date) (is_clock l.clock) p.0 in
-    let near = a.0 in
     record {
       date = q.0;
       clock = q.1;
       civil = g.1 ∙ ap (λ (x : Time). x.seconds) a.1;
       offset = sym (ap (λ (x : Time). x.offset) a.1);
-      within = grind (arith, nat_tests, near);
+      within = grind (arith, nat_tests, a.0);
     }
 
 -- the fields of a calendar and a clock
@@ -65,7 +62,7 @@ pub record AreFields (l : LocalTime) : Type 0 where
   pub minute : l.clock.minute < 60
   pub second : l.clock.second < 60
 
-at-most : (a b : ℕ) → nat_le a b ≡ true → a ≤ b
+pub at-most : (a b : ℕ) → nat_le a b ≡ true → a ≤ b
 at-most a b h = grind (arith, nat_tests, h)
 
 pub fields-of : (l : LocalTime) → is_date l.date ≡ true → is_clock l.clock ≡ true → AreFields l
@@ -91,42 +88,20 @@ fields-of l d c =
     }
 
 -- a time from 1970 on has a year from 1969 on by its own clock
-sixty-nine : day_count (pos 1969) 1 1 ≡ 4_371_588
+pub sixty-nine : day_count (pos 1969) 1 1 ≡ 4_371_588
 unfolding day_count days_of_years days_of_months
 sixty-nine = refl
-
-pub year-from : (l : LocalTime) (t : Time) → IsOf l t → AreFields l → l.date.year < 10_000 → pos 0 ≤ℤ t.seconds → 1969 ≤ l.date.year
-year-from l t is f short since =
-    by_lt_z (pos l.date.year) (pos 1969)
-    (λ lt. absurd (
-    let y = pos l.date.year in
-    let m = l.date.month in
-    let d = l.date.day in
-    let here = day_count-day_of_year y m d f.first_day in
-    let fine = and_parts (nat_le 1 m && nat_le m 12 && nat_le 1 d) (nat_le d (days_in_month y m)) is.date in
-    let day : d ≤ days_in_month y m = at-most d (days_in_month y m) fine.1 in
-    let within = day_of_year_bound y m d ((omega (arith, signed_arith), omega (arith, signed_arith)), (f.first_month, f.last_month), (f.first_day, day)) in
-    let civil = is.civil in
-    let near = is.within in
-    let hour = f.hour in
-    let minute = f.minute in
-    let second = f.second in
-    omega (arith, signed_arith, here, within, day_count-later_year y (pos 1969) (omega (arith, signed_arith)) lt, days_from_civil-day_count y m d, sixty-nine, civil, near, hour, minute, second, since)))
-    (λ ge. omega (arith, signed_arith, ge))
 
 pub field-is : (x : List ℕ) (n : ℕ) → IsField x n → IsNumber x n × (n < 100) × ((length x ≡ 1) ⊎ (length x ≡ 2))
 unfolding number
 field-is [] n h = absurd h
 field-is (a ∷ []) n h =
-    let p = h.0 in
-    let low = digit-below a p in
-    (record { some = omega arith; digits = rw p refl; is = omega (arith, h.1, low) }, omega (arith, h.1, low), inl refl)
+    let low = digit-below a h.0 in
+    (record { some = omega arith; digits = rw h.0 refl; is = omega (arith, h.1, low) }, omega (arith, h.1, low), inl refl)
 field-is (a ∷ b ∷ []) n h =
-    let p = h.0 in
-    let q = h.1 in
-    let low = digit-below a p in
-    let next = digit-below b q in
-    (record { some = omega arith; digits = rw (p, q) refl; is = omega (arith, h.2, low, next) }, omega (arith, h.2, low, next), inr refl)
+    let low = digit-below a h.0 in
+    let next = digit-below b h.1 in
+    (record { some = omega arith; digits = rw (h.0, h.1) refl; is = omega (arith, h.2, low, next) }, omega (arith, h.2, low, next), inr refl)
 field-is (a ∷ b ∷ c ∷ more) n h = absurd h
 
 pub year-is : (x : List ℕ) (n : ℕ) → IsYear x n → IsNumber x n × (n < 10_000) × (length x ≡ 4)

@@ -1,7 +1,7 @@
 -- The dates of mail, as the exact reader reads them: the name of the day, the second and the offset's digits may be missing.
 use Rattle.std.proofs.Common.{◌≡◌, ◌∙◌, ◌<◌, ◌≤◌, inl, inr, ℕ, ℤ, pos, neg_ℤ, ◌*ℤ◌, nat_lt, Bool, true, false, cond, List, [], ◌∷◌, ◌++◌, Option, Some, None, Ok, refl, ap, sym, subst, arith, append_assoc, append-nil}
 use Rattle.std.specs.Prelude.{codes}
-use Rattle.std.specs.Option.{is_some}
+use Rattle.std.specs.Option.{is_some, option_map_or}
 use Rattle.std.specs.Str.{str_to_ascii_lowercase}
 use Rattle.std.proofs.lemmas.Bool.Decides.{nat_tests}
 use Rattle.std.proofs.lemmas.Option.{cond_some as guard}
@@ -16,19 +16,19 @@ use Rattle.gix_date.specs.Text.Characters.{colon, comma, space}
 use Rattle.gix_date.specs.Text.LongNames.{month_told, weekday_told}
 use Rattle.gix_date.specs.Text.Names.{is_name}
 use Rattle.gix_date.specs.declared.time.Time.{Time}
-use Rattle.git_date.proofs.Exact.PrintedClocks.{at, small-rule, taken-rule, after-clock, clock-taken, numbered, two-numbers}
+use Rattle.git_date.proofs.Exact.PrintedClocks.{at, small-rule, taken-rule, after-clock, clock-taken, numbered, two-numbers, or_bare}
 use Rattle.git_date.proofs.Text.TokenRuns.{mark-first}
 use Rattle.git_date.specs.Types.DatedCases.{Taken}
 use Rattle.git_date.specs.Rules.Dates.{exact_seconds}
-use Rattle.git_date.specs.Rules.Digits.{bare_digits, group_or_bare, grouped, number_rule}
+use Rattle.git_date.specs.Rules.Digits.{grouped, group_said}
 use Rattle.git_date.specs.Rules.Fields.{unknown, knows_date}
-use Rattle.git_date.specs.Rules.Groups.{ReadTokens, number_at, marked_number, group_of, clock_group, group_rule, large_in}
+use Rattle.git_date.specs.Rules.Groups.{ReadTokens, number_at, marked_number, group_of, group_rule, large_in}
 use Rattle.git_date.specs.Tokens.Names.{is_weekday, zone_named}
 use Rattle.git_date.specs.Tokens.Numbers.{number}
 use Rattle.git_date.specs.Exact.Reading.{ended, rule}
 use Rattle.git_date.specs.Tokens.Tokens.{Token, Letters, Digits, Mark, tokens, bytes_left}
 use Rattle.git_date.specs.Types.Names.{Fields, Group, Now, Number}
-use Rattle.git_date.specs.Rules.Words.{with_zone, is_filler, with_word, letters_rule, without_ending}
+use Rattle.git_date.specs.Rules.Words.{with_word, letters_rule, without_ending}
 use Rattle.git_date_laws.proofs.Alike.Texts.{lowered, tokens-lower, in_lower_case}
 use Rattle.git_date_laws.proofs.Alike.Spelling.{word-agrees}
 use Rattle.git_date_agreement.proofs.Fields.{IsOf, AreFields, field-is, gap-quiet, IsSpaced}
@@ -46,28 +46,28 @@ two-of first b (Letters run ∷ more) = refl
 two-of first b ts = refl
 
 pair-small : (first : ℕ) (second : Number) → second.value < 60 → large_in (pair_at first second) ≡ None
-unfolding large_in
 pair-small first second h = let a : nat_lt 2_147_483_647 second.value ≡ false = grind (arith, nat_tests) in rw a refl
 
 pair-clock : (now : Now) (g : Fields) (h m left : ℕ) → h < 24 → m < 60 → group_rule now g (pair_at h (numbered m left)) ≡ Taken (record g { hour = Some h; minute = Some m; second = Some 0 })
-unfolding group_rule clock_group
+unfolding group_rule
 pair-clock now g h m left a b = rw (clock-taken g h m 0 a b (omega arith)) refl
 
 pair-rule : (now : Now) (g : Fields) (a b : List ℕ) (h m : ℕ) (more : List Token) → number a ≡ h → number b ≡ m → h < 24 → m < 60
     → rule now g (Digits a) (Mark colon ∷ Digits b ∷ Mark space ∷ more) ≡ Ok (Some (record g { hour = Some h; minute = Some m; second = Some 0 }), Mark space ∷ more)
-unfolding without_ending number_rule
+unfolding without_ending group_said
 pair-rule now g a b h m more hh mm low high =
     let last = Mark space ∷ more in
     let mid = Mark colon ∷ Digits b ∷ last in
     let second = number_at b last in
     let left = bytes_left (Digits a ∷ mid) in
-    let bare = bare_digits g a mid in
+    let said = λ (pair : Group). or_bare g a mid (grouped left pair last (group_rule now g pair)) in
     let next : Fields = record g { hour = Some h; minute = Some m; second = Some 0 } in
+    let pair = pair_at h (numbered m second.left) in
     ap ended (small-rule now g a mid (omega arith)
-    ∙ ap (λ (found : ReadTokens Group). group_or_bare now g left found bare) (two-of (number a) b more)
-    ∙ ap (λ (n : ℕ). grouped now g left (pair_at n second, last) bare) hh
-    ∙ ap (λ (n : ℕ). grouped now g left (pair_at h (numbered n second.left), last) bare) mm
-    ∙ taken-rule now g left (pair_at h (numbered m second.left)) last bare next (pair-small h (numbered m second.left) high) (pair-clock now g h m second.left low high)
+    ∙ ap (λ (found : ReadTokens Group). or_bare g a mid (option_map_or (λ found. grouped left found.0 found.1 (group_rule now g found.0)) found (Ok None))) (two-of (number a) b more)
+    ∙ ap (λ (n : ℕ). said (pair_at n second)) hh
+    ∙ ap (λ (n : ℕ). said (pair_at h (numbered n second.left))) mm
+    ∙ ap (or_bare g a mid) (taken-rule left pair last _ next (pair-small h (numbered m second.left) high) (pair-clock now g h m second.left low high))
     ∙ ap (λ (rest : List Token). Ok (Some next, rest)) (after-clock space more (knows_date next) refl))
 
 -- a zone's name, in any letter case
@@ -119,7 +119,7 @@ module _ (now : Now) (t : Time) (l : LocalTime) (is : IsOf l t) (f : AreFields l
   gone minutes e = over now t (zoned minutes) (zoned-fits minutes e)
 
   zone-goes : (x : List ℕ) → named_zone x ≡ Some l.offset → Goes now t (all_of l) (tokens x)
-  unfolding named_zone tokens with_word month_told is_weekday weekday_told zone_named with_zone is_filler
+  unfolding named_zone tokens with_word month_told is_weekday weekday_told zone_named
   zone-goes x e =
       let G = Goes now t (all_of l) (tokens x) in
       let west : ℕ → ℤ = λ minutes. neg_ℤ (pos minutes) in

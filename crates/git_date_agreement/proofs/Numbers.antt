@@ -1,7 +1,7 @@
 -- A number of seconds at the front of what is left: from 100000000 it is those seconds, and a smaller one, or one with a sign,
 -- says no time.
 use Rattle.std.proofs.Common.{◌≡◌, ◌∙◌, ◌<◌, ◌≤◌, ◌/◌, ◌%◌, ◌^◌, ◌⊎◌, inl, inr, ℕ, ℤ, pos, nat_le, nat_lt, Bool, true, false, cond, List, [], ◌∷◌, ◌++◌, length, Option, Some, None, Ok, refl, ap, sym, subst, arith}
-use Rattle.std.specs.Prelude.{◌==◌}
+use Rattle.std.specs.Prelude.{◌==◌, option_map, ok_or}
 use Rattle.std.specs.Char.{is_ascii_digit}
 use Rattle.std.specs.List.{fold}
 use Rattle.std.specs.Str.{all_ascii_digits}
@@ -19,27 +19,25 @@ use Rattle.git_date.proofs.Rules.ClocksBack.{shown_of}
 use Rattle.git_date.proofs.Rules.Kept.{either}
 use Rattle.git_date.specs.Rules.Clocks.{utc_clock}
 use Rattle.git_date.specs.Rules.Dates.{is_day_of_month, year_said, by_year, year_date}
-use Rattle.git_date.specs.Rules.Digits.{Stepped, by_clock, epoch_rule, with_epoch, by_date, eight_digits, bare_digits, number_rule, digits_rule}
+use Rattle.git_date.specs.Rules.Digits.{Stepped, with_epoch, by_date, eight_digits, bare_digits, digits_rule, group_said}
 use Rattle.git_date.specs.Rules.Fields.{unknown}
 use Rattle.git_date.specs.Rules.Groups.{marked_number, group_of, without_fraction}
 use Rattle.git_date.specs.Tokens.Numbers.{digit_more, number}
-use Rattle.git_date.specs.Rules.Offsets.{offset_minutes, two_digit_offset, offset_said, or_refused, by_offset, SaidOffset, offset_rule, with_offset}
+use Rattle.git_date.specs.Rules.Offsets.{offset_minutes, two_digit_offset, offset_said, SaidOffset, with_offset}
 use Rattle.git_date.specs.Exact.Reading.{ended, sign_rule}
 use Rattle.git_date.specs.Tokens.Tokens.{Token, Letters, Digits, Mark, tokens}
 use Rattle.git_date.specs.Types.Names.{Dated, Fields, Now}
 use Rattle.git_date.specs.Rules.Words.{without_ending}
 use Rattle.git_date_laws.proofs.Back.ExactNothing.{AllLack, Lacking, bare-lacks}
 use Rattle.git_date_agreement.proofs.Steps.{Ends, ends-free, ends-kept, IsPartial, Goes, Step, After, goes, sign-goes, no-offset}
-
--- the two readers of digits
-digit-same : (v c : ℕ) → is_ascii_digit c ≡ true → digit_more v c ≡ digits_value_after 10 v (c ∷ [])
-digit-same v c h = grind (arith, nat_tests)
+use Rattle.git_date.specs.Tokens.Steps.{and_then}
+use Rattle.git_date.specs.Types.FaultCases.{Range}
 
 folded : (v : ℕ) (run : List ℕ) → all_ascii_digits run ≡ true → fold digit_more v run ≡ digits_value_after 10 v run
 folded v [] h = refl
 folded v (c ∷ run) h =
     let both = and_parts (is_ascii_digit c) (all_ascii_digits run) h in
-    folded (digit_more v c) run both.1 ∙ ap (λ (k : ℕ). digits_value_after 10 k run) (digit-same v c both.0)
+    folded (digit_more v c) run both.1 ∙ ap (λ (k : ℕ). digits_value_after 10 k run) (grind (arith, nat_tests, both.0))
 
 number-is : (run : List ℕ) → all_ascii_digits run ≡ true → digits_value 10 run < 2 ^ 63 → number run ≡ digits_value 10 run
 unfolding number
@@ -117,7 +115,7 @@ module _ (now : Now) (t : Time) (ts : List Token) (ends : Ends ts) (partial : (f
   eight-by run m d None = tt
 
   eight : (run : List ℕ) → Ended (eight_digits unknown run ts)
-  unfolding eight_digits year_date
+  unfolding year_date
   eight run =
       either (λ (d : Dated). Ended (by_date run ts d)) (is_day_of_month (number run / 100 % 100) (number run % 100)) _ _
       (eight-by run (number run / 100 % 100) (number run % 100) (year_said (number run / 10_000))) tt
@@ -138,33 +136,32 @@ module _ (now : Now) (t : Time) (ts : List Token) (ends : Ends ts) (partial : (f
       by false e = lacking (bare_digits unknown run ts) (bare-lacks run ts (fraction-kept ts ends) e)
 
   low : (run : List ℕ) → number run < 100_000_000 → Ended (digits_rule now unknown run ts)
-  unfolding digits_rule number_rule
+  unfolding digits_rule group_said
   low run h =
       let early : nat_le 100_000_000 (number run) ≡ false = grind (arith, nat_tests) in
       let small : nat_lt 2_147_483_647 (number run) ≡ false = grind (arith, nat_tests) in
       rw (early, small, group-none (number run) ts ends) (bare run)
 
   high : (run : List ℕ) → 100_000_000 ≤ number run → (is_instant (pos (number run)) ≡ true → Goes now t (with_epoch unknown (shown_of (pos (number run)))) ts) → Ended (digits_rule now unknown run ts)
-  unfolding digits_rule epoch_rule utc_clock
+  unfolding digits_rule utc_clock
   high run h epoch =
       let large : nat_le 100_000_000 (number run) ≡ true = grind (arith, nat_tests) in
       rw large (by (is_instant (pos (number run))) refl)
     where
-      by : (b : Bool) → is_instant (pos (number run)) ≡ b → Ended (by_clock unknown ts (cond b (Some (shown_of (pos (number run)))) None))
+      by : (b : Bool) → is_instant (pos (number run)) ≡ b → Ended (ok_or (option_map (λ shown. (Some (with_epoch unknown shown), ts)) (cond b (Some (shown_of (pos (number run)))) None)) Range)
       by true e = rw (ends-kept ts ends) (epoch e)
       by false e = tt
 
   -- after a sign
-  refused : (behind : Bool) (o : Option ℤ) → After now t (or_refused unknown behind o) (without_ending ts)
-  unfolding with_offset
+  refused : (behind : Bool) (o : Option ℤ) → After now t (option_map (with_offset unknown behind) o) (without_ending ts)
   refused behind (Some minutes) = kept _ refl
   refused behind None = tt
 
   signed-step : (behind : Bool) (run : List ℕ) → Step now t (sign_rule unknown behind (Digits run ∷ ts))
-  unfolding sign_rule offset_rule offset_said
+  unfolding sign_rule offset_said
   signed-step behind run =
-      either (λ (s : SaidOffset). Ended (by_offset unknown behind s)) (nat_lt 2_147_483_647 (number run)) _ _ tt
-      (either (λ (s : SaidOffset). Ended (by_offset unknown behind s)) (length run == 2) _ _ (rw (two-kept (number run) ts ends) (refused behind (offset_minutes (number run) false 0)))
+      either (λ (s : SaidOffset). Ended (and_then s (λ said. Ok (option_map (with_offset unknown behind) said.0, said.1)))) (nat_lt 2_147_483_647 (number run)) _ _ tt
+      (either (λ (s : SaidOffset). Ended (and_then s (λ said. Ok (option_map (with_offset unknown behind) said.0, said.1)))) (length run == 2) _ _ (rw (two-kept (number run) ts ends) (refused behind (offset_minutes (number run) false 0)))
       (refused behind (cond (length run == 4) (offset_minutes (number run / 100) false (number run % 100)) None)))
 
 pub number-goes : (now : Now) (t : Time) (x rest : List ℕ) (n : ℤ) → IsBare x n ⊎ IsSigned x → Ends (tokens rest) → ((f : Fields) → IsPartial f → Goes now t f (tokens rest))

@@ -1,7 +1,7 @@
 -- The pieces of formatted dates, one after the other, as the exact reader takes them.
 use Rattle.std.proofs.Common.{◌≡◌, ◌∙◌, ◌<◌, ◌≤◌, ◌+◌, ◌-◌, ◌*◌, inl, inr, ℕ, ℤ, pos, neg_ℤ, ◌+ℤ◌, ◌*ℤ◌, nat_le, nat_lt, Bool, true, false, cond, List, [], ◌∷◌, ◌++◌, Option, Some, None, is_none, is_some, Ok, refl, ap, sym, subst, arith, append_assoc, append-nil}
 use Rattle.std.proofs.Math.Bool.{and-false}
-use Rattle.std.specs.Prelude.{◌==◌, ◌&&◌, codes}
+use Rattle.std.specs.Prelude.{◌==◌, ◌&&◌, codes, option_map}
 use Rattle.std.proofs.lemmas.Bool.Decides.{nat_tests}
 use Rattle.std.proofs.lemmas.Option.{cond_some as guard}
 use Rattle.jiff_core.proofs.SignedLemmas.{signed_arith}
@@ -21,23 +21,24 @@ use Rattle.gix_date.specs.Text.LongNames.{month_told}
 use Rattle.gix_date.specs.declared.time.Time.{Time}
 use Rattle.git_date.proofs.Rules.ClocksBack.{later-day}
 use Rattle.git_date.proofs.Rules.Kept.{either}
-use Rattle.git_date.proofs.Exact.PrintedClocks.{HasNoDigits, sign-before, sign-no-dot, at, date-mark, IsNumber, number-before, two-numbers, name-first, day-rule, four-read, clock-rule, three_group, date-read}
+use Rattle.git_date.proofs.Exact.PrintedClocks.{HasNoDigits, sign-before, sign-no-dot, at, date-mark, IsNumber, number-before, two-numbers, name-first, day-rule, four-read, clock-rule, three_group, date-read, or_bare, none-large, numbered}
 use Rattle.git_date.proofs.Text.TokenRuns.{letter-first, mark-first}
 use Rattle.git_date.specs.Rules.Dates.{exact_seconds, month_start, first_of, is_month, seconds_after, by_year}
-use Rattle.git_date.specs.Rules.Digits.{by_rule, bare_digits, four_digits, few_digits, two_digit_year, or_month, number_rule, digits_rule}
+use Rattle.git_date.specs.Rules.Digits.{bare_digits, four_digits, few_digits, digits_rule, group_said, grouped}
 use Rattle.git_date.specs.Rules.Fields.{unknown, with_date}
-use Rattle.git_date.specs.Rules.Groups.{marked_number, group_of}
-use Rattle.git_date.specs.Tokens.Names.{is_weekday}
+use Rattle.git_date.specs.Rules.Groups.{marked_number, group_of, large_in}
+use Rattle.git_date.specs.Tokens.Names.{is_weekday, zone_named}
 use Rattle.git_date.specs.Tokens.Numbers.{number}
-use Rattle.git_date.specs.Rules.Offsets.{white, without_white, padded_number, offset_minutes, colon_minutes, two_digit_offset, offset_said, with_offset, or_refused, offset_rule}
+use Rattle.git_date.specs.Rules.Offsets.{white, without_white, padded_number, offset_minutes, colon_minutes, two_digit_offset, offset_said, with_offset}
 use Rattle.git_date.specs.Exact.Reading.{ended, sign_rule, rule}
 use Rattle.git_date.specs.Tokens.Tokens.{Token, Letters, Digits, Mark, letter_before, tokens, bytes_left}
 use Rattle.git_date.specs.Types.Names.{Fields, Now}
-use Rattle.git_date.specs.Rules.Words.{month_or_other, with_word, letters_rule, without_ending}
+use Rattle.git_date.specs.Rules.Words.{with_word, letters_rule, without_ending, with_zone, half_or_filler}
 use Rattle.git_date_agreement.proofs.Fields.{IsOf, AreFields, field-is, year-is, day-text, gap-quiet, IsSpaced, spaced, three-first}
 use Rattle.git_date_agreement.proofs.Seconds.{from-month}
 use Rattle.git_date_agreement.proofs.Steps.{Fits, Goes, Step, After, goes, Ready, over, skip, no-offset, with-it, offset-goes, minutes_at, has-sign, sign-goes, digit-below}
 use Rattle.git_date_agreement.specs.Agree.{HasNoLeapSecond}
+use Rattle.std.specs.Option.{option_or}
 
 -- all of a date and a clock
 abbrev pub all_of : LocalTime → Fields
@@ -57,10 +58,9 @@ sixty : (x : List ℕ) → IsField x 60 → x ≡ codes "60"
 sixty [] h = absurd h
 sixty (a ∷ []) h = absurd (omega (arith, h.1, digit-below a h.0))
 sixty (a ∷ b ∷ []) h =
-    let p = h.1 in
-    let low : 48 ≤ b = grind (arith, nat_tests, p) in
-    let first : a ≡ 54 = omega (arith, h.2, digit-below a h.0, digit-below b p) in
-    let second : b ≡ 48 = omega (arith, h.2, digit-below a h.0, digit-below b p) in
+    let low : 48 ≤ b = grind (arith, nat_tests, h.1) in
+    let first : a ≡ 54 = omega (arith, h.2, digit-below a h.0, digit-below b h.1) in
+    let second : b ≡ 48 = omega (arith, h.2, digit-below a h.0, digit-below b h.1) in
     λ i. first i ∷ second i ∷ []
 sixty (a ∷ b ∷ c ∷ x) h = absurd h
 
@@ -96,17 +96,17 @@ last-free last seconds (inr p) = subst (λ (x : List ℕ). HasNoDigits (tokens x
 module _ (now : Now) (t : Time) where
   colon-step : (g : Fields) (behind : Bool) (a b c d hours minutes : ℕ) (ts : List Token) → number (a ∷ b ∷ []) ≡ hours → number (c ∷ d ∷ []) ≡ minutes → hours < 100 → minutes < 100
       → Goes now t (with_offset g behind (pos (60 * hours) +ℤ pos minutes)) (without_ending ts) → Step now t (sign_rule g behind (Digits (a ∷ b ∷ []) ∷ Mark colon ∷ Digits (c ∷ d ∷ []) ∷ ts))
-  unfolding sign_rule offset_rule offset_said two_digit_offset colon_minutes padded_number white without_white offset_minutes
+  unfolding sign_rule offset_said two_digit_offset colon_minutes padded_number white without_white offset_minutes
   colon-step g behind a b c d hours minutes ts e h m n go =
       let small : nat_lt 2_147_483_647 hours ≡ false = grind (arith, nat_tests) in
       let less : nat_lt 2_147_483_647 minutes ≡ false = grind (arith, nat_tests) in
       rw (e, h, small, less)
-      (either (λ (o : Option ℤ). After now t (or_refused g behind o) (without_ending ts)) (nat_lt hours 24 && nat_lt minutes 60) _ _ go tt)
+      (either (λ (o : Option ℤ). After now t (option_map (with_offset g behind) o) (without_ending ts)) (nat_lt hours 24 && nat_lt minutes 60) _ _ go tt)
 
   -- two digits after a date: no rule uses them
   idle : (g : Fields) (a b n : ℕ) → number (a ∷ b ∷ []) ≡ n → n < 100 → is_none g.day ≡ false → is_none g.month ≡ false → is_some g.year ≡ true
       → Step now t (rule now g (Digits (a ∷ b ∷ [])) [])
-  unfolding digits_rule number_rule group_of marked_number bare_digits few_digits two_digit_year or_month
+  unfolding digits_rule group_said group_of marked_number bare_digits few_digits
   idle g a b n e h day month year =
       let early : nat_le 100_000_000 n ≡ false = grind (arith, nat_tests) in
       let small : nat_lt 2_147_483_647 n ≡ false = grind (arith, nat_tests) in
@@ -120,9 +120,7 @@ module _ (now : Now) (t : Time) (l : LocalTime) (is : IsOf l t) (f : AreFields l
       let m = l.date.month in
       let found = from-month (is_month y m) (civil_seconds (first_of y m) midnight (pos 0)) seconds (λ start. seconds_after start (Some l.date.day) l.clock.hour l.clock.minute l.clock.second) exact in
       let later = later-day (pos y) m l.date.day f.first_day in
-      let civil = is.civil in
-      let same = is.offset in
-      omega (arith, signed_arith, found, later, civil, same, off)
+      omega (arith, signed_arith, found, later, is.civil, is.offset, off)
 
   pub stop : Fits now t (Ok (at (all_of l)))
   stop = no-offset now t (all_of l) refl
@@ -189,10 +187,12 @@ module _ (now : Now) (t : Time) (l : LocalTime) (is : IsOf l t) (f : AreFields l
         let ts = tokens p.rest in
         let mid = Mark minus ∷ Digits k.month ∷ Mark minus ∷ Digits k.day ∷ ts in
         let group = three_group minus y m d k.month k.day ts in
+        let large : large_in group ≡ None = none-large minus y group.second (numbered d (bytes_left (Digits k.day ∷ ts))) (omega (arith, f.last_month)) (omega (arith, f.last_day)) in
         subst (λ (x : List ℕ). Goes now t unknown (tokens x)) (sym (p.whole ∙ ap (λ (x : List ℕ). x ++ p.rest) k.whole))
         (piece unknown ((k.year ++ (minus ∷ k.month)) ++ (minus ∷ k.day)) p.rest (Digits k.year) mid (three-first minus k.year k.month k.day p.rest y m d ts refl refl a.0 b.0 c.0 refl free) refl
         (subst (Step now t) (sym (date-read minus now unknown k.year k.month k.day y m d ts (date-mark minus refl) a.0.is b.0.is c.0.is late a.1 f.first_month f.last_month f.first_day f.last_day))
-        (either (λ (o : Option ℕ). Step now t (ended (by_rule (bytes_left (Digits k.year ∷ mid)) group ts (by_year unknown m d o) (bare_digits unknown k.year mid)))) (nat_le 1970 y && nat_le y 2099) _ _ go tt)))
+        (either (λ (o : Option ℕ). Step now t (ended (or_bare unknown k.year mid (grouped (bytes_left (Digits k.year ∷ mid)) group ts (by_year unknown m d o))))) (nat_le 1970 y && nat_le y 2099) _ _
+        (rw large go) (rw large tt))))
 
     pub offset-part : (p : BeginsWith Offset l M text) → p.rest ≡ [] → Goes now t (all_of l) (tokens text)
     unfolding compact_offset
@@ -218,7 +218,8 @@ module _ (now : Now) (t : Time) (l : LocalTime) (is : IsOf l t) (f : AreFields l
         subst (λ (x : List ℕ). Goes now t unknown (tokens x)) (sym p.whole)
         (piece unknown p.front p.rest (Letters p.front) (Mark byte ∷ more) (name-first p.front p.rest byte more p.is.0 e) refl (named (month_told p.front)))
       where
-        named : (month : Option ℕ) → After now t (month_or_other unknown p.front month) (Mark byte ∷ more)
+        named : (month : Option ℕ) → After now t (option_or (option_map (λ m. record unknown { month = Some m }) month)
+            (cond (is_weekday p.front) (Some unknown) (option_or (option_map (with_zone unknown) (zone_named p.front)) (half_or_filler unknown p.front)))) (Mark byte ∷ more)
         named (Some m) = subst (Goes now t (record unknown { month = Some m })) e (go (Some m))
         named None = rw (day-told p.front p.is.0 ∙ p.is.1) (subst (Goes now t unknown) e (go None))
 
@@ -239,7 +240,7 @@ module _ (now : Now) (t : Time) (l : LocalTime) (is : IsOf l t) (f : AreFields l
 
     colon-last : (behind : Bool) (minutes : ℤ) (last : List ℕ) (seconds : Option ℕ) → AreLastSeconds last seconds → (seconds ≡ None → t.offset ≡ pos 60 *ℤ cond behind (neg_ℤ minutes) minutes)
         → Goes now t (with_offset (all_of l) behind minutes) (without_ending (tokens last))
-    unfolding with_offset without_ending tokens
+    unfolding without_ending tokens
     colon-last behind minutes last seconds (inl p) e =
         let next = with_offset (all_of l) behind minutes in
         subst (λ (x : List ℕ). Goes now t next (without_ending (tokens x))) (sym p.0) (over now t next (with-it now t (all_of l) behind minutes ready (e p.1)))

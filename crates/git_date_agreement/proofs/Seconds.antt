@@ -134,9 +134,8 @@ wide-fits now t n behind fields ts more r e o =
           let small : nat_lt (number r.run) 10_000 ≡ true = grind (arith, nat_tests) in
           let a : number r.run / 100 ≡ fields.hours = omega arith in
           let b : number r.run % 100 ≡ fields.minutes = omega arith in
-          let long = p.0 in
           let whole : pos (60 * fields.hours + fields.minutes) ≡ minutes_at fields = omega (arith, signed_arith) in
-          rw (long, small, a, b)
+          rw (p.0, small, a, b)
           (either (λ (found : Option ℤ). FitsAt t (option_map (λ minutes. (n, minutes)) found)) (ends more) _ _
           (λ i. record { seconds = e i; offset = (o p.4 ∙ ap (λ (k : ℤ). pos 60 *ℤ cond behind (neg_ℤ k) k) (sym whole) ∙ by-sign behind (60 * fields.hours + fields.minutes)) i }) tt)
       | inr p ↦ let long = p.0 in rw long tt
@@ -169,10 +168,8 @@ module _ (now : Now) (t : Time) (rule : OffsetRule) (text : List ℕ) (r : RawWo
       let whole = ap (λ (x : List ℕ). tokens (x ++ two.after)) zone.whole ∙ ap (λ (c : ℕ). tokens (c ∷ digits)) s.is ∙ sign-before s.behind digits in
       subst (λ (ts : List Token). FitsAt t (at_text (Mark at_sign ∷ Digits run ∷ Mark gap ∷ ts))) (sym whole) (at-sign-fits s.behind run gap e (λ none. sym (ap (λ (u : Time). u.offset) r.time) ∙ s.minutes none))
   at-gap-fits run gap (c ∷ between) e q =
-      let no_plus = q.0.no_plus in
-      let no_minus = q.0.no_minus in
       subst (λ (ts : List Token). FitsAt t (at_text (Mark at_sign ∷ Digits run ∷ Mark gap ∷ ts))) (sym (mark-first c (between ++ (r.zone ++ two.after)) q.0.no_letter q.0.no_digit))
-      (rw (no_plus, no_minus) (either (FitsAt t) (gap == space) _ _ tt tt))
+      (rw (q.0.no_plus, q.0.no_minus) (either (FitsAt t) (gap == space) _ _ tt tt))
 
 -- the time of an at text
 module _ (now : Now) (t : Time) (rule : OffsetRule) (text : List ℕ) (r : RawWords rule text t) (two : AreTwo text r.front r.zone) where

@@ -1,7 +1,7 @@
 -- Steps of the exact reader over a text whose time is known: where it reads a time with an offset and ignores nothing, it
 -- reads that time.
-use Rattle.std.proofs.Common.{◌≡◌, ◌∙◌, ◌<◌, ◌≤◌, ◌+◌, ◌*◌, ◌/◌, ◌%◌, ◌-◌, ◌⊎◌, ℕ, zero, suc, ℤ, pos, neg_ℤ, ◌+ℤ◌, ◌-ℤ◌, ◌*ℤ◌, Bool, true, false, cond, List, [], ◌∷◌, ◌++◌, length, Option, Some, None, is_none, Result, Ok, Err, refl, ap, sym, subst, arith, inl, inr, append-nil}
-use Rattle.std.specs.Prelude.{◌==◌, ◌||◌, ◌&&◌, nat_lt, unwrap_or}
+use Rattle.std.proofs.Common.{◌≡◌, ◌∙◌, ◌<◌, ◌≤◌, ◌+◌, ◌*◌, ◌/◌, ◌%◌, ◌-◌, ◌⊎◌, ℕ, zero, suc, ℤ, pos, neg_ℤ, ◌+ℤ◌, ◌-ℤ◌, ◌*ℤ◌, Bool, true, false, cond, List, [], ◌∷◌, ◌++◌, length, Option, Some, None, is_none, Result, Ok, Err, refl, ap, sym, subst, arith, inl, inr, append-nil, negsuc}
+use Rattle.std.specs.Prelude.{◌==◌, ◌||◌, ◌&&◌, nat_lt, unwrap_or, option_map}
 use Rattle.std.specs.Char.{is_ascii_alphabetic, is_ascii_digit}
 use Rattle.std.specs.Option.{option_or}
 use Rattle.std.proofs.lemmas.Bool.Decides.{nat_tests}
@@ -14,8 +14,8 @@ use Rattle.gix_date.specs.declared.time.Time.{Time}
 use Rattle.git_date.specs.Rules.Dates.{exact_seconds}
 use Rattle.git_date.specs.Rules.Digits.{Stepped}
 use Rattle.git_date.specs.Tokens.Numbers.{number}
-use Rattle.git_date.specs.Rules.Offsets.{offset_minutes, offset_said, is_minus_one, with_offset, or_refused, offset_rule}
-use Rattle.git_date.specs.Exact.Reading.{read_on, and_then, sign_rule, rule, steps}
+use Rattle.git_date.specs.Rules.Offsets.{offset_minutes, offset_said, with_offset}
+use Rattle.git_date.specs.Exact.Reading.{read_on, sign_rule, rule, steps}
 use Rattle.git_date.specs.Tokens.Tokens.{Token, Letters, Digits, Mark, tokens, bytes_left, is_end, walked}
 use Rattle.git_date.specs.Types.Names.{Fault, Fields, Now, Reading}
 use Rattle.git_date.specs.Rules.Words.{without_ending}
@@ -23,6 +23,8 @@ use Rattle.git_date.proofs.Rules.EnoughSteps.{short-kept}
 use Rattle.git_date.proofs.Rules.Kept.{Leaves, either, rule-left}
 use Rattle.git_date.proofs.Exact.PrintedClocks.{HasNoDigits, run-before, sign-before, at}
 use Rattle.git_date.proofs.Text.TokenRuns.{mark-first}
+use Rattle.git_date.specs.Tokens.Steps.{and_then}
+use Rattle.std.specs.Ordering.{int_eq}
 
 -- a mark that no rule uses
 pub record IsQuiet (c : ℕ) : Type 0 where
@@ -214,10 +216,8 @@ module _ (now : Now) (t : Time) where
   pub skip : (f : Fields) (gap rest : List ℕ) → AreQuiet gap → Fits (Ok (at f)) → Goes f (tokens rest) → Goes f (tokens (gap ++ rest))
   skip f [] rest q stop h = h
   skip f (c ∷ gap) rest q stop h =
-      let no_plus = q.0.no_plus in
-      let no_minus = q.0.no_minus in
       subst (Goes f) (sym (mark-first c (gap ++ rest) q.0.no_letter q.0.no_digit))
-      (goes f (Mark c) (tokens (gap ++ rest)) (λ end. stop) (rw (no_plus, no_minus) (skip f gap rest q.1 stop h)))
+      (goes f (Mark c) (tokens (gap ++ rest)) (λ end. stop) (rw (q.0.no_plus, q.0.no_minus) (skip f gap rest q.1 stop h)))
 
   -- no offset, or no time
   pub no-offset : (f : Fields) → f.offset ≡ None → Fits (Ok (at f))
@@ -233,25 +233,25 @@ module _ (now : Now) (t : Time) where
   known-is minutes other false e = cc
 
   pub with-it : (f : Fields) (behind : Bool) (minutes : ℤ) → Ready f → t.offset ≡ pos 60 *ℤ cond behind (neg_ℤ minutes) minutes → Fits (Ok (at (with_offset f behind minutes)))
-  unfolding with_offset exact_seconds
+  unfolding exact_seconds
   with-it f behind minutes ready e = λ s m none off exact.
       let x = cond behind (neg_ℤ minutes) minutes in
-      let same : t.offset ≡ pos 60 *ℤ m = e ∙ ap (λ (k : ℤ). pos 60 *ℤ k) (known-is x m (is_minus_one x) off) in
+      let same : t.offset ≡ pos 60 *ℤ m = e ∙ ap (λ (k : ℤ). pos 60 *ℤ k) (known-is x m (int_eq x (negsuc 0)) off) in
       let counted = ready s m same exact in
       λ i. record { seconds = counted i; offset = same i }
 
   four-step : (f : Fields) (behind : Bool) (run : List ℕ) (hours minutes : ℕ) (more : List Token) → length run ≡ 4 → number run ≡ 100 * hours + minutes → hours < 100 → minutes < 100
       → Ends more → Goes (with_offset f behind (pos (60 * hours) +ℤ pos minutes)) more → Step (sign_rule f behind (Digits run ∷ more))
-  unfolding sign_rule offset_rule offset_said offset_minutes
+  unfolding sign_rule offset_said offset_minutes
   four-step f behind run hours minutes more long e h m ends goal =
       let small : nat_lt 2_147_483_647 (number run) ≡ false = grind (arith, nat_tests) in
       let a : number run / 100 ≡ hours = omega arith in
       let b : number run % 100 ≡ minutes = omega arith in
       rw (small, long, a, b)
-      (either (λ (o : Option ℤ). After (or_refused f behind o) (without_ending more)) (nat_lt hours 24 && nat_lt minutes 60) _ _ (rw (ends-kept more ends) goal) tt)
+      (either (λ (o : Option ℤ). After (option_map (with_offset f behind) o) (without_ending more)) (nat_lt hours 24 && nat_lt minutes 60) _ _ (rw (ends-kept more ends) goal) tt)
 
   other-step : (f : Fields) (behind : Bool) (run : List ℕ) (more : List Token) → length run ≡ 6 → number run < 1_000_000 → Step (sign_rule f behind (Digits run ∷ more))
-  unfolding sign_rule offset_rule offset_said
+  unfolding sign_rule offset_said
   other-step f behind run more long h =
       let small : nat_lt 2_147_483_647 (number run) ≡ false = grind (arith, nat_tests) in
       rw (small, long) tt

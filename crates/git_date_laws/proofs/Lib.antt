@@ -4,3 +4,4 @@ pub mod Back
 pub mod Printing
 pub mod Whole
 mod Ignored
+mod Rows

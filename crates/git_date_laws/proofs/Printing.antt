@@ -1,7 +1,7 @@
 -- What is shown, and read again.
-pub mod Printed
 pub mod ShownLaws
 pub mod AgeOrder
 pub mod PrintedBack
 pub mod RawBack
 pub mod SecondsAlone
+pub mod FormatLaws

@@ -14,11 +14,11 @@ use Rattle.gix_date.specs.declared.error.CarefulError.{CarefulError}
 use Rattle.gix_date.specs.declared.parsing.careful.CarefulOptions.{CarefulOptions}
 use Rattle.gix_date.specs.declared.time.Time.{Time}
 use Rattle.git_date.specs.Approximate.Reading.{ApproximateOutcome, answer_up_to, exact_or_guess, guess}
-use Rattle.git_date.specs.Laws.Back.{CountsBack, CountsMonths, IsReached, exactly_back}
+use Rattle.git_date_laws.specs.Texts.Back.{CountsBack, CountsMonths, IsReached, exactly_back}
 use Rattle.git_date.specs.Approximate.Expiry.{ExpiryOutcome}
 use Rattle.git_date.specs.Approximate.Zones.{one_offset}
 use Rattle.git_date.specs.Rules.Dates.{now_of}
-use Rattle.git_date.specs.Laws.Heard.{heard, told, are_usual}
+use Rattle.git_date_laws.specs.Texts.Heard.{heard, told, are_usual}
 use Rattle.git_date.specs.Tokens.Numbers.{max_small}
 use Rattle.git_date.specs.Exact.Outcome.{DateOutcome}
 use Rattle.git_date.specs.Tokens.Strings.{nul, nul_place}

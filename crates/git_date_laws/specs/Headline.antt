@@ -9,7 +9,7 @@ use Rattle.git_date.specs.Approximate.Expiry.{ExpiryOutcome}
 use Rattle.git_date.specs.Rules.Dates.{first_of_year_2100}
 use Rattle.git_date.specs.Rules.Digits.{min_epoch}
 use Rattle.git_date.specs.Exact.Outcome.{DateOutcome, read_at}
-use Rattle.git_date.specs.Laws.Printed.{IsGitTime}
+use Rattle.git_date_laws.specs.Texts.Printed.{IsGitTime}
 use Rattle.git_date.specs.Show.Dates.{shown}
 use Rattle.git_date.specs.Show.Clocks.{Moment, time_at}
 use Rattle.git_date.specs.declared.date.ReadDate.{ReadDate}

@@ -13,7 +13,7 @@ use Rattle.git_date.specs.Types.DatedCases.{Taken, Refused, YearRefused}
 use Rattle.git_date.specs.Rules.Digits.{with_epoch}
 use Rattle.git_date.specs.Rules.Fields.{unknown, knows_nothing, knows_date, with_date}
 use Rattle.git_date.specs.Rules.Groups.{ReadTokens, group_of, group_rule}
-use Rattle.git_date.specs.Laws.Lines.{is_sign}
+use Rattle.git_date.specs.Rules.Offsets.{is_sign}
 use Rattle.git_date.specs.Tokens.Names.{is_weekday, zone_named}
 use Rattle.git_date.specs.Tokens.Numbers.{number}
 use Rattle.git_date.specs.Rules.Offsets.{offset_said, known_minutes, at_text}

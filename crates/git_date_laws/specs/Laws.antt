@@ -13,10 +13,10 @@ use Rattle.git_date.specs.Approximate.Reading as approximate
 use Rattle.git_date.specs.Approximate.Drafts.{first_draft}
 use Rattle.git_date.specs.Approximate.Zones.{Choices}
 use Rattle.git_date.specs.Rules.Dates.{now_of}
-use Rattle.git_date.specs.Laws.Lines.{AreComplete}
+use Rattle.git_date_laws.specs.Texts.Lines.{AreComplete}
 use Rattle.git_date.specs.Show.Modes.{own}
-use Rattle.git_date.specs.Laws.Moments.{has_day_month, HasNoDayMonth}
-use Rattle.git_date.specs.Laws.Printed.{IsGitTime, AreReadBack}
+use Rattle.git_date_laws.specs.Texts.Moments.{has_day_month, HasNoDayMonth}
+use Rattle.git_date_laws.specs.Texts.Printed.{IsGitTime, AreReadBack}
 use Rattle.git_date.specs.Show.Dates.{shown}
 use Rattle.git_date.specs.Show.Clocks.{Moment}
 use Rattle.git_date.specs.Tokens.Strings.{nul, before_nul, nul_place}

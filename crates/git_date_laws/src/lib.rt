@@ -8,6 +8,7 @@ ghost use Rattle.git_date_laws.specs.Ignored.{IgnoresUnused};
 ghost use Rattle.git_date_laws.specs.Laws.{AreApart, AreStepsEnough, IgnoresZone, IsOfEveryZone, IsClockRead, IgnoresCase, IgnoresLines, EndsAtNul, IgnoresInstant, IsWithoutDayMonth, ReadsBack, ReadsRawBack};
 
 mod approximate;
+mod formats;
 mod promise;
 mod shown;
 
@@ -16,6 +17,7 @@ pub use approximate::{
     back_in_every_zone, careful_agrees, exact_answer, exactly_back, expiry_up_to_nul, marks,
     months_agree, no_word_ignored, not_understood_is_now, now_in_every_zone, one_answer,
 };
+pub use formats::{plain_format, stored_by_format};
 use gix_date::{Time, Zoned};
 use jiff::tz::TimeZone;
 pub use promise::headline;

@@ -7,7 +7,7 @@ use Rattle.gix_date_tool.specs.Messages.{Reports}
 use Rattle.gix_date_tool.specs.Run.{Change, change}
 use Rattle.gix_date_tool.specs.declared.program.Status.{Status}
 use Rattle.gix_date_tool.proofs.RunsOnce.{all-read, all-written, part-splits}
-use Rattle.gix_date_tool.proofs.Splitting.{Splits_unique}
+use Rattle.gix_date_lines.proofs.Splitting.{Splits_unique}
 use Rattle.git_date_tool.specs.Answers.Replies.{Reply}
 use Rattle.git_date_tool.specs.CommandLine.Command.{Ask}
 use Rattle.git_date_tool.specs.Laws.{EndsWell, IsRefused, RunsAreUnique, WrongWordsAreRefused}

@@ -2,6 +2,7 @@ pub mod Careful
 pub mod Git
 pub mod Handles
 pub mod Laws
+pub mod Lines
 pub mod Moments
 pub mod Parsing
 pub mod Printing

@@ -64,7 +64,7 @@ pub extern "C" fn gix_date_parse_carefully_at(
 
 /// What a text says by the options of these numbers.
 #[inline(always)]
-fn parse_text(
+pub(crate) fn parse_text(
     text: &[u8],
     numbers: &CCarefulOptions,
     now: Option<Zoned<'_>>,
@@ -82,7 +82,7 @@ fn parse_text(
 
 /// What a text says at a moment, where there is one.
 #[inline(always)]
-fn parse_at(
+pub(crate) fn parse_at(
     text: &[u8],
     numbers: &CCarefulOptions,
     now: Result<Zoned<'_>, Status>,

@@ -2,7 +2,8 @@
 ghost use Rattle.std.specs.Prelude.{◌≡◌};
 ghost use Rattle.gix_date_c.specs.Git.Dates.{date_refusal, ignored_place};
 
-mod dates;
+pub(crate) mod dates;
+mod lines;
 mod show;
 
 use crate::values::refusal::Refusal;

@@ -18,7 +18,7 @@ pub extern "C" fn gix_date_parse_header(text: &[u8], time: &mut CTime) -> u32
     store_time(header_time(text), time)
 }
 
-fn header_time(text: &[u8]) -> Result<Time, Status>
+pub(crate) fn header_time(text: &[u8]) -> Result<Time, Status>
     ensures { result ≡ header_answer text.now }
 {
     parse_header(utf8_text(text)?).ok_or(Status::InvalidTime)
@@ -39,6 +39,13 @@ pub extern "C" fn gix_date_write_header(time: &CTime, out: &mut [u8], len: &mut 
 /// Whether a text comes back when it is read as a header and written.
 #[unsafe(no_mangle)]
 pub extern "C" fn gix_date_is_canonical_header(text: &[u8]) -> bool
+    ensures { result ≡ is_canonical_header text.now }
+{
+    is_canonical(text)
+}
+
+/// Whether bytes come back when they are read as a header and written.
+pub(crate) fn is_canonical(text: &[u8]) -> bool
     ensures { result ≡ is_canonical_header text.now }
 {
     match utf8_text(text) {

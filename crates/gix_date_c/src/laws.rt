@@ -1,7 +1,8 @@
 //! Laws of the calls for C: each is the contract of a function that does nothing.
 ghost use Rattle.gix_date_c.specs.Git.Modes.{IsNumbered};
-ghost use Rattle.gix_date_c.specs.Laws.{AreCopiesNamed, HasMomentsOf, HasPlacesOf, StaysNamed};
+ghost use Rattle.gix_date_c.specs.Laws.{AreCopiesNamed, HasMomentsOf, HasPlacesOf, LinesAreTexts, StaysNamed};
 
+use crate::lines::reader::LineReader;
 use crate::zone::CZone;
 use git_date::DateMode;
 
@@ -24,4 +25,10 @@ fn read_zone(text: &[u8], zone: &CZone)
 fn kept_zone(text: &[u8], zone: &CZone)
     ensures copies { AreCopiesNamed text.now zone.now }
     ensures stays { StaysNamed text.now zone.now }
+{}
+
+/// After a call for many lines the cells of each line hold what the call for one text stores of it.
+#[tactic(auto, using(crate::proofs::Blocks::Cells::lines_are_texts))]
+fn lines_are_texts(reader: &LineReader<'_>)
+    ensures { LinesAreTexts reader.now }
 {}

@@ -10,6 +10,7 @@ mod careful;
 mod git;
 mod header;
 mod laws;
+mod lines;
 mod moment;
 mod parse;
 mod print;

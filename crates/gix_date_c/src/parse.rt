@@ -43,7 +43,11 @@ pub extern "C" fn gix_date_parse_at(
 
 /// What a text says by the rule for raw offsets of a number.
 #[inline(always)]
-fn parse_text(text: &[u8], raw_offsets: u32, now: Option<Zoned<'_>>) -> Result<Time, Status>
+pub(crate) fn parse_text(
+    text: &[u8],
+    raw_offsets: u32,
+    now: Option<Zoned<'_>>,
+) -> Result<Time, Status>
     ensures { IsParsed raw_offsets now.entry text.now result }
 {
     let rule = raw_rule(raw_offsets).ok_or(Status::NoSuchOption)?;
@@ -67,7 +71,11 @@ pub(crate) fn refusal_status(error: ParseError) -> Status
 
 /// What a text says at a moment, where there is one.
 #[inline(always)]
-fn parse_at(text: &[u8], raw_offsets: u32, now: Result<Zoned<'_>, Status>) -> Result<Time, Status>
+pub(crate) fn parse_at(
+    text: &[u8],
+    raw_offsets: u32,
+    now: Result<Zoned<'_>, Status>,
+) -> Result<Time, Status>
     ensures { IsParsedAt raw_offsets now.entry text.now result }
 {
     parse_text(text, raw_offsets, Some(now?))

@@ -51,7 +51,7 @@ pub extern "C" fn gix_date_cut_signature(line: &[u8], parts: &mut CSignature) ->
 }
 
 /// The parts of a line.
-fn signature_of(line: &[u8]) -> Result<SignatureRef<'_>, Status>
+pub(crate) fn signature_of(line: &[u8]) -> Result<SignatureRef<'_>, Status>
     ensures { IsCutAnswer line.now (result_map_both parts_of (λ status. status) result) }
 {
     SignatureRef::from_line(utf8_text(line)?).ok_or(Status::NoSignature)

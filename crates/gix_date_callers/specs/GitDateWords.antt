@@ -11,3 +11,5 @@ pub use Rattle.git_date.specs.Show.Clocks.{moment_at, moment_of}
 pub use Rattle.git_date.specs.Show.Texts.{unknown_offset}
 pub use Rattle.git_date.specs.Tokens.Tokens.{tokens, texts}
 pub use Rattle.git_date.specs.Exact.ZoneTexts.{IsNear, zone_offset}
+pub use Rattle.git_date.specs.Formats.Format.{format_bytes, shown_by_format, WritesShown, RefusesText}
+pub use Rattle.git_date.specs.Formats.Pieces.{checked}

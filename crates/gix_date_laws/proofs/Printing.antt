@@ -1,4 +1,3 @@
 -- Texts that are printed.
-pub mod PrintedTexts
 pub mod SortedTexts
 pub mod ShortBack

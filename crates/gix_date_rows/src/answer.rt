@@ -1,7 +1,7 @@
 //! What a call answers.
 use git_date::DateError;
 use gix_date::{CarefulError, Error, ParseError, Time};
-use gix_signature::SignatureError;
+use gix_signature::{IdentFault, SignatureError};
 use std::alloc::AllocError;
 use std::fmt;
 
@@ -16,6 +16,8 @@ pub(crate) enum Answer {
     Word(&'static str),
     /// A text.
     Text(String),
+    /// Bytes that need not be a text.
+    Bytes(Vec<u8>),
     /// A refusal, by its name.
     Refused(&'static str),
     /// The refusal of a relative text that is not careful, with the place from which on it is not clear.
@@ -60,6 +62,7 @@ impl fmt::Display for Answer {
             }
             Answer::Word(word) => f.write_str(word),
             Answer::Text(text) => f.write_str(text.as_str()),
+            Answer::Bytes(bytes) => write!(f, "{:?}", bytes.as_slice()),
             Answer::Refused(name) => f.write_str(name),
             Answer::Unclear(place) => write!(f, "Unclear {place}"),
             Answer::RefusedAt(name, place) => write!(f, "{name} {place}"),
@@ -152,6 +155,19 @@ impl From<SignatureError> for Answer {
             SignatureError::BadPart => "BadPart",
             SignatureError::OffsetTooWide => "OffsetTooWide",
             SignatureError::Write(_) => "Write",
+        })
+    }
+}
+
+impl From<IdentFault> for Answer {
+    fn from(fault: IdentFault) -> Answer {
+        Answer::Refused(match fault {
+            IdentFault::NulInPart => "NulInPart",
+            IdentFault::EmptyName => "EmptyName",
+            IdentFault::OnlyCrud => "OnlyCrud",
+            IdentFault::BeforeEpoch => "BeforeEpoch",
+            IdentFault::OffsetTooWide => "OffsetTooWide",
+            IdentFault::Write(_) => "Write",
         })
     }
 }

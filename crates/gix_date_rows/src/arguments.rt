@@ -96,6 +96,15 @@ impl<'a> Arguments<'a> {
         self.text()?.parse().ok()
     }
 
+    /// Whether a clock is the zone's.
+    pub(crate) fn is_local(&mut self) -> Option<bool> {
+        match self.text()? {
+            "local" => Some(true),
+            "own" => Some(false),
+            _ => None,
+        }
+    }
+
     /// A format, by its name.
     pub(crate) fn format(&mut self) -> Option<Format> {
         format_of(self.text()?)

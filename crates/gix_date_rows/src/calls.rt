@@ -20,11 +20,19 @@
 //! | `now_local` | seconds, nanoseconds, zone | time |
 //! | `date_mode` | name of a mode | the name that the mode shows |
 //! | `show_date` | mode, moment, seconds, offset | text |
+//! | `show_by_format` | Git's format, `own` or `local`, moment, seconds, offset | text |
 //! | `format` | format, seconds, offset | text |
 //! | `format_by_pattern` | pattern, seconds, offset | text |
 //! | `cut_signature` | line | name, `<`, mail, `>` and time |
 //! | `signature_time` | line | time |
 //! | `write_signature` | name, mail, seconds, offset | line |
+//! | `ident` | line | name, `<`, mail, `>`, and the date's seconds as they are written |
+//! | `ident_label` | line | name, ` <`, mail and `>` |
+//! | `ident_offset` | line | offset as it is written |
+//! | `git_time` | line | seconds and offset that Git shows |
+//! | `ident_time` | line | time |
+//! | `fsck_of` | line | ID of the message of `git fsck`, or `none` |
+//! | `write_ident` | name, mail, seconds, offset | line |
 //!
 //! - A refusal is its name after `!`, and its place after a space if it has one: `!Range`, `!Unclear 3`. A text that begins with
 //!   `!` is written `\x21..`.
@@ -36,10 +44,15 @@
 //! - Escapes are `\t`, `\n`, `\r`, `\\`, `\xff` for a byte and `\u{2028}` for a character.
 //!
 //! A row runs all calls that answer the same, such as `parse_with` and `parse_no_alloc`. Rows that are not UTF-8 are skipped here if
-//! `!NotText` is due. The library for C has no `to_zoned` and no `now_local`, so the readers in C and Python pass over both by name.
+//! `!NotText` is due. The library for C has no `to_zoned`, no `now_local` and no `show_by_format`, so the readers in C and Python pass over
+//! these by name, and that in Rust over the last.
 use crate::answer::{Answer, name_of};
 use crate::approximate::{expires, guessed, passed_over};
 use crate::arguments::Arguments;
+use crate::formats::shown_by_format;
+use crate::idents::{
+    fsck_word, shown_label, shown_parts, shown_time, stored_offset, time_of, written_line,
+};
 use crate::moments::{
     ignored_place, names_offset, parsed, parsed_carefully, read_date, shown_date, zone_of,
 };
@@ -125,6 +138,12 @@ fn printed(
             let moment = row.text()?;
             shown_date(alloc, zones, mode, moment, row.time()?)
         }
+        "show_by_format" => {
+            let format = row.text()?;
+            let local = row.is_local()?;
+            let moment = row.text()?;
+            shown_by_format(alloc, zones, format, local, moment, row.time()?)
+        }
         "format" => {
             let format = row.format()?;
             Some(format_text(alloc, format, row.time()?))
@@ -146,6 +165,24 @@ fn signature(alloc: Global, call: &str, row: &mut Arguments<'_>) -> Option<Answe
             let name = row.text()?;
             let mail = row.text()?;
             Some(signature_line(alloc, name, mail, row.time()?))
+        }
+        _ => ident(alloc, call, row),
+    }
+}
+
+/// What a call for identity lines answers.
+fn ident(alloc: Global, call: &str, row: &mut Arguments<'_>) -> Option<Answer> {
+    match call {
+        "ident" => Some(shown_parts(alloc, row.bytes()?)),
+        "ident_label" => Some(shown_label(alloc, row.bytes()?)),
+        "ident_offset" => Some(stored_offset(alloc, row.bytes()?)),
+        "git_time" => Some(shown_time(alloc, row.bytes()?)),
+        "ident_time" => Some(time_of(row.bytes()?)),
+        "fsck_of" => Some(fsck_word(row.bytes()?)),
+        "write_ident" => {
+            let name = row.bytes()?;
+            let mail = row.bytes()?;
+            Some(written_line(alloc, name, mail, row.time()?))
         }
         _ => None,
     }

@@ -11,6 +11,8 @@ mod approximate;
 mod arguments;
 mod calls;
 mod escapes;
+mod formats;
+mod idents;
 mod moments;
 mod rows;
 mod single;

@@ -52,7 +52,10 @@ fn compared(alloc: Global, answer: &Answer, due: &str) -> Result<Outcome, AllocE
     let is_due = match due.strip_prefix('!') {
         Some(name) => answer.is_refusal() && told.as_str() == name,
         None => match unescaped(alloc, due)? {
-            Some(text) => !answer.is_refusal() && told.as_bytes() == text.as_slice(),
+            Some(text) => match answer {
+                Answer::Bytes(bytes) => bytes.as_slice() == text.as_slice(),
+                _ => !answer.is_refusal() && told.as_bytes() == text.as_slice(),
+            },
             None => return malformed(alloc),
         },
     };

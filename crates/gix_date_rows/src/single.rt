@@ -89,6 +89,7 @@ fn tell<W: Sink>(answer: &Answer, out: &mut W) -> Result<(), ErrorKind> {
         Answer::Refused(name) => put_all(out, name.as_bytes()),
         Answer::Doubtful(_)
         | Answer::Word(_)
+        | Answer::Bytes(_)
         | Answer::Unclear(_)
         | Answer::RefusedAt(_, _)
         | Answer::Ignored(_) => put_all(out, b"another answer"),

@@ -58,7 +58,7 @@ fn laws_are_called_for_nothing_but_what_they_state() {
     gix_date_laws::careful_is_parsed("2 days ago", options);
     gix_date_laws::ignores_zone("2 days ago", options);
     gix_date_tool::limits();
-    gix_date_tool::lines_are_unique();
+    gix_date_lines::lines_are_unique();
     gix_date_tool::replies_are_unique();
     gix_date_tool::parsed_lines(b"5 +0000");
     gix_date_tool::canonical_lines(b"0 +0000");

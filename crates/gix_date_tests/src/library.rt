@@ -2,7 +2,9 @@
 mod clocks;
 mod faults;
 mod git_dates;
+mod git_formats;
 mod headers;
+mod idents;
 mod names;
 mod prints;
 mod signatures;

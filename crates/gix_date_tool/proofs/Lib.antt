@@ -1,5 +1,4 @@
 pub mod Naming
-pub mod Splitting
 pub mod Sending
 pub mod Taking
 pub mod Signing

@@ -3,7 +3,6 @@ use Rattle.std.proofs.Common.{◌≡◌, ◌∙◌, ℕ, List, Bool, true, false
 use Rattle.std.proofs.lemmas.Option.{same_Some as same_some}
 use Rattle.std.specs.Prelude.{is_some, IsSome, nat_lt, unsigned_abs}
 use Rattle.std.specs.Option.{option_map_or}
-use Rattle.std.specs.Str.{is_utf8}
 use Rattle.jiff.specs.declared.zoned.Zoned.{Zoned}
 use Rattle.gix_date.specs.Families.Order.{first_family, ParseNoAllocOutcome}
 use Rattle.gix_date.specs.Header.Canonical.{is_canonical_header}
@@ -18,7 +17,7 @@ use Rattle.gix_date_tool.specs.declared.program.arguments.Mode.{Mode}
 use Rattle.gix_date_tool.specs.declared.program.arguments.Mode.TheVariants.{Check, Parse, Sign}
 use Rattle.gix_date_tool.specs.declared.runs.replies.Query.{Query}
 use Rattle.gix_date_tool.specs.declared.runs.replies.Reply.TheVariants.{Canonical, Read, NoTime, Parsed}
-use Rattle.gix_date_tool.specs.Replies.{IsReply, IsReplyTo, IsTextReply, parse_reply, ParsedLines}
+use Rattle.gix_date_tool.specs.Replies.{IsReplyTo, IsTextReply, parse_reply}
 
 -- where a time has a header text, it is what is written of the time
 pub written-is : (t : Time) → IsSome (header_text t) → header_text t ≡ Some (written_text t)
@@ -51,10 +50,6 @@ of-text Parse now text t (result, outcome, e) = of-result text now t result outc
 of-text Sign now text t (inl h) = absurd cc
 of-text Sign now text t (inr h) = absurd cc
 
-of-line : (is_text : Bool) (query : Query) (line : List ℕ) (t : Time) → IsReplyTo is_text query line (Parsed t) → IsSome (header_text t)
+pub of-line : (is_text : Bool) (query : Query) (line : List ℕ) (t : Time) → IsReplyTo is_text query line (Parsed t) → IsSome (header_text t)
 of-line true query line t h = of-text query.mode query.now line t h
 of-line false query line t h = absurd cc
-
-pub parsed-lines : (line : List ℕ) → ParsedLines line
-unfolding IsReply
-parsed-lines line query t h = written-is t (of-line (is_utf8 line) query line t h)

@@ -3,18 +3,14 @@ use Rattle.std.proofs.Common.{◌≡◌, ◌∙◌, ℕ, List, Bool, true, false
 use Rattle.std.specs.Str.{is_utf8}
 use Rattle.jiff.specs.declared.zoned.Zoned.{Zoned}
 use Rattle.gix_date.proofs.Relative.Chains.{one-outcome}
-use Rattle.gix_date.specs.Families.Answer.{FamilyAnswer}
 use Rattle.gix_date.specs.Families.Order.{first_family}
 use Rattle.gix_date_tool.specs.declared.program.arguments.Mode.{Mode}
 use Rattle.gix_date_tool.specs.declared.program.arguments.Mode.TheVariants.{Check, Parse, Sign}
 use Rattle.gix_date_tool.specs.declared.runs.replies.Query.{Query}
 use Rattle.gix_date_tool.specs.declared.runs.replies.Reply.{Reply}
-use Rattle.gix_date_tool.specs.Replies.{IsReply, IsReplyTo, IsTextReply, IsParseReply, IsSignReply, parse_reply, RepliesAreUnique}
+use Rattle.gix_date_tool.specs.Replies.{IsReply, IsReplyTo, IsTextReply, IsSignReply, parse_reply, RepliesAreUnique}
 use Rattle.gix_date_tool.specs.declared.runs.replies.Reply.TheVariants.{Signed}
 use Rattle.gix_date_tool.proofs.Signing.{signed-once}
-
-parse-once : (answer : Option FamilyAnswer) (now : Option Zoned) (a b : Reply) → IsParseReply answer now a → IsParseReply answer now b → a ≡ b
-parse-once answer now a b h g = h.2 ∙ ap parse_reply (one-outcome answer now h.0 g.0 h.1 g.1) ∙ sym g.2
 
 sign-once : (text : List ℕ) (a b : Reply) → IsSignReply text a → IsSignReply text b → a ≡ b
 sign-once text a b (inl h) (inl g) = h.2 ∙ ap Signed (signed-once text h.0 g.0 h.1 g.1) ∙ sym g.2
@@ -24,7 +20,7 @@ sign-once text a b (inr h) (inr g) = h.1 ∙ sym g.1
 
 text-once : (mode : Mode) (now : Option Zoned) (text : List ℕ) (a b : Reply) → IsTextReply mode now text a → IsTextReply mode now text b → a ≡ b
 text-once Check now text a b h g = h ∙ sym g
-text-once Parse now text a b h g = parse-once (first_family text) now a b h g
+text-once Parse now text a b h g = h.2 ∙ ap parse_reply (one-outcome (first_family text) now h.0 g.0 h.1 g.1) ∙ sym g.2
 text-once Sign now text a b h g = sign-once text a b h g
 
 line-once : (is_text : Bool) (query : Query) (line : List ℕ) (a b : Reply) → IsReplyTo is_text query line a → IsReplyTo is_text query line b → a ≡ b

@@ -1,5 +1,5 @@
 -- A run that ends well, and a command that does not fail, come to one end.
-use Rattle.std.proofs.Common.{◌≡◌, ◌≢◌, ◌∙◌, ℕ, ℤ, List, [], ◌∷◌, ◌++◌, length, Bool, true, false, Option, None, Some, Result, Ok, Err, refl, sym, ap, subst, append-nil}
+use Rattle.std.proofs.Common.{◌≡◌, ◌≢◌, ◌∙◌, ℕ, ℤ, List, [], ◌∷◌, ◌++◌, length, Bool, true, false, Option, None, Some, Result, Ok, Err, refl, sym, ap, subst, append-nil, ap₂}
 use Rattle.std.proofs.Props.{props}
 use Rattle.std.specs.Io.KnownBytes.{Appends, Consumes, IsAtEnd}
 use Rattle.std.specs.Str.{is_utf8}
@@ -24,13 +24,13 @@ use Rattle.gix_date_tool.specs.declared.program.Status.TheVariants.{Success, Fai
 use Rattle.gix_date_tool.specs.declared.runs.replies.Query.{Query}
 use Rattle.gix_date_tool.specs.declared.runs.replies.Reply.{Reply}
 use Rattle.gix_date_tool.specs.Command.{asked}
-use Rattle.gix_date_tool.specs.Laws.{Begun, EndsWell, RunsAreUnique, Had, StatusesAreUnique}
+use Rattle.gix_date_tool.specs.Laws.{Begun, EndsWell, Had, RunsAreUnique}
 use Rattle.gix_date_tool.specs.Lines.{Splits, Part, last_line}
 use Rattle.gix_date_tool.specs.Program.{EndsBy, EndsCommand, Prints, printed_of, status_of}
 use Rattle.gix_date_tool.specs.Replies.{IsTextReply, IsReplyTo, IsReply, AreReplies, reply_lines}
 use Rattle.gix_date_tool.specs.Run.{Change, IsMomentOf}
 use Rattle.gix_date_tool.proofs.Replying.{reply-once}
-use Rattle.gix_date_tool.proofs.Splitting.{Splits_unique}
+use Rattle.gix_date_lines.proofs.Splitting.{Splits_unique}
 
 -- Two moments of one time are in one zone, at one instant.
 same-offset : (a b : Offset) → a.seconds ≡ b.seconds → a ≡ b
@@ -44,12 +44,6 @@ record Alike (a b : Zoned) : Type 0 where
   zone : zone_of a ≡ zone_of b
   nanos : zoned_nanos a ≡ zoned_nanos b
 
-moments-alike : (t : Time) (a b : Zoned) → IsMoment t a → IsMoment t b → Alike a b
-moments-alike t a b h g = record { zone = same-zone t a b h g; nanos = h.instant ∙ sym g.instant }
-
-turned : (a b : Zoned) → Alike a b → Alike b a
-turned a b h = record { zone = sym h.zone; nanos = sym h.nanos }
-
 named-alike : (date : RelativeDate) (a b : Zoned) (t : Time) → Alike a b → IsNamed date a t → IsNamed date b t
 named-alike date a b t h n = record {
   instant = n.instant;
@@ -60,7 +54,7 @@ named-alike date a b t h n = record {
 
 outcome-alike : (date : RelativeDate) (a b : Zoned) (r : Result Time ParseError) → Alike a b → RelativeOutcome date (Some a) r → RelativeOutcome date (Some b) r
 outcome-alike date a b (Ok t) h o = named-alike date a b t h o
-outcome-alike date a b (Err e) h (range, none) = (range, λ t n. none t (named-alike date b a t (turned a b h) n))
+outcome-alike date a b (Err e) h (range, none) = (range, λ t n. none t (named-alike date b a t (record { zone = sym h.zone; nanos = sym h.nanos }) n))
 
 answer-alike : (answer : Option FamilyAnswer) (a b : Zoned) (r : Result Time ParseError) → Alike a b → ParseNoAllocOutcome answer (Some a) r → ParseNoAllocOutcome answer (Some b) r
 answer-alike (Some (Relative date)) a b r h o = outcome-alike date a b r h o
@@ -85,11 +79,8 @@ reply-alike mode (Some t) (Some a) None line reply m n r = absurd n
 reply-alike mode (Some t) (Some a) (Some b) line reply m n r = by (is_utf8 line) r
   where
     by : (is_text : Bool) → IsReplyTo is_text (query_at mode (Some a)) line reply → IsReplyTo is_text (query_at mode (Some b)) line reply
-    by true h = text-alike mode a b line reply (moments-alike t a b m n) h
+    by true h = text-alike mode a b line reply (record { zone = same-zone t a b m n; nanos = m.instant ∙ sym n.instant }) h
     by false h = h
-
-both-heads : (x y : Reply) (xs ys : List Reply) → x ≡ y → xs ≡ ys → x ∷ xs ≡ y ∷ ys
-both-heads x y xs ys e f = cc
 
 same-replies : (mode : Mode) (now : Option Time) (a b : Option Zoned) (lines : List (List ℕ)) (replies others : List Reply) → IsMomentOf now a → IsMomentOf now b
     → AreReplies (query_at mode a) lines replies → AreReplies (query_at mode b) lines others → replies ≡ others
@@ -100,7 +91,7 @@ same-replies mode now a b (line ∷ lines) [] others m n h g = absurd h
 same-replies mode now a b (line ∷ lines) (r ∷ replies) [] m n h g = absurd g
 same-replies mode now a b (line ∷ lines) (r ∷ replies) (s ∷ others) m n h g =
     let first = reply-once (query_at mode b) line r s (reply-alike mode now a b line r m n h.0) g.0 in
-    both-heads r s replies others first (same-replies mode now a b lines replies others m n h.1 g.1)
+    ap₂ (λ (x : Reply) (xs : List Reply). x ∷ xs) first (same-replies mode now a b lines replies others m n h.1 g.1)
 
 -- The input that was read.
 pub all-read : (old new : Option (List ℕ)) (input known : List ℕ) → old ≡ Some known → Consumes old new input → IsAtEnd new → input ≡ known
@@ -154,9 +145,6 @@ due mode now begun end h =
       output_is = all-written h.writing.old.bytes h.writing.new.bytes (reply_lines ran.wrote.replies) begun.output end.1 h.output_was h.output_is ran.wrote.text;
     }
 
-both-parts : (a b : ℕ × List ℕ) → a.0 ≡ b.0 → a.1 ≡ b.1 → a ≡ b
-both-parts a b e f = λ i. (e i, f i)
-
 pub runs-once : RunsAreUnique
 runs-once mode now begun one other h g =
     let a = due mode now begun one h in
@@ -165,16 +153,16 @@ runs-once mode now begun one other h g =
     let lines : (b.lines ++ last_line b.rest) ≡ (a.lines ++ last_line a.rest) = ap (λ (ls : List (List ℕ)). ls ++ last_line b.rest) (sym cut.0) ∙ ap (λ (r : List ℕ). a.lines ++ last_line r) (sym cut.1) in
     let each = subst (λ (ls : List (List ℕ)). AreReplies (query_at mode b.moment) ls b.replies) lines b.each in
     let same = same-replies mode now a.moment b.moment (a.lines ++ last_line a.rest) a.replies b.replies a.is_moment b.is_moment a.each each in
-    both-parts one other
-    (a.count_is ∙ ap (λ (ls : List (List ℕ)). length ls) (sym lines) ∙ sym b.count_is)
-    (a.output_is ∙ ap (λ (rs : List Reply). begun.output ++ reply_lines rs) same ∙ sym b.output_is)
+    let ended = a.count_is ∙ ap (λ (ls : List (List ℕ)). length ls) (sym lines) ∙ sym b.count_is in
+    let output = a.output_is ∙ ap (λ (rs : List Reply). begun.output ++ reply_lines rs) same ∙ sym b.output_is in
+    λ i. (ended i, output i)
 
 -- The status of a command.
 abbrev status_asked : {A : Type 0} → Result A WrongWords → Status
 status_asked (Ok query) = Success
 status_asked (Err why) = Usage
 
-abbrev status_due : {A : Type 0} → Option (List ℕ) → Result A WrongWords → Status
+abbrev pub status_due : {A : Type 0} → Option (List ℕ) → Result A WrongWords → Status
 status_due (Some text) words = Success
 status_due None words = status_asked words
 
@@ -198,10 +186,7 @@ status-due : (text : Option (List ℕ)) (words : List (List ℕ)) (reading writi
 status-due (Some text) words reading writing outcome h none = printed-status text writing outcome h.1 none
 status-due None words reading writing outcome h none = asked-status (asked words) reading writing outcome h none
 
-status-is : (words : List (List ℕ)) (status : Status) → Had words status → status ≡ status_due (printed_of words) (asked words)
+pub status-is : (words : List (List ℕ)) (status : Status) → Had words status → status ≡ status_due (printed_of words) (asked words)
 status-is words status h =
     let none : status_of h.executes.outcome ≢ Failure = λ e. h.no_failure (h.executes.status_is ∙ e) in
     h.executes.status_is ∙ status-due (printed_of words) words h.reading h.writing h.executes.outcome h.executes.ends none
-
-pub statuses-once : StatusesAreUnique
-statuses-once words status other h g = status-is words status h ∙ sym (status-is words other g)

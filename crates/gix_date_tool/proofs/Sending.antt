@@ -1,7 +1,6 @@
 -- Texts that are sent in pieces.
-use Rattle.std.proofs.Common.{◌≡◌, ℕ, ◌+◌, ◌<◌, List, [], ◌∷◌, ◌++◌, length, get_or, take, drop, sym, ap, ◌∙◌, subst, append_assoc, append-nil, length-append, arith, Bor, Option, None, Some, Result, Ok, Err}
-use Rattle.std.proofs.Math.Seq.{take-append-add}
-use Rattle.std.proofs.lemmas.List.{take_more, take-append-le, take-append-drop}
+use Rattle.std.proofs.Common.{◌≡◌, ℕ, ◌+◌, ◌<◌, List, [], ◌∷◌, ◌++◌, length, get_or, take, drop, sym, ap, ◌∙◌, subst, append_assoc, append-nil, Bor, Option, None, Some, Result, Ok, Err}
+use Rattle.std.proofs.lemmas.List.{take_more, take-append-drop}
 use Rattle.std.proofs.lemmas.List.Concat.{flat_map-append}
 use Rattle.std.specs.Prelude.{OnOk, OnErr, IfErr}
 use Rattle.std.specs.Io.KnownBytes.{Appends}
@@ -9,23 +8,12 @@ use Rattle.std.specs.declared.io.ErrorKind.{ErrorKind}
 use Rattle.gix_date.specs.Devices.StreamState.{StreamState, Takes, TakesProperPrefix}
 use Rattle.gix_date.proofs.Text.KnownBytes.{Appends-append}
 use Rattle.gix_date_tool.specs.Outbox.{Output, pieces_text, all_sent, Puts, PutsProperPrefix, Sends}
+use Rattle.gix_signature.proofs.Pieces.{Cut-after, Cut-more}
 
 -- nothing was appended
 pub Appends-nil : (known : Option (List ℕ)) → Appends known known []
 Appends-nil None = tt
 Appends-nil (Some xs) = sym (append-nil xs)
-
--- a proper prefix is one of a longer text too
-TakesProperPrefix-more : (old new : StreamState) (xs ys : List ℕ) → TakesProperPrefix old new xs → TakesProperPrefix old new (xs ++ ys)
-TakesProperPrefix-more old new xs ys h =
-    let within = h.1 in
-    (h.0, omega (arith, length-append xs ys), subst (Takes old new) (sym (take-append-le h.0 xs ys (omega arith))) h.2)
-
--- a text, and then a proper prefix of the next
-TakesProperPrefix-after : (old mid new : StreamState) (xs ys : List ℕ) → Takes old mid xs → TakesProperPrefix mid new ys → TakesProperPrefix old new (xs ++ ys)
-TakesProperPrefix-after old mid new xs ys h k =
-    let within = k.1 in
-    (length xs + k.0, omega (arith, length-append xs ys), subst (Takes old new) (sym (take-append-add xs ys k.0)) (Appends-append old.bytes mid.bytes new.bytes xs (take k.0 ys) h k.2))
 
 -- what was unsent with a text that was put after it, and a text after both
 put_after : (a b : Output) (x y : List ℕ) (h : Puts a b x) → a.unsent ++ (x ++ y) ≡ h.sent ++ (b.unsent ++ y)
@@ -54,7 +42,7 @@ Takes-all_sent {sink = sink} {a = a} h none = subst (Takes sink a.sink) (sym (h.
 -- one text, and then a refusal
 pub PutsProperPrefix-then : {a b c : Output} {x y : List ℕ} {kind : ErrorKind} → Puts a b x → PutsProperPrefix b c y kind → PutsProperPrefix a c (x ++ y) kind
 PutsProperPrefix-then {a = a} {b = b} {c = c} {x = x} {y = y} h k = record {
-  taken = subst (TakesProperPrefix a.sink c.sink) (sym (put_after a b x y h)) (TakesProperPrefix-after a.sink b.sink c.sink h.sent (b.unsent ++ y) h.taken k.taken);
+  taken = subst (TakesProperPrefix a.sink c.sink) (sym (put_after a b x y h)) (Cut-after a.sink b.sink c.sink h.sent (b.unsent ++ y) h.taken k.taken);
   fault = k.fault;
 }
 
@@ -70,7 +58,7 @@ Sends-then c y (Err kind) h k = PutsProperPrefix-then h k
 -- a refusal, whatever text was to follow
 pub PutsProperPrefix-more : {a b : Output} {x : List ℕ} {kind : ErrorKind} (y : List ℕ) → PutsProperPrefix a b x kind → PutsProperPrefix a b (x ++ y) kind
 PutsProperPrefix-more {a = a} {b = b} {x = x} y h = record {
-  taken = subst (TakesProperPrefix a.sink b.sink) (append_assoc a.unsent x y) (TakesProperPrefix-more a.sink b.sink (a.unsent ++ x) y h.taken);
+  taken = subst (TakesProperPrefix a.sink b.sink) (append_assoc a.unsent x y) (Cut-more a.sink b.sink (a.unsent ++ x) y h.taken);
   fault = h.fault;
 }
 

@@ -14,6 +14,6 @@ pub use program::messages::write_message;
 pub use program::names::named;
 pub use program::{Status, execute, show_usage};
 pub use runs::at_once::put_pieces;
-pub use runs::lines::{MAX_LINE_LEN, MAX_LINES, lines_are_unique, split_line};
+pub use runs::lines::{MAX_LINE_LEN, MAX_LINES};
 pub use runs::replies::{canonical_lines, parsed_lines, replies_are_unique, unchanged_lines};
 pub use runs::run;

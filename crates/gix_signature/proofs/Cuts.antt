@@ -1,31 +1,22 @@
 -- A line has one cut at most.
 use Rattle.std.proofs.Common.{◌≡◌, ◌∙◌, ℕ, Bool, true, false, not, ◌||◌, ◌&&◌, ◌==◌, List, [], ◌∷◌, ◌++◌, length, drop, get_or, refl, ap, sym, append_assoc}
+use Rattle.std.proofs.lemmas.Bool.{and_from, and_parts}
 use Rattle.std.proofs.lemmas.List.{append_cancel_right}
 use Rattle.std.proofs.lemmas.List.Folds.{list_all-append}
 use Rattle.std.specs.List.{list_all}
 use Rattle.std.specs.Prelude.{codes}
+use Rattle.gix_date.proofs.Text.AsciiCuts.{all-append}
 use Rattle.gix_signature.specs.Signature.{Parts, IsCut, is_allowed, is_part, are_parts, line_of, opening, closing, newline, nul}
-
-pub and-parts : (a b : Bool) → (a && b) ≡ true → (a ≡ true) × (b ≡ true)
-and-parts true b e = (refl, e)
-and-parts false b e = absurd cc
-
-pub and-both : (a b : Bool) → a ≡ true → b ≡ true → (a && b) ≡ true
-and-both true b h k = k
-and-both false b h k = absurd cc
-
-pub all-both : (p : ℕ → Bool) (xs ys : List ℕ) → list_all p xs ≡ true → list_all p ys ≡ true → list_all p (xs ++ ys) ≡ true
-all-both p xs ys h k = list_all-append p xs ys ∙ and-both (list_all p xs) (list_all p ys) h k
 
 -- what passes one test passes another
 all-of : (p q : ℕ → Bool) → ((c : ℕ) → p c ≡ true → q c ≡ true) → (xs : List ℕ) → list_all p xs ≡ true → list_all q xs ≡ true
 all-of p q to [] h = refl
-all-of p q to (x ∷ xs) h = let each = and-parts (p x) (list_all p xs) h in and-both (q x) (list_all q xs) (to x each.0) (all-of p q to xs each.1)
+all-of p q to (x ∷ xs) h = let each = and_parts (p x) (list_all p xs) h in and_from (q x) (list_all q xs) (to x each.0) (all-of p q to xs each.1)
 
 not-all : (p : ℕ → Bool) (c : ℕ) (xs ys : List ℕ) → p c ≡ false → list_all p (xs ++ (c ∷ ys)) ≡ true → ⊥
 not-all p c xs ys other h =
-    let after = and-parts (list_all p xs) (list_all p (c ∷ ys)) (sym (list_all-append p xs (c ∷ ys)) ∙ h) in
-    let clash : true ≡ false = sym (and-parts (p c) (list_all p ys) after.1).0 ∙ other in
+    let after = and_parts (list_all p xs) (list_all p (c ∷ ys)) (sym (list_all-append p xs (c ∷ ys)) ∙ h) in
+    let clash : true ≡ false = sym (and_parts (p c) (list_all p ys) after.1).0 ∙ other in
     absurd cc
 
 -- a byte that stands once in a text tells where the text is cut at it
@@ -33,10 +24,10 @@ one-place : (p : ℕ → Bool) (c : ℕ) (xs ys us vs : List ℕ) → p c ≡ fa
     → xs ++ (c ∷ ys) ≡ us ++ (c ∷ vs) → (xs ≡ us) × (ys ≡ vs)
 one-place p c [] ys [] vs other a b e = (refl, ap (drop 1) e)
 one-place p c [] ys (u ∷ us) vs other a b e =
-    let clash : true ≡ false = sym (and-parts (p u) (list_all p us) a).0 ∙ ap (λ l. p (get_or l 0 0)) (sym e) ∙ other in absurd cc
+    let clash : true ≡ false = sym (and_parts (p u) (list_all p us) a).0 ∙ ap (λ l. p (get_or l 0 0)) (sym e) ∙ other in absurd cc
 one-place p c (x ∷ xs) ys [] vs other a b e = absurd (not-all p c xs ys other (ap (λ l. list_all p (drop 1 l)) e ∙ b))
 one-place p c (x ∷ xs) ys (u ∷ us) vs other a b e =
-    let rest = one-place p c xs ys us vs other (and-parts (p u) (list_all p us) a).1 b (ap (drop 1) e) in
+    let rest = one-place p c xs ys us vs other (and_parts (p u) (list_all p us) a).1 b (ap (drop 1) e) in
     let heads : x ≡ u = ap (λ l. get_or l 0 0) e in
     (λ i. heads i ∷ rest.0 i, rest.1)
 
@@ -63,9 +54,9 @@ pub record ArePlain (p : Parts) : Type 0 where
 
 pub plain : (p : Parts) → are_parts p ≡ true → ArePlain p
 plain p h =
-    let three = (and-parts (is_part p.name && is_part p.mail && is_part p.time) (not (length p.time == 0)) h).0 in
-    let last = and-parts (is_part p.name && is_part p.mail) (is_part p.time) three in
-    let front = and-parts (is_part p.name) (is_part p.mail) last.0 in
+    let three = (and_parts (is_part p.name && is_part p.mail && is_part p.time) (not (length p.time == 0)) h).0 in
+    let last = and_parts (is_part p.name && is_part p.mail) (is_part p.time) three in
+    let front = and_parts (is_part p.name) (is_part p.mail) last.0 in
     record { name = front.0; mail = front.1; time = last.1 }
 
 -- the name with the space after it, `<` and what stands after that
@@ -81,8 +72,8 @@ the-front line name rest q whole cut =
     sym (marked name rest) ∙ sym whole ∙ cut.whole ∙ marked q.name (after_name q) in
     let after : list_all not_opening (codes "> " ++ q.time) ≡ true = no-opening q.time are.time in
     let at = one-place not_opening opening (name ++ blank) rest (q.name ++ blank) (after_name q) refl
-    (all-both not_opening q.name blank (no-opening q.name are.name) refl)
-    (all-both not_opening q.mail (codes "> " ++ q.time) (no-opening q.mail are.mail) after)
+    (all-append not_opening q.name blank (no-opening q.name are.name) refl)
+    (all-append not_opening q.mail (codes "> " ++ q.time) (no-opening q.mail are.mail) after)
     same in
     (append_cancel_right name q.name blank at.0, at.1)
 

@@ -1,22 +1,16 @@
 -- Texts that a sink takes one after the other.
-use Rattle.std.proofs.Common.{◌∙◌, ℕ, ◌+◌, List, ◌++◌, length, take, Option, None, Some, sym, ap, subst, append_assoc, length-append, arith}
+use Rattle.std.proofs.Common.{ℕ, ◌+◌, List, ◌++◌, length, take, sym, subst, length-append, arith}
 use Rattle.std.proofs.Math.Seq.{take-append-add}
 use Rattle.std.proofs.lemmas.List.{take-append-le}
-use Rattle.std.specs.Io.KnownBytes.{Appends}
 use Rattle.std.specs.Prelude.{Result, Ok, Err}
 use Rattle.std.specs.declared.io.ErrorKind.{ErrorKind}
 use Rattle.gix_date.specs.Devices.StreamState.{StreamState, Takes, TakesProperPrefix}
+use Rattle.gix_date.proofs.Text.KnownBytes.{Appends-append}
 use Rattle.gix_signature.specs.Writing.{Puts}
-
-Appends-then : (old mid new : Option (List ℕ)) (xs ys : List ℕ) → Appends old mid xs → Appends mid new ys → Appends old new (xs ++ ys)
-Appends-then None mid new xs ys h k = tt
-Appends-then (Some us) None new xs ys h k = absurd h
-Appends-then (Some us) (Some vs) None xs ys h k = absurd k
-Appends-then (Some us) (Some vs) (Some ws) xs ys h k = k ∙ ap (λ zs. zs ++ ys) h ∙ append_assoc us xs ys
 
 -- one text, and then the next
 pub Takes-then : (old mid new : StreamState) (xs ys : List ℕ) → Takes old mid xs → Takes mid new ys → Takes old new (xs ++ ys)
-Takes-then old mid new xs ys h k = Appends-then old.bytes mid.bytes new.bytes xs ys h k
+Takes-then old mid new xs ys h k = Appends-append old.bytes mid.bytes new.bytes xs ys h k
 
 -- a proper prefix of a text is one of a longer text too
 pub Cut-more : (old new : StreamState) (xs ys : List ℕ) → TakesProperPrefix old new xs → TakesProperPrefix old new (xs ++ ys)

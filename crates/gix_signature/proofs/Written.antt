@@ -1,5 +1,6 @@
 -- What is written of a name, a mail and a time, and how it is cut.
 use Rattle.std.proofs.Common.{◌≡◌, ◌≢◌, ℕ, ◌+◌, ◌/◌, ◌%◌, ◌^◌, ◌<◌, suc, Bool, true, false, cond, not, ◌&&◌, ◌==◌, List, [], ◌∷◌, ◌++◌, length, ℤ, pos, negsuc, Option, Some, None, Result, Ok, Err, IsSomeAnd, IfOk, OnOk, ok_or, option_map, unwrap_or, unsigned_abs, FitsSigned, w64, refl, ap, subst, arith, length-append}
+use Rattle.std.proofs.lemmas.Bool.{and_from}
 use Rattle.std.proofs.lemmas.Bool.Decides.{nat_tests}
 use Rattle.std.proofs.lemmas.Fmt.{decimal_by_steps}
 use Rattle.std.specs.Fmt.{decimal}
@@ -16,7 +17,7 @@ use Rattle.gix_signature.specs.Signature.{is_allowed, is_part, line_of, opening,
 use Rattle.gix_signature.specs.Writing.{line_due, parts_due, WritesLine, IsWritten}
 use Rattle.gix_signature.specs.declared.error.SignatureError.{SignatureError}
 use Rattle.gix_signature.specs.declared.error.SignatureError.TheVariants.{BadPart, OffsetTooWide}
-use Rattle.gix_signature.proofs.Cuts.{and-both, all-both}
+use Rattle.gix_date.proofs.Text.AsciiCuts.{all-append}
 
 pub differs : (a b : ℕ) → a ≢ b → (a == b) ≡ false
 differs a b h = grind (arith, nat_tests, h)
@@ -27,17 +28,17 @@ digit-stands n h =
     rw (differs (48 + n) opening (λ e. omega (arith, e)), differs (48 + n) closing (λ e. omega (arith, e)), differs (48 + n) newline (λ e. omega (arith, e)), differs (48 + n) nul (λ e. omega (arith, e))) refl
 
 one-stands : (n : ℕ) → n < 10 → is_part ((48 + n) ∷ []) ≡ true
-one-stands n h = and-both (is_allowed (48 + n)) true (digit-stands n h) refl
+one-stands n h = and_from (is_allowed (48 + n)) true (digit-stands n h) refl
 
 decimal-stands : (n : ℕ) → n < 2 ^ 64 → is_part (decimal n) ≡ true
-decimal-stands = decimal_by_steps (λ n ds. is_part ds ≡ true) one-stands (λ n ds more k. all-both is_allowed ds ((48 + n % 10) ∷ []) k (one-stands (n % 10) (omega arith)))
+decimal-stands = decimal_by_steps (λ n ds. is_part ds ≡ true) one-stands (λ n ds more k. all-append is_allowed ds ((48 + n % 10) ∷ []) k (one-stands (n % 10) (omega arith)))
 
 seconds-stand : (z : ℤ) → FitsSigned w64 z → is_part (decimal_text z) ≡ true
 seconds-stand (pos n) f = decimal-stands n (omega (arith, f.sfits))
 seconds-stand (negsuc n) f = decimal-stands (suc n) (omega (arith, f.sfits))
 
 pair-stands : (n : ℕ) → n < 100 → is_part (two_digits n) ≡ true
-pair-stands n h = and-both (is_allowed (48 + n / 10)) _ (digit-stands (n / 10) (omega arith)) (one-stands (n % 10) (omega arith))
+pair-stands n h = and_from (is_allowed (48 + n / 10)) _ (digit-stands (n / 10) (omega arith)) (one-stands (n % 10) (omega arith))
 
 sign-stands : (b : Bool) → is_allowed (if b then minus else plus) ≡ true
 sign-stands true = refl
@@ -47,8 +48,8 @@ zone-stands : (o : ℤ) → unsigned_abs o < 360000 → is_part (compact_offset_
 zone-stands o h =
     let hours = two_digits (unsigned_abs o / 3600) in
     let minutes = two_digits (unsigned_abs o % 3600 / 60) in
-    and-both (is_allowed (if int_lt o (pos 0) then minus else plus)) (is_part (hours ++ minutes)) (sign-stands (int_lt o (pos 0)))
-    (all-both is_allowed hours minutes (pair-stands (unsigned_abs o / 3600) (omega arith)) (pair-stands (unsigned_abs o % 3600 / 60) (omega arith)))
+    and_from (is_allowed (if int_lt o (pos 0) then minus else plus)) (is_part (hours ++ minutes)) (sign-stands (int_lt o (pos 0)))
+    (all-append is_allowed hours minutes (pair-stands (unsigned_abs o / 3600) (omega arith)) (pair-stands (unsigned_abs o % 3600 / 60) (omega arith)))
 
 text-of : (b : Bool) (xs text : List ℕ) → cond b (Some xs) None ≡ Some text → (b ≡ true) × (xs ≡ text)
 text-of true xs text e = (refl, ap (λ o. unwrap_or o []) e)
@@ -72,7 +73,7 @@ text-is t text f e =
     let short : unsigned_abs t.offset < 360000 = grind (arith, nat_tests, is.0) in
     record {
       short = short;
-      stands = subst (λ s. is_part s ≡ true) is.1 (all-both is_allowed seconds (space ∷ zone) (seconds-stand t.seconds f) (zone-stands t.offset short));
+      stands = subst (λ s. is_part s ≡ true) is.1 (all-append is_allowed seconds (space ∷ zone) (seconds-stand t.seconds f) (zone-stands t.offset short));
       some = subst (λ s. not (length s == 0) ≡ true) is.1 (filled seconds zone);
     }
 
@@ -86,7 +87,7 @@ due-by name mail t f true parts (Some text) h =
     record {
       text = text;
       is_text = h;
-      cut = record { whole = refl; allowed = and-both (is_part name && is_part mail && is_part text) _ (and-both (is_part name && is_part mail) _ parts is.stands) is.some };
+      cut = record { whole = refl; allowed = and_from (is_part name && is_part mail && is_part text) _ (and_from (is_part name && is_part mail) _ parts is.stands) is.some };
       back = λ whole. subst (λ r. IsSomeAnd r (λ x. header_time x ≡ Some t)) h (written-is-read t f is.short whole);
     }
 
@@ -96,7 +97,7 @@ written-is-cut name mail t f = due-by name mail t f (is_part name && is_part mai
 -- What writing comes to.
 pub due-is : (name mail : List ℕ) (t : Time) → is_part name ≡ true → is_part mail ≡ true
     → line_due name mail t ≡ ok_or (option_map line_of (parts_due name mail t)) OffsetTooWide
-due-is name mail t h k = ap (λ b. cond b (ok_or (option_map line_of (parts_due name mail t)) OffsetTooWide) (Err BadPart)) (and-both (is_part name) (is_part mail) h k)
+due-is name mail t h k = ap (λ b. cond b (ok_or (option_map line_of (parts_due name mail t)) OffsetTooWide) (Err BadPart)) (and_from (is_part name) (is_part mail) h k)
 
 wrote-by : (due : Result (List ℕ) SignatureError) (Is : List ℕ → Type 0) (old new : StreamState) (r : Result (Unit {0}) SignatureError) → IfOk due Is → WritesLine due old new r
     → OnOk r ((line : List ℕ) × Is line × Takes old new line)

@@ -1,2 +1,3 @@
 pub mod Signature
 pub mod Writing
+pub mod Ident

@@ -15,3 +15,26 @@ pub enum SignatureError {
     #[error("writing failed: {0}")]
     Write(io::ErrorKind),
 }
+
+/// Why [`crate::ident::write::write_ident`] writes no line, or [`crate::ident::time::GitTime::to_time`] makes no time.
+#[derive(Debug, Drop, Error)]
+pub enum IdentFault {
+    /// The name or the email holds NUL, at which a text ends for Git.
+    #[error("a name or mail may not hold NUL")]
+    NulInPart,
+    /// The name has no bytes.
+    #[error("the name is empty")]
+    EmptyName,
+    /// The name holds only bytes that Git cuts off its ends.
+    #[error("the name consists only of disallowed characters")]
+    OnlyCrud,
+    /// The time lies before 1970, so Git cannot hold its seconds.
+    #[error("a time before 1970 cannot be written")]
+    BeforeEpoch,
+    /// The offset is 100 hours or more where a line is written, or more than 35791394 minutes where a time is made.
+    #[error("the offset is too wide")]
+    OffsetTooWide,
+    /// The writer refused, and this is its fault.
+    #[error("writing failed: {0}")]
+    Write(io::ErrorKind),
+}

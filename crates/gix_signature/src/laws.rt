@@ -2,6 +2,7 @@
 ghost use Rattle.std.specs.Prelude.{◌≡◌, IfOk};
 ghost use Rattle.gix_signature.specs.Signature.{OneCut};
 ghost use Rattle.gix_signature.specs.Writing.{line_due, IsWritten};
+ghost use Rattle.gix_signature.specs.Ident.Laws.{PassedHasIdentity};
 
 use crate::lines::SignatureRef;
 use gix_date::Time;
@@ -21,4 +22,9 @@ pub fn written_is_cut(name: &str, mail: &str, time: Time)
 pub fn clones()
     ensures parts { (a b : SignatureRef) → ⟦<SignatureRef<'static> as Clone>⟧.is_clone a b → b ≡ a }
     ensures parts_succeed { (a : SignatureRef) → ⟦<SignatureRef<'static> as Clone>⟧.is_infallible a }
+{}
+
+/// A line of which `git fsck` says nothing has an identity.
+pub fn passed_has_identity(text: &[u8])
+    ensures { PassedHasIdentity text.now }
 {}

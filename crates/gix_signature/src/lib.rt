@@ -11,8 +11,14 @@
 #![tactic(auto)]
 
 mod error;
+pub mod fsck;
+pub mod ident;
 pub mod laws;
 mod lines;
 
-pub use error::SignatureError;
+pub use error::{IdentFault, SignatureError};
+pub use fsck::{FsckFault, FsckId, fsck_of};
+pub use ident::time::GitTime;
+pub use ident::write::write_ident;
+pub use ident::{DateParts, IdentRef};
 pub use lines::{SignatureRef, write_line};

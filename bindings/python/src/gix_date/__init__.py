@@ -17,7 +17,7 @@ True
 
 from __future__ import annotations
 
-from . import _library, git
+from . import _library, git, moments
 from .errors import AfterYear9999 as AfterYear9999
 from .errors import BadPart as BadPart
 from .errors import BeyondDatetime as BeyondDatetime
@@ -29,6 +29,7 @@ from .errors import InvalidTime as InvalidTime
 from .errors import InvalidZone as InvalidZone
 from .errors import MissingNow as MissingNow
 from .errors import NaiveDatetime as NaiveDatetime
+from .errors import NoDirective as NoDirective
 from .errors import NoSignature as NoSignature
 from .errors import NotText as NotText
 from .errors import OffsetTooWide as OffsetTooWide
@@ -36,7 +37,7 @@ from .errors import Pattern as Pattern
 from .errors import Range as Range
 from .errors import Unclear as Unclear
 from .errors import UnknownFormat as UnknownFormat
-from .lines import parse_lines, parse_lines_into
+from .lines import Refused, parse_headers_into, parse_lines, parse_lines_into, parse_signatures_into
 from .moments import Moment, now
 from .options import Format, RawOffsets, Texts, WithoutOffset
 from .reading import is_canonical_header, parse, parse_carefully, parse_header
@@ -48,6 +49,25 @@ SHORT, RFC2822, GIT_RFC2822, ISO8601, ISO8601_STRICT, GITOXIDE, DEFAULT, UNIX, R
     Format.UNIX, Format.RAW,
 )  # fmt: skip
 
+_library.connect(
+    moment=Moment,
+    read_date=git.ReadDate,
+    approximate=git.Approximate,
+    date_mode=git.DateMode,
+    expires=tuple(git.Expires),
+    raw_offsets=tuple(RawOffsets),
+    without_offset=tuple(WithoutOffset),
+    texts=tuple(Texts),
+    formats=tuple(Format),
+    kinds=tuple(git.DateKind),
+    refusals=git.ALL_REFUSALS,
+    no_directive=NoDirective,
+    naive=NaiveDatetime,
+    parts_in_zone=moments.parts_in_zone,
+    read_zone=moments.read_zone,
+    named_zone=moments.named_zone,
+)
+
 
 def _version(number: int) -> str:
     return f"{number // 10000}.{number // 100 % 100}.{number % 100}"
@@ -57,6 +77,7 @@ __version__, PORTED_VERSION = (_version(number) for number in _library.versions(
 
 __all__ = [
     "DEFAULT", "Format", "GITOXIDE", "GIT_RFC2822", "GixDateError", "ISO8601", "ISO8601_STRICT", "Moment", "PORTED_VERSION", "RAW",
-    "RFC2822", "RawOffsets", "SHORT", "Signature", "Texts", "Time", "UNIX", "WithoutOffset", "git", "is_canonical_header", "now",
-    "parse", "parse_carefully", "parse_header", "parse_lines", "parse_lines_into", "write_signature",
+    "RFC2822", "RawOffsets", "Refused", "SHORT", "Signature", "Texts", "Time", "UNIX", "WithoutOffset", "git", "is_canonical_header", "now",
+    "parse", "parse_carefully", "parse_header", "parse_headers_into", "parse_lines", "parse_lines_into", "parse_signatures_into",
+    "write_signature",
 ]  # fmt: skip

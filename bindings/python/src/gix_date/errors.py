@@ -2,7 +2,7 @@
 
 from __future__ import annotations
 
-from typing import ClassVar, Dict, Optional, Tuple, Type, Union
+from typing import ClassVar, Dict, Optional, Type, Union
 
 from . import _library
 
@@ -98,7 +98,7 @@ class OffsetTooWide(GixDateError):
 class Pattern(GixDateError):
     """The pattern cannot be printed."""
 
-    status = 13
+    status: ClassVar[Optional[int]] = 13
 
 
 class NoSignature(GixDateError):
@@ -125,6 +125,13 @@ class AfterYear9999(GixDateError):
     status = 23
 
 
+class NoDirective(Pattern):
+    """The pattern is the name of a form, such as `iso`, and has no directive, so that it would print itself."""
+
+    status: ClassVar[Optional[int]] = None
+    own_message = 'a pattern without a directive prints itself; expected a Format, or directives such as "%Y-%m-%d"'
+
+
 class NaiveDatetime(GixDateError):
     """The datetime has no zone."""
 
@@ -148,23 +155,8 @@ REFUSALS = named(
 )  # fmt: skip
 
 
-def index_of(text: Text, place: int) -> Optional[int]:
-    """The index into a text of a place that counts bytes; None if it is below 0."""
-    if place < 0 or isinstance(text, bytes):
-        return None if place < 0 else place
-    # Halves of surrogate pairs, which no text should have, are three bytes each to the library.
-    return len(text.encode("utf-8", "surrogatepass")[:place].decode("utf-8", "surrogatepass"))
-
-
-def refusal(
-    status: int, text: Optional[Text] = None, place: int = -1, refusals: Dict[int, Type[GixDateError]] = REFUSALS
-) -> GixDateError:
-    """The refusal of a status. A place counts bytes, and is below 0 if there is none."""
-    return refusals[status](text, None if text is None else index_of(text, place))
-
-
 __all__ = [
     "GixDateError", "NotText", "InvalidTime", "UnknownFormat", "DateConversion", "MissingNow", "Range",
     "InvalidInstant", "InvalidZone", "Conversion", "OffsetTooWide", "Pattern", "NoSignature", "BadPart", "Unclear",
-    "AfterYear9999", "NaiveDatetime", "BeyondDatetime",
+    "AfterYear9999", "NoDirective", "NaiveDatetime", "BeyondDatetime",
 ]  # fmt: skip

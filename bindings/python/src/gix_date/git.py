@@ -1,7 +1,7 @@
 """Dates as Git 2.39.5 itself reads and shows them.
 
 - `parse_date`: exact dates, as in `GIT_COMMITTER_DATE`, in mails, and nearly all of `git commit --date`
-- `approxidate`: dates as people write them, as Git reads `--since` and `REF@{..}`
+- `approxidate`: dates as people write them, as Git reads `--since` and `REF@{..}`; `approxidate_lines`: those of many lines
 - `expiry_date`: what expires, as in `gc.pruneExpire`
 - `show_date`: a date as `git log --date=MODE` shows it
 
@@ -14,13 +14,13 @@ from __future__ import annotations
 
 from dataclasses import dataclass
 from enum import Enum
-from typing import Optional, Union
+from typing import Dict, Optional, Type
 
 from . import _library
-from .errors import REFUSALS, GixDateError, Text, index_of, named, refusal
-from .moments import Now, given
-from .options import number_of
-from .times import Time, time_of
+from ._library import approxidate, expiry_date, parse_date, show_date
+from .errors import REFUSALS, GixDateError, Text, named
+from .lines import approxidate_lines
+from .times import Time
 
 
 class Unreadable(GixDateError):
@@ -63,7 +63,8 @@ class UnknownMode(GixDateError):
     own_message = 'not a way to show a date; expected one such as "iso8601-strict" or "human-local"'
 
 
-_GIT_REFUSALS = {**REFUSALS, **named(Unreadable, NumberTooLarge, BackTooFar, YearRefused, Range)}
+ALL_REFUSALS: Dict[int, Type[GixDateError]] = {**REFUSALS, **named(Unreadable, NumberTooLarge, BackTooFar, YearRefused, Range)}
+ALL_REFUSALS[2] = UnknownMode  # the library tells an unknown mode by its status for options
 
 
 @dataclass(frozen=True)
@@ -143,73 +144,19 @@ class DateMode:
     local: bool = False
 
     def __post_init__(self) -> None:
-        number_of(self.kind, DateKind)
+        if type(self.kind) is not DateKind:
+            raise TypeError(f"the option has to be a DateKind, not {self.kind!r}")
 
     @classmethod
     def of_name(cls, name: Text) -> DateMode:
         """The mode of one of Git's names, in its letter case: `iso8601-strict-local`. Refuses by `UnknownMode` and `NotText`."""
-        status, kind, local = _library.mode_named(name)
-        if status == 2:
-            raise UnknownMode(name)
-        if status:
-            raise refusal(status, name)
-        return cls(DateKind(kind), bool(local))
+        return cls(*_library.mode_named(name))
 
     def __str__(self) -> str:
         return self.kind.name.lower().replace("_", "-") + ("-local" if self.local else "")
 
 
-def parse_date(text: Text, now: Now) -> ReadDate:
-    """Reads a date as Git's exact reader does.
-
-    Refuses by `Unreadable`, `NumberTooLarge`, `YearRefused` and `Range`.
-    """
-    status, seconds, offset, ignored, has_offset, place = _library.parse_date(text, given(now))
-    if status:
-        raise refusal(status, text, place, _GIT_REFUSALS)
-    return ReadDate(time_of(seconds, offset), bool(has_offset), index_of(text, ignored))
-
-
-def approxidate(text: Text, now: Now) -> Approximate:
-    """Reads a date as people write it. A word that Git does not know is ignored: `5 mins ago` is the fifth.
-
-    Refuses by `NumberTooLarge`, `BackTooFar`, `YearRefused` and `Range`.
-    """
-    status, seconds, offset, ignored, understood, place = _library.approxidate(text, given(now))
-    if status:
-        raise refusal(status, text, place, _GIT_REFUSALS)
-    return Approximate(time_of(seconds, offset), bool(understood), index_of(text, ignored))
-
-
-def expiry_date(text: Text, now: Now) -> Union[Approximate, Expires]:
-    """Reads what expires: what is older than a date, or `never`, `false`, `all` and `now`.
-
-    Refuses as `approxidate` does, and by `Unreadable` if nothing was understood.
-    """
-    status, kind, seconds, offset, ignored, understood, place = _library.expiry_date(text, given(now))
-    if status:
-        raise refusal(status, text, place, _GIT_REFUSALS)
-    if kind < 2:
-        return Expires(kind)
-    return Approximate(time_of(seconds, offset), bool(understood), index_of(text, ignored))
-
-
-def show_date(time: Time, mode: Union[DateMode, DateKind, Text], now: Now) -> str:
-    """A date as `git log --date=MODE` shows it at a moment. The mode may be a kind, or Git's name.
-
-    Refuses by `Range` what Git cannot show, and by `UnknownMode` a name.
-    """
-    if isinstance(mode, (str, bytes)):
-        mode = DateMode.of_name(mode)
-    elif not isinstance(mode, DateMode):
-        mode = DateMode(mode)
-    status, text = _library.show_date((time.seconds, time.offset), mode.kind.value, mode.local, given(now))
-    if text is None:
-        raise refusal(status, refusals=_GIT_REFUSALS)
-    return text
-
-
 __all__ = [
     "Approximate", "BackTooFar", "DateKind", "DateMode", "Expires", "NumberTooLarge", "Range", "ReadDate", "UnknownMode", "Unreadable",
-    "YearRefused", "approxidate", "expiry_date", "parse_date", "show_date",
+    "YearRefused", "approxidate", "approxidate_lines", "expiry_date", "parse_date", "show_date",
 ]  # fmt: skip

@@ -13,7 +13,8 @@ from pathlib import Path
 from typing import NamedTuple, Optional, Sequence, Tuple, Union
 
 from . import _library
-from .times import parts_of
+from ._library import parts_of
+from .errors import InvalidZone
 
 Zone = Union[int, str, bytes]
 Parts = Tuple[int, int, Zone]
@@ -25,12 +26,27 @@ LOCAL_FILE = Path("/etc/localtime")
 """The file of the machine's zone."""
 
 
+class ZoneFile(bytes):
+    """The bytes of a TZif file, with the name by which it was found."""
+
+    name: str
+
+    def __new__(cls, data: bytes, name: str) -> ZoneFile:
+        file = super().__new__(cls, data)
+        file.name = name
+        return file
+
+    def __getnewargs__(self) -> Tuple[bytes, str]:  # type: ignore[override]
+        return bytes(self), self.name
+
+
 class Moment(NamedTuple):
     """An instant in a zone, for what a datetime cannot hold, and for many calls at one moment.
 
     - seconds: since 1970-01-01 00:00:00 UTC
     - nanoseconds: added to them, from -999999999 to 999999999
-    - zone: an offset in seconds east of UTC, a POSIX rule such as `EST5EDT,M3.2.0,M11.1.0`, or the bytes of a TZif file
+    - zone: an offset in seconds east of UTC, a POSIX rule such as `EST5EDT,M3.2.0,M11.1.0`, the bytes of a TZif file, or the key of
+      one that `zoneinfo` finds, such as `Europe/Berlin`
 
     Calls refuse by `InvalidInstant` and `InvalidZone` what they cannot compute with.
     """
@@ -48,26 +64,40 @@ class Moment(NamedTuple):
         """
         return cls(*parts_in_zone(at))
 
+    def __repr__(self) -> str:
+        """The parts; of a file its name, if that is known, and its length."""
+        return f"{type(self).__name__}(seconds={self.seconds!r}, nanoseconds={self.nanoseconds!r}, zone={shown(self.zone)})"
+
+
+def shown(zone: Zone) -> str:
+    """A zone in one line: of a file its name, if that is known, and its length."""
+    if not isinstance(zone, bytes):
+        return repr(zone)
+    return f"<{zone.name}, {len(zone)} bytes>" if isinstance(zone, ZoneFile) else f"<{len(zone)} bytes>"
+
 
 Now = Union[datetime, Moment]
 """A moment: an aware datetime, or a Moment."""
 
-Given = Tuple[int, int, object]
-"""A moment as the extension takes it, whose zone is an int or a Zone that was read."""
-
 
 def parts_in_zone(at: datetime) -> Parts:
     """The parts of an aware datetime's moment."""
+    if not isinstance(at, datetime):
+        raise TypeError(f"a moment has to be an aware datetime or a Moment, not {type(at).__name__}")
     seconds, microseconds, offset = parts_of(at)
     file = file_of(at.tzinfo)
     return seconds, microseconds * 1000, offset if file is None else file
 
 
-def file_of(zone: Optional[tzinfo]) -> Optional[bytes]:
+@lru_cache(maxsize=64)
+def zone_file(zone: zoneinfo.ZoneInfo) -> Optional[ZoneFile]:
+    """The bytes of a zone's file, kept with the zone, which keeps its own data too; None if it has none."""
+    return None if zone.key is None else tzif_of(zone.key, zoneinfo.TZPATH)
+
+
+def file_of(zone: Optional[tzinfo]) -> Optional[ZoneFile]:
     """The bytes of a zone's file; None if it has none."""
-    if not isinstance(zone, zoneinfo.ZoneInfo) or zone.key is None:
-        return None
-    return tzif_of(zone.key, zoneinfo.TZPATH)
+    return zone_file(zone) if isinstance(zone, zoneinfo.ZoneInfo) else None
 
 
 def is_inside(key: str) -> bool:
@@ -76,17 +106,17 @@ def is_inside(key: str) -> bool:
 
 
 @lru_cache(maxsize=64)
-def tzif_of(key: str, folders: Sequence[str]) -> Optional[bytes]:
+def tzif_of(key: str, folders: Sequence[str]) -> Optional[ZoneFile]:
     """The bytes of a zone's TZif file in the folders, or in the package tzdata; None if there is none."""
     if not is_inside(key):
         return None
     for path in (Path(folder, key) for folder in folders):
-        if path.is_file():
-            return file_at(path)
+        if is_file(path):
+            return file_at(path, key)
     *packages, name = key.split("/")
     try:
-        return resources.files(".".join(["tzdata.zoneinfo", *packages])).joinpath(name).read_bytes()
-    except (ImportError, OSError):
+        return ZoneFile(resources.files(".".join(["tzdata.zoneinfo", *packages])).joinpath(name).read_bytes(), key)
+    except (ImportError, OSError, UnicodeError):
         return None
 
 
@@ -96,19 +126,10 @@ def read_zone(zone: Union[str, bytes]) -> _library.Zone:
     return _library.Zone(zone)
 
 
-def given(now: Now) -> Given:
-    """What the extension is given of a moment: its parts, with a zone that is read where that is a rule or a file."""
-    if isinstance(now, Moment):
-        parts: Parts = now
-    elif isinstance(now, datetime):
-        parts = parts_in_zone(now)
-    else:
-        raise TypeError(f"a moment has to be an aware datetime or a Moment, not {type(now).__name__}")
-    zone = parts[2]
-    if isinstance(zone, int):
-        return parts
-    # a zone of another type is left to the extension, which refuses it
-    return parts[0], parts[1], read_zone(zone) if isinstance(zone, (str, bytes)) else zone
+def named_zone(key: str) -> _library.Zone:
+    """The zone of a file by its key; for a key without one, which is no rule either, a zone that calls refuse."""
+    file = tzif_of(key, zoneinfo.TZPATH)
+    return read_zone(key if file is None else file)
 
 
 def may_be_read(file: os.stat_result) -> bool:
@@ -124,33 +145,58 @@ def without_waiting(path: str, flags: int) -> int:
     return os.open(path, flags | os.O_NONBLOCK)
 
 
-def file_at(path: Path) -> Optional[bytes]:
-    """The bytes of a file; None if there is none that may be read as a zone."""
-    # to open a device may already change it
-    if not path.is_file() or not may_be_read(path.stat()):
+def is_file(path: Path) -> bool:
+    """Whether there is such a file. The path may be too long, and lead through what must not be looked at."""
+    try:
+        return path.is_file()
+    except OSError:
+        return False
+
+
+def file_at(path: Path, name: str) -> Optional[ZoneFile]:
+    """The bytes of a file, with a name; None if there is none that may be read as a zone."""
+    try:
+        # to open a device may already change it
+        if not path.is_file() or not may_be_read(path.stat()):
+            return None
+        with open(path, "rb", opener=without_waiting) as file:
+            # the path may mean another file by now, and a file may grow
+            data = file.read(MAX_FILE_BYTES + 1) if may_be_read(os.fstat(file.fileno())) else b""
+    except OSError:
         return None
-    with open(path, "rb", opener=without_waiting) as file:
-        # the path may mean another file by now, and a file may grow
-        data = file.read(MAX_FILE_BYTES + 1) if may_be_read(os.fstat(file.fileno())) else b""
-    return data if 1 <= len(data) <= MAX_FILE_BYTES else None
+    return ZoneFile(data, name) if 1 <= len(data) <= MAX_FILE_BYTES else None
 
 
-def local_zone() -> Zone:
-    """The machine's zone: that of `TZ`, or of `/etc/localtime` if it is not set. What names no file has to be a rule."""
-    name = os.environ.get("TZ")
-    if name is None:
-        return file_at(LOCAL_FILE) or b"" if LOCAL_FILE.exists() else 0
+def machine_zone() -> Optional[Zone]:
+    """The zone of `/etc/localtime`, UTC if that is not there; None if it cannot be read."""
+    try:
+        os.stat(LOCAL_FILE)
+    except FileNotFoundError:
+        return 0
+    except OSError:
+        return None
+    return file_at(LOCAL_FILE, str(LOCAL_FILE))
+
+
+def zone_of(name: str) -> Zone:
+    """The zone that a `TZ` names: by its file; what names none has to be a rule."""
     name = name[1:] if name.startswith(":") else name
-    file = file_at(Path(name)) if os.path.isabs(name) else tzif_of(name, zoneinfo.TZPATH)
-    return file or name or 0
+    if not name:
+        return 0
+    file = file_at(Path(name), name) if os.path.isabs(name) else tzif_of(name, zoneinfo.TZPATH)
+    return name if file is None else file
 
 
 def now() -> Moment:
     """The moment now in the machine's zone: that of `TZ`, or of `/etc/localtime` if it is not set.
 
-    It is UTC if `TZ` is empty, or neither is there. Calls refuse by `InvalidZone` a `TZ` that names no zone, and a file that is a
-    pipe, a device or empty, or has more than 1048576 bytes.
+    It is UTC if `TZ` is empty, or neither is there. Refuses by `InvalidZone` a `TZ` that names no zone, and a file that cannot be
+    read, is a pipe, a device or empty, or has more than 1048576 bytes.
     Only this call reads the clock, the environment and the machine's zone.
     """
     seconds, nanoseconds = divmod(time.time_ns(), 1_000_000_000)
-    return Moment(seconds, nanoseconds, local_zone())
+    name = os.environ.get("TZ")
+    zone = machine_zone() if name is None else zone_of(name)
+    if zone is None or not isinstance(zone, int) and not read_zone(zone).is_read:
+        raise InvalidZone(name)
+    return Moment(seconds, nanoseconds, zone)

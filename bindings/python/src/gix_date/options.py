@@ -1,18 +1,8 @@
-"""The options of the calls. Each has the number of the library's headers."""
+"""The options of the calls. Each has the number of the library's headers, which is its place among those of its kind."""
 
 from __future__ import annotations
 
 from enum import Enum
-from typing import Type
-
-
-def number_of(option: Enum, kind: Type[Enum]) -> int:
-    """The number of an option of this kind. The same number of another kind means something else."""
-    if type(option) is not kind:
-        raise TypeError(f"the option has to be a {kind.__name__}, not {option!r}")
-    number: int = option._value_  # faster than `value`
-    return number
-
 
 class RawOffsets(Enum):
     """Which offsets a raw text (`1660797906 +0800`) may have.

@@ -5,8 +5,8 @@ from __future__ import annotations
 from dataclasses import dataclass
 
 from . import _library
-from .errors import Text, refusal
-from .reading import parse_header
+from ._library import parse_header, write_signature
+from .errors import Text
 from .times import Time
 
 
@@ -26,10 +26,7 @@ class Signature:
     @classmethod
     def from_line(cls, line: Text) -> Signature:
         """Cuts a line, without its newline, into its parts. Refuses by `NotText` and `NoSignature`."""
-        status, name, mail, time = _library.cut_signature(line)
-        if status:
-            raise refusal(status, line)
-        return cls(name, mail, time)
+        return cls(*_library.cut_signature(line))
 
     def read_time(self) -> Time:
         """The time, read as `parse_header` does. Refuses by `InvalidTime`."""
@@ -39,12 +36,4 @@ class Signature:
         return f"{self.name} <{self.mail}> {self.time}"
 
 
-def write_signature(name: Text, mail: Text, time: Time) -> str:
-    """The signature line of a name, a mail and a time, without a newline.
-
-    Refuses by `NotText`, `BadPart` and `OffsetTooWide`.
-    """
-    status, line = _library.write_signature(name, mail, (time.seconds, time.offset))
-    if line is None:
-        raise refusal(status)
-    return line
+__all__ = ["Signature", "write_signature"]

@@ -58,6 +58,32 @@ extern "C" {
         expiry: *mut CExpiry,
         place: *mut usize,
     ) -> u32;
+    pub fn git_date_parse_lines_at(
+        block: *const u8,
+        block_len: usize,
+        now: *const Instant,
+        zone: *mut CZone,
+        seconds: *mut i64,
+        seconds_len: usize,
+        offsets: *mut i32,
+        offsets_len: usize,
+        statuses: *mut u32,
+        statuses_len: usize,
+        bytes: *mut usize,
+    ) -> usize;
+    pub fn git_date_approxidate_lines_at(
+        block: *const u8,
+        block_len: usize,
+        now: *const Instant,
+        zone: *mut CZone,
+        seconds: *mut i64,
+        seconds_len: usize,
+        offsets: *mut i32,
+        offsets_len: usize,
+        statuses: *mut u32,
+        statuses_len: usize,
+        bytes: *mut usize,
+    ) -> usize;
     pub fn git_date_mode_named(name: *const u8, name_len: usize, mode: *mut CMode) -> u32;
     pub fn git_date_show_at(
         time: *const Time,

@@ -3,6 +3,7 @@
 use super::Instant;
 use crate::calls::{self, zone::HeldZone};
 use crate::git::{Approximate, DateError, DateMode, DateText, Expiry, ReadDate};
+use crate::lines::{Columns, Done, LineReader};
 use crate::{CarefulError, CarefulOptions, Error, RawOffsets, Time};
 use std::fmt;
 
@@ -98,6 +99,29 @@ impl ReadZone {
         now: Instant,
     ) -> Result<DateText, DateError> {
         DateText::shown(time, mode, now, &mut self.0)
+    }
+
+    /// Reads each line of a block as [`parse_lines()`](crate::lines::parse_lines) does, at a moment. Headers and signature lines
+    /// need none.
+    pub fn parse_lines(
+        &mut self,
+        block: &[u8],
+        reader: LineReader,
+        now: Instant,
+        columns: Columns<'_>,
+    ) -> Done {
+        calls::lines::parse_lines_at(block, reader, now, &mut self.0, columns)
+    }
+
+    /// Reads each line of a block as [`git::parse_date()`](crate::git::parse_date) does.
+    pub fn parse_date_lines(&mut self, block: &[u8], now: Instant, columns: Columns<'_>) -> Done {
+        calls::lines::parse_date_lines(block, now, &mut self.0, columns)
+    }
+
+    /// Reads each line of a block as [`git::approxidate()`](crate::git::approxidate) does. A line of which nothing is understood is
+    /// the moment.
+    pub fn approxidate_lines(&mut self, block: &[u8], now: Instant, columns: Columns<'_>) -> Done {
+        calls::lines::approxidate_lines(block, now, &mut self.0, columns)
     }
 
     /// The same zone once more. [`Error::OutOfMemory`].

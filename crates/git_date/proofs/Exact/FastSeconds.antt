@@ -16,7 +16,7 @@ use Rattle.gix_date.specs.Text.Characters.{at_sign, space, plus, minus}
 use Rattle.gix_date.specs.Text.Numbers.{two_digits}
 use Rattle.git_date.specs.Rules.Clocks.{utc_clock}
 use Rattle.git_date.specs.Rules.Dates.{exact_seconds, month_start, first_of_year_2100}
-use Rattle.git_date.specs.Rules.Digits.{epoch_rule, digits_rule, min_epoch, with_epoch}
+use Rattle.git_date.specs.Rules.Digits.{digits_rule, min_epoch, with_epoch}
 use Rattle.git_date.specs.Exact.Fast.{IsGitDate, WritesTwo, WritesClock, WritesOffset, WritesSeconds, WritesRaw, Says}
 use Rattle.git_date.specs.Rules.Fields.{unknown}
 use Rattle.git_date.specs.Tokens.Numbers.{digit_more, number}
@@ -113,7 +113,7 @@ seconds-instant n h = instant_from (pos n) (omega (arith, signed_arith), omega (
 
 pub epoch-by : (now : Now) (n : ℕ) (run : List ℕ) (more : List Token) → number run ≡ n → min_epoch ≤ n → n < first_of_year_2100
     → digits_rule now unknown run more ≡ Ok (Some (with_epoch unknown (shown_of (pos n))), more)
-unfolding digits_rule epoch_rule utc_clock
+unfolding digits_rule utc_clock
 epoch-by now n run more e first last =
     let large : nat_le 100_000_000 (number run) ≡ true = grind (arith, nat_tests) in
     let instant : is_instant (pos (number run)) ≡ true = seconds-instant (number run) (omega arith) in

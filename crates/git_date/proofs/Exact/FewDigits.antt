@@ -1,20 +1,20 @@
 -- A text of fewer than three digits, and without a colon, says no clock: the exact reader does not read it, and has no other
 -- refusal.
 use Rattle.std.proofs.Common.{◌≡◌, ◌<◌, ◌≤◌, ◌+◌, ℕ, Bool, true, false, cond, List, [], ◌∷◌, length, nat_le, nat_lt, Option, Some, None, is_none, Err, refl, sym, subst, arith}
-use Rattle.std.specs.Prelude.{not, ◌==◌, ◌&&◌, ◌||◌}
+use Rattle.std.specs.Prelude.{not, ◌==◌, ◌&&◌, ◌||◌, option_map, Result, Ok}
 use Rattle.std.specs.Char.{is_ascii_alphabetic, is_ascii_digit}
 use Rattle.std.specs.List.{count_by, list_any}
-use Rattle.std.specs.Option.{option_or}
+use Rattle.std.specs.Option.{option_or, option_map_or}
 use Rattle.std.proofs.lemmas.List.Sums.{sum_by-cons}
 use Rattle.std.proofs.lemmas.Bool.{and_parts, not-true}
 use Rattle.std.proofs.lemmas.Bool.Decides.{nat_tests}
 use Rattle.gix_date.specs.Text.Characters.{colon, dot}
 use Rattle.gix_date.specs.Text.Front.{◌>>=◌}
 use Rattle.git_date.specs.Rules.Dates.{year_said, year_date, is_day_of_month, recent_date, is_ahead, unless_ahead}
-use Rattle.git_date.specs.Rules.Digits.{Stepped, is_epoch, bare_digits, few_digits, two_digit_year, or_month, year_or_month, number_rule, digits_rule, by_rule, unless_large, group_or_bare}
+use Rattle.git_date.specs.Rules.Digits.{Stepped, is_epoch, bare_digits, few_digits, two_digit_year, or_month, digits_rule, group_or_bare, group_said, grouped}
 use Rattle.git_date.specs.Exact.Fast.{has_few_digits}
 use Rattle.git_date.specs.Rules.Fields.{with_date}
-use Rattle.git_date.specs.Rules.Groups.{ReadTokens, marked_number, is_group_mark, third_or_none, group_after, group_of, second_of, third_of, taken_or_refused, or_else, year_first_by, year_first_group, day_month_group, group_rule, large_in}
+use Rattle.git_date.specs.Rules.Groups.{ReadTokens, marked_number, is_group_mark, third_or_none, group_of, second_of, third_of, taken_or_refused, or_else, year_first_group, day_month_group, group_rule, large_in}
 use Rattle.git_date.specs.Tokens.Numbers.{number}
 use Rattle.git_date.specs.Exact.Reading.{nothing_read, reading_of, fields_said}
 use Rattle.git_date.specs.Tokens.Tokens.{Token, Letters, Digits, Mark, letter_before, digit_before, tokens, bytes_left}
@@ -26,7 +26,10 @@ use Rattle.git_date.specs.declared.fields.Fields.{Fields}
 use Rattle.git_date.specs.declared.fields.groups.Group.{Group}
 use Rattle.git_date.specs.declared.fields.groups.Number.{Number}
 use Rattle.git_date.proofs.Rules.Kept.{either}
+use Rattle.git_date.proofs.Rules.Respects.{group_after}
 use Rattle.git_date.proofs.Exact.NoSeconds.{AreAll, Keeps, Quiet, not-large, no-seconds}
+use Rattle.git_date.specs.Tokens.Steps.{and_then}
+use Rattle.git_date.specs.declared.fault.Fault.{Fault}
 
 -- tokens of no long number, and of no colon
 abbrev pub Tame : Token → Type 0
@@ -54,10 +57,9 @@ QuietDated dated.YearRefused = ⊥
 
 -- digits by their width
 month-kept : (f : Fields) (n : ℕ) → HasNoMinute f → NoneHasMinute (or_month f n)
-unfolding or_month
 month-kept f n e = either NoneHasMinute (nat_le 1 n && nat_le n 12 && is_none f.month) _ None e tt
 
-year-kept : (f : Fields) (n : ℕ) (o : Option ℕ) → HasNoMinute f → NoneHasMinute (year_or_month f n o)
+year-kept : (f : Fields) (n : ℕ) (o : Option ℕ) → HasNoMinute f → NoneHasMinute (option_or (option_map (λ year. record f { year = Some year }) o) (or_month f n))
 year-kept f n (Some year) e = e
 year-kept f n None e = month-kept f n e
 
@@ -111,7 +113,6 @@ after-small first (Some found) a h =
 
 none-large : (mark first : ℕ) (second : Number) (third : Option Number) → second.value ≤ 99 → IsThirdSmall third
     → large_in (record { mark = mark; first = first; second = second; third = third }) ≡ None
-unfolding large_in
 none-large mark first second None h g = rw (not-large second.value h) refl
 none-large mark first second (Some third) h g = rw (not-large second.value h, not-large third.value g) refl
 
@@ -129,7 +130,7 @@ else-quiet (dated.Taken f) b p q = p
 else-quiet dated.Refused b p q = q
 else-quiet dated.YearRefused b p q = absurd p
 
-year-first : (f : Fields) (g : Group) (third : Option ℕ) → HasNoMinute f → 70 < g.first → g.first ≤ 99 → QuietDated (year_first_by f g third)
+year-first : (f : Fields) (g : Group) (third : Option ℕ) → HasNoMinute f → 70 < g.first → g.first ≤ 99 → QuietDated (option_map_or (λ third. or_else (year_date f g.first (second_of g) third) (year_date f g.first third (second_of g))) third dated.Refused)
 year-first f g None e l h = tt
 year-first f g (Some third) e l h =
     else-quiet (year_date f g.first (second_of g) third) (year_date f g.first third (second_of g)) (year-quiet f g.first (second_of g) third e l h) (year-quiet f g.first third (second_of g) e l h)
@@ -168,39 +169,49 @@ day-quiet now f g e =
 
 above-by : (b : Bool) (now : Now) (f : Fields) (g : Group) → nat_lt 70 g.first ≡ b → HasNoMinute f → g.first ≤ 99
     → QuietDated (cond b (or_else (year_first_group f g) (day_month_group now f g)) (day_month_group now f g))
-unfolding year_first_group
 above-by true now f g l e h =
     let above : 70 < g.first = grind (arith, nat_tests) in
-    else-quiet (year_first_by f g (third_of g)) (day_month_group now f g) (year-first f g (third_of g) e above h) (day-quiet now f g e)
+    else-quiet _ (day_month_group now f g) (year-first f g (third_of g) e above h) (day-quiet now f g e)
 above-by false now f g l e h = day-quiet now f g e
 
 group-quiet : (now : Now) (f : Fields) (g : Group) → HasNoMinute f → IsGroupSmall g → QuietDated (group_rule now f g)
 unfolding group_rule
 group-quiet now f g e h = rw (h.mark) (above-by (nat_lt 70 g.first) now f g refl e h.first)
 
-by-rule-quiet : (left : ℕ) (g : Group) (more : List Token) (d : Dated) (bare : Stepped) → QuietDated d → IsQuiet bare → IsQuiet (by_rule left g more d bare)
-by-rule-quiet left g more (dated.Taken f) bare p q = p
-by-rule-quiet left g more dated.Refused bare p q = q
-by-rule-quiet left g more dated.YearRefused bare p q = p
+-- what a group says
+abbrev QuietSaid : Result (Option (Fields × List Token)) Fault → Type 0
+QuietSaid (Ok None) = Unit {0}
+QuietSaid (Ok (Some found)) = HasNoMinute found.0
+QuietSaid (Err fault) = ⊥
 
-grouped-quiet : (now : Now) (f : Fields) (left : ℕ) (found : ReadTokens Group) (bare : Stepped) → HasNoMinute f → IsReadSmall found → IsQuiet bare
-    → IsQuiet (group_or_bare now f left found bare)
-grouped-quiet now f left None bare e h q = q
-grouped-quiet now f left (Some found) bare e h q =
+by-dated : (left : ℕ) (g : Group) (more : List Token) (d : Dated) → large_in g ≡ None → QuietDated d → QuietSaid (grouped left g more d)
+by-dated left g more (dated.Taken f) e q = rw e q
+by-dated left g more dated.Refused e q = tt
+by-dated left g more dated.YearRefused e q = absurd q
+
+grouped-quiet : (now : Now) (f : Fields) (left : ℕ) (found : ReadTokens Group) → HasNoMinute f → IsReadSmall found
+    → QuietSaid (option_map_or (λ found. grouped left found.0 found.1 (group_rule now f found.0)) found (Ok None))
+grouped-quiet now f left None e h = tt
+grouped-quiet now f left (Some found) e h =
     let g = found.0 in
-    subst (λ (large : Option ℕ). IsQuiet (unless_large large (group_rule now f g) (by_rule left g found.1 (group_rule now f g) bare)))
-    (sym (none-large g.mark g.first g.second g.third h.second h.third))
-    (by-rule-quiet left g found.1 (group_rule now f g) bare (group-quiet now f g e h) q)
+    by-dated left g found.1 (group_rule now f g) (none-large g.mark g.first g.second g.third h.second h.third) (group-quiet now f g e h)
+
+or-bare-quiet : (f : Fields) (run : List ℕ) (more : List Token) (said : Result (Option (Fields × List Token)) Fault) → QuietSaid said → IsQuiet (bare_digits f run more)
+    → IsQuiet (and_then said (group_or_bare f run more))
+or-bare-quiet f run more (Ok None) q bare = bare
+or-bare-quiet f run more (Ok (Some found)) q bare = q
+or-bare-quiet f run more (Err fault) q bare = absurd q
 
 small-number : (f : Fields) (n : ℕ) → n ≤ 99 → is_epoch f n ≡ false
 small-number f n h = let low : nat_le 100_000_000 n ≡ false = grind (arith, nat_tests) in rw low refl
 
 digits-quiet : (now : Now) (f : Fields) (run : List ℕ) (more : List Token) → HasNoMinute f → AreAll Tame (Digits run ∷ more) → IsQuiet (digits_rule now f run more)
-unfolding digits_rule number_rule group_of
+unfolding digits_rule group_said group_of
 digits-quiet now f run more e q =
     rw (small-number f (number run) q.0.1, not-large (number run) q.0.1)
-    (grouped-quiet now f (bytes_left (Digits run ∷ more)) (group_after (number run) (marked_number more)) (bare_digits f run more) e
-    (after-small (number run) (marked_number more) q.0.1 (marked-small more q.1)) (bare-quiet f run more e q.0.0))
+    (or-bare-quiet f run more _
+    (grouped-quiet now f (bytes_left (Digits run ∷ more)) (group_after (number run) (marked_number more)) e
+    (after-small (number run) (marked_number more) q.0.1 (marked-small more q.1))) (bare-quiet f run more e q.0.0))
 
 -- the tokens of such a text
 abbrev digits_in : List Token → ℕ

@@ -1,7 +1,7 @@
 -- Words and signs say neither a year nor a minute. Where one of both stays unknown, a text says no time, and nothing else is
 -- refused.
 use Rattle.std.proofs.Common.{◌≡◌, ◌≤◌, ℕ, zero, suc, Bool, true, false, ℤ, List, [], ◌∷◌, length, Option, Some, None, is_none, Result, Ok, Err, refl, ap, arith}
-use Rattle.std.specs.Prelude.{◌==◌, ◌||◌, codes}
+use Rattle.std.specs.Prelude.{◌==◌, ◌||◌, codes, option_map}
 use Rattle.std.proofs.lemmas.Bool.Decides.{nat_tests}
 use Rattle.gix_date.specs.Text.Characters.{plus, minus, colon}
 use Rattle.gix_date.specs.Text.Front.{◌>>=◌}
@@ -12,10 +12,10 @@ use Rattle.git_date.specs.Rules.Digits.{Stepped, digits_rule}
 use Rattle.git_date.specs.Rules.Groups.{ReadTokens}
 use Rattle.git_date.specs.Tokens.Names.{is_weekday, zone_named}
 use Rattle.git_date.specs.Tokens.Numbers.{number, is_too_large}
-use Rattle.git_date.specs.Rules.Offsets.{without_white, white, padded_after, padded_number, by_minutes, colon_minutes, two_digit_offset, offset_said, SaidOffset, with_offset, or_refused, by_offset, offset_rule}
-use Rattle.git_date.specs.Exact.Reading.{read_on, and_then, ended, sign_rule, rule, steps, fields_said, by_seconds}
+use Rattle.git_date.specs.Rules.Offsets.{without_white, white, padded_after, padded_number, colon_minutes, two_digit_offset, offset_said, SaidOffset, with_offset, minutes_said}
+use Rattle.git_date.specs.Exact.Reading.{read_on, ended, sign_rule, rule, steps, fields_said, by_seconds}
 use Rattle.git_date.specs.Tokens.Tokens.{Token, Letters, Digits, Mark, bytes_left, is_end, walked}
-use Rattle.git_date.specs.Rules.Words.{afternoon, morning, with_zone, is_filler, half_or_filler, zone_or_half, month_or_other, with_word, letters_rule}
+use Rattle.git_date.specs.Rules.Words.{with_zone, is_filler, half_or_filler, with_word, letters_rule}
 use Rattle.git_date.specs.declared.fields.dates.Now.{Now}
 use Rattle.git_date.specs.declared.error.DateError.TheVariants.{Unreadable}
 use Rattle.git_date.specs.declared.fault.Fault.{Fault}
@@ -23,6 +23,8 @@ use Rattle.git_date.specs.declared.fields.Fields.{Fields}
 use Rattle.git_date.specs.declared.fields.offsets.Padded.{Padded}
 use Rattle.git_date.specs.declared.reader.Reading.{Reading}
 use Rattle.git_date.proofs.Rules.Kept.{IsKept, Leaves, either, rule-left, white-left}
+use Rattle.git_date.specs.Tokens.Steps.{and_then}
+use Rattle.std.specs.Option.{option_or, option_map_or}
 
 -- of each token it holds
 abbrev pub AreAll : (Token → Type 0) → List Token → Type 0
@@ -67,7 +69,7 @@ abbrev NoFault : SaidOffset → Type 0
 NoFault (Ok said) = Unit {0}
 NoFault (Err fault) = ⊥
 
-minutes-fine : (hours : ℕ) (ts : List Token) (found : ReadTokens Padded) → IsPaddedSmall found → NoFault (by_minutes hours ts found)
+minutes-fine : (hours : ℕ) (ts : List Token) (found : ReadTokens Padded) → IsPaddedSmall found → NoFault (option_map_or (minutes_said hours) found (Ok (None, ts)))
 minutes-fine hours ts None h = tt
 minutes-fine hours ts (Some found) h = rw (not-large found.0.value h) tt
 
@@ -80,22 +82,21 @@ module _ (K : Option ℕ → Option ℕ → Type 0) (D : Token → Type 0) (lack
     (small : (run : List ℕ) → D (Digits run) → number run ≤ 99) where
   -- words
   half-quiet : (f : Fields) (word : List ℕ) → K f.year f.minute → Keeps K (half_or_filler f word)
-  unfolding afternoon morning
   half-quiet f word e =
       either (Keeps K) (is_name word (codes "PM")) _ _ e (either (Keeps K) (is_name word (codes "AM")) _ _ e (either (Keeps K) (is_filler word) _ _ e tt))
 
-  zone-quiet : (f : Fields) (word : List ℕ) (zone : Option ℤ) → K f.year f.minute → Keeps K (zone_or_half f word zone)
-  unfolding with_zone
+  zone-quiet : (f : Fields) (word : List ℕ) (zone : Option ℤ) → K f.year f.minute → Keeps K (option_or (option_map (with_zone f) zone) (half_or_filler f word))
   zone-quiet f word (Some minutes) e = e
   zone-quiet f word None e = half-quiet f word e
 
-  month-quiet : (f : Fields) (word : List ℕ) (month : Option ℕ) → K f.year f.minute → Keeps K (month_or_other f word month)
-  month-quiet f word (Some month) e = e
-  month-quiet f word None e = either (Keeps K) (is_weekday word) _ _ e (zone-quiet f word (zone_named word) e)
+  month-quiet : (f : Fields) (month : Option ℕ) (other : Option Fields) → K f.year f.minute → Keeps K other
+      → Keeps K (option_or (option_map (λ month. record f { month = Some month }) month) other)
+  month-quiet f (Some month) other e h = e
+  month-quiet f None other e h = h
 
   word-quiet : (f : Fields) (word : List ℕ) → K f.year f.minute → Keeps K (with_word f word)
   unfolding with_word
-  word-quiet f word e = month-quiet f word (month_told word) e
+  word-quiet f word e = month-quiet f (month_told word) _ e (either (Keeps K) (is_weekday word) _ _ e (zone-quiet f word (zone_named word) e))
 
   letters-quiet : (f : Fields) (run : List ℕ) (more : List Token) → K f.year f.minute → Keeps K (letters_rule f run more)
   unfolding letters_rule
@@ -121,13 +122,13 @@ module _ (K : Option ℕ → Option ℕ → Type 0) (D : Token → Type 0) (lack
   unfolding offset_said
   said-fine run more q = rw (not-large (number run) (small run q.0)) (either NoFault (length run == 2) _ _ (two-fine (number run) more q.1) tt)
 
-  refused-quiet : (f : Fields) (behind : Bool) (minutes : Option ℤ) → K f.year f.minute → Keeps K (or_refused f behind minutes)
-  unfolding with_offset
-  refused-quiet f behind (Some minutes) e = e
-  refused-quiet f behind None e = tt
+  said-quiet : (f : Fields) (behind : Bool) (minutes : Option ℤ) → K f.year f.minute → Keeps K (option_map (with_offset f behind) minutes)
+  said-quiet f behind (Some minutes) e = e
+  said-quiet f behind None e = tt
 
-  offset-by : (f : Fields) (behind : Bool) (said : SaidOffset) → K f.year f.minute → NoFault said → Quiet K (by_offset f behind said)
-  offset-by f behind (Ok said) e h = refused-quiet f behind said.0 e
+  offset-by : (f : Fields) (behind : Bool) (said : SaidOffset) → K f.year f.minute → NoFault said
+      → Quiet K (and_then said (λ said. Ok (option_map (with_offset f behind) said.0, said.1)))
+  offset-by f behind (Ok said) e h = said-quiet f behind said.0 e
   offset-by f behind (Err fault) e h = h
 
   ended-quiet : (step : Stepped) → Quiet K step → Quiet K (ended step)
@@ -135,8 +136,8 @@ module _ (K : Option ℕ → Option ℕ → Type 0) (D : Token → Type 0) (lack
   ended-quiet (Err fault) h = h
 
   sign-quiet : (f : Fields) (behind : Bool) (ts : List Token) → K f.year f.minute → AreAll D ts → Quiet K (sign_rule f behind ts)
-  unfolding sign_rule offset_rule
-  sign-quiet f behind (Digits run ∷ more) e q = ended-quiet (by_offset f behind (offset_said run more)) (offset-by f behind (offset_said run more) e (said-fine run more q))
+  unfolding sign_rule
+  sign-quiet f behind (Digits run ∷ more) e q = ended-quiet _ (offset-by f behind (offset_said run more) e (said-fine run more q))
   sign-quiet f behind ts e q = e
 
   -- the reading ends so

@@ -1,8 +1,9 @@
 -- What the named formats print of a clock is read back.
-use Rattle.std.proofs.Common.{◌≡◌, ◌∙◌, ◌<◌, ◌≤◌, ◌+◌, ◌*◌, ◌/◌, ◌%◌, ◌⊎◌, inl, inr, ℕ, zero, suc, ℤ, pos, neg_ℤ, unsigned_abs, Bool, true, false, cond, List, [], ◌∷◌, ◌++◌, length, refl, ap, sym, subst, arith, Option, Some, None, is_none, Ok}
-use Rattle.std.specs.Prelude.{◌==◌, ◌&&◌, nat_le, nat_lt, int_lt}
+use Rattle.std.proofs.Common.{◌≡◌, ◌∙◌, ◌<◌, ◌≤◌, ◌+◌, ◌*◌, ◌/◌, ◌%◌, ◌⊎◌, inl, inr, ℕ, zero, suc, ℤ, pos, negsuc, neg_ℤ, unsigned_abs, Bool, true, false, cond, List, [], ◌∷◌, ◌++◌, length, refl, ap, sym, subst, arith, Option, Some, None, is_none, Ok}
+use Rattle.std.specs.Prelude.{◌==◌, ◌&&◌, nat_le, nat_lt, int_lt, Result}
 use Rattle.std.specs.Char.{is_ascii_alphabetic, is_ascii_digit}
 use Rattle.std.specs.Fmt.{decimal}
+use Rattle.std.specs.Ordering.{int_eq}
 use Rattle.std.specs.Str.{all_ascii_digits}
 use Rattle.std.proofs.lemmas.Bool.Decides.{nat_tests}
 use Rattle.std.proofs.lemmas.Bool.{and_parts, cases_order}
@@ -26,10 +27,10 @@ use Rattle.git_date.specs.Exact.Fast.{is_date_mark, marked_date}
 use Rattle.git_date.specs.Rules.Fields.{unknown, with_clock, with_date, knows_date}
 use Rattle.git_date.specs.Rules.Words.{with_word, letters_rule, without_ending}
 use Rattle.git_date.specs.Rules.Dates.{by_year, year_said, year_date}
-use Rattle.git_date.specs.Rules.Groups.{ReadTokens, or_else, number_at, marked_number, group_of, clock_group, year_first_group, group_rule, large_in, without_fraction, after_group, is_group_mark}
-use Rattle.git_date.specs.Rules.Digits.{Stepped, four_digits as four_digit_rule, few_digits, bare_digits, by_rule, unless_large, grouped, group_or_bare, number_rule, digits_rule}
-use Rattle.git_date.specs.Rules.Offsets.{white, without_white, padded_number, offset_minutes, colon_minutes, two_digit_offset, offset_said, known_minutes, with_offset, offset_rule}
-use Rattle.git_date.specs.Exact.Reading.{read_on, and_then, ended, sign_rule, rule, steps, step}
+use Rattle.git_date.specs.Rules.Groups.{ReadTokens, or_else, number_at, marked_number, group_of, group_rule, large_in, without_fraction, after_group, is_group_mark}
+use Rattle.git_date.specs.Rules.Digits.{Stepped, four_digits as four_digit_rule, few_digits, bare_digits, grouped, group_or_bare, digits_rule, group_said}
+use Rattle.git_date.specs.Rules.Offsets.{white, without_white, padded_number, offset_minutes, colon_minutes, two_digit_offset, offset_said, known_minutes, with_offset}
+use Rattle.git_date.specs.Exact.Reading.{read_on, ended, sign_rule, rule, steps, step}
 use Rattle.git_date.specs.declared.fields.dates.Now.{Now}
 use Rattle.git_date.specs.declared.fields.dates.Dated.{Dated}
 use Rattle.git_date.specs.declared.fields.dates.Dated.TheVariants as dated
@@ -39,6 +40,9 @@ use Rattle.git_date.specs.declared.fields.groups.Number.{Number}
 use Rattle.git_date.specs.declared.reader.Reading.{Reading}
 use Rattle.git_date.proofs.Text.Walked.{nothing-left}
 use Rattle.git_date.proofs.Text.TokenRuns.{digit-first, letter-first, mark-first}
+use Rattle.git_date.specs.Tokens.Steps.{and_then}
+use Rattle.std.specs.Option.{option_map_or}
+use Rattle.git_date.specs.declared.fault.Fault.{Fault}
 
 -- digits before other tokens
 abbrev pub HasNoDigits : List Token → Type 0
@@ -244,13 +248,19 @@ month-said f (suc (suc (suc (suc (suc (suc (suc (suc (suc (suc (suc (suc (suc n)
 month-said f n l h = refl
 
 -- rules of digits
-pub small-rule : (now : Now) (f : Fields) (run : List ℕ) (more : List Token) → number run < 10_000 → digits_rule now f run more ≡ number_rule now f run more
+-- what a group said, or else digits by their width
+abbrev pub or_bare : Fields → List ℕ → List Token → Result (Option (Fields × List Token)) Fault → Stepped
+or_bare f run more said = and_then said (group_or_bare f run more)
+
+pub small-rule : (now : Now) (f : Fields) (run : List ℕ) (more : List Token) → number run < 10_000 → digits_rule now f run more ≡ or_bare f run more (group_said now f run more)
 unfolding digits_rule
 small-rule now f run more h = grind (arith, nat_tests)
 
-bare-rule : (now : Now) (f : Fields) (run : List ℕ) (more : List Token) → group_of (number run) more ≡ None → number_rule now f run more ≡ bare_digits f run more
-unfolding number_rule
-bare-rule now f run more e = ap (λ (found : ReadTokens Group). group_or_bare now f (bytes_left (Digits run ∷ more)) found (bare_digits f run more)) e
+bare-rule : (now : Now) (f : Fields) (run : List ℕ) (more : List Token) → group_of (number run) more ≡ None
+    → or_bare f run more (group_said now f run more) ≡ bare_digits f run more
+unfolding group_said
+bare-rule now f run more e =
+    ap (λ (found : ReadTokens Group). or_bare f run more (option_map_or (λ found. grouped (bytes_left (Digits run ∷ more)) found.0 found.1 (group_rule now f found.0)) found (Ok None))) e
 
 space-group : (first : ℕ) (rest : List Token) → group_of first (Mark space ∷ rest) ≡ None
 unfolding group_of marked_number
@@ -301,15 +311,12 @@ year-rule now f y rest l h =
     four-read now f (four_digits y) y rest refl (year-number y (omega arith)).is (omega arith) ∙ ap (λ (next : Option Fields). Ok (next, Mark space ∷ rest)) (four-rule f y l h)
 
 -- groups
-pub taken-rule : (now : Now) (f : Fields) (left : ℕ) (g : Group) (more : List Token) (bare : Stepped) (next : Fields) → large_in g ≡ None → group_rule now f g ≡ dated.Taken next
-    → grouped now f left (g, more) bare ≡ Ok (Some next, after_group next g more)
-taken-rule now f left g more bare next e is =
-    ap (λ (d : Dated). unless_large (large_in g) d (by_rule left g more d bare)) is
-    ∙ ap (λ (large : Option ℕ). unless_large large (dated.Taken next) (by_rule left g more (dated.Taken next) bare)) e
+pub taken-rule : (left : ℕ) (g : Group) (more : List Token) (said : Dated) (next : Fields) → large_in g ≡ None → said ≡ dated.Taken next
+    → grouped left g more said ≡ Ok (Some (next, after_group next g more))
+taken-rule left g more said next e is = rw (is, e) refl
 
-none-large : (mark first : ℕ) (second third : Number) → second.value < 100 → third.value < 100
+pub none-large : (mark first : ℕ) (second third : Number) → second.value < 100 → third.value < 100
     → large_in (record { mark = mark; first = first; second = second; third = Some third }) ≡ None
-unfolding large_in
 none-large mark first second third h g = grind (arith, nat_tests)
 
 abbrev pub group_at : ℕ → ℕ → Number → Number → Group
@@ -321,7 +328,7 @@ clock-taken f h m s a b c = grind (arith, nat_tests)
 
 clock-group : (now : Now) (f : Fields) (h : ℕ) (m s : Number) → h < 24 → m.value < 60 → s.value < 60
     → group_rule now f (group_at colon h m s) ≡ dated.Taken (record f { hour = Some h; minute = Some m.value; second = Some s.value })
-unfolding group_rule clock_group
+unfolding group_rule
 clock-group now f h m s a b c = rw (clock-taken f h m.value s.value a b c) refl
 
 no-fraction : (byte : ℕ) (rest : List Token) → (byte == dot) ≡ false → without_fraction (Mark byte ∷ rest) ≡ Mark byte ∷ rest
@@ -347,25 +354,23 @@ unfolding group_of marked_number
 three-of mark first second third rest group again = rw (group, again) refl
 
 group-read : (mark : ℕ) (now : Now) (f : Fields) (a b c : List ℕ) (x y z : ℕ) (rest : List Token) → is_group_mark mark ≡ true → (mark == mark) ≡ true → number a ≡ x → number b ≡ y → number c ≡ z
-    → x < 10_000 → y < 100 → z < 100 → rule now f (Digits a) (Mark mark ∷ Digits b ∷ Mark mark ∷ Digits c ∷ rest)
-    ≡ ended (by_rule (bytes_left (Digits a ∷ Mark mark ∷ Digits b ∷ Mark mark ∷ Digits c ∷ rest)) (three_group mark x y z b c rest) rest
-    (group_rule now f (three_group mark x y z b c rest)) (bare_digits f a (Mark mark ∷ Digits b ∷ Mark mark ∷ Digits c ∷ rest)))
-unfolding number_rule
-group-read mark now f a b c x y z rest group again xx yy zz long mid low =
+    → x < 10_000 → rule now f (Digits a) (Mark mark ∷ Digits b ∷ Mark mark ∷ Digits c ∷ rest)
+    ≡ ended (or_bare f a (Mark mark ∷ Digits b ∷ Mark mark ∷ Digits c ∷ rest) (grouped (bytes_left (Digits a ∷ Mark mark ∷ Digits b ∷ Mark mark ∷ Digits c ∷ rest))
+    (three_group mark x y z b c rest) rest (group_rule now f (three_group mark x y z b c rest))))
+unfolding group_said
+group-read mark now f a b c x y z rest group again xx yy zz long =
     let middle = Mark mark ∷ Digits c ∷ rest in
     let more = Mark mark ∷ Digits b ∷ middle in
     let second = number_at b middle in
     let third = number_at c rest in
     let left = bytes_left (Digits a ∷ more) in
-    let bare = bare_digits f a more in
-    let whole = three_group mark x y z b c rest in
-    ap ended (small-rule now f a more (omega arith)
-    ∙ ap (λ (found : ReadTokens Group). group_or_bare now f left found bare) (three-of mark (number a) b c rest group again)
-    ∙ ap (λ (n : ℕ). grouped now f left (group_at mark n second third, rest) bare) xx
-    ∙ ap (λ (n : ℕ). grouped now f left (group_at mark x (numbered n second.left) third, rest) bare) yy
-    ∙ ap (λ (n : ℕ). grouped now f left (group_at mark x (numbered y second.left) (numbered n third.left), rest) bare) zz
-    ∙ ap (λ (large : Option ℕ). unless_large large (group_rule now f whole) (by_rule left whole rest (group_rule now f whole) bare))
-    (none-large mark x (numbered y second.left) (numbered z third.left) mid low))
+    let said = λ (g : Group). ended (or_bare f a more (grouped left g rest (group_rule now f g))) in
+    ap ended (small-rule now f a more (omega arith))
+    ∙ ap (λ (found : ReadTokens Group). ended (or_bare f a more (option_map_or (λ found. grouped left found.0 found.1 (group_rule now f found.0)) found (Ok None))))
+    (three-of mark (number a) b c rest group again)
+    ∙ ap (λ (n : ℕ). said (group_at mark n second third)) xx
+    ∙ ap (λ (n : ℕ). said (group_at mark x (numbered n second.left) third)) yy
+    ∙ ap (λ (n : ℕ). said (group_at mark x (numbered y second.left) (numbered n third.left))) zz
 
 pub clock-rule : (now : Now) (f : Fields) (a b c : List ℕ) (h m s byte : ℕ) (rest : List Token) → number a ≡ h → number b ≡ m → number c ≡ s → h < 24 → m < 60 → s < 60
     → (byte == dot) ≡ false → rule now f (Digits a) (Mark colon ∷ Digits b ∷ Mark colon ∷ Digits c ∷ Mark byte ∷ rest)
@@ -375,9 +380,11 @@ clock-rule now f a b c h m s byte rest hh mm ss low mid top free =
     let last = Mark byte ∷ rest in
     let more = Mark colon ∷ Digits b ∷ Mark colon ∷ Digits c ∷ last in
     let next : Fields = record f { hour = Some h; minute = Some m; second = Some s } in
-    group-read colon now f a b c h m s last refl refl hh mm ss (omega arith) (omega arith) (omega arith)
-    ∙ ap (λ (said : Dated). ended (by_rule (bytes_left (Digits a ∷ more)) (three_group colon h m s b c last) last said (bare_digits f a more)))
-    (clock-group now f h (numbered m (bytes_left (Digits b ∷ Mark colon ∷ Digits c ∷ last))) (numbered s (bytes_left (Digits c ∷ last))) low mid top)
+    let second = numbered m (bytes_left (Digits b ∷ Mark colon ∷ Digits c ∷ last)) in
+    let third = numbered s (bytes_left (Digits c ∷ last)) in
+    group-read colon now f a b c h m s last refl refl hh mm ss (omega arith)
+    ∙ ap (λ (said : Result (Option (Fields × List Token)) Fault). ended (or_bare f a more said))
+    (taken-rule (bytes_left (Digits a ∷ more)) (group_at colon h second third) last _ next (none-large colon h second third (omega arith) (omega arith)) (clock-group now f h second third low mid top))
     ∙ ap (λ (rest : List Token). ended (Ok (Some next, rest))) (after-clock byte rest (knows_date next) free)
 
 narrow-small : (n : ℕ) → n < 100 → narrow n ≡ n
@@ -395,7 +402,7 @@ year-or f m d None a b = refl
 
 date-group : (mark : ℕ) (now : Now) (f : Fields) (y : ℕ) (m d : Number) → IsDateMark mark → 1969 ≤ y → 1 ≤ m.value → m.value ≤ 12 → 1 ≤ d.value → d.value ≤ 31
     → group_rule now f (group_at mark y m d) ≡ by_year f m.value d.value (year_said y)
-unfolding group_rule year_first_group year_date
+unfolding group_rule year_date
 date-group mark now f y m d is l m1 m12 d1 d31 =
     let above : nat_lt 70 y ≡ true = grind (arith, nat_tests) in
     let low : nat_le 1 m.value ≡ true = grind (arith, nat_tests) in
@@ -407,12 +414,12 @@ date-group mark now f y m d is l m1 m12 d1 d31 =
 
 pub date-read : (mark : ℕ) (now : Now) (f : Fields) (a b c : List ℕ) (y m d : ℕ) (rest : List Token) → IsDateMark mark → number a ≡ y → number b ≡ m → number c ≡ d → 1969 ≤ y → y < 10_000
     → 1 ≤ m → m ≤ 12 → 1 ≤ d → d ≤ 31 → rule now f (Digits a) (Mark mark ∷ Digits b ∷ Mark mark ∷ Digits c ∷ rest)
-    ≡ ended (by_rule (bytes_left (Digits a ∷ Mark mark ∷ Digits b ∷ Mark mark ∷ Digits c ∷ rest)) (three_group mark y m d b c rest) rest
-    (by_year f m d (cond (nat_le 1970 y && nat_le y 2099) (Some y) None)) (bare_digits f a (Mark mark ∷ Digits b ∷ Mark mark ∷ Digits c ∷ rest)))
+    ≡ ended (or_bare f a (Mark mark ∷ Digits b ∷ Mark mark ∷ Digits c ∷ rest) (grouped (bytes_left (Digits a ∷ Mark mark ∷ Digits b ∷ Mark mark ∷ Digits c ∷ rest))
+    (three_group mark y m d b c rest) rest (by_year f m d (cond (nat_le 1970 y && nat_le y 2099) (Some y) None))))
 date-read mark now f a b c y m d rest is yy mm dd l long m1 m12 d1 d31 =
     let more = Mark mark ∷ Digits b ∷ Mark mark ∷ Digits c ∷ rest in
-    group-read mark now f a b c y m d rest is.group is.again yy mm dd long (omega arith) (omega arith)
-    ∙ ap (λ (said : Dated). ended (by_rule (bytes_left (Digits a ∷ more)) (three_group mark y m d b c rest) rest said (bare_digits f a more)))
+    group-read mark now f a b c y m d rest is.group is.again yy mm dd long
+    ∙ ap (λ (said : Dated). ended (or_bare f a more (grouped (bytes_left (Digits a ∷ more)) (three_group mark y m d b c rest) rest said)))
     (date-group mark now f y (numbered m (bytes_left (Digits b ∷ Mark mark ∷ Digits c ∷ rest))) (numbered d (bytes_left (Digits c ∷ rest))) is l m1 m12 d1 d31 ∙ ap (by_year f m d) (year-by y l long))
 
 date-rule : (mark : ℕ) (now : Now) (f : Fields) (y m d : ℕ) (rest : List Token) → IsDateMark mark → 1970 ≤ y → y ≤ 2099 → 1 ≤ m → m ≤ 12 → 1 ≤ d → d ≤ 31
@@ -422,17 +429,23 @@ date-rule mark now f y m d rest is a b c e g h =
     let high : nat_le y 2099 ≡ true = grind (arith, nat_tests) in
     let no_colon = is.no_colon in
     date-read mark now f (four_digits y) (two_digits m) (two_digits d) y m d rest is (year-number y (omega arith)).is (two-number m (omega arith)).is (two-number d (omega arith)).is (omega arith) (omega arith) c e g h
-    ∙ rw (low, high, no_colon) refl
+    ∙ rw (
+      low,
+      high,
+      none-large mark y (numbered m (bytes_left (Digits (two_digits m) ∷ Mark mark ∷ Digits (two_digits d) ∷ rest)))
+          (numbered d (bytes_left (Digits (two_digits d) ∷ rest))) (omega arith) (omega arith),
+      no_colon,
+    ) refl
 
 -- offsets
 known-by : (behind : Bool) (k : ℕ) → (behind ≡ true → k ≡ 1 → ⊥) → known_minutes (signed behind k) ≡ Some (signed behind k)
 known-by false k h = refl
 known-by true zero h = refl
 known-by true (suc zero) h = absurd (h refl refl)
-known-by true (suc (suc k)) h = let more : nat_le (suc k) 0 ≡ false = grind (arith, nat_tests) in rw more refl
+known-by true (suc (suc k)) h =
+    let other : int_eq (negsuc (suc k)) (negsuc 0) ≡ false = grind (arith, nat_tests) in rw other refl
 
 with-known : (f : Fields) (behind : Bool) (k : ℕ) → (behind ≡ true → k ≡ 1 → ⊥) → with_offset f behind (pos k) ≡ record f { offset = Some (signed behind k) }
-unfolding with_offset
 with-known f true k h = ap (λ (o : Option ℤ). record f { offset = o }) (known-by true k h)
 with-known f false k h = refl
 
@@ -462,7 +475,7 @@ said-colon hours minutes h g =
 
 offset-by : (f : Fields) (behind : Bool) (run : List ℕ) (more : List Token) (k : ℕ) → (behind ≡ true → k ≡ 1 → ⊥) → offset_said run more ≡ Ok (Some (pos k), [])
     → sign_rule f behind (Digits run ∷ more) ≡ Ok (Some (record f { offset = Some (signed behind k) }), [])
-unfolding sign_rule offset_rule without_ending
+unfolding sign_rule without_ending
 offset-by f behind run more k known e = rw (e, with-known f behind k known) refl
 
 sign-rule : (now : Now) (f : Fields) (behind : Bool) (run : List ℕ) (more : List Token) (k : ℕ) → (behind ≡ true → k ≡ 1 → ⊥) → offset_said run more ≡ Ok (Some (pos k), [])
@@ -532,45 +545,112 @@ go-colon now n f t h =
     (sign-rule now f (is_behind t) _ (Mark colon ∷ Digits (two_digits (minutes_of t)) ∷ []) (60 * hours_of t + minutes_of t) h.known (said-colon (hours_of t) (minutes_of t) h.hours h.minutes))
     ∙ nothing-left (step now) n (at (record f { offset = Some (offset_in_minutes t) }))
 
-go-date : (mark : ℕ) (now : Now) (n : ℕ) (t : LocalTime) (more rest : List Token) → IsDateMark mark → IsGitClock t → without_ending more ≡ rest
-    → steps now (suc n) (at unknown) (date_tokens mark t more) ≡ steps now n (at (dated_fields t)) rest
-go-date mark now n t more rest is h e =
-    go now n unknown (dated_fields t) (Digits (four_digits t.date.year)) _ rest refl
-    (date-rule mark now unknown t.date.year t.date.month t.date.day more is h.first_year h.last_year h.first_month h.last_month h.first_day h.last_day
-    ∙ ap (λ (rest : List Token). Ok (Some (dated_fields t), rest)) e)
+go-date : (mark : ℕ) (now : Now) (n : ℕ) (f : Fields) (t : LocalTime) (more rest : List Token) → IsDateMark mark → IsGitClock t → without_ending more ≡ rest
+    → steps now (suc n) (at f) (date_tokens mark t more) ≡ steps now n (at (with_date f t.date.year t.date.month t.date.day)) rest
+go-date mark now n f t more rest is h e =
+    let next = with_date f t.date.year t.date.month t.date.day in
+    go now n f next (Digits (four_digits t.date.year)) _ rest refl
+    (date-rule mark now f t.date.year t.date.month t.date.day more is h.first_year h.last_year h.first_month h.last_month h.first_day h.last_day
+    ∙ ap (λ (rest : List Token). Ok (Some next, rest)) e)
 
 go-name : (now : Now) (n : ℕ) (f next : Fields) (word : List ℕ) (byte : ℕ) (more : List Token) → with_word f word ≡ Some next
     → steps now (suc n) (at f) (Letters word ∷ Mark byte ∷ more) ≡ steps now n (at next) (Mark byte ∷ more)
 unfolding letters_rule
 go-name now n f next word byte more e = go now n f next (Letters word) (Mark byte ∷ more) (Mark byte ∷ more) refl (ap (λ (said : Option Fields). Ok (said, Mark byte ∷ more)) e)
 
--- `2022-08-18 12:45:06 +0800`
-abbrev pub iso_tokens : ℕ → LocalTime → List Token
-iso_tokens mark t = date_tokens mark t (Mark space ∷ clock_tokens t (Mark space ∷ offset_tokens t))
+-- the words of a printed date, each before a space
+pub data Word : Type 0 where
+  -- `Thu`, `Thu,`
+  Weekday : Word
+  WeekdayComma : Word
+  Month : Word
+  -- in one digit or two
+  Day : List ℕ → Word
+  Year : Word
+  Clock : Word
+  -- `2022-08-18`, by its mark
+  Date : ℕ → Word
 
-pub iso-steps : (mark : ℕ) (now : Now) (n : ℕ) (t : LocalTime) → IsDateMark mark → IsGitClock t → steps now (suc (suc (suc (suc (suc n))))) (at unknown) (iso_tokens mark t) ≡ Ok (at (fields_of t))
-unfolding without_ending
-iso-steps mark now n t is h =
-    go-date mark now _ t (Mark space ∷ clock_tokens t (Mark space ∷ offset_tokens t)) _ is h refl
-    ∙ skip-space now _ (dated_fields t) _
-    ∙ go-clock now _ (dated_fields t) t space (offset_tokens t) h refl
-    ∙ skip-space now _ (with_time t (dated_fields t)) _
-    ∙ go-offset now n (with_time t (dated_fields t)) t h
+-- their text and their tokens, and the offset's after them
+abbrev pub words_text : LocalTime → List Word → List ℕ
+words_text t [] = compact_offset_text t.offset
+words_text t (Weekday ∷ ws) = day_name t.weekday ++ (space ∷ words_text t ws)
+words_text t (WeekdayComma ∷ ws) = day_name t.weekday ++ (comma ∷ (space ∷ words_text t ws))
+words_text t (Month ∷ ws) = month_name t.date.month ++ (space ∷ words_text t ws)
+words_text t (Day run ∷ ws) = run ++ (space ∷ words_text t ws)
+words_text t (Year ∷ ws) = four_digits t.date.year ++ (space ∷ words_text t ws)
+words_text t (Clock ∷ ws) = clock_text t.clock ++ (space ∷ words_text t ws)
+words_text t (Date mark ∷ ws) = marked_date mark (t.date.year, t.date.month, t.date.day) ++ (space ∷ words_text t ws)
+
+abbrev pub words_tokens : LocalTime → List Word → List Token
+words_tokens t [] = offset_tokens t
+words_tokens t (Weekday ∷ ws) = Letters (day_name t.weekday) ∷ Mark space ∷ words_tokens t ws
+words_tokens t (WeekdayComma ∷ ws) = Letters (day_name t.weekday) ∷ Mark comma ∷ Mark space ∷ words_tokens t ws
+words_tokens t (Month ∷ ws) = Letters (month_name t.date.month) ∷ Mark space ∷ words_tokens t ws
+words_tokens t (Day run ∷ ws) = Digits run ∷ Mark space ∷ words_tokens t ws
+words_tokens t (Year ∷ ws) = Digits (four_digits t.date.year) ∷ Mark space ∷ words_tokens t ws
+words_tokens t (Clock ∷ ws) = clock_tokens t (Mark space ∷ words_tokens t ws)
+words_tokens t (Date mark ∷ ws) = date_tokens mark t (Mark space ∷ words_tokens t ws)
+
+-- what they say
+abbrev pub with_words : LocalTime → Fields → List Word → Fields
+with_words t f [] = record f { offset = Some (offset_in_minutes t) }
+with_words t f (Weekday ∷ ws) = with_words t f ws
+with_words t f (WeekdayComma ∷ ws) = with_words t f ws
+with_words t f (Month ∷ ws) = with_words t (record f { month = Some t.date.month }) ws
+with_words t f (Day run ∷ ws) = with_words t (record f { day = Some t.date.day }) ws
+with_words t f (Year ∷ ws) = with_words t (record f { year = Some t.date.year }) ws
+with_words t f (Clock ∷ ws) = with_words t (with_time t f) ws
+with_words t f (Date mark ∷ ws) = with_words t (with_date f t.date.year t.date.month t.date.day) ws
+
+-- a day is the clock's, and the first, and a mark may stand in dates
+abbrev pub AreWritten : LocalTime → Option ℕ → List Word → Type 0
+AreWritten t day [] = Unit {0}
+AreWritten t day (Day run ∷ ws) = (day ≡ None) × IsDayText t.date.day run × AreWritten t (Some t.date.day) ws
+AreWritten t day (Date mark ∷ ws) = IsDateMark mark × AreWritten t (Some t.date.day) ws
+AreWritten t day (w ∷ ws) = AreWritten t day ws
+
+-- steps enough, and so many more
+abbrev pub words_steps : List Word → ℕ → ℕ
+words_steps [] n = suc n
+words_steps (WeekdayComma ∷ ws) n = suc (suc (suc (words_steps ws n)))
+words_steps (w ∷ ws) n = suc (suc (words_steps ws n))
+
+module _ (t : LocalTime) (h : IsGitClock t) where
+  pub words-are : (day : Option ℕ) (ws : List Word) → AreWritten t day ws → tokens (words_text t ws) ≡ words_tokens t ws
+  unfolding tokens
+  words-are day [] w = offset-before t h
+  words-are day (Weekday ∷ ws) w = day-before t.weekday _ space _ h.weekday (ap (λ (ts : List Token). Mark space ∷ ts) (words-are day ws w))
+  words-are day (WeekdayComma ∷ ws) w = day-before t.weekday _ comma _ h.weekday (ap (λ (ts : List Token). Mark comma ∷ Mark space ∷ ts) (words-are day ws w))
+  words-are day (Month ∷ ws) w = month-before t.date.month _ space _ h.first_month h.last_month (ap (λ (ts : List Token). Mark space ∷ ts) (words-are day ws w))
+  words-are day (Day run ∷ ws) w = number-before run _ _ _ w.1.number (ap (λ (ts : List Token). Mark space ∷ ts) (words-are (Some t.date.day) ws w.2)) tt
+  words-are day (Year ∷ ws) w = year-before t (space ∷ words_text t ws) _ h (ap (λ (ts : List Token). Mark space ∷ ts) (words-are day ws w)) tt
+  words-are day (Clock ∷ ws) w = clock-before t (space ∷ words_text t ws) _ h (ap (λ (ts : List Token). Mark space ∷ ts) (words-are day ws w)) tt
+  words-are day (Date mark ∷ ws) w = date-before mark t (space ∷ words_text t ws) _ w.0 h (ap (λ (ts : List Token). Mark space ∷ ts) (words-are (Some t.date.day) ws w.1)) tt
+
+  pub words-read : (now : Now) (n : ℕ) (f : Fields) (ws : List Word) → AreWritten t f.day ws → steps now (words_steps ws n) (at f) (words_tokens t ws) ≡ Ok (at (with_words t f ws))
+  unfolding without_ending
+  words-read now n f [] w = go-offset now n f t h
+  words-read now n f (Weekday ∷ ws) w = go-name now _ f f (day_name t.weekday) space _ (day-said f t.weekday h.weekday) ∙ skip-space now _ f _ ∙ words-read now n f ws w
+  words-read now n f (WeekdayComma ∷ ws) w =
+      go-name now _ f f (day_name t.weekday) comma _ (day-said f t.weekday h.weekday) ∙ go now _ f f (Mark comma) _ _ refl refl ∙ skip-space now _ f _ ∙ words-read now n f ws w
+  words-read now n f (Month ∷ ws) w =
+      let next = record f { month = Some t.date.month } in
+      go-name now _ f next (month_name t.date.month) space _ (month-said f t.date.month h.first_month h.last_month) ∙ skip-space now _ next _ ∙ words-read now n next ws w
+  words-read now n f (Day run ∷ ws) w =
+      let next = record f { day = Some t.date.day } in
+      go now _ f next (Digits run) _ _ refl (day-rule now f t.date.day run _ w.1 h.first_day h.last_day w.0) ∙ skip-space now _ next _ ∙ words-read now n next ws w.2
+  words-read now n f (Year ∷ ws) w =
+      let next = record f { year = Some t.date.year } in
+      go now _ f next (Digits (four_digits t.date.year)) _ _ refl (year-rule now f t.date.year _ h.first_year h.last_year) ∙ skip-space now _ next _ ∙ words-read now n next ws w
+  words-read now n f (Clock ∷ ws) w = go-clock now _ f t space _ h refl ∙ skip-space now _ (with_time t f) _ ∙ words-read now n (with_time t f) ws w
+  words-read now n f (Date mark ∷ ws) w =
+      let next = with_date f t.date.year t.date.month t.date.day in
+      go-date mark now _ f t _ _ w.0 h refl ∙ skip-space now _ next _ ∙ words-read now n next ws w.1
 
 pub spaced-offset : (t : LocalTime) → IsGitClock t → tokens (space ∷ compact_offset_text t.offset) ≡ Mark space ∷ offset_tokens t
 unfolding tokens
 spaced-offset t h = ap (λ (ts : List Token). Mark space ∷ ts) (offset-before t h)
-
-spaced-clock : (t : LocalTime) → IsGitClock t → tokens (space ∷ (clock_text t.clock ++ (space ∷ compact_offset_text t.offset))) ≡ Mark space ∷ clock_tokens t (Mark space ∷ offset_tokens t)
-unfolding tokens
-spaced-clock t h = ap (λ (ts : List Token). Mark space ∷ ts) (clock-before t (space ∷ compact_offset_text t.offset) _ h (spaced-offset t h) tt)
-
--- such a date, a clock and an offset
-abbrev pub marked_text : ℕ → LocalTime → List ℕ
-marked_text mark t = marked_date mark (t.date.year, t.date.month, t.date.day) ++ (space ∷ (clock_text t.clock ++ (space ∷ compact_offset_text t.offset)))
-
-pub iso-are : (mark : ℕ) (t : LocalTime) → IsDateMark mark → IsGitClock t → tokens (marked_text mark t) ≡ iso_tokens mark t
-iso-are mark t is h = date-before mark t (space ∷ (clock_text t.clock ++ (space ∷ compact_offset_text t.offset))) _ is h (spaced-clock t h) tt
 
 -- `2022-08-18T12:45:06+08:00`
 abbrev pub strict_tokens : ℕ → LocalTime → List Token
@@ -579,7 +659,7 @@ strict_tokens mark t = date_tokens mark t (Letters (letter_t ∷ []) ∷ clock_t
 pub strict-steps : (mark : ℕ) (now : Now) (n : ℕ) (t : LocalTime) → IsDateMark mark → IsGitClock t → steps now (suc (suc (suc n))) (at unknown) (strict_tokens mark t) ≡ Ok (at (fields_of t))
 unfolding without_ending
 strict-steps mark now n t is h =
-    go-date mark now _ t (Letters (letter_t ∷ []) ∷ clock_tokens t (colon_tokens t)) (clock_tokens t (colon_tokens t)) is h refl
+    go-date mark now _ unknown t (Letters (letter_t ∷ []) ∷ clock_tokens t (colon_tokens t)) (clock_tokens t (colon_tokens t)) is h refl
     ∙ go-clock now _ (dated_fields t) t (sign_of t) (Digits (two_digits (hours_of t)) ∷ Mark colon ∷ Digits (two_digits (minutes_of t)) ∷ []) h (sign-no-dot (is_behind t))
     ∙ go-colon now n (with_time t (dated_fields t)) t h
 
@@ -592,137 +672,3 @@ marked_strict_text mark t = marked_date mark (t.date.year, t.date.month, t.date.
 
 pub strict-are : (mark : ℕ) (t : LocalTime) → IsDateMark mark → IsGitClock t → tokens (marked_strict_text mark t) ≡ strict_tokens mark t
 strict-are mark t is h = date-before mark t (letter_t ∷ (clock_text t.clock ++ strict_offset_text t.offset)) _ is h (lettered t h) tt
-
--- `Thu, 18 Aug 2022 12:45:06 +0800`
-abbrev pub mail_tokens : List ℕ → LocalTime → List Token
-mail_tokens day t =
-    Letters (day_name t.weekday) ∷ Mark comma ∷ Mark space ∷ Digits day ∷ Mark space ∷ Letters (month_name t.date.month) ∷ Mark space
-    ∷ Digits (four_digits t.date.year) ∷ Mark space ∷ clock_tokens t (Mark space ∷ offset_tokens t)
-
-abbrev with_day : LocalTime → Fields → Fields
-with_day t f = record f { day = Some t.date.day }
-
-abbrev with_month : LocalTime → Fields → Fields
-with_month t f = record f { month = Some t.date.month }
-
-abbrev with_year : LocalTime → Fields → Fields
-with_year t f = record f { year = Some t.date.year }
-
-go-weekday : (now : Now) (n : ℕ) (t : LocalTime) (byte : ℕ) (more : List Token) → IsGitClock t
-    → steps now (suc n) (at unknown) (Letters (day_name t.weekday) ∷ Mark byte ∷ more) ≡ steps now n (at unknown) (Mark byte ∷ more)
-go-weekday now n t byte more h = go-name now n unknown unknown (day_name t.weekday) byte more (day-said unknown t.weekday h.weekday)
-
-go-month : (now : Now) (n : ℕ) (f : Fields) (t : LocalTime) (more : List Token) → IsGitClock t
-    → steps now (suc (suc n)) (at f) (Letters (month_name t.date.month) ∷ Mark space ∷ more) ≡ steps now n (at (with_month t f)) more
-go-month now n f t more h =
-    go-name now (suc n) f (with_month t f) (month_name t.date.month) space more (month-said f t.date.month h.first_month h.last_month)
-    ∙ skip-space now n (with_month t f) more
-
-go-day : (now : Now) (n : ℕ) (f : Fields) (t : LocalTime) (run : List ℕ) (more : List Token) → IsGitClock t → IsDayText t.date.day run → f.day ≡ None
-    → steps now (suc (suc n)) (at f) (Digits run ∷ Mark space ∷ more) ≡ steps now n (at (with_day t f)) more
-go-day now n f t run more h is none =
-    go now (suc n) f (with_day t f) (Digits run) (Mark space ∷ more) (Mark space ∷ more) refl (day-rule now f t.date.day run more is h.first_day h.last_day none)
-    ∙ skip-space now n (with_day t f) more
-
-go-year : (now : Now) (n : ℕ) (f : Fields) (t : LocalTime) (more : List Token) → IsGitClock t
-    → steps now (suc (suc n)) (at f) (Digits (four_digits t.date.year) ∷ Mark space ∷ more) ≡ steps now n (at (with_year t f)) more
-go-year now n f t more h =
-    go now (suc n) f (with_year t f) (Digits (four_digits t.date.year)) (Mark space ∷ more) (Mark space ∷ more) refl (year-rule now f t.date.year more h.first_year h.last_year)
-    ∙ skip-space now n (with_year t f) more
-
-go-time : (now : Now) (n : ℕ) (f : Fields) (t : LocalTime) (more : List Token) → IsGitClock t
-    → steps now (suc (suc n)) (at f) (clock_tokens t (Mark space ∷ more)) ≡ steps now n (at (with_time t f)) more
-go-time now n f t more h = go-clock now (suc n) f t space more h refl ∙ skip-space now n (with_time t f) more
-
-pub mail-steps : (now : Now) (n : ℕ) (day : List ℕ) (t : LocalTime) → IsGitClock t → IsDayText t.date.day day
-    → steps now (suc (suc (suc (suc (suc (suc (suc (suc (suc (suc (suc (suc n)))))))))))) (at unknown) (mail_tokens day t) ≡ Ok (at (fields_of t))
-mail-steps now n day t h is =
-    let months = with_month t (with_day t unknown) in
-    let years = with_year t months in
-    go-weekday now _ t comma _ h
-    ∙ go now _ unknown unknown (Mark comma) _ _ refl refl
-    ∙ skip-space now _ unknown _
-    ∙ go-day now _ unknown t day _ h is refl
-    ∙ go-month now _ (with_day t unknown) t _ h
-    ∙ go-year now _ months t (clock_tokens t (Mark space ∷ offset_tokens t)) h
-    ∙ go-time now _ years t (offset_tokens t) h
-    ∙ go-offset now n (with_time t years) t h
-
-pub mail-are : (day : List ℕ) (t : LocalTime) → IsGitClock t → IsDayText t.date.day day
-    → tokens (day_name t.weekday ++ (comma ∷ (space ∷ (day ++ (space ∷ (month_name t.date.month ++ (space ∷ (four_digits t.date.year
-    ++ (space ∷ (clock_text t.clock ++ (space ∷ compact_offset_text t.offset)))))))))))
-    ≡ mail_tokens day t
-unfolding tokens
-mail-are day t h is =
-    let year_text = space ∷ (four_digits t.date.year ++ (space ∷ (clock_text t.clock ++ (space ∷ compact_offset_text t.offset)))) in
-    let month_text = space ∷ (month_name t.date.month ++ year_text) in
-    let year = ap (λ (ts : List Token). Mark space ∷ ts) (year-before t (space ∷ (clock_text t.clock ++ (space ∷ compact_offset_text t.offset))) _ h (spaced-clock t h) tt) in
-    let month = ap (λ (ts : List Token). Mark space ∷ ts) (month-before t.date.month year_text space _ h.first_month h.last_month year) in
-    let date = ap (λ (ts : List Token). Mark comma ∷ Mark space ∷ ts) (number-before day month_text _ _ is.number month tt) in
-    day-before t.weekday (comma ∷ (space ∷ (day ++ month_text))) comma _ h.weekday date
-
--- `Thu Aug 18 2022 12:45:06 +0800`
-abbrev pub gitoxide_tokens : List ℕ → LocalTime → List Token
-gitoxide_tokens day t =
-    Letters (day_name t.weekday) ∷ Mark space ∷ Letters (month_name t.date.month) ∷ Mark space ∷ Digits day ∷ Mark space
-    ∷ Digits (four_digits t.date.year) ∷ Mark space ∷ clock_tokens t (Mark space ∷ offset_tokens t)
-
-pub gitoxide-steps : (now : Now) (n : ℕ) (day : List ℕ) (t : LocalTime) → IsGitClock t → IsDayText t.date.day day
-    → steps now (suc (suc (suc (suc (suc (suc (suc (suc (suc (suc (suc n))))))))))) (at unknown) (gitoxide_tokens day t) ≡ Ok (at (fields_of t))
-gitoxide-steps now n day t h is =
-    let days = with_day t (with_month t unknown) in
-    let years = with_year t days in
-    go-weekday now _ t space _ h
-    ∙ skip-space now _ unknown _
-    ∙ go-month now _ unknown t _ h
-    ∙ go-day now _ (with_month t unknown) t day _ h is refl
-    ∙ go-year now _ days t (clock_tokens t (Mark space ∷ offset_tokens t)) h
-    ∙ go-time now _ years t (offset_tokens t) h
-    ∙ go-offset now n (with_time t years) t h
-
-pub gitoxide-are : (day : List ℕ) (t : LocalTime) → IsGitClock t → IsDayText t.date.day day
-    → tokens (day_name t.weekday ++ (space ∷ (month_name t.date.month ++ (space ∷ (day ++ (space ∷ (four_digits t.date.year
-    ++ (space ∷ (clock_text t.clock ++ (space ∷ compact_offset_text t.offset))))))))))
-    ≡ gitoxide_tokens day t
-unfolding tokens
-gitoxide-are day t h is =
-    let year_text = space ∷ (four_digits t.date.year ++ (space ∷ (clock_text t.clock ++ (space ∷ compact_offset_text t.offset)))) in
-    let day_text = space ∷ (day ++ year_text) in
-    let year = ap (λ (ts : List Token). Mark space ∷ ts) (year-before t (space ∷ (clock_text t.clock ++ (space ∷ compact_offset_text t.offset))) _ h (spaced-clock t h) tt) in
-    let date = ap (λ (ts : List Token). Mark space ∷ ts) (number-before day year_text _ _ is.number year tt) in
-    let month = ap (λ (ts : List Token). Mark space ∷ ts) (month-before t.date.month day_text space _ h.first_month h.last_month date) in
-    day-before t.weekday (space ∷ (month_name t.date.month ++ day_text)) space _ h.weekday month
-
--- `Thu Aug 18 12:45:06 2022 +0800`
-abbrev pub default_tokens : List ℕ → LocalTime → List Token
-default_tokens day t =
-    Letters (day_name t.weekday) ∷ Mark space ∷ Letters (month_name t.date.month) ∷ Mark space ∷ Digits day ∷ Mark space
-    ∷ clock_tokens t (Mark space ∷ Digits (four_digits t.date.year) ∷ Mark space ∷ offset_tokens t)
-
-pub default-steps : (now : Now) (n : ℕ) (day : List ℕ) (t : LocalTime) → IsGitClock t → IsDayText t.date.day day
-    → steps now (suc (suc (suc (suc (suc (suc (suc (suc (suc (suc (suc n))))))))))) (at unknown) (default_tokens day t) ≡ Ok (at (fields_of t))
-default-steps now n day t h is =
-    let days = with_day t (with_month t unknown) in
-    let times = with_time t days in
-    go-weekday now _ t space _ h
-    ∙ skip-space now _ unknown _
-    ∙ go-month now _ unknown t _ h
-    ∙ go-day now _ (with_month t unknown) t day _ h is refl
-    ∙ go-time now _ days t (Digits (four_digits t.date.year) ∷ Mark space ∷ offset_tokens t) h
-    ∙ go-year now _ times t (offset_tokens t) h
-    ∙ go-offset now n (with_year t times) t h
-
-pub default-are : (day : List ℕ) (t : LocalTime) → IsGitClock t → IsDayText t.date.day day
-    → tokens (day_name t.weekday ++ (space ∷ (month_name t.date.month ++ (space ∷ (day ++ (space ∷ (clock_text t.clock
-    ++ (space ∷ (four_digits t.date.year ++ (space ∷ compact_offset_text t.offset))))))))))
-    ≡ default_tokens day t
-unfolding tokens
-default-are day t h is =
-    let year_text = space ∷ (four_digits t.date.year ++ (space ∷ compact_offset_text t.offset)) in
-    let time_text = space ∷ (clock_text t.clock ++ year_text) in
-    let day_text = space ∷ (day ++ time_text) in
-    let year = ap (λ (ts : List Token). Mark space ∷ ts) (year-before t (space ∷ compact_offset_text t.offset) _ h (spaced-offset t h) tt) in
-    let time = ap (λ (ts : List Token). Mark space ∷ ts) (clock-before t year_text _ h year tt) in
-    let date = ap (λ (ts : List Token). Mark space ∷ ts) (number-before day time_text _ _ is.number time tt) in
-    let month = ap (λ (ts : List Token). Mark space ∷ ts) (month-before t.date.month day_text space _ h.first_month h.last_month date) in
-    day-before t.weekday (space ∷ (month_name t.date.month ++ day_text)) space _ h.weekday month

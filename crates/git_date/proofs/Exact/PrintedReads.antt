@@ -1,15 +1,12 @@
 -- What a text that is printed says: the fields of its clock.
-use Rattle.std.proofs.Common.{◌≡◌, ◌∙◌, ◌≤◌, ◌+◌, ◌*◌, ◌/◌, ◌%◌, ℕ, suc, ℤ, pos, negsuc, ◌*ℤ◌, unsigned_abs, Bool, true, false, cond, List, ◌∷◌, ◌++◌, length, refl, ap, sym, subst, arith, None, Ok}
+use Rattle.std.proofs.Common.{◌≡◌, ◌∙◌, ◌≤◌, ◌+◌, ◌*◌, ◌/◌, ◌%◌, ℕ, suc, ℤ, pos, negsuc, ◌*ℤ◌, unsigned_abs, Bool, true, false, cond, List, [], ◌∷◌, length, refl, ap, sym, subst, arith, None, Ok}
 use Rattle.std.specs.Prelude.{◌==◌, nat_lt, int_lt}
 use Rattle.std.specs.Fmt.{decimal}
 use Rattle.std.proofs.lemmas.Bool.Decides.{nat_tests}
 use Rattle.jiff_core.proofs.SignedLemmas.{signed_arith}
 use Rattle.gix_date.specs.Fields.ClockNumbers.{hours_in, minutes_in}
-use Rattle.gix_date.specs.Fields.FieldTexts.{four_digits, clock_text}
 use Rattle.gix_date.specs.Fields.Layout.{LocalTime}
-use Rattle.gix_date.specs.Fields.Offsets.{compact_offset_text}
-use Rattle.gix_date.specs.Text.Characters.{comma, minus, plus, space}
-use Rattle.gix_date.specs.Text.Names.{day_name, month_name}
+use Rattle.gix_date.specs.Text.Characters.{minus, plus}
 use Rattle.gix_date.specs.Text.Numbers.{two_digits}
 use Rattle.git_date.specs.Tokens.Tokens.{Token, tokens}
 use Rattle.git_date.specs.Rules.Fields.{unknown}
@@ -20,7 +17,7 @@ use Rattle.git_date.specs.declared.fields.dates.Now.{Now}
 use Rattle.git_date.specs.declared.fields.Fields.{Fields}
 use Rattle.git_date.proofs.Rules.EnoughSteps.{enough, fewer}
 use Rattle.git_date.proofs.Text.StringEnds.{has_nul, no-nul, whole-said}
-use Rattle.git_date.proofs.Exact.PrintedClocks.{IsGitClock, IsDayText, IsDateMark, two-day, bare-day, marked_text, marked_strict_text, at, fields_of, signed, sign_of, is_behind, iso_tokens, iso-steps, iso-are, strict_tokens, strict-steps, strict-are, mail_tokens, mail-steps, mail-are, gitoxide_tokens, gitoxide-steps, gitoxide-are, default_tokens, default-steps, default-are}
+use Rattle.git_date.proofs.Exact.PrintedClocks.{Word, Weekday, WeekdayComma, Month, Day, Year, Clock, Date, words_text, words_tokens, with_words, words_steps, AreWritten, words-are, words-read, IsGitClock, IsDayText, IsDateMark, two-day, bare-day, marked_strict_text, at, fields_of, signed, sign_of, is_behind, strict_tokens, strict-steps, strict-are}
 
 pub reads-are : (now : Now) (text : List ℕ) (ts : List Token) (n : ℕ) (f : Fields) → tokens text ≡ ts → has_nul ts ≡ false → length ts ≤ n → at_text ts ≡ None
     → steps now n (at unknown) ts ≡ Ok (at f) → said_by now text ≡ fields_said text (Ok (at f))
@@ -39,10 +36,19 @@ sign-free false = refl
 free : (t : LocalTime) → (sign_of t == nul) ≡ false
 free t = sign-free (is_behind t)
 
--- what is printed of a date, a clock and an offset, by the mark between the date's numbers
+-- a date in words, a clock and an offset
+words-said : (now : Now) (t : LocalTime) (ws : List Word) (n : ℕ) → IsGitClock t → AreWritten t None ws → has_nul (words_tokens t ws) ≡ false → at_text (words_tokens t ws) ≡ None
+    → length (words_tokens t ws) ≤ words_steps ws n → said_by now (words_text t ws) ≡ fields_said (words_text t ws) (Ok (at (with_words t unknown ws)))
+words-said now t ws n h are free none fits =
+    reads-are now (words_text t ws) (words_tokens t ws) (words_steps ws n) (with_words t unknown ws) (words-are t h None ws are) free fits none (words-read t h now n unknown ws are)
+
+-- by the mark between the date's numbers
+abbrev pub marked_text : ℕ → LocalTime → List ℕ
+marked_text mark t = words_text t (Date mark ∷ Clock ∷ [])
+
 pub iso-reads : (mark : ℕ) → IsDateMark mark → (now : Now) (t : LocalTime) → IsGitClock t → said_by now (marked_text mark t) ≡ fields_said (marked_text mark t) (Ok (at (fields_of t)))
 unfolding at_text
-iso-reads mark is now t h = reads-are now (marked_text mark t) (iso_tokens mark t) 40 (fields_of t) (iso-are mark t is h) (rw (is.no_nul, free t) refl) (omega arith) refl (iso-steps mark now 35 t is h)
+iso-reads mark is now t h = words-said now t (Date mark ∷ Clock ∷ []) 40 h (is, tt) (rw (is.no_nul, free t) refl) refl (omega arith)
 
 pub strict-reads : (mark : ℕ) → IsDateMark mark → (now : Now) (t : LocalTime) → IsGitClock t
     → said_by now (marked_strict_text mark t) ≡ fields_said (marked_strict_text mark t) (Ok (at (fields_of t)))
@@ -51,33 +57,21 @@ strict-reads mark is now t h =
     reads-are now (marked_strict_text mark t) (strict_tokens mark t) 40 (fields_of t) (strict-are mark t is h) (rw (is.no_nul, free t) refl) (omega arith) refl (strict-steps mark now 37 t is h)
 
 -- dates with names, by the text of their day
-module _ (day : List ℕ) where
-  abbrev pub mail_text : LocalTime → List ℕ
-  mail_text t =
-      day_name t.weekday ++ (comma ∷ (space ∷ (day ++ (space ∷ (month_name t.date.month ++ (space ∷ (four_digits t.date.year
-      ++ (space ∷ (clock_text t.clock ++ (space ∷ compact_offset_text t.offset))))))))))
+module _ (day : List ℕ) (now : Now) (t : LocalTime) (h : IsGitClock t) (is : IsDayText t.date.day day) where
+  abbrev Reads : List Word → Type 0
+  Reads ws = said_by now (words_text t ws) ≡ fields_said (words_text t ws) (Ok (at (fields_of t)))
 
-  pub mail-reads : (now : Now) (t : LocalTime) → IsGitClock t → IsDayText t.date.day day → said_by now (mail_text t) ≡ fields_said (mail_text t) (Ok (at (fields_of t)))
+  pub mail-reads : Reads (WeekdayComma ∷ Day day ∷ Month ∷ Year ∷ Clock ∷ [])
   unfolding at_text
-  mail-reads now t h is = reads-are now (mail_text t) (mail_tokens day t) 40 (fields_of t) (mail-are day t h is) (rw (free t) refl) (omega arith) refl (mail-steps now 28 day t h is)
+  mail-reads = words-said now t (WeekdayComma ∷ Day day ∷ Month ∷ Year ∷ Clock ∷ []) 40 h (refl, is, tt) (rw (free t) refl) refl (omega arith)
 
-  abbrev pub named_text : LocalTime → List ℕ
-  named_text t =
-      day_name t.weekday ++ (space ∷ (month_name t.date.month ++ (space ∷ (day ++ (space ∷ (four_digits t.date.year
-      ++ (space ∷ (clock_text t.clock ++ (space ∷ compact_offset_text t.offset)))))))))
-
-  pub gitoxide-reads : (now : Now) (t : LocalTime) → IsGitClock t → IsDayText t.date.day day → said_by now (named_text t) ≡ fields_said (named_text t) (Ok (at (fields_of t)))
+  pub gitoxide-reads : Reads (Weekday ∷ Month ∷ Day day ∷ Year ∷ Clock ∷ [])
   unfolding at_text
-  gitoxide-reads now t h is = reads-are now (named_text t) (gitoxide_tokens day t) 40 (fields_of t) (gitoxide-are day t h is) (rw (free t) refl) (omega arith) refl (gitoxide-steps now 29 day t h is)
+  gitoxide-reads = words-said now t (Weekday ∷ Month ∷ Day day ∷ Year ∷ Clock ∷ []) 40 h (refl, is, tt) (rw (free t) refl) refl (omega arith)
 
-  abbrev pub default_day_text : LocalTime → List ℕ
-  default_day_text t =
-      day_name t.weekday ++ (space ∷ (month_name t.date.month ++ (space ∷ (day ++ (space ∷ (clock_text t.clock
-      ++ (space ∷ (four_digits t.date.year ++ (space ∷ compact_offset_text t.offset)))))))))
-
-  pub default-reads : (now : Now) (t : LocalTime) → IsGitClock t → IsDayText t.date.day day → said_by now (default_day_text t) ≡ fields_said (default_day_text t) (Ok (at (fields_of t)))
+  pub default-reads : Reads (Weekday ∷ Month ∷ Day day ∷ Clock ∷ Year ∷ [])
   unfolding at_text
-  default-reads now t h is = reads-are now (default_day_text t) (default_tokens day t) 40 (fields_of t) (default-are day t h is) (rw (free t) refl) (omega arith) refl (default-steps now 29 day t h is)
+  default-reads = words-said now t (Weekday ∷ Month ∷ Day day ∷ Clock ∷ Year ∷ []) 40 h (refl, is, tt) (rw (free t) refl) refl (omega arith)
 
 -- days in two digits, and without a zero before them
 pub two-day-of : (t : LocalTime) → IsGitClock t → IsDayText t.date.day (two_digits t.date.day)

@@ -114,7 +114,6 @@ abbrev HasNoPlaces : List ℕ → Option Expiry → Type 0
 HasNoPlaces text fixed = IfSome fixed (λ said. HasExpiryPlacesIn text (Ok said))
 
 fixed-in : (text word : List ℕ) → HasNoPlaces text (fixed_expiry word)
-unfolding fixed_expiry
 fixed-in text word =
     either (HasNoPlaces text) (bytes_eq word (codes "never") || bytes_eq word (codes "false")) _ _ tt
     (either (HasNoPlaces text) (bytes_eq word (codes "all") || bytes_eq word (codes "now")) _ _ tt tt)

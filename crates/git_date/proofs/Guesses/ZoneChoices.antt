@@ -8,11 +8,14 @@ use Rattle.gix_date.specs.Fields.Zoned.{is_instant}
 use Rattle.gix_date.specs.declared.time.Time.{Time}
 use Rattle.gix_date.proofs.Fields.Instants.{instant_holds}
 use Rattle.git_date.specs.Approximate.Clocks.{shown_at}
-use Rattle.git_date.specs.Approximate.Zones.{Choices, choices_of, time_at, with_offset, shown_in, filled_time, moved_to, fill_by, fill}
+use Rattle.git_date.specs.Approximate.Zones.{Choices, choices_of, time_at, with_offset, shown_in, filled_time, moved_to, fill}
 use Rattle.git_date.specs.Exact.Zones.{offsets_of, local_offset}
 use Rattle.git_date.specs.declared.approximate.drafts.Draft.{Draft}
 use Rattle.git_date.specs.declared.fault.Fault.{Fault}
 use Rattle.gix_date.specs.Fields.Layout.{LocalTime}
+use Rattle.std.specs.Prelude.{ok_or}
+use Rattle.git_date.specs.Tokens.Steps.{and_then}
+use Rattle.git_date.specs.declared.fault.Fault.TheVariants.{Range}
 
 abbrev picked_if : Bool → ℤ → Option ℤ → Option Time
 picked_if b local offset = cond b (option_map (time_at local) offset) None
@@ -61,4 +64,4 @@ a-shown-in tz instant offset h = by (is_instant instant) refl h
 pub filled-by : (zone : Choices) (today : LocalTime) (d : Draft) (back left : ℕ) (time : Time) (r : Result Draft Fault) → Some time ≡ filled_time zone today d.last.offset d.fields
     → r ≡ moved_to zone d left (time.seconds -ℤ pos back) → r ≡ fill zone today d back left
 unfolding fill
-filled-by zone today d back left time r e is = is ∙ ap (λ (o : Option Time). fill_by zone d back left o) e
+filled-by zone today d back left time r e is = is ∙ ap (λ (o : Option Time). and_then (ok_or o Range) (λ time. moved_to zone d left (time.seconds -ℤ pos back))) e

@@ -3,11 +3,12 @@ use Rattle.std.proofs.Common.{◌≡◌, ◌≤◌, ◌+◌, ℕ, zero, suc, Boo
 use Rattle.std.specs.Char.{is_ascii_alphabetic, is_ascii_digit}
 use Rattle.git_date.specs.Tokens.Tokens.{Token, Letters, Digits, Mark, letter_before, digit_before, tokens, bytes_left, is_end, walked}
 use Rattle.git_date.specs.Rules.Digits.{Stepped}
-use Rattle.git_date.specs.Exact.Reading.{read_on, and_then, rule, steps}
+use Rattle.git_date.specs.Exact.Reading.{read_on, rule, steps}
 use Rattle.git_date.specs.declared.fields.dates.Now.{Now}
 use Rattle.git_date.specs.declared.fault.Fault.{Fault}
 use Rattle.git_date.specs.declared.reader.Reading.{Reading}
 use Rattle.git_date.proofs.Rules.Kept.{IsKept, Leaves, rule-left}
+use Rattle.git_date.specs.Tokens.Steps.{and_then}
 
 -- steps enough are as good as more
 pub short-kept : (n : ℕ) → IsKept (λ ts. length ts ≤ suc n) (λ ts. length ts ≤ n) (λ left. Unit {0})

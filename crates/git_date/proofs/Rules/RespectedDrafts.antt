@@ -1,18 +1,19 @@
 -- Two drafts that the rules respect: they are the same but for places, and so is what a rule makes of them.
 use Rattle.std.proofs.Common.{◌≡◌, refl, ℕ, ℤ, pos, Bool, true, cond, List, [], ◌∷◌, Option, Some, None, Result, Ok, Err}
-use Rattle.std.specs.Prelude.{◌==◌, ◌||◌}
+use Rattle.std.specs.Prelude.{◌==◌, ◌||◌, ◌-ℤ◌, ok_or, option_map}
+use Rattle.std.specs.Option.{option_map_or}
 use Rattle.gix_date.specs.Fields.ClockNumbers.{seconds_per_day}
 use Rattle.gix_date.specs.Text.Characters.{newline}
 use Rattle.gix_date.specs.declared.time.Time.{Time}
-use Rattle.git_date.specs.Approximate.Reading.{Read, with_rest, rule, step, steps}
-use Rattle.git_date.specs.Approximate.Drafts.{earlier, ignore, last_of, with_number, settled_by, settle, dropped, with_hour, is_before, half, units, weekday_seconds, less_months}
-use Rattle.git_date.specs.Approximate.Rules.{Ruled, used, at_hour, hour_rule, back_rule, month_taken, less_by, months_rule, counted_by, count_waits, with_month, meaning_rule, word_by, read_word, are_digits_next, letters_rule, is_padded, number_waits, group_said, group_or_number, digits_rule, understood}
+use Rattle.git_date.specs.Approximate.Reading.{Read, rule, step, steps}
+use Rattle.git_date.specs.Approximate.Drafts.{with_shown, earlier, ignore, last_of, with_number, settle, dropped, with_hour, is_before, half, units, weekday_seconds, less_months}
+use Rattle.git_date.specs.Approximate.Rules.{Ruled, used, hour_rule, back_rule, months_rule, counted_by, count_waits, with_month, meaning_rule, word_by, read_word, are_digits_next, letters_rule, is_padded, number_waits, group_or_number, digits_rule, understood}
 use Rattle.git_date.specs.Approximate.Words.{meaning_of}
-use Rattle.git_date.specs.Approximate.Zones.{Choices, shown_in, filled_time, moved_by, moved_to, fill_by, fill}
-use Rattle.git_date.specs.Rules.Digits.{Stepped}
+use Rattle.git_date.specs.Approximate.Zones.{Choices, shown_in, filled_time, moved_to, fill}
+use Rattle.git_date.specs.Rules.Digits.{group_said}
 use Rattle.git_date.specs.Rules.Groups.{marked_number}
 use Rattle.git_date.specs.Tokens.Numbers.{number, is_too_large}
-use Rattle.git_date.specs.Exact.Reading.{and_then, ended}
+use Rattle.git_date.specs.Exact.Reading.{ended}
 use Rattle.git_date.specs.Tokens.Tokens.{Token, Letters, Digits, Mark, bytes_left}
 use Rattle.git_date.specs.Rules.Words.{is_filler}
 use Rattle.git_date.specs.declared.approximate.answer.Today.{Today}
@@ -25,10 +26,12 @@ use Rattle.git_date.specs.declared.approximate.meanings.Unit.TheVariants.{Second
 use Rattle.git_date.specs.declared.approximate.drafts.LastShown.{LastShown}
 use Rattle.git_date.specs.declared.fields.dates.Now.{Now}
 use Rattle.git_date.specs.declared.fault.Fault.{Fault}
+use Rattle.git_date.specs.declared.fault.Fault.TheVariants.{BackTooFar, Range}
 use Rattle.git_date.specs.declared.fields.Fields.{Fields}
 use Rattle.git_date.specs.declared.fields.groups.Number.{Number}
-use Rattle.git_date.proofs.Rules.Respects.{Numbers, SameNumber, Faults, TooLarge, TooFar, NoInstant, AreWords, Marked, Begin, NoMore, LineNext, SameWords, SameDigits, SameMark, Related, Same, Fails, both, marked, group-said-respects, ending-respects, Comes, ComesTo, FailsAt, walk-respects}
+use Rattle.git_date.proofs.Rules.Respects.{Saids, SaysNothing, SaysSame, SaysFault, Numbers, SameNumber, Faults, TooLarge, TooFar, NoInstant, AreWords, Marked, Begin, NoMore, SameWords, SameDigits, SameMark, both, marked, group-said-respects, ending-respects, Comes, ComesTo, FailsAt, walk-respects}
 use Rattle.gix_date.specs.Fields.Layout.{LocalTime}
+use Rattle.git_date.specs.Tokens.Steps.{and_then}
 
 -- numbers that wait
 pub data Waits (P : ℕ → ℕ → Type 0) : Option Number → Option Number → Type 0 where
@@ -58,26 +61,28 @@ module _ (P : ℕ → ℕ → Type 0) (I : Option ℕ → Option ℕ → Type 0)
   ignore-respects : (d e : Draft) (left other : ℕ) → P left other → Drafts P I d e → Drafts P I (ignore d left) (ignore e other)
   ignore-respects d e left other p (SameDraft f last w x known i j waits h) = SameDraft f last w x known _ _ waits (law left other i j p h)
 
-  settled-respects : (f : Fields) (last : LastShown) (left other : ℕ) (w x : Option Number) (known : Bool) (i j : Option ℕ) (g : Option Fields) → P left other → I i j
-      → Drafts P I (settled_by (record { fields = f; last = last; waiting = w; understood = known; ignored = i }) left g)
-      (settled_by (record { fields = f; last = last; waiting = x; understood = known; ignored = j }) other g)
-  settled-respects f last left other w x known i j (Some g) p h = SameDraft g last None None known i j NoneWaits h
-  settled-respects f last left other w x known i j None p h = SameDraft f last None None known _ _ NoneWaits (law left other i j p h)
+  -- where no number waits any more
+  abbrev unsettled : Fields → LastShown → Bool → Option ℕ → Draft
+  unsettled f last known i = record { fields = f; last = last; waiting = None; understood = known; ignored = i }
+
+  settled-respects : (f : Fields) (last : LastShown) (left other : ℕ) (known : Bool) (i j : Option ℕ) (g : Option Fields) → P left other → I i j
+      → Drafts P I (option_map_or (λ g. unsettled g last known i) g (ignore (unsettled f last known i) left))
+      (option_map_or (λ g. unsettled g last known j) g (ignore (unsettled f last known j) other))
+  settled-respects f last left other known i j (Some g) p h = SameDraft g last None None known i j NoneWaits h
+  settled-respects f last left other known i j None p h = SameDraft f last None None known _ _ NoneWaits (law left other i j p h)
 
   pub settle-respects : (d e : Draft) → Drafts P I d e → Drafts P I (settle d) (settle e)
   unfolding settle
   settle-respects d e (SameDraft f last w x known i j NoneWaits h) = SameDraft f last None None known i j NoneWaits h
   settle-respects d e (SameDraft f last w x known i j (OneWaits n m (SameNumber value a b p)) h) =
-      settled-respects f last a b (Some (record { value = value; left = a })) (Some (record { value = value; left = b })) known i j (with_number f value) p h
+      settled-respects f last a b known i j (with_number f value) p h
 
   dropped-respects : (d e : Draft) → Drafts P I d e → Drafts P I (dropped d) (dropped e)
-  unfolding dropped
   dropped-respects d e (SameDraft f last w x known i j NoneWaits h) = SameDraft f last None None known i j NoneWaits h
   dropped-respects d e (SameDraft f last w x known i j (OneWaits n m (SameNumber value a b p)) h) =
       SameDraft f last None None known _ _ NoneWaits (law a b i j p h)
 
   half-respects : (first : ℕ) (d e : Draft) → Drafts P I d e → Drafts P I (half d first) (half e first)
-  unfolding half
   half-respects first d e (SameDraft f last w x known i j NoneWaits h) = SameDraft _ last None None known i j NoneWaits h
   half-respects first d e (SameDraft f last w x known i j (OneWaits n m (SameNumber value a b p)) h) = SameDraft _ last None None known i j NoneWaits h
 
@@ -88,13 +93,14 @@ module _ (P : ℕ → ℕ → Type 0) (I : Option ℕ → Option ℕ → Type 0)
   moved-respects zone d e left other instant p (SameDraft f last w x known i j waits h) = by (shown_in zone instant)
     where
       by : (shown : Option LocalTime)
-          → Givens P I (moved_by (record { fields = f; last = last; waiting = w; understood = known; ignored = i }) left shown)
-          (moved_by (record { fields = f; last = last; waiting = x; understood = known; ignored = j }) other shown)
+          → Givens P I (ok_or (option_map (with_shown (record { fields = f; last = last; waiting = w; understood = known; ignored = i })) shown) (BackTooFar left))
+          (ok_or (option_map (with_shown (record { fields = f; last = last; waiting = x; understood = known; ignored = j })) shown) (BackTooFar other))
       by (Some shown) = ComesTo _ _ (SameDraft _ (last_of shown) w x known i j waits h)
       by None = FailsAt _ _ (TooFar left other p)
 
   filled-respects : (zone : Choices) (d e : Draft) (back left other : ℕ) (time : Option Time) → P left other → Drafts P I d e
-      → Givens P I (fill_by zone d back left time) (fill_by zone e back other time)
+      → Givens P I (and_then (ok_or time Range) (λ time. moved_to zone d left (time.seconds -ℤ pos back)))
+      (and_then (ok_or time Range) (λ time. moved_to zone e other (time.seconds -ℤ pos back)))
   filled-respects zone d e back left other (Some time) p h = moved-respects zone d e left other _ p h
   filled-respects zone d e back left other None p h = FailsAt _ _ NoInstant
 
@@ -104,44 +110,51 @@ module _ (P : ℕ → ℕ → Type 0) (I : Option ℕ → Option ℕ → Type 0)
   fill-respects zone today d e back left other p (SameDraft f last w x known i j waits h) =
       filled-respects zone _ _ back left other (filled_time zone today last.offset f) p (SameDraft f last w x known i j waits h)
 
+  -- to go on after a step
+  then-respects : (a b : Result Draft Fault) (go on : Draft → Result Draft Fault) → Givens P I a b → ((d e : Draft) → Drafts P I d e → Givens P I (go d) (on e))
+      → Givens P I (and_then a go) (and_then b on)
+  then-respects a b go on (ComesTo d e h) next = next d e h
+  then-respects a b go on (FailsAt x y faults) next = FailsAt x y faults
+
   -- words
-  at-hour-respects : (hour : ℕ) (a b : Result Draft Fault) → Givens P I a b → Givens P I (at_hour hour a) (at_hour hour b)
-  at-hour-respects hour a b (ComesTo d e (SameDraft f last w x known i j waits h)) = ComesTo _ _ (SameDraft _ last w x known i j waits h)
-  at-hour-respects hour a b (FailsAt x y faults) = FailsAt x y faults
+  hour-respects : (hour : ℕ) (d e : Draft) → Drafts P I d e → Drafts P I (with_hour d hour) (with_hour e hour)
+  hour-respects hour d e (SameDraft f last w x known i j waits h) = SameDraft _ last w x known i j waits h
 
-  hour-by-respects : (zone : Choices) (today : LocalTime) (d e : Draft) (hour left other : ℕ) → P left other → Drafts P I d e
-      → Givens P I (cond (is_before d.fields.hour hour) (at_hour hour (fill zone today d seconds_per_day left)) (Ok (with_hour d hour)))
-      (cond (is_before e.fields.hour hour) (at_hour hour (fill zone today e seconds_per_day other)) (Ok (with_hour e hour)))
-  hour-by-respects zone today d e hour left other p (SameDraft f last w x known i j waits h) =
+  day-respects : (zone : Choices) (today : LocalTime) (d e : Draft) (hour left other : ℕ) → P left other → Drafts P I d e
+      → Givens P I (cond (is_before d.fields.hour hour) (fill zone today d seconds_per_day left) (Ok d))
+      (cond (is_before e.fields.hour hour) (fill zone today e seconds_per_day other) (Ok e))
+  day-respects zone today d e hour left other p (SameDraft f last w x known i j waits h) =
       both (Givens P I) (is_before f.hour hour) _ _ _ _
-      (at-hour-respects hour _ _ (fill-respects zone today _ _ seconds_per_day left other p (SameDraft f last w x known i j waits h)))
-      (ComesTo _ _ (SameDraft _ last w x known i j waits h))
+      (fill-respects zone today _ _ seconds_per_day left other p (SameDraft f last w x known i j waits h))
+      (ComesTo _ _ (SameDraft f last w x known i j waits h))
 
-  hour-respects : (zone : Choices) (today : LocalTime) (d e : Draft) (hour left other : ℕ) → P left other → Drafts P I d e
+  hour-rule-respects : (zone : Choices) (today : LocalTime) (d e : Draft) (hour left other : ℕ) → P left other → Drafts P I d e
       → Givens P I (hour_rule zone today d hour left) (hour_rule zone today e hour other)
-  unfolding hour_rule
-  hour-respects zone today d e hour left other p h = hour-by-respects zone today (settle d) (settle e) hour left other p (settle-respects d e h)
+  hour-rule-respects zone today d e hour left other p h =
+      then-respects _ _ _ _ (day-respects zone today (settle d) (settle e) hour left other p (settle-respects d e h))
+      (λ d e h. ComesTo _ _ (hour-respects hour d e h))
 
-  month-taken-respects : (left other : ℕ) (d e : Draft) (f : Option Fields) → P left other → Drafts P I d e → Givens P I (month_taken d left f) (month_taken e other f)
-  month-taken-respects left other d e (Some g) p (SameDraft f last w x known i j waits h) = ComesTo _ _ (SameDraft g last w x known i j waits h)
-  month-taken-respects left other d e None p h = FailsAt _ _ (TooFar left other p)
+  less-respects : (left other : ℕ) (d e : Draft) (f : Option Fields) → P left other → Drafts P I d e
+      → Givens P I (and_then (ok_or f (BackTooFar left)) (λ g. Ok (record d { fields = g }))) (and_then (ok_or f (BackTooFar other)) (λ g. Ok (record e { fields = g })))
+  less-respects left other d e (Some g) p (SameDraft f last w x known i j waits h) = ComesTo _ _ (SameDraft g last w x known i j waits h)
+  less-respects left other d e None p h = FailsAt _ _ (TooFar left other p)
 
-  less-by-respects : (months left other : ℕ) (a b : Result Draft Fault) → P left other → Givens P I a b → Givens P I (less_by months left a) (less_by months other b)
-  less-by-respects months left other a b p (ComesTo d e (SameDraft f last w x known i j waits h)) =
-      month-taken-respects left other _ _ (less_months f months) p (SameDraft f last w x known i j waits h)
-  less-by-respects months left other a b p (FailsAt x y faults) = FailsAt x y faults
+  filled-less : (months left other : ℕ) (d e : Draft) → P left other → Drafts P I d e
+      → Givens P I (and_then (ok_or (less_months d.fields months) (BackTooFar left)) (λ g. Ok (record d { fields = g })))
+      (and_then (ok_or (less_months e.fields months) (BackTooFar other)) (λ g. Ok (record e { fields = g })))
+  filled-less months left other d e p (SameDraft f last w x known i j waits h) =
+      less-respects left other _ _ (less_months f months) p (SameDraft f last w x known i j waits h)
 
   -- the number is taken before
   back-respects : (zone : Choices) (today : LocalTime) (d e : Draft) (back value left other : ℕ) → P left other → Drafts P I d e
       → Givens P I (back_rule zone today d back (record { value = value; left = left })) (back_rule zone today e back (record { value = value; left = other }))
-  unfolding back_rule
   back-respects zone today d e back value left other p h =
       both (Givens P I) (is_too_large back) _ _ _ _ (FailsAt _ _ (TooFar left other p)) (fill-respects zone today d e back left other p h)
 
   months-respect : (zone : Choices) (today : LocalTime) (d e : Draft) (months value left other : ℕ) → P left other → Drafts P I d e
       → Givens P I (months_rule zone today d months (record { value = value; left = left })) (months_rule zone today e months (record { value = value; left = other }))
-  unfolding months_rule
-  months-respect zone today d e months value left other p h = less-by-respects months left other _ _ p (fill-respects zone today d e 0 left other p h)
+  months-respect zone today d e months value left other p h =
+      then-respects _ _ _ _ (fill-respects zone today d e 0 left other p h) (λ d e h. filled-less months left other d e p h)
 
   used-respects : (a b : Result Draft Fault) → Givens P I a b → Ruleds P I (used a) (used b)
   used-respects a b (ComesTo d e h) = Makes d e h
@@ -174,7 +187,7 @@ module _ (P : ℕ → ℕ → Type 0) (I : Option ℕ → Option ℕ → Type 0)
       used-respects _ _ (fill-respects zone today (dropped d) (dropped e) seconds left other p (dropped-respects d e h))
   meaning-respects zone today d e left other Never p h =
       used-respects _ _ (moved-respects zone (dropped d) (dropped e) left other (pos 0) p (dropped-respects d e h))
-  meaning-respects zone today d e left other (Hour hour) p h = used-respects _ _ (hour-respects zone today d e hour left other p h)
+  meaning-respects zone today d e left other (Hour hour) p h = used-respects _ _ (hour-rule-respects zone today d e hour left other p h)
   meaning-respects zone today d e left other Morning p h = Makes _ _ (half-respects 0 d e h)
   meaning-respects zone today d e left other Afternoon p h = Makes _ _ (half-respects 12 d e h)
   meaning-respects zone today d e left other (Count n) p h = waits-respects n left other d e p h
@@ -205,7 +218,6 @@ module _ (P : ℕ → ℕ → Type 0) (I : Option ℕ → Option ℕ → Type 0)
   -- digits
   pub number-waits-respects : (d e : Draft) (run : List ℕ) (left other : ℕ) → P left other → Drafts P I d e
       → Drafts P I (number_waits d run left) (number_waits e run other)
-  unfolding number_waits
   number-waits-respects d e run left other p (SameDraft f last w x known i j waits h) =
       both (Drafts P I) (number run == 0 || is_padded run) _ _ _ _
       (ignore-respects _ _ left other p (SameDraft f last w x known i j waits h))
@@ -213,25 +225,27 @@ module _ (P : ℕ → ℕ → Type 0) (I : Option ℕ → Option ℕ → Type 0)
 
   -- digits, before their ending: tokens may differ but in the marks of groups
   module _ (R : List Token → List Token → Type 0) (marks : (ts us : List Token) → R ts us → Marked R P (marked_number ts) (marked_number us)) where
-    number-respects : (d e : Draft) (run : List ℕ) (left other : ℕ) (x y : Stepped) → P left other → Drafts P I d e → Related R P x y
-        → ReadOn R P I (group_or_number d run left x) (group_or_number e run other y)
-    number-respects d e run left other x y p (SameDraft f last w v known i j waits h) (Same (Some g) more rest r) =
-        GoesOn _ _ more rest (SameDraft g last w v known i j waits h) r
-    number-respects d e run left other x y p h (Same None more rest r) = GoesOn _ _ more rest (number-waits-respects d e run left other p h) r
-    number-respects d e run left other x y p h (Fails a b faults) = EndsBy a b faults
+    number-respects : (d e : Draft) (run : List ℕ) (more rest : List Token) (x y : Result (Option (Fields × List Token)) Fault)
+        → P (bytes_left (Digits run ∷ more)) (bytes_left (Digits run ∷ rest)) → R more rest → Drafts P I d e → Saids R P x y
+        → ReadOn R P I (and_then x (λ said. Ok (group_or_number d run more said))) (and_then y (λ said. Ok (group_or_number e run rest said)))
+    number-respects d e run more rest x y p r (SameDraft f last w v known i j waits h) (SaysSame g left right q) =
+        GoesOn _ _ left right (SameDraft g last w v known i j waits h) q
+    number-respects d e run more rest x y p r h SaysNothing = GoesOn _ _ more rest (number-waits-respects d e run _ _ p h) r
+    number-respects d e run more rest x y p r h (SaysFault a b faults) = EndsBy a b faults
 
-    digits-by : (now : Now) (d e : Draft) (run : List ℕ) (more rest : List Token) (left other : ℕ) → P left other → P (bytes_left (Digits run ∷ more)) (bytes_left (Digits run ∷ rest))
+    digits-by : (now : Now) (d e : Draft) (run : List ℕ) (more rest : List Token) → P (bytes_left (Digits run ∷ more)) (bytes_left (Digits run ∷ rest))
         → R more rest → Drafts P I d e
-        → ReadOn R P I (group_or_number d run left (group_said now d.fields run more)) (group_or_number e run other (group_said now e.fields run rest))
-    digits-by now d e run more rest left other p q r (SameDraft f last w x known i j waits h) =
-        number-respects _ _ run left other _ _ p (SameDraft f last w x known i j waits h) (group-said-respects R P marks now f run more rest q r)
+        → ReadOn R P I (and_then (group_said now d.fields run more) (λ said. Ok (group_or_number d run more said)))
+        (and_then (group_said now e.fields run rest) (λ said. Ok (group_or_number e run rest said)))
+    digits-by now d e run more rest p r (SameDraft f last w x known i j waits h) =
+        number-respects _ _ run more rest _ _ p r (SameDraft f last w x known i j waits h) (group-said-respects R P marks now f run more rest p r)
 
     pub read-respects : (now : Now) (d e : Draft) (run : List ℕ) (more rest : List Token) → P (bytes_left (Digits run ∷ more)) (bytes_left (Digits run ∷ rest)) → R more rest
         → Drafts P I d e → ReadOn R P I (digits_rule now d run more) (digits_rule now e run rest)
     unfolding digits_rule
     read-respects now d e run more rest p r h =
         both (ReadOn R P I) (is_too_large (number run)) _ _ _ _ (EndsBy _ _ (TooLarge _ _ p))
-        (digits-by now _ _ run more rest _ _ p p r (understood-respects _ _ (settle-respects d e h)))
+        (digits-by now _ _ run more rest p r (understood-respects _ _ (settle-respects d e h)))
 
   -- the reader
   module _ (R : List Token → List Token → Type 0) (begin : (ts us : List Token) → R ts us → Begin R P ts us)
@@ -240,7 +254,8 @@ module _ (P : ℕ → ℕ → Type 0) (I : Option ℕ → Option ℕ → Type 0)
     ended-respects x y (GoesOn d e more rest h r) = GoesOn d e _ _ h (ending-respects R P begin more rest r)
     ended-respects x y (EndsBy a b faults) = EndsBy a b faults
 
-    with-rest-respects : (more rest : List Token) (a b : Result Draft Fault) → R more rest → Givens P I a b → ReadOn R P I (with_rest more a) (with_rest rest b)
+    with-rest-respects : (more rest : List Token) (a b : Result Draft Fault) → R more rest → Givens P I a b
+        → ReadOn R P I (and_then a (λ next. Ok (next, more))) (and_then b (λ next. Ok (next, rest)))
     with-rest-respects more rest a b r (ComesTo d e h) = GoesOn d e more rest h r
     with-rest-respects more rest a b r (FailsAt x y faults) = EndsBy x y faults
 

@@ -1,7 +1,7 @@
 -- Two lists of tokens that the rules respect: what a rule makes of one it makes of the other, and it leaves such lists again.
 use Rattle.std.proofs.Common.{arith, ◌≡◌, ◌∙◌, ◌<◌, ◌+◌, ℕ, zero, suc, Bool, true, false, cond, List, [], ◌∷◌, length, refl, ap, sym, Option, Some, None, Result, Ok, Err}
-use Rattle.std.specs.Prelude.{◌==◌, ◌&&◌, ◌||◌, ◌/◌, ◌%◌, codes}
-use Rattle.std.specs.Option.{option_or}
+use Rattle.std.specs.Prelude.{is_some, ok_or, option_map, option_and_then, ◌==◌, ◌&&◌, ◌||◌, ◌/◌, ◌%◌, codes}
+use Rattle.std.specs.Option.{option_or, option_map_or}
 use Rattle.std.proofs.lemmas.Bool.Decides.{nat_tests}
 use Rattle.gix_date.specs.Text.Characters.{newline, plus, minus, colon, dot}
 use Rattle.gix_date.specs.Text.Names.{is_name}
@@ -12,12 +12,11 @@ use Rattle.git_date.specs.Approximate.Words.{meaning_of}
 use Rattle.git_date.specs.Rules.Words.{is_filler, with_word, letters_rule, without_ending, is_ending}
 use Rattle.git_date.specs.Rules.Clocks.{utc_clock}
 use Rattle.git_date.specs.Rules.Dates.{year_date}
-use Rattle.git_date.specs.Rules.Groups.{ReadTokens, number_at, marked_number, is_group_mark, third_or_none, group_after, group_of, clock_group, year_first_group, day_month_group, group_rule, large_number, large_in, without_fraction}
-use Rattle.git_date.specs.Rules.Digits.{Stepped, is_epoch, by_clock, epoch_rule, by_date, eight_digits, clock_taken, six_digits, bare_digits, by_rule, unless_large, group_or_bare, number_rule, digits_rule}
-use Rattle.git_date.specs.Rules.Offsets.{without_white, white, padded_after, padded_number, by_minutes, colon_minutes, two_digit_offset, offset_said, SaidOffset, by_offset, offset_rule}
-use Rattle.git_date.specs.Exact.Reading.{read_on, and_then, ended, sign_rule, mark_rule, rule, step, steps}
-use Rattle.git_date.specs.Approximate.Rules.{group_said}
-use Rattle.git_date.specs.Laws.Lines.{is_sign}
+use Rattle.git_date.specs.Rules.Groups.{ReadTokens, number_at, marked_number, is_group_mark, third_or_none, group_of, day_month_group, group_rule, large_number, large_in, without_fraction}
+use Rattle.git_date.specs.Rules.Digits.{Stepped, is_epoch, with_epoch, by_date, bare_digits, unless_large, grouped, group_said, group_or_bare, digits_rule}
+use Rattle.git_date.specs.Rules.Offsets.{without_white, white, padded_after, padded_number, minutes_said, colon_minutes, two_digit_offset, offset_said, with_offset}
+use Rattle.git_date.specs.Exact.Reading.{read_on, ended, sign_rule, rule, step, steps}
+use Rattle.git_date.specs.Rules.Offsets.{is_sign}
 use Rattle.git_date.specs.declared.fields.Fields.{Fields}
 use Rattle.git_date.specs.declared.fields.dates.Now.{Now}
 use Rattle.git_date.specs.declared.fields.dates.Dated.{Dated}
@@ -30,6 +29,7 @@ use Rattle.git_date.specs.declared.fields.offsets.Padded.{Padded}
 use Rattle.git_date.specs.declared.reader.Reading.{Reading}
 use Rattle.git_date.proofs.Text.Walked.{stopped}
 use Rattle.gix_date.specs.Fields.Layout.{LocalTime}
+use Rattle.git_date.specs.Tokens.Steps.{and_then}
 
 -- words that say the same in each rule
 pub record AreWords (a b : List ℕ) : Type 0 where
@@ -89,6 +89,12 @@ pub data Related {A : Type 0} (R : List Token → List Token → Type 0) (P : �
   Same : (said : A) (more rest : List Token) → R more rest → Related R P (Ok (said, more)) (Ok (said, rest))
   Fails : (a b : Fault) → Faults P a b → Related R P (Err a) (Err b)
 
+-- what a group says of them
+pub data Saids (R : List Token → List Token → Type 0) (P : ℕ → ℕ → Type 0) : Result (Option (Fields × List Token)) Fault → Result (Option (Fields × List Token)) Fault → Type 0 where
+  SaysNothing : Saids R P (Ok None) (Ok None)
+  SaysSame : (f : Fields) (more rest : List Token) → R more rest → Saids R P (Ok (Some (f, more))) (Ok (Some (f, rest)))
+  SaysFault : (a b : Fault) → Faults P a b → Saids R P (Err a) (Err b)
+
 -- what is read of them: the same, but for places
 pub data Readings (P : ℕ → ℕ → Type 0) : Reading → Reading → Type 0 where
   SameReading : (f : Fields) (i j : Option ℕ) → Places P i j → Readings P (record { fields = f; ignored = i }) (record { fields = f; ignored = j })
@@ -115,7 +121,7 @@ both-if F false x y p q e f = f
 
 -- groups say the same
 rules-agree : (P : ℕ → ℕ → Type 0) (now : Now) (f : Fields) (g h : Group) → Groups P g h → group_rule now f g ≡ group_rule now f h
-unfolding group_rule clock_group year_first_group day_month_group
+unfolding group_rule day_month_group
 rules-agree P now f g h (OfTwo mark first n m (SameNumber value a b p)) = refl
 rules-agree P now f g h (OfThree mark first n m x y (SameNumber value a b p) (SameNumber third c d q)) = refl
 
@@ -127,10 +133,14 @@ first-place P a b x y NoPlace q = q
 first-place P a b x y (Place left other p) q = Place left other p
 
 large-places : (P : ℕ → ℕ → Type 0) (g h : Group) → Groups P g h → Places P (large_in g) (large_in h)
-unfolding large_in
 large-places P g h (OfTwo mark first n m p) = first-place P (large_number n) (large_number m) None None (number-places P n m p) NoPlace
 large-places P g h (OfThree mark first n m x y p q) =
     first-place P (large_number n) (large_number m) (large_number x) (large_number y) (number-places P n m p) (number-places P x y q)
+
+-- the group that begins with a number, by the mark and the number after it
+abbrev pub group_after : ℕ → ReadTokens (ℕ × Number) → ReadTokens Group
+group_after first next =
+    option_and_then (λ found. cond (is_group_mark found.0.0) (Some (third_or_none found.0.0 first found.0.1 found.1 (marked_number found.1))) None) next
 
 no-group : (first : ℕ) (found : ReadTokens (ℕ × Number)) → is_group_next found ≡ false → group_after first found ≡ None
 no-group first None h = refl
@@ -193,31 +203,31 @@ module _ (R : List Token → List Token → Type 0) (P : ℕ → ℕ → Type 0)
   taken-respects f g h more rest (OfTwo mark first n m p) r = both R (mark == colon && knows_date f) _ _ _ _ (fraction-respects more rest r) r
   taken-respects f g h more rest (OfThree mark first n m x y p q) r = both R (mark == colon && knows_date f) _ _ _ _ (fraction-respects more rest r) r
 
-  by-rule-respects : (left other : ℕ) (g h : Group) (more rest : List Token) (d : Dated) (bare step : Stepped) → P left other → Groups P g h → R more rest
-      → Related R P bare step → Related R P (by_rule left g more d bare) (by_rule other h rest d step)
-  by-rule-respects left other g h more rest (dated.Taken f) bare step p gs r s = Same (Some f) _ _ (taken-respects f g h more rest gs r)
-  by-rule-respects left other g h more rest dated.Refused bare step p gs r s = s
-  by-rule-respects left other g h more rest dated.YearRefused bare step p gs r s = Fails _ _ (Year left other p)
+  unless-respects : (g h : Group) (x y : Result (Option (Fields × List Token)) Fault) → Groups P g h → Saids R P x y → Saids R P (unless_large g x) (unless_large h y)
+  unless-respects g h x y gs s = by (large_in g) (large_in h) (large-places P g h gs)
+    where
+      by : (a b : Option ℕ) → Places P a b
+          → Saids R P (option_map_or (λ left. Err (NumberTooLarge left)) a x) (option_map_or (λ left. Err (NumberTooLarge left)) b y)
+      by a b NoPlace = s
+      by a b (Place left other p) = SaysFault _ _ (TooLarge left other p)
 
-  unless-respects : (a b : Option ℕ) (d : Dated) (x y : Stepped) → Places P a b → Related R P x y → Related R P (unless_large a d x) (unless_large b d y)
-  unless-respects a b d x y NoPlace s = s
-  unless-respects a b (dated.Taken f) x y (Place left other p) s = Fails _ _ (TooLarge left other p)
-  unless-respects a b dated.Refused x y (Place left other p) s = s
-  unless-respects a b dated.YearRefused x y (Place left other p) s = Fails _ _ (TooLarge left other p)
+  grouped-respects : (left other : ℕ) (g h : Group) (more rest : List Token) (d : Dated) → P left other → Groups P g h → R more rest
+      → Saids R P (grouped left g more d) (grouped other h rest d)
+  grouped-respects left other g h more rest (dated.Taken f) p gs r = unless-respects g h _ _ gs (SaysSame f _ _ (taken-respects f g h more rest gs r))
+  grouped-respects left other g h more rest dated.Refused p gs r = SaysNothing
+  grouped-respects left other g h more rest dated.YearRefused p gs r = unless-respects g h _ _ gs (SaysFault _ _ (Year left other p))
 
-  pub grouped-respects : (now : Now) (f : Fields) (left other : ℕ) (a b : ReadTokens Group) (bare step : Stepped) → P left other → ReadGroups R P a b
-      → Related R P bare step → Related R P (group_or_bare now f left a bare) (group_or_bare now f other b step)
-  grouped-respects now f left other a b bare step p NoGroup s = s
-  grouped-respects now f left other a b bare step p (SameGroup g h more rest gs r) s =
-      rw (rules-agree P now f g h gs)
-      (unless-respects (large_in g) (large_in h) (group_rule now f h) _ _ (large-places P g h gs) (by-rule-respects left other g h more rest (group_rule now f h) bare step p gs r s))
+  read-respects : (now : Now) (f : Fields) (left other : ℕ) (a b : ReadTokens Group) → P left other → ReadGroups R P a b
+      → Saids R P (option_map_or (λ found. grouped left found.0 found.1 (group_rule now f found.0)) a (Ok None))
+      (option_map_or (λ found. grouped other found.0 found.1 (group_rule now f found.0)) b (Ok None))
+  read-respects now f left other a b p NoGroup = SaysNothing
+  read-respects now f left other a b p (SameGroup g h more rest gs r) =
+      rw (rules-agree P now f g h gs) (grouped-respects left other g h more rest (group_rule now f h) p gs r)
 
-  -- what the approximate reader takes of digits
   pub group-said-respects : (now : Now) (f : Fields) (run : List ℕ) (more rest : List Token) → P (bytes_left (Digits run ∷ more)) (bytes_left (Digits run ∷ rest))
-      → R more rest → Related R P (group_said now f run more) (group_said now f run rest)
+      → R more rest → Saids R P (group_said now f run more) (group_said now f run rest)
   unfolding group_said
-  group-said-respects now f run more rest p r =
-      grouped-respects now f _ _ _ _ _ _ p (group-respects (number run) more rest r) (Same None more rest r)
+  group-said-respects now f run more rest p r = read-respects now f _ _ _ _ p (group-respects (number run) more rest r)
 
 -- a number after white space
 pub data Paddeds (R : List Token → List Token → Type 0) (P : ℕ → ℕ → Type 0) : ReadTokens Padded → ReadTokens Padded → Type 0 where
@@ -317,7 +327,7 @@ module _ (R : List Token → List Token → Type 0) (P : ℕ → ℕ → Type 0)
   padded-respects before ts us (SameDigits run more rest r p) = SamePadded false (number run) (before + length run) _ _ more rest p r
   padded-respects before ts us (SameMark byte more rest r p) = padded-digits before byte more rest (begin more rest r)
 
-  minutes-respect : (hours : ℕ) (ts us : List Token) (a b : ReadTokens Padded) → R ts us → Paddeds R P a b → Related R P (by_minutes hours ts a) (by_minutes hours us b)
+  minutes-respect : (hours : ℕ) (ts us : List Token) (a b : ReadTokens Padded) → R ts us → Paddeds R P a b → Related R P (option_map_or (minutes_said hours) a (Ok (None, ts))) (option_map_or (minutes_said hours) b (Ok (None, us)))
   minutes-respect hours ts us a b r NoPadded = Same None ts us r
   minutes-respect hours ts us a b r (SamePadded negative value width left other more rest p s) =
       both (Related R P) (is_too_large value) _ _ _ _ (Fails _ _ (TooLarge left other p)) (Same _ more rest s)
@@ -351,9 +361,10 @@ module _ (R : List Token → List Token → Type 0) (P : ℕ → ℕ → Type 0)
       both (Related R P) (is_too_large (number run)) _ _ _ _ (Fails _ _ (TooLarge _ _ p))
       (both-if (Related R P) (length run == 2) _ _ _ _ (λ e. two-respects (number run) more rest r (begin more rest r) (w e)) (Same _ more rest r))
 
-  by-offset-respects : (f : Fields) (behind : Bool) (x y : SaidOffset) → Related R P x y → Related R P (by_offset f behind x) (by_offset f behind y)
-  by-offset-respects f behind x y (Same said more rest r) = Same _ more rest r
-  by-offset-respects f behind x y (Fails a b faults) = Fails a b faults
+  said-by-respects : {A B : Type 0} (f : A → B) (x y : Result (A × List Token) Fault) → Related R P x y
+      → Related R P (and_then x (λ said. Ok (f said.0, said.1))) (and_then y (λ said. Ok (f said.0, said.1)))
+  said-by-respects f x y (Same said more rest r) = Same _ more rest r
+  said-by-respects f x y (Fails a b faults) = Fails a b faults
 
   -- digits
   date-respects : (run : List ℕ) (more rest : List Token) (d : Dated) → R more rest → P (bytes_left (Digits run ∷ more)) (bytes_left (Digits run ∷ rest))
@@ -362,13 +373,14 @@ module _ (R : List Token → List Token → Type 0) (P : ℕ → ℕ → Type 0)
   date-respects run more rest dated.Refused r p = Same _ more rest r
   date-respects run more rest dated.YearRefused r p = Fails _ _ (Year _ _ p)
 
-  clock-respects : (more rest : List Token) (found : Option Fields) → R more rest → Related R P (Ok (clock_taken more found)) (Ok (clock_taken rest found))
+  clock-respects : (more rest : List Token) (found : Option Fields) → R more rest
+      → Related R P (Ok (found, cond (is_some found) (without_fraction more) more)) (Ok (found, cond (is_some found) (without_fraction rest) rest))
   clock-respects more rest None r = Same None more rest r
   clock-respects more rest (Some f) r = Same (Some f) _ _ (fraction-respects R P marked more rest r)
 
   bare-respects : (f : Fields) (run : List ℕ) (more rest : List Token) → R more rest → P (bytes_left (Digits run ∷ more)) (bytes_left (Digits run ∷ rest))
       → Related R P (bare_digits f run more) (bare_digits f run rest)
-  unfolding bare_digits eight_digits six_digits
+  unfolding bare_digits
   bare-respects f run more rest r p =
       let n = number run in
       both (Related R P) (length run == 8) _ _ _ _ (date-respects run more rest (year_date f (n / 10_000) (n / 100 % 100) (n % 100)) r p)
@@ -376,17 +388,24 @@ module _ (R : List Token → List Token → Type 0) (P : ℕ → ℕ → Type 0)
       (both (Related R P) (length run == 4) _ _ _ _ (Same _ more rest r)
       (both (Related R P) (length run == 1 || length run == 2) _ _ _ _ (Same _ more rest r) (Same _ more rest r))))
 
-  epoch-respects : (f : Fields) (more rest : List Token) (shown : Option LocalTime) → R more rest → Related R P (by_clock f more shown) (by_clock f rest shown)
+  epoch-respects : (f : Fields) (more rest : List Token) (shown : Option LocalTime) → R more rest → Related R P (ok_or (option_map (λ shown. (Some (with_epoch f shown), more)) shown) Range) (ok_or (option_map (λ shown. (Some (with_epoch f shown), rest)) shown) Range)
   epoch-respects f more rest None r = Fails _ _ NoInstant
   epoch-respects f more rest (Some shown) r = Same _ more rest r
 
+  group-or-bare-respects : (f : Fields) (run : List ℕ) (more rest : List Token) (x y : Result (Option (Fields × List Token)) Fault) → R more rest
+      → P (bytes_left (Digits run ∷ more)) (bytes_left (Digits run ∷ rest)) → Saids R P x y
+      → Related R P (and_then x (group_or_bare f run more)) (and_then y (group_or_bare f run rest))
+  group-or-bare-respects f run more rest x y r p SaysNothing = bare-respects f run more rest r p
+  group-or-bare-respects f run more rest x y r p (SaysSame g left right q) = Same (Some g) left right q
+  group-or-bare-respects f run more rest x y r p (SaysFault a b faults) = Fails a b faults
+
   digits-respects : (now : Now) (f : Fields) (run : List ℕ) (more rest : List Token) → R more rest → P (bytes_left (Digits run ∷ more)) (bytes_left (Digits run ∷ rest))
       → Related R P (digits_rule now f run more) (digits_rule now f run rest)
-  unfolding digits_rule epoch_rule number_rule
+  unfolding digits_rule
   digits-respects now f run more rest r p =
       both (Related R P) (is_epoch f (number run)) _ _ _ _ (epoch-respects f more rest (utc_clock (number run)) r)
       (both (Related R P) (is_too_large (number run)) _ _ _ _ (Fails _ _ (TooLarge _ _ p))
-      (grouped-respects R P marked now f _ _ _ _ _ _ p (group-respects R P marked (number run) more rest r) (bare-respects f run more rest r p)))
+      (group-or-bare-respects f run more rest _ _ r p (group-said-respects R P marked now f run more rest p r)))
 
 -- one step after the other, where each respects them
 module _ {S : Type 0} (E : S → S → Type 0) (R : List Token → List Token → Type 0) (P : ℕ → ℕ → Type 0)
@@ -423,18 +442,18 @@ module _ (Q R : List Token → List Token → Type 0) (P : ℕ → ℕ → Type 
 
   sign-respects : (f : Fields) (behind : Bool) (sign : ℕ) (ts us : List Token) → Q (Mark sign ∷ ts) (Mark sign ∷ us) → is_sign sign ≡ true → R ts us → Begin R P ts us
       → Related R P (sign_rule f behind ts) (sign_rule f behind us)
-  unfolding sign_rule offset_rule
+  unfolding sign_rule
   sign-respects f behind sign ts us q s r NoMore = Same _ [] [] r
   sign-respects f behind sign ts us q s r (LineNext more) = Same _ [] (Mark newline ∷ more) r
   sign-respects f behind sign ts us q s r (SameWords a b more rest w x p) = Same _ _ _ r
   sign-respects f behind sign ts us q s r (SameMark byte more rest x p) = Same _ _ _ r
   sign-respects f behind sign ts us q s r (SameDigits run more rest x p) =
-      ended-respects R P begin _ _ (by-offset-respects R P begin f behind (offset_said run more) (offset_said run rest)
+      ended-respects R P begin _ _ (said-by-respects R P begin (option_map (with_offset f behind)) (offset_said run more) (offset_said run rest)
       (said-respects R P begin run more rest x p (has-whites sign run more rest q s (begin more rest x))))
 
-  mark-respects : (f : Fields) (byte : ℕ) (more rest : List Token) → Q (Mark byte ∷ more) (Mark byte ∷ rest) → R more rest
-      → Related R P (mark_rule f byte more) (mark_rule f byte rest)
-  mark-respects f byte more rest q r =
+  mark-respects : (now : Now) (f : Fields) (byte : ℕ) (more rest : List Token) → Q (Mark byte ∷ more) (Mark byte ∷ rest) → R more rest
+      → Related R P (rule now f (Mark byte) more) (rule now f (Mark byte) rest)
+  mark-respects now f byte more rest q r =
       both-if (Related R P) (byte == plus) _ _ _ _
       (λ e. sign-respects f false byte more rest q (or-left (byte == plus) (byte == minus) e) r (begin more rest r))
       (both-if (Related R P) (byte == minus) _ _ _ _
@@ -445,17 +464,17 @@ module _ (Q R : List Token → List Token → Type 0) (P : ℕ → ℕ → Type 
   rule-begun now f t u more rest q (SameWords a b left right w r p) =
       rw (letters-respects R P begin f a b left right w (begin left right r)) (Same _ left right r)
   rule-begun now f t u more rest q (SameDigits run left right r p) = ended-respects R P begin _ _ (digits-respects R P begin now f run left right r p)
-  rule-begun now f t u more rest q (SameMark byte left right r p) = mark-respects f byte left right q r
+  rule-begun now f t u more rest q (SameMark byte left right r p) = mark-respects now f byte left right q r
 
   pub rule-respects : (now : Now) (f : Fields) (t u : Token) (more rest : List Token) → Q (t ∷ more) (u ∷ rest) → Related R P (rule now f t more) (rule now f u rest)
   rule-respects now f t u more rest q = rule-begun now f t u more rest q (k.begin (t ∷ more) (u ∷ rest) q)
 
   -- a mark that says nothing is not ignored, unless it is a sign
-  unused-mark : (f : Fields) (byte : ℕ) (more rest : List Token) (plus_sign minus_sign : Bool) → (byte == plus) ≡ plus_sign → (byte == minus) ≡ minus_sign
-      → mark_rule f byte more ≡ Ok (None, rest) → byte < 128
-  unused-mark f byte more rest true m e d h = grind (arith, nat_tests)
-  unused-mark f byte more rest false true e d h = grind (arith, nat_tests)
-  unused-mark f byte more rest false false e d h =
+  unused-mark : (now : Now) (f : Fields) (byte : ℕ) (more rest : List Token) (plus_sign minus_sign : Bool) → (byte == plus) ≡ plus_sign → (byte == minus) ≡ minus_sign
+      → rule now f (Mark byte) more ≡ Ok (None, rest) → byte < 128
+  unused-mark now f byte more rest true m e d h = grind (arith, nat_tests)
+  unused-mark now f byte more rest false true e d h = grind (arith, nat_tests)
+  unused-mark now f byte more rest false false e d h =
       let two = λ (b : Bool). cond b (sign_rule f true more) (Ok (Some f, more)) in
       let three = λ (b : Bool). cond b (sign_rule f false more) (two (byte == minus)) in
       let plain : true ≡ false = ap uses (sym (ap two d) ∙ sym (ap three e) ∙ h) in
@@ -466,7 +485,7 @@ module _ (Q R : List Token → List Token → Type 0) (P : ℕ → ℕ → Type 
       → P (bytes_left (t ∷ more)) (bytes_left (u ∷ rest))
   unused-place now f t u more rest last (SameWords a b left right w r p) h = p
   unused-place now f t u more rest last (SameDigits run left right r p) h = p
-  unused-place now f t u more rest last (SameMark byte left right r p) h = p (unused-mark f byte left last (byte == plus) (byte == minus) refl refl h)
+  unused-place now f t u more rest last (SameMark byte left right r p) h = p (unused-mark now f byte left last (byte == plus) (byte == minus) refl refl h)
 
   read-on-respects : (r s : Reading) (left other : ℕ) (said : Option Fields) → Readings P r s → (said ≡ None → P left other)
       → Readings P (read_on r left said) (read_on s other said)

@@ -5,7 +5,7 @@ use Rattle.git_date.specs.Approximate.Reading as approximate
 use Rattle.git_date.specs.Approximate.Zones.{Choices}
 use Rattle.git_date.specs.Tokens.Tokens.{Token, tokens, bytes_left, texts, is_end, walked}
 use Rattle.git_date.specs.Rules.Digits.{Stepped}
-use Rattle.git_date.specs.Exact.Reading.{read_on, and_then, rule}
+use Rattle.git_date.specs.Exact.Reading.{read_on, rule}
 use Rattle.git_date.specs.Exact.Reading as exact
 use Rattle.git_date.specs.declared.approximate.answer.Today.{Today}
 use Rattle.git_date.specs.declared.approximate.drafts.Draft.{Draft}
@@ -15,6 +15,7 @@ use Rattle.git_date.specs.declared.fields.Fields.{Fields}
 use Rattle.git_date.specs.declared.reader.Reading.{Reading}
 use Rattle.git_date.proofs.Text.TokenRuns.{texts_are}
 use Rattle.git_date.proofs.Text.Walked.{Go, Step, nothing-left}
+use Rattle.git_date.specs.Tokens.Steps.{and_then}
 
 -- what stands in `rest`, read after this, gives what the whole text does; there are steps enough
 pub record Left {S : Type 0} (step : Step S) (whole : Result S Fault) (rest : List ℕ) (s : S) : Type 0 where

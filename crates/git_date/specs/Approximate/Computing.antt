@@ -2,9 +2,8 @@
 use Rattle.git_date.specs.Tokens.Tokens.{walked}
 use Rattle.git_date.specs.Approximate.Reading.{draft_of, string_guess, guess}
 use Rattle.git_date.specs.Approximate.Clocks.{shown_at, first_second, filled_seconds}
-use Rattle.git_date.specs.Approximate.Drafts.{lone_year, with_number, settle, dropped, half, at_month, less_months}
-use Rattle.git_date.specs.Approximate.Expiry.{fixed_expiry}
-use Rattle.git_date.specs.Approximate.Rules.{hour_rule, back_rule, months_rule, meaning_rule, letters_rule, is_padded, number_waits, group_said, digits_rule}
+use Rattle.git_date.specs.Approximate.Drafts.{settle}
+use Rattle.git_date.specs.Approximate.Rules.{meaning_rule, letters_rule, digits_rule}
 use Rattle.git_date.specs.Approximate.Words.{moment_named, count_named, unit_named, meaning_of}
 use Rattle.gix_date.specs.Text.LongNames.{weekday_told}
 use Rattle.git_date.specs.Approximate.Zones.{shown_in, filled_time, moved_to, fill}
@@ -12,5 +11,5 @@ use Rattle.git_date.specs.Approximate.Zones.{shown_in, filled_time, moved_to, fi
 -- for proofs about literal texts: `unfolding computing approximating` below a signature lets `guess` compute, for a
 -- written-out text, a zone of one offset and a moment in numerals
 unfoldable pub approximating : Type 0
-unfolding walked draft_of string_guess guess shown_at first_second filled_seconds lone_year with_number settle dropped half at_month less_months fixed_expiry hour_rule back_rule months_rule meaning_rule letters_rule is_padded number_waits group_said digits_rule moment_named count_named unit_named weekday_told meaning_of shown_in filled_time moved_to fill
+unfolding walked draft_of string_guess guess shown_at first_second filled_seconds settle meaning_rule letters_rule digits_rule moment_named count_named unit_named weekday_told meaning_of shown_in filled_time moved_to fill
 approximating = Unit {0}

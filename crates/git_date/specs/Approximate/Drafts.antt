@@ -1,5 +1,6 @@
 -- What an approximate text says so far, and its number that waits for a word to say what it counts.
 use Rattle.std.specs.Prelude.{ℕ, ◌+◌, ◌-◌, ◌*◌, ◌/◌, ◌%◌, Bool, false, ◌&&◌, max, min, nat_le, nat_lt, if◌then◌else◌, Option, Some, None, is_none, option_map}
+use Rattle.std.specs.Option.{option_map_or}
 use Rattle.gix_date.specs.Fields.ClockNumbers.{seconds_per_day}
 use Rattle.gix_date.specs.Text.Front.{◌>>=◌}
 use Rattle.git_date.specs.Rules.Dates.{first_year, last_year}
@@ -52,45 +53,33 @@ abbrev pub ignore : Draft → ℕ → Draft
 ignore d left = record d { ignored = Some (earlier left d.ignored) }
 
 -- the year that a number says alone: one that Git knows, one of the 1900s from 70, or one of the 2000s below 38
-unfoldable pub lone_year : ℕ → Option ℕ
+abbrev pub lone_year : ℕ → Option ℕ
 lone_year n =
     if nat_le first_year n && nat_le n last_year then Some n
     else (if nat_le 70 n && nat_le n 99 then Some (1900 + n) else (if nat_lt n 38 then Some (2000 + n) else None))
 
-abbrev pub with_year : Fields → ℕ → Option Fields
-with_year f n = option_map (λ year. record f { year = Some year }) (lone_year n)
-
 -- the field that a number says alone: the day, or else the month, or else the year, the first that it can be and that is
 -- unknown
-unfoldable pub with_number : Fields → ℕ → Option Fields
+abbrev pub with_number : Fields → ℕ → Option Fields
 with_number f n =
     if nat_lt n 32 && is_none f.day then Some (record f { day = Some n })
     else (if nat_lt n 13 && is_none f.month then Some (record f { month = Some n })
-    else (if is_none f.year then with_year f n else None))
+    else (if is_none f.year then option_map (λ year. record f { year = Some year }) (lone_year n) else None))
 
 -- no number waits
 abbrev pub without_number : Draft → Draft
 without_number d = record d { waiting = None }
 
-abbrev pub settled_by : Draft → ℕ → Option Fields → Draft
-settled_by d left (Some f) = record d { fields = f; waiting = None }
-settled_by d left None = ignore (without_number d) left
-
-abbrev pub settle_number : Draft → Option Number → Draft
-settle_number d (Some n) = settled_by d n.left (with_number d.fields n.value)
-settle_number d None = d
+abbrev pub settle_number : Draft → Number → Draft
+settle_number d n = option_map_or (λ f. record d { fields = f }) (with_number d.fields n.value) (ignore d n.left)
 
 -- the number that waits says a field, or is ignored
 unfoldable pub settle : Draft → Draft
-settle d = settle_number d d.waiting
-
-abbrev pub drop_number : Draft → Option Number → Draft
-drop_number d (Some n) = ignore (without_number d) n.left
-drop_number d None = d
+settle d = option_map_or (settle_number (without_number d)) d.waiting d
 
 -- the number that waits is ignored
-unfoldable pub dropped : Draft → Draft
-dropped d = drop_number d d.waiting
+abbrev pub dropped : Draft → Draft
+dropped d = option_map_or (λ n. ignore (without_number d) n.left) d.waiting d
 
 -- a whole hour
 abbrev pub with_hour : Draft → ℕ → Draft
@@ -101,14 +90,13 @@ abbrev pub is_before : Option ℕ → ℕ → Bool
 is_before (Some shown) hour = nat_lt shown hour
 is_before None hour = false
 
--- An hour of the half of a day that begins with hour 0 or 12: the number that waits is the hour, or else the hour is the
--- clock's.
-abbrev pub half_by : Draft → ℕ → Option Number → Draft
-half_by d first (Some n) = with_hour (without_number d) (n.value % 12 + first)
-half_by d first None = record d { fields = record d.fields { hour = option_map (λ hour. hour % 12 + first) d.fields.hour } }
+-- the hour of a clock in the half of a day that begins with hour 0 or 12
+abbrev pub with_half : Draft → ℕ → Draft
+with_half d first = record d { fields = record d.fields { hour = option_map (λ hour. hour % 12 + first) d.fields.hour } }
 
-unfoldable pub half : Draft → ℕ → Draft
-half d first = half_by d first d.waiting
+-- an hour of such a half: the number that waits, or else the clock's
+abbrev pub half : Draft → ℕ → Draft
+half d first = option_map_or (λ n. with_hour (without_number d) (n.value % 12 + first)) d.waiting (with_half d first)
 
 -- so many units of so much, or else the greatest number that is told from others
 abbrev pub units : ℕ → ℕ → ℕ
@@ -122,15 +110,12 @@ days_back weekday named = (weekday + 6 - named) % 7 + 1
 abbrev pub weekday_seconds : ℕ → ℕ → ℕ → ℕ
 weekday_seconds weekday named n = min (units (n - 1) (7 * seconds_per_day) + seconds_per_day * days_back weekday named) max_number
 
--- a month by how many months come before it from the year 0 on, in the years from 1900 to 9999
-unfoldable pub at_month : Fields → ℕ → Option Fields
-at_month f months =
-    if nat_le 1900 (months / 12) && nat_le (months / 12) 9999
-    then Some (record f { year = Some (months / 12); month = Some (months % 12 + 1) }) else None
-
--- the month so many months earlier; the day stays
-unfoldable pub less_months : Fields → ℕ → Option Fields
+-- The month so many months earlier, told by how many months come before it from the year 0 on. It is in the years from 1900 to
+-- 9999, and the day stays.
+abbrev pub less_months : Fields → ℕ → Option Fields
 less_months f months = do
   year ← f.year
   month ← f.month
-  at_month f (12 * year + (month - 1) - months)
+  let before = 12 * year + (month - 1) - months in
+      if nat_le 1900 (before / 12) && nat_le (before / 12) 9999
+      then Some (record f { year = Some (before / 12); month = Some (before % 12 + 1) }) else None

@@ -11,7 +11,7 @@ use Rattle.git_date.specs.declared.error.DateError.{DateError}
 use Rattle.git_date.specs.declared.error.DateError.TheVariants.{Unreadable}
 
 -- the words that are no dates here, in small letters alone
-unfoldable pub fixed_expiry : List ℕ → Option Expiry
+abbrev pub fixed_expiry : List ℕ → Option Expiry
 fixed_expiry text =
     if bytes_eq text (codes "never") || bytes_eq text (codes "false") then Some Never
     else (if bytes_eq text (codes "all") || bytes_eq text (codes "now") then Some All else None)

@@ -11,7 +11,8 @@ use Rattle.git_date.specs.Approximate.Rules.{letters_rule, digits_rule}
 use Rattle.git_date.specs.Approximate.Zones.{Choices, choices_of, shown_in, filled_time}
 use Rattle.git_date.specs.Rules.Dates.{now_of}
 use Rattle.git_date.specs.Exact.Outcome.{read_at, IsPlaceIn, IsErrorIn}
-use Rattle.git_date.specs.Exact.Reading.{and_then, place_in, error_of, ended}
+use Rattle.git_date.specs.Exact.Reading.{place_in, error_of, ended}
+use Rattle.git_date.specs.Tokens.Steps.{and_then}
 use Rattle.git_date.specs.Tokens.Strings.{nul_place, before_nul}
 use Rattle.git_date.specs.Tokens.Tokens.{Token, Letters, Digits, Mark, tokens, walked}
 use Rattle.git_date.specs.declared.approximate.answer.Approximate.{Approximate}
@@ -28,13 +29,9 @@ use Rattle.gix_date.specs.Fields.Layout.{LocalTime}
 abbrev pub Read : Type 0
 Read = Result (Draft × List Token) Fault
 
-abbrev pub with_rest : List Token → Result Draft Fault → Read
-with_rest more (Ok d) = Ok (d, more)
-with_rest more (Err e) = Err e
-
 -- the rule of a token: marks say nothing
 abbrev pub rule : Choices → Today → Draft → Token → List Token → Read
-rule zone today d (Letters run) more = with_rest more (letters_rule zone today.shown d run more)
+rule zone today d (Letters run) more = and_then (letters_rule zone today.shown d run more) (λ next. Ok (next, more))
 rule zone today d (Digits run) more = ended (digits_rule today.now d run more)
 rule zone today d (Mark byte) more = Ok (d, more)
 

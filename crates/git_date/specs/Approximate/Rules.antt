@@ -1,12 +1,12 @@
 -- The rules of the approximate reader: what digits and words make of a draft.
-use Rattle.std.specs.Prelude.{ℕ, Bool, true, false, ◌||◌, List, ◌∷◌, pos, ◌==◌, if◌then◌else◌, Option, Some, None, Result, Ok, Err}
+use Rattle.std.specs.Prelude.{ℕ, Bool, true, false, ◌||◌, List, ◌∷◌, pos, ◌==◌, if◌then◌else◌, Option, Some, None, Result, Ok, Err, ok_or}
 use Rattle.gix_date.specs.Fields.ClockNumbers.{seconds_per_day}
 use Rattle.gix_date.specs.Text.Characters.{digit_zero}
 use Rattle.git_date.specs.Approximate.Drafts.{ignore, settle, dropped, without_number, with_hour, is_before, half, units, weekday_seconds, less_months}
 use Rattle.git_date.specs.Approximate.Words.{meaning_of}
 use Rattle.git_date.specs.Approximate.Zones.{Choices, fill, moved_to}
-use Rattle.git_date.specs.Rules.Digits.{Stepped, group_or_bare}
-use Rattle.git_date.specs.Rules.Groups.{group_of}
+use Rattle.git_date.specs.Rules.Digits.{group_said}
+use Rattle.git_date.specs.Tokens.Steps.{◌>>=◌}
 use Rattle.git_date.specs.Tokens.Numbers.{number, is_too_large}
 use Rattle.git_date.specs.Tokens.Tokens.{Token, Letters, Digits, bytes_left}
 use Rattle.git_date.specs.Rules.Words.{is_filler}
@@ -32,30 +32,21 @@ used (Ok d) = Ok (Some d)
 used (Err e) = Err e
 
 -- `midnight`, `noon`, `tea`: where the clock is before that hour, the day before
-abbrev pub at_hour : ℕ → Result Draft Fault → Result Draft Fault
-at_hour hour (Ok d) = Ok (with_hour d hour)
-at_hour hour (Err e) = Err e
-
-unfoldable pub hour_rule : Choices → LocalTime → Draft → ℕ → ℕ → Result Draft Fault
-hour_rule zone today d hour left =
-    if is_before (settle d).fields.hour hour then at_hour hour (fill zone today (settle d) seconds_per_day left)
-    else Ok (with_hour (settle d) hour)
+abbrev pub hour_rule : Choices → LocalTime → Draft → ℕ → ℕ → Result Draft Fault
+hour_rule zone today d hour left = do
+  day ← if is_before (settle d).fields.hour hour then fill zone today (settle d) seconds_per_day left else Ok (settle d)
+  Ok (with_hour day hour)
 
 -- a number of seconds back: Git has no more than 32 bits for them
-unfoldable pub back_rule : Choices → LocalTime → Draft → ℕ → Number → Result Draft Fault
+abbrev pub back_rule : Choices → LocalTime → Draft → ℕ → Number → Result Draft Fault
 back_rule zone today d back n = if is_too_large back then Err (BackTooFar n.left) else fill zone today d back n.left
 
-abbrev pub month_taken : Draft → ℕ → Option Fields → Result Draft Fault
-month_taken d left (Some f) = Ok (record d { fields = f })
-month_taken d left None = Err (BackTooFar left)
-
-abbrev pub less_by : ℕ → ℕ → Result Draft Fault → Result Draft Fault
-less_by months left (Ok d) = month_taken d left (less_months d.fields months)
-less_by months left (Err e) = Err e
-
 -- a number of months back: the date is filled in first
-unfoldable pub months_rule : Choices → LocalTime → Draft → ℕ → Number → Result Draft Fault
-months_rule zone today d months n = less_by months n.left (fill zone today d 0 n.left)
+abbrev pub months_rule : Choices → LocalTime → Draft → ℕ → Number → Result Draft Fault
+months_rule zone today d months n = do
+  filled ← fill zone today d 0 n.left
+  fields ← ok_or (less_months filled.fields months) (BackTooFar n.left)
+  Ok (record filled { fields = fields })
 
 -- what a number counts
 abbrev pub unit_rule : Choices → LocalTime → Draft → Unit → Number → Result Draft Fault
@@ -112,29 +103,24 @@ letters_rule zone today d run more =
     else read_word d run left (word_by zone today d left (meaning_of run))
 
 -- three digits or more that begin with 0
-unfoldable pub is_padded : List ℕ → Bool
+abbrev pub is_padded : List ℕ → Bool
 is_padded (a ∷ b ∷ c ∷ run) = a == digit_zero
 is_padded run = false
 
 -- a number waits, unless it is 0 or padded
-unfoldable pub number_waits : Draft → List ℕ → ℕ → Draft
+abbrev pub number_waits : Draft → List ℕ → ℕ → Draft
 number_waits d run left =
     if number run == 0 || is_padded run then ignore d left
     else record d { waiting = Some (record { value = number run; left = left }) }
 
--- the group that begins here, if it is taken
-unfoldable pub group_said : Now → Fields → List ℕ → List Token → Stepped
-group_said now f run more = group_or_bare now f (bytes_left (Digits run ∷ more)) (group_of (number run) more) (Ok (None, more))
-
-abbrev pub group_or_number : Draft → List ℕ → ℕ → Stepped → Result (Draft × List Token) Fault
-group_or_number d run left (Ok (Some next, more)) = Ok (record d { fields = next }, more)
-group_or_number d run left (Ok (None, more)) = Ok (number_waits d run left, more)
-group_or_number d run left (Err e) = Err e
+-- what a group said, or else a number that waits
+abbrev pub group_or_number : Draft → List ℕ → List Token → Option (Fields × List Token) → Draft × List Token
+group_or_number d run more (Some found) = (record d { fields = found.0 }, found.1)
+group_or_number d run more None = (number_waits d run (bytes_left (Digits run ∷ more)), more)
 
 -- digits: the number that waited is settled; then a group is taken, or this number waits
 unfoldable pub digits_rule : Now → Draft → List ℕ → List Token → Result (Draft × List Token) Fault
 digits_rule now d run more =
-    let left = bytes_left (Digits run ∷ more) in
     let ready = understood (settle d) in
-    if is_too_large (number run) then Err (NumberTooLarge left)
-    else group_or_number ready run left (group_said now ready.fields run more)
+    if is_too_large (number run) then Err (NumberTooLarge (bytes_left (Digits run ∷ more)))
+    else (group_said now ready.fields run more >>= λ said. Ok (group_or_number ready run more said))

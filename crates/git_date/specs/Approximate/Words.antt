@@ -1,6 +1,7 @@
 -- What words say to the approximate reader.
-use Rattle.std.specs.Prelude.{ℕ, ◌+◌, ◌*◌, Bool, ◌&&◌, ◌||◌, List, [], ◌∷◌, length, ◌==◌, codes, if◌then◌else◌, Option, Some, None, option_map}
-use Rattle.std.specs.List.{position}
+use Rattle.std.specs.Prelude.{ℕ, ◌+◌, ◌*◌, Bool, ◌&&◌, ◌||◌, List, [], ◌∷◌, length, ◌==◌, codes, if◌then◌else◌, Option, Some, option_map}
+use Rattle.std.specs.List.{position, find}
+use Rattle.std.specs.Option.{option_or}
 use Rattle.gix_date.specs.Fields.ClockNumbers.{seconds_per_minute, seconds_per_hour, seconds_per_day}
 use Rattle.gix_date.specs.Text.Names.{is_name, named_in, number_names}
 use Rattle.gix_date.specs.Text.LongNames.{begins, month_told, weekday_told}
@@ -28,11 +29,6 @@ count_named word =
 abbrev pub is_unit : List ℕ → List ℕ → Bool
 is_unit word name = is_name word name || (length word + 1 == length name && begins word name)
 
--- what stands in a table beside the first unit that a word names
-abbrev pub unit_in : List (List ℕ × Unit) → List ℕ → Option Unit
-unit_in [] word = None
-unit_in ((name, said) ∷ rows) word = if is_unit word name then Some said else unit_in rows word
-
 abbrev pub unit_names : List (List ℕ × Unit)
 unit_names =
     (codes "seconds", Seconds 1) ∷ (codes "minutes", Seconds seconds_per_minute) ∷ (codes "hours", Seconds seconds_per_hour)
@@ -40,26 +36,11 @@ unit_names =
     ∷ (codes "years", Months 12) ∷ []
 
 unfoldable pub unit_named : List ℕ → Option Unit
-unit_named word = unit_in unit_names word
-
-abbrev pub count_or : Option ℕ → Option Meaning → Option Meaning
-count_or (Some n) other = Some (Count n)
-count_or None other = other
-
-abbrev pub weekday_or : Option ℕ → Option Meaning → Option Meaning
-weekday_or (Some day) other = Some (meaning.Unit (Weekday day))
-weekday_or None other = other
-
-abbrev pub month_or : Option ℕ → Option Meaning → Option Meaning
-month_or (Some month) other = Some (Month month)
-month_or None other = other
-
-abbrev pub meaning_or : Option Meaning → Option Meaning → Option Meaning
-meaning_or (Some meaning) other = Some meaning
-meaning_or None other = other
+unit_named word = option_map (λ row. row.1) (find (λ row. is_unit word row.0) unit_names)
 
 -- what a word says, if it is known; no word is in two of these tables
 unfoldable pub meaning_of : List ℕ → Option Meaning
 meaning_of word =
-    let counted = count_or (count_named word) (weekday_or (weekday_told word) (option_map meaning.Unit (unit_named word))) in
-    month_or (month_told word) (meaning_or (moment_named word) counted)
+    let weekday_or_unit = option_or (option_map (λ day. meaning.Unit (Weekday day)) (weekday_told word)) (option_map meaning.Unit (unit_named word)) in
+    let counted = option_or (option_map Count (count_named word)) weekday_or_unit in
+    option_or (option_map Month (month_told word)) (option_or (moment_named word) counted)

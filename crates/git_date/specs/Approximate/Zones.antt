@@ -1,12 +1,12 @@
 -- What a zone's clock shows, which instants it chooses, and how dates are filled in from there.
-use Rattle.std.specs.Prelude.{ℕ, ℤ, pos, ◌+ℤ◌, ◌-ℤ◌, if◌then◌else◌, Option, Some, None, option_map, Result, Ok, Err}
+use Rattle.std.specs.Prelude.{ℕ, ℤ, pos, ◌+ℤ◌, ◌-ℤ◌, if◌then◌else◌, Option, Some, None, option_map, option_and_then, ok_or, Result}
 use Rattle.jiff.specs.Types.{TimeZone}
 use Rattle.jiff.specs.Words.{offset_at, nanos_of_seconds}
-use Rattle.gix_date.specs.Text.Front.{◌>>=◌}
 use Rattle.gix_date.specs.Fields.Zoned.{is_instant}
 use Rattle.gix_date.specs.declared.time.Time.{Time}
 use Rattle.git_date.specs.Approximate.Clocks.{shown_at, filled_seconds}
 use Rattle.git_date.specs.Approximate.Drafts.{with_shown}
+use Rattle.git_date.specs.Tokens.Steps.{◌>>=◌}
 use Rattle.git_date.specs.Exact.Zones.{ZoneOffsets, offsets_of, local_offset}
 use Rattle.git_date.specs.declared.approximate.drafts.Draft.{Draft}
 use Rattle.git_date.specs.declared.fault.Fault.{Fault}
@@ -58,20 +58,14 @@ shown_in zone instant =
 
 -- the time at which the zone's clock shows these fields, with a preferred offset
 unfoldable pub filled_time : Choices → LocalTime → ℤ → Fields → Option Time
-filled_time zone today preferred f = filled_seconds today f >>= zone.picks preferred
-
-abbrev pub moved_by : Draft → ℕ → Option LocalTime → Result Draft Fault
-moved_by d left (Some shown) = Ok (with_shown d shown)
-moved_by d left None = Err (BackTooFar left)
+filled_time zone today preferred f = option_and_then (zone.picks preferred) (filled_seconds today f)
 
 -- the fields become the zone's clock at an instant; Git knows no year before 1900
 unfoldable pub moved_to : Choices → Draft → ℕ → ℤ → Result Draft Fault
-moved_to zone d left instant = moved_by d left (shown_in zone instant)
-
-abbrev pub fill_by : Choices → Draft → ℕ → ℕ → Option Time → Result Draft Fault
-fill_by zone d back left (Some time) = moved_to zone d left (time.seconds -ℤ pos back)
-fill_by zone d back left None = Err Range
+moved_to zone d left instant = ok_or (option_map (with_shown d) (shown_in zone instant)) (BackTooFar left)
 
 -- Filled in, and so many seconds back: the fields become the zone's clock so many seconds before it shows them.
 unfoldable pub fill : Choices → LocalTime → Draft → ℕ → ℕ → Result Draft Fault
-fill zone today d back left = fill_by zone d back left (filled_time zone today d.last.offset d.fields)
+fill zone today d back left = do
+  time ← ok_or (filled_time zone today d.last.offset d.fields) Range
+  moved_to zone d left (time.seconds -ℤ pos back)

@@ -3,6 +3,7 @@ use Rattle.std.specs.Prelude.{ℕ, ◌-◌, Bool, true, false, List, ◌∷◌, 
 use Rattle.std.specs.Option.{option_or}
 use Rattle.gix_date.specs.Text.Characters.{plus, minus}
 use Rattle.gix_date.specs.Fields.Zoned.{is_instant}
+use Rattle.git_date.specs.Tokens.Steps.{and_then}
 use Rattle.git_date.specs.Tokens.Strings.{nul_place, before_nul}
 use Rattle.git_date.specs.Tokens.Tokens.{Token, Letters, Digits, Mark, tokens, bytes_left, is_end, walked}
 use Rattle.git_date.specs.Rules.Fields.{unknown}
@@ -21,24 +22,20 @@ use Rattle.git_date.specs.declared.error.DateError.TheVariants.{Unreadable, Numb
 
 -- what follows a number is read without its ending
 abbrev pub ended : {A : Type 0} → Result (A × List Token) Fault → Result (A × List Token) Fault
-ended (Ok found) = Ok (found.0, without_ending found.1)
-ended (Err e) = Err e
+ended step = and_then step (λ found. Ok (found.0, without_ending found.1))
 
 -- a sign, directly before digits or not
 unfoldable pub sign_rule : Fields → Bool → List Token → Stepped
 sign_rule f behind (Digits run ∷ more) = ended (offset_rule f behind run more)
 sign_rule f behind more = Ok (Some f, more)
 
-abbrev pub mark_rule : Fields → ℕ → List Token → Stepped
-mark_rule f byte more =
-    if byte == plus then sign_rule f false more
-    else (if byte == minus then sign_rule f true more else Ok (Some f, more))
-
 -- the rule of a token, which takes of the next what it needs
 abbrev pub rule : Now → Fields → Token → List Token → Stepped
 rule now f (Letters run) more = Ok (letters_rule f run more, more)
 rule now f (Digits run) more = ended (digits_rule now f run more)
-rule now f (Mark byte) more = mark_rule f byte more
+rule now f (Mark byte) more =
+    if byte == plus then sign_rule f false more
+    else (if byte == minus then sign_rule f true more else Ok (Some f, more))
 
 -- before the first token
 abbrev pub nothing_read : Reading
@@ -48,11 +45,6 @@ nothing_read = record { fields = unknown; ignored = None }
 abbrev pub read_on : Reading → ℕ → Option Fields → Reading
 read_on r left (Some next) = record r { fields = next }
 read_on r left None = record r { ignored = option_or r.ignored (Some left) }
-
--- to go on after a step
-abbrev pub and_then : {A B : Type 0} → Result A Fault → (A → Result B Fault) → Result B Fault
-and_then (Ok found) next = next found
-and_then (Err e) next = Err e
 
 -- one step: a line feed that no rule takes ends the reading
 abbrev pub step : Now → Reading → Token → List Token → (Reading → List Token → Result Reading Fault) → Result Reading Fault

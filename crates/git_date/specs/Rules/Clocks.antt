@@ -1,5 +1,6 @@
 -- What the clock of UTC shows.
 use Rattle.std.specs.Prelude.{ℕ, ℤ, neg_ℤ, negsuc, pos, if◌then◌else◌, Option, Some, None}
+use Rattle.std.specs.Option.{option_map_or}
 use Rattle.gix_date.specs.Families.Epoch.{utc_time}
 use Rattle.gix_date.specs.Fields.Layout.{LocalTime}
 use Rattle.gix_date.specs.Fields.Zoned.{is_instant}
@@ -13,11 +14,7 @@ first_of_year_1900 = neg_ℤ (pos 2_208_988_800)
 unfoldable pub utc_clock : ℕ → Option LocalTime
 utc_clock n = if is_instant (pos n) then Some (clock_of (utc_time (pos n))) else None
 
-abbrev pub year_of : Option LocalTime → ℕ
-year_of (Some shown) = shown.date.year
-year_of None = 0
-
 -- the year of some seconds by the clock of UTC, or 0 before 1970
-unfoldable pub utc_year : ℤ → ℕ
-utc_year (pos n) = year_of (utc_clock n)
+abbrev pub utc_year : ℤ → ℕ
+utc_year (pos n) = option_map_or (λ shown. shown.date.year) (utc_clock n) 0
 utc_year (negsuc n) = 0

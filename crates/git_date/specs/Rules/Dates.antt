@@ -1,5 +1,6 @@
 -- Dates: their years, the seconds that fields come to, and dates of three numbers or of two.
 use Rattle.std.specs.Prelude.{ℕ, ◌+◌, ◌-◌, ◌*◌, ◌^◌, Bool, false, ◌&&◌, ℤ, pos, negsuc, neg_ℤ, ◌+ℤ◌, ◌-ℤ◌, ◌*ℤ◌, nat_le, nat_lt, if◌then◌else◌, Option, Some, None}
+use Rattle.std.specs.Option.{option_map_or}
 use Rattle.std.specs.Int.Signed.{lt_z}
 use Rattle.jiff.specs.Words.{zoned_nanos}
 use Rattle.jiff.specs.declared.zoned.Zoned.{Zoned}
@@ -94,14 +95,9 @@ now_of moment = now_at (zoned_nanos moment)
 abbrev pub ten_days : ℤ
 ten_days = pos 864_000
 
--- more than ten days after now
-abbrev pub is_after : Now → Option ℤ → Bool
-is_after now (Some seconds) = lt_z now.seconds (seconds -ℤ ten_days)
-is_after now None = false
-
 -- The date is ahead: more than ten days after now, with the clock that was read before it. Without a clock it is not.
-unfoldable pub is_ahead : Now → Fields → Bool
-is_ahead now f = is_after now (exact_seconds f)
+abbrev pub is_ahead : Now → Fields → Bool
+is_ahead now f = option_map_or (λ seconds. lt_z now.seconds (seconds -ℤ ten_days)) (exact_seconds f) false
 
 -- a date that is not ahead
 abbrev pub unless_ahead : Now → Fields → Option Fields → Option Fields

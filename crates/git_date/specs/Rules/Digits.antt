@@ -1,11 +1,13 @@
 -- What digits say: an epoch, a group, or by their width a date, a clock, an offset, a year, a day or a month.
-use Rattle.std.specs.Prelude.{ℕ, ◌+◌, ◌*◌, ◌/◌, ◌%◌, Bool, ◌&&◌, ◌||◌, List, ◌∷◌, length, pos, true, ◌==◌, nat_le, nat_lt, if◌then◌else◌, Option, Some, None, Result, Ok, Err, is_some, is_none}
+use Rattle.std.specs.Prelude.{ℕ, ◌+◌, ◌*◌, ◌/◌, ◌%◌, Bool, ◌&&◌, ◌||◌, List, ◌∷◌, length, pos, true, ◌==◌, nat_le, nat_lt, if◌then◌else◌, Option, Some, None, Result, Ok, Err, is_some, is_none, ok_or, option_map}
+use Rattle.std.specs.Option.{option_or, option_map_or}
 use Rattle.git_date.specs.Tokens.Tokens.{Token, Digits, bytes_left}
 use Rattle.git_date.specs.Tokens.Numbers.{number, is_too_large}
+use Rattle.git_date.specs.Tokens.Steps.{◌>>=◌}
 use Rattle.git_date.specs.Rules.Fields.{knows_nothing, with_clock}
 use Rattle.git_date.specs.Rules.Clocks.{utc_clock}
 use Rattle.git_date.specs.Rules.Dates.{year_date, last_year}
-use Rattle.git_date.specs.Rules.Groups.{ReadTokens, group_of, group_rule, large_in, without_fraction, after_group}
+use Rattle.git_date.specs.Rules.Groups.{group_of, group_rule, large_in, without_fraction, after_group}
 use Rattle.git_date.specs.declared.fields.Fields.{Fields}
 use Rattle.git_date.specs.declared.fields.dates.Now.{Now}
 use Rattle.git_date.specs.declared.fields.dates.Dated.{Dated}
@@ -41,13 +43,9 @@ with_epoch f shown = record f {
   epoch = true;
 }
 
-abbrev pub by_clock : Fields → List Token → Option LocalTime → Stepped
-by_clock f more (Some shown) = Ok (Some (with_epoch f shown), more)
-by_clock f more None = Err Range
-
 -- the fields of an epoch, by the clock of UTC; `Range` if it is no instant
-unfoldable pub epoch_rule : Fields → ℕ → List Token → Stepped
-epoch_rule f n more = by_clock f more (utc_clock n)
+abbrev pub epoch_rule : Fields → ℕ → List Token → Stepped
+epoch_rule f n more = ok_or (option_map (λ shown. (Some (with_epoch f shown), more)) (utc_clock n)) Range
 
 -- eight digits: a date, which begins with its year
 abbrev pub by_date : List ℕ → List Token → Dated → Stepped
@@ -55,17 +53,15 @@ by_date run more (Taken next) = Ok (Some next, more)
 by_date run more Refused = Ok (None, more)
 by_date run more dated.YearRefused = Err (YearRefused (bytes_left (Digits run ∷ more)))
 
-unfoldable pub eight_digits : Fields → List ℕ → List Token → Stepped
+abbrev pub eight_digits : Fields → List ℕ → List Token → Stepped
 eight_digits f run more =
     by_date run more (year_date f (number run / 10_000) (number run / 100 % 100) (number run % 100))
 
 -- six digits: a clock, and a fraction after it is taken
-abbrev pub clock_taken : List Token → Option Fields → Option Fields × List Token
-clock_taken more (Some next) = (Some next, without_fraction more)
-clock_taken more None = (None, more)
-
-unfoldable pub six_digits : Fields → ℕ → List Token → Option Fields × List Token
-six_digits f n more = clock_taken more (with_clock f (n / 10_000) (n / 100 % 100) (n % 100))
+abbrev pub six_digits : Fields → ℕ → List Token → Option Fields × List Token
+six_digits f n more =
+    let found = with_clock f (n / 10_000) (n / 100 % 100) (n % 100) in
+    (found, if is_some found then without_fraction more else more)
 
 -- four digits: the offset, where none is known, or else the year
 unfoldable pub four_digits : Fields → ℕ → Option Fields
@@ -74,25 +70,21 @@ four_digits f n =
     else (if nat_lt 1900 n && nat_le n last_year then Some (record f { year = Some n }) else None)
 
 -- two digits where no year is known: the year
-unfoldable pub two_digit_year : Fields → ℕ → Option ℕ
+abbrev pub two_digit_year : Fields → ℕ → Option ℕ
 two_digit_year f n =
     if is_some f.year then None
     else (if nat_lt n 10 && is_some f.day then Some (2000 + n)
     else (if nat_le 70 n && nat_le n 99 then Some (1900 + n) else None))
 
 -- a month, where none is known
-unfoldable pub or_month : Fields → ℕ → Option Fields
+abbrev pub or_month : Fields → ℕ → Option Fields
 or_month f n = if nat_le 1 n && nat_le n 12 && is_none f.month then Some (record f { month = Some n }) else None
-
-abbrev pub year_or_month : Fields → ℕ → Option ℕ → Option Fields
-year_or_month f n (Some year) = Some (record f { year = Some year })
-year_or_month f n None = or_month f n
 
 -- one digit or two: the day, where none is known, or else the year, or else the month
 unfoldable pub few_digits : Fields → ℕ → ℕ → Option Fields
 few_digits f width n =
     if nat_le 1 n && nat_le n 31 && is_none f.day then Some (record f { day = Some n })
-    else year_or_month f n (if width == 2 then two_digit_year f n else None)
+    else option_or (option_map (λ year. record f { year = Some year }) (if width == 2 then two_digit_year f n else None)) (or_month f n)
 
 -- digits that are no group, by their width
 unfoldable pub bare_digits : Fields → List ℕ → List Token → Stepped
@@ -102,33 +94,30 @@ bare_digits f run more =
     else (if length run == 4 then Ok (four_digits f (number run), more)
     else (if length run == 1 || length run == 2 then Ok (few_digits f (length run) (number run), more) else Ok (None, more))))
 
--- A group that is taken: it is refused where a number of it was too large, and so is a date whose year is refused.
-abbrev pub by_rule : ℕ → Group → List Token → Dated → Stepped → Stepped
-by_rule left g more (Taken next) bare = Ok (Some next, after_group next g more)
-by_rule left g more Refused bare = bare
-by_rule left g more dated.YearRefused bare = Err (YearRefused left)
+-- the text is refused where a number of a group is too large
+abbrev pub unless_large : {A : Type 0} → Group → Result A Fault → Result A Fault
+unless_large g said = option_map_or (λ left. Err (NumberTooLarge left)) (large_in g) said
 
-abbrev pub unless_large : Option ℕ → Dated → Stepped → Stepped
-unless_large (Some left) Refused taken = taken
-unless_large (Some left) found taken = Err (NumberTooLarge left)
-unless_large None found taken = taken
+-- A group that is taken, and so is a year that is refused, refuses the text where a number of it is too large.
+abbrev pub grouped : ℕ → Group → List Token → Dated → Result (Option (Fields × List Token)) Fault
+grouped left g more (Taken next) = unless_large g (Ok (Some (next, after_group next g more)))
+grouped left g more Refused = Ok None
+grouped left g more dated.YearRefused = unless_large g (Err (YearRefused left))
 
-abbrev pub grouped : Now → Fields → ℕ → Group × List Token → Stepped → Stepped
-grouped now f left found bare =
-    unless_large (large_in found.0) (group_rule now f found.0) (by_rule left found.0 found.1 (group_rule now f found.0) bare)
+-- what the group says that begins with these digits, and what stands after it, if there is one and it is taken
+unfoldable pub group_said : Now → Fields → List ℕ → List Token → Result (Option (Fields × List Token)) Fault
+group_said now f run more =
+    option_map_or (λ found. grouped (bytes_left (Digits run ∷ more)) found.0 found.1 (group_rule now f found.0))
+    (group_of (number run) more) (Ok None)
 
-abbrev pub group_or_bare : Now → Fields → ℕ → ReadTokens Group → Stepped → Stepped
-group_or_bare now f left (Some found) bare = grouped now f left found bare
-group_or_bare now f left None bare = bare
-
--- digits that are no epoch: a group, or else by their width
-unfoldable pub number_rule : Now → Fields → List ℕ → List Token → Stepped
-number_rule now f run more =
-    group_or_bare now f (bytes_left (Digits run ∷ more)) (group_of (number run) more) (bare_digits f run more)
+-- what a group said, or else digits by their width
+abbrev pub group_or_bare : Fields → List ℕ → List Token → Option (Fields × List Token) → Stepped
+group_or_bare f run more (Some found) = Ok (Some found.0, found.1)
+group_or_bare f run more None = bare_digits f run more
 
 -- what digits say
 unfoldable pub digits_rule : Now → Fields → List ℕ → List Token → Stepped
 digits_rule now f run more =
     if is_epoch f (number run) then epoch_rule f (number run) more
     else (if is_too_large (number run) then Err (NumberTooLarge (bytes_left (Digits run ∷ more)))
-    else number_rule now f run more)
+    else (group_said now f run more >>= group_or_bare f run more))

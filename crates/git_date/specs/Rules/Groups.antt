@@ -1,6 +1,7 @@
 -- Groups: two numbers or three, with the same mark between them.
 use Rattle.std.specs.Prelude.{ℕ, Bool, ◌||◌, ◌&&◌, List, ◌∷◌, ◌==◌, nat_lt, if◌then◌else◌, Option, Some, None, option_map}
-use Rattle.std.specs.Option.{option_or}
+use Rattle.std.specs.Option.{option_or, option_map_or}
+use Rattle.gix_date.specs.Text.Front.{◌>>=◌}
 use Rattle.gix_date.specs.Text.Characters.{minus, dot, colon}
 use Rattle.git_date.specs.Tokens.Tokens.{Token, Digits, Mark, bytes_left}
 use Rattle.git_date.specs.Tokens.Numbers.{number, is_too_large, narrow}
@@ -41,16 +42,12 @@ third_or_none mark first second more (Some found) =
 third_or_none mark first second more None =
     (record { mark = mark; first = first; second = second; third = None }, more)
 
--- the group that begins with a number before this
-abbrev pub group_after : ℕ → ReadTokens (ℕ × Number) → ReadTokens Group
-group_after first (Some found) =
-    if is_group_mark found.0.0
-    then Some (third_or_none found.0.0 first found.0.1 found.1 (marked_number found.1)) else None
-group_after first None = None
-
 -- the group that begins with a number, whose first mark stands here
 unfoldable pub group_of : ℕ → List Token → ReadTokens Group
-group_of first more = group_after first (marked_number more)
+group_of first more = do
+  found ← marked_number more
+  if is_group_mark found.0.0
+      then Some (third_or_none found.0.0 first found.0.1 found.1 (marked_number found.1)) else None
 
 -- the numbers after the first as Git's dates keep them
 abbrev pub second_of : Group → ℕ
@@ -60,16 +57,11 @@ abbrev pub third_of : Group → Option ℕ
 third_of g = option_map (λ n. narrow n.value) g.third
 
 abbrev pub taken_or_refused : Option Fields → Dated
-taken_or_refused (Some next) = Taken next
-taken_or_refused None = Refused
+taken_or_refused found = option_map_or Taken found Refused
 
 -- a clock: a missing second is 0
-abbrev pub clock_by : Fields → Group → Option Number → Dated
-clock_by f g (Some third) = taken_or_refused (with_clock f g.first g.second.value third.value)
-clock_by f g None = taken_or_refused (with_clock f g.first g.second.value 0)
-
-unfoldable pub clock_group : Fields → Group → Dated
-clock_group f g = clock_by f g g.third
+abbrev pub clock_group : Fields → Group → Dated
+clock_group f g = taken_or_refused (with_clock f g.first g.second.value (option_map_or (λ n. n.value) g.third 0))
 
 -- the first of two that is not refused
 abbrev pub or_else : Dated → Dated → Dated
@@ -77,12 +69,10 @@ or_else Refused other = other
 or_else found other = found
 
 -- a date that begins with its year: year, month, day, or else year, day, month
-abbrev pub year_first_by : Fields → Group → Option ℕ → Dated
-year_first_by f g (Some third) = or_else (year_date f g.first (second_of g) third) (year_date f g.first third (second_of g))
-year_first_by f g None = Refused
-
-unfoldable pub year_first_group : Fields → Group → Dated
-year_first_group f g = year_first_by f g (third_of g)
+abbrev pub year_first_group : Fields → Group → Dated
+year_first_group f g =
+    let second = second_of g in
+    option_map_or (λ third. or_else (year_date f g.first second third) (year_date f g.first third second)) (third_of g) Refused
 
 -- another date: day, month, year by dots, or else month, day, year; by other marks the reverse
 unfoldable pub day_month_group : Now → Fields → Group → Dated
@@ -101,12 +91,8 @@ group_rule now f g =
 abbrev pub large_number : Number → Option ℕ
 large_number n = if is_too_large n.value then Some n.left else None
 
-abbrev pub large_third : Option Number → Option ℕ
-large_third (Some third) = large_number third
-large_third None = None
-
-unfoldable pub large_in : Group → Option ℕ
-large_in g = option_or (large_number g.second) (large_third g.third)
+abbrev pub large_in : Group → Option ℕ
+large_in g = option_or (large_number g.second) (g.third >>= large_number)
 
 -- what stands after a dot and digits, or else all
 unfoldable pub without_fraction : List Token → List Token

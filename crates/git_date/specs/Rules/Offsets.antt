@@ -1,6 +1,8 @@
 -- Offsets after a sign, and `@` with its seconds and offset.
 use Rattle.std.specs.Prelude.{ℕ, ◌+◌, ◌*◌, ◌/◌, ◌%◌, Bool, true, false, not, ◌&&◌, ◌||◌, List, [], ◌∷◌, length, ℤ, pos, neg_ℤ, ◌+ℤ◌, negsuc, ◌==◌, nat_le, nat_lt, if◌then◌else◌, Option, Some, None, Result, Ok, Err, option_map}
-use Rattle.std.specs.Int.Signed.{le_z}
+use Rattle.std.specs.Option.{option_map_or}
+use Rattle.std.specs.Ordering.{int_eq}
+use Rattle.git_date.specs.Tokens.Steps.{and_then}
 use Rattle.gix_date.specs.Text.Characters.{space, plus, minus, colon, at_sign}
 use Rattle.gix_date.specs.Text.Front.{◌>>=◌}
 use Rattle.git_date.specs.Tokens.Tokens.{Token, Digits, Mark, bytes_left, is_end}
@@ -16,6 +18,9 @@ use Rattle.git_date.specs.declared.fields.offsets.Padded.{Padded}
 abbrev pub is_white : Token → Bool
 is_white (Mark byte) = byte == space || (nat_le 9 byte && nat_le byte 13)
 is_white _ = false
+
+abbrev pub is_sign : ℕ → Bool
+is_sign byte = byte == plus || byte == minus
 
 -- how much white space stands first, and what stands after it
 unfoldable pub white : List Token → ℕ
@@ -62,15 +67,14 @@ offset_minutes hours negative minutes =
 abbrev pub SaidOffset : Type 0
 SaidOffset = Result (Option ℤ × List Token) Fault
 
--- the minutes after the colon of an offset: two bytes, with white space and sign
-abbrev pub by_minutes : ℕ → List Token → ReadTokens Padded → SaidOffset
-by_minutes hours all None = Ok (None, all)
-by_minutes hours all (Some found) =
-    if is_too_large found.0.value then Err (NumberTooLarge found.0.left)
-    else Ok (if found.0.width == 2 then offset_minutes hours found.0.negative found.0.value else None, found.1)
+-- the minutes after the colon of an offset, as a number says them: two bytes, with white space and sign
+abbrev pub minutes_said : ℕ → Padded × List Token → SaidOffset
+minutes_said hours (n, more) =
+    if is_too_large n.value then Err (NumberTooLarge n.left)
+    else Ok (if n.width == 2 then offset_minutes hours n.negative n.value else None, more)
 
 unfoldable pub colon_minutes : ℕ → List Token → SaidOffset
-colon_minutes hours all = by_minutes hours all (padded_number all)
+colon_minutes hours all = option_map_or (minutes_said hours) (padded_number all) (Ok (None, all))
 
 -- two digits: hours, and minutes after a colon
 unfoldable pub two_digit_offset : ℕ → List Token → SaidOffset
@@ -85,28 +89,17 @@ offset_said run more =
     else (if length run == 2 then two_digit_offset (number run) more
     else Ok (if length run == 4 then offset_minutes (number run / 100) false (number run % 100) else None, more))
 
-abbrev pub is_minus_one : ℤ → Bool
-is_minus_one n = le_z (negsuc 0) n && le_z n (negsuc 0)
-
 -- the offset that is known then: one minute behind UTC is none
 abbrev pub known_minutes : ℤ → Option ℤ
-known_minutes minutes = if is_minus_one minutes then None else Some minutes
+known_minutes minutes = if int_eq minutes (negsuc 0) then None else Some minutes
 
-unfoldable pub with_offset : Fields → Bool → ℤ → Fields
+abbrev pub with_offset : Fields → Bool → ℤ → Fields
 with_offset f behind minutes = record f { offset = known_minutes (if behind then neg_ℤ minutes else minutes) }
 
-abbrev pub or_refused : Fields → Bool → Option ℤ → Option Fields
-or_refused f behind (Some minutes) = Some (with_offset f behind minutes)
-or_refused f behind None = None
-
--- a sign and what is said after it
-abbrev pub by_offset : Fields → Bool → SaidOffset → Stepped
-by_offset f behind (Ok said) = Ok (or_refused f behind said.0, said.1)
-by_offset f behind (Err fault) = Err fault
-
 -- a sign directly before digits
-unfoldable pub offset_rule : Fields → Bool → List ℕ → List Token → Stepped
-offset_rule f behind run more = by_offset f behind (offset_said run more)
+abbrev pub offset_rule : Fields → Bool → List ℕ → List Token → Stepped
+offset_rule f behind run more =
+    and_then (offset_said run more) (λ said. Ok (option_map (with_offset f behind) said.0, said.1))
 
 -- what ends a text: nothing more, or a line feed
 abbrev pub ends : List Token → Bool

@@ -17,6 +17,10 @@ abbrev pub step_view : {A : Type 0} → Result (A × Bor (List ℕ)) Fault → R
 step_view (Ok found) = Ok (rest_view found)
 step_view (Err e) = Err e
 
+abbrev pub said_view : {A : Type 0} → Result (Option (A × Bor (List ℕ))) Fault → Result (Option (A × List Token)) Fault
+said_view (Ok found) = Ok (read_view found)
+said_view (Err e) = Err e
+
 -- the minutes of an offset within 25 hours
 abbrev pub IsOffset : ℤ → Type 0
 IsOffset minutes = (neg_ℤ (pos 1500) ≤ℤ minutes) × (minutes ≤ℤ pos 1500)

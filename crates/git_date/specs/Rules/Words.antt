@@ -9,15 +9,15 @@ use Rattle.git_date.specs.Tokens.Tokens.{Token, Letters, Digits}
 use Rattle.git_date.specs.declared.fields.Fields.{Fields}
 
 -- `PM`: an hour of the second half of the day; an unknown hour becomes 11
-unfoldable pub afternoon : Fields → Fields
+abbrev pub afternoon : Fields → Fields
 afternoon f = record f { hour = Some (unwrap_or (option_map (λ h. h % 12 + 12) f.hour) 11) }
 
 -- `AM`: an hour of the first half; an unknown hour stays unknown
-unfoldable pub morning : Fields → Fields
+abbrev pub morning : Fields → Fields
 morning f = record f { hour = option_map (λ h. h % 12) f.hour }
 
 -- a zone's name: its offset, unless one is known
-unfoldable pub with_zone : Fields → ℤ → Fields
+abbrev pub with_zone : Fields → ℤ → Fields
 with_zone f minutes = record f { offset = option_or f.offset (Some minutes) }
 
 -- words that people write and that say nothing
@@ -28,7 +28,7 @@ filler_words = codes "ago" ∷ codes "at" ∷ codes "on" ∷ codes "of" ∷ code
 abbrev pub is_any_of : List (List ℕ) → List ℕ → Bool
 is_any_of names word = list_any (is_name word) names
 
-unfoldable pub is_filler : List ℕ → Bool
+abbrev pub is_filler : List ℕ → Bool
 is_filler word = is_any_of filler_words word
 
 -- `PM`, `AM`, or a filler
@@ -37,19 +37,12 @@ half_or_filler f word =
     if is_name word (codes "PM") then Some (afternoon f)
     else (if is_name word (codes "AM") then Some (morning f) else (if is_filler word then Some f else None))
 
--- a zone, or else one of these
-abbrev pub zone_or_half : Fields → List ℕ → Option ℤ → Option Fields
-zone_or_half f word (Some minutes) = Some (with_zone f minutes)
-zone_or_half f word None = half_or_filler f word
-
--- a month, or a day of the week, which says nothing, or else a zone or one of the others
-abbrev pub month_or_other : Fields → List ℕ → Option ℕ → Option Fields
-month_or_other f word (Some month) = Some (record f { month = Some month })
-month_or_other f word None = if is_weekday word then Some f else zone_or_half f word (zone_named word)
-
--- what a word says; `None` if it is unknown
+-- What a word says: a month, a day of the week, which says nothing, a zone, or one of these; `None` if it is unknown.
 unfoldable pub with_word : Fields → List ℕ → Option Fields
-with_word f word = month_or_other f word (month_told word)
+with_word f word =
+    let zone_or_half = option_or (option_map (with_zone f) (zone_named word)) (half_or_filler f word) in
+    option_or (option_map (λ month. record f { month = Some month }) (month_told word))
+    (if is_weekday word then Some f else zone_or_half)
 
 -- letters: no word that has a digit is known
 unfoldable pub letters_rule : Fields → List ℕ → List Token → Option Fields
@@ -60,7 +53,7 @@ letters_rule f run more = with_word f run
 abbrev pub ending_words : List (List ℕ)
 ending_words = codes "st" ∷ codes "nd" ∷ codes "rd" ∷ codes "th" ∷ []
 
-unfoldable pub is_ending : List ℕ → Bool
+abbrev pub is_ending : List ℕ → Bool
 is_ending word = is_any_of ending_words word
 
 -- What stands after a number without its ending, or without a `T` between it and other digits: neither says anything.

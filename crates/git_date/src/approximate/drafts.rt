@@ -1,7 +1,8 @@
 //! What an approximate text says so far.
 ghost use Rattle.std.specs.Prelude.{◌≡◌, ◌≤◌, None};
-ghost use Rattle.git_date.specs.Approximate.Drafts.{clock_fields, all_fields, last_of, first_draft, with_shown, ignore, lone_year, with_number, settle, dropped, with_hour, is_before, half, half_by, units, days_back, weekday_seconds, at_month, less_months};
+ghost use Rattle.git_date.specs.Approximate.Drafts.{clock_fields, all_fields, last_of, first_draft, with_shown, ignore, lone_year, with_number, settle, dropped, with_hour, is_before, half, with_half, units, days_back, weekday_seconds, less_months};
 
+use crate::fault::Fault;
 use crate::fields::Fields;
 use crate::fields::groups::Number;
 use gix_date::clock::Clock;
@@ -26,6 +27,9 @@ impl LastShown {
         }
     }
 }
+
+/// What a rule makes of a draft, or why the whole text is refused.
+pub(crate) type Drafted = Result<Draft, Fault>;
 
 /// What an approximate text says so far.
 #[derive(Clone, Copy)]
@@ -66,7 +70,6 @@ fn all_fields(shown: Clock) -> Fields
 
 impl Fields {
     /// With what a number says alone: the day, the month or the year.
-    #[tactic(auto, unfolding(crate::specs::Approximate::Drafts::with_number))]
     fn with_number(self, n: u64) -> Option<Fields>
         ensures { result ≡ with_number self n }
     {
@@ -91,36 +94,26 @@ impl Fields {
         })
     }
 
-    /// With a month by how many months come before it from the year 0 on.
-    #[tactic(auto, unfolding(crate::specs::Approximate::Drafts::at_month))]
-    fn at_month(self, months: u64) -> Option<Fields>
-        ensures { result ≡ at_month self months }
-    {
-        if 1900 <= months / 12 && months / 12 <= 9999 {
-            Some(Fields {
-                year: Some((months / 12) as u16),
-                month: Some((months % 12 + 1) as u8),
-                ..self
-            })
-        } else {
-            None
-        }
-    }
-
     /// With the month so many months earlier. `None` before 1900.
-    #[tactic(auto, unfolding(crate::specs::Approximate::Drafts::less_months))]
     pub(crate) fn less_months(self, months: u64) -> Option<Fields>
         ensures { result ≡ less_months self months }
     {
         let year = self.year?;
         let month = self.month?;
-        let before = 12 * u64::from(year) + u64::from(month.saturating_sub(1));
-        self.at_month(before.saturating_sub(months))
+        let whole = 12 * u64::from(year) + u64::from(month.saturating_sub(1));
+        let before = whole.saturating_sub(months);
+        if before / 12 < 1900 || 9999 < before / 12 {
+            return None;
+        }
+        Some(Fields {
+            year: Some((before / 12) as u16),
+            month: Some((before % 12 + 1) as u8),
+            ..self
+        })
     }
 }
 
 /// The year that a number says alone.
-#[tactic(auto, unfolding(crate::specs::Approximate::Drafts::lone_year))]
 fn lone_year(n: u64) -> Option<u16>
     ensures { result ≡ lone_year n }
 {
@@ -193,7 +186,6 @@ impl Draft {
     }
 
     /// With the waiting number ignored.
-    #[tactic(auto, unfolding(crate::specs::Approximate::Drafts::dropped))]
     pub(crate) fn dropped(self) -> Draft
         ensures { result ≡ dropped self }
     {
@@ -233,7 +225,6 @@ impl Draft {
     }
 
     /// With an hour of the half of a day that begins with this one: the waiting number, or else the clock's hour.
-    #[tactic(auto, unfolding(crate::specs::Approximate::Drafts::half))]
     pub(crate) fn half(self, first: u8) -> Draft
         requires { first ≤ 12 }
         ensures { result ≡ half self first }
@@ -251,7 +242,7 @@ impl Draft {
     /// With the clock's hour in that half of a day.
     fn with_half(self, first: u8) -> Draft
         requires { first ≤ 12 }
-        ensures { result ≡ half_by self first None }
+        ensures { result ≡ with_half self first }
     {
         match self.fields.hour {
             Some(hour) => Draft {

@@ -20,7 +20,6 @@ pub enum Expiry {
 }
 
 /// What the words say that are no dates here. By git-gc's manual `never` suppresses expiration, and `now` expires all at once.
-#[tactic(auto, unfolding(crate::specs::Approximate::Expiry::fixed_expiry))]
 fn fixed_expiry(text: &[u8]) -> Option<Expiry>
     ensures { result ≡ fixed_expiry text.now }
 {

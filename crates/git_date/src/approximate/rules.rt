@@ -5,17 +5,17 @@ ghost use Rattle.git_date.specs.Approximate.Words.{meaning_of};
 ghost use Rattle.git_date.specs.Tokens.Numbers.{number};
 ghost use Rattle.gix_date.specs.Relative.Steps.{zone_of};
 ghost use Rattle.git_date.specs.Approximate.Zones.{choices_of};
-ghost use Rattle.git_date.specs.Approximate.Rules.{used, hour_rule, back_rule, months_rule, unit_rule, counted_by, count_waits, with_month, meaning_rule, word_by, read_word, are_digits_next, letters_rule, is_padded, number_waits, group_said, digits_rule};
+ghost use Rattle.git_date.specs.Approximate.Rules.{used, hour_rule, back_rule, months_rule, unit_rule, counted_by, count_waits, with_month, meaning_rule, word_by, read_word, are_digits_next, letters_rule, is_padded, number_waits, digits_rule};
 ghost use Rattle.git_date.specs.Rules.Views.{step_view};
 
-use crate::approximate::drafts::{Draft, units, weekday_seconds};
+use crate::approximate::drafts::{Draft, Drafted, units, weekday_seconds};
 use crate::approximate::meanings::{Meaning, Unit, meaning_of};
 use crate::approximate::zone::{fill, moved_to};
 use crate::fault::Fault;
 use crate::fields::Fields;
-use crate::fields::dates::{Dated, Now};
-use crate::fields::digits::Stepped;
-use crate::fields::groups::{Number, group_of};
+use crate::fields::dates::Now;
+use crate::fields::digits::group_said;
+use crate::fields::groups::Number;
 use crate::tokens::numbers::{MAX_SMALL, is_too_large, number};
 use crate::tokens::words::is_filler;
 use crate::tokens::{Token, left_from, next_token};
@@ -26,39 +26,27 @@ use gix_date::time::SECONDS_PER_DAY;
 /// What a rule makes of a draft: `None` if it did nothing.
 type Ruled = Result<Option<Draft>, Fault>;
 
-fn used(draft: Result<Draft, Fault>) -> Ruled
+fn used(draft: Drafted) -> Ruled
     ensures { result ≡ used draft }
 {
     Ok(Some(draft?))
 }
 
 /// `midnight`, `noon` and `tea`: where the clock is before that hour, the day before. gitrevisions asks for a prior point in time.
-#[tactic(auto, unfolding(crate::specs::Approximate::Rules::hour_rule))]
-fn hour_rule(
-    moment: Zoned<'_>,
-    today: Clock,
-    draft: Draft,
-    hour: u8,
-    left: usize,
-) -> Result<Draft, Fault>
+fn hour_rule(moment: Zoned<'_>, today: Clock, draft: Draft, hour: u8, left: usize) -> Drafted
     ensures { result ≡ hour_rule (choices_of (zone_of moment.entry)) today draft hour left }
 {
     let settled = draft.settle();
-    if !settled.is_before(hour) {
-        return Ok(settled.with_hour(hour));
-    }
-    Ok(fill(moment, today, settled, SECONDS_PER_DAY as u32, left)?.with_hour(hour))
+    let day = if settled.is_before(hour) {
+        fill(moment, today, settled, SECONDS_PER_DAY as u32, left)?
+    } else {
+        settled
+    };
+    Ok(day.with_hour(hour))
 }
 
 /// A number of seconds back. Git keeps them in 32 bits: its `25000 days ago` lies ahead, and is refused here.
-#[tactic(auto, unfolding(crate::specs::Approximate::Rules::back_rule))]
-fn back_rule(
-    moment: Zoned<'_>,
-    today: Clock,
-    draft: Draft,
-    back: u64,
-    n: Number,
-) -> Result<Draft, Fault>
+fn back_rule(moment: Zoned<'_>, today: Clock, draft: Draft, back: u64, n: Number) -> Drafted
     ensures { result ≡ back_rule (choices_of (zone_of moment.entry)) today draft back n }
 {
     if MAX_SMALL < back {
@@ -68,34 +56,19 @@ fn back_rule(
 }
 
 /// A number of months back. To Git a year before 1900 is unknown, so its `200 years ago` is this year, and is refused here.
-#[tactic(auto, unfolding(crate::specs::Approximate::Rules::months_rule))]
-fn months_rule(
-    moment: Zoned<'_>,
-    today: Clock,
-    draft: Draft,
-    months: u64,
-    n: Number,
-) -> Result<Draft, Fault>
+fn months_rule(moment: Zoned<'_>, today: Clock, draft: Draft, months: u64, n: Number) -> Drafted
     ensures { result ≡ months_rule (choices_of (zone_of moment.entry)) today draft months n }
 {
-    let filled = match fill(moment, today, draft, 0, n.left) {
-        Ok(filled) => filled,
-        Err(fault) => return Err(fault),
-    };
-    match filled.fields.less_months(months) {
-        Some(fields) => Ok(Draft { fields, ..filled }),
-        None => Err(Fault::BackTooFar(n.left)),
-    }
+    let filled = fill(moment, today, draft, 0, n.left)?;
+    let fields = filled
+        .fields
+        .less_months(months)
+        .ok_or(Fault::BackTooFar(n.left))?;
+    Ok(Draft { fields, ..filled })
 }
 
 /// What a number counts.
-fn unit_rule(
-    moment: Zoned<'_>,
-    today: Clock,
-    draft: Draft,
-    unit: Unit,
-    n: Number,
-) -> Result<Draft, Fault>
+fn unit_rule(moment: Zoned<'_>, today: Clock, draft: Draft, unit: Unit, n: Number) -> Drafted
     ensures { result ≡ unit_rule (choices_of (zone_of moment.entry)) today draft unit n }
 {
     let rest = Draft {
@@ -185,7 +158,7 @@ fn word_rule(moment: Zoned<'_>, today: Clock, draft: Draft, left: usize, word: &
 }
 
 /// The draft after a word: one that did nothing is ignored, unless it is a filler.
-fn read_word(draft: Draft, word: &[u8], left: usize, ruled: Ruled) -> Result<Draft, Fault>
+fn read_word(draft: Draft, word: &[u8], left: usize, ruled: Ruled) -> Drafted
     ensures { result ≡ read_word draft word.now left ruled }
 {
     match ruled? {
@@ -213,7 +186,7 @@ pub(crate) fn letters_rule(
     draft: Draft,
     run: &[u8],
     text: &[u8],
-) -> Result<Draft, Fault>
+) -> Drafted
     ensures { result ≡ letters_rule (choices_of (zone_of moment.entry)) today draft run.now (tokens text.now) }
 {
     let left = letters_left(run, text);
@@ -231,7 +204,6 @@ fn letters_left(run: &[u8], text: &[u8]) -> usize
 }
 
 /// Whether three digits or more begin with 0. In Git `07` may be a day or a month, and `007` says nothing.
-#[tactic(auto, unfolding(crate::specs::Approximate::Rules::is_padded))]
 fn is_padded(run: &[u8]) -> bool
     ensures { result ≡ is_padded run.now }
 {
@@ -242,7 +214,6 @@ fn is_padded(run: &[u8]) -> bool
 }
 
 /// A number waits, unless it is padded, or 0, by which Git says that none waits.
-#[tactic(auto, unfolding(crate::specs::Approximate::Rules::number_waits))]
 fn number_waits(draft: Draft, value: u64, run: &[u8], left: usize) -> Draft
     requires { value ≡ number run.now }
     ensures { result ≡ number_waits draft run.now left }
@@ -253,29 +224,6 @@ fn number_waits(draft: Draft, value: u64, run: &[u8], left: usize) -> Draft
     Draft {
         waiting: Some(Number { value, left }),
         ..draft
-    }
-}
-
-/// What the group says that begins with these digits, if it is taken.
-#[tactic(auto, unfolding(crate::specs::Approximate::Rules::group_said))]
-fn group_said<'a>(now: Now, fields: Fields, n: u64, run: &[u8], text: &'a [u8]) -> Stepped<'a>
-    requires { n ≡ number run.now }
-    ensures value { step_view result ≡ group_said now fields run.now (tokens text.now) }
-    ensures shorter { IfOk result (λ found. length found.1.now ≤ length text.now) }
-{
-    let Some((group, rest)) = group_of(n, text) else {
-        return Ok((None, text));
-    };
-    match group.rule(now, fields) {
-        Dated::Refused => Ok((None, text)),
-        Dated::Taken(next) => match group.large_in() {
-            Some(left) => Err(Fault::NumberTooLarge(left)),
-            None => Ok((Some(next), group.after_group(next, rest))),
-        },
-        Dated::YearRefused => match group.large_in() {
-            Some(left) => Err(Fault::NumberTooLarge(left)),
-            None => Err(Fault::YearRefused(left_from(run, text))),
-        },
     }
 }
 
@@ -300,7 +248,7 @@ pub(crate) fn digits_rule<'a>(
         ..draft.settle()
     };
     match group_said(now, ready.fields, n, run, text)? {
-        (Some(fields), rest) => Ok((Draft { fields, ..ready }, rest)),
-        (None, rest) => Ok((number_waits(ready, n, run, left), rest)),
+        Some((fields, rest)) => Ok((Draft { fields, ..ready }, rest)),
+        None => Ok((number_waits(ready, n, run, left), text)),
     }
 }

@@ -2,7 +2,6 @@
 ghost use Rattle.std.specs.Prelude.{◌≡◌, ◌^◌, pos, neg_ℤ, IfSome};
 ghost use Rattle.jiff_core.specs.Calendar.{IsBetween};
 ghost use Rattle.git_date.specs.Approximate.Clocks.{is_shown, shown_at, year_of_month, filled_seconds};
-ghost use Rattle.git_date.specs.Rules.Dates.{IsSmall};
 
 use crate::fields::Fields;
 use crate::fields::dates::{first_second, seconds_after};

@@ -4,7 +4,7 @@ ghost use Rattle.jiff_core.specs.Calendar.{IsBetween};
 ghost use Rattle.gix_date.specs.Relative.Steps.{zone_of};
 ghost use Rattle.git_date.specs.Approximate.Zones.{choices_of, shown_in, filled_time, moved_to, fill};
 
-use crate::approximate::drafts::Draft;
+use crate::approximate::drafts::{Draft, Drafted};
 use crate::approximate::shown::{filled_seconds, shown_at};
 use crate::clocks::is_instant;
 use crate::fault::Fault;
@@ -55,29 +55,16 @@ pub(crate) fn filled_time(
 
 /// With the zone's clock at an instant.
 #[tactic(auto, unfolding(crate::specs::Approximate::Zones::moved_to))]
-pub(crate) fn moved_to(
-    moment: Zoned<'_>,
-    draft: Draft,
-    left: usize,
-    instant: i64,
-) -> Result<Draft, Fault>
+pub(crate) fn moved_to(moment: Zoned<'_>, draft: Draft, left: usize, instant: i64) -> Drafted
     ensures { result ≡ moved_to (choices_of (zone_of moment.entry)) draft left instant }
 {
-    match shown_in(moment, instant) {
-        Some(shown) => Ok(draft.with_shown(shown)),
-        None => Err(Fault::BackTooFar(left)),
-    }
+    let shown = shown_in(moment, instant).ok_or(Fault::BackTooFar(left))?;
+    Ok(draft.with_shown(shown))
 }
 
 /// With the zone's clock so many seconds before it shows the fields, where the date is today's as far as it is not said.
 #[tactic(auto, unfolding(crate::specs::Approximate::Zones::fill))]
-pub(crate) fn fill(
-    moment: Zoned<'_>,
-    today: Clock,
-    draft: Draft,
-    back: u32,
-    left: usize,
-) -> Result<Draft, Fault>
+pub(crate) fn fill(moment: Zoned<'_>, today: Clock, draft: Draft, back: u32, left: usize) -> Drafted
     ensures { result ≡ fill (choices_of (zone_of moment.entry)) today draft back left }
 {
     match filled_time(moment, today, draft.last.offset, draft.fields) {

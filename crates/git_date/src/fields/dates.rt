@@ -152,7 +152,6 @@ pub(crate) fn exact_seconds(fields: Fields) -> Option<i64>
 }
 
 /// Whether a date is more than ten days after now, with the clock that was read before it.
-#[tactic(auto, unfolding(crate::specs::Rules::Dates::is_ahead))]
 fn is_ahead(now: Now, fields: Fields) -> bool
     ensures { result ≡ is_ahead now fields }
 {

@@ -1,9 +1,9 @@
 //! What digits say.
-ghost use Rattle.std.specs.Prelude.{◌≡◌, ◌≤◌, ◌<◌, length, IfOk};
+ghost use Rattle.std.specs.Prelude.{◌≡◌, ◌≤◌, ◌<◌, length, IfOk, IfSome};
 ghost use Rattle.git_date.specs.Tokens.Tokens.{tokens};
-ghost use Rattle.git_date.specs.Rules.Digits.{is_epoch, epoch_rule, eight_digits, six_digits, four_digits, two_digit_year, or_month, few_digits, bare_digits, number_rule, digits_rule};
+ghost use Rattle.git_date.specs.Rules.Digits.{is_epoch, epoch_rule, eight_digits, six_digits, four_digits, two_digit_year, or_month, few_digits, bare_digits, group_said, digits_rule};
 ghost use Rattle.git_date.specs.Tokens.Numbers.{number};
-ghost use Rattle.git_date.specs.Rules.Views.{rest_view, step_view};
+ghost use Rattle.git_date.specs.Rules.Views.{rest_view, step_view, said_view};
 
 use crate::clocks::utc_clock;
 use crate::fault::Fault;
@@ -27,7 +27,6 @@ fn is_epoch(fields: Fields, n: u64) -> bool
 }
 
 /// The fields of an epoch, by the clock of UTC. Its seconds are those of the instant: an offset after it does not change them.
-#[tactic(auto, unfolding(crate::specs::Rules::Digits::epoch_rule))]
 fn epoch_rule<'a>(fields: Fields, n: u64, text: &'a [u8]) -> Stepped<'a>
     ensures value { step_view result ≡ epoch_rule fields n (tokens text.now) }
     ensures shorter { IfOk result (λ found. length found.1.now ≤ length text.now) }
@@ -51,7 +50,6 @@ fn epoch_rule<'a>(fields: Fields, n: u64, text: &'a [u8]) -> Stepped<'a>
 }
 
 /// Eight digits are a date, which begins with its year, as in `20080214T203045`.
-#[tactic(auto, unfolding(crate::specs::Rules::Digits::eight_digits))]
 fn eight_digits<'a>(fields: Fields, n: u64, run: &[u8], text: &'a [u8]) -> Stepped<'a>
     requires { n ≡ number run.now }
     ensures value { step_view result ≡ eight_digits fields run.now (tokens text.now) }
@@ -65,15 +63,17 @@ fn eight_digits<'a>(fields: Fields, n: u64, run: &[u8], text: &'a [u8]) -> Stepp
 }
 
 /// Six digits are a clock, as in `20080214T203045.019`, and a fraction after it is taken.
-#[tactic(auto, unfolding(crate::specs::Rules::Digits::six_digits))]
 fn six_digits<'a>(fields: Fields, n: u64, text: &'a [u8]) -> (Option<Fields>, &'a [u8])
     ensures value { rest_view result ≡ six_digits fields n (tokens text.now) }
     ensures shorter { length result.1.now ≤ length text.now }
 {
-    match fields.with_clock(n / 10_000, n / 100 % 100, n % 100) {
-        Some(next) => (Some(next), without_fraction(text)),
-        None => (None, text),
-    }
+    let found = fields.with_clock(n / 10_000, n / 100 % 100, n % 100);
+    let rest = if found.is_some() {
+        without_fraction(text)
+    } else {
+        text
+    };
+    (found, rest)
 }
 
 impl Fields {
@@ -98,7 +98,6 @@ impl Fields {
     }
 
     /// The year that two digits say. In Git `1 Apr 05` has one, and `1 Apr 15` has none.
-    #[tactic(auto, unfolding(crate::specs::Rules::Digits::two_digit_year))]
     fn two_digit_year(self, n: u64) -> Option<u16>
         ensures { result ≡ two_digit_year self n }
     {
@@ -113,7 +112,6 @@ impl Fields {
         }
     }
 
-    #[tactic(auto, unfolding(crate::specs::Rules::Digits::or_month))]
     fn or_month(self, n: u64) -> Option<Fields>
         ensures { result ≡ or_month self n }
     {
@@ -169,27 +167,34 @@ fn bare_digits<'a>(fields: Fields, n: u64, run: &[u8], text: &'a [u8]) -> Steppe
     }
 }
 
-/// What digits say that are no epoch: a group, or else what they say by their width. A date whose year Git refuses is refused here,
-/// since Git keeps its month and day.
-#[tactic(auto, unfolding(crate::specs::Rules::Digits::number_rule))]
-fn number_rule<'a>(now: Now, fields: Fields, n: u64, run: &[u8], text: &'a [u8]) -> Stepped<'a>
+/// What the group says that begins with these digits, and what stands after it; `None` if there is none, or it is refused. A date
+/// whose year Git refuses refuses the text here, since Git keeps its month and day.
+#[tactic(auto, unfolding(crate::specs::Rules::Digits::group_said))]
+pub(crate) fn group_said<'a>(
+    now: Now,
+    fields: Fields,
+    n: u64,
+    run: &[u8],
+    text: &'a [u8],
+) -> Result<Option<(Fields, &'a [u8])>, Fault>
     requires { n ≡ number run.now }
-    ensures value { step_view result ≡ number_rule now fields run.now (tokens text.now) }
-    ensures shorter { IfOk result (λ found. length found.1.now ≤ length text.now) }
+    ensures value { said_view result ≡ group_said now fields run.now (tokens text.now) }
+    ensures shorter { IfOk result (λ said. IfSome said (λ found. length found.1.now ≤ length text.now)) }
 {
     let Some((group, rest)) = group_of(n, text) else {
-        return bare_digits(fields, n, run, text);
+        return Ok(None);
     };
-    match group.rule(now, fields) {
-        Dated::Refused => bare_digits(fields, n, run, text),
-        Dated::Taken(next) => match group.large_in() {
-            Some(left) => Err(Fault::NumberTooLarge(left)),
-            None => Ok((Some(next), group.after_group(next, rest))),
-        },
-        Dated::YearRefused => match group.large_in() {
-            Some(left) => Err(Fault::NumberTooLarge(left)),
-            None => Err(Fault::YearRefused(left_from(run, text))),
-        },
+    let next = match group.rule(now, fields) {
+        Dated::Refused => return Ok(None),
+        Dated::Taken(next) => Some(next),
+        Dated::YearRefused => None,
+    };
+    if let Some(left) = group.large_in() {
+        return Err(Fault::NumberTooLarge(left));
+    }
+    match next {
+        Some(next) => Ok(Some((next, group.after_group(next, rest)))),
+        None => Err(Fault::YearRefused(left_from(run, text))),
     }
 }
 
@@ -206,5 +211,8 @@ pub(crate) fn digits_rule<'a>(now: Now, fields: Fields, run: &[u8], text: &'a [u
     if is_too_large(n) {
         return Err(Fault::NumberTooLarge(left_from(run, text)));
     }
-    number_rule(now, fields, n, run, text)
+    match group_said(now, fields, n, run, text)? {
+        Some((next, rest)) => Ok((Some(next), rest)),
+        None => bare_digits(fields, n, run, text),
+    }
 }

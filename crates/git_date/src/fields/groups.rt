@@ -1,5 +1,5 @@
 //! Groups: two numbers or three, with the same mark between them.
-ghost use Rattle.std.specs.Prelude.{◌≡◌, ◌≤◌, ◌<◌, length, IfSome, option_map};
+ghost use Rattle.std.specs.Prelude.{◌≡◌, ◌≤◌, ◌<◌, length, IfSome};
 ghost use Rattle.git_date.specs.Tokens.Tokens.{tokens};
 ghost use Rattle.git_date.specs.Rules.Groups.{number_at, marked_number, group_of, second_of, third_of, clock_group, year_first_group, day_month_group, group_rule, large_number, large_in, without_fraction, after_group};
 ghost use Rattle.git_date.specs.Rules.Views.{read_view};
@@ -104,7 +104,6 @@ impl Group {
     }
 
     /// How many bytes are left from the first number on that is too large: Git would cut it.
-    #[tactic(auto, unfolding(crate::specs::Rules::Groups::large_in))]
     pub(crate) fn large_in(self) -> Option<usize>
         ensures { result ≡ large_in self }
     {
@@ -114,7 +113,6 @@ impl Group {
         large_number(self.third?)
     }
 
-    #[tactic(auto, unfolding(crate::specs::Rules::Groups::clock_group))]
     fn clock_group(self, fields: Fields) -> Dated
         ensures { result ≡ clock_group fields self }
     {
@@ -129,7 +127,6 @@ impl Group {
     }
 
     /// Year, month, day (`YYYY.MM.DD` in git-commit's manual), or else year, day, month.
-    #[tactic(auto, unfolding(crate::specs::Rules::Groups::year_first_group))]
     fn year_first_group(self, fields: Fields) -> Dated
         ensures { result ≡ year_first_group fields self }
     {

@@ -1,7 +1,7 @@
 //! Offsets after a sign, and `@` with its seconds and offset.
 ghost use Rattle.std.specs.Prelude.{◌≡◌, ◌≤◌, ◌<◌, length, IfSome, IfOk};
 ghost use Rattle.git_date.specs.Tokens.Tokens.{tokens, token_of};
-ghost use Rattle.git_date.specs.Rules.Offsets.{is_white, white, without_white, padded_by, padded_after, padded_number, signed_minutes, offset_minutes, colon_minutes, two_digit_offset, offset_said, is_minus_one, known_minutes, with_offset, offset_rule, ends, wide_minutes, by_sign, at_text};
+ghost use Rattle.git_date.specs.Rules.Offsets.{is_white, white, without_white, padded_by, padded_after, padded_number, signed_minutes, offset_minutes, colon_minutes, two_digit_offset, offset_said, known_minutes, with_offset, offset_rule, ends, wide_minutes, by_sign, at_text};
 ghost use Rattle.git_date.specs.Rules.Views.{rest_view, read_view, step_view, IsOffset};
 
 use crate::fault::Fault;
@@ -180,16 +180,11 @@ fn offset_said<'a>(run: &[u8], text: &'a [u8]) -> SaidOffset<'a>
 fn known_minutes(minutes: i16) -> Option<i16>
     ensures { result ≡ known_minutes minutes }
 {
-    if -1 <= minutes && minutes <= -1 {
-        None
-    } else {
-        Some(minutes)
-    }
+    if minutes == -1 { None } else { Some(minutes) }
 }
 
 impl Fields {
     /// With an offset that is said by a sign, also where one was known.
-    #[tactic(auto, unfolding(crate::specs::Rules::Offsets::with_offset))]
     fn with_offset(self, behind: bool, minutes: i16) -> Fields
         requires { IsOffset minutes }
         ensures { result ≡ with_offset self behind minutes }
@@ -203,7 +198,6 @@ impl Fields {
 }
 
 /// What a sign directly before digits says.
-#[tactic(auto, unfolding(crate::specs::Rules::Offsets::offset_rule))]
 pub(crate) fn offset_rule<'a>(
     fields: Fields,
     behind: bool,

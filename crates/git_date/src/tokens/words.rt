@@ -12,7 +12,6 @@ use gix_date::names::{is_name, month_told};
 
 impl Fields {
     /// `PM`. Git has -1 for an unknown hour and counts with it, so that it becomes 11.
-    #[tactic(auto, unfolding(crate::specs::Rules::Words::afternoon))]
     fn afternoon(self) -> Fields
         ensures { result ≡ afternoon self }
     {
@@ -27,7 +26,6 @@ impl Fields {
     }
 
     /// `AM`. An unknown hour stays unknown.
-    #[tactic(auto, unfolding(crate::specs::Rules::Words::morning))]
     fn morning(self) -> Fields
         ensures { result ≡ morning self }
     {
@@ -41,7 +39,6 @@ impl Fields {
     }
 
     /// With the offset of a zone's name. As in Git the first name counts, and a sign overrules it.
-    #[tactic(auto, unfolding(crate::specs::Rules::Words::with_zone))]
     fn with_zone(self, minutes: i16) -> Fields
         ensures { result ≡ with_zone self minutes }
     {
@@ -101,7 +98,6 @@ const FILLERS: [&[u8]; 6] = [b"ago", b"at", b"on", b"of", b"the", b"and"];
 const ENDINGS: [&[u8]; 4] = [b"st", b"nd", b"rd", b"th"];
 
 /// Whether a word says nothing, and people write it. `in` is none, since people mean the future by it, and Git goes back.
-#[tactic(auto, unfolding(crate::specs::Rules::Words::is_filler))]
 pub(crate) fn is_filler(word: &[u8]) -> bool
     ensures { result ≡ is_filler word.now }
 {
@@ -109,7 +105,6 @@ pub(crate) fn is_filler(word: &[u8]) -> bool
 }
 
 /// Whether a word is the ending of `1st`, `2nd`, `3rd` or `4th`.
-#[tactic(auto, unfolding(crate::specs::Rules::Words::is_ending))]
 fn is_ending(word: &[u8]) -> bool
     ensures { result ≡ is_ending word.now }
 {

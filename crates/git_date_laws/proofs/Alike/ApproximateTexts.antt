@@ -1,10 +1,9 @@
 -- Letter case changes nothing of what the approximate reader makes of a text.
-use Rattle.std.proofs.Common.{◌≡◌, ◌∙◌, ◌-◌, ℕ, pos, true, false, cond, List, [], ◌∷◌, length, refl, ap, ap₂, sym, arith, option_map, Option, Some, None, Result, Ok, Err}
+use Rattle.std.proofs.Common.{◌≡◌, ◌∙◌, ◌-◌, ℕ, pos, false, cond, List, [], ◌∷◌, length, refl, ap, ap₂, arith, option_map, Option, Some, None, Result, Ok, Err}
 use Rattle.std.proofs.lemmas.List.{length-map}
 use Rattle.std.specs.Char.{to_ascii_lowercase}
 use Rattle.std.specs.Int.Signed.{le_z}
 use Rattle.std.specs.Str.{str_to_ascii_lowercase}
-use Rattle.gix_date.specs.Text.Names.{is_name}
 use Rattle.gix_date.specs.declared.time.Time.{Time}
 use Rattle.git_date.specs.Approximate.Reading.{steps, draft_of, answer, answer_of, guess_by, string_guess, answer_up_to, guess}
 use Rattle.git_date.specs.Approximate.Drafts.{earlier, first_draft, settle}
@@ -16,7 +15,7 @@ use Rattle.git_date.specs.Types.Names.{Today, Draft, Now, Fault, Number}
 use Rattle.git_date.specs.Types.FaultCases.{NumberTooLarge, BackTooFar, YearRefused, Range}
 use Rattle.git_date.specs.declared.error.DateError.{DateError}
 use Rattle.git_date.specs.declared.error.DateError.TheVariants as error
-use Rattle.git_date_laws.proofs.Alike.Texts.{in_lower_case, tokens-lower, equal-bytes}
+use Rattle.git_date_laws.proofs.Alike.Texts.{in_lower_case, tokens-lower}
 use Rattle.git_date_laws.proofs.Alike.Cuts.{place-lower, before-lower}
 use Rattle.git_date_laws.proofs.Alike.Spelling.{IsSpelling}
 use Rattle.git_date.proofs.Rules.Respects.{ComesTo, FailsAt, SameNumber}
@@ -82,7 +81,7 @@ answer-of-same : (zone : Choices) (today : Today) (text other : List ℕ) (given
 answer-of-same zone today text other (Ok d) long = answer-same text other (settle d) (filled_time zone today.shown (settle d).last.offset (settle d).fields) long
 answer-of-same zone today text other (Err e) long = ap (λ (e : DateError). Err e) (error-same text other e long)
 
-abbrev lower : List ℕ → List ℕ
+abbrev pub lower : List ℕ → List ℕ
 lower text = str_to_ascii_lowercase text
 
 lower-length : (text : List ℕ) → length (lower text) ≡ length text
@@ -105,12 +104,8 @@ string-guess-lower : (zone : Choices) (now : Now) (text : List ℕ) → string_g
 unfolding string_guess
 string-guess-lower zone now text = guess-by-lower zone now text (shown_in zone now.seconds)
 
-guess-lower : (zone : Choices) (now : Now) (text : List ℕ) → guess zone now (lower text) ≡ guess zone now text
+pub guess-lower : (zone : Choices) (now : Now) (text : List ℕ) → guess zone now (lower text) ≡ guess zone now text
 unfolding guess
 guess-lower zone now text =
     (λ i. answer_up_to (place-lower text i) (string_guess zone now (before-lower text i)))
     ∙ ap (answer_up_to (nul_place text)) (string-guess-lower zone now (before_nul text))
-
-pub guess-in-any-case : (zone : Choices) (now : Now) (text other : List ℕ) → is_name text other ≡ true → guess zone now text ≡ guess zone now other
-guess-in-any-case zone now text other same =
-    sym (guess-lower zone now text) ∙ ap (guess zone now) (equal-bytes (lower text) (lower other) same) ∙ guess-lower zone now other

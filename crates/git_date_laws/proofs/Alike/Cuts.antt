@@ -1,6 +1,5 @@
 -- Texts that are read up to their first NUL: in letter case, and where more follows.
 use Rattle.std.proofs.Common.{◌≡◌, ◌∙◌, ◌≤◌, ◌<◌, ℕ, nat_lt, Bool, true, false, cond, List, [], ◌∷◌, ◌++◌, length, take, refl, ap, ap₂, sym, arith, length-append, Option, Some, None, Result, Ok, Err}
-use Rattle.std.specs.Prelude.{◌==◌}
 use Rattle.std.specs.Char.{to_ascii_lowercase}
 use Rattle.std.specs.Option.{option_or}
 use Rattle.std.specs.Str.{str_to_ascii_lowercase}
@@ -16,13 +15,9 @@ use Rattle.git_date.specs.declared.approximate.answer.Approximate.{Approximate}
 use Rattle.git_date.specs.declared.error.DateError.{DateError}
 use Rattle.git_date.proofs.Text.StringEnds.{within, first_len, same-len, longer-len, nul-len, no-place, some-place, all-before, all-said, all-answered}
 
--- letter case
-lower-nul : (c : ℕ) → (to_ascii_lowercase c == nul) ≡ (c == nul)
-lower-nul c = grind (arith, nat_tests)
-
 len-lower : (text : List ℕ) → string_len (str_to_ascii_lowercase text) ≡ string_len text
 len-lower [] = refl
-len-lower (c ∷ text) = ap₂ first_len (lower-nul c) (len-lower text)
+len-lower (c ∷ text) = ap₂ first_len (grind (arith, nat_tests)) (len-lower text)
 
 pub before-lower : (text : List ℕ) → before_nul (str_to_ascii_lowercase text) ≡ str_to_ascii_lowercase (before_nul text)
 unfolding before_nul
@@ -34,7 +29,7 @@ unfolding nul_place
 place-lower text = ap₂ (λ (n all : ℕ). cond (nat_lt n all) (Some n) None) (len-lower text) (length-map text to_ascii_lowercase)
 
 -- more that follows
-same-before : (text more : List ℕ) → string_len (text ++ more) ≡ string_len text → before_nul (text ++ more) ≡ before_nul text
+pub same-before : (text more : List ℕ) → string_len (text ++ more) ≡ string_len text → before_nul (text ++ more) ≡ before_nul text
 unfolding before_nul
 same-before text more e = ap (λ (n : ℕ). take n (text ++ more)) e ∙ take-append-le (string_len text) text more (within text)
 
@@ -116,9 +111,6 @@ said-at-more now text more same = at-more (Result Said DateError) said_up_to (st
 pub guess-at-nul : (zone : Choices) (now : Now) (text rest : List ℕ) → guess zone now (text ++ nul ∷ rest) ≡ answer_up_to (Some (length text)) (guess zone now text)
 unfolding guess
 guess-at-nul zone now text rest = at-nul (Result Approximate DateError) answer_up_to (string_guess zone now) first-answered all-answered text rest
-
-pub word-at-nul : (text rest : List ℕ) → before_nul (text ++ nul ∷ rest) ≡ before_nul text
-word-at-nul text rest = same-before text (nul ∷ rest) (nul-len text rest)
 
 -- an answer up to a NUL, without what is ignored there
 pub record IsUpTo (place : Option ℕ) (found : Result Approximate DateError) (date : Approximate) : Type 0 where

@@ -1,16 +1,17 @@
 -- Words that may be spelled otherwise, as in letter case, and say the same.
-use Rattle.std.proofs.Common.{◌≡◌, ◌∙◌, ◌+◌, ℕ, ℤ, Bool, cond, List, [], ◌∷◌, length, refl, ap, ap₂, is_some, sym, Option, Some, None, option_map}
+use Rattle.std.proofs.Common.{◌≡◌, ◌+◌, ℕ, ℤ, Bool, cond, List, [], ◌∷◌, length, refl, ap₂, is_some, sym, Some, option_map}
 use Rattle.std.specs.Prelude.{◌==◌, ◌&&◌, ◌||◌, codes, take, nat_le}
 use Rattle.std.specs.List.{position, find, list_any}
 use Rattle.gix_date.specs.Text.Names.{is_name, named_in, number_names}
 use Rattle.git_date.specs.Tokens.Names.{is_zone_name, zone_rows, is_weekday, zone_named}
 use Rattle.gix_date.specs.Text.LongNames.{is_short, long_month_names, long_day_names, month_told, weekday_told}
-use Rattle.git_date.specs.Rules.Words.{filler_words, ending_words, is_filler, half_or_filler, zone_or_half, month_or_other, with_word, is_ending}
+use Rattle.git_date.specs.Rules.Words.{filler_words, ending_words, is_filler, half_or_filler, with_word, is_ending, with_zone}
 use Rattle.git_date.specs.Types.Names.{Fields}
-use Rattle.git_date.specs.Approximate.Words.{moment_names, moment_named, count_named, is_unit, unit_in, unit_names, unit_named, count_or, weekday_or, month_or, meaning_or, meaning_of}
+use Rattle.git_date.specs.Approximate.Words.{moment_names, moment_named, count_named, is_unit, unit_names, unit_named, meaning_of}
 use Rattle.git_date.specs.Types.MeaningCases as meaning
-use Rattle.git_date.specs.Types.Names.{Unit as Counted}
+use Rattle.git_date.specs.Types.UnitCases as counted
 use Rattle.git_date.proofs.Rules.Respects.{AreWords}
+use Rattle.std.specs.Option.{option_or}
 
 -- a spelling of words that no name tells from another, byte for byte
 pub record IsSpelling (spell : List ℕ → List ℕ) : Type 0 where
@@ -37,27 +38,19 @@ module _ (spell : List ℕ → List ℕ) (same : IsSpelling spell) where
   zone-named-agrees word = λ i. option_map (λ (row : List ℕ × ℤ). row.1) (find (λ (row : List ℕ × ℤ). zone-agrees word row.0 i) zone_rows)
 
   pub filler-agrees : (word : List ℕ) → is_filler (spell word) ≡ is_filler word
-  unfolding is_filler
   filler-agrees word = λ i. list_any (λ name. same.named word name i) filler_words
 
   ending-agrees : (word : List ℕ) → is_ending (spell word) ≡ is_ending word
-  unfolding is_ending
   ending-agrees word = λ i. list_any (λ name. same.named word name i) ending_words
 
   half-agrees : (f : Fields) (word : List ℕ) → half_or_filler f (spell word) ≡ half_or_filler f word
   half-agrees f word = rw (same.named word (codes "PM"), same.named word (codes "AM"), filler-agrees word)
 
-  zone-or-agrees : (f : Fields) (word : List ℕ) (zone : Option ℤ) → zone_or_half f (spell word) zone ≡ zone_or_half f word zone
-  zone-or-agrees f word (Some minutes) = refl
-  zone-or-agrees f word None = half-agrees f word
-
-  month-or-agrees : (f : Fields) (word : List ℕ) (month : Option ℕ) → month_or_other f (spell word) month ≡ month_or_other f word month
-  month-or-agrees f word (Some month) = refl
-  month-or-agrees f word None = rw (weekday-agrees word, zone-named-agrees word, zone-or-agrees f word (zone_named word))
-
   pub word-agrees : (f : Fields) (word : List ℕ) → with_word f (spell word) ≡ with_word f word
   unfolding with_word
-  word-agrees f word = ap (month_or_other f (spell word)) (month-agrees word) ∙ month-or-agrees f word (month_told word)
+  word-agrees f word =
+      λ i. option_or (option_map (λ month. record f { month = Some month }) (month-agrees word i))
+      (cond (weekday-agrees word i) (Some f) (option_or (option_map (with_zone f) (zone-named-agrees word i)) (half-agrees f word i)))
 
   -- what words say
   named-agrees : {A : Type 0} (rows : List (List ℕ × A)) (word : List ℕ) → named_in rows (spell word) ≡ named_in rows word
@@ -81,13 +74,9 @@ module _ (spell : List ℕ → List ℕ) (same : IsSpelling spell) where
   is-unit-agrees word name =
       λ i. same.named word name i || (same.sized word i + 1 == length name && begins-agrees word name i)
 
-  unit-in-agrees : (rows : List (List ℕ × Counted)) (word : List ℕ) → unit_in rows (spell word) ≡ unit_in rows word
-  unit-in-agrees [] word = refl
-  unit-in-agrees ((name, said) ∷ rows) word = ap₂ (λ (b : Bool) other. cond b (Some said) other) (is-unit-agrees word name) (unit-in-agrees rows word)
-
   unit-agrees : (word : List ℕ) → unit_named (spell word) ≡ unit_named word
   unfolding unit_named
-  unit-agrees word = unit-in-agrees unit_names word
+  unit-agrees word = λ i. option_map (λ row. row.1) (find (λ row. is-unit-agrees word row.0 i) unit_names)
 
   weekday-named-agrees : (word : List ℕ) → weekday_told (spell word) ≡ weekday_told word
   unfolding weekday_told
@@ -96,9 +85,8 @@ module _ (spell : List ℕ → List ℕ) (same : IsSpelling spell) where
   pub meaning-agrees : (word : List ℕ) → meaning_of (spell word) ≡ meaning_of word
   unfolding meaning_of
   meaning-agrees word =
-      λ i. month_or (month-agrees word i)
-      (meaning_or (moment-agrees word i)
-      (count_or (count-agrees word i) (weekday_or (weekday-named-agrees word i) (option_map meaning.Unit (unit-agrees word i)))))
+      λ i. option_or (option_map meaning.Month (month-agrees word i)) (option_or (moment-agrees word i) (option_or (option_map meaning.Count (count-agrees word i))
+      (option_or (option_map (λ day. meaning.Unit (counted.Weekday day)) (weekday-named-agrees word i)) (option_map meaning.Unit (unit-agrees word i)))))
 
   pub words-agree : (word : List ℕ) → AreWords word (spell word)
   words-agree word = record { named = λ name. sym (same.named word name); said = λ f. sym (word-agrees f word); ends = sym (ending-agrees word); meant = sym (meaning-agrees word); filler = sym (filler-agrees word) }

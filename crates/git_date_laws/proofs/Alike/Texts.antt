@@ -21,7 +21,7 @@ use Rattle.git_date.specs.Types.FaultCases.{NumberTooLarge, BackTooFar, YearRefu
 use Rattle.git_date.specs.declared.error.DateError.TheVariants as error
 use Rattle.git_date.specs.Types.Names.{Reading}
 use Rattle.git_date.proofs.Text.TokenRuns.{texts_are}
-use Rattle.git_date.specs.Laws.Lines.{AreComplete}
+use Rattle.git_date_laws.specs.Texts.Lines.{AreComplete}
 use Rattle.git_date.proofs.Rules.EnoughSteps.{enough, fewer}
 use Rattle.git_date_laws.proofs.Alike.Spelling.{IsSpelling}
 use Rattle.git_date_laws.proofs.Alike.Changed.{after, changed, farther, read_farther, IsClosed, IsClosedAt, steps-is, at-is}

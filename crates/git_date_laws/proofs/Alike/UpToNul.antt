@@ -21,9 +21,10 @@ use Rattle.git_date.specs.declared.approximate.expiry.Expiry.TheVariants.{Never,
 use Rattle.git_date.specs.declared.date.ReadDate.{ReadDate}
 use Rattle.git_date.specs.declared.error.DateError.{DateError}
 use Rattle.git_date.specs.declared.error.DateError.TheVariants.{Unreadable, Range}
-use Rattle.git_date_laws.specs.ApproximateLaws.{AnswersUpToNul, expiry_up_to, ExpiresUpToNul}
+use Rattle.git_date_laws.specs.ApproximateLaws.{expiry_up_to, ExpiresUpToNul}
 use Rattle.git_date_laws.specs.Laws.{EndsAtNul}
-use Rattle.git_date_laws.proofs.Alike.Cuts.{said-at-nul, guess-at-nul, word-at-nul}
+use Rattle.git_date.proofs.Text.StringEnds.{nul-len}
+use Rattle.git_date_laws.proofs.Alike.Cuts.{said-at-nul, guess-at-nul, same-before}
 
 pub ends_at_nul : (moment : Zoned) (text : List ℕ) → EndsAtNul moment text
 ends_at_nul moment text rest = said-at-nul (now_of moment) text rest
@@ -66,7 +67,7 @@ guess-or-up place (Err e) guessed = by (is_unreadable e)
     by true = refl
     by false = refl
 
-approximate-up : (moment : Zoned) (text rest : List ℕ) → approximate moment (text ++ nul ∷ rest) ≡ answer_up_to (Some (length text)) (approximate moment text)
+pub approximate-up : (moment : Zoned) (text rest : List ℕ) → approximate moment (text ++ nul ∷ rest) ≡ answer_up_to (Some (length text)) (approximate moment text)
 approximate-up moment text rest =
     let tz = zone_of moment in
     let zone = choices_of tz in
@@ -74,9 +75,6 @@ approximate-up moment text rest =
     let place = Some (length text) in
     ap₂ exact_or_guess (ap (date_of tz) (said-at-nul now text rest) ∙ sym (date-up tz place (said_by now text))) (guess-at-nul zone now text rest)
     ∙ guess-or-up place (date_of tz (said_by now text)) (guess zone now text)
-
-pub answers_up_to_nul : (moment : Zoned) (text : List ℕ) → AnswersUpToNul moment text
-answers_up_to_nul moment text rest result again h g = g ∙ approximate-up moment text rest ∙ ap (answer_up_to (Some (length text))) (sym h)
 
 -- what expires
 expiry-up : (place : ℕ) (date : Result Approximate DateError) → expiry_of (answer_up_to (Some place) date) ≡ expiry_up_to place (expiry_of date)
@@ -93,7 +91,6 @@ IsWord (Some (Before date)) = ⊥
 IsWord fixed = Unit {0}
 
 words : (word : List ℕ) → IsWord (fixed_expiry word)
-unfolding fixed_expiry
 words word = by (bytes_eq word (codes "never") || bytes_eq word (codes "false")) (bytes_eq word (codes "all") || bytes_eq word (codes "now"))
   where
     by : (b c : Bool) → IsWord (cond b (Some Never) (cond c (Some All) None))
@@ -109,5 +106,5 @@ expires-by moment text rest None word = ap expiry_of (approximate-up moment text
 
 pub expires_up_to_nul : (moment : Zoned) (text : List ℕ) → ExpiresUpToNul moment text
 expires_up_to_nul moment text rest result again h g =
-    g ∙ ap (λ (word : List ℕ). expiry_by moment (text ++ nul ∷ rest) (fixed_expiry word)) (word-at-nul text rest)
+    g ∙ ap (λ (word : List ℕ). expiry_by moment (text ++ nul ∷ rest) (fixed_expiry word)) (same-before text (nul ∷ rest) (nul-len text rest))
     ∙ expires-by moment text rest (fixed_expiry (before_nul text)) (words (before_nul text)) ∙ ap (expiry_up_to (length text)) (sym h)

@@ -1,7 +1,7 @@
 -- `n UNIT ago` is that many seconds before now.
 use Rattle.std.proofs.Common.{◌≡◌, ◌∙◌, ◌≤◌, ◌<◌, ℕ, suc, ◌-◌, ◌*◌, Bool, true, false, cond, ℤ, pos, ◌+ℤ◌, ◌-ℤ◌, ◌≤ℤ◌, List, [], ◌∷◌, ◌++◌, length, length-append, Option, Some, None, option_map, Result, Ok, Err, refl, sym, ap, ap₂, subst, arith}
 use Rattle.std.specs.Option.{option_or}
-use Rattle.std.specs.Prelude.{codes, ◌==◌}
+use Rattle.std.specs.Prelude.{codes, ◌==◌, ok_or}
 use Rattle.std.proofs.lemmas.Bool.Decides.{nat_tests}
 use Rattle.jiff.specs.Types.{Offset}
 use Rattle.jiff_core.proofs.SignedLemmas.{signed_arith}
@@ -12,17 +12,17 @@ use Rattle.gix_date.specs.declared.time.Time.{Time}
 use Rattle.git_date.proofs.Text.Walked.{nothing-left}
 use Rattle.git_date.specs.Approximate.Reading.{rule, steps, draft_of, answer, answer_of, answer_up_to, guess_by, string_guess, guess, step}
 use Rattle.git_date.specs.Approximate.Drafts.{first_draft, clock_fields, all_fields, with_shown, settle, units, last_of}
-use Rattle.git_date.specs.Approximate.Rules.{letters_rule, digits_rule, back_rule, meaning_rule, number_waits, group_said, is_padded}
+use Rattle.git_date.specs.Approximate.Rules.{letters_rule, digits_rule, meaning_rule, is_padded}
 use Rattle.git_date.specs.Approximate.Words.{moment_named, count_named, unit_named, meaning_of}
 use Rattle.gix_date.specs.Text.LongNames.{weekday_told, month_told}
 use Rattle.git_date.specs.Approximate.Clocks.{filled_seconds}
-use Rattle.git_date.specs.Approximate.Zones.{Choices, one_offset, with_offset, shown_in, filled_time, moved_by, moved_to, fill_by, fill}
+use Rattle.git_date.specs.Approximate.Zones.{Choices, one_offset, with_offset, shown_in, filled_time, moved_to, fill}
 use Rattle.git_date.specs.Rules.Groups.{group_of, marked_number}
 use Rattle.git_date.specs.Tokens.Numbers.{number, is_too_large, max_small}
 use Rattle.git_date.specs.Exact.Reading.{said_up_to, string_said, said_by}
 use Rattle.git_date.specs.Tokens.Strings.{before_nul, nul_place}
 use Rattle.git_date.specs.Tokens.Tokens.{Token, Letters, Digits, Mark, tokens, texts, bytes_left, walked}
-use Rattle.git_date.specs.Rules.Words.{is_filler, without_ending}
+use Rattle.git_date.specs.Rules.Words.{without_ending}
 use Rattle.git_date.specs.declared.approximate.answer.Approximate.{Approximate}
 use Rattle.git_date.specs.Types.Names.{Today, LastShown}
 use Rattle.git_date.specs.Types.Names.{Draft}
@@ -35,8 +35,11 @@ use Rattle.git_date.specs.Types.Names.{Fields}
 use Rattle.git_date.proofs.Text.TokenRuns.{texts_are}
 use Rattle.git_date.proofs.Rules.ClocksBack.{IsClockBack, shown_of, filled-back, filled-today, shown-back}
 use Rattle.git_date_laws.proofs.Back.ExactNothing.{nothing-said}
-use Rattle.git_date.specs.Laws.Back.{CountsBack, IsReached, exactly_back}
+use Rattle.git_date_laws.specs.Texts.Back.{CountsBack, IsReached, exactly_back}
 use Rattle.gix_date.specs.Fields.Layout.{LocalTime}
+use Rattle.git_date.specs.Tokens.Steps.{and_then}
+use Rattle.git_date.specs.Rules.Digits.{group_said}
+use Rattle.git_date.specs.Types.FaultCases.{BackTooFar, Range as OutOfRange}
 
 -- one step after the other
 pub go-on : (zone : Choices) (today : Today) (n : ℕ) (d next : Draft) (t : Token) (more : List Token) (r : Result Draft Fault)
@@ -70,7 +73,7 @@ not-large n h = grind (arith, nat_tests)
 pub digits-wait : (zone : Choices) (today : Today) (run : List ℕ) (gap : ℕ) (unit : List ℕ) (last : ℕ) → number run ≤ max_small → 1 ≤ number run → is_padded run ≡ false
     → rule zone today (first_draft today.shown) (Digits run) (followed gap unit last)
     ≡ Ok (waiting_draft today.shown (number run) (bytes_left (Digits run ∷ followed gap unit last)), followed gap unit last)
-unfolding digits_rule group_said group_of marked_number number_waits without_ending settle
+unfolding digits_rule group_said group_of marked_number without_ending settle
 digits-wait zone today run gap unit last small some padded =
     rw (not-large (number run) small, not-zero (number run) some, padded) refl
 
@@ -78,13 +81,13 @@ digits-wait zone today run gap unit last small some padded =
 unit-moves : (zone : Choices) (c next : LocalTime) (unit : List ℕ) (last n size left : ℕ) → meaning_of unit ≡ Some (meaning.Unit (Seconds size)) → n * size ≤ max_small
     → fill zone c (record (waiting_draft c n left) { waiting = None }) (n * size) left ≡ Ok (moved_draft next)
     → letters_rule zone c (waiting_draft c n left) unit (Mark last ∷ Letters (codes "ago") ∷ []) ≡ Ok (moved_draft next)
-unfolding letters_rule meaning_rule back_rule
+unfolding letters_rule meaning_rule
 unit-moves zone c next unit last n size left means small moves =
     let same : units n size ≡ n * size = omega (arith, small) in
     rw (means, same, not-large (n * size) small, moves) refl
 
 pub ago-nothing : (zone : Choices) (c : LocalTime) (d : Draft) → letters_rule zone c d (codes "ago") [] ≡ Ok d
-unfolding letters_rule meaning_of month_told moment_named count_named weekday_told unit_named is_filler
+unfolding letters_rule meaning_of month_told moment_named count_named weekday_told unit_named
 ago-nothing zone c d = refl
 
 -- a count that waits, the unit that moves it, and `ago`
@@ -196,9 +199,12 @@ module _ (zone : Choices) (now : ℤ) (back : ℕ) (o then : ℤ) (are : Reaches
   pub moves : (d : Draft) (left : ℕ) → d.fields ≡ clock_fields now_clock → d.last ≡ last_of now_clock → fill zone now_clock d back left ≡ Ok (with_shown d then_clock)
   unfolding fill moved_to
   moves d left fields last =
-      ap₂ (λ (f : Fields) (shown : LastShown). fill_by zone d back left (filled_time zone now_clock shown.offset f)) fields last
-      ∙ ap (λ (t : Option Time). fill_by zone d back left t) are.filled_now
-      ∙ ap (λ (s : Option LocalTime). moved_by d left s) are.told_shown
+      ap₂ (λ (f : Fields) (shown : LastShown). go (filled_time zone now_clock shown.offset f)) fields last
+      ∙ ap go are.filled_now
+      ∙ ap (λ (s : Option LocalTime). ok_or (option_map (with_shown d) s) (BackTooFar left)) are.told_shown
+    where
+      go : Option Time → Result Draft Fault
+      go time = and_then (ok_or time OutOfRange) (λ time. moved_to zone d left (time.seconds -ℤ pos back))
 
   pub filled-moves : (n left : ℕ) → fill zone now_clock (record (waiting_draft now_clock n left) { waiting = None }) back left ≡ Ok (moved_draft then_clock)
   filled-moves n left = moves (record (waiting_draft now_clock n left) { waiting = None }) left refl refl

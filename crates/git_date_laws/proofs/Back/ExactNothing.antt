@@ -1,22 +1,24 @@
 -- The exact reader reads nothing in `n UNIT ago`: it knows no clock with a year.
 use Rattle.std.proofs.Common.{◌≡◌, ◌∙◌, ◌<◌, ℕ, zero, suc, ◌/◌, ◌%◌, nat_le, nat_lt, true, false, cond, List, [], ◌∷◌, length, Option, Some, None, Ok, Err, is_none, refl, ap, arith}
-use Rattle.std.specs.Prelude.{codes, ◌==◌, ◌&&◌, ◌||◌}
+use Rattle.std.specs.Prelude.{codes, ◌==◌, ◌&&◌, ◌||◌, option_map, is_some}
 use Rattle.std.proofs.lemmas.Bool.Decides.{nat_tests}
 use Rattle.git_date.proofs.Rules.Kept.{either}
 use Rattle.git_date.proofs.Exact.NoSeconds.{AreAll, Keeps, read-quiet, no-seconds}
 use Rattle.git_date.specs.Rules.Dates.{last_year}
-use Rattle.git_date.specs.Rules.Digits.{Stepped, min_epoch, is_epoch, bare_digits, six_digits, four_digits, few_digits, two_digit_year, or_month, year_or_month, clock_taken, number_rule, digits_rule}
+use Rattle.git_date.specs.Rules.Digits.{Stepped, min_epoch, is_epoch, bare_digits, four_digits, few_digits, two_digit_year, or_month, digits_rule, group_said}
 use Rattle.git_date.specs.Rules.Fields.{unknown, with_clock}
 use Rattle.git_date.specs.Rules.Groups.{group_of, marked_number, without_fraction}
 use Rattle.git_date.specs.Tokens.Numbers.{number, is_too_large}
 use Rattle.git_date.specs.Rules.Offsets.{at_text}
-use Rattle.git_date.specs.Exact.Reading.{ended, nothing_read, read_on, and_then, steps, reading_of, fields_said, at_or_fields, string_said}
+use Rattle.git_date.specs.Exact.Reading.{ended, nothing_read, read_on, steps, reading_of, fields_said, at_or_fields, string_said}
 use Rattle.git_date.specs.Tokens.Tokens.{Token, Letters, Digits, Mark, tokens, walked}
 use Rattle.git_date.specs.Rules.Words.{without_ending}
 use Rattle.git_date.specs.Types.Names.{Now}
 use Rattle.git_date.specs.declared.error.DateError.TheVariants.{Unreadable}
 use Rattle.git_date.specs.Types.Names.{Fields}
 use Rattle.git_date.specs.Types.Names.{Reading}
+use Rattle.git_date.specs.Tokens.Steps.{and_then}
+use Rattle.std.specs.Option.{option_or}
 
 -- the year or the minute is unknown
 abbrev pub Lacks : Option ℕ → Option ℕ → Type 0
@@ -34,8 +36,7 @@ four-lack : (n : ℕ) → AllLack (four_digits unknown n)
 unfolding four_digits
 four-lack n = either AllLack (nat_le n 1400 && true) _ _ refl (either AllLack (nat_lt 1900 n && nat_le n last_year) _ None refl tt)
 
-year-lack : (n : ℕ) (o : Option ℕ) → AllLack (year_or_month unknown n o)
-unfolding or_month
+year-lack : (n : ℕ) (o : Option ℕ) → AllLack (option_or (option_map (λ year. record unknown { year = Some year }) o) (or_month unknown n))
 year-lack n (Some year) = refl
 year-lack n None = either AllLack (nat_le 1 n && nat_le n 12 && true) _ None refl tt
 
@@ -47,12 +48,12 @@ few-lack width n = either AllLack (nat_le 1 n && nat_le n 31 && true) _ _ refl (
 abbrev pub Lacking : List Token → Stepped → Type 0
 Lacking more step = (next : Option Fields) × (step ≡ Ok (next, more)) × AllLack next
 
-clock-next : (more : List Token) (o : Option Fields) → without_fraction more ≡ more → clock_taken more o ≡ (o, more)
+clock-next : (more : List Token) (o : Option Fields) → without_fraction more ≡ more → ◌≡◌ {A = Option Fields × List Token} (o, cond (is_some o) (without_fraction more) more) (o, more)
 clock-next more (Some f) e = ap (λ (ts : List Token). (Some f, ts)) e
 clock-next more None e = refl
 
 pub bare-lacks : (run : List ℕ) (more : List Token) → without_fraction more ≡ more → (length run == 8) ≡ false → Lacking more (bare_digits unknown run more)
-unfolding bare_digits six_digits
+unfolding bare_digits
 bare-lacks run more kept e =
     let n = number run in
     let clock = with_clock unknown (n / 10_000) (n / 100 % 100) (n % 100) in
@@ -69,7 +70,7 @@ small n h = (grind (arith, nat_tests), grind (arith, nat_tests))
 
 digits-lack : (now : Now) (run : List ℕ) (gap : ℕ) (unit : List ℕ) (more : List Token) → (length run == 8) ≡ false → number run < min_epoch
     → Lacking (followed gap unit more) (digits_rule now unknown run (followed gap unit more))
-unfolding digits_rule number_rule group_of marked_number without_fraction
+unfolding digits_rule group_said group_of marked_number without_fraction
 digits-lack now run gap unit more e h =
     let tests = small (number run) h in rw (tests.0, tests.1) (bare-lacks run (followed gap unit more) refl e)
 

@@ -23,8 +23,8 @@ use Rattle.gix_date.specs.Text.Front.{◌>>=◌}
 use Rattle.gix_date.specs.declared.time.Time.{Time}
 use Rattle.git_date.specs.Approximate.Reading.{rule, steps, draft_of, answer, answer_of, guess_by, string_guess}
 use Rattle.git_date.specs.Approximate.Clocks.{is_shown_month, first_second, filled_seconds}
-use Rattle.git_date.specs.Approximate.Drafts.{first_draft, all_fields, settle, units, at_month, less_months}
-use Rattle.git_date.specs.Approximate.Rules.{letters_rule, meaning_rule, months_rule, is_padded}
+use Rattle.git_date.specs.Approximate.Drafts.{first_draft, all_fields, settle, units, less_months}
+use Rattle.git_date.specs.Approximate.Rules.{letters_rule, meaning_rule, is_padded}
 use Rattle.git_date.specs.Approximate.Words.{meaning_of}
 use Rattle.git_date.specs.Approximate.Zones.{Choices, one_offset, shown_in, filled_time, fill}
 use Rattle.git_date.specs.Rules.Dates.{first_of, seconds_after}
@@ -46,8 +46,9 @@ use Rattle.git_date.specs.Types.Names.{Fields}
 use Rattle.git_date.proofs.Rules.ClocksBack.{shown_of, before-1900}
 use Rattle.git_date_laws.proofs.Back.ExactBack.{followed, clock_at, waiting_draft, moved_draft, go-on, digits-wait, shown-is, AreClocks, reaches, filled-moves, are-clocks, long-enough, few, unit-walk}
 use Rattle.git_date_laws.proofs.Back.ExactNothing.{nothing-said}
-use Rattle.git_date.specs.Laws.Back.{CountsMonths, IsReached}
+use Rattle.git_date_laws.specs.Texts.Back.{CountsMonths, IsReached}
 use Rattle.gix_date.proofs.Printing.LocalClocks.{clock-by}
+use Rattle.git_date_laws.proofs.Heard.Texts.{same-ok}
 
 -- the month so many months before that of a clock, counted from January of the year 0, and the seconds of its day there
 abbrev pub month_back : LocalTime → ℕ → ℕ
@@ -63,9 +64,6 @@ pub record IsMonthsBack (c : LocalTime) (months : ℕ) (offset : ℤ) (date : Ap
   pub from_1900 : 1900 ≤ month_back c months / 12
   pub since_1970 : pos 0 ≤ℤ (seconds_back c months -ℤ offset)
   pub is : date ≡ record { time = record { seconds = seconds_back c months -ℤ offset; offset = offset }; understood = true; ignored = None }
-
-same-date : (a b : Approximate) → ◌≡◌ {A = Result Approximate DateError} (Ok a) (Ok b) → a ≡ b
-same-date a b e = cc
 
 abbrev fields_back : LocalTime → ℕ → Fields
 fields_back c month = record (all_fields c) { year = Some (month / 12); month = Some (month % 12 + 1) }
@@ -86,7 +84,7 @@ module _ (text : List ℕ) (c : LocalTime) (months : ℕ) (o : ℤ) (date : Appr
 
   since : (b : Bool) → le_z (pos 0) (s -ℤ o) ≡ b → cond b (Ok (record { time = told; understood = true; ignored = None })) (Err Range) ≡ Ok date
       → IsMonthsBack c months o date
-  since true e is = record { from_1900 = from; since_1970 = z_test (pos 0) (s -ℤ o) e; is = sym (same-date _ date is) }
+  since true e is = record { from_1900 = from; since_1970 = z_test (pos 0) (s -ℤ o) e; is = sym (same-ok _ date is) }
   since false e is = absurd cc
 
   picked : (a b : Bool) → answered (cond a (cond b (Some told) None) None) ≡ Ok date → IsMonthsBack c months o date
@@ -139,12 +137,12 @@ module _ (o now : ℤ) (this : Now) (digits : List ℕ) (gap : ℕ) (unit : List
       filled-moves (one_offset o) now 0 o o (reaches o now 0 are) (number digits) left ∙ ap (λ (x : ℤ). Ok (moved_draft (clock_at o x))) same
 
   word-none : less_months (all_fields c) months ≡ None → letters_rule (one_offset o) c waits unit (Mark last ∷ ago) ≡ Err (BackTooFar left)
-  unfolding letters_rule meaning_rule months_rule
+  unfolding letters_rule meaning_rule
   word-none e = rw (means, filled, e) refl
 
   word-some : (f : Fields) → less_months (all_fields c) months ≡ Some f
       → letters_rule (one_offset o) c waits unit (Mark last ∷ ago) ≡ Ok (record (moved_draft c) { fields = f })
-  unfolding letters_rule meaning_rule months_rule
+  unfolding letters_rule meaning_rule
   word-some f e = rw (means, filled, e) refl
 
   drafted : (k : ℕ) (f : Fields) → less_months (all_fields c) months ≡ Some f
@@ -185,7 +183,6 @@ module _ (o now : ℤ) (this : Now) (digits : List ℕ) (gap : ℕ) (unit : List
 
   month-is : less_months (all_fields c) months
       ≡ cond (nat_le 1900 (month_back c months / 12) && nat_le (month_back c months / 12) 9999) (Some (fields_back c (month_back c months))) None
-  unfolding less_months at_month
   month-is = refl
 
   months-guessed : (text : List ℕ) (k : ℕ) (date : Approximate) → this.seconds ≡ now → tokens text ≡ Digits digits ∷ ts
@@ -241,9 +238,8 @@ module _ (o : Offset) (n : ℤ) (local : DateTime) (is : civil_nanos local ≡ n
 
   clock-is : told_clock ≡ clock_of (utc_time x)
   clock-is =
-      let whole = parts in
-      let day : epoch_day local.date ≡ local_day (utc_time x) = omega (arith, signed_arith, whole) in
-      let at : second ≡ second_of_day (utc_time x) = omega (arith, signed_arith, whole) in
+      let day : epoch_day local.date ≡ local_day (utc_time x) = omega (arith, signed_arith, parts) in
+      let at : second ≡ second_of_day (utc_time x) = omega (arith, signed_arith, parts) in
       clock-by (utc_time x) (epoch_day local.date) local.date (unsigned_abs local.date.year) second (weekday_number (epoch_day local.date))
       (record { hour = second / 3600; minute = second % 3600 / 60; second = second % 60 }) day refl refl at refl refl refl refl
 

@@ -2,40 +2,34 @@
 use Rattle.std.proofs.Common.{◌≡◌, ◌∙◌, ◌<◌, ℕ, zero, suc, ℤ, Bool, true, false, cond, not, List, [], ◌∷◌, length, refl, ap, arith, Option, Some, None, Result, Ok, Err}
 use Rattle.std.proofs.lemmas.Bool.{or_parts}
 use Rattle.std.specs.Prelude.{◌==◌, ◌&&◌, ◌||◌, nat_le}
-use Rattle.std.specs.Option.{option_or}
+use Rattle.std.specs.Option.{option_or, option_map_or}
 use Rattle.std.proofs.lemmas.Bool.Decides.{nat_tests}
 use Rattle.gix_date.specs.Text.Characters.{colon, dot}
 use Rattle.git_date.specs.Tokens.Tokens.{Token, Letters, Digits, Mark, tokens, bytes_left, is_end, walked}
 use Rattle.git_date.specs.Tokens.Numbers.{number, is_too_large}
 use Rattle.git_date.specs.Rules.Dates.{is_day_of_month, recent_date}
-use Rattle.git_date.specs.Rules.Groups.{ReadTokens, group_of, day_month_group, group_rule, second_of, third_of, taken_or_refused, large_in}
-use Rattle.git_date.specs.Rules.Digits.{Stepped, is_epoch, epoch_rule, bare_digits, by_rule, unless_large, group_or_bare, number_rule, digits_rule}
+use Rattle.git_date.specs.Rules.Groups.{ReadTokens, group_of, day_month_group, group_rule, second_of, third_of, taken_or_refused}
+use Rattle.git_date.specs.Rules.Digits.{Stepped, is_epoch, epoch_rule, group_or_bare, digits_rule, group_said, grouped}
 use Rattle.git_date.specs.Rules.Offsets.{at_text}
-use Rattle.git_date.specs.Exact.Reading.{nothing_read, read_on, and_then, ended, rule, steps, reading_of, fields_said, at_or_fields, said_up_to, string_said, said_by}
-use Rattle.git_date.specs.Tokens.Strings.{before_nul, nul_place}
-use Rattle.git_date.specs.Types.Names.{Now, Dated, Fault, Fields, Group, Reading}
+use Rattle.git_date.specs.Exact.Reading.{nothing_read, read_on, ended, rule, steps, reading_of, fields_said, at_or_fields, string_said}
+use Rattle.git_date.specs.Types.Names.{Now, Fault, Fields, Group, Reading}
 use Rattle.git_date.specs.Types.FaultCases.{NumberTooLarge}
 use Rattle.git_date.specs.Types.DatedCases.{Refused}
-use Rattle.git_date.specs.Laws.Moments.{is_day_month, is_any_day_month, begins_day_month, has_day_month, goes_on, meets_day_month, HasNoDayMonth}
+use Rattle.git_date_laws.specs.Texts.Moments.{is_day_month, is_any_day_month, begins_day_month, has_day_month, goes_on, meets_day_month}
 use Rattle.git_date.proofs.Rules.Kept.{IsKept, Leaves, rule-left}
+use Rattle.git_date.specs.Tokens.Steps.{and_then}
 
 no-recent : (now : Now) (f : Fields) (month day : ℕ) (third : Option ℕ) → is_day_of_month month day ≡ false → recent_date now f month day third ≡ None
 unfolding recent_date
 no-recent now f month day None h = rw h
 no-recent now f month day (Some third) h = rw h
 
-no-month : (month day : ℕ) → 70 < month → is_day_of_month month day ≡ false
-no-month month day h = grind (arith, nat_tests)
-
-no-day : (month day : ℕ) → 70 < day → is_day_of_month month day ≡ false
-no-day month day h = grind (arith, nat_tests)
-
 -- a number above 70 is neither a month nor a day
 refused : (now : Now) (f : Fields) (g : Group) → 70 < g.first → day_month_group now f g ≡ Refused
 unfolding day_month_group
 refused now f g h =
-    let first = no-recent now f g.first (second_of g) (third_of g) (no-month g.first (second_of g) h) in
-    let second = no-recent now f (second_of g) g.first (third_of g) (no-day (second_of g) g.first h) in
+    let first = no-recent now f g.first (second_of g) (third_of g) (grind (arith, nat_tests, h)) in
+    let second = no-recent now f (second_of g) g.first (third_of g) (grind (arith, nat_tests, h)) in
     rw (first, second) (either-none (g.mark == dot))
   where
     either-none : (b : Bool) → taken_or_refused (cond b (option_or None None) (option_or None None)) ≡ Refused
@@ -54,19 +48,19 @@ group-by now other f g false false e l h =
 group-same : (now other : Now) (f : Fields) (g : Group) → is_day_month g ≡ false → group_rule now f g ≡ group_rule other f g
 group-same now other f g h = group-by now other f g (g.mark == colon) (nat_le g.first 70) refl refl h
 
-grouped-same : (now other : Now) (f : Fields) (left : ℕ) (found : ReadTokens Group) (bare : Stepped) → is_any_day_month found ≡ false
-    → group_or_bare now f left found bare ≡ group_or_bare other f left found bare
-grouped-same now other f left None bare h = refl
-grouped-same now other f left (Some found) bare h =
-    ap (λ (d : Dated). unless_large (large_in found.0) d (by_rule left found.0 found.1 d bare)) (group-same now other f found.0 h)
+grouped-same : (now other : Now) (f : Fields) (left : ℕ) (found : ReadTokens Group) → is_any_day_month found ≡ false
+    → option_map_or (λ found. grouped left found.0 found.1 (group_rule now f found.0)) found (Ok None)
+    ≡ option_map_or (λ found. grouped left found.0 found.1 (group_rule other f found.0)) found (Ok None)
+grouped-same now other f left None h = refl
+grouped-same now other f left (Some found) h = ap (grouped left found.0 found.1) (group-same now other f found.0 h)
 
 digits-same : (now other : Now) (f : Fields) (run : List ℕ) (more : List Token) → is_any_day_month (group_of (number run) more) ≡ false
     → digits_rule now f run more ≡ digits_rule other f run more
-unfolding digits_rule number_rule
+unfolding digits_rule group_said
 digits-same now other f run more h =
-    ap (λ (step : Stepped). cond (is_epoch f (number run)) (epoch_rule f (number run) more)
-    (cond (is_too_large (number run)) (Err (NumberTooLarge (bytes_left (Digits run ∷ more)))) step))
-    (grouped-same now other f (bytes_left (Digits run ∷ more)) (group_of (number run) more) (bare_digits f run more) h)
+    ap (λ (said : Result (Option (Fields × List Token)) Fault). cond (is_epoch f (number run)) (epoch_rule f (number run) more)
+    (cond (is_too_large (number run)) (Err (NumberTooLarge (bytes_left (Digits run ∷ more)))) (and_then said (group_or_bare f run more))))
+    (grouped-same now other f (bytes_left (Digits run ∷ more)) (group_of (number run) more) h)
 
 rule-same : (now other : Now) (f : Fields) (t : Token) (more : List Token) → begins_day_month t more ≡ false → rule now f t more ≡ rule other f t more
 rule-same now other f (Letters run) more h = refl
@@ -104,16 +98,12 @@ unfolding reading_of
 at-or-same now other text (Some found) h = refl
 at-or-same now other text None h = ap (fields_said text) (steps-same now other (length text) nothing_read (tokens text) h)
 
-string-same : (now other : Now) (text : List ℕ) → meets_day_month now (length text) nothing_read (tokens text) ≡ false → string_said now text ≡ string_said other text
+pub string-same : (now other : Now) (text : List ℕ) → meets_day_month now (length text) nothing_read (tokens text) ≡ false → string_said now text ≡ string_said other text
 unfolding string_said
 string-same now other text h = at-or-same now other text (at_text (tokens text)) h
 
-pub same-instants : (now other : Now) (text : List ℕ) → HasNoDayMonth now text → said_by now text ≡ said_by other text
-unfolding said_by
-same-instants now other text h = ap (said_up_to (nul_place text)) (string-same now other (before_nul text) h)
-
 -- where no such date begins, the reader comes to none
-abbrev HasNone : List Token → Type 0
+abbrev pub HasNone : List Token → Type 0
 HasNone ts = has_day_month ts ≡ false
 
 none-next : (t : Token) (more : List Token) → HasNone (t ∷ more) → HasNone more
@@ -144,7 +134,7 @@ none-step true first later e h = refl
 none-step false true later e h = absurd cc
 none-step false false later e h = h
 
-none-met : (now : Now) (n : ℕ) (r : Reading) (ts : List Token) → HasNone ts → meets_day_month now n r ts ≡ false
+pub none-met : (now : Now) (n : ℕ) (r : Reading) (ts : List Token) → HasNone ts → meets_day_month now n r ts ≡ false
 unfolding meets_day_month
 none-met now zero r [] h = refl
 none-met now (suc n) r [] h = refl
@@ -154,6 +144,3 @@ none-met now (suc n) r (t ∷ more) h =
     (goes_on (rule now r.fields t more) (λ next. meets_day_month now n (read_on r (bytes_left (t ∷ more)) next.0) next.1)) (none-first t more h)
     (none-then now n r (bytes_left (t ∷ more)) (rule now r.fields t more) (rule-left HasNone HasNone (λ place. Unit {0}) none-kept now r.fields t more h)
     (λ other rest. none-met now n other rest))
-
-pub meets-none : (now : Now) (text : List ℕ) → has_day_month (tokens (before_nul text)) ≡ false → HasNoDayMonth now text
-meets-none now text h = none-met now (length (before_nul text)) nothing_read (tokens (before_nul text)) h

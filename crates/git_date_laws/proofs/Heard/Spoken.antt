@@ -8,7 +8,7 @@ use Rattle.git_date.specs.Tokens.Numbers.{number}
 use Rattle.git_date.specs.Tokens.Tokens.{Token, Letters, Digits, Mark}
 use Rattle.git_date.specs.Rules.Words.{without_ending}
 use Rattle.git_date.specs.Types.Names.{Draft, Now, Fault}
-use Rattle.git_date.specs.Laws.Heard.{Heard, Word, Number, Between, heard_from}
+use Rattle.git_date_laws.specs.Texts.Heard.{Heard, Word, Number, Between, heard_from}
 use Rattle.git_date.proofs.Rules.Respects.{is_group_next, Marked, NoGroupMark, SameMarked, SameNumber}
 use Rattle.git_date.proofs.Rules.RespectedDrafts.{ReadOn, GoesOn, EndsBy, read-respects}
 use Rattle.git_date_laws.proofs.Heard.Bare.{Anywhere, Anything, drafts-of, bare-drafts, bare, bare_fault, bare-faults}
@@ -38,13 +38,10 @@ loose (Mark byte ∷ more) rest = loose more rest
 loose ts rest = refl
 
 -- no ending stands first
-unended-gap : (h : List Heard) → without_ending (gap h (spoken h)) ≡ gap h (spoken h)
+pub unended-gap : (h : List Heard) → without_ending (gap h (spoken h)) ≡ gap h (spoken h)
 unfolding without_ending
 unended-gap (Word run next ∷ more) = refl
 unended-gap ts = refl
-
-pub unended : (ts : List Token) → without_ending (after ts) ≡ after ts
-unended ts = unended-gap (heard_from true ts)
 
 -- a mark directly between digits
 between-by : (b : Bool) (byte : ℕ) (run : List ℕ) (h : List Heard)

@@ -6,14 +6,14 @@ use Rattle.std.specs.Str.{str_to_ascii_lowercase}
 use Rattle.gix_date.specs.Text.Characters.{space}
 use Rattle.gix_date.specs.Text.Names.{is_name}
 use Rattle.gix_date.specs.declared.time.Time.{Time}
-use Rattle.git_date.specs.Approximate.Reading.{Read, with_rest, steps, draft_of, answer, answer_of, guess_by, string_guess}
+use Rattle.git_date.specs.Approximate.Reading.{Read, steps, draft_of, answer, answer_of, guess_by, string_guess}
 use Rattle.git_date.specs.Approximate.Drafts.{first_draft, ignore, settle}
 use Rattle.git_date.specs.Approximate.Rules.{are_digits_next, letters_rule, digits_rule}
 use Rattle.git_date.specs.Approximate.Words.{moment_named, count_named, unit_named, meaning_of}
 use Rattle.gix_date.specs.Text.LongNames.{weekday_told, month_told}
 use Rattle.git_date.specs.Approximate.Zones.{Choices, shown_in, filled_time}
 use Rattle.git_date.specs.Rules.Groups.{is_group_mark}
-use Rattle.git_date.specs.Exact.Reading.{and_then, error_of, ended}
+use Rattle.git_date.specs.Exact.Reading.{error_of, ended}
 use Rattle.git_date.specs.Tokens.Tokens.{Token, Letters, Digits, Mark, tokens, bytes_left, walked}
 use Rattle.git_date.specs.Rules.Words.{is_filler, is_ending, without_ending}
 use Rattle.git_date.specs.Types.Names.{Today, Draft, Now, Fault}
@@ -25,10 +25,11 @@ use Rattle.git_date_laws.proofs.Alike.Spelling.{meaning-agrees}
 use Rattle.git_date.proofs.Rules.Kept.{Leaves, Twice, fault-at, begin-kept}
 use Rattle.git_date.proofs.Rules.Respects.{marked}
 use Rattle.git_date.proofs.Rules.RespectedDrafts.{ReadOn, GoesOn, EndsBy, read-respects}
-use Rattle.git_date.specs.Laws.Heard.{Heard, Between, heard_from, string_heard, told}
+use Rattle.git_date_laws.specs.Texts.Heard.{Heard, Between, heard_from, string_heard, told}
 use Rattle.git_date_laws.proofs.Heard.Bare.{Anywhere, Anything, drafts-of, bare, bare_fault, bare_given, both-ways, letters-alike, settle-alike}
-use Rattle.git_date_laws.proofs.Heard.Spoken.{gap, spoken, after, next-spoken, unended, plain_read, told_read, digits-spoken}
+use Rattle.git_date_laws.proofs.Heard.Spoken.{gap, spoken, after, next-spoken, plain_read, told_read, digits-spoken, unended-gap}
 use Rattle.gix_date.specs.Fields.Layout.{LocalTime}
+use Rattle.git_date.specs.Tokens.Steps.{and_then}
 
 -- no ending of a number is a word
 ending-named : (run name : List ℕ) → is_name run name ≡ true → meaning_of (str_to_ascii_lowercase name) ≡ None → meaning_of run ≡ None
@@ -39,32 +40,19 @@ ending-named run name e none =
 abbrev IsNoWord : List ℕ → Type 0
 IsNoWord name = meaning_of (str_to_ascii_lowercase name) ≡ None
 
-st : IsNoWord (codes "st")
+endings : IsNoWord (codes "st") × IsNoWord (codes "nd") × IsNoWord (codes "rd") × IsNoWord (codes "th")
 unfolding meaning_of month_told moment_named count_named weekday_told unit_named
-st = refl
-
-nd : IsNoWord (codes "nd")
-unfolding meaning_of month_told moment_named count_named weekday_told unit_named
-nd = refl
-
-rd : IsNoWord (codes "rd")
-unfolding meaning_of month_told moment_named count_named weekday_told unit_named
-rd = refl
-
-th : IsNoWord (codes "th")
-unfolding meaning_of month_told moment_named count_named weekday_told unit_named
-th = refl
+endings = (refl, refl, refl, refl)
 
 any-of : (run : List ℕ) (a b c d : Bool) → is_name run (codes "st") ≡ a → is_name run (codes "nd") ≡ b → is_name run (codes "rd") ≡ c
     → is_name run (codes "th") ≡ d → (a || (b || (c || (d || false)))) ≡ true → meaning_of run ≡ None
-any-of run true b c d p q r s e = ending-named run (codes "st") p st
-any-of run false true c d p q r s e = ending-named run (codes "nd") q nd
-any-of run false false true d p q r s e = ending-named run (codes "rd") r rd
-any-of run false false false true p q r s e = ending-named run (codes "th") s th
+any-of run true b c d p q r s e = ending-named run (codes "st") p endings.0
+any-of run false true c d p q r s e = ending-named run (codes "nd") q endings.1
+any-of run false false true d p q r s e = ending-named run (codes "rd") r endings.2
+any-of run false false false true p q r s e = ending-named run (codes "th") s endings.3
 any-of run false false false false p q r s e = absurd cc
 
 pub no-word : (run : List ℕ) → is_ending run ≡ true → meaning_of run ≡ None
-unfolding is_ending
 no-word run e = any-of run _ _ _ _ refl refl refl refl e
 
 -- how much is left after digits
@@ -83,11 +71,8 @@ read-short now d run more =
     (marked (Twice (λ ts. length ts ≤ n)) Anywhere (begin-kept (λ ts. length ts ≤ suc n) (λ ts. length ts ≤ n) (λ left. Unit {0}) (short-kept n)))
     now d d run more more tt (refl, all) (drafts-of d d refl))
 
-pub same-draft : (a b : Draft) → ◌≡◌ {A = Result Draft Fault} (Ok a) (Ok b) → a ≡ b
-same-draft a b e = cc
-
-same-read : (a b : Draft × List Token) → ◌≡◌ {A = Read} (Ok a) (Ok b) → a ≡ b
-same-read a b e = cc
+pub same-ok : {A E : Type 0} (a b : A) → ◌≡◌ {A = Result A E} (Ok a) (Ok b) → a ≡ b
+same-ok a b e = cc
 
 -- the fold
 module _ (zone : Choices) (today : Today) where
@@ -116,8 +101,8 @@ module _ (zone : Choices) (today : Today) where
 
   word-then : (n : ℕ) → IsAlike n → (m : ℕ) (b : Bool) (more : List Token) (a c : Result Draft Fault) → bare_given c ≡ bare_given a → length more ≤ n
       → 2 * length more + 1 ≤ m
-      → bare_given (go m (with_rest (cond b (spoken (heard_from false more)) (Mark space ∷ spoken (heard_from false more))) c)) ≡ bare_given (go n (with_rest more a))
-  word-then n all m b more (Ok d) (Ok e) same short enough = word-rest n all m d e b more (same-draft (bare e) (bare d) same) short enough
+      → bare_given (go m (and_then c (λ next. Ok (next, cond b (spoken (heard_from false more)) (Mark space ∷ spoken (heard_from false more)))))) ≡ bare_given (go n (and_then a (λ next. Ok (next, more))))
+  word-then n all m b more (Ok d) (Ok e) same short enough = word-rest n all m d e b more (same-ok (bare e) (bare d) same) short enough
   word-then n all m b more (Err x) (Err y) same short enough = same
   word-then n all m b more (Ok d) (Err y) same short enough = absurd cc
   word-then n all m b more (Err x) (Ok e) same short enough = absurd cc
@@ -155,7 +140,7 @@ module _ (zone : Choices) (today : Today) where
   ending-passed n all (suc (suc (suc m))) d e run more none same short enough =
       let rest = spoken (heard_from false more) in
       let left = bytes_left (Letters run ∷ Mark space ∷ rest) in
-      ap (λ (x : Result Draft Fault). bare_given (go (suc m) (with_rest (Mark space ∷ rest) x))) (passed e run rest none)
+      ap (λ (x : Result Draft Fault). bare_given (go (suc m) (and_then x (λ next. Ok (next, Mark space ∷ rest))))) (passed e run rest none)
       ∙ all m d (cond (is_filler run) e (ignore e left)) false more (filler-by (is_filler run) e left ∙ same) short (omega arith)
 
   ending-by : (n : ℕ) (m : ℕ) (d e : Draft) (run : List ℕ) (more : List Token) (ts : List Token) (b : Bool) → is_ending run ≡ b
@@ -206,9 +191,9 @@ module _ (zone : Choices) (today : Today) where
   digits-then : (n k : ℕ) → IsAlike n → (m : ℕ) (a c : Read) → plain_read c ≡ told_read a → IsShort k a → k ≤ n → 2 * k + 1 ≤ m
       → bare_given (go m (ended c)) ≡ bare_given (go n (ended a))
   digits-then n k all m (Ok (d, rest)) (Ok (e, ts)) same short less enough =
-      let pair = same-read (bare e, ts) (bare d, after rest) same in
+      let pair = same-ok _ _ same in
       ap (λ (x : List Token). bare_given (steps zone today m e (without_ending x))) (ap (λ (x : Draft × List Token). x.1) pair)
-      ∙ ap (λ (x : List Token). bare_given (steps zone today m e x)) (unended rest)
+      ∙ ap (λ (x : List Token). bare_given (steps zone today m e x)) (unended-gap (heard_from true rest))
       ∙ after-digits n all m d e rest (ap (λ (x : Draft × List Token). x.0) pair) (omega arith) (omega arith)
   digits-then n k all m (Err x) (Err y) same short less enough = ap failed same
   digits-then n k all m (Ok a) (Err y) same short less enough = absurd cc
@@ -266,7 +251,7 @@ module _ (zone : Choices) (today : Today) where
   answers-alike : (text other : List ℕ) (a b : Result Draft Fault) → bare_given a ≡ bare_given b
       → told (answer_of zone today text a) ≡ told (answer_of zone today other b)
   answers-alike text other (Ok d) (Ok e) same =
-      let settled = settle-alike d e (same-draft (bare d) (bare e) same) in
+      let settled = settle-alike d e (same-ok (bare d) (bare e) same) in
       ap (λ (x : Draft). told (answer text (settle d) (filled_time zone today.shown x.last.offset x.fields))) settled
       ∙ answer-alike text other (settle d) (settle e) (filled_time zone today.shown (settle e).last.offset (settle e).fields) settled
   answers-alike text other (Err x) (Err y) same =

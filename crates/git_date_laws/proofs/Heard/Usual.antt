@@ -5,28 +5,28 @@ use Rattle.std.specs.Prelude.{codes, ◌&&◌, ◌||◌}
 use Rattle.std.specs.Int.Signed.{le_z}
 use Rattle.gix_date.specs.Text.Names.{is_name}
 use Rattle.gix_date.specs.declared.time.Time.{Time}
-use Rattle.git_date.specs.Approximate.Reading.{Read, with_rest, steps, draft_of, answer, answer_of, guess_by, string_guess}
+use Rattle.git_date.specs.Approximate.Reading.{Read, steps, draft_of, answer, answer_of, guess_by, string_guess}
 use Rattle.git_date.specs.Approximate.Drafts.{earlier, first_draft, ignore, settle}
 use Rattle.git_date.specs.Approximate.Rules.{Ruled, meaning_rule, word_by, read_word, are_digits_next, letters_rule, digits_rule}
 use Rattle.git_date.specs.Approximate.Words.{meaning_of}
 use Rattle.git_date.specs.Approximate.Zones.{Choices, shown_in, filled_time}
 use Rattle.git_date.specs.Rules.Groups.{number_at, marked_number}
 use Rattle.git_date.specs.Tokens.Numbers.{number}
-use Rattle.git_date.specs.Exact.Reading.{and_then, place_in, ended}
+use Rattle.git_date.specs.Exact.Reading.{place_in, ended}
 use Rattle.git_date.specs.Tokens.Tokens.{Token, Letters, Digits, Mark, tokens, bytes_left, walked}
 use Rattle.git_date.specs.Rules.Words.{is_filler, is_ending, without_ending}
 use Rattle.git_date.specs.declared.approximate.answer.Approximate.{Approximate}
 use Rattle.git_date.specs.Types.Names.{Today, Draft, Number, Meaning, Fault, Now}
-use Rattle.git_date.specs.declared.error.DateError.{DateError}
 use Rattle.git_date.specs.declared.error.DateError.TheVariants as error
 use Rattle.git_date.proofs.Rules.EnoughSteps.{fewer, short-kept}
 use Rattle.git_date_laws.proofs.Heard.Bare.{Anywhere}
 use Rattle.git_date.proofs.Rules.RespectedDrafts.{Waits, NoneWaits, OneWaits, Drafts, SameDraft, Ruleds, DoesNothing, Makes, Stops, settle-respects, meaning-respects, ReadOn, GoesOn, EndsBy, read-respects}
 use Rattle.git_date.proofs.Rules.Kept.{Twice, ending-left}
 use Rattle.git_date.proofs.Rules.Respects.{Marked, NoGroupMark, SameMarked, SameNumber}
-use Rattle.git_date.specs.Laws.Heard.{is_usual, are_usual_from, are_usual}
-use Rattle.git_date_laws.proofs.Heard.Texts.{IsShort, read-short, same-draft}
+use Rattle.git_date_laws.specs.Texts.Heard.{is_usual, are_usual_from, are_usual}
+use Rattle.git_date_laws.proofs.Heard.Texts.{IsShort, read-short, same-ok}
 use Rattle.gix_date.specs.Fields.Layout.{LocalTime}
+use Rattle.git_date.specs.Tokens.Steps.{and_then}
 
 -- where nothing is ignored, nothing was before
 abbrev Goes : Draft → Draft → Type 0
@@ -165,7 +165,7 @@ module _ (zone : Choices) (today : Today) where
       → (d.ignored ≡ None) × (are_usual_from digits ts ≡ true)
 
   letters-then : (n : ℕ) → IsUsualFrom n → (d last : Draft) (usual : Bool) (more : List Token) (found : Result Draft Fault) → Says d usual found → length more ≤ n
-      → go n (with_rest more found) ≡ Ok last → last.ignored ≡ None → (d.ignored ≡ None) × ((usual && are_usual_from false more) ≡ true)
+      → go n (and_then found (λ next. Ok (next, more))) ≡ Ok last → last.ignored ≡ None → (d.ignored ≡ None) × ((usual && are_usual_from false more) ≡ true)
   letters-then n all d last usual more (Ok next) says short e none =
       let later = all next last false more short e none in
       let here = says later.0 in
@@ -183,8 +183,8 @@ module _ (zone : Choices) (today : Today) where
   usual-from : (n : ℕ) (d last : Draft) (digits : Bool) (ts : List Token) → length ts ≤ n → steps zone today n d ts ≡ Ok last → last.ignored ≡ None
       → (d.ignored ≡ None) × (are_usual_from digits ts ≡ true)
   unfolding walked
-  usual-from zero d last digits [] short e none = (ap (λ (x : Draft). x.ignored) (same-draft d last e) ∙ none, refl)
-  usual-from (suc n) d last digits [] short e none = (ap (λ (x : Draft). x.ignored) (same-draft d last e) ∙ none, refl)
+  usual-from zero d last digits [] short e none = (ap (λ (x : Draft). x.ignored) (same-ok d last e) ∙ none, refl)
+  usual-from (suc n) d last digits [] short e none = (ap (λ (x : Draft). x.ignored) (same-ok d last e) ∙ none, refl)
   usual-from zero d last digits (t ∷ more) short e none = absurd (omega arith)
   usual-from (suc n) d last digits (Mark byte ∷ more) short e none = usual-from n d last false more (omega arith) e none
   usual-from (suc n) d last digits (Letters run ∷ more) short e none =
@@ -208,16 +208,13 @@ module _ (zone : Choices) (today : Today) where
   no-place text None e = refl
   no-place text (Some left) e = absurd cc
 
-  same-date : (a b : Approximate) → ◌≡◌ {A = Result Approximate DateError} (Ok a) (Ok b) → a ≡ b
-  same-date a b e = cc
-
   answer-none : (text : List ℕ) (d : Draft) (time : Option Time) (date : Approximate) → answer text d time ≡ Ok date → date.ignored ≡ None → d.ignored ≡ None
   answer-none text d None date e none = absurd cc
   answer-none text d (Some time) date e none = by (le_z (pos 0) time.seconds) e
     where
       by : (b : Bool) → cond b (Ok (record { time = time; understood = d.understood; ignored = option_map (place_in text) d.ignored })) (Err error.Range) ≡ Ok date
           → d.ignored ≡ None
-      by true e = no-place text d.ignored (ap (λ (x : Approximate). x.ignored) (same-date _ date e) ∙ none)
+      by true e = no-place text d.ignored (ap (λ (x : Approximate). x.ignored) (same-ok _ date e) ∙ none)
       by false e = absurd cc
 
   answered-usual : (text : List ℕ) (date : Approximate) (given : Result Draft Fault) → draft_of zone today text ≡ given → answer_of zone today text given ≡ Ok date

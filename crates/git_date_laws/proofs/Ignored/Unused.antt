@@ -11,24 +11,25 @@ use Rattle.gix_date.specs.Text.Names.{is_name}
 use Rattle.git_date.specs.Rules.Clocks.{utc_clock}
 use Rattle.git_date.specs.Rules.Dates.{now_of, exact_seconds, year_date, recent_date}
 use Rattle.git_date.specs.Types.DatedCases.{Taken}
-use Rattle.git_date.specs.Rules.Digits.{with_epoch, Stepped, epoch_rule, eight_digits, six_digits, four_digits, two_digit_year, or_month, few_digits, bare_digits, number_rule, digits_rule}
+use Rattle.git_date.specs.Rules.Digits.{with_epoch, Stepped, eight_digits, six_digits, four_digits, few_digits, bare_digits, digits_rule, group_said}
 use Rattle.git_date.specs.Rules.Fields.{knows_date, with_clock}
-use Rattle.git_date.specs.Rules.Groups.{without_fraction, ReadTokens, group_of, clock_by, clock_group, year_first_by, year_first_group, day_month_group, group_rule}
-use Rattle.git_date.specs.Laws.Lines.{is_sign}
+use Rattle.git_date.specs.Rules.Groups.{without_fraction, ReadTokens, group_of, clock_group, year_first_group, day_month_group, group_rule}
+use Rattle.git_date.specs.Rules.Offsets.{is_sign}
 use Rattle.git_date.specs.Tokens.Names.{zone_named}
 use Rattle.git_date.specs.Tokens.Numbers.{number}
-use Rattle.git_date.specs.Rules.Offsets.{SaidOffset, offset_said, with_offset, by_offset, offset_rule, at_text}
+use Rattle.git_date.specs.Rules.Offsets.{SaidOffset, offset_said, with_offset, at_text}
 use Rattle.git_date.specs.Exact.Outcome.{date_at, date_of}
-use Rattle.git_date.specs.Exact.Reading.{nothing_read, read_on, and_then, ended, sign_rule, mark_rule, rule, steps, reading_of, place_in, at_said, by_seconds, fields_said, at_or_fields, said_up_to, string_said, said_by}
+use Rattle.git_date.specs.Exact.Reading.{nothing_read, read_on, ended, sign_rule, rule, steps, reading_of, place_in, at_said, by_seconds, fields_said, at_or_fields, said_up_to, string_said, said_by}
 use Rattle.git_date.specs.Tokens.Strings.{before_nul, nul_place}
 use Rattle.git_date.specs.Tokens.Tokens.{Token, Letters, Digits, Mark, tokens, bytes_left, is_end, walked}
-use Rattle.git_date.specs.Types.Names.{Now, Fields, Fault, Group, Number, Reading, Said}
-use Rattle.git_date.specs.Rules.Words.{is_filler, zone_or_half, with_word, letters_rule, is_ending, without_ending}
+use Rattle.git_date.specs.Types.Names.{Now, Fields, Fault, Group, Reading, Said}
+use Rattle.git_date.specs.Rules.Words.{with_word, letters_rule, without_ending, with_zone, half_or_filler}
 use Rattle.git_date.specs.declared.date.ReadDate.{ReadDate}
 use Rattle.git_date.specs.declared.error.DateError.{DateError}
 use Rattle.git_date.proofs.Rules.EnoughSteps.{fewer, short-kept}
 use Rattle.git_date.proofs.Rules.Kept.{Leaves, rule-left}
 use Rattle.git_date_laws.specs.Ignored.{is_passed, is_set, is_known, is_word, after_ending, is_taken, takes_group, after_fraction, begins_line, alone, may_be_epoch, Says, Epoch, InGroup, Alone, Used, Word, Number as UsedNumber, Sign, Other, Unused, NoWord, NoNumber, NoSign, Walk, NoMore, LineEnds, Uses, Passes, first_of, IsFirstUnused, IgnoresUnused}
+use Rattle.git_date.specs.Tokens.Steps.{and_then}
 
 -- either way, by a test
 by-test : {A : Type 0} (F : A → Type 0) (b : Bool) (x y : A) → (b ≡ true → F x) → (b ≡ false → F y) → F (cond b x y)
@@ -43,8 +44,8 @@ Finds now f ts (Err e) = Unit {0}
 
 -- letters
 zone-known : (f : Fields) (word : List ℕ) (minutes : Option ℤ)
-    → is_some (zone_or_half f word minutes) ≡ (is_some minutes || is_name word (codes "PM") || is_name word (codes "AM") || is_passed word)
-unfolding is_filler is_passed
+    → is_some (option_or (option_map (with_zone f) minutes) (half_or_filler f word)) ≡ (is_some minutes || is_name word (codes "PM") || is_name word (codes "AM") || is_passed word)
+unfolding is_passed
 zone-known f word minutes = grind (arith, nat_tests)
 
 word-known : (f : Fields) (word : List ℕ) → is_some (with_word f word) ≡ is_known word
@@ -62,45 +63,51 @@ letters-found now f run more None e = NoWord run more (rw (← letters-known f r
 
 -- endings
 pub ending-is : (ts : List Token) → without_ending ts ≡ after_ending ts
-unfolding without_ending is_ending
+unfolding without_ending
 ending-is ts = grind (arith, nat_tests)
 
 -- marks
 sign-found : (now : Now) (f : Fields) (sign : ℕ) (ts : List Token) → is_sign sign ≡ true → Finds now f (Mark sign ∷ ts) (sign_rule f (sign == minus) ts)
-unfolding sign_rule offset_rule with_offset
+unfolding sign_rule
 sign-found now f sign [] s = Other sign [] (rw s refl)
 sign-found now f sign (Letters run ∷ more) s = Other sign (Letters run ∷ more) (rw s refl)
 sign-found now f sign (Mark byte ∷ more) s = Other sign (Mark byte ∷ more) (rw s refl)
 sign-found now f sign (Digits run ∷ more) s = by (offset_said run more) refl
   where
-    by : (said : SaidOffset) → offset_said run more ≡ said → Finds now f (Mark sign ∷ Digits run ∷ more) (ended (by_offset f (sign == minus) said))
+    by : (said : SaidOffset) → offset_said run more ≡ said → Finds now f (Mark sign ∷ Digits run ∷ more) (ended (and_then said (λ said. Ok (option_map (with_offset f (sign == minus)) said.0, said.1))))
     by (Ok (Some minutes, after)) e = rw (ending-is after) (Sign sign run more after minutes s e)
     by (Ok (None, after)) e = rw (ending-is after) (NoSign sign run more after s e)
     by (Err wrong) e = tt
 
-mark-is : (f : Fields) (byte : ℕ) (more : List Token) → mark_rule f byte more ≡ cond (is_sign byte) (sign_rule f (byte == minus) more) (Ok (Some f, more))
-mark-is f byte more = grind (arith, nat_tests)
-
-mark-found : (now : Now) (f : Fields) (byte : ℕ) (more : List Token) → Finds now f (Mark byte ∷ more) (mark_rule f byte more)
-mark-found now f byte more =
-    rw (mark-is f byte more) (by-test (Finds now f (Mark byte ∷ more)) (is_sign byte) _ _ (sign-found now f byte more) (λ s. Other byte more (rw s refl)))
+mark-is : (now : Now) (f : Fields) (byte : ℕ) (more : List Token) → rule now f (Mark byte) more ≡ cond (is_sign byte) (sign_rule f (byte == minus) more) (Ok (Some f, more))
+mark-is now f byte more = grind (arith, nat_tests)
 
 -- what groups set
-clock-sets : (f next : Fields) (g : Group) (third : Option Number) → clock_by f g third ≡ Taken next → (is_some next.hour && is_some next.minute && is_some next.second) ≡ true
+clock-sets : (f next : Fields) (hour minute second : ℕ) → with_clock f hour minute second ≡ Some next → (is_some next.hour && is_some next.minute && is_some next.second) ≡ true
 unfolding with_clock
-clock-sets f next g third e = grind (arith, nat_tests)
+clock-sets f next hour minute second e = grind (arith, nat_tests)
 
-year-sets : (f next : Fields) (g : Group) (third : Option ℕ) → year_first_by f g third ≡ Taken next → (is_some next.month && is_some next.day) ≡ true
+year-sets : (f next : Fields) (year month day : ℕ) → year_date f year month day ≡ Taken next → (is_some next.month && is_some next.day) ≡ true
 unfolding year_date
-year-sets f next g third e = grind (arith, nat_tests)
+year-sets f next year month day e = grind (arith, nat_tests)
 
 recent-sets : (now : Now) (f next : Fields) (month day : ℕ) (third : Option ℕ) → recent_date now f month day third ≡ Some next → (is_some next.month && is_some next.day) ≡ true
 unfolding recent_date
 recent-sets now f next month day third e = grind (arith, nat_tests)
 
+clock-group-sets : (f next : Fields) (g : Group) → clock_group f g ≡ Taken next → (is_some next.hour && is_some next.minute && is_some next.second) ≡ true
+clock-group-sets f next g e = grind (arith, clock-sets)
+
+year-group-sets : (f next : Fields) (g : Group) → year_first_group f g ≡ Taken next → (is_some next.month && is_some next.day) ≡ true
+year-group-sets f next g e = grind (arith, year-sets)
+
+day-group-sets : (now : Now) (f next : Fields) (g : Group) → day_month_group now f g ≡ Taken next → (is_some next.month && is_some next.day) ≡ true
+unfolding day_month_group
+day-group-sets now f next g e = grind (arith, recent-sets)
+
 group-sets : (now : Now) (f next : Fields) (g : Group) → group_rule now f g ≡ Taken next → is_set g next ≡ true
-unfolding group_rule clock_group year_first_group day_month_group
-group-sets now f next g e = grind (arith, nat_tests, clock-sets, year-sets, recent-sets)
+unfolding group_rule
+group-sets now f next g e = grind (arith, nat_tests, clock-group-sets, year-group-sets, day-group-sets)
 
 -- digits
 fraction-is : (ts : List Token) → without_fraction ts ≡ after_fraction true ts
@@ -117,16 +124,16 @@ alone_step f run more =
 
 eight-said : (f : Fields) (run : List ℕ) (more : List Token) (found : Option Fields × List Token) → length run ≡ 8 → eight_digits f run more ≡ Ok found
     → found ≡ alone_step f run more
-unfolding alone eight_digits year_date
+unfolding alone year_date
 eight-said f run more found w e = grind (arith, nat_tests)
 
 six-said : (f : Fields) (run : List ℕ) (more : List Token) → length run ≡ 6 → six_digits f (number run) more ≡ alone_step f run more
-unfolding alone six_digits with_clock
+unfolding alone with_clock
 six-said f run more w = grind (arith, nat_tests)
 
 other-said : (f : Fields) (run : List ℕ) (more : List Token) → (length run == 8) ≡ false → (length run == 6) ≡ false
     → bare_digits f run more ≡ Ok (alone_step f run more)
-unfolding alone bare_digits four_digits few_digits two_digit_year or_month
+unfolding alone bare_digits four_digits few_digits
 other-said f run more e g = grind (arith, nat_tests)
 
 bare-said : (f : Fields) (run : List ℕ) (more : List Token) (found : Option Fields × List Token) → bare_digits f run more ≡ Ok found → found ≡ alone_step f run more
@@ -136,22 +143,22 @@ bare-said f run more found e = grind (arith, nat_tests, eight-said f run more fo
 module _ (now : Now) (f : Fields) (run : List ℕ) (more : List Token) where
   epoch-says : (next : Fields) (rest : List Token) → digits_rule now f run more ≡ Ok (Some next, rest) → may_be_epoch f (number run) ≡ true
       → (option_map (with_epoch f) (utc_clock (number run)) ≡ Some next) × (rest ≡ more)
-  unfolding digits_rule epoch_rule
+  unfolding digits_rule
   epoch-says next rest e is = (grind (arith, nat_tests), grind (arith, nat_tests))
 
   group-says : (next : Fields) (rest : List Token) (g : Group) (after : List Token) → digits_rule now f run more ≡ Ok (Some next, rest) → may_be_epoch f (number run) ≡ false
       → group_of (number run) more ≡ Some (g, after) → is_taken (group_rule now f g) ≡ true → (group_rule now f g ≡ Taken next) × (rest ≡ after_fraction (g.mark == colon && knows_date next) after)
-  unfolding digits_rule number_rule
+  unfolding digits_rule group_said
   group-says next rest g after e not of taken = (grind (arith, nat_tests), grind (arith, nat_tests, may-follow (g.mark == colon && knows_date next) after))
 
   alone-says : (next : Fields) (rest : List Token) → digits_rule now f run more ≡ Ok (Some next, rest) → may_be_epoch f (number run) ≡ false
       → takes_group now f (group_of (number run) more) ≡ false → (alone f (length run) (number run) ≡ Some next) × (rest ≡ after_fraction (length run == 6) more)
-  unfolding digits_rule number_rule
+  unfolding digits_rule group_said
   alone-says next rest e not none = (grind (arith, nat_tests, bare-said f run more), grind (arith, nat_tests, bare-said f run more, may-follow (length run == 6) more))
 
   none-says : (rest : List Token) → digits_rule now f run more ≡ Ok (None, rest)
       → (may_be_epoch f (number run) ≡ false) × (takes_group now f (group_of (number run) more) ≡ false) × (alone f (length run) (number run) ≡ None) × (rest ≡ more)
-  unfolding digits_rule epoch_rule number_rule
+  unfolding digits_rule group_said
   none-says rest e =
       (grind (arith, nat_tests), grind (arith, nat_tests), grind (arith, nat_tests, bare-said f run more), grind (arith, nat_tests, bare-said f run more))
 
@@ -176,14 +183,12 @@ module _ (now : Now) (f : Fields) (run : List ℕ) (more : List Token) where
 rule-found : (now : Now) (f : Fields) (t : Token) (more : List Token) → Finds now f (t ∷ more) (rule now f t more)
 rule-found now f (Letters run) more = letters-found now f run more (letters_rule f run more) refl
 rule-found now f (Digits run) more = digits-found now f run more
-rule-found now f (Mark byte) more = mark-found now f byte more
+rule-found now f (Mark byte) more =
+    rw (mark-is now f byte more) (by-test (Finds now f (Mark byte ∷ more)) (is_sign byte) _ _ (sign-found now f byte more) (λ s. Other byte more (rw s refl)))
 
 -- the walk
 line-is : (t : Token) → is_end t ≡ true → t ≡ Mark newline
 line-is t e = grind (arith, nat_tests)
-
-line-not : (t : Token) (more : List Token) → is_end t ≡ false → begins_line (t ∷ more) ≡ false
-line-not t more e = grind arith
 
 module _ (now : Now) where
   abbrev Comes : Reading → List Token → Reading → Type 0
@@ -208,7 +213,7 @@ module _ (now : Now) where
       → cond b (Ok r) (and_then (rule now r.fields t more) (λ next. steps now n (read_on r (bytes_left (t ∷ more)) next.0) next.1)) ≡ Ok last → Comes r (t ∷ more) last
   first-walk n all r last t more true is short e = rw (line-is t is) (ends r last (Mark newline ∷ more) (LineEnds r.fields more) e)
   first-walk n all r last t more false is short e =
-      then-walk n all r last (t ∷ more) (rule now r.fields t more) (line-not t more is) (rule-found now r.fields t more)
+      then-walk n all r last (t ∷ more) (rule now r.fields t more) (grind (arith, is)) (rule-found now r.fields t more)
       (rule-left (λ ts. length ts ≤ suc n) (λ ts. length ts ≤ n) (λ left. Unit {0}) (short-kept n) now r.fields t more short) e
 
   steps-walk : (n : ℕ) → AreWalked n

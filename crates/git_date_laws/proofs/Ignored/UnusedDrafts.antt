@@ -6,16 +6,16 @@ use Rattle.std.specs.Option.{option_or}
 use Rattle.jiff.specs.declared.zoned.Zoned.{Zoned}
 use Rattle.gix_date.specs.Relative.Steps.{zone_of}
 use Rattle.gix_date.specs.declared.time.Time.{Time}
-use Rattle.git_date.specs.Approximate.Reading.{Read, with_rest, steps, draft_of, answer, answer_of, guess_by, string_guess}
-use Rattle.git_date.specs.Approximate.Drafts.{earlier, first_draft, lone_year, with_number, settle_number, settle, dropped, half}
-use Rattle.git_date.specs.Approximate.Rules.{Ruled, hour_rule, back_rule, months_rule, unit_rule, meaning_rule, word_by, read_word, understood, letters_rule, is_padded, number_waits, group_said, group_or_number, digits_rule}
+use Rattle.git_date.specs.Approximate.Reading.{Read, steps, draft_of, answer, answer_of, guess_by, string_guess}
+use Rattle.git_date.specs.Approximate.Drafts.{earlier, first_draft, settle, dropped}
+use Rattle.git_date.specs.Approximate.Rules.{Ruled, hour_rule, unit_rule, meaning_rule, word_by, read_word, understood, letters_rule, is_padded, number_waits, group_or_number, digits_rule}
 use Rattle.git_date.specs.Approximate.Words.{meaning_of}
 use Rattle.git_date.specs.Approximate.Zones.{Choices, choices_of, shown_in, filled_time, moved_to, fill}
 use Rattle.git_date.specs.Rules.Dates.{now_of}
-use Rattle.git_date.specs.Rules.Digits.{Stepped}
+use Rattle.git_date.specs.Rules.Digits.{group_said}
 use Rattle.git_date.specs.Rules.Groups.{group_of}
 use Rattle.git_date.specs.Tokens.Numbers.{number}
-use Rattle.git_date.specs.Exact.Reading.{and_then, ended, place_in}
+use Rattle.git_date.specs.Exact.Reading.{ended, place_in}
 use Rattle.git_date.specs.Tokens.Strings.{before_nul, nul_place}
 use Rattle.git_date.specs.Tokens.Tokens.{Token, Letters, Digits, Mark, tokens, bytes_left, walked}
 use Rattle.git_date.specs.Types.Names.{Now, Today, Draft, Fault, Fields, Meaning, Number, Unit as TheUnit}
@@ -25,11 +25,12 @@ use Rattle.git_date.proofs.Rules.EnoughSteps.{fewer, short-kept}
 use Rattle.git_date.proofs.Rules.Kept.{ending-left}
 use Rattle.git_date_laws.proofs.Alike.Cuts.{IsUpTo, answer-parts}
 use Rattle.git_date_laws.proofs.Whole.Guesses.{guessed}
-use Rattle.git_date_laws.proofs.Heard.Texts.{IsShort, read-short, same-draft}
+use Rattle.git_date_laws.proofs.Heard.Texts.{IsShort, read-short, same-ok}
 use Rattle.git_date_laws.proofs.Ignored.Unused.{ending-is}
 use Rattle.git_date_laws.specs.ApproximateIgnored.{place_of, unfit, does_nothing, left_by, unused_letters, unused_digits, Drafted, AtEnd, AtMark, AtLetters, AtDigits, earliest, IsEarliestUnused, IgnoresEarliest}
 use Rattle.git_date_laws.specs.Ignored.{is_passed, takes_group, after_ending}
 use Rattle.gix_date.specs.Fields.Layout.{LocalTime}
+use Rattle.git_date.specs.Tokens.Steps.{and_then}
 
 -- places
 one-place : (i : Option ℕ) (left : ℕ) → Some (earlier left i) ≡ earliest i (left ∷ [])
@@ -41,17 +42,11 @@ both-places i [] b = refl
 both-places None (left ∷ a) b = both-places (Some left) a b
 both-places (Some first) (left ∷ a) b = both-places (Some (max left first)) a b
 
--- the number that waits
-settled-leaves : (d : Draft) (w : Option Number) → (settle_number d w).ignored ≡ earliest d.ignored (unfit d.fields w)
-unfolding with_number lone_year
-settled-leaves d w = grind (arith, nat_tests, one-place)
-
 settle-leaves : (d : Draft) → (settle d).ignored ≡ earliest d.ignored (unfit d.fields d.waiting)
 unfolding settle
-settle-leaves d = settled-leaves d d.waiting
+settle-leaves d = grind (arith, nat_tests, one-place)
 
 dropped-leaves : (d : Draft) → (dropped d).ignored ≡ earliest d.ignored (place_of d.waiting)
-unfolding dropped
 dropped-leaves d = grind (arith, one-place)
 
 -- words
@@ -65,15 +60,13 @@ module _ (zone : Choices) (today : LocalTime) where
   fill-keeps d next back left e = grind (arith, moved-keeps)
 
   hour-keeps : (d next : Draft) (hour left : ℕ) → hour_rule zone today d hour left ≡ Ok next → next.ignored ≡ (settle d).ignored
-  unfolding hour_rule
   hour-keeps d next hour left e = grind (arith, fill-keeps)
 
   unit-keeps : (d next : Draft) (unit : TheUnit) (n : Number) → unit_rule zone today d unit n ≡ Ok next → next.ignored ≡ d.ignored
-  unfolding back_rule months_rule
   unit-keeps d next unit n e = grind (arith, fill-keeps)
 
   word-leaves : (d next : Draft) (left : ℕ) (said : Option Meaning) → word_by zone today d left said ≡ Ok (Some next) → next.ignored ≡ earliest d.ignored (left_by d said)
-  unfolding meaning_rule half
+  unfolding meaning_rule
   word-leaves d next left said e = grind (arith, moved-keeps, fill-keeps, hour-keeps, unit-keeps, dropped-leaves, settle-leaves)
 
   word-does : (d next : Draft) (left : ℕ) (said : Option Meaning) → word_by zone today d left said ≡ Ok (Some next) → does_nothing d.waiting said ≡ false
@@ -91,7 +84,7 @@ module _ (zone : Choices) (today : LocalTime) where
   read-leaves d next run left said (Err wrong) is e = absurd cc
 
   passed-is : (word : List ℕ) → is_filler word ≡ is_passed word
-  unfolding is_filler is_passed
+  unfolding is_passed
   passed-is word = refl
 
   letters-leave : (d next : Draft) (run : List ℕ) (more : List Token) → letters_rule zone today d run more ≡ Ok next
@@ -101,27 +94,26 @@ module _ (zone : Choices) (today : LocalTime) where
       grind (arith, nat_tests, one-place, passed-is, read-leaves d next run (bytes_left (Letters run ∷ more)) (meaning_of run) _ refl)
 
 -- digits
-group-said : (now : Now) (f : Fields) (run : List ℕ) (more rest : List Token) (said : Option Fields) → group_said now f run more ≡ Ok (said, rest)
+group-takes : (now : Now) (f : Fields) (run : List ℕ) (more : List Token) (said : Option (Fields × List Token)) → group_said now f run more ≡ Ok said
     → takes_group now f (group_of (number run) more) ≡ is_some said
 unfolding group_said
-group-said now f run more rest said e = grind arith
+group-takes now f run more said e = grind arith
 
 waits-leaves : (d : Draft) (run : List ℕ) (left : ℕ) → (number_waits d run left).ignored ≡ earliest d.ignored (cond (number run == 0 || is_padded run) (left ∷ []) [])
-unfolding number_waits
 waits-leaves d run left = grind (arith, nat_tests, one-place)
 
-group-leaves : (now : Now) (r next : Draft) (run : List ℕ) (more rest : List Token) (left : ℕ) (said : Stepped) → group_said now r.fields run more ≡ said
-    → group_or_number r run left said ≡ Ok (next, rest)
-    → next.ignored ≡ earliest r.ignored (cond (not (takes_group now r.fields (group_of (number run) more)) && (number run == 0 || is_padded run)) (left ∷ []) [])
-group-leaves now r next run more rest left (Ok (Some f, after)) is e = rw (group-said now r.fields run more after (Some f) is) (grind arith)
-group-leaves now r next run more rest left (Ok (None, after)) is e = rw (group-said now r.fields run more after None is) (grind (arith, waits-leaves r run left))
-group-leaves now r next run more rest left (Err wrong) is e = absurd cc
+group-leaves : (now : Now) (r next : Draft) (run : List ℕ) (more rest : List Token) (said : Result (Option (Fields × List Token)) Fault) → group_said now r.fields run more ≡ said
+    → and_then said (λ said. Ok (group_or_number r run more said)) ≡ Ok (next, rest)
+    → next.ignored ≡ earliest r.ignored (cond (not (takes_group now r.fields (group_of (number run) more)) && (number run == 0 || is_padded run)) (bytes_left (Digits run ∷ more) ∷ []) [])
+group-leaves now r next run more rest (Ok (Some found)) is e = rw (group-takes now r.fields run more (Some found) is) (grind arith)
+group-leaves now r next run more rest (Ok None) is e = rw (group-takes now r.fields run more None is) (grind (arith, waits-leaves r run (bytes_left (Digits run ∷ more))))
+group-leaves now r next run more rest (Err wrong) is e = absurd cc
 
 digits-leave : (now : Now) (d next : Draft) (run : List ℕ) (more rest : List Token) → digits_rule now d run more ≡ Ok (next, rest)
     → next.ignored ≡ earliest d.ignored (unused_digits now d run more)
 unfolding digits_rule
 digits-leave now d next run more rest e =
-    grind (arith, nat_tests, both-places, settle-leaves d, group-leaves now (understood (settle d)) next run more rest (bytes_left (Digits run ∷ more)) _ refl)
+    grind (arith, nat_tests, both-places, settle-leaves d, group-leaves now (understood (settle d)) next run more rest _ refl)
 
 -- the walk
 module _ (zone : Choices) (today : Today) where
@@ -135,7 +127,7 @@ module _ (zone : Choices) (today : Today) where
   AreDrafted n = (d last : Draft) (ts : List Token) → length ts ≤ n → steps zone today n d ts ≡ Ok last → Comes d ts last
 
   at-end : (d last : Draft) → ◌≡◌ {A = Result Draft Fault} (Ok d) (Ok last) → Comes d [] last
-  at-end d last e = subst (Comes d []) (same-draft d last e) (unfit d.fields d.waiting, AtEnd d, settle-leaves d)
+  at-end d last e = subst (Comes d []) (same-ok d last e) (unfit d.fields d.waiting, AtEnd d, settle-leaves d)
 
   later-on : (d next last : Draft) (ts rest : List Token) (unused : List ℕ) → next.ignored ≡ earliest d.ignored unused
       → ((later : List ℕ) → Drafted zone today next rest later (settle last) → Drafted zone today d ts (unused ++ later) (settle last)) → Comes next rest last → Comes d ts last
@@ -143,7 +135,7 @@ module _ (zone : Choices) (today : Today) where
       (unused ++ later.0, step later.0 later.1, later.2 ∙ ap (λ (i : Option ℕ). earliest i later.0) leaves ∙ sym (both-places d.ignored unused later.0))
 
   letters-then : (n : ℕ) → AreDrafted n → (d last : Draft) (run : List ℕ) (more : List Token) (found : Result Draft Fault) → letters_rule zone today.shown d run more ≡ found
-      → length more ≤ n → go n (with_rest more found) ≡ Ok last → Comes d (Letters run ∷ more) last
+      → length more ≤ n → go n (and_then found (λ next. Ok (next, more))) ≡ Ok last → Comes d (Letters run ∷ more) last
   letters-then n all d last run more (Ok next) is short e =
       later-on d next last (Letters run ∷ more) more (unused_letters d run more) (letters-leave zone today.shown d next run more is)
       (λ later walk. AtLetters d next (settle last) run more later is walk) (all next last more short e)

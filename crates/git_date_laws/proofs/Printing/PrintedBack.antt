@@ -29,7 +29,7 @@ use Rattle.gix_date.specs.Fields.Offsets.{compact_offset_text}
 use Rattle.std.specs.Fmt.{decimal}
 use Rattle.git_date.specs.Rules.Dates.{is_month, first_of, month_start, seconds_after, exact_seconds}
 use Rattle.git_date.specs.Exact.Outcome.{instant_seconds, date_at, date_of}
-use Rattle.git_date.specs.Laws.Printed.{IsGitTime, IsReadBack, AreReadBack}
+use Rattle.git_date_laws.specs.Texts.Printed.{IsGitTime, IsReadBack, AreReadBack}
 use Rattle.git_date.specs.Exact.Reading.{by_seconds, fields_said, said_by}
 use Rattle.git_date.specs.Show.Clocks.{has_zone_clock, known_offset, time_at, whole_minutes, with_known_offset, zone_clock}
 use Rattle.git_date.specs.Types.Names.{Now}
@@ -114,25 +114,19 @@ module _ (t : Time) (h : IsGitTime t) (z : PlainZoned) (shows : Shows z t) where
 
   is-clock : IsGitClock (local_time z)
   is-clock =
-      let month_in = z.datetime.date.month_in in
-      let day_in = z.datetime.date.day_in in
       let long = days_in_month_bounds z.datetime.date.year z.datetime.date.month in
-      let hour_in = z.datetime.time.hour_in in
-      let minute_in = z.datetime.time.minute_in in
-      let second_in = z.datetime.time.second_in in
-      let short = within in
       record {
         weekday = weekday-small z.datetime.date;
         first_year = first;
         last_year = last;
-        first_month = month_in.0;
-        last_month = month_in.1;
-        first_day = day_in.0;
-        last_day = omega (arith, day_in, long);
-        hour = omega (arith, hour_in);
-        minute = omega (arith, minute_in);
-        second = omega (arith, second_in);
-        hours = omega (arith, short);
+        first_month = z.datetime.date.month_in.0;
+        last_month = z.datetime.date.month_in.1;
+        first_day = z.datetime.date.day_in.0;
+        last_day = omega (arith, z.datetime.date.day_in, long);
+        hour = omega (arith, z.datetime.time.hour_in);
+        minute = omega (arith, z.datetime.time.minute_in);
+        second = omega (arith, z.datetime.time.second_in);
+        hours = omega (arith, within);
         minutes = omega arith;
         known = λ behind one. h.known (one-behind t.offset (is_behind (local_time z)) (60 * hours_of (local_time z) + minutes_of (local_time z)) back behind one);
       }

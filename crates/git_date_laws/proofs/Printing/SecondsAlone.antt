@@ -23,7 +23,7 @@ use Rattle.git_date.specs.Exact.Fast.{WritesOffset, WritesSeconds}
 use Rattle.git_date.specs.Rules.Fields.{unknown}
 use Rattle.git_date.specs.Rules.Offsets.{at_text}
 use Rattle.git_date.specs.Exact.Outcome.{date_at, date_in, date_of, instant_seconds}
-use Rattle.git_date.specs.Laws.Printed.{IsGitTime}
+use Rattle.git_date_laws.specs.Texts.Printed.{IsGitTime}
 use Rattle.git_date.specs.Exact.Reading.{ended, said_by, step}
 use Rattle.git_date.specs.Show.Dates.{raw_text, shown, shown_offset}
 use Rattle.git_date.specs.Show.Clocks.{Moment, is_written_offset, time_at, zone_clock}

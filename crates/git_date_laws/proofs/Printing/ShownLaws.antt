@@ -12,7 +12,7 @@ use Rattle.gix_date.specs.Fields.Layout.{LocalTime}
 use Rattle.gix_date.specs.Header.Text.{header_text, written_text}
 use Rattle.gix_date.specs.Printing.Formats.{PrintsPattern, PrintsHeader, PrintsSeconds}
 use Rattle.gix_date.specs.Printing.LocalClocks.{clock_of, local_seconds, HasFourDigitFields}
-use Rattle.gix_date.specs.Printing.NamedTexts.{ShowsText, short_pattern, short_text, iso8601_pattern, iso8601_text, iso8601_strict_pattern, iso8601_strict_text, git_rfc2822_pattern, git_rfc2822_text, default_pattern, default_text, bare_default_text}
+use Rattle.gix_date.specs.Printing.NamedTexts.{ShowsText, iso8601_strict_pattern, iso8601_strict_text, git_rfc2822_pattern, git_rfc2822_text, default_pattern, default_text, bare_default_text}
 use Rattle.gix_date.specs.Text.Numbers.{decimal_text}
 use Rattle.gix_date.specs.declared.error.Error.{Error}
 use Rattle.gix_date.specs.declared.time.Time.{Time}
@@ -22,7 +22,7 @@ use Rattle.git_date.specs.Show.Dates.{raw_text, shown, shown_offset}
 use Rattle.git_date.specs.Show.Clocks.{has_own_clock, is_dated, is_written_offset, own_clock}
 use Rattle.git_date.specs.Show.Texts.{git_default_text, unknown_offset}
 use Rattle.git_date.specs.declared.mode.DateKind.{DateKind}
-use Rattle.git_date.specs.declared.mode.DateKind.TheVariants.{Relative, Iso8601Strict, Iso8601, Rfc2822, Short, Default, Raw, Unix}
+use Rattle.git_date.specs.declared.mode.DateKind.TheVariants.{Relative, Iso8601Strict, Rfc2822, Default, Raw, Unix}
 use Rattle.git_date.specs.declared.mode.DateMode.{DateMode}
 use Rattle.git_date_laws.specs.Shown.{IsShownAs}
 
@@ -58,7 +58,7 @@ four-digits t h =
     record { in_years = (omega (arith, signed_arith, local), local.1); minutes = none _ written.1 }
 
 -- a text of the time's own clock is what the pattern of that text prints
-by-clock : (show : LocalTime → List ℕ) (pattern : List ℕ) → ShowsText pattern show → (t : Time) (text : List ℕ)
+pub by-clock : (show : LocalTime → List ℕ) (pattern : List ℕ) → ShowsText pattern show → (t : Time) (text : List ℕ)
     → option_map show (own_clock t) ≡ Some text → (printed : Result (String Global) Error) → PrintsPattern t pattern printed
     → IfOk printed (λ s. string_bytes s ≡ text)
 unfolding own_clock
@@ -66,14 +66,6 @@ by-clock show pattern law t text e (Ok s) h =
     let m = mapped show (has_own_clock t) (clock_of t) text e in
     printed-as pattern show law t (four-digits t m.0) (Ok s) h ∙ m.1
 by-clock show pattern law t text e (Err fault) h = tt
-
-pub short-alike : (t : Time) → IsShownAs Short (PrintsPattern t short_pattern) t
-unfolding shown
-short-alike t now text printed e h = by-clock short_text short_pattern formats_printed.short.only t text (when-shown (lt_z t.seconds (pos 0)) _ text e).1 printed h
-
-pub iso8601-alike : (t : Time) → IsShownAs Iso8601 (PrintsPattern t iso8601_pattern) t
-unfolding shown
-iso8601-alike t now text printed e h = by-clock iso8601_text iso8601_pattern formats_printed.iso8601.only t text (when-shown (lt_z t.seconds (pos 0)) _ text e).1 printed h
 
 pub iso8601-strict-alike : (t : Time) → IsShownAs Iso8601Strict (PrintsPattern t iso8601_strict_pattern) t
 unfolding shown

@@ -8,12 +8,13 @@ use Rattle.git_date.specs.Approximate.Reading.{Read, draft_of, rule, steps}
 use Rattle.git_date.specs.Approximate.Drafts.{first_draft}
 use Rattle.git_date.specs.Approximate.Zones.{Choices}
 use Rattle.git_date.specs.Rules.Dates.{now_of}
-use Rattle.git_date.specs.Exact.Reading.{nothing_read, reading_of, and_then}
+use Rattle.git_date.specs.Exact.Reading.{nothing_read, reading_of}
 use Rattle.git_date.specs.Tokens.Tokens.{Token, tokens, walked}
 use Rattle.git_date.specs.Types.Names.{Draft, Today}
 use Rattle.git_date_laws.proofs.Heard.Bare.{Anywhere, Anything, drafts-of}
 use Rattle.git_date_laws.proofs.Heard.Texts.{IsShort, short-of}
 use Rattle.git_date_laws.specs.Laws.{AreStepsEnough}
+use Rattle.git_date.specs.Tokens.Steps.{and_then}
 
 -- a rule of the approximate reader leaves fewer tokens
 rule-fewer : (zone : Choices) (today : Today) (n : ℕ) (d : Draft) (t : Token) (more : List Token) → length (t ∷ more) ≤ suc n → IsShort n (rule zone today d t more)

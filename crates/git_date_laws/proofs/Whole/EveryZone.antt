@@ -13,7 +13,7 @@ use Rattle.gix_date.specs.Text.Front.{◌>>=◌}
 use Rattle.gix_date.specs.declared.time.Time.{Time}
 use Rattle.git_date.specs.Approximate.Reading.{ApproximateOutcome, answer, answer_of, guess_by, string_guess, draft_of}
 use Rattle.git_date.specs.Approximate.Clocks.{filled_seconds}
-use Rattle.git_date.specs.Approximate.Drafts.{clock_fields, all_fields, dropped, first_draft, settle, with_shown, last_of}
+use Rattle.git_date.specs.Approximate.Drafts.{clock_fields, all_fields, first_draft, settle, with_shown, last_of}
 use Rattle.git_date.specs.Approximate.Rules.{understood, letters_rule, meaning_rule}
 use Rattle.git_date.specs.Approximate.Words.{moment_named, count_named, unit_named, meaning_of}
 use Rattle.git_date.specs.Approximate.Zones.{Choices, choices_of, with_offset, shown_in, filled_time, fill}
@@ -126,7 +126,7 @@ now-undated this = refl
 
 now-drafted : (zone : Choices) (today : Today) (moved : Draft) → fill zone today.shown (first_draft today.shown) 0 3 ≡ Ok moved
     → draft_of zone today (codes "now") ≡ Ok (understood moved)
-unfolding computing walked draft_of letters_rule meaning_rule dropped moment_named count_named unit_named meaning_of
+unfolding computing walked draft_of letters_rule meaning_rule moment_named count_named unit_named meaning_of
 now-drafted zone today moved e = rw e refl
 
 module _ (moment : Zoned) (shown : IsShownThere moment (now_of moment).seconds) where

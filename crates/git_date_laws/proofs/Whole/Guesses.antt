@@ -11,7 +11,7 @@ use Rattle.gix_date.specs.Relative.Steps.{zone_of}
 use Rattle.git_date.specs.Approximate.Reading.{answer_up_to, approximate, exact_or_guess, string_guess, guess}
 use Rattle.git_date.specs.Approximate.Zones.{Choices, choices_of, one_offset}
 use Rattle.git_date.specs.Rules.Dates.{now_of}
-use Rattle.git_date.specs.Laws.Heard.{heard, told, are_usual}
+use Rattle.git_date_laws.specs.Texts.Heard.{heard, told, are_usual}
 use Rattle.git_date.specs.Exact.Outcome.{date_of, DateOutcome}
 use Rattle.git_date.specs.Exact.Reading.{said_by}
 use Rattle.git_date.specs.Tokens.Strings.{string_len, before_nul, nul_place}
@@ -21,8 +21,8 @@ use Rattle.git_date.specs.declared.approximate.answer.Approximate.{Approximate}
 use Rattle.git_date.specs.declared.date.ReadDate.{ReadDate}
 use Rattle.git_date.specs.declared.error.DateError.{DateError}
 use Rattle.git_date.specs.declared.error.DateError.TheVariants.{Unreadable}
-use Rattle.git_date_laws.proofs.Alike.Texts.{same-case}
-use Rattle.git_date_laws.proofs.Alike.ApproximateTexts.{guess-in-any-case}
+use Rattle.git_date_laws.proofs.Alike.Texts.{same-case, equal-bytes}
+use Rattle.git_date_laws.proofs.Alike.ApproximateTexts.{guess-lower, lower}
 use Rattle.git_date_laws.proofs.Alike.Cuts.{answer-parts}
 use Rattle.git_date_laws.proofs.Back.FixedChoices.{fixed-choices}
 use Rattle.git_date_laws.proofs.Back.ExactBack.{counted-back, up-to-nul}
@@ -60,7 +60,8 @@ pub same_in_any_case : (moment : Zoned) (text : List ℕ) → HasAnswerInAnyCase
 same_in_any_case moment text other result again same h g =
     let zone = choices_of (zone_of moment) in
     h ∙ ap (λ (said : Result Said DateError). exact_of moment text zone (date_of (zone_of moment) said)) (same-case (now_of moment) text other same)
-    ∙ ap (exact_or_guess (date_of (zone_of moment) (said_by (now_of moment) other))) (guess-in-any-case zone (now_of moment) text other same) ∙ sym g
+    ∙ ap (exact_or_guess (date_of (zone_of moment) (said_by (now_of moment) other))) (sym (guess-lower zone (now_of moment) text)
+    ∙ ap (guess zone (now_of moment)) (equal-bytes (lower text) (lower other) same) ∙ guess-lower zone (now_of moment) other) ∙ sym g
 
 -- an unreadable text has its guess
 pub guessed : (moment : Zoned) (text : List ℕ) → DateOutcome moment text (Err Unreadable)
@@ -99,13 +100,9 @@ whole-text text e = by (nat_lt (string_len text) (length text)) refl e
         let most : length text ≤ string_len text = grind (arith, nat_tests, is) in
         omega (arith, least, most)
 
-usual-whole : (zone : Choices) (now : Now) (text : List ℕ) (date : Approximate) → guess zone now text ≡ Ok date → date.ignored ≡ None → are_usual text ≡ true
-usual-whole zone now text date e none =
-    let parts = answer-parts zone now text date e in
-    let both = none-both parts.before.ignored (nul_place text) (ap (λ (d : Approximate). d.ignored) (sym parts.is) ∙ none) in
-    subst (λ (string : List ℕ). are_usual string ≡ true) (all-before text (whole-text text both.1))
-    (guess-usual zone now (before_nul text) parts.before parts.is_found both.0)
-
 pub ignores-no-word : (moment : Zoned) (text : List ℕ) → IgnoresNoWord moment text
 ignores-no-word moment text date unreadable h none =
-    usual-whole (choices_of (zone_of moment)) (now_of moment) text date (sym (h ∙ guessed moment text unreadable)) none
+    let parts = answer-parts (choices_of (zone_of moment)) (now_of moment) text date (sym (h ∙ guessed moment text unreadable)) in
+    let both = none-both parts.before.ignored (nul_place text) (ap (λ (d : Approximate). d.ignored) (sym parts.is) ∙ none) in
+    subst (λ (string : List ℕ). are_usual string ≡ true) (all-before text (whole-text text both.1))
+    (guess-usual (choices_of (zone_of moment)) (now_of moment) (before_nul text) parts.before parts.is_found both.0)

@@ -66,8 +66,7 @@ module _ (moment : Zoned) (o : Offset) (count size : ℕ) (fixed : zone_of momen
   seconds-are : (j : ℤ) → Reaches (pair_back count size) (fixed_zone o) n j → 1900 ≤ month_back (shown_of x) (units count size) / 12 → pos 0 ≤ℤ later
       → whole_seconds j ≡ later
   seconds-are j r from since =
-      let chain = r.2 in
-      stepped r.0 chain.0 j (fixed-resolves o n r.0 r.1) chain.1.1 chain.2 from since
+      stepped r.0 r.2.0 j (fixed-resolves o n r.0 r.1) r.2.1.1 r.2.2 from since
 
   time-is : (time : Time) → IsNamed (pair_back count size) moment time → 1900 ≤ month_back (shown_of x) (units count size) / 12 → pos 0 ≤ℤ later
       → time ≡ record { seconds = later; offset = o.seconds }

@@ -7,16 +7,16 @@ use Rattle.jiff.specs.Words.{nanos_of_seconds, offset_at}
 use Rattle.jiff.specs.declared.zoned.Zoned.{Zoned}
 use Rattle.gix_date.specs.Relative.Steps.{zone_of}
 use Rattle.gix_date.specs.declared.time.Time.{Time}
-use Rattle.git_date.specs.Approximate.Reading.{Read, with_rest, steps, draft_of, answer, answer_of, answer_up_to, guess_by, string_guess, guess, is_unreadable, exact_or_guess}
-use Rattle.git_date.specs.Approximate.Drafts.{clock_fields, first_draft, ignore, with_number, settled_by, settle_number, settle, last_of}
-use Rattle.git_date.specs.Approximate.Rules.{Ruled, understood, read_word, word_by, are_digits_next, letters_rule, is_padded, number_waits, group_said, group_or_number, digits_rule}
+use Rattle.git_date.specs.Approximate.Reading.{Read, steps, draft_of, answer, answer_of, answer_up_to, guess_by, string_guess, guess, is_unreadable, exact_or_guess}
+use Rattle.git_date.specs.Approximate.Drafts.{clock_fields, first_draft, ignore, with_number, settle_number, settle, last_of, without_number}
+use Rattle.git_date.specs.Approximate.Rules.{Ruled, understood, read_word, word_by, are_digits_next, letters_rule, is_padded, number_waits, group_or_number, digits_rule}
 use Rattle.git_date.specs.Approximate.Words.{meaning_of}
 use Rattle.git_date.specs.Approximate.Zones.{Choices, choices_of, filled_time}
 use Rattle.git_date.specs.Rules.Dates.{now_of}
-use Rattle.git_date.specs.Rules.Digits.{Stepped}
+use Rattle.git_date.specs.Rules.Digits.{group_said}
 use Rattle.git_date.specs.Tokens.Numbers.{number, is_too_large}
 use Rattle.git_date.specs.Exact.Outcome.{date_of}
-use Rattle.git_date.specs.Exact.Reading.{and_then, ended, place_in, said_by}
+use Rattle.git_date.specs.Exact.Reading.{ended, place_in, said_by}
 use Rattle.git_date.specs.Tokens.Strings.{before_nul, nul_place}
 use Rattle.git_date.specs.Tokens.Tokens.{Token, Letters, Digits, Mark, tokens, bytes_left, walked}
 use Rattle.git_date.specs.Rules.Words.{is_filler, without_ending}
@@ -30,15 +30,9 @@ use Rattle.git_date_laws.proofs.Whole.EveryZone.{now-reached}
 use Rattle.git_date_laws.proofs.Back.ExactBack.{clock_at}
 use Rattle.git_date_laws.specs.ApproximateLaws.{IsShownThere, IsMomentUnlessUnderstood}
 use Rattle.gix_date.specs.Fields.Layout.{LocalTime}
-
-same-draft : (a b : Draft) → ◌≡◌ {A = Result Draft Fault} (Ok a) (Ok b) → a ≡ b
-same-draft a b e = cc
-
-same-read : (a b : Draft × List Token) → ◌≡◌ {A = Read} (Ok a) (Ok b) → a ≡ b
-same-read a b e = cc
-
-same-date : (a b : Approximate) → ◌≡◌ {A = Result Approximate DateError} (Ok a) (Ok b) → a ≡ b
-same-date a b e = cc
+use Rattle.git_date.specs.Tokens.Steps.{and_then}
+use Rattle.std.specs.Option.{option_map_or}
+use Rattle.git_date_laws.proofs.Heard.Texts.{same-ok}
 
 not-both : (b : Bool) → b ≡ true → b ≡ false → ⊥
 not-both true e f = absurd cc
@@ -51,12 +45,12 @@ module _ (zone : Choices) (today : Today) where
 
   word-idle : (d next : Draft) (run : List ℕ) (left : ℕ) (ruled : Ruled) → Idle d → read_word d run left ruled ≡ Ok next → Idle next
   word-idle d next run left (Ok (Some n)) h e =
-      λ silent. absurd (not-both next.understood (sym (ap (λ (x : Draft). x.understood) (same-draft (understood n) next e))) silent)
+      λ silent. absurd (not-both next.understood (sym (ap (λ (x : Draft). x.understood) (same-ok (understood n) next e))) silent)
   word-idle d next run left (Ok None) h e = by (is_filler run) e
     where
       by : (b : Bool) → ◌≡◌ {A = Result Draft Fault} (Ok (cond b d (ignore d left))) (Ok next) → Idle next
-      by true e = subst Idle (same-draft d next e) h
-      by false e = subst Idle (same-draft (ignore d left) next e) h
+      by true e = subst Idle (same-ok d next e) h
+      by false e = subst Idle (same-ok (ignore d left) next e) h
   word-idle d next run left (Err x) h e = absurd cc
 
   letters-idle : (d next : Draft) (run : List ℕ) (more : List Token) → Idle d → letters_rule zone today.shown d run more ≡ Ok next → Idle next
@@ -67,22 +61,21 @@ module _ (zone : Choices) (today : Today) where
       left = bytes_left (Letters run ∷ more)
 
       by : (b : Bool) → cond b (Ok (ignore d left)) (read_word d run left (word_by zone today.shown d left (meaning_of run))) ≡ Ok next → Idle next
-      by true e = subst Idle (same-draft (ignore d left) next e) h
+      by true e = subst Idle (same-ok (ignore d left) next e) h
       by false e = word-idle d next run left (word_by zone today.shown d left (meaning_of run)) h e
 
   number-heard : (d : Draft) (run : List ℕ) (left : ℕ) → d.understood ≡ true → (number_waits d run left).understood ≡ true
-  unfolding number_waits
   number-heard d run left h = by (number run == 0 || is_padded run)
     where
       by : (b : Bool) → (cond b (ignore d left) (record d { waiting = Some (record { value = number run; left = left }) })).understood ≡ true
       by true = h
       by false = h
 
-  group-heard : (d : Draft) (run : List ℕ) (left : ℕ) (found : Draft × List Token) (said : Stepped) → d.understood ≡ true
-      → group_or_number d run left said ≡ Ok found → found.0.understood ≡ true
-  group-heard d run left found (Ok (Some f, more)) h e = sym (ap (λ (x : Draft × List Token). x.0.understood) (same-read _ found e)) ∙ h
-  group-heard d run left found (Ok (None, more)) h e = sym (ap (λ (x : Draft × List Token). x.0.understood) (same-read _ found e)) ∙ number-heard d run left h
-  group-heard d run left found (Err x) h e = absurd cc
+  group-heard : (d : Draft) (run : List ℕ) (more : List Token) (found : Draft × List Token) (said : Result (Option (Fields × List Token)) Fault) → d.understood ≡ true
+      → and_then said (λ said. Ok (group_or_number d run more said)) ≡ Ok found → found.0.understood ≡ true
+  group-heard d run more found (Ok (Some taken)) h e = sym (ap (λ (x : Draft × List Token). x.0.understood) (same-ok _ found e)) ∙ h
+  group-heard d run more found (Ok None) h e = sym (ap (λ (x : Draft × List Token). x.0.understood) (same-ok _ found e)) ∙ number-heard d run _ h
+  group-heard d run more found (Err x) h e = absurd cc
 
   digits-heard : (d : Draft) (run : List ℕ) (more : List Token) (found : Draft × List Token) → digits_rule today.now d run more ≡ Ok found → found.0.understood ≡ true
   unfolding digits_rule
@@ -94,10 +87,10 @@ module _ (zone : Choices) (today : Today) where
       ready : Draft
       ready = understood (settle d)
 
-      by : (b : Bool) → cond b (Err (NumberTooLarge left)) (group_or_number ready run left (group_said today.now ready.fields run more)) ≡ Ok found
+      by : (b : Bool) → cond b (Err (NumberTooLarge left)) (and_then (group_said today.now ready.fields run more) (λ said. Ok (group_or_number ready run more said))) ≡ Ok found
           → found.0.understood ≡ true
       by true e = absurd cc
-      by false e = group-heard ready run left found (group_said today.now ready.fields run more) refl e
+      by false e = group-heard ready run more found (group_said today.now ready.fields run more) refl e
 
   abbrev go : ℕ → Read → Result Draft Fault
   go n step = and_then step (λ next. steps zone today n next.0 next.1)
@@ -106,7 +99,7 @@ module _ (zone : Choices) (today : Today) where
   StepsIdle n = (d last : Draft) (ts : List Token) → Idle d → steps zone today n d ts ≡ Ok last → Idle last
 
   letters-then : (n : ℕ) → StepsIdle n → (d last : Draft) (run : List ℕ) (more : List Token) (found : Result Draft Fault) → Idle d
-      → letters_rule zone today.shown d run more ≡ found → go n (with_rest more found) ≡ Ok last → Idle last
+      → letters_rule zone today.shown d run more ≡ found → go n (and_then found (λ next. Ok (next, more))) ≡ Ok last → Idle last
   letters-then n all d last run more (Ok next) h is e = all next last more (letters-idle d next run more h is) e
   letters-then n all d last run more (Err x) h is e = absurd cc
 
@@ -118,9 +111,9 @@ module _ (zone : Choices) (today : Today) where
 
   steps-idle : (n : ℕ) (d last : Draft) (ts : List Token) → Idle d → steps zone today n d ts ≡ Ok last → Idle last
   unfolding walked
-  steps-idle zero d last [] h e = subst Idle (same-draft d last e) h
-  steps-idle (suc n) d last [] h e = subst Idle (same-draft d last e) h
-  steps-idle zero d last (t ∷ more) h e = subst Idle (same-draft d last e) h
+  steps-idle zero d last [] h e = subst Idle (same-ok d last e) h
+  steps-idle (suc n) d last [] h e = subst Idle (same-ok d last e) h
+  steps-idle zero d last (t ∷ more) h e = subst Idle (same-ok d last e) h
   steps-idle (suc n) d last (Mark byte ∷ more) h e = steps-idle n d last more h e
   steps-idle (suc n) d last (Letters run ∷ more) h e =
       letters-then n (λ d last ts h e. steps-idle n d last ts h e) d last run more (letters_rule zone today.shown d run more) h refl e
@@ -135,17 +128,18 @@ module _ (zone : Choices) (today : Today) where
   unfolding settle
   settle-understood d = by d.waiting
     where
-      by-field : (left : ℕ) (f : Option Fields) → (settled_by d left f).understood ≡ d.understood
+      by-field : (left : ℕ) (f : Option Fields)
+          → (option_map_or (λ f. record (without_number d) { fields = f }) f (ignore (without_number d) left)).understood ≡ d.understood
       by-field left (Some f) = refl
       by-field left None = refl
 
-      by : (waiting : Option Number) → (settle_number d waiting).understood ≡ d.understood
+      by : (waiting : Option Number) → (option_map_or (settle_number (without_number d)) waiting d).understood ≡ d.understood
       by (Some n) = by-field n.left (with_number d.fields n.value)
       by None = refl
 
   settle-idle : (d : Draft) → d.waiting ≡ None → settle d ≡ d
   unfolding settle
-  settle-idle d none = ap (settle_number d) none
+  settle-idle d none = ap (λ (waiting : Option Number). option_map_or (settle_number (without_number d)) waiting d) none
 
 -- what an answer has of a draft
 answer-parts : (text : List ℕ) (d : Draft) (time : Option Time) (date : Approximate) → answer text d time ≡ Ok date
@@ -156,7 +150,7 @@ answer-parts text d (Some time) date e = by (le_z (pos 0) time.seconds) e
     by : (b : Bool) → cond b (Ok (record { time = time; understood = d.understood; ignored = option_map (place_in text) d.ignored })) (Err error.Range) ≡ Ok date
         → (date.understood ≡ d.understood) × (Some date.time ≡ Some time)
     by true e =
-        let same = same-date _ date e in
+        let same = same-ok _ date e in
         (sym (ap (λ (x : Approximate). x.understood) same), sym (ap (λ (x : Approximate). Some x.time) same))
     by false e = absurd cc
 
@@ -206,14 +200,14 @@ module _ (moment : Zoned) (shown : IsShownThere moment (now_of moment).seconds) 
     where
       by : (found : Result Approximate DateError) → string_guess zone this (before_nul text) ≡ found → answer_up_to (nul_place text) found ≡ Ok date → date.time ≡ itself
       by (Ok inner) is e =
-          let same = same-date _ date e in
+          let same = same-ok _ date e in
           sym (ap (λ (x : Approximate). x.time) same)
           ∙ string-guessed (before_nul text) inner is (ap (λ (x : Approximate). x.understood) same ∙ silent)
       by (Err x) is e = absurd cc
 
   exact-or : (text : List ℕ) (date : Approximate) (exact : Result ReadDate DateError) → exact_or_guess exact (guess zone this text) ≡ Ok date
       → date.understood ≡ false → date.time ≡ itself
-  exact-or text date (Ok read) e silent = absurd (not-both date.understood (sym (ap (λ (x : Approximate). x.understood) (same-date _ date e))) silent)
+  exact-or text date (Ok read) e silent = absurd (not-both date.understood (sym (ap (λ (x : Approximate). x.understood) (same-ok _ date e))) silent)
   exact-or text date (Err x) e silent = by (is_unreadable x) e
     where
       by : (b : Bool) → cond b (guess zone this text) (Err x) ≡ Ok date → date.time ≡ itself

@@ -12,7 +12,7 @@ use Rattle.git_date.specs.Approximate.Reading.{approximate}
 use Rattle.git_date.specs.Approximate.Expiry.{expiry_by, fixed_expiry}
 use Rattle.git_date.specs.Rules.Dates.{now_of}
 use Rattle.git_date.specs.Exact.Outcome.{read_at}
-use Rattle.git_date.specs.Laws.Printed.{IsGitTime, IsReadBack}
+use Rattle.git_date_laws.specs.Texts.Printed.{IsGitTime, IsReadBack}
 use Rattle.git_date.specs.Show.Dates.{shown, shown_clock}
 use Rattle.git_date.specs.Show.Clocks.{Moment, has_own_clock, own_clock}
 use Rattle.git_date.specs.Tokens.Strings.{before_nul}

@@ -3,7 +3,8 @@ ghost use Rattle.std.specs.Prelude.{◌≤◌, length};
 
 use crate::runs::line::extend;
 use gix_date::device::Source;
-use gix_date_tool::{ToolError, split_line};
+use gix_date_lines::split_line;
+use gix_date_tool::ToolError;
 
 /// How many bytes are read at most at a time.
 const CHUNK: usize = 16384;

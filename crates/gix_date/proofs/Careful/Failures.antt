@@ -6,9 +6,6 @@ use Rattle.gix_date.specs.Careful.Texts.{ends_in_ago, first_failure, is_clear_at
 pub goes_on : (t : ℕ → Bool) (k : ℕ) → first_failure t k ≡ None → t k ≡ true → first_failure t (suc k) ≡ None
 goes_on t k none here = rw (none, here) refl
 
-fails_here : (t : ℕ → Bool) (k : ℕ) → first_failure t k ≡ None → t k ≡ false → first_failure t (suc k) ≡ Some k
-fails_here t k none here = rw (none, here) refl
-
 stays : (t : ℕ → Bool) (k n : ℕ) → first_failure t n ≡ Some k → first_failure t (suc n) ≡ Some k
 stays t k n e = rw e refl
 
@@ -20,7 +17,7 @@ reaches t k (suc d) (suc n) same e = stays t k n (reaches t k d n (omega (arith,
 -- what fails first is the first failure of all that follows
 pub failed_first : (t : ℕ → Bool) (k n : ℕ) → first_failure t k ≡ None → t k ≡ false → k < n → first_failure t n ≡ Some k
 failed_first t k n none here less =
-    reaches t k (n - suc k) n (omega (arith, less)) (fails_here t k none here)
+    reaches t k (n - suc k) n (omega (arith, less)) (rw (none, here) refl)
 
 -- the place where a text stops being clear
 pub stopped : (text : List ℕ) (place : ℕ) → first_failure (is_clear_at text) place ≡ None → is_clear_at text place ≡ false → place < length text → Some place ≡ unclear_place text

@@ -35,21 +35,16 @@ is-local o t e =
 
 pub none-local : (o : Offset) (t r : Time) → is_instant (t.seconds -ℤ o.seconds) ≡ false → IsLocalTime (fixed_zone o) t r → ⊥
 none-local o t r e h =
-    let s = t.seconds in
-    let is = fixed-picked o (nanos_of_seconds s) h.instant h.picked in
+    let is = fixed-picked o (nanos_of_seconds t.seconds) h.instant h.picked in
     let range = h.picked.in_range in
-    let within = instant_from (s -ℤ o.seconds) (omega (arith, signed_arith, is, range), omega (arith, signed_arith, is, range)) in
+    let within = instant_from (t.seconds -ℤ o.seconds) (omega (arith, signed_arith, is, range), omega (arith, signed_arith, is, range)) in
     absurd cc
-
--- zones that choose alike have the same times
-in-alike : (a b : TimeZone) → ChooseAlike a b → (j : ℤ) → time_in b j ≡ time_in a j
-in-alike a b h j = ap (λ (o : ℤ). record { seconds = seconds_of j; offset = o }) (sym (h.offset j))
 
 local-alike : (a b : TimeZone) (t r : Time) → ChooseAlike a b → IsLocalTime b t r → IsLocalTime a t r
 local-alike a b t r h l = record {
   instant = l.instant;
   picked = picked-alike b a (turned a b h) _ l.instant l.picked;
-  is = l.is ∙ in-alike a b h l.instant;
+  is = l.is ∙ ap (λ (o : ℤ). let t : Time = record { seconds = seconds_of l.instant; offset = o } in t) (sym (h.offset l.instant));
 }
 
 pub if-any-alike : (a b : TimeZone) (t : Time) (r : Option Time) → ChooseAlike a b → IsLocalIfAny b t r → IsLocalIfAny a t r

@@ -25,7 +25,7 @@ use Rattle.gix_date.specs.Text.SpaceWords.{space_words, runs}
 use Rattle.gix_date.specs.Fields.Layout.{LocalTime, DayName, BeginsWith}
 use Rattle.gix_date.specs.declared.time.Time.{Time}
 use Rattle.gix_date.proofs.Families.Apart.{at-first, before-git-apart, NoPlainDate, NoDayFirst, no-day, no_pair, no_pair_of, pair_read, one-no-pair}
-use Rattle.gix_date.proofs.Text.AsciiCuts.{ascii-by}
+use Rattle.gix_date.proofs.Text.AsciiCuts.{ascii-by, space_is_ascii}
 use Rattle.gix_date.proofs.Families.Disjoint.{are-disjoint, raw-words, quiet-raw, epoch-int, git-front, front-digits, letter_visible, digit_visible}
 use Rattle.gix_date.proofs.Fields.FieldsRead.{Begins, name-begins, letter-no-digit, year-read}
 use Rattle.gix_date.proofs.Fields.FieldsTaken.{went, after-taken, weekday-taken, none-unless, same-first}
@@ -64,9 +64,6 @@ trim-visible x h =
     ∙ ap encode_utf8_all (drop-visible x h) ∙ encodes-IsAscii x a
 
 -- a word of visible bytes, spaces, and what stands after them
-pub space_ascii : (c : ℕ) → is_space c ≡ true → c < 128
-space_ascii c h = grind (arith, nat_tests, h)
-
 pub space-white : (c : ℕ) → is_space c ≡ true → is_whitespace c ≡ true
 space-white c h = let is : c ≡ space = grind (arith, nat_tests, h) in rw is refl
 
@@ -86,7 +83,7 @@ word-then x xs g gap rest v s =
     let spaces = g ∷ gap in
     let all : list_all is_space spaces ≡ true = rw (s.0, s.1) refl in
     let a = are-ascii word v in
-    let b = ascii-by is_space space_ascii spaces all in
+    let b = ascii-by is_space space_is_ascii spaces all in
     let read_word : chars (word ++ (spaces ++ rest)) ≡ word ++ chars (spaces ++ rest) =
     chars-append word (spaces ++ rest) (IsUtf8-from_ascii word a)
     ∙ ap (λ (t : List ℕ). t ++ chars (spaces ++ rest)) (chars-IsAscii word a) in
@@ -269,21 +266,17 @@ pub absolute : (r : Option Time) → is_some (option_map Absolute r) ≡ true �
 absolute (Some t) e = (t, refl)
 absolute None e = absurd cc
 
-relative : (r : Option RelativeDate) → is_some (option_map Relative r) ≡ true → r ≡ None → ⊥
-relative (Some d) e n = absurd cc
-relative None e n = absurd cc
-
 pub none-held : {A : Type 0} (r : Option A) → is_some r ≡ true → r ≡ None → ⊥
 none-held (Some x) e n = absurd cc
 none-held None e n = absurd cc
 
-pub no-absolute : (r : Option Time) → is_some (option_map Absolute r) ≡ true → r ≡ None → ⊥
-no-absolute (Some x) e n = absurd cc
-no-absolute None e n = absurd cc
+pub none-mapped : {A B : Type 0} (f : A → B) (r : Option A) → is_some (option_map f r) ≡ true → r ≡ None → ⊥
+none-mapped f (Some x) e n = absurd cc
+none-mapped f None e n = absurd cc
 
 -- no quiet text is relative
 pub quiet-clash : (rule : OffsetRule) (text : List ℕ) → IsUtf8 text → IsQuiet text → Holds rule RelativeText text → ⊥
-quiet-clash rule text u q h = relative (relative_date text) h (no-relative text u q)
+quiet-clash rule text u q h = none-mapped (λ (d : RelativeDate). Relative d) (relative_date text) h (no-relative text u q)
 
 is-quiet : (rule : OffsetRule) (family : Family) (text : List ℕ) → IsUtf8 text → family ≢ RelativeText
     → overlap family RelativeText ≡ false → Holds rule family text → IsQuiet text
@@ -343,8 +336,8 @@ raw-alone rule Iso8601Strict text t u n e h =
     none-held (iso8601_strict_answer text) h (raw-no-plain rule text t e).strict
 raw-alone rule Gitoxide text t u n e h = none-held (gitoxide_answer text) h (raw-no-named rule text t e).gitoxide
 raw-alone rule Default text t u n e h = none-held (default_answer text) h (raw-no-named rule text t e).default
-raw-alone rule BareEpoch text t u n e h = no-absolute (epoch_time text) h ((are-disjoint rule text u).raw_epoch t e)
-raw-alone rule GitForm text t u n e h = no-absolute (git_time text) h ((are-disjoint rule text u).raw_git t e)
+raw-alone rule BareEpoch text t u n e h = none-mapped (λ (t : Time). Absolute t) (epoch_time text) h ((are-disjoint rule text u).raw_epoch t e)
+raw-alone rule GitForm text t u n e h = none-mapped (λ (t : Time). Absolute t) (git_time text) h ((are-disjoint rule text u).raw_git t e)
 raw-alone rule RelativeText text t u n e h = quiet-clash rule text u (quiet-raw rule text t u e) h
 raw-alone rule RawText text t u n e h = absurd (n refl)
 
@@ -416,8 +409,8 @@ clash rule RelativeText b text u n o h k =
     quiet-clash rule text u (is-quiet rule b text u (λ e. n (sym e)) (sym (flip-relative b) ∙ o) k) h
 clash rule a RelativeText text u n o h k = quiet-clash rule text u (is-quiet rule a text u n o h) k
 clash rule GitForm b text u n o h k =
-    no-absolute (git_time text) h (git-clash rule b text u (λ e. n (sym e)) (sym (flip-git b) ∙ o) k)
-clash rule a GitForm text u n o h k = no-absolute (git_time text) k (git-clash rule a text u n o h)
+    none-mapped (λ (t : Time). Absolute t) (git_time text) h (git-clash rule b text u (λ e. n (sym e)) (sym (flip-git b) ∙ o) k)
+clash rule a GitForm text u n o h k = none-mapped (λ (t : Time). Absolute t) (git_time text) k (git-clash rule a text u n o h)
 clash rule a b text u n o h k = early-clash rule a b text refl refl n h k
 
 pub are-exclusive : (rule : OffsetRule) (text : List ℕ) → IsUtf8 text → AreExclusive rule text

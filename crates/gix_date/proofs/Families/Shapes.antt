@@ -115,9 +115,6 @@ no-space text h =
     let none = no-spaces (drop 3 text) h in
     elim (weekday-or text) [ inl w ↦ no-day text w | inr w ↦ record { gitoxide = rw (w, none) refl; default = rw (w, none) refl } ]
 
-comma-no-space : (c : ℕ) → (c == comma) ≡ true → is_space c ≡ false
-comma-no-space c h = grind (arith, nat_tests, h)
-
 record Lettered (rule : OffsetRule) (text : List ℕ) : Type 0 where
   pub at : at_time rule text ≡ None
   pub dates : NoPlainDate text
@@ -165,7 +162,7 @@ letter-dispatched rule (a ∷ b ∷ c ∷ d ∷ rest) l = by (d == comma) (d == 
     text = a ∷ b ∷ c ∷ d ∷ rest
 
     by : (m s : Bool) → (d == comma) ≡ m → (d == space) ≡ s → first_family_by rule text ≡ first_among rule (shape_families (cond m Rfc2822Day (cond s NamedDay Word))) text
-    by true s e f = rfc2822-dispatched rule text l (comma-no-space d e)
+    by true s e f = rfc2822-dispatched rule text l (grind (arith, nat_tests, e))
     by false true e f = named-dispatched rule text l (rw e refl)
     by false false e f = word-dispatched rule text l (rw e refl) f
 letter-dispatched rule text l = word-dispatched rule text l refl tt
@@ -225,9 +222,6 @@ day-first : (a b c d mark : ℕ) (rest : List ℕ) (year : Bool) → are_four_di
 unfolding begins_with_letter begins_with_year
 day-first a b c d mark rest year h m = record { letter = digit-no-letter a (four-are a b c d h).0; marked = rw (h, m) refl }
 
-dot-no-minus : (c : ℕ) → (c == dot) ≡ true → (c == minus) ≡ false
-dot-no-minus c h = grind (arith, nat_tests, h)
-
 -- a day in one of Git's own forms, but for the flexible one
 record DayOfGit (rule : OffsetRule) (text : List ℕ) : Type 0 where
   pub after : AfterYear rule text
@@ -241,7 +235,7 @@ dotted-day rule (a ∷ b ∷ c ∷ d ∷ mark ∷ e ∷ f ∷ second ∷ rest) h
     let front = both (are_four_digits a b c d) (mark == dot) some.0 in
     record {
       after = after-mark rule a b c d mark (e ∷ f ∷ second ∷ rest) front.0 (is-visible mark dot front.1 refl) (is-no-digit mark dot front.1 refl);
-      first = day-first a b c d mark (e ∷ f ∷ second ∷ rest) false front.0 (dot-no-minus mark front.1);
+      first = day-first a b c d mark (e ∷ f ∷ second ∷ rest) false front.0 (grind (arith, nat_tests, front.1));
     }
 dotted-day rule text h = absurd cc
 

@@ -32,9 +32,6 @@ four : (a b c d : Bool) → (a && b && c && d) ≡ true → (a ≡ true) × (b �
 four true true true true h = (refl, refl, refl, refl)
 four a b c d h = absurd cc
 
-no-zero : (c : ℕ) → not (c == digit_zero) ≡ true → c ≡ 48 → ⊥
-no-zero c h e = grind (arith, nat_tests, h, e)
-
 pub usual-seconds : (ds : List ℕ) → are_usual_seconds ds ≡ true → AreSeconds ds
 unfolding are_usual_seconds
 usual-seconds [] h = absurd cc
@@ -44,7 +41,7 @@ usual-seconds (c ∷ ds) h =
     let short : length ds < 18 = grind (arith, nat_tests, parts.2) in
     let small : digits_value 10 (c ∷ ds) < 10 ^ 18 = digits_value_short own (c ∷ ds) 18 digits (omega (arith, short)) in
     let int = bare-int (c ∷ ds) (digits_value 10 (c ∷ ds)) (omega arith) digits refl small in
-    let written = decimal-digits_value own (c ∷ ds) digits (omega arith) (λ z. absurd (no-zero c parts.1 z)) (omega (arith, small)) in
+    let written = decimal-digits_value own (c ∷ ds) digits (omega arith) (λ z. absurd (grind (arith, nat_tests, parts.1, z))) (omega (arith, small)) in
     record { is_int = int; is_decimal = decimal-test (c ∷ ds) (pos (digits_value 10 (c ∷ ds))) int written }
 
 five : (a b c d e : Bool) → (a && b && c && d && e) ≡ true → (a ≡ true) × (b ≡ true) × (c ≡ true) × (d ≡ true) × (e ≡ true)

@@ -21,7 +21,7 @@ use Rattle.gix_date.specs.declared.parsing.offset.Sign.{Sign}
 use Rattle.gix_date.specs.declared.parsing.offset.Sign.TheVariants.{Plus, Minus}
 use Rattle.gix_date.specs.declared.parsing.offset.OffsetFields.{OffsetFields}
 use Rattle.gix_date.specs.declared.time.Time.{Time}
-use Rattle.gix_date.proofs.Fields.FieldsTaken.{went, after-taken, two-taken, same-first}
+use Rattle.gix_date.proofs.Fields.FieldsTaken.{went, after-taken, two-taken, same-first, TookTwo}
 use Rattle.gix_date.proofs.Text.Ints.{each_of}
 use Rattle.gix_date.specs.Families.Raw.{OffsetRule, raw_time_by, raw_offset_by}
 use Rattle.gix_date.specs.Text.SpaceWords.{space_words, runs}
@@ -35,19 +35,13 @@ abbrev pub AreNumberBytes : List ℕ → Type 0
 AreNumberBytes [] = Unit {0}
 AreNumberBytes (c ∷ t) = (is_number_byte c ≡ true) × AreNumberBytes t
 
-byte_ascii : (c : ℕ) → is_number_byte c ≡ true → c < 128
-byte_ascii c h = grind (arith, nat_tests, h)
-
-byte_stays : (c : ℕ) → is_number_byte c ≡ true → is_whitespace c ≡ false
-byte_stays c h = grind (arith, nat_tests, h)
-
 pub are_ascii : (t : List ℕ) → AreNumberBytes t → IsAscii t
 are_ascii [] h = IsAscii-nil
-are_ascii (c ∷ t) h = IsAscii-cons c t (byte_ascii c h.0) (are_ascii t h.1)
+are_ascii (c ∷ t) h = IsAscii-cons c t (grind (arith, nat_tests, h.0)) (are_ascii t h.1)
 
 no_white_space : (t : List ℕ) → AreNumberBytes t → NonePass is_whitespace t
 no_white_space [] h = tt
-no_white_space (c ∷ t) h = (byte_stays c h.0, no_white_space t h.1)
+no_white_space (c ∷ t) h = (grind (arith, nat_tests, h.0), no_white_space t h.1)
 
 two_runs : (x y : ℕ) (xs ys : List ℕ) → NonePass is_whitespace (x ∷ xs) → NonePass is_whitespace (y ∷ ys) → runs ((x ∷ xs) ++ (space ∷ (y ∷ ys))) ≡ (x ∷ xs) ∷ (y ∷ ys) ∷ []
 two_runs x y xs ys h k =
@@ -68,12 +62,6 @@ two-words x y xs ys h k =
 digit_is : (c : ℕ) → is_ascii_digit c ≡ true → is_number_byte c ≡ true
 digit_is c h = grind (arith, nat_tests, h)
 
-minus_is : (c : ℕ) → (c == minus) ≡ true → is_number_byte c ≡ true
-minus_is c h = grind (arith, nat_tests, h)
-
-plus_is : (c : ℕ) → (c == plus) ≡ true → is_number_byte c ≡ true
-plus_is c h = grind (arith, nat_tests, h)
-
 digits_are : (t : List ℕ) → all_ascii_digits t ≡ true → AreNumberBytes t
 digits_are [] h = tt
 digits_are (c ∷ t) h =
@@ -81,8 +69,8 @@ digits_are (c ∷ t) h =
     (digit_is c parts.0, digits_are t parts.1)
 
 after_sign : (c : ℕ) (t : List ℕ) (p q : Bool) → (c == minus) ≡ p → (c == plus) ≡ q → all_ascii_digits (without_leading_sign (c ∷ t)) ≡ true → AreNumberBytes (c ∷ t)
-after_sign c t true q e f h = (minus_is c e, digits_are t (rw e at h))
-after_sign c t false true e f h = (plus_is c f, digits_are t (rw (e, f) at h))
+after_sign c t true q e f h = (grind (arith, nat_tests, e), digits_are t (rw e at h))
+after_sign c t false true e f h = (grind (arith, nat_tests, f), digits_are t (rw (e, f) at h))
 after_sign c t false false e f h = digits_are (c ∷ t) (rw (e, f) at h)
 
 -- the value of an int text
@@ -149,15 +137,15 @@ last-taken [] seconds e = record { bytes = tt; none = λ n. refl; digits = refl;
 last-taken (a ∷ b ∷ []) seconds e = last_from a b (is_ascii_digit a) (is_ascii_digit b) seconds refl refl e
 last-taken x seconds e = absurd cc
 
--- the bytes of an offset's fields
-pub record IsOffsetText (x : List ℕ) (f : OffsetFields) : Type 0 where
+-- the bytes of an offset's fields: a sign, two digits, this gap, two digits, and what says the seconds
+pub record IsOffsetBy (gap : List ℕ) (IsLast : List ℕ → Option ℕ → Type 0) (x : List ℕ) (f : OffsetFields) : Type 0 where
   pub mark : ℕ
   pub h0 : ℕ
   pub h1 : ℕ
   pub m0 : ℕ
   pub m1 : ℕ
   pub last : List ℕ
-  pub whole : x ≡ mark ∷ h0 ∷ h1 ∷ m0 ∷ m1 ∷ last
+  pub whole : x ≡ mark ∷ h0 ∷ h1 ∷ (gap ++ (m0 ∷ m1 ∷ last))
   pub is_mark : IsSign mark f.sign
   pub is_h0 : IsDigit h0
   pub is_h1 : IsDigit h1
@@ -165,10 +153,35 @@ pub record IsOffsetText (x : List ℕ) (f : OffsetFields) : Type 0 where
   pub is_m0 : IsDigit m0
   pub is_m1 : IsDigit m1
   pub minutes : f.minutes ≡ 10 * (m0 - 48) + (m1 - 48)
-  pub is_last : TookLast last f.seconds
+  pub is_last : IsLast last f.seconds
+
+abbrev pub IsOffsetText : List ℕ → OffsetFields → Type 0
+IsOffsetText x f = IsOffsetBy [] TookLast x f
 
 abbrev pub fields_at : Sign → ℕ → ℕ → Option ℕ → OffsetFields
 fields_at sign h m s = record { sign = sign; hours = h; minutes = m; seconds = s }
+
+-- which are read one after the other
+pub offset-by : (gap : List ℕ) (IsLast : List ℕ → Option ℕ → Type 0) (x after_sign after_hours rest last : List ℕ) (f : OffsetFields)
+    → (a : TookSign x f.sign after_sign) → TookTwo after_sign f.hours after_hours → after_hours ≡ gap ++ rest → TookTwo rest f.minutes last
+    → IsLast last f.seconds → IsOffsetBy gap IsLast x f
+offset-by gap IsLast x after_sign after_hours rest last f a b e c d = record {
+  mark = a.mark;
+  h0 = b.tens;
+  h1 = b.ones;
+  m0 = c.tens;
+  m1 = c.ones;
+  last = last;
+  whole = a.whole ∙ ap (λ (t : List ℕ). a.mark ∷ t) (b.whole ∙ ap (λ (t : List ℕ). b.tens ∷ b.ones ∷ t) (e ∙ ap (λ (t : List ℕ). gap ++ t) c.whole));
+  is_mark = a.is_mark;
+  is_h0 = b.is_tens;
+  is_h1 = b.is_ones;
+  hours = b.value;
+  is_m0 = c.is_tens;
+  is_m1 = c.is_ones;
+  minutes = c.value;
+  is_last = d;
+}
 
 pub offset-taken : (x : List ℕ) (f : OffsetFields) → offset_fields x ≡ Some f → IsOffsetText x f
 unfolding offset_fields
@@ -182,23 +195,8 @@ offset-taken x f e =
     let b = two-taken sign.0.1 hours.0.0 hours.0.1 hours.1 in
     let c = two-taken hours.0.1 minutes.0.0 minutes.0.1 minutes.1 in
     let d = last-taken minutes.0.1 seconds.0 seconds.1 in
-    subst (IsOffsetText x) found (record {
-      mark = a.mark;
-      h0 = b.tens;
-      h1 = b.ones;
-      m0 = c.tens;
-      m1 = c.ones;
-      last = minutes.0.1;
-      whole = a.whole ∙ ap (λ t. a.mark ∷ t) b.whole ∙ ap (λ t. a.mark ∷ b.tens ∷ b.ones ∷ t) c.whole;
-      is_mark = a.is_mark;
-      is_h0 = b.is_tens;
-      is_h1 = b.is_ones;
-      hours = b.value;
-      is_m0 = c.is_tens;
-      is_m1 = c.is_ones;
-      minutes = c.value;
-      is_last = d;
-    })
+    subst (IsOffsetText x) found
+    (offset-by [] TookLast x sign.0.1 hours.0.1 hours.0.1 minutes.0.1 (fields_at sign.0.0 hours.0.0 minutes.0.0 seconds.0) a b refl c d)
 
 -- a sign passes a test that plus and minus pass
 pub sign_passes : (p : ℕ → Bool) (c : ℕ) (s : Sign) → IsSign c s → p plus ≡ true → p minus ≡ true → p c ≡ true
@@ -210,12 +208,9 @@ offset-number x f e =
     let o = offset-taken x f e in
     record { first = o.mark; rest = o.h0 ∷ o.h1 ∷ o.m0 ∷ o.m1 ∷ o.last; whole = o.whole; bytes = (sign_passes is_number_byte o.mark f.sign o.is_mark refl refl, (digit_is o.h0 o.is_h0, (digit_is o.h1 o.is_h1, (digit_is o.m0 o.is_m0, (digit_is o.m1 o.is_m1, o.is_last.bytes))))) }
 
-byte_no_colon : (c : ℕ) → is_number_byte c ≡ true → is_colon c ≡ false
-byte_no_colon c h = grind (arith, nat_tests, h)
-
 pub no_colon : (t : List ℕ) → AreNumberBytes t → has_colon t ≡ false
 no_colon [] h = refl
-no_colon (c ∷ t) h = neither (is_colon c) (has_colon t) (byte_no_colon c h.0) (no_colon t h.1)
+no_colon (c ∷ t) h = neither (is_colon c) (has_colon t) (grind (arith, nat_tests, h.0)) (no_colon t h.1)
 
 pub by_words : (text a b : List ℕ) (t : Time) → has_colon text ≡ false → space_words text ≡ a ∷ b ∷ [] → time_of_words (a ∷ b ∷ []) ≡ Some t → header_time text ≡ Some t
 unfolding header_time

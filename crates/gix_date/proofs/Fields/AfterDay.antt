@@ -103,10 +103,6 @@ unfolding gitoxide_answer default_answer
 after-named-day text date rest e =
     rw (named-day (Year ∷ Spaces ∷ Clock ∷ Spaces ∷ Offset ∷ []) text, named-day (Clock ∷ Spaces ∷ Year ∷ Spaces ∷ Offset ∷ []) text, e) refl
 
-pub day-then-year : (text : List ℕ) (date : DateFields) (rest : List ℕ) (a : FamilyAnswer)
-    → read_named_day text ≡ Some (date, rest) → Some a ≡ year-first date rest → Some a ≡ named_day_answer text
-day-then-year text date rest a e is = ap (λ x. option_or x (clock-first date rest)) is ∙ sym (after-named-day text date rest e)
-
 pub day-then-hour : (text : List ℕ) (date : DateFields) (rest : List ℕ) (x : Option FamilyAnswer)
     → read_named_day text ≡ Some (date, rest) → None ≡ year-first date rest → x ≡ clock-first date rest → x ≡ named_day_answer text
 day-then-hour text date rest x e none is =

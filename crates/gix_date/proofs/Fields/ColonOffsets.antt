@@ -11,7 +11,7 @@ use Rattle.gix_date.specs.Fields.Offsets.{read_sign, offset_of}
 use Rattle.gix_date.specs.Text.Characters.{colon}
 use Rattle.gix_date.specs.Text.Numbers.{read_two_digits}
 use Rattle.gix_date.specs.declared.parsing.offset.OffsetFields.{OffsetFields}
-use Rattle.gix_date.proofs.Fast.FastHeaders.{sign-taken, fields_at}
+use Rattle.gix_date.proofs.Fast.FastHeaders.{sign-taken, fields_at, IsOffsetBy, offset-by}
 use Rattle.gix_date.proofs.Fields.FieldsTaken.{went, after-taken, two-taken}
 
 -- nothing, or a colon and two digits
@@ -33,22 +33,8 @@ last-taken (c ∷ a ∷ b ∷ []) seconds e = last-by c a b (c == colon) (is_asc
 last-taken x seconds e = absurd cc
 
 -- a sign, two digits, a colon, two digits, and perhaps a colon and two more
-pub record IsColonOffset (x : List ℕ) (f : OffsetFields) : Type 0 where
-  pub mark : ℕ
-  pub h0 : ℕ
-  pub h1 : ℕ
-  pub m0 : ℕ
-  pub m1 : ℕ
-  pub last : List ℕ
-  pub whole : x ≡ mark ∷ h0 ∷ h1 ∷ colon ∷ m0 ∷ m1 ∷ last
-  pub is_mark : IsSign mark f.sign
-  pub is_h0 : IsDigit h0
-  pub is_h1 : IsDigit h1
-  pub hours : f.hours ≡ 10 * (h0 - 48) + (h1 - 48)
-  pub is_m0 : IsDigit m0
-  pub is_m1 : IsDigit m1
-  pub minutes : f.minutes ≡ 10 * (m0 - 48) + (m1 - 48)
-  pub is_last : AreLastSeconds last f.seconds
+abbrev pub IsColonOffset : List ℕ → OffsetFields → Type 0
+IsColonOffset x f = IsOffsetBy (colon ∷ []) AreLastSeconds x f
 
 pub strict-fields : (x : List ℕ) (o : ℤ) → strict_offset x ≡ Some o → (f : OffsetFields) × IsColonOffset x f × (jiff_offset f ≡ Some o)
 unfolding strict_offset
@@ -62,23 +48,8 @@ strict-fields x o e =
     let a = sign-taken x sign.0.0 sign.0.1 sign.1 in
     let b = two-taken sign.0.1 hours.0.0 hours.0.1 hours.1 in
     let c = two-taken next.0 minutes.0.0 minutes.0.1 minutes.1 in
-    let is : IsColonOffset x f = record {
-      mark = a.mark;
-      h0 = b.tens;
-      h1 = b.ones;
-      m0 = c.tens;
-      m1 = c.ones;
-      last = minutes.0.1;
-      whole = a.whole ∙ ap (λ (t : List ℕ). a.mark ∷ t) (b.whole ∙ ap (λ (t : List ℕ). b.tens ∷ b.ones ∷ t) (after-taken colon hours.0.1 next.0 next.1 ∙ ap (λ (t : List ℕ). colon ∷ t) c.whole));
-      is_mark = a.is_mark;
-      is_h0 = b.is_tens;
-      is_h1 = b.is_ones;
-      hours = b.value;
-      is_m0 = c.is_tens;
-      is_m1 = c.is_ones;
-      minutes = c.value;
-      is_last = last-taken minutes.0.1 seconds.0 seconds.1;
-    } in
+    let gap = after-taken colon hours.0.1 next.0 next.1 in
+    let is = offset-by (colon ∷ []) AreLastSeconds x sign.0.1 hours.0.1 next.0 minutes.0.1 f a b gap c (last-taken minutes.0.1 seconds.0 seconds.1) in
     (f, is, seconds.2)
 
 pub strict-taken : (x : List ℕ) (o : ℤ) → strict_offset x ≡ Some o → (f : OffsetFields) × IsColonOffset x f × (o ≡ offset_of f)

@@ -33,12 +33,11 @@ after_year d more month day =
 after_month : (d : Date) → epoch_day d <ℤ pos 2_932_896 → d.day ≡ days_in_month d.year d.month
     → IsDayOf (epoch_day d +ℤ pos 1)
 after_month d more last =
-    let month_in = d.month_in in
     elim (cases_order d.month 12) [
       | inr (inl early) ↦
           let long = days_in_month_bounds d.year (d.month + 1) in (
             date_of d.year (d.month + 1) 1 (d.year_in, (omega arith, omega arith), (omega arith, omega (arith, long))),
-            days_from_civil-next_month d.year d.month d.day month_in.0 last,
+            days_from_civil-next_month d.year d.month d.day d.month_in.0 last,
           )
       | inr (inr past) ↦ absurd (omega arith)
       | inl december ↦ after_year d more december (rw december at last)

@@ -1,5 +1,5 @@
 -- The instant of fields, from what `jiff` says of dates, clocks and instants.
-use Rattle.std.proofs.Common.{◌≡◌, ◌∙◌, ◌↔◌, ◌≤◌, ℤ, pos, ◌-ℤ◌, ◌*ℤ◌, Bool, true, false, cond, arith, refl, ap, Some, None, unsigned_abs, int_div}
+use Rattle.std.proofs.Common.{◌≡◌, ◌∙◌, ◌↔◌, ◌≤◌, ℤ, pos, ◌-ℤ◌, ◌*ℤ◌, Bool, true, false, cond, arith, refl, ap, Some, None, unsigned_abs, int_div, sym}
 use Rattle.std.proofs.lemmas.Bool.{true_from_ne_false, and_parts as both, and_from as join, leb-true as n_test, le-leb as n_holds}
 use Rattle.std.proofs.lemmas.Float.{T_from_true}
 use Rattle.std.specs.Prelude.{◌&&◌, nat_le}
@@ -122,15 +122,12 @@ no_instant d c offset none =
     refused (is_date d) (is_clock c) (is_instant (civil_seconds d c offset)) _ (λ h.
     none (instant_holds _ (both (is_date d && is_clock c) (is_instant (civil_seconds d c offset)) h).1))
 
-chosen : (b : Bool) (s : ℤ) → b ≡ true → Some s ≡ cond b (Some s) None
-chosen true s h = refl
-chosen false s h = cc
-
 pub an_instant : (d : DateFields) (c : ClockFields) (offset s : ℤ) → IsDate (pos d.year) (pos d.month) (pos d.day) → IsTime (pos c.hour) (pos c.minute) (pos c.second) (pos 0)
     → IsInstantSeconds (civil_seconds d c offset) → s ≡ civil_seconds d c offset → Some s ≡ civil_instant d c offset
 unfolding civil_instant
 an_instant d c offset s date time instant is =
-    ap Some is ∙ chosen (is_date d && is_clock c && is_instant (civil_seconds d c offset)) _ (join _ _ (join _ _ (date_from d date) (clock_from c time)) (instant_from _ instant))
+    ap Some is ∙ ap (λ (b : Bool). cond b (Some (civil_seconds d c offset)) None)
+    (sym (join (is_date d && is_clock c) (is_instant (civil_seconds d c offset)) (join _ _ (date_from d date) (clock_from c time)) (instant_from _ instant)))
 
 -- a day that has an instant is a date
 

@@ -34,7 +34,7 @@ month-at : (text : List ℕ) (m : ℕ) → 3 ≤ length text → AreThreeLetters
 unfolding read_month
 month-at text m n letters e = rw (name-at text n letters, e) refl
 
-no-month-at : (text : List ℕ) → month_named (three text) ≡ None → read_month text ≡ None
+pub no-month-at : (text : List ℕ) → month_named (three text) ≡ None → read_month text ≡ None
 unfolding read_month
 no-month-at text e = no-name-at text _ (λ rest. rw e refl)
 
@@ -58,9 +58,6 @@ short-no-month text n = refl
 pub month-of : (bytes text : List ℕ) (m : ℕ) → bytes ≡ text → 3 ≤ length bytes → AreThreeLetters (three bytes) → Some m ≡ month_named (three bytes)
     → read_month text ≡ Some (m, drop 3 text)
 month-of bytes text m e n letters is = subst (λ t. read_month t ≡ Some (m, drop 3 t)) e (month-at bytes m n letters (sym is))
-
-pub no-month-of : (bytes text : List ℕ) → bytes ≡ text → None ≡ month_named (three bytes) → read_month text ≡ None
-no-month-of bytes text e is = subst (λ t. read_month t ≡ None) e (no-month-at bytes (sym is))
 
 pub day-of : (bytes text : List ℕ) → bytes ≡ text → 3 ≤ length bytes → AreThreeLetters (three bytes) → is_weekday (three bytes) ≡ true
     → skip_weekday text ≡ Some (drop 3 text)

@@ -115,13 +115,10 @@ hours-back h m small =
 plus-sign : (n : ℕ) → offset_sign (pos n) ≡ plus
 plus-sign n = let no : int_lt (pos n) (pos 0) ≡ false = grind (arith, ints) in rw no refl
 
-minus-sign : (n : ℕ) → offset_sign (negsuc n) ≡ minus
-minus-sign n = refl
-
 zone-by : (n : ℕ) (mark : ℕ) (sign : Sign) → IsSign mark sign → (sign ≡ Minus → 0 < n) → compact_offset_text (signed sign n) ≡ mark ∷ hours_and_minutes n
 zone-by n mark sign (inl p) some = rw (p.0, p.1, plus-sign n) refl
 zone-by zero mark sign (inr p) some = absurd (omega (arith, some p.1))
-zone-by (suc n) mark sign (inr p) some = rw (p.0, p.1, minus-sign n) refl
+zone-by (suc n) mark sign (inr p) some = rw (p.0, p.1) refl
 
 abbrev whole_distance : OffsetFields → ℕ
 whole_distance f = 3600 * f.hours + 60 * f.minutes

@@ -31,9 +31,6 @@ march-value days = omega arith
 march-within : (days : ℕ) → days < march_days ((march_year days).0 + 1)
 march-within days = omega arith
 
-march-bound : (days : ℕ) → (march_year days).1 < 366
-march-bound days = omega arith
-
 -- the date has the day count, and the calendar has it
 abbrev IsDateAt : ℕ → ℤ × ℕ × ℕ → Type 0
 IsDateAt n (y, m, d) = IsCivilDate y m d × (day_count y m d ≡ n)
@@ -72,7 +69,7 @@ date-by year before n false test e short within last first =
 date-at : (n : ℕ) → 366 ≤ n → n ≤ 7_304_849 → IsDateAt n (january_date (march_year (n - 60)))
 date-at n first last =
     let days = n - 60 in
-    date-by (march_year days).0 (march_year days).1 n _ refl (omega (arith, march-value days)) (march-bound days) (omega (arith, march-within days)) last first
+    date-by (march_year days).0 (march_year days).1 n _ refl (omega (arith, march-value days)) (omega arith) (omega (arith, march-within days)) last first
 
 -- a date is the one of its day number
 pub date-of-day : (date : Date) → date_of_day (epoch_day date) ≡ (date.year, date.month, date.day)
@@ -96,7 +93,7 @@ pub record Shows (z : PlainZoned) (t : Time) : Type 0 where
   pub instant : z.timestamp.nanosecond ≡ nanos_of_seconds t.seconds
   pub offset_is : z.offset.seconds ≡ t.offset
 
-day-shown : (z : PlainZoned) (t : Time) → Shows z t → local_day t ≡ epoch_day z.datetime.date
+pub day-shown : (z : PlainZoned) (t : Time) → Shows z t → local_day t ≡ epoch_day z.datetime.date
 day-shown z t h =
     omega (arith, signed_arith, z.shows, h.instant, h.offset_is, civil_nanos-parts z.datetime, time_nanos_bound z.datetime.time)
 
@@ -170,13 +167,12 @@ four-digits-year z t h o =
 pub four-digits-from : (z : PlainZoned) (t : Time) → Shows z t → HasFourDigitFields t → ShowsFourDigitFields z
 four-digits-from z t h o =
     let low = four-digits-year z t h o in
-    let year_in = z.datetime.date.year_in in
     let some = one_part z.datetime.date.year in
     record {
       year = unsigned_abs z.datetime.date.year;
       year_is = omega (arith, signed_arith, low, some);
       low = omega (arith, signed_arith, low, some);
-      high = omega (arith, signed_arith, low, some, year_in);
+      high = omega (arith, signed_arith, low, some, z.datetime.date.year_in);
       minutes = subst (λ (s : ℤ). unsigned_abs s % 60 ≡ 0) (sym h.offset_is) o.minutes;
     }
 

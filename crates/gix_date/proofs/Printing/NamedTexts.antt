@@ -1,5 +1,5 @@
 -- What the named patterns show: the pieces of their layouts.
-use Rattle.std.proofs.Common.{◌≡◌, ◌∙◌, ℕ, ℤ, pos, ◌-◌, ◌<◌, true, false, nat_lt, List, [], ◌∷◌, ◌++◌, Option, Ok, Result, refl, ap, codes, arith, get_or, lit<, replicate, zero, suc}
+use Rattle.std.proofs.Common.{◌≡◌, ◌∙◌, ℕ, ℤ, pos, ◌-◌, ◌<◌, true, false, nat_lt, List, [], ◌∷◌, ◌++◌, Option, Ok, Result, refl, ap, codes, arith, get_or, lit<, replicate, zero, suc, unsigned_abs, sym}
 use Rattle.std.proofs.lemmas.List.{append-nil}
 use Rattle.std.proofs.lemmas.Str.{IsAscii-append}
 use Rattle.std.proofs.lemmas.List.Folds.{concat-append}
@@ -17,12 +17,12 @@ use Rattle.jiff_strtime.specs.Show.{Shown, show_format, show_steps, directive_te
 use Rattle.jiff_strtime.specs.Text.{month_names as full_names}
 use Rattle.gix_date.specs.Text.Characters.{space, comma, colon, minus, letter_t}
 use Rattle.gix_date.specs.Fields.Layout.{LocalTime, Piece, DayName, Rfc2822DayName, MonthName, Day, Year, PlainDate, Clock, Rfc2822Clock, Spaces, LetterT, Offset, ColonOffset, Rfc2822Offset, print_piece, print_pieces}
-use Rattle.gix_date.specs.Text.Names.{day_name}
+use Rattle.gix_date.specs.Text.Names.{day_name, month_names}
 use Rattle.gix_date.specs.Text.Numbers.{two_digits}
 use Rattle.gix_date.specs.Printing.NamedTexts.{local_time, ShowsFourDigitFields, ShowsText, short_pattern, short_text, rfc2822_pattern, rfc2822_text, git_rfc2822_pattern, git_rfc2822_text, iso8601_pattern, iso8601_text, iso8601_strict_pattern, iso8601_strict_text, gitoxide_pattern, gitoxide_text, default_pattern, default_text}
 use Rattle.gix_date.specs.Families.Patterns.{short_layout, rfc2822_layout, iso8601_layout, iso8601_strict_layout, gitoxide_layout, default_layout}
 use Rattle.gix_date.proofs.Printing.Printing.{filled_parts}
-use Rattle.gix_date.proofs.Printing.ShownPieces.{AlwaysShows, AlwaysShowsText, InRange, ascii-bare, ascii-four, ascii-month, ascii-strict-zone, ascii-two, ascii-weekday, ascii-zone, bare, context, in-range, joined_text, joined_text-is, month-short, number, number-bare, number-four, number-two, shows-text, strict-zone-is, strict_config, weekday-short, year-is, zone-is}
+use Rattle.gix_date.proofs.Printing.ShownPieces.{AlwaysShows, AlwaysShowsText, InRange, ascii-bare, ascii-four, ascii-strict-zone, ascii-two, ascii-weekday, ascii-zone, bare, context, in-range, joined_text, joined_text-is, number, number-bare, number-four, number-two, shows-text, strict-zone-is, strict_config, weekday-short, zone-is, short_of, name_ascii}
 
 -- what `jiff` shows for a piece: the year apart, since it has a sign there
 abbrev pub jiff_piece : (ℕ → List ℕ) → Piece → ℤ → LocalTime → List (List ℕ)
@@ -73,7 +73,7 @@ piece-shown : {jiff_day day : ℕ → List ℕ} → ShowsDay jiff_day day → (p
     → concat (jiff_piece jiff_day p (pos t.date.year) t) ≡ print_piece day p t
 piece-shown {jiff_day} {day} d DayName t r = alone _ _ (weekday-short t.weekday)
 piece-shown {jiff_day} {day} d Rfc2822DayName t r = rw (weekday-short t.weekday) refl
-piece-shown {jiff_day} {day} d MonthName t r = alone _ _ (month-short (t.date.month - 1))
+piece-shown {jiff_day} {day} d MonthName t r = alone _ _ (short_of full_names (t.date.month - 1))
 piece-shown {jiff_day} {day} d Day t r = alone _ _ (d.same t.date.day r.day)
 piece-shown {jiff_day} {day} d Year t r = alone _ _ (number-four t.date.year r.low r.high)
 piece-shown {jiff_day} {day} d PlainDate t r = rw (number-four t.date.year r.low r.high, number-two t.date.month r.month, number-two t.date.day r.day) refl
@@ -105,7 +105,7 @@ piece-ascii : {jiff_day day : ℕ → List ℕ} → ShowsDay jiff_day day → (p
     → IsAscii (print_piece day p t)
 piece-ascii {jiff_day} {day} d DayName t r = ascii-weekday t.weekday
 piece-ascii {jiff_day} {day} d Rfc2822DayName t r = IsAscii-append (day_name t.weekday) (comma ∷ space ∷ []) (ascii-weekday t.weekday) (mark comma (lit< tt) (space ∷ []) (mark space (lit< tt) [] IsAscii-nil))
-piece-ascii {jiff_day} {day} d MonthName t r = ascii-month (t.date.month - 1)
+piece-ascii {jiff_day} {day} d MonthName t r = name_ascii month_names (t.date.month - 1) refl
 piece-ascii {jiff_day} {day} d Day t r = d.ascii t.date.day r.day
 piece-ascii {jiff_day} {day} d Year t r = ascii-four t.date.year r.high
 piece-ascii {jiff_day} {day} d PlainDate t r = search (IsAscii-append, ascii-four t.date.year r.high, ascii-two t.date.month r.month, ascii-two t.date.day r.day, mark minus (lit< tt)) depth 24
@@ -142,7 +142,7 @@ always pattern {jiff_day} {day} d ps blanks shows z o abbreviation name date iso
     let high : nat_lt 12 in_year.month ≡ false = grind (arith, in_year.month_in) in
     let t = local_time z in
     shows z abbreviation name date iso second low high
-    ∙ ap (λ (v : ℤ). shown (joined_text [] (jiff_pieces jiff_day ps v t blanks))) (year-is z o)
+    ∙ ap (λ (v : ℤ). shown (joined_text [] (jiff_pieces jiff_day ps v t blanks))) (o.year_is ∙ ap pos (sym (ap (λ (v : ℤ). unsigned_abs v) o.year_is)))
     ∙ ap shown (joined_text-is [] (jiff_pieces jiff_day ps (pos t.date.year) t blanks) ∙ pieces-shown d ps t blanks (in-range z o))
 
 -- whatever is shown of a zoned value with four-digit fields is this text, and that is shown

@@ -44,9 +44,6 @@ hours-of-day n h = let few : n / 3600 ≤ 23 = omega arith in grind (arith, nat_
 minutes-of-hour : (n : ℕ) → nat_le (n % 3600 / 60) 59 ≡ true
 minutes-of-hour n = let few : n % 3600 / 60 ≤ 59 = omega arith in grind (arith, nat_tests)
 
-are-whole-minutes-of : (o : ℤ) → unsigned_abs o < 86400 → is_minute_offset (written_fields o) ≡ true
-are-whole-minutes-of o h = rw (hours-of-day (unsigned_abs o) h, minutes-of-hour (unsigned_abs o)) refl
-
 -- A header text is a raw text by each rule that allows its offset.
 by-raw-words : (rule : OffsetRule) (text a b : List ℕ) (n : ℤ) (f : OffsetFields) → space_words text ≡ a ∷ b ∷ [] → int_value a ≡ Some n → offset_fields b ≡ Some f → rule f ≡ true → raw_time_by rule text ≡ Some (record { seconds = n; offset = offset_of f })
 unfolding raw_time_by raw_offset_by
@@ -74,15 +71,13 @@ back-by rule t f short minutes allowed =
 pub raw-back : (t : Time) → FitsSigned w64 t.seconds → IsQuarterOffset t.offset
     → IsSomeAnd (header_text t) (λ text. first_family_by is_quarter_offset text ≡ Some (Absolute t))
 raw-back t f raw =
-    let short = raw.short in
-    let quarters = raw.quarters in
-    back-by is_quarter_offset t f (omega arith) (omega arith) (is-quarter-of t.offset quarters short)
+    back-by is_quarter_offset t f (omega arith) (omega arith) (is-quarter-of t.offset raw.quarters raw.short)
 
 pub wide-back : (t : Time) → FitsSigned w64 t.seconds → IsMinuteOffset t.offset
     → IsSomeAnd (header_text t) (λ text. first_family_by is_minute_offset text ≡ Some (Absolute t))
 wide-back t f wide =
     let short = wide.short in
-    back-by is_minute_offset t f (omega arith) wide.minutes (are-whole-minutes-of t.offset short)
+    back-by is_minute_offset t f (omega arith) wide.minutes (rw (hours-of-day (unsigned_abs t.offset) short, minutes-of-hour (unsigned_abs t.offset)) refl)
 
 -- bare seconds
 pub seconds-back : (rule : OffsetRule) (n : ℤ) → FitsSigned w64 n → MIN_EPOCH ≤ℤ n → first_family_by rule (decimal_text n) ≡ Some (Absolute (utc_time n))

@@ -67,9 +67,7 @@ clock-of z =
 whole-clock : (z : PlainZoned) (seconds : ℤ) → z.timestamp.nanosecond ≡ nanos_of_seconds seconds
     → z.datetime.time.subsec_nanosecond ≡ 0
 whole-clock z seconds e =
-    let shows = z.shows in
-    let sub = z.datetime.time.subsec_in in
-    omega (arith, signed_arith, civil_nanos-parts z.datetime, shows, e, sub)
+    omega (arith, signed_arith, civil_nanos-parts z.datetime, z.shows, e, z.datetime.time.subsec_in)
 
 pub local-instant : (z : PlainZoned) (seconds : ℤ) → ShowsFourDigitFields z → z.timestamp.nanosecond ≡ nanos_of_seconds seconds
     → civil_instant (local_time z).date (local_time z).clock z.offset.seconds ≡ Some seconds
@@ -236,12 +234,11 @@ pub record IsShownPlain (z : PlainZoned) (t : Time) : Type 0 where
 
 printable : (z : PlainZoned) (t : Time) → IsShownPlain z t → IsPrintable (local_time z)
 printable z t h =
-    let month_in = z.datetime.date.month_in in
     record {
       range = in-range z h.four_digits;
       weekday = weekday-small z.datetime.date;
-      first_month = month_in.0;
-      last_month = month_in.1;
+      first_month = z.datetime.date.month_in.0;
+      last_month = z.datetime.date.month_in.1;
       second = z.datetime.time.second_in;
       within = subst (λ (o : ℤ). unsigned_abs o ≤ 86340) (sym h.offset_is) h.within;
     }

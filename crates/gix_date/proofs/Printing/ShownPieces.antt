@@ -18,7 +18,7 @@ use Rattle.jiff_core.specs.declared.civil.iso_week_date.ISOWeekDate.{ISOWeekDate
 use Rattle.jiff_core.specs.declared.error.Error.{Error}
 use Rattle.jiff_strtime.specs.Directive.{plain}
 use Rattle.jiff_strtime.specs.Show.{Context, Shown, show_format, padded, int_text, no_pad, offset_text, weekday_name, short}
-use Rattle.jiff_strtime.specs.Text.{Parts, month_names as full_names, weekday_names}
+use Rattle.jiff_strtime.specs.Text.{Parts, weekday_names}
 use Rattle.jiff_strtime.specs.declared.directive.Config.{Config}
 use Rattle.jiff_strtime.specs.declared.directive.Locale.TheVariants.{Default}
 use Rattle.jiff_tz.specs.Abbreviation.{abbreviation_text}
@@ -28,7 +28,7 @@ use Rattle.gix_date.specs.Fields.Layout.{LocalTime}
 use Rattle.gix_date.specs.Fields.FieldTexts.{four_digits}
 use Rattle.gix_date.specs.Fields.DateOffsets.{strict_offset_text}
 use Rattle.gix_date.specs.Printing.NamedTexts.{local_time, ShowsFourDigitFields, ShowsText}
-use Rattle.gix_date.specs.Text.Names.{day_names, month_names, day_name}
+use Rattle.gix_date.specs.Text.Names.{day_names, day_name}
 use Rattle.gix_date.specs.Text.Numbers.{two_digits}
 use Rattle.gix_date.specs.Printing.Formats.{IsShown, IsUnprinted}
 use Rattle.gix_date.proofs.Printing.Printing.{filled_parts}
@@ -53,38 +53,37 @@ AlwaysShowsText pattern text = (z : PlainZoned) → ShowsFourDigitFields z → A
 config_is : (config : Config) → config.locale ≡ Default → config.lenient ≡ false → config ≡ strict_config
 config_is config l s = rw (l, s) refl
 
-context_is : (cx : Context) (parts : Parts) → cx.parts ≡ parts → cx ≡ context parts cx.date cx.iso cx.second
-context_is cx parts e = ap (λ (p : Parts). context p cx.date cx.iso cx.second) e
-
 -- so that text is all that can be shown
-shown-only : (pattern : List ℕ) (z : PlainZoned) (text : List ℕ) → AlwaysShows pattern z text → (shown : Shown) → IsShown pattern z shown → shown ≡ Ok text
+pub shown-only : (pattern : List ℕ) (z : PlainZoned) (text : List ℕ) → AlwaysShows pattern z text → (shown : Shown) → IsShown pattern z shown → shown ≡ Ok text
 shown-only pattern z text always shown h =
     let cx = h.is_shown.context in
     let info = h.are_printed.are_parts.0 in
     let parts = filled_parts z (abbreviation_text info.abbreviation) (zone_name z.time_zone) in
     let named = ap (λ (p : Parts). let q : Parts = record p { weekday = parts.weekday } in q) h.are_printed.are_parts.2 in
-    let at_cx = context_is cx parts (h.is_shown.is_context.parts ∙ h.are_printed.is_filled ∙ named) in
+    let at_cx = ap (λ (p : Parts). context p cx.date cx.iso cx.second) (h.is_shown.is_context.parts ∙ h.are_printed.is_filled ∙ named) in
     sym h.is_shown.shown_is
     ∙ ap (λ (c : Config). show_format c pattern cx) (config_is h.config h.locale h.strict)
     ∙ ap (λ (x : Context). show_format strict_config pattern x) at_cx
     ∙ always (abbreviation_text info.abbreviation) (zone_name z.time_zone) cx.date cx.iso cx.second
 
-abbrev text_or_none : Shown → List ℕ
+abbrev pub text_or_none : Shown → List ℕ
 text_or_none (Ok text) = text
 text_or_none (Err e) = []
 
-never-refused : (pattern : List ℕ) (z : PlainZoned) (text : List ℕ) → AlwaysShows pattern z text → IsUtf8 text → IsUnprinted pattern z → ⊥
-never-refused pattern z text always u (inl (e, h)) =
-    let clash : ◌≡◌ {A = Shown} (Err e) (Ok text) = shown-only pattern z text always (Err e) h in
+pub never-refused : (pattern : List ℕ) (z : PlainZoned) (text : List ℕ) → ((shown : Shown) → IsShown pattern z shown → shown ≡ Ok text) → IsUtf8 text
+    → IsUnprinted pattern z → ⊥
+never-refused pattern z text only u (inl (e, h)) =
+    let clash : ◌≡◌ {A = Shown} (Err e) (Ok text) = only (Err e) h in
     cc
-never-refused pattern z text always u (inr (shown, h, bad)) =
-    let same : shown ≡ text = ap text_or_none (shown-only pattern z text always (Ok shown) h) in
+never-refused pattern z text only u (inr (shown, h, bad)) =
+    let same : shown ≡ text = ap text_or_none (only (Ok shown) h) in
     bad (rw same u)
 
 pub shows-text : (pattern : List ℕ) (text : LocalTime → List ℕ) → ((z : PlainZoned) → ShowsFourDigitFields z → AlwaysShows pattern z (text (local_time z)))
     → ((z : PlainZoned) → ShowsFourDigitFields z → IsAscii (text (local_time z))) → ShowsText pattern text
 shows-text pattern text always ascii z o =
-    (shown-only pattern z (text (local_time z)) (always z o), never-refused pattern z (text (local_time z)) (always z o) (IsUtf8-from_ascii (text (local_time z)) (ascii z o)))
+    let only = shown-only pattern z (text (local_time z)) (always z o) in
+    (only, never-refused pattern z (text (local_time z)) only (IsUtf8-from_ascii (text (local_time z)) (ascii z o)))
 
 -- pieces one after the other, as the printer adds them
 abbrev pub joined_text : List ℕ → List (List ℕ) → List ℕ
@@ -159,15 +158,12 @@ number-bare n =
     rw e (bare-padded n)
 
 -- a name in a table of names that are cut to three letters
-short_of : (names : List (List ℕ)) (n : ℕ) → short (get_or names n []) ≡ get_or (map short names) n []
+pub short_of : (names : List (List ℕ)) (n : ℕ) → short (get_or names n []) ≡ get_or (map short names) n []
 short_of (name ∷ names) (suc n) = short_of names n
 short_of names n = refl
 
 pub weekday-short : (n : ℕ) → short (weekday_name n) ≡ day_name n
 weekday-short n = short_of weekday_names n
-
-pub month-short : (n : ℕ) → short (get_or full_names n []) ≡ get_or month_names n []
-month-short n = short_of full_names n
 
 -- an offset of whole minutes
 minutes-are : (n : ℕ) → n / 60 % 60 ≡ n % 3600 / 60
@@ -213,15 +209,8 @@ in-range z o =
       whole = o.minutes;
     }
 
-pub year-is : (z : PlainZoned) → ShowsFourDigitFields z → z.datetime.date.year ≡ pos (local_time z).date.year
-year-is z o = o.year_is ∙ ap pos (sym (ap (λ (v : ℤ). unsigned_abs v) o.year_is))
-
--- what is shown is ASCII
-ascii_two : (a b : ℕ) → a < 128 → b < 128 → IsAscii (a ∷ b ∷ [])
-ascii_two a b in_a in_b = IsAscii-cons a (b ∷ []) in_a (IsAscii-cons b [] in_b IsAscii-nil)
-
 pub ascii-two : (n : ℕ) → n < 100 → IsAscii (two_digits n)
-ascii-two n h = ascii_two _ _ (omega arith) (omega arith)
+ascii-two n h = IsAscii-cons _ (_ ∷ []) (omega arith) (IsAscii-cons _ [] (omega arith) IsAscii-nil)
 
 pub ascii-four : (n : ℕ) → n ≤ 9999 → IsAscii (four_digits n)
 ascii-four n h = IsAscii-append (two_digits (n / 100)) (two_digits (n % 100)) (ascii-two (n / 100) (omega arith)) (ascii-two (n % 100) (omega arith))
@@ -239,16 +228,13 @@ ascii_by (c ∷ t) h =
     let parts = both (is_low c) (list_all is_low t) h in
     IsAscii-cons c t (grind (arith, nat_tests, parts.0)) (ascii_by t parts.1)
 
-name_ascii : (names : List (List ℕ)) (n : ℕ) → list_all (list_all is_low) names ≡ true → IsAscii (get_or names n [])
+pub name_ascii : (names : List (List ℕ)) (n : ℕ) → list_all (list_all is_low) names ≡ true → IsAscii (get_or names n [])
 name_ascii [] n h = IsAscii-nil
 name_ascii (name ∷ names) zero h = ascii_by name ((both (list_all is_low name) (list_all (list_all is_low) names) h).0)
 name_ascii (name ∷ names) (suc n) h = name_ascii names n ((both (list_all is_low name) (list_all (list_all is_low) names) h).1)
 
 pub ascii-weekday : (n : ℕ) → IsAscii (day_name n)
 ascii-weekday n = name_ascii day_names n refl
-
-pub ascii-month : (n : ℕ) → IsAscii (get_or month_names n [])
-ascii-month n = name_ascii month_names n refl
 
 pub sign_of : (negative : Bool) → (if negative then 45 else 43) < 128
 sign_of true = lit< tt

@@ -8,7 +8,7 @@ use Rattle.jiff.specs.declared.zoned.Zoned.{Zoned}
 use Rattle.jiff_core.proofs.SignedLemmas.{signed_arith}
 use Rattle.jiff_tz.specs.Zone.{IsFixed}
 use Rattle.gix_date.specs.Relative.FixedZones.{total, less_seconds, earlier, KeepsWay, NamesEarlier, NamesBefore}
-use Rattle.gix_date.specs.Relative.Dates.{RelativeDate, MinusSeconds, Reaches, IsNamed}
+use Rattle.gix_date.specs.Relative.Dates.{RelativeDate, Reaches, IsNamed}
 use Rattle.gix_date.specs.Relative.Steps.{zone_of}
 use Rattle.gix_date.specs.Fields.Zoned.{IsMoment, is_instant, time_in, whole_seconds as seconds_of}
 use Rattle.gix_date.specs.declared.time.Time.{Time}
@@ -53,9 +53,6 @@ names-earlier date t n law z m r =
           },
     )
 
-pub yesterday-earlier : (t : Time) → NamesEarlier (MinusSeconds (pos 86_400)) t (pos 86_400)
-yesterday-earlier t = names-earlier (MinusSeconds (pos 86_400)) t (pos 86_400) (λ z m j. (λ h. h, λ h. h))
-
 pub seconds-earlier : (t : Time) (pairs : List (ℤ × ℤ)) → All IsLoss pairs
     → NamesEarlier (less_seconds pairs) t (total pairs)
 seconds-earlier t pairs loss =
@@ -77,9 +74,6 @@ names-before date z due law t = (
     offset_is = ap (λ (q : Time). q.offset) h.0;
   },
 )
-
-pub yesterday-before : (z : Zoned) → NamesBefore (MinusSeconds (pos 86_400)) z (pos 86_400)
-yesterday-before z = names-before (MinusSeconds (pos 86_400)) z (zoned_nanos z -ℤ nanos_of_seconds (pos 86_400)) (λ j. (λ h. h, λ h. h))
 
 pub kept-names-before : (z : Zoned) (pairs : List (ℤ × ℤ)) → KeepsWay (zone_of z) pairs (zoned_nanos z) → All IsLoss pairs → NamesBefore (less_seconds pairs) z (total pairs)
 kept-names-before z pairs kept loss = names-before (less_seconds pairs) z (zoned_nanos z -ℤ nanos_of_seconds (total pairs)) (kept-law z pairs kept loss)

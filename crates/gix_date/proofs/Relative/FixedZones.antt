@@ -45,9 +45,8 @@ fixed-picks o dt j e range = record { shown = dt; civil_is = refl; is_choice = e
 
 pub fixed-resolves-exists : (o : Offset) (i : ℤ) → IsTimestampNanos i → Resolves (fixed_zone o) i i
 fixed-resolves-exists o i range =
-    let in_offset = o.in_range in
     let clock : IsCivilNanos (i +ℤ nanos_of_seconds o.seconds) =
-    (omega (arith, signed_arith, range, in_offset), omega (arith, signed_arith, range, in_offset)) in
+    (omega (arith, signed_arith, range, o.in_range), omega (arith, signed_arith, range, o.in_range)) in
     let found = datetime_exists (i +ℤ nanos_of_seconds o.seconds) clock in
     let back : i ≡ (civil_nanos found.0 -ℤ nanos_of_seconds o.seconds) = omega (arith, signed_arith, found.1) in
     record {

@@ -35,6 +35,7 @@ use Rattle.gix_date.proofs.Fields.Layouts.{dates_spelled}
 use Rattle.gix_date.proofs.Fast.FastHeaders.{int-taken, offset-taken, sign_passes}
 use Rattle.gix_date.proofs.Relative.QuietWords.{says_nothing, says-by, IsQuiet, like, like-any, names_of, named-any, any-run, one-run-word}
 use Rattle.gix_date.proofs.Text.WordsWithin.{words-within, one-gap, none-of-empty}
+use Rattle.gix_date.proofs.Text.AsciiCuts.{all-append}
 
 -- A word that begins with no letter says nothing.
 no_lower : (c n : ℕ) → is_ascii_alphabetic c ≡ false → 97 ≤ n → n ≤ 122 → (to_ascii_lowercase c == n) ≡ false
@@ -93,10 +94,6 @@ digit-says-nothing c t h =
     says-by (c ∷ t) (no-unit c t no) (no-ago c t no) (no-date c t no)
 
 -- Texts one after the other, with a byte of no word between them, are quiet where each is.
-all-append : (p : List ℕ → Bool) (xs ys : List (List ℕ)) → list_all p xs ≡ true → list_all p ys ≡ true → list_all p (xs ++ ys) ≡ true
-all-append p [] ys h k = k
-all-append p (x ∷ xs) ys h k = let parts = both (p x) (list_all p xs) h in rw parts.0 (all-append p xs ys parts.1 k)
-
 pub quiet-none : IsQuiet []
 quiet-none = ap (list_all says_nothing) none-of-empty
 
@@ -154,16 +151,12 @@ quiet-field : (t : List ℕ) (n : ℕ) → IsField t n → IsQuiet t
 quiet-field t n h = quiet-digits t (field-digits t n h)
 
 -- a field, `T`, and another
-run-append : (s t : List ℕ) → list_all is_ascii_alphanumeric s ≡ true → list_all is_ascii_alphanumeric t ≡ true → list_all is_ascii_alphanumeric (s ++ t) ≡ true
-run-append [] t h k = k
-run-append (c ∷ s) t h k = let parts = both (is_ascii_alphanumeric c) (list_all is_ascii_alphanumeric s) h in rw parts.0 (run-append s t parts.1 k)
-
 quiet-joined : (day hour : List ℕ) (n m : ℕ) → IsField day n → IsField hour m → IsQuiet (day ++ (letter_t ∷ hour))
 quiet-joined [] hour n m h k = absurd h
 quiet-joined (c ∷ day) hour n m h k =
     let parts = both (is_ascii_digit c) (all_ascii_digits day) (field-digits (c ∷ day) n h) in
     let more : list_all is_ascii_alphanumeric (letter_t ∷ hour) ≡ true = digits-run hour (field-digits hour m k) in
-    quiet-run c (day ++ (letter_t ∷ hour)) parts.0 (run-append day (letter_t ∷ hour) (digits-run day parts.1) more)
+    quiet-run c (day ++ (letter_t ∷ hour)) parts.0 (all-append is_ascii_alphanumeric day (letter_t ∷ hour) (digits-run day parts.1) more)
 
 -- Names.
 names-quiet : list_all says_nothing day_names ≡ true × list_all says_nothing month_names ≡ true

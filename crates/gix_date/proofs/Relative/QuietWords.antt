@@ -82,9 +82,6 @@ unfolding are_pairs has_pair all_units has_flag
 no-pairs-by words true e h = rw (e, no-unit [] words h e, no-flag [] words h) refl
 no-pairs-by words false e h = rw e refl
 
-pub no-pairs : (words : List (List ℕ)) → list_all says_nothing words ≡ true → are_pairs words ≡ false
-no-pairs words h = no-pairs-by words (has_pair words) refl h
-
 -- A word of letters and digits is the only one of its text.
 pub no_gap : (c : ℕ) → is_ascii_alphanumeric c ≡ true → is_gap c ≡ false
 no_gap c h = rw h refl
@@ -226,4 +223,4 @@ no-relative text u q = by_name (named_date (trim text)) refl
   where
     by_name : (found : Option RelativeDate) → named_date (trim text) ≡ found → relative_date text ≡ None
     by_name (Some d) e = absurd (not-named text u q d e)
-    by_name None e = rw (e, no-pairs (relative_words text) q) refl
+    by_name None e = rw (e, no-pairs-by (relative_words text) (has_pair (relative_words text)) refl q) refl

@@ -54,20 +54,17 @@ first-is number first ymd =
 
 pub year_of : (d : Date) → int_div_euclid (month_number d) (pos 12) ≡ d.year
 year_of d =
-    let month_in = d.month_in in
-    omega (arith, signed_arith, month_in)
+    omega (arith, signed_arith, d.month_in)
 
 month_of : (d : Date) → unsigned_abs (int_rem_euclid (month_number d) (pos 12)) + 1 ≡ d.month
 month_of d =
-    let month_in = d.month_in in
-    omega (arith, signed_arith, month_in, one_part (int_rem_euclid (month_number d) (pos 12)))
+    omega (arith, signed_arith, d.month_in, one_part (int_rem_euclid (month_number d) (pos 12)))
 
 -- a date is its day of its month
 pub day_of : (d : Date) → rolled_day (month_number d) d ≡ epoch_day d
 day_of d =
-    let day_in = d.day_in in
     let start : month_start (month_number d) ≡ days_from_civil d.year d.month 1 = rw (year_of d, month_of d) refl in
-    omega (arith, signed_arith, start, days_from_civil-day d.year d.month 1 d.day (omega arith) day_in.0)
+    omega (arith, signed_arith, start, days_from_civil-day d.year d.month 1 d.day (omega arith) d.day_in.0)
 
 -- the day of a month, counted from the first of that month
 pub before-from : (date : Date) (months : ℤ) (first : Date) (before : Option Date) → FitsSigned w64 (month_before date months)

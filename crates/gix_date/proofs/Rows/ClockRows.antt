@@ -18,12 +18,9 @@ printed :
     ∷ (iso8601_text (clock_of (time first_of_year_1000 (pos 0))), "1000-01-01 00:00:00 +0000")
     ∷ (iso8601_text (clock_of (time (first_of_year_1000 -ℤ pos 1) (pos 0))), "0999-12-31 23:59:59 +0000")
     ∷ (iso8601_text (clock_of (time last_of_year_9999 (pos 0))), "9999-12-31 23:59:59 +0000") ∷ [])
+    × ((clock_of (time (last_of_year_9999 +ℤ pos 1) (pos 0))).date.year ≡ 10_000)
 unfolding computing
-printed = refl
-
-first-of-10000 : (clock_of (time (last_of_year_9999 +ℤ pos 1) (pos 0))).date.year ≡ 10_000
-unfolding computing
-first-of-10000 = refl
+printed = (refl, refl)
 
 -- The farthest offsets of raw texts: 14:45 either way.
 farthest : IsQuarterOffset (pos 53_100) × IsQuarterOffset (minus 53_100)

@@ -39,23 +39,17 @@ clocks :
     (("20", clock 20 0 0) ∷ ("2030", clock 20 30 0) ∷ ("203045", clock 20 30 45)
     ∷ ("0020:030:45", clock 20 30 45) ∷ ("20:30", clock 20 30 0) ∷ ("20:30:45:99", clock 20 30 45)
     ∷ ("203045.019.x", clock 20 30 45) ∷ [])  -- ends at its first dot
+    × Refuses git_clock ("20304" ∷ "20:" ∷ "24:00:00" ∷ [])
 unfolding computing
-clocks = refl
-
-no-clocks : Refuses git_clock ("20304" ∷ "20:" ∷ "24:00:00" ∷ [])
-unfolding computing
-no-clocks = refl
+clocks = (refl, refl)
 
 offsets :
     Reads git_offset
     (("", pos 0) ∷ ("Z", pos 0) ∷ ("+05", pos 18000) ∷ ("-0530", minus 19800) ∷ ("-:0:5:0:0", minus 18000)
     ∷ ("-2359", minus 86340) ∷ [])
+    × Refuses git_offset ("+053" ∷ "+0560" ∷ "+2400" ∷ "+-530" ∷ [])
 unfolding computing
-offsets = refl
-
-no-offsets : Refuses git_offset ("+053" ∷ "+0560" ∷ "+2400" ∷ "+-530" ∷ [])
-unfolding computing
-no-offsets = refl
+offsets = (refl, refl)
 
 -- what ISO 8601 and its strict form read and no Git form does, and texts that no form reads
 no-git-form :

@@ -29,28 +29,18 @@ read :
     ∷ ("123abc +0100", time (pos 123) (pos 3600))  -- the digits at the front
     ∷ ("5 +00-1", time (pos 5) (pos 0)) ∷ ("1 +0100 x", time (pos 1) (pos 0))  -- a third word
     ∷ ("7 +010203", time (pos 7) (pos 3723)) ∷ [])
+    × (header_time (49 ∷ 0xc2 ∷ 0xa0 ∷ codes "+0100") ≡ Some (time (pos 1) (pos 3600)))  -- U+00A0 is two bytes
+    × Refuses header_time ("-1x" ∷ "9223372036854775808" ∷ "1:2 +0100" ∷ "" ∷ [])
 unfolding computing
-read = refl
+read = (refl, refl, refl)
 
--- U+00A0 is two bytes
-no-break-space : header_time (49 ∷ 0xc2 ∷ 0xa0 ∷ codes "+0100") ≡ Some (time (pos 1) (pos 3600))
-unfolding computing
-no-break-space = refl
-
-not-read : Refuses header_time ("-1x" ∷ "9223372036854775808" ∷ "1:2 +0100" ∷ "" ∷ [])
-unfolding computing
-not-read = refl
-
-canonical : AllGive is_canonical_header true ("0 +0000" ∷ "-5 -0130" ∷ "-9223372036854775808 -9959" ∷ [])
-unfolding computing
-canonical = refl
-
-not-canonical :
-    AllGive is_canonical_header false
+canonical :
+    AllGive is_canonical_header true ("0 +0000" ∷ "-5 -0130" ∷ "-9223372036854775808 -9959" ∷ [])
+    × AllGive is_canonical_header false
     ("0 -0000" ∷ "+1 +0000" ∷ "-0 +0000" ∷ "00 +0000" ∷ "0 +0060" ∷ "0 +000000" ∷ "0  +0000" ∷ "0 +0000 "
     ∷ "0 +00000" ∷ " 0 +0000" ∷ "0" ∷ "9223372036854775808 +0000" ∷ [])
 unfolding computing
-not-canonical = refl
+canonical = (refl, refl)
 
 raw :
     Reads raw_time (("\n-0\r\n-0000\n", time (pos 0) (pos 0)) ∷ ("+1234567 -000000", time (pos 1234567) (pos 0)) ∷ [])

@@ -1,6 +1,6 @@
 -- Texts of ASCII, and where a text may be cut: after ASCII.
-use Rattle.std.proofs.Common.{◌≡◌, ℕ, ◌+◌, ◌-◌, ◌<◌, ◌≤◌, Bool, true, cond, List, [], ◌∷◌, length, get_or, Some, None, refl, arith, ap, subst, zero, suc, IsAscii}
-use Rattle.std.proofs.lemmas.Bool.{and_parts as both}
+use Rattle.std.proofs.Common.{◌≡◌, ℕ, ◌+◌, ◌-◌, ◌<◌, ◌≤◌, Bool, true, cond, List, [], ◌∷◌, length, get_or, Some, None, refl, arith, ap, subst, zero, suc, IsAscii, ◌++◌, ◌∙◌}
+use Rattle.std.proofs.lemmas.Bool.{and_parts as both, and_from}
 use Rattle.std.proofs.lemmas.Bool.Decides.{nat_tests}
 use Rattle.std.proofs.lemmas.List.Sums.{prefix_len-le-length, prefix_len_passes}
 use Rattle.std.proofs.lemmas.Str.{IsCharBoundary-after_ascii, IsCharBoundary-start}
@@ -10,12 +10,21 @@ use Rattle.std.specs.List.{prefix_len, list_all}
 use Rattle.std.specs.Prelude.{◌&&◌}
 use Rattle.std.specs.Str.{IsCharBoundary, IsUtf8}
 use Rattle.gix_date.specs.Text.Numbers.{two_digit_value}
+use Rattle.std.proofs.lemmas.List.Folds.{list_all-append}
+use Rattle.gix_date.specs.Text.Characters.{is_space}
 
 pub digit_is_ascii : (c : ℕ) → is_ascii_digit c ≡ true → c < 128
 digit_is_ascii c h = grind (arith, nat_tests, h)
 
 pub letter_is_ascii : (c : ℕ) → is_ascii_alphabetic c ≡ true → c < 128
 letter_is_ascii c h = grind (arith, nat_tests, h)
+
+pub space_is_ascii : (c : ℕ) → is_space c ≡ true → c < 128
+space_is_ascii c h = grind (arith, nat_tests, h)
+
+-- a list passes a test where both its parts do
+pub all-append : {X : Type 0} (p : X → Bool) (xs ys : List X) → list_all p xs ≡ true → list_all p ys ≡ true → list_all p (xs ++ ys) ≡ true
+all-append p xs ys h k = list_all-append p xs ys ∙ and_from (list_all p xs) (list_all p ys) h k
 
 -- after a front of bytes that are ASCII
 pub cut_rest : (p : ℕ → Bool) → ((c : ℕ) → p c ≡ true → c < 128) → (bs : List ℕ) (n : ℕ) → IsUtf8 bs → n ≤ prefix_len p bs → IsCharBoundary bs n

@@ -1,5 +1,5 @@
 -- The words of a text and of the text without white space at its ends; what the first word begins with.
-use Rattle.std.proofs.Common.{◌≡◌, ◌∙◌, ◌<◌, ℕ, Bool, true, false, cond, List, [], ◌∷◌, ◌++◌, map, filter, length, refl, ap, sym, arith, append-nil, IsAscii, encode_utf8_all, IsUtf8}
+use Rattle.std.proofs.Common.{◌≡◌, ◌∙◌, ℕ, Bool, true, false, cond, List, [], ◌∷◌, ◌++◌, map, filter, length, refl, ap, sym, arith, append-nil, IsAscii, encode_utf8_all, IsUtf8}
 use Rattle.std.proofs.lemmas.Bool.{and_parts as both, and_from as join}
 use Rattle.std.proofs.lemmas.Bool.Decides.{nat_tests}
 use Rattle.std.proofs.lemmas.List.Elements.{filter-append}
@@ -26,12 +26,9 @@ skip-scalars-by : (c : ℕ) (cs : List ℕ) (b : Bool) → all_scalars (c ∷ cs
 skip-scalars-by c cs true h more = more
 skip-scalars-by c cs false h more = h
 
-scalar_parts : (c : ℕ) (cs : List ℕ) → all_scalars (c ∷ cs) ≡ true → all_scalars cs ≡ true
-scalar_parts c cs h = (both _ (all_scalars cs) h).1
-
 pub skip-scalars : (cs : List ℕ) → all_scalars cs ≡ true → all_scalars (skip_leading_whitespace cs) ≡ true
 skip-scalars [] h = h
-skip-scalars (c ∷ cs) h = skip-scalars-by c cs (is_whitespace c) h (skip-scalars cs (scalar_parts c cs h))
+skip-scalars (c ∷ cs) h = skip-scalars-by c cs (is_whitespace c) h (skip-scalars cs ((both _ (all_scalars cs) h).1))
 
 -- what is cut off at the end is empty parts
 record Trails (cs ts : List ℕ) : Type 0 where
@@ -111,15 +108,12 @@ abbrev pub AreVisible : List ℕ → Type 0
 AreVisible [] = Unit {0}
 AreVisible (c ∷ t) = (is_visible c ≡ true) × AreVisible t
 
-visible_ascii : (c : ℕ) → is_visible c ≡ true → c < 128
-visible_ascii c h = grind (arith, nat_tests, h)
-
 pub visible_stays : (c : ℕ) → is_visible c ≡ true → is_whitespace c ≡ false
 visible_stays c h = grind (arith, nat_tests, h)
 
 pub are-ascii : (t : List ℕ) → AreVisible t → IsAscii t
 are-ascii [] h = IsAscii-nil
-are-ascii (c ∷ t) h = IsAscii-cons c t (visible_ascii c h.0) (are-ascii t h.1)
+are-ascii (c ∷ t) h = IsAscii-cons c t (grind (arith, nat_tests, h.0)) (are-ascii t h.1)
 
 -- a front of visible bytes is in the first part
 front-part : (p cs part : List ℕ) (parts : List (List ℕ)) → AreVisible p → slice_split is_whitespace cs ≡ part ∷ parts → slice_split is_whitespace (p ++ cs) ≡ (p ++ part) ∷ parts

@@ -7,6 +7,7 @@ use Rattle.std.specs.Result.{result_ok}
 use Rattle.std.specs.Str.{all_ascii_digits}
 use Rattle.std.specs.Str.Parse.{ParsesSigned, IsNumeral, digits_value, without_leading_sign, signed_digits_value}
 use Rattle.gix_date.specs.Text.Numbers.{fits_i64, is_int_text, int_value}
+use Rattle.std.proofs.lemmas.Bool.{false_from_ne_true}
 
 pub own : IsNumeralModel (λ ds. all_ascii_digits ds ≡ true) (digits_value 10)
 own = numerals_by_value _ tells_all_ascii_digits
@@ -42,18 +43,10 @@ from_holds w h =
     let parts = each_of (nat_lt 0 (length (without_leading_sign w))) (all_ascii_digits (without_leading_sign w)) (fits_i64 (signed_digits_value 10 w)) h in
     ((grind (arith, nat_tests, parts.0), own.to (without_leading_sign w) parts.1), fits_from (signed_digits_value 10 w) parts.2)
 
-choose : (b : Bool) (v : ℤ) → b ≡ true → cond b (Some v) None ≡ Some v
-choose true v h = refl
-choose false v h = cc
-
-choose_none : (b : Bool) (v : ℤ) → (b ≡ true → ⊥) → cond b (Some v) None ≡ None
-choose_none true v h = absurd (h refl)
-choose_none false v h = refl
-
 pub int_value_lem : {E : Type 0} (w : List ℕ) (r : Result ℤ E) → ParsesSigned w64 10 w r → result_ok r ≡ int_value w
 unfolding int_value ReadsInt
-int_value_lem w (Ok z) h = ap Some h.1 ∙ sym (choose (is_int_text w) (signed_digits_value 10 w) (holds w h.0))
-int_value_lem w (Err e) h = sym (choose_none (is_int_text w) (signed_digits_value 10 w) (λ yes. h (from_holds w yes)))
+int_value_lem w (Ok z) h = ap Some h.1 ∙ sym (ap (λ (b : Bool). cond b (Some (signed_digits_value 10 w)) None) (holds w h.0))
+int_value_lem w (Err e) h = sym (ap (λ (b : Bool). cond b (Some (signed_digits_value 10 w)) None) (false_from_ne_true (is_int_text w) (λ yes. h (from_holds w yes))))
 
 -- an int text of this value
 pub int_value_from : (w : List ℕ) (z : ℤ) → IsNumeral 10 (without_leading_sign w) → signed_digits_value 10 w ≡ z → FitsSigned w64 z → int_value w ≡ Some z

@@ -17,9 +17,6 @@ use Rattle.std.proofs.Math.Seq.{take-length}
 digit_is : (c : ℕ) → is_ascii_digit c ≡ true → digit_value c ≡ c - 48
 digit_is c h = grind (arith, nat_tests, h)
 
-below_ten : (c : ℕ) → is_ascii_digit c ≡ true → digit_value c < 10
-below_ten c h = grind (arith, nat_tests, h)
-
 -- the number so far
 pub so_far-small : (ds : List ℕ) (i k : ℕ) → all_ascii_digits (take i ds) ≡ true → i ≤ k → i ≤ length ds → digits_value 10 (take i ds) < 10 ^ k
 so_far-small ds i k h short within = digits_value_short own (take i ds) k h (omega (arith, length-take-le i ds within))
@@ -32,7 +29,7 @@ value-more ds i within h =
     omega (arith, more, digit)
 
 pub digits-more : (ds : List ℕ) (i : ℕ) → i < length ds → all_ascii_digits (take i ds) ≡ true → is_ascii_digit (get_or ds i 0) ≡ true → all_ascii_digits (take (i + 1) ds) ≡ true
-digits-more ds i within h d = own.from (take (i + 1) ds) (digits_more 10 ds i within (own.to (take i ds) h) (below_ten (get_or ds i 0) d))
+digits-more ds i within h d = own.from (take (i + 1) ds) (digits_more 10 ds i within (own.to (take i ds) h) (grind (arith, nat_tests, d)))
 
 -- ten digits, as two times five
 abbrev five : List ℕ → ℕ → List ℕ

@@ -65,9 +65,6 @@ gaps-from : (xs : List ℕ) → ((k : ℕ) → k < length xs → is_gap (get_or 
 gaps-from [] h = tt
 gaps-from (x ∷ xs) h = (h 0 (omega arith), gaps-from xs (λ k l. h (suc k) (omega (arith, l))))
 
-wide-gap : (b : ℕ) → 128 ≤ b → is_gap b ≡ true
-wide-gap b h = grind (arith, nat_tests, h)
-
 white-gap : (c : ℕ) → c < 128 → is_whitespace c ≡ true → is_gap c ≡ true
 white-gap c l h = grind (arith, nat_tests, h)
 
@@ -75,7 +72,7 @@ byte-gap : (c k : ℕ) → is_whitespace c ≡ true → k < length (encode_utf8 
 byte-gap c k w l (inl small) =
     let same : c ≡ get_or (encode_utf8 c) k 0 = inside_one c [] (encode_utf8 c) k (sym (append-nil (encode_utf8 c))) l small in
     ap is_gap (sym same) ∙ white-gap c (omega (arith, same, small)) w
-byte-gap c k w l (inr large) = wide-gap _ large
+byte-gap c k w l (inr large) = grind (arith, nat_tests, large)
 
 -- each byte of a character of more bytes is beyond ASCII
 pub wide-byte : (c k : ℕ) → 128 ≤ c → k < length (encode_utf8 c) → 128 ≤ get_or (encode_utf8 c) k 0
@@ -99,9 +96,6 @@ words_of_parts x (part ∷ parts) = relative_words (x ++ encode_utf8_all part) +
 no-front : (ps : List (List ℕ)) (part : List ℕ) (parts : List (List ℕ)) → ps ≡ part ∷ parts → words_of_parts [] ps ≡ flat_map part_words ps
 no-front ps part parts e = rw e refl
 
-onto-front : (x : List ℕ) (c : ℕ) (ps : List (List ℕ)) (part : List ℕ) (parts : List (List ℕ)) → ps ≡ part ∷ parts → words_of_parts (x ++ encode_utf8 c) ps ≡ words_of_parts x (onto_first c ps)
-onto-front x c ps part parts e = rw e (ap (λ (t : List ℕ). relative_words t ++ flat_map part_words parts) (append_assoc x (encode_utf8 c) (encode_utf8_all part)))
-
 words-by : (x : List ℕ) (c : ℕ) (cs : List ℕ) (b : Bool) → is_whitespace c ≡ b → ((x : List ℕ) → relative_words (x ++ encode_utf8_all cs) ≡ words_of_parts x (slice_split is_whitespace cs))
     → relative_words (x ++ (encode_utf8 c ++ encode_utf8_all cs)) ≡ words_of_parts x (slice_split is_whitespace (c ∷ cs))
 words-by x c cs true e more =
@@ -113,7 +107,7 @@ words-by x c cs false e more =
     let parts = parts-of is_whitespace cs in
     ap relative_words (sym (append_assoc x (encode_utf8 c) (encode_utf8_all cs)))
     ∙ more (x ++ encode_utf8 c)
-    ∙ onto-front x c (slice_split is_whitespace cs) parts.part parts.parts parts.is
+    ∙ (rw parts.is (ap (λ (t : List ℕ). relative_words t ++ flat_map part_words parts.parts) (append_assoc x (encode_utf8 c) (encode_utf8_all parts.part))))
     ∙ sym (ap (words_of_parts x) (slice_split-cons_no is_whitespace c cs e))
 
 words-from : (x cs : List ℕ) → relative_words (x ++ encode_utf8_all cs) ≡ words_of_parts x (slice_split is_whitespace cs)

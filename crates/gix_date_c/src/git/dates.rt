@@ -3,6 +3,7 @@ ghost use Rattle.std.specs.Prelude.{◌≡◌};
 ghost use Rattle.std.specs.Result.{result_map_both};
 ghost use Rattle.jiff.specs.Words.{plain_zone};
 ghost use Rattle.gix_date_c.specs.Git.Dates.{IsApproximate, IsExact, IsExpiry, approximate_of, exact_of, expiry_of};
+ghost use Rattle.gix_date_c.specs.Lines.Readers.{place_of};
 ghost use Rattle.gix_date_c.specs.Moments.{placed};
 ghost use Rattle.gix_date_c.specs.Reading.{IsReadAt, IsReadIn, IsReadPlaced};
 ghost use Rattle.gix_date_c.specs.Values.Stores.{StoresRead};
@@ -15,7 +16,9 @@ use crate::values::status::Status;
 use crate::values::store::store_read;
 use crate::values::time::{CTime, time_for_c};
 use crate::zone::CZone;
-use git_date::{Approximate, Expiry, ReadDate, approxidate, expiry_date, parse_date_at};
+use git_date::{
+    Approximate, Expiry, ReadDate, approxidate, expiry_date, parse_date, parse_date_at,
+};
 use gix_date::Zoned;
 use jiff::Timestamp;
 use jiff::tz::TimeZone;
@@ -67,6 +70,17 @@ fn read_exact(
     }
 }
 
+/// What a text says at a moment, where there is one.
+pub(crate) fn read_exact_now(text: &[u8], now: Result<Zoned<'_>, Status>) -> Result<CExact, Refusal>
+    ensures { IsReadAt IsExact (place_of now.entry) text.now result }
+{
+    let now = now.map_err(Refusal::of)?;
+    match parse_date(text, now) {
+        Ok(date) => Ok(exact_of(date)),
+        Err(error) => Err(date_refusal(error)),
+    }
+}
+
 /// A date as C has it.
 fn exact_of(date: ReadDate) -> CExact
     ensures { result ≡ exact_of date }
@@ -108,7 +122,10 @@ pub extern "C" fn git_date_approxidate_at(
 }
 
 /// What a text says at a moment, where there is one.
-fn read_approximate(text: &[u8], now: Result<Zoned<'_>, Status>) -> Result<CApproximate, Refusal>
+pub(crate) fn read_approximate(
+    text: &[u8],
+    now: Result<Zoned<'_>, Status>,
+) -> Result<CApproximate, Refusal>
     ensures { IsReadAt IsApproximate now.entry text.now result }
 {
     let now = now.map_err(Refusal::of)?;

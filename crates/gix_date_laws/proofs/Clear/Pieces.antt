@@ -10,10 +10,6 @@ use Rattle.gix_date.specs.Text.Characters.{minus}
 use Rattle.gix_date.specs.Careful.Grammar.{IsSeparator, AreSeparators, IsWordGap, Piece, AreSeparated, joined_pieces, words_of}
 use Rattle.gix_date_laws.proofs.Clear.Scan.{first_word, fits, next, scan}
 
--- separators, as a test and as a fact
-separator-is : (b : ℕ) → is_separator b ≡ true → IsSeparator b
-separator-is b h = grind (arith, nat_tests, h)
-
 is-separator : (b : ℕ) → IsSeparator b → is_separator b ≡ true
 is-separator b h = grind (arith, nat_tests, h)
 
@@ -62,9 +58,6 @@ passes-by before after c rest false e h = let is = rw e at h in rw e is
 or-false : (c : ℕ) → (is_separator c || (c == minus && false)) ≡ true → is_separator c ≡ true
 or-false c h = grind (arith, nat_tests, h)
 
-or-true : (c : ℕ) → (is_separator c || (c == minus && true)) ≡ true → IsSeparator c ⊎ (c ≡ minus)
-or-true c h = grind (arith, nat_tests, h)
-
 no-nil : (c : ℕ) (t : List ℕ) (ps : List Piece) → (c ∷ t) ≡ [] → ps ≡ []
 no-nil c t ps e = absurd cc
 
@@ -95,7 +88,7 @@ found-next true c rest false e h f =
       pieces = f.pieces;
       whole = ap (λ (t : List ℕ). c ∷ t) f.whole;
       letters = refl;
-      is_gap = (or-true c is, f.separated);
+      is_gap = (grind (arith, nat_tests, is), f.separated);
       last = no-nil c f.front f.pieces;
       apart = f.apart;
     }
@@ -105,7 +98,7 @@ found-next false c rest false e h f =
       front = c ∷ f.front;
       pieces = f.pieces;
       whole = ap (λ (t : List ℕ). c ∷ t) f.whole;
-      separated = (separator-is c (or-false c is), f.separated);
+      separated = (grind (arith, nat_tests, (or-false c is)), f.separated);
       apart = f.apart;
     }
 

@@ -42,22 +42,11 @@ Reads text reading = careful_reading default_options text ≡ reading
 abbrev seconds_read : ℕ → Reading
 seconds_read seconds = First (Some (Absolute (utc_time (pos seconds))))
 
-milliseconds : Reads (codes "1704450600000") AfterYear9999
-unfolding computing careful_reading unclear_place is_clear_at unzoned_day names_its_day first_day day_named is_in_years_if_number is_number
-milliseconds = refl
-
-date-of-digits : Reads (codes "20240105103000 +0200") AfterYear9999
-unfolding computing careful_reading unclear_place is_clear_at unzoned_day names_its_day first_day day_named is_in_years_if_number is_number
-date-of-digits = refl
-
-last-second : Reads (codes "253402300799") (seconds_read 253402300799)
+numbers :
+    Reads (codes "1704450600000") AfterYear9999
+    × Reads (codes "20240105103000 +0200") AfterYear9999
+    × Reads (codes "253402300799") (seconds_read 253402300799)
+    × Reads (codes "253402300800") AfterYear9999
+    × Reads (codes "@253402300800") (seconds_read 253402300800)
 unfolding computing careful_reading unclear_place is_clear_at unzoned_day names_its_day first_day day_named is_in_years_if_number is_large_if_number is_number
-last-second = refl
-
-next-second : Reads (codes "253402300800") AfterYear9999
-unfolding computing careful_reading unclear_place is_clear_at unzoned_day names_its_day first_day day_named is_in_years_if_number is_number
-next-second = refl
-
-next-second-after-at : Reads (codes "@253402300800") (seconds_read 253402300800)
-unfolding computing careful_reading unclear_place is_clear_at unzoned_day names_its_day first_day day_named is_in_years_if_number is_large_if_number is_number
-next-second-after-at = refl
+numbers = (refl, refl, refl, refl, refl)

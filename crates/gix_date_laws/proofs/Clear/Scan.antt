@@ -50,9 +50,6 @@ clear-is : (text : List ℕ) (k c : ℕ) (rest : List ℕ) → drop k text ≡ c
 unfolding is_clear_at
 clear-is text k c rest d = rw (stands text k c rest d, d) refl
 
-after-is : (text : List ℕ) (k c : ℕ) (rest : List ℕ) → drop k text ≡ c ∷ rest → after_word text (suc k) ≡ is_ascii_alphanumeric c
-after-is text k c rest d = ap is_ascii_alphanumeric (stands text k c rest d)
-
 map-cond : (f : ℕ → List ℕ) (b : Bool) (k : ℕ) (o : Option ℕ) → option_map f (cond b (Some k) o) ≡ cond b (Some (f k)) (option_map f o)
 map-cond f true k o = refl
 map-cond f false k o = refl
@@ -69,7 +66,7 @@ here text k rest = scan (word_before text k) (after_word text k) rest
 step-is : (text : List ℕ) (k c : ℕ) (rest : List ℕ) → drop k text ≡ c ∷ rest → here text k (c ∷ rest) ≡ (is_clear_at text k && here text (suc k) rest)
 step-is text k c rest d =
     ap₂ (λ (a b : Bool). a && b) (sym (clear-is text k c rest d))
-    (ap₂ (λ (o : Option (List ℕ)) (b : Bool). scan o b rest) (sym (before-is text k c rest d)) (sym (after-is text k c rest d)))
+    (ap₂ (λ (o : Option (List ℕ)) (b : Bool). scan o b rest) (sym (before-is text k c rest d)) (sym (ap is_ascii_alphanumeric (stands text k c rest d))))
 
 -- no place fails
 or-none : (o : Option ℕ) (b : Bool) (n : ℕ) → option_or o (cond b None (Some n)) ≡ None → (o ≡ None) × (b ≡ true)
@@ -108,9 +105,6 @@ from-scan text k (c ∷ rest) d l none h =
     let parts = both (is_clear_at text k) (here text (suc k) rest) (sym (step-is text k c rest d) ∙ h) in
     from-scan text (suc k) rest (drop-next text k c rest d) (omega (arith, within)) (goes_on (is_clear_at text) k none parts.0) parts.1
 
-none-or : (o : Option ℕ) (b : Bool) (n : ℕ) → o ≡ None → b ≡ true → option_or o (cond b None (Some n)) ≡ None
-none-or o b n e f = rw (e, f) refl
-
 pub clear-scan : (text : List ℕ) → unclear_place text ≡ None → scan None false text ≡ true
 unfolding unclear_place
 clear-scan text e =
@@ -121,4 +115,4 @@ pub scan-clear : (text : List ℕ) → scan None false text ≡ true → unclear
 unfolding unclear_place
 scan-clear text h =
     let parts = from-scan text 0 text refl (omega arith) refl h in
-    none-or (first_failure (is_clear_at text) (length text)) (ends_in_ago (word_before text (length text))) (length text) parts.0 parts.1
+    rw (parts.0, parts.1) refl

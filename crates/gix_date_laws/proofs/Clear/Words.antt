@@ -19,9 +19,6 @@ after-count c w h = rw (h, count-no-unit c h, count-no-and c h) (or-false (has_u
 after-and : (a w : List ℕ) → is_and a ≡ true → may_follow a w ≡ is_plain_count w
 after-and a w h = rw (and-no-count a h, and-no-unit a h, h) refl
 
-after-ago : (a w : List ℕ) → is_ago a ≡ true → may_follow a w ≡ false
-after-ago a w h = rw (ago-no-count a h, ago-no-unit a h, ago-no-and a h) refl
-
 unit-only : (uw pw aw gw : Bool) → ((false && uw) || ((true && (pw || aw || gw)) || (false && pw))) ≡ (pw || aw || gw)
 unit-only uw false false true = refl
 unit-only uw x aw gw = refl
@@ -54,7 +51,7 @@ ago-ends : (w : List ℕ) (rest : List (List ℕ)) → is_ago w ≡ true → cha
 ago-ends w [] h e = ([], (w, refl, h))
 ago-ends w (x ∷ rest) h e =
     let parts = both (may_follow w x) (chain (Some x) rest) e in
-    let bad : true ≡ false = sym parts.0 ∙ after-ago w x h in
+    let bad : true ≡ false = sym parts.0 ∙ (rw (ago-no-count w h, ago-no-unit w h, ago-no-and w h) refl) in
     absurd cc
 
 count-ends : (w x : List ℕ) (rest : List (List ℕ)) → is_plain_count w ≡ true → chain (Some w) (x ∷ rest) ≡ true → (has_unit x ≡ true → chain (Some x) rest ≡ true → Ends rest) → Ends (w ∷ x ∷ rest)

@@ -44,12 +44,11 @@ is-up-to : (most : ℕ) (t : List ℕ) (n : ℕ) → IsUpTo most t n → digits_
 unfolding digits_at_most
 is-up-to most [] n h = absurd (omega (arith, h.0.0))
 is-up-to most (c ∷ t) n h =
-    let value = h.0.2 in
     let digits : list_all is_ascii_digit (c ∷ t) ≡ true = all-digits (c ∷ t) ∙ h.0.1 in
-    let low : digits_value 10 (c ∷ t) ≤ most = subst (λ (k : ℕ). k ≤ most) value h.1 in
+    let low : digits_value 10 (c ∷ t) ≤ most = subst (λ (k : ℕ). k ≤ most) h.0.2 h.1 in
     let test : nat_lt most (digits_value 10 (c ∷ t)) ≡ false = grind (arith, nat_tests, low) in
     ap (λ (b : Bool). cond b (at_most most (digits_value 10 (c ∷ t))) None) digits
-    ∙ ap (λ (b : Bool). cond b None (Some (digits_value 10 (c ∷ t)))) test ∙ ap (λ (k : ℕ). Some k) (sym value)
+    ∙ ap (λ (b : Bool). cond b None (Some (digits_value 10 (c ∷ t)))) test ∙ ap (λ (k : ℕ). Some k) (sym h.0.2)
 
 fields-are : (h m s : Option ℕ) (c : LocalClock) → clock_of_fields h m s ≡ Some c → (h ≡ Some c.hour) × (m ≡ Some c.minute) × (s ≡ Some c.second)
 fields-are (Some h) (Some m) (Some s) c e =

@@ -4,7 +4,6 @@ use Rattle.std.proofs.Math.Seq.{get_or-append_seam, take-append_seam, drop-appen
 use Rattle.std.proofs.lemmas.Bool.{and_parts as both, and_from as join, not-true as not_is}
 use Rattle.std.proofs.lemmas.Bool.Decides.{nat_tests}
 use Rattle.std.proofs.lemmas.List.{get_or-append-add}
-use Rattle.std.proofs.lemmas.List.Folds.{list_all-append}
 use Rattle.std.proofs.lemmas.Str.{IsUtf8-from_ascii}
 use Rattle.std.specs.Char.{is_ascii_digit, is_ascii_graphic}
 use Rattle.std.specs.List.{list_all}
@@ -15,7 +14,7 @@ use Rattle.gix_date.specs.Fields.FieldTexts.{IsSign, IsDigit}
 use Rattle.gix_date.specs.Git.ClockCut.{is_sign, has_offset_at, trimmed_after, last_space, last_sign, cut_at_z, cut_at_space, cut_at_sign, clock_cut}
 use Rattle.gix_date.specs.Text.Characters.{space, colon, letter_z, is_colon}
 use Rattle.gix_date.specs.Fields.Offsets.{OffsetSign as Sign}
-use Rattle.gix_date.proofs.Text.AsciiCuts.{ascii-by}
+use Rattle.gix_date.proofs.Text.AsciiCuts.{ascii-by, all-append}
 use Rattle.gix_date.proofs.Git.ClockCuts.{z_none, space_none, space_found, sign_found}
 use Rattle.gix_date.proofs.Text.LastPlaces.{last_is, last_none}
 use Rattle.gix_date.proofs.Text.Trimmed.{trim-ends, graphic-ascii}
@@ -139,9 +138,6 @@ is_no_space c = not (c == space)
 
 pub byte-is-no-space : (c : ℕ) → is_clock_byte c ≡ true → is_no_space c ≡ true
 byte-is-no-space c h = ap not (byte-no-space c h)
-
-pub all-append : (p : ℕ → Bool) (xs ys : List ℕ) → list_all p xs ≡ true → list_all p ys ≡ true → list_all p (xs ++ ys) ≡ true
-all-append p xs ys h k = list_all-append p xs ys ∙ join _ _ h k
 
 no-offset : (a b c : Bool) → b ≡ false → (a && b && c) ≡ false
 no-offset true b c h = ap (λ q. q && c) h

@@ -9,16 +9,11 @@ use Rattle.std.proofs.lemmas.Str.{chars-encodes, encodes-chars, scalars-chars, e
 use Rattle.std.proofs.lemmas.Str.Ascii.{lowercase_ascii, lowercase-lowercase}
 use Rattle.std.specs.Char.{is_ascii_digit, is_whitespace, to_ascii_lowercase}
 use Rattle.std.specs.List.{slice_split, onto_first, list_all, fold, position}
-use Rattle.std.specs.Option.{option_or}
 use Rattle.std.specs.Prelude.{◌==◌, ◌&&◌, not, codes}
 use Rattle.std.specs.Str.{chars, all_scalars, trim, trim_start, trim_end, skip_leading_whitespace, drop_trailing_whitespace, str_to_ascii_lowercase}
-use Rattle.gix_date.specs.Families.Answer.{Relative}
-use Rattle.gix_date.specs.Families.Laws.{IgnoresCase}
-use Rattle.gix_date.specs.Families.Order.{RelativeText}
-use Rattle.gix_date.specs.Families.Raw.{OffsetRule}
 use Rattle.gix_date.specs.Relative.PairsRead.{pairs_from}
 use Rattle.gix_date.specs.Relative.Scan.{step, verdict, WordScan}
-use Rattle.gix_date.specs.Relative.Dates.{RelativeDate, MinusPairs, date_names, named_date, pairs_date, relative_date}
+use Rattle.gix_date.specs.Relative.Dates.{MinusPairs, date_names, named_date, pairs_date}
 use Rattle.gix_date.specs.Relative.Roles.{are_pairs, pairs, is_count_word}
 use Rattle.gix_date.specs.Relative.Words.{relative_words, is_gap, singular, unit_of, named_unit, unit_or_seconds, count_of, named_count, number_named, PeriodUnit}
 use Rattle.gix_date.specs.Text.Names.{number_names}
@@ -194,16 +189,12 @@ trim-low text u =
     ∙ sym (encode-low (drop_trailing_whitespace xs))
     ∙ ap (λ (q : List ℕ). low (encode_utf8_all (drop_trailing_whitespace q))) (sym front)
 
-name-low : (text : List ℕ) → IsUtf8 text → named_date (trim (low text)) ≡ named_date (trim text)
+pub name-low : (text : List ℕ) → IsUtf8 text → named_date (trim (low text)) ≡ named_date (trim text)
 unfolding named_date
 name-low text u = like-named date_names (trim (low text)) (trim text) (ap low (trim-low text u) ∙ low-twice (trim text))
 
-pair-low : (text : List ℕ) → pairs_date (low text) ≡ pairs_date text
+pub pair-low : (text : List ℕ) → pairs_date (low text) ≡ pairs_date text
 unfolding pairs_date
 pair-low text =
     ap (λ (ws : List (List ℕ)). cond (are_pairs ws) (Some (MinusPairs (pairs ws))) None) (words-low text)
     ∙ ap₂ (λ (b : Bool) (ps : List (ℤ × PeriodUnit)). cond b (Some (MinusPairs ps)) None) (are-low (relative_words text)) (pairs-low (relative_words text))
-
-pub relative-case : (rule : OffsetRule) (text : List ℕ) → IsUtf8 text → IgnoresCase rule RelativeText text
-unfolding relative_date
-relative-case rule text u = ap₂ (λ (a b : Option RelativeDate). option_map Relative (option_or a b)) (name-low text u) (pair-low text)

@@ -1,17 +1,11 @@
 -- White space around a text changes no answer of the families that trim, nor what a header says.
-use Rattle.std.proofs.Common.{◌≡◌, ◌∙◌, ℕ, Bool, true, false, cond, List, [], ◌∷◌, length, refl, ap, sym, subst, option_map, IsUtf8, encode_utf8_all}
+use Rattle.std.proofs.Common.{◌≡◌, ◌∙◌, ℕ, Bool, true, false, cond, List, [], ◌∷◌, length, refl, ap, sym, subst, IsUtf8, encode_utf8_all}
 use Rattle.std.proofs.lemmas.Str.{chars-encodes, scalars-chars}
 use Rattle.std.specs.Char.{is_whitespace}
 use Rattle.std.specs.List.{flat_map, list_any}
 use Rattle.std.specs.Prelude.{◌==◌, ◌&&◌}
 use Rattle.std.specs.Str.{chars, trim, trim_start, trim_end, skip_leading_whitespace, drop_trailing_whitespace}
-use Rattle.gix_date.specs.Families.Answer.{Absolute}
-use Rattle.gix_date.specs.Families.Laws.{IgnoresSpace}
-use Rattle.gix_date.specs.Families.Order.{GitForm, RelativeText, RawText}
-use Rattle.gix_date.specs.Families.Raw.{OffsetRule, raw_time_by}
-use Rattle.gix_date.specs.Git.Forms.{git_form, git_time}
 use Rattle.gix_date.specs.Header.Reading.{header_time}
-use Rattle.gix_date.specs.Relative.Dates.{pairs_date, relative_date}
 use Rattle.gix_date.specs.Relative.Words.{relative_words}
 use Rattle.gix_date.specs.Text.Characters.{has_colon}
 use Rattle.gix_date.proofs.Text.FirstWords.{trimmed-words, skip-scalars, drop-scalars}
@@ -78,7 +72,7 @@ trim-of text u =
 trim-utf8 : (text : List ℕ) → IsUtf8 text → IsUtf8 (trim text)
 trim-utf8 text u = let t = trim-of text u in subst IsUtf8 (sym t.is) t.utf8
 
-trim-twice : (text : List ℕ) → IsUtf8 text → trim (trim text) ≡ trim text
+pub trim-twice : (text : List ℕ) → IsUtf8 text → trim (trim text) ≡ trim text
 unfolding trim_start trim_end
 trim-twice text u =
     let t = trim-of text u in
@@ -89,21 +83,9 @@ trim-twice text u =
     ∙ ap encode_utf8_all t.ends in
     ap trim t.is ∙ again ∙ sym t.is
 
-pub git-around : (rule : OffsetRule) (text : List ℕ) → IsUtf8 text → IgnoresSpace rule GitForm text
-unfolding git_time
-git-around rule text u = ap (λ (t : List ℕ). option_map Absolute (git_form t)) (trim-twice text u)
-
 pub words-around : (text : List ℕ) → IsUtf8 text → relative_words (trim text) ≡ relative_words text
 words-around text u =
     words-within (trim text) (trim-utf8 text u) ∙ ap (flat_map relative_words) (trimmed-words text u) ∙ sym (words-within text u)
-
-pub relative-around : (rule : OffsetRule) (text : List ℕ) → IsUtf8 text → IgnoresSpace rule RelativeText text
-unfolding relative_date pairs_date
-relative-around rule text u = rw (trim-twice text u, words-around text u) refl
-
-pub raw-around : (rule : OffsetRule) (text : List ℕ) → IsUtf8 text → IgnoresSpace rule RawText text
-unfolding raw_time_by
-raw-around rule text u = rw (trimmed-words text u) refl
 
 pub header-around : (text : List ℕ) → IsUtf8 text → header_time (trim text) ≡ header_time text
 unfolding header_time

@@ -136,14 +136,14 @@ unfolding raw_time_by raw_offset_by
 is-raw rule text t h =
     rw (h.words, is-int h.first t.seconds h.is_seconds, are-fields h.second h.fields h.are_fields, h.allowed) (ap (λ (o : ℤ). Some (time_at t.seconds o)) (sym h.offset_is))
 
-epoch-is : (text : List ℕ) (t : Time) → epoch_time text ≡ Some t → IsEpochText text t
+pub epoch-is : (text : List ℕ) (t : Time) → epoch_time text ≡ Some t → IsEpochText text t
 unfolding epoch_time
 epoch-is text t e =
     let n = went (int_value text) (λ n. cond (le_z min_bare_epoch n) (Some (utc_time n)) None) t e in
     let g = guard (le_z min_bare_epoch n.0) (utc_time n.0) t n.2 in
     subst (IsEpochText text) g.1 (int-is text n.0 n.1, z_test min_bare_epoch n.0 g.0, refl)
 
-is-epoch : (text : List ℕ) (t : Time) → IsEpochText text t → epoch_time text ≡ Some t
+pub is-epoch : (text : List ℕ) (t : Time) → IsEpochText text t → epoch_time text ≡ Some t
 unfolding epoch_time
 is-epoch text t h = rw (is-int text t.seconds h.0, z_holds min_bare_epoch t.seconds h.1) (ap (λ (o : ℤ). Some (time_at t.seconds o)) (sym h.2))
 
@@ -169,9 +169,6 @@ is-at rule text t h = ap (at_time rule) h.whole ∙ by h.is
 
 pub raw-spelled : (rule : OffsetRule) → Accepts (raw_time_by rule) (IsRawText rule)
 raw-spelled rule text t = (raw-is rule text t, is-raw rule text t)
-
-pub epoch-spelled : Accepts epoch_time IsEpochText
-epoch-spelled text t = (epoch-is text t, is-epoch text t)
 
 pub at-spelled : (rule : OffsetRule) → Accepts (at_time rule) (IsAtText rule)
 at-spelled rule text t = (at-is rule text t, is-at rule text t)

@@ -1,5 +1,5 @@
 -- Offsets of formatted dates are read where they are so written, and nowhere else.
-use Rattle.std.proofs.Common.{◌≡◌, ◌∙◌, ◌+◌, ◌-◌, ℕ, ℤ, Bool, true, false, cond, List, [], ◌∷◌, ◌++◌, ◌⊎◌, inl, inr, Option, Some, None, refl, ap, sym, subst, arith, ◌↔◌}
+use Rattle.std.proofs.Common.{◌≡◌, ◌∙◌, ◌+◌, ◌-◌, ℕ, ℤ, Bool, true, false, cond, List, [], ◌∷◌, ◌++◌, ◌⊎◌, inl, inr, Option, Some, None, refl, ap, sym, subst, arith}
 use Rattle.std.proofs.lemmas.Option.{cond_some as guard, same_Some as same_some}
 use Rattle.std.proofs.lemmas.Bool.{and_parts as both}
 use Rattle.std.proofs.lemmas.Bool.Decides.{nat_tests}
@@ -34,19 +34,16 @@ is-offset : (f : SignedPairs) (n : ℤ) → AreJiffFields f → n ≡ offset_of 
 is-offset f n h v = rw (is-within f h) (ap (λ (k : ℤ). Some k) (sym v))
 
 -- Without colons.
-compact-is : (text : List ℕ) (n : ℤ) → compact_offset text ≡ Some n → IsCompactOffset text n
+pub compact-is : (text : List ℕ) (n : ℤ) → compact_offset text ≡ Some n → IsCompactOffset text n
 unfolding compact_offset
 compact-is text n e =
     let f = went (offset_fields text) jiff_offset n e in
     let o = offset-is f.0 n f.2 in
     record { fields = f.0; are = fields-are text f.0 f.1; within = o.0; value = o.1 }
 
-is-compact : (text : List ℕ) (n : ℤ) → IsCompactOffset text n → compact_offset text ≡ Some n
+pub is-compact : (text : List ℕ) (n : ℤ) → IsCompactOffset text n → compact_offset text ≡ Some n
 unfolding compact_offset
 is-compact text n h = rw (are-fields text h.fields h.are) (is-offset h.fields n h.within h.value)
-
-pub compact-spelled : (text : List ℕ) (n : ℤ) → (compact_offset text ≡ Some n) ↔ IsCompactOffset text n
-compact-spelled text n = (compact-is text n, is-compact text n)
 
 -- With colons.
 abbrev AreSeconds : List ℕ → Option ℕ → Type 0
@@ -73,7 +70,7 @@ colon-read text f h =
     ap strict_offset h.whole
     ∙ rw (sign-of h.mark f.sign (h.hours ++ (colon ∷ (h.minutes ++ h.last))) h.is_mark, pair-of h.hours f.hours (colon ∷ (h.minutes ++ h.last)) h.are_hours, pair-of h.minutes f.minutes h.last h.are_minutes, last-of h.last f.seconds h.are_seconds) refl
 
-colon-is : (text : List ℕ) (n : ℤ) → strict_offset text ≡ Some n → IsColonOffset text n
+pub colon-is : (text : List ℕ) (n : ℤ) → strict_offset text ≡ Some n → IsColonOffset text n
 colon-is text n e =
     let s = strict-fields text n e in
     let k = s.1 in
@@ -91,11 +88,8 @@ colon-is text n e =
     } in
     record { fields = s.0; are = are; within = o.0; value = o.1 }
 
-is-colon : (text : List ℕ) (n : ℤ) → IsColonOffset text n → strict_offset text ≡ Some n
+pub is-colon : (text : List ℕ) (n : ℤ) → IsColonOffset text n → strict_offset text ≡ Some n
 is-colon text n h = colon-read text h.fields h.are ∙ is-offset h.fields n h.within h.value
-
-pub colon-spelled : (text : List ℕ) (n : ℤ) → (strict_offset text ≡ Some n) ↔ IsColonOffset text n
-colon-spelled text n = (colon-is text n, is-colon text n)
 
 -- The zones of mail.
 same-zones : (text : List ℕ) → named_in zone_names text ≡ named_in mail_zones text
@@ -160,7 +154,7 @@ unfolding rfc2822_offset
 is-digits text n h none =
     rw (are-fields text h.fields h.are) (ap (λ (s : Option ℕ). cond (is_some s) None (jiff_offset h.fields)) none ∙ is-offset h.fields n h.within h.value)
 
-mail-is : (text : List ℕ) (n : ℤ) → rfc2822_zone text ≡ Some n → IsMailOffset text n
+pub mail-is : (text : List ℕ) (n : ℤ) → rfc2822_zone text ≡ Some n → IsMailOffset text n
 unfolding rfc2822_zone
 mail-is text n e = elim (first-or (rfc2822_offset text) (named_zone text) n e) [
   | inl h ↦ inl (digits-is text n h)
@@ -174,10 +168,7 @@ zone-no-digits text n e (Some m) h =
     let none : named_zone text ≡ None = ap named_zone digits.are.whole ∙ sign-no-zone digits.are.mark digits.fields.sign _ digits.are.is_mark in
     absurd cc
 
-is-mail : (text : List ℕ) (n : ℤ) → IsMailOffset text n → rfc2822_zone text ≡ Some n
+pub is-mail : (text : List ℕ) (n : ℤ) → IsMailOffset text n → rfc2822_zone text ≡ Some n
 unfolding rfc2822_zone
 is-mail text n (inl h) = rw (is-digits text n h.0 h.1) refl
 is-mail text n (inr h) = zone-no-digits text n (is-zone text n h) (rfc2822_offset text) refl
-
-pub mail-spelled : (text : List ℕ) (n : ℤ) → (rfc2822_zone text ≡ Some n) ↔ IsMailOffset text n
-mail-spelled text n = (mail-is text n, is-mail text n)

@@ -14,7 +14,7 @@ use Rattle.std.specs.Prelude.{◌||◌, IsSomeAnd}
 use Rattle.std.specs.Str.{chars}
 use Rattle.gix_date.specs.Families.Answer.{Absolute}
 use Rattle.gix_date.specs.Families.Order.{first_family_by}
-use Rattle.gix_date.specs.Families.Raw.{OffsetRule, allows, raw_time_by}
+use Rattle.gix_date.specs.Families.Raw.{OffsetRule, allows}
 use Rattle.gix_date.specs.Header.Canonical.{is_canonical_header}
 use Rattle.gix_date.specs.Header.Reading.{header_time}
 use Rattle.gix_date.specs.Header.Text.{header_text}
@@ -24,9 +24,8 @@ use Rattle.gix_date.specs.Text.SpaceWords.{is_nonempty, space_words}
 use Rattle.gix_date.specs.declared.parsing.raw.RawOffsets.{RawOffsets}
 use Rattle.gix_date.specs.declared.parsing.raw.RawOffsets.TheVariants.{Quarter, WholeMinutes}
 use Rattle.gix_date.specs.declared.time.Time.{Time}
-use Rattle.gix_date.proofs.Families.Disjoint.{raw-words}
 use Rattle.gix_date.proofs.Header.HeaderLaws.{canonical-taken, canonical-back, header-fits}
-use Rattle.gix_date.proofs.Fast.FastHeaders.{by_words, said, no_colon, int-number, offset-number, IsNumber}
+use Rattle.gix_date.proofs.Fast.FastHeaders.{no_colon, IsNumber}
 use Rattle.gix_date.proofs.Printing.RawBack.{raw-back, wide-back}
 use Rattle.gix_date.proofs.Text.WordsWithin.{parts-of, wide-byte}
 
@@ -75,16 +74,8 @@ unfolding space_words
 colon-within text u =
     ap has_colon (sym (encodes-chars text u)) ∙ chars-colon (chars text) ∙ parts-colon (chars text) ∙ words-colon (slice_split is_whitespace (chars text))
 
-number-no-colon : (w : List ℕ) → IsNumber w → has_colon w ≡ false
+pub number-no-colon : (w : List ℕ) → IsNumber w → has_colon w ≡ false
 number-no-colon w n = ap has_colon n.whole ∙ no_colon (n.first ∷ n.rest) n.bytes
-
-pub raw-header : (rule : OffsetRule) (text : List ℕ) (t : Time) → IsUtf8 text → raw_time_by rule text ≡ Some t → header_time text ≡ Some t
-raw-header rule text t u e =
-    let r = raw-words rule text t e in
-    let first = number-no-colon r.front (int-number r.front r.value r.is_value) in
-    let last = number-no-colon r.zone (offset-number r.zone r.fields r.is_fields) in
-    let none : has_colon text ≡ false = colon-within text u ∙ ap (list_any has_colon) r.is ∙ rw (first, last) refl in
-    by_words text r.front r.zone t none r.is (said r.front r.zone r.value r.fields r.is_value r.is_fields ∙ ap (λ (k : Time). Some k) r.time)
 
 -- A canonical header with an offset that the rule allows is a raw text.
 is-said : (rule : OffsetRule) (text : List ℕ) (t : Time) → header_text t ≡ Some text → IsSomeAnd (header_text t) (λ x. first_family_by rule x ≡ Some (Absolute t)) → first_family_by rule text ≡ Some (Absolute t)

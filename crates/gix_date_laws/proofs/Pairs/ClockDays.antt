@@ -1,5 +1,5 @@
 -- Pairs that subtract the same seconds, and what a clock shows whole days before.
-use Rattle.std.proofs.Common.{◌≡◌, ℕ, ℤ, pos, ◌+ℤ◌, ◌-ℤ◌, ◌*ℤ◌, List, [], ◌∷◌, map, refl, sym, ap, subst, arith, Some, FitsSigned, w64}
+use Rattle.std.proofs.Common.{◌≡◌, ℕ, ℤ, pos, ◌+ℤ◌, ◌-ℤ◌, ◌*ℤ◌, List, [], ◌∷◌, map, refl, sym, ap, subst, arith, FitsSigned, w64}
 use Rattle.std.specs.List.{All}
 use Rattle.std.specs.Prelude.{codes}
 use Rattle.jiff.specs.Types.{TimeZone, DateTime}
@@ -9,7 +9,6 @@ use Rattle.jiff_core.proofs.DateTimeLemmas.{civil_nanos-parts, time_nanos_bound}
 use Rattle.jiff_core.proofs.SignedLemmas.{signed_arith}
 use Rattle.jiff_zoned.proofs.SameLemmas.{same_time}
 use Rattle.gix_date.specs.Computing.{computing}
-use Rattle.gix_date.specs.Relative.Dates.{relative_date}
 use Rattle.gix_date.specs.Relative.FixedZones.{product, less_seconds, KeepsWay, NamesAlike}
 use Rattle.gix_date.specs.Relative.Steps.{zone_of, IsLocal, SecondsStep, Chain}
 use Rattle.gix_date.proofs.Families.Ranges.{zone-fits}
@@ -40,27 +39,13 @@ same-seconds z a b e j = (
 abbrev one_pair : ℕ → ℕ → List (ℤ × ℤ)
 one_pair count unit = (pos count, pos unit) ∷ []
 
-one-day : relative_date (codes "1 day ago") ≡ Some (less_seconds (one_pair 1 86_400))
-unfolding computing
-one-day = refl
-
-day-hours : relative_date (codes "24 hours ago") ≡ Some (less_seconds (one_pair 24 3600))
-unfolding computing
-day-hours = refl
-
-one-week : relative_date (codes "1 week ago") ≡ Some (less_seconds (one_pair 1 604_800))
-unfolding computing
-one-week = refl
-
-week-days : relative_date (codes "7 days ago") ≡ Some (less_seconds (one_pair 7 86_400))
-unfolding computing
-week-days = refl
-
 pub day-agrees : (z : Zoned) → TextsNameAlike (codes "1 day ago") (codes "24 hours ago") z
-day-agrees z = (less_seconds (one_pair 1 86_400), less_seconds (one_pair 24 3600), one-day, day-hours, same-seconds z (one_pair 1 86_400) (one_pair 24 3600) refl)
+unfolding computing
+day-agrees z = (less_seconds (one_pair 1 86_400), less_seconds (one_pair 24 3600), refl, refl, same-seconds z (one_pair 1 86_400) (one_pair 24 3600) refl)
 
 pub week-agrees : (z : Zoned) → TextsNameAlike (codes "1 week ago") (codes "7 days ago") z
-week-agrees z = (less_seconds (one_pair 1 604_800), less_seconds (one_pair 7 86_400), one-week, week-days, same-seconds z (one_pair 1 604_800) (one_pair 7 86_400) refl)
+unfolding computing
+week-agrees z = (less_seconds (one_pair 1 604_800), less_seconds (one_pair 7 86_400), refl, refl, same-seconds z (one_pair 1 604_800) (one_pair 7 86_400) refl)
 
 -- The clock.
 shown-at : (tz : TimeZone) (i : ℤ) → IsTimestampNanos i → (shown : DateTime) × IsLocal tz i shown

@@ -24,8 +24,7 @@ use Rattle.gix_date_laws.proofs.Pairs.NoneNegative.{IsUnit, GoBack, GoesBack, te
 picked-low : (tz : TimeZone) (civil j : ℤ) → IsPicked tz civil j → j ≤ℤ (civil +ℤ pos 93_599_000_000_000)
 picked-low tz civil j h =
     let o = compatible_offset (ambiguous_at tz h.shown) in
-    let range = o.in_range in
-    omega (arith, signed_arith, h.is_choice, h.civil_is, range)
+    omega (arith, signed_arith, h.is_choice, h.civil_is, o.in_range)
 
 -- so does the instant
 local-high : (tz : TimeZone) (i civil : ℤ) → civil ≡ i +ℤ nanos_of_seconds (offset_at tz i) → civil ≤ℤ (i +ℤ pos 93_599_000_000_000)
@@ -43,11 +42,10 @@ none-months tz i j h =
 -- by a month or more the instant falls by four offsets and more
 some-months : (tz : TimeZone) (n i j : ℤ) → pos 1 ≤ℤ n → MonthsStep tz n i j → (j +ℤ pos 187_198_000_000_000) ≤ℤ i
 some-months tz n i j some h =
-    let d = h.local.date in
-    let m = month_number d in
+    let m = month_number h.local.date in
     let shorter = month-shorter (m -ℤ n) m h.year_in (omega (arith, signed_arith, some)) in
     let low = picked-low tz _ j h.picked in
-    omega (arith, signed_arith, shorter, low, local-high tz i (civil_nanos h.local) h.local_is, civil_nanos-parts h.local, day_of d)
+    omega (arith, signed_arith, shorter, low, local-high tz i (civil_nanos h.local) h.local_is, civil_nanos-parts h.local, day_of h.local.date)
 
 -- No later instant.
 months-back : (tz : TimeZone) (n i j : ℤ) → ResolvesNoneLater tz → pos 0 ≤ℤ n → MonthsStep tz n i j → j ≤ℤ i

@@ -12,7 +12,7 @@ use Rattle.gix_date.proofs.Relative.QuietWords.{lower-same, like-named}
 use Rattle.gix_date_laws.specs.AnyZone.{IsWord, NamesInstant}
 
 -- The dates of names.
-now-date : named_in date_names (codes "now") ≡ Some (MinusSeconds (pos 0))
+pub now-date : named_in date_names (codes "now") ≡ Some (MinusSeconds (pos 0))
 now-date = refl
 
 today-date : named_in date_names (codes "today") ≡ Some (MinusSeconds (pos 0))
@@ -36,11 +36,8 @@ names-instant word text seconds z due e at is = (
   names-before (MinusSeconds seconds) z due (λ j. (λ h. (h.0 ∙ sym at, h.1), λ h. (h.0 ∙ at, h.1))),
 )
 
-less-none : (i : ℤ) → i ≡ (i -ℤ nanos_of_seconds (pos 0))
+pub less-none : (i : ℤ) → i ≡ (i -ℤ nanos_of_seconds (pos 0))
 less-none i = omega (arith, signed_arith)
-
-pub now-names : (text : List ℕ) (z : Zoned) → IsWord (codes "now") text → NamesInstant text z (zoned_nanos z)
-now-names text z = names-instant (codes "now") text (pos 0) z (zoned_nanos z) now-date (less-none (zoned_nanos z))
 
 pub today-names : (text : List ℕ) (z : Zoned) → IsWord (codes "today") text → NamesInstant text z (zoned_nanos z)
 today-names text z = names-instant (codes "today") text (pos 0) z (zoned_nanos z) today-date (less-none (zoned_nanos z))

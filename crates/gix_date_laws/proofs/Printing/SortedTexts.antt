@@ -1,12 +1,12 @@
 -- Texts of ISO 8601 sort as their times, at one offset.
-use Rattle.std.proofs.Common.{◌≡◌, ◌∙◌, ◌<◌, ◌≤◌, ◌+◌, ◌*◌, ◌/◌, ◌%◌, ℕ, ℤ, pos, ◌+ℤ◌, ◌<ℤ◌, ◌≤ℤ◌, List, [], ◌∷◌, ◌++◌, ◌⊎◌, inl, inr, true, false, refl, ap, sym, subst, arith, unsigned_abs}
+use Rattle.std.proofs.Common.{◌≡◌, ◌∙◌, ◌<◌, ◌≤◌, ◌+◌, ◌*◌, ◌/◌, ◌%◌, ℕ, ℤ, pos, ◌+ℤ◌, ◌<ℤ◌, ◌≤ℤ◌, List, [], ◌∷◌, ◌++◌, ◌⊎◌, inl, inr, true, refl, ap, sym, arith, unsigned_abs}
 use Rattle.std.proofs.lemmas.Bool.{cases_order}
 use Rattle.std.proofs.lemmas.Bool.Decides.{nat_tests}
 use Rattle.std.specs.Cmp.Lexicographic.{slice_cmp}
 use Rattle.std.specs.Ordering.{nat_cmp}
 use Rattle.std.specs.declared.cmp.Ordering.{Ordering}
 use Rattle.std.specs.declared.cmp.Ordering.TheVariants.{Less, Equal}
-use Rattle.std.specs.Prelude.{◌==◌, nat_lt}
+use Rattle.std.specs.Prelude.{nat_lt}
 use Rattle.jiff.specs.Types.{Date, DateTime, PlainZoned, Time as TimeOfDay}
 use Rattle.jiff.specs.Words.{civil_nanos, epoch_day, month_number}
 use Rattle.jiff_core.proofs.CalendarLemmas.{days_in_month_bounds}
@@ -16,16 +16,13 @@ use Rattle.jiff_core.proofs.SignedLemmas.{signed_arith}
 use Rattle.jiff_span.proofs.MonthLemmas.{days_from_civil-month}
 use Rattle.gix_date.specs.Fields.Layout.{LocalTime}
 use Rattle.gix_date.specs.Fields.Offsets.{compact_offset_text}
-use Rattle.gix_date.specs.Printing.LocalClocks.{clock_of}
 use Rattle.gix_date.specs.Printing.NamedTexts.{local_time, iso8601_text}
-use Rattle.gix_date.specs.Printing.ReadingBack.{RoundTrips}
 use Rattle.gix_date.specs.Text.Numbers.{two_digits}
 use Rattle.gix_date.specs.declared.time.Time.{Time}
-use Rattle.gix_date_laws.specs.PrintedTexts.{SortBefore}
-use Rattle.gix_date.proofs.Printing.LocalClocks.{Shows, clock-shown, four-digits-from, shown-by}
+use Rattle.gix_date.proofs.Printing.LocalClocks.{Shows}
 
 -- Bytes.
-abbrev bytes_cmp : List ℕ → List ℕ → Ordering
+abbrev pub bytes_cmp : List ℕ → List ℕ → Ordering
 bytes_cmp = slice_cmp nat_cmp
 
 cmp-less : (m n : ℕ) → m < n → nat_cmp m n ≡ Less
@@ -49,7 +46,7 @@ mark-same [] x y = refl
 mark-same (c ∷ p) x y = rw (cmp-same c c refl) (mark-same p x y)
 
 -- Fields of two digits, each with what follows it.
-abbrev fields_text : List (ℕ × List ℕ) → List ℕ
+abbrev pub fields_text : List (ℕ × List ℕ) → List ℕ
 fields_text [] = []
 fields_text ((n, mark) ∷ more) = two_digits n ++ (mark ++ fields_text more)
 
@@ -57,7 +54,7 @@ abbrev AreLess : List (ℕ × List ℕ) → List (ℕ × List ℕ) → Type 0
 AreLess ((m, p) ∷ xs) ((n, q) ∷ ys) = ((m < n) × (n < 100)) ⊎ ((m ≡ n) × (p ≡ q) × AreLess xs ys)
 AreLess xs ys = ⊥
 
-fields-less : (xs ys : List (ℕ × List ℕ)) → AreLess xs ys → bytes_cmp (fields_text xs) (fields_text ys) ≡ Less
+pub fields-less : (xs ys : List (ℕ × List ℕ)) → AreLess xs ys → bytes_cmp (fields_text xs) (fields_text ys) ≡ Less
 fields-less [] ys h = absurd h
 fields-less (x ∷ xs) [] h = absurd h
 fields-less ((m, p) ∷ xs) ((n, q) ∷ ys) (inl (h, low)) = two-less m n (p ++ fields_text xs) (q ++ fields_text ys) h low
@@ -93,10 +90,10 @@ months_from t = (t.date.month, 45 ∷ []) ∷ days_from t
 abbrev years_from : LocalTime → List (ℕ × List ℕ)
 years_from t = (t.date.year % 100, 45 ∷ []) ∷ months_from t
 
-abbrev fields_of : LocalTime → List (ℕ × List ℕ)
+abbrev pub fields_of : LocalTime → List (ℕ × List ℕ)
 fields_of t = (t.date.year / 100, []) ∷ years_from t
 
-text-is : (t : LocalTime) → iso8601_text t ≡ fields_text (fields_of t)
+pub text-is : (t : LocalTime) → iso8601_text t ≡ fields_text (fields_of t)
 text-is t = refl
 
 -- Dates.
@@ -105,48 +102,37 @@ month-order a b lt = days_from_civil-month a.year b.year a.month b.month a.day b
 
 day-order : (a b : Date) → a.year ≡ b.year → a.month ≡ b.month → a.day < b.day → epoch_day a <ℤ epoch_day b
 day-order a b y m lt =
-    let a_in = a.day_in in
-    let b_in = b.day_in in
-    rw (y, m) (omega (arith, signed_arith, lt, days_from_civil-day b.year b.month a.day b.day a_in.0 b_in.0))
+    rw (y, m) (omega (arith, signed_arith, lt, days_from_civil-day b.year b.month a.day b.day a.day_in.0 b.day_in.0))
 
 -- What two clocks show of two instants.
 abbrev clock_seconds : TimeOfDay → ℕ
 clock_seconds t = t.hour * 3600 + t.minute * 60 + t.second
 
-record IsBefore (a b : DateTime) : Type 0 where
+pub record IsBefore (a b : DateTime) : Type 0 where
   days : (epoch_day b.date <ℤ epoch_day a.date) → ⊥
   clock : epoch_day a.date ≡ epoch_day b.date → clock_seconds a.time < clock_seconds b.time
 
-before : (x y : PlainZoned) (a b : Time) → Shows x a → Shows y b → a.offset ≡ b.offset → a.seconds <ℤ b.seconds → IsBefore x.datetime y.datetime
+pub before : (x y : PlainZoned) (a b : Time) → Shows x a → Shows y b → a.offset ≡ b.offset → a.seconds <ℤ b.seconds → IsBefore x.datetime y.datetime
 before x y a b h g o lt =
     let one = civil_nanos-parts x.datetime in
     let two = civil_nanos-parts y.datetime in
     let x_bound = time_nanos_bound x.datetime.time in
     let y_bound = time_nanos_bound y.datetime.time in
-    let x_sub = x.datetime.time.subsec_in in
-    let y_sub = y.datetime.time.subsec_in in
     let nanos : (civil_nanos x.datetime +ℤ pos 1_000_000_000) ≤ℤ civil_nanos y.datetime = omega (arith, signed_arith, x.shows, y.shows, h.instant, g.instant, h.offset_is, g.offset_is, o, lt) in
     record {
       days = λ later. omega (arith, signed_arith, nanos, one, two, x_bound, y_bound, later);
-      clock = λ same. omega (arith, signed_arith, nanos, one, two, same, x_sub, y_sub);
+      clock = λ same. omega (arith, signed_arith, nanos, one, two, same, x.datetime.time.subsec_in, y.datetime.time.subsec_in);
     }
 
 year-order : (a b : Date) (y z : ℕ) → a.year ≡ pos y → b.year ≡ pos z → z < y → epoch_day b <ℤ epoch_day a
 year-order a b y z e f lt =
-    let a_in = a.month_in in
-    let b_in = b.month_in in
-    month-order b a (omega (arith, signed_arith, e, f, lt, a_in, b_in))
+    month-order b a (omega (arith, signed_arith, e, f, lt, a.month_in, b.month_in))
 
 month-back : (a b : Date) → a.year ≡ b.year → b.month < a.month → epoch_day b <ℤ epoch_day a
 month-back a b e lt =
-    let a_in = a.month_in in
-    let b_in = b.month_in in
-    month-order b a (omega (arith, signed_arith, e, lt, a_in, b_in))
+    month-order b a (omega (arith, signed_arith, e, lt, a.month_in, b.month_in))
 
-same-day : (a b : Date) → a.year ≡ b.year → a.month ≡ b.month → a.day ≡ b.day → epoch_day a ≡ epoch_day b
-same-day a b y m d = rw (y, m, d) refl
-
-shown-less : (x y : PlainZoned) (m n : ℕ) → x.datetime.date.year ≡ pos m → y.datetime.date.year ≡ pos n → m ≤ 9999 → n ≤ 9999 → x.offset.seconds ≡ y.offset.seconds → IsBefore x.datetime y.datetime
+pub shown-less : (x y : PlainZoned) (m n : ℕ) → x.datetime.date.year ≡ pos m → y.datetime.date.year ≡ pos n → m ≤ 9999 → n ≤ 9999 → x.offset.seconds ≡ y.offset.seconds → IsBefore x.datetime y.datetime
     → AreLess (fields_of (local_time x)) (fields_of (local_time y))
 shown-less x y m n e f m_low n_low o h =
     let a = x.datetime.date in
@@ -173,23 +159,7 @@ shown-less x y m n e f m_low n_low o h =
     let year : a.year ≡ b.year = e ∙ ap pos same ∙ sym f in
     pick a.month b.month (45 ∷ []) (45 ∷ []) (days_from v) (days_from w) refl (omega (arith, b_month)) (λ lt. h.days (month-back a b year lt)) (λ month.
     pick a.day b.day (32 ∷ []) (32 ∷ []) (hours_from v) (hours_from w) refl (omega (arith, b_day, b_long)) (λ lt. h.days (day-order b a (sym year) (sym month) lt)) (λ day.
-    let clock = h.clock (same-day a b year month day) in
+    let clock = h.clock (rw (year, month, day) refl) in
     pick t.hour u.hour (58 ∷ []) (58 ∷ []) (minutes_from v) (minutes_from w) refl (omega (arith, u_hour)) (λ lt. omega (arith, clock, lt, u_minute, u_second)) (λ hour.
     pick t.minute u.minute (58 ∷ []) (58 ∷ []) (seconds_from v) (seconds_from w) refl (omega (arith, u_minute)) (λ lt. omega (arith, clock, hour, lt, u_second)) (λ minute.
     inl (omega (arith, clock, hour, minute), omega (arith, u_second))))))))
-
-sorted-less : (a b : Time) → RoundTrips a → RoundTrips b → a.offset ≡ b.offset → a.seconds <ℤ b.seconds → bytes_cmp (iso8601_text (clock_of a)) (iso8601_text (clock_of b)) ≡ Less
-sorted-less a b h g o lt =
-    let x = shown-by a h.converts in
-    let y = shown-by b g.converts in
-    let p = four-digits-from x.0 a x.1 h.four_digits in
-    let q = four-digits-from y.0 b y.1 g.four_digits in
-    let offsets : (x.0).offset.seconds ≡ (y.0).offset.seconds = (x.1).offset_is ∙ o ∙ sym (y.1).offset_is in
-    let less = shown-less x.0 y.0 p.year q.year p.year_is q.year_is p.high q.high offsets (before x.0 y.0 a b x.1 y.1 o lt) in
-    let texts = fields-less (fields_of (local_time x.0)) (fields_of (local_time y.0)) less in
-    subst (λ (t : LocalTime). bytes_cmp (iso8601_text t) (iso8601_text (clock_of b)) ≡ Less) (clock-shown x.0 a x.1)
-    (subst (λ (u : LocalTime). bytes_cmp (iso8601_text (local_time x.0)) (iso8601_text u) ≡ Less) (clock-shown y.0 b y.1)
-    (ap (λ (t : List ℕ). bytes_cmp t (iso8601_text (local_time y.0))) (text-is (local_time x.0)) ∙ ap (λ (t : List ℕ). bytes_cmp (fields_text (fields_of (local_time x.0))) t) (text-is (local_time y.0)) ∙ texts))
-
-pub texts-sort : (a b : Time) → RoundTrips a → RoundTrips b → a.offset ≡ b.offset → SortBefore a b
-texts-sort a b h g o lt = sorted-less a b h g o lt

@@ -32,16 +32,16 @@ use Rattle.gix_date.specs.Text.Characters.{space, minus, colon, letter_t, is_spa
 use Rattle.gix_date.specs.Text.Numbers.{read_two_digits, read_field, read_year}
 use Rattle.gix_date.specs.Fields.Layout.{LocalClock, LocalDate}
 use Rattle.gix_date.specs.declared.time.Time.{Time}
-use Rattle.gix_date.proofs.Text.AsciiCuts.{ascii-by}
+use Rattle.gix_date.proofs.Text.AsciiCuts.{ascii-by, space_is_ascii, all-append}
 use Rattle.gix_date.proofs.Git.ClockCuts.{space_low}
 use Rattle.gix_date.proofs.Git.ClockParts.{before_none}
 use Rattle.gix_date.proofs.Families.Disjoint.{digit_visible}
-use Rattle.gix_date.proofs.Families.Exclusive.{answered, absolute, alone-first, differ, drop-visible, space_ascii, space-white, field-visible, digits-visible, visible-append}
+use Rattle.gix_date.proofs.Families.Exclusive.{answered, absolute, alone-first, differ, drop-visible, space-white, field-visible, digits-visible, visible-append}
 use Rattle.gix_date.proofs.Fields.FieldsRead.{Begins, BeginsNot, begins-append, field-begins, year-begins, date-read, gap-front}
 use Rattle.gix_date.proofs.Git.Fronts.{gap-taken}
 use Rattle.gix_date.proofs.Fields.FieldsTaken.{time_at, went}
 use Rattle.gix_date.proofs.Text.FirstBytes.{plain-year}
-use Rattle.gix_date.proofs.Text.FirstWords.{AreVisible, is_visible, visible_stays, are-ascii}
+use Rattle.gix_date.proofs.Text.FirstWords.{AreVisible, visible_stays, are-ascii}
 use Rattle.gix_date.proofs.Fields.Layouts.{dates_spelled}
 use Rattle.gix_date.proofs.Fast.FastHeaders.{offset-taken}
 use Rattle.gix_date.proofs.Fields.ColonOffsets.{AreLastSeconds, strict-taken}
@@ -50,18 +50,11 @@ use Rattle.gix_date_laws.proofs.Shared.FirstFamily.{counting, git-first, relativ
 use Rattle.gix_date_laws.proofs.Numbers.Grammars.{pair-of, sign-of}
 use Rattle.gix_date_laws.proofs.Git.Clocks.{clock-is}
 use Rattle.gix_date_laws.proofs.Git.Offsets.{offset-is, sign-no-z}
-use Rattle.gix_date_laws.proofs.Git.Cuts.{is_clock_byte, digit-byte, digit-no-colon, all-get, all-imply, mark-sign, IsOffsetText, gap-at, cut-after-space, cut-by-sign, cut-at-a-sign, is_no_space, byte-is-no-space, all-append}
+use Rattle.gix_date_laws.proofs.Git.Cuts.{is_clock_byte, digit-byte, digit-no-colon, all-get, all-imply, mark-sign, IsOffsetText, gap-at, cut-after-space, cut-by-sign, cut-at-a-sign, is_no_space, byte-is-no-space}
 use Rattle.gix_date.proofs.Relative.QuietDates.{field-digits, year-digits}
 use Rattle.gix_date.proofs.Families.Ranges.{near}
 use Rattle.gix_date.proofs.Text.ShortDigits.{value-more}
 use Rattle.gix_date.proofs.Text.Trimmed.{kept}
-
--- one byte
-byte-visible : (c : ℕ) → is_clock_byte c ≡ true → is_visible c ≡ true
-byte-visible c h = grind (arith, nat_tests, h)
-
-sign-visible : (c : ℕ) → is_sign c ≡ true → is_visible c ≡ true
-sign-visible c h = grind (arith, nat_tests, h)
 
 byte-no-dot : (c : ℕ) → is_clock_byte c ≡ true → is_dot c ≡ false
 byte-no-dot c h = grind (arith, nat_tests, h)
@@ -71,7 +64,7 @@ space-no-dot c h = grind (arith, nat_tests, h)
 
 bytes-visible : (t : List ℕ) → list_all is_clock_byte t ≡ true → AreVisible t
 bytes-visible [] h = tt
-bytes-visible (c ∷ t) h = let p = both (is_clock_byte c) (list_all is_clock_byte t) h in (byte-visible c p.0, bytes-visible t p.1)
+bytes-visible (c ∷ t) h = let p = both (is_clock_byte c) (list_all is_clock_byte t) h in (grind (arith, nat_tests, p.0), bytes-visible t p.1)
 
 -- white space round ASCII
 skip-gap : (gap rest : List ℕ) → list_all is_space gap ≡ true → skip_leading_whitespace (gap ++ rest) ≡ skip_leading_whitespace rest
@@ -188,7 +181,7 @@ no-dot-in t h =
     before_none is_dot t (position_or_len_is is_dot t (length t) 0 (omega arith) (λ k l. not_is (is_dot (get_or t k 0)) (all-get (λ c. not (is_dot c)) t h k l)) (λ l. absurd (omega arith)))
 
 gap-ascii : (gap : List ℕ) → list_all is_space gap ≡ true → IsAscii gap
-gap-ascii gap h = ascii-by is_space space_ascii gap h
+gap-ascii gap h = ascii-by is_space space_is_ascii gap h
 
 -- the clock of such a text and spaces
 clock-said : (t gap : List ℕ) (clock : LocalClock) → IsClock t clock → list_all is_space gap ≡ true → (k : LocalClock) → git_clock (t ++ gap) ≡ Some k → k ≡ clock
@@ -501,7 +494,7 @@ both-say date lead t mid z d c f u answer hd hl hc hm hz e h =
     let k = clock-text t c hc in
     let zs = hz.is in
     let zone = zs.sign ∷ zs.rest in
-    let seen : AreVisible zone = (sign-visible zs.sign zs.is_sign, bytes-visible zs.rest zs.bytes) in
+    let seen : AreVisible zone = (grind (arith, nat_tests, zs.is_sign), bytes-visible zs.rest zs.bytes) in
     let dv = date-visible date d hd in
     let body_ascii : IsAscii body =
     IsAscii-append t (mid ++ z) (are-ascii t (bytes-visible t k.bytes)) (IsAscii-append mid z (gap-ascii mid hm) (subst IsAscii (sym zs.whole) (are-ascii zone seen))) in

@@ -7,8 +7,8 @@ use Rattle.std.specs.Prelude.{◌==◌}
 use Rattle.gix_date.specs.Families.Answer.{FamilyAnswer, Absolute}
 use Rattle.gix_date.specs.Text.Characters.{at_sign}
 use Rattle.gix_date.specs.Families.Epoch.{at_time, utc_time}
-use Rattle.gix_date.specs.Families.Order.{Family, AtText, Short, Rfc2822, Iso8601, Iso8601Strict, Gitoxide, Default, BareEpoch, GitForm, RelativeText, RawText, family_answer, family_answers, first_answer_of, first_family_by}
-use Rattle.gix_date.specs.Families.Laws.{Holds, IsWidened, overlap}
+use Rattle.gix_date.specs.Families.Order.{Family, AtText, Short, Rfc2822, Iso8601, Iso8601Strict, Gitoxide, Default, BareEpoch, GitForm, RelativeText, RawText, family_answer, family_answers, first_answer_of}
+use Rattle.gix_date.specs.Families.Laws.{Holds, overlap}
 use Rattle.gix_date.specs.Text.Front.{skip_char, ◌>>=◌}
 use Rattle.gix_date.specs.Text.Numbers.{int_value}
 use Rattle.gix_date.specs.Families.Raw.{OffsetRule, is_quarter_offset, is_minute_offset, raw_time_by, raw_offset_by}
@@ -85,7 +85,7 @@ raw-answer text x None e h = absurd cc
 abbrev answer_by : OffsetRule → Option Time → List ℕ → Option FamilyAnswer
 answer_by rule at text = option_or (option_map Absolute at) (first_answer_of (between text ++ (option_map Absolute (raw_time_by rule text) ∷ [])))
 
-alike-by : (text : List ℕ) → IsUtf8 text → (x : FamilyAnswer) (a b : Option Time) → at_time is_quarter_offset text ≡ a → at_time is_minute_offset text ≡ b → answer_by is_quarter_offset a text ≡ Some x → answer_by is_minute_offset b text ≡ Some x
+pub alike-by : (text : List ℕ) → IsUtf8 text → (x : FamilyAnswer) (a b : Option Time) → at_time is_quarter_offset text ≡ a → at_time is_minute_offset text ≡ b → answer_by is_quarter_offset a text ≡ Some x → answer_by is_minute_offset b text ≡ Some x
 alike-by text u x (Some t) b ea eb e =
     ap (λ (b : Option Time). answer_by is_minute_offset b text) (sym eb ∙ at-wider is_quarter_offset is_minute_offset quarters-within text t ea) ∙ e
 alike-by text u x None (Some v) ea eb e =
@@ -98,16 +98,9 @@ alike-by text u x None (Some v) ea eb e =
 alike-by text u x None None ea eb e =
     last-wider (between text) (option_map Absolute (raw_time_by is_quarter_offset text)) (option_map Absolute (raw_time_by is_minute_offset text)) x (raw-answer text x (raw_time_by is_quarter_offset text) refl) e
 
-more-by : (text : List ℕ) (x : FamilyAnswer) (a b : Option Time) → at_time is_minute_offset text ≡ b → answer_by is_quarter_offset a text ≡ None → answer_by is_minute_offset b text ≡ Some x
+pub more-by : (text : List ℕ) (x : FamilyAnswer) (a b : Option Time) → at_time is_minute_offset text ≡ b → answer_by is_quarter_offset a text ≡ None → answer_by is_minute_offset b text ≡ Some x
     → Holds is_minute_offset AtText text ⊎ Holds is_minute_offset RawText text
 more-by text x a (Some v) eb e f = inl (ap (λ (r : Option Time). is_some (option_map Absolute r)) eb)
 more-by text x (Some t) None eb e f = absurd cc
 more-by text x None None eb e f =
     inr (ap is_some (last-answers (between text) (option_map Absolute (raw_time_by is_quarter_offset text)) (option_map Absolute (raw_time_by is_minute_offset text)) x e f))
-
-pub is-widened : (text : List ℕ) → IsUtf8 text → IsWidened text
-unfolding first_family_by
-is-widened text u = record {
-  alike = λ x e. alike-by text u x (at_time is_quarter_offset text) (at_time is_minute_offset text) refl refl e;
-  more = λ x e f. more-by text x (at_time is_quarter_offset text) (at_time is_minute_offset text) refl e f;
-}

@@ -124,25 +124,20 @@ parsed-too options text u none now t h =
     ]
 
 -- The zone matters only to dates without an offset.
-no-unzoned : (text : List ℕ) → IsUtf8 text → HasNoLocalDate text → unzoned_time text ≡ None
-no-unzoned text u none = none-unless (unzoned_time text) (λ t e. none t ((unzoned-so text u t).0 e))
 
 no-unzoned-git : (text : List ℕ) → IsUtf8 text → HasNoLocalDate text → unzoned_git_time text ≡ None
 no-unzoned-git text u none = none-unless (unzoned_git_time text) (λ t e. none t ((unzoned-so text u t).0 (unzoned-by-git text t u e)))
 
-no-unzoned-day : (text : List ℕ) → IsUtf8 text → HasNoLocalDate text → unzoned_day text ≡ None
-no-unzoned-day text u none = none-unless (unzoned_day text) (λ t e. none t ((unzoned-so text u t).0 (unzoned-by-day text t e)))
-
 git-zones : (options : CarefulOptions) (text : List ℕ) (place : ℕ) → IsUtf8 text → HasNoLocalDate text → (git : Option Time) → git_or (in_zone options) text place git ≡ git_or (in_utc options) text place git
 git-zones options text place u none (Some t) = rw (no-unzoned-git text u none) refl
-git-zones options text place u none None = rw (no-unzoned-day text u none) refl
+git-zones options text place u none None = rw (none-unless (unzoned_day text) (λ t e. none t ((unzoned-so text u t).0 (unzoned-by-day text t e)))) refl
 
 pairs-zones : (options : CarefulOptions) (text : List ℕ) → IsUtf8 text → HasNoLocalDate text → (place : Option ℕ) → pairs_or (in_zone options) text place ≡ pairs_or (in_utc options) text place
 pairs-zones options text u none None = refl
 pairs-zones options text u none (Some place) = git-zones options text (longest_front text place) u none (git_time text)
 
 texts-zones : (options : CarefulOptions) (text : List ℕ) → IsUtf8 text → HasNoLocalDate text → (which : Texts) → reading_of_texts which (in_zone options) text ≡ reading_of_texts which (in_utc options) text
-texts-zones options text u none texts.All = rw (no-unzoned text u none) refl
+texts-zones options text u none texts.All = rw (none-unless (unzoned_time text) (λ t e. none t ((unzoned-so text u t).0 e))) refl
 texts-zones options text u none texts.Careful = pairs-zones options text u none (unclear_place text)
 
 pub no-zone : (options : CarefulOptions) (text : List ℕ) → IsUtf8 text → IgnoresZone options text

@@ -99,30 +99,23 @@ bare-read six fraction len h k = absurd (omega (arith, len))
 after-run : (run rest : List ℕ) → list_all is_ascii_digit run ≡ true → BeginsNoDigit rest → drop (prefix_len is_ascii_digit (run ++ rest)) (run ++ rest) ≡ rest
 after-run run rest h s = ap (λ n. drop n (run ++ rest)) (run-len run rest h s) ∙ drop-append_seam run rest
 
-first-mark : (a b xs ys : List ℕ) (mark : ℕ) → list_all is_ascii_digit a ≡ true → list_all is_ascii_digit b ≡ true → is_ascii_digit mark ≡ false → BeginsNoDigit ys
-    → a ++ mark ∷ xs ≡ b ++ ys → mark ∷ xs ≡ ys
-first-mark a b xs ys mark ha hb n s e =
-    sym (after-run a (mark ∷ xs) ha n) ∙ ap (λ (t : List ℕ). drop (prefix_len is_ascii_digit t) t) e ∙ after-run b ys hb s
-
 head-same : (a b : ℕ) (xs ys : List ℕ) → a ∷ xs ≡ b ∷ ys → a ≡ b
 head-same a b xs ys e = cc
 
 not-nil : (a : ℕ) (xs : List ℕ) → a ∷ xs ≡ [] → ⊥
 not-nil a xs e = cc
 
-other-mark : dot ≡ colon → ⊥
-other-mark e = omega (arith, e)
-
 -- what goes on by a colon does not by a dot
 no-dot : (marks xs rest : List ℕ) → MayGoOn (colon ∷ marks) rest → dot ∷ xs ≡ rest → ⊥
 no-dot marks xs rest (inl nil) e = not-nil dot xs (e ∙ nil)
-no-dot marks xs rest (inr (run, more, is, digits, goes)) e = other-mark (head-same dot colon xs (run ++ more) (e ∙ is))
+no-dot marks xs rest (inr (run, more, is, digits, goes)) e = omega (arith, (head-same dot colon xs (run ++ more) (e ∙ is)))
 
 -- a run that goes on by colons is no front of six digits and a dot
 no-bare : (six run xs rest marks : List ℕ) → AreSomeDigits six → AreSomeDigits run → are_marks (colon ∷ marks) ≡ true → MayGoOn (colon ∷ marks) rest
     → six ++ dot ∷ xs ≡ run ++ rest → ⊥
 no-bare six run xs rest marks h k n g e =
-    no-dot marks xs rest g (first-mark six run xs rest dot (digits-all six h) (digits-all run k) refl (goes-no-digit (colon ∷ marks) rest n g) e)
+    no-dot marks xs rest g (sym (after-run six (dot ∷ xs) (digits-all six h) refl) ∙ ap (λ (t : List ℕ). drop (prefix_len is_ascii_digit t) t) e
+    ∙ after-run run rest (digits-all run k) (goes-no-digit (colon ∷ marks) rest n g))
 
 takes-all-some : (o : Option (List ℕ)) → takes_all o ≡ true → o ≡ Some []
 takes-all-some (Some []) e = refl

@@ -8,7 +8,7 @@ use Rattle.jiff.specs.declared.zoned.Zoned.{Zoned}
 use Rattle.std.specs.Str.{trim, IsUtf8}
 use Rattle.gix_date.specs.Careful.Dates.{unzoned_day, unzoned_git_time, unzoned_time}
 use Rattle.gix_date.specs.Careful.Outcome.{First, CarefulOutcome}
-use Rattle.gix_date.specs.Careful.Laws.{AnswersUnzoned, IsUnzoned, IsUnzonedSo}
+use Rattle.gix_date.specs.Careful.Laws.{IsUnzoned, IsUnzonedSo}
 use Rattle.gix_date.specs.Families.Answer.{FamilyAnswer, Absolute, NoInstant}
 use Rattle.gix_date.specs.Families.Epoch.{utc_time}
 use Rattle.gix_date.specs.Families.Order.{first_family_by, ParseNoAllocOutcome, Short}
@@ -145,12 +145,9 @@ unzoned-is text t e =
       | inr h ↦ inr ((unzoned-spelled text t).0 h)
     ]
 
-is-unzoned : (text : List ℕ) (t : Time) → IsUtf8 text → IsUnzoned text t → unzoned_time text ≡ Some t
+pub is-unzoned : (text : List ℕ) (t : Time) → IsUtf8 text → IsUnzoned text t → unzoned_time text ≡ Some t
 is-unzoned text t u (inl h) = unzoned-by-day text t (short-day text t ((dates_spelled.short text (Absolute t)).1 h))
 is-unzoned text t u (inr h) = unzoned-by-git text t u ((unzoned-spelled text t).1 h)
 
 pub unzoned-so : (text : List ℕ) → IsUtf8 text → IsUnzonedSo text
 unzoned-so text u t = (unzoned-is text t, is-unzoned text t u)
-
-pub answers-unzoned : (rule : OffsetRule) (text : List ℕ) → IsUtf8 text → AnswersUnzoned rule text
-answers-unzoned rule text u t h = (answers rule text t u (is-unzoned text t u h)).0

@@ -7,10 +7,11 @@ ghost use Rattle.gix_date_tool.specs.Lines.{IsLine, with_newline};
 ghost use Rattle.gix_date_tool.specs.Run.{Ran, change};
 
 use crate::error::ToolError;
-use crate::runs::lines::{MAX_LINE_LEN, MAX_LINES, split_line};
+use crate::runs::lines::{MAX_LINE_LEN, MAX_LINES};
 use crate::runs::outbox::Outbox;
 use crate::runs::replies::{Query, reply_to};
 use gix_date::device::{Sink, Source};
+use gix_date_lines::split_line;
 use std::alloc::{AllocError, Global};
 use std::io;
 

@@ -5,5 +5,4 @@ use Rattle.gix_date_laws.proofs.any_zone.none_later.Goals as goal
 
 pub returns : goal.returns
 returns c date instant e h =
-    let z = c.args.moment.now in
-    none-later (zone_of z) c.args.text.now date (zoned_nanos z) instant c.requires e h
+    none-later (zone_of c.args.moment.now) c.args.text.now date (zoned_nanos c.args.moment.now) instant c.requires e h

@@ -1,6 +1,6 @@
 use Rattle.gix_date.specs.Families.Raw.{allows}
-use Rattle.gix_date_laws.proofs.Whole.Reading.{answers-unzoned}
+use Rattle.gix_date_laws.proofs.Whole.Reading.{answers, is-unzoned}
 use Rattle.gix_date_laws.proofs.careful.without_offset.Goals as goal
 
 pub returns : goal.returns
-returns c = answers-unzoned (allows c.args.raw) c.args.text.now c.utf8.text
+returns c t h = (answers (allows c.args.raw) c.args.text.now t c.utf8.text (is-unzoned c.args.text.now t c.utf8.text h)).0

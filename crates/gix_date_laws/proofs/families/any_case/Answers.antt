@@ -1,12 +1,16 @@
 use Rattle.gix_date.specs.Families.Patterns.{short_answer, rfc2822_answer, iso8601_answer, gitoxide_answer, default_answer, short_layout, rfc2822_layout, iso8601_layout, gitoxide_layout, default_layout, real_day_answer, time_answer}
-use Rattle.gix_date.specs.Families.Raw.{allows}
-use Rattle.gix_date_laws.proofs.Letters.LetterCase.{relative-case}
+use Rattle.gix_date_laws.proofs.Letters.LetterCase.{name-low, pair-low}
 use Rattle.gix_date_laws.proofs.Letters.DateCase.{layout-low}
 use Rattle.gix_date_laws.proofs.families.any_case.Goals as goal
-use Rattle.std.proofs.Common.{refl}
+use Rattle.gix_date.specs.Families.Answer.{Relative}
+use Rattle.gix_date.specs.Relative.Dates.{RelativeDate, relative_date}
+use Rattle.std.specs.Option.{option_or}
+use Rattle.std.proofs.Common.{refl, Option, ap₂, option_map}
 
 pub returns-clause-relative : goal.returns-clause-relative
-returns-clause-relative c = relative-case (allows c.args.raw) c.args.text.now c.utf8.text
+unfolding relative_date
+returns-clause-relative c =
+    ap₂ (λ (a b : Option RelativeDate). option_map Relative (option_or a b)) (name-low c.args.text.now c.utf8.text) (pair-low c.args.text.now)
 
 pub returns-clause-day : goal.returns-clause-day
 unfolding short_answer

@@ -19,7 +19,6 @@ returns-in-Some-fast_number-clause-first c =
 
 pub returns-clause-first : goal.returns-clause-first
 returns-clause-first c =
-    let text = c.args.input.now in
     c.answer_by_shape.ensures.first
-    ∙ ap (λ (shape : Shape). first_among (allows c.args.raw) (shape_families shape) text) c.of.ensures
-    ∙ sym (is-dispatched (allows c.args.raw) text c.utf8.input)
+    ∙ ap (λ (shape : Shape). first_among (allows c.args.raw) (shape_families shape) c.args.input.now) c.of.ensures
+    ∙ sym (is-dispatched (allows c.args.raw) c.args.input.now c.utf8.input)

@@ -7,9 +7,8 @@ use Rattle.gix_date.proofs.parsing.fast.fast_header.Goals as goal
 
 pub returns : goal.returns
 returns c =
-    let seconds = c.in_ok-seconds.seconds in
     let fits : FitsSigned w64 c.in_ok-seconds.seconds = search rules in
     let fits_offset : FitsSigned w32 c.in_seconds.result = search rules in
     let made = simp to_z-of_z at c.new.ensures in
-    plain-time c.args.input.now seconds c.in_ok-seconds.fields c.in_ok-seconds.ensures
-    ∙ ap (λ (o : ℤ). Some (time_at seconds o)) (sym c.in_seconds.ensures) ∙ ap (λ (t : Time). Some t) (sym made)
+    plain-time c.args.input.now c.in_ok-seconds.seconds c.in_ok-seconds.fields c.in_ok-seconds.ensures
+    ∙ ap (λ (o : ℤ). Some (time_at c.in_ok-seconds.seconds o)) (sym c.in_seconds.ensures) ∙ ap (λ (t : Time). Some t) (sym made)

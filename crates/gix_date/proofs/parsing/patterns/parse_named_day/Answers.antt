@@ -1,7 +1,7 @@
 use Rattle.std.proofs.Common.{◌∙◌, ap, sym}
-use Rattle.std.specs.Option.{option_map}
+use Rattle.std.specs.Option.{option_map, option_or}
 use Rattle.gix_date.specs.Families.Answer.{answer_of}
-use Rattle.gix_date.proofs.Fields.AfterDay.{no-named-day, day-then-year, day-then-hour}
+use Rattle.gix_date.proofs.Fields.AfterDay.{no-named-day, day-then-hour, after-named-day, clock-first}
 use Rattle.gix_date.proofs.parsing.patterns.parse_named_day.Goals as goal
 
 pub returns-in_err-date-clause-answer : goal.returns-in_err-date-clause-answer
@@ -10,7 +10,8 @@ returns-in_err-date-clause-answer c =
 
 pub returns-in-Some-clause-answer : goal.returns-in-Some-clause-answer
 returns-in-Some-clause-answer c =
-    day-then-year c.args.text.now c.in_ok-date.date c.in_ok-date.rest.now _ (sym c.in_ok-date.ensures.value) c.in-Some.ensures.answer
+    ap (λ x. option_or x (clock-first c.in_ok-date.date c.in_ok-date.rest.now)) c.in-Some.ensures.answer
+    ∙ sym (after-named-day c.args.text.now c.in_ok-date.date c.in_ok-date.rest.now (sym c.in_ok-date.ensures.value))
 
 pub returns-clause-answer : goal.returns-clause-answer
 returns-clause-answer c =

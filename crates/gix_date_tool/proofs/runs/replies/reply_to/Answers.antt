@@ -18,12 +18,9 @@ text_reply-is_reply query mode text line reply same in_mode is_text h =
     let asked_here = subst (λ m. IsTextReply m query.now line reply) (sym in_mode) here in
     subst (λ b. IsReplyTo b query line reply) (sym (is_utf8-from_IsUtf8 line is_text)) asked_here
 
-not_text-is_reply : (query : Query) (line : List ℕ) → (IsUtf8 line → ⊥) → IsReply query line NotText
-unfolding IsReply
-not_text-is_reply query line h = subst (λ b. IsReplyTo b query line NotText) (sym (no_text line h)) refl
-
 pub returns-in_default-clause-is : goal.returns-in_default-clause-is
-returns-in_default-clause-is c = not_text-is_reply c.args.query c.args.line.now c.in_default.ensures
+unfolding IsReply
+returns-in_default-clause-is c = subst (λ b. IsReplyTo b c.args.query c.args.line.now NotText) (sym (no_text c.args.line.now c.in_default.ensures)) refl
 
 pub returns-in-Check-clause-is : goal.returns-in-Check-clause-is
 returns-in-Check-clause-is c =

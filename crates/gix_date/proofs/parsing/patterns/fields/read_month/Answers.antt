@@ -1,12 +1,13 @@
-use Rattle.std.proofs.Common.{ℕ, List, ◌∙◌, ap, sym, Some, arith}
+use Rattle.std.proofs.Common.{ℕ, List, ◌∙◌, ap, sym, Some, arith, subst, None, ◌≡◌}
 use Rattle.gix_date.specs.Text.Front.{read_view}
-use Rattle.gix_date.proofs.Fields.NamesRead.{month-of, no-month-of, short-no-month, cut-three}
+use Rattle.gix_date.proofs.Fields.NamesRead.{month-of, short-no-month, cut-three, no-month-at}
+use Rattle.gix_date.specs.Fields.DateFields.{read_month}
 use Rattle.gix_date.proofs.parsing.patterns.fields.read_month.Goals as goal
 
 pub returns-in_err-month-in-len3-up-clause-value : goal.returns-in_err-month-in-len3-up-clause-value
 returns-in_err-month-in-len3-up-clause-value c =
     ap read_view c.from_residual.ensures
-    ∙ sym (no-month-of c.as_bytes.result.now c.args.text.now c.as_bytes.ensures.value c.in_err-month-in-len3-up.ensures.value)
+    ∙ sym (subst (λ t. read_month t ≡ None) c.as_bytes.ensures.value (no-month-at c.as_bytes.result.now (sym c.in_err-month-in-len3-up.ensures.value)))
 
 pub range_from-requires : goal.range_from-requires
 range_from-requires c = λ _.

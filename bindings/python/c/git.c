@@ -1,0 +1,171 @@
+/* Calls that read and show dates as Git does. */
+#include "library.h"
+
+/* An object of a class of the package with these fields, which its `__init__` would set. Steals the values; one may be NULL, after an
+ * exception. */
+static PyObject *value_of(const struct state *state, enum kept class, const enum kept fields[3], PyObject *values[3])
+{
+    PyObject *value = NULL;
+    if (values[0] && values[1] && values[2])
+        value = PyType_GenericAlloc((PyTypeObject *)state->kept[class], 0);
+    for (int i = 0; value && i < 3; i++)
+        if (PyObject_GenericSetAttr(value, state->kept[fields[i]], values[i]) < 0)
+            Py_CLEAR(value);
+    for (int i = 0; i < 3; i++)
+        Py_XDECREF(values[i]);
+    return value;
+}
+
+static PyObject *exact_of(const struct state *state, const git_date_exact *date, const struct text *text)
+{
+    static const enum kept fields[] = {NAME_TIME, NAME_HAS_OFFSET, NAME_IGNORED};
+    PyObject *values[] = {new_time(state, &date->time), PyBool_FromLong(date->has_offset), index_or_none(text, date->ignored)};
+    return value_of(state, READ_DATE, fields, values);
+}
+
+static PyObject *approximate_of(const struct state *state, const git_date_approximate *date, const struct text *text)
+{
+    static const enum kept fields[] = {NAME_TIME, NAME_UNDERSTOOD, NAME_IGNORED};
+    PyObject *values[] = {new_time(state, &date->time), PyBool_FromLong(date->understood), index_or_none(text, date->ignored)};
+    return value_of(state, APPROXIMATE, fields, values);
+}
+
+/* How a text is read at a moment: an object, or a refusal. */
+typedef PyObject *reader(const struct state *state, const struct text *text, struct moment *moment);
+
+static PyObject *read_exact(const struct state *state, const struct text *text, struct moment *moment)
+{
+    git_date_exact date = {{0, 0}, GIT_DATE_NOTHING, false};
+    size_t place = GIT_DATE_NOTHING;
+    const uint32_t status = git_date_parse_at(text->at, text->len, &moment->now, hold_zone(moment), &date, &place);
+    release_zone(moment);
+    return status == GIX_DATE_OK ? exact_of(state, &date, text) : refuse(state, status, text, place);
+}
+
+static PyObject *read_approximate(const struct state *state, const struct text *text, struct moment *moment)
+{
+    git_date_approximate date = {{0, 0}, GIT_DATE_NOTHING, false};
+    size_t place = GIT_DATE_NOTHING;
+    const uint32_t status = git_date_approxidate_at(text->at, text->len, &moment->now, hold_zone(moment), &date, &place);
+    release_zone(moment);
+    return status == GIX_DATE_OK ? approximate_of(state, &date, text) : refuse(state, status, text, place);
+}
+
+static PyObject *read_expiry(const struct state *state, const struct text *text, struct moment *moment)
+{
+    git_date_expiry expiry = {GIT_DATE_NEVER, {{0, 0}, GIT_DATE_NOTHING, false}};
+    size_t place = GIT_DATE_NOTHING;
+    const uint32_t status = git_date_expiry_at(text->at, text->len, &moment->now, hold_zone(moment), &expiry, &place);
+    release_zone(moment);
+    if (status != GIX_DATE_OK)
+        return refuse(state, status, text, place);
+    return expiry.kind == GIT_DATE_BEFORE ? approximate_of(state, &expiry.before, text)
+                                          : PySequence_GetItem(state->kept[EXPIRES], (Py_ssize_t)expiry.kind);
+}
+
+static PyObject *read_at(const struct call *call, reader *read, PyObject *module, PyObject *const *given, Py_ssize_t count, PyObject *names)
+{
+    enum { AT_TEXT, NOW, ALL };
+    const struct state *state = state_of(module);
+    struct text text;
+    struct moment moment = {.is_given = false};
+    PyObject *taken[ALL], *answer = NULL;
+    if (!state || !take_arguments(call, given, count, names, taken) || !take_text(taken[AT_TEXT], &text))
+        return NULL;
+    if (take_moment(state, taken[NOW], &moment))
+        answer = read(state, &text, &moment);
+    drop_moment(&moment);
+    drop_text(&text);
+    return answer;
+}
+
+CALL(parse_date)
+{
+    static const struct call call = {"parse_date", 2, 2, {"text", "now", NULL}};
+    return read_at(&call, read_exact, module, given, count, names);
+}
+
+CALL(approxidate)
+{
+    static const struct call call = {"approxidate", 2, 2, {"text", "now", NULL}};
+    return read_at(&call, read_approximate, module, given, count, names);
+}
+
+CALL(expiry_date)
+{
+    static const struct call call = {"expiry_date", 2, 2, {"text", "now", NULL}};
+    return read_at(&call, read_expiry, module, given, count, names);
+}
+
+/* ---- shown dates ---- */
+
+static bool take_mode_name(const struct state *state, PyObject *object, git_date_mode *mode)
+{
+    struct text name;
+    uint32_t status = GIX_DATE_NO_SUCH_OPTION;
+    const bool is_text = take_text(object, &name);
+    if (is_text)
+        status = git_date_mode_named(name.at, name.len, mode);
+    if (is_text && status != GIX_DATE_OK)
+        refuse(state, status, &name, GIT_DATE_NOTHING);
+    drop_text(&name);
+    return status == GIX_DATE_OK;
+}
+
+/* Takes the fields of a DateMode. */
+static bool take_mode_fields(const struct state *state, PyObject *object, git_date_mode *mode)
+{
+    PyObject *kind = PyObject_GetAttr(object, state->kept[NAME_KIND]);
+    PyObject *local = kind ? PyObject_GetAttr(object, state->kept[NAME_LOCAL]) : NULL;
+    const int is_local = local ? PyObject_IsTrue(local) : -1;
+    mode->local = is_local > 0;
+    const bool taken = is_local >= 0 && take_option(state->kept[KINDS], kind, &mode->kind);
+    Py_XDECREF(kind);
+    Py_XDECREF(local);
+    return taken;
+}
+
+/* Takes a DateMode, a kind, or Git's name. */
+static bool take_mode(const struct state *state, PyObject *object, git_date_mode *mode)
+{
+    if (PyUnicode_Check(object) || PyBytes_Check(object))
+        return take_mode_name(state, object, mode);
+    if (PyObject_TypeCheck(object, (PyTypeObject *)state->kept[DATE_MODE]))
+        return take_mode_fields(state, object, mode);
+    return take_option(state->kept[KINDS], object, &mode->kind);
+}
+
+CALL(mode_named)
+{
+    static const struct call call = {"mode_named", 1, 1, {"name", NULL}};
+    const struct state *state = state_of(module);
+    git_date_mode mode = {0, false};
+    PyObject *object;
+    if (!state || !take_arguments(&call, given, count, names, &object) || !take_mode_name(state, object, &mode))
+        return NULL;
+    return Py_BuildValue("(OO)", PyTuple_GetItem(state->kept[KINDS], (Py_ssize_t)mode.kind), mode.local ? Py_True : Py_False);
+}
+
+static uint32_t call_show(const struct writing *w, char *out, size_t out_len, size_t *len)
+{
+    const uint32_t status = git_date_show_at(&w->time, &w->mode, &w->moment->now, hold_zone(w->moment), out, out_len, len);
+    release_zone(w->moment);
+    return status;
+}
+
+CALL(show_date)
+{
+    enum { AT_TIME, MODE, NOW, ALL };
+    static const struct call call = {"show_date", 3, 3, {"time", "mode", "now", NULL}};
+    const struct state *state = state_of(module);
+    struct moment moment = {.is_given = false};
+    struct writing writing = {.write = call_show, .moment = &moment};
+    PyObject *taken[ALL], *answer = NULL;
+    if (!state || !take_arguments(&call, given, count, names, taken))
+        return NULL;
+    if (take_time(state, taken[AT_TIME], &writing.time) && take_mode(state, taken[MODE], &writing.mode) &&
+        take_moment(state, taken[NOW], &moment))
+        answer = written(state, &writing);
+    drop_moment(&moment);
+    return answer;
+}

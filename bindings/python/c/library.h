@@ -1,0 +1,181 @@
+/* The extension gix_date._library: the calls of the package, over the library for C.
+ *
+ * An argument is taken by one of the `take_` functions, which answer false with an exception. What they take is dropped by the `drop_`
+ * function of its type, also after a failure. A call refuses by the package's own classes (`refuse`). Only refused memory, arguments of
+ * other types, and numbers that do not fit raise other exceptions. */
+#ifndef LIBRARY_H
+#define LIBRARY_H
+
+#define PY_SSIZE_T_CLEAN
+#include <Python.h>
+
+#include "git_date.h"
+
+/* ---- what a module keeps: each interpreter has a module and types of its own ---- */
+
+enum kept {
+    TIME, /* the class of times */
+    ZONE, /* the type of zones that were read */
+    /* names of fields */
+    NAME_TIME,
+    NAME_HAS_OFFSET,
+    NAME_UNDERSTOOD,
+    NAME_IGNORED,
+    NAME_KIND,
+    NAME_LOCAL,
+    NAME_LINES,
+    NAME_FORMAT,
+    NAME_CAST,
+    NAME_FROMBYTES,
+    NAME_UTCOFFSET,
+    NAME_DAYS,
+    NAME_SECONDS,
+    NAME_MICROSECONDS,
+    NAME_TOORDINAL,
+    NAME_HOUR,
+    NAME_MINUTE,
+    NAME_SECOND,
+    NAME_MICROSECOND,
+    /* what `connect` is given, in this order */
+    MOMENT,
+    READ_DATE,
+    APPROXIMATE,
+    DATE_MODE,
+    EXPIRES,
+    RAW_OFFSETS,
+    WITHOUT_OFFSET,
+    TEXTS,
+    FORMATS,
+    KINDS,
+    REFUSALS,
+    NO_DIRECTIVE,
+    NAIVE,
+    PARTS_IN_ZONE,
+    READ_ZONE,
+    NAMED_ZONE,
+    KEPT, /* how many are kept */
+    CONNECTED = MOMENT
+};
+
+struct state {
+    PyObject *kept[KEPT];
+};
+
+/* The state of a module, or of the module of one of its types. NULL with an exception before the package has connected it. */
+const struct state *state_of(PyObject *module);
+const struct state *state_of_type(PyTypeObject *type);
+
+/* ---- arguments ---- */
+
+enum { MOST_PARAMETERS = 16 };
+
+/* The parameters of a call. */
+struct call {
+    const char *name;
+    int by_position; /* so many may be given by position */
+    int needed;      /* so many have to be given */
+    const char *parameters[MOST_PARAMETERS + 1];
+};
+
+/* The arguments in the order of the parameters, NULL for each that is not given. They are borrowed. */
+bool take_arguments(const struct call *call, PyObject *const *given, Py_ssize_t count, PyObject *names, PyObject **taken);
+
+/* An attribute by a name that is kept for ever: Python would keep each new one for a while. */
+PyObject *attribute(PyObject *object, const char *name);
+
+/* A number, as operator.index takes it. */
+bool take_int64(PyObject *object, int64_t *number);
+bool take_int32(PyObject *object, int32_t *number);
+
+/* The number of an option: its index among the members of its kind. One that is not given is the first. */
+bool is_option(PyObject *members, PyObject *object, uint32_t *number); /* whether an object is one */
+bool take_option(PyObject *members, PyObject *option, uint32_t *number);
+bool take_any_option(PyObject *members, PyObject *option, uint32_t *number);
+
+struct text {
+    PyObject *object; /* borrowed: the str or bytes */
+    PyObject *owner;  /* of other bytes, or NULL */
+    const char *at;
+    size_t len;
+};
+
+/* A text. Halves of surrogate pairs become bytes that are no UTF-8, which the library refuses. */
+bool take_text(PyObject *object, struct text *text);
+void drop_text(struct text *text);
+
+/* ---- refusals ---- */
+
+/* Raises the refusal of a status, of a text or NULL, and of a place in it or GIT_DATE_NOTHING; MemoryError for refused memory. */
+PyObject *refuse(const struct state *state, uint32_t status, const struct text *text, size_t place);
+
+/* The refusal itself. NULL with an exception if it cannot be made. */
+PyObject *refusal(const struct state *state, uint32_t status, PyObject *text, PyObject *place);
+
+/* The index into a text of a place that counts bytes, or None. */
+PyObject *index_or_none(const struct text *text, size_t place);
+
+/* ---- times ---- */
+
+extern PyType_Spec time_spec;
+
+PyObject *new_time(const struct state *state, const gix_date_time *time);
+bool take_time(const struct state *state, PyObject *object, gix_date_time *time);
+
+/* ---- zones and moments ---- */
+
+extern PyType_Spec zone_spec;
+struct zone;
+
+struct moment {
+    bool is_given;
+    gix_date_instant now;
+    struct zone *kept; /* NULL, or a reference */
+    gix_date_zone own; /* its zone, unless one is kept: an offset or a copy */
+    bool is_copy;
+};
+
+bool take_moment(const struct state *state, PyObject *object, struct moment *moment);
+bool take_any_moment(const struct state *state, PyObject *object, struct moment *moment);
+void drop_moment(struct moment *moment);
+
+/* The zone of a moment for one call, until release_zone. */
+gix_date_zone *hold_zone(struct moment *moment);
+void release_zone(struct moment *moment);
+
+/* Gives a moment a copy of the zone that is kept, for a call without the GIL. */
+uint32_t own_zone(struct moment *moment);
+
+/* ---- printed texts ---- */
+
+/* What is written, and by which call. */
+struct writing {
+    uint32_t (*write)(const struct writing *, char *out, size_t out_len, size_t *len);
+    gix_date_time time;
+    const struct text *first, *second; /* a pattern, or a name and a mail */
+    uint32_t format;
+    git_date_mode mode;
+    struct moment *moment;
+};
+
+/* The text as a str, or a refusal that names `first` where that is a pattern. */
+PyObject *written(const struct state *state, const struct writing *writing);
+
+/* ---- calls of the module ---- */
+
+#define CALL(name) PyObject *name(PyObject *module, PyObject *const *given, Py_ssize_t count, PyObject *names)
+CALL(parse_header);
+CALL(is_canonical_header);
+CALL(parse);
+CALL(parse_carefully);
+CALL(cut_signature);
+CALL(parts_of);
+CALL(write_signature);
+CALL(parse_date);
+CALL(approxidate);
+CALL(expiry_date);
+CALL(mode_named);
+CALL(show_date);
+CALL(times_of_lines);
+CALL(add_lines);
+
+#endif

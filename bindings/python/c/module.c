@@ -1,0 +1,202 @@
+/* The module gix_date._library. */
+#include "library.h"
+
+#include <string.h>
+
+static const struct state *connected(PyObject *module)
+{
+    struct state *state = module ? PyModule_GetState(module) : NULL;
+    if (state && state->kept[CONNECTED])
+        return state;
+    if (!PyErr_Occurred())
+        PyErr_SetString(PyExc_RuntimeError, "the package gix_date has not connected this module");
+    return NULL;
+}
+
+const struct state *state_of(PyObject *module)
+{
+    return connected(module);
+}
+
+const struct state *state_of_type(PyTypeObject *type)
+{
+    return connected(PyType_GetModule(type));
+}
+
+/* ---- what the package gives ---- */
+
+static const struct call connect_call = {
+    "connect", 0, KEPT - CONNECTED,
+    {"moment", "read_date", "approximate", "date_mode", "expires", "raw_offsets", "without_offset", "texts", "formats", "kinds",
+     "refusals", "no_directive", "naive", "parts_in_zone", "read_zone", "named_zone", NULL}};
+
+/* Whether all is of the types on which the calls rely. */
+static bool are_fit(PyObject *const *taken)
+{
+    static const enum kept classes[] = {MOMENT, READ_DATE, APPROXIMATE, DATE_MODE};
+    static const enum kept tuples[] = {EXPIRES, RAW_OFFSETS, WITHOUT_OFFSET, TEXTS, FORMATS, KINDS};
+    bool are = true;
+    for (size_t i = 0; i < sizeof classes / sizeof *classes; i++)
+        are = are && PyType_Check(taken[classes[i] - CONNECTED]);
+    for (size_t i = 0; i < sizeof tuples / sizeof *tuples; i++)
+        are = are && PyTuple_Check(taken[tuples[i] - CONNECTED]) && PyTuple_Size(taken[tuples[i] - CONNECTED]) > 0;
+    are = are && PyType_IsSubtype((PyTypeObject *)taken[MOMENT - CONNECTED], &PyTuple_Type);
+    if (!are)
+        PyErr_SetString(PyExc_TypeError, "the package connects what is of other types");
+    return are;
+}
+
+CALL(connect_package)
+{
+    struct state *state = PyModule_GetState(module);
+    PyObject *taken[KEPT - CONNECTED];
+    if (!state || !take_arguments(&connect_call, given, count, names, taken) || !are_fit(taken))
+        return NULL;
+    for (int i = 0; i < KEPT - CONNECTED; i++) {
+        PyObject *old = state->kept[CONNECTED + i];
+        state->kept[CONNECTED + i] = Py_NewRef(taken[i]);
+        Py_XDECREF(old);
+    }
+    Py_RETURN_NONE;
+}
+
+static PyObject *status_text(PyObject *module, PyObject *number)
+{
+    const unsigned long status = PyLong_AsUnsignedLong(number);
+    (void)module;
+    if (PyErr_Occurred())
+        return NULL;
+    return PyUnicode_FromString(git_date_status_text((uint32_t)status));
+}
+
+static PyObject *versions(PyObject *module, PyObject *nothing)
+{
+    (void)module, (void)nothing;
+    return Py_BuildValue("(II)", gix_date_version(), gix_date_ported_version());
+}
+
+/* ---- words of help ---- */
+
+PyDoc_STRVAR(parse_header_doc, "parse_header($module, /, text)\n--\n\n"
+"Reads the time of a commit header, `1660797906 +0800`, as leniently as gix-date does: `12abc` is 12, 0.\n\n"
+"Refuses by `NotText` and `InvalidTime`.");
+
+PyDoc_STRVAR(is_canonical_header_doc, "is_canonical_header($module, /, text)\n--\n\n"
+"Whether a text is as Git writes it: read as a header and written, it comes back byte for byte.");
+
+PyDoc_STRVAR(parse_doc, "parse($module, /, text, now=None, *, raw_offsets=None)\n--\n\n"
+"Reads a date as the crate gix-date 0.18.1 does, perhaps relative to a moment.\n\n"
+"docs/SPECIFICATION.md lists the forms. `raw_offsets` is `RawOffsets.QUARTERS` if it is not given. Refuses by `NotText`,\n"
+"`UnknownFormat`, `DateConversion`, `MissingNow` and `Range`, and the moment by `NaiveDatetime`, `InvalidInstant` and `InvalidZone`.");
+
+PyDoc_STRVAR(parse_carefully_doc,
+"parse_carefully($module, /, text, now=None, *, raw_offsets=None, without_offset=None, texts=None)\n--\n\n"
+"Reads a date as `parse` does, but refuses it by `Unclear` unless each character says something that is used.\n\n"
+"The options are `RawOffsets.QUARTERS`, `WithoutOffset.UTC` and `Texts.CAREFUL` if they are not given. A number of seconds above\n"
+"253402300799 needs `@`: else it is `AfterYear9999`, since it may be milliseconds or digits of a date. The other refusals are those\n"
+"of `parse`.");
+
+PyDoc_STRVAR(write_signature_doc, "write_signature($module, /, name, mail, time)\n--\n\n"
+"The signature line of a name, a mail and a time, without a newline.\n\nRefuses by `NotText`, `BadPart` and `OffsetTooWide`.");
+
+PyDoc_STRVAR(parse_date_doc, "parse_date($module, /, text, now)\n--\n\n"
+"Reads a date as Git's exact reader does: a `ReadDate`.\n\nRefuses by `Unreadable`, `NumberTooLarge`, `YearRefused` and `Range`.");
+
+PyDoc_STRVAR(approxidate_doc, "approxidate($module, /, text, now)\n--\n\n"
+"Reads a date as people write it: an `Approximate`. A word that Git does not know is ignored: `5 mins ago` is the fifth.\n\n"
+"Refuses by `NumberTooLarge`, `BackTooFar`, `YearRefused` and `Range`.");
+
+PyDoc_STRVAR(expiry_date_doc, "expiry_date($module, /, text, now)\n--\n\n"
+"Reads what expires: what is older than a date, as an `Approximate`, or `never`, `false`, `all` and `now`, as an `Expires`.\n\n"
+"Refuses as `approxidate` does, and by `Unreadable` if nothing was understood.");
+
+PyDoc_STRVAR(show_date_doc, "show_date($module, /, time, mode, now)\n--\n\n"
+"A date as `git log --date=MODE` shows it at a moment. The mode is a `DateMode`, a `DateKind`, or Git's name.\n\n"
+"Refuses by `Range` what Git cannot show, and by `UnknownMode` a name.");
+
+PyDoc_STRVAR(cut_signature_doc, "cut_signature($module, /, line)\n--\n\nThe name, the mail and the time of a signature line.");
+PyDoc_STRVAR(parts_of_doc, "parts_of($module, /, at)\n--\n\n"
+"Seconds since 1970, microseconds from 0 to 999999, and the offset in seconds of an aware datetime.\n\n"
+"Refuses by `NaiveDatetime`, and an offset with parts of a second by `InvalidZone`.");
+PyDoc_STRVAR(mode_named_doc, "mode_named($module, /, name)\n--\n\nThe kind of one of Git's modes, and whether it is local.");
+PyDoc_STRVAR(times_of_lines_doc, "times_of_lines($module, /, reader, data, begin, end, now, raw_offsets)\n--\n\n"
+"A Time or a refusal of each line from an index to another.");
+PyDoc_STRVAR(add_lines_doc, "add_lines($module, /, outputs, begin, so_far, reader, data, first, end, now, raw_offsets)\n--\n\n"
+"Puts the lines from an index to another into two outputs, and their refusals into those so far. How many lines are done.");
+PyDoc_STRVAR(connect_package_doc, "Keeps the classes, options and functions of the package that the calls use.");
+PyDoc_STRVAR(status_text_doc, "What a status means, in English.");
+PyDoc_STRVAR(versions_doc, "The versions of the library and of what it ports, as numbers.");
+
+#define AS_CALL(name) {#name, (PyCFunction)(void (*)(void))name, METH_FASTCALL | METH_KEYWORDS, name##_doc}
+static PyMethodDef calls[] = {
+    AS_CALL(parse_header), AS_CALL(is_canonical_header), AS_CALL(parse), AS_CALL(parse_carefully), AS_CALL(parts_of),
+    AS_CALL(cut_signature),
+    AS_CALL(write_signature), AS_CALL(parse_date), AS_CALL(approxidate), AS_CALL(expiry_date), AS_CALL(mode_named), AS_CALL(show_date),
+    AS_CALL(times_of_lines), AS_CALL(add_lines),
+    {"connect", (PyCFunction)(void (*)(void))connect_package, METH_FASTCALL | METH_KEYWORDS, connect_package_doc},
+    {"status_text", status_text, METH_O, status_text_doc},
+    {"versions", versions, METH_NOARGS, versions_doc},
+    {NULL, NULL, 0, NULL}};
+
+/* ---- the module ---- */
+
+static bool keep_type(PyObject *module, PyType_Spec *spec, const char *name, PyObject **kept)
+{
+    *kept = PyType_FromModuleAndSpec(module, spec, NULL);
+    return *kept && PyObject_SetAttrString(module, name, *kept) == 0;
+}
+
+static bool keep_names(struct state *state)
+{
+    static const char *names[] = {"time", "has_offset", "understood", "ignored", "kind", "local", "lines", "format", "cast", "frombytes",
+                                  "utcoffset", "days", "seconds", "microseconds", "toordinal", "hour", "minute", "second", "microsecond"};
+    for (int i = 0; i < CONNECTED - NAME_TIME; i++) {
+        state->kept[NAME_TIME + i] = PyUnicode_InternFromString(names[i]);
+        if (state->kept[NAME_TIME + i] == NULL)
+            return false;
+    }
+    return true;
+}
+
+static int begin_module(PyObject *module)
+{
+    struct state *state = PyModule_GetState(module);
+    return keep_type(module, &time_spec, "Time", &state->kept[TIME]) &&
+           keep_type(module, &zone_spec, "Zone", &state->kept[ZONE]) && keep_names(state) ? 0 : -1;
+}
+
+static int visit_state(PyObject *module, visitproc visit, void *arg)
+{
+    const struct state *state = PyModule_GetState(module);
+    for (int i = 0; state && i < KEPT; i++)
+        Py_VISIT(state->kept[i]);
+    return 0;
+}
+
+static int clear_state(PyObject *module)
+{
+    struct state *state = PyModule_GetState(module);
+    for (int i = 0; state && i < KEPT; i++)
+        Py_CLEAR(state->kept[i]);
+    return 0;
+}
+
+static void free_state(void *module)
+{
+    (void)clear_state(module);
+}
+
+static PyModuleDef_Slot library_slots[] = {{Py_mod_exec, begin_module}, {0, NULL}};
+
+static struct PyModuleDef library = {
+    PyModuleDef_HEAD_INIT, "gix_date._library", "The calls of the library for C. Use the module gix_date.", sizeof(struct state), calls,
+    library_slots, visit_state, clear_state, free_state};
+
+PyMODINIT_FUNC PyInit__library(void)
+{
+    if (!gix_date_version_fits()) {
+        PyErr_SetString(PyExc_ImportError, "the library gix_date does not fit the header of this extension");
+        return NULL;
+    }
+    return PyModuleDef_Init(&library);
+}

@@ -1,0 +1,94 @@
+//! The text of a piece, lent or made.
+ghost use Rattle.std.specs.Prelude.{◌≡◌, ◌<◌, unsigned_abs};
+ghost use Rattle.gix_date.specs.Header.Text.{hundred_hours};
+ghost use Rattle.gix_date.specs.Fields.Offsets.{compact_offset_text};
+ghost use Rattle.git_date.specs.Formats.Format.{chunk_text, piece_text, plain_text, seconds_text};
+ghost use Rattle.git_date.specs.Formats.Pieces.{piece_of, Begun};
+ghost use Rattle.git_date.specs.Formats.Shown.{shown_of};
+ghost use Rattle.git_date.specs.Formats.Texts.{directive_text};
+
+use crate::format::directives::{Directive, Plain};
+use crate::format::flags::{Flags, Part};
+use crate::format::pieces::{Made, Piece};
+use crate::format::shown::Shown;
+use crate::format::texts::push_directive;
+use gix_date::clock::{Clock, push_hours, push_minutes};
+
+/// The text of a piece.
+#[derive(Drop)]
+pub(crate) enum Chunk<'t> {
+    /// Text of the format, or an abbreviation.
+    Lent(&'t str),
+    Made(Part),
+}
+
+fn seconds_part(seconds: Option<i64>) -> Part
+    ensures { result.bytes ≡ seconds_text seconds }
+{
+    let mut part = Part::new();
+    if let Some(seconds) = seconds {
+        part.push_str(itoa::Buffer::new().format(seconds));
+    }
+    part
+}
+
+fn offset_part(offset: i32) -> Part
+    requires { unsigned_abs offset < hundred_hours }
+    ensures { result.bytes ≡ compact_offset_text offset }
+{
+    let mut part = Part::new();
+    push_hours(&mut part, offset);
+    push_minutes(&mut part, offset);
+    part
+}
+
+fn directive_part(directive: Directive, flags: Flags, t: Clock) -> Part
+    ensures { result.bytes ≡ directive_text directive flags t }
+{
+    let mut part = Part::new();
+    push_directive(&mut part, directive, flags, t);
+    part
+}
+
+fn plain_chunk<'t>(plain: Plain, shown: &'t Shown) -> Chunk<'t>
+    ensures { chunk_text result ≡ plain_text (shown_of shown.now) plain }
+{
+    match plain {
+        Plain::Percent => Chunk::Lent("%"),
+        Plain::Seconds => Chunk::Made(seconds_part(shown.seconds)),
+        Plain::Offset => Chunk::Made(offset_part(shown.clock.offset())),
+        Plain::Abbreviation => Chunk::Lent(shown.abbreviation()),
+    }
+}
+
+fn made_chunk<'t>(made: Made, shown: &'t Shown) -> Chunk<'t>
+    ensures { chunk_text result ≡ piece_text (shown_of shown.now) (Begun made) }
+{
+    match made {
+        Made::Plain(plain) => plain_chunk(plain, shown),
+        Made::Directive(directive, flags) => {
+            Chunk::Made(directive_part(directive, flags, shown.clock))
+        }
+    }
+}
+
+/// The text of a piece.
+pub(crate) fn chunk_of<'t>(piece: Piece<'t>, shown: &'t Shown) -> Chunk<'t>
+    ensures { chunk_text result ≡ piece_text (shown_of shown.now) (piece_of piece.entry) }
+{
+    match piece {
+        Piece::Text(text) => Chunk::Lent(text),
+        Piece::Made(made) => made_chunk(made, shown),
+    }
+}
+
+impl Chunk<'_> {
+    pub(crate) fn as_str(&self) -> &str
+        ensures { result.now ≡ chunk_text self.now }
+    {
+        match self {
+            Chunk::Lent(text) => text,
+            Chunk::Made(part) => part.as_str(),
+        }
+    }
+}

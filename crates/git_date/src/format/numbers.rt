@@ -1,0 +1,138 @@
+//! The numbers that a clock shows.
+ghost use Rattle.std.specs.Prelude.{◌≡◌, ◌≤◌, ◌<◌};
+ghost use Rattle.std.specs.Int.{IsInRange};
+ghost use Rattle.git_date.specs.Formats.Numbers.{number_value, number_least, is_spaced, year_day, hour_of_half, iso_week, iso_day, monday_day, sunday_day, year_days};
+
+use crate::format::directives::Number;
+use gix_date::clock::Clock;
+use jiff_core::civil::{days_in_month, is_leap_year};
+
+/// The day of a year in which an ISO week lies, as that of its Thursday.
+#[derive(Clone, Copy)]
+pub(crate) struct IsoDay {
+    year: u16,
+    day: u16,
+}
+
+fn year_days(year: u16) -> u16
+    requires { year ≤ 9999 }
+    ensures value { result ≡ year_days year }
+    ensures small { IsInRange 365 366 result }
+{
+    if is_leap_year(year as i16) { 366 } else { 365 }
+}
+
+/// The day of the year, from 1.
+fn year_day(t: Clock) -> u16
+    ensures value { result ≡ year_day t }
+    ensures small { IsInRange 1 403 result }
+{
+    let mut days = u16::from(t.day());
+    'months: for month in 1..t.month() {
+        days += u16::from(days_in_month(t.year() as i16, month));
+    }
+    days
+}
+
+/// The day of the week from 1 for Monday.
+fn monday_day(t: Clock) -> u16
+    ensures value { result ≡ monday_day t }
+    ensures small { IsInRange 1 7 result }
+{
+    u16::from(t.weekday()) + 1
+}
+
+/// The day of the week from 0 for Sunday.
+fn sunday_day(t: Clock) -> u16
+    ensures value { result ≡ sunday_day t }
+    ensures small { result < 7 }
+{
+    monday_day(t) % 7
+}
+
+/// The hour from 1 to 12.
+fn hour_of_half(hour: u8) -> u16
+    ensures value { result ≡ hour_of_half hour }
+{
+    (u16::from(hour) + 11) % 12 + 1
+}
+
+/// The year in which a clock's ISO week lies, and the day of it that its Thursday is.
+#[tactic(auto, unfolding(crate::specs::Formats::Numbers::iso_day))]
+fn iso_day(t: Clock) -> IsoDay
+    ensures value { result ≡ iso_day t }
+    ensures small { result.year ≤ 10000 }
+    ensures day { result.day ≤ 800 }
+{
+    let (year, thursday, monday) = (t.year(), year_day(t) + 4, monday_day(t));
+    let length = year_days(year);
+    if thursday <= monday {
+        let year = year.saturating_sub(1);
+        let day = thursday + year_days(year) - monday;
+        return IsoDay { year, day };
+    }
+    let day = thursday - monday;
+    if length < day {
+        return IsoDay {
+            year: year + 1,
+            day: day - length,
+        };
+    }
+    IsoDay { year, day }
+}
+
+fn iso_week(t: Clock) -> u16
+    ensures { result ≡ iso_week t }
+{
+    (iso_day(t).day + 6) / 7
+}
+
+impl Number {
+    /// What a clock shows of it.
+    pub(crate) fn value(self, t: Clock) -> u16
+        ensures { result ≡ number_value self t }
+    {
+        match self {
+            Number::Century => t.year() / 100,
+            Number::YearOfCentury => t.year() % 100,
+            Number::Year => t.year(),
+            Number::Month => u16::from(t.month()),
+            Number::Day | Number::SpacedDay => u16::from(t.day()),
+            Number::DayOfYear => year_day(t),
+            Number::Hour | Number::SpacedHour => u16::from(t.hour()),
+            Number::HourOfHalf | Number::SpacedHourOfHalf => hour_of_half(t.hour()),
+            Number::Minute => u16::from(t.minute()),
+            Number::Second => u16::from(t.second()),
+            Number::DayFromMonday => monday_day(t),
+            Number::DayFromSunday => sunday_day(t),
+            Number::WeekFromSunday => (year_day(t) + 6 - sunday_day(t)) / 7,
+            Number::WeekFromMonday => (year_day(t) + 7 - monday_day(t)) / 7,
+            Number::IsoWeek => iso_week(t),
+            Number::IsoYear => iso_day(t).year,
+            Number::IsoYearOfCentury => iso_day(t).year % 100,
+        }
+    }
+
+    /// The least width to which it is filled.
+    pub(crate) fn least(self) -> u8
+        ensures value { result ≡ number_least self }
+        ensures small { result ≤ 4 }
+    {
+        match self {
+            Number::Year | Number::IsoYear => 4,
+            Number::DayOfYear => 3,
+            Number::DayFromMonday | Number::DayFromSunday => 1,
+            _ => 2,
+        }
+    }
+
+    /// Whether it is filled with spaces, where no flag says otherwise.
+    pub(crate) fn is_spaced(self) -> bool
+        ensures { result ≡ is_spaced self }
+    {
+        matches!(
+            self,
+            Number::SpacedDay | Number::SpacedHour | Number::SpacedHourOfHalf
+        )
+    }
+}

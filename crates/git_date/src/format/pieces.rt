@@ -1,0 +1,142 @@
+//! The pieces of a format, one after the other, without memory.
+ghost use Rattle.std.specs.Prelude.{◌≡◌, ◌≤◌, ◌<◌, length, drop, get_or, IfOk};
+ghost use Rattle.std.specs.List.{prefix_len};
+ghost use Rattle.std.specs.Char.{is_ascii_digit};
+ghost use Rattle.git_date.specs.Formats.Flags.{is_flag};
+ghost use Rattle.git_date.specs.Formats.Pieces.{marks_len, letter_place, made_at, made_by, plain_at, text_len, next_view, next_piece, percent};
+
+use crate::format::directives::{Directive, Plain, directive_lettered, plain_lettered};
+use crate::format::fault::FormatFault;
+use crate::format::flags::{Flags, MAX_WIDTH, is_flag};
+use crate::tokens::numbers::number;
+
+/// What a percent sign begins.
+#[derive(Clone, Copy)]
+pub(crate) enum Made {
+    Plain(Plain),
+    Directive(Directive, Flags),
+}
+
+/// A piece of a format.
+#[derive(Clone, Copy)]
+pub(crate) enum Piece<'a> {
+    /// Text up to a percent sign or the end.
+    Text(&'a str),
+    Made(Made),
+}
+
+/// How many bytes stand before the first percent sign.
+#[tactic(auto, using(crate::proofs::Formats::Letters::front_fits))]
+fn text_len(text: &[u8]) -> usize
+    ensures value { result ≡ text_len text.now }
+    ensures within { result ≤ length text.now }
+{
+    text.iter().take_while(|b| **b != b'%').count()
+}
+
+/// How many flags stand first.
+#[tactic(auto, using(crate::proofs::Formats::Letters::front_fits))]
+fn marks_len(text: &[u8]) -> usize
+    ensures value { result ≡ marks_len text.now }
+    ensures within { result ≤ length text.now }
+{
+    text.iter().take_while(|b| is_flag(**b)).count()
+}
+
+#[tactic(auto, using(crate::proofs::Formats::Letters::front_fits))]
+fn digits_len(text: &[u8]) -> usize
+    ensures value { result ≡ prefix_len is_ascii_digit text.now }
+    ensures within { result ≤ length text.now }
+{
+    text.iter().take_while(|b| b.is_ascii_digit()).count()
+}
+
+/// A letter that takes no flags, `len` bytes after its percent sign, from which `left` bytes are left.
+fn plain_at(left: usize, len: usize, plain: Plain) -> Result<Made, FormatFault>
+    ensures { result ≡ plain_at left len plain }
+{
+    if len == 0 {
+        Ok(Made::Plain(plain))
+    } else {
+        Err(FormatFault::FlagRefused(left))
+    }
+}
+
+/// What these flags, this width and this letter are, from whose percent sign on `left` bytes are left.
+fn made_by(left: usize, marks: &[u8], digits: &[u8], letter: u8) -> Result<Made, FormatFault>
+    ensures { result ≡ made_by left marks.now digits.now letter }
+{
+    if let Some(plain) = plain_lettered(letter) {
+        return plain_at(left, marks.len() + digits.len(), plain);
+    }
+    let Some(directive) = directive_lettered(letter) else {
+        return Err(FormatFault::UnknownDirective(left));
+    };
+    let width = number(digits);
+    if width > MAX_WIDTH as u64 {
+        return Err(FormatFault::WidthTooLarge(left));
+    }
+    Ok(Made::Directive(directive, Flags::of(marks, width as u8)))
+}
+
+/// What stands after a percent sign.
+#[tactic(auto, unfolding(crate::specs::Formats::Pieces::made_at))]
+fn made_at(text: &[u8]) -> Result<Made, FormatFault>
+    ensures { result ≡ made_at text.now }
+{
+    let left = text.len().saturating_add(1);
+    let (marks, rest) = text.split_at(marks_len(text));
+    let (digits, rest) = rest.split_at(digits_len(rest));
+    match rest.first() {
+        Some(letter) => made_by(left, marks, digits, *letter),
+        None => Err(FormatFault::UnknownDirective(left)),
+    }
+}
+
+/// Where the letter of a directive stands, after its percent sign.
+fn letter_place(text: &[u8]) -> usize
+    ensures value { result ≡ letter_place text.now }
+    ensures within { result ≤ length text.now }
+{
+    let (marks, rest) = text.split_at(marks_len(text));
+    marks.len() + digits_len(rest)
+}
+
+/// What stands after the first byte.
+fn after_first(text: &str) -> &[u8]
+    requires { 0 < length text.now }
+    ensures { result.now ≡ drop 1 text.now }
+{
+    let (_, after) = text.as_bytes().split_at(1);
+    after
+}
+
+/// A piece that begins with a percent sign, and what is left.
+fn begun(text: &str) -> Result<(Piece<'_>, &str), FormatFault>
+    requires there { 0 < length text.now }
+    requires percent { get_or text.now 0 0 ≡ percent }
+    ensures value { next_view result ≡ next_piece text.now }
+    ensures shorter { IfOk result (λ found. length found.1.now < length text.now) }
+{
+    let after = after_first(text);
+    let made = match made_at(after) {
+        Ok(made) => made,
+        Err(fault) => return Err(fault),
+    };
+    let (_, rest) = text.split_at(letter_place(after) + 2);
+    Ok((Piece::Made(made), rest))
+}
+
+/// The first piece of a format that is not empty, and what is left.
+pub(crate) fn next_piece(text: &str) -> Result<(Piece<'_>, &str), FormatFault>
+    requires { 0 < length text.now }
+    ensures value { next_view result ≡ next_piece text.now }
+    ensures shorter { IfOk result (λ found. length found.1.now < length text.now) }
+{
+    let place = text_len(text.as_bytes());
+    if place == 0 {
+        return begun(text);
+    }
+    let (front, rest) = text.split_at(place);
+    Ok((Piece::Text(front), rest))
+}

@@ -1,0 +1,212 @@
+//! The texts of directives.
+ghost use Rattle.std.specs.Prelude.{◌≡◌, ◌+◌, ◌*◌, ◌≤◌, ◌<◌, ◌++◌, length, max};
+ghost use Rattle.arrayvec.specs.ArrayString.{array_string_len};
+ghost use Rattle.git_date.specs.Formats.Flags.{inner_flags};
+ghost use Rattle.git_date.specs.Formats.Texts.{mark_code, inner_of, inner_text, inner_texts, number_width, number_zeros, number_text, name_said, composite_text, directive_text};
+
+use crate::format::directives::{Composite, Directive, Name, Number};
+use crate::format::flags::{Flags, Pad, Part, push_filled};
+use crate::format::names::cased_name;
+use gix_date::clock::Clock;
+
+/// A character of a composite.
+#[derive(Clone, Copy)]
+pub(crate) enum Mark {
+    Space,
+    Colon,
+    Minus,
+    Slash,
+}
+
+/// A piece of a composite.
+#[derive(Clone, Copy)]
+pub(crate) enum Inner {
+    Name(Name),
+    Number(Number),
+    Mark(Mark),
+}
+
+const SPACE: Inner = Inner::Mark(Mark::Space);
+
+const COLON: Inner = Inner::Mark(Mark::Colon);
+
+const MINUS: Inner = Inner::Mark(Mark::Minus);
+
+const SLASH: Inner = Inner::Mark(Mark::Slash);
+
+const YEAR: Inner = Inner::Number(Number::Year);
+
+const MONTH: Inner = Inner::Number(Number::Month);
+
+const DAY: Inner = Inner::Number(Number::Day);
+
+const HOUR: Inner = Inner::Number(Number::Hour);
+
+const MINUTE: Inner = Inner::Number(Number::Minute);
+
+const SECOND: Inner = Inner::Number(Number::Second);
+
+/// `%a %b %e %H:%M:%S %Y`
+const DATE_AND_CLOCK: [Inner; 13] = [
+    Inner::Name(Name::ShortDay),
+    SPACE,
+    Inner::Name(Name::ShortMonth),
+    SPACE,
+    Inner::Number(Number::SpacedDay),
+    SPACE,
+    HOUR,
+    COLON,
+    MINUTE,
+    COLON,
+    SECOND,
+    SPACE,
+    YEAR,
+];
+
+/// `%m/%d/%y`
+const SLASHED_DATE: [Inner; 5] = [
+    MONTH,
+    SLASH,
+    DAY,
+    SLASH,
+    Inner::Number(Number::YearOfCentury),
+];
+
+/// `%Y-%m-%d`
+const ISO_DATE: [Inner; 5] = [YEAR, MINUS, MONTH, MINUS, DAY];
+
+/// `%I:%M:%S %p`
+const CLOCK_OF_HALF: [Inner; 7] = [
+    Inner::Number(Number::HourOfHalf),
+    COLON,
+    MINUTE,
+    COLON,
+    SECOND,
+    SPACE,
+    Inner::Name(Name::HalfDay),
+];
+
+/// `%H:%M`
+const SHORT_CLOCK: [Inner; 3] = [HOUR, COLON, MINUTE];
+
+/// `%H:%M:%S`
+const CLOCK: [Inner; 5] = [HOUR, COLON, MINUTE, COLON, SECOND];
+
+impl Mark {
+    fn code(self) -> char
+        ensures value { result ≡ mark_code self }
+        ensures ascii { result < 128 }
+    {
+        match self {
+            Mark::Space => ' ',
+            Mark::Colon => ':',
+            Mark::Minus => '-',
+            Mark::Slash => '/',
+        }
+    }
+}
+
+impl Composite {
+    /// Its pieces.
+    fn inner(self) -> &'static [Inner]
+        ensures value { result.now ≡ inner_of self }
+        ensures few { length result.now ≤ 13 }
+    {
+        match self {
+            Composite::DateAndClock => &DATE_AND_CLOCK,
+            Composite::SlashedDate => &SLASHED_DATE,
+            Composite::IsoDate => &ISO_DATE,
+            Composite::ClockOfHalf => &CLOCK_OF_HALF,
+            Composite::ShortClock => &SHORT_CLOCK,
+            Composite::Clock => &CLOCK,
+        }
+    }
+}
+
+impl Number {
+    /// The width to which it is filled.
+    fn width(self, flags: Flags) -> u8
+        ensures value { result ≡ number_width self flags }
+        ensures most { result ≤ max 9 flags.width }
+    {
+        match flags.pad {
+            Pad::Bare => flags.width,
+            Pad::Unsaid | Pad::Spaces | Pad::Zeros => self.least().max(flags.width),
+        }
+    }
+
+    /// Whether it is filled with zeros.
+    fn fills_zeros(self, flags: Flags) -> bool
+        ensures { result ≡ number_zeros self flags }
+    {
+        match flags.pad {
+            Pad::Bare | Pad::Spaces => false,
+            Pad::Zeros => true,
+            Pad::Unsaid => !self.is_spaced(),
+        }
+    }
+}
+
+/// Appends a number in decimal, filled.
+fn push_number(part: &mut Part, number: Number, flags: Flags, t: Clock)
+    requires { array_string_len part.old + max 9 flags.width ≤ 255 }
+    ensures bytes { part.new.bytes ≡ part.old.bytes ++ number_text number flags t }
+    ensures len { array_string_len part.new ≤ array_string_len part.old + max 9 flags.width }
+{
+    let mut digits = itoa::Buffer::new();
+    push_filled(
+        part,
+        number.fills_zeros(flags),
+        number.width(flags),
+        digits.format(number.value(t)),
+    );
+}
+
+/// Appends a name in its letter case, filled.
+fn push_name(part: &mut Part, name: Name, flags: Flags, t: Clock)
+    requires { array_string_len part.old + max 9 flags.width ≤ 255 }
+    ensures bytes { part.new.bytes ≡ part.old.bytes ++ name_said name flags t }
+    ensures len { array_string_len part.new ≤ array_string_len part.old + max 9 flags.width }
+{
+    let name = cased_name(name, flags, t);
+    push_filled(part, flags.fills_zeros(), flags.width, name.as_str());
+}
+
+fn push_inner(part: &mut Part, inner: Inner, flags: Flags, t: Clock)
+    requires { array_string_len part.old + max 9 flags.width ≤ 255 }
+    ensures bytes { part.new.bytes ≡ part.old.bytes ++ inner_text flags t inner }
+    ensures len { array_string_len part.new ≤ array_string_len part.old + max 9 flags.width }
+{
+    match inner {
+        Inner::Name(name) => push_name(part, name, flags, t),
+        Inner::Number(number) => push_number(part, number, flags, t),
+        Inner::Mark(mark) => part.push(mark.code()),
+    }
+}
+
+/// The pieces of a composite, one after the other.
+fn inner_part(composite: Composite, flags: Flags, t: Clock) -> Part
+    ensures bytes { result.bytes ≡ inner_texts (inner_flags flags) t (inner_of composite) }
+    ensures len { array_string_len result ≤ 117 }
+{
+    let mut part = Part::new();
+    'pieces: for inner in composite.inner() {
+        push_inner(&mut part, *inner, flags.inner(), t);
+    }
+    part
+}
+
+/// Appends what a clock shows by a directive. There has to be room for the width, and for 117 bytes.
+pub(crate) fn push_directive(part: &mut Part, directive: Directive, flags: Flags, t: Clock)
+    requires { array_string_len part.old ≡ 0 }
+    ensures { part.new.bytes ≡ part.old.bytes ++ directive_text directive flags t }
+{
+    match directive {
+        Directive::Name(name) => push_name(part, name, flags, t),
+        Directive::Number(number) => push_number(part, number, flags, t),
+        Directive::Composite(composite) => {
+            let inner = inner_part(composite, flags, t);
+            push_filled(part, flags.fills_zeros(), flags.width, inner.as_str());
+        }
+    }
+}

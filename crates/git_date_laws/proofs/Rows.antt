@@ -1,0 +1,4 @@
+-- Definitions on worked texts: each row computes.
+mod LawRows
+mod HeardRows
+mod BackRows

@@ -1,0 +1,6 @@
+-- Blocks of lines: how far one is read.
+pub mod Cells
+pub mod Columns
+pub mod Parts
+pub mod Placed
+pub mod Steps

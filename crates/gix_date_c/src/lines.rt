@@ -1,0 +1,127 @@
+//! Blocks of many lines, read and checked in one call.
+ghost use Rattle.std.specs.Prelude.{◌≡◌, ◌⊎◌, ◌≤◌, ◌<◌, length, [], MatchOption, Result, Some, None};
+ghost use Rattle.jiff.specs.declared.zoned.Zoned.{Zoned};
+ghost use Rattle.gix_date_lines.specs.Lines.{IsCutAfter};
+ghost use Rattle.gix_date_c.specs.Lines.Blocks.{ChecksLines, DoesLines};
+ghost use Rattle.gix_date_c.specs.Lines.Columns.{Columns};
+ghost use Rattle.gix_date_c.specs.Lines.Readers.{IsLineRead, line_reader};
+ghost use Rattle.gix_date_c.specs.Moments.{IsNow};
+ghost use Rattle.gix_date_c.specs.Zones.{IsSame, IsZone};
+ghost use Rattle.gix_date_c.specs.declared.values.status.Status.{Status};
+
+mod columns;
+pub(crate) mod reader;
+
+use crate::careful::CCarefulOptions;
+use crate::header::is_canonical;
+use crate::lines::columns::{room, store_answer};
+use crate::lines::reader::{LineReader, line_reader};
+use crate::moment::CInstant;
+use crate::zone::CZone;
+use gix_date_lines::first_line;
+use std::alloc::Global;
+
+/// Reads each line of a block by the reader of a number. What is relative to a moment is refused.
+#[unsafe(no_mangle)]
+pub extern "C" fn gix_date_parse_lines(
+    block: &[u8],
+    reader: u32,
+    options: &CCarefulOptions,
+    seconds: &mut [i64],
+    offsets: &mut [i32],
+    statuses: &mut [u32],
+    bytes: &mut usize,
+) -> usize
+    ensures { DoesLines (IsLineRead (line_reader reader options.now None)) block.now
+        (record { seconds = seconds.old; offsets = offsets.old; statuses = statuses.old })
+        (record { seconds = seconds.new; offsets = offsets.new; statuses = statuses.new }) (result, bytes.new) }
+{
+    let reader = line_reader(reader, options, None);
+    read_lines(&reader, block, seconds, offsets, statuses, bytes)
+}
+
+/// Reads each line of a block by the reader of a number, at a moment in a zone that C holds.
+#[unsafe(no_mangle)]
+pub extern "C" fn gix_date_parse_lines_at(
+    alloc: Global,
+    block: &[u8],
+    reader: u32,
+    options: &CCarefulOptions,
+    now: &CInstant,
+    zone: &mut CZone,
+    seconds: &mut [i64],
+    offsets: &mut [i32],
+    statuses: &mut [u32],
+    bytes: &mut usize,
+) -> usize
+    ensures read { (moment : Result Zoned Status) × IsNow (IsZone zone.old) now.now moment
+        × DoesLines (IsLineRead (line_reader reader options.now (Some moment))) block.now
+        (record { seconds = seconds.old; offsets = offsets.old; statuses = statuses.old })
+        (record { seconds = seconds.new; offsets = offsets.new; statuses = statuses.new }) (result, bytes.new) }
+    ensures zone { IsSame zone.old zone.new }
+{
+    let taken = zone.take(alloc);
+    let reader = line_reader(reader, options, Some(taken.moment(now)));
+    let done = read_lines(&reader, block, seconds, offsets, statuses, bytes);
+    zone.give_back(alloc, taken);
+    done
+}
+
+/// Tells of each line of a block whether it comes back when it is read as a header and written.
+#[unsafe(no_mangle)]
+pub extern "C" fn gix_date_check_lines(
+    block: &[u8],
+    canonical: &mut [u8],
+    bytes: &mut usize,
+) -> usize
+    ensures { ChecksLines block.now canonical.old canonical.new (result, bytes.new) }
+{
+    let room = canonical.len();
+    let mut left = block;
+    let mut done = 0;
+    'lines: while let Some((line, after)) = next_line(left, done, room) {
+        canonical[done] = u8::from(is_canonical(line));
+        left = after;
+        done += 1;
+    }
+    *bytes = block.len() - left.len();
+    done
+}
+
+/// Reads the lines of a block into the caller's arrays, as many as these have cells for.
+pub(crate) fn read_lines(
+    reader: &LineReader<'_>,
+    block: &[u8],
+    seconds: &mut [i64],
+    offsets: &mut [i32],
+    statuses: &mut [u32],
+    bytes: &mut usize,
+) -> usize
+    ensures { DoesLines (IsLineRead reader.now) block.now
+        (record { seconds = seconds.old; offsets = offsets.old; statuses = statuses.old })
+        (record { seconds = seconds.new; offsets = offsets.new; statuses = statuses.new }) (result, bytes.new) }
+{
+    let room = room(seconds, offsets, statuses);
+    let mut left = block;
+    let mut done = 0;
+    'lines: while let Some((line, after)) = next_line(left, done, room) {
+        store_answer(done, reader.read(line), seconds, offsets, statuses);
+        left = after;
+        done += 1;
+    }
+    *bytes = block.len() - left.len();
+    done
+}
+
+/// The next line and the bytes after it, where there is one, and room for it.
+#[inline(always)]
+fn next_line(left: &[u8], done: usize, room: usize) -> Option<(&[u8], &[u8])>
+    requires { done ≤ room }
+    ensures { MatchOption result ((left.now ≡ []) ⊎ (done ≡ room))
+        (λ cut. (done < room) × IsCutAfter left.now (cut.0.now, cut.1.now)) }
+{
+    if done == room {
+        return None;
+    }
+    first_line(left)
+}

@@ -1,0 +1,159 @@
+//! How a line is read: as the call for one text reads it.
+ghost use Rattle.std.specs.Prelude.{◌≡◌, Result};
+ghost use Rattle.gix_date_c.specs.Signatures.{IsCutAnswer};
+ghost use Rattle.gix_date_c.specs.Lines.Readers.{IsApproximateLine, IsCareful, IsDate, IsExactLine, IsLineRead, for_c, line_reader, place_of, time_of};
+ghost use Rattle.gix_date_c.specs.Values.Refusals.{with_status};
+ghost use Rattle.gix_signature.specs.Signature.{Parts};
+
+use crate::careful::{self, CCarefulOptions};
+use crate::git::dates::{read_approximate, read_exact_now};
+use crate::header::header_time;
+use crate::parse;
+use crate::signature::signature_of;
+use crate::values::refusal::Refusal;
+use crate::values::status::Status;
+use crate::values::time::{CTime, time_for_c};
+use gix_date::{Time, Zoned};
+
+/// How each line of a block is read, and at which moment, if the call has one.
+#[derive(Clone, Copy)]
+pub(crate) enum LineReader<'z> {
+    /// The number is that of no reader.
+    NoSuch,
+    Date {
+        raw_offsets: u32,
+        now: Option<Result<Zoned<'z>, Status>>,
+    },
+    Careful {
+        options: CCarefulOptions,
+        now: Option<Result<Zoned<'z>, Status>>,
+    },
+    Header,
+    Signature,
+    /// Git's exact reader.
+    Exact {
+        now: Result<Zoned<'z>, Status>,
+    },
+    /// Git's approximate reader.
+    Approximate {
+        now: Result<Zoned<'z>, Status>,
+    },
+}
+
+/// The reader of a number, `enum gix_date_line_reader`.
+pub(crate) fn line_reader<'z>(
+    number: u32,
+    options: &CCarefulOptions,
+    now: Option<Result<Zoned<'z>, Status>>,
+) -> LineReader<'z>
+    ensures { result ≡ line_reader number options.now now.entry }
+{
+    match number {
+        0 => LineReader::Date {
+            raw_offsets: options.raw_offsets,
+            now,
+        },
+        1 => LineReader::Careful {
+            options: *options,
+            now,
+        },
+        2 => LineReader::Header,
+        3 => LineReader::Signature,
+        _ => LineReader::NoSuch,
+    }
+}
+
+impl LineReader<'_> {
+    /// What a line says.
+    #[inline(always)]
+    pub(crate) fn read(&self, line: &[u8]) -> Result<CTime, Status>
+        ensures { IsLineRead self.now line.now result }
+    {
+        match self {
+            LineReader::NoSuch => Err(Status::NoSuchOption),
+            LineReader::Date { raw_offsets, now } => for_c(read_date(line, *raw_offsets, *now)),
+            LineReader::Careful { options, now } => without_place(read_carefully(
+                line, options, *now,
+            )),
+            LineReader::Header => for_c(header_time(line)),
+            LineReader::Signature => for_c(signed_time(line)),
+            LineReader::Exact { now } => exact_time(line, *now),
+            LineReader::Approximate { now } => approximate_time(line, *now),
+        }
+    }
+}
+
+/// What a line says as a date, at a moment or at none.
+fn read_date(
+    line: &[u8],
+    raw_offsets: u32,
+    now: Option<Result<Zoned<'_>, Status>>,
+) -> Result<Time, Status>
+    ensures { IsDate raw_offsets now.entry line.now result }
+{
+    match now {
+        Some(now) => parse::parse_at(line, raw_offsets, now),
+        None => parse::parse_text(line, raw_offsets, None),
+    }
+}
+
+/// What a line says without guessing, at a moment or at none.
+fn read_carefully(
+    line: &[u8],
+    options: &CCarefulOptions,
+    now: Option<Result<Zoned<'_>, Status>>,
+) -> Result<CTime, Refusal>
+    ensures { IsCareful options.now now.entry line.now result }
+{
+    match now {
+        Some(now) => careful::parse_at(line, options, now),
+        None => careful::parse_text(line, options, None),
+    }
+}
+
+/// The time of a signature line.
+fn signed_time(line: &[u8]) -> Result<Time, Status>
+    ensures { (cut : Result Parts Status) × IsCutAnswer line.now cut × (result ≡ time_of cut) }
+{
+    match signature_of(line) {
+        Ok(signature) => header_time(signature.time.as_bytes()),
+        Err(status) => Err(status),
+    }
+}
+
+/// The time of one of Git's dates, read exactly.
+fn exact_time(line: &[u8], now: Result<Zoned<'_>, Status>) -> Result<CTime, Status>
+    ensures { IsExactLine (place_of now.entry) line.now result }
+{
+    match read_exact_now(line, now) {
+        Ok(date) => Ok(date.time),
+        Err(refusal) => Err(refusal.status),
+    }
+}
+
+/// The time of one of Git's dates, read as people write it.
+fn approximate_time(line: &[u8], now: Result<Zoned<'_>, Status>) -> Result<CTime, Status>
+    ensures { IsApproximateLine now.entry line.now result }
+{
+    match read_approximate(line, now) {
+        Ok(date) => Ok(date.time),
+        Err(refusal) => Err(refusal.status),
+    }
+}
+
+/// A time, as C has it.
+fn for_c(answer: Result<Time, Status>) -> Result<CTime, Status>
+    ensures { result ≡ for_c answer }
+{
+    answer.map(time_for_c)
+}
+
+/// What was read, without the place of a refusal.
+fn without_place(answer: Result<CTime, Refusal>) -> Result<CTime, Status>
+    ensures { result ≡ with_status answer }
+{
+    match answer {
+        Ok(time) => Ok(time),
+        Err(refusal) => Err(refusal.status),
+    }
+}

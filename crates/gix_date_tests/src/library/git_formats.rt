@@ -1,0 +1,158 @@
+//! Dates by Git's formats: what the rows cannot say.
+use crate::fakes::{Slow, take_all};
+use git_date::{DateFormat, FormatFault, ShowError, show_by_format, text_by_format};
+use gix_date::Time;
+use gix_date::device::Device;
+use std::io::ErrorKind;
+use std::test::Fail;
+
+/// Sunday, 2009-08-30 19:20:00 in UTC.
+const TIME: Time = Time {
+    seconds: 1_251_660_000,
+    offset: 7200,
+};
+
+/// What Git 2.39.5 shows of it by this format.
+const LONG: &str = "at %Y-%m-%d %H:%M:%S %z, %s: %c%%";
+
+const LONG_TEXT: &[u8] = b"at 2009-08-30 21:20:00 +0200, 1251660000: Sun Aug 30 21:20:00 2009%";
+
+#[test]
+fn each_fault_of_a_format_says_what_is_wrong(rt: HostRuntime) -> Result<(), Fail> {
+    for (fault, text, debug) in [
+        (
+            FormatFault::FlagRefused(3),
+            "the directive at byte 3 takes no flags and no width",
+            "FlagRefused(3)",
+        ),
+        (
+            FormatFault::UnknownDirective(0),
+            "the directive at byte 0 is unknown",
+            "UnknownDirective(0)",
+        ),
+        (
+            FormatFault::WidthTooLarge(7),
+            "the width at byte 7 is above 255",
+            "WidthTooLarge(7)",
+        ),
+    ] {
+        assert_eq!(rt; format!(in rt.alloc(); "{fault}")?.as_str(), text);
+        assert_eq!(rt; format!(in rt.alloc(); "{fault:?}")?.as_str(), debug);
+    }
+    for (error, text, debug) in [
+        (
+            ShowError::Range,
+            "the time has no such clock, or its seconds are of a year outside 1970 to 2099",
+            "Range",
+        ),
+        (ShowError::Memory, "no memory for the text", "Memory"),
+        (
+            ShowError::Write(ErrorKind::BrokenPipe),
+            "the text could not be written",
+            "Write(BrokenPipe)",
+        ),
+    ] {
+        assert_eq!(rt; format!(in rt.alloc(); "{error}")?.as_str(), text);
+        assert_eq!(rt; format!(in rt.alloc(); "{error:?}")?.as_str(), debug);
+    }
+    Ok(())
+}
+
+#[test]
+fn a_format_may_be_used_many_times(rt: HostRuntime) -> Result<(), Fail> {
+    let now = TIME.to_zoned()?;
+    let format = DateFormat::new("%F %R")?;
+    let copied = format;
+    assert_eq!(rt; format.as_str(), "%F %R");
+    assert_eq!(rt;
+        format!(in rt.alloc(); "{copied:?}")?.as_str(),
+        "DateFormat { text: \"%F %R\" }"
+    );
+    let text = text_by_format(rt.alloc(), TIME, format, false, now)?;
+    assert_eq!(rt; text.as_str(), "2009-08-30 21:20");
+    let text = text_by_format(rt.alloc(), Time::new(0, 0), copied, false, now)?;
+    assert_eq!(rt; text.as_str(), "1970-01-01 00:00");
+    Ok(())
+}
+
+#[test]
+fn the_first_fault_of_a_format_is_told(rt: HostRuntime) {
+    for (format, fault) in [
+        ("%d %-z %q", FormatFault::FlagRefused(3)),
+        ("é%q %-z", FormatFault::UnknownDirective(2)),
+        ("%Ey", FormatFault::UnknownDirective(0)),
+        ("%H%", FormatFault::UnknownDirective(2)),
+        ("%256d", FormatFault::WidthTooLarge(0)),
+        ("%99999999999999999999999d", FormatFault::WidthTooLarge(0)),
+    ] {
+        assert!(rt;
+            matches!(DateFormat::new(format), Err(found) if found == fault),
+            "{format}"
+        );
+    }
+}
+
+#[test]
+fn a_clock_that_is_not_shown_writes_nothing(rt: HostRuntime) -> Result<(), Fail> {
+    let now = TIME.to_zoned()?;
+    let format = DateFormat::new("seconds: %s")?;
+    for time in [Time::new(-1, 0), Time::new(4_102_444_800, 0)] {
+        let mut out = Device::new(Vec::new(rt.alloc()));
+        let written = show_by_format(time, format, false, now, &mut out);
+        assert_eq!(rt; written, Err(ShowError::Range));
+        assert!(rt; out.into_inner().is_empty());
+        let text = text_by_format(rt.alloc(), time, format, false, now);
+        assert!(rt; matches!(text, Err(ShowError::Range)));
+    }
+    Ok(())
+}
+
+#[test]
+fn a_shown_date_fails_at_each_of_its_writes(rt: HostRuntime) -> Result<(), Fail> {
+    let now = TIME.to_zoned()?;
+    let format = DateFormat::new(LONG)?;
+    for taken in 0..LONG_TEXT.len() {
+        let mut out = Device::new(Slow::new(rt.alloc(), 1, taken, ErrorKind::StorageFull));
+        let written = show_by_format(TIME, format, false, now, &mut out);
+        assert_eq!(rt;
+            written,
+            Err(ShowError::Write(ErrorKind::StorageFull)),
+            "{taken}"
+        );
+        assert_eq!(rt;
+            out.into_inner().taken.as_slice(),
+            &LONG_TEXT[..taken],
+            "{taken}"
+        );
+    }
+    for a_call in [1, 3, 99] {
+        let mut out = Device::new(Slow::new(rt.alloc(), a_call, 99, ErrorKind::Other));
+        let written = show_by_format(TIME, format, false, now, &mut out);
+        assert_eq!(rt; written, Ok(()), "{a_call}");
+        assert_eq!(rt; out.into_inner().taken.as_slice(), LONG_TEXT, "{a_call}");
+    }
+    Ok(())
+}
+
+#[test]
+fn a_shown_date_that_is_refused_memory_is_refused(rt: HostRuntime) -> Result<(), Fail> {
+    let now = TIME.to_zoned()?;
+    let format = DateFormat::new("%Y")?;
+    let none = DateFormat::new("")?;
+    let blocks = take_all(rt.alloc())?;
+    let refused = matches!(
+        text_by_format(rt.alloc(), TIME, format, false, now),
+        Err(ShowError::Memory)
+    );
+    let range = matches!(
+        text_by_format(rt.alloc(), Time::new(-1, 0), format, false, now),
+        Err(ShowError::Range)
+    );
+    let empty = matches!(
+        text_by_format(rt.alloc(), TIME, none, false, now),
+        Ok(text) if text.is_empty()
+    );
+    drop(blocks);
+    assert!(rt; refused && range && empty, "no-memory");
+    Ok(())
+}

@@ -1,0 +1,38 @@
+-- Texts and their places, and what is kept of them.
+use Rattle.std.proofs.Common.{◌≡◌, ◌∙◌, ℕ, ◌+◌, ◌-◌, ◌<◌, suc, Bool, true, false, cond, not, ◌||◌, List, [], ◌∷◌, ◌++◌, length, take, drop, refl, ap, sym, arith}
+use Rattle.std.proofs.lemmas.List.{drop-drop}
+use Rattle.std.proofs.lemmas.Bool.Decides.{nat_tests}
+use Rattle.std.specs.List.{list_any, prefix_len, position_or_len, filter}
+use Rattle.std.specs.Prelude.{nat_lt}
+
+-- one element more at the front
+place-step : (b : Bool) (n m : ℕ) (r : Bool) → nat_lt n m ≡ r → nat_lt (cond (not b) (1 + n) 0) (suc m) ≡ (b || r)
+place-step true n m r h = grind (arith, nat_tests)
+place-step false n m r h = grind (arith, nat_tests, h)
+
+-- a place within the text tells whether there is such a byte
+pub place-within : (p : ℕ → Bool) (xs : List ℕ) → nat_lt (position_or_len p xs) (length xs) ≡ list_any p xs
+place-within p [] = refl
+place-within p (x ∷ xs) = place-step (p x) (position_or_len p xs) (length xs) (list_any p xs) (place-within p xs)
+
+pub none-there : (p : ℕ → Bool) (xs : List ℕ) → position_or_len p xs ≡ length xs → list_any p xs ≡ false
+none-there p xs e = sym (place-within p xs) ∙ grind (arith, nat_tests, e)
+
+pub one-there : (p : ℕ → Bool) (xs : List ℕ) → position_or_len p xs < length xs → list_any p xs ≡ true
+one-there p xs h = sym (place-within p xs) ∙ grind (arith, nat_tests, h)
+
+pub after-place : (n : ℕ) (xs : List ℕ) → drop 1 (drop n xs) ≡ drop (n + 1) xs
+after-place n xs = drop-drop 1 n xs
+
+add-one-front : (n : ℕ) → 1 + n ≡ suc n
+add-one-front n = omega arith
+
+-- What a filter keeps is the run at the front, and what it keeps of what stands after the run and one byte.
+kept-step : (b : Bool) (p : ℕ → Bool) (x : ℕ) (xs : List ℕ) → filter p xs ≡ take (prefix_len p xs) xs ++ filter p (drop 1 (drop (prefix_len p xs) xs))
+    → cond b (x ∷ filter p xs) (filter p xs) ≡ take (cond b (1 + prefix_len p xs) 0) (x ∷ xs) ++ filter p (drop 1 (drop (cond b (1 + prefix_len p xs) 0) (x ∷ xs)))
+kept-step false p x xs h = refl
+kept-step true p x xs h = rw (add-one-front (prefix_len p xs)) (ap (λ ys. x ∷ ys) h)
+
+pub kept-run : (p : ℕ → Bool) (xs : List ℕ) → filter p xs ≡ take (prefix_len p xs) xs ++ filter p (drop 1 (drop (prefix_len p xs) xs))
+kept-run p [] = refl
+kept-run p (x ∷ xs) = kept-step (p x) p x xs (kept-run p xs)

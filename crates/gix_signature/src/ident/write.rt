@@ -1,0 +1,111 @@
+//! Identity lines, as Git writes them.
+ghost use Rattle.std.specs.Prelude.{◌≡◌, filter};
+ghost use Rattle.std.specs.List.{list_all};
+ghost use Rattle.gix_signature.specs.Signature.{line_of};
+ghost use Rattle.gix_signature.specs.Writing.{Puts};
+ghost use Rattle.gix_signature.specs.Ident.Bytes.{is_crud, is_kept};
+ghost use Rattle.gix_signature.specs.Ident.Due.{ident_due, dated_line, cleaned, cleaned_parts, trimmed, WritesIdent};
+
+use crate::error::IdentFault;
+use crate::ident::bytes::{after_one, crud_len, has_nul, is_crud, kept_len, last_crud_len};
+use gix_date::Time;
+use gix_date::device::{Sink, put_all};
+use std::io;
+
+/// Writes the line that Git writes of a name, an email and a time, without a newline: the name and the email cleaned, and
+/// the time as [`Time::write_to`] writes it.
+///
+/// Cleaned is a text without crud at both ends, and then without `<`, `>` and line feeds. Crud is a byte from 1 to 32, and
+/// each of `. , : ; < > " \ '`. The refusals, in this order, write no byte: [`IdentFault::NulInPart`] if the name or the
+/// email holds NUL, [`IdentFault::EmptyName`], [`IdentFault::OnlyCrud`] if the name is crud alone, [`IdentFault::BeforeEpoch`]
+/// for seconds below 0, and [`IdentFault::OffsetTooWide`] for an offset of 100 hours or more. [`IdentFault::Write`] carries
+/// the writer's fault after a proper prefix of the line. There is no flush. Takes no memory.
+#[tactic(auto, unfolding(crate::specs::Ident::Due::ident_due))]
+pub fn write_ident<W: Sink>(
+    name: &[u8],
+    mail: &[u8],
+    time: Time,
+    out: &mut W,
+) -> Result<(), IdentFault>
+    ensures { WritesIdent (ident_due name.now mail.now time) (W.known out.old) (W.known out.new) result }
+{
+    if has_nul(name) || has_nul(mail) {
+        return Err(IdentFault::NulInPart);
+    }
+    if name.is_empty() {
+        return Err(IdentFault::EmptyName);
+    }
+    if is_crud_alone(name) {
+        return Err(IdentFault::OnlyCrud);
+    }
+    put_dated(name, mail, time, out)
+}
+
+fn is_crud_alone(text: &[u8]) -> bool
+    ensures { result ≡ list_all is_crud text.now }
+{
+    text.iter().all(|b| is_crud(*b))
+}
+
+/// Writes the line of a name and an email that may be written, or refuses the time.
+fn put_dated<W: Sink>(name: &[u8], mail: &[u8], time: Time, out: &mut W) -> Result<(), IdentFault>
+    ensures { WritesIdent (dated_line name.now mail.now time) (W.known out.old) (W.known out.new) result }
+{
+    if time.seconds < 0 {
+        return Err(IdentFault::BeforeEpoch);
+    }
+    let Ok(buf) = time.to_buf() else {
+        return Err(IdentFault::OffsetTooWide);
+    };
+    put_ident(name, mail, buf.as_str(), out).map_err(IdentFault::Write)
+}
+
+/// Puts the line of a cleaned name, a cleaned email and a time's text into a sink.
+fn put_ident<W: Sink>(
+    name: &[u8],
+    mail: &[u8],
+    time: &str,
+    out: &mut W,
+) -> Result<(), io::ErrorKind>
+    ensures { Puts (W.known out.old) (W.known out.new) (line_of (cleaned_parts name.now mail.now time.now)) result }
+{
+    put_cleaned(name, out)?;
+    put_bytes(b" <", out)?;
+    put_cleaned(mail, out)?;
+    put_bytes(b"> ", out)?;
+    put_bytes(time.as_bytes(), out)
+}
+
+fn put_bytes<W: Sink>(text: &[u8], out: &mut W) -> Result<(), io::ErrorKind>
+    ensures { Puts (W.known out.old) (W.known out.new) text.now result }
+{
+    put_all(out, text)
+}
+
+/// Puts a cleaned name or email into a sink.
+fn put_cleaned<W: Sink>(part: &[u8], out: &mut W) -> Result<(), io::ErrorKind>
+    ensures { Puts (W.known out.old) (W.known out.new) (cleaned part.now) result }
+{
+    put_kept(trimmed(part), out)
+}
+
+/// A text without crud at both ends.
+fn trimmed(part: &[u8]) -> &[u8]
+    ensures { result.now ≡ trimmed part.now }
+{
+    let part = &part[crud_len(part)..];
+    &part[..part.len() - last_crud_len(part)]
+}
+
+/// Puts the bytes that are kept into a sink.
+fn put_kept<W: Sink>(text: &[u8], out: &mut W) -> Result<(), io::ErrorKind>
+    ensures { Puts (W.known out.old) (W.known out.new) (filter is_kept text.now) result }
+{
+    let mut rest = text;
+    while !rest.is_empty() {
+        let (run, others) = rest.split_at(kept_len(rest));
+        put_bytes(run, out)?;
+        rest = after_one(others);
+    }
+    Ok(())
+}
