@@ -83,13 +83,17 @@ static const gix_date_instant now = {1699165800, 0};
 static gix_date_zone utc, rule, file, read, copy;
 static const gix_date_time at = {1660797906, 28800};
 static const gix_date_careful_options usual = {0, 0, 0};
+static const char iso[] = "%Y-%m-%d %H:%M:%S %z";
 static gix_date_time parsed;
 static gix_date_signature parts;
+static gix_date_ident_parts ident;
+static const gix_date_git_time decimal = {1660797906, 800};
 static const git_date_mode shown = {GIT_DATE_HUMAN, true};
 static git_date_exact exact;
 static git_date_approximate guess;
 static git_date_expiry expiry;
 static git_date_mode named;
+static git_date_age age;
 static char long_text[60000];
 static char out[256];
 static size_t len, place;
@@ -103,6 +107,7 @@ CALL(gix_date_write_header, &at, out, sizeof out, &len)
 CALL(gix_date_parse, TEXT("2024-01-05 10:00"), GIX_DATE_QUARTERS, &parsed)
 CALL(gix_date_zone_read, zone_bytes, zone_len, &read)
 CALL(gix_date_zone_copy, &read, &copy)
+CALLS_AT(gix_date_offset_at, &now, zone, &offset)
 CALLS_AT(gix_date_parse_at, TEXT("1 month 2 days ago"), GIX_DATE_QUARTERS, &now, zone, &parsed)
 CALL(gix_date_parse_carefully, TEXT("Thu, 18 Aug 2022 12:45:06 +0800"), &usual, &parsed, &place)
 CALLS_AT(gix_date_parse_carefully_at, TEXT("1 month 2 days ago"), &usual, &now, zone, &parsed,
@@ -118,6 +123,11 @@ CALL(gix_date_format_by_pattern_or_unix, &at, TEXT("%A %-d %B %Y, %H:%M"), out, 
 CALL(gix_date_cut_signature, TEXT("A U Thor <author@example.com> 1660797906 +0800"), &parts)
 CALL(gix_date_write_signature, TEXT("A U Thor"), TEXT("author@example.com"), &at, out, sizeof out,
      &len)
+CALL(gix_date_ident, TEXT("A U Thor <author@example.com> 1660797906 +0800"), &ident)
+CALL(gix_date_ident_time, &decimal, &parsed)
+CALL(gix_date_fsck, TEXT("A U Thor <author@example.com> 1660797906 +0800"), &place)
+CALL(gix_date_write_ident, TEXT(". A U Thor"), TEXT("<author@example.com>"), &at, out, sizeof out,
+     &len)
 CALLS_AT(git_date_parse_at, long_text, sizeof long_text, &now, zone, &exact, &place)
 CALLS_AT(git_date_approxidate_at, long_text, sizeof long_text, &now, zone, &guess, &place)
 CALLS_AT(git_date_expiry_at, long_text, sizeof long_text, &now, zone, &expiry, &place)
@@ -125,6 +135,9 @@ LINES_AT(git_date_parse_lines_at, long_text, sizeof long_text, &now, zone, CELL)
 LINES_AT(git_date_approxidate_lines_at, long_text, sizeof long_text, &now, zone, CELL)
 CALL(git_date_mode_named, TEXT("iso8601-strict-local"), &named)
 CALLS_AT(git_date_show_at, &at, &shown, &now, zone, out, sizeof out, &len)
+CALLS_AT(git_date_show_by_format, &at, TEXT(iso), true, zone, out, sizeof out, &len, &place)
+
+CALL(git_date_age_at, &at, &now, &age)
 
 static void *call_gix_date_zone_read_rule(void *status)
 {
@@ -136,6 +149,18 @@ static void *call_gix_date_zone_free(void *status)
 {
     gix_date_zone_free(&copy);
     *(uint32_t *)status = 0;
+    return NULL;
+}
+
+static void *call_git_date_offset_of_decimal(void *status)
+{
+    *(uint32_t *)status = git_date_offset_of_decimal(530) == 19800 ? 0 : 1;
+    return NULL;
+}
+
+static void *call_git_date_decimal_of_offset(void *status)
+{
+    *(uint32_t *)status = git_date_decimal_of_offset(19800) == 530 ? 0 : 1;
     return NULL;
 }
 
@@ -187,6 +212,7 @@ static const struct {
     ROW(gix_date_zone_read_rule),
     ROW(gix_date_zone_copy),
     ROW(gix_date_zone_free),
+    ROWS_AT(gix_date_offset_at),
     ROWS_AT(gix_date_parse_at),
     ROW(gix_date_parse_carefully),
     ROWS_AT(gix_date_parse_carefully_at),
@@ -199,6 +225,10 @@ static const struct {
     ROW(gix_date_format_by_pattern_or_unix),
     ROW(gix_date_cut_signature),
     ROW(gix_date_write_signature),
+    ROW(gix_date_ident),
+    ROW(gix_date_ident_time),
+    ROW(gix_date_fsck),
+    ROW(gix_date_write_ident),
     ROWS_AT(git_date_parse_at),
     ROWS_AT(git_date_approxidate_at),
     ROWS_AT(git_date_expiry_at),
@@ -206,6 +236,10 @@ static const struct {
     ROWS_AT(git_date_approxidate_lines_at),
     ROW(git_date_mode_named),
     ROWS_AT(git_date_show_at),
+    ROWS_AT(git_date_show_by_format),
+    ROW(git_date_age_at),
+    ROW(git_date_offset_of_decimal),
+    ROW(git_date_decimal_of_offset),
 };
 
 /* A text of 60000 bytes: words that Git passes over, and this date at its end. */

@@ -48,6 +48,9 @@ static uint32_t call(char kind, uint32_t format, const char *text, size_t len)
     case 'S':
         return git_date_show_at(&day, &(git_date_mode){format, true}, &now, &zone, out, sizeof out,
                                 &out_len);
+    case 'F':
+        return git_date_show_by_format(&day, text, len, false, &zone, out, sizeof out, &out_len,
+                                       &place);
     case 'Z':
         return gix_date_zone_read(bytes, bytes_len, &zone);
     default:

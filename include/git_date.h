@@ -7,7 +7,7 @@
  * gix_date.h says of texts, buffers, threads and memory holds here too.
  *
  * A call has a moment: the instant now in a zone, which gix_date.h tells how to make. A text without
- * an offset has that of the zone. No call takes memory.
+ * an offset has that of the zone. No call takes memory but git_date_show_by_format.
  *
  * The text of a date is any bytes, as in Git, and need not be UTF-8: a byte that is not ASCII is a
  * mark, which is passed over. But a NUL ends the text, where its length goes on: `ignored` is then the
@@ -29,7 +29,7 @@ extern "C" {
 #define GIT_DATE_MAX_SHOWN 31
 
 /* How a call ended: a status of gix_date.h, or one of these. After any but GIX_DATE_OK only *len
- * changes, and *place after the three that say so. */
+ * changes, and *place after the six that say so. */
 enum git_date_status {
     /* Git reads no date either: the text says no year, month or time of day, or none that Git
      * knows. */
@@ -42,8 +42,14 @@ enum git_date_status {
     GIT_DATE_YEAR_REFUSED = 21,
     /* The date is before 1970, or leads to an instant that cannot be computed with. When shown: Git
      * cannot show it, or it is beyond what is shown here: an age at a moment before 1970, an offset
-     * of 100 hours, or after 9999. */
-    GIT_DATE_RANGE = 22
+     * of 100 hours, or after 9999. By a format: seconds of a clock outside 1970 to 2099 also. */
+    GIT_DATE_RANGE = 22,
+    /* The directive at *place of a format has flags or a width, which s, z, Z and % do not take. */
+    GIT_DATE_FLAG_REFUSED = 24,
+    /* The directive at *place of a format is none that all C libraries show alike, or is cut off. */
+    GIT_DATE_UNKNOWN_DIRECTIVE = 25,
+    /* The width of the directive at *place of a format is above 255. */
+    GIT_DATE_WIDTH_TOO_LARGE = 26
 };
 
 /* What a status of either header means, in English; "unknown status" for another number. */
@@ -60,6 +66,12 @@ static inline const char *git_date_status_text(uint32_t status)
         return "the year of the date is refused: expected 1970 to 2099";
     case GIT_DATE_RANGE:
         return "the date is before 1970 or leads to an instant that cannot be computed with";
+    case GIT_DATE_FLAG_REFUSED:
+        return "a directive of the format takes no flags and no width";
+    case GIT_DATE_UNKNOWN_DIRECTIVE:
+        return "a directive of the format is unknown";
+    case GIT_DATE_WIDTH_TOO_LARGE:
+        return "a width of the format is above 255";
     default:
         return gix_date_status_text(status);
     }
@@ -110,6 +122,25 @@ typedef struct git_date_mode {
     bool local;    /* whether the clock is that of the moment's zone; else it is the time's own */
 } git_date_mode;
 
+/* The units of ages. */
+enum git_date_unit {
+    GIT_DATE_SECONDS = 0,
+    GIT_DATE_MINUTES = 1,
+    GIT_DATE_HOURS = 2,
+    GIT_DATE_DAYS = 3,
+    GIT_DATE_WEEKS = 4,
+    GIT_DATE_MONTHS = 5,
+    GIT_DATE_YEARS = 6,
+    GIT_DATE_FUTURE = 7 /* no age: the time is after the moment */
+};
+
+/* How long ago a time was, in the unit that Git chooses: "1 year, 2 months ago". */
+typedef struct git_date_age {
+    uint32_t unit;   /* of enum git_date_unit */
+    uint32_t count;  /* of the unit; 0 with GIT_DATE_FUTURE */
+    uint32_t months; /* beyond years; 0 with other units */
+} git_date_age;
+
 /* Reads a date as Git's exact reader does: GIT_COMMITTER_DATE, the date of a mail.
  * GIX_DATE_INVALID_ZONE, GIX_DATE_INVALID_INSTANT; GIT_DATE_UNREADABLE, GIT_DATE_NUMBER_TOO_LARGE,
  * GIT_DATE_YEAR_REFUSED, GIT_DATE_RANGE. */
@@ -150,7 +181,7 @@ size_t git_date_approxidate_lines_at(const char *block, size_t block_len,
                                      size_t *bytes);
 
 /* The mode of one of Git's names, in its letter case: "iso8601-strict-local", "local". Git's modes
- * "auto:" and "format:" have none. GIX_DATE_NOT_TEXT, GIX_DATE_NO_SUCH_OPTION. */
+ * "auto:" and "format:" have none: git_date_show_by_format shows by a format. GIX_DATE_NOT_TEXT, GIX_DATE_NO_SUCH_OPTION. */
 GIX_DATE_MUST_USE
 uint32_t git_date_mode_named(const char *name, size_t name_len, git_date_mode *mode);
 
@@ -161,6 +192,29 @@ GIX_DATE_MUST_USE
 uint32_t git_date_show_at(const gix_date_time *time, const git_date_mode *mode,
                           const gix_date_instant *now, gix_date_zone *zone, char *out,
                           size_t out_len, size_t *len);
+
+/* Writes a time as git log --date=format:FORMAT shows it, or format-local:FORMAT by the zone's clock.
+ * What may be between percent signs and letters is in docs/GIT_DATES.md. A place is that of a percent
+ * sign, in bytes from the format's start. GIX_DATE_INVALID_ZONE, GIX_DATE_NOT_TEXT,
+ * GIT_DATE_FLAG_REFUSED, GIT_DATE_UNKNOWN_DIRECTIVE, GIT_DATE_WIDTH_TOO_LARGE, GIT_DATE_RANGE,
+ * GIX_DATE_OUT_OF_MEMORY, GIX_DATE_NO_ROOM. */
+GIX_DATE_MUST_USE
+uint32_t git_date_show_by_format(const gix_date_time *time, const char *format, size_t format_len,
+                                 bool local, gix_date_zone *zone, char *out, size_t out_len,
+                                 size_t *len, size_t *place);
+
+/* The age that GIT_DATE_RELATIVE shows in English, for a program that says it in other words.
+ * GIX_DATE_INVALID_INSTANT; GIT_DATE_RANGE if the time or the moment is before 1970. */
+GIX_DATE_MUST_USE
+uint32_t git_date_age_at(const gix_date_time *time, const gix_date_instant *now,
+                         git_date_age *age);
+
+/* The offset that a number says as in Git's own code, where -130 is -0130: of hours, and two digits
+ * of minutes. One of more seconds than 2147483647 is that many, with which no date is shown. */
+int32_t git_date_offset_of_decimal(int32_t decimal);
+
+/* The number that says an offset so, without the seconds beyond whole minutes. */
+int32_t git_date_decimal_of_offset(int32_t offset);
 
 #ifdef __cplusplus
 }

@@ -5,8 +5,8 @@
  * pages are installed in share/doc/gix_date, with an example that finds the machine's zone, now.c.
  *
  * A text is UTF-8, given by a pointer and a length, and needs no NUL. Other bytes are refused by
- * GIX_DATE_NOT_TEXT or false, but for TZif files and the dates of git_date.h. With length 0 any pointer is valid; no other pointer is NULL. Outputs
- * overlap no other argument.
+ * GIX_DATE_NOT_TEXT or false, but for TZif files, identity lines and the dates of git_date.h. With
+ * length 0 any pointer is valid; no other pointer is NULL. Outputs overlap no other argument.
  *
  * A call that writes a text puts it at the front of a buffer, without a NUL, and its length into
  * *len. If the buffer is too short (GIX_DATE_NO_ROOM), *len is the length that is needed. After any
@@ -54,7 +54,7 @@ extern "C" {
 #define GIX_DATE_MAX_HEADER 26
 
 /* How a call ended. Each call lists the statuses that it answers beside GIX_DATE_OK. After these
- * only *len changes, and after GIX_DATE_UNCLEAR *place. */
+ * only *len changes, and after GIX_DATE_UNCLEAR *place. git_date.h has the numbers between. */
 enum gix_date_status {
     GIX_DATE_OK = 0,
     /* Bytes that have to be UTF-8 are not. */
@@ -82,7 +82,7 @@ enum gix_date_status {
     GIX_DATE_INVALID_ZONE = 10,
     /* The seconds are outside -377705023201 to 253402207200, or the offset is beyond 25:59:59. */
     GIX_DATE_CONVERSION = 11,
-    /* The offset is 100 hours or more. */
+    /* The offset is 100 hours or more, or for gix_date_ident_time more than 35791394 minutes. */
     GIX_DATE_OFFSET_TOO_WIDE = 12,
     /* The pattern cannot be printed. */
     GIX_DATE_PATTERN = 13,
@@ -96,9 +96,18 @@ enum gix_date_status {
      * its end is missing. No other status here has a place. */
     GIX_DATE_UNCLEAR = 17,
     /* The text is a number of seconds above 253402300799, the end of the year 9999, alone or before
-     * an offset, and without '@'. It may be milliseconds, or a date and a clock in digits alone.
-     * git_date.h has the numbers between. */
-    GIX_DATE_AFTER_YEAR_9999 = 23
+     * an offset, and without '@'. It may be milliseconds, or a date and a clock in digits alone. */
+    GIX_DATE_AFTER_YEAR_9999 = 23,
+    /* Git finds no identity in the line: no '<', or no '>' after the first. */
+    GIX_DATE_NO_IDENTITY = 27,
+    /* The name or the mail holds NUL, at which a text ends for Git. */
+    GIX_DATE_NUL_IN_PART = 28,
+    /* The name has no bytes. */
+    GIX_DATE_EMPTY_NAME = 29,
+    /* The name holds only bytes that Git cuts off its ends. */
+    GIX_DATE_ONLY_CRUD = 30,
+    /* The time is before 1970, so Git cannot write it. */
+    GIX_DATE_BEFORE_EPOCH = 31
 };
 
 /* What a status means, in English; "unknown status" for another number. */
@@ -143,8 +152,65 @@ static inline const char *gix_date_status_text(uint32_t status)
         return "the date is not clear: expected a date, or counts and whole units, then ago";
     case GIX_DATE_AFTER_YEAR_9999:
         return "seconds after the year 9999: perhaps milliseconds, or a date and a clock in digits alone";
+    case GIX_DATE_NO_IDENTITY:
+        return "no identity: expected a name, <, a mail and >";
+    case GIX_DATE_NUL_IN_PART:
+        return "a name or a mail holds NUL";
+    case GIX_DATE_EMPTY_NAME:
+        return "the name is empty";
+    case GIX_DATE_ONLY_CRUD:
+        return "the name consists only of disallowed characters";
+    case GIX_DATE_BEFORE_EPOCH:
+        return "a time before 1970 cannot be written";
     default:
         return "unknown status";
+    }
+}
+
+/* What git fsck says of an identity line: its first message that applies. */
+enum gix_date_fsck_message {
+    GIX_DATE_FSCK_PASSES = 0,
+    GIX_DATE_FSCK_NUL_IN_HEADER = 1,             /* the line holds NUL */
+    GIX_DATE_FSCK_MISSING_NAME_BEFORE_EMAIL = 2, /* it begins with '<' */
+    GIX_DATE_FSCK_BAD_NAME = 3,                  /* its first bracket is '>' */
+    GIX_DATE_FSCK_MISSING_EMAIL = 4,             /* it has no bracket */
+    GIX_DATE_FSCK_MISSING_SPACE_BEFORE_EMAIL = 5, /* no space stands directly before the first '<' */
+    GIX_DATE_FSCK_BAD_EMAIL = 6,                 /* the bracket after it is not '>', or there is none */
+    GIX_DATE_FSCK_MISSING_SPACE_BEFORE_DATE = 7, /* no space stands directly after that '>' */
+    GIX_DATE_FSCK_ZERO_PADDED_DATE = 8,          /* then '0' stands, and no space after it */
+    GIX_DATE_FSCK_BAD_DATE_OVERFLOW = 9,         /* the number there is 2^63 or more, or negative */
+    GIX_DATE_FSCK_BAD_DATE = 10,                 /* no number stands there, or no space after it */
+    GIX_DATE_FSCK_BAD_TIMEZONE = 11 /* what follows is not a sign and four digits to the line's end */
+};
+
+/* The ID of a message in Git, "badDate"; "" for another number. */
+static inline const char *gix_date_fsck_id(uint32_t message)
+{
+    switch (message) {
+    case GIX_DATE_FSCK_NUL_IN_HEADER:
+        return "nulInHeader";
+    case GIX_DATE_FSCK_MISSING_NAME_BEFORE_EMAIL:
+        return "missingNameBeforeEmail";
+    case GIX_DATE_FSCK_BAD_NAME:
+        return "badName";
+    case GIX_DATE_FSCK_MISSING_EMAIL:
+        return "missingEmail";
+    case GIX_DATE_FSCK_MISSING_SPACE_BEFORE_EMAIL:
+        return "missingSpaceBeforeEmail";
+    case GIX_DATE_FSCK_BAD_EMAIL:
+        return "badEmail";
+    case GIX_DATE_FSCK_MISSING_SPACE_BEFORE_DATE:
+        return "missingSpaceBeforeDate";
+    case GIX_DATE_FSCK_ZERO_PADDED_DATE:
+        return "zeroPaddedDate";
+    case GIX_DATE_FSCK_BAD_DATE_OVERFLOW:
+        return "badDateOverflow";
+    case GIX_DATE_FSCK_BAD_DATE:
+        return "badDate";
+    case GIX_DATE_FSCK_BAD_TIMEZONE:
+        return "badTimezone";
+    default:
+        return "";
     }
 }
 
@@ -222,6 +288,23 @@ typedef struct gix_date_signature {
     gix_date_span time;
 } gix_date_signature;
 
+/* A time as Git keeps it of an identity line: seconds from 1970 on, and the offset as one decimal
+ * number, hours before the last two digits, minutes in them. "+0530" is 530, and "+0060" is 60. */
+typedef struct gix_date_git_time {
+    int64_t seconds;
+    int32_t offset;
+} gix_date_git_time;
+
+/* What Git shows of an identity line. Where it shows no date, the seconds and the offset have no
+ * bytes, and the time is 0, 0. */
+typedef struct gix_date_ident_parts {
+    gix_date_span name;      /* may be empty */
+    gix_date_span mail;      /* may be empty */
+    gix_date_span seconds;   /* digits, as they are written */
+    gix_date_span offset;    /* a sign and digits, as they are written */
+    gix_date_git_time shown; /* the time of these */
+} gix_date_ident_parts;
+
 /* A zone. All zero it is UTC, and GIX_DATE_AT_OFFSET(7200) is the zone that is always two hours east
  * of it. These need no call, and may be copied. gix_date_zone_read makes any other.
  *
@@ -288,6 +371,12 @@ uint32_t gix_date_zone_copy(gix_date_zone *from, gix_date_zone *zone);
 
 /* Frees what a zone holds. It is UTC then, and may be freed again. */
 void gix_date_zone_free(gix_date_zone *zone);
+
+/* The offset of a zone at an instant, in seconds east of UTC. At the instant now it is that of a new
+ * commit. GIX_DATE_INVALID_ZONE, GIX_DATE_INVALID_INSTANT. */
+GIX_DATE_MUST_USE
+uint32_t gix_date_offset_at(const gix_date_instant *instant, gix_date_zone *zone,
+                            int32_t *offset);
 
 /* Parses as gix_date_parse does a text that may be relative to the moment now in a zone.
  * GIX_DATE_INVALID_ZONE, GIX_DATE_INVALID_INSTANT; GIX_DATE_NO_SUCH_OPTION, GIX_DATE_NOT_TEXT,
@@ -386,6 +475,30 @@ GIX_DATE_MUST_USE
 uint32_t gix_date_write_signature(const char *name, size_t name_len, const char *mail,
                                   size_t mail_len, const gix_date_time *time, char *out,
                                   size_t out_len, size_t *len);
+
+/* Reads an identity line as Git shows it: what stands after "author ", "committer " or "tagger ", to the
+ * first newline or NUL. The bytes need not be UTF-8. GIX_DATE_NO_IDENTITY. */
+GIX_DATE_MUST_USE
+uint32_t gix_date_ident(const char *text, size_t text_len, gix_date_ident_parts *ident);
+
+/* The time of what Git shows of an identity line. GIX_DATE_OFFSET_TOO_WIDE. */
+GIX_DATE_MUST_USE
+uint32_t gix_date_ident_time(const gix_date_git_time *shown, gix_date_time *time);
+
+/* What git fsck says of an identity line, which ends before the first newline: a number of enum
+ * gix_date_fsck_message. If it says something, *place is how many bytes stand before what is wrong: the
+ * NUL, the bracket, the line's end, the date or the offset. Else *place does not change. */
+GIX_DATE_MUST_USE
+uint32_t gix_date_fsck(const char *text, size_t text_len, size_t *place);
+
+/* Writes the identity line of a name, a mail and a time as Git does, without a newline: name and mail
+ * without crud at both ends, and then without '<', '>' and newlines. Crud is a byte from 1 to 32, and
+ * each of . , : ; < > " \ and '. They need not be UTF-8. GIX_DATE_NO_ROOM, GIX_DATE_NUL_IN_PART,
+ * GIX_DATE_EMPTY_NAME, GIX_DATE_ONLY_CRUD, GIX_DATE_BEFORE_EPOCH, GIX_DATE_OFFSET_TOO_WIDE. */
+GIX_DATE_MUST_USE
+uint32_t gix_date_write_ident(const char *name, size_t name_len, const char *mail,
+                              size_t mail_len, const gix_date_time *time, char *out,
+                              size_t out_len, size_t *len);
 
 #ifdef __cplusplus
 }

@@ -88,8 +88,8 @@ make_out() {
 }
 
 # Builds a crate by `rt` with words, after the libraries that it stands on. These go one by one, since `rt` would first read the sources of
-# all at once, and choose fewer processors for the small ones. What it prints goes to a log. Where a build fails, the log's last lines but
-# those that list what was done tell why.
+# all at once, and choose fewer processors for the small ones. Of a library above large ones it would choose one processor, for memory that
+# it does not take. What it prints goes to a log. Where a build fails, the log's last lines but those that list what was done tell why.
 build_crate() {
     top=$1 start=$(date +%s) number=0 jobs=$(nproc 2>/dev/null || getconf _NPROCESSORS_ONLN)
     shift
@@ -110,7 +110,7 @@ build_crate() {
         number=$((number + 1))
         place="crate $number of $total, $library"
         [ -t 2 ] || say "$place"
-        if [ "$library" = "$top" ]; then
+        if [ "$library" = "$top" ] && [ "$1" != lib ]; then
             run_rt "$library" "$@"
         else
             run_rt "$library" lib --jobs "$jobs"

@@ -69,6 +69,7 @@ work_there() {
     check_links "$usr"/share/doc/*/*.md
     ! grep -rlF -e "$room" -e "$PWD/" "$usr" || fail 'these files name a folder of the build'
     answers 0 $'canonical\n' "$usr/bin/gix_date_tool" check <<<'1660874655 +0800'
+    answers 1 $'missingEmail: A\n' "$usr/bin/git_ident" --lines <<<A
     as_a_command "$usr"
     links_there "$usr"
     [ ! -d "$top/python" ] || imports_there "$usr/lib/python3/dist-packages"

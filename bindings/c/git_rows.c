@@ -19,6 +19,9 @@ static const struct {
     {"BackTooFar", GIT_DATE_BACK_TOO_FAR, true},
     {"YearRefused", GIT_DATE_YEAR_REFUSED, true},
     {"Range", GIT_DATE_RANGE, false},
+    {"FlagRefused", GIT_DATE_FLAG_REFUSED, true},
+    {"UnknownDirective", GIT_DATE_UNKNOWN_DIRECTIVE, true},
+    {"WidthTooLarge", GIT_DATE_WIDTH_TOO_LARGE, true},
 };
 
 static const char *const kinds[] = {"relative", "iso8601-strict", "iso8601", "rfc2822", "short",
@@ -149,6 +152,66 @@ static void show_in(gix_date_time time, git_date_mode mode, const gix_date_insta
     is_refused_at(status, untouched.place, told);
 }
 
+/* What a format shows, by the zone's clock or not. A buffer that is one byte too short has to stay as it is. */
+static void show_by_format_in(gix_date_time time, field format, bool local, gix_date_zone *in,
+                              answer *told)
+{
+    size_t place = untouched.place, room, needed = 0;
+    char *const out = told->bytes;
+    uint32_t status = git_date_show_by_format(&time, TEXT(format), local, in, out, MAX_ANSWER,
+                                              &told->len, &place);
+    if (is_refused_at(status, place, told) || told->len == 0)
+        return;
+    room = told->len - 1;
+    char *const small = calloc(told->len, 1);
+    status = git_date_show_by_format(&time, TEXT(format), local, in, small, room, &needed, &place);
+    if (status != GIX_DATE_NO_ROOM || needed != told->len || small[0] || place != untouched.place)
+        tell_apart(told);
+    free(small);
+}
+
+/* Tells an age in the words of Git. */
+static void tell_age(gix_date_time time, const gix_date_instant *now, answer *told)
+{
+    static const char *const units[] = {"second", "minute", "hour", "day", "week", "month", "year"};
+    git_date_age age;
+    if (is_refused_at(git_date_age_at(&time, now, &age), untouched.place, told))
+        return;
+    if (age.unit == GIT_DATE_FUTURE)
+        tell(told, "in the future");
+    else if (age.months > 0)
+        tell(told, "%u year%s, %u month%s ago", (unsigned)age.count, age.count == 1 ? "" : "s",
+             (unsigned)age.months, age.months == 1 ? "" : "s");
+    else
+        tell(told, "%u %s%s ago", (unsigned)age.count, units[age.unit], age.count == 1 ? "" : "s");
+}
+
+/* Tells a time with the offset that it has in a zone, or with its own, by the number of Git for this offset. */
+static void tell_raw(gix_date_time time, bool local, gix_date_zone *in, answer *told)
+{
+    const gix_date_instant instant = {time.seconds, 0};
+    if (local && is_refused_at(gix_date_offset_at(&instant, in, &time.offset), untouched.place, told))
+        return;
+    const int32_t decimal = git_date_decimal_of_offset(time.offset);
+    tell(told, "%" PRId64 " %+05" PRId32, time.seconds, decimal);
+    if (git_date_offset_of_decimal(decimal) != time.offset - time.offset % 60)
+        tell_apart(told);
+}
+
+/* The other calls say what a mode shows of a time. Git knows no offset of a zone before 1970 and after 2099. */
+static void show_otherwise(gix_date_time time, git_date_mode mode, const gix_date_instant *now,
+                           gix_date_zone *in, answer *told)
+{
+    const int64_t last_of_2099 = 4102444799, day = 86400;
+    answer other = *told;
+    if (mode.kind == GIT_DATE_RELATIVE)
+        tell_age(time, now, &other);
+    else if (mode.kind == GIT_DATE_RAW && !told->refused && day <= time.seconds &&
+             time.seconds <= last_of_2099 - day)
+        tell_raw(time, mode.local, in, &other);
+    agree(told, &other);
+}
+
 /* Puts in the place of a zone what means the same: the rule that always has its offset, within a day, or else
  * a copy. */
 static void in_other_words(field name, gix_date_zone *zone)
@@ -225,8 +288,34 @@ static bool show_row(arguments *row, answer *told)
     show_in(time, mode, &now, &zone, told);
     show_in(time, mode, &now, &zone, &other);
     agree(told, &other);
+    show_otherwise(time, mode, &now, &zone, told);
     in_other_words(zone_name, &zone);
     show_in(time, mode, &now, &zone, &other);
+    agree(told, &other);
+    gix_date_zone_free(&zone);
+    return true;
+}
+
+/* Shows the time of a row by the format before it. A moment has to be there, of which only the zone counts. */
+static bool show_by_format_row(arguments *row, answer *told)
+{
+    gix_date_instant now;
+    gix_date_time time;
+    gix_date_zone zone;
+    answer other;
+    field format = take(row), clock = take(row), moment = take(row), zone_name;
+    bool local = !strcmp(clock.bytes, "local");
+    if ((!local && strcmp(clock.bytes, "own")) || !to_moment(moment, &now, &zone_name) ||
+        !take_time(row, &time))
+        return false;
+    if (is_no_zone(read_zone(zone_name, &zone), told))
+        return true;
+    show_by_format_in(time, format, local, &zone, told);
+    show_by_format_in(time, format, local, &zone, &other);
+    agree(told, &other);
+    /* A rule has another abbreviation than the offset. */
+    in_copy(&zone);
+    show_by_format_in(time, format, local, &zone, &other);
     agree(told, &other);
     gix_date_zone_free(&zone);
     return true;
@@ -266,6 +355,8 @@ enum outcome git_call(const char *name, arguments *row, answer *told)
             is_right = read_row(readers[i].reader, readers[i].asked, row, told);
     if (!strcmp(name, "show_date"))
         is_right = show_row(row, told);
+    if (!strcmp(name, "show_by_format"))
+        is_right = show_by_format_row(row, told);
     if (!strcmp(name, "date_mode")) {
         mode_row(take(row), told);
         is_right = true;

@@ -380,7 +380,178 @@ static void refused_to_show(void)
     EXPECT(len == 0 && is_untouched(buffer, sizeof buffer), "a refusal stores nothing");
 }
 
+/* A format, and what it shows of 1251660000 +0200 by its own clock and by New York's. */
+typedef struct by_format {
+    const char *format, *own, *local;
+} by_format;
+
+static const gix_date_time evening = {1251660000, 7200};
+
+/* A buffer of each length, too short or not, for the text that is due. */
+static void expect_by_format(gix_date_time time, const char *format, const char *due, bool local,
+                             gix_date_zone *zone)
+{
+    for (size_t room = 0; room <= strlen(due) + 1; room++) {
+        char *buffer = malloc(room + 1);
+        size_t len = 99, place = NO_PLACE;
+        memset(buffer, '#', room + 1);
+        bool fits = room >= strlen(due);
+        uint32_t status = git_date_show_by_format(&time, TEXT(format), local, zone, buffer, room,
+                                                  &len, &place);
+        EXPECT(status == (fits ? GIX_DATE_OK : GIX_DATE_NO_ROOM) && len == strlen(due) &&
+                   place == NO_PLACE,
+               "%s: %u, %zu", format, status, len);
+        EXPECT(fits ? holds(buffer, room + 1, due, len) : is_untouched(buffer, room + 1), "%s",
+               format);
+        free(buffer);
+    }
+}
+
+static void formats(void)
+{
+    static const by_format rows[] = {
+        {"%Y-%m-%d %H:%M:%S %z", "2009-08-30 21:20:00 +0200", "2009-08-30 15:20:00 -0400"},
+        {"[%Z] %s", "[] 1251660000", "[EDT] 1251660000"},
+        {"%l:%M%P %-I %5e %-5e %05e", " 9:20pm 9    30    30 00030", " 3:20pm 3    30    30 00030"},
+        {"%G-W%V-%u %U %W %j", "2009-W35-7 35 34 242", "2009-W35-7 35 34 242"},
+        {"%%%n%t", "%\n\t", "%\n\t"},
+        {"", "", ""},
+    };
+    gix_date_zone rule = zone_of(TEXT(new_york)), file = zone_of(BYTES(zone_file));
+    for (size_t i = 0; i < sizeof rows / sizeof *rows; i++) {
+        expect_by_format(evening, rows[i].format, rows[i].own, false, AT(93599));
+        expect_by_format(evening, rows[i].format, rows[i].own, false, &file);
+        expect_by_format(evening, rows[i].format, rows[i].local, true, &rule);
+    }
+    expect_by_format((gix_date_time){1688227200, 0}, "%T %z %Z", "12:00:00 -0400 EDT", true, &file);
+    expect_by_format(evening, "%T %z %Z", "21:20:00 +0200 +02", true, AT(7200));
+    gix_date_zone_free(&rule);
+    gix_date_zone_free(&file);
+}
+
+static void refused_formats(void)
+{
+    static const struct {
+        const char *format;
+        int64_t seconds;
+        int32_t offset;
+        uint32_t status;
+        size_t place;
+    } rows[] = {
+        {"%Y %-s", 0, 0, GIT_DATE_FLAG_REFUSED, 3},
+        {"%F%E", -1, 30, GIT_DATE_UNKNOWN_DIRECTIVE, 2},
+        {"%q%256d", 0, 0, GIT_DATE_UNKNOWN_DIRECTIVE, 0},
+        {"100%% %256d", 0, 0, GIT_DATE_WIDTH_TOO_LARGE, 6},
+        {"%Y", -1, 0, GIT_DATE_RANGE, NO_PLACE},
+        {"%Y", 1251660000, 30, GIT_DATE_RANGE, NO_PLACE},
+        {"%s", 4102444800, 0, GIT_DATE_RANGE, NO_PLACE},
+        {"\xff%q", 0, 0, GIX_DATE_NOT_TEXT, NO_PLACE},
+    };
+    char out[32];
+    memset(out, '#', sizeof out);
+    for (size_t i = 0; i < sizeof rows / sizeof *rows; i++) {
+        const gix_date_time time = {rows[i].seconds, rows[i].offset};
+        size_t len = 99, place = NO_PLACE;
+        uint32_t status = git_date_show_by_format(&time, TEXT(rows[i].format), false, AT(0), out,
+                                                  sizeof out, &len, &place);
+        EXPECT(status == rows[i].status && len == 0 && place == rows[i].place, "%s: %u, %zu",
+               rows[i].format, status, place);
+        EXPECT(git_date_show_by_format(&time, TEXT(rows[i].format), true, AT(93600), out, sizeof out,
+                                       &len, &place) == GIX_DATE_INVALID_ZONE,
+               "the zone is looked at first");
+    }
+    EXPECT(is_untouched(out, sizeof out), "a refusal stores nothing");
+}
+
+/* Ages as Git shows them at 1251660000, and what of them is stored. */
+static void ages(void)
+{
+    static const struct {
+        int64_t seconds;
+        git_date_age age;
+    } rows[] = {
+        {1251659999, {GIT_DATE_SECONDS, 1, 0}},   {1251659880, {GIT_DATE_MINUTES, 2, 0}},
+        {1251652800, {GIT_DATE_HOURS, 2, 0}},     {1251448277, {GIT_DATE_DAYS, 2, 0}},
+        {1245695181, {GIT_DATE_WEEKS, 10, 0}},    {1241829365, {GIT_DATE_MONTHS, 4, 0}},
+        {1214160000, {GIT_DATE_YEARS, 1, 2}},     {1188674400, {GIT_DATE_YEARS, 2, 0}},
+        {1251660001, {GIT_DATE_FUTURE, 0, 0}},
+    };
+    static const gix_date_instant odd = {0, 1000000000}, early = {-1, 0}, part = {1251660000, -1};
+    static const gix_date_time before = {-1, 0}, second = {1251659999, 0};
+    git_date_age age;
+    for (size_t i = 0; i < sizeof rows / sizeof *rows; i++) {
+        const gix_date_time time = {rows[i].seconds, 3600};
+        const git_date_age due = rows[i].age;
+        age = (git_date_age){99, 99, 99};
+        EXPECT(git_date_age_at(&time, &sunday, &age) == GIX_DATE_OK && age.unit == due.unit &&
+                   age.count == due.count && age.months == due.months,
+               "%lld: %u %u %u", (long long)time.seconds, age.unit, age.count, age.months);
+    }
+    EXPECT(git_date_age_at(&second, &part, &age) == GIX_DATE_OK && age.unit == GIT_DATE_SECONDS &&
+               age.count == 0,
+           "a part of a second: %u", age.count);
+    age = (git_date_age){99, 99, 99};
+    EXPECT(git_date_age_at(&before, &sunday, &age) == GIT_DATE_RANGE, "a time before 1970");
+    EXPECT(git_date_age_at(&second, &early, &age) == GIT_DATE_RANGE, "a moment before 1970");
+    EXPECT(git_date_age_at(&before, &odd, &age) == GIX_DATE_INVALID_INSTANT, "no moment");
+    EXPECT(age.unit == 99 && age.count == 99 && age.months == 99, "a refusal stores nothing");
+}
+
+/* Offsets and their numbers: +0530, -0130, 100 hours, and what no offset of minutes says. */
+static void decimal_offsets(void)
+{
+    static const int32_t both[][2] = {
+        {0, 0}, {530, 19800}, {-130, -5400}, {1, 60}, {-1, -60}, {10000, 360000}, {-9959, -359940},
+        {59652314, 2147483640}, {-59652314, -2147483640},
+    };
+    static const int32_t read[][2] = {{60, 3600}, {-90, -5400}, {59652315, INT32_MAX},
+                                      {INT32_MAX, INT32_MAX}, {INT32_MIN, -INT32_MAX}};
+    static const int32_t told[][2] = {{59, 0}, {-59, 0}, {3661, 101}, {INT32_MAX, 59652314},
+                                      {INT32_MIN, -59652314}};
+    for (size_t i = 0; i < sizeof both / sizeof *both; i++) {
+        EXPECT(git_date_offset_of_decimal(both[i][0]) == both[i][1], "%d", both[i][0]);
+        EXPECT(git_date_decimal_of_offset(both[i][1]) == both[i][0], "%d", both[i][1]);
+    }
+    for (size_t i = 0; i < sizeof read / sizeof *read; i++)
+        EXPECT(git_date_offset_of_decimal(read[i][0]) == read[i][1], "%d", read[i][0]);
+    for (size_t i = 0; i < sizeof told / sizeof *told; i++)
+        EXPECT(git_date_decimal_of_offset(told[i][0]) == told[i][1], "%d", told[i][0]);
+}
+
 enum { LONG = 60000 };
+
+/* A format of 60000 bytes shows 2,550,000, for which there may be no memory. */
+static void long_formats(void)
+{
+    static const gix_date_time day = {1251660000, 0};
+    static char format[LONG], out[LONG / 6 * 255];
+    size_t len = 99, place = NO_PLACE;
+    for (size_t i = 0; i < LONG; i++)
+        format[i] = "%0255d"[i % 6];
+    EXPECT(git_date_show_by_format(&day, format, LONG, false, AT(0), out, sizeof out, &len,
+                                   &place) == GIX_DATE_OK &&
+               len == sizeof out && !memcmp(out + len - 4, "0030", 4),
+           "%zu", len);
+    EXPECT(git_date_show_by_format(&day, format, LONG, false, AT(0), out, sizeof out - 1, &len,
+                                   &place) == GIX_DATE_NO_ROOM &&
+               len == sizeof out,
+           "%zu", len);
+    size_t before = so_far().requests;
+    EXPECT(git_date_show_by_format(&day, format, LONG, false, AT(0), NULL, 0, &len, &place) ==
+               GIX_DATE_NO_ROOM,
+           "%zu", len);
+    size_t requests = so_far().requests - before;
+    EXPECT(requests > 0, "%zu", requests);
+    for (size_t i = 1; i <= requests; i++) {
+        len = 99;
+        refuse_after(i - 1);
+        uint32_t status = git_date_show_by_format(&day, format, LONG, false, AT(0), out, sizeof out,
+                                                  &len, &place);
+        refuse_after(SIZE_MAX);
+        EXPECT(status == GIX_DATE_OUT_OF_MEMORY && len == 0, "request %zu: %u", i, status);
+    }
+    EXPECT(place == NO_PLACE, "%zu", place);
+}
 
 /* Pieces that fill 60000 bytes before a date, which Git reads all the same, exactly but for one. */
 static void long_texts(void)
@@ -426,6 +597,11 @@ static void status_texts(void)
         "the year of the date is refused: expected 1970 to 2099",
         "the date is before 1970 or leads to an instant that cannot be computed with",
     };
+    static const char *const of_formats[] = {
+        "a directive of the format takes no flags and no width",
+        "a directive of the format is unknown",
+        "a width of the format is above 255",
+    };
     const uint32_t first = GIX_DATE_UNCLEAR + 1;
     for (uint32_t status = 0; status < first; status++)
         EXPECT(git_date_status_text(status) == gix_date_status_text(status) ||
@@ -437,7 +613,9 @@ static void status_texts(void)
                !strcmp(git_date_status_text(GIX_DATE_AFTER_YEAR_9999),
                        gix_date_status_text(GIX_DATE_AFTER_YEAR_9999)),
            "the number after the last of this header");
-    EXPECT(!strcmp(git_date_status_text(GIX_DATE_AFTER_YEAR_9999 + 1), "unknown status"),
+    for (uint32_t i = 0; i < sizeof of_formats / sizeof *of_formats; i++)
+        EXPECT(!strcmp(git_date_status_text(GIT_DATE_FLAG_REFUSED + i), of_formats[i]), "%u", i);
+    EXPECT(!strcmp(git_date_status_text(GIX_DATE_BEFORE_EPOCH + 1), "unknown status"),
            "the number after the last");
 }
 
@@ -449,6 +627,7 @@ static void *reads_and_shows(void *unused)
         approximate_dates();
         expiries();
         modes();
+        formats();
         char out[GIT_DATE_MAX_SHOWN];
         size_t len;
         gix_date_zone zone = zone_of(BYTES(zone_file));
@@ -471,8 +650,13 @@ int main(void)
     without_memory(null_pointers, "texts at NULL");
     without_memory(modes, "modes");
     without_memory(refused_to_show, "dates that are not shown");
+    without_memory(ages, "ages");
+    without_memory(decimal_offsets, "decimal offsets");
     without_memory(long_texts, "long texts");
+    without_memory(refused_formats, "formats that are refused");
     shown_dates();
+    formats();
+    long_formats();
     dates_in_new_york();
     in_threads(reads_and_shows);
     if (failures > 0)

@@ -60,7 +60,7 @@ static uint32_t read_zone_file(const char *path, gix_date_zone *zone)
 {
     uint32_t status = GIX_DATE_INVALID_ZONE;
     int file = open_zone_file(path);
-    char *bytes = file < 0 ? NULL : malloc(MOST_ZONE_BYTES + 1);
+    char *bytes = file < 0 ? NULL : (char *)malloc(MOST_ZONE_BYTES + 1);
     if (file >= 0 && !bytes)
         status = GIX_DATE_OUT_OF_MEMORY;
     size_t len = bytes ? read_bytes(file, bytes, MOST_ZONE_BYTES + 1) : 0;
@@ -114,7 +114,7 @@ static uint32_t read_machine_zone(gix_date_zone *zone)
     gix_date_zone_free(zone);
     if (!name) {
         status = read_zone_file("/etc/localtime", zone);
-        return status == GIX_DATE_INVALID_ZONE ? GIX_DATE_OK : status;
+        return status == GIX_DATE_INVALID_ZONE ? (uint32_t)GIX_DATE_OK : status;
     }
     if (*name == ':')
         name++;
@@ -123,7 +123,7 @@ static uint32_t read_machine_zone(gix_date_zone *zone)
     if (*name != '/' && leads_out(name))
         return GIX_DATE_INVALID_ZONE;
     int len = snprintf(path, sizeof path, *name == '/' ? "%s" : ZONE_FILES "/%s", name);
-    status = len < (int)sizeof path ? read_zone_file(path, zone) : GIX_DATE_INVALID_ZONE;
+    status = len < (int)sizeof path ? read_zone_file(path, zone) : (uint32_t)GIX_DATE_INVALID_ZONE;
     return status == GIX_DATE_INVALID_ZONE ? read_zone_rule(name, zone) : status;
 }
 

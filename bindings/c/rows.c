@@ -45,10 +45,15 @@ static const struct {
       {"BadPart", GIX_DATE_BAD_PART},
       {"Unclear", GIX_DATE_UNCLEAR},
       {"AfterYear9999", GIX_DATE_AFTER_YEAR_9999},
+      {"NoIdentity", GIX_DATE_NO_IDENTITY},
+      {"NulInPart", GIX_DATE_NUL_IN_PART},
+      {"EmptyName", GIX_DATE_EMPTY_NAME},
+      {"OnlyCrud", GIX_DATE_ONLY_CRUD},
+      {"BeforeEpoch", GIX_DATE_BEFORE_EPOCH},
 };
 
 /* Calls that other callers of the rows have, and this library has not. */
-static const char *const lacking[] = {"to_zoned", "now_local", "ident", "ident_label", "ident_offset", "git_time", "ident_time", "fsck_of", "write_ident", "show_by_format"};
+static const char *const lacking[] = {"to_zoned", "now_local"};
 
 static void fail(const char *what, const char *which)
 {
@@ -463,6 +468,99 @@ static bool write_signature(arguments *row, answer *told)
     return true;
 }
 
+static void add(answer *told, field line, gix_date_span part)
+{
+    memcpy(told->bytes + told->len, line.bytes + part.start, part.len);
+    told->len += part.len;
+}
+
+/* The parts of a line that Git shows, with these two texts after its name and its mail; then the
+ * seconds or nothing. */
+static void ident(field line, const char *opening, bool has_seconds, answer *told)
+{
+    gix_date_ident_parts parts;
+    if (is_refused(gix_date_ident(TEXT(line), &parts), told))
+        return;
+    told->len = 0;
+    add(told, line, parts.name);
+    memcpy(told->bytes + told->len, opening, strlen(opening));
+    told->len += strlen(opening);
+    add(told, line, parts.mail);
+    told->bytes[told->len++] = '>';
+    if (has_seconds)
+        add(told, line, parts.seconds);
+}
+
+/* Reads the date of a line; what Git shows where it shows none is nothing and 0, 0. */
+static bool has_date(field line, gix_date_ident_parts *parts, answer *told)
+{
+    if (is_refused(gix_date_ident(TEXT(line), parts), told))
+        return false;
+    if (parts->seconds.len > 0 && parts->offset.len > 1)
+        return true;
+    told->refused = true;
+    tell(told, "%s", "NoDate");
+    if (parts->seconds.len > 0 || parts->offset.len > 0 || parts->shown.seconds != 0 || parts->shown.offset != 0)
+        tell_apart(told);
+    return false;
+}
+
+static void ident_date(const char *name, field line, answer *told)
+{
+    gix_date_ident_parts parts;
+    gix_date_time time = no_time;
+    if (!has_date(line, &parts, told))
+        return;
+    told->len = 0;
+    if (!strcmp(name, "ident_offset"))
+        add(told, line, parts.offset);
+    else if (!strcmp(name, "git_time"))
+        tell(told, "%" PRId64 " %+05" PRId32, parts.shown.seconds, parts.shown.offset);
+    else
+        tell_time(gix_date_ident_time(&parts.shown, &time), time, told);
+}
+
+/* The ID of what fsck says, and whether it has a place in the line where it says something. */
+static void fsck_of(field line, answer *told)
+{
+    size_t place = no_place;
+    uint32_t message = gix_date_fsck(TEXT(line), &place);
+    told->refused = false;
+    tell(told, "%s", message == GIX_DATE_FSCK_PASSES ? "none" : gix_date_fsck_id(message));
+    if (message == GIX_DATE_FSCK_PASSES ? place != no_place : place > line.len)
+        tell_apart(told);
+}
+
+static bool write_ident(arguments *row, answer *told)
+{
+    field name = take(row), mail = take(row);
+    gix_date_time time;
+    if (!take_time(row, &time))
+        return false;
+    char *out = told->bytes;
+    is_refused(gix_date_write_ident(TEXT(name), TEXT(mail), &time, out, MAX_ANSWER, &told->len),
+               told);
+    return true;
+}
+
+/* Makes a call for identity lines that a row names. */
+static enum outcome ident_call(const char *name, arguments *row, answer *told)
+{
+    if (!strcmp(name, "ident"))
+        ident(take(row), "<", true, told);
+    else if (!strcmp(name, "ident_label"))
+        ident(take(row), " <", false, told);
+    else if (!strcmp(name, "ident_offset") || !strcmp(name, "git_time") || !strcmp(name, "ident_time"))
+        ident_date(name, take(row), told);
+    else if (!strcmp(name, "fsck_of"))
+        fsck_of(take(row), told);
+    else if (!strcmp(name, "write_ident"))
+        return write_ident(row, told) ? ANSWERED : MALFORMED;
+    else
+        return git_call(name, row, told);
+    return ANSWERED;
+}
+
 static bool header_text(arguments *row, answer *told)
 {
     gix_date_time time;
@@ -512,8 +610,10 @@ static enum outcome call(arguments *row, answer *told)
         signature_time(take(row), told);
     else if (!strcmp(name, "write_signature"))
         is_right = write_signature(row, told);
-    else
-        return git_call(name, row, told);
+    else {
+        enum outcome outcome = ident_call(name, row, told);
+        return outcome == ANSWERED && row->taken != row->count ? MALFORMED : outcome;
+    }
     return is_right && row->taken == row->count ? ANSWERED : MALFORMED;
 }
 

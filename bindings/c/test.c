@@ -23,6 +23,7 @@ static void null_pointers(void)
     static const gix_date_careful_options options = {0, 0, 0};
     gix_date_time time = untouched;
     gix_date_signature parts;
+    gix_date_ident_parts ident;
     size_t len = 99, place = 99;
     EXPECT(gix_date_parse_header(NULL, 0, &time) == GIX_DATE_INVALID_TIME, "a header");
     EXPECT(!gix_date_is_canonical_header(NULL, 0), "a header");
@@ -33,8 +34,13 @@ static void null_pointers(void)
     EXPECT(gix_date_parse_carefully(NULL, 0, &options, &time, &place) == GIX_DATE_UNKNOWN_FORMAT,
            "a date");
     EXPECT(gix_date_cut_signature(NULL, 0, &parts) == GIX_DATE_NO_SIGNATURE, "a line");
+    EXPECT(gix_date_ident(NULL, 0, &ident) == GIX_DATE_NO_IDENTITY, "a line");
     EXPECT(place == 99, "a refusal stores no place");
+    EXPECT(gix_date_fsck(NULL, 0, &place) == GIX_DATE_FSCK_MISSING_EMAIL && place == 0, "a line");
     EXPECT(is_time(time, untouched.seconds, untouched.offset), "a refusal stores nothing");
+    EXPECT(gix_date_write_ident(NULL, 0, NULL, 0, &day, NULL, 0, &len) == GIX_DATE_EMPTY_NAME &&
+               len == 0,
+           "%zu", len);
     EXPECT(gix_date_write_header(&day, NULL, 0, &len) == GIX_DATE_NO_ROOM && len == 16, "%zu", len);
     EXPECT(gix_date_write_signature(NULL, 0, NULL, 0, &day, NULL, 0, &len) == GIX_DATE_NO_ROOM &&
                len == 20,
@@ -354,6 +360,35 @@ static void zones_are_read(void)
     EXPECT(is_at(&zone, 0), "freed twice");
 }
 
+/* Offsets of New York, which goes back to -05:00 at 1699164000, and what has none. */
+static void offsets(void)
+{
+    static const struct {
+        gix_date_instant instant;
+        int32_t offset;
+    } rows[] = {{{1688227200, 0}, -14400}, {{1699163999, 999999999}, -14400}, {{1699164000, 0}, -18000},
+                {{1699164000, -1}, -14400}, {{253402207200, 0}, -18000}};
+    static const gix_date_instant now = {1698400800, 0}, odd = {0, 1000000000};
+    gix_date_zone zones[] = {zone_of(TEXT(new_york)), zone_of(BYTES(zone_file))};
+    int32_t offset = 99;
+    for (size_t i = 0; i < sizeof zones / sizeof *zones; i++) {
+        for (size_t k = 0; k < sizeof rows / sizeof *rows; k++) {
+            const demand before = so_far();
+            EXPECT(gix_date_offset_at(&rows[k].instant, &zones[i], &offset) == GIX_DATE_OK &&
+                       offset == rows[k].offset,
+                   "%lld: %d", (long long)rows[k].instant.seconds, (int)offset);
+            expect_demand(before, none, "an offset");
+        }
+        EXPECT(is_new_york(&zones[i]), "the zone is as it was");
+        gix_date_zone_free(&zones[i]);
+    }
+    EXPECT(gix_date_offset_at(&now, AT(-16200), &offset) == GIX_DATE_OK && offset == -16200,
+           "%d", (int)offset);
+    EXPECT(gix_date_offset_at(&odd, AT(93600), &offset) == GIX_DATE_INVALID_ZONE, "no zone");
+    EXPECT(gix_date_offset_at(&odd, AT(0), &offset) == GIX_DATE_INVALID_INSTANT, "no instant");
+    EXPECT(offset == -16200, "a refusal stores nothing");
+}
+
 /* Texts that name no zone, after which a zone is as it was. */
 static void refused_zones(void)
 {
@@ -655,6 +690,113 @@ static void signatures(void)
     EXPECT(holds(buffer, sizeof buffer, " <> 1660874655 +0800", len), "empty parts");
 }
 
+static void identities(void)
+{
+    const char *line = "J\xf6rg  <j@e> <b>  05 +0530 x\nA <a> 5 +0000";
+    gix_date_ident_parts parts, same = {{9, 9}, {9, 9}, {9, 9}, {9, 9}, {9, 9}};
+    EXPECT(gix_date_ident(TEXT(line), &parts) == GIX_DATE_OK, "%s", line);
+    EXPECT(is_part(line, parts.name, "J\xf6rg") && is_part(line, parts.mail, "j@e"), "%s", line);
+    EXPECT(is_part(line, parts.seconds, "05") && is_part(line, parts.offset, "+0530"), "%s", line);
+    EXPECT(parts.shown.seconds == 5 && parts.shown.offset == 530, "%s", line);
+    EXPECT(gix_date_ident(TEXT("A <a> 5"), &parts) == GIX_DATE_OK, "no date");
+    EXPECT(parts.seconds.len == 0 && parts.offset.len == 0 && parts.shown.seconds == 0 &&
+               parts.shown.offset == 0,
+           "no date");
+    EXPECT(gix_date_ident(TEXT("A <a> 9223372036854775808 -0130"), &parts) == GIX_DATE_OK &&
+               parts.seconds.len == 19 && parts.offset.len == 5 && parts.shown.seconds == 0 &&
+               parts.shown.offset == 0,
+           "too many seconds");
+    EXPECT(gix_date_ident(TEXT("A a> 5 +0000"), &same) == GIX_DATE_NO_IDENTITY, "no identity");
+    EXPECT(same.name.start == 9 && same.offset.len == 9 && same.shown.seconds == 9,
+           "a refusal stores nothing");
+
+    static const gix_date_git_time minutes = {5, 60}, widest = {5, -59652314}, wide = {5, 59652315};
+    gix_date_time time = untouched;
+    EXPECT(gix_date_ident_time(&wide, &time) == GIX_DATE_OFFSET_TOO_WIDE &&
+               is_time(time, untouched.seconds, untouched.offset),
+           "wide");
+    EXPECT(gix_date_ident_time(&minutes, &time) == GIX_DATE_OK && is_time(time, 5, 3600), "+0060");
+    EXPECT(gix_date_ident_time(&widest, &time) == GIX_DATE_OK && is_time(time, 5, -2147483640),
+           "%d", (int)time.offset);
+}
+
+/* What fsck says, and where. */
+static void messages(void)
+{
+    static const struct {
+        const char *line, *id;
+        uint32_t message;
+        size_t place;
+    } rows[] = {
+        {"<a> 5 +0000", "missingNameBeforeEmail", GIX_DATE_FSCK_MISSING_NAME_BEFORE_EMAIL, 0},
+        {"A >a< 5 +0000", "badName", GIX_DATE_FSCK_BAD_NAME, 2},
+        {"A a 5 +0000", "missingEmail", GIX_DATE_FSCK_MISSING_EMAIL, 11},
+        {"A<a> 5 +0000", "missingSpaceBeforeEmail", GIX_DATE_FSCK_MISSING_SPACE_BEFORE_EMAIL, 1},
+        {"A <a<b> 5 +0000", "badEmail", GIX_DATE_FSCK_BAD_EMAIL, 4},
+        {"A <a>5 +0000", "missingSpaceBeforeDate", GIX_DATE_FSCK_MISSING_SPACE_BEFORE_DATE, 5},
+        {"A <a> 05 +0000", "zeroPaddedDate", GIX_DATE_FSCK_ZERO_PADDED_DATE, 6},
+        {"A <a> -5 +0000", "badDateOverflow", GIX_DATE_FSCK_BAD_DATE_OVERFLOW, 6},
+        {"A <a> \n5 +0000", "badDate", GIX_DATE_FSCK_BAD_DATE, 6},
+        {"A <a> 5 +00000", "badTimezone", GIX_DATE_FSCK_BAD_TIMEZONE, 8},
+    };
+    size_t place = 99;
+    for (size_t i = 0; i < sizeof rows / sizeof *rows; i++) {
+        uint32_t message = gix_date_fsck(TEXT(rows[i].line), &place);
+        EXPECT(message == rows[i].message && place == rows[i].place, "%s: %u at %zu", rows[i].line,
+               message, place);
+        EXPECT(strcmp(gix_date_fsck_id(message), rows[i].id) == 0, "%s", rows[i].line);
+    }
+    EXPECT(gix_date_fsck(BYTES("A\0<a> 5 +0000"), &place) == GIX_DATE_FSCK_NUL_IN_HEADER &&
+               place == 1 && strcmp(gix_date_fsck_id(1), "nulInHeader") == 0,
+           "NUL");
+    place = 99;
+    EXPECT(gix_date_fsck(TEXT("\xff <\xff> +5 +0060\n<"), &place) == GIX_DATE_FSCK_PASSES && place == 99,
+           "it passes");
+    EXPECT(!*gix_date_fsck_id(0) && !*gix_date_fsck_id(12), "numbers of no message");
+}
+
+static void written_identities(void)
+{
+    static const gix_date_time time = {5, -5400}, wide = {0, 360000}, before = {-1, 360000};
+    const char *line = "A \"B <a,b> 5 -0130";
+    size_t wanted = strlen(line);
+    for (size_t room = 0; room <= wanted + 1; room++) {
+        char *buffer = malloc(room + 1);
+        memset(buffer, '#', room + 1);
+        size_t len = 99;
+        uint32_t status = gix_date_write_ident(TEXT(". A \n\"<B>."), TEXT("<a,>b>"), &time, buffer,
+                                               room, &len);
+        EXPECT(status == (room < wanted ? GIX_DATE_NO_ROOM : GIX_DATE_OK) && len == wanted,
+               "%zu: %u", room, status);
+        EXPECT(room < wanted ? is_untouched(buffer, room + 1) : holds(buffer, room + 1, line, len),
+               "%zu", room);
+        free(buffer);
+    }
+    char out[64];
+    size_t len = 99;
+    memset(out, '#', sizeof out);
+    EXPECT(gix_date_write_ident(TEXT(""), BYTES("\0"), &before, out, sizeof out, &len) ==
+               GIX_DATE_NUL_IN_PART,
+           "NUL");
+    EXPECT(gix_date_write_ident(TEXT(""), TEXT("a"), &before, out, sizeof out, &len) ==
+               GIX_DATE_EMPTY_NAME,
+           "no name");
+    EXPECT(gix_date_write_ident(TEXT(" ..."), TEXT("a"), &before, out, sizeof out, &len) ==
+               GIX_DATE_ONLY_CRUD,
+           "crud");
+    EXPECT(gix_date_write_ident(TEXT("A"), TEXT("a"), &before, out, sizeof out, &len) ==
+               GIX_DATE_BEFORE_EPOCH,
+           "before 1970");
+    EXPECT(gix_date_write_ident(TEXT("A"), TEXT("a"), &wide, out, sizeof out, &len) ==
+               GIX_DATE_OFFSET_TOO_WIDE,
+           "wide");
+    EXPECT(len == 0 && is_untouched(out, sizeof out), "a refusal stores nothing");
+    EXPECT(gix_date_write_ident(BYTES("J\xf6rg"), TEXT("..."), &time, out, sizeof out, &len) ==
+               GIX_DATE_OK,
+           "bytes that are no text");
+    EXPECT(holds(out, sizeof out, "J\xf6rg <> 5 -0130", len), "bytes that are no text");
+}
+
 static void *reads_and_formats(void *unused)
 {
     (void)unused;
@@ -720,7 +862,16 @@ static void status_texts(void)
     EXPECT(strcmp(gix_date_status_text(GIX_DATE_AFTER_YEAR_9999),
                   "seconds after the year 9999: perhaps milliseconds, or a date and a clock in digits alone") == 0,
            "after the statuses of git_date.h");
-    EXPECT(strcmp(gix_date_status_text(GIX_DATE_AFTER_YEAR_9999 + 1), texts[unknown]) == 0,
+    static const char *const later[] = {
+        "no identity: expected a name, <, a mail and >",
+        "a name or a mail holds NUL",
+        "the name is empty",
+        "the name consists only of disallowed characters",
+        "a time before 1970 cannot be written",
+    };
+    for (uint32_t i = 0; i < sizeof later / sizeof *later; i++)
+        EXPECT(strcmp(gix_date_status_text(GIX_DATE_NO_IDENTITY + i), later[i]) == 0, "%u", (unsigned)i);
+    EXPECT(strcmp(gix_date_status_text(GIX_DATE_BEFORE_EPOCH + 1), texts[unknown]) == 0,
            "the number after the last");
     EXPECT(strcmp(gix_date_status_text(UINT32_MAX), texts[unknown]) == 0, "the greatest number");
 }
@@ -740,6 +891,7 @@ int main(void)
     relative_dates_by_a_rule();
     careful_dates_by_a_rule();
     zones_are_read();
+    offsets();
     refused_zones();
     zones_without_memory();
     copied_zones();
@@ -750,6 +902,9 @@ int main(void)
     memory_of_prints();
     patterns_without_memory();
     signatures();
+    without_memory(identities, "identity lines");
+    without_memory(messages, "messages of fsck");
+    written_identities();
     in_threads(reads_and_formats);
     if (failures > 0)
         return 1;

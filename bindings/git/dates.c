@@ -57,36 +57,27 @@ static gix_date_zone *own_zone(void)
     return &zone;
 }
 
-/* Git writes an offset in decimal: -130 is 90 minutes west of UTC. One of 100 hours or more is not shown, and
- * the bound keeps its seconds within their type. */
-static int32_t offset_of(int tz)
-{
-    const int bound = 99999;
-    tz = tz > bound ? bound : tz < -bound ? -bound : tz;
-    return (tz / 100 * 60 + tz % 100) * 60;
-}
-
-static int decimal_of(int32_t offset)
-{
-    return offset / 3600 * 100 + offset / 60 % 60;
-}
-
 static void add_time(struct strbuf *out, gix_date_time time)
 {
-    strbuf_addf(out, "%" PRId64 " %+05d", time.seconds, decimal_of(time.offset));
+    strbuf_addf(out, "%" PRId64 " %+05d", time.seconds, git_date_decimal_of_offset(time.offset));
 }
 
-/* Reads a date exactly. No zone's file is read for a text that names its offset. */
+/* Reads a date exactly, in UTC. So no zone's file is read for a text that names its offset. */
+static bool read_in_utc(const char *text, gix_date_instant now, git_date_exact *date)
+{
+    gix_date_zone utc = GIX_DATE_AT_OFFSET(0);
+    size_t place;
+    return git_date_parse_at(text, strlen(text), &now, &utc, date, &place) == GIX_DATE_OK;
+}
+
 static bool read_exactly(const char *text, gix_date_time *time)
 {
     const gix_date_instant now = system_now();
-    gix_date_zone utc = GIX_DATE_AT_OFFSET(0);
     git_date_exact date;
     size_t place;
-    uint32_t status = git_date_parse_at(text, strlen(text), &now, &utc, &date, &place);
-    if (status == GIX_DATE_OK && !date.has_offset)
-        status = git_date_parse_at(text, strlen(text), &now, own_zone(), &date, &place);
-    if (status != GIX_DATE_OK)
+    if (!read_in_utc(text, now, &date) ||
+        (!date.has_offset &&
+         git_date_parse_at(text, strlen(text), &now, own_zone(), &date, &place) != GIX_DATE_OK))
         return false;
     *time = date.time;
     return true;
@@ -113,23 +104,19 @@ int parse_date(const char *text, struct strbuf *out)
     return 0;
 }
 
-static git_date_approximate read_approximately(const char *text, gix_date_instant now)
-{
-    git_date_approximate date;
-    size_t place;
-    if (git_date_approxidate_at(text, strlen(text), &now, own_zone(), &date, &place) != GIX_DATE_OK) {
-        date.time.seconds = now.seconds;
-        date.time.offset = 0;
-        date.understood = false;
-    }
-    return date;
-}
-
 timestamp_t approxidate_careful(const char *text, int *error)
 {
-    const git_date_approximate date = read_approximately(text, present());
+    const gix_date_instant now = present();
+    git_date_approximate date = {{now.seconds, 0}, 0, false};
+    git_date_exact exact;
+    size_t place;
+    uint32_t status = GIX_DATE_OK;
+    if (read_in_utc(text, now, &exact) && exact.has_offset)
+        date = (git_date_approximate){exact.time, exact.ignored, true};
+    else
+        status = git_date_approxidate_at(text, strlen(text), &now, own_zone(), &date, &place);
     if (error)
-        *error = !date.understood;
+        *error = status != GIX_DATE_OK || !date.understood;
     return date.time.seconds;
 }
 
@@ -158,7 +145,10 @@ int parse_expiry_date(const char *text, timestamp_t *seconds)
 /* The system's time now, with the offset of the zone. */
 void datestamp(struct strbuf *out)
 {
-    add_time(out, read_approximately("now", system_now()).time);
+    const gix_date_instant now = system_now();
+    gix_date_time time = {now.seconds, 0};
+    if (gix_date_offset_at(&now, own_zone(), &time.offset) == GIX_DATE_OK)
+        add_time(out, time);
 }
 
 int date_overflows(timestamp_t seconds)
@@ -176,6 +166,42 @@ time_t tm_to_time_t(const struct tm *tm)
     return timegm(&clock);
 }
 
+/* The time of seconds and an offset of Git, or 0 +0000 where the seconds are too many. */
+static gix_date_time time_of(timestamp_t seconds, int tz)
+{
+    gix_date_time time = {0, 0};
+    if (!date_overflows(seconds)) {
+        time.seconds = seconds;
+        time.offset = git_date_offset_of_decimal(tz);
+    }
+    return time;
+}
+
+/* How long ago a time was, in the user's language. */
+void show_date_relative(timestamp_t seconds, struct strbuf *out)
+{
+#define AGO(unit) {"%" PRIuMAX " " unit " ago", "%" PRIuMAX " " unit "s ago"}
+    static const char *const ages[][2] = {
+        [GIT_DATE_SECONDS] = AGO("second"), [GIT_DATE_MINUTES] = AGO("minute"),
+        [GIT_DATE_HOURS] = AGO("hour"),     [GIT_DATE_DAYS] = AGO("day"),
+        [GIT_DATE_WEEKS] = AGO("week"),     [GIT_DATE_MONTHS] = AGO("month"),
+        [GIT_DATE_YEARS] = AGO("year"),
+    };
+    const gix_date_instant now = present();
+    const gix_date_time time = time_of(seconds, 0);
+    git_date_age age;
+    if (git_date_age_at(&time, &now, &age) != GIX_DATE_OK || age.unit == GIT_DATE_FUTURE) {
+        strbuf_addstr(out, _("in the future"));
+    } else if (age.months > 0) {
+        char *years = xstrfmt(Q_("%" PRIuMAX " year", "%" PRIuMAX " years", age.count), (uintmax_t)age.count);
+        strbuf_addf(out, Q_("%s, %" PRIuMAX " month ago", "%s, %" PRIuMAX " months ago", age.months), years,
+                    (uintmax_t)age.months);
+        free(years);
+    } else {
+        strbuf_addf(out, Q_(ages[age.unit][0], ages[age.unit][1], age.count), (uintmax_t)age.count);
+    }
+}
+
 /* Shows a time as the library does. Most modes ask for no zone. */
 static void add_shown(struct strbuf *out, gix_date_time time, git_date_mode mode)
 {
@@ -190,9 +216,28 @@ static void add_shown(struct strbuf *out, gix_date_time time, git_date_mode mode
         strbuf_add(out, shown, len);
 }
 
-/* Shows a time by a pattern, which the library does not: the clock is that of the C library. Outside 1970 to
- * 2099 Git takes the offset of a zone for 0. */
-static void add_by_pattern(struct strbuf *out, gix_date_time time, const struct date_mode *mode)
+/* Shows a time by a format, as the library does. It refuses some formats and times, and does not know how the
+ * C library abbreviates a zone of neither a file nor a rule. */
+static bool is_added_by_format(struct strbuf *out, gix_date_time time, const struct date_mode *mode)
+{
+    const char *format = mode->strftime_fmt;
+    gix_date_zone utc = GIX_DATE_AT_OFFSET(0);
+    gix_date_zone *zone = mode->local ? own_zone() : &utc;
+    size_t len = 0, place;
+    uint32_t status;
+    if (mode->local && !zone->held)
+        return false;
+    do {
+        strbuf_grow(out, len);
+        status = git_date_show_by_format(&time, format, strlen(format), mode->local, zone, out->buf + out->len,
+                                         strbuf_avail(out), &len, &place);
+    } while (status == GIX_DATE_NO_ROOM);
+    strbuf_setlen(out, out->len + len);
+    return status == GIX_DATE_OK;
+}
+
+/* The same by Git and by the clock of the C library. Outside 1970 to 2099 Git takes the offset of a zone for 0. */
+static void add_by_git(struct strbuf *out, gix_date_time time, const struct date_mode *mode)
 {
     time_t seconds = mode->local ? time.seconds : time.seconds + time.offset;
     struct tm clock;
@@ -202,18 +247,7 @@ static void add_by_pattern(struct strbuf *out, gix_date_time time, const struct 
     } else if (mode->local) {
         time.offset = tm_to_time_t(&clock) < 0 ? 0 : clock.tm_gmtoff;
     }
-    strbuf_addftime(out, mode->strftime_fmt, &clock, decimal_of(time.offset), !mode->local);
-}
-
-/* The time of seconds and an offset of Git, or 0 +0000 where the seconds are too many. */
-static gix_date_time time_of(timestamp_t seconds, int tz)
-{
-    gix_date_time time = {0, 0};
-    if (!date_overflows(seconds)) {
-        time.seconds = seconds;
-        time.offset = offset_of(tz);
-    }
-    return time;
+    strbuf_addftime(out, mode->strftime_fmt, &clock, git_date_decimal_of_offset(time.offset), !mode->local);
 }
 
 const char *show_date(timestamp_t seconds, int tz, const struct date_mode *mode)
@@ -221,19 +255,16 @@ const char *show_date(timestamp_t seconds, int tz, const struct date_mode *mode)
     static struct strbuf shown = STRBUF_INIT;
     const gix_date_time time = time_of(seconds, tz);
     strbuf_reset(&shown);
-    if (mode->type == DATE_STRFTIME)
-        add_by_pattern(&shown, time, mode);
-    else
+    if (mode->type == DATE_RELATIVE)
+        show_date_relative(seconds, &shown);
+    else if (mode->type != DATE_STRFTIME)
         add_shown(&shown, time, (git_date_mode){kind_of(mode->type), mode->local});
+    else if (!is_added_by_format(&shown, time, mode))
+        add_by_git(&shown, time, mode);
     return shown.buf;
 }
 
-void show_date_relative(timestamp_t seconds, struct strbuf *out)
-{
-    add_shown(out, time_of(seconds, 0), (git_date_mode){GIT_DATE_RELATIVE, false});
-}
-
-/* Patterns are not modes of the library, and neither is `auto:`, which depends on where the output goes. */
+/* Formats are not modes of the library, and neither is `auto:`, which depends on where the output goes. */
 void parse_date_format(const char *name, struct date_mode *mode)
 {
     const char *pattern;
@@ -254,7 +285,7 @@ void parse_date_format(const char *name, struct date_mode *mode)
     }
 }
 
-/* Of any type but that of patterns. */
+/* Of any type but that of formats. */
 struct date_mode *date_mode_from_type(enum date_mode_type type)
 {
     static struct date_mode mode;

@@ -153,19 +153,84 @@ static uint32_t call_show(const struct writing *w, char *out, size_t out_len, si
     return status;
 }
 
+static uint32_t call_show_by_format(const struct writing *w, char *out, size_t out_len, size_t *len)
+{
+    const char *format = w->first->at + w->front;
+    size_t place = GIT_DATE_NOTHING;
+    const uint32_t status = git_date_show_by_format(&w->time, format, w->first->len - w->front, w->mode.local, hold_zone(w->moment), out,
+                                                    out_len, len, &place);
+    release_zone(w->moment);
+    if (place != GIT_DATE_NOTHING)
+        *w->place = w->front + place;
+    return status;
+}
+
+/* How many bytes stand before the format in a mode such as "format:%Y", and whether its clock is the zone's. Before that of no other mode
+ * stand any. */
+static size_t format_front(const struct text *mode, bool *local)
+{
+    static const char *const fronts[] = {"format:", "format-local:"};
+    for (size_t i = 0; i < sizeof fronts / sizeof *fronts; i++) {
+        const size_t len = strlen(fronts[i]);
+        if (mode->len < len || memcmp(mode->at, fronts[i], len))
+            continue;
+        *local = i == 1;
+        return len;
+    }
+    return 0;
+}
+
+/* Takes a mode, or a text with a format, which is dropped by drop_text. */
+static bool take_mode_or_format(const struct state *state, PyObject *object, struct text *text, struct writing *writing)
+{
+    if (PyUnicode_Check(object) || PyBytes_Check(object)) {
+        if (!take_text(object, text))
+            return false;
+        writing->front = format_front(text, &writing->mode.local);
+    }
+    if (!writing->front)
+        return take_mode(state, object, &writing->mode);
+    writing->write = call_show_by_format;
+    writing->first = text;
+    return true;
+}
+
 CALL(show_date)
 {
     enum { AT_TIME, MODE, NOW, ALL };
     static const struct call call = {"show_date", 3, 3, {"time", "mode", "now", NULL}};
     const struct state *state = state_of(module);
     struct moment moment = {.is_given = false};
-    struct writing writing = {.write = call_show, .moment = &moment};
+    struct text text = {.owner = NULL};
+    size_t place = GIT_DATE_NOTHING;
+    struct writing writing = {.write = call_show, .place = &place, .moment = &moment};
     PyObject *taken[ALL], *answer = NULL;
     if (!state || !take_arguments(&call, given, count, names, taken))
         return NULL;
-    if (take_time(state, taken[AT_TIME], &writing.time) && take_mode(state, taken[MODE], &writing.mode) &&
+    if (take_time(state, taken[AT_TIME], &writing.time) && take_mode_or_format(state, taken[MODE], &text, &writing) &&
         take_moment(state, taken[NOW], &moment))
         answer = written(state, &writing);
+    drop_moment(&moment);
+    drop_text(&text);
+    return answer;
+}
+
+CALL(age_of)
+{
+    enum { AT_TIME, NOW, ALL };
+    static const struct call call = {"age_of", 2, 2, {"time", "now", NULL}};
+    const struct state *state = state_of(module);
+    struct moment moment = {.is_given = false};
+    gix_date_time time;
+    git_date_age age = {GIT_DATE_FUTURE, 0, 0};
+    PyObject *taken[ALL], *answer = NULL;
+    if (!state || !take_arguments(&call, given, count, names, taken))
+        return NULL;
+    if (take_time(state, taken[AT_TIME], &time) && take_moment(state, taken[NOW], &moment)) {
+        const uint32_t status = git_date_age_at(&time, &moment.now, &age);
+        answer = status == GIX_DATE_OK ? Py_BuildValue("(III)", age.unit, age.count, age.months)
+                                       : refuse(state, status, NULL, GIT_DATE_NOTHING);
+    }
     drop_moment(&moment);
     return answer;
 }

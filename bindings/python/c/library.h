@@ -154,10 +154,12 @@ struct writing {
     const struct text *first, *second; /* a pattern, or a name and a mail */
     uint32_t format;
     git_date_mode mode;
+    size_t front;  /* so many bytes of `first` stand before a format of Git's */
+    size_t *place; /* NULL, or where the fault of such a format is in `first` */
     struct moment *moment;
 };
 
-/* The text as a str, or a refusal that names `first` where that is a pattern. */
+/* The text as a str, or a refusal that names `first` where that is a pattern or a format. */
 PyObject *written(const struct state *state, const struct writing *writing);
 
 /* ---- calls of the module ---- */
@@ -170,11 +172,16 @@ CALL(parse_carefully);
 CALL(cut_signature);
 CALL(parts_of);
 CALL(write_signature);
+CALL(cut_ident);
+CALL(ident_time);
+CALL(fsck_number);
+CALL(write_ident);
 CALL(parse_date);
 CALL(approxidate);
 CALL(expiry_date);
 CALL(mode_named);
 CALL(show_date);
+CALL(age_of);
 CALL(times_of_lines);
 CALL(add_lines);
 

@@ -99,6 +99,11 @@ PyDoc_STRVAR(parse_carefully_doc,
 PyDoc_STRVAR(write_signature_doc, "write_signature($module, /, name, mail, time)\n--\n\n"
 "The signature line of a name, a mail and a time, without a newline.\n\nRefuses by `NotText`, `BadPart` and `OffsetTooWide`.");
 
+PyDoc_STRVAR(write_ident_doc, "write_ident($module, /, name, mail, time)\n--\n\n"
+"The identity line that Git writes of a name, a mail and a time, as bytes without a newline.\n\n"
+"Name and mail lose crud at both ends: bytes from 1 to 32, and each of . , : ; < > \" \\ and '. Then they lose `<`, `>` and newlines.\n"
+"Refuses by `NulInPart`, `EmptyName`, `OnlyCrud`, `BeforeEpoch` and `OffsetTooWide`, in this order.");
+
 PyDoc_STRVAR(parse_date_doc, "parse_date($module, /, text, now)\n--\n\n"
 "Reads a date as Git's exact reader does: a `ReadDate`.\n\nRefuses by `Unreadable`, `NumberTooLarge`, `YearRefused` and `Range`.");
 
@@ -111,10 +116,17 @@ PyDoc_STRVAR(expiry_date_doc, "expiry_date($module, /, text, now)\n--\n\n"
 "Refuses as `approxidate` does, and by `Unreadable` if nothing was understood.");
 
 PyDoc_STRVAR(show_date_doc, "show_date($module, /, time, mode, now)\n--\n\n"
-"A date as `git log --date=MODE` shows it at a moment. The mode is a `DateMode`, a `DateKind`, or Git's name.\n\n"
-"Refuses by `Range` what Git cannot show, and by `UnknownMode` a name.");
+"A date as `git log --date=MODE` shows it at a moment. The mode is a `DateMode`, a `DateKind`, or Git's name. It may also be\n"
+"`format:` or `format-local:` with a format, as in `format:%Y-%m-%d`, which may make a text of any length.\n\n"
+"Refuses by `Range` what Git cannot show, by `UnknownMode` a name, and by `FlagRefused`, `UnknownDirective` and `WidthTooLarge` a format.");
 
+PyDoc_STRVAR(age_of_doc, "age_of($module, /, time, now)\n--\n\nThe unit of an age, its count, and the months beyond years.");
 PyDoc_STRVAR(cut_signature_doc, "cut_signature($module, /, line)\n--\n\nThe name, the mail and the time of a signature line.");
+PyDoc_STRVAR(cut_ident_doc, "cut_ident($module, /, line)\n--\n\n"
+"The name, the mail, the seconds and the offset of an identity line, and the time that Git shows.");
+PyDoc_STRVAR(ident_time_doc, "ident_time($module, /, seconds, offset)\n--\n\nThe time of Git's seconds and decimal offset.");
+PyDoc_STRVAR(fsck_number_doc, "fsck_number($module, /, line)\n--\n\n"
+"The number of what git fsck says of an identity line, which is 0 for nothing, and the index of what is wrong, or None.");
 PyDoc_STRVAR(parts_of_doc, "parts_of($module, /, at)\n--\n\n"
 "Seconds since 1970, microseconds from 0 to 999999, and the offset in seconds of an aware datetime.\n\n"
 "Refuses by `NaiveDatetime`, and an offset with parts of a second by `InvalidZone`.");
@@ -130,8 +142,10 @@ PyDoc_STRVAR(versions_doc, "The versions of the library and of what it ports, as
 #define AS_CALL(name) {#name, (PyCFunction)(void (*)(void))name, METH_FASTCALL | METH_KEYWORDS, name##_doc}
 static PyMethodDef calls[] = {
     AS_CALL(parse_header), AS_CALL(is_canonical_header), AS_CALL(parse), AS_CALL(parse_carefully), AS_CALL(parts_of),
-    AS_CALL(cut_signature),
-    AS_CALL(write_signature), AS_CALL(parse_date), AS_CALL(approxidate), AS_CALL(expiry_date), AS_CALL(mode_named), AS_CALL(show_date),
+    AS_CALL(cut_signature), AS_CALL(write_signature),
+    AS_CALL(cut_ident), AS_CALL(ident_time), AS_CALL(fsck_number), AS_CALL(write_ident),
+    AS_CALL(parse_date), AS_CALL(approxidate), AS_CALL(expiry_date), AS_CALL(mode_named), AS_CALL(show_date),
+    AS_CALL(age_of),
     AS_CALL(times_of_lines), AS_CALL(add_lines),
     {"connect", (PyCFunction)(void (*)(void))connect_package, METH_FASTCALL | METH_KEYWORDS, connect_package_doc},
     {"status_text", status_text, METH_O, status_text_doc},

@@ -142,7 +142,7 @@ PyObject *written(const struct state *state, const struct writing *writing)
         status = write_more(writing, len, &text);
     if (status == GIX_DATE_OK)
         return text;
-    return refuse(state, status, writing->second ? NULL : writing->first, GIT_DATE_NOTHING);
+    return refuse(state, status, writing->second ? NULL : writing->first, writing->place ? *writing->place : GIT_DATE_NOTHING);
 }
 
 static uint32_t call_write_header(const struct writing *w, char *out, size_t out_len, size_t *len)

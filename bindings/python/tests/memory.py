@@ -10,7 +10,7 @@ from array import array
 from typing import Callable, Dict, List, Optional, Tuple, Union
 
 from gix_date import ISO8601, Moment, Refused, Time, _library, git, is_canonical_header, parse, parse_carefully, parse_header
-from gix_date import write_signature
+from gix_date import GitTime, fsck, parse_ident, write_ident, write_signature
 
 from rows import FOLDER
 
@@ -86,6 +86,10 @@ CALLS: List[Tuple[str, Callable[..., object], Tuple[object, ...]]] = [
     ("parse_carefully", parse_carefully, ("@5",)),
     ("cut_signature", _library.cut_signature, ("A <a> 0 +0000",)),
     ("write_signature", write_signature, ("A" * 1000, "a", TIME)),
+    ("parse_ident", parse_ident, ("A <a> 5 +0000",)),
+    ("fsck", fsck, ("A <a> 05 +0000",)),
+    ("write_ident", write_ident, ("A" * 1000, "a", TIME)),
+    ("to_time", GitTime(5, 60).to_time, ()),
     ("mode_named", _library.mode_named, ("iso",)),
     *(("Zone", in_new_zone, (zone,)) for zone in (RULE, FILE, "no rule", b"no file", b"TZif")),
     *(("parse", parse, ("2 days ago", now)) for now in NOWS),
@@ -96,7 +100,9 @@ CALLS: List[Tuple[str, Callable[..., object], Tuple[object, ...]]] = [
     *(("approxidate", git.approxidate, ("2 days ago", now)) for now in NOWS),
     *(("expiry_date", git.expiry_date, ("2 days ago", now)) for now in NOWS),
     *(("show_date", git.show_date, (TIME, MODE, now)) for now in NOWS),
+    *(("age_of", _library.age_of, (TIME, now)) for now in NOWS),
     *(("show_date", git.show_date, (TIME, "iso-local", now)) for now in NOWS),
+    *(("show_date", git.show_date, (TIME, "format-local:%F %255d%255d", now)) for now in NOWS),
 ]
 
 
@@ -143,7 +149,7 @@ def main() -> None:
             number += 1
         assert isinstance(call, Filled) or not keeps(call, arguments, NO_REQUEST), f"{call} keeps memory"
         requests[name] = requests.get(name, 0) + number - 1
-    assert len(requests) == 21 and all(requests[name] > 0 for name in requests if name != "mode_named"), requests
+    assert len(requests) == 26 and all(requests[name] > 0 for name in requests if name not in ("mode_named", "age_of")), requests
     print(f"each of {sum(requests.values())} requests for memory is refused: MemoryError, and none is kept")
 
 

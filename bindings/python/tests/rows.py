@@ -20,7 +20,7 @@ RULES = {
 WITHOUT_OFFSET = {"utc": WithoutOffset.UTC, "local": WithoutOffset.MOMENTS_ZONE}
 TEXTS = {"careful": Texts.CAREFUL, "all": Texts.ALL}
 # Calls that the library for C lacks.
-LEFT_OUT = {"to_zoned", "now_local", "ident", "ident_label", "ident_offset", "git_time", "ident_time", "fsck_of", "write_ident", "show_by_format"}
+LEFT_OUT = {"to_zoned", "now_local"}
 
 Text = Union[str, bytes]
 Named = TypeVar("Named")
@@ -221,6 +221,59 @@ def write_signature(name: bytes, mail: bytes, seconds: bytes, offset: bytes) -> 
     return agreeing(told(lambda: gix_date.write_signature(a, b, time)) for a in both(name) for b in both(mail))
 
 
+def readable(text: bytes) -> str:
+    """Bytes as a str, of which no other bytes are the same."""
+    return text.decode(errors="surrogateescape")
+
+
+def parts(line: bytes, shown: Callable[[gix_date.Ident], bytes]) -> str:
+    return agreeing(told(lambda: readable(shown(gix_date.parse_ident(given)))) for given in both(line))
+
+
+def ident(line: bytes) -> str:
+    return parts(line, lambda found: b"%s<%s>%s" % (found.name, found.mail, found.date.seconds if found.date else b""))
+
+
+def ident_label(line: bytes) -> str:
+    return parts(line, lambda found: b"%s <%s>" % (found.name, found.mail))
+
+
+def date_of(line: bytes, shown: Callable[[gix_date.IdentDate], str]) -> str:
+    def date() -> str:
+        found = gix_date.parse_ident(line).date
+        return shown(found) if found else "!NoDate"
+
+    return told(date)
+
+
+def ident_offset(line: bytes) -> str:
+    return date_of(line, lambda date: date.offset.decode())
+
+
+def git_time(line: bytes) -> str:
+    return date_of(line, lambda date: f"{date.shown.seconds} {date.shown.offset:+05}")
+
+
+def ident_time(line: bytes) -> str:
+    return date_of(line, lambda date: of_time(date.shown.to_time()))
+
+
+def fsck_of(line: bytes) -> str:
+    def message(given: Text) -> str:
+        fault = gix_date.fsck(given)
+        if fault is None:
+            return "none"
+        assert in_bytes(given, fault.place) <= len(line)
+        return str(fault.id.value)
+
+    return agreeing(told(lambda: message(given)) for given in both(line))
+
+
+def write_ident(name: bytes, mail: bytes, seconds: bytes, offset: bytes) -> str:
+    time = time_of(seconds, offset)
+    return agreeing(told(lambda: readable(gix_date.write_ident(a, b, time))) for a in both(name) for b in both(mail))
+
+
 def place(text: Text, ignored: Optional[int]) -> str:
     return "none" if ignored is None else str(in_bytes(text, ignored))
 
@@ -282,13 +335,49 @@ def date_mode(name: bytes) -> str:
     return agreeing(told(lambda: mode(given)) for given in both(name))
 
 
+def counted(count: int, unit: git.AgeUnit) -> str:
+    return f"{count} {unit.name.lower()}"[: None if count != 1 else -1]
+
+
+def aged(time: Time, now: Moment) -> str:
+    """The age of a time in the words of Git."""
+    age = git.age_at(time, now)
+    if age is None:
+        return "in the future"
+    return counted(age.count, age.unit) + (f", {counted(age.months, git.AgeUnit.MONTHS)}" if age.months else "") + " ago"
+
+
 def show_date(mode: bytes, at: bytes, seconds: bytes, offset: bytes) -> str:
     time, now = time_of(seconds, offset), needed(at)
     try:
-        git.DateMode.of_name(mode)
+        kind = git.DateMode.of_name(mode).kind
     except git.UnknownMode:
         raise NoRow from None
-    return told(lambda: git.show_date(time, mode.decode(), now))
+    shown = [told(lambda: git.show_date(time, mode.decode(), now))]
+    if kind is git.DateKind.RELATIVE:
+        shown.append(told(lambda: aged(time, now)))
+    return agreeing(iter(shown))
+
+
+FRONTS = {b"own": b"format:", b"local": b"format-local:"}
+
+
+def show_by_format(format: bytes, clock: bytes, at: bytes, seconds: bytes, offset: bytes) -> str:
+    time, now = time_of(seconds, offset), needed(at)
+    if clock not in FRONTS:
+        raise NoRow
+    front = FRONTS[clock]
+
+    def shown(mode: Text) -> str:
+        try:
+            return git.show_date(time, mode, now)
+        except GixDateError as error:
+            if error.place is None:
+                raise
+            at_byte = len((mode[: error.place] if isinstance(mode, bytes) else mode[: error.place].encode())) - len(front)
+            return f"!{type(error).__name__} {at_byte}"
+
+    return agreeing(told(lambda: shown(mode)) for mode in both(front + format))
 
 
 CALLS: Dict[str, Callable[..., str]] = {
@@ -302,6 +391,13 @@ CALLS: Dict[str, Callable[..., str]] = {
     "cut_signature": cut_signature,
     "signature_time": signature_time,
     "write_signature": write_signature,
+    "ident": ident,
+    "ident_label": ident_label,
+    "ident_offset": ident_offset,
+    "git_time": git_time,
+    "ident_time": ident_time,
+    "fsck_of": fsck_of,
+    "write_ident": write_ident,
     "parse_date": parse_date,
     "ignored": ignored,
     "has_offset": has_offset,
@@ -310,6 +406,7 @@ CALLS: Dict[str, Callable[..., str]] = {
     "expiry_date": expiry_date,
     "date_mode": date_mode,
     "show_date": show_date,
+    "show_by_format": show_by_format,
 }
 
 
@@ -319,7 +416,7 @@ def answer_to(row: bytes) -> Tuple[str, str]:
     if call.decode() not in CALLS:
         raise NoRow
     arguments = [unescaped(field) for field in fields]
-    wanted = due.decode() if due.startswith(b"!") else unescaped(due).decode()
+    wanted = due.decode() if due.startswith(b"!") else readable(unescaped(due))
     try:
         return CALLS[call.decode()](*arguments), wanted
     except TypeError as error:

@@ -16,7 +16,7 @@ import pytest
 
 import gix_date
 from gix_date import Format, InvalidZone, Moment, RawOffsets, Signature, Texts, Time, WithoutOffset, _library, git
-from gix_date import is_canonical_header, parse, parse_carefully, parse_header, parse_lines, write_signature
+from gix_date import is_canonical_header, parse, parse_carefully, parse_header, parse_lines, write_ident, write_signature
 
 NOW, TIME = Moment(1698400800, 0, 3600), Time(5, 0)
 MINUTES, ZONE, ALL = RawOffsets.WHOLE_MINUTES, WithoutOffset.MOMENTS_ZONE, Texts.ALL
@@ -26,14 +26,19 @@ CALLS: List[Tuple[Callable[..., object], Tuple[str, ...], Tuple[object, ...], in
     (parse, ("text", "now", "raw_offsets"), ("1 +0007", NOW, MINUTES), 2),
     (parse_carefully, ("text", "now", "raw_offsets", "without_offset", "texts"), ("2 days ago", NOW, MINUTES, ZONE, ALL), 2),
     (write_signature, ("name", "mail", "time"), ("A", "a", TIME), 3),
+    (write_ident, ("name", "mail", "time"), ("A", "a", TIME), 3),
     (git.parse_date, ("text", "now"), ("2008-02-14 20:30", NOW), 2),
     (git.approxidate, ("text", "now"), ("noon", NOW), 2),
     (git.expiry_date, ("text", "now"), ("noon", NOW), 2),
     (git.show_date, ("time", "mode", "now"), (TIME, "raw", NOW), 3),
+    (_library.age_of, ("time", "now"), (TIME, NOW), 2),
     (TIME.format, ("format",), (Format.RAW,), 1),
     (TIME.format_or_unix, ("format",), (Format.RAW,), 1),
     (TIME.to_header, (), (), 0),
     (_library.cut_signature, ("line",), ("A <a> 5",), 1),
+    (_library.cut_ident, ("line",), ("A <a> 5 +0100",), 1),
+    (_library.ident_time, ("seconds", "offset"), (5, 60), 2),
+    (_library.fsck_number, ("line",), ("A <a> 05 +0100",), 1),
     (_library.parts_of, ("at",), (datetime(2023, 10, 27, tzinfo=timezone.utc),), 1),
     (_library.mode_named, ("name",), ("iso",), 1),
     (_library.times_of_lines, ("reader", "data", "begin", "end", "now", "raw_offsets"), (0, b"@5", 0, 2, NOW, MINUTES), 6),
@@ -169,6 +174,8 @@ def test_times_and_modes_are_those_of_the_package() -> None:
             git.show_date(other, "raw", NOW)
         with pytest.raises(TypeError, match="^a time has to be a Time, not "):
             write_signature("A", "a", other)
+        with pytest.raises(TypeError, match="^a time has to be a Time, not "):
+            write_ident("A", "a", other)
     for wrong in (5, None, TIME, Format.RAW):
         with pytest.raises(TypeError, match="^the option has to be a DateKind, not "):
             git.show_date(TIME, wrong, NOW)  # type: ignore[arg-type]
@@ -189,6 +196,10 @@ def test_times_and_modes_are_those_of_the_package() -> None:
             lambda: write_signature(text, "a", TIME),  # type: ignore[arg-type]
             lambda: write_signature("A", text, TIME),  # type: ignore[arg-type]
             lambda: Signature.from_line(text),  # type: ignore[arg-type]
+            lambda: gix_date.parse_ident(text),  # type: ignore[arg-type]
+            lambda: gix_date.fsck(text),  # type: ignore[arg-type]
+            lambda: write_ident(text, "a", TIME),  # type: ignore[arg-type]
+            lambda: write_ident("A", text, TIME),  # type: ignore[arg-type]
         ]
         for call in calls:
             with pytest.raises(TypeError, match="^a text has to be a str or bytes"):
@@ -223,6 +234,9 @@ def test_an_extension_alone_calls_nothing() -> None:
         lambda: module.parse("@5"),
         lambda: module.parse_carefully("@5"),
         lambda: module.cut_signature("A <a> 5"),
+        lambda: module.cut_ident("A <a> 5"),
+        lambda: module.ident_time(5, 60),
+        lambda: module.write_ident("A", "a", base),
         lambda: module.parts_of(datetime(2023, 10, 27)),
         lambda: module.write_signature("A", "a", base),
         lambda: module.parse_date("noon", NOW),
@@ -240,6 +254,7 @@ def test_an_extension_alone_calls_nothing() -> None:
         with pytest.raises(RuntimeError, match="has not connected"):
             call()
     assert str(base) == "5 +0001" and repr(base) == "Time(seconds=5, offset=60)" and base == module.Time(5, 60)
+    assert module.fsck_number("A <a> 5 +0000") == (0, None)
     assert module.is_canonical_header("5 +0000") and module.Zone("JST-9").is_read and module.status_text(0) == "done"
 
 

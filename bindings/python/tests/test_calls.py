@@ -7,6 +7,7 @@ import dataclasses
 import io
 import mmap
 import pickle
+import re
 import sys
 import time
 import zoneinfo
@@ -22,9 +23,16 @@ import gix_date
 from gix_date import (
     AfterYear9999,
     BadPart,
+    BeforeEpoch,
     BeyondDatetime,
+    EmptyName,
     Format,
+    FsckFault,
+    FsckId,
+    GitTime,
     GixDateError,
+    Ident,
+    IdentDate,
     InvalidInstant,
     InvalidTime,
     InvalidZone,
@@ -32,9 +40,12 @@ from gix_date import (
     Moment,
     NaiveDatetime,
     NoDirective,
+    NoIdentity,
     NoSignature,
     NotText,
+    NulInPart,
     OffsetTooWide,
+    OnlyCrud,
     Pattern,
     RawOffsets,
     Signature,
@@ -43,11 +54,14 @@ from gix_date import (
     Unclear,
     UnknownFormat,
     WithoutOffset,
+    fsck,
     parse,
     parse_carefully,
     parse_header,
+    parse_ident,
     parse_lines,
     parse_lines_into,
+    write_ident,
     write_signature,
 )
 from gix_date.moments import tzif_of
@@ -114,6 +128,10 @@ def test_a_refusal_has_the_refused_text() -> None:
         (lambda text: git.expiry_date(text, now), "friday", git.Unreadable, None),
         (git.DateMode.of_name, "format:%Y", git.UnknownMode, None),
         (lambda text: git.show_date(Time(0, 0), text, now), "banana", git.UnknownMode, None),
+        (lambda text: git.show_date(Time(0, 0), text, now), "format", git.UnknownMode, None),
+        (lambda text: git.show_date(Time(0, 0), text, now), "format:%Y \u00e9%-s", git.FlagRefused, 11),
+        (lambda text: git.show_date(Time(0, 0), text, now), "format-local:%q%-s", git.UnknownDirective, 13),
+        (lambda text: git.show_date(Time(0, 0), text, now), "format:%%%256d", git.WidthTooLarge, 9),
         (Time(0, 0).format, "%", Pattern, None),
     ]
     for call, text, kind, place in calls:
@@ -122,7 +140,8 @@ def test_a_refusal_has_the_refused_text() -> None:
             with pytest.raises(GixDateError) as caught:
                 call(given)
             error = caught.value
-            assert (type(error), error.text, error.place) == (kind, given, place)
+            at = place if place is None or isinstance(given, str) else len(text[:place].encode())
+            assert (type(error), error.text, error.place) == (kind, given, at)
             assert type(error.text) is type(given)
         if kind in (git.YearRefused, git.Unreadable, git.BackTooFar):
             continue  # any bytes are read
@@ -148,7 +167,7 @@ def all_refusals(below: Type[GixDateError]) -> Iterator[Type[GixDateError]]:
 
 def test_each_refusal_has_its_own_status_and_message() -> None:
     errors = [error for error in all_refusals(GixDateError) if error.__module__ in ("gix_date.errors", "gix_date.git")]
-    assert sorted(error.status for error in errors if error.status is not None) == [1, *range(4, 14), *range(15, 24)]
+    assert sorted(error.status for error in errors if error.status is not None) == [1, *range(4, 14), *range(15, 32)]
     assert {error for error in errors if error.status is None} == {NaiveDatetime, BeyondDatetime, NoDirective, gix_date.git.UnknownMode}
     messages = {str(error()) for error in errors}
     assert len(messages) == len(errors)
@@ -375,9 +394,54 @@ def test_signatures() -> None:
     assert write_signature(long, "a", Time(0, 0)) == f"{long} <a> 0 +0000"
 
 
+def test_identities() -> None:
+    line = b"  J\xf6rg\t <j@e> <b>\t05+0530 x\nA <a> 5 +0000"
+    due = Ident(b"  J\xf6rg", b"j@e", IdentDate(b"05", b"+0530", GitTime(5, 530)))
+    assert parse_ident(line) == due and GitTime(5, 530).to_time() == Time(5, 19800)
+    assert parse_ident("J\u00f6rg <\udcff> 5") == Ident("J\u00f6rg".encode(), "\udcff".encode(errors="surrogatepass"), None)
+    wide = parse_ident(b"A <a> 9223372036854775808 -0130").date
+    assert wide == IdentDate(b"9223372036854775808", b"-0130", GitTime(0, 0))
+    with pytest.raises(NoIdentity, match="^no identity: expected ") as refused:
+        parse_ident("A a> 5 +0000")
+    assert refused.value.text == "A a> 5 +0000"
+    with pytest.raises(OffsetTooWide):
+        GitTime(5, -59652315).to_time()
+    for seconds, offset in ((1 << 63, 0), (0, 1 << 31)):
+        with pytest.raises(OverflowError):
+            GitTime(seconds, offset).to_time()
+
+
+def test_messages_of_fsck() -> None:
+    header = (Path(__file__).parents[3] / "include/gix_date.h").read_text()
+    numbered = re.findall(r"GIX_DATE_FSCK_([A-Z_]+) = ([0-9]+)", header)
+    assert numbered == [("PASSES", "0")] + [(id.name, str(number)) for number, id in enumerate(FsckId, 1)]
+    assert all(f'return "{id.value}";' in header for id in FsckId)
+    assert fsck("\u00e9 <\u00e9> +5 +0060\n<") is None
+    assert fsck("\u00e9 <\u00e9> 05 +0000") == FsckFault(FsckId.ZERO_PADDED_DATE, 6)
+    assert fsck("\u00e9 <\u00e9> 05 +0000".encode()) == FsckFault(FsckId.ZERO_PADDED_DATE, 8)
+    assert fsck(b"A <a> \n5 +0000") == FsckFault(FsckId.BAD_DATE, 6)
+
+
+def test_identities_are_cleaned() -> None:
+    assert write_ident(b". J\xf6rg\n", "<j>@e", Time(5, 3600)) == b"J\xf6rg <j@e> 5 +0100"
+    assert write_ident("A" * 1000, "...", Time(5, 3600)) == b"A" * 1000 + b" <> 5 +0100"
+    before, wide = Time(-1, 360000), Time(0, 360000)
+    cases: List[Tuple[Text, Text, Time, Type[GixDateError]]] = [
+        ("", "\0", before, NulInPart),
+        (b"", b"a", before, EmptyName),
+        (" .", b"a", before, OnlyCrud),
+        ("A", "a", before, BeforeEpoch),
+        ("A", "a", wide, OffsetTooWide),
+    ]
+    for name, mail, time, kind in cases:
+        with pytest.raises(kind) as refused:
+            write_ident(name, mail, time)
+        assert refused.value.text is None
+
+
 def test_answers_are_values() -> None:
     git, time = gix_date.git, Time(5, 0)
-    values = [Signature("A", "a", "5"), git.ReadDate(time, True, None), git.Approximate(time, True, 3), git.DateMode()]
+    values = [Signature("A", "a", "5"), GitTime(5, 0), Ident(b"", b"", None), FsckFault(FsckId.BAD_DATE, 5), git.ReadDate(time, True, None), git.Approximate(time, True, 3), git.DateMode()]
     for value in values:
         (first, *_) = dataclasses.fields(value)
         with pytest.raises(dataclasses.FrozenInstanceError):

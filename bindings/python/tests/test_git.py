@@ -9,7 +9,7 @@ from zoneinfo import ZoneInfo
 import pytest
 
 from gix_date import InvalidInstant, InvalidZone, Moment, NotText, Time, git
-from gix_date.git import Approximate, DateKind, DateMode, Expires, ReadDate, UnknownMode
+from gix_date.git import Age, AgeUnit, Approximate, DateKind, DateMode, Expires, ReadDate, UnknownMode
 
 NOW = datetime(2009, 8, 30, 19, 20, tzinfo=timezone.utc)
 
@@ -79,7 +79,36 @@ def test_shown_dates() -> None:
     with pytest.raises(git.Range):
         git.show_date(Time(-1, 0), DateKind.ISO8601, NOW)
     with pytest.raises(UnknownMode, match="human-local"):
-        git.show_date(time, "format:%Y", NOW)
+        git.show_date(time, "Format:%Y", NOW)
+
+
+def test_ages() -> None:
+    assert git.age_at(Time(1214160000, 3600), NOW) == Age(AgeUnit.YEARS, 1, 2)
+    assert git.age_at(Time(1251659880, 0), NOW) == Age(AgeUnit.MINUTES, 2)
+    assert git.age_at(Time(1251660001, 0), NOW) is None
+    for time, now in [(Time(-1, 0), NOW), (Time(5, 0), Moment(-1))]:
+        with pytest.raises(git.Range):
+            git.age_at(time, now)
+
+
+def test_dates_by_formats() -> None:
+    time = Time(1251300000, 7200)
+    assert git.show_date(time, "format:%a %-d %B %Y, %H:%M %z", NOW) == "Wed 26 August 2009, 17:20 +0200"
+    assert git.show_date(time, b"format-local:%F %R %z %Z", NOW) == "2009-08-26 15:20 +0000 UTC"
+    assert git.show_date(time, "format:", NOW) == ""
+    assert git.show_date(time, "format-local:local", NOW) == "local"
+    assert git.show_date(time, "format:\u00e9%n%t%%", NOW) == "\u00e9\n\t%"
+    assert git.show_date(time, "format:" + "%0255d" * 1000, NOW) == "26".zfill(255) * 1000
+    with pytest.raises(git.Range):
+        git.show_date(Time(-1, 0), "format:%Y", NOW)
+    with pytest.raises(git.Range):
+        git.show_date(Time(4102444800, 0), "format:%s", NOW)
+    with pytest.raises(git.FlagRefused, match="no flags and no width, at index 7"):
+        git.show_date(Time(-1, 0), "format:%-s", NOW)
+    with pytest.raises(NotText):
+        git.show_date(time, b"format:\xff", NOW)
+    with pytest.raises(InvalidZone):
+        git.show_date(time, "format:%Y", Moment(0, 0, b""))
 
 
 def test_modes() -> None:

@@ -16,7 +16,7 @@ import pytest
 
 from gix_date import ISO8601, Moment, RawOffsets, Refused, Signature, Texts, Time, UnknownFormat, _library, git, now
 from gix_date import is_canonical_header, parse, parse_carefully, parse_header, parse_headers_into, parse_lines, parse_lines_into
-from gix_date import parse_signatures_into, write_signature
+from gix_date import GitTime, fsck, parse_ident, parse_signatures_into, write_ident, write_signature
 from gix_date.moments import read_zone, tzif_of
 
 from rows import FOLDER
@@ -104,6 +104,16 @@ CALLS: List[Callable[[], object]] = [
     lambda: write_signature("\ud800", "a", TIME),
     lambda: write_signature("A", "\ud800", TIME),
     lambda: write_signature("A", "a", TEXT),  # type: ignore[arg-type]
+    lambda: parse_ident("A <a> 5 +0100").date,
+    lambda: parse_ident(b"\xff"),
+    lambda: fsck("\ud800 <a> 05 +0100"),
+    lambda: fsck("A <a> 5 +0100"),
+    lambda: GitTime(5, 60).to_time(),
+    lambda: GitTime(5, 1 << 31).to_time(),
+    lambda: GitTime(5, 59652315).to_time(),
+    lambda: write_ident(b"A" * 200, "\ud800" * 200, TIME),
+    lambda: write_ident("...", "a", TIME),
+    lambda: write_ident("A", "a", TEXT),  # type: ignore[arg-type]
     lambda: git.parse_date("2005-04-07 22:13:13", IN_RULE),
     lambda: git.parse_date("1900-02-03 10:00", NOW),
     lambda: git.approxidate("5 mins ago", IN_FILE),

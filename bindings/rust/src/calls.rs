@@ -4,7 +4,7 @@ pub(crate) mod git;
 pub(crate) mod lines;
 pub(crate) mod zone;
 
-use crate::ffi::{self, CCarefulOptions, CSignature};
+use crate::ffi::{self, CCarefulOptions, CGitTime, CIdentParts, CSignature};
 use crate::{CarefulError, CarefulOptions, Error, Instant, RawOffsets, Time};
 use zone::HeldZone;
 
@@ -25,8 +25,27 @@ fn stored<T>(status: u32, value: T) -> Result<T, Error> {
     }
 }
 
-/// The text that a call puts into a buffer: of this many bytes at first, and then of as many as the call asks for.
+/// The text that a call puts into a buffer.
 fn text_of(room: usize, call: impl Fn(&mut [u8], &mut usize) -> u32) -> Result<String, Error> {
+    text_or(room, call, |status| stored(status, ()))
+}
+
+/// The same of a call whose statuses have other refusals.
+fn text_or<E: From<Error>>(
+    room: usize,
+    call: impl Fn(&mut [u8], &mut usize) -> u32,
+    stored: impl Fn(u32) -> Result<(), E>,
+) -> Result<String, E> {
+    let bytes = bytes_or(room, call, stored)?;
+    Ok(String::from_utf8(bytes).expect("the library writes UTF-8"))
+}
+
+/// The bytes that a call puts into a buffer: of this many at first, and then of as many as the call asks for.
+fn bytes_or<E: From<Error>>(
+    room: usize,
+    call: impl Fn(&mut [u8], &mut usize) -> u32,
+    stored: impl Fn(u32) -> Result<(), E>,
+) -> Result<Vec<u8>, E> {
     let mut len = room;
     let mut bytes = Vec::new();
     loop {
@@ -37,9 +56,9 @@ fn text_of(room: usize, call: impl Fn(&mut [u8], &mut usize) -> u32) -> Result<S
         match call(&mut bytes, &mut len) {
             NO_ROOM => bytes.clear(),
             status => {
-                stored(status, ())?;
+                stored(status)?;
                 bytes.truncate(len);
-                return Ok(String::from_utf8(bytes).expect("the library writes UTF-8"));
+                return Ok(bytes);
             }
         }
     }
@@ -182,12 +201,14 @@ pub(crate) fn cut_signature(line: &[u8]) -> Result<CSignature, Error> {
     stored(status, parts)
 }
 
+/// The room that is enough for the line of a name and a mail: two brackets and two spaces stand between the parts.
+fn line_room(name: &[u8], mail: &[u8]) -> usize {
+    let parts = name.len().saturating_add(mail.len());
+    parts.saturating_add(4 + MAX_HEADER)
+}
+
 pub(crate) fn write_signature(name: &str, mail: &str, time: &Time) -> Result<String, Error> {
-    // Two brackets and two spaces stand between the parts.
-    let room = name
-        .len()
-        .saturating_add(mail.len())
-        .saturating_add(4 + MAX_HEADER);
+    let room = line_room(name.as_bytes(), mail.as_bytes());
     // SAFETY: name and mail are valid for their lengths, the time is valid, and the buffer, of the length given, and the
     // length are places of their own.
     text_of(room, |out, len| unsafe {
@@ -202,4 +223,40 @@ pub(crate) fn write_signature(name: &str, mail: &str, time: &Time) -> Result<Str
             len,
         )
     })
+}
+
+/// The parts of an identity line. `None` where Git finds no identity, which is the one refusal.
+pub(crate) fn ident(line: &[u8]) -> Option<CIdentParts> {
+    let mut parts = CIdentParts::default();
+    // SAFETY: the line is valid for its length, and the parts are a place of their own.
+    let status = unsafe { ffi::gix_date_ident(line.as_ptr(), line.len(), &mut parts) };
+    (status == OK).then_some(parts)
+}
+
+pub(crate) fn ident_time(shown: CGitTime) -> Result<Time, Error> {
+    let mut time = Time::default();
+    // SAFETY: what is shown is valid, and the time is a place of its own.
+    let status = unsafe { ffi::gix_date_ident_time(&shown, &mut time) };
+    stored(status, time)
+}
+
+/// The number of what `git fsck` says of an identity line, which is 0 for nothing, and the place.
+pub(crate) fn fsck(line: &[u8]) -> (u32, usize) {
+    let mut place = 0;
+    // SAFETY: the line is valid for its length, and the place is one of its own.
+    let message = unsafe { ffi::gix_date_fsck(line.as_ptr(), line.len(), &mut place) };
+    (message, place)
+}
+
+pub(crate) fn write_ident(name: &[u8], mail: &[u8], time: &Time) -> Result<Vec<u8>, Error> {
+    let call = |out: &mut [u8], len: &mut usize| {
+        let (name_len, mail_len, out_len) = (name.len(), mail.len(), out.len());
+        let (name, mail, out) = (name.as_ptr(), mail.as_ptr(), out.as_mut_ptr());
+        // SAFETY: name and mail are valid for their lengths, the time is valid, and the buffer, of the length given, and the
+        // length are places of their own.
+        unsafe {
+            ffi::gix_date_write_ident(name, name_len, mail, mail_len, time, out, out_len, len)
+        }
+    };
+    bytes_or(line_room(name, mail), call, |status| stored(status, ()))
 }

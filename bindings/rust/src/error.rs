@@ -24,7 +24,7 @@ pub enum Error {
     InvalidZone,
     /// The seconds or the offset are outside what a civil date can be computed for.
     Conversion,
-    /// The offset is 100 hours or more.
+    /// The offset is 100 hours or more, or more than 35791394 minutes in an identity line.
     OffsetTooWide,
     /// The pattern cannot be printed.
     Pattern,
@@ -34,6 +34,14 @@ pub enum Error {
     NoSignature,
     /// The name or the mail holds `<`, `>`, a newline or NUL.
     BadPart,
+    /// The name or the mail of an identity line to write holds NUL.
+    NulInPart,
+    /// The name has no bytes.
+    EmptyName,
+    /// The name holds only bytes that Git cuts off its ends.
+    OnlyCrud,
+    /// The time is before 1970, so Git cannot write it.
+    BeforeEpoch,
 }
 
 impl Error {
@@ -54,6 +62,10 @@ impl Error {
             14 => Error::OutOfMemory,
             15 => Error::NoSignature,
             16 => Error::BadPart,
+            28 => Error::NulInPart,
+            29 => Error::EmptyName,
+            30 => Error::OnlyCrud,
+            31 => Error::BeforeEpoch,
             status => unreachable!("the library answers no status {status} here"),
         }
     }
@@ -76,6 +88,10 @@ impl fmt::Display for Error {
             Error::OutOfMemory => "out of memory",
             Error::NoSignature => "not a signature line: expected a name, <, a mail, > and a time",
             Error::BadPart => "a name or a mail holds <, >, a newline or NUL",
+            Error::NulInPart => "a name or a mail holds NUL",
+            Error::EmptyName => "the name is empty",
+            Error::OnlyCrud => "the name consists only of disallowed characters",
+            Error::BeforeEpoch => "a time before 1970 cannot be written",
         })
     }
 }
@@ -128,9 +144,16 @@ mod tests {
     #[test]
     fn each_status_is_its_error() {
         let statuses = numbers(GIX_DATE, "gix_date_status", "GIX_DATE_");
-        assert_eq!(statuses.len(), 19);
-        // The types of this crate rule out the first three, and `CarefulError` has the last two.
-        let others = ["Ok", "NoSuchOption", "NoRoom", "Unclear", "AfterYear9999"];
+        assert_eq!(statuses.len(), 24);
+        // The types of this crate rule out the first four, and `CarefulError` has the last two.
+        let others = [
+            "Ok",
+            "NoSuchOption",
+            "NoRoom",
+            "NoIdentity",
+            "Unclear",
+            "AfterYear9999",
+        ];
         for (name, number) in statuses {
             if !others.contains(&name.as_str()) {
                 assert_eq!(format!("{:?}", Error::of_status(number)), name);

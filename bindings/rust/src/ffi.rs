@@ -28,6 +28,23 @@ pub struct CSignature {
     pub time: CSpan,
 }
 
+#[repr(C)]
+#[derive(Clone, Copy, Default)]
+pub struct CGitTime {
+    pub seconds: i64,
+    pub offset: i32,
+}
+
+#[repr(C)]
+#[derive(Clone, Copy, Default)]
+pub struct CIdentParts {
+    pub name: CSpan,
+    pub mail: CSpan,
+    pub seconds: CSpan,
+    pub offset: CSpan,
+    pub shown: CGitTime,
+}
+
 /// A zone that the library may hold memory for.
 #[repr(C)]
 pub struct CZone {
@@ -67,6 +84,7 @@ extern "C" {
     pub fn gix_date_zone_read(text: *const u8, text_len: usize, zone: *mut CZone) -> u32;
     pub fn gix_date_zone_copy(from: *mut CZone, zone: *mut CZone) -> u32;
     pub fn gix_date_zone_free(zone: *mut CZone);
+    pub fn gix_date_offset_at(instant: *const Instant, zone: *mut CZone, offset: *mut i32) -> u32;
     pub fn gix_date_parse_at(
         text: *const u8,
         text_len: usize,
@@ -167,11 +185,24 @@ extern "C" {
         out_len: usize,
         len: *mut usize,
     ) -> u32;
+    pub fn gix_date_ident(text: *const u8, text_len: usize, ident: *mut CIdentParts) -> u32;
+    pub fn gix_date_ident_time(shown: *const CGitTime, time: *mut Time) -> u32;
+    pub fn gix_date_fsck(text: *const u8, text_len: usize, place: *mut usize) -> u32;
+    pub fn gix_date_write_ident(
+        name: *const u8,
+        name_len: usize,
+        mail: *const u8,
+        mail_len: usize,
+        time: *const Time,
+        out: *mut u8,
+        out_len: usize,
+        len: *mut usize,
+    ) -> u32;
 }
 
 #[cfg(test)]
 mod tests {
-    use super::git::{CApproximate, CExact, CExpiry, CMode};
+    use super::git::{CAge, CApproximate, CExact, CExpiry, CMode};
     use super::*;
     use crate::header::{calls, layouts, Layout, GIT_DATE, GIX_DATE};
     use std::mem::{align_of, size_of, size_of_val};
@@ -249,6 +280,17 @@ mod tests {
                 "gix_date_signature",
                 layout!(CSignature { name, mail, time }),
             ),
+            ("gix_date_git_time", layout!(CGitTime { seconds, offset })),
+            (
+                "gix_date_ident_parts",
+                layout!(CIdentParts {
+                    name,
+                    mail,
+                    seconds,
+                    offset,
+                    shown
+                }),
+            ),
             ("gix_date_zone", layout!(CZone { kind, offset, held })),
             (
                 "git_date_exact",
@@ -268,6 +310,14 @@ mod tests {
             ),
             ("git_date_expiry", layout!(CExpiry { kind, before })),
             ("git_date_mode", layout!(CMode { kind, local })),
+            (
+                "git_date_age",
+                layout!(CAge {
+                    unit,
+                    count,
+                    months
+                }),
+            ),
         ];
         assert_eq!(
             layouts(),

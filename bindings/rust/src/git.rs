@@ -4,11 +4,12 @@
 //! - [`approxidate()`]: dates as people write them, as Git reads `--since` and `REF@{..}`
 //! - [`expiry_date()`]: what expires, as in `gc.pruneExpire`
 //! - [`show_date()`]: a date as `git log --date=MODE` shows it
+//! - [`show_by_format()`]: a date as `git log --date=format:FORMAT` shows it
 //!
 //! In a zone of one offset every answer is Git's, or a refusal by name ([`DateError`]). In zones that change some times are not
 //! Git's: `docs/GIT_DATES.md` names them, and has the rules. Seconds count from 1970-01-01 00:00:00 UTC, an offset is seconds
 //! east of UTC, and a place counts bytes from the text's start. Memory is taken only to read the zone of a moment that is a rule
-//! or a file. The module [`bytes`] has the calls that read for `&[u8]`, and [`ReadZone`](crate::ReadZone) those for a zone that
+//! or a file, and by [`show_by_format()`]. The module [`bytes`] has the calls that read for `&[u8]`, and [`ReadZone`](crate::ReadZone) those for a zone that
 //! is read once.
 //!
 //! ```
@@ -29,11 +30,15 @@
 //! # Ok::<(), Box<dyn std::error::Error>>(())
 //! ```
 
+mod age;
 mod error;
+mod format;
 mod mode;
 mod text;
 
+pub use age::{age_at, decimal_of_offset, offset_of_decimal, Age};
 pub use error::DateError;
+pub use format::{DateFormat, FormatFault};
 pub use mode::{DateKind, DateMode, UnknownMode};
 pub use text::DateText;
 pub(crate) use text::MAX_SHOWN;
@@ -187,4 +192,31 @@ pub fn expiry_date(input: &str, now: &Moment) -> Result<Expiry, DateError> {
 /// [`DateKind::Raw`] have a clock. [`DateError::Refused`] of the moment.
 pub fn show_date(time: Time, mode: DateMode, now: &Moment) -> Result<DateText, DateError> {
     now.zone.read()?.show_date(time, mode, now.instant())
+}
+
+/// A date as `git log --date=format:FORMAT` shows it, or `--date=format-local:FORMAT` by the clock of the moment's zone.
+///
+/// Of a local clock `%Z` is the zone's abbreviation. A time's own clock has none: there `%Z` is nothing. Names are English.
+///
+/// ```
+/// use gix_date_proved::git::{show_by_format, DateError, DateFormat};
+/// use gix_date_proved::{Moment, Time};
+///
+/// let (now, time) = (Moment::at_offset(1251660000, 0), Time::new(1251300000, 7200));
+/// let format = DateFormat::new("%a %-d %B %Y, %H:%M %z")?;
+/// assert_eq!(show_by_format(time, format, false, &now)?, "Wed 26 August 2009, 17:20 +0200");
+/// assert_eq!(show_by_format(time, format, true, &now)?, "Wed 26 August 2009, 15:20 +0000");
+/// assert_eq!(show_by_format(Time::new(-1, 0), format, false, &now), Err(DateError::Range));
+/// # Ok::<(), Box<dyn std::error::Error>>(())
+/// ```
+///
+/// [`DateError::Range`] where [`show_date()`] refuses a clock, and if `%s` is asked of a clock outside the years 1970 to 2099.
+/// [`DateError::Refused`] of the moment, and of memory for the text.
+pub fn show_by_format(
+    time: Time,
+    format: DateFormat<'_>,
+    local: bool,
+    now: &Moment,
+) -> Result<String, DateError> {
+    now.zone.read()?.show_by_format(time, format, local)
 }

@@ -76,7 +76,7 @@ pub fn calls(header: &str) -> Vec<String> {
         .map(|text| text.trim_start_matches("GIX_DATE_MUST_USE\n"));
     statements
         .filter(|text| {
-            let results = ["uint32_t ", "size_t ", "bool ", "void "];
+            let results = ["int32_t ", "uint32_t ", "size_t ", "bool ", "void "];
             results.iter().any(|result| text.starts_with(result))
         })
         .filter_map(|text| text.strip_suffix(')')?.split_once('('))

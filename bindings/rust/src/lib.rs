@@ -37,7 +37,7 @@ mod moment;
 pub mod parse;
 #[cfg(feature = "serde")]
 mod serde;
-mod signature;
+pub mod signature;
 pub mod time;
 mod version;
 

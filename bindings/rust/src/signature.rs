@@ -1,6 +1,24 @@
-//! Signature lines.
+//! Signature lines, and identity lines as Git itself shows, judges and writes them.
+//!
+//! [`Signature`] takes only lines that Git writes. Histories have others: [`IdentRef`] is what `git log` shows of any, and [`fsck()`]
+//! what `git fsck` says of it. [`write_ident()`] cleans a name and a mail as `git commit` does.
+//!
+//! ```
+//! use gix_date_proved::signature::{fsck, write_ident, FsckId, IdentRef};
+//! use gix_date_proved::Time;
+//!
+//! let line = b"J\xf6rg <j@e> <b> 5 +0060";
+//! let ident = IdentRef::from_bytes(line).unwrap();
+//! assert_eq!((ident.name, ident.mail), (&b"J\xf6rg"[..], &b"j@e"[..]));
+//! let date = ident.date.unwrap();
+//! assert_eq!((date.shown.seconds, date.shown.offset), (5, 60));
+//! assert_eq!(date.shown.to_time(), Ok(Time::new(5, 3600)));
+//! let fault = fsck(line).unwrap();
+//! assert_eq!((fault.id, fault.place, fault.id.name()), (FsckId::BadDate, 11, "badDate"));
+//! assert_eq!(write_ident(b"J\xf6rg.", b"<j@e>", Time::new(5, 3600)), Ok(b"J\xf6rg <j@e> 5 +0100".to_vec()));
+//! ```
 
-use crate::ffi::CSpan;
+use crate::ffi::{CGitTime, CIdentParts, CSpan};
 use crate::{calls, parse_header, Error, Time};
 use std::fmt;
 
@@ -60,4 +78,182 @@ impl fmt::Display for Signature<'_> {
 /// [`Error::OutOfMemory`].
 pub fn write_signature(name: &str, mail: &str, time: Time) -> Result<String, Error> {
     calls::write_signature(name, mail, &time)
+}
+
+/// What Git shows of an identity line, each part a slice of it. It need not be UTF-8.
+#[derive(Clone, Copy, Debug, PartialEq, Eq, Hash)]
+pub struct IdentRef<'a> {
+    /// What stands before the first `<`, without the blanks at its end. It may be empty.
+    pub name: &'a [u8],
+    /// What stands between the first `<` and the next `>`, which may be empty.
+    pub mail: &'a [u8],
+    /// The date after the last `>`; `None` where Git shows none.
+    pub date: Option<DateRef<'a>>,
+}
+
+/// The date of an identity line.
+#[derive(Clone, Copy, Debug, PartialEq, Eq, Hash)]
+pub struct DateRef<'a> {
+    /// One or more digits: seconds since 1970, of any size.
+    pub seconds: &'a [u8],
+    /// A sign, and one or more digits.
+    pub offset: &'a [u8],
+    /// What Git shows of these. From 2^63 seconds on, both are 0.
+    pub shown: GitTime,
+}
+
+/// A time as Git keeps it of an identity line.
+#[derive(Clone, Copy, Debug, Default, PartialEq, Eq, Hash)]
+pub struct GitTime {
+    /// Seconds since 1970: of a line from 0.
+    pub seconds: i64,
+    /// The offset as one decimal number, hours before the last two digits, minutes in them: `+0530` is 530.
+    pub offset: i32,
+}
+
+impl GitTime {
+    /// The time of these seconds, with the offset in seconds: `+0060` is an hour. [`Error::OffsetTooWide`] above 35791394 minutes.
+    pub fn to_time(self) -> Result<Time, Error> {
+        let GitTime { seconds, offset } = self;
+        calls::ident_time(CGitTime { seconds, offset })
+    }
+}
+
+impl<'a> IdentRef<'a> {
+    /// What Git shows of a line, which ends before its first newline or NUL. `None` where Git finds no identity: no `<`, or no `>`
+    /// after the first.
+    pub fn from_bytes(line: &'a [u8]) -> Option<IdentRef<'a>> {
+        let CIdentParts {
+            name,
+            mail,
+            seconds,
+            offset,
+            shown,
+        } = calls::ident(line)?;
+        let part = |span: CSpan| &line[span.start..span.start + span.len];
+        let date = DateRef {
+            seconds: part(seconds),
+            offset: part(offset),
+            shown: GitTime {
+                seconds: shown.seconds,
+                offset: shown.offset,
+            },
+        };
+        Some(IdentRef {
+            name: part(name),
+            mail: part(mail),
+            date: (!date.seconds.is_empty()).then_some(date),
+        })
+    }
+}
+
+/// A message of `git fsck`, named as its ID there.
+#[derive(Clone, Copy, Debug, PartialEq, Eq, Hash)]
+pub enum FsckId {
+    /// The line holds NUL.
+    NulInHeader,
+    /// The line begins with `<`.
+    MissingNameBeforeEmail,
+    /// The first bracket is `>`.
+    BadName,
+    /// There is no bracket.
+    MissingEmail,
+    /// No space stands directly before the first `<`.
+    MissingSpaceBeforeEmail,
+    /// The bracket after the first `<` is not `>`, or there is none.
+    BadEmail,
+    /// No space stands directly after that `>`.
+    MissingSpaceBeforeDate,
+    /// After that space stands `0`, and no space after it.
+    ZeroPaddedDate,
+    /// The number there is 2^63 or more, or it is negative.
+    BadDateOverflow,
+    /// No number stands there, or no space after it.
+    BadDate,
+    /// What follows is not a sign and four digits up to the line's end.
+    BadTimezone,
+}
+
+impl FsckId {
+    /// All messages, in the order in which Git looks for them.
+    pub const ALL: [FsckId; 11] = [
+        FsckId::NulInHeader,
+        FsckId::MissingNameBeforeEmail,
+        FsckId::BadName,
+        FsckId::MissingEmail,
+        FsckId::MissingSpaceBeforeEmail,
+        FsckId::BadEmail,
+        FsckId::MissingSpaceBeforeDate,
+        FsckId::ZeroPaddedDate,
+        FsckId::BadDateOverflow,
+        FsckId::BadDate,
+        FsckId::BadTimezone,
+    ];
+
+    /// The message's ID in Git.
+    pub fn name(self) -> &'static str {
+        match self {
+            FsckId::NulInHeader => "nulInHeader",
+            FsckId::MissingNameBeforeEmail => "missingNameBeforeEmail",
+            FsckId::BadName => "badName",
+            FsckId::MissingEmail => "missingEmail",
+            FsckId::MissingSpaceBeforeEmail => "missingSpaceBeforeEmail",
+            FsckId::BadEmail => "badEmail",
+            FsckId::MissingSpaceBeforeDate => "missingSpaceBeforeDate",
+            FsckId::ZeroPaddedDate => "zeroPaddedDate",
+            FsckId::BadDateOverflow => "badDateOverflow",
+            FsckId::BadDate => "badDate",
+            FsckId::BadTimezone => "badTimezone",
+        }
+    }
+}
+
+/// What `git fsck` says of an identity line, and where.
+#[derive(Clone, Copy, Debug, PartialEq, Eq, Hash)]
+pub struct FsckFault {
+    /// The message.
+    pub id: FsckId,
+    /// How many bytes of the line stand before what is wrong: the NUL, the bracket, the line's end, the date or the offset.
+    pub place: usize,
+}
+
+/// What `git fsck` says of an identity line, which ends before its first newline: the first of its messages that applies, or `None`
+/// if it says nothing.
+pub fn fsck(line: &[u8]) -> Option<FsckFault> {
+    let (message, place) = calls::fsck(line);
+    let index = message.checked_sub(1)?;
+    Some(FsckFault {
+        id: FsckId::ALL[index as usize],
+        place,
+    })
+}
+
+/// The identity line that Git writes of a name, a mail and a time, without a newline. Name and mail are cleaned: without crud at both
+/// ends, and then without `<`, `>` and newlines. Crud is a byte from 1 to 32, and each of `. , : ; < > " \ '`.
+///
+/// [`Error::NulInPart`], [`Error::EmptyName`], [`Error::OnlyCrud`], [`Error::BeforeEpoch`], [`Error::OffsetTooWide`], in this order, and
+/// [`Error::OutOfMemory`].
+pub fn write_ident(name: &[u8], mail: &[u8], time: Time) -> Result<Vec<u8>, Error> {
+    calls::write_ident(name, mail, &time)
+}
+
+#[cfg(test)]
+mod tests {
+    use super::FsckId;
+    use crate::header::{numbers, GIX_DATE};
+
+    #[test]
+    fn messages_are_numbered_as_in_the_header() {
+        let due = numbers(GIX_DATE, "gix_date_fsck_message", "GIX_DATE_FSCK_");
+        let ours = FsckId::ALL.map(|id| format!("{id:?}"));
+        let named: Vec<_> = [("Passes".to_string(), 0)]
+            .into_iter()
+            .chain(ours.into_iter().zip(1..))
+            .collect();
+        assert_eq!(named, due);
+        for id in FsckId::ALL {
+            assert!(id.name().eq_ignore_ascii_case(&format!("{id:?}")));
+            assert!(GIX_DATE.contains(&format!("return \"{}\";", id.name())));
+        }
+    }
 }

@@ -1,6 +1,7 @@
 //! Each call of this crate, its refusals, and sixteen threads at once. The rows of outside values are run by `rows.rs`.
 
 use gix_date_proved::parse::TimeBuf;
+use gix_date_proved::signature::{fsck, write_ident, FsckFault, FsckId, GitTime, IdentRef};
 use gix_date_proved::time::{format, CustomFormat, Format};
 use gix_date_proved::{
     bytes, check_library, is_canonical_header, library_version, parse, parse_carefully,
@@ -250,6 +251,41 @@ fn signature_lines_are_cut_and_written() {
 }
 
 #[test]
+fn identity_lines_are_as_git_shows_and_writes_them() {
+    let line = b"  J\xf6rg\t <j@e> <b>\t05+0530 x\nA <a> 5 +0000";
+    let ident = IdentRef::from_bytes(line).unwrap();
+    assert_eq!((ident.name, ident.mail), (&b"  J\xf6rg"[..], &b"j@e"[..]));
+    let date = ident.date.unwrap();
+    assert_eq!((date.seconds, date.offset), (&b"05"[..], &b"+0530"[..]));
+    let (seconds, offset) = (5, 530);
+    assert_eq!(date.shown, GitTime { seconds, offset });
+    assert_eq!(date.shown.to_time(), time(5, 19800));
+    let offset = -59652315;
+    let wide = GitTime { seconds, offset };
+    assert_eq!(wide.to_time(), Err(Error::OffsetTooWide));
+    assert_eq!(IdentRef::from_bytes(b"A <a> 5").unwrap().date, None);
+    assert_eq!(IdentRef::from_bytes(b"A a> 5 +0000"), None);
+
+    let (id, place) = (FsckId::BadDate, 6);
+    assert_eq!(fsck(b"A <a> \n5 +0000"), Some(FsckFault { id, place }));
+    assert_eq!(fsck(b"\xff <> +5 +0060\n<"), None);
+
+    let line = write_ident(b". J\xf6rg\n", b"<j>@e", DAY);
+    assert_eq!(line, Ok(b"J\xf6rg <j@e> 1660797906 +0800".to_vec()));
+    let before = Time::new(-1, 360000);
+    let wide = Time::new(0, 360000);
+    for (name, mail, time, error) in [
+        (&b""[..], &b"\0"[..], before, Error::NulInPart),
+        (b"", b"a", before, Error::EmptyName),
+        (b" .", b"a", before, Error::OnlyCrud),
+        (b"A", b"a", before, Error::BeforeEpoch),
+        (b"A", b"a", wide, Error::OffsetTooWide),
+    ] {
+        assert_eq!(write_ident(name, mail, time), Err(error));
+    }
+}
+
+#[test]
 fn bytes_that_are_no_text_are_refused() {
     let line = b"Ren\xe9 <r@example.com> 1660797906 +0800";
     assert_eq!(Signature::from_bytes(line), Err(Error::NotText));
@@ -378,6 +414,9 @@ fn types_have_their_traits() {
     are_keys::<CarefulOptions>();
     are_keys::<CarefulError>();
     are_keys::<Signature<'_>>();
+    are_keys::<IdentRef<'_>>();
+    are_keys::<GitTime>();
+    are_keys::<FsckFault>();
     are_keys::<Instant>();
     are_shared::<Moment>();
     are_shared::<Zone>();

@@ -2,10 +2,11 @@
 //! `docs/GIT_DATES.md`; `rows.rs` runs the rows of outside values.
 
 use gix_date_proved::git::{
-    approxidate, expiry_date, parse_date, show_date, Approximate, DateError, DateKind, DateMode,
-    DateText, Expiry, ReadDate, UnknownMode,
+    age_at, approxidate, decimal_of_offset, expiry_date, offset_of_decimal, parse_date,
+    show_by_format, show_date, Age, Approximate, DateError, DateFormat, DateKind, DateMode,
+    DateText, Expiry, FormatFault, ReadDate, UnknownMode,
 };
-use gix_date_proved::{bytes, Error, Moment, Time, Zone};
+use gix_date_proved::{bytes, Error, Instant, Moment, Time, Zone};
 use std::collections::HashSet;
 use std::error::Error as StdError;
 use std::path::Path;
@@ -109,6 +110,35 @@ fn what_expires_is_read() {
     for (text, due) in answers {
         assert_eq!(expiry_date(text, &now()), due, "{text}");
     }
+}
+
+#[test]
+fn ages_have_the_unit_of_git() {
+    let now = Instant::at_second(1251660000);
+    let answers = [
+        (1251659999, Ok(Some(Age::Seconds(1)))),
+        (1251659880, Ok(Some(Age::Minutes(2)))),
+        (1214160000, Ok(Some(Age::Years(1, 2)))),
+        (1251660001, Ok(None)),
+        (-1, Err(DateError::Range)),
+    ];
+    for (seconds, due) in answers {
+        assert_eq!(age_at(Time::new(seconds, 3600), now), due, "{seconds}");
+    }
+    let early = age_at(Time::new(5, 0), Instant::at_second(-1));
+    assert_eq!(early, Err(DateError::Range));
+    let late = age_at(Time::new(5, 0), Instant::at_second(i64::MAX));
+    assert_eq!(late, Err(Error::InvalidInstant.into()));
+}
+
+#[test]
+fn offsets_are_numbers_of_hours_and_minutes() {
+    for (decimal, offset) in [(0, 0), (530, 19800), (-130, -5400), (-1, -60)] {
+        assert_eq!(offset_of_decimal(decimal), offset);
+        assert_eq!(decimal_of_offset(offset), decimal);
+    }
+    assert_eq!(offset_of_decimal(i32::MIN), -i32::MAX);
+    assert_eq!(decimal_of_offset(-3661), -101);
 }
 
 #[test]
@@ -230,6 +260,53 @@ fn dates_are_shown_in_each_mode() {
         let raw = "raw".parse().unwrap();
         let shown = show_date(time, raw, &now());
         assert_eq!(shown, Err(DateError::Range), "{time:?}");
+    }
+}
+
+#[test]
+fn dates_are_shown_by_formats() {
+    let time = Time::new(1251660000, 7200);
+    let new_york = Moment {
+        zone: Zone::Posix("EST5EDT,M3.2.0,M11.1.0".into()),
+        ..now()
+    };
+    let rows = [
+        ("%Y-%m-%d %H:%M:%S %z", false, "2009-08-30 21:20:00 +0200"),
+        ("%Y-%m-%d %H:%M %z %Z", true, "2009-08-30 15:20 -0400 EDT"),
+        ("[%Z] %s", false, "[] 1251660000"),
+        ("%12F %012T %3u", false, "  2009-08-30 000021:20:00 007"),
+        ("\u{e9}%%", true, "\u{e9}%"),
+        ("", false, ""),
+    ];
+    for (text, local, due) in rows {
+        let format = DateFormat::new(text).unwrap();
+        assert_eq!(format.as_str(), text);
+        let shown = show_by_format(time, format, local, &new_york);
+        assert_eq!(shown.as_deref(), Ok(due), "{text}");
+    }
+    let long = "%0255d".repeat(1000);
+    let shown = show_by_format(time, DateFormat::new(&long).unwrap(), false, &now()).unwrap();
+    assert_eq!(shown, format!("{:0>255}", 30).repeat(1000));
+    for (text, seconds) in [("%Y", -1), ("%s", 4102444800)] {
+        let format = DateFormat::new(text).unwrap();
+        let shown = show_by_format(Time::new(seconds, 0), format, false, &now());
+        assert_eq!(shown, Err(DateError::Range), "{text}");
+    }
+    let nowhere = Moment::at_offset(0, 93600);
+    let shown = show_by_format(time, DateFormat::new("%Y").unwrap(), false, &nowhere);
+    assert_eq!(shown, Err(Error::InvalidZone.into()));
+}
+
+#[test]
+fn the_first_fault_of_a_format_is_told() {
+    let rows = [
+        ("%Y %-s", FormatFault::FlagRefused(3)),
+        ("100%% %256d", FormatFault::WidthTooLarge(6)),
+        ("%q%256d", FormatFault::UnknownDirective(0)),
+        ("\u{e9}%", FormatFault::UnknownDirective(2)),
+    ];
+    for (text, fault) in rows {
+        assert_eq!(DateFormat::new(text), Err(fault), "{text}");
     }
 }
 

@@ -1,9 +1,13 @@
 //! Memory that is refused is a refusal: to this crate, which asks Rust's allocator, and to the library, which asks C's. What zones
 //! hold is freed.
 
-use gix_date_proved::git::{approxidate, expiry_date, parse_date, show_date, DateMode, Expiry};
+use gix_date_proved::git::{
+    approxidate, expiry_date, parse_date, show_by_format, show_date, DateError, DateFormat,
+    DateMode, Expiry, FormatFault,
+};
 use gix_date_proved::lines::{check_lines, parse_lines, Columns, Done, LineReader, Status};
 use gix_date_proved::parse::TimeBuf;
+use gix_date_proved::signature::{fsck, write_ident, IdentRef};
 use gix_date_proved::time::format;
 use gix_date_proved::{
     parse, parse_carefully, parse_header, write_signature, CarefulOptions, Error, Instant, Moment,
@@ -122,6 +126,24 @@ fn a_text_that_has_no_memory_is_refused() {
         ]
     });
     assert_eq!(refusals, [(); 5].map(|()| Err(Error::OutOfMemory)));
+    let line = refused(|| write_ident(b"A", b"a", time));
+    assert_eq!(line, Err(Error::OutOfMemory));
+}
+
+#[test]
+fn a_long_date_that_has_no_memory_is_refused() {
+    let (time, now) = (Time::new(1660797906, 28800), Moment::at_offset(0, 0));
+    let text = "%0255d".repeat(1000);
+    let format = DateFormat::new(&text).unwrap();
+    let due = Err(DateError::Refused(Error::OutOfMemory));
+    assert_eq!(refused(|| show_by_format(time, format, false, &now)), due);
+    let refusals = refused_in_turn(|| show_by_format(time, format, false, &now));
+    assert!(!refusals.is_empty() && refusals.iter().all(|answer| *answer == due));
+    // A format is checked all the same.
+    REFUSED.set(1);
+    let fault = DateFormat::new("%0255d%0255d%q").map(|format| format.as_str());
+    REFUSED.set(0);
+    assert_eq!(fault, Err(FormatFault::UnknownDirective(12)));
 }
 
 /// What a call for many lines does of two, which it has to read.
@@ -152,6 +174,8 @@ fn other_calls_take_no_memory() {
         assert_eq!(time.to_str(&mut buf), Ok("1660797906 +0800"));
         assert!(time.write_to(&mut &mut out[..]).is_ok());
         assert!(Signature::from_line("A <a> 5 +0000").is_ok());
+        assert!(IdentRef::from_bytes(b"A <a> 5 +0000").is_some_and(|ident| ident.date.is_some()));
+        assert_eq!(fsck(b"A <a> 5 +0000"), None);
         let reader = LineReader::Careful(CarefulOptions::default());
         two_lines(|block, columns| parse_lines(block, reader, columns));
         assert_eq!(check_lines(b"5 +0000", &mut [false]).lines, 1);

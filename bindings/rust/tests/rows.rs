@@ -12,6 +12,8 @@ use std::path::PathBuf;
 
 #[path = "rows/git.rs"]
 mod git;
+#[path = "rows/idents.rs"]
+mod idents;
 
 /// What a call answers: a text, or the name of a refusal.
 type Answer = Result<String, String>;
@@ -55,6 +57,11 @@ fn unescaped(field: &str) -> Option<Vec<u8>> {
     }
     bytes.extend_from_slice(rest.as_bytes());
     Some(bytes)
+}
+
+/// Bytes as a text; those that are none so that no text is the same.
+fn readable(bytes: Vec<u8>) -> String {
+    String::from_utf8(bytes).unwrap_or_else(|error| format!("not text: {:?}", error.as_bytes()))
 }
 
 fn push<'a>(bytes: &mut Vec<u8>, byte: u8, rest: &'a str) -> &'a str {
@@ -386,15 +393,13 @@ fn outcome(row: &str) -> Outcome {
         return Outcome::Differs("no row".into());
     };
     let texts: Result<Vec<_>, _> = fields.iter().cloned().map(String::from_utf8).collect();
-    let answer = match texts {
+    let answer = idents::answer(&fields).or_else(|| match texts {
         Ok(texts) => answer(&texts),
         Err(_) => answer_of_bytes(&fields),
-    };
+    });
     let due = match due.strip_prefix('!') {
         Some(name) => Some(Err(name.to_string())),
-        None => unescaped(due)
-            .and_then(|text| String::from_utf8(text).ok())
-            .map(Ok),
+        None => unescaped(due).map(readable).map(Ok),
     };
     match answer {
         Some(answer) if Some(&answer) == due.as_ref() => Outcome::Agrees,
@@ -402,18 +407,6 @@ fn outcome(row: &str) -> Outcome {
         None => Outcome::Differs("no row".into()),
     }
 }
-
-/// Calls that this crate lacks.
-const LEFT_OUT: [&str; 8] = [
-    "ident",
-    "ident_label",
-    "ident_offset",
-    "git_time",
-    "ident_time",
-    "fsck_of",
-    "write_ident",
-    "show_by_format",
-];
 
 /// Runs the rows of a file, says which differ, and answers how many there are and how many differ.
 fn run(name: &str) -> (usize, usize) {
@@ -424,13 +417,6 @@ fn run(name: &str) -> (usize, usize) {
             continue;
         }
         rows += 1;
-        if line
-            .split('\t')
-            .next()
-            .is_some_and(|call| LEFT_OUT.contains(&call))
-        {
-            continue;
-        }
         match outcome(line) {
             Outcome::Agrees => {}
             Outcome::Differs(why) => {

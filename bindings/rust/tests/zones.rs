@@ -69,6 +69,8 @@ fn answers_in_new_york(zone: &mut ReadZone) {
     assert_eq!(expiry, Ok(Expiry::Before(months)));
 
     let now = Instant::at_second(1699189200);
+    let offsets = [1699163999, 1699164000].map(|at| zone.offset_at(Instant::at_second(at)));
+    assert_eq!(offsets, [Ok(-14400), Ok(-18000)]);
     let shown = zone.show_date(Time::new(1699189106, 0), local(), now);
     assert_eq!(shown.unwrap(), "2023-11-05 07:58:26 -0500");
 }
@@ -135,7 +137,7 @@ fn texts_are_refused_as_at_a_moment() {
 }
 
 /// What refuses each call in a zone at an instant.
-fn refusals(zone: &mut ReadZone, now: Instant) -> [Option<Error>; 7] {
+fn refusals(zone: &mut ReadZone, now: Instant) -> [Option<Error>; 8] {
     let of_date = |answer| match answer {
         DateError::Refused(error) => error,
         other => panic!("{other:?}"),
@@ -146,6 +148,7 @@ fn refusals(zone: &mut ReadZone, now: Instant) -> [Option<Error>; 7] {
         Ok(_) => None,
     };
     [
+        zone.offset_at(now).err(),
         zone.parse("now", now).err(),
         zone.parse_with("now", now, RawOffsets::WholeMinutes).err(),
         careful,
@@ -170,10 +173,10 @@ fn each_call_refuses_what_is_no_instant() {
             nanoseconds: 1_000_000_000,
         };
         for now in [too_late, whole] {
-            assert_eq!(refusals(&mut zone, now), [Some(Error::InvalidInstant); 7]);
+            assert_eq!(refusals(&mut zone, now), [Some(Error::InvalidInstant); 8]);
         }
         let now = Instant::at_second(1251660000);
-        assert_eq!(refusals(&mut zone, now), [None; 7]);
+        assert_eq!(refusals(&mut zone, now), [None; 8]);
     }
 }
 
@@ -188,7 +191,7 @@ fn each_call_refuses_an_offset_that_is_too_wide() {
     ] {
         let mut zone = Zone::Offset(offset).read().unwrap();
         let now = Instant::at_second(1251660000);
-        assert_eq!(refusals(&mut zone, now), [refusal; 7], "{offset}");
+        assert_eq!(refusals(&mut zone, now), [refusal; 8], "{offset}");
     }
 }
 

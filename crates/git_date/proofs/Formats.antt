@@ -8,3 +8,4 @@ pub mod Shown
 pub mod Walks
 pub mod Taken
 pub mod Outcomes
+pub mod Short

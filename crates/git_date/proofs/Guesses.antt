@@ -1,4 +1,5 @@
 -- What the approximate reader comes to.
 pub mod Clocks
+pub mod KeptDrafts
 pub mod Places
 pub mod ZoneChoices

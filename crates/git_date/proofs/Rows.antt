@@ -5,5 +5,6 @@ pub mod RelativeRows
 pub mod ReadRows
 pub mod ShowRows
 pub mod ZoneRows
+pub mod DecimalRows
 pub mod ModeRows
 pub mod FormatRows

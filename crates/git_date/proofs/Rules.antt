@@ -1,6 +1,4 @@
--- What the rules leave, and what they make of like tokens.
-pub mod Respects
-pub mod RespectedDrafts
+-- What the rules leave, and what they read.
 pub mod Kept
 pub mod EnoughSteps
 pub mod Months

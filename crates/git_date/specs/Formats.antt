@@ -7,3 +7,4 @@ pub mod Texts
 pub mod Pieces
 pub mod Shown
 pub mod Format
+pub mod Short

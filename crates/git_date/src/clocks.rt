@@ -31,8 +31,5 @@ pub(crate) fn utc_year(seconds: i64) -> u16
     let Ok(seconds) = u64::try_from(seconds) else {
         return 0;
     };
-    match utc_clock(seconds) {
-        Some(shown) => shown.year(),
-        None => 0,
-    }
+    utc_clock(seconds).map_or(0, |shown| shown.year())
 }

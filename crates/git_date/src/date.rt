@@ -101,8 +101,6 @@ fn date_in_zone(said: Said, zone: TimeZone<'_>) -> Result<ReadDate, DateError>
     requires { SaidIsInstant said }
     ensures { result ≡ date_in said (local_offset (offsets_of (plain_zone zone.entry)) None said.seconds) }
 {
-    match local_offset(zone, None, said.seconds) {
-        Some(offset) => date_at(said, i64::from(offset / 60)),
-        None => Err(DateError::Range),
-    }
+    let offset = local_offset(zone, None, said.seconds).ok_or(DateError::Range)?;
+    date_at(said, i64::from(offset / 60))
 }

@@ -36,7 +36,7 @@ fn two(low: u8, high: u8, tens: u8, ones: u8) -> Option<u8>
         return None;
     }
     let n = 10 * (tens - b'0') + (ones - b'0');
-    if low <= n && n <= high { Some(n) } else { None }
+    (low <= n && n <= high).then_some(n)
 }
 
 /// The year that four digits write, if Git knows it.
@@ -47,7 +47,7 @@ fn year(a: u8, b: u8, c: u8, d: u8) -> Option<u16>
     let century = two(19, 20, a, b)?;
     let years = two(0, 99, c, d)?;
     let n = 100 * u16::from(century) + u16::from(years);
-    if 1970 <= n { Some(n) } else { None }
+    (1970 <= n).then_some(n)
 }
 
 /// The month that has this name, in the letter case that Git prints.
@@ -57,11 +57,7 @@ fn month(a: u8, b: u8, c: u8) -> Option<u8>
 {
     let name: &[u8] = &[a, b, c];
     let month = month_told(name)?;
-    if month_name(month).as_bytes() == name {
-        Some(month)
-    } else {
-        None
-    }
+    (month_name(month).as_bytes() == name).then_some(month)
 }
 
 /// The day of the week that has this name, in the letter case that Git prints, from 0 for Monday.
@@ -71,11 +67,7 @@ fn weekday(a: u8, b: u8, c: u8) -> Option<u8>
 {
     let name: &[u8] = &[a, b, c];
     let weekday = weekday_told(name)?;
-    if day_name(weekday).as_bytes() == name {
-        Some(weekday)
-    } else {
-        None
-    }
+    (day_name(weekday).as_bytes() == name).then_some(weekday)
 }
 
 /// The date of `2022-08-18`, `2022.08.18` or `2022/08/18`.

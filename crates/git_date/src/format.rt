@@ -1,9 +1,9 @@
 //! Dates by a pattern, as `git log --date=format:PATTERN` shows them.
-ghost use Rattle.std.specs.Prelude.{◌≡◌, ◌&&◌, true, Some, is_none, string_bytes, option_map, MatchResult};
+ghost use Rattle.std.specs.Prelude.{◌≡◌, ◌&&◌, true, Some, Ok, IsTrue, is_none, string_bytes, option_map, MatchResult};
 ghost use Rattle.jiff.specs.Words.{plain_zone};
 ghost use Rattle.git_date.specs.Show.Clocks.{moment_of};
 ghost use Rattle.git_date.specs.Formats.Format.{asks_seconds, format_bytes, shown_by_format, texts, WritesShown, RefusesText};
-ghost use Rattle.git_date.specs.Formats.Pieces.{is_format, pieces_or_none};
+ghost use Rattle.git_date.specs.Formats.Pieces.{checked, is_format, pieces_or_none};
 ghost use Rattle.git_date.specs.Formats.Shown.{shown_of};
 
 mod checked;
@@ -15,6 +15,7 @@ mod flags;
 mod names;
 mod numbers;
 mod pieces;
+mod short;
 mod shown;
 mod texts;
 mod walks;
@@ -25,9 +26,11 @@ pub use fault::FormatFault;
 use gix_date::device::Sink;
 use gix_date::{Time, Zoned};
 use jiff::tz::TimeZone;
+pub use short::ShortText;
+use short::{push_short, push_shown, put_shown};
 use shown::{Shown, shown_at};
 use std::alloc::Global;
-use walks::{asks_seconds, push_pieces, put_pieces};
+use walks::asks_seconds;
 
 /// Writes a date as `git log --date=format:PATTERN` shows it, or `format-local:PATTERN` at this moment.
 ///
@@ -50,7 +53,7 @@ pub fn show_by_format<W: Sink>(
     let Some(shown) = shown_for(time, format, local, now.time_zone()) else {
         return Err(ShowError::Range);
     };
-    match put_pieces(format.text, &shown, out) {
+    match put_shown(format.text, &shown, out) {
         Ok(()) => Ok(()),
         Err(kind) => Err(ShowError::Write(kind)),
     }
@@ -70,14 +73,55 @@ pub fn text_by_format(
         (λ text. shown_by_format (moment_of now.entry).zone local (format_bytes format.entry) time ≡ Some (string_bytes text))
         (RefusesText (shown_by_format (moment_of now.entry).zone local (format_bytes format.entry) time)) }
 {
-    let Some(shown) = shown_for(time, format, local, now.time_zone()) else {
+    text_by_format_in(alloc, time, format, local, now.time_zone())
+}
+
+/// [`text_by_format`] in a zone, which is all that a format needs of a moment.
+pub fn text_by_format_in(
+    alloc: Global,
+    time: Time,
+    format: DateFormat<'_>,
+    local: bool,
+    zone: TimeZone<'_>,
+) -> Result<String, ShowError>
+    ensures { MatchResult result
+        (λ text. shown_by_format (plain_zone zone.entry) local (format_bytes format.entry) time ≡ Some (string_bytes text))
+        (RefusesText (shown_by_format (plain_zone zone.entry) local (format_bytes format.entry) time)) }
+{
+    let Some(shown) = shown_for(time, format, local, zone) else {
         return Err(ShowError::Range);
     };
     let mut text = String::new(alloc);
-    match push_pieces(format.text, &shown, &mut text) {
+    match push_shown(format.text, &shown, &mut text) {
         Ok(()) => Ok(text),
         Err(_) => Err(ShowError::Memory),
     }
+}
+
+/// Puts what [`text_by_format_in`] gives by a format that was not checked into a text of at most 255 bytes, by one walk over
+/// the format.
+///
+/// `false` says nothing: the format may have a fault, the time no such clock, or the text no room. Then ask
+/// [`DateFormat::new`] and [`text_by_format_in`]. Years after 2099 are never shown so. Takes no memory.
+pub fn short_by_format(
+    time: Time,
+    format: &str,
+    local: bool,
+    zone: TimeZone<'_>,
+    out: &mut ShortText,
+) -> bool
+    ensures whole { IsTrue result → checked format.now ≡ Ok format.now }
+    ensures shown { IsTrue result
+        → shown_by_format (plain_zone zone.entry) local format.now time ≡ Some out.new.bytes }
+{
+    out.clear();
+    let Some(shown) = shown_at(time, local, zone) else {
+        return false;
+    };
+    if shown.seconds.is_none() {
+        return false;
+    }
+    push_short(out, format, &shown)
 }
 
 /// What the format shows of a time, if it can show all that it asks for.

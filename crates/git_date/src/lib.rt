@@ -29,7 +29,7 @@
 //!
 //! The text of a date is bytes, UTF-8 or not, as in Git: each byte that is not ASCII is a mark, and a NUL ends the text. The
 //! moment and its zone are handed in, as for [`gix_date::parse`]. No call here takes memory, but for
-//! [`text_by_format`].
+//! [`text_by_format`] and [`text_by_format_in`].
 #![tactic(auto)]
 
 mod approximate;
@@ -49,7 +49,11 @@ mod zones;
 pub use approximate::{Approximate, Expiry, approxidate, expiry_date};
 pub use date::{ReadDate, parse_date, parse_date_at};
 pub use error::DateError;
-pub use format::{DateFormat, FormatFault, ShowError, show_by_format, text_by_format};
+pub use format::{
+    DateFormat, FormatFault, ShortText, ShowError, short_by_format, show_by_format, text_by_format,
+    text_by_format_in,
+};
 pub use mode::{DateKind, DateMode, UnknownMode};
-pub use show::{DateText, show_date, show_date_at};
+pub use show::{Age, DateText, age_at, show_date, show_date_at};
+pub use zones::decimals::{decimal_of_offset, offset_of_decimal};
 pub use zones::texts::zone_offset;

@@ -140,9 +140,7 @@ fn at_said(seconds: u64, minutes: i16) -> Result<Said, DateError>
     ensures value { result ≡ at_said (seconds, minutes) }
     ensures instant { IfOk result SaidIsInstant }
 {
-    let Ok(seconds) = i64::try_from(seconds) else {
-        return Err(DateError::Range);
-    };
+    let seconds = i64::try_from(seconds).ok().ok_or(DateError::Range)?;
     if !is_instant(seconds) {
         return Err(DateError::Range);
     }
@@ -160,25 +158,16 @@ fn fields_said(text: &[u8], read: Result<Reading, Fault>) -> Result<Said, DateEr
     ensures value { result ≡ fields_said text.now read }
     ensures instant { IfOk result SaidIsInstant }
 {
-    let reading = match read {
-        Ok(reading) => reading,
-        Err(fault) => return Err(error_of(text, fault)),
-    };
-    let Some(seconds) = exact_seconds(reading.fields) else {
-        return Err(DateError::Unreadable);
-    };
+    let reading = read.map_err(|fault| error_of(text, fault))?;
+    let seconds = exact_seconds(reading.fields).ok_or(DateError::Unreadable)?;
     if !is_instant(seconds) {
         return Err(DateError::Range);
     }
-    let ignored = match reading.ignored {
-        Some(left) => Some(place_in(text, left)),
-        None => None,
-    };
     Ok(Said {
         seconds,
         offset: reading.fields.offset,
         epoch: reading.fields.epoch,
-        ignored,
+        ignored: reading.ignored.map(|left| place_in(text, left)),
     })
 }
 
@@ -240,13 +229,11 @@ pub(crate) fn said_by(now: Timestamp, text: &[u8]) -> Result<Said, DateError>
         return Ok(said);
     }
     if let Some(fields) = printed_fields(text) {
-        return fields_said(
-            text,
-            Ok(Reading {
-                fields,
-                ignored: None,
-            }),
-        );
+        let reading = Reading {
+            fields,
+            ..Reading::NOTHING
+        };
+        return fields_said(text, Ok(reading));
     }
     let (string, nul) = up_to_nul(text);
     said_up_to(nul, string_said(now, string))

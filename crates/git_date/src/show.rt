@@ -1,9 +1,10 @@
 //! Dates as Git shows them.
 ghost use Rattle.std.specs.Prelude.{◌≡◌, ◌<◌, ◌≤ℤ◌, pos, MatchResult, IfSome, option_map, unsigned_abs, false};
-ghost use Rattle.gix_date.specs.Fields.Zoned.{last_second};
+ghost use Rattle.gix_date.specs.Fields.Zoned.{last_second, whole_seconds};
 ghost use Rattle.gix_date.specs.Header.Text.{hundred_hours};
 ghost use Rattle.std.specs.Int.Signed.{lt_z};
 ghost use Rattle.jiff.specs.Words.{plain_zone};
+ghost use Rattle.git_date.specs.Show.Ages.{age_answer};
 ghost use Rattle.git_date.specs.Show.Dates.{is_stored, shown, shown_by, shown_clock, shown_offset, relative_shown, human_shown};
 ghost use Rattle.git_date.specs.Show.Clocks.{moment_at, moment_of};
 ghost use Rattle.git_date.specs.declared.error.DateError.TheVariants.{Range};
@@ -15,7 +16,8 @@ mod human;
 
 use crate::error::DateError;
 use crate::mode::{DateKind, DateMode};
-use ages::relative_text;
+pub use ages::Age;
+use ages::{age_between, relative_text};
 use arrayvec::ArrayString;
 use clocks::{is_written_offset, own_clock, zone_clock};
 use dates::{push_clock_text, raw_text, unix_text};
@@ -66,10 +68,22 @@ pub fn show_date_at(
         (λ text. shown (moment_at now.nanosecond (plain_zone zone.entry)) mode time ≡ Some text.bytes)
         (λ e. (e ≡ Range) × (shown (moment_at now.nanosecond (plain_zone zone.entry)) mode time ≡ None)) }
 {
-    match shown(time, mode, now, zone) {
-        Some(text) => Ok(text),
-        None => Err(DateError::Range),
+    shown(time, mode, now, zone).ok_or(DateError::Range)
+}
+
+/// How long before a moment a time was, as [`DateKind::Relative`] shows it: for a program that says it in another language.
+/// `None` is a time after the moment, which Git shows as `in the future`.
+///
+/// [`DateError::Range`] for a time or a moment whose whole seconds are before 1970. Takes no memory.
+#[tactic(auto, unfolding(crate::specs::Show::Ages::age_answer))]
+pub fn age_at(time: Time, now: Timestamp) -> Result<Option<Age>, DateError>
+    ensures { result ≡ age_answer (whole_seconds now.nanosecond) time.seconds }
+{
+    let second = now.as_second();
+    if time.seconds < 0 || second < 0 {
+        return Err(DateError::Range);
     }
+    Ok(age_between(second, time.seconds))
 }
 
 #[tactic(auto, unfolding(crate::specs::Show::Dates::shown))]
@@ -100,14 +114,9 @@ fn shown_offset(time: Time, local: bool, now: Timestamp, zone: TimeZone<'_>) -> 
     ensures short { IfSome result (λ offset. unsigned_abs offset < hundred_hours) }
 {
     if local {
-        let shown = zone_clock(time.seconds, zone)?;
-        return Some(shown.offset());
+        return Some(zone_clock(time.seconds, zone)?.offset());
     }
-    if is_written_offset(time.offset) {
-        Some(time.offset)
-    } else {
-        None
-    }
+    is_written_offset(time.offset).then_some(time.offset)
 }
 
 /// How long ago a time was. `None` at a moment before 1970, where Git's ages wrap.

@@ -4,6 +4,7 @@ ghost use Rattle.jiff.specs.Words.{plain_zone, IsOffsetSeconds};
 ghost use Rattle.gix_date.specs.Fields.Zoned.{is_instant};
 ghost use Rattle.git_date.specs.Exact.Zones.{offsets_of, is_same, shows, standard_offset, gap_offset, second_offset, searched_offset, local_offset};
 
+pub(crate) mod decimals;
 pub(crate) mod texts;
 
 use crate::clocks::is_instant;
@@ -18,10 +19,8 @@ pub(crate) fn offset_at(zone: TimeZone<'_>, seconds: i64) -> Option<i32>
     if !is_instant(seconds) {
         return None;
     }
-    match Timestamp::from_second(seconds) {
-        Ok(at) => Some(zone.to_offset(at).seconds()),
-        Err(_) => None,
-    }
+    let at = Timestamp::from_second(seconds).ok()?;
+    Some(zone.to_offset(at).seconds())
 }
 
 /// The zone's offset at the instant at which a clock at this offset shows these seconds.
@@ -46,10 +45,7 @@ fn is_daylight_by(zone: TimeZone<'_>, local: i64, offset: i32) -> bool
 fn is_same(offset: i32, other: Option<i32>) -> bool
     ensures { result ≡ is_same offset other }
 {
-    match other {
-        Some(other) => offset == other,
-        None => false,
-    }
+    other.is_some_and(|other| offset == other)
 }
 
 /// Whether the zone's clock shows these seconds at this offset from UTC.

@@ -19,8 +19,8 @@ use Rattle.git_date.specs.Exact.Reading.{read_on, sign_rule, rule, steps}
 use Rattle.git_date.specs.Tokens.Tokens.{Token, Letters, Digits, Mark, tokens, bytes_left, is_end, walked}
 use Rattle.git_date.specs.Types.Names.{Fault, Fields, Now, Reading}
 use Rattle.git_date.specs.Rules.Words.{without_ending}
-use Rattle.git_date.proofs.Rules.EnoughSteps.{short-kept}
-use Rattle.git_date.proofs.Rules.Kept.{Leaves, either, rule-left}
+use Rattle.git_date.proofs.Rules.EnoughSteps.{rule-short}
+use Rattle.git_date.proofs.Rules.Kept.{Leaves, either}
 use Rattle.git_date.proofs.Exact.PrintedClocks.{HasNoDigits, run-before, sign-before, at}
 use Rattle.git_date.proofs.Text.TokenRuns.{mark-first}
 use Rattle.git_date.specs.Tokens.Steps.{and_then}
@@ -206,7 +206,7 @@ module _ (now : Now) (t : Time) where
   goes f tok more stop h zero fits = absurd (omega (arith, fits))
   goes f tok more stop h (suc n) fits =
       at-end (is_end tok) (Ok (at f)) _ stop
-      (stepped n (bytes_left (tok ∷ more)) f (rule now f tok more) h (rule-left (λ ts. length ts ≤ suc n) (λ ts. length ts ≤ n) (λ place. Unit {0}) (short-kept n) now f tok more fits))
+      (stepped n (bytes_left (tok ∷ more)) f (rule now f tok more) h (rule-short now n f tok more (omega arith)))
 
   pub over : (f : Fields) → Fits (Ok (at f)) → Goes f (tokens [])
   unfolding walked tokens

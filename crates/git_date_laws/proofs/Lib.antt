@@ -1,3 +1,4 @@
+pub mod Walks
 pub mod Alike
 pub mod Heard
 pub mod Back

@@ -5,3 +5,5 @@ pub mod PrintedBack
 pub mod RawBack
 pub mod SecondsAlone
 pub mod FormatLaws
+pub mod FormatSteps
+pub mod JoinedFormats

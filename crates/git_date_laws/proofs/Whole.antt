@@ -7,3 +7,4 @@ pub mod MonthsAgreement
 pub mod Understood
 pub mod Enough
 pub mod WholePromise
+pub mod FormatModes

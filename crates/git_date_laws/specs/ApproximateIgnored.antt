@@ -19,7 +19,8 @@ use Rattle.git_date.specs.Tokens.Tokens.{Token, Letters, Digits, Mark, tokens, b
 use Rattle.git_date.specs.Types.Names.{Now, Today, Draft, Fields, Meaning, Number}
 use Rattle.git_date.specs.declared.approximate.answer.Approximate.{Approximate}
 use Rattle.git_date.specs.declared.error.DateError.TheVariants.{Unreadable}
-use Rattle.git_date_laws.specs.Ignored.{is_passed, takes_group, after_ending}
+use Rattle.git_date.specs.Rules.Words.{is_filler}
+use Rattle.git_date_laws.specs.Ignored.{takes_group, after_ending}
 use Rattle.gix_date.specs.Fields.Layout.{LocalTime}
 
 -- a number fits an unknown field: below 32 the day, below 13 the month, or the year
@@ -57,7 +58,7 @@ left_by d said = []
 -- else the number that they drop.
 abbrev pub unused_letters : Draft → List ℕ → List Token → List ℕ
 unused_letters d run more =
-    if are_digits_next more || (does_nothing d.waiting (meaning_of run) && not (is_passed run))
+    if are_digits_next more || (does_nothing d.waiting (meaning_of run) && not (is_filler run))
     then bytes_left (Letters run ∷ more) ∷ [] else left_by d (meaning_of run)
 
 -- What is not used at digits: the number that waited, if it fits no field; and they themselves, if no group is taken, and they are 0, or

@@ -22,18 +22,14 @@ use Rattle.git_date.specs.Exact.Reading.{place_in}
 use Rattle.git_date.specs.Tokens.Strings.{before_nul, nul_place}
 use Rattle.git_date.specs.Tokens.Tokens.{Token, Letters, Digits, Mark, tokens, bytes_left}
 use Rattle.git_date.specs.Types.Names.{Now, Dated, Fields, Group, Said}
-use Rattle.git_date.specs.Rules.Words.{is_any_of, letters_rule}
+use Rattle.git_date.specs.Rules.Words.{is_any_of, is_filler, letters_rule}
 use Rattle.git_date.specs.declared.date.ReadDate.{ReadDate}
 
--- the words that say nothing, and are never missed
-unfoldable pub is_passed : List ℕ → Bool
-is_passed word = is_any_of (codes "ago" ∷ codes "at" ∷ codes "on" ∷ codes "of" ∷ codes "the" ∷ codes "and" ∷ []) word
-
--- a known word: a month, a day of the week, a zone, or one of these
+-- a known word: a month, a day of the week, a zone, `PM`, `AM`, or a filler
 abbrev pub is_known : List ℕ → Bool
 is_known word =
     is_some (month_told word) || is_weekday word || is_some (zone_named word) || is_name word (codes "PM") || is_name word (codes "AM")
-    || is_passed word
+    || is_filler word
 
 -- a known word, with no digits directly after it
 abbrev pub is_word : List ℕ → List Token → Bool

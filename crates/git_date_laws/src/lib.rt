@@ -17,7 +17,9 @@ pub use approximate::{
     back_in_every_zone, careful_agrees, exact_answer, exactly_back, expiry_up_to_nul, marks,
     months_agree, no_word_ignored, not_understood_is_now, now_in_every_zone, one_answer,
 };
-pub use formats::{plain_format, stored_by_format};
+pub use formats::{
+    joined_formats, modes_by_format, plain_format, read_back_by_format, stored_by_format,
+};
 use gix_date::{Time, Zoned};
 use jiff::tz::TimeZone;
 pub use promise::headline;

@@ -2,6 +2,7 @@ pub mod Answering
 pub mod Cutting
 pub mod Following
 pub mod FoundOnce
+pub mod Fronts
 pub mod OfText
 pub mod PatternsOnce
 pub mod RepliesOnce

@@ -10,6 +10,7 @@ use Rattle.gix_date.specs.Text.Numbers.{decimal_text}
 use Rattle.gix_date.specs.declared.error.Error.{Error}
 use Rattle.gix_date.specs.declared.time.Time.{Time}
 use Rattle.gix_date.specs.declared.time.format.Format.{Format}
+use Rattle.git_date.specs.Formats.Format.{format_bytes, shown_by_format}
 use Rattle.git_date.specs.Show.Dates.{shown}
 use Rattle.git_date.specs.Show.Clocks.{moment_of}
 use Rattle.git_date.specs.declared.approximate.answer.Approximate.{Approximate}
@@ -23,7 +24,7 @@ use Rattle.git_date_tool.specs.declared.answers.shown.DateLine.{DateLine}
 use Rattle.git_date_tool.specs.declared.answers.shown.NamedFormat.{NamedFormat}
 use Rattle.git_date_tool.specs.declared.answers.shown.NamedFormat.TheVariants.{Short, Rfc2822, GitRfc2822, Iso8601, Iso8601Strict, Gitoxide, Default, Unix, Raw}
 use Rattle.git_date_tool.specs.declared.answers.shown.Shown.{Shown}
-use Rattle.git_date_tool.specs.declared.answers.shown.Shown.TheVariants.{Git, Gix}
+use Rattle.git_date_tool.specs.declared.answers.shown.Shown.TheVariants.{Git, Gix, ByFormat}
 use Rattle.git_date_tool.proofs.FoundOnce.{reads-once}
 use Rattle.git_date_tool.proofs.PatternsOnce.{IsLineOf, Piecewise, format-line, piecewise}
 
@@ -87,6 +88,8 @@ shown-once (Gix Unix) now t told a b h g =
 shown-once (Gix Raw) now t told a b h g =
     let in_format = λ (x : Result DateLine Refusal) (k : IsShownByGix Raw t (Ok x)). header-shown t k.2 x (subst (λ (format : Format). Prints t format k.2) k.1 k.3) k.4 in
     line-once (header_text t) told a b (in_format a h) (in_format b g)
+shown-once (ByFormat format local) now t told a b h g =
+    line-once (shown_by_format (moment_of now).zone local (format_bytes format) t) told a b h g
 
 found-once : (query : Query) (text : List ℕ) (found : Result Approximate Refusal) (a b : Reply)
     → IsFoundReply query text found a → IsFoundReply query text found b → a ≡ b

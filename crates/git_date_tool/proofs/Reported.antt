@@ -23,37 +23,46 @@ fault-reported telling fault words cause told-of w k said =
     subst (λ (closed : Bool). Reports telling (cond closed None (Some told))) (sym told-of) (subst (WritesMessage telling) whole said)
 
 -- a line and what follows it, in pieces
-in-pieces : (front lead text line usage : List ℕ) → front ++ (lead ++ (text ++ (line ++ usage))) ≡ ((front ++ (lead ++ text)) ++ line) ++ usage
-in-pieces front lead text line usage =
-    sym (append_assoc (front ++ (lead ++ text)) line usage ∙ append_assoc front (lead ++ text) (line ++ usage)
-    ∙ ap (λ (xs : List ℕ). front ++ xs) (append_assoc lead text (line ++ usage)))
+in-pieces : (front lead place text line usage : List ℕ) → front ++ (lead ++ (place ++ (text ++ (line ++ usage)))) ≡ ((front ++ (lead ++ (place ++ text))) ++ line) ++ usage
+in-pieces front lead place text line usage =
+    let more = line ++ usage in
+    sym (append_assoc (front ++ (lead ++ (place ++ text))) line usage ∙ append_assoc front (lead ++ (place ++ text)) more
+    ∙ ap (λ (xs : List ℕ). front ++ xs) (append_assoc lead (place ++ text) more)
+    ∙ ap (λ (xs : List ℕ). front ++ (lead ++ xs)) (append_assoc place text more))
 
 -- so that begins with a word
-of-word : (front word mid lead text line usage : List ℕ) → front ++ (word ++ (mid ++ (lead ++ (text ++ (line ++ usage)))))
-    ≡ ((front ++ (word ++ (mid ++ (lead ++ text)))) ++ line) ++ usage
-of-word front word mid lead text line usage =
-    let more = line ++ usage in
-    sym (append_assoc (front ++ (word ++ (mid ++ (lead ++ text)))) line usage
-    ∙ append_assoc front (word ++ (mid ++ (lead ++ text))) more
-    ∙ ap (λ (xs : List ℕ). front ++ xs) (append_assoc word (mid ++ (lead ++ text)) more)
-    ∙ ap (λ (xs : List ℕ). front ++ (word ++ xs)) (append_assoc mid (lead ++ text) more)
-    ∙ ap (λ (xs : List ℕ). front ++ (word ++ (mid ++ xs))) (append_assoc lead text more))
+of-word : (front word mid lead place text more : List ℕ) → front ++ (word ++ (mid ++ (lead ++ (place ++ (text ++ more)))))
+    ≡ (front ++ (word ++ (mid ++ (lead ++ (place ++ text))))) ++ more
+of-word front word mid lead place text more =
+    sym (append_assoc front (word ++ (mid ++ (lead ++ (place ++ text)))) more
+    ∙ ap (λ (xs : List ℕ). front ++ xs) (append_assoc word (mid ++ (lead ++ (place ++ text))) more)
+    ∙ ap (λ (xs : List ℕ). front ++ (word ++ xs)) (append_assoc mid (lead ++ (place ++ text)) more)
+    ∙ ap (λ (xs : List ℕ). front ++ (word ++ (mid ++ xs))) (append_assoc lead (place ++ text) more)
+    ∙ ap (λ (xs : List ℕ). front ++ (word ++ (mid ++ (lead ++ xs)))) (append_assoc place text more))
 
-pub tells-usage : (telling : Change) (lead text : List ℕ)
-    → WritesMessage telling (codes "git_date: " ++ (lead ++ (text ++ (newline ∷ USAGE.now)))) → WritesMessage telling (usage_message (lead ++ text))
-tells-usage telling lead text h = subst (WritesMessage telling) (in-pieces (codes "git_date: ") lead text (newline ∷ []) USAGE.now) h
+pub tells-usage : (telling : Change) (lead place text : List ℕ)
+    → WritesMessage telling (codes "git_date: " ++ (lead ++ (place ++ (text ++ (newline ∷ USAGE.now)))))
+    → WritesMessage telling (usage_message (lead ++ (place ++ text)))
+tells-usage telling lead place text h =
+    subst (WritesMessage telling) (in-pieces (codes "git_date: ") lead place text (newline ∷ []) USAGE.now) h
 
-pub tells-about : (telling : Change) (word lead text : List ℕ)
-    → WritesMessage telling (codes "git_date: '" ++ (word ++ (codes "' " ++ (lead ++ (text ++ (newline ∷ USAGE.now))))))
-    → WritesMessage telling (usage_message (about word (lead ++ text)))
-tells-about telling word lead text h = subst (WritesMessage telling) (of-word (codes "git_date: '") word (codes "' ") lead text (newline ∷ []) USAGE.now) h
+pub tells-about : (telling : Change) (word lead place text : List ℕ)
+    → WritesMessage telling (codes "git_date: '" ++ (word ++ (codes "' " ++ (lead ++ (place ++ (text ++ (newline ∷ USAGE.now)))))))
+    → WritesMessage telling (usage_message (about word (lead ++ (place ++ text))))
+tells-about telling word lead place text h =
+    let said = codes "git_date: '" ++ (word ++ (codes "' " ++ (lead ++ (place ++ text)))) in
+    subst (WritesMessage telling) (of-word (codes "git_date: '") word (codes "' ") lead place text (newline ∷ USAGE.now) ∙ sym (append_assoc said (newline ∷ []) USAGE.now)) h
 
 -- what is wrong with a word, by what it is
-pub tells-wrong : (telling : Change) (subject : Option (List ℕ)) (word lead text l t : List ℕ) → subject ≡ Some word → lead ≡ l → text ≡ t
-    → WritesMessage telling (usage_message (about word (lead ++ text))) → WritesMessage telling (usage_message (about_any subject (l ++ t)))
-tells-wrong telling subject word lead text l t is d e h =
-    subst (λ (s : Option (List ℕ)). WritesMessage telling (usage_message (about_any s (l ++ t)))) (sym is)
-    (subst (λ (said : List ℕ). WritesMessage telling (usage_message (about word said))) (ap₂ (λ (xs ys : List ℕ). xs ++ ys) d e) h)
+pub tells-wrong : (telling : Change) (subject : Option (List ℕ)) (word said due : List ℕ) → subject ≡ Some word → said ≡ due
+    → WritesMessage telling (usage_message (about word said)) → WritesMessage telling (usage_message (about_any subject due))
+tells-wrong telling subject word said due is e h =
+    subst (λ (s : Option (List ℕ)). WritesMessage telling (usage_message (about_any s due))) (sym is)
+    (subst (λ (said : List ℕ). WritesMessage telling (usage_message (about word said))) e h)
+
+-- what is said of it, by its pieces
+pub said-is : (lead place text l p t : List ℕ) → lead ≡ l → place ≡ p → text ≡ t → lead ++ (place ++ text) ≡ l ++ (p ++ t)
+said-is lead place text l p t d e f = ap₂ (λ (xs ys : List ℕ). xs ++ ys) d (ap₂ (λ (xs ys : List ℕ). xs ++ ys) e f)
 
 -- what is said of an end, by what it is
 pub end-reported : (telling : Change) (outcome this : Outcome) → outcome ≡ this → Reports telling (message_of this) → Reports telling (message_of outcome)

@@ -14,6 +14,7 @@ use Rattle.gix_date_tool.specs.declared.program.Status.{Status}
 use Rattle.gix_date_tool.specs.declared.program.Status.TheVariants.{Success, Failure, Usage}
 use Rattle.std.specs.declared.io.ErrorKind.TheVariants as kinds
 use Rattle.git_date.specs.declared.mode.DateKind.TheVariants.{Raw}
+use Rattle.git_date_tool.specs.Answers.Shown.{Git, way_of}
 use Rattle.git_date_tool.specs.CommandLine.Command.{Answer, Ask, Asked, Help, Version, asked}
 use Rattle.git_date_tool.specs.CommandLine.Now.{IsInstantOf}
 use Rattle.git_date_tool.specs.Runs.Runs.{IsUntouched, Output, output, RunsOver, RunsThrough}
@@ -27,7 +28,6 @@ use Rattle.git_date_tool.specs.declared.program.outcome.Outcome.TheVariants.{Ans
 use Rattle.git_date_tool.specs.declared.program.help.TheConstants.{HELP, USAGE, VERSION}
 use Rattle.git_date_tool.specs.declared.answers.readers.Reader.TheVariants.{Approxidate}
 use Rattle.git_date_tool.specs.declared.answers.readers.Strictness.TheVariants.{Usual}
-use Rattle.git_date_tool.specs.declared.answers.shown.Shown.TheVariants.{Git}
 use Rattle.git_date_tool.specs.declared.runs.session.Verdict.{Verdict}
 use Rattle.git_date_tool.specs.declared.answers.warnings.Numbered.{Numbered}
 use Rattle.git_date_tool.specs.declared.answers.warnings.Numbered.TheVariants.{Line, Text}
@@ -117,7 +117,7 @@ numbered_of (text ∷ texts) = Text
 -- the query is what was asked for
 pub record IsQuery (a : Asked) (query : Query) : Type 0 where
   pub reader : query.reader ≡ unwrap_or a.reader Approxidate
-  pub shown : query.shown ≡ unwrap_or a.shown (Git (record { kind = Raw; local = false }))
+  pub shown : way_of query.shown ≡ unwrap_or a.shown (Git (record { kind = Raw; local = false }))
   pub strictness : query.strictness ≡ unwrap_or a.strictness Usual
   pub numbered : query.numbered ≡ numbered_of a.texts
   pub now : IsInstantOfNow a.now (zone_of query.now) query.now

@@ -27,7 +27,7 @@ pub struct Query<'z> {
     /// What reads the texts.
     pub reader: Reader,
     /// What is shown of each date.
-    pub shown: Shown,
+    pub shown: Shown<'z>,
     /// The moment that dates are relative to, in the zone of dates without an offset.
     pub now: Zoned<'z>,
     /// How much of a text has to be understood.
@@ -99,7 +99,7 @@ fn put_refusal<W: Sink>(refusal: Refusal, out: &mut W) -> Result<(), io::ErrorKi
     }
 }
 
-/// The answer to a line. Memory is taken to print by a format of gix-date, and for nothing else; `Err` if it is refused.
+/// The answer to a line. Memory is taken to print by a format, and for nothing else; `Err` if it is refused.
 ///
 /// Git's readers take any bytes, and the others text alone.
 #[tactic(auto, unfolding(crate::specs::Answers::Replies::IsReply))]

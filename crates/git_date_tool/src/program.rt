@@ -23,7 +23,7 @@ use crate::program::arguments::{Command, Request, read_words};
 use crate::program::help::{HELP, USAGE, VERSION};
 use crate::program::now::instant_of;
 use crate::program::outcome::{NoNow, Outcome};
-use crate::program::wrong::WrongWords;
+use crate::program::wrong::{WrongWords, place_digits};
 use crate::runs::session::Verdict;
 use crate::runs::{run_over, run_through};
 use crate::zones::files::NoZone;
@@ -49,7 +49,7 @@ use std::time::Clock;
 /// clock, `TZ`, `TZDIR` and the files are the machine's is trusted: no contract can say what they hold.
 ///
 /// [`Status::Success`] if each text was read, [`Status::Failure`] if one was not or the run has a fault, and [`Status::Usage`] if the
-/// words, NOW or the zone are wrong. Takes memory for a line, for zones and for the formats of gix-date.
+/// words, NOW or the zone are wrong. Takes memory for a line, for zones and for formats.
 ///
 /// A line is put into the messages for what was ignored or not understood of a text that was read, one after several texts of which a
 /// word was not understood, one for a fault but that of a closed pipe, and two for wrong words: what is wrong, and the usage. What they
@@ -192,7 +192,7 @@ fn are_several(texts: &[String]) -> bool
 }
 
 /// What is asked of each text, in a zone.
-fn query_of<'w, 'z, S: Clock>(
+fn query_of<'w: 'z, 'z, S: Clock>(
     system: &S,
     request: Request<'w>,
     zone: TimeZone<'z>,
@@ -301,28 +301,37 @@ fn is_closed_pipe(fault: &ToolError) -> bool
 fn tell_wrong<M: Sink>(why: WrongWords<'_>, messages: &mut M)
     ensures { WritesMessage (change (M.known messages.old) (M.known messages.new)) (usage_message (wrong_words why.entry)) }
 {
+    let mut digits = itoa::Buffer::new();
+    let place = place_digits(why.place(), &mut digits);
     match why.subject() {
-        Some(word) => tell_about(word, why.lead(), why.text(), messages),
-        None => tell_usage(why.lead(), why.text(), messages),
+        Some(word) => tell_about(word, why.lead(), place, why.text(), messages),
+        None => tell_usage(why.lead(), place, why.text(), messages),
     }
 }
 
 /// Says of a word what is wrong with it, and how the program is called.
-fn tell_about<'a, M: Sink>(word: &'a str, lead: &'a str, text: &'a str, messages: &mut M)
+fn tell_about<'a, M: Sink>(
+    word: &'a str,
+    lead: &'a str,
+    place: &'a str,
+    text: &'a str,
+    messages: &mut M,
+)
     ensures { WritesMessage (change (M.known messages.old) (M.known messages.new))
-        (usage_message (about word.now (lead.now ++ text.now))) }
+        (usage_message (about word.now (lead.now ++ (place.now ++ text.now)))) }
 {
     write_message(
-        &["git_date: '", word, "' ", lead, text, "\n", USAGE],
+        &["git_date: '", word, "' ", lead, place, text, "\n", USAGE],
         messages,
     );
 }
 
 /// Says this, and how the program is called.
-fn tell_usage<'a, M: Sink>(lead: &'a str, text: &'a str, messages: &mut M)
-    ensures { WritesMessage (change (M.known messages.old) (M.known messages.new)) (usage_message (lead.now ++ text.now)) }
+fn tell_usage<'a, M: Sink>(lead: &'a str, place: &'a str, text: &'a str, messages: &mut M)
+    ensures { WritesMessage (change (M.known messages.old) (M.known messages.new))
+        (usage_message (lead.now ++ (place.now ++ text.now))) }
 {
-    write_message(&["git_date: ", lead, text, "\n", USAGE], messages);
+    write_message(&["git_date: ", lead, place, text, "\n", USAGE], messages);
 }
 
 /// The status that an end has.

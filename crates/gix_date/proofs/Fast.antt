@@ -1,3 +1,4 @@
 -- Fast paths.
 pub mod FastHeaders
 pub mod CanonicalBytes
+pub mod UnknownOffsets

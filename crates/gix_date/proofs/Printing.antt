@@ -9,3 +9,4 @@ pub mod RawBack
 pub mod LocalClocks
 pub mod ShownTexts
 pub mod Appended
+pub mod Pairs

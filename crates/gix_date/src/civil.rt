@@ -4,8 +4,7 @@ ghost use Rattle.jiff.specs.Words.{IsOffsetSeconds};
 ghost use Rattle.gix_date.specs.Fields.Civil.{is_date, civil_instant, DateFits, ClockFits};
 ghost use Rattle.gix_date.specs.Families.Patterns.{midnight};
 
-use crate::time::{OffsetInSeconds, SecondsSinceUnixEpoch};
-use jiff::Timestamp;
+use crate::time::{FIRST_SECOND, LAST_SECOND, OffsetInSeconds, SecondsSinceUnixEpoch};
 use jiff::civil::{Date, DateTime};
 
 /// A year, month and day, whether or not the calendar has it.
@@ -74,9 +73,10 @@ fn instant_at(
         return None;
     };
     let seconds = local.to_plain().to_second() - i64::from(offset);
-    match Timestamp::from_second(seconds) {
-        Ok(_) => Some(seconds),
-        Err(_) => None,
+    if FIRST_SECOND <= seconds && seconds <= LAST_SECOND {
+        Some(seconds)
+    } else {
+        None
     }
 }
 

@@ -13,7 +13,7 @@
 //! ```
 //!
 //! Names and modules are those of the Rust crate gix-date 0.18.1, except for `parsing`, which is `parse` there.
-//! `docs/DIFFERENCES.md` lists what is not there. The caller always passes clock and zone. A call takes memory only by
+//! `docs/RUST.md` lists what differs. The caller always passes clock and zone. A call takes memory only by
 //! an allocator that it is given, or as a `Vec` that is written to grows.
 #![tactic(auto)]
 

@@ -1,7 +1,9 @@
 mod Blocks
 mod Boxed
+mod Kept
 mod Modes
 mod Named
 mod Pieces
 mod Printed
 mod Rows
+mod Stored

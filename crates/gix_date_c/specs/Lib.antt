@@ -1,6 +1,7 @@
 pub mod Careful
 pub mod Git
 pub mod Handles
+pub mod Idents
 pub mod Laws
 pub mod Lines
 pub mod Moments

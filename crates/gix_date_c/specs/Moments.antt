@@ -1,11 +1,12 @@
 -- Moments: instants in zones.
 use Rattle.std.specs.Prelude.{◌≡◌, ℕ, false, List, None, Result, Ok, Err, ℤ, pos, ◌+ℤ◌, ◌*ℤ◌, MatchResult}
+use Rattle.std.specs.Result.{result_map_both}
 use Rattle.std.specs.Str.{is_utf8}
 use Rattle.std.specs.Borrow.{Bor}
 use Rattle.jiff.specs.Instant.{IsTimestampParts}
 use Rattle.jiff.specs.Placed.{IsPosixZone, fixed_zone}
 use Rattle.jiff.specs.Types.{Offset, TimeZone, Tzif as Table}
-use Rattle.jiff.specs.Words.{plain_zoned, zoned_nanos, IsOffsetSeconds}
+use Rattle.jiff.specs.Words.{offset_at as zone_offset_at, plain_zoned, zoned_nanos, IsOffsetSeconds}
 use Rattle.jiff.specs.declared.zoned.Zoned.{Zoned}
 use Rattle.jiff_core.specs.declared.error.Error.{Error as JiffError}
 use Rattle.jiff_core.specs.declared.error.Error.TheVariants.{OutOfMemory}
@@ -59,6 +60,10 @@ abbrev pub IsPlaced : (Result TimeZone Status → Type 0) → CInstant → Resul
 IsPlaced IsZone instant place =
     (zone : Result TimeZone Status) × IsZone zone
     × ((nanos : Result ℤ Status) × IsInstant instant nanos × (place ≡ placed nanos zone))
+
+-- the offset of a zone at an instant, where there are both
+abbrev pub offset_at : Result Place Status → Result ℤ Status
+offset_at place = result_map_both (λ p. zone_offset_at p.1 p.0) (λ status. status) place
 
 -- the zone that always has this offset
 abbrev pub IsOffsetZone : ℤ → Result TimeZone Status → Type 0

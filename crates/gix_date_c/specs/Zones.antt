@@ -7,8 +7,9 @@ use Rattle.jiff.specs.Placed.{IsPosixZone}
 use Rattle.jiff.specs.Words.{plain_zone}
 use Rattle.jiff_tz.specs.declared.tzif.Tzif.{Tzif}
 use Rattle.git_date.specs.Exact.ZoneTexts.{zone_offset}
-use Rattle.gix_date_c.specs.Moments.{IsFileZone, IsOffsetZone, IsRuleZone, IsTable}
+use Rattle.gix_date_c.specs.Moments.{IsFileZone, IsOffsetZone, IsPlaced, IsRuleZone, IsTable, Place, offset_at}
 use Rattle.gix_date_c.specs.Values.Statuses.{number_of}
+use Rattle.gix_date_c.specs.declared.moment.CInstant.{CInstant}
 use Rattle.gix_date_c.specs.declared.values.status.Status.{Status}
 use Rattle.gix_date_c.specs.declared.values.status.Status.TheVariants as statuses
 use Rattle.gix_date_c.specs.declared.zone.stored.CZone.{CZone}
@@ -55,6 +56,11 @@ IsZoneOf offset (Some held) (Err status) = ⊥
 -- the zone of C
 abbrev pub IsZone : CZone → Result TimeZone Status → Type 0
 IsZone zone = IsZoneOf zone.offset zone.handle.held
+
+-- the offset at an instant of a zone of which this is known, or why there is none
+abbrev pub IsOffset : (Result TimeZone Status → Type 0) → CInstant → Result ℤ Status → Type 0
+IsOffset IsZone instant offset =
+    (place : Result Place Status) × IsPlaced IsZone instant place × (offset ≡ offset_at place)
 
 -- UTC, with nothing held
 abbrev pub IsUtc : CZone → Type 0

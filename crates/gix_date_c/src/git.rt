@@ -2,9 +2,13 @@
 ghost use Rattle.std.specs.Prelude.{◌≡◌};
 ghost use Rattle.gix_date_c.specs.Git.Dates.{date_refusal, ignored_place};
 
+mod ages;
 pub(crate) mod dates;
+mod formats;
 mod lines;
+mod offsets;
 mod show;
+mod stored;
 
 use crate::values::refusal::Refusal;
 use crate::values::status::Status;

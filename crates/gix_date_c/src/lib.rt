@@ -9,6 +9,7 @@
 mod careful;
 mod git;
 mod header;
+mod ident;
 mod laws;
 mod lines;
 mod moment;

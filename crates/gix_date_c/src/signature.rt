@@ -106,7 +106,7 @@ pub extern "C" fn gix_date_write_signature(
 
 /// A sink that takes all and keeps nothing.
 #[derive(Drop)]
-struct Nowhere;
+pub(crate) struct Nowhere;
 
 impl Sink for Nowhere {
     ghost known = { λ _. record { bytes = None; fault = None } };

@@ -9,6 +9,7 @@ ghost use Rattle.gix_date_c.specs.declared.values.status.Status.TheVariants.{Mem
 
 mod handle;
 mod held;
+mod offset;
 mod stored;
 
 use crate::moment::{CInstant, moment_in, offset_zone};

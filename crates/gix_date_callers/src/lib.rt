@@ -5,6 +5,7 @@ pub mod approximate_caller;
 pub mod caller;
 pub mod clock_caller;
 pub mod git_date_caller;
+pub mod header_caller;
 pub mod instant_caller;
 pub mod mail_caller;
 pub mod more_callers;

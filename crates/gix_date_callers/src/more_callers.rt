@@ -1,5 +1,5 @@
 //! More callers of `gix_date`: docs/CALLING.md says what each is for.
-ghost use Rattle.std.specs.Prelude.{◌≡◌, ◌≢◌, ◌↔◌, ◌⊎◌, ◌<◌, ◌-ℤ◌, pos, true, false, IsTrue, IsSome, Some, None, Err, Ok, IfSome, IfNone, IsOk, IsOkAnd, IsSomeAnd, IfOk, MatchResult, option_map, replicate, string_bytes, ℤ};
+ghost use Rattle.std.specs.Prelude.{◌≡◌, ◌≢◌, ◌↔◌, ◌⊎◌, ◌<◌, ◌-ℤ◌, pos, true, false, IsTrue, IsSome, Some, None, Err, Ok, IfSome, IfNone, IsOk, IsOkAnd, IsSomeAnd, IfOk, MatchResult, option_map, replicate, string_bytes, unwrap_or, ℤ, Option};
 ghost use Rattle.std.specs.Str.{IsUtf8};
 ghost use Rattle.gix_date.specs.Families.Answer.{Absolute, Relative};
 ghost use Rattle.gix_date.specs.Header.Canonical.{is_canonical_header};
@@ -22,6 +22,7 @@ ghost use Rattle.gix_date.specs.declared.time.Time.{Time as Read};
 ghost use Rattle.gix_date.specs.declared.time.format.Format.TheVariants.{Custom, Unix};
 ghost use Rattle.gix_date.specs.Relative.Steps.{zone_of};
 ghost use Rattle.jiff.specs.Words.{plain_zone, zoned_nanos, nanos_of_seconds};
+ghost use Rattle.jiff.specs.declared.tz.timezone.TimeZone.{TimeZone as Place};
 ghost use Rattle.jiff.specs.declared.zoned.Zoned.{Zoned as Moment};
 
 use crate::caller::date_typed;
@@ -278,4 +279,17 @@ pub fn shown(alloc: Global, time: Time) -> Result<String, AllocError>
     ensures { IfOk result (λ text. IfSome (header_text time) (λ due. string_bytes text ≡ due)) }
 {
     format!(in alloc; "{time}")
+}
+
+/// The time of a commit made now, in the machine's zone, or in UTC if that is not found.
+pub fn commit_time<R: Clock + Env + Files + AllocGlobal + Clone + Drop>(
+    rt: &R,
+) -> Result<Time, jiff::Error>
+    ensures { IfOk result (λ t. (instant : ℤ) × (zone : Option Place)
+        × (t ≡ unwrap_or (option_map (λ z. time_in (plain_zone z) instant) zone) (time_in_utc instant))) }
+{
+    let zones = TimeZoneDatabase::from_env(rt)?;
+    let named = SystemTimeZone::read(rt)?;
+    let zone = named.time_zone(&zones).ok();
+    Ok(Time::now_local_or_utc(Timestamp::now(rt)?, zone))
 }

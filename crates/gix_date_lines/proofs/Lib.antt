@@ -1,2 +1,4 @@
 mod Rows
 pub mod Splitting
+pub mod ByteBlocks
+pub mod HeaderLines

@@ -5,7 +5,10 @@ ghost use Rattle.std.specs.Prelude.{◌≡◌, ◌++◌, ◌∷◌, MatchOption,
 ghost use Rattle.gix_date.specs.Text.Characters.{newline};
 ghost use Rattle.gix_date_lines.specs.Lines.{IsFirstLine, IsLine, SplitsAreUnique};
 
-use memchr::memchr;
+mod blocks;
+pub mod usual;
+
+use crate::blocks::newline_at;
 
 /// An input has one way to be split into lines.
 pub fn lines_are_unique()
@@ -17,7 +20,7 @@ pub fn split_line(bytes: &[u8]) -> Option<(&[u8], &[u8])>
     ensures { MatchOption result (IsLine bytes.now)
         (λ cut. IsLine cut.0.now × (bytes.now ≡ cut.0.now ++ newline ∷ cut.1.now)) }
 {
-    let at = memchr(b'\n', bytes)?;
+    let at = newline_at(bytes)?;
     Some((&bytes[..at], &bytes[at + 1..]))
 }
 

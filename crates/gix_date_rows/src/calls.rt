@@ -44,8 +44,7 @@
 //! - Escapes are `\t`, `\n`, `\r`, `\\`, `\xff` for a byte and `\u{2028}` for a character.
 //!
 //! A row runs all calls that answer the same, such as `parse_with` and `parse_no_alloc`. Rows that are not UTF-8 are skipped here if
-//! `!NotText` is due. The library for C has no `to_zoned`, no `now_local` and no `show_by_format`, so the readers in C and Python pass over
-//! these by name, and that in Rust over the last.
+//! `!NotText` is due. The library for C has no `to_zoned` and no `now_local`, so the readers in C and Python pass over these by name.
 use crate::answer::{Answer, name_of};
 use crate::approximate::{expires, guessed, passed_over};
 use crate::arguments::Arguments;

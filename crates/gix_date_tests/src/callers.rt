@@ -5,13 +5,12 @@ use gix_date::device::Device;
 use gix_date::parsing::TimeBuf;
 use gix_date::time::format;
 use gix_date::{Error, Time};
-use gix_date_callers::caller::{
-    commit_time, date_meant, date_typed, iso_date, kept_in_header, rewrite,
-};
+use gix_date_callers::caller::{date_meant, date_typed, iso_date};
+use gix_date_callers::header_caller::{kept_in_header, rewrite};
 use gix_date_callers::more_callers::{
-    absolute_date, asks_for_a_moment, authored, authored_in_utc, day_before, day_before_in_zone,
-    doubled, header_bytes, kept_by_each, kept_in_date, log_date, log_text, read_canonical,
-    resolved, shown, stored_date,
+    absolute_date, asks_for_a_moment, authored, authored_in_utc, commit_time, day_before,
+    day_before_in_zone, doubled, header_bytes, kept_by_each, kept_in_date, log_date, log_text,
+    read_canonical, resolved, shown, stored_date,
 };
 use gix_date_callers::readme::{stored_time, written_again};
 use jiff::Timestamp;

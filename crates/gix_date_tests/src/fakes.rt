@@ -1,6 +1,7 @@
 //! Writers and readers for tests: they take and give a few bytes a call, count the calls, and fail on demand.
 pub mod harness;
 pub mod machine;
+pub mod words;
 
 use gix_date::device::Sink;
 use std::alloc::{AllocError, Global};

@@ -3,4 +3,6 @@ mod commands;
 mod devices;
 mod failing;
 mod memory;
+mod objects;
 mod runs;
+mod words;

@@ -9,3 +9,4 @@ pub mod UnchangedLines
 pub mod Reading
 pub mod Reporting
 pub mod RunsOnce
+pub mod UnknownOffsets

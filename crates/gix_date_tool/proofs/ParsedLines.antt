@@ -1,7 +1,7 @@
 -- The reply to a line that is parsed as a time is its header text.
-use Rattle.std.proofs.Common.{◌≡◌, ◌∙◌, ℕ, List, Bool, true, false, cond, Option, Some, None, Result, Ok, Err, refl, sym, ap, subst, inl, inr}
-use Rattle.std.proofs.lemmas.Option.{same_Some as same_some}
-use Rattle.std.specs.Prelude.{is_some, IsSome, nat_lt, unsigned_abs}
+use Rattle.std.proofs.Common.{◌≡◌, ◌<◌, arith, ℕ, List, Bool, true, false, cond, Option, Some, None, Result, Ok, Err, refl, subst, inl, inr}
+use Rattle.std.proofs.lemmas.Bool.Decides.{nat_tests}
+use Rattle.std.specs.Prelude.{IsSome, nat_lt, unsigned_abs}
 use Rattle.std.specs.Option.{option_map_or}
 use Rattle.jiff.specs.declared.zoned.Zoned.{Zoned}
 use Rattle.gix_date.specs.Families.Order.{first_family, ParseNoAllocOutcome}
@@ -28,9 +28,14 @@ written-is t h = by (nat_lt (unsigned_abs t.offset) hundred_hours) h
     by true h = refl
     by false h = absurd cc
 
--- so a header text of a time is that
-pub text-written : (t : Time) (text : List ℕ) → header_text t ≡ Some text → text ≡ written_text t
-text-written t text e = same_some text (written_text t) (sym e ∙ written-is t (ap is_some e))
+-- and its offset is short of 100 hours
+pub text-short : (t : Time) → IsSome (header_text t) → unsigned_abs t.offset < hundred_hours
+unfolding header_text
+text-short t h = by (nat_lt (unsigned_abs t.offset) hundred_hours) refl h
+  where
+    by : (b : Bool) → nat_lt (unsigned_abs t.offset) hundred_hours ≡ b → IsSome (cond b (Some (written_text t)) None) → unsigned_abs t.offset < hundred_hours
+    by true e h = grind (arith, nat_tests, e)
+    by false e h = absurd cc
 
 -- a reply of Check is of no parsed time
 no-check : (canonical : Bool) (found : Option Time) (t : Time) → Parsed t ≡ cond canonical Canonical (option_map_or Read found NoTime) → ⊥

@@ -17,7 +17,7 @@ use Rattle.gix_date_tool.specs.Lines.{IsLine, LineGoesOn, Part, with_newline, Is
 use Rattle.gix_date_tool.specs.Replies.{Replied, AreReplies, IsReply, reply_line, reply_lines}
 use Rattle.gix_date_tool.specs.Outbox.{Output, Puts, Sends}
 use Rattle.gix_date_tool.specs.Run.{StopsAt, writer_answer}
-use Rattle.gix_date_tool.specs.Progress.{Stage, IsReady, TakesTo, TakesIn, SendsAll, Closes}
+use Rattle.gix_date_tool.specs.Progress.{Stage, IsReady, TakesTo, TakesIn, SendsAll, Closes, ClosesBy}
 use Rattle.gix_date_tool.proofs.Sending.{Puts-nil, Sends-then}
 
 AreReplies-append : (query : Query) (lines more : List (List ℕ)) (replies others : List Reply) → AreReplies query lines replies → AreReplies query more others
@@ -272,6 +272,51 @@ TakesIn-newline {s = s} (Err kind) ready few h = record {
   to = tt;
   put = h.put;
 }
+
+-- a line and its newline are some bytes
+pub some_line : (line : List ℕ) → 0 < length (line ++ newline ∷ [])
+some_line line = omega (arith, length-append line (newline ∷ []))
+
+pub some_first : (bytes line after : List ℕ) → bytes ≡ (line ++ newline ∷ []) ++ after → 0 < length bytes
+some_first bytes line after e = omega (arith, ap length e, length-append (line ++ newline ∷ []) after, some_line line)
+
+-- a whole line was taken in where none stood open, whatever came of the reply to it
+pub TakesIn-whole : {s s' : Stage} (line : List ℕ) (reply : Reply) (r : Result (Unit {0}) ErrorKind) → s.open_line ≡ [] → s.ended < MAX_LINES → IsLine line → IsShort line
+    → IsReply s.query line reply → ClosesBy reply s s' r → TakesIn s s' (line ++ newline ∷ []) (as_tool r)
+TakesIn-whole {s = s} {s' = s'} line reply r none few is_line short is h =
+    subst (λ open_line. TakesIn (record s { open_line = open_line }) s' (line ++ newline ∷ []) (as_tool r)) (sym none) (of r h)
+  where
+    at : Stage
+    at = record s { open_line = [] }
+
+    of : (r : Result (Unit {0}) ErrorKind) → ClosesBy reply s s' r → TakesIn (record s { open_line = [] }) s' (line ++ newline ∷ []) (as_tool r)
+    of (Ok u) h =
+        let same = h.same ∙ ap (λ open_line. record s { open_line = open_line; ended = s.ended + 1; output = s'.output }) none in
+        record {
+          part = ended_part line is_line;
+          short = All-cons IsShort line [] short (All-nil IsShort);
+          to = record {
+            none_beyond = refl;
+            same = same;
+            ready = subst IsReady (sym same) (record { is_line = All-nil (λ b. b ≢ newline); is_short = omega arith; few = omega (arith, few); none_after = λ _. refl });
+          };
+          put = Replied-one s.query line reply is h.put;
+        }
+    of (Err kind) h = record {
+      part = ended_part line is_line;
+      short = All-cons IsShort line [] short (All-nil IsShort);
+      to = tt;
+      put = Replied-one s.query line reply is h.put;
+    }
+
+-- a whole line was read where none stood open, whatever came of the reply to it
+pub TakesIn-read : {s s' : Stage} (line : List ℕ) (r : Result (Unit {0}) ErrorKind) → s.open_line ≡ [] → IsReady s → s.ended < MAX_LINES → IsLine line → IsShort line
+    → Closes (record s { open_line = line }) s' r → TakesIn s s' (line ++ newline ∷ []) (as_tool r)
+TakesIn-read {s = s} {s' = s'} line r none ready few is_line short h =
+    let fits = subst (λ start. IsShort (start ++ line)) (sym none) short in
+    let took : TakesIn s (record s { open_line = s.open_line ++ line }) line (Ok tt) = TakesIn-extended line ready is_line fits few refl in
+    TakesIn-then s' (newline ∷ []) (as_tool r) took
+    (TakesIn-newline r took.to.ready few (subst (λ start. Closes (record s { open_line = start ++ line }) s' r) (sym none) h))
 
 -- what waits was sent, or refused
 pub TakesIn-sent : {s s' : Stage} (r : Result (Unit {0}) ErrorKind) → IsReady s → SendsAll s s' r → TakesIn s s' [] (as_tool r)

@@ -1,5 +1,6 @@
 -- How far a run has come between two reads.
-use Rattle.std.specs.Prelude.{◌≡◌, ℕ, ◌+◌, ◌≤◌, List, [], ◌∷◌, ◌++◌, length, All, Result, Ok, Err, OnOk}
+use Rattle.std.specs.Prelude.{◌≡◌, ℕ, ◌+◌, ◌<◌, ◌≤◌, List, [], ◌∷◌, ◌++◌, length, All, Option, None, Some, Result, Ok, Err, OnOk}
+use Rattle.std.specs.Borrow.{Bor}
 use Rattle.std.specs.declared.io.ErrorKind.{ErrorKind}
 use Rattle.gix_date.specs.Devices.StreamState.{StreamState}
 use Rattle.gix_date_tool.specs.declared.error.ToolError.{ToolError}
@@ -8,7 +9,8 @@ use Rattle.gix_date_tool.specs.declared.runs.lines.TheConstants.{MAX_LINES}
 use Rattle.gix_date_tool.specs.declared.runs.progress.Progress.{Progress}
 use Rattle.gix_date_tool.specs.declared.runs.replies.Query.{Query}
 use Rattle.gix_date_tool.specs.Lines.{IsLine, Part, IsShort, last_line}
-use Rattle.gix_date_tool.specs.Replies.{Replied}
+use Rattle.gix_date_tool.specs.declared.runs.replies.Reply.{Reply}
+use Rattle.gix_date_tool.specs.Replies.{Replied, reply_line}
 use Rattle.gix_date_tool.specs.Outbox.{Output, output, all_sent, Sends}
 use Rattle.gix_date_tool.specs.Run.{StopsAt, writer_answer}
 
@@ -72,6 +74,24 @@ pub record SendsAll (s s' : Stage) (result : Result (Unit {0}) ErrorKind) : Type
 pub record Closes (s s' : Stage) (result : Result (Unit {0}) ErrorKind) : Type 0 where
   pub put : Replied (λ text. Sends s.output s'.output text result) s.query (s.open_line ∷ [])
   pub same : OnOk result (s' ≡ record s { open_line = []; ended = s.ended + 1; output = s'.output })
+
+-- what replying to a whole line by this reply comes to
+pub record ClosesBy (reply : Reply) (s s' : Stage) (result : Result (Unit {0}) ErrorKind) : Type 0 where
+  pub put : Sends s.output s'.output (reply_line reply) result
+  pub same : OnOk result (s' ≡ record s { ended = s.ended + 1; output = s'.output })
+
+-- a front of some bytes was taken in, and these bytes stand after it
+pub record TakesFront (s s' : Stage) (bytes after : List ℕ) : Type 0 where
+  pub front : List ℕ
+  pub cut : bytes ≡ front ++ after
+  pub some : 0 < length front
+  pub took : TakesIn s s' front (Ok tt)
+
+-- what taking in the first line of some bytes comes to, where they end a line
+abbrev pub TakesLine : Stage → Stage → List ℕ → Result (Option (Bor (List ℕ))) ToolError → Type 0
+TakesLine s s' bytes (Ok None) = IsLine bytes × (s' ≡ s)
+TakesLine s s' bytes (Ok (Some after)) = TakesFront s s' bytes after.now
+TakesLine s s' bytes (Err e) = TakesIn s s' bytes (Err e)
 
 -- what replying to the line that stands open at the end of the input comes to
 pub record Ends (s s' : Stage) (result : Result (Unit {0}) ErrorKind) : Type 0 where

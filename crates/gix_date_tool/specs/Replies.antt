@@ -1,5 +1,6 @@
 -- What is replied to a line.
-use Rattle.std.specs.Prelude.{◌≡◌, ◌↔◌, ◌⊎◌, ℕ, Bool, true, false, List, [], ◌∷◌, ◌++◌, if◌then◌else◌, Option, Some, IsSome, Result, Ok, Err, codes}
+use Rattle.std.specs.Prelude.{◌≡◌, ◌↔◌, ◌⊎◌, ℕ, Bool, true, false, List, [], ◌∷◌, ◌++◌, if◌then◌else◌, Option, Some, IsSome, Result, Ok, Err, codes, pos}
+use Rattle.std.specs.Str.Parse.{digits_value}
 use Rattle.std.specs.Option.{option_map_or}
 use Rattle.std.specs.List.{flat_map}
 use Rattle.std.specs.Str.{is_utf8}
@@ -25,6 +26,10 @@ use Rattle.gix_date_tool.specs.Signed.{IsSigned, IsUnsigned, IsCanonicalLine}
 -- the reply of Check to a text: a canonical header, or else what it is read as
 abbrev pub check_reply : List ℕ → Reply
 check_reply text = if is_canonical_header text then Canonical else option_map_or Read (header_time text) NoTime
+
+-- the reply of Check to a header of these seconds and the offset `-0000`, which is read as 0
+abbrev pub unknown_reply : List ℕ → Reply
+unknown_reply seconds = Read (record { seconds = pos (digits_value 10 seconds); offset = pos 0 })
 
 -- the reply to what a call comes to
 abbrev pub parse_reply : Result Time ParseError → Reply

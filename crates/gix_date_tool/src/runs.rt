@@ -24,8 +24,8 @@ use std::alloc::Global;
 /// Relative dates count from the moment, which `Time::to_zoned` has to convert.
 ///
 /// Lines end at `\n`, and a last line without one counts where it has a byte. The replies to the lines of what was read
-/// are written before more is read. Memory is taken for the line that is read alone: over short lines 64 KiB are
-/// enough.
+/// are written before more is read. Memory is taken for a line that no read gives whole, newline included, and for that
+/// alone: over short lines 64 KiB are enough.
 ///
 /// A run ends well only at the end of the input. [`ToolError::LineTooLong`] comes where one of the first 1000000 lines
 /// has more than 65536 bytes, [`ToolError::TooManyLines`] where a byte stands after line 1000000, [`ToolError::Memory`]

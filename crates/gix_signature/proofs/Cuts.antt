@@ -9,7 +9,7 @@ use Rattle.gix_date.proofs.Text.AsciiCuts.{all-append}
 use Rattle.gix_signature.specs.Signature.{Parts, IsCut, is_allowed, is_part, are_parts, line_of, opening, closing, newline, nul}
 
 -- what passes one test passes another
-all-of : (p q : ℕ → Bool) → ((c : ℕ) → p c ≡ true → q c ≡ true) → (xs : List ℕ) → list_all p xs ≡ true → list_all q xs ≡ true
+pub all-of : (p q : ℕ → Bool) → ((c : ℕ) → p c ≡ true → q c ≡ true) → (xs : List ℕ) → list_all p xs ≡ true → list_all q xs ≡ true
 all-of p q to [] h = refl
 all-of p q to (x ∷ xs) h = let each = and_parts (p x) (list_all p xs) h in and_from (q x) (list_all q xs) (to x each.0) (all-of p q to xs each.1)
 
@@ -31,7 +31,7 @@ one-place p c (x ∷ xs) ys (u ∷ us) vs other a b e =
     let heads : x ≡ u = ap (λ l. get_or l 0 0) e in
     (λ i. heads i ∷ rest.0 i, rest.1)
 
-abbrev not_opening : ℕ → Bool
+abbrev pub not_opening : ℕ → Bool
 not_opening c = not (c == opening)
 
 not-or : (a b c d : Bool) → not (a || b || c || d) ≡ true → not a ≡ true
@@ -39,7 +39,7 @@ not-or true b c d h = h
 not-or false b c d h = refl
 
 -- a part holds no `<`
-no-opening : (xs : List ℕ) → is_part xs ≡ true → list_all not_opening xs ≡ true
+pub no-opening : (xs : List ℕ) → is_part xs ≡ true → list_all not_opening xs ≡ true
 no-opening = all-of is_allowed not_opening (λ c h. not-or (c == opening) (c == closing) (c == newline) (c == nul) h)
 
 -- what stands after ` <`
@@ -60,7 +60,7 @@ plain p h =
     record { name = front.0; mail = front.1; time = last.1 }
 
 -- the name with the space after it, `<` and what stands after that
-marked : (name rest : List ℕ) → name ++ (codes " <" ++ rest) ≡ (name ++ (32 ∷ [])) ++ (opening ∷ rest)
+pub marked : (name rest : List ℕ) → name ++ (codes " <" ++ rest) ≡ (name ++ (32 ∷ [])) ++ (opening ∷ rest)
 marked name rest = sym (append_assoc name (32 ∷ []) (opening ∷ rest))
 
 -- where ` <` stands in a line that has a cut, the line is cut

@@ -1,5 +1,5 @@
 -- Texts and their places, and what is kept of them.
-use Rattle.std.proofs.Common.{◌≡◌, ◌∙◌, ℕ, ◌+◌, ◌-◌, ◌<◌, suc, Bool, true, false, cond, not, ◌||◌, List, [], ◌∷◌, ◌++◌, length, take, drop, refl, ap, sym, arith}
+use Rattle.std.proofs.Common.{◌≡◌, ◌∙◌, ℕ, ◌+◌, ◌<◌, suc, Bool, true, false, cond, not, ◌||◌, List, [], ◌∷◌, ◌++◌, length, take, drop, refl, ap, sym, arith}
 use Rattle.std.proofs.lemmas.List.{drop-drop}
 use Rattle.std.proofs.lemmas.Bool.Decides.{nat_tests}
 use Rattle.std.specs.List.{list_any, prefix_len, position_or_len, filter}
@@ -24,7 +24,7 @@ one-there p xs h = sym (place-within p xs) ∙ grind (arith, nat_tests, h)
 pub after-place : (n : ℕ) (xs : List ℕ) → drop 1 (drop n xs) ≡ drop (n + 1) xs
 after-place n xs = drop-drop 1 n xs
 
-add-one-front : (n : ℕ) → 1 + n ≡ suc n
+pub add-one-front : (n : ℕ) → 1 + n ≡ suc n
 add-one-front n = omega arith
 
 -- What a filter keeps is the run at the front, and what it keeps of what stands after the run and one byte.

@@ -1,5 +1,5 @@
 -- What is written of a name, a mail and a time, and how it is cut.
-use Rattle.std.proofs.Common.{◌≡◌, ◌≢◌, ℕ, ◌+◌, ◌/◌, ◌%◌, ◌^◌, ◌<◌, suc, Bool, true, false, cond, not, ◌&&◌, ◌==◌, List, [], ◌∷◌, ◌++◌, length, ℤ, pos, negsuc, Option, Some, None, Result, Ok, Err, IsSomeAnd, IfOk, OnOk, ok_or, option_map, unwrap_or, unsigned_abs, FitsSigned, w64, refl, ap, subst, arith, length-append}
+use Rattle.std.proofs.Common.{◌≡◌, ◌≢◌, ℕ, ◌+◌, ◌/◌, ◌%◌, ◌^◌, ◌<◌, suc, Bool, true, false, cond, not, ◌&&◌, ◌==◌, List, [], ◌∷◌, ◌++◌, length, ℤ, pos, negsuc, Option, Some, None, Result, Ok, Err, IsSomeAnd, IfOk, OnOk, ok_or, option_map, unwrap_or, unsigned_abs, FitsSigned, w64, refl, ap, sym, subst, arith, length-append}
 use Rattle.std.proofs.lemmas.Bool.{and_from}
 use Rattle.std.proofs.lemmas.Bool.Decides.{nat_tests}
 use Rattle.std.proofs.lemmas.Fmt.{decimal_by_steps}
@@ -59,12 +59,13 @@ filled : (xs ys : List ℕ) → not (length (xs ++ (space ∷ ys)) == 0) ≡ tru
 filled xs ys = rw (differs (length (xs ++ (space ∷ ys))) 0 (λ e. omega (arith, e, length-append xs (space ∷ ys)))) refl
 
 -- what stands of a header text
-record IsText (t : Time) (text : List ℕ) : Type 0 where
-  short : unsigned_abs t.offset < 360000
-  stands : is_part text ≡ true
-  some : not (length text == 0) ≡ true
+pub record IsText (t : Time) (text : List ℕ) : Type 0 where
+  pub short : unsigned_abs t.offset < 360000
+  pub whole : text ≡ decimal_text t.seconds ++ (space ∷ compact_offset_text t.offset)
+  pub stands : is_part text ≡ true
+  pub some : not (length text == 0) ≡ true
 
-text-is : (t : Time) (text : List ℕ) → FitsSigned w64 t.seconds → header_text t ≡ Some text → IsText t text
+pub text-is : (t : Time) (text : List ℕ) → FitsSigned w64 t.seconds → header_text t ≡ Some text → IsText t text
 unfolding header_text
 text-is t text f e =
     let seconds = decimal_text t.seconds in
@@ -73,6 +74,7 @@ text-is t text f e =
     let short : unsigned_abs t.offset < 360000 = grind (arith, nat_tests, is.0) in
     record {
       short = short;
+      whole = sym is.1;
       stands = subst (λ s. is_part s ≡ true) is.1 (all-append is_allowed seconds (space ∷ zone) (seconds-stand t.seconds f) (zone-stands t.offset short));
       some = subst (λ s. not (length s == 0) ≡ true) is.1 (filled seconds zone);
     }

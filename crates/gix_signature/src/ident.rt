@@ -2,7 +2,7 @@
 ghost use Rattle.std.specs.Prelude.{◌≡◌, option_map};
 ghost use Rattle.gix_signature.specs.Ident.Bytes.{is_blank};
 ghost use Rattle.gix_signature.specs.Ident.Texts.{without_end, without_front};
-ghost use Rattle.gix_signature.specs.Ident.Parts.{ident_parts, line_parts, ident_text_of, date_text, date_parts, date_text_of, after_seconds, begins_with_offset};
+ghost use Rattle.gix_signature.specs.Ident.Parts.{ident_parts, ident_places, line_parts, ident_text_of, date_text, date_parts, date_text_of, after_seconds, begins_with_offset};
 
 pub(crate) mod bytes;
 pub mod time;
@@ -10,7 +10,7 @@ pub mod write;
 
 use bytes::{
     after_one, begins_with_digit, begins_with_sign, blanks_len, cut_at, digits_len,
-    last_blanks_len, line_len, tail_len,
+    last_blanks_len, line_len, place_of, tail_len,
 };
 
 /// The parts of an identity line that Git shows, each the slice of the text at its place.
@@ -22,6 +22,32 @@ pub struct IdentRef<'a> {
     pub mail: &'a [u8],
     /// The date after the last `>`; `None` where Git shows none.
     pub date: Option<DateParts<'a>>,
+}
+
+/// Where the parts of an identity line stand, in bytes from the front of its text. The name stands at the front.
+#[derive(Debug, Clone, Copy, PartialEq, Eq)]
+pub struct IdentPlaces {
+    /// Where the mail stands: after the first `<`.
+    pub mail: usize,
+    /// Where the seconds stand: after the last `>` and blanks.
+    pub seconds: usize,
+    /// Where the offset stands: after the digits of the seconds and blanks.
+    pub offset: usize,
+}
+
+impl IdentPlaces {
+    /// Where the parts stand that [`IdentRef::from_bytes`] gives of a text: those that it gives. Takes no memory.
+    pub fn of(text: &[u8]) -> IdentPlaces
+        ensures { result ≡ ident_places text.now }
+    {
+        let line = &text[..line_len(text)];
+        let date = date_text(line);
+        IdentPlaces {
+            mail: place_of(line, b'<') + 1,
+            seconds: line.len() - date.len(),
+            offset: line.len() - after_seconds(date).len(),
+        }
+    }
 }
 
 /// The texts of a date, as they are written.

@@ -2,7 +2,7 @@
 ghost use Rattle.std.specs.Prelude.{◌≡◌, IfOk};
 ghost use Rattle.gix_signature.specs.Signature.{OneCut};
 ghost use Rattle.gix_signature.specs.Writing.{line_due, IsWritten};
-ghost use Rattle.gix_signature.specs.Ident.Laws.{PassedHasIdentity};
+ghost use Rattle.gix_signature.specs.Ident.Laws.{PassedHasIdentity, OneVerdict, CutIsShown, WrittenPasses, CanonicalPasses, OnlyMeant, OnlyPlacing, PlacedAlike};
 
 use crate::lines::SignatureRef;
 use gix_date::Time;
@@ -27,4 +27,39 @@ pub fn clones()
 /// A line of which `git fsck` says nothing has an identity.
 pub fn passed_has_identity(text: &[u8])
     ensures { PassedHasIdentity text.now }
+{}
+
+/// One outcome: `fsck_of` says nothing of a line without a fault, and else the fault before which it has none.
+pub fn one_verdict(text: &[u8])
+    ensures { OneVerdict text.now }
+{}
+
+/// Git shows a line that is cut with its mail, and with its name but for blanks at the end.
+pub fn cut_is_shown(line: &str)
+    ensures { CutIsShown line.now }
+{}
+
+/// `git fsck` says nothing of a line that `write_ident` writes. Git shows the cleaned name and email, and the time in whole
+/// minutes of its offset.
+pub fn written_passes(name: &[u8], mail: &[u8], time: Time)
+    ensures { WrittenPasses name.now mail.now time }
+{}
+
+/// `git fsck` says nothing of a line that is cut and has a canonical time from the epoch on, and Git shows that time. Of
+/// `-5 +0000` it says that the date overflows.
+pub fn canonical_passes(line: &str)
+    ensures { CanonicalPasses line.now }
+{}
+
+/// Only white bytes, brackets, NUL, signs and digits decide what `git fsck` says of a line, and where: other bytes can be
+/// exchanged.
+pub fn only_meant(text: &[u8])
+    ensures { OnlyMeant text.now }
+{}
+
+/// Only blanks, brackets, NUL, signs and digits decide where the parts of a line stand: other bytes can be exchanged. So two
+/// lines with the same such bytes at the same places have their parts at the same places, and the same date.
+pub fn only_placing(text: &[u8], other: &[u8])
+    ensures exchanged { OnlyPlacing text.now }
+    ensures alike { PlacedAlike text.now other.now }
 {}

@@ -18,7 +18,8 @@ mod lines;
 
 pub use error::{IdentFault, SignatureError};
 pub use fsck::{FsckFault, FsckId, fsck_of};
-pub use ident::time::GitTime;
-pub use ident::write::write_ident;
-pub use ident::{DateParts, IdentRef};
+pub use ident::bytes::is_kept;
+pub use ident::time::{GitTime, number};
+pub use ident::write::{trimmed, write_ident};
+pub use ident::{DateParts, IdentPlaces, IdentRef};
 pub use lines::{SignatureRef, write_line};

@@ -20,9 +20,11 @@ from __future__ import annotations
 from . import _library, git, moments
 from .errors import AfterYear9999 as AfterYear9999
 from .errors import BadPart as BadPart
+from .errors import BeforeEpoch as BeforeEpoch
 from .errors import BeyondDatetime as BeyondDatetime
 from .errors import Conversion as Conversion
 from .errors import DateConversion as DateConversion
+from .errors import EmptyName as EmptyName
 from .errors import GixDateError as GixDateError
 from .errors import InvalidInstant as InvalidInstant
 from .errors import InvalidTime as InvalidTime
@@ -30,9 +32,12 @@ from .errors import InvalidZone as InvalidZone
 from .errors import MissingNow as MissingNow
 from .errors import NaiveDatetime as NaiveDatetime
 from .errors import NoDirective as NoDirective
+from .errors import NoIdentity as NoIdentity
 from .errors import NoSignature as NoSignature
 from .errors import NotText as NotText
+from .errors import NulInPart as NulInPart
 from .errors import OffsetTooWide as OffsetTooWide
+from .errors import OnlyCrud as OnlyCrud
 from .errors import Pattern as Pattern
 from .errors import Range as Range
 from .errors import Unclear as Unclear
@@ -41,7 +46,7 @@ from .lines import Refused, parse_headers_into, parse_lines, parse_lines_into, p
 from .moments import Moment, now
 from .options import Format, RawOffsets, Texts, WithoutOffset
 from .reading import is_canonical_header, parse, parse_carefully, parse_header
-from .signatures import Signature, write_signature
+from .signatures import FsckFault, FsckId, GitTime, Ident, IdentDate, Signature, fsck, parse_ident, write_ident, write_signature
 from .times import Time
 
 SHORT, RFC2822, GIT_RFC2822, ISO8601, ISO8601_STRICT, GITOXIDE, DEFAULT, UNIX, RAW = (
@@ -76,8 +81,8 @@ def _version(number: int) -> str:
 __version__, PORTED_VERSION = (_version(number) for number in _library.versions())
 
 __all__ = [
-    "DEFAULT", "Format", "GITOXIDE", "GIT_RFC2822", "GixDateError", "ISO8601", "ISO8601_STRICT", "Moment", "PORTED_VERSION", "RAW",
-    "RFC2822", "RawOffsets", "Refused", "SHORT", "Signature", "Texts", "Time", "UNIX", "WithoutOffset", "git", "is_canonical_header", "now",
-    "parse", "parse_carefully", "parse_header", "parse_headers_into", "parse_lines", "parse_lines_into", "parse_signatures_into",
-    "write_signature",
+    "DEFAULT", "Format", "FsckFault", "FsckId", "GITOXIDE", "GIT_RFC2822", "GitTime", "GixDateError", "ISO8601", "ISO8601_STRICT", "Ident",
+    "IdentDate", "Moment", "PORTED_VERSION", "RAW", "RFC2822", "RawOffsets", "Refused", "SHORT", "Signature", "Texts", "Time", "UNIX",
+    "WithoutOffset", "fsck", "git", "is_canonical_header", "now", "parse", "parse_carefully", "parse_header", "parse_headers_into",
+    "parse_ident", "parse_lines", "parse_lines_into", "parse_signatures_into", "write_ident", "write_signature",
 ]  # fmt: skip

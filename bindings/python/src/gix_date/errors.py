@@ -90,7 +90,7 @@ class Conversion(GixDateError):
 
 
 class OffsetTooWide(GixDateError):
-    """The offset is 100 hours or more."""
+    """The offset is 100 hours or more, or more than 35791394 minutes in an identity line."""
 
     status = 12
 
@@ -125,6 +125,36 @@ class AfterYear9999(GixDateError):
     status = 23
 
 
+class NoIdentity(GixDateError):
+    """Git finds no identity in the line: no `<`, or no `>` after the first."""
+
+    status = 27
+
+
+class NulInPart(GixDateError):
+    """The name or the mail of an identity line to write holds NUL."""
+
+    status = 28
+
+
+class EmptyName(GixDateError):
+    """The name has no bytes."""
+
+    status = 29
+
+
+class OnlyCrud(GixDateError):
+    """The name holds only bytes that Git cuts off its ends."""
+
+    status = 30
+
+
+class BeforeEpoch(GixDateError):
+    """The time is before 1970, so Git cannot write it."""
+
+    status = 31
+
+
 class NoDirective(Pattern):
     """The pattern is the name of a form, such as `iso`, and has no directive, so that it would print itself."""
 
@@ -152,11 +182,13 @@ def named(*classes: Type[GixDateError]) -> Dict[int, Type[GixDateError]]:
 REFUSALS = named(
     NotText, InvalidTime, UnknownFormat, DateConversion, MissingNow, Range, InvalidInstant, InvalidZone, Conversion,
     OffsetTooWide, Pattern, NoSignature, BadPart, Unclear, AfterYear9999,
+    NoIdentity, NulInPart, EmptyName, OnlyCrud, BeforeEpoch,
 )  # fmt: skip
 
 
 __all__ = [
     "GixDateError", "NotText", "InvalidTime", "UnknownFormat", "DateConversion", "MissingNow", "Range",
     "InvalidInstant", "InvalidZone", "Conversion", "OffsetTooWide", "Pattern", "NoSignature", "BadPart", "Unclear",
-    "AfterYear9999", "NoDirective", "NaiveDatetime", "BeyondDatetime",
+    "AfterYear9999", "NoIdentity", "NulInPart", "EmptyName", "OnlyCrud", "BeforeEpoch", "NoDirective", "NaiveDatetime",
+    "BeyondDatetime",
 ]  # fmt: skip

@@ -3,7 +3,7 @@
 - `parse_date`: exact dates, as in `GIT_COMMITTER_DATE`, in mails, and nearly all of `git commit --date`
 - `approxidate`: dates as people write them, as Git reads `--since` and `REF@{..}`; `approxidate_lines`: those of many lines
 - `expiry_date`: what expires, as in `gc.pruneExpire`
-- `show_date`: a date as `git log --date=MODE` shows it
+- `show_date`: a date as `git log --date=MODE` shows it, also by `format:%Y-%m-%d`
 
 Each call has a moment, an aware datetime or a `Moment`, in whose zone a text without an offset is read. docs/GIT_DATES.md has the rules.
 All refuse the moment by `NaiveDatetime`, `InvalidInstant` and `InvalidZone`. A text may be any bytes, as in Git, and ends before its first
@@ -20,6 +20,7 @@ from . import _library
 from ._library import approxidate, expiry_date, parse_date, show_date
 from .errors import REFUSALS, GixDateError, Text, named
 from .lines import approxidate_lines
+from .moments import Now
 from .times import Time
 
 
@@ -57,13 +58,34 @@ class Range(GixDateError):
     status = 22
 
 
+class FlagRefused(GixDateError):
+    """The directive at `place` of a format has flags or a width, where Git says another offset, or begins again."""
+
+    status = 24
+
+
+class UnknownDirective(GixDateError):
+    """The directive at `place` of a format is none that all C libraries show alike, or the end cuts it off."""
+
+    status = 25
+
+
+class WidthTooLarge(GixDateError):
+    """The directive at `place` of a format has a width above 255."""
+
+    status = 26
+
+
 class UnknownMode(GixDateError):
-    """No mode has this name. Git's modes `auto:` and `format:` are not offered."""
+    """No mode has this name. Git's `auto:` is not offered, and `format:` names no `DateMode`: `show_date` takes it."""
 
     own_message = 'not a way to show a date; expected one such as "iso8601-strict" or "human-local"'
 
 
-ALL_REFUSALS: Dict[int, Type[GixDateError]] = {**REFUSALS, **named(Unreadable, NumberTooLarge, BackTooFar, YearRefused, Range)}
+ALL_REFUSALS: Dict[int, Type[GixDateError]] = {
+    **REFUSALS,
+    **named(Unreadable, NumberTooLarge, BackTooFar, YearRefused, Range, FlagRefused, UnknownDirective, WidthTooLarge),
+}
 ALL_REFUSALS[2] = UnknownMode  # the library tells an unknown mode by its status for options
 
 
@@ -94,6 +116,39 @@ class Approximate:
     time: Time
     understood: bool
     ignored: Optional[int]
+
+
+class AgeUnit(Enum):
+    """The unit of an age."""
+
+    SECONDS = 0
+    MINUTES = 1
+    HOURS = 2
+    DAYS = 3
+    WEEKS = 4
+    MONTHS = 5
+    YEARS = 6
+
+
+@dataclass(frozen=True)
+class Age:
+    """How long ago a time was, in the unit that Git chooses: `Age(AgeUnit.YEARS, 1, 2)` is `1 year, 2 months ago`.
+
+    - months: those beyond years, and 0 with other units
+    """
+
+    unit: AgeUnit
+    count: int
+    months: int = 0
+
+
+def age_at(time: Time, now: Now) -> Optional[Age]:
+    """How long before a moment a time was, as `DateKind.RELATIVE` shows it: for a program that says it in another language.
+
+    None is a time after the moment. Refuses by `Range` a time or a moment before 1970.
+    """
+    unit, count, months = _library.age_of(time, now)
+    return Age(AgeUnit(unit), count, months) if unit <= AgeUnit.YEARS.value else None
 
 
 class Expires(Enum):
@@ -157,6 +212,6 @@ class DateMode:
 
 
 __all__ = [
-    "Approximate", "BackTooFar", "DateKind", "DateMode", "Expires", "NumberTooLarge", "Range", "ReadDate", "UnknownMode", "Unreadable",
-    "YearRefused", "approxidate", "approxidate_lines", "expiry_date", "parse_date", "show_date",
+    "Age", "AgeUnit", "Approximate", "BackTooFar", "DateKind", "DateMode", "Expires", "FlagRefused", "NumberTooLarge", "Range", "ReadDate",
+    "UnknownDirective", "UnknownMode", "Unreadable", "WidthTooLarge", "YearRefused", "age_at", "approxidate", "approxidate_lines", "expiry_date", "parse_date", "show_date",
 ]  # fmt: skip

@@ -1,11 +1,17 @@
-"""Signature lines of commits and tags."""
+"""Signature lines of commits and tags, and identity lines as Git itself shows, judges and writes them.
+
+`Signature` takes only lines that Git writes. Histories have others: `parse_ident` answers what `git log` shows of any, and `fsck` what
+`git fsck` says of it. Their texts may be any bytes.
+"""
 
 from __future__ import annotations
 
 from dataclasses import dataclass
+from enum import Enum
+from typing import Optional
 
 from . import _library
-from ._library import parse_header, write_signature
+from ._library import parse_header, write_ident, write_signature
 from .errors import Text
 from .times import Time
 
@@ -36,4 +42,110 @@ class Signature:
         return f"{self.name} <{self.mail}> {self.time}"
 
 
-__all__ = ["Signature", "write_signature"]
+@dataclass(frozen=True)
+class GitTime:
+    """A time as Git keeps it of an identity line.
+
+    - seconds: seconds since 1970, of a line from 0
+    - offset: one decimal number, hours before the last two digits, minutes in them: `+0530` is 530
+    """
+
+    seconds: int
+    offset: int
+
+    def to_time(self) -> Time:
+        """The time of these: `+0060` is an hour. Refuses by `OffsetTooWide` an offset of more than 35791394 minutes."""
+        return _library.ident_time(self.seconds, self.offset)
+
+
+@dataclass(frozen=True)
+class IdentDate:
+    """The date of an identity line.
+
+    - seconds: one or more digits, as they are written
+    - offset: a sign, and one or more digits, as they are written
+    - shown: what Git shows of these; from 2^63 seconds on, both are 0
+    """
+
+    seconds: bytes
+    offset: bytes
+    shown: GitTime
+
+
+@dataclass(frozen=True)
+class Ident:
+    """What Git shows of an identity line.
+
+    - name: what stands before the first `<`, without the blanks at its end; it may be empty
+    - mail: what stands between the first `<` and the next `>`, which may be empty
+    - date: the date after the last `>`, or None where Git shows none
+    """
+
+    name: bytes
+    mail: bytes
+    date: Optional[IdentDate]
+
+
+def parse_ident(line: Text) -> Ident:
+    """What Git shows of an identity line, which ends before its first newline or NUL.
+
+    Refuses by `NoIdentity` a line without `<`, or without `>` after the first.
+    """
+    name, mail, seconds, offset, shown_seconds, shown_offset = _library.cut_ident(line)
+    date = IdentDate(seconds, offset, GitTime(shown_seconds, shown_offset)) if seconds else None
+    return Ident(name, mail, date)
+
+
+class FsckId(Enum):
+    """A message of `git fsck`, whose value is its ID in Git. They are in the order in which Git looks for them.
+
+    - NUL_IN_HEADER: the line holds NUL
+    - MISSING_NAME_BEFORE_EMAIL: the line begins with `<`
+    - BAD_NAME: the first bracket is `>`
+    - MISSING_EMAIL: there is no bracket
+    - MISSING_SPACE_BEFORE_EMAIL: no space stands directly before the first `<`
+    - BAD_EMAIL: the bracket after the first `<` is not `>`, or there is none
+    - MISSING_SPACE_BEFORE_DATE: no space stands directly after that `>`
+    - ZERO_PADDED_DATE: after that space stands `0`, and no space after it
+    - BAD_DATE_OVERFLOW: the number there is 2^63 or more, or it is negative
+    - BAD_DATE: no number stands there, or no space after it
+    - BAD_TIMEZONE: what follows is not a sign and four digits up to the line's end
+    """
+
+    NUL_IN_HEADER = "nulInHeader"
+    MISSING_NAME_BEFORE_EMAIL = "missingNameBeforeEmail"
+    BAD_NAME = "badName"
+    MISSING_EMAIL = "missingEmail"
+    MISSING_SPACE_BEFORE_EMAIL = "missingSpaceBeforeEmail"
+    BAD_EMAIL = "badEmail"
+    MISSING_SPACE_BEFORE_DATE = "missingSpaceBeforeDate"
+    ZERO_PADDED_DATE = "zeroPaddedDate"
+    BAD_DATE_OVERFLOW = "badDateOverflow"
+    BAD_DATE = "badDate"
+    BAD_TIMEZONE = "badTimezone"
+
+
+_MESSAGES = tuple(FsckId)
+
+
+@dataclass(frozen=True)
+class FsckFault:
+    """What `git fsck` says of an identity line.
+
+    - id: the message
+    - place: the index into the line of what is wrong: the NUL, the bracket, the line's end, the date or the offset
+    """
+
+    id: FsckId
+    place: int
+
+
+def fsck(line: Text) -> Optional[FsckFault]:
+    """What `git fsck` says of an identity line, which ends before its first newline: its first message that applies, or None."""
+    message, place = _library.fsck_number(line)
+    return None if place is None else FsckFault(_MESSAGES[message - 1], place)
+
+
+__all__ = [
+    "FsckFault", "FsckId", "GitTime", "Ident", "IdentDate", "Signature", "fsck", "parse_ident", "write_ident", "write_signature",
+]  # fmt: skip

@@ -1,13 +1,14 @@
 //! The calls for Git's dates.
 
 use super::zone::HeldZone;
-use super::{NO_SUCH_OPTION, OK};
-use crate::ffi::git::{self as ffi, CApproximate, CExact, CExpiry, CMode};
+use super::{text_or, FORMAT_ROOM, NO_SUCH_OPTION, OK};
+use crate::ffi::git::{self as ffi, CAge, CApproximate, CExact, CExpiry, CMode};
 use crate::ffi::CZone;
 use crate::git::{
-    Approximate, DateError, DateKind, DateMode, Expiry, ReadDate, UnknownMode, MAX_SHOWN,
+    Age, Approximate, DateError, DateKind, DateMode, Expiry, FormatFault, ReadDate, UnknownMode,
+    MAX_SHOWN,
 };
-use crate::{Error, Instant, Time};
+use crate::{Error, Instant, OffsetInSeconds, Time};
 
 /// A call that reads a date.
 type Reader<T> =
@@ -138,6 +139,88 @@ pub(crate) fn show_date(
     stored(status, len, 0)
 }
 
+/// Puts what a format shows into a buffer, and answers the status.
+fn put_by_format(
+    time: &Time,
+    format: &str,
+    local: bool,
+    zone: &HeldZone,
+    out: &mut [u8],
+    len: &mut usize,
+    place: &mut usize,
+) -> u32 {
+    let (start, size) = (format.as_ptr(), format.len());
+    let (zone, out, room) = (zone.place(), out.as_mut_ptr(), out.len());
+    // SAFETY: the time is valid, the format is for its length, and the zone, which is valid, the buffer, of the length given, the
+    // length and the place are places of their own.
+    unsafe { ffi::git_date_show_by_format(time, start, size, local, zone, out, room, len, place) }
+}
+
+/// The fault of a status at a place.
+fn fault_of(status: u32, place: usize) -> Option<FormatFault> {
+    match status {
+        24 => Some(FormatFault::FlagRefused(place)),
+        25 => Some(FormatFault::UnknownDirective(place)),
+        26 => Some(FormatFault::WidthTooLarge(place)),
+        _ => None,
+    }
+}
+
+/// The first fault of a format, which the library tells before all else: also where there is no room, or no memory.
+pub(crate) fn format_fault(format: &str) -> Option<FormatFault> {
+    let (time, zone) = (Time::default(), HeldZone::at_offset(0));
+    let (mut len, mut place) = (0, 0);
+    let status = put_by_format(&time, format, false, &zone, &mut [], &mut len, &mut place);
+    fault_of(status, place)
+}
+
+/// What a format without fault shows.
+pub(crate) fn show_by_format(
+    time: &Time,
+    format: &str,
+    local: bool,
+    zone: &mut HeldZone,
+) -> Result<String, DateError> {
+    let zone = &*zone;
+    text_or(
+        FORMAT_ROOM,
+        |out, len| put_by_format(time, format, local, zone, out, len, &mut 0),
+        |status| stored(status, (), 0),
+    )
+}
+
+/// An age of this unit. The last number is that of a later time.
+fn age_of(age: CAge) -> Option<Age> {
+    Some(match age.unit {
+        0 => Age::Seconds(age.count),
+        1 => Age::Minutes(age.count),
+        2 => Age::Hours(age.count),
+        3 => Age::Days(age.count),
+        4 => Age::Weeks(age.count),
+        5 => Age::Months(age.count),
+        6 => Age::Years(age.count, age.months),
+        7 => return None,
+        unit => unreachable!("the library has no unit {unit} of ages"),
+    })
+}
+
+pub(crate) fn age_at(time: &Time, now: Instant) -> Result<Option<Age>, DateError> {
+    let mut age = CAge::default();
+    // SAFETY: time and instant are valid, and the age is a place of its own.
+    let status = unsafe { ffi::git_date_age_at(time, &now, &mut age) };
+    stored(status, age, 0).map(age_of)
+}
+
+pub(crate) fn offset_of_decimal(decimal: i32) -> OffsetInSeconds {
+    // SAFETY: the call takes a number.
+    unsafe { ffi::git_date_offset_of_decimal(decimal) }
+}
+
+pub(crate) fn decimal_of_offset(offset: OffsetInSeconds) -> i32 {
+    // SAFETY: the call takes a number.
+    unsafe { ffi::git_date_decimal_of_offset(offset) }
+}
+
 #[cfg(test)]
 mod tests {
     use super::*;
@@ -146,8 +229,12 @@ mod tests {
     #[test]
     fn each_status_is_its_error() {
         let statuses = numbers(GIT_DATE, "git_date_status", "GIT_DATE_");
-        assert_eq!(statuses.len(), 5);
+        assert_eq!(statuses.len(), 8);
         for (name, number) in statuses {
+            if let Some(fault) = fault_of(number, 7) {
+                assert_eq!(format!("{fault:?}"), format!("{name}(7)"));
+                continue;
+            }
             let error = format!("{:?}", stored(number, (), 7).unwrap_err());
             assert_eq!(error.trim_end_matches("(7)"), name);
             let has_place = ["NumberTooLarge", "BackTooFar", "YearRefused"];
@@ -165,6 +252,24 @@ mod tests {
             let before = CApproximate::default();
             let expiry = format!("{:?}", Expiry::from(CExpiry { kind, before }));
             assert_eq!(expiry.split('(').next(), Some(&*name));
+        }
+    }
+
+    #[test]
+    fn each_unit_of_ages_has_its_number() {
+        let units = numbers(GIT_DATE, "git_date_unit", "GIT_DATE_");
+        assert_eq!(units.len(), 8);
+        for (name, unit) in units {
+            let (count, months) = (5, 0);
+            let age = age_of(CAge {
+                unit,
+                count,
+                months,
+            });
+            match age.map(|age| format!("{age:?}")) {
+                Some(age) => assert_eq!(age.split('(').next(), Some(&*name)),
+                None => assert_eq!(name, "Future"),
+            }
         }
     }
 

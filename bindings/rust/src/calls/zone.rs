@@ -2,7 +2,7 @@
 
 use super::stored;
 use crate::ffi::{self, CZone};
-use crate::{Error, OffsetInSeconds};
+use crate::{Error, Instant, OffsetInSeconds};
 use std::cell::Cell;
 
 /// A zone as calls take it. When it is dropped, the library frees what it holds.
@@ -31,6 +31,13 @@ impl HeldZone {
         // SAFETY: both zones are valid and places of their own. No other call has this one meanwhile, since it is not `Sync`.
         let status = unsafe { ffi::gix_date_zone_copy(self.place(), copy.place()) };
         stored(status, copy)
+    }
+
+    pub(crate) fn offset_at(&mut self, instant: Instant) -> Result<OffsetInSeconds, Error> {
+        let mut offset = 0;
+        // SAFETY: the instant is valid, and the zone, which is valid, and the offset are places of their own.
+        let status = unsafe { ffi::gix_date_offset_at(&instant, self.place(), &mut offset) };
+        stored(status, offset)
     }
 
     /// Where the zone lies, for calls.

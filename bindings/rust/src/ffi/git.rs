@@ -33,6 +33,14 @@ pub struct CMode {
     pub local: bool,
 }
 
+#[repr(C)]
+#[derive(Clone, Copy, Default)]
+pub struct CAge {
+    pub unit: u32,
+    pub count: u32,
+    pub months: u32,
+}
+
 extern "C" {
     pub fn git_date_parse_at(
         text: *const u8,
@@ -94,4 +102,18 @@ extern "C" {
         out_len: usize,
         len: *mut usize,
     ) -> u32;
+    pub fn git_date_show_by_format(
+        time: *const Time,
+        format: *const u8,
+        format_len: usize,
+        local: bool,
+        zone: *mut CZone,
+        out: *mut u8,
+        out_len: usize,
+        len: *mut usize,
+        place: *mut usize,
+    ) -> u32;
+    pub fn git_date_age_at(time: *const Time, now: *const Instant, age: *mut CAge) -> u32;
+    pub fn git_date_offset_of_decimal(decimal: i32) -> i32;
+    pub fn git_date_decimal_of_offset(offset: i32) -> i32;
 }

@@ -20,7 +20,7 @@ pub enum DateError {
     /// [`show_date()`](super::show_date): Git cannot show the time, or it is beyond what is shown here.
     Range,
     /// The moment is refused ([`Error::InvalidInstant`], [`Error::InvalidZone`]), or memory for its zone
-    /// ([`Error::OutOfMemory`]).
+    /// ([`Error::OutOfMemory`]). Of [`show_by_format()`](super::show_by_format) also memory for the text.
     Refused(Error),
 }
 

@@ -101,7 +101,7 @@ impl fmt::Display for DateMode {
     }
 }
 
-/// No name of a mode. Git's modes `auto:` and `format:` are not offered.
+/// No name of a mode. Git's `auto:` is not offered, and `format:` is [`DateFormat`](super::DateFormat).
 #[derive(Clone, Copy, Debug, PartialEq, Eq, Hash)]
 pub struct UnknownMode;
 

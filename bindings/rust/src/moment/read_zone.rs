@@ -2,9 +2,9 @@
 
 use super::Instant;
 use crate::calls::{self, zone::HeldZone};
-use crate::git::{Approximate, DateError, DateMode, DateText, Expiry, ReadDate};
+use crate::git::{Approximate, DateError, DateFormat, DateMode, DateText, Expiry, ReadDate};
 use crate::lines::{Columns, Done, LineReader};
-use crate::{CarefulError, CarefulOptions, Error, RawOffsets, Time};
+use crate::{CarefulError, CarefulOptions, Error, OffsetInSeconds, RawOffsets, Time};
 use std::fmt;
 
 /// A zone that the library has read once, for any number of calls. [`Zone::read()`](crate::Zone::read) makes it.
@@ -37,6 +37,11 @@ pub struct ReadZone(HeldZone);
 impl ReadZone {
     pub(super) fn new(held: HeldZone) -> ReadZone {
         ReadZone(held)
+    }
+
+    /// The offset at an instant, in seconds east of UTC. [`Error::InvalidInstant`], [`Error::InvalidZone`].
+    pub fn offset_at(&mut self, instant: Instant) -> Result<OffsetInSeconds, Error> {
+        self.0.offset_at(instant)
     }
 
     /// Parses a date as [`parse()`](crate::parse()) does.
@@ -99,6 +104,16 @@ impl ReadZone {
         now: Instant,
     ) -> Result<DateText, DateError> {
         DateText::shown(time, mode, now, &mut self.0)
+    }
+
+    /// A date as [`git::show_by_format()`](crate::git::show_by_format) shows it.
+    pub fn show_by_format(
+        &mut self,
+        time: Time,
+        format: DateFormat<'_>,
+        local: bool,
+    ) -> Result<String, DateError> {
+        calls::git::show_by_format(&time, format.as_str(), local, &mut self.0)
     }
 
     /// Reads each line of a block as [`parse_lines()`](crate::lines::parse_lines) does, at a moment. Headers and signature lines

@@ -2,8 +2,8 @@
 
 use super::{in_read_zone, now, text, time, Answer};
 use gix_date_proved::git::{
-    approxidate, expiry_date, parse_date, show_date, Approximate, DateError, DateMode, DateText,
-    Expiry, ReadDate,
+    age_at, approxidate, expiry_date, parse_date, show_by_format, show_date, Age, Approximate,
+    DateError, DateFormat, DateKind, DateMode, DateText, Expiry, FormatFault, ReadDate,
 };
 use gix_date_proved::{bytes, Instant, Moment, ReadZone, Time};
 
@@ -18,11 +18,44 @@ pub fn answer(call: &str, row: &mut &[String]) -> Option<Answer> {
         "expiry_date" => told(expires(row)?, expiry_shown),
         "date_mode" => mode_name(text(row)?),
         "show_date" => {
-            let mode = text(row)?.parse().ok()?;
-            let moment = moment(text(row)?)?;
-            told(shows(time(row)?, mode, &moment), text_of)
+            let mode: DateMode = text(row)?.parse().ok()?;
+            let (moment, time) = (moment(text(row)?)?, time(row)?);
+            let shown = told(shows(time, mode, &moment), text_of)?;
+            if mode.kind == DateKind::Relative && aged(time, &moment) != shown {
+                return Some(Err("CallsDiffer".to_string()));
+            }
+            Some(shown)
+        }
+        "show_by_format" => {
+            let (format, clock) = (text(row)?, text(row)?);
+            let local = ["own", "local"].iter().position(|name| *name == clock)? == 1;
+            let (moment, time) = (moment(text(row)?)?, time(row)?);
+            Some(match DateFormat::new(format) {
+                Ok(format) => by_format(time, format, local, &moment),
+                Err(fault) => Err(fault_name(fault)),
+            })
         }
         _ => None,
+    }
+}
+
+/// What a format shows, which each call has to show.
+fn by_format(time: Time, format: DateFormat<'_>, local: bool, moment: &Moment) -> Answer {
+    let shown = show_by_format(time, format, local, moment);
+    let in_zone = in_read_zone(moment, |zone, _| zone.show_by_format(time, format, local));
+    if in_zone.iter().any(|other| *other != shown) {
+        return Err("CallsDiffer".to_string());
+    }
+    shown.map_err(name_of)
+}
+
+/// The name of a format's fault, and its place.
+fn fault_name(fault: FormatFault) -> String {
+    match fault {
+        FormatFault::FlagRefused(place) => format!("FlagRefused {place}"),
+        FormatFault::UnknownDirective(place) => format!("UnknownDirective {place}"),
+        FormatFault::WidthTooLarge(place) => format!("WidthTooLarge {place}"),
+        other => format!("{other:?}"),
     }
 }
 
@@ -119,6 +152,25 @@ fn shows(time: Time, mode: DateMode, moment: &Moment) -> All<DateText> {
     all([show_date(time, mode, moment)], moment, |zone, now| {
         zone.show_date(time, mode, now)
     })
+}
+
+/// The age of a time in the words of Git.
+fn aged(time: Time, moment: &Moment) -> Answer {
+    let counted = |count, unit| format!("{count} {unit}{}", if count == 1 { "" } else { "s" });
+    let text = match age_at(time, moment.instant()).map_err(name_of)? {
+        None => return Ok("in the future".to_string()),
+        Some(Age::Seconds(count)) => counted(count, "second"),
+        Some(Age::Minutes(count)) => counted(count, "minute"),
+        Some(Age::Hours(count)) => counted(count, "hour"),
+        Some(Age::Days(count)) => counted(count, "day"),
+        Some(Age::Weeks(count)) => counted(count, "week"),
+        Some(Age::Months(count)) => counted(count, "month"),
+        Some(Age::Years(years, 0)) => counted(years, "year"),
+        Some(Age::Years(years, months)) => {
+            format!("{}, {}", counted(years, "year"), counted(months, "month"))
+        }
+    };
+    Ok(format!("{text} ago"))
 }
 
 /// The one answer of all calls.

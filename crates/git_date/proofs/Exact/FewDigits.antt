@@ -1,6 +1,6 @@
 -- A text of fewer than three digits, and without a colon, says no clock: the exact reader does not read it, and has no other
 -- refusal.
-use Rattle.std.proofs.Common.{◌≡◌, ◌<◌, ◌≤◌, ◌+◌, ℕ, Bool, true, false, cond, List, [], ◌∷◌, length, nat_le, nat_lt, Option, Some, None, is_none, Err, refl, sym, subst, arith}
+use Rattle.std.proofs.Common.{◌≡◌, ◌∙◌, ◌<◌, ◌≤◌, ◌+◌, ℕ, Bool, true, false, cond, List, [], ◌∷◌, length, nat_le, nat_lt, Option, Some, None, is_none, Err, refl, sym, subst, arith}
 use Rattle.std.specs.Prelude.{not, ◌==◌, ◌&&◌, ◌||◌, option_map, Result, Ok}
 use Rattle.std.specs.Char.{is_ascii_alphabetic, is_ascii_digit}
 use Rattle.std.specs.List.{count_by, list_any}
@@ -8,13 +8,12 @@ use Rattle.std.specs.Option.{option_or, option_map_or}
 use Rattle.std.proofs.lemmas.List.Sums.{sum_by-cons}
 use Rattle.std.proofs.lemmas.Bool.{and_parts, not-true}
 use Rattle.std.proofs.lemmas.Bool.Decides.{nat_tests}
-use Rattle.gix_date.specs.Text.Characters.{colon, dot}
+use Rattle.gix_date.specs.Text.Characters.{colon}
 use Rattle.gix_date.specs.Text.Front.{◌>>=◌}
-use Rattle.git_date.specs.Rules.Dates.{year_said, year_date, is_day_of_month, recent_date, is_ahead, unless_ahead}
+use Rattle.git_date.specs.Rules.Dates.{year_said, year_date, recent_date}
 use Rattle.git_date.specs.Rules.Digits.{Stepped, is_epoch, bare_digits, few_digits, two_digit_year, or_month, digits_rule, group_or_bare, group_said, grouped}
 use Rattle.git_date.specs.Exact.Fast.{has_few_digits}
-use Rattle.git_date.specs.Rules.Fields.{with_date}
-use Rattle.git_date.specs.Rules.Groups.{ReadTokens, marked_number, is_group_mark, third_or_none, group_of, second_of, third_of, taken_or_refused, or_else, year_first_group, day_month_group, group_rule, large_in}
+use Rattle.git_date.specs.Rules.Groups.{ReadTokens, marked_number, is_group_mark, third_or_none, group_of, year_first_group, day_month_group, group_rule, large_in}
 use Rattle.git_date.specs.Tokens.Numbers.{number}
 use Rattle.git_date.specs.Exact.Reading.{nothing_read, reading_of, fields_said}
 use Rattle.git_date.specs.Tokens.Tokens.{Token, Letters, Digits, Mark, letter_before, digit_before, tokens, bytes_left}
@@ -25,8 +24,7 @@ use Rattle.git_date.specs.declared.error.DateError.TheVariants.{Unreadable}
 use Rattle.git_date.specs.declared.fields.Fields.{Fields}
 use Rattle.git_date.specs.declared.fields.groups.Group.{Group}
 use Rattle.git_date.specs.declared.fields.groups.Number.{Number}
-use Rattle.git_date.proofs.Rules.Kept.{either}
-use Rattle.git_date.proofs.Rules.Respects.{group_after}
+use Rattle.git_date.proofs.Rules.Kept.{either, group_after}
 use Rattle.git_date.proofs.Exact.NoSeconds.{AreAll, Keeps, Quiet, not-large, no-seconds}
 use Rattle.git_date.specs.Tokens.Steps.{and_then}
 use Rattle.git_date.specs.declared.fault.Fault.{Fault}
@@ -116,67 +114,46 @@ none-large : (mark first : ℕ) (second : Number) (third : Option Number) → se
 none-large mark first second None h g = rw (not-large second.value h) refl
 none-large mark first second (Some third) h g = rw (not-large second.value h, not-large third.value g) refl
 
--- a year from 71 to 99 is not refused
-year-quiet : (f : Fields) (year month day : ℕ) → HasNoMinute f → 70 < year → year ≤ 99 → QuietDated (year_date f year month day)
-unfolding year_date year_said
-year-quiet f year month day e l h =
-    let early : nat_le 1970 year ≡ false = grind (arith, nat_tests) in
-    let low : nat_le 71 year ≡ true = grind (arith, nat_tests) in
-    let high : nat_le year 99 ≡ true = grind (arith, nat_tests) in
-    rw (early, low, high) (either QuietDated (is_day_of_month month day) _ _ e tt)
+-- a date leaves the minute as it is
+date-leaves : (f next : Fields) (year month day : ℕ) → year_date f year month day ≡ dated.Taken next → next.minute ≡ f.minute
+unfolding year_date
+date-leaves f next year month day e = grind (arith, nat_tests)
 
-else-quiet : (a b : Dated) → QuietDated a → QuietDated b → QuietDated (or_else a b)
-else-quiet (dated.Taken f) b p q = p
-else-quiet dated.Refused b p q = q
-else-quiet dated.YearRefused b p q = absurd p
-
-year-first : (f : Fields) (g : Group) (third : Option ℕ) → HasNoMinute f → 70 < g.first → g.first ≤ 99 → QuietDated (option_map_or (λ third. or_else (year_date f g.first (second_of g) third) (year_date f g.first third (second_of g))) third dated.Refused)
-year-first f g None e l h = tt
-year-first f g (Some third) e l h =
-    else-quiet (year_date f g.first (second_of g) third) (year_date f g.first third (second_of g)) (year-quiet f g.first (second_of g) third e l h) (year-quiet f g.first third (second_of g) e l h)
-
-unless-kept : (now : Now) (dated : Fields) (next : Option Fields) → NoneHasMinute next → NoneHasMinute (unless_ahead now dated next)
-unless-kept now dated next h = either NoneHasMinute (is_ahead now dated) None next tt h
-
-dated-kept : (now : Now) (f : Fields) (month day : ℕ) (year : Option ℕ) → HasNoMinute f
-    → NoneHasMinute (year >>= (λ year. unless_ahead now (with_date f year month day) (Some (with_date f year month day))))
-dated-kept now f month day None e = tt
-dated-kept now f month day (Some year) e = unless-kept now (with_date f year month day) (Some (with_date f year month day)) e
-
-recent-kept : (now : Now) (f : Fields) (month day : ℕ) (third : Option ℕ) → HasNoMinute f → NoneHasMinute (recent_date now f month day third)
+recent-leaves : (now : Now) (f next : Fields) (month day : ℕ) (third : Option ℕ) → recent_date now f month day third ≡ Some next → next.minute ≡ f.minute
 unfolding recent_date
-recent-kept now f month day (Some third) e = either NoneHasMinute (is_day_of_month month day) _ _ (dated-kept now f month day (year_said third) e) tt
-recent-kept now f month day None e =
-    either NoneHasMinute (is_day_of_month month day) _ _ (unless-kept now (with_date f now.year month day) (Some (record f { month = Some month; day = Some day })) e) tt
+recent-leaves now f next month day third e = grind (arith, nat_tests)
 
-or-kept : (a b : Option Fields) → NoneHasMinute a → NoneHasMinute b → NoneHasMinute (option_or a b)
-or-kept (Some f) b p q = p
-or-kept None b p q = q
+year-leaves : (f next : Fields) (g : Group) → year_first_group f g ≡ dated.Taken next → next.minute ≡ f.minute
+year-leaves f next g e = grind (arith, date-leaves)
 
-taken-quiet : (o : Option Fields) → NoneHasMinute o → QuietDated (taken_or_refused o)
-taken-quiet (Some f) h = h
-taken-quiet None h = tt
-
-day-quiet : (now : Now) (f : Fields) (g : Group) → HasNoMinute f → QuietDated (day_month_group now f g)
+day-leaves : (now : Now) (f next : Fields) (g : Group) → day_month_group now f g ≡ dated.Taken next → next.minute ≡ f.minute
 unfolding day_month_group
-day-quiet now f g e =
-    let month_first = recent_date now f g.first (second_of g) (third_of g) in
-    let day_first = recent_date now f (second_of g) g.first (third_of g) in
-    let m = recent-kept now f g.first (second_of g) (third_of g) e in
-    let d = recent-kept now f (second_of g) g.first (third_of g) e in
-    taken-quiet (cond (g.mark == dot) (option_or day_first month_first) (option_or month_first day_first))
-    (either NoneHasMinute (g.mark == dot) (option_or day_first month_first) (option_or month_first day_first) (or-kept day_first month_first d m) (or-kept month_first day_first m d))
+day-leaves now f next g e = grind (arith, recent-leaves)
 
-above-by : (b : Bool) (now : Now) (f : Fields) (g : Group) → nat_lt 70 g.first ≡ b → HasNoMinute f → g.first ≤ 99
-    → QuietDated (cond b (or_else (year_first_group f g) (day_month_group now f g)) (day_month_group now f g))
-above-by true now f g l e h =
-    let above : 70 < g.first = grind (arith, nat_tests) in
-    else-quiet _ (day_month_group now f g) (year-first f g (third_of g) e above h) (day-quiet now f g e)
-above-by false now f g l e h = day-quiet now f g e
+group-leaves : (now : Now) (f next : Fields) (g : Group) → (g.mark == colon) ≡ false → group_rule now f g ≡ dated.Taken next → next.minute ≡ f.minute
+unfolding group_rule
+group-leaves now f next g m e = grind (arith, nat_tests, year-leaves, day-leaves)
+
+-- a year from 71 to 99 is not refused
+year-taken : (f : Fields) (year month day : ℕ) → 70 < year → year ≤ 99 → year_date f year month day ≡ dated.YearRefused → ⊥
+unfolding year_date year_said
+year-taken f year month day l h e = grind (arith, nat_tests)
+
+day-taken : (now : Now) (f : Fields) (g : Group) → day_month_group now f g ≡ dated.YearRefused → ⊥
+unfolding day_month_group
+day-taken now f g e = grind (arith, nat_tests)
+
+group-taken : (now : Now) (f : Fields) (g : Group) → (g.mark == colon) ≡ false → g.first ≤ 99 → group_rule now f g ≡ dated.YearRefused → ⊥
+unfolding group_rule
+group-taken now f g m h e = grind (arith, nat_tests, year-taken, day-taken)
 
 group-quiet : (now : Now) (f : Fields) (g : Group) → HasNoMinute f → IsGroupSmall g → QuietDated (group_rule now f g)
-unfolding group_rule
-group-quiet now f g e h = rw (h.mark) (above-by (nat_lt 70 g.first) now f g refl e h.first)
+group-quiet now f g e h = by (group_rule now f g) refl
+  where
+    by : (d : Dated) → group_rule now f g ≡ d → QuietDated d
+    by (dated.Taken next) is = group-leaves now f next g h.mark is ∙ e
+    by dated.Refused is = tt
+    by dated.YearRefused is = group-taken now f g h.mark h.first is
 
 -- what a group says
 abbrev QuietSaid : Result (Option (Fields × List Token)) Fault → Type 0

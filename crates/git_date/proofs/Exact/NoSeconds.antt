@@ -22,7 +22,7 @@ use Rattle.git_date.specs.declared.fault.Fault.{Fault}
 use Rattle.git_date.specs.declared.fields.Fields.{Fields}
 use Rattle.git_date.specs.declared.fields.offsets.Padded.{Padded}
 use Rattle.git_date.specs.declared.reader.Reading.{Reading}
-use Rattle.git_date.proofs.Rules.Kept.{IsKept, Leaves, either, rule-left, white-left}
+use Rattle.git_date.proofs.Rules.Kept.{IsKept, Leaves, either, rule-left, token-place, white-left}
 use Rattle.git_date.specs.Tokens.Steps.{and_then}
 use Rattle.std.specs.Option.{option_or, option_map_or}
 
@@ -34,10 +34,9 @@ AreAll D (t ∷ more) = D t × AreAll D more
 abbrev Anywhere : ℕ → Type 0
 Anywhere left = Unit {0}
 
-kept-all : (D : Token → Type 0) → IsKept (AreAll D) (AreAll D) Anywhere
+kept-all : (D : Token → Type 0) → IsKept (AreAll D) Anywhere
 kept-all D = record {
   next = λ t more q. q.1;
-  also = λ ts q. q;
   at_letters = λ run more q. tt;
   at_digits = λ run more q. tt;
   at_mark = λ byte more h q. tt;
@@ -174,7 +173,7 @@ module _ (K : Option ℕ → Option ℕ → Type 0) (D : Token → Type 0) (lack
     steps-quiet (suc n) r (t ∷ more) e q =
         either Ends (is_end t) (Ok r) _ e
         (after-step now n (bytes_left (t ∷ more)) r (rule now r.fields t more) (λ next rest. steps-quiet n next rest) e
-        (rule-quiet r.fields t more e q) (rule-left (AreAll D) (AreAll D) Anywhere (kept-all D) now r.fields t more q))
+        (rule-quiet r.fields t more e q) (rule-left (AreAll D) Anywhere (kept-all D) now r.fields t more (token-place (AreAll D) Anywhere (kept-all D) t more q) q.1))
 
     pub no-seconds : (text : List ℕ) (n : ℕ) (r : Reading) (ts : List Token) → K r.fields.year r.fields.minute → AreAll D ts
         → fields_said text (steps now n r ts) ≡ Err Unreadable

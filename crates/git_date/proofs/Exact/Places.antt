@@ -83,10 +83,9 @@ pub run-at : (text front run rest : List ℕ) → text ≡ front ++ (run ++ rest
 run-at text front [] rest e h = absurd h
 run-at text front (c ∷ run) rest e h = place-at text front c (run ++ rest) e h
 
-pub kept : (text : List ℕ) → IsKept (Ends text) (Ends text) (IsPlaceOf text)
+pub kept : (text : List ℕ) → IsKept (Ends text) (IsPlaceOf text)
 kept text = record {
   next = λ t more q. (q.0 ++ token_text t, q.1 ∙ sym (append_assoc q.0 (token_text t) (texts more)), q.2.1);
-  also = λ ts q. q;
   at_letters = λ run more q. run-at text q.0 run (texts more) q.1 q.2.0;
   at_digits = λ run more q. run-at text q.0 run (texts more) q.1 q.2.0;
   at_mark = λ byte more h q. place-at text q.0 byte (texts more) q.1 h;
@@ -99,7 +98,7 @@ IsReadIn text read = IsReadAt (IsPlaceOf text) read
 reading-at : (now : Now) (text : List ℕ) → IsReadIn text (reading_of now text)
 unfolding reading_of
 reading-at now text =
-    steps-at (Ends text) (Ends text) (IsPlaceOf text) (kept text) now (length text) nothing_read (tokens text) ([], sym (texts_are text), runs-of text) tt
+    steps-at (Ends text) (IsPlaceOf text) (kept text) now (length text) nothing_read (tokens text) ([], sym (texts_are text), runs-of text) tt
 
 -- the places of what a text says
 abbrev IsSaidIn : List ℕ → Result Said DateError → Type 0

@@ -1,6 +1,6 @@
 -- What a format shows of a time, or does not.
-use Rattle.std.proofs.Common.{◌≡◌, ◌∙◌, ℕ, Bool, true, false, cond, List, Option, Some, None, ap, sym}
-use Rattle.std.specs.Prelude.{◌&&◌, is_none}
+use Rattle.std.proofs.Common.{◌≡◌, ◌∙◌, ℕ, ℤ, Bool, true, false, cond, List, Option, Some, None, refl, ap, sym}
+use Rattle.std.specs.Prelude.{◌&&◌, is_none, is_some}
 use Rattle.jiff.specs.Types.{TimeZone}
 use Rattle.gix_date.specs.Text.Front.{◌>>=◌}
 use Rattle.gix_date.specs.declared.time.Time.{Time}
@@ -31,3 +31,14 @@ pub all-shown : (zone : TimeZone) (local : Bool) (format : List ℕ) (t : Time) 
 unfolding shown_by_format
 all-shown zone local format t shown e h =
     sym (ap (λ (b : Bool). let r : Option (List ℕ) = cond b None (Some (texts shown (pieces_or_none format))) in r) h) ∙ ap (by_pieces format) e
+
+-- a clock of which Git knows the seconds lacks nothing
+known-by : (seconds : Option ℤ) (b : Bool) → is_some seconds ≡ true → (is_none seconds && b) ≡ false
+known-by None b e = absurd cc
+known-by (Some n) b e = refl
+
+pub short-shown : (zone : TimeZone) (local : Bool) (format text : List ℕ) (t : Time) (shown : Shown) → Some shown ≡ shown_at zone local t
+    → is_some shown.seconds ≡ true → text ≡ texts shown (pieces_or_none format) → shown_by_format zone local format t ≡ Some text
+short-shown zone local format text t shown e known is =
+    sym (ap (λ (xs : List ℕ). let r : Option (List ℕ) = Some xs in r) is
+    ∙ all-shown zone local format t shown e (known-by shown.seconds (asks_seconds (pieces_or_none format)) known))

@@ -46,7 +46,7 @@ cut-after text after place m h u is e at =
     let two : place + 1 + 1 ≡ place + 2 = omega arith in
     subst (λ (n : ℕ). IsCharBoundary text n) two (IsCharBoundary-after_ascii text (place + 1) u (omega (arith, p.0, len, place_is)) small)
 
-percent-first : (c : ℕ) (rest : List ℕ) → c ≡ percent → next_piece (c ∷ rest) ≡ begun rest (made_at rest)
+pub percent-first : (c : ℕ) (rest : List ℕ) → c ≡ percent → next_piece (c ∷ rest) ≡ begun rest (made_at rest)
 unfolding next_piece
 percent-first c rest e = ap (λ (x : ℕ). next_piece (x ∷ rest)) e
 

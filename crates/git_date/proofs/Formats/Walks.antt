@@ -107,6 +107,10 @@ whole-by (Err fault) len e = absurd cc
 pub is-whole : (text : List ℕ) → None ≡ format_fault text → is_format text ≡ true
 is-whole text e = whole-by (pieces text) (length text) e
 
+-- a format of which these are the pieces is whole
+pub is-format : (text : List ℕ) (ps : List Piece) → Ok ps ≡ pieces text → is_format text ≡ true
+is-format text ps e = sym (ap (λ (r : Pieces). is_ok r) e)
+
 pub pieces-are : (text : List ℕ) (ps : List Piece) → Ok ps ≡ pieces text → ps ≡ pieces_or_none text
 pieces-are text ps e = ap (λ (r : Pieces). result_unwrap_or r []) e
 
@@ -178,6 +182,14 @@ checked-fault text fault e = ap (λ (f : Option FormatFault). checked_by text f)
 pub checked-whole : (text : List ℕ) → None ≡ format_fault text → Ok text ≡ checked text
 unfolding checked
 checked-whole text e = ap (λ (f : Option FormatFault). checked_by text f) e
+
+whole-checked-by : (text : List ℕ) (r : Pieces) → is_ok r ≡ true → checked_by text (option_map (placed (length text)) (result_err r)) ≡ Ok text
+whole-checked-by text (Ok ps) h = refl
+whole-checked-by text (Err e) h = absurd cc
+
+pub whole-checked : (text : List ℕ) → is_format text ≡ true → checked text ≡ Ok text
+unfolding checked
+whole-checked text h = whole-checked-by text (pieces text) h
 
 -- a text that grows by the text of one piece more
 pub grown-more : (shown : Shown) (old mid new : List ℕ) (done : List Piece) (piece : Piece) (text : List ℕ) → text ≡ piece_text shown piece

@@ -1,13 +1,12 @@
 -- Where the places of approximate answers and of their refusals are: at characters of the text.
-use Rattle.std.proofs.Common.{◌≡◌, pos, ℕ, Bool, true, false, List, [], length, sym, subst, refl, arith, nat_le, Option, Some, None, IfSome, Result, Ok, Err}
-use Rattle.std.specs.Prelude.{◌||◌, bytes_eq, codes, max}
-use Rattle.std.proofs.lemmas.Bool.Decides.{nat_tests}
+use Rattle.std.proofs.Common.{◌≡◌, pos, ℕ, false, List, [], length, sym, Option, Some, None, IfSome, Result, Ok, Err}
+use Rattle.std.specs.Prelude.{◌||◌, bytes_eq, codes}
 use Rattle.std.specs.Int.Signed.{le_z}
 use Rattle.jiff.specs.declared.zoned.Zoned.{Zoned}
 use Rattle.gix_date.specs.Relative.Steps.{zone_of}
 use Rattle.gix_date.specs.declared.time.Time.{Time}
 use Rattle.git_date.specs.Approximate.Reading.{draft_of, answer, answer_of, guess_by, answer_up_to, string_guess, guess, is_unreadable, exact_or_guess, approximate, HasApproximatePlacesIn}
-use Rattle.git_date.specs.Approximate.Drafts.{first_draft, earlier, settle}
+use Rattle.git_date.specs.Approximate.Drafts.{first_draft, settle}
 use Rattle.git_date.specs.Approximate.Expiry.{expiry_of, expiry_by, fixed_expiry, HasExpiryPlacesIn}
 use Rattle.git_date.specs.Approximate.Zones.{Choices, choices_of, shown_in, filled_time}
 use Rattle.git_date.specs.Rules.Dates.{now_of}
@@ -24,46 +23,26 @@ use Rattle.git_date.specs.declared.fields.dates.Now.{Now}
 use Rattle.git_date.specs.declared.error.DateError.{DateError}
 use Rattle.git_date.specs.declared.fault.Fault.{Fault}
 use Rattle.git_date.specs.declared.fault.Fault.TheVariants as fault
-use Rattle.git_date.proofs.Rules.Respects.{ComesTo, FailsAt}
-use Rattle.git_date.proofs.Rules.Kept.{IsFaultAt, IsAt, either, First, Twice, fault-at, begin-kept, whole-twice}
-use Rattle.git_date.proofs.Rules.RespectedDrafts.{Drafts, SameDraft, NoneWaits, Givens, settle-respects, steps-respects}
+use Rattle.git_date.proofs.Rules.Kept.{IsFaultAt, IsAt, either}
+use Rattle.git_date.proofs.Guesses.KeptDrafts.{IsDraftedAt, settle-at, steps-on}
 use Rattle.git_date.proofs.Exact.Places.{Ends, IsPlaceOf, kept, runs-of, ignored-in, up-to-in, error-before, places}
 use Rattle.git_date.proofs.Text.TokenRuns.{texts_are}
 use Rattle.gix_date.specs.Fields.Layout.{LocalTime}
-
-max-by : (P : ℕ → Type 0) (a b : ℕ) (less : Bool) → nat_le a b ≡ less → P a → P b → P (max a b)
-max-by P a b true e p q = let is : max a b ≡ b = grind (arith, nat_tests, e) in subst P (sym is) q
-max-by P a b false e p q = let is : max a b ≡ a = grind (arith, nat_tests, e) in subst P (sym is) p
-
--- the places of a draft: that of what is ignored, and that of the number that waits
-abbrev IsDraftAt : (ℕ → Type 0) → Draft → Draft → Type 0
-IsDraftAt P d e = Drafts (First P) (λ i j. IsAt P i) d e
-
-earlier-at : (P : ℕ → Type 0) (left : ℕ) (ignored : Option ℕ) → P left → IsAt P ignored → P (earlier left ignored)
-earlier-at P left None p h = p
-earlier-at P left (Some other) p h = max-by P left other (nat_le left other) refl p h
-
-ignored-at : (P : ℕ → Type 0) (d e : Draft) → IsDraftAt P d e → IsAt P d.ignored
-ignored-at P d e (SameDraft f weekday w x known i j waits h) = h
 
 -- the place of what is ignored in the end, or that of a refusal
 abbrev IsGivenAt : (ℕ → Type 0) → Result Draft Fault → Type 0
 IsGivenAt P (Ok d) = IsAt P (settle d).ignored
 IsGivenAt P (Err e) = IsFaultAt P e
 
-given-at : (P : ℕ → Type 0) (x y : Result Draft Fault) → Givens (First P) (λ i j. IsAt P i) x y → IsGivenAt P x
-given-at P x y (ComesTo d e h) =
-    ignored-at P (settle d) (settle e) (settle-respects (First P) (λ i j. IsAt P i) (λ left other i j p h. earlier-at P left i p h) d e h)
-given-at P x y (FailsAt a b faults) = fault-at P a b faults
+given-at : (P : ℕ → Type 0) (given : Result Draft Fault) → IsDraftedAt P given → IsGivenAt P given
+given-at P (Ok d) h = (settle-at P d h).1
+given-at P (Err fault) h = h
 
 draft-at : (zone : Choices) (today : Today) (text : List ℕ) → IsGivenAt (IsPlaceOf text) (draft_of zone today text)
 unfolding draft_of
 draft-at zone today text =
-    let P = IsPlaceOf text in
-    let first = first_draft today.shown in
-    given-at P _ _ (steps-respects (First P) (λ i j. IsAt P i) (λ left other i j p h. earlier-at P left i p h)
-    (Twice (Ends text)) (begin-kept (Ends text) (Ends text) P (kept text)) (whole-twice (Ends text)) zone today (length text) first first (tokens text) (tokens text)
-    (SameDraft _ _ None None false None None NoneWaits tt) (refl, ([], sym (texts_are text), runs-of text)))
+    given-at (IsPlaceOf text) _
+    (steps-on (IsPlaceOf text) (Ends text) (kept text) zone today (length text) (first_draft today.shown) (tokens text) ([], sym (texts_are text), runs-of text) (tt, tt))
 
 -- the places of an answer
 answer-in : (text : List ℕ) (d : Draft) (time : Option Time) → IsAt (IsPlaceOf text) d.ignored → HasApproximatePlacesIn text (answer text d time)

@@ -7,7 +7,7 @@ use Rattle.git_date.specs.Approximate.Reading.{guess}
 use Rattle.git_date.specs.Approximate.Computing.{approximating}
 use Rattle.git_date.specs.Approximate.Zones.{one_offset}
 use Rattle.git_date.specs.Exact.Computing.{computing}
-use Rattle.git_date.specs.Show.Ages.{age_of, age_of_days, relative_text}
+use Rattle.git_date.specs.Show.Ages.{age_between, age_of, age_of_days, relative_text}
 use Rattle.git_date.specs.declared.approximate.answer.Approximate.{Approximate}
 use Rattle.git_date.specs.declared.error.DateError.{DateError}
 use Rattle.git_date.proofs.Rows.RowMoment.{row_now}
@@ -30,7 +30,7 @@ rows =
     ∷ row 129_600_000 "4 years, 1 month ago" 1_122_751_200 ∷ row 173_404_800 "6 years ago" 1_062_271_200 ∷ []
 
 shown_rows : map (λ (row : Row). relative_text (pos 1_251_660_000) (pos (1_251_660_000 - row.ago))) rows ≡ map (λ (row : Row). codes row.text) rows
-unfolding digits relative_text age_of age_of_days
+unfolding digits relative_text age_between age_of age_of_days
 shown_rows = refl
 
 abbrev seconds_of : Result Approximate DateError → Option ℤ

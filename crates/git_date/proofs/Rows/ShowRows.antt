@@ -11,7 +11,7 @@ use Rattle.gix_date.specs.Printing.LocalClocks.{clock_of, date_of_day}
 use Rattle.gix_date.specs.declared.time.Time.{Time}
 use Rattle.git_date.specs.Show.Modes.{mode_named, own}
 use Rattle.git_date.specs.Show.Dates.{shown, shown_offset, relative_shown}
-use Rattle.git_date.specs.Show.Ages.{age_of, age_of_days, relative_text}
+use Rattle.git_date.specs.Show.Ages.{age_between, age_of, age_of_days, relative_text}
 use Rattle.git_date.specs.Show.Clocks.{Moment, own_clock, zone_clock}
 use Rattle.git_date.specs.declared.mode.DateKind.TheVariants.{Relative}
 
@@ -47,7 +47,7 @@ relative :
     ∷ row 1_251_654_630 (pos 0) "relative" "2 hours ago" ∷ row 1_251_530_431 (pos 0) "relative" "2 days ago"
     ∷ row 1_214_160_000 (pos 0) "relative" "1 year, 2 months ago" ∷ row 1_188_674_400 (pos 0) "relative-local" "2 years ago"
     ∷ row 1_251_660_001 (pos 0) "relative" "in the future" ∷ refused (neg_ℤ (pos 1)) (pos 0) "relative" ∷ [])
-unfolding digits mode_named shown relative_shown relative_text age_of age_of_days
+unfolding digits mode_named shown relative_shown relative_text age_between age_of age_of_days
 relative = refl
 
 -- the age of one second after 1970 at moments around it
@@ -55,7 +55,7 @@ abbrev age_at : ℤ → Option (List ℕ)
 age_at now = shown (record { zone = UTC; seconds = now }) (own Relative) (record { seconds = pos 1; offset = pos 0 })
 
 moments : map age_at (neg_ℤ (pos 1) ∷ pos 0 ∷ pos 2 ∷ []) ≡ None ∷ Some (codes "in the future") ∷ Some (codes "1 second ago") ∷ []
-unfolding digits shown relative_shown relative_text age_of
+unfolding digits shown relative_shown relative_text age_between age_of
 moments = refl
 
 human :
@@ -63,7 +63,7 @@ human :
     (row 1_251_300_000 (pos 7200) "human" "Wed 17:20 +0200" ∷ row 1_251_300_000 (pos 7200) "human-local" "Wed 15:20"
     ∷ row 1_251_300_000 (pos 0) "human" "Wed 15:20" ∷ row 1_251_228_000 (pos 0) "human" "Tue Aug 25 19:20"
     ∷ row 1_251_650_000 (pos 7200) "human" "3 hours ago" ∷ row 1_466_000_000 (pos 7200) "human" "Jun 15 2016" ∷ [])
-unfolding digits mode_named shown relative_text age_of age_of_days own_clock zone_clock clock_of date_of_day weekday_number offset_at
+unfolding digits mode_named shown relative_text age_between age_of age_of_days own_clock zone_clock clock_of date_of_day weekday_number offset_at
 human = refl
 
 clocks :

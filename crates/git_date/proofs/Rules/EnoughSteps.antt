@@ -6,19 +6,27 @@ use Rattle.git_date.specs.Rules.Digits.{Stepped}
 use Rattle.git_date.specs.Exact.Reading.{read_on, rule, steps}
 use Rattle.git_date.specs.declared.fields.dates.Now.{Now}
 use Rattle.git_date.specs.declared.fault.Fault.{Fault}
+use Rattle.git_date.specs.declared.fields.Fields.{Fields}
 use Rattle.git_date.specs.declared.reader.Reading.{Reading}
-use Rattle.git_date.proofs.Rules.Kept.{IsKept, Leaves, rule-left}
+use Rattle.git_date.proofs.Rules.Kept.{IsKept, Leaves, IsTokenAt, rule-left}
 use Rattle.git_date.specs.Tokens.Steps.{and_then}
 
 -- steps enough are as good as more
-pub short-kept : (n : ℕ) → IsKept (λ ts. length ts ≤ suc n) (λ ts. length ts ≤ n) (λ left. Unit {0})
+pub short-kept : (n : ℕ) → IsKept (λ ts. length ts ≤ n) (λ left. Unit {0})
 short-kept n = record {
   next = λ t more h. omega arith;
-  also = λ ts h. omega arith;
   at_letters = λ run more h. tt;
   at_digits = λ run more h. tt;
   at_mark = λ byte more below h. tt;
 }
+
+pub any-token : (n : ℕ) (t : Token) (more : List Token) → IsTokenAt (λ ts. length ts ≤ n) (λ left. Unit {0}) (short-kept n) t more
+any-token n (Letters run) more = tt
+any-token n (Digits run) more = tt
+any-token n (Mark byte) more = tt
+
+pub rule-short : (now : Now) (n : ℕ) (f : Fields) (t : Token) (more : List Token) → length more ≤ n → Leaves (λ ts. length ts ≤ n) (λ left. Unit {0}) (rule now f t more)
+rule-short now n f t more h = rule-left (λ ts. length ts ≤ n) (λ left. Unit {0}) (short-kept n) now f t more (any-token n t more) h
 
 enough-then : (now : Now) (n m : ℕ) (r : Reading) (left : ℕ) (step : Stepped) → Leaves (λ ts. length ts ≤ n) (λ place. Unit {0}) step
     → Leaves (λ ts. length ts ≤ m) (λ place. Unit {0}) step
@@ -38,8 +46,8 @@ enough now (suc n) zero r (t ∷ more) h g = absurd (omega arith)
 enough now (suc n) (suc m) r (t ∷ more) h g =
     ap (λ (later : Result Reading Fault). cond (is_end t) (Ok r) later)
     (enough-then now n m r (bytes_left (t ∷ more)) (rule now r.fields t more)
-    (rule-left (λ ts. length ts ≤ suc n) (λ ts. length ts ≤ n) (λ place. Unit {0}) (short-kept n) now r.fields t more h)
-    (rule-left (λ ts. length ts ≤ suc m) (λ ts. length ts ≤ m) (λ place. Unit {0}) (short-kept m) now r.fields t more g)
+    (rule-short now n r.fields t more (omega arith))
+    (rule-short now m r.fields t more (omega arith))
     (λ other rest. enough now n m other rest))
 
 -- a text has no more tokens than bytes

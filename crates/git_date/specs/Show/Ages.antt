@@ -1,7 +1,9 @@
 -- Ages: how long ago a time was, in one unit.
-use Rattle.std.specs.Prelude.{ℕ, ◌+◌, ◌*◌, ◌/◌, ◌%◌, ◌==◌, nat_lt, List, [], ◌∷◌, ◌++◌, codes, decimal, ℤ, ◌-ℤ◌, unsigned_abs, if◌then◌else◌}
+use Rattle.std.specs.Prelude.{ℕ, ◌+◌, ◌*◌, ◌/◌, ◌%◌, ◌==◌, nat_lt, List, [], ◌∷◌, ◌++◌, codes, decimal, ℤ, pos, ◌-ℤ◌, unsigned_abs, ◌||◌, if◌then◌else◌, Option, Some, None, Result, Ok, Err}
 use Rattle.std.specs.Int.Signed.{lt_z}
 use Rattle.gix_date.specs.Text.Characters.{space}
+use Rattle.git_date.specs.declared.error.DateError.{DateError}
+use Rattle.git_date.specs.declared.error.DateError.TheVariants.{Range}
 use Rattle.git_date.specs.declared.show.ages.Age.{Age}
 use Rattle.git_date.specs.declared.show.ages.Age.TheVariants.{Seconds, Minutes, Hours, Days, Weeks, Months, Years}
 
@@ -62,8 +64,20 @@ age_text (Weeks n) = counted n (codes "week")
 age_text (Months n) = counted n (codes "month")
 age_text (Years years months) = counted years (codes "year") ++ and_months months
 
+-- the age of the time `seconds` at `now`; a later time has none
+unfoldable pub age_between : ℤ → ℤ → Option Age
+age_between now seconds = if lt_z now seconds then None else Some (age_of (unsigned_abs (now -ℤ seconds)))
+
+-- an age, as it is shown
+abbrev pub shown_age : Option Age → List ℕ
+shown_age (Some age) = age_text age ++ codes " ago"
+shown_age None = codes "in the future"
+
 -- the time `seconds`, as it is shown at `now`
 unfoldable pub relative_text : ℤ → ℤ → List ℕ
-relative_text now seconds =
-    if lt_z now seconds then codes "in the future"
-    else age_text (age_of (unsigned_abs (now -ℤ seconds))) ++ codes " ago"
+relative_text now seconds = shown_age (age_between now seconds)
+
+-- The age of a time, or none of a later one. Git's moments have no sign, so that before 1970 a time is refused, and a moment too.
+unfoldable pub age_answer : ℤ → ℤ → Result (Option Age) DateError
+age_answer now seconds =
+    if lt_z seconds (pos 0) || lt_z now (pos 0) then Err Range else Ok (age_between now seconds)

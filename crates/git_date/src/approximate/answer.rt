@@ -86,18 +86,12 @@ fn draft_of(moment: Zoned<'_>, today: &Today, text: &[u8]) -> Result<Draft, Faul
 fn answer(text: &[u8], draft: Draft, time: Option<Time>) -> Result<Approximate, DateError>
     ensures { result ≡ answer text.now draft time }
 {
-    let Some(time) = time else {
-        return Err(DateError::Range);
-    };
-    let ignored = match draft.ignored {
-        Some(left) => Some(place_in(text, left)),
-        None => None,
-    };
+    let time = time.ok_or(DateError::Range)?;
     if 0 <= time.seconds {
         Ok(Approximate {
             time,
             understood: draft.understood,
-            ignored,
+            ignored: draft.ignored.map(|left| place_in(text, left)),
         })
     } else {
         Err(DateError::Range)
@@ -108,17 +102,10 @@ fn answer(text: &[u8], draft: Draft, time: Option<Time>) -> Result<Approximate, 
 fn answer_of(moment: Zoned<'_>, today: &Today, text: &[u8]) -> Result<Approximate, DateError>
     ensures { result ≡ answer_of (choices_of (zone_of moment.entry)) today.entry.now text.now (draft_of (choices_of (zone_of moment.entry)) today.entry.now text.now) }
 {
-    match draft_of(moment, today, text) {
-        Ok(draft) => {
-            let last = draft.settle();
-            answer(
-                text,
-                last,
-                filled_time(moment, today.shown, last.last.offset, last.fields),
-            )
-        }
-        Err(fault) => Err(error_of(text, fault)),
-    }
+    let draft = draft_of(moment, today, text).map_err(|fault| error_of(text, fault))?;
+    let last = draft.settle();
+    let time = filled_time(moment, today.shown, last.last.offset, last.fields);
+    answer(text, last, time)
 }
 
 /// What the approximate reader makes of a text without NUL.
@@ -127,10 +114,8 @@ fn string_guess(moment: Zoned<'_>, text: &[u8]) -> Result<Approximate, DateError
     ensures { result ≡ string_guess (choices_of (zone_of moment.entry)) (now_of moment.entry) text.now }
 {
     let now = Now::of(moment.timestamp());
-    match shown_in(moment, now.seconds) {
-        Some(shown) => answer_of(moment, &Today { now, shown }, text),
-        None => Err(DateError::Range),
-    }
+    let shown = shown_in(moment, now.seconds).ok_or(DateError::Range)?;
+    answer_of(moment, &Today { now, shown }, text)
 }
 
 /// What is answered, where what begins at this place is ignored too, if there is one.

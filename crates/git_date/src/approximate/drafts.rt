@@ -1,6 +1,6 @@
 //! What an approximate text says so far.
 ghost use Rattle.std.specs.Prelude.{◌≡◌, ◌≤◌, None};
-ghost use Rattle.git_date.specs.Approximate.Drafts.{clock_fields, all_fields, last_of, first_draft, with_shown, ignore, lone_year, with_number, settle, dropped, with_hour, is_before, half, with_half, units, days_back, weekday_seconds, less_months};
+ghost use Rattle.git_date.specs.Approximate.Drafts.{clock_fields, all_fields, last_of, first_draft, with_shown, ignore, lone_year, with_number, without_number, settle, dropped, with_hour, is_before, half, with_half, units, days_back, weekday_seconds, less_months};
 
 use crate::fault::Fault;
 use crate::fields::Fields;
@@ -157,12 +157,18 @@ impl Draft {
     pub(crate) fn ignore(self, left: usize) -> Draft
         ensures { result ≡ ignore self left }
     {
-        let first = match self.ignored {
-            Some(other) => left.max(other),
-            None => left,
-        };
         Draft {
-            ignored: Some(first),
+            ignored: Some(self.ignored.map_or(left, |other| left.max(other))),
+            ..self
+        }
+    }
+
+    /// With no number that waits.
+    pub(crate) fn without_number(self) -> Draft
+        ensures { result ≡ without_number self }
+    {
+        Draft {
+            waiting: None,
             ..self
         }
     }
@@ -175,10 +181,7 @@ impl Draft {
         let Some(n) = self.waiting else {
             return self;
         };
-        let rest = Draft {
-            waiting: None,
-            ..self
-        };
+        let rest = self.without_number();
         match self.fields.with_number(n.value) {
             Some(fields) => Draft { fields, ..rest },
             None => rest.ignore(n.left),
@@ -190,11 +193,7 @@ impl Draft {
         ensures { result ≡ dropped self }
     {
         match self.waiting {
-            Some(n) => Draft {
-                waiting: None,
-                ..self
-            }
-            .ignore(n.left),
+            Some(n) => self.without_number().ignore(n.left),
             None => self,
         }
     }
@@ -218,10 +217,7 @@ impl Draft {
     pub(crate) fn is_before(self, hour: u8) -> bool
         ensures { result ≡ is_before self.fields.hour hour }
     {
-        match self.fields.hour {
-            Some(shown) => shown < hour,
-            None => false,
-        }
+        self.fields.hour.is_some_and(|shown| shown < hour)
     }
 
     /// With an hour of the half of a day that begins with this one: the waiting number, or else the clock's hour.
@@ -230,11 +226,9 @@ impl Draft {
         ensures { result ≡ half self first }
     {
         match self.waiting {
-            Some(n) => Draft {
-                waiting: None,
-                ..self
-            }
-            .with_hour((n.value % 12) as u8 + first),
+            Some(n) => self
+                .without_number()
+                .with_hour((n.value % 12) as u8 + first),
             None => self.with_half(first),
         }
     }
@@ -244,15 +238,12 @@ impl Draft {
         requires { first ≤ 12 }
         ensures { result ≡ with_half self first }
     {
-        match self.fields.hour {
-            Some(hour) => Draft {
-                fields: Fields {
-                    hour: Some(hour % 12 + first),
-                    ..self.fields
-                },
-                ..self
+        Draft {
+            fields: Fields {
+                hour: self.fields.hour.map(|hour| hour % 12 + first),
+                ..self.fields
             },
-            None => self,
+            ..self
         }
     }
 }

@@ -71,10 +71,7 @@ fn months_rule(moment: Zoned<'_>, today: Clock, draft: Draft, months: u64, n: Nu
 fn unit_rule(moment: Zoned<'_>, today: Clock, draft: Draft, unit: Unit, n: Number) -> Drafted
     ensures { result ≡ unit_rule (choices_of (zone_of moment.entry)) today draft unit n }
 {
-    let rest = Draft {
-        waiting: None,
-        ..draft
-    };
+    let rest = draft.without_number();
     match unit {
         Unit::Seconds(size) => back_rule(moment, today, rest, units(n.value, size), n),
         Unit::Weekday(day) => {

@@ -30,13 +30,9 @@ fn picked(moment: Zoned<'_>, preferred: i32, local: i64) -> Option<Time>
 pub(crate) fn shown_in(moment: Zoned<'_>, instant: i64) -> Option<Clock>
     ensures { result ≡ shown_in (choices_of (zone_of moment.entry)) instant }
 {
-    let Some(offset) = offset_at(moment.time_zone(), instant) else {
-        return None;
-    };
-    match shown_at(instant + i64::from(offset)) {
-        Some(shown) => Some(shown.with_offset(offset)),
-        None => None,
-    }
+    let offset = offset_at(moment.time_zone(), instant)?;
+    let shown = shown_at(instant + i64::from(offset))?;
+    Some(shown.with_offset(offset))
 }
 
 /// The time at which the clock of the moment's zone shows these fields, with a preferred offset.

@@ -155,10 +155,7 @@ pub(crate) fn exact_seconds(fields: Fields) -> Option<i64>
 fn is_ahead(now: Now, fields: Fields) -> bool
     ensures { result ≡ is_ahead now fields }
 {
-    match exact_seconds(fields) {
-        Some(seconds) => now.seconds < seconds - 10 * SECONDS_PER_DAY,
-        None => false,
-    }
+    exact_seconds(fields).is_some_and(|seconds| now.seconds < seconds - 10 * SECONDS_PER_DAY)
 }
 
 /// A month, a day and perhaps a year, if that is not ahead.

@@ -81,11 +81,7 @@ pub(crate) fn group_of(first: u64, text: &[u8]) -> Option<(Group, &[u8])>
 fn large_number(n: Number) -> Option<usize>
     ensures { result ≡ large_number n }
 {
-    if is_too_large(n.value) {
-        Some(n.left)
-    } else {
-        None
-    }
+    is_too_large(n.value).then_some(n.left)
 }
 
 impl Group {
@@ -116,10 +112,7 @@ impl Group {
     fn clock_group(self, fields: Fields) -> Dated
         ensures { result ≡ clock_group fields self }
     {
-        let second = match self.third {
-            Some(third) => third.value,
-            None => 0,
-        };
+        let second = self.third.map_or(0, |third| third.value);
         match fields.with_clock(self.first, self.second.value, second) {
             Some(next) => Dated::Taken(next),
             None => Dated::Refused,

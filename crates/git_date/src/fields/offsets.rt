@@ -27,10 +27,7 @@ type SaidOffset<'a> = Result<(Option<i16>, &'a [u8]), Fault>;
 fn is_white(token: Token<'_>) -> bool
     ensures { result ≡ is_white (token_of token.entry) }
 {
-    match token {
-        Token::Mark(byte) => byte == b' ' || (9 <= byte && byte <= 13),
-        _ => false,
-    }
+    matches!(token, Token::Mark(byte) if byte == b' ' || (9 <= byte && byte <= 13))
 }
 
 /// How much white space stands first, and what stands after it.
@@ -180,7 +177,7 @@ fn offset_said<'a>(run: &[u8], text: &'a [u8]) -> SaidOffset<'a>
 fn known_minutes(minutes: i16) -> Option<i16>
     ensures { result ≡ known_minutes minutes }
 {
-    if minutes == -1 { None } else { Some(minutes) }
+    (minutes != -1).then_some(minutes)
 }
 
 impl Fields {

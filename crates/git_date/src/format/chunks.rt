@@ -1,5 +1,6 @@
 //! The text of a piece, lent or made.
-ghost use Rattle.std.specs.Prelude.{◌≡◌, ◌<◌, unsigned_abs};
+ghost use Rattle.std.specs.Prelude.{◌≡◌, ◌+◌, ◌≤◌, ◌<◌, ◌++◌, unsigned_abs};
+ghost use Rattle.arrayvec.specs.ArrayString.{array_string_len};
 ghost use Rattle.gix_date.specs.Header.Text.{hundred_hours};
 ghost use Rattle.gix_date.specs.Fields.Offsets.{compact_offset_text};
 ghost use Rattle.git_date.specs.Formats.Format.{chunk_text, piece_text, plain_text, seconds_text};
@@ -37,9 +38,19 @@ fn offset_part(offset: i32) -> Part
     ensures { result.bytes ≡ compact_offset_text offset }
 {
     let mut part = Part::new();
-    push_hours(&mut part, offset);
-    push_minutes(&mut part, offset);
+    push_offset(&mut part, offset);
     part
+}
+
+/// Appends `+hhmm`.
+#[inline(always)]
+pub(crate) fn push_offset(part: &mut Part, offset: i32)
+    requires short { unsigned_abs offset < hundred_hours }
+    requires room { array_string_len part.old + 5 ≤ 255 }
+    ensures { part.new.bytes ≡ part.old.bytes ++ compact_offset_text offset }
+{
+    push_hours(part, offset);
+    push_minutes(part, offset);
 }
 
 fn directive_part(directive: Directive, flags: Flags, t: Clock) -> Part
@@ -61,7 +72,7 @@ fn plain_chunk<'t>(plain: Plain, shown: &'t Shown) -> Chunk<'t>
     }
 }
 
-fn made_chunk<'t>(made: Made, shown: &'t Shown) -> Chunk<'t>
+pub(crate) fn made_chunk<'t>(made: Made, shown: &'t Shown) -> Chunk<'t>
     ensures { chunk_text result ≡ piece_text (shown_of shown.now) (Begun made) }
 {
     match made {

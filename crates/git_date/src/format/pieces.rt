@@ -26,6 +26,7 @@ pub(crate) enum Piece<'a> {
 }
 
 /// How many bytes stand before the first percent sign.
+#[inline(always)]
 #[tactic(auto, using(crate::proofs::Formats::Letters::front_fits))]
 fn text_len(text: &[u8]) -> usize
     ensures value { result ≡ text_len text.now }
@@ -128,6 +129,7 @@ fn begun(text: &str) -> Result<(Piece<'_>, &str), FormatFault>
 }
 
 /// The first piece of a format that is not empty, and what is left.
+#[inline(always)]
 pub(crate) fn next_piece(text: &str) -> Result<(Piece<'_>, &str), FormatFault>
     requires { 0 < length text.now }
     ensures value { next_view result ≡ next_piece text.now }

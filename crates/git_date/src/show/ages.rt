@@ -2,19 +2,25 @@
 ghost use Rattle.std.specs.Prelude.{◌≡◌, ◌+◌, ◌^◌, ◌≤◌, ◌<◌, ◌≤ℤ◌, ◌++◌, length, pos};
 ghost use Rattle.arrayvec.specs.ArrayString.{array_string_len};
 ghost use Rattle.gix_date.specs.Fields.Zoned.{last_second};
-ghost use Rattle.git_date.specs.Show.Ages.{age_of, age_of_days, age_text, and_months, counted, in_years_and_months, relative_text, rounded};
+ghost use Rattle.git_date.specs.Show.Ages.{age_between, age_of, age_of_days, age_text, and_months, counted, in_years_and_months, relative_text, rounded};
 
 use crate::show::DateText;
 use arrayvec::ArrayString;
 
-/// An age in the unit that Git chooses for it.
-#[derive(Clone, Copy)]
-pub(crate) enum Age {
+/// How long ago a time was, in the unit that Git chooses for it.
+#[derive(Clone, Copy, Debug, PartialEq, Eq)]
+pub enum Age {
+    /// At most 89.
     Seconds(u16),
+    /// 2 to 89.
     Minutes(u16),
+    /// 2 to 35.
     Hours(u16),
+    /// 2 to 13.
     Days(u16),
+    /// 2 to 10.
     Weeks(u16),
+    /// 2 to 12.
     Months(u16),
     /// Years, and months beyond them.
     Years(u16, u16),
@@ -119,6 +125,19 @@ fn push_age(text: &mut DateText, age: Age)
     }
 }
 
+/// The age of a time at a moment. Both are in seconds since 1970.
+#[tactic(auto, unfolding(crate::specs::Show::Ages::age_between))]
+pub(crate) fn age_between(now: i64, seconds: i64) -> Option<Age>
+    requires now { now ≤ℤ last_second }
+    requires seconds { pos 0 ≤ℤ seconds }
+    ensures { result ≡ age_between now seconds }
+{
+    if now < seconds {
+        return None;
+    }
+    Some(age_of((now - seconds) as u64))
+}
+
 /// How long ago a time was, at a moment. Both are in seconds since 1970.
 #[tactic(auto, unfolding(crate::specs::Show::Ages::relative_text))]
 pub(crate) fn relative_text(now: i64, seconds: i64) -> DateText
@@ -127,11 +146,12 @@ pub(crate) fn relative_text(now: i64, seconds: i64) -> DateText
     ensures { result.bytes ≡ relative_text now seconds }
 {
     let mut text = ArrayString::new();
-    if now < seconds {
-        text.push_str("in the future");
-        return text;
+    match age_between(now, seconds) {
+        Some(age) => {
+            push_age(&mut text, age);
+            text.push_str(" ago");
+        }
+        None => text.push_str("in the future"),
     }
-    push_age(&mut text, age_of((now - seconds) as u64));
-    text.push_str(" ago");
     text
 }

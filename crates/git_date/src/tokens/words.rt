@@ -15,10 +15,7 @@ impl Fields {
     fn afternoon(self) -> Fields
         ensures { result ≡ afternoon self }
     {
-        let hour = match self.hour {
-            Some(hour) => hour % 12 + 12,
-            None => 11,
-        };
+        let hour = self.hour.map_or(11, |hour| hour % 12 + 12);
         Fields {
             hour: Some(hour),
             ..self
@@ -29,12 +26,9 @@ impl Fields {
     fn morning(self) -> Fields
         ensures { result ≡ morning self }
     {
-        match self.hour {
-            Some(hour) => Fields {
-                hour: Some(hour % 12),
-                ..self
-            },
-            None => self,
+        Fields {
+            hour: self.hour.map(|hour| hour % 12),
+            ..self
         }
     }
 
@@ -42,12 +36,9 @@ impl Fields {
     fn with_zone(self, minutes: i16) -> Fields
         ensures { result ≡ with_zone self minutes }
     {
-        match self.offset {
-            Some(_) => self,
-            None => Fields {
-                offset: Some(minutes),
-                ..self
-            },
+        Fields {
+            offset: self.offset.or(Some(minutes)),
+            ..self
         }
     }
 

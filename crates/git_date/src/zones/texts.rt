@@ -19,13 +19,7 @@ pub fn zone_offset(text: &[u8]) -> Option<i32>
     match text {
         [sign, a, b] => signed_hours(*sign, *a, *b),
         [sign, a, b, c, d] => signed_clock(*sign, *a, *b, *c, *d),
-        [sign, a, b, mark, c, d] => {
-            if *mark == b':' {
-                signed_clock(*sign, *a, *b, *c, *d)
-            } else {
-                None
-            }
-        }
+        [sign, a, b, mark, c, d] if *mark == b':' => signed_clock(*sign, *a, *b, *c, *d),
         _ => None,
     }
 }

@@ -18,8 +18,8 @@ use Rattle.git_date.specs.declared.error.DateError.TheVariants as error
 use Rattle.git_date_laws.proofs.Alike.Texts.{in_lower_case, tokens-lower}
 use Rattle.git_date_laws.proofs.Alike.Cuts.{place-lower, before-lower}
 use Rattle.git_date_laws.proofs.Alike.Spelling.{IsSpelling}
-use Rattle.git_date.proofs.Rules.Respects.{ComesTo, FailsAt, SameNumber}
-use Rattle.git_date.proofs.Rules.RespectedDrafts.{Waits, NoneWaits, OneWaits, SameDraft, Givens, steps-respects}
+use Rattle.git_date_laws.proofs.Walks.Respects.{ComesTo, FailsAt, SameNumber}
+use Rattle.git_date_laws.proofs.Walks.RespectedDrafts.{Waits, NoneWaits, OneWaits, SameDraft, Givens, steps-respects}
 use Rattle.git_date_laws.proofs.Alike.Changed.{changed, farther_fault, fault-is, Closed, Farther, begin-closed}
 use Rattle.gix_date.specs.Text.Characters.{newline}
 use Rattle.gix_date.specs.Fields.Layout.{LocalTime}

@@ -17,7 +17,7 @@ use Rattle.git_date.specs.Types.Names.{Padded}
 use Rattle.git_date.specs.Types.Names.{Reading}
 use Rattle.git_date.proofs.Rules.Kept.{white-left}
 use Rattle.git_date_laws.proofs.Alike.Spelling.{IsSpelling, words-agree}
-use Rattle.git_date.proofs.Rules.Respects.{Readings, Comes, ComesTo, FailsAt, Begin, NoMore, LineNext, SameWords, SameDigits, SameMark, Faults, TooLarge, TooFar, Year, NoInstant, Places, NoPlace, Place, SameReading, Paddeds, NoPadded, SamePadded, Whites, after_three, Respects, number-respects, steps-respects, or-left, or-right}
+use Rattle.git_date_laws.proofs.Walks.Respects.{Readings, Comes, ComesTo, FailsAt, Begin, NoMore, LineNext, SameWords, SameDigits, SameMark, Faults, TooLarge, TooFar, Year, NoInstant, Places, NoPlace, Place, SameReading, Paddeds, NoPadded, SamePadded, Whites, after_three, Respects, number-respects, steps-respects, or-left, or-right}
 use Rattle.git_date_laws.specs.Texts.Lines.{are_white, awaits_minutes, awaits_offset, end_before_minutes}
 use Rattle.git_date.specs.Rules.Offsets.{is_sign}
 

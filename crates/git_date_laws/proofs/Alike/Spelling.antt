@@ -10,7 +10,7 @@ use Rattle.git_date.specs.Types.Names.{Fields}
 use Rattle.git_date.specs.Approximate.Words.{moment_names, moment_named, count_named, is_unit, unit_names, unit_named, meaning_of}
 use Rattle.git_date.specs.Types.MeaningCases as meaning
 use Rattle.git_date.specs.Types.UnitCases as counted
-use Rattle.git_date.proofs.Rules.Respects.{AreWords}
+use Rattle.git_date_laws.proofs.Walks.Respects.{AreWords}
 use Rattle.std.specs.Option.{option_or}
 
 -- a spelling of words that no name tells from another, byte for byte

@@ -6,9 +6,8 @@ use Rattle.git_date.specs.Approximate.Zones.{Choices}
 use Rattle.git_date.specs.Tokens.Tokens.{Token}
 use Rattle.git_date.specs.Types.Names.{Draft, Fault, Number}
 use Rattle.git_date.specs.Types.FaultCases.{NumberTooLarge, BackTooFar, YearRefused, Range}
-use Rattle.git_date.proofs.Rules.Kept.{same-words}
-use Rattle.git_date.proofs.Rules.Respects.{ComesTo, FailsAt, Numbers, SameNumber, Faults, TooLarge}
-use Rattle.git_date.proofs.Rules.RespectedDrafts.{Waits, NoneWaits, OneWaits, Drafts, SameDraft, Givens, settle-respects, letters-respects}
+use Rattle.git_date_laws.proofs.Walks.Respects.{same-words, ComesTo, FailsAt, Numbers, SameNumber, Faults, TooLarge}
+use Rattle.git_date_laws.proofs.Walks.RespectedDrafts.{Waits, NoneWaits, OneWaits, Drafts, SameDraft, Givens, settle-respects, letters-respects}
 use Rattle.gix_date.specs.Fields.Layout.{LocalTime}
 
 -- without places

@@ -16,7 +16,7 @@ use Rattle.git_date.specs.Types.Names.{Now, Fault, Fields, Group, Reading}
 use Rattle.git_date.specs.Types.FaultCases.{NumberTooLarge}
 use Rattle.git_date.specs.Types.DatedCases.{Refused}
 use Rattle.git_date_laws.specs.Texts.Moments.{is_day_month, is_any_day_month, begins_day_month, has_day_month, goes_on, meets_day_month}
-use Rattle.git_date.proofs.Rules.Kept.{IsKept, Leaves, rule-left}
+use Rattle.git_date.proofs.Rules.Kept.{IsKept, Leaves, rule-left, token-place}
 use Rattle.git_date.specs.Tokens.Steps.{and_then}
 
 no-recent : (now : Now) (f : Fields) (month day : ℕ) (third : Option ℕ) → is_day_of_month month day ≡ false → recent_date now f month day third ≡ None
@@ -114,10 +114,9 @@ none-first : (t : Token) (more : List Token) → HasNone (t ∷ more) → begins
 unfolding has_day_month
 none-first t more h = (or_parts (begins_day_month t more) (has_day_month more) h).0
 
-none-kept : IsKept HasNone HasNone (λ left. Unit {0})
+none-kept : IsKept HasNone (λ left. Unit {0})
 none-kept = record {
   next = λ t more h. none-next t more h;
-  also = λ ts h. h;
   at_letters = λ run more h. tt;
   at_digits = λ run more h. tt;
   at_mark = λ byte more below h. tt;
@@ -142,5 +141,5 @@ none-met now zero r (t ∷ more) h = refl
 none-met now (suc n) r (t ∷ more) h =
     none-step (is_end t) (begins_day_month t more)
     (goes_on (rule now r.fields t more) (λ next. meets_day_month now n (read_on r (bytes_left (t ∷ more)) next.0) next.1)) (none-first t more h)
-    (none-then now n r (bytes_left (t ∷ more)) (rule now r.fields t more) (rule-left HasNone HasNone (λ place. Unit {0}) none-kept now r.fields t more h)
+    (none-then now n r (bytes_left (t ∷ more)) (rule now r.fields t more) (rule-left HasNone (λ place. Unit {0}) none-kept now r.fields t more (token-place HasNone (λ place. Unit {0}) none-kept t more h) (none-next t more h))
     (λ other rest. none-met now n other rest))

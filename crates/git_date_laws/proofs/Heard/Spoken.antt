@@ -9,8 +9,8 @@ use Rattle.git_date.specs.Tokens.Tokens.{Token, Letters, Digits, Mark}
 use Rattle.git_date.specs.Rules.Words.{without_ending}
 use Rattle.git_date.specs.Types.Names.{Draft, Now, Fault}
 use Rattle.git_date_laws.specs.Texts.Heard.{Heard, Word, Number, Between, heard_from}
-use Rattle.git_date.proofs.Rules.Respects.{is_group_next, Marked, NoGroupMark, SameMarked, SameNumber}
-use Rattle.git_date.proofs.Rules.RespectedDrafts.{ReadOn, GoesOn, EndsBy, read-respects}
+use Rattle.git_date_laws.proofs.Walks.Respects.{is_group_next, Marked, NoGroupMark, SameMarked, SameNumber}
+use Rattle.git_date_laws.proofs.Walks.RespectedDrafts.{ReadOn, GoesOn, EndsBy, read-respects}
 use Rattle.git_date_laws.proofs.Heard.Bare.{Anywhere, Anything, drafts-of, bare-drafts, bare, bare_fault, bare-faults}
 
 -- tokens of what is heard: a space stands after each number and word, but not before such a mark or digits that follow directly

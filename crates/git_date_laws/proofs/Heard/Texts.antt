@@ -6,7 +6,7 @@ use Rattle.std.specs.Str.{str_to_ascii_lowercase}
 use Rattle.gix_date.specs.Text.Characters.{space}
 use Rattle.gix_date.specs.Text.Names.{is_name}
 use Rattle.gix_date.specs.declared.time.Time.{Time}
-use Rattle.git_date.specs.Approximate.Reading.{Read, steps, draft_of, answer, answer_of, guess_by, string_guess}
+use Rattle.git_date.specs.Approximate.Reading.{Read, steps, draft_of, answer, answer_of, guess_by, string_guess, rule}
 use Rattle.git_date.specs.Approximate.Drafts.{first_draft, ignore, settle}
 use Rattle.git_date.specs.Approximate.Rules.{are_digits_next, letters_rule, digits_rule}
 use Rattle.git_date.specs.Approximate.Words.{moment_named, count_named, unit_named, meaning_of}
@@ -19,14 +19,13 @@ use Rattle.git_date.specs.Rules.Words.{is_filler, is_ending, without_ending}
 use Rattle.git_date.specs.Types.Names.{Today, Draft, Now, Fault}
 use Rattle.git_date.specs.Types.FaultCases.{NumberTooLarge}
 use Rattle.git_date.specs.declared.error.DateError.{DateError}
-use Rattle.git_date.proofs.Rules.EnoughSteps.{fewer, short-kept}
+use Rattle.git_date.proofs.Rules.EnoughSteps.{fewer, short-kept, any-token}
 use Rattle.git_date_laws.proofs.Alike.Texts.{in_lower_case, equal-bytes}
 use Rattle.git_date_laws.proofs.Alike.Spelling.{meaning-agrees}
-use Rattle.git_date.proofs.Rules.Kept.{Leaves, Twice, fault-at, begin-kept}
-use Rattle.git_date.proofs.Rules.Respects.{marked}
-use Rattle.git_date.proofs.Rules.RespectedDrafts.{ReadOn, GoesOn, EndsBy, read-respects}
+use Rattle.git_date.proofs.Rules.Kept.{Leaves, IsAt}
+use Rattle.git_date.proofs.Guesses.KeptDrafts.{IsDraftAt, ReadsOn, digits-at, rule-on}
 use Rattle.git_date_laws.specs.Texts.Heard.{Heard, Between, heard_from, string_heard, told}
-use Rattle.git_date_laws.proofs.Heard.Bare.{Anywhere, Anything, drafts-of, bare, bare_fault, bare_given, both-ways, letters-alike, settle-alike}
+use Rattle.git_date_laws.proofs.Heard.Bare.{bare, bare_fault, bare_given, both-ways, letters-alike, settle-alike}
 use Rattle.git_date_laws.proofs.Heard.Spoken.{gap, spoken, after, next-spoken, plain_read, told_read, digits-spoken, unended-gap}
 use Rattle.gix_date.specs.Fields.Layout.{LocalTime}
 use Rattle.git_date.specs.Tokens.Steps.{and_then}
@@ -59,17 +58,25 @@ no-word run e = any-of run _ _ _ _ refl refl refl refl e
 abbrev pub IsShort : {A : Type 0} → ℕ → Result (A × List Token) Fault → Type 0
 IsShort n step = Leaves (λ ts. length ts ≤ n) (λ left. Unit {0}) step
 
-pub short-of : (n : ℕ) (x y : Read) → ReadOn (Twice (λ ts. length ts ≤ n)) Anywhere Anything x y → IsShort n x
-short-of n x y (GoesOn d e more rest h r) = r.1
-short-of n x y (EndsBy a b faults) = fault-at (λ left. Unit {0}) a b faults
+any-place : (place : Option ℕ) → IsAt (λ left. Unit {0}) place
+any-place None = tt
+any-place (Some left) = tt
+
+any-draft : (d : Draft) → IsDraftAt (λ left. Unit {0}) d
+any-draft d = (any-place _, any-place d.ignored)
+
+short-of : (n : ℕ) (step : Read) → ReadsOn (λ left. Unit {0}) (λ ts. length ts ≤ n) (short-kept n) step → IsShort n step
+short-of n (Ok found) h = h.1
+short-of n (Err fault) h = h
+
+-- a rule of the approximate reader leaves fewer tokens
+pub rule-short : (zone : Choices) (today : Today) (n : ℕ) (d : Draft) (t : Token) (more : List Token) → length more ≤ n → IsShort n (rule zone today d t more)
+rule-short zone today n d t more h =
+    short-of n _ (rule-on (λ left. Unit {0}) (λ ts. length ts ≤ n) (short-kept n) zone today d t more (any-token n t more) h (any-draft d))
 
 pub read-short : (now : Now) (d : Draft) (run : List ℕ) (more : List Token) → IsShort (length more) (digits_rule now d run more)
 read-short now d run more =
-    let n = length more in
-    let all : length more ≤ n = omega arith in
-    short-of n _ _ (read-respects Anywhere Anything (λ left other i j p h. tt) (Twice (λ ts. length ts ≤ n))
-    (marked (Twice (λ ts. length ts ≤ n)) Anywhere (begin-kept (λ ts. length ts ≤ suc n) (λ ts. length ts ≤ n) (λ left. Unit {0}) (short-kept n)))
-    now d d run more more tt (refl, all) (drafts-of d d refl))
+    short-of (length more) _ (digits-at (λ left. Unit {0}) (λ ts. length ts ≤ length more) (short-kept (length more)) now d run more tt (omega arith) (any-draft d))
 
 pub same-ok : {A E : Type 0} (a b : A) → ◌≡◌ {A = Result A E} (Ok a) (Ok b) → a ≡ b
 same-ok a b e = cc

@@ -20,9 +20,9 @@ use Rattle.git_date.specs.Types.Names.{Today, Draft, Number, Meaning, Fault, Now
 use Rattle.git_date.specs.declared.error.DateError.TheVariants as error
 use Rattle.git_date.proofs.Rules.EnoughSteps.{fewer, short-kept}
 use Rattle.git_date_laws.proofs.Heard.Bare.{Anywhere}
-use Rattle.git_date.proofs.Rules.RespectedDrafts.{Waits, NoneWaits, OneWaits, Drafts, SameDraft, Ruleds, DoesNothing, Makes, Stops, settle-respects, meaning-respects, ReadOn, GoesOn, EndsBy, read-respects}
-use Rattle.git_date.proofs.Rules.Kept.{Twice, ending-left}
-use Rattle.git_date.proofs.Rules.Respects.{Marked, NoGroupMark, SameMarked, SameNumber}
+use Rattle.git_date_laws.proofs.Walks.RespectedDrafts.{Waits, NoneWaits, OneWaits, Drafts, SameDraft, Ruleds, DoesNothing, Makes, Stops, settle-respects, meaning-respects, ReadOn, GoesOn, EndsBy, read-respects}
+use Rattle.git_date.proofs.Rules.Kept.{ending-left}
+use Rattle.git_date_laws.proofs.Walks.Respects.{Marked, NoGroupMark, SameMarked, SameNumber}
 use Rattle.git_date_laws.specs.Texts.Heard.{is_usual, are_usual_from, are_usual}
 use Rattle.git_date_laws.proofs.Heard.Texts.{IsShort, read-short, same-ok}
 use Rattle.gix_date.specs.Fields.Layout.{LocalTime}
@@ -110,6 +110,10 @@ AreUsual ts = are_usual_from true ts ≡ true
 abbrev From : List Token → List Token → Type 0
 From first ts = AreUsual ts → AreUsual first
 
+-- the same tokens twice
+abbrev Twice : (List Token → Type 0) → List Token → List Token → Type 0
+Twice R ts us = (us ≡ ts) × R ts
+
 marked-usual : (first ts : List Token) → From first ts → Marked (Twice (From first)) Anywhere (marked_number ts) (marked_number ts)
 unfolding marked_number
 marked-usual first (Mark byte ∷ Digits run ∷ more) h = SameMarked byte (number_at run more) (number_at run more) more more (SameNumber (number run) _ _ tt) (refl, h)
@@ -176,7 +180,7 @@ module _ (zone : Choices) (today : Today) where
       → go n (ended found) ≡ Ok last → last.ignored ≡ None → (d.ignored ≡ None) × AreUsual more
   digits-then n all d last more (Ok (next, rest)) tells short e none =
       let less : length (without_ending rest) ≤ n =
-      ending-left (λ ts. length ts ≤ suc n) (λ ts. length ts ≤ n) (λ left. Unit {0}) (short-kept n) rest short in
+      ending-left (λ ts. length ts ≤ n) (λ left. Unit {0}) (short-kept n) rest short in
       (tells.0 (all next last false (without_ending rest) less e none).0, tells.1 (all-usual rest (λ digits. (all next last digits (without_ending rest) less e none).1)))
   digits-then n all d last more (Err x) tells short e none = absurd cc
 

@@ -23,12 +23,12 @@ use Rattle.git_date.specs.Exact.Reading.{nothing_read, read_on, ended, sign_rule
 use Rattle.git_date.specs.Tokens.Strings.{before_nul, nul_place}
 use Rattle.git_date.specs.Tokens.Tokens.{Token, Letters, Digits, Mark, tokens, bytes_left, is_end, walked}
 use Rattle.git_date.specs.Types.Names.{Now, Fields, Fault, Group, Reading, Said}
-use Rattle.git_date.specs.Rules.Words.{with_word, letters_rule, without_ending, with_zone, half_or_filler}
+use Rattle.git_date.specs.Rules.Words.{is_filler, with_word, letters_rule, without_ending, with_zone, half_or_filler}
 use Rattle.git_date.specs.declared.date.ReadDate.{ReadDate}
 use Rattle.git_date.specs.declared.error.DateError.{DateError}
-use Rattle.git_date.proofs.Rules.EnoughSteps.{fewer, short-kept}
-use Rattle.git_date.proofs.Rules.Kept.{Leaves, rule-left}
-use Rattle.git_date_laws.specs.Ignored.{is_passed, is_set, is_known, is_word, after_ending, is_taken, takes_group, after_fraction, begins_line, alone, may_be_epoch, Says, Epoch, InGroup, Alone, Used, Word, Number as UsedNumber, Sign, Other, Unused, NoWord, NoNumber, NoSign, Walk, NoMore, LineEnds, Uses, Passes, first_of, IsFirstUnused, IgnoresUnused}
+use Rattle.git_date.proofs.Rules.EnoughSteps.{fewer, rule-short}
+use Rattle.git_date.proofs.Rules.Kept.{Leaves}
+use Rattle.git_date_laws.specs.Ignored.{is_set, is_known, is_word, after_ending, is_taken, takes_group, after_fraction, begins_line, alone, may_be_epoch, Says, Epoch, InGroup, Alone, Used, Word, Number as UsedNumber, Sign, Other, Unused, NoWord, NoNumber, NoSign, Walk, NoMore, LineEnds, Uses, Passes, first_of, IsFirstUnused, IgnoresUnused}
 use Rattle.git_date.specs.Tokens.Steps.{and_then}
 
 -- either way, by a test
@@ -44,8 +44,7 @@ Finds now f ts (Err e) = Unit {0}
 
 -- letters
 zone-known : (f : Fields) (word : List ℕ) (minutes : Option ℤ)
-    → is_some (option_or (option_map (with_zone f) minutes) (half_or_filler f word)) ≡ (is_some minutes || is_name word (codes "PM") || is_name word (codes "AM") || is_passed word)
-unfolding is_passed
+    → is_some (option_or (option_map (with_zone f) minutes) (half_or_filler f word)) ≡ (is_some minutes || is_name word (codes "PM") || is_name word (codes "AM") || is_filler word)
 zone-known f word minutes = grind (arith, nat_tests)
 
 word-known : (f : Fields) (word : List ℕ) → is_some (with_word f word) ≡ is_known word
@@ -214,7 +213,7 @@ module _ (now : Now) where
   first-walk n all r last t more true is short e = rw (line-is t is) (ends r last (Mark newline ∷ more) (LineEnds r.fields more) e)
   first-walk n all r last t more false is short e =
       then-walk n all r last (t ∷ more) (rule now r.fields t more) (grind (arith, is)) (rule-found now r.fields t more)
-      (rule-left (λ ts. length ts ≤ suc n) (λ ts. length ts ≤ n) (λ left. Unit {0}) (short-kept n) now r.fields t more short) e
+      (rule-short now n r.fields t more (omega arith)) e
 
   steps-walk : (n : ℕ) → AreWalked n
   unfolding walked

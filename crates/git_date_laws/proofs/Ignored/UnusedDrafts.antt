@@ -28,7 +28,7 @@ use Rattle.git_date_laws.proofs.Whole.Guesses.{guessed}
 use Rattle.git_date_laws.proofs.Heard.Texts.{IsShort, read-short, same-ok}
 use Rattle.git_date_laws.proofs.Ignored.Unused.{ending-is}
 use Rattle.git_date_laws.specs.ApproximateIgnored.{place_of, unfit, does_nothing, left_by, unused_letters, unused_digits, Drafted, AtEnd, AtMark, AtLetters, AtDigits, earliest, IsEarliestUnused, IgnoresEarliest}
-use Rattle.git_date_laws.specs.Ignored.{is_passed, takes_group, after_ending}
+use Rattle.git_date_laws.specs.Ignored.{takes_group, after_ending}
 use Rattle.gix_date.specs.Fields.Layout.{LocalTime}
 use Rattle.git_date.specs.Tokens.Steps.{and_then}
 
@@ -83,15 +83,11 @@ module _ (zone : Choices) (today : LocalTime) where
   read-leaves d next run left said (Ok None) is e = let idle = word-idle d left said is in rw (idle.0, idle.1) (grind (arith, nat_tests, one-place))
   read-leaves d next run left said (Err wrong) is e = absurd cc
 
-  passed-is : (word : List ℕ) → is_filler word ≡ is_passed word
-  unfolding is_passed
-  passed-is word = refl
-
   letters-leave : (d next : Draft) (run : List ℕ) (more : List Token) → letters_rule zone today d run more ≡ Ok next
       → next.ignored ≡ earliest d.ignored (unused_letters d run more)
   unfolding letters_rule
   letters-leave d next run more e =
-      grind (arith, nat_tests, one-place, passed-is, read-leaves d next run (bytes_left (Letters run ∷ more)) (meaning_of run) _ refl)
+      grind (arith, nat_tests, one-place, read-leaves d next run (bytes_left (Letters run ∷ more)) (meaning_of run) _ refl)
 
 -- digits
 group-takes : (now : Now) (f : Fields) (run : List ℕ) (more : List Token) (said : Option (Fields × List Token)) → group_said now f run more ≡ Ok said
@@ -144,7 +140,7 @@ module _ (zone : Choices) (today : Today) where
   digits-then : (n : ℕ) → AreDrafted n → (d last : Draft) (run : List ℕ) (more : List Token) (found : Read) → digits_rule today.now d run more ≡ found
       → IsShort (length more) found → length more ≤ n → go n (ended found) ≡ Ok last → Comes d (Digits run ∷ more) last
   digits-then n all d last run more (Ok (next, rest)) is less short e =
-      let fewer = ending-left (λ ts. length ts ≤ suc n) (λ ts. length ts ≤ n) (λ left. Unit {0}) (short-kept n) rest (omega arith) in
+      let fewer = ending-left (λ ts. length ts ≤ n) (λ left. Unit {0}) (short-kept n) rest (omega arith) in
       later-on d next last (Digits run ∷ more) (after_ending rest) (unused_digits today.now d run more) (digits-leave today.now d next run more rest is)
       (λ later walk. AtDigits d next (settle last) run more rest later is walk) (subst (λ (ts : List Token). Comes next ts last) (ending-is rest) (all next last (without_ending rest) fewer e))
   digits-then n all d last run more (Err wrong) is less short e = absurd cc

@@ -39,7 +39,7 @@ own-is t clock e = by (has_own_clock t) e
     by true e = cc
     by false e = absurd cc
 
-shown-is : (at : Moment) (local : Bool) (t : Time) (clock : LocalTime) → IsGitTime (shown_time at local t) → shown_clock at local t ≡ Some clock
+pub shown-is : (at : Moment) (local : Bool) (t : Time) (clock : LocalTime) → IsGitTime (shown_time at local t) → shown_clock at local t ≡ Some clock
     → clock ≡ clock_of (shown_time at local t)
 shown-is at false t clock h e = own-is t clock e
 shown-is at true t clock h e = zone-is at.zone t.seconds clock h e

@@ -1,5 +1,7 @@
 -- How dates are shown.
-use Rattle.std.specs.Prelude.{◌≡◌, ◌≢◌, ℕ, List, [], ◌∷◌, Option, Some, None, option_map, Result, Ok, Err, String, string_bytes, codes}
+use Rattle.std.specs.Prelude.{◌≡◌, ◌≢◌, ◌==◌, ℕ, Bool, true, false, if◌then◌else◌, List, [], ◌∷◌, drop, length, Option, Some, None, IsSome, option_map, ok_or, Result, Ok, Err, String, string_bytes, codes}
+use Rattle.std.specs.List.{starts_with}
+use Rattle.std.specs.Result.{result_map_both}
 use Rattle.std.specs.Global.{Global}
 use Rattle.std.specs.declared.alloc.AllocError.{AllocError}
 use Rattle.jiff.specs.declared.zoned.Zoned.{Zoned}
@@ -10,6 +12,8 @@ use Rattle.gix_date.specs.declared.error.Error.TheVariants as errors
 use Rattle.gix_date.specs.declared.time.Time.{Time}
 use Rattle.gix_date.specs.declared.time.format.Format.{Format}
 use Rattle.gix_date.specs.declared.time.format.Format.TheVariants.{Custom, Unix as UnixFormat, Raw as RawFormat}
+use Rattle.git_date.specs.Formats.Format.{format_bytes, shown_by_format}
+use Rattle.git_date.specs.Formats.Pieces.{checked}
 use Rattle.git_date.specs.Show.Modes.{mode_named}
 use Rattle.git_date.specs.Show.Dates.{shown}
 use Rattle.git_date.specs.Show.Clocks.{moment_of}
@@ -22,7 +26,22 @@ use Rattle.git_date_tool.specs.declared.answers.shown.DateLine.TheVariants as li
 use Rattle.git_date_tool.specs.declared.answers.shown.NamedFormat.{NamedFormat}
 use Rattle.git_date_tool.specs.declared.answers.shown.NamedFormat.TheVariants.{Short, Rfc2822, GitRfc2822, Iso8601, Iso8601Strict, Gitoxide, Default, Unix, Raw}
 use Rattle.git_date_tool.specs.declared.answers.shown.Shown.{Shown}
-use Rattle.git_date_tool.specs.declared.answers.shown.Shown.TheVariants.{Git, Gix}
+use Rattle.git_date_tool.specs.declared.answers.shown.Shown.TheVariants as shows
+use Rattle.git_date_tool.specs.declared.answers.shown.NoWay.{NoWay}
+use Rattle.git_date_tool.specs.declared.answers.shown.NoWay.TheVariants as lacks
+
+-- What is shown of a date: what a mode of Git shows, what a format of gix-date prints, or what a format of Git shows, by the clock of the
+-- moment's zone or by the time's own.
+pub data Way : Type 0 where
+  Git : DateMode → Way
+  Gix : NamedFormat → Way
+  ByFormat : List ℕ → Bool → Way
+
+-- what the code has of it
+abbrev pub way_of : Shown → Way
+way_of (shows.Git mode) = Git mode
+way_of (shows.Gix named) = Gix named
+way_of (shows.ByFormat format local) = ByFormat (format_bytes format) local
 
 -- the format of gix-date that has this name
 abbrev pub format_named : List ℕ → Option NamedFormat
@@ -30,14 +49,28 @@ format_named =
     named_in ((codes "SHORT", Short) ∷ (codes "RFC2822", Rfc2822) ∷ (codes "GIT_RFC2822", GitRfc2822) ∷ (codes "ISO8601", Iso8601)
     ∷ (codes "ISO8601_STRICT", Iso8601Strict) ∷ (codes "GITOXIDE", Gitoxide) ∷ (codes "DEFAULT", Default) ∷ (codes "UNIX", Unix) ∷ (codes "RAW", Raw) ∷ [])
 
+-- what stands after a front, in a text that begins so
+abbrev pub after_front : List ℕ → List ℕ → Option (List ℕ)
+after_front front text = if starts_with (λ a b. a == b) text front then Some (drop (length front) text) else None
+
+-- a format of Git, or its first fault
+abbrev pub by_format : Bool → List ℕ → Result Way NoWay
+by_format local format = result_map_both (λ whole. ByFormat whole local) lacks.Format (checked format)
+
 -- a format of gix-date, or else a mode of Git
-abbrev pub format_or_mode : Option NamedFormat → Option DateMode → Option Shown
-format_or_mode (Some format) mode = Some (Gix format)
-format_or_mode None mode = option_map Git mode
+abbrev pub format_or_mode : Option NamedFormat → Option DateMode → Result Way NoWay
+format_or_mode (Some format) mode = Ok (Gix format)
+format_or_mode None mode = ok_or (option_map Git mode) lacks.Unknown
+
+-- by what stands after `format:` and after `format-local:`
+abbrev pub way_after : Option (List ℕ) → Option (List ℕ) → List ℕ → Result Way NoWay
+way_after (Some format) _ name = by_format false format
+way_after None (Some format) name = by_format true format
+way_after None None name = format_or_mode (format_named name) (mode_named name)
 
 -- what a name stands for
-abbrev pub shown_named : List ℕ → Option Shown
-shown_named name = format_or_mode (format_named name) (mode_named name)
+abbrev pub way_named : List ℕ → Result Way NoWay
+way_named name = way_after (after_front (codes "format:") name) (after_front (codes "format-local:") name) name
 
 -- the format has this pattern
 abbrev pub HasPattern : List ℕ → Format → Type 0
@@ -60,6 +93,7 @@ IsFormat Raw format = format ≡ RawFormat
 abbrev pub line_text : DateLine → List ℕ
 line_text (lines.Git text) = text.bytes
 line_text (lines.Gix text) = string_bytes text
+line_text (lines.ByFormat text) = string_bytes text
 
 -- Git shows this text, or nothing
 abbrev pub IsShownByGit : Option (List ℕ) → Result (Result DateLine Refusal) AllocError → Type 0
@@ -80,7 +114,14 @@ IsShownByGix named time result =
     (format : Format) × IsFormat named format
     × (printed : Result (String Global) Error) × Prints time format printed × IsPrinted printed result
 
+-- the same by a format of Git: there may be no memory for the text
+abbrev pub IsShownByFormat : Option (List ℕ) → Result (Result DateLine Refusal) AllocError → Type 0
+IsShownByFormat text (Ok line) = IsShownByGit text (Ok line)
+IsShownByFormat text (Err memory) = IsSome text
+
 -- what showing a time at a moment comes to
 abbrev pub IsShown : Shown → Zoned → Time → Result (Result DateLine Refusal) AllocError → Type 0
-IsShown (Git mode) now time result = IsShownByGit (shown (moment_of now) mode time) result
-IsShown (Gix named) now time result = IsShownByGix named time result
+IsShown (shows.Git mode) now time result = IsShownByGit (shown (moment_of now) mode time) result
+IsShown (shows.Gix named) now time result = IsShownByGix named time result
+IsShown (shows.ByFormat format local) now time result =
+    IsShownByFormat (shown_by_format (moment_of now).zone local (format_bytes format) time) result

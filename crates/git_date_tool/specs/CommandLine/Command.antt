@@ -7,8 +7,8 @@ use Rattle.std.specs.Option.{is_some}
 use Rattle.std.specs.Str.{bytes_eq}
 use Rattle.gix_date.specs.Text.Characters.{minus}
 use Rattle.gix_date_tool.specs.Names.{named_in}
-use Rattle.git_date_tool.specs.Answers.Shown.{shown_named}
-use Rattle.git_date_tool.specs.CommandLine.Wrong.{about, late_option, no_mode, no_option, no_reader, no_value, option_text, twice, two_demands, wrong_words}
+use Rattle.git_date_tool.specs.Answers.Shown.{Way, way_named, way_of}
+use Rattle.git_date_tool.specs.CommandLine.Wrong.{about, late_option, no_option, no_reader, no_value, no_way, option_text, twice, two_demands, wrong_words}
 use Rattle.git_date_tool.specs.declared.program.arguments.Command.{Command}
 use Rattle.git_date_tool.specs.declared.program.arguments.Command.TheVariants as commands
 use Rattle.git_date_tool.specs.declared.program.arguments.Given.{Given}
@@ -20,12 +20,12 @@ use Rattle.git_date_tool.specs.declared.answers.readers.Reader.{Reader}
 use Rattle.git_date_tool.specs.declared.answers.readers.Reader.TheVariants.{Exact, Approxidate, Careful, Gix, Header}
 use Rattle.git_date_tool.specs.declared.answers.readers.Strictness.{Strictness}
 use Rattle.git_date_tool.specs.declared.answers.readers.Strictness.TheVariants.{Lenient, Strict}
-use Rattle.git_date_tool.specs.declared.answers.shown.Shown.{Shown}
+use Rattle.git_date_tool.specs.declared.answers.shown.NoWay.{NoWay}
 
 -- how texts are answered; what no option says is not there
 pub record Asked : Type 0 where
   pub reader : Option Reader
-  pub shown : Option Shown
+  pub shown : Option Way
   pub strictness : Option Strictness
   pub now : Option (List ℕ)
   pub zone : Option (List ℕ)
@@ -41,7 +41,7 @@ pub data Ask : Type 0 where
 abbrev pub request_view : Request → Asked
 request_view r = record {
   reader = r.reader;
-  shown = r.shown;
+  shown = option_map way_of r.shown;
   strictness = r.strictness;
   now = option_map (λ now. now.now) r.now;
   zone = option_map (λ z. z.now) r.zone;
@@ -83,9 +83,9 @@ abbrev pub with_reader : Asked → List ℕ → Option Reader → Result (Asked 
 with_reader a value (Some reader) = Ok (record a { reader = Some reader }, None)
 with_reader a value None = Err (about value no_reader)
 
-abbrev pub with_shown : Asked → List ℕ → Option Shown → Result (Asked × Option Given) (List ℕ)
-with_shown a value (Some shown) = Ok (record a { shown = Some shown }, None)
-with_shown a value None = Err (about value no_mode)
+abbrev pub with_shown : Asked → List ℕ → Result Way NoWay → Result (Asked × Option Given) (List ℕ)
+with_shown a value (Ok way) = Ok (record a { shown = Some way }, None)
+with_shown a value (Err why) = Err (about value (no_way why))
 
 -- whether an option was given
 abbrev pub is_given : Asked → Given → Bool
@@ -99,7 +99,7 @@ abbrev pub with_new_value : Asked → Given → List ℕ → Result (Asked × Op
 with_new_value a Now value = Ok (record a { now = Some value }, None)
 with_new_value a Zone value = Ok (record a { zone = Some value }, None)
 with_new_value a As value = with_reader a value (reader_named value)
-with_new_value a Show value = with_shown a value (shown_named value)
+with_new_value a Show value = with_shown a value (way_named value)
 
 -- with an option's value, which may be given once
 abbrev pub with_value : Asked → Given → List ℕ → Result (Asked × Option Given) (List ℕ)

@@ -1,11 +1,16 @@
 -- What may be wrong with a command line.
 use Rattle.std.specs.Prelude.{ℕ, List, [], ◌++◌, Option, Some, None, option_map, codes}
 use Rattle.std.specs.Borrow.{Bor}
+use Rattle.std.specs.Fmt.{decimal}
+use Rattle.git_date.specs.declared.format.fault.FormatFault.{FormatFault}
+use Rattle.git_date.specs.declared.format.fault.FormatFault.TheVariants as formats
 use Rattle.gix_date_tool.specs.Messages.{no_moment_words}
+use Rattle.git_date_tool.specs.declared.answers.shown.NoWay.{NoWay}
+use Rattle.git_date_tool.specs.declared.answers.shown.NoWay.TheVariants.{Unknown, Format}
 use Rattle.git_date_tool.specs.declared.program.arguments.Given.{Given}
 use Rattle.git_date_tool.specs.declared.program.arguments.Given.TheVariants.{Now, Zone, As, Show}
 use Rattle.git_date_tool.specs.declared.program.wrong.WrongWords.{WrongWords}
-use Rattle.git_date_tool.specs.declared.program.wrong.WrongWords.TheVariants.{UnknownOption, NoValue, Twice, TwoDemands, UnknownReader, UnknownMode, LateOption, NotText, NoMoment, NoZone}
+use Rattle.git_date_tool.specs.declared.program.wrong.WrongWords.TheVariants.{UnknownOption, NoValue, Twice, TwoDemands, UnknownReader, UnknownMode, WrongFormat, LateOption, NotText, NoMoment, NoZone}
 use Rattle.git_date_tool.specs.declared.zones.files.ZoneFault.{ZoneFault}
 use Rattle.git_date_tool.specs.declared.zones.files.ZoneFault.TheVariants as faults
 use Rattle.git_date_tool.specs.declared.zones.TheConstants.{MACHINE_FILE}
@@ -48,6 +53,7 @@ wrong_subject (Twice given) = Some (option_text given)
 wrong_subject (TwoDemands word) = Some word.now
 wrong_subject (UnknownReader word) = Some word.now
 wrong_subject (UnknownMode word) = Some word.now
+wrong_subject (WrongFormat word fault) = Some word.now
 wrong_subject (LateOption word) = Some word.now
 wrong_subject NotText = None
 wrong_subject (NoMoment text why) = Some text.now
@@ -70,6 +76,26 @@ no_reader = codes "is no reader; expected exact, approxidate, careful, gix or he
 
 abbrev pub no_mode : List ℕ
 no_mode = codes "is no way to show a date; expected one such as iso8601, human or RFC2822"
+
+-- before and after the place of a format's fault
+abbrev pub no_format : List ℕ
+no_format = codes "is no format: the directive at byte "
+
+abbrev pub format_fault_text : FormatFault → List ℕ
+format_fault_text (formats.FlagRefused place) = codes " takes no flags and no width"
+format_fault_text (formats.UnknownDirective place) = codes " is unknown"
+format_fault_text (formats.WidthTooLarge place) = codes " has a width above 255"
+
+-- the place, which counts from the format's start
+abbrev pub format_fault_place : FormatFault → ℕ
+format_fault_place (formats.FlagRefused place) = place
+format_fault_place (formats.UnknownDirective place) = place
+format_fault_place (formats.WidthTooLarge place) = place
+
+-- why a name stands for no way to show a date
+abbrev pub no_way : NoWay → List ℕ
+no_way Unknown = no_mode
+no_way (Format fault) = no_format ++ (decimal (format_fault_place fault) ++ format_fault_text fault)
 
 abbrev pub late_option : List ℕ
 late_option = codes "stands after a text; write options before all texts, or -- before these"
@@ -103,6 +129,7 @@ zone_fault_text faults.NotTzif = codes "its file is no TZif"
 
 -- how what is said begins
 abbrev pub wrong_lead : WrongWords → List ℕ
+wrong_lead (WrongFormat word fault) = no_format
 wrong_lead (NoMoment text why) = no_moment
 wrong_lead (NoZone text fault) = zone_lead text
 wrong_lead _ = []
@@ -115,11 +142,21 @@ wrong_text (Twice given) = twice
 wrong_text (TwoDemands word) = two_demands
 wrong_text (UnknownReader word) = no_reader
 wrong_text (UnknownMode word) = no_mode
+wrong_text (WrongFormat word fault) = format_fault_text fault
 wrong_text (LateOption word) = late_option
 wrong_text NotText = not_text
 wrong_text (NoMoment text why) = no_moment_words why
 wrong_text (NoZone text fault) = zone_fault_text fault
 
+-- the place that is said between them, where there is one
+abbrev pub wrong_place : WrongWords → Option ℕ
+wrong_place (WrongFormat word fault) = Some (format_fault_place fault)
+wrong_place _ = None
+
+abbrev pub place_digits : Option ℕ → List ℕ
+place_digits None = []
+place_digits (Some place) = decimal place
+
 -- what is said of what is wrong
 abbrev pub wrong_words : WrongWords → List ℕ
-wrong_words why = about_any (wrong_subject why) (wrong_lead why ++ wrong_text why)
+wrong_words why = about_any (wrong_subject why) (wrong_lead why ++ (place_digits (wrong_place why) ++ wrong_text why))

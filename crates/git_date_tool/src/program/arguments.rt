@@ -7,7 +7,7 @@ ghost use Rattle.git_date_tool.specs.CommandLine.Command.{asked, asked_from, at_
 ghost use Rattle.git_date_tool.specs.CommandLine.Wrong.{option_text, wrong_words};
 
 use crate::answers::readers::{Reader, Strictness};
-use crate::answers::shown::{Shown, shown_named};
+use crate::answers::shown::{NoWay, Shown, shown_named};
 use crate::program::wrong::WrongWords;
 use gix_date_tool::named;
 
@@ -28,7 +28,7 @@ pub(crate) struct Request<'w> {
     /// What reads the texts, unless it is [`Reader::Approxidate`].
     pub(crate) reader: Option<Reader>,
     /// What is shown of each date, unless it is the header's text.
-    pub(crate) shown: Option<Shown>,
+    pub(crate) shown: Option<Shown<'w>>,
     /// How much of a text has to be understood, unless it is something.
     pub(crate) strictness: Option<Strictness>,
     /// The moment, unless it is the clock's.
@@ -329,14 +329,15 @@ fn with_value<'w>(
             None => Err(WrongWords::UnknownReader(value)),
         },
         Given::Show => match shown_named(value) {
-            Some(shown) => Ok((
+            Ok(shown) => Ok((
                 Request {
                     shown: Some(shown),
                     ..request
                 },
                 None,
             )),
-            None => Err(WrongWords::UnknownMode(value)),
+            Err(NoWay::Unknown) => Err(WrongWords::UnknownMode(value)),
+            Err(NoWay::Format(fault)) => Err(WrongWords::WrongFormat(value, fault)),
         },
     }
 }

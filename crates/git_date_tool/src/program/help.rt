@@ -33,8 +33,9 @@ header answer `not text`.
                gix           as the crate gix-date reads dates: in UTC without an offset, but for relative ones
                header        as gix-date reads the time of a commit's header, leniently: 1660874655 +0800
 --show MODE    what `git log --date=MODE` shows: relative, iso8601-strict (iso-strict), iso8601 (iso), rfc2822 (rfc), short, default,
-               human, raw (the default) or unix, alone or before -local, and local; or a format of gix-date: SHORT, RFC2822,
-               GIT_RFC2822, ISO8601, ISO8601_STRICT, GITOXIDE, DEFAULT, UNIX or RAW
+               human, raw (the default) or unix, alone or before -local, and local; format:FORMAT or format-local:FORMAT, as in
+               format:%Y-%m-%d, also of more lines than one; or a format of gix-date: SHORT, RFC2822, GIT_RFC2822, ISO8601,
+               ISO8601_STRICT, GITOXIDE, DEFAULT, UNIX or RAW
 --strict       a text of which a word is ignored is an error, and so is a header that is not canonical. Else a line on standard
                error tells of such a word.
 --lenient      a text of which approxidate understands nothing is now, as for Git. Else it is an error. (Each number counts as

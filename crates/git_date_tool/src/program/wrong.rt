@@ -1,10 +1,11 @@
 //! What may be wrong with a command line.
 ghost use Rattle.std.specs.Prelude.{◌≡◌, ◌++◌};
-ghost use Rattle.git_date_tool.specs.CommandLine.Wrong.{subject_of, wrong_lead, wrong_subject, wrong_text, zone_fault_text, zone_lead, zone_subject};
+ghost use Rattle.git_date_tool.specs.CommandLine.Wrong.{format_fault_place, format_fault_text, place_digits, subject_of, wrong_lead, wrong_place, wrong_subject, wrong_text, zone_fault_text, zone_lead, zone_subject};
 
 use crate::program::arguments::Given;
 use crate::zones::files::ZoneFault;
 use crate::zones::{MACHINE_FILE, ZoneText};
+use git_date::FormatFault;
 use gix_date_tool::NoMoment;
 
 /// What is wrong with the words of a command line.
@@ -22,6 +23,8 @@ pub(crate) enum WrongWords<'w> {
     UnknownReader(&'w str),
     /// There is no such way to show a date.
     UnknownMode(&'w str),
+    /// A format of Git's has a fault.
+    WrongFormat(&'w str, FormatFault),
     /// An option stands after a text.
     LateOption(&'w str),
     /// A word is not UTF-8.
@@ -44,6 +47,7 @@ impl<'w> WrongWords<'w> {
             WrongWords::TwoDemands(word) => Some(word),
             WrongWords::UnknownReader(word) => Some(word),
             WrongWords::UnknownMode(word) => Some(word),
+            WrongWords::WrongFormat(word, _) => Some(word),
             WrongWords::LateOption(word) => Some(word),
             WrongWords::NotText => None,
             WrongWords::NoMoment(text, _) => Some(text),
@@ -56,9 +60,20 @@ impl<'w> WrongWords<'w> {
         ensures { result.now ≡ wrong_lead self.entry }
     {
         match self {
+            WrongWords::WrongFormat(_, _) => "is no format: the directive at byte ",
             WrongWords::NoMoment(_, _) => "is no moment: ",
             WrongWords::NoZone(text, _) => text.lead(),
             _ => "",
+        }
+    }
+
+    /// The place that is said then, where there is one.
+    pub(crate) fn place(self) -> Option<usize>
+        ensures { result ≡ wrong_place self.entry }
+    {
+        match self {
+            WrongWords::WrongFormat(_, fault) => Some(format_fault_place(fault)),
+            _ => None,
         }
     }
 
@@ -78,6 +93,7 @@ impl<'w> WrongWords<'w> {
             WrongWords::UnknownMode(_) => {
                 "is no way to show a date; expected one such as iso8601, human or RFC2822"
             }
+            WrongWords::WrongFormat(_, fault) => format_fault_text(fault),
             WrongWords::LateOption(_) => {
                 "stands after a text; write options before all texts, or -- before these"
             }
@@ -85,6 +101,37 @@ impl<'w> WrongWords<'w> {
             WrongWords::NoMoment(_, why) => why.text(),
             WrongWords::NoZone(_, fault) => fault.text(),
         }
+    }
+}
+
+/// What is said of the directive that has this fault.
+fn format_fault_text(fault: FormatFault) -> &'static str
+    ensures { result.now ≡ format_fault_text fault }
+{
+    match fault {
+        FormatFault::FlagRefused(_) => " takes no flags and no width",
+        FormatFault::UnknownDirective(_) => " is unknown",
+        FormatFault::WidthTooLarge(_) => " has a width above 255",
+    }
+}
+
+fn format_fault_place(fault: FormatFault) -> usize
+    ensures { result ≡ format_fault_place fault }
+{
+    match fault {
+        FormatFault::FlagRefused(place) => place,
+        FormatFault::UnknownDirective(place) => place,
+        FormatFault::WidthTooLarge(place) => place,
+    }
+}
+
+/// A place in digits, where there is one.
+pub(crate) fn place_digits(place: Option<usize>, digits: &mut itoa::Buffer) -> &str
+    ensures { result.now ≡ place_digits place }
+{
+    match place {
+        Some(place) => digits.format(place),
+        None => "",
     }
 }
 

@@ -1,10 +1,10 @@
 -- An offset with colons that is read is written so.
-use Rattle.std.proofs.Common.{◌≡◌, ◌∙◌, ◌+◌, ◌-◌, ◌*◌, ℕ, ℤ, Bool, true, cond, List, [], ◌∷◌, ◌⊎◌, inl, inr, Option, Some, None, option_map, refl, ap, sym, arith}
+use Rattle.std.proofs.Common.{◌≡◌, ◌+◌, ◌-◌, ◌*◌, ℕ, ℤ, Bool, true, cond, List, [], ◌∷◌, ◌⊎◌, inl, inr, Option, Some, None, option_map, refl, ap, sym, arith}
 use Rattle.std.proofs.lemmas.Option.{cond_some as guard, same_Some as same_some}
 use Rattle.std.proofs.lemmas.Bool.Decides.{nat_tests}
 use Rattle.std.specs.Char.{is_ascii_digit}
 use Rattle.std.specs.Prelude.{◌==◌, ◌&&◌}
-use Rattle.gix_date.specs.Fields.FieldTexts.{IsSign, IsDigit}
+use Rattle.gix_date.specs.Fields.FieldTexts.{IsDigit}
 use Rattle.gix_date.specs.Fields.DateOffsets.{is_jiff_offset, jiff_offset, last_colon_pair, strict_offset}
 use Rattle.gix_date.specs.Text.Front.{skip_char, ◌>>=◌}
 use Rattle.gix_date.specs.Fields.Offsets.{read_sign, offset_of}

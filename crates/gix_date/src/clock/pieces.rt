@@ -1,5 +1,5 @@
 //! The pieces of dates, each appended to a buffer of any capacity.
-ghost use Rattle.std.specs.Prelude.{◌≡◌, ◌+◌, ◌≤◌, ◌<◌, ◌∷◌, ◌++◌, [], decimal, unsigned_abs};
+ghost use Rattle.std.specs.Prelude.{◌≡◌, ◌+◌, ◌≤◌, ◌<◌, ◌∷◌, ◌++◌, [], decimal, length, unsigned_abs};
 ghost use Rattle.arrayvec.specs.ArrayString.{array_string_len};
 ghost use Rattle.gix_date.specs.Text.Characters.{space};
 ghost use Rattle.gix_date.specs.Text.Names.{day_name, month_name};
@@ -15,6 +15,21 @@ use crate::names::{day_name, month_name};
 use crate::time::{OffsetInSeconds, SECONDS_PER_HOUR, SECONDS_PER_MINUTE};
 use arrayvec::ArrayString;
 
+/// The two digits of each number below 100.
+const PAIRS: &str =
+    "00010203040506070809101112131415161718192021222324252627282930313233343536373839404142434445464748495051525354555657585960616263646566676869707172737475767778798081828384858687888990919293949596979899";
+
+/// The two digits of a number below 100.
+#[inline(always)]
+fn two_digits(n: u8) -> &'static str
+    requires { n < 100 }
+    ensures digits { result.now ≡ two_digits n }
+    ensures len { length result.now ≡ 2 }
+{
+    let from = 2 * usize::from(n);
+    &PAIRS[from..from + 2]
+}
+
 /// Appends the two digits of a number below 100.
 #[inline(always)]
 pub fn push_two_digits<const CAP: usize>(text: &mut ArrayString<CAP>, n: u8)
@@ -22,8 +37,23 @@ pub fn push_two_digits<const CAP: usize>(text: &mut ArrayString<CAP>, n: u8)
     ensures bytes { text.new.bytes ≡ text.old.bytes ++ two_digits n }
     ensures len { array_string_len text.new ≡ array_string_len text.old + 2 }
 {
-    text.push(char::from(b'0' + n / 10));
-    text.push(char::from(b'0' + n % 10));
+    if n < 100 {
+        push_pair(text, n);
+    } else {
+        text.push(char::from(b'0' + n / 10));
+        text.push(char::from(b'0' + n % 10));
+    }
+}
+
+/// Appends two digits from the table.
+#[inline(always)]
+pub(crate) fn push_pair<const CAP: usize>(text: &mut ArrayString<CAP>, n: u8)
+    requires small { n < 100 }
+    requires room { array_string_len text.old + 2 ≤ CAP }
+    ensures bytes { text.new.bytes ≡ text.old.bytes ++ two_digits n }
+    ensures len { array_string_len text.new ≡ array_string_len text.old + 2 }
+{
+    text.push_str(two_digits(n));
 }
 
 /// Appends the four digits of the year.
@@ -34,8 +64,8 @@ pub fn push_year<const CAP: usize>(text: &mut ArrayString<CAP>, t: Clock)
     ensures len { array_string_len text.new ≡ array_string_len text.old + 4 }
 {
     let year = t.year();
-    push_two_digits(text, (year / 100) as u8);
-    push_two_digits(text, (year % 100) as u8);
+    push_pair(text, (year / 100) as u8);
+    push_pair(text, (year % 100) as u8);
 }
 
 /// Appends the day of the month, with no zero before it.
@@ -49,7 +79,7 @@ pub fn push_day<const CAP: usize>(text: &mut ArrayString<CAP>, t: Clock)
     if day < 10 {
         text.push(char::from(b'0' + day));
     } else {
-        push_two_digits(text, day);
+        push_pair(text, day);
     }
 }
 
@@ -84,9 +114,9 @@ pub fn push_date<const CAP: usize>(text: &mut ArrayString<CAP>, t: Clock)
 {
     push_year(text, t);
     text.push('-');
-    push_two_digits(text, t.month());
+    push_pair(text, t.month());
     text.push('-');
-    push_two_digits(text, t.day());
+    push_pair(text, t.day());
 }
 
 /// Appends `hh:mm:ss`.
@@ -96,11 +126,11 @@ pub fn push_clock<const CAP: usize>(text: &mut ArrayString<CAP>, t: Clock)
     ensures bytes { text.new.bytes ≡ text.old.bytes ++ clock_text t.clock }
     ensures len { array_string_len text.new ≡ array_string_len text.old + 8 }
 {
-    push_two_digits(text, t.hour());
+    push_pair(text, t.hour());
     text.push(':');
-    push_two_digits(text, t.minute());
+    push_pair(text, t.minute());
     text.push(':');
-    push_two_digits(text, t.second());
+    push_pair(text, t.second());
 }
 
 /// Appends the sign of an offset and two digits of its whole hours.
@@ -114,7 +144,7 @@ pub fn push_hours<const CAP: usize>(text: &mut ArrayString<CAP>, offset: OffsetI
 {
     let hours = offset.unsigned_abs() / SECONDS_PER_HOUR as u32;
     text.push(if offset < 0 { '-' } else { '+' });
-    push_two_digits(text, hours as u8);
+    push_pair(text, hours as u8);
 }
 
 /// Appends two digits of the whole minutes that remain.
@@ -125,7 +155,7 @@ pub fn push_minutes<const CAP: usize>(text: &mut ArrayString<CAP>, offset: Offse
     ensures len { array_string_len text.new ≡ array_string_len text.old + 2 }
 {
     let minutes = offset.unsigned_abs() % SECONDS_PER_HOUR as u32 / SECONDS_PER_MINUTE as u32;
-    push_two_digits(text, minutes as u8);
+    push_pair(text, minutes as u8);
 }
 
 /// Appends ` +hhmm`.

@@ -9,7 +9,7 @@ ghost use Rattle.gix_date.specs.Printing.NamedTexts.{rfc2822_text, git_rfc2822_t
 
 use crate::clock::Clock;
 use crate::clock::pieces::{
-    push_clock, push_colon_offset, push_date, push_day, push_month, push_offset, push_two_digits,
+    push_clock, push_colon_offset, push_date, push_day, push_month, push_offset, push_pair,
     push_weekday, push_year,
 };
 use crate::names::{day_name, month_name};
@@ -97,7 +97,7 @@ pub fn push_rfc2822<const CAP: usize>(text: &mut ArrayString<CAP>, t: Clock)
     ensures len { array_string_len text.new ≡ array_string_len text.old + 31 }
 {
     push_rfc2822_name(text, t);
-    push_two_digits(text, t.day());
+    push_pair(text, t.day());
     push_from_month(text, t);
 }
 
@@ -122,7 +122,7 @@ pub fn push_gitoxide<const CAP: usize>(text: &mut ArrayString<CAP>, t: Clock)
 {
     push_weekday(text, t);
     push_month(text, t);
-    push_two_digits(text, t.day());
+    push_pair(text, t.day());
     push_from_year(text, t);
 }
 

@@ -2,7 +2,9 @@
 use Rattle.std.specs.Prelude.{◌≡◌, ℕ, List, ◌++◌, ◌^◌, ◌-◌, min, drop, length, nat_le, if◌then◌else◌, Result, Ok, Err, ok_or}
 use Rattle.gix_date.specs.Header.Text.{header_text}
 use Rattle.gix_date.specs.declared.time.Time.{Time}
+use Rattle.gix_date_c.specs.Values.Refusals.{place_after, with_status}
 use Rattle.gix_date_c.specs.Values.Statuses.{number_of}
+use Rattle.gix_date_c.specs.declared.values.refusal.Refusal.{Refusal}
 use Rattle.gix_date_c.specs.declared.values.status.Status.{Status}
 use Rattle.gix_date_c.specs.declared.values.status.Status.TheVariants.{Done, NoRoom, OffsetTooWide}
 
@@ -36,6 +38,12 @@ outcome_of (Err refusal) bytes = record { bytes = bytes; len = 0; status = numbe
 -- a call puts an answer of which this is known into a buffer
 abbrev pub Puts : (Result (List ℕ) Status → Type 0) → List ℕ → Outcome → Type 0
 Puts Answers old outcome = (answer : Result (List ℕ) Status) × Answers answer × (outcome ≡ outcome_of answer old)
+
+-- the same of an answer that may have a place, which is that of the refusal, or as it was
+abbrev pub PutsRead : (Result (List ℕ) Refusal → Type 0) → List ℕ × ℕ → Outcome × ℕ → Type 0
+PutsRead Answers old new =
+    (answer : Result (List ℕ) Refusal) × Answers answer × (new.0 ≡ outcome_of (with_status answer) old.0)
+    × (new.1 ≡ place_after answer old.1)
 
 -- the header text of a time
 abbrev pub header_text_answer : Time → Result (List ℕ) Status

@@ -30,6 +30,14 @@ number_of statuses.BackTooFar = 20
 number_of statuses.YearRefused = 21
 number_of statuses.GitRange = 22
 number_of statuses.AfterYear9999 = 23
+number_of statuses.FlagRefused = 24
+number_of statuses.UnknownDirective = 25
+number_of statuses.WidthTooLarge = 26
+number_of statuses.NoIdentity = 27
+number_of statuses.NulInPart = 28
+number_of statuses.EmptyName = 29
+number_of statuses.OnlyCrud = 30
+number_of statuses.BeforeEpoch = 31
 
 -- what is answered of bytes that are text, and else that they are not
 abbrev pub if_text : {T : Type 0} → List ℕ → Result T Status → Result T Status

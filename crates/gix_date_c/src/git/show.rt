@@ -1,5 +1,5 @@
 //! Dates as Git shows them.
-ghost use Rattle.std.specs.Prelude.{◌≡◌};
+ghost use Rattle.std.specs.Prelude.{◌≡◌, option_map};
 ghost use Rattle.std.specs.Result.{result_map_both};
 ghost use Rattle.jiff.specs.Words.{plain_zone};
 ghost use Rattle.gix_date_c.specs.Values.Buffers.{Outcome, Puts, outcome_of};
@@ -7,15 +7,16 @@ ghost use Rattle.gix_date_c.specs.Git.Modes.{IsShownIn, kind_number, kind_of, lo
 ghost use Rattle.gix_date_c.specs.Moments.{placed};
 ghost use Rattle.gix_date_c.specs.Values.Stores.{Stores};
 ghost use Rattle.gix_date_c.specs.Values.Times.{load_time};
-ghost use Rattle.gix_date_c.specs.Zones.{IsSame, IsZone};
+ghost use Rattle.gix_date_c.specs.Zones.{IsSame, IsZone, IsZoneOf};
 
+use crate::git::stored::{StoredMode, check_place, store_stored};
 use crate::moment::{CInstant, timestamp_of};
 use crate::values::buffer::store_text;
 use crate::values::status::Status;
 use crate::values::store::store;
 use crate::values::text::utf8_text;
 use crate::values::time::{CTime, load_time};
-use crate::zone::CZone;
+use crate::zone::{CZone, TakenZone};
 use git_date::{DateKind, DateMode, DateText, show_date_at};
 use gix_date::Time;
 use jiff::Timestamp;
@@ -54,16 +55,30 @@ pub extern "C" fn git_date_show_at(
     ensures zone { IsSame zone.old zone.new }
 {
     let taken = zone.take(alloc);
-    let status = store_shown(
-        load_time(time),
-        mode,
-        timestamp_of(now),
-        taken.zone(),
-        out,
-        len,
-    );
+    let status = store_shown_in(load_time(time), mode, now, &taken, out, len);
     zone.give_back(alloc, taken);
     status
+}
+
+/// Puts a date into a buffer as Git shows it, at a moment in a zone out of C's hands. A mode that needs no clock makes none.
+fn store_shown_in(
+    time: Time,
+    mode: &CMode,
+    now: &CInstant,
+    zone: &TakenZone,
+    out: &mut [u8],
+    len: &mut usize,
+) -> u32
+    ensures { Puts (IsShownIn time mode.now (IsZoneOf zone.now.offset (option_map (λ held. held.value) zone.now.held)) now.now)
+        out.old (record { bytes = out.new; len = len.new; status = result }) }
+{
+    match StoredMode::of(mode) {
+        Some(stored) => {
+            let check = check_place(timestamp_of(now), zone.zone());
+            store_stored(time, stored, check, out, len)
+        }
+        None => store_shown(time, mode, timestamp_of(now), zone.zone(), out, len),
+    }
 }
 
 /// Puts a date into a buffer as Git shows it at an instant in a zone, where there are both.
@@ -168,7 +183,7 @@ fn kind_of(number: u32) -> Option<DateKind>
 }
 
 /// Whether the clock is the zone's, by a `bool` of C.
-fn local_of(number: u8) -> Option<bool>
+pub(crate) fn local_of(number: u8) -> Option<bool>
     ensures { result ≡ local_of number }
 {
     match number {

@@ -12,8 +12,17 @@ pub(crate) fn put_at(out: &mut [u8], at: usize, piece: &str) -> usize
     ensures bytes { out.new ≡ take at out.old ++ (piece.now ++ drop (at + length piece.now) out.old) }
     ensures after { result ≡ at + length piece.now }
 {
+    put_bytes_at(out, at, piece.as_bytes())
+}
+
+/// The same of bytes.
+pub(crate) fn put_bytes_at(out: &mut [u8], at: usize, piece: &[u8]) -> usize
+    requires room { at + length piece.now ≤ length out.old }
+    ensures bytes { out.new ≡ take at out.old ++ (piece.now ++ drop (at + length piece.now) out.old) }
+    ensures after { result ≡ at + length piece.now }
+{
     let after = at + piece.len();
-    out[at..after].copy_from_slice(piece.as_bytes());
+    out[at..after].copy_from_slice(piece);
     after
 }
 

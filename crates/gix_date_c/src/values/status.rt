@@ -53,6 +53,22 @@ pub(crate) enum Status {
     GitRange = 22,
     /// The text is a number of seconds after the year 9999, which is not careful.
     AfterYear9999 = 23,
+    /// Flags or a width stand in a format where Git says another offset, or begins again. The call tells the place.
+    FlagRefused = 24,
+    /// A directive of a format is none that all C libraries show alike. The call tells its place.
+    UnknownDirective = 25,
+    /// A width of a format is too large. The call tells its place.
+    WidthTooLarge = 26,
+    /// Git finds no identity in the line.
+    NoIdentity = 27,
+    /// The name or the mail of a line to write holds NUL.
+    NulInPart = 28,
+    /// The name has no bytes.
+    EmptyName = 29,
+    /// The name holds only bytes that Git cuts off its ends.
+    OnlyCrud = 30,
+    /// The time is before 1970.
+    BeforeEpoch = 31,
 }
 
 impl Status {

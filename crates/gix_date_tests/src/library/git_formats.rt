@@ -156,3 +156,26 @@ fn a_shown_date_that_is_refused_memory_is_refused(rt: HostRuntime) -> Result<(),
     assert!(rt; refused && range && empty, "no-memory");
     Ok(())
 }
+
+#[test]
+fn a_shown_date_that_is_refused_a_growth_is_refused(rt: HostRuntime) -> Result<(), Fail> {
+    let now = TIME.to_zoned()?;
+    let format = DateFormat::new(LONG)?;
+    let (mut all_right, mut some_refused, mut some_shown) = (true, false, false);
+    // The text has 67 bytes.
+    for size in [1, 16, 66, 4096] {
+        let room: Vec<u8> = Vec::with_capacity(rt.alloc(), size)?;
+        let blocks = take_all(rt.alloc())?;
+        drop(room);
+        let (refused, shown) = match text_by_format(rt.alloc(), TIME, format, false, now) {
+            Ok(text) => (false, text.as_bytes() == LONG_TEXT),
+            Err(error) => (matches!(error, ShowError::Memory), false),
+        };
+        all_right = all_right && refused != shown;
+        some_refused = some_refused || refused;
+        some_shown = some_shown || shown;
+        drop(blocks);
+    }
+    assert!(rt; all_right && some_refused && some_shown, "little-memory");
+    Ok(())
+}

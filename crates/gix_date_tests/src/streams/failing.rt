@@ -135,7 +135,7 @@ fn writes_of_every_length_take_all_replies(rt: HostRuntime) {
 }
 
 /// Whether these are the first lines of a text, and so many.
-fn are_first_lines(lines: &[u8], text: &[u8], count: usize) -> bool {
+pub(crate) fn are_first_lines(lines: &[u8], text: &[u8], count: usize) -> bool {
     text.starts_with(lines)
         && !lines.last().is_some_and(|b| *b != b'\n')
         && newlines(lines) == count

@@ -32,9 +32,9 @@ fn hoarded(
     (answer, output_is_right)
 }
 
-/// How the program ends by these words over one line, and what it writes and says.
+/// How the program ends by these words over one line, which ends without a newline, and what it writes and says.
 fn ended(alloc: Global, words: &[String]) -> (Status, Small, Small) {
-    let reader = Supply::once(b"0 +0000\n", 99, None);
+    let reader = Supply::once(b"0 +0000", 99, None);
     let (status, _reader, sink, said) = executed(alloc, words, reader, Small::new(), Small::new());
     (status, sink, said)
 }
@@ -63,7 +63,7 @@ fn a_growth_refused_ends_a_run(rt: HostRuntime) -> Result<(), Fail> {
     let blocks = take_all(rt.alloc())?;
     let mut all_right = true;
     for mode in [Mode::Check, Mode::Parse, Mode::Sign] {
-        all_right = all_right && runs_so(rt.alloc(), mode, b"A <a> 0 +0000\n", b"", None);
+        all_right = all_right && runs_so(rt.alloc(), mode, b"A <a> 0 +0000", b"", None);
     }
     drop(blocks);
     assert!(rt; all_right, "no-memory");
@@ -72,7 +72,8 @@ fn a_growth_refused_ends_a_run(rt: HostRuntime) -> Result<(), Fail> {
 
 #[test]
 fn a_later_growth_refused_ends_a_run_after_its_replies(rt: HostRuntime) {
-    let longer = b"100000000                                                       \n".as_slice();
+    // Memory is asked for a line that a read gives without its newline.
+    let longer = b"100000000                                                       ".as_slice();
     let rows = [
         (
             "line",
@@ -161,8 +162,8 @@ fn a_run_refused_memory_ends_the_program_with_a_message(rt: HostRuntime) -> Resu
 #[test]
 fn a_run_in_parse_takes_memory_for_the_line_alone(rt: HostRuntime) {
     let pieces = [
-        b"2008.02.14 20:30:45 -0500\n".as_slice(),
-        b"20080214\n9999-12-31\nyesterday\nbanana\n\n1 +0007\n0 -0000\n\xff\n@5",
+        b"2008.02.14 20:30:45 -0500".as_slice(),
+        b"\n20080214\n9999-12-31\nyesterday\nbanana\n\n1 +0007\n0 -0000\n\xff\n@5",
     ];
     let output =
         b"1203039045 -0500\nerror unknown-format\nerror date-conversion\nerror missing-moment\n\
@@ -174,8 +175,8 @@ fn a_run_in_parse_takes_memory_for_the_line_alone(rt: HostRuntime) {
 #[test]
 fn a_run_in_sign_takes_memory_for_the_line_alone(rt: HostRuntime) {
     let pieces = [
-        b"A U Thor <author@example.com> 1660874655 +0800\n".as_slice(),
-        b"A <a> 1660874655\nA <a>\nA <a> x\nA <a> 0 +9999\n\xff\n <> 0 +0000\n",
+        b"A U Thor <author@example.com> 1660874655 +0800".as_slice(),
+        b"\nA <a> 1660874655\nA <a>\nA <a> x\nA <a> 0 +9999\n\xff\n <> 0 +0000\n",
     ];
     let output = b"A U Thor <author@example.com> 1660874655 +0800\nA <a> 1660874655 +0000\n\
           none\nnone\nnone\nnot text\n <> 0 +0000\n";

@@ -1,10 +1,10 @@
 //! The reply to one line.
-ghost use Rattle.std.specs.Prelude.{◌≡◌};
+ghost use Rattle.std.specs.Prelude.{◌≡◌, ◌∷◌, []};
 ghost use Rattle.gix_date.specs.Families.Order.{first_family};
 ghost use Rattle.gix_date.specs.Header.Reading.{header_time};
 ghost use Rattle.gix_date_tool.specs.declared.runs.replies.Reply.TheVariants.{Read};
 ghost use Rattle.gix_date_tool.specs.Outbox.{Sends, output};
-ghost use Rattle.gix_date_tool.specs.Replies.{RepliesAreUnique, CanonicalLines, ParsedLines, UnchangedLines, IsReply, IsParseReply, IsSignReply, IsWritable, reply_line, check_reply};
+ghost use Rattle.gix_date_tool.specs.Replies.{RepliesAreUnique, CanonicalLines, ParsedLines, UnchangedLines, Replied, IsReply, IsParseReply, IsSignReply, IsWritable, reply_line, check_reply};
 
 use crate::program::arguments::Mode;
 use crate::runs::outbox::Outbox;
@@ -52,6 +52,7 @@ pub(crate) enum Reply<'a> {
 
 impl Reply<'_> {
     /// Puts the text of a reply, and a newline, after what is unsent.
+    #[inline(always)]
     pub(crate) fn push_to<W: Sink>(
         self,
         outbox: &mut Outbox,
@@ -66,10 +67,7 @@ impl Reply<'_> {
             Reply::NoTime => outbox.push(&["none\n"], out),
             Reply::Canonical => outbox.push(&["canonical\n"], out),
             Reply::Read(time) => push_reading(time, outbox, out),
-            Reply::Parsed(time) => match time.to_buf() {
-                Ok(buf) => outbox.push(&[buf.as_str(), "\n"], out),
-                Err(_) => unreachable!(),
-            },
+            Reply::Parsed(time) => outbox.push_time(time, out),
             Reply::UnknownFormat => outbox.push(&["error unknown-format\n"], out),
             Reply::DateConversion => outbox.push(&["error date-conversion\n"], out),
             Reply::MissingMoment => outbox.push(&["error missing-moment\n"], out),
@@ -119,22 +117,28 @@ pub fn unchanged_lines(line: &[u8])
     ensures { UnchangedLines line.now }
 {}
 
-/// The reply to a line.
-pub(crate) fn reply_to(query: Query, line: &[u8]) -> Reply<'_>
-    ensures is { IsReply query line.now result }
-    ensures writable { IsWritable result }
+/// Puts the reply to a line, and a newline, after what is unsent.
+pub(crate) fn push_reply<W: Sink>(
+    query: &Query,
+    line: &[u8],
+    outbox: &mut Outbox,
+    out: &mut W,
+) -> Result<(), io::ErrorKind>
+    ensures { Replied (λ text. Sends (output outbox.old (W.known out.old)) (output outbox.new (W.known out.new)) text result)
+        query.entry.now (line.now ∷ []) }
 {
     let Some(text) = text_of(line) else {
-        return Reply::NotText;
+        return Reply::NotText.push_to(outbox, out);
     };
     match query.mode {
-        Mode::Check => check_reply(text),
-        Mode::Parse => parse_reply(text, query.now),
-        Mode::Sign => sign_reply(text),
+        Mode::Check => check_reply(text).push_to(outbox, out),
+        Mode::Parse => parse_reply(text, query.now).push_to(outbox, out),
+        Mode::Sign => sign_reply(text).push_to(outbox, out),
     }
 }
 
 /// Whether a text is a header text that comes back when it is read and written, and else what it is read as.
+#[inline(always)]
 fn check_reply(text: &str) -> Reply<'static>
     ensures is { result ≡ check_reply text.now }
     ensures writable { IsWritable result }
@@ -147,6 +151,7 @@ fn check_reply(text: &str) -> Reply<'static>
 }
 
 /// The time that a text is parsed as, or why it is not.
+#[inline(always)]
 fn parse_reply(text: &str, now: Option<Zoned<'static>>) -> Reply<'static>
     ensures is { IsParseReply (first_family text.now) now.entry result }
     ensures writable { IsWritable result }

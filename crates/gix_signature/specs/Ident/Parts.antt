@@ -1,10 +1,11 @@
 -- The parts of an identity line, as Git shows them.
-use Rattle.std.specs.Prelude.{ℕ, ◌+◌, Bool, ◌&&◌, if◌then◌else◌, List, take, drop, take_while, Option, Some, None, option_map}
+use Rattle.std.specs.Prelude.{ℕ, ◌+◌, ◌-◌, Bool, ◌&&◌, if◌then◌else◌, List, length, take, drop, take_while, Option, Some, None, option_map}
 use Rattle.std.specs.Char.{is_ascii_digit}
-use Rattle.std.specs.List.{list_any, prefix_len, before_first, after_first, after_last}
+use Rattle.std.specs.List.{list_any, prefix_len, position_or_len, before_first, after_first, after_last}
 use Rattle.gix_signature.specs.Ident.Bytes.{is_opening, is_closing, is_blank, is_sign}
 use Rattle.gix_signature.specs.Ident.Texts.{whole_line, without_front, without_end, begins_with}
 use Rattle.gix_signature.specs.declared.ident.DateParts.{DateParts}
+use Rattle.gix_signature.specs.declared.ident.IdentPlaces.{IdentPlaces}
 use Rattle.gix_signature.specs.declared.ident.IdentRef.{IdentRef}
 
 -- the texts of a date: its digits, and the sign and digits of its offset
@@ -69,3 +70,16 @@ line_parts line =
 -- what Git shows of the line at the front of a text; `None` where it has no identity
 abbrev pub ident_parts : List ℕ → Option IdentText
 ident_parts text = line_parts (whole_line text)
+
+-- where the parts of a whole line stand: how many bytes of the line stand before the mail, the seconds and the offset
+abbrev pub line_places : List ℕ → IdentPlaces
+line_places line =
+    record {
+      mail = position_or_len is_opening line + 1;
+      seconds = length line - length (date_text line);
+      offset = length line - length (after_seconds (date_text line));
+    }
+
+-- where the parts stand that Git shows of the line at the front of a text
+abbrev pub ident_places : List ℕ → IdentPlaces
+ident_places text = line_places (whole_line text)

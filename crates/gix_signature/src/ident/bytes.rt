@@ -30,8 +30,8 @@ pub(crate) fn is_crud(byte: u8) -> bool
     )
 }
 
-/// What Git keeps of a name or mail between its ends.
-pub(crate) fn is_kept(byte: u8) -> bool
+/// Whether Git keeps a byte of a name or mail between its ends: it leaves out `<`, `>` and line feeds.
+pub fn is_kept(byte: u8) -> bool
     ensures { result ≡ is_kept byte }
 {
     !matches!(byte, b'<' | b'>' | b'\n')

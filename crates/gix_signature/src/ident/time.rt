@@ -104,8 +104,8 @@ fn number_to(most: i32, digits: &[u8]) -> i32
     }
 }
 
-/// The number that digits write, if 64 bits hold it.
-fn number(digits: &[u8]) -> Option<u64>
+/// The number that digits write, if 64 bits hold it. Takes no memory.
+pub fn number(digits: &[u8]) -> Option<u64>
     ensures { result ≡ held_number (digits_value 10 digits.now) }
 {
     u64::try_from(counted(digits)).ok()

@@ -89,8 +89,8 @@ fn put_cleaned<W: Sink>(part: &[u8], out: &mut W) -> Result<(), io::ErrorKind>
     put_kept(trimmed(part), out)
 }
 
-/// A text without crud at both ends.
-fn trimmed(part: &[u8]) -> &[u8]
+/// A name or mail without crud at both ends. Git then leaves out the bytes that [`is_kept`] refuses. Takes no memory.
+pub fn trimmed(part: &[u8]) -> &[u8]
     ensures { result.now ≡ trimmed part.now }
 {
     let part = &part[crud_len(part)..];

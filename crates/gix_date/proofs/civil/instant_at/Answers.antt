@@ -1,4 +1,4 @@
-use Rattle.std.proofs.Common.{◌≡◌, ◌<◌, ◌^◌, ◌∙◌, ◌-ℤ◌, ◌*ℤ◌, ℤ, pos, refl, arith, ap, ap₂, FitsSigned, w8, w16, w32, w64}
+use Rattle.std.proofs.Common.{◌≡◌, ◌<◌, ◌^◌, ◌∙◌, ◌-ℤ◌, ℤ, pos, refl, arith, ap, ap₂, FitsSigned, w8, w16, w32, w64}
 use Rattle.std.proofs.lemmas.Int.{to_z-of_z, to_z_pos}
 use Rattle.jiff_core.proofs.SignedLemmas.{signed_arith}
 use Rattle.jiff_core.specs.DateTime.{civil_seconds as shown_seconds}
@@ -6,8 +6,8 @@ use mir.Val.{hbits}
 use Rattle.jiff_core.specs.Calendar.{IsDate}
 use Rattle.jiff_core.specs.Time.{IsTime}
 use Rattle.gix_date.specs.Fields.Civil.{civil_seconds}
-use Rattle.gix_date.proofs.Fields.Instants.{no_date_or_clock, no_instant, an_instant, local_seconds, instant_range}
-use Rattle.gix_date.proofs.civil.instant_at.Goals.{After-from}
+use Rattle.gix_date.proofs.Fields.Instants.{no_date_or_clock, no_instant, an_instant, local_seconds}
+use Rattle.gix_date.proofs.civil.instant_at.Goals.{After-from, else-seconds-ge-FIRST_SECOND-via-then-seconds-ge-FIRST_SECOND+else-seconds-le-LAST_SECOND, else-seconds-ge-FIRST_SECOND-via-else-seconds-ge-FIRST_SECOND}
 use Rattle.gix_date.proofs.civil.instant_at.Goals as goal
 
 pub returns-in_default : goal.returns-in_default
@@ -47,22 +47,26 @@ are c =
       omega (arith, signed_arith, c.to_second.ensures.bound, from, c.requires.offset),
     )
 
-pub returns-in-Ok-from_second : goal.returns-in-Ok-from_second
-returns-in-Ok-from_second c =
-    let h = are (goal.at.returns-in-Ok-from_second c).After-from in
+pub returns-then-seconds-le-LAST_SECOND : goal.returns-then-seconds-le-LAST_SECOND
+returns-then-seconds-le-LAST_SECOND c =
+    let h = are (goal.at.returns-then-seconds-le-LAST_SECOND c).After-from in
     let fa : FitsSigned w64 c.to_second.result = h.2 in
     let fb : FitsSigned w64 c.from.result = h.3 in
     let fc : FitsSigned w64 (c.to_second.result -ℤ c.from.result) = h.4 in
-    let range = instant_range ((c.to_second.result -ℤ c.from.result) *ℤ pos 1_000_000_000) (civil_seconds c.args.date c.args.clock c.args.offset) (ap (λ (s : ℤ). s *ℤ pos 1_000_000_000) h.1) in
-    let placed = simp to_z-of_z at c.in-Ok-from_second.ensures.succeeds in
-    simp to_z-of_z (an_instant c.args.date c.args.clock c.args.offset (c.to_second.result -ℤ c.from.result) h.0.0 h.0.1 (range.0 (placed.0 refl)) h.1)
+    let low = simp to_z-of_z at c.if-seconds-ge-FIRST_SECOND.true in
+    let high = simp to_z-of_z at c.if-seconds-le-LAST_SECOND.true in
+    let same = h.1 in
+    simp to_z-of_z (an_instant c.args.date c.args.clock c.args.offset (c.to_second.result -ℤ c.from.result) h.0.0 h.0.1 (omega (arith, signed_arith, low, same), omega (arith, signed_arith, high, same)) same)
 
-pub returns-in-Err : goal.returns-in-Err
-returns-in-Err c =
-    let h = are (goal.at.returns-in-Err c).After-from in
+pub returns-else-seconds-ge-FIRST_SECOND : goal.returns-else-seconds-ge-FIRST_SECOND
+returns-else-seconds-ge-FIRST_SECOND c =
+    let h = are (goal.at.returns-else-seconds-ge-FIRST_SECOND c).After-from in
     let fa : FitsSigned w64 c.to_second.result = h.2 in
     let fb : FitsSigned w64 c.from.result = h.3 in
     let fc : FitsSigned w64 (c.to_second.result -ℤ c.from.result) = h.4 in
-    let range = instant_range ((c.to_second.result -ℤ c.from.result) *ℤ pos 1_000_000_000) (civil_seconds c.args.date c.args.clock c.args.offset) (ap (λ (s : ℤ). s *ℤ pos 1_000_000_000) h.1) in
-    let placed = simp to_z-of_z at c.in-Err.ensures.succeeds in
-    no_instant c.args.date c.args.clock c.args.offset (λ h. absurd (let e = placed.1 (range.1 h) in cc))
+    let same = h.1 in
+    no_instant c.args.date c.args.clock c.args.offset (λ within.
+    elim c.else-seconds-ge-FIRST_SECOND.branch [
+      | else-seconds-ge-FIRST_SECOND-via-then-seconds-ge-FIRST_SECOND+else-seconds-le-LAST_SECOND w ↦ let out = simp to_z-of_z at w.if-seconds-le-LAST_SECOND.false in omega (arith, signed_arith, out, same, within)
+      | else-seconds-ge-FIRST_SECOND-via-else-seconds-ge-FIRST_SECOND w ↦ let out = simp to_z-of_z at w.if-seconds-ge-FIRST_SECOND.false in omega (arith, signed_arith, out, same, within)
+    ])

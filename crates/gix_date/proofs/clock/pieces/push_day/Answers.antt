@@ -10,4 +10,4 @@ returns-then-day-lt10-clause-bytes g c =
 pub returns-else-day-lt10-clause-bytes : goal.returns-else-day-lt10-clause-bytes
 returns-else-day-lt10-clause-bytes g c =
     let small = c.day-day.ensures.small in
-    c.push_two_digits.ensures.bytes ∙ ap (λ (d : List ℕ). c.args.text.now.bytes ++ d) (day-of-two c.day-day.result c.if-day-lt10.false (omega (arith, small)) ∙ ap (λ (n : ℕ). decimal n) c.day-day.ensures.value)
+    c.push_pair.ensures.bytes ∙ ap (λ (d : List ℕ). c.args.text.now.bytes ++ d) (day-of-two c.day-day.result c.if-day-lt10.false (omega (arith, small)) ∙ ap (λ (n : ℕ). decimal n) c.day-day.ensures.value)

@@ -3,8 +3,8 @@ use Rattle.gix_date_tool.specs.Progress.{stage, TakesIn}
 use Rattle.gix_date_tool.proofs.runs.progress.Progress.feed.Given as goal
 
 -- a front of the bytes was taken in
-abbrev pub invariant-loop-part : goal.invariant-loop-part
-invariant-loop-part g l =
+abbrev pub invariant-lines : goal.invariant-lines
+invariant-lines g l =
     let first = stage l.initial.self (g.W.Sink.known l.initial.writer) in
     record {
       front : List ℕ;
@@ -12,5 +12,5 @@ invariant-loop-part g l =
       took : TakesIn first (stage l.self (g.W.Sink.known l.writer)) front (Ok tt);
     }
 
-abbrev pub decreases-loop-part : goal.decreases-loop-part
-decreases-loop-part g l = length l.rest
+abbrev pub decreases-lines : goal.decreases-lines
+decreases-lines g l = length l.rest

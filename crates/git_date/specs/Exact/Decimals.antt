@@ -1,0 +1,25 @@
+-- Offsets as Git's own code has them: a number of hours and two digits of minutes. `-0130` is -130.
+use Rattle.std.specs.Prelude.{ℕ, ◌+◌, ◌*◌, ◌/◌, ◌%◌, min, ℤ, pos, neg_ℤ, int_lt, unsigned_abs, if◌then◌else◌}
+use Rattle.gix_date.specs.Fields.ClockNumbers.{hours_in, minutes_in}
+use Rattle.git_date.specs.Exact.ZoneTexts.{distance}
+use Rattle.git_date.specs.declared.zones.decimals.TheConstants.{WIDEST}
+
+-- so far on the side of zero where a number lies
+abbrev pub with_sign : ℤ → ℕ → ℤ
+with_sign n size = if int_lt n (pos 0) then neg_ℤ (pos size) else pos size
+
+-- the seconds of a number of hours and two digits of minutes
+abbrev pub decimal_seconds : ℕ → ℕ
+decimal_seconds decimal = distance (decimal / 100) (decimal % 100)
+
+-- the number of the whole minutes in seconds
+abbrev pub whole_decimal : ℕ → ℕ
+whole_decimal seconds = 100 * hours_in seconds + minutes_in seconds
+
+-- the seconds of a number of Git's, or the most of its sign
+unfoldable pub offset_of_decimal : ℤ → ℤ
+offset_of_decimal decimal = with_sign decimal (min (decimal_seconds (unsigned_abs decimal)) WIDEST)
+
+-- the number of Git's for an offset, without the seconds of a minute
+unfoldable pub decimal_of_offset : ℤ → ℤ
+decimal_of_offset offset = with_sign offset (whole_decimal (unsigned_abs offset))

@@ -1,0 +1,3 @@
+-- What the rules make of like tokens and like drafts.
+pub mod Respects
+pub mod RespectedDrafts

@@ -1,0 +1,245 @@
+-- Bytes of a source taken line by line, or skipped.
+use Rattle.std.proofs.Common.{◌≡◌, ◌≢◌, ◌∙◌, ◌+◌, ◌-◌, ◌<◌, ◌≤◌, ℕ, Bool, true, false, List, [], ◌∷◌, ◌++◌, length, take, drop, refl, sym, ap, subst, append_assoc, append-nil, length-append, length-take, length-drop, drop-drop, arith, Option, None, Some, Ok, Err}
+use Rattle.std.proofs.lemmas.List.{drop-take, drop_all, take-append-drop}
+use Rattle.std.proofs.lemmas.List.Elements.{All-append, All-nil}
+use Rattle.std.specs.Io.KnownBytes.{Consumes, IsAtEnd, Keeps, prepend_known}
+use Rattle.std.specs.declared.io.ErrorKind.{ErrorKind}
+use Rattle.gix_date.specs.Text.Characters.{newline}
+use Rattle.gix_date.specs.Devices.StreamState.{StreamState, Gives}
+use Rattle.gix_date_tool.specs.Lines.{IsLine, with_newline}
+use Rattle.gix_date_tool.proofs.Reading.{Consumes-append, Consumes-kept, Consumes-nil}
+use Rattle.gix_date_tool.specs.declared.error.ToolError.{ToolError}
+use Rattle.gix_date_tool.specs.declared.error.ToolError.TheVariants as errors
+use Rattle.git_ident_tool.specs.Cursor.{ReadsLine, Refills, Skips, Stretch, TakesEnd, TakesFront, TakesPart}
+use Rattle.git_ident_tool.specs.declared.stream.cursor.LineEnd.TheVariants.{Newline, Full, Input}
+
+-- an input of which this is unread
+abbrev pub at : List ℕ → StreamState → StreamState
+at unread source = record { bytes = prepend_known unread source.bytes; fault = source.fault }
+
+pub drop_front : (xs ys : List ℕ) → drop (length xs) (xs ++ ys) ≡ ys
+drop_front [] ys = refl
+drop_front (x ∷ xs) ys = drop_front xs ys
+
+-- what is unread once so many bytes of it are taken
+pub unread-after : (bytes : List ℕ) (from to used : ℕ) → from + used ≤ to → take (to - (from + used)) (drop (from + used) bytes) ≡ drop used (take (to - from) (drop from bytes))
+unread-after bytes from to used fits =
+    let more : used + (to - (from + used)) ≡ to - from = omega (arith, fits) in
+    ap (λ (xs : List ℕ). take (to - (from + used)) xs) (sym (drop-drop used from bytes))
+    ∙ sym (drop-take used (to - (from + used)) (drop from bytes))
+    ∙ ap (λ (n : ℕ). drop used (take n (drop from bytes))) more
+
+pub unread-advanced : (bytes : List ℕ) (from to used : ℕ) → from + used ≤ to
+    → take (to - (to - ((to - from) - used))) (drop (to - ((to - from) - used)) bytes) ≡ drop used (take (to - from) (drop from bytes))
+unread-advanced bytes from to used fits =
+    let place : to - ((to - from) - used) ≡ from + used = omega (arith, fits) in
+    ap (λ (n : ℕ). take (to - n) (drop n bytes)) place ∙ unread-after bytes from to used fits
+
+-- how many bytes are unread
+pub unread-length : (bytes : List ℕ) (from to : ℕ) → from ≤ to → to ≤ length bytes → length (take (to - from) (drop from bytes)) ≡ to - from
+unread-length bytes from to in_order within = omega (arith, length-take (to - from) (drop from bytes), length-drop from bytes)
+
+-- a text that begins with this
+pub front-cut : (text front rest : List ℕ) (n : ℕ) → text ≡ front ++ rest → n ≡ length front → text ≡ front ++ drop n text
+front-cut text front rest n e is =
+    e ∙ ap (λ (xs : List ℕ). front ++ xs)
+    (sym (drop_front front rest) ∙ ap (λ (k : ℕ). drop k (front ++ rest)) (sym is) ∙ ap (λ (xs : List ℕ). drop n xs) (sym e))
+
+-- the unread bytes begin with a line and its newline
+pub takes-end : (most : ℕ) (text next line longer part after : List ℕ) → take most text ≡ part ++ newline ∷ after → IsLine part → longer ≡ line ++ part
+    → next ≡ drop (length part + 1) text → TakesEnd most (record { unread = text; line = line }) (record { unread = next; line = longer })
+takes-end most text next line longer part after cut is_line grown left =
+    let front = part ++ newline ∷ [] in
+    let long : length part + 1 ≡ length front = sym (length-append part (newline ∷ [])) in
+    let whole : text ≡ front ++ (after ++ drop most text) =
+    sym (take-append-drop most text) ∙ ap (λ (xs : List ℕ). xs ++ drop most text) (cut ∙ sym (append_assoc part (newline ∷ []) after))
+    ∙ append_assoc front after (drop most text) in
+    let count : length (take most text) ≡ length part + length (newline ∷ after) = ap length cut ∙ length-append part (newline ∷ after) in
+    record {
+      part = part;
+      is_line = is_line;
+      cut = front-cut text front (after ++ drop most text) (length part + 1) whole long ∙ ap (λ (xs : List ℕ). front ++ xs) (sym left);
+      longer = grown;
+      fits = omega (arith, count, length-take most text);
+    }
+
+-- they are a front of a line
+pub takes-front : (most : ℕ) (text next line longer front : List ℕ) → front ≡ take most text → IsLine front → longer ≡ line ++ front
+    → next ≡ drop (length front) text → TakesFront most (record { unread = text; line = line }) (record { unread = next; line = longer })
+takes-front most text next line longer front is is_line grown left =
+    let count : length front ≡ length (take most text) = ap length is in
+    record {
+      part = front;
+      is_line = is_line;
+      cut = front-cut text front (drop most text) (length front) (sym (take-append-drop most text) ∙ ap (λ (xs : List ℕ). xs ++ drop most text) (sym is)) refl
+          ∙ ap (λ (xs : List ℕ). front ++ xs) (sym left);
+      longer = grown;
+      fits = omega (arith, count, length-take most text);
+      all = λ few. left ∙ drop_all (length front) text (omega (arith, count, length-take most text, few));
+    }
+
+-- the unread bytes have room for a line and its newline
+pub has-room : (bytes : List ℕ) (from to most : ℕ) (part after : List ℕ) → from ≤ to → to ≤ length bytes
+    → take most (take (to - from) (drop from bytes)) ≡ part ++ newline ∷ after → from + (length part + 1) ≤ to
+has-room bytes from to most part after in_order within cut =
+    let text = take (to - from) (drop from bytes) in
+    let count : length (take most text) ≡ length part + length (newline ∷ after) = ap length cut ∙ length-append part (newline ∷ after) in
+    omega (arith, count, length-take most text, unread-length bytes from to in_order within)
+
+taken-left : (known : Option (List ℕ)) (text next used : List ℕ) → text ≡ used ++ next → Consumes (prepend_known text known) (prepend_known next known) used
+taken-left None text next used e = tt
+taken-left (Some xs) text next used e = ap (λ (zs : List ℕ). zs ++ xs) e ∙ append_assoc used next xs
+
+-- bytes that were taken, and then some that were unread
+pub takes-more : (first source : StreamState) (text next taken used : List ℕ) → Gives first (at text source) taken → text ≡ used ++ next → Gives first (at next source) (taken ++ used)
+takes-more first source text next taken used given e =
+    Consumes-append first.bytes (prepend_known text source.bytes) (prepend_known next source.bytes) taken used given (taken-left source.bytes text next used e)
+
+-- a line has begun, of which at most so many bytes are asked for
+pub record Begun (most : ℕ) (first now : StreamState) (line : List ℕ) : Type 0 where
+  pub given : Gives first now line
+  pub is_line : IsLine line
+  pub within : length line ≤ most
+
+pub Begun-first : (most : ℕ) (first : StreamState) (line : List ℕ) → line ≡ [] → Begun most first first line
+Begun-first most first line none = subst (Begun most first first) (sym none) (record {
+  given = Consumes-nil first.bytes;
+  is_line = All-nil (λ b. b ≢ newline);
+  within = omega arith;
+})
+
+pub Begun-more : (most : ℕ) (first source : StreamState) (old new : Stretch) → Begun most first (at old.unread source) old.line
+    → TakesFront (most - length old.line) old new → Begun most first (at new.unread source) new.line
+Begun-more most first source old new begun h = record {
+  given = subst (Gives first (at new.unread source)) (sym h.longer) (takes-more first source old.unread new.unread old.line h.part begun.given h.cut);
+  is_line = subst IsLine (sym h.longer) (All-append (λ b. b ≢ newline) old.line h.part begun.is_line h.is_line);
+  within = omega (arith, ap length h.longer, length-append old.line h.part, h.fits, begun.within);
+}
+
+pub Begun-kept : (most : ℕ) (first now new : StreamState) (line : List ℕ) → Begun most first now line → Keeps now.bytes new.bytes → Begun most first new line
+Begun-kept most first now new line begun kept = record {
+  given = Consumes-kept first.bytes now.bytes new.bytes line begun.given kept;
+  is_line = begun.is_line;
+  within = begun.within;
+}
+
+-- the line ends
+pub ends-line : (most : ℕ) (first source : StreamState) (old new : Stretch) → Begun most first (at old.unread source) old.line
+    → TakesEnd (most - length old.line) old new → ReadsLine most first (at new.unread source) new.line (Ok Newline)
+ends-line most first source old new begun h =
+    let whole = takes-more first source old.unread new.unread old.line (with_newline h.part) begun.given h.cut in
+    let as_line : old.line ++ with_newline h.part ≡ with_newline new.line =
+    sym (append_assoc old.line h.part (newline ∷ [])) ∙ ap with_newline (sym h.longer) in
+    record {
+      is_line = subst IsLine (sym h.longer) (All-append (λ b. b ≢ newline) old.line h.part begun.is_line h.is_line);
+      ends = (subst (Gives first (at new.unread source)) as_line whole, omega (arith, ap length h.longer, length-append old.line h.part, h.fits, begun.within));
+    }
+
+-- there is no memory for it
+pub stops-line : (most : ℕ) (first source : StreamState) (old new : Stretch) (fault : ToolError) → Begun most first (at old.unread source) old.line → (0 < most → length old.line < most)
+    → TakesPart (most - length old.line) old new (Err fault) → ReadsLine most first (at new.unread source) new.line (Err fault)
+stops-line most first source old new errors.Memory begun room h =
+    let now = subst (λ (s : Stretch). Begun most first (at s.unread source) s.line) (sym h) begun in
+    record { is_line = now.is_line; ends = (now.given, now.within, subst (λ (s : Stretch). 0 < most → length s.line < most) (sym h) room) }
+stops-line most first source old new (errors.Read kind) begun room h = absurd h
+stops-line most first source old new (errors.Write kind) begun room h = absurd h
+stops-line most first source old new errors.LineTooLong begun room h = absurd h
+stops-line most first source old new errors.TooManyLines begun room h = absurd h
+
+-- the input is over, or its source refused
+pub ends-input : (most : ℕ) (first now new : StreamState) (unread line : List ℕ) → Begun most first now line → length line ≢ most → Refills unread now new (Ok false)
+    → ReadsLine most first new line (Ok Input)
+ends-input most first now new unread line begun short h =
+    let later = Begun-kept most first now new line begun h.kept in
+    record { is_line = begun.is_line; ends = (later.given, omega (arith, begun.within, short), h.ends) }
+
+pub stops-input : (most : ℕ) (first now new : StreamState) (unread line : List ℕ) (kind : ErrorKind) → Begun most first now line → length line ≢ most → Refills unread now new (Err kind)
+    → ReadsLine most first new line (Err (errors.Read kind))
+stops-input most first now new unread line kind begun short h =
+    let later = Begun-kept most first now new line begun h.kept in
+    record { is_line = begun.is_line; ends = (later.given, omega (arith, begun.within, short), h.ends) }
+
+-- as much was read as was asked for
+pub ends-full : (most : ℕ) (first now : StreamState) (line : List ℕ) → Begun most first now line → length line ≡ most → ReadsLine most first now line (Ok Full)
+ends-full most first now line begun full = record { is_line = begun.is_line; ends = (begun.given, full) }
+
+-- all that was unread was taken, if the line has room
+pub all-taken : (most : ℕ) (old new : Stretch) → length old.line ≤ most → length new.line ≢ most → TakesFront (most - length old.line) old new → new.unread ≡ []
+all-taken most old new within short h = h.all (omega (arith, ap length h.longer, length-append old.line h.part, h.fits, short, within))
+
+-- then the line grew by all of it
+pub grown-by : (most : ℕ) (old new : Stretch) → length old.line ≤ most → length new.line ≢ most → TakesFront (most - length old.line) old new
+    → length new.line ≡ length old.line + length old.unread
+grown-by most old new within short h =
+    omega (arith, ap length h.longer, length-append old.line h.part, ap length h.cut, length-append h.part new.unread, ap length (all-taken most old new within short h))
+
+-- what is unread grew by what a source gave, where nothing was
+pub refilled : (old new : Option (List ℕ)) (before after taken : List ℕ) → before ≡ [] → Consumes old new taken → after ≡ taken → Keeps (prepend_known before old) (prepend_known after new)
+refilled None new before after taken e h k = tt
+refilled (Some xs) None before after taken e h k = absurd h
+refilled (Some xs) (Some ys) before after taken e h k =
+    ap (λ (zs : List ℕ). zs ++ ys) k ∙ sym h ∙ sym (ap (λ (zs : List ℕ). zs ++ xs) e)
+
+pub refilled-none : (old new : Option (List ℕ)) (before after : List ℕ) → before ≡ [] → Keeps old new → after ≡ [] → Keeps (prepend_known before old) (prepend_known after new)
+refilled-none None new before after e h k = tt
+refilled-none (Some xs) None before after e h k = absurd h
+refilled-none (Some xs) (Some ys) before after e h k =
+    ap (λ (zs : List ℕ). zs ++ ys) k ∙ h ∙ sym (ap (λ (zs : List ℕ). zs ++ xs) e)
+
+pub at-end : (known : Option (List ℕ)) (unread : List ℕ) → unread ≡ [] → IsAtEnd known → IsAtEnd (prepend_known unread known)
+at-end None unread e h = tt
+at-end (Some xs) unread e h = ap (λ (zs : List ℕ). zs ++ xs) e ∙ h
+
+-- so many bytes were skipped, and these are left
+pub record Skipped (count : ℕ) (first now : StreamState) (left : ℕ) : Type 0 where
+  pub bytes : List ℕ
+  pub given : Gives first now bytes
+  pub counted : length bytes + left ≡ count
+
+pub Skipped-first : (count : ℕ) (first : StreamState) → Skipped count first first count
+Skipped-first count first = record { bytes = []; given = Consumes-nil first.bytes; counted = omega arith }
+
+-- all that was unread is skipped
+pub Skipped-all : (count : ℕ) (first source : StreamState) (text next : List ℕ) (left less : ℕ) → next ≡ [] → less + length text ≡ left
+    → Skipped count first (at text source) left → Skipped count first (at next source) less
+Skipped-all count first source text next left less none fewer h = record {
+  bytes = h.bytes ++ text;
+  given = takes-more first source text next h.bytes text h.given (sym (append-nil text) ∙ ap (λ (xs : List ℕ). text ++ xs) (sym none));
+  counted = omega (arith, length-append h.bytes text, h.counted, fewer);
+}
+
+pub Skipped-kept : (count : ℕ) (first now new : StreamState) (left : ℕ) → Skipped count first now left → Keeps now.bytes new.bytes → Skipped count first new left
+Skipped-kept count first now new left h kept = record { bytes = h.bytes; given = Consumes-kept first.bytes now.bytes new.bytes h.bytes h.given kept; counted = h.counted }
+
+-- all that was unread is skipped, and more is asked for
+pub skips-on : (count : ℕ) (first source : StreamState) (bytes : List ℕ) (from to left : ℕ) → from ≤ to → to ≤ length bytes → to - from < left
+    → Skipped count first (at (take (to - from) (drop from bytes)) source) left → Skipped count first (at (take (to - to) (drop to bytes)) source) (left - (to - from))
+skips-on count first source bytes from to left in_order within few h =
+    let none : to - to ≡ 0 = omega arith in
+    Skipped-all count first source (take (to - from) (drop from bytes)) (take (to - to) (drop to bytes)) left (left - (to - from))
+    (ap (λ (n : ℕ). take n (drop to bytes)) none)
+    (omega (arith, unread-length bytes from to in_order within, few)) h
+
+-- the input is over, or its source refused, before all is skipped
+pub skips-out : (count : ℕ) (first now new : StreamState) (unread : List ℕ) (left : ℕ) (more : Bool) → more ≡ false → 0 < left → Skipped count first now left
+    → Refills unread now new (Ok more) → Skips count first new (Ok false)
+skips-out count first now new unread left true e some h r = cc
+skips-out count first now new unread left false e some h r =
+    let k = Skipped-kept count first now new left h r.kept in
+    record { bytes = k.bytes; given = k.given; ends = (omega (arith, k.counted, some), r.ends) }
+
+pub skips-fault : (count : ℕ) (first now new : StreamState) (unread : List ℕ) (left : ℕ) (kind : ErrorKind) → 0 < left → Skipped count first now left
+    → Refills unread now new (Err kind) → Skips count first new (Err kind)
+skips-fault count first now new unread left kind some h r =
+    let k = Skipped-kept count first now new left h r.kept in
+    record { bytes = k.bytes; given = k.given; ends = (omega (arith, k.counted, some), r.ends) }
+
+-- the last bytes to skip are unread
+pub skips-last : (count : ℕ) (first source : StreamState) (text next : List ℕ) (left : ℕ) → left ≤ length text → next ≡ drop left text
+    → Skipped count first (at text source) left → Skips count first (at next source) (Ok true)
+skips-last count first source text next left few is h = record {
+  bytes = h.bytes ++ take left text;
+  given = takes-more first source text next h.bytes (take left text) h.given
+      (sym (take-append-drop left text) ∙ ap (λ (xs : List ℕ). take left text ++ xs) (sym is));
+  ends = omega (arith, length-append h.bytes (take left text), length-take left text, h.counted, few);
+}

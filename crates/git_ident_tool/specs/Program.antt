@@ -1,0 +1,96 @@
+-- What the program does with a command line.
+use Rattle.std.specs.Prelude.{◌≡◌, ℕ, Bool, true, false, List, ◌++◌, if◌then◌else◌, Option, Some, None, Result, Ok, Err, codes}
+use Rattle.gix_date.specs.Devices.StreamState.{Takes, TakesProperPrefix}
+use Rattle.gix_date_tool.specs.Lines.{with_newline}
+use Rattle.gix_date_tool.specs.Messages.{Reports}
+use Rattle.gix_date_tool.specs.Run.{Change}
+use Rattle.gix_date_tool.specs.declared.error.ToolError.TheVariants as errors
+use Rattle.gix_date_tool.specs.declared.program.Status.{Status}
+use Rattle.gix_date_tool.specs.declared.program.Status.TheVariants.{Success, Failure, Usage}
+use Rattle.std.specs.declared.io.ErrorKind.TheVariants as kinds
+use Rattle.git_ident_tool.specs.Command.{asked}
+use Rattle.git_ident_tool.specs.Faults.{fault_words, fault_cause}
+use Rattle.git_ident_tool.specs.Judging.{Flow, JudgesStream}
+use Rattle.git_ident_tool.specs.Lines.{JudgesLines}
+use Rattle.git_ident_tool.specs.declared.error.Fault.{Fault}
+use Rattle.git_ident_tool.specs.declared.error.Fault.TheVariants.{Tool}
+use Rattle.git_ident_tool.specs.declared.program.arguments.Command.{Command}
+use Rattle.git_ident_tool.specs.declared.program.arguments.Command.TheVariants.{Judge, Help, Version}
+use Rattle.git_ident_tool.specs.declared.program.arguments.WrongWords.{WrongWords}
+use Rattle.git_ident_tool.specs.declared.program.arguments.WrongWords.TheVariants.{NoOption, NotText}
+use Rattle.git_ident_tool.specs.declared.program.help.TheConstants.{HELP, USAGE, VERSION}
+use Rattle.git_ident_tool.specs.declared.judging.verdicts.Telling.{Telling}
+use Rattle.git_ident_tool.specs.declared.program.outcome.Outcome.{Outcome}
+use Rattle.git_ident_tool.specs.declared.program.outcome.Outcome.TheVariants.{Judged, Failed, Printed, Shown}
+
+-- the status that an end has: a fault, and a line that is not clean, have the same
+abbrev pub status_of : Outcome → Status
+status_of Printed = Success
+status_of (Judged true) = Success
+status_of (Judged false) = Failure
+status_of (Failed fault) = Failure
+status_of (Shown why) = Usage
+
+-- one line, after the program's name
+abbrev pub message : List ℕ → List ℕ
+message words = with_newline (codes "git_ident: " ++ words)
+
+-- what is wrong with the words
+abbrev pub wrong_words : WrongWords → List ℕ
+wrong_words NoOption = codes "a word is no option"
+wrong_words NotText = codes "a word is not UTF-8"
+
+-- that in one line, and the usage line
+abbrev pub usage_message : WrongWords → List ℕ
+usage_message why = message (wrong_words why) ++ USAGE.now
+
+-- the writer is a pipe that nothing reads any more
+abbrev pub is_closed_pipe : Fault → Bool
+is_closed_pipe (Tool (errors.Write kinds.BrokenPipe)) = true
+is_closed_pipe _ = false
+
+-- what is said of a fault, unless it is such a pipe
+abbrev pub fault_message : Fault → Option (List ℕ)
+fault_message fault = if is_closed_pipe fault then None else Some (message (fault_words fault ++ fault_cause fault))
+
+-- what is said of an end, where anything is
+abbrev pub message_of : Outcome → Option (List ℕ)
+message_of (Failed fault) = fault_message fault
+message_of (Shown why) = Some (usage_message why)
+message_of Printed = None
+message_of (Judged clean) = None
+
+-- A text was written, or the writer has a fault and a proper prefix of it was.
+abbrev pub Prints : List ℕ → Change → Outcome → Type 0
+Prints text writing Printed = Takes writing.old writing.new text
+Prints text writing (Failed (Tool (errors.Write kind))) = TakesProperPrefix writing.old writing.new text × (writing.new.fault ≡ Some kind)
+Prints text writing _ = ⊥
+
+-- lines were judged, or objects
+abbrev pub JudgesAs : Bool → Telling → Flow → Result Bool Fault → Type 0
+JudgesAs true telling f result = JudgesLines telling f result
+JudgesAs false telling f result = JudgesStream telling f result
+
+-- how that ends
+abbrev pub end_of : Result Bool Fault → Outcome
+end_of (Ok clean) = Judged clean
+end_of (Err fault) = Failed fault
+
+-- what the program comes to by the words of its command line: for another command nothing is read
+abbrev pub EndsCommand : Result Command WrongWords → Flow → Outcome → Type 0
+EndsCommand (Ok (Judge request)) f outcome = (result : Result Bool Fault) × JudgesAs request.lines request.telling f result × (outcome ≡ end_of result)
+EndsCommand (Ok Help) f outcome = (f.reading.new ≡ f.reading.old) × Prints HELP.now f.writing outcome
+EndsCommand (Ok Version) f outcome = (f.reading.new ≡ f.reading.old) × Prints VERSION.now f.writing outcome
+EndsCommand (Err why) f outcome = (f.reading.new ≡ f.reading.old) × (f.writing.new ≡ f.writing.old) × (outcome ≡ Shown why)
+
+-- What was said, and the status, are those of such an end.
+pub record Executes (words : List (List ℕ)) (f : Flow) (telling : Change) (status : Status) : Type 0 where
+  pub outcome : Outcome
+  pub ends : EndsCommand (asked words) f outcome
+  pub reports : Reports telling (message_of outcome)
+  pub status_is : status ≡ status_of outcome
+
+-- what the program does with a command line that has a word which is not UTF-8: it says so, and nothing else
+pub record ShowsUsage (telling : Change) (status : Status) : Type 0 where
+  pub reports : Reports telling (Some (usage_message NotText))
+  pub status_is : status ≡ Usage

@@ -1,0 +1,27 @@
+//! The program: what it is asked for is done by `git_ident_tool`, over the standard streams.
+#![tactic(auto)]
+
+use git_ident_tool::{execute, show_usage};
+use gix_date::device::Device;
+use gix_date_tool::{Status, words};
+use std::alloc::AllocError;
+use std::process::ExitCode;
+
+fn main(rt: HostRuntime) -> ExitCode {
+    let mut reader = Device::new(rt.stdin());
+    let mut writer = Device::new(rt.stdout());
+    let mut messages = Device::new(rt.stderr());
+    let status = match words(&rt) {
+        Ok(Some(words)) => execute(
+            rt.alloc(),
+            words.as_slice(),
+            &mut reader,
+            &mut writer,
+            &mut messages,
+        ),
+        Ok(None) => show_usage(&mut messages),
+        // Nothing was read or written.
+        Err(AllocError) => Status::Failure,
+    };
+    ExitCode::from(status.code())
+}

@@ -1,0 +1,107 @@
+//! Ages and offsets as Git's own code has them.
+use git_date::{
+    Age, DateError, DateFormat, age_at, decimal_of_offset, offset_of_decimal, text_by_format_in,
+};
+use gix_date::Time;
+use jiff::Timestamp;
+use jiff::tz::Offset;
+use std::test::Fail;
+
+// What Git 2.39.5 shows by `--date=relative` at 2033-05-18 03:33:20 UTC: so many seconds before.
+#[test]
+fn an_age_has_the_unit_that_git_chooses(rt: HostRuntime) -> Result<(), Fail> {
+    let now = Timestamp::from_second(2_000_000_000)?;
+    for (before, age) in [
+        (0, Age::Seconds(0)),
+        (1, Age::Seconds(1)),
+        (89, Age::Seconds(89)),
+        (90, Age::Minutes(2)),
+        (5369, Age::Minutes(89)),
+        (5370, Age::Hours(2)),
+        (127_769, Age::Hours(35)),
+        (127_770, Age::Days(2)),
+        (1_164_569, Age::Days(13)),
+        (1_164_570, Age::Weeks(2)),
+        (6_002_969, Age::Weeks(10)),
+        (6_002_970, Age::Months(2)),
+        (31_490_969, Age::Months(12)),
+        (31_490_970, Age::Years(1, 0)),
+        (33_000_000, Age::Years(1, 1)),
+        (155_000_000, Age::Years(4, 11)),
+        (157_634_969, Age::Years(5, 0)),
+        (2_000_000_000, Age::Years(63, 0)),
+    ] {
+        let time = Time::new(2_000_000_000_i64.saturating_sub(before), -5400);
+        assert!(rt; age_at(time, now) == Ok(Some(age)));
+    }
+    Ok(())
+}
+
+#[test]
+fn an_age_is_of_a_time_from_1970_on(rt: HostRuntime) -> Result<(), Fail> {
+    let now = Timestamp::from_second(5)?;
+    assert_eq!(rt; age_at(Time::new(6, 0), now), Ok(None));
+    assert_eq!(rt; age_at(Time::new(i64::MAX, 0), now), Ok(None));
+    assert_eq!(rt;
+        age_at(Time::new(5, 360_000), now),
+        Ok(Some(Age::Seconds(0)))
+    );
+    assert_eq!(rt; age_at(Time::new(-1, 0), now), Err(DateError::Range));
+    assert_eq!(rt; age_at(Time::new(i64::MIN, 0), now), Err(DateError::Range));
+    let before = Timestamp::from_second(-1)?;
+    assert_eq!(rt; age_at(Time::new(0, 0), before), Err(DateError::Range));
+    Ok(())
+}
+
+// Hours of 3600 seconds and minutes of 60.
+#[test]
+fn offsets_are_said_by_decimals(rt: HostRuntime) {
+    for (decimal, offset) in [
+        (0, 0),
+        (1, 60),
+        (-1, -60),
+        (59, 3540),
+        (100, 3600),
+        (530, 19_800),
+        (-130, -5400),
+        (1400, 50_400),
+        (-9959, -359_940),
+        (59_652_314, 2_147_483_640),
+    ] {
+        assert!(rt; offset_of_decimal(decimal) == offset && decimal_of_offset(offset) == decimal);
+    }
+    for (decimal, offset) in [
+        (99, 5940),
+        (-9999, -362_340),
+        (59_652_315, 2_147_483_647),
+        (i32::MAX, 2_147_483_647),
+        (-59_652_315, -2_147_483_647),
+        (i32::MIN, -2_147_483_647),
+    ] {
+        assert!(rt; offset_of_decimal(decimal) == offset);
+    }
+    for (offset, decimal) in [
+        (59, 0),
+        (-59, 0),
+        (3599, 59),
+        (-5401, -130),
+        (i32::MAX, 59_652_314),
+        (i32::MIN, -59_652_314),
+    ] {
+        assert!(rt; decimal_of_offset(offset) == decimal);
+    }
+}
+
+// What Git 2.39.5 shows by `format:` and `format-local:` where `TZ` is `UTC+4:30`.
+#[test]
+fn a_format_goes_by_the_time_or_the_zone(rt: HostRuntime) -> Result<(), Fail> {
+    let zone = Offset::from_seconds(-16_200)?.to_time_zone();
+    let format = DateFormat::new("%Y-%m-%d %H:%M %z")?;
+    let time = Time::new(1_251_660_000, 7200);
+    let own = text_by_format_in(rt.alloc(), time, format, false, zone)?;
+    assert_eq!(rt; own.as_str(), "2009-08-30 21:20 +0200");
+    let local = text_by_format_in(rt.alloc(), time, format, true, zone)?;
+    assert_eq!(rt; local.as_str(), "2009-08-30 14:50 -0430");
+    assert!(rt; text_by_format_in(rt.alloc(), Time::new(-1, 0), format, true, zone).is_err());
+    Ok(())
+}

@@ -1,0 +1,96 @@
+//! The lines of bytes, and those at their front that have the usual form.
+use gix_date_lines::usual::{MAX_HEADER, canonical_line, unknown_line};
+use gix_date_lines::{first_line, split_line};
+use std::test::Fail;
+
+#[test]
+fn a_line_ends_at_its_first_newline(rt: HostRuntime) {
+    for place in 0..79 {
+        let mut bytes = [b'x'; 80];
+        bytes[place] = b'\n';
+        bytes[79] = b'\n';
+        for cut in [split_line(&bytes), first_line(&bytes)] {
+            assert!(rt;
+                matches!(cut, Some((line, after)) if line.len() == place && place + after.len() == 79)
+            );
+        }
+    }
+}
+
+#[test]
+fn the_last_line_may_lack_its_newline(rt: HostRuntime) {
+    for length in 1..=80 {
+        let bytes = &[b'x'; 80][..length];
+        assert!(rt; split_line(bytes).is_none());
+        assert!(rt;
+            matches!(first_line(bytes), Some((line, after)) if line.len() == length && after.is_empty())
+        );
+    }
+    assert!(rt; split_line(b"").is_none() && first_line(b"").is_none());
+}
+
+// Git writes headers so. Only some of them are promised: of 1 to 16 digits, the first no zero, where 16 bytes are left.
+#[test]
+fn usual_headers_are_found(rt: HostRuntime) -> Result<(), Fail> {
+    for (bytes, rest) in [
+        (b"1660874655 +0800\n".as_slice(), b"".as_slice()),
+        (b"1660874655 -0130\nx\n", b"x\n"),
+        (b"1 +0000\n8 bytes.", b"8 bytes."),
+        (b"9 -9959\n8 bytes.", b"8 bytes."),
+        (b"1234567890123456 +9959\n\n", b"\n"),
+    ] {
+        assert!(rt; matches!(canonical_line(bytes), Some(after) if after == rest));
+        assert!(rt; unknown_line(bytes).is_none());
+    }
+    let longest = b"1234567890123456 +9959\n".as_slice();
+    assert_eq!(rt; split_line(longest).ok_or("a line")?.0.len(), MAX_HEADER);
+    Ok(())
+}
+
+#[test]
+fn other_lines_are_not_found(rt: HostRuntime) {
+    for bytes in [
+        b"".as_slice(),
+        b"1 +0000\n7 bytes",
+        b"1 -0000\n7 bytes",
+        b"1660874655 +0800",
+        b"1660874655 -0000",
+        b"0 +0000\n8 bytes.",
+        b"0 -0000\n8 bytes.",
+        b"01660874655 +0800\n",
+        b"12345678901234567 +0000\n",
+        b"12345678901234567 -0000\n",
+        b"-1660874655 +0800\n",
+        b"1660874655 +0860\n",
+        b"1660874655 -0060\n",
+        b"1660874655  +0800\n",
+        b"1660874655 +080\n0\n",
+        b"1660874655 +08000\n",
+        b"1660874655 0800\n\n",
+        b"1660874655 +0800\r\n",
+        b"1660874655 +08:0\n",
+        b"1660874655 -000\n0\n",
+        b"yesterday +0800\n",
+    ] {
+        assert!(rt; canonical_line(bytes).is_none());
+        assert!(rt; unknown_line(bytes).is_none());
+    }
+}
+
+#[test]
+fn headers_of_the_unknown_offset_are_found(rt: HostRuntime) {
+    for (bytes, text, rest) in [
+        (
+            b"1660874655 -0000\n".as_slice(),
+            "1660874655",
+            b"".as_slice(),
+        ),
+        (b"1 -0000\n8 bytes.", "1", b"8 bytes."),
+        (b"1234567890123456 -0000\nx\n", "1234567890123456", b"x\n"),
+    ] {
+        assert!(rt;
+            matches!(unknown_line(bytes), Some((seconds, after)) if seconds == text && after == rest)
+        );
+        assert!(rt; canonical_line(bytes).is_none());
+    }
+}

@@ -1,0 +1,84 @@
+//! The parts of identity lines: what Git leaves out of them, the numbers in them, and where they stand.
+use gix_signature::{IdentPlaces, is_kept, number, trimmed};
+
+// What `git var GIT_AUTHOR_IDENT` of Git 2.39.5 shows of the name `A?B`, for each byte but NUL.
+#[test]
+fn three_bytes_are_left_out_between_the_ends(rt: HostRuntime) {
+    for byte in 1..=255_u8 {
+        assert_eq!(rt; is_kept(byte), !b"\n<>".contains(&byte));
+    }
+}
+
+// What it shows of the name `?A?`.
+#[test]
+fn crud_is_cut_off_both_ends(rt: HostRuntime) {
+    for byte in 1..=255_u8 {
+        let part = [byte, b'A', byte];
+        let due = if byte <= b' ' || b"\"',.:;<>\\".contains(&byte) {
+            b"A".as_slice()
+        } else {
+            part.as_slice()
+        };
+        assert!(rt; trimmed(part.as_slice()) == due);
+    }
+}
+
+// What it shows of these mails.
+#[test]
+fn crud_between_the_ends_stays(rt: HostRuntime) {
+    for (part, due) in [
+        (b" .\"A, B;'".as_slice(), b"A, B".as_slice()),
+        (b"\\A\\B\\", b"A\\B"),
+        (b"\"A \"B\" C\"", b"A \"B\" C"),
+        (b"J\xf6rg\t", b"J\xf6rg"),
+        (b"\x1fA\x7f", b"A\x7f"),
+        (b"A", b"A"),
+        (b" \t.,", b""),
+        (b"", b""),
+    ] {
+        assert!(rt; trimmed(part) == due);
+    }
+}
+
+// The largest is 2 to the power of 64 less 1.
+#[test]
+fn numbers_have_64_bits(rt: HostRuntime) {
+    for (digits, value) in [
+        (b"0".as_slice(), Some(0)),
+        (b"00042", Some(42)),
+        (b"1660874655", Some(1_660_874_655)),
+        (b"9223372036854775808", Some(1 << 63)),
+        (b"18446744073709551615", Some(u64::MAX)),
+        (b"000018446744073709551615", Some(u64::MAX)),
+        (b"18446744073709551616", None),
+        (b"99999999999999999999999999999999999999999999", None),
+        (b"", Some(0)),
+    ] {
+        assert!(rt; number(digits) == value);
+    }
+}
+
+// The places are Python's, by `index` of the part in the line.
+#[test]
+fn the_parts_of_a_line_stand_at_its_places(rt: HostRuntime) {
+    for (text, mail, seconds, offset) in [
+        (
+            b"A U Thor <author@example.com> 1660874655 +0800".as_slice(),
+            10,
+            30,
+            41,
+        ),
+        (b"A <a> 5 +0000\nB <b> 66 +0100", 3, 6, 8),
+        (b"A <a> 5 +0000\0B <b> 66 +0100", 3, 6, 8),
+        (b"J\xf6rg \t<j@e>  5  +0100", 7, 13, 16),
+        (b"A <a> b> 5 +0000", 3, 9, 11),
+        (b"<> 5 -0130", 1, 3, 5),
+    ] {
+        let due = IdentPlaces {
+            mail,
+            seconds,
+            offset,
+        };
+        assert!(rt; IdentPlaces::of(text) == due);
+    }
+}

@@ -1,0 +1,131 @@
+-- What Git shows of a line that is cut.
+use Rattle.std.proofs.Common.{◌≡◌, ◌∙◌, ℕ, ◌+◌, ◌-◌, Bool, true, false, cond, not, ◌||◌, ◌==◌, List, [], ◌∷◌, ◌++◌, length, take, drop, Some, None, IsSomeAnd, codes, refl, ap, sym, arith, length-append}
+use Rattle.std.proofs.Math.Nat.{add-zero, zero-add}
+use Rattle.std.proofs.Math.Seq.{take-append_seam, drop-append-add}
+use Rattle.std.proofs.lemmas.Bool.{and_from, and_parts}
+use Rattle.std.proofs.lemmas.List.{reverse-append, take-append-le, take_all}
+use Rattle.std.specs.List.{list_all, list_any, prefix_len, suffix_len, position_or_len, before_first, after_first}
+use Rattle.gix_date.proofs.Text.AsciiCuts.{all-append}
+use Rattle.gix_signature.specs.Signature.{Parts, is_allowed, is_part, line_of, opening, closing}
+use Rattle.gix_signature.specs.Ident.Bytes.{is_opening, is_closing, is_blank, ends_line}
+use Rattle.gix_signature.specs.Ident.Texts.{without_end}
+use Rattle.gix_signature.specs.Ident.Parts.{IdentText, line_parts, has_identity, date_parts, date_text}
+use Rattle.gix_signature.specs.Ident.Laws.{CutIsShown}
+use Rattle.gix_signature.proofs.Cuts.{ArePlain, plain, all-of, marked, no-opening, after_name}
+use Rattle.gix_signature.proofs.Texts.{one-there}
+
+-- all of a run at the front passes
+pub run-before : (p : ℕ → Bool) (xs ys : List ℕ) → list_all p xs ≡ true → prefix_len p (xs ++ ys) ≡ length xs + prefix_len p ys
+run-before p [] ys h = sym (zero-add (prefix_len p ys))
+run-before p (x ∷ xs) ys h =
+    let each = and_parts (p x) (list_all p xs) h in
+    let more = run-before p xs ys each.1 in
+    ap (λ b. cond b (1 + prefix_len p (xs ++ ys)) 0) each.0 ∙ omega (arith, more)
+
+pub run-all : (p : ℕ → Bool) (xs : List ℕ) → list_all p xs ≡ true → prefix_len p xs ≡ length xs
+run-all p [] h = refl
+run-all p (x ∷ xs) h =
+    let each = and_parts (p x) (list_all p xs) h in
+    let more = run-all p xs each.1 in
+    ap (λ b. cond b (1 + prefix_len p xs) 0) each.0 ∙ omega (arith, more)
+
+-- a run ends before a byte that does not pass
+pub run-len : (p : ℕ → Bool) (xs ys : List ℕ) (c : ℕ) → list_all p xs ≡ true → p c ≡ false → prefix_len p (xs ++ (c ∷ ys)) ≡ length xs
+run-len p xs ys c all stops = run-before p xs (c ∷ ys) all ∙ ap (λ b. length xs + cond b (1 + prefix_len p ys) 0) stops ∙ add-zero (length xs)
+
+-- the first byte that passes, after some that do not
+pub place-at : (p : ℕ → Bool) (xs ys : List ℕ) (c : ℕ) → list_all (λ b. not (p b)) xs ≡ true → p c ≡ true → position_or_len p (xs ++ (c ∷ ys)) ≡ length xs
+place-at p xs ys c others is = run-len (λ b. not (p b)) xs ys c others (ap not is)
+
+pub before-at : (p : ℕ → Bool) (xs ys : List ℕ) (c : ℕ) → list_all (λ b. not (p b)) xs ≡ true → p c ≡ true → before_first p (xs ++ (c ∷ ys)) ≡ xs
+before-at p xs ys c others is = ap (λ n. take n (xs ++ (c ∷ ys))) (place-at p xs ys c others is) ∙ take-append_seam xs (c ∷ ys)
+
+pub after-at : (p : ℕ → Bool) (xs ys : List ℕ) (c : ℕ) → list_all (λ b. not (p b)) xs ≡ true → p c ≡ true → after_first p (xs ++ (c ∷ ys)) ≡ ys
+after-at p xs ys c others is = ap (λ n. drop (n + 1) (xs ++ (c ∷ ys))) (place-at p xs ys c others is) ∙ drop-append-add xs (c ∷ ys) 1
+
+pub there-at : (p : ℕ → Bool) (xs ys : List ℕ) (c : ℕ) → list_all (λ b. not (p b)) xs ≡ true → p c ≡ true → list_any p (xs ++ (c ∷ ys)) ≡ true
+there-at p xs ys c others is =
+    one-there p (xs ++ (c ∷ ys)) (omega (arith, place-at p xs ys c others is, length-append xs (c ∷ ys)))
+
+-- one more byte at the end
+pub last-len : (p : ℕ → Bool) (xs : List ℕ) (c : ℕ) → suffix_len p (xs ++ (c ∷ [])) ≡ cond (p c) (1 + suffix_len p xs) 0
+last-len p xs c = ap (λ ys. prefix_len p ys) (reverse-append xs (c ∷ []))
+
+-- blanks at the end are cut, one more or not
+pub end-more : (p : ℕ → Bool) (xs : List ℕ) (c : ℕ) → p c ≡ true → without_end p (xs ++ (c ∷ [])) ≡ without_end p xs
+end-more p xs c is =
+    let last : suffix_len p (xs ++ (c ∷ [])) ≡ 1 + suffix_len p xs = last-len p xs c ∙ ap (λ b. cond b (1 + suffix_len p xs) 0) is in
+    let left : length (xs ++ (c ∷ [])) - suffix_len p (xs ++ (c ∷ [])) ≡ length xs - suffix_len p xs = omega (arith, last, length-append xs (c ∷ [])) in
+    ap (λ n. take n (xs ++ (c ∷ []))) left ∙ take-append-le (length xs - suffix_len p xs) xs (c ∷ []) (omega arith)
+
+-- no byte of a line that is cut ends it
+last-two : (a b c d : Bool) → not (a || b || c || d) ≡ true → not (c || d) ≡ true
+last-two true b c d h = absurd cc
+last-two false true c d h = absurd cc
+last-two false false c d h = h
+
+second : (a b c d : Bool) → not (a || b || c || d) ≡ true → not b ≡ true
+second true b c d h = absurd cc
+second false true c d h = absurd cc
+second false false c d h = refl
+
+abbrev pub goes_on : ℕ → Bool
+goes_on c = not (ends_line c)
+
+abbrev pub not_closing : ℕ → Bool
+not_closing c = not (is_closing c)
+
+on : (xs : List ℕ) → is_part xs ≡ true → list_all goes_on xs ≡ true
+on = all-of is_allowed goes_on (λ c h. last-two (c == 60) (c == 62) (c == 10) (c == 0) h)
+
+pub no-closing : (xs : List ℕ) → is_part xs ≡ true → list_all not_closing xs ≡ true
+no-closing = all-of is_allowed not_closing (λ c h. second (c == 60) (c == 62) (c == 10) (c == 0) h)
+
+pub all-on : (p : Parts) → ArePlain p → list_all goes_on (line_of p) ≡ true
+all-on p are =
+    all-append goes_on p.name (codes " <" ++ after_name p) (on p.name are.name)
+    (all-append goes_on p.mail (codes "> " ++ p.time) (on p.mail are.mail) (on p.time are.time))
+
+-- without such a byte all of a text stands before it
+pub all-before : (p : ℕ → Bool) (xs : List ℕ) → list_all (λ c. not (p c)) xs ≡ true → before_first p xs ≡ xs
+all-before p xs h = ap (λ n. take n xs) (run-all (λ c. not (p c)) xs h) ∙ take_all (length xs) xs (omega arith)
+
+-- the name with the space after it, and what stands between the brackets
+pub record Cut (line : List ℕ) (p : Parts) : Type 0 where
+  pub has : has_identity line ≡ true
+  pub name : before_first is_opening line ≡ p.name ++ (32 ∷ [])
+  pub rest : after_first is_opening line ≡ p.mail ++ (closing ∷ (32 ∷ p.time))
+  pub mail : before_first is_closing (after_first is_opening line) ≡ p.mail
+
+pub cut-of : (p : Parts) → ArePlain p → Cut (line_of p) p
+cut-of p are =
+    let blank : List ℕ = 32 ∷ [] in
+    let front : list_all (λ b. not (is_opening b)) (p.name ++ blank) ≡ true = all-append (λ b. not (is_opening b)) p.name blank (no-opening p.name are.name) refl in
+    let same : line_of p ≡ (p.name ++ blank) ++ (opening ∷ after_name p) = marked p.name (after_name p) in
+    let rest : after_first is_opening (line_of p) ≡ p.mail ++ (closing ∷ (32 ∷ p.time)) =
+    ap (λ l. after_first is_opening l) same ∙ after-at is_opening (p.name ++ blank) (after_name p) opening front refl in
+    let closes = no-closing p.mail are.mail in
+    record {
+      has = and_from (list_any is_opening (line_of p)) (list_any is_closing (after_first is_opening (line_of p)))
+          (ap (λ l. list_any is_opening l) same ∙ there-at is_opening (p.name ++ blank) (after_name p) opening front refl)
+          (ap (λ l. list_any is_closing l) rest ∙ there-at is_closing p.mail (32 ∷ p.time) closing closes refl);
+      rest = rest;
+      name = ap (λ l. before_first is_opening l) same ∙ before-at is_opening (p.name ++ blank) (after_name p) opening front refl;
+      mail = ap (λ l. before_first is_closing l) rest ∙ before-at is_closing p.mail (32 ∷ p.time) closing closes refl;
+    }
+
+shown-by : (line : List ℕ) (p : Parts) → Cut line p → (b : Bool) → has_identity line ≡ b → b ≡ true
+    → IsSomeAnd (cond b (Some (record { name = without_end is_blank (before_first is_opening line); mail = before_first is_closing (after_first is_opening line); date = date_parts (date_text line) })) None)
+    (λ (i : IdentText). (i.name ≡ without_end is_blank p.name) × (i.mail ≡ p.mail))
+shown-by line p cut true e t = (ap (λ l. without_end is_blank l) cut.name ∙ end-more is_blank p.name 32 refl, cut.mail)
+shown-by line p cut false e t = absurd cc
+
+shown : (line : List ℕ) (p : Parts) → Cut line p → IsSomeAnd (line_parts line) (λ (i : IdentText). (i.name ≡ without_end is_blank p.name) × (i.mail ≡ p.mail))
+unfolding line_parts
+shown line p cut = shown-by line p cut (has_identity line) refl cut.has
+
+pub cut-is-shown : (line : List ℕ) → CutIsShown line
+cut-is-shown line p h =
+    let are = plain p h.allowed in
+    let cut = cut-of p are in
+    rw (h.whole, all-before ends_line (line_of p) (all-on p are)) (shown (line_of p) p cut)
