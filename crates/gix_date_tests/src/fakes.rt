@@ -7,7 +7,7 @@ use gix_date::device::Sink;
 use std::alloc::{AllocError, Global};
 use std::cell::Cell;
 use std::io::{Read, Write};
-use std::{fmt, io};
+use std::{fmt, io, str};
 
 /// Every kind of fault that a reader or writer may have.
 pub const KINDS: [io::ErrorKind; 42] = [
@@ -55,8 +55,23 @@ pub const KINDS: [io::ErrorKind; 42] = [
     io::ErrorKind::Uncategorized,
 ];
 
+/// The bytes of stack that a test may use once it has taken all memory.
+const DEPTH: usize = 131_072;
+
+/// Whether the stack was made as deep as that. Where every address is taken it can grow no further, and a call that wants more is killed.
+fn is_deepened() -> bool {
+    let mut pages = [0_u8; DEPTH];
+    for place in (0..DEPTH).step_by(4096) {
+        pages[place] = b'p';
+    }
+    str::from_utf8(pages.as_slice()).is_ok()
+}
+
 /// Takes all memory that there is, in ever smaller blocks, until the smallest is refused. It fails where it got none.
 pub fn take_all(alloc: Global) -> Result<Vec<Vec<u8>>, AllocError> {
+    if !is_deepened() {
+        return Err(AllocError);
+    }
     let mut blocks = Vec::with_capacity(alloc, 65536)?;
     let mut size = 1_usize << 46;
     for _ in 0..47 {
