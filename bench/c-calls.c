@@ -135,6 +135,7 @@ LINES_AT(git_date_parse_lines_at, long_text, sizeof long_text, &now, zone, CELL)
 LINES_AT(git_date_approxidate_lines_at, long_text, sizeof long_text, &now, zone, CELL)
 CALL(git_date_mode_named, TEXT("iso8601-strict-local"), &named)
 CALLS_AT(git_date_show_at, &at, &shown, &now, zone, out, sizeof out, &len)
+CALLS_AT(git_date_show_git_time_at, &decimal, &shown, &now, zone, out, sizeof out, &len)
 CALLS_AT(git_date_show_by_format, &at, TEXT(iso), true, zone, out, sizeof out, &len, &place)
 
 CALL(git_date_age_at, &at, &now, &age)
@@ -236,6 +237,7 @@ static const struct {
     ROWS_AT(git_date_approxidate_lines_at),
     ROW(git_date_mode_named),
     ROWS_AT(git_date_show_at),
+    ROWS_AT(git_date_show_git_time_at),
     ROWS_AT(git_date_show_by_format),
     ROW(git_date_age_at),
     ROW(git_date_offset_of_decimal),

@@ -9,6 +9,7 @@
 
 static const gix_date_instant now = {1698400800, 0};
 static const gix_date_time day = {1660797906, 28800};
+static const gix_date_git_time of_line = {1660797906, 800};
 static const gix_date_careful_options usual = {0, 0, 0};
 static const gix_date_careful_options local = {GIX_DATE_QUARTERS, GIX_DATE_MOMENTS_ZONE, 0};
 static gix_date_zone zone;
@@ -48,6 +49,9 @@ static uint32_t call(char kind, uint32_t format, const char *text, size_t len)
     case 'S':
         return git_date_show_at(&day, &(git_date_mode){format, true}, &now, &zone, out, sizeof out,
                                 &out_len);
+    case 'g':
+        return git_date_show_git_time_at(&of_line, &(git_date_mode){format, false}, &now, &zone, out,
+                                         sizeof out, &out_len);
     case 'F':
         return git_date_show_by_format(&day, text, len, false, &zone, out, sizeof out, &out_len,
                                        &place);

@@ -25,8 +25,9 @@ extern "C" {
 /* The place in a text of which nothing was ignored. */
 #define GIT_DATE_NOTHING SIZE_MAX
 
-/* The most bytes of a shown date. */
+/* The most bytes of a shown date, and of the shown date of an identity line. */
 #define GIT_DATE_MAX_SHOWN 31
+#define GIT_DATE_MAX_SHOWN_GIT_TIME 35
 
 /* How a call ended: a status of gix_date.h, or one of these. After any but GIX_DATE_OK only *len
  * changes, and *place after the six that say so. */
@@ -192,6 +193,16 @@ GIX_DATE_MUST_USE
 uint32_t git_date_show_at(const gix_date_time *time, const git_date_mode *mode,
                           const gix_date_instant *now, gix_date_zone *zone, char *out,
                           size_t out_len, size_t *len);
+
+/* Writes the time of an identity line as git log --date=MODE shows it at the moment now: by the
+ * line's own clock, and with the offset as it is written, of at most GIT_DATE_MAX_SHOWN_GIT_TIME
+ * bytes. "+0060" stays "+0060", where git_date_show_at writes "+0100". GIX_DATE_INVALID_ZONE,
+ * GIX_DATE_INVALID_INSTANT; GIX_DATE_NO_SUCH_OPTION, GIT_DATE_RANGE, GIX_DATE_BEFORE_EPOCH,
+ * GIX_DATE_OFFSET_TOO_WIDE, GIX_DATE_NO_ROOM. */
+GIX_DATE_MUST_USE
+uint32_t git_date_show_git_time_at(const gix_date_git_time *time, const git_date_mode *mode,
+                                   const gix_date_instant *now, gix_date_zone *zone, char *out,
+                                   size_t out_len, size_t *len);
 
 /* Writes a time as git log --date=format:FORMAT shows it, or format-local:FORMAT by the zone's clock.
  * What may be between percent signs and letters is in docs/GIT_DATES.md. A place is that of a percent

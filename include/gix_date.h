@@ -82,7 +82,7 @@ enum gix_date_status {
     GIX_DATE_INVALID_ZONE = 10,
     /* The seconds are outside -377705023201 to 253402207200, or the offset is beyond 25:59:59. */
     GIX_DATE_CONVERSION = 11,
-    /* The offset is 100 hours or more, or for gix_date_ident_time more than 35791394 minutes. */
+    /* The offset is 100 hours or more, or of a gix_date_git_time more than 35791394 minutes. */
     GIX_DATE_OFFSET_TOO_WIDE = 12,
     /* The pattern cannot be printed. */
     GIX_DATE_PATTERN = 13,
@@ -106,7 +106,8 @@ enum gix_date_status {
     GIX_DATE_EMPTY_NAME = 29,
     /* The name holds only bytes that Git cuts off its ends. */
     GIX_DATE_ONLY_CRUD = 30,
-    /* The time is before 1970, so Git cannot write it. */
+    /* The time is before 1970, so Git cannot write it. When shown: that of an identity line is, or is
+     * by its own clock. */
     GIX_DATE_BEFORE_EPOCH = 31
 };
 
@@ -161,7 +162,7 @@ static inline const char *gix_date_status_text(uint32_t status)
     case GIX_DATE_ONLY_CRUD:
         return "the name consists only of disallowed characters";
     case GIX_DATE_BEFORE_EPOCH:
-        return "a time before 1970 cannot be written";
+        return "a time before 1970 cannot be written or shown";
     default:
         return "unknown status";
     }

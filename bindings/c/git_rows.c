@@ -84,7 +84,8 @@ static bool is_refused_at(uint32_t status, size_t place, answer *told)
     bool has_place = false;
     told->refused = status != GIX_DATE_OK;
     if (status == GIX_DATE_NOT_TEXT || status == GIX_DATE_INVALID_ZONE ||
-        status == GIX_DATE_INVALID_INSTANT)
+        status == GIX_DATE_INVALID_INSTANT || status == GIX_DATE_BEFORE_EPOCH ||
+        status == GIX_DATE_OFFSET_TOO_WIDE)
         is_refused(status, told);
     else if (status != GIX_DATE_OK)
         tell(told, "status %u", (unsigned)status);
@@ -150,6 +151,21 @@ static void show_in(gix_date_time time, git_date_mode mode, const gix_date_insta
     uint32_t status =
         git_date_show_at(&time, &mode, now, in, told->bytes, MAX_ANSWER, &told->len);
     is_refused_at(status, untouched.place, told);
+}
+
+/* Shows the date of a line. A buffer that is one byte too short has to stay as it is. */
+static void show_line_in(gix_date_git_time time, git_date_mode mode, const gix_date_instant *now,
+                         gix_date_zone *in, answer *told)
+{
+    char small[GIT_DATE_MAX_SHOWN_GIT_TIME] = {0};
+    size_t needed = 0;
+    uint32_t status = git_date_show_git_time_at(&time, &mode, now, in, told->bytes, sizeof small,
+                                                &told->len);
+    if (is_refused_at(status, untouched.place, told))
+        return;
+    status = git_date_show_git_time_at(&time, &mode, now, in, small, told->len - 1, &needed);
+    if (status != GIX_DATE_NO_ROOM || needed != told->len || small[0])
+        tell_apart(told);
 }
 
 /* What a format shows, by the zone's clock or not. A buffer that is one byte too short has to stay as it is. */
@@ -296,6 +312,31 @@ static bool show_row(arguments *row, answer *told)
     return true;
 }
 
+/* Shows the date of a line, at the moment before it. */
+static bool show_line_row(arguments *row, answer *told)
+{
+    gix_date_instant now;
+    gix_date_time time;
+    git_date_mode mode;
+    gix_date_zone zone;
+    answer other;
+    field name = take(row), moment = take(row), zone_name;
+    if (git_date_mode_named(TEXT(name), &mode) != GIX_DATE_OK ||
+        !to_moment(moment, &now, &zone_name) || !take_time(row, &time))
+        return false;
+    if (is_no_zone(read_zone(zone_name, &zone), told))
+        return true;
+    const gix_date_git_time shown = {time.seconds, time.offset};
+    show_line_in(shown, mode, &now, &zone, told);
+    show_line_in(shown, mode, &now, &zone, &other);
+    agree(told, &other);
+    in_other_words(zone_name, &zone);
+    show_line_in(shown, mode, &now, &zone, &other);
+    agree(told, &other);
+    gix_date_zone_free(&zone);
+    return true;
+}
+
 /* Shows the time of a row by the format before it. A moment has to be there, of which only the zone counts. */
 static bool show_by_format_row(arguments *row, answer *told)
 {
@@ -355,6 +396,8 @@ enum outcome git_call(const char *name, arguments *row, answer *told)
             is_right = read_row(readers[i].reader, readers[i].asked, row, told);
     if (!strcmp(name, "show_date"))
         is_right = show_row(row, told);
+    if (!strcmp(name, "show_git_time"))
+        is_right = show_line_row(row, told);
     if (!strcmp(name, "show_by_format"))
         is_right = show_by_format_row(row, told);
     if (!strcmp(name, "date_mode")) {

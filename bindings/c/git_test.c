@@ -205,6 +205,7 @@ static void moments(void)
     static const gix_date_instant odd = {0, 1000000000};
     static const gix_date_time day = {1251660000, 0};
     static const git_date_mode mode = {99, false};
+    static const gix_date_git_time of_line = {1251660000, 60};
     git_date_exact date = no_date;
     git_date_approximate guess = no_guess;
     git_date_expiry expiry = no_expiry;
@@ -227,6 +228,14 @@ static void moments(void)
            "zone");
     EXPECT(git_date_show_at(&day, &mode, &odd, AT(0), out, sizeof out, &len) == bad_instant,
            "moment");
+    len = 99;
+    EXPECT(git_date_show_git_time_at(&of_line, &mode, &odd, AT(93600), out, sizeof out, &len) ==
+                   bad_zone &&
+               len == 0,
+           "zone");
+    EXPECT(git_date_show_git_time_at(&of_line, &mode, &odd, AT(0), out, sizeof out, &len) ==
+               bad_instant,
+           "moment");
     EXPECT(is_exact(date, -77, -7, 9, true) && is_no_guess(guess) && is_no_guess(expiry.before) &&
                expiry.kind == 99 && place == NO_PLACE,
            "a refusal stores nothing");
@@ -236,6 +245,7 @@ static void moments(void)
 static void null_pointers(void)
 {
     static const gix_date_time day = {1251660000, 0};
+    static const gix_date_git_time of_line = {1251660000, 60};
     static const git_date_mode mode = {GIT_DATE_ISO8601, false};
     git_date_exact date = no_date;
     git_date_approximate guess = no_guess;
@@ -251,6 +261,11 @@ static void null_pointers(void)
            "a date");
     EXPECT(git_date_mode_named(NULL, 0, &named) == GIX_DATE_NO_SUCH_OPTION, "a mode");
     EXPECT(git_date_show_at(&day, &mode, &sunday, AT(0), NULL, 0, &len) == GIX_DATE_NO_ROOM &&
+               len == 25,
+           "%zu", len);
+    len = 99;
+    EXPECT(git_date_show_git_time_at(&of_line, &mode, &sunday, AT(0), NULL, 0, &len) ==
+                   GIX_DATE_NO_ROOM &&
                len == 25,
            "%zu", len);
     EXPECT(place == NO_PLACE && is_exact(date, -77, -7, 9, true), "a refusal stores nothing");
@@ -378,6 +393,74 @@ static void refused_to_show(void)
                GIX_DATE_NO_SUCH_OPTION,
            "neither true nor false");
     EXPECT(len == 0 && is_untouched(buffer, sizeof buffer), "a refusal stores nothing");
+}
+
+/* What Git shows of a line's 1251660000 +0060 two hours later, and by New York's clock. */
+static const char *const shown_of_line[] = {
+    "2 hours ago",
+    "2009-08-30T20:20:00+00:60",
+    "2009-08-30 20:20:00 +0060",
+    "Sun, 30 Aug 2009 20:20:00 +0060",
+    "2009-08-30",
+    "Sun Aug 30 20:20:00 2009 +0060",
+    "2 hours ago",
+    "1251660000 +0060",
+    "1251660000",
+};
+static const char locally[] = "2009-08-30 15:20:00 -0400";
+
+/* A buffer of each length, too short or not, for the text that is due. */
+static void expect_of_line(const char *due, git_date_mode mode, gix_date_zone *zone)
+{
+    static const gix_date_git_time time = {1251660000, 60};
+    static const gix_date_instant later = {1251667200, 0};
+    for (size_t room = 0; room <= strlen(due) + 1; room++) {
+        char *buffer = malloc(room + 1);
+        memset(buffer, '#', room + 1);
+        size_t len = 99;
+        bool fits = room >= strlen(due);
+        demand before = so_far();
+        uint32_t status = git_date_show_git_time_at(&time, &mode, &later, zone, buffer, room, &len);
+        expect_demand(before, none, due);
+        EXPECT(status == (fits ? GIX_DATE_OK : GIX_DATE_NO_ROOM) && len == strlen(due),
+               "%s: %u, %zu", due, status, len);
+        EXPECT(fits ? holds(buffer, room + 1, due, len) : is_untouched(buffer, room + 1), "%s",
+               due);
+        free(buffer);
+    }
+}
+
+static void shown_dates_of_lines(void)
+{
+    gix_date_zone rule = zone_of(TEXT(new_york));
+    for (uint32_t kind = 0; kind < sizeof shown_of_line / sizeof *shown_of_line; kind++)
+        expect_of_line(shown_of_line[kind], (git_date_mode){kind, false}, AT(0));
+    expect_of_line(locally, (git_date_mode){GIT_DATE_ISO8601, true}, &rule);
+    gix_date_zone_free(&rule);
+}
+
+static void refused_dates_of_lines(void)
+{
+    static const struct {
+        gix_date_git_time time;
+        git_date_mode mode;
+        uint32_t status;
+    } rows[] = {
+        {{0, -100}, {GIT_DATE_ISO8601, false}, GIX_DATE_BEFORE_EPOCH},
+        {{0, 59652315}, {GIT_DATE_ISO8601, false}, GIX_DATE_OFFSET_TOO_WIDE},
+        {{INT64_MAX, 0}, {GIT_DATE_ISO8601, false}, GIT_DATE_RANGE},
+        {{0, 0}, {9, false}, GIX_DATE_NO_SUCH_OPTION},
+    };
+    char out[GIT_DATE_MAX_SHOWN_GIT_TIME];
+    memset(out, '#', sizeof out);
+    for (size_t i = 0; i < sizeof rows / sizeof *rows; i++) {
+        size_t len = 99;
+        uint32_t status = git_date_show_git_time_at(&rows[i].time, &rows[i].mode, &sunday, AT(0), out,
+                                                    sizeof out, &len);
+        EXPECT(status == rows[i].status && len == 0, "%lld %d: %u",
+               (long long)rows[i].time.seconds, (int)rows[i].time.offset, status);
+    }
+    EXPECT(is_untouched(out, sizeof out), "a refusal stores nothing");
 }
 
 /* A format, and what it shows of 1251660000 +0200 by its own clock and by New York's. */
@@ -650,11 +733,13 @@ int main(void)
     without_memory(null_pointers, "texts at NULL");
     without_memory(modes, "modes");
     without_memory(refused_to_show, "dates that are not shown");
+    without_memory(refused_dates_of_lines, "dates of lines that are not shown");
     without_memory(ages, "ages");
     without_memory(decimal_offsets, "decimal offsets");
     without_memory(long_texts, "long texts");
     without_memory(refused_formats, "formats that are refused");
     shown_dates();
+    shown_dates_of_lines();
     formats();
     long_formats();
     dates_in_new_york();

@@ -867,7 +867,7 @@ static void status_texts(void)
         "a name or a mail holds NUL",
         "the name is empty",
         "the name consists only of disallowed characters",
-        "a time before 1970 cannot be written",
+        "a time before 1970 cannot be written or shown",
     };
     for (uint32_t i = 0; i < sizeof later / sizeof *later; i++)
         EXPECT(strcmp(gix_date_status_text(GIX_DATE_NO_IDENTITY + i), later[i]) == 0, "%u", (unsigned)i);

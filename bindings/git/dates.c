@@ -202,17 +202,18 @@ void show_date_relative(timestamp_t seconds, struct strbuf *out)
     }
 }
 
-/* Shows a time as the library does. Most modes ask for no zone. */
-static void add_shown(struct strbuf *out, gix_date_time time, git_date_mode mode)
+/* Shows a time and an offset of Git as the library does. Most modes ask for no zone. */
+static void add_shown(struct strbuf *out, timestamp_t seconds, int tz, git_date_mode mode)
 {
-    static const gix_date_time epoch;
+    static const gix_date_git_time epoch;
     const gix_date_instant now = present();
+    const gix_date_git_time time = {date_overflows(seconds) ? 0 : seconds, date_overflows(seconds) ? 0 : tz};
     gix_date_zone utc = GIX_DATE_AT_OFFSET(0);
     gix_date_zone *zone = mode.local || mode.kind == GIT_DATE_HUMAN ? own_zone() : &utc;
-    char shown[GIT_DATE_MAX_SHOWN];
+    char shown[GIT_DATE_MAX_SHOWN_GIT_TIME];
     size_t len;
-    if (git_date_show_at(&time, &mode, &now, zone, shown, sizeof shown, &len) == GIX_DATE_OK ||
-        git_date_show_at(&epoch, &mode, &now, zone, shown, sizeof shown, &len) == GIX_DATE_OK)
+    if (git_date_show_git_time_at(&time, &mode, &now, zone, shown, sizeof shown, &len) == GIX_DATE_OK ||
+        git_date_show_git_time_at(&epoch, &mode, &now, zone, shown, sizeof shown, &len) == GIX_DATE_OK)
         strbuf_add(out, shown, len);
 }
 
@@ -258,7 +259,7 @@ const char *show_date(timestamp_t seconds, int tz, const struct date_mode *mode)
     if (mode->type == DATE_RELATIVE)
         show_date_relative(seconds, &shown);
     else if (mode->type != DATE_STRFTIME)
-        add_shown(&shown, time, (git_date_mode){kind_of(mode->type), mode->local});
+        add_shown(&shown, seconds, tz, (git_date_mode){kind_of(mode->type), mode->local});
     else if (!is_added_by_format(&shown, time, mode))
         add_by_git(&shown, time, mode);
     return shown.buf;

@@ -215,6 +215,45 @@ CALL(show_date)
     return answer;
 }
 
+/* Takes a GitTime. A Time has its offset in seconds, and is none. */
+static bool take_git_time(const struct state *state, PyObject *object, gix_date_git_time *time)
+{
+    if (!PyObject_TypeCheck(object, (PyTypeObject *)state->kept[GIT_TIME])) {
+        PyErr_Format(PyExc_TypeError, "the time of a line has to be a GitTime, not %R", object);
+        return false;
+    }
+    PyObject *seconds = PyObject_GetAttr(object, state->kept[NAME_SECONDS]);
+    PyObject *offset = seconds ? PyObject_GetAttr(object, state->kept[NAME_OFFSET]) : NULL;
+    const bool taken = offset && take_int64(seconds, &time->seconds) && take_int32(offset, &time->offset);
+    Py_XDECREF(seconds);
+    Py_XDECREF(offset);
+    return taken;
+}
+
+static uint32_t call_show_git_time(const struct writing *w, char *out, size_t out_len, size_t *len)
+{
+    const uint32_t status = git_date_show_git_time_at(&w->git_time, &w->mode, &w->moment->now, hold_zone(w->moment), out, out_len, len);
+    release_zone(w->moment);
+    return status;
+}
+
+CALL(show_git_time)
+{
+    enum { AT_TIME, MODE, NOW, ALL };
+    static const struct call call = {"show_git_time", 3, 3, {"time", "mode", "now", NULL}};
+    const struct state *state = state_of(module);
+    struct moment moment = {.is_given = false};
+    struct writing writing = {.write = call_show_git_time, .moment = &moment};
+    PyObject *taken[ALL], *answer = NULL;
+    if (!state || !take_arguments(&call, given, count, names, taken))
+        return NULL;
+    if (take_git_time(state, taken[AT_TIME], &writing.git_time) && take_mode(state, taken[MODE], &writing.mode) &&
+        take_moment(state, taken[NOW], &moment))
+        answer = written(state, &writing);
+    drop_moment(&moment);
+    return answer;
+}
+
 CALL(age_of)
 {
     enum { AT_TIME, NOW, ALL };

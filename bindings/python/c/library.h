@@ -23,6 +23,7 @@ enum kept {
     NAME_IGNORED,
     NAME_KIND,
     NAME_LOCAL,
+    NAME_OFFSET,
     NAME_LINES,
     NAME_FORMAT,
     NAME_CAST,
@@ -41,6 +42,7 @@ enum kept {
     READ_DATE,
     APPROXIMATE,
     DATE_MODE,
+    GIT_TIME,
     EXPIRES,
     RAW_OFFSETS,
     WITHOUT_OFFSET,
@@ -67,7 +69,7 @@ const struct state *state_of_type(PyTypeObject *type);
 
 /* ---- arguments ---- */
 
-enum { MOST_PARAMETERS = 16 };
+enum { MOST_PARAMETERS = 17 };
 
 /* The parameters of a call. */
 struct call {
@@ -151,6 +153,7 @@ uint32_t own_zone(struct moment *moment);
 struct writing {
     uint32_t (*write)(const struct writing *, char *out, size_t out_len, size_t *len);
     gix_date_time time;
+    gix_date_git_time git_time; /* that of a line, where this is written */
     const struct text *first, *second; /* a pattern, or a name and a mail */
     uint32_t format;
     git_date_mode mode;
@@ -181,6 +184,7 @@ CALL(approxidate);
 CALL(expiry_date);
 CALL(mode_named);
 CALL(show_date);
+CALL(show_git_time);
 CALL(age_of);
 CALL(times_of_lines);
 CALL(add_lines);

@@ -27,13 +27,13 @@ const struct state *state_of_type(PyTypeObject *type)
 
 static const struct call connect_call = {
     "connect", 0, KEPT - CONNECTED,
-    {"moment", "read_date", "approximate", "date_mode", "expires", "raw_offsets", "without_offset", "texts", "formats", "kinds",
-     "refusals", "no_directive", "naive", "parts_in_zone", "read_zone", "named_zone", NULL}};
+    {"moment", "read_date", "approximate", "date_mode", "git_time", "expires", "raw_offsets", "without_offset", "texts", "formats",
+     "kinds", "refusals", "no_directive", "naive", "parts_in_zone", "read_zone", "named_zone", NULL}};
 
 /* Whether all is of the types on which the calls rely. */
 static bool are_fit(PyObject *const *taken)
 {
-    static const enum kept classes[] = {MOMENT, READ_DATE, APPROXIMATE, DATE_MODE};
+    static const enum kept classes[] = {MOMENT, READ_DATE, APPROXIMATE, DATE_MODE, GIT_TIME};
     static const enum kept tuples[] = {EXPIRES, RAW_OFFSETS, WITHOUT_OFFSET, TEXTS, FORMATS, KINDS};
     bool are = true;
     for (size_t i = 0; i < sizeof classes / sizeof *classes; i++)
@@ -120,6 +120,11 @@ PyDoc_STRVAR(show_date_doc, "show_date($module, /, time, mode, now)\n--\n\n"
 "`format:` or `format-local:` with a format, as in `format:%Y-%m-%d`, which may make a text of any length.\n\n"
 "Refuses by `Range` what Git cannot show, by `UnknownMode` a name, and by `FlagRefused`, `UnknownDirective` and `WidthTooLarge` a format.");
 
+PyDoc_STRVAR(show_git_time_doc, "show_git_time($module, /, time, mode, now)\n--\n\n"
+"The date of an identity line, a `GitTime`, as `git log --date=MODE` shows it at a moment, with the offset that the line writes.\n"
+"The mode is a `DateMode`, a `DateKind`, or Git's name.\n\n"
+"Refuses by `Range`, `BeforeEpoch` and `OffsetTooWide`, and by `UnknownMode` a name.");
+
 PyDoc_STRVAR(age_of_doc, "age_of($module, /, time, now)\n--\n\nThe unit of an age, its count, and the months beyond years.");
 PyDoc_STRVAR(cut_signature_doc, "cut_signature($module, /, line)\n--\n\nThe name, the mail and the time of a signature line.");
 PyDoc_STRVAR(cut_ident_doc, "cut_ident($module, /, line)\n--\n\n"
@@ -145,7 +150,7 @@ static PyMethodDef calls[] = {
     AS_CALL(cut_signature), AS_CALL(write_signature),
     AS_CALL(cut_ident), AS_CALL(ident_time), AS_CALL(fsck_number), AS_CALL(write_ident),
     AS_CALL(parse_date), AS_CALL(approxidate), AS_CALL(expiry_date), AS_CALL(mode_named), AS_CALL(show_date),
-    AS_CALL(age_of),
+    AS_CALL(show_git_time), AS_CALL(age_of),
     AS_CALL(times_of_lines), AS_CALL(add_lines),
     {"connect", (PyCFunction)(void (*)(void))connect_package, METH_FASTCALL | METH_KEYWORDS, connect_package_doc},
     {"status_text", status_text, METH_O, status_text_doc},
@@ -162,8 +167,9 @@ static bool keep_type(PyObject *module, PyType_Spec *spec, const char *name, PyO
 
 static bool keep_names(struct state *state)
 {
-    static const char *names[] = {"time", "has_offset", "understood", "ignored", "kind", "local", "lines", "format", "cast", "frombytes",
-                                  "utcoffset", "days", "seconds", "microseconds", "toordinal", "hour", "minute", "second", "microsecond"};
+    static const char *names[] = {"time", "has_offset", "understood", "ignored", "kind", "local", "offset", "lines", "format", "cast",
+                                  "frombytes", "utcoffset", "days", "seconds", "microseconds", "toordinal", "hour", "minute", "second",
+                                  "microsecond"};
     for (int i = 0; i < CONNECTED - NAME_TIME; i++) {
         state->kept[NAME_TIME + i] = PyUnicode_InternFromString(names[i]);
         if (state->kept[NAME_TIME + i] == NULL)

@@ -100,6 +100,7 @@ CALLS: List[Tuple[str, Callable[..., object], Tuple[object, ...]]] = [
     *(("approxidate", git.approxidate, ("2 days ago", now)) for now in NOWS),
     *(("expiry_date", git.expiry_date, ("2 days ago", now)) for now in NOWS),
     *(("show_date", git.show_date, (TIME, MODE, now)) for now in NOWS),
+    *(("show_git_time", git.show_git_time, (GitTime(5, 60), MODE, now)) for now in NOWS),
     *(("age_of", _library.age_of, (TIME, now)) for now in NOWS),
     *(("show_date", git.show_date, (TIME, "iso-local", now)) for now in NOWS),
     *(("show_date", git.show_date, (TIME, "format-local:%F %255d%255d", now)) for now in NOWS),
@@ -149,7 +150,7 @@ def main() -> None:
             number += 1
         assert isinstance(call, Filled) or not keeps(call, arguments, NO_REQUEST), f"{call} keeps memory"
         requests[name] = requests.get(name, 0) + number - 1
-    assert len(requests) == 26 and all(requests[name] > 0 for name in requests if name not in ("mode_named", "age_of")), requests
+    assert len(requests) == 27 and all(requests[name] > 0 for name in requests if name not in ("mode_named", "age_of")), requests
     print(f"each of {sum(requests.values())} requests for memory is refused: MemoryError, and none is kept")
 
 

@@ -359,6 +359,15 @@ def show_date(mode: bytes, at: bytes, seconds: bytes, offset: bytes) -> str:
     return agreeing(iter(shown))
 
 
+def show_git_time(mode: bytes, at: bytes, seconds: bytes, offset: bytes) -> str:
+    time, now = gix_date.GitTime(number(seconds), number(offset)), needed(at)
+    try:
+        git.DateMode.of_name(mode)
+    except git.UnknownMode:
+        raise NoRow from None
+    return agreeing(told(lambda: git.show_git_time(time, given, now)) for given in both(mode))
+
+
 FRONTS = {b"own": b"format:", b"local": b"format-local:"}
 
 
@@ -406,6 +415,7 @@ CALLS: Dict[str, Callable[..., str]] = {
     "expiry_date": expiry_date,
     "date_mode": date_mode,
     "show_date": show_date,
+    "show_git_time": show_git_time,
     "show_by_format": show_by_format,
 }
 

@@ -15,7 +15,7 @@ from typing import Any, Callable, Dict, List, Tuple
 import pytest
 
 import gix_date
-from gix_date import Format, InvalidZone, Moment, RawOffsets, Signature, Texts, Time, WithoutOffset, _library, git
+from gix_date import Format, GitTime, InvalidZone, Moment, RawOffsets, Signature, Texts, Time, WithoutOffset, _library, git
 from gix_date import is_canonical_header, parse, parse_carefully, parse_header, parse_lines, write_ident, write_signature
 
 NOW, TIME = Moment(1698400800, 0, 3600), Time(5, 0)
@@ -31,6 +31,7 @@ CALLS: List[Tuple[Callable[..., object], Tuple[str, ...], Tuple[object, ...], in
     (git.approxidate, ("text", "now"), ("noon", NOW), 2),
     (git.expiry_date, ("text", "now"), ("noon", NOW), 2),
     (git.show_date, ("time", "mode", "now"), (TIME, "raw", NOW), 3),
+    (git.show_git_time, ("time", "mode", "now"), (GitTime(5, 60), "raw", NOW), 3),
     (_library.age_of, ("time", "now"), (TIME, NOW), 2),
     (TIME.format, ("format",), (Format.RAW,), 1),
     (TIME.format_or_unix, ("format",), (Format.RAW,), 1),
@@ -169,7 +170,10 @@ class Bare(git.DateMode):
 
 def test_times_and_modes_are_those_of_the_package() -> None:
     others: List[Any] = [(5, 0), 5, None, "5 +0000", NOW]
-    for other in others:
+    for other in [*others, TIME]:
+        with pytest.raises(TypeError, match="^the time of a line has to be a GitTime, not "):
+            git.show_git_time(other, "raw", NOW)
+    for other in [*others, GitTime(5, 60)]:
         with pytest.raises(TypeError, match="^a time has to be a Time, not "):
             git.show_date(other, "raw", NOW)
         with pytest.raises(TypeError, match="^a time has to be a Time, not "):
@@ -179,6 +183,8 @@ def test_times_and_modes_are_those_of_the_package() -> None:
     for wrong in (5, None, TIME, Format.RAW):
         with pytest.raises(TypeError, match="^the option has to be a DateKind, not "):
             git.show_date(TIME, wrong, NOW)  # type: ignore[arg-type]
+        with pytest.raises(TypeError, match="^the option has to be a DateKind, not "):
+            git.show_git_time(GitTime(5, 60), wrong, NOW)  # type: ignore[arg-type]
         with pytest.raises(TypeError, match="^the option has to be a Format, not " if wrong is not Format.RAW else None):
             TIME.format(wrong if wrong is not Format.RAW else git.DateKind.RAW)  # type: ignore[arg-type]
     broken = git.DateMode()
@@ -191,6 +197,11 @@ def test_times_and_modes_are_those_of_the_package() -> None:
         git.show_date(TIME, broken, NOW)
     with pytest.raises(TypeError):
         git.show_date(TIME, Bare(), NOW)
+    for time in (GitTime(1 << 63, 60), GitTime(5, 1 << 31)):
+        with pytest.raises(OverflowError):
+            git.show_git_time(time, "raw", NOW)
+    with pytest.raises(TypeError):
+        git.show_git_time(GitTime("5", 60), "raw", NOW)  # type: ignore[arg-type]
     for text in (bytearray(b"A"), 5, None):
         calls: List[Callable[[], object]] = [
             lambda: write_signature(text, "a", TIME),  # type: ignore[arg-type]
@@ -218,7 +229,7 @@ def alone() -> ModuleType:
 
 CONNECTED: Dict[str, object] = {
     "moment": Moment, "read_date": git.ReadDate, "approximate": git.Approximate, "date_mode": git.DateMode,
-    "expires": tuple(git.Expires), "raw_offsets": tuple(RawOffsets), "without_offset": tuple(WithoutOffset), "texts": tuple(Texts),
+    "git_time": GitTime, "expires": tuple(git.Expires), "raw_offsets": tuple(RawOffsets), "without_offset": tuple(WithoutOffset), "texts": tuple(Texts),
     "formats": tuple(Format), "kinds": tuple(git.DateKind), "refusals": git.ALL_REFUSALS, "no_directive": gix_date.NoDirective,
     "naive": gix_date.NaiveDatetime,
     "parts_in_zone": gix_date.moments.parts_in_zone, "read_zone": gix_date.moments.read_zone, "named_zone": gix_date.moments.named_zone,
@@ -244,6 +255,7 @@ def test_an_extension_alone_calls_nothing() -> None:
         lambda: module.expiry_date("noon", NOW),
         lambda: module.mode_named("iso"),
         lambda: module.show_date(base, "iso", NOW),
+        lambda: module.show_git_time(GitTime(5, 60), "iso", NOW),
         lambda: module.times_of_lines(0, b"@5", 0, 2, None, None),
         lambda: module.add_lines(([], []), 0, gix_date.Refused(), 0, b"@5", 0, 2, None, None),
         lambda: base.format(Format.RAW),

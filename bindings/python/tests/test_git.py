@@ -3,12 +3,12 @@
 from __future__ import annotations
 
 from datetime import datetime, timezone
-from typing import List, Union
+from typing import List, Tuple, Type, Union
 from zoneinfo import ZoneInfo
 
 import pytest
 
-from gix_date import InvalidInstant, InvalidZone, Moment, NotText, Time, git
+from gix_date import BeforeEpoch, GitTime, GixDateError, InvalidInstant, InvalidZone, Moment, NotText, OffsetTooWide, Time, git
 from gix_date.git import Age, AgeUnit, Approximate, DateKind, DateMode, Expires, ReadDate, UnknownMode
 
 NOW = datetime(2009, 8, 30, 19, 20, tzinfo=timezone.utc)
@@ -80,6 +80,25 @@ def test_shown_dates() -> None:
         git.show_date(Time(-1, 0), DateKind.ISO8601, NOW)
     with pytest.raises(UnknownMode, match="human-local"):
         git.show_date(time, "Format:%Y", NOW)
+
+
+def test_dates_of_lines_keep_their_offsets() -> None:
+    time = GitTime(1251300000, 60)
+    assert git.show_git_time(time, DateKind.ISO8601, NOW) == "2009-08-26 16:20:00 +0060"
+    assert git.show_git_time(time, DateMode(DateKind.ISO8601, True), NOW) == "2009-08-26 15:20:00 +0000"
+    assert git.show_git_time(time, "iso-strict", NOW) == git.show_git_time(time, b"iso-strict", NOW) == "2009-08-26T16:20:00+00:60"
+    assert git.show_git_time(GitTime(5, 51800), "default", NOW) == "Thu Jan 22 14:00:05 1970 +51800"
+    refusals: List[Tuple[GitTime, Type[GixDateError]]] = [
+        (GitTime(0, -100), BeforeEpoch), (GitTime(0, 59652315), OffsetTooWide), (GitTime((1 << 63) - 1, 0), git.Range),
+    ]  # fmt: skip
+    for refused, error in refusals:
+        with pytest.raises(error):
+            git.show_git_time(refused, "iso", NOW)
+    for mode in ("Format:%Y", "format:%Y"):
+        with pytest.raises(UnknownMode, match="human-local"):
+            git.show_git_time(time, mode, NOW)
+    with pytest.raises(InvalidZone):
+        git.show_git_time(time, "iso", Moment(0, 0, b""))
 
 
 def test_ages() -> None:

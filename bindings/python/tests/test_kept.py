@@ -16,7 +16,7 @@ from zoneinfo import ZoneInfo
 
 import pytest
 
-from gix_date import GixDateError, InvalidInstant, InvalidZone, Moment, Time, WithoutOffset, _library, git
+from gix_date import GitTime, GixDateError, InvalidInstant, InvalidZone, Moment, Time, WithoutOffset, _library, git
 from gix_date import parse, parse_carefully, parse_lines
 from gix_date.moments import parts_in_zone, read_zone
 
@@ -35,6 +35,7 @@ CALLS: List[Callable[[Moment], object]] = [
     lambda now: git.approxidate("last friday at noon", now),
     lambda now: git.expiry_date("2 weeks ago", now),
     lambda now: git.show_date(Time(1660797906, 28800), "iso-local", now),
+    lambda now: git.show_git_time(GitTime(1660797906, 60), "iso-local", now),
 ]
 
 

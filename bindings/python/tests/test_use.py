@@ -125,6 +125,10 @@ CALLS: List[Callable[[], object]] = [
     lambda: git.show_date(TIME, git.DateKind.HUMAN, NOW),
     lambda: git.show_date(TIME, TIME, NOW),  # type: ignore[arg-type]
     lambda: git.show_date(TEXT, MODE, NOW),  # type: ignore[arg-type]
+    lambda: git.show_git_time(GitTime(1660797906, 60), "iso", IN_FILE),
+    lambda: git.show_git_time(GitTime(0, -100), MODE, NOW),
+    lambda: git.show_git_time(GitTime(5, 1 << 31), MODE, NOW),
+    lambda: git.show_git_time(TIME, MODE, NOW),  # type: ignore[arg-type]
     lambda: git.parse_date("é 2005-04-07 22:13:13 é", NOW),
     lambda: git.DateMode.of_name("iso-local"),
     lambda: git.DateMode.of_name("format:%Y"),

@@ -5,6 +5,7 @@ pub(crate) mod lines;
 pub(crate) mod zone;
 
 use crate::ffi::{self, CCarefulOptions, CGitTime, CIdentParts, CSignature};
+use crate::signature::GitTime;
 use crate::{CarefulError, CarefulOptions, Error, Instant, RawOffsets, Time};
 use zone::HeldZone;
 
@@ -233,7 +234,15 @@ pub(crate) fn ident(line: &[u8]) -> Option<CIdentParts> {
     (status == OK).then_some(parts)
 }
 
-pub(crate) fn ident_time(shown: CGitTime) -> Result<Time, Error> {
+impl From<GitTime> for CGitTime {
+    fn from(time: GitTime) -> CGitTime {
+        let GitTime { seconds, offset } = time;
+        CGitTime { seconds, offset }
+    }
+}
+
+pub(crate) fn ident_time(shown: GitTime) -> Result<Time, Error> {
+    let shown = CGitTime::from(shown);
     let mut time = Time::default();
     // SAFETY: what is shown is valid, and the time is a place of its own.
     let status = unsafe { ffi::gix_date_ident_time(&shown, &mut time) };

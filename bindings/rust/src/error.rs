@@ -91,7 +91,7 @@ impl fmt::Display for Error {
             Error::NulInPart => "a name or a mail holds NUL",
             Error::EmptyName => "the name is empty",
             Error::OnlyCrud => "the name consists only of disallowed characters",
-            Error::BeforeEpoch => "a time before 1970 cannot be written",
+            Error::BeforeEpoch => "a time before 1970 cannot be written or shown",
         })
     }
 }

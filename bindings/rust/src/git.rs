@@ -4,6 +4,7 @@
 //! - [`approxidate()`]: dates as people write them, as Git reads `--since` and `REF@{..}`
 //! - [`expiry_date()`]: what expires, as in `gc.pruneExpire`
 //! - [`show_date()`]: a date as `git log --date=MODE` shows it
+//! - [`show_git_time()`]: the same of an identity line's date, with the offset that the line writes
 //! - [`show_by_format()`]: a date as `git log --date=format:FORMAT` shows it
 //!
 //! In a zone of one offset every answer is Git's, or a refusal by name ([`DateError`]). In zones that change some times are not
@@ -37,12 +38,13 @@ mod mode;
 mod text;
 
 pub use age::{age_at, decimal_of_offset, offset_of_decimal, Age};
-pub use error::DateError;
+pub use error::{DateError, OwnDateError};
 pub use format::{DateFormat, FormatFault};
 pub use mode::{DateKind, DateMode, UnknownMode};
 pub use text::DateText;
 pub(crate) use text::MAX_SHOWN;
 
+use crate::signature::GitTime;
 use crate::{bytes, Moment, Time};
 
 /// What [`parse_date()`] reads.
@@ -192,6 +194,40 @@ pub fn expiry_date(input: &str, now: &Moment) -> Result<Expiry, DateError> {
 /// [`DateKind::Raw`] have a clock. [`DateError::Refused`] of the moment.
 pub fn show_date(time: Time, mode: DateMode, now: &Moment) -> Result<DateText, DateError> {
     now.zone.read()?.show_date(time, mode, now.instant())
+}
+
+/// The time of an identity line as `git log --date=MODE` shows it at this moment: by the line's own clock, and with the offset as
+/// it is written. `+0060` stays `+0060`, where [`show_date()`] says `+0100`, and `+051800` is `+51800`.
+///
+/// A mode that is local, [`DateKind::Relative`] and [`DateKind::Unix`] show what [`show_date()`] shows of the seconds.
+/// [`DateKind::Raw`] shows each offset, [`DateKind::Default`] each but `-0001`. [`DateKind::Human`] shows an offset that is written
+/// otherwise than that of the zone at this moment.
+///
+/// ```
+/// use gix_date_proved::git::{show_git_time, OwnDateError};
+/// use gix_date_proved::signature::IdentRef;
+/// use gix_date_proved::Moment;
+///
+/// let now = Moment::at_offset(1251660000, 0);
+/// let shown = IdentRef::from_bytes(b"A <a> 1251300000 +0060").unwrap().date.unwrap().shown;
+/// assert_eq!(show_git_time(shown, "iso".parse()?, &now)?, "2009-08-26 16:20:00 +0060");
+/// let early = IdentRef::from_bytes(b"A <a> 0 -0100").unwrap().date.unwrap().shown;
+/// assert_eq!(show_git_time(early, "iso".parse()?, &now), Err(OwnDateError::BeforeEpoch));
+/// # Ok::<(), Box<dyn std::error::Error>>(())
+/// ```
+///
+/// - [`OwnDateError::BeforeEpoch`]: seconds below 0, which no line says. Of kinds with a clock, unless local, also a clock before
+///   1970: here Git ends
+/// - [`OwnDateError::OffsetTooWide`]: of the same kinds, an offset of more than 35791394 minutes either way
+/// - [`OwnDateError::Range`]: of the same kinds, a clock after the year 9999, which Git shows; and where [`show_date()`] refuses
+///   seconds from 0 on: in local modes after 9999-12-30 22:00:00 UTC, and ages and human dates at a moment before 1970
+/// - [`OwnDateError::Refused`]: of the moment
+pub fn show_git_time(
+    time: GitTime,
+    mode: DateMode,
+    now: &Moment,
+) -> Result<DateText, OwnDateError> {
+    now.zone.read()?.show_git_time(time, mode, now.instant())
 }
 
 /// A date as `git log --date=format:FORMAT` shows it, or `--date=format-local:FORMAT` by the clock of the moment's zone.

@@ -18,7 +18,7 @@
 //! assert_eq!(write_ident(b"J\xf6rg.", b"<j@e>", Time::new(5, 3600)), Ok(b"J\xf6rg <j@e> 5 +0100".to_vec()));
 //! ```
 
-use crate::ffi::{CGitTime, CIdentParts, CSpan};
+use crate::ffi::{CIdentParts, CSpan};
 use crate::{calls, parse_header, Error, Time};
 use std::fmt;
 
@@ -113,9 +113,9 @@ pub struct GitTime {
 
 impl GitTime {
     /// The time of these seconds, with the offset in seconds: `+0060` is an hour. [`Error::OffsetTooWide`] above 35791394 minutes.
+    /// [`git::show_git_time()`](crate::git::show_git_time) shows the offset as the line writes it.
     pub fn to_time(self) -> Result<Time, Error> {
-        let GitTime { seconds, offset } = self;
-        calls::ident_time(CGitTime { seconds, offset })
+        calls::ident_time(self)
     }
 }
 

@@ -3,9 +3,10 @@
 
 use gix_date_proved::git::{
     age_at, approxidate, decimal_of_offset, expiry_date, offset_of_decimal, parse_date,
-    show_by_format, show_date, Age, Approximate, DateError, DateFormat, DateKind, DateMode,
-    DateText, Expiry, FormatFault, ReadDate, UnknownMode,
+    show_by_format, show_date, show_git_time, Age, Approximate, DateError, DateFormat, DateKind,
+    DateMode, DateText, Expiry, FormatFault, OwnDateError, ReadDate, UnknownMode,
 };
+use gix_date_proved::signature::GitTime;
 use gix_date_proved::{bytes, Error, Instant, Moment, Time, Zone};
 use std::collections::HashSet;
 use std::error::Error as StdError;
@@ -195,6 +196,43 @@ fn each_kind_of_zone_is_that_of_the_clock() {
     }
 }
 
+#[test]
+fn dates_of_lines_keep_their_offsets() {
+    let time = GitTime {
+        seconds: 1251300000,
+        offset: 60,
+    };
+    let texts = [
+        ("relative", "4 days ago"),
+        ("iso8601-strict", "2009-08-26T16:20:00+00:60"),
+        ("iso8601", "2009-08-26 16:20:00 +0060"),
+        ("rfc2822", "Wed, 26 Aug 2009 16:20:00 +0060"),
+        ("short", "2009-08-26"),
+        ("default", "Wed Aug 26 16:20:00 2009 +0060"),
+        ("human", "Wed 16:20 +0060"),
+        ("raw", "1251300000 +0060"),
+        ("unix", "1251300000"),
+        ("iso-local", "2009-08-26 15:20:00 +0000"),
+    ];
+    for (name, due) in texts {
+        let shown = show_git_time(time, name.parse().unwrap(), &now());
+        assert_eq!(shown.unwrap(), due);
+    }
+    let iso = "iso".parse().unwrap();
+    let refusals = [
+        (0, -100, OwnDateError::BeforeEpoch),
+        (0, 59652315, OwnDateError::OffsetTooWide),
+        (i64::MAX, 0, OwnDateError::Range),
+    ];
+    for (seconds, offset, due) in refusals {
+        let shown = show_git_time(GitTime { seconds, offset }, iso, &now());
+        assert_eq!(shown, Err(due), "{seconds} {offset}");
+    }
+    let nowhere = Moment::at_offset(0, 93600);
+    let shown = show_git_time(time, iso, &nowhere);
+    assert_eq!(shown, Err(Error::InvalidZone.into()));
+}
+
 /// What each call answers at a moment.
 fn refusals(now: &Moment) -> [Option<DateError>; 4] {
     let time = Time::new(1251300000, 7200);
@@ -360,6 +398,8 @@ fn errors_are_errors() {
         .starts_with("not a date with a time of day"));
     let error = parse_date("now", &Moment::at_offset(0, 93600)).unwrap_err();
     assert_eq!(error.to_string(), Error::InvalidZone.to_string());
+    let error: Box<dyn StdError> = Box::new(OwnDateError::from(Error::InvalidZone));
+    assert_eq!(error.to_string(), Error::InvalidZone.to_string());
     let error: Box<dyn StdError> = Box::new("ISO".parse::<DateMode>().unwrap_err());
     assert!(error.to_string().starts_with("not a way to show a date"));
 }
@@ -372,6 +412,7 @@ fn types_have_their_traits() {
     are_keys::<Approximate>();
     are_keys::<Expiry>();
     are_keys::<DateError>();
+    are_keys::<OwnDateError>();
     are_keys::<DateKind>();
     are_keys::<DateMode>();
     are_keys::<UnknownMode>();

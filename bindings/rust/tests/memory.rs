@@ -2,12 +2,12 @@
 //! hold is freed.
 
 use gix_date_proved::git::{
-    approxidate, expiry_date, parse_date, show_by_format, show_date, DateError, DateFormat,
-    DateMode, Expiry, FormatFault,
+    approxidate, expiry_date, parse_date, show_by_format, show_date, show_git_time, DateError,
+    DateFormat, DateMode, Expiry, FormatFault,
 };
 use gix_date_proved::lines::{check_lines, parse_lines, Columns, Done, LineReader, Status};
 use gix_date_proved::parse::TimeBuf;
-use gix_date_proved::signature::{fsck, write_ident, IdentRef};
+use gix_date_proved::signature::{fsck, write_ident, GitTime, IdentRef};
 use gix_date_proved::time::format;
 use gix_date_proved::{
     parse, parse_carefully, parse_header, write_signature, CarefulOptions, Error, Instant, Moment,
@@ -19,6 +19,12 @@ use std::ffi::c_void;
 use std::panic::{catch_unwind, AssertUnwindSafe};
 use std::path::Path;
 use std::{fs, ptr};
+
+/// The date of a line.
+const OF_LINE: GitTime = GitTime {
+    seconds: 1660797906,
+    offset: 800,
+};
 
 thread_local! {
     static REFUSES: Cell<bool> = const { Cell::new(false) };
@@ -185,6 +191,7 @@ fn other_calls_take_no_memory() {
         assert_eq!(expiry_date("never", &now), Ok(Expiry::Never));
         let mode: DateMode = "rfc2822".parse().unwrap();
         assert!(show_date(time, mode, &now).is_ok_and(|text| text.len() == 31));
+        assert!(show_git_time(OF_LINE, mode, &now).is_ok_and(|text| text.len() == 31));
     });
     assert!(out.starts_with(b"1660797906 +0800\0"));
 }
@@ -258,6 +265,7 @@ fn a_zone_that_is_read_takes_no_memory_in_calls() {
         zone.expiry_date("never", now).unwrap();
         let mode = DateMode::default();
         zone.show_date(Time::new(5, 7200), mode, now).unwrap();
+        zone.show_git_time(OF_LINE, mode, now).unwrap();
         let reader = LineReader::Careful(options);
         two_lines(|block, columns| zone.parse_lines(block, reader, now, columns));
         two_lines(|block, columns| zone.parse_date_lines(block, now, columns));

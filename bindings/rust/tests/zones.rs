@@ -1,7 +1,8 @@
 //! Zones that are read once: each call in each kind of zone, refusals, clones and threads. The answers are those of jiff and of
 //! Git; `rows.rs` runs all rows with a moment in such zones too.
 
-use gix_date_proved::git::{Approximate, DateError, DateKind, DateMode, Expiry};
+use gix_date_proved::git::{Approximate, DateError, DateKind, DateMode, Expiry, OwnDateError};
+use gix_date_proved::signature::GitTime;
 use gix_date_proved::{
     bytes, parse, parse_carefully, CarefulError, CarefulOptions, Error, Instant, Moment,
     RawOffsets, ReadZone, Time, WithoutOffset, Zone,
@@ -36,6 +37,12 @@ fn local() -> DateMode {
         local: true,
     }
 }
+
+/// The date of a line.
+const OF_LINE: GitTime = GitTime {
+    seconds: 1699189106,
+    offset: 60,
+};
 
 /// Each call in New York's zone, all with the zone that was read once.
 fn answers_in_new_york(zone: &mut ReadZone) {
@@ -72,6 +79,8 @@ fn answers_in_new_york(zone: &mut ReadZone) {
     let offsets = [1699163999, 1699164000].map(|at| zone.offset_at(Instant::at_second(at)));
     assert_eq!(offsets, [Ok(-14400), Ok(-18000)]);
     let shown = zone.show_date(Time::new(1699189106, 0), local(), now);
+    assert_eq!(shown.unwrap(), "2023-11-05 07:58:26 -0500");
+    let shown = zone.show_git_time(OF_LINE, local(), now);
     assert_eq!(shown.unwrap(), "2023-11-05 07:58:26 -0500");
 }
 
@@ -114,6 +123,8 @@ fn an_offset_serves_all_calls() {
     let time = Time::new(1251300000, 7200);
     let shown = zone.show_date(time, local(), now).unwrap();
     assert_eq!(shown, "2009-08-26 15:20:00 +0000");
+    let shown = zone.show_git_time(OF_LINE, local(), now).unwrap();
+    assert_eq!(shown, "2023-11-05 12:58:26 +0000");
 }
 
 #[test]
@@ -137,7 +148,7 @@ fn texts_are_refused_as_at_a_moment() {
 }
 
 /// What refuses each call in a zone at an instant.
-fn refusals(zone: &mut ReadZone, now: Instant) -> [Option<Error>; 8] {
+fn refusals(zone: &mut ReadZone, now: Instant) -> [Option<Error>; 9] {
     let of_date = |answer| match answer {
         DateError::Refused(error) => error,
         other => panic!("{other:?}"),
@@ -160,6 +171,11 @@ fn refusals(zone: &mut ReadZone, now: Instant) -> [Option<Error>; 8] {
         zone.show_date(Time::new(0, 0), local(), now)
             .err()
             .map(of_date),
+        match zone.show_git_time(OF_LINE, local(), now) {
+            Err(OwnDateError::Refused(error)) => Some(error),
+            Err(other) => panic!("{other:?}"),
+            Ok(_) => None,
+        },
     ]
 }
 
@@ -173,10 +189,10 @@ fn each_call_refuses_what_is_no_instant() {
             nanoseconds: 1_000_000_000,
         };
         for now in [too_late, whole] {
-            assert_eq!(refusals(&mut zone, now), [Some(Error::InvalidInstant); 8]);
+            assert_eq!(refusals(&mut zone, now), [Some(Error::InvalidInstant); 9]);
         }
         let now = Instant::at_second(1251660000);
-        assert_eq!(refusals(&mut zone, now), [None; 8]);
+        assert_eq!(refusals(&mut zone, now), [None; 9]);
     }
 }
 
@@ -191,7 +207,7 @@ fn each_call_refuses_an_offset_that_is_too_wide() {
     ] {
         let mut zone = Zone::Offset(offset).read().unwrap();
         let now = Instant::at_second(1251660000);
-        assert_eq!(refusals(&mut zone, now), [refusal; 8], "{offset}");
+        assert_eq!(refusals(&mut zone, now), [refusal; 9], "{offset}");
     }
 }
 

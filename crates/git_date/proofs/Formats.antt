@@ -9,3 +9,4 @@ pub mod Walks
 pub mod Taken
 pub mod Outcomes
 pub mod Short
+pub mod Usual

@@ -1,2 +1,4 @@
 -- What is shown.
 pub mod ShownClocks
+pub mod WrittenOffsets
+pub mod HumanTexts

@@ -5,3 +5,4 @@ pub mod Ages
 pub mod Texts
 pub mod Human
 pub mod Dates
+pub mod OwnDates

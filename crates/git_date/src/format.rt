@@ -1,11 +1,13 @@
 //! Dates by a pattern, as `git log --date=format:PATTERN` shows them.
-ghost use Rattle.std.specs.Prelude.{◌≡◌, ◌&&◌, true, Some, Ok, IsTrue, is_none, string_bytes, option_map, MatchResult};
+ghost use Rattle.std.specs.Prelude.{◌≡◌, ◌&&◌, true, false, Some, Ok, IsTrue, is_none, string_bytes, option_map, MatchResult};
+ghost use Rattle.jiff.specs.Types.{TimeZone as Zone};
 ghost use Rattle.jiff.specs.Words.{plain_zone};
 ghost use Rattle.git_date.specs.Show.Clocks.{moment_of};
 ghost use Rattle.git_date.specs.Formats.Format.{asks_seconds, format_bytes, shown_by_format, texts, WritesShown, RefusesText};
 ghost use Rattle.git_date.specs.Formats.Pieces.{checked, is_format, pieces_or_none};
 ghost use Rattle.git_date.specs.Formats.Shown.{shown_of};
 
+mod begun;
 mod checked;
 mod chunks;
 mod directives;
@@ -18,6 +20,7 @@ mod pieces;
 mod short;
 mod shown;
 mod texts;
+mod usual;
 mod walks;
 
 pub use checked::DateFormat;
@@ -26,9 +29,9 @@ pub use fault::FormatFault;
 use gix_date::device::Sink;
 use gix_date::{Time, Zoned};
 use jiff::tz::TimeZone;
-pub use short::ShortText;
+pub use short::{BriefText, ShortText};
 use short::{push_short, push_shown, put_shown};
-use shown::{Shown, shown_at};
+use shown::{Shown, own_shown, shown_at};
 use std::alloc::Global;
 use walks::asks_seconds;
 
@@ -116,6 +119,21 @@ pub fn short_by_format(
 {
     out.clear();
     let Some(shown) = shown_at(time, local, zone) else {
+        return false;
+    };
+    if shown.seconds.is_none() {
+        return false;
+    }
+    push_short(out, format, &shown)
+}
+
+/// The same by the time's own clock, for which no zone matters, into a text of at most 120 bytes.
+pub fn brief_by_own_clock(time: Time, format: &str, out: &mut BriefText) -> bool
+    ensures whole { IsTrue result → checked format.now ≡ Ok format.now }
+    ensures shown { IsTrue result → (zone : Zone) → shown_by_format zone false format.now time ≡ Some out.new.bytes }
+{
+    out.clear();
+    let Some(shown) = own_shown(time) else {
         return false;
     };
     if shown.seconds.is_none() {

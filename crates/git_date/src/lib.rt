@@ -50,10 +50,12 @@ pub use approximate::{Approximate, Expiry, approxidate, expiry_date};
 pub use date::{ReadDate, parse_date, parse_date_at};
 pub use error::DateError;
 pub use format::{
-    DateFormat, FormatFault, ShortText, ShowError, short_by_format, show_by_format, text_by_format,
-    text_by_format_in,
+    BriefText, DateFormat, FormatFault, ShortText, ShowError, brief_by_own_clock, short_by_format,
+    show_by_format, text_by_format, text_by_format_in,
 };
 pub use mode::{DateKind, DateMode, UnknownMode};
-pub use show::{Age, DateText, age_at, show_date, show_date_at};
+pub use show::{
+    Age, DateText, OwnDateError, OwnDateText, age_at, show_date, show_date_at, show_git_time,
+};
 pub use zones::decimals::{decimal_of_offset, offset_of_decimal};
 pub use zones::texts::zone_offset;

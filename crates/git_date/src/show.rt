@@ -13,6 +13,7 @@ mod ages;
 pub(crate) mod clocks;
 mod dates;
 mod human;
+mod own;
 
 use crate::error::DateError;
 use crate::mode::{DateKind, DateMode};
@@ -26,6 +27,7 @@ use gix_date::{Time, Zoned};
 use human::human_text;
 use jiff::Timestamp;
 use jiff::tz::TimeZone;
+pub use own::{OwnDateError, OwnDateText, show_git_time};
 
 /// The most bytes of a shown date: those of [`DateKind::Rfc2822`].
 const MAX_DATE_LEN: usize = 31;

@@ -7,3 +7,5 @@ pub mod SecondsAlone
 pub mod FormatLaws
 pub mod FormatSteps
 pub mod JoinedFormats
+pub mod LineOffsets
+pub mod LineDates

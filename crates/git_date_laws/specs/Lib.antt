@@ -1,6 +1,7 @@
 pub mod Texts
 pub mod Laws
 pub mod Shown
+pub mod LineDates
 pub mod ApproximateLaws
 pub mod Headline
 pub mod Ignored

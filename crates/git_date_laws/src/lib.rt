@@ -23,7 +23,7 @@ pub use formats::{
 use gix_date::{Time, Zoned};
 use jiff::tz::TimeZone;
 pub use promise::headline;
-pub use shown::{ages_grow, mode_named_back, shown_as_printed};
+pub use shown::{ages_grow, mode_named_back, shown_as_line, shown_as_printed};
 
 /// The texts of the tokens are the text, and no two neighbours are both letters or both digits.
 #[tactic(auto, using(git_date::proofs::Text::TokenRuns::texts_are, crate::proofs::Alike::Apart::apart))]

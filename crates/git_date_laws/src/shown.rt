@@ -7,9 +7,14 @@ ghost use Rattle.git_date.specs.Show.Ages.{age_of};
 ghost use Rattle.git_date.specs.Show.Texts.{unknown_offset};
 ghost use Rattle.git_date.specs.declared.mode.DateKind.TheVariants.{Short, Iso8601, Iso8601Strict, Rfc2822, Default, Raw, Unix};
 ghost use Rattle.git_date_laws.specs.Shown.{IsShownAs, IsNoLess};
+ghost use Rattle.git_date_laws.specs.LineDates.{IsShownAsLine, IsRefusedAsLine};
+ghost use Rattle.git_date.specs.Show.Clocks.{moment_at};
+ghost use Rattle.jiff.specs.Words.{plain_zone};
 
 use git_date::DateMode;
 use gix_date::Time;
+use jiff::Timestamp;
+use jiff::tz::TimeZone;
 
 /// What seven kinds show of a time by its own clock is what `Time::format` prints, wherever both are defined. Of the default
 /// an unknown offset (`-0001`) is left out.
@@ -34,4 +39,12 @@ pub fn ages_grow(seconds: u64, later: u64)
 #[tactic(auto, using(crate::proofs::Printing::ShownLaws::named_back))]
 pub fn mode_named_back(mode: DateMode)
     ensures { mode_named (mode_name mode) ≡ Some mode }
+{}
+
+/// What [`git_date::show_date_at`] shows of a time by a mode, [`git_date::show_git_time`] shows of a line's own of the same seconds and
+/// the decimal number of that offset, if this is whole minutes and below 100 hours. What it refuses of the line's own, the other
+/// refuses of the time.
+pub fn shown_as_line(time: Time, now: Timestamp, zone: TimeZone<'_>)
+    ensures shown { IsShownAsLine (moment_at now.nanosecond (plain_zone zone.entry)) time }
+    ensures refused { IsRefusedAsLine (moment_at now.nanosecond (plain_zone zone.entry)) time }
 {}

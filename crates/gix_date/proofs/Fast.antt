@@ -2,3 +2,8 @@
 pub mod FastHeaders
 pub mod CanonicalBytes
 pub mod UnknownOffsets
+pub mod UsualDates
+pub mod UsualNames
+pub mod Masks
+pub mod Pairs
+pub mod TenDigits

@@ -8,3 +8,4 @@ pub mod Shapes
 pub mod Laws
 pub mod Grammars
 pub mod AfterDay
+pub mod Usual

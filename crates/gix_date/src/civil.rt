@@ -55,9 +55,9 @@ pub(crate) fn midnight_instant(date: DateFields) -> Option<SecondsSinceUnixEpoch
     instant_at(date, MIDNIGHT, 0)
 }
 
-/// The body of both, inlined so that a constant clock folds away.
+/// The body of both, inlined so that a constant clock folds away, and fields need not be packed for a call.
 #[inline(always)]
-fn instant_at(
+pub(crate) fn instant_at(
     date: DateFields,
     clock: ClockFields,
     offset: OffsetInSeconds,

@@ -1,8 +1,8 @@
 //! What clocks show: the day of the week, the date and the time of day, and their texts.
 ghost use Rattle.std.specs.Prelude.{◌≡◌, ◌≤◌, ◌<◌, ◌%◌, pos, unsigned_abs, FitsSigned};
-ghost use Rattle.std.specs.Int.{IsInRange, w64};
+ghost use Rattle.std.specs.Int.{IsInRange, int_div_euclid, int_rem_euclid, w64};
 ghost use Rattle.jiff_core.specs.Calendar.{IsEpochDay, weekday_number};
-ghost use Rattle.gix_date.specs.Fields.ClockNumbers.{hours_in, minutes_in, seconds_per_minute};
+ghost use Rattle.gix_date.specs.Fields.ClockNumbers.{hours_in, minutes_in, seconds_per_day, seconds_per_minute};
 ghost use Rattle.gix_date.specs.Header.Text.{hundred_hours};
 ghost use Rattle.gix_date.specs.Printing.LocalClocks.{clock_of, local_seconds, IsShowable};
 
@@ -66,6 +66,27 @@ fn weekday_of(day: i64) -> u8
     (day + 3).rem_euclid(7) as u8
 }
 
+/// The day of so many seconds since 1970-01-01 00:00:00, counted from 0, and the second of that day. From 1970 on one
+/// division of numbers without a sign gives both.
+#[inline(always)]
+fn day_and_second(seconds: SecondsSinceUnixEpoch) -> (i64, u32)
+    ensures day { result.0 ≡ int_div_euclid seconds (pos seconds_per_day) }
+    ensures second { result.1 ≡ unsigned_abs (int_rem_euclid seconds (pos seconds_per_day)) }
+    ensures small { result.1 < seconds_per_day }
+{
+    if seconds >= 0 {
+        let seconds = seconds as u64;
+        return (
+            (seconds / SECONDS_PER_DAY as u64) as i64,
+            (seconds % SECONDS_PER_DAY as u64) as u32,
+        );
+    }
+    (
+        seconds.div_euclid(SECONDS_PER_DAY),
+        seconds.rem_euclid(SECONDS_PER_DAY) as u32,
+    )
+}
+
 /// The clock that shows so many seconds of a day.
 #[inline(always)]
 fn clock_at(second: u32) -> ClockFields
@@ -89,8 +110,7 @@ impl Clock {
         requires { IsShowable time }
         ensures { result ≡ clock_of time }
     {
-        let local = local_seconds(time);
-        let day = local.div_euclid(SECONDS_PER_DAY);
+        let (day, second) = day_and_second(local_seconds(time));
         let Ok(date) = Date::from_unix_epoch_day(day) else {
             unreachable!();
         };
@@ -101,7 +121,7 @@ impl Clock {
                 month: date.month,
                 day: date.day,
             },
-            clock: clock_at(local.rem_euclid(SECONDS_PER_DAY) as u32),
+            clock: clock_at(second),
             offset: time.offset,
         }
     }

@@ -1,5 +1,7 @@
 mod Blocks
 mod Boxed
+mod Checked
+mod Digits
 mod Kept
 mod Modes
 mod Named

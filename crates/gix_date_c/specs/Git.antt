@@ -3,4 +3,5 @@ pub mod Ages
 pub mod Dates
 pub mod Formats
 pub mod Modes
+pub mod Own
 pub mod Stored

@@ -49,6 +49,12 @@ IsInstant instant nanos =
     MatchResult nanos (λ n. n ≡ instant.seconds *ℤ pos 1_000_000_000 +ℤ instant.nanoseconds)
     (λ status. (status ≡ statuses.InvalidInstant) × (IsTimestampParts instant.seconds instant.nanoseconds → ⊥))
 
+-- whether `jiff` has this instant
+abbrev pub IsInstantChecked : CInstant → Result (Unit {0}) Status → Type 0
+IsInstantChecked instant check =
+    MatchResult check (λ u. IsTimestampParts instant.seconds instant.nanoseconds)
+    (λ status. (status ≡ statuses.InvalidInstant) × (IsTimestampParts instant.seconds instant.nanoseconds → ⊥))
+
 -- an instant and a zone where there are both, or why not: the zone is looked at first
 abbrev pub placed : Result ℤ Status → Result TimeZone Status → Result Place Status
 placed (Ok nanos) (Ok zone) = Ok (nanos, zone)
@@ -60,6 +66,11 @@ abbrev pub IsPlaced : (Result TimeZone Status → Type 0) → CInstant → Resul
 IsPlaced IsZone instant place =
     (zone : Result TimeZone Status) × IsZone zone
     × ((nanos : Result ℤ Status) × IsInstant instant nanos × (place ≡ placed nanos zone))
+
+-- whether there are an instant and a zone of which this is known, or why not
+abbrev pub IsPlaceChecked : (Result TimeZone Status → Type 0) → CInstant → Result (Unit {0}) Status → Type 0
+IsPlaceChecked IsZone instant check =
+    (place : Result Place Status) × IsPlaced IsZone instant place × (check ≡ result_map_both (λ p. tt) (λ status. status) place)
 
 -- the offset of a zone at an instant, where there are both
 abbrev pub offset_at : Result Place Status → Result ℤ Status

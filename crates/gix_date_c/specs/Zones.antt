@@ -2,6 +2,7 @@
 use Rattle.std.specs.Prelude.{◌≡◌, ◌⊎◌, ◌==◌, option_map, ℕ, Bool, true, false, List, codes, ℤ, pos, Option, None, Some, Result, Ok, Err}
 use Rattle.core.specs.List.{starts_with}
 use Rattle.std.specs.Borrow.{Bor}
+use Rattle.std.specs.Result.{result_map_both}
 use Rattle.jiff.specs.Types.{TimeZone, Tzif as Table}
 use Rattle.jiff.specs.Placed.{IsPosixZone}
 use Rattle.jiff.specs.Words.{plain_zone}
@@ -56,6 +57,11 @@ IsZoneOf offset (Some held) (Err status) = ⊥
 -- the zone of C
 abbrev pub IsZone : CZone → Result TimeZone Status → Type 0
 IsZone zone = IsZoneOf zone.offset zone.handle.held
+
+-- whether there is a zone of which this is known
+abbrev pub IsZoneChecked : (Result TimeZone Status → Type 0) → Result (Unit {0}) Status → Type 0
+IsZoneChecked IsZone check =
+    (zone : Result TimeZone Status) × IsZone zone × (check ≡ result_map_both (λ z. tt) (λ status. status) zone)
 
 -- the offset at an instant of a zone of which this is known, or why there is none
 abbrev pub IsOffset : (Result TimeZone Status → Type 0) → CInstant → Result ℤ Status → Type 0

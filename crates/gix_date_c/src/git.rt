@@ -7,6 +7,7 @@ pub(crate) mod dates;
 mod formats;
 mod lines;
 mod offsets;
+mod own;
 mod show;
 mod stored;
 

@@ -127,11 +127,17 @@ pub extern "C" fn gix_date_ident_time(shown: &CGitTime, time: &mut CTime) -> u32
 fn time_of(shown: &CGitTime) -> Result<Time, Status>
     ensures { result ≡ ident_time_answer shown.now }
 {
-    let shown = GitTime {
-        seconds: shown.seconds,
-        offset: shown.offset,
-    };
-    shown.to_time().map_err(ident_status)
+    load_git_time(shown).to_time().map_err(ident_status)
+}
+
+/// A time of Git that C has.
+pub(crate) fn load_git_time(time: &CGitTime) -> GitTime
+    ensures { result ≡ load_git_time time.now }
+{
+    GitTime {
+        seconds: time.seconds,
+        offset: time.offset,
+    }
 }
 
 /// The status of a refusal. A buffer that is written to has no fault but its end.

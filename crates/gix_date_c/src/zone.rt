@@ -1,10 +1,11 @@
 //! Zones that C holds, each read once for many calls.
-ghost use Rattle.std.specs.Prelude.{◌≡◌, MatchResult, None, option_map};
+ghost use Rattle.std.specs.Prelude.{◌≡◌, MatchResult, None, Ok, IsTrue, option_map};
 ghost use Rattle.std.specs.Result.{result_map_both};
+ghost use Rattle.jiff.specs.Types.{TimeZone as Zone};
 ghost use Rattle.jiff.specs.Words.{plain_zone};
 ghost use Rattle.git_date.specs.Exact.ZoneTexts.{zone_offset};
 ghost use Rattle.gix_date_c.specs.Moments.{IsNow};
-ghost use Rattle.gix_date_c.specs.Zones.{Copies, IsKept, IsRead, IsSame, IsTaken, IsTakenCopy, IsUtc, IsZoneOf, Reads};
+ghost use Rattle.gix_date_c.specs.Zones.{Copies, IsKept, IsRead, IsSame, IsTaken, IsTakenCopy, IsUtc, IsZone, IsZoneChecked, IsZoneOf, Reads};
 ghost use Rattle.gix_date_c.specs.declared.values.status.Status.TheVariants.{Memory};
 
 mod handle;
@@ -123,6 +124,28 @@ impl CZone {
         ensures { IsTaken self.old result }
     {
         replace(self, CZone::at_offset(alloc, 0)).into_taken()
+    }
+
+    /// Whether there is the zone, which stays in C's hands.
+    #[inline(always)]
+    pub(crate) fn check(&self) -> Result<(), Status>
+        ensures { IsZoneChecked (IsZone self.now) result }
+    {
+        if self.holds() {
+            return Ok(());
+        }
+        match offset_zone(self.offset) {
+            Ok(_) => Ok(()),
+            Err(status) => Err(status),
+        }
+    }
+
+    /// Whether there is the zone.
+    #[inline(always)]
+    pub(crate) fn is_zone(&self) -> bool
+        ensures { IsTrue result → (zone : Zone) × IsZone self.now (Ok zone) }
+    {
+        self.check().is_ok()
     }
 
     /// Gives back what a call has taken.

@@ -6,6 +6,7 @@ pub use Rattle.git_date.specs.Show.Modes.{NamesMode, mode_name, mode_named}
 pub use Rattle.git_date.specs.Exact.Outcome.{DateOutcome, DateOutcomeAt, IsPlaceIn, HasPlacesIn}
 pub use Rattle.git_date.specs.Exact.Reading.{said_by}
 pub use Rattle.git_date.specs.Show.Dates.{shown}
+pub use Rattle.git_date.specs.Show.OwnDates.{own_shown}
 pub use Rattle.git_date.specs.Show.Ages.{age_answer, age_of}
 pub use Rattle.git_date.specs.Show.Clocks.{moment_at, moment_of}
 pub use Rattle.git_date.specs.Show.Texts.{unknown_offset}

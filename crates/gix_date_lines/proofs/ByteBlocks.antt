@@ -1,45 +1,18 @@
 -- Blocks of bytes.
-use Rattle.std.proofs.Common.{◌≡◌, ◌≢◌, zero-add, w64, inl, inr, ◌∙◌, suc, zero, ap₂, ◌&&◌, ℕ, ◌+◌, ◌-◌, ◌<◌, ◌≤◌, ◌%◌, ◌^◌, Bool, true, false, not, cond, leb, leb-false, eqb, List, map, length, take, get_or, replicate, refl, sym, ap, subst, arith, Fits, w8}
+use Rattle.std.proofs.Common.{◌≡◌, ◌≢◌, zero-add, w64, inl, inr, ◌∙◌, suc, zero, ap₂, ◌&&◌, ℕ, ◌+◌, ◌<◌, ◌≤◌, ◌%◌, ◌^◌, Bool, true, false, not, cond, eqb, List, map, length, take, get_or, replicate, refl, sym, ap, subst, arith, Fits, w8}
 use Rattle.std.proofs.lemmas.Bool.Decides.{nat_tests}
 use Rattle.std.proofs.lemmas.Bool.{cases_lt}
 use Rattle.std.proofs.lemmas.List.{length-map, get_or_past}
 use Rattle.std.proofs.lemmas.Nat.Bits.{bit_at-trailing_zeros}
 use Rattle.std.specs.Int.{bit_at}
 use Rattle.std.proofs.lemmas.List.Folds.{list_all_more}
-use Rattle.std.proofs.lemmas.Simd.{length-chunk, map-map, mask_l-mod, first_set_mask_l, run_in_chunk_le, run_in_chunk_fails, run_in_chunk_stops, trailing_mask_l, bit_mask_l, tops_compared, zip2_splat, zip2_splat_left, bitmask_splat}
+use Rattle.std.proofs.lemmas.Simd.{length-chunk, mask_l-mod, first_set_mask_l, run_in_chunk_le, run_in_chunk_fails, run_in_chunk_stops, trailing_mask_l, bit_mask_l, bitmask_splat}
 use Rattle.std.specs.Char.{is_ascii_digit}
 use Rattle.std.specs.List.{list_all, prefix_len}
+use Rattle.gix_date.proofs.Fast.Pairs.{is_other, other_bits, other-bits, digit}
 use Rattle.memchr.specs.Find.{NoneBefore, Passes, is_byte}
 use lib.Count.{count_trailing_zeros}
 use lib.Lanes.{chunk, mask_l, top, zip2}
-
-abbrev pub wrapping_sub : ℕ → ℕ → ℕ
-wrapping_sub a b = (a + (256 - b)) % 256
-
--- the byte is no digit, by one comparison
-abbrev pub is_other : ℕ → Bool
-is_other b = leb 10 (wrapping_sub b 48)
-
-abbrev at_least : ℕ → ℕ → ℕ
-at_least a b = cond (leb a b) 255 0
-
--- the bits of the first 16 bytes that are no digits
-abbrev pub other_bits : List ℕ → ℕ
-other_bits bytes = mask_l (map (top 7) (zip2 at_least (replicate 16 10) (zip2 wrapping_sub (chunk 0 16 bytes) (replicate 16 48)))) % 2 ^ 64
-
-other-bits : (bytes : List ℕ) → 16 ≤ length bytes → other_bits bytes ≡ mask_l (map is_other (chunk 0 16 bytes))
-other-bits bytes room =
-    let block = chunk 0 16 bytes in
-    let long : length block ≡ 16 = length-chunk 0 16 bytes (omega arith) in
-    let moved = zip2_splat wrapping_sub block 16 48 long in
-    let less = map (λ b. wrapping_sub b 48) block in
-    ap (λ ms. mask_l ms % 2 ^ 64)
-    (tops_compared w8 leb (replicate 16 10) (zip2 wrapping_sub block (replicate 16 48)) ∙ ap (zip2 leb (replicate 16 10)) moved
-    ∙ zip2_splat_left leb 10 16 less (omega (arith, length-map block (λ b. wrapping_sub b 48))) ∙ map-map (leb 10) (λ b. wrapping_sub b 48) block)
-    ∙ mask_l-mod (map is_other block) 64 (omega (arith, length-map block is_other))
-
-digit : (b : ℕ) → b < 256 → is_other b ≡ false → is_ascii_digit b ≡ true
-digit b small h = let low : wrapping_sub b 48 < 10 = leb-false 10 (wrapping_sub b 48) h in grind (arith, nat_tests, low)
 
 -- where each of the first n elements passes
 all_before : (p : ℕ → Bool) (xs : List ℕ) (n : ℕ) → n ≤ length xs → ((k : ℕ) → k < n → p (get_or xs k 0) ≡ true) → list_all p (take n xs) ≡ true
@@ -61,18 +34,18 @@ run bytes r room fits counted =
 abbrev run_of : ℕ → ℕ
 run_of m = cond (eqb m 0) 16 (count_trailing_zeros 64 m)
 
-counted-run : (bytes : List ℕ) → 16 ≤ length bytes → run_of (other_bits bytes) ≡ prefix_len (λ b. not (is_other b)) (chunk 0 16 bytes)
-counted-run bytes room = ap run_of (other-bits bytes room) ∙ first_set_mask_l is_other (chunk 0 16 bytes) 16 (length-chunk 0 16 bytes (omega arith)) (omega arith)
+counted-run : (bytes : List ℕ) → 16 ≤ length bytes → run_of (other_bits 16 bytes) ≡ prefix_len (λ b. not (is_other b)) (chunk 0 16 bytes)
+counted-run bytes room = ap run_of (other-bits 16 bytes room (omega arith)) ∙ first_set_mask_l is_other (chunk 0 16 bytes) 16 (length-chunk 0 16 bytes (omega arith)) (omega arith)
 
 -- where a block has digits alone
-pub digits-alone : (bytes : List ℕ) → 16 ≤ length bytes → ((k : ℕ) → Fits w8 (get_or bytes k 0)) → other_bits bytes ≡ 0 → list_all is_ascii_digit (take 16 bytes) ≡ true
+pub digits-alone : (bytes : List ℕ) → 16 ≤ length bytes → ((k : ℕ) → Fits w8 (get_or bytes k 0)) → other_bits 16 bytes ≡ 0 → list_all is_ascii_digit (take 16 bytes) ≡ true
 digits-alone bytes room fits none = (run bytes 16 room fits (sym (ap run_of none) ∙ counted-run bytes room)).1
 
 -- where it has another byte
-pub digits-before : (bytes : List ℕ) → 16 ≤ length bytes → ((k : ℕ) → Fits w8 (get_or bytes k 0)) → other_bits bytes ≢ 0
-    → (count_trailing_zeros 64 (other_bits bytes) ≤ 16) × (list_all is_ascii_digit (take (count_trailing_zeros 64 (other_bits bytes)) bytes) ≡ true)
+pub digits-before : (bytes : List ℕ) → 16 ≤ length bytes → ((k : ℕ) → Fits w8 (get_or bytes k 0)) → other_bits 16 bytes ≢ 0
+    → (count_trailing_zeros 64 (other_bits 16 bytes) ≤ 16) × (list_all is_ascii_digit (take (count_trailing_zeros 64 (other_bits 16 bytes)) bytes) ≡ true)
 digits-before bytes room fits some =
-    let m = other_bits bytes in
+    let m = other_bits 16 bytes in
     let test : eqb m 0 ≡ false = grind (arith, nat_tests, some) in
     run bytes (count_trailing_zeros 64 m) room fits (sym (ap (λ b. cond b 16 (count_trailing_zeros 64 m)) test) ∙ counted-run bytes room)
 

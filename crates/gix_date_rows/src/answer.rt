@@ -1,5 +1,5 @@
 //! What a call answers.
-use git_date::DateError;
+use git_date::{DateError, OwnDateError};
 use gix_date::{CarefulError, Error, ParseError, Time};
 use gix_signature::{IdentFault, SignatureError};
 use std::alloc::AllocError;
@@ -128,6 +128,16 @@ impl From<DateError> for Answer {
             DateError::YearRefused(place) => Answer::RefusedAt("YearRefused", place),
             DateError::Range => Answer::Refused("Range"),
         }
+    }
+}
+
+impl From<OwnDateError> for Answer {
+    fn from(refusal: OwnDateError) -> Answer {
+        Answer::Refused(match refusal {
+            OwnDateError::Range => "Range",
+            OwnDateError::BeforeEpoch => "BeforeEpoch",
+            OwnDateError::OffsetTooWide => "OffsetTooWide",
+        })
     }
 }
 

@@ -5,6 +5,7 @@ use gix_date::time::format::{
     DEFAULT, GIT_RFC2822, GITOXIDE, ISO8601, ISO8601_STRICT, RFC2822, SHORT,
 };
 use gix_date::{RawOffsets, Texts, Time, WithoutOffset};
+use gix_signature::GitTime;
 use jiff::Timestamp;
 use std::str;
 
@@ -54,6 +55,13 @@ impl<'a> Arguments<'a> {
         let seconds = self.text()?.parse().ok()?;
         let offset = self.text()?.parse().ok()?;
         Some(Time::new(seconds, offset))
+    }
+
+    /// A time of an identity line: its seconds and the decimal number of its offset.
+    pub(crate) fn git_time(&mut self) -> Option<GitTime> {
+        let seconds = self.text()?.parse().ok()?;
+        let offset = self.text()?.parse().ok()?;
+        Some(GitTime { seconds, offset })
     }
 
     /// An instant: its seconds and its nanoseconds.

@@ -20,6 +20,7 @@
 //! | `now_local` | seconds, nanoseconds, zone | time |
 //! | `date_mode` | name of a mode | the name that the mode shows |
 //! | `show_date` | mode, moment, seconds, offset | text |
+//! | `show_git_time` | mode, moment, seconds, offset as its decimal number | text |
 //! | `show_by_format` | Git's format, `own` or `local`, moment, seconds, offset | text |
 //! | `format` | format, seconds, offset | text |
 //! | `format_by_pattern` | pattern, seconds, offset | text |
@@ -53,7 +54,8 @@ use crate::idents::{
     fsck_word, shown_label, shown_parts, shown_time, stored_offset, time_of, written_line,
 };
 use crate::moments::{
-    ignored_place, names_offset, parsed, parsed_carefully, read_date, shown_date, zone_of,
+    ignored_place, names_offset, parsed, parsed_carefully, read_date, shown_date, shown_git_time,
+    zone_of,
 };
 use git_date::DateMode;
 use gix_date::device::Device;
@@ -136,6 +138,11 @@ fn printed(
             let mode = row.mode()?;
             let moment = row.text()?;
             shown_date(alloc, zones, mode, moment, row.time()?)
+        }
+        "show_git_time" => {
+            let mode = row.mode()?;
+            let moment = row.text()?;
+            shown_git_time(alloc, zones, mode, moment, row.git_time()?)
         }
         "show_by_format" => {
             let format = row.text()?;

@@ -1,10 +1,11 @@
 //! Dates parsed at no moment, at one, or at any.
 use crate::answer::Answer;
-use git_date::{DateMode, ReadDate, parse_date, show_date};
+use git_date::{DateMode, ReadDate, parse_date, show_date, show_git_time};
 use gix_date::{
     CarefulOptions, Error, ParseError, RawOffsets, Time, Zoned, parse, parse_carefully,
     parse_no_alloc, parse_with,
 };
+use gix_signature::GitTime;
 use jiff::Timestamp;
 use jiff::tz::{Offset, TimeZone, TimeZoneDatabase};
 use std::alloc::{AllocError, Global};
@@ -101,6 +102,29 @@ pub(crate) fn shown_date(
         }
         Err(refusal) => refusal.into(),
     })
+}
+
+/// What Git shows of the time of an identity line, at the moment that a field says. `None` where it says none.
+pub(crate) fn shown_git_time(
+    alloc: Global,
+    zones: &TimeZoneDatabase,
+    mode: DateMode,
+    moment: &str,
+    time: GitTime,
+) -> Option<Answer> {
+    let now = match moment_of(zones, moment)? {
+        Ok(now) => now?,
+        Err(refusal) => return Some(Answer::Refused(refusal)),
+    };
+    Some(
+        match show_git_time(time, mode, now.timestamp(), now.time_zone()) {
+            Ok(text) => {
+                let copy: Result<String, AllocError> = String::from_str(alloc, text.as_str());
+                copy.into()
+            }
+            Err(refusal) => refusal.into(),
+        },
+    )
 }
 
 /// The answer that is the same by each of these rules and the other options.

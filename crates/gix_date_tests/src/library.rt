@@ -6,6 +6,7 @@ mod git_dates;
 mod git_formats;
 mod headers;
 mod idents;
+mod line_dates;
 mod lines;
 mod names;
 mod parts;

@@ -59,6 +59,7 @@ _library.connect(
     read_date=git.ReadDate,
     approximate=git.Approximate,
     date_mode=git.DateMode,
+    git_time=GitTime,
     expires=tuple(git.Expires),
     raw_offsets=tuple(RawOffsets),
     without_offset=tuple(WithoutOffset),

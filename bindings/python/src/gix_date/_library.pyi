@@ -9,6 +9,7 @@ from .git import Approximate, DateKind, DateMode, Expires, ReadDate
 from .lines import Refused
 from .moments import Moment, Now
 from .options import Format, RawOffsets, Texts, WithoutOffset
+from .signatures import GitTime
 
 _Text = Union[str, bytes]
 _Time = TypeVar("_Time", bound="Time")
@@ -67,6 +68,7 @@ def approxidate(text: _Text, now: Now) -> Approximate: ...
 def expiry_date(text: _Text, now: Now) -> Union[Approximate, Expires]: ...
 def mode_named(name: _Text) -> Tuple[DateKind, bool]: ...
 def show_date(time: Time, mode: Union[DateMode, DateKind, _Text], now: Now) -> str: ...
+def show_git_time(time: GitTime, mode: Union[DateMode, DateKind, _Text], now: Now) -> str: ...
 def age_of(time: Time, now: Now) -> Tuple[int, int, int]: ...
 def times_of_lines(
     reader: int, data: bytes, begin: int, end: int, now: Optional[Moment], raw_offsets: Optional[RawOffsets]
@@ -88,6 +90,7 @@ def connect(
     read_date: Type[ReadDate],
     approximate: Type[Approximate],
     date_mode: Type[DateMode],
+    git_time: Type[GitTime],
     expires: Tuple[Expires, ...],
     raw_offsets: Tuple[RawOffsets, ...],
     without_offset: Tuple[WithoutOffset, ...],

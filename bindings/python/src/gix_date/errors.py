@@ -150,7 +150,7 @@ class OnlyCrud(GixDateError):
 
 
 class BeforeEpoch(GixDateError):
-    """The time is before 1970, so Git cannot write it."""
+    """The time is before 1970, so Git cannot write it. When shown: that of an identity line is, or is by its own clock."""
 
     status = 31
 

@@ -4,6 +4,7 @@
 - `approxidate`: dates as people write them, as Git reads `--since` and `REF@{..}`; `approxidate_lines`: those of many lines
 - `expiry_date`: what expires, as in `gc.pruneExpire`
 - `show_date`: a date as `git log --date=MODE` shows it, also by `format:%Y-%m-%d`
+- `show_git_time`: the date of an identity line so, with the offset that the line writes
 
 Each call has a moment, an aware datetime or a `Moment`, in whose zone a text without an offset is read. docs/GIT_DATES.md has the rules.
 All refuse the moment by `NaiveDatetime`, `InvalidInstant` and `InvalidZone`. A text may be any bytes, as in Git, and ends before its first
@@ -17,7 +18,7 @@ from enum import Enum
 from typing import Dict, Optional, Type
 
 from . import _library
-from ._library import approxidate, expiry_date, parse_date, show_date
+from ._library import approxidate, expiry_date, parse_date, show_date, show_git_time
 from .errors import REFUSALS, GixDateError, Text, named
 from .lines import approxidate_lines
 from .moments import Now
@@ -214,4 +215,5 @@ class DateMode:
 __all__ = [
     "Age", "AgeUnit", "Approximate", "BackTooFar", "DateKind", "DateMode", "Expires", "FlagRefused", "NumberTooLarge", "Range", "ReadDate",
     "UnknownDirective", "UnknownMode", "Unreadable", "WidthTooLarge", "YearRefused", "age_at", "approxidate", "approxidate_lines", "expiry_date", "parse_date", "show_date",
+    "show_git_time",
 ]  # fmt: skip

@@ -48,6 +48,8 @@ class GitTime:
 
     - seconds: seconds since 1970, of a line from 0
     - offset: one decimal number, hours before the last two digits, minutes in them: `+0530` is 530
+
+    `git.show_git_time` shows it.
     """
 
     seconds: int

@@ -3,11 +3,12 @@
 use super::zone::HeldZone;
 use super::{text_or, FORMAT_ROOM, NO_SUCH_OPTION, OK};
 use crate::ffi::git::{self as ffi, CAge, CApproximate, CExact, CExpiry, CMode};
-use crate::ffi::CZone;
+use crate::ffi::{CGitTime, CZone};
 use crate::git::{
-    Age, Approximate, DateError, DateKind, DateMode, Expiry, FormatFault, ReadDate, UnknownMode,
-    MAX_SHOWN,
+    Age, Approximate, DateError, DateKind, DateMode, Expiry, FormatFault, OwnDateError, ReadDate,
+    UnknownMode, MAX_SHOWN,
 };
+use crate::signature::GitTime;
 use crate::{Error, Instant, OffsetInSeconds, Time};
 
 /// A call that reads a date.
@@ -119,6 +120,15 @@ pub(crate) fn mode_named(name: &str) -> Result<DateMode, UnknownMode> {
     }
 }
 
+impl From<DateMode> for CMode {
+    fn from(mode: DateMode) -> CMode {
+        CMode {
+            kind: mode.kind as u32,
+            local: mode.local,
+        }
+    }
+}
+
 /// The length of the text that now stands at the front of the buffer, which has room for each.
 pub(crate) fn show_date(
     time: &Time,
@@ -127,16 +137,41 @@ pub(crate) fn show_date(
     zone: &mut HeldZone,
     out: &mut [u8; MAX_SHOWN],
 ) -> Result<usize, DateError> {
-    let mode = CMode {
-        kind: mode.kind as u32,
-        local: mode.local,
-    };
+    let mode = mode.into();
     let (out, room, mut len) = (out.as_mut_ptr(), out.len(), 0);
     // SAFETY: time, mode and instant are valid, and the zone, which is valid, the buffer, of the length given, and the length are
     // places of their own.
     let status =
         unsafe { ffi::git_date_show_at(time, &mode, &now, zone.place(), out, room, &mut len) };
     stored(status, len, 0)
+}
+
+/// The same of the date of an identity line.
+pub(crate) fn show_git_time(
+    time: GitTime,
+    mode: DateMode,
+    now: Instant,
+    zone: &mut HeldZone,
+    out: &mut [u8; MAX_SHOWN],
+) -> Result<usize, OwnDateError> {
+    let (time, mode) = (CGitTime::from(time), mode.into());
+    let (zone, out, room, mut len) = (zone.place(), out.as_mut_ptr(), out.len(), 0);
+    // SAFETY: time, mode and instant are valid, and the zone, which is valid, the buffer, of the length given, and the length are
+    // places of their own.
+    let status =
+        unsafe { ffi::git_date_show_git_time_at(&time, &mode, &now, zone, out, room, &mut len) };
+    own_stored(status, len)
+}
+
+/// What such a call stored, or its refusal.
+fn own_stored<T>(status: u32, value: T) -> Result<T, OwnDateError> {
+    Err(match status {
+        OK => return Ok(value),
+        12 => OwnDateError::OffsetTooWide,
+        22 => OwnDateError::Range,
+        31 => OwnDateError::BeforeEpoch,
+        status => OwnDateError::Refused(Error::of_status(status)),
+    })
 }
 
 /// Puts what a format shows into a buffer, and answers the status.
@@ -224,7 +259,7 @@ pub(crate) fn decimal_of_offset(offset: OffsetInSeconds) -> i32 {
 #[cfg(test)]
 mod tests {
     use super::*;
-    use crate::header::{numbers, GIT_DATE};
+    use crate::header::{numbers, GIT_DATE, GIX_DATE};
 
     #[test]
     fn each_status_is_its_error() {
@@ -242,6 +277,26 @@ mod tests {
         }
         assert_eq!(stored(OK, 5, 7), Ok(5));
         assert_eq!(stored(9, 5, 7), Err(Error::InvalidInstant.into()));
+    }
+
+    #[test]
+    fn statuses_of_a_date_of_a_line_are_its_errors() {
+        let of_headers = [
+            numbers(GIX_DATE, "gix_date_status", "GIX_DATE_"),
+            numbers(GIT_DATE, "git_date_status", "GIT_DATE_"),
+        ]
+        .concat();
+        let due = [
+            ("BeforeEpoch", OwnDateError::BeforeEpoch),
+            ("OffsetTooWide", OwnDateError::OffsetTooWide),
+            ("Range", OwnDateError::Range),
+        ];
+        for (name, error) in due {
+            let (_, number) = of_headers.iter().rfind(|(of, _)| of == name).unwrap();
+            assert_eq!(own_stored(*number, ()), Err(error));
+        }
+        assert_eq!(own_stored(OK, 5), Ok(5));
+        assert_eq!(own_stored(10, 5), Err(Error::InvalidZone.into()));
     }
 
     #[test]

@@ -1,6 +1,6 @@
 //! The calls of `include/git_date.h`.
 
-use super::CZone;
+use super::{CGitTime, CZone};
 use crate::{Instant, Time};
 
 #[repr(C)]
@@ -95,6 +95,15 @@ extern "C" {
     pub fn git_date_mode_named(name: *const u8, name_len: usize, mode: *mut CMode) -> u32;
     pub fn git_date_show_at(
         time: *const Time,
+        mode: *const CMode,
+        now: *const Instant,
+        zone: *mut CZone,
+        out: *mut u8,
+        out_len: usize,
+        len: *mut usize,
+    ) -> u32;
+    pub fn git_date_show_git_time_at(
+        time: *const CGitTime,
         mode: *const CMode,
         now: *const Instant,
         zone: *mut CZone,

@@ -58,6 +58,44 @@ impl fmt::Display for DateError {
 
 impl std::error::Error for DateError {}
 
+/// Why [`show_git_time()`](super::show_git_time) refuses.
+#[derive(Clone, Copy, Debug, PartialEq, Eq, Hash)]
+#[non_exhaustive]
+pub enum OwnDateError {
+    /// The clock shows a year after 9999, or no clock of the zone shows the time. Or the moment is before 1970.
+    Range,
+    /// The time or the line's own clock is before 1970. Git ends: `Timestamp before Unix epoch`.
+    BeforeEpoch,
+    /// The offset is more than 35791394 minutes, whose seconds 32 bits do not hold.
+    OffsetTooWide,
+    /// The moment is refused ([`Error::InvalidInstant`], [`Error::InvalidZone`]), or memory for its zone
+    /// ([`Error::OutOfMemory`]).
+    Refused(Error),
+}
+
+impl From<Error> for OwnDateError {
+    fn from(error: Error) -> OwnDateError {
+        OwnDateError::Refused(error)
+    }
+}
+
+impl fmt::Display for OwnDateError {
+    fn fmt(&self, f: &mut fmt::Formatter<'_>) -> fmt::Result {
+        match self {
+            OwnDateError::Range => f.write_str(
+                "the date is after the year 9999 or leads to an instant that cannot be computed with",
+            ),
+            OwnDateError::BeforeEpoch => {
+                f.write_str("the date is before 1970 by its own clock")
+            }
+            OwnDateError::OffsetTooWide => f.write_str("the offset is more than 35791394 minutes"),
+            OwnDateError::Refused(error) => error.fmt(f),
+        }
+    }
+}
+
+impl std::error::Error for OwnDateError {}
+
 #[cfg(test)]
 mod tests {
     use super::*;
@@ -76,6 +114,19 @@ mod tests {
         let due: Vec<_> = due.iter().map(|text| text.replace("{0}", "7")).collect();
         assert_eq!(errors.map(|error| error.to_string()).as_slice(), due);
         let refused = DateError::from(Error::InvalidZone);
+        assert_eq!(refused.to_string(), Error::InvalidZone.to_string());
+    }
+
+    #[test]
+    fn messages_of_lines_are_those_of_git_date() {
+        let errors = [
+            OwnDateError::Range,
+            OwnDateError::BeforeEpoch,
+            OwnDateError::OffsetTooWide,
+        ];
+        let due = messages(include_str!("../../../../crates/git_date/src/show/own.rt"));
+        assert_eq!(errors.map(|error| error.to_string()).as_slice(), due);
+        let refused = OwnDateError::from(Error::InvalidZone);
         assert_eq!(refused.to_string(), Error::InvalidZone.to_string());
     }
 }

@@ -1,16 +1,18 @@
 //! Shown dates.
 
-use super::{DateError, DateMode};
+use super::{DateError, DateMode, OwnDateError};
 use crate::calls::{self, zone::HeldZone};
+use crate::signature::GitTime;
 use crate::{Instant, Time};
 use std::fmt;
 use std::hash::{Hash, Hasher};
 use std::ops::Deref;
 
-/// The most bytes of a shown date: those of [`DateKind::Rfc2822`](super::DateKind::Rfc2822).
-pub(crate) const MAX_SHOWN: usize = 31;
+/// The most bytes of a shown date: those of a line by [`DateKind::Rfc2822`](super::DateKind::Rfc2822), with eight digits of an
+/// offset.
+pub(crate) const MAX_SHOWN: usize = 35;
 
-/// A shown date, in a buffer of its own: a `str` of ASCII, of at most 31 bytes.
+/// A shown date, in a buffer of its own: a `str` of ASCII, of at most 31 bytes, or 35 for the date of a line.
 #[derive(Clone, Copy)]
 pub struct DateText {
     bytes: [u8; MAX_SHOWN],
@@ -26,6 +28,17 @@ impl DateText {
     ) -> Result<DateText, DateError> {
         let mut bytes = [0; MAX_SHOWN];
         let len = calls::git::show_date(&time, mode, now, zone, &mut bytes)?;
+        Ok(DateText { bytes, len })
+    }
+
+    pub(crate) fn of_line(
+        time: GitTime,
+        mode: DateMode,
+        now: Instant,
+        zone: &mut HeldZone,
+    ) -> Result<DateText, OwnDateError> {
+        let mut bytes = [0; MAX_SHOWN];
+        let len = calls::git::show_git_time(time, mode, now, zone, &mut bytes)?;
         Ok(DateText { bytes, len })
     }
 
@@ -95,6 +108,7 @@ mod tests {
 
     #[test]
     fn the_most_bytes_are_those_of_the_header() {
-        assert!(GIT_DATE.contains(&format!("\n#define GIT_DATE_MAX_SHOWN {MAX_SHOWN}\n")));
+        let most = format!("\n#define GIT_DATE_MAX_SHOWN_GIT_TIME {MAX_SHOWN}\n");
+        assert!(GIT_DATE.contains(&most));
     }
 }

@@ -2,8 +2,11 @@
 
 use super::Instant;
 use crate::calls::{self, zone::HeldZone};
-use crate::git::{Approximate, DateError, DateFormat, DateMode, DateText, Expiry, ReadDate};
+use crate::git::{
+    Approximate, DateError, DateFormat, DateMode, DateText, Expiry, OwnDateError, ReadDate,
+};
 use crate::lines::{Columns, Done, LineReader};
+use crate::signature::GitTime;
 use crate::{CarefulError, CarefulOptions, Error, OffsetInSeconds, RawOffsets, Time};
 use std::fmt;
 
@@ -104,6 +107,16 @@ impl ReadZone {
         now: Instant,
     ) -> Result<DateText, DateError> {
         DateText::shown(time, mode, now, &mut self.0)
+    }
+
+    /// The date of an identity line as [`git::show_git_time()`](crate::git::show_git_time) shows it.
+    pub fn show_git_time(
+        &mut self,
+        time: GitTime,
+        mode: DateMode,
+        now: Instant,
+    ) -> Result<DateText, OwnDateError> {
+        DateText::of_line(time, mode, now, &mut self.0)
     }
 
     /// A date as [`git::show_by_format()`](crate::git::show_by_format) shows it.

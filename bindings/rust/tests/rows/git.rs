@@ -2,9 +2,11 @@
 
 use super::{in_read_zone, now, text, time, Answer};
 use gix_date_proved::git::{
-    age_at, approxidate, expiry_date, parse_date, show_by_format, show_date, Age, Approximate,
-    DateError, DateFormat, DateKind, DateMode, DateText, Expiry, FormatFault, ReadDate,
+    age_at, approxidate, expiry_date, parse_date, show_by_format, show_date, show_git_time, Age,
+    Approximate, DateError, DateFormat, DateKind, DateMode, DateText, Expiry, FormatFault,
+    OwnDateError, ReadDate,
 };
+use gix_date_proved::signature::GitTime;
 use gix_date_proved::{bytes, Instant, Moment, ReadZone, Time};
 
 /// What the call of this name answers. `None` where there is none, or the fields are not its arguments.
@@ -26,6 +28,12 @@ pub fn answer(call: &str, row: &mut &[String]) -> Option<Answer> {
             }
             Some(shown)
         }
+        "show_git_time" => {
+            let mode = text(row)?.parse().ok()?;
+            let moment = moment(text(row)?)?;
+            let Time { seconds, offset } = time(row)?;
+            Some(of_line(GitTime { seconds, offset }, mode, &moment))
+        }
         "show_by_format" => {
             let (format, clock) = (text(row)?, text(row)?);
             let local = ["own", "local"].iter().position(|name| *name == clock)? == 1;
@@ -37,6 +45,19 @@ pub fn answer(call: &str, row: &mut &[String]) -> Option<Answer> {
         }
         _ => None,
     }
+}
+
+/// What is shown of the date of a line, which each call has to show.
+fn of_line(time: GitTime, mode: DateMode, moment: &Moment) -> Answer {
+    let shown = show_git_time(time, mode, moment);
+    let in_zone = in_read_zone(moment, |zone, now| zone.show_git_time(time, mode, now));
+    if in_zone.iter().any(|other| *other != shown) {
+        return Err("CallsDiffer".to_string());
+    }
+    shown.map(text_of).map_err(|error| match error {
+        OwnDateError::Refused(error) => format!("{error:?}"),
+        other => format!("{other:?}"),
+    })
 }
 
 /// What a format shows, which each call has to show.

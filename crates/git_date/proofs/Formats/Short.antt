@@ -101,7 +101,7 @@ pushed old new (Some text) h = (text, refl, cc)
 abbrev pub Appends : Shown → List ℕ → List ℕ → List ℕ → Type 0
 Appends shown bytes old new = option_map (λ (t : List ℕ). old ++ t) (letter_text shown (get_or bytes 1 0)) ≡ Some new
 
-passes-by : (shown : Shown) (text rest old new : List ℕ) → 2 ≤ length text → get_or text 0 0 ≡ percent → rest ≡ drop 2 text
+pub passes-by : (shown : Shown) (text rest old new : List ℕ) → 2 ≤ length text → get_or text 0 0 ≡ percent → rest ≡ drop 2 text
     → Appends shown text old new → Passes shown text rest old new
 passes-by shown [] rest old new len p is h = absurd (omega arith)
 passes-by shown (c ∷ []) rest old new len p is h = absurd (omega arith)

@@ -13,6 +13,7 @@ use crate::format::flags::{Flags, Part};
 use crate::format::pieces::{Made, Piece};
 use crate::format::shown::Shown;
 use crate::format::texts::push_directive;
+use arrayvec::ArrayString;
 use gix_date::clock::{Clock, push_hours, push_minutes};
 
 /// The text of a piece.
@@ -44,9 +45,9 @@ fn offset_part(offset: i32) -> Part
 
 /// Appends `+hhmm`.
 #[inline(always)]
-pub(crate) fn push_offset(part: &mut Part, offset: i32)
+pub(crate) fn push_offset<const CAP: usize>(part: &mut ArrayString<CAP>, offset: i32)
     requires short { unsigned_abs offset < hundred_hours }
-    requires room { array_string_len part.old + 5 ≤ 255 }
+    requires room { array_string_len part.old + 5 ≤ CAP }
     ensures { part.new.bytes ≡ part.old.bytes ++ compact_offset_text offset }
 {
     push_hours(part, offset);

@@ -109,8 +109,13 @@ impl Flags {
 }
 
 /// Appends a text, with zeros or spaces before it up to a width.
-pub(crate) fn push_filled(part: &mut Part, zeros: bool, width: u8, text: &str)
-    requires { array_string_len part.old + max width (length text.now) ≤ 255 }
+pub(crate) fn push_filled<const CAP: usize>(
+    part: &mut ArrayString<CAP>,
+    zeros: bool,
+    width: u8,
+    text: &str,
+)
+    requires { array_string_len part.old + max width (length text.now) ≤ CAP }
     ensures bytes { part.new.bytes ≡ part.old.bytes ++ filled zeros width text.now }
     ensures len { array_string_len part.new ≡ array_string_len part.old + max width (length text.now) }
 {

@@ -64,7 +64,12 @@ fn plain_at(left: usize, len: usize, plain: Plain) -> Result<Made, FormatFault>
 }
 
 /// What these flags, this width and this letter are, from whose percent sign on `left` bytes are left.
-fn made_by(left: usize, marks: &[u8], digits: &[u8], letter: u8) -> Result<Made, FormatFault>
+pub(crate) fn made_by(
+    left: usize,
+    marks: &[u8],
+    digits: &[u8],
+    letter: u8,
+) -> Result<Made, FormatFault>
     ensures { result ≡ made_by left marks.now digits.now letter }
 {
     if let Some(plain) = plain_lettered(letter) {

@@ -33,7 +33,7 @@ fn seconds_said(clock: Clock, seconds: i64) -> Option<i64>
 }
 
 #[tactic(auto, unfolding(crate::specs::Formats::Shown::own_shown))]
-fn own_shown(time: Time) -> Option<Shown>
+pub(crate) fn own_shown(time: Time) -> Option<Shown>
     ensures { option_map shown_of result ≡ own_shown time }
 {
     let clock = own_clock(time)?;

@@ -7,6 +7,7 @@ ghost use Rattle.git_date.specs.Formats.Texts.{mark_code, inner_of, inner_text, 
 use crate::format::directives::{Composite, Directive, Name, Number};
 use crate::format::flags::{Flags, Pad, Part, push_filled};
 use crate::format::names::cased_name;
+use arrayvec::ArrayString;
 use gix_date::clock::Clock;
 
 /// A character of a composite.
@@ -148,8 +149,13 @@ impl Number {
 }
 
 /// Appends a number in decimal, filled.
-fn push_number(part: &mut Part, number: Number, flags: Flags, t: Clock)
-    requires { array_string_len part.old + max 9 flags.width ≤ 255 }
+pub(crate) fn push_number<const CAP: usize>(
+    part: &mut ArrayString<CAP>,
+    number: Number,
+    flags: Flags,
+    t: Clock,
+)
+    requires { array_string_len part.old + max 9 flags.width ≤ CAP }
     ensures bytes { part.new.bytes ≡ part.old.bytes ++ number_text number flags t }
     ensures len { array_string_len part.new ≤ array_string_len part.old + max 9 flags.width }
 {
@@ -163,8 +169,13 @@ fn push_number(part: &mut Part, number: Number, flags: Flags, t: Clock)
 }
 
 /// Appends a name in its letter case, filled.
-fn push_name(part: &mut Part, name: Name, flags: Flags, t: Clock)
-    requires { array_string_len part.old + max 9 flags.width ≤ 255 }
+pub(crate) fn push_name<const CAP: usize>(
+    part: &mut ArrayString<CAP>,
+    name: Name,
+    flags: Flags,
+    t: Clock,
+)
+    requires { array_string_len part.old + max 9 flags.width ≤ CAP }
     ensures bytes { part.new.bytes ≡ part.old.bytes ++ name_said name flags t }
     ensures len { array_string_len part.new ≤ array_string_len part.old + max 9 flags.width }
 {

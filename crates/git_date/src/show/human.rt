@@ -33,7 +33,7 @@ fn is_few_days_before(t: Clock, today: Clock) -> bool
     t.month() == today.month() && t.day() < today.day() && today.day() <= t.day() + 4
 }
 
-fn distance_of(t: Clock, today: Clock) -> Distance
+pub(crate) fn distance_of(t: Clock, today: Clock) -> Distance
     ensures { result ≡ distance_of t.date today.date }
 {
     if t.year() != today.year() {
@@ -71,8 +71,9 @@ fn year_text(t: Clock) -> DateText
 }
 
 /// `Www hh:mm`, and the offset if today has another.
-fn few_days_text(local: bool, t: Clock, today: Clock) -> DateText
-    ensures { result.bytes ≡ few_days_text local t today }
+pub(crate) fn few_days_text(local: bool, t: Clock, today: Clock) -> DateText
+    ensures bytes { result.bytes ≡ few_days_text local t today }
+    ensures len { array_string_len result ≤ 15 }
 {
     let mut text = ArrayString::new();
     push_weekday(&mut text, t);

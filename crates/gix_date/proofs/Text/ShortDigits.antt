@@ -1,8 +1,7 @@
 -- A few digits, read one after the other.
-use Rattle.std.proofs.Common.{◌≡◌, ◌∙◌, ℕ, ◌+◌, ◌-◌, ◌*◌, ◌<◌, ◌≤◌, ◌^◌, true, false, List, [], ◌∷◌, ◌++◌, length, get_or, take, drop, ap, sym, refl, arith, length-take-le, pos, neg_ℤ, Some, FitsSigned, w64}
+use Rattle.std.proofs.Common.{◌≡◌, ℕ, ◌+◌, ◌-◌, ◌*◌, ◌<◌, ◌≤◌, ◌^◌, true, false, List, [], ◌∷◌, length, get_or, take, drop, ap, sym, refl, arith, length-take-le, pos, neg_ℤ, Some, FitsSigned, w64}
 use Rattle.std.proofs.lemmas.Bool.{and_parts as both}
 use Rattle.std.proofs.lemmas.Bool.Decides.{nat_tests}
-use Rattle.std.proofs.lemmas.List.Folds.{list_all-append}
 use Rattle.std.proofs.lemmas.Int.Digits.{digits_value_more, digits_more}
 use Rattle.std.proofs.lemmas.Str.Parse.{digits_value_short}
 use Rattle.std.specs.Char.{is_ascii_digit, digit_value}
@@ -14,7 +13,7 @@ use Rattle.gix_date.proofs.Text.Ints.{own, int_value_from}
 use Rattle.std.proofs.lemmas.Int.{ints}
 use Rattle.std.proofs.Math.Seq.{take-length}
 
-digit_is : (c : ℕ) → is_ascii_digit c ≡ true → digit_value c ≡ c - 48
+pub digit_is : (c : ℕ) → is_ascii_digit c ≡ true → digit_value c ≡ c - 48
 digit_is c h = grind (arith, nat_tests, h)
 
 -- the number so far
@@ -30,23 +29,6 @@ value-more ds i within h =
 
 pub digits-more : (ds : List ℕ) (i : ℕ) → i < length ds → all_ascii_digits (take i ds) ≡ true → is_ascii_digit (get_or ds i 0) ≡ true → all_ascii_digits (take (i + 1) ds) ≡ true
 digits-more ds i within h d = own.from (take (i + 1) ds) (digits_more 10 ds i within (own.to (take i ds) h) (grind (arith, nat_tests, d)))
-
--- ten digits, as two times five
-abbrev five : List ℕ → ℕ → List ℕ
-five ds i = get_or ds i 0 ∷ get_or ds (i + 1) 0 ∷ get_or ds (i + 2) 0 ∷ get_or ds (i + 3) 0 ∷ get_or ds (i + 4) 0 ∷ []
-
-ten-are : (ds : List ℕ) → length ds ≡ 10 → ds ≡ five ds 0 ++ five ds 5
-ten-are (a ∷ b ∷ c ∷ d ∷ e ∷ f ∷ g ∷ h ∷ i ∷ j ∷ []) n = refl
-ten-are ds n = absurd (omega (arith, n))
-
-pub ten-all : (ds : List ℕ) → length ds ≡ 10 → all_ascii_digits (five ds 0) ≡ true → all_ascii_digits (five ds 5) ≡ true → all_ascii_digits ds ≡ true
-ten-all ds n p q = ap all_ascii_digits (ten-are ds n) ∙ list_all-append is_ascii_digit (five ds 0) (five ds 5) ∙ rw (p, q) refl
-
-pub ten-value : (ds : List ℕ) (high low : ℕ) → length ds ≡ 10 → high ≡ digits_value 10 (five ds 0) → low ≡ digits_value 10 (five ds 5)
-    → 100000 * high + low ≡ digits_value 10 ds
-ten-value ds high low n p q =
-    let whole : digits_value 10 ds ≡ digits_value 10 (five ds 0 ++ five ds 5) = ap (digits_value 10) (ten-are ds n) in
-    omega (arith, p, q, whole)
 
 no-minus : (c : ℕ) → is_ascii_digit c ≡ true → (c == 45) ≡ false
 no-minus c h = grind (arith, nat_tests, h)

@@ -1,10 +1,10 @@
 -- How the time of a commit header is read.
-use Rattle.std.specs.Prelude.{◌≡◌, ℕ, List, ℤ, pos, if◌then◌else◌, Option, Some, None, Result, ok_or, take_while, ◌∷◌, ◌++◌}
+use Rattle.std.specs.Prelude.{◌≡◌, ◌≢◌, ℕ, ◌<◌, List, ℤ, pos, if◌then◌else◌, Option, Some, None, Result, ok_or, take_while, ◌∷◌, ◌++◌}
 use Rattle.std.specs.Option.{option_or, option_map_or}
 use Rattle.std.specs.Char.{is_ascii_digit}
 use Rattle.gix_date.specs.Text.Characters.{has_colon, space}
 use Rattle.gix_date.specs.Text.Front.{◌>>=◌}
-use Rattle.gix_date.specs.Text.Numbers.{int_value}
+use Rattle.gix_date.specs.Text.Numbers.{IsPairAt, int_value}
 use Rattle.gix_date.specs.Fields.Offsets.{offset_fields, offset_of}
 use Rattle.gix_date.specs.Text.SpaceWords.{space_words, first_words}
 use Rattle.gix_date.specs.declared.error.Error.{Error}
@@ -42,3 +42,7 @@ pub record IsUsualHeader (text : List ℕ) (seconds : ℤ) (fields : OffsetField
   pub whole : text ≡ front ++ space ∷ zone
   pub is_seconds : int_value front ≡ Some seconds
   pub are_fields : offset_fields zone ≡ Some fields
+
+-- each of eight pairs of bytes but the sixth is two digits, of this number
+abbrev pub ArePairsButSixth : List ℕ → List ℕ → Type 0
+ArePairsButSixth text numbers = (k : ℕ) → k < 8 → k ≢ 5 → IsPairAt text numbers k

@@ -1,5 +1,5 @@
 -- Numbers as texts.
-use Rattle.std.specs.Prelude.{ℕ, ◌+◌, ◌-◌, ◌*◌, ◌/◌, ◌%◌, ◌^◌, Bool, ◌&&◌, List, [], ◌∷◌, length, ℤ, pos, negsuc, nat_lt, if◌then◌else◌, Option, Some, None, option_map}
+use Rattle.std.specs.Prelude.{◌≡◌, ◌<◌, get_or, ℕ, ◌+◌, ◌-◌, ◌*◌, ◌/◌, ◌%◌, ◌^◌, Bool, ◌&&◌, List, [], ◌∷◌, length, ℤ, pos, negsuc, nat_lt, if◌then◌else◌, Option, Some, None, option_map}
 use Rattle.std.specs.Char.{is_ascii_digit}
 use Rattle.std.specs.Fmt.{signed_decimal}
 use Rattle.std.specs.Option.{option_or}
@@ -35,6 +35,14 @@ int_value text = if is_int_text text then Some (signed_digits_value 10 text) els
 abbrev pub two_digit_value : ℕ → ℕ → Option ℕ
 two_digit_value tens ones =
     if is_ascii_digit tens && is_ascii_digit ones then Some (10 * (tens - digit_zero) + (ones - digit_zero)) else None
+
+-- the pair k of the bytes is two digits, of the number k
+abbrev pub IsPairAt : List ℕ → List ℕ → ℕ → Type 0
+IsPairAt text numbers k = two_digit_value (get_or text (2 * k) 0) (get_or text (2 * k + 1) 0) ≡ Some (get_or numbers k 0)
+
+-- the first n pairs of the bytes are two digits each, of these numbers
+abbrev pub ArePairs : ℕ → List ℕ → List ℕ → Type 0
+ArePairs n text numbers = (k : ℕ) → k < n → IsPairAt text numbers k
 
 -- the number that two digits at the front write
 unfoldable pub read_two_digits : List ℕ → ReadFront ℕ

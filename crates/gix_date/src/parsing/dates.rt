@@ -17,6 +17,7 @@ use crate::parsing::fast::fast_number;
 use crate::parsing::fields::skip_char;
 use crate::parsing::git::parse_git_date_format;
 use crate::parsing::numbers::{fast_int, parse_int};
+use crate::parsing::patterns::usual::{MIN_USUAL_LEN, usual_time};
 use crate::parsing::patterns::{parse_dashed, parse_named_day, parse_rfc2822};
 use crate::parsing::raw::{RawOffsets, fast_raw, parse_raw};
 use crate::parsing::relative;
@@ -124,19 +125,23 @@ fn with_copy(alloc: Global, input: &str, refusal: ParseError) -> Error
     }
 }
 
-/// The answer of the first family that holds the text. Raw texts and numbers in their usual form come first, since no
-/// other family holds them.
+/// The answer of the first family that holds the text. Raw texts, numbers and dates in their usual form come first, since
+/// no family before theirs holds them. Their lengths tell which is tried.
 // Inlined into both callers, so that neither hands the answer over in memory.
 #[inline(always)]
 pub(crate) fn first_answer(input: &str, raw: RawOffsets) -> Option<Answer<'_>>
     ensures first { option_map answer_of result ≡ first_family_by (allows raw) input.now }
     ensures offset_fits { IfSome result HasJiffOffset }
 {
-    if let Some(time) = fast_raw(input, raw) {
+    if input.len() < MIN_USUAL_LEN {
+        if let Some(time) = fast_raw(input, raw) {
+            return Some(Answer::Absolute(time));
+        }
+        if let Some(seconds) = fast_number(input) {
+            return epoch_answer(seconds);
+        }
+    } else if let Some(time) = usual_time(input.as_bytes()) {
         return Some(Answer::Absolute(time));
-    }
-    if let Some(seconds) = fast_number(input) {
-        return epoch_answer(seconds);
     }
     answer_by_shape(Shape::of(input), input, raw)
 }

@@ -1,14 +1,21 @@
 //! Fast paths for usual headers and numbers. `None` means only that the text has another form.
-ghost use Rattle.std.specs.Prelude.{◌≡◌, IfSome, Some};
-ghost use Rattle.gix_date.specs.Header.Reading.{header_time, IsUsualHeader};
+ghost use Rattle.std.specs.Prelude.{◌≡◌, IfSome, Some, length};
+ghost use Rattle.gix_date.specs.Header.Reading.{header_time, ArePairsButSixth, IsUsualHeader};
 ghost use Rattle.gix_date.specs.Text.Numbers.{int_value};
 
-use crate::parsing::numbers::{MAX_DIGITS, fast_int};
-use crate::parsing::offset::{OffsetFields, parse_offset_fields};
+use crate::parsing::numbers::{MAX_DIGITS, TEN_AND_ONE, fast_int};
+use crate::parsing::offset::{OffsetFields, parse_offset_fields, sign_of};
 use crate::time::{SecondsSinceUnixEpoch, Time};
+use std::simd::prelude::*;
 
 /// The bytes of a space and of an offset such as `+0800`.
 pub(crate) const ZONE_BYTES: usize = 6;
+
+/// The bytes of a header of ten digits.
+const TEN_DIGIT_BYTES: usize = 16;
+
+/// Which of them are its space and its sign, one bit each.
+const SPACE_AND_SIGN: u64 = 0b1100_0000_0000;
 
 /// The least bytes of a bare epoch.
 const EPOCH_BYTES: usize = 9;
@@ -22,7 +29,7 @@ pub(crate) fn fast_header(input: &str) -> Option<Time>
     Some(Time::new(seconds, fields.in_seconds()))
 }
 
-/// The seconds and the offset's fields of a usual header.
+/// The seconds and the offset's fields of a usual header. Nearly all have ten digits.
 #[inline(always)]
 pub(crate) fn fast_fields(input: &str) -> Option<(SecondsSinceUnixEpoch, OffsetFields)>
     ensures { IfSome result (λ found. IsUsualHeader input.now found.0 found.1) }
@@ -38,9 +45,50 @@ pub(crate) fn fast_fields(input: &str) -> Option<(SecondsSinceUnixEpoch, OffsetF
     if bytes[place] != b' ' {
         return None;
     }
+    if let Some(found) = ten_digit_fields(bytes) {
+        return Some(found);
+    }
     let seconds = fast_int(&bytes[..place])?;
     let fields = parse_offset_fields(false, &input[place + 1..])?;
     Some((seconds, fields))
+}
+
+/// The seconds and the offset's fields of a header of ten digits, one space, a sign and four digits.
+#[inline(always)]
+fn ten_digit_fields(bytes: &[u8]) -> Option<(SecondsSinceUnixEpoch, OffsetFields)>
+    ensures { IfSome result (λ found. IsUsualHeader bytes.now found.0 found.1) }
+{
+    match bytes {
+        [_, _, _, _, _, _, _, _, _, _, b' ', mark, _, _, _, _] => {
+            let [a, b, c, d, e, _, hours, minutes] = pairs_but_one(bytes)?;
+            let sign = sign_of(*mark)?;
+            let high = 100 * (100 * u64::from(a) + u64::from(b)) + u64::from(c);
+            let seconds = 100 * (100 * high + u64::from(d)) + u64::from(e);
+            let fields = OffsetFields {
+                sign,
+                hours: hours as u8,
+                minutes: minutes as u8,
+                seconds: None,
+            };
+            Some((seconds as i64, fields))
+        }
+        _ => None,
+    }
+}
+
+/// The numbers of the eight pairs of 16 bytes, if all but the sixth pair are digits, and that one is none.
+#[inline(always)]
+fn pairs_but_one(bytes: &[u8]) -> Option<[u16; 8]>
+    requires { length bytes.now ≡ TEN_DIGIT_BYTES }
+    ensures { IfSome result (λ pairs. ArePairsButSixth bytes.now pairs) }
+{
+    let digits = u8x16::from_slice(bytes) - u8x16::splat(b'0');
+    let others = digits.simd_ge(u8x16::splat(10)).to_bitmask();
+    if others != SPACE_AND_SIGN {
+        return None;
+    }
+    let sums = u16x8::from_le_bytes(digits) * u16x8::splat(TEN_AND_ONE);
+    Some((sums >> u16x8::splat(8)).to_array())
 }
 
 /// The value of a usual epoch: digits, perhaps after a minus, of 9 to 18 bytes in all. Two bytes reject nearly all dates:

@@ -2,19 +2,24 @@
 //!
 //! A `read_` function takes the front of a text, and gives the value and the rest; a `parse_` function takes a whole
 //! text, or the bytes of one field.
-ghost use Rattle.std.specs.Prelude.{◌≡◌, ◌<◌, ◌≤◌, ◌^◌, [], ◌∷◌, IfSome, Some, drop, length, take_while, true};
+ghost use Rattle.std.specs.Prelude.{◌≡◌, ◌<◌, ◌≤◌, ◌^◌, IfSome, Some, drop, length, take_while, true};
 ghost use Rattle.std.specs.List.{prefix_len, list_all};
 ghost use Rattle.std.specs.Char.{is_ascii_digit};
 ghost use Rattle.std.specs.Str.{all_ascii_digits};
 ghost use Rattle.std.specs.Str.Parse.{digits_value};
 ghost use Rattle.gix_date.specs.Text.Front.{read_view};
-ghost use Rattle.gix_date.specs.Text.Numbers.{int_value, two_digit_value, read_two_digits, read_field, read_year};
+ghost use Rattle.gix_date.specs.Text.Numbers.{ArePairs, int_value, two_digit_value, read_two_digits, read_field, read_year};
+
+use std::simd::prelude::*;
 
 /// The most digits that are read at once: an `i64` holds any so many.
 pub(crate) const MAX_DIGITS: usize = 18;
 
-/// What five bytes `0` come to, weighted as digits are: 11111 times that byte.
-const FIVE_ZEROS: u64 = 533_328;
+/// The bytes of four pairs of digits.
+const FOUR_PAIRS: usize = 8;
+
+/// The weights of two digits in a lane of 16 bits: its upper byte becomes ten times the first and the second.
+pub(crate) const TEN_AND_ONE: u16 = 10 * 256 + 1;
 
 /// The value of an optional sign and digits, where an `i64` can hold it. Nearly all numbers are short.
 pub(crate) fn parse_int(word: &str) -> Option<i64>
@@ -70,33 +75,28 @@ fn parse_ten_digits(digits: &[u8]) -> Option<u64>
     ensures small { IfSome result (λ n. n < 10 ^ 18) }
 {
     match digits {
-        [a, b, c, d, e, f, g, h, i, j] => {
-            let high = parse_five_digits(*a, *b, *c, *d, *e)?;
-            let low = parse_five_digits(*f, *g, *h, *i, *j)?;
-            Some(100_000 * high + low)
+        [_, _, _, _, _, _, _, _, tens, ones] => {
+            let [a, b, c, d] = four_pairs(digits)?;
+            let last = parse_two_digits(*tens, *ones)?;
+            let high = 100 * (100 * u64::from(a) + u64::from(b)) + u64::from(c);
+            Some(100 * (100 * high + u64::from(d)) + u64::from(last))
         }
         _ => None,
     }
 }
 
-/// The number that five digits write.
+/// The numbers of the first four pairs of digits.
 #[inline(always)]
-fn parse_five_digits(a: u8, b: u8, c: u8, d: u8, e: u8) -> Option<u64>
-    ensures digits { IfSome result (λ n. all_ascii_digits (a ∷ b ∷ c ∷ d ∷ e ∷ []) ≡ true) }
-    ensures value { IfSome result (λ n. n ≡ digits_value 10 (a ∷ b ∷ c ∷ d ∷ e ∷ [])) }
-    ensures small { IfSome result (λ n. n < 10 ^ 5) }
+fn four_pairs(bytes: &[u8]) -> Option<[u16; 4]>
+    requires { FOUR_PAIRS ≤ length bytes.now }
+    ensures { IfSome result (λ numbers. ArePairs 4 bytes.now numbers) }
 {
-    if !(a.is_ascii_digit()
-        && b.is_ascii_digit()
-        && c.is_ascii_digit()
-        && d.is_ascii_digit()
-        && e.is_ascii_digit())
-    {
+    let digits = u8x8::from_slice(bytes) - u8x8::splat(b'0');
+    if digits.simd_ge(u8x8::splat(10)).to_bitmask() != 0 {
         return None;
     }
-    let first = 10 * (10 * u64::from(a) + u64::from(b)) + u64::from(c);
-    let value = 10 * (10 * first + u64::from(d)) + u64::from(e);
-    Some(value - FIVE_ZEROS)
+    let sums = u16x4::from_le_bytes(digits) * u16x4::splat(TEN_AND_ONE);
+    Some((sums >> u16x4::splat(8)).to_array())
 }
 
 /// Whether bytes are digits alone, or there are none.

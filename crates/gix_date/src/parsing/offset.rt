@@ -2,6 +2,7 @@
 ghost use Rattle.std.specs.Prelude.{◌≡◌, ◌<◌, IfSome, true, false, if◌then◌else◌, option_and_then};
 ghost use Rattle.gix_date.specs.Fields.DateOffsets.{jiff_offset, last_colon_pair, strict_offset};
 ghost use Rattle.gix_date.specs.Text.Front.{skip_char, read_view};
+ghost use Rattle.gix_date.specs.Fields.FieldTexts.{IsSign};
 ghost use Rattle.gix_date.specs.Fields.Offsets.{read_sign, last_pair, offset_fields};
 ghost use Rattle.gix_date.specs.Text.Characters.{colon};
 ghost use Rattle.gix_date.specs.Text.Numbers.{read_two_digits};
@@ -78,6 +79,18 @@ pub(crate) fn read_sign(text: &str) -> Option<(Sign, &str)>
         return Some((Sign::Plus, rest));
     }
     Some((Sign::Minus, skip_char('-', text)?))
+}
+
+/// The sign of a mark.
+#[inline(always)]
+pub(crate) fn sign_of(mark: u8) -> Option<Sign>
+    ensures { IfSome result (λ sign. IsSign mark sign) }
+{
+    match mark {
+        b'+' => Some(Sign::Plus),
+        b'-' => Some(Sign::Minus),
+        _ => None,
+    }
 }
 
 /// Two digits at the front, with a colon before them or without.

@@ -22,6 +22,7 @@ use crate::time::{MAX_OFFSET_IN_SECONDS, OffsetInSeconds, Time};
 
 pub(crate) mod fields;
 pub(crate) mod offset;
+pub(crate) mod usual;
 
 /// Reads a date that begins with a day: the day alone, `2018-12-24`, which is its midnight in UTC; ISO 8601 as Git
 /// prints it, `2022-08-18 12:45:06 +0800`; or its strict form, `2022-08-18T12:45:06+08:00`. The day is read once for

@@ -1,8 +1,8 @@
 //! Fast path for printing: writes the text of a named format without `jiff`.
-ghost use Rattle.std.specs.Prelude.{◌≡◌, ◌≤◌, ◌↔◌, [], length, IsTrue, IsSome, IfSome, IfNone, IfOk, IfErr, string_bytes};
+ghost use Rattle.std.specs.Prelude.{◌≡◌, ◌≤◌, ◌<◌, ◌*◌, ◌↔◌, [], length, take, IsTrue, IsSome, IfSome, IfOk, IfErr, string_bytes};
 ghost use Rattle.gix_date.specs.Printing.Formats.{IsPatternText};
 ghost use Rattle.gix_date.specs.Printing.FormatBuf.{IsNamedPattern, HasNamedText};
-ghost use Rattle.gix_date.specs.Printing.LocalClocks.{clock_of, HasFourDigitFields};
+ghost use Rattle.gix_date.specs.Printing.LocalClocks.{clock_of, HasFourDigitFields, IsShowable};
 ghost use Rattle.gix_date.specs.Printing.NamedTexts.{IsShownByAll};
 ghost use Rattle.gix_date.specs.Fields.Zoned.{IsConvertible};
 ghost use Rattle.gix_date.specs.declared.error.Error.TheVariants as errors;
@@ -18,6 +18,7 @@ use crate::time::{
 };
 use arrayvec::ArrayString;
 use std::alloc::Global;
+use std::simd::prelude::*;
 
 // The patterns of the named formats: those of `crate::time::format` have them, and the fast path matches them.
 pub(crate) const SHORT_PATTERN: &str = "%Y-%m-%d";
@@ -33,6 +34,15 @@ pub(crate) const GIT_RFC2822_PATTERN: &str = "%a, %-d %b %Y %H:%M:%S %z";
 pub(crate) const GITOXIDE_PATTERN: &str = "%a %b %d %Y %H:%M:%S %z";
 
 pub(crate) const DEFAULT_PATTERN: &str = "%a %b %-d %H:%M:%S %Y %z";
+
+/// The most bytes of a named pattern that shows numbers alone.
+const NUMBERS_LEN: usize = 20;
+
+/// The bytes of a pattern that are compared at once.
+const BLOCK: usize = 16;
+
+/// A bit for each of them.
+const ALL_LANES: u64 = 0xffff;
 
 /// The most seconds that the offset of a zone has, either way.
 const MAX_ZONE_OFFSET: u32 = 93_599;
@@ -77,38 +87,86 @@ impl Time {
     }
 }
 
-/// What the clock of such a time shows.
-fn named_clock(time: Time) -> Option<Clock>
-    ensures shown { IfSome result (λ clock. clock ≡ clock_of time) }
-    ensures converts { IfSome result (λ _. IsConvertible time) }
-    ensures four_digits { IfSome result (λ _. HasFourDigitFields time) }
-    ensures none { IfNone result (¬ (IsConvertible time × HasFourDigitFields time)) }
+/// Appends what a named pattern shows by the clock of a time. Only patterns with names take the day of the week, and these
+/// are the longer ones.
+#[inline(always)]
+fn push_named(text: &mut FormatBuf, pattern: &str, time: Time) -> Option<()>
+    requires empty { text.old.bytes ≡ [] }
+    requires showable { IsShowable time }
+    ensures shown { IfSome result (λ _. IsShownByAll pattern.now (clock_of time) text.new.bytes) }
+    ensures succeeds { IsSome result ↔ IsNamedPattern pattern.now }
 {
-    if has_named_clock(time) {
-        Some(Clock::of(time))
+    if pattern.len() <= NUMBERS_LEN {
+        push_numbers(text, pattern, Clock::of(time))
     } else {
-        None
+        push_names(text, pattern, Clock::of(time))
     }
 }
 
-/// Appends what a named pattern shows by such a clock.
+/// Appends what a named pattern without names shows by a clock.
 #[inline(always)]
-fn push_named(text: &mut FormatBuf, pattern: &str, t: Clock) -> Option<()>
-    requires { text.old.bytes ≡ [] }
+fn push_numbers(text: &mut FormatBuf, pattern: &str, t: Clock) -> Option<()>
+    requires empty { text.old.bytes ≡ [] }
+    requires short { length pattern.now ≤ NUMBERS_LEN }
     ensures shown { IfSome result (λ _. IsShownByAll pattern.now t text.new.bytes) }
     ensures succeeds { IsSome result ↔ IsNamedPattern pattern.now }
 {
-    match pattern {
-        SHORT_PATTERN => push_date(text, t),
-        ISO8601_PATTERN => push_iso8601(text, t),
-        ISO8601_STRICT_PATTERN => push_iso8601_strict(text, t),
-        DEFAULT_PATTERN => push_default(text, t),
-        RFC2822_PATTERN => push_rfc2822(text, t),
-        GIT_RFC2822_PATTERN => push_git_rfc2822(text, t),
-        GITOXIDE_PATTERN => push_gitoxide(text, t),
-        _ => return None,
+    if is_pattern(pattern, ISO8601_PATTERN) {
+        push_iso8601(text, t);
+    } else if is_pattern(pattern, ISO8601_STRICT_PATTERN) {
+        push_iso8601_strict(text, t);
+    } else if pattern == SHORT_PATTERN {
+        push_date(text, t);
+    } else {
+        return None;
     }
     Some(())
+}
+
+/// Appends what a named pattern with names shows by a clock.
+#[inline(always)]
+fn push_names(text: &mut FormatBuf, pattern: &str, t: Clock) -> Option<()>
+    requires empty { text.old.bytes ≡ [] }
+    requires long { NUMBERS_LEN < length pattern.now }
+    ensures shown { IfSome result (λ _. IsShownByAll pattern.now t text.new.bytes) }
+    ensures succeeds { IsSome result ↔ IsNamedPattern pattern.now }
+{
+    if is_pattern(pattern, DEFAULT_PATTERN) {
+        push_default(text, t);
+    } else if is_pattern(pattern, RFC2822_PATTERN) {
+        push_rfc2822(text, t);
+    } else if is_pattern(pattern, GIT_RFC2822_PATTERN) {
+        push_git_rfc2822(text, t);
+    } else if is_pattern(pattern, GITOXIDE_PATTERN) {
+        push_gitoxide(text, t);
+    } else {
+        return None;
+    }
+    Some(())
+}
+
+/// Whether a pattern is this one, of 16 to 32 bytes: its first 16 bytes and its last 16, which cover it, are compared.
+#[inline(always)]
+fn is_pattern(pattern: &str, name: &str) -> bool
+    requires { (BLOCK ≤ length name.now) × (length name.now ≤ 2 * BLOCK) }
+    ensures { IsTrue result ↔ (pattern.now ≡ name.now) }
+{
+    let (a, b) = (pattern.as_bytes(), name.as_bytes());
+    if a.len() != b.len() {
+        return false;
+    }
+    let place = b.len() - BLOCK;
+    begin_alike(a, b) & begin_alike(&a[place..], &b[place..])
+}
+
+/// Whether the first 16 bytes are the same.
+#[inline(always)]
+fn begin_alike(a: &[u8], b: &[u8]) -> bool
+    requires { (BLOCK ≤ length a.now) × (BLOCK ≤ length b.now) }
+    ensures { IsTrue result ↔ (take BLOCK a.now ≡ take BLOCK b.now) }
+{
+    let same = u8x16::from_slice(a).simd_eq(u8x16::from_slice(b));
+    same.to_bitmask() == ALL_LANES
 }
 
 /// A copy of a text.
@@ -129,9 +187,11 @@ pub(crate) fn named_text(pattern: &str, time: Time) -> Option<FormatBuf>
     ensures text { IfSome result (λ text. IsPatternText time pattern.now text.bytes) }
     ensures succeeds { IsSome result ↔ HasNamedText time pattern.now }
 {
-    let t = named_clock(time)?;
+    if !has_named_clock(time) {
+        return None;
+    }
     let mut text = ArrayString::new();
-    push_named(&mut text, pattern, t)?;
+    push_named(&mut text, pattern, time)?;
     Some(text)
 }
 

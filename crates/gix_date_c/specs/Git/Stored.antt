@@ -26,6 +26,11 @@ stored_text Raw t = raw_answer t
 abbrev pub stored_answer : StoredMode → Time → Result (List ℕ) Status
 stored_answer mode t = if lt_z t.seconds (pos 0) then Err GitRange else stored_text mode t
 
+-- why there are not both a zone and an instant: the zone is looked at first
+abbrev pub first_refusal : Result (Unit {0}) Status → Result (Unit {0}) Status → Result (Unit {0}) Status
+first_refusal (Ok _) instant = instant
+first_refusal (Err status) instant = Err status
+
 -- the same where there are an instant and a zone
 abbrev pub stored_at : StoredMode → Time → Result (Unit {0}) Status → Result (List ℕ) Status
 stored_at mode t (Ok _) = stored_answer mode t

@@ -1,9 +1,11 @@
 //! Dates by Git's formats.
 ghost use Rattle.std.specs.Prelude.{◌≡◌, Some, Ok, string_bytes, IsTrue};
 ghost use Rattle.std.specs.Result.{result_map_both};
+ghost use Rattle.jiff.specs.Types.{TimeZone as Zone};
 ghost use Rattle.jiff.specs.Words.{plain_zone};
 ghost use Rattle.git_date.specs.Formats.Format.{format_bytes};
 ghost use Rattle.gix_date_c.specs.Git.Formats.{Asked, IsByFormat, IsByFormatAt, IsByFormatIn, checked_bytes, format_refusal, text_of};
+ghost use Rattle.gix_date_c.specs.Git.Modes.{local_of};
 ghost use Rattle.gix_date_c.specs.Values.Buffers.{Outcome, PutsRead, outcome_of};
 ghost use Rattle.gix_date_c.specs.Values.Times.{load_time};
 ghost use Rattle.gix_date_c.specs.Zones.{IsSame, IsZone};
@@ -15,7 +17,10 @@ use crate::values::status::Status;
 use crate::values::text::utf8_text;
 use crate::values::time::{CTime, load_time};
 use crate::zone::CZone;
-use git_date::{DateFormat, FormatFault, ShortText, ShowError, short_by_format, text_by_format_in};
+use git_date::{
+    BriefText, DateFormat, FormatFault, ShortText, ShowError, brief_by_own_clock, short_by_format,
+    text_by_format_in,
+};
 use gix_date::Time;
 use jiff::tz::TimeZone;
 use std::alloc::Global;
@@ -23,6 +28,30 @@ use std::alloc::Global;
 /// Puts a date into a buffer by one of Git's formats. A local clock is that of a zone that C holds.
 #[unsafe(no_mangle)]
 pub extern "C" fn git_date_show_by_format(
+    alloc: Global,
+    time: &CTime,
+    format: &[u8],
+    local: u8,
+    zone: &mut CZone,
+    out: &mut [u8],
+    len: &mut usize,
+    place: &mut usize,
+) -> u32
+    ensures shown { PutsRead
+        (IsByFormatIn (record { time = load_time time.now; format = format.now; local = local }) (IsZone zone.old))
+        (out.old, place.old) (record { bytes = out.new; len = len.new; status = result }, place.new) }
+    ensures zone { IsSame zone.old zone.new }
+{
+    let mut brief = BriefText::new();
+    if zone.is_zone() && is_own_brief(load_time(time), format, local, &mut brief) {
+        return store_text(Ok(brief.as_str()), out, len);
+    }
+    store_by_format(alloc, time, format, local, zone, out, len, place)
+}
+
+/// The same of any text and clock. By itself, since it takes a text of its own.
+#[inline(never)]
+fn store_by_format(
     alloc: Global,
     time: &CTime,
     format: &[u8],
@@ -49,6 +78,20 @@ pub extern "C" fn git_date_show_by_format(
     );
     zone.give_back(alloc, taken);
     store_shown(store_place(answer, place), &short, out, len)
+}
+
+/// Puts what a format shows of a time by its own clock into a brief text, for which no zone matters. `false` says nothing.
+fn is_own_brief(time: Time, format: &[u8], local: u8, brief: &mut BriefText) -> bool
+    ensures { IsTrue result
+        → (zone : Zone) → IsByFormat time zone (local_of local) (checked_bytes format.now) (Ok brief.new.bytes) }
+{
+    if local != 0 {
+        return false;
+    }
+    match utf8_text(format) {
+        Ok(text) => brief_by_own_clock(time, text, brief),
+        Err(_) => false,
+    }
 }
 
 /// What a format shows of a time in a zone, where there are all three.

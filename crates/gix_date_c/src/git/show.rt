@@ -39,7 +39,7 @@ pub extern "C" fn git_date_mode_named(name: &[u8], mode: &mut CMode) -> u32
     store(mode_named(name), mode)
 }
 
-/// Puts a date into a buffer as Git shows it, at a moment in a zone that C holds.
+/// Puts a date into a buffer as Git shows it, at a moment in a zone that C holds. A mode that needs no clock takes no zone.
 #[unsafe(no_mangle)]
 pub extern "C" fn git_date_show_at(
     alloc: Global,
@@ -54,13 +54,17 @@ pub extern "C" fn git_date_show_at(
         out.old (record { bytes = out.new; len = len.new; status = result }) }
     ensures zone { IsSame zone.old zone.new }
 {
+    if let Some(stored) = StoredMode::of(mode) {
+        let check = check_place(now, zone);
+        return store_stored(load_time(time), stored, check, out, len);
+    }
     let taken = zone.take(alloc);
     let status = store_shown_in(load_time(time), mode, now, &taken, out, len);
     zone.give_back(alloc, taken);
     status
 }
 
-/// Puts a date into a buffer as Git shows it, at a moment in a zone out of C's hands. A mode that needs no clock makes none.
+/// Puts a date into a buffer as Git shows it, at a moment in a zone out of C's hands.
 fn store_shown_in(
     time: Time,
     mode: &CMode,
@@ -72,13 +76,7 @@ fn store_shown_in(
     ensures { Puts (IsShownIn time mode.now (IsZoneOf zone.now.offset (option_map (λ held. held.value) zone.now.held)) now.now)
         out.old (record { bytes = out.new; len = len.new; status = result }) }
 {
-    match StoredMode::of(mode) {
-        Some(stored) => {
-            let check = check_place(timestamp_of(now), zone.zone());
-            store_stored(time, stored, check, out, len)
-        }
-        None => store_shown(time, mode, timestamp_of(now), zone.zone(), out, len),
-    }
+    store_shown(time, mode, timestamp_of(now), zone.zone(), out, len)
 }
 
 /// Puts a date into a buffer as Git shows it at an instant in a zone, where there are both.
@@ -156,7 +154,7 @@ fn kind_number(kind: DateKind) -> u32
 }
 
 /// The mode of these numbers.
-fn mode_of(mode: &CMode) -> Option<DateMode>
+pub(crate) fn mode_of(mode: &CMode) -> Option<DateMode>
     ensures { result ≡ mode_of mode.now }
 {
     Some(DateMode {

@@ -29,7 +29,7 @@ pub(crate) enum Status {
     InvalidZone = 10,
     /// The seconds or the offset are outside what a civil date can be computed for.
     Conversion = 11,
-    /// The offset is 100 hours or more.
+    /// The offset is 100 hours or more, or more than 35791394 minutes in an identity line.
     OffsetTooWide = 12,
     /// The pattern cannot be printed.
     Pattern = 13,
@@ -67,7 +67,7 @@ pub(crate) enum Status {
     EmptyName = 29,
     /// The name holds only bytes that Git cuts off its ends.
     OnlyCrud = 30,
-    /// The time is before 1970.
+    /// The time is before 1970, perhaps by the clock of its identity line.
     BeforeEpoch = 31,
 }
 

@@ -1,5 +1,5 @@
 //! A zone as C has it.
-ghost use Rattle.std.specs.Prelude.{◌≡◌, None, Some, option_map};
+ghost use Rattle.std.specs.Prelude.{◌≡◌, None, Some, is_some, option_map};
 ghost use Rattle.gix_date_c.specs.Handles.{kind_of};
 
 use crate::zone::handle::Handle;
@@ -41,6 +41,14 @@ impl CZone {
             offset,
             handle: Handle::of(alloc, held),
         }
+    }
+
+    /// Whether a zone is held.
+    #[inline(always)]
+    pub(crate) fn holds(&self) -> bool
+        ensures { result ≡ is_some self.now.handle.held }
+    {
+        self.kind == HOLDS
     }
 
     /// What is held, out of C's hands.

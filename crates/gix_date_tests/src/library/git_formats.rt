@@ -1,6 +1,9 @@
 //! Dates by Git's formats: what the rows cannot say.
 use crate::fakes::{Slow, take_all};
-use git_date::{DateFormat, FormatFault, ShowError, show_by_format, text_by_format};
+use git_date::{
+    BriefText, DateFormat, FormatFault, ShortText, ShowError, brief_by_own_clock, short_by_format,
+    show_by_format, text_by_format,
+};
 use gix_date::Time;
 use gix_date::device::Device;
 use std::io::ErrorKind;
@@ -72,6 +75,41 @@ fn a_format_may_be_used_many_times(rt: HostRuntime) -> Result<(), Fail> {
     assert_eq!(rt; text.as_str(), "2009-08-30 21:20");
     let text = text_by_format(rt.alloc(), Time::new(0, 0), copied, false, now)?;
     assert_eq!(rt; text.as_str(), "1970-01-01 00:00");
+    Ok(())
+}
+
+#[test]
+fn a_format_shows_short_texts_without_memory(rt: HostRuntime) -> Result<(), Fail> {
+    let now = TIME.to_zoned()?;
+    let mut short = ShortText::new();
+    let mut brief = BriefText::new();
+    assert!(rt; short_by_format(TIME, LONG, false, now.time_zone(), &mut short));
+    assert_eq!(rt; short.as_str().as_bytes(), LONG_TEXT);
+    assert!(rt; brief_by_own_clock(TIME, LONG, &mut brief));
+    assert_eq!(rt; brief.as_str().as_bytes(), LONG_TEXT);
+    assert!(rt; brief_by_own_clock(TIME, "%Y-%m-%d %H:%M:%S %z", &mut brief));
+    assert_eq!(rt; brief.as_str(), "2009-08-30 21:20:00 +0200");
+    assert!(rt; short_by_format(Time::new(0, 0), "%F %R", true, now.time_zone(), &mut short));
+    assert_eq!(rt; short.as_str(), "1970-01-01 02:00");
+    Ok(())
+}
+
+#[test]
+fn a_text_is_not_short_with_a_fault_or_without_room(rt: HostRuntime) -> Result<(), Fail> {
+    let now = TIME.to_zoned()?;
+    let mut short = ShortText::new();
+    let mut brief = BriefText::new();
+    for format in ["%5", "%c%c%c%c%c%c%c%c%c%c%c"] {
+        assert!(rt; !short_by_format(TIME, format, false, now.time_zone(), &mut short));
+        assert!(rt; !brief_by_own_clock(TIME, format, &mut brief));
+    }
+    for (seconds, offset) in [(-1, 0), (4_102_444_800, 0), (1_251_660_000, 30)] {
+        let time = Time::new(seconds, offset);
+        assert!(rt; !short_by_format(time, "%F", false, now.time_zone(), &mut short));
+        assert!(rt; !brief_by_own_clock(time, "%F", &mut brief));
+    }
+    assert!(rt; short_by_format(TIME, "%c%c%c%c%c%c", false, now.time_zone(), &mut short));
+    assert!(rt; !brief_by_own_clock(TIME, "%c%c%c%c%c%c", &mut brief));
     Ok(())
 }
 

@@ -7,8 +7,8 @@ use Rattle.git_date.proofs.Formats.Walks.{Left}
 use Rattle.git_date.proofs.format.short.push_short.Given as goal
 
 abbrev pub invariant-pieces : goal.invariant-pieces
-invariant-pieces l =
+invariant-pieces g l =
     shadow (Utf8 l.rest) × Left l.text l.rest (λ done. l.out.bytes ≡ l.initial.out.bytes ++ texts (shown_of l.shown) done)
 
 abbrev pub decreases-pieces : goal.decreases-pieces
-decreases-pieces l = length l.rest
+decreases-pieces g l = length l.rest

@@ -11,7 +11,7 @@ pub invariant_of-result : goal.invariant_of-result
 invariant_of-result c =
     let date = c.in-Ok.date in
     let offset_fits : FitsSigned w32 c.args.time.offset = search rules in
-    let day_fits : FitsSigned w64 c.div_euclid-day.result = search rules in
+    let day_fits : FitsSigned w64 c.day_and_second-day.result.0 = search rules in
     let year_fits : FitsSigned w16 date.year = search rules in
     let weekday = simp to_z-of_z at c.weekday_of.ensures in
     let year = simp to_z-of_z at c.unsigned_abs.ensures.value in
@@ -19,7 +19,7 @@ invariant_of-result c =
     let day_in = date.day_in in
     let small = c.clock_at.ensures.small in
     simp to_z-of_z (record {
-      weekday = omega (arith, weekday, weekday_number_bound c.div_euclid-day.result);
+      weekday = omega (arith, weekday, weekday_number_bound c.day_and_second-day.result.0);
       year = omega (arith, signed_arith, one_part date.year, year, year_in);
       month = date.month_in;
       day = (day_in.0, omega (arith, day_in, days_in_month_bounds date.year date.month));
@@ -33,21 +33,20 @@ pub returns : goal.returns
 returns c =
     let t = c.args.time in
     let date = c.in-Ok.date in
-    let local_fits : FitsSigned w64 c.local_seconds-local.result = search rules in
+    let local_fits : FitsSigned w64 c.local_seconds.result = search rules in
     let offset_fits : FitsSigned w32 t.offset = search rules in
-    let a = c.local_seconds-local.ensures in
-    let day_fits : FitsSigned w64 c.div_euclid-day.result = search rules in
+    let a = c.local_seconds.ensures in
+    let day_fits : FitsSigned w64 c.day_and_second-day.result.0 = search rules in
     let year_fits : FitsSigned w16 date.year = search rules in
-    let second_fits : FitsSigned w64 c.rem_euclid.result = search rules in
-    let div = simp to_z-of_z at c.div_euclid-day.ensures in
-    let day : c.div_euclid-day.result ≡ local_day t = div ∙ ap (λ (n : ℤ). int_div_euclid n (pos 86_400)) a in
+    let div = simp to_z-of_z at c.day_and_second-day.ensures.day in
+    let day : c.day_and_second-day.result.0 ≡ local_day t = div ∙ ap (λ (n : ℤ). int_div_euclid n (pos 86_400)) a in
     let at = simp to_z-of_z at c.in-Ok.ensures.value in
-    let r = simp to_z-of_z at c.rem_euclid.ensures.value in
-    let second : unsigned_abs c.rem_euclid.result ≡ second_of_day t = ap unsigned_abs r ∙ ap (λ (n : ℤ). unsigned_abs (int_rem_euclid n (pos 86_400))) a in
+    let r = simp to_z-of_z at c.day_and_second-day.ensures.second in
+    let second : c.day_and_second-day.result.1 ≡ second_of_day t = r ∙ ap (λ (n : ℤ). unsigned_abs (int_rem_euclid n (pos 86_400))) a in
     let weekday = simp to_z-of_z at c.weekday_of.ensures in
     let year = simp to_z-of_z at c.unsigned_abs.ensures.value in
     let k = c.clock_at.ensures in
-    let hour = simp to_z-of_z at k.hour in
-    let minute = simp to_z-of_z at k.minute in
-    let last = simp to_z-of_z at k.second in
-    simp to_z-of_z (clock-by t c.div_euclid-day.result date c.unsigned_abs.result (unsigned_abs c.rem_euclid.result) c.weekday_of.result c.clock_at.result day at year second weekday hour minute last)
+    let hour = k.hour in
+    let minute = k.minute in
+    let last = k.second in
+    simp to_z-of_z (clock-by t c.day_and_second-day.result.0 date c.unsigned_abs.result c.day_and_second-day.result.1 c.weekday_of.result c.clock_at.result day at year second weekday hour minute last)

@@ -1,0 +1,45 @@
+-- How long an offset is as it is written, and what a time has that is made of a line's.
+use Rattle.std.proofs.Common.{refl, ◌≡◌, ◌+◌, ◌≤◌, ◌<◌, ◌++◌, ◌^◌, ℕ, ℤ, pos, Bool, true, false, List, length, length-append, arith, cond, ap, ◌∙◌, decimal, unsigned_abs, nat_lt, if◌then◌else◌, Result, Ok, Err}
+use Rattle.std.proofs.lemmas.Fmt.{length-decimal-le}
+use Rattle.gix_date.specs.Text.Numbers.{two_digits}
+use Rattle.gix_date.specs.declared.time.Time.{Time}
+use Rattle.std.specs.Int.Signed.{lt_z}
+use Rattle.gix_signature.specs.Ident.Times.{time_of_git, minutes_told, widest_minutes}
+use Rattle.gix_signature.specs.declared.error.IdentFault.{IdentFault}
+use Rattle.gix_signature.specs.declared.ident.time.GitTime.{GitTime}
+use Rattle.git_date.specs.Show.OwnDates.{digits_from_two, short_decimals, written_offset_text, hours_written, minutes_written}
+
+chosen : (b : Bool) (n k : ℕ) → 2 ≤ k → length (decimal n) ≤ k → length (if b then two_digits n else decimal n) ≤ k
+chosen true n k h d = h
+chosen false n k h d = d
+
+digits_short : (n k : ℕ) → 2 ≤ k → n < 10 ^ k → n < 2 ^ 64 → length (digits_from_two n) ≤ k
+digits_short n k h small fits = chosen (nat_lt n 100) n k h (length-decimal-le k n (omega (arith, h)) small fits)
+
+whole : (mark : List ℕ) (o : ℤ) (k : ℕ) → length (digits_from_two (hours_written o)) ≤ k → length (written_offset_text mark o) ≤ k + length mark + 3
+whole mark o k h =
+    omega (arith, h, length-append (digits_from_two (hours_written o) ++ mark) (two_digits (minutes_written o)), length-append (digits_from_two (hours_written o)) mark)
+
+pub short_offset : (mark : List ℕ) (o : ℤ) → unsigned_abs o < short_decimals → length (written_offset_text mark o) ≤ 9 + length mark
+short_offset mark o h = omega (arith, whole mark o 6 (digits_short (hours_written o) 6 (omega arith) (omega (arith, h)) (omega (arith, h))))
+
+pub any_offset : (mark : List ℕ) (o : ℤ) → unsigned_abs o < 2 ^ 32 → length (written_offset_text mark o) ≤ 11 + length mark
+any_offset mark o h = omega (arith, whole mark o 8 (digits_short (hours_written o) 8 (omega arith) (omega (arith, h)) (omega (arith, h))))
+
+-- a time that is made of a line's has its seconds, and its offset is short
+of-choice : (b : Bool) (n : ℕ) (fault : IdentFault) (u t : Time) → (nat_lt 35_791_394 n ≡ b)
+    → ◌≡◌ {A = Result Time IdentFault} (Ok t) (cond b (Err fault) (Ok u)) → (n ≤ 35_791_394) × (t ≡ u)
+of-choice true n fault u t h e = cc
+of-choice false n fault u t h e = (grind arith, cc)
+
+made : (g : GitTime) (t : Time) → Ok t ≡ time_of_git g → (minutes_told (unsigned_abs g.offset) ≤ 35_791_394) × (t.seconds ≡ g.seconds)
+unfolding time_of_git
+made g t e =
+    let parts = of-choice (nat_lt widest_minutes (minutes_told (unsigned_abs g.offset))) (minutes_told (unsigned_abs g.offset)) _ _ t refl e in
+    (parts.0, ap (λ (x : Time). x.seconds) parts.1)
+
+pub made_seconds : (g : GitTime) (t : Time) → Ok t ≡ time_of_git g → lt_z g.seconds (pos 0) ≡ false → lt_z t.seconds (pos 0) ≡ false
+made_seconds g t e h = ap (λ (s : ℤ). lt_z s (pos 0)) (made g t e).1 ∙ h
+
+pub made_short : (g : GitTime) (t : Time) → Ok t ≡ time_of_git g → unsigned_abs g.offset < short_decimals
+made_short g t e = omega (arith, (made g t e).0)

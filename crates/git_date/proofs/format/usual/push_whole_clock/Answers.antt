@@ -1,0 +1,15 @@
+use Rattle.std.proofs.Common.{refl, arith}
+use Rattle.std.specs.Prelude.{codes}
+use Rattle.git_date.specs.Formats.Shown.{shown_of}
+use Rattle.git_date.proofs.Formats.Usual.{clock-goes, whole-cut}
+use Rattle.git_date.proofs.format.usual.push_whole_clock.Goals as goal
+
+pub split_at-requires : goal.split_at-requires
+split_at-requires g c =
+    whole-cut c.args.text.now c.as_bytes.result.now (codes "%H:%M:%S") c.utf8.text c.as_bytes.ensures.value (c.if-not-begins_with.ensures refl) (omega arith)
+
+pub returns-clause-passes : goal.returns-clause-passes
+returns-clause-passes g c =
+    clock-goes (shown_of c.args.shown.now) c.args.text.now c.as_bytes.result.now c.split_at.result.1.now c.args.out.now.bytes c.push_clock.new.text.bytes
+    c.as_bytes.ensures.value (c.if-not-begins_with.ensures refl) c.split_at.ensures.back c.know_pairs.ensures.clock.0 c.know_pairs.ensures.clock.1 c.know_pairs.ensures.clock.2
+    c.push_clock.ensures.bytes

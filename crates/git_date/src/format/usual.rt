@@ -1,0 +1,201 @@
+//! What formats usually ask for, each appended at once: letters, marks between them, whole dates and whole clocks.
+ghost use Rattle.std.specs.Prelude.{◌≡◌, ◌+◌, ◌≤◌, ◌<◌, Some, true, length, decimal, IsTrue, IfSome, IfNone};
+ghost use Rattle.arrayvec.specs.ArrayString.{array_string_len};
+ghost use Rattle.git_date.specs.Formats.Flags.{filled};
+ghost use Rattle.git_date.specs.Formats.Short.{letter_text, BeginsWith, Goes, Passes, PushesLetter, walk};
+ghost use Rattle.git_date.specs.Formats.Shown.{shown_of, Shown as Said};
+
+use crate::format::begun::push_alone;
+use crate::format::chunks::push_offset;
+use crate::format::shown::Shown;
+use arrayvec::ArrayString;
+use gix_date::clock::{Clock, push_clock, push_date, push_two_digits, push_year};
+use gix_date::names::{day_name, month_name};
+
+/// The greatest length of what is shown at once, `2009-08-30`.
+pub(crate) const USUAL_ROOM: usize = 10;
+
+/// How many bytes `%Y-%m-%d` has, and `%H:%M:%S`.
+const WHOLE_LEN: usize = 8;
+
+/// The number that a usual letter shows in two digits.
+#[inline(always)]
+#[tactic(auto, unfolding(crate::specs::Tokens::Numbers::number))]
+fn pair_of(letter: u8, shown: &Shown) -> Option<u8>
+    ensures value { IfSome result (λ n. letter_text (shown_of shown.now) letter ≡ Some (filled true 2 (decimal n))) }
+    ensures small { IfSome result (λ n. n < 100) }
+{
+    match letter {
+        b'm' => Some(shown.clock.month()),
+        b'd' => Some(shown.clock.day()),
+        b'H' => Some(shown.clock.hour()),
+        b'M' => Some(shown.clock.minute()),
+        b'S' => Some(shown.clock.second()),
+        _ => None,
+    }
+}
+
+/// Appends what a letter shows, a usual one at once. `false` says nothing: nothing is appended.
+#[inline(always)]
+#[tactic(auto, unfolding(crate::specs::Tokens::Numbers::number))]
+fn push_letter<const CAP: usize>(out: &mut ArrayString<CAP>, letter: u8, shown: &Shown) -> bool
+    requires { array_string_len out.old + 10 ≤ CAP }
+    ensures { PushesLetter (letter_text (shown_of shown.now) letter) out.old.bytes out.new.bytes result }
+{
+    if let Some(pair) = pair_of(letter, shown) {
+        push_two_digits(out, pair);
+        return true;
+    }
+    match letter {
+        b'Y' if 1000 <= shown.clock.year() => {
+            push_year(out, shown.clock);
+            true
+        }
+        b'a' => {
+            out.push_str(day_name(shown.clock.weekday()));
+            true
+        }
+        b'b' => {
+            out.push_str(month_name(shown.clock.month()));
+            true
+        }
+        b'T' => {
+            know_pairs(shown.clock);
+            push_clock(out, shown.clock);
+            true
+        }
+        b'F' if 1000 <= shown.clock.year() => {
+            know_pairs(shown.clock);
+            push_date(out, shown.clock);
+            true
+        }
+        b'z' => {
+            push_offset(out, shown.clock.offset());
+            true
+        }
+        _ => push_alone(out, letter, shown),
+    }
+}
+
+/// Appends what a format shows first, if that is a percent sign and a usual letter, and answers what is left. `None` means
+/// only that it begins otherwise: nothing is appended.
+#[inline(always)]
+fn push_lettered<'a, const CAP: usize>(
+    out: &mut ArrayString<CAP>,
+    text: &'a str,
+    shown: &Shown,
+) -> Option<&'a str>
+    requires { array_string_len out.old + 10 ≤ CAP }
+    ensures passes { IfSome result (λ rest. Passes (shown_of shown.now) text.now rest.now out.old.bytes out.new.bytes) }
+    ensures kept { IfNone result (out.new.bytes ≡ out.old.bytes) }
+{
+    let bytes = text.as_bytes();
+    if bytes.len() < 2 || bytes[0] != b'%' {
+        return None;
+    }
+    if !push_letter(out, bytes[1], shown) {
+        return None;
+    }
+    let (_, rest) = text.split_at(2);
+    Some(rest)
+}
+
+/// Appends what a format shows first, if that is one byte before a percent sign, and answers what is left.
+#[inline(always)]
+fn push_mark<'a, const CAP: usize>(out: &mut ArrayString<CAP>, text: &'a str) -> Option<&'a str>
+    requires { array_string_len out.old + 1 ≤ CAP }
+    ensures passes { IfSome result (λ rest. (shown : Said) → Passes shown text.now rest.now out.old.bytes out.new.bytes) }
+    ensures kept { IfNone result (out.new.bytes ≡ out.old.bytes) }
+{
+    let bytes = text.as_bytes();
+    if bytes.len() < 2 || bytes[0] == b'%' || bytes[1] != b'%' {
+        return None;
+    }
+    let (mark, rest) = text.split_at(1);
+    out.push_str(mark);
+    Some(rest)
+}
+
+/// Does nothing, and says that a clock's numbers but the year have two digits at most.
+#[inline(always)]
+fn know_pairs(t: Clock)
+    ensures date { (t.date.month < 100) × (t.date.day < 100) }
+    ensures clock { (t.clock.hour < 100) × (t.clock.minute < 100) × (t.clock.second < 100) }
+{
+    let _date = (t.month(), t.day());
+    let _clock = (t.hour(), t.minute(), t.second());
+}
+
+/// Whether bytes begin with these eight, by one comparison.
+#[inline(always)]
+fn begins_with(b: &[u8], front: &[u8; WHOLE_LEN]) -> bool
+    ensures { IsTrue result → BeginsWith b.now front.now }
+{
+    b.len() >= WHOLE_LEN
+        && u64::from_le_bytes([b[0], b[1], b[2], b[3], b[4], b[5], b[6], b[7]])
+            == u64::from_le_bytes(*front)
+}
+
+/// Appends what a format shows first, if that is `%Y-%m-%d`, and answers what is left.
+#[inline(always)]
+fn push_whole_date<'a, const CAP: usize>(
+    out: &mut ArrayString<CAP>,
+    text: &'a str,
+    shown: &Shown,
+) -> Option<&'a str>
+    requires { array_string_len out.old + 10 ≤ CAP }
+    ensures passes { IfSome result (λ rest. Goes (shown_of shown.now) (walk text.now out.old.bytes) (walk rest.now out.new.bytes)) }
+    ensures kept { IfNone result (out.new.bytes ≡ out.old.bytes) }
+{
+    if !begins_with(text.as_bytes(), b"%Y-%m-%d") || shown.clock.year() < 1000 {
+        return None;
+    }
+    know_pairs(shown.clock);
+    let (_, rest) = text.split_at(WHOLE_LEN);
+    push_date(out, shown.clock);
+    Some(rest)
+}
+
+/// Appends what a format shows first, if that is `%H:%M:%S`, and answers what is left.
+#[inline(always)]
+fn push_whole_clock<'a, const CAP: usize>(
+    out: &mut ArrayString<CAP>,
+    text: &'a str,
+    shown: &Shown,
+) -> Option<&'a str>
+    requires { array_string_len out.old + 8 ≤ CAP }
+    ensures passes { IfSome result (λ rest. Goes (shown_of shown.now) (walk text.now out.old.bytes) (walk rest.now out.new.bytes)) }
+    ensures kept { IfNone result (out.new.bytes ≡ out.old.bytes) }
+{
+    if !begins_with(text.as_bytes(), b"%H:%M:%S") {
+        return None;
+    }
+    know_pairs(shown.clock);
+    let (_, rest) = text.split_at(WHOLE_LEN);
+    push_clock(out, shown.clock);
+    Some(rest)
+}
+
+/// Appends what a format shows first, if that is usual, and answers what is left. `None` means only that it begins otherwise:
+/// nothing is appended.
+#[inline(always)]
+pub(crate) fn push_usual<'a, const CAP: usize>(
+    out: &mut ArrayString<CAP>,
+    text: &'a str,
+    shown: &Shown,
+) -> Option<&'a str>
+    requires { array_string_len out.old + 10 ≤ CAP }
+    ensures passes { IfSome result (λ rest. Goes (shown_of shown.now) (walk text.now out.old.bytes) (walk rest.now out.new.bytes)) }
+    ensures kept { IfNone result (out.new.bytes ≡ out.old.bytes) }
+{
+    if let Some(rest) = push_mark(out, text) {
+        return Some(rest);
+    }
+    if let Some(rest) = push_whole_date(out, text, shown) {
+        return Some(rest);
+    }
+    if let Some(rest) = push_whole_clock(out, text, shown) {
+        return Some(rest);
+    }
+    push_lettered(out, text, shown)
+}

@@ -1,0 +1,357 @@
+//! Dates as Git shows an identity line's own.
+ghost use Rattle.std.specs.Prelude.{◌≡◌, ◌+◌, ◌≤◌, ◌<◌, ◌∷◌, ◌++◌, [], decimal, length, pos, false, true, unsigned_abs, MatchResult, OnOk, Ok, Err};
+ghost use Rattle.std.specs.Int.Signed.{lt_z};
+ghost use Rattle.arrayvec.specs.ArrayString.{array_string_len};
+ghost use Rattle.jiff.specs.Words.{plain_zone};
+ghost use Rattle.gix_date.specs.Text.Characters.{comma, space};
+ghost use Rattle.gix_date.specs.Text.Names.{day_name, month_name};
+ghost use Rattle.gix_date.specs.Fields.FieldTexts.{four_digits, clock_text};
+ghost use Rattle.gix_date.specs.Text.Numbers.{decimal_text};
+ghost use Rattle.gix_date.specs.Fields.Layout.{print_pieces};
+ghost use Rattle.gix_date.specs.Fields.Zoned.{whole_seconds};
+ghost use Rattle.gix_date.specs.Printing.LocalClocks.{local_seconds};
+ghost use Rattle.git_date.specs.Exact.Decimals.{decimal_of_offset};
+ghost use Rattle.git_date.specs.Show.Clocks.{moment_at, zone_clock};
+ghost use Rattle.git_date.specs.Show.Dates.{is_clock_kind};
+ghost use Rattle.git_date.specs.Show.Human.{few_days_text};
+ghost use Rattle.git_date.specs.declared.show.human.Distance.TheVariants.{FewDays};
+ghost use Rattle.git_date.specs.Show.OwnDates.{dated_clock, digits_from_two, few_days_offset, human_by, is_without_offset, known_offset_text, line_clock, own_clock_text, own_human_text, own_shown, own_shown_by, rfc2822_front, short_decimals, spaced_offset_text, written_offset_text};
+
+use crate::mode::{DateKind, DateMode};
+use crate::show::ages::relative_text;
+use crate::show::clocks::zone_clock;
+use crate::show::human::{Distance, distance_of, few_days_text, human_text};
+use crate::show::{DateText, show_date_at};
+use crate::zones::decimals::decimal_of_offset;
+use arrayvec::ArrayString;
+use gix_date::Time;
+use gix_date::clock::{
+    Clock, local_seconds, push_bare_default, push_clock, push_date, push_day, push_month,
+    push_two_digits, push_year,
+};
+use gix_date::names::day_name;
+use gix_date::time::LAST_OF_YEAR_9999;
+use gix_signature::GitTime;
+use jiff::Timestamp;
+use jiff::tz::TimeZone;
+use thiserror::Error;
+
+/// The most bytes that [`show_git_time`] shows: those of [`DateKind::Rfc2822`] with eight digits of an offset.
+const MAX_OWN_LEN: usize = 35;
+
+/// A shown date of an identity line, in a buffer of its own. It is ASCII.
+pub type OwnDateText = ArrayString<MAX_OWN_LEN>;
+
+/// No offset leads seconds after these back into the year 9999.
+const LAST_BY_ANY_OFFSET: i64 = LAST_OF_YEAR_9999 + 2_147_483_648;
+
+/// The offset by which Git marks that it is unknown, as its number.
+const UNKNOWN_DECIMAL: i32 = -1;
+
+/// Why [`show_git_time`] shows nothing.
+#[derive(Clone, Copy, Debug, PartialEq, Eq, Error)]
+pub enum OwnDateError {
+    /// The clock shows a year after 9999, or no clock of the zone shows the time. Or the moment is before 1970.
+    #[error("the date is after the year 9999 or leads to an instant that cannot be computed with")]
+    Range,
+    /// The time or the line's own clock is before 1970. Git ends: `Timestamp before Unix epoch`.
+    #[error("the date is before 1970 by its own clock")]
+    BeforeEpoch,
+    /// The offset is more than 35791394 minutes, whose seconds 32 bits do not hold.
+    #[error("the offset is more than 35791394 minutes")]
+    OffsetTooWide,
+}
+
+/// The time of an identity line as `git log --date=MODE` shows it at this moment: by the line's own clock, and with the offset as
+/// it is written. `+0060` stays `+0060`, where [`show_date`](crate::show_date) says `+0100`, and `+051800` is `+51800`.
+///
+/// A mode that is local, [`DateKind::Relative`] and [`DateKind::Unix`] show what [`show_date_at`](crate::show_date_at) shows of
+/// the seconds. [`DateKind::Raw`] shows each offset, [`DateKind::Default`] each but `-0001`. [`DateKind::Human`] shows an offset
+/// that is written otherwise than that of the zone at this moment.
+///
+/// The refusals:
+/// - [`OwnDateError::BeforeEpoch`]: seconds below 0, which no line says. Of kinds with a clock, unless local, also a clock before
+///   1970: here Git ends
+/// - [`OwnDateError::OffsetTooWide`]: of the same kinds, an offset of more than 35791394 minutes either way
+/// - [`OwnDateError::Range`]: of the same kinds, a clock after the year 9999, which Git shows; and where `show_date_at` refuses
+///   seconds from 0 on: in local modes after 9999-12-30 22:00:00 UTC, and ages and human dates at a moment before 1970
+///
+/// Takes no memory.
+pub fn show_git_time(
+    time: GitTime,
+    mode: DateMode,
+    now: Timestamp,
+    zone: TimeZone<'_>,
+) -> Result<OwnDateText, OwnDateError>
+    ensures { MatchResult result
+        (λ text. own_shown (moment_at now.nanosecond (plain_zone zone.entry)) mode time ≡ Ok text.bytes)
+        (λ e. own_shown (moment_at now.nanosecond (plain_zone zone.entry)) mode time ≡ Err e) }
+{
+    own_shown(time, mode, now, zone)
+}
+
+#[tactic(auto, unfolding(crate::specs::Show::OwnDates::own_shown, crate::specs::Show::Dates::shown))]
+fn own_shown(
+    time: GitTime,
+    mode: DateMode,
+    now: Timestamp,
+    zone: TimeZone<'_>,
+) -> Result<OwnDateText, OwnDateError>
+    ensures { MatchResult result
+        (λ text. own_shown (moment_at now.nanosecond (plain_zone zone.entry)) mode time ≡ Ok text.bytes)
+        (λ e. own_shown (moment_at now.nanosecond (plain_zone zone.entry)) mode time ≡ Err e) }
+{
+    if time.seconds < 0 {
+        return Err(OwnDateError::BeforeEpoch);
+    }
+    if mode.local || matches!(mode.kind, DateKind::Relative | DateKind::Unix) {
+        return match show_date_at(Time::new(time.seconds, 0), mode, now, zone) {
+            Ok(text) => Ok(widened(text)),
+            Err(_) => Err(OwnDateError::Range),
+        };
+    }
+    own_shown_by(time, mode.kind, now, zone)
+}
+
+/// The same text in a wider buffer.
+fn widened(text: DateText) -> OwnDateText
+    ensures bytes { result.bytes ≡ text.bytes }
+    ensures len { array_string_len result ≡ array_string_len text }
+{
+    let mut wide = ArrayString::new();
+    wide.push_str(&text);
+    wide
+}
+
+/// What the kinds show that show a line's own offset or clock.
+fn own_shown_by(
+    time: GitTime,
+    kind: DateKind,
+    now: Timestamp,
+    zone: TimeZone<'_>,
+) -> Result<OwnDateText, OwnDateError>
+    requires kind { is_without_offset kind ≡ false }
+    requires seconds { lt_z time.seconds (pos 0) ≡ false }
+    ensures { MatchResult result
+        (λ text. own_shown_by kind (moment_at now.nanosecond (plain_zone zone.entry)) time ≡ Ok text.bytes)
+        (λ e. own_shown_by kind (moment_at now.nanosecond (plain_zone zone.entry)) time ≡ Err e) }
+{
+    match kind {
+        DateKind::Raw => Ok(own_raw_text(time)),
+        DateKind::Human => match line_clock(time) {
+            Ok(clock) => human_shown(time, clock, now, zone),
+            Err(e) => Err(e),
+        },
+        kind => match line_clock(time) {
+            Ok(clock) => Ok(own_clock_text(kind, time.offset, clock)),
+            Err(e) => Err(e),
+        },
+    }
+}
+
+/// A human date by the clock of a line and that of the moment.
+fn human_shown(
+    time: GitTime,
+    clock: Clock,
+    now: Timestamp,
+    zone: TimeZone<'_>,
+) -> Result<OwnDateText, OwnDateError>
+    requires short { unsigned_abs time.offset < short_decimals }
+    requires seconds { lt_z time.seconds (pos 0) ≡ false }
+    ensures { MatchResult result
+        (λ text. human_by (moment_at now.nanosecond (plain_zone zone.entry)) time
+        (zone_clock (plain_zone zone.entry) (whole_seconds now.nanosecond)) clock ≡ Ok text.bytes)
+        (λ e. human_by (moment_at now.nanosecond (plain_zone zone.entry)) time
+        (zone_clock (plain_zone zone.entry) (whole_seconds now.nanosecond)) clock ≡ Err e) }
+{
+    let second = now.as_second();
+    match zone_clock(second, zone) {
+        Some(today) => {
+            let age = relative_text(second, time.seconds);
+            Ok(own_human_text(time.offset, clock, today, age))
+        }
+        None => Err(OwnDateError::Range),
+    }
+}
+
+/// The seconds in decimal, and the offset as the line writes it.
+fn own_raw_text(time: GitTime) -> OwnDateText
+    ensures { result.bytes ≡ decimal_text time.seconds ++ spaced_offset_text time.offset }
+{
+    let mut text = ArrayString::new();
+    text.push_str(itoa::Buffer::new().format(time.seconds));
+    text.push_str(" ");
+    push_written_offset(&mut text, "", time.offset);
+    text
+}
+
+/// What a line's own clock shows.
+#[tactic(auto, using(crate::proofs::Printing::WrittenOffsets::made_seconds, crate::proofs::Printing::WrittenOffsets::made_short), unfolding(crate::specs::Show::OwnDates::line_clock))]
+fn line_clock(time: GitTime) -> Result<Clock, OwnDateError>
+    requires { lt_z time.seconds (pos 0) ≡ false }
+    ensures value { result ≡ line_clock time }
+    ensures short { OnOk result (unsigned_abs time.offset < short_decimals) }
+{
+    match time.to_time() {
+        Ok(shown) => dated_clock(shown),
+        Err(_) => Err(OwnDateError::OffsetTooWide),
+    }
+}
+
+/// What a time's own clock shows from 1970 on, and in years of four digits.
+fn dated_clock(time: Time) -> Result<Clock, OwnDateError>
+    requires { lt_z time.seconds (pos 0) ≡ false }
+    ensures { result ≡ dated_clock (local_seconds time) }
+{
+    if LAST_BY_ANY_OFFSET < time.seconds {
+        return Err(OwnDateError::Range);
+    }
+    let local = local_seconds(time);
+    if local < 0 {
+        Err(OwnDateError::BeforeEpoch)
+    } else if LAST_OF_YEAR_9999 < local {
+        Err(OwnDateError::Range)
+    } else {
+        Ok(Clock::of(Time::new(local, 0)))
+    }
+}
+
+/// Appends the hours of an offset, in two digits or more.
+fn push_written_hours(text: &mut OwnDateText, hours: u32)
+    requires { array_string_len text.old + length (digits_from_two hours) ≤ MAX_OWN_LEN }
+    ensures bytes { text.new.bytes ≡ text.old.bytes ++ digits_from_two hours }
+    ensures len { array_string_len text.new ≡ array_string_len text.old + length (digits_from_two hours) }
+{
+    if hours < 100 {
+        push_two_digits(text, hours as u8);
+    } else {
+        text.push_str(itoa::Buffer::new().format(hours));
+    }
+}
+
+/// Appends an offset as it is written, with a mark before its minutes.
+fn push_written_offset(text: &mut OwnDateText, mark: &str, offset: i32)
+    requires { array_string_len text.old + length (written_offset_text mark.now offset) ≤ MAX_OWN_LEN }
+    ensures { text.new.bytes ≡ text.old.bytes ++ written_offset_text mark.now offset }
+{
+    let size = offset.unsigned_abs();
+    text.push(if offset < 0 { '-' } else { '+' });
+    push_written_hours(text, size / 100);
+    text.push_str(mark);
+    push_two_digits(text, (size % 100) as u8);
+}
+
+/// Appends a space and an offset as it is written.
+fn push_spaced_offset(text: &mut OwnDateText, offset: i32)
+    requires short { unsigned_abs offset < short_decimals }
+    requires room { array_string_len text.old + 10 ≤ MAX_OWN_LEN }
+    ensures { text.new.bytes ≡ text.old.bytes ++ spaced_offset_text offset }
+{
+    text.push_str(" ");
+    push_written_offset(text, "", offset);
+}
+
+/// Appends `Www, `.
+fn push_day_name(text: &mut OwnDateText, t: Clock)
+    requires { array_string_len text.old ≡ 0 }
+    ensures bytes { text.new.bytes ≡ text.old.bytes ++ (day_name t.weekday ++ comma ∷ space ∷ []) }
+    ensures len { array_string_len text.new ≡ 5 }
+{
+    text.push_str(day_name(t.weekday()));
+    text.push_str(", ");
+}
+
+/// Appends ` Mmm YYYY hh:mm:ss`.
+fn push_from_month(text: &mut OwnDateText, t: Clock)
+    requires { array_string_len text.old ≤ 7 }
+    ensures bytes { text.new.bytes ≡ text.old.bytes ++ space ∷ month_name t.date.month ++ space ∷ four_digits t.date.year ++ space ∷ clock_text t.clock }
+    ensures len { array_string_len text.new ≤ 25 }
+{
+    text.push(' ');
+    push_month(text, t);
+    push_year(text, t);
+    text.push(' ');
+    push_clock(text, t);
+}
+
+/// Appends `Www, D Mmm YYYY hh:mm:ss`.
+fn push_rfc2822_front(text: &mut OwnDateText, t: Clock)
+    requires { array_string_len text.old ≡ 0 }
+    ensures bytes { text.new.bytes ≡ text.old.bytes ++ print_pieces decimal rfc2822_front t }
+    ensures len { array_string_len text.new ≤ 25 }
+{
+    push_day_name(text, t);
+    push_day(text, t);
+    push_from_month(text, t);
+}
+
+/// What a kind with a clock and nothing else shows of an offset and a clock.
+#[tactic(auto, using(crate::proofs::Printing::WrittenOffsets::short_offset))]
+fn own_clock_text(kind: DateKind, offset: i32, t: Clock) -> OwnDateText
+    requires kind { is_clock_kind kind ≡ true }
+    requires short { unsigned_abs offset < short_decimals }
+    ensures { result.bytes ≡ own_clock_text kind offset t }
+{
+    let mut text = ArrayString::new();
+    match kind {
+        DateKind::Iso8601Strict => {
+            push_date(&mut text, t);
+            text.push('T');
+            push_clock(&mut text, t);
+            push_written_offset(&mut text, ":", offset);
+        }
+        DateKind::Iso8601 => {
+            push_date(&mut text, t);
+            text.push(' ');
+            push_clock(&mut text, t);
+            push_spaced_offset(&mut text, offset);
+        }
+        DateKind::Rfc2822 => {
+            push_rfc2822_front(&mut text, t);
+            push_spaced_offset(&mut text, offset);
+        }
+        DateKind::Short => push_date(&mut text, t),
+        DateKind::Default => {
+            push_bare_default(&mut text, t);
+            push_known_offset(&mut text, offset);
+        }
+        DateKind::Relative | DateKind::Human | DateKind::Unix | DateKind::Raw => unreachable!(),
+    }
+    text
+}
+
+/// Appends an offset, unless it is unknown.
+fn push_known_offset(text: &mut OwnDateText, offset: i32)
+    requires short { unsigned_abs offset < short_decimals }
+    requires room { array_string_len text.old + 10 ≤ MAX_OWN_LEN }
+    ensures { text.new.bytes ≡ text.old.bytes ++ known_offset_text offset }
+{
+    if offset != UNKNOWN_DECIMAL {
+        push_spaced_offset(text, offset);
+    }
+}
+
+/// A clock of a few days ago, and the offset if it is written otherwise than that of today.
+fn own_few_days_text(offset: i32, t: Clock, today: Clock) -> OwnDateText
+    requires { unsigned_abs offset < short_decimals }
+    ensures { result.bytes ≡ few_days_text true t today ++ few_days_offset FewDays offset (decimal_of_offset today.offset) }
+{
+    let mut text = widened(few_days_text(true, t, today));
+    if offset != decimal_of_offset(today.offset()) {
+        push_spaced_offset(&mut text, offset);
+    }
+    text
+}
+
+/// A human date by the clock of a line and that of today.
+fn own_human_text(offset: i32, t: Clock, today: Clock, age: DateText) -> OwnDateText
+    requires { unsigned_abs offset < short_decimals }
+    ensures { result.bytes ≡ own_human_text offset t today age.bytes }
+{
+    match distance_of(t, today) {
+        Distance::FewDays => own_few_days_text(offset, t, today),
+        Distance::OtherYear | Distance::SameDay | Distance::SameYear => {
+            widened(human_text(true, t, today, age))
+        }
+    }
+}

@@ -1,0 +1,93 @@
+//! The dates of identity lines as Git shows them.
+ghost use Rattle.std.specs.Prelude.{◌≡◌};
+ghost use Rattle.std.specs.Result.{result_map_both};
+ghost use Rattle.jiff.specs.Words.{plain_zone};
+ghost use Rattle.gix_date_c.specs.Git.Own.{IsOwnShownIn, own_shown_at, own_status};
+ghost use Rattle.gix_date_c.specs.Idents.{load_git_time};
+ghost use Rattle.gix_date_c.specs.Moments.{placed};
+ghost use Rattle.gix_date_c.specs.Values.Buffers.{Outcome, Puts, outcome_of};
+ghost use Rattle.gix_date_c.specs.Zones.{IsSame, IsZone};
+
+use crate::git::show::{CMode, mode_of};
+use crate::ident::{CGitTime, load_git_time};
+use crate::moment::{CInstant, timestamp_of};
+use crate::values::buffer::store_text;
+use crate::values::status::Status;
+use crate::zone::CZone;
+use git_date::{OwnDateError, OwnDateText, show_git_time};
+use gix_signature::GitTime;
+use jiff::Timestamp;
+use jiff::tz::TimeZone;
+use std::alloc::Global;
+
+/// Puts the date of an identity line into a buffer as Git shows it, at a moment in a zone that C holds.
+#[unsafe(no_mangle)]
+pub extern "C" fn git_date_show_git_time_at(
+    alloc: Global,
+    time: &CGitTime,
+    mode: &CMode,
+    now: &CInstant,
+    zone: &mut CZone,
+    out: &mut [u8],
+    len: &mut usize,
+) -> u32
+    ensures shown { Puts (IsOwnShownIn (load_git_time time.now) mode.now (IsZone zone.old) now.now)
+        out.old (record { bytes = out.new; len = len.new; status = result }) }
+    ensures zone { IsSame zone.old zone.new }
+{
+    let time = load_git_time(time);
+    let taken = zone.take(alloc);
+    let status = store_shown(time, mode, timestamp_of(now), taken.zone(), out, len);
+    zone.give_back(alloc, taken);
+    status
+}
+
+/// Puts the date of a line into a buffer as Git shows it at an instant in a zone, where there are both.
+fn store_shown(
+    time: GitTime,
+    mode: &CMode,
+    now: Result<Timestamp, Status>,
+    zone: Result<TimeZone<'_>, Status>,
+    out: &mut [u8],
+    len: &mut usize,
+) -> u32
+    ensures { record { bytes = out.new; len = len.new; status = result }
+        ≡ outcome_of (own_shown_at time mode.now (placed (result_map_both (λ now. now.nanosecond) (λ status. status) now)
+        (result_map_both plain_zone (λ status. status) zone.entry))) out.old }
+{
+    match shown_at(time, mode, now, zone) {
+        Ok(text) => store_text(Ok(text.as_str()), out, len),
+        Err(status) => store_text(Err(status), out, len),
+    }
+}
+
+/// What Git shows of the date of a line at an instant in a zone, where there are both.
+fn shown_at(
+    time: GitTime,
+    mode: &CMode,
+    now: Result<Timestamp, Status>,
+    zone: Result<TimeZone<'_>, Status>,
+) -> Result<OwnDateText, Status>
+    ensures { result_map_both (λ text. text.bytes) (λ status. status) result
+        ≡ own_shown_at time mode.now (placed (result_map_both (λ now. now.nanosecond) (λ status. status) now)
+        (result_map_both plain_zone (λ status. status) zone.entry)) }
+{
+    let zone = zone?;
+    let now = now?;
+    let mode = mode_of(mode).ok_or(Status::NoSuchOption)?;
+    match show_git_time(time, mode, now, zone) {
+        Ok(text) => Ok(text),
+        Err(error) => Err(own_status(error)),
+    }
+}
+
+/// The status of a refusal.
+fn own_status(error: OwnDateError) -> Status
+    ensures { result ≡ own_status error }
+{
+    match error {
+        OwnDateError::Range => Status::GitRange,
+        OwnDateError::BeforeEpoch => Status::BeforeEpoch,
+        OwnDateError::OffsetTooWide => Status::OffsetTooWide,
+    }
+}
