@@ -98,7 +98,8 @@ fn shown(time: Time, mode: DateMode, now: Timestamp, zone: TimeZone<'_>) -> Opti
     shown_by(time, mode, now, zone)
 }
 
-/// The clock by which a time is shown.
+/// The clock by which a time is shown. Inlined, so that a zone that is not looked at is not copied.
+#[inline(always)]
 fn shown_clock(time: Time, local: bool, now: Timestamp, zone: TimeZone<'_>) -> Option<Clock>
     ensures { result ≡ shown_clock (moment_at now.nanosecond (plain_zone zone.entry)) local time }
 {

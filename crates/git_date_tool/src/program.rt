@@ -48,8 +48,8 @@ use std::time::Clock;
 /// or a path from `/`, or UTC if nothing stands there. Else it is that of `/etc/localtime`, and UTC if there is no such file. That the
 /// clock, `TZ`, `TZDIR` and the files are the machine's is trusted: no contract can say what they hold.
 ///
-/// [`Status::Success`] if each text was read, [`Status::Failure`] if one was not or the run has a fault, and [`Status::Usage`] if the
-/// words, NOW or the zone are wrong. Takes memory for a line, for zones and for formats.
+/// [`Status::Success`] if each text was read and shown, [`Status::Failure`] if one was not or the run has a fault, and [`Status::Usage`]
+/// if the words, NOW or the zone are wrong. Takes memory for a line, for zones and for formats.
 ///
 /// A line is put into the messages for what was ignored or not understood of a text that was read, one after several texts of which a
 /// word was not understood, one for a fault but that of a closed pipe, and two for wrong words: what is wrong, and the usage. What they

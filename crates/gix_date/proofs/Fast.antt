@@ -3,7 +3,7 @@ pub mod FastHeaders
 pub mod CanonicalBytes
 pub mod UnknownOffsets
 pub mod UsualDates
-pub mod UsualNames
+pub mod UsualPieces
 pub mod Masks
 pub mod Pairs
 pub mod TenDigits

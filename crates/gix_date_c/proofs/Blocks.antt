@@ -2,5 +2,4 @@
 pub mod Cells
 pub mod Columns
 pub mod Parts
-pub mod Placed
 pub mod Steps

@@ -1,5 +1,5 @@
 -- Seconds and header texts whose digits are written into a buffer where they stay.
-use Rattle.std.proofs.Common.{◌≡◌, ◌∙◌, ℕ, ◌+◌, ◌*◌, ◌/◌, ◌%◌, ◌-◌, ◌^◌, ◌<◌, ◌≤◌, cond, Bool, true, false, List, [], ◌∷◌, ◌++◌, drop, length, ℤ, pos, negsuc, ◌≤ℤ◌, unsigned_abs, arith, ap, ap₂, refl, sym, le-leb, length-append}
+use Rattle.std.proofs.Common.{◌≡◌, ◌∙◌, ℕ, ◌+◌, ◌*◌, ◌/◌, ◌%◌, ◌^◌, ◌<◌, ◌≤◌, cond, Bool, true, false, List, [], ◌∷◌, ◌++◌, drop, length, ℤ, pos, negsuc, ◌≤ℤ◌, unsigned_abs, arith, ap, ap₂, refl, sym, le-leb, length-append}
 use Rattle.jiff_core.proofs.SignedLemmas.{signed_arith}
 use Rattle.gix_date.proofs.Fields.Instants.{z_test}
 use Rattle.std.proofs.lemmas.Bool.{lt-leb}

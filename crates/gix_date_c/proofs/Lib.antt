@@ -2,6 +2,7 @@ mod Blocks
 mod Boxed
 mod Checked
 mod Digits
+mod Instants
 mod Kept
 mod Modes
 mod Named

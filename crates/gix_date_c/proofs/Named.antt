@@ -2,10 +2,9 @@
 use Rattle.std.specs.Prelude.{◌≡◌, Bool, true, false, List, ℕ, Option, Some, None, option_map, Result, Ok, Err, ℤ, MatchResult}
 use Rattle.std.proofs.Common.{◌∙◌, sym, subst, ap, inl, inr}
 use Rattle.jiff.specs.Types.{TimeZone}
-use Rattle.jiff.specs.Placed.{IsPosixZone}
 use Rattle.jiff.specs.Words.{plain_zone}
 use Rattle.git_date.specs.Exact.ZoneTexts.{zone_offset}
-use Rattle.gix_date_c.specs.Moments.{IsOffsetZone}
+use Rattle.gix_date_c.specs.Moments.{IsOffsetZone, IsRuleZone}
 use Rattle.gix_date_c.specs.Zones.{IsCopy, IsCopyOf, IsHeld, IsHeldNamed, IsHeldZone, IsKept, IsNamed, IsRead, IsTaken, IsZone, IsZoneOf, Reads, is_file}
 use Rattle.gix_date_c.specs.Laws.{AreCopiesNamed, HasMomentsOf, HasPlacesOf, StaysNamed}
 use Rattle.gix_date_c.specs.Values.Statuses.{number_of}
@@ -20,7 +19,7 @@ held-named : (file : Bool) (text : List ℕ) (offset : ℤ) (held : Held) → Is
     → IsZoneOf offset (Some held) z → IsHeldNamed file text z
 held-named true text offset (Rows read) is (Ok zone) at = (Ok read.value, is, (at.0, at.1, ap Ok at.2))
 held-named true text offset (Rule rule) is (Ok zone) at = absurd is
-held-named false text offset (Rule rule) is (Ok zone) at = subst (IsPosixZone text) (sym at) is
+held-named false text offset (Rule rule) is (Ok zone) at = subst (λ (zone : TimeZone). IsRuleZone text (Ok zone)) (sym at) is
 held-named false text offset (Rows read) is (Ok zone) at = absurd is
 held-named file text offset held is (Err status) at = absurd at
 

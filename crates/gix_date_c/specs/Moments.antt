@@ -1,12 +1,12 @@
 -- Moments: instants in zones.
-use Rattle.std.specs.Prelude.{◌≡◌, ℕ, false, List, None, Result, Ok, Err, ℤ, pos, ◌+ℤ◌, ◌*ℤ◌, MatchResult}
+use Rattle.std.specs.Prelude.{◌≡◌, ℕ, if◌then◌else◌, Bool, true, false, ◌&&◌, List, None, Result, Ok, Err, ℤ, pos, neg_ℤ, ◌+ℤ◌, MatchResult}
+use Rattle.std.specs.Int.Signed.{le_z}
 use Rattle.std.specs.Result.{result_map_both}
 use Rattle.std.specs.Str.{is_utf8}
 use Rattle.std.specs.Borrow.{Bor}
-use Rattle.jiff.specs.Instant.{IsTimestampParts}
 use Rattle.jiff.specs.Placed.{IsPosixZone, fixed_zone}
 use Rattle.jiff.specs.Types.{Offset, TimeZone, Tzif as Table}
-use Rattle.jiff.specs.Words.{offset_at as zone_offset_at, plain_zoned, zoned_nanos, IsOffsetSeconds}
+use Rattle.jiff.specs.Words.{nanos_of_seconds, offset_at as zone_offset_at, plain_zoned, zoned_nanos, IsOffsetSeconds}
 use Rattle.jiff.specs.declared.zoned.Zoned.{Zoned}
 use Rattle.jiff_core.specs.declared.error.Error.{Error as JiffError}
 use Rattle.jiff_core.specs.declared.error.Error.TheVariants.{OutOfMemory}
@@ -14,46 +14,31 @@ use Rattle.jiff_tz.specs.Tzif.{tzif_view, IsParseFailure, IsRefused}
 use Rattle.jiff_tz.specs.TzifReader.{read_tzif}
 use Rattle.jiff_tz.specs.PosixReader.{read_whole}
 use Rattle.jiff_tz.specs.declared.tzif.Tzif.{Tzif}
+use Rattle.gix_date.specs.Fields.Zoned.{first_second, is_instant}
 use Rattle.gix_date_c.specs.declared.moment.CInstant.{CInstant}
 use Rattle.gix_date_c.specs.declared.values.status.Status.{Status}
 use Rattle.gix_date_c.specs.declared.values.status.Status.TheVariants as statuses
-
--- the moment is this instant, in this zone
-abbrev pub IsInstantIn : CInstant → TimeZone → Zoned → Type 0
-IsInstantIn instant zone z =
-    (zoned_nanos z ≡ instant.seconds *ℤ pos 1_000_000_000 +ℤ instant.nanoseconds)
-    × ((plain_zoned z).time_zone ≡ zone)
-
--- the moment of this instant in a zone, where `jiff` has the instant
-abbrev pub IsMomentOf : CInstant → TimeZone → Result Zoned Status → Type 0
-IsMomentOf instant zone now =
-    MatchResult now (IsInstantIn instant zone)
-    (λ status. (status ≡ statuses.InvalidInstant) × (IsTimestampParts instant.seconds instant.nanoseconds → ⊥))
-
--- the moment of this instant in a zone, or why there is no zone
-abbrev pub IsMomentIn : CInstant → Result TimeZone Status → Result Zoned Status → Type 0
-IsMomentIn instant (Ok zone) now = IsMomentOf instant zone now
-IsMomentIn instant (Err status) now = now ≡ Err status
-
--- the moment of an instant in a zone of which this is known, or why there is none
-abbrev pub IsNow : (Result TimeZone Status → Type 0) → CInstant → Result Zoned Status → Type 0
-IsNow IsZone instant now = (zone : Result TimeZone Status) × IsZone zone × IsMomentIn instant zone now
 
 -- an instant in nanoseconds since 1970, and a zone
 abbrev pub Place : Type 0
 Place = ℤ × TimeZone
 
--- the nanoseconds since 1970 of an instant, where `jiff` has it
-abbrev pub IsInstant : CInstant → Result ℤ Status → Type 0
-IsInstant instant nanos =
-    MatchResult nanos (λ n. n ≡ instant.seconds *ℤ pos 1_000_000_000 +ℤ instant.nanoseconds)
-    (λ status. (status ≡ statuses.InvalidInstant) × (IsTimestampParts instant.seconds instant.nanoseconds → ⊥))
+-- the nanoseconds since 1970 of seconds and of nanoseconds beside them
+abbrev pub nanos_in : CInstant → ℤ
+nanos_in instant = nanos_of_seconds instant.seconds +ℤ instant.nanoseconds
 
--- whether `jiff` has this instant
-abbrev pub IsInstantChecked : CInstant → Result (Unit {0}) Status → Type 0
-IsInstantChecked instant check =
-    MatchResult check (λ u. IsTimestampParts instant.seconds instant.nanoseconds)
-    (λ status. (status ≡ statuses.InvalidInstant) × (IsTimestampParts instant.seconds instant.nanoseconds → ⊥))
+-- less than a second, either way
+abbrev pub is_part : ℤ → Bool
+is_part nanoseconds = le_z (neg_ℤ (pos 999_999_999)) nanoseconds && le_z nanoseconds (pos 999_999_999)
+
+-- whether `jiff` has an instant: its seconds are an instant's, its nanoseconds a part of one, and it is none before the first
+abbrev pub has_instant : CInstant → Bool
+has_instant instant =
+    is_instant instant.seconds && is_part instant.nanoseconds && le_z (nanos_of_seconds first_second) (nanos_in instant)
+
+-- the nanoseconds since 1970 of an instant, where `jiff` has it
+unfoldable pub nanos_of : CInstant → Result ℤ Status
+nanos_of instant = if has_instant instant then Ok (nanos_in instant) else Err statuses.InvalidInstant
 
 -- an instant and a zone where there are both, or why not: the zone is looked at first
 abbrev pub placed : Result ℤ Status → Result TimeZone Status → Result Place Status
@@ -61,16 +46,25 @@ placed (Ok nanos) (Ok zone) = Ok (nanos, zone)
 placed (Err status) (Ok zone) = Err status
 placed nanos (Err status) = Err status
 
+-- the instant and the zone of a moment
+abbrev pub place_of : Result Zoned Status → Result Place Status
+place_of now = result_map_both (λ z. (zoned_nanos z, (plain_zoned z).time_zone)) (λ status. status) now
+
+-- whether there is a value, or why not
+abbrev pub checked : {T : Type 0} → Result T Status → Result (Unit {0}) Status
+checked result = result_map_both (λ _. tt) (λ status. status) result
+
 -- an instant and a zone of which this is known, or why there are not both
 abbrev pub IsPlaced : (Result TimeZone Status → Type 0) → CInstant → Result Place Status → Type 0
-IsPlaced IsZone instant place =
-    (zone : Result TimeZone Status) × IsZone zone
-    × ((nanos : Result ℤ Status) × IsInstant instant nanos × (place ≡ placed nanos zone))
+IsPlaced IsZone instant place = (zone : Result TimeZone Status) × IsZone zone × (place ≡ placed (nanos_of instant) zone)
+
+-- the moment of an instant in a zone of which this is known, or why there is none
+abbrev pub IsNow : (Result TimeZone Status → Type 0) → CInstant → Result Zoned Status → Type 0
+IsNow IsZone instant now = IsPlaced IsZone instant (place_of now)
 
 -- whether there are an instant and a zone of which this is known, or why not
 abbrev pub IsPlaceChecked : (Result TimeZone Status → Type 0) → CInstant → Result (Unit {0}) Status → Type 0
-IsPlaceChecked IsZone instant check =
-    (place : Result Place Status) × IsPlaced IsZone instant place × (check ≡ result_map_both (λ p. tt) (λ status. status) place)
+IsPlaceChecked IsZone instant check = (place : Result Place Status) × IsPlaced IsZone instant place × (check ≡ checked place)
 
 -- the offset of a zone at an instant, where there are both
 abbrev pub offset_at : Result Place Status → Result ℤ Status
@@ -82,12 +76,14 @@ IsOffsetZone offset zone =
     MatchResult zone (λ z. (o : Offset) × (o.seconds ≡ offset) × (z ≡ fixed_zone o))
     (λ status. (status ≡ statuses.InvalidZone) × (IsOffsetSeconds offset → ⊥))
 
+-- the zone of a POSIX rule that is text, or not
+abbrev pub IsTextZone : Bool → List ℕ → Result TimeZone Status → Type 0
+IsTextZone true rule zone = MatchResult zone (IsPosixZone rule) (λ status. (status ≡ statuses.InvalidZone) × (read_whole rule ≡ None))
+IsTextZone false rule zone = zone ≡ Err statuses.NotText
+
 -- the zone of a POSIX rule
 abbrev pub IsRuleZone : List ℕ → Result TimeZone Status → Type 0
-IsRuleZone rule (Ok zone) = IsPosixZone rule zone
-IsRuleZone rule (Err statuses.NotText) = is_utf8 rule ≡ false
-IsRuleZone rule (Err statuses.InvalidZone) = read_whole rule ≡ None
-IsRuleZone rule (Err _) = ⊥
+IsRuleZone rule = IsTextZone (is_utf8 rule) rule
 
 -- the status of a TZif file that is refused
 abbrev pub file_status : JiffError → Status

@@ -2,13 +2,11 @@
 use Rattle.std.specs.Prelude.{◌≡◌, ◌⊎◌, ◌==◌, option_map, ℕ, Bool, true, false, List, codes, ℤ, pos, Option, None, Some, Result, Ok, Err}
 use Rattle.core.specs.List.{starts_with}
 use Rattle.std.specs.Borrow.{Bor}
-use Rattle.std.specs.Result.{result_map_both}
 use Rattle.jiff.specs.Types.{TimeZone, Tzif as Table}
-use Rattle.jiff.specs.Placed.{IsPosixZone}
 use Rattle.jiff.specs.Words.{plain_zone}
 use Rattle.jiff_tz.specs.declared.tzif.Tzif.{Tzif}
 use Rattle.git_date.specs.Exact.ZoneTexts.{zone_offset}
-use Rattle.gix_date_c.specs.Moments.{IsFileZone, IsOffsetZone, IsPlaced, IsRuleZone, IsTable, Place, offset_at}
+use Rattle.gix_date_c.specs.Moments.{IsFileZone, IsOffsetZone, IsPlaced, IsRuleZone, IsTable, Place, checked, offset_at}
 use Rattle.gix_date_c.specs.Values.Statuses.{number_of}
 use Rattle.gix_date_c.specs.declared.moment.CInstant.{CInstant}
 use Rattle.gix_date_c.specs.declared.values.status.Status.{Status}
@@ -27,7 +25,7 @@ abbrev pub IsHeld : Bool → List ℕ → Result Held Status → Type 0
 IsHeld true file (Ok (Rows read)) = IsTable file (Ok read.value)
 IsHeld true file (Ok (Rule zone)) = ⊥
 IsHeld true file (Err status) = IsTable file (Err status) ⊎ (status ≡ statuses.Memory)
-IsHeld false rule (Ok (Rule zone)) = IsPosixZone rule (plain_zone zone)
+IsHeld false rule (Ok (Rule zone)) = IsRuleZone rule (Ok (plain_zone zone))
 IsHeld false rule (Ok (Rows read)) = ⊥
 IsHeld false rule (Err status) = IsRuleZone rule (Err status)
 
@@ -60,8 +58,7 @@ IsZone zone = IsZoneOf zone.offset zone.handle.held
 
 -- whether there is a zone of which this is known
 abbrev pub IsZoneChecked : (Result TimeZone Status → Type 0) → Result (Unit {0}) Status → Type 0
-IsZoneChecked IsZone check =
-    (zone : Result TimeZone Status) × IsZone zone × (check ≡ result_map_both (λ z. tt) (λ status. status) zone)
+IsZoneChecked IsZone check = (zone : Result TimeZone Status) × IsZone zone × (check ≡ checked zone)
 
 -- the offset at an instant of a zone of which this is known, or why there is none
 abbrev pub IsOffset : (Result TimeZone Status → Type 0) → CInstant → Result ℤ Status → Type 0

@@ -8,6 +8,7 @@ use crate::values::buffer::store_text;
 use crate::values::status::Status;
 use crate::values::text::utf8_text;
 use crate::values::time::{CTime, load_time, store_time};
+use gix_date::bytes::text_of;
 use gix_date::{Time, is_canonical_header, parse_header};
 
 /// The time of a commit header, read leniently.
@@ -48,8 +49,8 @@ pub extern "C" fn gix_date_is_canonical_header(text: &[u8]) -> bool
 pub(crate) fn is_canonical(text: &[u8]) -> bool
     ensures { result ≡ is_canonical_header text.now }
 {
-    match utf8_text(text) {
-        Ok(text) => is_canonical_header(text),
-        Err(_) => false,
+    match text_of(text) {
+        Some(text) => is_canonical_header(text),
+        None => false,
     }
 }

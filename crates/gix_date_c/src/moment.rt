@@ -1,8 +1,8 @@
 //! Moments: instants in zones.
-ghost use Rattle.std.specs.Prelude.{◌≡◌};
+ghost use Rattle.std.specs.Prelude.{◌≡◌, Ok};
 ghost use Rattle.std.specs.Result.{result_map_both};
 ghost use Rattle.jiff.specs.Words.{plain_zone};
-ghost use Rattle.gix_date_c.specs.Moments.{IsInstant, IsInstantChecked, IsMomentIn, IsMomentOf, IsOffsetZone, IsRuleZone, IsTable, file_status};
+ghost use Rattle.gix_date_c.specs.Moments.{IsOffsetZone, IsRuleZone, IsTable, checked, file_status, nanos_of, place_of, placed};
 
 use crate::values::status::Status;
 use crate::values::text::utf8_text;
@@ -29,13 +29,13 @@ pub(crate) fn moment_in<'z>(
     instant: &CInstant,
     zone: Result<TimeZone<'z>, Status>,
 ) -> Result<Zoned<'z>, Status>
-    ensures { IsMomentIn instant.now (result_map_both plain_zone (λ status. status) zone.entry) result }
+    ensures { place_of result ≡ placed (nanos_of instant.now) (result_map_both plain_zone (λ status. status) zone.entry) }
 {
     moment(instant, zone?)
 }
 
 fn moment<'z>(instant: &CInstant, zone: TimeZone<'z>) -> Result<Zoned<'z>, Status>
-    ensures { IsMomentOf instant.now (plain_zone zone.entry) result }
+    ensures { place_of result ≡ placed (nanos_of instant.now) (Ok (plain_zone zone.entry)) }
 {
     Ok(timestamp_of(instant)?.to_zoned(zone))
 }
@@ -43,7 +43,7 @@ fn moment<'z>(instant: &CInstant, zone: TimeZone<'z>) -> Result<Zoned<'z>, Statu
 /// An instant, where `jiff` has it.
 #[inline(always)]
 pub(crate) fn timestamp_of(instant: &CInstant) -> Result<Timestamp, Status>
-    ensures { IsInstant instant.now (result_map_both (λ now. now.nanosecond) (λ status. status) result) }
+    ensures { result_map_both (λ now. now.nanosecond) (λ status. status) result ≡ nanos_of instant.now }
 {
     match Timestamp::new(instant.seconds, instant.nanoseconds) {
         Ok(now) => Ok(now),
@@ -54,7 +54,7 @@ pub(crate) fn timestamp_of(instant: &CInstant) -> Result<Timestamp, Status>
 /// Whether `jiff` has an instant. The parts of one from 1970 on are looked at one by one, and not added up.
 #[inline(always)]
 pub(crate) fn check_instant(instant: &CInstant) -> Result<(), Status>
-    ensures { IsInstantChecked instant.now result }
+    ensures { result ≡ checked (nanos_of instant.now) }
 {
     if instant.seconds >= 0
         && instant.seconds < LAST_SECOND

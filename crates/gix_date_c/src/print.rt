@@ -3,7 +3,7 @@ ghost use Rattle.std.specs.Prelude.{◌≡◌, Result, IfSome, IfNone, ◌<◌};
 ghost use Rattle.std.specs.Str.{is_utf8};
 ghost use Rattle.gix_date.specs.Printing.Formats.{Prints, PrintsPattern, PrintsPatternOrSeconds, PrintsOrSeconds};
 ghost use Rattle.gix_date_c.specs.Values.Buffers.{Outcome, Puts, outcome_of};
-ghost use Rattle.gix_date_c.specs.Printing.{IsFormat, IsFormatted, IsPatternPrinted, PrintsPatternSo, PrintsSo, print_status, printed_text};
+ghost use Rattle.gix_date_c.specs.Printing.{IsFormat, IsFormatted, IsPatternPrinted, IsPrinted, PrintsPatternSo, PrintsSo, print_status, printed_text};
 ghost use Rattle.gix_date_c.specs.Values.Times.{load_time};
 
 use crate::values::buffer::store_text;
@@ -89,16 +89,54 @@ fn put_formatted(
     ensures { Puts (IsFormatted (PrintsSo or_unix (load_time time.now)) format)
         out.old (record { bytes = out.new; len = len.new; status = result }) }
 {
-    let Some(format) = format_of(format) else {
-        return store_text(Err(Status::NoSuchOption), out, len);
-    };
-    let time = load_time(time);
-    let printed = time.format_to_buf(format);
+    // An arm for each kind of format: where they meet, the text is copied twice more.
+    match format_of(format) {
+        Some(Format::Custom(custom)) => {
+            put_in_format(alloc, time, Format::Custom(custom), or_unix, out, len)
+        }
+        Some(format) => put_in_format(alloc, time, format, or_unix, out, len),
+        None => store_text(Err(Status::NoSuchOption), out, len),
+    }
+}
+
+/// Puts a time in a format into a buffer, or the seconds of one that has no such text, if they are wanted.
+#[inline(always)]
+fn put_in_format(
+    alloc: Global,
+    time: &CTime,
+    format: Format,
+    or_unix: bool,
+    out: &mut [u8],
+    len: &mut usize,
+) -> u32
+    ensures { Puts (IsPrinted (PrintsSo or_unix (load_time time.now) format))
+        out.old (record { bytes = out.new; len = len.new; status = result }) }
+{
+    let printed = load_time(time).format_to_buf(format);
     match &printed {
         Some(text) => store_text(Ok(text.as_str()), out, len),
-        None if or_unix => store_printed(time.format_or_unix(alloc, format), out, len),
-        None => store_printed(time.format(alloc, format), out, len),
+        None => put_printed(alloc, time, format, or_unix, out, len),
     }
+}
+
+/// Puts what the library prints of a time in a format into a buffer, or the seconds, if they are wanted.
+#[inline(never)]
+fn put_printed(
+    alloc: Global,
+    time: &CTime,
+    format: Format,
+    or_unix: bool,
+    out: &mut [u8],
+    len: &mut usize,
+) -> u32
+    ensures { Puts (IsPrinted (PrintsSo or_unix (load_time time.now) format))
+        out.old (record { bytes = out.new; len = len.new; status = result }) }
+{
+    let time = load_time(time);
+    if or_unix {
+        return store_printed(time.format_or_unix(alloc, format), out, len);
+    }
+    store_printed(time.format(alloc, format), out, len)
 }
 
 /// Puts a time by a pattern into a buffer, or the seconds of one that has no such text, if they are wanted.

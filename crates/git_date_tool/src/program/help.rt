@@ -43,8 +43,8 @@ header answer `not text`.
 --help, -h     prints this
 --version      prints the version
 
-A value may stand after `=`, as in --zone=+0200. The status is 0 if each text was read, 1 if one was not or on a fault, and 2 where the
-command line is not as above or there is no zone: then a line on standard error names the word that is wrong.
+A value may stand after `=`, as in --zone=+0200. The status is 0 if each text was read and shown, 1 if one was not or on a fault, and 2
+where the command line is not as above or there is no zone: then a line on standard error says what is wrong.
 
 Of refusals, unreadable, unknown-format, no-header, unclear and not-understood mean that the reader does not understand the text, or what
 stands at the place, and ignored, by --strict, that it skips a word. number-too-large, back-too-far, year-refused, range and

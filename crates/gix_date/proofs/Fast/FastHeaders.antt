@@ -120,6 +120,11 @@ pub sign-taken : (x : List ℕ) (s : Sign) (rest : List ℕ) → read_sign x ≡
 unfolding read_sign
 sign-taken x s rest e = sign_from x (skip_char plus x) (skip_char minus x) s rest refl refl e
 
+pub sign-mark : (mark : ℕ) (s : Sign) (rest : List ℕ) → IsSign mark s → read_sign (mark ∷ rest) ≡ Some (s, rest)
+unfolding read_sign skip_char
+sign-mark mark s rest (inl h) = rw (h.0, h.1) refl
+sign-mark mark s rest (inr h) = rw (h.0, h.1) refl
+
 pub record TookLast (x : List ℕ) (seconds : Option ℕ) : Type 0 where
   pub bytes : AreNumberBytes x
   pub none : seconds ≡ None → x ≡ []

@@ -5,12 +5,12 @@ use Rattle.std.proofs.lemmas.List.{length-map, get_or-map, get_or-take, get_or-d
 use Rattle.std.proofs.lemmas.Simd.{length-chunk, get_or-replicate}
 use Rattle.std.specs.Char.{is_ascii_digit}
 use Rattle.gix_date.specs.Text.Characters.{space}
-use Rattle.gix_date.specs.Text.Front.{skip_char}
 use Rattle.gix_date.specs.Text.Numbers.{read_two_digits, two_digit_value}
 use Rattle.gix_date.specs.Fields.FieldTexts.{IsSign}
-use Rattle.gix_date.specs.Fields.Offsets.{offset_fields, read_sign, last_pair}
+use Rattle.gix_date.specs.Fields.Offsets.{offset_fields, last_pair}
 use Rattle.gix_date.specs.Header.Reading.{ArePairsButSixth, IsUsualHeader}
 use Rattle.gix_date.specs.declared.parsing.offset.Sign.{Sign}
+use Rattle.gix_date.proofs.Fast.FastHeaders.{sign-mark}
 use Rattle.gix_date.proofs.Fast.Masks.{masks-tell}
 use Rattle.gix_date.proofs.Fast.Pairs.{is_other, other_bits, other-bits, digit, numbers_in, pair-at, pair-of, AreTen, IsPairOf, five_pairs, ten-of}
 use Rattle.gix_date.proofs.Text.ShortDigits.{bare-int}
@@ -48,11 +48,10 @@ pair-but-sixth bytes sixteen fits e k l n =
     places i low high = elim (cases_lt k 5) [ inl m ↦ inl (omega (arith, m, high)) | inr m ↦ inr (omega (arith, m, n, low), omega (arith, l, high)) ]
 
 -- a sign and two pairs
-offset-of-pairs : (mark k l m n hours minutes : ℕ) (sign : Sign) → IsSign mark sign → two_digit_value k l ≡ Some hours → two_digit_value m n ≡ Some minutes
+pub offset-of-pairs : (mark k l m n hours minutes : ℕ) (sign : Sign) → IsSign mark sign → two_digit_value k l ≡ Some hours → two_digit_value m n ≡ Some minutes
     → offset_fields (mark ∷ k ∷ l ∷ m ∷ n ∷ []) ≡ Some (record { sign = sign; hours = hours; minutes = minutes; seconds = None })
-unfolding offset_fields read_sign skip_char read_two_digits last_pair
-offset-of-pairs mark k l m n hours minutes sign (inl (p, q)) h e = rw (p, q, h, e) refl
-offset-of-pairs mark k l m n hours minutes sign (inr (p, q)) h e = rw (p, q, h, e) refl
+unfolding offset_fields read_two_digits last_pair
+offset-of-pairs mark k l m n hours minutes sign is h e = rw (sign-mark mark sign (k ∷ l ∷ m ∷ n ∷ []) is, h, e) refl
 
 told : (text ps : List ℕ) → ArePairsButSixth text ps → (k : ℕ) → k < 8 → k ≢ 5 → IsPairOf (get_or text (2 * k) 0) (get_or text (2 * k + 1) 0) (get_or ps k 0)
 told text ps are k l n = pair-of (get_or text (2 * k) 0) (get_or text (2 * k + 1) 0) (get_or ps k 0) (are k l n)

@@ -1,12 +1,9 @@
 -- The table of pairs of digits.
-use Rattle.std.proofs.Common.{◌≡◌, ◌∙◌, ℕ, zero, suc, ◌+◌, ◌*◌, ◌/◌, ◌%◌, ◌<◌, ◌≤◌, Bool, true, ◌&&◌, List, [], ◌∷◌, length, take, drop, refl, ap, ap₂, arith}
+use Rattle.std.proofs.Common.{◌≡◌, ◌∙◌, ℕ, zero, suc, ◌+◌, ◌*◌, ◌/◌, ◌%◌, ◌<◌, ◌≤◌, Bool, true, ◌&&◌, List, [], ◌∷◌, length, get_or, refl, ap, ap₂, arith}
 use Rattle.std.proofs.lemmas.Bool.{and_parts, eqb-true}
-use Rattle.std.proofs.lemmas.Str.{IsCharBoundary-from_ascii}
 use Rattle.std.specs.Prelude.{◌==◌}
-use Rattle.std.specs.Str.{IsCharBoundary}
 use Rattle.gix_date.specs.Text.Numbers.{two_digits}
 use Rattle.gix_date.specs.declared.clock.pieces.TheConstants.{PAIRS}
-use Rattle.gix_date.proofs.Printing.ShownPieces.{name_ascii}
 
 -- a table has the digits of each number from this one on
 abbrev are_pairs : ℕ → List ℕ → Bool
@@ -14,7 +11,7 @@ are_pairs n [] = true
 are_pairs n (tens ∷ []) = true
 are_pairs n (tens ∷ ones ∷ rest) = tens == 48 + n / 10 && (ones == 48 + n % 10 && are_pairs (suc n) rest)
 
-pair-from : (first n : ℕ) (table : List ℕ) → are_pairs first table ≡ true → 2 * n + 2 ≤ length table → take 2 (drop (2 * n) table) ≡ two_digits (first + n)
+pair-from : (first n : ℕ) (table : List ℕ) → are_pairs first table ≡ true → 2 * n + 2 ≤ length table → get_or table (2 * n) 0 ∷ get_or table (2 * n + 1) 0 ∷ [] ≡ two_digits (first + n)
 pair-from first n [] are within = absurd (omega (arith, within))
 pair-from first n (tens ∷ []) are within = absurd (omega (arith, within))
 pair-from first zero (tens ∷ ones ∷ rest) are within =
@@ -32,14 +29,11 @@ pair-from first (suc n) (tens ∷ ones ∷ rest) are within =
     let more = are_pairs (suc first) rest in
     let rest_are = (and_parts one more (and_parts ten (one && more) are).1).1 in
     let at : 2 * suc n ≡ suc (suc (2 * n)) = omega arith in
+    let after : 2 * suc n + 1 ≡ suc (suc (2 * n + 1)) = omega arith in
     let same : suc first + n ≡ first + suc n = omega arith in
-    ap (λ (k : ℕ). take 2 (drop k (tens ∷ ones ∷ rest))) at ∙ pair-from (suc first) n rest rest_are (omega (arith, within)) ∙ ap (λ (n : ℕ). two_digits n) same
+    ap₂ (λ (j k : ℕ). get_or (tens ∷ ones ∷ rest) j 0 ∷ get_or (tens ∷ ones ∷ rest) k 0 ∷ []) at after ∙ pair-from (suc first) n rest rest_are (omega (arith, within)) ∙ ap (λ (n : ℕ). two_digits n) same
 
-pub pair-at : (n : ℕ) → n < 100 → take 2 (drop (2 * n) PAIRS.now) ≡ two_digits n
+pub pair-at : (n : ℕ) → n < 100 → get_or PAIRS.now (2 * n) 0 ∷ get_or PAIRS.now (2 * n + 1) 0 ∷ [] ≡ two_digits n
 pair-at n small =
     let same : 0 + n ≡ n = omega arith in
     pair-from 0 n PAIRS.now refl (omega arith) ∙ ap (λ (n : ℕ). two_digits n) same
-
--- it may be cut anywhere
-pub pairs-cut : (k : ℕ) → k ≤ 200 → IsCharBoundary PAIRS.now k
-pairs-cut k within = IsCharBoundary-from_ascii PAIRS.now k (name_ascii (PAIRS.now ∷ []) 0 refl) within

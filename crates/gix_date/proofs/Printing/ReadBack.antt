@@ -106,7 +106,7 @@ year-is-four n h = (is-digit (n / 100 / 10) (omega arith), is-digit (n / 100 % 1
 pub date-is : (d : DateFields) → d.year ≤ 9999 → d.month < 100 → d.day < 100 → IsPlainDate (date_text d) d
 date-is d y m e = record { year = four_digits d.year; month = two_digits d.month; day = two_digits d.day; whole = refl; is_year = year-is-four d.year y; is_month = two-is d.month m; is_day = two-is d.day e }
 
-no-leap : (n : ℕ) → n < 60 → without_leap_second n ≡ n
+pub no-leap : (n : ℕ) → n < 60 → without_leap_second n ≡ n
 no-leap n h = let other : (n == 60) ≡ false = grind (arith, nat_tests) in rw other refl
 
 pub clock-is : (c : ClockFields) → c.hour < 100 → c.minute < 100 → c.second < 60 → IsClock (clock_text c) c

@@ -1,4 +1,5 @@
 //! The pieces of dates, each appended to a buffer of any capacity.
+ghost use Rattle.std.specs.Str.{IsAscii};
 ghost use Rattle.std.specs.Prelude.{◌≡◌, ◌+◌, ◌≤◌, ◌<◌, ◌∷◌, ◌++◌, [], decimal, length, unsigned_abs};
 ghost use Rattle.arrayvec.specs.ArrayString.{array_string_len};
 ghost use Rattle.gix_date.specs.Text.Characters.{space};
@@ -14,20 +15,43 @@ use crate::clock::Clock;
 use crate::names::{day_name, month_name};
 use crate::time::{OffsetInSeconds, SECONDS_PER_HOUR, SECONDS_PER_MINUTE};
 use arrayvec::ArrayString;
+use std::str;
 
 /// The two digits of each number below 100.
 const PAIRS: &str =
     "00010203040506070809101112131415161718192021222324252627282930313233343536373839404142434445464748495051525354555657585960616263646566676869707172737475767778798081828384858687888990919293949596979899";
 
-/// The two digits of a number below 100.
+/// The two digits of a number below 100. They are copied by value, here and below: so the compiler keeps them in
+/// registers, and copies them to the text at once.
 #[inline(always)]
-fn two_digits(n: u8) -> &'static str
+fn two_digits(n: u8) -> [u8; 2]
     requires { n < 100 }
-    ensures digits { result.now ≡ two_digits n }
-    ensures len { length result.now ≡ 2 }
+    ensures { result ≡ two_digits n }
 {
-    let from = 2 * usize::from(n);
-    &PAIRS[from..from + 2]
+    let place = 2 * usize::from(n);
+    let pairs = PAIRS.as_bytes();
+    [pairs[place], pairs[place + 1]]
+}
+
+/// The three letters of a name.
+#[inline(always)]
+pub(crate) fn letters(name: &str) -> [u8; 3]
+    requires { length name.now ≡ 3 }
+    ensures { result ≡ name.now }
+{
+    let bytes = name.as_bytes();
+    [bytes[0], bytes[1], bytes[2]]
+}
+
+/// Appends bytes of ASCII.
+#[inline(always)]
+pub(crate) fn push_ascii<const CAP: usize>(text: &mut ArrayString<CAP>, bytes: &[u8])
+    requires ascii { IsAscii bytes.now }
+    requires room { array_string_len text.old + length bytes.now ≤ CAP }
+    ensures bytes { text.new.bytes ≡ text.old.bytes ++ bytes.now }
+    ensures len { array_string_len text.new ≡ array_string_len text.old + length bytes.now }
+{
+    text.push_str(unsafe { str::from_utf8_unchecked(bytes) });
 }
 
 /// Appends the two digits of a number below 100.
@@ -53,7 +77,40 @@ pub(crate) fn push_pair<const CAP: usize>(text: &mut ArrayString<CAP>, n: u8)
     ensures bytes { text.new.bytes ≡ text.old.bytes ++ two_digits n }
     ensures len { array_string_len text.new ≡ array_string_len text.old + 2 }
 {
-    text.push_str(two_digits(n));
+    push_ascii(text, &two_digits(n));
+}
+
+/// The four digits of a number below 10000.
+#[inline(always)]
+fn four_digits(n: u16) -> [u8; 4]
+    requires { n ≤ 9999 }
+    ensures { result ≡ four_digits n }
+{
+    let [a, b] = two_digits((n / 100) as u8);
+    let [c, d] = two_digits((n % 100) as u8);
+    [a, b, c, d]
+}
+
+/// `YYYY-MM-DD` of a clock.
+#[inline(always)]
+fn date_bytes(t: Clock) -> [u8; 10]
+    ensures { result ≡ date_text t.date }
+{
+    let [a, b, c, d] = four_digits(t.year());
+    let [e, f] = two_digits(t.month());
+    let [g, h] = two_digits(t.day());
+    [a, b, c, d, b'-', e, f, b'-', g, h]
+}
+
+/// `hh:mm:ss` of a clock.
+#[inline(always)]
+fn clock_bytes(t: Clock) -> [u8; 8]
+    ensures { result ≡ clock_text t.clock }
+{
+    let [a, b] = two_digits(t.hour());
+    let [c, d] = two_digits(t.minute());
+    let [e, f] = two_digits(t.second());
+    [a, b, b':', c, d, b':', e, f]
 }
 
 /// Appends the four digits of the year.
@@ -63,9 +120,7 @@ pub fn push_year<const CAP: usize>(text: &mut ArrayString<CAP>, t: Clock)
     ensures bytes { text.new.bytes ≡ text.old.bytes ++ four_digits t.date.year }
     ensures len { array_string_len text.new ≡ array_string_len text.old + 4 }
 {
-    let year = t.year();
-    push_pair(text, (year / 100) as u8);
-    push_pair(text, (year % 100) as u8);
+    push_ascii(text, &four_digits(t.year()));
 }
 
 /// Appends the day of the month, with no zero before it.
@@ -90,8 +145,8 @@ pub fn push_weekday<const CAP: usize>(text: &mut ArrayString<CAP>, t: Clock)
     ensures bytes { text.new.bytes ≡ text.old.bytes ++ (day_name t.weekday ++ (space ∷ [])) }
     ensures len { array_string_len text.new ≡ array_string_len text.old + 4 }
 {
-    text.push_str(day_name(t.weekday()));
-    text.push(' ');
+    let [a, b, c] = letters(day_name(t.weekday()));
+    push_ascii(text, &[a, b, c, b' ']);
 }
 
 /// Appends `Mmm `.
@@ -101,8 +156,8 @@ pub fn push_month<const CAP: usize>(text: &mut ArrayString<CAP>, t: Clock)
     ensures bytes { text.new.bytes ≡ text.old.bytes ++ (month_name t.date.month ++ (space ∷ [])) }
     ensures len { array_string_len text.new ≡ array_string_len text.old + 4 }
 {
-    text.push_str(month_name(t.month()));
-    text.push(' ');
+    let [a, b, c] = letters(month_name(t.month()));
+    push_ascii(text, &[a, b, c, b' ']);
 }
 
 /// Appends `YYYY-MM-DD`.
@@ -112,11 +167,7 @@ pub fn push_date<const CAP: usize>(text: &mut ArrayString<CAP>, t: Clock)
     ensures bytes { text.new.bytes ≡ text.old.bytes ++ date_text t.date }
     ensures len { array_string_len text.new ≡ array_string_len text.old + 10 }
 {
-    push_year(text, t);
-    text.push('-');
-    push_pair(text, t.month());
-    text.push('-');
-    push_pair(text, t.day());
+    push_ascii(text, &date_bytes(t));
 }
 
 /// Appends `hh:mm:ss`.
@@ -126,11 +177,7 @@ pub fn push_clock<const CAP: usize>(text: &mut ArrayString<CAP>, t: Clock)
     ensures bytes { text.new.bytes ≡ text.old.bytes ++ clock_text t.clock }
     ensures len { array_string_len text.new ≡ array_string_len text.old + 8 }
 {
-    push_pair(text, t.hour());
-    text.push(':');
-    push_pair(text, t.minute());
-    text.push(':');
-    push_pair(text, t.second());
+    push_ascii(text, &clock_bytes(t));
 }
 
 /// Appends the sign of an offset and two digits of its whole hours.

@@ -9,8 +9,8 @@ ghost use Rattle.gix_date.specs.Printing.NamedTexts.{rfc2822_text, git_rfc2822_t
 
 use crate::clock::Clock;
 use crate::clock::pieces::{
-    push_clock, push_colon_offset, push_date, push_day, push_month, push_offset, push_pair,
-    push_weekday, push_year,
+    letters, push_ascii, push_clock, push_colon_offset, push_date, push_day, push_month,
+    push_offset, push_pair, push_weekday, push_year,
 };
 use crate::names::{day_name, month_name};
 use arrayvec::ArrayString;
@@ -73,8 +73,8 @@ fn push_from_month<const CAP: usize>(text: &mut ArrayString<CAP>, t: Clock)
         ++ space ∷ clock_text t.clock ++ space ∷ compact_offset_text t.offset }
     ensures len { array_string_len text.new ≡ array_string_len text.old + 24 }
 {
-    text.push(' ');
-    text.push_str(month_name(t.month()));
+    let [a, b, c] = letters(month_name(t.month()));
+    push_ascii(text, &[b' ', a, b, c]);
     push_from_year(text, t);
 }
 
@@ -85,8 +85,8 @@ fn push_rfc2822_name<const CAP: usize>(text: &mut ArrayString<CAP>, t: Clock)
     ensures bytes { text.new.bytes ≡ text.old.bytes ++ (day_name t.weekday ++ comma ∷ space ∷ []) }
     ensures len { array_string_len text.new ≡ array_string_len text.old + 5 }
 {
-    text.push_str(day_name(t.weekday()));
-    text.push_str(", ");
+    let [a, b, c] = letters(day_name(t.weekday()));
+    push_ascii(text, &[a, b, c, b',', b' ']);
 }
 
 /// Appends `Www, DD Mmm YYYY hh:mm:ss +hhmm`.

@@ -108,6 +108,8 @@ pub(crate) enum Reading<'a> {
 /// [`ParseError::UnknownFormat`] is for a text that begins as no form. [`ParseError::MissingNow`] is also for a date that
 /// has to be in the moment's zone without a moment, and [`ParseError::Range`] if such a date has no instant there. Takes no
 /// memory.
+// Inlined, so that the moment is not copied for a call.
+#[inline(always)]
 pub fn parse_carefully(
     input: &str,
     now: Option<Zoned<'_>>,
@@ -128,9 +130,9 @@ pub fn parse_carefully(
     }
 }
 
-/// What a text says by the options.
+/// What a text says by the options. Not inlined, so that its frame is not that of a caller with a moment.
 #[tactic(auto, unfolding(crate::specs::Careful::Outcome::careful_reading))]
-#[inline(always)]
+#[inline(never)]
 fn read(input: &str, options: CarefulOptions) -> Reading<'_>
     ensures reading { reading_of result ≡ careful_reading options input.now }
     ensures fits { IsReadingOf input.now result }

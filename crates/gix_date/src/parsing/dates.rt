@@ -8,6 +8,7 @@ ghost use Rattle.gix_date.specs.Families.Epoch.{at_time, min_bare_epoch, utc_tim
 ghost use Rattle.gix_date.specs.Families.Order.{AtText, RawText, family_answer, first_family, first_family_by, ParseOutcome, ParseNoAllocOutcome, RefusesWithCopy, RefusesUnknown, RefusesDate};
 ghost use Rattle.gix_date.specs.Families.Raw.{allows};
 ghost use Rattle.gix_date.specs.Families.Shapes.{first_among, shape_families};
+ghost use Rattle.gix_date.specs.Families.Usual.{AnswersFirst};
 ghost use Rattle.gix_date.specs.Git.Forms.{git_time};
 ghost use Rattle.gix_date.specs.Relative.Dates.{relative_date};
 
@@ -25,6 +26,9 @@ use crate::parsing::shape::Shape;
 use crate::time::{SecondsSinceUnixEpoch, Time};
 use jiff::Zoned;
 use std::alloc::Global;
+
+/// How many bytes `2018-12-24` has.
+const DAY_LEN: usize = 10;
 
 /// The least seconds of a bare epoch: less could be a compact date, as in Git.
 pub(crate) const MIN_EPOCH: i64 = 100_000_000;
@@ -81,7 +85,7 @@ pub fn parse_with(
 /// [`ParseError::UnknownFormat`] if no family holds the text, or a formatted date has an offset above 23:59.
 /// [`ParseError::DateConversion`] if a day alone has no instant. [`ParseError::MissingNow`] for a relative text without
 /// a moment, and [`ParseError::Range`] if it names no instant of `jiff`.
-// Inlined, so that a caller without a moment passes none on.
+// Inlined, so that a caller without a moment passes none on, and has no frame beside that of a usual date.
 #[inline(always)]
 pub fn parse_no_alloc(
     input: &str,
@@ -91,7 +95,10 @@ pub fn parse_no_alloc(
     ensures outcome { ParseNoAllocOutcome (first_family_by (allows raw) input.now) now.entry result }
     ensures offset_fits { IfOk result (λ t. IsOffsetSeconds t.offset) }
 {
-    outcome(first_answer(input, raw), now)
+    if let Some(time) = usual_date(input, raw) {
+        return Ok(time);
+    }
+    outcome(any_answer(input, raw), now)
 }
 
 /// What a call without an allocator results in, by the first answer.
@@ -125,24 +132,60 @@ fn with_copy(alloc: Global, input: &str, refusal: ParseError) -> Error
     }
 }
 
-/// The answer of the first family that holds the text. Raw texts, numbers and dates in their usual form come first, since
-/// no family before theirs holds them. Their lengths tell which is tried.
-// Inlined into both callers, so that neither hands the answer over in memory.
+/// The answer of the first family that holds the text.
 #[inline(always)]
 pub(crate) fn first_answer(input: &str, raw: RawOffsets) -> Option<Answer<'_>>
     ensures first { option_map answer_of result ≡ first_family_by (allows raw) input.now }
     ensures offset_fits { IfSome result HasJiffOffset }
 {
-    if input.len() < MIN_USUAL_LEN {
-        if let Some(time) = fast_raw(input, raw) {
-            return Some(Answer::Absolute(time));
-        }
-        if let Some(seconds) = fast_number(input) {
-            return epoch_answer(seconds);
-        }
-    } else if let Some(time) = usual_time(input.as_bytes()) {
+    if let Some(time) = usual_date(input, raw) {
         return Some(Answer::Absolute(time));
     }
+    any_answer(input, raw)
+}
+
+/// The time of a raw text, a number or a date in its usual form, which no family before theirs holds. Their lengths tell
+/// which is tried. `None` means only that the text is not in such a form.
+#[inline(always)]
+fn usual_date(input: &str, raw: RawOffsets) -> Option<Time>
+    ensures first { IfSome result (λ t. first_family_by (allows raw) input.now ≡ Some (Absolute t)) }
+    ensures offset_fits { IfSome result (λ t. IsOffsetSeconds t.offset) }
+{
+    if input.len() >= MIN_USUAL_LEN {
+        return usual_time(input.as_bytes());
+    }
+    if let Some(time) = fast_raw(input, raw) {
+        return Some(time);
+    }
+    if let Some(seconds) = fast_number(input) {
+        return epoch_time(seconds);
+    }
+    usual_day(input)
+}
+
+/// The midnight in UTC of a day alone of ten bytes: `2018-12-24`.
+#[inline(always)]
+fn usual_day(input: &str) -> Option<Time>
+    ensures first { IfSome result (AnswersFirst input.now) }
+    ensures offset_fits { IfSome result (λ t. IsOffsetSeconds t.offset) }
+{
+    let bytes = input.as_bytes();
+    if bytes.len() != DAY_LEN || bytes[4] != b'-' {
+        return None;
+    }
+    match parse_dashed(input) {
+        Some(Answer::Absolute(time)) => Some(time),
+        _ => None,
+    }
+}
+
+/// The answer of the first family that holds the text, by its shape. Not inlined, so that a usual date does not pay for
+/// the frames of all families.
+#[inline(never)]
+fn any_answer(input: &str, raw: RawOffsets) -> Option<Answer<'_>>
+    ensures first { option_map answer_of result ≡ first_family_by (allows raw) input.now }
+    ensures offset_fits { IfSome result HasJiffOffset }
+{
     answer_by_shape(Shape::of(input), input, raw)
 }
 
@@ -163,6 +206,7 @@ macro_rules! first_of {
 /// The answer of the first of a shape's families that holds the text. Each arm tries the families of `shape_families`, in
 /// their order.
 #[tactic(auto, unfolding(crate::specs::Families::Epoch::epoch_time))]
+#[inline(always)]
 fn answer_by_shape<'a>(shape: Shape, input: &'a str, raw: RawOffsets) -> Option<Answer<'a>>
     ensures first { option_map answer_of result ≡ first_among (allows raw) (shape_families shape) input.now }
     ensures offset_fits { IfSome result HasJiffOffset }
@@ -210,8 +254,17 @@ fn epoch_answer<'a>(seconds: SecondsSinceUnixEpoch) -> Option<Answer<'a>>
         ≡ (if le_z min_bare_epoch seconds then Some (Absolute (utc_time seconds)) else None) }
     ensures offset_fits { IfSome result HasJiffOffset }
 {
+    Some(Answer::Absolute(epoch_time(seconds)?))
+}
+
+/// The time of a bare epoch of this number.
+#[inline(always)]
+fn epoch_time(seconds: SecondsSinceUnixEpoch) -> Option<Time>
+    ensures time { result ≡ (if le_z min_bare_epoch seconds then Some (utc_time seconds) else None) }
+    ensures offset_fits { IfSome result (λ t. IsOffsetSeconds t.offset) }
+{
     if seconds >= MIN_EPOCH {
-        Some(Answer::Absolute(Time::new(seconds, 0)))
+        Some(Time::new(seconds, 0))
     } else {
         None
     }

@@ -1,7 +1,6 @@
 //! Git's own forms of a date.
 ghost use Rattle.std.specs.Prelude.{◌≡◌, ◌<◌, ◌≤◌, if◌then◌else◌, IfSome, Some, None, option_map};
 ghost use Rattle.jiff.specs.Words.{IsOffsetSeconds};
-ghost use Rattle.std.specs.Str.{trim};
 ghost use Rattle.gix_date.specs.Careful.Dates.{is_whole_clock, is_whole_git, unzoned_git_time};
 ghost use Rattle.gix_date.specs.Fields.Civil.{ClockFits, DateFits};
 ghost use Rattle.gix_date.specs.Text.Front.{read_view};
@@ -14,6 +13,7 @@ use crate::parsing::git::clock::parse_clock;
 use crate::parsing::git::cut::clock_cut;
 use crate::parsing::git::offset::parse_git_offset;
 use crate::parsing::numbers::{read_two_digits, read_year};
+use crate::parsing::space_words::trimmed;
 use crate::time::{OffsetInSeconds, Time};
 
 mod clock;
@@ -162,17 +162,6 @@ fn time_at(date: DateFields, clock: ClockFields, offset: OffsetInSeconds) -> Opt
 {
     let seconds = civil_instant(date, clock, offset)?;
     Some(Time::new(seconds, offset))
-}
-
-/// A text without the white space round it. Nearly all texts have none.
-#[inline(always)]
-fn trimmed(text: &str) -> &str
-    ensures { result.now ≡ trim text.now }
-{
-    match text.as_bytes() {
-        [first, .., last] if first.is_ascii_graphic() && last.is_ascii_graphic() => text,
-        _ => text.trim(),
-    }
 }
 
 /// A year of four digits, a month of two and a day of two, with no mark between them.

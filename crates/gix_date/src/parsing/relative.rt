@@ -11,6 +11,7 @@ use crate::error::ParseError;
 use crate::parsing::relative::pairs::next_pair;
 use crate::parsing::relative::scan::are_pairs;
 use crate::parsing::relative::steps::{earlier, resolve, subtract};
+use crate::parsing::space_words::trimmed;
 use crate::time::{SECONDS_PER_DAY, Time};
 use jiff::tz::Offset;
 use jiff::{Timestamp, Zoned};
@@ -38,7 +39,7 @@ pub(crate) enum Relative<'a> {
 pub(crate) fn parse(input: &str) -> Option<Relative<'_>>
     ensures { option_map relative_date_of result ≡ relative_date input.now }
 {
-    if let Some(date) = parse_named(input.trim()) {
+    if let Some(date) = parse_named(trimmed(input)) {
         return Some(date);
     }
     if are_pairs(input) {

@@ -1,13 +1,11 @@
 -- Ages, as C has them.
-use Rattle.std.specs.Prelude.{◌≡◌, ℕ, ℤ, Option, Some, None, Result, Ok, Err}
+use Rattle.std.specs.Prelude.{ℕ, ℤ, Option, Some, None, Result, Ok, Err}
 use Rattle.std.specs.Result.{result_map_both}
 use Rattle.gix_date.specs.Fields.Zoned.{whole_seconds}
 use Rattle.git_date.specs.Show.Ages.{age_answer}
 use Rattle.git_date.specs.Types.AgeCases.{Seconds, Minutes, Hours, Days, Weeks, Months, Years}
 use Rattle.git_date.specs.Types.Names.{Age}
-use Rattle.gix_date_c.specs.Moments.{IsInstant}
 use Rattle.gix_date_c.specs.declared.git.ages.CAge.{CAge}
-use Rattle.gix_date_c.specs.declared.moment.CInstant.{CInstant}
 use Rattle.gix_date_c.specs.declared.values.status.Status.{Status}
 use Rattle.gix_date_c.specs.declared.values.status.Status.TheVariants.{GitRange}
 
@@ -30,7 +28,3 @@ age_for_c None = counted 7 0
 abbrev pub age_at : ℤ → Result ℤ Status → Result CAge Status
 age_at seconds (Ok nanos) = result_map_both age_for_c (λ refusal. GitRange) (age_answer (whole_seconds nanos) seconds)
 age_at seconds (Err status) = Err status
-
--- the age of a time at an instant of C
-abbrev pub IsAge : ℤ → CInstant → Result CAge Status → Type 0
-IsAge seconds instant answer = (nanos : Result ℤ Status) × IsInstant instant nanos × (answer ≡ age_at seconds nanos)

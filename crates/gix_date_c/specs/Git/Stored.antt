@@ -1,12 +1,12 @@
 -- What the modes show that need no clock.
-use Rattle.std.specs.Prelude.{◌≡◌, ℕ, ◌%◌, ◌==◌, List, if◌then◌else◌, pos, unsigned_abs, ok_or, Result, Ok, Err}
+use Rattle.std.specs.Prelude.{◌≡◌, ℕ, ◌%◌, ◌==◌, Bool, false, List, if◌then◌else◌, pos, unsigned_abs, Some, ok_or, Result, Ok, Err}
 use Rattle.std.specs.Int.Signed.{lt_z}
 use Rattle.gix_date.specs.Fields.ClockNumbers.{seconds_per_minute}
 use Rattle.gix_date.specs.Header.Text.{header_text}
 use Rattle.gix_date.specs.Text.Numbers.{decimal_text}
 use Rattle.gix_date.specs.declared.time.Time.{Time}
-use Rattle.gix_date_c.specs.Git.Modes.{mode_of, shown_answer}
-use Rattle.gix_date_c.specs.Moments.{Place}
+use Rattle.git_date.specs.declared.mode.DateKind.TheVariants as kinds
+use Rattle.gix_date_c.specs.Git.Modes.{mode_of}
 use Rattle.gix_date_c.specs.declared.git.show.CMode.{CMode}
 use Rattle.gix_date_c.specs.declared.git.stored.StoredMode.{StoredMode}
 use Rattle.gix_date_c.specs.declared.git.stored.StoredMode.TheVariants.{Unix, Raw}
@@ -26,16 +26,12 @@ stored_text Raw t = raw_answer t
 abbrev pub stored_answer : StoredMode → Time → Result (List ℕ) Status
 stored_answer mode t = if lt_z t.seconds (pos 0) then Err GitRange else stored_text mode t
 
--- why there are not both a zone and an instant: the zone is looked at first
-abbrev pub first_refusal : Result (Unit {0}) Status → Result (Unit {0}) Status → Result (Unit {0}) Status
-first_refusal (Ok _) instant = instant
-first_refusal (Err status) instant = Err status
-
 -- the same where there are an instant and a zone
 abbrev pub stored_at : StoredMode → Time → Result (Unit {0}) Status → Result (List ℕ) Status
 stored_at mode t (Ok _) = stored_answer mode t
 stored_at mode t (Err status) = Err status
 
--- the mode of these numbers shows this of any time, at any instant in any zone
-abbrev pub IsShownAsStored : StoredMode → CMode → Type 0
-IsShownAsStored stored mode = (t : Time) (place : Place) → shown_answer t (mode_of mode) place ≡ stored_answer stored t
+-- the mode of these numbers is that of Git; seconds alone need no clock, whichever it is
+abbrev pub IsStoredMode : StoredMode → CMode → Type 0
+IsStoredMode Unix mode = (local : Bool) × (mode_of mode ≡ Some (record { kind = kinds.Unix; local = local }))
+IsStoredMode Raw mode = mode_of mode ≡ Some (record { kind = kinds.Raw; local = false })

@@ -1,13 +1,12 @@
 -- How each line of a block is read.
 use Rattle.std.specs.Prelude.{◌≡◌, ℕ, ◌==◌, if◌then◌else◌, List, Option, None, Some, Result, Ok, Err}
 use Rattle.std.specs.Result.{result_map_both}
-use Rattle.jiff.specs.Words.{plain_zoned, zoned_nanos}
 use Rattle.jiff.specs.declared.zoned.Zoned.{Zoned}
 use Rattle.gix_date.specs.declared.time.Time.{Time}
 use Rattle.gix_signature.specs.Signature.{Parts}
 use Rattle.gix_date_c.specs.Careful.{IsParsedCarefully}
 use Rattle.gix_date_c.specs.Git.Dates.{IsApproximate, IsExact}
-use Rattle.gix_date_c.specs.Moments.{Place}
+use Rattle.gix_date_c.specs.Moments.{Place, place_of}
 use Rattle.gix_date_c.specs.Parsing.{IsParsed, IsParsedAt}
 use Rattle.gix_date_c.specs.Reading.{IsReadAt}
 use Rattle.gix_date_c.specs.Signatures.{IsCutAnswer}
@@ -54,10 +53,6 @@ IsCareful options (Some now) = IsReadAt (λ now. IsParsedCarefully options (Some
 abbrev pub time_of : Result Parts Status → Result Time Status
 time_of (Ok parts) = header_answer parts.time
 time_of (Err status) = Err status
-
--- the instant and the zone of a moment
-abbrev pub place_of : Result Zoned Status → Result Place Status
-place_of now = result_map_both (λ z. (zoned_nanos z, (plain_zoned z).time_zone)) (λ status. status) now
 
 -- what the exact reader of Git's dates comes to, with nothing but the time
 abbrev pub IsExactLine : Result Place Status → List ℕ → Result CTime Status → Type 0

@@ -1,7 +1,8 @@
 //! Ages as Git chooses their units.
-ghost use Rattle.std.specs.Prelude.{◌≡◌, Result};
+ghost use Rattle.std.specs.Prelude.{◌≡◌};
 ghost use Rattle.std.specs.Result.{result_map_both};
-ghost use Rattle.gix_date_c.specs.Git.Ages.{IsAge, age_at, age_for_c};
+ghost use Rattle.gix_date_c.specs.Git.Ages.{age_at, age_for_c};
+ghost use Rattle.gix_date_c.specs.Moments.{nanos_of};
 ghost use Rattle.gix_date_c.specs.Values.Stores.{Stores};
 
 use crate::moment::{CInstant, timestamp_of};
@@ -24,7 +25,7 @@ pub struct CAge {
 /// Tells how long before a moment a time was.
 #[unsafe(no_mangle)]
 pub extern "C" fn git_date_age_at(time: &CTime, now: &CInstant, age: &mut CAge) -> u32
-    ensures { (answer : Result CAge Status) × IsAge time.now.seconds now.now answer × Stores answer age.old age.new result }
+    ensures { Stores (age_at time.now.seconds (nanos_of now.now)) age.old age.new result }
 {
     store(age_at(load_time(time), timestamp_of(now)), age)
 }

@@ -5,7 +5,7 @@ ghost use Rattle.gix_date.specs.Fields.Offsets.{compact_offset_text};
 ghost use Rattle.gix_date.specs.Header.Text.{hundred_hours, written_text};
 ghost use Rattle.gix_date.specs.Text.Characters.{digit_zero, space};
 ghost use Rattle.gix_date.specs.Text.Numbers.{decimal_text};
-ghost use Rattle.gix_date_c.specs.Git.Stored.{IsShownAsStored, first_refusal, raw_answer, stored_at};
+ghost use Rattle.gix_date_c.specs.Git.Stored.{IsStoredMode, raw_answer, stored_at};
 ghost use Rattle.gix_date_c.specs.Moments.{IsPlaceChecked};
 ghost use Rattle.gix_date_c.specs.Values.Buffers.{Outcome, outcome_of, text_outcome};
 ghost use Rattle.gix_date_c.specs.Zones.{IsZone};
@@ -41,7 +41,7 @@ impl StoredMode {
     /// The mode of these numbers, where it is one of these.
     #[inline(always)]
     pub(crate) fn of(mode: &CMode) -> Option<StoredMode>
-        ensures { IfSome result (λ stored. IsShownAsStored stored mode.now) }
+        ensures { IfSome result (λ stored. IsStoredMode stored mode.now) }
     {
         if mode.kind == 8 && mode.local <= 1 {
             return Some(StoredMode::Unix);
@@ -58,21 +58,14 @@ impl StoredMode {
 pub(crate) fn check_place(instant: &CInstant, zone: &CZone) -> Result<(), Status>
     ensures { IsPlaceChecked (IsZone zone.now) instant.now result }
 {
-    first_refusal(zone.check(), check_instant(instant))
-}
-
-/// Why there are not both: the zone is looked at first.
-#[inline(always)]
-fn first_refusal(zone: Result<(), Status>, instant: Result<(), Status>) -> Result<(), Status>
-    ensures { result ≡ first_refusal zone instant }
-{
-    match zone {
-        Ok(()) => instant,
+    match zone.check() {
+        Ok(()) => check_instant(instant),
         Err(status) => Err(status),
     }
 }
 
 /// Puts a date into a buffer as it is stored, where there are an instant and a zone.
+#[inline(always)]
 pub(crate) fn store_stored(
     time: Time,
     mode: StoredMode,
@@ -97,6 +90,7 @@ pub(crate) fn store_stored(
 
 /// Puts the header text of a time into a buffer, where its offset is one of whole minutes.
 #[tactic(auto, unfolding(gix_date::specs::Header::Text::header_text))]
+#[inline(always)]
 fn store_raw(time: Time, out: &mut [u8], len: &mut usize) -> u32
     requires { lt_z time.seconds (pos 0) ≡ false }
     ensures { record { bytes = out.new; len = len.new; status = result } ≡ outcome_of (raw_answer time) out.old }

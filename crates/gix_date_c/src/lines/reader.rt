@@ -1,7 +1,8 @@
 //! How a line is read: as the call for one text reads it.
 ghost use Rattle.std.specs.Prelude.{◌≡◌, Result};
+ghost use Rattle.gix_date_c.specs.Moments.{place_of};
 ghost use Rattle.gix_date_c.specs.Signatures.{IsCutAnswer};
-ghost use Rattle.gix_date_c.specs.Lines.Readers.{IsApproximateLine, IsCareful, IsDate, IsExactLine, IsLineRead, for_c, line_reader, place_of, time_of};
+ghost use Rattle.gix_date_c.specs.Lines.Readers.{IsApproximateLine, IsCareful, IsDate, IsExactLine, IsLineRead, for_c, line_reader, time_of};
 ghost use Rattle.gix_date_c.specs.Values.Refusals.{with_status};
 ghost use Rattle.gix_signature.specs.Signature.{Parts};
 

@@ -9,6 +9,7 @@ ghost use Rattle.gix_date.specs.Git.Clock.{digits_at_most, clock_of_fields, cloc
 use crate::civil::ClockFields;
 use crate::parsing::fields::has_colon;
 use crate::parsing::numbers::{are_digits, read_two_digits};
+use crate::parsing::space_words::trimmed;
 use crate::time::{MAX_HOUR, MAX_MINUTE, MAX_SECOND};
 
 /// Reads the clock of a Git text: hours, and perhaps minutes and seconds, in digits alone. It ends at its first dot, if
@@ -21,7 +22,7 @@ pub(crate) fn parse_clock(text: &str) -> Option<ClockFields>
     ensures value { result ≡ git_clock text.now }
     ensures fits { IfSome result ClockFits }
 {
-    parse_trimmed_clock(before('.', text).trim())
+    parse_trimmed_clock(trimmed(before('.', text)))
 }
 
 /// The clock of a text that has neither its dot nor white space round it.

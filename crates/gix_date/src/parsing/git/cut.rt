@@ -3,6 +3,8 @@ ghost use Rattle.std.specs.Prelude.{◌≡◌, ◌<◌, length, IfSome, option_m
 ghost use Rattle.gix_date.specs.Git.ClockCut.{clock_cut, has_offset_at, is_sign, cut_at_sign, last_sign, cut_at_space, cut_at_z};
 ghost use Rattle.gix_date.specs.Git.Cuts.{IsCut};
 
+use crate::parsing::space_words::trimmed;
+
 /// The slices of a text, already trimmed, that are its clock and its offset: the first of these cuts that there is.
 ///
 /// 1. The text ends in `Z`, which is the offset.
@@ -52,7 +54,7 @@ fn cut_at_space(text: &str) -> Option<(&str, &str)>
     if place <= 5 {
         return None;
     }
-    let offset = text[place + 1..].trim();
+    let offset = trimmed(&text[place + 1..]);
     if !begins_with_sign(offset) {
         return None;
     }

@@ -18,7 +18,7 @@ use std::simd::prelude::*;
 /// How many bytes `2022-08-18 12:45:06 +0800` has, and `2022-08-18T12:45:06+08:00`.
 const ISO8601_LEN: usize = 25;
 
-/// How many bytes `Thu Aug 18 12:45:06 2022 +0800` has.
+/// How many bytes `Thu Aug 18 12:45:06 2022 +0800` has, and `Thu Aug 18 2022 12:45:06 +0800`.
 const DEFAULT_LEN: usize = 30;
 
 /// How many bytes `Thu, 18 Aug 2022 12:45:06 +0800` has.
@@ -160,14 +160,15 @@ fn offset(mark: u8, a: u8, b: u8, c: u8, d: u8) -> Option<OffsetInSeconds>
 }
 
 /// The fields of `2022-08-18 12:45:06 +0800`. The bytes are tested last: so the compiler reads each once, where it is used.
+/// The offset is read first: so it needs fewer registers.
 #[inline(always)]
 fn iso8601(text: &[u8]) -> Option<Fields>
     requires { length text.now ≡ ISO8601_LEN }
     ensures { IfSome result (Says text.now) }
 {
+    let offset = offset(text[20], text[21], text[22], text[23], text[24])?;
     let date = date(&text[..10])?;
     let clock = clock(&text[11..19])?;
-    let offset = offset(text[20], text[21], text[22], text[23], text[24])?;
     if are_within(&text[..16], *b"0000-00-00 00:00", *b"9999-19-39 29:59")
         && are_within(&text[9..25], *b"0 00:00:00 +0000", *b"9 29:59:59 -2959")
     {
@@ -183,9 +184,9 @@ fn iso8601_strict(text: &[u8]) -> Option<Fields>
     requires { length text.now ≡ ISO8601_LEN }
     ensures { IfSome result (Says text.now) }
 {
+    let offset = offset(text[19], text[20], text[21], text[23], text[24])?;
     let date = date(&text[..10])?;
     let clock = clock(&text[11..19])?;
-    let offset = offset(text[19], text[20], text[21], text[23], text[24])?;
     if are_within(&text[..16], *b"0000-00-00T00:00", *b"9999-19-39T29:59")
         && are_within(&text[9..25], *b"0T00:00:00+00:00", *b"9T29:59:59-29:59")
     {
@@ -203,10 +204,10 @@ fn rfc2822(text: &[u8]) -> Option<Fields>
 {
     let _weekday = weekday(text[0], text[1], text[2])?;
     let month = month(text[8], text[9], text[10])?;
+    let offset = offset(text[26], text[27], text[28], text[29], text[30])?;
     let year = four(text[12], text[13], text[14], text[15]);
     let day = two(text[5], text[6]);
     let clock = clock(&text[17..25])?;
-    let offset = offset(text[26], text[27], text[28], text[29], text[30])?;
     if are_within(&text[..16], *b"AAA, 00 AAA 0000", *b"zzz, 39 zzz 9999")
         && are_within(&text[15..31], *b"0 00:00:00 +0000", *b"9 29:59:59 -2959")
     {
@@ -224,12 +225,33 @@ fn default(text: &[u8]) -> Option<Fields>
 {
     let _weekday = weekday(text[0], text[1], text[2])?;
     let month = month(text[4], text[5], text[6])?;
+    let offset = offset(text[25], text[26], text[27], text[28], text[29])?;
     let year = four(text[20], text[21], text[22], text[23]);
     let day = two(text[8], text[9]);
     let clock = clock(&text[11..19])?;
-    let offset = offset(text[25], text[26], text[27], text[28], text[29])?;
     if are_within(&text[..16], *b"AAA AAA 00 00:00", *b"zzz zzz 39 29:59")
         && are_within(&text[14..30], *b"00:00 0000 +0000", *b"59:59 9999 -2959")
+    {
+        Some((DateFields { year, month, day }, clock, offset))
+    } else {
+        None
+    }
+}
+
+/// The fields of `Thu Aug 18 2022 12:45:06 +0800`.
+#[inline(always)]
+fn gitoxide(text: &[u8]) -> Option<Fields>
+    requires { length text.now ≡ DEFAULT_LEN }
+    ensures { IfSome result (Says text.now) }
+{
+    let _weekday = weekday(text[0], text[1], text[2])?;
+    let month = month(text[4], text[5], text[6])?;
+    let offset = offset(text[25], text[26], text[27], text[28], text[29])?;
+    let year = four(text[11], text[12], text[13], text[14]);
+    let day = two(text[8], text[9]);
+    let clock = clock(&text[16..24])?;
+    if are_within(&text[..16], *b"AAA AAA 00 0000 ", *b"zzz zzz 39 9999 ")
+        && are_within(&text[14..30], *b"0 00:00:00 +0000", *b"9 29:59:59 -2959")
     {
         Some((DateFields { year, month, day }, clock, offset))
     } else {
@@ -290,6 +312,16 @@ fn default_time(text: &[u8]) -> Option<Time>
     time_at(date, clock, offset)
 }
 
+/// The time of `Thu Aug 18 2022 12:45:06 +0800`.
+fn gitoxide_time(text: &[u8]) -> Option<Time>
+    requires { length text.now ≡ DEFAULT_LEN }
+    ensures first { IfSome result (AnswersFirst text.now) }
+    ensures offset_fits { IfSome result (λ t. IsOffsetSeconds t.offset) }
+{
+    let (date, clock, offset) = gitoxide(text)?;
+    time_at(date, clock, offset)
+}
+
 /// The time of a date of fixed length. Each form has a function of its own, and one byte rejects nearly all other texts.
 #[inline(always)]
 pub(crate) fn usual_time(text: &[u8]) -> Option<Time>
@@ -305,6 +337,7 @@ pub(crate) fn usual_time(text: &[u8]) -> Option<Time>
             }
         }
         DEFAULT_LEN if text[13] == b':' => default_time(text),
+        DEFAULT_LEN if text[18] == b':' => gitoxide_time(text),
         RFC2822_LEN if text[3] == b',' => rfc2822_time(text),
         _ => None,
     }

@@ -1,24 +1,6 @@
-use Rattle.std.proofs.Common.{◌≡◌, rules, ℕ, List, IsUtf8, Ok, Err, Some, IfSome, inl, inr, refl, sym, subst}
-use Rattle.gix_date.specs.Printing.Formats.{IsTextOf}
-use Rattle.gix_date.specs.declared.time.Time.{Time}
-use Rattle.gix_date_c.specs.Printing.{PrintsSo}
-use Rattle.gix_date_c.specs.Values.Times.{load_time}
+use Rattle.std.proofs.Common.{Err, inr, refl}
 use Rattle.gix_date_c.specs.declared.values.status.Status.TheVariants.{NoSuchOption}
-use Rattle.gix_date_c.proofs.Printed.{text-printed, text-prints}
 use Rattle.gix_date_c.proofs.print.put_formatted.Goals as goal
 
-pub returns-in_default : goal.returns-in_default
-returns-in_default c = (Err NoSuchOption, inr (c.in_default.ensures.none, refl), c.store_text.ensures)
-
-pub returns-in-Some-printed : goal.returns-in-Some-printed
-returns-in-Some-printed c =
-    let t = load_time c.args.time.now in
-    let format = c.in-Some.format in
-    let text = c.as_str.result.now in
-    let is_text : IsUtf8 text = search rules in
-    let is_some : c.format_to_buf-printed.result ≡ Some c.in-Some-printed.text = c.in-Some-printed.is in
-    let of_printed = subst (λ o. IfSome o (λ text. IsTextOf c.load_time-time.result format text.bytes)) is_some c.format_to_buf-printed.ensures.text in
-    let of_time = subst (λ (t : Time). IsTextOf t format c.in-Some-printed.text.bytes) c.load_time-time.ensures of_printed in
-    let is = subst (λ (text : List ℕ). IsTextOf t format text) (sym c.as_str.ensures.value) of_time in
-    let printed = text-printed (PrintsSo c.args.or_unix t format) c.args.alloc text c.as_str.ensures.fits is_text (λ s bytes. text-prints c.args.or_unix t format text s is bytes) in
-    (Ok text, inl (format, c.in-Some.ensures.format, printed), c.store_text-in-Some-printed.ensures)
+pub returns-in-None : goal.returns-in-None
+returns-in-None c = (Err NoSuchOption, inr (c.in-None.ensures.none, refl), c.store_text.ensures)

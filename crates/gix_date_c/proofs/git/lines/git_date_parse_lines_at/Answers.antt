@@ -1,9 +1,7 @@
 use Rattle.std.proofs.Common.{ℤ, Option, option_map, subst}
-use Rattle.gix_date_c.specs.Lines.Readers.{place_of}
-use Rattle.gix_date_c.specs.Moments.{IsNow}
-use Rattle.gix_date_c.specs.Zones.{IsZone, IsZoneOf}
+use Rattle.gix_date_c.specs.Moments.{IsNow, place_of}
+use Rattle.gix_date_c.specs.Zones.{IsZoneOf}
 use Rattle.gix_date_c.specs.declared.zone.held.Held.{Held}
-use Rattle.gix_date_c.proofs.Blocks.Placed.{placed-now}
 use Rattle.gix_date_c.proofs.git.lines.git_date_parse_lines_at.Goals as goal
 
 pub returns-clause-read : goal.returns-clause-read
@@ -15,4 +13,4 @@ returns-clause-read c =
     let held = option_map (λ held. held.value) taken.held in
     let by_offset = subst (λ (o : ℤ). IsNow (IsZoneOf o held) now moment) c.take-taken.ensures.0 c.moment.ensures in
     let at = subst (λ (h : Option Held). IsNow (IsZoneOf zone.offset h) now moment) c.take-taken.ensures.1 by_offset in
-    (place_of moment, placed-now (IsZone zone) now moment at, c.read_lines-done.ensures)
+    (place_of moment, at, c.read_lines-done.ensures)

@@ -4,7 +4,7 @@ use Rattle.gix_date.specs.Fields.Offsets.{compact_offset_text}
 use Rattle.gix_date.specs.Header.Text.{written_text}
 use Rattle.gix_date.specs.Text.Characters.{space}
 use Rattle.gix_date.specs.Text.Numbers.{decimal_text}
-use Rattle.gix_date_c.specs.Values.Buffers.{Outcome, text_outcome, with_text}
+use Rattle.gix_date_c.specs.Values.Buffers.{with_text}
 use Rattle.gix_date_c.proofs.Digits.{digits-put, no-room, room}
 use Rattle.gix_date_c.proofs.Pieces.{piece-after}
 use Rattle.gix_date_c.proofs.git.stored.store_header.Goals as goal

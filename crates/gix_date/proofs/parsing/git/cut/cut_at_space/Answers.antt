@@ -22,12 +22,12 @@ range_from-requires c =
 pub returns-then-not-begins_with_sign : goal.returns-then-not-begins_with_sign
 returns-then-not-begins_with_sign c =
     let last = by_rfind c.args.text.now (Some c.in-Some.place) c.in-Some.ensures.cases in
-    sym (space_unsigned c.args.text.now c.trim-offset.result.now c.in-Some.place last.0 (c.trim-offset.ensures.trim ∙ ap trim c.range_from.ensures.value) (sym c.begins_with_sign.ensures ∙ c.if-not-begins_with_sign.true))
+    sym (space_unsigned c.args.text.now c.trimmed-offset.result.now c.in-Some.place last.0 (c.trimmed-offset.ensures ∙ ap trim c.range_from.ensures.value) (sym c.begins_with_sign.ensures ∙ c.if-not-begins_with_sign.true))
 
 pub returns : goal.returns
 returns c =
     let last = by_rfind c.args.text.now (Some c.in-Some.place) c.in-Some.ensures.cases in
-    sym (space_found c.args.text.now c.trim-offset.result.now c.range.result.now c.in-Some.place last.0 (c.trim-offset.ensures.trim ∙ ap trim c.range_from.ensures.value)
+    sym (space_found c.args.text.now c.trimmed-offset.result.now c.range.result.now c.in-Some.place last.0 (c.trimmed-offset.ensures ∙ ap trim c.range_from.ensures.value)
     (grind (arith, common_steps, c.range.ensures.value))
     (omega arith)
     (sym c.begins_with_sign.ensures ∙ c.if-not-begins_with_sign.false))

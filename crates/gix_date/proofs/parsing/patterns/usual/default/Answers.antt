@@ -1,6 +1,9 @@
 use Rattle.std.proofs.Common.{refl, arith, length-take-le, FitsSigned, w32, rules}
 use Rattle.std.proofs.lemmas.Int.{to_z-of_z}
-use Rattle.gix_date.proofs.Fast.UsualNames.{default-says}
+use Rattle.gix_date.specs.Fields.Layout.{LocalTime}
+use Rattle.gix_date.specs.declared.civil.DateFields.{DateFields}
+use Rattle.gix_date.proofs.Fast.UsualPieces.{says}
+use Rattle.gix_date.proofs.Fields.Layouts.{dates_spelled}
 use Rattle.gix_date.proofs.parsing.patterns.usual.default.Goals as goal
 
 pub slice_bounds-are_within-end : goal.slice_bounds-are_within-end
@@ -11,6 +14,8 @@ returns-then-are_within-2 c =
     let fits : FitsSigned w32 c.in_ok-offset.offset = search rules in
     let name = c.in_ok-_weekday.ensures in
     let month = c.in_ok-month.ensures in
+    let day : DateFields = record { year = c.four-year.result; month = c.in_ok-month.month; day = c.two-day.result } in
+    let t : LocalTime = record { weekday = c.in_ok-_weekday._weekday; date = day; clock = c.in_ok-clock.clock; offset = c.in_ok-offset.offset } in
     simp to_z-of_z
-    (default-says c.args.text.now _ _ _ _ _ c.in_ok-offset.offset c.requires (name.name, name.small) (month.name, month.in_year) c.four-year.ensures c.two-day.ensures c.in_ok-clock.ensures c.in_ok-offset.ensures.compact (c.if-are_within.ensures refl)
-    (c.if-are_within-2.ensures refl))
+    (says 6 dates_spelled.default (λ rule text. refl) t (λ f. f) 14 (omega arith) refl c.args.text.now c.requires (c.if-are_within.ensures refl) (c.if-are_within-2.ensures refl)
+    ((name.name, name.small), (tt, ((month.name, month.in_year), (tt, (c.two-day.ensures, (tt, (c.in_ok-clock.ensures, (tt, (c.four-year.ensures, (tt, (c.in_ok-offset.ensures.compact, tt))))))))))))

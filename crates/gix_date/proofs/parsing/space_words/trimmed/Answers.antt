@@ -1,7 +1,7 @@
 use Rattle.std.proofs.Common.{◌≡◌, ◌∙◌, ◌-◌, ◌<◌, List, ℕ, true, get_or, length, arith, subst, sym}
 use Rattle.std.specs.Char.{is_ascii_graphic}
 use Rattle.gix_date.proofs.Text.Trimmed.{trim-ends}
-use Rattle.gix_date.proofs.parsing.git.trimmed.Goals as goal
+use Rattle.gix_date.proofs.parsing.space_words.trimmed.Goals as goal
 
 pub returns-in-len2-up : goal.returns-in-len2-up
 returns-in-len2-up c =
