@@ -175,6 +175,14 @@ cover (suc n) (suc j) (x ∷ xs) (y ∷ ys) h a b = (a.0, cover n j xs ys (omega
 cover zero (suc j) xs ys h a b = absurd (omega (arith, h))
 cover (suc n) (suc j) xs ys h a b = tt
 
+-- the first and the last sixteen bytes of a text
+module _ (j : ℕ) (text : List ℕ) (long : length text ≡ j + 16) where
+  pub first-block : length (take 16 text) ≡ 16
+  first-block = length-take-le 16 text (omega (arith, long))
+
+  pub last-block : length (take 16 (drop j text)) ≡ 16
+  last-block = length-take-le 16 (drop j text) (omega (arith, long, length-drop j text))
+
 -- what was read of a text is said of it where two blocks of sixteen bytes are within the bounds of its pieces
 pub says : (place : ℕ) {ps : List Piece} {family : List ℕ → Option FamilyAnswer} → Accepts family (IsMeaning ps time_answer)
     → ((rule : OffsetRule) (text : List ℕ) → get_or (answers_before_git rule text) place None ≡ family text)

@@ -37,18 +37,26 @@ pub(crate) fn read_marked_date(mark: char, text: &str) -> Option<(DateFields, &s
     ensures value { read_view result ≡ read_marked_date mark text.now }
     ensures fits { IfSome result (λ found. DateFits found.0) }
 {
-    match text.as_bytes() {
-        [a, b, c, d, first, e, f, second, g, h, ..]
-            if char::from(*first) == mark && char::from(*second) == mark => {
-            let century = parse_two_digits(*a, *b)?;
-            let year = parse_two_digits(*c, *d)?;
-            let month = parse_two_digits(*e, *f)?;
-            let day = parse_two_digits(*g, *h)?;
-            let year = 100 * u16::from(century) + u16::from(year);
-            Some((DateFields { year, month, day }, &text[10..]))
-        }
-        _ => None,
+    let &[a, b, c, d, first, e, f, second, g, h, ..] = text.as_bytes() else {
+        return None;
+    };
+    if char::from(first) != mark || char::from(second) != mark {
+        return None;
     }
+    let Some(century) = parse_two_digits(a, b) else {
+        return None;
+    };
+    let Some(year) = parse_two_digits(c, d) else {
+        return None;
+    };
+    let Some(month) = parse_two_digits(e, f) else {
+        return None;
+    };
+    let Some(day) = parse_two_digits(g, h) else {
+        return None;
+    };
+    let year = 100 * u16::from(century) + u16::from(year);
+    Some((DateFields { year, month, day }, &text[10..]))
 }
 
 /// `HH:MM:SS` at the front, matched at once.

@@ -160,7 +160,7 @@ fn read_named_day(text: &str) -> Option<(DateFields, &str)>
     Some((DateFields { year, month, day }, rest))
 }
 
-/// What a date answers as gitoxide prints it, after its month and day.
+/// What a date answers as gitoxide prints it, after its month and day. After the year it goes on as ISO 8601 does.
 #[inline(always)]
 fn gitoxide_after(date: DateFields, rest: &str) -> Option<Answer<'static>>
     requires { DateFits date }
@@ -169,9 +169,7 @@ fn gitoxide_after(date: DateFields, rest: &str) -> Option<Answer<'static>>
     ensures offset_fits { IfSome result HasJiffOffset }
 {
     let (year, rest) = read_year(rest)?;
-    let (clock, rest) = read_clock(false, skip_spaces(rest)?)?;
-    let offset = parse_date_offset(false, skip_spaces(rest)?)?;
-    date_answer(DateFields { year, ..date }, clock, offset)
+    iso8601_after(DateFields { year, ..date }, rest)
 }
 
 /// What a date answers as Git prints it by default, after its month and day.

@@ -166,9 +166,15 @@ fn iso8601(text: &[u8]) -> Option<Fields>
     requires { length text.now ≡ ISO8601_LEN }
     ensures { IfSome result (Says text.now) }
 {
-    let offset = offset(text[20], text[21], text[22], text[23], text[24])?;
-    let date = date(&text[..10])?;
-    let clock = clock(&text[11..19])?;
+    let Some(offset) = offset(text[20], text[21], text[22], text[23], text[24]) else {
+        return None;
+    };
+    let Some(date) = date(&text[..10]) else {
+        return None;
+    };
+    let Some(clock) = clock(&text[11..19]) else {
+        return None;
+    };
     if are_within(&text[..16], *b"0000-00-00 00:00", *b"9999-19-39 29:59")
         && are_within(&text[9..25], *b"0 00:00:00 +0000", *b"9 29:59:59 -2959")
     {
@@ -184,9 +190,15 @@ fn iso8601_strict(text: &[u8]) -> Option<Fields>
     requires { length text.now ≡ ISO8601_LEN }
     ensures { IfSome result (Says text.now) }
 {
-    let offset = offset(text[19], text[20], text[21], text[23], text[24])?;
-    let date = date(&text[..10])?;
-    let clock = clock(&text[11..19])?;
+    let Some(offset) = offset(text[19], text[20], text[21], text[23], text[24]) else {
+        return None;
+    };
+    let Some(date) = date(&text[..10]) else {
+        return None;
+    };
+    let Some(clock) = clock(&text[11..19]) else {
+        return None;
+    };
     if are_within(&text[..16], *b"0000-00-00T00:00", *b"9999-19-39T29:59")
         && are_within(&text[9..25], *b"0T00:00:00+00:00", *b"9T29:59:59-29:59")
     {
@@ -202,12 +214,20 @@ fn rfc2822(text: &[u8]) -> Option<Fields>
     requires { length text.now ≡ RFC2822_LEN }
     ensures { IfSome result (Says text.now) }
 {
-    let _weekday = weekday(text[0], text[1], text[2])?;
-    let month = month(text[8], text[9], text[10])?;
-    let offset = offset(text[26], text[27], text[28], text[29], text[30])?;
+    let Some(_weekday) = weekday(text[0], text[1], text[2]) else {
+        return None;
+    };
+    let Some(month) = month(text[8], text[9], text[10]) else {
+        return None;
+    };
+    let Some(offset) = offset(text[26], text[27], text[28], text[29], text[30]) else {
+        return None;
+    };
     let year = four(text[12], text[13], text[14], text[15]);
     let day = two(text[5], text[6]);
-    let clock = clock(&text[17..25])?;
+    let Some(clock) = clock(&text[17..25]) else {
+        return None;
+    };
     if are_within(&text[..16], *b"AAA, 00 AAA 0000", *b"zzz, 39 zzz 9999")
         && are_within(&text[15..31], *b"0 00:00:00 +0000", *b"9 29:59:59 -2959")
     {
@@ -223,12 +243,20 @@ fn default(text: &[u8]) -> Option<Fields>
     requires { length text.now ≡ DEFAULT_LEN }
     ensures { IfSome result (Says text.now) }
 {
-    let _weekday = weekday(text[0], text[1], text[2])?;
-    let month = month(text[4], text[5], text[6])?;
-    let offset = offset(text[25], text[26], text[27], text[28], text[29])?;
+    let Some(_weekday) = weekday(text[0], text[1], text[2]) else {
+        return None;
+    };
+    let Some(month) = month(text[4], text[5], text[6]) else {
+        return None;
+    };
+    let Some(offset) = offset(text[25], text[26], text[27], text[28], text[29]) else {
+        return None;
+    };
     let year = four(text[20], text[21], text[22], text[23]);
     let day = two(text[8], text[9]);
-    let clock = clock(&text[11..19])?;
+    let Some(clock) = clock(&text[11..19]) else {
+        return None;
+    };
     if are_within(&text[..16], *b"AAA AAA 00 00:00", *b"zzz zzz 39 29:59")
         && are_within(&text[14..30], *b"00:00 0000 +0000", *b"59:59 9999 -2959")
     {
@@ -244,12 +272,20 @@ fn gitoxide(text: &[u8]) -> Option<Fields>
     requires { length text.now ≡ DEFAULT_LEN }
     ensures { IfSome result (Says text.now) }
 {
-    let _weekday = weekday(text[0], text[1], text[2])?;
-    let month = month(text[4], text[5], text[6])?;
-    let offset = offset(text[25], text[26], text[27], text[28], text[29])?;
+    let Some(_weekday) = weekday(text[0], text[1], text[2]) else {
+        return None;
+    };
+    let Some(month) = month(text[4], text[5], text[6]) else {
+        return None;
+    };
+    let Some(offset) = offset(text[25], text[26], text[27], text[28], text[29]) else {
+        return None;
+    };
     let year = four(text[11], text[12], text[13], text[14]);
     let day = two(text[8], text[9]);
-    let clock = clock(&text[16..24])?;
+    let Some(clock) = clock(&text[16..24]) else {
+        return None;
+    };
     if are_within(&text[..16], *b"AAA AAA 00 0000 ", *b"zzz zzz 39 9999 ")
         && are_within(&text[14..30], *b"0 00:00:00 +0000", *b"9 29:59:59 -2959")
     {
@@ -268,7 +304,9 @@ fn time_at(date: DateFields, clock: ClockFields, offset: OffsetInSeconds) -> Opt
     ensures answers { IfSome result (λ t. date_answer date clock offset ≡ Some (Absolute t)) }
     ensures offset_fits { IfSome result (λ t. IsOffsetSeconds t.offset) }
 {
-    let seconds = instant_at(date, clock, offset)?;
+    let Some(seconds) = instant_at(date, clock, offset) else {
+        return None;
+    };
     Some(Time::new(seconds, offset))
 }
 

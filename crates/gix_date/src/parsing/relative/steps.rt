@@ -44,7 +44,10 @@ fn subtract_seconds<'a>(moment: Zoned<'a>, seconds: i64) -> Option<Zoned<'a>>
     ensures step { IsAt (SecondsStep (zone_of moment.entry) seconds (zoned_nanos moment.entry)) result }
     ensures zone { IfSome result (KeepsZone moment.entry) }
 {
-    resolve(earlier(moment, seconds)?)
+    let Some(moment) = earlier(moment, seconds) else {
+        return None;
+    };
+    resolve(moment)
 }
 
 /// The instant so many seconds before a moment, in its zone.
