@@ -79,6 +79,18 @@ build_rows() {
     )
 }
 
+# Each file has the layout of `rt fmt`, which changes a copy here.
+layout() {
+    local crate
+    mkdir -p "$room/laid"
+    tar --exclude='crates/*/out' -c crates crates.txt | tar -x -C "$room/laid"
+    for crate in crates/*; do
+        (cd "$room/laid/$crate" && rt fmt >/dev/null) || return
+        diff -r --exclude=out "$crate" "$room/laid/$crate" || return
+    done
+    echo 'crates: each file has the layout of rt fmt'
+}
+
 # The program's modes, as its help names them.
 modes() {
     ./gix_date_tool --help | sed -nE 's/^([a-z]+) {3,}.*/\1/p'
