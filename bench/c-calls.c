@@ -61,7 +61,7 @@ void *__wrap_realloc(void *block, size_t size)
 #define LINE_IN(name, place, ...)                                                                  \
     static void *call_##name##_##place(void *status)                                               \
     {                                                                                              \
-        gix_date_zone *zone = &place;                                                              \
+        const gix_date_zone *zone = &place;                                                        \
         *(uint32_t *)status = name(__VA_ARGS__) == 1 ? read_so : 1;                                \
         return NULL;                                                                               \
     }
@@ -74,7 +74,7 @@ void *__wrap_realloc(void *block, size_t size)
 #define CALL_IN(name, place, ...)                                                                  \
     static void *call_##name##_##place(void *status)                                               \
     {                                                                                              \
-        gix_date_zone *zone = &place;                                                              \
+        const gix_date_zone *zone = &place;                                                        \
         *(uint32_t *)status = name(__VA_ARGS__);                                                   \
         return NULL;                                                                               \
     }

@@ -147,7 +147,8 @@ typedef struct git_date_age {
  * GIT_DATE_YEAR_REFUSED, GIT_DATE_RANGE. */
 GIX_DATE_MUST_USE
 uint32_t git_date_parse_at(const char *text, size_t text_len, const gix_date_instant *now,
-                           gix_date_zone *zone, git_date_exact *date, size_t *place);
+                           const gix_date_zone *zone, git_date_exact *date, size_t *place)
+    GIX_DATE_NONNULL(3, 4, 5, 6);
 
 /* Reads a date as people write it, as Git reads --since and REF@{..}: "yesterday noon". A word that
  * Git does not know is ignored: "5 mins ago" is the fifth. GIX_DATE_INVALID_ZONE,
@@ -155,7 +156,8 @@ uint32_t git_date_parse_at(const char *text, size_t text_len, const gix_date_ins
  * GIT_DATE_RANGE. */
 GIX_DATE_MUST_USE
 uint32_t git_date_approxidate_at(const char *text, size_t text_len, const gix_date_instant *now,
-                                 gix_date_zone *zone, git_date_approximate *date, size_t *place);
+                                 const gix_date_zone *zone, git_date_approximate *date,
+                                 size_t *place) GIX_DATE_NONNULL(3, 4, 5, 6);
 
 /* Reads what expires, as Git reads gc.pruneExpire: "never" and "false" are GIT_DATE_NEVER, "all"
  * and "now" GIT_DATE_ALL, also before a NUL, which is not told then. Any other text is a date of
@@ -163,36 +165,38 @@ uint32_t git_date_approxidate_at(const char *text, size_t text_len, const gix_da
  * understood. */
 GIX_DATE_MUST_USE
 uint32_t git_date_expiry_at(const char *text, size_t text_len, const gix_date_instant *now,
-                            gix_date_zone *zone, git_date_expiry *expiry, size_t *place);
+                            const gix_date_zone *zone, git_date_expiry *expiry, size_t *place)
+    GIX_DATE_NONNULL(3, 4, 5, 6);
 
 /* Reads each line of a block by git_date_parse_at, as gix_date_parse_lines of gix_date.h does by other
  * readers. The zone is found once for all lines. It is not told what was ignored. */
 GIX_DATE_MUST_USE
 size_t git_date_parse_lines_at(const char *block, size_t block_len, const gix_date_instant *now,
-                               gix_date_zone *zone, int64_t *seconds, size_t seconds_len,
+                               const gix_date_zone *zone, int64_t *seconds, size_t seconds_len,
                                int32_t *offsets, size_t offsets_len, uint32_t *statuses,
-                               size_t statuses_len, size_t *bytes);
+                               size_t statuses_len, size_t *bytes) GIX_DATE_NONNULL(3, 4, 11);
 
 /* The same by git_date_approxidate_at. A line of which nothing is understood is the moment. */
 GIX_DATE_MUST_USE
 size_t git_date_approxidate_lines_at(const char *block, size_t block_len,
-                                     const gix_date_instant *now, gix_date_zone *zone,
+                                     const gix_date_instant *now, const gix_date_zone *zone,
                                      int64_t *seconds, size_t seconds_len, int32_t *offsets,
                                      size_t offsets_len, uint32_t *statuses, size_t statuses_len,
-                                     size_t *bytes);
+                                     size_t *bytes) GIX_DATE_NONNULL(3, 4, 11);
 
 /* The mode of one of Git's names, in its letter case: "iso8601-strict-local", "local". Git's modes
  * "auto:" and "format:" have none: git_date_show_by_format shows by a format. GIX_DATE_NOT_TEXT, GIX_DATE_NO_SUCH_OPTION. */
 GIX_DATE_MUST_USE
-uint32_t git_date_mode_named(const char *name, size_t name_len, git_date_mode *mode);
+uint32_t git_date_mode_named(const char *name, size_t name_len, git_date_mode *mode)
+    GIX_DATE_NONNULL(3);
 
 /* Writes a time as git log --date=MODE shows it at the moment now, of at most GIT_DATE_MAX_SHOWN
  * bytes. GIX_DATE_INVALID_ZONE, GIX_DATE_INVALID_INSTANT; GIX_DATE_NO_SUCH_OPTION, GIT_DATE_RANGE,
  * GIX_DATE_NO_ROOM. */
 GIX_DATE_MUST_USE
 uint32_t git_date_show_at(const gix_date_time *time, const git_date_mode *mode,
-                          const gix_date_instant *now, gix_date_zone *zone, char *out,
-                          size_t out_len, size_t *len);
+                          const gix_date_instant *now, const gix_date_zone *zone, char *out,
+                          size_t out_len, size_t *len) GIX_DATE_NONNULL(1, 2, 3, 4, 7);
 
 /* Writes the time of an identity line as git log --date=MODE shows it at the moment now: by the
  * line's own clock, and with the offset as it is written, of at most GIT_DATE_MAX_SHOWN_GIT_TIME
@@ -201,8 +205,9 @@ uint32_t git_date_show_at(const gix_date_time *time, const git_date_mode *mode,
  * GIX_DATE_OFFSET_TOO_WIDE, GIX_DATE_NO_ROOM. */
 GIX_DATE_MUST_USE
 uint32_t git_date_show_git_time_at(const gix_date_git_time *time, const git_date_mode *mode,
-                                   const gix_date_instant *now, gix_date_zone *zone, char *out,
-                                   size_t out_len, size_t *len);
+                                   const gix_date_instant *now, const gix_date_zone *zone,
+                                   char *out, size_t out_len, size_t *len)
+    GIX_DATE_NONNULL(1, 2, 3, 4, 7);
 
 /* Writes a time as git log --date=format:FORMAT shows it, or format-local:FORMAT by the zone's clock.
  * What may be between percent signs and letters is in docs/GIT_DATES.md. A place is that of a percent
@@ -211,14 +216,14 @@ uint32_t git_date_show_git_time_at(const gix_date_git_time *time, const git_date
  * GIX_DATE_OUT_OF_MEMORY, GIX_DATE_NO_ROOM. */
 GIX_DATE_MUST_USE
 uint32_t git_date_show_by_format(const gix_date_time *time, const char *format, size_t format_len,
-                                 bool local, gix_date_zone *zone, char *out, size_t out_len,
-                                 size_t *len, size_t *place);
+                                 bool local, const gix_date_zone *zone, char *out, size_t out_len,
+                                 size_t *len, size_t *place) GIX_DATE_NONNULL(1, 5, 8, 9);
 
 /* The age that GIT_DATE_RELATIVE shows in English, for a program that says it in other words.
  * GIX_DATE_INVALID_INSTANT; GIT_DATE_RANGE if the time or the moment is before 1970. */
 GIX_DATE_MUST_USE
-uint32_t git_date_age_at(const gix_date_time *time, const gix_date_instant *now,
-                         git_date_age *age);
+uint32_t git_date_age_at(const gix_date_time *time, const gix_date_instant *now, git_date_age *age)
+    GIX_DATE_NONNULL(1, 2, 3);
 
 /* The offset that a number says as in Git's own code, where -130 is -0130: of hours, and two digits
  * of minutes. One of more seconds than 2147483647 is that many, with which no date is shown. */

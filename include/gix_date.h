@@ -17,7 +17,8 @@
  * Only calls that say so take memory, by malloc: do not call these in a signal handler. All free it
  * before they return, but gix_date_zone_read and gix_date_zone_copy, whose zone is freed by
  * gix_date_zone_free. No call keeps a pointer to what it is given, has a state, or reads the clock,
- * the environment or a file, so threads may call at once, but not with one gix_date_zone. */
+ * the environment or a file, so any number of threads may call at once, also with one const
+ * gix_date_zone. */
 #ifndef GIX_DATE_H
 #define GIX_DATE_H
 
@@ -38,6 +39,13 @@ extern "C" {
 #define GIX_DATE_MUST_USE __attribute__((warn_unused_result))
 #else
 #define GIX_DATE_MUST_USE
+#endif
+
+/* The arguments that are pointers and never NULL, counted from 1. A compiler warns of a NULL. */
+#if defined(__GNUC__)
+#define GIX_DATE_NONNULL(...) __attribute__((nonnull(__VA_ARGS__)))
+#else
+#define GIX_DATE_NONNULL(...)
 #endif
 
 /* The version of this library, and the number that gix_date_version answers for it: ten thousands
@@ -307,12 +315,13 @@ typedef struct gix_date_ident_parts {
 } gix_date_ident_parts;
 
 /* A zone. All zero it is UTC, and GIX_DATE_AT_OFFSET(7200) is the zone that is always two hours east
- * of it. These need no call, and may be copied. gix_date_zone_read makes any other.
+ * of it. These need no call, and may be copied or be constants. gix_date_zone_read makes any other.
  *
  * A zone that was read may hold memory until gix_date_zone_free. Do not assign it to another, which
- * would hold the same memory: gix_date_zone_copy makes another. It goes into one call at a time,
- * which leaves it as it was, and may go from thread to thread. For calls at once give each thread a
- * copy: copies share the table of a file. */
+ * would hold the same memory: gix_date_zone_copy makes another, which shares the table of a file.
+ *
+ * Any number of threads may pass one zone as const at once. Meanwhile no thread reads it anew, frees
+ * it or makes it a copy. */
 typedef struct gix_date_zone {
     uint32_t kind;  /* the library's own */
     int32_t offset; /* seconds east of UTC, if nothing is held */
@@ -338,7 +347,8 @@ static inline bool gix_date_version_fits(void)
 /* Reads the time of a commit header, "1660797906 +0800", leniently as gix-date does: "12abc" is 12,
  * 0. GIX_DATE_NOT_TEXT, GIX_DATE_INVALID_TIME. */
 GIX_DATE_MUST_USE
-uint32_t gix_date_parse_header(const char *text, size_t text_len, gix_date_time *time);
+uint32_t gix_date_parse_header(const char *text, size_t text_len, gix_date_time *time)
+    GIX_DATE_NONNULL(3);
 
 /* Whether a text is as Git writes it: read as a header and written, it comes back byte for byte. */
 bool gix_date_is_canonical_header(const char *text, size_t text_len);
@@ -346,8 +356,8 @@ bool gix_date_is_canonical_header(const char *text, size_t text_len);
 /* Writes the text of a time in a commit header, of at most GIX_DATE_MAX_HEADER bytes. Seconds of an
  * offset beyond whole minutes are dropped. GIX_DATE_NO_ROOM, GIX_DATE_OFFSET_TOO_WIDE. */
 GIX_DATE_MUST_USE
-uint32_t gix_date_write_header(const gix_date_time *time, char *out, size_t out_len,
-                               size_t *len);
+uint32_t gix_date_write_header(const gix_date_time *time, char *out, size_t out_len, size_t *len)
+    GIX_DATE_NONNULL(1, 4);
 
 /* Parses a date in one of the forms that docs/SPECIFICATION.md lists, by a rule of enum
  * gix_date_raw_offsets. A relative date ("2 days ago") is refused, since no moment is given.
@@ -355,7 +365,7 @@ uint32_t gix_date_write_header(const gix_date_time *time, char *out, size_t out_
  * GIX_DATE_MISSING_NOW. */
 GIX_DATE_MUST_USE
 uint32_t gix_date_parse(const char *text, size_t text_len, uint32_t raw_offsets,
-                        gix_date_time *time);
+                        gix_date_time *time) GIX_DATE_NONNULL(4);
 
 /* Reads a zone for any number of calls. A text that begins with TZif is a file, as those in
  * /usr/share/zoneinfo; "+0200", "-03:30" and "+02" are offsets; any other is a POSIX rule,
@@ -363,28 +373,30 @@ uint32_t gix_date_parse(const char *text, size_t text_len, uint32_t raw_offsets,
  * After a refusal the zone is as it was.
  * GIX_DATE_NOT_TEXT, GIX_DATE_INVALID_ZONE, GIX_DATE_OUT_OF_MEMORY. */
 GIX_DATE_MUST_USE
-uint32_t gix_date_zone_read(const void *text, size_t text_len, gix_date_zone *zone);
+uint32_t gix_date_zone_read(const void *text, size_t text_len, gix_date_zone *zone)
+    GIX_DATE_NONNULL(3);
 
 /* Makes a zone mean what another means. What it held before is freed. Takes memory where the other
  * holds some. GIX_DATE_OUT_OF_MEMORY. */
 GIX_DATE_MUST_USE
-uint32_t gix_date_zone_copy(gix_date_zone *from, gix_date_zone *zone);
+uint32_t gix_date_zone_copy(const gix_date_zone *from, gix_date_zone *zone) GIX_DATE_NONNULL(1, 2);
 
 /* Frees what a zone holds. It is UTC then, and may be freed again. */
-void gix_date_zone_free(gix_date_zone *zone);
+void gix_date_zone_free(gix_date_zone *zone) GIX_DATE_NONNULL(1);
 
 /* The offset of a zone at an instant, in seconds east of UTC. At the instant now it is that of a new
  * commit. GIX_DATE_INVALID_ZONE, GIX_DATE_INVALID_INSTANT. */
 GIX_DATE_MUST_USE
-uint32_t gix_date_offset_at(const gix_date_instant *instant, gix_date_zone *zone,
-                            int32_t *offset);
+uint32_t gix_date_offset_at(const gix_date_instant *instant, const gix_date_zone *zone,
+                            int32_t *offset) GIX_DATE_NONNULL(1, 2, 3);
 
 /* Parses as gix_date_parse does a text that may be relative to the moment now in a zone.
  * GIX_DATE_INVALID_ZONE, GIX_DATE_INVALID_INSTANT; GIX_DATE_NO_SUCH_OPTION, GIX_DATE_NOT_TEXT,
  * GIX_DATE_UNKNOWN_FORMAT, GIX_DATE_DATE_CONVERSION, GIX_DATE_RANGE. */
 GIX_DATE_MUST_USE
 uint32_t gix_date_parse_at(const char *text, size_t text_len, uint32_t raw_offsets,
-                           const gix_date_instant *now, gix_date_zone *zone, gix_date_time *time);
+                           const gix_date_instant *now, const gix_date_zone *zone,
+                           gix_date_time *time) GIX_DATE_NONNULL(4, 5, 6);
 
 /* Parses a date as gix_date_parse does, but refuses it unless each character says something that is
  * used. With GIX_DATE_UNCLEAR *place says where the text stops being careful; no other status
@@ -393,15 +405,16 @@ uint32_t gix_date_parse_at(const char *text, size_t text_len, uint32_t raw_offse
 GIX_DATE_MUST_USE
 uint32_t gix_date_parse_carefully(const char *text, size_t text_len,
                                   const gix_date_careful_options *options, gix_date_time *time,
-                                  size_t *place);
+                                  size_t *place) GIX_DATE_NONNULL(3, 4, 5);
 
 /* gix_date_parse_carefully at the moment now in a zone. The statuses are those of gix_date_parse_at,
  * GIX_DATE_UNCLEAR and GIX_DATE_AFTER_YEAR_9999. */
 GIX_DATE_MUST_USE
 uint32_t gix_date_parse_carefully_at(const char *text, size_t text_len,
                                      const gix_date_careful_options *options,
-                                     const gix_date_instant *now, gix_date_zone *zone,
-                                     gix_date_time *time, size_t *place);
+                                     const gix_date_instant *now, const gix_date_zone *zone,
+                                     gix_date_time *time, size_t *place)
+    GIX_DATE_NONNULL(3, 4, 5, 6, 7);
 
 /* Reads many lines in one call. A block is lines that end at '\n', which the last may lack if it has a
  * byte; '\r' belongs to its line. A call reads the first lines, all or as many as the shortest array
@@ -416,7 +429,8 @@ GIX_DATE_MUST_USE
 size_t gix_date_parse_lines(const char *block, size_t block_len, uint32_t reader,
                             const gix_date_careful_options *options, int64_t *seconds,
                             size_t seconds_len, int32_t *offsets, size_t offsets_len,
-                            uint32_t *statuses, size_t statuses_len, size_t *bytes);
+                            uint32_t *statuses, size_t statuses_len, size_t *bytes)
+    GIX_DATE_NONNULL(4, 11);
 
 /* gix_date_parse_lines at the moment now in a zone, which is found once for all lines. Dates are read
  * as by gix_date_parse_at and gix_date_parse_carefully_at, which tell of a moment that is none at each
@@ -424,15 +438,16 @@ size_t gix_date_parse_lines(const char *block, size_t block_len, uint32_t reader
 GIX_DATE_MUST_USE
 size_t gix_date_parse_lines_at(const char *block, size_t block_len, uint32_t reader,
                                const gix_date_careful_options *options,
-                               const gix_date_instant *now, gix_date_zone *zone, int64_t *seconds,
-                               size_t seconds_len, int32_t *offsets, size_t offsets_len,
-                               uint32_t *statuses, size_t statuses_len, size_t *bytes);
+                               const gix_date_instant *now, const gix_date_zone *zone,
+                               int64_t *seconds, size_t seconds_len, int32_t *offsets,
+                               size_t offsets_len, uint32_t *statuses, size_t statuses_len,
+                               size_t *bytes) GIX_DATE_NONNULL(4, 5, 6, 13);
 
 /* Tells of each line of a block, in the words of gix_date_parse_lines, whether it is as Git writes it:
  * canonical[i] is 1 if gix_date_is_canonical_header holds of line i, and else 0. */
 GIX_DATE_MUST_USE
 size_t gix_date_check_lines(const char *block, size_t block_len, uint8_t *canonical,
-                            size_t canonical_len, size_t *bytes);
+                            size_t canonical_len, size_t *bytes) GIX_DATE_NONNULL(5);
 
 /* Writes a time in a format of enum gix_date_named_format. Takes memory for the text only in years
  * before 1000 or at offsets with seconds.
@@ -440,14 +455,14 @@ size_t gix_date_check_lines(const char *block, size_t block_len, uint8_t *canoni
  * GIX_DATE_OUT_OF_MEMORY. */
 GIX_DATE_MUST_USE
 uint32_t gix_date_format(const gix_date_time *time, uint32_t format, char *out, size_t out_len,
-                         size_t *len);
+                         size_t *len) GIX_DATE_NONNULL(1, 5);
 
 /* gix_date_format, with the seconds in decimal for a time that has no text in that format. Takes
  * memory for these too.
  * GIX_DATE_NO_ROOM, GIX_DATE_NO_SUCH_OPTION, GIX_DATE_OUT_OF_MEMORY. */
 GIX_DATE_MUST_USE
 uint32_t gix_date_format_or_unix(const gix_date_time *time, uint32_t format, char *out,
-                                 size_t out_len, size_t *len);
+                                 size_t out_len, size_t *len) GIX_DATE_NONNULL(1, 5);
 
 /* Writes a time by a pattern of strftime, with the directives of jiff. Takes memory for the text,
  * but for the patterns of named formats where gix_date_format takes none.
@@ -455,51 +470,55 @@ uint32_t gix_date_format_or_unix(const gix_date_time *time, uint32_t format, cha
  * GIX_DATE_OUT_OF_MEMORY. */
 GIX_DATE_MUST_USE
 uint32_t gix_date_format_by_pattern(const gix_date_time *time, const char *pattern,
-                                    size_t pattern_len, char *out, size_t out_len, size_t *len);
+                                    size_t pattern_len, char *out, size_t out_len, size_t *len)
+    GIX_DATE_NONNULL(1, 6);
 
 /* gix_date_format_by_pattern, with the seconds in decimal for a time that has no text by it.
  * GIX_DATE_NO_ROOM, GIX_DATE_NOT_TEXT, GIX_DATE_OUT_OF_MEMORY. */
 GIX_DATE_MUST_USE
 uint32_t gix_date_format_by_pattern_or_unix(const gix_date_time *time, const char *pattern,
                                             size_t pattern_len, char *out, size_t out_len,
-                                            size_t *len);
+                                            size_t *len) GIX_DATE_NONNULL(1, 6);
 
 /* Cuts a signature line, without its newline, into its parts: "A U Thor <author@example.com>
  * 1660797906 +0800". The time is read by gix_date_parse_header. GIX_DATE_NOT_TEXT,
  * GIX_DATE_NO_SIGNATURE. */
 GIX_DATE_MUST_USE
-uint32_t gix_date_cut_signature(const char *line, size_t line_len, gix_date_signature *parts);
+uint32_t gix_date_cut_signature(const char *line, size_t line_len, gix_date_signature *parts)
+    GIX_DATE_NONNULL(3);
 
 /* Writes the signature line of a name, a mail and a time, without a newline. GIX_DATE_NO_ROOM,
  * GIX_DATE_NOT_TEXT, GIX_DATE_BAD_PART, GIX_DATE_OFFSET_TOO_WIDE. */
 GIX_DATE_MUST_USE
 uint32_t gix_date_write_signature(const char *name, size_t name_len, const char *mail,
                                   size_t mail_len, const gix_date_time *time, char *out,
-                                  size_t out_len, size_t *len);
+                                  size_t out_len, size_t *len) GIX_DATE_NONNULL(5, 8);
 
 /* Reads an identity line as Git shows it: what stands after "author ", "committer " or "tagger ", to the
  * first newline or NUL. The bytes need not be UTF-8. GIX_DATE_NO_IDENTITY. */
 GIX_DATE_MUST_USE
-uint32_t gix_date_ident(const char *text, size_t text_len, gix_date_ident_parts *ident);
+uint32_t gix_date_ident(const char *text, size_t text_len, gix_date_ident_parts *ident)
+    GIX_DATE_NONNULL(3);
 
 /* The time of what Git shows of an identity line. GIX_DATE_OFFSET_TOO_WIDE. */
 GIX_DATE_MUST_USE
-uint32_t gix_date_ident_time(const gix_date_git_time *shown, gix_date_time *time);
+uint32_t gix_date_ident_time(const gix_date_git_time *shown, gix_date_time *time)
+    GIX_DATE_NONNULL(1, 2);
 
 /* What git fsck says of an identity line, which ends before the first newline: a number of enum
  * gix_date_fsck_message. If it says something, *place is how many bytes stand before what is wrong: the
  * NUL, the bracket, the line's end, the date or the offset. Else *place does not change. */
 GIX_DATE_MUST_USE
-uint32_t gix_date_fsck(const char *text, size_t text_len, size_t *place);
+uint32_t gix_date_fsck(const char *text, size_t text_len, size_t *place) GIX_DATE_NONNULL(3);
 
 /* Writes the identity line of a name, a mail and a time as Git does, without a newline: name and mail
  * without crud at both ends, and then without '<', '>' and newlines. Crud is a byte from 1 to 32, and
  * each of . , : ; < > " \ and '. They need not be UTF-8. GIX_DATE_NO_ROOM, GIX_DATE_NUL_IN_PART,
  * GIX_DATE_EMPTY_NAME, GIX_DATE_ONLY_CRUD, GIX_DATE_BEFORE_EPOCH, GIX_DATE_OFFSET_TOO_WIDE. */
 GIX_DATE_MUST_USE
-uint32_t gix_date_write_ident(const char *name, size_t name_len, const char *mail,
-                              size_t mail_len, const gix_date_time *time, char *out,
-                              size_t out_len, size_t *len);
+uint32_t gix_date_write_ident(const char *name, size_t name_len, const char *mail, size_t mail_len,
+                              const gix_date_time *time, char *out, size_t out_len, size_t *len)
+    GIX_DATE_NONNULL(5, 8);
 
 #ifdef __cplusplus
 }

@@ -7,7 +7,7 @@ int main(void)
     const char *text = "5 mins ago";
     const gix_date_instant now = {1251660000, 0};
     const git_date_mode mode = {GIT_DATE_ISO8601, false};
-    gix_date_zone utc = GIX_DATE_AT_OFFSET(0);
+    const gix_date_zone utc = GIX_DATE_AT_OFFSET(0);
     git_date_approximate date;
     char out[GIT_DATE_MAX_SHOWN];
     size_t place, len;

@@ -66,7 +66,7 @@ static bool stored_nothing(const reading *seen)
 }
 
 static uint32_t read_text(enum reader reader, field text, const gix_date_instant *now,
-                          gix_date_zone *in, reading *seen)
+                          const gix_date_zone *in, reading *seen)
 {
     switch (reader) {
     case EXACT:
@@ -125,7 +125,7 @@ static void tell_ignored(size_t place, answer *told)
 
 /* Reads a text in a zone, and tells what of it the row asks for. */
 static void read_in(enum reader reader, enum asked asked, field text, const gix_date_instant *now,
-                    gix_date_zone *in, answer *told)
+                    const gix_date_zone *in, answer *told)
 {
     reading seen = untouched;
     seen.status = read_text(reader, text, now, in, &seen);
@@ -146,7 +146,7 @@ static void read_in(enum reader reader, enum asked asked, field text, const gix_
 }
 
 static void show_in(gix_date_time time, git_date_mode mode, const gix_date_instant *now,
-                    gix_date_zone *in, answer *told)
+                    const gix_date_zone *in, answer *told)
 {
     uint32_t status =
         git_date_show_at(&time, &mode, now, in, told->bytes, MAX_ANSWER, &told->len);
@@ -155,7 +155,7 @@ static void show_in(gix_date_time time, git_date_mode mode, const gix_date_insta
 
 /* Shows the date of a line. A buffer that is one byte too short has to stay as it is. */
 static void show_line_in(gix_date_git_time time, git_date_mode mode, const gix_date_instant *now,
-                         gix_date_zone *in, answer *told)
+                         const gix_date_zone *in, answer *told)
 {
     char small[GIT_DATE_MAX_SHOWN_GIT_TIME] = {0};
     size_t needed = 0;
@@ -169,7 +169,7 @@ static void show_line_in(gix_date_git_time time, git_date_mode mode, const gix_d
 }
 
 /* What a format shows, by the zone's clock or not. A buffer that is one byte too short has to stay as it is. */
-static void show_by_format_in(gix_date_time time, field format, bool local, gix_date_zone *in,
+static void show_by_format_in(gix_date_time time, field format, bool local, const gix_date_zone *in,
                               answer *told)
 {
     size_t place = untouched.place, room, needed = 0;
@@ -203,7 +203,7 @@ static void tell_age(gix_date_time time, const gix_date_instant *now, answer *to
 }
 
 /* Tells a time with the offset that it has in a zone, or with its own, by the number of Git for this offset. */
-static void tell_raw(gix_date_time time, bool local, gix_date_zone *in, answer *told)
+static void tell_raw(gix_date_time time, bool local, const gix_date_zone *in, answer *told)
 {
     const gix_date_instant instant = {time.seconds, 0};
     if (local && is_refused_at(gix_date_offset_at(&instant, in, &time.offset), untouched.place, told))
@@ -216,7 +216,7 @@ static void tell_raw(gix_date_time time, bool local, gix_date_zone *in, answer *
 
 /* The other calls say what a mode shows of a time. Git knows no offset of a zone before 1970 and after 2099. */
 static void show_otherwise(gix_date_time time, git_date_mode mode, const gix_date_instant *now,
-                           gix_date_zone *in, answer *told)
+                           const gix_date_zone *in, answer *told)
 {
     const int64_t last_of_2099 = 4102444799, day = 86400;
     answer other = *told;
@@ -253,7 +253,7 @@ static bool is_no_zone(uint32_t status, answer *told)
 
 /* Keeps what one date came to, for the lines of a block. */
 static void keep_date(enum reader reader, field moment, field text, const gix_date_instant *now,
-                      gix_date_zone *in)
+                      const gix_date_zone *in)
 {
     reading seen = untouched;
     if (reader == EXPIRY)

@@ -154,7 +154,7 @@ static void expiries(void)
 }
 
 /* Dates in New York, by the zone's rule and its file, which serve all calls and take no memory in them. */
-static void dates_in(gix_date_zone *zone)
+static void dates_in(const gix_date_zone *zone)
 {
     static const gix_date_instant november = {1700000000, 0};
     git_date_exact date = no_date;
@@ -300,8 +300,8 @@ static void modes(void)
 }
 
 /* The noon of July 1, 2023 in New York. */
-static uint32_t show_in_new_york(gix_date_zone *zone, git_date_mode mode, char *out, size_t room,
-                                 size_t *len)
+static uint32_t show_in_new_york(const gix_date_zone *zone, git_date_mode mode, char *out,
+                                 size_t room, size_t *len)
 {
     static const gix_date_time time = {1688227200, 0};
     return git_date_show_at(&time, &mode, &in_fold, zone, out, room, len);
@@ -334,7 +334,7 @@ static const char *const shown_locally[] = {
 };
 
 /* A buffer of each length, too short or not, for the text that is due: in New York's zone, or in none. */
-static void expect_shown(const char *due, uint32_t kind, gix_date_zone *zone)
+static void expect_shown(const char *due, uint32_t kind, const gix_date_zone *zone)
 {
     static const gix_date_time time = {1251660000, 0};
     static const gix_date_instant later = {1251667200, 0};
@@ -410,7 +410,7 @@ static const char *const shown_of_line[] = {
 static const char locally[] = "2009-08-30 15:20:00 -0400";
 
 /* A buffer of each length, too short or not, for the text that is due. */
-static void expect_of_line(const char *due, git_date_mode mode, gix_date_zone *zone)
+static void expect_of_line(const char *due, git_date_mode mode, const gix_date_zone *zone)
 {
     static const gix_date_git_time time = {1251660000, 60};
     static const gix_date_instant later = {1251667200, 0};
@@ -472,7 +472,7 @@ static const gix_date_time evening = {1251660000, 7200};
 
 /* A buffer of each length, too short or not, for the text that is due. */
 static void expect_by_format(gix_date_time time, const char *format, const char *due, bool local,
-                             gix_date_zone *zone)
+                             const gix_date_zone *zone)
 {
     for (size_t room = 0; room <= strlen(due) + 1; room++) {
         char *buffer = malloc(room + 1);

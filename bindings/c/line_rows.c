@@ -81,7 +81,7 @@ void keep_line(const line_reader *reader, field text, uint32_t status, gix_date_
 }
 
 /* Reads lines from a byte of the block on into the cells from a line on, of which there are so many. */
-static size_t read_from(const block *of, const gix_date_instant *now, gix_date_zone *zone,
+static size_t read_from(const block *of, const gix_date_instant *now, const gix_date_zone *zone,
                         cells *into, size_t at, size_t line, size_t room, size_t *bytes)
 {
     const char *start = of->bytes + at;
@@ -146,7 +146,7 @@ static bool is_due(const block *of, const cells *seen, size_t line)
 
 /* Whether a call, or calls for at most so many lines each, read a block as is due: with no cell changed
  * after the last line's. */
-static bool reads(const block *of, const gix_date_instant *now, gix_date_zone *zone, size_t most)
+static bool reads(const block *of, const gix_date_instant *now, const gix_date_zone *zone, size_t most)
 {
     cells seen = make_cells(of->count + 1);
     const left nothing = {NO_STATUS, no_time};
@@ -168,7 +168,7 @@ static bool reads(const block *of, const gix_date_instant *now, gix_date_zone *z
 }
 
 /* Whether one call, and calls for fewer lines, read a block as is due. */
-static bool reads_in_pieces(const block *of, const gix_date_instant *now, gix_date_zone *zone)
+static bool reads_in_pieces(const block *of, const gix_date_instant *now, const gix_date_zone *zone)
 {
     const size_t most[] = {of->count + 1, of->count, 3, 1};
     for (size_t i = 0; i < LENGTH(most); i++)

@@ -156,7 +156,7 @@ static void readers(void)
 }
 
 /* Lines at a moment in New York, by its rule and its file, each of which is read once. */
-static void lines_at_moments(gix_date_zone *zone)
+static void lines_at_moments(const gix_date_zone *zone)
 {
     static const gix_date_instant in_fold = {1699165800, 0};
     static const due dates[] = {{GIX_DATE_OK, 1699158600, -14400}, REFUSED(GIX_DATE_UNKNOWN_FORMAT)},
@@ -238,7 +238,7 @@ static void checked_lines(void)
 static void null_pointers(void)
 {
     size_t bytes = 99;
-    gix_date_zone *zone = AT(0);
+    const gix_date_zone *zone = AT(0);
     cells seen = no_cells();
     EXPECT(read_headers(NULL, 0, &seen) == 0 && seen.bytes == 0, "no block");
     EXPECT(gix_date_parse_lines(TEXT("5"), 0, &usual, NULL, 0, NULL, 0, NULL, 0, &bytes) == 0 &&

@@ -5,7 +5,7 @@
 #include <time.h>
 
 /* Reads a date at this moment. */
-static uint32_t parse_now(const char *date, gix_date_zone *zone, gix_date_time *parsed,
+static uint32_t parse_now(const char *date, const gix_date_zone *zone, gix_date_time *parsed,
                           size_t *place)
 {
     static const gix_date_careful_options options = {

@@ -22,6 +22,7 @@ static void null_pointers(void)
     static const gix_date_instant now = {0, 0};
     static const gix_date_careful_options options = {0, 0, 0};
     gix_date_time time = untouched;
+    gix_date_zone zone = GIX_DATE_AT_OFFSET(0);
     gix_date_signature parts;
     gix_date_ident_parts ident;
     size_t len = 99, place = 99;
@@ -30,7 +31,7 @@ static void null_pointers(void)
     EXPECT(gix_date_parse(NULL, 0, 0, &time) == GIX_DATE_UNKNOWN_FORMAT, "a date");
     EXPECT(gix_date_parse_at(NULL, 0, 0, &now, AT(0), &time) == GIX_DATE_UNKNOWN_FORMAT,
            "a date");
-    EXPECT(gix_date_zone_read(NULL, 0, AT(0)) == GIX_DATE_INVALID_ZONE, "a zone");
+    EXPECT(gix_date_zone_read(NULL, 0, &zone) == GIX_DATE_INVALID_ZONE, "a zone");
     EXPECT(gix_date_parse_carefully(NULL, 0, &options, &time, &place) == GIX_DATE_UNKNOWN_FORMAT,
            "a date");
     EXPECT(gix_date_cut_signature(NULL, 0, &parts) == GIX_DATE_NO_SIGNATURE, "a line");
@@ -303,7 +304,7 @@ static void rules_of_offsets(void)
 static const demand of_rule = {1, 72}, of_file = {3, 272};
 
 /* Whether a zone means New York's, and is as it was after the call. */
-static bool is_new_york(gix_date_zone *zone)
+static bool is_new_york(const gix_date_zone *zone)
 {
     static const gix_date_instant in_fold = {1699165800, 0};
     const gix_date_zone before = *zone;
@@ -314,7 +315,7 @@ static bool is_new_york(gix_date_zone *zone)
 }
 
 /* Whether a zone has this offset now. */
-static bool shows(gix_date_zone *zone, int32_t offset)
+static bool shows(const gix_date_zone *zone, int32_t offset)
 {
     static const gix_date_instant now = {1698400800, 0};
     gix_date_time time = untouched;
@@ -323,7 +324,7 @@ static bool shows(gix_date_zone *zone, int32_t offset)
 }
 
 /* Whether a zone always has this offset, and holds nothing. */
-static bool is_at(gix_date_zone *zone, int32_t offset)
+static bool is_at(const gix_date_zone *zone, int32_t offset)
 {
     return !zone->held && zone->offset == offset && shows(zone, offset);
 }

@@ -129,7 +129,7 @@ static inline void in_threads(void *(*work)(void *))
 }
 
 /* The zone that always has an offset. */
-#define AT(offset) (&(gix_date_zone)GIX_DATE_AT_OFFSET(offset))
+#define AT(offset) (&(const gix_date_zone)GIX_DATE_AT_OFFSET(offset))
 
 /* The zone of a text, which has to name one. */
 static inline gix_date_zone zone_of(const void *text, size_t len)

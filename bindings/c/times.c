@@ -5,8 +5,8 @@
 int main(void)
 {
     const char *header = "1660797906 +0800", *date = "2 weeks ago";
-    gix_date_instant now = {1698400800, 0};
-    gix_date_zone zone = GIX_DATE_AT_OFFSET(7200);
+    const gix_date_instant now = {1698400800, 0};
+    const gix_date_zone zone = GIX_DATE_AT_OFFSET(7200);
     gix_date_time time;
     if (gix_date_parse_header(header, strlen(header), &time) != GIX_DATE_OK)
         return 1;

@@ -46,8 +46,10 @@ static gix_date_instant present(void)
     return now;
 }
 
+static const gix_date_zone utc = GIX_DATE_AT_OFFSET(0);
+
 /* The zone of the process, which is read once. One that cannot be read is UTC, as in the C library. */
-static gix_date_zone *own_zone(void)
+static const gix_date_zone *own_zone(void)
 {
     static gix_date_zone zone;
     static bool is_read;
@@ -65,7 +67,6 @@ static void add_time(struct strbuf *out, gix_date_time time)
 /* Reads a date exactly, in UTC. So no zone's file is read for a text that names its offset. */
 static bool read_in_utc(const char *text, gix_date_instant now, git_date_exact *date)
 {
-    gix_date_zone utc = GIX_DATE_AT_OFFSET(0);
     size_t place;
     return git_date_parse_at(text, strlen(text), &now, &utc, date, &place) == GIX_DATE_OK;
 }
@@ -208,8 +209,7 @@ static void add_shown(struct strbuf *out, timestamp_t seconds, int tz, git_date_
     static const gix_date_git_time epoch;
     const gix_date_instant now = present();
     const gix_date_git_time time = {date_overflows(seconds) ? 0 : seconds, date_overflows(seconds) ? 0 : tz};
-    gix_date_zone utc = GIX_DATE_AT_OFFSET(0);
-    gix_date_zone *zone = mode.local || mode.kind == GIT_DATE_HUMAN ? own_zone() : &utc;
+    const gix_date_zone *zone = mode.local || mode.kind == GIT_DATE_HUMAN ? own_zone() : &utc;
     char shown[GIT_DATE_MAX_SHOWN_GIT_TIME];
     size_t len;
     if (git_date_show_git_time_at(&time, &mode, &now, zone, shown, sizeof shown, &len) == GIX_DATE_OK ||
@@ -222,8 +222,7 @@ static void add_shown(struct strbuf *out, timestamp_t seconds, int tz, git_date_
 static bool is_added_by_format(struct strbuf *out, gix_date_time time, const struct date_mode *mode)
 {
     const char *format = mode->strftime_fmt;
-    gix_date_zone utc = GIX_DATE_AT_OFFSET(0);
-    gix_date_zone *zone = mode->local ? own_zone() : &utc;
+    const gix_date_zone *zone = mode->local ? own_zone() : &utc;
     size_t len = 0, place;
     uint32_t status;
     if (mode->local && !zone->held)

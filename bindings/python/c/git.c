@@ -37,8 +37,7 @@ static PyObject *read_exact(const struct state *state, const struct text *text, 
 {
     git_date_exact date = {{0, 0}, GIT_DATE_NOTHING, false};
     size_t place = GIT_DATE_NOTHING;
-    const uint32_t status = git_date_parse_at(text->at, text->len, &moment->now, hold_zone(moment), &date, &place);
-    release_zone(moment);
+    const uint32_t status = git_date_parse_at(text->at, text->len, &moment->now, zone_of(moment), &date, &place);
     return status == GIX_DATE_OK ? exact_of(state, &date, text) : refuse(state, status, text, place);
 }
 
@@ -46,8 +45,7 @@ static PyObject *read_approximate(const struct state *state, const struct text *
 {
     git_date_approximate date = {{0, 0}, GIT_DATE_NOTHING, false};
     size_t place = GIT_DATE_NOTHING;
-    const uint32_t status = git_date_approxidate_at(text->at, text->len, &moment->now, hold_zone(moment), &date, &place);
-    release_zone(moment);
+    const uint32_t status = git_date_approxidate_at(text->at, text->len, &moment->now, zone_of(moment), &date, &place);
     return status == GIX_DATE_OK ? approximate_of(state, &date, text) : refuse(state, status, text, place);
 }
 
@@ -55,8 +53,7 @@ static PyObject *read_expiry(const struct state *state, const struct text *text,
 {
     git_date_expiry expiry = {GIT_DATE_NEVER, {{0, 0}, GIT_DATE_NOTHING, false}};
     size_t place = GIT_DATE_NOTHING;
-    const uint32_t status = git_date_expiry_at(text->at, text->len, &moment->now, hold_zone(moment), &expiry, &place);
-    release_zone(moment);
+    const uint32_t status = git_date_expiry_at(text->at, text->len, &moment->now, zone_of(moment), &expiry, &place);
     if (status != GIX_DATE_OK)
         return refuse(state, status, text, place);
     return expiry.kind == GIT_DATE_BEFORE ? approximate_of(state, &expiry.before, text)
@@ -148,18 +145,15 @@ CALL(mode_named)
 
 static uint32_t call_show(const struct writing *w, char *out, size_t out_len, size_t *len)
 {
-    const uint32_t status = git_date_show_at(&w->time, &w->mode, &w->moment->now, hold_zone(w->moment), out, out_len, len);
-    release_zone(w->moment);
-    return status;
+    return git_date_show_at(&w->time, &w->mode, &w->moment->now, zone_of(w->moment), out, out_len, len);
 }
 
 static uint32_t call_show_by_format(const struct writing *w, char *out, size_t out_len, size_t *len)
 {
     const char *format = w->first->at + w->front;
     size_t place = GIT_DATE_NOTHING;
-    const uint32_t status = git_date_show_by_format(&w->time, format, w->first->len - w->front, w->mode.local, hold_zone(w->moment), out,
+    const uint32_t status = git_date_show_by_format(&w->time, format, w->first->len - w->front, w->mode.local, zone_of(w->moment), out,
                                                     out_len, len, &place);
-    release_zone(w->moment);
     if (place != GIT_DATE_NOTHING)
         *w->place = w->front + place;
     return status;
@@ -232,9 +226,7 @@ static bool take_git_time(const struct state *state, PyObject *object, gix_date_
 
 static uint32_t call_show_git_time(const struct writing *w, char *out, size_t out_len, size_t *len)
 {
-    const uint32_t status = git_date_show_git_time_at(&w->git_time, &w->mode, &w->moment->now, hold_zone(w->moment), out, out_len, len);
-    release_zone(w->moment);
-    return status;
+    return git_date_show_git_time_at(&w->git_time, &w->mode, &w->moment->now, zone_of(w->moment), out, out_len, len);
 }
 
 CALL(show_git_time)

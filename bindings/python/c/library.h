@@ -131,21 +131,16 @@ struct zone;
 struct moment {
     bool is_given;
     gix_date_instant now;
-    struct zone *kept; /* NULL, or a reference */
-    gix_date_zone own; /* its zone, unless one is kept: an offset or a copy */
-    bool is_copy;
+    struct zone *kept;   /* NULL, or a reference */
+    gix_date_zone fixed; /* its zone, unless one is kept: that of an offset */
 };
 
 bool take_moment(const struct state *state, PyObject *object, struct moment *moment);
 bool take_any_moment(const struct state *state, PyObject *object, struct moment *moment);
 void drop_moment(struct moment *moment);
 
-/* The zone of a moment for one call, until release_zone. */
-gix_date_zone *hold_zone(struct moment *moment);
-void release_zone(struct moment *moment);
-
-/* Gives a moment a copy of the zone that is kept, for a call without the GIL. */
-uint32_t own_zone(struct moment *moment);
+/* The zone of a moment. Any number of threads may read it at once, also without the GIL. */
+const gix_date_zone *zone_of(const struct moment *moment);
 
 /* ---- printed texts ---- */
 

@@ -46,16 +46,16 @@ struct rule {
 };
 
 /* Reads all lines of a piece, and answers how many. */
-static size_t read_lines(const struct piece *piece, struct rule *rule)
+static size_t read_lines(const struct piece *piece, const struct rule *rule)
 {
     const size_t count = (size_t)piece->count, len = (size_t)(piece->text.end - piece->text.at);
-    struct moment *moment = &rule->moment;
+    const struct moment *moment = &rule->moment;
     size_t bytes;
     if (rule->reader == APPROXIMATE_LINES)
-        return git_date_approxidate_lines_at(piece->text.at, len, &moment->now, &moment->own, piece->at_seconds, count, piece->at_offsets,
+        return git_date_approxidate_lines_at(piece->text.at, len, &moment->now, zone_of(moment), piece->at_seconds, count, piece->at_offsets,
                                              count, piece->at_statuses, count, &bytes);
     if (moment->is_given)
-        return gix_date_parse_lines_at(piece->text.at, len, rule->reader, &rule->options, &moment->now, &moment->own, piece->at_seconds,
+        return gix_date_parse_lines_at(piece->text.at, len, rule->reader, &rule->options, &moment->now, zone_of(moment), piece->at_seconds,
                                        count, piece->at_offsets, count, piece->at_statuses, count, &bytes);
     return gix_date_parse_lines(piece->text.at, len, rule->reader, &rule->options, piece->at_seconds, count, piece->at_offsets, count,
                                 piece->at_statuses, count, &bytes);
@@ -76,17 +76,13 @@ static void *make_room(Py_ssize_t count, size_t size, PyObject **bytes)
 }
 
 /* Reads a piece, without the GIL. */
-static bool read_piece(struct piece *piece, struct rule *rule)
+static bool read_piece(struct piece *piece, const struct rule *rule)
 {
     const Py_ssize_t count = piece->count = count_lines(piece->text);
     if (!(piece->at_seconds = make_room(count, sizeof *piece->at_seconds, &piece->seconds)) ||
         !(piece->at_offsets = make_room(count, sizeof *piece->at_offsets, &piece->offsets)) ||
         !(piece->at_statuses = make_room(count, sizeof *piece->at_statuses, &piece->statuses)))
         return false;
-    if (own_zone(&rule->moment) != GIX_DATE_OK) {
-        PyErr_NoMemory();
-        return false;
-    }
     Py_BEGIN_ALLOW_THREADS
     piece->count = (Py_ssize_t)read_lines(piece, rule);
     Py_END_ALLOW_THREADS

@@ -38,9 +38,7 @@ static uint32_t parse_at(struct moment *moment, const struct text *text, uint32_
 {
     if (!moment->is_given)
         return gix_date_parse(text->at, text->len, raw, time);
-    const uint32_t status = gix_date_parse_at(text->at, text->len, raw, &moment->now, hold_zone(moment), time);
-    release_zone(moment);
-    return status;
+    return gix_date_parse_at(text->at, text->len, raw, &moment->now, zone_of(moment), time);
 }
 
 CALL(parse)
@@ -69,9 +67,7 @@ static uint32_t parse_carefully_at(struct moment *m, const struct text *text, co
 {
     if (!m->is_given)
         return gix_date_parse_carefully(text->at, text->len, options, time, place);
-    const uint32_t status = gix_date_parse_carefully_at(text->at, text->len, options, &m->now, hold_zone(m), time, place);
-    release_zone(m);
-    return status;
+    return gix_date_parse_carefully_at(text->at, text->len, options, &m->now, zone_of(m), time, place);
 }
 
 CALL(parse_carefully)

@@ -11,9 +11,6 @@ struct zone {
     PyObject_HEAD
     gix_date_zone zone;
     char is_read; /* else each call refuses it */
-#ifdef Py_GIL_DISABLED
-    PyMutex lock;
-#endif
 };
 
 /* Whether the library takes a text for what Python gives it as: bytes for a file, a str for a rule. The library goes by how a text begins,
@@ -106,7 +103,7 @@ static bool keep_zone(const struct state *state, PyObject *object, struct moment
 static bool take_zone(const struct state *state, PyObject *object, struct moment *moment)
 {
     if (PyIndex_Check(object))
-        return take_int32(object, &moment->own.offset);
+        return take_int32(object, &moment->fixed.offset);
     if (PyUnicode_Check(object) || PyBytes_Check(object))
         return keep_zone(state, object, moment);
     PyErr_SetString(PyExc_TypeError, WANTED_ZONE);
@@ -144,39 +141,9 @@ bool take_any_moment(const struct state *state, PyObject *object, struct moment 
 void drop_moment(struct moment *moment)
 {
     Py_CLEAR(moment->kept);
-    if (moment->is_copy)
-        gix_date_zone_free(&moment->own);
 }
 
-/* It goes into one call at a time: that is so while the GIL is held, and else by the lock. */
-gix_date_zone *hold_zone(struct moment *moment)
+const gix_date_zone *zone_of(const struct moment *moment)
 {
-    if (moment->kept == NULL)
-        return &moment->own;
-#ifdef Py_GIL_DISABLED
-    PyMutex_Lock(&moment->kept->lock);
-#endif
-    return &moment->kept->zone;
-}
-
-void release_zone(struct moment *moment)
-{
-#ifdef Py_GIL_DISABLED
-    if (moment->kept)
-        PyMutex_Unlock(&moment->kept->lock);
-#else
-    (void)moment;
-#endif
-}
-
-uint32_t own_zone(struct moment *moment)
-{
-    uint32_t status = GIX_DATE_OK;
-    if (moment->kept) {
-        status = gix_date_zone_copy(hold_zone(moment), &moment->own);
-        release_zone(moment);
-        Py_CLEAR(moment->kept);
-        moment->is_copy = true;
-    }
-    return status;
+    return moment->kept ? &moment->kept->zone : &moment->fixed;
 }

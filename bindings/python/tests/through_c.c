@@ -30,7 +30,7 @@ static void print_place(uint32_t status, size_t place, size_t ignored)
 static void answer(const char *text, size_t len)
 {
     static const gix_date_careful_options options = {GIX_DATE_WHOLE_MINUTES, GIX_DATE_MOMENTS_ZONE, GIX_DATE_CAREFUL};
-    static gix_date_zone zone = GIX_DATE_AT_OFFSET(7200);
+    static const gix_date_zone zone = GIX_DATE_AT_OFFSET(7200);
     gix_date_time time;
     git_date_exact exact;
     git_date_approximate date;

@@ -105,13 +105,12 @@ pub(crate) fn parse(text: &[u8], raw: RawOffsets) -> Result<Time, Error> {
 pub(crate) fn parse_at(
     text: &[u8],
     now: Instant,
-    zone: &mut HeldZone,
+    zone: &HeldZone,
     raw: RawOffsets,
 ) -> Result<Time, Error> {
     let mut time = Time::default();
     let (start, len, raw) = (text.as_ptr(), text.len(), raw as u32);
-    // SAFETY: the text is valid for its length, the instant is valid, and the zone, which is valid, and the time are places of
-    // their own.
+    // SAFETY: the text is valid for its length, instant and zone are valid, and the time is a place of its own.
     let status = unsafe { ffi::gix_date_parse_at(start, len, raw, &now, zone.place(), &mut time) };
     stored(status, time)
 }
@@ -129,14 +128,14 @@ pub(crate) fn parse_carefully(text: &[u8], options: CarefulOptions) -> Result<Ti
 pub(crate) fn parse_carefully_at(
     text: &[u8],
     now: Instant,
-    zone: &mut HeldZone,
+    zone: &HeldZone,
     options: CarefulOptions,
 ) -> Result<Time, CarefulError> {
     let options = options.into();
     let (mut time, mut place) = (Time::default(), 0);
     let (start, len, zone) = (text.as_ptr(), text.len(), zone.place());
-    // SAFETY: the text is valid for its length, options and instant are valid, and the zone, which is valid, the time and the
-    // place are places of their own.
+    // SAFETY: the text is valid for its length, options, instant and zone are valid, and the time and the place are places of
+    // their own.
     let status = unsafe {
         ffi::gix_date_parse_carefully_at(start, len, &options, &now, zone, &mut time, &mut place)
     };

@@ -82,15 +82,16 @@ extern "C" {
         time: *mut Time,
     ) -> u32;
     pub fn gix_date_zone_read(text: *const u8, text_len: usize, zone: *mut CZone) -> u32;
-    pub fn gix_date_zone_copy(from: *mut CZone, zone: *mut CZone) -> u32;
+    pub fn gix_date_zone_copy(from: *const CZone, zone: *mut CZone) -> u32;
     pub fn gix_date_zone_free(zone: *mut CZone);
-    pub fn gix_date_offset_at(instant: *const Instant, zone: *mut CZone, offset: *mut i32) -> u32;
+    pub fn gix_date_offset_at(instant: *const Instant, zone: *const CZone, offset: *mut i32)
+        -> u32;
     pub fn gix_date_parse_at(
         text: *const u8,
         text_len: usize,
         raw_offsets: u32,
         now: *const Instant,
-        zone: *mut CZone,
+        zone: *const CZone,
         time: *mut Time,
     ) -> u32;
     pub fn gix_date_parse_carefully(
@@ -105,7 +106,7 @@ extern "C" {
         text_len: usize,
         options: *const CCarefulOptions,
         now: *const Instant,
-        zone: *mut CZone,
+        zone: *const CZone,
         time: *mut Time,
         place: *mut usize,
     ) -> u32;
@@ -128,7 +129,7 @@ extern "C" {
         reader: u32,
         options: *const CCarefulOptions,
         now: *const Instant,
-        zone: *mut CZone,
+        zone: *const CZone,
         seconds: *mut i64,
         seconds_len: usize,
         offsets: *mut i32,

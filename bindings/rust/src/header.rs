@@ -73,7 +73,8 @@ pub fn calls(header: &str) -> Vec<String> {
     let statements = code
         .split(';')
         .map(|text| text.trim_start_matches(|c: char| c == '}' || c.is_whitespace()))
-        .map(|text| text.trim_start_matches("GIX_DATE_MUST_USE\n"));
+        .map(|text| text.trim_start_matches("GIX_DATE_MUST_USE\n"))
+        .map(|text| text.split("GIX_DATE_NONNULL").next().unwrap().trim_end());
     statements
         .filter(|text| {
             let results = ["int32_t ", "uint32_t ", "size_t ", "bool ", "void "];

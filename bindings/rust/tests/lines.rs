@@ -150,32 +150,30 @@ fn lines_at_a_moment_are_read_as_texts() {
         Zone::Offset(7200),
         Zone::Posix("EST5EDT,M3.2.0,M11.1.0".into()),
     ] {
-        let read = zone.read().unwrap();
-        let (mut one, mut many) = (read.clone(), read);
-        let mut texts = |call: &mut dyn FnMut(&mut gix_date_proved::ReadZone, &[u8]) -> Answer| {
-            let lines = block
-                .strip_suffix(b"\n")
-                .unwrap()
-                .split(|byte| *byte == b'\n');
-            lines.map(|line| call(&mut one, line)).collect::<Vec<_>>()
+        let zone = zone.read().unwrap();
+        let texts = |call: &dyn Fn(&[u8]) -> Answer| {
+            let lines = block.strip_suffix(b"\n").unwrap();
+            lines
+                .split(|byte| *byte == b'\n')
+                .map(call)
+                .collect::<Vec<_>>()
         };
         let options = CarefulOptions::default();
-        let dates = texts(&mut |zone, line| answer(zone.parse(line, NOW)));
+        let dates = texts(&|line| answer(zone.parse(line, NOW)));
         let reader = LineReader::Dates(RawOffsets::default());
         let call =
-            |block: &[u8], columns: Columns<'_>| many.parse_lines(block, reader, NOW, columns);
+            |block: &[u8], columns: Columns<'_>| zone.parse_lines(block, reader, NOW, columns);
         assert_eq!(answers(&block, 1000, call), dates);
-        let dates = texts(&mut |zone, line| careful(zone.parse_carefully(line, NOW, options)));
+        let dates = texts(&|line| careful(zone.parse_carefully(line, NOW, options)));
         let reader = LineReader::Careful(options);
         let call =
-            |block: &[u8], columns: Columns<'_>| many.parse_lines(block, reader, NOW, columns);
+            |block: &[u8], columns: Columns<'_>| zone.parse_lines(block, reader, NOW, columns);
         assert_eq!(answers(&block, 1000, call), dates);
-        let dates = texts(&mut |zone, line| date(zone.parse_date(line, NOW).map(|date| date.time)));
-        let call = |block: &[u8], columns: Columns<'_>| many.parse_date_lines(block, NOW, columns);
+        let dates = texts(&|line| date(zone.parse_date(line, NOW).map(|date| date.time)));
+        let call = |block: &[u8], columns: Columns<'_>| zone.parse_date_lines(block, NOW, columns);
         assert_eq!(answers(&block, 1000, call), dates);
-        let dates =
-            texts(&mut |zone, line| date(zone.approxidate(line, NOW).map(|date| date.time)));
-        let call = |block: &[u8], columns: Columns<'_>| many.approxidate_lines(block, NOW, columns);
+        let dates = texts(&|line| date(zone.approxidate(line, NOW).map(|date| date.time)));
+        let call = |block: &[u8], columns: Columns<'_>| zone.approxidate_lines(block, NOW, columns);
         assert_eq!(answers(&block, 1000, call), dates);
     }
 }
@@ -200,7 +198,7 @@ fn lines_are_checked_as_texts() {
 
 #[test]
 fn a_moment_that_is_none_is_told_at_each_line() {
-    let mut far = Zone::Offset(93600).read().unwrap();
+    let far = Zone::Offset(93600).read().unwrap();
     let refused = vec![Err(LineError::Refused(Error::InvalidZone)); 2];
     let call = |block: &[u8], columns: Columns<'_>| {
         far.parse_lines(

@@ -212,7 +212,7 @@ fn a_zone_that_has_no_memory_is_refused() {
     let now = Instant::at_second(1699165800);
     for (zone, reads, clones) in zones() {
         assert_eq!(are_refusals(refused_in_turn(|| zone.read())), reads);
-        let mut read = zone.read().unwrap();
+        let read = zone.read().unwrap();
         let due = read.parse("yesterday", now);
         assert_eq!(are_refusals(refused_in_turn(|| read.try_clone())), clones);
         assert_eq!(read.parse("yesterday", now), due);
@@ -256,7 +256,7 @@ fn a_clone_that_has_no_memory_panics() {
 #[test]
 fn a_zone_that_is_read_takes_no_memory_in_calls() {
     let now = Instant::at_second(1699165800);
-    let calls = |zone: &mut ReadZone| {
+    let calls = |zone: &ReadZone| {
         zone.parse("1 hour ago", now).unwrap();
         let options = CarefulOptions::default();
         zone.parse_carefully("yesterday", now, options).unwrap();
@@ -272,9 +272,9 @@ fn a_zone_that_is_read_takes_no_memory_in_calls() {
         two_lines(|block, columns| zone.approxidate_lines(block, now, columns));
     };
     for (zone, ..) in zones() {
-        let mut zone = zone.read().unwrap();
+        let zone = zone.read().unwrap();
         REFUSED.set(1);
-        refused(|| calls(&mut zone));
+        refused(|| calls(&zone));
         assert_eq!(REFUSED.replace(0), 1);
     }
 }

@@ -215,15 +215,11 @@ fn zone_of(zone: &str) -> Option<Zone> {
 /// What a call answers twice in the moment's zone, which is read once, and then in a copy of the zone.
 fn in_read_zone<T, E: From<Error>>(
     now: &Moment,
-    call: impl Fn(&mut ReadZone, Instant) -> Result<T, E>,
+    call: impl Fn(&ReadZone, Instant) -> Result<T, E>,
 ) -> [Result<T, E>; 3] {
-    let now_in = |zone: &mut ReadZone| call(zone, now.instant());
+    let now_in = |zone: &ReadZone| call(zone, now.instant());
     match now.zone.read() {
-        Ok(mut zone) => [
-            now_in(&mut zone),
-            now_in(&mut zone),
-            now_in(&mut zone.clone()),
-        ],
+        Ok(zone) => [now_in(&zone), now_in(&zone), now_in(&zone.clone())],
         Err(error) => [(); 3].map(|()| Err(error.into())),
     }
 }

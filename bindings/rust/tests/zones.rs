@@ -8,6 +8,7 @@ use gix_date_proved::{
     RawOffsets, ReadZone, Time, WithoutOffset, Zone,
 };
 use std::path::Path;
+use std::sync::OnceLock;
 use std::time::{Duration, SystemTime, UNIX_EPOCH};
 use std::{fs, thread};
 
@@ -45,7 +46,7 @@ const OF_LINE: GitTime = GitTime {
 };
 
 /// Each call in New York's zone, all with the zone that was read once.
-fn answers_in_new_york(zone: &mut ReadZone) {
+fn answers_in_new_york(zone: &ReadZone) {
     let in_fold = Instant::at_second(1699165800);
     assert_eq!(
         zone.parse("now", in_fold),
@@ -87,16 +88,16 @@ fn answers_in_new_york(zone: &mut ReadZone) {
 #[test]
 fn a_rule_and_a_file_serve_all_calls() {
     for zone in new_york() {
-        let mut zone = zone.read().unwrap();
+        let zone = zone.read().unwrap();
         for _ in 0..3 {
-            answers_in_new_york(&mut zone);
+            answers_in_new_york(&zone);
         }
     }
 }
 
 #[test]
 fn an_offset_serves_all_calls() {
-    let mut zone = Zone::Offset(7200).read().unwrap();
+    let zone = Zone::Offset(7200).read().unwrap();
     let now = Instant::at_second(1698400800);
     let weeks = Time::new(1697191200, 7200);
     assert_eq!(zone.parse("2 weeks ago", now), Ok(weeks));
@@ -109,7 +110,7 @@ fn an_offset_serves_all_calls() {
         Ok(Time::new(1704441600, 7200))
     );
 
-    let mut zone = Zone::UTC.read().unwrap();
+    let zone = Zone::UTC.read().unwrap();
     let now = Instant::at_second(1251660000);
     let text = "2008-02-14 20:30:45 IST";
     let date = zone.parse_date(text, now).unwrap();
@@ -131,7 +132,7 @@ fn an_offset_serves_all_calls() {
 fn texts_are_refused_as_at_a_moment() {
     let now = Instant::at_second(1698400800);
     for zone in new_york().into_iter().chain([Zone::UTC]) {
-        let mut zone = zone.read().unwrap();
+        let zone = zone.read().unwrap();
         assert_eq!(zone.parse("banana", now), Err(Error::UnknownFormat));
         assert_eq!(zone.parse("12023 years ago", now), Err(Error::Range));
         let unclear = zone.parse_carefully("30 min ago", now, careful());
@@ -148,7 +149,7 @@ fn texts_are_refused_as_at_a_moment() {
 }
 
 /// What refuses each call in a zone at an instant.
-fn refusals(zone: &mut ReadZone, now: Instant) -> [Option<Error>; 9] {
+fn refusals(zone: &ReadZone, now: Instant) -> [Option<Error>; 9] {
     let of_date = |answer| match answer {
         DateError::Refused(error) => error,
         other => panic!("{other:?}"),
@@ -182,17 +183,17 @@ fn refusals(zone: &mut ReadZone, now: Instant) -> [Option<Error>; 9] {
 #[test]
 fn each_call_refuses_what_is_no_instant() {
     for zone in new_york().into_iter().chain([Zone::Offset(3600)]) {
-        let mut zone = zone.read().unwrap();
+        let zone = zone.read().unwrap();
         let too_late = Instant::at_second(253402207201);
         let whole = Instant {
             seconds: 0,
             nanoseconds: 1_000_000_000,
         };
         for now in [too_late, whole] {
-            assert_eq!(refusals(&mut zone, now), [Some(Error::InvalidInstant); 9]);
+            assert_eq!(refusals(&zone, now), [Some(Error::InvalidInstant); 9]);
         }
         let now = Instant::at_second(1251660000);
-        assert_eq!(refusals(&mut zone, now), [None; 9]);
+        assert_eq!(refusals(&zone, now), [None; 9]);
     }
 }
 
@@ -205,9 +206,9 @@ fn each_call_refuses_an_offset_that_is_too_wide() {
         (-93600, Some(Error::InvalidZone)),
         (i32::MIN, Some(Error::InvalidZone)),
     ] {
-        let mut zone = Zone::Offset(offset).read().unwrap();
+        let zone = Zone::Offset(offset).read().unwrap();
         let now = Instant::at_second(1251660000);
-        assert_eq!(refusals(&mut zone, now), [refusal; 9], "{offset}");
+        assert_eq!(refusals(&zone, now), [refusal; 9], "{offset}");
     }
 }
 
@@ -260,7 +261,7 @@ fn ascii_file() -> Vec<u8> {
 fn a_file_is_no_rule() {
     let file = ascii_file();
     let now = Instant::at_second(5);
-    let mut zone = Zone::Tzif(file[..].into()).read().unwrap();
+    let zone = Zone::Tzif(file[..].into()).read().unwrap();
     assert_eq!(zone.parse("now", now), Ok(Time::new(5, 0)));
     let text = String::from_utf8(file).unwrap();
     for text in [&text, "TZif", "TZif5", "TZif5EDT,M3.2.0,M11.1.0"] {
@@ -285,7 +286,7 @@ fn what_is_no_file_is_refused() {
 
 #[test]
 fn texts_may_be_bytes() {
-    let mut zone = Zone::Offset(7200).read().unwrap();
+    let zone = Zone::Offset(7200).read().unwrap();
     let now = Instant::at_second(1698400800);
     let weeks = Ok(Time::new(1697191200, 7200));
     assert_eq!(zone.parse(b"2 weeks ago", now), weeks);
@@ -302,14 +303,14 @@ fn texts_may_be_bytes() {
 fn clones_outlive_each_other() {
     for zone in new_york() {
         let first = zone.read().unwrap();
-        let mut second = first.clone();
+        let second = first.clone();
         let mut third = first.try_clone().unwrap();
         drop(first);
-        answers_in_new_york(&mut second);
+        answers_in_new_york(&second);
         drop(second);
-        answers_in_new_york(&mut third);
+        answers_in_new_york(&third);
         third = third.clone();
-        answers_in_new_york(&mut third);
+        answers_in_new_york(&third);
     }
     let zone = Zone::Offset(7200).read().unwrap();
     let now = zone.clone().parse("now", Instant::at_second(0));
@@ -317,27 +318,46 @@ fn clones_outlive_each_other() {
     assert_eq!(format!("{zone:?}"), "ReadZone { .. }");
 }
 
+/// A zone that lasts as long as the program.
+static SHARED: OnceLock<ReadZone> = OnceLock::new();
+
 #[test]
-fn each_thread_has_a_clone() {
+fn threads_share_a_zone() {
+    SHARED.get_or_init(|| Zone::Posix(RULE.into()).read().unwrap());
     for zone in new_york() {
-        let zone = zone.read().unwrap();
-        let threads: Vec<_> = (0..16)
-            .map(|_| {
-                let mut zone = zone.clone();
-                thread::spawn(move || {
+        let zone = &zone.read().unwrap();
+        thread::scope(|threads| {
+            for _ in 0..8 {
+                threads.spawn(|| {
                     for _ in 0..50 {
-                        answers_in_new_york(&mut zone.clone());
-                        answers_in_new_york(&mut zone);
+                        answers_in_new_york(zone);
+                        answers_in_new_york(SHARED.get().unwrap());
                     }
-                    zone
-                })
-            })
-            .collect();
-        drop(zone);
-        for thread in threads {
-            answers_in_new_york(&mut thread.join().unwrap());
-        }
+                });
+            }
+            threads.spawn(|| {
+                for _ in 0..50 {
+                    answers_in_new_york(&zone.clone());
+                }
+            });
+        });
+        answers_in_new_york(zone);
     }
+}
+
+#[test]
+fn threads_share_an_offset() {
+    let zone = &Zone::Offset(7200).read().unwrap();
+    let now = Instant::at_second(1698400800);
+    thread::scope(|threads| {
+        for _ in 0..8 {
+            threads.spawn(|| {
+                for _ in 0..10000 {
+                    assert_eq!(zone.offset_at(now), Ok(7200));
+                }
+            });
+        }
+    });
 }
 
 #[test]

@@ -1,4 +1,3 @@
 -- What is shown.
 pub mod ShownClocks
 pub mod WrittenOffsets
-pub mod HumanTexts

@@ -2,6 +2,5 @@
 pub mod FixedChoices
 pub mod ExactBack
 pub mod ExactNothing
-pub mod MonthsAgo
 pub mod Zones
 pub mod ClockRead

@@ -1,4 +1,3 @@
 -- Definitions on worked texts: each row computes.
 mod LawRows
-mod HeardRows
 mod BackRows

@@ -1,15 +1,10 @@
 -- What the laws of dates by a format say.
-use Rattle.std.specs.Prelude.{◌≡◌, ℕ, ◌+◌, List, ◌++◌, length, Bool, true, false, ◌&&◌, nat_le, ℤ, pos, codes, Option, Some, option_map}
+use Rattle.std.specs.Prelude.{◌≡◌, ℕ, ◌+◌, List, ◌++◌, length, Bool, true, false, ◌&&◌, nat_le, ℤ, codes, Option, Some, option_map}
 use Rattle.std.specs.List.{list_any}
 use Rattle.std.specs.Result.{result_map_both}
 use Rattle.jiff.specs.Types.{TimeZone}
-use Rattle.jiff.specs.declared.zoned.Zoned.{Zoned}
-use Rattle.gix_date.specs.Families.Answer.{Absolute}
-use Rattle.gix_date.specs.Families.Order.{first_family_by}
-use Rattle.gix_date.specs.Families.Raw.{OffsetRule}
 use Rattle.gix_date.specs.Fields.Layout.{LocalTime}
 use Rattle.gix_date.specs.Printing.NamedTexts.{iso8601_pattern}
-use Rattle.gix_date.specs.Printing.ReadingBack.{RoundTrips}
 use Rattle.gix_date.specs.Text.Front.{◌>>=◌}
 use Rattle.gix_date.specs.Text.Numbers.{decimal_text}
 use Rattle.gix_date.specs.declared.time.Time.{Time}
@@ -18,8 +13,6 @@ use Rattle.git_date.specs.Show.Clocks.{Moment, own_clock}
 use Rattle.git_date.specs.Show.Dates.{raw_text, shown}
 use Rattle.git_date.specs.declared.mode.DateKind.{DateKind}
 use Rattle.git_date.specs.declared.mode.DateKind.TheVariants.{Iso8601, Short}
-use Rattle.git_date_laws.specs.Headline.{IsReadAs, shown_time}
-use Rattle.git_date_laws.specs.Texts.Printed.{IsGitTime}
 use Rattle.git_date.specs.declared.format.fault.FormatFault.{FormatFault}
 use Rattle.git_date.specs.declared.format.fault.FormatFault.TheVariants.{FlagRefused, UnknownDirective, WidthTooLarge}
 use Rattle.git_date.specs.Formats.Format.{shown_by_format}
@@ -55,22 +48,6 @@ ShowsModes zone t =
     (seconds : ℤ) →
     ShowsAsMode (record { zone = zone; seconds = seconds }) iso8601_pattern Iso8601 t
     × ShowsAsMode (record { zone = zone; seconds = seconds }) (codes "%F") Short t
-
--- by every rule for raw offsets `gix_date` parses this as a time
-abbrev pub IsParsedAs : List ℕ → Time → Type 0
-IsParsedAs text t = (rule : OffsetRule) → first_family_by rule text ≡ Some (Absolute t)
-
--- What `%Y-%m-%d %H:%M:%S %z` shows of a time of Git's, by either clock, is read and parsed as the time whose own clock is shown.
-abbrev pub ReadsBackByFormat : TimeZone → Zoned → Time → Type 0
-ReadsBackByFormat zone moment t =
-    (local : Bool) (text : List ℕ) →
-    let time = shown_time (record { zone = zone; seconds = pos 0 }) local t in
-    IsGitTime time → shown_by_format zone local iso8601_pattern t ≡ Some text → IsReadAs moment text time × IsParsedAs text time
-
--- what it shows of a time that round-trips, by its own clock, is parsed as that time
-abbrev pub ParsesBackByFormat : TimeZone → Time → Type 0
-ParsesBackByFormat zone t =
-    (text : List ℕ) → RoundTrips t → shown_by_format zone false iso8601_pattern t ≡ Some text → IsParsedAs text t
 
 -- the text of both, where both have one
 abbrev pub joined : Option (List ℕ) → Option (List ℕ) → Option (List ℕ)

@@ -1,5 +1,5 @@
 -- Laws of dates as Git reads them.
-use Rattle.std.specs.Prelude.{◌≡◌, ◌≤◌, ◌↔◌, ◌⊎◌, ℕ, ℤ, true, false, List, length, [], ◌∷◌, ◌++◌, Option, Some, None, IfSome, Result, Ok}
+use Rattle.std.specs.Prelude.{◌≡◌, ◌↔◌, ◌⊎◌, ℕ, ℤ, true, false, List, [], ◌∷◌, ◌++◌, Option, Some, None, IfSome, Result, Ok}
 use Rattle.jiff.specs.Types.{TimeZone, Posix}
 use Rattle.jiff.specs.Words.{zoned_nanos}
 use Rattle.jiff.specs.declared.zoned.Zoned.{Zoned}
@@ -8,23 +8,17 @@ use Rattle.gix_date.specs.Fields.Zoned.{is_instant}
 use Rattle.gix_date.specs.Text.Characters.{newline, at_sign}
 use Rattle.gix_date.specs.Text.Names.{is_name}
 use Rattle.gix_date.specs.declared.time.Time.{Time}
-use Rattle.git_date.specs.Approximate.Reading.{draft_of}
-use Rattle.git_date.specs.Approximate.Reading as approximate
-use Rattle.git_date.specs.Approximate.Drafts.{first_draft}
-use Rattle.git_date.specs.Approximate.Zones.{Choices}
 use Rattle.git_date.specs.Rules.Dates.{now_of}
 use Rattle.git_date_laws.specs.Texts.Lines.{AreComplete}
 use Rattle.git_date.specs.Show.Modes.{own}
 use Rattle.git_date_laws.specs.Texts.Moments.{has_day_month, HasNoDayMonth}
-use Rattle.git_date_laws.specs.Texts.Printed.{IsGitTime, AreReadBack}
 use Rattle.git_date.specs.Show.Dates.{shown}
 use Rattle.git_date.specs.Show.Clocks.{Moment}
-use Rattle.git_date.specs.Tokens.Strings.{nul, before_nul, nul_place}
+use Rattle.git_date.specs.Tokens.Strings.{before_nul, nul_place}
 use Rattle.git_date.specs.Tokens.Tokens.{Token, Letters, Digits, tokens}
-use Rattle.git_date.specs.Exact.Reading.{nothing_read, steps, reading_of, said_up_to, said_by}
+use Rattle.git_date.specs.Exact.Reading.{said_up_to, said_by}
 use Rattle.git_date.specs.Exact.Outcome.{DateOutcome, DateOutcomeAt, said_offset}
 use Rattle.git_date.specs.Exact.Zones.{ZoneOffsets, offsets_of, shows, local_offset}
-use Rattle.git_date.specs.Types.Names.{Today}
 use Rattle.git_date.specs.declared.date.ReadDate.{ReadDate}
 use Rattle.git_date.specs.declared.error.DateError.{DateError}
 use Rattle.git_date.specs.declared.mode.DateKind.TheVariants.{Raw}
@@ -65,11 +59,6 @@ IgnoresLines moment text =
     (lines : List ℕ) → AreComplete (tokens text)
     → said_by (now_of moment) (text ++ newline ∷ lines) ≡ said_up_to (nul_place (text ++ newline ∷ lines)) (said_by (now_of moment) text)
 
--- what follows a NUL changes nothing of what a text says, but that what begins at the NUL is ignored, unless something before it is
-abbrev pub EndsAtNul : Zoned → List ℕ → Type 0
-EndsAtNul moment text =
-    (rest : List ℕ) → said_by (now_of moment) (text ++ nul ∷ rest) ≡ said_up_to (Some (length text)) (said_by (now_of moment) text)
-
 -- a text in which the reader comes to no such date says the same at every moment
 abbrev pub IgnoresInstant : Zoned → List ℕ → Type 0
 IgnoresInstant moment text =
@@ -78,16 +67,6 @@ IgnoresInstant moment text =
 -- a text in which no such date begins anywhere is such a text at every moment
 abbrev pub IsWithoutDayMonth : Zoned → List ℕ → Type 0
 IsWithoutDayMonth moment text = has_day_month (tokens (before_nul text)) ≡ false → HasNoDayMonth (now_of moment) text
-
--- steps as many as bytes are enough for both readers: more of them read the same
-pub record AreStepsEnough (moment : Zoned) (text : List ℕ) : Type 0 where
-  pub exact : (n : ℕ) → length text ≤ n → steps (now_of moment) n nothing_read (tokens text) ≡ reading_of (now_of moment) text
-  pub approximate : (zone : Choices) (today : Today) (n : ℕ) → length text ≤ n
-      → approximate.steps zone today n (first_draft today.shown) (tokens text) ≡ draft_of zone today text
-
--- what the six named formats that have a clock print of such a time is read back
-abbrev pub ReadsBack : Zoned → Time → Type 0
-ReadsBack moment t = IsGitTime t → AreReadBack (now_of moment) t
 
 -- what `raw` shows of an instant is read after `@` as that time, and nothing of it is ignored
 abbrev pub ReadsRawBack : Zoned → Time → Type 0

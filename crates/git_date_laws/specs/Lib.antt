@@ -1,9 +1,8 @@
 pub mod Texts
 pub mod Laws
-pub mod Shown
-pub mod LineDates
 pub mod ApproximateLaws
 pub mod Headline
 pub mod Ignored
 pub mod ApproximateIgnored
 pub mod Formats
+pub mod Agree

@@ -1,8 +1,8 @@
 //! Laws of dates by a format.
 ghost use Rattle.jiff.specs.Words.{plain_zone};
-ghost use Rattle.git_date_laws.specs.Formats.{ChecksJoined, ParsesBackByFormat, ReadsBackByFormat, ShowsItself, ShowsJoined, ShowsModes, ShowsStored};
+ghost use Rattle.git_date_laws.specs.Formats.{ChecksJoined, ShowsItself, ShowsJoined, ShowsModes, ShowsStored};
 
-use gix_date::{Time, Zoned};
+use gix_date::Time;
 use jiff::tz::TimeZone;
 
 /// A format without a percent sign shows itself, wherever the clock shows anything.
@@ -21,14 +21,6 @@ pub fn stored_by_format(zone: TimeZone<'_>, time: Time)
 /// either clock. Where the mode shows nothing of a time, nor does the format.
 pub fn modes_by_format(zone: TimeZone<'_>, time: Time)
     ensures { ShowsModes (plain_zone zone.entry) time }
-{}
-
-/// What `%Y-%m-%d %H:%M:%S %z` shows of a time of Git's is read as that time by [`git_date::parse_date`], which ignores nothing of it,
-/// and by [`gix_date::parse`]. Of the zone's clock that is the time with the zone's offset. Of its own clock `parse` so reads each time
-/// that round-trips, to the year 9999.
-pub fn read_back_by_format(zone: TimeZone<'_>, time: Time, now: &Zoned<'_>)
-    ensures read { ReadsBackByFormat (plain_zone zone.entry) now.now time }
-    ensures parsed { ParsesBackByFormat (plain_zone zone.entry) time }
 {}
 
 /// Two formats joined are a format, which shows both texts joined, wherever both show one. A fault of the second is that of both, at

@@ -5,38 +5,27 @@ ghost use Rattle.std.specs.Prelude.{◌≡◌};
 ghost use Rattle.jiff.specs.Words.{plain_zone};
 ghost use Rattle.git_date.specs.Tokens.Tokens.{tokens as tokens_of, texts};
 ghost use Rattle.git_date_laws.specs.Ignored.{IgnoresUnused};
-ghost use Rattle.git_date_laws.specs.Laws.{AreApart, AreStepsEnough, IgnoresZone, IsOfEveryZone, IsClockRead, IgnoresCase, IgnoresLines, EndsAtNul, IgnoresInstant, IsWithoutDayMonth, ReadsBack, ReadsRawBack};
+ghost use Rattle.git_date_laws.specs.Laws.{AreApart, IgnoresZone, IsOfEveryZone, IsClockRead, IgnoresLines, IgnoresInstant, IsWithoutDayMonth};
 
 mod approximate;
 mod formats;
 mod promise;
-mod shown;
+mod readers;
 
 pub use approximate::{
-    approximate_ignored_is_unused, approximate_letter_case, approximate_up_to_nul,
-    back_in_every_zone, careful_agrees, exact_answer, exactly_back, expiry_up_to_nul, marks,
-    months_agree, no_word_ignored, not_understood_is_now, now_in_every_zone, one_answer,
+    approximate_ignored_is_unused, back_in_every_zone, not_understood_is_now, one_answer,
 };
-pub use formats::{
-    joined_formats, modes_by_format, plain_format, read_back_by_format, stored_by_format,
-};
-use gix_date::{Time, Zoned};
+pub use formats::{joined_formats, modes_by_format, plain_format, stored_by_format};
+use gix_date::Zoned;
 use jiff::tz::TimeZone;
 pub use promise::headline;
-pub use shown::{ages_grow, mode_named_back, shown_as_line, shown_as_printed};
+pub use readers::agree;
 
 /// The texts of the tokens are the text, and no two neighbours are both letters or both digits.
 #[tactic(auto, using(git_date::proofs::Text::TokenRuns::texts_are, crate::proofs::Alike::Apart::apart))]
 pub fn tokens(text: &[u8])
     ensures texts { texts (tokens_of text.now) ≡ text.now }
     ensures apart { AreApart (tokens_of text.now) }
-{}
-
-/// Both readers take the tokens one after the other, in as many steps at most as the text has bytes: more steps read the same, so
-/// none ends early.
-#[tactic(auto, using(crate::proofs::Whole::Enough::are_enough))]
-pub fn steps_suffice(text: &[u8], now: &Zoned<'_>)
-    ensures { AreStepsEnough now.now text.now }
 {}
 
 /// A date that says its offset has the same answer in every zone. [`git_date::ReadDate::has_offset`] tells of such a date.
@@ -61,12 +50,6 @@ pub fn ignored_is_unused(text: &[u8], now: &Zoned<'_>)
     ensures { IgnoresUnused now.now text.now }
 {}
 
-/// A text has the same answer in any letter case.
-#[tactic(auto, using(crate::proofs::Alike::Cases::any_case))]
-pub fn letter_case(text: &[u8], now: &Zoned<'_>)
-    ensures { IgnoresCase now.now text.now }
-{}
-
 /// What follows a line feed changes no answer, unless an offset goes on there: after `@`, seconds, a space and a sign, or after
 /// a sign, two digits and a colon. What begins at a NUL there is ignored, unless something before it is.
 #[tactic(auto, using(crate::proofs::Alike::Cases::any_lines))]
@@ -74,27 +57,10 @@ pub fn later_lines(text: &[u8], now: &Zoned<'_>)
     ensures { IgnoresLines now.now text.now }
 {}
 
-/// What follows a NUL changes no answer, but that what begins at the NUL is ignored, unless something before it is.
-#[tactic(auto, using(crate::proofs::Alike::UpToNul::ends_at_nul))]
-pub fn up_to_nul(text: &[u8], now: &Zoned<'_>)
-    ensures { EndsAtNul now.now text.now }
-{}
-
 /// A text in which the reader comes to no date with dots, slashes or dashes but those that begin with their year has the same
 /// answer at every instant. So has one in which no number up to 70 stands directly before a dot, a slash or a dash and digits.
-#[tactic(auto, using(crate::proofs::Heard::Moments::any_instant, crate::proofs::Heard::Moments::without_days))]
+#[tactic(auto, using(crate::proofs::Alike::Moments::any_instant, crate::proofs::Alike::Moments::without_days))]
 pub fn instants(text: &[u8], now: &Zoned<'_>)
     ensures met { IgnoresInstant now.now text.now }
     ensures begun { IsWithoutDayMonth now.now text.now }
-{}
-
-/// What the six named formats of `gix_date` that have a clock print of a time is read as that time, and nothing of it is
-/// ignored: for times from 1970 on of the years to 2099, at whole minutes within 23:59, but for one minute behind UTC.
-pub fn read_back(time: Time, now: &Zoned<'_>)
-    ensures { ReadsBack now.now time }
-{}
-
-/// What [`git_date::show_date`] shows of a time by `raw` is read after `@` as that time, whatever its offset.
-pub fn raw_read_back(time: Time, now: &Zoned<'_>)
-    ensures { ReadsRawBack now.now time }
 {}

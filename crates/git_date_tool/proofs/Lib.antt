@@ -1,14 +1,11 @@
 pub mod Answering
 pub mod Cutting
 pub mod Following
-pub mod FoundOnce
 pub mod Fronts
 pub mod OfText
-pub mod PatternsOnce
-pub mod RepliesOnce
 pub mod Reported
-pub mod RunsOnce
 pub mod Texts
 pub mod Told
 pub mod Words
+pub mod WrongWords
 pub mod Zoning

@@ -2,6 +2,5 @@ pub mod Failures
 pub mod Fronts
 pub mod Unzoned
 pub mod Zones
-pub mod FixedZones
 pub mod Clear
 pub mod WholeWords

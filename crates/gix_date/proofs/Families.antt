@@ -2,5 +2,4 @@
 pub mod Apart
 pub mod Disjoint
 pub mod Exclusive
-pub mod Ranges
 pub mod Shapes

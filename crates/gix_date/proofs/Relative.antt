@@ -11,5 +11,5 @@ pub mod Steps
 pub mod FixedZones
 pub mod Chains
 pub mod FixedSteps
-pub mod KeptInstants
+pub mod FixedSeconds
 pub mod FixedTimes

@@ -6,6 +6,5 @@ pub mod Patterns
 pub mod Order
 pub mod Shapes
 pub mod Laws
-pub mod Grammars
 pub mod AfterDay
 pub mod Usual

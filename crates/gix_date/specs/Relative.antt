@@ -1,6 +1,5 @@
 -- Relative texts: their words, and the times that they name.
 pub mod Words
-pub mod UnitCases
 pub mod Roles
 pub mod Steps
 pub mod Dates

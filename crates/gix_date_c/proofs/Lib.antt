@@ -1,7 +1,6 @@
 mod Blocks
 mod Boxed
-mod Checked
-mod Digits
+mod Found
 mod Instants
 mod Kept
 mod Modes
@@ -9,4 +8,4 @@ mod Named
 mod Pieces
 mod Printed
 mod Rows
-mod Stored
+mod Shown

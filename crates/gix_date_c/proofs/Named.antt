@@ -5,12 +5,13 @@ use Rattle.jiff.specs.Types.{TimeZone}
 use Rattle.jiff.specs.Words.{plain_zone}
 use Rattle.git_date.specs.Exact.ZoneTexts.{zone_offset}
 use Rattle.gix_date_c.specs.Moments.{IsOffsetZone, IsRuleZone}
-use Rattle.gix_date_c.specs.Zones.{IsCopy, IsCopyOf, IsHeld, IsHeldNamed, IsHeldZone, IsKept, IsNamed, IsRead, IsTaken, IsZone, IsZoneOf, Reads, is_file}
-use Rattle.gix_date_c.specs.Laws.{AreCopiesNamed, HasMomentsOf, HasPlacesOf, StaysNamed}
+use Rattle.gix_date_c.specs.Zones.{IsCopy, IsCopyOf, IsHeld, IsHeldNamed, IsHeldZone, IsKept, IsNamed, IsRead, IsShown, IsTaken, IsZone, IsZoneOf, Names, Reads, Shows, is_file}
+use Rattle.gix_date_c.specs.Laws.{AreCopiesNamed, HasMomentsOf, HasPlacesOf}
 use Rattle.gix_date_c.specs.Values.Statuses.{number_of}
 use Rattle.gix_date_c.specs.declared.values.status.Status.{Status}
 use Rattle.gix_date_c.specs.declared.values.status.Status.TheVariants.{Done}
 use Rattle.gix_date_c.specs.declared.zone.TakenZone.{TakenZone}
+use Rattle.gix_date_c.specs.declared.zone.lent.ShownZone.{ShownZone}
 use Rattle.gix_date_c.specs.declared.zone.stored.CZone.{CZone}
 use Rattle.gix_date_c.specs.declared.zone.held.Held.{Held}
 use Rattle.gix_date_c.specs.declared.zone.held.Held.TheVariants.{Rule, Table as Rows}
@@ -40,11 +41,17 @@ pub reads : (text : List ℕ) (old new : CZone) (kept : TakenZone) (status : ℕ
     → status ≡ number_of Done → Reads text old new status
 reads text old new kept status is k done = inl (named (zone_offset text) text new kept is k, done)
 
-pub moments : (text : List ℕ) (zone : CZone) → HasMomentsOf text zone
-moments text zone instant now names at = (at.0, names at.0 at.1, at.2)
+-- what C shows of such a zone means the same
+shown-named : (text : List ℕ) (zone : CZone) (shown : ShownZone) → Names text zone → Shows zone shown → (z : Result TimeZone Status) → IsShown shown z
+    → IsNamed (zone_offset text) text z
+shown-named text zone shown names same z at =
+    names z (subst (λ (held : Option Held). IsZoneOf zone.offset held z) same.1 (subst (λ (o : ℤ). IsZoneOf o shown.handle.held z) same.0 at))
 
-pub places : (text : List ℕ) (zone : CZone) → HasPlacesOf text zone
-places text zone instant place names at = (at.0, names at.0 at.1, at.2)
+pub moments : (text : List ℕ) (zone : CZone) (shown : ShownZone) → HasMomentsOf text zone shown
+moments text zone shown instant now names same at = (at.0, shown-named text zone shown names same at.0 at.1, at.2)
+
+pub places : (text : List ℕ) (zone : CZone) (shown : ShownZone) → HasPlacesOf text zone shown
+places text zone shown instant place names same at = (at.0, shown-named text zone shown names same at.0 at.1, at.2)
 
 copied-held : (from copy : Held) (z : TimeZone) → IsCopy from copy → IsHeldZone copy z → IsHeldZone from z
 copied-held (Rule held) (Rule copy) z is at = at ∙ ap plain_zone is
@@ -59,11 +66,8 @@ copied-zone offset (Some held) (Some copy) (Err status) is at = at
 copied-zone offset None (Some copy) z is at = absurd is
 copied-zone offset (Some held) None z is at = absurd is
 
-pub copies : (text : List ℕ) (from : CZone) → AreCopiesNamed text from
-copies text from old new names (inl copied) z at =
-    names z (copied-zone from.offset from.handle.held new.handle.held z copied.1 (subst (λ (o : ℤ). IsZoneOf o new.handle.held z) copied.0 at))
-copies text from old new names (inr refused) z at = absurd cc
-
-pub stays : (text : List ℕ) (old : CZone) → StaysNamed text old
-stays text old new names same z at =
-    names z (subst (λ (held : Option Held). IsZoneOf old.offset held z) same.1 (subst (λ (o : ℤ). IsZoneOf o new.handle.held z) same.0 at))
+pub copies : (text : List ℕ) (zone : CZone) (shown : ShownZone) → AreCopiesNamed text zone shown
+copies text zone shown old new names same (inl copied) z at =
+    shown-named text zone shown names same z
+    (copied-zone shown.offset shown.handle.held new.handle.held z copied.1 (subst (λ (o : ℤ). IsZoneOf o new.handle.held z) copied.0 at))
+copies text zone shown old new names same (inr refused) z at = absurd cc

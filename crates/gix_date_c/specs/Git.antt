@@ -4,4 +4,3 @@ pub mod Dates
 pub mod Formats
 pub mod Modes
 pub mod Own
-pub mod Stored

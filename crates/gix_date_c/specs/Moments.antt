@@ -50,10 +50,6 @@ placed nanos (Err status) = Err status
 abbrev pub place_of : Result Zoned Status → Result Place Status
 place_of now = result_map_both (λ z. (zoned_nanos z, (plain_zoned z).time_zone)) (λ status. status) now
 
--- whether there is a value, or why not
-abbrev pub checked : {T : Type 0} → Result T Status → Result (Unit {0}) Status
-checked result = result_map_both (λ _. tt) (λ status. status) result
-
 -- an instant and a zone of which this is known, or why there are not both
 abbrev pub IsPlaced : (Result TimeZone Status → Type 0) → CInstant → Result Place Status → Type 0
 IsPlaced IsZone instant place = (zone : Result TimeZone Status) × IsZone zone × (place ≡ placed (nanos_of instant) zone)
@@ -61,10 +57,6 @@ IsPlaced IsZone instant place = (zone : Result TimeZone Status) × IsZone zone �
 -- the moment of an instant in a zone of which this is known, or why there is none
 abbrev pub IsNow : (Result TimeZone Status → Type 0) → CInstant → Result Zoned Status → Type 0
 IsNow IsZone instant now = IsPlaced IsZone instant (place_of now)
-
--- whether there are an instant and a zone of which this is known, or why not
-abbrev pub IsPlaceChecked : (Result TimeZone Status → Type 0) → CInstant → Result (Unit {0}) Status → Type 0
-IsPlaceChecked IsZone instant check = (place : Result Place Status) × IsPlaced IsZone instant place × (check ≡ checked place)
 
 -- the offset of a zone at an instant, where there are both
 abbrev pub offset_at : Result Place Status → Result ℤ Status

@@ -6,11 +6,12 @@ use Rattle.jiff.specs.Types.{TimeZone, Tzif as Table}
 use Rattle.jiff.specs.Words.{plain_zone}
 use Rattle.jiff_tz.specs.declared.tzif.Tzif.{Tzif}
 use Rattle.git_date.specs.Exact.ZoneTexts.{zone_offset}
-use Rattle.gix_date_c.specs.Moments.{IsFileZone, IsOffsetZone, IsPlaced, IsRuleZone, IsTable, Place, checked, offset_at}
+use Rattle.gix_date_c.specs.Moments.{IsFileZone, IsOffsetZone, IsPlaced, IsRuleZone, IsTable, Place, offset_at}
 use Rattle.gix_date_c.specs.Values.Statuses.{number_of}
 use Rattle.gix_date_c.specs.declared.moment.CInstant.{CInstant}
 use Rattle.gix_date_c.specs.declared.values.status.Status.{Status}
 use Rattle.gix_date_c.specs.declared.values.status.Status.TheVariants as statuses
+use Rattle.gix_date_c.specs.declared.zone.lent.ShownZone.{ShownZone}
 use Rattle.gix_date_c.specs.declared.zone.stored.CZone.{CZone}
 use Rattle.gix_date_c.specs.declared.zone.TakenZone.{TakenZone}
 use Rattle.gix_date_c.specs.declared.zone.held.Held.{Held}
@@ -56,9 +57,9 @@ IsZoneOf offset (Some held) (Err status) = ⊥
 abbrev pub IsZone : CZone → Result TimeZone Status → Type 0
 IsZone zone = IsZoneOf zone.offset zone.handle.held
 
--- whether there is a zone of which this is known
-abbrev pub IsZoneChecked : (Result TimeZone Status → Type 0) → Result (Unit {0}) Status → Type 0
-IsZoneChecked IsZone check = (zone : Result TimeZone Status) × IsZone zone × (check ≡ checked zone)
+-- the zone that C shows
+abbrev pub IsShown : ShownZone → Result TimeZone Status → Type 0
+IsShown zone = IsZoneOf zone.offset zone.handle.held
 
 -- the offset at an instant of a zone of which this is known, or why there is none
 abbrev pub IsOffset : (Result TimeZone Status → Type 0) → CInstant → Result ℤ Status → Type 0
@@ -69,21 +70,20 @@ IsOffset IsZone instant offset =
 abbrev pub IsUtc : CZone → Type 0
 IsUtc zone = (zone.offset ≡ pos 0) × (zone.handle.held ≡ None)
 
--- a zone of C means the same as before
-abbrev pub IsSame : CZone → CZone → Type 0
-IsSame old new = (new.offset ≡ old.offset) × (new.handle.held ≡ old.handle.held)
+-- a zone of C, and the same shown to a call
+abbrev pub Shows : CZone → ShownZone → Type 0
+Shows zone shown = (shown.offset ≡ zone.offset) × (shown.handle.held ≡ zone.handle.held)
 
 -- a zone of C, and the same out of its hands
 abbrev pub IsTaken : CZone → TakenZone → Type 0
 IsTaken zone taken = (taken.offset ≡ zone.offset) × (option_map (λ held. held.value) taken.held ≡ zone.handle.held)
 
--- a zone out of C's hands, and another that means the same
-abbrev pub IsTakenCopy : TakenZone → TakenZone → Type 0
-IsTakenCopy taken copy =
-    (copy.offset ≡ taken.offset) × IsCopyOf (option_map (λ held. held.value) taken.held) (option_map (λ held. held.value) copy.held)
+-- a zone that C shows, and another out of its hands that means the same
+abbrev pub IsTakenCopy : ShownZone → TakenZone → Type 0
+IsTakenCopy shown copy = (copy.offset ≡ shown.offset) × IsCopyOf shown.handle.held (option_map (λ held. held.value) copy.held)
 
 -- a zone means what another does now, or what was there is as it was for want of memory
-abbrev pub Copies : CZone → CZone → CZone → ℕ → Type 0
+abbrev pub Copies : ShownZone → CZone → CZone → ℕ → Type 0
 Copies from old new status =
     ((new.offset ≡ from.offset) × IsCopyOf from.handle.held new.handle.held × (status ≡ number_of statuses.Done))
     ⊎ ((new ≡ old) × (status ≡ number_of statuses.Memory))

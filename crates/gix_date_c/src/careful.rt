@@ -4,7 +4,7 @@ ghost use Rattle.std.specs.Result.{result_map_both};
 ghost use Rattle.gix_date_c.specs.Careful.{IsParsedCarefully, options_of, refusal_of, texts_of, without_offset_of};
 ghost use Rattle.gix_date_c.specs.Reading.{IsReadAt, IsReadIn};
 ghost use Rattle.gix_date_c.specs.Values.Stores.{StoresRead};
-ghost use Rattle.gix_date_c.specs.Zones.{IsSame, IsZone};
+ghost use Rattle.gix_date_c.specs.Zones.{IsShown};
 ghost use Rattle.gix_date_c.specs.Values.Times.{time_for_c};
 
 use crate::moment::CInstant;
@@ -14,9 +14,8 @@ use crate::values::status::Status;
 use crate::values::store::store_read;
 use crate::values::text::utf8_text;
 use crate::values::time::{CTime, time_for_c};
-use crate::zone::CZone;
+use crate::zone::ShownZone;
 use gix_date::{CarefulError, CarefulOptions, Texts, Time, WithoutOffset, Zoned, parse_carefully};
-use std::alloc::Global;
 
 /// How a date is parsed carefully, each option by its number: `struct gix_date_careful_options`.
 #[repr(C)]
@@ -44,21 +43,17 @@ pub extern "C" fn gix_date_parse_carefully(
 /// Parses a date carefully, with a moment in a zone that C holds.
 #[unsafe(no_mangle)]
 pub extern "C" fn gix_date_parse_carefully_at(
-    alloc: Global,
     text: &[u8],
     options: &CCarefulOptions,
     now: &CInstant,
-    zone: &mut CZone,
+    zone: &ShownZone,
     time: &mut CTime,
     place: &mut usize,
 ) -> u32
-    ensures read { StoresRead (IsReadIn (λ now. IsParsedCarefully options.now (Some now)) (IsZone zone.old) now.now text.now)
+    ensures { StoresRead (IsReadIn (λ now. IsParsedCarefully options.now (Some now)) (IsShown zone.now) now.now text.now)
         (time.old, place.old) (time.new, place.new) result }
-    ensures zone { IsSame zone.old zone.new }
 {
-    let taken = zone.take(alloc);
-    let answer = parse_at(text, options, taken.moment(now));
-    zone.give_back(alloc, taken);
+    let answer = parse_at(text, options, zone.moment(now));
     store_read(answer, time, place)
 }
 

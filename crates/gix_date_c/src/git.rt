@@ -9,7 +9,6 @@ mod lines;
 mod offsets;
 mod own;
 mod show;
-mod stored;
 
 use crate::values::refusal::Refusal;
 use crate::values::status::Status;

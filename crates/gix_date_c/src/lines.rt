@@ -6,7 +6,7 @@ ghost use Rattle.gix_date_c.specs.Lines.Blocks.{ChecksLines, DoesLines};
 ghost use Rattle.gix_date_c.specs.Lines.Columns.{Columns};
 ghost use Rattle.gix_date_c.specs.Lines.Readers.{IsLineRead, line_reader};
 ghost use Rattle.gix_date_c.specs.Moments.{IsNow};
-ghost use Rattle.gix_date_c.specs.Zones.{IsSame, IsZone};
+ghost use Rattle.gix_date_c.specs.Zones.{IsShown};
 ghost use Rattle.gix_date_c.specs.declared.values.status.Status.{Status};
 
 mod columns;
@@ -17,9 +17,8 @@ use crate::header::is_canonical;
 use crate::lines::columns::{room, store_answer};
 use crate::lines::reader::{LineReader, line_reader};
 use crate::moment::CInstant;
-use crate::zone::CZone;
+use crate::zone::ShownZone;
 use gix_date_lines::first_line;
-use std::alloc::Global;
 
 /// Reads each line of a block by the reader of a number. What is relative to a moment is refused.
 #[unsafe(no_mangle)]
@@ -43,28 +42,23 @@ pub extern "C" fn gix_date_parse_lines(
 /// Reads each line of a block by the reader of a number, at a moment in a zone that C holds.
 #[unsafe(no_mangle)]
 pub extern "C" fn gix_date_parse_lines_at(
-    alloc: Global,
     block: &[u8],
     reader: u32,
     options: &CCarefulOptions,
     now: &CInstant,
-    zone: &mut CZone,
+    zone: &ShownZone,
     seconds: &mut [i64],
     offsets: &mut [i32],
     statuses: &mut [u32],
     bytes: &mut usize,
 ) -> usize
-    ensures read { (moment : Result Zoned Status) × IsNow (IsZone zone.old) now.now moment
+    ensures { (moment : Result Zoned Status) × IsNow (IsShown zone.now) now.now moment
         × DoesLines (IsLineRead (line_reader reader options.now (Some moment))) block.now
         (record { seconds = seconds.old; offsets = offsets.old; statuses = statuses.old })
         (record { seconds = seconds.new; offsets = offsets.new; statuses = statuses.new }) (result, bytes.new) }
-    ensures zone { IsSame zone.old zone.new }
 {
-    let taken = zone.take(alloc);
-    let reader = line_reader(reader, options, Some(taken.moment(now)));
-    let done = read_lines(&reader, block, seconds, offsets, statuses, bytes);
-    zone.give_back(alloc, taken);
-    done
+    let reader = line_reader(reader, options, Some(zone.moment(now)));
+    read_lines(&reader, block, seconds, offsets, statuses, bytes)
 }
 
 /// Tells of each line of a block whether it comes back when it is read as a header and written.

@@ -2,18 +2,14 @@
 ghost use Rattle.std.specs.Prelude.{◌≡◌, Ok};
 ghost use Rattle.std.specs.Result.{result_map_both};
 ghost use Rattle.jiff.specs.Words.{plain_zone};
-ghost use Rattle.gix_date_c.specs.Moments.{IsOffsetZone, IsRuleZone, IsTable, checked, file_status, nanos_of, place_of, placed};
+ghost use Rattle.gix_date_c.specs.Moments.{IsOffsetZone, IsRuleZone, IsTable, file_status, nanos_of, place_of, placed};
 
 use crate::values::status::Status;
 use crate::values::text::utf8_text;
 use gix_date::Zoned;
-use gix_date::time::LAST_SECOND;
 use jiff::Timestamp;
 use jiff::tz::{Offset, TimeZone, Tzif};
 use std::alloc::Global;
-
-/// The most nanoseconds that an instant has beside its seconds.
-const MOST_NANOSECONDS: i32 = 999_999_999;
 
 /// An instant, as seconds and nanoseconds since 1970-01-01 00:00:00 UTC.
 #[repr(C)]
@@ -47,24 +43,6 @@ pub(crate) fn timestamp_of(instant: &CInstant) -> Result<Timestamp, Status>
 {
     match Timestamp::new(instant.seconds, instant.nanoseconds) {
         Ok(now) => Ok(now),
-        Err(_) => Err(Status::InvalidInstant),
-    }
-}
-
-/// Whether `jiff` has an instant. The parts of one from 1970 on are looked at one by one, and not added up.
-#[inline(always)]
-pub(crate) fn check_instant(instant: &CInstant) -> Result<(), Status>
-    ensures { result ≡ checked (nanos_of instant.now) }
-{
-    if instant.seconds >= 0
-        && instant.seconds < LAST_SECOND
-        && instant.nanoseconds >= 0
-        && instant.nanoseconds <= MOST_NANOSECONDS
-    {
-        return Ok(());
-    }
-    match jiff::Timestamp::new(instant.seconds, instant.nanoseconds) {
-        Ok(_) => Ok(()),
         Err(_) => Err(Status::InvalidInstant),
     }
 }

@@ -2,15 +2,14 @@
 ghost use Rattle.std.specs.Prelude.{◌≡◌, Result, Ok, None};
 ghost use Rattle.gix_date_c.specs.Parsing.{IsParsed, IsParsedAt, IsParsedIn, raw_rule, refusal_status};
 ghost use Rattle.gix_date_c.specs.Values.Times.{StoresTime};
-ghost use Rattle.gix_date_c.specs.Zones.{IsSame, IsZone};
+ghost use Rattle.gix_date_c.specs.Zones.{IsShown};
 
 use crate::moment::CInstant;
 use crate::values::status::Status;
 use crate::values::text::utf8_text;
 use crate::values::time::{CTime, store_time};
-use crate::zone::CZone;
+use crate::zone::ShownZone;
 use gix_date::{ParseError, RawOffsets, Time, Zoned, parse_no_alloc};
-use std::alloc::Global;
 
 /// Parses a date that is relative to no moment.
 #[unsafe(no_mangle)]
@@ -24,20 +23,16 @@ pub extern "C" fn gix_date_parse(text: &[u8], raw_offsets: u32, time: &mut CTime
 /// Parses a date, which may be relative to a moment in a zone that C holds.
 #[unsafe(no_mangle)]
 pub extern "C" fn gix_date_parse_at(
-    alloc: Global,
     text: &[u8],
     raw_offsets: u32,
     now: &CInstant,
-    zone: &mut CZone,
+    zone: &ShownZone,
     time: &mut CTime,
 ) -> u32
-    ensures parsed { (answer : Result Time Status) × IsParsedIn raw_offsets (IsZone zone.old) now.now text.now answer
+    ensures { (answer : Result Time Status) × IsParsedIn raw_offsets (IsShown zone.now) now.now text.now answer
         × StoresTime answer time.old time.new result }
-    ensures zone { IsSame zone.old zone.new }
 {
-    let taken = zone.take(alloc);
-    let answer = parse_at(text, raw_offsets, taken.moment(now));
-    zone.give_back(alloc, taken);
+    let answer = parse_at(text, raw_offsets, zone.moment(now));
     store_time(answer, time)
 }
 

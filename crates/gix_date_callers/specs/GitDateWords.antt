@@ -2,14 +2,13 @@
 pub use Rattle.git_date.specs.Approximate.Reading.{ApproximateOutcome, HasApproximatePlacesIn}
 pub use Rattle.git_date.specs.Approximate.Expiry.{ExpiryOutcome, HasExpiryPlacesIn}
 pub use Rattle.git_date.specs.Rules.Dates.{now_at, now_of}
-pub use Rattle.git_date.specs.Show.Modes.{NamesMode, mode_name, mode_named}
+pub use Rattle.git_date.specs.Show.Modes.{NamesMode, mode_name}
 pub use Rattle.git_date.specs.Exact.Outcome.{DateOutcome, DateOutcomeAt, IsPlaceIn, HasPlacesIn}
 pub use Rattle.git_date.specs.Exact.Reading.{said_by}
 pub use Rattle.git_date.specs.Show.Dates.{shown}
 pub use Rattle.git_date.specs.Show.OwnDates.{own_shown}
-pub use Rattle.git_date.specs.Show.Ages.{age_answer, age_of}
+pub use Rattle.git_date.specs.Show.Ages.{age_answer}
 pub use Rattle.git_date.specs.Show.Clocks.{moment_at, moment_of}
-pub use Rattle.git_date.specs.Show.Texts.{unknown_offset}
 pub use Rattle.git_date.specs.Tokens.Tokens.{tokens, texts}
 pub use Rattle.git_date.specs.Exact.ZoneTexts.{IsNear, zone_offset}
 pub use Rattle.git_date.specs.Exact.Decimals.{decimal_of_offset, offset_of_decimal}

@@ -7,4 +7,4 @@ pub use Rattle.gix_signature.specs.Ident.Parts.{DateText, IdentText, date_text_o
 pub use Rattle.gix_signature.specs.Ident.Times.{too_many_seconds, least_offset, greatest_offset, kept_offset, seconds_shown, git_time_at, git_time, widest_minutes, minutes_told, with_sign_of, time_of_git, numbers_of_64_bits, held_number, c_value, without_sign, number_at_front, c_number}
 pub use Rattle.gix_signature.specs.Ident.Fsck.{from_bracket, from_next_bracket, after_mail, fsck_date, is_zero, number_is, after_number, is_fsck_zone, has_date_fault, has_fault, from_fault, fsck_ids, first_fault, fault_at, fsck_of}
 pub use Rattle.gix_signature.specs.Ident.Due.{trimmed, cleaned, cleaned_parts, dated_line, ident_due, WritesIdent}
-pub use Rattle.gix_signature.specs.Ident.Laws.{PassedHasIdentity, ComesFirst, HasOneVerdict, OneVerdict, CutIsShown, PassesAs, minutes_kept, in_minutes, WrittenPasses, CanonicalPasses, is_meant, IsExchange, OnlyMeant, is_placing, exchanged, OnlyPlacing, outlined, PlacedAlike}
+pub use Rattle.gix_signature.specs.Ident.Laws.{CutIsShown, PassesAs, minutes_kept, in_minutes, WrittenPasses, CanonicalPasses}

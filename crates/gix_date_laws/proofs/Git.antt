@@ -3,4 +3,3 @@ pub mod Clocks
 pub mod Offsets
 pub mod Cuts
 pub mod Grammar
-pub mod Unzoned

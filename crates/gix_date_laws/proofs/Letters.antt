@@ -1,4 +1,3 @@
 -- Letter case.
 pub mod LetterCase
-pub mod DateCase
 pub mod WhiteSpace

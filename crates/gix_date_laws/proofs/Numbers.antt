@@ -1,5 +1,3 @@
--- Numbers in digits, their headers and offsets, and white space round texts.
+-- Numbers in digits, and white space round texts.
 pub mod Grammars
-pub mod OffsetTexts
-pub mod RawHeaders
 pub mod AroundTexts

@@ -1,3 +1,2 @@
 -- Texts that are printed.
-pub mod SortedTexts
 pub mod ShortBack

@@ -1,5 +1,3 @@
 -- Which families share texts, and whose answer comes first.
 pub mod FirstFamily
 pub mod Agreement
-pub mod Overlaps
-pub mod WiderRules

@@ -1,3 +1,1 @@
 pub mod AnyZone
-pub mod OffsetTexts
-pub mod PrintedTexts

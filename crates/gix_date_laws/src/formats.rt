@@ -1,15 +1,12 @@
 //! Laws of what is printed: the named formats, their texts, and what is parsed back.
-ghost use Rattle.std.specs.Prelude.{◌≡◌, ◌↔◌, map, [], ◌∷◌};
+ghost use Rattle.std.specs.Prelude.{◌≡◌, map, [], ◌∷◌};
 ghost use Rattle.gix_date.specs.Families.Raw.{allows};
 ghost use Rattle.gix_date.specs.declared.time.format.Format.TheVariants.{Unix, Raw};
-ghost use Rattle.jiff.specs.Words.{plain_zoned};
-ghost use Rattle.jiff.specs.declared.zoned.Zoned.{Zoned as Moment};
-ghost use Rattle.gix_date.specs.Printing.LocalClocks.{clock_of, HasFourDigitFields};
-ghost use Rattle.gix_date.specs.Printing.ReadingBack.{RoundTrips, ShortReadsAsMidnight};
-ghost use Rattle.gix_date_laws.specs.PrintedTexts.{HaveUnlikeTexts, SortBefore};
-ghost use Rattle.gix_date.specs.Fields.Zoned.{IsMoment, IsConvertible};
+ghost use Rattle.gix_date.specs.Printing.LocalClocks.{HasFourDigitFields};
+ghost use Rattle.gix_date.specs.Printing.ReadingBack.{ShortReadsAsMidnight};
+ghost use Rattle.gix_date.specs.Fields.Zoned.{IsConvertible};
 ghost use Rattle.gix_date.specs.Printing.PrintedTimes.{IsPrintedAs};
-ghost use Rattle.gix_date.specs.Printing.NamedTexts.{local_time, ShowsFourDigitFields, short_pattern, short_text, rfc2822_pattern, rfc2822_text, git_rfc2822_pattern, git_rfc2822_text, iso8601_pattern, iso8601_text, iso8601_strict_pattern, iso8601_strict_text, gitoxide_pattern, gitoxide_text, default_pattern, default_text};
+ghost use Rattle.gix_date.specs.Printing.NamedTexts.{short_pattern, short_text, rfc2822_pattern, rfc2822_text, git_rfc2822_pattern, git_rfc2822_text, iso8601_pattern, iso8601_text, iso8601_strict_pattern, iso8601_strict_text, gitoxide_pattern, gitoxide_text, default_pattern, default_text};
 
 use gix_date::time::format::{
     CustomFormat, DEFAULT, Format, GIT_RFC2822, GITOXIDE, ISO8601, ISO8601_STRICT, RAW, RFC2822,
@@ -42,14 +39,6 @@ pub fn other_formats() -> [Format; 2]
     [UNIX, RAW]
 }
 
-/// What a time's own clock shows, computed from its seconds and its offset, is what each of its moments shows. The
-/// clock is ordinary iff these moments are: a year from 1000 to 9999, and an offset of whole minutes.
-pub fn local_clock(time: Time)
-    ensures shown { (moment : Moment) → IsMoment time moment → local_time (plain_zoned moment) ≡ clock_of time }
-    ensures four_digits { (moment : Moment) → IsMoment time moment
-        → ShowsFourDigitFields (plain_zoned moment) ↔ HasFourDigitFields time }
-{}
-
 /// Each named pattern prints what the time's own clock shows, for years from 1000 to 9999 and offsets of whole minutes.
 /// The printer refuses no such time.
 pub fn printed(time: Time)
@@ -69,19 +58,4 @@ pub fn short_read_back(time: Time, raw: RawOffsets)
     requires converts { IsConvertible time }
     requires four_digits { HasFourDigitFields time }
     ensures { ShortReadsAsMidnight (allows raw) time }
-{}
-
-/// Two times that round-trip and of which a named format with a clock prints the same text are equal.
-pub fn unlike_texts(a: Time, b: Time)
-    requires first { RoundTrips a }
-    requires second { RoundTrips b }
-    ensures { HaveUnlikeTexts a b }
-{}
-
-/// Of two times that round-trip, at one offset, the text of ISO 8601 of the earlier one comes first, by its bytes.
-pub fn texts_sort(a: Time, b: Time)
-    requires first { RoundTrips a }
-    requires second { RoundTrips b }
-    requires one_offset { a.offset ≡ b.offset }
-    ensures { SortBefore a b }
 {}

@@ -1,11 +1,11 @@
-//! Laws of relative dates: how their texts are written, that each names one time, and how pairs add up at one offset.
-ghost use Rattle.std.specs.Prelude.{pos};
+//! Laws of relative dates: how their texts are written, that each names one time, and which time some name.
+ghost use Rattle.std.specs.Prelude.{pos, ◌-ℤ◌, codes};
 ghost use Rattle.std.specs.List.{All};
-ghost use Rattle.gix_date.specs.Relative.FixedZones.{IsNonnegativePair, less_seconds, total, NamesEarlier, NamesBefore, NamesNoneLater};
-ghost use Rattle.gix_date.specs.Relative.Dates.{MinusSeconds, AreNamedOnce, AreConvertible};
+ghost use Rattle.gix_date.specs.Relative.FixedZones.{IsNonnegativePair, less_seconds, total, NamesEarlier};
+ghost use Rattle.gix_date.specs.Relative.Dates.{MinusSeconds, AreNamedOnce};
 ghost use Rattle.gix_date.specs.Relative.Pairs.{AreFreeByParity, IsSpelledSo};
-ghost use Rattle.gix_date.specs.Relative.Steps.{zone_of};
-ghost use Rattle.jiff.specs.Words.{IsFixed};
+ghost use Rattle.gix_date_laws.specs.AnyZone.{IsWord, NamesInstant};
+ghost use Rattle.jiff.specs.Words.{zoned_nanos, nanos_of_seconds};
 
 use gix_date::Time;
 use jiff::Zoned;
@@ -13,11 +13,6 @@ use jiff::Zoned;
 /// A relative date names at most one time from each moment.
 pub fn named_once()
     ensures { AreNamedOnce }
-{}
-
-/// Each time that a relative date names is an instant of `jiff`, at an offset of at most 25:59:59.
-pub fn named_converts()
-    ensures { AreConvertible }
 {}
 
 /// Relative texts are the names `now`, `today` and `yesterday` and the texts whose words are pairs. In pairs some count has
@@ -36,17 +31,11 @@ pub fn earlier(time: Time, pairs: &[(i64, i64)])
     ensures pairs { NamesEarlier (less_seconds pairs.now) time (total pairs.now) }
 {}
 
-/// In a zone of one offset `yesterday` and pairs of seconds name the instant that many seconds before the moment. They
-/// name nothing else. The moment may have a fraction of a second.
-pub fn seconds_before(moment: &Zoned<'_>, pairs: &[(i64, i64)])
-    requires fixed { IsFixed (zone_of moment.now) }
-    requires pairs { All IsNonnegativePair pairs.now }
-    ensures yesterday { NamesBefore (MinusSeconds (pos 86_400)) moment.now (pos 86_400) }
-    ensures pairs { NamesBefore (less_seconds pairs.now) moment.now (total pairs.now) }
-{}
-
-/// In a zone of one offset a relative text names no instant after the moment.
-pub fn never_later(text: &str, moment: &Zoned<'_>)
-    requires fixed { IsFixed (zone_of moment.now) }
-    ensures { NamesNoneLater text.now moment.now }
+/// In every zone `now` and `today` name the moment, and `yesterday` the instant 86400 seconds before. White space around
+/// the word and letter case make no difference.
+pub fn named_instants(text: &str, moment: &Zoned<'_>)
+    ensures now { IsWord (codes "now") text.now → NamesInstant text.now moment.now (zoned_nanos moment.now) }
+    ensures today { IsWord (codes "today") text.now → NamesInstant text.now moment.now (zoned_nanos moment.now) }
+    ensures yesterday { IsWord (codes "yesterday") text.now
+        → NamesInstant text.now moment.now (zoned_nanos moment.now -ℤ nanos_of_seconds (pos 86_400)) }
 {}

@@ -73,10 +73,33 @@ pub(crate) fn answer_to(
     zones: &TimeZoneDatabase,
     row: &mut Arguments<'_>,
 ) -> Option<Answer> {
-    match row.text()? {
+    let call = row.text()?;
+    header(alloc, call, row)
+        .or_else(|| dated(alloc, zones, call, row))
+        .or_else(|| printed(alloc, zones, call, row))
+        .or_else(|| signature(alloc, call, row))
+        .or_else(|| dated_by_git(zones, call, row))
+}
+
+/// What a call for headers answers, or for the instant of a time.
+fn header(alloc: Global, call: &str, row: &mut Arguments<'_>) -> Option<Answer> {
+    match call {
         "parse_header" => Some(header_time(row.text()?)),
         "is_canonical_header" => Some(is_canonical_header(alloc, row.text()?)),
         "header_text" => Some(header_text(alloc, row.time()?)),
+        "to_zoned" => Some(converted(row.time()?)),
+        _ => None,
+    }
+}
+
+/// What a call answers that reads a date as gix-date does, or the clock.
+fn dated(
+    alloc: Global,
+    zones: &TimeZoneDatabase,
+    call: &str,
+    row: &mut Arguments<'_>,
+) -> Option<Answer> {
+    match call {
         "parse" => {
             let rules = row.rules()?;
             let moments = row.text()?;
@@ -92,36 +115,26 @@ pub(crate) fn answer_to(
             let moment = row.text()?;
             parsed_carefully(zones, rules, options, moment, row.text()?)
         }
-        "parse_date" => {
-            let moment = row.text()?;
-            read_date(zones, moment, row.bytes()?)
-        }
-        "ignored" => {
-            let moment = row.text()?;
-            ignored_place(zones, moment, row.bytes()?)
-        }
-        "has_offset" => {
-            let moment = row.text()?;
-            names_offset(zones, moment, row.bytes()?)
-        }
-        "approxidate" => {
-            let moment = row.text()?;
-            guessed(zones, moment, row.bytes()?)
-        }
-        "approximate_ignored" => {
-            let moment = row.text()?;
-            passed_over(zones, moment, row.bytes()?)
-        }
-        "expiry_date" => {
-            let moment = row.text()?;
-            expires(zones, moment, row.bytes()?)
-        }
-        "to_zoned" => Some(converted(row.time()?)),
         "now_local" => {
             let clock = row.instant()?;
             now_local(zones, clock, row.text()?)
         }
-        call => printed(alloc, zones, call, row).or_else(|| signature(alloc, call, row)),
+        _ => None,
+    }
+}
+
+/// What a call answers that reads a date as Git does, at a moment.
+fn dated_by_git(zones: &TimeZoneDatabase, call: &str, row: &mut Arguments<'_>) -> Option<Answer> {
+    let moment = row.text()?;
+    let text = row.bytes()?;
+    match call {
+        "parse_date" => read_date(zones, moment, text),
+        "ignored" => ignored_place(zones, moment, text),
+        "has_offset" => names_offset(zones, moment, text),
+        "approxidate" => guessed(zones, moment, text),
+        "approximate_ignored" => passed_over(zones, moment, text),
+        "expiry_date" => expires(zones, moment, text),
+        _ => None,
     }
 }
 

@@ -4,7 +4,6 @@ pub mod Taking
 pub mod Signing
 pub mod Replying
 pub mod CanonicalLines
-pub mod ParsedLines
 pub mod UnchangedLines
 pub mod Reading
 pub mod Reporting

@@ -1,5 +1,5 @@
 -- What is replied to a line.
-use Rattle.std.specs.Prelude.{◌≡◌, ◌↔◌, ◌⊎◌, ℕ, Bool, true, false, List, [], ◌∷◌, ◌++◌, if◌then◌else◌, Option, Some, IsSome, Result, Ok, Err, codes, pos}
+use Rattle.std.specs.Prelude.{◌≡◌, ◌↔◌, ◌⊎◌, ℕ, Bool, true, false, List, [], ◌∷◌, ◌++◌, if◌then◌else◌, Option, IsSome, Result, Ok, Err, codes, pos}
 use Rattle.std.specs.Str.Parse.{digits_value}
 use Rattle.std.specs.Option.{option_map_or}
 use Rattle.std.specs.List.{flat_map}
@@ -39,10 +39,17 @@ parse_reply (Err errors.DateConversion) = DateConversion
 parse_reply (Err errors.MissingNow) = MissingMoment
 parse_reply (Err errors.Range) = OutOfRange
 
--- the reply of Parse, at this moment, to a text that the first family says this of, or that none holds
+-- a time to be written has a header text
+abbrev pub IsWritable : Reply → Type 0
+IsWritable (Parsed t) = IsSome (header_text t)
+IsWritable _ = Unit {0}
+
+-- The reply of Parse, at this moment, to a text that the first family says this of, or that none holds. A time has a
+-- header text.
 abbrev pub IsParseReply : Option FamilyAnswer → Option Zoned → Reply → Type 0
 IsParseReply answer now reply =
     (result : Result Time ParseError) × ParseNoAllocOutcome answer now result × (reply ≡ parse_reply result)
+    × IsWritable reply
 
 -- the reply of Sign to a text: the line that is written of its parts, or that there is none
 abbrev pub IsSignReply : List ℕ → Reply → Type 0
@@ -78,11 +85,6 @@ reply_text OutOfRange = codes "error range"
 reply_text (Signed line) = line
 reply_text NoSignature = codes "none"
 
--- a time to be written has a header text
-abbrev pub IsWritable : Reply → Type 0
-IsWritable (Parsed t) = IsSome (header_text t)
-IsWritable _ = Unit {0}
-
 -- what is written of a reply: its text, and a newline
 abbrev pub reply_line : Reply → List ℕ
 reply_line reply = with_newline (reply_text reply)
@@ -108,11 +110,6 @@ abbrev pub RepliesAreUnique : Type 0
 RepliesAreUnique =
     (query : Query) (line : List ℕ) (reply other : Reply)
     → IsReply query line reply → IsReply query line other → reply ≡ other
-
--- the reply to a line that is parsed as a time is the header text of that time
-abbrev pub ParsedLines : List ℕ → Type 0
-ParsedLines line =
-    (query : Query) (t : Time) → IsReply query line (Parsed t) → header_text t ≡ Some (reply_text (Parsed t))
 
 -- in Check a line is replied to by `canonical` exactly where it is a canonical header
 abbrev pub CanonicalLines : List ℕ → Type 0

@@ -5,10 +5,7 @@ pub mod SignatureRows
 pub mod Texts
 pub mod Kept
 pub mod IdentRows
-pub mod Passed
 pub mod Shown
-pub mod Meant
 pub mod DateTexts
 pub mod Passing
 pub mod Cleaned
-pub mod Exchanged

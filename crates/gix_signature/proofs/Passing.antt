@@ -4,7 +4,7 @@ use Rattle.std.proofs.Math.Seq.{drop-append_seam, drop-append-add}
 use Rattle.std.proofs.lemmas.Bool.{and_from, and_parts}
 use Rattle.std.proofs.lemmas.Bool.Decides.{nat_tests}
 use Rattle.std.proofs.lemmas.List.{reverse-append, length-reverse}
-use Rattle.std.specs.List.{list_all, list_any, prefix_len, suffix_len, before_first, after_first, after_last}
+use Rattle.std.specs.List.{list_all, list_any, find, prefix_len, suffix_len, before_first, after_first, after_last}
 use Rattle.std.specs.Prelude.{nat_lt}
 use Rattle.gix_date.proofs.Text.AsciiCuts.{all-append}
 use Rattle.gix_date.specs.Text.Characters.{space, is_space}
@@ -14,16 +14,24 @@ use Rattle.gix_signature.specs.Signature.{Parts, is_allowed, is_part, line_of, o
 use Rattle.gix_signature.specs.Ident.Bytes.{is_opening, is_closing, is_bracket, is_newline, is_nul, is_blank, ends_line}
 use Rattle.gix_signature.specs.Ident.Texts.{from_first, begins_with, ends_with, without_front, without_end}
 use Rattle.gix_signature.specs.Ident.Parts.{ident_parts, line_parts, date_parts, date_text}
-use Rattle.gix_signature.specs.Ident.Fsck.{fsck_of, first_fault, fault_at, has_fault, from_bracket, from_next_bracket, fsck_date, has_date_fault}
+use Rattle.gix_signature.specs.Ident.Fsck.{fsck_of, fsck_ids, first_fault, fault_at, has_fault, from_bracket, from_next_bracket, fsck_date, has_date_fault}
 use Rattle.gix_signature.specs.Ident.Times.{too_many_seconds}
 use Rattle.gix_signature.specs.Ident.Laws.{PassesAs, in_minutes}
 use Rattle.gix_signature.specs.declared.fsck.FsckId.{FsckId}
 use Rattle.gix_signature.specs.declared.fsck.FsckId.TheVariants.{NulInHeader, MissingNameBeforeEmail, BadName, MissingEmail, MissingSpaceBeforeEmail, BadEmail, MissingSpaceBeforeDate, ZeroPaddedDate, BadDateOverflow, BadDate, BadTimezone}
 use Rattle.gix_signature.proofs.Cuts.{ArePlain, all-of, marked, no-opening, after_name}
-use Rattle.gix_signature.proofs.Passed.{first-none}
 use Rattle.gix_signature.proofs.Texts.{none-there}
 use Rattle.gix_signature.proofs.Shown.{Cut, cut-of, run-len, run-all, place-at, there-at, last-len, end-more, all-before, all-on, goes_on, no-closing}
 use Rattle.gix_signature.proofs.DateTexts.{IsDate, no-date-fault, parts, stays, front-more, are-decimal, date-is, time-is}
+
+-- a line without a fault has no first one
+find-none : (p : FsckId → Bool) → ((id : FsckId) → p id ≡ false) → (ids : List FsckId) → find p ids ≡ None
+find-none p none [] = refl
+find-none p none (id ∷ ids) = ap (λ b. cond b (Some id) (find p ids)) (none id) ∙ find-none p none ids
+
+first-none : (line : List ℕ) → ((id : FsckId) → has_fault line id ≡ false) → first_fault line ≡ None
+unfolding first_fault
+first-none line none = find-none (has_fault line) none fsck_ids
 
 -- no byte of a text passes
 none-passes : (p : ℕ → Bool) (xs : List ℕ) → list_all (λ c. not (p c)) xs ≡ true → list_any p xs ≡ false

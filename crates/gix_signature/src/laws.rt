@@ -1,10 +1,9 @@
 //! Laws, each the contract of a function that does nothing.
-ghost use Rattle.std.specs.Prelude.{◌≡◌, IfOk};
+ghost use Rattle.std.specs.Prelude.{IfOk};
 ghost use Rattle.gix_signature.specs.Signature.{OneCut};
 ghost use Rattle.gix_signature.specs.Writing.{line_due, IsWritten};
-ghost use Rattle.gix_signature.specs.Ident.Laws.{PassedHasIdentity, OneVerdict, CutIsShown, WrittenPasses, CanonicalPasses, OnlyMeant, OnlyPlacing, PlacedAlike};
+ghost use Rattle.gix_signature.specs.Ident.Laws.{CutIsShown, WrittenPasses, CanonicalPasses};
 
-use crate::lines::SignatureRef;
 use gix_date::Time;
 
 /// A line has at most one cut.
@@ -16,22 +15,6 @@ pub fn one_cut(line: &str)
 /// is read as the time again if the offset is whole minutes.
 pub fn written_is_cut(name: &str, mail: &str, time: Time)
     ensures { IfOk (line_due name.now mail.now time) (IsWritten name.now mail.now time) }
-{}
-
-/// A clone of the parts of a line is those parts, and never fails.
-pub fn clones()
-    ensures parts { (a b : SignatureRef) → ⟦<SignatureRef<'static> as Clone>⟧.is_clone a b → b ≡ a }
-    ensures parts_succeed { (a : SignatureRef) → ⟦<SignatureRef<'static> as Clone>⟧.is_infallible a }
-{}
-
-/// A line of which `git fsck` says nothing has an identity.
-pub fn passed_has_identity(text: &[u8])
-    ensures { PassedHasIdentity text.now }
-{}
-
-/// One outcome: `fsck_of` says nothing of a line without a fault, and else the fault before which it has none.
-pub fn one_verdict(text: &[u8])
-    ensures { OneVerdict text.now }
 {}
 
 /// Git shows a line that is cut with its mail, and with its name but for blanks at the end.
@@ -49,17 +32,4 @@ pub fn written_passes(name: &[u8], mail: &[u8], time: Time)
 /// `-5 +0000` it says that the date overflows.
 pub fn canonical_passes(line: &str)
     ensures { CanonicalPasses line.now }
-{}
-
-/// Only white bytes, brackets, NUL, signs and digits decide what `git fsck` says of a line, and where: other bytes can be
-/// exchanged.
-pub fn only_meant(text: &[u8])
-    ensures { OnlyMeant text.now }
-{}
-
-/// Only blanks, brackets, NUL, signs and digits decide where the parts of a line stand: other bytes can be exchanged. So two
-/// lines with the same such bytes at the same places have their parts at the same places, and the same date.
-pub fn only_placing(text: &[u8], other: &[u8])
-    ensures exchanged { OnlyPlacing text.now }
-    ensures alike { PlacedAlike text.now other.now }
 {}

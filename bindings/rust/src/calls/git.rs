@@ -13,19 +13,19 @@ use crate::{Error, Instant, OffsetInSeconds, Time};
 
 /// A call that reads a date.
 type Reader<T> =
-    unsafe extern "C" fn(*const u8, usize, *const Instant, *mut CZone, *mut T, *mut usize) -> u32;
+    unsafe extern "C" fn(*const u8, usize, *const Instant, *const CZone, *mut T, *mut usize) -> u32;
 
 /// What one of the three readers reads.
 fn read<T: Default>(
     reader: Reader<T>,
     text: &[u8],
     now: Instant,
-    zone: &mut HeldZone,
+    zone: &HeldZone,
 ) -> Result<T, DateError> {
     let (mut date, mut place) = (T::default(), 0);
     let (start, len) = (text.as_ptr(), text.len());
-    // SAFETY: readers are the three below. The text is valid for its length, the instant is valid, and the zone, which is valid,
-    // the date and the place are places of their own.
+    // SAFETY: readers are the three below. The text is valid for its length, instant and zone are valid, and the date and the place
+    // are places of their own.
     let status = unsafe { reader(start, len, &now, zone.place(), &mut date, &mut place) };
     stored(status, date, place)
 }
@@ -84,7 +84,7 @@ impl From<CExpiry> for Expiry {
 pub(crate) fn parse_date(
     text: &[u8],
     now: Instant,
-    zone: &mut HeldZone,
+    zone: &HeldZone,
 ) -> Result<ReadDate, DateError> {
     read(ffi::git_date_parse_at, text, now, zone).map(ReadDate::from)
 }
@@ -92,16 +92,12 @@ pub(crate) fn parse_date(
 pub(crate) fn approxidate(
     text: &[u8],
     now: Instant,
-    zone: &mut HeldZone,
+    zone: &HeldZone,
 ) -> Result<Approximate, DateError> {
     read(ffi::git_date_approxidate_at, text, now, zone).map(Approximate::from)
 }
 
-pub(crate) fn expiry_date(
-    text: &[u8],
-    now: Instant,
-    zone: &mut HeldZone,
-) -> Result<Expiry, DateError> {
+pub(crate) fn expiry_date(text: &[u8], now: Instant, zone: &HeldZone) -> Result<Expiry, DateError> {
     read(ffi::git_date_expiry_at, text, now, zone).map(Expiry::from)
 }
 
@@ -134,13 +130,13 @@ pub(crate) fn show_date(
     time: &Time,
     mode: DateMode,
     now: Instant,
-    zone: &mut HeldZone,
+    zone: &HeldZone,
     out: &mut [u8; MAX_SHOWN],
 ) -> Result<usize, DateError> {
     let mode = mode.into();
     let (out, room, mut len) = (out.as_mut_ptr(), out.len(), 0);
-    // SAFETY: time, mode and instant are valid, and the zone, which is valid, the buffer, of the length given, and the length are
-    // places of their own.
+    // SAFETY: time, mode, instant and zone are valid, and the buffer, of the length given, and the length are places of their
+    // own.
     let status =
         unsafe { ffi::git_date_show_at(time, &mode, &now, zone.place(), out, room, &mut len) };
     stored(status, len, 0)
@@ -151,13 +147,13 @@ pub(crate) fn show_git_time(
     time: GitTime,
     mode: DateMode,
     now: Instant,
-    zone: &mut HeldZone,
+    zone: &HeldZone,
     out: &mut [u8; MAX_SHOWN],
 ) -> Result<usize, OwnDateError> {
     let (time, mode) = (CGitTime::from(time), mode.into());
     let (zone, out, room, mut len) = (zone.place(), out.as_mut_ptr(), out.len(), 0);
-    // SAFETY: time, mode and instant are valid, and the zone, which is valid, the buffer, of the length given, and the length are
-    // places of their own.
+    // SAFETY: time, mode, instant and zone are valid, and the buffer, of the length given, and the length are places of their
+    // own.
     let status =
         unsafe { ffi::git_date_show_git_time_at(&time, &mode, &now, zone, out, room, &mut len) };
     own_stored(status, len)
@@ -186,8 +182,8 @@ fn put_by_format(
 ) -> u32 {
     let (start, size) = (format.as_ptr(), format.len());
     let (zone, out, room) = (zone.place(), out.as_mut_ptr(), out.len());
-    // SAFETY: the time is valid, the format is for its length, and the zone, which is valid, the buffer, of the length given, the
-    // length and the place are places of their own.
+    // SAFETY: time and zone are valid, the format is for its length, and the buffer, of the length given, the length and the place
+    // are places of their own.
     unsafe { ffi::git_date_show_by_format(time, start, size, local, zone, out, room, len, place) }
 }
 
@@ -214,9 +210,8 @@ pub(crate) fn show_by_format(
     time: &Time,
     format: &str,
     local: bool,
-    zone: &mut HeldZone,
+    zone: &HeldZone,
 ) -> Result<String, DateError> {
-    let zone = &*zone;
     text_or(
         FORMAT_ROOM,
         |out, len| put_by_format(time, format, local, zone, out, len, &mut 0),

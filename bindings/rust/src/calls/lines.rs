@@ -59,7 +59,7 @@ pub(crate) fn parse_lines_at(
     block: &[u8],
     reader: LineReader,
     now: Instant,
-    zone: &mut HeldZone,
+    zone: &HeldZone,
     columns: Columns<'_>,
 ) -> Done {
     let (number, options) = number_of(reader);
@@ -69,7 +69,7 @@ pub(crate) fn parse_lines_at(
         statuses,
     } = columns;
     let mut bytes = 0;
-    // SAFETY: as for `parse_lines`; the instant is valid, and so is the zone, a place of its own.
+    // SAFETY: as for `parse_lines`; instant and zone are valid.
     let lines = unsafe {
         ffi::gix_date_parse_lines_at(
             block.as_ptr(),
@@ -107,7 +107,7 @@ type Reader = unsafe extern "C" fn(
     *const u8,
     usize,
     *const Instant,
-    *mut CZone,
+    *const CZone,
     *mut i64,
     usize,
     *mut i32,
@@ -117,13 +117,7 @@ type Reader = unsafe extern "C" fn(
     *mut usize,
 ) -> usize;
 
-fn read(
-    reader: Reader,
-    block: &[u8],
-    now: Instant,
-    zone: &mut HeldZone,
-    columns: Columns<'_>,
-) -> Done {
+fn read(reader: Reader, block: &[u8], now: Instant, zone: &HeldZone, columns: Columns<'_>) -> Done {
     let Columns {
         seconds,
         offsets,
@@ -152,7 +146,7 @@ fn read(
 pub(crate) fn parse_date_lines(
     block: &[u8],
     now: Instant,
-    zone: &mut HeldZone,
+    zone: &HeldZone,
     columns: Columns<'_>,
 ) -> Done {
     read(git_ffi::git_date_parse_lines_at, block, now, zone, columns)
@@ -161,7 +155,7 @@ pub(crate) fn parse_date_lines(
 pub(crate) fn approxidate_lines(
     block: &[u8],
     now: Instant,
-    zone: &mut HeldZone,
+    zone: &HeldZone,
     columns: Columns<'_>,
 ) -> Done {
     read(

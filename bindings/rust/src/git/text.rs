@@ -24,7 +24,7 @@ impl DateText {
         time: Time,
         mode: DateMode,
         now: Instant,
-        zone: &mut HeldZone,
+        zone: &HeldZone,
     ) -> Result<DateText, DateError> {
         let mut bytes = [0; MAX_SHOWN];
         let len = calls::git::show_date(&time, mode, now, zone, &mut bytes)?;
@@ -35,7 +35,7 @@ impl DateText {
         time: GitTime,
         mode: DateMode,
         now: Instant,
-        zone: &mut HeldZone,
+        zone: &HeldZone,
     ) -> Result<DateText, OwnDateError> {
         let mut bytes = [0; MAX_SHOWN];
         let len = calls::git::show_git_time(time, mode, now, zone, &mut bytes)?;

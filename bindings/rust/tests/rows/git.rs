@@ -136,7 +136,7 @@ type All<T> = Vec<Result<T, DateError>>;
 fn all<T, const N: usize>(
     at_moment: [Result<T, DateError>; N],
     moment: &Moment,
-    call: impl Fn(&mut ReadZone, Instant) -> Result<T, DateError>,
+    call: impl Fn(&ReadZone, Instant) -> Result<T, DateError>,
 ) -> All<T> {
     let in_zone = in_read_zone(moment, call);
     at_moment.into_iter().chain(in_zone).collect()

@@ -9,7 +9,6 @@ use Rattle.std.proofs.lemmas.List.Sums.{sum_by-cons}
 use Rattle.std.proofs.lemmas.Bool.{and_parts, not-true}
 use Rattle.std.proofs.lemmas.Bool.Decides.{nat_tests}
 use Rattle.gix_date.specs.Text.Characters.{colon}
-use Rattle.gix_date.specs.Text.Front.{◌>>=◌}
 use Rattle.git_date.specs.Rules.Dates.{year_said, year_date, recent_date}
 use Rattle.git_date.specs.Rules.Digits.{Stepped, is_epoch, bare_digits, few_digits, two_digit_year, or_month, digits_rule, group_or_bare, group_said, grouped}
 use Rattle.git_date.specs.Exact.Fast.{has_few_digits}

@@ -7,7 +7,6 @@ use Rattle.jiff_core.proofs.SignedLemmas.{signed_arith}
 use Rattle.gix_date.specs.Fields.ClockNumbers.{hours_in, minutes_in}
 use Rattle.gix_date.specs.Fields.Layout.{LocalTime}
 use Rattle.gix_date.specs.Text.Characters.{minus, plus}
-use Rattle.gix_date.specs.Text.Numbers.{two_digits}
 use Rattle.git_date.specs.Tokens.Tokens.{Token, tokens}
 use Rattle.git_date.specs.Rules.Fields.{unknown}
 use Rattle.git_date.specs.Rules.Offsets.{at_text}
@@ -17,7 +16,7 @@ use Rattle.git_date.specs.declared.fields.dates.Now.{Now}
 use Rattle.git_date.specs.declared.fields.Fields.{Fields}
 use Rattle.git_date.proofs.Rules.EnoughSteps.{enough, fewer}
 use Rattle.git_date.proofs.Text.StringEnds.{has_nul, no-nul, whole-said}
-use Rattle.git_date.proofs.Exact.PrintedClocks.{Word, Weekday, WeekdayComma, Month, Day, Year, Clock, Date, words_text, words_tokens, with_words, words_steps, AreWritten, words-are, words-read, IsGitClock, IsDayText, IsDateMark, two-day, bare-day, marked_strict_text, at, fields_of, signed, sign_of, is_behind, strict_tokens, strict-steps, strict-are}
+use Rattle.git_date.proofs.Exact.PrintedClocks.{Word, Weekday, WeekdayComma, Month, Day, Year, Clock, Date, words_text, words_tokens, with_words, words_steps, AreWritten, words-are, words-read, IsGitClock, IsDayText, IsDateMark, bare-day, marked_strict_text, at, fields_of, signed, sign_of, is_behind, strict_tokens, strict-steps, strict-are}
 
 pub reads-are : (now : Now) (text : List ℕ) (ts : List Token) (n : ℕ) (f : Fields) → tokens text ≡ ts → has_nul ts ≡ false → length ts ≤ n → at_text ts ≡ None
     → steps now n (at unknown) ts ≡ Ok (at f) → said_by now text ≡ fields_said text (Ok (at f))
@@ -65,18 +64,11 @@ module _ (day : List ℕ) (now : Now) (t : LocalTime) (h : IsGitClock t) (is : I
   unfolding at_text
   mail-reads = words-said now t (WeekdayComma ∷ Day day ∷ Month ∷ Year ∷ Clock ∷ []) 40 h (refl, is, tt) (rw (free t) refl) refl (omega arith)
 
-  pub gitoxide-reads : Reads (Weekday ∷ Month ∷ Day day ∷ Year ∷ Clock ∷ [])
-  unfolding at_text
-  gitoxide-reads = words-said now t (Weekday ∷ Month ∷ Day day ∷ Year ∷ Clock ∷ []) 40 h (refl, is, tt) (rw (free t) refl) refl (omega arith)
-
   pub default-reads : Reads (Weekday ∷ Month ∷ Day day ∷ Clock ∷ Year ∷ [])
   unfolding at_text
   default-reads = words-said now t (Weekday ∷ Month ∷ Day day ∷ Clock ∷ Year ∷ []) 40 h (refl, is, tt) (rw (free t) refl) refl (omega arith)
 
--- days in two digits, and without a zero before them
-pub two-day-of : (t : LocalTime) → IsGitClock t → IsDayText t.date.day (two_digits t.date.day)
-two-day-of t h = two-day t.date.day (omega (arith, h.last_day))
-
+-- a day without a zero before it
 pub bare-day-of : (t : LocalTime) → IsGitClock t → IsDayText t.date.day (decimal t.date.day)
 bare-day-of t h = bare-day t.date.day (omega (arith, h.last_day))
 

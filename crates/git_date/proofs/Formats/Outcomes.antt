@@ -16,9 +16,6 @@ pub none-shown : (zone : TimeZone) (local : Bool) (format : List ℕ) (t : Time)
 unfolding shown_by_format
 none-shown zone local format t e = ap (by_pieces format) e
 
-abbrev lacks : Shown → List ℕ → Bool
-lacks shown format = is_none shown.seconds && asks_seconds (pieces_or_none format)
-
 pub refused : (zone : TimeZone) (local : Bool) (format : List ℕ) (t : Time) (shown : Shown) → Some shown ≡ shown_at zone local t
     → (is_none shown.seconds && asks_seconds (pieces_or_none format)) ≡ true → None ≡ shown_by_format zone local format t
 unfolding shown_by_format

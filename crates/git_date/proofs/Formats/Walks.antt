@@ -99,14 +99,6 @@ no-fault text ps e = ap (λ (r : Pieces). option_map (placed (length text)) (res
 pub not-whole : (text : List ℕ) (fault : FormatFault) → is_format text ≡ true → Err fault ≡ pieces text → ⊥
 not-whole text fault h e = false≢true (ap (λ (r : Pieces). is_ok r) e ∙ h)
 
-whole-by : (r : Pieces) (len : ℕ) → None ≡ option_map (placed len) (result_err r) → is_ok r ≡ true
-whole-by (Ok ps) len e = refl
-whole-by (Err fault) len e = absurd cc
-
--- a format without fault is whole
-pub is-whole : (text : List ℕ) → None ≡ format_fault text → is_format text ≡ true
-is-whole text e = whole-by (pieces text) (length text) e
-
 -- a format of which these are the pieces is whole
 pub is-format : (text : List ℕ) (ps : List Piece) → Ok ps ≡ pieces text → is_format text ≡ true
 is-format text ps e = sym (ap (λ (r : Pieces). is_ok r) e)

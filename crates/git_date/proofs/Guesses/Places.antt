@@ -1,5 +1,5 @@
 -- Where the places of approximate answers and of their refusals are: at characters of the text.
-use Rattle.std.proofs.Common.{◌≡◌, pos, ℕ, false, List, [], length, sym, Option, Some, None, IfSome, Result, Ok, Err}
+use Rattle.std.proofs.Common.{pos, ℕ, List, [], length, sym, Option, Some, None, IfSome, Result, Ok, Err}
 use Rattle.std.specs.Prelude.{◌||◌, bytes_eq, codes}
 use Rattle.std.specs.Int.Signed.{le_z}
 use Rattle.jiff.specs.declared.zoned.Zoned.{Zoned}

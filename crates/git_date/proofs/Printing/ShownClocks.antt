@@ -1,8 +1,6 @@
 -- What the clock of a time shows, and when.
-use Rattle.std.proofs.Common.{◌≡◌, ◌∙◌, ◌<◌, ◌%◌, ℤ, pos, neg_ℤ, Bool, true, false, Some, None, nat_lt, ap, arith, unsigned_abs}
-use Rattle.std.proofs.lemmas.Bool.{and_parts}
-use Rattle.std.proofs.lemmas.Bool.Decides.{Decides-ltb}
-use Rattle.std.specs.Prelude.{◌&&◌, ◌==◌}
+use Rattle.std.proofs.Common.{◌≡◌, ◌∙◌, ℤ, pos, neg_ℤ, Bool, true, false, Some, None, ap, arith}
+use Rattle.std.specs.Prelude.{◌&&◌}
 use Rattle.jiff.specs.Types.{TimeZone}
 use Rattle.jiff.specs.Words.{offset_at, nanos_of_seconds}
 use Rattle.jiff_core.proofs.SignedLemmas.{signed_arith, one_part}
@@ -11,7 +9,7 @@ use Rattle.gix_date.specs.Fields.Layout.{LocalTime}
 use Rattle.gix_date.specs.Printing.LocalClocks.{clock_of, last_of_year_9999, IsShowable}
 use Rattle.gix_date.specs.Fields.Zoned.{last_second}
 use Rattle.gix_date.specs.declared.time.Time.{Time}
-use Rattle.git_date.specs.Show.Clocks.{has_own_clock, has_zone_clock, is_dated, is_written_offset, known_offset, own_clock, zone_clock, time_at, with_known_offset}
+use Rattle.git_date.specs.Show.Clocks.{has_own_clock, has_zone_clock, is_dated, known_offset, own_clock, zone_clock, time_at, with_known_offset}
 use Rattle.git_date.proofs.Rules.Conditions.{none-where, some-where}
 use Rattle.git_date.proofs.Rules.HeldClocks.{within}
 
@@ -20,9 +18,6 @@ dated s h = within (pos 0) last_of_year_9999 s h
 
 pub zone-dated : (s : ℤ) → has_zone_clock s ≡ true → IsBetween (pos 0) last_second s
 zone-dated s h = within (pos 0) last_second s h
-
-pub written : (o : ℤ) → is_written_offset o ≡ true → unsigned_abs o < 360_000
-written o h = (Decides-ltb _ _).0 (and_parts (nat_lt (unsigned_abs o) 360_000) (unsigned_abs o % 60 == 0) h).0
 
 pub near-zone : (s o : ℤ) → IsBetween (pos 0) last_second s → IsBetween (neg_ℤ (pos 93_599)) (pos 93_599) o
     → IsShowable (record { seconds = s; offset = o })

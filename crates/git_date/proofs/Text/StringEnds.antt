@@ -67,10 +67,6 @@ longer-len (c ∷ text) more h = by (c == nul) h (λ all. longer-len text more a
     by true h longer = absurd (omega (arith, h))
     by false h longer = let rest = longer (omega (arith, h)) in omega (arith, rest)
 
-pub nul-len : (text rest : List ℕ) → string_len (text ++ nul ∷ rest) ≡ string_len text
-nul-len [] rest = refl
-nul-len (c ∷ text) rest = ap (λ (n : ℕ). first_len (c == nul) n) (nul-len text rest)
-
 -- the byte at the place is a NUL
 byte-is : (text : List ℕ) → string_len text < length text → get_or text (string_len text) 0 ≡ 0
 byte-is [] h = refl

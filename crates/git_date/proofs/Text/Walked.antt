@@ -1,5 +1,5 @@
--- Walks over tokens that are over: nothing is left to walk over, or no step may be made.
-use Rattle.std.proofs.Common.{◌≡◌, ℕ, zero, suc, List, [], ◌∷◌, refl, Result, Ok}
+-- Walks over tokens that are over: nothing is left to walk over.
+use Rattle.std.proofs.Common.{◌≡◌, ℕ, zero, suc, List, [], refl, Result, Ok}
 use Rattle.git_date.specs.Tokens.Tokens.{Token, walked}
 use Rattle.git_date.specs.declared.fault.Fault.{Fault}
 
@@ -13,8 +13,3 @@ pub nothing-left : {S : Type 0} (step : Step S) (n : ℕ) (s : S) → walked ste
 unfolding walked
 nothing-left step zero s = refl
 nothing-left step (suc n) s = refl
-
-pub stopped : {S : Type 0} (step : Step S) (s : S) (ts : List Token) → walked step zero s ts ≡ Ok s
-unfolding walked
-stopped step s [] = refl
-stopped step s (t ∷ more) = refl

@@ -6,7 +6,7 @@ use Rattle.jiff.specs.Types.{TimeZone}
 use Rattle.jiff.specs.Words.{zoned_nanos}
 use Rattle.jiff.specs.declared.zoned.Zoned.{Zoned}
 use Rattle.jiff_core.specs.Calendar.{IsBetween}
-use Rattle.gix_date.specs.Fields.Zoned.{is_instant, first_second, last_second}
+use Rattle.gix_date.specs.Fields.Zoned.{is_instant}
 use Rattle.gix_date.specs.Relative.Steps.{zone_of}
 use Rattle.git_date.specs.Rules.Dates.{now_at}
 use Rattle.git_date.specs.Exact.Reading.{said_by}
@@ -15,10 +15,6 @@ use Rattle.git_date.specs.declared.reader.Said.{Said}
 use Rattle.git_date.specs.declared.date.ReadDate.{ReadDate}
 use Rattle.git_date.specs.declared.error.DateError.{DateError}
 use Rattle.git_date.specs.declared.error.DateError.TheVariants.{Unreadable, NumberTooLarge, BackTooFar, YearRefused, Range}
-
--- the seconds are those of an instant
-abbrev pub IsInstantSeconds : ℤ → Type 0
-IsInstantSeconds seconds = IsBetween first_second last_second seconds
 
 -- the seconds of what a text says are those of an instant
 abbrev pub SaidIsInstant : Said → Type 0

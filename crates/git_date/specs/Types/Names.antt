@@ -14,7 +14,6 @@ use Rattle.git_date.specs.declared.approximate.drafts.LastShown.{LastShown as Th
 use Rattle.git_date.specs.declared.approximate.meanings.Meaning.{Meaning as TheMeaning}
 use Rattle.git_date.specs.declared.approximate.meanings.Unit.{Unit as TheUnit}
 use Rattle.git_date.specs.declared.show.ages.Age.{Age as TheAge}
-use Rattle.git_date.specs.declared.show.human.Distance.{Distance as TheDistance}
 
 abbrev pub Now : Type 0
 Now = TheNow
@@ -60,6 +59,3 @@ Unit = TheUnit
 
 abbrev pub Age : Type 0
 Age = TheAge
-
-abbrev pub Distance : Type 0
-Distance = TheDistance

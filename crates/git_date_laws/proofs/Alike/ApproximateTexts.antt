@@ -1,28 +1,30 @@
 -- Letter case changes nothing of what the approximate reader makes of a text.
-use Rattle.std.proofs.Common.{◌≡◌, ◌∙◌, ◌-◌, ℕ, pos, false, cond, List, [], ◌∷◌, length, refl, ap, ap₂, arith, option_map, Option, Some, None, Result, Ok, Err}
+use Rattle.std.proofs.Common.{◌≡◌, ◌∙◌, ◌-◌, ℕ, zero, suc, pos, Bool, cond, List, [], ◌∷◌, length, refl, ap, ap₂, arith, option_map, Option, Some, None, Result, Ok, Err}
 use Rattle.std.proofs.lemmas.List.{length-map}
 use Rattle.std.specs.Char.{to_ascii_lowercase}
 use Rattle.std.specs.Int.Signed.{le_z}
 use Rattle.std.specs.Str.{str_to_ascii_lowercase}
+use Rattle.gix_date.specs.Fields.Layout.{LocalTime}
 use Rattle.gix_date.specs.declared.time.Time.{Time}
-use Rattle.git_date.specs.Approximate.Reading.{steps, draft_of, answer, answer_of, guess_by, string_guess, answer_up_to, guess}
-use Rattle.git_date.specs.Approximate.Drafts.{earlier, first_draft, settle}
+use Rattle.git_date.specs.Approximate.Reading.{Read, steps, draft_of, answer, answer_of, guess_by, string_guess, answer_up_to, guess}
+use Rattle.git_date.specs.Approximate.Drafts.{first_draft, ignore, settle}
+use Rattle.git_date.specs.Approximate.Rules.{Ruled, word_by, read_word, are_digits_next, letters_rule, number_waits, group_or_number, digits_rule, understood}
+use Rattle.git_date.specs.Approximate.Words.{meaning_of}
 use Rattle.git_date.specs.Approximate.Zones.{Choices, shown_in, filled_time}
-use Rattle.git_date.specs.Exact.Reading.{error_of}
-use Rattle.git_date.specs.Tokens.Tokens.{Token, Mark, tokens}
+use Rattle.git_date.specs.Exact.Reading.{ended, error_of}
+use Rattle.git_date.specs.Rules.Digits.{group_said}
+use Rattle.git_date.specs.Tokens.Numbers.{number, is_too_large}
+use Rattle.git_date.specs.Tokens.Steps.{and_then}
 use Rattle.git_date.specs.Tokens.Strings.{before_nul, nul_place}
-use Rattle.git_date.specs.Types.Names.{Today, Draft, Now, Fault, Number}
+use Rattle.git_date.specs.Tokens.Tokens.{Token, Letters, Digits, Mark, tokens, bytes_left, walked}
 use Rattle.git_date.specs.Types.FaultCases.{NumberTooLarge, BackTooFar, YearRefused, Range}
+use Rattle.git_date.specs.Types.Names.{Today, Draft, Now, Fault}
 use Rattle.git_date.specs.declared.error.DateError.{DateError}
 use Rattle.git_date.specs.declared.error.DateError.TheVariants as error
+use Rattle.git_date_laws.proofs.Alike.Spelling.{IsSpelling, filler-agrees, meaning-agrees}
+use Rattle.git_date_laws.proofs.Alike.Changed.{changed, farther_fault, SaidGroup, by-true, left-is, moved_said, said-is, ending-is}
 use Rattle.git_date_laws.proofs.Alike.Texts.{in_lower_case, tokens-lower}
 use Rattle.git_date_laws.proofs.Alike.Cuts.{place-lower, before-lower}
-use Rattle.git_date_laws.proofs.Alike.Spelling.{IsSpelling}
-use Rattle.git_date_laws.proofs.Walks.Respects.{ComesTo, FailsAt, SameNumber}
-use Rattle.git_date_laws.proofs.Walks.RespectedDrafts.{Waits, NoneWaits, OneWaits, SameDraft, Givens, steps-respects}
-use Rattle.git_date_laws.proofs.Alike.Changed.{changed, farther_fault, fault-is, Closed, Farther, begin-closed}
-use Rattle.gix_date.specs.Text.Characters.{newline}
-use Rattle.gix_date.specs.Fields.Layout.{LocalTime}
 
 no-farther : (e : Fault) → farther_fault 0 e ≡ e
 no-farther (NumberTooLarge left) = ap NumberTooLarge (omega arith)
@@ -31,37 +33,84 @@ no-farther (YearRefused left) = ap YearRefused (omega arith)
 no-farther Range = refl
 
 module _ (spell : List ℕ → List ℕ) (same : IsSpelling spell) where
-  -- the same tokens, so spelled
+  -- the same tokens, so spelled, at the same places
   abbrev φ : List Token → List Token
   φ ts = changed spell None ts
 
-  abbrev Near : ℕ → ℕ → Type 0
-  Near left other = Farther spell same None left other
+  same-left : (ts : List Token) → bytes_left (φ ts) ≡ bytes_left ts
+  same-left ts = omega (arith, left-is spell same None ts)
 
-  abbrev Unmoved : Option ℕ → Option ℕ → Type 0
-  Unmoved i j = j ≡ i
+  -- letters
+  next-same : (ts : List Token) → are_digits_next (φ ts) ≡ are_digits_next ts
+  next-same [] = refl
+  next-same (Letters run ∷ more) = refl
+  next-same ts = refl
 
-  near : (left other : ℕ) → Near left other → other ≡ left
-  near left other p = omega (arith, p)
+  word-same : (d : Draft) (run : List ℕ) (left : ℕ) (ruled : Ruled) → read_word d (spell run) left ruled ≡ read_word d run left ruled
+  word-same d run left (Ok (Some next)) = refl
+  word-same d run left (Ok None) = ap (λ (b : Bool). Ok (cond b d (ignore d left))) (filler-agrees spell same run)
+  word-same d run left (Err e) = refl
 
-  waits-same : (w x : Option Number) → Waits Near w x → x ≡ w
-  waits-same w x NoneWaits = refl
-  waits-same w x (OneWaits n m (SameNumber value a b p)) = ap (λ (left : ℕ). Some (record { value = value; left = left })) (near a b p)
+  letters-same : (zone : Choices) (today : LocalTime) (d : Draft) (run : List ℕ) (more : List Token)
+      → letters_rule zone today d (spell run) (φ more) ≡ letters_rule zone today d run more
+  unfolding letters_rule
+  letters-same zone today d run more =
+      let left = bytes_left (Letters run ∷ more) in
+      (λ i. cond (next-same more i) (Ok (ignore d (same-left (Letters run ∷ more) i)))
+      (read_word d (spell run) (same-left (Letters run ∷ more) i) (word_by zone today d (same-left (Letters run ∷ more) i) (meaning-agrees spell same run i))))
+      ∙ ap (λ (given : Result Draft Fault). cond (are_digits_next more) (Ok (ignore d left)) given) (word-same d run left (word_by zone today d left (meaning_of run)))
 
-  givens-same : (x y : Result Draft Fault) → Givens Near Unmoved x y → y ≡ x
-  givens-same x y (ComesTo d e (SameDraft f last w v known i j waits h)) =
-      ap₂ (λ (w : Option Number) (i : Option ℕ). Ok (record { fields = f; last = last; waiting = w; understood = known; ignored = i })) (waits-same w v waits) h
-  givens-same x y (FailsAt a b faults) = ap (λ (e : Fault). Err e) (fault-is 0 a b faults ∙ no-farther a)
+  -- digits
+  abbrev kept : Read → Read
+  kept (Ok found) = Ok (found.0, φ found.1)
+  kept (Err e) = Err e
 
-  none-after : (more : List Token) → Closed spell same None [] (Mark newline ∷ more) → ⊥
-  none-after more r = let e : Mark newline ∷ more ≡ [] = r.0 in cc
+  or-number-same : (d : Draft) (run : List ℕ) (more : List Token) (said : SaidGroup)
+      → and_then (moved_said spell same None said) (λ said. Ok (group_or_number d run (φ more) said)) ≡ kept (and_then said (λ said. Ok (group_or_number d run more said)))
+  or-number-same d run more (Ok None) = ap (λ (left : ℕ). Ok (number_waits d run left, φ more)) (same-left (Digits run ∷ more))
+  or-number-same d run more (Ok (Some found)) = refl
+  or-number-same d run more (Err e) = ap (λ (e : Fault). Err e) (no-farther e)
 
-  steps-same : (zone : Choices) (today : Today) (n : ℕ) (ts : List Token)
-      → steps zone today n (first_draft today.shown) (φ ts) ≡ steps zone today n (first_draft today.shown) ts
-  steps-same zone today n ts =
-      givens-same _ _ (steps-respects Near Unmoved (λ left other i j p h. ap₂ (λ (left : ℕ) (i : Option ℕ). Some (earlier left i)) (near left other p) h)
-      (Closed spell same None) (begin-closed spell same None) none-after zone today n (first_draft today.shown) (first_draft today.shown) ts (φ ts)
-      (SameDraft _ _ None None false None None NoneWaits refl) (refl, tt))
+  digits-same : (now : Now) (d : Draft) (run : List ℕ) (more : List Token) → digits_rule now d run (φ more) ≡ kept (digits_rule now d run more)
+  unfolding digits_rule
+  digits-same now d run more =
+      let ready = understood (settle d) in
+      by-true kept (is_too_large (number run)) _ _ _ _ (λ e. ap (λ (left : ℕ). Err (NumberTooLarge left)) (same-left (Digits run ∷ more)))
+      (ap (λ (said : SaidGroup). and_then said (λ said. Ok (group_or_number ready run (φ more) said))) (said-is spell same None now ready.fields run more)
+      ∙ or-number-same ready run more (group_said now ready.fields run more))
+
+  ended-kept : (x : Read) → ended (kept x) ≡ kept (ended x)
+  ended-kept (Ok found) = ap (λ (rest : List Token). Ok (found.0, rest)) (ending-is spell same None found.1)
+  ended-kept (Err e) = refl
+
+  -- steps
+  abbrev go_on : Choices → Today → ℕ → Read → Result Draft Fault
+  go_on zone today n step = and_then step (λ next. steps zone today n next.0 next.1)
+
+  module _ (zone : Choices) (today : Today) (n : ℕ) (again : (d : Draft) (ts : List Token) → steps zone today n d (φ ts) ≡ steps zone today n d ts) where
+    kept-on : (x : Read) → go_on zone today n (kept x) ≡ go_on zone today n x
+    kept-on (Ok found) = again found.0 found.1
+    kept-on (Err e) = refl
+
+    letters-on : (more : List Token) (given : Result Draft Fault) → go_on zone today n (and_then given (λ next. Ok (next, φ more)))
+        ≡ go_on zone today n (and_then given (λ next. Ok (next, more)))
+    letters-on more (Ok d) = again d more
+    letters-on more (Err e) = refl
+
+  steps-same : (zone : Choices) (today : Today) (n : ℕ) (d : Draft) (ts : List Token) → steps zone today n d (φ ts) ≡ steps zone today n d ts
+  unfolding walked
+  steps-same zone today n d [] = refl
+  steps-same zone today zero d (Letters run ∷ more) = refl
+  steps-same zone today zero d (Digits run ∷ more) = refl
+  steps-same zone today zero d (Mark byte ∷ more) = refl
+  steps-same zone today (suc n) d (Letters run ∷ more) =
+      ap (λ (given : Result Draft Fault). go_on zone today n (and_then given (λ next. Ok (next, φ more)))) (letters-same zone today.shown d run more)
+      ∙ letters-on zone today n (λ d ts. steps-same zone today n d ts) more (letters_rule zone today.shown d run more)
+  steps-same zone today (suc n) d (Digits run ∷ more) =
+      ap (λ (step : Read). go_on zone today n step)
+      (ap (λ (step : Read). ended step) (digits-same today.now d run more) ∙ ended-kept (digits_rule today.now d run more))
+      ∙ kept-on zone today n (λ d ts. steps-same zone today n d ts) (ended (digits_rule today.now d run more))
+  steps-same zone today (suc n) d (Mark byte ∷ more) = steps-same zone today n d more
 
 -- what a text of the same length comes to
 answer-same : (text other : List ℕ) (d : Draft) (time : Option Time) → length other ≡ length text → answer other d time ≡ answer text d time
@@ -91,7 +140,7 @@ draft-lower : (zone : Choices) (today : Today) (text : List ℕ) → draft_of zo
 unfolding draft_of
 draft-lower zone today text =
     ap₂ (λ (n : ℕ) (ts : List Token). steps zone today n (first_draft today.shown) ts) (lower-length text) (tokens-lower text)
-    ∙ steps-same str_to_ascii_lowercase in_lower_case zone today (length text) (tokens text)
+    ∙ steps-same str_to_ascii_lowercase in_lower_case zone today (length text) (first_draft today.shown) (tokens text)
 
 guess-by-lower : (zone : Choices) (now : Now) (text : List ℕ) (shown : Option LocalTime) → guess_by zone now (lower text) shown ≡ guess_by zone now text shown
 guess-by-lower zone now text None = refl

@@ -1,25 +1,27 @@
--- Texts that say the same: their words may be spelled otherwise, and a line feed and more may follow.
-use Rattle.std.proofs.Common.{◌≡◌, ◌∙◌, ◌+◌, ℕ, ℤ, Bool, true, false, cond, List, [], ◌∷◌, length, refl, ap, sym, subst, arith, length-append, Option, Some, None, option_map, Result, Ok, Err}
-use Rattle.std.proofs.Math.Bool.{and-false}
-use Rattle.std.proofs.lemmas.Bool.{and_from, or_parts}
-use Rattle.std.specs.Prelude.{◌==◌, ◌&&◌}
-use Rattle.gix_date.specs.Text.Characters.{newline, space, plus, minus, colon, at_sign}
+-- Texts that say the same: their words may be spelled otherwise, and a line feed and more may follow. What letters and digits say of the
+-- tokens they say of the changed ones: what is left is changed too, and places are farther from the end.
+use Rattle.std.proofs.Common.{◌≡◌, ◌∙◌, ◌+◌, ℕ, Bool, true, false, cond, List, [], ◌∷◌, length, refl, ap, arith, length-append, Option, Some, None, option_map, Result, Ok, Err}
+use Rattle.std.specs.Prelude.{is_some, ok_or, codes, ◌==◌, ◌&&◌, ◌||◌, ◌/◌, ◌%◌}
+use Rattle.std.specs.Option.{option_or, option_map_or}
+use Rattle.std.proofs.lemmas.Bool.Decides.{nat_tests}
+use Rattle.gix_date.specs.Text.Characters.{newline, colon, dot}
 use Rattle.gix_date.specs.Text.Front.{◌>>=◌}
-use Rattle.git_date.specs.Tokens.Tokens.{Token, Letters, Digits, Mark, texts, bytes_left}
-use Rattle.git_date.specs.Tokens.Numbers.{number}
-use Rattle.git_date.specs.Rules.Groups.{ReadTokens}
-use Rattle.git_date.specs.Rules.Offsets.{is_white, without_white, white, padded_number, ends, wide_minutes, by_sign, at_text}
-use Rattle.git_date.specs.Exact.Reading.{steps}
-use Rattle.git_date.specs.Types.Names.{Now}
-use Rattle.git_date.specs.Types.Names.{Fault}
+use Rattle.gix_date.specs.Text.Names.{is_name}
+use Rattle.gix_date.specs.Fields.Layout.{LocalTime}
+use Rattle.git_date.specs.Types.Names.{Dated, Fault, Fields, Group, Now, Number, Reading}
+use Rattle.git_date.specs.Types.DatedCases as dated
 use Rattle.git_date.specs.Types.FaultCases.{NumberTooLarge, BackTooFar, YearRefused, Range}
-use Rattle.git_date.specs.Types.Names.{Padded}
-use Rattle.git_date.specs.Types.Names.{Reading}
-use Rattle.git_date.proofs.Rules.Kept.{white-left}
-use Rattle.git_date_laws.proofs.Alike.Spelling.{IsSpelling, words-agree}
-use Rattle.git_date_laws.proofs.Walks.Respects.{Readings, Comes, ComesTo, FailsAt, Begin, NoMore, LineNext, SameWords, SameDigits, SameMark, Faults, TooLarge, TooFar, Year, NoInstant, Places, NoPlace, Place, SameReading, Paddeds, NoPadded, SamePadded, Whites, after_three, Respects, number-respects, steps-respects, or-left, or-right}
-use Rattle.git_date_laws.specs.Texts.Lines.{are_white, awaits_minutes, awaits_offset, end_before_minutes}
-use Rattle.git_date.specs.Rules.Offsets.{is_sign}
+use Rattle.git_date.specs.Tokens.Numbers.{number, is_too_large}
+use Rattle.git_date.specs.Tokens.Steps.{and_then}
+use Rattle.git_date.specs.Tokens.Tokens.{Token, Letters, Digits, Mark, texts, bytes_left}
+use Rattle.git_date.specs.Rules.Clocks.{utc_clock}
+use Rattle.git_date.specs.Rules.Dates.{year_date}
+use Rattle.git_date.specs.Rules.Digits.{Stepped, is_epoch, with_epoch, by_date, bare_digits, unless_large, grouped, group_said, group_or_bare, digits_rule}
+use Rattle.git_date.specs.Rules.Fields.{with_clock, knows_date}
+use Rattle.git_date.specs.Rules.Groups.{ReadTokens, number_at, marked_number, is_group_mark, third_or_none, group_of, day_month_group, group_rule, large_number, large_in, without_fraction, after_group}
+use Rattle.git_date.specs.Rules.Words.{with_word, letters_rule, without_ending, is_ending}
+use Rattle.git_date.specs.Exact.Reading.{ended}
+use Rattle.git_date_laws.proofs.Alike.Spelling.{IsSpelling, ending-agrees, word-agrees}
 
 -- what follows the tokens: nothing, or a line feed and others
 abbrev pub after : Option (List Token) → List Token
@@ -47,233 +49,261 @@ abbrev pub read_farther : ℕ → Result Reading Fault → Result Reading Fault
 read_farther k (Ok r) = Ok (farther k r)
 read_farther k (Err e) = Err (farther_fault k e)
 
--- what minutes need: the white space is followed by something, or nothing follows the tokens
-abbrev HasMinutes : Option (List Token) → List Token → Type 0
-HasMinutes None ts = Unit {0}
-HasMinutes (Some lines) ts = are_white ts ≡ false
-
-abbrev pub IsClosed : Option (List Token) → List Token → Type 0
-IsClosed None ts = Unit {0}
-IsClosed (Some lines) ts = end_before_minutes ts ≡ false
-
-abbrev pub IsClosedAt : Option (List Token) → List Token → Type 0
-IsClosedAt None ts = Unit {0}
-IsClosedAt (Some lines) ts = awaits_offset ts ≡ false
+-- what a group says, and what stands after it
+abbrev pub SaidGroup : Type 0
+SaidGroup = Result (Option (Fields × List Token)) Fault
 
 -- tests
-by-true : {A B : Type 0} (m : A → B) (b : Bool) (x y : A) (p q : B) → (b ≡ true → p ≡ m x) → q ≡ m y → cond b p q ≡ m (cond b x y)
+pub by-true : {A B : Type 0} (m : A → B) (b : Bool) (x y : A) (p q : B) → (b ≡ true → p ≡ m x) → q ≡ m y → cond b p q ≡ m (cond b x y)
 by-true m true x y p q e f = e refl
 by-true m false x y p q e f = f
 
-and-second : (a b : Bool) → a ≡ true → (a && b) ≡ false → b ≡ false
-and-second true b e h = h
-and-second false b e h = absurd cc
+-- the first of two places
+pub first-farther : (k : ℕ) (a b : Option ℕ) → option_or (option_map (λ left. left + k) a) (option_map (λ left. left + k) b) ≡ option_map (λ left. left + k) (option_or a b)
+first-farther k None b = refl
+first-farther k (Some left) b = refl
 
-same-both : {A : Type 0} (b : Bool) (x : A) → cond b x x ≡ x
-same-both true x = refl
-same-both false x = refl
+-- where the tokens end: a line feed says what nothing says
+no-newline : (mark : ℕ) → is_group_mark mark ≡ true → (newline == mark) ≡ false
+no-newline mark h = grind (arith, nat_tests)
 
--- closed tokens
-closed-next : (stop : Option (List Token)) (t : Token) (more : List Token) → IsClosed stop (t ∷ more) → IsClosed stop more
-unfolding end_before_minutes
-closed-next None t more h = tt
-closed-next (Some lines) t more h = (or_parts (awaits_minutes (t ∷ more)) (end_before_minutes more) h).1
+group-end : (stop : Option (List Token)) (first : ℕ) → group_of first (after stop) ≡ None
+unfolding group_of marked_number
+group-end None first = refl
+group-end (Some (Digits run ∷ more)) first = refl
+group-end (Some ts) first = refl
 
-white-next : (stop : Option (List Token)) (t : Token) (more : List Token) → HasMinutes stop (t ∷ more) → is_white t ≡ true → HasMinutes stop more
-unfolding are_white
-white-next None t more h e = tt
-white-next (Some lines) t more h e = and-second (is_white t) (are_white more) e h
+group-mark-end : (stop : Option (List Token)) (first byte : ℕ) → group_of first (Mark byte ∷ after stop) ≡ None
+unfolding group_of marked_number
+group-mark-end None first byte = refl
+group-mark-end (Some lines) first byte = refl
 
-closed-first : (lines : List Token) (sign byte : ℕ) (run : List ℕ) (more : List Token) → IsClosed (Some lines) (Mark sign ∷ Digits run ∷ Mark byte ∷ more)
-    → is_sign sign ≡ true → (length run == 2) ≡ true → (byte == colon) ≡ true → are_white more ≡ false
-unfolding end_before_minutes
-closed-first lines sign byte run more h s two e =
-    and-second (is_sign sign && length run == 2 && byte == colon) (are_white more)
-    (and_from (is_sign sign && length run == 2) (byte == colon) (and_from (is_sign sign) (length run == 2) s two) e)
-    (or_parts (awaits_minutes (Mark sign ∷ Digits run ∷ Mark byte ∷ more)) (end_before_minutes (Digits run ∷ Mark byte ∷ more)) h).0
+abbrev group_by : ℕ → ℕ → Number → Option Number → Group
+group_by mark first second third = record { mark = mark; first = first; second = second; third = third }
 
-closed-minutes : (stop : Option (List Token)) (sign byte : ℕ) (run : List ℕ) (more : List Token) → IsClosed stop (Mark sign ∷ Digits run ∷ Mark byte ∷ more)
-    → is_sign sign ≡ true → (length run == 2) ≡ true → (byte == colon) ≡ true → HasMinutes stop more
-closed-minutes None sign byte run more h s two e = tt
-closed-minutes (Some lines) sign byte run more h s two e = closed-first lines sign byte run more h s two e
+third-end : (stop : Option (List Token)) (mark first : ℕ) (second : Number) → (newline == mark) ≡ false
+    → third_or_none mark first second (after stop) (marked_number (after stop)) ≡ (group_by mark first second None, after stop)
+unfolding marked_number
+third-end None mark first second e = refl
+third-end (Some (Digits run ∷ more)) mark first second e = rw e refl
+third-end (Some ts) mark first second e = refl
 
-closed-at : (stop : Option (List Token)) (at : ℕ) (run : List ℕ) (gap sign : ℕ) (more : List Token) → IsClosedAt stop (Mark at ∷ Digits run ∷ Mark gap ∷ Mark sign ∷ more)
-    → (at == at_sign && gap == space) ≡ true → is_sign sign ≡ true → HasMinutes stop more
-closed-at None at run gap sign more h e s = tt
-closed-at (Some lines) at run gap sign more h e s =
-    and-second (at == at_sign && gap == space && is_sign sign) (are_white more) (and_from (at == at_sign && gap == space) (is_sign sign) e s) h
+third-mark-end : (stop : Option (List Token)) (mark first : ℕ) (second : Number) (byte : ℕ)
+    → third_or_none mark first second (Mark byte ∷ after stop) (marked_number (Mark byte ∷ after stop)) ≡ (group_by mark first second None, Mark byte ∷ after stop)
+unfolding marked_number
+third-mark-end None mark first second byte = refl
+third-mark-end (Some lines) mark first second byte = refl
 
--- the rules where the tokens end: a line feed says what nothing says
-white-after : (stop : Option (List Token)) → HasMinutes stop [] → white (after stop) ≡ 0
-unfolding white are_white
-white-after None h = refl
-white-after (Some lines) h = absurd cc
+fraction-end : (stop : Option (List Token)) → without_fraction (after stop) ≡ after stop
+unfolding without_fraction
+fraction-end None = refl
+fraction-end (Some (Digits run ∷ more)) = refl
+fraction-end (Some ts) = refl
 
-rest-after : (stop : Option (List Token)) → HasMinutes stop [] → without_white (after stop) ≡ after stop
-unfolding without_white are_white
-rest-after None h = refl
-rest-after (Some lines) h = absurd cc
+fraction-mark-end : (stop : Option (List Token)) (byte : ℕ) → without_fraction (Mark byte ∷ after stop) ≡ Mark byte ∷ after stop
+unfolding without_fraction
+fraction-mark-end None byte = refl
+fraction-mark-end (Some lines) byte = refl
 
-ends-end : (stop : Option (List Token)) → ends (after stop) ≡ true
-ends-end None = refl
-ends-end (Some lines) = refl
+ending-end : (stop : Option (List Token)) → without_ending (after stop) ≡ after stop
+unfolding without_ending
+ending-end None = refl
+ending-end (Some lines) = refl
 
-at-line : (lines : List Token) → at_text (Mark newline ∷ lines) ≡ None
-unfolding at_text
-at-line (Digits run ∷ Mark gap ∷ Letters other ∷ more) = refl
-at-line ts = refl
+word-end : (stop : Option (List Token)) (run : List ℕ) → without_ending (Letters run ∷ after stop) ≡ cond (is_ending run) (after stop) (Letters run ∷ after stop)
+unfolding without_ending
+word-end None run = refl
+word-end (Some lines) run = refl
 
-at-end : (stop : Option (List Token)) → at_text (after stop) ≡ None
-unfolding at_text
-at-end None = refl
-at-end (Some lines) = at-line lines
+letters-end : (stop : Option (List Token)) (f : Fields) (run : List ℕ) → letters_rule f run (after stop) ≡ with_word f run
+unfolding letters_rule
+letters-end None f run = refl
+letters-end (Some lines) f run = refl
 
-at-mark-end : (at : ℕ) (stop : Option (List Token)) → at_text (Mark at ∷ after stop) ≡ None
-unfolding at_text
-at-mark-end at None = refl
-at-mark-end at (Some lines) = refl
+module _ (spell : List ℕ → List ℕ) (same : IsSpelling spell) (stop : Option (List Token)) where
+  -- the same tokens, so changed, and how many bytes follow them
+  abbrev φ : List Token → List Token
+  φ ts = changed spell stop ts
 
-at-digits-end : (at : ℕ) (run : List ℕ) (stop : Option (List Token)) → at_text (Mark at ∷ Digits run ∷ after stop) ≡ None
-unfolding at_text
-at-digits-end at run (Some (Mark sign ∷ more)) = rw (and-false (at == at_sign))
-at-digits-end at run ts = refl
+  abbrev k : ℕ
+  k = bytes_left (after stop)
 
-at-gap-end : (at gap : ℕ) (run : List ℕ) (stop : Option (List Token)) → at_text (Mark at ∷ Digits run ∷ Mark gap ∷ after stop) ≡ None
-unfolding at_text
-at-gap-end at gap run None = refl
-at-gap-end at gap run (Some lines) = same-both (at == at_sign && gap == space) None
+  pub left-is : (ts : List Token) → bytes_left (φ ts) ≡ bytes_left ts + k
+  left-is [] = omega arith
+  left-is (Letters run ∷ more) = omega (arith, length-append (spell run) (texts (φ more)), length-append run (texts more), same.sized run, left-is more)
+  left-is (Digits run ∷ more) = omega (arith, length-append run (texts (φ more)), length-append run (texts more), left-is more)
+  left-is (Mark byte ∷ more) = omega (arith, left-is more)
 
--- what is read farther from the end
-pub fault-is : (k : ℕ) (a b : Fault) → Faults (λ left other. other ≡ left + k) a b → b ≡ farther_fault k a
-fault-is k a b (TooLarge left other p) = ap NumberTooLarge p
-fault-is k a b (TooFar left other p) = ap BackTooFar p
-fault-is k a b (Year left other p) = ap YearRefused p
-fault-is k a b NoInstant = refl
+  -- what is made of the changed tokens
+  abbrev far : Number → Number
+  far n = record n { left = n.left + k }
 
-farther-places : (k : ℕ) (i : Option ℕ) → Places (λ left other. other ≡ left + k) i (option_map (λ left. left + k) i)
-farther-places k None = NoPlace
-farther-places k (Some left) = Place left (left + k) refl
+  abbrev far_group : Group → Group
+  far_group g = record g { second = far g.second; third = option_map far g.third }
 
-place-is : (k : ℕ) (i j : Option ℕ) → Places (λ left other. other ≡ left + k) i j → j ≡ option_map (λ left. left + k) i
-place-is k i j NoPlace = refl
-place-is k i j (Place left other p) = ap (λ (left : ℕ). Some left) p
+  abbrev moved_group : Group × List Token → Group × List Token
+  moved_group found = (far_group found.0, φ found.1)
 
-read-is : (k : ℕ) (x y : Result Reading Fault) → Comes (Readings (λ left other. other ≡ left + k)) (λ left other. other ≡ left + k) x y → y ≡ read_farther k x
-read-is k x y (ComesTo r s (SameReading f i j p)) = ap (λ (i : Option ℕ). Ok (record { fields = f; ignored = i })) (place-is k i j p)
-read-is k x y (FailsAt a b faults) = ap (λ (e : Fault). Err e) (fault-is k a b faults)
+  abbrev pub moved : {A : Type 0} → Result (A × List Token) Fault → Result (A × List Token) Fault
+  moved (Ok found) = Ok (found.0, φ found.1)
+  moved (Err e) = Err (farther_fault k e)
 
-module _ (spell : List ℕ → List ℕ) (same : IsSpelling spell) where
-  module _ (stop : Option (List Token)) where
-    -- the same tokens, so changed, and how many bytes follow them
-    abbrev φ : List Token → List Token
-    φ ts = changed spell stop ts
+  abbrev pub moved_said : SaidGroup → SaidGroup
+  moved_said (Ok (Some found)) = Ok (Some (found.0, φ found.1))
+  moved_said (Ok None) = Ok None
+  moved_said (Err e) = Err (farther_fault k e)
 
-    abbrev k : ℕ
-    k = bytes_left (after stop)
+  -- groups
+  number-is : (run : List ℕ) (more : List Token) → number_at run (φ more) ≡ far (number_at run more)
+  number-is run more = ap (λ (left : ℕ). let n : Number = record { value = number run; left = left } in n) (left-is (Digits run ∷ more))
 
-    left-is : (ts : List Token) → bytes_left (φ ts) ≡ bytes_left ts + k
-    left-is [] = omega arith
-    left-is (Letters run ∷ more) = omega (arith, length-append (spell run) (texts (φ more)), length-append run (texts more), same.sized run, left-is more)
-    left-is (Digits run ∷ more) = omega (arith, length-append run (texts (φ more)), length-append run (texts more), left-is more)
-    left-is (Mark byte ∷ more) = omega (arith, left-is more)
+  third-is : (mark first : ℕ) (second : Number) (ts : List Token) → is_group_mark mark ≡ true
+      → third_or_none mark first (far second) (φ ts) (marked_number (φ ts)) ≡ moved_group (third_or_none mark first second ts (marked_number ts))
+  unfolding marked_number
+  third-is mark first second [] h = third-end stop mark first (far second) (no-newline mark h)
+  third-is mark first second (Letters run ∷ more) h = refl
+  third-is mark first second (Digits run ∷ more) h = refl
+  third-is mark first second (Mark byte ∷ []) h = third-mark-end stop mark first (far second) byte
+  third-is mark first second (Mark byte ∷ Letters run ∷ more) h = refl
+  third-is mark first second (Mark byte ∷ Mark other ∷ more) h = refl
+  third-is mark first second (Mark byte ∷ Digits run ∷ more) h =
+      by-true moved_group (byte == mark) _ _ _ _ (λ e. ap (λ (n : Number). (group_by mark first (far second) (Some n), φ more)) (number-is run more)) refl
 
-    -- white space, and a number after it
-    whites-are : (ts : List Token) → HasMinutes stop ts → (white (φ ts) ≡ white ts) × (without_white (φ ts) ≡ φ (without_white ts))
-    unfolding white without_white
-    whites-are [] h = (white-after stop h, rest-after stop h)
-    whites-are (Letters run ∷ more) h = (refl, refl)
-    whites-are (Digits run ∷ more) h = (refl, refl)
-    whites-are (Mark byte ∷ more) h = (
-      by-true (λ (n : ℕ). n) (is_white (Mark byte)) (1 + white more) 0 (1 + white (φ more)) 0
-          (λ e. ap (λ n. 1 + n) (whites-are more (white-next stop (Mark byte) more h e)).0) refl,
-      by-true φ (is_white (Mark byte)) (without_white more) (Mark byte ∷ more) (without_white (φ more)) (Mark byte ∷ φ more)
-          (λ e. (whites-are more (white-next stop (Mark byte) more h e)).1) refl,
-    )
+  group-is : (first : ℕ) (ts : List Token) → group_of first (φ ts) ≡ option_map moved_group (group_of first ts)
+  unfolding group_of marked_number
+  group-is first [] = group-end stop first
+  group-is first (Letters run ∷ more) = refl
+  group-is first (Digits run ∷ more) = refl
+  group-is first (Mark byte ∷ []) = group-mark-end stop first byte
+  group-is first (Mark byte ∷ Letters run ∷ more) = refl
+  group-is first (Mark byte ∷ Mark other ∷ more) = refl
+  group-is first (Mark byte ∷ Digits run ∷ more) =
+      by-true (option_map moved_group) (is_group_mark byte) _ _ _ _
+      (λ e. ap Some (ap (λ (n : Number). third_or_none byte first n (φ more) (marked_number (φ more))) (number-is run more) ∙ third-is byte first (number_at run more) more e)) refl
 
-    -- the rules respect them
-    abbrev pub Closed : List Token → List Token → Type 0
-    Closed ts us = (us ≡ φ ts) × IsClosed stop ts
+  rule-same : (now : Now) (f : Fields) (g : Group) → group_rule now f (far_group g) ≡ group_rule now f g
+  unfolding group_rule day_month_group
+  rule-same now f g = by g.third
+    where
+      by : (third : Option Number) → group_rule now f (group_by g.mark g.first (far g.second) (option_map far third)) ≡ group_rule now f (group_by g.mark g.first g.second third)
+      by None = refl
+      by (Some n) = refl
 
-    abbrev pub Farther : ℕ → ℕ → Type 0
-    Farther left other = other ≡ left + k
+  large-is : (n : Number) → large_number (far n) ≡ option_map (λ left. left + k) (large_number n)
+  large-is n = by-true (option_map (λ left. left + k)) (is_too_large n.value) (Some n.left) None _ _ (λ e. refl) refl
 
-    begin-after : (R : List Token → List Token → Type 0) (P : ℕ → ℕ → Type 0) (stop : Option (List Token)) → Begin R P [] (after stop)
-    begin-after R P None = NoMore
-    begin-after R P (Some lines) = LineNext lines
+  third-large : (third : Option Number) → (option_map far third >>= large_number) ≡ option_map (λ left. left + k) (third >>= large_number)
+  third-large None = refl
+  third-large (Some n) = large-is n
 
-    begin-by : (R : List Token → List Token → Type 0) (ts : List Token) → ((t : Token) (more : List Token) → ts ≡ t ∷ more → R more (φ more)) → Begin R Farther ts (φ ts)
-    begin-by R [] r = begin-after R Farther stop
-    begin-by R (Letters run ∷ more) r = SameWords run (spell run) more (φ more) (words-agree spell same run) (r (Letters run) more refl) (left-is (Letters run ∷ more))
-    begin-by R (Digits run ∷ more) r = SameDigits run more (φ more) (r (Digits run) more refl) (left-is (Digits run ∷ more))
-    begin-by R (Mark byte ∷ more) r = SameMark byte more (φ more) (r (Mark byte) more refl) (λ below. left-is (Mark byte ∷ more))
+  unless-is : (g : Group) (said : SaidGroup) → unless_large (far_group g) (moved_said said) ≡ moved_said (unless_large g said)
+  unless-is g said =
+      ap (λ (large : Option ℕ). option_map_or (λ left. Err (NumberTooLarge left)) large (moved_said said))
+      ((λ i. option_or (large-is g.second i) (third-large g.third i)) ∙ first-farther k (large_number g.second) (g.third >>= large_number))
+      ∙ by (large_in g)
+    where
+      by : (large : Option ℕ) → option_map_or (λ left. Err (NumberTooLarge left)) (option_map (λ left. left + k) large) (moved_said said)
+          ≡ moved_said (option_map_or (λ left. Err (NumberTooLarge left)) large said)
+      by None = refl
+      by (Some left) = refl
 
-    closed-rest : (ts : List Token) → IsClosed stop ts → (t : Token) (more : List Token) → ts ≡ t ∷ more → Closed more (φ more)
-    closed-rest ts h t more e = (refl, closed-next stop t more (subst (IsClosed stop) e h))
+  fraction-is : (ts : List Token) → without_fraction (φ ts) ≡ φ (without_fraction ts)
+  unfolding without_fraction
+  fraction-is [] = fraction-end stop
+  fraction-is (Letters run ∷ more) = refl
+  fraction-is (Digits run ∷ more) = refl
+  fraction-is (Mark byte ∷ []) = fraction-mark-end stop byte
+  fraction-is (Mark byte ∷ Letters run ∷ more) = refl
+  fraction-is (Mark byte ∷ Mark other ∷ more) = refl
+  fraction-is (Mark byte ∷ Digits run ∷ more) = by-true φ (byte == dot) _ _ _ _ (λ e. refl) refl
 
-    pub begin-closed : (ts us : List Token) → Closed ts us → Begin Closed Farther ts us
-    begin-closed ts us r = subst (Begin Closed Farther ts) (sym r.0) (begin-by Closed ts (closed-rest ts r.1))
+  after-is : (f : Fields) (g : Group) (more : List Token) → after_group f (far_group g) (φ more) ≡ φ (after_group f g more)
+  after-is f g more = by-true φ (g.mark == colon && knows_date f) _ _ _ _ (λ e. fraction-is more) refl
 
-    closed-whites : (more rest : List Token) → rest ≡ φ more → IsClosed stop more → HasMinutes stop more → Whites Closed more rest
-    closed-whites more rest e c h = (sym (ap white e ∙ (whites-are more h).0), (ap without_white e ∙ (whites-are more h).1, white-left (IsClosed stop) (closed-next stop) more c))
+  grouped-is : (left : ℕ) (g : Group) (more : List Token) (d : Dated) → grouped (left + k) (far_group g) (φ more) d ≡ moved_said (grouped left g more d)
+  grouped-is left g more (dated.Taken f) =
+      ap (λ (rest : List Token). unless_large (far_group g) (Ok (Some (f, rest)))) (after-is f g more) ∙ unless-is g (Ok (Some (f, after_group f g more)))
+  grouped-is left g more dated.Refused = refl
+  grouped-is left g more dated.YearRefused = unless-is g (Err (YearRefused left))
 
-    respected : Respects Closed Closed Farther
-    respected = record {
-      begin = begin-closed;
-      also = λ ts us r. r;
-      minutes = λ sign byte run more rest q s two e.
-          closed-whites more rest (ap after_three q.0)
-          (closed-next stop (Mark byte) more (closed-next stop (Digits run) (Mark byte ∷ more) (closed-next stop (Mark sign) (Digits run ∷ Mark byte ∷ more) q.1)))
-          (closed-minutes stop sign byte run more q.1 s two e);
-    }
+  pub said-is : (now : Now) (f : Fields) (run : List ℕ) (more : List Token) → group_said now f run (φ more) ≡ moved_said (group_said now f run more)
+  unfolding group_said
+  said-is now f run more =
+      (λ i. option_map_or (λ (found : Group × List Token). grouped (left-is (Digits run ∷ more) i) found.0 found.1 (group_rule now f found.0)) (group-is (number run) more i) (Ok None))
+      ∙ by (group_of (number run) more)
+    where
+      by : (found : ReadTokens Group)
+          → option_map_or (λ (found : Group × List Token). grouped (bytes_left (Digits run ∷ more) + k) found.0 found.1 (group_rule now f found.0)) (option_map moved_group found) (Ok None)
+          ≡ moved_said (option_map_or (λ (found : Group × List Token). grouped (bytes_left (Digits run ∷ more)) found.0 found.1 (group_rule now f found.0)) found (Ok None))
+      by None = refl
+      by (Some found) =
+          ap (grouped (bytes_left (Digits run ∷ more) + k) (far_group found.0) (φ found.1)) (rule-same now f found.0)
+          ∙ grouped-is (bytes_left (Digits run ∷ more)) found.0 found.1 (group_rule now f found.0)
 
-    pub steps-is : (now : Now) (n : ℕ) (r : Reading) (ts : List Token) → IsClosed stop ts → steps now n (farther k r) (φ ts) ≡ read_farther k (steps now n r ts)
-    steps-is now n r ts h =
-        read-is k (steps now n r ts) (steps now n (farther k r) (φ ts))
-        (steps-respects Closed Closed Farther respected now n r (farther k r) ts (φ ts)
-        (SameReading r.fields r.ignored (option_map (λ left. left + k) r.ignored) (farther-places k r.ignored)) (refl, h))
+  -- endings
+  word-ended : (run : List ℕ) (more : List Token) → cond (is_ending (spell run)) (φ more) (Letters (spell run) ∷ φ more) ≡ φ (cond (is_ending run) more (Letters run ∷ more))
+  word-ended run more =
+      ap (λ (b : Bool). cond b (φ more) (Letters (spell run) ∷ φ more)) (ending-agrees spell same run)
+      ∙ by-true φ (is_ending run) more (Letters run ∷ more) _ _ (λ e. refl) refl
 
-    -- `@`
-    ends-are : (ts : List Token) → ends (φ ts) ≡ ends ts
-    ends-are [] = ends-end stop
-    ends-are (Letters run ∷ more) = refl
-    ends-are ts = refl
+  pub ending-is : (ts : List Token) → without_ending (φ ts) ≡ φ (without_ending ts)
+  unfolding without_ending
+  ending-is [] = ending-end stop
+  ending-is (Letters run ∷ []) = word-end stop (spell run) ∙ word-ended run []
+  ending-is (Letters run ∷ Letters other ∷ more) = word-ended run (Letters other ∷ more)
+  ending-is (Letters run ∷ Mark byte ∷ more) = word-ended run (Mark byte ∷ more)
+  ending-is (Letters run ∷ Digits next ∷ more) =
+      ap (λ (b : Bool). cond b (Digits next ∷ φ more) (Letters (spell run) ∷ Digits next ∷ φ more)) (same.named run (codes "T"))
+      ∙ by-true φ (is_name run (codes "T")) (Digits next ∷ more) (Letters run ∷ Digits next ∷ more) _ _ (λ e. refl) refl
+  ending-is (Digits run ∷ more) = refl
+  ending-is (Mark byte ∷ more) = refl
 
-    abbrev Plain : List Token → List Token → Type 0
-    Plain ts us = us ≡ φ ts
+  pub ended-is : {A : Type 0} (x : Result (A × List Token) Fault) → ended (moved x) ≡ moved (ended x)
+  ended-is (Ok found) = ap (λ (rest : List Token). Ok (found.0, rest)) (ending-is found.1)
+  ended-is (Err e) = refl
 
-    begin-plain : (ts us : List Token) → Plain ts us → Begin Plain Farther ts us
-    begin-plain ts us r = subst (Begin Plain Farther ts) (sym r) (begin-by Plain ts (λ t more e. refl))
+  -- letters
+  pub letters-is : (f : Fields) (run : List ℕ) (more : List Token) → letters_rule f (spell run) (φ more) ≡ letters_rule f run more
+  unfolding letters_rule
+  letters-is f run [] = letters-end stop f (spell run) ∙ word-agrees spell same f run
+  letters-is f run (Letters other ∷ more) = word-agrees spell same f run
+  letters-is f run (Digits next ∷ more) = refl
+  letters-is f run (Mark byte ∷ more) = word-agrees spell same f run
 
-    wide-is : (behind : Bool) (a b : ReadTokens Padded) → Paddeds Plain Farther a b
-        → (b >>= (λ (found : Padded × List Token). wide_minutes behind found.0 found.1)) ≡ (a >>= (λ (found : Padded × List Token). wide_minutes behind found.0 found.1))
-    wide-is behind a b NoPadded = refl
-    wide-is behind a b (SamePadded negative value width left other more rest p r) = let same : ends rest ≡ ends more = ap ends r ∙ ends-are more in rw same refl
+  -- digits
+  date-is : (run : List ℕ) (more : List Token) (d : Dated) → by_date run (φ more) d ≡ moved (by_date run more d)
+  date-is run more (dated.Taken f) = refl
+  date-is run more dated.Refused = refl
+  date-is run more dated.YearRefused = ap (λ (left : ℕ). Err (YearRefused left)) (left-is (Digits run ∷ more))
 
-    wide-after-is : (behind : Bool) (ts : List Token) → HasMinutes stop ts
-        → (padded_number (φ ts) >>= (λ (found : Padded × List Token). wide_minutes behind found.0 found.1))
-        ≡ (padded_number ts >>= (λ (found : Padded × List Token). wide_minutes behind found.0 found.1))
-    wide-after-is behind ts h =
-        wide-is behind (padded_number ts) (padded_number (φ ts)) (number-respects Plain Farther begin-plain ts (φ ts) (sym (whites-are ts h).0, (whites-are ts h).1))
+  clock-is : (more : List Token) (found : Option Fields)
+      → ◌≡◌ {A = Stepped} (Ok (found, cond (is_some found) (without_fraction (φ more)) (φ more))) (moved (Ok (found, cond (is_some found) (without_fraction more) more)))
+  clock-is more None = refl
+  clock-is more (Some f) = ap (λ (rest : List Token). Ok (Some f, rest)) (fraction-is more)
 
-    by-sign-is : (sign : ℕ) (ts : List Token) → (is_sign sign ≡ true → HasMinutes stop ts) → by_sign sign (φ ts) ≡ by_sign sign ts
-    by-sign-is sign ts h =
-        by-true (λ (said : Option ℤ). said) (sign == plus) _ _ _ _ (λ e. wide-after-is false ts (h (or-left (sign == plus) (sign == minus) e)))
-        (by-true (λ (said : Option ℤ). said) (sign == minus) _ _ _ _ (λ e. wide-after-is true ts (h (or-right (sign == plus) (sign == minus) e))) refl)
+  bare-is : (f : Fields) (run : List ℕ) (more : List Token) → bare_digits f run (φ more) ≡ moved (bare_digits f run more)
+  unfolding bare_digits
+  bare-is f run more =
+      let n = number run in
+      by-true moved (length run == 8) _ _ _ _ (λ e. date-is run more (year_date f (n / 10_000) (n / 100 % 100) (n % 100)))
+      (by-true moved (length run == 6) _ _ _ _ (λ e. clock-is more (with_clock f (n / 10_000) (n / 100 % 100) (n % 100)))
+      (by-true moved (length run == 4) _ _ _ _ (λ e. refl) (by-true moved (length run == 1 || length run == 2) _ _ _ _ (λ e. refl) refl)))
 
-    pub at-is : (ts : List Token) → IsClosedAt stop ts → at_text (φ ts) ≡ at_text ts
-    unfolding at_text
-    at-is [] h = at-end stop
-    at-is (Letters run ∷ more) h = refl
-    at-is (Digits run ∷ more) h = refl
-    at-is (Mark at ∷ []) h = at-mark-end at stop
-    at-is (Mark at ∷ Letters run ∷ more) h = refl
-    at-is (Mark at ∷ Mark byte ∷ more) h = refl
-    at-is (Mark at ∷ Digits run ∷ []) h = at-digits-end at run stop
-    at-is (Mark at ∷ Digits run ∷ Letters other ∷ more) h = refl
-    at-is (Mark at ∷ Digits run ∷ Digits other ∷ more) h = refl
-    at-is (Mark at ∷ Digits run ∷ Mark gap ∷ []) h = at-gap-end at gap run stop
-    at-is (Mark at ∷ Digits run ∷ Mark gap ∷ Letters other ∷ more) h = refl
-    at-is (Mark at ∷ Digits run ∷ Mark gap ∷ Digits other ∷ more) h = refl
-    at-is (Mark at ∷ Digits run ∷ Mark gap ∷ Mark sign ∷ more) h =
-        by-true (λ (said : Option (ℕ × ℤ)). said) (at == at_sign && gap == space) _ _ _ _
-        (λ e. ap (option_map (λ minutes. (number run, minutes))) (by-sign-is sign more (λ s. closed-at stop at run gap sign more h e s))) refl
+  epoch-is : (f : Fields) (more : List Token) (shown : Option LocalTime) → ok_or (option_map (λ shown. (Some (with_epoch f shown), φ more)) shown) Range
+      ≡ moved (ok_or (option_map (λ shown. (Some (with_epoch f shown), more)) shown) Range)
+  epoch-is f more None = refl
+  epoch-is f more (Some shown) = refl
+
+  or-bare-is : (f : Fields) (run : List ℕ) (more : List Token) (said : SaidGroup)
+      → and_then (moved_said said) (group_or_bare f run (φ more)) ≡ moved (and_then said (group_or_bare f run more))
+  or-bare-is f run more (Ok None) = bare-is f run more
+  or-bare-is f run more (Ok (Some found)) = refl
+  or-bare-is f run more (Err e) = refl
+
+  pub digits-is : (now : Now) (f : Fields) (run : List ℕ) (more : List Token) → digits_rule now f run (φ more) ≡ moved (digits_rule now f run more)
+  unfolding digits_rule
+  digits-is now f run more =
+      by-true moved (is_epoch f (number run)) _ _ _ _ (λ e. epoch-is f more (utc_clock (number run)))
+      (by-true moved (is_too_large (number run)) _ _ _ _ (λ e. ap (λ (left : ℕ). Err (NumberTooLarge left)) (left-is (Digits run ∷ more)))
+      (ap (λ (said : SaidGroup). and_then said (group_or_bare f run (φ more))) (said-is now f run more)
+      ∙ or-bare-is f run more (group_said now f run more)))

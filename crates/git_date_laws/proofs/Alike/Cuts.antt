@@ -9,11 +9,11 @@ use Rattle.std.proofs.lemmas.List.{length-map, take-append-le, take-map}
 use Rattle.git_date.specs.Approximate.Reading.{answer_up_to, string_guess, guess}
 use Rattle.git_date.specs.Approximate.Zones.{Choices}
 use Rattle.git_date.specs.Exact.Reading.{said_up_to, string_said, said_by}
-use Rattle.git_date.specs.Tokens.Strings.{nul, string_len, before_nul, nul_place}
+use Rattle.git_date.specs.Tokens.Strings.{string_len, before_nul, nul_place}
 use Rattle.git_date.specs.Types.Names.{Now, Said}
 use Rattle.git_date.specs.declared.approximate.answer.Approximate.{Approximate}
 use Rattle.git_date.specs.declared.error.DateError.{DateError}
-use Rattle.git_date.proofs.Text.StringEnds.{within, first_len, same-len, longer-len, nul-len, no-place, some-place, all-before, all-said, all-answered}
+use Rattle.git_date.proofs.Text.StringEnds.{within, first_len, same-len, longer-len, no-place, some-place, all-before, all-said}
 
 len-lower : (text : List ℕ) → string_len (str_to_ascii_lowercase text) ≡ string_len text
 len-lower [] = refl
@@ -58,20 +58,6 @@ module _ (A : Type 0) (up : Option ℕ → A → A) (of : List ℕ → A) (first
   whole : (text : List ℕ) → string_len text ≡ length text → cut text ≡ of text
   whole text e = (λ i. up (no-place text e i) (of (all-before text e i))) ∙ none (of text)
 
-  pub at-nul : (text rest : List ℕ) → cut (text ++ nul ∷ rest) ≡ up (Some (length text)) (cut text)
-  at-nul text rest =
-      by-nul text _
-      (λ less. here ∙ sym (first (Some (length text)) (string_len text) (of (before_nul text))) ∙ ap (λ (place : Option ℕ). up (Some (length text)) (up place (of (before_nul text)))) (sym (some-place text less)))
-      (λ all. here ∙ (λ i. up (Some (all i)) (of (all-before text all i))) ∙ ap (up (Some (length text))) (sym (whole text all)))
-    where
-      shorter : string_len (text ++ nul ∷ rest) < length (text ++ nul ∷ rest)
-      shorter = omega (arith, within text, nul-len text rest, length-append text (nul ∷ rest))
-
-      here : cut (text ++ nul ∷ rest) ≡ up (Some (string_len text)) (of (before_nul text))
-      here =
-          (λ i. up (some-place (text ++ nul ∷ rest) shorter i) (of (same-before text (nul ∷ rest) (nul-len text rest) i)))
-          ∙ ap (λ (n : ℕ). up (Some n) (of (before_nul text))) (nul-len text rest)
-
   pub at-more : (text more : List ℕ) → (string_len text ≡ length text → of (text ++ before_nul more) ≡ of text)
       → cut (text ++ more) ≡ up (nul_place (text ++ more)) (cut text)
   at-more text more same =
@@ -94,23 +80,10 @@ first-said : (other : Option ℕ) (place : ℕ) (said : Result Said DateError) �
 first-said other place (Ok said) = ap (λ (ignored : Option ℕ). Ok (record said { ignored = ignored })) (first-or said.ignored other place)
 first-said other place (Err e) = refl
 
-first-answered : (other : Option ℕ) (place : ℕ) (found : Result Approximate DateError)
-    → answer_up_to other (answer_up_to (Some place) found) ≡ answer_up_to (Some place) found
-first-answered other place (Ok date) = ap (λ (ignored : Option ℕ). Ok (record date { ignored = ignored })) (first-or date.ignored other place)
-first-answered other place (Err e) = refl
-
-pub said-at-nul : (now : Now) (text rest : List ℕ) → said_by now (text ++ nul ∷ rest) ≡ said_up_to (Some (length text)) (said_by now text)
-unfolding said_by
-said-at-nul now text rest = at-nul (Result Said DateError) said_up_to (string_said now) first-said all-said text rest
-
 pub said-at-more : (now : Now) (text more : List ℕ) → (string_len text ≡ length text → string_said now (text ++ before_nul more) ≡ string_said now text)
     → said_by now (text ++ more) ≡ said_up_to (nul_place (text ++ more)) (said_by now text)
 unfolding said_by
 said-at-more now text more same = at-more (Result Said DateError) said_up_to (string_said now) first-said all-said text more same
-
-pub guess-at-nul : (zone : Choices) (now : Now) (text rest : List ℕ) → guess zone now (text ++ nul ∷ rest) ≡ answer_up_to (Some (length text)) (guess zone now text)
-unfolding guess
-guess-at-nul zone now text rest = at-nul (Result Approximate DateError) answer_up_to (string_guess zone now) first-answered all-answered text rest
 
 -- an answer up to a NUL, without what is ignored there
 pub record IsUpTo (place : Option ℕ) (found : Result Approximate DateError) (date : Approximate) : Type 0 where
@@ -118,18 +91,14 @@ pub record IsUpTo (place : Option ℕ) (found : Result Approximate DateError) (d
   pub is_found : found ≡ Ok before
   pub is : date ≡ record before { ignored = option_or before.ignored place }
 
-same-date : (a b : Approximate) → ◌≡◌ {A = Result Approximate DateError} (Ok a) (Ok b) → b ≡ a
-same-date a b e = cc
+pub same-ok : {A E : Type 0} (a b : A) → ◌≡◌ {A = Result A E} (Ok a) (Ok b) → a ≡ b
+same-ok a b e = cc
 
 up-to-parts : (place : Option ℕ) (found : Result Approximate DateError) (date : Approximate) → answer_up_to place found ≡ Ok date → IsUpTo place found date
-up-to-parts place (Ok before) date e = record { before = before; is_found = refl; is = same-date _ date e }
+up-to-parts place (Ok before) date e = record { before = before; is_found = refl; is = sym (same-ok _ date e) }
 up-to-parts place (Err wrong) date e = absurd cc
 
 pub answer-parts : (zone : Choices) (now : Now) (text : List ℕ) (date : Approximate) → guess zone now text ≡ Ok date
     → IsUpTo (nul_place text) (string_guess zone now (before_nul text)) date
 unfolding guess
 answer-parts zone now text date e = up-to-parts (nul_place text) (string_guess zone now (before_nul text)) date e
-
-pub refused-up-to : (now : Now) (text : List ℕ) (e : DateError) → string_said now (before_nul text) ≡ Err e → said_by now text ≡ Err e
-unfolding said_by
-refused-up-to now text e is = ap (said_up_to (nul_place text)) is

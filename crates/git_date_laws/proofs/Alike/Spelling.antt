@@ -1,5 +1,5 @@
 -- Words that may be spelled otherwise, as in letter case, and say the same.
-use Rattle.std.proofs.Common.{◌≡◌, ◌+◌, ℕ, ℤ, Bool, cond, List, [], ◌∷◌, length, refl, ap₂, is_some, sym, Some, option_map}
+use Rattle.std.proofs.Common.{◌≡◌, ◌+◌, ℕ, ℤ, Bool, cond, List, [], ◌∷◌, length, refl, ap₂, is_some, Some, option_map}
 use Rattle.std.specs.Prelude.{◌==◌, ◌&&◌, ◌||◌, codes, take, nat_le}
 use Rattle.std.specs.List.{position, find, list_any}
 use Rattle.gix_date.specs.Text.Names.{is_name, named_in, number_names}
@@ -10,7 +10,6 @@ use Rattle.git_date.specs.Types.Names.{Fields}
 use Rattle.git_date.specs.Approximate.Words.{moment_names, moment_named, count_named, is_unit, unit_names, unit_named, meaning_of}
 use Rattle.git_date.specs.Types.MeaningCases as meaning
 use Rattle.git_date.specs.Types.UnitCases as counted
-use Rattle.git_date_laws.proofs.Walks.Respects.{AreWords}
 use Rattle.std.specs.Option.{option_or}
 
 -- a spelling of words that no name tells from another, byte for byte
@@ -40,7 +39,7 @@ module _ (spell : List ℕ → List ℕ) (same : IsSpelling spell) where
   pub filler-agrees : (word : List ℕ) → is_filler (spell word) ≡ is_filler word
   filler-agrees word = λ i. list_any (λ name. same.named word name i) filler_words
 
-  ending-agrees : (word : List ℕ) → is_ending (spell word) ≡ is_ending word
+  pub ending-agrees : (word : List ℕ) → is_ending (spell word) ≡ is_ending word
   ending-agrees word = λ i. list_any (λ name. same.named word name i) ending_words
 
   half-agrees : (f : Fields) (word : List ℕ) → half_or_filler f (spell word) ≡ half_or_filler f word
@@ -87,6 +86,3 @@ module _ (spell : List ℕ → List ℕ) (same : IsSpelling spell) where
   meaning-agrees word =
       λ i. option_or (option_map meaning.Month (month-agrees word i)) (option_or (moment-agrees word i) (option_or (option_map meaning.Count (count-agrees word i))
       (option_or (option_map (λ day. meaning.Unit (counted.Weekday day)) (weekday-named-agrees word i)) (option_map meaning.Unit (unit-agrees word i)))))
-
-  pub words-agree : (word : List ℕ) → AreWords word (spell word)
-  words-agree word = record { named = λ name. sym (same.named word name); said = λ f. sym (word-agrees f word); ends = sym (ending-agrees word); meant = sym (meaning-agrees word); filler = sym (filler-agrees word) }

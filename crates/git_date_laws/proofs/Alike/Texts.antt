@@ -24,7 +24,8 @@ use Rattle.git_date.proofs.Text.TokenRuns.{texts_are}
 use Rattle.git_date_laws.specs.Texts.Lines.{AreComplete}
 use Rattle.git_date.proofs.Rules.EnoughSteps.{enough, fewer}
 use Rattle.git_date_laws.proofs.Alike.Spelling.{IsSpelling}
-use Rattle.git_date_laws.proofs.Alike.Changed.{after, changed, farther, read_farther, IsClosed, IsClosedAt, steps-is, at-is}
+use Rattle.git_date_laws.proofs.Alike.Changed.{after, changed, farther, read_farther}
+use Rattle.git_date_laws.proofs.Alike.ChangedSteps.{IsClosed, IsClosedAt, steps-is, at-is}
 use Rattle.git_date_laws.proofs.Alike.Cuts.{before-lower, place-lower, said-at-more}
 
 -- what is said then

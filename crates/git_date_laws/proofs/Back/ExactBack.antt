@@ -3,11 +3,7 @@ use Rattle.std.proofs.Common.{◌≡◌, ◌∙◌, ◌≤◌, ◌<◌, ℕ, suc
 use Rattle.std.specs.Option.{option_or}
 use Rattle.std.specs.Prelude.{codes, ◌==◌, ok_or}
 use Rattle.std.proofs.lemmas.Bool.Decides.{nat_tests}
-use Rattle.jiff.specs.Types.{Offset}
-use Rattle.jiff_core.proofs.SignedLemmas.{signed_arith}
-use Rattle.gix_date.proofs.Fields.Instants.{instant_holds, instant_from, z_holds}
-use Rattle.gix_date.specs.Fields.Zoned.{is_instant}
-use Rattle.gix_date.specs.Text.Front.{◌>>=◌}
+use Rattle.gix_date.proofs.Fields.Instants.{z_holds}
 use Rattle.gix_date.specs.declared.time.Time.{Time}
 use Rattle.git_date.proofs.Text.Walked.{nothing-left}
 use Rattle.git_date.specs.Approximate.Reading.{rule, steps, draft_of, answer, answer_of, answer_up_to, guess_by, string_guess, guess, step}
@@ -16,7 +12,7 @@ use Rattle.git_date.specs.Approximate.Rules.{letters_rule, digits_rule, meaning_
 use Rattle.git_date.specs.Approximate.Words.{moment_named, count_named, unit_named, meaning_of}
 use Rattle.gix_date.specs.Text.LongNames.{weekday_told, month_told}
 use Rattle.git_date.specs.Approximate.Clocks.{filled_seconds}
-use Rattle.git_date.specs.Approximate.Zones.{Choices, one_offset, with_offset, shown_in, filled_time, moved_to, fill}
+use Rattle.git_date.specs.Approximate.Zones.{Choices, with_offset, shown_in, filled_time, moved_to, fill}
 use Rattle.git_date.specs.Rules.Groups.{group_of, marked_number}
 use Rattle.git_date.specs.Tokens.Numbers.{number, is_too_large, max_small}
 use Rattle.git_date.specs.Exact.Reading.{said_up_to, string_said, said_by}
@@ -33,9 +29,9 @@ use Rattle.git_date.specs.declared.error.DateError.TheVariants.{Unreadable, Rang
 use Rattle.git_date.specs.Types.Names.{Fault}
 use Rattle.git_date.specs.Types.Names.{Fields}
 use Rattle.git_date.proofs.Text.TokenRuns.{texts_are}
-use Rattle.git_date.proofs.Rules.ClocksBack.{IsClockBack, shown_of, filled-back, filled-today, shown-back}
+use Rattle.git_date.proofs.Rules.ClocksBack.{IsClockBack, shown_of, filled-today}
 use Rattle.git_date_laws.proofs.Back.ExactNothing.{nothing-said}
-use Rattle.git_date_laws.specs.Texts.Back.{CountsBack, IsReached, exactly_back}
+use Rattle.git_date_laws.specs.Texts.Back.{CountsBack, exactly_back}
 use Rattle.gix_date.specs.Fields.Layout.{LocalTime}
 use Rattle.git_date.specs.Tokens.Steps.{and_then}
 use Rattle.git_date.specs.Rules.Digits.{group_said}
@@ -103,52 +99,15 @@ unit-walk zone today n d waits there digits gap unit last wait moves =
     let second = go-on zone today (suc (suc (suc n))) waits waits (Mark gap) (Letters unit ∷ Mark last ∷ ago) (Ok there) refl third in
     go-on zone today (suc (suc (suc (suc n)))) d waits (Digits digits) (followed gap unit last) (Ok there) wait second
 
--- what a zone of one offset chooses
-abbrev picked : ℤ → ℤ → Time
-picked s o = record { seconds = s -ℤ o; offset = o }
-
-picks-is : (o s : ℤ) → is_instant s ≡ true → is_instant (s -ℤ o) ≡ true → (one_offset o).picks o s ≡ Some (picked s o)
-picks-is o s a b = rw (a, b) refl
-
--- what the clock of such a zone shows
+-- what a clock of this offset shows
 abbrev pub clock_at : ℤ → ℤ → LocalTime
 clock_at o x = with_offset o (shown_of x)
-
-pub shown-is : (o n : ℤ) → is_instant n ≡ true → IsClockBack (n +ℤ o) → shown_in (one_offset o) n ≡ Some (clock_at o (n +ℤ o))
-unfolding shown_in
-shown-is o n a h = rw a (ap (option_map (with_offset o)) (shown-back (n +ℤ o) h))
 
 pub filled-clock : (o x : ℤ) → IsClockBack x → filled_seconds (clock_at o x) (clock_fields (clock_at o x)) ≡ Some x
 unfolding filled_seconds
 filled-clock o x h = filled-today x h
 
--- the moment and the time that is told, by the clock
-pub record AreClocks (o now : ℤ) (back : ℕ) : Type 0 where
-  pub now_instant : is_instant now ≡ true
-  pub told_instant : is_instant (now -ℤ pos back) ≡ true
-  pub now_clock : is_instant (now +ℤ o) ≡ true
-  pub told_clock : is_instant (now -ℤ pos back +ℤ o) ≡ true
-  pub now_shown : IsClockBack (now +ℤ o)
-  pub told_shown : IsClockBack (now -ℤ pos back +ℤ o)
-  pub since_1970 : pos 0 ≤ℤ (now -ℤ pos back)
-
-pub are-clocks : (o : Offset) (now : ℤ) (back : ℕ) → is_instant now ≡ true → IsReached now o.seconds back → AreClocks o.seconds now back
-are-clocks o now back instant h =
-    let range = o.in_range in
-    let within = instant_holds now instant in
-    let clock = instant_holds (now +ℤ o.seconds) h.clock in
-    let since = h.since_1970 in
-    record {
-      now_instant = instant;
-      told_instant = instant_from (now -ℤ pos back) (omega (arith, signed_arith, within, since), omega (arith, signed_arith, within, since));
-      now_clock = h.clock;
-      told_clock = instant_from (now -ℤ pos back +ℤ o.seconds) (omega (arith, signed_arith, clock, since, range), omega (arith, signed_arith, clock, since, range));
-      now_shown = (omega (arith, signed_arith, since, range), clock.1);
-      told_shown = (omega (arith, signed_arith, since, range), omega (arith, signed_arith, clock, since, range));
-      since_1970 = omega (arith, signed_arith, since);
-    }
-
--- the same in any zone, by its offsets at the two
+-- the moment and the time that is told, by the zone's offsets at the two
 pub record Reaches (zone : Choices) (now : ℤ) (back : ℕ) (o then : ℤ) : Type 0 where
   pub now_shown : shown_in zone now ≡ Some (clock_at o (now +ℤ o))
   pub told_shown : shown_in zone (now -ℤ pos back) ≡ Some (clock_at then (now -ℤ pos back +ℤ then))
@@ -156,38 +115,6 @@ pub record Reaches (zone : Choices) (now : ℤ) (back : ℕ) (o then : ℤ) : Ty
   pub filled_told : filled_time zone (clock_at o (now +ℤ o)) then (all_fields (clock_at then (now -ℤ pos back +ℤ then)))
       ≡ Some (record { seconds = now -ℤ pos back; offset = then })
   pub since_1970 : pos 0 ≤ℤ (now -ℤ pos back)
-
-module _ (o now : ℤ) (back : ℕ) (are : AreClocks o now back) where
-  abbrev pub today_shown : LocalTime
-  today_shown = clock_at o (now +ℤ o)
-
-  abbrev told_shown : LocalTime
-  told_shown = clock_at o (now -ℤ pos back +ℤ o)
-
-  pub filled-now : filled_time (one_offset o) today_shown o (clock_fields today_shown) ≡ Some (record { seconds = now; offset = o })
-  unfolding filled_time
-  filled-now =
-      let same : now +ℤ o -ℤ o ≡ now = omega (arith, signed_arith) in
-      ap (λ s. s >>= (one_offset o).picks o) (filled-clock o (now +ℤ o) are.now_shown)
-      ∙ picks-is o (now +ℤ o) are.now_clock (subst (λ (s : ℤ). is_instant s ≡ true) (sym same) are.now_instant)
-      ∙ ap (λ (s : ℤ). let t : Time = record { seconds = s; offset = o } in Some t) same
-
-  filled-told : filled_time (one_offset o) today_shown o (all_fields told_shown) ≡ Some (record { seconds = now -ℤ pos back; offset = o })
-  unfolding filled_time
-  filled-told =
-      let same : now -ℤ pos back +ℤ o -ℤ o ≡ now -ℤ pos back = omega (arith, signed_arith) in
-      ap (λ s. s >>= (one_offset o).picks o) (filled-back (now -ℤ pos back +ℤ o) today_shown are.told_shown)
-      ∙ picks-is o (now -ℤ pos back +ℤ o) are.told_clock (subst (λ (s : ℤ). is_instant s ≡ true) (sym same) are.told_instant)
-      ∙ ap (λ (s : ℤ). let t : Time = record { seconds = s; offset = o } in Some t) same
-
-  pub reaches : Reaches (one_offset o) now back o o
-  reaches = record {
-    now_shown = shown-is o now are.now_instant are.now_shown;
-    told_shown = shown-is o (now -ℤ pos back) are.told_instant are.told_shown;
-    filled_now = filled-now;
-    filled_told = filled-told;
-    since_1970 = are.since_1970;
-  }
 
 module _ (zone : Choices) (now : ℤ) (back : ℕ) (o then : ℤ) (are : Reaches zone now back o then) where
   abbrev now_clock : LocalTime
@@ -300,9 +227,3 @@ counted-in zone o then this text count size says fits reached =
     let some : 1 ≤ number says.digits = subst (λ (n : ℕ). 1 ≤ n) (sym same) says.not_zero in
     let less : number says.digits < 100_000_000 = subst (λ (n : ℕ). n < 100_000_000) (sym same) says.no_epoch in
     subst (λ (n : ℕ). SaysBackIn zone then this text (n * size)) same (by-digits zone o then this text count size says here within some less)
-
-pub counted-back : (this : Now) (text : List ℕ) (o : Offset) (count size : ℕ) → is_instant this.seconds ≡ true → CountsBack text count size
-    → IsReached this.seconds o.seconds (count * size) → SaysBackIn (one_offset o.seconds) o.seconds this text (count * size)
-counted-back this text o count size instant says reached =
-    let are = are-clocks o this.seconds (count * size) instant reached in
-    counted-in (one_offset o.seconds) o.seconds o.seconds this text count size says reached.fits (reaches o.seconds this.seconds (count * size) are)

@@ -215,7 +215,7 @@ module _ (now : Now) where
       then-walk n all r last (t ∷ more) (rule now r.fields t more) (grind (arith, is)) (rule-found now r.fields t more)
       (rule-short now n r.fields t more (omega arith)) e
 
-  steps-walk : (n : ℕ) → AreWalked n
+  pub steps-walk : (n : ℕ) → AreWalked n
   unfolding walked
   steps-walk zero r last [] short e = ends r last [] (NoMore r.fields) e
   steps-walk (suc n) r last [] short e = ends r last [] (NoMore r.fields) e

@@ -22,15 +22,34 @@ use Rattle.git_date.specs.Types.Names.{Now, Today, Draft, Fault, Fields, Meaning
 use Rattle.git_date.specs.Rules.Words.{is_filler, without_ending}
 use Rattle.git_date.specs.declared.approximate.answer.Approximate.{Approximate}
 use Rattle.git_date.proofs.Rules.EnoughSteps.{fewer, short-kept}
-use Rattle.git_date.proofs.Rules.Kept.{ending-left}
-use Rattle.git_date_laws.proofs.Alike.Cuts.{IsUpTo, answer-parts}
+use Rattle.git_date.proofs.Rules.Kept.{ending-left, Leaves, IsAt}
+use Rattle.git_date.proofs.Guesses.KeptDrafts.{IsDraftAt, ReadsOn, digits-at}
+use Rattle.git_date_laws.proofs.Alike.Cuts.{IsUpTo, answer-parts, same-ok}
 use Rattle.git_date_laws.proofs.Whole.Guesses.{guessed}
-use Rattle.git_date_laws.proofs.Heard.Texts.{IsShort, read-short, same-ok}
 use Rattle.git_date_laws.proofs.Ignored.Unused.{ending-is}
 use Rattle.git_date_laws.specs.ApproximateIgnored.{place_of, unfit, does_nothing, left_by, unused_letters, unused_digits, Drafted, AtEnd, AtMark, AtLetters, AtDigits, earliest, IsEarliestUnused, IgnoresEarliest}
 use Rattle.git_date_laws.specs.Ignored.{takes_group, after_ending}
 use Rattle.gix_date.specs.Fields.Layout.{LocalTime}
 use Rattle.git_date.specs.Tokens.Steps.{and_then}
+
+-- how much is left after digits
+abbrev IsShort : {A : Type 0} → ℕ → Result (A × List Token) Fault → Type 0
+IsShort n step = Leaves (λ ts. length ts ≤ n) (λ left. Unit {0}) step
+
+any-place : (place : Option ℕ) → IsAt (λ left. Unit {0}) place
+any-place None = tt
+any-place (Some left) = tt
+
+any-draft : (d : Draft) → IsDraftAt (λ left. Unit {0}) d
+any-draft d = (any-place _, any-place d.ignored)
+
+short-of : (n : ℕ) (step : Read) → ReadsOn (λ left. Unit {0}) (λ ts. length ts ≤ n) (short-kept n) step → IsShort n step
+short-of n (Ok found) h = h.1
+short-of n (Err fault) h = h
+
+read-short : (now : Now) (d : Draft) (run : List ℕ) (more : List Token) → IsShort (length more) (digits_rule now d run more)
+read-short now d run more =
+    short-of (length more) _ (digits-at (λ left. Unit {0}) (λ ts. length ts ≤ length more) (short-kept (length more)) now d run more tt (omega arith) (any-draft d))
 
 -- places
 one-place : (i : Option ℕ) (left : ℕ) → Some (earlier left i) ≡ earliest i (left ∷ [])

@@ -18,12 +18,11 @@ use Rattle.gix_date.specs.Fields.ClockNumbers.{hours_in, minutes_in}
 use Rattle.gix_date.specs.Fields.Layout.{LocalTime, LocalDate, LocalClock}
 use Rattle.gix_date.specs.Families.Patterns.{midnight}
 use Rattle.gix_date.specs.Printing.LocalClocks.{clock_of}
-use Rattle.gix_date.specs.Printing.NamedTexts.{local_time, rfc2822_text, git_rfc2822_text, iso8601_text, iso8601_strict_text, gitoxide_text, default_text}
+use Rattle.gix_date.specs.Printing.NamedTexts.{local_time, git_rfc2822_text, iso8601_text, iso8601_strict_text, default_text}
 use Rattle.gix_date.specs.Fields.Zoned.{is_instant}
 use Rattle.gix_date.specs.declared.time.Time.{Time}
 use Rattle.gix_date.specs.Text.Characters.{comma, minus, space}
 use Rattle.gix_date.specs.Text.Names.{day_name, month_name}
-use Rattle.gix_date.specs.Text.Numbers.{two_digits}
 use Rattle.gix_date.specs.Fields.FieldTexts.{four_digits, clock_text}
 use Rattle.gix_date.specs.Fields.Offsets.{compact_offset_text}
 use Rattle.std.specs.Fmt.{decimal}
@@ -37,7 +36,7 @@ use Rattle.git_date.specs.declared.error.DateError.TheVariants as error
 use Rattle.git_date.specs.Types.Names.{Said}
 use Rattle.git_date.proofs.Rules.ClocksBack.{before-year, later-day}
 use Rattle.git_date.proofs.Exact.PrintedClocks.{IsGitClock, at, fields_of, hours_of, minutes_of, is_behind, signed, offset_in_minutes, IsDayText, date-mark}
-use Rattle.git_date.proofs.Exact.PrintedReads.{minutes-back, iso-reads, strict-reads, mail-reads, gitoxide-reads, default-reads, two-day-of, bare-day-of}
+use Rattle.git_date.proofs.Exact.PrintedReads.{minutes-back, iso-reads, strict-reads, mail-reads, default-reads, bare-day-of}
 
 -- a mail's date, with its comma behind the name
 abbrev after_comma : LocalTime → List ℕ → List ℕ
@@ -172,9 +171,7 @@ module _ (t : Time) (h : IsGitTime t) (z : PlainZoned) (shows : Shows z t) where
   all-back now = record {
     iso8601 = back-by now iso8601_text (iso-reads minus (date-mark minus refl) now);
     iso8601_strict = back-by now iso8601_strict_text (strict-reads minus (date-mark minus refl) now);
-    rfc2822 = back-by now rfc2822_text (λ l h. mail-back now (two_digits l.date.day) l h (two-day-of l h));
     git_rfc2822 = back-by now git_rfc2822_text (λ l h. mail-back now (decimal l.date.day) l h (bare-day-of l h));
-    gitoxide = back-by now gitoxide_text (λ l h. gitoxide-reads (two_digits l.date.day) now l h (two-day-of l h));
     default = back-by now default_text (λ l h. default-reads (decimal l.date.day) now l h (bare-day-of l h));
   }
 

@@ -2,7 +2,7 @@
 use Rattle.std.proofs.Common.{◌≡◌, ◌≤◌, ◌<◌, refl, arith, ℕ, false, List, [], ◌∷◌, length, map, Option, Some}
 use Prim.Native.String.{String}
 use Rattle.std.specs.Prelude.{◌==◌, codes}
-use Rattle.git_date_laws.specs.Texts.Back.{CountsUnit, CountsBack, CountsMonths}
+use Rattle.git_date_laws.specs.Texts.Back.{CountsBack}
 use Rattle.git_date.specs.Approximate.Computing.{approximating}
 use Rattle.git_date.specs.Approximate.Rules.{is_padded}
 use Rattle.git_date.specs.Approximate.Words.{meaning_of}
@@ -13,8 +13,7 @@ use Rattle.git_date.specs.Tokens.Strings.{before_nul}
 use Rattle.git_date.specs.Tokens.Tokens.{Letters, Digits, Mark, tokens}
 use Rattle.git_date.specs.Types.Names.{Meaning}
 use Rattle.git_date.specs.Types.MeaningCases as meaning
-use Rattle.git_date.specs.Types.Names.{Unit}
-use Rattle.git_date.specs.Types.UnitCases.{Seconds, Months}
+use Rattle.git_date.specs.Types.UnitCases.{Seconds}
 
 -- each row is a word and the seconds of the unit that it means
 abbrev Mean : List (String × ℕ) → Type 0
@@ -30,11 +29,11 @@ unfolding computing approximating
 unit_rows = refl
 
 -- a text counts what its parts say
-counted : (text digits unit : List ℕ) (gap last count : ℕ) (counts : Unit)
+counted : (text digits unit : List ℕ) (gap last count size : ℕ)
     → tokens (before_nul text) ≡ Digits digits ∷ Mark gap ∷ Letters unit ∷ Mark last ∷ Letters (codes "ago") ∷ []
-    → number digits ≡ count → 1 ≤ count → count < min_epoch → (length digits == 8) ≡ false → is_padded digits ≡ false → meaning_of unit ≡ Some (meaning.Unit counts)
-    → CountsUnit text count counts
-counted text digits unit gap last count counts is number some few short bare means = record {
+    → number digits ≡ count → 1 ≤ count → count < min_epoch → (length digits == 8) ≡ false → is_padded digits ≡ false → meaning_of unit ≡ Some (meaning.Unit (Seconds size))
+    → CountsBack text count size
+counted text digits unit gap last count size is number some few short bare means = record {
   digits = digits;
   gap = gap;
   unit = unit;
@@ -50,12 +49,8 @@ counted text digits unit gap last count counts is number some few short bare mea
 
 dotted : CountsBack (codes "2.weeks.ago") 2 604_800
 unfolding computing approximating
-dotted = counted (codes "2.weeks.ago") (codes "2") (codes "weeks") 46 46 2 (Seconds 604_800) refl refl (omega arith) (omega arith) refl refl refl
+dotted = counted (codes "2.weeks.ago") (codes "2") (codes "weeks") 46 46 2 604_800 refl refl (omega arith) (omega arith) refl refl refl
 
 spaced : CountsBack (codes "90000 Second ago") 90_000 1
 unfolding computing approximating
-spaced = counted (codes "90000 Second ago") (codes "90000") (codes "Second") 32 32 90_000 (Seconds 1) refl refl (omega arith) (omega arith) refl refl refl
-
-monthly : CountsMonths (codes "3 Months_ago") 3 1
-unfolding computing approximating
-monthly = counted (codes "3 Months_ago") (codes "3") (codes "Months") 32 95 3 (Months 1) refl refl (omega arith) (omega arith) refl refl refl
+spaced = counted (codes "90000 Second ago") (codes "90000") (codes "Second") 32 32 90_000 1 refl refl (omega arith) (omega arith) refl refl refl

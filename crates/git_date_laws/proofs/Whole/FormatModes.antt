@@ -7,7 +7,6 @@ use Rattle.std.specs.Int.Signed.{lt_z}
 use Rattle.std.specs.Prelude.{◌&&◌, is_none}
 use Rattle.jiff.specs.Types.{Date, TimeZone}
 use Rattle.jiff.specs.Words.{nanos_of_seconds}
-use Rattle.jiff.specs.declared.zoned.Zoned.{Zoned}
 use Rattle.jiff_core.proofs.CalendarLemmas.{days_in_month_bounds}
 use Rattle.jiff_core.proofs.DateTimeLemmas.{civil_nanos-parts, time_nanos_bound}
 use Rattle.jiff_core.proofs.SignedLemmas.{signed_arith, one_part}
@@ -15,34 +14,26 @@ use Rattle.jiff_core.specs.Calendar.{IsBetween}
 use Rattle.jiff_core.specs.Date.{epoch_day}
 use Rattle.gix_date.proofs.Fields.DateTimes.{datetime_exists}
 use Rattle.gix_date.proofs.Printing.LocalClocks.{date-of-day}
-use Rattle.gix_date.proofs.Printing.PrintedBack.{round-trips-by-each}
 use Rattle.gix_date.proofs.Printing.ShownPieces.{number, number-two, number-four}
-use Rattle.gix_date.specs.Families.Order.{first_family_by}
 use Rattle.gix_date.specs.Fields.FieldTexts.{four_digits}
 use Rattle.gix_date.specs.Fields.Layout.{LocalTime, LocalDate, LocalClock}
 use Rattle.gix_date.specs.Printing.LocalClocks.{clock_of, date_of_day, local_day, local_seconds, last_of_year_9999}
 use Rattle.gix_date.specs.Printing.NamedTexts.{iso8601_pattern, iso8601_text, short_text}
-use Rattle.gix_date.specs.Printing.ReadingBack.{RoundTrips}
 use Rattle.gix_date.specs.Text.Front.{◌>>=◌}
 use Rattle.gix_date.specs.Text.Numbers.{two_digits}
 use Rattle.gix_date.specs.declared.time.Time.{Time}
 use Rattle.git_date.proofs.Exact.ZoneOffsets.{offset-near}
 use Rattle.git_date.proofs.Printing.ShownClocks.{dated, zone-dated}
 use Rattle.git_date.proofs.Rules.ClocksBack.{before-1900}
-use Rattle.git_date.specs.Show.Clocks.{Moment, own_clock, has_own_clock, zone_clock, has_zone_clock, is_dated, is_written_offset, time_at, with_known_offset}
-use Rattle.git_date.specs.Show.Dates.{shown, shown_clock}
+use Rattle.git_date.specs.Show.Clocks.{own_clock, has_own_clock, zone_clock, has_zone_clock, is_dated, is_written_offset, time_at, with_known_offset}
+use Rattle.git_date.specs.Show.Dates.{shown}
 use Rattle.git_date.specs.Tokens.Numbers.{number as digits_number}
-use Rattle.git_date.specs.declared.mode.DateKind.TheVariants.{Iso8601}
 use Rattle.git_date.specs.Formats.Flags.{filled}
 use Rattle.git_date.specs.Formats.Format.{asks_seconds, shown_by_format, shown_pieces, texts}
 use Rattle.git_date.specs.Formats.Pieces.{Piece, next_piece, pieces, pieces_in, pieces_or_none, made_at}
 use Rattle.git_date.specs.Formats.Shown.{Shown, own_shown, own_shown_by, zone_shown, zone_shown_by}
-use Rattle.git_date_laws.specs.Formats.{IsParsedAs, ParsesBackByFormat, ReadsBackByFormat, ShowsModes}
-use Rattle.git_date_laws.specs.Headline.{shown_time}
-use Rattle.git_date_laws.specs.Texts.Printed.{IsGitTime}
+use Rattle.git_date_laws.specs.Formats.{ShowsModes}
 use Rattle.git_date_laws.proofs.Printing.FormatLaws.{and-false}
-use Rattle.git_date_laws.proofs.Printing.ShownLaws.{mapped, when-shown}
-use Rattle.git_date_laws.proofs.Whole.WholePromise.{headline-holds, shown-is}
 
 -- numbers that are filled with zeros
 two-filled : (n : ℕ) → n < 100 → filled true 2 (decimal n) ≡ two_digits n
@@ -201,32 +192,3 @@ shows_modes zone t seconds = (
   λ local. by-clock iso8601_pattern iso8601_text iso8601-none iso8601-texts zone t local,
   λ local. by-clock (codes "%F") short_text short-none short-texts zone t local,
 )
-
--- what is read back of either clock
-text-is : (at : Moment) (local : Bool) (t : Time) (text : List ℕ) → IsGitTime (shown_time at local t)
-    → shown at (record { kind = Iso8601; local = local }) t ≡ Some text → iso8601_text (clock_of (shown_time at local t)) ≡ text
-unfolding shown
-text-is at local t text git e = by (shown_clock at local t) refl (when-shown (lt_z t.seconds (pos 0)) _ text e).1
-  where
-    by : (found : Option LocalTime) → shown_clock at local t ≡ found → option_map iso8601_text found ≡ Some text → iso8601_text (clock_of (shown_time at local t)) ≡ text
-    by (Some clock) is f =
-        let shows : iso8601_text clock ≡ text = cc in
-        sym (ap (λ (l : LocalTime). iso8601_text l) (shown-is at local t clock git is)) ∙ shows
-    by None is f = absurd cc
-
-parsed : (t : Time) (text : List ℕ) → RoundTrips t → iso8601_text (clock_of t) ≡ text → IsParsedAs text t
-parsed t text h e rule = ap (first_family_by rule) (sym e) ∙ (round-trips-by-each rule t h).iso8601.parsed
-
-pub reads_back : (zone : TimeZone) (moment : Zoned) (t : Time) → ReadsBackByFormat zone moment t
-reads_back zone moment t local text git e =
-    let at : Moment = record { zone = zone; seconds = pos 0 } in
-    let so = sym ((shows_modes zone t (pos 0)).0 local) ∙ e in (
-      (headline-holds moment text t).read_back Iso8601 local at text refl git so,
-      parsed (shown_time at local t) text git.round_trips (text-is at local t text git so),
-    )
-
-pub parses_back : (zone : TimeZone) (t : Time) → ParsesBackByFormat zone t
-unfolding shown own_clock
-parses_back zone t text h e =
-    let so = sym ((shows_modes zone t (pos 0)).0 false) ∙ e in
-    parsed t text h (mapped iso8601_text (has_own_clock t) (clock_of t) text (when-shown (lt_z t.seconds (pos 0)) _ text so).1).1

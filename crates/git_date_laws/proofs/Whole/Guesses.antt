@@ -1,6 +1,5 @@
 -- What the approximate reader answers.
-use Rattle.std.proofs.Common.{◌≡◌, ◌∙◌, ◌≤◌, nat_lt, ℕ, ℤ, Bool, true, false, cond, List, length, Option, Some, None, Result, Ok, Err, refl, ap, subst, arith, sym}
-use Rattle.std.specs.Option.{option_or}
+use Rattle.std.proofs.Common.{◌≡◌, ◌∙◌, ◌≤◌, nat_lt, ℕ, ℤ, Bool, true, false, cond, List, length, Option, Some, None, Result, Err, refl, ap, arith, sym}
 use Rattle.std.proofs.lemmas.Bool.Decides.{nat_tests}
 use Rattle.jiff.specs.Words.{plain_zoned, zoned_nanos, IsTimestampNanos}
 use Rattle.jiff.specs.declared.zoned.Zoned.{Zoned}
@@ -8,27 +7,22 @@ use Rattle.jiff_core.proofs.SignedLemmas.{signed_arith, one_part}
 use Rattle.gix_date.proofs.Fields.Instants.{instant_from}
 use Rattle.gix_date.specs.Fields.Zoned.{is_instant, whole_seconds}
 use Rattle.gix_date.specs.Relative.Steps.{zone_of}
-use Rattle.git_date.specs.Approximate.Reading.{answer_up_to, approximate, exact_or_guess, string_guess, guess}
-use Rattle.git_date.specs.Approximate.Zones.{Choices, choices_of, one_offset}
+use Rattle.git_date.specs.Approximate.Reading.{approximate, exact_or_guess, guess}
+use Rattle.git_date.specs.Approximate.Zones.{Choices, choices_of}
 use Rattle.git_date.specs.Rules.Dates.{now_of}
-use Rattle.git_date_laws.specs.Texts.Heard.{heard, told, are_usual}
 use Rattle.git_date.specs.Exact.Outcome.{date_of, DateOutcome}
 use Rattle.git_date.specs.Exact.Reading.{said_by}
-use Rattle.git_date.specs.Tokens.Strings.{string_len, before_nul, nul_place}
-use Rattle.git_date.specs.Types.Names.{Now, Said}
-use Rattle.git_date.proofs.Text.StringEnds.{within, all-before}
+use Rattle.git_date.specs.Tokens.Strings.{string_len, nul_place}
+use Rattle.git_date.specs.Types.Names.{Said}
+use Rattle.git_date.proofs.Text.StringEnds.{within}
 use Rattle.git_date.specs.declared.approximate.answer.Approximate.{Approximate}
 use Rattle.git_date.specs.declared.date.ReadDate.{ReadDate}
 use Rattle.git_date.specs.declared.error.DateError.{DateError}
 use Rattle.git_date.specs.declared.error.DateError.TheVariants.{Unreadable}
 use Rattle.git_date_laws.proofs.Alike.Texts.{same-case, equal-bytes}
 use Rattle.git_date_laws.proofs.Alike.ApproximateTexts.{guess-lower, lower}
-use Rattle.git_date_laws.proofs.Alike.Cuts.{answer-parts}
 use Rattle.git_date_laws.proofs.Back.FixedChoices.{fixed-choices}
-use Rattle.git_date_laws.proofs.Back.ExactBack.{counted-back, up-to-nul}
-use Rattle.git_date_laws.proofs.Heard.Texts.{guesses-alike}
-use Rattle.git_date_laws.proofs.Heard.Usual.{guess-usual}
-use Rattle.git_date_laws.specs.ApproximateLaws.{HasExactAnswer, HasOneAnswer, IsExactlyBack, HasAnswerInAnyCase, IgnoresMarks, IgnoresNoWord}
+use Rattle.git_date_laws.specs.ApproximateLaws.{HasExactAnswer, HasOneAnswer, HasAnswerInAnyCase}
 
 abbrev exact_of : Zoned → List ℕ → Choices → Result ReadDate DateError → Result Approximate DateError
 exact_of moment text zone exact = exact_or_guess exact (guess zone (now_of moment) text)
@@ -49,13 +43,6 @@ whole-instant n range =
 pub moment-instant : (moment : Zoned) → is_instant (whole_seconds (zoned_nanos moment)) ≡ true
 moment-instant moment = whole-instant (zoned_nanos moment) (plain_zoned moment).timestamp.in_range
 
-pub exactly_backs : (moment : Zoned) (text : List ℕ) → IsExactlyBack moment text
-exactly_backs moment text o count size result fixed says reached answers =
-    let back = counted-back (now_of moment) text o count size (moment-instant moment) says reached in
-    let both = up-to-nul (one_offset o.seconds) (now_of moment) text _ back in
-    let reads : DateOutcome moment text (Err Unreadable) = rw (both.0) refl in
-    one_answers moment text o (Err Unreadable) result fixed reads answers ∙ both.1
-
 pub same_in_any_case : (moment : Zoned) (text : List ℕ) → HasAnswerInAnyCase moment text
 same_in_any_case moment text other result again same h g =
     let zone = choices_of (zone_of moment) in
@@ -68,27 +55,6 @@ pub guessed : (moment : Zoned) (text : List ℕ) → DateOutcome moment text (Er
     → approximate moment text ≡ guess (choices_of (zone_of moment)) (now_of moment) text
 guessed moment text unreadable = ap (exact_of moment text (choices_of (zone_of moment))) (sym unreadable)
 
--- a NUL changes no answer but for places
-told-up-to : (place : Option ℕ) (found : Result Approximate DateError) → told (answer_up_to place found) ≡ told found
-told-up-to place (Ok date) = refl
-told-up-to place (Err e) = refl
-
-told-alike : (zone : Choices) (now : Now) (text other : List ℕ) → heard text ≡ heard other → told (guess zone now text) ≡ told (guess zone now other)
-unfolding guess
-told-alike zone now text other same =
-    told-up-to (nul_place text) (string_guess zone now (before_nul text)) ∙ guesses-alike zone now (before_nul text) (before_nul other) same
-    ∙ sym (told-up-to (nul_place other) (string_guess zone now (before_nul other)))
-
-pub ignores-marks : (moment : Zoned) (text : List ℕ) → IgnoresMarks moment text
-ignores-marks moment text other result again same none nothing h g =
-    ap told (h ∙ guessed moment text none) ∙ told-alike (choices_of (zone_of moment)) (now_of moment) text other same
-    ∙ ap told (sym (g ∙ guessed moment other nothing))
-
--- where nothing is ignored there is no NUL
-none-both : (a b : Option ℕ) → option_or a b ≡ None → (a ≡ None) × (b ≡ None)
-none-both None b e = (refl, e)
-none-both (Some place) b e = absurd cc
-
 pub whole-text : (text : List ℕ) → nul_place text ≡ None → string_len text ≡ length text
 unfolding nul_place
 whole-text text e = by (nat_lt (string_len text) (length text)) refl e
@@ -99,10 +65,3 @@ whole-text text e = by (nat_lt (string_len text) (length text)) refl e
         let least = within text in
         let most : length text ≤ string_len text = grind (arith, nat_tests, is) in
         omega (arith, least, most)
-
-pub ignores-no-word : (moment : Zoned) (text : List ℕ) → IgnoresNoWord moment text
-ignores-no-word moment text date unreadable h none =
-    let parts = answer-parts (choices_of (zone_of moment)) (now_of moment) text date (sym (h ∙ guessed moment text unreadable)) in
-    let both = none-both parts.before.ignored (nul_place text) (ap (λ (d : Approximate). d.ignored) (sym parts.is) ∙ none) in
-    subst (λ (string : List ℕ). are_usual string ≡ true) (all-before text (whole-text text both.1))
-    (guess-usual (choices_of (zone_of moment)) (now_of moment) (before_nul text) parts.before parts.is_found both.0)

@@ -26,13 +26,13 @@ use Rattle.git_date.specs.declared.approximate.answer.Approximate.{Approximate}
 use Rattle.git_date.specs.declared.date.ReadDate.{ReadDate}
 use Rattle.git_date.specs.declared.error.DateError.{DateError}
 use Rattle.git_date.specs.declared.error.DateError.TheVariants as error
+use Rattle.git_date_laws.proofs.Alike.Cuts.{same-ok}
 use Rattle.git_date_laws.proofs.Whole.EveryZone.{now-reached}
 use Rattle.git_date_laws.proofs.Back.ExactBack.{clock_at}
 use Rattle.git_date_laws.specs.ApproximateLaws.{IsShownThere, IsMomentUnlessUnderstood}
 use Rattle.gix_date.specs.Fields.Layout.{LocalTime}
 use Rattle.git_date.specs.Tokens.Steps.{and_then}
 use Rattle.std.specs.Option.{option_map_or}
-use Rattle.git_date_laws.proofs.Heard.Texts.{same-ok}
 
 not-both : (b : Bool) → b ≡ true → b ≡ false → ⊥
 not-both true e f = absurd cc

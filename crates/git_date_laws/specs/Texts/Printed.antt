@@ -3,7 +3,7 @@ use Rattle.std.specs.Prelude.{◌≡◌, ◌≤◌, ◌≤ℤ◌, pos, neg_ℤ, 
 use Rattle.jiff.specs.Types.{TimeZone}
 use Rattle.gix_date.specs.Fields.Layout.{LocalTime}
 use Rattle.gix_date.specs.Printing.LocalClocks.{clock_of}
-use Rattle.gix_date.specs.Printing.NamedTexts.{rfc2822_text, git_rfc2822_text, iso8601_text, iso8601_strict_text, gitoxide_text, default_text}
+use Rattle.gix_date.specs.Printing.NamedTexts.{git_rfc2822_text, iso8601_text, iso8601_strict_text, default_text}
 use Rattle.gix_date.specs.Printing.ReadingBack.{RoundTrips}
 use Rattle.gix_date.specs.declared.time.Time.{Time}
 use Rattle.git_date.specs.Exact.Outcome.{date_of}
@@ -24,11 +24,9 @@ abbrev pub IsReadBack : Now → Time → (LocalTime → List ℕ) → Type 0
 IsReadBack now t text =
     (tz : TimeZone) → date_of tz (said_by now (text (clock_of t))) ≡ Ok (record { time = t; has_offset = true; ignored = None })
 
--- the time is read back from each of the six named formats that have a clock
+-- the time is read back from each text of a date, a clock and an offset that Git shows
 pub record AreReadBack (now : Now) (t : Time) : Type 0 where
   pub iso8601 : IsReadBack now t iso8601_text
   pub iso8601_strict : IsReadBack now t iso8601_strict_text
-  pub rfc2822 : IsReadBack now t rfc2822_text
   pub git_rfc2822 : IsReadBack now t git_rfc2822_text
-  pub gitoxide : IsReadBack now t gitoxide_text
   pub default : IsReadBack now t default_text

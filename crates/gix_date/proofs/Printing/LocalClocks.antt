@@ -126,16 +126,6 @@ clock-shown z t h =
 thousand : day_count (pos 1000) 1 1 ≡ 4_017_668
 thousand = day_count-early (pos 1000) 10_999 1 1 refl (omega arith) (omega arith) (omega arith)
 
--- the year is 1000 or more exactly from its first day on
-year-from : (date : Date) → pos 1000 ≤ℤ date.year → neg_ℤ (pos 354_285) ≤ℤ epoch_day date
-year-from date le =
-    let day_in = date.day_in in
-    let here = day_count-day_of_year date.year date.month date.day day_in.0 in
-    by_lt_z (pos 1000) date.year
-    (λ lt. omega (arith, signed_arith, here, day_count-later_year (pos 1000) date.year (omega (arith, signed_arith)) lt, days_from_civil-day_count date.year date.month date.day, thousand, day_in))
-    (λ ge. let same : date.year ≡ pos 1000 = omega (arith, signed_arith) in
-    omega (arith, signed_arith, here, ap (λ (y : ℤ). day_count y 1 1) same, days_from_civil-day_count date.year date.month date.day, thousand, day_in))
-
 year-before : (date : Date) → date.year <ℤ pos 1000 → epoch_day date <ℤ neg_ℤ (pos 354_285)
 year-before date lt =
     let day_in = date.day_in in
@@ -150,13 +140,6 @@ local-is z t h =
     let parts = civil_nanos-parts z.datetime in
     let bound = time_nanos_bound z.datetime.time in
     (omega (arith, signed_arith, z.shows, h.instant, h.offset_is, parts, bound), omega (arith, signed_arith, z.shows, h.instant, h.offset_is, parts, bound))
-
-pub four-digits-to : (z : PlainZoned) (t : Time) → Shows z t → ShowsFourDigitFields z → HasFourDigitFields t
-four-digits-to z t h o =
-    let low = year-from z.datetime.date (omega (arith, signed_arith, o.year_is, o.low)) in
-    let range = epoch_day_range z.datetime.date in
-    let local = local-is z t h in
-    record { in_years = (omega (arith, signed_arith, low, local), omega (arith, signed_arith, range, local)); minutes = subst (λ (s : ℤ). unsigned_abs s % 60 ≡ 0) h.offset_is o.minutes }
 
 four-digits-year : (z : PlainZoned) (t : Time) → Shows z t → HasFourDigitFields t → pos 1000 ≤ℤ z.datetime.date.year
 four-digits-year z t h o =

@@ -1,24 +1,18 @@
 -- Steps at one offset, and in a zone that has no other.
-use Rattle.std.proofs.Common.{◌≡◌, ◌∙◌, ◌↔◌, ◌≤◌, Bool, true, false, cond, int_eq, ℕ, ℤ, pos, ◌+ℤ◌, ◌-ℤ◌, refl, sym, ap, subst, List, [], ◌∷◌, Option, None, Some, FitsSigned, w64}
+use Rattle.std.proofs.Common.{◌≡◌, ◌∙◌, ◌↔◌, ◌≤◌, Bool, true, false, cond, int_eq, ℤ, pos, ◌+ℤ◌, ◌-ℤ◌, refl, sym, ap, List, [], ◌∷◌, FitsSigned, w64}
 use Rattle.std.specs.List.{All}
-use Rattle.std.specs.Prelude.{IsSome, IfSome}
 use Rattle.jiff.proofs.ZoneFacts.{offset_at-fixed_zone, picked_instant-fixed_zone}
-use Rattle.jiff.specs.Types.{TimeZone, DateTime, Offset, Timestamp}
-use Rattle.jiff.specs.Words.{fixed_zone, offset_at, picked_instant, civil_nanos, nanos_of_seconds, zoned_nanos, IsTimestampNanos}
-use Rattle.jiff.specs.declared.zoned.Zoned.{Zoned}
+use Rattle.jiff.specs.Types.{TimeZone, DateTime, Offset}
+use Rattle.jiff.specs.Words.{fixed_zone, offset_at, picked_instant, civil_nanos, nanos_of_seconds, IsTimestampNanos}
 use Rattle.jiff_tz.specs.Zone.{IsFixed, utc_offset, ambiguous_at}
 use Rattle.jiff_tz.specs.declared.timezone.TimeZone.TheVariants.{UTC, Fixed, Posix, Tzif}
-use Rattle.gix_date.specs.Relative.Dates.{RelativeDate, MinusSeconds, MinusPairs, Reaches, IsNamed}
-use Rattle.gix_date.specs.Relative.FixedZones.{total, less_months, Keeps}
-use Rattle.gix_date.specs.Relative.PairsRead.{pairs_read}
-use Rattle.gix_date.specs.Relative.Steps.{IsLocal, IsPicked, Resolves, SecondsStep, PairStep, Chain, zone_of, ChooseAlike, IsAtInstant}
+use Rattle.gix_date.specs.Relative.Dates.{RelativeDate, MinusSeconds, MinusPairs, Reaches}
+use Rattle.gix_date.specs.Relative.FixedZones.{total, less_months}
+use Rattle.gix_date.specs.Relative.Steps.{IsLocal, IsPicked, Resolves, PairStep, Chain, ChooseAlike}
 use Rattle.gix_date.specs.Relative.Roles.{pairs}
-use Rattle.gix_date.specs.Fields.Zoned.{whole_seconds}
 use Rattle.gix_date.specs.declared.parsing.relative.words.TimeUnit.{TimeUnit}
 use Rattle.gix_date.specs.declared.parsing.relative.words.TimeUnit.TheVariants.{Seconds, Months}
-use Rattle.gix_date.specs.declared.time.Time.{Time}
-use Rattle.gix_date.proofs.Relative.Chains.{reaches-is, reaches-back}
-use Rattle.gix_date.proofs.Relative.FixedZones.{IsLoss, months-fixed, fixed-resolves-exists, fixed-seconds-exists}
+use Rattle.gix_date.proofs.Relative.FixedZones.{IsLoss, months-fixed, fixed-resolves-exists}
 
 picks : (tz : TimeZone) (o : Offset) → IsFixed tz → ((n : ℤ) → o.seconds ≡ offset_at tz n) → (dt : DateTime) → picked_instant tz dt ≡ civil_nanos dt -ℤ nanos_of_seconds o.seconds
 unfolding offset_at ambiguous_at
@@ -100,60 +94,7 @@ months-in tz f i dt pairs local day range loss fits j =
     )
 
 -- a zone of one offset resolves each instant to itself
-pub fixed-keeps : (tz : TimeZone) → IsFixed tz → (i : ℤ) → Keeps tz i
+pub fixed-keeps : (tz : TimeZone) → IsFixed tz → (i : ℤ) → IsTimestampNanos i → Resolves tz i i
 fixed-keeps tz f i range =
     let o = fixed-offset tz f in
     resolves-alike (fixed_zone o.0) tz (turned tz (fixed_zone o.0) (one-offset tz o.0 f o.1)) i i (fixed-resolves-exists o.0 i range)
-
--- The time that is named, by the instant that is reached at the one offset.
-
-pub named-at : (date : RelativeDate) (moment : Zoned) (o : Offset) (j : ℤ) (t : Time) → ChooseAlike (zone_of moment) (fixed_zone o)
-    → Reaches date (fixed_zone o) (zoned_nanos moment) j → t.seconds ≡ whole_seconds j → t.offset ≡ o.seconds → IsNamed date moment t
-named-at date moment o j t alike r s e = record {
-  instant = j;
-  reaches = reaches-alike (fixed_zone o) (zone_of moment) (turned _ _ alike) date (zoned_nanos moment) j r;
-  seconds_is = s;
-  offset_is = e ∙ sym (alike.offset j ∙ offset_at-fixed_zone o j);
-}
-
-pub none-named : (date : RelativeDate) (moment : Zoned) (o : Offset) → ChooseAlike (zone_of moment) (fixed_zone o)
-    → ((j : ℤ) → ¬ (Reaches date (fixed_zone o) (zoned_nanos moment) j)) → (t : Time) → ¬ (IsNamed date moment t)
-none-named date moment o alike none t n = none n.instant (reaches-alike (zone_of moment) (fixed_zone o) alike date (zoned_nanos moment) n.instant n.reaches)
-
--- The same instants, said otherwise.
-
-pub same-instants : (instant : Option Timestamp) (Such Same : ℤ → Type 0) → ((j : ℤ) → Such j → Same j) → ((j : ℤ) → Same j → Such j) → IsAtInstant Such instant → IsAtInstant Same instant
-same-instants None Such Same f g h = λ j s. h j (g j s)
-same-instants (Some instant) Such Same f g h = f instant.nanosecond h
-
--- so many seconds before, where that is an instant
-pub seconds-at : (Such : ℤ → Type 0) (result : Option Timestamp) (i n : ℤ) → (IsSome result ↔ IsTimestampNanos (i -ℤ nanos_of_seconds n))
-    → IfSome result (λ r. r.nanosecond ≡ i -ℤ nanos_of_seconds n)
-    → (IsTimestampNanos (i -ℤ nanos_of_seconds n) → Such (i -ℤ nanos_of_seconds n))
-    → ((j : ℤ) → Such j → IsTimestampNanos (i -ℤ nanos_of_seconds n)) → IsAtInstant Such result
-seconds-at Such None i n some value f g = λ j s. let r = some.1 (g j s) in absurd cc
-seconds-at Such (Some r) i n some value f g = subst Such (sym value) (f (some.0 refl))
-
-pub seconds-fixed : (o : Offset) (result : Option Timestamp) (i n : ℤ) → (IsSome result ↔ IsTimestampNanos (i -ℤ nanos_of_seconds n))
-    → IfSome result (λ r. r.nanosecond ≡ i -ℤ nanos_of_seconds n) → IsAtInstant (SecondsStep (fixed_zone o) n i) result
-seconds-fixed o result i n some value =
-    seconds-at (SecondsStep (fixed_zone o) n i) result i n some value (fixed-seconds-exists o n i) (λ j s. s.in_range)
-
-pub before-fixed : (o : Offset) (result : Option Timestamp) (i n : ℤ) → (IsSome result ↔ IsTimestampNanos (i -ℤ nanos_of_seconds n))
-    → IfSome result (λ r. r.nanosecond ≡ i -ℤ nanos_of_seconds n) → IsAtInstant (Reaches (MinusSeconds n) (fixed_zone o) i) result
-before-fixed o result i n some value =
-    seconds-at (Reaches (MinusSeconds n) (fixed_zone o) i) result i n some value (λ range. (refl, range)) (λ j r. subst IsTimestampNanos r.0 r.1)
-
--- nothing is resolved elsewhere, so the pairs lead from the instant itself
-pub pairs-fixed : (o : Offset) (words : List (List ℕ)) (i : ℤ) (result : Option Timestamp) → IsTimestampNanos i
-    → IsAtInstant (Chain (fixed_zone o) (pairs_read words) i) result → IsAtInstant (Reaches (MinusPairs (pairs words)) (fixed_zone o) i) result
-pairs-fixed o words i result range h =
-    let resolves = fixed-resolves-exists o i range in
-    same-instants result (Chain (fixed_zone o) (pairs_read words) i) (Reaches (MinusPairs (pairs words)) (fixed_zone o) i)
-    (λ j c. reaches-is (fixed_zone o) words i i j resolves c)
-    (λ j r. reaches-back (fixed_zone o) words i i j resolves r) h
-
--- Months by what a clock at the offset shows.
-
-pub fixed-shows : (o : Offset) (i : ℤ) (dt : DateTime) → civil_nanos dt ≡ i +ℤ nanos_of_seconds o.seconds → IsLocal (fixed_zone o) i dt
-fixed-shows o i dt e = e ∙ ap (λ (s : ℤ). i +ℤ nanos_of_seconds s) (sym (offset_at-fixed_zone o i))

@@ -7,7 +7,7 @@ use Rattle.jiff.specs.Words.{zoned_nanos, offset_at, nanos_of_seconds, IsTimesta
 use Rattle.jiff.specs.declared.zoned.Zoned.{Zoned}
 use Rattle.jiff_core.proofs.SignedLemmas.{signed_arith}
 use Rattle.jiff_tz.specs.Zone.{IsFixed}
-use Rattle.gix_date.specs.Relative.FixedZones.{total, less_seconds, earlier, KeepsWay, NamesEarlier, NamesBefore}
+use Rattle.gix_date.specs.Relative.FixedZones.{total, less_seconds, earlier, NamesEarlier, NamesBefore}
 use Rattle.gix_date.specs.Relative.Dates.{RelativeDate, Reaches, IsNamed}
 use Rattle.gix_date.specs.Relative.Steps.{zone_of}
 use Rattle.gix_date.specs.Fields.Zoned.{IsMoment, is_instant, time_in, whole_seconds as seconds_of}
@@ -15,7 +15,7 @@ use Rattle.gix_date.specs.declared.time.Time.{Time}
 use Rattle.gix_date.proofs.Relative.Chains.{same-time}
 use Rattle.gix_date.proofs.Relative.FixedSteps.{fixed-zone}
 use Rattle.gix_date.proofs.Relative.FixedZones.{IsLoss}
-use Rattle.gix_date.proofs.Relative.KeptInstants.{fixed-way, kept-law}
+use Rattle.gix_date.proofs.Relative.FixedSeconds.{seconds-law}
 use Rattle.gix_date.proofs.Fields.Instants.{instant_range, whole_seconds, instant_from, instant_holds}
 
 zone-offset : (t : Time) (z : Zoned) → IsMoment t z → (n : ℤ) → offset_at (zone_of z) n ≡ t.offset
@@ -56,7 +56,7 @@ names-earlier date t n law z m r =
 pub seconds-earlier : (t : Time) (pairs : List (ℤ × ℤ)) → All IsLoss pairs
     → NamesEarlier (less_seconds pairs) t (total pairs)
 seconds-earlier t pairs loss =
-    names-earlier (less_seconds pairs) t (total pairs) (λ z m. kept-law z pairs (fixed-way (zone_of z) (moment-fixed t z m) pairs (zoned_nanos z)) loss)
+    names-earlier (less_seconds pairs) t (total pairs) (λ z m. seconds-law z pairs (moment-fixed t z m) loss)
 
 -- The same from each moment, by the instant that is reached.
 abbrev NamesOnly : RelativeDate → Zoned → ℤ → Type 0
@@ -75,8 +75,5 @@ names-before date z due law t = (
   },
 )
 
-pub kept-names-before : (z : Zoned) (pairs : List (ℤ × ℤ)) → KeepsWay (zone_of z) pairs (zoned_nanos z) → All IsLoss pairs → NamesBefore (less_seconds pairs) z (total pairs)
-kept-names-before z pairs kept loss = names-before (less_seconds pairs) z (zoned_nanos z -ℤ nanos_of_seconds (total pairs)) (kept-law z pairs kept loss)
-
 pub seconds-before : (z : Zoned) → IsFixed (zone_of z) → (pairs : List (ℤ × ℤ)) → All IsLoss pairs → NamesBefore (less_seconds pairs) z (total pairs)
-seconds-before z f pairs = kept-names-before z pairs (fixed-way (zone_of z) f pairs (zoned_nanos z))
+seconds-before z f pairs loss = names-before (less_seconds pairs) z (zoned_nanos z -ℤ nanos_of_seconds (total pairs)) (seconds-law z pairs f loss)

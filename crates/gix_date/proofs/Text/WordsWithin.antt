@@ -74,14 +74,6 @@ byte-gap c k w l (inl small) =
     ap is_gap (sym same) ∙ white-gap c (omega (arith, same, small)) w
 byte-gap c k w l (inr large) = grind (arith, nat_tests, large)
 
--- each byte of a character of more bytes is beyond ASCII
-pub wide-byte : (c k : ℕ) → 128 ≤ c → k < length (encode_utf8 c) → 128 ≤ get_or (encode_utf8 c) k 0
-wide-byte c k w l =
-    elim (cases_lt (get_or (encode_utf8 c) k 0) 128) [
-      | inl small ↦ let same : c ≡ get_or (encode_utf8 c) k 0 = inside_one c [] (encode_utf8 c) k (sym (append-nil (encode_utf8 c))) l small in absurd (omega (arith, same, small, w))
-      | inr large ↦ large
-    ]
-
 white-gaps : (c : ℕ) → is_whitespace c ≡ true → AreGaps (encode_utf8 c)
 white-gaps c h = gaps-from (encode_utf8 c) (λ k l. byte-gap c k h l (cases_lt (get_or (encode_utf8 c) k 0) 128))
 

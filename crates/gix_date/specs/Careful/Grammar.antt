@@ -1,11 +1,11 @@
 -- Careful texts, as facts of their words and of what stands between these: `count unit (and? count unit)* ago`.
-use Rattle.std.specs.Prelude.{◌≡◌, ◌⊎◌, ℕ, ℤ, pos, true, List, [], ◌∷◌, ◌++◌, length, map, codes, Some, FitsSigned}
+use Rattle.std.specs.Prelude.{◌≡◌, ◌⊎◌, ℕ, ℤ, pos, true, List, [], ◌∷◌, ◌++◌, map, codes, Some, FitsSigned}
 use Rattle.std.specs.Char.{is_ascii_alphanumeric, is_ascii_digit}
 use Rattle.std.specs.Int.{w64}
 use Rattle.std.specs.List.{list_all}
 use Rattle.gix_date.specs.Fields.FieldTexts.{AreDigits}
 use Rattle.gix_date.specs.Relative.Words.{unit_names}
-use Rattle.gix_date.specs.Text.Characters.{comma, colon, dot, minus, underscore, space, small_s, letter_s}
+use Rattle.gix_date.specs.Text.Characters.{comma, dot, minus, underscore, space, small_s, letter_s}
 use Rattle.gix_date.specs.Text.Names.{is_name, named_in}
 use Rattle.gix_date.specs.declared.parsing.relative.words.TimeUnit.{TimeUnit}
 
@@ -101,17 +101,3 @@ IsCarefulText text = (pairs : List (ℤ × TimeUnit)) × IsCarefulOf text pairs
 abbrev pub AreSomeDigits : List ℕ → Type 0
 AreSomeDigits [] = ⊥
 AreSomeDigits (c ∷ rest) = list_all is_ascii_digit (c ∷ rest) ≡ true
-
--- what may follow a run of digits: nothing; or the first of these marks, a run, and what may follow that by the others
-abbrev pub MayGoOn : List ℕ → List ℕ → Type 0
-MayGoOn [] text = text ≡ []
-MayGoOn (mark ∷ marks) text =
-    (text ≡ [])
-    ⊎ ((run : List ℕ) × (rest : List ℕ) × (text ≡ mark ∷ (run ++ rest)) × AreSomeDigits run × MayGoOn marks rest)
-
--- a clock that says nothing more: hours, and perhaps minutes, seconds and a fraction; or six digits and a fraction
-abbrev pub IsWholeClock : List ℕ → Type 0
-IsWholeClock text =
-    ((run : List ℕ) × (rest : List ℕ) × (text ≡ run ++ rest) × AreSomeDigits run × MayGoOn (colon ∷ colon ∷ dot ∷ []) rest)
-    ⊎ ((six : List ℕ) × (fraction : List ℕ) × (text ≡ six ++ dot ∷ fraction) × (length six ≡ 6) × AreSomeDigits six
-    × AreSomeDigits fraction)

@@ -1,5 +1,5 @@
 -- What the laws of reading back say of a time.
-use Rattle.std.specs.Prelude.{◌≡◌, ◌⊎◌, ◌≤◌, ◌<◌, ◌%◌, ◌≤ℤ◌, if◌then◌else◌, ℕ, ℤ, pos, ◌*ℤ◌, List, Some, IsSomeAnd, Result, MatchResult, String, string_bytes, unsigned_abs, true}
+use Rattle.std.specs.Prelude.{◌≡◌, ◌⊎◌, ◌≤◌, ◌<◌, ◌%◌, ◌≤ℤ◌, if◌then◌else◌, ℕ, ℤ, pos, ◌*ℤ◌, List, Some, IsSomeAnd, Result, MatchResult, String, string_bytes, unsigned_abs}
 use Rattle.std.specs.Global.{Global}
 use Rattle.gix_date.specs.Fields.ClockNumbers.{seconds_per_minute, seconds_per_day}
 use Rattle.gix_date.specs.Families.Answer.{FamilyAnswer, Absolute, NoInstant}
@@ -20,8 +20,6 @@ use Rattle.gix_date.specs.declared.error.Error.TheVariants.{Memory}
 use Rattle.gix_date.specs.declared.parsing.raw.RawOffsets.{RawOffsets}
 use Rattle.gix_date.specs.declared.parsing.raw.RawOffsets.TheVariants.{Quarter, WholeMinutes}
 use Rattle.gix_date.specs.declared.time.Time.{Time}
-use Rattle.gix_date.specs.Header.Canonical.{is_canonical_header}
-use Rattle.gix_date.specs.Header.Reading.{header_time}
 
 -- The time converts, has four-digit fields and an offset within 23:59. Then each named format with a clock is parsed
 -- back.
@@ -95,12 +93,6 @@ abbrev pub HeaderRoundTrips : RawOffsets → Time → Type 0
 HeaderRoundTrips raw t =
     IsRuleOffset raw t.offset
     → IsSomeAnd (header_text t) (λ text. first_family_by (allows raw) text ≡ Some (Absolute t))
-
--- if the rule allows its offset, a canonical header is parsed to its time
-abbrev pub HeaderIsParsed : RawOffsets → List ℕ → Type 0
-HeaderIsParsed raw text =
-    (t : Time) → is_canonical_header text ≡ true → header_time text ≡ Some t → IsRuleOffset raw t.offset
-    → first_family_by (allows raw) text ≡ Some (Absolute t)
 
 -- seconds from 100000000 on are parsed back from their decimal text
 abbrev pub SecondsRoundTrip : RawOffsets → ℤ → Type 0

@@ -10,7 +10,7 @@ use Rattle.gix_date.specs.Relative.Steps.{zone_of, Resolves, Chain}
 use Rattle.gix_date.specs.Relative.Words.{relative_words}
 use Rattle.gix_date.specs.Text.Names.{named_in}
 use Rattle.gix_date.specs.Relative.Roles.{are_pairs, pairs}
-use Rattle.gix_date.specs.Fields.Zoned.{whole_seconds, IsConvertible}
+use Rattle.gix_date.specs.Fields.Zoned.{whole_seconds}
 use Rattle.gix_date.specs.declared.error.ParseError.{ParseError}
 use Rattle.gix_date.specs.declared.error.ParseError.TheVariants.{MissingNow, Range}
 use Rattle.gix_date.specs.declared.parsing.relative.words.TimeUnit.{TimeUnit}
@@ -75,7 +75,3 @@ RelativeOutcome date (Some moment) (Err e) = (e ≡ Range) × ((t : Time) → ¬
 abbrev pub AreNamedOnce : Type 0
 AreNamedOnce =
     (date : RelativeDate) (moment : Zoned) (a b : Time) → IsNamed date moment a → IsNamed date moment b → a ≡ b
-
--- each time that a relative date names converts
-abbrev pub AreConvertible : Type 0
-AreConvertible = (date : RelativeDate) (moment : Zoned) (t : Time) → IsNamed date moment t → IsConvertible t

@@ -1,13 +1,12 @@
 -- What pairs of counts and units come to in a zone that keeps one offset.
-use Rattle.std.specs.Prelude.{◌≡◌, ◌↔◌, ℕ, ℤ, pos, ◌+ℤ◌, ◌-ℤ◌, ◌*ℤ◌, ◌≤ℤ◌, FitsSigned, List, [], ◌∷◌, map, Some, true}
+use Rattle.std.specs.Prelude.{◌≡◌, ◌↔◌, ℤ, pos, ◌+ℤ◌, ◌-ℤ◌, ◌*ℤ◌, ◌≤ℤ◌, FitsSigned, List, [], ◌∷◌, map, true}
 use Rattle.std.specs.Int.{w64}
 use Rattle.std.specs.List.{All}
 use Rattle.std.specs.List.Sorted.{IsPermutation}
-use Rattle.jiff.specs.Types.{TimeZone}
 use Rattle.jiff.specs.Words.{nanos_of_seconds, zoned_nanos, IsTimestampNanos}
 use Rattle.jiff.specs.declared.zoned.Zoned.{Zoned}
-use Rattle.gix_date.specs.Relative.Dates.{RelativeDate, MinusPairs, Reaches, IsNamed, relative_date}
-use Rattle.gix_date.specs.Relative.Steps.{zone_of, Resolves}
+use Rattle.gix_date.specs.Relative.Dates.{RelativeDate, MinusPairs, Reaches, IsNamed}
+use Rattle.gix_date.specs.Relative.Steps.{zone_of}
 use Rattle.gix_date.specs.Fields.Zoned.{IsMoment, is_instant, time_in}
 use Rattle.gix_date.specs.declared.parsing.relative.words.TimeUnit.TheVariants.{Seconds, Months}
 use Rattle.gix_date.specs.declared.time.Time.{Time}
@@ -36,15 +35,6 @@ total (pair ∷ more) = product pair +ℤ total more
 -- an `i64` holds the product
 abbrev pub ProductFits : ℤ × ℤ → Type 0
 ProductFits pair = FitsSigned w64 (product pair)
-
--- the zone resolves the instant's local time to the instant, if `jiff` has it
-abbrev pub Keeps : TimeZone → ℤ → Type 0
-Keeps tz instant = IsTimestampNanos instant → Resolves tz instant instant
-
--- the zone keeps the instant, and what is left after each pair of seconds
-abbrev pub KeepsWay : TimeZone → List (ℤ × ℤ) → ℤ → Type 0
-KeepsWay tz [] instant = Keeps tz instant
-KeepsWay tz (pair ∷ more) instant = Keeps tz instant × KeepsWay tz more (instant -ℤ nanos_of_seconds (product pair))
 
 -- the date names this instant from the moment, in nanoseconds
 abbrev pub Names : RelativeDate → Zoned → ℤ → Type 0
@@ -85,9 +75,3 @@ abbrev pub IgnoresOrder : List (ℤ × ℤ) → Zoned → Type 0
 IgnoresOrder pairs moment =
     (other : List (ℤ × ℤ)) → IsPermutation pairs other
     → NamesAlike moment (less_seconds pairs) (less_seconds other)
-
--- the text names no instant after the moment
-abbrev pub NamesNoneLater : List ℕ → Zoned → Type 0
-NamesNoneLater text moment =
-    (date : RelativeDate) (instant : ℤ) → relative_date text ≡ Some date → Names date moment instant
-    → instant ≤ℤ zoned_nanos moment

@@ -13,7 +13,3 @@ step scan word =
 -- the words are pairs
 abbrev pub verdict : Scan → Bool
 verdict scan = scan.any && (scan.known || scan.ago)
-
--- what is known of the words of a relative text that have been seen
-abbrev pub WordScan : Type 0
-WordScan = Scan

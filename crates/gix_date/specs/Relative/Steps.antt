@@ -2,7 +2,7 @@
 use Rattle.std.specs.Prelude.{◌≡◌, ◌+◌, ℤ, pos, ◌+ℤ◌, ◌-ℤ◌, ◌*ℤ◌, unsigned_abs, FitsSigned, List, [], ◌∷◌, Option, Some, None}
 use Rattle.std.specs.Int.{w64, int_div_euclid, int_rem_euclid}
 use Rattle.jiff.specs.Words.{plain_zoned, offset_at, picked_instant, civil_nanos, nanos_of_seconds, time_nanos, epoch_day, month_number, IsTimestampNanos, IsYear, zoned_nanos}
-use Rattle.jiff.specs.Types.{TimeZone, DateTime, Date, Time as TimeOfDay, Timestamp}
+use Rattle.jiff.specs.Types.{TimeZone, DateTime, Date, Time as TimeOfDay}
 use Rattle.jiff.specs.declared.zoned.Zoned.{Zoned}
 use Rattle.jiff_core.specs.Calendar.{days_from_civil}
 use Rattle.gix_date.specs.declared.parsing.relative.words.TimeUnit.{TimeUnit}
@@ -86,11 +86,6 @@ Chain tz (pair ∷ more) instant after = (between : ℤ) × PairStep tz pair ins
 abbrev pub IsAt : (ℤ → Type 0) → Option Zoned → Type 0
 IsAt Such None = (instant : ℤ) → ¬ (Such instant)
 IsAt Such (Some moment) = Such (zoned_nanos moment)
-
--- `IsAt` of an instant in no zone
-abbrev pub IsAtInstant : (ℤ → Type 0) → Option Timestamp → Type 0
-IsAtInstant Such None = (instant : ℤ) → ¬ (Such instant)
-IsAtInstant Such (Some instant) = Such instant.nanosecond
 
 -- two zones have equal offsets, and resolve local times alike
 pub record ChooseAlike (a b : TimeZone) : Type 0 where

@@ -393,39 +393,6 @@ fn time_in_zone(time: Time, moment: Zoned<'_>) -> Option<Time>
     ensures local { IsLocalIfAny (zone_of moment.entry) time result }
     ensures offset_fits { IfSome result (λ t. IsOffsetSeconds t.offset) }
 {
-    match moment.time_zone().to_fixed_offset() {
-        Ok(offset) => fast_time_in_zone(time, offset),
-        Err(_) => time_in_any_zone(time, moment),
-    }
-}
-
-/// [`time_in_zone`] in a zone of one offset: seconds are subtracted, and no zoned value is made.
-fn fast_time_in_zone(time: Time, offset: Offset) -> Option<Time>
-    requires { is_instant time.seconds ≡ true }
-    ensures local { IsLocalIfAny (fixed_zone offset) time result }
-    ensures offset_fits { IfSome result (λ t. IsOffsetSeconds t.offset) }
-{
-    let local = earlier_by(time, offset);
-    match Timestamp::from_second(local.seconds) {
-        Ok(_) => Some(local),
-        Err(_) => None,
-    }
-}
-
-/// A time earlier by an offset, at that offset.
-fn earlier_by(time: Time, offset: Offset) -> Time
-    requires { is_instant time.seconds ≡ true }
-    ensures { result ≡ record { seconds = time.seconds -ℤ offset.seconds; offset = offset.seconds } }
-{
-    Time::new(time.seconds - i64::from(offset.seconds()), offset.seconds())
-}
-
-/// [`time_in_zone`] in any zone.
-fn time_in_any_zone(time: Time, moment: Zoned<'_>) -> Option<Time>
-    requires { is_instant time.seconds ≡ true }
-    ensures local { IsLocalIfAny (zone_of moment.entry) time result }
-    ensures offset_fits { IfSome result (λ t. IsOffsetSeconds t.offset) }
-{
     let Ok(instant) = Timestamp::from_second(time.seconds) else {
         return None;
     };

@@ -63,8 +63,7 @@ pub fn parse(alloc: Global, input: &str, now: Option<Zoned<'_>>) -> Result<Time,
 /// Reads a date as [`parse`] does, by the rule `raw` for the offsets of raw texts, also after `@`.
 ///
 /// [`RawOffsets::Quarter`] is the rule of [`parse`]. [`RawOffsets::WholeMinutes`] allows whole minutes up to 23:59, as
-/// in `1660797906 +0007`. What [`parse`] reads, both rules read alike (`gix_date_laws::widened`). The refusals are
-/// those of [`parse`]; a raw text with another offset is of no family.
+/// in `1660797906 +0007`. The refusals are those of [`parse`]; a raw text with another offset is of no family.
 pub fn parse_with(
     alloc: Global,
     input: &str,

@@ -1,10 +1,10 @@
 //! Relative texts: `yesterday`, `2 weeks ago`, `1 month 2 days ago`.
 ghost use Rattle.std.specs.Prelude.{◌≡◌, pos, IfOk, IfSome, option_map};
 ghost use Rattle.gix_date.specs.Fields.Zoned.{whole_seconds};
-ghost use Rattle.jiff.specs.Words.{zoned_nanos, fixed_zone, offset_at, KeepsZone, IsOffsetSeconds};
+ghost use Rattle.jiff.specs.Words.{zoned_nanos, offset_at, KeepsZone, IsOffsetSeconds};
 ghost use Rattle.gix_date.specs.Relative.Dates.{named_date, relative_date, RelativeOutcome, Reaches, IsNamedIfAny, relative_date_of};
 ghost use Rattle.gix_date.specs.Relative.PairsRead.{pairs_read};
-ghost use Rattle.gix_date.specs.Relative.Steps.{zone_of, Chain, ChooseAlike, IsAt, IsAtInstant};
+ghost use Rattle.gix_date.specs.Relative.Steps.{zone_of, Chain, IsAt};
 ghost use Rattle.gix_date.specs.Relative.Words.{relative_words};
 
 use crate::error::ParseError;
@@ -13,11 +13,9 @@ use crate::parsing::relative::scan::are_pairs;
 use crate::parsing::relative::steps::{earlier, resolve, subtract};
 use crate::parsing::space_words::trimmed;
 use crate::time::{SECONDS_PER_DAY, Time};
-use jiff::tz::Offset;
-use jiff::{Timestamp, Zoned};
+use jiff::Zoned;
 
 pub(crate) mod careful;
-mod fixed;
 mod pairs;
 mod scan;
 pub(crate) mod steps;
@@ -85,39 +83,8 @@ impl<'a> Relative<'a> {
         ensures named { IsNamedIfAny (relative_date_of self.entry) moment.entry result }
         ensures offset_fits { IfSome result (λ t. IsOffsetSeconds t.offset) }
     {
-        match moment.time_zone().to_fixed_offset() {
-            Ok(offset) => self.fast_time(moment, offset),
-            Err(_) => self.time_in(moment),
-        }
-    }
-
-    /// The time that is asked for from a moment in any zone.
-    fn time_in(self, moment: Zoned<'_>) -> Option<Time>
-        ensures named { IsNamedIfAny (relative_date_of self.entry) moment.entry result }
-        ensures offset_fits { IfSome result (λ t. IsOffsetSeconds t.offset) }
-    {
         let instant = self.instant(moment)?;
         Some(time_of_moment(instant))
-    }
-
-    /// The time that is asked for from a moment whose zone has this offset alone, without a zoned value for each step.
-    fn fast_time(self, moment: Zoned<'_>, offset: Offset) -> Option<Time>
-        requires { ChooseAlike (zone_of moment) (fixed_zone offset) }
-        ensures named { IsNamedIfAny (relative_date_of self.entry) moment.entry result }
-        ensures offset_fits { IfSome result (λ t. IsOffsetSeconds t.offset) }
-    {
-        let instant = self.instant_at(moment.timestamp(), offset)?;
-        Some(Time::new(instant.as_second(), offset.seconds()))
-    }
-
-    /// The instant that is asked for, in a zone that has this offset alone.
-    fn instant_at(self, instant: Timestamp, offset: Offset) -> Option<Timestamp>
-        ensures { IsAtInstant (Reaches (relative_date_of self.entry) (fixed_zone offset) instant.nanosecond) result }
-    {
-        match self {
-            Relative::MinusSeconds(seconds) => fixed::subtract_seconds(instant, seconds),
-            Relative::MinusPairs(text) => fixed::subtract_pairs(instant, offset, text),
-        }
     }
 
     /// The instant that is asked for, in the moment's zone.

@@ -1,20 +1,16 @@
 -- The dates of identity lines, as C has them.
-use Rattle.std.specs.Prelude.{◌≡◌, ℕ, List, ◌++◌, Option, Some, None, Result, Ok, Err}
+use Rattle.std.specs.Prelude.{◌≡◌, ℕ, List, Option, Some, None, Result, Ok, Err}
 use Rattle.std.specs.Result.{result_map_both}
 use Rattle.jiff.specs.Types.{TimeZone}
 use Rattle.git_date.specs.Show.Clocks.{moment_at}
-use Rattle.gix_date.specs.Text.Numbers.{decimal_text}
-use Rattle.gix_date.specs.declared.time.Time.{Time}
-use Rattle.git_date.specs.Show.OwnDates.{own_shown, spaced_offset_text}
+use Rattle.git_date.specs.Show.OwnDates.{own_shown}
 use Rattle.git_date.specs.declared.mode.DateMode.{DateMode}
 use Rattle.git_date.specs.declared.show.own.OwnDateError.{OwnDateError}
 use Rattle.git_date.specs.declared.show.own.OwnDateError.TheVariants as faults
 use Rattle.gix_signature.specs.declared.ident.time.GitTime.{GitTime}
 use Rattle.gix_date_c.specs.Git.Modes.{mode_of}
-use Rattle.gix_date_c.specs.Git.Stored.{raw_answer, stored_answer}
 use Rattle.gix_date_c.specs.Moments.{IsPlaced, Place}
 use Rattle.gix_date_c.specs.declared.git.show.CMode.{CMode}
-use Rattle.gix_date_c.specs.declared.git.stored.StoredMode.{StoredMode}
 use Rattle.gix_date_c.specs.declared.moment.CInstant.{CInstant}
 use Rattle.gix_date_c.specs.declared.values.status.Status.{Status}
 use Rattle.gix_date_c.specs.declared.values.status.Status.TheVariants as statuses
@@ -29,18 +25,6 @@ own_status faults.OffsetTooWide = statuses.OffsetTooWide
 abbrev pub own_answer : GitTime → Option DateMode → Place → Result (List ℕ) Status
 own_answer t (Some mode) place = result_map_both (λ text. text) own_status (own_shown (moment_at place.0 place.1) mode t)
 own_answer t None place = Err statuses.NoSuchOption
-
--- seconds and an offset, as `raw` shows them of a line
-abbrev pub own_raw_text : GitTime → List ℕ
-own_raw_text t = decimal_text t.seconds ++ spaced_offset_text t.offset
-
--- the time that is shown like that of a line
-abbrev pub IsSameRaw : GitTime → Time → Type 0
-IsSameRaw own t = (t.seconds ≡ own.seconds) × (raw_answer t ≡ Ok (own_raw_text own))
-
--- what a mode shows of the time of a line, at any instant in any zone, is what it shows of this time as it is stored
-abbrev pub IsOwnStored : GitTime → CMode → StoredMode × Time → Type 0
-IsOwnStored own mode found = (place : Place) → own_answer own (mode_of mode) place ≡ stored_answer found.0 found.1
 
 -- the same where there are both
 abbrev pub own_shown_at : GitTime → CMode → Result Place Status → Result (List ℕ) Status

@@ -6,7 +6,7 @@ ghost use Rattle.gix_date_c.specs.Git.Dates.{IsApproximate, IsExact, IsExpiry, a
 ghost use Rattle.gix_date_c.specs.Moments.{place_of, placed};
 ghost use Rattle.gix_date_c.specs.Reading.{IsReadAt, IsReadIn, IsReadPlaced};
 ghost use Rattle.gix_date_c.specs.Values.Stores.{StoresRead};
-ghost use Rattle.gix_date_c.specs.Zones.{IsSame, IsZone};
+ghost use Rattle.gix_date_c.specs.Zones.{IsShown};
 
 use crate::git::{date_refusal, ignored_place};
 use crate::moment::{CInstant, timestamp_of};
@@ -14,14 +14,13 @@ use crate::values::refusal::Refusal;
 use crate::values::status::Status;
 use crate::values::store::store_read;
 use crate::values::time::{CTime, time_for_c};
-use crate::zone::CZone;
+use crate::zone::ShownZone;
 use git_date::{
     Approximate, Expiry, ReadDate, approxidate, expiry_date, parse_date, parse_date_at,
 };
 use gix_date::Zoned;
 use jiff::Timestamp;
 use jiff::tz::TimeZone;
-use std::alloc::Global;
 
 /// A date that is read exactly: `struct git_date_exact`. Its last field is a `bool` of C.
 #[repr(C)]
@@ -35,20 +34,16 @@ pub struct CExact {
 /// Reads a date as Git does, at a moment in a zone that C holds.
 #[unsafe(no_mangle)]
 pub extern "C" fn git_date_parse_at(
-    alloc: Global,
     text: &[u8],
     now: &CInstant,
-    zone: &mut CZone,
+    zone: &ShownZone,
     date: &mut CExact,
     place: &mut usize,
 ) -> u32
-    ensures read { StoresRead (IsReadPlaced IsExact (IsZone zone.old) now.now text.now)
+    ensures { StoresRead (IsReadPlaced IsExact (IsShown zone.now) now.now text.now)
         (date.old, place.old) (date.new, place.new) result }
-    ensures zone { IsSame zone.old zone.new }
 {
-    let taken = zone.take(alloc);
-    let answer = read_exact(text, timestamp_of(now), taken.zone());
-    zone.give_back(alloc, taken);
+    let answer = read_exact(text, timestamp_of(now), zone.zone());
     store_read(answer, date, place)
 }
 
@@ -103,20 +98,16 @@ pub struct CApproximate {
 /// Reads a date as people write it, at a moment in a zone that C holds.
 #[unsafe(no_mangle)]
 pub extern "C" fn git_date_approxidate_at(
-    alloc: Global,
     text: &[u8],
     now: &CInstant,
-    zone: &mut CZone,
+    zone: &ShownZone,
     date: &mut CApproximate,
     place: &mut usize,
 ) -> u32
-    ensures read { StoresRead (IsReadIn IsApproximate (IsZone zone.old) now.now text.now)
+    ensures { StoresRead (IsReadIn IsApproximate (IsShown zone.now) now.now text.now)
         (date.old, place.old) (date.new, place.new) result }
-    ensures zone { IsSame zone.old zone.new }
 {
-    let taken = zone.take(alloc);
-    let answer = read_approximate(text, taken.moment(now));
-    zone.give_back(alloc, taken);
+    let answer = read_approximate(text, zone.moment(now));
     store_read(answer, date, place)
 }
 
@@ -156,20 +147,16 @@ pub struct CExpiry {
 /// Reads what expires, at a moment in a zone that C holds.
 #[unsafe(no_mangle)]
 pub extern "C" fn git_date_expiry_at(
-    alloc: Global,
     text: &[u8],
     now: &CInstant,
-    zone: &mut CZone,
+    zone: &ShownZone,
     expiry: &mut CExpiry,
     place: &mut usize,
 ) -> u32
-    ensures read { StoresRead (IsReadIn (IsExpiry expiry.old) (IsZone zone.old) now.now text.now)
+    ensures { StoresRead (IsReadIn (IsExpiry expiry.old) (IsShown zone.now) now.now text.now)
         (expiry.old, place.old) (expiry.new, place.new) result }
-    ensures zone { IsSame zone.old zone.new }
 {
-    let taken = zone.take(alloc);
-    let answer = read_expiry(text, taken.moment(now), *expiry);
-    zone.give_back(alloc, taken);
+    let answer = read_expiry(text, zone.moment(now), *expiry);
     store_read(answer, expiry, place)
 }
 

@@ -8,7 +8,7 @@ ghost use Rattle.gix_date_c.specs.Git.Formats.{Asked, IsByFormat, IsByFormatAt, 
 ghost use Rattle.gix_date_c.specs.Git.Modes.{local_of};
 ghost use Rattle.gix_date_c.specs.Values.Buffers.{Outcome, PutsRead, outcome_of};
 ghost use Rattle.gix_date_c.specs.Values.Times.{load_time};
-ghost use Rattle.gix_date_c.specs.Zones.{IsSame, IsZone};
+ghost use Rattle.gix_date_c.specs.Zones.{IsShown};
 
 use crate::git::show::local_of;
 use crate::values::buffer::store_text;
@@ -16,7 +16,7 @@ use crate::values::refusal::{Refusal, store_place};
 use crate::values::status::Status;
 use crate::values::text::utf8_text;
 use crate::values::time::{CTime, load_time};
-use crate::zone::CZone;
+use crate::zone::ShownZone;
 use git_date::{
     BriefText, DateFormat, FormatFault, ShortText, ShowError, brief_by_own_clock, short_by_format,
     text_by_format_in,
@@ -32,15 +32,14 @@ pub extern "C" fn git_date_show_by_format(
     time: &CTime,
     format: &[u8],
     local: u8,
-    zone: &mut CZone,
+    zone: &ShownZone,
     out: &mut [u8],
     len: &mut usize,
     place: &mut usize,
 ) -> u32
-    ensures shown { PutsRead
-        (IsByFormatIn (record { time = load_time time.now; format = format.now; local = local }) (IsZone zone.old))
+    ensures { PutsRead
+        (IsByFormatIn (record { time = load_time time.now; format = format.now; local = local }) (IsShown zone.now))
         (out.old, place.old) (record { bytes = out.new; len = len.new; status = result }, place.new) }
-    ensures zone { IsSame zone.old zone.new }
 {
     let mut brief = BriefText::new();
     if zone.is_zone() && is_own_brief(load_time(time), format, local, &mut brief) {
@@ -56,27 +55,24 @@ fn store_by_format(
     time: &CTime,
     format: &[u8],
     local: u8,
-    zone: &mut CZone,
+    zone: &ShownZone,
     out: &mut [u8],
     len: &mut usize,
     place: &mut usize,
 ) -> u32
-    ensures shown { PutsRead
-        (IsByFormatIn (record { time = load_time time.now; format = format.now; local = local }) (IsZone zone.old))
+    ensures { PutsRead
+        (IsByFormatIn (record { time = load_time time.now; format = format.now; local = local }) (IsShown zone.now))
         (out.old, place.old) (record { bytes = out.new; len = len.new; status = result }, place.new) }
-    ensures zone { IsSame zone.old zone.new }
 {
-    let taken = zone.take(alloc);
     let mut short = ShortText::new();
     let answer = by_format(
         alloc,
         load_time(time),
         format,
         local,
-        taken.zone(),
+        zone.zone(),
         &mut short,
     );
-    zone.give_back(alloc, taken);
     store_shown(store_place(answer, place), &short, out, len)
 }
 

@@ -5,65 +5,54 @@ ghost use Rattle.gix_date_c.specs.Lines.Blocks.{DoesLines};
 ghost use Rattle.gix_date_c.specs.Lines.Columns.{Columns};
 ghost use Rattle.gix_date_c.specs.Lines.Readers.{IsApproximateLine, IsExactLine};
 ghost use Rattle.gix_date_c.specs.Moments.{IsNow, IsPlaced, Place};
-ghost use Rattle.gix_date_c.specs.Zones.{IsSame, IsZone};
+ghost use Rattle.gix_date_c.specs.Zones.{IsShown};
 ghost use Rattle.gix_date_c.specs.declared.values.status.Status.{Status};
 
 use crate::lines::read_lines;
 use crate::lines::reader::LineReader;
 use crate::moment::CInstant;
-use crate::zone::CZone;
-use std::alloc::Global;
+use crate::zone::ShownZone;
 
 /// Reads each line of a block as Git's exact reader does, at a moment in a zone that C holds.
 #[unsafe(no_mangle)]
 pub extern "C" fn git_date_parse_lines_at(
-    alloc: Global,
     block: &[u8],
     now: &CInstant,
-    zone: &mut CZone,
+    zone: &ShownZone,
     seconds: &mut [i64],
     offsets: &mut [i32],
     statuses: &mut [u32],
     bytes: &mut usize,
 ) -> usize
-    ensures read { (place : Result Place Status) × IsPlaced (IsZone zone.old) now.now place
+    ensures { (place : Result Place Status) × IsPlaced (IsShown zone.now) now.now place
         × DoesLines (IsExactLine place) block.now
         (record { seconds = seconds.old; offsets = offsets.old; statuses = statuses.old })
         (record { seconds = seconds.new; offsets = offsets.new; statuses = statuses.new }) (result, bytes.new) }
-    ensures zone { IsSame zone.old zone.new }
 {
-    let taken = zone.take(alloc);
     let reader = LineReader::Exact {
-        now: taken.moment(now),
+        now: zone.moment(now),
     };
-    let done = read_lines(&reader, block, seconds, offsets, statuses, bytes);
-    zone.give_back(alloc, taken);
-    done
+    read_lines(&reader, block, seconds, offsets, statuses, bytes)
 }
 
 /// Reads each line of a block as people write dates, at a moment in a zone that C holds.
 #[unsafe(no_mangle)]
 pub extern "C" fn git_date_approxidate_lines_at(
-    alloc: Global,
     block: &[u8],
     now: &CInstant,
-    zone: &mut CZone,
+    zone: &ShownZone,
     seconds: &mut [i64],
     offsets: &mut [i32],
     statuses: &mut [u32],
     bytes: &mut usize,
 ) -> usize
-    ensures read { (moment : Result Zoned Status) × IsNow (IsZone zone.old) now.now moment
+    ensures { (moment : Result Zoned Status) × IsNow (IsShown zone.now) now.now moment
         × DoesLines (IsApproximateLine moment) block.now
         (record { seconds = seconds.old; offsets = offsets.old; statuses = statuses.old })
         (record { seconds = seconds.new; offsets = offsets.new; statuses = statuses.new }) (result, bytes.new) }
-    ensures zone { IsSame zone.old zone.new }
 {
-    let taken = zone.take(alloc);
     let reader = LineReader::Approximate {
-        now: taken.moment(now),
+        now: zone.moment(now),
     };
-    let done = read_lines(&reader, block, seconds, offsets, statuses, bytes);
-    zone.give_back(alloc, taken);
-    done
+    read_lines(&reader, block, seconds, offsets, statuses, bytes)
 }

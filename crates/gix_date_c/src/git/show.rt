@@ -7,21 +7,19 @@ ghost use Rattle.gix_date_c.specs.Git.Modes.{IsShownIn, kind_number, kind_of, lo
 ghost use Rattle.gix_date_c.specs.Moments.{placed};
 ghost use Rattle.gix_date_c.specs.Values.Stores.{Stores};
 ghost use Rattle.gix_date_c.specs.Values.Times.{load_time};
-ghost use Rattle.gix_date_c.specs.Zones.{IsSame, IsZone, IsZoneOf};
+ghost use Rattle.gix_date_c.specs.Zones.{IsShown};
 
-use crate::git::stored::{StoredMode, check_place, store_stored};
 use crate::moment::{CInstant, timestamp_of};
 use crate::values::buffer::store_text;
 use crate::values::status::Status;
 use crate::values::store::store;
 use crate::values::text::utf8_text;
 use crate::values::time::{CTime, load_time};
-use crate::zone::{CZone, TakenZone};
+use crate::zone::ShownZone;
 use git_date::{DateKind, DateMode, DateText, show_date_at};
 use gix_date::Time;
 use jiff::Timestamp;
 use jiff::tz::TimeZone;
-use std::alloc::Global;
 
 /// How a date is shown: `struct git_date_mode`. Its last field is a `bool` of C.
 #[repr(C)]
@@ -39,44 +37,27 @@ pub extern "C" fn git_date_mode_named(name: &[u8], mode: &mut CMode) -> u32
     store(mode_named(name), mode)
 }
 
-/// Puts a date into a buffer as Git shows it, at a moment in a zone that C holds. A mode that needs no clock takes no zone.
+/// Puts a date into a buffer as Git shows it, at a moment in a zone that C holds.
 #[unsafe(no_mangle)]
 pub extern "C" fn git_date_show_at(
-    alloc: Global,
     time: &CTime,
     mode: &CMode,
     now: &CInstant,
-    zone: &mut CZone,
+    zone: &ShownZone,
     out: &mut [u8],
     len: &mut usize,
 ) -> u32
-    ensures shown { Puts (IsShownIn (load_time time.now) mode.now (IsZone zone.old) now.now)
-        out.old (record { bytes = out.new; len = len.new; status = result }) }
-    ensures zone { IsSame zone.old zone.new }
-{
-    if let Some(stored) = StoredMode::of(mode) {
-        let check = check_place(now, zone);
-        return store_stored(load_time(time), stored, check, out, len);
-    }
-    let taken = zone.take(alloc);
-    let status = store_shown_in(load_time(time), mode, now, &taken, out, len);
-    zone.give_back(alloc, taken);
-    status
-}
-
-/// Puts a date into a buffer as Git shows it, at a moment in a zone out of C's hands.
-fn store_shown_in(
-    time: Time,
-    mode: &CMode,
-    now: &CInstant,
-    zone: &TakenZone,
-    out: &mut [u8],
-    len: &mut usize,
-) -> u32
-    ensures { Puts (IsShownIn time mode.now (IsZoneOf zone.now.offset (option_map (λ held. held.value) zone.now.held)) now.now)
+    ensures { Puts (IsShownIn (load_time time.now) mode.now (IsShown zone.now) now.now)
         out.old (record { bytes = out.new; len = len.new; status = result }) }
 {
-    store_shown(time, mode, timestamp_of(now), zone.zone(), out, len)
+    store_shown(
+        load_time(time),
+        mode,
+        timestamp_of(now),
+        zone.zone(),
+        out,
+        len,
+    )
 }
 
 /// Puts a date into a buffer as Git shows it at an instant in a zone, where there are both.

@@ -52,5 +52,5 @@ impl Handle {
     }
 }
 
-// A handle may go to another thread, one call at a time.
+// A handle may go to another thread.
 unsafe impl Send for Handle {}

@@ -4,32 +4,22 @@ ghost use Rattle.std.specs.Result.{result_map_both};
 ghost use Rattle.jiff.specs.Words.{plain_zone};
 ghost use Rattle.gix_date_c.specs.Moments.{offset_at, placed};
 ghost use Rattle.gix_date_c.specs.Values.Stores.{Stores};
-ghost use Rattle.gix_date_c.specs.Zones.{IsOffset, IsSame, IsZone};
+ghost use Rattle.gix_date_c.specs.Zones.{IsOffset, IsShown};
 
 use crate::moment::{CInstant, timestamp_of};
 use crate::values::status::Status;
 use crate::values::store::store;
-use crate::zone::CZone;
+use crate::zone::ShownZone;
 use jiff::Timestamp;
 use jiff::tz::TimeZone;
-use std::alloc::Global;
 
 /// Tells the offset of a zone that C holds at an instant, in seconds east of UTC.
 #[unsafe(no_mangle)]
-pub extern "C" fn gix_date_offset_at(
-    alloc: Global,
-    instant: &CInstant,
-    zone: &mut CZone,
-    offset: &mut i32,
-) -> u32
-    ensures offset { (answer : Result ℤ Status) × IsOffset (IsZone zone.old) instant.now answer
+pub extern "C" fn gix_date_offset_at(instant: &CInstant, zone: &ShownZone, offset: &mut i32) -> u32
+    ensures offset { (answer : Result ℤ Status) × IsOffset (IsShown zone.now) instant.now answer
         × Stores answer offset.old offset.new result }
-    ensures zone { IsSame zone.old zone.new }
 {
-    let taken = zone.take(alloc);
-    let answer = offset_at(timestamp_of(instant), taken.zone());
-    zone.give_back(alloc, taken);
-    store(answer, offset)
+    store(offset_at(timestamp_of(instant), zone.zone()), offset)
 }
 
 /// The offset of a zone at an instant, where there are both.

@@ -1,5 +1,5 @@
 //! A zone as C has it.
-ghost use Rattle.std.specs.Prelude.{◌≡◌, None, Some, is_some, option_map};
+ghost use Rattle.std.specs.Prelude.{◌≡◌, None, Some, option_map};
 ghost use Rattle.gix_date_c.specs.Handles.{kind_of};
 
 use crate::zone::handle::Handle;
@@ -7,7 +7,7 @@ use crate::zone::held::Held;
 use std::alloc::Global;
 
 /// The kind of a zone that holds one. What memory has by chance is another.
-const HOLDS: u32 = 0x7a6f_6e65;
+pub(crate) const HOLDS: u32 = 0x7a6f_6e65;
 
 /// A zone that C holds: `struct gix_date_zone`. All zero it is UTC. Where nothing is held it always has the offset.
 #[repr(C)]
@@ -41,14 +41,6 @@ impl CZone {
             offset,
             handle: Handle::of(alloc, held),
         }
-    }
-
-    /// Whether a zone is held.
-    #[inline(always)]
-    pub(crate) fn holds(&self) -> bool
-        ensures { result ≡ is_some self.now.handle.held }
-    {
-        self.kind == HOLDS
     }
 
     /// What is held, out of C's hands.

@@ -1,24 +1,25 @@
 -- Counts of careful texts, as a test and as a fact, and that no word is two of a count, a unit, `and` and `ago`.
-use Rattle.std.proofs.Common.{◌≡◌, ◌∙◌, ◌⊎◌, inl, inr, ℕ, ℤ, pos, neg_ℤ, ◌+◌, ◌<◌, length, arith, Bool, true, false, cond, List, [], ◌∷◌, refl, ap, sym, subst, Option, Some, None}
+use Rattle.std.proofs.Common.{◌≡◌, ◌∙◌, inl, inr, ℕ, ℤ, pos, ◌+◌, ◌<◌, length, arith, Bool, true, false, cond, List, [], ◌∷◌, refl, ap, sym, subst, Option, Some, None, FitsSigned, w64}
 use Rattle.std.proofs.lemmas.Bool.{and_parts as both, false_from_ne_true as not-true, not-true as not-is, not-true as not_is}
 use Rattle.std.specs.Char.{is_ascii_digit}
 use Rattle.std.specs.List.{list_all, position}
 use Rattle.std.specs.Option.{is_some, option_map}
-use Rattle.std.specs.Prelude.{◌&&◌, not, is_none, codes}
+use Rattle.std.specs.Prelude.{◌&&◌, not, is_none, codes, nat_lt}
 use Rattle.std.specs.Str.{all_ascii_digits}
+use Rattle.std.specs.Str.Parse.{digits_value, signed_digits_value, without_leading_sign}
 use Rattle.gix_date.specs.Careful.Texts.{is_and, is_plain_count}
-use Rattle.gix_date.specs.Fields.FieldTexts.{AreDigits}
-use Rattle.gix_date.specs.Families.Grammars.{IsInt}
 use Rattle.gix_date.specs.Relative.Dates.{named_date}
 use Rattle.gix_date.specs.Relative.Roles.{has_unit, is_count_word}
 use Rattle.gix_date.specs.Relative.Words.{count_of, is_ago, named_count, number_named, unit_of, singular, named_unit}
-use Rattle.gix_date.specs.Text.Characters.{plus, minus}
 use Rattle.gix_date.specs.Text.Names.{is_name, named_in, number_names}
-use Rattle.gix_date.specs.Text.Numbers.{int_value}
+use Rattle.gix_date.specs.Text.Numbers.{fits_i64, int_value}
+use Rattle.gix_date.proofs.Families.Apart.{digit-no-minus as not-minus, digit-no-plus as not-plus}
+use Rattle.gix_date.proofs.Fast.FastHeaders.{int-taken}
+use Rattle.gix_date.proofs.Text.Ints.{each_of, fits_from}
 use Rattle.gix_date.proofs.Relative.QuietWords.{says_nothing, like-any, like-ago, like-name, like-named, like-singular, lower-same, named-any, names_of, one-run-word}
 use Rattle.gix_date.proofs.Relative.QuietDates.{quiet-digits, digits-run as digit-letters}
 use Rattle.gix_date.specs.Careful.Grammar.{IsPlainCount, number_words}
-use Rattle.gix_date_laws.proofs.Numbers.Grammars.{bare-int, int-is}
+use Rattle.gix_date_laws.proofs.Numbers.Grammars.{bare-int}
 use Rattle.gix_date_laws.proofs.Letters.LetterCase.{count-low, digits-low}
 
 pub some-of : {A : Type 0} (o : Option A) → is_some o ≡ true → (x : A) × (o ≡ Some x)
@@ -87,13 +88,14 @@ count-plain w n (inr e) =
     let c : count_of w ≡ Some n = ap (λ b. cond b (int_value w) (named_count w)) d ∙ ap (λ b. cond b (Some (pos 1)) (number_named w)) l ∙ number-is w ∙ e in
     plain-by w n c l
 
-digits-count : (w : List ℕ) (n : ℤ) → list_all is_ascii_digit w ≡ true → IsInt w n → IsPlainCount w n
-digits-count w n d h = by h.is
-  where
-    by : ((w ≡ h.digits) × (n ≡ pos h.number)) ⊎ (((w ≡ plus ∷ h.digits) × (n ≡ pos h.number)) ⊎ ((w ≡ minus ∷ h.digits) × (n ≡ neg_ℤ (pos h.number)))) → IsPlainCount w n
-    by (inl p) = inl (h.number, subst (λ (t : List ℕ). AreDigits t h.number) (sym p.0) h.are, p.1, h.fits)
-    by (inr (inl p)) = let bad : true ≡ false = sym d ∙ ap (list_all is_ascii_digit) p.0 in absurd cc
-    by (inr (inr p)) = let bad : true ≡ false = sym d ∙ ap (list_all is_ascii_digit) p.0 in absurd cc
+digits-count : (w : List ℕ) (n : ℤ) → list_all is_ascii_digit w ≡ true → int_value w ≡ Some n → IsPlainCount w n
+digits-count [] n d v = let t = (int-taken [] n v).0 in absurd cc
+digits-count (c ∷ t) n d v =
+    let taken = int-taken (c ∷ t) n v in
+    let parts = each_of (nat_lt 0 (length (without_leading_sign (c ∷ t)))) (all_ascii_digits (without_leading_sign (c ∷ t))) (fits_i64 (signed_digits_value 10 (c ∷ t))) taken.0 in
+    let first = (both (is_ascii_digit c) (list_all is_ascii_digit t) d).0 in
+    let bare : signed_digits_value 10 (c ∷ t) ≡ pos (digits_value 10 (c ∷ t)) = rw (not-minus c first, not-plus c first) refl in
+    inl (digits_value 10 (c ∷ t), (omega arith, all-digits (c ∷ t) ∙ d, refl), sym taken.1 ∙ bare, subst (FitsSigned w64) taken.1 (fits_from (signed_digits_value 10 (c ∷ t)) parts.2))
 
 pub plain-count : (w : List ℕ) → is_plain_count w ≡ true → (n : ℤ) × IsPlainCount w n
 unfolding is_count_word count_of named_count
@@ -103,7 +105,7 @@ plain-count w h =
     (value.0, by (list_all is_ascii_digit w) (is_name w (codes "last")) refl refl parts.1 value.1)
   where
     by : {n : ℤ} (d l : Bool) → list_all is_ascii_digit w ≡ d → is_name w (codes "last") ≡ l → not (is_name w (codes "last")) ≡ true → cond (list_all is_ascii_digit w) (int_value w) (cond (is_name w (codes "last")) (Some (pos 1)) (number_named w)) ≡ Some n → IsPlainCount w n
-    by {n} true l e f g k = let v : int_value w ≡ Some n = rw e at k in digits-count w n e (int-is w n v)
+    by {n} true l e f g k = let v : int_value w ≡ Some n = rw e at k in digits-count w n e v
     by {n} false true e f g k = let bad : false ≡ true = rw f at g in absurd cc
     by {n} false false e f g k = let v : number_named w ≡ Some n = rw (e, f) at k in inr (sym (number-is w) ∙ v)
 

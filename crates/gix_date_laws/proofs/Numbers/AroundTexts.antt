@@ -1,15 +1,12 @@
--- White space around a text changes no answer of the families that trim, nor what a header says.
+-- A trimmed text has the words of the text.
 use Rattle.std.proofs.Common.{◌≡◌, ◌∙◌, ℕ, Bool, true, false, cond, List, [], ◌∷◌, length, refl, ap, sym, subst, IsUtf8, encode_utf8_all}
 use Rattle.std.proofs.lemmas.Str.{chars-encodes, scalars-chars}
 use Rattle.std.specs.Char.{is_whitespace}
-use Rattle.std.specs.List.{flat_map, list_any}
+use Rattle.std.specs.List.{flat_map}
 use Rattle.std.specs.Prelude.{◌==◌, ◌&&◌}
 use Rattle.std.specs.Str.{chars, trim, trim_start, trim_end, skip_leading_whitespace, drop_trailing_whitespace}
-use Rattle.gix_date.specs.Header.Reading.{header_time}
 use Rattle.gix_date.specs.Relative.Words.{relative_words}
-use Rattle.gix_date.specs.Text.Characters.{has_colon}
 use Rattle.gix_date.proofs.Text.FirstWords.{trimmed-words, skip-scalars, drop-scalars}
-use Rattle.gix_date_laws.proofs.Numbers.RawHeaders.{colon-within}
 use Rattle.gix_date.proofs.Text.WordsWithin.{words-within}
 use Rattle.gix_date.proofs.Text.Trimmed.{skips-none as skip-keep}
 
@@ -72,24 +69,6 @@ trim-of text u =
 trim-utf8 : (text : List ℕ) → IsUtf8 text → IsUtf8 (trim text)
 trim-utf8 text u = let t = trim-of text u in subst IsUtf8 (sym t.is) t.utf8
 
-pub trim-twice : (text : List ℕ) → IsUtf8 text → trim (trim text) ≡ trim text
-unfolding trim_start trim_end
-trim-twice text u =
-    let t = trim-of text u in
-    let again : trim (encode_utf8_all t.left) ≡ encode_utf8_all t.left =
-    ap (λ (q : List ℕ). encode_utf8_all (drop_trailing_whitespace (chars (encode_utf8_all (skip_leading_whitespace q))))) t.back
-    ∙ ap (λ (q : List ℕ). encode_utf8_all (drop_trailing_whitespace (chars (encode_utf8_all q)))) t.starts
-    ∙ ap (λ (q : List ℕ). encode_utf8_all (drop_trailing_whitespace q)) t.back
-    ∙ ap encode_utf8_all t.ends in
-    ap trim t.is ∙ again ∙ sym t.is
-
 pub words-around : (text : List ℕ) → IsUtf8 text → relative_words (trim text) ≡ relative_words text
 words-around text u =
     words-within (trim text) (trim-utf8 text u) ∙ ap (flat_map relative_words) (trimmed-words text u) ∙ sym (words-within text u)
-
-pub header-around : (text : List ℕ) → IsUtf8 text → header_time (trim text) ≡ header_time text
-unfolding header_time
-header-around text u =
-    let same : has_colon (trim text) ≡ has_colon text =
-    colon-within (trim text) (trim-utf8 text u) ∙ ap (list_any has_colon) (trimmed-words text u) ∙ sym (colon-within text u) in
-    rw (same, trimmed-words text u) refl

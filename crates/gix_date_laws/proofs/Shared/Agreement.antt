@@ -1,5 +1,5 @@
 -- ISO 8601, or its strict form, and one of Git's own forms say the same of a text that both hold.
-use Rattle.std.proofs.Common.{◌≡◌, ◌∙◌, ◌<◌, ◌≤◌, ℕ, ℤ, Bool, true, false, cond, List, [], ◌∷◌, ◌++◌, length, refl, ap, sym, subst, arith, append-nil, append_assoc, length-append, Some, None, Option, option_map, is_some, unsigned_abs, IsAscii, IsUtf8, inl, inr, ◌⊎◌, encode_utf8_all, get_or}
+use Rattle.std.proofs.Common.{◌≡◌, ◌∙◌, ◌<◌, ◌≤◌, ◌+◌, ◌*◌, ℕ, ℤ, Bool, true, false, cond, List, [], ◌∷◌, ◌++◌, length, refl, ap, sym, subst, arith, append-nil, append_assoc, length-append, Some, None, Option, option_map, is_some, unsigned_abs, IsAscii, IsUtf8, inl, inr, ◌⊎◌, encode_utf8_all, get_or}
 use Rattle.std.proofs.lemmas.Option.{cond_some as guard, same_Some as same_some}
 use Rattle.std.proofs.lemmas.Bool.{or_right, and_parts as both, and_from as join, not-true as not_is}
 use Rattle.std.proofs.lemmas.Bool.Decides.{nat_tests}
@@ -52,7 +52,7 @@ use Rattle.gix_date_laws.proofs.Git.Clocks.{clock-is}
 use Rattle.gix_date_laws.proofs.Git.Offsets.{offset-is, sign-no-z}
 use Rattle.gix_date_laws.proofs.Git.Cuts.{is_clock_byte, digit-byte, digit-no-colon, all-get, all-imply, mark-sign, IsOffsetText, gap-at, cut-after-space, cut-by-sign, cut-at-a-sign, is_no_space, byte-is-no-space}
 use Rattle.gix_date.proofs.Relative.QuietDates.{field-digits, year-digits}
-use Rattle.gix_date.proofs.Families.Ranges.{near}
+use Rattle.gix_date.proofs.Header.HeaderLaws.{abs-signed as size-of}
 use Rattle.gix_date.proofs.Text.ShortDigits.{value-more}
 use Rattle.gix_date.proofs.Text.Trimmed.{kept}
 
@@ -247,7 +247,8 @@ same-offset f g a b c d = cc
 
 short : (f : SignedPairs) → f.seconds ≡ None → f.hours ≤ 23 → f.minutes ≤ 59 → nat_lt max_date_offset (unsigned_abs (offset_of f)) ≡ false
 short f none h m =
-    let small = near f h m (ap (λ (s : Option ℕ). unwrap_or s 0) none) in
+    let total = 3600 * f.hours + 60 * f.minutes + unwrap_or f.seconds 0 in
+    let small : unsigned_abs (offset_of f) ≤ max_date_offset = omega (arith, size-of f.sign total, h, m, ap (λ (s : Option ℕ). unwrap_or s 0) none) in
     grind (arith, nat_tests, small)
 
 zone-says : (z : List ℕ) (f : SignedPairs) → HasPairs z f → (o : ℤ) → git_offset z ≡ Some o → (o ≡ offset_of f) × (nat_lt max_date_offset (unsigned_abs (offset_of f)) ≡ false)

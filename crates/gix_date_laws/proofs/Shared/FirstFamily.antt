@@ -1,13 +1,13 @@
--- Which family comes first where two hold a text, and that no moment is asked where it is not the relative one.
-use Rattle.std.proofs.Common.{pos, ◌≡◌, ◌≢◌, ◌∙◌, ℕ, ℤ, Bool, true, false, List, [], ◌∷◌, ◌++◌, refl, ap, sym, subst, map, Some, None, Option, is_some, option_map, cond, unwrap_or, unsigned_abs, Result, IsUtf8}
+-- Which family comes first where two hold a text, and that only the relative one answers a relative date.
+use Rattle.std.proofs.Common.{pos, ◌≡◌, ◌≢◌, ℕ, ℤ, Bool, true, false, List, [], ◌∷◌, ◌++◌, refl, subst, map, Some, None, Option, option_map, cond, unwrap_or, unsigned_abs, IsUtf8}
 use Rattle.std.proofs.lemmas.Bool.{and_parts as both, not-true as not_is}
 use Rattle.std.specs.List.{list_all}
 use Rattle.std.specs.Option.{option_or}
 use Rattle.std.specs.Prelude.{◌==◌, nat_lt, not}
 use Rattle.gix_date.specs.Families.Answer.{FamilyAnswer, Absolute, OffsetAboveDay, NoInstant, Relative}
 use Rattle.gix_date.specs.Families.Epoch.{at_time, epoch_time, utc_time}
-use Rattle.gix_date.specs.Families.Order.{Family, AtText, Short, Rfc2822, Iso8601, Iso8601Strict, Gitoxide, Default, BareEpoch, GitForm, RelativeText, RawText, families_before_git, family_answer, first_answer_of, first_family_by, ParseNoAllocOutcome}
-use Rattle.gix_date.specs.Families.Laws.{IgnoresMoment, Holds, overlap}
+use Rattle.gix_date.specs.Families.Order.{Family, AtText, Short, Rfc2822, Iso8601, Iso8601Strict, Gitoxide, Default, BareEpoch, GitForm, RelativeText, RawText, families_before_git, family_answer, first_answer_of, first_family_by}
+use Rattle.gix_date.specs.Families.Laws.{Holds, overlap}
 use Rattle.gix_date.specs.Text.Front.{◌>>=◌}
 use Rattle.gix_date.specs.Git.Forms.{git_time}
 use Rattle.gix_date.specs.Families.Patterns.{max_date_offset, short_answer, rfc2822_answer, iso8601_answer, iso8601_strict_answer, gitoxide_answer, default_answer, short_layout, rfc2822_layout, iso8601_layout, iso8601_strict_layout, gitoxide_layout, default_layout, time_answer, real_day_answer, date_answer, midnight}
@@ -15,10 +15,8 @@ use Rattle.gix_date.specs.Families.Raw.{OffsetRule, raw_time_by}
 use Rattle.gix_date.specs.Relative.Dates.{relative_date, RelativeDate}
 use Rattle.gix_date.specs.Fields.Civil.{civil_instant, is_date}
 use Rattle.gix_date.specs.Fields.Layout.{LocalTime, Piece, read_pieces, nothing_read, layout_answer}
-use Rattle.gix_date.specs.declared.error.ParseError.{ParseError}
-use Rattle.jiff.specs.declared.zoned.Zoned.{Zoned}
 use Rattle.gix_date.specs.declared.time.Time.{Time}
-use Rattle.gix_date.proofs.Families.Exclusive.{place, differ, answered, are-exclusive, alone-first}
+use Rattle.gix_date.proofs.Families.Exclusive.{place, differ, answered, are-exclusive}
 
 -- where Git's own forms come first, and relative texts
 pub git-first : (rule : OffsetRule) (text : List ℕ) → IsUtf8 text → family_answer rule Iso8601 text ≡ None
@@ -42,19 +40,6 @@ relative-first rule text u g h =
 abbrev IsNotRelative : Option FamilyAnswer → Type 0
 IsNotRelative (Some (Relative date)) = ⊥
 IsNotRelative _ = Unit {0}
-
-same-for : (found : Option FamilyAnswer) → IsNotRelative found
-    → (now other : Option Zoned) (result : Result Time ParseError) → ParseNoAllocOutcome found now result
-    → ParseNoAllocOutcome found other result
-same-for (Some (Relative date)) n now other result h = absurd n
-same-for found n now other result h = h
-
-ignores-by : (rule : OffsetRule) (found : Option FamilyAnswer) (text : List ℕ) → first_family_by rule text ≡ found
-    → IsNotRelative found → IgnoresMoment rule text
-ignores-by rule found text e n now other result h =
-    let at-now = subst (λ (r : Option FamilyAnswer). ParseNoAllocOutcome r now h.0) e h.1 in
-    let same = same-for found n now other h.0 at-now in
-    (h.0, subst (λ (r : Option FamilyAnswer). ParseNoAllocOutcome r other h.0) (sym e) same, h.2)
 
 not-relative : (r : Option Time) → IsNotRelative (option_map Absolute r)
 not-relative (Some t) = tt
@@ -131,35 +116,3 @@ pub counting : (rule : OffsetRule) (text : List ℕ) (date : RelativeDate) → f
     → relative_date text ≡ Some date
 unfolding first_family_by
 counting rule text date e = counting-by rule text date (families_before_git ++ (GitForm ∷ [])) refl e
-
--- a text that is not relative
-plain-ignores : (rule : OffsetRule) (text : List ℕ) → relative_date text ≡ None → IgnoresMoment rule text
-plain-ignores rule text n = by_answer (first_family_by rule text) refl
-  where
-    by_answer : (found : Option FamilyAnswer) → first_family_by rule text ≡ found → IgnoresMoment rule text
-    by_answer (Some (Relative date)) e = let clash : None ≡ Some date = sym n ∙ counting rule text date e in absurd cc
-    by_answer found e = ignores-by rule found text e tt
-
-alone-ignores : (rule : OffsetRule) (family : Family) (text : List ℕ) → IsUtf8 text → family ≢ GitForm
-    → family ≢ RelativeText → Holds rule family text → IgnoresMoment rule text
-alone-ignores rule family text u n m h =
-    ignores-by rule (family_answer rule family text) text (alone-first rule family text u n m h) (is-not-relative rule family text m)
-
-git-ignores : (rule : OffsetRule) (text : List ℕ) (iso strict : Option FamilyAnswer) → IsUtf8 text
-    → family_answer rule Iso8601 text ≡ iso → family_answer rule Iso8601Strict text ≡ strict
-    → Holds rule GitForm text → IgnoresMoment rule text
-git-ignores rule text (Some x) strict u p q h = alone-ignores rule Iso8601 text u (differ Iso8601 GitForm refl) (differ Iso8601 RelativeText refl) (ap is_some p)
-git-ignores rule text None (Some x) u p q h = alone-ignores rule Iso8601Strict text u (differ Iso8601Strict GitForm refl) (differ Iso8601Strict RelativeText refl) (ap is_some q)
-git-ignores rule text None None u p q h =
-    ignores-by rule (family_answer rule GitForm text) text (git-first rule text u p q h) (not-relative (git_time text))
-
--- all of these
-pub ignores : (rule : OffsetRule) (text : List ℕ) → IsUtf8 text
-    → (relative_date text ≡ None → IgnoresMoment rule text) × (Holds rule RawText text → IgnoresMoment rule text)
-    × (Holds rule BareEpoch text → IgnoresMoment rule text) × (Holds rule GitForm text → IgnoresMoment rule text)
-ignores rule text u = (
-  plain-ignores rule text,
-  alone-ignores rule RawText text u (differ RawText GitForm refl) (differ RawText RelativeText refl),
-  alone-ignores rule BareEpoch text u (differ BareEpoch GitForm refl) (differ BareEpoch RelativeText refl),
-  git-ignores rule text (family_answer rule Iso8601 text) (family_answer rule Iso8601Strict text) u refl refl,
-)

@@ -2,35 +2,30 @@
 use Rattle.std.proofs.Common.{◌≡◌, ◌∙◌, ℕ, ℤ, pos, Bool, true, false, cond, List, [], ◌∷◌, refl, ap, sym, subst, Option, Some, None, Ok, Err, Result, inl, inr}
 use Rattle.std.proofs.lemmas.Option.{same_Some as same_some}
 use Rattle.std.specs.Option.{option_map, option_or}
-use Rattle.std.specs.Prelude.{is_some, unwrap_or}
+use Rattle.std.specs.Prelude.{is_some}
 use Rattle.std.specs.Result.{result_map_both}
 use Rattle.jiff.specs.declared.zoned.Zoned.{Zoned}
 use Rattle.std.specs.Str.{trim, IsUtf8}
 use Rattle.gix_date.specs.Careful.Dates.{unzoned_day, unzoned_git_time, unzoned_time}
 use Rattle.gix_date.specs.Careful.Outcome.{First, CarefulOutcome}
-use Rattle.gix_date.specs.Careful.Laws.{IsUnzoned, IsUnzonedSo}
-use Rattle.gix_date.specs.Families.Answer.{FamilyAnswer, Absolute, NoInstant}
+use Rattle.gix_date.specs.Families.Answer.{FamilyAnswer, Absolute}
 use Rattle.gix_date.specs.Families.Epoch.{utc_time}
 use Rattle.gix_date.specs.Families.Order.{first_family_by, ParseNoAllocOutcome, Short}
-use Rattle.gix_date.specs.Families.Patterns.{midnight, day_answer, real_day_answer, short_answer}
+use Rattle.gix_date.specs.Families.Patterns.{midnight, real_day_answer, short_answer}
 use Rattle.gix_date.specs.Families.AfterDay.{answer_after}
 use Rattle.gix_date.specs.Families.Raw.{OffsetRule, is_quarter_offset}
-use Rattle.gix_date.specs.Fields.Civil.{is_date, civil_instant}
+use Rattle.gix_date.specs.Fields.Civil.{civil_instant}
 use Rattle.gix_date.specs.Fields.DateFields.{read_plain_date}
-use Rattle.gix_date.specs.Text.Front.{◌>>=◌}
-use Rattle.gix_date.specs.Fields.Layout.{LocalDate, LocalTime, nothing_read, read_pieces}
+use Rattle.gix_date.specs.Fields.Layout.{LocalDate}
 use Rattle.gix_date.specs.Git.ClockCut.{clock_cut}
-use Rattle.gix_date.specs.Git.Clock.{git_clock}
-use Rattle.gix_date.specs.Git.Forms.{git_form, git_front, git_time, git_offset, time_of_cut}
+use Rattle.gix_date.specs.Git.Forms.{git_form, git_front, git_time, time_of_cut}
 use Rattle.gix_date.specs.Text.SpaceWords.{is_nonempty}
 use Rattle.gix_date.specs.declared.error.CarefulError.TheVariants as errors
 use Rattle.gix_date.specs.declared.error.ParseError.{ParseError}
 use Rattle.gix_date.specs.declared.time.Time.{Time}
 use Rattle.gix_date.proofs.Fields.AfterDay.{day-with-instant}
 use Rattle.gix_date.proofs.Fields.FieldsTaken.{went, first-or}
-use Rattle.gix_date.proofs.Fields.Layouts.{dates_spelled}
 use Rattle.gix_date_laws.proofs.Shared.Agreement.{comes-first}
-use Rattle.gix_date_laws.proofs.Git.Unzoned.{unzoned-spelled}
 
 pub plain-time : (answer : Option FamilyAnswer) (now : Option Zoned) (t : Time) → CarefulOutcome (First answer) now (Ok t) → ParseNoAllocOutcome answer now (Ok t)
 plain-time answer now t (plain, outcome, e) = by plain outcome e
@@ -45,79 +40,43 @@ unless-some : (b : Bool) (a : Option Time) (t : Time) → cond b None a ≡ Some
 unless-some true a t e = absurd cc
 unless-some false a t e = (refl, e)
 
--- the offset that is not written is 0
-none-written : (date : LocalDate) (clock zone : List ℕ) (t : Time) → is_nonempty zone ≡ false → time_of_cut date (clock, zone) ≡ Some t → t.offset ≡ pos 0
-unfolding time_of_cut git_offset
-none-written date clock (c ∷ cs) t e k = absurd cc
-none-written date clock [] t e k =
-    let c = went (git_clock clock) (λ clock. civil_instant date clock (pos 0) >>= λ s. Some (utc_time s)) t k in
-    let s = went (civil_instant date c.0 (pos 0)) (λ s. Some (utc_time s)) t c.2 in
-    ap (λ (u : Time). u.offset) (sym (same_some (utc_time s.0) t s.2))
-
-pub git-is : (text : List ℕ) (t : Time) → unzoned_git_time text ≡ Some t → (git_time text ≡ Some t) × (t.offset ≡ pos 0)
+git-is : (text : List ℕ) (t : Time) → unzoned_git_time text ≡ Some t → git_time text ≡ Some t
 unfolding unzoned_git_time git_time git_form
 git-is text t e =
     let front = went (git_front (trim text)) (λ f. cond (is_nonempty (clock_cut (trim f.1)).1) None (time_of_cut f.0 (clock_cut (trim f.1)))) t e in
     let cut = clock_cut (trim front.0.1) in
     let k = unless-some (is_nonempty cut.1) (time_of_cut front.0.0 cut) t front.2 in
-    (rw front.1 k.1, none-written front.0.0 cut.0 cut.1 t k.0 k.1)
+    rw front.1 k.1
 
 short-of : (text : List ℕ) (date : LocalDate) → read_plain_date text ≡ Some (date, []) → short_answer text ≡ answer_after [] real_day_answer date []
 unfolding short_answer
 short-of text date e = rw e refl
 
 day-of : (text : List ℕ) (date : LocalDate) (rest : List ℕ) (t : Time) → read_plain_date text ≡ Some (date, rest) → is_nonempty rest ≡ false → option_map utc_time (civil_instant date midnight (pos 0)) ≡ Some t
-    → (short_answer text ≡ Some (Absolute t)) × (t.offset ≡ pos 0)
+    → short_answer text ≡ Some (Absolute t)
 day-of text date (c ∷ cs) t e n k = absurd cc
 day-of text date [] t e n k = by (civil_instant date midnight (pos 0)) refl k
   where
-    by : (s : Option ℤ) → civil_instant date midnight (pos 0) ≡ s → option_map utc_time s ≡ Some t → (short_answer text ≡ Some (Absolute t)) × (t.offset ≡ pos 0)
+    by : (s : Option ℤ) → civil_instant date midnight (pos 0) ≡ s → option_map utc_time s ≡ Some t → short_answer text ≡ Some (Absolute t)
     by None i k = absurd cc
     by (Some s) i k =
-        let same = same_some (utc_time s) t k in
-        (short-of text date e ∙ sym (day-with-instant date s (sym i)) ∙ ap (λ (u : Time). Some (Absolute u)) same, ap (λ (u : Time). u.offset) (sym same))
+        short-of text date e ∙ sym (day-with-instant date s (sym i)) ∙ ap (λ (u : Time). Some (Absolute u)) (same_some (utc_time s) t k)
 
-pub day-is : (text : List ℕ) (t : Time) → unzoned_day text ≡ Some t → (short_answer text ≡ Some (Absolute t)) × (t.offset ≡ pos 0)
+day-is : (text : List ℕ) (t : Time) → unzoned_day text ≡ Some t → short_answer text ≡ Some (Absolute t)
 unfolding unzoned_day
 day-is text t e =
     let day = went (read_plain_date text) (λ d. cond (is_nonempty d.1) None (option_map utc_time (civil_instant d.0 midnight (pos 0)))) t e in
     let k = unless-some (is_nonempty day.0.1) (option_map utc_time (civil_instant day.0.0 midnight (pos 0))) t day.2 in
     day-of text day.0.0 day.0.1 t day.1 k.0 k.1
 
-pub answers : (rule : OffsetRule) (text : List ℕ) (t : Time) → IsUtf8 text → unzoned_time text ≡ Some t → (first_family_by rule text ≡ Some (Absolute t)) × (t.offset ≡ pos 0)
+pub answers : (rule : OffsetRule) (text : List ℕ) (t : Time) → IsUtf8 text → unzoned_time text ≡ Some t → first_family_by rule text ≡ Some (Absolute t)
 unfolding unzoned_time
 answers rule text t u e =
     let first = comes-first rule text u in
     elim (first-or (unzoned_day text) (unzoned_git_time text) t e) [
-      | inl h ↦ (let d = day-is text t h in (first.alone Short (λ q. cc) (λ q. cc) (ap is_some d.0) ∙ d.0, d.1))
-      | inr h ↦ (let g = git-is text t h in (first.git (ap (λ o. is_some (option_map Absolute o)) g.0) ∙ ap (option_map Absolute) g.0, g.1))
+      | inl h ↦ (let d = day-is text t h in first.alone Short (λ q. cc) (λ q. cc) (ap is_some d) ∙ d)
+      | inr h ↦ (let g = git-is text t h in first.git (ap (λ o. is_some (option_map Absolute o)) g) ∙ ap (option_map Absolute) g)
     ]
-
--- A day alone that has an instant is read as one.
-by-instant : (s : Option ℤ) (t : Time) → unwrap_or (option_map (λ n. Absolute (utc_time n)) s) NoInstant ≡ Absolute t → option_map utc_time s ≡ Some t
-by-instant None t e = absurd cc
-by-instant (Some s) t e = cc
-
-by-date : (date : LocalDate) (b : Bool) (t : Time) → cond b (Some (day_answer date)) None ≡ Some (Absolute t) → option_map utc_time (civil_instant date midnight (pos 0)) ≡ Some t
-by-date date true t e = by-instant (civil_instant date midnight (pos 0)) t cc
-by-date date false t e = absurd cc
-
-abbrev day_of_piece : LocalDate × List ℕ → Option (LocalTime × List ℕ)
-day_of_piece day = Some (record nothing_read { date = day.0 }, day.1)
-
-abbrev all_read : LocalTime × List ℕ → Option LocalTime
-all_read read = read_pieces [] read.0 read.1
-
-abbrev day_alone : LocalDate × List ℕ → Option Time
-day_alone day = cond (is_nonempty day.1) None (option_map utc_time (civil_instant day.0 midnight (pos 0)))
-
-by-day : (found : Option (LocalDate × List ℕ)) (t : Time) → ((found >>= day_of_piece) >>= all_read) >>= real_day_answer ≡ Some (Absolute t) → (found >>= day_alone) ≡ Some t
-by-day (Some (date, [])) t e = by-date date (is_date date) t e
-by-day found t e = absurd cc
-
-short-day : (text : List ℕ) (t : Time) → short_answer text ≡ Some (Absolute t) → unzoned_day text ≡ Some t
-unfolding short_answer unzoned_day
-short-day text t e = by-day (read_plain_date text) t e
 
 pub unzoned-by-day : (text : List ℕ) (t : Time) → unzoned_day text ≡ Some t → unzoned_time text ≡ Some t
 unfolding unzoned_time
@@ -131,23 +90,8 @@ unfolding unzoned_time
 unzoned-by-git text t u e = by (unzoned_day text) refl
   where
     git : first_family_by is_quarter_offset text ≡ Some (Absolute t)
-    git = let g = git-is text t e in (comes-first is_quarter_offset text u).git (ap (λ o. is_some (option_map Absolute o)) g.0) ∙ ap (option_map Absolute) g.0
+    git = let g = git-is text t e in (comes-first is_quarter_offset text u).git (ap (λ o. is_some (option_map Absolute o)) g) ∙ ap (option_map Absolute) g
 
     by : (d : Option Time) → unzoned_day text ≡ d → option_or d (unzoned_git_time text) ≡ Some t
     by None f = e
-    by (Some k) f = ap (λ (z : Time). Some z) (same-answer k t (sym (answers is_quarter_offset text k u (unzoned-by-day text k f)).0 ∙ git))
-
-unzoned-is : (text : List ℕ) (t : Time) → unzoned_time text ≡ Some t → IsUnzoned text t
-unfolding unzoned_time
-unzoned-is text t e =
-    elim (first-or (unzoned_day text) (unzoned_git_time text) t e) [
-      | inl h ↦ inl ((dates_spelled.short text (Absolute t)).0 (day-is text t h).0)
-      | inr h ↦ inr ((unzoned-spelled text t).0 h)
-    ]
-
-pub is-unzoned : (text : List ℕ) (t : Time) → IsUtf8 text → IsUnzoned text t → unzoned_time text ≡ Some t
-is-unzoned text t u (inl h) = unzoned-by-day text t (short-day text t ((dates_spelled.short text (Absolute t)).1 h))
-is-unzoned text t u (inr h) = unzoned-by-git text t u ((unzoned-spelled text t).1 h)
-
-pub unzoned-so : (text : List ℕ) → IsUtf8 text → IsUnzonedSo text
-unzoned-so text u t = (unzoned-is text t, is-unzoned text t u)
+    by (Some k) f = ap (λ (z : Time). Some z) (same-answer k t (sym (answers is_quarter_offset text k u (unzoned-by-day text k f)) ∙ git))

@@ -132,5 +132,5 @@ fn a_writer_that_fails_has_taken_a_prefix_of_the_cleaned_line(rt: HostRuntime) {
 
 #[test]
 fn a_law_of_identity_lines_is_called_for_nothing_but_what_it_states() {
-    laws::passed_has_identity(b"A <a> 5 +0000");
+    laws::written_passes(b"A", b"a", Time::new(5, 3600));
 }

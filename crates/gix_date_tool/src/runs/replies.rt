@@ -4,7 +4,7 @@ ghost use Rattle.gix_date.specs.Families.Order.{first_family};
 ghost use Rattle.gix_date.specs.Header.Reading.{header_time};
 ghost use Rattle.gix_date_tool.specs.declared.runs.replies.Reply.TheVariants.{Read};
 ghost use Rattle.gix_date_tool.specs.Outbox.{Sends, output};
-ghost use Rattle.gix_date_tool.specs.Replies.{RepliesAreUnique, CanonicalLines, ParsedLines, UnchangedLines, Replied, IsReply, IsParseReply, IsSignReply, IsWritable, reply_line, check_reply};
+ghost use Rattle.gix_date_tool.specs.Replies.{RepliesAreUnique, CanonicalLines, UnchangedLines, Replied, IsReply, IsParseReply, IsSignReply, IsWritable, reply_line, check_reply};
 
 use crate::program::arguments::Mode;
 use crate::runs::outbox::Outbox;
@@ -98,11 +98,6 @@ fn push_reading<W: Sink>(time: Time, outbox: &mut Outbox, out: &mut W) -> Result
 /// Each line has at most one reply, in a mode and at a moment.
 pub fn replies_are_unique()
     ensures { RepliesAreUnique }
-{}
-
-/// The reply to a line that is parsed as a time is the header text of that time, so it is never empty.
-pub fn parsed_lines(line: &[u8])
-    ensures { ParsedLines line.now }
 {}
 
 /// In Check the reply to a line is `canonical` iff the line is a canonical header (`is_canonical_header`), whatever the

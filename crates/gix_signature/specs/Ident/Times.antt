@@ -1,5 +1,5 @@
 -- The time that Git makes of a date's texts, and numbers as C reads them.
-use Rattle.std.specs.Prelude.{ℕ, ◌+◌, ◌-◌, ◌*◌, ◌/◌, ◌%◌, ◌^◌, Bool, ◌||◌, nat_lt, int_lt, if◌then◌else◌, List, drop, take_while, ℤ, pos, negsuc, neg_ℤ, unsigned_abs, Option, Some, None, Result, Ok, Err}
+use Rattle.std.specs.Prelude.{ℕ, ◌+◌, ◌-◌, ◌*◌, ◌/◌, ◌%◌, Bool, ◌||◌, nat_lt, int_lt, if◌then◌else◌, List, drop, take_while, ℤ, pos, negsuc, neg_ℤ, unsigned_abs, Option, Some, None, Result, Ok, Err}
 use Rattle.std.specs.Char.{is_ascii_digit}
 use Rattle.std.specs.Str.Parse.{digits_value, signed_digits_value}
 use Rattle.gix_date.specs.Text.Front.{ReadFront}

@@ -3,6 +3,7 @@ use Rattle.jiff.specs.Words.{plain_zoned}
 use Rattle.gix_date.specs.Fields.Layout.{LocalTime}
 use Rattle.gix_date.specs.Printing.LocalClocks.{clock_of, date_of_day}
 use Rattle.gix_date.specs.declared.time.Time.{Time}
+use Rattle.gix_date.proofs.Printing.LocalClocks.{clock-shown, moment-shows}
 use Rattle.gix_date.proofs.Relative.FixedTimes.{moment-fixed}
 use Rattle.gix_date_tests.proofs.laws.laws_are_called_for_what_they_state_of_a_time.Goals as goal
 
@@ -19,14 +20,9 @@ months_add-requires-clause-fixed g c = moment-fixed _ c.in_ok-moment.moment c.in
 pub months_add-requires-clause-day : goal.months_add-requires-clause-day
 unfolding clock_of date_of_day
 months_add-requires-clause-day g c =
-    let shown = c.local_clock.ensures.shown c.in_ok-moment.moment c.in_ok-moment.ensures.value in
-    let time = c.new-time.ensures in
-    let day : (plain_zoned c.in_ok-moment.moment).datetime.date.day ≡ 19 =
-    ap (λ (l : LocalTime). l.date.day) shown ∙ ap (λ (t : Time). (clock_of t).date.day) time in
+    let moment = c.in_ok-moment.moment in
+    let time = c.new-time.result in
+    let shown = clock-shown (plain_zoned moment) time (moment-shows time moment c.in_ok-moment.ensures.value) in
+    let day : (plain_zoned moment).datetime.date.day ≡ 19 =
+    ap (λ (l : LocalTime). l.date.day) shown ∙ ap (λ (t : Time). (clock_of t).date.day) c.new-time.ensures in
     omega (arith, day)
-
-pub seconds_before-requires-clause-fixed : goal.seconds_before-requires-clause-fixed
-seconds_before-requires-clause-fixed g c = moment-fixed _ c.in_ok-moment.moment c.in_ok-moment.ensures.value
-
-pub never_later-requires : goal.never_later-requires
-never_later-requires g c = record { fixed = moment-fixed _ c.in_ok-moment.moment c.in_ok-moment.ensures.value }

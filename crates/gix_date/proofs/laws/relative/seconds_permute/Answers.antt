@@ -4,14 +4,11 @@ use Rattle.jiff.specs.Words.{zoned_nanos}
 use Rattle.gix_date.specs.Relative.FixedZones.{ProductFits, product, total}
 use Rattle.gix_date.specs.Relative.Steps.{zone_of}
 use Rattle.gix_date.proofs.Relative.FixedZones.{IsLoss, total-sum_by, same-seconds, all-loss}
-use Rattle.gix_date.proofs.Relative.KeptInstants.{fixed-way, kept-names-sum}
+use Rattle.gix_date.proofs.Relative.FixedSeconds.{names-sum}
 use Rattle.gix_date.proofs.laws.relative.seconds_permute.Goals as goal
 
 pub returns-clause-sum : goal.returns-clause-sum
-returns-clause-sum c =
-    let z = c.args.moment.now in
-    let pairs = c.args.pairs.now in
-    kept-names-sum z pairs (fixed-way (zone_of z) c.requires.fixed pairs (zoned_nanos z)) (all-loss pairs c.requires.pairs)
+returns-clause-sum c = names-sum c.args.moment.now c.args.pairs.now c.requires.fixed (all-loss c.args.pairs.now c.requires.pairs)
 
 pub returns-clause-order : goal.returns-clause-order
 returns-clause-order c other h =
@@ -21,7 +18,6 @@ returns-clause-order c other h =
     let other_loss = All-permutation IsLoss pairs other h loss in
     let sums = ap pos (sum_by-IsPermutation (λ p. unsigned_abs (product p)) pairs other h) in
     let same : total other ≡ total pairs = total-sum_by other other_loss ∙ sums ∙ sym (total-sum_by pairs loss) in
-    let way = fixed-way (zone_of z) c.requires.fixed in
     same-seconds (zone_of z) pairs other (zoned_nanos z) same
     (All-permutation ProductFits pairs other h, All-permutation ProductFits other pairs (IsPermutation-sym pairs other h))
-    (kept-names-sum z pairs (way pairs (zoned_nanos z)) loss) (kept-names-sum z other (way other (zoned_nanos z)) other_loss)
+    (names-sum z pairs c.requires.fixed loss) (names-sum z other c.requires.fixed other_loss)

@@ -1,14 +1,41 @@
-use Rattle.std.proofs.Common.{refl, subst}
+use Rattle.std.proofs.Common.{rules, ◌≡◌, ◌∙◌, pos, ◌*ℤ◌, ◌+ℤ◌, FitsSigned, w64, refl, sym, ap, subst, arith}
+use Rattle.std.proofs.lemmas.Int.{to_z-of_z}
+use Rattle.jiff_core.proofs.SignedLemmas.{signed_arith}
 use Rattle.jiff.specs.Types.{TimeZone}
-use Rattle.jiff.specs.Words.{plain_zone, fixed_zone}
-use Rattle.gix_date.specs.Relative.Steps.{zone_of, ChooseAlike}
-use Rattle.gix_date.proofs.Careful.FixedZones.{if-any-alike}
-use Rattle.gix_date.proofs.Relative.FixedSteps.{one-offset}
+use Rattle.jiff.specs.Words.{civil_nanos, epoch_day, nanos_of_seconds, plain_zone, zoned_nanos, offset_at}
+use Rattle.gix_date.specs.Relative.Steps.{zone_of, IsPicked, civil_of}
+use Rattle.gix_date.proofs.Careful.Zones.{local-is, none-local}
+use Rattle.gix_date.proofs.Fields.Instants.{instant_holds, instant_range}
+use Rattle.gix_date.proofs.parsing.careful.time_in_zone.Goals.{After-to_datetime-shown}
 use Rattle.gix_date.proofs.parsing.careful.time_in_zone.Goals as goal
 
-pub returns-in-Ok-clause-local : goal.returns-in-Ok-clause-local
-returns-in-Ok-clause-local c =
-    let alike : ChooseAlike (plain_zone c.time_zone.result) (fixed_zone c.in-Ok.offset) =
-    one-offset (plain_zone c.time_zone.result) c.in-Ok.offset (c.in-Ok.ensures.succeeds.0 refl) c.in-Ok.ensures.value in
-    if-any-alike (zone_of c.args.moment) (fixed_zone c.in-Ok.offset) c.args.time c.fast_time_in_zone.result
-    (subst (λ (tz : TimeZone). ChooseAlike tz (fixed_zone c.in-Ok.offset)) c.time_zone.ensures alike) c.fast_time_in_zone.ensures.local
+pub returns-in_default-clause-local : goal.returns-in_default-clause-local
+returns-in_default-clause-local c =
+    let seconds = c.args.time.seconds in
+    let fits : FitsSigned w64 seconds = search rules in
+    let placed = simp to_z-of_z at c.in_default.ensures.succeeds in
+    λ r h. absurd (let e = placed.1 ((instant_range (seconds *ℤ pos 1_000_000_000) seconds refl).1 (instant_holds seconds c.requires)) in cc)
+
+-- the clock in UTC shows the time's seconds
+shown-is : (c : After-to_datetime-shown) → civil_nanos c.to_datetime-shown.result ≡ nanos_of_seconds c.args.time.seconds
+shown-is c =
+    let fits : FitsSigned w64 c.args.time.seconds = search rules in
+    let at = simp to_z-of_z at c.in-Ok.ensures.value in
+    let dt : civil_nanos c.to_datetime-shown.result ≡ c.in-Ok.instant.nanosecond +ℤ nanos_of_seconds (pos 0) = c.to_datetime-shown.ensures in
+    omega (arith, signed_arith, dt, at)
+
+pub returns-in-Some-clause-local : goal.returns-in-Some-clause-local
+returns-in-Some-clause-local c =
+    let shown = shown-is (goal.at.returns-in-Some-clause-local c).After-to_datetime-shown in
+    let zone : plain_zone c.time_zone.result ≡ zone_of c.args.moment = c.time_zone.ensures in
+    let picked = subst (λ (tz : TimeZone). IsPicked tz (civil_of (epoch_day c.date.result) c.time.result) (zoned_nanos c.in-Some.local)) zone c.in-Some.ensures.instant in
+    let offset = c.time_of_moment.ensures.offset ∙ ap (λ (tz : TimeZone). offset_at tz (zoned_nanos c.in-Some.local)) (c.in-Some.ensures.zone ∙ zone) in
+    local-is (zone_of c.args.moment) c.args.time c.time_of_moment.result c.to_datetime-shown.result c.date.result c.time.result (zoned_nanos c.in-Some.local) shown (sym c.date.ensures) (sym c.time.ensures)
+    picked c.time_of_moment.ensures.seconds offset
+
+pub returns-in-None-clause-local : goal.returns-in-None-clause-local
+returns-in-None-clause-local c =
+    let shown = shown-is (goal.at.returns-in-None-clause-local c).After-to_datetime-shown in
+    let zone : plain_zone c.time_zone.result ≡ zone_of c.args.moment = c.time_zone.ensures in
+    λ r h. none-local (zone_of c.args.moment) c.args.time r c.to_datetime-shown.result c.date.result c.time.result shown (sym c.date.ensures) (sym c.time.ensures)
+    (λ j p. c.in-None.ensures.instant j (subst (λ (tz : TimeZone). IsPicked tz (civil_of (epoch_day c.date.result) c.time.result) j) (sym zone) p)) h

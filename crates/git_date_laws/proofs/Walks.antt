@@ -1,3 +1,0 @@
--- What the rules make of like tokens and like drafts.
-pub mod Respects
-pub mod RespectedDrafts

@@ -1,0 +1,16 @@
+//! Where `gix_date` and `git_date` read the same time.
+ghost use Rattle.gix_date.specs.Families.Raw.{allows};
+ghost use Rattle.git_date_laws.specs.Agree.{AgreesOnSeconds, AgreesOnDates};
+
+use gix_date::{RawOffsets, Zoned};
+
+/// [`gix_date::parse_with`] and [`git_date::parse_date`] read the same time, where both read one, the offset is written, and Git
+/// ignores nothing: of seconds since 1970, and of formatted dates from 1970 on without a second 60, which `gix_date` reads as 59. Git
+/// has no offset of one minute behind UTC.
+///
+/// The law does not speak of Git's own forms: `2008-02-14 20:30:45 -:0530` is behind UTC by `gix_date`, and ahead of it by Git.
+#[tactic(auto, using(crate::proofs::Agreement::Agreed::seconds_agree, crate::proofs::Agreement::Agreed::dates_agree))]
+pub fn agree(text: &str, raw: RawOffsets, now: &Zoned<'_>)
+    ensures seconds { AgreesOnSeconds (allows raw) now.now text.now }
+    ensures dates { AgreesOnDates (allows raw) now.now text.now }
+{}

@@ -1,9 +1,0 @@
-use Rattle.jiff.specs.Words.{zoned_nanos}
-use Rattle.gix_date.specs.Relative.Steps.{zone_of}
-use Rattle.gix_date_laws.proofs.Pairs.LaterInstants.{fixed-none-later, none-later}
-use Rattle.gix_date_laws.proofs.relative.never_later.Goals as goal
-
-pub returns : goal.returns
-returns c date instant e h =
-    let z = c.args.moment.now in
-    none-later (zone_of z) c.args.text.now date (zoned_nanos z) instant (fixed-none-later (zone_of z) c.requires.fixed) e h
