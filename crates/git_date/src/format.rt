@@ -53,13 +53,8 @@ pub fn show_by_format<W: Sink>(
     ensures { WritesShown (shown_by_format (moment_of now.entry).zone local (format_bytes format.entry) time)
         (W.known out.old) (W.known out.new) result }
 {
-    let Some(shown) = shown_for(time, format, local, now.time_zone()) else {
-        return Err(ShowError::Range);
-    };
-    match put_shown(format.text, &shown, out) {
-        Ok(()) => Ok(()),
-        Err(kind) => Err(ShowError::Write(kind)),
-    }
+    let shown = shown_for(time, format, local, now.time_zone()).ok_or(ShowError::Range)?;
+    put_shown(format.text, &shown, out).map_err(ShowError::Write)
 }
 
 /// The text that [`show_by_format`] writes.
@@ -91,9 +86,7 @@ pub fn text_by_format_in(
         (λ text. shown_by_format (plain_zone zone.entry) local (format_bytes format.entry) time ≡ Some (string_bytes text))
         (RefusesText (shown_by_format (plain_zone zone.entry) local (format_bytes format.entry) time)) }
 {
-    let Some(shown) = shown_for(time, format, local, zone) else {
-        return Err(ShowError::Range);
-    };
+    let shown = shown_for(time, format, local, zone).ok_or(ShowError::Range)?;
     let mut text = String::new(alloc);
     match push_shown(format.text, &shown, &mut text) {
         Ok(()) => Ok(text),

@@ -66,9 +66,7 @@ pub(crate) fn parse_text(
 ) -> Result<CTime, Refusal>
     ensures { IsParsedCarefully numbers.now now.entry text.now result }
 {
-    let Some(options) = options_of(numbers) else {
-        return Err(Refusal::of(Status::NoSuchOption));
-    };
+    let options = options_of(numbers).ok_or(Refusal::of(Status::NoSuchOption))?;
     match utf8_text(text) {
         Ok(text) => for_c(parse_carefully(text, now, options)),
         Err(status) => Err(Refusal::of(status)),

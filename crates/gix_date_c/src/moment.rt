@@ -73,10 +73,7 @@ pub(crate) fn rule_zone(rule: &[u8]) -> Result<TimeZone<'static>, Status>
 pub(crate) fn table_of(alloc: Global, file: &[u8]) -> Result<Tzif, Status>
     ensures { IsTable file.now result }
 {
-    match Tzif::parse(alloc, None, file) {
-        Ok(table) => Ok(table),
-        Err(error) => Err(file_status(error)),
-    }
+    Tzif::parse(alloc, None, file).map_err(file_status)
 }
 
 /// The status of a TZif file that is refused.

@@ -46,10 +46,7 @@ pub(crate) fn parse_text(
     ensures { IsParsed raw_offsets now.entry text.now result }
 {
     let rule = raw_rule(raw_offsets).ok_or(Status::NoSuchOption)?;
-    match parse_no_alloc(utf8_text(text)?, now, rule) {
-        Ok(time) => Ok(time),
-        Err(error) => Err(refusal_status(error)),
-    }
+    parse_no_alloc(utf8_text(text)?, now, rule).map_err(refusal_status)
 }
 
 /// The status of a refusal of the library.

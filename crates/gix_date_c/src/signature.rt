@@ -129,9 +129,7 @@ fn line_of<'a>(
     let name = utf8_text(name)?;
     let mail = utf8_text(mail)?;
     may_write(name, mail, time)?;
-    let Ok(text) = time.to_buf() else {
-        return Err(Status::OffsetTooWide);
-    };
+    let text = time.to_buf().ok().ok_or(Status::OffsetTooWide)?;
     *buf = text;
     let time = buf.as_str();
     Ok(SignatureRef { name, mail, time })

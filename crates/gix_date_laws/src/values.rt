@@ -8,9 +8,8 @@ ghost use Rattle.gix_date.specs.Header.TimeBuf.{text_in};
 ghost use Rattle.gix_date.specs.Families.Patterns.{max_date_offset};
 ghost use Rattle.gix_date.specs.Values.{ComparesParts, AgreesWith, IsEquality, FeedsParts, FeedsAlike};
 
+use gix_date::Time;
 use gix_date::parsing::TimeBuf;
-use gix_date::time::format::{CustomFormat, Format};
-use gix_date::{CarefulError, CarefulOptions, ParseError, RawOffsets, Time};
 use std::hash::Hash;
 
 /// The seconds and offsets of the two constants and of the default, which is 0 with offset 0.
@@ -32,25 +31,12 @@ pub fn limits()
     ensures text_of_min { IfSome (header_text Time.MIN) (λ text. length text ≡ max_text_len) }
 {}
 
-/// A clone of a time, a rule for raw offsets, options, a `ParseError`, a `CarefulError`, a format or a pattern is that
-/// value. A clone of a buffer holds the same text. No clone fails.
+/// A clone of a time is that time, and one of a buffer holds the same text. No clone fails.
 pub fn clones()
     ensures time { (a b : Time) → ⟦<Time as Clone>⟧.is_clone a b → b ≡ a }
     ensures time_succeeds { (a : Time) → ⟦<Time as Clone>⟧.is_infallible a }
     ensures buffer { (a b : TimeBuf) → ⟦<TimeBuf as Clone>⟧.is_clone a b → text_in b ≡ text_in a }
     ensures buffer_succeeds { (a : TimeBuf) → ⟦<TimeBuf as Clone>⟧.is_infallible a }
-    ensures rule { (a b : RawOffsets) → ⟦<RawOffsets as Clone>⟧.is_clone a b → b ≡ a }
-    ensures rule_succeeds { (a : RawOffsets) → ⟦<RawOffsets as Clone>⟧.is_infallible a }
-    ensures refusal { (a b : ParseError) → ⟦<ParseError as Clone>⟧.is_clone a b → b ≡ a }
-    ensures refusal_succeeds { (a : ParseError) → ⟦<ParseError as Clone>⟧.is_infallible a }
-    ensures options { (a b : CarefulOptions) → ⟦<CarefulOptions as Clone>⟧.is_clone a b → b ≡ a }
-    ensures options_succeed { (a : CarefulOptions) → ⟦<CarefulOptions as Clone>⟧.is_infallible a }
-    ensures careful { (a b : CarefulError) → ⟦<CarefulError as Clone>⟧.is_clone a b → b ≡ a }
-    ensures careful_succeeds { (a : CarefulError) → ⟦<CarefulError as Clone>⟧.is_infallible a }
-    ensures format { (a b : Format) → ⟦<Format as Clone>⟧.is_clone a b → b ≡ a }
-    ensures format_succeeds { (a : Format) → ⟦<Format as Clone>⟧.is_infallible a }
-    ensures pattern { (a b : CustomFormat) → ⟦<CustomFormat as Clone>⟧.is_clone a b → b ≡ a }
-    ensures pattern_succeeds { (a : CustomFormat) → ⟦<CustomFormat as Clone>⟧.is_infallible a }
 {}
 
 /// Times are ordered by their seconds, and then by their offset. Two times are equal in this order iff `==` holds.
@@ -59,14 +45,9 @@ pub fn order()
     ensures agrees { AgreesWith ⟦<Time as Ord>⟧.cmp ⟦<Time as PartialEq>⟧.eq }
 {}
 
-/// Times are equal by `==` iff both numbers are the same. The same holds for rules for raw offsets, options, `ParseError`s
-/// and `CarefulError`s.
+/// Times are equal by `==` iff both numbers are the same.
 pub fn equality()
     ensures time { IsEquality ⟦<Time as PartialEq>⟧.eq }
-    ensures rule { IsEquality ⟦<RawOffsets as PartialEq>⟧.eq }
-    ensures options { IsEquality ⟦<CarefulOptions as PartialEq>⟧.eq }
-    ensures refusal { IsEquality ⟦<ParseError as PartialEq>⟧.eq }
-    ensures careful { IsEquality ⟦<CarefulError as PartialEq>⟧.eq }
 {}
 
 /// A time feeds a hasher its seconds and then its offset. So equal times hash alike.

@@ -1,5 +1,5 @@
 -- Texts of at most 255 bytes, by one walk over a format.
-use Rattle.std.specs.Prelude.{◌≡◌, ℕ, zero, suc, ◌<◌, ◌≤◌, List, [], ◌++◌, length, take, Bool, true, false, ◌||◌, if◌then◌else◌, Option, Some, None, option_map, Result, Ok, Err}
+use Rattle.std.specs.Prelude.{◌≡◌, ℕ, ◌<◌, List, [], ◌++◌, length, Bool, true, false, ◌||◌, if◌then◌else◌, Option, Some, None, option_map, Result, Ok, Err}
 use Rattle.std.specs.Char.{is_ascii_digit}
 use Rattle.git_date.specs.declared.format.fault.FormatFault.{FormatFault}
 use Rattle.git_date.specs.Formats.Flags.{is_flag}
@@ -27,24 +27,3 @@ pub record Passes (shown : Shown) (text rest old new : List ℕ) : Type 0 where
   pub first : Ok (piece, rest) ≡ next_piece text
   pub shorter : length rest < length text
   pub said : new ≡ old ++ piece_text shown piece
-
--- a walk over a format: what is left of it, and the text so far
-pub record Walk : Type 0 where
-  pub left : List ℕ
-  pub text : List ℕ
-
-abbrev pub walk : List ℕ → List ℕ → Walk
-walk left text = record { left = left; text = text }
-
--- so many pieces are passed, one after the other
-abbrev pub GoesIn : ℕ → Shown → Walk → Walk → Type 0
-GoesIn zero shown from to = from ≡ to
-GoesIn (suc n) shown from to = (next : Walk) × Passes shown from.left next.left from.text next.text × GoesIn n shown next to
-
--- pieces are passed, at least one
-abbrev pub Goes : Shown → Walk → Walk → Type 0
-Goes shown from to = (n : ℕ) × GoesIn n shown from to × (length to.left < length from.left)
-
--- bytes begin with these eight
-abbrev pub BeginsWith : List ℕ → List ℕ → Type 0
-BeginsWith bytes front = (8 ≤ length bytes) × (take 8 bytes ≡ front)

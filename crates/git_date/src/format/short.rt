@@ -4,7 +4,7 @@ ghost use Rattle.gix_date.specs.Devices.StreamState.{Takes, TakesProperPrefix};
 ghost use Rattle.arrayvec.specs.ArrayString.{array_string_len};
 ghost use Rattle.git_date.specs.Formats.Format.{piece_text, texts};
 ghost use Rattle.git_date.specs.Formats.Pieces.{is_format, piece_of, pieces_or_none};
-ghost use Rattle.git_date.specs.Formats.Short.{Goes, Passes, walk};
+ghost use Rattle.git_date.specs.Formats.Short.{Passes};
 ghost use Rattle.git_date.specs.Formats.Shown.{shown_of};
 
 use crate::format::begun::{push_begun, push_text};
@@ -64,7 +64,7 @@ fn push_next<'a, const CAP: usize>(
     shown: &Shown,
 ) -> Option<&'a str>
     requires { 0 < length text.now }
-    ensures { IfSome result (λ rest. Goes (shown_of shown.now) (walk text.now out.old.bytes) (walk rest.now out.new.bytes)) }
+    ensures { IfSome result (λ rest. Passes (shown_of shown.now) text.now rest.now out.old.bytes out.new.bytes) }
 {
     if CAP - out.len() >= USUAL_ROOM {
         if let Some(rest) = push_usual(out, text, shown) {

@@ -1,8 +1,8 @@
-//! What formats usually ask for, each appended at once: letters, marks between them, whole dates and whole clocks.
+//! What formats usually ask for, each appended at once: letters, and marks between them.
 ghost use Rattle.std.specs.Prelude.{◌≡◌, ◌+◌, ◌≤◌, ◌<◌, Some, true, length, decimal, IsTrue, IfSome, IfNone};
 ghost use Rattle.arrayvec.specs.ArrayString.{array_string_len};
 ghost use Rattle.git_date.specs.Formats.Flags.{filled};
-ghost use Rattle.git_date.specs.Formats.Short.{letter_text, BeginsWith, Goes, Passes, PushesLetter, walk};
+ghost use Rattle.git_date.specs.Formats.Short.{letter_text, Passes, PushesLetter};
 ghost use Rattle.git_date.specs.Formats.Shown.{shown_of, Shown as Said};
 
 use crate::format::begun::push_alone;
@@ -14,9 +14,6 @@ use gix_date::names::{day_name, month_name};
 
 /// The greatest length of what is shown at once, `2009-08-30`.
 pub(crate) const USUAL_ROOM: usize = 10;
-
-/// How many bytes `%Y-%m-%d` has, and `%H:%M:%S`.
-const WHOLE_LEN: usize = 8;
 
 /// The number that a usual letter shows in two digits.
 #[inline(always)]
@@ -126,56 +123,6 @@ fn know_pairs(t: Clock)
     let _clock = (t.hour(), t.minute(), t.second());
 }
 
-/// Whether bytes begin with these eight, by one comparison.
-#[inline(always)]
-fn begins_with(b: &[u8], front: &[u8; WHOLE_LEN]) -> bool
-    ensures { IsTrue result → BeginsWith b.now front.now }
-{
-    b.len() >= WHOLE_LEN
-        && u64::from_le_bytes([b[0], b[1], b[2], b[3], b[4], b[5], b[6], b[7]])
-            == u64::from_le_bytes(*front)
-}
-
-/// Appends what a format shows first, if that is `%Y-%m-%d`, and answers what is left.
-#[inline(always)]
-fn push_whole_date<'a, const CAP: usize>(
-    out: &mut ArrayString<CAP>,
-    text: &'a str,
-    shown: &Shown,
-) -> Option<&'a str>
-    requires { array_string_len out.old + 10 ≤ CAP }
-    ensures passes { IfSome result (λ rest. Goes (shown_of shown.now) (walk text.now out.old.bytes) (walk rest.now out.new.bytes)) }
-    ensures kept { IfNone result (out.new.bytes ≡ out.old.bytes) }
-{
-    if !begins_with(text.as_bytes(), b"%Y-%m-%d") || shown.clock.year() < 1000 {
-        return None;
-    }
-    know_pairs(shown.clock);
-    let (_, rest) = text.split_at(WHOLE_LEN);
-    push_date(out, shown.clock);
-    Some(rest)
-}
-
-/// Appends what a format shows first, if that is `%H:%M:%S`, and answers what is left.
-#[inline(always)]
-fn push_whole_clock<'a, const CAP: usize>(
-    out: &mut ArrayString<CAP>,
-    text: &'a str,
-    shown: &Shown,
-) -> Option<&'a str>
-    requires { array_string_len out.old + 8 ≤ CAP }
-    ensures passes { IfSome result (λ rest. Goes (shown_of shown.now) (walk text.now out.old.bytes) (walk rest.now out.new.bytes)) }
-    ensures kept { IfNone result (out.new.bytes ≡ out.old.bytes) }
-{
-    if !begins_with(text.as_bytes(), b"%H:%M:%S") {
-        return None;
-    }
-    know_pairs(shown.clock);
-    let (_, rest) = text.split_at(WHOLE_LEN);
-    push_clock(out, shown.clock);
-    Some(rest)
-}
-
 /// Appends what a format shows first, if that is usual, and answers what is left. `None` means only that it begins otherwise:
 /// nothing is appended.
 #[inline(always)]
@@ -185,16 +132,10 @@ pub(crate) fn push_usual<'a, const CAP: usize>(
     shown: &Shown,
 ) -> Option<&'a str>
     requires { array_string_len out.old + 10 ≤ CAP }
-    ensures passes { IfSome result (λ rest. Goes (shown_of shown.now) (walk text.now out.old.bytes) (walk rest.now out.new.bytes)) }
+    ensures passes { IfSome result (λ rest. Passes (shown_of shown.now) text.now rest.now out.old.bytes out.new.bytes) }
     ensures kept { IfNone result (out.new.bytes ≡ out.old.bytes) }
 {
     if let Some(rest) = push_mark(out, text) {
-        return Some(rest);
-    }
-    if let Some(rest) = push_whole_date(out, text, shown) {
-        return Some(rest);
-    }
-    if let Some(rest) = push_whole_clock(out, text, shown) {
         return Some(rest);
     }
     push_lettered(out, text, shown)

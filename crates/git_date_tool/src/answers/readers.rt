@@ -47,10 +47,7 @@ pub(crate) fn read(
     ensures is { IsRead reader strictness now.entry text.now result }
     ensures place { IfOk result (HasPlace text.now) }
 {
-    match read_by(reader, strictness, text, now) {
-        Ok(found) => judged(strictness, found),
-        Err(refusal) => Err(refusal),
-    }
+    judged(strictness, read_by(reader, strictness, text, now)?)
 }
 
 /// What a reader finds in a text.
@@ -64,14 +61,8 @@ fn read_by(
     ensures place { IfOk result (HasPlace text.now) }
 {
     match reader {
-        Reader::Exact => match parse_date(text, now) {
-            Ok(date) => Ok(of_exact(date)),
-            Err(error) => Err(of_git(error)),
-        },
-        Reader::Approxidate => match approxidate(text, now) {
-            Ok(found) => Ok(found),
-            Err(error) => Err(of_git(error)),
-        },
+        Reader::Exact => Ok(of_exact(parse_date(text, now).map_err(of_git)?)),
+        Reader::Approxidate => approxidate(text, now).map_err(of_git),
         Reader::Careful => carefully(text, now),
         Reader::Gix => by_gix(text, now),
         Reader::Header => header(strictness, text),
@@ -84,10 +75,7 @@ fn header(strictness: Strictness, text: &[u8]) -> Result<Approximate, Refusal>
     ensures is { IsOfText (IsHeader strictness) text.now result }
     ensures place { IfOk result (HasPlace text.now) }
 {
-    let Some(text) = text_of(text) else {
-        return Err(Refusal::NotText);
-    };
-    header_found(strictness, text)
+    header_found(strictness, text_of(text).ok_or(Refusal::NotText)?)
 }
 
 /// The time of a header.
@@ -110,13 +98,9 @@ fn carefully(text: &[u8], now: Zoned<'_>) -> Result<Approximate, Refusal>
     ensures is { IsOfText (IsCarefully now.entry) text.now result }
     ensures place { IfOk result (HasPlace text.now) }
 {
-    let Some(text) = text_of(text) else {
-        return Err(Refusal::NotText);
-    };
-    match parse_carefully(text, Some(now), careful_options()) {
-        Ok(time) => Ok(whole(time)),
-        Err(error) => Err(of_careful(error)),
-    }
+    let text = text_of(text).ok_or(Refusal::NotText)?;
+    let time = parse_carefully(text, Some(now), careful_options()).map_err(of_careful)?;
+    Ok(whole(time))
 }
 
 /// What the reader of gix-date finds in bytes that are text.
@@ -125,13 +109,9 @@ fn by_gix(text: &[u8], now: Zoned<'_>) -> Result<Approximate, Refusal>
     ensures is { IsOfText (IsByGix now.entry) text.now result }
     ensures place { IfOk result (HasPlace text.now) }
 {
-    let Some(text) = text_of(text) else {
-        return Err(Refusal::NotText);
-    };
-    match parse_no_alloc(text, Some(now), RawOffsets::Quarter) {
-        Ok(time) => Ok(whole(time)),
-        Err(error) => Err(of_gix(error)),
-    }
+    let text = text_of(text).ok_or(Refusal::NotText)?;
+    let time = parse_no_alloc(text, Some(now), RawOffsets::Quarter).map_err(of_gix)?;
+    Ok(whole(time))
 }
 
 /// How the careful reader reads.

@@ -114,9 +114,9 @@ fn read_below<S: Files + AllocGlobal>(
 fn read_in<S: Files + AllocGlobal>(system: &S, folder: &str, name: &str) -> Result<Tzif, NoZone>
     ensures { IfOk result IsOfFile }
 {
-    let Ok(path) = path_of(system.alloc(), folder, name) else {
-        return Err(NoZone::Memory);
-    };
+    let path = path_of(system.alloc(), folder, name)
+        .ok()
+        .ok_or(NoZone::Memory)?;
     read_table(system, path.as_str())
 }
 

@@ -102,10 +102,8 @@ impl Judge {
         if rest.is_empty() {
             return Ok(clean);
         }
-        match self.judge_text(rest, writer) {
-            Ok(one) => Ok(both(clean, one)),
-            Err(fault) => Err(Fault::Tool(fault)),
-        }
+        let one = self.judge_text(rest, writer).map_err(Fault::Tool)?;
+        Ok(both(clean, one))
     }
 
     /// Judges an identity line that stands in no object.

@@ -58,10 +58,8 @@ fn read_exact(
 {
     let zone = zone.map_err(Refusal::of)?;
     let now = now.map_err(Refusal::of)?;
-    match parse_date_at(text, now, zone) {
-        Ok(date) => Ok(exact_of(date)),
-        Err(error) => Err(date_refusal(error)),
-    }
+    let date = parse_date_at(text, now, zone).map_err(date_refusal)?;
+    Ok(exact_of(date))
 }
 
 /// What a text says at a moment, where there is one.
@@ -69,10 +67,8 @@ pub(crate) fn read_exact_now(text: &[u8], now: Result<Zoned<'_>, Status>) -> Res
     ensures { IsReadAt IsExact (place_of now.entry) text.now result }
 {
     let now = now.map_err(Refusal::of)?;
-    match parse_date(text, now) {
-        Ok(date) => Ok(exact_of(date)),
-        Err(error) => Err(date_refusal(error)),
-    }
+    let date = parse_date(text, now).map_err(date_refusal)?;
+    Ok(exact_of(date))
 }
 
 /// A date as C has it.
@@ -119,10 +115,8 @@ pub(crate) fn read_approximate(
     ensures { IsReadAt IsApproximate now.entry text.now result }
 {
     let now = now.map_err(Refusal::of)?;
-    match approxidate(text, now) {
-        Ok(date) => Ok(approximate_of(date)),
-        Err(error) => Err(date_refusal(error)),
-    }
+    let date = approxidate(text, now).map_err(date_refusal)?;
+    Ok(approximate_of(date))
 }
 
 /// A date as C has it.
@@ -169,10 +163,8 @@ fn read_expiry(
     ensures { IsReadAt (IsExpiry old) now.entry text.now result }
 {
     let now = now.map_err(Refusal::of)?;
-    match expiry_date(text, now) {
-        Ok(expiry) => Ok(expiry_of(old, expiry)),
-        Err(error) => Err(date_refusal(error)),
-    }
+    let expiry = expiry_date(text, now).map_err(date_refusal)?;
+    Ok(expiry_of(old, expiry))
 }
 
 /// What expires, as C has it.

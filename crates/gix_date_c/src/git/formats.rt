@@ -108,10 +108,7 @@ fn by_format(
     if is_short(time, format, local, zone, short) {
         return Ok(None);
     }
-    match long_by_format(alloc, time, format, local, zone) {
-        Ok(text) => Ok(Some(text)),
-        Err(refusal) => Err(refusal),
-    }
+    Ok(Some(long_by_format(alloc, time, format, local, zone)?))
 }
 
 /// Puts what a format shows into a short text. `false` says nothing.
@@ -156,10 +153,7 @@ fn checked_bytes(bytes: &[u8]) -> Result<DateFormat<'_>, Refusal>
     ensures { result_map_both format_bytes (λ refusal. refusal) result ≡ checked_bytes bytes.now }
 {
     let text = utf8_text(bytes).map_err(Refusal::of)?;
-    match DateFormat::new(text) {
-        Ok(format) => Ok(format),
-        Err(fault) => Err(format_refusal(fault)),
-    }
+    DateFormat::new(text).map_err(format_refusal)
 }
 
 /// The refusal that C is told for the fault of a format.

@@ -5,13 +5,13 @@ ghost use Rattle.jiff.specs.Words.{plain_zone};
 ghost use Rattle.gix_date_c.specs.Git.Own.{IsOwnShownIn, own_shown_at, own_status};
 ghost use Rattle.gix_date_c.specs.Idents.{load_git_time};
 ghost use Rattle.gix_date_c.specs.Moments.{placed};
-ghost use Rattle.gix_date_c.specs.Values.Buffers.{Outcome, Puts, outcome_of};
+ghost use Rattle.gix_date_c.specs.Values.Buffers.{Outcome, Puts};
 ghost use Rattle.gix_date_c.specs.Zones.{IsShown};
 
 use crate::git::show::{CMode, mode_of};
 use crate::ident::{CGitTime, load_git_time};
 use crate::moment::{CInstant, timestamp_of};
-use crate::values::buffer::store_text;
+use crate::values::buffer::store_array;
 use crate::values::status::Status;
 use crate::zone::ShownZone;
 use git_date::{OwnDateError, OwnDateText, show_git_time};
@@ -32,33 +32,8 @@ pub extern "C" fn git_date_show_git_time_at(
     ensures { Puts (IsOwnShownIn (load_git_time time.now) mode.now (IsShown zone.now) now.now)
         out.old (record { bytes = out.new; len = len.new; status = result }) }
 {
-    store_shown(
-        load_git_time(time),
-        mode,
-        timestamp_of(now),
-        zone.zone(),
-        out,
-        len,
-    )
-}
-
-/// Puts the date of a line into a buffer as Git shows it at an instant in a zone, where there are both.
-fn store_shown(
-    time: GitTime,
-    mode: &CMode,
-    now: Result<Timestamp, Status>,
-    zone: Result<TimeZone<'_>, Status>,
-    out: &mut [u8],
-    len: &mut usize,
-) -> u32
-    ensures { record { bytes = out.new; len = len.new; status = result }
-        ≡ outcome_of (own_shown_at time mode.now (placed (result_map_both (λ now. now.nanosecond) (λ status. status) now)
-        (result_map_both plain_zone (λ status. status) zone.entry))) out.old }
-{
-    match shown_at(time, mode, now, zone) {
-        Ok(text) => store_text(Ok(text.as_str()), out, len),
-        Err(status) => store_text(Err(status), out, len),
-    }
+    let shown = shown_at(load_git_time(time), mode, timestamp_of(now), zone.zone());
+    store_array(shown, out, len)
 }
 
 /// What Git shows of the date of a line at an instant in a zone, where there are both.
@@ -75,10 +50,7 @@ fn shown_at(
     let zone = zone?;
     let now = now?;
     let mode = mode_of(mode).ok_or(Status::NoSuchOption)?;
-    match show_git_time(time, mode, now, zone) {
-        Ok(text) => Ok(text),
-        Err(error) => Err(own_status(error)),
-    }
+    show_git_time(time, mode, now, zone).map_err(own_status)
 }
 
 /// The status of a refusal.

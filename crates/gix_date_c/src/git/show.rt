@@ -2,7 +2,7 @@
 ghost use Rattle.std.specs.Prelude.{◌≡◌, option_map};
 ghost use Rattle.std.specs.Result.{result_map_both};
 ghost use Rattle.jiff.specs.Words.{plain_zone};
-ghost use Rattle.gix_date_c.specs.Values.Buffers.{Outcome, Puts, outcome_of};
+ghost use Rattle.gix_date_c.specs.Values.Buffers.{Outcome, Puts};
 ghost use Rattle.gix_date_c.specs.Git.Modes.{IsShownIn, kind_number, kind_of, local_of, mode_answer, mode_for_c, mode_of, shown_at};
 ghost use Rattle.gix_date_c.specs.Moments.{placed};
 ghost use Rattle.gix_date_c.specs.Values.Stores.{Stores};
@@ -10,7 +10,7 @@ ghost use Rattle.gix_date_c.specs.Values.Times.{load_time};
 ghost use Rattle.gix_date_c.specs.Zones.{IsShown};
 
 use crate::moment::{CInstant, timestamp_of};
-use crate::values::buffer::store_text;
+use crate::values::buffer::store_array;
 use crate::values::status::Status;
 use crate::values::store::store;
 use crate::values::text::utf8_text;
@@ -50,33 +50,8 @@ pub extern "C" fn git_date_show_at(
     ensures { Puts (IsShownIn (load_time time.now) mode.now (IsShown zone.now) now.now)
         out.old (record { bytes = out.new; len = len.new; status = result }) }
 {
-    store_shown(
-        load_time(time),
-        mode,
-        timestamp_of(now),
-        zone.zone(),
-        out,
-        len,
-    )
-}
-
-/// Puts a date into a buffer as Git shows it at an instant in a zone, where there are both.
-fn store_shown(
-    time: Time,
-    mode: &CMode,
-    now: Result<Timestamp, Status>,
-    zone: Result<TimeZone<'_>, Status>,
-    out: &mut [u8],
-    len: &mut usize,
-) -> u32
-    ensures { record { bytes = out.new; len = len.new; status = result }
-        ≡ outcome_of (shown_at time mode.now (placed (result_map_both (λ now. now.nanosecond) (λ status. status) now)
-        (result_map_both plain_zone (λ status. status) zone.entry))) out.old }
-{
-    match shown_at(time, mode, now, zone) {
-        Ok(text) => store_text(Ok(text.as_str()), out, len),
-        Err(status) => store_text(Err(status), out, len),
-    }
+    let shown = shown_at(load_time(time), mode, timestamp_of(now), zone.zone());
+    store_array(shown, out, len)
 }
 
 /// What Git shows of a time at an instant in a zone, where there are both.

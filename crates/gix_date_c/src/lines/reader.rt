@@ -116,10 +116,7 @@ fn read_carefully(
 fn signed_time(line: &[u8]) -> Result<Time, Status>
     ensures { (cut : Result Parts Status) × IsCutAnswer line.now cut × (result ≡ time_of cut) }
 {
-    match signature_of(line) {
-        Ok(signature) => header_time(signature.time.as_bytes()),
-        Err(status) => Err(status),
-    }
+    header_time(signature_of(line)?.time.as_bytes())
 }
 
 /// The time of one of Git's dates, read exactly.

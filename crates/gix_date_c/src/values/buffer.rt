@@ -5,6 +5,7 @@ ghost use Rattle.gix_date_c.specs.Values.Buffers.{Outcome, text_outcome, outcome
 ghost use Rattle.gix_date_c.specs.Values.Statuses.{number_of};
 
 use crate::values::status::Status;
+use arrayvec::ArrayString;
 
 /// Puts a piece into a buffer from this place on, and answers the place after it.
 pub(crate) fn put_at(out: &mut [u8], at: usize, piece: &str) -> usize
@@ -41,6 +42,22 @@ pub(crate) fn store_text(answer: Result<&str, Status>, out: &mut [u8], len: &mut
             *len = 0;
             status.number()
         }
+    }
+}
+
+/// The same of a text that needs no memory.
+#[inline(always)]
+pub(crate) fn store_array<const CAP: usize>(
+    answer: Result<ArrayString<CAP>, Status>,
+    out: &mut [u8],
+    len: &mut usize,
+) -> u32
+    ensures { record { bytes = out.new; len = len.new; status = result }
+        ≡ outcome_of (result_map_both (λ text. text.bytes) (λ status. status) answer.entry) out.old }
+{
+    match &answer {
+        Ok(text) => store_text(Ok(text.as_str()), out, len),
+        Err(status) => store_text(Err(*status), out, len),
     }
 }
 

@@ -13,23 +13,14 @@ fn an_age_has_the_unit_that_git_chooses(rt: HostRuntime) -> Result<(), Fail> {
     let now = Timestamp::from_second(2_000_000_000)?;
     for (before, age) in [
         (0, Age::Seconds(0)),
-        (1, Age::Seconds(1)),
         (89, Age::Seconds(89)),
         (90, Age::Minutes(2)),
-        (5369, Age::Minutes(89)),
         (5370, Age::Hours(2)),
-        (127_769, Age::Hours(35)),
         (127_770, Age::Days(2)),
-        (1_164_569, Age::Days(13)),
         (1_164_570, Age::Weeks(2)),
-        (6_002_969, Age::Weeks(10)),
         (6_002_970, Age::Months(2)),
-        (31_490_969, Age::Months(12)),
         (31_490_970, Age::Years(1, 0)),
-        (33_000_000, Age::Years(1, 1)),
         (155_000_000, Age::Years(4, 11)),
-        (157_634_969, Age::Years(5, 0)),
-        (2_000_000_000, Age::Years(63, 0)),
     ] {
         let time = Time::new(2_000_000_000_i64.saturating_sub(before), -5400);
         assert!(rt; age_at(time, now) == Ok(Some(age)));
@@ -58,38 +49,19 @@ fn an_age_is_of_a_time_from_1970_on(rt: HostRuntime) -> Result<(), Fail> {
 fn offsets_are_said_by_decimals(rt: HostRuntime) {
     for (decimal, offset) in [
         (0, 0),
-        (1, 60),
         (-1, -60),
-        (59, 3540),
-        (100, 3600),
         (530, 19_800),
-        (-130, -5400),
-        (1400, 50_400),
         (-9959, -359_940),
         (59_652_314, 2_147_483_640),
     ] {
         assert!(rt; offset_of_decimal(decimal) == offset && decimal_of_offset(offset) == decimal);
     }
-    for (decimal, offset) in [
-        (99, 5940),
-        (-9999, -362_340),
-        (59_652_315, 2_147_483_647),
-        (i32::MAX, 2_147_483_647),
-        (-59_652_315, -2_147_483_647),
-        (i32::MIN, -2_147_483_647),
-    ] {
-        assert!(rt; offset_of_decimal(decimal) == offset);
-    }
-    for (offset, decimal) in [
-        (59, 0),
-        (-59, 0),
-        (3599, 59),
-        (-5401, -130),
-        (i32::MAX, 59_652_314),
-        (i32::MIN, -59_652_314),
-    ] {
-        assert!(rt; decimal_of_offset(offset) == decimal);
-    }
+    assert_eq!(rt; offset_of_decimal(99), 5940);
+    assert_eq!(rt; offset_of_decimal(59_652_315), 2_147_483_647);
+    assert_eq!(rt; offset_of_decimal(i32::MIN), -2_147_483_647);
+    assert_eq!(rt; decimal_of_offset(3599), 59);
+    assert_eq!(rt; decimal_of_offset(-5401), -130);
+    assert_eq!(rt; decimal_of_offset(i32::MIN), -59_652_314);
 }
 
 // What Git 2.39.5 shows by `format:` and `format-local:` where `TZ` is `UTC+4:30`.

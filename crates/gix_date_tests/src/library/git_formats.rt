@@ -114,23 +114,6 @@ fn a_text_is_not_short_with_a_fault_or_without_room(rt: HostRuntime) -> Result<(
 }
 
 #[test]
-fn the_first_fault_of_a_format_is_told(rt: HostRuntime) {
-    for (format, fault) in [
-        ("%d %-z %q", FormatFault::FlagRefused(3)),
-        ("é%q %-z", FormatFault::UnknownDirective(2)),
-        ("%Ey", FormatFault::UnknownDirective(0)),
-        ("%H%", FormatFault::UnknownDirective(2)),
-        ("%256d", FormatFault::WidthTooLarge(0)),
-        ("%99999999999999999999999d", FormatFault::WidthTooLarge(0)),
-    ] {
-        assert!(rt;
-            matches!(DateFormat::new(format), Err(found) if found == fault),
-            "{format}"
-        );
-    }
-}
-
-#[test]
 fn a_clock_that_is_not_shown_writes_nothing(rt: HostRuntime) -> Result<(), Fail> {
     let now = TIME.to_zoned()?;
     let format = DateFormat::new("seconds: %s")?;

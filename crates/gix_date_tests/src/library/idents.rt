@@ -37,19 +37,6 @@ fn a_line_without_a_date_or_an_identity_says_so(rt: HostRuntime) -> Result<(), F
 }
 
 #[test]
-fn an_offset_that_is_too_wide_makes_no_time(rt: HostRuntime) -> Result<(), Fail> {
-    for (line, is_wide) in [
-        (b"A <a> 5 +59652314".as_slice(), false),
-        (b"A <a> 5 -59652315", true),
-    ] {
-        let ident = IdentRef::from_bytes(line).ok_or("an identity")?;
-        let time = ident.date.ok_or("a date")?.git_time().to_time();
-        assert_eq!(rt; matches!(time, Err(IdentFault::OffsetTooWide)), is_wide);
-    }
-    Ok(())
-}
-
-#[test]
 fn fsck_says_where_a_line_is_wrong(rt: HostRuntime) {
     for (line, id, place) in [
         (b"A\0<a> 5 +0000".as_slice(), FsckId::NulInHeader, 1),

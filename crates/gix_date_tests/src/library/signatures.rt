@@ -133,6 +133,5 @@ fn each_fault_of_a_line_says_what_is_wrong(rt: HostRuntime) -> Result<(), Fail> 
 
 #[test]
 fn laws_of_lines_are_called_for_nothing_but_what_they_state() {
-    laws::one_cut("A <a> 0 +0000");
     laws::written_is_cut("A", "a", Time::new(0, 60));
 }

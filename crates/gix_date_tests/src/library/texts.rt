@@ -9,49 +9,6 @@ fn read(bytes: &[u8]) -> Option<&[u8]> {
     }
 }
 
-#[test]
-fn ascii_of_each_length_is_text(rt: HostRuntime) {
-    let mut bytes = [b'~'; 130];
-    bytes[0] = 0;
-    bytes[64] = 0x7f;
-    for count in 0..131 {
-        assert!(rt; read(&bytes[..count]) == Some(&bytes[..count]), "{count}");
-    }
-}
-
-#[test]
-fn ascii_with_one_other_byte_is_no_text(rt: HostRuntime) {
-    for other in [0x80, 0xc3, 0xff] {
-        let mut bytes = [b'a'; 70];
-        for at in 0..70 {
-            bytes[at] = other;
-            for count in at + 1..71 {
-                assert!(rt;
-                    text_of(&bytes[..count]).is_none(),
-                    "{other} at {at} of {count}"
-                );
-            }
-            bytes[at] = b'a';
-        }
-    }
-}
-
-#[test]
-fn long_ascii_with_one_other_byte_is_no_text(rt: HostRuntime) {
-    let mut bytes = [b'a'; 130];
-    for at in 0..130 {
-        bytes[at] = 0x80;
-        for count in [97, 127, 128, 129, 130] {
-            assert_eq!(rt;
-                text_of(&bytes[..count]).is_none(),
-                at < count,
-                "{at} of {count}"
-            );
-        }
-        bytes[at] = b'a';
-    }
-}
-
 // The examples of RFC 3629, section 7, and the characters at the ends of the rows of its section 3.
 #[test]
 fn characters_of_several_bytes_are_text(rt: HostRuntime) {

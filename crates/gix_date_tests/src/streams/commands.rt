@@ -10,29 +10,14 @@ use std::test::Fail;
 
 #[test]
 fn a_command_line_is_a_mode_and_perhaps_a_moment(rt: HostRuntime) -> Result<(), Fail> {
-    let at = |seconds, offset| Some((Mode::Parse, Some(Time::new(seconds, offset))));
+    let at = Some((Mode::Parse, Some(Time::new(1_698_400_800, -5400))));
     let rows = [
         (["check"].as_slice(), Some((Mode::Check, None))),
-        (["parse"].as_slice(), Some((Mode::Parse, None))),
         (["sign"].as_slice(), Some((Mode::Sign, None))),
-        (
-            ["parse", "1698400800 -0130"].as_slice(),
-            at(1_698_400_800, -5400),
-        ),
-        (
-            ["parse", "@253402207200"].as_slice(),
-            at(253_402_207_200, 0),
-        ),
-        (
-            ["parse", "2008.02.14 20:30:45 +2359"].as_slice(),
-            at(1_202_934_705, 86_340),
-        ),
-        (["parse", "2018-12-24"].as_slice(), at(1_545_609_600, 0)),
+        (["parse", "1698400800 -0130"].as_slice(), at),
         (["parse", "@-377705023202"].as_slice(), None),
         (["parse", "now"].as_slice(), None),
-        (["Check"].as_slice(), None),
         (["--help"].as_slice(), None),
-        (["--version"].as_slice(), None),
         ([].as_slice(), None),
     ];
     for (line, wanted) in rows {

@@ -10,7 +10,7 @@ use std::io::{ErrorKind, Write};
 const LEAST: &[u8] = b"-9223372036854775808 -9959";
 
 /// A mode, lines in it, of which the last has no newline, and the replies to them.
-const RUNS: [(Mode, &[u8], &[u8]); 3] = [
+pub(crate) const RUNS: [(Mode, &[u8], &[u8]); 3] = [
     (
         Mode::Check,
         b"0 +0000\n0 -0000\n+1 +0000",
@@ -62,14 +62,6 @@ fn the_longest_text_ends_at_a_write_of_no_byte(rt: HostRuntime) {
         assert_eq!(rt; writer.taken.as_slice(), &LEAST[..taken], "{taken}");
         assert_eq!(rt; writer.calls, taken + 1, "{taken}");
     }
-}
-
-#[test]
-fn an_interrupted_write_ends_a_text(rt: HostRuntime) {
-    let (answer, writer) = written(Slow::new(rt.alloc(), 1, 0, ErrorKind::Interrupted));
-    assert!(rt; matches!(answer, Err(Error::Write(ErrorKind::Interrupted))));
-    assert!(rt; writer.taken.is_empty());
-    assert_eq!(rt; writer.calls, 1);
 }
 
 #[test]
@@ -142,7 +134,7 @@ pub(crate) fn are_first_lines(lines: &[u8], text: &[u8], count: usize) -> bool {
 }
 
 /// How many newlines stand in these bytes.
-fn newlines(bytes: &[u8]) -> usize {
+pub(crate) fn newlines(bytes: &[u8]) -> usize {
     bytes.iter().filter(|b| **b == b'\n').count()
 }
 

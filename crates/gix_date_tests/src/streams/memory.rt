@@ -1,6 +1,7 @@
 //! Runs and calls where each request for memory is refused. What the calls of single texts ask for, `tests/memory` counts.
 use crate::fakes::harness::{executed, ran, words_of};
 use crate::fakes::{Hoarder, Small, Supply, take_all};
+use crate::streams::failing::{RUNS, newlines};
 use gix_date::{Error, Time, parse};
 use gix_date_tool::{Mode, Status, ToolError, command};
 use std::alloc::Global;
@@ -97,29 +98,13 @@ fn a_later_growth_refused_ends_a_run_after_its_replies(rt: HostRuntime) {
 
 #[test]
 fn a_run_over_short_lines_takes_little_memory(rt: HostRuntime) -> Result<(), Fail> {
-    let rows = [
-        (
-            Mode::Check,
-            b"0 +0000\n0 -0000\nx\n".as_slice(),
-            b"canonical\nread 0 0\nnone\n".as_slice(),
-        ),
-        (
-            Mode::Parse,
-            b"0 +0000\nnow\nx\n".as_slice(),
-            b"0 +0000\nerror missing-moment\nerror unknown-format\n".as_slice(),
-        ),
-        (
-            Mode::Sign,
-            b"A U Thor <author@example.com> 1660874655 +0800\nA <a> 0\nA <a>\n".as_slice(),
-            b"A U Thor <author@example.com> 1660874655 +0800\nA <a> 0 +0000\nnone\n".as_slice(),
-        ),
-    ];
     let spare: Vec<u8> = Vec::with_capacity(rt.alloc(), 65_536)?;
     let blocks = take_all(rt.alloc())?;
     drop(spare);
     let mut all_right = true;
-    for (mode, input, output) in rows {
-        all_right = all_right && runs_so(rt.alloc(), mode, input, output, Some(3));
+    for (mode, input, output) in RUNS {
+        let lines = Some(newlines(output) as u64);
+        all_right = all_right && runs_so(rt.alloc(), mode, input, output, lines);
     }
     drop(blocks);
     assert!(rt; all_right, "little-memory");
@@ -170,16 +155,4 @@ fn a_run_in_parse_takes_memory_for_the_line_alone(rt: HostRuntime) {
           error unknown-format\nerror unknown-format\nerror unknown-format\n0 +0000\nnot text\n5 +0000\n";
     let ended = hoarded(rt.alloc(), Mode::Parse, &pieces, output);
     assert!(rt; matches!(ended, (Ok(10), true)), "no-memory");
-}
-
-#[test]
-fn a_run_in_sign_takes_memory_for_the_line_alone(rt: HostRuntime) {
-    let pieces = [
-        b"A U Thor <author@example.com> 1660874655 +0800".as_slice(),
-        b"\nA <a> 1660874655\nA <a>\nA <a> x\nA <a> 0 +9999\n\xff\n <> 0 +0000\n",
-    ];
-    let output = b"A U Thor <author@example.com> 1660874655 +0800\nA <a> 1660874655 +0000\n\
-          none\nnone\nnone\nnot text\n <> 0 +0000\n";
-    let ended = hoarded(rt.alloc(), Mode::Sign, &pieces, output);
-    assert!(rt; matches!(ended, (Ok(7), true)), "no-memory");
 }

@@ -1,5 +1,7 @@
 //! Runs over the lines of a stream, as readers give them piece by piece.
+use crate::fakes::harness::ran;
 use crate::fakes::{Asking, Replied, Slow, Supply};
+use crate::streams::failing::{RUNS, newlines};
 use gix_date::Time;
 use gix_date::device::Device;
 use gix_date_tool::{Mode, ToolError, run};
@@ -7,79 +9,29 @@ use std::cell::Cell;
 use std::io::ErrorKind;
 use std::test::Fail;
 
-/// A mode, a moment as seconds and offset, lines, the replies to them, and how many there are.
-type Row = (Mode, Option<(i64, i32)>, &'static [u8], &'static [u8], u64);
-
-const ROWS: [Row; 8] = [
-    (
-        Mode::Check,
-        None,
-        b"0 +0000\n0 -0000\n+1 +0000\n\n0 +9999\n0 +0000\r\n",
-        b"canonical\nread 0 0\nread 1 0\nnone\nread 0 362340\nread 0 0\n",
-        6,
-    ),
-    (Mode::Check, None, b"", b"", 0),
-    (
-        Mode::Check,
-        None,
-        b"\xff\n0 +0000",
-        b"not text\ncanonical\n",
-        2,
-    ),
-    (
-        Mode::Parse,
-        Some((1_698_400_800, 0)),
-        b"2 minutes ago\n\nyesterday",
-        b"1698400680 +0000\nerror unknown-format\n1698314400 +0000\n",
-        3,
-    ),
-    (
-        Mode::Parse,
-        Some((1_698_400_800, 90_000)),
-        b"now\n1 day ago\n@-1000\n",
-        b"1698400800 +2500\n1698314400 +2500\n-1000 +0000\n",
-        3,
-    ),
-    (
-        Mode::Parse,
-        None,
-        b"2 minutes ago\n9999-12-31\n",
-        b"error missing-moment\nerror date-conversion\n",
-        2,
-    ),
-    (
-        Mode::Sign,
-        None,
-        b"A U Thor <author@example.com> 1660874655 +0800\nA <a> 1660874655\n <> 0 +0000\n\
-          A <a>\nA <a> x\nA <a> 0 +9999\n",
-        b"A U Thor <author@example.com> 1660874655 +0800\nA <a> 1660874655 +0000\n <> 0 +0000\nnone\nnone\nnone\n",
-        6,
-    ),
-    (
-        Mode::Sign,
-        Some((1_698_400_800, 93_599)),
-        b"A <a> 12abc +0100\nA <\xc3> 0 +0000\n",
-        b"A <a> 12 +0100\nnot text\n",
-        2,
-    ),
-];
-
 #[test]
 fn lines_are_answered_alike_by_pieces_of_any_length(rt: HostRuntime) {
-    for (mode, at, input, output, count) in ROWS {
-        let now = at.map(|(seconds, offset)| Time::new(seconds, offset));
+    for (mode, input, output) in RUNS {
         for a_call in [1, 2, 7, 4096] {
-            let mut source = Device::new(Supply::once(input, a_call, None));
-            let mut sink = Device::new(Slow::roomy(rt.alloc()));
-            let answer = run(rt.alloc(), mode, now, &mut source, &mut sink);
-            assert!(rt;
-                matches!(answer, Ok(lines) if lines == count),
-                "{mode:?}, {a_call}"
-            );
-            let taken = sink.into_inner().taken;
-            assert_eq!(rt; taken.as_slice(), output, "{mode:?}, {a_call}");
+            let reader = Supply::once(input, a_call, None);
+            let (answer, _source, sink) = ran(rt.alloc(), mode, reader, Slow::roomy(rt.alloc()));
+            assert!(rt; matches!(answer, Ok(lines) if lines == newlines(output) as u64));
+            assert_eq!(rt; sink.taken.as_slice(), output, "{mode:?}, {a_call}");
         }
     }
+}
+
+#[test]
+fn dates_are_read_from_the_moment_that_is_handed_in(rt: HostRuntime) {
+    let now = Some(Time::new(1_698_400_800, 90_000));
+    let mut source = Device::new(Supply::once(b"now\n1 day ago\n@-1000\n", 99, None));
+    let mut sink = Device::new(Slow::roomy(rt.alloc()));
+    let answer = run(rt.alloc(), Mode::Parse, now, &mut source, &mut sink);
+    assert!(rt; matches!(answer, Ok(3)));
+    assert_eq!(rt;
+        sink.into_inner().taken.as_slice(),
+        b"1698400800 +2500\n1698314400 +2500\n-1000 +0000\n".as_slice()
+    );
 }
 
 #[test]

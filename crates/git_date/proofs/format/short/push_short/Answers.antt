@@ -1,8 +1,8 @@
-use Rattle.std.proofs.Common.{rules, ◌≡◌, ◌∙◌, ◌++◌, sym, ap, List, append-nil}
+use Rattle.std.proofs.Common.{rules, arith, ◌≡◌, ◌∙◌, ◌++◌, sym, ap, List, append-nil}
 use Rattle.git_date.specs.Formats.Format.{texts}
 use Rattle.git_date.specs.Formats.Pieces.{Piece}
 use Rattle.git_date.specs.Formats.Shown.{shown_of}
-use Rattle.git_date.proofs.Formats.Usual.{left-goes}
+use Rattle.git_date.proofs.Formats.Short.{left-passed}
 use Rattle.git_date.proofs.Formats.Walks.{left-all, left-end, pieces-are, none-left, is-format}
 use Rattle.git_date.proofs.format.short.push_short.Goals as goal
 
@@ -15,7 +15,8 @@ pieces-init g c = (
 pub pieces-preserved : goal.pieces-preserved
 pieces-preserved g c = (
   search rules,
-  left-goes c.in-Some.ensures.0 (shown_of c.args.shown.now) c.args.text.now c.args.out.now.bytes _ _ c.pieces.invariant.1 c.in-Some.ensures.1,
+  left-passed (shown_of c.args.shown.now) c.args.text.now c.pieces.rest.now _ c.args.out.now.bytes _ _ c.pieces.invariant.1
+      (omega (arith, c.in-Some.ensures.shorter)) c.in-Some.ensures,
 )
 
 pub returns-clause-whole : goal.returns-clause-whole

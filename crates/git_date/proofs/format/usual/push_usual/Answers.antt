@@ -1,8 +1,5 @@
 use Rattle.git_date.specs.Formats.Shown.{shown_of}
-use Rattle.git_date.proofs.Formats.Usual.{one-goes}
 use Rattle.git_date.proofs.format.usual.push_usual.Goals as goal
 
 pub returns-in-Some-clause-passes : goal.returns-in-Some-clause-passes
-returns-in-Some-clause-passes g c =
-    one-goes (shown_of c.args.shown.now) c.args.text.now c.in-Some.rest.now c.args.out.now.bytes c.push_mark.new.out.bytes
-    (c.in-Some.ensures.passes (shown_of c.args.shown.now))
+returns-in-Some-clause-passes g c = c.in-Some.ensures.passes (shown_of c.args.shown.now)
