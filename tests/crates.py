@@ -19,6 +19,16 @@ def listed():
     return {name: names & {*uses.split()} for name, uses in lines}
 
 
+def below(crate):
+    """The crates that stand here and that a crate stands on."""
+    uses, found, left = listed(), set(), [crate]
+    while left:
+        new = uses[left.pop()] - found
+        found |= new
+        left += new
+    return found
+
+
 def link(one, other):
     """Gives a file that `rt` has kept another name: it replaces such a file, and never writes into one."""
     try:
@@ -29,10 +39,11 @@ def link(one, other):
 
 def copy_for(crate, room):
     """A copy of the repository in a new folder of the room, since `rt` lets no two checks work in one. It begins with what is proved of the
-    crate and of the libraries below."""
+    crate and of the libraries below: others may be proved meanwhile."""
     top = tempfile.mkdtemp(dir=room)
+    libraries = {crate} | below(crate)
     for name in listed():
-        for part in ("src", "specs", "proofs", "out/rlib", *["out/incremental"] * (name == crate)):
+        for part in ("src", "specs", "proofs", *["out/rlib"] * (name in libraries), *["out/incremental"] * (name == crate)):
             folder, how = f"crates/{name}/{part}", link if part.startswith("out") else shutil.copy2
             if os.path.isdir(f"{ROOT}/{folder}"):
                 shutil.copytree(f"{ROOT}/{folder}", f"{top}/{folder}", copy_function=how)
