@@ -1,10 +1,9 @@
 /* Dates as Git itself reads and shows them, for C and C++: in the library of gix_date.h.
  *
  * Each call is proved to do what docs/C.md says of it, for every input with valid pointers and
- * lengths. What Git reads, and each refusal, is in docs/GIT_DATES.md. In a zone of one offset each
- * answer is Git's, or a refusal. In zones that change some dates of people are not: those of another
- * daylight flag than the clock showed last, and those that it shows twice or never. All that
- * gix_date.h says of texts, buffers, threads and memory holds here too.
+ * lengths. What Git reads, and each refusal, is in docs/GIT_DATES.md. Each answer is Git's, as
+ * it reads the first date of a process, or a refusal; but a zone that is a rule changes before 1970
+ * too. All that gix_date.h says of texts, buffers, threads and memory holds here too.
  *
  * A call has a moment: the instant now in a zone, which gix_date.h tells how to make. A text without
  * an offset has that of the zone. No call takes memory but git_date_show_by_format.

@@ -172,7 +172,7 @@ static void dates_in(const gix_date_zone *zone)
            "%lld", (long long)date.time.seconds);
     EXPECT(git_date_approxidate_at(TEXT("noon july 1"), &november, zone, &guess, &place) ==
                    GIX_DATE_OK &&
-               is_time(guess.time, 1688227200, -14400),
+               is_time(guess.time, 1688230800, -14400),
            "%lld", (long long)guess.time.seconds);
     /* At night noon is that of the day before, so the 1 is ignored. */
     EXPECT(git_date_approxidate_at(TEXT("noon july 1"), &in_fold, zone, &guess, &place) ==

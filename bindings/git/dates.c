@@ -38,11 +38,11 @@ static gix_date_instant system_now(void)
     return now;
 }
 
-/* The moment for ages and for dates of people. Git's tests set it. */
+/* The moment for ages and for dates of people. Git's tests set it, and Git reads an int. */
 static gix_date_instant present(void)
 {
     const char *set = getenv("GIT_TEST_DATE_NOW");
-    const gix_date_instant now = {set ? strtoll(set, NULL, 10) : time(NULL), 0};
+    const gix_date_instant now = {set ? atoi(set) : time(NULL), 0};
     return now;
 }
 
@@ -64,19 +64,14 @@ static void add_time(struct strbuf *out, gix_date_time time)
     strbuf_addf(out, "%" PRId64 " %+05d", time.seconds, git_date_decimal_of_offset(time.offset));
 }
 
-/* Reads a date exactly, in UTC. So no zone's file is read for a text that names its offset. */
-static bool read_in_utc(const char *text, gix_date_instant now, git_date_exact *date)
-{
-    size_t place;
-    return git_date_parse_at(text, strlen(text), &now, &utc, date, &place) == GIX_DATE_OK;
-}
-
+/* Reads a date exactly, by the system's clock: first in UTC, so that no zone's file is read for a text that
+ * names its offset. */
 static bool read_exactly(const char *text, gix_date_time *time)
 {
     const gix_date_instant now = system_now();
     git_date_exact date;
     size_t place;
-    if (!read_in_utc(text, now, &date) ||
+    if (git_date_parse_at(text, strlen(text), &now, &utc, &date, &place) != GIX_DATE_OK ||
         (!date.has_offset &&
          git_date_parse_at(text, strlen(text), &now, own_zone(), &date, &place) != GIX_DATE_OK))
         return false;
@@ -109,19 +104,16 @@ timestamp_t approxidate_careful(const char *text, int *error)
 {
     const gix_date_instant now = present();
     git_date_approximate date = {{now.seconds, 0}, 0, false};
-    git_date_exact exact;
     size_t place;
-    uint32_t status = GIX_DATE_OK;
-    if (read_in_utc(text, now, &exact) && exact.has_offset)
-        date = (git_date_approximate){exact.time, exact.ignored, true};
-    else
-        status = git_date_approxidate_at(text, strlen(text), &now, own_zone(), &date, &place);
+    const bool is_read =
+        read_exactly(text, &date.time) ||
+        (git_date_approxidate_at(text, strlen(text), &now, own_zone(), &date, &place) == GIX_DATE_OK &&
+         date.understood);
     if (error)
-        *error = status != GIX_DATE_OK || !date.understood;
+        *error = !is_read;
     return date.time.seconds;
 }
 
-/* Git does not try the exact reader here. The library has no call for that. */
 timestamp_t approxidate_relative(const char *text)
 {
     return approxidate_careful(text, NULL);
@@ -132,15 +124,13 @@ int parse_expiry_date(const char *text, timestamp_t *seconds)
     const gix_date_instant now = present();
     git_date_expiry expiry;
     size_t place;
-    if (git_date_expiry_at(text, strlen(text), &now, own_zone(), &expiry, &place) != GIX_DATE_OK)
-        return 1;
-    if (expiry.kind == GIT_DATE_NEVER)
-        *seconds = 0;
-    else if (expiry.kind == GIT_DATE_ALL)
-        *seconds = TIME_MAX;
+    int error = 0;
+    if (git_date_expiry_at(text, strlen(text), &now, own_zone(), &expiry, &place) != GIX_DATE_OK ||
+        expiry.kind == GIT_DATE_BEFORE)
+        *seconds = approxidate_careful(text, &error);
     else
-        *seconds = expiry.before.time.seconds;
-    return 0;
+        *seconds = expiry.kind == GIT_DATE_NEVER ? 0 : TIME_MAX;
+    return error;
 }
 
 /* The system's time now, with the offset of the zone. */

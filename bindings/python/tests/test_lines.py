@@ -127,7 +127,7 @@ def test_dates_of_people_of_many_lines() -> None:
                 else:
                     assert answer == git.approxidate(line, now).time
     at = datetime(2023, 11, 20, 12, tzinfo=ZoneInfo("America/New_York"))
-    assert [str(time) for time in git.approxidate_lines(b"1 month ago\nnow", at)] == ["1697817600 -0400", "1700499600 -0500"]
+    assert [str(time) for time in git.approxidate_lines(b"1 month ago\nnow", at)] == ["1697821200 -0400", "1700499600 -0500"]
     wrong = [(TypeError, None), (TypeError, 5), (InvalidInstant, Moment(2**62)), (InvalidZone, Moment(0, 0, "Mars"))]
     for kind, moment in wrong:
         with pytest.raises(kind):

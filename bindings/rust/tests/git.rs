@@ -176,9 +176,9 @@ fn each_kind_of_zone_is_that_of_the_clock() {
         assert_eq!(skipped, in_zone(1678606200, -18000, None));
         let twice = parse_date("2023-11-05 01:30", &now);
         assert_eq!(twice, in_zone(1699162200, -14400, None));
-        let july = approximate(1688227200, -14400, None);
+        let july = approximate(1688230800, -14400, None);
         assert_eq!(approxidate("noon july 1", &now), Ok(july));
-        let months = approximate(1692047600, -14400, None);
+        let months = approximate(1692051200, -14400, None);
         assert_eq!(
             expiry_date("3 months ago", &now),
             Ok(Expiry::Before(months))

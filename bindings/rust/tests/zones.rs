@@ -67,9 +67,9 @@ fn answers_in_new_york(zone: &ReadZone) {
     let skipped = zone.parse_date("2023-03-12 02:30", now).unwrap();
     assert_eq!(skipped.time, Time::new(1678606200, -18000));
     let noon = zone.approxidate("noon july 1", now).unwrap();
-    assert_eq!(noon.time, Time::new(1688227200, -14400));
+    assert_eq!(noon.time, Time::new(1688230800, -14400));
     let months = Approximate {
-        time: Time::new(1692047600, -14400),
+        time: Time::new(1692051200, -14400),
         understood: true,
         ignored: None,
     };

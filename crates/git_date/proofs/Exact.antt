@@ -7,3 +7,4 @@ pub mod FastSeconds
 pub mod NoSeconds
 pub mod FewDigits
 pub mod ZoneOffsets
+pub mod Searches

@@ -2,4 +2,4 @@
 pub mod Clocks
 pub mod KeptDrafts
 pub mod Places
-pub mod ZoneChoices
+pub mod ZoneClocks

@@ -2,9 +2,11 @@
 pub mod RowMoment
 pub mod ApproximateRows
 pub mod RelativeRows
+pub mod ChangedFlagRows
 pub mod ReadRows
 pub mod ShowRows
 pub mod ZoneRows
+pub mod SearchRows
 pub mod DecimalRows
 pub mod ModeRows
 pub mod FormatRows

@@ -23,11 +23,11 @@ use gix_date::Zoned;
 /// clock and date one after the other, as `docs/GIT_DATES.md` says, and the time has the zone's offset. Git passes over
 /// each word that it does not know, so `5 mins ago` is the fifth of the month: [`Approximate::ignored`] tells of that.
 ///
-/// In a zone of one offset every answer is Git's, or a refusal by name: [`DateError::BackTooFar`] where Git would wrap or go
-/// before 1900, and the refusals of [`parse_date`](crate::parse_date) but for [`DateError::Unreadable`]. A local time that the
-/// zone's clock shows twice or never has the offset which that clock showed last, the moment's or that of the last step, if it
-/// is one of the two. A NUL ends the text, as for [`parse_date`](crate::parse_date). A place that the answer has is one where a
-/// character of the text begins. Takes no memory.
+/// In every zone each answer is Git's, as it reads the first date of a process, or a refusal by name: [`DateError::BackTooFar`]
+/// where Git would wrap or go before 1900, and the refusals of [`parse_date`](crate::parse_date) but for
+/// [`DateError::Unreadable`]. A local time is looked for with the daylight flag that the zone's clock showed last, at the moment or
+/// at the last step: in Berlin, said at 10:00 in November, `3 months ago` is at 11:00. A NUL ends the text, as for
+/// [`parse_date`](crate::parse_date). A place that the answer has is one where a character of the text begins. Takes no memory.
 pub fn approxidate(text: &[u8], now: Zoned<'_>) -> Result<Approximate, DateError>
     ensures answer { ApproximateOutcome now.entry text.now result }
     ensures places { HasApproximatePlacesIn text.now result }

@@ -1,12 +1,12 @@
 //! The public call.
 ghost use Rattle.std.specs.Prelude.{◌≡◌, None, IfOk};
 ghost use Rattle.jiff.specs.Words.{plain_zone};
-ghost use Rattle.git_date.specs.Exact.Outcome.{instant_seconds, date_at, date_in, date_of, DateOutcome, DateOutcomeAt, HasPlacesIn, SaidIsInstant, IsMinutes};
-ghost use Rattle.git_date.specs.Exact.Zones.{offsets_of, local_offset};
+ghost use Rattle.git_date.specs.Exact.Outcome.{instant_seconds, date_at, date_in, said_in, date_of, DateOutcome, DateOutcomeAt, HasPlacesIn, SaidIsInstant, IsMinutes};
+ghost use Rattle.git_date.specs.Exact.Zones.{states_of};
 
 use crate::error::DateError;
 use crate::reader::{Said, said_by};
-use crate::zones::local_offset;
+use crate::zones::{Asked, before_leap, found_offset};
 use gix_date::{Time, Zoned};
 use jiff::Timestamp;
 use jiff::tz::TimeZone;
@@ -30,9 +30,9 @@ pub struct ReadDate {
 
 /// Reads a date as Git's exact reader does. A text without an offset has that of the moment's zone.
 ///
-/// A local time that the zone's clock shows twice or never has the offset that Git finds, in the first date of a process: in a fold
-/// that which the zone has where UTC's clock shows the time, in a gap that which is not daylight saving time's. The moment itself
-/// matters only to a date such as `7/4/2009` after a clock, which is refused if it is more than ten days ahead.
+/// That is the offset by which Git, in the first date of a process, finds the local time in the zone: it goes from UTC's offset to
+/// the one that the zone has there, until an offset shows the time. Of a time that the zone's clock skips it is the one that
+/// leads into daylight saving time. The moment itself matters only to a date such as `7/4/2009` after a clock, which is refused if it is more than ten days ahead.
 ///
 /// The text is bytes, UTF-8 or not: each byte that is not ASCII is a mark, which is skipped. As in Git, whose dates are C strings,
 /// a NUL ends the text: [`ReadDate::ignored`] tells of it, also where nothing follows. [`DateError`] says when a text is
@@ -99,8 +99,12 @@ fn date_at(said: Said, minutes: i64) -> Result<ReadDate, DateError>
 /// The date at the zone's offset where its clock shows these seconds. Git keeps whole minutes of an offset.
 fn date_in_zone(said: Said, zone: TimeZone<'_>) -> Result<ReadDate, DateError>
     requires { SaidIsInstant said }
-    ensures { result ≡ date_in said (local_offset (offsets_of (plain_zone zone.entry)) None said.seconds) }
+    ensures { result ≡ date_in said (said_in (states_of (plain_zone zone.entry)) said) }
 {
-    let offset = local_offset(zone, None, said.seconds).ok_or(DateError::Range)?;
+    let asked = Asked {
+        clock: before_leap(said.leap, said.seconds),
+        daylight: None,
+    };
+    let offset = found_offset(zone, asked, 0).ok_or(DateError::Range)?;
     date_at(said, i64::from(offset / 60))
 }

@@ -16,9 +16,9 @@ pub enum DateError {
     /// The date at this place begins with a year that Git refuses, of which it would keep month and day: `1900-02-03`.
     #[error("the year at byte {0} is refused; expected 1970 to 2099")]
     YearRefused(usize),
-    /// The date is before 1970-01-01 00:00:00 UTC, or no instant of `jiff`. Or the zone has three offsets near each other there: the
-    /// search tries two, where Git's goes on. Of [`approxidate`](crate::approxidate) also a moment before 1900, and of
-    /// [`show_date`](crate::show_date) a time that it does not show.
+    /// The date is before 1970-01-01 00:00:00 UTC, no instant of `jiff`, or a local time that Git's search does not find in the zone.
+    /// Of [`approxidate`](crate::approxidate) also a moment before 1900, and of [`show_date`](crate::show_date) a time that it does
+    /// not show.
     #[error("the date is before 1970 or leads to an instant that cannot be computed with")]
     Range,
 }

@@ -1,5 +1,5 @@
 //! A fast path for dates as Git prints them. `None` means only that a text has another form.
-ghost use Rattle.std.specs.Prelude.{◌≡◌, ◌+◌, ◌*◌, ◌<◌, ◌∷◌, [], IfSome, pos, Some, None, true};
+ghost use Rattle.std.specs.Prelude.{◌≡◌, ◌+◌, ◌*◌, ◌<◌, ◌∷◌, [], IfSome, pos, Some, None, true, false};
 ghost use Rattle.gix_date.specs.Fields.DateOffsets.{strict_offset_text};
 ghost use Rattle.gix_date.specs.Fields.Offsets.{compact_offset_text};
 ghost use Rattle.git_date.specs.Rules.Dates.{first_of_year_2100};
@@ -386,12 +386,13 @@ fn raw(text: &[u8]) -> Option<(u64, i16)>
 #[inline(always)]
 fn said_at(seconds: u64, minutes: i16) -> Said
     requires { seconds < first_of_year_2100 }
-    ensures { result ≡ record { seconds = pos seconds; offset = Some minutes; epoch = true; ignored = None } }
+    ensures { result ≡ record { seconds = pos seconds; offset = Some minutes; epoch = true; leap = false; ignored = None } }
 {
     Said {
         seconds: seconds as i64,
         offset: Some(minutes),
         epoch: true,
+        leap: false,
         ignored: None,
     }
 }

@@ -1,6 +1,6 @@
 //! What was read of a date so far.
 ghost use Rattle.std.specs.Prelude.{◌≡◌};
-ghost use Rattle.git_date.specs.Rules.Fields.{knows_nothing, knows_date, with_clock};
+ghost use Rattle.git_date.specs.Rules.Fields.{knows_nothing, knows_date, is_leap, with_clock};
 
 pub(crate) mod dates;
 pub(crate) mod digits;
@@ -50,6 +50,13 @@ impl Fields {
         ensures { result ≡ knows_date self }
     {
         self.year.is_some() && self.month.is_some() && self.day.is_some()
+    }
+
+    /// Whether the second is the one after 59.
+    pub(crate) fn is_leap(self) -> bool
+        ensures { result ≡ is_leap self }
+    {
+        self.second.is_some_and(|second| second == 60)
     }
 
     /// With this clock, if it is one.

@@ -1,13 +1,11 @@
 //! Dates as Git itself reads them.
 //!
 //! [`parse_date`] reads what Git's own exact reader reads: the dates of `GIT_COMMITTER_DATE` and of mails, and nearly all
-//! that `git commit --date` is given. In a zone of one offset every answer is Git's, or a refusal by name ([`DateError`]).
+//! that `git commit --date` is given. In every zone each answer is Git's, as it reads the first date of a process, or a
+//! refusal by name ([`DateError`]); but by a rule of `TZ` `jiff` has daylight saving time before 1970 too.
 //!
-//! In zones that change exact dates are Git's too, as it reads the first of a process, unless three offsets lie near each
-//! other ([`DateError::Range`]). Two kinds of dates of people, and what a text counts from them, are not. One is dates
-//! whose daylight flag is not the one that the clock showed last, at the moment or at a step such as `yesterday`. Git asks
-//! with that flag, and is often an hour off. Here each date has the offset of its own day. The other is local times that
-//! the clock shows twice or never. Here the offset counts that the clock showed last.
+//! So dates of people are looked for with the daylight flag that the clock showed last: in Berlin, said at 10:00 in
+//! November, `3 months ago` is at 11:00.
 //!
 //! ```
 //! let now = Time::new(1251660000, 0).to_zoned()?;

@@ -37,6 +37,8 @@ pub(crate) struct Said {
     pub(crate) offset: Option<i16>,
     /// Whether the seconds are those of the instant, so that the offset is not subtracted.
     pub(crate) epoch: bool,
+    /// Whether the clock shows second 60.
+    pub(crate) leap: bool,
     /// The place of the first word or number that no rule used, or else of a NUL.
     pub(crate) ignored: Option<usize>,
 }
@@ -148,6 +150,7 @@ fn at_said(seconds: u64, minutes: i16) -> Result<Said, DateError>
         seconds,
         offset: Some(minutes),
         epoch: true,
+        leap: false,
         ignored: None,
     })
 }
@@ -167,6 +170,7 @@ fn fields_said(text: &[u8], read: Result<Reading, Fault>) -> Result<Said, DateEr
         seconds,
         offset: reading.fields.offset,
         epoch: reading.fields.epoch,
+        leap: reading.fields.is_leap(),
         ignored: reading.ignored.map(|left| place_in(text, left)),
     })
 }

@@ -1,8 +1,9 @@
-//! What a zone says of an instant, and which offset it has where its clock shows a time.
-ghost use Rattle.std.specs.Prelude.{◌≡◌, ◌-ℤ◌, true, IfSome};
+//! What a zone says of an instant, and Git's search for the instant at which its clock shows a time.
+ghost use Rattle.std.specs.Prelude.{◌≡◌, ◌-ℤ◌, ◌^◌, pos, neg_ℤ, true, IfSome};
+ghost use Rattle.jiff_core.specs.Calendar.{IsBetween, IsWithin};
 ghost use Rattle.jiff.specs.Words.{plain_zone, IsOffsetSeconds};
 ghost use Rattle.gix_date.specs.Fields.Zoned.{is_instant};
-ghost use Rattle.git_date.specs.Exact.Zones.{offsets_of, is_same, shows, standard_offset, gap_offset, second_offset, searched_offset, local_offset};
+ghost use Rattle.git_date.specs.Exact.Zones.{states_of, same_flag, flagged, flagged_at, nearest, flag_steps, hour_off, by_flag, first_trail, moved, stops, is_back, before_leap, found_offset};
 
 pub(crate) mod decimals;
 pub(crate) mod texts;
@@ -11,141 +12,200 @@ use crate::clocks::is_instant;
 use jiff::Timestamp;
 use jiff::tz::TimeZone;
 
-/// The zone's offset at an instant, in seconds. `None` if the seconds are those of none.
-pub(crate) fn offset_at(zone: TimeZone<'_>, seconds: i64) -> Option<i32>
-    ensures value { result ≡ (offsets_of (plain_zone zone.entry)).at seconds }
-    ensures offset { IfSome result IsOffsetSeconds }
+/// What a zone says of an instant.
+#[derive(Clone, Copy)]
+pub(crate) struct ZoneState {
+    /// Seconds east of UTC.
+    pub(crate) offset: i32,
+    /// Whether that is daylight saving time.
+    pub(crate) daylight: bool,
+}
+
+/// A clock that is looked for.
+#[derive(Clone, Copy)]
+pub(crate) struct Asked {
+    /// The seconds that it has counted since 1970-01-01 00:00:00.
+    pub(crate) clock: i64,
+    /// Whether it is to be one of daylight saving time, if that is asked.
+    pub(crate) daylight: Option<bool>,
+}
+
+/// Where a search stands, and stood before: at offsets by which the clock may be read.
+#[derive(Clone, Copy)]
+pub(crate) struct Trail {
+    pub(crate) here: i32,
+    /// The one before, with the flag that the zone has there.
+    pub(crate) last: Option<ZoneState>,
+    /// The one before that.
+    pub(crate) before: Option<i32>,
+}
+
+/// The moves of a search. Git finds nothing after them.
+const MOST_MOVES: u8 = 6;
+
+/// How far the steps are in which a time with another flag is looked for: 6 days and 23 hours.
+const FLAG_STEP: i64 = 601_200;
+
+/// How many of these are taken to each side.
+const FLAG_STEPS: u16 = 381;
+
+/// What the zone says of an instant. `None` if the seconds are those of none.
+pub(crate) fn state_at(zone: TimeZone<'_>, seconds: i64) -> Option<ZoneState>
+    ensures value { result ≡ states_of (plain_zone zone.entry) seconds }
+    ensures near { IfSome result (λ there. IsOffsetSeconds there.offset) }
 {
     if !is_instant(seconds) {
         return None;
     }
-    let at = Timestamp::from_second(seconds).ok()?;
-    Some(zone.to_offset(at).seconds())
-}
-
-/// The zone's offset at the instant at which a clock at this offset shows these seconds.
-fn offset_by(zone: TimeZone<'_>, local: i64, offset: i32) -> Option<i32>
-    requires { is_instant local ≡ true }
-    ensures { result ≡ (offsets_of (plain_zone zone.entry)).at (local -ℤ offset) }
-{
-    offset_at(zone, local - i64::from(offset))
-}
-
-/// Whether the zone has daylight saving time at the instant at which a clock at this offset shows these seconds.
-fn is_daylight_by(zone: TimeZone<'_>, local: i64, offset: i32) -> bool
-    requires { is_instant (local -ℤ offset) ≡ true }
-    ensures { result ≡ (offsets_of (plain_zone zone.entry)).daylight (local -ℤ offset) }
-{
-    let Ok(at) = Timestamp::from_second(local - i64::from(offset)) else {
-        unreachable!()
+    let Ok(at) = Timestamp::from_second(seconds) else {
+        return None;
     };
-    zone.to_offset_info(at).dst().is_dst()
+    let info = zone.to_offset_info(at);
+    Some(ZoneState {
+        offset: info.offset().seconds(),
+        daylight: info.dst().is_dst(),
+    })
 }
 
-fn is_same(offset: i32, other: Option<i32>) -> bool
-    ensures { result ≡ is_same offset other }
+/// The zone's offset, if it has this flag at an instant.
+fn flagged(zone: TimeZone<'_>, flag: bool, seconds: i64) -> Option<i32>
+    ensures value { result ≡ flagged flag (states_of (plain_zone zone.entry) seconds) }
+    ensures near { IfSome result IsOffsetSeconds }
 {
-    other.is_some_and(|other| offset == other)
+    let there = state_at(zone, seconds)?;
+    if there.daylight == flag {
+        Some(there.offset)
+    } else {
+        None
+    }
 }
 
-/// Whether the zone's clock shows these seconds at this offset from UTC.
-fn shows(zone: TimeZone<'_>, local: i64, offset: i32) -> bool
-    requires { is_instant local ≡ true }
-    ensures { result ≡ shows (offsets_of (plain_zone zone.entry)) local offset }
+/// The offset of a time with this flag at a distance from an instant. That before the instant comes first.
+fn flagged_at(zone: TimeZone<'_>, flag: bool, instant: i64, distance: i64) -> Option<i32>
+    requires instant { is_instant instant ≡ true }
+    requires distance { IsWithin (10 ^ 16) distance }
+    ensures value { result ≡ flagged_at (states_of (plain_zone zone.entry)) flag instant distance }
+    ensures near { IfSome result IsOffsetSeconds }
 {
-    is_same(offset, offset_by(zone, local, offset))
+    if let Some(offset) = flagged(zone, flag, instant - distance) {
+        return Some(offset);
+    }
+    flagged(zone, flag, instant + distance)
 }
 
-/// Of two offsets the one that is not of daylight saving time, as Git mostly has it in a gap, or else 0, or else the first.
-fn standard_offset(zone: TimeZone<'_>, local: i64, first: i32, second: i32) -> i32
-    requires first { is_instant (local -ℤ first) ≡ true }
-    requires second { is_instant (local -ℤ second) ≡ true }
-    ensures { result ≡ standard_offset (offsets_of (plain_zone zone.entry)) local first second }
+/// The offset of the nearest time with this flag.
+fn nearest(zone: TimeZone<'_>, flag: bool, instant: i64) -> Option<i32>
+    requires { is_instant instant ≡ true }
+    ensures value { result ≡ nearest flag_steps (states_of (plain_zone zone.entry)) flag instant }
+    ensures near { IfSome result IsOffsetSeconds }
 {
-    let is_first = is_daylight_by(zone, local, second);
-    let is_second = is_daylight_by(zone, local, first);
-    if is_first && !is_second {
-        return second;
-    }
-    if is_second && !is_first {
-        return first;
-    }
-    if second == 0 { second } else { first }
-}
-
-/// The offset in a gap.
-fn gap_offset(
-    zone: TimeZone<'_>,
-    preferred: Option<i32>,
-    local: i64,
-    first: i32,
-    second: i32,
-) -> i32
-    requires first { is_instant (local -ℤ first) ≡ true }
-    requires second { is_instant (local -ℤ second) ≡ true }
-    ensures { result ≡ gap_offset (offsets_of (plain_zone zone.entry)) preferred local first second }
-{
-    if is_same(first, preferred) {
-        return first;
-    }
-    if is_same(second, preferred) {
-        return second;
-    }
-    standard_offset(zone, local, first, second)
-}
-
-/// The second offset, after two that were tried, or that in a gap. `None` if there is a third, where Git's search goes on.
-fn second_offset(
-    zone: TimeZone<'_>,
-    preferred: Option<i32>,
-    local: i64,
-    first: i32,
-    second: i32,
-) -> Option<i32>
-    requires local { is_instant local ≡ true }
-    requires first { is_instant (local -ℤ first) ≡ true }
-    ensures { result ≡ second_offset (offsets_of (plain_zone zone.entry)) preferred local first second }
-{
-    let third = offset_by(zone, local, second)?;
-    if third == second {
-        return Some(second);
-    }
-    if third == first {
-        return Some(gap_offset(zone, preferred, local, first, second));
+    'steps: for steps in 1..=FLAG_STEPS {
+        if let Some(offset) = flagged_at(zone, flag, instant, FLAG_STEP * i64::from(steps)) {
+            return Some(offset);
+        }
     }
     None
 }
 
-/// Git's search: the offset where UTC's clock shows the time, and those to which it leads. So of a time that is shown twice the
-/// earlier is found west of UTC, the later east, mostly.
-#[tactic(auto, unfolding(crate::specs::Exact::Zones::searched_offset))]
-fn searched_offset(zone: TimeZone<'_>, preferred: Option<i32>, local: i64) -> Option<i32>
-    requires { is_instant local ≡ true }
-    ensures { result ≡ searched_offset (offsets_of (plain_zone zone.entry)) preferred local }
+/// An offset an hour off, where no time near has this flag.
+fn hour_off(flag: bool, offset: i32) -> i32
+    requires { IsOffsetSeconds offset }
+    ensures { result ≡ hour_off flag offset }
 {
-    let first = offset_at(zone, local)?;
-    let second = offset_by(zone, local, first)?;
-    if second == first {
-        return Some(first);
-    }
-    second_offset(zone, preferred, local, first, second)
+    if flag { offset + 3600 } else { offset - 3600 }
 }
 
-/// The offset of the zone where its clock shows these seconds: the preferred one, if it shows them so. That is the one which the
-/// clock showed last, for dates of people; for exact dates there is none.
-#[tactic(auto, unfolding(crate::specs::Exact::Zones::local_offset))]
-pub(crate) fn local_offset(zone: TimeZone<'_>, preferred: Option<i32>, local: i64) -> Option<i32>
-    requires { is_instant local ≡ true }
-    ensures value { result ≡ local_offset (offsets_of (plain_zone zone.entry)) preferred local }
-    ensures near { IfSome result IsOffsetSeconds }
+/// The offset by which a clock is read that the zone shows there, perhaps with another flag than is asked.
+fn by_flag(zone: TimeZone<'_>, asked: Asked, there: ZoneState) -> i32
+    requires clock { is_instant (asked.clock -ℤ there.offset) ≡ true }
+    requires near { IsOffsetSeconds there.offset }
+    ensures { result ≡ by_flag (states_of (plain_zone zone.entry)) asked asked.daylight there }
 {
-    match preferred {
-        Some(offset) => {
-            if shows(zone, local, offset) {
-                return Some(offset);
-            }
-            searched_offset(zone, Some(offset), local)
-        }
-        None => searched_offset(zone, None, local),
+    let Some(flag) = asked.daylight else {
+        return there.offset;
+    };
+    if flag == there.daylight {
+        return there.offset;
     }
+    let instant = asked.clock - i64::from(there.offset);
+    nearest(zone, flag, instant).unwrap_or(hour_off(flag, there.offset))
+}
+
+impl Trail {
+    /// At the first offset of a search.
+    fn at(guess: i32) -> Trail
+        ensures { result ≡ first_trail guess }
+    {
+        Trail {
+            here: guess,
+            last: None,
+            before: None,
+        }
+    }
+
+    /// At the offset to which the zone leads from here.
+    fn moved(self, there: ZoneState) -> Trail
+        ensures { result ≡ moved self there }
+    {
+        Trail {
+            here: there.offset,
+            last: Some(ZoneState {
+                offset: self.here,
+                daylight: there.daylight,
+            }),
+            before: self.last.map(|last| last.offset),
+        }
+    }
+
+    /// Whether the search goes to and fro, and stops here.
+    fn is_back(self, flag: Option<bool>, here: bool) -> bool
+        ensures { result ≡ is_back self flag here }
+    {
+        self.before.is_some_and(|before| self.here == before) && stops(flag, self.last, here)
+    }
+}
+
+/// Whether a search that goes to and fro stops where the zone has this flag.
+fn stops(flag: Option<bool>, last: Option<ZoneState>, here: bool) -> bool
+    ensures { result ≡ stops flag last here }
+{
+    match (flag, last) {
+        (Some(flag), _) => flag != here,
+        (None, Some(last)) => !last.daylight || here,
+        (None, None) => false,
+    }
+}
+
+/// Second 60 is the second after 59, which is looked for.
+pub(crate) fn before_leap(is_leap: bool, clock: i64) -> i64
+    requires { IsBetween (neg_ℤ (pos (10 ^ 16))) (pos (10 ^ 16)) clock }
+    ensures { result ≡ before_leap is_leap clock }
+{
+    if is_leap { clock - 1 } else { clock }
+}
+
+/// Git's search: the offset by which a clock is read, from the one that the last search found. `None` where it finds none in six
+/// moves, or leaves the instants.
+#[tactic(auto, unfolding(crate::specs::Exact::Zones::found_offset))]
+pub(crate) fn found_offset(zone: TimeZone<'_>, asked: Asked, guess: i32) -> Option<i32>
+    ensures value { result ≡ found_offset (states_of (plain_zone zone.entry)) asked guess }
+    ensures clock { IfSome result (λ offset. is_instant asked.clock ≡ true) }
+{
+    if !is_instant(asked.clock) {
+        return None;
+    }
+    let mut trail = Trail::at(guess);
+    'moves: for _move in 0..MOST_MOVES {
+        let Some(there) = state_at(zone, asked.clock - i64::from(trail.here)) else {
+            return None;
+        };
+        if there.offset == trail.here {
+            return Some(by_flag(zone, asked, there));
+        }
+        if trail.is_back(asked.daylight, there.daylight) {
+            return Some(trail.here);
+        }
+        trail = trail.moved(there);
+    }
+    None
 }

@@ -1,5 +1,5 @@
 -- Texts that go back from now, and zones.
-pub mod FixedChoices
+pub mod FixedZones
 pub mod ExactBack
 pub mod ExactNothing
 pub mod Zones

@@ -7,7 +7,8 @@ use Rattle.git_date.specs.Approximate.Reading.{ApproximateOutcome}
 use Rattle.git_date.specs.Approximate.Drafts.{first_draft, settle}
 use Rattle.git_date.specs.Approximate.Rules.{are_digits_next, letters_rule, is_padded, digits_rule}
 use Rattle.git_date.specs.Approximate.Words.{meaning_of}
-use Rattle.git_date.specs.Approximate.Zones.{Choices, choices_of, shown_in, filled_time}
+use Rattle.git_date.specs.Approximate.Zones.{shown_in, filled_time}
+use Rattle.git_date.specs.Exact.Zones.{States, states_of}
 use Rattle.git_date.specs.Rules.Dates.{now_of}
 use Rattle.git_date.specs.Rules.Groups.{group_of}
 use Rattle.git_date.specs.Types.MeaningCases.{Back, Never, Hour, Count, Unit as Unit_}
@@ -16,12 +17,11 @@ use Rattle.git_date.specs.Exact.Outcome.{DateOutcome}
 use Rattle.git_date.specs.Exact.Reading.{place_in}
 use Rattle.git_date.specs.Tokens.Strings.{before_nul, nul_place}
 use Rattle.git_date.specs.Tokens.Tokens.{Token, Letters, Digits, Mark, tokens, bytes_left}
-use Rattle.git_date.specs.Types.Names.{Now, Today, Draft, Fields, Meaning, Number}
+use Rattle.git_date.specs.Types.Names.{Now, Today, Draft, Fields, Meaning, Number, ZoneClock}
 use Rattle.git_date.specs.declared.approximate.answer.Approximate.{Approximate}
 use Rattle.git_date.specs.declared.error.DateError.TheVariants.{Unreadable}
 use Rattle.git_date.specs.Rules.Words.{is_filler}
 use Rattle.git_date_laws.specs.Ignored.{takes_group, after_ending}
-use Rattle.gix_date.specs.Fields.Layout.{LocalTime}
 
 -- a number fits an unknown field: below 32 the day, below 13 the month, or the year
 abbrev pub fits : Fields → ℕ → Bool
@@ -70,12 +70,12 @@ unused_digits now d run more =
     then bytes_left (Digits run ∷ more) ∷ [] else [])
 
 -- A walk over tokens from a draft to the last one, with the places of what is not used. At the end the number that waits is settled.
-pub data Drafted (zone : Choices) (today : Today) : Draft → List Token → List ℕ → Draft → Type 0 where
+pub data Drafted (zone : States) (today : Today) : Draft → List Token → List ℕ → Draft → Type 0 where
   AtEnd : (d : Draft) → Drafted zone today d [] (unfit d.fields d.waiting) (settle d)
   AtMark : (d last : Draft) (byte : ℕ) (more : List Token) (unused : List ℕ) → Drafted zone today d more unused last
       → Drafted zone today d (Mark byte ∷ more) unused last
   AtLetters : (d next last : Draft) (run : List ℕ) (more : List Token) (unused : List ℕ)
-      → letters_rule zone today.shown d run more ≡ Ok next → Drafted zone today next more unused last
+      → letters_rule zone today.shown.clock d run more ≡ Ok next → Drafted zone today next more unused last
       → Drafted zone today d (Letters run ∷ more) (unused_letters d run more ++ unused) last
   AtDigits : (d next last : Draft) (run : List ℕ) (more after : List Token) (unused : List ℕ)
       → digits_rule today.now d run more ≡ Ok (next, after) → Drafted zone today next (after_ending after) unused last
@@ -92,11 +92,11 @@ earliest (Some first) (left ∷ more) = earliest (Some (max left first)) more
 pub record IsEarliestUnused (moment : Zoned) (text : List ℕ) (date : Approximate) : Type 0 where
   pub unused : List ℕ
   pub last : Draft
-  pub shown : LocalTime
-  pub is_shown : shown_in (choices_of (zone_of moment)) (now_of moment).seconds ≡ Some shown
-  pub walk : Drafted (choices_of (zone_of moment)) (record { now = now_of moment; shown = shown }) (first_draft shown)
+  pub shown : ZoneClock
+  pub is_shown : shown_in (states_of (zone_of moment)) (now_of moment).seconds ≡ Some shown
+  pub walk : Drafted (states_of (zone_of moment)) (record { now = now_of moment; shown = shown }) (first_draft shown)
       (tokens (before_nul text)) unused last
-  pub time : filled_time (choices_of (zone_of moment)) shown last.last.offset last.fields ≡ Some date.time
+  pub time : filled_time (states_of (zone_of moment)) shown.clock last.last last.fields ≡ Some date.time
   pub first : date.ignored ≡ option_or (option_map (place_in (before_nul text)) (earliest None unused)) (nul_place text)
 
 -- so it is of every text that `parse_date` does not read

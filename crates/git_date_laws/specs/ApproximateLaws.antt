@@ -3,12 +3,12 @@ use Rattle.std.specs.Prelude.{◌≡◌, ◌≤◌, ℕ, ◌*◌, ℤ, ◌+ℤ�
 use Rattle.jiff.specs.Types.{Offset}
 use Rattle.jiff.specs.Words.{fixed_zone, offset_at, nanos_of_seconds}
 use Rattle.jiff.specs.declared.zoned.Zoned.{Zoned}
-use Rattle.gix_date.specs.Fields.Zoned.{is_instant}
 use Rattle.gix_date.specs.Relative.Steps.{zone_of}
 use Rattle.gix_date.specs.Text.Names.{is_name}
 use Rattle.git_date.specs.Approximate.Reading.{ApproximateOutcome, exact_or_guess, guess}
+use Rattle.git_date_laws.specs.Laws.{IsFoundAgain}
 use Rattle.git_date_laws.specs.Texts.Back.{CountsBack, exactly_back}
-use Rattle.git_date.specs.Approximate.Zones.{one_offset}
+use Rattle.git_date.specs.Exact.Zones.{states_of, one_offset}
 use Rattle.git_date.specs.Rules.Dates.{now_of}
 use Rattle.git_date.specs.Tokens.Numbers.{max_small}
 use Rattle.git_date.specs.Exact.Outcome.{DateOutcome}
@@ -34,15 +34,20 @@ HasOneAnswer moment text =
 abbrev pub offset_then : Zoned → ℤ → ℤ
 offset_then moment seconds = offset_at (zone_of moment) (nanos_of_seconds seconds)
 
--- the instant is not before 1970, and what the zone's clock shows there not in the last days of 9999
-abbrev pub IsShownThere : Zoned → ℤ → Type 0
-IsShownThere moment seconds = (pos 0 ≤ℤ seconds) × (is_instant (seconds +ℤ offset_then moment seconds) ≡ true)
+-- the instant is not before 1970, and is found again from a guess by what the zone's clock shows there
+abbrev pub IsFoundThere : Zoned → ℤ → ℤ → Type 0
+IsFoundThere moment guess seconds =
+    (pos 0 ≤ℤ seconds) × IsFoundAgain (states_of (zone_of moment)) guess (seconds +ℤ offset_then moment seconds) (offset_then moment seconds)
 
--- so many seconds before now are 32 bits' and lead to an instant that the zone's clock shows
+-- now is found again
+abbrev pub IsFoundNow : Zoned → Type 0
+IsFoundNow moment = IsFoundThere moment (pos 0) (now_of moment).seconds
+
+-- so many seconds before now are 32 bits', and both now and then are found again
 pub record IsReachedThere (moment : Zoned) (back : ℕ) : Type 0 where
   pub fits : back ≤ max_small
-  pub now_shown : IsShownThere moment (now_of moment).seconds
-  pub then_shown : IsShownThere moment ((now_of moment).seconds -ℤ pos back)
+  pub now : IsFoundNow moment
+  pub then : IsFoundThere moment (offset_then moment (now_of moment).seconds) ((now_of moment).seconds -ℤ pos back)
 
 -- In every zone `n UNIT ago` is exactly that many seconds before now, at the zone's offset there, and nothing is ignored but
 -- what begins at a NUL.
@@ -68,14 +73,14 @@ pub record IsNow (moment : Zoned) : Type 0 where
   pub zero : (result : Result Approximate DateError) → ApproximateOutcome moment (codes "0 seconds ago") result
       → result ≡ Ok (moment_itself moment (Some 0))
 
--- where the zone's clock shows the moment
-abbrev pub IsNowIfShown : Zoned → Type 0
-IsNowIfShown moment = IsShownThere moment (now_of moment).seconds → IsNow moment
+-- where it is found again
+abbrev pub IsNowIfFound : Zoned → Type 0
+IsNowIfFound moment = IsFoundNow moment → IsNow moment
 
 -- where nothing is understood, the time is the moment's
 abbrev pub IsMomentUnlessUnderstood : Zoned → List ℕ → Type 0
 IsMomentUnlessUnderstood moment text =
-    (date : Approximate) → IsShownThere moment (now_of moment).seconds → ApproximateOutcome moment text (Ok date) → date.understood ≡ false
+    (date : Approximate) → IsFoundNow moment → ApproximateOutcome moment text (Ok date) → date.understood ≡ false
     → date.time ≡ record { seconds = (now_of moment).seconds; offset = offset_then moment (now_of moment).seconds }
 
 -- texts that differ in letter case alone have the same answer

@@ -15,7 +15,7 @@ use Rattle.git_date.specs.Show.Clocks.{Moment, time_at}
 use Rattle.git_date.specs.declared.date.ReadDate.{ReadDate}
 use Rattle.git_date.specs.declared.mode.DateKind.{DateKind}
 use Rattle.git_date.specs.declared.mode.DateKind.TheVariants.{Iso8601Strict, Iso8601, Rfc2822, Default, Raw, Unix}
-use Rattle.git_date_laws.specs.ApproximateLaws.{HasExactAnswer, HasAnswerInAnyCase, IsNowIfShown}
+use Rattle.git_date_laws.specs.ApproximateLaws.{HasExactAnswer, HasAnswerInAnyCase, IsNowIfFound}
 use Rattle.git_date_laws.specs.Laws.{IgnoresCase, ReadsRawBack}
 
 -- one value is so, and no other
@@ -70,7 +70,7 @@ pub record IsHeadline (moment : Zoned) (text : List ℕ) (t : Time) : Type 0 whe
   pub follows : HasExactAnswer moment text
   pub exact_case : IgnoresCase moment text
   pub approximate_case : HasAnswerInAnyCase moment text
-  pub now : IsNowIfShown moment
+  pub now : IsNowIfFound moment
   pub read_back : IsReadAsShown moment t
   pub raw_alone : IsReadAsRaw moment t
   pub unix_alone : IsReadAsUnix moment t

@@ -1,7 +1,7 @@
 -- Laws of dates as Git reads them.
-use Rattle.std.specs.Prelude.{◌≡◌, ◌↔◌, ◌⊎◌, ℕ, ℤ, true, false, List, [], ◌∷◌, ◌++◌, Option, Some, None, IfSome, Result, Ok}
+use Rattle.std.specs.Prelude.{◌≡◌, ◌↔◌, ◌⊎◌, ◌-ℤ◌, ℕ, ℤ, Bool, true, false, List, [], ◌∷◌, ◌++◌, Some, None, option_map, IfSome, Result, Ok}
 use Rattle.jiff.specs.Types.{TimeZone, Posix}
-use Rattle.jiff.specs.Words.{zoned_nanos}
+use Rattle.jiff.specs.Words.{zoned_nanos, IsOffsetSeconds}
 use Rattle.jiff.specs.declared.zoned.Zoned.{Zoned}
 use Rattle.jiff_tz.specs.declared.posix.TimeZone.{TimeZone as Rule}
 use Rattle.gix_date.specs.Fields.Zoned.{is_instant}
@@ -18,7 +18,8 @@ use Rattle.git_date.specs.Tokens.Strings.{before_nul, nul_place}
 use Rattle.git_date.specs.Tokens.Tokens.{Token, Letters, Digits, tokens}
 use Rattle.git_date.specs.Exact.Reading.{said_up_to, said_by}
 use Rattle.git_date.specs.Exact.Outcome.{DateOutcome, DateOutcomeAt, said_offset}
-use Rattle.git_date.specs.Exact.Zones.{ZoneOffsets, offsets_of, shows, local_offset}
+use Rattle.git_date.specs.Exact.Zones.{States, states_of, state_by, is_same, found_offset}
+use Rattle.git_date.specs.Types.Names.{ZoneState}
 use Rattle.git_date.specs.declared.date.ReadDate.{ReadDate}
 use Rattle.git_date.specs.declared.error.DateError.{DateError}
 use Rattle.git_date.specs.declared.mode.DateKind.TheVariants.{Raw}
@@ -74,17 +75,47 @@ ReadsRawBack moment t =
     (now : Moment) (text : List ℕ) (result : Result ReadDate DateError) → is_instant t.seconds ≡ true → shown now (own Raw) t ≡ Some text
     → DateOutcome moment (at_sign ∷ text) result → result ≡ Ok (record { time = t; has_offset = true; ignored = None })
 
--- the zone has one of two offsets at each instant
-abbrev pub HasTwoOffsets : ZoneOffsets → ℤ → ℤ → Type 0
-HasTwoOffsets zone a b = (seconds : ℤ) → IfSome (zone.at seconds) (λ o. (o ≡ a) ⊎ (o ≡ b))
+-- the zone's clock shows these seconds at an offset
+abbrev pub shows : States → ℤ → ℤ → Bool
+shows zone clock offset = is_same offset (option_map (λ (there : ZoneState). there.offset) (state_by zone clock offset))
 
--- where the zone's clock ever shows these seconds, the offset that is found shows them
-abbrev pub IsReadIfShown : ZoneOffsets → Type 0
-IsReadIfShown zone =
-    (preferred : Option ℤ) (local offset : ℤ) → shows zone local offset ≡ true
-    → IfSome (local_offset zone preferred local) (λ found. shows zone local found ≡ true)
+-- within 26 hours of where a clock would be UTC's, the zone has one of two offsets
+abbrev pub HasTwoOffsets : States → ℤ → ℤ → ℤ → Type 0
+HasTwoOffsets zone clock a b =
+    (offset : ℤ) → IsOffsetSeconds offset → IfSome (state_by zone clock offset) (λ there. (there.offset ≡ a) ⊎ (there.offset ≡ b))
 
--- so it is in a zone of two offsets, and in each zone of a rule, whatever its days are
+-- where the zone's clock ever shows these seconds, the offset that is found shows them, if no flag is asked
+abbrev pub IsReadIfShown : States → ℤ → Type 0
+IsReadIfShown zone clock =
+    (guess offset : ℤ) → IsOffsetSeconds guess → shows zone clock offset ≡ true
+    → IfSome (found_offset zone (record { clock = clock; daylight = None }) guess) (λ found. shows zone clock found ≡ true)
+
+-- the offset that the zone has where its clock shows these seconds is found by them and by the flag there
+abbrev pub IsFoundAgain : States → ℤ → ℤ → ℤ → Type 0
+IsFoundAgain zone guess clock offset =
+    found_offset zone (record { clock = clock; daylight = option_map (λ (there : ZoneState). there.daylight) (state_by zone clock offset) }) guess
+    ≡ Some offset
+
+-- no other offset shows these seconds
+abbrev pub IsShownOnce : States → ℤ → ℤ → Type 0
+IsShownOnce zone clock offset =
+    (shows zone clock offset ≡ true) × ((other : ℤ) → shows zone clock other ≡ true → other ≡ offset)
+
+-- within 26 hours of where a clock would be UTC's, there are instants
+abbrev pub HasInstants : ℤ → Type 0
+HasInstants clock = (offset : ℤ) → IsOffsetSeconds offset → is_instant (clock -ℤ offset) ≡ true
+
+-- where its clock shows them once, that is found from any guess
+abbrev pub IsFoundIfOnce : States → ℤ → Type 0
+IsFoundIfOnce zone clock =
+    (guess offset : ℤ) → IsOffsetSeconds guess → HasInstants clock → IsShownOnce zone clock offset → IsFoundAgain zone guess clock offset
+
+-- a clock is read where it is shown, and found again where it is shown once
+pub record IsRead (zone : States) (clock : ℤ) : Type 0 where
+  pub shown : IsReadIfShown zone clock
+  pub once : IsFoundIfOnce zone clock
+
+-- so it is where a zone has two offsets, and in each zone of a rule, whatever its days are
 pub record IsClockRead (tz : TimeZone) : Type 0 where
-  pub two : (a b : ℤ) → HasTwoOffsets (offsets_of tz) a b → IsReadIfShown (offsets_of tz)
-  pub rule : (rule : Rule) → tz ≡ Posix rule → IsReadIfShown (offsets_of tz)
+  pub two : (a b clock : ℤ) → HasTwoOffsets (states_of tz) clock a b → IsRead (states_of tz) clock
+  pub rule : (rule : Rule) (clock : ℤ) → tz ≡ Posix rule → IsRead (states_of tz) clock

@@ -9,9 +9,10 @@ pub fn one_answer(text: &[u8], now: &Zoned<'_>)
     ensures { HasOneAnswer now.now text.now }
 {}
 
-/// In every zone `n UNIT ago`, of seconds to weeks, is exactly that many seconds before now, at the zone's offset there: also over
-/// a change of the zone, and in a fold. A NUL after it is all that is ignored. The seconds fit 32 bits and lead to no time before
-/// 1970, and the zone's clock shows both instants, so that none is in the last days of 9999.
+/// In every zone `n UNIT ago`, of seconds to weeks, is exactly that many seconds before now, at the zone's offset there, if both
+/// instants are found again: Git looks for each by what the zone's clock shows there, and whether that is daylight saving time. Of
+/// a clock that is shown once [`clock_read`](crate::clock_read) says that it is. A NUL after the text is all that is ignored. The
+/// seconds fit 32 bits and lead to no time before 1970.
 ///
 /// The count is 1 or more, below 100000000 and not of eight digits: [`git_date::parse_date`] takes larger numbers for seconds since
 /// 1970, and eight digits for a date. It has no leading 0 in three digits or more, which Git ignores.
@@ -19,7 +20,7 @@ pub fn back_in_every_zone(text: &[u8], now: &Zoned<'_>)
     ensures { IsBackInEveryZone now.now text.now }
 {}
 
-/// Where nothing of a text is understood, the time is the moment's, in whole seconds, in every zone whose clock shows it.
+/// Where nothing of a text is understood, the time is the moment's, in whole seconds, in every zone where it is found again.
 pub fn not_understood_is_now(text: &[u8], now: &Zoned<'_>)
     ensures { IsMomentUnlessUnderstood now.now text.now }
 {}

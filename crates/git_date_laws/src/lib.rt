@@ -35,8 +35,9 @@ pub fn written_offset(text: &[u8], now: &Zoned<'_>)
     ensures told { IsOfEveryZone now.now text.now }
 {}
 
-/// In a zone of two offsets, as in each zone of a rule, the offset that is found shows the clock that was read, wherever the zone's
-/// clock ever shows it: also where changes stand near each other, or near New Year.
+/// Where a zone has at most two offsets within 26 hours of a clock, as each zone of a rule has, [`git_date::parse_date`] reads the
+/// clock by an offset that shows it, wherever the zone's clock ever does: also where changes stand near each other, or near New
+/// Year. A clock that is shown once is found again by what it shows, and whether that is daylight saving time.
 #[tactic(auto, using(crate::proofs::Back::ClockRead::clocks_read))]
 pub fn clock_read(zone: TimeZone<'_>)
     ensures { IsClockRead (plain_zone zone.entry) }

@@ -5,7 +5,7 @@ use gix_date::{Time, Zoned};
 
 /// For every text, time and moment, in every zone: [`git_date::parse_date`], [`git_date::approxidate`] and [`git_date::expiry_date`] have
 /// exactly one result each, by the rules that are written. `approxidate` has that of `parse_date` wherever this reads. Letter case
-/// changes neither. `now` is now.
+/// changes neither. `now` is now, where that is found again.
 ///
 /// What [`git_date::show_date`] shows of a time by `iso8601`, `iso8601-strict`, `rfc2822` and `default` is read as that time in every
 /// zone, and nothing is ignored: for times from 1970 on of the years to 2099, at whole minutes within 23:59, but for one minute behind

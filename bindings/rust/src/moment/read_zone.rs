@@ -21,7 +21,7 @@ use std::fmt;
 /// let zone = Zone::Posix("EST5EDT,M3.2.0,M11.1.0".into()).read()?;
 /// let now = Instant::at_second(1700000000);
 /// assert_eq!(zone.parse("1 hour ago", now)?, Time::new(1699996400, -18000));
-/// assert_eq!(zone.approxidate("noon july 1", now)?.time, Time::new(1688227200, -14400));
+/// assert_eq!(zone.approxidate("noon july 1", now)?.time, Time::new(1688230800, -14400));
 /// # Ok::<(), Box<dyn std::error::Error>>(())
 /// ```
 ///

@@ -27,7 +27,7 @@ use Rattle.git_date.specs.Rules.Words.{without_ending}
 use Rattle.git_date.specs.declared.fields.dates.Now.{Now}
 use Rattle.git_date.specs.declared.fields.Fields.{Fields}
 use Rattle.git_date.specs.declared.reader.Said.{Said}
-use Rattle.git_date.proofs.Rules.ClocksBack.{shown_of, clock-is, known-month}
+use Rattle.git_date.proofs.Rules.ClocksBack.{shown_of, clock-is, no-leap, known-month}
 use Rattle.git_date.proofs.Exact.FastTexts.{t, git-clock, minutes-are}
 use Rattle.git_date.proofs.Exact.PrintedClocks.{IsGitClock, pairs-number, run-before, at, go, skip-space, go-offset, offset_tokens, spaced-offset, offset_in_minutes, hours_of, is_behind, minutes_of as minutes_in}
 use Rattle.git_date.proofs.Exact.PrintedReads.{reads-are, sign-free}
@@ -101,7 +101,7 @@ at-is run a b false h g =
     rw ((pairs-number a b h g).is, small (100 * a + b) (omega arith), hundreds, ones) refl
 
 abbrev pub said_at : ℕ → ℤ → Said
-said_at n minutes = record { seconds = pos n; offset = Some minutes; epoch = true; ignored = None }
+said_at n minutes = record { seconds = pos n; offset = Some minutes; epoch = true; leap = false; ignored = None }
 
 pub said-is : (n : ℕ) (minutes : ℤ) → is_instant (pos n) ≡ true → at_said (n, minutes) ≡ Ok (said_at n minutes)
 unfolding at_said
@@ -121,14 +121,14 @@ epoch-by now n run more e first last =
 
 -- its fields say its seconds, with an offset or without one
 pub epoch-says : (n : ℕ) (offset : Option ℤ) (text : List ℕ) → n < first_of_year_2100
-    → fields_said text (Ok (at (record (with_epoch unknown (shown_of (pos n))) { offset = offset }))) ≡ Ok (record { seconds = pos n; offset = offset; epoch = true; ignored = None })
+    → fields_said text (Ok (at (record (with_epoch unknown (shown_of (pos n))) { offset = offset }))) ≡ Ok (record { seconds = pos n; offset = offset; epoch = true; leap = false; ignored = None })
 unfolding fields_said exact_seconds month_start
 epoch-says n offset text last =
     let fields : Fields = record (with_epoch unknown (shown_of (pos n))) { offset = offset } in
     let month = known-month (pos n) (omega (arith, signed_arith)) (omega (arith, signed_arith, last)) in
     let seconds : exact_seconds fields ≡ Some (pos n) =
     rw month (ap (λ (x : ℤ). Some x) (clock-is (pos n) (omega (arith, signed_arith), omega (arith, signed_arith, last))).seconds) in
-    ap (by_seconds text (at fields)) seconds ∙ rw (seconds-instant n last) refl
+    ap (by_seconds text (at fields)) seconds ∙ rw (seconds-instant n last, no-leap (pos n)) refl
 
 midnight-is : WritesClock (clock_text (record { hour = 0; minute = 0; second = 0 })) (0, 0, 0)
 midnight-is = record { hour = omega arith; minute = omega arith; second = omega arith; is = refl }

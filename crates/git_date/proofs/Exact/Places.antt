@@ -14,8 +14,8 @@ use Rattle.git_date.specs.Rules.Dates.{exact_seconds}
 use Rattle.git_date.specs.Rules.Offsets.{at_text}
 use Rattle.git_date.specs.Tokens.Strings.{string_len, before_nul, nul_place}
 use Rattle.git_date.specs.Exact.Reading.{nothing_read, reading_of, place_in, at_said, by_seconds, fields_said, at_or_fields, said_up_to, string_said, said_by}
-use Rattle.git_date.specs.Exact.Outcome.{date_at, date_in, at_offset, date_of, instant_seconds, IsPlaceIn, IsErrorIn, HasPlacesIn}
-use Rattle.git_date.specs.Exact.Zones.{offsets_of, local_offset}
+use Rattle.git_date.specs.Exact.Outcome.{date_at, date_in, said_in, at_offset, date_of, instant_seconds, IsPlaceIn, IsErrorIn, HasPlacesIn}
+use Rattle.git_date.specs.Exact.Zones.{states_of}
 use Rattle.git_date.specs.declared.fields.dates.Now.{Now}
 use Rattle.git_date.specs.declared.error.DateError.{DateError}
 use Rattle.git_date.specs.declared.error.DateError.TheVariants as error
@@ -171,7 +171,7 @@ local-in text said (Some offset) h = date-at-in text said _ h
 
 offset-in : (tz : TimeZone) (text : List ℕ) (said : Said) (offset : Option ℤ) → IfSome said.ignored (IsPlaceIn text) → HasPlacesIn text (at_offset tz said offset)
 offset-in tz text said (Some minutes) h = date-at-in text said minutes h
-offset-in tz text said None h = local-in text said (local_offset (offsets_of tz) None said.seconds) h
+offset-in tz text said None h = local-in text said (said_in (states_of tz) said) h
 
 pub date-in : (tz : TimeZone) (text : List ℕ) (said : Result Said DateError) → IsSaidIn text said → HasPlacesIn text (date_of tz said)
 date-in tz text (Ok said) h = offset-in tz text said said.offset h

@@ -1,11 +1,10 @@
 -- Where the places are that a draft keeps, and those of its faults.
-use Rattle.std.proofs.Common.{◌≡◌, pos, ℕ, ℤ, zero, suc, Bool, true, false, List, [], ◌∷◌, refl, sym, subst, arith, nat_le, option_map, Option, Some, None, Result, Ok, Err}
-use Rattle.std.specs.Prelude.{◌==◌, ◌||◌, ◌-ℤ◌, ◌+◌, ◌%◌, max, ok_or}
+use Rattle.std.proofs.Common.{◌≡◌, ℕ, ℤ, zero, suc, Bool, true, false, List, [], ◌∷◌, refl, sym, subst, arith, nat_le, option_map, Option, Some, None, Result, Ok, Err}
+use Rattle.std.specs.Prelude.{◌==◌, ◌||◌, ◌+◌, ◌%◌, max, ok_or}
 use Rattle.std.specs.Option.{option_map_or}
 use Rattle.std.proofs.lemmas.Bool.Decides.{nat_tests}
 use Rattle.gix_date.specs.Fields.ClockNumbers.{seconds_per_day}
 use Rattle.gix_date.specs.Fields.Layout.{LocalTime}
-use Rattle.gix_date.specs.declared.time.Time.{Time}
 use Rattle.git_date.specs.Tokens.Numbers.{number, is_too_large}
 use Rattle.git_date.specs.Tokens.Steps.{and_then}
 use Rattle.git_date.specs.Tokens.Tokens.{Token, Letters, Digits, Mark, bytes_left, walked}
@@ -13,9 +12,10 @@ use Rattle.git_date.specs.Rules.Words.{is_filler}
 use Rattle.git_date.specs.Exact.Reading.{ended}
 use Rattle.git_date.specs.Approximate.Drafts.{with_shown, earlier, ignore, with_number, settle_number, without_number, settle, dropped, with_half, with_hour, is_before, units, less_months}
 use Rattle.git_date.specs.Approximate.Reading.{Read, rule, steps}
-use Rattle.git_date.specs.Approximate.Rules.{Ruled, used, hour_rule, back_rule, unit_rule, counted_by, count_waits, meaning_rule, word_by, read_word, understood, are_digits_next, letters_rule, is_padded, group_or_number, digits_rule}
+use Rattle.git_date.specs.Approximate.Rules.{Ruled, used, hour_rule, back_rule, unit_rule, counted_by, count_waits, meaning_rule, word_by, read_word, understood, are_digits_next, first_instant, letters_rule, is_padded, group_or_number, digits_rule}
 use Rattle.git_date.specs.Approximate.Words.{meaning_of}
-use Rattle.git_date.specs.Approximate.Zones.{Choices, shown_in, filled_time, moved_to, fill}
+use Rattle.git_date.specs.Approximate.Zones.{shown_in, filled, moved_to, before, fill}
+use Rattle.git_date.specs.Exact.Zones.{States}
 use Rattle.git_date.specs.declared.approximate.answer.Today.{Today}
 use Rattle.git_date.specs.declared.approximate.drafts.Draft.{Draft}
 use Rattle.git_date.specs.declared.approximate.meanings.Meaning.{Meaning}
@@ -23,6 +23,8 @@ use Rattle.git_date.specs.declared.approximate.meanings.Meaning.TheVariants.{Mon
 use Rattle.git_date.specs.declared.approximate.meanings.Meaning.TheVariants as meaning
 use Rattle.git_date.specs.declared.approximate.meanings.Unit.{Unit as Counted}
 use Rattle.git_date.specs.declared.approximate.meanings.Unit.TheVariants.{Seconds, Weekday, Months}
+use Rattle.git_date.specs.declared.approximate.shown.ZoneClock.{ZoneClock}
+use Rattle.git_date.specs.declared.approximate.zone.Found.{Found}
 use Rattle.git_date.specs.declared.fault.Fault.{Fault}
 use Rattle.git_date.specs.declared.fault.Fault.TheVariants.{BackTooFar, Range}
 use Rattle.git_date.specs.declared.fields.Fields.{Fields}
@@ -84,29 +86,29 @@ module _ (P : ℕ → Type 0) where
   half-by d first (Some n) h = (tt, h.1)
 
   -- what a zone makes of a draft
-  shown-at : (d : Draft) (left : ℕ) (shown : Option LocalTime) → P left → IsDraftAt d → IsDraftedAt (ok_or (option_map (with_shown d) shown) (BackTooFar left))
-  shown-at d left None p h = p
-  shown-at d left (Some shown) p h = h
+  shown-at : (d : Draft) (guess : ℤ) (left : ℕ) (shown : Option ZoneClock) → P left → IsDraftAt d → IsDraftedAt (ok_or (option_map (with_shown d guess) shown) (BackTooFar left))
+  shown-at d guess left None p h = p
+  shown-at d guess left (Some shown) p h = h
 
-  moved-at : (zone : Choices) (d : Draft) (left : ℕ) (instant : ℤ) → P left → IsDraftAt d → IsDraftedAt (moved_to zone d left instant)
+  moved-at : (zone : States) (d : Draft) (left : ℕ) (found : Found) → P left → IsDraftAt d → IsDraftedAt (moved_to zone d left found)
   unfolding moved_to
-  moved-at zone d left instant p h = shown-at d left (shown_in zone instant) p h
+  moved-at zone d left found p h = shown-at d found.guess left (shown_in zone found.instant) p h
 
-  filled-at : (zone : Choices) (d : Draft) (back left : ℕ) (time : Option Time) → P left → IsDraftAt d
-      → IsDraftedAt (and_then (ok_or time Range) (λ time. moved_to zone d left (time.seconds -ℤ pos back)))
+  filled-at : (zone : States) (d : Draft) (back left : ℕ) (found : Option Found) → P left → IsDraftAt d
+      → IsDraftedAt (and_then (ok_or found Range) (λ found. moved_to zone d left (before found back)))
   filled-at zone d back left None p h = tt
-  filled-at zone d back left (Some time) p h = moved-at zone d left _ p h
+  filled-at zone d back left (Some found) p h = moved-at zone d left (before found back) p h
 
-  fill-at : (zone : Choices) (today : LocalTime) (d : Draft) (back left : ℕ) → P left → IsDraftAt d → IsDraftedAt (fill zone today d back left)
+  fill-at : (zone : States) (today : LocalTime) (d : Draft) (back left : ℕ) → P left → IsDraftAt d → IsDraftedAt (fill zone today d back left)
   unfolding fill
-  fill-at zone today d back left p h = filled-at zone d back left (filled_time zone today d.last.offset d.fields) p h
+  fill-at zone today d back left p h = filled-at zone d back left (filled zone today d.last d.fields) p h
 
   then-at : (a : Result Draft Fault) (go : Draft → Result Draft Fault) → IsDraftedAt a → ((d : Draft) → IsDraftAt d → IsDraftedAt (go d)) → IsDraftedAt (and_then a go)
   then-at (Ok d) go h next = next d h
   then-at (Err fault) go h next = h
 
   -- words
-  hour-at : (zone : Choices) (today : LocalTime) (d : Draft) (hour left : ℕ) → P left → IsDraftAt d → IsDraftedAt (hour_rule zone today d hour left)
+  hour-at : (zone : States) (today : LocalTime) (d : Draft) (hour left : ℕ) → P left → IsDraftAt d → IsDraftedAt (hour_rule zone today d hour left)
   hour-at zone today d hour left p h =
       let settled = settle-at d h in
       then-at _ _ (either IsDraftedAt (is_before (settle d).fields.hour hour) _ (Ok (settle d)) (fill-at zone today (settle d) seconds_per_day left p settled) settled) (λ d h. h)
@@ -115,10 +117,10 @@ module _ (P : ℕ → Type 0) where
   less-at d left None p h = p
   less-at d left (Some f) p h = h
 
-  back-at : (zone : Choices) (today : LocalTime) (d : Draft) (back : ℕ) (n : Number) → P n.left → IsDraftAt d → IsDraftedAt (back_rule zone today d back n)
+  back-at : (zone : States) (today : LocalTime) (d : Draft) (back : ℕ) (n : Number) → P n.left → IsDraftAt d → IsDraftedAt (back_rule zone today d back n)
   back-at zone today d back n p h = either IsDraftedAt (is_too_large back) _ _ p (fill-at zone today d back n.left p h)
 
-  unit-at : (zone : Choices) (today : LocalTime) (d : Draft) (unit : Counted) (n : Number) → P n.left → IsAt P d.ignored → IsDraftedAt (unit_rule zone today d unit n)
+  unit-at : (zone : States) (today : LocalTime) (d : Draft) (unit : Counted) (n : Number) → P n.left → IsAt P d.ignored → IsDraftedAt (unit_rule zone today d unit n)
   unit-at zone today d (Seconds size) n p h = back-at zone today (without_number d) _ n p (tt, h)
   unit-at zone today d (Weekday day) n p h = back-at zone today (without_number d) _ n p (tt, h)
   unit-at zone today d (Months size) n p h =
@@ -128,7 +130,7 @@ module _ (P : ℕ → Type 0) where
   used-at (Ok d) h = h
   used-at (Err fault) h = h
 
-  counted-at : (zone : Choices) (today : LocalTime) (d : Draft) (unit : Counted) (waiting : Option Number) → IsAt P (place_of waiting) → IsAt P d.ignored
+  counted-at : (zone : States) (today : LocalTime) (d : Draft) (unit : Counted) (waiting : Option Number) → IsAt P (place_of waiting) → IsAt P d.ignored
       → IsRuledAt (counted_by zone today d unit waiting)
   counted-at zone today d unit None w h = tt
   counted-at zone today d unit (Some n) w h = used-at _ (unit-at zone today d unit n w h)
@@ -137,18 +139,18 @@ module _ (P : ℕ → Type 0) where
   waits-at d n left None p h = (p, h.1)
   waits-at d n left (Some other) p h = tt
 
-  meaning-at : (zone : Choices) (today : LocalTime) (d : Draft) (left : ℕ) (said : Meaning) → P left → IsDraftAt d → IsRuledAt (meaning_rule zone today d left said)
+  meaning-at : (zone : States) (today : LocalTime) (d : Draft) (left : ℕ) (said : Meaning) → P left → IsDraftAt d → IsRuledAt (meaning_rule zone today d left said)
   unfolding meaning_rule
   meaning-at zone today d left (Month month) p h = h
   meaning-at zone today d left (Back seconds) p h = used-at _ (fill-at zone today (dropped d) seconds left p (dropped-at d h))
-  meaning-at zone today d left Never p h = used-at _ (moved-at zone (dropped d) left (pos 0) p (dropped-at d h))
+  meaning-at zone today d left Never p h = used-at _ (moved-at zone (dropped d) left (first_instant d) p (dropped-at d h))
   meaning-at zone today d left (Hour hour) p h = used-at _ (hour-at zone today d hour left p h)
   meaning-at zone today d left Morning p h = half-by d 0 d.waiting h
   meaning-at zone today d left Afternoon p h = half-by d 12 d.waiting h
   meaning-at zone today d left (Count n) p h = waits-at d n left d.waiting p h
   meaning-at zone today d left (meaning.Unit unit) p h = counted-at zone today d unit d.waiting h.0 h.1
 
-  word-at : (zone : Choices) (today : LocalTime) (d : Draft) (left : ℕ) (said : Option Meaning) → P left → IsDraftAt d → IsRuledAt (word_by zone today d left said)
+  word-at : (zone : States) (today : LocalTime) (d : Draft) (left : ℕ) (said : Option Meaning) → P left → IsDraftAt d → IsRuledAt (word_by zone today d left said)
   word-at zone today d left None p h = tt
   word-at zone today d left (Some said) p h = meaning-at zone today d left said p h
 
@@ -157,7 +159,7 @@ module _ (P : ℕ → Type 0) where
   read-word-at d word left (Ok (Some next)) p h r = r
   read-word-at d word left (Err fault) p h r = r
 
-  letters-at : (zone : Choices) (today : LocalTime) (d : Draft) (run : List ℕ) (more : List Token) → P (bytes_left (Letters run ∷ more)) → IsDraftAt d
+  letters-at : (zone : States) (today : LocalTime) (d : Draft) (run : List ℕ) (more : List Token) → P (bytes_left (Letters run ∷ more)) → IsDraftAt d
       → IsDraftedAt (letters_rule zone today d run more)
   unfolding letters_rule
   letters-at zone today d run more p h =
@@ -191,18 +193,18 @@ module _ (P : ℕ → Type 0) where
     letters-on (Ok d) more r h = (h, r)
     letters-on (Err fault) more r h = h
 
-    pub rule-on : (zone : Choices) (today : Today) (d : Draft) (t : Token) (more : List Token) → IsTokenAt R P k t more → R more → IsDraftAt d → ReadsOn (rule zone today d t more)
-    rule-on zone today d (Letters run) more p r h = letters-on _ more r (letters-at zone today.shown d run more p h)
+    pub rule-on : (zone : States) (today : Today) (d : Draft) (t : Token) (more : List Token) → IsTokenAt R P k t more → R more → IsDraftAt d → ReadsOn (rule zone today d t more)
+    rule-on zone today d (Letters run) more p r h = letters-on _ more r (letters-at zone today.shown.clock d run more p h)
     rule-on zone today d (Digits run) more p r h = ended-on _ (digits-at today.now d run more p r h)
     rule-on zone today d (Mark byte) more p r h = (h, r)
 
-    read-then : (zone : Choices) (today : Today) (n : ℕ) (step : Read)
+    read-then : (zone : States) (today : Today) (n : ℕ) (step : Read)
         → ((d : Draft) (ts : List Token) → R ts → IsDraftAt d → IsDraftedAt (steps zone today n d ts)) → ReadsOn step
         → IsDraftedAt (and_then step (λ next. steps zone today n next.0 next.1))
     read-then zone today n (Ok found) all h = all found.0 found.1 h.1 h.0
     read-then zone today n (Err fault) all h = h
 
-    pub steps-on : (zone : Choices) (today : Today) (n : ℕ) (d : Draft) (ts : List Token) → R ts → IsDraftAt d → IsDraftedAt (steps zone today n d ts)
+    pub steps-on : (zone : States) (today : Today) (n : ℕ) (d : Draft) (ts : List Token) → R ts → IsDraftAt d → IsDraftedAt (steps zone today n d ts)
     unfolding walked
     steps-on zone today zero d [] q h = h
     steps-on zone today zero d (t ∷ more) q h = h

@@ -8,7 +8,8 @@ use Rattle.gix_date.specs.declared.time.Time.{Time}
 use Rattle.git_date.specs.Approximate.Reading.{draft_of, answer, answer_of, guess_by, answer_up_to, string_guess, guess, is_unreadable, exact_or_guess, approximate, HasApproximatePlacesIn}
 use Rattle.git_date.specs.Approximate.Drafts.{first_draft, settle}
 use Rattle.git_date.specs.Approximate.Expiry.{expiry_of, expiry_by, fixed_expiry, HasExpiryPlacesIn}
-use Rattle.git_date.specs.Approximate.Zones.{Choices, choices_of, shown_in, filled_time}
+use Rattle.git_date.specs.Approximate.Zones.{shown_in, filled_time}
+use Rattle.git_date.specs.Exact.Zones.{States, states_of}
 use Rattle.git_date.specs.Rules.Dates.{now_of}
 use Rattle.git_date.specs.Exact.Outcome.{date_of, HasPlacesIn}
 use Rattle.git_date.specs.Exact.Reading.{said_by}
@@ -18,6 +19,7 @@ use Rattle.git_date.specs.declared.approximate.answer.Approximate.{Approximate}
 use Rattle.git_date.specs.declared.approximate.answer.Today.{Today}
 use Rattle.git_date.specs.declared.approximate.drafts.Draft.{Draft}
 use Rattle.git_date.specs.declared.approximate.expiry.Expiry.{Expiry}
+use Rattle.git_date.specs.declared.approximate.shown.ZoneClock.{ZoneClock}
 use Rattle.git_date.specs.declared.date.ReadDate.{ReadDate}
 use Rattle.git_date.specs.declared.fields.dates.Now.{Now}
 use Rattle.git_date.specs.declared.error.DateError.{DateError}
@@ -27,7 +29,6 @@ use Rattle.git_date.proofs.Rules.Kept.{IsFaultAt, IsAt, either}
 use Rattle.git_date.proofs.Guesses.KeptDrafts.{IsDraftedAt, settle-at, steps-on}
 use Rattle.git_date.proofs.Exact.Places.{Ends, IsPlaceOf, kept, runs-of, ignored-in, up-to-in, error-before, places}
 use Rattle.git_date.proofs.Text.TokenRuns.{texts_are}
-use Rattle.gix_date.specs.Fields.Layout.{LocalTime}
 
 -- the place of what is ignored in the end, or that of a refusal
 abbrev IsGivenAt : (ℕ → Type 0) → Result Draft Fault → Type 0
@@ -38,7 +39,7 @@ given-at : (P : ℕ → Type 0) (given : Result Draft Fault) → IsDraftedAt P g
 given-at P (Ok d) h = (settle-at P d h).1
 given-at P (Err fault) h = h
 
-draft-at : (zone : Choices) (today : Today) (text : List ℕ) → IsGivenAt (IsPlaceOf text) (draft_of zone today text)
+draft-at : (zone : States) (today : Today) (text : List ℕ) → IsGivenAt (IsPlaceOf text) (draft_of zone today text)
 unfolding draft_of
 draft-at zone today text =
     given-at (IsPlaceOf text) _
@@ -49,19 +50,19 @@ answer-in : (text : List ℕ) (d : Draft) (time : Option Time) → IsAt (IsPlace
 answer-in text d None h = tt
 answer-in text d (Some time) h = either (HasApproximatePlacesIn text) (le_z (pos 0) time.seconds) _ _ (ignored-in text d.ignored h) tt
 
-answer-of-in : (zone : Choices) (today : Today) (text : List ℕ) (given : Result Draft Fault) → IsGivenAt (IsPlaceOf text) given
+answer-of-in : (zone : States) (today : Today) (text : List ℕ) (given : Result Draft Fault) → IsGivenAt (IsPlaceOf text) given
     → HasApproximatePlacesIn text (answer_of zone today text given)
-answer-of-in zone today text (Ok d) h = answer-in text (settle d) (filled_time zone today.shown (settle d).last.offset (settle d).fields) h
+answer-of-in zone today text (Ok d) h = answer-in text (settle d) (filled_time zone today.shown.clock (settle d).last (settle d).fields) h
 answer-of-in zone today text (Err fault.Range) h = tt
 answer-of-in zone today text x h = h
 
-guess-by-in : (zone : Choices) (now : Now) (text : List ℕ) (shown : Option LocalTime) → HasApproximatePlacesIn text (guess_by zone now text shown)
+guess-by-in : (zone : States) (now : Now) (text : List ℕ) (shown : Option ZoneClock) → HasApproximatePlacesIn text (guess_by zone now text shown)
 guess-by-in zone now text None = tt
 guess-by-in zone now text (Some shown) =
     let today : Today = record { now = now; shown = shown } in
     answer-of-in zone today text (draft_of zone today text) (draft-at zone today text)
 
-string-guess-in : (zone : Choices) (now : Now) (text : List ℕ) → HasApproximatePlacesIn text (string_guess zone now text)
+string-guess-in : (zone : States) (now : Now) (text : List ℕ) → HasApproximatePlacesIn text (string_guess zone now text)
 unfolding string_guess
 string-guess-in zone now text = guess-by-in zone now text (shown_in zone now.seconds)
 
@@ -70,7 +71,7 @@ answer-up-to-in : (text : List ℕ) (found : Result Approximate DateError) → H
 answer-up-to-in text (Ok date) h = up-to-in text date.ignored h
 answer-up-to-in text (Err e) h = error-before text e h
 
-guess-in : (zone : Choices) (now : Now) (text : List ℕ) → HasApproximatePlacesIn text (guess zone now text)
+guess-in : (zone : States) (now : Now) (text : List ℕ) → HasApproximatePlacesIn text (guess zone now text)
 unfolding guess
 guess-in zone now text = answer-up-to-in text (string_guess zone now (before_nul text)) (string-guess-in zone now (before_nul text))
 
@@ -81,8 +82,8 @@ exact-or-in text (Err e) guessed h g = either (HasApproximatePlacesIn text) (is_
 
 pub approximate-places : (moment : Zoned) (text : List ℕ) → HasApproximatePlacesIn text (approximate moment text)
 approximate-places moment text =
-    exact-or-in text (date_of (zone_of moment) (said_by (now_of moment) text)) (guess (choices_of (zone_of moment)) (now_of moment) text)
-    (places (zone_of moment) (now_of moment) text) (guess-in (choices_of (zone_of moment)) (now_of moment) text)
+    exact-or-in text (date_of (zone_of moment) (said_by (now_of moment) text)) (guess (states_of (zone_of moment)) (now_of moment) text)
+    (places (zone_of moment) (now_of moment) text) (guess-in (states_of (zone_of moment)) (now_of moment) text)
 
 -- what expires
 dated-in : (text : List ℕ) (date : Result Approximate DateError) → HasApproximatePlacesIn text date → HasExpiryPlacesIn text (expiry_of date)

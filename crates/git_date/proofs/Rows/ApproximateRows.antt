@@ -5,8 +5,8 @@ use Rattle.std.specs.Prelude.{codes}
 use Rattle.git_date.specs.Approximate.Reading.{guess}
 use Rattle.git_date.specs.Approximate.Computing.{approximating}
 use Rattle.git_date.specs.Approximate.Expiry.{fixed_expiry}
-use Rattle.git_date.specs.Approximate.Zones.{one_offset}
 use Rattle.git_date.specs.Exact.Computing.{computing}
+use Rattle.git_date.specs.Exact.Zones.{one_offset}
 use Rattle.git_date.specs.Tokens.Strings.{nul, before_nul}
 use Rattle.git_date.specs.declared.approximate.answer.Approximate.{Approximate}
 use Rattle.git_date.specs.declared.approximate.expiry.Expiry.TheVariants.{Never, All}

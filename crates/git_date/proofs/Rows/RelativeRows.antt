@@ -5,8 +5,8 @@ use Rattle.std.specs.Fmt.{digits}
 use Rattle.std.specs.Prelude.{codes}
 use Rattle.git_date.specs.Approximate.Reading.{guess}
 use Rattle.git_date.specs.Approximate.Computing.{approximating}
-use Rattle.git_date.specs.Approximate.Zones.{one_offset}
 use Rattle.git_date.specs.Exact.Computing.{computing}
+use Rattle.git_date.specs.Exact.Zones.{one_offset}
 use Rattle.git_date.specs.Show.Ages.{age_between, age_of, age_of_days, relative_text}
 use Rattle.git_date.specs.declared.approximate.answer.Approximate.{Approximate}
 use Rattle.git_date.specs.declared.error.DateError.{DateError}

@@ -1,6 +1,6 @@
 -- The fields that a clock shows come to the seconds at which it shows them.
-use Rattle.std.proofs.Common.{◌≡◌, ◌∙◌, ◌≤◌, ℕ, nat_lt, Bool, true, false, cond, ℤ, pos, neg_ℤ, ◌+ℤ◌, ◌-ℤ◌, ◌≤ℤ◌, ◌<ℤ◌, unsigned_abs, Some, None, refl, ap, subst, arith}
-use Rattle.std.specs.Prelude.{◌&&◌}
+use Rattle.std.proofs.Common.{◌≡◌, ◌∙◌, ◌<◌, ◌≤◌, ℕ, nat_lt, Bool, true, false, cond, ℤ, pos, neg_ℤ, ◌+ℤ◌, ◌-ℤ◌, ◌≤ℤ◌, ◌<ℤ◌, unsigned_abs, Some, None, refl, ap, subst, arith}
+use Rattle.std.specs.Prelude.{◌&&◌, ◌==◌}
 use Rattle.std.proofs.lemmas.Bool.{and_from as join}
 use Rattle.std.proofs.lemmas.Bool.Decides.{nat_tests}
 use Rattle.std.proofs.lemmas.Int.{by_lt_z}
@@ -171,6 +171,13 @@ unfolding shown_at
 shown-back x h =
     let is : is_shown x ≡ true = join _ _ (z_holds first_of_year_1900 x h.0) (z_holds x last_of_year_9999 (omega (arith, signed_arith, h.1))) in
     ap (λ (b : Bool). cond b (Some (shown_of x)) None) is
+
+-- no clock of UTC shows second 60
+pub no-leap : (x : ℤ) → ((shown_of x).clock.second == 60) ≡ false
+unfolding clock_of
+no-leap x =
+    let small : (shown_of x).clock.second < 60 = omega arith in
+    grind (arith, nat_tests)
 
 -- from 1970 to 2099
 pub known-month : (x : ℤ) → pos 0 ≤ℤ x → x <ℤ pos 4_102_444_800 → is_month (shown_of x).date.year (shown_of x).date.month ≡ true

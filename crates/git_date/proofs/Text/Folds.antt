@@ -2,7 +2,7 @@
 use Rattle.std.proofs.Common.{◌≡◌, ◌∙◌, ◌<◌, ◌≤◌, ℕ, zero, suc, Bool, true, false, cond, List, [], ◌∷◌, length, refl, ap, sym, arith, Option, Result, Ok, Err}
 use Rattle.git_date.specs.Approximate.Reading.{Read}
 use Rattle.git_date.specs.Approximate.Reading as approximate
-use Rattle.git_date.specs.Approximate.Zones.{Choices}
+use Rattle.git_date.specs.Exact.Zones.{States}
 use Rattle.git_date.specs.Tokens.Tokens.{Token, tokens, bytes_left, texts, is_end, walked}
 use Rattle.git_date.specs.Rules.Digits.{Stepped}
 use Rattle.git_date.specs.Exact.Reading.{read_on, rule}
@@ -75,13 +75,13 @@ step-next now rest after further r next t e on is go =
     ∙ ap (λ (left : ℕ). go (read_on r left next) (tokens further)) (bytes-at rest after t e)
 
 -- steps of the approximate reader
-abbrev draft_step : Choices → Today → Step Draft
+abbrev draft_step : States → Today → Step Draft
 draft_step zone today d t more go = approximate.step zone today d t more go
 
-pub draft-refused : (zone : Choices) (today : Today) (d : Draft) (t : Token) (more : List Token) (fault : Fault) → Err fault ≡ approximate.rule zone today d t more
+pub draft-refused : (zone : States) (today : Today) (d : Draft) (t : Token) (more : List Token) (fault : Fault) → Err fault ≡ approximate.rule zone today d t more
     → (go : Go Draft) → draft_step zone today d t more go ≡ Err fault
 draft-refused zone today d t more fault is go = ap (λ (s : Read). and_then s (λ next. go next.0 next.1)) (sym is)
 
-pub draft-next : (zone : Choices) (today : Today) (d next : Draft) (t : Token) (more rest : List Token) → Ok (next, rest) ≡ approximate.rule zone today d t more
+pub draft-next : (zone : States) (today : Today) (d next : Draft) (t : Token) (more rest : List Token) → Ok (next, rest) ≡ approximate.rule zone today d t more
     → (go : Go Draft) → draft_step zone today d t more go ≡ go next rest
 draft-next zone today d next t more rest is go = ap (λ (s : Read). and_then s (λ next. go next.0 next.1)) (sym is)

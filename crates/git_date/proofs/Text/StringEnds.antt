@@ -12,7 +12,7 @@ use Rattle.std.proofs.lemmas.List.Folds.{length-prefix_len}
 use Rattle.std.proofs.lemmas.List.Sums.{prefix_len-le-length}
 use Rattle.std.proofs.lemmas.Str.{IsCharBoundary-before_ascii}
 use Rattle.git_date.specs.Approximate.Reading.{answer_up_to, string_guess, guess}
-use Rattle.git_date.specs.Approximate.Zones.{Choices}
+use Rattle.git_date.specs.Exact.Zones.{States}
 use Rattle.git_date.specs.Exact.Outcome.{IsPlaceIn}
 use Rattle.git_date.specs.Exact.Reading.{said_up_to, string_said, said_by}
 use Rattle.git_date.specs.Tokens.Strings.{nul, string_len, before_nul, nul_place}
@@ -145,7 +145,7 @@ unfolding said_by
 whole-said now text e =
     (λ i. said_up_to (no-place text e i) (string_said now (all-before text e i))) ∙ all-said (string_said now text)
 
-pub whole-guess : (zone : Choices) (now : Now) (text : List ℕ) → string_len text ≡ length text → guess zone now text ≡ string_guess zone now text
+pub whole-guess : (zone : States) (now : Now) (text : List ℕ) → string_len text ≡ length text → guess zone now text ≡ string_guess zone now text
 unfolding guess
 whole-guess zone now text e =
     (λ i. answer_up_to (no-place text e i) (string_guess zone now (all-before text e i))) ∙ all-answered (string_guess zone now text)

@@ -6,10 +6,11 @@ use Rattle.git_date.specs.Approximate.Drafts.{settle}
 use Rattle.git_date.specs.Approximate.Rules.{meaning_rule, letters_rule, digits_rule}
 use Rattle.git_date.specs.Approximate.Words.{moment_named, count_named, unit_named, meaning_of}
 use Rattle.gix_date.specs.Text.LongNames.{weekday_told}
-use Rattle.git_date.specs.Approximate.Zones.{shown_in, filled_time, moved_to, fill}
+use Rattle.git_date.specs.Approximate.Zones.{shown_in, found_at, filled, filled_time, moved_to, fill}
+use Rattle.git_date.specs.Exact.Zones.{nearest, searched, found_offset}
 
 -- for proofs about literal texts: `unfolding computing approximating` below a signature lets `guess` compute, for a
--- written-out text, a zone of one offset and a moment in numerals
+-- written-out text, a zone by cases and a moment in numerals
 unfoldable pub approximating : Type 0
-unfolding walked draft_of string_guess guess shown_at first_second filled_seconds settle meaning_rule letters_rule digits_rule moment_named count_named unit_named weekday_told meaning_of shown_in filled_time moved_to fill
+unfolding walked draft_of string_guess guess shown_at first_second filled_seconds settle meaning_rule letters_rule digits_rule moment_named count_named unit_named weekday_told meaning_of nearest searched found_offset shown_in found_at filled filled_time moved_to fill
 approximating = Unit {0}

@@ -1,5 +1,5 @@
 -- What an approximate text says so far, and its number that waits for a word to say what it counts.
-use Rattle.std.specs.Prelude.{ℕ, ◌+◌, ◌-◌, ◌*◌, ◌/◌, ◌%◌, Bool, false, ◌&&◌, max, min, nat_le, nat_lt, if◌then◌else◌, Option, Some, None, is_none, option_map}
+use Rattle.std.specs.Prelude.{ℕ, ℤ, pos, ◌+◌, ◌-◌, ◌*◌, ◌/◌, ◌%◌, Bool, false, ◌&&◌, max, min, nat_le, nat_lt, if◌then◌else◌, Option, Some, None, is_none, option_map}
 use Rattle.std.specs.Option.{option_map_or}
 use Rattle.gix_date.specs.Fields.ClockNumbers.{seconds_per_day}
 use Rattle.gix_date.specs.Text.Front.{◌>>=◌}
@@ -8,6 +8,7 @@ use Rattle.git_date.specs.Rules.Fields.{unknown}
 use Rattle.git_date.specs.Tokens.Numbers.{max_number}
 use Rattle.git_date.specs.declared.approximate.drafts.Draft.{Draft}
 use Rattle.git_date.specs.declared.approximate.drafts.LastShown.{LastShown}
+use Rattle.git_date.specs.declared.approximate.shown.ZoneClock.{ZoneClock}
 use Rattle.git_date.specs.declared.fields.Fields.{Fields}
 use Rattle.git_date.specs.declared.fields.groups.Number.{Number}
 use Rattle.gix_date.specs.Fields.Layout.{LocalTime}
@@ -27,22 +28,22 @@ all_fields s = record unknown {
 }
 
 -- what the rules use of the clock that was shown last
-abbrev pub last_of : LocalTime → LastShown
-last_of s = record { weekday = s.weekday; offset = s.offset }
+abbrev pub last_of : ℤ → ZoneClock → LastShown
+last_of guess s = record { weekday = s.clock.weekday; daylight = s.daylight; guess = guess }
 
--- before the first token: today's clock, and no date
-abbrev pub first_draft : LocalTime → Draft
+-- before the first token: today's clock, no date, and no search that was made
+abbrev pub first_draft : ZoneClock → Draft
 first_draft today = record {
-  fields = clock_fields today;
-  last = last_of today;
+  fields = clock_fields today.clock;
+  last = last_of (pos 0) today;
   waiting = None;
   understood = false;
   ignored = None;
 }
 
 -- all that a clock shows
-abbrev pub with_shown : Draft → LocalTime → Draft
-with_shown d s = record d { fields = all_fields s; last = last_of s }
+abbrev pub with_shown : Draft → ℤ → ZoneClock → Draft
+with_shown d guess s = record d { fields = all_fields s.clock; last = last_of guess s }
 
 -- what is ignored first: places are told by how many bytes are left from there on
 abbrev pub earlier : ℕ → Option ℕ → ℕ

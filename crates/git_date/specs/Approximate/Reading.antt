@@ -8,7 +8,8 @@ use Rattle.gix_date.specs.Relative.Steps.{zone_of}
 use Rattle.gix_date.specs.declared.time.Time.{Time}
 use Rattle.git_date.specs.Approximate.Drafts.{first_draft, settle}
 use Rattle.git_date.specs.Approximate.Rules.{letters_rule, digits_rule}
-use Rattle.git_date.specs.Approximate.Zones.{Choices, choices_of, shown_in, filled_time}
+use Rattle.git_date.specs.Approximate.Zones.{shown_in, filled_time}
+use Rattle.git_date.specs.Exact.Zones.{States, states_of}
 use Rattle.git_date.specs.Rules.Dates.{now_of}
 use Rattle.git_date.specs.Exact.Outcome.{read_at, IsPlaceIn, IsErrorIn}
 use Rattle.git_date.specs.Exact.Reading.{place_in, error_of, ended}
@@ -18,31 +19,31 @@ use Rattle.git_date.specs.Tokens.Tokens.{Token, Letters, Digits, Mark, tokens, w
 use Rattle.git_date.specs.declared.approximate.answer.Approximate.{Approximate}
 use Rattle.git_date.specs.declared.approximate.answer.Today.{Today}
 use Rattle.git_date.specs.declared.approximate.drafts.Draft.{Draft}
+use Rattle.git_date.specs.declared.approximate.shown.ZoneClock.{ZoneClock}
 use Rattle.git_date.specs.declared.date.ReadDate.{ReadDate}
 use Rattle.git_date.specs.declared.fields.dates.Now.{Now}
 use Rattle.git_date.specs.declared.error.DateError.{DateError}
 use Rattle.git_date.specs.declared.error.DateError.TheVariants.{Unreadable, Range}
 use Rattle.git_date.specs.declared.fault.Fault.{Fault}
-use Rattle.gix_date.specs.Fields.Layout.{LocalTime}
 
 -- a draft, and the tokens that are left to read
 abbrev pub Read : Type 0
 Read = Result (Draft × List Token) Fault
 
 -- the rule of a token: marks say nothing
-abbrev pub rule : Choices → Today → Draft → Token → List Token → Read
-rule zone today d (Letters run) more = and_then (letters_rule zone today.shown d run more) (λ next. Ok (next, more))
+abbrev pub rule : States → Today → Draft → Token → List Token → Read
+rule zone today d (Letters run) more = and_then (letters_rule zone today.shown.clock d run more) (λ next. Ok (next, more))
 rule zone today d (Digits run) more = ended (digits_rule today.now d run more)
 rule zone today d (Mark byte) more = Ok (d, more)
 
-abbrev pub step : Choices → Today → Draft → Token → List Token → (Draft → List Token → Result Draft Fault) → Result Draft Fault
+abbrev pub step : States → Today → Draft → Token → List Token → (Draft → List Token → Result Draft Fault) → Result Draft Fault
 step zone today d t more go = and_then (rule zone today d t more) (λ next. go next.0 next.1)
 
-abbrev pub steps : Choices → Today → ℕ → Draft → List Token → Result Draft Fault
+abbrev pub steps : States → Today → ℕ → Draft → List Token → Result Draft Fault
 steps zone today n d ts = walked (step zone today) n d ts
 
 -- what the tokens of a text say, one after the other: it has no more of them than bytes
-unfoldable pub draft_of : Choices → Today → List ℕ → Result Draft Fault
+unfoldable pub draft_of : States → Today → List ℕ → Result Draft Fault
 draft_of zone today text = steps zone today (length text) (first_draft today.shown) (tokens text)
 
 -- the answer is the time at which the zone's clock shows the draft; Git has none before 1970
@@ -53,17 +54,17 @@ answer text d (Some time) =
     else Err Range
 answer text d None = Err Range
 
-abbrev pub answer_of : Choices → Today → List ℕ → Result Draft Fault → Result Approximate DateError
-answer_of zone today text (Ok d) = answer text (settle d) (filled_time zone today.shown (settle d).last.offset (settle d).fields)
+abbrev pub answer_of : States → Today → List ℕ → Result Draft Fault → Result Approximate DateError
+answer_of zone today text (Ok d) = answer text (settle d) (filled_time zone today.shown.clock (settle d).last (settle d).fields)
 answer_of zone today text (Err e) = Err (error_of text e)
 
-abbrev pub guess_by : Choices → Now → List ℕ → Option LocalTime → Result Approximate DateError
+abbrev pub guess_by : States → Now → List ℕ → Option ZoneClock → Result Approximate DateError
 guess_by zone now text (Some shown) =
     let today : Today = record { now = now; shown = shown } in answer_of zone today text (draft_of zone today text)
 guess_by zone now text None = Err Range
 
 -- what the approximate reader makes of a text without NUL
-unfoldable pub string_guess : Choices → Now → List ℕ → Result Approximate DateError
+unfoldable pub string_guess : States → Now → List ℕ → Result Approximate DateError
 string_guess zone now text = guess_by zone now text (shown_in zone now.seconds)
 
 -- what is answered, where what begins at this place is ignored too, if there is one
@@ -72,7 +73,7 @@ answer_up_to place (Ok date) = Ok (record date { ignored = option_or date.ignore
 answer_up_to place (Err e) = Err e
 
 -- what the approximate reader makes of a text: of what stands before its first NUL
-unfoldable pub guess : Choices → Now → List ℕ → Result Approximate DateError
+unfoldable pub guess : States → Now → List ℕ → Result Approximate DateError
 guess zone now text = answer_up_to (nul_place text) (string_guess zone now (before_nul text))
 
 abbrev pub is_unreadable : DateError → Bool
@@ -87,7 +88,7 @@ exact_or_guess (Err e) guessed = if is_unreadable e then guessed else Err e
 -- what `approxidate` reads: what the exact reader says, or else the guess
 abbrev pub approximate : Zoned → List ℕ → Result Approximate DateError
 approximate moment text =
-    exact_or_guess (read_at (zoned_nanos moment) (zone_of moment) text) (guess (choices_of (zone_of moment)) (now_of moment) text)
+    exact_or_guess (read_at (zoned_nanos moment) (zone_of moment) text) (guess (states_of (zone_of moment)) (now_of moment) text)
 
 -- the result of `approxidate`
 abbrev pub ApproximateOutcome : Zoned → List ℕ → Result Approximate DateError → Type 0

@@ -1,71 +1,62 @@
--- What a zone's clock shows, which instants it chooses, and how dates are filled in from there.
-use Rattle.std.specs.Prelude.{ℕ, ℤ, pos, ◌+ℤ◌, ◌-ℤ◌, if◌then◌else◌, Option, Some, None, option_map, option_and_then, ok_or, Result}
-use Rattle.jiff.specs.Types.{TimeZone}
-use Rattle.jiff.specs.Words.{offset_at, nanos_of_seconds}
-use Rattle.gix_date.specs.Fields.Zoned.{is_instant}
+-- What a zone's clock shows, which instants Git finds by it, and how dates are filled in from there.
+use Rattle.std.specs.Prelude.{ℕ, ℤ, pos, ◌+ℤ◌, ◌-ℤ◌, Bool, Option, Some, option_map, option_and_then, ok_or, Result}
+use Rattle.gix_date.specs.Fields.Layout.{LocalTime}
 use Rattle.gix_date.specs.declared.time.Time.{Time}
 use Rattle.git_date.specs.Approximate.Clocks.{shown_at, filled_seconds}
 use Rattle.git_date.specs.Approximate.Drafts.{with_shown}
+use Rattle.git_date.specs.Exact.Zones.{States, before_leap, found_offset}
+use Rattle.git_date.specs.Rules.Fields.{is_leap}
 use Rattle.git_date.specs.Tokens.Steps.{◌>>=◌}
-use Rattle.git_date.specs.Exact.Zones.{ZoneOffsets, offsets_of, local_offset}
 use Rattle.git_date.specs.declared.approximate.drafts.Draft.{Draft}
+use Rattle.git_date.specs.declared.approximate.drafts.LastShown.{LastShown}
+use Rattle.git_date.specs.declared.approximate.shown.ZoneClock.{ZoneClock}
+use Rattle.git_date.specs.declared.approximate.zone.Found.{Found}
 use Rattle.git_date.specs.declared.fault.Fault.{Fault}
 use Rattle.git_date.specs.declared.fault.Fault.TheVariants.{BackTooFar, Range}
 use Rattle.git_date.specs.declared.fields.Fields.{Fields}
-use Rattle.gix_date.specs.Fields.Layout.{LocalTime}
+use Rattle.git_date.specs.declared.zones.ZoneState.{ZoneState}
 
--- what is asked of a zone
-pub record Choices : Type 0 where
-  -- the time at which its clock has counted so many seconds since 1970-01-01 00:00:00, with a preferred offset
-  pub picks : ℤ → ℤ → Option Time
-  -- its offset at an instant, in seconds
-  pub offset : ℤ → ℤ
+-- a clock at an offset, with the flag there
+abbrev pub clock_at : ZoneState → LocalTime → ZoneClock
+clock_at there shown = record { clock = record shown { offset = there.offset }; daylight = there.daylight }
 
--- the time whose own clock, at this offset, has counted so many seconds
-abbrev pub time_at : ℤ → ℤ → Time
-time_at local offset = record { seconds = local -ℤ offset; offset = offset }
-
--- the time of the zone where its clock shows these seconds
-abbrev pub picked : ZoneOffsets → Option ℤ → ℤ → Option Time
-picked zone preferred local =
-    if is_instant local then option_map (time_at local) (local_offset zone preferred local) else None
-
--- what a zone of `jiff` chooses: where its clock shows a time twice or never, the preferred offset counts, if it is one of the two
-unfoldable pub choices_of : TimeZone → Choices
-choices_of tz = record {
-  picks = λ preferred local. picked (offsets_of tz) (Some preferred) local;
-  offset = λ seconds. offset_at tz (nanos_of_seconds seconds);
-}
-
--- a zone that always has this offset
-abbrev pub one_offset : ℤ → Choices
-one_offset offset = record {
-  picks = λ preferred seconds.
-      if is_instant seconds
-      then (if is_instant (seconds -ℤ offset) then Some (time_at seconds offset) else None)
-      else None;
-  offset = λ seconds. offset;
-}
-
--- a clock at an offset
-abbrev pub with_offset : ℤ → LocalTime → LocalTime
-with_offset offset shown = record shown { offset = offset }
-
--- what the zone's clock shows at an instant, with its offset there
-unfoldable pub shown_in : Choices → ℤ → Option LocalTime
+-- what the zone's clock shows at an instant, with its offset and its flag there
+unfoldable pub shown_in : States → ℤ → Option ZoneClock
 shown_in zone instant =
-    if is_instant instant then option_map (with_offset (zone.offset instant)) (shown_at (instant +ℤ zone.offset instant)) else None
+    option_and_then (λ (there : ZoneState). option_map (clock_at there) (shown_at (instant +ℤ there.offset))) (zone instant)
 
--- the time at which the zone's clock shows these fields, with a preferred offset
-unfoldable pub filled_time : Choices → LocalTime → ℤ → Fields → Option Time
-filled_time zone today preferred f = option_and_then (zone.picks preferred) (filled_seconds today f)
+-- the instant that is found by an offset, from which the next search begins
+abbrev pub found_by : ℤ → ℤ → Found
+found_by local offset = record { instant = local -ℤ offset; guess = offset }
+
+-- the instant of a clock, by the flag of the last one and from where the last search ended
+unfoldable pub found_at : States → LastShown → Bool → ℤ → Option Found
+found_at zone last leap local =
+    option_map (found_by local) (found_offset zone (record { clock = before_leap leap local; daylight = Some last.daylight }) last.guess)
+
+-- the instant at which the zone's clock shows these fields
+unfoldable pub filled : States → LocalTime → LastShown → Fields → Option Found
+filled zone today last f = option_and_then (found_at zone last (is_leap f)) (filled_seconds today f)
 
 -- the fields become the zone's clock at an instant; Git knows no year before 1900
-unfoldable pub moved_to : Choices → Draft → ℕ → ℤ → Result Draft Fault
-moved_to zone d left instant = ok_or (option_map (with_shown d) (shown_in zone instant)) (BackTooFar left)
+unfoldable pub moved_to : States → Draft → ℕ → Found → Result Draft Fault
+moved_to zone d left found = ok_or (option_map (with_shown d found.guess) (shown_in zone found.instant)) (BackTooFar left)
+
+-- so many seconds before an instant
+abbrev pub before : Found → ℕ → Found
+before found back = record found { instant = found.instant -ℤ pos back }
 
 -- Filled in, and so many seconds back: the fields become the zone's clock so many seconds before it shows them.
-unfoldable pub fill : Choices → LocalTime → Draft → ℕ → ℕ → Result Draft Fault
+unfoldable pub fill : States → LocalTime → Draft → ℕ → ℕ → Result Draft Fault
 fill zone today d back left = do
-  time ← ok_or (filled_time zone today d.last.offset d.fields) Range
-  moved_to zone d left (time.seconds -ℤ pos back)
+  found ← ok_or (filled zone today d.last d.fields) Range
+  moved_to zone d left (before found back)
+
+-- the time of an instant in the zone
+abbrev pub time_of : ℤ → ZoneState → Time
+time_of instant there = record { seconds = instant; offset = there.offset }
+
+-- the time at which the zone's clock shows these fields, or that is found in its place
+unfoldable pub filled_time : States → LocalTime → LastShown → Fields → Option Time
+filled_time zone today last f =
+    option_and_then (λ (found : Found). option_map (time_of found.instant) (zone found.instant)) (filled zone today last f)

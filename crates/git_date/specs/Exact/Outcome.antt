@@ -1,16 +1,16 @@
 -- What a text comes to in a zone.
-use Rattle.std.specs.Prelude.{◌≡◌, ◌<◌, ℕ, ℤ, List, length, IsCharBoundary, pos, neg_ℤ, ◌-ℤ◌, ◌*ℤ◌, true, if◌then◌else◌, Option, Some, None, IfSome, Result, Ok, Err, int_div}
+use Rattle.std.specs.Prelude.{◌≡◌, ◌<◌, ℕ, ℤ, List, length, IsCharBoundary, pos, ◌-ℤ◌, ◌*ℤ◌, true, if◌then◌else◌, Option, Some, None, IfSome, Result, Ok, Err, int_div}
 use Rattle.std.specs.Int.Signed.{le_z}
 use Rattle.std.specs.Option.{is_some}
 use Rattle.jiff.specs.Types.{TimeZone}
 use Rattle.jiff.specs.Words.{zoned_nanos}
 use Rattle.jiff.specs.declared.zoned.Zoned.{Zoned}
-use Rattle.jiff_core.specs.Calendar.{IsBetween}
+use Rattle.jiff_core.specs.Calendar.{IsWithin}
 use Rattle.gix_date.specs.Fields.Zoned.{is_instant}
 use Rattle.gix_date.specs.Relative.Steps.{zone_of}
 use Rattle.git_date.specs.Rules.Dates.{now_at}
 use Rattle.git_date.specs.Exact.Reading.{said_by}
-use Rattle.git_date.specs.Exact.Zones.{offsets_of, local_offset}
+use Rattle.git_date.specs.Exact.Zones.{States, states_of, before_leap, found_offset}
 use Rattle.git_date.specs.declared.reader.Said.{Said}
 use Rattle.git_date.specs.declared.date.ReadDate.{ReadDate}
 use Rattle.git_date.specs.declared.error.DateError.{DateError}
@@ -20,9 +20,9 @@ use Rattle.git_date.specs.declared.error.DateError.TheVariants.{Unreadable, Numb
 abbrev pub SaidIsInstant : Said → Type 0
 SaidIsInstant said = is_instant said.seconds ≡ true
 
--- minutes of an offset, and far more
+-- minutes whose seconds fit 32 bits, as those of an offset do
 abbrev pub IsMinutes : ℤ → Type 0
-IsMinutes minutes = IsBetween (neg_ℤ (pos 100_000)) (pos 100_000) minutes
+IsMinutes minutes = IsWithin 35_791_394 minutes
 
 -- the seconds since 1970 of what a text says, at an offset in minutes: those of an epoch are the instant's already
 abbrev pub instant_seconds : Said → ℤ → ℤ
@@ -44,10 +44,14 @@ abbrev pub date_in : Said → Option ℤ → Result ReadDate DateError
 date_in said (Some offset) = date_at said (int_div offset (pos 60))
 date_in said None = Err Range
 
+-- the clock is looked for by no flag, and from UTC's
+abbrev pub said_in : States → Said → Option ℤ
+said_in zone said = found_offset zone (record { clock = before_leap said.leap said.seconds; daylight = None }) (pos 0)
+
 -- the date at the offset that the text says, or at that of the zone where its clock shows these seconds
 abbrev pub at_offset : TimeZone → Said → Option ℤ → Result ReadDate DateError
 at_offset tz said (Some minutes) = date_at said minutes
-at_offset tz said None = date_in said (local_offset (offsets_of tz) None said.seconds)
+at_offset tz said None = date_in said (said_in (states_of tz) said)
 
 -- the date that what a text says comes to in a zone
 abbrev pub date_of : TimeZone → Result Said DateError → Result ReadDate DateError

@@ -6,7 +6,7 @@ use Rattle.gix_date.specs.Fields.Zoned.{is_instant}
 use Rattle.git_date.specs.Tokens.Steps.{and_then}
 use Rattle.git_date.specs.Tokens.Strings.{nul_place, before_nul}
 use Rattle.git_date.specs.Tokens.Tokens.{Token, Letters, Digits, Mark, tokens, bytes_left, is_end, walked}
-use Rattle.git_date.specs.Rules.Fields.{unknown}
+use Rattle.git_date.specs.Rules.Fields.{unknown, is_leap}
 use Rattle.git_date.specs.Rules.Words.{letters_rule, without_ending}
 use Rattle.git_date.specs.Rules.Dates.{exact_seconds}
 use Rattle.git_date.specs.Rules.Digits.{Stepped, digits_rule}
@@ -72,7 +72,7 @@ error_of text fault.Range = Range
 -- `@`: its seconds are those of the instant, and nothing is ignored
 unfoldable pub at_said : ℕ × ℤ → Result Said DateError
 at_said (n, minutes) =
-    if is_instant (pos n) then Ok (record { seconds = pos n; offset = Some minutes; epoch = true; ignored = None })
+    if is_instant (pos n) then Ok (record { seconds = pos n; offset = Some minutes; epoch = true; leap = false; ignored = None })
     else Err Range
 
 -- what was read, if it comes to the seconds of an instant
@@ -84,6 +84,7 @@ by_seconds text r (Some seconds) =
       seconds = seconds;
       offset = r.fields.offset;
       epoch = r.fields.epoch;
+      leap = is_leap r.fields;
       ignored = option_map (place_in text) r.ignored;
     })
     else Err Range

@@ -1,5 +1,6 @@
 -- What was read of a date so far.
-use Rattle.std.specs.Prelude.{ℕ, Bool, false, ◌&&◌, nat_le, if◌then◌else◌, Option, Some, None, is_some, is_none}
+use Rattle.std.specs.Prelude.{ℕ, Bool, false, ◌&&◌, ◌==◌, nat_le, if◌then◌else◌, Option, Some, None, is_some, is_none}
+use Rattle.std.specs.Option.{option_map_or}
 use Rattle.git_date.specs.declared.fields.Fields.{Fields}
 
 -- nothing is known
@@ -23,6 +24,10 @@ knows_nothing f =
 -- the date is known
 abbrev pub knows_date : Fields → Bool
 knows_date f = is_some f.year && is_some f.month && is_some f.day
+
+-- the second is the one after 59
+abbrev pub is_leap : Fields → Bool
+is_leap f = option_map_or (λ second. second == 60) f.second false
 
 -- a clock: hours to 24, minutes to 59, seconds to 60
 unfoldable pub with_clock : Fields → ℕ → ℕ → ℕ → Option Fields

@@ -13,7 +13,12 @@ use Rattle.git_date.specs.declared.approximate.drafts.Draft.{Draft as TheDraft}
 use Rattle.git_date.specs.declared.approximate.drafts.LastShown.{LastShown as TheLastShown}
 use Rattle.git_date.specs.declared.approximate.meanings.Meaning.{Meaning as TheMeaning}
 use Rattle.git_date.specs.declared.approximate.meanings.Unit.{Unit as TheUnit}
+use Rattle.git_date.specs.declared.approximate.shown.ZoneClock.{ZoneClock as TheZoneClock}
+use Rattle.git_date.specs.declared.approximate.zone.Found.{Found as TheFound}
 use Rattle.git_date.specs.declared.show.ages.Age.{Age as TheAge}
+use Rattle.git_date.specs.declared.zones.Asked.{Asked as TheAsked}
+use Rattle.git_date.specs.declared.zones.Trail.{Trail as TheTrail}
+use Rattle.git_date.specs.declared.zones.ZoneState.{ZoneState as TheZoneState}
 
 abbrev pub Now : Type 0
 Now = TheNow
@@ -57,5 +62,20 @@ Meaning = TheMeaning
 abbrev pub Unit : Type 0
 Unit = TheUnit
 
+abbrev pub ZoneClock : Type 0
+ZoneClock = TheZoneClock
+
+abbrev pub Found : Type 0
+Found = TheFound
+
 abbrev pub Age : Type 0
 Age = TheAge
+
+abbrev pub Asked : Type 0
+Asked = TheAsked
+
+abbrev pub Trail : Type 0
+Trail = TheTrail
+
+abbrev pub ZoneState : Type 0
+ZoneState = TheZoneState

@@ -4,11 +4,12 @@ ghost use Rattle.git_date.specs.Tokens.Tokens.{tokens, token_of};
 ghost use Rattle.git_date.specs.Rules.Dates.{now_of};
 ghost use Rattle.git_date.specs.Approximate.Reading.{rule, draft_of, answer, answer_of, string_guess, answer_up_to, guess, is_unreadable, exact_or_guess};
 ghost use Rattle.gix_date.specs.Relative.Steps.{zone_of};
-ghost use Rattle.git_date.specs.Approximate.Zones.{choices_of};
+ghost use Rattle.git_date.specs.Exact.Zones.{states_of};
 ghost use Rattle.git_date.specs.Rules.Views.{step_view};
 
 use crate::approximate::drafts::Draft;
 use crate::approximate::rules::{digits_rule, letters_rule};
+use crate::approximate::shown::ZoneClock;
 use crate::approximate::zone::{filled_time, shown_in};
 use crate::error::DateError;
 use crate::fault::Fault;
@@ -17,7 +18,6 @@ use crate::reader::{error_of, place_in};
 use crate::tokens::strings::up_to_nul;
 use crate::tokens::words::without_ending;
 use crate::tokens::{Token, next_token};
-use gix_date::clock::Clock;
 use gix_date::{Time, Zoned};
 
 /// What [`approxidate`](crate::approxidate) makes of a text.
@@ -41,7 +41,7 @@ pub struct Approximate {
 pub(crate) struct Today {
     now: Now,
     /// What the clock of its zone shows.
-    shown: Clock,
+    shown: ZoneClock,
 }
 
 /// What a token makes of a draft, and what is left to read. Marks say nothing.
@@ -52,11 +52,14 @@ fn rule<'a>(
     token: Token<'_>,
     text: &'a [u8],
 ) -> Result<(Draft, &'a [u8]), Fault>
-    ensures value { step_view result ≡ rule (choices_of (zone_of moment.entry)) today.entry.now draft (token_of token.entry) (tokens text.now) }
+    ensures value { step_view result ≡ rule (states_of (zone_of moment.entry)) today.entry.now draft (token_of token.entry) (tokens text.now) }
     ensures shorter { IfOk result (λ found. length found.1.now ≤ length text.now) }
 {
     match token {
-        Token::Letters(run) => Ok((letters_rule(moment, today.shown, draft, run, text)?, text)),
+        Token::Letters(run) => Ok((
+            letters_rule(moment, today.shown.clock, draft, run, text)?,
+            text,
+        )),
         Token::Digits(run) => {
             let (next, rest) = digits_rule(today.now, draft, run, text)?;
             Ok((next, without_ending(rest)))
@@ -67,7 +70,7 @@ fn rule<'a>(
 
 /// What the tokens of a text say, one after the other.
 fn draft_of(moment: Zoned<'_>, today: &Today, text: &[u8]) -> Result<Draft, Fault>
-    ensures { result ≡ draft_of (choices_of (zone_of moment.entry)) today.entry.now text.now }
+    ensures { result ≡ draft_of (states_of (zone_of moment.entry)) today.entry.now text.now }
 {
     let mut draft = Draft::first(today.shown);
     let mut rest = text;
@@ -100,18 +103,18 @@ fn answer(text: &[u8], draft: Draft, time: Option<Time>) -> Result<Approximate, 
 
 /// The answer of what the tokens say, with the number settled that still waits.
 fn answer_of(moment: Zoned<'_>, today: &Today, text: &[u8]) -> Result<Approximate, DateError>
-    ensures { result ≡ answer_of (choices_of (zone_of moment.entry)) today.entry.now text.now (draft_of (choices_of (zone_of moment.entry)) today.entry.now text.now) }
+    ensures { result ≡ answer_of (states_of (zone_of moment.entry)) today.entry.now text.now (draft_of (states_of (zone_of moment.entry)) today.entry.now text.now) }
 {
     let draft = draft_of(moment, today, text).map_err(|fault| error_of(text, fault))?;
     let last = draft.settle();
-    let time = filled_time(moment, today.shown, last.last.offset, last.fields);
+    let time = filled_time(moment, today.shown.clock, last.last, last.fields);
     answer(text, last, time)
 }
 
 /// What the approximate reader makes of a text without NUL.
 #[tactic(auto, unfolding(crate::specs::Approximate::Reading::string_guess))]
 fn string_guess(moment: Zoned<'_>, text: &[u8]) -> Result<Approximate, DateError>
-    ensures { result ≡ string_guess (choices_of (zone_of moment.entry)) (now_of moment.entry) text.now }
+    ensures { result ≡ string_guess (states_of (zone_of moment.entry)) (now_of moment.entry) text.now }
 {
     let now = Now::of(moment.timestamp());
     let shown = shown_in(moment, now.seconds).ok_or(DateError::Range)?;
@@ -135,7 +138,7 @@ fn answer_up_to(
 /// What the approximate reader makes of a text, up to its first NUL.
 #[tactic(auto, unfolding(crate::specs::Approximate::Reading::guess))]
 fn guess(moment: Zoned<'_>, text: &[u8]) -> Result<Approximate, DateError>
-    ensures { result ≡ guess (choices_of (zone_of moment.entry)) (now_of moment.entry) text.now }
+    ensures { result ≡ guess (states_of (zone_of moment.entry)) (now_of moment.entry) text.now }
 {
     let (string, nul) = up_to_nul(text);
     answer_up_to(nul, string_guess(moment, string))
@@ -153,7 +156,7 @@ pub(crate) fn or_guess(
     text: &[u8],
     error: DateError,
 ) -> Result<Approximate, DateError>
-    ensures { result ≡ exact_or_guess (Err error) (guess (choices_of (zone_of moment.entry)) (now_of moment.entry) text.now) }
+    ensures { result ≡ exact_or_guess (Err error) (guess (states_of (zone_of moment.entry)) (now_of moment.entry) text.now) }
 {
     if is_unreadable(error) {
         guess(moment, text)

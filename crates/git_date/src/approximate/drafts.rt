@@ -2,6 +2,7 @@
 ghost use Rattle.std.specs.Prelude.{◌≡◌, ◌≤◌, None};
 ghost use Rattle.git_date.specs.Approximate.Drafts.{clock_fields, all_fields, last_of, first_draft, with_shown, ignore, lone_year, with_number, without_number, settle, dropped, with_hour, is_before, half, with_half, units, days_back, weekday_seconds, less_months};
 
+use crate::approximate::shown::ZoneClock;
 use crate::fault::Fault;
 use crate::fields::Fields;
 use crate::fields::groups::Number;
@@ -13,17 +14,20 @@ use gix_date::time::SECONDS_PER_DAY;
 pub(crate) struct LastShown {
     /// The day of the week, from 0 for Monday.
     pub(crate) weekday: u8,
-    /// Seconds east of UTC.
-    pub(crate) offset: i32,
+    /// Whether that was daylight saving time.
+    pub(crate) daylight: bool,
+    /// The offset from which the next search for an instant begins: that of the last one, or UTC's.
+    pub(crate) guess: i32,
 }
 
 impl LastShown {
-    fn of(shown: Clock) -> LastShown
-        ensures { result ≡ last_of shown }
+    fn of(guess: i32, shown: ZoneClock) -> LastShown
+        ensures { result ≡ last_of guess shown }
     {
         LastShown {
-            weekday: shown.weekday(),
-            offset: shown.offset(),
+            weekday: shown.clock.weekday(),
+            daylight: shown.daylight,
+            guess,
         }
     }
 }
@@ -130,12 +134,12 @@ fn lone_year(n: u64) -> Option<u16>
 
 impl Draft {
     /// Before the first token: today's clock, and no date.
-    pub(crate) fn first(today: Clock) -> Draft
+    pub(crate) fn first(today: ZoneClock) -> Draft
         ensures { result ≡ first_draft today }
     {
         Draft {
-            fields: clock_fields(today),
-            last: LastShown::of(today),
+            fields: clock_fields(today.clock),
+            last: LastShown::of(0, today),
             waiting: None,
             understood: false,
             ignored: None,
@@ -143,12 +147,12 @@ impl Draft {
     }
 
     /// With all that a clock shows.
-    pub(crate) fn with_shown(self, shown: Clock) -> Draft
-        ensures { result ≡ with_shown self shown }
+    pub(crate) fn with_shown(self, guess: i32, shown: ZoneClock) -> Draft
+        ensures { result ≡ with_shown self guess shown }
     {
         Draft {
-            fields: all_fields(shown),
-            last: LastShown::of(shown),
+            fields: all_fields(shown.clock),
+            last: LastShown::of(guess, shown),
             ..self
         }
     }

@@ -4,13 +4,13 @@ ghost use Rattle.git_date.specs.Tokens.Tokens.{tokens, Letters, bytes_left};
 ghost use Rattle.git_date.specs.Approximate.Words.{meaning_of};
 ghost use Rattle.git_date.specs.Tokens.Numbers.{number};
 ghost use Rattle.gix_date.specs.Relative.Steps.{zone_of};
-ghost use Rattle.git_date.specs.Approximate.Zones.{choices_of};
-ghost use Rattle.git_date.specs.Approximate.Rules.{used, hour_rule, back_rule, months_rule, unit_rule, counted_by, count_waits, with_month, meaning_rule, word_by, read_word, are_digits_next, letters_rule, is_padded, number_waits, digits_rule};
+ghost use Rattle.git_date.specs.Exact.Zones.{states_of};
+ghost use Rattle.git_date.specs.Approximate.Rules.{used, hour_rule, back_rule, months_rule, unit_rule, counted_by, count_waits, with_month, first_instant, meaning_rule, word_by, read_word, are_digits_next, letters_rule, is_padded, number_waits, digits_rule};
 ghost use Rattle.git_date.specs.Rules.Views.{step_view};
 
 use crate::approximate::drafts::{Draft, Drafted, units, weekday_seconds};
 use crate::approximate::meanings::{Meaning, Unit, meaning_of};
-use crate::approximate::zone::{fill, moved_to};
+use crate::approximate::zone::{Found, fill, moved_to};
 use crate::fault::Fault;
 use crate::fields::Fields;
 use crate::fields::dates::Now;
@@ -34,7 +34,7 @@ fn used(draft: Drafted) -> Ruled
 
 /// `midnight`, `noon` and `tea`: where the clock is before that hour, the day before. gitrevisions asks for a prior point in time.
 fn hour_rule(moment: Zoned<'_>, today: Clock, draft: Draft, hour: u8, left: usize) -> Drafted
-    ensures { result ≡ hour_rule (choices_of (zone_of moment.entry)) today draft hour left }
+    ensures { result ≡ hour_rule (states_of (zone_of moment.entry)) today draft hour left }
 {
     let settled = draft.settle();
     let day = if settled.is_before(hour) {
@@ -47,7 +47,7 @@ fn hour_rule(moment: Zoned<'_>, today: Clock, draft: Draft, hour: u8, left: usiz
 
 /// A number of seconds back. Git keeps them in 32 bits: its `25000 days ago` lies ahead, and is refused here.
 fn back_rule(moment: Zoned<'_>, today: Clock, draft: Draft, back: u64, n: Number) -> Drafted
-    ensures { result ≡ back_rule (choices_of (zone_of moment.entry)) today draft back n }
+    ensures { result ≡ back_rule (states_of (zone_of moment.entry)) today draft back n }
 {
     if MAX_SMALL < back {
         return Err(Fault::BackTooFar(n.left));
@@ -57,7 +57,7 @@ fn back_rule(moment: Zoned<'_>, today: Clock, draft: Draft, back: u64, n: Number
 
 /// A number of months back. To Git a year before 1900 is unknown, so its `200 years ago` is this year, and is refused here.
 fn months_rule(moment: Zoned<'_>, today: Clock, draft: Draft, months: u64, n: Number) -> Drafted
-    ensures { result ≡ months_rule (choices_of (zone_of moment.entry)) today draft months n }
+    ensures { result ≡ months_rule (states_of (zone_of moment.entry)) today draft months n }
 {
     let filled = fill(moment, today, draft, 0, n.left)?;
     let fields = filled
@@ -69,7 +69,7 @@ fn months_rule(moment: Zoned<'_>, today: Clock, draft: Draft, months: u64, n: Nu
 
 /// What a number counts.
 fn unit_rule(moment: Zoned<'_>, today: Clock, draft: Draft, unit: Unit, n: Number) -> Drafted
-    ensures { result ≡ unit_rule (choices_of (zone_of moment.entry)) today draft unit n }
+    ensures { result ≡ unit_rule (states_of (zone_of moment.entry)) today draft unit n }
 {
     let rest = draft.without_number();
     match unit {
@@ -84,7 +84,7 @@ fn unit_rule(moment: Zoned<'_>, today: Clock, draft: Draft, unit: Unit, n: Numbe
 
 /// What the waiting number counts. Without one a unit says nothing, so Git understands no `friday` alone.
 fn counted(moment: Zoned<'_>, today: Clock, draft: Draft, unit: Unit) -> Ruled
-    ensures { result ≡ counted_by (choices_of (zone_of moment.entry)) today draft unit draft.waiting }
+    ensures { result ≡ counted_by (states_of (zone_of moment.entry)) today draft unit draft.waiting }
 {
     match draft.waiting {
         Some(n) => used(unit_rule(moment, today, draft, unit, n)),
@@ -121,6 +121,16 @@ fn with_month(draft: Draft, month: u8) -> Draft
     }
 }
 
+/// The first instant of 1970, which no search finds.
+fn first_instant(draft: Draft) -> Found
+    ensures { result ≡ first_instant draft }
+{
+    Found {
+        instant: 0,
+        guess: draft.last.guess,
+    }
+}
+
 /// What a word makes of a draft by what it says.
 #[tactic(auto, unfolding(crate::specs::Approximate::Rules::meaning_rule))]
 fn meaning_rule(
@@ -130,12 +140,12 @@ fn meaning_rule(
     left: usize,
     meaning: Meaning,
 ) -> Ruled
-    ensures { result ≡ meaning_rule (choices_of (zone_of moment.entry)) today draft left meaning }
+    ensures { result ≡ meaning_rule (states_of (zone_of moment.entry)) today draft left meaning }
 {
     match meaning {
         Meaning::Month(month) => Ok(Some(with_month(draft, month))),
         Meaning::Back(seconds) => used(fill(moment, today, draft.dropped(), seconds, left)),
-        Meaning::Never => used(moved_to(moment, draft.dropped(), left, 0)),
+        Meaning::Never => used(moved_to(moment, draft.dropped(), left, first_instant(draft))),
         Meaning::Hour(hour) => used(hour_rule(moment, today, draft, hour, left)),
         Meaning::Morning => Ok(Some(draft.half(0))),
         Meaning::Afternoon => Ok(Some(draft.half(12))),
@@ -146,7 +156,7 @@ fn meaning_rule(
 
 /// What a word makes of a draft.
 fn word_rule(moment: Zoned<'_>, today: Clock, draft: Draft, left: usize, word: &[u8]) -> Ruled
-    ensures { result ≡ word_by (choices_of (zone_of moment.entry)) today draft left (meaning_of word.now) }
+    ensures { result ≡ word_by (states_of (zone_of moment.entry)) today draft left (meaning_of word.now) }
 {
     match meaning_of(word) {
         Some(meaning) => meaning_rule(moment, today, draft, left, meaning),
@@ -184,7 +194,7 @@ pub(crate) fn letters_rule(
     run: &[u8],
     text: &[u8],
 ) -> Drafted
-    ensures { result ≡ letters_rule (choices_of (zone_of moment.entry)) today draft run.now (tokens text.now) }
+    ensures { result ≡ letters_rule (states_of (zone_of moment.entry)) today draft run.now (tokens text.now) }
 {
     let left = letters_left(run, text);
     if begins_with_digits(text) {

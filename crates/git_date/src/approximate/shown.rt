@@ -9,6 +9,15 @@ use gix_date::Time;
 use gix_date::clock::Clock;
 use gix_date::time::LAST_OF_YEAR_9999;
 
+/// What a zone's clock shows at an instant.
+#[derive(Clone, Copy)]
+pub(crate) struct ZoneClock {
+    /// With its offset there.
+    pub(crate) clock: Clock,
+    /// Whether that is daylight saving time.
+    pub(crate) daylight: bool,
+}
+
 /// The first second of the year 1900 by a clock.
 const FIRST_OF_YEAR_1900: i64 = -2_208_988_800;
 

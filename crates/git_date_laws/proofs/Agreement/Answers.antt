@@ -7,7 +7,7 @@ use Rattle.jiff.specs.Types.{TimeZone}
 use Rattle.gix_date.specs.Fields.Zoned.{is_instant}
 use Rattle.gix_date.specs.declared.time.Time.{Time}
 use Rattle.git_date.specs.Rules.Dates.{exact_seconds}
-use Rattle.git_date.specs.Rules.Fields.{unknown}
+use Rattle.git_date.specs.Rules.Fields.{is_leap, unknown}
 use Rattle.git_date.specs.Rules.Offsets.{at_text}
 use Rattle.git_date.specs.Exact.Outcome.{at_offset, date_at, date_of, instant_seconds}
 use Rattle.git_date.specs.Exact.Reading.{place_in, at_said, by_seconds, fields_said, reading_of, at_or_fields, said_up_to, string_said, said_by}
@@ -77,7 +77,7 @@ module _ (now : Now) (t : Time) (text : List ℕ) (said : Said) (minutes : ℤ) 
   by-fields : (r : Reading) (seconds : Option ℤ) → Fits now t (Ok r) → exact_seconds r.fields ≡ seconds → Ok said ≡ by_seconds text r seconds → time_said said minutes ≡ t
   by-fields r None fits e h = absurd cc
   by-fields r (Some s) fits e h =
-      let same = from-ok (is_instant s) (record { seconds = s; offset = r.fields.offset; epoch = r.fields.epoch; ignored = option_map (place_in text) r.ignored }) said h in
+      let same = from-ok (is_instant s) (record { seconds = s; offset = r.fields.offset; epoch = r.fields.epoch; leap = is_leap r.fields; ignored = option_map (place_in text) r.ignored }) said h in
       ap (λ (x : Said). time_said x minutes) same
       ∙ sym (fits s minutes (none-left (place_in text) r.ignored (sym (ap (λ (x : Said). x.ignored) same) ∙ none)) (sym (ap (λ (x : Said). x.offset) same) ∙ offset) e)
 
@@ -90,7 +90,7 @@ module _ (now : Now) (t : Time) (text : List ℕ) (said : Said) (minutes : ℤ) 
   unfolding at_said reading_of
   by-at None fits goes h = by-reading (reading_of now text) (goes (length text) (fewer text)) h
   by-at (Some found) fits goes h =
-      let same = from-ok (is_instant (pos found.0)) (record { seconds = pos found.0; offset = Some found.1; epoch = true; ignored = None }) said h in
+      let same = from-ok (is_instant (pos found.0)) (record { seconds = pos found.0; offset = Some found.1; epoch = true; leap = false; ignored = None }) said h in
       let known : Some found.1 ≡ Some minutes = sym (ap (λ (x : Said). x.offset) same) ∙ offset in
       let equal : found.1 ≡ minutes = cc in
       ap (λ (x : Said). time_said x minutes) same ∙ ap (λ (m : ℤ). record { seconds = pos found.0; offset = pos 60 *ℤ m }) (sym equal) ∙ sym fits

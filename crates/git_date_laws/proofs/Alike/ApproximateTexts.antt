@@ -10,7 +10,8 @@ use Rattle.git_date.specs.Approximate.Reading.{Read, steps, draft_of, answer, an
 use Rattle.git_date.specs.Approximate.Drafts.{first_draft, ignore, settle}
 use Rattle.git_date.specs.Approximate.Rules.{Ruled, word_by, read_word, are_digits_next, letters_rule, number_waits, group_or_number, digits_rule, understood}
 use Rattle.git_date.specs.Approximate.Words.{meaning_of}
-use Rattle.git_date.specs.Approximate.Zones.{Choices, shown_in, filled_time}
+use Rattle.git_date.specs.Approximate.Zones.{shown_in, filled_time}
+use Rattle.git_date.specs.Exact.Zones.{States}
 use Rattle.git_date.specs.Exact.Reading.{ended, error_of}
 use Rattle.git_date.specs.Rules.Digits.{group_said}
 use Rattle.git_date.specs.Tokens.Numbers.{number, is_too_large}
@@ -18,7 +19,7 @@ use Rattle.git_date.specs.Tokens.Steps.{and_then}
 use Rattle.git_date.specs.Tokens.Strings.{before_nul, nul_place}
 use Rattle.git_date.specs.Tokens.Tokens.{Token, Letters, Digits, Mark, tokens, bytes_left, walked}
 use Rattle.git_date.specs.Types.FaultCases.{NumberTooLarge, BackTooFar, YearRefused, Range}
-use Rattle.git_date.specs.Types.Names.{Today, Draft, Now, Fault}
+use Rattle.git_date.specs.Types.Names.{Today, Draft, Now, Fault, ZoneClock}
 use Rattle.git_date.specs.declared.error.DateError.{DateError}
 use Rattle.git_date.specs.declared.error.DateError.TheVariants as error
 use Rattle.git_date_laws.proofs.Alike.Spelling.{IsSpelling, filler-agrees, meaning-agrees}
@@ -51,7 +52,7 @@ module _ (spell : List ℕ → List ℕ) (same : IsSpelling spell) where
   word-same d run left (Ok None) = ap (λ (b : Bool). Ok (cond b d (ignore d left))) (filler-agrees spell same run)
   word-same d run left (Err e) = refl
 
-  letters-same : (zone : Choices) (today : LocalTime) (d : Draft) (run : List ℕ) (more : List Token)
+  letters-same : (zone : States) (today : LocalTime) (d : Draft) (run : List ℕ) (more : List Token)
       → letters_rule zone today d (spell run) (φ more) ≡ letters_rule zone today d run more
   unfolding letters_rule
   letters-same zone today d run more =
@@ -84,10 +85,10 @@ module _ (spell : List ℕ → List ℕ) (same : IsSpelling spell) where
   ended-kept (Err e) = refl
 
   -- steps
-  abbrev go_on : Choices → Today → ℕ → Read → Result Draft Fault
+  abbrev go_on : States → Today → ℕ → Read → Result Draft Fault
   go_on zone today n step = and_then step (λ next. steps zone today n next.0 next.1)
 
-  module _ (zone : Choices) (today : Today) (n : ℕ) (again : (d : Draft) (ts : List Token) → steps zone today n d (φ ts) ≡ steps zone today n d ts) where
+  module _ (zone : States) (today : Today) (n : ℕ) (again : (d : Draft) (ts : List Token) → steps zone today n d (φ ts) ≡ steps zone today n d ts) where
     kept-on : (x : Read) → go_on zone today n (kept x) ≡ go_on zone today n x
     kept-on (Ok found) = again found.0 found.1
     kept-on (Err e) = refl
@@ -97,15 +98,15 @@ module _ (spell : List ℕ → List ℕ) (same : IsSpelling spell) where
     letters-on more (Ok d) = again d more
     letters-on more (Err e) = refl
 
-  steps-same : (zone : Choices) (today : Today) (n : ℕ) (d : Draft) (ts : List Token) → steps zone today n d (φ ts) ≡ steps zone today n d ts
+  steps-same : (zone : States) (today : Today) (n : ℕ) (d : Draft) (ts : List Token) → steps zone today n d (φ ts) ≡ steps zone today n d ts
   unfolding walked
   steps-same zone today n d [] = refl
   steps-same zone today zero d (Letters run ∷ more) = refl
   steps-same zone today zero d (Digits run ∷ more) = refl
   steps-same zone today zero d (Mark byte ∷ more) = refl
   steps-same zone today (suc n) d (Letters run ∷ more) =
-      ap (λ (given : Result Draft Fault). go_on zone today n (and_then given (λ next. Ok (next, φ more)))) (letters-same zone today.shown d run more)
-      ∙ letters-on zone today n (λ d ts. steps-same zone today n d ts) more (letters_rule zone today.shown d run more)
+      ap (λ (given : Result Draft Fault). go_on zone today n (and_then given (λ next. Ok (next, φ more)))) (letters-same zone today.shown.clock d run more)
+      ∙ letters-on zone today n (λ d ts. steps-same zone today n d ts) more (letters_rule zone today.shown.clock d run more)
   steps-same zone today (suc n) d (Digits run ∷ more) =
       ap (λ (step : Read). go_on zone today n step)
       (ap (λ (step : Read). ended step) (digits-same today.now d run more) ∙ ended-kept (digits_rule today.now d run more))
@@ -125,9 +126,9 @@ error-same text other (BackTooFar left) long = λ i. error.BackTooFar (long i - 
 error-same text other (YearRefused left) long = λ i. error.YearRefused (long i - left)
 error-same text other Range long = refl
 
-answer-of-same : (zone : Choices) (today : Today) (text other : List ℕ) (given : Result Draft Fault) → length other ≡ length text
+answer-of-same : (zone : States) (today : Today) (text other : List ℕ) (given : Result Draft Fault) → length other ≡ length text
     → answer_of zone today other given ≡ answer_of zone today text given
-answer-of-same zone today text other (Ok d) long = answer-same text other (settle d) (filled_time zone today.shown (settle d).last.offset (settle d).fields) long
+answer-of-same zone today text other (Ok d) long = answer-same text other (settle d) (filled_time zone today.shown.clock (settle d).last (settle d).fields) long
 answer-of-same zone today text other (Err e) long = ap (λ (e : DateError). Err e) (error-same text other e long)
 
 abbrev pub lower : List ℕ → List ℕ
@@ -136,24 +137,24 @@ lower text = str_to_ascii_lowercase text
 lower-length : (text : List ℕ) → length (lower text) ≡ length text
 lower-length text = length-map text to_ascii_lowercase
 
-draft-lower : (zone : Choices) (today : Today) (text : List ℕ) → draft_of zone today (lower text) ≡ draft_of zone today text
+draft-lower : (zone : States) (today : Today) (text : List ℕ) → draft_of zone today (lower text) ≡ draft_of zone today text
 unfolding draft_of
 draft-lower zone today text =
     ap₂ (λ (n : ℕ) (ts : List Token). steps zone today n (first_draft today.shown) ts) (lower-length text) (tokens-lower text)
     ∙ steps-same str_to_ascii_lowercase in_lower_case zone today (length text) (first_draft today.shown) (tokens text)
 
-guess-by-lower : (zone : Choices) (now : Now) (text : List ℕ) (shown : Option LocalTime) → guess_by zone now (lower text) shown ≡ guess_by zone now text shown
+guess-by-lower : (zone : States) (now : Now) (text : List ℕ) (shown : Option ZoneClock) → guess_by zone now (lower text) shown ≡ guess_by zone now text shown
 guess-by-lower zone now text None = refl
 guess-by-lower zone now text (Some shown) =
     let today : Today = record { now = now; shown = shown } in
     ap (answer_of zone today (lower text)) (draft-lower zone today text)
     ∙ answer-of-same zone today text (lower text) (draft_of zone today text) (lower-length text)
 
-string-guess-lower : (zone : Choices) (now : Now) (text : List ℕ) → string_guess zone now (lower text) ≡ string_guess zone now text
+string-guess-lower : (zone : States) (now : Now) (text : List ℕ) → string_guess zone now (lower text) ≡ string_guess zone now text
 unfolding string_guess
 string-guess-lower zone now text = guess-by-lower zone now text (shown_in zone now.seconds)
 
-pub guess-lower : (zone : Choices) (now : Now) (text : List ℕ) → guess zone now (lower text) ≡ guess zone now text
+pub guess-lower : (zone : States) (now : Now) (text : List ℕ) → guess zone now (lower text) ≡ guess zone now text
 unfolding guess
 guess-lower zone now text =
     (λ i. answer_up_to (place-lower text i) (string_guess zone now (before-lower text i)))

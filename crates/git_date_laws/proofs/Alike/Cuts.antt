@@ -7,7 +7,7 @@ use Rattle.std.proofs.Math.Seq.{take-append-add}
 use Rattle.std.proofs.lemmas.Bool.Decides.{nat_tests}
 use Rattle.std.proofs.lemmas.List.{length-map, take-append-le, take-map}
 use Rattle.git_date.specs.Approximate.Reading.{answer_up_to, string_guess, guess}
-use Rattle.git_date.specs.Approximate.Zones.{Choices}
+use Rattle.git_date.specs.Exact.Zones.{States}
 use Rattle.git_date.specs.Exact.Reading.{said_up_to, string_said, said_by}
 use Rattle.git_date.specs.Tokens.Strings.{string_len, before_nul, nul_place}
 use Rattle.git_date.specs.Types.Names.{Now, Said}
@@ -98,7 +98,7 @@ up-to-parts : (place : Option ℕ) (found : Result Approximate DateError) (date 
 up-to-parts place (Ok before) date e = record { before = before; is_found = refl; is = sym (same-ok _ date e) }
 up-to-parts place (Err wrong) date e = absurd cc
 
-pub answer-parts : (zone : Choices) (now : Now) (text : List ℕ) (date : Approximate) → guess zone now text ≡ Ok date
+pub answer-parts : (zone : States) (now : Now) (text : List ℕ) (date : Approximate) → guess zone now text ≡ Ok date
     → IsUpTo (nul_place text) (string_guess zone now (before_nul text)) date
 unfolding guess
 answer-parts zone now text date e = up-to-parts (nul_place text) (string_guess zone now (before_nul text)) date e

@@ -10,6 +10,7 @@ use Rattle.std.proofs.lemmas.Bool.Decides.{nat_tests}
 use Rattle.gix_date.specs.Text.Characters.{newline}
 use Rattle.gix_date.specs.Text.Names.{is_name}
 use Rattle.gix_date.specs.Fields.Zoned.{is_instant}
+use Rattle.git_date.specs.Rules.Fields.{is_leap}
 use Rattle.git_date.specs.Tokens.Tokens.{Token, Letters, Mark, letter_before, digit_before, tokens, bytes_left}
 use Rattle.git_date.specs.Rules.Dates.{exact_seconds}
 use Rattle.git_date.specs.Rules.Offsets.{at_text}
@@ -39,7 +40,7 @@ same-seconds : (text other : List ℕ) (k : ℕ) (r : Reading) (seconds : Option
 same-seconds text other k r None e = refl
 same-seconds text other k r (Some seconds) e =
     ap (λ (ignored : Option ℕ). cond (is_instant seconds)
-    (Ok (record { seconds = seconds; offset = r.fields.offset; epoch = r.fields.epoch; ignored = ignored })) (Err error.Range)) (same-places text other k r.ignored e)
+    (Ok (record { seconds = seconds; offset = r.fields.offset; epoch = r.fields.epoch; leap = is_leap r.fields; ignored = ignored })) (Err error.Range)) (same-places text other k r.ignored e)
 
 same-fields : (text other : List ℕ) (k : ℕ) (read : Result Reading Fault) → length other ≡ length text + k
     → fields_said other (read_farther k read) ≡ fields_said text read

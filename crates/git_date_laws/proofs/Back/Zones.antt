@@ -5,10 +5,10 @@ use Rattle.std.specs.Option.{is_some}
 use Rattle.jiff.specs.Types.{TimeZone}
 use Rattle.jiff.specs.declared.zoned.Zoned.{Zoned}
 use Rattle.git_date.specs.Rules.Dates.{now_of}
-use Rattle.git_date.specs.Exact.Outcome.{at_offset, date_of, date_at, date_in, instant_seconds, said_offset}
+use Rattle.git_date.specs.Exact.Outcome.{at_offset, date_of, date_at, date_in, said_in, instant_seconds, said_offset}
 use Rattle.git_date.specs.Exact.Reading.{said_by}
 use Rattle.git_date.specs.Types.Names.{Said}
-use Rattle.git_date.specs.Exact.Zones.{offsets_of, local_offset}
+use Rattle.git_date.specs.Exact.Zones.{states_of}
 use Rattle.git_date.specs.declared.date.ReadDate.{ReadDate}
 use Rattle.git_date.specs.declared.error.DateError.{DateError}
 use Rattle.git_date.specs.declared.error.DateError.TheVariants.{Range}
@@ -40,7 +40,7 @@ told tz (Ok said) date h = by said.offset h
 
     by : (offset : Option ℤ) → Ok date ≡ at_offset tz said offset → date.has_offset ≡ is_some said.offset
     by (Some minutes) h = at-told said minutes date h
-    by None h = in-zone (local_offset (offsets_of tz) None said.seconds) h
+    by None h = in-zone (said_in (states_of tz) said) h
 
 in-other : (other : TimeZone) (read : Result Said DateError) (date : ReadDate) (offset : Option ℤ) → is_some offset ≡ true
     → ((minutes : ℤ) → offset ≡ Some minutes → Ok date ≡ date_of other read) → Ok date ≡ date_of other read

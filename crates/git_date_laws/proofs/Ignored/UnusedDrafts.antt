@@ -1,5 +1,5 @@
 -- What the approximate reader ignores is the earliest token that is not used.
-use Rattle.std.proofs.Common.{◌≡◌, ◌∙◌, ◌≤◌, max, not, ℕ, zero, suc, ℤ, true, false, cond, List, [], ◌∷◌, ◌++◌, length, refl, sym, ap, subst, arith, option_map, is_some, Option, Some, None, Result, Ok, Err}
+use Rattle.std.proofs.Common.{◌≡◌, ◌∙◌, ◌≤◌, max, not, ℕ, zero, suc, true, false, cond, List, [], ◌∷◌, ◌++◌, length, refl, sym, ap, subst, arith, option_map, is_some, Option, Some, None, Result, Ok, Err}
 use Rattle.std.proofs.lemmas.Bool.Decides.{nat_tests}
 use Rattle.std.specs.Prelude.{◌==◌, ◌&&◌, ◌||◌}
 use Rattle.std.specs.Option.{option_or}
@@ -10,7 +10,8 @@ use Rattle.git_date.specs.Approximate.Reading.{Read, steps, draft_of, answer, an
 use Rattle.git_date.specs.Approximate.Drafts.{earlier, first_draft, settle, dropped}
 use Rattle.git_date.specs.Approximate.Rules.{Ruled, hour_rule, unit_rule, meaning_rule, word_by, read_word, understood, letters_rule, is_padded, number_waits, group_or_number, digits_rule}
 use Rattle.git_date.specs.Approximate.Words.{meaning_of}
-use Rattle.git_date.specs.Approximate.Zones.{Choices, choices_of, shown_in, filled_time, moved_to, fill}
+use Rattle.git_date.specs.Approximate.Zones.{shown_in, filled_time, moved_to, fill}
+use Rattle.git_date.specs.Exact.Zones.{States, states_of}
 use Rattle.git_date.specs.Rules.Dates.{now_of}
 use Rattle.git_date.specs.Rules.Digits.{group_said}
 use Rattle.git_date.specs.Rules.Groups.{group_of}
@@ -18,7 +19,7 @@ use Rattle.git_date.specs.Tokens.Numbers.{number}
 use Rattle.git_date.specs.Exact.Reading.{ended, place_in}
 use Rattle.git_date.specs.Tokens.Strings.{before_nul, nul_place}
 use Rattle.git_date.specs.Tokens.Tokens.{Token, Letters, Digits, Mark, tokens, bytes_left, walked}
-use Rattle.git_date.specs.Types.Names.{Now, Today, Draft, Fault, Fields, Meaning, Number, Unit as TheUnit}
+use Rattle.git_date.specs.Types.Names.{Now, Today, Draft, Fault, Fields, Found, Meaning, Number, ZoneClock, Unit as TheUnit}
 use Rattle.git_date.specs.Rules.Words.{is_filler, without_ending}
 use Rattle.git_date.specs.declared.approximate.answer.Approximate.{Approximate}
 use Rattle.git_date.proofs.Rules.EnoughSteps.{fewer, short-kept}
@@ -69,10 +70,10 @@ dropped-leaves : (d : Draft) → (dropped d).ignored ≡ earliest d.ignored (pla
 dropped-leaves d = grind (arith, one-place)
 
 -- words
-module _ (zone : Choices) (today : LocalTime) where
-  moved-keeps : (d next : Draft) (left : ℕ) (instant : ℤ) → moved_to zone d left instant ≡ Ok next → next.ignored ≡ d.ignored
+module _ (zone : States) (today : LocalTime) where
+  moved-keeps : (d next : Draft) (left : ℕ) (found : Found) → moved_to zone d left found ≡ Ok next → next.ignored ≡ d.ignored
   unfolding moved_to
-  moved-keeps d next left instant e = grind arith
+  moved-keeps d next left found e = grind arith
 
   fill-keeps : (d next : Draft) (back left : ℕ) → fill zone today d back left ≡ Ok next → next.ignored ≡ d.ignored
   unfolding fill
@@ -131,7 +132,7 @@ digits-leave now d next run more rest e =
     grind (arith, nat_tests, both-places, settle-leaves d, group-leaves now (understood (settle d)) next run more rest _ refl)
 
 -- the walk
-module _ (zone : Choices) (today : Today) where
+module _ (zone : States) (today : Today) where
   abbrev go : ℕ → Read → Result Draft Fault
   go n step = and_then step (λ next. steps zone today n next.0 next.1)
 
@@ -149,10 +150,10 @@ module _ (zone : Choices) (today : Today) where
   later-on d next last ts rest unused leaves step later =
       (unused ++ later.0, step later.0 later.1, later.2 ∙ ap (λ (i : Option ℕ). earliest i later.0) leaves ∙ sym (both-places d.ignored unused later.0))
 
-  letters-then : (n : ℕ) → AreDrafted n → (d last : Draft) (run : List ℕ) (more : List Token) (found : Result Draft Fault) → letters_rule zone today.shown d run more ≡ found
+  letters-then : (n : ℕ) → AreDrafted n → (d last : Draft) (run : List ℕ) (more : List Token) (found : Result Draft Fault) → letters_rule zone today.shown.clock d run more ≡ found
       → length more ≤ n → go n (and_then found (λ next. Ok (next, more))) ≡ Ok last → Comes d (Letters run ∷ more) last
   letters-then n all d last run more (Ok next) is short e =
-      later-on d next last (Letters run ∷ more) more (unused_letters d run more) (letters-leave zone today.shown d next run more is)
+      later-on d next last (Letters run ∷ more) more (unused_letters d run more) (letters-leave zone today.shown.clock d next run more is)
       (λ later walk. AtLetters d next (settle last) run more later is walk) (all next last more short e)
   letters-then n all d last run more (Err wrong) is short e = absurd cc
 
@@ -172,7 +173,7 @@ module _ (zone : Choices) (today : Today) where
   steps-drafted (suc n) d last (Mark byte ∷ more) short e =
       let later = steps-drafted n d last more (omega arith) e in (later.0, AtMark d (settle last) byte more later.0 later.1, later.2)
   steps-drafted (suc n) d last (Letters run ∷ more) short e =
-      letters-then n (λ d last ts short e. steps-drafted n d last ts short e) d last run more (letters_rule zone today.shown d run more) refl (omega arith) e
+      letters-then n (λ d last ts short e. steps-drafted n d last ts short e) d last run more (letters_rule zone today.shown.clock d run more) refl (omega arith) e
   steps-drafted (suc n) d last (Digits run ∷ more) short e =
       digits-then n (λ d last ts short e. steps-drafted n d last ts short e) d last run more (digits_rule today.now d run more) refl
       (read-short today.now d run more) (omega arith) e
@@ -190,8 +191,8 @@ pub ignores-earliest : (moment : Zoned) (text : List ℕ) → IgnoresEarliest mo
 unfolding string_guess
 ignores-earliest moment text date unreadable h = by-shown (shown_in zone now.seconds) refl parts.is_found
   where
-    zone : Choices
-    zone = choices_of (zone_of moment)
+    zone : States
+    zone = states_of (zone_of moment)
 
     now : Now
     now = now_of moment
@@ -202,11 +203,11 @@ ignores-earliest moment text date unreadable h = by-shown (shown_in zone now.sec
     parts : IsUpTo (nul_place text) (string_guess zone now string) date
     parts = answer-parts zone now text date (sym (h ∙ guessed moment text unreadable))
 
-    by-draft : (shown : LocalTime) (given : Result Draft Fault) → shown_in zone now.seconds ≡ Some shown → draft_of zone (record { now = now; shown = shown }) string ≡ given
+    by-draft : (shown : ZoneClock) (given : Result Draft Fault) → shown_in zone now.seconds ≡ Some shown → draft_of zone (record { now = now; shown = shown }) string ≡ given
         → answer_of zone (record { now = now; shown = shown }) string given ≡ Ok parts.before → IsEarliestUnused moment text date
     by-draft shown (Err wrong) seen is e = absurd cc
     by-draft shown (Ok d) seen is e =
-        let found = answered string (settle d) (filled_time zone shown (settle d).last.offset (settle d).fields) parts.before e in
+        let found = answered string (settle d) (filled_time zone shown.clock (settle d).last (settle d).fields) parts.before e in
         let walk = text-drafted zone (record { now = now; shown = shown }) string d is in
         record {
           unused = walk.0;
@@ -218,6 +219,6 @@ ignores-earliest moment text date unreadable h = by-shown (shown_in zone now.sec
           first = ap (λ (x : Approximate). x.ignored) parts.is ∙ ap (λ (i : Option ℕ). option_or i (nul_place text)) (found.1 ∙ ap (option_map (place_in string)) walk.2);
         }
 
-    by-shown : (shown : Option LocalTime) → shown_in zone now.seconds ≡ shown → guess_by zone now string shown ≡ Ok parts.before → IsEarliestUnused moment text date
+    by-shown : (shown : Option ZoneClock) → shown_in zone now.seconds ≡ shown → guess_by zone now string shown ≡ Ok parts.before → IsEarliestUnused moment text date
     by-shown None seen e = absurd cc
     by-shown (Some shown) seen e = by-draft shown (draft_of zone (record { now = now; shown = shown }) string) seen refl e

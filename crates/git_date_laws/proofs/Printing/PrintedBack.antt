@@ -26,6 +26,7 @@ use Rattle.gix_date.specs.Text.Names.{day_name, month_name}
 use Rattle.gix_date.specs.Fields.FieldTexts.{four_digits, clock_text}
 use Rattle.gix_date.specs.Fields.Offsets.{compact_offset_text}
 use Rattle.std.specs.Fmt.{decimal}
+use Rattle.git_date.specs.Rules.Fields.{is_leap}
 use Rattle.git_date.specs.Rules.Dates.{is_month, first_of, month_start, seconds_after, exact_seconds}
 use Rattle.git_date.specs.Exact.Outcome.{instant_seconds, date_at, date_of}
 use Rattle.git_date_laws.specs.Texts.Printed.{IsGitTime, IsReadBack, AreReadBack}
@@ -56,7 +57,7 @@ abbrev clock_of_utc : LocalTime → ℤ
 clock_of_utc t = civil_seconds t.date t.clock (pos 0)
 
 abbrev said_of : LocalTime → Said
-said_of t = record { seconds = clock_of_utc t; offset = Some (offset_in_minutes t); epoch = false; ignored = None }
+said_of t = record { seconds = clock_of_utc t; offset = Some (offset_in_minutes t); epoch = false; leap = is_leap (fields_of t); ignored = None }
 
 month-known : (t : LocalTime) → IsGitClock t → is_month t.date.year t.date.month ≡ true
 month-known t h = let a = h.first_year in let b = h.last_year in let c = h.first_month in let d = h.last_month in grind (arith, nat_tests)

@@ -22,7 +22,7 @@ use Rattle.git_date.specs.Rules.Digits.{min_epoch, with_epoch}
 use Rattle.git_date.specs.Exact.Fast.{WritesOffset, WritesSeconds}
 use Rattle.git_date.specs.Rules.Fields.{unknown}
 use Rattle.git_date.specs.Rules.Offsets.{at_text}
-use Rattle.git_date.specs.Exact.Outcome.{date_at, date_in, date_of, instant_seconds}
+use Rattle.git_date.specs.Exact.Outcome.{date_at, date_in, date_of, instant_seconds, said_in}
 use Rattle.git_date_laws.specs.Texts.Printed.{IsGitTime}
 use Rattle.git_date.specs.Exact.Reading.{ended, said_by, step}
 use Rattle.git_date.specs.Show.Dates.{raw_text, shown, shown_offset}
@@ -30,7 +30,7 @@ use Rattle.git_date.specs.Show.Clocks.{Moment, is_written_offset, time_at, zone_
 use Rattle.git_date.specs.Tokens.Tokens.{Digits, tokens}
 use Rattle.git_date.specs.Types.Names.{Now, Said}
 use Rattle.git_date.specs.Rules.Words.{without_ending}
-use Rattle.git_date.specs.Exact.Zones.{offsets_of, local_offset}
+use Rattle.git_date.specs.Exact.Zones.{states_of}
 use Rattle.git_date.specs.declared.date.ReadDate.{ReadDate}
 use Rattle.git_date.specs.declared.error.DateError.TheVariants.{Range}
 use Rattle.git_date.specs.declared.mode.DateKind.TheVariants.{Raw, Unix}
@@ -40,7 +40,7 @@ use Rattle.git_date_laws.proofs.Printing.ShownLaws.{when-shown}
 use Rattle.git_date_laws.specs.Headline.{IsEpoch, IsReadAs, shown_time}
 
 abbrev said_alone : ℕ → Said
-said_alone n = record { seconds = pos n; offset = None; epoch = true; ignored = None }
+said_alone n = record { seconds = pos n; offset = None; epoch = true; leap = false; ignored = None }
 
 alone-said : (now : Now) (n : ℕ) → min_epoch ≤ n → n < first_of_year_2100 → said_by now (decimal n) ≡ Ok (said_alone n)
 unfolding without_ending at_text tokens
@@ -69,7 +69,7 @@ alone-read : (this : Now) (tz : TimeZone) (s : ℤ) (date : ReadDate) → IsEpoc
     → (date.time.seconds ≡ s) × (date.ignored ≡ None)
 alone-read this tz (negsuc n) date h e = absurd (omega (arith, signed_arith, h))
 alone-read this tz (pos n) date h e =
-    alone-in n (local_offset (offsets_of tz) None (pos n)) date
+    alone-in n (said_in (states_of tz) (said_alone n)) date
     (ap (date_of tz) (sym (alone-said this n (omega (arith, signed_arith, h)) (omega (arith, signed_arith, h)))) ∙ e)
 
 pub unix-alone : (this : Now) (at : Moment) (local : Bool) (tz : TimeZone) (t : Time) (text : List ℕ) (date : ReadDate) → IsEpoch t.seconds

@@ -1,9 +1,9 @@
 -- Where nothing is understood, the draft is today's clock, and the answer the moment.
-use Rattle.std.proofs.Common.{◌≡◌, ◌∙◌, ℕ, zero, suc, ℤ, pos, ◌+ℤ◌, Bool, true, false, cond, List, [], ◌∷◌, Option, Some, None, option_map, Result, Ok, Err, refl, sym, ap, ap₂, subst}
+use Rattle.std.proofs.Common.{◌≡◌, ◌∙◌, ℕ, zero, suc, pos, Bool, true, false, cond, List, [], ◌∷◌, Option, Some, None, option_map, Result, Ok, Err, refl, sym, ap, ap₂, subst}
 use Rattle.std.specs.Prelude.{◌||◌, ◌==◌}
 use Rattle.std.specs.Int.Signed.{le_z}
 use Rattle.jiff.specs.Types.{TimeZone}
-use Rattle.jiff.specs.Words.{nanos_of_seconds, offset_at}
+use Rattle.jiff.specs.Words.{nanos_of_seconds}
 use Rattle.jiff.specs.declared.zoned.Zoned.{Zoned}
 use Rattle.gix_date.specs.Relative.Steps.{zone_of}
 use Rattle.gix_date.specs.declared.time.Time.{Time}
@@ -11,7 +11,8 @@ use Rattle.git_date.specs.Approximate.Reading.{Read, steps, draft_of, answer, an
 use Rattle.git_date.specs.Approximate.Drafts.{clock_fields, first_draft, ignore, with_number, settle_number, settle, last_of, without_number}
 use Rattle.git_date.specs.Approximate.Rules.{Ruled, understood, read_word, word_by, are_digits_next, letters_rule, is_padded, number_waits, group_or_number, digits_rule}
 use Rattle.git_date.specs.Approximate.Words.{meaning_of}
-use Rattle.git_date.specs.Approximate.Zones.{Choices, choices_of, filled_time}
+use Rattle.git_date.specs.Approximate.Zones.{filled_time}
+use Rattle.git_date.specs.Exact.Zones.{States, state_there, states_of}
 use Rattle.git_date.specs.Rules.Dates.{now_of}
 use Rattle.git_date.specs.Rules.Digits.{group_said}
 use Rattle.git_date.specs.Tokens.Numbers.{number, is_too_large}
@@ -21,16 +22,15 @@ use Rattle.git_date.specs.Tokens.Strings.{before_nul, nul_place}
 use Rattle.git_date.specs.Tokens.Tokens.{Token, Letters, Digits, Mark, tokens, bytes_left, walked}
 use Rattle.git_date.specs.Rules.Words.{is_filler, without_ending}
 use Rattle.git_date.specs.Types.FaultCases.{NumberTooLarge}
-use Rattle.git_date.specs.Types.Names.{Draft, Fault, Fields, Now, Number, Today, LastShown}
+use Rattle.git_date.specs.Types.Names.{Draft, Fault, Fields, Now, Number, Today, LastShown, ZoneClock, ZoneState}
 use Rattle.git_date.specs.declared.approximate.answer.Approximate.{Approximate}
 use Rattle.git_date.specs.declared.date.ReadDate.{ReadDate}
 use Rattle.git_date.specs.declared.error.DateError.{DateError}
 use Rattle.git_date.specs.declared.error.DateError.TheVariants as error
 use Rattle.git_date_laws.proofs.Alike.Cuts.{same-ok}
-use Rattle.git_date_laws.proofs.Whole.EveryZone.{now-reached}
-use Rattle.git_date_laws.proofs.Back.ExactBack.{clock_at}
-use Rattle.git_date_laws.specs.ApproximateLaws.{IsShownThere, IsMomentUnlessUnderstood}
-use Rattle.gix_date.specs.Fields.Layout.{LocalTime}
+use Rattle.git_date_laws.proofs.Whole.EveryZone.{now-reached, now-timed}
+use Rattle.git_date_laws.proofs.Back.ExactBack.{clock_there}
+use Rattle.git_date_laws.specs.ApproximateLaws.{IsFoundNow, IsMomentUnlessUnderstood}
 use Rattle.git_date.specs.Tokens.Steps.{and_then}
 use Rattle.std.specs.Option.{option_map_or}
 
@@ -38,7 +38,7 @@ not-both : (b : Bool) → b ≡ true → b ≡ false → ⊥
 not-both true e f = absurd cc
 not-both false e f = absurd cc
 
-module _ (zone : Choices) (today : Today) where
+module _ (zone : States) (today : Today) where
   -- the draft is the first, but for what is ignored, or something was understood
   abbrev Idle : Draft → Type 0
   Idle d = d.understood ≡ false → record d { ignored = None } ≡ first_draft today.shown
@@ -53,16 +53,16 @@ module _ (zone : Choices) (today : Today) where
       by false e = subst Idle (same-ok (ignore d left) next e) h
   word-idle d next run left (Err x) h e = absurd cc
 
-  letters-idle : (d next : Draft) (run : List ℕ) (more : List Token) → Idle d → letters_rule zone today.shown d run more ≡ Ok next → Idle next
+  letters-idle : (d next : Draft) (run : List ℕ) (more : List Token) → Idle d → letters_rule zone today.shown.clock d run more ≡ Ok next → Idle next
   unfolding letters_rule
   letters-idle d next run more h e = by (are_digits_next more) e
     where
       left : ℕ
       left = bytes_left (Letters run ∷ more)
 
-      by : (b : Bool) → cond b (Ok (ignore d left)) (read_word d run left (word_by zone today.shown d left (meaning_of run))) ≡ Ok next → Idle next
+      by : (b : Bool) → cond b (Ok (ignore d left)) (read_word d run left (word_by zone today.shown.clock d left (meaning_of run))) ≡ Ok next → Idle next
       by true e = subst Idle (same-ok (ignore d left) next e) h
-      by false e = word-idle d next run left (word_by zone today.shown d left (meaning_of run)) h e
+      by false e = word-idle d next run left (word_by zone today.shown.clock d left (meaning_of run)) h e
 
   number-heard : (d : Draft) (run : List ℕ) (left : ℕ) → d.understood ≡ true → (number_waits d run left).understood ≡ true
   number-heard d run left h = by (number run == 0 || is_padded run)
@@ -99,7 +99,7 @@ module _ (zone : Choices) (today : Today) where
   StepsIdle n = (d last : Draft) (ts : List Token) → Idle d → steps zone today n d ts ≡ Ok last → Idle last
 
   letters-then : (n : ℕ) → StepsIdle n → (d last : Draft) (run : List ℕ) (more : List Token) (found : Result Draft Fault) → Idle d
-      → letters_rule zone today.shown d run more ≡ found → go n (and_then found (λ next. Ok (next, more))) ≡ Ok last → Idle last
+      → letters_rule zone today.shown.clock d run more ≡ found → go n (and_then found (λ next. Ok (next, more))) ≡ Ok last → Idle last
   letters-then n all d last run more (Ok next) h is e = all next last more (letters-idle d next run more h is) e
   letters-then n all d last run more (Err x) h is e = absurd cc
 
@@ -116,7 +116,7 @@ module _ (zone : Choices) (today : Today) where
   steps-idle zero d last (t ∷ more) h e = subst Idle (same-ok d last e) h
   steps-idle (suc n) d last (Mark byte ∷ more) h e = steps-idle n d last more h e
   steps-idle (suc n) d last (Letters run ∷ more) h e =
-      letters-then n (λ d last ts h e. steps-idle n d last ts h e) d last run more (letters_rule zone today.shown d run more) h refl e
+      letters-then n (λ d last ts h e. steps-idle n d last ts h e) d last run more (letters_rule zone today.shown.clock d run more) h refl e
   steps-idle (suc n) d last (Digits run ∷ more) h e =
       digits-then n (λ d last ts h e. steps-idle n d last ts h e) d last run more (digits_rule today.now d run more) refl e
 
@@ -157,42 +157,42 @@ answer-parts text d (Some time) date e = by (le_z (pos 0) time.seconds) e
 same-time : (a b : Time) → Some a ≡ Some b → a ≡ b
 same-time a b e = cc
 
-module _ (moment : Zoned) (shown : IsShownThere moment (now_of moment).seconds) where
+module _ (moment : Zoned) (found : IsFoundNow moment) where
   abbrev this : Now
   this = now_of moment
 
   abbrev tz : TimeZone
   tz = zone_of moment
 
-  abbrev zone : Choices
-  zone = choices_of tz
+  abbrev zone : States
+  zone = states_of tz
 
-  abbrev o : ℤ
-  o = offset_at tz (nanos_of_seconds this.seconds)
+  abbrev from : ZoneState
+  from = state_there tz (nanos_of_seconds this.seconds)
 
   abbrev here : Today
-  here = record { now = this; shown = clock_at o (this.seconds +ℤ o) }
+  here = record { now = this; shown = clock_there from this.seconds }
 
   abbrev itself : Time
-  itself = record { seconds = this.seconds; offset = o }
+  itself = record { seconds = this.seconds; offset = from.offset }
 
   drafted : (text : List ℕ) (date : Approximate) (given : Result Draft Fault) → draft_of zone here text ≡ given → answer_of zone here text given ≡ Ok date
       → date.understood ≡ false → date.time ≡ itself
   drafted text date (Err x) is e silent = absurd cc
   drafted text date (Ok d) is e silent =
-      let parts = answer-parts text (settle d) (filled_time zone here.shown (settle d).last.offset (settle d).fields) date e in
+      let parts = answer-parts text (settle d) (filled_time zone here.shown.clock (settle d).last (settle d).fields) date e in
       let unheard : d.understood ≡ false = sym (settle-understood zone here d) ∙ sym parts.0 ∙ silent in
       let first = draft-idle zone here text d is unheard in
       let settled : settle d ≡ d = settle-idle zone here d (ap (λ (x : Draft). x.waiting) first) in
-      let fields : (settle d).fields ≡ clock_fields here.shown = ap (λ (x : Draft). x.fields) settled ∙ ap (λ (x : Draft). x.fields) first in
-      let last : (settle d).last ≡ last_of here.shown = ap (λ (x : Draft). x.last) settled ∙ ap (λ (x : Draft). x.last) first in
+      let fields : (settle d).fields ≡ clock_fields here.shown.clock = ap (λ (x : Draft). x.fields) settled ∙ ap (λ (x : Draft). x.fields) first in
+      let last : (settle d).last ≡ last_of (pos 0) here.shown = ap (λ (x : Draft). x.last) settled ∙ ap (λ (x : Draft). x.last) first in
       same-time date.time itself
-      (parts.1 ∙ ap₂ (λ (clock : LastShown) (f : Fields). filled_time zone here.shown clock.offset f) last fields ∙ (now-reached moment shown).filled_now)
+      (parts.1 ∙ ap₂ (λ (clock : LastShown) (f : Fields). filled_time zone here.shown.clock clock f) last fields ∙ now-timed moment found)
 
   string-guessed : (text : List ℕ) (date : Approximate) → string_guess zone this text ≡ Ok date → date.understood ≡ false → date.time ≡ itself
   unfolding string_guess
   string-guessed text date e silent =
-      drafted text date (draft_of zone here text) refl (sym (ap (λ (s : Option LocalTime). guess_by zone this text s) (now-reached moment shown).now_shown) ∙ e) silent
+      drafted text date (draft_of zone here text) refl (sym (ap (λ (s : Option ZoneClock). guess_by zone this text s) (now-reached moment found).now_shown) ∙ e) silent
 
   guessed-so : (text : List ℕ) (date : Approximate) → guess zone this text ≡ Ok date → date.understood ≡ false → date.time ≡ itself
   unfolding guess
@@ -215,5 +215,5 @@ module _ (moment : Zoned) (shown : IsShownThere moment (now_of moment).seconds) 
       by false e = absurd cc
 
 pub moment-unless : (moment : Zoned) (text : List ℕ) → IsMomentUnlessUnderstood moment text
-moment-unless moment text date shown answers silent =
-    exact-or moment shown text date (date_of (zone_of moment) (said_by (now_of moment) text)) (sym answers) silent
+moment-unless moment text date found answers silent =
+    exact-or moment found text date (date_of (zone_of moment) (said_by (now_of moment) text)) (sym answers) silent

@@ -2,7 +2,7 @@ use Rattle.std.proofs.Common.{sym, subst}
 use Rattle.gix_date.specs.Relative.Steps.{zone_of}
 use Rattle.git_date.specs.Approximate.Reading.{step, draft_of}
 use Rattle.git_date.specs.Approximate.Drafts.{first_draft}
-use Rattle.git_date.specs.Approximate.Zones.{choices_of}
+use Rattle.git_date.specs.Exact.Zones.{states_of}
 use Rattle.git_date.specs.Tokens.Tokens.{token_of}
 use Rattle.git_date.specs.declared.approximate.drafts.Draft.{Draft}
 use Rattle.git_date.proofs.Text.Folds.{Left, left-all, left-none, left-ends, left-next, draft-refused, draft-next}
@@ -11,20 +11,20 @@ use Rattle.git_date.proofs.approximate.answer.draft_of.Goals as goal
 pub tokens-init : goal.tokens-init
 unfolding draft_of
 tokens-init c =
-    subst (λ (d : Draft). Left (step (choices_of (zone_of c.args.moment)) c.args.today.now) (draft_of (choices_of (zone_of c.args.moment)) c.args.today.now c.args.text.now) c.args.text.now d) (sym c.first-draft.ensures)
-    (left-all (step (choices_of (zone_of c.args.moment)) c.args.today.now) c.args.text.now (first_draft c.args.today.now.shown))
+    subst (λ (d : Draft). Left (step (states_of (zone_of c.args.moment)) c.args.today.now) (draft_of (states_of (zone_of c.args.moment)) c.args.today.now c.args.text.now) c.args.text.now d) (sym c.first-draft.ensures)
+    (left-all (step (states_of (zone_of c.args.moment)) c.args.today.now) c.args.text.now (first_draft c.args.today.now.shown))
 
 pub tokens-preserved : goal.tokens-preserved
 tokens-preserved c =
-    left-next (step (choices_of (zone_of c.args.moment)) c.args.today.now) (draft_of (choices_of (zone_of c.args.moment)) c.args.today.now c.args.text.now) c.tokens.rest.now c.in-Some.after.now c.in-Ok.step.1.now c.tokens.draft c.in-Ok.step.0
+    left-next (step (states_of (zone_of c.args.moment)) c.args.today.now) (draft_of (states_of (zone_of c.args.moment)) c.args.today.now c.args.text.now) c.tokens.rest.now c.in-Some.after.now c.in-Ok.step.1.now c.tokens.draft c.in-Ok.step.0
     (token_of c.in-Some.token) c.tokens.invariant c.in-Some.ensures.tokens c.in-Some.ensures.shorter
-    (draft-next (choices_of (zone_of c.args.moment)) c.args.today.now c.tokens.draft c.in-Ok.step.0 (token_of c.in-Some.token) _ _ c.in-Ok.ensures.value) c.in-Ok.ensures.shorter
+    (draft-next (states_of (zone_of c.args.moment)) c.args.today.now c.tokens.draft c.in-Ok.step.0 (token_of c.in-Some.token) _ _ c.in-Ok.ensures.value) c.in-Ok.ensures.shorter
 
 pub returns : goal.returns
-returns c = left-none (step (choices_of (zone_of c.args.moment)) c.args.today.now) (draft_of (choices_of (zone_of c.args.moment)) c.args.today.now c.args.text.now) c.tokens.rest.now c.tokens.draft c.tokens.invariant c.in_default.ensures.tokens
+returns c = left-none (step (states_of (zone_of c.args.moment)) c.args.today.now) (draft_of (states_of (zone_of c.args.moment)) c.args.today.now c.args.text.now) c.tokens.rest.now c.tokens.draft c.tokens.invariant c.in_default.ensures.tokens
 
 pub returns-in-Err : goal.returns-in-Err
 returns-in-Err c =
-    left-ends (step (choices_of (zone_of c.args.moment)) c.args.today.now) (draft_of (choices_of (zone_of c.args.moment)) c.args.today.now c.args.text.now) _ c.tokens.rest.now c.in-Some.after.now c.tokens.draft (token_of c.in-Some.token)
+    left-ends (step (states_of (zone_of c.args.moment)) c.args.today.now) (draft_of (states_of (zone_of c.args.moment)) c.args.today.now c.args.text.now) _ c.tokens.rest.now c.in-Some.after.now c.tokens.draft (token_of c.in-Some.token)
     c.tokens.invariant c.in-Some.ensures.tokens c.in-Some.ensures.shorter
-    (draft-refused (choices_of (zone_of c.args.moment)) c.args.today.now c.tokens.draft (token_of c.in-Some.token) _ c.in-Err.fault c.in-Err.ensures.value)
+    (draft-refused (states_of (zone_of c.args.moment)) c.args.today.now c.tokens.draft (token_of c.in-Some.token) _ c.in-Err.fault c.in-Err.ensures.value)

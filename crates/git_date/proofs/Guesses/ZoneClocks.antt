@@ -1,0 +1,58 @@
+-- What a zone's clock shows at an instant, and at which instant a clock is found.
+use Rattle.std.proofs.Common.{◌≡◌, ◌∙◌, ◌+ℤ◌, ◌-ℤ◌, ◌^◌, ℕ, ℤ, pos, neg_ℤ, Bool, true, false, cond, Option, Some, None, Result, FitsSigned, w32, option_map, option_and_then, refl, ap, arith}
+use Rattle.std.specs.Prelude.{ok_or}
+use Rattle.jiff.specs.Types.{TimeZone}
+use Rattle.jiff.specs.Words.{nanos_of_seconds}
+use Rattle.jiff_core.proofs.SignedLemmas.{signed_arith}
+use Rattle.jiff_core.specs.Calendar.{IsBetween}
+use Rattle.gix_date.proofs.Fields.Instants.{instant_holds}
+use Rattle.gix_date.specs.Fields.Layout.{LocalTime}
+use Rattle.gix_date.specs.Fields.Zoned.{is_instant}
+use Rattle.git_date.specs.Approximate.Clocks.{shown_at}
+use Rattle.git_date.specs.Approximate.Zones.{clock_at, shown_in, found_by, found_at, filled, moved_to, before, fill}
+use Rattle.git_date.specs.Exact.Zones.{States, states_of, state_there, before_leap, found_offset}
+use Rattle.git_date.specs.Tokens.Steps.{and_then}
+use Rattle.git_date.specs.declared.approximate.drafts.Draft.{Draft}
+use Rattle.git_date.specs.declared.approximate.drafts.LastShown.{LastShown}
+use Rattle.git_date.specs.declared.approximate.zone.Found.{Found}
+use Rattle.git_date.specs.declared.fault.Fault.{Fault}
+use Rattle.git_date.specs.declared.fault.Fault.TheVariants.{Range}
+use Rattle.git_date.specs.declared.zones.ZoneState.{ZoneState}
+
+-- a zone says something of instants alone
+pub is-instant-of : (tz : TimeZone) (s : ℤ) (there : ZoneState) → Some there ≡ states_of tz s → is_instant s ≡ true
+is-instant-of tz s there h = by (is_instant s) h
+  where
+    by : (b : Bool) → Some there ≡ cond b (Some (state_there tz (nanos_of_seconds s))) None → b ≡ true
+    by true h = refl
+    by false h = absurd cc
+
+-- what the zone's clock shows
+pub shown-there : (zone : States) (instant : ℤ) (there : ZoneState) (shown : Option LocalTime) → Some there ≡ zone instant
+    → shown ≡ shown_at (instant +ℤ there.offset) → option_map (clock_at there) shown ≡ shown_in zone instant
+unfolding shown_in
+shown-there zone instant there shown h e =
+    ap (option_map (clock_at there)) e
+    ∙ ap (option_and_then (λ (there : ZoneState). option_map (clock_at there) (shown_at (instant +ℤ there.offset)))) h
+
+-- the instant that is found is near the clock
+pub found-near : (leap : Bool) (local guess : ℤ) → is_instant (before_leap leap local) ≡ true → FitsSigned w32 guess
+    → IsBetween (neg_ℤ (pos (10 ^ 15))) (pos (10 ^ 15)) (local -ℤ guess)
+found-near true local guess e fits =
+    let within = instant_holds (local -ℤ pos 1) e in
+    (omega (arith, signed_arith, within, fits), omega (arith, signed_arith, within, fits))
+found-near false local guess e fits =
+    let within = instant_holds local e in
+    (omega (arith, signed_arith, within, fits), omega (arith, signed_arith, within, fits))
+
+pub found-there : (zone : States) (last : LastShown) (leap : Bool) (local guess : ℤ)
+    → Some guess ≡ found_offset zone (record { clock = before_leap leap local; daylight = Some last.daylight }) last.guess
+    → Some (found_by local guess) ≡ found_at zone last leap local
+unfolding found_at
+found-there zone last leap local guess h = ap (option_map (found_by local)) h
+
+-- a date that is filled in
+pub filled-by : (zone : States) (today : LocalTime) (d : Draft) (back left : ℕ) (found : Found) (r : Result Draft Fault) → Some found ≡ filled zone today d.last d.fields
+    → r ≡ moved_to zone d left (before found back) → r ≡ fill zone today d back left
+unfolding fill
+filled-by zone today d back left found r e is = is ∙ ap (λ (o : Option Found). and_then (ok_or o Range) (λ found. moved_to zone d left (before found back))) e
