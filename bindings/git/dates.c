@@ -38,11 +38,14 @@ static gix_date_instant system_now(void)
     return now;
 }
 
-/* The moment for ages and for dates of people. Git's tests set it, and Git reads an int. */
+/* The moment for ages and for dates of people: that of the system, or one that Git's tests hand in. Of that 32
+ * bits count. */
 static gix_date_instant present(void)
 {
-    const char *set = getenv("GIT_TEST_DATE_NOW");
-    const gix_date_instant now = {set ? atoi(set) : time(NULL), 0};
+    gix_date_instant now = system_now();
+    const char *handed_in = getenv("GIT_TEST_DATE_NOW");
+    if (handed_in)
+        now.seconds = (int32_t)strtoll(handed_in, NULL, 10);
     return now;
 }
 
@@ -64,19 +67,24 @@ static void add_time(struct strbuf *out, gix_date_time time)
     strbuf_addf(out, "%" PRId64 " %+05d", time.seconds, git_date_decimal_of_offset(time.offset));
 }
 
-/* Reads a date exactly, by the system's clock: first in UTC, so that no zone's file is read for a text that
- * names its offset. */
-static bool read_exactly(const char *text, gix_date_time *time)
+/* Reads a date exactly at the system's moment, in a zone. */
+static bool read_in(const gix_date_zone *zone, const char *text, git_date_exact *date)
 {
     const gix_date_instant now = system_now();
-    git_date_exact date;
     size_t place;
-    if (git_date_parse_at(text, strlen(text), &now, &utc, &date, &place) != GIX_DATE_OK ||
-        (!date.has_offset &&
-         git_date_parse_at(text, strlen(text), &now, own_zone(), &date, &place) != GIX_DATE_OK))
-        return false;
-    *time = date.time;
-    return true;
+    return git_date_parse_at(text, strlen(text), &now, zone, date, &place) == GIX_DATE_OK;
+}
+
+/* Most texts name their offset: for these no zone's file is read. */
+static bool read_exactly(const char *text, gix_date_time *time)
+{
+    git_date_exact date;
+    bool is_read = read_in(&utc, text, &date);
+    if (is_read && !date.has_offset)
+        is_read = read_in(own_zone(), text, &date);
+    if (is_read)
+        *time = date.time;
+    return is_read;
 }
 
 int parse_date_basic(const char *text, timestamp_t *seconds, int *minutes)
@@ -100,18 +108,25 @@ int parse_date(const char *text, struct strbuf *out)
     return 0;
 }
 
-timestamp_t approxidate_careful(const char *text, int *error)
+/* The seconds of a date of people that is no exact one: now, if it is refused. */
+static timestamp_t read_approximately(const char *text, bool *understood)
 {
     const gix_date_instant now = present();
-    git_date_approximate date = {{now.seconds, 0}, 0, false};
+    git_date_approximate date;
     size_t place;
-    const bool is_read =
-        read_exactly(text, &date.time) ||
-        (git_date_approxidate_at(text, strlen(text), &now, own_zone(), &date, &place) == GIX_DATE_OK &&
-         date.understood);
+    uint32_t status = git_date_approxidate_at(text, strlen(text), &now, own_zone(), &date, &place);
+    *understood = status == GIX_DATE_OK && date.understood;
+    return status == GIX_DATE_OK ? date.time.seconds : now.seconds;
+}
+
+timestamp_t approxidate_careful(const char *text, int *error)
+{
+    gix_date_time exact;
+    bool understood = read_exactly(text, &exact);
+    timestamp_t seconds = understood ? exact.seconds : read_approximately(text, &understood);
     if (error)
-        *error = !is_read;
-    return date.time.seconds;
+        *error = !understood;
+    return seconds;
 }
 
 timestamp_t approxidate_relative(const char *text)
@@ -122,14 +137,22 @@ timestamp_t approxidate_relative(const char *text)
 int parse_expiry_date(const char *text, timestamp_t *seconds)
 {
     const gix_date_instant now = present();
-    git_date_expiry expiry;
+    git_date_expiry expiry = {.kind = GIT_DATE_BEFORE};
     size_t place;
     int error = 0;
-    if (git_date_expiry_at(text, strlen(text), &now, own_zone(), &expiry, &place) != GIX_DATE_OK ||
-        expiry.kind == GIT_DATE_BEFORE)
+    /* What it refuses is a date of people, as any text but the words for never and for all. */
+    if (git_date_expiry_at(text, strlen(text), &now, own_zone(), &expiry, &place) != GIX_DATE_OK)
+        expiry.kind = GIT_DATE_BEFORE;
+    switch (expiry.kind) {
+    case GIT_DATE_NEVER:
+        *seconds = 0;
+        break;
+    case GIT_DATE_ALL:
+        *seconds = TIME_MAX;
+        break;
+    default:
         *seconds = approxidate_careful(text, &error);
-    else
-        *seconds = expiry.kind == GIT_DATE_NEVER ? 0 : TIME_MAX;
+    }
     return error;
 }
 

@@ -57,6 +57,12 @@ pub(crate) fn state_at(zone: TimeZone<'_>, seconds: i64) -> Option<ZoneState>
     if !is_instant(seconds) {
         return None;
     }
+    if let Ok(offset) = zone.to_fixed_offset() {
+        return Some(ZoneState {
+            offset: offset.seconds(),
+            daylight: false,
+        });
+    }
     let Ok(at) = Timestamp::from_second(seconds) else {
         return None;
     };

@@ -20,11 +20,8 @@ use std::test::Fail;
 
 #[test]
 fn a_header_is_written_again(rt: HostRuntime) -> Result<(), Error> {
-    assert_eq!(rt;
-        written_again("1660874655 +0800")?.as_str(),
-        "1660874655 +0800"
-    );
-    assert_eq!(rt; written_again("12abc +0100")?.as_str(), "12 +0100");
+    assert!(rt; written_again("1660874655 +0800")?.as_str() == "1660874655 +0800");
+    assert!(rt; written_again("12abc +0100")?.as_str() == "12 +0100");
     assert!(rt; matches!(written_again("yesterday"), Err(Error::InvalidTime)));
     Ok(())
 }
@@ -32,7 +29,7 @@ fn a_header_is_written_again(rt: HostRuntime) -> Result<(), Error> {
 #[test]
 fn a_stored_time_is_read(rt: HostRuntime) -> Result<(), Error> {
     let time = stored_time(rt.alloc(), "1660874655 +0800")?;
-    assert_eq!(rt; time, Time::new(1_660_874_655, 28_800));
+    assert!(rt; time == Time::new(1_660_874_655, 28_800));
     assert!(rt; matches!(stored_time(rt.alloc(), "yesterday"), Err(Error::MissingNow)));
     Ok(())
 }
@@ -43,7 +40,7 @@ fn callers_read_and_write_headers(rt: HostRuntime) -> Result<(), Fail> {
     rewrite(" 12abc \t+0100\n", &mut out)?;
     assert!(rt; matches!(rewrite("yesterday", &mut out), Err(Error::InvalidTime)));
     assert!(rt; matches!(rewrite("0 +9999", &mut out), Err(Error::OffsetTooWide)));
-    assert_eq!(rt; out.into_inner().as_slice(), b"12 +0100".as_slice());
+    assert!(rt; out.into_inner().as_slice() == b"12 +0100".as_slice());
     let mut full = Dribble::new(3);
     assert!(rt;
         matches!(
@@ -52,23 +49,20 @@ fn callers_read_and_write_headers(rt: HostRuntime) -> Result<(), Fail> {
         )
     );
     let header = header_bytes(rt.alloc(), Time::new(1_660_874_655, 28_800))?;
-    assert_eq!(rt; header.as_slice(), b"1660874655 +0800".as_slice());
+    assert!(rt; header.as_slice() == b"1660874655 +0800".as_slice());
     let wide = header_bytes(rt.alloc(), Time::new(0, 360_000));
     assert!(rt; matches!(wide, Err(Error::OffsetTooWide)));
     let canonical = read_canonical("1660874655 +0800");
-    assert_eq!(rt; canonical, Some(Time::new(1_660_874_655, 28_800)));
-    assert_eq!(rt; read_canonical("0 -0000"), None);
-    assert_eq!(rt; read_canonical("0 +0000 "), None);
-    assert_eq!(rt; read_canonical("yesterday"), None);
+    assert!(rt; canonical == Some(Time::new(1_660_874_655, 28_800)));
+    assert!(rt; read_canonical("0 -0000") == None);
+    assert!(rt; read_canonical("0 +0000 ") == None);
+    assert!(rt; read_canonical("yesterday") == None);
     let least = Time::new(i64::MIN, -359_940);
-    assert_eq!(rt; kept_in_header(least), Some(least));
+    assert!(rt; kept_in_header(least) == Some(least));
     let mut buf = TimeBuf::default();
     Time::new(0, -12_600).to_str(&mut buf)?;
-    assert_eq!(rt; doubled(&buf)?.as_str(), "0 -0330");
-    assert_eq!(rt;
-        shown(rt.alloc(), Time::new(0, -12_600))?.as_str(),
-        "0 -0330"
-    );
+    assert!(rt; doubled(&buf)?.as_str() == "0 -0330");
+    assert!(rt; shown(rt.alloc(), Time::new(0, -12_600))?.as_str() == "0 -0330");
     assert!(rt; shown(rt.alloc(), Time::new(0, 360_000)).is_err());
     Ok(())
 }
@@ -80,15 +74,15 @@ fn callers_print_dates(rt: HostRuntime) -> Result<(), Fail> {
         Time::new(1_659_933_906, 28_800),
         format::DEFAULT,
     )?;
-    assert_eq!(rt; logged.as_str(), "Mon Aug 8 12:45:06 2022 +0800");
+    assert!(rt; logged.as_str() == "Mon Aug 8 12:45:06 2022 +0800");
     let beyond = log_date(rt.alloc(), Time::new(5, 93_600), format::DEFAULT)?;
-    assert_eq!(rt; beyond.as_str(), "5");
+    assert!(rt; beyond.as_str() == "5");
     let logged = log_text(Time::new(1_659_933_906, 28_800), format::DEFAULT);
-    assert_eq!(rt; logged.as_str(), "Mon Aug 8 12:45:06 2022 +0800");
+    assert!(rt; logged.as_str() == "Mon Aug 8 12:45:06 2022 +0800");
     let beyond = log_text(Time::new(5, 93_600), format::DEFAULT);
-    assert_eq!(rt; beyond.as_str(), "5");
+    assert!(rt; beyond.as_str() == "5");
     let iso = iso_date(rt.alloc(), Time::new(1_660_874_655, 28_800))?;
-    assert_eq!(rt; iso.as_str(), "2022-08-19 10:04:15 +0800");
+    assert!(rt; iso.as_str() == "2022-08-19 10:04:15 +0800");
     assert!(rt; matches!(iso_date(rt.alloc(), Time::MAX), Err(Error::Conversion)));
     Ok(())
 }
@@ -96,7 +90,7 @@ fn callers_print_dates(rt: HostRuntime) -> Result<(), Fail> {
 #[test]
 fn callers_parse_dates(rt: HostRuntime) -> Result<(), Fail> {
     let date = absolute_date(rt.alloc(), "2018-12-24")?;
-    assert_eq!(rt; date, Time::new(1_545_609_600, 0));
+    assert!(rt; date == Time::new(1_545_609_600, 0));
     assert!(rt; matches!(absolute_date(rt.alloc(), "now"), Err(Error::MissingNow)));
     let wide = Time::new(i64::MIN, -86_340);
     assert!(rt; matches!(kept_in_date(rt.alloc(), wide), Ok(kept) if kept == wide));
@@ -108,7 +102,7 @@ fn callers_parse_dates(rt: HostRuntime) -> Result<(), Fail> {
     assert!(rt; !asks_for_a_moment("2008-02-14 20:30:45.2 days ago"));
     assert!(rt; asks_for_a_moment("2 days ago"));
     let typed = date_typed(rt.alloc(), "2 days ago", Time::new(1_698_400_800, 7200))?;
-    assert_eq!(rt; typed, Time::new(1_698_228_000, 7200));
+    assert!(rt; typed == Time::new(1_698_228_000, 7200));
     assert!(rt;
         matches!(
             date_typed(rt.alloc(), "now", Time::MAX),
@@ -134,7 +128,7 @@ fn callers_say_what_was_not_understood(rt: HostRuntime) -> Result<(), Fail> {
 #[test]
 fn callers_ask_the_machine(rt: HostRuntime) -> Result<(), Fail> {
     let clock = Timestamp::from_second(1_660_874_655)?;
-    assert_eq!(rt; authored_in_utc(clock), Time::new(1_660_874_655, 0));
+    assert!(rt; authored_in_utc(clock) == Time::new(1_660_874_655, 0));
     let zone = TimeZone::posix("CST-8")?;
     assert!(rt;
         matches!(

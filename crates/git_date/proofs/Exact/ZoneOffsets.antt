@@ -1,7 +1,7 @@
 -- What a zone says of instants, and how far its clock is from UTC.
 use Rattle.std.proofs.Common.{◌≡◌, ◌∙◌, ℤ, Bool, true, false, cond, Option, Some, None, Result, Ok, Err, refl, sym, pos, ◌*ℤ◌, arith, ap, nat_eq, of_z, FitsSigned, w32}
 use Rattle.jiff.specs.Types.{TimeZone, UTC, Unknown, Fixed, Posix, Tzif}
-use Rattle.jiff.specs.Words.{nanos_of_seconds, offset_at, IsInfoAt, IsOffsetSeconds}
+use Rattle.jiff.specs.Words.{nanos_of_seconds, offset_at, IsFixed, IsInfoAt, IsOffsetSeconds}
 use Rattle.jiff_core.proofs.SignedLemmas.{nat_eq-bits}
 use Rattle.jiff_core.specs.declared.Offset.{Offset}
 use Rattle.jiff_tz.specs.Flag.{is_dst}
@@ -46,6 +46,15 @@ unfolding daylight_at
 daylight-told (Posix z) n info h = ap (λ (i : OffsetInfo). is_dst i.dst) h
 daylight-told (Tzif z) n info h = ap (λ (i : OffsetInfo). is_dst i.dst) h
 daylight-told x n info h = ap is_dst h.2
+
+-- a zone of one offset has no daylight saving time
+pub fixed-flag : (tz : TimeZone) (n : ℤ) → IsFixed tz → daylight_at tz n ≡ false
+unfolding daylight_at
+fixed-flag UTC n h = refl
+fixed-flag Unknown n h = refl
+fixed-flag (Fixed offset) n h = refl
+fixed-flag (Posix z) n h = absurd h
+fixed-flag (Tzif z) n h = absurd h
 
 -- what holds at an instant, by a rule or a table, has the offset that the zone has there
 

@@ -8,18 +8,10 @@ use Rattle.git_date.specs.declared.zones.decimals.TheConstants.{WIDEST}
 abbrev pub with_sign : ℤ → ℕ → ℤ
 with_sign n size = if int_lt n (pos 0) then neg_ℤ (pos size) else pos size
 
--- the seconds of a number of hours and two digits of minutes
-abbrev pub decimal_seconds : ℕ → ℕ
-decimal_seconds decimal = distance (decimal / 100) (decimal % 100)
-
--- the number of the whole minutes in seconds
-abbrev pub whole_decimal : ℕ → ℕ
-whole_decimal seconds = 100 * hours_in seconds + minutes_in seconds
-
 -- the seconds of a number of Git's, or the most of its sign
 unfoldable pub offset_of_decimal : ℤ → ℤ
-offset_of_decimal decimal = with_sign decimal (min (decimal_seconds (unsigned_abs decimal)) WIDEST)
+offset_of_decimal decimal = with_sign decimal (min (distance (unsigned_abs decimal / 100) (unsigned_abs decimal % 100)) WIDEST)
 
 -- the number of Git's for an offset, without the seconds of a minute
 unfoldable pub decimal_of_offset : ℤ → ℤ
-decimal_of_offset offset = with_sign offset (whole_decimal (unsigned_abs offset))
+decimal_of_offset offset = with_sign offset (100 * hours_in (unsigned_abs offset) + minutes_in (unsigned_abs offset))

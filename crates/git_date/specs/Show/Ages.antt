@@ -17,24 +17,18 @@ minutes_of seconds = rounded seconds 60
 abbrev pub hours_of : ℕ → ℕ
 hours_of seconds = rounded (minutes_of seconds) 60
 
-abbrev pub days_of : ℕ → ℕ
-days_of seconds = rounded (hours_of seconds) 24
-
--- a year has twelve months of 730 hours
-abbrev pub whole_months : ℕ → ℕ
-whole_months days = rounded (24 * days) 730
-
 -- years and the months beyond them
 abbrev pub in_years_and_months : ℕ → Age
 in_years_and_months months = Years (months / 12) (months % 12)
 
--- from days on: days below two weeks, weeks below ten, months below a year, years and months below five years, years
+-- From days on: days below two weeks, weeks below ten, months below a year, years and months below five years, years. There a month is one
+-- of 730 hours.
 unfoldable pub age_of_days : ℕ → Age
 age_of_days days =
     if nat_lt days 14 then Days days
     else (if nat_lt days 70 then Weeks (rounded days 7)
     else (if nat_lt days 365 then Months (rounded days 30)
-    else (if nat_lt days 1825 then in_years_and_months (whole_months days)
+    else (if nat_lt days 1825 then in_years_and_months (rounded (24 * days) 730)
     else Years ((days + 183) / 365) 0)))
 
 -- the age of so many seconds: seconds below 90, minutes below 90, hours below 36, and then by days
@@ -43,14 +37,11 @@ age_of seconds =
     if nat_lt seconds 90 then Seconds seconds
     else (if nat_lt (minutes_of seconds) 90 then Minutes (minutes_of seconds)
     else (if nat_lt (hours_of seconds) 36 then Hours (hours_of seconds)
-    else age_of_days (days_of seconds)))
-
-abbrev pub plural : ℕ → List ℕ
-plural n = if n == 1 then [] else codes "s"
+    else age_of_days (rounded (hours_of seconds) 24)))
 
 -- a count and its unit: `1 day`, `2 days`
 abbrev pub counted : ℕ → List ℕ → List ℕ
-counted n unit = decimal n ++ space ∷ unit ++ plural n
+counted n unit = decimal n ++ space ∷ unit ++ (if n == 1 then [] else codes "s")
 
 abbrev pub and_months : ℕ → List ℕ
 and_months months = if months == 0 then [] else codes ", " ++ counted months (codes "month")

@@ -23,15 +23,11 @@ own kind = record { kind = kind; local = false }
 abbrev pub in_zone : DateKind → DateMode
 in_zone kind = record { kind = kind; local = true }
 
-abbrev pub own_row : List ℕ × DateKind → List ℕ × DateMode
-own_row row = (row.0, own row.1)
-
-abbrev pub zone_row : List ℕ × DateKind → List ℕ × DateMode
-zone_row row = (row.0 ++ codes "-local", in_zone row.1)
-
 -- all names: those of the kinds, alone and before `-local`, and `local`, which is `default-local`
 abbrev pub mode_rows : List (List ℕ × DateMode)
-mode_rows = map own_row kind_rows ++ map zone_row kind_rows ++ (codes "local", in_zone Default) ∷ []
+mode_rows =
+    map (λ row. (row.0, own row.1)) kind_rows ++ map (λ row. (row.0 ++ codes "-local", in_zone row.1)) kind_rows
+    ++ (codes "local", in_zone Default) ∷ []
 
 -- the mode that a text names, in small letters alone
 unfoldable pub mode_named : List ℕ → Option DateMode

@@ -54,15 +54,11 @@ spaced_offset_text offset = space ∷ written_offset_text [] offset
 abbrev pub unknown_decimal : ℤ
 unknown_decimal = neg_ℤ (pos 1)
 
--- what a clock shows that has counted so many seconds since 1970
-abbrev pub clock_after : ℤ → LocalTime
-clock_after local = clock_of (record { seconds = local; offset = pos 0 })
-
--- the same from 1970 on, and in years of four digits
+-- what a clock shows that has counted so many seconds, from 1970 on and in years of four digits
 abbrev pub dated_clock : ℤ → Result LocalTime OwnDateError
 dated_clock local =
     if lt_z local (pos 0) then Err BeforeEpoch
-    else (if lt_z last_of_year_9999 local then Err Range else Ok (clock_after local))
+    else (if lt_z last_of_year_9999 local then Err Range else Ok (clock_of (record { seconds = local; offset = pos 0 })))
 
 -- the clock of a time, unless its offset is too wide
 abbrev pub clock_by : Result Time IdentFault → Result LocalTime OwnDateError
@@ -128,14 +124,10 @@ own_shown_by Raw now t = Ok (decimal_text t.seconds ++ spaced_offset_text t.offs
 own_shown_by Human now t = shown_of_clock (human_by now t (zone_clock now.zone now.seconds)) (line_clock t)
 own_shown_by kind now t = shown_of_clock (λ clock. Ok (own_clock_text kind t.offset clock)) (line_clock t)
 
--- seconds alone, as the time that shows no offset of its own
-abbrev pub bare_time : GitTime → Time
-bare_time t = record { seconds = t.seconds; offset = pos 0 }
-
 -- What Git shows of an identity line's time. A mode by the zone's clock and a kind without offset show what they show of any time
 -- of these seconds. Before 1970 nothing is shown.
 unfoldable pub own_shown : Moment → DateMode → GitTime → Result (List ℕ) OwnDateError
 own_shown now mode t =
     if lt_z t.seconds (pos 0) then Err BeforeEpoch
-    else (if mode.local || is_without_offset mode.kind then ok_or (shown_by mode.kind now mode.local (bare_time t)) Range
+    else (if mode.local || is_without_offset mode.kind then ok_or (shown_by mode.kind now mode.local (record { seconds = t.seconds; offset = pos 0 })) Range
     else own_shown_by mode.kind now t)

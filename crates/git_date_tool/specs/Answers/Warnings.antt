@@ -22,13 +22,9 @@ word_len [] = 0
 word_len (b ∷ bs) =
     if b == plus || b == minus then 1 + prefix_len is_ascii_alphanumeric bs else prefix_len is_ascii_alphanumeric (b ∷ bs)
 
--- that word
-abbrev pub word_of : List ℕ → List ℕ
-word_of rest = take (word_len rest) rest
-
--- those from a place on
+-- the word from a place on
 abbrev pub word_at : List ℕ → ℕ → List ℕ
-word_at text place = word_of (drop place text)
+word_at text place = take (word_len (drop place text)) (drop place text)
 
 -- what is said of what was found in a text
 abbrev pub warning_of : List ℕ → Approximate → Told
@@ -63,10 +59,7 @@ abbrev pub called : Numbered → List ℕ
 called Line = codes "git_date: line "
 called Text = codes "git_date: text "
 
--- what is said of the text with this number, in one line
-abbrev pub told_of : Numbered → ℕ → List ℕ → List ℕ
-told_of numbered number words = with_newline (called numbered ++ (decimal number ++ words))
-
--- the line of a warning, if there is one
+-- what is said of the text with this number, in one line, if something is
 abbrev pub warning_line : Numbered → ℕ → Option (List ℕ) → Option (List ℕ)
-warning_line numbered number words = option_map (told_of numbered number) words
+warning_line numbered number words =
+    option_map (λ (words : List ℕ). with_newline (called numbered ++ (decimal number ++ words))) words

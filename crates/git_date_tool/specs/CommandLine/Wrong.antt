@@ -103,9 +103,6 @@ late_option = codes "stands after a text; write options before all texts, or -- 
 abbrev pub not_text : List ℕ
 not_text = codes "a word is not UTF-8"
 
-abbrev pub no_moment : List ℕ
-no_moment = codes "is no moment: "
-
 -- how begins what is said of it
 abbrev pub zone_lead : ZoneText → List ℕ
 zone_lead (texts.Zone text) = codes "is no zone: "
@@ -130,7 +127,7 @@ zone_fault_text faults.NotTzif = codes "its file is no TZif"
 -- how what is said begins
 abbrev pub wrong_lead : WrongWords → List ℕ
 wrong_lead (WrongFormat word fault) = no_format
-wrong_lead (NoMoment text why) = no_moment
+wrong_lead (NoMoment text why) = codes "is no moment: "
 wrong_lead (NoZone text fault) = zone_lead text
 wrong_lead _ = []
 

@@ -83,9 +83,6 @@ abbrev pub IsRestZone : List ℕ → TimeZone → Type 0
 IsRestZone [] zone = zone ≡ UTC
 IsRestZone (b ∷ bs) zone = IsPosixZone (b ∷ bs) zone ⊎ ((read_whole (b ∷ bs) ≡ None) × IsNamedZone (b ∷ bs) zone)
 
-abbrev pub IsTzZone : List ℕ → TimeZone → Type 0
-IsTzZone tz zone = IsRestZone (without_colon tz) zone
-
 -- the zone of the machine: the table of its file, or UTC
 abbrev pub IsMachineZone : TimeZone → Type 0
 IsMachineZone zone = IsFileZone zone ⊎ (zone ≡ UTC)
@@ -93,7 +90,7 @@ IsMachineZone zone = IsFileZone zone ⊎ (zone ≡ UTC)
 -- the zone that is asked for: by ZONE, or else by some value of `TZ`, or else the machine's
 abbrev pub IsAskedZone : Option (List ℕ) → TimeZone → Type 0
 IsAskedZone (Some text) zone = IsTextZone text zone
-IsAskedZone None zone = ((tz : List ℕ) × IsTzZone tz zone) ⊎ IsMachineZone zone
+IsAskedZone None zone = ((tz : List ℕ) × IsRestZone (without_colon tz) zone) ⊎ IsMachineZone zone
 
 -- the zone that is asked for is that of a file, or of the system
 abbrev pub NeedsSystem : Option (List ℕ) → Type 0

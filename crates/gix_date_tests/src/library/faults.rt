@@ -1,6 +1,6 @@
 //! The faults of `gix_date`: the texts that they carry, and what they show.
 use crate::library::names::refused;
-use gix_date::{Error, ParseError, RawOffsets};
+use gix_date::{Error, ParseError};
 use std::test::Fail;
 use std::{io, str};
 
@@ -21,9 +21,9 @@ const UNKNOWN_X: &str =
 #[test]
 fn a_refused_text_shows_as_itself(rt: HostRuntime) -> Result<(), Fail> {
     let input = refused(rt.alloc(), "1:2 \u{e9}", None).ok_or("a date")?;
-    assert_eq!(rt; input.as_bytes(), b"1:2 \xc3\xa9".as_slice());
+    assert!(rt; input.as_bytes() == b"1:2 \xc3\xa9".as_slice());
     let text = format!(in rt.alloc(); "{input}")?;
-    assert_eq!(rt; text.as_str(), "1:2 \u{e9}");
+    assert!(rt; text.as_str() == "1:2 \u{e9}");
     let debug = format!(in rt.alloc(); "{input:?}")?;
     assert!(rt; !debug.is_empty());
     Ok(())
@@ -50,7 +50,7 @@ fn a_text_of_any_length_comes_back(rt: HostRuntime) -> Result<(), Fail> {
         let bytes = vec![in rt.alloc(); b'x'; length]?;
         let text = str::from_utf8(bytes.as_slice()).unwrap_or("0");
         let input = refused(rt.alloc(), text, None).ok_or("a date")?;
-        assert_eq!(rt; input.as_bytes(), bytes.as_slice(), "{length}");
+        assert!(rt; input.as_bytes() == bytes.as_slice(), "{length}");
     }
     Ok(())
 }
@@ -83,8 +83,8 @@ fn each_fault_says_what_is_wrong(rt: HostRuntime) -> Result<(), Fail> {
         ),
         (Error::Memory, "out of memory", "Memory"),
     ] {
-        assert_eq!(rt; format!(in rt.alloc(); "{fault}")?.as_str(), text);
-        assert_eq!(rt; format!(in rt.alloc(); "{fault:?}")?.as_str(), debug);
+        assert!(rt; format!(in rt.alloc(); "{fault}")?.as_str() == text);
+        assert!(rt; format!(in rt.alloc(); "{fault:?}")?.as_str() == debug);
     }
     Ok(())
 }
@@ -94,21 +94,11 @@ fn a_refused_text_stands_in_its_fault(rt: HostRuntime) -> Result<(), Fail> {
     let unknown = refused(rt.alloc(), "x", None).ok_or("a date")?;
     let beyond = refused(rt.alloc(), "x", None).ok_or("a date")?;
     let text = format!(in rt.alloc(); "{}", Error::UnknownFormat { input: unknown })?;
-    assert_eq!(rt; text.as_str(), UNKNOWN_X);
+    assert!(rt; text.as_str() == UNKNOWN_X);
     let text = format!(in rt.alloc(); "{}", Error::DateConversion { input: beyond })?;
-    assert_eq!(rt;
-        text.as_str(),
-        "the date is beyond the last instant that can be computed with: \"x\""
+    assert!(rt;
+        text.as_str() == "the date is beyond the last instant that can be computed with: \"x\""
     );
-    Ok(())
-}
-
-#[test]
-fn rules_have_debug_forms(rt: HostRuntime) -> Result<(), Fail> {
-    let quarter = format!(in rt.alloc(); "{:?}", RawOffsets::Quarter)?;
-    assert_eq!(rt; quarter.as_str(), "Quarter");
-    let whole = format!(in rt.alloc(); "{:?}", RawOffsets::WholeMinutes)?;
-    assert_eq!(rt; whole.as_str(), "WholeMinutes");
     Ok(())
 }
 
@@ -124,8 +114,8 @@ fn each_refusal_without_its_text_says_what_is_wrong(rt: HostRuntime) -> Result<(
         (ParseError::MissingNow, NO_MOMENT, "MissingNow"),
         (ParseError::Range, NO_INSTANT, "Range"),
     ] {
-        assert_eq!(rt; format!(in rt.alloc(); "{refusal}")?.as_str(), text);
-        assert_eq!(rt; format!(in rt.alloc(); "{refusal:?}")?.as_str(), debug);
+        assert!(rt; format!(in rt.alloc(); "{refusal}")?.as_str() == text);
+        assert!(rt; format!(in rt.alloc(); "{refusal:?}")?.as_str() == debug);
     }
     Ok(())
 }

@@ -39,8 +39,8 @@ fn each_fault_of_a_format_says_what_is_wrong(rt: HostRuntime) -> Result<(), Fail
             "WidthTooLarge(7)",
         ),
     ] {
-        assert_eq!(rt; format!(in rt.alloc(); "{fault}")?.as_str(), text);
-        assert_eq!(rt; format!(in rt.alloc(); "{fault:?}")?.as_str(), debug);
+        assert!(rt; format!(in rt.alloc(); "{fault}")?.as_str() == text);
+        assert!(rt; format!(in rt.alloc(); "{fault:?}")?.as_str() == debug);
     }
     for (error, text, debug) in [
         (
@@ -55,8 +55,8 @@ fn each_fault_of_a_format_says_what_is_wrong(rt: HostRuntime) -> Result<(), Fail
             "Write(BrokenPipe)",
         ),
     ] {
-        assert_eq!(rt; format!(in rt.alloc(); "{error}")?.as_str(), text);
-        assert_eq!(rt; format!(in rt.alloc(); "{error:?}")?.as_str(), debug);
+        assert!(rt; format!(in rt.alloc(); "{error}")?.as_str() == text);
+        assert!(rt; format!(in rt.alloc(); "{error:?}")?.as_str() == debug);
     }
     Ok(())
 }
@@ -66,15 +66,12 @@ fn a_format_may_be_used_many_times(rt: HostRuntime) -> Result<(), Fail> {
     let now = TIME.to_zoned()?;
     let format = DateFormat::new("%F %R")?;
     let copied = format;
-    assert_eq!(rt; format.as_str(), "%F %R");
-    assert_eq!(rt;
-        format!(in rt.alloc(); "{copied:?}")?.as_str(),
-        "DateFormat { text: \"%F %R\" }"
-    );
+    assert!(rt; format.as_str() == "%F %R");
+    assert!(rt; format!(in rt.alloc(); "{copied:?}")?.as_str() == "DateFormat { text: \"%F %R\" }");
     let text = text_by_format(rt.alloc(), TIME, format, false, now)?;
-    assert_eq!(rt; text.as_str(), "2009-08-30 21:20");
+    assert!(rt; text.as_str() == "2009-08-30 21:20");
     let text = text_by_format(rt.alloc(), Time::new(0, 0), copied, false, now)?;
-    assert_eq!(rt; text.as_str(), "1970-01-01 00:00");
+    assert!(rt; text.as_str() == "1970-01-01 00:00");
     Ok(())
 }
 
@@ -84,13 +81,13 @@ fn a_format_shows_short_texts_without_memory(rt: HostRuntime) -> Result<(), Fail
     let mut short = ShortText::new();
     let mut brief = BriefText::new();
     assert!(rt; short_by_format(TIME, LONG, false, now.time_zone(), &mut short));
-    assert_eq!(rt; short.as_str().as_bytes(), LONG_TEXT);
+    assert!(rt; short.as_str().as_bytes() == LONG_TEXT);
     assert!(rt; brief_by_own_clock(TIME, LONG, &mut brief));
-    assert_eq!(rt; brief.as_str().as_bytes(), LONG_TEXT);
+    assert!(rt; brief.as_str().as_bytes() == LONG_TEXT);
     assert!(rt; brief_by_own_clock(TIME, "%Y-%m-%d %H:%M:%S %z", &mut brief));
-    assert_eq!(rt; brief.as_str(), "2009-08-30 21:20:00 +0200");
+    assert!(rt; brief.as_str() == "2009-08-30 21:20:00 +0200");
     assert!(rt; short_by_format(Time::new(0, 0), "%F %R", true, now.time_zone(), &mut short));
-    assert_eq!(rt; short.as_str(), "1970-01-01 02:00");
+    assert!(rt; short.as_str() == "1970-01-01 02:00");
     Ok(())
 }
 
@@ -120,7 +117,7 @@ fn a_clock_that_is_not_shown_writes_nothing(rt: HostRuntime) -> Result<(), Fail>
     for time in [Time::new(-1, 0), Time::new(4_102_444_800, 0)] {
         let mut out = Device::new(Vec::new(rt.alloc()));
         let written = show_by_format(time, format, false, now, &mut out);
-        assert_eq!(rt; written, Err(ShowError::Range));
+        assert!(rt; written == Err(ShowError::Range));
         assert!(rt; out.into_inner().is_empty());
         let text = text_by_format(rt.alloc(), time, format, false, now);
         assert!(rt; matches!(text, Err(ShowError::Range)));
@@ -135,22 +132,20 @@ fn a_shown_date_fails_at_each_of_its_writes(rt: HostRuntime) -> Result<(), Fail>
     for taken in 0..LONG_TEXT.len() {
         let mut out = Device::new(Slow::new(rt.alloc(), 1, taken, ErrorKind::StorageFull));
         let written = show_by_format(TIME, format, false, now, &mut out);
-        assert_eq!(rt;
-            written,
-            Err(ShowError::Write(ErrorKind::StorageFull)),
+        assert!(rt;
+            written == Err(ShowError::Write(ErrorKind::StorageFull)),
             "{taken}"
         );
-        assert_eq!(rt;
-            out.into_inner().taken.as_slice(),
-            &LONG_TEXT[..taken],
+        assert!(rt;
+            out.into_inner().taken.as_slice() == &LONG_TEXT[..taken],
             "{taken}"
         );
     }
     for a_call in [1, 3, 99] {
         let mut out = Device::new(Slow::new(rt.alloc(), a_call, 99, ErrorKind::Other));
         let written = show_by_format(TIME, format, false, now, &mut out);
-        assert_eq!(rt; written, Ok(()), "{a_call}");
-        assert_eq!(rt; out.into_inner().taken.as_slice(), LONG_TEXT, "{a_call}");
+        assert!(rt; written == Ok(()), "{a_call}");
+        assert!(rt; out.into_inner().taken.as_slice() == LONG_TEXT, "{a_call}");
     }
     Ok(())
 }

@@ -24,8 +24,8 @@ fn each_refusal_of_a_line_says_what_is_wrong(rt: HostRuntime) -> Result<(), Fail
             "OffsetTooWide",
         ),
     ] {
-        assert_eq!(rt; format!(in rt.alloc(); "{refusal}")?.as_str(), text);
-        assert_eq!(rt; format!(in rt.alloc(); "{refusal:?}")?.as_str(), debug);
+        assert!(rt; format!(in rt.alloc(); "{refusal}")?.as_str() == text);
+        assert!(rt; format!(in rt.alloc(); "{refusal:?}")?.as_str() == debug);
     }
     Ok(())
 }

@@ -43,7 +43,7 @@ fn usual_headers_are_found(rt: HostRuntime) -> Result<(), Fail> {
         assert!(rt; unknown_line(bytes).is_none());
     }
     let longest = b"1234567890123456 +9959\n".as_slice();
-    assert_eq!(rt; split_line(longest).ok_or("a line")?.0.len(), MAX_HEADER);
+    assert!(rt; split_line(longest).ok_or("a line")?.0.len() == MAX_HEADER);
     Ok(())
 }
 

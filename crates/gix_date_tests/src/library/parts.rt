@@ -5,7 +5,7 @@ use gix_signature::{IdentPlaces, is_kept, number, trimmed};
 #[test]
 fn three_bytes_are_left_out_between_the_ends(rt: HostRuntime) {
     for byte in 1..=255_u8 {
-        assert_eq!(rt; is_kept(byte), !b"\n<>".contains(&byte));
+        assert!(rt; is_kept(byte) == !b"\n<>".contains(&byte));
     }
 }
 

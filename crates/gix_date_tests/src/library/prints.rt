@@ -12,19 +12,15 @@ const ISO: Format = Format::Custom(ISO8601);
 fn a_format_may_have_any_pattern(rt: HostRuntime) -> Result<(), Fail> {
     let time = Time::new(0, 0);
     let day = Format::Custom(CustomFormat::new("%A %-d %B, %Z, %Q"));
-    assert_eq!(rt;
-        time.format(rt.alloc(), day)?.as_str(),
-        "Thursday 1 January, UTC, UTC"
-    );
+    assert!(rt; time.format(rt.alloc(), day)?.as_str() == "Thursday 1 January, UTC, UTC");
     for pattern in ["%!", "%", "%Y-%"] {
         let format = Format::Custom(CustomFormat::new(pattern));
         assert!(rt;
             matches!(time.format(rt.alloc(), format), Err(Error::Pattern)),
             "{pattern}"
         );
-        assert_eq!(rt;
-            time.format_or_unix(rt.alloc(), format)?.as_str(),
-            "0",
+        assert!(rt;
+            time.format_or_unix(rt.alloc(), format)?.as_str() == "0",
             "{pattern}"
         );
     }

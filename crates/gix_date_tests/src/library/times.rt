@@ -13,24 +13,23 @@ fn times_have_an_order(rt: HostRuntime) {
         for (k, (others, beside)) in rising.iter().enumerate() {
             let time = Time::new(*seconds, *offset);
             let other = Time::new(*others, *beside);
-            assert_eq!(rt;
-                time.cmp(&other),
-                i.cmp(&k),
+            assert!(rt;
+                time.cmp(&other) == i.cmp(&k),
                 "rising-order: {time:?} {other:?}"
             );
-            assert_eq!(rt; time == other, i == k, "rising-order: {time:?} {other:?}");
+            assert!(rt;
+                (time == other) == (i == k),
+                "rising-order: {time:?} {other:?}"
+            );
         }
     }
-    assert_eq!(rt; Time::MIN.cmp(&Time::MAX), Ordering::Less);
+    assert!(rt; Time::MIN.cmp(&Time::MAX) == Ordering::Less);
 }
 
 #[test]
 fn equal_times_hash_alike(rt: HostRuntime) {
     let hashes: BuildHasherDefault<FoldHasher> = BuildHasherDefault::default();
-    assert_eq!(rt;
-        hashes.hash_one(Time::new(5, 60)),
-        hashes.hash_one(Time::new(5, 60))
-    );
+    assert!(rt; hashes.hash_one(Time::new(5, 60)) == hashes.hash_one(Time::new(5, 60)));
 }
 
 #[test]
@@ -42,9 +41,9 @@ fn a_time_is_set_where_it_is_not_zero(rt: HostRuntime) {
         ("both-set", -1, -1, true),
     ];
     for (row, seconds, offset, set) in rows {
-        assert_eq!(rt; Time::new(seconds, offset).is_set(), set, "{row}");
+        assert!(rt; Time::new(seconds, offset).is_set() == set, "{row}");
     }
-    assert_eq!(rt; Time::default(), Time::new(0, 0));
+    assert!(rt; Time::default() == Time::new(0, 0));
     assert!(rt; !Time::default().is_set());
 }
 
@@ -64,19 +63,11 @@ fn a_time_says_whether_its_texts_are_read_back(rt: HostRuntime) {
         ("offset-of-odd-seconds", 0, 30, false),
     ];
     for (row, seconds, offset, round_trips) in rows {
-        assert_eq!(rt;
-            Time::new(seconds, offset).round_trips(),
-            round_trips,
+        assert!(rt;
+            Time::new(seconds, offset).round_trips() == round_trips,
             "{row}"
         );
     }
-}
-
-#[test]
-fn a_time_has_a_debug_form(rt: HostRuntime) -> Result<(), Fail> {
-    let text = format!(in rt.alloc(); "{:?}", Time::new(5, -60))?;
-    assert_eq!(rt; text.as_str(), "Time { seconds: 5, offset: -60 }");
-    Ok(())
 }
 
 /// A value and what is read from what is written of it.
@@ -97,9 +88,9 @@ fn a_time_is_carried_by_json(rt: HostRuntime) -> Result<(), Fail> {
         Time::default(),
         Time::new(1_660_874_655, 28_800),
     ] {
-        assert_eq!(rt; carried(rt.alloc(), &time)?, time);
+        assert!(rt; carried(rt.alloc(), &time)? == time);
     }
     let text = serde_json::to_string(rt.alloc(), &Time::new(1_660_874_655, 28_800))?;
-    assert_eq!(rt; text.as_str(), "{\"seconds\":1660874655,\"offset\":28800}");
+    assert!(rt; text.as_str() == "{\"seconds\":1660874655,\"offset\":28800}");
     Ok(())
 }

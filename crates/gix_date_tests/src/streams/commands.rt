@@ -22,7 +22,10 @@ fn a_command_line_is_a_mode_and_perhaps_a_moment(rt: HostRuntime) -> Result<(), 
     ];
     for (line, wanted) in rows {
         let words = words_of(rt.alloc(), line)?;
-        assert_eq!(rt; command(rt.alloc(), words.as_slice())?, wanted, "{line:?}");
+        assert!(rt;
+            command(rt.alloc(), words.as_slice())? == wanted,
+            "{line:?}"
+        );
     }
     Ok(())
 }
@@ -54,14 +57,13 @@ fn the_program_ends_with_status_1_on_a_fault(rt: HostRuntime) -> Result<(), Fail
         Slow::roomy(rt.alloc()),
         Slow::roomy(rt.alloc()),
     );
-    assert_eq!(rt; ended, Status::Failure);
-    assert_eq!(rt; ended.code(), 1);
-    assert_eq!(rt; sink.taken.as_slice(), b"canonical\n".as_slice());
-    assert_eq!(rt;
-        said.taken.as_slice(),
-        b"gix_date_tool: reading failed: connection reset\n".as_slice()
+    assert!(rt; ended == Status::Failure);
+    assert!(rt; ended.code() == 1);
+    assert!(rt; sink.taken.as_slice() == b"canonical\n".as_slice());
+    assert!(rt;
+        said.taken.as_slice() == b"gix_date_tool: reading failed: connection reset\n".as_slice()
     );
-    assert_eq!(rt; (said.calls, said.flushes), (1, 0));
+    assert!(rt; (said.calls, said.flushes) == (1, 0));
     Ok(())
 }
 
@@ -69,26 +71,23 @@ fn the_program_ends_with_status_1_on_a_fault(rt: HostRuntime) -> Result<(), Fail
 fn an_unwritten_usage_line_is_said(rt: HostRuntime) -> Result<(), Fail> {
     let mut cut = Device::new(Slow::new(rt.alloc(), 9, 5, ErrorKind::BrokenPipe));
     let mut messages = Device::new(Slow::roomy(rt.alloc()));
-    assert_eq!(rt; show_usage(&mut cut, &mut messages), Status::Failure);
-    assert_eq!(rt; cut.into_inner().taken.as_slice(), b"usage".as_slice());
-    assert_eq!(rt;
-        messages.into_inner().taken.as_slice(),
-        b"gix_date_tool: writing failed: broken pipe\n".as_slice()
+    assert!(rt; show_usage(&mut cut, &mut messages) == Status::Failure);
+    assert!(rt; cut.into_inner().taken.as_slice() == b"usage".as_slice());
+    assert!(rt;
+        messages.into_inner().taken.as_slice()
+            == b"gix_date_tool: writing failed: broken pipe\n".as_slice()
     );
     let mut whole = Device::new(Slow::roomy(rt.alloc()));
     let mut messages = Device::new(Slow::roomy(rt.alloc()));
-    assert_eq!(rt; show_usage(&mut whole, &mut messages), Status::Usage);
-    assert_eq!(rt;
-        messages.into_inner().taken.as_slice(),
-        b"gix_date_tool: a word is not UTF-8\n".as_slice()
+    assert!(rt; show_usage(&mut whole, &mut messages) == Status::Usage);
+    assert!(rt;
+        messages.into_inner().taken.as_slice() == b"gix_date_tool: a word is not UTF-8\n".as_slice()
     );
     Ok(())
 }
 
 #[test]
-fn each_kind_of_fault_is_called_as_the_standard_library_has_it(
-    rt: HostRuntime,
-) -> Result<(), Fail> {
+fn faults_are_called_as_the_standard_library_has_them(rt: HostRuntime) -> Result<(), Fail> {
     for kind in KINDS {
         let more = match kind {
             ErrorKind::Uncategorized => ", as of a closed stream",
@@ -98,9 +97,9 @@ fn each_kind_of_fault_is_called_as_the_standard_library_has_it(
         let line = format!(in rt.alloc(); "gix_date_tool: reading failed: {kind}{more}\n")?;
         let text = format!(in rt.alloc(); "{}", ToolError::Write(kind))?;
         let wanted = format!(in rt.alloc(); "writing failed: {kind}{more}")?;
-        assert_eq!(rt; ended, Status::Failure, "{kind:?}");
-        assert_eq!(rt; said.taken.as_slice(), line.as_bytes(), "{kind:?}");
-        assert_eq!(rt; text.as_str(), wanted.as_str(), "{kind:?}");
+        assert!(rt; ended == Status::Failure, "{kind:?}");
+        assert!(rt; said.taken.as_slice() == line.as_bytes(), "{kind:?}");
+        assert!(rt; text.as_str() == wanted.as_str(), "{kind:?}");
     }
     Ok(())
 }
@@ -110,8 +109,8 @@ fn messages_that_are_refused_change_no_status(rt: HostRuntime) -> Result<(), Fai
     let line = b"gix_date_tool: reading failed: timed out\n".as_slice();
     for room in 0..line.len() {
         let (ended, said) = ended_with(&rt, ErrorKind::TimedOut, room)?;
-        assert_eq!(rt; ended, Status::Failure, "{room}");
-        assert_eq!(rt; said.taken.as_slice(), &line[..room], "{room}");
+        assert!(rt; ended == Status::Failure, "{room}");
+        assert!(rt; said.taken.as_slice() == &line[..room], "{room}");
     }
     Ok(())
 }
@@ -132,8 +131,8 @@ fn a_refused_command_line_reads_nothing(rt: HostRuntime) -> Result<(), Fail> {
             Slow::roomy(rt.alloc()),
             Slow::roomy(rt.alloc()),
         );
-        assert_eq!(rt; ended, Status::Usage, "{line:?}");
-        assert_eq!(rt; (source.calls, said.calls), (0, 1), "{line:?}");
+        assert!(rt; ended == Status::Usage, "{line:?}");
+        assert!(rt; (source.calls, said.calls) == (0, 1), "{line:?}");
     }
     Ok(())
 }

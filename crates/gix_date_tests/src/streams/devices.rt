@@ -8,12 +8,12 @@ use std::test::Fail;
 #[test]
 fn a_device_makes_one_write_a_call(rt: HostRuntime) -> Result<(), Fail> {
     let mut device = Device::new(Slow::new(rt.alloc(), 2, 5, ErrorKind::StorageFull));
-    assert_eq!(rt; device.put(b"abc"), Ok(2));
-    assert_eq!(rt; device.put(b"c"), Ok(1));
-    assert_eq!(rt; device.put(b"de"), Ok(2));
+    assert!(rt; device.put(b"abc") == Ok(2));
+    assert!(rt; device.put(b"c") == Ok(1));
+    assert!(rt; device.put(b"de") == Ok(2));
     let inner = device.into_inner();
-    assert_eq!(rt; inner.taken.as_slice(), b"abcde".as_slice());
-    assert_eq!(rt; (inner.calls, inner.flushes), (3, 0));
+    assert!(rt; inner.taken.as_slice() == b"abcde".as_slice());
+    assert!(rt; (inner.calls, inner.flushes) == (3, 0));
     Ok(())
 }
 
@@ -21,31 +21,31 @@ fn a_device_makes_one_write_a_call(rt: HostRuntime) -> Result<(), Fail> {
 fn a_device_makes_no_write_and_no_flush_after_a_fault(rt: HostRuntime) {
     for kind in KINDS {
         let mut device = Device::new(Slow::new(rt.alloc(), 1, 1, kind));
-        assert_eq!(rt; device.put(b"ab"), Ok(1), "{kind:?}");
+        assert!(rt; device.put(b"ab") == Ok(1), "{kind:?}");
         for _ in 0..3 {
-            assert_eq!(rt; device.put(b"b\n"), Err(kind), "{kind:?}");
+            assert!(rt; device.put(b"b\n") == Err(kind), "{kind:?}");
         }
         let inner = device.into_inner();
-        assert_eq!(rt; inner.taken.as_slice(), b"a".as_slice(), "{kind:?}");
-        assert_eq!(rt; (inner.calls, inner.flushes), (2, 0), "{kind:?}");
+        assert!(rt; inner.taken.as_slice() == b"a".as_slice(), "{kind:?}");
+        assert!(rt; (inner.calls, inner.flushes) == (2, 0), "{kind:?}");
     }
 }
 
 #[test]
 fn a_device_flushes_neither_at_a_newline_nor_after_a_long_piece(rt: HostRuntime) {
     let mut device = Device::new(Slow::new(rt.alloc(), 999, 9999, ErrorKind::Other));
-    assert_eq!(rt; device.put(b"a\n"), Ok(2));
-    assert_eq!(rt; device.put(b"\n"), Ok(1));
-    assert_eq!(rt; device.put(&[b'x'; 100]), Ok(100));
+    assert!(rt; device.put(b"a\n") == Ok(2));
+    assert!(rt; device.put(b"\n") == Ok(1));
+    assert!(rt; device.put(&[b'x'; 100]) == Ok(100));
     let inner = device.into_inner();
-    assert_eq!(rt; (inner.calls, inner.flushes), (3, 0));
+    assert!(rt; (inner.calls, inner.flushes) == (3, 0));
 }
 
 #[test]
 fn a_device_writes_nothing_behind_what_it_reads(rt: HostRuntime) {
     let mut device = Device::new(Supply::once(b"abc", 9, None));
     let mut piece = [b'#'; 100];
-    assert_eq!(rt; device.get(&mut piece), Ok(3));
+    assert!(rt; device.get(&mut piece) == Ok(3));
     assert!(rt; piece.starts_with(b"abc"));
     assert!(rt; piece.iter().filter(|b| **b == b'#').count() == 97);
 }
@@ -53,20 +53,20 @@ fn a_device_writes_nothing_behind_what_it_reads(rt: HostRuntime) {
 #[test]
 fn a_write_of_no_byte_is_a_fault(rt: HostRuntime) {
     let mut device = Device::new(Slow::new(rt.alloc(), 0, 9, ErrorKind::Other));
-    assert_eq!(rt; device.put(b"a"), Err(ErrorKind::WriteZero));
-    assert_eq!(rt; device.put(b"a"), Err(ErrorKind::WriteZero));
-    assert_eq!(rt; device.into_inner().calls, 1);
+    assert!(rt; device.put(b"a") == Err(ErrorKind::WriteZero));
+    assert!(rt; device.put(b"a") == Err(ErrorKind::WriteZero));
+    assert!(rt; device.into_inner().calls == 1);
 }
 
 #[test]
 fn an_interrupted_call_is_a_fault(rt: HostRuntime) {
     let mut writer = Device::new(Slow::new(rt.alloc(), 1, 0, ErrorKind::Interrupted));
-    assert_eq!(rt; writer.put(b"a"), Err(ErrorKind::Interrupted));
-    assert_eq!(rt; writer.into_inner().calls, 1);
+    assert!(rt; writer.put(b"a") == Err(ErrorKind::Interrupted));
+    assert!(rt; writer.into_inner().calls == 1);
     let mut reader = Device::new(Supply::of(b"x", 1, 0, Some(ErrorKind::Interrupted)));
     let mut piece = [0; 4];
-    assert_eq!(rt; reader.get(&mut piece), Err(ErrorKind::Interrupted));
-    assert_eq!(rt; reader.into_inner().calls, 1);
+    assert!(rt; reader.get(&mut piece) == Err(ErrorKind::Interrupted));
+    assert!(rt; reader.into_inner().calls == 1);
 }
 
 #[test]
@@ -75,10 +75,10 @@ fn a_device_makes_no_read_after_a_fault_and_leaves_the_piece(rt: HostRuntime) {
         let mut device = Device::new(Supply::of(b"x", 1, 0, Some(kind)));
         let mut piece = *b"abcd";
         for _ in 0..3 {
-            assert_eq!(rt; device.get(&mut piece), Err(kind), "{kind:?}");
-            assert_eq!(rt; piece.as_slice(), b"abcd".as_slice(), "{kind:?}");
+            assert!(rt; device.get(&mut piece) == Err(kind), "{kind:?}");
+            assert!(rt; piece.as_slice() == b"abcd".as_slice(), "{kind:?}");
         }
-        assert_eq!(rt; device.into_inner().calls, 1, "{kind:?}");
+        assert!(rt; device.into_inner().calls == 1, "{kind:?}");
     }
 }
 
@@ -86,15 +86,15 @@ fn a_device_makes_no_read_after_a_fault_and_leaves_the_piece(rt: HostRuntime) {
 fn a_device_reads_until_the_first_fault(rt: HostRuntime) {
     let mut device = Device::new(Supply::of(b"x", 1, 2, Some(ErrorKind::UnexpectedEof)));
     let mut piece = [0; 4];
-    assert_eq!(rt; device.get(&mut piece), Ok(1));
-    assert_eq!(rt; piece[0], b'x');
-    assert_eq!(rt; device.get(&mut piece), Ok(1));
+    assert!(rt; device.get(&mut piece) == Ok(1));
+    assert!(rt; piece[0] == b'x');
+    assert!(rt; device.get(&mut piece) == Ok(1));
     piece = *b"abcd";
     for _ in 0..3 {
-        assert_eq!(rt; device.get(&mut piece), Err(ErrorKind::UnexpectedEof));
-        assert_eq!(rt; piece.as_slice(), b"abcd".as_slice());
+        assert!(rt; device.get(&mut piece) == Err(ErrorKind::UnexpectedEof));
+        assert!(rt; piece.as_slice() == b"abcd".as_slice());
     }
-    assert_eq!(rt; device.into_inner().calls, 3);
+    assert!(rt; device.into_inner().calls == 3);
 }
 
 #[test]
@@ -102,9 +102,9 @@ fn a_device_makes_one_read_a_call_at_the_end_too(rt: HostRuntime) {
     let mut device = Device::new(Supply::once(b"ab", 9, None));
     let mut piece = [0; 4];
     for (count, calls) in [(2, 1), (0, 2), (0, 3)] {
-        assert_eq!(rt; device.get(&mut piece), Ok(count));
+        assert!(rt; device.get(&mut piece) == Ok(count));
         let inner = device.into_inner();
-        assert_eq!(rt; inner.calls, calls);
+        assert!(rt; inner.calls == calls);
         device = Device::new(inner);
     }
 }
@@ -112,8 +112,8 @@ fn a_device_makes_one_read_a_call_at_the_end_too(rt: HostRuntime) {
 #[test]
 fn put_all_asks_a_sink_no_more_after_its_fault(rt: HostRuntime) {
     let mut out = Dribble::new(2);
-    assert_eq!(rt; put_all(&mut out, b"abcde"), Err(ErrorKind::StorageFull));
-    assert_eq!(rt; out.calls, 3);
+    assert!(rt; put_all(&mut out, b"abcde") == Err(ErrorKind::StorageFull));
+    assert!(rt; out.calls == 3);
     let mut out = Dribble::new(25);
     assert!(rt;
         matches!(
@@ -121,31 +121,31 @@ fn put_all_asks_a_sink_no_more_after_its_fault(rt: HostRuntime) {
             Err(Error::Write(ErrorKind::StorageFull))
         )
     );
-    assert_eq!(rt; out.calls, 26);
+    assert!(rt; out.calls == 26);
 }
 
 #[test]
 fn a_device_over_a_slice_reads_to_its_end(rt: HostRuntime) {
     let mut device = Device::new(b"abc".as_slice());
     let mut piece = [0; 2];
-    assert_eq!(rt; device.get(&mut piece), Ok(2));
-    assert_eq!(rt; piece.as_slice(), b"ab".as_slice());
-    assert_eq!(rt; device.get(&mut piece), Ok(1));
-    assert_eq!(rt; piece[0], b'c');
-    assert_eq!(rt; device.get(&mut piece), Ok(0));
+    assert!(rt; device.get(&mut piece) == Ok(2));
+    assert!(rt; piece.as_slice() == b"ab".as_slice());
+    assert!(rt; device.get(&mut piece) == Ok(1));
+    assert!(rt; piece[0] == b'c');
+    assert!(rt; device.get(&mut piece) == Ok(0));
 }
 
 #[test]
 fn put_all_sends_all_or_answers_the_fault(rt: HostRuntime) {
     let mut whole = Device::new(Slow::new(rt.alloc(), 3, 9, ErrorKind::Other));
-    assert_eq!(rt; put_all(&mut whole, b"abcdefgh"), Ok(()));
-    assert_eq!(rt; whole.into_inner().taken.as_slice(), b"abcdefgh".as_slice());
+    assert!(rt; put_all(&mut whole, b"abcdefgh") == Ok(()));
+    assert!(rt; whole.into_inner().taken.as_slice() == b"abcdefgh".as_slice());
     let mut cut = Device::new(Slow::new(rt.alloc(), 3, 7, ErrorKind::Other));
-    assert_eq!(rt; put_all(&mut cut, b"abcdefgh"), Err(ErrorKind::Other));
-    assert_eq!(rt; cut.into_inner().taken.as_slice(), b"abcdefg".as_slice());
+    assert!(rt; put_all(&mut cut, b"abcdefgh") == Err(ErrorKind::Other));
+    assert!(rt; cut.into_inner().taken.as_slice() == b"abcdefg".as_slice());
     let mut never = Device::new(Slow::new(rt.alloc(), 3, 0, ErrorKind::Other));
-    assert_eq!(rt; put_all(&mut never, b""), Ok(()));
-    assert_eq!(rt; never.into_inner().calls, 0);
+    assert!(rt; put_all(&mut never, b"") == Ok(()));
+    assert!(rt; never.into_inner().calls == 0);
 }
 
 #[test]

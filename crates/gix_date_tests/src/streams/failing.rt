@@ -46,8 +46,8 @@ fn the_longest_text_fails_at_each_of_its_writes(rt: HostRuntime) {
             matches!(answer, Err(Error::Write(ErrorKind::StorageFull))),
             "{taken}"
         );
-        assert_eq!(rt; writer.taken.as_slice(), &LEAST[..taken], "{taken}");
-        assert_eq!(rt; writer.calls, taken + 1, "{taken}");
+        assert!(rt; writer.taken.as_slice() == &LEAST[..taken], "{taken}");
+        assert!(rt; writer.calls == taken + 1, "{taken}");
     }
 }
 
@@ -59,8 +59,8 @@ fn the_longest_text_ends_at_a_write_of_no_byte(rt: HostRuntime) {
             matches!(answer, Err(Error::Write(ErrorKind::WriteZero))),
             "{taken}"
         );
-        assert_eq!(rt; writer.taken.as_slice(), &LEAST[..taken], "{taken}");
-        assert_eq!(rt; writer.calls, taken + 1, "{taken}");
+        assert!(rt; writer.taken.as_slice() == &LEAST[..taken], "{taken}");
+        assert!(rt; writer.calls == taken + 1, "{taken}");
     }
 }
 
@@ -69,8 +69,8 @@ fn writes_of_every_length_take_the_whole_text(rt: HostRuntime) {
     for a_call in 1..=27 {
         let (answer, writer) = written(Slow::new(rt.alloc(), a_call, 99, ErrorKind::Other));
         assert!(rt; answer.is_ok(), "{a_call}");
-        assert_eq!(rt; writer.taken.as_slice(), LEAST, "{a_call}");
-        assert_eq!(rt; writer.calls, LEAST.len().div_ceil(a_call), "{a_call}");
+        assert!(rt; writer.taken.as_slice() == LEAST, "{a_call}");
+        assert!(rt; writer.calls == LEAST.len().div_ceil(a_call), "{a_call}");
     }
 }
 
@@ -86,7 +86,10 @@ fn a_run_fails_at_each_of_its_writes(rt: HostRuntime) {
                     matches!(answer, Err(ToolError::Write(ErrorKind::StorageFull))),
                     "{mode:?}, {room}"
                 );
-                assert_eq!(rt; sink.taken.as_slice(), &output[..room], "{mode:?}, {room}");
+                assert!(rt;
+                    sink.taken.as_slice() == &output[..room],
+                    "{mode:?}, {room}"
+                );
             }
         }
     }
@@ -103,12 +106,11 @@ fn a_run_ends_at_a_write_of_no_byte(rt: HostRuntime) {
                 matches!(answer, Err(ToolError::Write(ErrorKind::WriteZero))),
                 "{mode:?}, {taken}"
             );
-            assert_eq!(rt;
-                sink.taken.as_slice(),
-                &output[..taken],
+            assert!(rt;
+                sink.taken.as_slice() == &output[..taken],
                 "{mode:?}, {taken}"
             );
-            assert_eq!(rt; sink.calls, taken + 1, "{mode:?}, {taken}");
+            assert!(rt; sink.calls == taken + 1, "{mode:?}, {taken}");
         }
     }
 }
@@ -121,7 +123,7 @@ fn writes_of_every_length_take_all_replies(rt: HostRuntime) {
             let writer = Slow::new(rt.alloc(), a_call, 99, ErrorKind::Other);
             let (answer, _source, sink) = ran(rt.alloc(), mode, reader, writer);
             assert!(rt; answer.is_ok(), "{mode:?}, {a_call}");
-            assert_eq!(rt; sink.taken.as_slice(), output, "{mode:?}, {a_call}");
+            assert!(rt; sink.taken.as_slice() == output, "{mode:?}, {a_call}");
         }
     }
 }
@@ -159,7 +161,7 @@ fn a_run_fails_at_each_of_its_reads(rt: HostRuntime) {
                     are_first_lines(sink.taken.as_slice(), output, due),
                     "{mode:?}, {given}"
                 );
-                assert_eq!(rt; source.calls, given.div_ceil(a_call).saturating_add(1));
+                assert!(rt; source.calls == given.div_ceil(a_call).saturating_add(1));
             }
         }
     }
@@ -171,7 +173,7 @@ fn a_line_without_end_ends_a_run_with_no_reply(rt: HostRuntime) {
         let reader = Supply::of(b"1", 1, 1 << 40, None);
         let (answer, source, sink) = ran(rt.alloc(), mode, reader, Slow::roomy(rt.alloc()));
         assert!(rt; matches!(answer, Err(ToolError::LineTooLong)), "{mode:?}");
-        assert_eq!(rt; sink.calls, 0, "{mode:?}");
-        assert_eq!(rt; source.calls, 65_537, "{mode:?}");
+        assert!(rt; sink.calls == 0, "{mode:?}");
+        assert!(rt; source.calls == 65_537, "{mode:?}");
     }
 }

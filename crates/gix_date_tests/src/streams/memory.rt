@@ -125,9 +125,9 @@ fn a_moment_is_read_without_memory(rt: HostRuntime) -> Result<(), Fail> {
               such as \"2022-08-18 12:45:06 +0800\" or \"1660874655 +0800\"\n",
         );
     drop(blocks);
-    assert_eq!(rt; answer?, None);
-    assert_eq!(rt; due?, Some((Mode::Parse, Some(Time::new(0, 0)))));
-    assert_eq!(rt; status, Status::Usage);
+    assert!(rt; answer? == None);
+    assert!(rt; due? == Some((Mode::Parse, Some(Time::new(0, 0)))));
+    assert!(rt; status == Status::Usage);
     assert!(rt; told, "no-memory");
     Ok(())
 }
@@ -139,7 +139,7 @@ fn a_run_refused_memory_ends_the_program_with_a_message(rt: HostRuntime) -> Resu
     let (status, sink, said) = ended(rt.alloc(), words.as_slice());
     let told = sink.is(b"") && said.is(b"gix_date_tool: out of memory\n");
     drop(blocks);
-    assert_eq!(rt; status, Status::Failure);
+    assert!(rt; status == Status::Failure);
     assert!(rt; told, "no-memory");
     Ok(())
 }

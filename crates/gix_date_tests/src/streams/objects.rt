@@ -81,7 +81,7 @@ fn judging_fails_at_each_of_its_reads(rt: HostRuntime) {
                     matches!(answer, Err(Fault::Tool(ToolError::Read(fault))) if fault == kind)
                 );
                 assert!(rt; are_first_lines(sink.taken.as_slice(), run.output, run.told(given)));
-                assert_eq!(rt; source.calls, given.div_ceil(a_call).saturating_add(1));
+                assert!(rt; source.calls == given.div_ceil(a_call).saturating_add(1));
             }
         }
     }
@@ -101,7 +101,7 @@ fn judging_fails_at_each_of_its_writes(rt: HostRuntime) {
                 )
             );
             assert!(rt; sink.taken.as_slice() == &run.output[..taken]);
-            assert_eq!(rt; sink.calls, taken + 1);
+            assert!(rt; sink.calls == taken + 1);
             assert!(rt; run.ends.contains(&source.calls));
         }
     }
@@ -195,7 +195,7 @@ fn the_judging_program_says_which_stream_failed(rt: HostRuntime) -> Result<(), F
     for room in 0..=said.len() {
         let reader = Supply::once(OBJECTS.input, 9, reset);
         let (status, messages) = ended(rt.alloc(), reader, Slow::roomy(rt.alloc()), room)?;
-        assert_eq!(rt; status, Status::Failure);
+        assert!(rt; status == Status::Failure);
         assert!(rt; messages.taken.as_slice() == &said[..room]);
     }
     for (kind, said) in [
@@ -207,7 +207,7 @@ fn the_judging_program_says_which_stream_failed(rt: HostRuntime) -> Result<(), F
     ] {
         let reader = Supply::once(OBJECTS.input, 9, None);
         let (status, messages) = ended(rt.alloc(), reader, Slow::new(rt.alloc(), 1, 3, kind), 99)?;
-        assert_eq!(rt; status, Status::Failure);
+        assert!(rt; status == Status::Failure);
         assert!(rt; messages.taken.as_slice() == said);
     }
     Ok(())
@@ -226,19 +226,18 @@ fn wrong_words_judge_nothing(rt: HostRuntime) -> Result<(), Fail> {
         &mut sink,
         &mut messages,
     );
-    assert_eq!(rt;
-        (status, source.into_inner().calls, sink.into_inner().calls),
-        (Status::Usage, 0, 0)
+    assert!(rt;
+        (status, source.into_inner().calls, sink.into_inner().calls) == (Status::Usage, 0, 0)
     );
-    assert_eq!(rt;
-        messages.into_inner().taken.as_slice(),
-        b"git_ident: a word is no option\nusage: git_ident [--all] [--lines]\n".as_slice()
+    assert!(rt;
+        messages.into_inner().taken.as_slice()
+            == b"git_ident: a word is no option\nusage: git_ident [--all] [--lines]\n".as_slice()
     );
     let mut messages = Device::new(Slow::roomy(rt.alloc()));
-    assert_eq!(rt; show_usage(&mut messages), Status::Usage);
-    assert_eq!(rt;
-        messages.into_inner().taken.as_slice(),
-        b"git_ident: a word is not UTF-8\nusage: git_ident [--all] [--lines]\n".as_slice()
+    assert!(rt; show_usage(&mut messages) == Status::Usage);
+    assert!(rt;
+        messages.into_inner().taken.as_slice()
+            == b"git_ident: a word is not UTF-8\nusage: git_ident [--all] [--lines]\n".as_slice()
     );
     Ok(())
 }
